@@ -28,7 +28,7 @@ use Rattle.node_machine.specs.Carrying.{changed_if, port_at}
 use Rattle.node_machine.specs.Controller.{creation_in}
 use Rattle.node_machine.specs.Node.{steps, begins_with, boot_writes, found, new_desk, with_error, has_come, input_at}
 use Rattle.node_machine.specs.Node.NodeInput.{AtEnd, TimePasses}
-use Rattle.node_world.specs.World.{NodeWorld, Site, node_at, memory_at, site_at, with_site, with_memory, with_node, link_to, links_of, ending_of, runs_on, turns_at, input_of, half_in, arrival, wires_for, work_of, frames_noted, comes_to, controller_work, link_after_controller, after_controller, host_work, after_host, host_does, controller_cut, host_cut, loses_power_at, boots, counts, frame_lost, all_aged, is_late_at, ticked_so, controller_ticks, comes_at, port_for}
+use Rattle.node_world.specs.World.{NodeWorld, Site, node_at, memory_at, site_at, with_site, with_memory, with_node, link_to, links_of, ending_of, runs_on, turns_at, input_of, near_end_in, arrival, wires_for, work_of, frames_noted, comes_to, controller_work, link_after_controller, after_controller, host_work, after_host, host_does, controller_cut, host_cut, loses_power_at, boots, counts, frame_lost, all_aged, is_late_at, ticked_so, controller_ticks, comes_at, port_for}
 use Rattle.node_world.specs.NodeFilters.{book_in, asking_in}
 use Rattle.kept_laws.specs.Hosts.{AreHosts}
 use Rattle.kept_laws.specs.Worlds.{AllKeep, IfRuns, RunsSo}
@@ -37,7 +37,7 @@ use Rattle.node_telling.proofs.Events.{site_map}
 use Rattle.node_telling.proofs.Nodes.{site_host, link_is}
 use Rattle.node_readings.specs.Noticed.{IfNoticedUp}
 use Rattle.node_readings.proofs.NoticedWorlds.{side_map, side_with, far_side, lost_side}
-use Rattle.node_readings.proofs.Sites.{half_side, comes_outside, lost_quiet}
+use Rattle.node_readings.proofs.Sites.{near_end_side, comes_outside, lost_quiet}
 use Rattle.notice_readings.specs.Worlds.{IfHostNode, IsGoodSite, IsShut, KeepsNotices}
 use Rattle.notice_readings.proofs.Own.{AreOwn}
 use Rattle.notice_readings.proofs.Far.{AreFar, far-append, far_flat, quiet_far, IsHostWork, all_do, steps_far, asking_more}
@@ -116,7 +116,7 @@ host_beside w h comes f good keeps = by_site (site_at w.sites h) refl where
 
       far : IsHostWork k
       far =
-          keeps (work_of r s.memory.plan (λ n. half_in (exchanged s.link) comes) (entries_for s.host (arrival Host (exchanged s.link) comes)))
+          keeps (work_of r s.memory.plan (λ n. near_end_in (exchanged s.link) comes) (entries_for s.host (arrival Host (exchanged s.link) comes)))
           (record { number = subst IfHostNode e fine.node; far = arrival_quiet Host s.host (exchanged s.link) comes })
 
   by_site : (o : Option Site) → site_at w.sites h ≡ o → BesideBy w (host_does w h comes f)
@@ -444,7 +444,7 @@ module _ (hosts : List ℕ) (are : AreHosts hosts) (t : List Entry) (w : NodeWor
         → Reads (t ++ (after_controller w h comes (controller_work w r h comes (steps (AtEnd h i)))).1)
         (after_controller w h comes (controller_work w r h comes (steps (AtEnd h i)))).0
     near_step h comes i input =
-        step_reads t w r runs has notices.orderly.different all_hosts ups shut_at (rows_of r runs) a w.memory.plan halves same es
+        step_reads t w r runs has notices.orderly.different all_hosts ups shut_at (rows_of r runs) a w.memory.plan near_ends same es
         (arrival_quiet Controller h (link_to w.sites h) comes) (AtEnd h i) (comes_outside (link_to w.sites h) comes i input) frames
         (far_flat (λ (s : Site). frames_noted Controller s.host (wires_for s.link (comes_to h comes s.host)) k)
         (λ s. frames_quiet Controller s.host (wires_for s.link (comes_to h comes s.host)) k) w.sites)
@@ -452,11 +452,11 @@ module _ (hosts : List ℕ) (are : AreHosts hosts) (t : List Entry) (w : NodeWor
         (λ x none. none_side (map (link_after_controller h comes k) w.sites) x (nowhere_map (link_after_controller h comes k) (λ s. refl) w.sites x none))
         lost goes
       where
-        halves : ℕ → NumberedEnd
-        halves n = half_in (link_to w.sites n) (comes_to h comes n)
+        near_ends : ℕ → NumberedEnd
+        near_ends n = near_end_in (link_to w.sites n) (comes_to h comes n)
 
-        same : (n : ℕ) → (halves n).side ≡ (link_to w.sites n).controller.side
-        same n = half_side (link_to w.sites n) (comes_to h comes n)
+        same : (n : ℕ) → (near_ends n).side ≡ (link_to w.sites n).controller.side
+        same n = near_end_side (link_to w.sites n) (comes_to h comes n)
 
         es : List Entry
         es = entries_for h (arrival Controller (link_to w.sites h) comes)
@@ -499,12 +499,12 @@ module _ (hosts : List ℕ) (are : AreHosts hosts) (t : List Entry) (w : NodeWor
             → (p : Port) × (port_at k.ports x ≡ Some p) × ((link_to (map (link_after_controller h comes k) w.sites) x).controller.side ≡ sent_all p.side)
         goes x s q e =
             let d = has_desk r has x s q in
-            let b : IsBegun t w r runs has notices.orderly.different all_hosts ups shut_at (rows_of r runs) a w.memory.plan halves same es
-            (arrival_quiet Controller h (link_to w.sites h) comes) x (port_for (halves x) d.0) =
-            begun_at t w r runs has notices.orderly.different all_hosts ups shut_at (rows_of r runs) a w.memory.plan halves same es
+            let b : IsBegun t w r runs has notices.orderly.different all_hosts ups shut_at (rows_of r runs) a w.memory.plan near_ends same es
+            (arrival_quiet Controller h (link_to w.sites h) comes) x (port_for (near_ends x) d.0) =
+            begun_at t w r runs has notices.orderly.different all_hosts ups shut_at (rows_of r runs) a w.memory.plan near_ends same es
             (arrival_quiet Controller h (link_to w.sites h) comes) x d.0 d.1 in
-            let p : Port = port_for (halves x) d.0 in
-            let made = near_made x h i (work_of r w.memory.plan halves es) p b.here b.turns in
+            let p : Port = port_for (near_ends x) d.0 in
+            let made = near_made x h i (work_of r w.memory.plan near_ends es) p b.here b.turns in
             let side : p.side ≡ s.link.controller.side = b.side ∙ ap (λ (l : Link). l.controller.side) (link_is w.sites x s q) in (
               made.port,
               made.here,
@@ -519,7 +519,8 @@ module _ (hosts : List ℕ) (are : AreHosts hosts) (t : List Entry) (w : NodeWor
     pub near_tick : (es : List Entry) → Reads (t ++ es) w → Reads ((t ++ es) ++ (controller_ticks (all_aged w).0).1) (controller_ticks (all_aged w).0).0
     near_tick es before =
         subst (λ (p : NodeWorld × List Entry). Reads ((t ++ es) ++ p.1) p.0) (sym on_is)
-        (step_reads (t ++ es) w r runs has notices.orderly.different all_hosts ups shut_at (rows_of r runs) before w.memory.plan halves same [] tt TimePasses tt
+        (step_reads (t ++ es) w r runs has notices.orderly.different all_hosts ups shut_at
+            (rows_of r runs) before w.memory.plan near_ends same [] tt TimePasses tt
         frames (far_flat (λ (s : Site). frames_noted Controller s.host s.link k) (λ s. frames_quiet Controller s.host s.link k) (all_aged w).0.sites)
         ticked_world refl
         (λ x none. none_side ticked_world.sites x (nowhere_map ticked (λ s. refl) (map older w.sites) x (nowhere_map older (λ s. refl) w.sites x none)))
@@ -528,14 +529,14 @@ module _ (hosts : List ℕ) (are : AreHosts hosts) (t : List Entry) (w : NodeWor
         older : Site → Site
         older s = record s { link = aged s.link }
 
-        halves : ℕ → NumberedEnd
-        halves n = (link_to (all_aged w).0.sites n).controller
+        near_ends : ℕ → NumberedEnd
+        near_ends n = (link_to (all_aged w).0.sites n).controller
 
-        same : (n : ℕ) → (halves n).side ≡ (link_to w.sites n).controller.side
+        same : (n : ℕ) → (near_ends n).side ≡ (link_to w.sites n).controller.side
         same n = side_map older (λ s. refl) (λ s. refl) w.sites n
 
         k : Work
-        k = steps TimePasses (work_of r w.memory.plan halves [])
+        k = steps TimePasses (work_of r w.memory.plan near_ends [])
 
         ticked : Site → Site
         ticked s = record s { link = ticked_so s.link (is_late_at k s.host) (turns_at k s.host) (ending_of k) }
@@ -569,11 +570,12 @@ module _ (hosts : List ℕ) (are : AreHosts hosts) (t : List Entry) (w : NodeWor
             → (p : Port) × (port_at k.ports x ≡ Some p) × ((link_to ticked_world.sites x).controller.side ≡ sent_all p.side)
         goes x s q e =
             let d = has_desk r has x s q in
-            let b : IsBegun (t ++ es) w r runs has notices.orderly.different all_hosts ups shut_at (rows_of r runs) before w.memory.plan halves same [] tt x
-            (port_for (halves x) d.0) =
-            begun_at (t ++ es) w r runs has notices.orderly.different all_hosts ups shut_at (rows_of r runs) before w.memory.plan halves same [] tt x d.0 d.1 in
-            let p : Port = port_for (halves x) d.0 in
-            let made = tick_made x (work_of r w.memory.plan halves []) p b.here b.turns in
+            let b : IsBegun (t ++ es) w r runs has notices.orderly.different all_hosts ups shut_at (rows_of r runs) before w.memory.plan near_ends same [] tt x
+            (port_for (near_ends x) d.0) =
+            begun_at (t ++ es) w r runs has notices.orderly.different all_hosts ups shut_at
+                (rows_of r runs) before w.memory.plan near_ends same [] tt x d.0 d.1 in
+            let p : Port = port_for (near_ends x) d.0 in
+            let made = tick_made x (work_of r w.memory.plan near_ends []) p b.here b.turns in
             let side : p.side ≡ (aged s.link).controller.side = b.side ∙ ap (λ (l : Link). l.controller.side) (link_is w.sites x s q) in
             let late : is_late_at k x ≡ (after_tick p).late = ap (λ o. option_map_or (λ (q : Port). q.late) o false) made.here ∙ made.late_is in (
               made.port,

@@ -22,7 +22,7 @@ use Rattle.node_machine.specs.Parts.{Desk, Port, Running, Work, Deed}
 use Rattle.node_machine.specs.Carrying.{changed_if}
 use Rattle.node_machine.specs.Node.{steps, begins_with, boot_writes, found}
 use Rattle.node_machine.specs.Node.NodeInput.{AtEnd, TimePasses}
-use Rattle.node_world.specs.World.{NodeWorld, Site, Happening, memory_at, site_at, with_site, with_memory, with_node, link_to, links_of, ending_of, turns_at, input_of, half_in, arrival, port_for, work_of, comes_to, controller_work, link_after_controller, after_controller, controller_does, host_work, after_host, host_does, controller_cut, host_cut, loses_power_at, boots, counts, frame_lost, all_aged, is_late_at, ticked_so, controller_ticks, host_ticks, hosts_tick, comes_at, sending, beginning, new_site, end_c, end_h, world_step}
+use Rattle.node_world.specs.World.{NodeWorld, Site, Happening, memory_at, site_at, with_site, with_memory, with_node, link_to, links_of, ending_of, turns_at, input_of, near_end_in, arrival, port_for, work_of, comes_to, controller_work, link_after_controller, after_controller, controller_does, host_work, after_host, host_does, controller_cut, host_cut, loses_power_at, boots, counts, frame_lost, all_aged, is_late_at, ticked_so, controller_ticks, host_ticks, hosts_tick, comes_at, sending, beginning, new_site, end_c, end_h, world_step}
 use Rattle.node_world.specs.World.Happening.{Boots, IsCut, Gives, Inits, Takes, Loses, Ticks, Resets, Activates, Arms}
 use Rattle.node_links.proofs.Ends.{here_host}
 use Rattle.link_entries.proofs.Together.{ticks_host as tick_host}
@@ -75,11 +75,11 @@ host_none w h comes f good keeps a = by_site (site_at w.sites h) refl where
   Fine : NodeWorld → Type 0
   Fine v = HaveNoneAside v.sites
 
-  start_none : (r : Running) (halves : ℕ → NumberedEnd) → AllByRecursion (λ (p : Port). SetNone p.turns)
-      (map (λ (d : Desk). port_for (halves d.host) d) r.desks)
-  start_none r halves = go r.desks where
+  start_none : (r : Running) (near_ends : ℕ → NumberedEnd) → AllByRecursion (λ (p : Port). SetNone p.turns)
+      (map (λ (d : Desk). port_for (near_ends d.host) d) r.desks)
+  start_none r near_ends = go r.desks where
     go : (desks : List Desk) → AllByRecursion (λ (p : Port). SetNone p.turns)
-        (map (λ (d : Desk). port_for (halves d.host) d) desks)
+        (map (λ (d : Desk). port_for (near_ends d.host) d) desks)
     go [] = tt
     go (d ∷ desks) = (tt, go desks)
 
@@ -94,9 +94,9 @@ host_none w h comes f good keeps a = by_site (site_at w.sites h) refl where
 
       none : SetsNoneAside k
       none =
-          keeps (work_of r s.memory.plan (λ n. half_in (exchanged s.link) comes) (entries_for s.host
+          keeps (work_of r s.memory.plan (λ n. near_end_in (exchanged s.link) comes) (entries_for s.host
           (arrival Host (exchanged s.link) comes)))
-          (record { number = subst IfHostNode e fine.node; turns = start_none r (λ n. half_in (exchanged s.link) comes) })
+          (record { number = subst IfHostNode e fine.node; turns = start_none r (λ n. near_end_in (exchanged s.link) comes) })
 
   by_site : (o : Option Site) → site_at w.sites h ≡ o → Fine (host_does w h comes f).0
   by_site None e = subst Fine (sym (none_is e)) a

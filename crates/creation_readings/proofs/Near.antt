@@ -80,29 +80,29 @@ none_side sites x e = ap (λ o. (option_map_or (λ (s : Site). s.link) o (new_li
 
 -- ## Ends as a step begins
 
-pub port_of : (halves : ℕ → NumberedEnd) (desks : List Desk) (x : ℕ)
-    → port_at (ports_for halves desks) x ≡ option_map (λ d. port_for (halves x) d) (find (λ (d : Desk). eqb d.host x) desks)
-port_of halves [] x = refl
-port_of halves (d ∷ desks) x = go (cases_Bool (eqb d.host x)) (port_of halves desks x) where
+pub port_of : (near_ends : ℕ → NumberedEnd) (desks : List Desk) (x : ℕ)
+    → port_at (ports_for near_ends desks) x ≡ option_map (λ d. port_for (near_ends x) d) (find (λ (d : Desk). eqb d.host x) desks)
+port_of near_ends [] x = refl
+port_of near_ends (d ∷ desks) x = go (cases_Bool (eqb d.host x)) (port_of near_ends desks x) where
   go : (eqb d.host x ≡ true) ⊎ (eqb d.host x ≡ false)
-      → port_at (ports_for halves desks) x ≡ option_map (λ d. port_for (halves x) d) (find (λ (d : Desk). eqb d.host x) desks)
-      → port_at (ports_for halves (d ∷ desks)) x ≡ option_map (λ d. port_for (halves x) d) (find (λ (d : Desk). eqb d.host x) (d ∷ desks))
-  go (inl is) later = rw is (ap (λ n. Some (port_for (halves n) d)) (eqb-true d.host x is))
+      → port_at (ports_for near_ends desks) x ≡ option_map (λ d. port_for (near_ends x) d) (find (λ (d : Desk). eqb d.host x) desks)
+      → port_at (ports_for near_ends (d ∷ desks)) x ≡ option_map (λ d. port_for (near_ends x) d) (find (λ (d : Desk). eqb d.host x) (d ∷ desks))
+  go (inl is) later = rw is (ap (λ n. Some (port_for (near_ends n) d)) (eqb-true d.host x is))
   go (inr off) later = rw off later
 
-pub all_ports : (P : Port → Type 0) (halves : ℕ → NumberedEnd) → ((d : Desk) → P (port_for (halves d.host) d)) → (desks : List Desk)
-    → AllByRecursion P (ports_for halves desks)
-all_ports P halves one [] = tt
-all_ports P halves one (d ∷ desks) = (one d, all_ports P halves one desks)
+pub all_ports : (P : Port → Type 0) (near_ends : ℕ → NumberedEnd) → ((d : Desk) → P (port_for (near_ends d.host) d)) → (desks : List Desk)
+    → AllByRecursion P (ports_for near_ends desks)
+all_ports P near_ends one [] = tt
+all_ports P near_ends one (d ∷ desks) = (one d, all_ports P near_ends one desks)
 
-pub desks_back : (halves : ℕ → NumberedEnd) (desks : List Desk) → map (λ (p : Port). p.desk) (ports_for halves desks) ≡ desks
-desks_back halves [] = refl
-desks_back halves (d ∷ desks) = ap (λ l. d ∷ l) (desks_back halves desks)
+pub desks_back : (near_ends : ℕ → NumberedEnd) (desks : List Desk) → map (λ (p : Port). p.desk) (ports_for near_ends desks) ≡ desks
+desks_back near_ends [] = refl
+desks_back near_ends (d ∷ desks) = ap (λ l. d ∷ l) (desks_back near_ends desks)
 
-due_begun : (halves : ℕ → NumberedEnd) (desks : List Desk) → AllByRecursion (λ (d : Desk). IfAwaited (creation_in d.notice)) desks
-    → AllByRecursion (λ (e : ℕ × Option Creation). IfAwaited e.1) (asked_of (ports_for halves desks))
-due_begun halves [] a = tt
-due_begun halves (d ∷ desks) a = (a.0, due_begun halves desks a.1)
+due_begun : (near_ends : ℕ → NumberedEnd) (desks : List Desk) → AllByRecursion (λ (d : Desk). IfAwaited (creation_in d.notice)) desks
+    → AllByRecursion (λ (e : ℕ × Option Creation). IfAwaited e.1) (asked_of (ports_for near_ends desks))
+due_begun near_ends [] a = tt
+due_begun near_ends (d ∷ desks) a = (a.0, due_begun near_ends desks a.1)
 
 due_back : (ports : List Port) → AllByRecursion (λ (e : ℕ × Option Creation). IfAwaited e.1) (asked_of ports)
     → AllByRecursion (λ (d : Desk). IfAwaited (creation_in d.notice)) (map (λ (p : Port). p.desk) ports)
@@ -164,10 +164,10 @@ pub record Reads (t : List Entry) (w : NodeWorld) : Type 0 where
 module _ (t : List Entry) (w : NodeWorld) (r : Running) (runs : w.controller ≡ Some r) (has : HasEnds 0 (hosts_in w.sites) r)
     (different : AreDifferent (hosts_in w.sites)) (all : AllByRecursion IsHost (hosts_in w.sites)) (ups : IfNoticedUp w.sites (Some r))
     (shut : (n : ℕ) → IsShut (link_to w.sites n).controller.side) (rows : AreProper r.core.tables.rows) (old : Reads t w)
-    (plan : Option Plan) (halves : ℕ → NumberedEnd) (same : (n : ℕ) → (halves n).side ≡ (link_to w.sites n).controller.side) (es : List Entry)
+    (plan : Option Plan) (near_ends : ℕ → NumberedEnd) (same : (n : ℕ) → (near_ends n).side ≡ (link_to w.sites n).controller.side) (es : List Entry)
     (quiet : AreFar es) where
   abbrev pub begun : Work
-  begun = work_of r plan halves es
+  begun = work_of r plan near_ends es
 
   -- the end with a host, where there is one
   pub record IsBegun (x : ℕ) (p : Port) : Type 0 where
@@ -178,17 +178,17 @@ module _ (t : List Entry) (w : NodeWorld) (r : Running) (runs : w.controller ≡
     pub late : p.late ≡ false
     pub up : UpAt (Some p)
 
-  up_of : (x : ℕ) (d : Desk) → find (λ (d : Desk). eqb d.host x) r.desks ≡ Some d → UpAt (Some (port_for (halves x) d))
+  up_of : (x : ℕ) (d : Desk) → find (λ (d : Desk). eqb d.host x) r.desks ≡ Some d → UpAt (Some (port_for (near_ends x) d))
   up_of x d e =
       let at : OnFirst IsNoticedUp (Some (port_for (link_to w.sites x).controller d)) =
       subst (OnFirst IsNoticedUp) (port_of (λ n. (link_to w.sites n).controller) r.desks x ∙ ap (option_map (λ d. port_for (link_to w.sites x).controller d)) e)
       (ups x) in
       λ some. ap (λ (z : LinkEnd). is_up z.shdlc.phase) (same x) ∙ ap is_up (at some)
 
-  pub begun_at : (x : ℕ) (d : Desk) → find (λ (d : Desk). eqb d.host x) r.desks ≡ Some d → IsBegun x (port_for (halves x) d)
+  pub begun_at : (x : ℕ) (d : Desk) → find (λ (d : Desk). eqb d.host x) r.desks ≡ Some d → IsBegun x (port_for (near_ends x) d)
   begun_at x d e =
-      let here : port_at begun.ports x ≡ Some (port_for (halves x) d) = port_of halves r.desks x ∙ ap (option_map (λ d. port_for (halves x) d)) e in
-      record { here = here; host = at_host begun.ports x (port_for (halves x) d) here; side = same x; turns = refl; late = refl; up = up_of x d e }
+      let here : port_at begun.ports x ≡ Some (port_for (near_ends x) d) = port_of near_ends r.desks x ∙ ap (option_map (λ d. port_for (near_ends x) d)) e in
+      record { here = here; host = at_host begun.ports x (port_for (near_ends x) d) here; side = same x; turns = refl; late = refl; up = up_of x d e }
 
   abbrev asked : Asked
   asked = asked_of begun.ports
@@ -196,7 +196,7 @@ module _ (t : List Entry) (w : NodeWorld) (r : Running) (runs : w.controller ≡
   list_is : (x : ℕ) → creations_of w.controller x ≡ waits x asked ++ []
   list_is x =
       ap (λ o. creations_of o x) runs
-      ∙ (ap (λ l. creations_at l x) (sym (desks_back halves r.desks)) ∙ (desks_wait x begun.ports ∙ sym (append-nil (waits x asked))))
+      ∙ (ap (λ l. creations_at l x) (sym (desks_back near_ends r.desks)) ∙ (desks_wait x begun.ports ∙ sym (append-nil (waits x asked))))
 
   end_of : (x : ℕ) → EndAt (many x t (hosts_in w.sites) asked []) (waits x asked ++ []) (port_at begun.ports x)
   end_of x = go (find (λ (d : Desk). eqb d.host x) r.desks) refl where
@@ -213,11 +213,11 @@ module _ (t : List Entry) (w : NodeWorld) (r : Running) (runs : w.controller ≡
         let none : length (waits x asked ++ []) ≡ 0 =
         sym ready.aside ∙ ap (λ (z : LinkEnd). z.aside) (none_side w.sites x (no_desk r.desks w.sites x has.ends e)) in
         subst (EndAt (many x t (hosts_in w.sites) asked []) (waits x asked ++ []))
-        (sym (port_of halves r.desks x ∙ ap (option_map (λ d. port_for (halves x) d)) e)) (none, empty (waits x asked ++ []) none)
+        (sym (port_of near_ends r.desks x ∙ ap (option_map (λ d. port_for (near_ends x) d)) e)) (none, empty (waits x asked ++ []) none)
     go (Some d) e =
-        let b : IsBegun x (port_for (halves x) d) = begun_at x d e in
+        let b : IsBegun x (port_for (near_ends x) d) = begun_at x d e in
         subst (EndAt (many x t (hosts_in w.sites) asked []) (waits x asked ++ [])) (sym b.here)
-        (has_is (many x t (hosts_in w.sites) asked []) (waits x asked ++ []) (halves x).side refl
+        (has_is (many x t (hosts_in w.sites) asked []) (waits x asked ++ []) (near_ends x).side refl
         (subst (HasSetAside (waits x asked ++ [])) (sym (same x)) ready))
 
   pub begins : (x : ℕ) → Good x t (hosts_in w.sites) asked [] begun
@@ -225,8 +225,8 @@ module _ (t : List Entry) (w : NodeWorld) (r : Running) (runs : w.controller ≡
     on = refl;
     node = has.number;
     asked_are = refl;
-    hosts_are = hosts_same halves r.desks ∙ has.ends;
-    due = due_begun halves r.desks (subst AreAwaited runs old.due);
+    hosts_are = hosts_same near_ends r.desks ∙ has.ends;
+    due = due_begun near_ends r.desks (subst AreAwaited runs old.due);
     owed_due = tt;
     rows = rows;
     book = far_book t es quiet old.book;
@@ -241,13 +241,13 @@ module _ (t : List Entry) (w : NodeWorld) (r : Running) (runs : w.controller ≡
     pub up_at : (x : ℕ) → UpAt (port_at begun.ports x)
     up_at x = go (find (λ (d : Desk). eqb d.host x) r.desks) refl where
       go : (o : Option Desk) → find (λ (d : Desk). eqb d.host x) r.desks ≡ o → UpAt (port_at begun.ports x)
-      go None e = subst UpAt (sym (port_of halves r.desks x ∙ ap (option_map (λ d. port_for (halves x) d)) e)) tt
-      go (Some d) e = let b : IsBegun x (port_for (halves x) d) = begun_at x d e in subst UpAt (sym b.here) b.up
+      go None e = subst UpAt (sym (port_of near_ends r.desks x ∙ ap (option_map (λ d. port_for (near_ends x) d)) e)) tt
+      go (Some d) e = let b : IsBegun x (port_for (near_ends x) d) = begun_at x d e in subst UpAt (sym b.here) b.up
 
     fine : (x : ℕ) → Fine x t (hosts_in w.sites) after_it
     fine x =
-        steps_good x t (hosts_in w.sites) all different asked begun (begins x) (all_ports IsFresh halves (λ d. (refl, refl)) r.desks) input outside (up_at x)
-        (all_ports (λ (p : Port). IsShut p.side) halves (λ d. subst IsShut (sym (same d.host)) (shut d.host)) r.desks)
+        steps_good x t (hosts_in w.sites) all different asked begun (begins x) (all_ports IsFresh near_ends (λ d. (refl, refl)) r.desks) input outside (up_at x)
+        (all_ports (λ (p : Port). IsShut p.side) near_ends (λ d. subst IsShut (sym (same d.host)) (shut d.host)) r.desks)
 
     on : after_it.cut ≡ false → (x : ℕ) → Still x t (hosts_in w.sites) after_it
     on e x = go (fine x) where

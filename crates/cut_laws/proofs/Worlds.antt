@@ -12,7 +12,7 @@ use Rattle.link_entries.specs.Entries.End.{Controller, Host}
 use Rattle.history.specs.Steps.{entries_for}
 use Rattle.node_machine.specs.Parts.{Running, Work}
 use Rattle.node_machine.specs.Carrying.{changed_if}
-use Rattle.node_world.specs.World.{NodeWorld, Site, node_at, site_at, with_site, link_to, memory_at, runs_on, half_in, arrival, wires_for, work_of, frames_noted, comes_to, controller_work, link_after_controller, after_controller, controller_does, host_work, after_host, host_does}
+use Rattle.node_world.specs.World.{NodeWorld, Site, node_at, site_at, with_site, link_to, memory_at, runs_on, near_end_in, arrival, wires_for, work_of, frames_noted, comes_to, controller_work, link_after_controller, after_controller, controller_does, host_work, after_host, host_does}
 use Rattle.kept_laws.specs.Reckonings.{Reckoning}
 use Rattle.kept_laws.specs.Books.{IsPlain, StillRuns}
 use Rattle.kept_laws.specs.Deeds.{IsOnOrder}
@@ -236,8 +236,8 @@ module _ (hosts : List ℕ) (are : AreHosts hosts) where
           more = flat_map (λ (s : Site). frames_noted Controller s.host (wires_for s.link (comes_to h comes s.host)) work) w.sites;
           plain = plain_flat (λ (s : Site). frames_noted Controller s.host (wires_for s.link (comes_to h comes s.host)) work)
               (λ s. plain_frames Controller s.host (wires_for s.link (comes_to h comes s.host)) work) w.sites;
-          fine = step w.memory t (work_of q w.memory.plan (λ k. half_in (link_to w.sites k) (comes_to h comes k)) begun)
-              (runs_begun 0 hosts t w.memory q (λ k. half_in (link_to w.sites k) (comes_to h comes k)) begun
+          fine = step w.memory t (work_of q w.memory.plan (λ k. near_end_in (link_to w.sites k) (comes_to h comes k)) begun)
+              (runs_begun 0 hosts t w.memory q (λ k. near_end_in (link_to w.sites k) (comes_to h comes k)) begun
               (plain_entries h (arrival Controller (link_to w.sites h) comes)) k.runs) k.runs.on;
           memory_is = refl;
           controller_is = refl;
@@ -264,12 +264,12 @@ module _ (hosts : List ℕ) (are : AreHosts hosts) where
     by_node x here (Some q) e k host same =
         let work : Work = host_work x q comes f in
         let begun : List Entry = entries_for x.host (arrival Host (exchanged x.link) comes) in
-        let start : Work = work_of q x.memory.plan (λ k. half_in (exchanged x.link) comes) begun in
+        let start : Work = work_of q x.memory.plan (λ k. near_end_in (exchanged x.link) comes) begun in
         let more : List Entry = frames_noted Host h (wires_for (exchanged x.link) comes) work in
         let on_is : host_does w h comes f ≡ (record w { sites = with_site h (after_host comes work) w.sites }, work.entries ++ more) = rw here (rw e refl) in
         let fine : GoesOn_or_lost x.host (x.host ∷ []) x.memory t work =
         step x q here e host k.runs.on t start refl
-        (runs_begun x.host (x.host ∷ []) t x.memory q (λ k. half_in (exchanged x.link) comes) begun
+        (runs_begun x.host (x.host ∷ []) t x.memory q (λ k. near_end_in (exchanged x.link) comes) begun
         (plain_entries x.host (arrival Host (exchanged x.link) comes)) k.runs) in
         host_run_exact n t r w h (host_does w h comes f) (record {
           site = x;

@@ -71,14 +71,14 @@ kept_quiet h xs n a q =
     let there = session_up (link_now xs).host n (sym (session-all h t Host plain ∙ host_heard (causes_of xs) can) ∙ q.host) in
     let plain = plain_trace (causes_of xs) in
     let since_is = since-all h n t in
-    let calm : list_any disturbs (since n t) ≡ false =
+    let none_disturbs : list_any disturbs (since n t) ≡ false =
     undisturbed h (since n t) (plain_since n t plain) (sym (ap (has_lost h) since_is) ∙ q.lossless) (sym (ap (has_rnr h) since_is) ∙ q.ready) in
     let P : ℕ → Type 0 = λ z. list_any disturbs (since z t) ≡ false in
     record {
       quiet = record {
         controller = near.0;
         host = there.0;
-        undisturbed = subst P (sym near.1) calm;
+        undisturbed = subst P (sym near.1) none_disturbs;
         to_controller = empty_controller h xs q.to_controller;
         to_host = empty_host h xs q.to_host;
       };

@@ -124,15 +124,15 @@ new_waits : (hosts : List ℕ) → AllByRecursion (λ (d : Desk). WaitsFor d.not
 new_waits [] = tt
 new_waits (h ∷ hosts) = (tt, new_waits hosts)
 
-new_none : (halves : ℕ → NumberedEnd) (hosts : List ℕ) (x : ℕ) (q : Port) (c : Creation)
-    → port_at (map (λ (d : Desk). port_for (halves d.host) d) (map new_desk hosts)) x ≡ Some q
+new_none : (near_ends : ℕ → NumberedEnd) (hosts : List ℕ) (x : ℕ) (q : Port) (c : Creation)
+    → port_at (map (λ (d : Desk). port_for (near_ends d.host) d) (map new_desk hosts)) x ≡ Some q
     → asked_at q ≡ Some c → ⊥
-new_none halves [] x q c here asked = absurd (cc here)
-new_none halves (h ∷ hosts) x q c here asked =
-    cond_both (eqb h x) (Some (port_for (halves h) (new_desk h))) (port_at (map (λ (d : Desk). port_for (halves d.host) d) (map new_desk hosts)) x)
+new_none near_ends [] x q c here asked = absurd (cc here)
+new_none near_ends (h ∷ hosts) x q c here asked =
+    cond_both (eqb h x) (Some (port_for (near_ends h) (new_desk h))) (port_at (map (λ (d : Desk). port_for (near_ends d.host) d) (map new_desk hosts)) x)
     (λ o. o ≡ Some q → ⊥)
-    (λ _ e. let same : port_for (halves h) (new_desk h) ≡ q = cc in let none : None ≡ Some c = ap asked_at same ∙ asked in cc none)
-    (λ _ e. new_none halves hosts x q c e asked) here
+    (λ _ e. let same : port_for (near_ends h) (new_desk h) ≡ q = cc in let none : None ≡ Some c = ap asked_at same ∙ asked in cc none)
+    (λ _ e. new_none near_ends hosts x q c e asked) here
 
 module _ (n : ℕ) (hosts : List ℕ) (t : List Entry) (m : Memory) (would : WouldFind m.content (book_in t n) (last_in t n)) where
   abbrev content : List ℕ
@@ -215,7 +215,7 @@ module _ (n : ℕ) (hosts : List ℕ) (t : List Entry) (m : Memory) (would : Wou
         count_is = count_then;
         on = tt;
         waits = new_waits hosts;
-        allowed = λ z halves x q c here asked. absurd (new_none halves hosts x q c here asked);
+        allowed = λ z near_ends x q c here asked. absurd (new_none near_ends hosts x q c here asked);
       };
     } where
       knows : Knows (after_planned (boot_writes content) m).content now (close (tables_of content))

@@ -89,14 +89,14 @@ more_all : (h : ℕ) (desks : List Desk) → with_error h desks ≡ map (more_er
 unfolding more_errors
 more_all h desks = refl
 
-error_new : (halves : ℕ → NumberedEnd) (h : ℕ) (desks : List Desk)
-    → NoneNew (map (λ (d : Desk). port_for (halves d.host) d) desks) (map (λ (d : Desk). port_for (halves d.host) d) (with_error h desks))
-error_new halves h desks x q c here asked =
-    let at = ap (λ l. port_at l x) (sym (ap (map (λ (d : Desk). port_for (halves d.host) d)) (more_all h desks) ∙ map_two (λ (d : Desk). port_for
-    (halves d.host) d) (more_errors h) desks)) ∙ here in
-    let r = map_found (λ (d : Desk). d.host) (λ d. port_for (halves (more_errors h d).host) (more_errors h d)) (more_host h) (λ d. port_for
-    (halves d.host) d) (λ d. refl) desks x q at in
-    (port_for (halves r.0.host) r.0, r.1, ap creation_in (sym (more_notice h r.0)) ∙ (sym (ap asked_at r.2) ∙ asked))
+error_new : (near_ends : ℕ → NumberedEnd) (h : ℕ) (desks : List Desk)
+    → NoneNew (map (λ (d : Desk). port_for (near_ends d.host) d) desks) (map (λ (d : Desk). port_for (near_ends d.host) d) (with_error h desks))
+error_new near_ends h desks x q c here asked =
+    let at = ap (λ l. port_at l x) (sym (ap (map (λ (d : Desk). port_for (near_ends d.host) d)) (more_all h desks) ∙ map_two (λ (d : Desk). port_for
+    (near_ends d.host) d) (more_errors h) desks)) ∙ here in
+    let r = map_found (λ (d : Desk). d.host) (λ d. port_for (near_ends (more_errors h d).host) (more_errors h d)) (more_host h) (λ d. port_for
+    (near_ends d.host) d) (λ d. refl) desks x q at in
+    (port_for (near_ends r.0.host) r.0, r.1, ap creation_in (sym (more_notice h r.0)) ∙ (sym (ap asked_at r.2) ∙ asked))
 
 runs_counting : (n : ℕ) (hosts content : List ℕ) (t : List Entry) (why : Loss) (h : ℕ) (o : Option Running) → IfRuns n hosts content t o
     → IfRuns n hosts content t (counts why h o)
@@ -111,9 +111,10 @@ runs_counting n hosts content t (Broken fault) h (Some x) r = record {
   count_is = r.count_is;
   on = r.on;
   waits = error_waits h x.desks r.waits;
-  allowed = λ z halves. may_still x.core.tables (map (λ (d : Desk). port_for (halves d.host) d) x.desks) (map (λ (d : Desk). port_for (halves d.host) d)
+  allowed =
+      λ z near_ends. may_still x.core.tables (map (λ (d : Desk). port_for (near_ends d.host) d) x.desks) (map (λ (d : Desk). port_for (near_ends d.host) d)
       (with_error h x.desks))
-      (error_new halves h x.desks) (r.allowed z halves);
+      (error_new near_ends h x.desks) (r.allowed z near_ends);
 }
 runs_counting n hosts content t OnDemand h o r = r
 runs_counting n hosts content t Unread h o r = r

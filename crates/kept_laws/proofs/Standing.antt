@@ -89,15 +89,15 @@ keeps_same n hosts t u m node same k = record {
 
 -- ## Before and after a step
 
-port_hosts : (halves : ℕ → NumberedEnd) (desks : List Desk)
-    → hosts_of_ends (map (λ (d : Desk). port_for (halves d.host) d) desks) ≡ map (λ (d : Desk). d.host) desks
-port_hosts halves [] = refl
-port_hosts halves (d ∷ desks) = ap (λ l. d.host ∷ l) (port_hosts halves desks)
+port_hosts : (near_ends : ℕ → NumberedEnd) (desks : List Desk)
+    → hosts_of_ends (map (λ (d : Desk). port_for (near_ends d.host) d) desks) ≡ map (λ (d : Desk). d.host) desks
+port_hosts near_ends [] = refl
+port_hosts near_ends (d ∷ desks) = ap (λ l. d.host ∷ l) (port_hosts near_ends desks)
 
-port_waits : (halves : ℕ → NumberedEnd) (desks : List Desk) → AllByRecursion (λ (d : Desk). WaitsFor d.notice) desks
-    → AllByRecursion WaitsAt (map (λ (d : Desk). port_for (halves d.host) d) desks)
-port_waits halves [] all = tt
-port_waits halves (d ∷ desks) all = (all.0, port_waits halves desks all.1)
+port_waits : (near_ends : ℕ → NumberedEnd) (desks : List Desk) → AllByRecursion (λ (d : Desk). WaitsFor d.notice) desks
+    → AllByRecursion WaitsAt (map (λ (d : Desk). port_for (near_ends d.host) d) desks)
+port_waits near_ends [] all = tt
+port_waits near_ends (d ∷ desks) all = (all.0, port_waits near_ends desks all.1)
 
 desk_hosts : (ports : List Port) → map (λ (d : Desk). d.host) (map (λ (p : Port). p.desk) ports) ≡ hosts_of_ends ports
 desk_hosts [] = refl
@@ -107,22 +107,24 @@ desk_waits : (ports : List Port) → AllByRecursion WaitsAt ports → AllByRecur
 desk_waits [] all = tt
 desk_waits (p ∷ ports) all = (all.0, desk_waits ports all.1)
 
-desk_new : (halves : ℕ → NumberedEnd) (ports : List Port) → NoneNew ports (map (λ (d : Desk). port_for (halves d.host) d) (map (λ (p : Port). p.desk) ports))
-desk_new halves ports =
-    subst (NoneNew ports) (sym (map_two (λ (d : Desk). port_for (halves d.host) d) (λ (p : Port). p.desk) ports))
-    (map_new (λ (p : Port). port_for (halves p.desk.host) p.desk) (λ p. refl) (λ p c e. e) ports)
+desk_new : (near_ends : ℕ → NumberedEnd) (ports : List Port)
+    → NoneNew ports (map (λ (d : Desk). port_for (near_ends d.host) d) (map (λ (p : Port). p.desk) ports))
+desk_new near_ends ports =
+    subst (NoneNew ports) (sym (map_two (λ (d : Desk). port_for (near_ends d.host) d) (λ (p : Port). p.desk) ports))
+    (map_new (λ (p : Port). port_for (near_ends p.desk.host) p.desk) (λ p. refl) (λ p c e. e) ports)
 
 -- a step begins
-pub runs_begun : (n : ℕ) (hosts : List ℕ) (t : List Entry) (m : Memory) (r : Running) (halves : ℕ → NumberedEnd) (es : List Entry) → AllByRecursion IsPlain es
-    → RunsSo n hosts m.content t r → StillRuns n hosts m t (work_of r m.plan halves es)
-runs_begun n hosts t m r halves es plain k = record {
+pub runs_begun : (n : ℕ) (hosts : List ℕ) (t : List Entry) (m : Memory) (r : Running) (near_ends : ℕ → NumberedEnd) (es : List Entry)
+    → AllByRecursion IsPlain es
+    → RunsSo n hosts m.content t r → StillRuns n hosts m t (work_of r m.plan near_ends es)
+runs_begun n hosts t m r near_ends es plain k = record {
   on = refl;
   memory = m;
   written = λ more. refl;
   plan_is = refl;
   made = idle_make n (reckoning_of true (book_in t n) m) m es refl refl refl refl (plain_idles n es plain);
   number = k.number;
-  hosts_are = port_hosts halves r.desks ∙ k.hosts_are;
+  hosts_are = port_hosts near_ends r.desks ∙ k.hosts_are;
   knows = k.knows;
   sorted = k.sorted;
   recordable = k.recordable;
@@ -130,8 +132,8 @@ runs_begun n hosts t m r halves es plain k = record {
   count_is = k.count_is ∙ ap (λ (b : Book). min (length b.commands) (2 ^ 32 - 1)) (sym (plain_book t es n plain));
   told = plain_told t es plain;
   own = plain_own n es plain;
-  waits = port_waits halves r.desks k.waits;
-  allowed = λ z. k.allowed z halves;
+  waits = port_waits near_ends r.desks k.waits;
+  allowed = λ z. k.allowed z near_ends;
 }
 
 -- a step has ended
@@ -150,8 +152,8 @@ keeps_ended n hosts t m k (inl (r, on)) = record {
     count_is = r.count_is;
     on = on;
     waits = desk_waits k.ports r.waits;
-    allowed = λ z halves. may_still k.core.tables k.ports (map (λ (d : Desk). port_for (halves d.host) d) (map (λ (p : Port). p.desk) k.ports))
-        (desk_new halves k.ports) (r.allowed z);
+    allowed = λ z near_ends. may_still k.core.tables k.ports (map (λ (d : Desk). port_for (near_ends d.host) d) (map (λ (p : Port). p.desk) k.ports))
+        (desk_new near_ends k.ports) (r.allowed z);
   });
 } where
   memory_is : after_planned k.writes m ≡ r.memory

@@ -14,7 +14,7 @@ use Rattle.link_entries.specs.Entries.End.{Controller, Host}
 use Rattle.history.specs.Steps.{entries_for}
 use Rattle.node_machine.specs.Parts.{Running, Port, Work}
 use Rattle.node_machine.specs.Carrying.{port_at}
-use Rattle.node_world.specs.World.{NodeWorld, Site, site_at, with_site, link_to, ending_of, runs_on, half_in, arrival, wires_for, work_of, frames_noted, comes_to, controller_work, link_after_controller, controller_does, host_work, after_host, host_does}
+use Rattle.node_world.specs.World.{NodeWorld, Site, site_at, with_site, link_to, ending_of, runs_on, near_end_in, arrival, wires_for, work_of, frames_noted, comes_to, controller_work, link_after_controller, controller_does, host_work, after_host, host_does}
 use Rattle.kept_laws.specs.Books.{IsPlain, IsOf, AreToldBehind, WaitsFor}
 use Rattle.kept_laws.specs.Deeds.{IsOnOrder}
 use Rattle.kept_laws.specs.Hosts.{AreDifferent, AreHosts}
@@ -142,8 +142,8 @@ module _ (hosts : List ℕ) (are : AreHosts hosts) where
           begun = entries_for h (arrival Controller (link_to w.sites h) comes)
 
           fine : GoesOn_or_lost 0 hosts w.memory t work
-          fine = step w.memory t (work_of r w.memory.plan (λ k. half_in (link_to w.sites k) (comes_to h comes k)) begun)
-              (runs_begun 0 hosts t w.memory r (λ k. half_in (link_to w.sites k) (comes_to h comes k)) begun (plain_arrival Controller h
+          fine = step w.memory t (work_of r w.memory.plan (λ k. near_end_in (link_to w.sites k) (comes_to h comes k)) begun)
+              (runs_begun 0 hosts t w.memory r (λ k. near_end_in (link_to w.sites k) (comes_to h comes k)) begun (plain_arrival Controller h
               (link_to w.sites h) comes) k.runs) k.runs.on
 
           done : NodeKeeps 0 hosts (t ++ (work.entries ++ frames)) (after_planned work.writes w.memory) (runs_on work) × AreToldBehind t
@@ -174,11 +174,11 @@ module _ (hosts : List ℕ) (are : AreHosts hosts) where
           begun = entries_for x.host (arrival Host (exchanged x.link) comes)
 
           start : Work
-          start = work_of r x.memory.plan (λ k. half_in (exchanged x.link) comes) begun
+          start = work_of r x.memory.plan (λ k. near_end_in (exchanged x.link) comes) begun
 
           fine : GoesOn_or_lost x.host (x.host ∷ []) x.memory t work
           fine = step x r here e host k.runs.on t start refl
-              (runs_begun x.host (x.host ∷ []) t x.memory r (λ k. half_in (exchanged x.link) comes) begun (plain_arrival Host x.host
+              (runs_begun x.host (x.host ∷ []) t x.memory r (λ k. near_end_in (exchanged x.link) comes) begun (plain_arrival Host x.host
               (exchanged x.link) comes) k.runs)
 
           done : NodeKeeps x.host (x.host ∷ []) (t ++ (work.entries ++ frames)) (after_planned work.writes x.memory) (runs_on work) × AreToldBehind t

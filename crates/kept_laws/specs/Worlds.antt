@@ -30,7 +30,7 @@ pub record RunsSo (n : ℕ) (hosts content : List ℕ) (t : List Entry) (r : Run
   pub count_is : count_of r.core.journal ≡ min (length (commands_in t n)) (2 ^ 32 - 1)
   pub on : IsOnOrder r.core.command r.core.init
   pub waits : AllByRecursion (λ (d : Desk). WaitsFor d.notice) r.desks
-  pub allowed : n ≡ 0 → (halves : ℕ → NumberedEnd) → MayWait r.core.tables (map (λ (d : Desk). port_for (halves d.host) d) r.desks)
+  pub allowed : n ≡ 0 → (near_ends : ℕ → NumberedEnd) → MayWait r.core.tables (map (λ (d : Desk). port_for (near_ends d.host) d) r.desks)
 
 -- where it runs
 abbrev pub IfRuns : ℕ → List ℕ → List ℕ → List Entry → Option Running → Type 0

@@ -51,12 +51,12 @@ opens_stay old new owner xs own stay =
 
 opens_of : (old new : PoolState) (k : End) (m : Machine) → EndStandsFor k old m → Untouched old new k
     → OpensKept old new k.inbox.joiner.owner (chains_in k.inbox)
-opens_of old new k m h u = opens_stay old new k.inbox.joiner.owner (chains_in k.inbox) h.half.receives.lies.holds.own u.opens
+opens_of old new k m h u = opens_stay old new k.inbox.joiner.owner (chains_in k.inbox) h.halfway.receives.lies.holds.own u.opens
 
 -- an end whose chains and owners are untouched stands as before
 untouched_stands : (old new : PoolState) (k : End) (m : Machine) → EndStandsFor k old m → Untouched old new k → EndStandsFor k new m
 untouched_stands old new k m h u =
-    let before = h.half in
+    let before = h.halfway in
     let box = k.inbox in
     let o = k.outbox.owner in
     let i = box.joiner.owner in
@@ -74,7 +74,7 @@ untouched_stands old new k m h u =
     let some = opens_stay old new i box.joiner.open.items owns.0 parts.0 in
     let got = opens_stay old new i (got_chains box.got) owns.1 parts.1 in
     record {
-      half = record {
+      halfway = record {
         role = before.role;
         link = record {
           offered = before.link.offered;
@@ -127,9 +127,9 @@ far_from : (pool : PoolState) (k : End) (m : Machine) (c : Chain) → EndStandsF
     → c.owner ≢ k.inbox.joiner.owner
     → LiesApart Queued chain_in k.outbox.queue.items c × IsApartFrom (chains_in k.inbox) c
 far_from pool k m c h live out into = (
-  lies_apart_by_owner Queued chain_in pool k.outbox.owner k.outbox.queue.items c h.half.sends.lies.kept.own live out,
+  lies_apart_by_owner Queued chain_in pool k.outbox.owner k.outbox.queue.items c h.halfway.sends.lies.kept.own live out,
   all_mapped Open (IsOwnOpen pool k.inbox.joiner.owner) (λ x. IsApart c x.chain) (chains_in k.inbox)
-      (λ x o. apart_by_owner pool c x.chain live o.live (λ e. into (e ∙ o.owned))) h.half.receives.lies.holds.own,
+      (λ x o. apart_by_owner pool c x.chain live o.live (λ e. into (e ∙ o.owned))) h.halfway.receives.lies.holds.own,
 )
 
 -- ---- an end with its account, where nothing of its owners changed
@@ -144,11 +144,11 @@ record OwnersStay (old new : PoolState) (one two : ℕ) : Type 0 where
 
 untouched : (old new : PoolState) (k : End) (m : Machine) → EndStandsFor k old m → OwnersStay old new k.outbox.owner k.inbox.joiner.owner → Untouched old new k
 untouched old new k m h s =
-    let lies = h.half.receives.lies in
+    let lies = h.halfway.receives.lies in
     let used = ap (λ (x : Owner). x.used) s.uses in
     record {
       queued = all_mapped Queued (λ q. IsChainOf old k.outbox.owner q.chain) (λ q. Stays old new q.chain) k.outbox.queue.items
-          (λ q o. s.first q.chain o.live o.owned) h.half.sends.lies.kept.own;
+          (λ q o. s.first q.chain o.live o.owned) h.halfway.sends.lies.kept.own;
       opens = all_mapped Open (IsOwnOpen old k.inbox.joiner.owner) (λ x. Stays old new x.chain) (chains_in k.inbox)
           (λ x o. s.second x.chain o.live o.owned) lies.holds.own;
       sender = s.counts;
@@ -208,8 +208,8 @@ account_kept old new before after m None h l a =
     record { fetched = tt; used = subst P (sym l.receiver) (omega (arith, l.received, a.used)) }
 account_kept old new before after m (Some c) h l a =
     let f = a.fetched in
-    let queue = lies_apart_by_owner Queued chain_in old before.outbox.owner before.outbox.queue.items c h.half.sends.lies.kept.own f.live
-    (λ e. h.half.differ (sym e ∙ f.owned)) in
+    let queue = lies_apart_by_owner Queued chain_in old before.outbox.owner before.outbox.queue.items c h.halfway.sends.lies.kept.own f.live
+    (λ e. h.halfway.differ (sym e ∙ f.owned)) in
     let s = l.others c f.live queue f.apart in
     let blocks = ap (λ bs. blocks_for (length bs)) s.1 in
     let P : ℕ → Type 0 = λ o. used_of new o ≡ held_blocks new (chains_in after.inbox) + blocks_for (length (chain_bytes new c)) in
@@ -242,7 +242,7 @@ none_got pool None e = refl
 none_got pool (Some g) e = cc
 
 fetched_all : (pool : PoolState) (k : End) (m : Machine) → EndStandsFor k pool m → m.got ≡ [] → k.inbox.got ≡ None
-fetched_all pool k m h none = none_got pool k.inbox.got (h.half.got ∙ none)
+fetched_all pool k m h none = none_got pool k.inbox.got (h.halfway.got ∙ none)
 
 pub rests_may_take : (k : End) (pool : PoolState) → Rests k pool → MayTake k pool
 rests_may_take k pool r =
@@ -256,7 +256,7 @@ pub rests : (k : End) (pool : PoolState) (m : Machine) → EndStandsFor k pool m
 rests k pool m h a none = record { state = m; stands = h; fetched = fetched_all pool k m h none; accounts = a }
 
 pub may_take_held : (k : End) (pool : PoolState) (m : Machine) → EndStandsFor k pool m → m.shdlc.ready ≡ false → m.got ≡ [] → MayTake k pool
-may_take_held k pool m h held none = record { fetched = fetched_all pool k m h none; free = inr (h.half.link.kept.ready ∙ held) }
+may_take_held k pool m h held none = record { fetched = fetched_all pool k m h none; free = inr (h.halfway.link.kept.ready ∙ held) }
 
 -- ---- a message is fetched
 
@@ -285,7 +285,7 @@ fetched_counted {pool} {k} {inbox} {x = Some y} h a f =
     let o = k.inbox.joiner.owner in
     let one : Open = record { pipe = y.0; chain = y.1 } in
     let chains : chains_in k.inbox ≡ xs ++ one ∷ [] = ap (λ g. xs ++ got_chains g) f.some in
-    let holds = subst (HoldsChains pool o) chains h.half.receives.lies.holds in
+    let holds = subst (HoldsChains pool o) chains h.halfway.receives.lies.holds in
     let own = all_front (IsOwnOpen pool o) xs one holds.own in
     let apart = all_map (λ x. AreApart x one) (λ x. IsApart y.1 x.chain) xs (λ x d first p q. d.chains first q p) (apart_front xs one holds.apart).1 in
     let sum = held_both pool xs (one ∷ []) in
@@ -312,12 +312,12 @@ goes_own {old} {new} {k} {m} {chain} h a g =
     let o = k.outbox.owner in
     let i = k.inbox.joiner.owner in
     let f = a.fetched in
-    let lies = h.half.receives.lies in
+    let lies = h.halfway.receives.lies in
     let opens = all_joined Open (IsOwnOpen old i) (λ x. IsApart chain x.chain) (chains_in k.inbox) lies.holds.own f.apart in
     let u : Untouched old new k = record {
       queued = all_mapped Queued (λ q. IsChainOf old o q.chain) (λ q. Stays old new q.chain) k.outbox.queue.items
-          (λ q own. g.apart q.chain own.live (apart_by_owner old q.chain chain own.live f.live (λ e. h.half.differ (sym own.owned ∙ (e
-          ∙ f.owned)))) (inl own.owned)) h.half.sends.lies.kept.own;
+          (λ q own. g.apart q.chain own.live (apart_by_owner old q.chain chain own.live f.live (λ e. h.halfway.differ (sym own.owned ∙ (e
+          ∙ f.owned)))) (inl own.owned)) h.halfway.sends.lies.kept.own;
       opens = all_mapped Open (λ x. IsOwnOpen old i x × IsApart chain x.chain) (λ x. Stays old new x.chain) (chains_in k.inbox)
           (λ x own. g.apart x.chain own.0.live (apart_turned chain x.chain own.1) (inr own.0.owned)) opens;
       sender = g.counts;
@@ -336,12 +336,12 @@ pub given_own : (old new : PoolState) (k : End) (m : Machine) (chain : Chain) �
 given_own old new k m chain h a gives keeps =
     let i = k.inbox.joiner.owner in
     let n = blocks_for (length (chain_bytes old chain)) in
-    let has = h.half.receives.lies.has_quota in
+    let has = h.halfway.receives.lies.has_quota in
     let owners : new.owners ≡ with_used old.owners i (used_of old i - n) = gives.owners ∙ ap
     (λ q. with_used old.owners q (used_of old q - n)) a.fetched.owned in
     goes_own h a (record {
       apart = λ c live apart e. (let s = keeps c live apart in (s.1, s.2));
-      counts = ap (λ os. owner_at os k.outbox.owner) owners ∙ other-with_used old.owners i (used_of old i - n) k.outbox.owner h.half.differ;
+      counts = ap (λ os. owner_at os k.outbox.owner) owners ∙ other-with_used old.owners i (used_of old i - n) k.outbox.owner h.halfway.differ;
       quota = ap (λ os. (owner_at os i).quota) owners ∙ quota-with_used old.owners i (used_of old i - n) has;
       used = ap (λ os. (owner_at os i).used) owners ∙ used-with_used old.owners i (used_of old i - n) has;
       lengths = ap length owners ∙ length-with_used old.owners i (used_of old i - n);
@@ -372,7 +372,7 @@ given_beside old new k other n chain theirs a gives keeps differ g b =
 pub may_send_back : (pool : PoolState) (k : End) (m : Machine) (chain : Chain) → EndStandsFor k pool m → Accounts k pool (Some chain) → MayPass pool k chain
 may_send_back pool k m chain h a = record {
   live = a.fetched.live;
-  other = λ e. h.half.differ (sym e ∙ a.fetched.owned);
+  other = λ e. h.halfway.differ (sym e ∙ a.fetched.owned);
   apart = a.fetched.apart;
   counted = λ e. omega (arith, a.used);
 }
@@ -398,7 +398,7 @@ pub record HasAdopted (old new : PoolState) (k : End) (after : List Queued) (own
 pub adopted : {old new : PoolState} {from k : End} {after : List Queued} {m : Machine} {chain : Chain} → Accounts from old (Some chain)
     → EndStandsFor k old m → LeavesOthersBut old new k.outbox.owner chain k.outbox.queue.items after
     → HasAdopted old new k after from.inbox.joiner.owner chain
-adopted a h leaves = record { live = a.fetched.live; owned = a.fetched.owned; own = h.half.sends.lies.kept.own; leaves = leaves }
+adopted a h leaves = record { live = a.fetched.live; owned = a.fetched.owned; own = h.halfway.sends.lies.kept.own; leaves = leaves }
 
 module _ {old new : PoolState} {k : End} {after : List Queued} {owner : ℕ} {chain : Chain} (t : HasAdopted old new k after owner chain) where
   -- a chain that lies apart from it, of another owner than that of what is sent, has its bytes still
@@ -423,9 +423,9 @@ pub sent_back_own : (old new : PoolState) (k after : End) (m : Machine) (chain :
 sent_back_own old new k after m chain h a inbox l =
     let i = k.inbox.joiner.owner in
     let t = adopted a h l in
-    let opens = all_joined Open (IsOwnOpen old i) (λ x. IsApart chain x.chain) (chains_in k.inbox) h.half.receives.lies.holds.own a.fetched.apart in
+    let opens = all_joined Open (IsOwnOpen old i) (λ x. IsApart chain x.chain) (chains_in k.inbox) h.halfway.receives.lies.holds.own a.fetched.apart in
     let all = opens_passed old new i (λ x. IsApart chain x.chain) (chains_in k.inbox) opens
-    (λ x own. stays_beside t x.chain i own.0.live own.0.owned h.half.differ (apart_turned chain x.chain own.1)) in
+    (λ x own. stays_beside t x.chain i own.0.live own.0.owned h.halfway.differ (apart_turned chain x.chain own.1)) in
     let P : Inbox → Type 0 = λ b. used_of new b.joiner.owner ≡ held_blocks new (chains_in b) + 0 in
     record { fetched = tt; used = subst P (sym inbox) (omega (arith, giver_used t, a.used, all.blocks)) }
 
@@ -453,7 +453,7 @@ passed_giver old new from to after m n chain h a differ g l =
         | inl is ↦ stays_beside t c from.outbox.owner live is (λ e. differ.senders (sym e)) apart
         | inr is ↦ stays_beside t c from.inbox.joiner.owner live is (λ e. differ.from (sym e)) apart
       ];
-      counts = l.counts from.outbox.owner differ.senders (λ e. h.half.differ (e ∙ t.owned));
+      counts = l.counts from.outbox.owner differ.senders (λ e. h.halfway.differ (e ∙ t.owned));
       quota = ap (quota_of new) (sym t.owned) ∙ (l.giver_quota ∙ ap (quota_of old) t.owned);
       used = giver_used t;
       lengths = l.lengths;
@@ -466,12 +466,12 @@ pub passed_taker : (old new : PoolState) (from to after : End) (n : Machine) (ch
 passed_taker old new from to after n chain theirs a differ g b inbox l =
     let i = to.inbox.joiner.owner in
     let t = adopted a g l in
-    let stay : (c : Chain) → IsLive old c → c.owner ≡ i → Stays old new c = λ c live is. stays_third t c i live is g.half.differ differ.receivers in
-    let own = g.half.receives.lies.holds.own in
+    let stay : (c : Chain) → IsLive old c → c.owner ≡ i → Stays old new c = λ c live is. stays_third t c i live is g.halfway.differ differ.receivers in
+    let own = g.halfway.receives.lies.holds.own in
     let all = opens_stay old new i (chains_in to.inbox) own (all_mapped Open (IsOwnOpen old i) (λ x. Stays old new x.chain) (chains_in to.inbox)
     (λ x o. stay x.chain o.live o.owned) own) in
     let moved = fetched_stays old new to theirs stay b.fetched in
-    let used = ap (λ (x : Owner). x.used) (l.counts i (λ e. g.half.differ (sym e)) (λ e. differ.receivers (sym t.owned ∙ sym e))) in
+    let used = ap (λ (x : Owner). x.used) (l.counts i (λ e. g.halfway.differ (sym e)) (λ e. differ.receivers (sym t.owned ∙ sym e))) in
     let P : Inbox → Type 0 = λ box. used_of new box.joiner.owner ≡ held_blocks new (chains_in box) + blocks_of new theirs in
     record { fetched = fetched_moved new to after theirs inbox moved.0; used = subst P (sym inbox) (omega (arith, used, b.used, all.blocks, moved.1)) }
 

@@ -95,12 +95,12 @@ refills_more o r = record {
 
 -- there is no room, or no session
 pub refilled : (pool : PoolState) (k : End) (m : Machine) → (k.shdlc.phase ≢ Up) ⊎ (length k.shdlc.sender.queue ≡ 4) → Halfway k pool m → EndStandsFor k pool m
-refilled pool k m (inl idle) h = record { half = h; full = inl (stands_idle k.shdlc (waiting_in pool k.outbox) m.shdlc h.link idle) }
-refilled pool k m (inr four) h = record { half = h; full = inr (h.link.kept.sender.offered ∙ ap (λ n. m.shdlc.session.acked + n) four) }
+refilled pool k m (inl idle) h = record { halfway = h; full = inl (stands_idle k.shdlc (waiting_in pool k.outbox) m.shdlc h.link idle) }
+refilled pool k m (inr four) h = record { halfway = h; full = inr (h.link.kept.sender.offered ∙ ap (λ n. m.shdlc.session.acked + n) four) }
 
 -- nothing waits
 pub none_waits : (pool : PoolState) (k : End) (m : Machine) → waiting_in pool k.outbox ≡ [] → Halfway k pool m → EndStandsFor k pool m
-none_waits pool k m none h = record { half = h; full = inl none }
+none_waits pool k m none h = record { halfway = h; full = inl none }
 
 -- ---- forgetting
 
@@ -186,7 +186,7 @@ session_over {new = new} {k = k} {k1 = k1} {s = s} {e = e} h f none =
     let P : List Fragment → Type 0 = λ w. StandsBefore s w e in
     let under : messages_under_way new k1.inbox ≡ [] = ap (messages_of new) f.under in
     record {
-      half = record {
+      halfway = record {
         role = ap role_of f.activation ∙ h.role;
         link = subst P (sym waiting) none.stands;
         acts = ap (map due_of) f.acts ∙ (front_same k.acts.items ∙ ap (map due_in_front) h.acts);
@@ -220,9 +220,9 @@ pub dropped : (pool : PoolState) (k : End) (s : KeptEnd) (acts : ArrayVec ActDue
     → acts.items ≡ map kept_in_front k.acts.items → EndStandsFor k pool m
     → EndStandsFor (record k { shdlc = s; acts = acts }) pool (record m { shdlc = record m.shdlc { due = [] }; acts = map due_in_front m.acts })
 dropped pool k s acts m drops moved_acts h =
-    let before = h.half in
+    let before = h.halfway in
     record {
-      half = record {
+      halfway = record {
         role = before.role;
         link = (let l = before.link in
             let n = l.narrow in
@@ -249,11 +249,11 @@ pub act_made : (pool : PoolState) (k : End) (acts : ArrayVec ActDue) (frame : Ac
     → acts.items ≡ k.acts.items ++ record { frame = frame; behind = behind } ∷ []
     → behind ≡ length k.shdlc.due → EndStandsFor k pool m → EndStandsFor (record k { acts = acts }) pool (with_act (Some frame) m)
 act_made pool k acts frame behind m pushed counted h =
-    let before = h.half in
+    let before = h.halfway in
     let due : k.shdlc.due ≡ m.shdlc.due = before.link.kept.due in
     let here : behind ≡ length m.shdlc.due = counted ∙ ap length due in
     record {
-      half = record {
+      halfway = record {
         role = before.role;
         link = before.link;
         acts = ap (map due_of) pushed ∙ (map_push due_of k.acts.items (record { frame = frame; behind = behind })
@@ -273,9 +273,9 @@ act_made pool k acts frame behind m pushed counted h =
 pub with_role : (pool : PoolState) (k : End) (a : Activation) (m : Machine) (r : Role) → role_of a ≡ r → EndStandsFor k pool m
     → EndStandsFor (record k { activation = a }) pool (record m { role = r })
 with_role pool k a m r is h =
-    let before = h.half in
+    let before = h.halfway in
     record {
-      half = record {
+      halfway = record {
         role = is;
         link = before.link;
         acts = before.acts;
@@ -310,11 +310,11 @@ pub record HasStepped (k : End) (pool : PoolState) (m : Machine) (event : ActEve
 
 pub stepped : {k : End} {pool : PoolState} {m : Machine} {event : ActEvent} {a : Activation} {out : ActOut} → HasStepped k pool m event a out
     → EndStandsFor (record k { activation = a }) pool (record m { role = role_after m.role event })
-stepped {k} {pool} {m} {event} {a} s = with_role pool k a m (role_after m.role event) (s.role ∙ ap (λ x. role_after x event) s.before.half.role) s.before
+stepped {k} {pool} {m} {event} {a} s = with_role pool k a m (role_after m.role event) (s.role ∙ ap (λ x. role_after x event) s.before.halfway.role) s.before
 
 step_answer : {k : End} {pool : PoolState} {m : Machine} {event : ActEvent} {a : Activation} {out : ActOut} → HasStepped k pool m event a out
     → out ≡ act_answer m.role event
-step_answer {event = event} s = s.answer ∙ ap (λ x. act_answer x event) s.before.half.role
+step_answer {event = event} s = s.answer ∙ ap (λ x. act_answer x event) s.before.halfway.role
 
 pub event_stands : {pool new : PoolState} {k k2 k3 : End} {a : Activation} {m : Machine} {event : ActEvent} {out : ActOut} → HasStepped k pool m event a out
     → ((x : Machine) → EndStandsFor (record k { activation = a }) pool x → EndStandsFor k2 new (put_down out.ended_link x))

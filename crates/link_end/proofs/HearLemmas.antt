@@ -89,7 +89,7 @@ pub record HasTaken (k : End) (pool : PoolState) (m : Machine) (c : Control) (s 
 module _ {k : End} {pool : PoolState} {m : Machine} {c : Control} {s : KeptEnd} {t : Taken} (h : HasTaken k pool m c s t) where
   took_answer : t ≡ take_answer m.shdlc c
   took_answer =
-      let link = h.before.half.link in
+      let link = h.before.halfway.link in
       h.answer (with_out m.shdlc link.offered) link.kept ∙ (taken_alike m.shdlc link.offered c).answer
 
   -- whether it ended the session
@@ -99,7 +99,7 @@ module _ {k : End} {pool : PoolState} {m : Machine} {c : Control} {s : KeptEnd} 
   -- what the SHDLC end stands for then
   took_link : {b : Bool} → ended_in m c ≡ b → StandsBefore s (left_waiting b (waiting_in pool k.outbox)) (taken m.shdlc c)
   took_link over =
-      let link = h.before.half.link in
+      let link = h.before.halfway.link in
       let waiting = waiting_in pool k.outbox in
       let on = takes_on m.shdlc c link.session in
       let P : List Fragment → Type 0 = λ w. StandsBefore s w (taken m.shdlc c) in
@@ -125,11 +125,11 @@ module _ {k : End} {pool : PoolState} {m : Machine} {c : Control} {s : KeptEnd} 
   pub over_stands : {k1 : End} {new : PoolState} → is_some t.ended ≡ true → ForgetsMessages pool new (record k { shdlc = s }) k1
       → EndStandsFor k1 new (heard m c)
   over_stands {k1} {new} ended f =
-      let on = takes_on m.shdlc c h.before.half.link.session in
+      let on = takes_on m.shdlc c h.before.halfway.link.session in
       let over = ended_by h ended in
       let acc = over_acc m c on over in
       let P : Machine → Type 0 = λ x. EndStandsFor k1 new x in
-      subst P (sym (heard-over m c over acc)) (session_ended (carries h.before.half) f (record {
+      subst P (sym (heard-over m c over acc)) (session_ended (carries h.before.halfway) f (record {
         stands = took_link h over;
         out = on.out ∙ ap (λ b. left_waiting b m.shdlc.session.out) over;
         acked = on.acked ∙ ap (λ b. if b then 0 else m.shdlc.session.acked + (take_answer m.shdlc c).acked) over;
@@ -139,7 +139,7 @@ module _ {k : End} {pool : PoolState} {m : Machine} {c : Control} {s : KeptEnd} 
   pub over_told : {n : LinkReport} → is_some t.ended ≡ true → n ≡ nothing_told → record n { ended = t.ended; began = t.began } ≡ heard_told m c
   over_told ended none =
       let e = taken m.shdlc c in
-      let on = takes_on m.shdlc c h.before.half.link.session in
+      let on = takes_on m.shdlc c h.before.halfway.link.session in
       let over = ended_by h ended in
       let acc = over_acc m c on over in
       let faulty : is_faulty e.session ≡ false = ap (λ l. not (are_taken [] (packets_in l))) acc in
@@ -201,8 +201,8 @@ sends_on {old} {new} {box} {after} {sent} {s} {s'} {count} {whole} o a same_out 
 pub cut_enough : {k : End} {pool : PoolState} {m : Machine} {c : Control} {s : KeptEnd} {t : Taken} → HasTaken k pool m c s t → is_some t.ended ≡ false
     → k.outbox.acked + t.acked ≤ k.outbox.cut
 cut_enough {k} {pool} {m} {c} {t = t} h going =
-    let sends = h.before.half.sends in
-    let link = h.before.half.link in
+    let sends = h.before.halfway.sends in
+    let link = h.before.halfway.link in
     let on = takes_on m.shdlc c link.session in
     let is = took_answer h in
     let over = ended_by h going in
@@ -256,7 +256,7 @@ pub goes_on : {old mid new : PoolState} {k : End} {m : Machine} {c : Control} {s
     → ReceivesOn old mid k.inbox inbox (brought t) → HasAcknowledged mid new k.outbox outbox t.acked whole
     → GoesOn old new k m c s t inbox outbox whole
 goes_on {old} {mid} {new} {k} {m} {c} {s} {t} {inbox} {outbox} {whole} h going joined r a =
-    let before = h.before.half in
+    let before = h.before.halfway in
     let g = a.gives in
     let e = taken m.shdlc c in
     let on = takes_on m.shdlc c before.link.session in
@@ -378,7 +378,7 @@ may_receive {k} {pool} {m} {c} {s} {t} h may = go t.accepted refl
         → used_of pool k.inbox.joiner.owner ≡ held_blocks pool k.inbox.joiner.open.items
     free f (inl used) is = used
     free f (inr held) is =
-        let kept : k.shdlc.ready ≡ m.shdlc.ready = h.before.half.link.kept.ready in
+        let kept : k.shdlc.ready ≡ m.shdlc.ready = h.before.halfway.link.kept.ready in
         let ready : m.shdlc.ready ≡ true = accepted_ready m.shdlc c f (sym (ap (λ (x : Taken). x.accepted) (took_answer h)) ∙ is) in
         let no : false ≡ true = sym held ∙ (kept ∙ ready) in cc
 
@@ -415,14 +415,14 @@ pub record BreaksOff (new : PoolState) (k1 : End) (m : Machine) (c : Control) (s
 pub fault_lies : {old mid : PoolState} {k : End} {m : Machine} {inbox : Inbox} → EndStandsFor k old m → IsBroken old mid k.inbox inbox
     → OutboxKept old mid k.outbox
 fault_lies {old} {mid} {k} h b =
-    outbox_kept old mid k.inbox.joiner.owner (chains_in k.inbox) [] k.outbox h.half.receives.lies.holds.own b.elsewhere h.half.sends.lies h.half.differ
+    outbox_kept old mid k.inbox.joiner.owner (chains_in k.inbox) [] k.outbox h.halfway.receives.lies.holds.own b.elsewhere h.halfway.sends.lies h.halfway.differ
 
 pub breaks_off : {old mid new : PoolState} {k k1 : End} {m : Machine} {c : Control} {s0 s : KeptEnd} {t : Taken} {inbox : Inbox} → HasTaken k old m c s0 t
     → (IsTrue (are_taken (messages_under_way old k.inbox) (packets_in (brought t))) → ⊥) → k.inbox.got ≡ None → IsBroken old mid k.inbox inbox
     → ForgetsMessages mid new (record k { shdlc = s0; inbox = inbox }) k1 → ((e : EndState) → ShdlcStandsFor k1.shdlc e → ShdlcStandsFor s (stopped e))
     → BreaksOff new k1 m c s
 breaks_off {old} {mid} {new} {k} {k1} {m} {c} {s0} {s} {t} {inbox} h broken fetched b f stops =
-    let before = h.before.half in
+    let before = h.before.halfway in
     let e = taken m.shdlc c in
     let on = takes_on m.shdlc c before.link.session in
     let is = took_answer h in
@@ -506,4 +506,4 @@ pub received_lies : {old mid : PoolState} {k : End} {m : Machine} {inbox : Inbox
     → ReceivesOn old mid k.inbox inbox more → OutboxLiesIn mid k.outbox
 received_lies {old} {mid} {k} {inbox = inbox} h r =
     (outbox_kept old mid k.inbox.joiner.owner (chains_in k.inbox)
-    (chains_in inbox) k.outbox h.half.receives.lies.holds.own r.elsewhere h.half.sends.lies h.half.differ).lies
+    (chains_in inbox) k.outbox h.halfway.receives.lies.holds.own r.elsewhere h.halfway.sends.lies h.halfway.differ).lies

@@ -74,7 +74,7 @@ new_stands {pool} {role} {sender} {receiver} {k} n free =
     let e = no_fragments role in
     let P : List Open → Type 0 = λ l. HoldsChains pool k.inbox.joiner.owner l in
     record {
-      half = record {
+      halfway = record {
         role = n.role_is;
         link = new_before k.shdlc role n.stands;
         acts = ap (map due_of) n.no_acts;

@@ -50,7 +50,7 @@ use Rattle.link_end.proofs.BoxLemmas.{inbox_kept, inbox_passed, leaves_out}
 
 pub window_low : (pool : PoolState) (k : End) (m : Machine) (window : Option ℕ) → EndStandsFor k pool m → IfSome window (λ w. (1 ≤ w) × (w ≤ 4))
     → window_of m window ≤ 4
-window_low pool k m None h some = h.half.link.narrow.own
+window_low pool k m None h some = h.halfway.link.narrow.own
 window_low pool k m (Some w) h some = some.1
 
 pub reset_closed : (m : Machine) (window : Option ℕ) → is_open m.role ≡ false → after_input m (Reset window) ≡ m
@@ -83,7 +83,7 @@ pub record HasReset (k : End) (pool : PoolState) (m : Machine) (s : KeptEnd) (wi
 reset_link : {k : End} {pool : PoolState} {m : Machine} {s : KeptEnd} {window : Option ℕ} (p : LinkState) → HasReset k pool m s window → (p ≡ Waiting → ⊥)
     → m.shdlc.phase ≡ p → StandsBefore s [] (reset_with m.shdlc (window_of m window))
 reset_link {k} {pool} {m} {s} {window} p h other is =
-    let link = h.before.half.link in
+    let link = h.before.halfway.link in
     let next = stands_reset k.shdlc s (waiting_in pool k.outbox) m.shdlc (window_of m window) link (window_low pool k m window h.before h.small)
     (h.stands (with_out m.shdlc link.offered) link.kept) in
     let P : Bool → Type 0 = λ b. StandsBefore s (left_waiting (not b) (waiting_in pool k.outbox)) (reset_with m.shdlc (window_of m window)) in
@@ -93,7 +93,7 @@ pub reset_ends : {k k1 : End} {pool new : PoolState} {m : Machine} {s : KeptEnd}
     → ForgetsMessages pool new (record k { shdlc = s }) k1 → EndStandsFor k1 new (moved m true (reset_with m.shdlc (window_of m window)))
 reset_ends {m = m} {window = window} h up f =
     let empty = reset_empty Up m.shdlc (window_of m window) (λ x. cc) up in
-    session_ended (carries h.before.half) f (record {
+    session_ended (carries h.before.halfway) f (record {
       stands = reset_link Up h (λ x. cc) up;
       out = ap (λ (x : Session). x.out) empty;
       acked = ap (λ (x : Session). x.acked) empty;
@@ -108,7 +108,7 @@ idle_in Down s h d = h
 pub reset_begins : {k : End} {pool : PoolState} {m : Machine} {s : KeptEnd} {window : Option ℕ} → HasReset k pool m s window → m.shdlc.phase ≡ Down
     → Halfway (record k { shdlc = s }) pool (moved m false (reset_with m.shdlc (window_of m window)))
 reset_begins {k} {pool} {m} {s} {window} h down =
-    let link = h.before.half.link in
+    let link = h.before.halfway.link in
     let e = reset_with m.shdlc (window_of m window) in
     let empty : e.session ≡ no_session = reset_empty Down m.shdlc (window_of m window) (λ x. cc) down in
     let idle : m.shdlc.session ≡ no_session = idle_in m.shdlc.phase m.shdlc.session link.session down in
@@ -116,7 +116,7 @@ reset_begins {k} {pool} {m} {s} {window} h down =
     stands_idle k.shdlc (waiting_in pool k.outbox) m.shdlc link (λ up. (let d : Up ≡ Down = sym up ∙ (link.kept.phase ∙ down) in cc)) in
     let P : List Fragment → Type 0 = λ l. StandsBefore s l e in
     let same : e.session ≡ m.shdlc.session = empty ∙ sym idle in
-    same_session h.before.half (subst P (sym none) (reset_link Down h (λ x. cc) down))
+    same_session h.before.halfway (subst P (sym none) (reset_link Down h (λ x. cc) down))
     (ap (λ (x : Session). x.out) same) (ap (λ (x : Session). x.acked) same) (ap (λ (x : Session). x.acc) same)
 
 -- ---- a message is fetched
@@ -142,9 +142,9 @@ fetched_got pool (Some g) = refl
 pub message_fetched : (pool : PoolState) (k : End) (inbox : Inbox) (m : Machine) → inbox.joiner ≡ k.inbox.joiner → inbox.got ≡ None → EndStandsFor k pool m
     → EndStandsFor (record k { inbox = inbox }) pool (record m { got = drop 1 m.got })
 message_fetched pool k inbox m same none h =
-    let before = h.half in
+    let before = h.halfway in
     record {
-      half = record {
+      halfway = record {
         role = before.role;
         link = before.link;
         acts = before.acts;
@@ -199,13 +199,13 @@ pub act_sent : (pool : PoolState) (k : End) (acts : ArrayVec ActDue) (m : Machin
     → Some act ≡ front_act k.acts.items → acts.items ≡ behind_front k.acts.items
     → (Some (ActFrame act false) ≡ next_frame m) × EndStandsFor (record k { acts = acts }) pool (frame_fetched m)
 act_sent pool k acts m act h front rest =
-    let before = h.half in
+    let before = h.halfway in
     let n = act_next m k.acts.items act front in
     let is : record m { acts = map due_of k.acts.items } ≡ m = ap (λ a. record m { acts = a }) before.acts in
     let P : Machine → Type 0 = λ x. EndStandsFor (record k { acts = acts }) pool x in (
       sym (sym (ap next_frame is) ∙ n.0),
       subst P (sym n.1 ∙ ap frame_fetched is) (record {
-        half = record {
+        halfway = record {
           role = before.role;
           link = before.link;
           acts = ap (map due_of) rest;
@@ -236,7 +236,7 @@ pub record HasFetchedFrame (k : End) (s : KeptEnd) (acts : ArrayVec ActDue) (fra
 pub link_sent : {pool : PoolState} {k : End} {s : KeptEnd} {acts : ArrayVec ActDue} {m : Machine} {frame : Option Control} → EndStandsFor k pool m
     → HasFetchedFrame k s acts frame → (frame ≡ next_frame m) × EndStandsFor (record k { shdlc = s; acts = acts }) pool (frame_fetched m)
 link_sent {pool} {k} {s} {acts} {m} h f =
-    let before = h.half in
+    let before = h.halfway in
     let link = before.link in
     let both : StandsWith k.shdlc (waiting_in pool k.outbox) m.shdlc = record { stands = link; full = h.full } in
     let n = link_next m k.acts.items f.front in
@@ -247,7 +247,7 @@ link_sent {pool} {k} {s} {acts} {m} h f =
     let acc : (fetched m.shdlc).session.acc ≡ m.shdlc.session.acc = fetched_acc m.shdlc m.shdlc.due (fragment_due m.shdlc.session) refl in (
       f.frame_is (with_out m.shdlc link.offered) link.kept ∙ (a.frame ∙ sym (sym (ap next_frame is) ∙ n.0)),
       subst P (sym n.1 ∙ ap frame_fetched is) (record {
-        half = record {
+        halfway = record {
           role = before.role;
           link = w.stands;
           acts = ap (map due_of) (f.nearer ∙ ap (map kept_nearer) n.2) ∙ nearer_same k.acts.items;
@@ -283,9 +283,9 @@ needs pool (q ∷ queue) =
 
 pub spare_is : (pool : PoolState) (k : End) (m : Machine) → EndStandsFor k pool m → spare m ≡ spare_of pool k.outbox.owner
 spare_is pool k m h =
-    let sends = h.half.sends in
+    let sends = h.halfway.sends in
     let used : in_use m ≡ all_blocks Queued chain_in pool k.outbox.queue.items = sym (ap need_of_all sends.messages) ∙ needs pool k.outbox.queue.items in
-    omega (arith, used, h.half.aside, sends.lies.kept.used, sends.lies.kept.quota)
+    omega (arith, used, h.halfway.aside, sends.lies.kept.used, sends.lies.kept.quota)
 
 pub refused_long : (m : Machine) (x : Message) → m.shdlc.phase ≡ Up → 4096 < length x.1 → give_refusal m x ≡ Some (TooLong (length x.1))
 refused_long m x up long = let t = lt-ltb 4096 (length x.1) long in rw (up, t)
@@ -334,7 +334,7 @@ accepted_stands : {old new : PoolState} {k : End} {box : Outbox} {m : Machine} {
     → messages_under_way new k.inbox ≡ messages_under_way old k.inbox → came_whole new k.inbox ≡ came_whole old k.inbox
     → aside_of new k.outbox.owner ≡ aside_of old k.outbox.owner → Halfway (record k { outbox = box }) new (given m x)
 accepted_stands {old} {new} {k} {box} {m} {x} h lies under got aside =
-    let before = h.before.half in
+    let before = h.before.halfway in
     let a = h.accepts in
     let link = before.link in
     let sends = before.sends in
@@ -368,7 +368,7 @@ pub message_given : {old new : PoolState} {k : End} {box : Outbox} {m : Machine}
     → OutboxLeaves old new k.outbox.owner k.outbox.queue.items box.queue.items
     → Halfway (record k { outbox = box }) new (given m x) × LeavesBoxes old new k.outbox k.inbox box k.inbox
 message_given {old} {new} {k} {box} h leaves =
-    let before = h.before.half in
+    let before = h.before.halfway in
     let o = k.outbox.owner in
     let kept = before.sends.lies.kept in
     let i = inbox_kept old new o k.outbox.queue.items box.queue.items k.inbox kept.own leaves before.receives.lies before.differ in
@@ -380,4 +380,4 @@ message_given {old} {new} {k} {box} h leaves =
 pub message_passed : {old new : PoolState} {k : End} {box : Outbox} {chain : Chain} {m : Machine} {x : Message} → HasAccepted old new k box m x
     → MayPass old k chain → LeavesOthersBut old new k.outbox.owner chain k.outbox.queue.items box.queue.items
     → Halfway (record k { outbox = box }) new (given m x)
-message_passed h may leaves = let i = inbox_passed h.before.half may leaves in accepted_stands h i.0 i.1 i.2 leaves.aside
+message_passed h may leaves = let i = inbox_passed h.before.halfway may leaves in accepted_stands h i.0 i.1 i.2 leaves.aside

@@ -38,10 +38,10 @@ use Rattle.link_end.proofs.EndLemmas.{session_ended, carries}
 pub passed : (pool : PoolState) (k : End) (p : ℕ) (m : Machine) → p ≡ min (k.passed_over + 1) 4294967295 → EndStandsFor k pool m
     → EndStandsFor (record k { passed_over = p }) pool (record m { passed_over = m.passed_over + 1 })
 passed pool k p m is h =
-    let before = h.half in
+    let before = h.halfway in
     let was = before.passed_over in
     record {
-      half = record {
+      halfway = record {
         role = before.role;
         link = before.link;
         acts = before.acts;
@@ -94,17 +94,17 @@ pub held : (pool : PoolState) (k : End) (s : KeptEnd) (m : Machine) (r : Bool)
     → EndStandsFor (record k { shdlc = s }) pool (record m { shdlc = with_ready m.shdlc r })
 unfolding same_session
 held pool k s m r readies h =
-    let link = h.half.link in
+    let link = h.halfway.link in
     let a = ready_alike m.shdlc link.offered r in
     let w = stands_ready k.shdlc s (waiting_in pool k.outbox) m.shdlc r (record { stands = link; full = h.full })
     (readies (with_out m.shdlc link.offered) link.kept) in
-    record { half = same_session h.half w.stands a.out a.acked (acc_in m.shdlc m.shdlc.ready r m.shdlc.session.answered_rnr); full = w.full }
+    record { halfway = same_session h.halfway w.stands a.out a.acked (acc_in m.shdlc m.shdlc.ready r m.shdlc.session.answered_rnr); full = w.full }
 
 -- ---- a tick
 
-alike : (pool : PoolState) (k : End) (m : Machine) (h : EndStandsFor k pool m) → TicksAlike m.shdlc h.half.link.offered
+alike : (pool : PoolState) (k : End) (m : Machine) (h : EndStandsFor k pool m) → TicksAlike m.shdlc h.halfway.link.offered
 alike pool k m h =
-    let link = h.half.link in
+    let link = h.halfway.link in
     let next = link.kept.sender.next in
     ticked_alike m.shdlc link.offered (waiting_in pool k.outbox) link.out h.full (omega arith)
 
@@ -116,7 +116,7 @@ pub record HasTicked (k : End) (pool : PoolState) (m : Machine) (s : KeptEnd) (t
 
 module _ {k : End} {pool : PoolState} {m : Machine} {s : KeptEnd} {t : Ticked} (h : HasTicked k pool m s t) where
   ticked_answer : t ≡ tick_answer m.shdlc
-  ticked_answer = h.answer (with_out m.shdlc h.before.half.link.offered) h.before.half.link.kept ∙ (alike pool k m h.before).answer
+  ticked_answer = h.answer (with_out m.shdlc h.before.halfway.link.offered) h.before.halfway.link.kept ∙ (alike pool k m h.before).answer
 
   -- whether it ended the session
   ended_by_tick : {b : Bool} → is_some t.ended ≡ b → is_some (tick_answer m.shdlc).ended ≡ b
@@ -125,7 +125,7 @@ module _ {k : End} {pool : PoolState} {m : Machine} {s : KeptEnd} {t : Ticked} (
   -- what the SHDLC end stands for then
   ticked_link : {b : Bool} → is_some t.ended ≡ b → StandsBefore s (left_waiting b (waiting_in pool k.outbox)) (ticked m.shdlc)
   ticked_link ended =
-      let link = h.before.half.link in
+      let link = h.before.halfway.link in
       let waiting = waiting_in pool k.outbox in
       let P : Bool → Type 0 = λ b. StandsBefore s (left_waiting b waiting) (ticked m.shdlc) in
       subst P (ended_by_tick ended) (stands_ticked k.shdlc s waiting m.shdlc (record { stands = link; full = h.before.full })
@@ -137,7 +137,7 @@ module _ {k : End} {pool : PoolState} {m : Machine} {s : KeptEnd} {t : Ticked} (
       let a = alike pool k m h.before in
       let over = ended_by_tick ended in
       let P : Bool → Type 0 = λ b. EndStandsFor k1 new (moved m b (ticked m.shdlc)) in
-      subst P (sym over) (session_ended (carries h.before.half) f (record {
+      subst P (sym over) (session_ended (carries h.before.halfway) f (record {
         stands = ticked_link ended;
         out = a.out ∙ ap (λ b. left_waiting b m.shdlc.session.out) over;
         acked = a.acked ∙ ap (λ b. if b then 0 else m.shdlc.session.acked) over;
@@ -150,7 +150,7 @@ module _ {k : End} {pool : PoolState} {m : Machine} {s : KeptEnd} {t : Ticked} (
       let over = ended_by_tick going in
       let P : Bool → Type 0 = λ b. Halfway (record k { shdlc = s }) pool (moved m b (ticked m.shdlc)) in
       subst P (sym over)
-      (same_session h.before.half (ticked_link going)
+      (same_session h.before.halfway (ticked_link going)
       (a.out ∙ ap (λ b. left_waiting b m.shdlc.session.out) over)
       (a.acked ∙ ap (λ b. if b then 0 else m.shdlc.session.acked) over)
       (a.acc ∙ ap (λ b. left_waiting b m.shdlc.session.acc) over))

@@ -51,8 +51,8 @@ pub record Halfway (k : End) (pool : PoolState) (m : Machine) : Type 0 where
 
 -- what is kept stands for this state of the machine
 pub record EndStandsFor (k : End) (pool : PoolState) (m : Machine) : Type 0 where
-  pub half : Halfway k pool m
-  pub full : (waiting_in pool k.outbox ≡ []) ⊎ (length half.link.offered ≡ m.shdlc.session.acked + 4)
+  pub halfway : Halfway k pool m
+  pub full : (waiting_in pool k.outbox ≡ []) ⊎ (length halfway.link.offered ≡ m.shdlc.session.acked + 4)
 
 -- how many control frames wait to be fetched
 abbrev pub controls_in : End → ℕ

@@ -17,7 +17,7 @@ use Rattle.message_link.specs.Links.{NumberedEnd, Link, Ending, Comes, number_of
 use Rattle.message_link.specs.Links.Ending.{GoesOut, CutOff}
 use Rattle.message_link.specs.Links.Comes.{NextFrame, AsksReset, Starts, Stops, NoInput}
 use Rattle.message_link.specs.Links.EndEvent.{Step}
-use Rattle.message_link.specs.Projection.{core_of, core_half, core_take, core_ending, core_reset, core_step}
+use Rattle.message_link.specs.Projection.{core_of, core_end, core_take, core_ending, core_reset, core_step}
 use Rattle.message_link.proofs.Ends.{frames_alike}
 use Rattle.message_link.proofs.Project.{Tells}
 use Rattle.link_entries.specs.Entries.{End, Entry, if_so, told_of, left_after, rest_entries, taken_entries, step_entries}
@@ -293,14 +293,14 @@ taken_knows {t} {n} who l x xs ts ending w a b both = go (began_by e i) refl
             ∙ ap (λ z. Took who x.frame ∷ z) (append_assoc (map (Down who) (option_to_list (report e i).ended)) (Up who j ∷ tail) rest)
 
         -- the frames of this step
-        first : is_up_with (core_half l.host) j ≡ false → bad m ≡ true → Disturbed v
+        first : is_up_with (core_end l.host) j ≡ false → bad m ≡ true → Disturbed v
         first alone z = disturbed_right tail rest (by ending)
           where
             lone : came_up n (core_of k) (began_by e i) ≡ no_losses
             lone =
                 ap (came_up n (core_of k)) q
-                ∙ (ap (λ y. cond (is_up_with (core_half y) (number_of k.controller)) n no_losses) (host c)
-                ∙ (ap (λ y. cond (is_up_with (core_half l.host) y) n no_losses) (number c) ∙ ap (λ y. cond y n no_losses) alone))
+                ∙ (ap (λ y. cond (is_up_with (core_end y) (number_of k.controller)) n no_losses) (host c)
+                ∙ (ap (λ y. cond (is_up_with (core_end l.host) y) n no_losses) (number c) ∙ ap (λ y. cond y n no_losses) alone))
 
             by : (ending : Ending) → Disturbed (rest_entries who k f ts ending)
             by CutOff = cut_disturbs who k f ts
@@ -320,7 +320,7 @@ taken_knows {t} {n} who l x xs ts ending w a b both = go (began_by e i) refl
             let P : List Entry → Type 0 = λ z. Knows (t ++ z) m m'.controller in
             let Q : List Entry → Type 0 = λ z. Grows n m z in
             let split : u ≡ pre ++ (Up who (number_of m'.controller) ∷ v) = parts ∙ ap (λ z. pre ++ (Up who z ∷ v)) (sym r) in
-            let R : ℕ → Type 0 = λ z. is_up_with (core_half l.host) z ≡ false → bad m ≡ true → Disturbed v in
+            let R : ℕ → Type 0 = λ z. is_up_with (core_end l.host) z ≡ false → bad m ≡ true → Disturbed v in
             subst P (sym split) (knows_new pre v who both.there (subst Q split grows) (subst R (sym r) first))
 
         new : Knows (t ++ u) m m'.controller

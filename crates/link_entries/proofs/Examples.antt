@@ -41,12 +41,12 @@ resets = Step (AsksReset None) [] GoesOut
 abbrev gives : Message → EndEvent
 gives m = Step NoInput (Give m ∷ []) GoesOut
 
-abbrev calm : Node
-calm = record { turns = []; ending = GoesOut }
+abbrev idle : Node
+idle = record { turns = []; ending = GoesOut }
 
 abbrev ticks : ℕ → List LinkEvent
 ticks zero = []
-ticks (suc n) = Ticks calm [] calm ∷ ticks n
+ticks (suc n) = Ticks idle [] idle ∷ ticks n
 
 -- what is noted, but for the ticks
 abbrev shown : List Entry → List Entry
@@ -114,7 +114,7 @@ late_answer_is_lost = refl
 -- ## Activation and cuts
 
 abbrev activates : LinkEvent
-activates = Activate 1 calm 6699 calm
+activates = Activate 1 idle 6699 idle
 
 abbrev up : List LinkEvent
 up = activates ∷ AtController takes ∷ AtHost takes ∷ AtController takes ∷ AtController resets ∷ AtHost takes ∷ AtController takes ∷ []

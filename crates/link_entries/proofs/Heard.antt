@@ -64,7 +64,7 @@ event_heard l (AtHost e) a g r s =
     let k : Link = exchanged l in
     let b = before_there l g r s in
     let h = here_heard Host k e a b in
-    let host : (happens_at_controller k e).host ≡ k.host = (step_here k e a b.tells b.host b.calm (rests_of 0 0 (core_of k) b.safe) b.from).host in
+    let host : (happens_at_controller k e).host ≡ k.host = (step_here k e a b.tells b.host b.in_order (rests_of 0 0 (core_of k) b.safe) b.from).host in
     record { controller = h.there (number_now l.controller) ∙ sym (ap number_now host); host = h.here }
 event_heard l (Ticks c es h) a g r s =
     let s0 = safe_aged (core_of l) (safe_reached (core_of l) r) in
@@ -135,7 +135,7 @@ event_heard l (Activate power c id h) a g r s =
     let first = here_heard Controller l x (clf, a.2) (before_here l g r s) in
     let second = here_heard Host k y (can, there.1) b in
     let m : Link = happens_at_controller k y in
-    let last : m.host ≡ k.host = (step_here k y (can, there.1) b.tells b.host b.calm (rests_of 0 0 (core_of k) b.safe) b.from).host in
+    let last : m.host ≡ k.host = (step_here k y (can, there.1) b.tells b.host b.in_order (rests_of 0 0 (core_of k) b.safe) b.from).host in
     record {
       controller = then_heard Controller (number_now l.controller) (number_now near.controller) (number_now m.host) u v first.here
           (second.there (number_now near.controller) ∙ sym (ap number_now last));

@@ -12,7 +12,7 @@ use Rattle.link_machine.specs.Machine.{LinkEnd, Turn, turned, took, began_by, fr
 use Rattle.link_machine.specs.Machine.LinkInput.{Take}
 use Rattle.message_link.specs.Links.{NumberedEnd, Link, Ending, number_of, AreSendableTurns}
 use Rattle.message_link.specs.Links.Ending.{GoesOut, CutOff}
-use Rattle.message_link.specs.Projection.{core_of, core_half, core_take, core_ending}
+use Rattle.message_link.specs.Projection.{core_of, core_end, core_take, core_ending}
 use Rattle.link_entries.specs.Entries.{End, Entry, turn_entries, left_after, puts_entries, rest_entries}
 use Rattle.link_entries.specs.Entries.Entry.{Up, Cut}
 use Rattle.link_entries.specs.Quiet.{begins, since}
@@ -95,10 +95,10 @@ knows_more t u n m h k same grows x =
 -- the end comes up: first in its session, or where the other end is up with its number
 pub knows_new : {t : List Entry} (pre v : List Entry) (who : End) {n m : Losses} {other k : NumberedEnd} → Knows t n other
     → Grows n m (pre ++ (Up who (number_of k) ∷ v))
-    → (is_up_with (core_half other) (number_of k) ≡ false → bad m ≡ true → Disturbed v)
+    → (is_up_with (core_end other) (number_of k) ≡ false → bad m ≡ true → Disturbed v)
     → Knows (t ++ (pre ++ (Up who (number_of k) ∷ v))) m k
 knows_new {t} pre v who {n} {m} {other} {k} x grows first =
-    record { has = λ up. has_later j t u (has_up j who pre v); tells = λ up b. go (is_up_with (core_half other) j) refl b }
+    record { has = λ up. has_later j t u (has_up j who pre v); tells = λ up b. go (is_up_with (core_end other) j) refl b }
   where
     j : ℕ
     j = number_of k
@@ -109,7 +109,7 @@ knows_new {t} pre v who {n} {m} {other} {k} x grows first =
     alone : Disturbed v → Disturbed (since j (t ++ u))
     alone d = let P : List Entry → Type 0 = λ z. Disturbed (since j z) in subst P (append_assoc t pre (Up who j ∷ v)) (since_up j who (t ++ pre) v d)
 
-    up_other : is_up_with (core_half other) j ≡ true → (other.side.shdlc.phase ≡ IsUpNow) × (number_of other ≡ j)
+    up_other : is_up_with (core_end other) j ≡ true → (other.side.shdlc.phase ≡ IsUpNow) × (number_of other ≡ j)
     up_other q =
         let p = and_parts (is_up other.side.shdlc.phase) (number_of other == j) q in
         (phase other.side.shdlc.phase refl p.0, eqb-true (number_of other) j p.1)
@@ -119,7 +119,7 @@ knows_new {t} pre v who {n} {m} {other} {k} x grows first =
         phase IsWaitingNow r z = absurd (let y : false ≡ true = rw r at z in cc)
         phase IsDown r z = absurd (let y : false ≡ true = rw r at z in cc)
 
-    go : (b : Bool) → is_up_with (core_half other) j ≡ b → bad m ≡ true → Disturbed (since j (t ++ u))
+    go : (b : Bool) → is_up_with (core_end other) j ≡ b → bad m ≡ true → Disturbed (since j (t ++ u))
     go false q b = alone (first q b)
     go true q b =
         let o = up_other q in

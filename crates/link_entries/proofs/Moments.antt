@@ -12,7 +12,7 @@ use Rattle.link_laws.specs.Order.{FragmentsInOrder as CoreInOrder}
 use Rattle.shdlc_core.specs.Machine.{Session}
 use Rattle.message_link.specs.Links.{Talk, Link, talk_of}
 use Rattle.message_link.specs.Order.{InOrder}
-use Rattle.message_link.specs.Projection.{core_of, core_half}
+use Rattle.message_link.specs.Projection.{core_of, core_end}
 use Rattle.message_link.proofs.Project.{Tells}
 use Rattle.message_link.proofs.Steps.{says_of, session-core}
 use Rattle.message_link.proofs.Whole.{in_messages}
@@ -190,14 +190,14 @@ pub link_order : (kn kf : ℕ) (l : Link) → SafeLink kn kf (core_of l) → Tel
 link_order kn kf l s c h n =
     let x = session-core l.controller n in
     let y = session-core l.host n in
-    let P : Session → Type 0 = λ z. CoreInOrder z (shdlc_session_of (core_half l.host) n) in
+    let P : Session → Type 0 = λ z. CoreInOrder z (shdlc_session_of (core_end l.host) n) in
     let Q : Session → Type 0 = λ z. CoreInOrder (talk_of l.controller n).session z in
-    let R : Session → Type 0 = λ z. CoreInOrder z (shdlc_session_of (core_half l.controller) n) in
+    let R : Session → Type 0 = λ z. CoreInOrder z (shdlc_session_of (core_end l.controller) n) in
     let S : Session → Type 0 = λ z. CoreInOrder (talk_of l.host n).session z in (
       in_messages (talk_of l.controller n) (talk_of l.host n) (says_of l.controller n c)
-          (subst Q y (subst P x (core_in_order (shdlc_session_of (core_half l.controller) n) (shdlc_session_of (core_half l.host) n) (s.n_base n)))),
+          (subst Q y (subst P x (core_in_order (shdlc_session_of (core_end l.controller) n) (shdlc_session_of (core_end l.host) n) (s.n_base n)))),
       in_messages (talk_of l.host n) (talk_of l.controller n) (says_of l.host n h)
-          (subst S x (subst R y (core_in_order (shdlc_session_of (core_half l.host) n) (shdlc_session_of (core_half l.controller) n) (s.f_base n)))),
+          (subst S x (subst R y (core_in_order (shdlc_session_of (core_end l.host) n) (shdlc_session_of (core_end l.controller) n) (s.f_base n)))),
     )
 
 order_in : (t : List Entry) (who : End) (n : ℕ) (s r : Talk) → read t who n ≡ book_of s → read t (far who) n ≡ book_of r → InOrder s r → Few t who

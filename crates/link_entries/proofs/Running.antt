@@ -27,9 +27,9 @@ use Rattle.message_link.specs.Links.Ending.{GoesOut}
 use Rattle.message_link.specs.Links.Comes.{NextFrame, AsksReset, Starts, Stops, NoInput}
 use Rattle.message_link.specs.Links.EndEvent.{Step as EndStep, Lose}
 use Rattle.message_link.specs.Links.LinkEvent.{AtController, AtHost, Ticks, TicksWithout, Activate}
-use Rattle.message_link.specs.Projection.{core_of, core_half, core_here, core_tick, core_tick_rest, core_event}
+use Rattle.message_link.specs.Projection.{core_of, core_end, core_here, core_tick, core_tick_rest, core_event}
 use Rattle.message_link.proofs.Asks.{NoRset}
-use Rattle.message_link.proofs.Calm.{CalmLink, IsPolite, polite_of}
+use Rattle.message_link.proofs.ActsInOrder.{LinkInOrder, IsPolite, polite_of}
 use Rattle.message_link.proofs.Ends.{frames_alike}
 use Rattle.message_link.proofs.Project.{Tells, Step, beside-put_all}
 use Rattle.message_link.proofs.Steps.{ComesFirst, FromHost, core_first}
@@ -54,7 +54,7 @@ use Rattle.link_entries.proofs.Noting.{Near, Frames, FramesFor, step_told, tick_
 pub record Before (l : Link) : Type 0 where
   pub tells : Tells l.controller
   pub host : Tells l.host
-  pub calm : CalmLink l
+  pub in_order : LinkInOrder l
   pub safe : SafeLink 0 0 (core_of l)
   pub from : FromHost (core_happens_here (core_of l) (CoreDeliver []))
   pub next : SafeLink 0 0 (core_of (steps_at_controller l NextFrame [] GoesOut))
@@ -68,7 +68,7 @@ pub comes_first : (l : Link) (x : OnWire) (xs : List OnWire) → l.to_controller
 comes_first l x xs w b = record {
   first = w;
   polite = subst (IsPolite l.controller.side) w
-      (polite_of l.controller.side l.host.side.role l.to_controller l.to_host b.calm b.tells.now.closed);
+      (polite_of l.controller.side l.host.side.role l.to_controller l.to_host b.in_order b.tells.now.closed);
   tells = b.tells;
   host = b.host;
   rests = rests_of 0 0 (core_of l) b.safe;
@@ -91,14 +91,14 @@ frame_facts l ts a b x xs w = record { quiet = none ts a; same = same; fresh = f
     rset_ends : (v caps : ℕ) → x.frame ≡ Rset v caps → e.shdlc.phase ≡ IsUpNow → is_some (ended_by e (Take x.frame)) ≡ true
     rset_ends v caps q up = ap (λ c. is_some (ended_by e (Take c))) q ∙ by (is_open e.role) refl
       where
-        here : Safe 0 0 (core_half l.controller) (core_half l.host) (x ∷ sans xs) (sans l.to_host) l.resets
+        here : Safe 0 0 (core_end l.controller) (core_end l.host) (x ∷ sans xs) (sans l.to_host) l.resets
         here =
-            let P : List OnWire → Type 0 = λ z. Safe 0 0 (core_half l.controller) (core_half l.host) z (sans l.to_host) l.resets in
+            let P : List OnWire → Type 0 = λ z. Safe 0 0 (core_end l.controller) (core_end l.host) z (sans l.to_host) l.resets in
             let first : sans l.to_controller ≡ x ∷ sans xs = ap sans w ∙ ap (λ c. cond (is_act c) (sans xs) (x ∷ sans xs)) q in
             subst P first b.safe
 
         positive : 0 < v
-        positive = (rset_tells 0 (peer_of (core_half l.controller)) (peer_of (core_half l.host)) x v caps (sans xs) (sans l.to_host) l.resets q here.hand).5
+        positive = (rset_tells 0 (peer_of (core_end l.controller)) (peer_of (core_end l.host)) x v caps (sans xs) (sans l.to_host) l.resets q here.hand).5
 
         not_zero : (v == 0) ≡ false
         not_zero = ne_eqb v 0 (λ z. omega (arith, z, positive))
@@ -358,7 +358,7 @@ before_here l g r s =
     record {
       tells = g.controller;
       host = g.host;
-      calm = g.calm;
+      in_order = g.in_order;
       safe = safe_reached (core_of l) r;
       from = from_host (core_of l) r;
       next = next;
@@ -376,7 +376,7 @@ before_there l g r s =
     record {
       tells = g.host;
       host = g.controller;
-      calm = seen l g.calm;
+      in_order = seen l g.in_order;
       safe = safe_exchanged 0 0 (core_of l) (safe_reached (core_of l) r);
       from = from_controller (core_of l) r;
       next = safe_exchanged 0 0 (core_of m) next;
@@ -385,7 +385,7 @@ before_there l g r s =
 
 pub host_here : (l : Link) (e : EndEvent) → IsAllowed l e → Good l → Reached (core_of l) → (happens_at_controller l e).host ≡ l.host
 host_here l e a g r =
-    (step_here l e a g.controller g.host g.calm (rests_of 0 0 (core_of l) (safe_reached (core_of l) r)) (from_host (core_of l) r)).host
+    (step_here l e a g.controller g.host g.in_order (rests_of 0 0 (core_of l) (safe_reached (core_of l) r)) (from_host (core_of l) r)).host
 
 -- messages are in order on a link that was reached
 reached_ok : (t : List Entry) (l : Link) → Good l → Reached (core_of l) → Tolds t Controller l → Ok t
@@ -421,7 +421,7 @@ note_there t l e a g r n =
     let b = before_there l g r n.sounds in
     let out = here_told t Host k e a b (swap_tolds t l n.tolds) in
     let tolds = swap_back (t ++ u) (happens_at_controller k e) out.tolds in
-    let host : (happens_at_controller k e).host ≡ k.host = (step_here k e a b.tells b.host b.calm (rests_of 0 0 (core_of k) b.safe) b.from).host in
+    let host : (happens_at_controller k e).host ≡ k.host = (step_here k e a b.tells b.host b.in_order (rests_of 0 0 (core_of k) b.safe) b.from).host in
     let P : NumberedEnd → Type 0 = λ z. Sound z.side in
     let m : Link = happens l (AtHost e) in
     let st = event_step l (AtHost e) a g r in

@@ -26,7 +26,7 @@ use Rattle.message_link.specs.Links.Ending.{GoesOut, CutOff}
 use Rattle.message_link.specs.Links.Comes.{NextFrame, AsksReset, Starts, Stops, NoInput}
 use Rattle.message_link.specs.Links.EndEvent.{Step, Lose}
 use Rattle.message_link.specs.Projection.{core_of, core_here, core_step, core_take, core_reset, core_turns}
-use Rattle.message_link.proofs.Calm.{Calm, ended_means}
+use Rattle.message_link.proofs.ActsInOrder.{ActsInOrder, ended_means}
 use Rattle.message_link.proofs.Project.{Now, Tells, turns_mid, mid_moved, turned_role, moved_role}
 use Rattle.link_machine.proofs.Runs.{opened}
 use Rattle.link_machine.proofs.Reports.{shdlc_is as shdlc_moved}
@@ -42,7 +42,7 @@ use Rattle.link_entries.proofs.Sparing.{Spared, Stands, or_none, spared_parts, s
 -- ## Ends that are active
 
 -- activation goes on at an end that is active
-act_open : (r f : Role) (x : OnWire) (w v : List OnWire) (act : Activation) (again : Bool) → x.frame ≡ Act act again → Calm r f (x ∷ w) v
+act_open : (r f : Role) (x : OnWire) (w v : List OnWire) (act : Activation) (again : Bool) → x.frame ≡ Act act again → ActsInOrder r f (x ∷ w) v
     → is_open r ≡ true → is_open (role_after r (ActTake act again)) ≡ true
 act_open r f x w v act again q wires o = go (is_open (role_after r (ActTake act again))) refl
   where
@@ -69,7 +69,8 @@ heard_role e c = go (is_faulty (taken e.shdlc c).session) refl
     go true p = rw p (down_role e)
     go false p = rw p (moved_role e (is_some (take_answer e.shdlc c).ended) (taken e.shdlc c))
 
-took_open : (e : LinkEnd) (f : Role) (x : OnWire) (w v : List OnWire) → Calm e.role f (x ∷ w) v → is_open e.role ≡ true → is_open (took e x.frame).role ≡ true
+took_open : (e : LinkEnd) (f : Role) (x : OnWire) (w v : List OnWire) → ActsInOrder e.role f (x ∷ w) v → is_open e.role ≡ true
+    → is_open (took e x.frame).role ≡ true
 took_open e f x w v wires o = go x.frame refl
   where
     shdlc : (c : Control) → took e c ≡ heard e c → is_open (took e c).role ≡ true
@@ -255,8 +256,8 @@ frame_spares s who l ts a b k = go l.to_controller refl
         let u : List Entry = told_of who h (Take x.frame) in
         let v : List Entry = rest_entries who m (took e x.frame) ts GoesOut in
         let P : List Entry → Type 0 = λ z. Spared z in
-        let C : List OnWire → Type 0 = λ z. Calm e.role l.host.side.role z l.to_host in
-        let wires : Calm e.role l.host.side.role (x ∷ xs) l.to_host = subst C r b.calm in
+        let C : List OnWire → Type 0 = λ z. ActsInOrder e.role l.host.side.role z l.to_host in
+        let wires : ActsInOrder e.role l.host.side.role (x ∷ xs) l.to_host = subst C r b.in_order in
         let is = take_sure s l ts x xs a (comes_first l x xs r b) k in (
           λ p q. ap (sure_turns s c) list
               ∙ (no_more (core_take e x.frame ts) s c

@@ -169,7 +169,7 @@ event_goes t s l (AtHost e) a g r n o st =
     let f : Link = exchanged l in
     let b = before_there l g r n.sounds in
     let k = here_spares s Host f e a b o.host st in
-    let host : (happens_at_controller f e).host ≡ f.host = (step_here f e a b.tells b.host b.calm (rests_of 0 0 (core_of f) b.safe) b.from).host in
+    let host : (happens_at_controller f e).host ≡ f.host = (step_here f e a b.tells b.host b.in_order (rests_of 0 0 (core_of f) b.safe) b.from).host in
     record {
       sure = λ p sp. sure_there s (core_of l) (core_here f e) ∙ k.0 p sp;
       active = record { controller = open_as (happens_at_controller f e).host f.host host o.controller; host = k.1 };

@@ -35,11 +35,11 @@ resets = Step (AsksReset (Some 4)) [] GoesOut
 abbrev gives : Message → EndEvent
 gives m = Step NoInput (Give m ∷ []) GoesOut
 
-abbrev calm_node : Node
-calm_node = record { turns = []; ending = GoesOut }
+abbrev idle_node : Node
+idle_node = record { turns = []; ending = GoesOut }
 
 abbrev activate : LinkEvent
-activate = Activate 1 calm_node 6699 calm_node
+activate = Activate 1 idle_node 6699 idle_node
 
 -- a message is given, taken and acknowledged
 abbrev one : List LinkEvent
@@ -86,7 +86,7 @@ sent_got = refl
 -- the second ACT_READY stands behind an RSET: ACT_POWER_MODE was sent twice
 abbrev ticks : ℕ → List LinkEvent
 ticks zero = []
-ticks (suc n) = Ticks calm_node [] calm_node ∷ ticks n
+ticks (suc n) = Ticks idle_node [] idle_node ∷ ticks n
 
 abbrev ready_again : List LinkEvent
 ready_again =

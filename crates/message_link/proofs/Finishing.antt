@@ -25,7 +25,7 @@ use Rattle.message_link.specs.Links.Ending.{GoesOut, CutOff}
 use Rattle.message_link.specs.Links.Comes.{NextFrame, AsksReset}
 use Rattle.message_link.specs.Projection.{core_of, core_turns, core_take, core_ending, core_reset, core_restart, core_step, is_lost_tick, core_tick, core_tick_rest}
 use Rattle.message_link.proofs.Asks.{NoAsk, NoRset, none_due, no_rset, turned_asks, taken_asks, ticked_asks, turned_phase, puts_none}
-use Rattle.message_link.proofs.Calm.{Calm, CalmLink, IsPolite, with_sent, calm_cut, calm_tick}
+use Rattle.message_link.proofs.ActsInOrder.{ActsInOrder, LinkInOrder, IsPolite, with_sent, in_order_cut, in_order_tick}
 use Rattle.message_link.proofs.Ends.{Idle, Keeps, ticked_keeps, frames_alike}
 use Rattle.message_link.proofs.Project.{Mid, Now, mid_moved, moved_role, frames_now, among_now, Tells, Step, step_same, step_turned, step_moved, turns_mid, turned_role, past_ended, host_ended}
 use Rattle.link_machine.proofs.Runs.{opened}
@@ -44,20 +44,20 @@ silent-core l e = go l.controller.side.shdlc.phase refl
     go Waiting p = rw p refl
     go Down p = rw p refl
 
-step_silent : (l : Link) (e : LinkEnd) → Now e → Tells l.controller → (CalmLink l → Calm e.role l.host.side.role [] [])
+step_silent : (l : Link) (e : LinkEnd) → Now e → Tells l.controller → (LinkInOrder l → ActsInOrder e.role l.host.side.role [] [])
     → Step l (silent l e) (core_silent (core_of l) e.shdlc)
 step_silent l e n h wires =
     record {
       core = silent-core l e;
       tells = record { now = n; past = past_ended l (is_up l.controller.side.shdlc.phase) h };
       host = host_ended l (is_up l.controller.side.shdlc.phase);
-      calm = λ z. let P : NumberedEnd → Type 0 = λ f. Calm e.role f.side.role [] [] in
+      in_order = λ z. let P : NumberedEnd → Type 0 = λ f. ActsInOrder e.role f.side.role [] [] in
           subst P (sym (host_ended l (is_up l.controller.side.shdlc.phase))) (wires z);
     }
 
 -- its node loses power
 pub step_cut : (l : Link) → IfLine l.controller.side.role → Tells l.controller → Step l (cut l) (core_silent (core_of l) (new_end 4))
-step_cut l line h = go l.controller.side.role line (λ z. calm_cut l.controller.side.role l.host.side.role l.to_controller l.to_host line z)
+step_cut l line h = go l.controller.side.role line (λ z. in_order_cut l.controller.side.role l.host.side.role l.to_controller l.to_host line z)
   where
     fresh : (e : LinkEnd) → e.shdlc ≡ new_end 4 → e.sent ≡ [] → e.acts ≡ [] → Now e
     fresh e q s a =
@@ -68,9 +68,9 @@ step_cut l line h = go l.controller.side.role line (λ z. calm_cut l.controller.
           says = record { out = ap (λ (z : EndState). z.session.out) q ∙ ap fragments_of (sym s); short = rw s tt };
         }
 
-    go : (r : Role) → IfLine r → (CalmLink l → Calm (renewed r) l.host.side.role [] [])
+    go : (r : Role) → IfLine r → (LinkInOrder l → ActsInOrder (renewed r) l.host.side.role [] [])
         → Step l (silent l (new_link_end (renewed r))) (core_silent (core_of l) (new_end 4))
-    go Bare i calm = absurd i
+    go Bare i in_order = absurd i
     go (Clf s) i wires =
         step_silent l (new_link_end (renewed (Clf s))) (fresh (new_link_end (renewed (Clf s))) refl refl refl) h wires
     go (Uicc s) i wires =
@@ -107,7 +107,7 @@ step_ends l k e c CutOff st none can =
       core = sc.core ∙ ap (λ d. core_silent d (new_end 4)) st.core;
       tells = sc.tells;
       host = sc.host ∙ st.host;
-      calm = λ z. sc.calm (st.calm z);
+      in_order = λ z. sc.in_order (st.in_order z);
     })
 
 no_rset_acts : (o : Option Activation) (cs : List Control) → NoRset cs → NoRset (frames_now o ++ cs)
@@ -244,7 +244,7 @@ step_take l ts ending x xs a can comes =
       core = st.core ∙ sym (all_here-append (core_of l) (core_take e x.frame ts) (core_ending ending));
       tells = st.tells;
       host = st.host;
-      calm = st.calm;
+      in_order = st.in_order;
     }
 
 pub step_frame : (l : Link) (ts : List Turn) (ending : Ending) → AreSendableTurns ts → CanEnd l.controller.side.role ending
@@ -271,7 +271,7 @@ step_frame l ts ending a can p h t rests from = go l.to_controller refl
     go [] q =
         step_same l (steps_at_controller l NextFrame ts ending) l (core_all_here (core_of l) (core_step l NextFrame ts ending)) (core_of l)
         (nothing q) (ap (core_all_here (core_of l)) (core_nothing q))
-        (record { core = refl; tells = h; host = refl; calm = λ z. z })
+        (record { core = refl; tells = h; host = refl; in_order = λ z. z })
     go (x ∷ xs) q =
         step_same l (steps_at_controller l NextFrame ts ending) (has_taken l x xs ts ending) (core_all_here (core_of l) (core_step l NextFrame ts ending))
         (core_all_here (core_of l) (core_take l.controller.side x.frame ts ++ core_ending ending))
@@ -381,7 +381,7 @@ step_reset l window ts ending a can h r = go (reset_refusal l.controller.side) r
           core = st.core ∙ ap (λ c. core_becomes (core_with_ended (core_of l) c) (core_turned (reset_with e.shdlc w) us)) (reset_up e.shdlc);
           tells = st.tells;
           host = st.host;
-          calm = st.calm;
+          in_order = st.in_order;
         }
 
     go : (o : Option Refused) → reset_refusal e ≡ o
@@ -408,7 +408,7 @@ restart_mid e event h =
 
 pub step_restart : (l : Link) (event : ActEvent) (ts : List Turn) (ending : Ending) → AreSendableTurns ts → CanEnd l.controller.side.role ending
     → Tells l.controller
-    → (CalmLink l → Calm (role_after l.controller.side.role event) l.host.side.role [] (with_sent (act_answer l.controller.side.role event).send []))
+    → (LinkInOrder l → ActsInOrder (role_after l.controller.side.role event) l.host.side.role [] (with_sent (act_answer l.controller.side.role event).send []))
     → (let g : LinkEnd = activated (moved l.controller.side true (stopped l.controller.side.shdlc)) event in
     Step l (has_restarted l g ts ending) (core_all_here (core_of l) (core_restart l.controller.side event g ts ending)))
 step_restart l event ts ending a can h wires =
@@ -420,7 +420,7 @@ step_restart l event ts ending a can h wires =
     let b : Bool = is_up e.shdlc.phase in
     let k : Link = silent l g in
     let role : g.role ≡ role_after e.role event = activated_role (moved e true (stopped e.shdlc)) event in
-    let P : Role → Type 0 = λ r. Calm r l.host.side.role [] (with_sent o []) in
+    let P : Role → Type 0 = λ r. ActsInOrder r l.host.side.role [] (with_sent o []) in
     let st = step_turned l k o g ts (host_ended l b) (past_ended l b h) a m.mid (λ z. subst P (sym role) (wires z)) in
     let c : core_of k ≡ core_happens_here (core_of l) CoreStop = silent-core l g ∙ ap (core_silent (core_of l)) m.same in
     let out =
@@ -431,7 +431,7 @@ step_restart l event ts ending a can h wires =
       core = out.core ∙ ap (λ d. core_all_here (core_happens_here d (CoreActs (option_to_list o) us)) (core_ending ending)) c;
       tells = out.tells;
       host = out.host;
-      calm = out.calm;
+      in_order = out.in_order;
     }
 
 -- ## Ticks
@@ -632,9 +632,9 @@ step_tick_closed l ts ending a can h r o =
 
     st : Step l (becomes l (turned f ts)) (core_becomes (core_put_all (core_of l) (frames_now act)) (core_turned f.shdlc us))
     st =
-        let R : Role → Type 0 = λ z. Calm z l.host.side.role l.to_controller (with_sent act l.to_host) in
+        let R : Role → Type 0 = λ z. ActsInOrder z l.host.side.role l.to_controller (with_sent act l.to_host) in
         step_turned l l act f ts refl h.past a m.mid
-        (λ z. subst R (sym (activated_role e ActTick)) (calm_tick e.role l.host.side.role l.to_controller l.to_host o z))
+        (λ z. subst R (sym (activated_role e ActTick)) (in_order_tick e.role l.host.side.role l.to_controller l.to_host o z))
 
     not_lost : (ending : Ending) → is_lost_tick e ending ≡ false
     not_lost GoesOut = refl

@@ -1,6 +1,6 @@
 pub mod Asks
 pub mod Ends
-pub mod Calm
+pub mod ActsInOrder
 pub mod Project
 pub mod Steps
 pub mod Finishing

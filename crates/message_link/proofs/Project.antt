@@ -17,7 +17,7 @@ use Rattle.link_machine.specs.Machine.{Message, LinkEnd, Role, ActDue, Turn, Ref
 use Rattle.link_machine.specs.Machine.Turn.{Give, Hold, FetchMessage, SetAside, Release}
 use Rattle.message_link.specs.Links.{Talk, NumberedEnd, Link, talk_now, put, put_all, becomes, with_ended, AreSendableTurns}
 use Rattle.message_link.specs.Projection.{core_of, core_turn, core_turns}
-use Rattle.message_link.proofs.Calm.{Calm, CalmLink, with_sent, no_acts, calm_put_all}
+use Rattle.message_link.proofs.ActsInOrder.{ActsInOrder, LinkInOrder, with_sent, no_acts, in_order_put_all}
 use Rattle.message_link.proofs.Ends.{Idle, Keeps, ready_keeps, frames_alike}
 use Rattle.session_laws.proofs.Ties.{ready-phase as ready_phase}
 use Rattle.link_machine.proofs.Reports.{shdlc_is as shdlc_moved}
@@ -265,7 +265,7 @@ pub record Step (l m : Link) (c : CoreLink) : Type 0 where
   pub core : core_of m ≡ c
   pub tells : Tells m.controller
   pub host : m.host ≡ l.host
-  pub calm : CalmLink l → CalmLink m
+  pub in_order : LinkInOrder l → LinkInOrder m
 
 pub step_same : (l m k : Link) (c d : CoreLink) → m ≡ k → c ≡ d → Step l k d → Step l m c
 step_same l m k c d p q st =
@@ -273,7 +273,7 @@ step_same l m k c d p q st =
       core = ap core_of p ∙ (st.core ∙ sym q);
       tells = subst (λ (j : Link). Tells j.controller) (sym p) st.tells;
       host = ap (λ (j : Link). j.host) p ∙ st.host;
-      calm = λ z. subst CalmLink (sym p) (st.calm z);
+      in_order = λ z. subst LinkInOrder (sym p) (st.in_order z);
     }
 
 pub put_all-append : (l : Link) (xs ys : List Control) → put_all l (xs ++ ys) ≡ put_all (put_all l xs) ys
@@ -281,13 +281,13 @@ put_all-append l [] ys = refl
 put_all-append l (x ∷ xs) ys = put_all-append (put l x) xs ys
 
 -- all that is due goes out
-pub becomes_calm : (l k : Link) (o : Option Activation) (e : LinkEnd) → k.host ≡ l.host → e.acts ≡ due_now o
-    → Calm e.role l.host.side.role k.to_controller (with_sent o k.to_host) → CalmLink (becomes k e)
-becomes_calm l k o e host acts calm =
+pub becomes_in_order : (l k : Link) (o : Option Activation) (e : LinkEnd) → k.host ≡ l.host → e.acts ≡ due_now o
+    → ActsInOrder e.role l.host.side.role k.to_controller (with_sent o k.to_host) → LinkInOrder (becomes k e)
+becomes_in_order l k o e host acts in_order =
     let b = beside-put_all (frames_out e) k in
     let v : List OnWire = (put_all k (frames_out e)).to_host in
-    let P : NumberedEnd → Type 0 = λ g. Calm e.role g.side.role (put_all k (frames_out e)).to_controller v in
-    let Q : List OnWire → Type 0 = λ w. Calm e.role l.host.side.role w v in
+    let P : NumberedEnd → Type 0 = λ g. ActsInOrder e.role g.side.role (put_all k (frames_out e)).to_controller v in
+    let Q : List OnWire → Type 0 = λ w. ActsInOrder e.role l.host.side.role w v in
     subst P (sym (b.host ∙ host)) (subst Q (sym b.to_controller) goes)
   where
     sends : (o : Option Activation) → (put_all k (frames_now o)).to_host ≡ with_sent o k.to_host
@@ -300,22 +300,22 @@ becomes_calm l k o e host acts calm =
     wire : (put_all k (frames_out e)).to_host ≡ (put_all (put_all k (frames_now o)) (frames_of most_frames e.shdlc)).to_host
     wire = ap (λ fs. (put_all k fs).to_host) frames ∙ ap (λ (j : Link). j.to_host) (put_all-append k (frames_now o) (frames_of most_frames e.shdlc))
 
-    goes : Calm e.role l.host.side.role k.to_controller (put_all k (frames_out e)).to_host
+    goes : ActsInOrder e.role l.host.side.role k.to_controller (put_all k (frames_out e)).to_host
     goes =
-        let P : List OnWire → Type 0 = λ v. Calm e.role l.host.side.role k.to_controller v in
-        subst P (sym wire) (calm_put_all e.role l.host.side.role k.to_controller (frames_of most_frames e.shdlc) (put_all k (frames_now o))
-        (no_acts most_frames e.shdlc) (subst P (sym (sends o)) calm))
+        let P : List OnWire → Type 0 = λ v. ActsInOrder e.role l.host.side.role k.to_controller v in
+        subst P (sym wire) (in_order_put_all e.role l.host.side.role k.to_controller (frames_of most_frames e.shdlc) (put_all k (frames_now o))
+        (no_acts most_frames e.shdlc) (subst P (sym (sends o)) in_order))
 
 pub step_becomes : (l k : Link) (o : Option Activation) (e : LinkEnd) (s : EndState) → k.host ≡ l.host → AllSay k.controller.past → Mid o e → e.shdlc ≡ s
-    → (CalmLink l → Calm e.role l.host.side.role k.to_controller (with_sent o k.to_host))
+    → (LinkInOrder l → ActsInOrder e.role l.host.side.role k.to_controller (with_sent o k.to_host))
     → Step l (becomes k e) (core_becomes (core_put_all (core_of k) (frames_now o)) s)
-step_becomes l k o e s host past h is calm =
+step_becomes l k o e s host past h is in_order =
     let b = beside-put_all (frames_out e) k in
     record {
       core = becomes-core k o e s h.acts is;
       tells = record { now = now_sent e o h; past = rw b.past past };
       host = b.host ∙ host;
-      calm = λ z. becomes_calm l k o e host h.acts (calm z);
+      in_order = λ z. becomes_in_order l k o e host h.acts (in_order z);
     }
 
 -- turns come before
@@ -340,12 +340,12 @@ turned_role e (t ∷ ts) = turned_role (turn e t) ts ∙ one t
 
 pub step_turned : (l k : Link) (o : Option Activation) (e : LinkEnd) (ts : List Turn) → k.host ≡ l.host → AllSay k.controller.past
     → AreSendableTurns ts → Mid o e
-    → (CalmLink l → Calm e.role l.host.side.role k.to_controller (with_sent o k.to_host))
+    → (LinkInOrder l → ActsInOrder e.role l.host.side.role k.to_controller (with_sent o k.to_host))
     → Step l (becomes k (turned e ts)) (core_becomes (core_put_all (core_of k) (frames_now o)) (core_turned e.shdlc (core_turns e ts)))
-step_turned l k o e ts host past a h calm =
+step_turned l k o e ts host past a h in_order =
     let t = turns_mid o e ts a h in
-    let P : Role → Type 0 = λ r. Calm r l.host.side.role k.to_controller (with_sent o k.to_host) in
-    step_becomes l k o (turned e ts) (core_turned e.shdlc (core_turns e ts)) host past t.mid t.is (λ z. subst P (sym (turned_role e ts)) (calm z))
+    let P : Role → Type 0 = λ r. ActsInOrder r l.host.side.role k.to_controller (with_sent o k.to_host) in
+    step_becomes l k o (turned e ts) (core_turned e.shdlc (core_turns e ts)) host past t.mid t.is (λ z. subst P (sym (turned_role e ts)) (in_order z))
 
 pub moved_role : (e : LinkEnd) (b : Bool) (s : EndState) → (moved e b s).role ≡ e.role
 moved_role e false s = refl
@@ -366,13 +366,14 @@ pub step_moved : (l : Link) (b : Bool) (s : EndState) (ts : List Turn) → Tells
     (core_becomes (core_with_ended (core_of l) b) (core_turned s (core_turns (moved l.controller.side b s) ts)))
 step_moved l b s ts h a keeps c =
     let f : LinkEnd = moved l.controller.side b s in
-    let st = step_turned l (with_ended l b) None f ts (host_ended l b) (past_ended l b h) a (mid_moved l.controller.side b s h.now keeps c) (calm b) in
+    let st = step_turned l (with_ended l b) None f ts (host_ended l b) (past_ended l b h) a (mid_moved l.controller.side b s h.now keeps c) (in_order b) in
     let q : core_becomes (core_of (with_ended l b)) (core_turned f.shdlc (core_turns f ts))
     ≡ core_becomes (core_with_ended (core_of l) b) (core_turned s (core_turns f ts)) =
     ap (λ m. core_becomes m (core_turned f.shdlc (core_turns f ts))) (with_ended-core l b)
     ∙ ap (λ z. core_becomes (core_with_ended (core_of l) b) (core_turned z (core_turns f ts))) (shdlc_moved l.controller.side b s) in
-    record { core = st.core ∙ q; tells = st.tells; host = st.host; calm = st.calm }
+    record { core = st.core ∙ q; tells = st.tells; host = st.host; in_order = st.in_order }
   where
-    calm : (b : Bool) → CalmLink l → Calm (moved l.controller.side b s).role l.host.side.role (with_ended l b).to_controller (with_ended l b).to_host
-    calm false z = z
-    calm true z = z
+    in_order : (b : Bool) → LinkInOrder l
+        → ActsInOrder (moved l.controller.side b s).role l.host.side.role (with_ended l b).to_controller (with_ended l b).to_host
+    in_order false z = z
+    in_order true z = z

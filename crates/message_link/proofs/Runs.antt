@@ -22,7 +22,7 @@ use Rattle.message_link.specs.Projection.{core_of, core_take, core_ending, core_
 use Rattle.message_link.proofs.Project.{Tells, Step, turned_role}
 use Rattle.message_link.proofs.Steps.{Rests, FromHost, activated_role}
 use Rattle.message_link.proofs.Finishing.{step_idle, step_frame, step_reset, step_restart, step_tick, all_here-append}
-use Rattle.message_link.proofs.Calm.{Calm, CalmLink, calm_swap, calm_drop, calm_aged, calm_start, calm_stop, polite_of}
+use Rattle.message_link.proofs.ActsInOrder.{ActsInOrder, LinkInOrder, in_order_swap, in_order_drop, in_order_aged, in_order_start, in_order_stop, polite_of}
 
 -- ## Lists of events
 
@@ -141,7 +141,7 @@ rest_both e ts ending = go (is_lost_tick e ending) (is_open e.role) refl refl (e
 pub record Good (l : Link) : Type 0 where
   pub controller : Tells l.controller
   pub host : Tells l.host
-  pub calm : CalmLink l
+  pub in_order : LinkInOrder l
 
 -- in each session what was accepted is a front of what was given, both ways
 pub record Ordered (c : CoreLink) : Type 0 where
@@ -207,20 +207,21 @@ step_own l NextFrame ts ending o a n h r = absurd o
 step_own l (AsksReset window) ts ending o a n h r = step_reset l window ts ending n.0 n.1 h r
 step_own l (Starts value) ts ending o a n h r =
     step_restart l (ActStart value) ts ending n.0 n.1 h
-    (λ z. calm_start l.controller.side.role l.host.side.role l.to_controller l.to_host value a z)
+    (λ z. in_order_start l.controller.side.role l.host.side.role l.to_controller l.to_host value a z)
 step_own l Stops ts ending o a n h r =
     step_restart l ActStop ts ending n.0 n.1 h
-    (λ z. calm_stop l.controller.side.role l.host.side.role l.to_controller l.to_host a z)
+    (λ z. in_order_stop l.controller.side.role l.host.side.role l.to_controller l.to_host a z)
 step_own l NoInput ts ending o a n h r = step_idle l ts ending n.0 n.1 h r
 
 pub step_lost : (l : Link) (why : Loss) → Tells l.controller → Step l (happens_at_controller l (Lose why)) (core_all_here (core_of l) (core_here l (Lose why)))
-step_lost l why h = record { core = refl; tells = h; host = refl; calm = lost l.to_controller }
+step_lost l why h = record { core = refl; tells = h; host = refl; in_order = lost l.to_controller }
   where
-    lost : (w : List OnWire) → Calm l.controller.side.role l.host.side.role w l.to_host → Calm l.controller.side.role l.host.side.role (drop 1 w) l.to_host
+    lost : (w : List OnWire) → ActsInOrder l.controller.side.role l.host.side.role w l.to_host
+        → ActsInOrder l.controller.side.role l.host.side.role (drop 1 w) l.to_host
     lost [] g = g
-    lost (x ∷ xs) g = calm_drop l.controller.side.role l.host.side.role x xs l.to_host g
+    lost (x ∷ xs) g = in_order_drop l.controller.side.role l.host.side.role x xs l.to_host g
 
-pub step_here : (l : Link) (e : EndEvent) → IsAllowed l e → Tells l.controller → Tells l.host → CalmLink l → Rests l.controller.side.shdlc
+pub step_here : (l : Link) (e : EndEvent) → IsAllowed l e → Tells l.controller → Tells l.host → LinkInOrder l → Rests l.controller.side.shdlc
     → FromHost (core_happens_here (core_of l) (CoreDeliver [])) → Step l (happens_at_controller l e) (core_all_here (core_of l) (core_here l e))
 step_here l (Lose why) a h t z r from = step_lost l why h
 step_here l (EndStep NextFrame ts ending) a h t z r from =
@@ -241,7 +242,7 @@ pub record All (l : Link) (es : List EndEvent) : Type 0 where
   pub turns : CoreAreTurns (core_all l es)
 
 pub all_step : (kf : ℕ) (l : Link) (es : List EndEvent) → AreOwn l es → Tells l.controller → SafeLink 0 kf (core_of l) → All l es
-all_step kf l [] a h s = record { step = record { core = refl; tells = h; host = refl; calm = λ z. z }; turns = tt }
+all_step kf l [] a h s = record { step = record { core = refl; tells = h; host = refl; in_order = λ z. z }; turns = tt }
 all_step kf l (e ∷ es) a h s =
     let r = rests_of 0 kf (core_of l) s in
     let one = own_here l e a.0 a.1 h r in
@@ -254,7 +255,7 @@ all_step kf l (e ∷ es) a h s =
         core = more.step.core ∙ (ap (λ c. core_all_here c (core_all m es)) one.core ∙ sym (all_here-append (core_of l) (core_here l e) (core_all m es)));
         tells = more.step.tells;
         host = more.step.host ∙ one.host;
-        calm = λ z. more.step.calm (one.calm z);
+        in_order = λ z. more.step.in_order (one.in_order z);
       };
       turns = turns-append (core_here l e) (core_all m es) turns more.turns;
     }
@@ -263,8 +264,8 @@ pub tells_same : (h k : NumberedEnd) → h ≡ k → Tells k → Tells h
 tells_same h k q t = subst Tells (sym q) t
 
 -- the link seen from the other end
-pub seen : (n : Link) → CalmLink n → CalmLink (exchanged n)
-seen n z = calm_swap n.controller.side.role n.host.side.role n.to_controller n.to_host z
+pub seen : (n : Link) → LinkInOrder n → LinkInOrder (exchanged n)
+seen n z = in_order_swap n.controller.side.role n.host.side.role n.to_controller n.to_host z
 
 -- ## Events
 
@@ -273,10 +274,10 @@ step_event : (l : Link) (e : EndEvent) → IsAllowed l e → Good l → Reached 
 step_event l e a g r =
     let q = after_here (core_of l) (core_here l e) in
     let rest = rests_of 0 0 (core_of l) (safe_reached (core_of l) r) in
-    let st = step_here l e a g.controller g.host g.calm rest (from_host (core_of l) r) in
+    let st = step_here l e a g.controller g.host g.in_order rest (from_host (core_of l) r) in
     record {
       core = st.core ∙ sym q;
-      good = record { controller = st.tells; host = tells_same (happens_at_controller l e).host l.host st.host g.host; calm = st.calm g.calm };
+      good = record { controller = st.tells; host = tells_same (happens_at_controller l e).host l.host st.host g.host; in_order = st.in_order g.in_order };
       allowed = allowed_here (core_here l e) (here_allowed l e rest a);
     }
 
@@ -288,10 +289,10 @@ there_event l e a g r =
     let q = after_there (core_of l) (core_here k e) in
     let n : Link = happens_at_controller k e in
     let rest = rests_of 0 0 (core_of k) (safe_exchanged 0 0 (core_of l) (safe_reached (core_of l) r)) in
-    let st = step_here k e a g.host g.controller (seen l g.calm) rest (from_controller (core_of l) r) in
+    let st = step_here k e a g.host g.controller (seen l g.in_order) rest (from_controller (core_of l) r) in
     record {
       core = ap core_exchanged st.core ∙ sym q;
-      good = record { controller = tells_same n.host l.controller st.host g.controller; host = st.tells; calm = seen n (st.calm (seen l g.calm)) };
+      good = record { controller = tells_same n.host l.controller st.host g.controller; host = st.tells; in_order = seen n (st.in_order (seen l g.in_order)) };
       allowed = allowed_there (core_here k e) (here_allowed k e rest a);
     }
 
@@ -343,7 +344,7 @@ record HasTicked (l m : Link) (x : CoreLink) : Type 0 where
   safe : SafeLink 0 1 (core_of m)
   near : Tells m.controller
   far : Tells l.host
-  wires : CalmLink m
+  wires : LinkInOrder m
 
 -- the host's end has its tick then
 ticked_there : (l m : Link) (x : CoreLink) (h : Node) → HasTicked l m x → IsNode (exchanged m) h.turns h.ending
@@ -362,7 +363,7 @@ ticked_there l m x h s a =
           (core_tick_rest z.side h.turns h.ending)) s.host
           ∙ ap (λ d. core_all_here (core_ticks_or_cut u (core_exchanged d)) there) s.core))
           ∙ sym (after_there (core_exchanged (core_ticks_or_cut u (core_exchanged x))) there);
-      good = record { controller = tells_same n.host m.controller three.host s.near; host = three.tells; calm = seen n (three.calm (seen m s.wires)) };
+      good = record { controller = tells_same n.host m.controller three.host s.near; host = three.tells; in_order = seen n (three.in_order (seen m s.wires)) };
     }
 
 pub event_step : (l : Link) (e : LinkEvent) → IsEvent l e → Good l → Reached (core_of l)
@@ -390,7 +391,7 @@ event_step l (Ticks c es h) a g r =
       safe = m_safe;
       near = two.tells;
       far = g.host;
-      wires = two.calm (one.calm (calm_aged l.controller.side.role l.host.side.role l.to_controller l.to_host g.calm));
+      wires = two.in_order (one.in_order (in_order_aged l.controller.side.role l.host.side.role l.to_controller l.to_host g.in_order));
     } in
     let three = ticked_there l m _ h has_ticked a.2 in
     let there : List CoreEndEvent = core_tick_rest l.host.side h.turns h.ending in
@@ -414,7 +415,7 @@ event_step l (TicksWithout es h) a g r =
       safe = m_safe;
       near = all.step.tells;
       far = g.host;
-      wires = all.step.calm (calm_aged l.controller.side.role l.host.side.role l.to_controller l.to_host g.calm);
+      wires = all.step.in_order (in_order_aged l.controller.side.role l.host.side.role l.to_controller l.to_host g.in_order);
     } in
     let three = ticked_there l m _ h has_ticked a.2 in
     let there : List CoreEndEvent = core_tick_rest l.host.side h.turns h.ending in

@@ -20,15 +20,15 @@ use Rattle.hcp_packet.specs.Packets.{fragments_of, packets_in, IsFrontOf}
 use Rattle.hcp_chain.specs.Joining.{are_taken}
 use Rattle.message_laws.proofs.TakenLemmas.{no_fault}
 use Rattle.link_laws.specs.Order.{FragmentsInOrder as CoreInOrder}
-use Rattle.session_laws.specs.Sessions.{OnWire, NumberedShdlc as CoreHalf, ShdlcLink as CoreLink, ShdlcTurn as CoreTurn, shdlc_turned as core_turned, is_rset, took_with, shdlc_put_all as core_put_all, shdlc_becomes as core_becomes, with_shdlc_ended as core_with_ended, shdlc_happens_at_controller as core_happens_here, shdlc_all_at_controller as core_all_here, ended_session, shdlc_session_of, shdlc_number_of as core_number_of}
+use Rattle.session_laws.specs.Sessions.{OnWire, NumberedShdlc as CoreEnd, ShdlcLink as CoreLink, ShdlcTurn as CoreTurn, shdlc_turned as core_turned, is_rset, took_with, shdlc_put_all as core_put_all, shdlc_becomes as core_becomes, with_shdlc_ended as core_with_ended, shdlc_happens_at_controller as core_happens_here, shdlc_all_at_controller as core_all_here, ended_session, shdlc_session_of, shdlc_number_of as core_number_of}
 use Rattle.session_laws.specs.Sessions.ShdlcEndEvent.{Deliver as CoreDeliver, Ignore as CoreIgnore, Acts as CoreActs, Lose as CoreLose}
 use Rattle.session_laws.specs.Losses.{is_act}
 use Rattle.session_laws.proofs.Steps.{took as core_took}
 use Rattle.link_machine.specs.Machine.{Message, LinkEnd, Role, ActDue, Turn, is_faulty, is_open, role_after, act_answer, with_act, in_front, moved, put_down, activated, news, took, if_up, turned, ended_by_frame}
 use Rattle.link_machine.specs.Machine.Role.{Bare, Clf, Uicc}
 use Rattle.message_link.specs.Links.{Talk, NumberedEnd, Link, talk_now, ended_talk, talk_of, number_of, becomes, with_ended, AreSendableTurns}
-use Rattle.message_link.specs.Projection.{core_past, core_half, core_of, core_turns, core_take}
-use Rattle.message_link.proofs.Calm.{Calm, CalmLink, IsPolite, with_sent, calm_drop, calm_take}
+use Rattle.message_link.specs.Projection.{core_past, core_end, core_of, core_turns, core_take}
+use Rattle.message_link.proofs.ActsInOrder.{ActsInOrder, LinkInOrder, IsPolite, with_sent, in_order_drop, in_order_take}
 use Rattle.message_link.proofs.Ends.{Idle, taken_keeps, Alike, frames_alike}
 use Rattle.message_link.proofs.Project.{Says, Mid, Now, mid_moved, moved_role, frames_now, AllSay, Tells, Step, step_same, step_turned}
 use Rattle.link_machine.proofs.Runs.{opened}
@@ -68,10 +68,11 @@ abbrev pub heard_first : Link → List Turn → OnWire → List OnWire → Link
 heard_first l ts x xs = took_as l ts x xs (is_some (take_answer l.controller.side.shdlc x.frame).ended) (heard_end l.controller.side x)
 
 -- the first frame is gone
-first_gone : (l : Link) (x : OnWire) (xs : List OnWire) → l.to_controller ≡ x ∷ xs → CalmLink l → Calm l.controller.side.role l.host.side.role xs l.to_host
+first_gone : (l : Link) (x : OnWire) (xs : List OnWire) → l.to_controller ≡ x ∷ xs → LinkInOrder l
+    → ActsInOrder l.controller.side.role l.host.side.role xs l.to_host
 first_gone l x xs w z =
-    let P : List OnWire → Type 0 = λ v. Calm l.controller.side.role l.host.side.role v l.to_host in
-    calm_drop l.controller.side.role l.host.side.role x xs l.to_host (subst P w z)
+    let P : List OnWire → Type 0 = λ v. ActsInOrder l.controller.side.role l.host.side.role v l.to_host in
+    in_order_drop l.controller.side.role l.host.side.role x xs l.to_host (subst P w z)
 
 -- an end g came of the frame x, and its session ended or not
 pub record Heard (e g : LinkEnd) (x : OnWire) (b : Bool) : Type 0 where
@@ -94,8 +95,8 @@ step_heard l ts x xs g b w h a heard = to_core (go b)
     at : Bool → Link
     at b = with_took (with_ended (record l { to_controller = xs }) b) (took_with l.controller.took x)
 
-    wires : CalmLink l → Calm g.role l.host.side.role xs l.to_host
-    wires z = let P : Role → Type 0 = λ r. Calm r l.host.side.role xs l.to_host in subst P (sym heard.role) (first_gone l x xs w z)
+    wires : LinkInOrder l → ActsInOrder g.role l.host.side.role xs l.to_host
+    wires z = let P : Role → Type 0 = λ r. ActsInOrder r l.host.side.role xs l.to_host in subst P (sym heard.role) (first_gone l x xs w z)
 
     core_at : Bool → CoreLink
     core_at b =
@@ -113,7 +114,7 @@ step_heard l ts x xs g b w h a heard = to_core (go b)
 
     to_core : Step l (took_as l ts x xs b g) (core_becomes (core_at b) (core_turned g.shdlc us))
         → Step l (took_as l ts x xs b g) (core_took (core_of l) us x xs)
-    to_core st = record { core = st.core ∙ sym is; tells = st.tells; host = st.host; calm = st.calm }
+    to_core st = record { core = st.core ∙ sym is; tells = st.tells; host = st.host; in_order = st.in_order }
 
 -- what came beside doesn't count
 mid_got : (o : Option Activation) (e : LinkEnd) (ms : List Message) → Mid o e → Mid o (record e { got = ms })
@@ -299,11 +300,11 @@ ended-core (x ∷ xs) n = go (n == x.0) refl (ended-core xs n)
     go true q later = rw q refl
     go false q later = rw q later
 
-pub session-core : (h : NumberedEnd) (n : ℕ) → shdlc_session_of (core_half h) n ≡ (talk_of h n).session
-session-core h n = go h.side.shdlc.phase (n == core_number_of (core_half h)) refl refl
+pub session-core : (h : NumberedEnd) (n : ℕ) → shdlc_session_of (core_end h) n ≡ (talk_of h n).session
+session-core h n = go h.side.shdlc.phase (n == core_number_of (core_end h)) refl refl
   where
-    go : (p : LinkState) (b : Bool) → h.side.shdlc.phase ≡ p → (n == core_number_of (core_half h)) ≡ b
-        → shdlc_session_of (core_half h) n ≡ (talk_of h n).session
+    go : (p : LinkState) (b : Bool) → h.side.shdlc.phase ≡ p → (n == core_number_of (core_end h)) ≡ b
+        → shdlc_session_of (core_end h) n ≡ (talk_of h n).session
     go Up true p q = rw (p, q) refl
     go Up false p q = rw (p, q) (ended-core h.past n)
     go Waiting b p q = rw p (ended-core h.past n)
@@ -334,7 +335,7 @@ says_of h n t = go h.side.shdlc.phase (n == number_of h) refl refl
 itself : (n : ℕ) → (n == n) ≡ true
 itself n = grind (arith, common_steps)
 
-session_now : (h : CoreHalf) → h.side.phase ≡ Up → shdlc_session_of h (core_number_of h) ≡ h.side.session
+session_now : (h : CoreEnd) → h.side.phase ≡ Up → shdlc_session_of h (core_number_of h) ≡ h.side.session
 session_now h up = let same : (core_number_of h == core_number_of h) ≡ true = itself (core_number_of h) in rw (up, same) refl
 
 sound : (b : Bool) → IsTrue b → not b ≡ false
@@ -379,13 +380,13 @@ no_fault_first l x xs w h t o from = go s.phase refl
 
     up : s.phase ≡ Up → is_faulty s.session ≡ false
     up p =
-        let n : ℕ = core_number_of (core_half m.controller) in
-        let o : CoreInOrder (shdlc_session_of (core_half m.host) n) (shdlc_session_of (core_half m.controller) n) = (subst FromHost (sym st.core) from) n in
+        let n : ℕ = core_number_of (core_end m.controller) in
+        let o : CoreInOrder (shdlc_session_of (core_end m.host) n) (shdlc_session_of (core_end m.controller) n) = (subst FromHost (sym st.core) from) n in
         let says : Says (talk_of l.host n) = says_of l.host n t in
-        let acc : (shdlc_session_of (core_half m.controller) n).acc
-        ≡ s.session.acc = ap (λ (z : Session). z.acc) (session_now (core_half m.controller) (alike.phase ∙ p)) ∙ alike.acc in
-        let out : (shdlc_session_of (core_half m.host) n).out ≡ fragments_of (talk_of l.host n).sent =
-        ap (λ (z : Session). z.out) (ap (λ (z : NumberedEnd). shdlc_session_of (core_half z) n) st.host ∙ session-core l.host n) ∙ says.out in
+        let acc : (shdlc_session_of (core_end m.controller) n).acc
+        ≡ s.session.acc = ap (λ (z : Session). z.acc) (session_now (core_end m.controller) (alike.phase ∙ p)) ∙ alike.acc in
+        let out : (shdlc_session_of (core_end m.host) n).out ≡ fragments_of (talk_of l.host n).sent =
+        ap (λ (z : Session). z.out) (ap (λ (z : NumberedEnd). shdlc_session_of (core_end z) n) st.host ∙ session-core l.host n) ∙ says.out in
         let front : IsFrontOf s.session.acc (fragments_of (talk_of l.host n).sent) = (
           o.front.0,
           ap (λ (z : List (List ℕ)). z ++ o.front.0) (sym acc)
@@ -470,7 +471,7 @@ step_first l ts x xs a comes = go x.frame refl
     closed_as g q o is ends shdlc role mid =
         let k : Link = with_took (with_ended (record l { to_controller = xs }) false) (took_with l.controller.took x) in
         let us : List CoreTurn = core_turns g ts in
-        let P : Role → Type 0 = λ r. Calm r l.host.side.role xs l.to_host in
+        let P : Role → Type 0 = λ r. ActsInOrder r l.host.side.role xs l.to_host in
         step_same l (took_first l ts x xs) (took_as l ts x xs false g) (core_all_here (core_of l) (core_take e x.frame ts))
         (core_becomes (core_of k) (core_turned g.shdlc us))
         (took_is_as l ts x xs false g ends is)
@@ -528,12 +529,12 @@ step_first l ts x xs a comes = go x.frame refl
         by (inl z) = comes.tells.now.closed z
         by (inr z) = polite e x xs act again q comes.polite z
 
-        taken_calm : (act : Activation) (again : Bool) → x.frame ≡ Act act again → CalmLink l
-            → Calm (activated e (ActTake act again)).role l.host.side.role xs (with_sent (act_answer e.role (ActTake act again)).send l.to_host)
+        taken_calm : (act : Activation) (again : Bool) → x.frame ≡ Act act again → LinkInOrder l
+            → ActsInOrder (activated e (ActTake act again)).role l.host.side.role xs (with_sent (act_answer e.role (ActTake act again)).send l.to_host)
         taken_calm act again q z =
-            let P : List OnWire → Type 0 = λ v. Calm l.controller.side.role l.host.side.role v l.to_host in
-            let R : Role → Type 0 = λ r. Calm r l.host.side.role xs (with_sent (act_answer e.role (ActTake act again)).send l.to_host) in
-            subst R (sym (activated_role e (ActTake act again))) (calm_take e.role l.host.side.role x xs l.to_host act again q (subst P comes.first z))
+            let P : List OnWire → Type 0 = λ v. ActsInOrder l.controller.side.role l.host.side.role v l.to_host in
+            let R : Role → Type 0 = λ r. ActsInOrder r l.host.side.role xs (with_sent (act_answer e.role (ActTake act again)).send l.to_host) in
+            subst R (sym (activated_role e (ActTake act again))) (in_order_take e.role l.host.side.role x xs l.to_host act again q (subst P comes.first z))
 
         took_act : (n : ℕ) (y : OnWire) → is_rset y.frame ≡ false → took_with n y ≡ n
         took_act n y z = rw z refl

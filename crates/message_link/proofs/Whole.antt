@@ -29,10 +29,10 @@ use Rattle.session_laws.proofs.Steps.{agree, safe}
 use Rattle.message_link.specs.Links.{no_talk, ended_talk, number_of}
 use Rattle.message_link.specs.Projection.{core_past}
 use Rattle.message_link.specs.Order.{InOrder}
-use Rattle.message_link.specs.Projection.{core_of, core_half, core_events}
+use Rattle.message_link.specs.Projection.{core_of, core_end, core_events}
 use Rattle.message_link.proofs.Project.{Says, Tells}
 use Rattle.message_link.proofs.Steps.{FromHost, says_of, session-core, core_first, no_fault_first}
-use Rattle.message_link.proofs.Calm.{Line}
+use Rattle.message_link.proofs.ActsInOrder.{Line}
 use Rattle.message_link.proofs.Runs.{Good, Reached, Run, run, ordered, from_host, from_controller}
 use Rattle.link_machine.proofs.Sound.{whole_acked_before}
 
@@ -49,12 +49,12 @@ clf_tells = record { now = record { acts = refl; idle = λ _. (refl, refl); clos
 uicc_tells : Tells (new_numbered_end (new_link_end (Uicc new_uicc)))
 uicc_tells = record { now = record { acts = refl; idle = λ _. (refl, refl); closed = λ _. refl; says = record { out = refl; short = tt } }; past = tt }
 
-new_calm : Line new_clf new_uicc [] []
-new_calm = record { clf = λ a. absurd (true≢false (sym a)); ready = inl tt; tail = tt; plain = tt; last = λ a. absurd (true≢false (sym a)) }
+new_in_order : Line new_clf new_uicc [] []
+new_in_order = record { clf = λ a. absurd (true≢false (sym a)); ready = inl tt; tail = tt; plain = tt; last = λ a. absurd (true≢false (sym a)) }
 
 pub start_good : (l : Link) → IsStart l → Good l
-start_good l IsBare = record { controller = bare_tells; host = bare_tells; calm = tt }
-start_good l IsLine = record { controller = clf_tells; host = uicc_tells; calm = new_calm }
+start_good l IsBare = record { controller = bare_tells; host = bare_tells; in_order = tt }
+start_good l IsLine = record { controller = clf_tells; host = uicc_tells; in_order = new_in_order }
 
 pub start_reached : (l : Link) → IsStart l → Reached (core_of l)
 start_reached l IsBare = record { start = core_of l; starts = BothUp; events = []; allowed = tt; is = refl }
@@ -133,7 +133,7 @@ in_order_here l s events a n =
     let g = (from_start l s events a).good in
     in_messages (talk_of m.controller n) (talk_of m.host n) (says_of m.controller n g.controller)
     (subst (λ z. CoreInOrder z (talk_of m.host n).session) (session-core m.controller n)
-    (subst (λ r. CoreInOrder (shdlc_session_of (core_half m.controller) n) r) (session-core m.host n) o))
+    (subst (λ r. CoreInOrder (shdlc_session_of (core_end m.controller) n) r) (session-core m.host n) o))
 
 pub in_order_there : (l : Link) → IsStart l → (events : List LinkEvent) → AllAllowed l events → (n : ℕ)
     → InOrder (talk_of (after_link_events l events).host n) (talk_of (after_link_events l events).controller n)
@@ -143,7 +143,7 @@ in_order_there l s events a n =
     let g = (from_start l s events a).good in
     in_messages (talk_of m.host n) (talk_of m.controller n) (says_of m.host n g.host)
     (subst (λ z. CoreInOrder z (talk_of m.controller n).session) (session-core m.host n)
-    (subst (λ r. CoreInOrder (shdlc_session_of (core_half m.host) n) r) (session-core m.controller n) o))
+    (subst (λ r. CoreInOrder (shdlc_session_of (core_end m.host) n) r) (session-core m.controller n) o))
 
 -- ## No chain fault
 
@@ -246,7 +246,7 @@ fresh_past : (past : List (ℕ × Talk)) (n : ℕ) → Below n (core_past past) 
 fresh_past [] n b = refl
 fresh_past (x ∷ xs) n b = let d : (n == x.0) ≡ false = ne_eqb n x.0 (λ z. omega (arith, z, b.0)) in rw d (fresh_past xs n b.1)
 
-pub new_number : (h : NumberedEnd) → h.side.shdlc.phase ≡ Up → Below (bound (core_half h)) (core_past h.past) → ended_talk h.past (number_of h) ≡ no_talk
+pub new_number : (h : NumberedEnd) → h.side.shdlc.phase ≡ Up → Below (bound (core_end h)) (core_past h.past) → ended_talk h.past (number_of h) ≡ no_talk
 new_number h up b = fresh_past h.past (number_of h) (rw up at b)
 
 pub new_number_here : (l : Link) → IsStart l → (events : List LinkEvent) → AllAllowed l events → (after_link_events l events).controller.side.shdlc.phase ≡ Up

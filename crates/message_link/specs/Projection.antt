@@ -6,7 +6,7 @@ use Rattle.swp_act.specs.declared.ActEvent.{ActEvent}
 use Rattle.swp_act.specs.declared.ActEvent.TheVariants.{Start as ActStart, Stop as ActStop, Take as ActTake, Tick as ActTick}
 use Rattle.shdlc_core.specs.Machine.{Session, is_waiting}
 use Rattle.hcp_packet.specs.Packets.{packets_of, packet_bytes}
-use Rattle.session_laws.specs.Sessions.{OnWire, NumberedShdlc as CoreHalf, ShdlcLink as CoreLink, ShdlcTurn as CoreTurn, ShdlcEndEvent as CoreEndEvent, ShdlcLinkEvent as CoreLinkEvent}
+use Rattle.session_laws.specs.Sessions.{OnWire, NumberedShdlc as CoreEnd, ShdlcLink as CoreLink, ShdlcTurn as CoreTurn, ShdlcEndEvent as CoreEndEvent, ShdlcLinkEvent as CoreLinkEvent}
 use Rattle.session_laws.specs.Sessions.ShdlcTurn.{Offer, SetReady as CoreSetReady}
 use Rattle.session_laws.specs.Sessions.ShdlcEndEvent.{Turns as CoreTurns, Deliver as CoreDeliver, Ignore as CoreIgnore, Acts as CoreActs, Lose as CoreLose, Reset as CoreReset, Cut as CoreCut, Stop as CoreStop}
 use Rattle.session_laws.specs.Sessions.ShdlcLinkEvent.{AtController as CoreAtController, AtHost as CoreAtHost, Tick as CoreTick, TickWithout as CoreTickWithout}
@@ -25,15 +25,15 @@ core_past [] = []
 core_past (x ∷ xs) = (x.0, x.1.session) ∷ core_past xs
 
 -- an end
-abbrev pub core_half : NumberedEnd → CoreHalf
-core_half h = record { side = h.side.shdlc; emitted = h.emitted; took = h.took; past = core_past h.past }
+abbrev pub core_end : NumberedEnd → CoreEnd
+core_end h = record { side = h.side.shdlc; emitted = h.emitted; took = h.took; past = core_past h.past }
 
 -- the link
 abbrev pub core_of : Link → CoreLink
 core_of l =
     record {
-      controller = core_half l.controller;
-      host = core_half l.host;
+      controller = core_end l.controller;
+      host = core_end l.host;
       to_controller = l.to_controller;
       to_host = l.to_host;
       resets = l.resets;

@@ -27,7 +27,7 @@ use Rattle.node_machine.specs.Parts.{Desk, Running, Port, Work}
 use Rattle.node_machine.specs.Carrying.{changed_if, port_at}
 use Rattle.node_machine.specs.Node.{steps, found, boot_writes, with_error, new_desk}
 use Rattle.node_machine.specs.Node.NodeInput.{TimePasses}
-use Rattle.node_world.specs.World.{Site, NodeWorld, wires_for, frames_noted, site_at, with_site, link_to, ending_of, runs_on, turns_at, half_in, port_for, work_of, comes_to, controller_work, link_after_controller, after_controller, controller_does, host_work, after_host, host_does, controller_cut, host_cut, loses_power_at, memory_at, with_memory, with_node, links_of, boots, counts, frame_lost, all_aged, is_late_at, ticked_so, controller_ticks, host_ticks, hosts_tick, world_ticks}
+use Rattle.node_world.specs.World.{Site, NodeWorld, wires_for, frames_noted, site_at, with_site, link_to, ending_of, runs_on, turns_at, near_end_in, port_for, work_of, comes_to, controller_work, link_after_controller, after_controller, controller_does, host_work, after_host, host_does, controller_cut, host_cut, loses_power_at, memory_at, with_memory, with_node, links_of, boots, counts, frame_lost, all_aged, is_late_at, ticked_so, controller_ticks, host_ticks, hosts_tick, world_ticks}
 use Rattle.node_links.proofs.Got.{Clean}
 use Rattle.node_links.proofs.Deeds.{IsTrueDesk}
 use Rattle.node_links.proofs.Works.{AreFinePorts, IsFineWork, fine_at, steps_fine}
@@ -129,26 +129,26 @@ near_clean sites h a = go (site_at sites h) refl
 
 -- ## A step of a node
 
-pub half_clean : (l : Link) (comes : Comes) → Clean l.controller.side → Clean (half_in l comes).side
-half_clean l NextFrame a = go l.to_controller
+pub near_end_clean : (l : Link) (comes : Comes) → Clean l.controller.side → Clean (near_end_in l comes).side
+near_end_clean l NextFrame a = go l.to_controller
   where
     by : List OnWire → NumberedEnd
     by [] = l.controller
-    by (x ∷ xs) = (half_in (record l { to_controller = x ∷ xs }) NextFrame)
+    by (x ∷ xs) = (near_end_in (record l { to_controller = x ∷ xs }) NextFrame)
 
     go : (w : List OnWire) → Clean (by w).side
     go [] = a
     go (x ∷ xs) = a
-half_clean l (AsksReset window) a = a
-half_clean l (Starts value) a = a
-half_clean l Stops a = a
-half_clean l NoInput a = a
+near_end_clean l (AsksReset window) a = a
+near_end_clean l (Starts value) a = a
+near_end_clean l Stops a = a
+near_end_clean l NoInput a = a
 
-pub ports_fine : (halves : ℕ → NumberedEnd) → ((h : ℕ) → Clean (halves h).side) → (desks : List Desk) → AreTrueDesks desks
-    → AreFinePorts (map (λ (d : Desk). port_for (halves d.host) d) desks)
-ports_fine halves clean [] a = tt
-ports_fine halves clean (d ∷ desks) a =
-    (record { turns = tt; clean = clean d.host; desk = a.0 }, ports_fine halves clean desks a.1)
+pub ports_fine : (near_ends : ℕ → NumberedEnd) → ((h : ℕ) → Clean (near_ends h).side) → (desks : List Desk) → AreTrueDesks desks
+    → AreFinePorts (map (λ (d : Desk). port_for (near_ends d.host) d) desks)
+ports_fine near_ends clean [] a = tt
+ports_fine near_ends clean (d ∷ desks) a =
+    (record { turns = tt; clean = clean d.host; desk = a.0 }, ports_fine near_ends clean desks a.1)
 
 desks_of : (ports : List Port) → AreFinePorts ports → AreTrueDesks (map (λ (p : Port). p.desk) ports)
 desks_of [] a = tt
@@ -207,15 +207,15 @@ controller_fine w h comes f m keeps fine = go w.controller fine.controller
     by None = (w, [])
     by (Some r) = after_controller w h comes (controller_work w r h comes f)
 
-    clean : (k : ℕ) → Clean (half_in (link_to w.sites k) (comes_to h comes k)).side
-    clean k = half_clean (link_to w.sites k) (comes_to h comes k) (near_clean w.sites k (fine_clean w.sites fine.sites))
+    clean : (k : ℕ) → Clean (near_end_in (link_to w.sites k) (comes_to h comes k)).side
+    clean k = near_end_clean (link_to w.sites k) (comes_to h comes k) (near_clean w.sites k (fine_clean w.sites fine.sites))
 
     go : (o : Option Running) → IsFineNode o → IsFineWorld (by o).0
     go None a = fine
     go (Some r) a =
         after_controller_fine w h comes (controller_work w r h comes f) m
-        (keeps (work_of r w.memory.plan (λ k. half_in (link_to w.sites k) (comes_to h comes k)) _)
-        (ports_fine (λ k. half_in (link_to w.sites k) (comes_to h comes k)) clean r.desks a)) fine
+        (keeps (work_of r w.memory.plan (λ k. near_end_in (link_to w.sites k) (comes_to h comes k)) _)
+        (ports_fine (λ k. near_end_in (link_to w.sites k) (comes_to h comes k)) clean r.desks a)) fine
 
 -- ## Steps of a host
 
@@ -247,8 +247,8 @@ host_fine w h comes f can keeps fine = go (site_at w.sites h) refl
     one s here (Some r) a =
         let k : Work = host_work s r comes f in
         let done : IsFineWork k =
-        keeps (work_of r s.memory.plan (λ k. half_in (exchanged s.link) comes) _)
-        (ports_fine (λ k. half_in (exchanged s.link) comes) (λ k. half_clean (exchanged s.link) comes here.link.line.far) r.desks a) in
+        keeps (work_of r s.memory.plan (λ k. near_end_in (exchanged s.link) comes) _)
+        (ports_fine (λ k. near_end_in (exchanged s.link) comes) (λ k. near_end_clean (exchanged s.link) comes here.link.line.far) r.desks a) in
         record {
           sites = site_changed (CanReach comes) h (after_host comes k) (there_fine comes k done) w.sites can fine.sites;
           controller = fine.controller;
@@ -452,20 +452,20 @@ controller_ticks_fine w old runs = go w.controller runs
       k.entries ++ flat_map (λ (s : Site). frames_noted Controller s.host s.link k) w.sites,
     )
 
-    halves : ℕ → NumberedEnd
-    halves h = (link_to w.sites h).controller
+    near_ends : ℕ → NumberedEnd
+    near_ends h = (link_to w.sites h).controller
 
     by : Option Running → NodeWorld × List Entry
     by None = (record w { sites = map (λ (s : Site). record s { link = ticks_at_controller s.link [] GoesOut }) w.sites }, [])
-    by (Some r) = after_work (steps TimePasses (work_of r w.memory.plan halves []))
+    by (Some r) = after_work (steps TimePasses (work_of r w.memory.plan near_ends []))
 
     go : (o : Option Running) → IsFineNode o → IsNearWorld (by o).0
     go None a = record { sites = near_sites (λ h. false) (λ h. record { turns = []; ending = GoesOut }) (λ h. tt) w.sites old; controller = runs }
     go (Some r) a =
-        let k : Work = steps TimePasses (work_of r w.memory.plan halves []) in
+        let k : Work = steps TimePasses (work_of r w.memory.plan near_ends []) in
         let done : IsFineWork k =
-        steps_fine TimePasses (work_of r w.memory.plan halves [])
-        (ports_fine halves (λ h. near_clean w.sites h (old_clean w.sites old)) r.desks a) in
+        steps_fine TimePasses (work_of r w.memory.plan near_ends [])
+        (ports_fine near_ends (λ h. near_clean w.sites h (old_clean w.sites old)) r.desks a) in
         record {
           sites = near_sites (λ h. is_late_at k h) (λ h. record { turns = turns_at k h; ending = ending_of k }) (λ h. turns_fine k h done) w.sites old;
           controller = runs_fine k done;

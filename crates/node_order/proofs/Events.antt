@@ -31,13 +31,13 @@ use Rattle.node_machine.specs.Parts.{Desk, Running, Work, Deed}
 use Rattle.node_machine.specs.Carrying.{changed_if}
 use Rattle.node_machine.specs.Node.{steps, begins_with, found, boot_writes, with_error, new_desk}
 use Rattle.node_machine.specs.Node.NodeInput.{AtEnd}
-use Rattle.node_world.specs.World.{Site, NodeWorld, site_at, with_site, link_to, input_of, half_in, arrival, work_of, ending_of, turns_at, runs_on, comes_to, controller_work, link_after_controller, after_controller, controller_does, host_work, after_host, host_does, controller_cut, host_cut, loses_power_at, memory_at, with_memory, with_node, links_of, boots, counts, frame_lost, comes_at, end_c, end_h, activates}
+use Rattle.node_world.specs.World.{Site, NodeWorld, site_at, with_site, link_to, input_of, near_end_in, arrival, work_of, ending_of, turns_at, runs_on, comes_to, controller_work, link_after_controller, after_controller, controller_does, host_work, after_host, host_does, controller_cut, host_cut, loses_power_at, memory_at, with_memory, with_node, links_of, boots, counts, frame_lost, comes_at, end_c, end_h, activates}
 use Rattle.link_entries.proofs.Lasting.{same_number}
 use Rattle.node_links.proofs.Ends.{here_host}
 use Rattle.node_links.proofs.Works.{IsFineWork, all_done_fine, steps_fine}
 use Rattle.node_links.proofs.Deeds.{AreFine}
 use Rattle.node_links.proofs.Sites.{MayCome, clf_line, uicc_line, can_come, can_end}
-use Rattle.node_links.proofs.Worlds.{AreTrueDesks, IsFineNode, IsFineSite, IsFineWorld, AtHostOnly, CanReach, half_clean, near_clean, fine_clean, ports_fine, turns_fine, may_here, memory_fine}
+use Rattle.node_links.proofs.Worlds.{AreTrueDesks, IsFineNode, IsFineSite, IsFineWorld, AtHostOnly, CanReach, near_end_clean, near_clean, fine_clean, ports_fine, turns_fine, may_here, memory_fine}
 use Rattle.node_links.proofs.Playing.{plain_reach, starts_fine, starts_then}
 use Rattle.node_telling.specs.Telling.{of_link, TellOf, HasEnds, IfItRuns, hosts_in, IsOrderly, IfOff}
 use Rattle.node_telling.specs.Standing.{StandsOf}
@@ -76,8 +76,8 @@ module _ (w : NodeWorld) (t : List Entry) (X : ℕ → WatchedLink) (a : IsWell 
     abbrev u : List Entry
     u = (after_controller w k comes v).1
 
-    abbrev halves : ℕ → NumberedEnd
-    halves j = half_in (link_to w.sites j) (comes_to k comes j)
+    abbrev near_ends : ℕ → NumberedEnd
+    near_ends j = near_end_in (link_to w.sites j) (comes_to k comes j)
 
     desks : AreTrueDesks r.desks
     desks = go w.controller runs a.fine.controller
@@ -88,8 +88,9 @@ module _ (w : NodeWorld) (t : List Entry) (X : ℕ → WatchedLink) (a : IsWell 
 
     done : IsFineWork v
     done =
-        steps_fine (AtEnd k i) (work_of r w.memory.plan halves (entries_for k (arrival Controller (link_to w.sites k) comes)))
-        (ports_fine halves (λ j. half_clean (link_to w.sites j) (comes_to k comes j) (near_clean w.sites j (fine_clean w.sites a.fine.sites))) r.desks desks)
+        steps_fine (AtEnd k i) (work_of r w.memory.plan near_ends (entries_for k (arrival Controller (link_to w.sites k) comes)))
+        (ports_fine near_ends
+            (λ j. near_end_clean (link_to w.sites j) (comes_to k comes j) (near_clean w.sites j (fine_clean w.sites a.fine.sites))) r.desks desks)
 
     node : HasEnds 0 (hosts_in w.sites) r
     node = node_is 0 (hosts_in w.sites) w.controller r a.orderly.controller runs
@@ -223,8 +224,8 @@ module _ (w : NodeWorld) (t : List Entry) (X : ℕ → WatchedLink) (a : IsWell 
 
     host_done : IsFineWork worked
     host_done =
-        fine (work_of r s.memory.plan (λ j. half_in (exchanged s.link) comes) (entries_for s.host (arrival Host (exchanged s.link) comes)))
-        (ports_fine (λ j. half_in (exchanged s.link) comes) (λ j. half_clean (exchanged s.link) comes site_fine.link.line.far) r.desks host_desks)
+        fine (work_of r s.memory.plan (λ j. near_end_in (exchanged s.link) comes) (entries_for s.host (arrival Host (exchanged s.link) comes)))
+        (ports_fine (λ j. near_end_in (exchanged s.link) comes) (λ j. near_end_clean (exchanged s.link) comes site_fine.link.line.far) r.desks host_desks)
 
     -- what happens at its end
     abbrev pub far_event : LinkEvent
@@ -277,7 +278,7 @@ module _ (w : NodeWorld) (t : List Entry) (X : ℕ → WatchedLink) (a : IsWell 
                 let P : Running → Type 0 = λ z. AllByRecursion (λ (d : Desk). d.notice ≡ None) z.desks in subst P one n
 
         ports_none : (ds : List Desk) → AllByRecursion (λ (d : Desk). d.notice ≡ None) ds
-            → AllByRecursion (λ p. p.desk.notice ≡ None) (ports_for (λ j. half_in (exchanged s.link) comes) ds)
+            → AllByRecursion (λ p. p.desk.notice ≡ None) (ports_for (λ j. near_end_in (exchanged s.link) comes) ds)
         ports_none [] n = tt
         ports_none (d ∷ ds) n = (n.0, ports_none ds n.1)
 

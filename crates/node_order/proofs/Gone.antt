@@ -13,7 +13,7 @@ use Rattle.message_link.specs.Links.{NumberedEnd, Link, Ending, EndEvent, Node, 
 use Rattle.message_link.specs.Links.Comes.{NextFrame, AsksReset, Starts, Stops, NoInput}
 use Rattle.message_link.specs.Links.EndEvent.{Step, Lose}
 use Rattle.message_link.specs.Links.LinkEvent.{AtController, AtHost, Ticks, TicksWithout, Activate}
-use Rattle.message_link.specs.Projection.{core_of, core_half, core_here, core_all, core_event, core_tick, core_tick_rest}
+use Rattle.message_link.specs.Projection.{core_of, core_end, core_here, core_all, core_event, core_tick, core_tick_rest}
 use Rattle.message_link.proofs.Project.{Tells}
 use Rattle.message_link.proofs.Finishing.{step_tick}
 use Rattle.message_link.proofs.Runs.{Good, Reached, safe_reached, rests_of, reached_more, event_step, own_here, own_turns, all_step, rest_both, clf_starts}
@@ -33,7 +33,7 @@ use Rattle.node_order.proofs.Silencing.{IsDeaf, Hears, hears_parts, input_heard,
 
 -- no session with this number begins at the controller's end of this link, which has this name, any more
 abbrev pub IsGone : ℕ → End → Link → Type 0
-IsGone n who l = Jumps n who (seen_as who l) ⊎ IsPast n (core_half l.controller)
+IsGone n who l = Jumps n who (seen_as who l) ⊎ IsPast n (core_end l.controller)
 
 -- or at one of the two ends
 abbrev pub Gone : ℕ → Link → Type 0
@@ -120,7 +120,7 @@ tick_keeps n m node (inr p) =
     let b : Bool = is_some (ended_by m.host.side HasTick) in
     let same : (ticks_at_controller (exchanged m) node.turns node.ending).host ≡ m.controller =
     host_finished (with_ended (exchanged m) b) (turned (after_input m.host.side HasTick) node.turns) node.ending ∙ ended_host (exchanged m) b in
-    let P : NumberedEnd → Type 0 = λ z. IsPast n (core_half z) in
+    let P : NumberedEnd → Type 0 = λ z. IsPast n (core_end z) in
     inr (subst P (sym same) p)
 
 tick_gone : (n : ℕ) (who : End) (l : Link) (node : Node) → IsNode l node.turns node.ending → l.controller.emitted ≤ l.resets → n ≤ l.resets

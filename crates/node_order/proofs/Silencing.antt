@@ -21,7 +21,7 @@ use Rattle.message_link.specs.Links.Comes.{NextFrame, AsksReset, Starts, Stops, 
 use Rattle.message_link.specs.Links.Loss.{TooMany, TooOld}
 use Rattle.message_link.specs.Links.EndEvent.{Step, Lose}
 use Rattle.message_link.specs.Links.LinkEvent.{AtController, AtHost, Ticks, TicksWithout, Activate}
-use Rattle.message_link.specs.Projection.{core_half}
+use Rattle.message_link.specs.Projection.{core_end}
 use Rattle.message_link.proofs.Ends.{frames_alike}
 use Rattle.message_link.proofs.Project.{Now}
 use Rattle.message_link.proofs.Finishing.{can_end, took_can, restart_mid}
@@ -283,7 +283,7 @@ tick_down who l node a q =
     cut_down k (turned (after_input e HasTick) node.turns) node.ending (tick_can e node.turns node.ending a.1) c.0
 
 -- an end that is Down with a number
-pub down_past : (n : ℕ) (h : NumberedEnd) → h.side.shdlc.phase ≡ IsDown → n ≤ number_of h → n < bound (core_half h)
+pub down_past : (n : ℕ) (h : NumberedEnd) → h.side.shdlc.phase ≡ IsDown → n ≤ number_of h → n < bound (core_end h)
 down_past n h p q = rw p (omega (arith, q))
 
 -- ## What no step notes

@@ -6,7 +6,7 @@ use Rattle.std.proofs.lemmas.Bool.{true≢false, ltb-true, ltb-false}
 use Rattle.shdlc_core.specs.declared.answers.LinkState.TheVariants.{Up as IsUpNow}
 use Rattle.message_link.specs.Links.{NumberedEnd, Link, LinkEvent, number_of, happens, after_link_events, IsEvent, AllAllowed}
 use Rattle.message_link.specs.Links.IsStart.{IsLine}
-use Rattle.message_link.specs.Projection.{core_of, core_half, core_event}
+use Rattle.message_link.specs.Projection.{core_of, core_end, core_event}
 use Rattle.message_link.proofs.Runs.{Good, Reached, event_step, reached_more}
 use Rattle.message_link.proofs.Whole.{start_good, start_reached}
 use Rattle.link_entries.specs.Entries.{Entry, event_entries, entries}
@@ -145,7 +145,7 @@ jumped_none n emitted took x y q = go (nat_lt emitted took) refl
     go true p = let z = ltb-true emitted took p in y (omega (arith, z, q))
     go false p = let z = ltb-false emitted took p in x (omega (arith, z, q))
 
-past_none : (n : ℕ) (h : NumberedEnd) → h.side.shdlc.phase ≡ IsUpNow → number_of h ≡ n → IsPast n (core_half h) → ⊥
+past_none : (n : ℕ) (h : NumberedEnd) → h.side.shdlc.phase ≡ IsUpNow → number_of h ≡ n → IsPast n (core_end h) → ⊥
 past_none n h up q p = let z : n < number_of h = rw up at p in absurd (omega (arith, z, q))
 
 up_not_gone : (n : ℕ) (l : Link) → l.controller.side.shdlc.phase ≡ IsUpNow → l.host.side.shdlc.phase ≡ IsUpNow → number_of l.controller ≡ n

@@ -235,13 +235,13 @@ module _ (h : ℕ) (l : Link) (events : List Occurrence) (host : (h == 0) ≡ fa
       let lost : has_lost h (entries_for h late) ≡ false =
       sym (ap (has_lost h) (since-all h n notes)) ∙ (sym (lost_alike h n t v a.told) ∙ s.lossless) in
       let rnr : has_rnr h (entries_for h late) ≡ false = sym (ap (has_rnr h) (since-all h n notes)) ∙ (sym (rnr_alike h n t v a.told) ∙ s.ready) in
-      let calm : list_any disturbs late ≡ false = undisturbed h late (are_plain late uncut fits) lost rnr in
+      let none_disturbs : list_any disturbs late ≡ false = undisturbed h late (are_plain late uncut fits) lost rnr in
       let R : ℕ → Type 0 = λ z. list_any disturbs (since z notes) ≡ false in
       record {
         quiet = record {
           controller = here;
           host = there;
-          undisturbed = subst R (sym mine) calm;
+          undisturbed = subst R (sym mine) none_disturbs;
           to_controller = ap (λ (z : Link). z.to_controller) a.run.is ∙ no_bytes l.to_controller (sym wires.to_controller ∙ s.to_controller);
           to_host = ap (λ (z : Link). z.to_host) a.run.is ∙ no_bytes l.to_host (sym wires.to_host ∙ s.to_host);
         };

@@ -23,7 +23,7 @@ use Rattle.node_machine.specs.Parts.{Desk, Running, Work, Deed}
 use Rattle.node_machine.specs.Carrying.{port_at}
 use Rattle.node_machine.specs.Node.{steps, begins_with, found, boot_writes}
 use Rattle.node_machine.specs.Node.NodeInput.{AtEnd}
-use Rattle.node_world.specs.World.{Site, NodeWorld, Happening, site_at, with_site, link_to, input_of, half_in, arrival, work_of, ending_of, turns_at, comes_to, controller_work, link_after_controller, after_controller, controller_does, host_work, after_host, host_does, frames_noted, wires_for, controller_cut, host_cut, loses_power_at, memory_at, with_memory, with_node, links_of, boots, counts, frame_lost, sending, beginning, comes_at, end_c, end_h, all_aged, is_late_at, ticked_so, controller_ticks, hosts_tick, world_ticks, world_step}
+use Rattle.node_world.specs.World.{Site, NodeWorld, Happening, site_at, with_site, link_to, input_of, near_end_in, arrival, work_of, ending_of, turns_at, comes_to, controller_work, link_after_controller, after_controller, controller_does, host_work, after_host, host_does, frames_noted, wires_for, controller_cut, host_cut, loses_power_at, memory_at, with_memory, with_node, links_of, boots, counts, frame_lost, sending, beginning, comes_at, end_c, end_h, all_aged, is_late_at, ticked_so, controller_ticks, hosts_tick, world_ticks, world_step}
 use Rattle.node_world.specs.World.Happening.{Boots, IsCut, Gives, Inits, Takes, Loses, Ticks, Resets, Activates, Arms}
 use Rattle.kept_laws.proofs.Sites.{hosts_same, hosts_with}
 use Rattle.node_telling.specs.Telling.{of_link, IfItRuns, hosts_in, IsOrderly}
@@ -200,15 +200,15 @@ no_site : (sites : List Site) (h : ℕ) → IsStrange h (hosts_in sites) → sit
 no_site [] h a = refl
 no_site (s ∷ sites) h a = let off = a.0 in rw off (no_site sites h a.1)
 
-no_port : (halves : ℕ → NumberedEnd) (desks : List Desk) (hosts : List ℕ) (h : ℕ) → map (λ (d : Desk). d.host) desks ≡ hosts → IsStrange h hosts
-    → port_at (ports_for halves desks) h ≡ None
-no_port halves [] hosts h e a = refl
-no_port halves (d ∷ desks) [] h e a = absurd (cc e)
-no_port halves (d ∷ desks) (n ∷ hosts) h e a =
+no_port : (near_ends : ℕ → NumberedEnd) (desks : List Desk) (hosts : List ℕ) (h : ℕ) → map (λ (d : Desk). d.host) desks ≡ hosts → IsStrange h hosts
+    → port_at (ports_for near_ends desks) h ≡ None
+no_port near_ends [] hosts h e a = refl
+no_port near_ends (d ∷ desks) [] h e a = absurd (cc e)
+no_port near_ends (d ∷ desks) (n ∷ hosts) h e a =
     let one : d.host ≡ n = cc in
     let others : map (λ (d : Desk). d.host) desks ≡ hosts = cc in
     let off : (d.host == h) ≡ false = ap (λ x. x == h) one ∙ a.0 in
-    rw off (no_port halves desks hosts h others a.1)
+    rw off (no_port near_ends desks hosts h others a.1)
 
 -- what is noted of sites, each of its own link
 of_sites : (h : ℕ) (f : Site → List Entry) → ((x : Site) → (x.host == h) ≡ false → of_link h (f x) ≡ []) → (sites : List Site) → IsStrange h (hosts_in sites)
@@ -247,11 +247,11 @@ module _ (h : ℕ) (w : NodeWorld) (orderly : IsOrderly w) (strange : IsStrange 
       go : (o : Option Running) → IfItRuns 0 (hosts_in w.sites) o → of_link h (by o).1 ≡ []
       go None n = refl
       go (Some r) n =
-          let halves : ℕ → NumberedEnd = λ j. half_in (link_to w.sites j) (comes_to k comes j) in
+          let near_ends : ℕ → NumberedEnd = λ j. near_end_in (link_to w.sites j) (comes_to k comes j) in
           let v : Work = controller_work w r k comes (steps (AtEnd k i)) in
           let f : Site → List Entry = λ s. frames_noted Controller s.host (wires_for s.link (comes_to k comes s.host)) v in
-          let away : Away h v = away_steps h k i (work_of r w.memory.plan halves (entries_for k (arrival Controller (link_to w.sites k) comes)))
-          (record { none = no_port halves r.desks (hosts_in w.sites) h n.ends strange; told = arrival_none k comes }) in
+          let away : Away h v = away_steps h k i (work_of r w.memory.plan near_ends (entries_for k (arrival Controller (link_to w.sites k) comes)))
+          (record { none = no_port near_ends r.desks (hosts_in w.sites) h n.ends strange; told = arrival_none k comes }) in
           of-append h v.entries (flat_map f w.sites)
           ∙ (ap (λ t. t ++ of_link h (flat_map f w.sites)) away.told
           ∙ of_sites h f (λ x q. frames_of h x.host Controller (wires_for x.link (comes_to k comes x.host)) v q) w.sites strange)
@@ -340,10 +340,10 @@ module _ (h : ℕ) (w : NodeWorld) (orderly : IsOrderly w) (strange : IsStrange 
       go : (o : Option Running) → w.controller ≡ o → IfItRuns 0 (hosts_in w.sites) o → of_link h (controller_ticks w).1 ≡ []
       go None e n = ap (of_link h) (none_is e)
       go (Some r) e n =
-          let halves : ℕ → NumberedEnd = λ j. (link_to w.sites j).controller in
+          let near_ends : ℕ → NumberedEnd = λ j. (link_to w.sites j).controller in
           let f : Site → List Entry = λ x. frames_noted Controller x.host x.link (near_tick w r) in
-          let away : Away h (near_tick w r) = away_tick h (work_of r w.memory.plan halves [])
-          (record { none = no_port halves r.desks (hosts_in w.sites) h n.ends strange; told = refl }) in
+          let away : Away h (near_tick w r) = away_tick h (work_of r w.memory.plan near_ends [])
+          (record { none = no_port near_ends r.desks (hosts_in w.sites) h n.ends strange; told = refl }) in
           ap (of_link h) (some_is r e)
           ∙ (of-append h (near_tick w r).entries (flat_map f w.sites)
           ∙ (ap (λ t. t ++ of_link h (flat_map f w.sites)) away.told

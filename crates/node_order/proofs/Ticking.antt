@@ -53,17 +53,17 @@ none_due (Some r) a = all r.desks a
     all [] n = tt
     all (d ∷ desks) n = (let q = n.0 in rw q refl, all desks n.1)
 
-end_found : (halves : ℕ → NumberedEnd) (desks : List Desk) (h : ℕ) (d : Desk) → find (λ d. d.host == h) desks ≡ Some d
-    → port_at (ports_for halves desks) h ≡ Some (port_for (halves h) d)
-end_found halves [] h d q = absurd (cc q)
-end_found halves (x ∷ desks) h d q = go (x.host == h) refl (end_found halves desks h d)
+end_found : (near_ends : ℕ → NumberedEnd) (desks : List Desk) (h : ℕ) (d : Desk) → find (λ d. d.host == h) desks ≡ Some d
+    → port_at (ports_for near_ends desks) h ≡ Some (port_for (near_ends h) d)
+end_found near_ends [] h d q = absurd (cc q)
+end_found near_ends (x ∷ desks) h d q = go (x.host == h) refl (end_found near_ends desks h d)
   where
-    go : (b : Bool) → (x.host == h) ≡ b → (find (λ d. d.host == h) desks ≡ Some d → port_at (ports_for halves desks) h ≡ Some (port_for (halves h) d))
-        → port_at (ports_for halves (x ∷ desks)) h ≡ Some (port_for (halves h) d)
+    go : (b : Bool) → (x.host == h) ≡ b → (find (λ d. d.host == h) desks ≡ Some d → port_at (ports_for near_ends desks) h ≡ Some (port_for (near_ends h) d))
+        → port_at (ports_for near_ends (x ∷ desks)) h ≡ Some (port_for (near_ends h) d)
     go true e later =
         let is : Some x ≡ Some d = rw e at q in
         let one : x ≡ d = cc in
-        rw e (ap (λ n. Some (port_for (halves n) x)) (eqb-true x.host h e) ∙ ap (λ z. Some (port_for (halves h) z)) one)
+        rw e (ap (λ n. Some (port_for (near_ends n) x)) (eqb-true x.host h e) ∙ ap (λ z. Some (port_for (near_ends h) z)) one)
     go false e later = rw e (later (rw e at q))
 
 -- an end of such a link that is up is active
@@ -95,8 +95,8 @@ timely w t x h s up found a =
     due : (o : Option Running) → IfNoticedUp w.sites o → IfDue o h s.link.controller.side
     due None u = tt
     due (Some r) u = λ d there late.
-        let halves : ℕ → NumberedEnd = λ j. (link_to w.sites j).controller in
-        let here : IsNoticedUp (port_for (halves h) d) = subst (OnFirst IsNoticedUp) (end_found halves r.desks h d there) (u h) in
+        let near_ends : ℕ → NumberedEnd = λ j. (link_to w.sites j).controller in
+        let here : IsNoticedUp (port_for (near_ends h) d) = subst (OnFirst IsNoticedUp) (end_found near_ends r.desks h d there) (u h) in
         let is : s.link.controller.side.shdlc.phase ≡ Up =
         ap (λ (l : Link). l.controller.side.shdlc.phase) (sym (link_is w.sites h s found)) ∙ here (due_some d late) in
         (up_open h s.link t a.told is, is)
@@ -114,9 +114,9 @@ some_desks (Some x) r e b = let one : x ≡ r = cc in let P : Running → Type 0
 pub near_sends : (w : NodeWorld) (h : ℕ) (o : Option Running) → AreClean w.sites → IsFineNode o → AreSendableTurns (near_turns w h o)
 near_sends w h None clean a = tt
 near_sends w h (Some r) clean a =
-    let halves : ℕ → NumberedEnd = λ j. (link_to w.sites j).controller in
+    let near_ends : ℕ → NumberedEnd = λ j. (link_to w.sites j).controller in
     turns_fine (near_tick w r) h
-    (steps_fine TimePasses (work_of r w.memory.plan halves []) (ports_fine halves (λ j. near_clean w.sites j clean) r.desks a))
+    (steps_fine TimePasses (work_of r w.memory.plan near_ends []) (ports_fine near_ends (λ j. near_clean w.sites j clean) r.desks a))
 
 far_sends : (x : Site) (o : Option Running) → Clean x.link.host.side → IsFineNode o → AreSendableTurns (host_turns x o)
 far_sends x None clean a = tt

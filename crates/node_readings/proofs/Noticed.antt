@@ -59,16 +59,16 @@ reset_refused e closed = rw closed refl
 
 -- ## Ends as a step begins
 
-module _ (r : Running) (plan : Option Plan) (halves : ℕ → NumberedEnd) (es : List Entry) where
+module _ (r : Running) (plan : Option Plan) (near_ends : ℕ → NumberedEnd) (es : List Entry) where
   abbrev pub starts : List Desk → List Port
-  starts desks = map (λ (d : Desk). port_for (halves d.host) d) desks
+  starts desks = map (λ (d : Desk). port_for (near_ends d.host) d) desks
 
   abbrev pub begun : Work
-  begun = work_of r plan halves es
+  begun = work_of r plan near_ends es
 
   -- one that is found is as the link's end is
   pub record IsStart (x : ℕ) (q : Port) : Type 0 where
-    pub side : q.side ≡ (halves x).side
+    pub side : q.side ≡ (near_ends x).side
     pub late : q.late ≡ false
 
   pub is_start : (desks : List Desk) (x : ℕ) (q : Port) → port_at (starts desks) x ≡ Some q → IsStart x q
@@ -76,9 +76,9 @@ module _ (r : Running) (plan : Option Plan) (halves : ℕ → NumberedEnd) (es :
   is_start (d ∷ desks) x q e = go (cases_Bool (eqb d.host x)) (is_start desks x q) where
     go : (eqb d.host x ≡ true) ⊎ (eqb d.host x ≡ false) → (port_at (starts desks) x ≡ Some q → IsStart x q) → IsStart x q
     go (inl is) later =
-        let found : Some (port_for (halves d.host) d) ≡ Some q = rw is at e in
-        let same : port_for (halves d.host) d ≡ q = cc in
-        subst (IsStart x) same (record { side = ap (λ n. (halves n).side) (eqb-true d.host x is); late = refl })
+        let found : Some (port_for (near_ends d.host) d) ≡ Some q = rw is at e in
+        let same : port_for (near_ends d.host) d ≡ q = cc in
+        subst (IsStart x) same (record { side = ap (λ n. (near_ends n).side) (eqb-true d.host x is); late = refl })
     go (inr off) later = later (rw off at e)
 
   begun_first : (desks : List Desk) (x : ℕ) → OnFirst IsNoticedUp (port_at (starts desks) x) → OnFirst IsBegun (port_at (starts desks) x)
@@ -87,7 +87,7 @@ module _ (r : Running) (plan : Option Plan) (halves : ℕ → NumberedEnd) (es :
     go : (eqb d.host x ≡ true) ⊎ (eqb d.host x ≡ false)
         → (OnFirst IsNoticedUp (port_at (starts desks) x) → OnFirst IsBegun (port_at (starts desks) x))
         → OnFirst IsBegun (port_at (starts (d ∷ desks)) x)
-    go (inl is) later = let b : IsNoticedUp (port_for (halves d.host) d) = rw is at a in rw is (record { up = b; late = refl; ended = refl })
+    go (inl is) later = let b : IsNoticedUp (port_for (near_ends d.host) d) = rw is at a in rw is (record { up = b; late = refl; ended = refl })
     go (inr off) later = rw off (later (rw off at a))
 
   -- ## Over a step
@@ -181,7 +181,7 @@ module _ (r : Running) (plan : Option Plan) (halves : ℕ → NumberedEnd) (es :
 
   module _ (number : r.core.node ≡ 0) (noticed : (x : ℕ) → OnFirst IsNoticedUp (port_at (starts r.desks) x)) where
     pub input_up : (h : ℕ) (i : LinkInput) → IsComing i → (x : ℕ) (p : Port) → port_at (steps (AtEnd h i) begun).ports x ≡ Some p
-        → is_some p.desk.notice ≡ true → CameUp x (cond (eqb x h) (after_input (halves x).side i) (halves x).side).shdlc.phase
+        → is_some p.desk.notice ≡ true → CameUp x (cond (eqb x h) (after_input (near_ends x).side i) (near_ends x).side).shdlc.phase
     input_up h i coming x p here some = go (port_at (starts r.desks) x) refl where
       come : Port → Port
       come q = has_come q (input_at (AtEnd h i) q)
@@ -195,13 +195,13 @@ module _ (r : Running) (plan : Option Plan) (halves : ℕ → NumberedEnd) (es :
       come_is q false e = rw e refl
 
       go : (o : Option Port) → port_at (starts r.desks) x ≡ o
-          → CameUp x (cond (eqb x h) (after_input (halves x).side i) (halves x).side).shdlc.phase
+          → CameUp x (cond (eqb x h) (after_input (near_ends x).side i) (near_ends x).side).shdlc.phase
       go None e = absurd (true≢false (sym up ∙ ap (λ o. up_at (option_map come o)) e))
       go (Some q) e = record {
         start = q;
         here = e;
         up =
-            let side : (come q).side ≡ cond (eqb x h) (after_input (halves x).side i) (halves x).side =
+            let side : (come q).side ≡ cond (eqb x h) (after_input (near_ends x).side i) (near_ends x).side =
             come_is q (eqb q.desk.host h) refl ∙ ap (λ n. cond (eqb n h) (after_input q.side i) q.side) (at_host (starts r.desks) x q e)
             ∙ ap (λ s. cond (eqb x h) (after_input s i) s) (is_start r.desks x q e).side in
             sym (ap (λ (s : LinkEnd). is_up s.shdlc.phase) side) ∙ (sym (ap (λ o. up_at (option_map come o)) e) ∙ up);
@@ -243,9 +243,9 @@ module _ (r : Running) (plan : Option Plan) (halves : ℕ → NumberedEnd) (es :
         stood (has_notice (come_tick q) q.desk.notice refl (both _ (with_older (come_tick q)).ended is).0)
 
     -- an end whose notice is late was up as the step began
-    pub was_up : (x : ℕ) → is_late_at (steps TimePasses begun) x ≡ true → (halves x).side.shdlc.phase ≡ Up
+    pub was_up : (x : ℕ) → is_late_at (steps TimePasses begun) x ≡ true → (near_ends x).side.shdlc.phase ≡ Up
     was_up x is = go (port_at (starts r.desks) x) refl where
-      go : (o : Option Port) → port_at (starts r.desks) x ≡ o → (halves x).side.shdlc.phase ≡ Up
+      go : (o : Option Port) → port_at (starts r.desks) x ≡ o → (near_ends x).side.shdlc.phase ≡ Up
       go None e = absurd (true≢false (sym is ∙ (late_at x ∙ ap LateOf e)))
       go (Some q) e = ap (λ (s : LinkEnd). s.shdlc.phase) (sym (is_start r.desks x q e).side) ∙ by_late (cases_Bool (is_late (with_older (come_tick q))))
         where
@@ -259,7 +259,7 @@ module _ (r : Running) (plan : Option Plan) (halves : ℕ → NumberedEnd) (es :
               absurd (true≢false (sym was ∙ (is_start r.desks x q e).late))
 
     pub tick_up : (x : ℕ) (p : Port) (l : Link) (ts : List Turn) → port_at (steps TimePasses begun).ports x ≡ Some p
-        → is_some p.desk.notice ≡ true → l.controller.side ≡ (halves x).side
+        → is_some p.desk.notice ≡ true → l.controller.side ≡ (near_ends x).side
         → CameUp x (ticked_so l (is_late_at (steps TimePasses begun) x) ts GoesOut).controller.side.shdlc.phase
     tick_up x p l ts here some side = go (port_at (starts r.desks) x) refl where
       up : up_at (option_map reset_late (option_map with_older (option_map come_tick (port_at (starts r.desks) x)))) ≡ true

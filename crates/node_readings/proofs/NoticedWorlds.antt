@@ -27,7 +27,7 @@ use Rattle.node_machine.specs.Parts.{Desk, Running, Port, Work}
 use Rattle.node_machine.specs.Carrying.{port_at, changed_if}
 use Rattle.node_machine.specs.Node.{steps, begins_with, boot_writes, found, new_desk, with_error}
 use Rattle.node_machine.specs.Node.NodeInput.{AtEnd, TimePasses}
-use Rattle.node_world.specs.World.{NodeWorld, Site, Happening, site_at, link_to, memory_at, with_site, with_memory, with_node, links_of, ending_of, runs_on, turns_at, input_of, half_in, arrival, port_for, work_of, comes_to, controller_work, link_after_controller, after_controller, controller_does, host_work, after_host, host_does, controller_cut, host_cut, loses_power_at, boots, counts, frame_lost, all_aged, is_late_at, ticked_so, controller_ticks, host_ticks, hosts_tick, world_ticks, sending, beginning, comes_at, end_c, end_h, new_world, world_step}
+use Rattle.node_world.specs.World.{NodeWorld, Site, Happening, site_at, link_to, memory_at, with_site, with_memory, with_node, links_of, ending_of, runs_on, turns_at, input_of, near_end_in, arrival, port_for, work_of, comes_to, controller_work, link_after_controller, after_controller, controller_does, host_work, after_host, host_does, controller_cut, host_cut, loses_power_at, boots, counts, frame_lost, all_aged, is_late_at, ticked_so, controller_ticks, host_ticks, hosts_tick, world_ticks, sending, beginning, comes_at, end_c, end_h, new_world, world_step}
 use Rattle.node_world.specs.World.Happening.{Boots, IsCut, Gives, Inits, Takes, Loses, Ticks, Resets, Activates, Arms}
 use Rattle.node_world.specs.Lines.{happenings}
 use Rattle.node_world.specs.NodeHistories.{world_after}
@@ -43,14 +43,14 @@ use Rattle.node_telling.proofs.Nodes.{site_host, link_is}
 use Rattle.node_telling.proofs.Orderly.{new_orderly, step_orderly}
 use Rattle.node_telling.proofs.WorldTicks.{tick_host as ticked_number}
 use Rattle.node_readings.specs.Noticed.{IfNoticedUp, NoticesAreUp}
-use Rattle.node_readings.proofs.Sites.{half_side, comes_outside, sent_phase, stepped_phase}
+use Rattle.node_readings.proofs.Sites.{near_end_side, comes_outside, sent_phase, stepped_phase}
 use Rattle.node_readings.proofs.Noticed.{up_is, not_waiting, CameUp, input_up, tick_up, was_up}
 
 -- ## Ends
 
 -- the ends of these desks, by the ends of links
 abbrev ports_of : (ℕ → NumberedEnd) → List Desk → List Port
-ports_of halves desks = map (λ (d : Desk). port_for (halves d.host) d) desks
+ports_of near_ends desks = map (λ (d : Desk). port_for (near_ends d.host) d) desks
 
 same_sides : (g h : ℕ → NumberedEnd) → ((n : ℕ) → (h n).side ≡ (g n).side) → (desks : List Desk) (x : ℕ) → OnFirst IsNoticedUp (port_at (ports_of g desks) x)
     → OnFirst IsNoticedUp (port_at (ports_of h desks) x)
@@ -71,13 +71,13 @@ kept v w None same a = tt
 kept v w (Some r) same a = λ x. same_sides (λ n. (link_to w n).controller) (λ n. (link_to v n).controller) same r.desks x (a x)
 
 -- a controller that boots has none
-none_noticed : (halves : ℕ → NumberedEnd) (hosts : List ℕ) (x : ℕ) → OnFirst IsNoticedUp (port_at (ports_of halves (map new_desk hosts)) x)
-none_noticed halves [] x = tt
-none_noticed halves (h ∷ hosts) x = go (cases_Bool (eqb h x)) (none_noticed halves hosts x) where
-  go : (eqb h x ≡ true) ⊎ (eqb h x ≡ false) → OnFirst IsNoticedUp (port_at (ports_of halves (map new_desk hosts)) x)
-      → OnFirst IsNoticedUp (port_at (ports_of halves (map new_desk (h ∷ hosts))) x)
+none_noticed : (near_ends : ℕ → NumberedEnd) (hosts : List ℕ) (x : ℕ) → OnFirst IsNoticedUp (port_at (ports_of near_ends (map new_desk hosts)) x)
+none_noticed near_ends [] x = tt
+none_noticed near_ends (h ∷ hosts) x = go (cases_Bool (eqb h x)) (none_noticed near_ends hosts x) where
+  go : (eqb h x ≡ true) ⊎ (eqb h x ≡ false) → OnFirst IsNoticedUp (port_at (ports_of near_ends (map new_desk hosts)) x)
+      → OnFirst IsNoticedUp (port_at (ports_of near_ends (map new_desk (h ∷ hosts))) x)
   go (inl is) later =
-      let b : IsNoticedUp (port_for (halves h) (new_desk h)) = λ some. absurd (true≢false (sym some)) in
+      let b : IsNoticedUp (port_for (near_ends h) (new_desk h)) = λ some. absurd (true≢false (sym some)) in
       rw is b
   go (inr off) later = rw off later
 
@@ -153,11 +153,11 @@ record HasSite (sites : List Site) (x : ℕ) : Type 0 where
   pub site : Site
   pub there : site_at sites x ≡ Some site
 
-site_there : (halves : ℕ → NumberedEnd) (desks : List Desk) (sites : List Site) (x : ℕ) (q : Port) → map (λ (d : Desk). d.host) desks ≡ hosts_in sites
-    → port_at (ports_of halves desks) x ≡ Some q → HasSite sites x
-site_there halves [] sites x q e here = absurd (cc here)
-site_there halves (d ∷ desks) [] x q e here = absurd (cc e)
-site_there halves (d ∷ desks) (s ∷ sites) x q e here = go (cases_Bool (eqb s.host x)) (site_there halves desks sites x q) where
+site_there : (near_ends : ℕ → NumberedEnd) (desks : List Desk) (sites : List Site) (x : ℕ) (q : Port) → map (λ (d : Desk). d.host) desks ≡ hosts_in sites
+    → port_at (ports_of near_ends desks) x ≡ Some q → HasSite sites x
+site_there near_ends [] sites x q e here = absurd (cc here)
+site_there near_ends (d ∷ desks) [] x q e here = absurd (cc e)
+site_there near_ends (d ∷ desks) (s ∷ sites) x q e here = go (cases_Bool (eqb s.host x)) (site_there near_ends desks sites x q) where
   one : d.host ≡ s.host
   one = cc
 
@@ -165,7 +165,7 @@ site_there halves (d ∷ desks) (s ∷ sites) x q e here = go (cases_Bool (eqb s
   others = cc
 
   go : (eqb s.host x ≡ true) ⊎ (eqb s.host x ≡ false)
-      → (map (λ (c : Desk). c.host) desks ≡ hosts_in sites → port_at (ports_of halves desks) x ≡ Some q → HasSite sites x) → HasSite (s ∷ sites) x
+      → (map (λ (c : Desk). c.host) desks ≡ hosts_in sites → port_at (ports_of near_ends desks) x ≡ Some q → HasSite sites x) → HasSite (s ∷ sites) x
   go (inl is) later = record { site = s; there = rw is refl }
   go (inr off) later =
       let passed : eqb d.host x ≡ false = ap (λ n. eqb n x) one ∙ off in
@@ -185,8 +185,8 @@ module _ (w : NodeWorld) (r : Running) (runs : w.controller ≡ Some r) (has : H
   near_step : (h : ℕ) (comes : Comes) (i : LinkInput) → input_of (link_to w.sites h) comes ≡ Some i
       → NoticesAreUp (after_controller w h comes (controller_work w r h comes (steps (AtEnd h i)))).0
   near_step h comes i input = runs_up (map (link_after_controller h comes k) w.sites) k one where
-    halves : ℕ → NumberedEnd
-    halves n = half_in (link_to w.sites n) (comes_to h comes n)
+    near_ends : ℕ → NumberedEnd
+    near_ends n = near_end_in (link_to w.sites n) (comes_to h comes n)
 
     es : List Entry
     es = entries_for h (arrival Controller (link_to w.sites h) comes)
@@ -194,14 +194,14 @@ module _ (w : NodeWorld) (r : Running) (runs : w.controller ≡ Some r) (has : H
     k : Work
     k = controller_work w r h comes (steps (AtEnd h i))
 
-    noticed : (x : ℕ) → OnFirst IsNoticedUp (port_at (ports_of halves r.desks) x)
-    noticed x = same_sides (λ n. (link_to w.sites n).controller) halves (λ n. half_side (link_to w.sites n) (comes_to h comes n)) r.desks x (ups x)
+    noticed : (x : ℕ) → OnFirst IsNoticedUp (port_at (ports_of near_ends r.desks) x)
+    noticed x = same_sides (λ n. (link_to w.sites n).controller) near_ends (λ n. near_end_side (link_to w.sites n) (comes_to h comes n)) r.desks x (ups x)
 
     one : (x : ℕ) (p : Port) → k.cut ≡ false → port_at k.ports x ≡ Some p → is_some p.desk.notice ≡ true
         → (link_to (map (link_after_controller h comes k) w.sites) x).controller.side.shdlc.phase ≡ Up
-    one x p z here some = by_site (site_there halves r.desks w.sites x came.start has.ends came.here) where
-      came : CameUp r w.memory.plan halves es x (cond (eqb x h) (after_input (halves x).side i) (halves x).side).shdlc.phase
-      came = input_up r w.memory.plan halves es has.number noticed h i (comes_outside (link_to w.sites h) comes i input) x p here some
+    one x p z here some = by_site (site_there near_ends r.desks w.sites x came.start has.ends came.here) where
+      came : CameUp r w.memory.plan near_ends es x (cond (eqb x h) (after_input (near_ends x).side i) (near_ends x).side).shdlc.phase
+      came = input_up r w.memory.plan near_ends es has.number noticed h i (comes_outside (link_to w.sites h) comes i input) x p here some
 
       by_site : HasSite w.sites x → (link_to (map (link_after_controller h comes k) w.sites) x).controller.side.shdlc.phase ≡ Up
       by_site found_it =
@@ -211,7 +211,7 @@ module _ (w : NodeWorld) (r : Running) (runs : w.controller ≡ Some r) (has : H
           ∙ step_phase s.link (eqb s.host h) comes i ts (λ is. ap (λ l. input_of l comes) (sym (link_of is)) ∙ input)
           ∙ ap (λ n. (cond (eqb n h) (after_input s.link.controller.side i) s.link.controller.side).shdlc.phase) number
           ∙ ap (λ e. (cond (eqb x h) (after_input e i) e).shdlc.phase) (sym side)
-          ∙ up_is (cond (eqb x h) (after_input (halves x).side i) (halves x).side).shdlc.phase came.up
+          ∙ up_is (cond (eqb x h) (after_input (near_ends x).side i) (near_ends x).side).shdlc.phase came.up
         where
           s : Site
           s = found_it.site
@@ -225,8 +225,8 @@ module _ (w : NodeWorld) (r : Running) (runs : w.controller ≡ Some r) (has : H
           link_of : eqb s.host h ≡ true → link_to w.sites h ≡ s.link
           link_of is = ap (link_to w.sites) (sym (eqb-true s.host h is) ∙ number) ∙ link_is w.sites x s found_it.there
 
-          side : (halves x).side ≡ s.link.controller.side
-          side = half_side (link_to w.sites x) (comes_to h comes x) ∙ ap (λ (l : Link). l.controller.side) (link_is w.sites x s found_it.there)
+          side : (near_ends x).side ≡ s.link.controller.side
+          side = near_end_side (link_to w.sites x) (comes_to h comes x) ∙ ap (λ (l : Link). l.controller.side) (link_is w.sites x s found_it.there)
 
   near_tick : NoticesAreUp (record {
     memory = after_planned (steps TimePasses (work_of r w.memory.plan (λ h. (link_to w.sites h).controller) [])).writes w.memory;
@@ -238,8 +238,8 @@ module _ (w : NodeWorld) (r : Running) (runs : w.controller ≡ Some r) (has : H
     }) w.sites;
   })
   near_tick = runs_up (map f w.sites) k one where
-    halves : ℕ → NumberedEnd
-    halves n = (link_to w.sites n).controller
+    near_ends : ℕ → NumberedEnd
+    near_ends n = (link_to w.sites n).controller
 
     k : Work
     k = steps TimePasses (work_of r w.memory.plan (λ h. (link_to w.sites h).controller) [])
@@ -252,9 +252,9 @@ module _ (w : NodeWorld) (r : Running) (runs : w.controller ≡ Some r) (has : H
 
     one : (x : ℕ) (p : Port) → k.cut ≡ false → port_at k.ports x ≡ Some p → is_some p.desk.notice ≡ true
         → (link_to (map f w.sites) x).controller.side.shdlc.phase ≡ Up
-    one x p z here some = by_site (site_there halves r.desks w.sites x came.start has.ends came.here) where
-      came : CameUp r w.memory.plan halves [] x (phase (link_to w.sites x) x GoesOut)
-      came = tick_up r w.memory.plan halves [] has.number ups x p (link_to w.sites x) (turns_at k x) here some refl
+    one x p z here some = by_site (site_there near_ends r.desks w.sites x came.start has.ends came.here) where
+      came : CameUp r w.memory.plan near_ends [] x (phase (link_to w.sites x) x GoesOut)
+      came = tick_up r w.memory.plan near_ends [] has.number ups x p (link_to w.sites x) (turns_at k x) here some refl
 
       by_site : HasSite w.sites x → (link_to (map f w.sites) x).controller.side.shdlc.phase ≡ Up
       by_site found_it =
@@ -393,19 +393,19 @@ boots_up n w a = by_plan (cases_Bool (fails_within (length (boot_writes (memory_
 -- ## Losses
 
 -- an end whose errors were counted is as it was
-counted : (halves : ℕ → NumberedEnd) (h : ℕ) (desks : List Desk) (x : ℕ) → OnFirst IsNoticedUp (port_at (ports_of halves desks) x)
-    → OnFirst IsNoticedUp (port_at (ports_of halves (with_error h desks)) x)
-counted halves h [] x a = tt
-counted halves h (d ∷ desks) x a = by_error (eqb d.host h) (cases_Bool (eqb d.host x)) (counted halves h desks x) where
+counted : (near_ends : ℕ → NumberedEnd) (h : ℕ) (desks : List Desk) (x : ℕ) → OnFirst IsNoticedUp (port_at (ports_of near_ends desks) x)
+    → OnFirst IsNoticedUp (port_at (ports_of near_ends (with_error h desks)) x)
+counted near_ends h [] x a = tt
+counted near_ends h (d ∷ desks) x a = by_error (eqb d.host h) (cases_Bool (eqb d.host x)) (counted near_ends h desks x) where
   more : Desk → Desk
   more c = record c { errors = min 65535 (c.errors + 1) }
 
   by_error : (b : Bool) → (eqb d.host x ≡ true) ⊎ (eqb d.host x ≡ false)
-      → (OnFirst IsNoticedUp (port_at (ports_of halves desks) x) → OnFirst IsNoticedUp (port_at (ports_of halves (with_error h desks)) x))
-      → OnFirst IsNoticedUp (port_at (port_for (halves (changed_if b more d).host) (changed_if b more d) ∷ ports_of halves (with_error h desks)) x)
-  by_error true (inl is) later = let c : IsNoticedUp (port_for (halves d.host) (more d)) = rw is at a in rw is c
+      → (OnFirst IsNoticedUp (port_at (ports_of near_ends desks) x) → OnFirst IsNoticedUp (port_at (ports_of near_ends (with_error h desks)) x))
+      → OnFirst IsNoticedUp (port_at (port_for (near_ends (changed_if b more d).host) (changed_if b more d) ∷ ports_of near_ends (with_error h desks)) x)
+  by_error true (inl is) later = let c : IsNoticedUp (port_for (near_ends d.host) (more d)) = rw is at a in rw is c
   by_error true (inr off) later = rw off (later (rw off at a))
-  by_error false (inl is) later = let c : IsNoticedUp (port_for (halves d.host) d) = rw is at a in rw is c
+  by_error false (inl is) later = let c : IsNoticedUp (port_for (near_ends d.host) d) = rw is at a in rw is c
   by_error false (inr off) later = rw off (later (rw off at a))
 
 counts_up : (sites : List Site) (why : Loss) (h : ℕ) (o : Option Running) → IfNoticedUp sites o → IfNoticedUp sites (counts why h o)

@@ -27,7 +27,7 @@ use Rattle.node_machine.specs.Controller.{is_command_message}
 use Rattle.node_machine.specs.Carrying.{port_at}
 use Rattle.node_machine.specs.Node.{input_at, has_come, steps, begins_with, found, new_desk}
 use Rattle.node_machine.specs.Node.NodeInput.{AtEnd, TimePasses}
-use Rattle.node_world.specs.World.{Site, ending_of, runs_on, sending, beginning, host_cut, turns_at, input_of, half_in, arrival, wires_for, port_for, work_of, frames_noted, host_work, after_host, host_ticks}
+use Rattle.node_world.specs.World.{Site, ending_of, runs_on, sending, beginning, host_cut, turns_at, input_of, near_end_in, arrival, wires_for, port_for, work_of, frames_noted, host_work, after_host, host_ticks}
 use Rattle.node_world.specs.NodeFilters.{order_in}
 use Rattle.node_links.specs.Notices.{IsComing}
 use Rattle.node_links.proofs.Noticing.{turn-phase}
@@ -105,8 +105,8 @@ comes_outside l Stops i e = let is : Stop ≡ i = cc in subst IsComing is tt
 comes_outside l NoInput i e = let z : None ≡ Some i = e in absurd (cc z)
 
 -- hearing of the number of an RSET leaves the machine of an end
-pub half_side : (l : Link) (comes : Comes) → (half_in l comes).side ≡ l.controller.side
-half_side l NextFrame = go l.to_controller where
+pub near_end_side : (l : Link) (comes : Comes) → (near_end_in l comes).side ≡ l.controller.side
+near_end_side l NextFrame = go l.to_controller where
   first : List OnWire → NumberedEnd
   first [] = l.controller
   first (x ∷ xs) = record l.controller { took = Rattle.session_laws.specs.Sessions.took_with l.controller.took x }
@@ -114,22 +114,22 @@ half_side l NextFrame = go l.to_controller where
   go : (xs : List OnWire) → (first xs).side ≡ l.controller.side
   go [] = refl
   go (x ∷ xs) = refl
-half_side l (AsksReset window) = refl
-half_side l (Starts value) = refl
-half_side l Stops = refl
-half_side l NoInput = refl
+near_end_side l (AsksReset window) = refl
+near_end_side l (Starts value) = refl
+near_end_side l Stops = refl
+near_end_side l NoInput = refl
 
 -- ## A host that runs
 
 module _ (t : List Entry) (s : Site) (host : IsHost s.host) (r : Running) (so : HostRuns s.host s.link r) (read : order_in t s.host ≡ r.core.command) where
   -- its step begins, over what is noted first
-  begun_stands : (comes : Comes) (half : NumberedEnd) (es : List Entry) → half.side ≡ s.link.host.side → ((c : Option (List ℕ)) → reads s.host es c ≡ c)
-      → Runs s.host host t half.side.shdlc.phase (work_of r s.memory.plan (λ k. half) es)
-  begun_stands comes half es side silent = record {
+  begun_stands : (comes : Comes) (near_end : NumberedEnd) (es : List Entry) → near_end.side ≡ s.link.host.side → ((c : Option (List ℕ)) → reads s.host es c ≡ c)
+      → Runs s.host host t near_end.side.shdlc.phase (work_of r s.memory.plan (λ k. near_end) es)
+  begun_stands comes near_end es side silent = record {
     on = refl;
     node = so.number;
-    port = port_for half so.desk;
-    is = ap (map (λ (d : Desk). port_for half d)) so.desks_are;
+    port = port_for near_end so.desk;
+    is = ap (map (λ (d : Desk). port_for near_end d)) so.desks_are;
     its = record { host = so.host; no_notice = so.no_notice; up = λ some. ap (λ (e : LinkEnd). e.shdlc.phase) side ∙ so.up some };
     phase = refl;
     short = so.short;
@@ -191,19 +191,19 @@ comes_reads t s r comes i host reads_so node input =
       k : Work
       k = host_work s r comes (steps (AtEnd s.host i))
 
-      half : NumberedEnd
-      half = half_in (exchanged s.link) comes
+      near_end : NumberedEnd
+      near_end = near_end_in (exchanged s.link) comes
 
       so : HostRuns s.host s.link r
       so = subst (IfHostRuns s.host s.link) node reads_so.runs
 
       begun : Work
-      begun = work_of r s.memory.plan (λ n. half) (entries_for s.host (arrival Host (exchanged s.link) comes))
+      begun = work_of r s.memory.plan (λ n. near_end) (entries_for s.host (arrival Host (exchanged s.link) comes))
 
-      first : Runs s.host host t half.side.shdlc.phase begun
+      first : Runs s.host host t near_end.side.shdlc.phase begun
       first =
-          begun_stands t s host r so (reads_so.order ∙ ap order_of node) comes half (entries_for s.host (arrival Host (exchanged s.link) comes))
-          (half_side (exchanged s.link) comes) (arrival_read s.host Host s.host (exchanged s.link) comes)
+          begun_stands t s host r so (reads_so.order ∙ ap order_of node) comes near_end (entries_for s.host (arrival Host (exchanged s.link) comes))
+          (near_end_side (exchanged s.link) comes) (arrival_read s.host Host s.host (exchanged s.link) comes)
 
       now : LinkState
       now = (after_input s.link.host.side i).shdlc.phase
@@ -215,15 +215,15 @@ comes_reads t s r comes i host reads_so node input =
       stands : Stands s.host host t now k
       stands =
           subst (λ n. Stands s.host host t n k) (came first.port first.its.host (port_side first))
-          (steps_stand s.host host t half.side.shdlc.phase (AtEnd s.host i) begun (comes_outside (exchanged s.link) comes i input) first
+          (steps_stand s.host host t near_end.side.shdlc.phase (AtEnd s.host i) begun (comes_outside (exchanged s.link) comes i input) first
           (port_fresh first)) where
-            only : (f : Runs s.host host t half.side.shdlc.phase begun) → port_for half so.desk ≡ f.port
-            only f = let both : port_for half so.desk ∷ [] ≡ f.port ∷ [] = sym (ap (map (λ (d : Desk). port_for half d)) so.desks_are) ∙ f.is in cc
+            only : (f : Runs s.host host t near_end.side.shdlc.phase begun) → port_for near_end so.desk ≡ f.port
+            only f = let both : port_for near_end so.desk ∷ [] ≡ f.port ∷ [] = sym (ap (map (λ (d : Desk). port_for near_end d)) so.desks_are) ∙ f.is in cc
 
-            port_side : (f : Runs s.host host t half.side.shdlc.phase begun) → f.port.side ≡ s.link.host.side
-            port_side f = ap (λ (p : Port). p.side) (sym (only f)) ∙ half_side (exchanged s.link) comes
+            port_side : (f : Runs s.host host t near_end.side.shdlc.phase begun) → f.port.side ≡ s.link.host.side
+            port_side f = ap (λ (p : Port). p.side) (sym (only f)) ∙ near_end_side (exchanged s.link) comes
 
-            port_fresh : (f : Runs s.host host t half.side.shdlc.phase begun) → (f.port.ended ≡ false) × (f.port.late ≡ false)
+            port_fresh : (f : Runs s.host host t near_end.side.shdlc.phase begun) → (f.port.ended ≡ false) × (f.port.late ≡ false)
             port_fresh f = subst (λ (p : Port). (p.ended ≡ false) × (p.late ≡ false)) (only f) (refl, refl)
 
       phase : k.cut ≡ false → (after_host comes k s).link.host.side.shdlc.phase ≡ now

@@ -20,7 +20,7 @@ use Rattle.node_machine.specs.Parts.{Desk, Running, Port, Work}
 use Rattle.node_machine.specs.Carrying.{changed_if, port_at}
 use Rattle.node_machine.specs.Node.{steps}
 use Rattle.node_machine.specs.Node.NodeInput.{AtEnd}
-use Rattle.node_world.specs.World.{NodeWorld, Site, site_at, with_site, link_to, ending_of, runs_on, turns_at, input_of, half_in, arrival, wires_for, port_for, work_of, frames_noted, comes_to, controller_work, link_after_controller, controller_does, host_work, after_host, host_does, comes_at, activates, sending, beginning, end_c, end_h}
+use Rattle.node_world.specs.World.{NodeWorld, Site, site_at, with_site, link_to, ending_of, runs_on, turns_at, input_of, near_end_in, arrival, wires_for, port_for, work_of, frames_noted, comes_to, controller_work, link_after_controller, controller_does, host_work, after_host, host_does, comes_at, activates, sending, beginning, end_c, end_h}
 use Rattle.node_links.proofs.Ends.{here_host}
 use Rattle.kept_laws.specs.Hosts.{AreDifferent, AreHosts}
 use Rattle.kept_laws.proofs.Sites.{site_found, hosts_same, hosts_with}
@@ -106,13 +106,13 @@ module _ (t es : List Entry) (h : ℕ) (f : Site → Site) (silent : (k : ℕ) �
 -- ## Nodes
 
 -- a controller begins a step away from each host
-pub controller_away : (r : Running) → r.core.node ≡ 0 → (k : ℕ) (host : IsHost k) (plan : Option Plan) (halves : ℕ → NumberedEnd) (es : List Entry)
+pub controller_away : (r : Running) → r.core.node ≡ 0 → (k : ℕ) (host : IsHost k) (plan : Option Plan) (near_ends : ℕ → NumberedEnd) (es : List Entry)
     → AreSilent k es
-    → IsAway k 0 (none_zero k host) Controller (work_of r plan halves es)
-controller_away r number k host plan halves es silent = record {
+    → IsAway k 0 (none_zero k host) Controller (work_of r plan near_ends es)
+controller_away r number k host plan near_ends es silent = record {
   number = number;
   side = ap (λ m. cond (eqb m 0) Controller Host) number;
-  ends = all_ends (Away k Controller) (λ d. port_for (halves d.host) d) (λ d. refl) r.desks (λ d. near_away k d.host);
+  ends = all_ends (Away k Controller) (λ d. port_for (near_ends d.host) d) (λ d. refl) r.desks (λ d. near_away k d.host);
   silent = silent;
 }
 
@@ -130,12 +130,12 @@ runs_zero k e = go k.cut refl where
 
 -- a host begins a step away from each other one
 pub host_away : (h : ℕ) → IsHost h → (link : Link) (r : Running) → HostRuns h link r
-    → (k : ℕ) (other : eqb h k ≡ false) (plan : Option Plan) (half : NumberedEnd)
-    (es : List Entry) → AreSilent k es → IsAway k h other Host (work_of r plan (λ n. half) es)
-host_away h host link r so k other plan half es silent = record {
+    → (k : ℕ) (other : eqb h k ≡ false) (plan : Option Plan) (near_end : NumberedEnd)
+    (es : List Entry) → AreSilent k es → IsAway k h other Host (work_of r plan (λ n. near_end) es)
+host_away h host link r so k other plan near_end es silent = record {
   number = so.number;
   side = ap (λ b. cond b Controller Host) (ne_eqb r.core.node 0 (λ e. omega (arith, e, so.number, host.0)));
-  ends = subst (λ ds. AllByRecursion (λ (p : Port). Away k Host p.desk.host) (map (λ (d : Desk). port_for half d) ds)) (sym so.desks_are)
+  ends = subst (λ ds. AllByRecursion (λ (p : Port). Away k Host p.desk.host) (map (λ (d : Desk). port_for near_end d) ds)) (sym so.desks_are)
       (subst (Away k Host) (sym so.host) (far_away k h other), tt);
   silent = silent;
 }
@@ -180,12 +180,12 @@ module _ (hosts : List ℕ) (are : AreHosts hosts) where
       on_is e = rw e refl
 
       begun : Work
-      begun = work_of r w.memory.plan (λ n. half_in (link_to w.sites n) (comes_to h comes n)) (entries_for h (arrival Controller (link_to w.sites h) comes))
+      begun = work_of r w.memory.plan (λ n. near_end_in (link_to w.sites n) (comes_to h comes n)) (entries_for h (arrival Controller (link_to w.sites h) comes))
 
       away : (n : ℕ) (host : IsHost n) → IsAway n 0 (none_zero n host) Controller k
       away n host =
           steps_away n 0 (none_zero n host) Controller (AtEnd h i) begun
-          (controller_away r zero n host w.memory.plan (λ n. half_in (link_to w.sites n) (comes_to h comes n)) (entries_for h (arrival Controller
+          (controller_away r zero n host w.memory.plan (λ n. near_end_in (link_to w.sites n) (comes_to h comes n)) (entries_for h (arrival Controller
           (link_to w.sites h) comes)) (arrival_silent n Controller h (link_to w.sites h) comes))
 
   -- something comes to the end of a host
@@ -239,9 +239,9 @@ module _ (hosts : List ℕ) (are : AreHosts hosts) where
 
       away : (n : ℕ) (off : eqb h n ≡ false) → IsAway n x.host (ap (λ m. eqb m n) same ∙ off) Host k
       away n off =
-          steps_away n x.host (ap (λ m. eqb m n) same ∙ off) Host (AtEnd h i) (work_of r x.memory.plan (λ m. half_in (exchanged x.link) comes) (entries_for
+          steps_away n x.host (ap (λ m. eqb m n) same ∙ off) Host (AtEnd h i) (work_of r x.memory.plan (λ m. near_end_in (exchanged x.link) comes) (entries_for
           x.host (arrival Host (exchanged x.link) comes)))
-          (host_away x.host host x.link r (subst (IfHostRuns x.host x.link) e keeps.runs) n (ap (λ m. eqb m n) same ∙ off) x.memory.plan (half_in
+          (host_away x.host host x.link r (subst (IfHostRuns x.host x.link) e keeps.runs) n (ap (λ m. eqb m n) same ∙ off) x.memory.plan (near_end_in
           (exchanged x.link) comes) (entries_for x.host (arrival Host (exchanged x.link) comes)) (arrival_silent n Host x.host (exchanged x.link) comes))
 
     by_site : (o : Option Site) → site_at w.sites h ≡ o → Fine (host_does w h comes f)

@@ -26,7 +26,7 @@ use Rattle.node_machine.specs.Carrying.{changed_if}
 use Rattle.node_machine.specs.Controller.{is_command_message}
 use Rattle.node_machine.specs.Node.{steps, begins_with, found, boot_writes}
 use Rattle.node_machine.specs.Node.NodeInput.{AtEnd}
-use Rattle.node_world.specs.World.{Site, NodeWorld, Happening, site_at, with_site, link_to, input_of, half_in, arrival, work_of, ending_of, turns_at, runs_on, comes_to, controller_work, link_after_controller, after_controller, controller_does, host_work, after_host, host_does, frames_noted, wires_for, controller_cut, host_cut, loses_power_at, memory_at, with_memory, with_node, links_of, boots, counts, frame_lost, sending, beginning, comes_at, end_c, end_h, activates, world_step}
+use Rattle.node_world.specs.World.{Site, NodeWorld, Happening, site_at, with_site, link_to, input_of, near_end_in, arrival, work_of, ending_of, turns_at, runs_on, comes_to, controller_work, link_after_controller, after_controller, controller_does, host_work, after_host, host_does, frames_noted, wires_for, controller_cut, host_cut, loses_power_at, memory_at, with_memory, with_node, links_of, boots, counts, frame_lost, sending, beginning, comes_at, end_c, end_h, activates, world_step}
 use Rattle.node_world.specs.World.Happening.{Boots, IsCut, Gives, Inits, Takes, Loses, Ticks, Resets, Activates, Arms}
 use Rattle.kept_laws.specs.Hosts.{AreDifferent}
 use Rattle.kept_laws.proofs.Sites.{hosts_same, changed_host}
@@ -182,10 +182,10 @@ controller_goes w k comes i a q = go w.controller a.controller
     go (Some r) n =
         let v : Work = controller_work w r k comes (steps (AtEnd k i)) in
         let t : List Entry = (after_controller w k comes v).1 in
-        let halves : ℕ → NumberedEnd = λ j. half_in (link_to w.sites j) (comes_to k comes j) in
+        let near_ends : ℕ → NumberedEnd = λ j. near_end_in (link_to w.sites j) (comes_to k comes j) in
         let kept : Keeps 0 (hosts_in w.sites) v =
-        steps_keep 0 (hosts_in w.sites) k i (work_of r w.memory.plan halves (entries_for k (arrival Controller (link_to w.sites k) comes)))
-        (record { number = n.number; ends = ends_same halves r.desks ∙ n.ends }) in
+        steps_keep 0 (hosts_in w.sites) k i (work_of r w.memory.plan near_ends (entries_for k (arrival Controller (link_to w.sites k) comes)))
+        (record { number = n.number; ends = ends_same near_ends r.desks ∙ n.ends }) in
         goes_map w (after_planned v.writes w.memory) (runs_on v) (link_after_controller k comes v) (λ s. refl) t a (runs_keep 0 (hosts_in w.sites) v kept)
         (λ s node. node)
         (λ h s found.
@@ -223,8 +223,8 @@ module _ (w : NodeWorld) (k : ℕ) (comes : Comes) (f : Work → Work) (a : IsOr
           node_is s.host (s.host ∷ []) s.node r (site_is (λ (x : Site). IfItRuns x.host (x.host ∷ []) x.node) w.sites k s a.nodes found) q in
           let P : ℕ → Type 0 = λ n. HasEnds n (n ∷ []) r in
           let here : HasEnds k (k ∷ []) r = subst P number node in
-          let halves : ℕ → NumberedEnd = λ j. half_in (exchanged s.link) comes in
-          let kept : Keeps k (k ∷ []) v = keeps _ (record { number = here.number; ends = ends_same halves r.desks ∙ here.ends }) in
+          let near_ends : ℕ → NumberedEnd = λ j. near_end_in (exchanged s.link) comes in
+          let kept : Keeps k (k ∷ []) v = keeps _ (record { number = here.number; ends = ends_same near_ends r.desks ∙ here.ends }) in
           let R : ℕ → Type 0 = λ n. IfItRuns n (n ∷ []) (runs_on v) in
           let T : List Entry → Type 0 = λ z. TellOf k s.link (AtHost (Step comes (turns_at v s.host) (ending_of v))) z in
           goes_site w w.memory w.controller k (after_host comes v) t (λ x. refl) a a.controller

@@ -19,7 +19,7 @@ use Rattle.node_machine.specs.Parts.{Desk, Running, Port, Work, Deed}
 use Rattle.node_machine.specs.Carrying.{port_at}
 use Rattle.node_machine.specs.Node.{steps, begins_with}
 use Rattle.node_machine.specs.Node.NodeInput.{AtEnd}
-use Rattle.node_world.specs.World.{Site, NodeWorld, site_at, link_to, input_of, half_in, arrival, wires_for, port_for, work_of, ending_of, turns_at, frames_noted, comes_to, controller_work, after_controller, host_work}
+use Rattle.node_world.specs.World.{Site, NodeWorld, site_at, link_to, input_of, near_end_in, arrival, wires_for, port_for, work_of, ending_of, turns_at, frames_noted, comes_to, controller_work, after_controller, host_work}
 use Rattle.kept_laws.specs.Books.{hosts_of_ends}
 use Rattle.kept_laws.specs.Hosts.{AreDifferent}
 use Rattle.node_telling.specs.Telling.{of_link, TellOf, HasEnds, hosts_in, IsOrderly}
@@ -54,23 +54,23 @@ link_is sites h s q = ap (λ o. option_map_or (λ (x : Site). x.link) o (new_lin
 
 -- the ends of a node as a step begins
 abbrev pub ports_for : (ℕ → NumberedEnd) → List Desk → List Port
-ports_for halves desks = map (λ (d : Desk). port_for (halves d.host) d) desks
+ports_for near_ends desks = map (λ (d : Desk). port_for (near_ends d.host) d) desks
 
-pub hosts_same : (halves : ℕ → NumberedEnd) (desks : List Desk) → hosts_of_ends (ports_for halves desks) ≡ map (λ (d : Desk). d.host) desks
-hosts_same halves [] = refl
-hosts_same halves (d ∷ desks) = ap (λ xs. d.host ∷ xs) (hosts_same halves desks)
+pub hosts_same : (near_ends : ℕ → NumberedEnd) (desks : List Desk) → hosts_of_ends (ports_for near_ends desks) ≡ map (λ (d : Desk). d.host) desks
+hosts_same near_ends [] = refl
+hosts_same near_ends (d ∷ desks) = ap (λ xs. d.host ∷ xs) (hosts_same near_ends desks)
 
 -- one of them is on the link with a host
-pub record Stands (halves : ℕ → NumberedEnd) (desks : List Desk) (h : ℕ) : Type 0 where
+pub record Stands (near_ends : ℕ → NumberedEnd) (desks : List Desk) (h : ℕ) : Type 0 where
   pub desk : Desk
-  pub here : port_at (ports_for halves desks) h ≡ Some (port_for (halves h) desk)
+  pub here : port_at (ports_for near_ends desks) h ≡ Some (port_for (near_ends h) desk)
 
-pub stands : (halves : ℕ → NumberedEnd) (desks : List Desk) (sites : List Site) (h : ℕ) (s : Site) → map (λ (d : Desk). d.host) desks ≡ hosts_in sites
-    → site_at sites h ≡ Some s → Stands halves desks h
-stands halves [] [] h s e q = absurd (cc q)
-stands halves (d ∷ desks) [] h s e q = absurd (cc q)
-stands halves [] (x ∷ sites) h s e q = absurd (cc e)
-stands halves (d ∷ desks) (x ∷ sites) h s e q = go (x.host == h) refl (stands halves desks sites h s)
+pub stands : (near_ends : ℕ → NumberedEnd) (desks : List Desk) (sites : List Site) (h : ℕ) (s : Site) → map (λ (d : Desk). d.host) desks ≡ hosts_in sites
+    → site_at sites h ≡ Some s → Stands near_ends desks h
+stands near_ends [] [] h s e q = absurd (cc q)
+stands near_ends (d ∷ desks) [] h s e q = absurd (cc q)
+stands near_ends [] (x ∷ sites) h s e q = absurd (cc e)
+stands near_ends (d ∷ desks) (x ∷ sites) h s e q = go (x.host == h) refl (stands near_ends desks sites h s)
   where
     one : d.host ≡ x.host
     one = cc
@@ -78,14 +78,14 @@ stands halves (d ∷ desks) (x ∷ sites) h s e q = go (x.host == h) refl (stand
     others : map (λ (d : Desk). d.host) desks ≡ hosts_in sites
     others = cc
 
-    go : (b : Bool) → (x.host == h) ≡ b → (map (λ (d : Desk). d.host) desks ≡ hosts_in sites → site_at sites h ≡ Some s → Stands halves desks h)
-        → Stands halves (d ∷ desks) h
+    go : (b : Bool) → (x.host == h) ≡ b → (map (λ (d : Desk). d.host) desks ≡ hosts_in sites → site_at sites h ≡ Some s → Stands near_ends desks h)
+        → Stands near_ends (d ∷ desks) h
     go true f later =
         let found : (d.host == h) ≡ true = ap (λ n. n == h) one ∙ f in
-        record { desk = d; here = rw found (ap (λ n. Some (port_for (halves n) d)) (eqb-true d.host h found)) }
+        record { desk = d; here = rw found (ap (λ n. Some (port_for (near_ends n) d)) (eqb-true d.host h found)) }
     go false f later =
         let passed : (d.host == h) ≡ false = ap (λ n. n == h) one ∙ f in
-        let rest : Stands halves desks h = later others (rw f at q) in
+        let rest : Stands near_ends desks h = later others (rw f at q) in
         record { desk = rest.desk; here = rw passed rest.here }
 
 pub is_step : (comes : Comes) (i : LinkInput) → IsStep comes (Some i)
@@ -107,7 +107,7 @@ module _ (w : NodeWorld) (r : Running) (k : ℕ) (comes : Comes) (h : ℕ) (s : 
   link = link_is w.sites h s found
 
   abbrev Start : Work
-  Start = work_of r w.memory.plan (λ j. half_in (link_to w.sites j) (comes_to k comes j)) (entries_for k (arrival Controller (link_to w.sites k) comes))
+  Start = work_of r w.memory.plan (λ j. near_end_in (link_to w.sites j) (comes_to k comes j)) (entries_for k (arrival Controller (link_to w.sites k) comes))
 
   arrives : of_link h (entries_for k (arrival Controller (link_to w.sites k) comes))
       ≡ of_link h (entries_for h (arrival Controller s.link (comes_to k comes h)))
@@ -123,18 +123,18 @@ module _ (w : NodeWorld) (r : Running) (k : ℕ) (comes : Comes) (h : ℕ) (s : 
 
   pub opened : Opening h Controller s.link (comes_to k comes h) Start
   opened =
-      let halves : ℕ → NumberedEnd = λ j. half_in (link_to w.sites j) (comes_to k comes j) in
-      let one : Stands halves r.desks h = stands halves r.desks w.sites h s node.ends found in
+      let near_ends : ℕ → NumberedEnd = λ j. near_end_in (link_to w.sites j) (comes_to k comes j) in
+      let one : Stands near_ends r.desks h = stands near_ends r.desks w.sites h s node.ends found in
       record {
         side = ap (λ (n : ℕ). if n == 0 then Controller else Host) node.number;
-        port = port_for (half_in (link_to w.sites h) (comes_to k comes h)) one.desk;
+        port = port_for (near_end_in (link_to w.sites h) (comes_to k comes h)) one.desk;
         here = one.here;
-        is = ap (λ l. (half_in l (comes_to k comes h)).side) link;
-        session = ap (λ l. number_of (half_in l (comes_to k comes h))) link;
+        is = ap (λ l. (near_end_in l (comes_to k comes h)).side) link;
+        session = ap (λ l. number_of (near_end_in l (comes_to k comes h))) link;
         turns = refl;
         late = refl;
         told = arrives;
-        different = subst AreDifferent (sym (hosts_same halves r.desks ∙ node.ends)) orderly.different;
+        different = subst AreDifferent (sym (hosts_same near_ends r.desks ∙ node.ends)) orderly.different;
       }
 
   controller_closed : (o : Option LinkInput) (v : Work) → input_of s.link (comes_to k comes h) ≡ o → IsStep (comes_to k comes h) o
@@ -198,23 +198,23 @@ other_power k h host q x = rw (host, q) refl
 
 module _ (s : Site) (r : Running) (comes : Comes) (host : (s.host == 0) ≡ false) (node : HasEnds s.host (s.host ∷ []) r) where
   abbrev pub HostStart : Work
-  HostStart = work_of r s.memory.plan (λ j. half_in (exchanged s.link) comes) (entries_for s.host (arrival Host (exchanged s.link) comes))
+  HostStart = work_of r s.memory.plan (λ j. near_end_in (exchanged s.link) comes) (entries_for s.host (arrival Host (exchanged s.link) comes))
 
   pub host_opened : Opening s.host Host (exchanged s.link) comes HostStart
   host_opened =
       let here : site_at (s ∷ []) s.host ≡ Some s = let same : (s.host == s.host) ≡ true = same_number s.host in rw same refl in
-      let halves : ℕ → NumberedEnd = λ j. half_in (exchanged s.link) comes in
-      let one : Stands halves r.desks s.host = stands halves r.desks (s ∷ []) s.host s node.ends here in
+      let near_ends : ℕ → NumberedEnd = λ j. near_end_in (exchanged s.link) comes in
+      let one : Stands near_ends r.desks s.host = stands near_ends r.desks (s ∷ []) s.host s node.ends here in
       record {
         side = ap (λ (n : ℕ). if n == 0 then Controller else Host) node.number ∙ ap (λ (b : Bool). if b then Controller else Host) host;
-        port = port_for (half_in (exchanged s.link) comes) one.desk;
+        port = port_for (near_end_in (exchanged s.link) comes) one.desk;
         here = one.here;
         is = refl;
         session = refl;
         turns = refl;
         late = refl;
         told = refl;
-        different = subst AreDifferent (sym (hosts_same halves r.desks ∙ node.ends)) (tt, tt);
+        different = subst AreDifferent (sym (hosts_same near_ends r.desks ∙ node.ends)) (tt, tt);
       }
 
   host_closed : (o : Option LinkInput) (v : Work) → input_of (exchanged s.link) comes ≡ o → IsStep comes o
@@ -229,7 +229,8 @@ module _ (s : Site) (r : Running) (comes : Comes) (host : (s.host == 0) ≡ fals
   host_away h q =
       record { none = none r.desks node.ends; told = of_other s.host h (arrival Host (exchanged s.link) comes) q }
     where
-      none : (desks : List Desk) → map (λ (d : Desk). d.host) desks ≡ s.host ∷ [] → port_at (ports_for (λ j. half_in (exchanged s.link) comes) desks) h ≡ None
+      none : (desks : List Desk) → map (λ (d : Desk). d.host) desks ≡ s.host ∷ []
+          → port_at (ports_for (λ j. near_end_in (exchanged s.link) comes) desks) h ≡ None
       none [] e = refl
       none (d ∷ []) e =
           let one : d.host ≡ s.host = cc in

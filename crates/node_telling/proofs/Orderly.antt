@@ -35,12 +35,12 @@ tick_node x a = go x.node a
     go : (o : Option Running) → IfItRuns x.host (x.host ∷ []) o → IfItRuns x.host (x.host ∷ []) (by o).0.node
     go None b = a
     go (Some n) b =
-        let halves : ℕ → NumberedEnd = λ j. x.link.host in
-        let first : Keeps x.host (x.host ∷ []) (work_of n x.memory.plan halves []) = record {
+        let near_ends : ℕ → NumberedEnd = λ j. x.link.host in
+        let first : Keeps x.host (x.host ∷ []) (work_of n x.memory.plan near_ends []) = record {
           number = b.number;
-          ends = hosts_same halves n.desks ∙ b.ends;
+          ends = hosts_same near_ends n.desks ∙ b.ends;
         } in
-        runs_keep x.host (x.host ∷ []) (host_tick x n) (tick_keeps x.host (x.host ∷ []) (work_of n x.memory.plan halves []) first)
+        runs_keep x.host (x.host ∷ []) (host_tick x n) (tick_keeps x.host (x.host ∷ []) (work_of n x.memory.plan near_ends []) first)
 
 pub hosts_ticked : (sites : List Site) → hosts_in (hosts_tick sites).0 ≡ hosts_in sites
 hosts_ticked [] = refl
@@ -83,21 +83,21 @@ ticks_orderly w a =
       k.entries ++ flat_map (λ (s : Site). frames_noted Controller s.host s.link k) old.sites,
     )
 
-    halves : ℕ → NumberedEnd
-    halves j = (link_to old.sites j).controller
+    near_ends : ℕ → NumberedEnd
+    near_ends j = (link_to old.sites j).controller
 
     by : Option Running → NodeWorld × List Entry
     by None = (record old { sites = map (λ (s : Site). record s { link = ticks_at_controller s.link [] GoesOut }) old.sites }, [])
-    by (Some r) = after_work (steps TimePasses (work_of r old.memory.plan halves []))
+    by (Some r) = after_work (steps TimePasses (work_of r old.memory.plan near_ends []))
 
     go : (o : Option Running) → IfItRuns 0 (hosts_in old.sites) o → IsOrderly (by o).0
     go None n =
         orderly_map old old.memory old.controller (λ (s : Site). record s { link = ticks_at_controller s.link [] GoesOut }) (λ x. refl) old_orderly
         old_orderly.controller (λ x m. m)
     go (Some r) n =
-        let begun : Work = work_of r old.memory.plan halves [] in
+        let begun : Work = work_of r old.memory.plan near_ends [] in
         let k : Work = steps TimePasses begun in
-        let first : Keeps 0 (hosts_in old.sites) begun = record { number = n.number; ends = hosts_same halves r.desks ∙ n.ends } in
+        let first : Keeps 0 (hosts_in old.sites) begun = record { number = n.number; ends = hosts_same near_ends r.desks ∙ n.ends } in
         orderly_map old (after_planned k.writes old.memory) (runs_on k)
         (λ (s : Site). record s { link = ticked_so s.link (is_late_at k s.host) (turns_at k s.host) (ending_of k) }) (λ x. refl) old_orderly
         (runs_keep 0 (hosts_in old.sites) k (tick_keeps 0 (hosts_in old.sites) begun first)) (λ x m. m)

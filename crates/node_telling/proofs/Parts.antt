@@ -11,7 +11,7 @@ use Rattle.message_link.specs.Links.Comes.{NextFrame, AsksReset, Starts, Stops, 
 use Rattle.link_entries.specs.Entries.{End as Side, Entry as Noted, far, told_of, turn_entries, pushed_out, wire_with, put_entries, puts_entries, ending_entries, rest_entries, left_after, step_entries, tick_entries}
 use Rattle.link_entries.specs.Entries.Entry.{Emit}
 use Rattle.history.specs.Steps.{entries_for}
-use Rattle.node_world.specs.World.{input_of, half_in, arrival, wires_for}
+use Rattle.node_world.specs.World.{input_of, near_end_in, arrival, wires_for}
 use Rattle.link_entries.proofs.Noting.{ended_number}
 
 -- ## Frames that go out
@@ -89,9 +89,9 @@ IsStep Stops (Some i) = Unit {0}
 abbrev pub parts_of : Side → Link → Comes → Option LinkInput → List Turn → Ending → List Noted
 parts_of who l comes o turns ending =
     arrival who l comes
-    ++ (told_coming who (half_in l comes) o
-    ++ (turn_entries who (number_of (half_in l comes)) (after_coming (half_in l comes).side o) turns
-    ++ ending_entries who (wires_for l comes) (turned (after_coming (half_in l comes).side o) turns) ending))
+    ++ (told_coming who (near_end_in l comes) o
+    ++ (turn_entries who (number_of (near_end_in l comes)) (after_coming (near_end_in l comes).side o) turns
+    ++ ending_entries who (wires_for l comes) (turned (after_coming (near_end_in l comes).side o) turns) ending))
 
 module _ (h : ℕ) (who : Side) (turns : List Turn) (ending : Ending) where
   abbrev IsParts : Comes → Option LinkInput → Link → Type 0
@@ -116,11 +116,11 @@ module _ (h : ℕ) (who : Side) (turns : List Turn) (ending : Ending) where
       let is : f ≡ i = cc in
       let b : Bool = is_some (ended_by l.controller.side f) in
       let m : Link = record l { to_controller = xs } in
-      let number : number_of (left_after k x xs).controller ≡ number_of (half_in k NextFrame) =
+      let number : number_of (left_after k x xs).controller ≡ number_of (near_end_in k NextFrame) =
       ap (λ z. max z (took_with l.controller.took x)) (emitted m b) in
       let all : IsParts NextFrame (Some f) k =
-      ap (λ z. entries_for h (arrival who k NextFrame ++ (told_of who (half_in k NextFrame) f ++ z)))
-      (rest_is who (left_after k x xs) k (number_of (half_in k NextFrame)) (after_input l.controller.side f) turns ending number
+      ap (λ z. entries_for h (arrival who k NextFrame ++ (told_of who (near_end_in k NextFrame) f ++ z)))
+      (rest_is who (left_after k x xs) k (number_of (near_end_in k NextFrame)) (after_input l.controller.side f) turns ending number
       (record { to_host = (ended_alike m b).to_host; resets = (ended_alike m b).resets })) in
       let P : LinkInput → Type 0 = λ j. IsParts NextFrame (Some j) k in
       subst P is all

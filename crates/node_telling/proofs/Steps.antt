@@ -14,7 +14,7 @@ use Rattle.node_machine.specs.Carrying.{own_side, port_at}
 use Rattle.node_machine.specs.Controller.{asked_at}
 use Rattle.node_machine.specs.Node.{NodeInput, input_at, has_come, told_at, all_come, is_over, is_forgotten, forgotten, forgets, all_owed, without_notice, after_sessions, synced, steps, begins_with}
 use Rattle.node_machine.specs.Node.NodeInput.{AtEnd}
-use Rattle.node_world.specs.World.{input_of, half_in, arrival, wires_for, ending_of, turns_at, frames_noted}
+use Rattle.node_world.specs.World.{input_of, near_end_in, arrival, wires_for, ending_of, turns_at, frames_noted}
 use Rattle.kept_laws.specs.Books.{hosts_of_ends}
 use Rattle.kept_laws.specs.Hosts.{AreDifferent}
 use Rattle.node_telling.specs.Telling.{of_link}
@@ -114,23 +114,23 @@ pub record Opening (h : ℕ) (who : Side) (l : Link) (comes : Comes) (w : Work) 
   pub side : own_side w.core ≡ who
   pub port : Port
   pub here : port_at w.ports h ≡ Some port
-  pub is : port.side ≡ (half_in l comes).side
-  pub session : port.session ≡ number_of (half_in l comes)
+  pub is : port.side ≡ (near_end_in l comes).side
+  pub session : port.session ≡ number_of (near_end_in l comes)
   pub late : port.late ≡ false
   pub turns : port.turns ≡ []
   pub told : of_link h w.entries ≡ of_link h (entries_for h (arrival who l comes))
   pub different : AreDifferent (hosts_of_ends w.ports)
 
 module _ (h : ℕ) (who : Side) (l : Link) (comes : Comes) (o : Option LinkInput) where
-  half : NumberedEnd
-  half = half_in l comes
+  near_end : NumberedEnd
+  near_end = near_end_in l comes
 
   abbrev pub before : List Entry
-  before = of_link h (entries_for h (arrival who l comes)) ++ of_link h (entries_for h (told_coming who (half_in l comes) o))
+  before = of_link h (entries_for h (arrival who l comes)) ++ of_link h (entries_for h (told_coming who (near_end_in l comes) o))
 
   -- what was done so far, where the notice of the end is late or not
   abbrev pub GoesLate : Bool → Work → Type 0
-  GoesLate late w = Account h who (number_of (half_in l comes)) (after_coming (half_in l comes).side o) before late w
+  GoesLate late w = Account h who (number_of (near_end_in l comes)) (after_coming (near_end_in l comes).side o) before late w
 
   abbrev pub Goes : Work → Type 0
   Goes w = GoesLate false w
@@ -174,7 +174,7 @@ module _ (h : ℕ) (who : Side) (l : Link) (comes : Comes) (o : Option LinkInput
       turns_are = (without_same left).turns ∙ ((forgets_same ports come).turns ∙ (come_turns p (input_at input p) ∙ a.turns))
 
       e : LinkEnd
-      e = after_coming (half_in l comes).side o
+      e = after_coming (near_end_in l comes).side o
 
       come_is : come.side ≡ e
       come_is = come_side p (input_at input p) ∙ (ap (after_coming p.side) q ∙ ap (λ z. after_coming z o) a.is)
@@ -183,14 +183,14 @@ module _ (h : ℕ) (who : Side) (l : Link) (comes : Comes) (o : Option LinkInput
       side_is = (without_same left).side ∙ ((forgets_same ports come).side ∙ (come_is ∙ ap (turned e) (sym turns_are)))
 
       -- what is noted as something comes
-      one : (x : Option LinkInput) → told_at w.core p x ≡ entries_for h (told_coming who (half_in l comes) x)
+      one : (x : Option LinkInput) → told_at w.core p x ≡ entries_for h (told_coming who (near_end_in l comes) x)
       one None = refl
       one (Some j) =
           ap (λ n. entries_for n (told (own_side w.core) p.session (report p.side j) (whole_acked (after_input p.side j)))) (eqb-true p.desk.host h
           (at_host w.ports h p a.here))
           ∙ (ap (λ z. entries_for h (told z p.session (report p.side j) (whole_acked (after_input p.side j)))) a.side
           ∙ (ap (λ n. entries_for h (told who n (report p.side j) (whole_acked (after_input p.side j)))) a.session
-          ∙ ap (λ z. entries_for h (told who (number_of (half_in l comes)) (report z j) (whole_acked (after_input z j)))) a.is))
+          ∙ ap (λ z. entries_for h (told who (number_of (near_end_in l comes)) (report z j) (whole_acked (after_input z j)))) a.is))
 
       others : (x : Port) → (x.desk.host == h) ≡ false → of_link h (told_at w.core x (input_at input x)) ≡ []
       others x z = go (input_at input x)
@@ -202,24 +202,24 @@ module _ (h : ℕ) (who : Side) (l : Link) (comes : Comes) (o : Option LinkInput
       notes : List Entry
       notes = flat_map (λ p. told_at w.core p (input_at input p)) w.ports
 
-      noted : of_link h notes ≡ of_link h (entries_for h (told_coming who (half_in l comes) o))
+      noted : of_link h notes ≡ of_link h (entries_for h (told_coming who (near_end_in l comes) o))
       noted =
           only (λ (x : Port). x.desk.host) (λ p. told_at w.core p (input_at input p)) h others w.ports p a.different a.here
           ∙ ap (of_link h) (ap (told_at w.core p) q ∙ one o)
 
-      told_is : of_link h (w.entries ++ notes) ≡ before ++ of_link h (entries_for h (turn_entries who (number_of (half_in l comes)) e last.turns))
+      told_is : of_link h (w.entries ++ notes) ≡ before ++ of_link h (entries_for h (turn_entries who (number_of (near_end_in l comes)) e last.turns))
       told_is =
           of-append h w.entries notes
           ∙ (ap (λ t. t ++ of_link h notes) a.told ∙ (ap (λ t. of_link h (entries_for h (arrival who l comes)) ++ t) noted
           ∙ (sym (append-nil before)
-          ∙ ap (λ ts. before ++ of_link h (entries_for h (turn_entries who (number_of (half_in l comes)) e ts))) (sym turns_are))))
+          ∙ ap (λ ts. before ++ of_link h (entries_for h (turn_entries who (number_of (near_end_in l comes)) e ts))) (sym turns_are))))
 
   pub stepped : (k : ℕ) (i : LinkInput) (w : Work) (a : Opening h who l comes w) → input_at (AtEnd k i) a.port ≡ o → Goes (steps (AtEnd k i) w)
   stepped k i w a q =
       let v : Work = all_come (AtEnd k i) w in
       let left : List Port = map (forgets v.ports) v.ports in
-      let n : ℕ = number_of (half_in l comes) in
-      let e : LinkEnd = after_coming (half_in l comes).side o in
+      let n : ℕ = number_of (near_end_in l comes) in
+      let e : LinkEnd = after_coming (near_end_in l comes).side o in
       rest Goes (note h who n e before false) (desk h who n e before false) (turns h who n e before false) (beside h who n e before false) (forgotten v.ports)
       (flat_map (synced w.core (AtEnd k i)) w.ports) (all_owed left)
       (record v { core = after_sessions v.core v.ports; ports = map without_notice left })
@@ -228,18 +228,18 @@ module _ (h : ℕ) (who : Side) (l : Link) (comes : Comes) (o : Option LinkInput
   -- nothing comes, and these deeds are done
   pub begun : (k : ℕ) (deeds : List Deed) (w : Work) → AreMute deeds → Opening h who l comes w → o ≡ None → Goes (begins_with k deeds w)
   begun k deeds w m a q =
-      let n : ℕ = number_of (half_in l comes) in
-      let e : LinkEnd = after_coming (half_in l comes).side o in
+      let n : ℕ = number_of (near_end_in l comes) in
+      let e : LinkEnd = after_coming (near_end_in l comes).side o in
       let first : Goes w = record {
         side = a.side;
         port = a.port;
         here = a.here;
         session = a.session;
         late_is = a.late;
-        is = a.is ∙ (sym (ap (after_coming (half_in l comes).side) q) ∙ ap (turned e) (sym a.turns));
+        is = a.is ∙ (sym (ap (after_coming (near_end_in l comes).side) q) ∙ ap (turned e) (sym a.turns));
         told = a.told
             ∙ (sym (append-nil (of_link h (entries_for h (arrival who l comes))))
-            ∙ (ap (λ x. of_link h (entries_for h (arrival who l comes)) ++ of_link h (entries_for h (told_coming who (half_in l comes) x))) (sym q)
+            ∙ (ap (λ x. of_link h (entries_for h (arrival who l comes)) ++ of_link h (entries_for h (told_coming who (near_end_in l comes) x))) (sym q)
             ∙ (sym (append-nil before) ∙ ap (λ ts. before ++ of_link h (entries_for h (turn_entries who n e ts))) (sym a.turns))));
       } in
       all_do Goes (note h who n e before false) (desk h who n e before false) (turns h who n e before false) (beside h who n e before false) k deeds w m first
@@ -248,8 +248,8 @@ module _ (h : ℕ) (who : Side) (l : Link) (comes : Comes) (o : Option LinkInput
   pub in_parts : (late : Bool) (w : Work) → GoesLate late w → of_link h w.entries ++ of_link h (frames_noted who h (wires_for l comes) w)
       ≡ of_link h (entries_for h (parts_of who l comes o (turns_at w h) (ending_of w)))
   in_parts late w a =
-      let n : ℕ = number_of (half_in l comes) in
-      let e : LinkEnd = after_coming (half_in l comes).side o in
+      let n : ℕ = number_of (near_end_in l comes) in
+      let e : LinkEnd = after_coming (near_end_in l comes).side o in
       let ts : List Turn = a.port.turns in
       let out : LinkEnd → List Noted = λ z. ending_entries who (wires_for l comes) z (ending_of w) in
       let frames : frames_noted who h (wires_for l comes) w ≡ entries_for h (out (turned e ts)) =
@@ -257,7 +257,7 @@ module _ (h : ℕ) (who : Side) (l : Link) (comes : Comes) (o : Option LinkInput
       let turns : turns_at w h ≡ ts = ap (λ z. option_map_or (λ (p : Port). p.turns) z []) a.here in
       ap (λ t. t ++ of_link h (frames_noted who h (wires_for l comes) w)) a.told
       ∙ (ap (λ t. (before ++ of_link h (entries_for h (turn_entries who n e ts))) ++ of_link h t) frames
-      ∙ (four h (arrival who l comes) (told_coming who (half_in l comes) o) (turn_entries who n e ts) (out (turned e ts))
+      ∙ (four h (arrival who l comes) (told_coming who (near_end_in l comes) o) (turn_entries who n e ts) (out (turned e ts))
       ∙ ap (λ z. of_link h (entries_for h (parts_of who l comes o z (ending_of w)))) (sym turns)))
 
   -- and that is what the law of one link notes of it

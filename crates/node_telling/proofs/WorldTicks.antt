@@ -42,29 +42,29 @@ use Rattle.node_telling.proofs.Worlds.{site_is}
 use Rattle.node_telling.proofs.Events.{tells_one, site_map, orderly_map}
 use Rattle.node_telling.proofs.Ticks.{older, not_late, late_parts, IfLate, Ticked, ticked, away_tick}
 
-pub young_ports : (halves : ℕ → NumberedEnd) (desks : List Desk) (h : ℕ) (p : Port) → AllByRecursion (λ (d : Desk). is_due d ≡ false) desks
-    → port_at (ports_for halves desks) h ≡ Some p → is_due p.desk ≡ false
-young_ports halves [] h p a q = absurd (cc q)
-young_ports halves (d ∷ desks) h p a q = go (d.host == h) refl (young_ports halves desks h p a.1)
+pub young_ports : (near_ends : ℕ → NumberedEnd) (desks : List Desk) (h : ℕ) (p : Port) → AllByRecursion (λ (d : Desk). is_due d ≡ false) desks
+    → port_at (ports_for near_ends desks) h ≡ Some p → is_due p.desk ≡ false
+young_ports near_ends [] h p a q = absurd (cc q)
+young_ports near_ends (d ∷ desks) h p a q = go (d.host == h) refl (young_ports near_ends desks h p a.1)
   where
-    go : (b : Bool) → (d.host == h) ≡ b → (port_at (ports_for halves desks) h ≡ Some p → is_due p.desk ≡ false) → is_due p.desk ≡ false
+    go : (b : Bool) → (d.host == h) ≡ b → (port_at (ports_for near_ends desks) h ≡ Some p → is_due p.desk ≡ false) → is_due p.desk ≡ false
     go true e later =
-        let is : Some (port_for (halves d.host) d) ≡ Some p = rw e at q in
-        let one : port_for (halves d.host) d ≡ p = cc in
+        let is : Some (port_for (near_ends d.host) d) ≡ Some p = rw e at q in
+        let one : port_for (near_ends d.host) d ≡ p = cc in
         let P : Port → Type 0 = λ z. is_due z.desk ≡ false in subst P one a.0
     go false e later = later (rw e at q)
 
 -- the desk of an end
-desk_found : (halves : ℕ → NumberedEnd) (desks : List Desk) (h : ℕ) (p : Port) → port_at (ports_for halves desks) h ≡ Some p
+desk_found : (near_ends : ℕ → NumberedEnd) (desks : List Desk) (h : ℕ) (p : Port) → port_at (ports_for near_ends desks) h ≡ Some p
     → find (λ d. d.host == h) desks ≡ Some p.desk
-desk_found halves [] h p q = absurd (cc q)
-desk_found halves (d ∷ desks) h p q = go (d.host == h) refl (desk_found halves desks h p)
+desk_found near_ends [] h p q = absurd (cc q)
+desk_found near_ends (d ∷ desks) h p q = go (d.host == h) refl (desk_found near_ends desks h p)
   where
-    go : (b : Bool) → (d.host == h) ≡ b → (port_at (ports_for halves desks) h ≡ Some p → find (λ d. d.host == h) desks ≡ Some p.desk)
+    go : (b : Bool) → (d.host == h) ≡ b → (port_at (ports_for near_ends desks) h ≡ Some p → find (λ d. d.host == h) desks ≡ Some p.desk)
         → find (λ d. d.host == h) (d ∷ desks) ≡ Some p.desk
     go true e later =
-        let is : Some (port_for (halves d.host) d) ≡ Some p = rw e at q in
-        let one : port_for (halves d.host) d ≡ p = cc in
+        let is : Some (port_for (near_ends d.host) d) ≡ Some p = rw e at q in
+        let one : port_for (near_ends d.host) d ≡ p = cc in
         rw e (ap (λ (z : Port). Some z.desk) one)
     go false e later = rw e (later (rw e at q))
 

@@ -139,12 +139,12 @@ input_of l Stops = Some Stop
 input_of l NoInput = None
 
 -- the near end of a link, as it has heard of the number of an RSET that comes
-abbrev pub half_in : Link → Comes → NumberedEnd
-half_in l NextFrame = first l.to_controller where
+abbrev pub near_end_in : Link → Comes → NumberedEnd
+near_end_in l NextFrame = first l.to_controller where
   first : List OnWire → NumberedEnd
   first [] = l.controller
   first (x ∷ xs) = record l.controller { took = took_with l.controller.took x }
-half_in l _ = l.controller
+near_end_in l _ = l.controller
 
 -- what is noted first
 abbrev pub arrival : Side → Link → Comes → List Noted
@@ -162,13 +162,13 @@ wires_for l _ = l
 
 -- an end as its node sees it
 abbrev pub port_for : NumberedEnd → Desk → Port
-port_for half d = record { desk = d; side = half.side; session = number_of half; late = false; ended = false; turns = [] }
+port_for near_end d = record { desk = d; side = near_end.side; session = number_of near_end; late = false; ended = false; turns = [] }
 
 -- a node as a step of it begins, with its ends
 abbrev pub work_of : Running → Option Plan → (ℕ → NumberedEnd) → List Entry → Work
-work_of r plan halves entries = record {
+work_of r plan near_ends entries = record {
   core = r.core;
-  ports = map (λ (d : Desk). port_for (halves d.host) d) r.desks;
+  ports = map (λ (d : Desk). port_for (near_ends d.host) d) r.desks;
   plan = plan;
   writes = [];
   entries = entries;
@@ -190,7 +190,7 @@ comes_to h comes k = if k == h then comes else NoInput
 abbrev pub controller_work : NodeWorld → Running → ℕ → Comes → (Work → Work) → Work
 controller_work w r h comes f =
     let l : Link = link_to w.sites h in
-    f (work_of r w.memory.plan (λ k. half_in (link_to w.sites k) (comes_to h comes k)) (entries_for h (arrival Controller l comes)))
+    f (work_of r w.memory.plan (λ k. near_end_in (link_to w.sites k) (comes_to h comes k)) (entries_for h (arrival Controller l comes)))
 
 -- a link after such a step
 abbrev pub link_after_controller : ℕ → Comes → Work → Site → Site
@@ -220,7 +220,7 @@ controller_does w h comes f = by_node w.controller where
 -- a host in a step, in which something comes to its end
 abbrev pub host_work : Site → Running → Comes → (Work → Work) → Work
 host_work s r comes f =
-    f (work_of r s.memory.plan (λ k. half_in (exchanged s.link) comes) (entries_for s.host (arrival Host (exchanged s.link) comes)))
+    f (work_of r s.memory.plan (λ k. near_end_in (exchanged s.link) comes) (entries_for s.host (arrival Host (exchanged s.link) comes)))
 
 -- the host after such a step
 abbrev pub after_host : Comes → Work → Site → Site

@@ -25,7 +25,7 @@ use Rattle.node_machine.specs.Parts.{Desk, Running, Port, Work}
 use Rattle.node_machine.specs.Carrying.{port_at}
 use Rattle.node_machine.specs.Node.{NodeInput, steps}
 use Rattle.node_machine.specs.Node.NodeInput.{AtEnd, TimePasses}
-use Rattle.node_world.specs.World.{NodeWorld, Site, link_to, ending_of, runs_on, turns_at, input_of, half_in, arrival, wires_for, port_for, work_of, frames_noted, comes_to, controller_work, link_after_controller, after_controller, controller_does, all_aged, is_late_at, ticked_so, controller_ticks, hosts_tick, world_ticks, comes_at, activates, end_c, end_h}
+use Rattle.node_world.specs.World.{NodeWorld, Site, link_to, ending_of, runs_on, turns_at, input_of, near_end_in, arrival, wires_for, port_for, work_of, frames_noted, comes_to, controller_work, link_after_controller, after_controller, controller_does, all_aged, is_late_at, ticked_so, controller_ticks, hosts_tick, world_ticks, comes_at, activates, end_c, end_h}
 use Rattle.node_world.specs.NodeFilters.{notice_in, asking_in}
 use Rattle.node_links.specs.Notices.{IsOutside, IsNoticedUp, OnFirst}
 use Rattle.node_links.proofs.Noticing.{UpAt}
@@ -35,7 +35,7 @@ use Rattle.node_readings.specs.Orders.{IsFresh}
 use Rattle.node_readings.specs.Noticed.{IfNoticedUp, NoticesAreUp}
 use Rattle.node_telling.proofs.Frames.{wires_all}
 use Rattle.node_readings.proofs.Silent.{IsQuiet}
-use Rattle.node_readings.proofs.Sites.{half_side, comes_outside}
+use Rattle.node_readings.proofs.Sites.{near_end_side, comes_outside}
 use Rattle.notice_readings.specs.Notices.{IsKeptNotice, notice_at}
 use Rattle.notice_readings.proofs.Reading.{notice_more}
 use Rattle.notice_readings.proofs.Telling.{AreRight, noticed}
@@ -49,31 +49,33 @@ use Rattle.notice_readings.specs.Worlds.{ControllerReads, IfReads, IsRightNotice
 -- ## Ends as a step begins
 
 abbrev ports_of : (ℕ → NumberedEnd) → List Desk → List Port
-ports_of halves desks = map (λ (d : Desk). port_for (halves d.host) d) desks
+ports_of near_ends desks = map (λ (d : Desk). port_for (near_ends d.host) d) desks
 
-hosts_of_ports : (halves : ℕ → NumberedEnd) (desks : List Desk)
-    → map (λ (p : Port). p.desk.host) (ports_of halves desks) ≡ map (λ (d : Desk). d.host) desks
-hosts_of_ports halves [] = refl
-hosts_of_ports halves (d ∷ desks) = ap (λ l. d.host ∷ l) (hosts_of_ports halves desks)
+hosts_of_ports : (near_ends : ℕ → NumberedEnd) (desks : List Desk)
+    → map (λ (p : Port). p.desk.host) (ports_of near_ends desks) ≡ map (λ (d : Desk). d.host) desks
+hosts_of_ports near_ends [] = refl
+hosts_of_ports near_ends (d ∷ desks) = ap (λ l. d.host ∷ l) (hosts_of_ports near_ends desks)
 
-all_ports : (P : Port → Type 0) (halves : ℕ → NumberedEnd) → ((d : Desk) → P (port_for (halves d.host) d)) → (desks : List Desk)
-    → AllByRecursion P (ports_of halves desks)
-all_ports P halves one [] = tt
-all_ports P halves one (d ∷ desks) = (one d, all_ports P halves one desks)
+all_ports : (P : Port → Type 0) (near_ends : ℕ → NumberedEnd) → ((d : Desk) → P (port_for (near_ends d.host) d)) → (desks : List Desk)
+    → AllByRecursion P (ports_of near_ends desks)
+all_ports P near_ends one [] = tt
+all_ports P near_ends one (d ∷ desks) = (one d, all_ports P near_ends one desks)
 
-right_ports : (halves : ℕ → NumberedEnd) (desks : List Desk) → AllByRecursion (λ (d : Desk). IsRightNotice d.notice) desks → AreRight (ports_of halves desks)
-right_ports halves [] a = tt
-right_ports halves (d ∷ desks) a = (a.0, right_ports halves desks a.1)
+right_ports : (near_ends : ℕ → NumberedEnd) (desks : List Desk) → AllByRecursion (λ (d : Desk). IsRightNotice d.notice) desks
+    → AreRight (ports_of near_ends desks)
+right_ports near_ends [] a = tt
+right_ports near_ends (d ∷ desks) a = (a.0, right_ports near_ends desks a.1)
 
-host_ports : (halves : ℕ → NumberedEnd) (desks : List Desk) → AllByRecursion IsHost (map (λ (d : Desk). d.host) desks) → AreHostEnds (ports_of halves desks)
-host_ports halves [] a = tt
-host_ports halves (d ∷ desks) a = (a.0, host_ports halves desks a.1)
+host_ports : (near_ends : ℕ → NumberedEnd) (desks : List Desk) → AllByRecursion IsHost (map (λ (d : Desk). d.host) desks)
+    → AreHostEnds (ports_of near_ends desks)
+host_ports near_ends [] a = tt
+host_ports near_ends (d ∷ desks) a = (a.0, host_ports near_ends desks a.1)
 
-noticed_ports : (halves : ℕ → NumberedEnd) (desks : List Desk) (x : ℕ) → noticed (ports_of halves desks) x ≡ notice_at desks x
-noticed_ports halves [] x = refl
-noticed_ports halves (d ∷ desks) x = go (cases_Bool (eqb d.host x)) (noticed_ports halves desks x) where
-  go : (eqb d.host x ≡ true) ⊎ (eqb d.host x ≡ false) → noticed (ports_of halves desks) x ≡ notice_at desks x
-      → noticed (ports_of halves (d ∷ desks)) x ≡ notice_at (d ∷ desks) x
+noticed_ports : (near_ends : ℕ → NumberedEnd) (desks : List Desk) (x : ℕ) → noticed (ports_of near_ends desks) x ≡ notice_at desks x
+noticed_ports near_ends [] x = refl
+noticed_ports near_ends (d ∷ desks) x = go (cases_Bool (eqb d.host x)) (noticed_ports near_ends desks x) where
+  go : (eqb d.host x ≡ true) ⊎ (eqb d.host x ≡ false) → noticed (ports_of near_ends desks) x ≡ notice_at desks x
+      → noticed (ports_of near_ends (d ∷ desks)) x ≡ notice_at (d ∷ desks) x
   go (inl is) later = rw is refl
   go (inr off) later = rw off later
 
@@ -111,11 +113,11 @@ right_desks (p ∷ ports) a = (a.0, right_desks ports a.1)
 -- ## A step
 
 module _ (t : List Entry) (w : NodeWorld) (r : Running) (has : HasEnds 0 (hosts_in w.sites) r) (different : AreDifferent (hosts_in w.sites))
-    (ups : IfNoticedUp w.sites (Some r)) (sites : AreGood w.sites) (old : ControllerReads t r) (plan : Option Plan) (halves : ℕ → NumberedEnd)
-    (same : (n : ℕ) → (halves n).side ≡ (link_to w.sites n).controller.side) (es : List Entry) (quiet : AreFar es) (input : NodeInput)
+    (ups : IfNoticedUp w.sites (Some r)) (sites : AreGood w.sites) (old : ControllerReads t r) (plan : Option Plan) (near_ends : ℕ → NumberedEnd)
+    (same : (n : ℕ) → (near_ends n).side ≡ (link_to w.sites n).controller.side) (es : List Entry) (quiet : AreFar es) (input : NodeInput)
     (outside : IsOutside input) where
   abbrev begun : Work
-  begun = work_of r plan halves es
+  begun = work_of r plan near_ends es
 
   abbrev after_it : Work
   after_it = steps input begun
@@ -126,19 +128,19 @@ module _ (t : List Entry) (w : NodeWorld) (r : Running) (has : HasEnds 0 (hosts_
     node = has.number;
     sorted = old.sorted;
     two = old.two;
-    hosts = host_ports halves r.desks (subst (AllByRecursion IsHost) (sym has.ends) (good_hosts w.sites sites));
-    right = right_ports halves r.desks old.right;
-    up = up_ports (λ n. (link_to w.sites n).controller) halves same r.desks x (ups x);
-    kept = subst (λ m. IsKeptNotice m (noticed (ports_of halves r.desks) x)) (sym (notice_more x t es ∙ far_reads x es quiet (notice_in t x)))
-        (subst (IsKeptNotice (notice_in t x)) (sym (noticed_ports halves r.desks x)) (old.kept x));
+    hosts = host_ports near_ends r.desks (subst (AllByRecursion IsHost) (sym has.ends) (good_hosts w.sites sites));
+    right = right_ports near_ends r.desks old.right;
+    up = up_ports (λ n. (link_to w.sites n).controller) near_ends same r.desks x (ups x);
+    kept = subst (λ m. IsKeptNotice m (noticed (ports_of near_ends r.desks) x)) (sym (notice_more x t es ∙ far_reads x es quiet (notice_in t x)))
+        (subst (IsKeptNotice (notice_in t x)) (sym (noticed_ports near_ends r.desks x)) (old.kept x));
   }
 
   stands : (x : ℕ) → Stands x t after_it
   stands x =
       steps_stand x t begun (begins x) input outside
-      (subst AreDifferent (sym (hosts_of_ports halves r.desks ∙ has.ends)) different)
-      (all_ports IsFresh halves (λ d. (refl, refl)) r.desks)
-      (all_ports (λ (p : Port). IsShut p.side) halves (λ d. subst IsShut (sym (same d.host)) (link_shut w.sites d.host sites)) r.desks)
+      (subst AreDifferent (sym (hosts_of_ports near_ends r.desks ∙ has.ends)) different)
+      (all_ports IsFresh near_ends (λ d. (refl, refl)) r.desks)
+      (all_ports (λ (p : Port). IsShut p.side) near_ends (λ d. subst IsShut (sym (same d.host)) (link_shut w.sites d.host sites)) r.desks)
 
   -- and frames go out
   pub step_reads : (frames : List Entry) → AreFar frames → IfReads (t ++ (after_it.entries ++ frames)) (runs_on after_it)
@@ -209,8 +211,8 @@ module _ (t : List Entry) (w : NodeWorld) (orderly : IsOrderly w) (ups : Notices
             node = b.node;
             shut = here_shut s.link (Step (comes_to h comes s.host) (turns_at k s.host) (ending_of k)) b.shut;
           }) w.sites a.sites;
-      reads_so = step_reads t w r has orderly.different up a.sites old w.memory.plan (λ n. half_in (link_to w.sites n) (comes_to h comes n))
-          (λ n. half_side (link_to w.sites n) (comes_to h comes n)) (entries_for h (arrival Controller (link_to w.sites h) comes))
+      reads_so = step_reads t w r has orderly.different up a.sites old w.memory.plan (λ n. near_end_in (link_to w.sites n) (comes_to h comes n))
+          (λ n. near_end_side (link_to w.sites n) (comes_to h comes n)) (entries_for h (arrival Controller (link_to w.sites h) comes))
           (arrival_quiet Controller h (link_to w.sites h) comes) (AtEnd h i) (comes_outside (link_to w.sites h) comes i input)
           (flat_map (λ (s : Site). frames_noted Controller s.host (wires_for s.link (comes_to h comes s.host)) k) w.sites)
           (far_flat (λ (s : Site). frames_noted Controller s.host (wires_for s.link (comes_to h comes s.host)) k)

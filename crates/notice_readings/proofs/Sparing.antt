@@ -12,22 +12,22 @@ use Rattle.node_world.specs.NodeFilters.{session_now, unacknowledged_in, spare_a
 use Rattle.link_entries.specs.Sessions.{number_now as own_session}
 use Rattle.notice_readings.specs.Spares.{IsEndRead}
 
-in_use_is : (t : List Entry) (e : End) (half : NumberedEnd) → IsEndRead t e half
-    → need_of_all (unacknowledged_in t e (session_now t e (node_of e))) ≡ in_use half.side
-in_use_is t e half a = ap (λ o. need_of_all (unacknowledged_in t e o)) a.session ∙ go half.side.shdlc.phase refl where
-  nothing : (half.side.shdlc.phase ≡ Up → ⊥) → in_use half.side ≡ 0
-  nothing down = ap (λ (ms : List Message). need_of_all (drop (whole_among ms half.side.shdlc.session.acked) ms)) (a.none down)
+in_use_is : (t : List Entry) (e : End) (near_end : NumberedEnd) → IsEndRead t e near_end
+    → need_of_all (unacknowledged_in t e (session_now t e (node_of e))) ≡ in_use near_end.side
+in_use_is t e near_end a = ap (λ o. need_of_all (unacknowledged_in t e o)) a.session ∙ go near_end.side.shdlc.phase refl where
+  nothing : (near_end.side.shdlc.phase ≡ Up → ⊥) → in_use near_end.side ≡ 0
+  nothing down = ap (λ (ms : List Message). need_of_all (drop (whole_among ms near_end.side.shdlc.session.acked) ms)) (a.none down)
 
-  go : (p : LinkState) → half.side.shdlc.phase ≡ p → need_of_all (unacknowledged_in t e (own_session half)) ≡ in_use half.side
+  go : (p : LinkState) → near_end.side.shdlc.phase ≡ p → need_of_all (unacknowledged_in t e (own_session near_end)) ≡ in_use near_end.side
   go Up q =
-      let is : own_session half ≡ Some (number_of half) = rw q refl in
+      let is : own_session near_end ≡ Some (number_of near_end) = rw q refl in
       ap (λ o. need_of_all (unacknowledged_in t e o)) is ∙ ap₂ (λ n (ms : List Message). need_of_all (drop n ms)) (a.acked q) (a.sent q)
   go Waiting q =
-      let is : own_session half ≡ None = rw q refl in
+      let is : own_session near_end ≡ None = rw q refl in
       ap (λ o. need_of_all (unacknowledged_in t e o)) is ∙ sym (nothing (λ up. let z : Waiting ≡ Up = sym q ∙ up in cc))
   go Down q =
-      let is : own_session half ≡ None = rw q refl in
+      let is : own_session near_end ≡ None = rw q refl in
       ap (λ o. need_of_all (unacknowledged_in t e o)) is ∙ sym (nothing (λ up. let z : Down ≡ Up = sym q ∙ up in cc))
 
-pub spare_is : (t : List Entry) (e : End) (half : NumberedEnd) → IsEndRead t e half → spare_at t e ≡ spare half.side
-spare_is t e half a = ap₂ (λ n m. 128 - (n + m)) (in_use_is t e half a) a.aside
+pub spare_is : (t : List Entry) (e : End) (near_end : NumberedEnd) → IsEndRead t e near_end → spare_at t e ≡ spare near_end.side
+spare_is t e near_end a = ap₂ (λ n m. 128 - (n + m)) (in_use_is t e near_end a) a.aside

@@ -39,61 +39,61 @@ use Rattle.notice_readings.specs.Worlds.{IsShut}
 -- ## Quiet deeds
 
 -- it tells nobody of anything
-abbrev pub IsCalm : Deed → Type 0
-IsCalm (Commits c) = IsCommand c
-IsCalm (Sends to m) = (eqb m.0 1 && is_notice m.1) ≡ false
-IsCalm (Releases asker) = Unit {0}
-IsCalm _ = ⊥
+abbrev pub TellsNoNotice : Deed → Type 0
+TellsNoNotice (Commits c) = IsCommand c
+TellsNoNotice (Sends to m) = (eqb m.0 1 && is_notice m.1) ≡ false
+TellsNoNotice (Releases asker) = Unit {0}
+TellsNoNotice _ = ⊥
 
-abbrev pub AreCalm : List Deed → Type 0
-AreCalm deeds = AllByRecursion IsCalm deeds
+abbrev pub TellNoNotices : List Deed → Type 0
+TellNoNotices deeds = AllByRecursion TellsNoNotice deeds
 
-pub calm-append : (ds es : List Deed) → AreCalm ds → AreCalm es → AreCalm (ds ++ es)
-calm-append [] es a b = b
-calm-append (d ∷ ds) es a b = (a.0, calm-append ds es a.1 b)
+pub no_notices-append : (ds es : List Deed) → TellNoNotices ds → TellNoNotices es → TellNoNotices (ds ++ es)
+no_notices-append [] es a b = b
+no_notices-append (d ∷ ds) es a b = (a.0, no_notices-append ds es a.1 b)
 
-pub calm_flat : (f : Port → List Deed) (P : Port → Type 0) → ((p : Port) → P p → AreCalm (f p)) → (ports : List Port) → AllByRecursion P ports
-    → AreCalm (flat_map f ports)
-calm_flat f P one [] a = tt
-calm_flat f P one (p ∷ ports) a = calm-append (f p) (flat_map f ports) (one p a.0) (calm_flat f P one ports a.1)
+pub no_notices_flat : (f : Port → List Deed) (P : Port → Type 0) → ((p : Port) → P p → TellNoNotices (f p)) → (ports : List Port) → AllByRecursion P ports
+    → TellNoNotices (flat_map f ports)
+no_notices_flat f P one [] a = tt
+no_notices_flat f P one (p ∷ ports) a = no_notices-append (f p) (flat_map f ports) (one p a.0) (no_notices_flat f P one ports a.1)
 
-pub calm_all : (f : Port → List Deed) → ((p : Port) → AreCalm (f p)) → (ports : List Port) → AreCalm (flat_map f ports)
-calm_all f one [] = tt
-calm_all f one (p ∷ ports) = calm-append (f p) (flat_map f ports) (one p) (calm_all f one ports)
+pub no_notices_all : (f : Port → List Deed) → ((p : Port) → TellNoNotices (f p)) → (ports : List Port) → TellNoNotices (flat_map f ports)
+no_notices_all f one [] = tt
+no_notices_all f one (p ∷ ports) = no_notices-append (f p) (flat_map f ports) (one p) (no_notices_all f one ports)
 
-pub calm_may : (x : ℕ) (F : List ℕ → Type 0) (deeds : List Deed) → AreCalm deeds → MayTell x F deeds
-calm_may x F [] a = tt
-calm_may x F (Commits c ∷ deeds) a = (a.0, calm_may x F deeds a.1)
-calm_may x F (Sends to m ∷ deeds) a = (a.0, calm_may x (λ n. (eqb to x ≡ false) × F n) deeds a.1)
-calm_may x F (Releases asker ∷ deeds) a = calm_may x (λ n. ⊥) deeds a.1
-calm_may x F (SaysOk ∷ deeds) a = absurd a.0
-calm_may x F (Asks to message c ∷ deeds) a = absurd a.0
-calm_may x F (Tells to message ∷ deeds) a = absurd a.0
-calm_may x F (IsAnswered ∷ deeds) a = absurd a.0
-calm_may x F (Drops pid ∷ deeds) a = absurd a.0
-calm_may x F (SetsErrors errors ∷ deeds) a = absurd a.0
-calm_may x F (Orders order ∷ deeds) a = absurd a.0
-calm_may x F (Hears ∷ deeds) a = absurd a.0
-calm_may x F (GoesOn i ∷ deeds) a = absurd a.0
-calm_may x F (Ends e ∷ deeds) a = absurd a.0
+pub no_notices_may : (x : ℕ) (F : List ℕ → Type 0) (deeds : List Deed) → TellNoNotices deeds → MayTell x F deeds
+no_notices_may x F [] a = tt
+no_notices_may x F (Commits c ∷ deeds) a = (a.0, no_notices_may x F deeds a.1)
+no_notices_may x F (Sends to m ∷ deeds) a = (a.0, no_notices_may x (λ n. (eqb to x ≡ false) × F n) deeds a.1)
+no_notices_may x F (Releases asker ∷ deeds) a = no_notices_may x (λ n. ⊥) deeds a.1
+no_notices_may x F (SaysOk ∷ deeds) a = absurd a.0
+no_notices_may x F (Asks to message c ∷ deeds) a = absurd a.0
+no_notices_may x F (Tells to message ∷ deeds) a = absurd a.0
+no_notices_may x F (IsAnswered ∷ deeds) a = absurd a.0
+no_notices_may x F (Drops pid ∷ deeds) a = absurd a.0
+no_notices_may x F (SetsErrors errors ∷ deeds) a = absurd a.0
+no_notices_may x F (Orders order ∷ deeds) a = absurd a.0
+no_notices_may x F (Hears ∷ deeds) a = absurd a.0
+no_notices_may x F (GoesOn i ∷ deeds) a = absurd a.0
+no_notices_may x F (Ends e ∷ deeds) a = absurd a.0
 
-pub owed_calm : (r : Response) (o : Option Creation) → AreCalm (owed r o)
-owed_calm r None = tt
-owed_calm r (Some c) = (tt, (answer_other r [], tt))
+pub owed_no_notices : (r : Response) (o : Option Creation) → TellNoNotices (owed r o)
+owed_no_notices r None = tt
+owed_no_notices r (Some c) = (tt, (answer_other r [], tt))
 
-pub synced_calm : (core : Core) (input : NodeInput) (p : Port) → IsHost p.desk.host → AreCalm (synced core input p)
-synced_calm core input p host = go (input_at input p) refl where
+pub synced_no_notices : (core : Core) (input : NodeInput) (p : Port) → IsHost p.desk.host → TellNoNotices (synced core input p)
+synced_no_notices core input p host = go (input_at input p) refl where
   may : (id : ℕ) → IsCommand (Sync p.desk.host id)
   may id = and_from (nat_le 1 p.desk.host) (nat_le p.desk.host 7) (le-leb 1 p.desk.host host.0) (le-leb p.desk.host 7 host.1)
 
-  either : (b : Bool) (id : ℕ) → AreCalm (cond b (Commits (Sync p.desk.host id) ∷ []) [])
+  either : (b : Bool) (id : ℕ) → TellNoNotices (cond b (Commits (Sync p.desk.host id) ∷ []) [])
   either true id = (may id, tt)
   either false id = tt
 
-  go : (o : Option LinkInput) → input_at input p ≡ o → AreCalm (synced core input p)
+  go : (o : Option LinkInput) → input_at input p ≡ o → TellNoNotices (synced core input p)
   go None q = rw q tt
   go (Some i) q = by (report p.side i).sync refl where
-    by : (o : Option ℕ) → (report p.side i).sync ≡ o → AreCalm (synced core input p)
+    by : (o : Option ℕ) → (report p.side i).sync ≡ o → TellNoNotices (synced core input p)
     by None e = rw (q, e) tt
     by (Some id) e = rw (q, e) (either (not (is_kept_sync core.tables.syncs p.desk.host id) && finds_room core (Sync p.desk.host id)) id)
 

@@ -30,7 +30,7 @@ use Rattle.notice_readings.proofs.Reading.{reads, read_more}
 use Rattle.notice_readings.proofs.Telling.{AreRight}
 use Rattle.notice_readings.proofs.Doing.{AreHostEnds, all_map, controller_side, IsOn, Stands, then, turns, all_stand, read_in}
 use Rattle.notice_readings.proofs.Turning.{passes_stand, kept_none}
-use Rattle.notice_readings.proofs.Stepping.{AreCalm, calm-append, calm_flat, calm_all, calm_may, owed_calm, synced_calm, flat_reads, told_elsewhere, told_here, late_elsewhere, IsCome, IsComeAt, come_is, older_is, late_is, forgets_is, without_is}
+use Rattle.notice_readings.proofs.Stepping.{TellNoNotices, no_notices-append, no_notices_flat, no_notices_all, no_notices_may, owed_no_notices, synced_no_notices, flat_reads, told_elsewhere, told_here, late_elsewhere, IsCome, IsComeAt, come_is, older_is, late_is, forgets_is, without_is}
 use Rattle.notice_readings.specs.Worlds.{IsRightNotice, IsShut}
 use Rattle.node_laws.proofs.Ports.{at_port, come_host, forgets_host, sessions_node}
 
@@ -142,22 +142,22 @@ module _ (x : ℕ) (before : List Entry) (w : Work) (a : IsOn x before w) where
       not_cut : (f : Work → Work) (u : Work) → u.cut ≡ false → unless_cut f u ≡ f u
       not_cut f u e = rw e refl
 
-  rest : (cs : List Creation) (syncs owing : List Deed) (v : Work) → AreCalm syncs → AreCalm owing → IsOn x before v
+  rest : (cs : List Creation) (syncs owing : List Deed) (v : Work) → TellNoNotices syncs → TellNoNotices owing → IsOn x before v
       → Stands x before (answers_and_passes (map (λ (c : Creation). Releases c.asker) cs) syncs owing v)
   rest cs syncs owing v s o b =
       let u : Work = all_done 0 (map (λ (c : Creation). Releases c.asker) cs) v in
       let synced : Stands x before (all_done 0 syncs u) =
-      all_stand x before 0 (λ n. ⊥) syncs u (λ n f. absurd f) (calm_may x (λ n. ⊥) syncs s) (frees cs v b) in
+      all_stand x before 0 (λ n. ⊥) syncs u (λ n f. absurd f) (no_notices_may x (λ n. ⊥) syncs s) (frees cs v b) in
       then x before passes (unless_cut (all_done 0 owing) (all_done 0 syncs u))
       (then x before (all_done 0 owing) (all_done 0 syncs u) synced
-      (λ d. all_stand x before 0 (λ n. ⊥) owing (all_done 0 syncs u) (λ n f. absurd f) (calm_may x (λ n. ⊥) owing o) d))
+      (λ d. all_stand x before 0 (λ n. ⊥) owing (all_done 0 syncs u) (λ n f. absurd f) (no_notices_may x (λ n. ⊥) owing o) d))
       (λ d. passes_stand x before (unless_cut (all_done 0 owing) (all_done 0 syncs u)) d)
 
-  pub owed_all : (left : List Port) → AreCalm (all_owed left)
+  pub owed_all : (left : List Port) → TellNoNotices (all_owed left)
   owed_all left =
-      calm-append _ _ (calm_all (λ p. owed response.NotConnected (asked_at p)) (λ p. owed_calm response.NotConnected (asked_at p))
+      no_notices-append _ _ (no_notices_all (λ p. owed response.NotConnected (asked_at p)) (λ p. owed_no_notices response.NotConnected (asked_at p))
       (filter (λ (p : Port). p.ended) left))
-      (calm_all (λ p. owed response.Timeout (asked_at p)) (λ p. owed_calm response.Timeout (asked_at p)) (filter (λ (p : Port). p.late) left))
+      (no_notices_all (λ p. owed response.Timeout (asked_at p)) (λ p. owed_no_notices response.Timeout (asked_at p)) (filter (λ (p : Port). p.late) left))
 
   -- ## What comes
 
@@ -279,8 +279,8 @@ module _ (x : ℕ) (before : List Entry) (w : Work) (a : IsOn x before w) where
   pub steps_stand : (input : NodeInput) → IsOutside input → AreDifferent (map (λ (p : Port). p.desk.host) w.ports) → AllByRecursion IsFresh w.ports
       → AllByRecursion (λ (p : Port). IsShut p.side) w.ports → Stands x before (steps input w)
   steps_stand input outside different fresh shut = by input outside where
-    syncs : (input : NodeInput) → AreCalm (flat_map (synced w.core input) w.ports)
-    syncs input = calm_flat (synced w.core input) (λ (p : Port). IsHost p.desk.host) (λ p host. synced_calm w.core input p host) w.ports a.hosts
+    syncs : (input : NodeInput) → TellNoNotices (flat_map (synced w.core input) w.ports)
+    syncs input = no_notices_flat (synced w.core input) (λ (p : Port). IsHost p.desk.host) (λ p host. synced_no_notices w.core input p host) w.ports a.hosts
 
     finish : (input : NodeInput) → HasCome (times_out input (all_come input w)) → Stands x before (steps input w)
     finish input c =

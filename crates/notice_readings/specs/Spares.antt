@@ -12,9 +12,9 @@ use Rattle.node_world.specs.NodeFilters.{session_now, aside_in}
 
 -- What is read of an end is what it has: its session, and in it the messages that it sent and how many of them are acknowledged whole;
 -- none in no session; and the block that is set aside.
-pub record IsEndRead (t : List Entry) (e : End) (half : NumberedEnd) : Type 0 where
-  pub session : session_now t e (node_of e) ≡ own_session half
-  pub sent : half.side.shdlc.phase ≡ Up → sent_in t e (number_of half) ≡ half.side.sent
-  pub acked : half.side.shdlc.phase ≡ Up → acked_in t e (number_of half) ≡ whole_acked half.side
-  pub none : (half.side.shdlc.phase ≡ Up → ⊥) → half.side.sent ≡ []
-  pub aside : aside_in t e ≡ half.side.aside
+pub record IsEndRead (t : List Entry) (e : End) (near_end : NumberedEnd) : Type 0 where
+  pub session : session_now t e (node_of e) ≡ own_session near_end
+  pub sent : near_end.side.shdlc.phase ≡ Up → sent_in t e (number_of near_end) ≡ near_end.side.sent
+  pub acked : near_end.side.shdlc.phase ≡ Up → acked_in t e (number_of near_end) ≡ whole_acked near_end.side
+  pub none : (near_end.side.shdlc.phase ≡ Up → ⊥) → near_end.side.sent ≡ []
+  pub aside : aside_in t e ≡ near_end.side.aside

@@ -64,5 +64,5 @@ pub fn no_creation_is_read_while_the_controller_is_off()
 /// Where the session of an end, its messages and the block that is set aside are what is read off the entries, the blocks that it has
 /// to spare are those that are read.
 pub fn blocks_to_spare_are_read_where_the_end_is()
-    ensures { (t : List Entry) (e : End) (half : NumberedEnd) → IsEndRead t e half → spare_at t e ≡ spare half.side }
+    ensures { (t : List Entry) (e : End) (near_end : NumberedEnd) → IsEndRead t e near_end → spare_at t e ≡ spare near_end.side }
 {}

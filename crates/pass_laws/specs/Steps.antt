@@ -10,7 +10,7 @@ use Rattle.pass_laws.specs.Noting.{noted_by_deeds}
 use Rattle.message_link.specs.Links.{Comes}
 use Rattle.link_entries.specs.Entries.End.{Controller}
 use Rattle.history.specs.Steps.{entries_for}
-use Rattle.node_world.specs.World.{NodeWorld, link_to, half_in, arrival, comes_to, work_of}
+use Rattle.node_world.specs.World.{NodeWorld, link_to, near_end_in, arrival, comes_to, work_of}
 
 -- something has come to a node, and late notices have reset their links
 abbrev pub has_come_so : NodeInput → Work → Work
@@ -63,7 +63,7 @@ noted_before_pass input w =
 -- the controller as a step begins in which something comes to its end of the link with the host h
 abbrev pub controller_begins : NodeWorld → Running → ℕ → Comes → Work
 controller_begins w r h comes =
-    work_of r w.memory.plan (λ k. half_in (link_to w.sites k) (comes_to h comes k)) (entries_for h (arrival Controller (link_to w.sites h) comes))
+    work_of r w.memory.plan (λ k. near_end_in (link_to w.sites k) (comes_to h comes k)) (entries_for h (arrival Controller (link_to w.sites h) comes))
 
 -- the controller as its tick begins
 abbrev pub controller_tick_begins : NodeWorld → Running → Work

@@ -22,7 +22,7 @@ use Rattle.node_machine.specs.Parts.Deed.{Sends, Orders}
 use Rattle.node_machine.specs.Controller.{is_command_message}
 use Rattle.node_machine.specs.Node.{steps, begins_with, boot_writes}
 use Rattle.node_machine.specs.Node.NodeInput.{AtEnd, TimePasses}
-use Rattle.node_world.specs.World.{Site, NodeWorld, Happening, site_at, link_to, half_in, arrival, wires_for, work_of, frames_noted, comes_to, controller_work, after_controller, controller_does, host_work, after_host, host_does, memory_at, boots, frame_lost, all_aged, ticked_so, is_late_at, turns_at, ending_of, runs_on, controller_ticks, host_ticks, hosts_tick, world_ticks, sending, beginning, input_of, comes_at, end_c, end_h, world_step, node_of}
+use Rattle.node_world.specs.World.{Site, NodeWorld, Happening, site_at, link_to, near_end_in, arrival, wires_for, work_of, frames_noted, comes_to, controller_work, after_controller, controller_does, host_work, after_host, host_does, memory_at, boots, frame_lost, all_aged, ticked_so, is_late_at, turns_at, ending_of, runs_on, controller_ticks, host_ticks, hosts_tick, world_ticks, sending, beginning, input_of, comes_at, end_c, end_h, world_step, node_of}
 use Rattle.node_world.specs.World.Happening.{Boots, IsCut, Gives, Inits, Takes, Loses, Ticks, Resets, Activates, Arms}
 use Rattle.kept_laws.specs.Books.{hosts_of_ends}
 use Rattle.kept_laws.specs.Hosts.{AreDifferent}
@@ -40,19 +40,19 @@ use Rattle.power_laws.proofs.Steps.{steps_fine, work_part, frames_none, frames_u
 -- ## Nodes as a step begins
 
 -- all ends of a controller are its own
-near_ends : (ports : List Port) → AreEnds 0 ports
-near_ends [] = tt
-near_ends (p ∷ ports) = (refl, near_ends ports)
+all_near : (ports : List Port) → AreEnds 0 ports
+all_near [] = tt
+all_near (p ∷ ports) = (refl, all_near ports)
 
 far_end : (h : ℕ) → (h == 0) ≡ false → IsEndOf h h
 far_end h other = rw other refl
 
-near_runs : (r : Running) (plan : Option Plan) (halves : ℕ → NumberedEnd) (es : List Entry) → r.core.node ≡ 0 → AreOwn 0 es → AreUncut es
-    → Runs 0 (work_of r plan halves es)
-near_runs r plan halves es number own uncut = record {
+near_runs : (r : Running) (plan : Option Plan) (near_ends : ℕ → NumberedEnd) (es : List Entry) → r.core.node ≡ 0 → AreOwn 0 es → AreUncut es
+    → Runs 0 (work_of r plan near_ends es)
+near_runs r plan near_ends es number own uncut = record {
   on = refl;
   number = number;
-  ends = near_ends (ports_for halves r.desks);
+  ends = all_near (ports_for near_ends r.desks);
   own = own;
   uncut = uncut;
 }
@@ -63,12 +63,12 @@ one_end h [] other e = absurd (cc e)
 one_end h (p ∷ []) other e = let is : p.desk.host ≡ h = cc in (subst (IsEndOf h) (sym is) (far_end h other), tt)
 one_end h (p ∷ q ∷ ports) other e = let none : q.desk.host ∷ hosts_of_ends ports ≡ [] = cc in absurd (cc none)
 
-far_runs : (h : ℕ) (r : Running) (plan : Option Plan) (halves : ℕ → NumberedEnd) (es : List Entry) → (h == 0) ≡ false → HasEnds h (h ∷ []) r
-    → AreOwn h es → AreUncut es → Runs h (work_of r plan halves es)
-far_runs h r plan halves es other has own uncut = record {
+far_runs : (h : ℕ) (r : Running) (plan : Option Plan) (near_ends : ℕ → NumberedEnd) (es : List Entry) → (h == 0) ≡ false → HasEnds h (h ∷ []) r
+    → AreOwn h es → AreUncut es → Runs h (work_of r plan near_ends es)
+far_runs h r plan near_ends es other has own uncut = record {
   on = refl;
   number = has.number;
-  ends = one_end h (ports_for halves r.desks) other (hosts_same halves r.desks ∙ has.ends);
+  ends = one_end h (ports_for near_ends r.desks) other (hosts_same near_ends r.desks ∙ has.ends);
   own = own;
   uncut = uncut;
 }
@@ -109,9 +109,9 @@ controller_part w k comes f does a = go w.controller a.controller
     go (Some r) n =
         let l : Link = link_to w.sites k in
         let es : List Entry = entries_for k (arrival Controller l comes) in
-        let begun : Work = work_of r w.memory.plan (λ j. half_in (link_to w.sites j) (comes_to k comes j)) es in
+        let begun : Work = work_of r w.memory.plan (λ j. near_end_in (link_to w.sites j) (comes_to k comes j)) es in
         near_part (f begun) (λ s. wires_for s.link (comes_to k comes s.host)) w.sites
-        (does begun (near_runs r w.memory.plan (λ j. half_in (link_to w.sites j) (comes_to k comes j)) es n.number
+        (does begun (near_runs r w.memory.plan (λ j. near_end_in (link_to w.sites j) (comes_to k comes j)) es n.number
         (links_own 0 k Controller refl (arrival Controller l comes) (arrival_of_side Controller l comes)) (links_uncut k (arrival Controller l comes))))
 
 host_part : (w : NodeWorld) (h : ℕ) (comes : Comes) (f : Work → Work) → ((v : Work) → Runs h v → Fine h (f v)) → IsOrderly w
@@ -136,8 +136,8 @@ host_part w h comes f does a = go (site_at w.sites h) refl
         let es : List Entry = entries_for s.host (arrival Host l comes) in
         let Q : ℕ → Type 0 = λ j. AreOwn h (entries_for j (arrival Host l comes)) in
         far_part h (host_work s r comes f) (wires_for l comes)
-        (does (work_of r s.memory.plan (λ j. half_in l comes) es)
-        (far_runs h r s.memory.plan (λ j. half_in l comes) es off (subst P is n)
+        (does (work_of r s.memory.plan (λ j. near_end_in l comes) es)
+        (far_runs h r s.memory.plan (λ j. near_end_in l comes) es off (subst P is n)
         (subst Q (sym is) (links_own h h Host refl (arrival Host l comes) (arrival_of_side Host l comes))) (links_uncut s.host (arrival Host l comes))))
 
     go : (o : Option Site) → site_at w.sites h ≡ o → IsPart h (host_does w h comes f).1

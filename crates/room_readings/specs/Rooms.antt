@@ -11,7 +11,7 @@ use Rattle.node_world.specs.NodeFilters.{unacknowledged_in, spare_at}
 -- the messages that are read to be unacknowledged in the session of an end, or in none, are those of its own that aren't
 -- acknowledged whole
 abbrev pub IsHeldRead : List Entry → End → NumberedEnd → Type 0
-IsHeldRead t e half = unacknowledged_in t e (own_session half) ≡ drop (whole_acked half.side) half.side.sent
+IsHeldRead t e near_end = unacknowledged_in t e (own_session near_end) ≡ drop (whole_acked near_end.side) near_end.side.sent
 
 -- so it is with both ends of the link with this host
 pub record AreHeldRead (t : List Entry) (h : ℕ) (l : Link) : Type 0 where

@@ -23,7 +23,7 @@ use Rattle.node_machine.specs.Carrying.{port_at}
 use Rattle.node_machine.specs.Controller.{is_command_message}
 use Rattle.node_machine.specs.Node.{steps, begins_with, found, boot_writes}
 use Rattle.node_machine.specs.Node.NodeInput.{AtEnd, TimePasses}
-use Rattle.node_world.specs.World.{NodeWorld, Site, Happening, site_at, link_to, turns_at, ending_of, runs_on, input_of, half_in, arrival, wires_for, frames_noted, comes_to, controller_work, after_controller, controller_does, host_work, after_host, host_does, with_site, port_for, work_of, is_late_at, ticked_so, loses_power_at, memory_at, with_memory, with_node, links_of, boots, counts, frame_lost, all_aged, controller_ticks, host_ticks, hosts_tick, world_ticks, sending, beginning, comes_at, activates, end_c, end_h, world_step}
+use Rattle.node_world.specs.World.{NodeWorld, Site, Happening, site_at, link_to, turns_at, ending_of, runs_on, input_of, near_end_in, arrival, wires_for, frames_noted, comes_to, controller_work, after_controller, controller_does, host_work, after_host, host_does, with_site, port_for, work_of, is_late_at, ticked_so, loses_power_at, memory_at, with_memory, with_node, links_of, boots, counts, frame_lost, all_aged, controller_ticks, host_ticks, hosts_tick, world_ticks, sending, beginning, comes_at, activates, end_c, end_h, world_step}
 use Rattle.node_world.specs.World.Happening.{Boots, IsCut, Gives, Inits, Takes, Loses, Ticks, Resets, Activates, Arms}
 use Rattle.node_telling.specs.Telling.{HasEnds, IfItRuns, hosts_in, IsOrderly}
 use Rattle.node_telling.proofs.Worlds.{site_is}
@@ -70,10 +70,10 @@ arrival_free who h l comes =
 
 -- ## Nodes
 
-ends_many : (n : ℕ) (hosts : List ℕ) (r : Running) (halves : ℕ → NumberedEnd) → HasEnds n hosts r
-    → length (map (λ (d : Desk). port_for (halves d.host) d) r.desks) ≡ length hosts
-ends_many n hosts r halves has =
-    length-map r.desks (λ (d : Desk). port_for (halves d.host) d) ∙ (sym (length-map r.desks (λ (d : Desk). d.host)) ∙ ap length has.ends)
+ends_many : (n : ℕ) (hosts : List ℕ) (r : Running) (near_ends : ℕ → NumberedEnd) → HasEnds n hosts r
+    → length (map (λ (d : Desk). port_for (near_ends d.host) d) r.desks) ≡ length hosts
+ends_many n hosts r near_ends has =
+    length-map r.desks (λ (d : Desk). port_for (near_ends d.host) d) ∙ (sym (length-map r.desks (λ (d : Desk). d.host)) ∙ ap length has.ends)
 
 -- the controller has a step, as something comes to its end of the link with the host h
 controller_paid : (w : NodeWorld) (h : ℕ) (i : LinkInput) (comes : Comes) → IsOrderly w → length w.sites ≤ 7
@@ -87,10 +87,10 @@ controller_paid w h i comes orderly few = go w.controller orderly.controller whe
   go None has = omega arith
   go (Some r) has =
       let l : Link = link_to w.sites h in
-      let halves : ℕ → NumberedEnd = λ j. half_in (link_to w.sites j) (comes_to h comes j) in
-      let begun : Work = work_of r w.memory.plan halves (entries_for h (arrival Controller l comes)) in
+      let near_ends : ℕ → NumberedEnd = λ j. near_end_in (link_to w.sites j) (comes_to h comes j) in
+      let begun : Work = work_of r w.memory.plan near_ends (entries_for h (arrival Controller l comes)) in
       let k : Work = steps (AtEnd h i) begun in
-      let many : length begun.ports ≡ length (hosts_in w.sites) = ends_many 0 (hosts_in w.sites) r halves has in
+      let many : length begun.ports ≡ length (hosts_in w.sites) = ends_many 0 (hosts_in w.sites) r near_ends has in
       let same : length (hosts_in w.sites) ≡ length w.sites = length-map w.sites (λ (s : Site). s.host) in
       let owed : Owes 0 (3 * length begun.ports) k = steps_owe (AtEnd h i) begun (arrival_free Controller h l comes) in
       let f : Site → List Entry = λ s. frames_noted Controller s.host (wires_for s.link (comes_to h comes s.host)) k in
@@ -116,10 +116,10 @@ host_paid w h comes f does orderly = go (site_at w.sites h) refl where
   runs : (s : Site) (o : Option Running) → IfItRuns s.host (s.host ∷ []) o → IsPaid 3 (by_node s o).1
   runs s None has = omega arith
   runs s (Some r) has =
-      let halves : ℕ → NumberedEnd = λ j. half_in (exchanged s.link) comes in
-      let begun : Work = work_of r s.memory.plan halves (entries_for s.host (arrival Host (exchanged s.link) comes)) in
+      let near_ends : ℕ → NumberedEnd = λ j. near_end_in (exchanged s.link) comes in
+      let begun : Work = work_of r s.memory.plan near_ends (entries_for s.host (arrival Host (exchanged s.link) comes)) in
       let k : Work = f begun in
-      let owed : Owes 0 3 k = does begun (arrival_free Host s.host (exchanged s.link) comes) (ends_many s.host (s.host ∷ []) r halves has) in
+      let owed : Owes 0 3 k = does begun (arrival_free Host s.host (exchanged s.link) comes) (ends_many s.host (s.host ∷ []) r near_ends has) in
       let t : List Entry = frames_noted Host h (wires_for (exchanged s.link) comes) k in
       more_paid (3 + 0) 3 (k.entries ++ t) (omega arith)
       (both_paid 3 0 k.entries t (omega (arith, owed)) (free_paid 0 t (frames_free Host h (wires_for (exchanged s.link) comes) k)))
@@ -161,19 +161,19 @@ controller_tick_paid w orderly few = go w.controller orderly.controller where
     k.entries ++ flat_map (λ (s : Site). frames_noted Controller s.host s.link k) w.sites,
   )
 
-  halves : ℕ → NumberedEnd
-  halves j = (link_to w.sites j).controller
+  near_ends : ℕ → NumberedEnd
+  near_ends j = (link_to w.sites j).controller
 
   by : Option Running → NodeWorld × List Entry
   by None = (record w { sites = map (λ (s : Site). record s { link = ticks_at_controller s.link [] GoesOut }) w.sites }, [])
-  by (Some r) = after_work (steps TimePasses (work_of r w.memory.plan halves []))
+  by (Some r) = after_work (steps TimePasses (work_of r w.memory.plan near_ends []))
 
   go : (o : Option Running) → IfItRuns 0 (hosts_in w.sites) o → IsPaid 21 (by o).1
   go None has = omega arith
   go (Some r) has =
-      let begun : Work = work_of r w.memory.plan halves [] in
+      let begun : Work = work_of r w.memory.plan near_ends [] in
       let k : Work = steps TimePasses begun in
-      let many : length begun.ports ≡ length (hosts_in w.sites) = ends_many 0 (hosts_in w.sites) r halves has in
+      let many : length begun.ports ≡ length (hosts_in w.sites) = ends_many 0 (hosts_in w.sites) r near_ends has in
       let same : length (hosts_in w.sites) ≡ length w.sites = length-map w.sites (λ (s : Site). s.host) in
       let owed : Owes 0 (3 * length begun.ports) k = steps_owe TimePasses begun refl in
       let f : Site → List Entry = λ s. frames_noted Controller s.host s.link k in
@@ -200,10 +200,10 @@ host_tick_paid s has = go s.node has where
   go : (o : Option Running) → IfItRuns s.host (s.host ∷ []) o → IsPaid 3 (by o).1
   go None has = omega arith
   go (Some r) has =
-      let halves : ℕ → NumberedEnd = λ j. s.link.host in
-      let begun : Work = work_of r s.memory.plan halves [] in
+      let near_ends : ℕ → NumberedEnd = λ j. s.link.host in
+      let begun : Work = work_of r s.memory.plan near_ends [] in
       let k : Work = steps TimePasses begun in
-      let many : length begun.ports ≡ 1 = ends_many s.host (s.host ∷ []) r halves has in
+      let many : length begun.ports ≡ 1 = ends_many s.host (s.host ∷ []) r near_ends has in
       let owed : Owes 0 (3 * length begun.ports) k = steps_owe TimePasses begun refl in
       let t : List Entry = frames_noted Host s.host (exchanged s.link) k in
       more_paid (3 + 0) 3 (k.entries ++ t) (omega arith)

@@ -14,7 +14,7 @@ use Rattle.kept_laws.specs.Hosts.{AreHosts, IsFew, IsSentByHost}
 use Rattle.node_telling.specs.Telling.{world_behind}
 use Rattle.creation_readings.proofs.Lines.{history_keeps}
 use Rattle.view_readings.specs.Errors.{no_errors}
-use Rattle.view_readings.proofs.Calm.{reads}
+use Rattle.view_readings.proofs.Leaving.{reads}
 use Rattle.view_readings.proofs.Nodes.{IfKeeps, KeepsErrors}
 use Rattle.view_readings.proofs.Worlds.{near_node}
 use Rattle.view_readings.proofs.Lines.{AllKept, events_so, real_of}

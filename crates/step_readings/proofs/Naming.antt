@@ -37,7 +37,7 @@ use Rattle.notice_readings.specs.Notices.{IsNoticeOf}
 use Rattle.notice_readings.proofs.Deciding.{IsRemoval}
 use Rattle.notice_readings.proofs.Far.{AreFar, quiet_far}
 use Rattle.notice_readings.proofs.Own.{IsFar}
-use Rattle.notice_readings.proofs.Stepping.{AreCalm}
+use Rattle.notice_readings.proofs.Stepping.{TellNoNotices}
 use Rattle.notice_readings.proofs.Telling.{MayTell}
 use Rattle.step_readings.specs.Names.{IsNamed, AreNamed}
 
@@ -260,21 +260,21 @@ may_name x F t ports (Hears ∷ deeds) may allowed = absurd may
 may_name x F t ports (GoesOn i ∷ deeds) may allowed = absurd may
 may_name x F t ports (Ends e ∷ deeds) may allowed = absurd may
 
-pub calm_name : (deeds : List Deed) → AreCalm deeds → AllByRecursion NamesSo deeds
-calm_name [] a = tt
-calm_name (Commits c ∷ deeds) a = (tt, calm_name deeds a.1)
-calm_name (Sends to m ∷ deeds) a = (no_notice to m a.0, calm_name deeds a.1)
-calm_name (Releases asker ∷ deeds) a = (tt, calm_name deeds a.1)
-calm_name (SaysOk ∷ deeds) a = absurd a.0
-calm_name (Asks to message c ∷ deeds) a = absurd a.0
-calm_name (Tells to message ∷ deeds) a = absurd a.0
-calm_name (IsAnswered ∷ deeds) a = absurd a.0
-calm_name (Drops pid ∷ deeds) a = absurd a.0
-calm_name (SetsErrors errors ∷ deeds) a = absurd a.0
-calm_name (Orders order ∷ deeds) a = absurd a.0
-calm_name (Hears ∷ deeds) a = absurd a.0
-calm_name (GoesOn i ∷ deeds) a = absurd a.0
-calm_name (Ends e ∷ deeds) a = absurd a.0
+pub no_notices_name : (deeds : List Deed) → TellNoNotices deeds → AllByRecursion NamesSo deeds
+no_notices_name [] a = tt
+no_notices_name (Commits c ∷ deeds) a = (tt, no_notices_name deeds a.1)
+no_notices_name (Sends to m ∷ deeds) a = (no_notice to m a.0, no_notices_name deeds a.1)
+no_notices_name (Releases asker ∷ deeds) a = (tt, no_notices_name deeds a.1)
+no_notices_name (SaysOk ∷ deeds) a = absurd a.0
+no_notices_name (Asks to message c ∷ deeds) a = absurd a.0
+no_notices_name (Tells to message ∷ deeds) a = absurd a.0
+no_notices_name (IsAnswered ∷ deeds) a = absurd a.0
+no_notices_name (Drops pid ∷ deeds) a = absurd a.0
+no_notices_name (SetsErrors errors ∷ deeds) a = absurd a.0
+no_notices_name (Orders order ∷ deeds) a = absurd a.0
+no_notices_name (Hears ∷ deeds) a = absurd a.0
+no_notices_name (GoesOn i ∷ deeds) a = absurd a.0
+no_notices_name (Ends e ∷ deeds) a = absurd a.0
 
 -- ## What comes
 

@@ -23,7 +23,7 @@ use Rattle.creation_readings.proofs.Deeds.{Still}
 use Rattle.creation_readings.proofs.Steps.{due_ports, ports_due}
 use Rattle.creation_readings.proofs.Near.{has_is}
 use Rattle.view_readings.specs.Errors.{ErrorCount, no_errors, errors_in}
-use Rattle.view_readings.proofs.Calm.{reads, reads_append, book_reads}
+use Rattle.view_readings.proofs.Leaving.{reads, reads_append, book_reads}
 use Rattle.view_readings.proofs.Doing.{HasErrors, Right}
 use Rattle.step_readings.specs.Works.{desks_of, HasAsideAt, HasErrorsRead, KeepsInStep}
 

@@ -51,10 +51,12 @@ join xs ys a b = AllByRecursion-append IsNamed xs ys a b
 module _ (hosts : List ℕ) (are : AreHosts hosts) (t : List Entry) where
   module _ (w : NodeWorld) (k : ReadsBetween hosts t w) (r : Running) (runs : w.controller ≡ Some r) where
     pub comes_reads : (h : ℕ) (comes : Comes) (i : LinkInput) → input_of (link_to w.sites h) comes ≡ Some i
-        → (comes_to_pass (AtEnd h i) (controller_begins w r h comes)).cut ≡ false → ReadsInStep hosts t (comes_to_pass (AtEnd h i) (controller_begins w r h comes))
+        → (comes_to_pass (AtEnd h i) (controller_begins w r h comes)).cut ≡ false
+            → ReadsInStep hosts t (comes_to_pass (AtEnd h i) (controller_begins w r h comes))
     comes_reads h comes i input on = record {
       runs = comes_begins hosts are t w k.keeps r runs h comes i input on;
-      named = join t (comes_to_pass (AtEnd h i) (controller_begins w r h comes)).entries k.named (comes_pass_named hosts are t w k.keeps r runs h comes i input);
+      named = join t (comes_to_pass (AtEnd h i) (controller_begins w r h comes)).entries k.named
+          (comes_pass_named hosts are t w k.keeps r runs h comes i input);
     }
 
     pub tick_reads : (comes_to_pass TimePasses (as_it_ticks w r)).cut ≡ false

@@ -29,7 +29,7 @@ use Rattle.node_telling.proofs.Steps.{without_host}
 use Rattle.node_readings.specs.Orders.{IsFresh}
 use Rattle.notice_readings.specs.Worlds.{IsShut}
 use Rattle.notice_readings.proofs.Doing.{Stands, IsOn as IsNoticed, then as then_noticed, all_stand}
-use Rattle.notice_readings.proofs.Stepping.{AreCalm, calm_flat, calm_may, synced_calm}
+use Rattle.notice_readings.proofs.Stepping.{TellNoNotices, no_notices_flat, no_notices_may, synced_no_notices}
 use Rattle.notice_readings.proofs.Steps.{HasCome as HasComeNoticed, begun as begun_noticed, frees as frees_noticed, owed_all, came_near as near_noticed, came_tick as tick_noticed, sessions_tables}
 use Rattle.creation_readings.proofs.Asks.{Asked, asked_of}
 use Rattle.creation_readings.proofs.Coming.{HasCome as HasComeMade, came_near as near_made, came_tick as tick_made}
@@ -129,14 +129,15 @@ module _ (x : ℕ) (before : List Entry) (w : Work) (a : IsNoticed x before w) w
   noticed_then input c =
       let u : Work = all_done 0 (forgotten (times_out input (all_come input w)).ports) (begun_by input w) in
       let syncs : List Deed = flat_map (synced w.core input) w.ports in
-      let calm : AreCalm syncs =
-      calm_flat (synced w.core input) (λ (p : Port). IsHost p.desk.host) (λ p host. synced_calm w.core input p host) w.ports a.hosts in
+      let no_notices : TellNoNotices syncs =
+      no_notices_flat (synced w.core input) (λ (p : Port). IsHost p.desk.host) (λ p host. synced_no_notices w.core input p host) w.ports a.hosts in
       let freed : IsNoticed x before u =
       frees_noticed x before w a (freed_by input w) (begun_by input w) (begun_noticed x before w a (times_out input (all_come input w)) c) in
-      let kept : Stands x before (all_done 0 syncs u) = all_stand x before 0 (λ n. ⊥) syncs u (λ n f. absurd f) (calm_may x (λ n. ⊥) syncs calm) freed in
+      let kept : Stands x before (all_done 0 syncs u) =
+          all_stand x before 0 (λ n. ⊥) syncs u (λ n f. absurd f) (no_notices_may x (λ n. ⊥) syncs no_notices) freed in
       then_noticed x before (all_done 0 (all_owed (left_by input w))) (all_done 0 syncs u) kept
       (λ d. all_stand x before 0 (λ n. ⊥) (all_owed (left_by input w)) (all_done 0 syncs u) (λ n f. absurd f)
-      (calm_may x (λ n. ⊥) (all_owed (left_by input w)) (owed_all x before w a (left_by input w))) d)
+      (no_notices_may x (λ n. ⊥) (all_owed (left_by input w)) (owed_all x before w a (left_by input w))) d)
 
   pub notices_ready : (input : NodeInput) → IsOutside input → AreDifferent (map (λ (p : Port). p.desk.host) w.ports) → AllByRecursion IsFresh w.ports
       → AllByRecursion (λ (p : Port). IsShut p.side) w.ports → Stands x before (comes_to_pass input w)

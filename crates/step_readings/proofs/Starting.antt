@@ -15,7 +15,7 @@ use Rattle.node_machine.specs.Parts.{Desk, Running, Port, Work}
 use Rattle.node_machine.specs.Turns.{passes}
 use Rattle.node_machine.specs.Node.{NodeInput, steps, synced}
 use Rattle.node_machine.specs.Node.NodeInput.{AtEnd, TimePasses}
-use Rattle.node_world.specs.World.{NodeWorld, Site, link_to, half_in, input_of, arrival, comes_to, work_of, all_aged, end_c}
+use Rattle.node_world.specs.World.{NodeWorld, Site, link_to, near_end_in, input_of, arrival, comes_to, work_of, all_aged, end_c}
 use Rattle.node_world.specs.NodeFilters.{Book, book_in}
 use Rattle.node_links.specs.Notices.{IsOutside}
 use Rattle.kept_laws.specs.Hosts.{AreDifferent, AreHosts}
@@ -27,11 +27,11 @@ use Rattle.node_telling.specs.Telling.{HasEnds, IfItRuns, hosts_in}
 use Rattle.node_telling.proofs.Nodes.{hosts_same}
 use Rattle.node_readings.specs.Noticed.{IfNoticedUp}
 use Rattle.node_readings.specs.Orders.{IsFresh}
-use Rattle.node_readings.proofs.Sites.{half_side, comes_outside}
+use Rattle.node_readings.proofs.Sites.{near_end_side, comes_outside}
 use Rattle.notice_readings.specs.Notices.{IsKeptNotice}
 use Rattle.notice_readings.specs.Worlds.{ControllerReads, IfReads, IsShut}
 use Rattle.notice_readings.proofs.Doing.{Holds, Stands}
-use Rattle.notice_readings.proofs.Stepping.{calm_flat, synced_calm}
+use Rattle.notice_readings.proofs.Stepping.{no_notices_flat, synced_no_notices}
 use Rattle.notice_readings.proofs.Steps.{owed_all}
 use Rattle.notice_readings.proofs.Far.{AreFar}
 use Rattle.notice_readings.proofs.Near.{begins as begins_noticed, aged_far, aged_side}
@@ -42,7 +42,7 @@ use Rattle.creation_readings.proofs.Asks.{asked_of}
 use Rattle.creation_readings.proofs.Deeds.{Still, Fine}
 use Rattle.creation_readings.proofs.Near.{Reads, all_ports, far_book, far_reading, begins as begins_made, up_at}
 use Rattle.view_readings.specs.Errors.{ErrorCount, no_errors}
-use Rattle.view_readings.proofs.Calm.{reads, reads_append, book_reads, IsRead, IsStill, still_all}
+use Rattle.view_readings.proofs.Leaving.{reads, reads_append, book_reads, IsRead, IsStill, still_all}
 use Rattle.view_readings.proofs.Doing.{Right}
 use Rattle.view_readings.proofs.Nodes.{KeepsErrors, begun_right, arrival_still}
 use Rattle.view_readings.proofs.Events.{aged_entries_still}
@@ -87,12 +87,12 @@ module _ (hosts : List ℕ) (are : AreHosts hosts) (t : List Entry) (w : NodeWor
 
   -- behind what was noted in the event before the step
   module _ (old : List Entry) (plain : AllByRecursion IsPlain old) (far : AreFar old) (still : (h : ℕ) → AllByRecursion (IsStill (end_c h)) old)
-      (halves : ℕ → NumberedEnd) (same : (n : ℕ) → (halves n).side ≡ (link_to w.sites n).controller.side) (es : List Entry) where
+      (near_ends : ℕ → NumberedEnd) (same : (n : ℕ) → (near_ends n).side ≡ (link_to w.sites n).controller.side) (es : List Entry) where
     abbrev before : List Entry
     before = t ++ old
 
     abbrev begun : Work
-    begun = work_of r w.memory.plan halves es
+    begun = work_of r w.memory.plan near_ends es
 
     kept_old : RunsSo 0 hosts w.memory.content before r
     kept_old =
@@ -129,13 +129,13 @@ module _ (hosts : List ℕ) (are : AreHosts hosts) (t : List Entry) (w : NodeWor
           desks = subst (λ n. AllByRecursion (λ (d : Desk). eqb d.host h ≡ true → d.errors ≡ n) r.desks) (sym now.0.is) e.at_desks;
         }
 
-    module _ (es_plain : AllByRecursion IsPlain es) (quiet : AreFar es) (calm : (h : ℕ) → AllByRecursion (IsStill (end_c h)) es) (input : NodeInput)
+    module _ (es_plain : AllByRecursion IsPlain es) (quiet : AreFar es) (still : (h : ℕ) → AllByRecursion (IsStill (end_c h)) es) (input : NodeInput)
         (outside : IsOutside input) where
       fresh : AllByRecursion IsFresh begun.ports
-      fresh = all_ports IsFresh halves (λ d. (refl, refl)) r.desks
+      fresh = all_ports IsFresh near_ends (λ d. (refl, refl)) r.desks
 
       shut : AllByRecursion (λ (p : Port). IsShut p.side) begun.ports
-      shut = all_ports (λ (p : Port). IsShut p.side) halves (λ d. subst IsShut (sym (same d.host)) (shut_at d.host)) r.desks
+      shut = all_ports (λ (p : Port). IsShut p.side) near_ends (λ d. subst IsShut (sym (same d.host)) (shut_at d.host)) r.desks
 
       all_hosts : AllByRecursion IsHost (hosts_in w.sites)
       all_hosts = subst (AllByRecursion IsHost) (sym sites_are) are.all
@@ -143,21 +143,22 @@ module _ (hosts : List ℕ) (are : AreHosts hosts) (t : List Entry) (w : NodeWor
       noticed : (x : ℕ) → Stands x before (comes_to_pass input begun)
       noticed x =
           notices_ready x before begun
-          (begins_noticed before w r has different ups k.creations.notices.sites notices_old w.memory.plan halves same es quiet input outside x) input outside
-          (subst AreDifferent (sym (hosts_same halves r.desks ∙ has.ends)) different) fresh shut
+          (begins_noticed before w r has different ups k.creations.notices.sites notices_old w.memory.plan near_ends same es quiet input outside x) input
+              outside
+          (subst AreDifferent (sym (hosts_same near_ends r.desks ∙ has.ends)) different) fresh shut
 
       made : (x : ℕ) → Fine x before hosts (comes_to_pass input begun)
       made x =
           subst (λ hs. Fine x before hs (comes_to_pass input begun)) sites_are
           (creations_ready x before (hosts_in w.sites) all_hosts different (asked_of begun.ports) begun
-          (begins_made before w r runs has different all_hosts ups shut_at rows creations_old w.memory.plan halves same es quiet x) fresh input outside
-          (up_at before w r runs has different all_hosts ups shut_at rows creations_old w.memory.plan halves same es quiet input outside x) shut)
+          (begins_made before w r runs has different all_hosts ups shut_at rows creations_old w.memory.plan near_ends same es quiet x) fresh input outside
+          (up_at before w r runs has different all_hosts ups shut_at rows creations_old w.memory.plan near_ends same es quiet input outside x) shut)
 
       errors : (h : ℕ) → IsHost h → Right (end_c h) hosts (errors_before before h) (comes_to_pass input begun)
       errors h host =
           errors_ready (end_c h) hosts (errors_before before h) (single h) input begun
-          (begun_right (end_c h) (real h) hosts (single h) (errors_before before h) r w.memory.plan halves es
-          (subst (λ hs. HasEnds 0 hs r) sites_are has) (calm h)
+          (begun_right (end_c h) (real h) hosts (single h) (errors_before before h) r w.memory.plan near_ends es
+          (subst (λ hs. HasEnds 0 hs r) sites_are has) (still h)
           (λ near. kept.tables_are ∙ sym (ap (λ (b : Book). b.tables) (errors_old h host).1)) (errors_kept h host))
 
       pub step_begins : (comes_to_pass input begun).cut ≡ false → KeepsInStep hosts before (comes_to_pass input begun)
@@ -173,15 +174,16 @@ module _ (hosts : List ℕ) (are : AreHosts hosts) (t : List Entry) (w : NodeWor
       pub runs_begin : (comes_to_pass input begun).cut ≡ false → RunsInStep hosts before (comes_to_pass input begun)
       runs_begin on =
           with_kept hosts are before w.memory (comes_to_pass input begun) (step_begins on)
-          (kept_ready 0 hosts w.memory before (inl refl) are input begun (runs_begun 0 hosts before w.memory r halves es es_plain kept_old) kept_old.on)
+          (kept_ready 0 hosts w.memory before (inl refl) are input begun (runs_begun 0 hosts before w.memory r near_ends es es_plain kept_old) kept_old.on)
 
       noticed_first : Holds 0 before IsKeptNotice begun
-      noticed_first = begins_noticed before w r has different ups k.creations.notices.sites notices_old w.memory.plan halves same es quiet input outside 0
+      noticed_first = begins_noticed before w r has different ups k.creations.notices.sites notices_old w.memory.plan near_ends same es quiet input outside 0
 
       -- its notices name hosts
       pub pass_named : AreNamed (comes_to_pass input begun).entries
       pass_named =
-          ready_named input begun (calm_flat (synced begun.core input) (λ (p : Port). IsHost p.desk.host) (λ p host. synced_calm begun.core input p host)
+          ready_named input begun
+              (no_notices_flat (synced begun.core input) (λ (p : Port). IsHost p.desk.host) (λ p host. synced_no_notices begun.core input p host)
           begun.ports noticed_first.hosts) (λ ports. owed_all 0 before begun noticed_first ports) (far_named es quiet)
 
       pub step_named : AreNamed (steps input begun).entries
@@ -194,7 +196,7 @@ module _ (hosts : List ℕ) (are : AreHosts hosts) (t : List Entry) (w : NodeWor
       → (comes_to_pass (AtEnd h i) (controller_begins w r h comes)).cut ≡ false → RunsInStep hosts t (comes_to_pass (AtEnd h i) (controller_begins w r h comes))
   comes_begins h comes i input on =
       subst (λ l. RunsInStep hosts l (comes_to_pass (AtEnd h i) (controller_begins w r h comes))) (append-nil t)
-      (runs_begin [] tt tt (λ n. tt) (λ n. half_in (link_to w.sites n) (comes_to h comes n)) (λ n. half_side (link_to w.sites n) (comes_to h comes n))
+      (runs_begin [] tt tt (λ n. tt) (λ n. near_end_in (link_to w.sites n) (comes_to h comes n)) (λ n. near_end_side (link_to w.sites n) (comes_to h comes n))
       (entries_for h (arrival Controller (link_to w.sites h) comes)) (plain_entries h (arrival Controller (link_to w.sites h) comes))
       (arrival_quiet Controller h (link_to w.sites h) comes) (λ n. arrival_still (end_c n) Controller h (link_to w.sites h) comes) (AtEnd h i)
       (comes_outside (link_to w.sites h) comes i input) on)
@@ -216,7 +218,7 @@ module _ (hosts : List ℕ) (are : AreHosts hosts) (t : List Entry) (w : NodeWor
   pub comes_pass_named : (h : ℕ) (comes : Comes) (i : LinkInput) → input_of (link_to w.sites h) comes ≡ Some i
       → AreNamed (comes_to_pass (AtEnd h i) (controller_begins w r h comes)).entries
   comes_pass_named h comes i input =
-      pass_named [] tt tt (λ n. tt) (λ n. half_in (link_to w.sites n) (comes_to h comes n)) (λ n. half_side (link_to w.sites n) (comes_to h comes n))
+      pass_named [] tt tt (λ n. tt) (λ n. near_end_in (link_to w.sites n) (comes_to h comes n)) (λ n. near_end_side (link_to w.sites n) (comes_to h comes n))
       (entries_for h (arrival Controller (link_to w.sites h) comes)) (plain_entries h (arrival Controller (link_to w.sites h) comes))
       (arrival_quiet Controller h (link_to w.sites h) comes) (λ n. arrival_still (end_c n) Controller h (link_to w.sites h) comes) (AtEnd h i)
       (comes_outside (link_to w.sites h) comes i input)
@@ -230,7 +232,7 @@ module _ (hosts : List ℕ) (are : AreHosts hosts) (t : List Entry) (w : NodeWor
   pub comes_named : (h : ℕ) (comes : Comes) (i : LinkInput) → input_of (link_to w.sites h) comes ≡ Some i
       → AreNamed (steps (AtEnd h i) (controller_begins w r h comes)).entries
   comes_named h comes i input =
-      step_named [] tt tt (λ n. tt) (λ n. half_in (link_to w.sites n) (comes_to h comes n)) (λ n. half_side (link_to w.sites n) (comes_to h comes n))
+      step_named [] tt tt (λ n. tt) (λ n. near_end_in (link_to w.sites n) (comes_to h comes n)) (λ n. near_end_side (link_to w.sites n) (comes_to h comes n))
       (entries_for h (arrival Controller (link_to w.sites h) comes)) (plain_entries h (arrival Controller (link_to w.sites h) comes))
       (arrival_quiet Controller h (link_to w.sites h) comes) (λ n. arrival_still (end_c n) Controller h (link_to w.sites h) comes) (AtEnd h i)
       (comes_outside (link_to w.sites h) comes i input)

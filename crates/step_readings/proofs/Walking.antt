@@ -20,7 +20,7 @@ use Rattle.kept_laws.specs.Hosts.{AreHosts}
 use Rattle.kept_laws.proofs.Turning.{deeds_fit}
 use Rattle.notice_readings.specs.Notices.{IsKeptNotice}
 use Rattle.notice_readings.proofs.Doing.{Holds}
-use Rattle.notice_readings.proofs.Stepping.{AreCalm}
+use Rattle.notice_readings.proofs.Stepping.{TellNoNotices}
 use Rattle.notice_readings.proofs.Telling.{IsShort, Outcome, controller_outcome}
 use Rattle.notice_readings.proofs.Telling.Outcome.{Leaves, IsHeard}
 use Rattle.registry.proofs.ValueLemmas.{AllByRecursion-append}
@@ -33,7 +33,7 @@ use Rattle.step_readings.proofs.Lasting.{near_deeds}
 use Rattle.step_readings.proofs.Running.{runs_handled, runs_holds, runs_lets}
 use Rattle.step_readings.proofs.Readying.{begun_by, left_by}
 use Rattle.step_readings.proofs.Knowing.{there_is}
-use Rattle.step_readings.proofs.Naming.{NamesSo, all_done_named, calm_name, handles_named, holds_named, late_named, lets_named, may_name, told_named, unless_named}
+use Rattle.step_readings.proofs.Naming.{NamesSo, all_done_named, no_notices_name, handles_named, holds_named, late_named, lets_named, may_name, told_named, unless_named}
 use Rattle.pass_laws.specs.Steps.{comes_to_pass}
 
 -- ## As the pass begins
@@ -53,7 +53,8 @@ timed_named TimePasses w a =
     AllByRecursion-append IsNamed w.entries (flat_map (told_late w.core) (map with_older w.ports)) a
     (all_flat IsNamed (told_late w.core) (late_named w.core) (map with_older w.ports))
 
-pub ready_named : (input : NodeInput) (w : Work) → AreCalm (flat_map (synced w.core input) w.ports) → ((ports : List Port) → AreCalm (all_owed ports))
+pub ready_named : (input : NodeInput) (w : Work) → TellNoNotices (flat_map (synced w.core input) w.ports)
+    → ((ports : List Port) → TellNoNotices (all_owed ports))
     → AreNamed w.entries → AreNamed (comes_to_pass input w).entries
 ready_named input w syncs owing a =
     let came : Work = times_out input (all_come input w) in
@@ -62,9 +63,9 @@ ready_named input w syncs owing a =
     let freed : AreNamed u.entries = all_done_named 0 (forgotten came.ports) (begun_by input w) (releases_name _) begun in
     let v : Work = all_done 0 (flat_map (synced w.core input) w.ports) u in
     let kept : AreNamed v.entries =
-    all_done_named 0 (flat_map (synced w.core input) w.ports) u (calm_name (flat_map (synced w.core input) w.ports) syncs) freed in
+    all_done_named 0 (flat_map (synced w.core input) w.ports) u (no_notices_name (flat_map (synced w.core input) w.ports) syncs) freed in
     unless_named (all_done 0 (all_owed (left_by input w))) v
-    (λ on. all_done_named 0 (all_owed (left_by input w)) v (calm_name (all_owed (left_by input w)) (owing (left_by input w))) kept) kept
+    (λ on. all_done_named 0 (all_owed (left_by input w)) v (no_notices_name (all_owed (left_by input w)) (owing (left_by input w))) kept) kept
 
 -- ## The pass
 

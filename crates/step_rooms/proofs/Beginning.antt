@@ -16,11 +16,11 @@ use Rattle.node_machine.specs.Parts.{Running, Port, Work, Deed}
 use Rattle.node_machine.specs.Carrying.{port_at, all_done}
 use Rattle.node_machine.specs.Node.{NodeInput, input_at, has_come, all_come, times_out, forgotten, forgets, all_owed, without_notice, after_sessions, synced}
 use Rattle.node_machine.specs.Node.NodeInput.{AtEnd}
-use Rattle.node_world.specs.World.{Site, NodeWorld, site_at, link_to, input_of, half_in, arrival, comes_to}
+use Rattle.node_world.specs.World.{Site, NodeWorld, site_at, link_to, input_of, near_end_in, arrival, comes_to}
 use Rattle.kept_laws.specs.Books.{hosts_of_ends}
 use Rattle.kept_laws.proofs.Plainly.{hosts_map}
 use Rattle.node_links.proofs.Works.{IsFineWork, map_fine, came_fine, without_fine, forgets_fine}
-use Rattle.node_links.proofs.Worlds.{IsFineWorld, half_clean, near_clean, fine_clean, ports_fine}
+use Rattle.node_links.proofs.Worlds.{IsFineWorld, near_end_clean, near_clean, fine_clean, ports_fine}
 use Rattle.node_telling.specs.Telling.{of_link, HasEnds, hosts_in, IsOrderly}
 use Rattle.node_telling.specs.Standing.{without_power}
 use Rattle.node_telling.proofs.Mute.{forgotten_mute, all_owed_mute, all_synced_mute}
@@ -66,9 +66,9 @@ module _ (t : List Entry) (h : ℕ) (who : Side) (l : Link) (comes : Comes) (o :
       → GoesLate h who l comes o late w → Carries t h who w
   carries_from late before w number noted c goes =
       let first : List Noted = arrival who l comes in
-      let second : List Noted = told_coming who (half_in l comes) o in
+      let second : List Noted = told_coming who (near_end_in l comes) o in
       let b : List Entry = of_link h (entries_for h first) ++ of_link h (entries_for h second) in
-      let N : ℕ → Type 0 = λ n. Account h who n (after_coming (half_in l comes).side o) b late w in
+      let N : ℕ → Type 0 = λ n. Account h who n (after_coming (near_end_in l comes).side o) b late w in
       let E : LinkEnd → Type 0 = λ e. Account h who (number_of c.end) e b late w in
       let B : List Entry → Type 0 = λ z. Account h who (number_of c.end) c.end.side z late w in
       record {
@@ -78,7 +78,7 @@ module _ (t : List Entry) (h : ℕ) (who : Side) (l : Link) (comes : Comes) (o :
         end = c.end;
         late = late;
         noted = noted;
-        clear = clear-append first second (arrival_clear who l comes) (coming_clear who (half_in l comes) o);
+        clear = clear-append first second (arrival_clear who l comes) (coming_clear who (near_end_in l comes) o);
         says = c.says;
         account = subst B (sym (notes-append h first second)) (subst E (sym c.side) (subst N (sym c.number) goes));
       }
@@ -161,15 +161,15 @@ module _ (w : NodeWorld) (t : List Entry) (orderly : IsOrderly w) (fine : IsFine
     abbrev begun : Work
     begun = record come { core = after_sessions come.core come.ports; ports = map without_notice (map (forgets come.ports) come.ports) }
 
-    abbrev halves : ℕ → NumberedEnd
-    halves j = half_in (link_to w.sites j) (comes_to k comes j)
+    abbrev near_ends : ℕ → NumberedEnd
+    near_ends j = near_end_in (link_to w.sites j) (comes_to k comes j)
 
     begun_hosts : hosts_of_ends begun.ports ≡ hosts_in w.sites
     begun_hosts =
         hosts_map without_notice without_host (map (forgets come.ports) come.ports)
         ∙ (hosts_map (forgets come.ports) (forgets_host come.ports) come.ports
         ∙ (hosts_map (λ p. has_come p (input_at (AtEnd k i) p)) (λ p. come_host p (input_at (AtEnd k i) p)) start.ports
-        ∙ (hosts_same halves r.desks ∙ node.ends)))
+        ∙ (hosts_same near_ends r.desks ∙ node.ends)))
 
     carries_one : (h : ℕ) (s : Site) → site_at w.sites h ≡ Some s → Carries t h Controller begun
     carries_one h s found =
@@ -193,6 +193,7 @@ module _ (w : NodeWorld) (t : List Entry) (orderly : IsOrderly w) (fine : IsFine
             each = λ h p here. let s : HasSite w.sites h = site_for begun.ports w.sites h p begun_hosts here in carries_one h s.site s.there;
           };
           fine = begun_fine (AtEnd k i) start
-              (ports_fine halves (λ j. half_clean (link_to w.sites j) (comes_to k comes j) (near_clean w.sites j (fine_clean w.sites fine.sites))) r.desks
+              (ports_fine near_ends
+                  (λ j. near_end_clean (link_to w.sites j) (comes_to k comes j) (near_clean w.sites j (fine_clean w.sites fine.sites))) r.desks
               (some_desks w.controller r runs fine.controller));
         })

@@ -10,16 +10,16 @@ use Rattle.message_link.specs.Links.Comes.{NextFrame, AsksReset, Starts, Stops, 
 use Rattle.link_entries.specs.Entries.{End as Side, Entry as Noted, told_of}
 use Rattle.link_entries.specs.Entries.Entry.{Took}
 use Rattle.link_entries.proofs.Noting.{Frames, FramesFor}
-use Rattle.node_world.specs.World.{input_of, half_in, arrival}
+use Rattle.node_world.specs.World.{input_of, near_end_in, arrival}
 use Rattle.node_telling.proofs.Parts.{after_coming, told_coming, IsStep}
 use Rattle.step_rooms.proofs.Inputs.{Says, says_silent, has_had, says_plain, says_frame}
 
 -- the end behind what came, and what the notes say of it with those of that
 pub record Came (t : List Noted) (who : Side) (l : Link) (comes : Comes) (o : Option LinkInput) : Type 0 where
   pub end : NumberedEnd
-  pub side : end.side ≡ after_coming (half_in l comes).side o
-  pub number : number_of end ≡ number_of (half_in l comes)
-  pub says : Says (t ++ (arrival who l comes ++ told_coming who (half_in l comes) o)) who end
+  pub side : end.side ≡ after_coming (near_end_in l comes).side o
+  pub number : number_of end ≡ number_of (near_end_in l comes)
+  pub says : Says (t ++ (arrival who l comes ++ told_coming who (near_end_in l comes) o)) who end
 
 next_came : (t : List Noted) (who : Side) (l : Link) (i : LinkInput) (w : List OnWire) → input_of (record l { to_controller = w }) NextFrame ≡ Some i
     → Frames (record l { to_controller = w }) [] → Says t who l.controller → Came t who (record l { to_controller = w }) NextFrame (Some i)
@@ -27,15 +27,15 @@ next_came t who l i [] q frames a = absurd (cc q)
 next_came t who l i (x ∷ xs) q frames a =
     let k : Link = record l { to_controller = x ∷ xs } in
     let is : Take x.frame ≡ i = cc in
-    let half : NumberedEnd = record l.controller { took = took_with l.controller.took x } in
-    let end : NumberedEnd = has_had l.controller half (Take x.frame) in
+    let near_end : NumberedEnd = record l.controller { took = took_with l.controller.took x } in
+    let end : NumberedEnd = has_had l.controller near_end (Take x.frame) in
     let P : List Noted → Type 0 = λ z. Says z who end in
     let Q : LinkInput → Type 0 = λ j. Came t who k NextFrame (Some j) in
     subst Q is (record {
       end = end;
       side = refl;
       number = refl;
-      says = subst P (append_assoc t (Took who x.frame ∷ []) (told_of who half (Take x.frame))) (says_frame t who k x (frames x xs refl) a);
+      says = subst P (append_assoc t (Took who x.frame ∷ []) (told_of who near_end (Take x.frame))) (says_frame t who k x (frames x xs refl) a);
     })
 
 pub has_come_so : (t : List Noted) (who : Side) (l : Link) (comes : Comes) (o : Option LinkInput) → input_of l comes ≡ o → IsStep comes o

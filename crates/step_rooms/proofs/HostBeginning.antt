@@ -11,10 +11,10 @@ use Rattle.node_machine.specs.Parts.{Running, Port, Work}
 use Rattle.node_machine.specs.Carrying.{port_at}
 use Rattle.node_machine.specs.Node.{input_at, has_come, all_come, forgets, without_notice, after_sessions}
 use Rattle.node_machine.specs.Node.NodeInput.{AtEnd}
-use Rattle.node_world.specs.World.{Site, input_of, half_in, arrival}
+use Rattle.node_world.specs.World.{Site, input_of, near_end_in, arrival}
 use Rattle.kept_laws.specs.Books.{hosts_of_ends}
 use Rattle.kept_laws.proofs.Plainly.{hosts_map}
-use Rattle.node_links.proofs.Worlds.{IsFineSite, half_clean, ports_fine}
+use Rattle.node_links.proofs.Worlds.{IsFineSite, near_end_clean, ports_fine}
 use Rattle.node_telling.specs.Telling.{HasEnds}
 use Rattle.node_telling.specs.Standing.{without_power}
 use Rattle.node_telling.proofs.Powers.{entries_uncut, came_uncut}
@@ -64,7 +64,7 @@ module _ (t : List Entry) (s : Site) (fine : IsFineSite s) (told : IsLinkTold s.
         hosts_map without_notice without_host (map (forgets come.ports) come.ports)
         ∙ (hosts_map (forgets come.ports) (forgets_host come.ports) come.ports
         ∙ (hosts_map (λ p. has_come p (input_at (AtEnd s.host i) p)) (λ p. come_host p (input_at (AtEnd s.host i) p)) start.ports
-        ∙ (hosts_same (λ j. half_in (exchanged s.link) comes) r.desks ∙ node.ends)))
+        ∙ (hosts_same (λ j. near_end_in (exchanged s.link) comes) r.desks ∙ node.ends)))
 
     carries_own : Carries t s.host Host begun
     carries_own =
@@ -87,6 +87,6 @@ module _ (t : List Entry) (s : Site) (fine : IsFineSite s) (told : IsLinkTold s.
             each = λ h p here. subst P (only_end begun.ports s.host h p begun_hosts here) carries_own;
           };
           fine = begun_fine (AtEnd s.host i) start
-              (ports_fine (λ j. half_in (exchanged s.link) comes) (λ j. half_clean (exchanged s.link) comes fine.link.line.far) r.desks
+              (ports_fine (λ j. near_end_in (exchanged s.link) comes) (λ j. near_end_clean (exchanged s.link) comes fine.link.line.far) r.desks
               (some_desks s.node r runs fine.node));
         })

@@ -65,7 +65,7 @@ says_input t who h k i input sound a =
 
 -- an end as it has heard of a number and had an input, which was h before: the session that ended is kept
 abbrev pub has_had : NumberedEnd → NumberedEnd → LinkInput → NumberedEnd
-has_had h half i = record half { side = after_input h.side i; past = past_after (is_some (ended_by h.side i)) h }
+has_had h near_end i = record near_end { side = after_input h.side i; past = past_after (is_some (ended_by h.side i)) h }
 
 -- an input by which no session begins
 pub says_plain : (t : List Noted) (who : Side) (h : NumberedEnd) (i : LinkInput) → Reports h.side i → began_by h.side i ≡ false
@@ -76,12 +76,12 @@ says_plain t who h i so none sound a =
 
 -- a frame
 pub says_frame : (t : List Noted) (who : Side) (l : Link) (x : OnWire) → Frame l x [] → Says t who l.controller
-    → (let half : NumberedEnd = record l.controller { took = took_with l.controller.took x } in
-    Says ((t ++ Took who x.frame ∷ []) ++ told_of who half (Take x.frame)) who (has_had l.controller half (Take x.frame)))
+    → (let near_end : NumberedEnd = record l.controller { took = took_with l.controller.took x } in
+    Says ((t ++ Took who x.frame ∷ []) ++ told_of who near_end (Take x.frame)) who (has_had l.controller near_end (Take x.frame)))
 says_frame t who l x fr a =
-    let half : NumberedEnd = record l.controller { took = took_with l.controller.took x } in
+    let near_end : NumberedEnd = record l.controller { took = took_with l.controller.took x } in
     let i : LinkInput = Take x.frame in
-    says_input (t ++ Took who x.frame ∷ []) who l.controller (has_had l.controller half i) i
+    says_input (t ++ Took who x.frame ∷ []) who l.controller (has_had l.controller near_end i) i
     (record {
       becomes = take_so l.controller.side x.frame a.sound;
       acked = refl;

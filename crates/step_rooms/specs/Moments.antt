@@ -13,7 +13,7 @@ use Rattle.node_machine.specs.Parts.{Running, Port, Work, Deed}
 use Rattle.node_machine.specs.Carrying.{port_at, needs, lack}
 use Rattle.node_machine.specs.Turns.{deeds_of, handles, have_turns}
 use Rattle.node_machine.specs.Node.{NodeInput}
-use Rattle.node_world.specs.World.{Site, node_of, half_in, arrival, work_of}
+use Rattle.node_world.specs.World.{Site, node_of, near_end_in, arrival, work_of}
 use Rattle.node_world.specs.NodeFilters.{session_now, unacknowledged_in, aside_in, spare_at}
 use Rattle.pass_laws.specs.Steps.{comes_to_pass}
 
@@ -51,7 +51,7 @@ HoldsInStep P input w = IfPowered (λ v. HoldsAtEnds P (map (λ (p : Port). p.de
 -- a host as a step begins in which something comes to its end
 abbrev pub host_begins_step : Site → Running → Comes → Work
 host_begins_step s r comes =
-    work_of r s.memory.plan (λ k. half_in (exchanged s.link) comes) (entries_for s.host (arrival Host (exchanged s.link) comes))
+    work_of r s.memory.plan (λ k. near_end_in (exchanged s.link) comes) (entries_for s.host (arrival Host (exchanged s.link) comes))
 
 -- a host as its tick begins
 abbrev pub host_tick_begins : Site → Running → Work

@@ -227,21 +227,21 @@ wire_aged n w h = record { frames = each_aged n w h.frames; few = let l = aged_f
 
 -- ## The link
 
-pub record HalfIs (n : ℕ) (h : NumberedEnd) : Type 0 where
+pub record NumberedIs (n : ℕ) (h : NumberedEnd) : Type 0 where
   pub side : EndIs n h.side
   pub emitted : h.emitted ≤ n
   pub took : h.took ≤ n
 
 -- the link where no number is above n
 pub record LinkIs (n : ℕ) (l : Link) : Type 0 where
-  pub near : HalfIs n l.controller
-  pub far : HalfIs n l.host
+  pub near : NumberedIs n l.controller
+  pub far : NumberedIs n l.host
   pub to_near : WireIs n l.to_controller
   pub to_far : WireIs n l.to_host
   pub resets : l.resets ≤ n
 
-half_more : (n k : ℕ) (h : NumberedEnd) → n ≤ k → HalfIs n h → HalfIs k h
-half_more n k h more is =
+numbered_more : (n k : ℕ) (h : NumberedEnd) → n ≤ k → NumberedIs n h → NumberedIs k h
+numbered_more n k h more is =
     let a = is.emitted in
     let b = is.took in
     record { side = end_more n k h.side more is.side; emitted = omega (arith, a, more); took = omega (arith, b, more) }
@@ -250,8 +250,8 @@ pub link_more : (n k : ℕ) (l : Link) → n ≤ k → LinkIs n l → LinkIs k l
 link_more n k l more h =
     let r = h.resets in
     record {
-      near = half_more n k l.controller more h.near;
-      far = half_more n k l.host more h.far;
+      near = numbered_more n k l.controller more h.near;
+      far = numbered_more n k l.host more h.far;
       to_near = wire_more n k l.to_controller more h.to_near;
       to_far = wire_more n k l.to_host more h.to_far;
       resets = omega (arith, r, more);

@@ -189,11 +189,11 @@ noted_taken n who l h = go l.to_controller refl
         let wire : WireIs n (x ∷ xs) = subst (WireIs n) q h.to_near in
         let e : LinkEnd = after_input l.controller.side (Take x.frame) in
         let is : EndIs n e = end_took n l.controller.side x.frame wire.frames.0.frame h.near.side in
-        let half : NumberedEnd = record l.controller { took = took_with l.controller.took x } in
+        let near_end : NumberedEnd = record l.controller { took = took_with l.controller.took x } in
         subst (AreNoted n) (sym some) (
           wire.frames.0.frame,
-          join n (told_of who half (Take x.frame)) (rest_entries who (left_with l x xs) e (FetchMessage ∷ []) GoesOut)
-              (noted_input n who half (Take x.frame) h.near.emitted (took_low n l.controller.took x h.near.took wire.frames.0) is tt)
+          join n (told_of who near_end (Take x.frame)) (rest_entries who (left_with l x xs) e (FetchMessage ∷ []) GoesOut)
+              (noted_input n who near_end (Take x.frame) h.near.emitted (took_low n l.controller.took x h.near.took wire.frames.0) is tt)
               (noted_puts n who (frames_out (turn e FetchMessage)) n (left_with l x xs) (out_is n (turn e FetchMessage) (end_fetched n e is))
               (link_left n l x xs q h)),
         )

@@ -419,8 +419,8 @@ pub record NearTick (w : NodeWorld) (p : NodeWorld × List Entry) : Type 0 where
 near_tick : (w : NodeWorld) → IsOrderly w → NearTick w (controller_ticks w)
 near_tick w a = go w.controller refl a.controller
   where
-    halves : ℕ → NumberedEnd
-    halves h = (link_to w.sites h).controller
+    near_ends : ℕ → NumberedEnd
+    near_ends h = (link_to w.sites h).controller
 
     after_work : Work → NodeWorld × List Entry
     after_work k = (
@@ -434,7 +434,7 @@ near_tick w a = go w.controller refl a.controller
 
     by : Option Running → NodeWorld × List Entry
     by None = (record w { sites = map (λ (s : Site). record s { link = ticks_at_controller s.link [] GoesOut }) w.sites }, [])
-    by (Some r) = after_work (steps TimePasses (work_of r w.memory.plan halves []))
+    by (Some r) = after_work (steps TimePasses (work_of r w.memory.plan near_ends []))
 
     so : (g : Site → Site) → ((s : Site) → (g s).host ≡ s.host)
         → ((s : Site) → IfItRuns s.host (s.host ∷ []) s.node → IfItRuns s.host (s.host ∷ []) (g s).node)
@@ -455,7 +455,7 @@ near_tick w a = go w.controller refl a.controller
           nodes = kept.nodes;
         }
     go (Some r) z n =
-        let k : Work = steps TimePasses (work_of r w.memory.plan halves []) in
+        let k : Work = steps TimePasses (work_of r w.memory.plan near_ends []) in
         let g : Site → Site = λ s. record s { link = ticked_so s.link (is_late_at k s.host) (turns_at k s.host) (ending_of k) } in
         let kept : IsOrderly (record { memory = w.memory; controller = None; sites = map g w.sites }) = so g (λ s. refl) (λ s x. x) in
         record { moves = controller_ticked w r z n a.different; different = kept.different; hosts = kept.hosts; nodes = kept.nodes }

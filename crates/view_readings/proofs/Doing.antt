@@ -30,7 +30,7 @@ use Rattle.node_world.specs.World.{node_of}
 use Rattle.node_world.specs.NodeFilters.{Book, with_command}
 use Rattle.kept_laws.specs.Books.{hosts_of_ends}
 use Rattle.view_readings.specs.Errors.{ErrorCount, errors_after}
-use Rattle.view_readings.proofs.Calm.{reads, reads_append, IsRead, IsStill, still_all, notes_still, IsUndamaged, plainly, beside_leaves}
+use Rattle.view_readings.proofs.Leaving.{reads, reads_append, IsRead, IsStill, still_all, notes_still, IsUndamaged, plainly, beside_leaves}
 use Rattle.view_readings.proofs.Setting.{IsUnset, AreUnset, IsInitEnd}
 use Rattle.kept_laws.proofs.Plainly.{hosts_map}
 

@@ -123,39 +123,39 @@ module _ (h n : ℕ) (other : eqb n h ≡ false) (who : Side) (is_side : cond (e
     go true q = controller_notes (LeavesInit h) core ports k m
     go false q = one q (port_at ports k)
 
-  ends_off : (halves : ℕ → NumberedEnd) (desks : List Desk) → AllByRecursion IsOff (map (λ (d : Desk). d.host) desks)
-      → AllByRecursion (λ (p : Port). IsOff p.desk.host) (ports_for halves desks)
-  ends_off halves [] all = tt
-  ends_off halves (d ∷ desks) all = (all.0, ends_off halves desks all.1)
+  ends_off : (near_ends : ℕ → NumberedEnd) (desks : List Desk) → AllByRecursion IsOff (map (λ (d : Desk). d.host) desks)
+      → AllByRecursion (λ (p : Port). IsOff p.desk.host) (ports_for near_ends desks)
+  ends_off near_ends [] all = tt
+  ends_off near_ends (d ∷ desks) all = (all.0, ends_off near_ends desks all.1)
 
-  begun_notes : (hosts : List ℕ) (r : Running) (plan : Option Plan) (halves : ℕ → NumberedEnd) (es : List Entry) → HasEnds n hosts r
+  begun_notes : (hosts : List ℕ) (r : Running) (plan : Option Plan) (near_ends : ℕ → NumberedEnd) (es : List Entry) → HasEnds n hosts r
       → AllByRecursion IsOff hosts
       → AllByRecursion (LeavesInit h) es
-      → Notes (LeavesInit h) n who IsOff note_leaves turned_leaves beside_leaves deeds_leave (work_of r plan halves es)
-  begun_notes hosts r plan halves es has off so = record {
+      → Notes (LeavesInit h) n who IsOff note_leaves turned_leaves beside_leaves deeds_leave (work_of r plan near_ends es)
+  begun_notes hosts r plan near_ends es has off so = record {
     number = has.number;
     side = ap (λ k. cond (eqb k 0) Controller Host) has.number ∙ is_side;
-    ends = ends_off halves r.desks (subst (AllByRecursion IsOff) (sym has.ends) off);
+    ends = ends_off near_ends r.desks (subst (AllByRecursion IsOff) (sym has.ends) off);
     so = so;
   }
 
-  pub others_step : (hosts : List ℕ) (r : Running) (plan : Option Plan) (halves : ℕ → NumberedEnd) (es : List Entry) (input : NodeInput) → HasEnds n hosts r
-      → AllByRecursion IsOff hosts → AllByRecursion (LeavesInit h) es → AllByRecursion (LeavesInit h) (steps input (work_of r plan halves es)).entries
-  others_step hosts r plan halves es input has off so =
-      (steps_note (LeavesInit h) n who IsOff note_leaves turned_leaves beside_leaves deeds_leave input (work_of r plan halves es)
-      (begun_notes hosts r plan halves es has off so)).so
+  pub others_step : (hosts : List ℕ) (r : Running) (plan : Option Plan) (near_ends : ℕ → NumberedEnd) (es : List Entry) (input : NodeInput) → HasEnds n hosts r
+      → AllByRecursion IsOff hosts → AllByRecursion (LeavesInit h) es → AllByRecursion (LeavesInit h) (steps input (work_of r plan near_ends es)).entries
+  others_step hosts r plan near_ends es input has off so =
+      (steps_note (LeavesInit h) n who IsOff note_leaves turned_leaves beside_leaves deeds_leave input (work_of r plan near_ends es)
+      (begun_notes hosts r plan near_ends es has off so)).so
 
-  pub others_begin : (hosts : List ℕ) (r : Running) (plan : Option Plan) (halves : ℕ → NumberedEnd) (k : ℕ) (deeds : List Deed) → HasEnds n hosts r
+  pub others_begin : (hosts : List ℕ) (r : Running) (plan : Option Plan) (near_ends : ℕ → NumberedEnd) (k : ℕ) (deeds : List Deed) → HasEnds n hosts r
       → AllByRecursion IsOff hosts → AllByRecursion (NotesSo (LeavesInit h)) deeds
-      → AllByRecursion (LeavesInit h) (begins_with k deeds (work_of r plan halves [])).entries
-  others_begin hosts r plan halves k deeds has off notes =
-      (all_do (LeavesInit h) n who IsOff note_leaves turned_leaves beside_leaves deeds_leave k deeds (work_of r plan halves []) notes
-      (begun_notes hosts r plan halves [] has off tt)).so
+      → AllByRecursion (LeavesInit h) (begins_with k deeds (work_of r plan near_ends [])).entries
+  others_begin hosts r plan near_ends k deeds has off notes =
+      (all_do (LeavesInit h) n who IsOff note_leaves turned_leaves beside_leaves deeds_leave k deeds (work_of r plan near_ends []) notes
+      (begun_notes hosts r plan near_ends [] has off tt)).so
 
 -- a step of another node
-pub other_steps : (h n : ℕ) (hosts : List ℕ) (r : Running) (plan : Option Plan) (halves : ℕ → NumberedEnd) (es : List Entry) (input : NodeInput)
+pub other_steps : (h n : ℕ) (hosts : List ℕ) (r : Running) (plan : Option Plan) (near_ends : ℕ → NumberedEnd) (es : List Entry) (input : NodeInput)
     → eqb n h ≡ false
     → HasEnds n hosts r → AllByRecursion (IsNoEndOf h n) hosts → AllByRecursion (LeavesInit h) es
-    → AllByRecursion (LeavesInit h) (steps input (work_of r plan halves es)).entries
-other_steps h n hosts r plan halves es input other has off so =
-    others_step h n other (cond (eqb n 0) Controller Host) refl hosts r plan halves es input has off so
+    → AllByRecursion (LeavesInit h) (steps input (work_of r plan near_ends es)).entries
+other_steps h n hosts r plan near_ends es input other has off so =
+    others_step h n other (cond (eqb n 0) Controller Host) refl hosts r plan near_ends es input has off so

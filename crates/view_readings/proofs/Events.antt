@@ -25,7 +25,7 @@ use Rattle.node_world.specs.NodeFilters.{Book}
 use Rattle.node_telling.specs.Telling.{HasEnds, IfItRuns, hosts_in, IsOrderly}
 use Rattle.view_readings.specs.Errors.{ErrorCount}
 use Rattle.view_readings.proofs.Noting.{all_flat}
-use Rattle.view_readings.proofs.Calm.{reads, reads_append, Leaves, IsStill, still_all, still_leaves}
+use Rattle.view_readings.proofs.Leaving.{reads, reads_append, Leaves, IsStill, still_all, still_leaves}
 use Rattle.view_readings.proofs.Nodes.{IfKeeps, keeps_sets, leaves_kept, own_steps, others_step, frames_still, aged_still}
 use Rattle.view_readings.proofs.Worlds.{far_node, AreFine, orderly_fine, map_fine, node_map, with_kept, with_other, with_own, with_none, host_link, own_node, near_node, host_node, Kept, Known, After, left, near_single, near_zero, near_other, far_other, own_ends, no_near, host_side}
 use Rattle.registry.proofs.ValueLemmas.{AllByRecursion-append}
@@ -75,11 +75,11 @@ module _ (e : End) (real : e.at_host ≡ true → eqb e.link 0 ≡ false) where
       off_is : controller_ticks w ≡ (v, [])
       off_is = rw q refl
     by_node (Some r) q = subst (λ p. Then p x) (sym on_is) (by_side e.at_host refl) where
-      halves : ℕ → NumberedEnd
-      halves h = (link_to w.sites h).controller
+      near_ends : ℕ → NumberedEnd
+      near_ends h = (link_to w.sites h).controller
 
       c : Work
-      c = steps TimePasses (work_of r w.memory.plan halves [])
+      c = steps TimePasses (work_of r w.memory.plan near_ends [])
 
       ticked : Site → Site
       ticked s = record s { link = ticked_so s.link (is_late_at c s.host) (turns_at c s.host) (ending_of c) }
@@ -101,13 +101,13 @@ module _ (e : End) (real : e.at_host ≡ true → eqb e.link 0 ≡ false) where
 
       by_side : (b : Bool) → e.at_host ≡ b → Then (v, c.entries ++ frames) x
       by_side false near = subst (λ o. IfKeeps e o (reads e (c.entries ++ frames) x)) (sym (near_node e real v near))
-          (own_steps e real (hosts_in w.sites) (near_single e real (hosts_in w.sites) near) x r w.memory.plan halves [] frames TimePasses
+          (own_steps e real (hosts_in w.sites) (near_single e real (hosts_in w.sites) near) x r w.memory.plan near_ends [] frames TimePasses
           (subst (λ n. HasEnds n (hosts_in w.sites) r) (sym (near_zero e real near)) has) tt frames_so (λ n. known n r q)
           (subst (λ o. IfKeeps e o x) (near_node e real w near ∙ q) k))
       by_side true far =
           left e real w v (c.entries ++ frames) x
           (host_node e real v far ∙ (node_map ticked (λ s. refl) (λ s. refl) w.sites e.link ∙ sym (host_node e real w far)))
-          (AllByRecursion-append (Leaves e) c.entries frames (others_step e 0 Controller (hosts_in w.sites) r w.memory.plan halves [] TimePasses has refl
+          (AllByRecursion-append (Leaves e) c.entries frames (others_step e 0 Controller (hosts_in w.sites) r w.memory.plan near_ends [] TimePasses has refl
           (near_other e real far (hosts_in w.sites)) tt) (still_leaves e frames frames_so)) k
 
   near_ticks_fine : (w : NodeWorld) → AreFine w.sites → AreFine (controller_ticks w).0.sites

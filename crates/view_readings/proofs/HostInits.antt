@@ -24,9 +24,9 @@ use Rattle.node_machine.specs.Controller.{is_command_message}
 use Rattle.node_machine.specs.Carrying.{port_at}
 use Rattle.node_machine.specs.Node.{input_at, has_come, steps, begins_with, found, new_desk}
 use Rattle.node_machine.specs.Node.NodeInput.{AtEnd, TimePasses}
-use Rattle.node_world.specs.World.{Site, ending_of, runs_on, turns_at, input_of, half_in, arrival, wires_for, port_for, work_of, frames_noted, host_work, after_host, host_cut, host_ticks, sending, beginning}
+use Rattle.node_world.specs.World.{Site, ending_of, runs_on, turns_at, input_of, near_end_in, arrival, wires_for, port_for, work_of, frames_noted, host_work, after_host, host_cut, host_ticks, sending, beginning}
 use Rattle.node_readings.specs.Worlds.{host_does_so, init_of}
-use Rattle.node_readings.proofs.Sites.{ending_quiet, arrival_quiet, sent_phase, stepped_phase, comes_outside, half_side}
+use Rattle.node_readings.proofs.Sites.{ending_quiet, arrival_quiet, sent_phase, stepped_phase, comes_outside, near_end_side}
 use Rattle.view_readings.specs.Inits.{init_kept, RunsInit, IfRunsInit, SiteKeepsInit}
 use Rattle.view_readings.proofs.Answering.{reads_init, init_append, MayGo}
 use Rattle.view_readings.proofs.Going.{Base, Stands, all_go, quiet_init}
@@ -80,20 +80,21 @@ module _ (s : Site) (host : IsHost s.host) (i : Option Init) (r : Running) (node
   kept = k.read ∙ ap init_kept node
 
   -- its step begins, over what is noted first
-  base_of : (half : NumberedEnd) (es : List Entry) (b : Option Init) → Base s.host host b half.side.shdlc.phase (work_of r s.memory.plan (λ n. half) es)
-  base_of half es b = record {
+  base_of : (near_end : NumberedEnd) (es : List Entry) (b : Option Init)
+      → Base s.host host b near_end.side.shdlc.phase (work_of r s.memory.plan (λ n. near_end) es)
+  base_of near_end es b = record {
     number = so.number;
-    port = port_for half so.desk;
-    is = ap (map (λ (d : Desk). port_for half d)) so.desks_are;
+    port = port_for near_end so.desk;
+    is = ap (map (λ (d : Desk). port_for near_end d)) so.desks_are;
     at = so.host;
     quiet = so.no_notice;
     phase = refl;
   }
 
-  begun_stands : (half : NumberedEnd) (es : List Entry) → half.side ≡ s.link.host.side → ((y : Option Init) → reads_init s.host es y ≡ y)
-      → Stands s.host host i half.side.shdlc.phase (work_of r s.memory.plan (λ n. half) es)
-  begun_stands half es side silent = record {
-    base = base_of half es i;
+  begun_stands : (near_end : NumberedEnd) (es : List Entry) → near_end.side ≡ s.link.host.side → ((y : Option Init) → reads_init s.host es y ≡ y)
+      → Stands s.host host i near_end.side.shdlc.phase (work_of r s.memory.plan (λ n. near_end) es)
+  begun_stands near_end es side silent = record {
+    base = base_of near_end es i;
     on = λ e. (silent i ∙ kept, λ some. ((so.waits some).0, ap (λ (x : LinkEnd). x.shdlc.phase) side ∙ (so.waits some).1));
     off = λ e. absurd (true≢false (sym e));
   }
@@ -107,26 +108,26 @@ module _ (s : Site) (host : IsHost s.host) (i : Option Init) (r : Running) (node
         w : Work
         w = host_work s r comes (steps (AtEnd s.host input))
 
-        half : NumberedEnd
-        half = half_in (exchanged s.link) comes
+        near_end : NumberedEnd
+        near_end = near_end_in (exchanged s.link) comes
 
         begun : Work
-        begun = work_of r s.memory.plan (λ n. half) (entries_for s.host (arrival Host (exchanged s.link) comes))
+        begun = work_of r s.memory.plan (λ n. near_end) (entries_for s.host (arrival Host (exchanged s.link) comes))
 
         now : LinkState
         now = (after_input s.link.host.side input).shdlc.phase
 
-        first : Stands s.host host i half.side.shdlc.phase begun
-        first = begun_stands half (entries_for s.host (arrival Host (exchanged s.link) comes)) (half_side (exchanged s.link) comes)
+        first : Stands s.host host i near_end.side.shdlc.phase begun
+        first = begun_stands near_end (entries_for s.host (arrival Host (exchanged s.link) comes)) (near_end_side (exchanged s.link) comes)
             (arrival_init s.host Host s.host (exchanged s.link) comes)
 
-        came : (has_come (port_for half so.desk) (input_at (AtEnd s.host input) (port_for half so.desk))).side.shdlc.phase ≡ now
+        came : (has_come (port_for near_end so.desk) (input_at (AtEnd s.host input) (port_for near_end so.desk))).side.shdlc.phase ≡ now
         came =
-            ap (λ b. (has_come (port_for half so.desk) (cond b (Some input) None)).side.shdlc.phase) (eq-eqb so.desk.host s.host so.host)
-            ∙ ap (λ e. (after_input e input).shdlc.phase) (half_side (exchanged s.link) comes)
+            ap (λ b. (has_come (port_for near_end so.desk) (cond b (Some input) None)).side.shdlc.phase) (eq-eqb so.desk.host s.host so.host)
+            ∙ ap (λ e. (after_input e input).shdlc.phase) (near_end_side (exchanged s.link) comes)
 
         stands : Stands s.host host i now w
-        stands = subst (λ n. Stands s.host host i n w) came (steps_stand s.host host i half.side.shdlc.phase (AtEnd s.host input) begun
+        stands = subst (λ n. Stands s.host host i n w) came (steps_stand s.host host i near_end.side.shdlc.phase (AtEnd s.host input) begun
             (comes_outside (exchanged s.link) comes input is) refl first (refl, refl))
 
         phase : w.cut ≡ false → (after_host comes w s).link.host.side.shdlc.phase ≡ now

@@ -125,16 +125,16 @@ module _ (h : ℕ) (host : IsHost h) where
           off_is = rw q refl
     by_node (Some r) q = subst (λ p. So p i) (sym on_is) (left h host v (c.entries ++ frames) i
         (AllByRecursion-append (LeavesInit h) c.entries frames
-        (others_step h 0 (zero_off h host) Controller refl (hosts_in w.sites) r w.memory.plan halves [] TimePasses
+        (others_step h 0 (zero_off h host) Controller refl (hosts_in w.sites) r w.memory.plan near_ends [] TimePasses
         (subst (IfItRuns 0 (hosts_in w.sites)) q runs) (near_off h host (hosts_in w.sites)) tt) (all_flat (LeavesInit h)
         (λ (s : Site). frames_noted Controller s.host s.link c) (λ s. frames_leave h host Controller s.host s.link c) w.sites))
         (map_keeps h host ticked (λ s. refl) (λ s. refl) (λ s. ap (λ (x : NumberedEnd). x.side) (so_host s.link (is_late_at c s.host) (turns_at c s.host)
         (ending_of c))) w.sites i keeps)) where
-          halves : ℕ → NumberedEnd
-          halves k = (link_to w.sites k).controller
+          near_ends : ℕ → NumberedEnd
+          near_ends k = (link_to w.sites k).controller
 
           c : Work
-          c = steps TimePasses (work_of r w.memory.plan halves [])
+          c = steps TimePasses (work_of r w.memory.plan near_ends [])
 
           ticked : Site → Site
           ticked s = record s { link = ticked_so s.link (is_late_at c s.host) (turns_at c s.host) (ending_of c) }

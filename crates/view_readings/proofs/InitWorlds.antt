@@ -22,7 +22,7 @@ use Rattle.node_machine.specs.Controller.{is_command_message}
 use Rattle.node_machine.specs.Carrying.{changed_if, port_at}
 use Rattle.node_machine.specs.Node.{NodeInput, steps, begins_with}
 use Rattle.node_machine.specs.Node.NodeInput.{AtEnd}
-use Rattle.node_world.specs.World.{NodeWorld, Site, site_at, with_site, node_at, link_to, ending_of, turns_at, input_of, half_in, arrival, wires_for, work_of, frames_noted, comes_to, link_after_controller, after_controller, controller_does, host_work, after_host, host_does, sending, beginning, comes_at, activates, end_c, end_h}
+use Rattle.node_world.specs.World.{NodeWorld, Site, site_at, with_site, node_at, link_to, ending_of, turns_at, input_of, near_end_in, arrival, wires_for, work_of, frames_noted, comes_to, link_after_controller, after_controller, controller_does, host_work, after_host, host_does, sending, beginning, comes_at, activates, end_c, end_h}
 use Rattle.node_world.specs.World.Happening.{Inits}
 use Rattle.node_links.proofs.Ends.{here_host}
 use Rattle.node_telling.specs.Telling.{HasEnds, IfItRuns, hosts_in, IsOrderly}
@@ -156,7 +156,7 @@ module _ (h : ℕ) (host : IsHost h) where
     by_node : (o : Option Running) → w.controller ≡ o → Then (controller_does w k comes f) i
     by_node None q = subst (λ p. Then p i) (sym (off_is q)) keeps
     by_node (Some r) q = subst (λ p. Then p i) (sym on_is) (left (after_controller w k comes c).0 (c.entries ++ frames) i
-        (AllByRecursion-append (LeavesInit h) c.entries frames (others_step h 0 zero_off Controller refl (hosts_in w.sites) r w.memory.plan (λ n. half_in
+        (AllByRecursion-append (LeavesInit h) c.entries frames (others_step h 0 zero_off Controller refl (hosts_in w.sites) r w.memory.plan (λ n. near_end_in
         (link_to w.sites n) (comes_to k comes n)) (entries_for k (arrival Controller (link_to w.sites k) comes)) (AtEnd k input) has (near_off
         (hosts_in w.sites)) (arrival_leave Controller k (link_to w.sites k) comes)) (all_flat (LeavesInit h) (λ (s : Site). frames_noted Controller s.host
         (wires_for s.link (comes_to k comes s.host)) c) (λ s. frames_leave Controller s.host (wires_for s.link (comes_to k comes s.host)) c) w.sites))
@@ -164,7 +164,8 @@ module _ (h : ℕ) (host : IsHost h) where
         (λ s. ap (λ (x : NumberedEnd). x.side) (here_host s.link (Step (comes_to k comes s.host)
         (turns_at c s.host) (ending_of c)))) w.sites i keeps)) where
           c : Work
-          c = f (work_of r w.memory.plan (λ n. half_in (link_to w.sites n) (comes_to k comes n)) (entries_for k (arrival Controller (link_to w.sites k) comes)))
+          c = f (work_of r w.memory.plan (λ n. near_end_in (link_to w.sites n) (comes_to k comes n))
+              (entries_for k (arrival Controller (link_to w.sites k) comes)))
 
           frames : List Entry
           frames = flat_map (λ (s : Site). frames_noted Controller s.host (wires_for s.link (comes_to k comes s.host)) c) w.sites
@@ -177,11 +178,11 @@ module _ (h : ℕ) (host : IsHost h) where
 
   -- ## A host acts
 
-  pub host_steps : (s : Site) (r : Running) (halves : ℕ → NumberedEnd) (es : List Entry) (input : NodeInput) → HasEnds s.host (s.host ∷ []) r
+  pub host_steps : (s : Site) (r : Running) (near_ends : ℕ → NumberedEnd) (es : List Entry) (input : NodeInput) → HasEnds s.host (s.host ∷ []) r
       → eqb s.host 0 ≡ false
-      → eqb s.host h ≡ false → AllByRecursion (LeavesInit h) es → AllByRecursion (LeavesInit h) (steps input (work_of r s.memory.plan halves es)).entries
-  host_steps s r halves es input has zero off so =
-      others_step h s.host off Host (ap (λ b. cond b Controller Host) zero) (s.host ∷ []) r s.memory.plan halves es input has (far_off s.host off, tt) so
+      → eqb s.host h ≡ false → AllByRecursion (LeavesInit h) es → AllByRecursion (LeavesInit h) (steps input (work_of r s.memory.plan near_ends es)).entries
+  host_steps s r near_ends es input has zero off so =
+      others_step h s.host off Host (ap (λ b. cond b Controller Host) zero) (s.host ∷ []) r s.memory.plan near_ends es input has (far_off s.host off, tt) so
 
   -- a host that runs has one end, and its number isn't 00
   own_ends : (sites : List Site) (k : ℕ) (s : Site) (r : Running) → AreFine sites → site_at sites k ≡ Some s → s.node ≡ Some r
@@ -276,7 +277,7 @@ module _ (h : ℕ) (host : IsHost h) where
         ∙ is_here)) keeps)
     by (inr z) = other_acts w k comes (steps (AtEnd k input)) i z
         (λ s r here q. let has = own_ends w.sites k s r (orderly_fine w orderly) here q in
-        host_steps s r (λ n. half_in (exchanged s.link) comes) (entries_for s.host (arrival Host (exchanged s.link) comes)) (AtEnd k input) has.0 has.1
+        host_steps s r (λ n. near_end_in (exchanged s.link) comes) (entries_for s.host (arrival Host (exchanged s.link) comes)) (AtEnd k input) has.0 has.1
         (other_host w.sites k s here z) (arrival_leave Host s.host (exchanged s.link) comes)) keeps
 
   -- ## Something comes
@@ -318,7 +319,8 @@ module _ (h : ℕ) (host : IsHost h) where
   others_act w i k deeds orderly notes off keeps = other_acts w k NoInput (begins_with k deeds) i off
       (λ s r here q. let has = own_ends w.sites k s r (orderly_fine w orderly) here q in
       let away : eqb s.host h ≡ false = other_host w.sites k s here off in
-      others_begin h s.host away Host (ap (λ b. cond b Controller Host) has.1) (s.host ∷ []) r s.memory.plan (λ n. half_in (exchanged s.link) NoInput) k deeds
+      others_begin h s.host away Host (ap (λ b. cond b Controller Host) has.1) (s.host ∷ []) r s.memory.plan
+          (λ n. near_end_in (exchanged s.link) NoInput) k deeds
       has.0 (far_off s.host away, tt) notes) keeps
 
   pub gives_keep : (w : NodeWorld) (i : Option Init) (k : ℕ) (m : Message) → IsOrderly w → Keeps w i

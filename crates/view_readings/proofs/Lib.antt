@@ -1,5 +1,5 @@
 pub mod Noting
-pub mod Calm
+pub mod Leaving
 pub mod Setting
 pub mod Doing
 pub mod Turning

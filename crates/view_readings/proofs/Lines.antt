@@ -40,7 +40,7 @@ use Rattle.notice_readings.proofs.Events.{event_read, begins_read}
 use Rattle.notice_readings.proofs.Lines.{notices_of}
 use Rattle.node_telling.proofs.Lasting.{AllMay, repeated_may, stands_none, events_of_steps, entries_of_steps, AllHold, front_holds, lines_hold, lines_last}
 use Rattle.view_readings.specs.Errors.{ErrorCount, no_errors, errors_in, errors_of, ErrorsAreRead, MayBeCounted}
-use Rattle.view_readings.proofs.Calm.{reads, reads_append, book_reads}
+use Rattle.view_readings.proofs.Leaving.{reads, reads_append, book_reads}
 use Rattle.view_readings.proofs.Setting.{AreUnset}
 use Rattle.view_readings.proofs.Nodes.{IfKeeps}
 use Rattle.view_readings.proofs.Worlds.{far_node, near_node, host_node, own_node_is, Kept, Known, After, orderly_fine, far_begins, comes_kept, activates_kept}

@@ -25,7 +25,7 @@ use Rattle.node_world.specs.World.{NodeWorld, Site, site_at, with_site, link_to,
 use Rattle.node_world.specs.Lines.{frames_at}
 use Rattle.node_world.specs.NodeFilters.{was_refused}
 use Rattle.view_readings.specs.Errors.{ErrorCount, errors_after}
-use Rattle.view_readings.proofs.Calm.{Leaves, still_leaves, IsUndamaged, notes_still}
+use Rattle.view_readings.proofs.Leaving.{Leaves, still_leaves, IsUndamaged, notes_still}
 use Rattle.view_readings.proofs.Doing.{own_is}
 use Rattle.view_readings.proofs.Nodes.{IfKeeps}
 use Rattle.view_readings.proofs.Worlds.{far_node, with_kept, with_other, with_own, with_none, own_node, near_node, host_node, Kept, After, left}

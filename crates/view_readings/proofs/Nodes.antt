@@ -29,7 +29,7 @@ use Rattle.node_telling.proofs.Mute.{IsPlain, IsMute, AreMute, deeds_mute}
 use Rattle.node_telling.proofs.Nodes.{hosts_same, ports_for}
 use Rattle.view_readings.specs.Errors.{ErrorCount}
 use Rattle.view_readings.proofs.Noting.{IsOwnNote, NotesSo, Notes, all_do as notes_do, steps_note}
-use Rattle.view_readings.proofs.Calm.{reads, reads_append, Leaves, leaves_all, IsStill, still_all, still_leaves, IsUndamaged, note_still, notes_still, turn_leaves, beside_leaves, plainly}
+use Rattle.view_readings.proofs.Leaving.{reads, reads_append, Leaves, leaves_all, IsStill, still_all, still_leaves, IsUndamaged, note_still, notes_still, turn_leaves, beside_leaves, plainly}
 use Rattle.view_readings.proofs.Setting.{AreUnset}
 use Rattle.view_readings.proofs.Doing.{side_of, HasErrors, Right, unset_fine, all_do}
 use Rattle.view_readings.proofs.Stepping.{all_undamaged, steps_right}
@@ -128,11 +128,11 @@ module _ (e : End) (real : e.at_host ≡ true → eqb e.link 0 ≡ false) (hosts
     by true q = rw (q, real q) refl
     by false q = rw q refl
 
-  ends_has : (x : ErrorCount) (halves : ℕ → NumberedEnd) (desks : List Desk)
+  ends_has : (x : ErrorCount) (near_ends : ℕ → NumberedEnd) (desks : List Desk)
       → AllByRecursion (λ (d : Desk). eqb d.host e.link ≡ true → d.errors ≡ x.errors) desks
-      → AllByRecursion (HasErrors e x.errors) (ports_for halves desks)
-  ends_has x halves [] all = tt
-  ends_has x halves (d ∷ desks) all = (all.0, ends_has x halves desks all.1)
+      → AllByRecursion (HasErrors e x.errors) (ports_for near_ends desks)
+  ends_has x near_ends [] all = tt
+  ends_has x near_ends (d ∷ desks) all = (all.0, ends_has x near_ends desks all.1)
 
   desks_has : (n m : ℕ) → m ≡ n → (ports : List Port) → AllByRecursion (HasErrors e n) ports
       → AllByRecursion (λ (d : Desk). eqb d.host e.link ≡ true → d.errors ≡ m) (map (λ (p : Port). p.desk) ports)
@@ -140,17 +140,17 @@ module _ (e : End) (real : e.at_host ≡ true → eqb e.link 0 ≡ false) (hosts
   desks_has n m is (p ∷ ports) all = ((λ here. all.0 here ∙ sym is), desks_has n m is ports all.1)
 
   -- a step begins
-  pub begun_right : (x : ErrorCount) (r : Running) (plan : Option Plan) (halves : ℕ → NumberedEnd) (es : List Entry) → HasEnds (node_of e) hosts r
-      → AllByRecursion (IsStill e) es → (e.at_host ≡ false → r.core.tables ≡ x.book.tables) → KeepsErrors e r x → Right e hosts x (work_of r plan halves es)
-  begun_right x r plan halves es has still known k =
+  pub begun_right : (x : ErrorCount) (r : Running) (plan : Option Plan) (near_ends : ℕ → NumberedEnd) (es : List Entry) → HasEnds (node_of e) hosts r
+      → AllByRecursion (IsStill e) es → (e.at_host ≡ false → r.core.tables ≡ x.book.tables) → KeepsErrors e r x → Right e hosts x (work_of r plan near_ends es)
+  begun_right x r plan near_ends es has still known k =
       let read = still_all e es x x.errors still (record { sets = k.sets; is = refl }) in
       record {
         number = has.number;
         side = side_is r.core has.number;
-        hosts_are = hosts_same halves r.desks ∙ has.ends;
+        hosts_are = hosts_same near_ends r.desks ∙ has.ends;
         errors = x.errors;
         read = read.0;
-        ends = ends_has x halves r.desks k.desks;
+        ends = ends_has x near_ends r.desks k.desks;
         tables = λ on near. known near ∙ ap (λ (b : Rattle.node_world.specs.NodeFilters.Book). b.tables) (sym read.1);
       }
 
@@ -168,25 +168,27 @@ module _ (e : End) (real : e.at_host ≡ true → eqb e.link 0 ≡ false) (hosts
     by false q = subst (λ o. IfKeeps e o (reads e k.entries x)) (sym (on_is q))
         (record { sets = r.read.sets; desks = desks_has r.errors (reads e k.entries x).errors r.read.is k.ports r.ends })
 
-  pub own_steps : (x : ErrorCount) (r : Running) (plan : Option Plan) (halves : ℕ → NumberedEnd) (es frames : List Entry) (input : NodeInput)
+  pub own_steps : (x : ErrorCount) (r : Running) (plan : Option Plan) (near_ends : ℕ → NumberedEnd) (es frames : List Entry) (input : NodeInput)
       → HasEnds (node_of e) hosts r → AllByRecursion (IsStill e) es → AllByRecursion (IsStill e) frames
       → (e.at_host ≡ false → r.core.tables ≡ x.book.tables) → KeepsErrors e r x
-      → IfKeeps e (runs_on (steps input (work_of r plan halves es))) (reads e ((steps input (work_of r plan halves es)).entries ++ frames) x)
-  own_steps x r plan halves es frames input has still frames_so known keeps =
-      let k : Work = steps input (work_of r plan halves es) in
+      → IfKeeps e (runs_on (steps input (work_of r plan near_ends es))) (reads e ((steps input (work_of r plan near_ends es)).entries ++ frames) x)
+  own_steps x r plan near_ends es frames input has still frames_so known keeps =
+      let k : Work = steps input (work_of r plan near_ends es) in
       subst (IfKeeps e (runs_on k)) (sym (reads_append e k.entries frames x)) (leaves_kept e (runs_on k) (reads e k.entries x) frames
       (still_leaves e frames frames_so)
-      (ended_keeps x k (steps_right e hosts x single input (work_of r plan halves es) (begun_right x r plan halves es has still known keeps))))
+      (ended_keeps x k (steps_right e hosts x single input (work_of r plan near_ends es) (begun_right x r plan near_ends es has still known keeps))))
 
-  pub own_begins : (x : ErrorCount) (r : Running) (plan : Option Plan) (halves : ℕ → NumberedEnd) (frames : List Entry) (h : ℕ) (deeds : List Deed)
+  pub own_begins : (x : ErrorCount) (r : Running) (plan : Option Plan) (near_ends : ℕ → NumberedEnd) (frames : List Entry) (h : ℕ) (deeds : List Deed)
       → HasEnds (node_of e) hosts r → AllByRecursion (IsStill e) frames → AreUnset deeds
       → (e.at_host ≡ false → r.core.tables ≡ x.book.tables) → KeepsErrors e r x
-      → IfKeeps e (runs_on (begins_with h deeds (work_of r plan halves []))) (reads e ((begins_with h deeds (work_of r plan halves [])).entries ++ frames) x)
-  own_begins x r plan halves frames h deeds has frames_so unset known keeps =
-      let k : Work = begins_with h deeds (work_of r plan halves []) in
+      → IfKeeps e (runs_on (begins_with h deeds (work_of r plan near_ends [])))
+          (reads e ((begins_with h deeds (work_of r plan near_ends [])).entries ++ frames) x)
+  own_begins x r plan near_ends frames h deeds has frames_so unset known keeps =
+      let k : Work = begins_with h deeds (work_of r plan near_ends []) in
       subst (IfKeeps e (runs_on k)) (sym (reads_append e k.entries frames x)) (leaves_kept e (runs_on k) (reads e k.entries x) frames
       (still_leaves e frames frames_so)
-      (ended_keeps x k (all_do e hosts x h deeds (work_of r plan halves []) (unset_fine e hosts x h deeds unset) (begun_right x r plan halves [] has tt known
+      (ended_keeps x k
+          (all_do e hosts x h deeds (work_of r plan near_ends []) (unset_fine e hosts x h deeds unset) (begun_right x r plan near_ends [] has tt known
       keeps))))
 
 -- ## Other nodes
@@ -236,31 +238,31 @@ module _ (e : End) (n : ℕ) (who : Side) where
       (Rattle.node_machine.specs.Turns.deeds_of core ports h m)
   deeds_leave core ports h m number = mute_leaves e (Rattle.node_machine.specs.Turns.deeds_of core ports h m) (deeds_mute core ports h m)
 
-  ends_other : (halves : ℕ → NumberedEnd) (desks : List Desk) → AllByRecursion (IsOther e who) (map (λ (d : Desk). d.host) desks)
-      → AllByRecursion (λ (p : Port). IsOther e who p.desk.host) (ports_for halves desks)
-  ends_other halves [] all = tt
-  ends_other halves (d ∷ desks) all = (all.0, ends_other halves desks all.1)
+  ends_other : (near_ends : ℕ → NumberedEnd) (desks : List Desk) → AllByRecursion (IsOther e who) (map (λ (d : Desk). d.host) desks)
+      → AllByRecursion (λ (p : Port). IsOther e who p.desk.host) (ports_for near_ends desks)
+  ends_other near_ends [] all = tt
+  ends_other near_ends (d ∷ desks) all = (all.0, ends_other near_ends desks all.1)
 
-  begun_notes : (hosts : List ℕ) (r : Running) (plan : Option Plan) (halves : ℕ → NumberedEnd) (es : List Entry) → HasEnds n hosts r
+  begun_notes : (hosts : List ℕ) (r : Running) (plan : Option Plan) (near_ends : ℕ → NumberedEnd) (es : List Entry) → HasEnds n hosts r
       → cond (eqb n 0) Controller Host ≡ who → AllByRecursion (IsOther e who) hosts → AllByRecursion (Leaves e) es
-      → Notes (Leaves e) n who (IsOther e who) note_leaves turned_leaves (beside_leaves e n) deeds_leave (work_of r plan halves es)
-  begun_notes hosts r plan halves es has side others so = record {
+      → Notes (Leaves e) n who (IsOther e who) note_leaves turned_leaves (beside_leaves e n) deeds_leave (work_of r plan near_ends es)
+  begun_notes hosts r plan near_ends es has side others so = record {
     number = has.number;
     side = ap (λ k. cond (eqb k 0) Controller Host) has.number ∙ side;
-    ends = ends_other halves r.desks (subst (AllByRecursion (IsOther e who)) (sym has.ends) others);
+    ends = ends_other near_ends r.desks (subst (AllByRecursion (IsOther e who)) (sym has.ends) others);
     so = so;
   }
 
-  pub others_step : (hosts : List ℕ) (r : Running) (plan : Option Plan) (halves : ℕ → NumberedEnd) (es : List Entry) (input : NodeInput) → HasEnds n hosts r
+  pub others_step : (hosts : List ℕ) (r : Running) (plan : Option Plan) (near_ends : ℕ → NumberedEnd) (es : List Entry) (input : NodeInput) → HasEnds n hosts r
       → cond (eqb n 0) Controller Host ≡ who → AllByRecursion (IsOther e who) hosts → AllByRecursion (Leaves e) es
-      → AllByRecursion (Leaves e) (steps input (work_of r plan halves es)).entries
-  others_step hosts r plan halves es input has side others so =
-      (steps_note (Leaves e) n who (IsOther e who) note_leaves turned_leaves (beside_leaves e n) deeds_leave input (work_of r plan halves es)
-      (begun_notes hosts r plan halves es has side others so)).so
+      → AllByRecursion (Leaves e) (steps input (work_of r plan near_ends es)).entries
+  others_step hosts r plan near_ends es input has side others so =
+      (steps_note (Leaves e) n who (IsOther e who) note_leaves turned_leaves (beside_leaves e n) deeds_leave input (work_of r plan near_ends es)
+      (begun_notes hosts r plan near_ends es has side others so)).so
 
-  pub others_begin : (hosts : List ℕ) (r : Running) (plan : Option Plan) (halves : ℕ → NumberedEnd) (h : ℕ) (deeds : List Deed) → HasEnds n hosts r
+  pub others_begin : (hosts : List ℕ) (r : Running) (plan : Option Plan) (near_ends : ℕ → NumberedEnd) (h : ℕ) (deeds : List Deed) → HasEnds n hosts r
       → cond (eqb n 0) Controller Host ≡ who → AllByRecursion (IsOther e who) hosts → AreMute deeds
-      → AllByRecursion (Leaves e) (begins_with h deeds (work_of r plan halves [])).entries
-  others_begin hosts r plan halves h deeds has side others mute =
-      (notes_do (Leaves e) n who (IsOther e who) note_leaves turned_leaves (beside_leaves e n) deeds_leave h deeds (work_of r plan halves [])
-      (mute_leaves e deeds mute) (begun_notes hosts r plan halves [] has side others tt)).so
+      → AllByRecursion (Leaves e) (begins_with h deeds (work_of r plan near_ends [])).entries
+  others_begin hosts r plan near_ends h deeds has side others mute =
+      (notes_do (Leaves e) n who (IsOther e who) note_leaves turned_leaves (beside_leaves e n) deeds_leave h deeds (work_of r plan near_ends [])
+      (mute_leaves e deeds mute) (begun_notes hosts r plan near_ends [] has side others tt)).so

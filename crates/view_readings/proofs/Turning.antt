@@ -28,7 +28,7 @@ use Rattle.node_telling.proofs.Away.{at_map}
 use Rattle.node_links.proofs.Noticing.{at_host}
 use Rattle.node_readings.proofs.Turning.{lack_parts}
 use Rattle.view_readings.specs.Errors.{ErrorCount, errors_after, errors_set_by, leads_to_link_gate, is_any_ok}
-use Rattle.view_readings.proofs.Calm.{reads, reads_append, IsRead}
+use Rattle.view_readings.proofs.Leaving.{reads, reads_append, IsRead}
 use Rattle.view_readings.proofs.Setting.{is_link_gate, controller_unset, host_unset, controller_sets, host_sets, SetDeeds, IsUpAt}
 use Rattle.view_readings.proofs.Setting.SetDeeds.{IsSet, IsRefused, IsDropped}
 use Rattle.view_readings.proofs.Doing.{side_of, own_is, HasErrors, map_has, Right, desks, turns, unless, IsFine, unset_fine, all_do, holds, lets}

@@ -94,9 +94,9 @@ site_there (x ∷ desks) (s ∷ sites) h d same e = by (eqb x.host h) refl (site
 
 -- ## Sessions
 
-up_is : (half : NumberedEnd) → is_some (session_at half) ≡ is_up half.side.shdlc.phase
-up_is half = by half.side.shdlc.phase refl where
-  by : (s : LinkState) → half.side.shdlc.phase ≡ s → is_some (session_at half) ≡ is_up half.side.shdlc.phase
+up_is : (near_end : NumberedEnd) → is_some (session_at near_end) ≡ is_up near_end.side.shdlc.phase
+up_is near_end = by near_end.side.shdlc.phase refl where
+  by : (s : LinkState) → near_end.side.shdlc.phase ≡ s → is_some (session_at near_end) ≡ is_up near_end.side.shdlc.phase
   by Up q = rw q refl
   by Waiting q = rw q refl
   by Down q = rw q refl

@@ -15,14 +15,14 @@ use Rattle.node_machine.specs.Parts.{Running, Work, Deed}
 use Rattle.node_machine.specs.Carrying.{changed_if}
 use Rattle.node_machine.specs.Node.{steps, begins_with}
 use Rattle.node_machine.specs.Node.NodeInput.{AtEnd}
-use Rattle.node_world.specs.World.{NodeWorld, Site, site_at, with_site, node_at, node_of, link_to, runs_on, input_of, half_in, arrival, wires_for, work_of, frames_noted, comes_to, controller_work, link_after_controller, after_controller, controller_does, host_work, after_host, host_does, comes_at, activates, end_c, end_h}
+use Rattle.node_world.specs.World.{NodeWorld, Site, site_at, with_site, node_at, node_of, link_to, runs_on, input_of, near_end_in, arrival, wires_for, work_of, frames_noted, comes_to, controller_work, link_after_controller, after_controller, controller_does, host_work, after_host, host_does, comes_at, activates, end_c, end_h}
 use Rattle.kept_laws.specs.Hosts.{AreDifferent}
 use Rattle.node_telling.specs.Telling.{HasEnds, IfItRuns, hosts_in, IsOrderly}
 use Rattle.node_telling.proofs.Mute.{AreMute}
 use Rattle.node_telling.proofs.Nodes.{site_host}
 use Rattle.view_readings.specs.Errors.{ErrorCount}
 use Rattle.view_readings.proofs.Noting.{all_flat}
-use Rattle.view_readings.proofs.Calm.{reads, reads_append, Leaves, IsStill, still_leaves}
+use Rattle.view_readings.proofs.Leaving.{reads, reads_append, Leaves, IsStill, still_leaves}
 use Rattle.view_readings.proofs.Setting.{AreUnset}
 use Rattle.view_readings.proofs.Nodes.{IfKeeps, KeepsErrors, leaves_kept, own_steps, own_begins, IsOther, others_step, others_begin, frames_still, arrival_still}
 use Rattle.registry.proofs.ValueLemmas.{AllByRecursion-append}
@@ -189,7 +189,7 @@ module _ (e : End) (real : e.at_host ≡ true → eqb e.link 0 ≡ false) where
     by_node None q = subst (λ p. After p x) (sym (off_is q)) k
     by_node (Some r) q = subst (λ p. After p x) (sym on_is) (by_side e.at_host refl) where
       begun : Work
-      begun = work_of r w.memory.plan (λ n. half_in (link_to w.sites n) (comes_to h comes n)) (entries_for h (arrival Controller (link_to w.sites h) comes))
+      begun = work_of r w.memory.plan (λ n. near_end_in (link_to w.sites n) (comes_to h comes n)) (entries_for h (arrival Controller (link_to w.sites h) comes))
 
       c : Work
       c = f begun
@@ -212,14 +212,16 @@ module _ (e : End) (real : e.at_host ≡ true → eqb e.link 0 ≡ false) where
 
       by_side : (b : Bool) → e.at_host ≡ b → After (after_controller w h comes c) x
       by_side false near = subst (λ o. IfKeeps e o (reads e (c.entries ++ frames) x)) (sym (near_node (after_controller w h comes c).0 near))
-          (own_steps e real (hosts_in w.sites) (near_single (hosts_in w.sites) near) x r w.memory.plan (λ n. half_in (link_to w.sites n) (comes_to h comes n))
+          (own_steps e real (hosts_in w.sites) (near_single (hosts_in w.sites) near) x r w.memory.plan
+              (λ n. near_end_in (link_to w.sites n) (comes_to h comes n))
           (entries_for h (arrival Controller (link_to w.sites h) comes)) frames (AtEnd h i) (subst (λ n. HasEnds n (hosts_in w.sites) r) (sym (near_zero near))
           has) came frames_so (λ n. known n r q) (subst (λ o. IfKeeps e o x) (near_node w near ∙ q) k))
       by_side true far =
           left w (after_controller w h comes c).0 (c.entries ++ frames) x
           (host_node (after_controller w h comes c).0 far
           ∙ (node_map (link_after_controller h comes c) (λ s. refl) (λ s. refl) w.sites e.link ∙ sym (host_node w far)))
-          (AllByRecursion-append (Leaves e) c.entries frames (others_step e 0 Controller (hosts_in w.sites) r w.memory.plan (λ n. half_in (link_to w.sites n)
+          (AllByRecursion-append (Leaves e) c.entries frames
+              (others_step e 0 Controller (hosts_in w.sites) r w.memory.plan (λ n. near_end_in (link_to w.sites n)
           (comes_to h comes n)) (entries_for h (arrival Controller (link_to w.sites h) comes)) (AtEnd h i) has refl (near_other far (hosts_in w.sites))
           (still_leaves e (entries_for h (arrival Controller (link_to w.sites h) comes)) came)) (still_leaves e frames frames_so)) k
 
@@ -306,7 +308,7 @@ module _ (e : End) (real : e.at_host ≡ true → eqb e.link 0 ≡ false) where
     own s r here q far is keeps =
         let has = has_own w h s r fine here q in
         let ends = own_ends s r far (has.2 ∙ sym (eqb-true e.link h is)) has.0 in
-        own_steps e real (s.host ∷ []) ends.1 x r s.memory.plan (λ n. half_in (exchanged s.link) comes) (entries_for s.host
+        own_steps e real (s.host ∷ []) ends.1 x r s.memory.plan (λ n. near_end_in (exchanged s.link) comes) (entries_for s.host
         (arrival Host (exchanged s.link) comes)) (frames_noted Host h (wires_for (exchanged s.link) comes) (host_work s r comes (steps (AtEnd h i))))
         (AtEnd h i) ends.0 (arrival_still e Host s.host (exchanged s.link) comes) (frames_still e Host h (wires_for (exchanged s.link) comes)
         (host_work s r comes (steps (AtEnd h i)))) (λ near. no_near far near) keeps
@@ -315,7 +317,7 @@ module _ (e : End) (real : e.at_host ≡ true → eqb e.link 0 ≡ false) where
         → AllByRecursion (Leaves e) (host_work s r comes (steps (AtEnd h i))).entries
     others s r here q off =
         let has = has_own w h s r fine here q in
-        others_step e s.host Host (s.host ∷ []) r s.memory.plan (λ n. half_in (exchanged s.link) comes) (entries_for s.host
+        others_step e s.host Host (s.host ∷ []) r s.memory.plan (λ n. near_end_in (exchanged s.link) comes) (entries_for s.host
         (arrival Host (exchanged s.link) comes)) (AtEnd h i) has.0 (host_side s.host has.1) (
           far_other s.host (λ far. ap (λ n. eqb n e.link) has.2 ∙ off far),
           tt,
@@ -330,7 +332,7 @@ module _ (e : End) (real : e.at_host ≡ true → eqb e.link 0 ≡ false) where
     own s r here q far is keeps =
         let has = has_own w h s r fine here q in
         let ends = own_ends s r far (has.2 ∙ sym (eqb-true e.link h is)) has.0 in
-        own_begins e real (s.host ∷ []) ends.1 x r s.memory.plan (λ n. half_in (exchanged s.link) NoInput) (frames_noted Host h
+        own_begins e real (s.host ∷ []) ends.1 x r s.memory.plan (λ n. near_end_in (exchanged s.link) NoInput) (frames_noted Host h
         (wires_for (exchanged s.link) NoInput) (host_work s r NoInput (begins_with h deeds))) h deeds ends.0 (frames_still e Host h
         (wires_for (exchanged s.link) NoInput) (host_work s r NoInput (begins_with h deeds))) unset (λ near. no_near far near) keeps
 
@@ -338,7 +340,7 @@ module _ (e : End) (real : e.at_host ≡ true → eqb e.link 0 ≡ false) where
         → AllByRecursion (Leaves e) (host_work s r NoInput (begins_with h deeds)).entries
     others s r here q off =
         let has = has_own w h s r fine here q in
-        others_begin e s.host Host (s.host ∷ []) r s.memory.plan (λ n. half_in (exchanged s.link) NoInput) h deeds has.0 (host_side s.host has.1)
+        others_begin e s.host Host (s.host ∷ []) r s.memory.plan (λ n. near_end_in (exchanged s.link) NoInput) h deeds has.0 (host_side s.host has.1)
         (far_other s.host (λ far. ap (λ n. eqb n e.link) has.2 ∙ off far), tt) mute
 
   pub comes_kept : (w : NodeWorld) (x : ErrorCount) (a : End) (comes : Comes) → IsOrderly w → Known w x → Kept w x → After (comes_at w a comes) x

@@ -110,9 +110,9 @@ pub fn a_host_keeps_the_init_that_is_read()
 /// Whatever step another node has, the controller or another host, nothing that is noted in it tells of the init of this host, where
 /// nothing that was noted first does and none of its ends is this host's.
 pub fn steps_of_others_tell_nothing_of_an_init()
-    ensures { (h n : ℕ) (hosts : List ℕ) (r : Running) (plan : Option Plan) (halves : ℕ → NumberedEnd) (es : List Entry) (input : NodeInput) →
+    ensures { (h n : ℕ) (hosts : List ℕ) (r : Running) (plan : Option Plan) (near_ends : ℕ → NumberedEnd) (es : List Entry) (input : NodeInput) →
         (n == h) ≡ false → HasEnds n hosts r → AllByRecursion (IsNoEndOf h n) hosts → AllByRecursion (LeavesInit h) es →
-        AllByRecursion (LeavesInit h) (steps input (work_of r plan halves es)).entries }
+        AllByRecursion (LeavesInit h) (steps input (work_of r plan near_ends es)).entries }
 {}
 
 /// At the end of each event of a history, and behind any lines of a schedule, the init that runs at a host, with its identity, its pipes

@@ -290,7 +290,7 @@ only_oldest (y ∷ ms) x p q = (let z : y ≡ x = ap (or_else_this y) p in rw (z
 
 -- an end whose messages were fetched has none
 fetched_none : (k : Kept) (pool : PoolState) (m : LinkEnd) → EndStandsFor k pool m → k.inbox.got ≡ None → m.got ≡ []
-fetched_none k pool m h none = sym h.half.got ∙ ap (λ g. messages_of pool (got_chains g)) none
+fetched_none k pool m h none = sym h.halfway.got ∙ ap (λ g. messages_of pool (got_chains g)) none
 
 -- the oldest message that came was fetched from the end, where one had come, and lies in these blocks
 pub record HasFetched (n : Node) (k : Link) (m : LinkEnd) (fetched : Option (ℕ × Chain)) : Type 0 where

@@ -6,12 +6,12 @@ use Rattle.link_end.proofs.«end».End.hear_if_open.Goals as goal
 
 pub returns-then-is_open-clause-stands : goal.returns-then-is_open-clause-stands
 returns-then-is_open-clause-stands c m h =
-    let o : is_open m.role ≡ true = sym (ap is_open h.half.role) ∙ (sym c.is_open.ensures ∙ c.if-is_open.true) in
+    let o : is_open m.role ≡ true = sym (ap is_open h.halfway.role) ∙ (sym c.is_open.ensures ∙ c.if-is_open.true) in
     let P : LinkEnd → Type 0 = λ x. EndStandsFor c.hear.new.self c.hear.new.pool x in
     subst P (sym (heard_after m c.args.control.now c.requires.frame o)) (c.hear.ensures.stands m h)
 
 pub returns-else-is_open-clause-stands : goal.returns-else-is_open-clause-stands
 returns-else-is_open-clause-stands c m h =
-    let o : is_open m.role ≡ false = sym (ap is_open h.half.role) ∙ (sym c.is_open.ensures ∙ c.if-is_open.false) in
+    let o : is_open m.role ≡ false = sym (ap is_open h.halfway.role) ∙ (sym c.is_open.ensures ∙ c.if-is_open.false) in
     let P : LinkEnd → Type 0 = λ x. EndStandsFor c.args.self.now c.args.pool.now x in
     subst P (sym (unheard_after m c.args.control.now c.requires.frame o)) h

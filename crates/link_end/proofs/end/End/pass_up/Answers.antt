@@ -16,7 +16,7 @@ use Rattle.link_end.proofs.«end».End.pass_up.Goals as goal
 pub returns-then-len-gt-MAX_MESSAGE-clause-stands : goal.returns-then-len-gt-MAX_MESSAGE-clause-stands
 returns-then-len-gt-MAX_MESSAGE-clause-stands c m h =
     let x : Message = (c.args.pipe, chain_bytes c.args.pool.now c.args.chain) in
-    let up : m.shdlc.phase ≡ Up = sym h.half.link.kept.phase ∙ c.requires.up in
+    let up : m.shdlc.phase ≡ Up = sym h.halfway.link.kept.phase ∙ c.requires.up in
     let P : LinkEnd → Type 0 = λ y. EndStandsFor c.args.self.now c.args.pool.now y in
     subst P
     (sym (refusal_stays m x (TooLong (length x.1)) (refused_long m x up (let l = c.len-len.ensures in omega (arith, l, c.if-len-gt-MAX_MESSAGE.true))))) h
@@ -24,7 +24,7 @@ returns-then-len-gt-MAX_MESSAGE-clause-stands c m h =
 pub returns-in-Ok-clause-stands : goal.returns-in-Ok-clause-stands
 returns-in-Ok-clause-stands c m h =
     let x : Message = (c.args.pipe, chain_bytes c.args.pool.now c.args.chain) in
-    let up : m.shdlc.phase ≡ Up = sym h.half.link.kept.phase ∙ c.requires.up in
+    let up : m.shdlc.phase ≡ Up = sym h.halfway.link.kept.phase ∙ c.requires.up in
     let fits : blocks_for (length x.1) ≤ spare m =
     subst (λ n. blocks_for (length x.1) ≤ n) (sym (spare_is c.args.pool.now c.args.self.now m h)) (c.in-Ok.ensures.room.0 refl) in
     let P : LinkEnd → Type 0 = λ y. EndStandsFor c.refill.new.self c.refill.new.pool y in
@@ -36,7 +36,7 @@ returns-in-Ok-clause-stands c m h =
 pub returns-in-Ok-clause-answer : goal.returns-in-Ok-clause-answer
 returns-in-Ok-clause-answer c m h =
     let x : Message = (c.args.pipe, chain_bytes c.args.pool.now c.args.chain) in
-    let up : m.shdlc.phase ≡ Up = sym h.half.link.kept.phase ∙ c.requires.up in
+    let up : m.shdlc.phase ≡ Up = sym h.halfway.link.kept.phase ∙ c.requires.up in
     let fits : blocks_for (length x.1) ≤ spare m =
     subst (λ n. blocks_for (length x.1) ≤ n) (sym (spare_is c.args.pool.now c.args.self.now m h)) (c.in-Ok.ensures.room.0 refl) in
     sym (ap (pass_by c.args.chain) (refused_none m x up (let l = c.len-len.ensures in omega (arith, l, c.if-len-gt-MAX_MESSAGE.false)) fits))
@@ -45,7 +45,7 @@ pub returns-in-Err-clause-stands : goal.returns-in-Err-clause-stands
 returns-in-Err-clause-stands c m h =
     let x : Message = (c.args.pipe, chain_bytes c.args.pool.now c.args.chain) in
     let k = c.args.self.now in
-    let up : m.shdlc.phase ≡ Up = sym h.half.link.kept.phase ∙ c.requires.up in
+    let up : m.shdlc.phase ≡ Up = sym h.halfway.link.kept.phase ∙ c.requires.up in
     let full = refused_full m x up (let l = c.len-len.ensures in omega (arith, l, c.if-len-gt-MAX_MESSAGE.false))
     (λ fits. (let n = c.in-Err.ensures.room.1 (subst (λ n. blocks_for (length x.1) ≤ n) (spare_is c.args.pool.now k m h) fits) in cc)) in
     let P : LinkEnd → Type 0 = λ y. EndStandsFor (record k { outbox = c.accept_chain.new.self }) c.accept_chain.new.pool y in
@@ -58,7 +58,7 @@ pub returns-in-Err-clause-answer : goal.returns-in-Err-clause-answer
 returns-in-Err-clause-answer c m h =
     let x : Message = (c.args.pipe, chain_bytes c.args.pool.now c.args.chain) in
     let k = c.args.self.now in
-    let up : m.shdlc.phase ≡ Up = sym h.half.link.kept.phase ∙ c.requires.up in
+    let up : m.shdlc.phase ≡ Up = sym h.halfway.link.kept.phase ∙ c.requires.up in
     let spares = spare_is c.args.pool.now k m h in
     let full = refused_full m x up (let l = c.len-len.ensures in omega (arith, l, c.if-len-gt-MAX_MESSAGE.false))
     (λ fits. (let n = c.in-Err.ensures.room.1 (subst (λ n. blocks_for (length x.1) ≤ n) spares fits) in cc)) in

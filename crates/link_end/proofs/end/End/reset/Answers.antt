@@ -7,22 +7,22 @@ use Rattle.link_end.proofs.«end».End.reset.Goals as goal
 
 pub returns-then-not-is_open-clause-stands : goal.returns-then-not-is_open-clause-stands
 returns-then-not-is_open-clause-stands c m h =
-    let o : is_open m.role ≡ false = sym (ap is_open h.half.role) ∙ (sym c.is_open.ensures ∙ c.if-not-is_open.true) in
+    let o : is_open m.role ≡ false = sym (ap is_open h.halfway.role) ∙ (sym c.is_open.ensures ∙ c.if-not-is_open.true) in
     let P : LinkEnd → Type 0 = λ x. EndStandsFor c.args.self.now c.args.pool.now x in
     subst P (sym (reset_closed m c.args.window o)) h
 
 pub returns-in-Up-clause-stands : goal.returns-in-Up-clause-stands
 returns-in-Up-clause-stands c m h =
-    let o : is_open m.role ≡ true = sym (ap is_open h.half.role) ∙ (sym c.is_open.ensures ∙ c.if-not-is_open.false) in
-    let up : m.shdlc.phase ≡ Up = sym h.half.link.kept.phase ∙ sym c.in-Up.ensures.value in
+    let o : is_open m.role ≡ true = sym (ap is_open h.halfway.role) ∙ (sym c.is_open.ensures ∙ c.if-not-is_open.false) in
+    let up : m.shdlc.phase ≡ Up = sym h.halfway.link.kept.phase ∙ sym c.in-Up.ensures.value in
     let P : LinkEnd → Type 0 = λ x. EndStandsFor c.forget.new.self c.forget.new.pool x in
     subst P (sym (reset_up m c.args.window o up))
     (reset_ends (record { before = h; small = c.requires.window; stands = c.ask.ensures }) up c.forget.ensures)
 
 pub returns-in-Down-clause-stands : goal.returns-in-Down-clause-stands
 returns-in-Down-clause-stands c m h =
-    let o : is_open m.role ≡ true = sym (ap is_open h.half.role) ∙ (sym c.is_open.ensures ∙ c.if-not-is_open.false) in
-    let down : m.shdlc.phase ≡ Down = sym h.half.link.kept.phase ∙ sym c.in-Down.ensures.value in
+    let o : is_open m.role ≡ true = sym (ap is_open h.halfway.role) ∙ (sym c.is_open.ensures ∙ c.if-not-is_open.false) in
+    let down : m.shdlc.phase ≡ Down = sym h.halfway.link.kept.phase ∙ sym c.in-Down.ensures.value in
     let P : LinkEnd → Type 0 = λ x. EndStandsFor c.refill.new.self c.refill.new.pool x in
     subst P (sym (reset_down m c.args.window o down))
     (c.refill.ensures.stands _

@@ -16,14 +16,14 @@ use Rattle.link_end.proofs.«end».End.send_up.Goals as goal
 pub returns-then-message-clause-stands : goal.returns-then-message-clause-stands
 returns-then-message-clause-stands c m h =
     let x : Message = (c.args.pipe, c.args.message.now) in
-    let up : m.shdlc.phase ≡ Up = sym h.half.link.kept.phase ∙ c.requires.up in
+    let up : m.shdlc.phase ≡ Up = sym h.halfway.link.kept.phase ∙ c.requires.up in
     let P : LinkEnd → Type 0 = λ y. EndStandsFor c.args.self.now c.args.pool.now y in
     subst P (sym (refusal_stays m x (TooLong (length x.1)) (refused_long m x up c.if-message.true))) h
 
 pub returns-in-Ok-clause-stands : goal.returns-in-Ok-clause-stands
 returns-in-Ok-clause-stands c m h =
     let x : Message = (c.args.pipe, c.args.message.now) in
-    let up : m.shdlc.phase ≡ Up = sym h.half.link.kept.phase ∙ c.requires.up in
+    let up : m.shdlc.phase ≡ Up = sym h.halfway.link.kept.phase ∙ c.requires.up in
     let fits : blocks_for (length x.1) ≤ spare m =
     subst (λ n. blocks_for (length x.1) ≤ n) (sym (spare_is c.args.pool.now c.args.self.now m h)) (c.in-Ok.ensures.room.0 refl) in
     let P : LinkEnd → Type 0 = λ y. EndStandsFor c.refill.new.self c.refill.new.pool y in
@@ -34,7 +34,7 @@ returns-in-Ok-clause-stands c m h =
 pub returns-in-Ok-clause-answer : goal.returns-in-Ok-clause-answer
 returns-in-Ok-clause-answer c m h =
     let x : Message = (c.args.pipe, c.args.message.now) in
-    let up : m.shdlc.phase ≡ Up = sym h.half.link.kept.phase ∙ c.requires.up in
+    let up : m.shdlc.phase ≡ Up = sym h.halfway.link.kept.phase ∙ c.requires.up in
     let fits : blocks_for (length x.1) ≤ spare m =
     subst (λ n. blocks_for (length x.1) ≤ n) (sym (spare_is c.args.pool.now c.args.self.now m h)) (c.in-Ok.ensures.room.0 refl) in
     sym (ap by_refusal_told (refused_none m x up c.if-message.false fits))
@@ -53,7 +53,7 @@ pub returns-in-Err-clause-stands : goal.returns-in-Err-clause-stands
 returns-in-Err-clause-stands c m h =
     let x : Message = (c.args.pipe, c.args.message.now) in
     let k = c.args.self.now in
-    let up : m.shdlc.phase ≡ Up = sym h.half.link.kept.phase ∙ c.requires.up in
+    let up : m.shdlc.phase ≡ Up = sym h.halfway.link.kept.phase ∙ c.requires.up in
     let full = refused_full m x up c.if-message.false
     (λ fits. (let n = c.in-Err.ensures.room.1 (subst (λ n. blocks_for (length x.1) ≤ n) (spare_is c.args.pool.now k m h) fits) in cc)) in
     let P : LinkEnd → Type 0 = λ y. EndStandsFor (record k { outbox = c.accept.new.self }) c.accept.new.pool y in
@@ -66,7 +66,7 @@ pub returns-in-Err-clause-answer : goal.returns-in-Err-clause-answer
 returns-in-Err-clause-answer c m h =
     let x : Message = (c.args.pipe, c.args.message.now) in
     let k = c.args.self.now in
-    let up : m.shdlc.phase ≡ Up = sym h.half.link.kept.phase ∙ c.requires.up in
+    let up : m.shdlc.phase ≡ Up = sym h.halfway.link.kept.phase ∙ c.requires.up in
     let spares = spare_is c.args.pool.now k m h in
     let full = refused_full m x up c.if-message.false
     (λ fits. (let n = c.in-Err.ensures.room.1 (subst (λ n. blocks_for (length x.1) ≤ n) spares fits) in cc)) in

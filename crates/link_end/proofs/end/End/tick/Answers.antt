@@ -6,12 +6,12 @@ use Rattle.link_end.proofs.«end».End.tick.Goals as goal
 
 pub returns-then-is_open-clause-stands : goal.returns-then-is_open-clause-stands
 returns-then-is_open-clause-stands c m h =
-    let o : is_open m.role ≡ true = sym (ap is_open h.half.role) ∙ (sym c.is_open.ensures ∙ c.if-is_open.true) in
+    let o : is_open m.role ≡ true = sym (ap is_open h.halfway.role) ∙ (sym c.is_open.ensures ∙ c.if-is_open.true) in
     let P : LinkEnd → Type 0 = λ x. EndStandsFor c.tick_link.new.self c.tick_link.new.pool x in
     subst P (sym (tick_after m true o)) (c.tick_link.ensures.stands m h)
 
 pub returns-else-is_open-clause-stands : goal.returns-else-is_open-clause-stands
 returns-else-is_open-clause-stands c m h =
-    let o : is_open m.role ≡ false = sym (ap is_open h.half.role) ∙ (sym c.is_open.ensures ∙ c.if-is_open.false) in
+    let o : is_open m.role ≡ false = sym (ap is_open h.halfway.role) ∙ (sym c.is_open.ensures ∙ c.if-is_open.false) in
     let P : LinkEnd → Type 0 = λ x. EndStandsFor c.event.new.self c.event.new.pool x in
     subst P (sym (tick_after m false o)) (c.event.ensures.stands m h)

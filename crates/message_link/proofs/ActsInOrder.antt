@@ -152,60 +152,60 @@ line_push_c c u w v x q h =
     go (inr b) = inr b
 
 -- the ends of a link, one after the other, and the wires to them
-abbrev pub Calm : Role → Role → List OnWire → List OnWire → Type 0
-Calm Bare Bare w v = Unit {0}
-Calm (Clf c) (Uicc u) w v = Line c u w v
-Calm (Uicc u) (Clf c) w v = Line c u v w
-Calm _ _ w v = ⊥
+abbrev pub ActsInOrder : Role → Role → List OnWire → List OnWire → Type 0
+ActsInOrder Bare Bare w v = Unit {0}
+ActsInOrder (Clf c) (Uicc u) w v = Line c u w v
+ActsInOrder (Uicc u) (Clf c) w v = Line c u v w
+ActsInOrder _ _ w v = ⊥
 
-abbrev pub CalmLink : Link → Type 0
-CalmLink l = Calm l.controller.side.role l.host.side.role l.to_controller l.to_host
+abbrev pub LinkInOrder : Link → Type 0
+LinkInOrder l = ActsInOrder l.controller.side.role l.host.side.role l.to_controller l.to_host
 
-pub calm_swap : (r f : Role) (w v : List OnWire) → Calm r f w v → Calm f r v w
-calm_swap Bare Bare w v h = tt
-calm_swap (Clf c) (Uicc u) w v h = h
-calm_swap (Uicc u) (Clf c) w v h = h
-calm_swap Bare (Clf c) w v h = absurd h
-calm_swap Bare (Uicc u) w v h = absurd h
-calm_swap (Clf c) Bare w v h = absurd h
-calm_swap (Clf c) (Clf d) w v h = absurd h
-calm_swap (Uicc u) Bare w v h = absurd h
-calm_swap (Uicc u) (Uicc t) w v h = absurd h
+pub in_order_swap : (r f : Role) (w v : List OnWire) → ActsInOrder r f w v → ActsInOrder f r v w
+in_order_swap Bare Bare w v h = tt
+in_order_swap (Clf c) (Uicc u) w v h = h
+in_order_swap (Uicc u) (Clf c) w v h = h
+in_order_swap Bare (Clf c) w v h = absurd h
+in_order_swap Bare (Uicc u) w v h = absurd h
+in_order_swap (Clf c) Bare w v h = absurd h
+in_order_swap (Clf c) (Clf d) w v h = absurd h
+in_order_swap (Uicc u) Bare w v h = absurd h
+in_order_swap (Uicc u) (Uicc t) w v h = absurd h
 
 -- the first frame on the wire to the near end is gone
-pub calm_drop : (r f : Role) (x : OnWire) (w v : List OnWire) → Calm r f (x ∷ w) v → Calm r f w v
-calm_drop Bare Bare x w v h = tt
-calm_drop (Clf c) (Uicc u) x w v h = line_less c u (x ∷ w) v w v (λ f z. z.1) (λ z. z.1) (λ z. z) h
-calm_drop (Uicc u) (Clf c) x w v h = line_less c u v (x ∷ w) v w (λ f z. z) (λ z. z) (λ z. z.1) h
-calm_drop Bare (Clf c) x w v h = absurd h
-calm_drop Bare (Uicc u) x w v h = absurd h
-calm_drop (Clf c) Bare x w v h = absurd h
-calm_drop (Clf c) (Clf d) x w v h = absurd h
-calm_drop (Uicc u) Bare x w v h = absurd h
-calm_drop (Uicc u) (Uicc t) x w v h = absurd h
+pub in_order_drop : (r f : Role) (x : OnWire) (w v : List OnWire) → ActsInOrder r f (x ∷ w) v → ActsInOrder r f w v
+in_order_drop Bare Bare x w v h = tt
+in_order_drop (Clf c) (Uicc u) x w v h = line_less c u (x ∷ w) v w v (λ f z. z.1) (λ z. z.1) (λ z. z) h
+in_order_drop (Uicc u) (Clf c) x w v h = line_less c u v (x ∷ w) v w (λ f z. z) (λ z. z) (λ z. z.1) h
+in_order_drop Bare (Clf c) x w v h = absurd h
+in_order_drop Bare (Uicc u) x w v h = absurd h
+in_order_drop (Clf c) Bare x w v h = absurd h
+in_order_drop (Clf c) (Clf d) x w v h = absurd h
+in_order_drop (Uicc u) Bare x w v h = absurd h
+in_order_drop (Uicc u) (Uicc t) x w v h = absurd h
 
-pub calm_aged : (r f : Role) (w v : List OnWire) → Calm r f w v → Calm r f (aged_wire w) (aged_wire v)
-calm_aged Bare Bare w v h = tt
-calm_aged (Clf c) (Uicc u) w v h = line_less c u w v (aged_wire w) (aged_wire v) (λ f. without_aged f w) (first_aged w) (without_aged is_again v) h
-calm_aged (Uicc u) (Clf c) w v h = line_less c u v w (aged_wire v) (aged_wire w) (λ f. without_aged f v) (first_aged v) (without_aged is_again w) h
-calm_aged Bare (Clf c) w v h = absurd h
-calm_aged Bare (Uicc u) w v h = absurd h
-calm_aged (Clf c) Bare w v h = absurd h
-calm_aged (Clf c) (Clf d) w v h = absurd h
-calm_aged (Uicc u) Bare w v h = absurd h
-calm_aged (Uicc u) (Uicc t) w v h = absurd h
+pub in_order_aged : (r f : Role) (w v : List OnWire) → ActsInOrder r f w v → ActsInOrder r f (aged_wire w) (aged_wire v)
+in_order_aged Bare Bare w v h = tt
+in_order_aged (Clf c) (Uicc u) w v h = line_less c u w v (aged_wire w) (aged_wire v) (λ f. without_aged f w) (first_aged w) (without_aged is_again v) h
+in_order_aged (Uicc u) (Clf c) w v h = line_less c u v w (aged_wire v) (aged_wire w) (λ f. without_aged f v) (first_aged v) (without_aged is_again w) h
+in_order_aged Bare (Clf c) w v h = absurd h
+in_order_aged Bare (Uicc u) w v h = absurd h
+in_order_aged (Clf c) Bare w v h = absurd h
+in_order_aged (Clf c) (Clf d) w v h = absurd h
+in_order_aged (Uicc u) Bare w v h = absurd h
+in_order_aged (Uicc u) (Uicc t) w v h = absurd h
 
 -- a frame of SHDLC more on the wire from the near end
-calm_push : (r f : Role) (w v : List OnWire) (x : OnWire) → is_act x.frame ≡ false → Calm r f w v → Calm r f w (fits (v ++ x ∷ []))
-calm_push Bare Bare w v x q h = tt
-calm_push (Clf c) (Uicc u) w v x q h = line_push_u c u w v x (not_act x.frame q).2 h
-calm_push (Uicc u) (Clf c) w v x q h = line_push_c c u v w x q h
-calm_push Bare (Clf c) w v x q h = absurd h
-calm_push Bare (Uicc u) w v x q h = absurd h
-calm_push (Clf c) Bare w v x q h = absurd h
-calm_push (Clf c) (Clf d) w v x q h = absurd h
-calm_push (Uicc u) Bare w v x q h = absurd h
-calm_push (Uicc u) (Uicc t) w v x q h = absurd h
+in_order_push : (r f : Role) (w v : List OnWire) (x : OnWire) → is_act x.frame ≡ false → ActsInOrder r f w v → ActsInOrder r f w (fits (v ++ x ∷ []))
+in_order_push Bare Bare w v x q h = tt
+in_order_push (Clf c) (Uicc u) w v x q h = line_push_u c u w v x (not_act x.frame q).2 h
+in_order_push (Uicc u) (Clf c) w v x q h = line_push_c c u v w x q h
+in_order_push Bare (Clf c) w v x q h = absurd h
+in_order_push Bare (Uicc u) w v x q h = absurd h
+in_order_push (Clf c) Bare w v x q h = absurd h
+in_order_push (Clf c) (Clf d) w v x q h = absurd h
+in_order_push (Uicc u) Bare w v x q h = absurd h
+in_order_push (Uicc u) (Uicc t) w v x q h = absurd h
 
 -- ## All that an end puts on its wire
 
@@ -237,17 +237,18 @@ no_acts (suc n) e = go (frame_due e) refl (no_acts n (fetched e))
     go None q later = rw q tt
     go (Some c) q later = rw q (due_no_act e c q, later)
 
-pub calm_put_all : (r f : Role) (w : List OnWire) (cs : List Control) (k : Link) → NoActs cs → Calm r f w k.to_host → Calm r f w (put_all k cs).to_host
-calm_put_all r f w [] k a h = h
-calm_put_all r f w (c ∷ cs) k a h = calm_put_all r f w cs (put k c) a.1 (one c a.0)
+pub in_order_put_all : (r f : Role) (w : List OnWire) (cs : List Control) (k : Link) → NoActs cs → ActsInOrder r f w k.to_host
+    → ActsInOrder r f w (put_all k cs).to_host
+in_order_put_all r f w [] k a h = h
+in_order_put_all r f w (c ∷ cs) k a h = in_order_put_all r f w cs (put k c) a.1 (one c a.0)
   where
-    one : (c : Control) → is_act c ≡ false → Calm r f w (put k c).to_host
+    one : (c : Control) → is_act c ≡ false → ActsInOrder r f w (put k c).to_host
     one (Act _ _) q = absurd (true≢false q)
-    one (I ns nr info) q = calm_push r f w k.to_host (record { frame = I ns nr info; age = 0; number = 0 }) q h
-    one (S kind nr) q = calm_push r f w k.to_host (record { frame = S kind nr; age = 0; number = 0 }) q h
-    one (Rset n caps) q = calm_push r f w k.to_host (record { frame = Rset n caps; age = 0; number = k.resets + 1 }) q h
-    one Ua q = calm_push r f w k.to_host (record { frame = Ua; age = 0; number = 0 }) q h
-    one Clt q = calm_push r f w k.to_host (record { frame = Clt; age = 0; number = 0 }) q h
+    one (I ns nr info) q = in_order_push r f w k.to_host (record { frame = I ns nr info; age = 0; number = 0 }) q h
+    one (S kind nr) q = in_order_push r f w k.to_host (record { frame = S kind nr; age = 0; number = 0 }) q h
+    one (Rset n caps) q = in_order_push r f w k.to_host (record { frame = Rset n caps; age = 0; number = k.resets + 1 }) q h
+    one Ua q = in_order_push r f w k.to_host (record { frame = Ua; age = 0; number = 0 }) q h
+    one Clt q = in_order_push r f w k.to_host (record { frame = Clt; age = 0; number = 0 }) q h
 
 -- ## What activation puts there
 
@@ -315,19 +316,19 @@ uicc_syncs c u w v id q h =
     none = go h.ready
 
 -- a frame of activation is taken
-pub calm_take : (r f : Role) (x : OnWire) (w v : List OnWire) (act : Activation) (again : Bool) → x.frame ≡ Act act again → Calm r f (x ∷ w) v
-    → Calm (role_after r (ActTake act again)) f w (with_sent (act_answer r (ActTake act again)).send v)
-calm_take Bare Bare x w v act again q h = tt
-calm_take Bare (Clf c) x w v act again q h = absurd h
-calm_take Bare (Uicc u) x w v act again q h = absurd h
-calm_take (Clf c) Bare x w v act again q h = absurd h
-calm_take (Clf c) (Clf d) x w v act again q h = absurd h
-calm_take (Uicc u) Bare x w v act again q h = absurd h
-calm_take (Uicc u) (Uicc t) x w v act again q h = absurd h
-calm_take (Clf c) (Uicc u) x w v act again q h = go act again q
+pub in_order_take : (r f : Role) (x : OnWire) (w v : List OnWire) (act : Activation) (again : Bool) → x.frame ≡ Act act again → ActsInOrder r f (x ∷ w) v
+    → ActsInOrder (role_after r (ActTake act again)) f w (with_sent (act_answer r (ActTake act again)).send v)
+in_order_take Bare Bare x w v act again q h = tt
+in_order_take Bare (Clf c) x w v act again q h = absurd h
+in_order_take Bare (Uicc u) x w v act again q h = absurd h
+in_order_take (Clf c) Bare x w v act again q h = absurd h
+in_order_take (Clf c) (Clf d) x w v act again q h = absurd h
+in_order_take (Uicc u) Bare x w v act again q h = absurd h
+in_order_take (Uicc u) (Uicc t) x w v act again q h = absurd h
+in_order_take (Clf c) (Uicc u) x w v act again q h = go act again q
   where
     g : Line c u w v
-    g = calm_drop (Clf c) (Uicc u) x w v h
+    g = in_order_drop (Clf c) (Uicc u) x w v h
 
     P : ClfAct × ActOut → Type 0
     P z = Line z.0 u w (with_sent z.1.send v)
@@ -401,10 +402,10 @@ calm_take (Clf c) (Uicc u) x w v act again q h = go act again q
             let d : ClfAct = record { phase = Active; last = c.last; power = c.power } in
             by ActReady false (d, record { send = None; became_active = true; ended_link = false; sync = None; gave_up = None }) (rw p refl)
             (active (ap is_ready q) d)
-calm_take (Uicc u) (Clf c) x w v act again q h = go act again q
+in_order_take (Uicc u) (Clf c) x w v act again q h = go act again q
   where
     g : Line c u v w
-    g = calm_drop (Uicc u) (Clf c) x w v h
+    g = in_order_drop (Uicc u) (Clf c) x w v h
 
     P : UiccAct × ActOut → Type 0
     P z = Line c z.0 (with_sent z.1.send v) w
@@ -430,13 +431,14 @@ calm_take (Uicc u) (Clf c) x w v act again q h = go act again q
             (rw (s, r) refl) (uicc_ready c u ready v w refl g)
 
 -- an end that isn't open has its tick
-pub calm_tick : (r f : Role) (w v : List OnWire) → is_open r ≡ false → Calm r f w v → Calm (role_after r ActTick) f w (with_sent (act_answer r ActTick).send v)
-calm_tick Bare f w v o h = absurd (true≢false o)
-calm_tick (Clf c) Bare w v o h = absurd h
-calm_tick (Clf c) (Clf d) w v o h = absurd h
-calm_tick (Uicc u) Bare w v o h = absurd h
-calm_tick (Uicc u) (Uicc t) w v o h = absurd h
-calm_tick (Clf c) (Uicc u) w v o h =
+pub in_order_tick : (r f : Role) (w v : List OnWire) → is_open r ≡ false → ActsInOrder r f w v
+    → ActsInOrder (role_after r ActTick) f w (with_sent (act_answer r ActTick).send v)
+in_order_tick Bare f w v o h = absurd (true≢false o)
+in_order_tick (Clf c) Bare w v o h = absurd h
+in_order_tick (Clf c) (Clf d) w v o h = absurd h
+in_order_tick (Uicc u) Bare w v o h = absurd h
+in_order_tick (Uicc u) (Uicc t) w v o h = absurd h
+in_order_tick (Clf c) (Uicc u) w v o h =
     let d : ClfAct = (clf_step c ActTick).0 in
     clf_sends d u w v (clf_step c ActTick).1.send (clf_inactive c d u w v (stays c.phase o) h)
   where
@@ -449,7 +451,7 @@ calm_tick (Clf c) (Uicc u) w v o h =
         by true true p q = rw (p, q) refl
         by true false p q = rw (p, q) refl
         by false y p q = rw p refl
-calm_tick (Uicc u) (Clf c) w v o h = phase u.phase refl
+in_order_tick (Uicc u) (Clf c) w v o h = phase u.phase refl
   where
     P : UiccAct × ActOut → Type 0
     P z = Line c z.0 (with_sent z.1.send v) w
@@ -480,43 +482,43 @@ calm_tick (Uicc u) (Clf c) w v o h = phase u.phase refl
             (subst (λ z. Line c t (with_sent z v) w) (sym l.1) (uicc_syncs c t v w l.0 refl (uicc_waits c u t v w waits refl h)))
 
 -- its node loses power
-pub calm_cut : (r f : Role) (w v : List OnWire) → IfLine r → Calm r f w v → Calm (renewed r) f [] []
-calm_cut Bare f w v i h = absurd i
-calm_cut (Clf c) Bare w v i h = absurd h
-calm_cut (Clf c) (Clf d) w v i h = absurd h
-calm_cut (Uicc u) Bare w v i h = absurd h
-calm_cut (Uicc u) (Uicc t) w v i h = absurd h
-calm_cut (Clf c) (Uicc u) w v i h = record { clf = λ a. absurd (true≢false (sym a)); ready = inl tt; tail = tt; plain = tt; last = h.last }
-calm_cut (Uicc u) (Clf c) w v i h = record { clf = λ a. (tt, refl); ready = inl tt; tail = tt; plain = tt; last = λ a. absurd (true≢false (sym a)) }
+pub in_order_cut : (r f : Role) (w v : List OnWire) → IfLine r → ActsInOrder r f w v → ActsInOrder (renewed r) f [] []
+in_order_cut Bare f w v i h = absurd i
+in_order_cut (Clf c) Bare w v i h = absurd h
+in_order_cut (Clf c) (Clf d) w v i h = absurd h
+in_order_cut (Uicc u) Bare w v i h = absurd h
+in_order_cut (Uicc u) (Uicc t) w v i h = absurd h
+in_order_cut (Clf c) (Uicc u) w v i h = record { clf = λ a. absurd (true≢false (sym a)); ready = inl tt; tail = tt; plain = tt; last = h.last }
+in_order_cut (Uicc u) (Clf c) w v i h = record { clf = λ a. (tt, refl); ready = inl tt; tail = tt; plain = tt; last = λ a. absurd (true≢false (sym a)) }
 
 -- activation begins at an end: a CLF is inactive, and a UICC sends ACT_SYNC_ID
-pub calm_start : (r f : Role) (w v : List OnWire) (value : ℕ) → CanStart r f → Calm r f w v
-    → Calm (role_after r (ActStart value)) f [] (with_sent (act_answer r (ActStart value)).send [])
-calm_start Bare f w v value i h = absurd i
-calm_start (Clf c) Bare w v value i h = absurd h
-calm_start (Clf c) (Clf d) w v value i h = absurd h
-calm_start (Clf c) (Uicc u) w v value i h =
+pub in_order_start : (r f : Role) (w v : List OnWire) (value : ℕ) → CanStart r f → ActsInOrder r f w v
+    → ActsInOrder (role_after r (ActStart value)) f [] (with_sent (act_answer r (ActStart value)).send [])
+in_order_start Bare f w v value i h = absurd i
+in_order_start (Clf c) Bare w v value i h = absurd h
+in_order_start (Clf c) (Clf d) w v value i h = absurd h
+in_order_start (Clf c) (Uicc u) w v value i h =
     record { clf = λ a. absurd (true≢false (sym a)); ready = inl tt; tail = tt; plain = tt; last = h.last }
-calm_start (Uicc u) Bare w v value i h = absurd h
-calm_start (Uicc u) (Uicc t) w v value i h = absurd h
-calm_start (Uicc u) (Clf c) w v value i h =
+in_order_start (Uicc u) Bare w v value i h = absurd h
+in_order_start (Uicc u) (Uicc t) w v value i h = absurd h
+in_order_start (Uicc u) (Clf c) w v value i h =
     record { clf = λ a. absurd (true≢false (sym a ∙ i)); ready = inl (refl, tt); tail = (inr tt, tt); plain = tt; last = λ _. (value, refl) }
 
 -- activation ends there
-pub calm_stop : (r f : Role) (w v : List OnWire) → IfLine r → Calm r f w v
-    → Calm (role_after r ActStop) f [] (with_sent (act_answer r ActStop).send [])
-calm_stop Bare f w v i h = absurd i
-calm_stop (Clf c) Bare w v i h = absurd h
-calm_stop (Clf c) (Clf d) w v i h = absurd h
-calm_stop (Clf c) (Uicc u) w v i h =
+pub in_order_stop : (r f : Role) (w v : List OnWire) → IfLine r → ActsInOrder r f w v
+    → ActsInOrder (role_after r ActStop) f [] (with_sent (act_answer r ActStop).send [])
+in_order_stop Bare f w v i h = absurd i
+in_order_stop (Clf c) Bare w v i h = absurd h
+in_order_stop (Clf c) (Clf d) w v i h = absurd h
+in_order_stop (Clf c) (Uicc u) w v i h =
     record { clf = λ a. absurd (true≢false (sym a)); ready = inl tt; tail = tt; plain = tt; last = h.last }
-calm_stop (Uicc u) Bare w v i h = absurd h
-calm_stop (Uicc u) (Uicc t) w v i h = absurd h
-calm_stop (Uicc u) (Clf c) w v i h =
+in_order_stop (Uicc u) Bare w v i h = absurd h
+in_order_stop (Uicc u) (Uicc t) w v i h = absurd h
+in_order_stop (Uicc u) (Clf c) w v i h =
     record { clf = λ a. (tt, refl); ready = inl tt; tail = tt; plain = tt; last = λ a. absurd (true≢false (sym a)) }
 
 -- an end whose link activation puts down isn't open
-pub ended_means : (r f : Role) (x : OnWire) (w v : List OnWire) (act : Activation) (again : Bool) → x.frame ≡ Act act again → Calm r f (x ∷ w) v
+pub ended_means : (r f : Role) (x : OnWire) (w v : List OnWire) (act : Activation) (again : Bool) → x.frame ≡ Act act again → ActsInOrder r f (x ∷ w) v
     → (act_answer r (ActTake act again)).ended_link ≡ true → is_open r ≡ false
 ended_means Bare f x w v act again q h e = absurd (true≢false (sym e))
 ended_means (Clf c) Bare x w v act again q h e = absurd h
@@ -560,7 +562,7 @@ IsPolite e (x ∷ xs) = by_frame x.frame where
   by_frame (Act act again) = (act_answer e.role (ActTake act again)).ended_link ≡ true → e.shdlc.phase ≡ Down
   by_frame _ = Unit {0}
 
-pub polite_of : (e : LinkEnd) (f : Role) (w v : List OnWire) → Calm e.role f w v → (is_open e.role ≡ false → e.shdlc.phase ≡ Down) → IsPolite e w
+pub polite_of : (e : LinkEnd) (f : Role) (w v : List OnWire) → ActsInOrder e.role f w v → (is_open e.role ≡ false → e.shdlc.phase ≡ Down) → IsPolite e w
 polite_of e f [] v h closed = tt
 polite_of e f (x ∷ w) v h closed = go x.frame refl
   where
