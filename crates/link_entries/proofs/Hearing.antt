@@ -54,7 +54,7 @@ session_up h n q = go h.side.shdlc.phase refl
     go IsDown p = absurd (let z : None ≡ Some n = rw p at q in cc)
 
 -- two ends in the same phase with the same number
-same_session : (a b : NumberedEnd) → a.side.shdlc.phase ≡ b.side.shdlc.phase → (b.side.shdlc.phase ≡ IsUpNow → number_of a ≡ number_of b)
+pub same_session : (a b : NumberedEnd) → a.side.shdlc.phase ≡ b.side.shdlc.phase → (b.side.shdlc.phase ≡ IsUpNow → number_of a ≡ number_of b)
     → number_now a ≡ number_now b
 same_session a b p n = go b.side.shdlc.phase refl
   where
@@ -113,7 +113,7 @@ passes_told who n r acked =
     (passes_map (far who) (Down who) (option_to_list r.ended) (λ c s. rw q refl)) b
 
 -- the session of an end whose session ended or not, and where one with this number began or not
-abbrev after_told : Bool → Bool → ℕ → Option ℕ → Option ℕ
+abbrev pub after_told : Bool → Bool → ℕ → Option ℕ → Option ℕ
 after_told ended began n s = if began then Some n else (if ended then None else s)
 
 heard_down : (who : End) (o : Option EndedBy) (s : Option ℕ) → heard who s (map (Down who) (option_to_list o)) ≡ (if is_some o then None else s)
@@ -124,7 +124,7 @@ heard_up : (who : End) (b : Bool) (n : ℕ) (s : Option ℕ) → heard who s (if
 heard_up who false n s = refl
 heard_up who true n s = let q = same_self who in rw q refl
 
-heard_told : (who : End) (n : ℕ) (r : Report) (acked : ℕ) (s : Option ℕ) → heard who s (told who n r acked) ≡ after_told (is_some r.ended) r.began n s
+pub heard_told : (who : End) (n : ℕ) (r : Report) (acked : ℕ) (s : Option ℕ) → heard who s (told who n r acked) ≡ after_told (is_some r.ended) r.began n s
 heard_told who n r acked s =
     let first : Option ℕ = if is_some r.ended then None else s in
     heard-append who s (map (Down who) (option_to_list r.ended)) (if_so r.began (Up who n) ++ told_rest who n r acked)
@@ -133,7 +133,7 @@ heard_told who n r acked s =
     ∙ (passes_told_rest who who n r acked (heard who first (if_so r.began (Up who n))) ∙ heard_up who r.began n first)))
 
 -- what becomes of the session of h as it becomes k
-shifted : (h k : NumberedEnd) (ended began : Bool) → Shift h.side.shdlc k.side.shdlc ended began
+pub shifted : (h k : NumberedEnd) (ended began : Bool) → Shift h.side.shdlc k.side.shdlc ended began
     → (h.side.shdlc.phase ≡ IsUpNow → ended ≡ false → number_of k ≡ number_of h) → after_told ended began (number_of k) (number_now h) ≡ number_now k
 shifted h k ended began (Stays p q g) same =
     rw (p, q) (up_session h g.was ∙ (ap (λ m. Some m) (sym (same g.was p)) ∙ sym (up_session k g.is)))
@@ -155,7 +155,7 @@ passes_turn w who n e FetchMessage = λ s. refl
 passes_turn w who n e SetAside = λ s. refl
 passes_turn w who n e Release = λ s. refl
 
-passes_turns : (w who : End) (n : ℕ) (e : LinkEnd) (ts : List Turn) → Passes w (turn_entries who n e ts)
+pub passes_turns : (w who : End) (n : ℕ) (e : LinkEnd) (ts : List Turn) → Passes w (turn_entries who n e ts)
 passes_turns w who n e [] = λ s. refl
 passes_turns w who n e (t ∷ ts) =
     passes-append w (turn_entry who n e t) (turn_entries who n (turn e t) ts) (passes_turn w who n e t) (passes_turns w who n (turn e t) ts)

@@ -35,7 +35,7 @@ sendable_first FetchMessage ts a = (tt, a, tt)
 sendable_first SetAside ts a = (tt, a, tt)
 sendable_first Release ts a = (tt, a, tt)
 
-told_turns : (ts : List Turn) (t : List Entry) (who : End) (h : NumberedEnd) → AreSendableTurns ts → Sound h.side → Told t who h
+pub told_turns : (ts : List Turn) (t : List Entry) (who : End) (h : NumberedEnd) → AreSendableTurns ts → Sound h.side → Told t who h
     → Told (t ++ turn_entries who (number_of h) h.side ts) who (with_side h (turned h.side ts))
 told_turns [] t who h a s b = told_silent t [] who h (λ w n. refl) b
 told_turns (x ∷ ts) t who h a s b =

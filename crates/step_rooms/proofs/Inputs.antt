@@ -12,10 +12,9 @@ use Rattle.link_entries.specs.Entries.{End as Side, Entry as Noted, told, told_o
 use Rattle.link_entries.specs.Entries.Entry.{Took}
 use Rattle.link_entries.specs.Sessions.{number_now}
 use Rattle.link_entries.proofs.Books.{Silent, Told, Input, told_silent, told_input, past_after, with_side}
-use Rattle.link_entries.proofs.Stepping.{sound_turns}
+use Rattle.link_entries.proofs.Stepping.{sound_turns, told_turns}
 use Rattle.link_entries.proofs.Noting.{turned_same, Frame}
-use Rattle.link_entries.proofs.Hearing.{heard, heard-append, Passes}
-use Rattle.step_rooms.proofs.Sessions.{told_turns, same_session, heard_told, shifted, passes_turns}
+use Rattle.link_entries.proofs.Hearing.{heard, heard-append, Passes, same_session, heard_told, shifted, passes_turns}
 
 -- these notes say what an end has of its sessions, and which one it has now
 pub record Says (t : List Noted) (who : Side) (k : NumberedEnd) : Type 0 where

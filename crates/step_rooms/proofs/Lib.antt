@@ -11,4 +11,3 @@ pub mod Turning
 pub mod HostTicking
 pub mod Lines
 pub mod HostLines
-pub mod Sessions
