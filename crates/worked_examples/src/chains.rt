@@ -1,9 +1,10 @@
 //! Worked examples of cutting and joining.
 ghost use Rattle.std.specs.Prelude.{◌≡◌, ◌≤◌, length, IfOk};
+ghost use Rattle.block_pool.specs.Pool.{IsLive, chain_bytes};
 ghost use Rattle.hcp_chain.specs.Holding.{IsJoinerReady};
 
 use arrayvec::ArrayVec;
-use block_pool::Pool;
+use block_pool::{Chain, Pool};
 use hcp_chain::{ChainFault, Joined, Joiner, cut};
 use hcp_packet::Packet;
 use std::alloc::{AllocError, Global};
@@ -25,27 +26,41 @@ fn packet(last: bool, pipe: u8, data: &[u8]) -> Packet
     Packet { last, pipe, bytes }
 }
 
-fn take_more(rt: &impl Abort, pool: &mut Pool, joiner: &mut Joiner, packet: &Packet)
-    requires { IsJoinerReady pool.old joiner.old }
+/// A packet that isn't the last one of its message comes, and more is to come.
+fn take_more(rt: &impl Abort, pool: &mut Pool, joiner: &mut Joiner, pipe: u8, data: &[u8])
+    requires ready { IsJoinerReady pool.old joiner.old }
+    requires few { length data.now ≤ 28 }
     ensures { IsJoinerReady pool.new joiner.new }
 {
-    match joiner.take(pool, packet) {
+    match joiner.take(pool, &packet(false, pipe, data)) {
         Joined::More => {}
         _ => panic!(rt; "more was to come"),
     }
 }
 
+/// The packet is refused, and this is told.
+fn refuses(
+    rt: &impl Abort,
+    pool: &mut Pool,
+    joiner: &mut Joiner,
+    packet: &Packet,
+    fault: ChainFault,
+)
+    requires { IsJoinerReady pool.old joiner.old }
+{
+    assert_eq!(rt; joiner.take(pool, packet), Joined::Fault(fault));
+}
+
 #[test]
 fn a_fifth_pipe_is_refused(rt: HostRuntime) -> Result<(), Fail> {
     let (mut pool, mut joiner) = joiner(rt.alloc())?;
-    take_more(&rt, &mut pool, &mut joiner, &packet(false, 2, &[1]));
-    take_more(&rt, &mut pool, &mut joiner, &packet(false, 3, &[1]));
-    take_more(&rt, &mut pool, &mut joiner, &packet(false, 4, &[1]));
-    take_more(&rt, &mut pool, &mut joiner, &packet(false, 5, &[]));
-    take_more(&rt, &mut pool, &mut joiner, &packet(false, 3, &[2]));
-    let fifth = joiner.take(&mut pool, &packet(true, 6, &[1]));
+    take_more(&rt, &mut pool, &mut joiner, 2, &[1]);
+    take_more(&rt, &mut pool, &mut joiner, 3, &[1]);
+    take_more(&rt, &mut pool, &mut joiner, 4, &[1]);
+    take_more(&rt, &mut pool, &mut joiner, 5, &[]);
+    take_more(&rt, &mut pool, &mut joiner, 3, &[2]);
     let fault = ChainFault::TooManyChains { pipe: 6 };
-    assert_eq!(rt; fifth, Joined::Fault(fault));
+    refuses(&rt, &mut pool, &mut joiner, &packet(true, 6, &[1]), fault);
     Ok(())
 }
 
@@ -53,42 +68,68 @@ fn a_fifth_pipe_is_refused(rt: HostRuntime) -> Result<(), Fail> {
 fn a_message_too_long_is_refused(rt: HostRuntime) -> Result<(), Fail> {
     let (mut pool, mut joiner) = joiner(rt.alloc())?;
     for _packet in 0..146u8 {
-        take_more(&rt, &mut pool, &mut joiner, &packet(false, 1, &[7; 28]));
+        take_more(&rt, &mut pool, &mut joiner, 1, &[7; 28]);
     }
-    let longer = joiner.take(&mut pool, &packet(false, 1, &[7; 9]));
     let fault = ChainFault::MessageTooLong { len: 4097 };
-    assert_eq!(rt; longer, Joined::Fault(fault));
+    refuses(
+        &rt,
+        &mut pool,
+        &mut joiner,
+        &packet(false, 1, &[7; 9]),
+        fault,
+    );
     Ok(())
+}
+
+/// The message that ends with this packet: its pipe, its length, and its last three bytes.
+fn whole(
+    rt: &impl Abort,
+    pool: &mut Pool,
+    joiner: &mut Joiner,
+    packet: &Packet,
+) -> (u8, u32, [u8; 3])
+    requires { IsJoinerReady pool.old joiner.old }
+{
+    match joiner.take(pool, packet) {
+        Joined::Whole { pipe, chain } => {
+            let len = pool.len(&chain);
+            let mut last = [0; 3];
+            let _count = pool.copy_out(&chain, len.saturating_sub(3), &mut last);
+            (pipe, len, last)
+        }
+        _ => panic!(rt; "the message is whole"),
+    }
 }
 
 #[test]
 fn pipes_are_joined_apart(rt: HostRuntime) -> Result<(), Fail> {
     let (mut pool, mut joiner) = joiner(rt.alloc())?;
-    take_more(&rt, &mut pool, &mut joiner, &packet(false, 2, &[1; 28]));
-    take_more(&rt, &mut pool, &mut joiner, &packet(false, 3, &[9; 28]));
-    take_more(&rt, &mut pool, &mut joiner, &packet(false, 2, &[2; 28]));
-    match joiner.take(&mut pool, &packet(true, 2, &[3])) {
-        Joined::Whole { pipe, chain } => {
-            assert_eq!(rt; pipe, 2);
-            assert_eq!(rt; pool.len(&chain), 57);
-            let mut out = [0; 3];
-            assert_eq!(rt; pool.copy_out(&chain, 54, &mut out), 3);
-            assert_eq!(rt; out, [2, 2, 3]);
-        }
-        _ => panic!(rt; "the message is whole"),
-    }
+    take_more(&rt, &mut pool, &mut joiner, 2, &[1; 28]);
+    take_more(&rt, &mut pool, &mut joiner, 3, &[9; 28]);
+    take_more(&rt, &mut pool, &mut joiner, 2, &[2; 28]);
+    let message = whole(&rt, &mut pool, &mut joiner, &packet(true, 2, &[3]));
+    assert_eq!(rt; message, (2, 57, [2, 2, 3]));
     Ok(())
+}
+
+/// A message of 4,096 bytes in a pool.
+fn message_of_4096(alloc: Global) -> Result<(Pool, Chain), Fail>
+    ensures live { IfOk result (λ made. IsLive made.0 made.1) }
+    ensures bytes { IfOk result (λ made. length (chain_bytes made.0 made.1) ≡ 4096) }
+{
+    let mut pool = Pool::make(alloc, &[128])?;
+    let mut chain = pool.chain(0);
+    pool.take(&mut chain, &[7; 4096])?;
+    Ok((pool, chain))
 }
 
 #[test]
 fn a_long_message_is_cut(rt: HostRuntime) -> Result<(), Fail> {
-    let mut pool = Pool::make(rt.alloc(), &[128])?;
-    let mut chain = pool.chain(0);
-    assert_eq!(rt; pool.take(&mut chain, &[7; 4096]), Ok(()));
+    let (mut pool, chain) = message_of_4096(rt.alloc())?;
     for at in 0..147u32 {
         let packet = cut(&mut pool, &chain, 2, 28 * at);
-        assert_eq!(rt; packet.last, at == 146);
-        assert_eq!(rt; packet.bytes.len(), if at == 146 { 8 } else { 28 });
+        let shown = (packet.last, packet.bytes.len());
+        assert_eq!(rt; shown, if at == 146 { (true, 8) } else { (false, 28) });
     }
     Ok(())
 }

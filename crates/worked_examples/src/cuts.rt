@@ -1,7 +1,7 @@
 //! Stores whose writes are cut, one after another.
-ghost use Rattle.std.specs.Prelude.{◌≡◌, ◌+◌, ◌≤◌, length, IfOk, IsSome, IsTrue};
+ghost use Rattle.std.specs.Prelude.{◌≡◌, ◌+◌, ◌<◌, ◌≤◌, length, IfOk, IsSome, IsTrue};
 
-use crate::memories::{IMAGE, TABLES, memory, told};
+use crate::memories::{IMAGE, TABLES, memory, tells};
 use arrayvec::ArrayVec;
 use hci_store::Store;
 use hci_tables::{Command, Tables};
@@ -9,6 +9,7 @@ use nv_journal::StartRefused;
 use pipe_table::PipeRow;
 use registry::{SESSION_IDENTITY, WHITELIST};
 use std::alloc::Global;
+use std::process::Abort;
 use std::test::Fail;
 use swp_base::{MemNv, NoMemory, Nv};
 use swp_tool::Status;
@@ -81,31 +82,48 @@ fn kept_in(nv: MemNv) -> (Option<u32>, MemNv)
     }
 }
 
-#[test]
-fn a_cut_leaves_the_tables_from_before_or_from_after(rt: HostRuntime) -> Result<(), Fail> {
-    let alloc = rt.alloc();
-    let after = "tables nv 0 0 0 1\nsync 02 1234\n";
-    for (before, kept, tables, writes) in [
-        (Before::New, 0, "tables nv 0 0 0 0\n", 4),
-        (Before::OldVersion, 2, TABLES, 4),
-        (Before::Full, 4_094, "tables nv 0 0 0 1\nsync 02 0FFD\n", 5),
-    ] {
-        for nth in 1..=6u32 {
-            for fill in [0xFF, 0x5A, 0x13] {
-                // A gate that was to be opened last is open where the cut left 5A there.
-                let is_kept = nth > writes || (nth == writes && fill == 0x5A);
-                let nv = cut(memory_before(alloc, &before)?, nth, fill);
-                assert_eq!(rt; nv.size(), 65_536);
-                let (found, nv) = kept_in(nv);
-                assert_eq!(rt; found, Some(if is_kept { kept + 1 } else { kept }));
-                assert_eq!(rt; nv.size(), 65_536);
-                let text = if is_kept { after } else { tables };
-                let (ended, written, _) = told(alloc, nv)?;
-                assert_eq!(rt; ended, Status::Done);
-                assert_eq!(rt; written.as_slice(), text.as_bytes());
+/// In this memory so many commands were kept, and they made these tables.
+fn keeps(rt: &impl Abort, alloc: Global, nv: MemNv, kept: u32, tables: &str) -> Result<(), Fail> {
+    assert_eq!(rt; nv.size(), 65_536);
+    let (found, nv) = kept_in(nv);
+    assert_eq!(rt; found, Some(kept));
+    let _nv = tells(rt, alloc, nv, Status::Done, tables)?;
+    Ok(())
+}
+
+/// The memory in which so many commands made these tables is cut at each of six writes in turn. The tables from after are there
+/// once so many writes were made.
+fn cuts_leave(
+    rt: &impl Abort,
+    alloc: Global,
+    before: &Before,
+    kept: u32,
+    tables: &str,
+    writes: u32,
+) -> Result<(), Fail>
+    requires { kept < 65536 }
+{
+    for nth in 1..=6u32 {
+        for fill in [0xFF, 0x5A, 0x13] {
+            let nv = cut(memory_before(alloc, before)?, nth, fill);
+            // A gate that was to be opened last is open where the cut left 5A there.
+            if nth > writes || (nth == writes && fill == 0x5A) {
+                keeps(rt, alloc, nv, kept + 1, "tables nv 0 0 0 1\nsync 02 1234\n")?;
+            } else {
+                keeps(rt, alloc, nv, kept, tables)?;
             }
         }
     }
+    Ok(())
+}
+
+#[test]
+fn a_cut_leaves_the_tables_from_before_or_from_after(rt: HostRuntime) -> Result<(), Fail> {
+    let alloc = rt.alloc();
+    let full = "tables nv 0 0 0 1\nsync 02 0FFD\n";
+    cuts_leave(&rt, alloc, &Before::New, 0, "tables nv 0 0 0 0\n", 4)?;
+    cuts_leave(&rt, alloc, &Before::OldVersion, 2, TABLES, 4)?;
+    cuts_leave(&rt, alloc, &Before::Full, 4_094, full, 5)?;
     Ok(())
 }
 
@@ -175,29 +193,39 @@ fn commit_all(store: &mut Store<MemNv>, tables: &mut Tables, many: u16) -> bool
     true
 }
 
+/// A store that is started on this memory.
+fn started(rt: &impl Abort, nv: MemNv) -> Store<MemNv>
+    requires { length nv.content ≡ 65536 }
+    ensures live { IsTrue result.journal.live }
+    ensures started { IsSome result.journal.state.in_use }
+    ensures version { result.journal.state.version ≡ 2 }
+{
+    match Store::start(nv) {
+        Ok(store) => store,
+        Err(_refused) => panic!(rt; "the memory is refused"),
+    }
+}
+
+/// The store has these tables, and says that so many commands were kept.
+fn has(rt: &impl Abort, store: &Store<MemNv>, tables: &Tables, kept: u32) {
+    assert_eq!(rt; store.kept(), kept);
+    assert!(rt; store.tables() == tables);
+}
+
 #[test]
 fn thousands_of_commands_are_kept_over_compactions(rt: HostRuntime) -> Result<(), Fail> {
-    let alloc = rt.alloc();
-    let nv = full_memory(alloc)?;
-    let Ok(mut store) = Store::start(nv) else {
-        panic!(rt; "the memory is refused");
-    };
+    let mut store = started(&rt, full_memory(rt.alloc())?);
     let mut tables = Tables::new();
     tables.apply(&Command::Sync {
         host: 2,
         id: 0x0FFD,
     });
     assert!(rt; commit_all(&mut store, &mut tables, 6_000));
-    assert_eq!(rt; store.kept(), 10_094);
-    assert!(rt; *store.tables() == tables);
+    has(&rt, &store, &tables, 10_094);
     let nv = store.into_nv();
     assert_eq!(rt; nv.size(), 65_536);
-    let Ok(store) = Store::start(nv) else {
-        panic!(rt; "the memory is refused");
-    };
     tables.close();
-    assert!(rt; *store.tables() == tables);
-    assert_eq!(rt; store.kept(), 10_094);
+    has(&rt, &started(&rt, nv), &tables, 10_094);
     Ok(())
 }
 
@@ -208,6 +236,29 @@ fn bytes_at(nv: &mut MemNv, at: u32) -> [u8; 29]
     let mut bytes = [0; 29];
     let _ = nv.read(at, &mut bytes);
     bytes
+}
+
+/// The memory of the store has these bytes from a place on.
+fn leaves(rt: &impl Abort, store: Store<MemNv>, at: u32, bytes: [u8; 29])
+    requires { at ≤ 32768 }
+{
+    let mut nv = store.into_nv();
+    assert_eq!(rt; nv.size(), 65_536);
+    assert_eq!(rt; bytes_at(&mut nv, at), bytes);
+}
+
+/// The store keeps the command.
+fn commits(rt: &impl Abort, store: &mut Store<MemNv>, command: &Command)
+    requires live { IsTrue store.old.journal.live }
+    requires started { IsSome store.old.journal.state.in_use }
+    requires version { store.old.journal.state.version ≡ 2 }
+    ensures live { IsTrue store.new.journal.live }
+    ensures started { IsSome store.new.journal.state.in_use }
+    ensures version { store.new.journal.state.version ≡ 2 }
+{
+    if !command.is_recordable() || store.commit(command).is_err() {
+        panic!(rt; "the command isn't kept");
+    }
 }
 
 #[test]
@@ -223,32 +274,25 @@ fn two_commands_have_these_bytes(rt: HostRuntime) -> Result<(), Fail> {
         0x5A, 2, 0, 0, 0, 2, 0, 0, 0, 2, 0, 1, 0x5A, 4, 0, 0, 6, 2, 0x1A, 0x2B, 0xFF, 0xFF, 0xFF,
         0xFF, 0xFF, 0xFF, 0xFF, 0xFF, 0xFF,
     ];
-    let Ok(mut store) = Store::start(memory(alloc, &[])?) else {
-        panic!(rt; "the memory is refused");
+    let mut store = started(&rt, memory(alloc, &[])?);
+    let sync = Command::Sync {
+        host: 2,
+        id: 0x1A2B,
     };
-    let commands = [
-        Command::Sync {
-            host: 2,
-            id: 0x1A2B,
-        },
-        Command::SetOpened {
-            host: 2,
-            pid: 1,
-            opened: true,
-        },
-    ];
-    for command in &commands {
-        assert!(rt; command.is_recordable() && store.commit(command).is_ok());
-    }
-    let mut nv = store.into_nv();
-    assert_eq!(rt; nv.size(), 65_536);
-    assert_eq!(rt; bytes_at(&mut nv, 0), new);
+    commits(&rt, &mut store, &sync);
+    let opened = Command::SetOpened {
+        host: 2,
+        pid: 1,
+        opened: true,
+    };
+    commits(&rt, &mut store, &opened);
+    leaves(&rt, store, 0, new);
     // The same commands in a bank of version 01.
-    let Ok(store) = Store::start(memory(alloc, &IMAGE)?) else {
-        panic!(rt; "the memory is refused");
-    };
-    let mut nv = store.into_nv();
-    assert_eq!(rt; nv.size(), 65_536);
-    assert_eq!(rt; bytes_at(&mut nv, 32_768), written_anew);
+    leaves(
+        &rt,
+        started(&rt, memory(alloc, &IMAGE)?),
+        32_768,
+        written_anew,
+    );
     Ok(())
 }

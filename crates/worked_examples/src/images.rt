@@ -1,22 +1,23 @@
 //! Memories with known images.
+ghost use Rattle.std.specs.Prelude.{◌≡◌, length};
 
-use arrayvec::ArrayVec;
-use nv_journal::{Journal, JournalFault, Snapshot};
-use std::process::Abort;
-use swp_base::{MemNv, Nv};
+use crate::memories::memory;
+use nv_journal::{Journal, JournalFault};
+use std::test::Fail;
+use swp_base::MemNv;
 
-/// A memory of FF, but for these bytes at its begin.
-fn memory<R: AllocGlobal + Abort>(rt: &R, image: &[u8]) -> MemNv {
-    let mut nv = MemNv::new(rt.alloc(), 65_536).expect(rt, "there is memory");
-    assert_eq!(rt; nv.size(), 65_536);
-    if image.len() <= 64 {
-        assert_eq!(rt; nv.write(0, image).is_ok(), true);
+/// What the journal of a memory says: how many records were written, its version, and the bytes that are left.
+fn found(nv: MemNv) -> Result<(u32, u8, u32), JournalFault>
+    requires { length nv.content ≡ 65536 }
+{
+    match Journal::peek(nv) {
+        Ok(journal) => Ok((journal.count(), journal.version(), journal.left())),
+        Err(refused) => Err(refused.fault),
     }
-    nv
 }
 
 #[test]
-fn a_start_finds_what_the_image_says(rt: HostRuntime) {
+fn a_start_finds_what_the_image_says(rt: HostRuntime) -> Result<(), Fail> {
     // version 01: a sync identifier and an opened pipe, the gate at 24 closed
     let old: [u8; 25] = [
         0x5A, 1, 0, 0, 0, 1, 0, 0, 0, 0, 0, 0, 0x5A, 4, 6, 2, 0x1A, 0x2B, 0x5A, 4, 4, 2, 1, 1, 0xFF,
@@ -43,12 +44,9 @@ fn a_start_finds_what_the_image_says(rt: HostRuntime) {
         (&moved, Err(JournalFault::BadRecord { at: 20 })),
     ];
     for (image, want) in cases {
-        let nv = memory(&rt, image);
-        assert_eq!(rt; nv.size(), 65_536);
-        let found = match Journal::peek(nv) {
-            Ok(journal) => Ok((journal.count(), journal.version(), journal.left())),
-            Err(refused) => Err(refused.fault),
-        };
-        assert_eq!(rt; found, want);
+        assert!(rt; image.len() <= 64);
+        let nv = memory(rt.alloc(), image)?;
+        assert_eq!(rt; found(nv), want);
     }
+    Ok(())
 }

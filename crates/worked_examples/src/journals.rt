@@ -1,8 +1,12 @@
 //! The records of a memory, one by one.
+ghost use Rattle.std.specs.Prelude.{◌≡◌, length, IsTrue};
+ghost use Rattle.nv_journal.specs.Kept.{IsGate};
 
 use crate::memories::{IMAGE, memory};
 use nv_journal::{Journal, JournalFault};
+use std::process::Abort;
 use std::test::Fail;
+use swp_base::MemNv;
 
 /// The commands of `IMAGE` in a bank of version 02.
 const NEW_IMAGE: [u8; 29] = [
@@ -10,46 +14,77 @@ const NEW_IMAGE: [u8; 29] = [
     1, 0xFF,
 ];
 
+/// The journal of this memory.
+fn peeked(rt: &impl Abort, nv: MemNv) -> Journal<MemNv>
+    requires { length nv.content ≡ 65536 }
+    ensures { IsTrue result.live }
+{
+    match Journal::peek(nv) {
+        Ok(journal) => journal,
+        Err(_refused) => panic!(rt; "the memory is refused"),
+    }
+}
+
+/// A record with this body is read at a place. The place behind it is given.
+fn reads(rt: &impl Abort, journal: &mut Journal<MemNv>, at: u32, wanted: &[u8]) -> u32
+    requires live { IsTrue journal.old.live }
+    requires gate { IsGate journal.old.nv.content at }
+    ensures live { IsTrue journal.new.live }
+    ensures gate { IsGate journal.new.nv.content result }
+{
+    let Ok(Some((body, next))) = journal.body(at) else {
+        panic!(rt; "no record is there");
+    };
+    assert_eq!(rt; body.as_slice(), wanted);
+    next
+}
+
+/// The place behind the record at a place; none where there is no record.
+fn behind(journal: &mut Journal<MemNv>, at: u32) -> Result<Option<u32>, JournalFault>
+    requires live { IsTrue journal.old.live }
+    requires gate { IsGate journal.old.nv.content at }
+    ensures live { IsTrue journal.new.live }
+    ensures gate { IsGate journal.new.nv.content at }
+{
+    match journal.body(at) {
+        Ok(Some((_, next))) => Ok(Some(next)),
+        Ok(None) => Ok(None),
+        Err(fault) => Err(fault),
+    }
+}
+
+/// The memory has these records, each with its place, and no further one.
+fn has(rt: &impl Abort, nv: MemNv, records: &[(u32, [u8; 4])])
+    requires { length nv.content ≡ 65536 }
+{
+    let mut journal = peeked(rt, nv);
+    let mut at = journal.first();
+    for (place, wanted) in records {
+        assert_eq!(rt; at, *place);
+        at = reads(rt, &mut journal, at, wanted);
+    }
+    assert_eq!(rt; behind(&mut journal, at), Ok(None));
+}
+
 #[test]
 fn records_are_read_at_their_places(rt: HostRuntime) -> Result<(), Fail> {
     let alloc = rt.alloc();
-    let none: [(u32, [u8; 4]); 0] = [];
     let old = [(12, [6, 2, 0x1A, 0x2B]), (18, [4, 2, 1, 1])];
     let new = [(12, [6, 2, 0x1A, 0x2B]), (20, [4, 2, 1, 1])];
-    for (image, records) in [
-        ([].as_slice(), none.as_slice()),
-        (IMAGE.as_slice(), old.as_slice()),
-        (NEW_IMAGE.as_slice(), new.as_slice()),
-    ] {
-        assert!(rt; image.len() <= 64 && records.len() <= 2);
-        let Ok(mut journal) = Journal::peek(memory(alloc, image)?) else {
-            panic!(rt; "the memory is refused");
-        };
-        let mut at = journal.first();
-        for (place, wanted) in records {
-            assert_eq!(rt; at, *place);
-            let Ok(Some((body, next))) = journal.body(at) else {
-                panic!(rt; "no record is there");
-            };
-            assert_eq!(rt; body.as_slice(), wanted.as_slice());
-            at = next;
-        }
-        assert!(rt; matches!(journal.body(at), Ok(None)));
-    }
+    has(&rt, memory(alloc, &[])?, &[]);
+    has(&rt, memory(alloc, &IMAGE)?, &old);
+    has(&rt, memory(alloc, &NEW_IMAGE)?, &new);
     Ok(())
 }
 
 #[test]
 fn a_record_that_could_not_be_read_is_read_the_next_time(rt: HostRuntime) -> Result<(), Fail> {
-    let alloc = rt.alloc();
-    let mut nv = memory(alloc, &NEW_IMAGE)?;
+    let mut nv = memory(rt.alloc(), &NEW_IMAGE)?;
     // The heads of both banks and a piece of the first one are read, and then the record.
     nv.arm_read(4);
-    let Ok(mut journal) = Journal::peek(nv) else {
-        panic!(rt; "the memory is refused");
-    };
+    let mut journal = peeked(&rt, nv);
     let at = journal.first();
-    assert!(rt; matches!(journal.body(at), Err(JournalFault::NvFault)));
-    assert!(rt; matches!(journal.body(at), Ok(Some((_, 20)))));
+    let places = [behind(&mut journal, at), behind(&mut journal, at)];
+    assert_eq!(rt; places, [Err(JournalFault::NvFault), Ok(Some(20))]);
     Ok(())
 }

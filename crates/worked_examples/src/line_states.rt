@@ -5,13 +5,15 @@ use swp_line::*;
 fn states_over_a_record(rt: HostRuntime) -> Result<(), Fail> {
     let mut line = LineTracker::new();
     assert_eq!(rt; line.state(), LineState::Deactivated);
-    let _bits = line.step(0x40);
-    assert_eq!(rt; line.state(), LineState::Active);
-    let _suspended = line.step(0x55);
-    assert_eq!(rt; line.state(), LineState::Suspended);
-    let _invalid = line.step(0x01);
-    assert_eq!(rt; line.state(), LineState::Suspended);
-    let _deactivated = line.step(0x00);
-    assert_eq!(rt; line.state(), LineState::Deactivated);
+    // Bits, a suspended line, an invalid byte, and a deactivated line.
+    for (byte, state) in [
+        (0x40, LineState::Active),
+        (0x55, LineState::Suspended),
+        (0x01, LineState::Suspended),
+        (0x00, LineState::Deactivated),
+    ] {
+        let _period = line.step(byte);
+        assert_eq!(rt; line.state(), state, "{byte}");
+    }
     Ok(())
 }

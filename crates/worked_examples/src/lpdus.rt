@@ -1,3 +1,6 @@
+ghost use Rattle.swp_lpdu.specs.Controls.{HasNumbers};
+
+use std::process::Abort;
 use std::test::Fail;
 use swp_base::{Act, Control, Info, Kind, Lpdu};
 use swp_lpdu::{LpduFault, read_lpdu, write_lpdu};
@@ -7,61 +10,69 @@ fn read(bytes: &[u8]) -> Option<Result<Control, LpduFault>> {
     Some(read_lpdu(&Lpdu::from_bytes(bytes)?))
 }
 
-fn supervisory(kind: Kind, nr: u8) -> Option<Result<Control, LpduFault>> {
-    Some(Ok(Control::S { kind, nr }))
+/// These bytes are read as this control.
+fn says(rt: &impl Abort, bytes: &[u8], control: Control) {
+    assert_eq!(rt; read(bytes), Some(Ok(control)));
 }
 
-fn activation(act: Act, again: bool) -> Option<Result<Control, LpduFault>> {
-    Some(Ok(Control::Act { act, again }))
+/// These bytes are read as a supervisory frame.
+fn is_supervisory(rt: &impl Abort, bytes: &[u8], kind: Kind, nr: u8) {
+    says(rt, bytes, Control::S { kind, nr });
 }
 
-fn reset(window: u8, caps: u8) -> Option<Result<Control, LpduFault>> {
-    Some(Ok(Control::Rset { window, caps }))
+/// These bytes are read as a frame of activation.
+fn is_activation(rt: &impl Abort, bytes: &[u8], act: Act, again: bool) {
+    says(rt, bytes, Control::Act { act, again });
+}
+
+/// These bytes are read as a reset.
+fn is_reset(rt: &impl Abort, bytes: &[u8], window: u8, caps: u8) {
+    says(rt, bytes, Control::Rset { window, caps });
 }
 
 #[test]
 fn control_bytes_say_what_the_table_says(rt: HostRuntime) {
-    assert_eq!(rt; read(&[0xC1]), supervisory(Kind::Rr, 1));
-    assert_eq!(rt; read(&[0xCF]), supervisory(Kind::Rej, 7));
-    assert_eq!(rt; read(&[0xD2]), supervisory(Kind::Rnr, 2));
-    assert_eq!(rt; read(&[0xD8]), supervisory(Kind::Srej, 0));
-    assert_eq!(rt; read(&[0xF9]), reset(4, 0));
-    assert_eq!(rt; read(&[0xF9, 2]), reset(2, 0));
-    assert_eq!(rt; read(&[0xF9, 3, 1, 7]), reset(3, 1));
-    assert_eq!(rt; read(&[0xE6, 0]), Some(Ok(Control::Ua)));
-    assert_eq!(rt; read(&[0x68]), activation(Act::Ready, true));
-    assert_eq!(rt;
-        read(&[0x61, 0x12, 0x34]),
-        activation(Act::SyncId(0x1234), false)
-    );
-    assert_eq!(rt; read(&[0x6A, 1]), activation(Act::PowerMode(1), true));
-    assert_eq!(rt; read(&[0x5F, 9]), Some(Ok(Control::Clt)));
+    is_supervisory(&rt, &[0xC1], Kind::Rr, 1);
+    is_supervisory(&rt, &[0xCF], Kind::Rej, 7);
+    is_supervisory(&rt, &[0xD2], Kind::Rnr, 2);
+    is_supervisory(&rt, &[0xD8], Kind::Srej, 0);
+    is_reset(&rt, &[0xF9], 4, 0);
+    is_reset(&rt, &[0xF9, 2], 2, 0);
+    is_reset(&rt, &[0xF9, 3, 1, 7], 3, 1);
+    says(&rt, &[0xE6, 0], Control::Ua);
+    is_activation(&rt, &[0x68], Act::Ready, true);
+    is_activation(&rt, &[0x61, 0x12, 0x34], Act::SyncId(0x1234), false);
+    is_activation(&rt, &[0x6A, 1], Act::PowerMode(1), true);
+    says(&rt, &[0x5F, 9], Control::Clt);
 }
 
 #[test]
 fn refusals_say_what_is_wrong(rt: HostRuntime) {
-    for (bytes, fault) in [
-        ([0x00, 1], LpduFault::Unknown { byte: 0x00 }),
-        ([0x63, 1], LpduFault::Unknown { byte: 0x63 }),
-        ([0xFF, 1], LpduFault::Unknown { byte: 0xFF }),
-        ([0x61, 1], LpduFault::Short { need: 3, got: 2 }),
-        ([0xC1, 0], LpduFault::TooLong { got: 2 }),
-    ] {
-        assert_eq!(rt; read(&bytes), Some(Err(fault)));
+    let rows: [(&[u8], LpduFault); 6] = [
+        (&[0x00, 1], LpduFault::Unknown { byte: 0x00 }),
+        (&[0x63, 1], LpduFault::Unknown { byte: 0x63 }),
+        (&[0xFF, 1], LpduFault::Unknown { byte: 0xFF }),
+        (&[0x61, 1], LpduFault::Short { need: 3, got: 2 }),
+        (&[0xC1, 0], LpduFault::TooLong { got: 2 }),
+        (&[0x80], LpduFault::Short { need: 2, got: 1 }),
+    ];
+    for (bytes, fault) in rows {
+        assert_eq!(rt; read(bytes), Some(Err(fault)));
     }
-    assert_eq!(rt;
-        read(&[0x80]),
-        Some(Err(LpduFault::Short { need: 2, got: 1 }))
-    );
+}
+
+/// The control is written as these bytes, and they are read as it again.
+fn is_written(rt: &impl Abort, control: Control, bytes: &[u8])
+    requires { HasNumbers control }
+{
+    assert_eq!(rt; write_lpdu(&control).bytes(), bytes);
+    says(rt, bytes, control);
 }
 
 #[test]
 fn an_information_frame_has_its_numbers_and_its_field(rt: HostRuntime) -> Result<(), Fail> {
     let info = Info::new(&[0x81, 0x03]);
-    let control = Control::I { ns: 1, nr: 2, info };
-    let lpdu = write_lpdu(&control);
-    assert_eq!(rt; lpdu.bytes(), [0x8A, 0x81, 0x03].as_slice());
-    assert_eq!(rt; read_lpdu(&lpdu), Ok(control));
-    assert_eq!(rt; write_lpdu(&Control::Clt).bytes(), [0x40].as_slice());
+    is_written(&rt, Control::I { ns: 1, nr: 2, info }, &[0x8A, 0x81, 0x03]);
+    is_written(&rt, Control::Clt, &[0x40]);
     Ok(())
 }

@@ -3,6 +3,7 @@ ghost use Rattle.std.specs.Prelude.{◌≡◌, ◌<◌, ◌≤◌, length, IfOk}
 
 use nv_journal::JournalFault;
 use std::alloc::{AllocError, Global};
+use std::process::Abort;
 use std::test::Fail;
 use swp_base::{MemNv, MemSink, MemSource, NoMemory, Nv};
 use swp_tool::{Ended, Status, run};
@@ -25,18 +26,39 @@ pub fn memory(alloc: Global, image: &[u8]) -> Result<MemNv, NoMemory>
     Ok(nv)
 }
 
-/// How a run with the word `tables` ended, what it wrote, and the memory.
-pub fn told(alloc: Global, nv: MemNv) -> Result<(Status, Vec<u8>, MemNv), NoMemory>
-    requires { length nv.content ≡ 65536 }
-{
+/// The word `tables` alone.
+fn tables_word(alloc: Global) -> Result<Vec<String>, AllocError> {
     let mut words = Vec::new(alloc);
     words
         .push(String::from_str(alloc, "tables")?)
         .map_err(AllocError::from)?;
+    Ok(words)
+}
+
+/// How a run with these words over a memory ended, what it wrote, and the memory.
+fn told(alloc: Global, words: &[String], nv: MemNv) -> (Status, MemSink, MemNv)
+    requires { length nv.content ≡ 65536 }
+{
     let mut source = MemSource::new(Vec::new(alloc), Vec::new(alloc), 4096);
     let mut sink = MemSink::new(Vec::new(alloc), Vec::new(alloc), 4096);
-    let Ended { status, nv } = run(alloc, words.as_slice(), &mut source, &mut sink, nv);
-    Ok((status, Vec::from_slice(alloc, sink.bytes())?, nv))
+    let Ended { status, nv } = run(alloc, words, &mut source, &mut sink, nv);
+    (status, sink, nv)
+}
+
+/// A run with the word `tables` over this memory ends so and writes this text. It gives the memory back.
+pub fn tells(
+    rt: &impl Abort,
+    alloc: Global,
+    nv: MemNv,
+    ended: Status,
+    text: &str,
+) -> Result<MemNv, Fail> {
+    let words = tables_word(alloc)?;
+    assert_eq!(rt; nv.size(), 65_536);
+    let (status, sink, nv) = told(alloc, words.as_slice(), nv);
+    assert_eq!(rt; status, ended);
+    assert_eq!(rt; sink.bytes(), text.as_bytes());
+    Ok(nv)
 }
 
 #[test]
@@ -68,9 +90,7 @@ fn images_are_told_or_refused_with_their_place(rt: HostRuntime) -> Result<(), Fa
         ),
     ] {
         assert!(rt; image.len() <= 64);
-        let (ended, written, _) = told(alloc, memory(alloc, image)?)?;
-        assert_eq!(rt; ended, status);
-        assert_eq!(rt; written.as_slice(), text.as_bytes());
+        let _nv = tells(&rt, alloc, memory(alloc, image)?, status, text)?;
     }
     Ok(())
 }
@@ -81,13 +101,8 @@ fn a_memory_that_fails_once_is_told_the_next_time(rt: HostRuntime) -> Result<(),
     for nth in 1..=3u32 {
         let mut nv = memory(alloc, &IMAGE)?;
         nv.arm_read(nth);
-        let (ended, written, nv) = told(alloc, nv)?;
-        assert_eq!(rt; ended, Status::NvFault);
-        assert!(rt; written.is_empty());
-        assert_eq!(rt; nv.size(), 65_536);
-        let (ended, written, _) = told(alloc, nv)?;
-        assert_eq!(rt; ended, Status::Done);
-        assert_eq!(rt; written.as_slice(), TABLES.as_bytes());
+        let nv = tells(&rt, alloc, nv, Status::NvFault, "")?;
+        let _nv = tells(&rt, alloc, nv, Status::Done, TABLES)?;
     }
     Ok(())
 }

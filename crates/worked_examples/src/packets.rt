@@ -1,5 +1,12 @@
 use hcp_packet::*;
+use std::process::Abort;
 use std::test::Fail;
+
+/// The packet is written as these bytes.
+fn is_written(rt: &impl Abort, packet: &Packet, bytes: &[u8]) {
+    assert!(rt; packet.pipe < 0x70);
+    assert_eq!(rt; write_packet(packet).as_slice(), bytes);
+}
 
 #[test]
 fn packets_are_read_and_written_again(rt: HostRuntime) -> Result<(), Fail> {
@@ -10,17 +17,13 @@ fn packets_are_read_and_written_again(rt: HostRuntime) -> Result<(), Fail> {
         (&[0x80], true, 0x00, 0),
     ];
     for (info, last, pipe, len) in rows {
-        if info.is_empty() || info.len() > 29 {
-            continue;
-        }
+        assert!(rt; !info.is_empty() && info.len() <= 29);
         let packet = read_packet(info)?;
-        assert_eq!(rt; packet.last, last);
-        assert_eq!(rt; packet.pipe, pipe);
-        assert_eq!(rt; packet.bytes.len(), len);
-        assert!(rt; pipe < 0x70);
-        if packet.pipe < 0x70 {
-            assert_eq!(rt; write_packet(&packet).as_slice(), info);
-        }
+        is_written(&rt, &packet, info);
+        assert_eq!(rt;
+            (packet.last, packet.pipe, packet.bytes.len()),
+            (last, pipe, len)
+        );
     }
     Ok(())
 }
@@ -35,13 +38,15 @@ fn reserved_pipes_are_refused(rt: HostRuntime) {
 
 #[test]
 fn message_headers_are_told(rt: HostRuntime) {
-    let open = Ok((MessageKind::Command, 0x03));
-    let post = Ok((MessageKind::Event, 0x02));
-    let denied = Ok((MessageKind::Response, 0x0B));
-    assert_eq!(rt; read_header(&[0x03]), open);
-    assert_eq!(rt; read_header(&[0x42, 0xFF]), post);
-    assert_eq!(rt; read_header(&[0x8B]), denied);
-    assert_eq!(rt; read_header(&[0xC0]), Err(MessageFault::ReservedType));
-    assert_eq!(rt; read_header(&[]), Err(MessageFault::Empty));
+    let rows: [(&[u8], Result<(MessageKind, u8), MessageFault>); 5] = [
+        (&[0x03], Ok((MessageKind::Command, 0x03))),
+        (&[0x42, 0xFF], Ok((MessageKind::Event, 0x02))),
+        (&[0x8B], Ok((MessageKind::Response, 0x0B))),
+        (&[0xC0], Err(MessageFault::ReservedType)),
+        (&[], Err(MessageFault::Empty)),
+    ];
+    for (message, header) in rows {
+        assert_eq!(rt; read_header(message), header);
+    }
     assert_eq!(rt; write_header(MessageKind::Event, 0x02), 0x42);
 }

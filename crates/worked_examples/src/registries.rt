@@ -1,5 +1,9 @@
 //! Worked examples of registries.
+ghost use Rattle.std.specs.Prelude.{IsTrue};
+ghost use Rattle.registry.specs.Values.{is_kept};
+
 use registry::{Access, Registry, SESSION_IDENTITY, WHITELIST, access_of};
+use std::process::Abort;
 
 #[test]
 fn gates_have_their_parameters(rt: HostRuntime) {
@@ -26,28 +30,27 @@ fn gates_have_their_parameters(rt: HostRuntime) {
     }
 }
 
+/// The registry has this value of a parameter of gate 00.
+fn has(rt: &impl Abort, registry: &Registry, host: u8, param: u8, value: &[u8])
+    requires { IsTrue (is_kept host 0 param) }
+{
+    assert_eq!(rt; registry.get(host, 0x00, param).as_slice(), value);
+}
+
 #[test]
 fn a_value_equal_to_its_default_is_absent(rt: HostRuntime) {
     let mut registry = Registry::new();
-    assert_eq!(rt;
-        registry.get(0x02, 0x00, SESSION_IDENTITY).as_slice(),
-        [0xFF; 8].as_slice()
-    );
+    has(&rt, &registry, 0x02, SESSION_IDENTITY, &[0xFF; 8]);
     registry.set(0x02, 0x00, WHITELIST, &[0x01]);
     registry.set(0x02, 0x00, SESSION_IDENTITY, &[0x11; 8]);
     registry.set(0x01, 0x00, WHITELIST, &[0x02, 0x03]);
-    assert_eq!(rt; registry.values().len(), 3);
-    assert_eq!(rt;
-        registry.get(0x02, 0x00, SESSION_IDENTITY).as_slice(),
-        [0x11; 8].as_slice()
-    );
+    let set = registry.values().len();
+    has(&rt, &registry, 0x02, SESSION_IDENTITY, &[0x11; 8]);
     registry.set(0x02, 0x00, SESSION_IDENTITY, &[0xFF; 8]);
-    assert_eq!(rt; registry.values().len(), 2);
+    let set_back = registry.values().len();
     registry.clear_host(0x02);
-    assert_eq!(rt; registry.values().len(), 1);
-    assert!(rt; registry.get(0x02, 0x00, WHITELIST).is_empty());
-    assert_eq!(rt;
-        registry.get(0x01, 0x00, WHITELIST).as_slice(),
-        [0x02, 0x03].as_slice()
-    );
+    let cleared = registry.values().len();
+    assert_eq!(rt; [set, set_back, cleared], [3, 2, 1]);
+    has(&rt, &registry, 0x02, WHITELIST, &[]);
+    has(&rt, &registry, 0x01, WHITELIST, &[0x02, 0x03]);
 }

@@ -65,6 +65,16 @@ fn bodies_outside_the_grammar_are_none(rt: HostRuntime) {
     }
 }
 
+/// How many static pipes are opened, how many pipes, values and identifiers there are.
+fn counts(tables: &Tables) -> [usize; 4] {
+    [
+        tables.statics().len(),
+        tables.pipes().rows().len(),
+        tables.registry().values().len(),
+        tables.syncs().len(),
+    ]
+}
+
 fn told(tables: &mut Tables, bodies: &[&[u8]]) {
     for body in bodies {
         if let Some(command) = read_command(body) {
@@ -93,14 +103,14 @@ fn commands_change_the_tables(rt: HostRuntime) {
     );
     assert_eq!(rt; tables.statics(), [(0x02, 0x01)].as_slice());
     assert_eq!(rt; tables.syncs(), [(0x02, 0x1A2B)].as_slice());
-    assert_eq!(rt; tables.pipes().opened_on(0x00, 0x04, 0x03), 1);
+    let opened = tables.pipes().opened_on(0x00, 0x04, 0x03);
     told(&mut tables, &[&[0x06, 0x02, 0x1A, 0x2B]]);
-    assert_eq!(rt; tables.registry().values().len(), 1);
+    let same = counts(&tables);
     told(&mut tables, &[&[0x06, 0x02, 0x1A, 0x2C]]);
-    assert!(rt; tables.registry().values().is_empty());
+    let other = counts(&tables);
     tables.close();
-    assert!(rt; tables.statics().is_empty());
-    assert_eq!(rt; tables.pipes().opened_on(0x00, 0x04, 0x03), 0);
+    let closed = counts(&tables);
+    let still_opened = tables.pipes().opened_on(0x00, 0x04, 0x03);
     told(
         &mut tables,
         &[
@@ -109,8 +119,10 @@ fn commands_change_the_tables(rt: HostRuntime) {
             &[0x03, 0x02],
         ],
     );
-    assert!(rt; tables.pipes().rows().is_empty());
-    assert!(rt; tables.statics().is_empty());
-    assert!(rt; tables.registry().values().is_empty());
-    assert_eq!(rt; tables.syncs().len(), 1);
+    let cleared = counts(&tables);
+    assert_eq!(rt; [opened, still_opened], [1, 0]);
+    assert_eq!(rt;
+        [same, other, closed, cleared],
+        [[1, 1, 1, 1], [1, 1, 0, 1], [0, 1, 0, 1], [0, 0, 0, 1]]
+    );
 }

@@ -1,4 +1,5 @@
 use byte_link::{ByteLink, Unit, write_unit};
+use std::process::Abort;
 use std::test::Fail;
 use swp_base::{FrameFault, Lpdu};
 
@@ -12,28 +13,25 @@ fn last_of(bytes: &[u8]) -> Unit {
     last
 }
 
+/// The last of these bytes gives this to a new link.
+fn gives(rt: &impl Abort, bytes: &[u8], unit: Unit) {
+    assert_eq!(rt; last_of(bytes), unit);
+}
+
 #[test]
 fn units_are_read(rt: HostRuntime) -> Result<(), Fail> {
     let c1 = Lpdu::from_bytes(&[0xC1]).ok_or("short")?;
-    assert_eq!(rt; last_of(&[0x00, 0x01, 0xC1, 0xD7, 0x62]), Unit::Frame(c1));
-    assert_eq!(rt; last_of(&[0x00, 0x00]), Unit::Tick);
-    assert_eq!(rt;
-        last_of(&[0x00, 0x1F]),
-        Unit::Refused(FrameFault::Length { bits: 248 })
-    );
-    assert_eq!(rt; last_of(&[0x00, 0x1F, 0x00, 0x00]), Unit::Nothing);
+    gives(&rt, &[0x00, 0x01, 0xC1, 0xD7, 0x62], Unit::Frame(c1));
+    gives(&rt, &[0x00, 0x00], Unit::Tick);
+    let length = FrameFault::Length { bits: 248 };
+    gives(&rt, &[0x00, 0x1F], Unit::Refused(length));
+    gives(&rt, &[0x00, 0x1F, 0x00, 0x00], Unit::Nothing);
     let differs = FrameFault::Crc {
         want: 0xD762,
         got: 0xD763,
     };
-    assert_eq!(rt;
-        last_of(&[0x00, 0x01, 0xC1, 0xD7, 0x63]),
-        Unit::Refused(differs)
-    );
-    assert_eq!(rt;
-        last_of(&[0x00, 0x01, 0xC1, 0xD7, 0x63, 0x00, 0x00]),
-        Unit::Tick
-    );
+    gives(&rt, &[0x00, 0x01, 0xC1, 0xD7, 0x63], Unit::Refused(differs));
+    gives(&rt, &[0x00, 0x01, 0xC1, 0xD7, 0x63, 0x00, 0x00], Unit::Tick);
     Ok(())
 }
 
