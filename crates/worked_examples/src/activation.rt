@@ -1,7 +1,8 @@
 //! Worked examples of activation.
 ghost use Rattle.std.specs.Prelude.{◌≡◌, false};
 
-use swp_act::{ActEvent, ClfAct, UiccAct};
+use std::process::Abort;
+use swp_act::{ActEvent, ActOut, ClfAct, UiccAct};
 use swp_base::Act;
 
 fn take(act: Act) -> ActEvent
@@ -10,21 +11,30 @@ fn take(act: Act) -> ActEvent
     ActEvent::Take { act, again: false }
 }
 
+/// At a tick the UICC sends this, and gives up after so many tries or doesn't. Nothing else happens.
+fn ticks(rt: &impl Abort, uicc: &mut UiccAct, tick: u8, send: Option<Act>, gave_up: Option<u8>) {
+    let out = ActOut {
+        send,
+        became_active: false,
+        ended_link: false,
+        sync: None,
+        gave_up,
+    };
+    assert_eq!(rt; uicc.step(&ActEvent::Tick), out, "at tick {tick}");
+}
+
 #[test]
 fn a_uicc_tries_three_times(rt: HostRuntime) {
     let mut uicc = UiccAct::new();
     let started = uicc.step(&ActEvent::Start { value: 0x1A2B });
     assert_eq!(rt; started.send, Some(Act::SyncId(0x1A2B)));
     for tick in 1..=40u8 {
-        let out = uicc.step(&ActEvent::Tick);
         let send = match tick {
             10 | 20 => Some(Act::SyncId(0x1A2B)),
             _ => None,
         };
         let gave_up = if tick == 30 { Some(3) } else { None };
-        assert_eq!(rt; out.send, send, "at tick {tick}");
-        assert_eq!(rt; out.gave_up, gave_up, "at tick {tick}");
-        assert!(rt; !out.ended_link && !out.became_active);
+        ticks(&rt, &mut uicc, tick, send, gave_up);
     }
     assert!(rt; !uicc.active());
 }
@@ -34,19 +44,25 @@ fn both_ends_become_active(rt: HostRuntime) {
     let mut uicc = UiccAct::new();
     let mut clf = ClfAct::new();
     let cleared = clf.step(&ActEvent::Start { value: 0 });
-    assert!(rt; cleared.ended_link && cleared.send.is_none());
     let early = clf.step(&take(Act::Ready));
-    assert!(rt; !early.became_active && !clf.active());
+    let before = [early.became_active, clf.active()];
     uicc.step(&ActEvent::Start { value: 7 });
     let synced = clf.step(&take(Act::SyncId(7)));
-    assert_eq!(rt; synced.send, Some(Act::PowerMode(0)));
-    assert_eq!(rt; synced.sync, Some(7));
-    assert!(rt; synced.ended_link);
     let powered = uicc.step(&take(Act::PowerMode(0)));
-    assert_eq!(rt; powered.send, Some(Act::Ready));
-    assert!(rt; powered.became_active && uicc.active());
     let ready = clf.step(&take(Act::Ready));
-    assert!(rt; ready.became_active && clf.active());
+    let after = [
+        powered.became_active,
+        uicc.active(),
+        ready.became_active,
+        clf.active(),
+    ];
+    assert_eq!(rt; [cleared.ended_link, synced.ended_link], [true; 2]);
+    assert_eq!(rt;
+        [cleared.send, synced.send, powered.send],
+        [None, Some(Act::PowerMode(0)), Some(Act::Ready)]
+    );
+    assert_eq!(rt; synced.sync, Some(7));
+    assert_eq!(rt; (before, after), ([false; 2], [true; 4]));
 }
 
 #[test]
@@ -55,13 +71,15 @@ fn a_repeat_is_no_try(rt: HostRuntime) {
     clf.step(&take(Act::SyncId(7)));
     for tick in 1..=29u8 {
         let out = clf.step(&ActEvent::Tick);
-        assert!(rt; out.gave_up.is_none(), "at tick {tick}");
         let repeat = clf.step(&ActEvent::Take {
             act: Act::SyncId(9),
             again: true,
         });
-        assert_eq!(rt; repeat.send, Some(Act::PowerMode(1)));
-        assert!(rt; repeat.sync.is_none() && !repeat.ended_link);
+        assert!(rt; out.gave_up.is_none(), "at tick {tick}");
+        assert_eq!(rt;
+            (repeat.send, repeat.sync, repeat.ended_link),
+            (Some(Act::PowerMode(1)), None, false)
+        );
     }
     assert_eq!(rt; clf.step(&ActEvent::Tick).gave_up, Some(3));
 }

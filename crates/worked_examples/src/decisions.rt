@@ -3,6 +3,7 @@
 use arrayvec::ArrayVec;
 use gate_admin::{Decision, LinkView, decide};
 use hci_tables::{Tables, read_command};
+use std::process::Abort;
 
 /// A line has, in hexadecimal and split by bars: the body of a further command that made the tables; the masks of connected,
 /// noticed and asked hosts; the pipes of waiting creations; the pipe; the message; the body of the command that is committed,
@@ -173,26 +174,30 @@ fn commands_are_decided(rt: HostRuntime) {
     }
 }
 
+/// A further pipe gets this number, and is in the tables then. Where it were 70, it is refused.
+fn creates(rt: &impl Abort, tables: &mut Tables, view: &LinkView, pid: u8) {
+    match decide(tables, view, 0x02, 0x01, &[0x10, 0x20, 0x00, 0x04]) {
+        Decision::Commit {
+            command,
+            answer,
+            ..
+        } => {
+            assert_eq!(rt; answer.last().copied(), Some(pid));
+            tables.apply(&command);
+        }
+        Decision::Answer(answer) => {
+            assert_eq!(rt; (pid, answer.as_slice()), (0x70, [0x84].as_slice()));
+        }
+        Decision::Ask { .. } => panic!(rt; "a host is asked"),
+    }
+}
+
 #[test]
 fn the_111th_pipe_is_refused(rt: HostRuntime) {
     let mut tables = Tables::new();
     told(&mut tables, &[0x04, 0x02, 0x01, 0x01]);
     let view = view_of(&[0x04], &[]);
     for pid in 0x02..0x71u8 {
-        match decide(&tables, &view, 0x02, 0x01, &[0x10, 0x20, 0x00, 0x04]) {
-            Decision::Commit {
-                command,
-                answer,
-                ..
-            } => {
-                assert_eq!(rt; answer.last().copied(), Some(pid));
-                tables.apply(&command);
-            }
-            Decision::Answer(answer) => {
-                assert_eq!(rt; pid, 0x70);
-                assert_eq!(rt; answer.as_slice(), [0x84].as_slice());
-            }
-            Decision::Ask { .. } => assert!(rt; false),
-        }
+        creates(&rt, &mut tables, &view, pid);
     }
 }

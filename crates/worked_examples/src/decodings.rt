@@ -60,10 +60,21 @@ fn placed(s1: usize, s2: usize) -> [u8; 192] {
     record
 }
 
+/// The record gives these lines.
+fn gives(rt: &impl Abort, record: &[u8], lines: &str) {
+    assert_eq!(rt; decoded(rt, record).as_slice(), lines.as_bytes());
+}
+
+/// Many bytes at once, the record gives the lines that it gives byte by byte. How long these are is told.
+fn gives_the_same(rt: &impl Abort, record: &[u8]) -> usize {
+    let text = decoded_by_many(rt, record);
+    assert_eq!(rt; text.as_slice(), decoded(rt, record).as_slice());
+    text.len()
+}
+
 #[test]
 fn frame_is_decoded(rt: HostRuntime) -> Result<(), Fail> {
-    let text = decoded(&rt, &RECORD);
-    assert_eq!(rt; text.as_slice(), b"s1 0 C1 rr 1\n".as_slice());
+    gives(&rt, &RECORD, "s1 0 C1 rr 1\n");
     Ok(())
 }
 
@@ -71,15 +82,13 @@ fn frame_is_decoded(rt: HostRuntime) -> Result<(), Fail> {
 fn invalid_byte_breaks_a_frame(rt: HostRuntime) -> Result<(), Fail> {
     let mut record = RECORD;
     record[11] = 0x7F;
-    let text = decoded(&rt, &record);
-    assert_eq!(rt; text.as_slice(), b"s1 0 broken\n".as_slice());
+    gives(&rt, &record, "s1 0 broken\n");
     Ok(())
 }
 
 #[test]
 fn part_of_a_frame_gives_nothing(rt: HostRuntime) -> Result<(), Fail> {
-    let text = decoded(&rt, &RECORD[..20]);
-    assert!(rt; text.is_empty());
+    gives(&rt, &RECORD[..20], "");
     Ok(())
 }
 
@@ -92,8 +101,7 @@ fn both_wires_are_decoded(rt: HostRuntime) -> Result<(), Fail> {
             *byte = 0xFC;
         }
     }
-    let text = decoded(&rt, &record[1..]);
-    assert_eq!(rt; text.as_slice(), b"s1 0 C1 rr 1\ns2 0 C1 rr 1\n".as_slice());
+    gives(&rt, &record[1..], "s1 0 C1 rr 1\ns2 0 C1 rr 1\n");
     Ok(())
 }
 
@@ -102,9 +110,7 @@ fn marks_at_each_place_of_a_word_are_decoded(rt: HostRuntime) -> Result<(), Fail
     for place in 0..64 {
         for later in [0, 5, 64] {
             for record in [placed(place, place + later), placed(place + later, place)] {
-                let text = decoded_by_many(&rt, &record);
-                assert!(rt; text.len() > 20);
-                assert_eq!(rt; text.as_slice(), decoded(&rt, &record).as_slice());
+                assert!(rt; gives_the_same(&rt, &record) > 20);
             }
         }
     }
@@ -121,8 +127,7 @@ fn many_bytes_are_decoded_as_each_is(rt: HostRuntime) -> Result<(), Fail> {
     for (place, byte) in [(75, 0x7F), (83, 0x55), (191, 0x00)] {
         let mut record = placed(64, 69);
         record[place] = byte;
-        let text = decoded_by_many(&rt, &record);
-        assert_eq!(rt; text.as_slice(), decoded(&rt, &record).as_slice());
+        let _len = gives_the_same(&rt, &record);
     }
     Ok(())
 }

@@ -2,6 +2,21 @@
 use gate_identity::serve as serve_identity;
 use gate_link::serve as serve_link;
 use gate_loopback::posts_back;
+use std::process::Abort;
+
+/// The identity gate, with the gates 04 and 05, answers a command so.
+fn identity_answers(rt: &impl Abort, message: &[u8], answer: &[u8]) {
+    assert!(rt; !message.is_empty() && message[0] < 0x40);
+    let served = serve_identity(&[0x04, 0x05], message);
+    assert_eq!(rt; served.as_slice(), answer);
+}
+
+/// The gate of link management, with REC_ERROR 0102, answers a command so, and sets it to this or not at all.
+fn link_answers(rt: &impl Abort, message: &[u8], answer: &[u8], set: Option<u16>) {
+    assert!(rt; !message.is_empty() && message[0] < 0x40);
+    let served = serve_link(0x0102, message);
+    assert_eq!(rt; (served.0.as_slice(), served.1), (answer, set));
+}
 
 #[test]
 fn parameters_are_read_and_not_set(rt: HostRuntime) {
@@ -24,14 +39,7 @@ fn parameters_are_read_and_not_set(rt: HostRuntime) {
         (&[0x14], &[0x87]),
     ];
     for (message, answer) in rows {
-        if message.is_empty() || message[0] >= 0x40 {
-            continue;
-        }
-        assert_eq!(rt;
-            serve_identity(&[0x04, 0x05], message).as_slice(),
-            answer,
-            "{message:?}"
-        );
+        identity_answers(&rt, message, answer);
     }
 }
 
@@ -50,12 +58,7 @@ fn rec_error_is_read_and_set(rt: HostRuntime) {
         (&[0x10, 0x01], &[0x87], None),
     ];
     for (message, answer, set) in rows {
-        if message.is_empty() || message[0] >= 0x40 {
-            continue;
-        }
-        let served = serve_link(0x0102, message);
-        assert_eq!(rt; served.0.as_slice(), answer, "{message:?}");
-        assert_eq!(rt; served.1, set, "{message:?}");
+        link_answers(&rt, message, answer, set);
     }
 }
 

@@ -44,7 +44,7 @@ fn behind(journal: &mut Journal<MemNv>, at: u32) -> Result<Option<u32>, JournalF
     requires live { IsTrue journal.old.live }
     requires gate { IsGate journal.old.nv.content at }
     ensures live { IsTrue journal.new.live }
-    ensures gate { IsGate journal.new.nv.content at }
+    ensures kept { journal.new.nv.content ≡ journal.old.nv.content }
 {
     match journal.body(at) {
         Ok(Some((_, next))) => Ok(Some(next)),

@@ -18,17 +18,18 @@ fn lpdu(rt: &impl Abort, bytes: &[u8]) -> Lpdu {
 
 /// The end sends this frame next, or nothing where it is empty.
 fn sends(rt: &impl Abort, node: &mut Node, frame: &[u8]) {
-    match node.next_out() {
-        Some(out) => assert_eq!(rt; out.bytes(), frame),
-        None => assert!(rt; frame.is_empty()),
-    }
+    let sent = node.next_out();
+    let bytes = match &sent {
+        Some(out) => out.bytes(),
+        None => &[],
+    };
+    assert_eq!(rt; bytes, frame);
 }
 
 /// The end takes a frame, tells this of it, and sends one frame then, or nothing where it is empty.
 fn takes(rt: &impl Abort, node: &mut Node, frame: &[u8], report: LinkReport, reply: &[u8]) {
     let told = node.take(rt, Form::Lpdus, &lpdu(rt, frame));
-    assert_eq!(rt; told.report, report);
-    assert_eq!(rt; told.message.is_some(), report.got);
+    assert_eq!(rt; (told.report, told.message.is_some()), (report, report.got));
     sends(rt, node, reply);
     sends(rt, node, &[]);
 }
@@ -93,17 +94,17 @@ fn connect(rt: &impl Abort, form: Form, clf: &mut Node, uicc: &mut Node) {
     let _started = uicc.activate(rt, 1);
     sends(rt, clf, &[]);
     let asked = deliver(rt, form, uicc, clf);
-    assert_eq!(rt; asked.sync, Some(1));
     let powered = deliver(rt, form, clf, uicc);
-    assert!(rt; powered.became_active);
     let ready = deliver(rt, form, uicc, clf);
-    assert!(rt; ready.became_active);
-    assert!(rt; clf.state() == LinkState::Down && uicc.state() == LinkState::Down);
-    assert_eq!(rt; clf.reset(rt, None), Ok(NOTHING));
+    let active = [clf.state(), uicc.state()];
+    let reset = clf.reset(rt, None);
     let heard = deliver(rt, form, clf, uicc);
     let accepted = deliver(rt, form, uicc, clf);
-    assert!(rt; heard.began && accepted.began);
-    assert!(rt; clf.state() == LinkState::Up && uicc.state() == LinkState::Up);
+    let begun = [clf.state(), uicc.state()];
+    assert_eq!(rt; (asked.sync, reset), (Some(1), Ok(NOTHING)));
+    assert_eq!(rt; [powered.became_active, ready.became_active], [true; 2]);
+    assert_eq!(rt; [heard.began, accepted.began], [true; 2]);
+    assert_eq!(rt; [active, begun], [[LinkState::Down; 2], [LinkState::Up; 2]]);
 }
 
 /// A message of one end comes to the other, whose answer acknowledges it.
@@ -112,13 +113,27 @@ fn exchange(rt: &impl Abort, form: Form, from: &mut Node, to: &mut Node, pipe: u
 {
     let bytes = [0x42; 60];
     let count = (len as usize).clamp(1, 60);
-    assert_eq!(rt; from.send(pipe, &bytes[..count]), Ok(()));
+    let sent = from.send(pipe, &bytes[..count]);
     let came = deliver(rt, form, from, to);
+    let back = deliver(rt, form, to, from);
     let front = if count > 1 { [0x42, 0x42] } else { [0x42, 0] };
     let len = count as u32;
-    assert_eq!(rt; came.last, Some(Message { pipe, len, front }));
-    let back = deliver(rt, form, to, from);
-    assert_eq!(rt; back.acked, 1);
+    let message = Message { pipe, len, front };
+    assert_eq!(rt; (sent, came.last, back.acked), (Ok(()), Some(message), 1));
+}
+
+/// Two ends become active, exchange messages in this form, and end.
+fn connect_and_exchange(rt: &impl Abort, form: Form, clf: &mut Node, uicc: &mut Node) {
+    connect(rt, form, clf, uicc);
+    exchange(rt, form, clf, uicc, 1, 60);
+    exchange(rt, form, uicc, clf, 111, 1);
+    exchange(rt, form, uicc, clf, 0, 29);
+    let ended = [clf.deactivate(rt).ended, uicc.deactivate(rt).ended];
+    let refused = clf.send(1, &[3]);
+    assert_eq!(rt; ended, [Some(Cause::Act); 2]);
+    assert_eq!(rt; refused, Err(SendRefused::NotUp));
+    sends(rt, clf, &[]);
+    sends(rt, uicc, &[]);
 }
 
 #[test]
@@ -126,15 +141,7 @@ fn two_ends_exchange_messages_in_each_form(rt: HostRuntime) -> Result<(), NoMemo
     for form in [Form::Lpdus, Form::Periods, Form::Bytes] {
         let mut clf = Node::make(rt.alloc(), Role::Clf)?;
         let mut uicc = Node::make(rt.alloc(), Role::Uicc)?;
-        connect(&rt, form, &mut clf, &mut uicc);
-        exchange(&rt, form, &mut clf, &mut uicc, 1, 60);
-        exchange(&rt, form, &mut uicc, &mut clf, 111, 1);
-        exchange(&rt, form, &mut uicc, &mut clf, 0, 29);
-        assert_eq!(rt; clf.deactivate(&rt).ended, Some(Cause::Act));
-        assert_eq!(rt; uicc.deactivate(&rt).ended, Some(Cause::Act));
-        assert_eq!(rt; clf.send(1, &[3]), Err(SendRefused::NotUp));
-        sends(&rt, &mut clf, &[]);
-        sends(&rt, &mut uicc, &[]);
+        connect_and_exchange(&rt, form, &mut clf, &mut uicc);
     }
     Ok(())
 }
@@ -142,7 +149,6 @@ fn two_ends_exchange_messages_in_each_form(rt: HostRuntime) -> Result<(), NoMemo
 #[test]
 fn a_bare_end_takes_whatever_comes(rt: HostRuntime) -> Result<(), NoMemory> {
     let mut node = Node::make(rt.alloc(), Role::Bare)?;
-    let end = &mut node;
     let got = LinkReport {
         got: true,
         ..NOTHING
@@ -152,35 +158,63 @@ fn a_bare_end_takes_whatever_comes(rt: HostRuntime) -> Result<(), NoMemory> {
         began: true,
         ..NOTHING
     };
-    takes(&rt, end, &[0x81, 0x81, 0x03], NOTHING, &[]);
-    takes(&rt, end, &[0xD8], NOTHING, &[]);
-    takes(&rt, end, &[0x40], NOTHING, &[]);
-    takes(&rt, end, &[0x00], NOTHING, &[]);
-    takes(&rt, end, &[0xC0, 0x00], NOTHING, &[]);
-    takes(&rt, end, &[0x88, 0x81, 0x03], NOTHING, &[0xC8]);
-    takes(&rt, end, &[0x90, 0x81, 0x03], NOTHING, &[]);
-    takes(&rt, end, &[0x80, 0x81, 0x03], got, &[0xC1]);
-    takes(&rt, end, &[0x80, 0x81, 0x03], NOTHING, &[0xC1]);
-    takes(&rt, end, &[0x88, 0xF0, 0x03], NOTHING, &[0xC2]);
-    takes(&rt, end, &[0xF9, 0x00, 0x00], NOTHING, &[]);
-    takes(&rt, end, &[0xF9, 0x07], begins, &[0xE6]);
+    let rows: [(&[u8], LinkReport, &[u8]); 12] = [
+        (&[0x81, 0x81, 0x03], NOTHING, &[]),
+        (&[0xD8], NOTHING, &[]),
+        (&[0x40], NOTHING, &[]),
+        (&[0x00], NOTHING, &[]),
+        (&[0xC0, 0x00], NOTHING, &[]),
+        (&[0x88, 0x81, 0x03], NOTHING, &[0xC8]),
+        (&[0x90, 0x81, 0x03], NOTHING, &[]),
+        (&[0x80, 0x81, 0x03], got, &[0xC1]),
+        (&[0x80, 0x81, 0x03], NOTHING, &[0xC1]),
+        (&[0x88, 0xF0, 0x03], NOTHING, &[0xC2]),
+        (&[0xF9, 0x00, 0x00], NOTHING, &[]),
+        (&[0xF9, 0x07], begins, &[0xE6]),
+    ];
+    for (frame, report, reply) in rows {
+        takes(&rt, &mut node, frame, report, reply);
+    }
     Ok(())
+}
+
+/// What is wrong with the frame that these bytes of a byte link end.
+fn refused_at_last(rt: &impl Abort, node: &mut Node, bytes: &[u8]) -> Option<FrameFault> {
+    let mut refused = None;
+    for byte in bytes {
+        refused = node.take_byte(rt, *byte).report.refused;
+    }
+    refused
 }
 
 #[test]
 fn a_broken_frame_is_told(rt: HostRuntime) -> Result<(), NoMemory> {
     let mut node = Node::make(rt.alloc(), Role::Bare)?;
-    let mut told = None;
-    for byte in [0x00, 0x01, 0xC1, 0xD7, 0x63] {
-        told = node.take_byte(&rt, byte).report.refused;
-    }
+    let refused = refused_at_last(&rt, &mut node, &[0x00, 0x01, 0xC1, 0xD7, 0x63]);
     let fault = FrameFault::Crc {
         want: 0xD762,
         got: 0xD763,
     };
-    assert_eq!(rt; told, Some(fault));
+    assert_eq!(rt; refused, Some(fault));
     sends(&rt, &mut node, &[]);
     Ok(())
+}
+
+/// Two ends send what they have to each other, so many times in turn: how many frames came to the second one, the length of the
+/// last message there, and how many messages of the first one were acknowledged.
+fn take_turns(rt: &impl Abort, node: &mut Node, other: &mut Node, turns: u8) -> (u16, u32, u16) {
+    let mut frames = 0u16;
+    let mut len = 0;
+    let mut acked = 0u16;
+    for _turn in 0..turns {
+        let came = deliver(rt, Form::Lpdus, node, other);
+        frames = frames.saturating_add(came.frames);
+        if let Some(message) = came.last {
+            len = message.len;
+        }
+        acked = acked.saturating_add(deliver(rt, Form::Lpdus, other, node).acked);
+    }
+    (frames, len, acked)
 }
 
 #[test]
@@ -188,31 +222,22 @@ fn message_of_4096_bytes(rt: HostRuntime) -> Result<(), NoMemory> {
     let mut node = Node::make(rt.alloc(), Role::Bare)?;
     let mut other = Node::make(rt.alloc(), Role::Bare)?;
     let bytes = [0x42; 4097];
-    assert_eq!(rt;
+    let sent = [
         node.send(1, &bytes),
-        Err(SendRefused::TooLong { len: 4097 })
-    );
-    assert_eq!(rt; node.send(1, &bytes[..4096]), Ok(()));
+        node.send(1, &bytes[..4096]),
+        node.send(1, &[3]),
+    ];
+    let came = take_turns(&rt, &mut node, &mut other, 37);
+    let again = [node.send(1, &[3]), node.send(1, &bytes[..4096])];
+    let too_long = SendRefused::TooLong { len: 4097 };
     let full = SendRefused::Full { need: 1, spare: 0 };
-    assert_eq!(rt; node.send(1, &[3]), Err(full));
-    let mut frames = 0u16;
-    let mut acked = 0u16;
-    for _round in 0..37u8 {
-        let came = deliver(&rt, Form::Lpdus, &mut node, &mut other);
-        frames = frames.saturating_add(came.frames);
-        if let Some(message) = came.last {
-            assert_eq!(rt; message.len, 4096);
-        }
-        acked = acked.saturating_add(deliver(&rt, Form::Lpdus, &mut other, &mut node).acked);
-    }
-    assert_eq!(rt; frames, 147);
-    assert_eq!(rt; acked, 1);
-    assert_eq!(rt; node.send(1, &[3]), Ok(()));
+    assert_eq!(rt; sent, [Err(too_long), Ok(()), Err(full)]);
+    assert_eq!(rt; came, (147, 4096, 1));
     let full = SendRefused::Full {
         need: 128,
         spare: 127,
     };
-    assert_eq!(rt; node.send(1, &bytes[..4096]), Err(full));
+    assert_eq!(rt; again, [Ok(()), Err(full)]);
     Ok(())
 }
 
@@ -228,17 +253,20 @@ fn a_header_alone_is_one_fragment(rt: HostRuntime) -> Result<(), NoMemory> {
 #[test]
 fn a_fifth_message_under_way_ends_the_session(rt: HostRuntime) -> Result<(), NoMemory> {
     let mut node = Node::make(rt.alloc(), Role::Bare)?;
-    let end = &mut node;
-    takes(&rt, end, &[0x80, 0x02, 0x41], NOTHING, &[0xC1]);
-    takes(&rt, end, &[0x88, 0x03, 0x41], NOTHING, &[0xC2]);
-    takes(&rt, end, &[0x90, 0x04, 0x41], NOTHING, &[0xC3]);
-    takes(&rt, end, &[0x98, 0x05, 0x41], NOTHING, &[0xC4]);
+    for (control, pipe, reply) in [
+        (0x80, 0x02, 0xC1),
+        (0x88, 0x03, 0xC2),
+        (0x90, 0x04, 0xC3),
+        (0x98, 0x05, 0xC4),
+    ] {
+        takes(&rt, &mut node, &[control, pipe, 0x41], NOTHING, &[reply]);
+    }
     let over = LinkReport {
         ended: Some(Cause::Chain),
         ..NOTHING
     };
-    takes(&rt, end, &[0xA0, 0x06, 0x41], over, &[]);
-    assert!(rt; end.state() == LinkState::Down);
+    takes(&rt, &mut node, &[0xA0, 0x06, 0x41], over, &[]);
+    assert!(rt; node.state() == LinkState::Down);
     Ok(())
 }
 
@@ -261,17 +289,22 @@ fn a_message_of_4097_bytes_ends_the_session(rt: HostRuntime) -> Result<(), NoMem
     Ok(())
 }
 
+/// At a tick the end gives up after so many tries, or doesn't, and then sends this frame.
+fn ticks(rt: &impl Abort, node: &mut Node, tick: u8, gave_up: Option<u8>, frame: &[u8]) {
+    assert_eq!(rt; node.tick(rt).gave_up, gave_up, "at tick {tick}");
+    sends(rt, node, frame);
+}
+
 #[test]
 fn an_end_that_is_not_answered_gives_up_after_three_tries(rt: HostRuntime) -> Result<(), NoMemory> {
     let mut node = Node::make(rt.alloc(), Role::Uicc)?;
     let _started = node.activate(&rt, 1);
     sends(&rt, &mut node, &[0x61, 0x00, 0x01]);
     for tick in 1..=40u8 {
-        let gave_up = if tick == 30 { Some(3) } else { None };
-        assert_eq!(rt; node.tick(&rt).gave_up, gave_up, "at tick {tick}");
         match tick {
-            10 | 20 => sends(&rt, &mut node, &[0x61, 0x00, 0x01]),
-            _ => sends(&rt, &mut node, &[]),
+            10 | 20 => ticks(&rt, &mut node, tick, None, &[0x61, 0x00, 0x01]),
+            30 => ticks(&rt, &mut node, tick, Some(3), &[]),
+            _ => ticks(&rt, &mut node, tick, None, &[]),
         }
     }
     Ok(())
@@ -280,22 +313,21 @@ fn an_end_that_is_not_answered_gives_up_after_three_tries(rt: HostRuntime) -> Re
 #[test]
 fn a_window_of_one_lets_one_fragment_out(rt: HostRuntime) -> Result<(), NoMemory> {
     let mut node = Node::make(rt.alloc(), Role::Bare)?;
-    let end = &mut node;
     let begins = LinkReport {
         ended: Some(Cause::Peer),
         began: true,
         ..NOTHING
     };
-    takes(&rt, end, &[0xF9, 0x01, 0x00], begins, &[0xE6]);
-    assert_eq!(rt; end.send(1, &[3]), Ok(()));
-    assert_eq!(rt; end.send(1, &[0x42]), Ok(()));
-    sends(&rt, end, &[0x80, 0x81, 0x03]);
-    sends(&rt, end, &[]);
+    takes(&rt, &mut node, &[0xF9, 0x01, 0x00], begins, &[0xE6]);
+    let sent = [node.send(1, &[3]), node.send(1, &[0x42])];
+    assert_eq!(rt; sent, [Ok(()); 2]);
+    sends(&rt, &mut node, &[0x80, 0x81, 0x03]);
+    sends(&rt, &mut node, &[]);
     let acked = LinkReport {
         acked: 1,
         ..NOTHING
     };
-    takes(&rt, end, &[0xC1], acked, &[0x88, 0x81, 0x42]);
+    takes(&rt, &mut node, &[0xC1], acked, &[0x88, 0x81, 0x42]);
     Ok(())
 }
 
@@ -310,17 +342,22 @@ fn a_held_end_takes_no_fragments(rt: HostRuntime) -> Result<(), NoMemory> {
     Ok(())
 }
 
+/// A frame comes to the first end, which answers it, and the second one sends the same frame.
+fn passes_on(rt: &impl Abort, relay: &mut Relay, frame: &[u8]) {
+    relay.take(rt, &lpdu(rt, frame));
+    assert!(rt; relay.next_back().is_some());
+    match relay.next_out() {
+        Some(out) => assert_eq!(rt; out.bytes(), frame),
+        None => panic!(rt; "it wasn't passed on"),
+    }
+}
+
 #[test]
 fn messages_are_passed_on_in_one_pool(rt: HostRuntime) -> Result<(), NoMemory> {
     let mut relay = Relay::make(rt.alloc())?;
     for number in 0..140u8 {
         let come = [0x80 + 8 * (number % 8), 0x81, 0x42, number];
-        relay.take(&rt, &lpdu(&rt, &come));
-        assert!(rt; relay.next_back().is_some());
-        match relay.next_out() {
-            Some(out) => assert_eq!(rt; out.bytes(), come.as_slice()),
-            None => panic!(rt; "it wasn't passed on"),
-        }
+        passes_on(&rt, &mut relay, &come);
         relay.take_back(&rt, &lpdu(&rt, &[0xC0 + (number + 1) % 8]));
     }
     Ok(())
