@@ -1,5 +1,5 @@
 //! Worked examples of whole link ends.
-ghost use Rattle.std.specs.Prelude.{◌<◌};
+ghost use Rattle.std.specs.Prelude.{◌<◌, length};
 
 use crate::nodes::{Form, Message, NOTHING, Node, Told};
 use crate::relays::Relay;
@@ -32,6 +32,23 @@ fn takes(rt: &impl Abort, node: &mut Node, frame: &[u8], report: LinkReport, rep
     assert_eq!(rt; (told.report, told.message.is_some()), (report, report.got));
     sends(rt, node, reply);
     sends(rt, node, &[]);
+}
+
+/// The end takes a frame, tells nothing of it, and sends nothing.
+fn ignores(rt: &impl Abort, node: &mut Node, frame: &[u8]) {
+    takes(rt, node, frame, NOTHING, &[]);
+}
+
+/// The end takes a frame, tells nothing of it, and sends one frame then.
+fn answers(rt: &impl Abort, node: &mut Node, frame: &[u8], reply: &[u8]) {
+    takes(rt, node, frame, NOTHING, reply);
+}
+
+/// The end is given a message on pipe 01 to send, and takes it or refuses it so.
+fn offers(rt: &impl Abort, node: &mut Node, message: &[u8], answer: Result<(), SendRefused>)
+    requires { 0 < length message.now }
+{
+    assert_eq!(rt; node.send(1, message), answer);
 }
 
 /// What a row of frames did at the end that they came to.
@@ -88,23 +105,31 @@ fn deliver(rt: &impl Abort, form: Form, from: &mut Node, to: &mut Node) -> Seen 
     seen
 }
 
-/// Two ends become active, with the sync identifier 0001 and low power, and a session begins.
-fn connect(rt: &impl Abort, form: Form, clf: &mut Node, uicc: &mut Node) {
+/// Two ends become active, with the sync identifier 0001 and low power.
+fn become_active(rt: &impl Abort, form: Form, clf: &mut Node, uicc: &mut Node) {
     let _started = clf.activate(rt, 0);
     let _started = uicc.activate(rt, 1);
     sends(rt, clf, &[]);
     let asked = deliver(rt, form, uicc, clf);
     let powered = deliver(rt, form, clf, uicc);
     let ready = deliver(rt, form, uicc, clf);
-    let active = [clf.state(), uicc.state()];
+    assert_eq!(rt;
+        (asked.sync, powered.became_active, ready.became_active),
+        (Some(1), true, true)
+    );
+    assert_eq!(rt; [clf.state(), uicc.state()], [LinkState::Down; 2]);
+}
+
+/// A session begins between two ends that are active.
+fn begin_session(rt: &impl Abort, form: Form, clf: &mut Node, uicc: &mut Node) {
     let reset = clf.reset(rt, None);
     let heard = deliver(rt, form, clf, uicc);
     let accepted = deliver(rt, form, uicc, clf);
-    let begun = [clf.state(), uicc.state()];
-    assert_eq!(rt; (asked.sync, reset), (Some(1), Ok(NOTHING)));
-    assert_eq!(rt; [powered.became_active, ready.became_active], [true; 2]);
-    assert_eq!(rt; [heard.began, accepted.began], [true; 2]);
-    assert_eq!(rt; [active, begun], [[LinkState::Down; 2], [LinkState::Up; 2]]);
+    assert_eq!(rt;
+        (reset, heard.began, accepted.began),
+        (Ok(NOTHING), true, true)
+    );
+    assert_eq!(rt; [clf.state(), uicc.state()], [LinkState::Up; 2]);
 }
 
 /// A message of one end comes to the other, whose answer acknowledges it.
@@ -124,7 +149,8 @@ fn exchange(rt: &impl Abort, form: Form, from: &mut Node, to: &mut Node, pipe: u
 
 /// Two ends become active, exchange messages in this form, and end.
 fn connect_and_exchange(rt: &impl Abort, form: Form, clf: &mut Node, uicc: &mut Node) {
-    connect(rt, form, clf, uicc);
+    become_active(rt, form, clf, uicc);
+    begin_session(rt, form, clf, uicc);
     exchange(rt, form, clf, uicc, 1, 60);
     exchange(rt, form, uicc, clf, 111, 1);
     exchange(rt, form, uicc, clf, 0, 29);
@@ -158,23 +184,18 @@ fn a_bare_end_takes_whatever_comes(rt: HostRuntime) -> Result<(), NoMemory> {
         began: true,
         ..NOTHING
     };
-    let rows: [(&[u8], LinkReport, &[u8]); 12] = [
-        (&[0x81, 0x81, 0x03], NOTHING, &[]),
-        (&[0xD8], NOTHING, &[]),
-        (&[0x40], NOTHING, &[]),
-        (&[0x00], NOTHING, &[]),
-        (&[0xC0, 0x00], NOTHING, &[]),
-        (&[0x88, 0x81, 0x03], NOTHING, &[0xC8]),
-        (&[0x90, 0x81, 0x03], NOTHING, &[]),
-        (&[0x80, 0x81, 0x03], got, &[0xC1]),
-        (&[0x80, 0x81, 0x03], NOTHING, &[0xC1]),
-        (&[0x88, 0xF0, 0x03], NOTHING, &[0xC2]),
-        (&[0xF9, 0x00, 0x00], NOTHING, &[]),
-        (&[0xF9, 0x07], begins, &[0xE6]),
-    ];
-    for (frame, report, reply) in rows {
-        takes(&rt, &mut node, frame, report, reply);
-    }
+    ignores(&rt, &mut node, &[0x81, 0x81, 0x03]);
+    ignores(&rt, &mut node, &[0xD8]);
+    ignores(&rt, &mut node, &[0x40]);
+    ignores(&rt, &mut node, &[0x00]);
+    ignores(&rt, &mut node, &[0xC0, 0x00]);
+    answers(&rt, &mut node, &[0x88, 0x81, 0x03], &[0xC8]);
+    ignores(&rt, &mut node, &[0x90, 0x81, 0x03]);
+    takes(&rt, &mut node, &[0x80, 0x81, 0x03], got, &[0xC1]);
+    answers(&rt, &mut node, &[0x80, 0x81, 0x03], &[0xC1]);
+    answers(&rt, &mut node, &[0x88, 0xF0, 0x03], &[0xC2]);
+    ignores(&rt, &mut node, &[0xF9, 0x00, 0x00]);
+    takes(&rt, &mut node, &[0xF9, 0x07], begins, &[0xE6]);
     Ok(())
 }
 
@@ -222,29 +243,26 @@ fn message_of_4096_bytes(rt: HostRuntime) -> Result<(), NoMemory> {
     let mut node = Node::make(rt.alloc(), Role::Bare)?;
     let mut other = Node::make(rt.alloc(), Role::Bare)?;
     let bytes = [0x42; 4097];
-    let sent = [
-        node.send(1, &bytes),
-        node.send(1, &bytes[..4096]),
-        node.send(1, &[3]),
-    ];
-    let came = take_turns(&rt, &mut node, &mut other, 37);
-    let again = [node.send(1, &[3]), node.send(1, &bytes[..4096])];
     let too_long = SendRefused::TooLong { len: 4097 };
+    offers(&rt, &mut node, &bytes, Err(too_long));
+    offers(&rt, &mut node, &bytes[..4096], Ok(()));
     let full = SendRefused::Full { need: 1, spare: 0 };
-    assert_eq!(rt; sent, [Err(too_long), Ok(()), Err(full)]);
+    offers(&rt, &mut node, &[3], Err(full));
+    let came = take_turns(&rt, &mut node, &mut other, 37);
     assert_eq!(rt; came, (147, 4096, 1));
+    offers(&rt, &mut node, &[3], Ok(()));
     let full = SendRefused::Full {
         need: 128,
         spare: 127,
     };
-    assert_eq!(rt; again, [Ok(()), Err(full)]);
+    offers(&rt, &mut node, &bytes[..4096], Err(full));
     Ok(())
 }
 
 #[test]
 fn a_header_alone_is_one_fragment(rt: HostRuntime) -> Result<(), NoMemory> {
     let mut node = Node::make(rt.alloc(), Role::Bare)?;
-    assert_eq!(rt; node.send(1, &[3]), Ok(()));
+    offers(&rt, &mut node, &[3], Ok(()));
     sends(&rt, &mut node, &[0x80, 0x81, 0x03]);
     sends(&rt, &mut node, &[]);
     Ok(())
@@ -253,14 +271,10 @@ fn a_header_alone_is_one_fragment(rt: HostRuntime) -> Result<(), NoMemory> {
 #[test]
 fn a_fifth_message_under_way_ends_the_session(rt: HostRuntime) -> Result<(), NoMemory> {
     let mut node = Node::make(rt.alloc(), Role::Bare)?;
-    for (control, pipe, reply) in [
-        (0x80, 0x02, 0xC1),
-        (0x88, 0x03, 0xC2),
-        (0x90, 0x04, 0xC3),
-        (0x98, 0x05, 0xC4),
-    ] {
-        takes(&rt, &mut node, &[control, pipe, 0x41], NOTHING, &[reply]);
-    }
+    answers(&rt, &mut node, &[0x80, 0x02, 0x41], &[0xC1]);
+    answers(&rt, &mut node, &[0x88, 0x03, 0x41], &[0xC2]);
+    answers(&rt, &mut node, &[0x90, 0x04, 0x41], &[0xC3]);
+    answers(&rt, &mut node, &[0x98, 0x05, 0x41], &[0xC4]);
     let over = LinkReport {
         ended: Some(Cause::Chain),
         ..NOTHING
@@ -277,7 +291,7 @@ fn a_message_of_4097_bytes_ends_the_session(rt: HostRuntime) -> Result<(), NoMem
     frame[1] = 0x02;
     for number in 0..146u8 {
         frame[0] = 0x80 + 8 * (number % 8);
-        takes(&rt, &mut node, &frame, NOTHING, &[0xC0 + (number + 1) % 8]);
+        answers(&rt, &mut node, &frame, &[0xC0 + (number + 1) % 8]);
     }
     frame[0] = 0x80 + 8 * 2;
     let over = LinkReport {
@@ -319,8 +333,8 @@ fn a_window_of_one_lets_one_fragment_out(rt: HostRuntime) -> Result<(), NoMemory
         ..NOTHING
     };
     takes(&rt, &mut node, &[0xF9, 0x01, 0x00], begins, &[0xE6]);
-    let sent = [node.send(1, &[3]), node.send(1, &[0x42])];
-    assert_eq!(rt; sent, [Ok(()); 2]);
+    offers(&rt, &mut node, &[3], Ok(()));
+    offers(&rt, &mut node, &[0x42], Ok(()));
     sends(&rt, &mut node, &[0x80, 0x81, 0x03]);
     sends(&rt, &mut node, &[]);
     let acked = LinkReport {
@@ -335,7 +349,7 @@ fn a_window_of_one_lets_one_fragment_out(rt: HostRuntime) -> Result<(), NoMemory
 fn a_held_end_takes_no_fragments(rt: HostRuntime) -> Result<(), NoMemory> {
     let mut node = Node::make(rt.alloc(), Role::Bare)?;
     node.hold(&rt, true);
-    takes(&rt, &mut node, &[0x80, 0x81, 0x03], NOTHING, &[0xD0]);
+    answers(&rt, &mut node, &[0x80, 0x81, 0x03], &[0xD0]);
     node.hold(&rt, false);
     sends(&rt, &mut node, &[0xC0]);
     sends(&rt, &mut node, &[]);
@@ -345,11 +359,13 @@ fn a_held_end_takes_no_fragments(rt: HostRuntime) -> Result<(), NoMemory> {
 /// A frame comes to the first end, which answers it, and the second one sends the same frame.
 fn passes_on(rt: &impl Abort, relay: &mut Relay, frame: &[u8]) {
     relay.take(rt, &lpdu(rt, frame));
-    assert!(rt; relay.next_back().is_some());
-    match relay.next_out() {
-        Some(out) => assert_eq!(rt; out.bytes(), frame),
-        None => panic!(rt; "it wasn't passed on"),
-    }
+    let answered = relay.next_back().is_some();
+    let sent = relay.next_out();
+    let bytes = match &sent {
+        Some(out) => out.bytes(),
+        None => &[],
+    };
+    assert_eq!(rt; (answered, bytes), (true, frame));
 }
 
 #[test]

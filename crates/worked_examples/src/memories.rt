@@ -35,14 +35,15 @@ fn tables_word(alloc: Global) -> Result<Vec<String>, AllocError> {
     Ok(words)
 }
 
-/// How a run with these words over a memory ended, what it wrote, and the memory.
-fn told(alloc: Global, words: &[String], nv: MemNv) -> (Status, MemSink, MemNv)
+/// How a run with the word `tables` over a memory ended, what it wrote, and the memory.
+fn told(alloc: Global, nv: MemNv) -> Result<(Status, MemSink, MemNv), AllocError>
     requires { length nv.content ≡ 65536 }
 {
+    let words = tables_word(alloc)?;
     let mut source = MemSource::new(Vec::new(alloc), Vec::new(alloc), 4096);
     let mut sink = MemSink::new(Vec::new(alloc), Vec::new(alloc), 4096);
-    let Ended { status, nv } = run(alloc, words, &mut source, &mut sink, nv);
-    (status, sink, nv)
+    let Ended { status, nv } = run(alloc, words.as_slice(), &mut source, &mut sink, nv);
+    Ok((status, sink, nv))
 }
 
 /// A run with the word `tables` over this memory ends so and writes this text. It gives the memory back.
@@ -53,12 +54,24 @@ pub fn tells(
     ended: Status,
     text: &str,
 ) -> Result<MemNv, Fail> {
-    let words = tables_word(alloc)?;
     assert_eq!(rt; nv.size(), 65_536);
-    let (status, sink, nv) = told(alloc, words.as_slice(), nv);
-    assert_eq!(rt; status, ended);
-    assert_eq!(rt; sink.bytes(), text.as_bytes());
+    let (status, sink, nv) = told(alloc, nv)?;
+    assert_eq!(rt; (status, sink.bytes()), (ended, text.as_bytes()));
     Ok(nv)
+}
+
+/// Over a memory that begins with these bytes, the word `tables` ends so and writes this text.
+fn image_tells(
+    rt: &impl Abort,
+    alloc: Global,
+    image: &[u8],
+    ended: Status,
+    text: &str,
+) -> Result<(), Fail>
+    requires { length image.now ≤ 64 }
+{
+    let _nv = tells(rt, alloc, memory(alloc, image)?, ended, text)?;
+    Ok(())
 }
 
 #[test]
@@ -71,27 +84,12 @@ fn images_are_told_or_refused_with_their_place(rt: HostRuntime) -> Result<(), Fa
     bad[..25].copy_from_slice(&IMAGE);
     bad[24] = 0x5A;
     bad[25] = 0x3E;
-    for (image, status, text) in [
-        ([].as_slice(), Status::Done, "tables nv 0 0 0 0\n"),
-        (IMAGE.as_slice(), Status::Done, TABLES),
-        (
-            unknown.as_slice(),
-            Status::BadImage {
-                fault: JournalFault::UnknownFormat { version: 7 },
-            },
-            "",
-        ),
-        (
-            bad.as_slice(),
-            Status::BadImage {
-                fault: JournalFault::BadRecord { at: 24 },
-            },
-            "",
-        ),
-    ] {
-        assert!(rt; image.len() <= 64);
-        let _nv = tells(&rt, alloc, memory(alloc, image)?, status, text)?;
-    }
+    image_tells(&rt, alloc, &[], Status::Done, "tables nv 0 0 0 0\n")?;
+    image_tells(&rt, alloc, &IMAGE, Status::Done, TABLES)?;
+    let fault = JournalFault::UnknownFormat { version: 7 };
+    image_tells(&rt, alloc, &unknown, Status::BadImage { fault }, "")?;
+    let fault = JournalFault::BadRecord { at: 24 };
+    image_tells(&rt, alloc, &bad, Status::BadImage { fault }, "")?;
     Ok(())
 }
 

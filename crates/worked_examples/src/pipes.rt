@@ -1,5 +1,8 @@
 //! Worked examples of pipes.
+ghost use Rattle.std.specs.Prelude.{◌≡◌};
+
 use pipe_table::{PipeRow, PipeTable};
+use std::process::Abort;
 
 fn pipe_of(pid: u8, creator: u8) -> PipeRow
     ensures { result.pid ≡ pid }
@@ -14,23 +17,35 @@ fn pipe_of(pid: u8, creator: u8) -> PipeRow
     }
 }
 
-ghost use Rattle.std.specs.Prelude.{◌≡◌};
+/// The table has so many rows.
+fn has_rows(rt: &impl Abort, table: &PipeTable, many: usize) {
+    assert_eq!(rt; table.rows().len(), many);
+}
+
+/// The lowest free pipe but those that are kept is this one.
+fn is_free(rt: &impl Abort, table: &PipeTable, kept: &[u8], pid: Option<u8>) {
+    assert_eq!(rt; table.lowest_free(kept), pid);
+}
+
+/// So many pipes of a gate of a host are opened, but for one pipe.
+fn are_opened(rt: &impl Abort, table: &PipeTable, end: (u8, u8), except: u8, many: u8) {
+    let (host, gate) = end;
+    assert_eq!(rt; table.opened_on(host, gate, except), many);
+}
 
 #[test]
 fn pipes_are_02_to_6f(rt: HostRuntime) {
     let mut table = PipeTable::new();
     for pid in 0x02..0x70u8 {
-        assert_eq!(rt; table.lowest_free(&[]), Some(pid));
+        is_free(&rt, &table, &[], Some(pid));
         table.insert(pipe_of(pid, 0x02));
     }
-    let rows = table.rows().len();
-    let full = table.lowest_free(&[]);
+    has_rows(&rt, &table, 110);
+    is_free(&rt, &table, &[], None);
     let removed = [table.remove(0x33), table.remove(0x33)];
-    let free = table.lowest_free(&[]);
-    let kept = table.lowest_free(&[0x33]);
-    assert_eq!(rt; rows, 110);
     assert_eq!(rt; removed, [true, false]);
-    assert_eq!(rt; [full, free, kept], [None, Some(0x33), None]);
+    is_free(&rt, &table, &[], Some(0x33));
+    is_free(&rt, &table, &[0x33], None);
 }
 
 #[test]
@@ -39,19 +54,16 @@ fn rows_are_found_by_pipe_and_host(rt: HostRuntime) {
     for (pid, creator) in [(0x05, 0x02), (0x03, 0x03), (0x05, 0x03)] {
         table.insert(pipe_of(pid, creator));
     }
-    let rows = table.rows().len();
+    has_rows(&rt, &table, 2);
     let found = [table.find(0x05), table.find(0x04)];
-    let set = [table.set_opened(0x03, true), table.set_opened(0x04, true)];
-    let opened = [
-        table.opened_on(0x01, 0x05, 0x05),
-        table.opened_on(0x01, 0x05, 0x03),
-        table.opened_on(0x03, 0x41, 0x05),
-    ];
-    table.close();
-    let closed = table.opened_on(0x01, 0x05, 0x05);
-    table.clear_host(0x03);
-    assert_eq!(rt; [rows, table.rows().len()], [2, 0]);
     assert_eq!(rt; found, [Some(pipe_of(0x05, 0x03)), None]);
+    let set = [table.set_opened(0x03, true), table.set_opened(0x04, true)];
     assert_eq!(rt; set, [true, false]);
-    assert_eq!(rt; (opened, closed), ([1, 0, 1], 0));
+    are_opened(&rt, &table, (0x01, 0x05), 0x05, 1);
+    are_opened(&rt, &table, (0x01, 0x05), 0x03, 0);
+    are_opened(&rt, &table, (0x03, 0x41), 0x05, 1);
+    table.close();
+    are_opened(&rt, &table, (0x01, 0x05), 0x05, 0);
+    table.clear_host(0x03);
+    has_rows(&rt, &table, 0);
 }
