@@ -1,5 +1,5 @@
 -- What is read of a node at a moment of a history, off events and entries, and its reply to a message there.
-use Rattle.std.specs.Prelude.{ℕ, ◌-◌, ◌==◌, Bool, true, false, if◌then◌else◌, List, [], ◌∷◌, ◌++◌, map, drop, length, is_some, unwrap_or, Option, Some, None}
+use Rattle.std.specs.Prelude.{ℕ, ◌-◌, ◌^◌, ◌==◌, min, Bool, true, false, if◌then◌else◌, List, [], ◌∷◌, ◌++◌, map, drop, length, is_some, unwrap_or, Option, Some, None}
 use Rattle.std.specs.List.{fold}
 use Rattle.std.specs.Option.{option_map, option_map_or, option_and_then}
 use Rattle.trace_model.specs.declared.entry.Entry.{Entry}
@@ -18,14 +18,14 @@ use Rattle.history.specs.Filters.{same_end}
 use Rattle.history.specs.Damage.{same_bytes}
 use Rattle.node_machine.specs.Parts.{About, Notice, Core, Port, Deed}
 use Rattle.node_machine.specs.Parts.About.{Waits, Forgotten, Removed}
-use Rattle.node_machine.specs.Parts.Deed.{Commits, Sends, SaysOk, Asks, Tells, Drops, Orders, Ends}
 use Rattle.node_machine.specs.Carrying.{needs, lack}
 use Rattle.node_machine.specs.HostReplies.{pipe_named_in}
 use Rattle.node_machine.specs.Turns.{deeds_of}
-use Rattle.node_world.specs.World.{Happening, node_of, end_c, end_h}
+use Rattle.node_world.specs.World.{Happening, node_of}
 use Rattle.node_world.specs.Lines.{Occurrence}
 use Rattle.node_world.specs.NodeHistories.{entries_in}
 use Rattle.node_world.specs.NodeFilters.{commands_in, tables_in, notice_in, order_in, asking_in, session_now, spare_at}
+use Rattle.pass_laws.specs.Noting.{end_of_number, entries_of_reply}
 use Rattle.view_readings.specs.Errors.{errors_in}
 use Rattle.view_readings.specs.Inits.{init_after, init_begun, init_in}
 
@@ -87,10 +87,6 @@ about_in t message = if instruction_in message == 18 then by_row (pipe_named_in 
 abbrev pub notice_read : List Entry → Option (List ℕ) → Option Notice
 notice_read t message = option_map (λ (m : List ℕ). record { about = about_in t m; age = 0 }) message
 
--- the end of a node on the link with this host
-abbrev pub own_end : ℕ → ℕ → End
-own_end n h = if n == 0 then end_c h else end_h h
-
 -- an end that is up or not, and has so many blocks to spare
 abbrev pub side_read : Bool → ℕ → LinkEnd
 side_read up spare = record (new_link_end (if up then Bare else Clf new_clf)) { aside = 128 - spare }
@@ -101,11 +97,11 @@ port_read t n h = record {
   desk = record {
     host = h;
     notice = if n == 0 then notice_read t (notice_in t h) else None;
-    holds = holds_in t (own_end n h);
-    errors = errors_in t (own_end n h);
+    holds = holds_in t (end_of_number n h);
+    errors = errors_in t (end_of_number n h);
   };
-  side = side_read (is_some (session_now t (own_end n h) n)) (spare_at t (own_end n h));
-  session = unwrap_or (session_now t (own_end n h) n) 0;
+  side = side_read (is_some (session_now t (end_of_number n h) n)) (spare_at t (end_of_number n h));
+  session = unwrap_or (session_now t (end_of_number n h) n) 0;
   late = false;
   ended = false;
   turns = [];
@@ -139,23 +135,8 @@ lack_of hosts m e message = lack (ports_read hosts (until m) (node_of e)) (needs
 abbrev pub lack_at : List ℕ → Moment → End → Option (ℕ × ℕ)
 lack_at hosts m e = option_and_then (lack_of hosts m e) (oldest (unhandled_in (until m) e))
 
--- a message that a node sends to its end on the link with this host
-abbrev pub sent_to : List Entry → ℕ → ℕ → Message → Entry
-sent_to t n h m = entry.Sent (own_end n h) (unwrap_or (session_now t (own_end n h) n) 0) m.0 m.1
-
--- what is noted of a deed of a node, where it handles a message of the link with the host h; of other deeds nothing is
-abbrev pub noted_of_deed : List Entry → ℕ → ℕ → Deed → List Entry
-noted_of_deed t n h (Commits c) = entry.Command n c ∷ []
-noted_of_deed t n h (Sends to m) = sent_to t n to m ∷ []
-noted_of_deed t n h SaysOk = entry.AnyOk n (length (commands_in t n)) ∷ []
-noted_of_deed t n h (Asks to message c) = entry.Ask to message ∷ sent_to t n to (1, message) ∷ []
-noted_of_deed t n h (Tells to message) = sent_to t n to (1, message) ∷ []
-noted_of_deed t n h (Drops pid) = entry.Dropped (own_end n h) pid ∷ []
-noted_of_deed t n h (Orders message) = sent_to t n h (1, message) ∷ []
-noted_of_deed t n h (Ends e) = e ∷ []
-noted_of_deed t n h _ = []
-
--- what is noted of deeds, one after another
+-- What is noted of deeds of a node, one after another, where it handles a message of the link with the host h: its ends have the sessions that
+-- are read, one without a session sends nothing, and of the commands that are read at most 4,294,967,295 are counted.
 abbrev pub noted_of_deeds : List Entry → ℕ → ℕ → List Deed → List Entry
-noted_of_deeds t n h [] = []
-noted_of_deeds t n h (d ∷ deeds) = noted_of_deed t n h d ++ noted_of_deeds (t ++ noted_of_deed t n h d) n h deeds
+noted_of_deeds t n h deeds =
+    entries_of_reply n (λ k. session_now t (end_of_number n k) n) h (min (length (commands_in t n)) (2 ^ 32 - 1)) deeds

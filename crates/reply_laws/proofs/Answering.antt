@@ -1,21 +1,22 @@
 -- What a node answers until its next turn, as it is read off what was noted behind its turn.
-use Rattle.std.proofs.Common.{◌≡◌, ◌⊎◌, inl, inr, ℕ, suc, ◌≤◌, ◌||◌, Bool, true, false, cond, List, [], ◌∷◌, ◌++◌, length, sym, refl, ap, ap₂, ◌∙◌, subst, append_assoc, append-nil, length-append, arith}
+use Rattle.std.proofs.Common.{◌≡◌, ◌⊎◌, inl, inr, ℕ, suc, ◌≤◌, ◌||◌, Bool, true, false, cond, List, [], ◌∷◌, ◌++◌, sym, refl, ap, ap₂, ◌∙◌, subst, append_assoc, append-nil, arith}
 use Rattle.std.specs.Prelude.{◌+◌, not, take, Option, Some, None}
-use Rattle.std.specs.List.{AllByRecursion, filter, fold, list_any, prefix_len}
+use Rattle.std.specs.List.{AllByRecursion, filter, list_any, prefix_len}
 use Rattle.std.proofs.lemmas.Bool.{cases_Bool, eq-eqb}
 use Rattle.trace_model.specs.declared.entry.Entry.{Entry}
 use Rattle.trace_model.specs.declared.entry.Entry.TheVariants as entry
+use Rattle.journal_laws.specs.declared.state.State.{State}
 use Rattle.hci_tables.specs.declared.command.Command.{Command}
 use Rattle.link_machine.specs.Machine.{Message}
-use Rattle.node_machine.specs.Parts.{Deed}
-use Rattle.node_machine.specs.Parts.Deed.{Commits, Sends, SaysOk, Asks, Releases, Tells, IsAnswered, Drops, SetsErrors, Orders, Hears, GoesOn, Ends}
-use Rattle.node_world.specs.World.{node_of, end_c}
-use Rattle.node_world.specs.NodeFilters.{Book, new_book, book_after, book_in, commands_in}
+use Rattle.node_machine.specs.Parts.{Init, Port, Deed}
+use Rattle.node_machine.specs.Parts.Deed.{Commits, Sends, SaysOk, Asks, Tells, Drops, Orders, Hears, GoesOn, Ends}
+use Rattle.node_world.specs.World.{node_of}
+use Rattle.kept_laws.specs.Deeds.{MayBeDone}
 use Rattle.kept_laws.specs.Reckonings.{is_cut_of}
 use Rattle.pass_laws.specs.Noting.{IsReplyNoted, next_count, sent_in_session, entries_of_reply}
 use Rattle.answer_laws.specs.Answered.{AnswersSo, before_turn, is_answer_of, is_turn_of, to_command}
 use Rattle.reply_laws.specs.Known.{IsNoAnswer}
-use Rattle.reply_laws.proofs.Noted.{HasSession, book_on, commits_in}
+use Rattle.reply_laws.proofs.Apart.{SendsOver}
 
 -- ## The entries of a reply
 
@@ -31,18 +32,16 @@ IsReplyEntry _ = ⊥
 abbrev pub AreReplyEntries : List Entry → Type 0
 AreReplyEntries es = AllByRecursion IsReplyEntry es
 
-abbrev pub one_command_in : Entry → ℕ
-one_command_in (entry.Command n c) = 1
-one_command_in _ = 0
-
 -- how many commands entries tell
 abbrev pub commands_told : List Entry → ℕ
 commands_told [] = 0
-commands_told (x ∷ es) = one_command_in x + commands_told es
+commands_told (entry.Command n c ∷ es) = 1 + commands_told es
+commands_told (_ ∷ es) = commands_told es
 
-told_append : (a b : List Entry) → commands_told (a ++ b) ≡ commands_told a + commands_told b
-told_append [] b = omega arith
-told_append (x ∷ a) b = let later = told_append a b in omega (arith, later)
+-- these are entries of a reply, which tell no more commands than this
+pub record AreOfReply (most : ℕ) (es : List Entry) : Type 0 where
+  pub entries : AreReplyEntries es
+  pub few : commands_told es ≤ most
 
 entries_append : (a b : List Entry) → AreReplyEntries a → AreReplyEntries b → AreReplyEntries (a ++ b)
 entries_append [] b x y = y
@@ -52,87 +51,47 @@ entries_front : (a b : List Entry) → AreReplyEntries (a ++ b) → AreReplyEntr
 entries_front [] b x = tt
 entries_front (e ∷ a) b x = (x.0, entries_front a b x.1)
 
-plus_none : (a b : ℕ) → a ≡ b → 0 + a ≡ b
-plus_none a b same = omega (arith, same)
+-- deeds that may be done to a journal commit one command at most, and others none
+abbrev pub most_of : Option State → ℕ
+most_of None = 0
+most_of (Some s) = 1
 
-module _ (sessions : ℕ → Option ℕ) (h : ℕ) where
-  sent_entries : (to : ℕ) (m : Message) → AreReplyEntries (sent_in_session 0 sessions to m) × (commands_told (sent_in_session 0 sessions to m) ≡ 0)
-  sent_entries to m = go (sessions to) refl where
-    go : (o : Option ℕ) → sessions to ≡ o → AreReplyEntries (sent_in_session 0 sessions to m) × (commands_told (sent_in_session 0 sessions to m) ≡ 0)
-    go None e = rw e (tt, refl)
-    go (Some n) e = rw e ((refl, tt), plus_none 0 0 refl)
+module _ (ports : List Port) (sessions : ℕ → Option ℕ) (h : ℕ) where
+  -- a message that is sent tells no command
+  with_sent : (to : ℕ) (m : Message) (es : List Entry) (most : ℕ) → AreOfReply most es → AreOfReply most (sent_in_session 0 sessions to m ++ es)
+  with_sent to m es most a = go (sessions to) refl where
+    go : (o : Option ℕ) → sessions to ≡ o → AreOfReply most (sent_in_session 0 sessions to m ++ es)
+    go None e = rw e a
+    go (Some n) e = rw e (record { entries = (refl, a.entries); few = a.few })
 
-  -- what a message that is sent adds
-  with_sent : (to : ℕ) (m : Message) (es : List Entry) (many : ℕ) → AreReplyEntries es × (commands_told es ≡ many)
-      → AreReplyEntries (sent_in_session 0 sessions to m ++ es) × (commands_told (sent_in_session 0 sessions to m ++ es) ≡ many)
-  with_sent to m es many a =
-      let s = sent_entries to m in
-      let both = told_append (sent_in_session 0 sessions to m) es in
-      let none = s.1 in
-      let rest = a.1 in
-      (entries_append (sent_in_session 0 sessions to m) es s.0 a.0, omega (arith, both, none, rest))
-
-  abbrev told_by : ℕ → List Deed → List Entry
-  told_by count deeds = entries_of_reply 0 sessions h count deeds
-
-  -- an entry that tells no command is one more
-  one_other : (x : Entry) (es : List Entry) (many : ℕ) → IsReplyEntry x → one_command_in x ≡ 0 → AreReplyEntries es × (commands_told es ≡ many)
-      → AreReplyEntries (x ∷ es) × (commands_told (x ∷ es) ≡ many)
-  one_other x es many is none a = let told = a.1 in ((is, a.0), omega (arith, told, none))
-
-  pub reply_entries : (count : ℕ) (deeds : List Deed) → AllByRecursion (HasSession sessions) deeds
-      → AreReplyEntries (entries_of_reply 0 sessions h count deeds) × (commands_told (entries_of_reply 0 sessions h count deeds) ≡ commits_in deeds)
-  reply_entries count [] up = (tt, refl)
-  reply_entries count (Commits c ∷ deeds) up = let later = reply_entries (next_count count) deeds up.1 in ((refl, later.0), ap (λ n. 1 + n) later.1)
-  reply_entries count (Sends to m ∷ deeds) up =
-      with_sent to m (entries_of_reply 0 sessions h count deeds) (commits_in deeds) (reply_entries count deeds up.1)
-  reply_entries count (SaysOk ∷ deeds) up =
-      one_other (entry.AnyOk 0 count) (told_by count deeds) (commits_in deeds) refl refl (reply_entries count deeds up.1)
-  reply_entries count (Asks to message c ∷ deeds) up =
-      one_other (entry.Ask to message) (sent_in_session 0 sessions to (1, message) ++ told_by count deeds) (commits_in deeds) tt refl
-      (with_sent to (1, message) (told_by count deeds) (commits_in deeds) (reply_entries count deeds up.1))
-  reply_entries count (Releases asker ∷ deeds) up = reply_entries count deeds up.1
-  reply_entries count (Tells to message ∷ deeds) up =
-      with_sent to (1, message) (entries_of_reply 0 sessions h count deeds) (commits_in deeds) (reply_entries count deeds up.1)
-  reply_entries count (IsAnswered ∷ deeds) up = reply_entries count deeds up.1
-  reply_entries count (Drops pid ∷ deeds) up =
-      one_other (entry.Dropped (end_c h) pid) (told_by count deeds) (commits_in deeds) refl refl (reply_entries count deeds up.1)
-  reply_entries count (SetsErrors errors ∷ deeds) up = reply_entries count deeds up.1
-  reply_entries count (Orders message ∷ deeds) up = absurd up.0
-  reply_entries count (Hears ∷ deeds) up = absurd up.0
-  reply_entries count (GoesOn i ∷ deeds) up = absurd up.0
-  reply_entries count (Ends e ∷ deeds) up = absurd up.0
-
--- ## Counts
-
-one_on : (x : Entry) → IsReplyEntry x → (b : Book) → length (book_after 0 b x).commands ≡ length b.commands + one_command_in x
-one_on (entry.Command n c) is b =
-    ap (λ (y : Bool). length (cond y (Rattle.node_world.specs.NodeFilters.with_command c b) b).commands) (eq-eqb n 0 is) ∙ length-append b.commands (c ∷ [])
-one_on (entry.Sent e n pid message) is b = same (length b.commands) where
-  same : (n : ℕ) → n ≡ n + 0
-  same n = omega arith
-one_on (entry.AnyOk n k) is b = same (length b.commands) where
-  same : (n : ℕ) → n ≡ n + 0
-  same n = omega arith
-one_on (entry.Ask to message) is b = same (length b.commands) where
-  same : (n : ℕ) → n ≡ n + 0
-  same n = omega arith
-one_on (entry.Dropped e pid) is b = same (length b.commands) where
-  same : (n : ℕ) → n ≡ n + 0
-  same n = omega arith
-one_on _ is b = absurd is
-
-all_on : (es : List Entry) → AreReplyEntries es → (b : Book) → length (fold (book_after 0) b es).commands ≡ length b.commands + commands_told es
-all_on [] all b = same (length b.commands) where
-  same : (n : ℕ) → n ≡ n + 0
-  same n = omega arith
-all_on (x ∷ es) all b =
-    let one = one_on x all.0 b in
-    let later = all_on es all.1 (book_after 0 b x) in
-    omega (arith, one, later)
-
-pub commands_on : (t es : List Entry) → AreReplyEntries es → length (commands_in (t ++ es) 0) ≡ length (commands_in t 0) + commands_told es
-commands_on t es all = ap (λ (b : Book). length b.commands) (book_on t es) ∙ all_on es all (book_in t 0)
+  pub reply_entries : (count : ℕ) (journal : Option State) (command : Option (List ℕ)) (init : Option Init) (deeds : List Deed)
+      → AllByRecursion (SendsOver ports) deeds → MayBeDone journal command init deeds
+      → AreOfReply (most_of journal) (entries_of_reply 0 sessions h count deeds)
+  reply_entries count journal command init [] over may = record { entries = tt; few = omega arith }
+  reply_entries count None command init (Commits c ∷ deeds) over may = absurd may.0
+  reply_entries count (Some s) command init (Commits c ∷ deeds) over may =
+      let later = reply_entries (next_count count) None command init deeds over.1 may.1 in
+      let none = later.few in record { entries = (refl, later.entries); few = omega (arith, none) }
+  reply_entries count journal command init (Sends to m ∷ deeds) over may =
+      with_sent to m (entries_of_reply 0 sessions h count deeds) (most_of journal) (reply_entries count journal command init deeds over.1 may)
+  reply_entries count journal command init (SaysOk ∷ deeds) over may =
+      let later = reply_entries count journal command init deeds over.1 may in
+      record { entries = (refl, later.entries); few = later.few }
+  reply_entries count None command init (Asks to message c ∷ deeds) over may = absurd may.0
+  reply_entries count (Some s) command init (Asks to message c ∷ deeds) over may =
+      let es : List Entry = entries_of_reply 0 sessions h count deeds in
+      let later = with_sent to (1, message) es 0 (reply_entries count None command init deeds over.1 may.1) in
+      let none = later.few in record { entries = (tt, later.entries); few = omega (arith, none) }
+  reply_entries count journal command init (Tells to message ∷ deeds) over may =
+      with_sent to (1, message) (entries_of_reply 0 sessions h count deeds) (most_of journal) (reply_entries count journal command init deeds over.1 may)
+  reply_entries count journal command init (Drops pid ∷ deeds) over may =
+      let later = reply_entries count journal command init deeds over.1 may in
+      record { entries = (refl, later.entries); few = later.few }
+  reply_entries count journal command init (Orders message ∷ deeds) over may = absurd over.0
+  reply_entries count journal command init (Hears ∷ deeds) over may = absurd over.0
+  reply_entries count journal command init (GoesOn i ∷ deeds) over may = absurd over.0
+  reply_entries count journal command init (Ends e ∷ deeds) over may = absurd over.0
+  reply_entries count journal command init (_ ∷ deeds) over may = reply_entries count journal command init deeds over.1 may
 
 -- ## Until the next turn
 
@@ -218,54 +177,34 @@ silent_trails (_ ∷ later) rest trails none = absurd trails
 
 -- ## Up to a command
 
-less : (n : ℕ) → 0 + n ≡ 0 → n ≡ 0
-less n none = omega (arith, none)
+some_told : (front back : List Entry) (c : Command) → 1 ≤ commands_told (front ++ (entry.Command 0 c ∷ back))
+some_told [] back c = omega arith
+some_told (entry.Command n d ∷ front) back c = omega arith
+some_told (_ ∷ front) back c = some_told front back c
 
-no_command : (front back : List Entry) (c : Command) → AreReplyEntries front → commands_told front ≡ 0
+-- of entries that tell one command these are those up to it
+first_command : (front back : List Entry) (c : Command) → commands_told (front ++ (entry.Command 0 c ∷ back)) ≤ 1
     → to_command (front ++ (entry.Command 0 c ∷ back)) ≡ front ++ (entry.Command 0 c ∷ [])
-no_command [] back c all none = refl
-no_command (entry.Command n d ∷ front) back c all none = absurd (more (commands_told front) none) where
-  more : (n : ℕ) → 1 + n ≡ 0 → ⊥
-  more n none = omega (arith, none)
-no_command (entry.Sent e n pid message ∷ front) back c all none =
-    ap (λ l. entry.Sent e n pid message ∷ l) (no_command front back c all.1 (less (commands_told front) none))
-no_command (entry.AnyOk n k ∷ front) back c all none = ap (λ l. entry.AnyOk n k ∷ l) (no_command front back c all.1 (less (commands_told front) none))
-no_command (entry.Ask to message ∷ front) back c all none = ap (λ l. entry.Ask to message ∷ l) (no_command front back c all.1 (less (commands_told front) none))
-no_command (entry.Dropped e pid ∷ front) back c all none = ap (λ l. entry.Dropped e pid ∷ l) (no_command front back c all.1 (less (commands_told front) none))
-no_command (_ ∷ front) back c all none = absurd all.0
+first_command [] back c few = refl
+first_command (entry.Command n d ∷ front) back c few = let some = some_told front back c in absurd (omega (arith, some, few))
+first_command (x ∷ front) back c few = ap (λ l. x ∷ l) (first_command front back c few)
 
 -- ## A reply that is noted
 
--- what is noted begins with entries of the reply, which tell all of its commands
-pub first_told : (off : Bool) (noted reply : List Entry) → IsReplyNoted off 0 noted reply → AreReplyEntries reply → commands_told reply ≤ 1
-    → (first : List Entry) × (behind : List Entry) × (noted ≡ first ++ behind) × AreReplyEntries first × (commands_told first ≡ commands_told reply)
-first_told false noted reply is all one = (reply, [], is ∙ sym (append-nil reply), all, refl)
-first_told true noted reply is all one =
-    let a = told_append is.0 (entry.Command 0 is.1 ∷ []) in
-    let b = ap commands_told is.3 ∙ told_append is.0 (entry.Command 0 is.1 ∷ is.2) in (
-      is.0 ++ (entry.Command 0 is.1 ∷ []),
-      entry.Cut 0 ∷ [],
-      is.4 ∙ sym (append_assoc is.0 (entry.Command 0 is.1 ∷ []) (entry.Cut 0 ∷ [])),
-      entries_append is.0 (entry.Command 0 is.1 ∷ []) (entries_front is.0 (entry.Command 0 is.1 ∷ is.2) (subst AreReplyEntries is.3 all)) (refl, tt),
-      omega (arith, a, b, one),
-    )
-
-pub answers_so : (off : Bool) (noted reply later rest : List Entry) → IsReplyNoted off 0 noted reply → AreReplyEntries reply → commands_told reply ≤ 1
-    → Trails later → (off ≡ true → later ≡ []) → AllByRecursion IsNoAnswer rest → AnswersSo 0 ((noted ++ later) ++ rest) reply
-answers_so false noted reply later rest is all one trails power none =
+pub answers_so : (off : Bool) (noted reply later rest : List Entry) → IsReplyNoted off 0 noted reply → AreOfReply 1 reply → Trails later
+    → (off ≡ true → later ≡ []) → AllByRecursion IsNoAnswer rest → AnswersSo 0 ((noted ++ later) ++ rest) reply
+answers_so false noted reply later rest is all trails power none =
     let silent : IsSilent (later ++ rest) = silent_trails later rest trails none in
-    let parts = reply_until reply all (later ++ rest) in
+    let parts = reply_until reply all.entries (later ++ rest) in
     let es : (noted ++ later) ++ rest ≡ reply ++ (later ++ rest) = append_assoc noted later rest ∙ ap (λ l. l ++ (later ++ rest)) is in
     ap answers_until es
     ∙ ((parts.0 ∙ (ap (λ l. reply ++ l) silent.0 ∙ append-nil reply))
     ∙ sym (ap (λ b. cond b (to_command reply) reply) (ap cut_until es ∙ (parts.1 ∙ silent.1))))
-answers_so true noted reply later rest is all one trails power none =
+answers_so true noted reply later rest is all trails power none =
     let front : List Entry = is.0 in
     let c : Command = is.1 in
-    let fronts : AreReplyEntries front = entries_front front (entry.Command 0 c ∷ is.2) (subst AreReplyEntries is.3 all) in
+    let fronts : AreReplyEntries front = entries_front front (entry.Command 0 c ∷ is.2) (subst AreReplyEntries is.3 all.entries) in
     let first : AreReplyEntries (front ++ (entry.Command 0 c ∷ [])) = entries_append front (entry.Command 0 c ∷ []) fronts (refl, tt) in
-    let told = ap commands_told is.3 ∙ told_append front (entry.Command 0 c ∷ is.2) in
-    let no : commands_told front ≡ 0 = omega (arith, told, one) in
     let es : (noted ++ later) ++ rest ≡ (front ++ (entry.Command 0 c ∷ [])) ++ (entry.Cut 0 ∷ rest) =
     ap₂ (λ a b. (a ++ b) ++ rest) is.4 (power refl)
     ∙ (ap (λ l. l ++ rest) (append-nil (front ++ (entry.Command 0 c ∷ entry.Cut 0 ∷ [])))
@@ -276,4 +215,4 @@ answers_so true noted reply later rest is all one trails power none =
     ap answers_until es
     ∙ ((parts.0 ∙ (ap (λ l. (front ++ (entry.Command 0 c ∷ [])) ++ l) none_behind ∙ append-nil (front ++ (entry.Command 0 c ∷ []))))
     ∙ sym (ap (λ b. cond b (to_command reply) reply) (ap cut_until es ∙ (parts.1 ∙ cut.1))
-    ∙ (ap to_command is.3 ∙ no_command front is.2 c fronts no)))
+    ∙ (ap to_command is.3 ∙ first_command front is.2 c (subst (λ l. commands_told l ≤ 1) is.3 all.few))))

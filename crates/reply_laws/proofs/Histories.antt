@@ -59,7 +59,7 @@ module _ (hosts : List ℕ) (are : AreHosts hosts) (t : List Entry) (w : Work) (
 
   pub pass_replies : AreRepliedIn hosts t w
   pass_replies front back rest (entry.Turn e pid message) m is same none = (
-    turn_replied hosts are t K lasts beside w (passes w) (hosts_of_ends w.ports) walk b.few front back e pid message (more_is _ is) m same rest none,
+    turn_replied hosts are t K lasts beside w (passes w) (hosts_of_ends w.ports) walk front back e pid message (more_is _ is) m same rest none,
     tt,
   )
   pass_replies front back rest (entry.Held e need spare) m is same none = (

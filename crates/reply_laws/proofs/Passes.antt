@@ -1,6 +1,6 @@
 -- Each message that has its turn in a pass of a controller is replied to, and each that is held lacks what is noted.
-use Rattle.std.proofs.Common.{◌≡◌, ℕ, ◌≤◌, true, false, List, [], ◌∷◌, ◌++◌, length, sym, ap, ◌∙◌, subst, append_assoc, arith}
-use Rattle.std.specs.Prelude.{◌+◌, Some, None}
+use Rattle.std.proofs.Common.{◌≡◌, ℕ, true, false, List, [], ◌∷◌, ◌++◌, sym, ap, ◌∙◌, subst, append_assoc}
+use Rattle.std.specs.Prelude.{Some, None}
 use Rattle.std.specs.List.{AllByRecursion}
 use Rattle.std.specs.Option.{option_map_or, option_and_then}
 use Rattle.std.proofs.lemmas.Bool.{true≢false}
@@ -16,22 +16,20 @@ use Rattle.node_machine.specs.Parts.{Core, Port, Work, Deed}
 use Rattle.node_machine.specs.Carrying.{end_of_node}
 use Rattle.node_machine.specs.Turns.{deeds_of, handles, passes}
 use Rattle.node_world.specs.World.{node_of, end_c}
-use Rattle.node_world.specs.NodeFilters.{Book, commands_in}
 use Rattle.kept_laws.specs.Books.{hosts_of_ends}
-use Rattle.kept_laws.specs.Hosts.{AreHosts, IsFew}
+use Rattle.kept_laws.specs.Hosts.{AreHosts}
 use Rattle.notice_readings.proofs.Doing.{controller_side}
 use Rattle.step_readings.specs.Works.{KeepsInStep}
 use Rattle.step_readings.proofs.Lasting.{found_end, handles_keeps, holds_keeps, lets_keeps}
-use Rattle.pass_laws.specs.Noting.{IsReplyNoted, entries_of_reply, noted_by_deeds, session_of_port}
+use Rattle.pass_laws.specs.Noting.{entries_of_reply, noted_by_deeds, session_of_port}
 use Rattle.pass_laws.specs.Passing.{ArePassed, BeginWithTurn, HadTurn, LastsOverTurns, WasHeld, lacking, takes_up, waiting_at}
 use Rattle.pass_laws.proofs.Ends.{HasFirst, has_first}
 use Rattle.pass_laws.proofs.Passing.{through}
 use Rattle.answer_laws.specs.Answered.{AnswersSo, IsHeldFor, IsReplied}
-use Rattle.answer_laws.specs.Moments.{Moment, holds_in, lack_at, lack_of, noted_of_deeds, reply, unhandled_in, until}
+use Rattle.answer_laws.specs.Moments.{Moment, holds_in, lack_at, lack_of, unhandled_in, until}
 use Rattle.reply_laws.specs.Known.{IsNoAnswer, KeepsBeside, MessagesAreRead}
-use Rattle.reply_laws.proofs.Noted.{book_on, commits_in}
-use Rattle.reply_laws.proofs.Answering.{AreReplyEntries, Trails, answers_so, commands_on, commands_told, first_told, reply_entries}
-use Rattle.reply_laws.proofs.Turns.{commits_once, deeds_sent, lack_so, noted_read, noted_so_far}
+use Rattle.reply_laws.proofs.Answering.{Trails, answers_so}
+use Rattle.reply_laws.proofs.Turns.{lack_so, noted_read, noted_so_far, told_so}
 
 -- an end of a controller
 pub own_end_is : (core : Core) (h : ℕ) → core.node ≡ 0 → end_of_node core h ≡ end_c h
@@ -55,64 +53,21 @@ module _ (hosts : List ℕ) (are : AreHosts hosts) (t : List Entry) (K : Work �
 
   -- ## A turn
 
-  module _ (x : Work) (j : J x) (h : ℕ) (host : IsHost h) (pid : ℕ) (message : List ℕ) where
-    abbrev deeds : List Deed
-    deeds = deeds_of x.core x.ports h (pid, message)
-
-    abbrev reply_told : List Entry
-    reply_told = entries_of_reply 0 (session_of_port x.ports) h (count_of x.core.journal) deeds
-
-    abbrev noted : List Entry
-    noted = noted_by_deeds h deeds (takes_up h (pid, message) x)
-
-    k : KeepsBeside hosts t x
-    k = beside x j.1
-
-    told : AreReplyEntries reply_told × (commands_told reply_told ≡ commits_in deeds)
-    told =
-        reply_entries (session_of_port x.ports) h (count_of x.core.journal) deeds
-        (deeds_sent hosts are t x j.0 k.ends k.room k.reads.named h host (pid, message))
-
-    once : commits_in deeds ≤ 1
-    once = commits_once hosts are t x j.0 k.ends k.room k.reads.named h host (pid, message) k.reads.runs.memory k.reads.runs.kept
-
-    told_once : commands_told reply_told ≤ 1
-    told_once = let is = told.1 in let one = once in omega (arith, is, one)
-
-    module _ (room : lacking x h (pid, message) ≡ None) where
-      so_noted : IsReplyNoted (handles h (pid, message) deeds x).cut 0 noted reply_told
-      so_noted = noted_so_far hosts are t x j.0 k.ends k.room k.reads.named h host (pid, message) k.reads.runs.memory k.reads.runs.kept j.0.on room
-
-      -- no more commands are read than a journal counts
-      few_here : (all behind : List Entry) → IsFew all
-          → all ≡ (t ++ x.entries) ++ (entry.Turn (end_c h) pid message ∷ (noted ++ behind))
-          → length (commands_in (t ++ x.entries) 0) + commits_in deeds ≤ 4294967295
-      few_here all behind few is =
-          let first = first_told (handles h (pid, message) deeds x).cut noted reply_told so_noted told.0 told_once in
-          let turned : List Entry = (t ++ x.entries) ++ (entry.Turn (end_c h) pid message ∷ []) in
-          let shape : all ≡ (turned ++ first.0) ++ (first.1 ++ behind) =
-          is ∙ (ap (λ l. (t ++ x.entries) ++ (entry.Turn (end_c h) pid message ∷ (l ++ behind))) first.2
-          ∙ (ap (λ l. (t ++ x.entries) ++ (entry.Turn (end_c h) pid message ∷ l)) (append_assoc first.0 first.1 behind)
-          ∙ (sym (append_assoc (t ++ x.entries) (entry.Turn (end_c h) pid message ∷ []) (first.0 ++ (first.1 ++ behind)))
-          ∙ sym (append_assoc turned first.0 (first.1 ++ behind))))) in
-          let most = few (turned ++ first.0) (first.1 ++ behind) 0 shape in
-          let many = commands_on turned first.0 first.3 in
-          let same = ap (λ (b : Book). length b.commands) (book_on (t ++ x.entries) (entry.Turn (end_c h) pid message ∷ [])) in
-          let all_told = first.4 ∙ told.1 in
-          omega (arith, most, many, same, all_told)
-
-      read_so : length (commands_in (t ++ x.entries) 0) + commits_in deeds ≤ 4294967295 → (m : Moment) → until m ≡ t ++ x.entries
-          → noted_of_deeds (until m) 0 h (reply hosts m (end_c h) (pid, message)) ≡ reply_told
-      read_so few m same =
-          noted_read hosts are t x j.0 k.ends k.room k.reads.named h host (pid, message) k.reads.runs.memory k.reads.runs.kept few m same
-
-      replied_here : (later rest : List Entry) → Trails later → ((handles h (pid, message) deeds x).cut ≡ true → later ≡ []) → AllByRecursion IsNoAnswer rest
-          → length (commands_in (t ++ x.entries) 0) + commits_in deeds ≤ 4294967295 → (m : Moment) → until m ≡ t ++ x.entries
-          → IsReplied hosts m (entry.Turn (end_c h) pid message) ((noted ++ later) ++ rest)
-      replied_here later rest trails power none few m same = (
-        lack_so hosts are t x j.0 k.ends k.room k.reads.named m same h (pid, message) ∙ room,
-        subst (AnswersSo 0 ((noted ++ later) ++ rest)) (sym (read_so few m same))
-            (answers_so (handles h (pid, message) deeds x).cut noted reply_told later rest so_noted told.0 told_once trails power none),
+  -- a message has its turn in a controller that stays as it is read
+  replied_here : (x : Work) (k : KeepsBeside hosts t x) (h : ℕ) → IsHost h → (pid : ℕ) (message : List ℕ) → lacking x h (pid, message) ≡ None
+      → (later rest : List Entry) → Trails later → ((handles h (pid, message) (deeds_of x.core x.ports h (pid, message)) x).cut ≡ true → later ≡ [])
+      → AllByRecursion IsNoAnswer rest → (m : Moment) → until m ≡ t ++ x.entries
+      → IsReplied hosts m (entry.Turn (end_c h) pid message)
+      ((noted_by_deeds h (deeds_of x.core x.ports h (pid, message)) (takes_up h (pid, message) x) ++ later) ++ rest)
+  replied_here x k h host pid message room later rest trails power none m same =
+      let deeds : List Deed = deeds_of x.core x.ports h (pid, message) in
+      let noted : List Entry = noted_by_deeds h deeds (takes_up h (pid, message) x) in
+      let told : List Entry = entries_of_reply 0 (session_of_port x.ports) h (count_of x.core.journal) deeds in (
+        lack_so hosts are t x k.reads.runs.keeps k.ends k.room k.reads.named m same h (pid, message) ∙ room,
+        subst (AnswersSo 0 ((noted ++ later) ++ rest)) (sym (noted_read hosts are t x k h host (pid, message) m same))
+            (answers_so (handles h (pid, message) deeds x).cut noted told later rest
+            (noted_so_far hosts are t x k h host (pid, message) k.reads.runs.keeps.on room) (told_so hosts are t x k h host (pid, message))
+            trails power none),
       )
 
   -- ## A pass
@@ -141,28 +96,20 @@ module _ (hosts : List ℕ) (are : AreHosts hosts) (t : List Entry) (K : Work �
     until_so : (m : Moment) (front entries : List Entry) → until m ≡ (t ++ w.entries) ++ front → entries ≡ w.entries ++ front → until m ≡ t ++ entries
     until_so m front entries same is = same ∙ (append_assoc t w.entries front ∙ ap (λ l. t ++ l) (sym is))
 
-    pub turn_replied : IsFew (t ++ v.entries) → (front back : List Entry) (e : End) (pid : ℕ) (message : List ℕ)
+    pub turn_replied : (front back : List Entry) (e : End) (pid : ℕ) (message : List ℕ)
         → p.more ≡ front ++ (entry.Turn e pid message ∷ back) → (m : Moment) → until m ≡ (t ++ w.entries) ++ front → (rest : List Entry)
         → AllByRecursion IsNoAnswer rest → IsReplied hosts m (entry.Turn e pid message) (back ++ rest)
-    turn_replied few front back e pid message is m same rest none =
+    turn_replied front back e pid message is m same rest none =
         let u : HadTurn J w front e (pid, message) back = p.each front back (entry.Turn e pid message) is in
         let host : IsHost u.host = host_so u.work u.keeps u.host (pid, message) u.messages u.waiting in
         let end_is : e ≡ end_c u.host = u.its_end ∙ end_so u.work u.keeps u.host in
         let noted : List Entry = noted_by_deeds u.host (deeds_of u.work.core u.work.ports u.host (pid, message)) (takes_up u.host (pid, message) u.work) in
-        let all : t ++ v.entries ≡ (t ++ u.work.entries) ++ (entry.Turn (end_c u.host) pid message ∷ (noted ++ u.later)) =
-        ap (λ l. t ++ l) (p.entries ∙ (ap (λ l. w.entries ++ l) is ∙ (sym (append_assoc w.entries front (entry.Turn e pid message ∷ back))
-        ∙ ap (λ l. l ++ (entry.Turn e pid message ∷ back)) (sym u.entries))))
-        ∙ (sym (append_assoc t u.work.entries (entry.Turn e pid message ∷ back))
-        ∙ (ap (λ f. (t ++ u.work.entries) ++ (entry.Turn f pid message ∷ back)) end_is
-        ∙ ap (λ l. (t ++ u.work.entries) ++ (entry.Turn (end_c u.host) pid message ∷ l)) u.notes)) in
         let behind : p.more ≡ (front ++ (entry.Turn e pid message ∷ noted)) ++ u.later =
         is ∙ (ap (λ l. front ++ (entry.Turn e pid message ∷ l)) u.notes ∙ sym (append_assoc front (entry.Turn e pid message ∷ noted) u.later)) in
         subst (λ f. IsReplied hosts m (entry.Turn f pid message) (back ++ rest)) (sym end_is)
         (subst (λ l. IsReplied hosts m (entry.Turn (end_c u.host) pid message) (l ++ rest)) (sym u.notes)
-        (replied_here u.work u.keeps u.host host pid message u.room u.later rest
-        (trails u.later (front ++ (entry.Turn e pid message ∷ noted)) behind u.next) u.power none
-        (few_here u.work u.keeps u.host host pid message u.room (t ++ v.entries) u.later few all)
-        m (until_so m front u.work.entries same u.entries)))
+        (replied_here u.work (beside u.work u.keeps.1) u.host host pid message u.room u.later rest
+        (trails u.later (front ++ (entry.Turn e pid message ∷ noted)) behind u.next) u.power none m (until_so m front u.work.entries same u.entries)))
 
     -- ## Messages that are held
 

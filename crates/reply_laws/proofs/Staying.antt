@@ -23,8 +23,7 @@ use Rattle.pass_laws.proofs.Ends.{HasFirst, has_first}
 use Rattle.pass_laws.proofs.Passing.{handles_entries, holds_notes, lets_notes}
 use Rattle.step_rooms.proofs.Lasting.{IsCarried, handles_last, holds_last, lets_last, ports_read as carried_read}
 use Rattle.reply_laws.specs.Known.{EndsAreRead, HasRoomForAll, KeepsBeside, MessagesAreRead}
-use Rattle.reply_laws.proofs.Answering.{AreReplyEntries, reply_entries}
-use Rattle.reply_laws.proofs.Turns.{deeds_sent, noted_so_far}
+use Rattle.reply_laws.proofs.Turns.{noted_so_far, told_so}
 use Rattle.reply_laws.proofs.Passes.{own_end_is}
 use Rattle.reply_laws.proofs.Waiting.{messages_handled, messages_held, messages_left}
 
@@ -55,23 +54,19 @@ module _ (hosts : List ℕ) (are : AreHosts hosts) (t : List Entry) (begun : Wor
       let host : IsHost h = found_end IsHost v.ports h first.port first.here (subst (AllByRecursion IsHost) (sym s.step.runs.keeps.hosts_are) are.all) in
       let noted : List Entry = noted_by_deeds h deeds (takes_up h m v) in
       let reply : List Entry = entries_of_reply 0 (session_of_port v.ports) h (count_of v.core.journal) deeds in
-      let so : IsReplyNoted u.cut 0 noted reply =
-      noted_so_far hosts are t v s.step.runs.keeps k.ends k.room s.step.named h host m s.step.runs.memory s.step.runs.kept on room in
+      let so : IsReplyNoted u.cut 0 noted reply = noted_so_far hosts are t v k h host m on room in
       let is : IsReplyNoted false 0 noted reply = subst (λ b. IsReplyNoted b 0 noted reply) still so in
       let entries : u.entries ≡ v.entries ++ (entry.Turn (end_c h) m.0 m.1 ∷ reply) =
       handles_entries h m deeds v
       ∙ (ap (λ f. v.entries ++ (entry.Turn f m.0 m.1 ∷ noted)) (own_end_is v.core h s.step.runs.keeps.node)
       ∙ ap (λ l. v.entries ++ (entry.Turn (end_c h) m.0 m.1 ∷ l)) is) in
       let step : ReadsInStep hosts t u = handles_reads hosts are t h m messages v s.step waiting room still in
-      let all : AreReplyEntries reply =
-      (reply_entries (session_of_port v.ports) h (count_of v.core.journal) deeds
-      (deeds_sent hosts are t v s.step.runs.keeps k.ends k.room s.step.named h host m)).0 in
       record {
         comes = Handles v h m messages s.comes on waiting room still;
         step = step;
         carried = handles_last t Controller h m v first.port messages first.here first.got s.carried;
         messages = messages_handled t v s.messages h m.0 m.1 messages deeds reply waiting
-            (step.runs.keeps.hosts_are ∙ sym s.step.runs.keeps.hosts_are) entries all;
+            (step.runs.keeps.hosts_are ∙ sym s.step.runs.keeps.hosts_are) entries (told_so hosts are t v k h host m).entries;
       }
 
   held_stays : (v : Work) (h : ℕ) (m : Message) (messages : List Message) (short : ℕ × ℕ) → Stays v → v.cut ≡ false → waiting_at v.ports h ≡ m ∷ messages

@@ -4,18 +4,16 @@ use Rattle.std.specs.List.{AllByRecursion}
 use Rattle.trace_model.specs.declared.entry.Entry.{Entry}
 use Rattle.node_machine.specs.Parts.{Work}
 use Rattle.node_machine.specs.Turns.{passes}
-use Rattle.kept_laws.specs.Hosts.{IsFew}
 use Rattle.pass_laws.specs.Passing.{ComesTo}
 use Rattle.answer_laws.specs.Answered.{IsHeldFor, IsReplied}
 use Rattle.answer_laws.specs.Moments.{Moment, until}
 use Rattle.reply_laws.specs.Known.{HasRoomForAll, IsNoAnswer, MessagesAreRead}
 
--- Of a controller whose pass begins, before which these entries were noted in the world: in its turns any command finds room, the messages
--- that wait are read, and no more commands are told than a journal counts.
+-- Of a controller whose pass begins, before which these entries were noted in the world: in its turns any command finds room, and the messages
+-- that wait are read.
 pub record BeginsPass (t : List Entry) (w : Work) : Type 0 where
   pub room : (v : Work) → ComesTo w v → HasRoomForAll v
   pub messages : MessagesAreRead (t ++ w.entries) w.ports
-  pub few : IsFew (t ++ (passes w).entries)
 
 -- each message that has its turn in the pass is replied to, and each that is noted as held is held for what it lacks, whatever follows that
 -- is no answer of the controller

@@ -1,7 +1,7 @@
 //! A controller's replies to messages are those that are read off all that was noted until their turns. Nothing here runs.
 #![tactic(auto)]
 
-ghost use Rattle.std.specs.Prelude.{◌≡◌, ◌∷◌, ◌++◌, ◌+◌, ◌-◌, ◌^◌, ◌≤◌, ℕ, false, length, List, None, Some};
+ghost use Rattle.std.specs.Prelude.{◌≡◌, ◌∷◌, ◌++◌, ℕ, false, List, None, Some};
 ghost use Rattle.std.specs.List.{AllByRecursion};
 ghost use Rattle.trace_model.specs.Lines.{IsHost};
 ghost use Rattle.trace_model.specs.declared.entry.Entry.{Entry};
@@ -11,7 +11,6 @@ ghost use Rattle.journal_laws.specs.Journal.{count_of};
 ghost use Rattle.link_machine.specs.Machine.{Message};
 ghost use Rattle.node_machine.specs.Parts.{Work};
 ghost use Rattle.node_machine.specs.Turns.{deeds_of, passes};
-ghost use Rattle.node_world.specs.NodeFilters.{commands_in};
 ghost use Rattle.node_world.specs.World.{end_c};
 ghost use Rattle.kept_laws.specs.Hosts.{AreHosts, IsFew};
 ghost use Rattle.answer_laws.specs.Answered.{IsHeldFor, IsReplied};
@@ -51,15 +50,13 @@ pub fn what_is_read_is_known()
 {}
 
 /// Where the sessions of its ends and the blocks that they have to spare are read too, the room that a message lacks is what is read; and
-/// what is noted of the reply that is read is what the deeds of the message note, with the sessions and the count of the controller, where
-/// its journal counts one command more.
+/// what is noted of the reply that is read is what the deeds of the message note, with the sessions and the count of the controller.
 pub fn what_is_lacked_and_noted_is_read()
     ensures lacks { (hosts : List ℕ) → AreHosts hosts → (t : List Entry) (w : Work) → KeepsInStep hosts t w → EndsAreRead (t ++ w.entries) w.ports →
         HasRoomForAll w → AreNamed (t ++ w.entries) → (m : Moment) → until m ≡ t ++ w.entries → (h : ℕ) (message : Message) →
         lack_of hosts m (end_c h) message ≡ lacking w h message }
-    ensures notes { (hosts : List ℕ) → AreHosts hosts → (t : List Entry) (w : Work) → KeepsBeside hosts t w →
-        length (commands_in (t ++ w.entries) 0) + 1 ≤ 2 ^ 32 - 1 → (m : Moment) → until m ≡ t ++ w.entries → (h : ℕ) →
-        IsHost h → (message : Message) → noted_of_deeds (until m) 0 h (reply hosts m (end_c h) message) ≡
+    ensures notes { (hosts : List ℕ) → AreHosts hosts → (t : List Entry) (w : Work) → KeepsBeside hosts t w → (m : Moment) →
+        until m ≡ t ++ w.entries → (h : ℕ) → IsHost h → (message : Message) → noted_of_deeds (until m) 0 h (reply hosts m (end_c h) message) ≡
         entries_of_reply 0 (session_of_port w.ports) h (count_of w.core.journal) (deeds_of w.core w.ports h message) }
 {}
 
@@ -68,8 +65,7 @@ pub fn what_is_lacked_and_noted_is_read()
 /// wait at its ends are read, a message that is noted as held is the first one there, and wasn't noted so before.
 pub fn passes_reply_as_is_read()
     ensures turns { (hosts : List ℕ) → AreHosts hosts → (t : List Entry) (w : Work) → KeepsInStep hosts t w →
-        ((v : Work) → ComesTo w v → KeepsBeside hosts t v) → IsFew (t ++ (passes w).entries) →
-        (front back : List Entry) (e : End) (pid : ℕ) (message : List ℕ) →
+        ((v : Work) → ComesTo w v → KeepsBeside hosts t v) → (front back : List Entry) (e : End) (pid : ℕ) (message : List ℕ) →
         (passes w).entries ≡ w.entries ++ (front ++ (Turn e pid message ∷ back)) → (m : Moment) → until m ≡ (t ++ w.entries) ++ front →
         (rest : List Entry) → AllByRecursion IsNoAnswer rest → IsReplied hosts m (Turn e pid message) (back ++ rest) }
     ensures lacks { (hosts : List ℕ) → AreHosts hosts → (t : List Entry) (w : Work) → KeepsInStep hosts t w →

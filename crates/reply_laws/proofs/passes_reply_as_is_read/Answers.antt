@@ -8,9 +8,9 @@ use Rattle.reply_laws.proofs.passes_reply_as_is_read.Goals as goal
 
 pub returns : goal.returns
 returns c = record {
-  turns = λ hosts are t w a beside few front back e pid message is m same rest none.
+  turns = λ hosts are t w a beside front back e pid message is m same rest none.
       turn_replied hosts are t (ComesTo w) (comes_lasts w) beside w (passes w) (hosts_of_ends w.ports)
-      (walked hosts are t (ComesTo w) (comes_lasts w) beside w (a, Begins)) few front back e pid message
+      (walked hosts are t (ComesTo w) (comes_lasts w) beside w (a, Begins)) front back e pid message
       (split_of hosts are t (ComesTo w) (comes_lasts w) beside w (a, Begins) _ is) m same rest none;
   lacks = λ hosts are t w a beside front back e need spare is m same.
       held_lacks hosts are t (ComesTo w) (comes_lasts w) beside w (passes w) (hosts_of_ends w.ports)
