@@ -24,7 +24,7 @@ use Rattle.node_world.specs.World.{end_h, work_of}
 use Rattle.node_telling.specs.Telling.{HasEnds}
 use Rattle.node_telling.proofs.Nodes.{ports_for}
 use Rattle.node_readings.proofs.Silent.{IsQuiet}
-use Rattle.view_readings.specs.Inits.{with_response, LeavesInit, IsNoEndOf}
+use Rattle.view_readings.specs.Inits.{with_response, LeavesInit}
 use Rattle.view_readings.proofs.Noting.{IsOwnNote, IsBeside, NotesSo, Notes, all_do, steps_note}
 use Rattle.node_laws.proofs.Walks.{Plain, OfHost, any_of_controller, all_of_host}
 
@@ -151,11 +151,3 @@ module _ (h n : ℕ) (other : eqb n h ≡ false) (who : Side) (is_side : cond (e
   others_begin hosts r plan near_ends k deeds has off notes =
       (all_do (LeavesInit h) n who IsOff note_leaves turned_leaves beside_leaves deeds_leave k deeds (work_of r plan near_ends []) notes
       (begun_notes hosts r plan near_ends [] has off tt)).so
-
--- a step of another node
-pub other_steps : (h n : ℕ) (hosts : List ℕ) (r : Running) (plan : Option Plan) (near_ends : ℕ → NumberedEnd) (es : List Entry) (input : NodeInput)
-    → eqb n h ≡ false
-    → HasEnds n hosts r → AllByRecursion (IsNoEndOf h n) hosts → AllByRecursion (LeavesInit h) es
-    → AllByRecursion (LeavesInit h) (steps input (work_of r plan near_ends es)).entries
-other_steps h n hosts r plan near_ends es input other has off so =
-    others_step h n other (cond (eqb n 0) Controller Host) refl hosts r plan near_ends es input has off so

@@ -41,13 +41,16 @@ frames_init h who k l w y = go (port_at w.ports k) where
 arrival_init : (h : ℕ) (who : Side) (k : ℕ) (l : Link) (comes : Comes) (y : Option Init) → reads_init h (entries_for k (arrival who l comes)) y ≡ y
 arrival_init h who k l comes y = quiet_init h k (arrival who l comes) y (arrival_quiet who l comes)
 
--- the step of a host is done
-done_keeps : (s v : Site) (host : IsHost s.host) (i : Option Init) (now : LinkState) (k : Work) (frames : List Entry) → v.host ≡ s.host → v.node ≡ runs_on k
-    → (k.cut ≡ false → v.link.host.side.shdlc.phase ≡ now) → ((y : Option Init) → reads_init s.host frames y ≡ y) → Stands s.host host i now k
-    → SiteKeepsInit (reads_init s.host (k.entries ++ frames) i) v
-done_keeps s v host i now k frames same node phase silent st = by (cases_Bool k.cut) where
-  read : reads_init s.host (k.entries ++ frames) i ≡ reads_init s.host k.entries i
-  read = init_append s.host k.entries frames i ∙ silent (reads_init s.host k.entries i)
+-- The step of a host is done, in which frames come to its end of l: its link becomes this one, its memory that.
+done_keeps : (s : Site) (host : IsHost s.host) (i : Option Init) (now : LinkState) (k : Work) (l link : Link) (memory : Memory)
+    → (k.cut ≡ false → link.host.side.shdlc.phase ≡ now) → Stands s.host host i now k
+    → SiteKeepsInit (reads_init s.host (k.entries ++ frames_noted Host s.host l k) i) (record s { link = link; memory = memory; node = runs_on k })
+done_keeps s host i now k l link memory phase st = by (cases_Bool k.cut) where
+  v : Site
+  v = record s { link = link; memory = memory; node = runs_on k }
+
+  read : reads_init s.host (k.entries ++ frames_noted Host s.host l k) i ≡ reads_init s.host k.entries i
+  read = init_append s.host k.entries (frames_noted Host s.host l k) i ∙ frames_init s.host Host s.host l k (reads_init s.host k.entries i)
 
   on_is : k.cut ≡ false → runs_on k ≡ Some (record { core = k.core; desks = map (λ (p : Port). p.desk) k.ports })
   on_is e = rw e refl
@@ -55,18 +58,18 @@ done_keeps s v host i now k frames same node phase silent st = by (cases_Bool k.
   off_is : k.cut ≡ true → runs_on k ≡ None
   off_is e = rw e refl
 
-  by : (k.cut ≡ true) ⊎ (k.cut ≡ false) → SiteKeepsInit (reads_init s.host (k.entries ++ frames) i) v
+  by : (k.cut ≡ true) ⊎ (k.cut ≡ false) → SiteKeepsInit (reads_init s.host (k.entries ++ frames_noted Host s.host l k) i) v
   by (inl e) = record {
-    read = read ∙ (st.off e ∙ sym (ap init_kept (node ∙ off_is e)));
-    runs = subst (IfRunsInit v.host v.link) (sym (node ∙ off_is e)) tt;
+    read = read ∙ (st.off e ∙ sym (ap init_kept (off_is e)));
+    runs = subst (IfRunsInit s.host link) (sym (off_is e)) tt;
   }
   by (inr e) = record {
-    read = read ∙ ((st.on e).0 ∙ sym (ap init_kept (node ∙ on_is e)));
-    runs = subst (IfRunsInit v.host v.link) (sym (node ∙ on_is e)) (record {
-      number = st.base.number ∙ sym same;
+    read = read ∙ ((st.on e).0 ∙ sym (ap init_kept (on_is e)));
+    runs = subst (IfRunsInit s.host link) (sym (on_is e)) (record {
+      number = st.base.number;
       desk = st.base.port.desk;
       desks_are = ap (map (λ (p : Port). p.desk)) st.base.is;
-      host = st.base.at ∙ sym same;
+      host = st.base.at;
       no_notice = st.base.quiet;
       waits = λ some. (((st.on e).1 some).0, phase e ∙ ((st.on e).1 some).1);
     });
@@ -103,8 +106,7 @@ module _ (s : Site) (host : IsHost s.host) (i : Option Init) (r : Running) (node
       → SiteKeepsInit (reads_init s.host (host_does_so s r comes (steps (AtEnd s.host input))).1 i) (host_does_so s r comes (steps (AtEnd s.host input))).0
   unfolding begun_stands base_of
   comes_keeps comes input is =
-      done_keeps s (after_host comes w s) host i now w (frames_noted Host s.host (wires_for (exchanged s.link) comes) w) refl refl phase
-      (frames_init s.host Host s.host (wires_for (exchanged s.link) comes) w) stands where
+      done_keeps s host i now w (wires_for (exchanged s.link) comes) (after_host comes w s).link (after_host comes w s).memory phase stands where
         w : Work
         w = host_work s r comes (steps (AtEnd s.host input))
 
@@ -139,9 +141,8 @@ module _ (s : Site) (host : IsHost s.host) (i : Option Init) (r : Running) (node
   acts_keep : (deeds : List Deed) (b : Option Init) → MayGo s.host s.link.host.side.shdlc.phase b r.core.command r.core.init deeds
       → SiteKeepsInit (reads_init s.host (host_does_so s r NoInput (begins_with s.host deeds)).1 b) (host_does_so s r NoInput (begins_with s.host deeds)).0
   acts_keep deeds b may =
-      done_keeps s (after_host NoInput w s) host b now w (frames_noted Host s.host (wires_for (exchanged s.link) NoInput) w) refl refl phase
-      (frames_init s.host Host s.host (wires_for (exchanged s.link) NoInput) w) (all_go s.host host b now s.host deeds begun b refl (base_of s.link.host [] b)
-      refl may) where
+      done_keeps s host b now w (wires_for (exchanged s.link) NoInput) (after_host NoInput w s).link (after_host NoInput w s).memory phase
+      (all_go s.host host b now s.host deeds begun b refl (base_of s.link.host [] b) refl may) where
         w : Work
         w = host_work s r NoInput (begins_with s.host deeds)
 
@@ -180,35 +181,34 @@ ticks_keep s i host k = by_node s.node refl where
   }) where
     off_is : s.node ≡ None → host_ticks s ≡ (record s { link = exchanged (ticks_at_controller (exchanged s.link) [] GoesOut) }, [])
     off_is e = rw e refl
-  by_node (Some r) e = subst Fine (sym (on_is e)) (done_keeps s v host i now w (frames_noted Host s.host (exchanged s.link) w) refl refl phase
-      (frames_init s.host Host s.host (exchanged s.link) w) stands) where
-        begun : Work
-        begun = work_of r s.memory.plan (λ n. s.link.host) []
+  by_node (Some r) e = subst Fine (sym (on_is e)) (done_keeps s host i now w (exchanged s.link) v.link v.memory phase stands) where
+    begun : Work
+    begun = work_of r s.memory.plan (λ n. s.link.host) []
 
-        w : Work
-        w = steps TimePasses begun
+    w : Work
+    w = steps TimePasses begun
 
-        v : Site
-        v = record s {
-          link = exchanged (ticks_at_controller (exchanged s.link) (turns_at w s.host) (ending_of w));
-          memory = after_planned w.writes s.memory;
-          node = runs_on w;
-        }
+    v : Site
+    v = record s {
+      link = exchanged (ticks_at_controller (exchanged s.link) (turns_at w s.host) (ending_of w));
+      memory = after_planned w.writes s.memory;
+      node = runs_on w;
+    }
 
-        on_is : s.node ≡ Some r → host_ticks s ≡ (v, w.entries ++ frames_noted Host s.host (exchanged s.link) w)
-        on_is e = rw e refl
+    on_is : s.node ≡ Some r → host_ticks s ≡ (v, w.entries ++ frames_noted Host s.host (exchanged s.link) w)
+    on_is e = rw e refl
 
-        now : LinkState
-        now = (after_input s.link.host.side Tick).shdlc.phase
+    now : LinkState
+    now = (after_input s.link.host.side Tick).shdlc.phase
 
-        stands : Stands s.host host i now w
-        stands = steps_stand s.host host i s.link.host.side.shdlc.phase TimePasses begun tt refl (begun_stands s host i r e k s.link.host [] refl (λ y. refl))
-            (refl, refl)
+    stands : Stands s.host host i now w
+    stands = steps_stand s.host host i s.link.host.side.shdlc.phase TimePasses begun tt refl (begun_stands s host i r e k s.link.host [] refl (λ y. refl))
+        (refl, refl)
 
-        phase : w.cut ≡ false → v.link.host.side.shdlc.phase ≡ now
-        phase on =
-            ap (λ b. (ticks_at_controller (exchanged s.link) (turns_at w s.host) (cond b CutOff GoesOut)).controller.side.shdlc.phase) on
-            ∙ sent_phase (after_input s.link.host.side Tick) (turns_at w s.host)
+    phase : w.cut ≡ false → v.link.host.side.shdlc.phase ≡ now
+    phase on =
+        ap (λ b. (ticks_at_controller (exchanged s.link) (turns_at w s.host) (cond b CutOff GoesOut)).controller.side.shdlc.phase) on
+        ∙ sent_phase (after_input s.link.host.side Tick) (turns_at w s.host)
 
 -- its power is cut
 pub cut_keeps : (s : Site) (i : Option Init) → SiteKeepsInit (reads_init s.host (entry.Cut s.host ∷ []) i) (host_cut s)

@@ -287,21 +287,13 @@ all_one (k ∷ hosts) h all one = by (eqb k h) refl (all_one hosts h all.1) wher
   by false q later = later (sym (ap (λ b. b || is_one_of hosts h) q) ∙ one)
 
 -- the view that a controller has is the one that is read, where sessions and creations are
-pub view_read : (header : Header) (lines : List Line) (t : NodeHistory) → FollowsNodes header lines t → AreHosts header.hosts.items
-    → AllByRecursion IsSentByHost lines → IsFew (node_entries t) → (front back : List Occurrence) → occurrences_in t ≡ front ++ back → (r : Running)
-    → (world_behind (new_world header.hosts.items) front).controller ≡ Some r
-    → SessionsAreRead (entries_in front) (world_behind (new_world header.hosts.items) front)
-    → PipesAreRead header.hosts.items (entries_in front) (ends_between (world_behind (new_world header.hosts.items) front).sites r)
-    → (h : ℕ) → is_one_of header.hosts.items h ≡ true
-    → IsSameView (view_for r.core.tables (ends_between (world_behind (new_world header.hosts.items) front).sites r) h)
-    (view_at header.hosts.items (entries_in front) h)
-view_read header lines t follows are sides few front back parts r runs sessions pipes h one =
-    let hosts : List ℕ = header.hosts.items in
-    let w : NodeWorld = world_behind (new_world hosts) front in
-    let es : List Entry = entries_in front in
-    let so : IsSo hosts es w = events_so header lines t follows are sides few front back parts in
-    let has : HasEnds 0 (hosts_in w.sites) r = subst (IfItRuns 0 (hosts_in w.sites)) runs so.orderly.controller in
-    let keeps : IfRuns 0 hosts w.memory.content es (Some r) = subst (IfRuns 0 hosts w.memory.content es) runs so.keep.controller.runs in
-    subst (λ hs. IsSameView (view_for r.core.tables (ends_between w.sites r) h) (view_at hs es h)) so.keep.hosts_are
-    (same_view es w r runs has keeps.tables_are (notices_of es w so.notices) (kept_read es w so.errors) sessions h (all_one hosts h are.all one)
-    (subst (λ hs. is_one_of hs h ≡ true) (sym so.keep.hosts_are) one) (subst (λ hs. PipesAreRead hs es (ends_between w.sites r)) (sym so.keep.hosts_are) pipes))
+module _ (hosts : List ℕ) (are : AreHosts hosts) (t : List Entry) (w : NodeWorld) (so : IsSo hosts t w) (r : Running) (runs : w.controller ≡ Some r) where
+  pub view_read : SessionsAreRead t w → PipesAreRead hosts t (ends_between w.sites r) → (h : ℕ) → is_one_of hosts h ≡ true
+      → IsSameView (view_for r.core.tables (ends_between w.sites r) h) (view_at hosts t h)
+  view_read sessions pipes h one =
+      let has : HasEnds 0 (hosts_in w.sites) r = subst (IfItRuns 0 (hosts_in w.sites)) runs so.orderly.controller in
+      let keeps : IfRuns 0 hosts w.memory.content t (Some r) = subst (IfRuns 0 hosts w.memory.content t) runs so.keep.controller.runs in
+      subst (λ hs. IsSameView (view_for r.core.tables (ends_between w.sites r) h) (view_at hs t h)) so.keep.hosts_are
+      (same_view t w r runs has keeps.tables_are (notices_of t w so.notices) (kept_read t w so.errors) sessions h (all_one hosts h are.all one)
+      (subst (λ hs. is_one_of hs h ≡ true) (sym so.keep.hosts_are) one) (subst (λ hs. PipesAreRead hs t (ends_between w.sites r)) (sym so.keep.hosts_are)
+      pipes))

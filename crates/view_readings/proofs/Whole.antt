@@ -1,5 +1,5 @@
 -- The view of a controller over whole histories: sessions and creations that wait are read there.
-use Rattle.std.proofs.Common.{◌≡◌, ℕ, true, List, ◌++◌, Option, Some, None, subst}
+use Rattle.std.proofs.Common.{◌≡◌, ℕ, true, List, ◌++◌, Some, subst}
 use Rattle.std.specs.List.{AllByRecursion}
 use Rattle.trace_model.specs.declared.entry.Entry.{Entry}
 use Rattle.trace_model.specs.declared.line.Header.{Header}
@@ -21,7 +21,7 @@ use Rattle.creation_readings.proofs.Lines.{history_keeps}
 use Rattle.cut_laws.specs.Histories.{is_one_of}
 use Rattle.view_readings.specs.Views.{view_at, IsSameView}
 use Rattle.view_readings.proofs.Viewing.{SessionsAreRead, PipesAreRead}
-use Rattle.view_readings.proofs.Lines.{view_read}
+use Rattle.view_readings.proofs.Lines.{events_so, view_read}
 
 sessions_are : (hosts : List ℕ) (os : List Occurrence) (w : NodeWorld) → IsSo hosts os w → SessionsAreRead (entries_in os) w
 sessions_are hosts os w so h s found =
@@ -32,14 +32,18 @@ pipes_are : (hosts : List ℕ) (t : List Entry) (w : NodeWorld) (r : Running) �
 pipes_are hosts t w r runs known = (subst (IfKnowsAsRead hosts t w.sites) runs known).waiting
 
 -- the view that a controller has is the one that is read
-pub view_is : (header : Header) (lines : List Line) (t : NodeHistory) → FollowsNodes header lines t → AreHosts header.hosts.items → ArePlayable lines
-    → AllByRecursion IsSentByHost lines → IsFew (node_entries t) → (front back : List Occurrence) → occurrences_in t ≡ front ++ back → (r : Running)
-    → (world_behind (new_world header.hosts.items) front).controller ≡ Some r → (h : ℕ) → is_one_of header.hosts.items h ≡ true
-    → IsSameView (view_for r.core.tables (ends_between (world_behind (new_world header.hosts.items) front).sites r) h)
-    (view_at header.hosts.items (entries_in front) h)
-view_is header lines t follows are playable sent few front back parts r runs =
-    let hosts : List ℕ = header.hosts.items in
-    let w : NodeWorld = world_behind (new_world hosts) front in
-    view_read header lines t follows are sent few front back parts r runs
-    (sessions_are hosts front w (history_so header lines t follows are playable front back parts))
-    (pipes_are hosts (entries_in front) w r runs (if_known hosts (entries_in front) w (history_keeps header lines t follows are sent few front back parts)))
+module _ (header : Header) (lines : List Line) (t : NodeHistory) (follows : FollowsNodes header lines t) (are : AreHosts header.hosts.items)
+    (playable : ArePlayable lines) (sent : AllByRecursion IsSentByHost lines) (few : IsFew (node_entries t)) (front back : List Occurrence)
+    (parts : occurrences_in t ≡ front ++ back) where
+  abbrev hosts : List ℕ
+  hosts = header.hosts.items
+
+  abbrev w : NodeWorld
+  w = world_behind (new_world hosts) front
+
+  pub view_is : (r : Running) → w.controller ≡ Some r → (h : ℕ) → is_one_of hosts h ≡ true
+      → IsSameView (view_for r.core.tables (ends_between w.sites r) h) (view_at hosts (entries_in front) h)
+  view_is r runs =
+      view_read hosts are (entries_in front) w (events_so header lines t follows are sent few front back parts) r runs
+      (sessions_are hosts front w (history_so header lines t follows are playable front back parts))
+      (pipes_are hosts (entries_in front) w r runs (if_known hosts (entries_in front) w (history_keeps header lines t follows are sent few front back parts)))
