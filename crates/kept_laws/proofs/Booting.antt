@@ -41,7 +41,7 @@ use Rattle.kept_laws.specs.Finds.{BootFinds, Knows}
 use Rattle.kept_laws.specs.Books.{WaitsFor, WouldFind}
 use Rattle.kept_laws.specs.Worlds.{RunsSo, NodeKeeps}
 use Rattle.kept_laws.proofs.Planned.{planned_whole, planned_cut}
-use Rattle.kept_laws.proofs.Commits.{finds_closed, left_finds, knows_from}
+use Rattle.kept_laws.proofs.Commits.{IsLeftBetween, finds_closed, left_finds, knows_from}
 use Rattle.kept_laws.proofs.Books.{book_more, closed_book, finds_all}
 
 -- ## The tables of a memory
@@ -104,7 +104,10 @@ module _ (content : List ℕ) (t : HciTables) (many : ℕ) (f : BootFinds conten
 
     pub left_formatted : (j : ℕ) (left : List ℕ) → IsCut j format_writes content left → BootFinds left t many
     left_formatted j left cut =
-        either (left_finds format_writes content left t t many many j (format_all_or_nothing content (state_of content) says none) cut f after_it) where
+        either (left_finds format_writes content left t t many many between f after_it) where
+          between : IsLeftBetween format_writes content left
+          between = record { at = j; whole = format_all_or_nothing content (state_of content) says none; cut = cut }
+
           after_it : BootFinds (after_writes format_writes content) t many
           after_it = finds_closed (after_writes format_writes content) (close (tables_of content)) t many
               (subst (λ k. BootFinds (after_writes format_writes content) (close (tables_of content)) k) count_formatted knows_formatted.finds)

@@ -85,26 +85,35 @@ some_other : (o : Option Side) → IsSome o → IsSome (option_map other o)
 some_other None some = some
 some_other (Some side) some = refl
 
--- a cut of writes that are all or nothing
-pub left_finds : (writes : List Write) (content left : List ℕ) (t u : HciTables) (m n k : ℕ) → IsAllOrNothing writes content → IsCut k writes content left
-    → BootFinds content t m → BootFinds (after_writes writes content) u n → BootFinds left t m ⊎ BootFinds left u n
-left_finds writes content left t u m n k whole cut before done = either (journal_left writes content left
-    (record { whole = k; cut = cut; says = whole.says k left cut })) where
-      size : length left ≡ length content
-      size = length-cut k writes content left whole.fit cut
+-- a cut in writes that are all or nothing leaves this
+pub record IsLeftBetween (writes : List Write) (content left : List ℕ) : Type 0 where
+  pub at : ℕ
+  pub whole : IsAllOrNothing writes content
+  pub cut : IsCut at writes content left
 
-      either : (journal left ≡ journal content) ⊎ (journal left ≡ journal (after_writes writes content)) → BootFinds left t m ⊎ BootFinds left u n
-      either (inl same) = inl (finds_still content left t m before size same)
-      either (inr same) = inr (finds_still (after_writes writes content) left u n done (size ∙ sym (length-after writes content whole.fit)) same)
+-- so it says what the memory said before, or behind all of them
+says_either : (writes : List Write) (content left : List ℕ) → IsLeftBetween writes content left
+    → (journal left ≡ journal content) ⊎ (journal left ≡ journal (after_writes writes content))
+says_either writes content left b =
+    journal_left writes content left (record { whole = b.at; cut = b.cut; says = b.whole.says b.at left b.cut })
+
+pub left_finds : (writes : List Write) (content left : List ℕ) (t u : HciTables) (m n : ℕ) → IsLeftBetween writes content left
+    → BootFinds content t m → BootFinds (after_writes writes content) u n → BootFinds left t m ⊎ BootFinds left u n
+left_finds writes content left t u m n b before done = either (says_either writes content left b) where
+  size : length left ≡ length content
+  size = length-cut b.at writes content left b.whole.fit b.cut
+
+  either : (journal left ≡ journal content) ⊎ (journal left ≡ journal (after_writes writes content)) → BootFinds left t m ⊎ BootFinds left u n
+  either (inl same) = inl (finds_still content left t m before size same)
+  either (inr same) = inr (finds_still (after_writes writes content) left u n done (size ∙ sym (length-after writes content b.whole.fit)) same)
 
 -- a bank is in use still
-left_used : (writes : List Write) (content left : List ℕ) (k : ℕ) → IsAllOrNothing writes content → IsCut k writes content left
-    → IsSome (current content) → IsSome (current (after_writes writes content)) → IsSome (current left)
-left_used writes content left k whole cut before done = either (journal_left writes content left
-    (record { whole = k; cut = cut; says = whole.says k left cut })) where
-      either : (journal left ≡ journal content) ⊎ (journal left ≡ journal (after_writes writes content)) → IsSome (current left)
-      either (inl same) = subst IsSome (sym (sym (in_use_is left) ∙ ap (λ (j : Journal). j.in_use) same ∙ in_use_is content)) before
-      either (inr same) = subst IsSome (sym (sym (in_use_is left) ∙ ap (λ (j : Journal). j.in_use) same ∙ in_use_is (after_writes writes content))) done
+left_used : (writes : List Write) (content left : List ℕ) → IsLeftBetween writes content left → IsSome (current content)
+    → IsSome (current (after_writes writes content)) → IsSome (current left)
+left_used writes content left b before done = either (says_either writes content left b) where
+  either : (journal left ≡ journal content) ⊎ (journal left ≡ journal (after_writes writes content)) → IsSome (current left)
+  either (inl same) = subst IsSome (sym (sym (in_use_is left) ∙ ap (λ (j : Journal). j.in_use) same ∙ in_use_is content)) before
+  either (inr same) = subst IsSome (sym (sym (in_use_is left) ∙ ap (λ (j : Journal). j.in_use) same ∙ in_use_is (after_writes writes content))) done
 
 pub used_of : (content : List ℕ) (s : State) (t : HciTables) → Knows content s t → IsSome (current content)
 used_of content s t k = subst IsSome (sym (ap (λ (x : State). x.in_use) k.state_is)) k.in_use
@@ -130,16 +139,19 @@ module _ (content : List ℕ) (s : State) (t : HciTables) (k : Knows content s t
         (holds_more content (after_writes (append_writes s (body_of c)) content) (body_of c) t c k.finds.keeps.holds (appending.records_after content
         (body_of c) s says_of has_room) refl may)
 
+    append_between : (j : ℕ) (left : List ℕ) → IsCut j (append_writes s (body_of c)) content left → IsLeftBetween (append_writes s (body_of c)) content left
+    append_between j left cut = record { at = j; whole = appending.all_or_nothing content (body_of c) s says_of has_room; cut = cut }
+
     append_left : (j : ℕ) (left : List ℕ) → IsCut j (append_writes s (body_of c)) content left
         → BootFinds left t (count_of s) ⊎ BootFinds left (apply t c) (count_of (appended s (body_of c)))
     append_left j left cut =
-        left_finds (append_writes s (body_of c)) content left t (apply t c) (count_of s) (count_of (appended s (body_of c))) j
-        (appending.all_or_nothing content (body_of c) s says_of has_room) cut k.finds append_knows.finds
+        left_finds (append_writes s (body_of c)) content left t (apply t c) (count_of s) (count_of (appended s (body_of c)))
+        (append_between j left cut) k.finds append_knows.finds
 
     append_used : (j : ℕ) (left : List ℕ) → IsCut j (append_writes s (body_of c)) content left → IsSome (current left)
     append_used j left cut =
-        left_used (append_writes s (body_of c)) content left j (appending.all_or_nothing content (body_of c) s says_of has_room) cut
-        (used_of content s t k) (used_of (after_writes (append_writes s (body_of c)) content) (appended s (body_of c)) (apply t c) append_knows)
+        left_used (append_writes s (body_of c)) content left (append_between j left cut) (used_of content s t k)
+            (used_of (after_writes (append_writes s (body_of c)) content) (appended s (body_of c)) (apply t c) append_knows)
 
   module _ (are : AreTables t) (may : IsRecordable t) (next : s.generation < 4294967295) where
     pub can : CanCompact s (snapshot_bodies t)
@@ -157,22 +169,23 @@ module _ (content : List ℕ) (s : State) (t : HciTables) (k : Knows content s t
         (holds_snapshot (after_writes (compact_writes s (snapshot_bodies t)) content) t may are
         (compacting.records_after content (snapshot_bodies t) s says_of can))
 
+    compact_between : (j : ℕ) (left : List ℕ) → IsCut j (compact_writes s (snapshot_bodies t)) content left
+        → IsLeftBetween (compact_writes s (snapshot_bodies t)) content left
+    compact_between j left cut = record { at = j; whole = compacting.all_or_nothing content (snapshot_bodies t) s says_of can; cut = cut }
+
     compact_left : (j : ℕ) (left : List ℕ) → IsCut j (compact_writes s (snapshot_bodies t)) content left → BootFinds left t (count_of s)
     compact_left j left cut = either
-        (left_finds (compact_writes s (snapshot_bodies t)) content left t t (count_of s) (count_of (compacted s (snapshot_bodies t))) j
-        (compacting.all_or_nothing content (snapshot_bodies t) s says_of can) cut k.finds compact_knows.finds)
+        (left_finds (compact_writes s (snapshot_bodies t)) content left t t (count_of s) (count_of (compacted s (snapshot_bodies t)))
+        (compact_between j left cut) k.finds compact_knows.finds)
       where
         either : BootFinds left t (count_of s) ⊎ BootFinds left t (count_of (compacted s (snapshot_bodies t))) → BootFinds left t (count_of s)
         either (inl before) = before
         either (inr later) = subst (λ n. BootFinds left t n) (compact_count s (snapshot_bodies t)) later
 
-compact_used : (content : List ℕ) (s : State) (t : HciTables) (k : Knows content s t) (are : AreTables t) (may : IsRecordable t)
-    (next : s.generation < 4294967295) (j : ℕ) (left : List ℕ)
-    → IsCut j (compact_writes s (snapshot_bodies t)) content left → IsSome (current left)
-compact_used content s t k are may next j left cut =
-    left_used (compact_writes s (snapshot_bodies t)) content left j
-    (compacting.all_or_nothing content (snapshot_bodies t) s (says_of content s t k) (can content s t k are may next)) cut (used_of content s t k)
-    (used_of (after_writes (compact_writes s (snapshot_bodies t)) content) (compacted s (snapshot_bodies t)) t (compact_knows content s t k are may next))
+    compact_used : (j : ℕ) (left : List ℕ) → IsCut j (compact_writes s (snapshot_bodies t)) content left → IsSome (current left)
+    compact_used j left cut =
+        left_used (compact_writes s (snapshot_bodies t)) content left (compact_between j left cut) (used_of content s t k)
+        (used_of (after_writes (compact_writes s (snapshot_bodies t)) content) (compacted s (snapshot_bodies t)) t compact_knows)
 
 module _ (content : List ℕ) (s : State) (t : HciTables) (c : Command) (k : Knows content s t) (are : AreTables t) (may : IsRecordable t)
     (command : IsCommand c) (room : FindsRoom s c) where

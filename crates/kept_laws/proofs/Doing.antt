@@ -95,8 +95,13 @@ module _ (n : ℕ) (hosts : List ℕ) (old : Memory) (before : List Entry) where
               (writes ++ more) ∙ after_planned-append writes more r.memory now;
           plan_is = ap (plan_behind writes) r.plan_is ∙ sym (planned_whole writes r.memory now).1;
           made = make_more n start w.entries (entry.Command w.core.node c ∷ []) r.memory (after_planned writes r.memory) r.made
-              (command_makes n w.core.node (fold (reckoned n) start w.entries) c r.memory w.core.journal w.core.tables r.number r.made.memory_is
-              r.knows.state_is tables_read r.made.on r.made.none_due now);
+              (command_makes n w.core.node (fold (reckoned n) start w.entries) c r.memory w.core.journal w.core.tables r.number (record {
+                memory = r.made.memory_is;
+                state = r.knows.state_is;
+                tables = tables_read;
+                on = r.made.on;
+                none = r.made.none_due;
+              }) now);
           number = r.number;
           hosts_are = r.hosts_are;
           knows = planned_knows r.memory w.core.journal w.core.tables c r.knows r.sorted r.recordable may room now;

@@ -146,21 +146,29 @@ writes_are r c m s t memory state tables =
 pub reckoned_command : (n k : ℕ) (r : Reckoning) (c : Command) → k ≡ n → reckoned n r (entry.Command k c) ≡ with_written c r
 reckoned_command n k r c same = ap (λ b. cond b (with_written c r) r) (eq-eqb k n same)
 
+-- as it is reckoned, a node runs, no cut of it is due, and it has this memory, this journal and these tables
+pub record IsReckonedSo (r : Reckoning) (m : Memory) (s : State) (t : HciTables) : Type 0 where
+  pub memory : r.memory ≡ m
+  pub state : state_of m.content ≡ s
+  pub tables : r.book.tables ≡ t
+  pub on : r.runs ≡ true
+  pub none : r.due ≡ false
+
 -- a command whose writes all go through
-pub command_makes : (n k : ℕ) (r : Reckoning) (c : Command) (m : Memory) (s : State) (t : HciTables) → k ≡ n → r.memory ≡ m → state_of m.content ≡ s
-    → r.book.tables ≡ t → r.runs ≡ true → r.due ≡ false → fails_within (length (commit_writes s t (body_of c))) m.plan ≡ false
+pub command_makes : (n k : ℕ) (r : Reckoning) (c : Command) (m : Memory) (s : State) (t : HciTables) → k ≡ n → IsReckonedSo r m s t
+    → fails_within (length (commit_writes s t (body_of c))) m.plan ≡ false
     → MakeOf n r (entry.Command k c ∷ []) (after_planned (commit_writes s t (body_of c)) m)
-command_makes n k r c m s t same memory state tables on none through =
+command_makes n k r c m s t same so through =
     let now = reckoned_command n k r c same in
-    let writes = writes_are r c m s t memory state tables in
+    let writes = writes_are r c m s t so.memory so.state so.tables in
     let passes : fails_within (length (writes_of c r)) r.memory.plan ≡ false =
-    ap (λ w. fails_within (length w) r.memory.plan) writes ∙ ap (λ (x : Memory). fails_within (length (commit_writes s t (body_of c))) x.plan) memory
+    ap (λ w. fails_within (length w) r.memory.plan) writes ∙ ap (λ (x : Memory). fails_within (length (commit_writes s t (body_of c))) x.plan) so.memory
     ∙ through in
     record {
-      on = ap (λ (x : Reckoning). x.runs) now ∙ on;
+      on = ap (λ (x : Reckoning). x.runs) now ∙ so.on;
       memory_is = ap (λ (x : Reckoning). x.memory) now ∙ ap (λ w. after_planned w r.memory) writes
-          ∙ ap (after_planned (commit_writes s t (body_of c))) memory;
+          ∙ ap (after_planned (commit_writes s t (body_of c))) so.memory;
       none_due = ap (λ (x : Reckoning). x.due) now ∙ passes;
       none_lost = ap (λ (x : Reckoning). x.lost) now ∙ ap (λ b. b && not (opens_gate (length (writes_of c r)) r.memory.plan)) passes;
-      each = (sym none, (λ _. on), tt);
+      each = (sym so.none, (λ _. so.on), tt);
     }
