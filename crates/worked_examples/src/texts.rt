@@ -379,192 +379,61 @@ fn entries_are_written(rt: HostRuntime) -> Result<(), Fail> {
 }
 
 #[test]
-fn ends_of_sessions_and_losses_are_written(rt: HostRuntime) -> Result<(), Fail> {
-    let alloc = rt.alloc();
-    is_written(
-        &rt,
-        alloc,
-        Entry::Down {
+fn ends_of_sessions_are_written(rt: HostRuntime) -> Result<(), Fail> {
+    for (at, cause, line) in [
+        (HOST, Cause::Asked, "down 02h asked\n"),
+        (HOST, Cause::NoAnswer, "down 02h noanswer\n"),
+        (CONTROLLER, Cause::Peer, "down 02c peer\n"),
+        (CONTROLLER, Cause::Act, "down 02c act\n"),
+        (CONTROLLER, Cause::Chain, "down 02c chain\n"),
+    ] {
+        is_written(&rt, rt.alloc(), Entry::Down { at, cause }, line)?;
+    }
+    is_written(&rt, rt.alloc(), Entry::Active { at: HOST }, "active 02h\n")?;
+    let gave_up = Entry::GaveUp { at: HOST, tries: 5 };
+    is_written(&rt, rt.alloc(), gave_up, "gaveup 02h 5\n")
+}
+
+#[test]
+fn losses_are_written(rt: HostRuntime) -> Result<(), Fail> {
+    let reset = lpdu(&[0xF9, 4, 0])?;
+    let ready = lpdu(&[0xC1])?;
+    for (lpdu, cause, line) in [
+        (reset, LostCause::Asked, "lost 02h F90400 asked\n"),
+        (ready.copied(), LostCause::Age, "lost 02h C1 age\n"),
+        (ready.copied(), LostCause::Full, "lost 02h C1 full\n"),
+        (ready.copied(), LostCause::Length, "lost 02h C1 length\n"),
+        (
+            ready.copied(),
+            LostCause::Alignment,
+            "lost 02h C1 alignment\n",
+        ),
+        (ready.copied(), LostCause::Crc, "lost 02h C1 crc\n"),
+        (ready.copied(), LostCause::Broken, "lost 02h C1 broken\n"),
+    ] {
+        let lost = Entry::Lost {
             at: HOST,
-            cause: Cause::Asked,
-        },
-        "down 02h asked\n",
-    )?;
-    is_written(
-        &rt,
-        alloc,
-        Entry::Down {
-            at: HOST,
-            cause: Cause::NoAnswer,
-        },
-        "down 02h noanswer\n",
-    )?;
-    is_written(
-        &rt,
-        alloc,
-        Entry::Down {
-            at: CONTROLLER,
-            cause: Cause::Peer,
-        },
-        "down 02c peer\n",
-    )?;
-    is_written(
-        &rt,
-        alloc,
-        Entry::Down {
-            at: CONTROLLER,
-            cause: Cause::Act,
-        },
-        "down 02c act\n",
-    )?;
-    is_written(
-        &rt,
-        alloc,
-        Entry::Down {
-            at: CONTROLLER,
-            cause: Cause::Chain,
-        },
-        "down 02c chain\n",
-    )?;
-    is_written(&rt, alloc, Entry::Active { at: HOST }, "active 02h\n")?;
-    is_written(
-        &rt,
-        alloc,
-        Entry::GaveUp { at: HOST, tries: 5 },
-        "gaveup 02h 5\n",
-    )?;
-    is_written(
-        &rt,
-        alloc,
-        Entry::Lost {
-            at: HOST,
-            lpdu: lpdu(&[0xF9, 4, 0])?,
-            cause: LostCause::Asked,
-        },
-        "lost 02h F90400 asked\n",
-    )?;
-    is_written(
-        &rt,
-        alloc,
-        Entry::Lost {
-            at: HOST,
-            lpdu: lpdu(&[0xC1])?,
-            cause: LostCause::Age,
-        },
-        "lost 02h C1 age\n",
-    )?;
-    is_written(
-        &rt,
-        alloc,
-        Entry::Lost {
-            at: HOST,
-            lpdu: lpdu(&[0xC1])?,
-            cause: LostCause::Full,
-        },
-        "lost 02h C1 full\n",
-    )?;
-    is_written(
-        &rt,
-        alloc,
-        Entry::Lost {
-            at: HOST,
-            lpdu: lpdu(&[0xC1])?,
-            cause: LostCause::Length,
-        },
-        "lost 02h C1 length\n",
-    )?;
-    is_written(
-        &rt,
-        alloc,
-        Entry::Lost {
-            at: HOST,
-            lpdu: lpdu(&[0xC1])?,
-            cause: LostCause::Alignment,
-        },
-        "lost 02h C1 alignment\n",
-    )?;
-    is_written(
-        &rt,
-        alloc,
-        Entry::Lost {
-            at: HOST,
-            lpdu: lpdu(&[0xC1])?,
-            cause: LostCause::Crc,
-        },
-        "lost 02h C1 crc\n",
-    )?;
-    is_written(
-        &rt,
-        alloc,
-        Entry::Lost {
-            at: HOST,
-            lpdu: lpdu(&[0xC1])?,
-            cause: LostCause::Broken,
-        },
-        "lost 02h C1 broken\n",
-    )?;
+            lpdu,
+            cause,
+        };
+        is_written(&rt, rt.alloc(), lost, line)?;
+    }
     Ok(())
 }
 
 #[test]
 fn causes_of_refusals_are_written(rt: HostRuntime) -> Result<(), Fail> {
-    let alloc = rt.alloc();
-    is_written(
-        &rt,
-        alloc,
-        Entry::No {
-            cause: NoCause::Off,
-        },
-        "no off\n",
-    )?;
-    is_written(
-        &rt,
-        alloc,
-        Entry::No {
-            cause: NoCause::Running,
-        },
-        "no running\n",
-    )?;
-    is_written(
-        &rt,
-        alloc,
-        Entry::No {
-            cause: NoCause::Inactive,
-        },
-        "no inactive\n",
-    )?;
-    is_written(
-        &rt,
-        alloc,
-        Entry::No {
-            cause: NoCause::NotUp,
-        },
-        "no not-up\n",
-    )?;
-    is_written(
-        &rt,
-        alloc,
-        Entry::No {
-            cause: NoCause::Waiting,
-        },
-        "no waiting\n",
-    )?;
-    is_written(
-        &rt,
-        alloc,
-        Entry::No {
-            cause: NoCause::Empty,
-        },
-        "no empty\n",
-    )?;
-    is_written(
-        &rt,
-        alloc,
-        Entry::No {
-            cause: NoCause::Beyond { bits: 71 },
-        },
-        "no beyond 71\n",
-    )?;
+    for (cause, line) in [
+        (NoCause::Off, "no off\n"),
+        (NoCause::Running, "no running\n"),
+        (NoCause::Inactive, "no inactive\n"),
+        (NoCause::NotUp, "no not-up\n"),
+        (NoCause::Waiting, "no waiting\n"),
+        (NoCause::Empty, "no empty\n"),
+        (NoCause::Beyond { bits: 71 }, "no beyond 71\n"),
+    ] {
+        is_written(&rt, rt.alloc(), Entry::No { cause }, line)?;
+    }
     Ok(())
 }
 
