@@ -39,30 +39,33 @@ fn a_uicc_tries_three_times(rt: HostRuntime) {
     assert!(rt; !uicc.active());
 }
 
+/// At this event an end sent this, and its link ended or didn't.
+fn sent(rt: &impl Abort, out: ActOut, send: Option<Act>, ended_link: bool) {
+    assert_eq!(rt; (out.send, out.ended_link), (send, ended_link));
+}
+
+/// At this event an end became active and is so now, or neither.
+fn became(rt: &impl Abort, out: ActOut, active: bool, expected: bool) {
+    assert_eq!(rt; [out.became_active, active], [expected; 2]);
+}
+
 #[test]
 fn both_ends_become_active(rt: HostRuntime) {
     let mut uicc = UiccAct::new();
     let mut clf = ClfAct::new();
     let cleared = clf.step(&ActEvent::Start { value: 0 });
+    sent(&rt, cleared, None, true);
     let early = clf.step(&take(Act::Ready));
-    let before = [early.became_active, clf.active()];
+    became(&rt, early, clf.active(), false);
     uicc.step(&ActEvent::Start { value: 7 });
     let synced = clf.step(&take(Act::SyncId(7)));
-    let powered = uicc.step(&take(Act::PowerMode(0)));
-    let ready = clf.step(&take(Act::Ready));
-    let after = [
-        powered.became_active,
-        uicc.active(),
-        ready.became_active,
-        clf.active(),
-    ];
-    assert_eq!(rt; [cleared.ended_link, synced.ended_link], [true; 2]);
-    assert_eq!(rt;
-        [cleared.send, synced.send, powered.send],
-        [None, Some(Act::PowerMode(0)), Some(Act::Ready)]
-    );
+    sent(&rt, synced, Some(Act::PowerMode(0)), true);
     assert_eq!(rt; synced.sync, Some(7));
-    assert_eq!(rt; (before, after), ([false; 2], [true; 4]));
+    let powered = uicc.step(&take(Act::PowerMode(0)));
+    assert_eq!(rt; powered.send, Some(Act::Ready));
+    became(&rt, powered, uicc.active(), true);
+    let ready = clf.step(&take(Act::Ready));
+    became(&rt, ready, clf.active(), true);
 }
 
 #[test]
@@ -75,11 +78,8 @@ fn a_repeat_is_no_try(rt: HostRuntime) {
             act: Act::SyncId(9),
             again: true,
         });
-        assert!(rt; out.gave_up.is_none(), "at tick {tick}");
-        assert_eq!(rt;
-            (repeat.send, repeat.sync, repeat.ended_link),
-            (Some(Act::PowerMode(1)), None, false)
-        );
+        sent(&rt, repeat, Some(Act::PowerMode(1)), false);
+        assert_eq!(rt; (out.gave_up, repeat.sync), (None, None), "at tick {tick}");
     }
     assert_eq!(rt; clf.step(&ActEvent::Tick).gave_up, Some(3));
 }

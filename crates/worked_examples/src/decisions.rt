@@ -176,14 +176,15 @@ fn commands_are_decided(rt: HostRuntime) {
 
 /// A further pipe gets this number, and is in the tables then. Where it were 70, it is refused.
 fn creates(rt: &impl Abort, tables: &mut Tables, view: &LinkView, pid: u8) {
-    match decide(tables, view, 0x02, 0x01, &[0x10, 0x20, 0x00, 0x04]) {
+    let decision = decide(tables, view, 0x02, 0x01, &[0x10, 0x20, 0x00, 0x04]);
+    match &decision {
         Decision::Commit {
             command,
             answer,
             ..
         } => {
+            tables.apply(command);
             assert_eq!(rt; answer.last().copied(), Some(pid));
-            tables.apply(&command);
         }
         Decision::Answer(answer) => {
             assert_eq!(rt; (pid, answer.as_slice()), (0x70, [0x84].as_slice()));
