@@ -18,28 +18,36 @@ fetched_chain k pool x y is a = let P : Option (ℕ × Chain) → Type 0 = λ o.
 pub none_fetched : (k : End) (pool : PoolState) (x : Option (ℕ × Chain)) → x ≡ None → Accounts k pool (option_map (λ z. z.1) x) → Accounts k pool None
 none_fetched k pool x is a = let P : Option (ℕ × Chain) → Type 0 = λ o. Accounts k pool (option_map (λ z. z.1) o) in subst P is a
 
-pub given_back : (old new : PoolState) (k to : End) (m : Machine) (chain : Chain) → EndStandsFor k old m → k.inbox.got ≡ None
-    → Accounts k old (Some chain) → HaveOwners k to → Rests to old
-    → Gives old new chain → KeepsOthers old new chain chain → Rests k new × Rests to new
-given_back old new k to m chain h none a differ r gives keeps =
-    let own = given_own old new k m chain h a gives keeps in
-    let other = given_beside old new k to r.state chain None a gives keeps differ r.stands r.accounts in (
-      record { state = m; stands = own.0; fetched = none; accounts = own.1 },
+-- an end fetched this message, which lies in a chain of the pool in which the other end is at rest
+pub record HasFetched (pool : PoolState) (k to : End) (m : Machine) (chain : Chain) : Type 0 where
+  pub stands : EndStandsFor k pool m
+  pub none_left : k.inbox.got ≡ None
+  pub accounts : Accounts k pool (Some chain)
+  pub owners : HaveOwners k to
+  pub rests : Rests to pool
+
+pub given_back : {old new : PoolState} {k to : End} {m : Machine} {chain : Chain} → HasFetched old k to m chain → Gives old new chain
+    → KeepsOthers old new chain chain → Rests k new × Rests to new
+given_back {old} {new} {k} {to} {m} {chain} h gives keeps =
+    let r = h.rests in
+    let own = given_own old new k m chain h.stands h.accounts gives keeps in
+    let other = given_beside old new k to r.state chain None h.accounts gives keeps h.owners r.stands r.accounts in (
+      record { state = m; stands = own.0; fetched = h.none_left; accounts = own.1 },
       record { state = r.state; stands = other.0; fetched = r.fetched; accounts = other.1 },
     )
 
-pub passed_on : (old new : PoolState) (k to after : End) (m n : Machine) (chain : Chain) → EndStandsFor k old m → k.inbox.got ≡ None
-    → Accounts k old (Some chain) → HaveOwners k to → Rests to old
-    → EndStandsFor after new n → after.inbox ≡ to.inbox → LeavesOthersBut old new to.outbox.owner chain to.outbox.queue.items after.outbox.queue.items
+pub passed_on : {old new : PoolState} {k to after : End} {m n : Machine} {chain : Chain} → HasFetched old k to m chain → EndStandsFor after new n
+    → after.inbox ≡ to.inbox → LeavesOthersBut old new to.outbox.owner chain to.outbox.queue.items after.outbox.queue.items
     → Rests k new × Rests after new
-passed_on old new k to after m n chain h none a differ r stands inbox leaves =
-    let giver = passed_giver old new k to after m r.state chain h a differ r.stands leaves in (
-      record { state = m; stands = giver.0; fetched = none; accounts = giver.1 },
+passed_on {old} {new} {k} {to} {after} {m} {n} {chain} h stands inbox leaves =
+    let r = h.rests in
+    let giver = passed_giver old new k to after m r.state chain h.stands h.accounts h.owners r.stands leaves in (
+      record { state = m; stands = giver.0; fetched = h.none_left; accounts = giver.1 },
       record {
         state = n;
         stands = stands;
         fetched = ap (λ (b : Inbox). b.got) inbox ∙ r.fetched;
-        accounts = passed_taker old new k to after r.state chain None a differ r.stands r.accounts inbox leaves;
+        accounts = passed_taker old new k to after r.state chain None h.accounts h.owners r.stands r.accounts inbox leaves;
       },
     )
 
