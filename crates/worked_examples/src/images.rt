@@ -3,6 +3,7 @@ ghost use Rattle.std.specs.Prelude.{◌≡◌, length};
 
 use crate::memories::memory;
 use nv_journal::{Journal, JournalFault};
+use std::process::Abort;
 use std::test::Fail;
 use swp_base::MemNv;
 
@@ -16,8 +17,16 @@ fn found(nv: MemNv) -> Result<(u32, u8, u32), JournalFault>
     }
 }
 
+/// This is what the journal of a memory says.
+fn finds(rt: &impl Abort, nv: MemNv, wanted: Result<(u32, u8, u32), JournalFault>)
+    requires { length nv.content ≡ 65536 }
+{
+    assert_eq!(rt; found(nv), wanted);
+}
+
 #[test]
 fn a_start_finds_what_the_image_says(rt: HostRuntime) -> Result<(), Fail> {
+    let alloc = rt.alloc();
     // version 01: a sync identifier and an opened pipe, the gate at 24 closed
     let old: [u8; 25] = [
         0x5A, 1, 0, 0, 0, 1, 0, 0, 0, 0, 0, 0, 0x5A, 4, 6, 2, 0x1A, 0x2B, 0x5A, 4, 4, 2, 1, 1, 0xFF,
@@ -35,18 +44,14 @@ fn a_start_finds_what_the_image_says(rt: HostRuntime) -> Result<(), Fail> {
     ];
     let mut moved = new;
     moved[23] = 2;
-    let cases: [(&[u8], Result<(u32, u8, u32), JournalFault>); 6] = [
-        (&[], Ok((0, 2, 32_756))),
-        (&old, Ok((2, 1, 32_744))),
-        (&unknown, Err(JournalFault::UnknownFormat { version: 7 })),
-        (&long, Err(JournalFault::BadRecord { at: 24 })),
-        (&new, Ok((2, 2, 32_740))),
-        (&moved, Err(JournalFault::BadRecord { at: 20 })),
-    ];
-    for (image, want) in cases {
-        assert!(rt; image.len() <= 64);
-        let nv = memory(rt.alloc(), image)?;
-        assert_eq!(rt; found(nv), want);
-    }
+    let version = JournalFault::UnknownFormat { version: 7 };
+    let length = JournalFault::BadRecord { at: 24 };
+    let position = JournalFault::BadRecord { at: 20 };
+    finds(&rt, memory(alloc, &[])?, Ok((0, 2, 32_756)));
+    finds(&rt, memory(alloc, &old)?, Ok((2, 1, 32_744)));
+    finds(&rt, memory(alloc, &unknown)?, Err(version));
+    finds(&rt, memory(alloc, &long)?, Err(length));
+    finds(&rt, memory(alloc, &new)?, Ok((2, 2, 32_740)));
+    finds(&rt, memory(alloc, &moved)?, Err(position));
     Ok(())
 }

@@ -44,6 +44,16 @@ fn answers(rt: &impl Abort, node: &mut Node, frame: &[u8], reply: &[u8]) {
     takes(rt, node, frame, NOTHING, reply);
 }
 
+/// The end takes a frame, ends the session for what it carries, sends nothing, and is Down.
+fn ends(rt: &impl Abort, node: &mut Node, frame: &[u8]) {
+    let over = LinkReport {
+        ended: Some(Cause::Chain),
+        ..NOTHING
+    };
+    takes(rt, node, frame, over, &[]);
+    assert!(rt; node.state() == LinkState::Down);
+}
+
 /// The end is given a message on pipe 01 to send, and takes it or refuses it so.
 fn offers(rt: &impl Abort, node: &mut Node, message: &[u8], answer: Result<(), SendRefused>)
     requires { 0 < length message.now }
@@ -52,11 +62,10 @@ fn offers(rt: &impl Abort, node: &mut Node, message: &[u8], answer: Result<(), S
 }
 
 /// What a row of frames did at the end that they came to.
-#[derive(Clone, Copy, Debug, PartialEq, Eq)]
+#[derive(Clone, Copy)]
 struct Seen {
     frames: u16,
     acked: u16,
-    messages: u16,
     last: Option<Message>,
     began: bool,
     became_active: bool,
@@ -69,7 +78,6 @@ impl Seen {
         Seen {
             frames: 0,
             acked: 0,
-            messages: 0,
             last: None,
             began: false,
             became_active: false,
@@ -87,7 +95,6 @@ impl Seen {
         self.sync = self.sync.or(report.sync);
         self.ended = self.ended.or(report.ended);
         if told.message.is_some() {
-            self.messages = self.messages.saturating_add(1);
             self.last = told.message;
         }
     }
@@ -275,12 +282,7 @@ fn a_fifth_message_under_way_ends_the_session(rt: HostRuntime) -> Result<(), NoM
     answers(&rt, &mut node, &[0x88, 0x03, 0x41], &[0xC2]);
     answers(&rt, &mut node, &[0x90, 0x04, 0x41], &[0xC3]);
     answers(&rt, &mut node, &[0x98, 0x05, 0x41], &[0xC4]);
-    let over = LinkReport {
-        ended: Some(Cause::Chain),
-        ..NOTHING
-    };
-    takes(&rt, &mut node, &[0xA0, 0x06, 0x41], over, &[]);
-    assert!(rt; node.state() == LinkState::Down);
+    ends(&rt, &mut node, &[0xA0, 0x06, 0x41]);
     Ok(())
 }
 
@@ -294,12 +296,7 @@ fn a_message_of_4097_bytes_ends_the_session(rt: HostRuntime) -> Result<(), NoMem
         answers(&rt, &mut node, &frame, &[0xC0 + (number + 1) % 8]);
     }
     frame[0] = 0x80 + 8 * 2;
-    let over = LinkReport {
-        ended: Some(Cause::Chain),
-        ..NOTHING
-    };
-    takes(&rt, &mut node, &frame[..11], over, &[]);
-    assert!(rt; node.state() == LinkState::Down);
+    ends(&rt, &mut node, &frame[..11]);
     Ok(())
 }
 

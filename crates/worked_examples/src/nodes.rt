@@ -23,7 +23,7 @@ pub struct Message {
 }
 
 /// What an input did, and the message that came with it.
-#[derive(Clone, Copy, Debug, PartialEq, Eq)]
+#[derive(Clone, Copy)]
 pub struct Told {
     pub report: LinkReport,
     pub message: Option<Message>,
@@ -42,7 +42,7 @@ pub const NOTHING: LinkReport = LinkReport {
 };
 
 /// In which form a frame comes to an end.
-#[derive(Clone, Copy, Debug, PartialEq, Eq)]
+#[derive(Clone, Copy)]
 pub enum Form {
     Lpdus,
     Periods,
