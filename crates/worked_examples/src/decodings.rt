@@ -1,6 +1,5 @@
 //! Worked records.
 use std::process::Abort;
-use std::test::Fail;
 use swp_decode::{Decoder, Text};
 
 /// The frame of `C1` on S1.
@@ -73,27 +72,24 @@ fn gives_the_same(rt: &impl Abort, record: &[u8]) -> usize {
 }
 
 #[test]
-fn frame_is_decoded(rt: HostRuntime) -> Result<(), Fail> {
+fn frame_is_decoded(rt: HostRuntime) {
     gives(&rt, &RECORD, "s1 0 C1 rr 1\n");
-    Ok(())
 }
 
 #[test]
-fn invalid_byte_breaks_a_frame(rt: HostRuntime) -> Result<(), Fail> {
+fn invalid_byte_breaks_a_frame(rt: HostRuntime) {
     let mut record = RECORD;
     record[11] = 0x7F;
     gives(&rt, &record, "s1 0 broken\n");
-    Ok(())
 }
 
 #[test]
-fn part_of_a_frame_gives_nothing(rt: HostRuntime) -> Result<(), Fail> {
+fn part_of_a_frame_gives_nothing(rt: HostRuntime) {
     gives(&rt, &RECORD[..20], "");
-    Ok(())
 }
 
 #[test]
-fn both_wires_are_decoded(rt: HostRuntime) -> Result<(), Fail> {
+fn both_wires_are_decoded(rt: HostRuntime) {
     // The same bits on both wires; the first 0 is only read in.
     let mut record = RECORD;
     for byte in record.iter_mut() {
@@ -102,11 +98,10 @@ fn both_wires_are_decoded(rt: HostRuntime) -> Result<(), Fail> {
         }
     }
     gives(&rt, &record[1..], "s1 0 C1 rr 1\ns2 0 C1 rr 1\n");
-    Ok(())
 }
 
 #[test]
-fn marks_at_each_place_of_a_word_are_decoded(rt: HostRuntime) -> Result<(), Fail> {
+fn marks_at_each_place_of_a_word_are_decoded(rt: HostRuntime) {
     for place in 0..64 {
         for later in [0, 5, 64] {
             for record in [placed(place, place + later), placed(place + later, place)] {
@@ -114,11 +109,10 @@ fn marks_at_each_place_of_a_word_are_decoded(rt: HostRuntime) -> Result<(), Fail
             }
         }
     }
-    Ok(())
 }
 
 #[test]
-fn many_bytes_are_decoded_as_each_is(rt: HostRuntime) -> Result<(), Fail> {
+fn many_bytes_are_decoded_as_each_is(rt: HostRuntime) {
     let text = decoded_by_many(&rt, &placed(64, 64));
     assert_eq!(rt;
         text.as_slice(),
@@ -129,5 +123,4 @@ fn many_bytes_are_decoded_as_each_is(rt: HostRuntime) -> Result<(), Fail> {
         record[place] = byte;
         let _len = gives_the_same(&rt, &record);
     }
-    Ok(())
 }

@@ -1,6 +1,5 @@
 //! Worked frames.
 use std::process::Abort;
-use std::test::Fail;
 use swp_base::{FrameFault, Lpdu};
 use swp_frame::{Deframer, Fed, FrameBits, write_frame};
 
@@ -29,43 +28,41 @@ fn is_spelled(frame: &FrameBits, bits: &[u8]) -> bool {
 }
 
 #[test]
-fn frames_are_spelled(rt: HostRuntime) -> Result<(), Fail> {
-    let e6 = Lpdu::from_bytes(&[0xE6]).ok_or("short")?;
+fn frames_are_spelled(rt: HostRuntime) {
+    let e6 = Lpdu::new(&[0xE6]);
     assert!(rt;
         is_spelled(
             &write_frame(&e6),
             b"01111110111001101000001111100011101111111"
         )
     );
-    let dd = Lpdu::from_bytes(&[0xDD]).ok_or("short")?;
+    let dd = Lpdu::new(&[0xDD]);
     assert!(rt;
         is_spelled(
             &write_frame(&dd),
             b"01111110110111010000010011011111001111111"
         )
     );
-    Ok(())
 }
 
 #[test]
-fn frames_are_read(rt: HostRuntime) -> Result<(), Fail> {
-    let e6 = Lpdu::from_bytes(&[0xE6]).ok_or("short")?;
+fn frames_are_read(rt: HostRuntime) {
+    let e6 = Lpdu::new(&[0xE6]);
     gives(
         &rt,
         b"01111110111001101000001111100011101111111",
         Fed::Frame(e6),
     );
-    let dd = Lpdu::from_bytes(&[0xDD]).ok_or("short")?;
+    let dd = Lpdu::new(&[0xDD]);
     gives(
         &rt,
         b"01111110110111010000010011011111001111111",
         Fed::Frame(dd),
     );
-    Ok(())
 }
 
 #[test]
-fn word_tells_its_marks_and_stuffed_zeros(rt: HostRuntime) -> Result<(), Fail> {
+fn word_tells_its_marks_and_stuffed_zeros(rt: HostRuntime) {
     let mut deframer = Deframer::new();
     // A start of frame, five 1 bits, and at the end four.
     let first = deframer.word(0x7EF8_0000_0000_000F);
@@ -84,22 +81,20 @@ fn word_tells_its_marks_and_stuffed_zeros(rt: HostRuntime) -> Result<(), Fail> {
     assert!(rt; before_start);
     let alignment = Fed::Refused(FrameFault::Alignment { bits: 50 });
     assert_eq!(rt; [start, end], [Fed::Nothing, alignment]);
-    Ok(())
 }
 
 #[test]
-fn last_stuffed_zero_may_be_absent(rt: HostRuntime) -> Result<(), Fail> {
-    let dd = Lpdu::from_bytes(&[0xDD]).ok_or("short")?;
+fn last_stuffed_zero_may_be_absent(rt: HostRuntime) {
+    let dd = Lpdu::new(&[0xDD]);
     gives(
         &rt,
         b"0111111011011101000001001101111101111111",
         Fed::Frame(dd),
     );
-    Ok(())
 }
 
 #[test]
-fn faulty_frames_are_refused(rt: HostRuntime) -> Result<(), Fail> {
+fn faulty_frames_are_refused(rt: HostRuntime) {
     // In the first of them the end shares a 0 with the start.
     let rows: [(&[u8], FrameFault); 4] = [
         (b"011111101111111", FrameFault::Length { bits: 0 }),
@@ -120,7 +115,6 @@ fn faulty_frames_are_refused(rt: HostRuntime) -> Result<(), Fail> {
         gives(&rt, bits, Fed::Refused(fault));
     }
     gives(&rt, b"01111111", Fed::Nothing);
-    Ok(())
 }
 
 /// A break gives this.
@@ -129,7 +123,7 @@ fn break_gives(rt: &impl Abort, deframer: &mut Deframer, fed: Fed) {
 }
 
 #[test]
-fn break_refuses_an_open_frame_alone(rt: HostRuntime) -> Result<(), Fail> {
+fn break_refuses_an_open_frame_alone(rt: HostRuntime) {
     let mut deframer = Deframer::new();
     break_gives(&rt, &mut deframer, Fed::Nothing);
     for bit in b"1111110" {
@@ -137,5 +131,4 @@ fn break_refuses_an_open_frame_alone(rt: HostRuntime) -> Result<(), Fail> {
     }
     break_gives(&rt, &mut deframer, Fed::Refused(FrameFault::Broken));
     break_gives(&rt, &mut deframer, Fed::Nothing);
-    Ok(())
 }

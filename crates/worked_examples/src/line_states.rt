@@ -1,8 +1,7 @@
-use std::test::Fail;
 use swp_line::*;
 
 #[test]
-fn states_over_a_record(rt: HostRuntime) -> Result<(), Fail> {
+fn states_over_a_record(rt: HostRuntime) {
     let mut line = LineTracker::new();
     assert_eq!(rt; line.state(), LineState::Deactivated);
     // Bits, a suspended line, an invalid byte, and a deactivated line.
@@ -15,5 +14,4 @@ fn states_over_a_record(rt: HostRuntime) -> Result<(), Fail> {
         let _period = line.step(byte);
         assert_eq!(rt; line.state(), state, "{byte}");
     }
-    Ok(())
 }

@@ -1,7 +1,6 @@
 ghost use Rattle.swp_lpdu.specs.Controls.{HasNumbers};
 
 use std::process::Abort;
-use std::test::Fail;
 use swp_base::{Act, Control, Info, Kind, Lpdu};
 use swp_lpdu::{LpduFault, read_lpdu, write_lpdu};
 
@@ -70,9 +69,8 @@ fn is_written(rt: &impl Abort, control: Control, bytes: &[u8])
 }
 
 #[test]
-fn an_information_frame_has_its_numbers_and_its_field(rt: HostRuntime) -> Result<(), Fail> {
+fn an_information_frame_has_its_numbers_and_its_field(rt: HostRuntime) {
     let info = Info::new(&[0x81, 0x03]);
     is_written(&rt, Control::I { ns: 1, nr: 2, info }, &[0x8A, 0x81, 0x03]);
     is_written(&rt, Control::Clt, &[0x40]);
-    Ok(())
 }

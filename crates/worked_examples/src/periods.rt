@@ -1,8 +1,7 @@
-use std::test::Fail;
 use swp_line::*;
 
 #[test]
-fn periods_of_the_table(rt: HostRuntime) -> Result<(), Fail> {
+fn periods_of_the_table(rt: HostRuntime) {
     let first = Period::Bits {
         s1: true,
         s2: false,
@@ -20,5 +19,4 @@ fn periods_of_the_table(rt: HostRuntime) -> Result<(), Fail> {
         assert_eq!(rt; period_of(byte), period);
     }
     assert_eq!(rt; byte_of(&Period::ResumeAsked), 0xFF);
-    Ok(())
 }

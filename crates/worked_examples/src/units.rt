@@ -1,6 +1,5 @@
 use byte_link::{ByteLink, Unit, write_unit};
 use std::process::Abort;
-use std::test::Fail;
 use swp_base::{FrameFault, Lpdu};
 
 /// What the last of these bytes gives to a new link.
@@ -19,8 +18,8 @@ fn gives(rt: &impl Abort, bytes: &[u8], unit: Unit) {
 }
 
 #[test]
-fn units_are_read(rt: HostRuntime) -> Result<(), Fail> {
-    let c1 = Lpdu::from_bytes(&[0xC1]).ok_or("short")?;
+fn units_are_read(rt: HostRuntime) {
+    let c1 = Lpdu::new(&[0xC1]);
     gives(&rt, &[0x00, 0x01, 0xC1, 0xD7, 0x62], Unit::Frame(c1));
     gives(&rt, &[0x00, 0x00], Unit::Tick);
     let length = FrameFault::Length { bits: 248 };
@@ -32,13 +31,11 @@ fn units_are_read(rt: HostRuntime) -> Result<(), Fail> {
     };
     gives(&rt, &[0x00, 0x01, 0xC1, 0xD7, 0x63], Unit::Refused(differs));
     gives(&rt, &[0x00, 0x01, 0xC1, 0xD7, 0x63, 0x00, 0x00], Unit::Tick);
-    Ok(())
 }
 
 #[test]
-fn unit_is_spelled(rt: HostRuntime) -> Result<(), Fail> {
-    let sync = Lpdu::from_bytes(&[0x61, 0x00, 0x01]).ok_or("short")?;
+fn unit_is_spelled(rt: HostRuntime) {
+    let sync = Lpdu::new(&[0x61, 0x00, 0x01]);
     let unit = [0x00, 0x03, 0x61, 0x00, 0x01, 0x8F, 0x19];
     assert_eq!(rt; write_unit(&sync).as_slice(), unit.as_slice());
-    Ok(())
 }
