@@ -45,19 +45,19 @@ fn control_bytes_say_what_the_table_says(rt: HostRuntime) {
     says(&rt, &[0x5F, 9], Control::Clt);
 }
 
+/// These bytes are refused so.
+fn is_refused(rt: &impl Abort, bytes: &[u8], fault: LpduFault) {
+    assert_eq!(rt; read(bytes), Some(Err(fault)));
+}
+
 #[test]
 fn refusals_say_what_is_wrong(rt: HostRuntime) {
-    let rows: [(&[u8], LpduFault); 6] = [
-        (&[0x00, 1], LpduFault::Unknown { byte: 0x00 }),
-        (&[0x63, 1], LpduFault::Unknown { byte: 0x63 }),
-        (&[0xFF, 1], LpduFault::Unknown { byte: 0xFF }),
-        (&[0x61, 1], LpduFault::Short { need: 3, got: 2 }),
-        (&[0xC1, 0], LpduFault::TooLong { got: 2 }),
-        (&[0x80], LpduFault::Short { need: 2, got: 1 }),
-    ];
-    for (bytes, fault) in rows {
-        assert_eq!(rt; read(bytes), Some(Err(fault)));
-    }
+    is_refused(&rt, &[0x00, 1], LpduFault::Unknown { byte: 0x00 });
+    is_refused(&rt, &[0x63, 1], LpduFault::Unknown { byte: 0x63 });
+    is_refused(&rt, &[0xFF, 1], LpduFault::Unknown { byte: 0xFF });
+    is_refused(&rt, &[0x61, 1], LpduFault::Short { need: 3, got: 2 });
+    is_refused(&rt, &[0xC1, 0], LpduFault::TooLong { got: 2 });
+    is_refused(&rt, &[0x80], LpduFault::Short { need: 2, got: 1 });
 }
 
 /// The control is written as these bytes, and they are read as it again.

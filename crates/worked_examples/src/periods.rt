@@ -2,21 +2,24 @@ use swp_line::*;
 
 #[test]
 fn periods_of_the_table(rt: HostRuntime) {
-    let first = Period::Bits {
+    let one_on_s1 = Period::Bits {
         s1: true,
         s2: false,
     };
-    let second = Period::Bits {
+    let one_on_s2 = Period::Bits {
         s1: false,
         s2: true,
     };
-    for (byte, period) in [
-        (0x54, Some(first)),
-        (0xC0, Some(second)),
-        (0x00, Some(Period::Deactivated)),
-        (0x7F, None),
-    ] {
-        assert_eq!(rt; period_of(byte), period);
-    }
+    let periods = [
+        period_of(0x54),
+        period_of(0xC0),
+        period_of(0x00),
+        period_of(0x7F),
+    ];
+    let deactivated = Period::Deactivated;
+    assert_eq!(rt;
+        periods,
+        [Some(one_on_s1), Some(one_on_s2), Some(deactivated), None]
+    );
     assert_eq!(rt; byte_of(&Period::ResumeAsked), 0xFF);
 }
