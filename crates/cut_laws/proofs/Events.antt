@@ -41,7 +41,7 @@ use Rattle.kept_laws.proofs.Sites.{site_found}
 use Rattle.kept_laws.proofs.Events.{no_order, comes_goes}
 use Rattle.kept_laws.proofs.Reckoned.{IsNothingFor, other_idles}
 use Rattle.cut_laws.specs.Histories.{FindsExactly, begun_by, reckoned_within, IsBootedBy, IsCutAsPlanned}
-use Rattle.cut_laws.proofs.Standing.{Stands, exact_idle}
+use Rattle.cut_laws.proofs.Standing.{Stands, exact_idle, stands_same}
 use Rattle.cut_laws.proofs.Worlds.{IsThere, StandsAt, ExactAt, plain_exact, none_exact, controller_exact, host_exact}
 use Rattle.cut_laws.proofs.Powers.{booting, boot_cut, boot_found, boot_run, cut_stands, armed_stands}
 use Rattle.cut_laws.proofs.Places.{IsSameAt, same_then, same_memory, same_node, same_loses, IsNowAt, now_memory, now_node, now_loses, runs_of}
@@ -201,8 +201,8 @@ module _ (hosts : List ℕ) (are : AreHosts hosts) (n : ℕ) where
   same_exact : (t : List Entry) (r : Reckoning) (w v : NodeWorld) (es : List Entry) → IsSameAt n w v → AllByRecursion (IsNothingFor n) es → StandsAt n t r w
       → ExactAt n t r (v, es)
   same_exact t r w v es a idle stands = record {
-    exact = exact_idle n t r es (memory_at w n) (memory_at v n) (node_at w n) (node_at v n) stands idle a.memory
-        (ap is_some a.node);
+    exact = exact_idle n t r es (memory_at v n) (node_at v n)
+        (stands_same n t r (memory_at w n) (memory_at v n) (node_at w n) (node_at v n) stands a.memory (ap is_some a.node)) idle;
     there = a.there;
   }
 

@@ -54,25 +54,6 @@ least : (lost : Bool) (many all : ℕ) → FindsBy lost many all → many ≤ al
 least true many all is = omega (arith, is)
 least false many all is = omega (arith, is)
 
--- what is known of a node that runs so
-pub runs_stands : (n : ℕ) (links : List ℕ) (t : List Entry) (m : Memory) (q : Running) (r : Reckoning) → RunsSo n links m.content t q
-    → r.runs ≡ true → r.book ≡ book_in t n → r.memory ≡ m → r.due ≡ false → r.lost ≡ false → Stands n t r m (Some q)
-runs_stands n links t m q r k on book memory none found_all = record {
-  runs_is = on;
-  book_is = book;
-  memory_is = memory;
-  none_due = none;
-  none_lost = λ on. found_all;
-  many = length r.book.commands;
-  which = subst (λ b. FindsBy b (length r.book.commands) (length r.book.commands)) (sym found_all) refl;
-  finds = all_found m.content r.book.commands
-      (subst (λ x. BootFinds m.content (after_commands no_tables r.book.commands) x)
-      (k.count_is ∙ ap (λ (b : Book). min (length b.commands) (2 ^ 32 - 1)) (sym book))
-      (finds_closed m.content q.core.tables (after_commands no_tables r.book.commands) (count_of q.core.journal) k.knows.finds
-      (ap close k.tables_are ∙ closed_book t n ∙ ap (λ (b : Book). close (after_commands no_tables b.commands)) (sym book))));
-  used = λ on. used_of m.content q.core.journal q.core.tables k.knows;
-}
-
 module _ (n : ℕ) (t : List Entry) (r : Reckoning) (m : Memory) where
   -- as a boot of the node begins
   abbrev pub booting : Reckoning
@@ -114,16 +95,37 @@ module _ (n : ℕ) (t : List Entry) (r : Reckoning) (m : Memory) where
   pub boot_run : (links : List ℕ) (k : ℕ) (node : Option Running) (q : Running) → Stands n t r m node
       → RunsSo n links (after_planned (boot_writes m.content) m).content (t ++ entry.Booted n k ∷ []) q
       → Stands n (t ++ entry.Booted n k ∷ []) (fold (reckoned n) booting (entry.Booted n k ∷ [])) (after_planned (boot_writes m.content) m) (Some q)
-  boot_run links k node q s runs =
-      runs_stands n links (t ++ entry.Booted n k ∷ []) (after_planned (boot_writes m.content) m) q (fold (reckoned n) booting (entry.Booted n k ∷ [])) runs
-      (ap (λ (x : Reckoning). x.runs) booted_is)
-      (book_then n t booting (entry.Booted n k ∷ []) s.book_is)
-      (ap (λ (x : Reckoning). x.memory) booted_is ∙ booting_memory s.memory_is)
-      (ap (λ (x : Reckoning). x.due) booted_is ∙ s.none_due)
-      (ap (λ (x : Reckoning). x.lost) booted_is)
+  boot_run links k node q s runs = record {
+    runs_is = ap (λ (x : Reckoning). x.runs) booted_is;
+    book_is = book;
+    memory_is = ap (λ (x : Reckoning). x.memory) booted_is ∙ booting_memory s.memory_is;
+    none_due = ap (λ (x : Reckoning). x.due) booted_is ∙ s.none_due;
+    none_lost = λ on. none;
+    many = length now.book.commands;
+    which = subst (λ b. FindsBy b (length now.book.commands) (length now.book.commands)) (sym none) refl;
+    finds = all_found content now.book.commands
+        (subst (λ x. BootFinds content (after_commands no_tables now.book.commands) x)
+        (runs.count_is ∙ ap (λ (b : Book). min (length b.commands) (2 ^ 32 - 1)) (sym book))
+        (finds_closed content q.core.tables (after_commands no_tables now.book.commands) (count_of q.core.journal) runs.knows.finds
+        (ap close runs.tables_are ∙ closed_book (t ++ entry.Booted n k ∷ []) n
+        ∙ ap (λ (b : Book). close (after_commands no_tables b.commands)) (sym book))));
+    used = λ on. used_of content q.core.journal q.core.tables runs.knows;
+  }
     where
+      now : Reckoning
+      now = fold (reckoned n) booting (entry.Booted n k ∷ [])
+
+      content : List ℕ
+      content = (after_planned (boot_writes m.content) m).content
+
+      book : now.book ≡ book_in (t ++ entry.Booted n k ∷ []) n
+      book = book_then n t booting (entry.Booted n k ∷ []) s.book_is
+
       booted_is : fold (reckoned n) booting (entry.Booted n k ∷ []) ≡ record booting { runs = true; book = with_found k r.book; lost = false }
       booted_is = ap (λ b. cond b (record booting { runs = true; book = with_found k r.book; lost = false }) booting) (eq-eqb n n refl)
+
+      none : now.lost ≡ false
+      none = ap (λ (x : Reckoning). x.lost) booted_is
 
   -- the power of the node is cut while it runs
   pub cut_stands : (q : Running) → Stands n t r m (Some q) → Stands n (t ++ entry.Cut n ∷ []) (fold (reckoned n) r (entry.Cut n ∷ [])) m None

@@ -92,31 +92,44 @@ still_booted n t es none =
 
 -- ## Nothing of the node
 
-pub exact_idle : (n : ℕ) (t : List Entry) (r : Reckoning) (es : List Entry) (m k : Memory) (node later : Option Running) → Stands n t r m node
-    → AllByRecursion (IsNothingFor n) es → k ≡ m → is_some later ≡ is_some node → Exact n t r es k later
-exact_idle n t r es m k node later s all memory runs =
+pub exact_idle : (n : ℕ) (t : List Entry) (r : Reckoning) (es : List Entry) (m : Memory) (node : Option Running) → Stands n t r m node
+    → AllByRecursion (IsNothingFor n) es → Exact n t r es m node
+exact_idle n t r es m node s all =
     let same : fold (reckoned n) r es ≡ r = idle_fold n r es all in
     record {
       each = idle_each n r es s.none_due all;
       stands = record {
-        runs_is = ap (λ (x : Reckoning). x.runs) same ∙ s.runs_is ∙ sym runs;
+        runs_is = ap (λ (x : Reckoning). x.runs) same ∙ s.runs_is;
         book_is = book_then n t r es s.book_is;
-        memory_is = ap (λ (x : Reckoning). x.memory) same ∙ s.memory_is ∙ sym memory;
+        memory_is = ap (λ (x : Reckoning). x.memory) same ∙ s.memory_is;
         none_due = ap (λ (x : Reckoning). x.due) same ∙ s.none_due;
-        none_lost = λ on. ap (λ (x : Reckoning). x.lost) same ∙ s.none_lost (sym runs ∙ on);
+        none_lost = λ on. ap (λ (x : Reckoning). x.lost) same ∙ s.none_lost on;
         many = s.many;
         which = subst (λ (x : Reckoning). FindsBy x.lost s.many (length x.book.commands)) (sym same) s.which;
-        finds = subst (λ (x : Reckoning). FindsMany k.content x.book.commands s.many) (sym same)
-            (subst (λ (x : Memory). FindsMany x.content r.book.commands s.many) (sym memory) s.finds);
-        used = λ on.
-            subst (λ (x : Memory). IsSome (current x.content)) (sym memory) (s.used (sym (still_booted n t es (none_boots n r es all)) ∙ on));
+        finds = subst (λ (x : Reckoning). FindsMany m.content x.book.commands s.many) (sym same) s.finds;
+        used = λ on. s.used (sym (still_booted n t es (none_boots n r es all)) ∙ on);
       };
     }
 
-pub exact_then : (n : ℕ) (t : List Entry) (r : Reckoning) (xs ys : List Entry) (m k : Memory) (node later : Option Running) → Exact n t r xs m node
+-- so a node stands that has the same memory, and runs or not as before
+pub stands_same : (n : ℕ) (t : List Entry) (r : Reckoning) (m k : Memory) (node later : Option Running) → Stands n t r m node → k ≡ m
+    → is_some later ≡ is_some node → Stands n t r k later
+stands_same n t r m k node later s memory runs = subst (λ x. Stands n t r x later) (sym memory) (record {
+  runs_is = s.runs_is ∙ sym runs;
+  book_is = s.book_is;
+  memory_is = s.memory_is;
+  none_due = s.none_due;
+  none_lost = λ on. s.none_lost (sym runs ∙ on);
+  many = s.many;
+  which = s.which;
+  finds = s.finds;
+  used = s.used;
+})
+
+pub exact_then : (n : ℕ) (t : List Entry) (r : Reckoning) (xs ys : List Entry) (k : Memory) (later : Option Running) → EachIsAsRead n r xs
     → Exact n (t ++ xs) (fold (reckoned n) r xs) ys k later → Exact n t r (xs ++ ys) k later
-exact_then n t r xs ys m k node later a b = record {
-  each = each_more n r xs ys a.each b.each;
+exact_then n t r xs ys k later each b = record {
+  each = each_more n r xs ys each b.each;
   stands = subst (λ l. Stands n l (fold (reckoned n) r (xs ++ ys)) k later) (append_assoc t xs ys)
       (subst (λ x. Stands n ((t ++ xs) ++ ys) x k later) (sym (fold_more n r xs ys)) b.stands);
 }
@@ -318,9 +331,8 @@ module _ (n : ℕ) (links : List ℕ) (t : List Entry) (m : Memory) (q : Running
     where
       then_more : Exact n t start k.entries (after_planned k.writes m) (runs_on k) → Exact n t start (k.entries ++ more) (after_planned k.writes m) (runs_on k)
       then_more one =
-          exact_then n t start k.entries more (after_planned k.writes m) (after_planned k.writes m) (runs_on k) (runs_on k) one
-          (exact_idle n (t ++ k.entries) (fold (reckoned n) start k.entries) more (after_planned k.writes m) (after_planned k.writes m) (runs_on k) (runs_on k)
-          one.stands all refl refl)
+          exact_then n t start k.entries more (after_planned k.writes m) (runs_on k) one.each
+          (exact_idle n (t ++ k.entries) (fold (reckoned n) start k.entries) more (after_planned k.writes m) (runs_on k) one.stands all)
 
       by_case : GoesOn_or_lost n links m t k → Exact n t start (k.entries ++ more) (after_planned k.writes m) (runs_on k)
       by_case (inl run) = then_more (step_runs k run.0)

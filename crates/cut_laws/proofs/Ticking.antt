@@ -34,7 +34,7 @@ use Rattle.cut_laws.proofs.Worlds.{IsThere, StandsAt, ExactAt, stands_far, exact
 -- one part of an event, and another
 pub exact_both : (n : ℕ) (t : List Entry) (r : Reckoning) (p q : NodeWorld × List Entry) → ExactAt n t r p
     → ExactAt n (t ++ p.1) (fold (reckoned n) r p.1) q → ExactAt n t r (q.0, p.1 ++ q.1)
-exact_both n t r p q a b = record { exact = exact_then n t r p.1 q.1 _ _ _ _ a.exact b.exact; there = b.there }
+exact_both n t r p q a b = record { exact = exact_then n t r p.1 q.1 _ _ a.exact.each b.exact; there = b.there }
 
 -- ## Hosts
 
@@ -52,7 +52,7 @@ host_ticked t s is k = by_node s.node refl k where
       subst (HostTicks t s) (sym off_is) (record {
         own = tt;
         host = refl;
-        exact = λ r a. exact_idle s.host t r [] s.memory s.memory s.node s.node a tt refl refl;
+        exact = λ r a. exact_idle s.host t r [] s.memory s.node a tt;
       })
   by_node (Some q) e k =
       let begun : Work = work_of q s.memory.plan (λ h. s.link.host) [] in
@@ -121,19 +121,19 @@ site_stands n t r (s ∷ sites) x different hosts all here a = by_host (cases_Bo
           record {
             site = first.0;
             there = cond-true (eqb first.0.host n) (Some first.0) (site_at (hosts_tick sites).0 n) (ap (λ k. eqb k n) one.host ∙ is);
-            exact = exact_then n t r first.1 (hosts_tick sites).1 first.0.memory first.0.memory first.0.node first.0.node here_exact
-                (exact_idle n (t ++ first.1) (fold (reckoned n) r first.1) (hosts_tick sites).1 first.0.memory first.0.memory first.0.node first.0.node
-                here_exact.stands (others_tick n (t ++ first.1) sites different.1 hosts.1 later_keep others) refl refl);
+            exact = exact_then n t r first.1 (hosts_tick sites).1 first.0.memory first.0.node here_exact.each
+                (exact_idle n (t ++ first.1) (fold (reckoned n) r first.1) (hosts_tick sites).1 first.0.memory first.0.node here_exact.stands
+                (others_tick n (t ++ first.1) sites different.1 hosts.1 later_keep others));
           }
       by_host (inr off) later =
           let found : site_at sites n ≡ Some x = sym (cond-false (eqb s.host n) (Some s) (site_at sites n) off) ∙ here in
           let begun : Exact n t r first.1 x.memory x.node =
-          exact_idle n t r first.1 x.memory x.memory x.node x.node a (other_idles s.host n first.1 (eqb-false s.host n off) one.own) refl refl in
+          exact_idle n t r first.1 x.memory x.node a (other_idles s.host n first.1 (eqb-false s.host n off) one.own) in
           let rest : SiteStands n (t ++ first.1) (fold (reckoned n) r first.1) (hosts_tick sites) = later found begun.stands in
           record {
             site = rest.site;
             there = cond-false (eqb first.0.host n) (Some first.0) (site_at (hosts_tick sites).0 n) (ap (λ k. eqb k n) one.host ∙ off) ∙ rest.there;
-            exact = exact_then n t r first.1 (hosts_tick sites).1 x.memory rest.site.memory x.node rest.site.node begun rest.exact;
+            exact = exact_then n t r first.1 (hosts_tick sites).1 rest.site.memory rest.site.node begun.each rest.exact;
           }
 
 -- ## A tick
@@ -210,8 +210,8 @@ module _ (hosts : List ℕ) (are : AreHosts hosts) (n : ℕ) where
     by_node (inl is) =
         subst (λ k. ExactAt k t r (v, (hosts_tick w.sites).1)) (sym is)
         (exact_near t r v (hosts_tick w.sites).1
-        (exact_idle 0 t r (hosts_tick w.sites).1 w.memory w.memory w.controller w.controller (subst (λ k. StandsAt k t r w) is stands)
-        (others_tick 0 t w.sites different are_hosts all.sites (none_zero (hosts_in w.sites) are_hosts)) refl refl))
+        (exact_idle 0 t r (hosts_tick w.sites).1 w.memory w.controller (subst (λ k. StandsAt k t r w) is stands)
+        (others_tick 0 t w.sites different are_hosts all.sites (none_zero (hosts_in w.sites) are_hosts))))
     by_node (inr far) =
         let s : Site = far.1.0 in
         let rest : SiteStands n t r (hosts_tick w.sites) =

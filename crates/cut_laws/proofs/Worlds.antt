@@ -27,7 +27,7 @@ use Rattle.kept_laws.proofs.Worlds.{IsStep, plain_frames}
 use Rattle.kept_laws.proofs.Reckoned.{IsNothingFor, plain_idles, other_idles}
 use Rattle.node_telling.proofs.Events.{site_map}
 use Rattle.node_telling.proofs.Nodes.{site_host}
-use Rattle.cut_laws.proofs.Standing.{Stands, Exact, exact_idle, exact_step}
+use Rattle.cut_laws.proofs.Standing.{Stands, Exact, exact_idle, stands_same, exact_step}
 
 -- ## Nodes of a world
 
@@ -103,17 +103,19 @@ pub plain_exact : (n : ℕ) (t : List Entry) (r : Reckoning) (w : NodeWorld) (p 
 plain_exact n t r w p a (inl is) stands =
     subst (λ k. ExactAt k t r p) (sym is)
     (exact_near t r p.0 p.1
-    (exact_idle 0 t r p.1 w.memory p.0.memory w.controller p.0.controller (subst (λ k. StandsAt k t r w) is stands) (plain_idles 0 p.1 a.plain) a.memory_is
-    a.controller))
+    (exact_idle 0 t r p.1 p.0.memory p.0.controller
+    (stands_same 0 t r w.memory p.0.memory w.controller p.0.controller (subst (λ k. StandsAt k t r w) is stands) a.memory_is a.controller)
+    (plain_idles 0 p.1 a.plain)))
 plain_exact n t r w p a (inr far) stands =
     let s : Site = far.1.0 in
     exact_far n t r p.0 p.1 (a.change s) far.0 (ap (λ l. site_at l n) a.sites ∙ site_map a.change a.host w.sites n s far.1.1)
-    (exact_idle n t r p.1 s.memory (a.change s).memory s.node (a.change s).node (stands_far n t r w s far.0 far.1.1 stands) (plain_idles n p.1 a.plain)
-    (a.memory s) (a.node s))
+    (exact_idle n t r p.1 (a.change s).memory (a.change s).node
+    (stands_same n t r s.memory (a.change s).memory s.node (a.change s).node (stands_far n t r w s far.0 far.1.1 stands) (a.memory s) (a.node s))
+    (plain_idles n p.1 a.plain))
 
 pub none_exact : (n : ℕ) (t : List Entry) (r : Reckoning) (w : NodeWorld) → IsThere w n → StandsAt n t r w → ExactAt n t r (w, [])
 none_exact n t r w there stands = record {
-  exact = exact_idle n t r [] (memory_at w n) (memory_at w n) (node_at w n) (node_at w n) stands tt refl refl;
+  exact = exact_idle n t r [] (memory_at w n) (node_at w n) stands tt;
   there = there;
 }
 
@@ -178,9 +180,9 @@ run_exact hosts n t r w p a (inl is) stands =
 run_exact hosts n t r w p a (inr far) stands =
     let s : Site = far.1.0 in
     exact_far n t r p.0 p.1 (a.change s) far.0 (ap (λ l. site_at l n) a.sites ∙ site_map a.change a.host w.sites n s far.1.1)
-    (exact_idle n t r p.1 s.memory (a.change s).memory s.node (a.change s).node (stands_far n t r w s far.0 far.1.1 stands)
-    (subst (AllByRecursion (IsNothingFor n)) (sym a.entries_are) (run_idles 0 n hosts t w.memory a.work a.more a.fine a.plain (not_zero n far.0)))
-    (a.memory s) (ap is_some (a.node s)))
+    (exact_idle n t r p.1 (a.change s).memory (a.change s).node (stands_same n t r s.memory (a.change s).memory s.node (a.change s).node
+    (stands_far n t r w s far.0 far.1.1 stands) (a.memory s) (ap is_some (a.node s)))
+    (subst (AllByRecursion (IsNothingFor n)) (sym a.entries_are) (run_idles 0 n hosts t w.memory a.work a.more a.fine a.plain (not_zero n far.0))))
 
 pub host_run_exact : (n : ℕ) (t : List Entry) (r : Reckoning) (w : NodeWorld) (h : ℕ) (p : NodeWorld × List Entry) → HostHasRun t w h p → IsThere w n
     → StandsAt n t r w → ExactAt n t r p
@@ -204,15 +206,15 @@ host_run_exact n t r w h p a there stands = subst (ExactAt n t r) (sym a.is) (by
       (subst (λ k. GoesOn_or_lost k (h ∷ []) a.site.memory t a.work) same a.fine) (plain_idles n a.more a.plain))))
   by_host off s here (inr other) =
       exact_far n t r v es s off (with_there a.change a.host w.sites h n s other here)
-      (exact_idle n t r es s.memory s.memory s.node s.node (stands_far n t r w s off here stands)
-      (run_idles h n (h ∷ []) t a.site.memory a.work a.more a.fine a.plain (eqb-false h n other)) refl refl)
+      (exact_idle n t r es s.memory s.node (stands_far n t r w s off here stands)
+      (run_idles h n (h ∷ []) t a.site.memory a.work a.more a.fine a.plain (eqb-false h n other)))
 
   by_node : IsThere w n → ExactAt n t r (v, es)
   by_node (inl is) =
       subst (λ k. ExactAt k t r (v, es)) (sym is)
       (exact_near t r v es
-      (exact_idle 0 t r es w.memory w.memory w.controller w.controller (subst (λ k. StandsAt k t r w) is stands)
-      (run_idles h 0 (h ∷ []) t a.site.memory a.work a.more a.fine a.plain (not_host h a.is_host)) refl refl))
+      (exact_idle 0 t r es w.memory w.controller (subst (λ k. StandsAt k t r w) is stands)
+      (run_idles h 0 (h ∷ []) t a.site.memory a.work a.more a.fine a.plain (not_host h a.is_host))))
   by_node (inr far) = by_host far.0 far.1.0 far.1.1 (cases_Bool (eqb h n))
 
 module _ (hosts : List ℕ) (are : AreHosts hosts) where
