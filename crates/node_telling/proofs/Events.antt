@@ -1,6 +1,6 @@
 -- Each event of a world but a tick tells of each link.
 use Rattle.std.proofs.Common.{◌≡◌, ℕ, ◌==◌, Bool, true, false, cond, List, [], ◌∷◌, ◌++◌, length, Option, Some, None, map, refl, ap, sym, subst, ◌∙◌, append-nil, append_assoc}
-use Rattle.std.specs.Prelude.{◌&&◌, ◌+◌}
+use Rattle.std.specs.Prelude.{◌&&◌}
 use Rattle.std.specs.List.{AllByRecursion}
 use Rattle.std.proofs.lemmas.Bool.{eqb-true}
 use Rattle.swp_base.specs.InMemory.{Memory}

@@ -180,10 +180,10 @@ module _ (w : NodeWorld) (r : Running) (k : ℕ) (comes : Comes) (h : ℕ) (s : 
   controller_stands i q =
       let v : Work = controller_work w r k comes (steps (AtEnd k i)) in
       comes_stands h 0 Controller (λ x. refl) v (flat_map (λ x. frames_noted Controller x.host (wires_for x.link (comes_to k comes x.host)) v) w.sites)
-      (comes_to k comes h) (step_entries Controller s.link (comes_to k comes h) (turns_at v h) (ending_of v))
       (steps_powered h 0 (without_power Controller) (λ x. refl) (twice Controller) (AtEnd k i) Start node.number refl
       (entries_uncut k (arrival Controller (link_to w.sites k) comes)))
       (all_frames Controller (λ x. wires_for x.link (comes_to k comes x.host)) v w.sites)
+      (comes_to k comes h) (step_entries Controller s.link (comes_to k comes h) (turns_at v h) (ending_of v))
       (shaped_step Controller s.link (comes_to k comes h) (turns_at v h) (ending_of v) (input_here k i h) (given i q (h == k) refl) (is_so i (h == k)))
       (controller_tells i q)
 
@@ -264,8 +264,8 @@ module _ (s : Site) (r : Running) (comes : Comes) (host : (s.host == 0) ≡ fals
       → TellOf s.host s.link (AtHost (Step comes (turns_at v s.host) (ending_of v))) (noted_by v)
       → StandsOf s.host s.link (AtHost (Step comes (turns_at v s.host) (ending_of v))) (noted_by v)
   host_stands o v q c a told =
-      comes_stands s.host s.host Host (own_power s.host host) v (frames_noted Host s.host (wires_for (exchanged s.link) comes) v) comes
-      (step_entries Host (exchanged s.link) comes (turns_at v s.host) (ending_of v)) a (own_frames Host s.host (wires_for (exchanged s.link) comes) v)
+      comes_stands s.host s.host Host (own_power s.host host) v (frames_noted Host s.host (wires_for (exchanged s.link) comes) v) a
+      (own_frames Host s.host (wires_for (exchanged s.link) comes) v) comes (step_entries Host (exchanged s.link) comes (turns_at v s.host) (ending_of v))
       (shaped_step Host (exchanged s.link) comes (turns_at v s.host) (ending_of v) o q c) told
 
   pub host_steps : (i : LinkInput) → input_of (exchanged s.link) comes ≡ Some i → HostTells (host_work s r comes (steps (AtEnd s.host i)))

@@ -250,49 +250,48 @@ abbrev pub IsAtEnd : (h n : ℕ) (who : Side) → ((x : Standing) → after_powe
 IsAtEnd h n who powers w = Powered h n (without_power who) powers (twice who) w
 
 -- its step with the frames that go out, of which there are none where it lost its power
-pub step_stands : (h n : ℕ) (who : Side) (powers : (x : Standing) → after_power h n x ≡ without_power who x) (w : Work) (frames : List Entry)
-    (notes : List Noted) → IsAtEnd h n who powers w → AreUncut frames → (w.cut ≡ true → frames ≡ []) → IsShaped who (ending_of w) notes
-    → of_link h (w.entries ++ frames) ≡ of_link h (entries_for h notes) → (x : Standing) → standing h x (w.entries ++ frames) ≡ standing_by_law h x notes
-step_stands h n who powers w frames notes a uncut none s told x = go w.cut refl
-  where
-    ends : Bool → Ending
-    ends b = cond b CutOff GoesOut
+module _ (h n : ℕ) (who : Side) (powers : (x : Standing) → after_power h n x ≡ without_power who x) (w : Work) (frames : List Entry)
+    (a : IsAtEnd h n who powers w) (out : AreUncut frames × (w.cut ≡ true → frames ≡ [])) where
+  pub step_stands : (notes : List Noted) → IsShaped who (ending_of w) notes → of_link h (w.entries ++ frames) ≡ of_link h (entries_for h notes)
+      → (x : Standing) → standing h x (w.entries ++ frames) ≡ standing_by_law h x notes
+  step_stands notes s told x = go w.cut refl
+    where
+      ends : Bool → Ending
+      ends b = cond b CutOff GoesOut
 
-    by_body : Standing
-    by_body = standing_by_law h x s.body
+      by_body : Standing
+      by_body = standing_by_law h x s.body
 
-    said_is : standing_said h x (w.entries ++ frames) ≡ by_body
-    said_is =
-        said_of_link h (w.entries ++ frames) x
-        ∙ (ap (standing_said h x) told ∙ (sym (said_of_link h (entries_for h notes) x) ∙ body_said h who (ending_of w) notes s x))
+      said_is : standing_said h x (w.entries ++ frames) ≡ by_body
+      said_is =
+          said_of_link h (w.entries ++ frames) x
+          ∙ (ap (standing_said h x) told ∙ (sym (said_of_link h (entries_for h notes) x) ∙ body_said h who (ending_of w) notes s x))
 
-    law_is : (b : Bool) → w.cut ≡ b → standing_by_law h x notes ≡ standing_by_law h by_body (last_of who (ends b))
-    law_is b q = law_last h who (ending_of w) notes s x ∙ ap (λ c. standing_by_law h by_body (last_of who (ends c))) q
+      law_is : (b : Bool) → w.cut ≡ b → standing_by_law h x notes ≡ standing_by_law h by_body (last_of who (ends b))
+      law_is b q = law_last h who (ending_of w) notes s x ∙ ap (λ c. standing_by_law h by_body (last_of who (ends c))) q
 
-    here : Bool → Standing
-    here b = cond b (without_power who (standing_said h x w.entries)) (standing_said h x w.entries)
+      here : Bool → Standing
+      here b = cond b (without_power who (standing_said h x w.entries)) (standing_said h x w.entries)
 
-    go : (b : Bool) → w.cut ≡ b → standing h x (w.entries ++ frames) ≡ standing_by_law h x notes
-    go false q =
-        fold-append (stands_noted h) x w.entries frames
-        ∙ (ap (λ y. standing h y frames) (a.stands x ∙ ap here q)
-        ∙ (uncut_said h frames uncut (standing_said h x w.entries)
-        ∙ (sym (fold-append (λ y e. stands_said h y (said e)) x w.entries frames)
-        ∙ (said_is ∙ sym (law_is false q)))))
-    go true q =
-        let all : w.entries ++ frames ≡ w.entries = ap (λ z. w.entries ++ z) (none q) ∙ append-nil w.entries in
-        ap (standing h x) all
-        ∙ (a.stands x
-        ∙ (ap here q
-        ∙ (ap (without_power who) (ap (standing_said h x) (sym all) ∙ said_is) ∙ sym (law_is true q))))
+      go : (b : Bool) → w.cut ≡ b → standing h x (w.entries ++ frames) ≡ standing_by_law h x notes
+      go false q =
+          fold-append (stands_noted h) x w.entries frames
+          ∙ (ap (λ y. standing h y frames) (a.stands x ∙ ap here q)
+          ∙ (uncut_said h frames out.0 (standing_said h x w.entries)
+          ∙ (sym (fold-append (λ y e. stands_said h y (said e)) x w.entries frames)
+          ∙ (said_is ∙ sym (law_is false q)))))
+      go true q =
+          let all : w.entries ++ frames ≡ w.entries = ap (λ z. w.entries ++ z) (out.1 q) ∙ append-nil w.entries in
+          ap (standing h x) all
+          ∙ (a.stands x
+          ∙ (ap here q
+          ∙ (ap (without_power who) (ap (standing_said h x) (sym all) ∙ said_is) ∙ sym (law_is true q))))
 
--- so it is with the step of an end
-pub comes_stands : (h n : ℕ) (who : Side) (powers : (x : Standing) → after_power h n x ≡ without_power who x) (w : Work) (frames : List Entry) (comes : Comes)
-    (notes : List Noted) → IsAtEnd h n who powers w → AreUncut frames × (w.cut ≡ true → frames ≡ []) → IsStepShaped who comes (ending_of w) notes
-    → of_link h (w.entries ++ frames) ≡ of_link h (entries_for h notes) → (x : Standing) → standing h x (w.entries ++ frames) ≡ standing_by_law h x notes
-comes_stands h n who powers w frames comes notes a out s told x =
-    step_stands h n who powers w frames s.rest a out.0 out.1 s.shaped (told ∙ opened_same h who comes notes s.rest s.is) x
-    ∙ sym (opened_stands h who comes notes s.rest s.is x)
+  -- so it is with the step of an end
+  pub comes_stands : (comes : Comes) (notes : List Noted) → IsStepShaped who comes (ending_of w) notes
+      → of_link h (w.entries ++ frames) ≡ of_link h (entries_for h notes) → (x : Standing) → standing h x (w.entries ++ frames) ≡ standing_by_law h x notes
+  comes_stands comes notes s told x =
+      step_stands s.rest s.shaped (told ∙ opened_same h who comes notes s.rest s.is) x ∙ sym (opened_stands h who comes notes s.rest s.is x)
 
 -- a step of a node that has no end on the link
 pub step_away : (h n : ℕ) (powers : (x : Standing) → after_power h n x ≡ x) (w : Work) (frames : List Entry) → Powered h n (λ x. x) powers (λ x. refl) w

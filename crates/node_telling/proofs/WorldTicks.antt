@@ -262,12 +262,11 @@ host_stands_so : (x : Site) (n : Running) → (x.host == 0) ≡ false → HasEnd
 host_stands_so x n host node young =
     let k : Work = host_tick x n in
     let l : Link = exchanged x.link in
-    let out = own_frames Host x.host l k in
-    step_stands x.host x.host Host (own_power x.host host) k (frames_noted Host x.host l k) (tick_entries Host l (had k x.host))
+    step_stands x.host x.host Host (own_power x.host host) k (frames_noted Host x.host l k)
     (steps_powered x.host x.host (without_power Host) (own_power x.host host) (twice Host) TimePasses
     (work_of n x.memory.plan (λ j. x.link.host) []) node.number
     refl tt)
-    out.0 out.1 (shaped_tick Host l (had k x.host)) (host_tells x n host node young)
+    (own_frames Host x.host l k) (tick_entries Host l (had k x.host)) (shaped_tick Host l (had k x.host)) (host_tells x n host node young)
 
 far : (x : Site) → (x.host == 0) ≡ false → IfItRuns x.host (x.host ∷ []) x.node → IfOff x.node (new_link_end (Uicc new_uicc)) x.link.host.side
     → NoneDue x.node → Far x
@@ -398,10 +397,9 @@ module _ (w : NodeWorld) (h : ℕ) (s : Site) (orderly : IsOrderly w) (found : s
         → standing h x (k.entries ++ flat_map (λ (x : Site). frames_noted Controller x.host x.link k) w.sites)
         ≡ standing_by_law h x (near_notes b s.link (had k h))
     stands_is b a =
-        let out = all_frames Controller (λ (x : Site). x.link) k w.sites in
-        step_stands h 0 Controller (λ x. refl) k (flat_map (λ (x : Site). frames_noted Controller x.host x.link k) w.sites) (near_notes b s.link (had k h))
+        step_stands h 0 Controller (λ x. refl) k (flat_map (λ (x : Site). frames_noted Controller x.host x.link k) w.sites)
         (steps_powered h 0 (without_power Controller) (λ x. refl) (twice Controller) TimePasses Begun node.number refl tt)
-        out.0 out.1 (shaped_is b) (told_is b a)
+        (all_frames Controller (λ (x : Site). x.link) k w.sites) (near_notes b s.link (had k h)) (shaped_is b) (told_is b a)
 
     -- an end that is up doesn't wait
     ready_is : (b : Bool) → IfLate b s.link.controller.side → b ≡ true → is_waiting s.link.controller.side.shdlc ≡ false

@@ -6,16 +6,16 @@ use Rattle.link_machine.specs.Machine.{LinkInput}
 use Rattle.message_link.specs.Links.{Comes, exchanged}
 use Rattle.message_link.specs.Links.Comes.{NoInput}
 use Rattle.message_link.specs.Links.EndEvent.{Step}
-use Rattle.message_link.specs.Links.LinkEvent.{AtController, AtHost}
+use Rattle.message_link.specs.Links.LinkEvent.{AtHost}
 use Rattle.link_entries.specs.Entries.End.{Host}
 use Rattle.node_machine.specs.Parts.{Running, Work, Deed}
 use Rattle.node_machine.specs.Node.{steps, begins_with}
 use Rattle.node_machine.specs.Node.NodeInput.{AtEnd}
-use Rattle.node_world.specs.World.{Site, NodeWorld, site_at, link_to, input_of, ending_of, turns_at, frames_noted, wires_for, comes_to, controller_work, controller_does, host_work, host_does}
-use Rattle.node_telling.specs.Telling.{of_link, TellOf, HasEnds, hosts_in, IsOrderly, IfItRuns}
+use Rattle.node_world.specs.World.{Site, NodeWorld, site_at, input_of, ending_of, turns_at, frames_noted, wires_for, host_work, host_does}
+use Rattle.node_telling.specs.Telling.{of_link, TellOf, HasEnds, IsOrderly, IfItRuns}
 use Rattle.node_telling.specs.Standing.{Standing, standing, StandsOf}
 use Rattle.node_telling.proofs.Mute.{AreMute}
-use Rattle.node_telling.proofs.Nodes.{site_host, controller_tells, HostTells, host_steps, host_begins}
+use Rattle.node_telling.proofs.Nodes.{site_host, HostTells, host_steps, host_begins}
 
 -- the site with a number is one of them
 pub site_is : (P : Site → Type 0) (sites : List Site) (h : ℕ) (s : Site) → AllByRecursion P sites → site_at sites h ≡ Some s → P s
@@ -32,14 +32,6 @@ site_is P (x ∷ sites) h s a q = go (x.host == h) refl (site_is P sites h s a.1
 pub node_is : (n : ℕ) (hosts : List ℕ) (o : Option Running) (r : Running) → IfItRuns n hosts o → o ≡ Some r → HasEnds n hosts r
 node_is n hosts None r a q = absurd (cc q)
 node_is n hosts (Some x) r a q = let one : x ≡ r = cc in let P : Running → Type 0 = λ z. HasEnds n hosts z in subst P one a
-
-pub controller_steps : (w : NodeWorld) (r : Running) (k : ℕ) (comes : Comes) (i : LinkInput) (h : ℕ) (s : Site) → IsOrderly w → w.controller ≡ Some r
-    → input_of (link_to w.sites k) comes ≡ Some i → site_at w.sites h ≡ Some s
-    → TellOf h s.link (AtController (Step (comes_to k comes h) (turns_at (controller_work w r k comes (steps (AtEnd k i))) h)
-    (ending_of (controller_work w r k comes (steps (AtEnd k i))))))
-    (controller_does w k comes (steps (AtEnd k i))).1
-controller_steps w r k comes i h s orderly q input found =
-    rw q (controller_tells w r k comes h s orderly (node_is 0 (hosts_in w.sites) w.controller r orderly.controller q) found i input)
 
 -- what a host notes is told of its own link as it does this, and of no other one
 pub record HostDoes (w : NodeWorld) (k : ℕ) (comes : Comes) (f : Work → Work) (s : Site) (r : Running) : Type 0 where
