@@ -52,8 +52,8 @@ use Rattle.node_telling.proofs.Events.{memory_goes, comes_goes}
 use Rattle.node_readings.proofs.NoticedWorlds.{far_side}
 use Rattle.node_order.specs.Told.{IsLinkTold}
 use Rattle.node_order.proofs.Unnoticed.{IfNone, IsHostWork, AreUnnoticed, all_done_none, steps_none, runs_none}
-use Rattle.node_order.proofs.Watches.{WatchedLink, watched, unwatched, opened, watch_begins, watched-append}
-use Rattle.node_order.proofs.Knowing.{IsStepOf, told_more, LeaveLink, told_same, cut_clf, cut_uicc, Knows, Each, later, each_empty, each_back, each_alike, was_there, each_map, each_site}
+use Rattle.node_order.proofs.Watches.{IsStepOf, WatchedLink, watched, unwatched, opened, watch_begins, watched-append}
+use Rattle.node_order.proofs.Knowing.{told_more, LeaveLink, told_same, cut_clf, cut_uicc, Knows, Each, later, each_empty, each_back, each_alike, was_there, each_map, each_site}
 use Rattle.node_order.proofs.Wires.{Shown, shown_same, clear_unstarted, shown_more, step_shown, AreEmpty, started_empty, empty_shown}
 
 -- a world that is orderly, and whose nodes send what may be sent
@@ -131,11 +131,11 @@ module _ (w : NodeWorld) (t : List Entry) (X : ℕ → WatchedLink) (a : IsWell 
         let number : s.host ≡ h = site_host w.sites h s there in
         let n : IsStepOf h s.link e u = near_step h s there in
         record {
-          told = told_more h s.link e t u n.can n.tells n.stands b.told;
+          told = told_more h s.link e t u n b.told;
           shown = let W : ℕ → Type 0 = λ m. Shown (happens s.link e) (watched h (opened (comes_to k comes m) (X h)) u) in
-              subst W number (step_shown h Controller here (ending_of v) s.link e t u (X h) b.told n.can n.tells
+              subst W number (step_shown h s.link e t u (X h) b.told n b.shown Controller here (ending_of v)
               (shaped_step Controller s.link here (turns_at v s.host) (ending_of v) (cond (s.host == k) (Some i) None) (arrives (s.host == k) refl)
-              (is_so (s.host == k))) n.stands b.shown);
+              (is_so (s.host == k))));
           near = off v.cut refl fine.link.line.clf;
           far = let F : LinkEnd → Type 0 = IfOff s.node (new_link_end (Uicc new_uicc)) in
               subst F (sym (near_side s.link (Step here (turns_at v s.host) (ending_of v)))) b.far;
@@ -253,10 +253,10 @@ module _ (w : NodeWorld) (t : List Entry) (X : ℕ → WatchedLink) (a : IsWell 
         let n : IsStepOf k s.link e noted = far_step in
         let N : LinkEnd → Type 0 = IfOff w.controller (new_link_end (Clf new_clf)) in
         record {
-          told = told_more k s.link e t noted n.can n.tells n.stands b.told;
+          told = told_more k s.link e t noted n b.told;
           shown = subst (λ x. Shown (happens s.link e) (watched k x noted)) (plain_wires s there)
-              (step_shown k Host comes (ending_of worked) s.link e t noted (X k) b.told n.can n.tells
-              (shaped_step Host (exchanged s.link) comes (turns_at worked s.host) (ending_of worked) o (q s there) so) n.stands b.shown);
+              (step_shown k s.link e t noted (X k) b.told n b.shown Host comes (ending_of worked)
+              (shaped_step Host (exchanged s.link) comes (turns_at worked s.host) (ending_of worked) o (q s there) so));
           near = subst N (sym (far_side s.link (Step comes (turns_at worked s.host) (ending_of worked)))) b.near;
           far = off worked.cut refl;
           none = runs_none worked (plain _ (record { host = host; none = ports_none r.desks desks_none }));
@@ -379,24 +379,19 @@ begins_each w t X k deeds m f u a each =
 
 -- ## Power and memories
 
--- where only what is no link and no notice of a host changes, and nothing is told
-pub each_beside : (w : NodeWorld) (memory : Memory) (t u : List Entry) (X : ℕ → WatchedLink) (k : ℕ) (g : Site → Site) → ((s : Site) → (g s).host ≡ s.host)
-    → ((s : Site) → (g s).link ≡ s.link)
-    → ((s : Site) → IfOff s.node (new_link_end (Uicc new_uicc)) s.link.host.side → IfOff (g s).node (new_link_end (Uicc new_uicc)) s.link.host.side)
-    → ((s : Site) → IfNone s.node → IfNone (g s).node) → ((h : ℕ) → LeaveLink h u) → Each t X w
-    → Each (t ++ u) (later X u) (record { memory = memory; controller = w.controller; sites = with_site k g w.sites })
-each_beside w memory t u X k g keeps links far none q each =
-    each_site w memory w.controller t u X k g keeps (λ h s b. b)
-    (λ s found b.
-    let T : Link → Type 0 = λ l. IsLinkTold k l (t ++ u) in
-    let N : Link → Type 0 = λ l. IfOff w.controller (new_link_end (Clf new_clf)) l.controller.side in
-    let F : Link → Type 0 = λ l. IfOff (g s).node (new_link_end (Uicc new_uicc)) l.host.side in
-    record {
-      told = subst T (sym (links s)) (told_same k s.link t u (q k) b.told);
-      shown = subst (λ l. Shown l (later X u k)) (sym (links s)) (shown_same k s.link (X k) u ((q k).stands (X k).stands) b.shown);
-      near = subst N (sym (links s)) b.near;
-      far = subst F (sym (links s)) (far s b.far);
-      none = none s b.none;
+-- where only the memory of a host and its node change, and nothing is told
+pub each_beside : (w : NodeWorld) (t u : List Entry) (X : ℕ → WatchedLink) (k : ℕ) (memory : Site → Memory) (node : Site → Option Running)
+    → ((s : Site) → (IfOff s.node (new_link_end (Uicc new_uicc)) s.link.host.side → IfOff (node s) (new_link_end (Uicc new_uicc)) s.link.host.side)
+    × (IfNone s.node → IfNone (node s))) → ((h : ℕ) → LeaveLink h u) → Each t X w
+    → Each (t ++ u) (later X u) (record w { sites = with_site k (λ s. record s { memory = memory s; node = node s }) w.sites })
+each_beside w t u X k memory node changes q each =
+    each_site w w.memory w.controller t u X k (λ s. record s { memory = memory s; node = node s }) (λ s. refl) (λ h s b. b)
+    (λ s found b. record {
+      told = told_same k s.link t u (q k) b.told;
+      shown = shown_same k s.link (X k) u ((q k).stands (X k).stands) b.shown;
+      near = b.near;
+      far = (changes s).0 b.far;
+      none = (changes s).1 b.none;
     })
     (λ h z. q h) each
 
@@ -409,8 +404,7 @@ memory_each n m w t X each = go (n == 0)
 
     go : (b : Bool) → Each (t ++ []) (later X []) (by b)
     go true = each_empty t X (by true) (λ h s found. each h s found)
-    go false = each_beside w w.memory t [] X n (λ s. record s { memory = m }) (λ s. refl) (λ s. refl) (λ s b. b) (λ s b. b)
-        (λ h. record { none = refl; stands = λ x. refl }) each
+    go false = each_beside w t [] X n (λ s. m) (λ s. s.node) (λ s. (λ b. b, λ b. b)) (λ h. record { none = refl; stands = λ x. refl }) each
 
 pub power_each : (n : ℕ) (w : NodeWorld) (t : List Entry) (X : ℕ → WatchedLink) → IsWell w → Each t X w
     → Each (t ++ entry.Cut n ∷ []) (later X (entry.Cut n ∷ [])) (loses_power_at n w)
@@ -432,11 +426,14 @@ power_each n w t X a each = go (n == 0) refl
         (λ h s found b.
         let fine : IsFineSite s = site_is IsFineSite w.sites h s a.fine.sites found in
         let F : LinkEnd → Type 0 = IfOff s.node (new_link_end (Uicc new_uicc)) in
+        let n : IsStepOf h s.link (AtController near) u = record {
+          can = (tt, (tt, clf_line s.link.controller.side.role fine.link.line.clf));
+          tells = refl;
+          stands = λ x. rw zero refl;
+        } in
         record {
-          told = told_more h s.link (AtController near) t u (tt, (tt, clf_line s.link.controller.side.role fine.link.line.clf)) refl
-              (λ x. rw zero refl) b.told;
-          shown = shown_more h s.link (AtController near) t u (X h) b.told (tt, (tt, clf_line s.link.controller.side.role fine.link.line.clf)) refl
-              (tt, tt) (λ x. rw zero refl) b.shown;
+          told = told_more h s.link (AtController near) t u n b.told;
+          shown = shown_more h s.link (AtController near) t u (X h) b.told n b.shown (tt, tt);
           near = cut_clf s.link NoInput [] None refl tt fine.link.line.clf;
           far = subst F (sym (near_side s.link near)) b.far;
           none = b.none;
@@ -446,11 +443,14 @@ power_each n w t X a each = go (n == 0) refl
         (λ s found b.
         let fine : IsFineSite s = site_is IsFineSite w.sites n s a.fine.sites found in
         let N : LinkEnd → Type 0 = IfOff w.controller (new_link_end (Clf new_clf)) in
+        let step : IsStepOf n s.link (AtHost near) u = record {
+          can = (tt, (tt, uicc_line s.link.host.side.role fine.link.line.uicc));
+          tells = refl;
+          stands = own_power n zero;
+        } in
         record {
-          told = told_more n s.link (AtHost near) t u (tt, (tt, uicc_line s.link.host.side.role fine.link.line.uicc)) refl (own_power n zero)
-              b.told;
-          shown = shown_more n s.link (AtHost near) t u (X n) b.told (tt, (tt, uicc_line s.link.host.side.role fine.link.line.uicc)) refl (tt, tt)
-              (own_power n zero) b.shown;
+          told = told_more n s.link (AtHost near) t u step b.told;
+          shown = shown_more n s.link (AtHost near) t u (X n) b.told step b.shown (tt, tt);
           near = subst N (sym (far_side s.link near)) b.near;
           far = cut_uicc (exchanged s.link) NoInput [] None refl tt fine.link.line.uicc;
           none = tt;
@@ -478,7 +478,7 @@ node_each n r w t u X none q each = go (n == 0)
           far = b.far;
           none = b.none;
         }
-    go false = each_beside w w.memory t u X n (λ s. record s { node = Some r }) (λ s. refl) (λ s. refl) (λ s b. tt) (λ s b. none) q each
+    go false = each_beside w t u X n (λ s. s.memory) (λ s. Some r) (λ s. (λ b. tt, λ b. none)) q each
 
 pub boots_each : (w : NodeWorld) (t : List Entry) (X : ℕ → WatchedLink) (n : ℕ) → IsWell w → Each t X w
     → Each (t ++ (boots w n).1) (later X (boots w n).1) (boots w n).0
@@ -588,17 +588,18 @@ lost_each w t X e why each = go e.at_host refl
         ap (λ (l : Link). of_link e.link (entries_for e.link (first_lost Controller why l.to_controller))) (link_is w.sites e.link s there) in
         let N : LinkEnd → Type 0 = IfOff (counts why e.link w.controller) new_near in
         let F : LinkEnd → Type 0 = IfOff s.node new_far in
+        let n : IsStepOf e.link s.link (AtController (Lose why)) u = record {
+          can = tt;
+          tells = told;
+          stands = clear_stands e.link u (first_lost Controller why s.link.to_controller)
+              (entries_uncut e.link (first_lost Controller why (link_to w.sites e.link).to_controller))
+              (clear_lost Controller why s.link.to_controller) told;
+        } in
         record {
-          told = subst T (sym q) (told_more e.link s.link (AtController (Lose why)) t u tt told
-              (clear_stands e.link u (first_lost Controller why s.link.to_controller)
-              (entries_uncut e.link (first_lost Controller why (link_to w.sites e.link).to_controller))
-              (clear_lost Controller why s.link.to_controller) told) b.told);
+          told = subst T (sym q) (told_more e.link s.link (AtController (Lose why)) t u n b.told);
           shown = let S : Bool → Type 0 = λ c. Shown (happens s.link (event c)) (watched e.link (X e.link) u) in
-              subst S (sym q) (shown_more e.link s.link (AtController (Lose why)) t u (X e.link) b.told tt told
-              (clear_unstarted (first_lost Controller why s.link.to_controller) (clear_lost Controller why s.link.to_controller))
-              (clear_stands e.link u (first_lost Controller why s.link.to_controller)
-              (entries_uncut e.link (first_lost Controller why (link_to w.sites e.link).to_controller))
-              (clear_lost Controller why s.link.to_controller) told) b.shown);
+              subst S (sym q) (shown_more e.link s.link (AtController (Lose why)) t u (X e.link) b.told n b.shown
+              (clear_unstarted (first_lost Controller why s.link.to_controller) (clear_lost Controller why s.link.to_controller)));
           near = subst N (sym (near_left e.at_host s.link)) (counts_off why e.link w.controller new_near s.link.controller.side b.near);
           far = subst F (sym (far_left e.at_host s.link)) b.far;
           none = b.none;
@@ -618,15 +619,17 @@ lost_each w t X e why each = go e.at_host refl
         ap (λ (l : Link). of_link e.link (entries_for e.link (first_lost Host why l.to_host))) (link_is w.sites e.link s there) in
         let N : LinkEnd → Type 0 = IfOff w.controller new_near in
         let F : LinkEnd → Type 0 = IfOff (counts why e.link s.node) new_far in
+        let n : IsStepOf e.link s.link (AtHost (Lose why)) u = record {
+          can = tt;
+          tells = told;
+          stands = clear_stands e.link u (first_lost Host why s.link.to_host)
+              (entries_uncut e.link (first_lost Host why (link_to w.sites e.link).to_host)) (clear_lost Host why s.link.to_host) told;
+        } in
         record {
-          told = subst T (sym q) (told_more e.link s.link (AtHost (Lose why)) t u tt told
-              (clear_stands e.link u (first_lost Host why s.link.to_host) (entries_uncut e.link (first_lost Host why (link_to w.sites e.link).to_host))
-              (clear_lost Host why s.link.to_host) told) b.told);
+          told = subst T (sym q) (told_more e.link s.link (AtHost (Lose why)) t u n b.told);
           shown = let S : Bool → Type 0 = λ c. Shown (happens s.link (event c)) (watched e.link (X e.link) u) in
-              subst S (sym q) (shown_more e.link s.link (AtHost (Lose why)) t u (X e.link) b.told tt told
-              (clear_unstarted (first_lost Host why s.link.to_host) (clear_lost Host why s.link.to_host))
-              (clear_stands e.link u (first_lost Host why s.link.to_host) (entries_uncut e.link (first_lost Host why (link_to w.sites e.link).to_host))
-              (clear_lost Host why s.link.to_host) told) b.shown);
+              subst S (sym q) (shown_more e.link s.link (AtHost (Lose why)) t u (X e.link) b.told n b.shown
+              (clear_unstarted (first_lost Host why s.link.to_host) (clear_lost Host why s.link.to_host)));
           near = subst N (sym (near_left e.at_host s.link)) b.near;
           far = subst F (sym (far_left e.at_host s.link)) (counts_off why e.link s.node new_far s.link.host.side b.far);
           none = counts_none why e.link s.node b.none;

@@ -8,7 +8,7 @@ use Rattle.trace_model.specs.declared.entry.Entry.{Entry}
 use Rattle.link_machine.specs.Machine.{LinkInput, Turn, Role, LinkEnd, new_link_end, renewed, turned, after_input}
 use Rattle.link_machine.specs.Machine.LinkInput.{Take, Reset, Start, Stop}
 use Rattle.link_machine.specs.Machine.Role.{Bare, Clf, Uicc}
-use Rattle.message_link.specs.Links.{Link, Comes, LinkEvent, happens_at_controller, steps_at_controller, has_taken, happens, after_link_events, IsClf, IsUicc, IsEvent}
+use Rattle.message_link.specs.Links.{Link, Comes, LinkEvent, happens_at_controller, steps_at_controller, has_taken, happens, after_link_events, IsClf, IsUicc}
 use Rattle.message_link.specs.Links.Ending.{CutOff}
 use Rattle.message_link.specs.Links.Comes.{NextFrame, AsksReset, Starts, Stops, NoInput}
 use Rattle.message_link.specs.Links.EndEvent.{Step}
@@ -22,8 +22,8 @@ use Rattle.node_world.specs.World.{Site, NodeWorld, site_at, input_of}
 use Rattle.node_links.specs.Runs.{new_line}
 use Rattle.node_links.proofs.Ends.{here_clf, here_uicc}
 use Rattle.node_links.proofs.Sites.{run_of_more}
-use Rattle.node_telling.specs.Telling.{of_link, TellOf, IfOff}
-use Rattle.node_telling.specs.Standing.{Standing, new_standing, stands_noted, standing, law_noted, standing_by_law, StandsOf}
+use Rattle.node_telling.specs.Telling.{of_link, IfOff}
+use Rattle.node_telling.specs.Standing.{Standing, new_standing, stands_noted, standing, law_noted, standing_by_law}
 use Rattle.node_telling.proofs.Accounts.{of-append}
 use Rattle.node_telling.proofs.Parts.{IsStep}
 use Rattle.node_telling.proofs.Steps.{notes-append}
@@ -31,16 +31,15 @@ use Rattle.node_telling.proofs.Nodes.{site_host, swapped}
 use Rattle.node_telling.proofs.Events.{site_map, entries-append}
 use Rattle.node_order.specs.Told.{IsLinkTold}
 use Rattle.node_order.proofs.Unnoticed.{IfNone}
-use Rattle.node_order.proofs.Watches.{WatchedLink, watched, kept_left}
+use Rattle.node_order.proofs.Watches.{IsStepOf, WatchedLink, watched, kept_left}
 use Rattle.node_order.proofs.Wires.{ShownBy, Shown, shown_same}
 use Rattle.turn_laws.proofs.Works.{site_none}
 
 -- ## One link
 
 -- one event more
-pub told_more : (h : ℕ) (l : Link) (e : LinkEvent) (t u : List Entry) → IsEvent l e → TellOf h l e u → StandsOf h l e u → IsLinkTold h l t
-    → IsLinkTold h (happens l e) (t ++ u)
-told_more h l e t u can tells stands a =
+pub told_more : (h : ℕ) (l : Link) (e : LinkEvent) (t u : List Entry) → IsStepOf h l e u → IsLinkTold h l t → IsLinkTold h (happens l e) (t ++ u)
+told_more h l e t u n a =
     let O : List Entry → List Entry = of_link h in
     let es : List LinkEvent = a.events in
     let last : entries (after_link_events new_line es) (e ∷ []) ≡ event_entries l e =
@@ -48,27 +47,21 @@ told_more h l e t u can tells stands a =
     let x : Standing = standing_by_law h new_standing (entries new_line es) in
     record {
       events = es ++ e ∷ [];
-      run = run_of_more es l e can a.run;
+      run = run_of_more es l e n.can a.run;
       told =
           of-append h t u
           ∙ (ap (λ z. z ++ O u) a.told
-          ∙ (ap (λ z. O (entries_for h (entries new_line es)) ++ z) (tells ∙ ap (λ z. O (entries_for h z)) (sym last))
+          ∙ (ap (λ z. O (entries_for h (entries new_line es)) ++ z) (n.tells ∙ ap (λ z. O (entries_for h z)) (sym last))
           ∙ sym (ap (λ z. O (entries_for h z)) (entries-append es (e ∷ []) new_line)
           ∙ notes-append h (entries new_line es) (entries (after_link_events new_line es) (e ∷ [])))));
       stands =
           fold-append (stands_noted h) new_standing t u
           ∙ (ap (λ z. standing h z u) a.stands
-          ∙ (stands x
+          ∙ (n.stands x
           ∙ (ap (standing_by_law h x) (sym last)
           ∙ sym (ap (standing_by_law h new_standing) (entries-append es (e ∷ []) new_line)
           ∙ fold-append (law_noted h) new_standing (entries new_line es) (entries (after_link_events new_line es) (e ∷ []))))));
     }
-
--- an event that may happen, and entries that tell of it
-pub record IsStepOf (h : ℕ) (l : Link) (e : LinkEvent) (u : List Entry) : Type 0 where
-  pub can : IsEvent l e
-  pub tells : TellOf h l e u
-  pub stands : StandsOf h l e u
 
 -- these entries tell nothing of a link
 pub record LeaveLink (h : ℕ) (u : List Entry) : Type 0 where

@@ -46,8 +46,8 @@ use Rattle.node_telling.proofs.Worlds.{host_does_step}
 use Rattle.node_telling.proofs.Events.{site_map}
 use Rattle.node_order.specs.Told.{AreSessionsRead, AreBothUp, frames_on}
 use Rattle.node_order.specs.Resets.{cuts_on}
-use Rattle.node_order.proofs.Watches.{WatchedLink, IsSince, is_cut, no_cut}
-use Rattle.node_order.proofs.Knowing.{IsStepOf, Each, was_there}
+use Rattle.node_order.proofs.Watches.{IsStepOf, WatchedLink, IsSince, is_cut, no_cut}
+use Rattle.node_order.proofs.Knowing.{Each, was_there}
 use Rattle.node_order.proofs.Unnoticed.{steps_none}
 use Rattle.node_order.proofs.Events.{IsWell, near_step, far_step}
 use Rattle.node_order.proofs.Lines.{host_number}

@@ -1,6 +1,6 @@
 -- An end that is started, stopped or cut off in a step is Down behind it, and what it comes up with is noted.
 use Rattle.std.proofs.Common.{◌≡◌, ℕ, ◌<◌, ◌≤◌, Bool, true, false, List, [], ◌∷◌, ◌++◌, length, map, Option, Some, None, ◌⊎◌, inl, inr, refl, ap, sym, ◌∙◌, arith}
-use Rattle.std.specs.Prelude.{nat_lt, if◌then◌else◌, ◌||◌, ◌&&◌, is_some, option_to_list}
+use Rattle.std.specs.Prelude.{nat_lt, ◌||◌, is_some, option_to_list}
 use Rattle.std.specs.List.{list_any, AllByRecursion}
 use Rattle.std.proofs.lemmas.Bool.{true≢false}
 use Rattle.swp_base.specs.declared.control_frames.Control.{Control}
@@ -15,7 +15,7 @@ use Rattle.link_machine.specs.Machine.{Message, LinkEnd, Role, Refused, LinkInpu
 use Rattle.link_machine.specs.Machine.Role.{Bare, Clf, Uicc}
 use Rattle.link_machine.specs.Machine.LinkInput.{Take, Tick as HasTick, Reset, Start, Stop}
 use Rattle.link_machine.specs.Machine.Turn.{Give, Hold, FetchMessage, SetAside, Release}
-use Rattle.message_link.specs.Links.{NumberedEnd, Link, Ending, Comes, Loss, EndEvent, Node, LinkEvent, exchanged, number_of, put, with_ended, silent, finished, steps_at_controller, happens_at_controller, happens, all_at_controller, ticks_at_controller, aged, has_taken, CanEnd, IsNode, IsAllowed}
+use Rattle.message_link.specs.Links.{NumberedEnd, Link, Ending, Comes, Loss, EndEvent, Node, LinkEvent, exchanged, number_of, put, with_ended, silent, finished, steps_at_controller, happens_at_controller, happens, all_at_controller, ticks_at_controller, aged, CanEnd, IsNode, IsAllowed}
 use Rattle.message_link.specs.Links.Ending.{GoesOut, CutOff}
 use Rattle.message_link.specs.Links.Comes.{NextFrame, AsksReset, Starts, Stops, NoInput}
 use Rattle.message_link.specs.Links.Loss.{TooMany, TooOld}

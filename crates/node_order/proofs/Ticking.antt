@@ -37,7 +37,7 @@ use Rattle.node_readings.proofs.NoticedWorlds.{host_tick_side}
 use Rattle.node_order.specs.Told.{IsLinkTold}
 use Rattle.node_order.proofs.Unnoticed.{IfNone, steps_none, runs_none}
 use Rattle.node_order.proofs.Knowing.{told_more, renewed_clf, renewed_uicc, Knows, Each, later, WasThere, was_there}
-use Rattle.node_order.proofs.Watches.{WatchedLink}
+use Rattle.node_order.proofs.Watches.{IsStepOf, WatchedLink}
 use Rattle.node_order.proofs.Wires.{Shown, tick_unstarted, shown_more}
 use Rattle.node_order.proofs.Events.{IsWell}
 use Rattle.turn_laws.proofs.Works.{site_none}
@@ -318,9 +318,9 @@ ticks_each w t X a up each h v q = go (site_at w.sites h) refl
 
     some : (s : Site) → site_at w.sites h ≡ Some s → Knows (t ++ u) (later X u h) (world_ticks w).0.controller h v
     some s found = subst K one (record {
-      told = let T : Link → Type 0 = λ l. IsLinkTold h l (t ++ u) in subst T c.is (told_more h s.link event t u can c.told c.stands b.told);
+      told = let T : Link → Type 0 = λ l. IsLinkTold h l (t ++ u) in subst T c.is (told_more h s.link event t u n b.told);
       shown = let S : Link → Type 0 = λ l. Shown l (later X u h) in
-          subst S c.is (shown_more h s.link event t u (X h) b.told can c.told (tick_unstarted c.late s.link c.near c.far) c.stands b.shown);
+          subst S c.is (shown_more h s.link event t u (X h) b.told n b.shown (tick_unstarted c.late s.link c.near c.far));
       near = let N : LinkEnd → Type 0 = IfOff (controller_ticks old).0.controller (new_link_end (Clf new_clf)) in
           subst N (sym (host_tick_side x)) (near_after old old_clf old_off h x c.near_there);
       far = after_it.off;
@@ -357,8 +357,8 @@ ticks_each w t X a up each h v q = go (site_at w.sites h) refl
         allowed true ready = reset_allowed s.link c.near c.far sends fine.link.line (ready refl)
         allowed false ready = tick_allowed s.link c.near c.far sends fine.link.line
 
-        can : IsEvent s.link event
-        can = allowed c.late c.ready
+        n : IsStepOf h s.link event u
+        n = record { can = allowed c.late c.ready; tells = c.told; stands = c.stands }
 
         after_it : FarAfter x
         after_it =

@@ -284,16 +284,22 @@ kept_both true false q = (refl, refl)
 kept_both true true q = absurd (true≢false (sym q))
 kept_both false b q = absurd (true≢false (sym q))
 
-pub since_step : (h : ℕ) (l : Link) (e : LinkEvent) (u : List Entry) → IsEvent l e → TellOf h l e u → AreUnstarted (event_entries l e) → StandsOf h l e u
-    → (x : WatchedLink) → (x.since ≡ true → IsSince l) → (watched h x u).since ≡ true → IsSince (happens l e)
-since_step h l e u can tells plain stands x since q =
+-- an event that may happen, and entries that tell of it
+pub record IsStepOf (h : ℕ) (l : Link) (e : LinkEvent) (u : List Entry) : Type 0 where
+  pub can : IsEvent l e
+  pub tells : TellOf h l e u
+  pub stands : StandsOf h l e u
+
+pub since_step : (h : ℕ) (l : Link) (e : LinkEvent) (u : List Entry) → IsStepOf h l e u → AreUnstarted (event_entries l e) → (x : WatchedLink)
+    → (x.since ≡ true → IsSince l) → (watched h x u).since ≡ true → IsSince (happens l e)
+since_step h l e u n plain x since q =
     let notes : List Noted = event_entries l e in
     let a = kept_both x.since (list_any (withholds_on h) u) q in
     let b = withheld_parts h u a.1 in
     let spared : list_any (spoils_on h) (entries_for h notes) ≡ false =
-    spoils_of h (entries_for h notes) ∙ (ap (list_any (spoils_on h)) (sym tells) ∙ (sym (spoils_of h u) ∙ b.1)) in
-    since_more l e can
-    (none_withheld notes (spared_of h notes spared) (stands_of h notes plain (no_cut h u notes b.0 stands))) (since a.0)
+    spoils_of h (entries_for h notes) ∙ (ap (list_any (spoils_on h)) (sym n.tells) ∙ (sym (spoils_of h u) ∙ b.1)) in
+    since_more l e n.can
+    (none_withheld notes (spared_of h notes spared) (stands_of h notes plain (no_cut h u notes b.0 n.stands))) (since a.0)
 
 -- activation that begins or ends empties the wires, and may withhold an answer
 abbrev pub unwatched : WatchedLink → WatchedLink

@@ -12,7 +12,7 @@ use Rattle.link_machine.specs.Machine.{LinkEnd, Role, Refused, Turn, aside_refus
 use Rattle.link_machine.specs.Machine.LinkInput.{Reset}
 use Rattle.link_machine.specs.Machine.Role.{Bare, Clf, Uicc}
 use Rattle.link_machine.specs.Machine.Turn.{Give, Hold, FetchMessage, SetAside, Release}
-use Rattle.message_link.specs.Links.{Link, Ending, Comes, Node, LinkEvent, exchanged, aged, put_all, silent, happens, after_link_events, IsClf, IsEvent}
+use Rattle.message_link.specs.Links.{Link, Ending, Comes, Node, LinkEvent, exchanged, aged, put_all, silent, happens, after_link_events, IsClf}
 use Rattle.message_link.specs.Links.Ending.{GoesOut, CutOff}
 use Rattle.message_link.specs.Links.Comes.{NextFrame, AsksReset, Starts, Stops, NoInput}
 use Rattle.message_link.specs.Links.EndEvent.{Step}
@@ -29,15 +29,14 @@ use Rattle.history.specs.Filters.{Saying}
 use Rattle.history.specs.Filters.Saying.{Begins, Ends, Sends, Gets, Counts, Puts, Takes, Loses}
 use Rattle.history.specs.Steps.{end_of}
 use Rattle.node_links.specs.Runs.{new_line}
-use Rattle.node_telling.specs.Standing.{Standing, said_near, said_far, stands_said, with_empty_wires, standing, law_noted, standing_by_law, StandsOf}
+use Rattle.node_telling.specs.Standing.{Standing, said_near, said_far, stands_said, with_empty_wires, standing, law_noted, standing_by_law}
 use Rattle.node_telling.proofs.Powers.{AreClear}
 use Rattle.node_telling.proofs.Shapes.{last_of, IsShaped, shaped_tick, shaped_step, opened_by, IsStepShaped, opened_stands, clear_aged}
 use Rattle.node_telling.proofs.Events.{after-append, entries-append}
 use Rattle.node_telling.proofs.WorldTicks.{between, near_notes, tick_event}
-use Rattle.node_telling.specs.Telling.{TellOf}
 use Rattle.node_order.specs.Told.{IsLinkTold, frames_on}
 use Rattle.node_order.specs.Resets.{withholds_on}
-use Rattle.node_order.proofs.Watches.{WatchedLink, watched, IsSince, IsUnstarted, AreUnstarted, since_step, unwatched, opened, kept_left}
+use Rattle.node_order.proofs.Watches.{IsStepOf, WatchedLink, watched, IsSince, IsUnstarted, AreUnstarted, since_step, unwatched, opened, kept_left}
 
 -- ## Wires that are seen
 
@@ -188,53 +187,51 @@ event_seen h l t e a =
     append_nil_of [] = refl
     append_nil_of (x ∷ xs) = ap (λ z. x ∷ z) (append_nil_of xs)
 
-pub shown_more : (h : ℕ) (l : Link) (e : LinkEvent) (t u : List Entry) (x : WatchedLink) → IsLinkTold h l t → IsEvent l e → TellOf h l e u
-    → AreUnstarted (event_entries l e) → StandsOf h l e u → Shown l x → Shown (happens l e) (watched h x u)
-shown_more h l e t u x a can tells plain stands s =
-    let all : ShownBy (see_all (kept l) (event_entries l e)) (standing_by_law h x.stands (event_entries l e)) =
-    notes_shown h (event_entries l e) (kept l) x.stands plain s.wires in
-    let P : Seen → Type 0 = λ z. ShownBy z (standing_by_law h x.stands (event_entries l e)) in
-    record {
-      wires = subst (ShownBy (kept (happens l e))) (sym (stands x.stands)) (subst P (event_seen h l t e a) all);
-      since = since_step h l e u can tells plain stands x s.since;
-    }
+module _ (h : ℕ) (l : Link) (e : LinkEvent) (t u : List Entry) (x : WatchedLink) (a : IsLinkTold h l t) (n : IsStepOf h l e u) (shown : Shown l x) where
+  pub shown_more : AreUnstarted (event_entries l e) → Shown (happens l e) (watched h x u)
+  shown_more plain =
+      let all : ShownBy (see_all (kept l) (event_entries l e)) (standing_by_law h x.stands (event_entries l e)) =
+      notes_shown h (event_entries l e) (kept l) x.stands plain shown.wires in
+      let P : Seen → Type 0 = λ z. ShownBy z (standing_by_law h x.stands (event_entries l e)) in
+      record {
+        wires = subst (ShownBy (kept (happens l e))) (sym (n.stands x.stands)) (subst P (event_seen h l t e a) all);
+        since = since_step h l e u n plain x shown.since;
+      }
 
-pub step_shown : (h : ℕ) (who : Side) (comes : Comes) (ending : Ending) (l : Link) (e : LinkEvent) (t u : List Entry) (x : WatchedLink) → IsLinkTold h l t
-    → IsEvent l e → TellOf h l e u → IsStepShaped who comes ending (event_entries l e) → StandsOf h l e u → Shown l x
-    → Shown (happens l e) (watched h (opened comes x) u)
-step_shown h who comes ending l e t u x a can tells s stands shown =
-    let y : Standing = (opened comes x).stands in
-    let notes : List Noted = event_entries l e in
-    let first : ShownBy (see_all (kept l) (opened_by who comes)) y = opens comes in
-    let all : ShownBy (see_all (see_all (kept l) (opened_by who comes)) s.rest) (standing_by_law h y s.rest) =
-    notes_shown h s.rest (see_all (kept l) (opened_by who comes)) y (shaped_unstarted who ending s.rest s.shaped) first in
-    let seen : see_all (see_all (kept l) (opened_by who comes)) s.rest ≡ kept (happens l e) =
-    sym (ap (see_all (kept l)) s.is ∙ see_all-append (kept l) (opened_by who comes) s.rest) ∙ event_seen h l t e a in
-    let P : Seen → Type 0 = λ z. ShownBy z (standing_by_law h y s.rest) in
-    record {
-      wires = subst (ShownBy (kept (happens l e))) (sym (stands y ∙ opened_stands h who comes notes s.rest s.is y)) (subst P seen all);
-      since = goes comes s.is;
-    }
-  where
-    opens : (c : Comes) → ShownBy (see_all (kept l) (opened_by who c)) (opened c x).stands
-    opens NextFrame = shown.wires
-    opens (AsksReset window) = shown.wires
-    opens (Starts value) = record { to_controller = refl; to_host = refl }
-    opens Stops = record { to_controller = refl; to_host = refl }
-    opens NoInput = shown.wires
+  pub step_shown : (who : Side) (comes : Comes) (ending : Ending) → IsStepShaped who comes ending (event_entries l e)
+      → Shown (happens l e) (watched h (opened comes x) u)
+  step_shown who comes ending s =
+      let y : Standing = (opened comes x).stands in
+      let first : ShownBy (see_all (kept l) (opened_by who comes)) y = opens comes in
+      let all : ShownBy (see_all (see_all (kept l) (opened_by who comes)) s.rest) (standing_by_law h y s.rest) =
+      notes_shown h s.rest (see_all (kept l) (opened_by who comes)) y (shaped_unstarted who ending s.rest s.shaped) first in
+      let seen : see_all (see_all (kept l) (opened_by who comes)) s.rest ≡ kept (happens l e) =
+      sym (ap (see_all (kept l)) s.is ∙ see_all-append (kept l) (opened_by who comes) s.rest) ∙ event_seen h l t e a in
+      let P : Seen → Type 0 = λ z. ShownBy z (standing_by_law h y s.rest) in
+      record {
+        wires = subst (ShownBy (kept (happens l e))) (sym (n.stands y ∙ opened_stands h who comes (event_entries l e) s.rest s.is y)) (subst P seen all);
+        since = goes comes s.is;
+      }
+    where
+      opens : (c : Comes) → ShownBy (see_all (kept l) (opened_by who c)) (opened c x).stands
+      opens NextFrame = shown.wires
+      opens (AsksReset window) = shown.wires
+      opens (Starts value) = record { to_controller = refl; to_host = refl }
+      opens Stops = record { to_controller = refl; to_host = refl }
+      opens NoInput = shown.wires
 
-    rest_unstarted : AreUnstarted s.rest
-    rest_unstarted = shaped_unstarted who ending s.rest s.shaped
+      rest_unstarted : AreUnstarted s.rest
+      rest_unstarted = shaped_unstarted who ending s.rest s.shaped
 
-    plainly : event_entries l e ≡ s.rest → (watched h x u).since ≡ true → IsSince (happens l e)
-    plainly q = since_step h l e u can tells (subst (λ z. AreUnstarted z) (sym q) rest_unstarted) stands x shown.since
+      plainly : event_entries l e ≡ s.rest → (watched h x u).since ≡ true → IsSince (happens l e)
+      plainly q = since_step h l e u n (subst (λ z. AreUnstarted z) (sym q) rest_unstarted) x shown.since
 
-    goes : (c : Comes) → event_entries l e ≡ opened_by who c ++ s.rest → (watched h (opened c x) u).since ≡ true → IsSince (happens l e)
-    goes NextFrame q = plainly q
-    goes (AsksReset window) q = plainly q
-    goes (Starts value) q = λ z. absurd (true≢false (sym z))
-    goes Stops q = λ z. absurd (true≢false (sym z))
-    goes NoInput q = plainly q
+      goes : (c : Comes) → event_entries l e ≡ opened_by who c ++ s.rest → (watched h (opened c x) u).since ≡ true → IsSince (happens l e)
+      goes NextFrame q = plainly q
+      goes (AsksReset window) q = plainly q
+      goes (Starts value) q = λ z. absurd (true≢false (sym z))
+      goes Stops q = λ z. absurd (true≢false (sym z))
+      goes NoInput q = plainly q
 
 -- ## Activation at the controller's end puts nothing on the wire
 

@@ -22,7 +22,8 @@ use Rattle.node_telling.proofs.Worlds.{site_is, node_is}
 use Rattle.node_telling.proofs.Events.{comes_goes}
 use Rattle.node_order.specs.Told.{IsLinkTold}
 use Rattle.node_order.proofs.Lines.{IsSo, watches, of_none}
-use Rattle.node_order.proofs.Knowing.{IsStepOf, told_more, WasThere, was_there}
+use Rattle.node_order.proofs.Watches.{IsStepOf}
+use Rattle.node_order.proofs.Knowing.{told_more, WasThere, was_there}
 use Rattle.node_order.proofs.Events.{near_step}
 use Rattle.node_order.proofs.Ticking.{timely}
 use Rattle.step_rooms.specs.Moments.{HoldsInStep, host_begins_step, host_tick_begins, ArePortsRead}
@@ -89,7 +90,7 @@ module _ (hosts : List ℕ) (os : List Occurrence) (w : NodeWorld) (a : IsSo hos
             let n : IsStepOf h x.link event u =
             near_step w (entries_in os) (watches of_none os) a.well a.each h (Starts power) (Start power) tt refl r e h x was.there in
             let P : Site → Type 0 = λ z. IsLinkTold h z.link (entries_in os ++ u) in
-            subst P was.is (told_more h x.link event (entries_in os) u n.can n.tells n.stands (a.each h x was.there).told)
+            subst P was.is (told_more h x.link event (entries_in os) u n (a.each h x was.there).told)
 
         go : (o : Option Running) → w.controller ≡ o → Goal (controller_does w h (Starts power) f)
         go None e = subst Goal (sym (off_is e)) off_goal
