@@ -31,25 +31,33 @@ use Rattle.step_rooms.proofs.HostBeginning.{host_carried}
 use Rattle.step_rooms.proofs.HostTicking.{host_tick_read}
 use Rattle.step_rooms.proofs.Turning.{step_read}
 
--- something comes to the end of a host whose link is told
-own_read : (w : NodeWorld) (t : List Entry) → IsOrderly w → IsFineWorld w → (h : ℕ) (s : Site) → site_at w.sites h ≡ Some s → IsLinkTold h s.link t
-    → (r : Running) → s.node ≡ Some r → (comes : Comes) (i : LinkInput) → input_of (exchanged s.link) comes ≡ Some i
-    → HoldsInStep (ArePortsRead Host t) (AtEnd h i) (host_begins_step s r comes)
-own_read w t orderly fine h s found told r runs comes i q =
-    let is : s.host ≡ h = site_host w.sites h s found in
-    let number : (s.host == 0) ≡ false = site_is (λ (x : Site). (x.host == 0) ≡ false) w.sites h s orderly.hosts found in
+-- the link of this host is told, in a world that is in order
+record IsToldAt (w : NodeWorld) (t : List Entry) (h : ℕ) (s : Site) : Type 0 where
+  orderly : IsOrderly w
+  fine : IsFineWorld w
+  found : site_at w.sites h ≡ Some s
+  told : IsLinkTold h s.link t
+
+-- something comes to the end of such a host
+own_read : (w : NodeWorld) (t : List Entry) (h : ℕ) (s : Site) → IsToldAt w t h s → (r : Running) → s.node ≡ Some r → (comes : Comes) (i : LinkInput)
+    → input_of (exchanged s.link) comes ≡ Some i → HoldsInStep (ArePortsRead Host t) (AtEnd h i) (host_begins_step s r comes)
+own_read w t h s a r runs comes i q =
+    let is : s.host ≡ h = site_host w.sites h s a.found in
+    let number : (s.host == 0) ≡ false = site_is (λ (x : Site). (x.host == 0) ≡ false) w.sites h s a.orderly.hosts a.found in
     let node : HasEnds s.host (s.host ∷ []) r =
-    node_is s.host (s.host ∷ []) s.node r (site_is (λ (x : Site). IfItRuns x.host (x.host ∷ []) x.node) w.sites h s orderly.nodes found) runs in
+    node_is s.host (s.host ∷ []) s.node r (site_is (λ (x : Site). IfItRuns x.host (x.host ∷ []) x.node) w.sites h s a.orderly.nodes a.found) runs in
     let T : ℕ → Type 0 = λ n. IsLinkTold n s.link t in
     let P : ℕ → Type 0 = λ n. HoldsInStep (ArePortsRead Host t) (AtEnd n i) (host_begins_step s r comes) in
     subst P is (step_read Host t (AtEnd s.host i) (host_begins_step s r comes)
-    (host_carried t s (site_is IsFineSite w.sites h s fine.sites found) (subst T (sym is) told) r runs number node comes i q))
+    (host_carried t s (site_is IsFineSite w.sites h s a.fine.sites a.found) (subst T (sym is) a.told) r runs number node comes i q))
 
 module _ (hosts : List ℕ) (os : List Occurrence) (w : NodeWorld) (a : IsSo hosts os w) where
   -- a frame or a reset
   pub host_read : (h : ℕ) (s : Site) → site_at w.sites h ≡ Some s → (r : Running) → s.node ≡ Some r → (comes : Comes) (i : LinkInput)
       → input_of (exchanged s.link) comes ≡ Some i → HoldsInStep (ArePortsRead Host (entries_in os)) (AtEnd h i) (host_begins_step s r comes)
-  host_read h s found r runs comes i q = own_read w (entries_in os) a.well.orderly a.well.fine h s found (a.each h s found).told r runs comes i q
+  host_read h s found r runs comes i q =
+      own_read w (entries_in os) h s (record { orderly = a.well.orderly; fine = a.well.fine; found = found; told = (a.each h s found).told })
+      r runs comes i q
 
   -- activation, which has begun at the controller's end before
   module _ (h power : ℕ) where
@@ -99,8 +107,12 @@ module _ (hosts : List ℕ) (os : List Occurrence) (w : NodeWorld) (a : IsSo hos
     pub activated_read : (s : Site) → site_at near.0.sites h ≡ Some s → (r : Running) → s.node ≡ Some r → (sync : ℕ)
         → HoldsInStep (ArePortsRead Host (entries_in os ++ near.1)) (AtEnd h (Start sync)) (host_begins_step s r (Starts sync))
     activated_read s found r runs sync =
-        own_read near.0 (entries_in os ++ near.1) (comes_goes w (end_c h) (Starts power) a.well.orderly).orderly near_fine h s found (near_told s found) r runs
-        (Starts sync) (Start sync) refl
+        own_read near.0 (entries_in os ++ near.1) h s (record {
+          orderly = (comes_goes w (end_c h) (Starts power) a.well.orderly).orderly;
+          fine = near_fine;
+          found = found;
+          told = near_told s found;
+        }) r runs (Starts sync) (Start sync) refl
 
   -- its tick, behind those of the controller and of these hosts
   pub ticked_read : (x : Site) (before behind : List Site) → (controller_ticks (all_aged w).0).0.sites ≡ before ++ x ∷ behind → (r : Running)
