@@ -151,7 +151,7 @@ module _ (content : List ℕ) (s : State) (t : HciTables) (k : Knows content s t
     append_used : (j : ℕ) (left : List ℕ) → IsCut j (append_writes s (body_of c)) content left → IsSome (current left)
     append_used j left cut =
         left_used (append_writes s (body_of c)) content left (append_between j left cut) (used_of content s t k)
-            (used_of (after_writes (append_writes s (body_of c)) content) (appended s (body_of c)) (apply t c) append_knows)
+        (used_of (after_writes (append_writes s (body_of c)) content) (appended s (body_of c)) (apply t c) append_knows)
 
   module _ (are : AreTables t) (may : IsRecordable t) (next : s.generation < 4294967295) where
     pub can : CanCompact s (snapshot_bodies t)

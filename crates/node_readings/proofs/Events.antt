@@ -105,7 +105,7 @@ module _ (hosts : List ℕ) (are : AreHosts hosts) where
       away : (n : ℕ) (off : eqb h n ≡ false) → IsAway n x.host (ap (λ m. eqb m n) same ∙ off) Host k
       away n off =
           all_do n x.host (ap (λ m. eqb m n) same ∙ off) Host h deeds (work_of r x.memory.plan (λ m. x.link.host) []) (hushed n)
-          (host_away x.host host x.link r (subst (IfHostRuns x.host x.link) e keeps.runs) n (ap (λ m. eqb m n) same ∙ off) x.memory.plan x.link.host [] tt)
+          (host_away x r host (subst (IfHostRuns x.host x.link) e keeps.runs) n (ap (λ m. eqb m n) same ∙ off) x.link.host [] tt)
 
     by_site : (o : Option Site) → site_at w.sites h ≡ o → Fine (host_does w h NoInput f)
     by_site None e = subst Fine (sym (none_is e)) nothing
@@ -208,8 +208,9 @@ module _ (hosts : List ℕ) (are : AreHosts hosts) where
     by_node : (o : Option Running) → s.node ≡ o → AreSilent k (host_ticks s).1
     by_node None e = subst (AreSilent k) (sym (off_is e)) tt
     by_node (Some r) e = subst (AreSilent k) (sym (on_is e)) (silent-append k work.entries (frames_noted Host s.host (exchanged s.link) work)
-        (steps_away k s.host off Host TimePasses begun (host_away s.host host s.link r (subst (IfHostRuns s.host s.link) e keeps.runs) k off s.memory.plan
-        s.link.host [] tt)).silent (frames_silent k Host s.host (exchanged s.link) work)) where
+        (steps_away k s.host off Host TimePasses begun
+        (host_away s r host (subst (IfHostRuns s.host s.link) e keeps.runs) k off s.link.host [] tt)).silent
+            (frames_silent k Host s.host (exchanged s.link) work)) where
           begun : Work
           begun = work_of r s.memory.plan (λ n. s.link.host) []
 

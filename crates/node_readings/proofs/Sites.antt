@@ -136,48 +136,41 @@ module _ (t : List Entry) (s : Site) (host : IsHost s.host) (r : Running) (so : 
     order = order_more t es s.host ∙ (ap (reads s.host es) read ∙ silent r.core.command);
   }
 
--- the step of a host is done: its link becomes this one, in which its end is in this phase
-pub done_reads : (t : List Entry) (s : Site) (v : Site) (host : IsHost s.host) (now : LinkState) (k : Work) (frames : List Entry)
-    → v.host ≡ s.host → v.node ≡ runs_on k → (k.cut ≡ false → v.link.host.side.shdlc.phase ≡ now)
-    → ((c : Option (List ℕ)) → reads s.host frames c ≡ c) → Stands s.host host t now k → SiteReads (t ++ (k.entries ++ frames)) v
-done_reads t s v host now k frames same node phase silent (inl r) = record {
-  order = order_is;
-  runs = subst (IfHostRuns v.host v.link) (sym node_is) (record {
-    number = r.node ∙ sym same;
-    desk = r.port.desk;
-    desks_are = ap (map (λ (p : Port). p.desk)) r.is;
-    host = r.its.host ∙ sym same;
-    no_notice = r.its.no_notice;
-    short = r.short;
-    up = λ some. phase r.on ∙ (sym r.phase ∙ r.its.up some);
-  });
-} where
+-- The step of a host is done, in which frames come to its end of l: its link becomes this one, in which its end is in this phase, its memory
+-- that.
+pub done_reads : (t : List Entry) (s : Site) (host : IsHost s.host) (now : LinkState) (k : Work) (l link : Link) (memory : Memory)
+    → (k.cut ≡ false → link.host.side.shdlc.phase ≡ now) → Stands s.host host t now k
+    → SiteReads (t ++ (k.entries ++ frames_noted Host s.host l k)) (record s { link = link; memory = memory; node = runs_on k })
+done_reads t s host now k l link memory phase stands = by stands where
+  frames : List Entry
+  frames = frames_noted Host s.host l k
+
+  order_is : (o : Option Running) → runs_on k ≡ o → order_in (t ++ k.entries) s.host ≡ order_of o
+      → order_in (t ++ (k.entries ++ frames)) s.host ≡ order_of (runs_on k)
+  order_is o is order =
+      ap (λ l. order_in l s.host) (sym (append_assoc t k.entries frames))
+      ∙ (order_more (t ++ k.entries) frames s.host ∙ (frames_read s.host Host s.host l k (order_in (t ++ k.entries) s.host) ∙ (order ∙ sym (ap order_of is))))
+
   on_is : k.cut ≡ false → runs_on k ≡ Some (record { core = k.core; desks = map (λ (p : Port). p.desk) k.ports })
   on_is e = rw e refl
 
-  node_is : v.node ≡ Some (record { core = k.core; desks = map (λ (p : Port). p.desk) k.ports })
-  node_is = node ∙ on_is r.on
-
-  order_is : order_in (t ++ (k.entries ++ frames)) v.host ≡ order_of v.node
-  order_is =
-      ap (λ l. order_in (t ++ (k.entries ++ frames)) l) same
-      ∙ (ap (λ l. order_in l s.host) (sym (append_assoc t k.entries frames))
-      ∙ (order_more (t ++ k.entries) frames s.host ∙ (silent (order_in (t ++ k.entries) s.host) ∙ (r.order ∙ sym (ap order_of node_is)))))
-done_reads t s v host now k frames same node phase silent (inr r) = record {
-  order = order_is;
-  runs = subst (IfHostRuns v.host v.link) (sym node_is) tt;
-} where
   off_is : k.cut ≡ true → runs_on k ≡ None
   off_is e = rw e refl
 
-  node_is : v.node ≡ None
-  node_is = node ∙ off_is r.off
-
-  order_is : order_in (t ++ (k.entries ++ frames)) v.host ≡ order_of v.node
-  order_is =
-      ap (λ l. order_in (t ++ (k.entries ++ frames)) l) same
-      ∙ (ap (λ l. order_in l s.host) (sym (append_assoc t k.entries frames))
-      ∙ (order_more (t ++ k.entries) frames s.host ∙ (silent (order_in (t ++ k.entries) s.host) ∙ (r.order ∙ sym (ap order_of node_is)))))
+  by : Stands s.host host t now k → SiteReads (t ++ (k.entries ++ frames)) (record s { link = link; memory = memory; node = runs_on k })
+  by (inl r) = record {
+    order = order_is (Some (record { core = k.core; desks = map (λ (p : Port). p.desk) k.ports })) (on_is r.on) r.order;
+    runs = subst (IfHostRuns s.host link) (sym (on_is r.on)) (record {
+      number = r.node;
+      desk = r.port.desk;
+      desks_are = ap (map (λ (p : Port). p.desk)) r.is;
+      host = r.its.host;
+      no_notice = r.its.no_notice;
+      short = r.short;
+      up = λ some. phase r.on ∙ (sym r.phase ∙ r.its.up some);
+    });
+  }
+  by (inr r) = record { order = order_is None (off_is r.off) r.order; runs = subst (IfHostRuns s.host link) (sym (off_is r.off)) tt }
 
 -- something comes to the end of a host that runs
 pub comes_reads : (t : List Entry) (s : Site) (r : Running) (comes : Comes) (i : LinkInput) → IsHost s.host → SiteReads t s → s.node ≡ Some r
@@ -186,8 +179,7 @@ pub comes_reads : (t : List Entry) (s : Site) (r : Running) (comes : Comes) (i :
     ++ frames_noted Host s.host (wires_for (exchanged s.link) comes) (host_work s r comes (steps (AtEnd s.host i)))))
     (after_host comes (host_work s r comes (steps (AtEnd s.host i))) s)
 comes_reads t s r comes i host reads_so node input =
-    done_reads t s (after_host comes k s) host now k (frames_noted Host s.host (wires_for (exchanged s.link) comes) k) refl refl phase
-    (frames_read s.host Host s.host (wires_for (exchanged s.link) comes) k) stands where
+    done_reads t s host now k (wires_for (exchanged s.link) comes) (after_host comes k s).link (after_host comes k s).memory phase stands where
       k : Work
       k = host_work s r comes (steps (AtEnd s.host i))
 
@@ -238,8 +230,7 @@ pub acts_reads : (t : List Entry) (s : Site) (r : Running) (deeds : List Deed) �
     ++ frames_noted Host s.host (wires_for (exchanged s.link) NoInput) (host_work s r NoInput (begins_with s.host deeds))))
     (after_host NoInput (host_work s r NoInput (begins_with s.host deeds)) s)
 acts_reads t s r deeds host reads_so node may =
-    done_reads t s (after_host NoInput k s) host now k (frames_noted Host s.host (wires_for (exchanged s.link) NoInput) k) refl refl phase
-    (frames_read s.host Host s.host (wires_for (exchanged s.link) NoInput) k) stands where
+    done_reads t s host now k (wires_for (exchanged s.link) NoInput) (after_host NoInput k s).link (after_host NoInput k s).memory phase stands where
       k : Work
       k = host_work s r NoInput (begins_with s.host deeds)
 
@@ -299,7 +290,7 @@ ticks_read t s host reads_so = by_node s.node refl where
     off_is : s.node ≡ None → host_ticks s ≡ (record s { link = exchanged (ticks_at_controller (exchanged s.link) [] GoesOut) }, [])
     off_is e = rw e refl
   by_node (Some r) e = subst (λ (p : Site × List Entry). SiteReads (t ++ p.1) p.0) (sym (on_is e))
-      (done_reads t s v host now k (frames_noted Host s.host (exchanged s.link) k) refl refl phase (frames_read s.host Host s.host (exchanged s.link) k) stands)
+      (done_reads t s host now k (exchanged s.link) v.link v.memory phase stands)
     where
       begun : Work
       begun = work_of r s.memory.plan (λ n. s.link.host) []

@@ -129,14 +129,13 @@ runs_zero k e = go k.cut refl where
   go false z = subst IfZero (sym (on_is z)) e
 
 -- a host begins a step away from each other one
-pub host_away : (h : ℕ) → IsHost h → (link : Link) (r : Running) → HostRuns h link r
-    → (k : ℕ) (other : eqb h k ≡ false) (plan : Option Plan) (near_end : NumberedEnd)
-    (es : List Entry) → AreSilent k es → IsAway k h other Host (work_of r plan (λ n. near_end) es)
-host_away h host link r so k other plan near_end es silent = record {
+pub host_away : (x : Site) (r : Running) → IsHost x.host → HostRuns x.host x.link r → (k : ℕ) (other : eqb x.host k ≡ false) (near_end : NumberedEnd)
+    (es : List Entry) → AreSilent k es → IsAway k x.host other Host (work_of r x.memory.plan (λ n. near_end) es)
+host_away x r host so k other near_end es silent = record {
   number = so.number;
   side = ap (λ b. cond b Controller Host) (ne_eqb r.core.node 0 (λ e. omega (arith, e, so.number, host.0)));
   ends = subst (λ ds. AllByRecursion (λ (p : Port). Away k Host p.desk.host) (map (λ (d : Desk). port_for near_end d) ds)) (sym so.desks_are)
-      (subst (Away k Host) (sym so.host) (far_away k h other), tt);
+      (subst (Away k Host) (sym so.host) (far_away k x.host other), tt);
   silent = silent;
 }
 
@@ -241,7 +240,7 @@ module _ (hosts : List ℕ) (are : AreHosts hosts) where
       away n off =
           steps_away n x.host (ap (λ m. eqb m n) same ∙ off) Host (AtEnd h i) (work_of r x.memory.plan (λ m. near_end_in (exchanged x.link) comes) (entries_for
           x.host (arrival Host (exchanged x.link) comes)))
-          (host_away x.host host x.link r (subst (IfHostRuns x.host x.link) e keeps.runs) n (ap (λ m. eqb m n) same ∙ off) x.memory.plan (near_end_in
+          (host_away x r host (subst (IfHostRuns x.host x.link) e keeps.runs) n (ap (λ m. eqb m n) same ∙ off) (near_end_in
           (exchanged x.link) comes) (entries_for x.host (arrival Host (exchanged x.link) comes)) (arrival_silent n Host x.host (exchanged x.link) comes))
 
     by_site : (o : Option Site) → site_at w.sites h ≡ o → Fine (host_does w h comes f)
