@@ -520,7 +520,7 @@ module _ (hosts : List ℕ) (are : AreHosts hosts) (t : List Entry) (w : NodeWor
     near_tick es before =
         subst (λ (p : NodeWorld × List Entry). Reads ((t ++ es) ++ p.1) p.0) (sym on_is)
         (step_reads (t ++ es) w r runs has notices.orderly.different all_hosts ups shut_at
-            (rows_of r runs) before w.memory.plan near_ends same [] tt TimePasses tt
+        (rows_of r runs) before w.memory.plan near_ends same [] tt TimePasses tt
         frames (far_flat (λ (s : Site). frames_noted Controller s.host s.link k) (λ s. frames_quiet Controller s.host s.link k) (all_aged w).0.sites)
         ticked_world refl
         (λ x none. none_side ticked_world.sites x (nowhere_map ticked (λ s. refl) (map older w.sites) x (nowhere_map older (λ s. refl) w.sites x none)))
@@ -573,7 +573,7 @@ module _ (hosts : List ℕ) (are : AreHosts hosts) (t : List Entry) (w : NodeWor
             let b : IsBegun (t ++ es) w r runs has notices.orderly.different all_hosts ups shut_at (rows_of r runs) before w.memory.plan near_ends same [] tt x
             (port_for (near_ends x) d.0) =
             begun_at (t ++ es) w r runs has notices.orderly.different all_hosts ups shut_at
-                (rows_of r runs) before w.memory.plan near_ends same [] tt x d.0 d.1 in
+            (rows_of r runs) before w.memory.plan near_ends same [] tt x d.0 d.1 in
             let p : Port = port_for (near_ends x) d.0 in
             let made = tick_made x (work_of r w.memory.plan near_ends []) p b.here b.turns in
             let side : p.side ≡ (aged s.link).controller.side = b.side ∙ ap (λ (l : Link). l.controller.side) (link_is w.sites x s q) in

@@ -90,7 +90,7 @@ module _ (w : NodeWorld) (t : List Entry) (X : ℕ → WatchedLink) (a : IsWell 
     done =
         steps_fine (AtEnd k i) (work_of r w.memory.plan near_ends (entries_for k (arrival Controller (link_to w.sites k) comes)))
         (ports_fine near_ends
-            (λ j. near_end_clean (link_to w.sites j) (comes_to k comes j) (near_clean w.sites j (fine_clean w.sites a.fine.sites))) r.desks desks)
+        (λ j. near_end_clean (link_to w.sites j) (comes_to k comes j) (near_clean w.sites j (fine_clean w.sites a.fine.sites))) r.desks desks)
 
     node : HasEnds 0 (hosts_in w.sites) r
     node = node_is 0 (hosts_in w.sites) w.controller r a.orderly.controller runs

@@ -210,7 +210,7 @@ module _ (hosts : List ℕ) (are : AreHosts hosts) where
     by_node (Some r) e = subst (AreSilent k) (sym (on_is e)) (silent-append k work.entries (frames_noted Host s.host (exchanged s.link) work)
         (steps_away k s.host off Host TimePasses begun
         (host_away s r host (subst (IfHostRuns s.host s.link) e keeps.runs) k off s.link.host [] tt)).silent
-            (frames_silent k Host s.host (exchanged s.link) work)) where
+        (frames_silent k Host s.host (exchanged s.link) work)) where
           begun : Work
           begun = work_of r s.memory.plan (λ n. s.link.host) []
 

@@ -52,7 +52,7 @@ module _ (hosts : List ℕ) (are : AreHosts hosts) (t : List Entry) where
   module _ (w : NodeWorld) (k : ReadsBetween hosts t w) (r : Running) (runs : w.controller ≡ Some r) where
     pub comes_reads : (h : ℕ) (comes : Comes) (i : LinkInput) → input_of (link_to w.sites h) comes ≡ Some i
         → (comes_to_pass (AtEnd h i) (controller_begins w r h comes)).cut ≡ false
-            → ReadsInStep hosts t (comes_to_pass (AtEnd h i) (controller_begins w r h comes))
+        → ReadsInStep hosts t (comes_to_pass (AtEnd h i) (controller_begins w r h comes))
     comes_reads h comes i input on = record {
       runs = comes_begins hosts are t w k.keeps r runs h comes i input on;
       named = join t (comes_to_pass (AtEnd h i) (controller_begins w r h comes)).entries k.named

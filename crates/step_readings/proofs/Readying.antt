@@ -134,7 +134,7 @@ module _ (x : ℕ) (before : List Entry) (w : Work) (a : IsNoticed x before w) w
       let freed : IsNoticed x before u =
       frees_noticed x before w a (freed_by input w) (begun_by input w) (begun_noticed x before w a (times_out input (all_come input w)) c) in
       let kept : Stands x before (all_done 0 syncs u) =
-          all_stand x before 0 (λ n. ⊥) syncs u (λ n f. absurd f) (no_notices_may x (λ n. ⊥) syncs no_notices) freed in
+      all_stand x before 0 (λ n. ⊥) syncs u (λ n f. absurd f) (no_notices_may x (λ n. ⊥) syncs no_notices) freed in
       then_noticed x before (all_done 0 (all_owed (left_by input w))) (all_done 0 syncs u) kept
       (λ d. all_stand x before 0 (λ n. ⊥) (all_owed (left_by input w)) (all_done 0 syncs u) (λ n f. absurd f)
       (no_notices_may x (λ n. ⊥) (all_owed (left_by input w)) (owed_all x before w a (left_by input w))) d)

@@ -144,7 +144,7 @@ module _ (hosts : List ℕ) (are : AreHosts hosts) (t : List Entry) (w : NodeWor
       noticed x =
           notices_ready x before begun
           (begins_noticed before w r has different ups k.creations.notices.sites notices_old w.memory.plan near_ends same es quiet input outside x) input
-              outside
+          outside
           (subst AreDifferent (sym (hosts_same near_ends r.desks ∙ has.ends)) different) fresh shut
 
       made : (x : ℕ) → Fine x before hosts (comes_to_pass input begun)
@@ -183,7 +183,7 @@ module _ (hosts : List ℕ) (are : AreHosts hosts) (t : List Entry) (w : NodeWor
       pub pass_named : AreNamed (comes_to_pass input begun).entries
       pass_named =
           ready_named input begun
-              (no_notices_flat (synced begun.core input) (λ (p : Port). IsHost p.desk.host) (λ p host. synced_no_notices begun.core input p host)
+          (no_notices_flat (synced begun.core input) (λ (p : Port). IsHost p.desk.host) (λ p host. synced_no_notices begun.core input p host)
           begun.ports noticed_first.hosts) (λ ports. owed_all 0 before begun noticed_first ports) (far_named es quiet)
 
       pub step_named : AreNamed (steps input begun).entries

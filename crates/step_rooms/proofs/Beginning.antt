@@ -194,6 +194,6 @@ module _ (w : NodeWorld) (t : List Entry) (orderly : IsOrderly w) (fine : IsFine
           };
           fine = begun_fine (AtEnd k i) start
               (ports_fine near_ends
-                  (λ j. near_end_clean (link_to w.sites j) (comes_to k comes j) (near_clean w.sites j (fine_clean w.sites fine.sites))) r.desks
+              (λ j. near_end_clean (link_to w.sites j) (comes_to k comes j) (near_clean w.sites j (fine_clean w.sites fine.sites))) r.desks
               (some_desks w.controller r runs fine.controller));
         })

@@ -154,7 +154,7 @@ module _ (s : Site) (r : Running) (k : ℕ) (number : s.host ≡ k) (runs : s.no
       let came : ℕ → List Message = came_by (λ j. near_end.side) (AtEnd k i) in
       let here : (s.host == k) ≡ true = eq-eqb s.host k number in
       host_goes s (after_host comes v s) r near_end came begun v (frames_noted Host k (wires_for own_link comes) v) runs node.ends refl
-          (near_end_side own_link comes)
+      (near_end_side own_link comes)
       (step_does s.host (s.host ∷ []) Host (λ j. near_end.side) begun side_is (kept near_end es) (λ e. arrival_still e Host s.host own_link comes) (AtEnd k i)
       (comes_outside own_link comes i q) (different near_end es))
       (quiet comes v) refl
@@ -172,7 +172,7 @@ module _ (s : Site) (r : Running) (k : ℕ) (number : s.host ≡ k) (runs : s.no
       let begun : Work = starts near_end es in
       let v : Work = host_work s r NoInput (begins_with k deeds) in
       host_goes s (after_host NoInput v s) r near_end (λ j. near_end.side.got) begun v
-          (frames_noted Host k (wires_for own_link NoInput) v) runs node.ends refl refl
+      (frames_noted Host k (wires_for own_link NoInput) v) runs node.ends refl refl
       (begin_does s.host (s.host ∷ []) Host (λ j. near_end.side) begun side_is (kept near_end es) (λ e. tt) k deeds m)
       (quiet NoInput v) refl
       (ap (λ (x : NumberedEnd). x.side.got) (here_host own_link (Step NoInput (turns_at v s.host) (ending_of v))))

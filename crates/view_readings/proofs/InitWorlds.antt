@@ -320,7 +320,7 @@ module _ (h : ℕ) (host : IsHost h) where
       (λ s r here q. let has = own_ends w.sites k s r (orderly_fine w orderly) here q in
       let away : eqb s.host h ≡ false = other_host w.sites k s here off in
       others_begin h s.host away Host (ap (λ b. cond b Controller Host) has.1) (s.host ∷ []) r s.memory.plan
-          (λ n. near_end_in (exchanged s.link) NoInput) k deeds
+      (λ n. near_end_in (exchanged s.link) NoInput) k deeds
       has.0 (far_off s.host away, tt) notes) keeps
 
   pub gives_keep : (w : NodeWorld) (i : Option Init) (k : ℕ) (m : Message) → IsOrderly w → Keeps w i

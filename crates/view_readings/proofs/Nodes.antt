@@ -182,13 +182,13 @@ module _ (e : End) (real : e.at_host ≡ true → eqb e.link 0 ≡ false) (hosts
       → HasEnds (node_of e) hosts r → AllByRecursion (IsStill e) frames → AreUnset deeds
       → (e.at_host ≡ false → r.core.tables ≡ x.book.tables) → KeepsErrors e r x
       → IfKeeps e (runs_on (begins_with h deeds (work_of r plan near_ends [])))
-          (reads e ((begins_with h deeds (work_of r plan near_ends [])).entries ++ frames) x)
+      (reads e ((begins_with h deeds (work_of r plan near_ends [])).entries ++ frames) x)
   own_begins x r plan near_ends frames h deeds has frames_so unset known keeps =
       let k : Work = begins_with h deeds (work_of r plan near_ends []) in
       subst (IfKeeps e (runs_on k)) (sym (reads_append e k.entries frames x)) (leaves_kept e (runs_on k) (reads e k.entries x) frames
       (still_leaves e frames frames_so)
       (ended_keeps x k
-          (all_do e hosts x h deeds (work_of r plan near_ends []) (unset_fine e hosts x h deeds unset) (begun_right x r plan near_ends [] has tt known
+      (all_do e hosts x h deeds (work_of r plan near_ends []) (unset_fine e hosts x h deeds unset) (begun_right x r plan near_ends [] has tt known
       keeps))))
 
 -- ## Other nodes

@@ -213,7 +213,7 @@ module _ (e : End) (real : e.at_host ≡ true → eqb e.link 0 ≡ false) where
       by_side : (b : Bool) → e.at_host ≡ b → After (after_controller w h comes c) x
       by_side false near = subst (λ o. IfKeeps e o (reads e (c.entries ++ frames) x)) (sym (near_node (after_controller w h comes c).0 near))
           (own_steps e real (hosts_in w.sites) (near_single (hosts_in w.sites) near) x r w.memory.plan
-              (λ n. near_end_in (link_to w.sites n) (comes_to h comes n))
+          (λ n. near_end_in (link_to w.sites n) (comes_to h comes n))
           (entries_for h (arrival Controller (link_to w.sites h) comes)) frames (AtEnd h i) (subst (λ n. HasEnds n (hosts_in w.sites) r) (sym (near_zero near))
           has) came frames_so (λ n. known n r q) (subst (λ o. IfKeeps e o x) (near_node w near ∙ q) k))
       by_side true far =
@@ -221,7 +221,7 @@ module _ (e : End) (real : e.at_host ≡ true → eqb e.link 0 ≡ false) where
           (host_node (after_controller w h comes c).0 far
           ∙ (node_map (link_after_controller h comes c) (λ s. refl) (λ s. refl) w.sites e.link ∙ sym (host_node w far)))
           (AllByRecursion-append (Leaves e) c.entries frames
-              (others_step e 0 Controller (hosts_in w.sites) r w.memory.plan (λ n. near_end_in (link_to w.sites n)
+          (others_step e 0 Controller (hosts_in w.sites) r w.memory.plan (λ n. near_end_in (link_to w.sites n)
           (comes_to h comes n)) (entries_for h (arrival Controller (link_to w.sites h) comes)) (AtEnd h i) has refl (near_other far (hosts_in w.sites))
           (still_leaves e (entries_for h (arrival Controller (link_to w.sites h) comes)) came)) (still_leaves e frames frames_so)) k
 
