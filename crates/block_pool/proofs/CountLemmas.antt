@@ -1,11 +1,10 @@
 -- How calls change what owners use.
-use Rattle.std.proofs.Common.{◌≡◌, ◌≢◌, ℕ, zero, suc, ◌+◌, ◌-◌, ◌<◌, ◌≤◌, inl, inr, true, false, cond, eqb, List, [], ◌∷◌, ◌++◌, length, get_or, set, refl, sym, ap, ◌∙◌, subst, arith, length-set, length-append, replicate, get_or-set_same, get_or-set_other}
+use Rattle.std.proofs.Common.{◌≡◌, ◌≢◌, ℕ, zero, suc, ◌+◌, ◌-◌, ◌<◌, ◌≤◌, inl, inr, cond, List, [], ◌∷◌, ◌++◌, length, get_or, set, refl, sym, ap, ◌∙◌, subst, arith, length-set, length-append, replicate, get_or-set_same, get_or-set_other}
 use Rattle.std.specs.Prelude.{Option, Some, None}
 use Rattle.std.specs.List.{sum_by}
 use Rattle.std.proofs.lemmas.List.{set-set, length-map}
 use Rattle.std.proofs.lemmas.List.Sums.{sum_by-cons, sum_by-set, get_or-le-sum_by}
 use Rattle.std.proofs.lemmas.Bool.{cases_eq}
-use Rattle.std.proofs.lemmas.Grind.{common_steps}
 use Rattle.block_pool.specs.declared.owners.Owner.{Owner}
 use Rattle.block_pool.specs.Slots.{Held, blocks_for, slot, with_chain, bytes_in, held_bytes, owner_in}
 use Rattle.block_pool.specs.Names.{named_bytes, IsLiveAt, put_at, removed_at, IsNamedAfter}
@@ -13,6 +12,7 @@ use Rattle.block_pool.specs.Owners.{owner_at, with_aside, new_owners}
 use Rattle.block_pool.specs.Pool.{PoolState, quota_of, used_of, aside_of, spare_of}
 use Rattle.block_pool.specs.Counts.{blocks_in, blocks_held, AreCounted, AreFree, IsCounted}
 use Rattle.block_pool.proofs.SlotLemmas.{slot_low}
+use Rattle.block_pool.proofs.LinkLemmas.{test_true, test_false}
 
 -- ---- sums
 
@@ -25,12 +25,6 @@ sum_le f g d (x ∷ xs) each =
     omega (arith, sum_by-cons f x xs, sum_by-cons g x xs)
 
 -- ---- one chain
-
-test_true : (a b : ℕ) → a ≡ b → eqb a b ≡ true
-test_true a b e = grind (arith, common_steps)
-
-test_false : (a b : ℕ) → a ≢ b → eqb a b ≡ false
-test_false a b e = grind (arith, common_steps)
 
 in_same : (o : ℕ) (bytes : List ℕ) → blocks_in o (Some (record { owner = o; bytes = bytes })) ≡ blocks_for (length bytes)
 in_same o bytes = ap (λ b. cond b (blocks_for (length bytes)) 0) (test_true o o refl)

@@ -130,10 +130,10 @@ other_block x y i j apart same = apart (omega arith)
 other_offset : (x i j : ℕ) → i % 32 ≢ j % 32 → 32 * x + i % 32 ≢ 32 * x + j % 32
 other_offset x i j apart same = apart (omega arith)
 
-test_true : (a b : ℕ) → a ≡ b → eqb a b ≡ true
+pub test_true : (a b : ℕ) → a ≡ b → eqb a b ≡ true
 test_true a b e = grind (arith, common_steps)
 
-test_false : (a b : ℕ) → a ≢ b → eqb a b ≡ false
+pub test_false : (a b : ℕ) → a ≢ b → eqb a b ≡ false
 test_false a b e = grind (arith, common_steps)
 
 -- the marks after the first free block became block k of chain c

@@ -21,11 +21,11 @@ use Rattle.node_links.specs.Notices.{IsComing, IsOutside}
 use Rattle.node_links.proofs.Staying.{stays_up}
 use Rattle.node_links.proofs.Noticing.{UpAt, at_all, at_host, outside as from_outside}
 use Rattle.node_links.proofs.Blocks.{IsWithin, input_within}
-use Rattle.node_telling.proofs.Ticks.{reset_host}
 use Rattle.kept_laws.specs.Hosts.{AreDifferent}
 use Rattle.kept_laws.proofs.Books.{book_more, plain_fold}
 use Rattle.kept_laws.proofs.Plainly.{plain_entries, plain_flat, hosts_map}
 use Rattle.kept_laws.specs.Books.{IsPlain}
+use Rattle.kept_laws.proofs.Stepping.{late_host}
 use Rattle.node_readings.specs.Orders.{IsFresh}
 use Rattle.node_readings.proofs.Noticed.{up_is}
 use Rattle.notice_readings.proofs.Reading.{reads}
@@ -299,7 +299,7 @@ module _ (x : ℕ) (before : List Entry) (hosts : List ℕ) (asked : Asked) (n :
     old_hosts = hosts_map with_older (λ q. refl) ticked ∙ come_hosts TimePasses tt
 
     last_hosts : map (λ (p : Port). p.desk.host) (map reset_late olds) ≡ hosts
-    last_hosts = hosts_map reset_late reset_host olds ∙ old_hosts
+    last_hosts = hosts_map reset_late late_host olds ∙ old_hosts
 
     late_same : (p : Port) (s : Option (List ℕ)) → asks x (told_late w.core p) s ≡ reads x (told_late w.core p) s
     late_same p s = go (is_late p) where
@@ -313,7 +313,7 @@ module _ (x : ℕ) (before : List Entry) (hosts : List ℕ) (asked : Asked) (n :
         (sym (flat_same x (told_late w.core) late_same olds first
         ∙ flat_reads x (told_late w.core) (λ p s e. late_elsewhere x w.core side p s e) olds (subst AreDifferent (sym old_hosts) different) first))
         (subst (IsCome n list r (option_map_or (λ (p : Port). reads x (told_late w.core p) first) (port_at olds x) first))
-        (sym (at_all olds x reset_late reset_host))
+        (sym (at_all olds x reset_late late_host))
         (subst (λ o. IsCome n list r (option_map_or (λ (p : Port). reads x (told_late w.core p) first) o first) (option_map reset_late o))
         (sym (at_all ticked x with_older (λ q. refl) ∙ ap (option_map with_older) (at_all w.ports x (come TimePasses tt) (λ q. come_host q (Some Tick)))))
         (go (port_at w.ports x) refl up (subst (IsCome n list r first) (at_all w.ports x (come TimePasses tt) (λ q. come_host q (Some Tick)))
@@ -358,7 +358,7 @@ module _ (x : ℕ) (before : List Entry) (hosts : List ℕ) (asked : Asked) (n :
       core = refl;
       on = a.on;
       hosts_are = last_hosts;
-      asked_are = asked_map reset_late reset_host reset_asked olds ∙ (asked_map with_older (λ q. refl) older_asked ticked ∙ come_asks TimePasses tt);
+      asked_are = asked_map reset_late late_host reset_asked olds ∙ (asked_map with_older (λ q. refl) older_asked ticked ∙ come_asks TimePasses tt);
       book = book_plain (w.entries ++ noted TimePasses tt) late (plain_flat (told_late w.core) plain_late olds) (come_book TimePasses tt);
       read = ask_more x before (w.entries ++ noted TimePasses tt) late ∙ (ap (asks x late) (ask_more x before w.entries (noted TimePasses tt))
           ∙ (last_at.1 ∙ ap (λ b. cond b None r) (sym (over_is (map reset_late olds) last_hosts))));

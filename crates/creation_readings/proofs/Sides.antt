@@ -22,13 +22,14 @@ use Rattle.node_links.proofs.Noticing.{UpAt, at_all}
 use Rattle.node_telling.proofs.Accounts.{at_changed, turned-append}
 use Rattle.node_telling.proofs.Walks.{AreSilent, rest}
 use Rattle.node_telling.proofs.Mute.{forgotten_mute, all_owed_mute, all_synced_mute}
-use Rattle.node_telling.proofs.Steps.{without_host, without_same, forgets_same}
-use Rattle.node_telling.proofs.Ticks.{IsLate, late_parts, reset_host}
+use Rattle.node_telling.proofs.Steps.{without_same, forgets_same}
+use Rattle.node_telling.proofs.Ticks.{IsLate, late_parts}
 use Rattle.node_telling.proofs.Late.{IsLasting, reset_same}
 use Rattle.node_telling.specs.Telling.{is_due}
 use Rattle.node_readings.proofs.Noticed.{up_is, not_waiting}
 use Rattle.notice_readings.specs.Worlds.{IsShut}
 use Rattle.node_laws.proofs.Ports.{come_host, forgets_host}
+use Rattle.kept_laws.proofs.Stepping.{without_host, late_host}
 
 module _ (x : ℕ) (e : LinkEnd) (late : Bool) where
   -- the end is what its turns made of this one, and its notice is late or not
@@ -114,7 +115,7 @@ pub tick_made : (x : ℕ) (w : Work) (p : Port) → port_at w.ports x ≡ Some p
     → IsMade x (after_tick p).side (after_tick p).late (steps TimePasses w)
 tick_made x w p here none =
     goes_so x TimePasses w (after_tick p)
-    (at_all (map with_older (map (λ q. has_come q (Some Tick)) w.ports)) x reset_late reset_host
+    (at_all (map with_older (map (λ q. has_come q (Some Tick)) w.ports)) x reset_late late_host
     ∙ ap (option_map reset_late) (at_all (map (λ q. has_come q (Some Tick)) w.ports) x with_older (λ q. refl)
     ∙ ap (option_map with_older) (at_all w.ports x (λ q. has_come q (Some Tick)) (λ q. refl) ∙ ap (option_map (λ (q : Port). has_come q (Some Tick))) here)))
     (reset_turns (with_older (has_come p (Some Tick))) none)

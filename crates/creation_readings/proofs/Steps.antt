@@ -24,9 +24,10 @@ use Rattle.node_machine.specs.Node.NodeInput.{AtEnd, TimePasses}
 use Rattle.node_world.specs.NodeFilters.{is_response}
 use Rattle.node_links.specs.Notices.{IsOutside}
 use Rattle.node_links.proofs.Noticing.{UpAt, at_all}
-use Rattle.node_telling.proofs.Steps.{without_host, without_same, forgets_same}
+use Rattle.node_telling.proofs.Steps.{without_same, forgets_same}
 use Rattle.kept_laws.specs.Hosts.{AreDifferent}
 use Rattle.kept_laws.proofs.Plainly.{hosts_map}
+use Rattle.kept_laws.proofs.Stepping.{without_host}
 use Rattle.node_readings.specs.Orders.{IsFresh}
 use Rattle.notice_readings.specs.Worlds.{IsShut}
 use Rattle.creation_readings.specs.Creations.{IsReadSo}

@@ -10,9 +10,10 @@ use Rattle.swp_frame.specs.declared.fed.Fed.TheVariants.{Frame}
 use Rattle.swp_frame.specs.Stuffing.{with_crc}
 use Rattle.swp_frame.specs.Content.{judged, judged_bytes, bytes_of_bits}
 use Rattle.swp_frame.specs.Kept.{AreBytes}
-use Rattle.swp_frame.proofs.ContentLemmas.{length-bits_of, bytes_in_front, judged_whole, crc_is_right}
+use Rattle.swp_frame.proofs.ContentLemmas.{bytes_in_front, judged_whole, crc_is_right}
 use Rattle.swp_frame.proofs.WritingLemmas.{take_all}
 use Rattle.swp_base.proofs.TailLemmas.{in_front_of_two, first_of_two, second_of_two}
+use Rattle.swp_base.proofs.BitLemmas.{length-bits_of}
 
 crc_small : (lpdu : List ℕ) → crc_of lpdu < 65536
 crc_small lpdu =

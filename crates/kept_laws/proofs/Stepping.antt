@@ -88,7 +88,7 @@ late_plain : (core : Core) (p : Port) → AllByRecursion IsPlain (told_late core
 late_plain core p =
     cond_both (is_late p) (told_at core p (Some (Reset None))) [] (AllByRecursion IsPlain) (λ _. told_plain core p (Some (Reset None))) (λ _. tt)
 
-late_host : (p : Port) → (reset_late p).desk.host ≡ p.desk.host
+pub late_host : (p : Port) → (reset_late p).desk.host ≡ p.desk.host
 late_host p = cond_both (is_late p) (record p { side = after_input p.side (Reset None); late = true }) p (λ q. q.desk.host ≡ p.desk.host) (λ _. refl)
     (λ _. refl)
 
@@ -146,7 +146,7 @@ forgets_waits ports p w = cond_both (is_forgotten ports (asked_at p)) _ p WaitsA
   by_notice None = tt
   by_notice (Some n) = tt
 
-without_host : (p : Port) → (without_notice p).desk.host ≡ p.desk.host
+pub without_host : (p : Port) → (without_notice p).desk.host ≡ p.desk.host
 without_host p = cond_both (is_over p) (record p { desk = record p.desk { notice = None } }) p (λ q. q.desk.host ≡ p.desk.host) (λ _. refl) (λ _. refl)
 
 without_waits : (p : Port) → WaitsAt p → WaitsAt (without_notice p)

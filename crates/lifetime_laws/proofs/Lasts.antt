@@ -12,13 +12,14 @@ use Rattle.shdlc_core.specs.declared.answers.LinkState.TheVariants.{Up}
 use Rattle.shdlc_core.specs.declared.answers.Due.{Due}
 use Rattle.shdlc_core.specs.declared.answers.Due.TheVariants.{Rr as Rr_due, Rej as Rej_due, Rnr as Rnr_due, Rset as Rset_due, Ua as Ua_due}
 use Rattle.shdlc_core.specs.Machine.{EndState, Session, Fragment, place_of, acknowledged, ahead, taken, take_answer, ticked, tick_answer, sent_again, with_ready, put_out, fetched, frame_due, fragment_due, expected, control_due, sent_next, ready_again, rejected, made_busy, runs_timer}
+use Rattle.shdlc_core.proofs.Histories.{fragment_due-within}
 use Rattle.link_laws.specs.Wire.{OnWire, older, with_frame}
 use Rattle.link_laws.proofs.Numbers.{place_found, ahead_same, ahead_other}
 use Rattle.link_laws.proofs.Marks.{reduced, counts_le, shows_push, shows_older}
 use Rattle.link_laws.proofs.Flows.{flows_number}
 use Rattle.link_laws.proofs.Whole.{AnswersOnly, push_not_empty}
 use Rattle.link_laws.proofs.Delivered.{past_end}
-use Rattle.link_laws.proofs.Joined.{Joined, Sends, changed, ready_cases, received_cases, taken_I, taken_S, not_expected, gap_behind, fetch_cases, fragment_due_tells, with_next, joined_exchanged, joined_put, joined_ready, joined_ticked, joined_older, joined_taken, joined_fetched}
+use Rattle.link_laws.proofs.Joined.{Joined, Sends, changed, ready_cases, received_cases, taken_I, taken_S, not_expected, gap_behind, fetch_cases, with_next, joined_exchanged, joined_put, joined_ready, joined_ticked, joined_older, joined_taken, joined_fetched}
 use Rattle.session_laws.proofs.Wire.{Young, young_push, young_later}
 use Rattle.lifetime_laws.proofs.SameMarks.{Within, Shown, shown, within_push, marks_are, marks_exchanged}
 use Rattle.lifetime_laws.proofs.Evidence.{Answers, DueBy, RewindDue, RewindBy, NoSrej, due_push, due_more, due_new_rr, due_new_rnr, rewind_due_push, rewind_due_rnr}
@@ -439,7 +440,7 @@ module _ (kf : ℕ) (near far : EndState) (to_near to_far : List OnWire) (h : La
       let j = h.joined in
       let k = h.joined.near_sends in
       let low = counts_le s.acked (length far.session.acc) j.near_marks k.counts in
-      let tells = fragment_due_tells s info is in
+      let tells = fragment_due-within s info is in
       let c : Control = I (s.next % 8) (expected s) info in
       sent_one (record near { session = sent_next s }) c (I s.next (length s.acc) info) refl
       (number_within.0, number_within.1, omega (arith, tells.0, k.window, low), omega (arith, k.sent, k.reach_window, k.window, k.acked_next)) (

@@ -16,7 +16,7 @@ use Rattle.shdlc_core.specs.declared.answers.Taken.{Taken}
 use Rattle.shdlc_core.specs.Kept.{KeptEnd, ShdlcStandsFor}
 use Rattle.shdlc_core.specs.Machine.{EndState, Fragment, Session, taken, take_answer, stopped, place_of}
 use Rattle.shdlc_core.specs.Offering.{StandsBefore, with_out, left_waiting}
-use Rattle.shdlc_core.proofs.Offering.{stands_taken, stands_idle, takes_on, TakesOn, brings_fragment}
+use Rattle.shdlc_core.proofs.Offering.{stands_taken, stands_idle, takes_on, TakesOn, brings_fragment, no_fragment}
 use Rattle.shdlc_core.proofs.Histories.{in_phase}
 use Rattle.hcp_packet.specs.Packets.{packets_in, fragments_of, good_of, packet_of}
 use Rattle.hcp_chain.specs.Joining.{are_taken, given_by, open_after}
@@ -342,9 +342,6 @@ goes_on {old} {mid} {new} {k} {m} {c} {s} {t} {inbox} {outbox} {whole} h going j
     none_ended (Some x) e = cc
 
 -- ---- when a fragment may be taken
-
-no_fragment : (f : Fragment) → None ≡ Some f → ⊥
-no_fragment f e = cc
 
 ready_up : (e : EndState) (ns nr : ℕ) (info f : Fragment) (q : Option ℕ) (r : Bool) → place_of e.session nr ≡ q → e.ready ≡ r
     → (take_answer (in_phase Up e) (I ns nr info)).accepted ≡ Some f → r ≡ true

@@ -1,6 +1,6 @@
 -- What a node asks of a link end: resets, messages fetched and given, and frames fetched.
 use Rattle.std.proofs.Common.{◌≡◌, ℕ, ◌+◌, ◌-◌, ◌<◌, ◌≤◌, Bool, true, false, List, [], ◌∷◌, ◌++◌, length, map, drop, refl, sym, ap, ◌∙◌, subst, arith, length-append}
-use Rattle.std.specs.Prelude.{Option, Some, None, IfSome, unwrap_or, not, ◌==◌, nat_lt, nat_le}
+use Rattle.std.specs.Prelude.{Option, Some, None, IfSome, unwrap_or, not, ◌==◌, nat_lt}
 use Rattle.std.proofs.lemmas.List.{append-nil, drop-append-le}
 use Rattle.std.proofs.lemmas.List.Sums.{sum_by-cons}
 use Rattle.std.proofs.lemmas.Bool.{ltb-true, ltb-false, lt-ltb}
@@ -21,13 +21,14 @@ use Rattle.shdlc_core.specs.Kept.{KeptEnd, ShdlcStandsFor}
 use Rattle.shdlc_core.specs.Machine.{EndState, Session, Fragment, reset_with, is_waiting, no_session, fetched, frame_due, fragment_due, put_out}
 use Rattle.shdlc_core.specs.Offering.{StandsBefore, StandsWith, HasSession, with_out, left_waiting}
 use Rattle.shdlc_core.proofs.Offering.{stands_reset, stands_idle, stands_fetched, fetched_alike, stands_put}
-use Rattle.hcp_packet.specs.Packets.{packets_of, packet_count, packets_in, packet_bytes, fragments_of, IsSendable}
+use Rattle.hcp_packet.specs.Packets.{packets_of, packets_in, packet_bytes, fragments_of, IsSendable}
 use Rattle.hcp_chain.specs.Joining.{are_taken, open_after}
 use Rattle.hcp_chain.specs.Holding.{held_blocks, HoldsChains, messages_in as messages_of}
 use Rattle.link_machine.specs.Machine.{LinkEnd as Machine, ActDue as Due, Message, Refused, moved, after_input, is_open, window_of, frame_fetched, next_frame, nearer as due_nearer, need_of_all, spare, in_use, whole_among, give_refusal, given, turn, unless, need}
 use Rattle.link_machine.specs.Machine.Refused.{TooLong, Full}
 use Rattle.link_machine.specs.Machine.Turn.{Give}
 use Rattle.link_machine.specs.Machine.LinkInput.{Reset}
+use Rattle.link_machine.proofs.Sound.{whole_few}
 use Rattle.link_messages.specs.declared.outbox.Queued.{Queued}
 use Rattle.link_messages.specs.declared.outbox.Outbox.{Outbox}
 use Rattle.link_messages.specs.declared.inbox.Got.{Got}
@@ -313,15 +314,6 @@ refusal_stays m x why e = ap (λ o. unless o m (given m x)) e
 pub gives : (m : Machine) (x : Message) → give_refusal m x ≡ None → turn m (Give x) ≡ given m x
 gives m x e = ap (λ o. unless o m (given m x)) e
 
-whole_low : (ms : List Message) (n : ℕ) → whole_among ms n ≤ length ms
-whole_low [] n = omega arith
-whole_low (x ∷ ms) n = go (nat_le (packet_count (length x.1)) n) refl (whole_low ms (n - packet_count (length x.1)))
-  where
-    go : (b : Bool) → nat_le (packet_count (length x.1)) n ≡ b → whole_among ms (n - packet_count (length x.1)) ≤ length ms
-        → whole_among (x ∷ ms) n ≤ length (x ∷ ms)
-    go true e rest = rw e (omega arith)
-    go false e rest = rw e (omega arith)
-
 -- an end whose link is up has accepted a message
 pub record HasAccepted (old new : PoolState) (k : End) (box : Outbox) (m : Machine) (x : Message) : Type 0 where
   pub before : EndStandsFor k old m
@@ -354,7 +346,7 @@ accepted_stands {old} {new} {k} {box} {m} {x} h lies under got aside =
         all = all_pushed Message IsSendable m.sent x sends.all h.sendable;
         out = ap (λ l. l ++ map packet_bytes (packets_of x.0 x.1)) sends.out ∙ sym (fragments-push m.sent x);
         messages = a.messages ∙ (ap (λ (l : List Message). l ++ x ∷ []) sends.messages
-            ∙ (sym (drop-append-le (whole_among m.sent n) m.sent (x ∷ []) (whole_low m.sent n)) ∙ ap (λ w. drop w (m.sent ++ x ∷ [])) (sym push.0)));
+            ∙ (sym (drop-append-le (whole_among m.sent n) m.sent (x ∷ []) (whole_few m.sent n)) ∙ ap (λ w. drop w (m.sent ++ x ∷ [])) (sym push.0)));
         acked = a.acked ∙ (sends.acked ∙ sym push.1);
       };
       receives = record { lies = lies; under = under ∙ before.receives.under; sound = before.receives.sound };

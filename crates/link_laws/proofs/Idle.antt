@@ -7,11 +7,12 @@ use Rattle.shdlc_core.specs.declared.answers.LinkState.TheVariants.{Up}
 use Rattle.shdlc_core.specs.declared.answers.Due.{Due}
 use Rattle.shdlc_core.specs.declared.answers.Due.TheVariants.{Rr as Rr_due, Rej as Rej_due, Rnr as Rnr_due}
 use Rattle.shdlc_core.specs.Machine.{EndState, Fragment, place_of, acknowledged, taken, fetched, frame_due, after_frames}
+use Rattle.shdlc_core.proofs.Histories.{fragment_due-within}
 use Rattle.link_laws.specs.Wire.{OnWire}
 use Rattle.link_laws.proofs.Numbers.{place_found}
 use Rattle.link_laws.proofs.Marks.{Shows}
 use Rattle.link_laws.proofs.Flows.{flows_number}
-use Rattle.link_laws.proofs.Joined.{Sends, fetch_cases, fragment_due_tells, received_cases, taken_I, taken_S}
+use Rattle.link_laws.proofs.Joined.{Sends, fetch_cases, received_cases, taken_I, taken_S}
 
 -- where nothing is due a fetch changes nothing
 pub fetched_idle : (e : EndState) → frame_due e ≡ None → fetched e ≡ e
@@ -32,14 +33,14 @@ fetch_leaves e =
     fetch_cases (λ f c. (c ≡ None) ⊎ (left f + 1 ≤ left e)) e
     (λ d ds p. inr (let q : length e.due ≡ suc (length ds) = ap length p in omega arith))
     (λ p q. inl refl)
-    (λ info p q. inr (let tells = fragment_due_tells e.session info q in omega (arith, tells.0)))
+    (λ info p q. inr (let tells = fragment_due-within e.session info q in omega (arith, tells.0)))
 
 nothing_left : (e : EndState) → left e ≡ 0 → frame_due e ≡ None
 nothing_left e h =
     fetch_cases (λ f c. c ≡ None) e
     (λ d ds p. absurd (let q : length e.due ≡ suc (length ds) = ap length p in omega arith))
     (λ p q. refl)
-    (λ info p q. absurd (let tells = fragment_due_tells e.session info q in omega (arith, tells.0)))
+    (λ info p q. absurd (let tells = fragment_due-within e.session info q in omega (arith, tells.0)))
 
 pub idle_after : (n : ℕ) (e : EndState) → left e ≤ n → frame_due (after_frames n e) ≡ None
 idle_after zero e h = nothing_left e (omega arith)

@@ -1,8 +1,8 @@
 -- Two ends that are Up in one session and the wires between them: what is true of them at every moment of an event, and
 -- how each thing that one end does keeps it.
-use Rattle.std.proofs.Common.{◌≡◌, ℕ, ◌+◌, ◌%◌, ◌<◌, ◌≤◌, ◌==◌, Bool, true, false, ◌&&◌, ◌||◌, not, List, [], ◌∷◌, ◌++◌, Option, Some, None, refl, ap, sym, ◌∙◌, ◌⊎◌, inl, inr, arith, length, length-append, max}
-use Rattle.std.specs.Prelude.{slice_get, nat_lt}
-use Rattle.std.proofs.lemmas.Bool.{eqb-true, eqb-false, ltb-true, ltb-false, and_parts, cases_eq, true≢false}
+use Rattle.std.proofs.Common.{◌≡◌, ℕ, ◌+◌, ◌%◌, ◌<◌, ◌≤◌, ◌==◌, Bool, true, false, not, List, [], ◌∷◌, ◌++◌, Option, Some, None, refl, ap, sym, ◌∙◌, ◌⊎◌, inl, inr, arith, length, length-append, max}
+use Rattle.std.specs.Prelude.{nat_lt}
+use Rattle.std.proofs.lemmas.Bool.{eqb-true, eqb-false, ltb-true, ltb-false, cases_eq, true≢false}
 use Rattle.swp_base.specs.declared.control_frames.Kind.{Kind}
 use Rattle.swp_base.specs.declared.control_frames.Kind.TheVariants.{Rr, Rej, Rnr, Srej}
 use Rattle.swp_base.specs.declared.control_frames.Control.{Control}
@@ -11,6 +11,7 @@ use Rattle.shdlc_core.specs.declared.answers.LinkState.TheVariants.{Up}
 use Rattle.shdlc_core.specs.declared.answers.Due.{Due}
 use Rattle.shdlc_core.specs.declared.answers.Due.TheVariants.{Rr as Rr_due, Rej as Rej_due, Rnr as Rnr_due, Rset as Rset_due, Ua as Ua_due}
 use Rattle.shdlc_core.specs.Machine.{EndState, Session, Fragment, place_of, acknowledged, ahead, received, accepted, repeated, discarded, taken, take_answer, ticked, tick_answer, with_ready, put_out, fetched, frame_due, fragment_due, expected, control_due, sent_next, ready_again, rejected, made_busy, sent_again, runs_timer}
+use Rattle.shdlc_core.proofs.Histories.{fragment_due-within}
 use Rattle.link_laws.specs.Wire.{OnWire, older, with_frame, is_rnr}
 use Rattle.link_laws.proofs.Numbers.{place_found, ahead_same, ahead_other, ahead_repeat}
 use Rattle.link_laws.proofs.Marks.{Shows, counts_le, AcksOnly, shows_push, shows_older}
@@ -111,15 +112,6 @@ answer_I e ns nr info up = rw up refl
 
 pub answer_S : (e : EndState) (k : Kind) (nr : ℕ) → e.phase ≡ Up → (take_answer e (S k nr)).ended ≡ None
 answer_S e k nr up = rw up refl
-
--- a fragment that is due stands at the place to be sent next, inside the window
-pub fragment_due_tells : (s : Session) (info : Fragment) → fragment_due s ≡ Some info → (s.next < s.acked + s.window) × (slice_get s.out s.next ≡ Some info)
-fragment_due_tells s info h = go ((not s.peer_busy || s.probe) && nat_lt s.next (s.acked + s.window)) refl
-  where
-    go : (b : Bool) → ((not s.peer_busy || s.probe) && nat_lt s.next (s.acked + s.window)) ≡ b
-        → (s.next < s.acked + s.window) × (slice_get s.out s.next ≡ Some info)
-    go true e = (ltb-true s.next (s.acked + s.window) (and_parts (not s.peer_busy || s.probe) (nat_lt s.next (s.acked + s.window)) e).1, rw e at h)
-    go false e = absurd (let n = rw e at h in cc)
 
 -- what one fetch does: a control frame goes first, and a fragment where there is none
 pub fetch_cases : (P : EndState → Option Control → Type 0) (e : EndState)
@@ -507,7 +499,7 @@ module _ (W : Type 0) where
   joined_sent weak {near} {far} {to_far = to_far} {info} is h =
       let s = near.session in
       let t = far.session in
-      let tells = fragment_due_tells s info is in
+      let tells = fragment_due-within s info is in
       record {
         near_up = h.near_up;
         far_up = h.far_up;

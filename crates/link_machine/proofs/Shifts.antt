@@ -2,7 +2,6 @@
 use Rattle.std.proofs.Common.{◌≡◌, ℕ, ◌+◌, ◌<◌, ◌≤◌, Bool, true, false, List, [], ◌∷◌, ◌++◌, Option, Some, None, refl, ap, sym, subst, ◌∙◌, arith, append-nil}
 use Rattle.std.specs.Prelude.{nat_lt, is_some, option_to_list, ◌==◌, min}
 use Rattle.std.proofs.lemmas.Bool.{true≢false}
-use Rattle.std.proofs.lemmas.Grind.{common_steps}
 use Rattle.swp_base.specs.declared.link_terms.Cause.{Cause}
 use Rattle.swp_base.specs.declared.control_frames.Kind.{Kind}
 use Rattle.swp_base.specs.declared.control_frames.Kind.TheVariants.{Rr, Rej, Rnr, Srej}
@@ -11,7 +10,7 @@ use Rattle.swp_base.specs.declared.control_frames.Control.TheVariants.{I, S, Rse
 use Rattle.shdlc_core.specs.declared.answers.LinkState.{LinkState}
 use Rattle.shdlc_core.specs.declared.answers.LinkState.TheVariants.{Down, Waiting, Up}
 use Rattle.shdlc_core.specs.Machine.{EndState, Session, Fragment, new_session, no_session, taken, take_answer, ticked, tick_answer, place_of, acknowledged, received, fragment_accepted, runs_timer, is_waiting, reset_with, stopped, with_ready}
-use Rattle.shdlc_core.proofs.Histories.{place_of-within, received-phase, received-acked, received-sending}
+use Rattle.shdlc_core.proofs.Histories.{place_of-within, received-phase, received-acked, received-sending, received-accepted}
 use Rattle.link_machine.specs.Machine.{if_up}
 
 -- the session goes on: what is sent stays, what is acknowledged and what was accepted grow
@@ -90,9 +89,6 @@ at_place {e} nr {x} more p q place out reached acked acc =
       acc = acc;
     }
 
-received-acc : (f : EndState) (ns : ℕ) (info : Fragment) → (received f ns info).session.acc ≡ f.session.acc ++ option_to_list (fragment_accepted f ns info)
-received-acc f ns info = grind (arith, common_steps)
-
 up_I : (e : EndState) (ns nr : ℕ) (info : Fragment) → e.phase ≡ Up → Shift e (taken e (I ns nr info)) false false
 up_I e ns nr info up = go (place_of e.session nr) refl
   where
@@ -103,7 +99,7 @@ up_I e ns nr info up = go (place_of e.session nr) refl
         let s = received-sending g ns info in
         let on : GoesOn e (received g ns info) =
         at_place nr (option_to_list (fragment_accepted g ns info)) up (received-phase g ns info ∙ up) q s.0 s.2
-        (received-acked g ns info) (received-acc g ns info) in
+        (received-acked g ns info) (received-accepted g ns info) in
         let shift : Shift e (received g ns info) false false = Stays refl refl on in
         rw (up, q) (rw up at shift)
 

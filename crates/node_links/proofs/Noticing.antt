@@ -422,7 +422,7 @@ steps_sure input w k node a =
         go None c = tt
         go (Some p) c = without_up p c
 
-up_of : (o : Option Port) → UpAt o → OnFirst IsNoticedUp o
+pub up_of : (o : Option Port) → UpAt o → OnFirst IsNoticedUp o
 up_of None a = tt
 up_of (Some p) a = λ n. go p.side.shdlc.phase (a n)
   where

@@ -5,11 +5,12 @@ use Rattle.shdlc_core.specs.Machine.{is_waiting}
 use Rattle.link_machine.specs.Machine.{Role, Turn}
 use Rattle.link_machine.specs.Machine.LinkInput.{Reset}
 use Rattle.link_machine.specs.Machine.Role.{Bare, Clf, Uicc}
-use Rattle.message_link.specs.Links.{Link, NumberedEnd, Ending, Comes, Loss, EndEvent, Node, LinkEvent, exchanged, aged, has_input, ticks_at_controller, happens_at_controller, happens, after_link_events, AreSendableTurns, IsClf, IsUicc, IfLine, IsWindow, CanEnd, CanStart, CanCome, IsEvent, AllAllowed}
+use Rattle.message_link.specs.Links.{Link, NumberedEnd, Ending, Comes, Loss, EndEvent, Node, LinkEvent, exchanged, aged, has_input, ticks_at_controller, happens_at_controller, happens, after_link_events, AreSendableTurns, IsClf, IsUicc, IfLine, IsWindow, CanEnd, CanCome, IsEvent, AllAllowed}
 use Rattle.message_link.specs.Links.Ending.{GoesOut, CutOff}
 use Rattle.message_link.specs.Links.Comes.{NextFrame, AsksReset, Starts, Stops, NoInput}
 use Rattle.message_link.specs.Links.EndEvent.{Step, Lose}
 use Rattle.message_link.specs.Links.LinkEvent.{AtController, AtHost, Ticks, TicksWithout}
+use Rattle.message_link.proofs.Runs.{clf_starts}
 use Rattle.node_world.specs.World.{ticked_so}
 use Rattle.node_links.specs.Runs.{new_line, IsRun, IsRunOf}
 use Rattle.node_links.proofs.Got.{Clean}
@@ -104,15 +105,10 @@ MayCome (Starts value) = Unit {0}
 MayCome Stops = Unit {0}
 MayCome NoInput = Unit {0}
 
-may_start : (r f : Role) → IsClf r → CanStart r f
-may_start (Clf s) f a = tt
-may_start (Uicc s) f a = absurd a
-may_start Bare f a = absurd a
-
 pub can_come : (l : Link) (comes : Comes) → MayCome comes → IsClf l.controller.side.role → CanCome l comes
 can_come l NextFrame m a = tt
 can_come l (AsksReset window) m a = m
-can_come l (Starts value) m a = may_start l.controller.side.role l.host.side.role a
+can_come l (Starts value) m a = clf_starts l.controller.side.role l.host.side.role a
 can_come l Stops m a = clf_line l.controller.side.role a
 can_come l NoInput m a = tt
 

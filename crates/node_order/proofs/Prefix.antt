@@ -18,6 +18,7 @@ use Rattle.history.specs.Legal.{is_chain_fault}
 use Rattle.history.specs.Steps.{entry_of, entries_for}
 use Rattle.history_laws.proofs.Noted.{fault-all}
 use Rattle.history_laws.proofs.Ordered.{IsOneAtMost, front_given, one_entry, AtEnd, read_as, empty, order_at}
+use Rattle.history_laws.proofs.Reading.{or_right}
 use Rattle.node_links.specs.Runs.{new_line}
 use Rattle.node_telling.specs.Telling.{is_of, of_link}
 use Rattle.node_telling.proofs.Accounts.{of-append}
@@ -118,10 +119,6 @@ at_none t front back e n none q =
     first (x ∷ xs) ys e = absurd (cc e)
 
 -- ## Chain faults
-
-or_right : (a b : Bool) → (a || b) ≡ false → b ≡ false
-or_right true b q = absurd (let z : true ≡ false = q in cc)
-or_right false b q = q
 
 none_filtered : (p q : Entry → Bool) (xs : List Entry) → list_any p xs ≡ false → list_any p (filter q xs) ≡ false
 none_filtered p q [] a = refl

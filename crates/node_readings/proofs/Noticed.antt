@@ -25,10 +25,10 @@ use Rattle.node_links.proofs.Staying.{stays_up}
 use Rattle.node_links.proofs.Noticing.{up_at, UpAt, at_all, at_host, links_after, Sure, steps_sure}
 use Rattle.node_telling.proofs.Mute.{forgotten_mute, all_owed_mute, all_synced_mute}
 use Rattle.node_telling.proofs.Walks.{AreSilent, rest}
-use Rattle.node_telling.proofs.Steps.{without_same, without_host, forgets_same}
-use Rattle.node_telling.proofs.Ticks.{reset_host}
+use Rattle.node_telling.proofs.Steps.{without_same, forgets_same}
 use Rattle.node_readings.proofs.Sites.{sent_phase}
 use Rattle.node_laws.proofs.Ports.{come_host, forgets_host, changed_host}
+use Rattle.kept_laws.proofs.Stepping.{without_host, late_host}
 
 -- ## Phases
 
@@ -215,7 +215,7 @@ module _ (r : Running) (plan : Option Plan) (near_ends : ℕ → NumberedEnd) (e
     ticked_ports : (x : ℕ) → port_at (map reset_late (map with_older (map come_tick (starts r.desks)))) x
         ≡ option_map reset_late (option_map with_older (option_map come_tick (port_at (starts r.desks) x)))
     ticked_ports x =
-        at_all (map with_older (map come_tick (starts r.desks))) x reset_late reset_host
+        at_all (map with_older (map come_tick (starts r.desks))) x reset_late late_host
         ∙ ap (option_map reset_late) (at_all (map come_tick (starts r.desks)) x with_older (λ q. refl)
         ∙ ap (option_map with_older) (at_all (starts r.desks) x come_tick (λ q. refl)))
 

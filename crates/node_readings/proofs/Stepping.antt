@@ -25,10 +25,10 @@ use Rattle.node_links.proofs.Noticing.{outside}
 
 -- ## An end without a notice
 
-older_same : (q : Port) → q.desk.notice ≡ None → with_older q ≡ q
+pub older_same : (q : Port) → q.desk.notice ≡ None → with_older q ≡ q
 older_same q e = rw e refl
 
-late_same : (q : Port) → q.desk.notice ≡ None → reset_late q ≡ q
+pub late_same : (q : Port) → q.desk.notice ≡ None → reset_late q ≡ q
 late_same q e = rw e refl
 
 pub late_told : (core : Core) (q : Port) → q.desk.notice ≡ None → told_late core q ≡ []
@@ -37,7 +37,7 @@ late_told core q e = rw e refl
 pub forgets_same : (ports : List Port) (q : Port) → q.desk.notice ≡ None → forgets ports q ≡ q
 forgets_same ports q e = rw e refl
 
-without_same : (q : Port) → q.desk.notice ≡ None → without_notice q ≡ q
+pub without_same : (q : Port) → q.desk.notice ≡ None → without_notice q ≡ q
 without_same q e = go (q.ended || q.late) refl where
   go : (b : Bool) → (q.ended || q.late) ≡ b → without_notice q ≡ q
   go true z = rw z (ap (λ n. record q { desk = record q.desk { notice = n } }) (sym e))

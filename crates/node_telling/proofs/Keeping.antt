@@ -11,11 +11,10 @@ use Rattle.node_machine.specs.Node.NodeInput.{AtEnd, TimePasses}
 use Rattle.node_world.specs.World.{runs_on}
 use Rattle.kept_laws.specs.Books.{hosts_of_ends}
 use Rattle.kept_laws.proofs.Plainly.{hosts_map}
+use Rattle.kept_laws.proofs.Stepping.{without_host, late_host}
 use Rattle.node_telling.specs.Telling.{IfItRuns}
 use Rattle.node_telling.proofs.Mute.{AreMute, forgotten_mute, all_owed_mute, all_synced_mute}
 use Rattle.node_telling.proofs.Walks.{AreSilent, all_do, rest}
-use Rattle.node_telling.proofs.Steps.{without_host}
-use Rattle.node_telling.proofs.Ticks.{reset_host}
 use Rattle.node_laws.proofs.Ports.{come_host, forgets_host, changed_host}
 
 -- it has this number, and ends on the links with these hosts
@@ -78,7 +77,7 @@ module _ (n : ℕ) (hosts : List ℕ) where
       let first : Of (record v { core = after_sessions v.core v.ports; ports = map without_notice left }) = record {
         number = sessions_node w.core v.ports ∙ a.number;
         ends = hosts_map without_notice without_host left ∙ (hosts_map (forgets v.ports) (forgets_host v.ports) v.ports
-            ∙ (hosts_map reset_late reset_host (map with_older came) ∙ (hosts_map with_older (λ p. refl) came
+            ∙ (hosts_map reset_late late_host (map with_older came) ∙ (hosts_map with_older (λ p. refl) came
             ∙ (hosts_map (λ p. has_come p (Some Tick)) (λ p. refl) w.ports ∙ a.ends))));
       } in
       rest Of note desk turns beside (forgotten v.ports) (flat_map (synced w.core TimePasses) w.ports) (all_owed left)

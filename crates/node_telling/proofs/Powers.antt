@@ -82,7 +82,7 @@ pub uncut_flat : {X : Type 0} (f : X → List Entry) → ((x : X) → AreUncut (
 uncut_flat f one [] = tt
 uncut_flat f one (x ∷ xs) = uncut-append (f x) (flat_map f xs) (one x) (uncut_flat f one xs)
 
-entry_uncut : (h : ℕ) (n : Noted) → AreUncut (entry_of h n)
+pub entry_uncut : (h : ℕ) (n : Noted) → AreUncut (entry_of h n)
 entry_uncut h (Up w n) = (tt, tt)
 entry_uncut h (Down w cause) = (tt, tt)
 entry_uncut h (Active w) = (tt, tt)

@@ -309,7 +309,7 @@ step_away h n powers w frames a uncut none x =
 
 -- ## Frames
 
-frames_uncut : (who : Side) (h : ℕ) (l : Link) (w : Work) → AreUncut (frames_noted who h l w)
+pub frames_uncut : (who : Side) (h : ℕ) (l : Link) (w : Work) → AreUncut (frames_noted who h l w)
 frames_uncut who h l w = go (port_at w.ports h)
   where
     go : (o : Option Port) → AreUncut (option_map_or (λ (p : Port). entries_for h (ending_entries who l p.side (ending_of w))) o [])

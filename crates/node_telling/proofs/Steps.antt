@@ -17,6 +17,7 @@ use Rattle.node_machine.specs.Node.NodeInput.{AtEnd}
 use Rattle.node_world.specs.World.{input_of, near_end_in, arrival, wires_for, ending_of, turns_at, frames_noted}
 use Rattle.kept_laws.specs.Books.{hosts_of_ends}
 use Rattle.kept_laws.specs.Hosts.{AreDifferent}
+use Rattle.kept_laws.proofs.Stepping.{without_host}
 use Rattle.node_telling.specs.Telling.{of_link}
 use Rattle.node_telling.proofs.Mute.{AreMute, forgotten_mute, all_owed_mute, all_synced_mute}
 use Rattle.node_telling.proofs.Walks.{all_do, rest}
@@ -69,13 +70,6 @@ without_same p = go (is_over p) refl
     go : (b : Bool) → is_over p ≡ b → SameEnd p (without_notice p)
     go true q = rw q (record { session = refl; late = refl; side = refl; turns = refl })
     go false q = rw q (record { session = refl; late = refl; side = refl; turns = refl })
-
-pub without_host : (p : Port) → (without_notice p).desk.host ≡ p.desk.host
-without_host p = go (is_over p) refl
-  where
-    go : (b : Bool) → is_over p ≡ b → (without_notice p).desk.host ≡ p.desk.host
-    go true q = rw q refl
-    go false q = rw q refl
 
 pub forgets_same : (ports : List Port) (p : Port) → SameEnd p (forgets ports p)
 forgets_same ports p = go (is_forgotten ports (asked_at p)) refl

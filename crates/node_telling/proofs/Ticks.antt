@@ -17,13 +17,14 @@ use Rattle.node_machine.specs.Node.{has_come, told_at, all_come, with_older, is_
 use Rattle.node_machine.specs.Node.NodeInput.{TimePasses}
 use Rattle.kept_laws.specs.Hosts.{AreDifferent}
 use Rattle.kept_laws.proofs.Plainly.{hosts_map}
+use Rattle.kept_laws.proofs.Stepping.{without_host, late_host}
 use Rattle.node_telling.specs.Telling.{of_link, is_due}
 use Rattle.node_telling.proofs.Mute.{forgotten_mute, all_owed_mute, all_synced_mute}
 use Rattle.node_telling.proofs.Walks.{rest}
 use Rattle.node_telling.proofs.Accounts.{of-append, of_other, at_host, SameEnd, note, desk, turns, beside}
 use Rattle.node_telling.proofs.Away.{Away, at_map, none_map, away_note, away_desk, away_turns, away_beside}
 use Rattle.node_telling.proofs.Late.{IsLasting, reset_same, tick_told, reset_told}
-use Rattle.node_telling.proofs.Steps.{only, Opening, Goes, GoesLate, before, without_same, without_host, forgets_same, sessions_side}
+use Rattle.node_telling.proofs.Steps.{only, Opening, Goes, GoesLate, before, without_same, forgets_same, sessions_side}
 use Rattle.node_laws.proofs.Ports.{forgets_host}
 
 -- ## Notices
@@ -65,13 +66,6 @@ late_parts p late = go p.desk.notice (is_some (ended_by p.side Tick)) refl refl
 reset_same_end : (p : Port) → is_late p ≡ false → SameEnd p (reset_late p)
 reset_same_end p q = rw q (record { session = refl; late = refl; side = refl; turns = refl })
 
-pub reset_host : (p : Port) → (reset_late p).desk.host ≡ p.desk.host
-reset_host p = go (is_late p) refl
-  where
-    go : (b : Bool) → is_late p ≡ b → (reset_late p).desk.host ≡ p.desk.host
-    go true q = rw q refl
-    go false q = rw q refl
-
 reset_session : (p : Port) → (reset_late p).session ≡ p.session
 reset_session p = go (is_late p) refl
   where
@@ -79,7 +73,7 @@ reset_session p = go (is_late p) refl
     go true q = rw q refl
     go false q = rw q refl
 
-reset_turns : (p : Port) → (reset_late p).turns ≡ p.turns
+pub reset_turns : (p : Port) → (reset_late p).turns ≡ p.turns
 reset_turns p = go (is_late p) refl
   where
     go : (b : Bool) → is_late p ≡ b → (reset_late p).turns ≡ p.turns
@@ -137,7 +131,7 @@ module _ (h : ℕ) (who : Side) (l : Link) where
 
     last_here : port_at begun.ports h ≡ Some last
     last_here =
-        at_map without_notice without_host _ h left (at_map (forgets ports) (forgets_host ports) _ h come (at_map reset_late reset_host _ h (older p) old_here))
+        at_map without_notice without_host _ h left (at_map (forgets ports) (forgets_host ports) _ h come (at_map reset_late late_host _ h (older p) old_here))
 
     turns_are : last.turns ≡ []
     turns_are = (without_same left).turns ∙ ((forgets_same ports come).turns ∙ (reset_turns (older p) ∙ a.turns))
@@ -285,7 +279,7 @@ module _ (h : ℕ) where
       let notes : List Entry = flat_map (λ p. told_at w.core p (Some Tick)) w.ports in
       let late : List Entry = flat_map (told_late w.core) (map with_older (map (λ p. has_come p (Some Tick)) w.ports)) in
       record {
-        none = none_map without_notice without_host _ h (none_map (forgets ports) (forgets_host ports) _ h (none_map reset_late reset_host _ h aged));
+        none = none_map without_notice without_host _ h (none_map (forgets ports) (forgets_host ports) _ h (none_map reset_late late_host _ h aged));
         told =
             of-append h (w.entries ++ notes) late
             ∙ (ap (λ t. t ++ of_link h late) (of-append h w.entries notes ∙ (ap (λ t. t ++ of_link h notes) a.told

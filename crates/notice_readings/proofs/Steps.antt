@@ -21,9 +21,8 @@ use Rattle.node_machine.specs.Node.{NodeInput, input_at, has_come, told_at, all_
 use Rattle.node_machine.specs.Node.NodeInput.{AtEnd, TimePasses}
 use Rattle.node_links.specs.Notices.{IsComing, IsOutside}
 use Rattle.node_links.proofs.Noticing.{UpAt, at_all, at_host, outside as from_outside}
-use Rattle.node_telling.proofs.Steps.{without_host}
-use Rattle.node_telling.proofs.Ticks.{reset_host}
 use Rattle.kept_laws.specs.Hosts.{AreDifferent}
+use Rattle.kept_laws.proofs.Stepping.{without_host, late_host}
 use Rattle.node_readings.specs.Orders.{IsFresh}
 use Rattle.notice_readings.specs.Notices.{IsKeptNotice}
 use Rattle.notice_readings.proofs.Reading.{reads, read_more}
@@ -224,7 +223,7 @@ module _ (x : ℕ) (before : List Entry) (w : Work) (a : IsOn x before w) where
   came_tick different fresh shut = record {
     core = refl;
     on = a.on;
-    hosts = all_map (λ (p : Port). IsHost p.desk.host) (λ (p : Port). IsHost p.desk.host) reset_late (λ p b. subst IsHost (sym (reset_host p)) b)
+    hosts = all_map (λ (p : Port). IsHost p.desk.host) (λ (p : Port). IsHost p.desk.host) reset_late (λ p b. subst IsHost (sym (late_host p)) b)
         (map with_older ticked) (all_map (λ (p : Port). IsHost p.desk.host) (λ (p : Port). IsHost p.desk.host) with_older (λ p b. b) ticked
         (come_hosts TimePasses tt different fresh shut));
     right = all_map (λ (p : Port). IsRightNotice p.desk.notice) (λ (p : Port). IsRightNotice p.desk.notice) reset_late reset_right (map with_older ticked)
@@ -237,7 +236,7 @@ module _ (x : ℕ) (before : List Entry) (w : Work) (a : IsOn x before w) where
         (sym (flat_reads x (told_late w.core) (λ p r e. late_elsewhere x w.core (controller_side w.core a.node) p r e) (map with_older ticked) others
         (reads x noted (read_in x before w))))
         (subst (IsComeAt (option_map_or (λ (p : Port). reads x (told_late w.core p) (reads x noted (read_in x before w))) (port_at (map with_older ticked) x)
-        (reads x noted (read_in x before w)))) (sym (at_all (map with_older ticked) x reset_late reset_host))
+        (reads x noted (read_in x before w)))) (sym (at_all (map with_older ticked) x reset_late late_host))
         (subst (λ o. IsComeAt (option_map_or (λ (p : Port). reads x (told_late w.core p) (reads x noted (read_in x before w))) o
         (reads x noted (read_in x before w))) (option_map reset_late o)) (sym (at_all ticked x with_older (λ q. refl)))
         (go (port_at ticked x) refl (come_at TimePasses tt different fresh shut)))));

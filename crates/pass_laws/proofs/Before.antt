@@ -14,11 +14,12 @@ use Rattle.link_machine.specs.Machine.Turn.{Release}
 use Rattle.node_machine.specs.Carrying.{own_side, unless_cut, changed_if, with_port, after_turn, turn_at, all_done}
 use Rattle.kept_laws.specs.Books.{hosts_of_ends}
 use Rattle.kept_laws.proofs.Plainly.{hosts_map}
+use Rattle.kept_laws.proofs.Stepping.{without_host}
 use Rattle.node_laws.proofs.Ports.{come_host, forgets_host, changed_host}
 use Rattle.node_telling.proofs.Mute.{AreMute, forgotten_mute, all_owed_mute, all_synced_mute}
 use Rattle.node_telling.proofs.Walks.{unless, every_do}
 use Rattle.node_machine.specs.Turns.{passes}
-use Rattle.node_machine.specs.Node.{NodeInput, input_at, has_come, told_at, all_come, with_older, is_late, reset_late, told_late, is_over, forgotten, after_sessions, forgets, without_notice, steps}
+use Rattle.node_machine.specs.Node.{NodeInput, input_at, has_come, told_at, all_come, with_older, is_late, reset_late, told_late, forgotten, after_sessions, forgets, without_notice, steps}
 use Rattle.node_machine.specs.Node.NodeInput.{AtEnd, TimePasses}
 use Rattle.pass_laws.specs.Noting.{noted_by_deeds}
 use Rattle.pass_laws.specs.Passing.{IsNoTurn, AreNoTurns}
@@ -173,13 +174,6 @@ come_hosts TimePasses w =
         go : (b : Bool) → is_late p ≡ b → (reset_late p).desk.host ≡ p.desk.host
         go true q = rw q refl
         go false q = rw q refl
-
-pub without_host : (p : Port) → (without_notice p).desk.host ≡ p.desk.host
-without_host p = go (is_over p) refl
-  where
-    go : (b : Bool) → is_over p ≡ b → (without_notice p).desk.host ≡ p.desk.host
-    go true q = rw q refl
-    go false q = rw q refl
 
 pub before_hosts : (input : NodeInput) (w : Work) → hosts_of_ends (comes_to_pass input w).ports ≡ hosts_of_ends w.ports
 before_hosts input w =

@@ -23,12 +23,13 @@ use Rattle.node_machine.specs.Turns.{deeds_of, handles, holds_back, lets_go, hav
 use Rattle.node_world.specs.World.{node_of}
 use Rattle.node_laws.proofs.Ports.{changed_host}
 use Rattle.node_telling.proofs.Walks.{IsUncut, AreUncut}
+use Rattle.node_telling.proofs.Powers.{entries_uncut}
 use Rattle.pass_laws.specs.Noting.{goes_in, end_of_number}
 use Rattle.pass_laws.specs.Passing.{waiting_at, is_held_at, lacking, takes_up}
 use Rattle.node_laws.proofs.Walks.{Plain, OfHost, any_of_controller, all_of_host}
 use Rattle.pass_laws.proofs.Passing.{have_handled, have_held}
 use Rattle.power_laws.proofs.Parts.{IsOwn, AreOwn}
-use Rattle.power_laws.proofs.Links.{links_uncut, links_own, turn_of_side}
+use Rattle.power_laws.proofs.Links.{links_own, turn_of_side}
 use Rattle.kept_laws.proofs.Doing.{uncut as on_goes, stays_cut}
 
 module _ (k : ℕ) where
@@ -106,7 +107,7 @@ module _ (k : ℕ) where
 
   turn_uncut : (t : Turn) (core : Core) (o : Option Port) → AreUncut (option_map_or (noted_of core t) o [])
   turn_uncut t core None = tt
-  turn_uncut t core (Some p) = links_uncut p.desk.host (turn_entry (own_side core) p.session p.side t)
+  turn_uncut t core (Some p) = entries_uncut p.desk.host (turn_entry (own_side core) p.session p.side t)
 
   pub turn_runs : (j : ℕ) (t : Turn) (w : Work) → Runs w → Runs (turn_at j t w)
   turn_runs j t w r = record {

@@ -31,11 +31,13 @@ use Rattle.node_telling.proofs.Walks.{IsUncut, AreUncut}
 use Rattle.node_telling.proofs.Nodes.{site_host, ports_for, hosts_same}
 use Rattle.node_telling.proofs.Worlds.{site_is}
 use Rattle.node_telling.proofs.Events.{orderly_map, comes_goes}
+use Rattle.node_telling.proofs.Powers.{entries_uncut}
+use Rattle.node_telling.proofs.Shapes.{frames_uncut, frames_none}
 use Rattle.power_laws.specs.Powers.{AreNotOf}
 use Rattle.power_laws.proofs.Parts.{IsOwn, AreOwn, AreOver, IsPart, own_not, over_front, over_part, part_own, nothing_part, part_over}
-use Rattle.power_laws.proofs.Links.{links_uncut, links_own, arrival_of_side}
+use Rattle.power_laws.proofs.Links.{links_own, arrival_of_side}
 use Rattle.power_laws.proofs.Doing.{IsEndOf, AreEnds, Runs, Fine, IsMine, deeds_fine}
-use Rattle.power_laws.proofs.Steps.{steps_fine, work_part, frames_none, frames_uncut, frames_own}
+use Rattle.power_laws.proofs.Steps.{steps_fine, work_part, frames_own}
 
 -- ## Nodes as a step begins
 
@@ -112,7 +114,7 @@ controller_part w k comes f does a = go w.controller a.controller
         let begun : Work = work_of r w.memory.plan (λ j. near_end_in (link_to w.sites j) (comes_to k comes j)) es in
         near_part (f begun) (λ s. wires_for s.link (comes_to k comes s.host)) w.sites
         (does begun (near_runs r w.memory.plan (λ j. near_end_in (link_to w.sites j) (comes_to k comes j)) es n.number
-        (links_own 0 k Controller refl (arrival Controller l comes) (arrival_of_side Controller l comes)) (links_uncut k (arrival Controller l comes))))
+        (links_own 0 k Controller refl (arrival Controller l comes) (arrival_of_side Controller l comes)) (entries_uncut k (arrival Controller l comes))))
 
 host_part : (w : NodeWorld) (h : ℕ) (comes : Comes) (f : Work → Work) → ((v : Work) → Runs h v → Fine h (f v)) → IsOrderly w
     → IsPart h (host_does w h comes f).1
@@ -138,7 +140,7 @@ host_part w h comes f does a = go (site_at w.sites h) refl
         far_part h (host_work s r comes f) (wires_for l comes)
         (does (work_of r s.memory.plan (λ j. near_end_in l comes) es)
         (far_runs h r s.memory.plan (λ j. near_end_in l comes) es off (subst P is n)
-        (subst Q (sym is) (links_own h h Host refl (arrival Host l comes) (arrival_of_side Host l comes))) (links_uncut s.host (arrival Host l comes))))
+        (subst Q (sym is) (links_own h h Host refl (arrival Host l comes) (arrival_of_side Host l comes))) (entries_uncut s.host (arrival Host l comes))))
 
     go : (o : Option Site) → site_at w.sites h ≡ o → IsPart h (host_does w h comes f).1
     go None q = rw q (nothing_part h)
@@ -267,7 +269,7 @@ aged_uncut : (sites : List Site)
     → AreUncut (flat_map (λ (s : Site). entries_for s.host (aged_entries Controller s.link.to_controller ++ aged_entries Host s.link.to_host)) sites)
 aged_uncut sites =
     flat_all IsUncut (λ (s : Site). entries_for s.host (aged_entries Controller s.link.to_controller ++ aged_entries Host s.link.to_host))
-    (λ s. links_uncut s.host (aged_entries Controller s.link.to_controller ++ aged_entries Host s.link.to_host)) sites
+    (λ s. entries_uncut s.host (aged_entries Controller s.link.to_controller ++ aged_entries Host s.link.to_host)) sites
 
 ticks_over : (w : NodeWorld) → IsOrderly w → AreOver (world_ticks w).1
 ticks_over w a =
@@ -307,9 +309,9 @@ lost_over w e why = go e.at_host refl
   where
     go : (b : Bool) → e.at_host ≡ b → AreOver (frame_lost w e why).1
     go true q = rw q (uncut_over (entries_for e.link (first_lost Host why (link_to w.sites e.link).to_host))
-        (links_uncut e.link (first_lost Host why (link_to w.sites e.link).to_host)))
+        (entries_uncut e.link (first_lost Host why (link_to w.sites e.link).to_host)))
     go false q = rw q (uncut_over (entries_for e.link (first_lost Controller why (link_to w.sites e.link).to_controller))
-        (links_uncut e.link (first_lost Controller why (link_to w.sites e.link).to_controller)))
+        (entries_uncut e.link (first_lost Controller why (link_to w.sites e.link).to_controller)))
 
 -- no host has the number of the controller
 no_site : (sites : List Site) (h : ℕ) → (h == 0) ≡ true → AllByRecursion (λ (s : Site). (s.host == 0) ≡ false) sites → site_at sites h ≡ None

@@ -15,29 +15,10 @@ use Rattle.link_entries.specs.Entries.{End as Side, Entry as Noted, far, if_so, 
 use Rattle.link_entries.specs.Entries.Entry.{Up, Down, Active, GaveUp, Acked, Got, Sent, Emit, Took, Lost, Tick, Restarted, Cut}
 use Rattle.history.specs.Steps.{end_of, entry_of, entries_for}
 use Rattle.node_world.specs.World.{node_of, arrival}
-use Rattle.node_telling.proofs.Walks.{IsUncut, AreUncut}
+use Rattle.node_telling.proofs.Powers.{entry_uncut}
 use Rattle.power_laws.proofs.Parts.{IsOwn, AreOwn}
 
 -- ## No power
-
-one_uncut : (h : ℕ) (x : Noted) → AreUncut (entry_of h x)
-one_uncut h (Up who n) = (tt, tt)
-one_uncut h (Down who cause) = (tt, tt)
-one_uncut h (Active who) = (tt, tt)
-one_uncut h (GaveUp who tries) = (tt, tt)
-one_uncut h (Acked who n count) = (tt, tt)
-one_uncut h (Got who n m) = (tt, tt)
-one_uncut h (Sent who n m) = (tt, tt)
-one_uncut h (Emit who frame) = (tt, tt)
-one_uncut h (Took who frame) = (tt, tt)
-one_uncut h (Lost who frame why) = (tt, tt)
-one_uncut h Tick = tt
-one_uncut h (Restarted who) = tt
-one_uncut h (Cut who) = tt
-
-pub links_uncut : (h : ℕ) (xs : List Noted) → AreUncut (entries_for h xs)
-links_uncut h [] = tt
-links_uncut h (x ∷ xs) = all_append IsUncut (entry_of h x) (entries_for h xs) (one_uncut h x) (links_uncut h xs)
 
 -- ## Its node
 

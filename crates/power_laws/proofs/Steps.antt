@@ -2,7 +2,6 @@
 use Rattle.std.proofs.Common.{◌≡◌, inl, inr, ℕ, ◌&&◌, Bool, true, false, cond, List, [], ◌∷◌, ◌++◌, Option, Some, None, map, refl, ap, sym, subst, ◌∙◌, append-nil}
 use Rattle.std.specs.Prelude.{not}
 use Rattle.std.specs.List.{AllByRecursion, flat_map, filter}
-use Rattle.std.specs.Option.{option_map_or}
 use Rattle.registry.proofs.ValueLemmas.{AllByRecursion-append as all_append}
 use Rattle.trace_model.specs.declared.entry.Entry.{Entry}
 use Rattle.hci_tables.specs.declared.command.Command.TheVariants.{Sync}
@@ -15,7 +14,7 @@ use Rattle.link_machine.specs.Machine.Turn.{Release}
 use Rattle.link_entries.specs.Entries.{End as Side, told, ending_entries}
 use Rattle.message_link.specs.Links.{Link}
 use Rattle.message_link.specs.Links.Ending.{GoesOut}
-use Rattle.history.specs.Steps.{end_of, entries_for}
+use Rattle.history.specs.Steps.{end_of}
 use Rattle.node_machine.specs.Parts.{Creation, Core, Port, Work, Deed}
 use Rattle.node_machine.specs.Parts.Deed.{Commits, Releases}
 use Rattle.node_machine.specs.Carrying.{own_side, port_at, finds_room, turn_at, all_done}
@@ -23,17 +22,20 @@ use Rattle.node_machine.specs.Controller.{asked_at}
 use Rattle.node_machine.specs.Turns.{passes}
 use Rattle.node_machine.specs.Node.{NodeInput, input_at, told_at, all_come, with_older, is_late, told_late, forgets, owed, all_owed, without_notice, after_sessions, synced, steps}
 use Rattle.node_machine.specs.Node.NodeInput.{AtEnd, TimePasses}
-use Rattle.node_world.specs.World.{node_of, ending_of, frames_noted}
+use Rattle.node_world.specs.World.{node_of, frames_noted}
 use Rattle.kept_laws.specs.Books.{hosts_of_ends}
 use Rattle.kept_laws.proofs.Plainly.{hosts_map}
 use Rattle.node_laws.proofs.Ports.{come_host, forgets_host, sessions_node}
 use Rattle.node_telling.proofs.Walks.{IsUncut, AreUncut}
+use Rattle.node_telling.proofs.Powers.{entries_uncut}
+use Rattle.node_telling.proofs.Shapes.{frames_none}
 use Rattle.pass_laws.specs.Steps.{has_come_so, told_of_late, told_of_coming, syncs_in, owed_in_step, has_freed, has_synced, comes_to_pass}
-use Rattle.pass_laws.proofs.Before.{come_entries, come_hosts, without_host}
+use Rattle.pass_laws.proofs.Before.{come_entries, come_hosts}
 use Rattle.power_laws.proofs.Parts.{IsOwn, AreOwn, IsPart}
-use Rattle.power_laws.proofs.Links.{links_uncut, links_own, told_of_side, out_of_side}
+use Rattle.power_laws.proofs.Links.{links_own, told_of_side, out_of_side}
 use Rattle.power_laws.proofs.Doing.{IsEndOf, AreEnds, Runs, Fine, IsMine, then_on, at_own, map_ends, turn_runs, deeds_fine, passes_fine}
 use Rattle.kept_laws.proofs.Doing.{uncut as on_goes}
+use Rattle.kept_laws.proofs.Stepping.{without_host}
 
 -- ## What comes
 
@@ -63,7 +65,7 @@ module _ (k : ℕ) where
 
   at_uncut : (core : Core) (p : Port) (o : Option LinkInput) → AreUncut (told_at core p o)
   at_uncut core p None = tt
-  at_uncut core p (Some i) = links_uncut p.desk.host (told (own_side core) p.session (report p.side i) (whole_acked (after_input p.side i)))
+  at_uncut core p (Some i) = entries_uncut p.desk.host (told (own_side core) p.session (report p.side i) (whole_acked (after_input p.side i)))
 
   late_told : (core : Core) (p : Port) → core.node ≡ k → IsEndOf k p.desk.host → AreOwn k (told_late core p)
   late_told core p number is = go (is_late p) refl
@@ -213,20 +215,6 @@ module _ (k : ℕ) where
   }
 
 -- ## Frames
-
-pub frames_none : (who : Side) (h : ℕ) (l : Link) (v : Work) → v.cut ≡ true → frames_noted who h l v ≡ []
-frames_none who h l v off = go (port_at v.ports h) refl
-  where
-    go : (o : Option Port) → port_at v.ports h ≡ o → frames_noted who h l v ≡ []
-    go None q = rw q refl
-    go (Some p) q = rw (q, off) refl
-
-pub frames_uncut : (who : Side) (h : ℕ) (l : Link) (v : Work) → AreUncut (frames_noted who h l v)
-frames_uncut who h l v = go (port_at v.ports h)
-  where
-    go : (o : Option Port) → AreUncut (option_map_or (λ (p : Port). entries_for h (ending_entries who l p.side (ending_of v))) o [])
-    go None = tt
-    go (Some p) = links_uncut h (ending_entries who l p.side (ending_of v))
 
 pub frames_own : (k : ℕ) (who : Side) (h : ℕ) (l : Link) (v : Work) → node_of (end_of h who) ≡ k → AreOwn k (frames_noted who h l v)
 frames_own k who h l v at = by v.cut refl

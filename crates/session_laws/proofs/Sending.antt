@@ -12,8 +12,9 @@ use Rattle.shdlc_core.specs.declared.answers.LinkState.TheVariants.{Down, Waitin
 use Rattle.shdlc_core.specs.declared.answers.Due.{Due}
 use Rattle.shdlc_core.specs.declared.answers.Due.TheVariants.{Rr as Rr_due, Rej as Rej_due, Rnr as Rnr_due, Rset as Rset_due, Ua as Ua_due}
 use Rattle.shdlc_core.specs.Machine.{EndState, Session, Fragment, no_session, sent_next, fetched, frame_due, fragment_due, control_due, expected, frames_of, after_frames, put_out, with_ready}
+use Rattle.shdlc_core.proofs.Histories.{fragment_due-within}
 use Rattle.link_laws.proofs.Idle.{fetched_idle, after_frames_idle}
-use Rattle.link_laws.proofs.Joined.{fetch_cases, fragment_due_tells, changed}
+use Rattle.link_laws.proofs.Joined.{fetch_cases, changed}
 use Rattle.session_laws.specs.Sessions.{OnWire, NumberedShdlc, ShdlcLink, fits, shdlc_put, shdlc_put_all, with_shdlc_controller, shdlc_becomes, ShdlcTurn, shdlc_turn, shdlc_turned}
 use Rattle.session_laws.specs.Losses.{is_act, sans}
 use Rattle.session_laws.specs.Sessions.ShdlcTurn.{Offer, SetReady}
@@ -108,7 +109,7 @@ pub safe_fragment : {kf : ℕ} {n f : NumberedShdlc} {to_n to_f : List OnWire} {
 safe_fragment {n = n} {f} {to_f = to_f} {info = info} up is h =
     let s = n.side.session in
     let x : OnWire = record { frame = I (s.next % 8) (expected s) info; age = 0; number = 0 } in
-    let tells = fragment_due_tells s info is in
+    let tells = fragment_due-within s info is in
     safe_up h (record { was_up = up; up = up; due = h.n_due; own = refl; peer = refl }) (hand_send h.hand x up tt refl)
     (pair_part (live-push f.side.phase to_f x tt)
     (pair_send x tells.0 tells.1 refl (plain_live f.side.phase to_f (no_rset_out h up).no_rset) (pair_from h up)))

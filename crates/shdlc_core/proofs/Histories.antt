@@ -73,7 +73,7 @@ same h = rw (append-nil h.accepted, append-nil h.offered, append-nil h.sent) (ap
 pub place_of-within : (s : Session) (nr x : ℕ) → place_of s nr ≡ Some x → (s.acked ≤ x) × (x ≤ s.reached)
 place_of-within s nr x q = grind (arith, common_steps)
 
-received-accepted : (f : EndState) (ns : ℕ) (info : Fragment) →
+pub received-accepted : (f : EndState) (ns : ℕ) (info : Fragment) →
     (received f ns info).session.acc ≡ f.session.acc ++ option_to_list (fragment_accepted f ns info)
 received-accepted f ns info = grind (arith, common_steps)
 

@@ -431,7 +431,7 @@ brings_up : (e : EndState) (ns nr : ℕ) (info : Fragment) (q : Option ℕ) → 
 brings_up e ns nr info None at = record { up = refl; stays = refl; goes_on = refl; stopped_is = rw at }
 brings_up e ns nr info (Some x) at = record { up = refl; stays = refl; goes_on = refl; stopped_is = rw at (brings_received e x ns info) }
 
-no_fragment : (f : Fragment) → None ≡ Some f → ⊥
+pub no_fragment : (f : Fragment) → None ≡ Some f → ⊥
 no_fragment f e = cc
 
 none_brought : (p : LinkState) (e : EndState) (w caps : ℕ) (b : Bool) (f : Fragment) → (w == 0) ≡ b

@@ -10,8 +10,7 @@ use Rattle.node_machine.specs.Carrying.{port_at}
 use Rattle.node_world.specs.World.{end_c}
 use Rattle.node_world.specs.NodeFilters.{Book, book_in, notice_in, asking_in}
 use Rattle.node_links.specs.Notices.{IsNoticedUp, OnFirst}
-use Rattle.node_links.proofs.Noticing.{UpAt}
-use Rattle.node_readings.proofs.Noticed.{up_is}
+use Rattle.node_links.proofs.Noticing.{UpAt, up_of}
 use Rattle.notice_readings.specs.Notices.{IsKeptNotice}
 use Rattle.notice_readings.proofs.Doing.{AreHostEnds, Holds, controller_side}
 use Rattle.notice_readings.proofs.Near.{noticed_desks}
@@ -38,10 +37,6 @@ host_ends (p ∷ ports) all = (all.0, host_ends ports all.1)
 up_to : (o : Option Port) → OnFirst IsNoticedUp o → UpAt o
 up_to None a = tt
 up_to (Some p) a = λ some. ap is_up (a some)
-
-up_from : (o : Option Port) → UpAt o → OnFirst IsNoticedUp o
-up_from None a = tt
-up_from (Some p) a = λ some. up_is p.side.shdlc.phase (a some)
 
 aside_to : (n : ℕ) (l : List Creation) (o : Option Port) → n ≡ length l → HasAsideAt l o → EndAt n l o
 aside_to n l None same a = (same ∙ ap length a, a)
@@ -120,7 +115,7 @@ module _ (hosts : List ℕ) (t : List Entry) where
     proper = (creations 0).good.rows;
     book = (creations 0).good.book;
     right = (notices 0).right;
-    up = λ h. up_from (port_at w.ports h) (notices h).up;
+    up = λ h. up_of (port_at w.ports h) (notices h).up;
     notices = λ h. subst (IsKeptNotice (notice_in (t ++ w.entries) h)) (noticed_desks w.ports h) (notices h).kept;
     awaited = due_ports w.ports (subst (AllByRecursion (λ (e : ℕ × Option Creation). IfAwaited e.1))
         (sym (creations 0).good.asked_are) (creations 0).good.due);

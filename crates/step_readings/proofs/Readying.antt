@@ -23,9 +23,8 @@ use Rattle.kept_laws.proofs.Asking.{same_new}
 use Rattle.kept_laws.proofs.Doing.{GoesOn_or_lost, all_fine}
 use Rattle.kept_laws.proofs.HostsReply.{OneOrNone}
 use Rattle.kept_laws.proofs.Plainly.{Plainly, runs_plainly, plainly_then}
-use Rattle.kept_laws.proofs.Stepping.{plainly_come, plainly_late, plainly_sessions, core_late, sessions_order, free_may, free_fit, freed_core, freed_cut, syncs_one, one_may, syncs_fit}
+use Rattle.kept_laws.proofs.Stepping.{plainly_come, plainly_late, plainly_sessions, core_late, sessions_order, free_may, free_fit, freed_core, freed_cut, syncs_one, one_may, syncs_fit, without_host}
 use Rattle.kept_laws.proofs.Turning.{then_all}
-use Rattle.node_telling.proofs.Steps.{without_host}
 use Rattle.node_readings.specs.Orders.{IsFresh}
 use Rattle.notice_readings.specs.Worlds.{IsShut}
 use Rattle.notice_readings.proofs.Doing.{Stands, IsOn as IsNoticed, then as then_noticed, all_stand}

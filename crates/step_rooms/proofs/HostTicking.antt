@@ -29,6 +29,7 @@ use Rattle.node_world.specs.World.{Site, NodeWorld, site_at, all_aged, controlle
 use Rattle.kept_laws.specs.Books.{hosts_of_ends}
 use Rattle.kept_laws.specs.Hosts.{AreDifferent}
 use Rattle.kept_laws.proofs.Plainly.{hosts_map}
+use Rattle.kept_laws.proofs.Stepping.{without_host, late_host}
 use Rattle.node_links.proofs.Got.{Clean}
 use Rattle.node_links.proofs.Sites.{clf_line, can_end}
 use Rattle.node_links.proofs.Worlds.{IsFineSite, IsFineWorld, ports_fine}
@@ -36,8 +37,8 @@ use Rattle.node_telling.specs.Telling.{HasEnds, IfItRuns, hosts_in, IsOrderly, N
 use Rattle.node_telling.specs.Standing.{without_power}
 use Rattle.node_telling.proofs.Powers.{came_uncut}
 use Rattle.node_telling.proofs.Shapes.{twice}
-use Rattle.node_telling.proofs.Steps.{Opening, without_host}
-use Rattle.node_telling.proofs.Ticks.{not_late, in_time, reset_host}
+use Rattle.node_telling.proofs.Steps.{Opening}
+use Rattle.node_telling.proofs.Ticks.{not_late, in_time}
 use Rattle.node_telling.proofs.Nodes.{swapped, site_host, hosts_same, host_opened}
 use Rattle.node_telling.proofs.Worlds.{site_is, node_is}
 use Rattle.node_telling.proofs.Events.{orderly_map}
@@ -202,7 +203,7 @@ module _ (w : NodeWorld) (t : List Entry) (orderly : IsOrderly w) (fine : IsFine
           let ticked : List Port = map (λ p. has_come p (Some Tick)) start.ports in
           hosts_map without_notice without_host (map (forgets come.ports) come.ports)
           ∙ (hosts_map (forgets come.ports) (forgets_host come.ports) come.ports
-          ∙ (hosts_map reset_late reset_host (map with_older ticked)
+          ∙ (hosts_map reset_late late_host (map with_older ticked)
           ∙ (hosts_map with_older (λ p. refl) ticked
           ∙ (hosts_map (λ p. has_come p (Some Tick)) (λ p. refl) start.ports ∙ (hosts_same (λ j. mine.link.host) r.desks ∙ node.ends)))))
 

@@ -18,13 +18,14 @@ use Rattle.node_machine.specs.Node.NodeInput.{TimePasses}
 use Rattle.node_world.specs.World.{Site, NodeWorld, site_at, link_to, all_aged}
 use Rattle.kept_laws.specs.Books.{hosts_of_ends}
 use Rattle.kept_laws.proofs.Plainly.{hosts_map}
+use Rattle.kept_laws.proofs.Stepping.{without_host, late_host}
 use Rattle.node_links.proofs.Worlds.{IsFineWorld, near_clean, ports_fine}
 use Rattle.node_telling.specs.Telling.{HasEnds, hosts_in, IsOrderly, IfDue, IsTimely}
 use Rattle.node_telling.specs.Standing.{without_power}
 use Rattle.node_telling.proofs.Powers.{AreClear, came_uncut}
 use Rattle.node_telling.proofs.Shapes.{clear-append, clear_aged, twice}
-use Rattle.node_telling.proofs.Steps.{Opening, without_host}
-use Rattle.node_telling.proofs.Ticks.{older, in_time, too_late, reset_host}
+use Rattle.node_telling.proofs.Steps.{Opening}
+use Rattle.node_telling.proofs.Ticks.{older, in_time, too_late}
 use Rattle.node_telling.proofs.Nodes.{hosts_same}
 use Rattle.node_telling.proofs.Worlds.{node_is}
 use Rattle.node_telling.proofs.WorldTicks.{opened, up_late, old_orderly, old_found, old_told, aged_uncut}
@@ -137,7 +138,7 @@ module _ (w : NodeWorld) (t : List Entry) (orderly : IsOrderly w) (fine : IsFine
       let ticked : List Port = map (λ p. has_come p (Some Tick)) start.ports in
       hosts_map without_notice without_host (map (forgets come.ports) come.ports)
       ∙ (hosts_map (forgets come.ports) (forgets_host come.ports) come.ports
-      ∙ (hosts_map reset_late reset_host (map with_older ticked)
+      ∙ (hosts_map reset_late late_host (map with_older ticked)
       ∙ (hosts_map with_older (λ p. refl) ticked
       ∙ (hosts_map (λ p. has_come p (Some Tick)) (λ p. refl) start.ports ∙ (hosts_same (λ j. (link_to old.sites j).controller) r.desks ∙ ends)))))
 

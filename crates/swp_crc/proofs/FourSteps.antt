@@ -9,8 +9,8 @@ use Rattle.swp_crc.specs.Running.{running_of}
 use Rattle.swp_crc.proofs.DivisionLemmas.{sum_comm, sum_zeros, length-sum, divided_sum, divided-+, divided-zeros, length-divided}
 use Rattle.swp_crc.proofs.Numbers.{number_of-append, number_of-injective, number_of-sum, number_of-lt}
 use Rattle.swp_crc.proofs.Entries.{number_of_byte}
-use Rattle.swp_crc.proofs.Steps.{length-byte, length-remainder, left_of, left-append, sum-append}
-use Rattle.swp_base.proofs.BitLemmas.{bits_of-append}
+use Rattle.swp_crc.proofs.Steps.{length-remainder, left_of, left-append, sum-append}
+use Rattle.swp_base.proofs.BitLemmas.{bits_of-append, length-bits_of_byte}
 
 -- what division leaves of eight bits before so many more bits 0 and the sixteen
 abbrev alone : ℕ → List Bool → List Bool
@@ -70,18 +70,18 @@ bits_of_sum : (bits : List Bool) (n b : ℕ) → length bits ≡ 8 → n ≡ spe
     → bits_of_byte (bit_xor n b) ≡ sum_from_front bits (bits_of_byte b)
 bits_of_sum bits n b eight is small =
     ap bits_of_byte index
-    ∙ number_of-injective (bits_of_byte (spelled_number top)) top (length-byte (spelled_number top) ∙ sym long) (number_of_byte (spelled_number top) within)
+    ∙ number_of-injective (bits_of_byte (spelled_number top)) top (length-bits_of_byte (spelled_number top) ∙ sym long) (number_of_byte (spelled_number top) within)
   where
     top : List Bool
     top = sum_from_front bits (bits_of_byte b)
 
     long : length top ≡ 8
-    long = length-sum bits (bits_of_byte b) (omega (arith, length-byte b, eight)) ∙ length-byte b
+    long = length-sum bits (bits_of_byte b) (omega (arith, length-bits_of_byte b, eight)) ∙ length-bits_of_byte b
 
     index : bit_xor n b ≡ spelled_number top
     index =
         ap (λ m. bit_xor m b) is ∙ ap (bit_xor (spelled_number bits)) (sym (number_of_byte b small))
-        ∙ sym (number_of-sum bits (bits_of_byte b) (eight ∙ sym (length-byte b)))
+        ∙ sym (number_of-sum bits (bits_of_byte b) (eight ∙ sym (length-bits_of_byte b)))
 
     within : spelled_number top < 256
     within = subst (λ m. spelled_number top < 2 ^ m) long (number_of-lt top)
@@ -110,7 +110,7 @@ length-low : (bytes : List ℕ) → length (drop 8 (remainder_of bytes)) ≡ 8
 length-low bytes = omega (arith, length-drop 8 (remainder_of bytes), length-remainder bytes)
 
 long_sum : (bits : List Bool) (b : ℕ) → length bits ≡ 8 → length (sum_from_front bits (bits_of_byte b)) ≡ 8
-long_sum bits b eight = length-sum bits (bits_of_byte b) (omega (arith, length-byte b, eight)) ∙ length-byte b
+long_sum bits b eight = length-sum bits (bits_of_byte b) (omega (arith, length-bits_of_byte b, eight)) ∙ length-bits_of_byte b
 
 -- four remainders of sixteen bits, added as numbers
 four_numbers : (ws xs ys zs : List Bool) → length ws ≡ 16 → length xs ≡ 16 → length ys ≡ 16 → length zs ≡ 16
@@ -138,9 +138,9 @@ goes_on_by_four bytes b0 b1 b2 b3 high low h l whole =
     ∙ ap (λ n. divided n (sum_from_front (left_of (bits_of bytes)) (bits_of (b0 ∷ b1 ∷ b2 ∷ b3 ∷ []) ++ zeros))) long
     ∙ ap (λ xs. divided 32 (sum_from_front xs (bits_of (b0 ∷ b1 ∷ b2 ∷ b3 ∷ []) ++ zeros))) (sym whole)
     ∙ ap (λ xs. divided 32 (sum_from_front (high ++ low) xs)) nested
-    ∙ ap (divided 32) (added high low first second (bits_of_byte b2 ++ (bits_of_byte b3 ++ zeros)) h l (length-byte b0) (length-byte b1))
+    ∙ ap (divided 32) (added high low first second (bits_of_byte b2 ++ (bits_of_byte b3 ++ zeros)) h l (length-bits_of_byte b0) (length-bits_of_byte b1))
     ∙ each_alone (sum_from_front high first) (sum_from_front low second) (bits_of_byte b2) (bits_of_byte b3) (long_sum high b0 h) (long_sum low b1 l)
-    (length-byte b2) (length-byte b3)
+    (length-bits_of_byte b2) (length-bits_of_byte b3)
   where
     first : List Bool
     first = bits_of_byte b0
@@ -156,10 +156,10 @@ goes_on_by_four bytes b0 b1 b2 b3 high low h l whole =
           length-append second (bits_of (b2 ∷ b3 ∷ [])),
           length-append (bits_of_byte b2) (bits_of (b3 ∷ [])),
           length-append (bits_of_byte b3) [],
-          length-byte b0,
-          length-byte b1,
-          length-byte b2,
-          length-byte b3,
+          length-bits_of_byte b0,
+          length-bits_of_byte b1,
+          length-bits_of_byte b2,
+          length-bits_of_byte b3,
         )
 
     nested : bits_of (b0 ∷ b1 ∷ b2 ∷ b3 ∷ []) ++ zeros ≡ first ++ (second ++ (bits_of_byte b2 ++ (bits_of_byte b3 ++ zeros)))
@@ -192,8 +192,8 @@ push_four_step {r} {e1} {e2} {e3} four bytes long small is is0 is1 is2 is3 =
     ∙ ap (λ n. bit_xor (spelled_number (alone 3 top0)) (bit_xor (spelled_number (alone 2 top1)) (bit_xor n e3))) is2
     ∙ ap (λ n. bit_xor (spelled_number (alone 3 top0)) (bit_xor (spelled_number (alone 2 top1)) (bit_xor (spelled_number (alone 1 (bits_of_byte b2))) n))) is3
     ∙ sym (four_numbers (alone 3 top0) (alone 2 top1) (alone 1 (bits_of_byte b2)) (alone 0 (bits_of_byte b3))
-    (length-alone 3 top0 (long_sum high b0 h)) (length-alone 2 top1 (long_sum low b1 l)) (length-alone 1 (bits_of_byte b2) (length-byte b2))
-    (length-alone 0 (bits_of_byte b3) (length-byte b3)))
+    (length-alone 3 top0 (long_sum high b0 h)) (length-alone 2 top1 (long_sum low b1 l)) (length-alone 1 (bits_of_byte b2) (length-bits_of_byte b2))
+    (length-alone 0 (bits_of_byte b3) (length-bits_of_byte b3)))
     ∙ ap spelled_number (sym (goes_on_by_four bytes b0 b1 b2 b3 high low h l whole))
     ∙ ap (λ xs. running_of (bytes ++ xs)) (sym (four_of four long))
   where

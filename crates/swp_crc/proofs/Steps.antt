@@ -3,16 +3,13 @@ use Rattle.std.proofs.Common.{◌≡◌, ℕ, suc, zero, ◌+◌, ◌-◌, ◌*�
 use Rattle.std.proofs.Math.ListN.{length-replicate}
 use Rattle.std.specs.Int.Bits.{bit_xor}
 use Rattle.swp_base.specs.Bits.{bits_of, bits_of_byte}
+use Rattle.swp_base.proofs.BitLemmas.{length-bits_of_byte}
 use Rattle.swp_crc.specs.Division.{sum_of_bits, sum_from_front, divided, spelled_number}
 use Rattle.swp_crc.specs.Crc.{zeros, complement_first, remainder_of, crc_of, table_entry}
 use Rattle.swp_crc.specs.Running.{running_of}
 use Rattle.swp_crc.proofs.DivisionLemmas.{sum_comm, sum_assoc, sum_zeros, length-sum, divided_sum, divided-+, divided-zeros, length-divided}
 use Rattle.swp_crc.proofs.Numbers.{number_of-append, number_of-injective, number_of-sum, number_of-not, number_of-lt}
 use Rattle.swp_crc.proofs.Entries.{number_of_byte}
-
-pub length-byte : (b : ℕ) → length (bits_of_byte b) ≡ 8
-unfolding bits_of_byte
-length-byte b = refl
 
 pub bits_of-push : (bytes : List ℕ) (b : ℕ) → bits_of (bytes ++ b ∷ []) ≡ bits_of bytes ++ bits_of_byte b
 bits_of-push [] b = append-nil (bits_of_byte b)
@@ -85,7 +82,7 @@ left-append bits more =
 goes_on : (bytes : List ℕ) (b : ℕ) → remainder_of (bytes ++ b ∷ []) ≡ divided 8 (sum_from_front (remainder_of bytes) (bits_of_byte b ++ zeros))
 goes_on bytes b =
     ap left_of (bits_of-push bytes b) ∙ left-append (bits_of bytes) (bits_of_byte b)
-    ∙ ap (λ n. divided n (sum_from_front (left_of (bits_of bytes)) (bits_of_byte b ++ zeros))) (length-byte b)
+    ∙ ap (λ n. divided n (sum_from_front (left_of (bits_of bytes)) (bits_of_byte b ++ zeros))) (length-bits_of_byte b)
 
 -- the low half moves up, and the entry of the high half with the byte is added
 by_halves : (high low byte : List Bool) → length high ≡ 8 → length low ≡ 8 → length byte ≡ 8
@@ -125,13 +122,13 @@ numbers_step r b e high low small h l is entry =
     ap (λ n. bit_xor n e) moved
     ∙ ap (bit_xor (spelled_number (low ++ replicate 8 false))) (entry ∙ ap (λ xs. spelled_number (divided 8 (xs ++ zeros))) same)
     ∙ sym (number_of-sum (low ++ replicate 8 false) (divided 8 (top ++ zeros)) lengths)
-    ∙ ap spelled_number (sym (by_halves high low (bits_of_byte b) h l (length-byte b)))
+    ∙ ap spelled_number (sym (by_halves high low (bits_of_byte b) h l (length-bits_of_byte b)))
   where
     top : List Bool
     top = sum_from_front high (bits_of_byte b)
 
     eight : length top ≡ 8
-    eight = length-sum high (bits_of_byte b) (omega (arith, length-byte b)) ∙ length-byte b
+    eight = length-sum high (bits_of_byte b) (omega (arith, length-bits_of_byte b)) ∙ length-bits_of_byte b
 
     low_power : 2 ^ length low ≡ 256
     low_power = ap (λ n. 2 ^ n) l
@@ -151,7 +148,7 @@ numbers_step r b e high low small h l is entry =
     index : bit_xor (r / 256) b ≡ spelled_number top
     index =
         ap (λ n. bit_xor n b) upper ∙ ap (bit_xor (spelled_number high)) (sym (number_of_byte b small))
-        ∙ sym (number_of-sum high (bits_of_byte b) (h ∙ sym (length-byte b)))
+        ∙ sym (number_of-sum high (bits_of_byte b) (h ∙ sym (length-bits_of_byte b)))
 
     within : spelled_number top < 256
     within = subst (λ n. spelled_number top < 2 ^ n) eight (number_of-lt top)
@@ -159,7 +156,7 @@ numbers_step r b e high low small h l is entry =
     same : bits_of_byte (bit_xor (r / 256) b) ≡ top
     same =
         ap bits_of_byte index
-        ∙ number_of-injective (bits_of_byte (spelled_number top)) top (length-byte (spelled_number top) ∙ sym eight)
+        ∙ number_of-injective (bits_of_byte (spelled_number top)) top (length-bits_of_byte (spelled_number top) ∙ sym eight)
         (number_of_byte (spelled_number top) within)
 
     lengths : length (low ++ replicate 8 false) ≡ length (divided 8 (top ++ zeros))

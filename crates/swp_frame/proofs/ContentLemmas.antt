@@ -9,8 +9,7 @@ use Rattle.swp_base.specs.Bits.{bits_of, bits_of_byte}
 use Rattle.swp_crc.specs.Division.{spelled_number}
 use Rattle.swp_crc.proofs.Numbers.{number_of-append, number_of-lt}
 use Rattle.swp_crc.proofs.Entries.{number_of_byte}
-use Rattle.swp_crc.proofs.Steps.{length-byte}
-use Rattle.swp_base.proofs.BitLemmas.{bits_of-append}
+use Rattle.swp_base.proofs.BitLemmas.{bits_of-append, length-bits_of, length-bits_of_byte}
 use Rattle.swp_frame.specs.Words.{low_bits}
 use Rattle.swp_frame.proofs.LowBits.{byte_bits, low_bits-same, low_bits-add, low_bits-number_of}
 use Rattle.swp_frame.proofs.Shifts.{no_wrap, upper_joined, lower_joined}
@@ -21,10 +20,6 @@ use Rattle.swp_base.specs.declared.link_terms.FrameFault.TheVariants.{Crc}
 use Rattle.swp_frame.specs.declared.fed.Fed.TheVariants.{Frame, Refused}
 use Rattle.swp_frame.specs.Content.{bytes_from, bytes_of_bits, judged_bytes, judged}
 use Rattle.swp_frame.specs.Kept.{AreBytes, KeepsBits, run_bits}
-
-pub length-bits_of : (bytes : List ℕ) → length (bits_of bytes) ≡ 8 * length bytes
-length-bits_of [] = refl
-length-bits_of (b ∷ bytes) = omega (arith, length-append (bits_of_byte b) (bits_of bytes), length-byte b, length-bits_of bytes)
 
 AreBytes-push : (bytes : List ℕ) (b : ℕ) → AreBytes bytes → b < 256 → AreBytes (bytes ++ b ∷ [])
 AreBytes-push [] b h s = (s, tt)

@@ -5,8 +5,7 @@ use Rattle.std.proofs.lemmas.Nat.Bits.{shr_and_one}
 use Rattle.std.specs.Int.{bit_at}
 use lib.Bits.{bit_and}
 use Rattle.swp_base.specs.Bits.{bits_of, bits_of_byte}
-use Rattle.swp_crc.proofs.Steps.{length-byte}
-use Rattle.swp_frame.proofs.ContentLemmas.{length-bits_of}
+use Rattle.swp_base.proofs.BitLemmas.{length-bits_of, length-bits_of_byte}
 use Rattle.swp_crc.specs.Crc.{crc_of}
 use Rattle.swp_frame.specs.Stuffing.{start_of_frame, end_of_frame, stuffed, with_crc}
 use Rattle.swp_frame.specs.declared.frame_bits.FrameWriter.{FrameWriter}
@@ -31,7 +30,7 @@ next_bit content b place h =
     append_assoc content (take place (bits_of_byte b)) (eqb (bit_and (b / 2 ^ (7 - place)) 1) 1 ∷ [])
     ∙ ap (λ xs. content ++ xs)
     (ap (λ bit. take place (bits_of_byte b) ++ bit ∷ []) (ap (λ n. eqb n 1) (shr_and_one b (7 - place)) ∙ sym (bit_at_place b place h))
-    ∙ sym (take_more (bits_of_byte b) place false (rw (length-byte b) h)))
+    ∙ sym (take_more (bits_of_byte b) place false (rw (length-bits_of_byte b) h)))
 
 pub take_all : {A : Type 0} (xs : List A) (n : ℕ) → length xs ≤ n → take n xs ≡ xs
 take_all [] zero e = refl
@@ -40,7 +39,7 @@ take_all (x ∷ xs) zero e = absurd (omega arith)
 take_all (x ∷ xs) (suc n) e = ap (λ ys. x ∷ ys) (take_all xs n (omega arith))
 
 pub all_bits : (b place : ℕ) → 8 ≤ place → take place (bits_of_byte b) ≡ bits_of_byte b
-all_bits b place h = take_all (bits_of_byte b) place (rw (length-byte b) h)
+all_bits b place h = take_all (bits_of_byte b) place (rw (length-bits_of_byte b) h)
 
 -- there is room for one more byte, and for the end of the frame
 pub room : (writer : FrameWriter) (bytes : List ℕ) → Writes writer (bits_of bytes) → length bytes ≤ 31 → length writer.bits.items + 16 ≤ 336

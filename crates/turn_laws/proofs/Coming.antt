@@ -20,12 +20,13 @@ use Rattle.node_machine.specs.Node.{NodeInput, input_at, has_come, told_at, all_
 use Rattle.node_machine.specs.Node.NodeInput.{AtEnd, TimePasses}
 use Rattle.kept_laws.specs.Books.{hosts_of_ends}
 use Rattle.kept_laws.specs.Hosts.{AreDifferent}
+use Rattle.kept_laws.proofs.Stepping.{without_host, late_host}
 use Rattle.node_links.specs.Notices.{IsComing, IsOutside}
 use Rattle.node_telling.proofs.Mute.{AreMute, forgotten_mute, all_owed_mute, all_synced_mute}
 use Rattle.node_telling.proofs.Parts.{after_coming}
 use Rattle.node_telling.proofs.Accounts.{at_host}
-use Rattle.node_telling.proofs.Steps.{without_same, without_host, forgets_same, come_turns, sessions_side}
-use Rattle.node_telling.proofs.Ticks.{reset_host}
+use Rattle.node_telling.proofs.Steps.{without_same, forgets_same, come_turns, sessions_side}
+use Rattle.node_telling.proofs.Ticks.{reset_turns}
 use Rattle.turn_laws.proofs.Queues.Doing.{Adds}
 use Rattle.turn_laws.proofs.Queues.{Becomes, Goes, goes-append, AreStill, still_goes, doing}
 use Rattle.turn_laws.proofs.Ends.{left_by, input_got}
@@ -135,13 +136,6 @@ abbrev pub Fresh : End → Side → Bool → LinkEnd → List Message → Option
 Fresh e who own s begin None = Unit {0}
 Fresh e who true s begin (Some p) = (p.turns ≡ []) × (p.side ≡ s) × (s.got ≡ begin)
 Fresh e who false s begin (Some p) = has_side who e ≡ false
-
-reset_turns : (p : Port) → (reset_late p).turns ≡ p.turns
-reset_turns p = go (is_late p) refl
-  where
-    go : (b : Bool) → is_late p ≡ b → (reset_late p).turns ≡ p.turns
-    go true q = rw q refl
-    go false q = rw q refl
 
 reset_side : (p : Port) → (reset_late p).side.got ≡ p.side.got
 reset_side p = go (is_late p) refl
@@ -321,7 +315,7 @@ module _ (e : End) (who : Side) (own : Bool) (mine : own ≡ true → has_side w
       goes_from came (forgotten v.ports) (flat_map (synced w.core input) w.ports)
       (all_owed (map (forgets v.ports) v.ports)) v ms (forgotten_mute v.ports)
       (all_synced_mute w.core input w.ports) (all_owed_mute (map (forgets v.ports) v.ports)) side
-      (known_map e who own mine begin came reset_late reset_host reset_turns reset_side ms old
+      (known_map e who own mine begin came reset_late late_host reset_turns reset_side ms old
       (known_map e who own mine begin came with_older (λ p. refl) (λ p. refl) (λ p. refl) ms first.ports (knows_all input outside w.core side w.ports f)))
       (goes-append e first.entries (flat_map (told_late w.core) old) begin ms ms
       (goes-append e w.entries (flat_map (noted input outside w.core side) w.ports) begin begin ms g (all_go input outside w.core side w.ports d f))

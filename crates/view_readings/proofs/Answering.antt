@@ -3,7 +3,7 @@ use Rattle.std.proofs.Common.{◌≡◌, ◌⊎◌, inl, inr, ℕ, ◌&&◌, Boo
 use Rattle.std.specs.Prelude.{Option, Some, None, Result, Ok, Err, is_some}
 use Rattle.std.specs.List.{AllByRecursion, fold}
 use Rattle.std.specs.Option.{option_map}
-use Rattle.std.proofs.lemmas.Bool.{cases_Bool, cond_both, eq-eqb, true≢false}
+use Rattle.std.proofs.lemmas.Bool.{cases_Bool, cond_both, true≢false}
 use Rattle.std.proofs.lemmas.List.Sums.{fold-append}
 use Rattle.trace_model.specs.declared.entry.Entry.{Entry}
 use Rattle.trace_model.specs.declared.entry.Entry.TheVariants.{InitMade}
@@ -30,6 +30,7 @@ use Rattle.node_world.specs.World.{end_h}
 use Rattle.node_world.specs.NodeFilters.{is_response}
 use Rattle.node_laws.proofs.Walks.{Plain, all_ordered, learns_holds, learned_holds, init_holds}
 use Rattle.view_readings.specs.Inits.{with_response, init_after}
+use Rattle.node_readings.proofs.Silent.{same_own}
 
 -- what is read behind these entries, where this was read before
 abbrev pub reads_init : ℕ → List Entry → Option Init → Option Init
@@ -37,9 +38,6 @@ reads_init h es i = fold (init_after h) i es
 
 pub init_append : (h : ℕ) (xs ys : List Entry) (i : Option Init) → reads_init h (xs ++ ys) i ≡ reads_init h ys (reads_init h xs i)
 init_append h xs ys i = fold-append (init_after h) i xs ys
-
-pub own_end : (h : ℕ) → same_end (end_h h) (end_h h) ≡ true
-own_end h = rw (eq-eqb h h refl) refl
 
 -- ## Deeds of a host
 
@@ -104,7 +102,7 @@ module _ (h : ℕ) (now : LinkState) where
 
   module _ (core : Core) (number : core.node ≡ h) (side : own_side core ≡ Host) where
     ends_own : same_end (end_of_node core core.node) (end_h h) ≡ true
-    ends_own = ap (λ s. same_end (end_of core.node s) (end_h h)) side ∙ (ap (λ n. same_end (end_h n) (end_h h)) number ∙ own_end h)
+    ends_own = ap (λ s. same_end (end_of core.node s) (end_h h)) side ∙ (ap (λ n. same_end (end_h n) (end_h h)) number ∙ same_own h)
 
     over : (y : Option Init) → cond (same_end (end_of_node core core.node) (end_h h)) None y ≡ None
     over y = ap (λ b. cond b None y) ends_own

@@ -1,5 +1,5 @@
 -- Something comes to a host, or it begins something: the init that runs there stays what is read.
-use Rattle.std.proofs.Common.{◌≡◌, ◌⊎◌, inl, inr, ℕ, ◌&&◌, ◌||◌, Bool, true, false, cond, eqb, List, [], ◌∷◌, ◌++◌, map, sym, refl, ap, ◌∙◌, subst, append-nil}
+use Rattle.std.proofs.Common.{◌≡◌, ◌⊎◌, inl, inr, ℕ, ◌&&◌, true, false, cond, eqb, List, [], ◌∷◌, ◌++◌, map, sym, refl, ap, ◌∙◌, subst, append-nil}
 use Rattle.std.specs.Prelude.{Option, Some, None}
 use Rattle.std.specs.List.{AllByRecursion, flat_map}
 use Rattle.std.proofs.lemmas.Bool.{cases_Bool, cond_both, true≢false}
@@ -13,7 +13,7 @@ use Rattle.node_machine.specs.Parts.Deed.{Sends, Orders}
 use Rattle.node_machine.specs.Controller.{is_command_message}
 use Rattle.node_machine.specs.Carrying.{noting, unless_cut, all_done}
 use Rattle.node_machine.specs.Turns.{passes}
-use Rattle.node_machine.specs.Node.{NodeInput, input_at, has_come, told_at, all_come, with_older, reset_late, told_late, times_out, forgotten, forgets, all_owed, without_notice, after_sessions, synced, answers_and_passes, steps, begins_with}
+use Rattle.node_machine.specs.Node.{NodeInput, input_at, has_come, told_at, all_come, reset_late, told_late, times_out, forgotten, forgets, all_owed, without_notice, after_sessions, synced, answers_and_passes, steps, begins_with}
 use Rattle.node_machine.specs.Node.NodeInput.{AtEnd, TimePasses}
 use Rattle.node_world.specs.World.{runs_on, sending, beginning}
 use Rattle.node_links.specs.Notices.{IsComing, IsOutside}
@@ -26,21 +26,9 @@ use Rattle.view_readings.specs.Inits.{init_kept, KeepsInit}
 use Rattle.node_laws.proofs.Walks.{all_synced_hold}
 use Rattle.view_readings.proofs.Answering.{reads_init, init_append, IsNeutral, AreNeutral, MayGo, neutral_stays}
 use Rattle.view_readings.proofs.Going.{Base, Stands, then, all_go, passes_stand, told_init}
-use Rattle.node_readings.proofs.Stepping.{late_told, forgets_same, none_forgotten, none_owed}
+use Rattle.node_readings.proofs.Stepping.{late_told, forgets_same, none_forgotten, none_owed, older_same, late_same, without_same}
 
 -- ## An end without a notice
-
-older_same : (q : Port) → q.desk.notice ≡ None → with_older q ≡ q
-older_same q e = rw e refl
-
-late_same : (q : Port) → q.desk.notice ≡ None → reset_late q ≡ q
-late_same q e = rw e refl
-
-without_same : (q : Port) → q.desk.notice ≡ None → without_notice q ≡ q
-without_same q e = go (q.ended || q.late) refl where
-  go : (b : Bool) → (q.ended || q.late) ≡ b → without_notice q ≡ q
-  go true z = rw z (ap (λ n. record q { desk = record q.desk { notice = n } }) (sym e))
-  go false z = rw z refl
 
 times_same : (input : NodeInput) (w : Work) (q : Port) → w.ports ≡ q ∷ [] → q.desk.notice ≡ None → times_out input w ≡ w
 times_same (AtEnd k i) w q is quiet = refl

@@ -23,6 +23,7 @@ use Rattle.node_machine.specs.Node.NodeInput.{TimePasses}
 use Rattle.node_world.specs.World.{NodeWorld, Site, site_at, with_site, node_of, link_to, ending_of, runs_on, turns_at, work_of, frames_noted, controller_cut, host_cut, loses_power_at, memory_at, with_memory, with_node, links_of, boots, is_late_at, ticked_so, all_aged, controller_ticks, host_ticks, hosts_tick, world_ticks}
 use Rattle.node_world.specs.NodeFilters.{Book}
 use Rattle.node_telling.specs.Telling.{HasEnds, IfItRuns, hosts_in, IsOrderly}
+use Rattle.node_telling.proofs.WorldTicks.{tick_host}
 use Rattle.view_readings.specs.Errors.{ErrorCount}
 use Rattle.view_readings.proofs.Noting.{all_flat}
 use Rattle.view_readings.proofs.Leaving.{reads, reads_append, Leaves, IsStill, still_all, still_leaves}
@@ -30,12 +31,6 @@ use Rattle.view_readings.proofs.Nodes.{IfKeeps, keeps_sets, leaves_kept, own_ste
 use Rattle.view_readings.proofs.Worlds.{far_node, AreFine, orderly_fine, map_fine, node_map, with_kept, with_other, with_own, with_none, host_link, own_node, near_node, host_node, Kept, Known, After, left, near_single, near_zero, near_other, far_other, own_ends, no_near, host_side}
 use Rattle.registry.proofs.ValueLemmas.{AllByRecursion-append}
 use Rattle.kept_laws.proofs.Sites.{hosts_same}
-
-tick_host_same : (s : Site) → (host_ticks s).0.host ≡ s.host
-tick_host_same s = by_node s.node refl where
-  by_node : (o : Option Running) → s.node ≡ o → (host_ticks s).0.host ≡ s.host
-  by_node None q = rw q refl
-  by_node (Some r) q = rw q refl
 
 module _ (e : End) (real : e.at_host ≡ true → eqb e.link 0 ≡ false) where
   abbrev So : NodeWorld → ErrorCount → Type 0
@@ -210,7 +205,7 @@ module _ (e : End) (real : e.at_host ≡ true → eqb e.link 0 ≡ false) where
         rest = record { different = fine.different.1; hosts = fine.hosts.1; nodes = fine.nodes.1 }
 
         found : (b : Bool) → eqb s.host e.link ≡ b → site_at (first.0 ∷ later.0) e.link ≡ cond b (Some first.0) (site_at later.0 e.link)
-        found b q = ap (λ b. cond b (Some first.0) (site_at later.0 e.link)) (ap (λ n. eqb n e.link) (tick_host_same s) ∙ q)
+        found b q = ap (λ b. cond b (Some first.0) (site_at later.0 e.link)) (ap (λ n. eqb n e.link) (tick_host s) ∙ q)
 
         was : (b : Bool) → eqb s.host e.link ≡ b → site_at (s ∷ sites) e.link ≡ cond b (Some s) (site_at sites e.link)
         was b q = ap (λ b. cond b (Some s) (site_at sites e.link)) q

@@ -31,9 +31,9 @@ use Rattle.node_machine.specs.Node.{told_at}
 use Rattle.node_world.specs.World.{end_h}
 use Rattle.node_world.specs.NodeFilters.{is_response}
 use Rattle.node_links.proofs.Noticing.{turn-phase}
-use Rattle.node_readings.proofs.Silent.{IsQuiet, host_side, told_rest, rest_quiet}
+use Rattle.node_readings.proofs.Silent.{IsQuiet, host_side, told_rest, rest_quiet, same_own}
 use Rattle.view_readings.specs.Inits.{with_response, init_after}
-use Rattle.view_readings.proofs.Answering.{reads_init, init_append, own_end, MayGo, answered_by, host_go}
+use Rattle.view_readings.proofs.Answering.{reads_init, init_append, MayGo, answered_by, host_go}
 
 -- ## What is noted of an end
 
@@ -65,7 +65,7 @@ told_init h core p i y side at = rw side (go (ended_by p.side i)) where
   go : (o : Option Cause) → reads_init h (entries_for p.desk.host (map (IsDown Host) (option_to_list o) ++ rest)) y ≡ cond (is_some o) None y
   go None = quiet_init h p.desk.host rest y quiet
   go (Some cause) =
-      ap (λ b. reads_init h (entries_for p.desk.host rest) (cond b None y)) (ap (λ k. same_end (end_h k) (end_h h)) at ∙ own_end h)
+      ap (λ b. reads_init h (entries_for p.desk.host rest) (cond b None y)) (ap (λ k. same_end (end_h k) (end_h h)) at ∙ same_own h)
       ∙ quiet_init h p.desk.host rest None quiet
 
 sent_init : (h k : ℕ) (who : Side) (n : ℕ) (m : Message) (o : Option Refused) (y : Option Init) → reads_init h (entries_for k (sent_unless o who n m)) y ≡ y
@@ -246,7 +246,7 @@ module _ (h : ℕ) (host : IsHost h) (i0 : Option Init) where
           fetched = with_desk h (λ d. record d { holds = false }) (turn_at h FetchMessage said)
 
           own : same_end (end_of_node w.core h) (end_h h) ≡ true
-          own = ap (λ s. same_end (end_of h s) (end_h h)) (side_of_host w b) ∙ own_end h
+          own = ap (λ s. same_end (end_of h s) (end_h h)) (side_of_host w b) ∙ same_own h
 
           read : reads_init h said.entries i0 ≡ answered_by h now w.core b.number (side_of_host w b) m w.core.init
           read =

@@ -1,5 +1,5 @@
 -- What is read of REC_ERROR of all ends over the lines of a schedule.
-use Rattle.std.proofs.Common.{◌≡◌, ℕ, ◌&&◌, Bool, true, false, cond, eqb, List, [], ◌∷◌, ◌++◌, sym, refl, ap, ◌∙◌, subst, arith, append_assoc, ◌||◌}
+use Rattle.std.proofs.Common.{◌≡◌, ℕ, ◌&&◌, Bool, true, false, cond, eqb, List, [], ◌∷◌, ◌++◌, sym, refl, ap, ◌∙◌, subst, arith, ◌||◌}
 use Rattle.std.specs.Prelude.{Option, Some, None, is_some, unwrap_or, IsTrue}
 use Rattle.std.specs.List.{AllByRecursion, find}
 use Rattle.std.specs.Option.{option_map}
@@ -31,7 +31,7 @@ use Rattle.node_world.specs.NodeHistories.{NodeHistory, FollowsNodes, steps_from
 use Rattle.kept_laws.specs.Hosts.{AreHosts, IsSentByHost, IsFew}
 use Rattle.kept_laws.specs.Worlds.{AllKeep, IfRuns, MayHappen}
 use Rattle.kept_laws.proofs.Kept.{all_begin}
-use Rattle.kept_laws.proofs.Lines.{world_goes}
+use Rattle.kept_laws.proofs.Lines.{world_goes, few_front}
 use Rattle.node_telling.specs.Telling.{HasEnds, IfItRuns, hosts_in, IsOrderly, MayBoot, world_behind}
 use Rattle.node_telling.proofs.Mute.{AreMute}
 use Rattle.node_telling.proofs.Orderly.{step_orderly, new_orderly}
@@ -120,9 +120,6 @@ known_tables hosts t w e real all near r q =
 
 abbrev pub May : NodeWorld → Happening → Type 0
 May w c = MayHappen w c × MayBeCounted w c × MayBoot w c
-
-few_front : (xs ys : List Entry) → IsFew (xs ++ ys) → IsFew xs
-few_front xs ys few front back n is = few front (back ++ ys) n (ap (λ l. l ++ ys) is ∙ append_assoc front back ys)
 
 -- where no node has more commands than a journal counts, all nodes keep what is read
 pub record IsSo (hosts : List ℕ) (t : List Entry) (w : NodeWorld) : Type 0 where

@@ -8,8 +8,7 @@ use Rattle.std.proofs.lemmas.Bool.{cond_both, eqb-true, true≢false}
 use Rattle.trace_model.specs.declared.entry.Entry.{Entry}
 use Rattle.trace_model.specs.declared.entry.Entry.TheVariants.{InitSame, InitMade, InitFailed}
 use Rattle.session_laws.specs.Sessions.{is_up}
-use Rattle.shdlc_core.specs.declared.answers.LinkState.{LinkState}
-use Rattle.shdlc_core.specs.declared.answers.LinkState.TheVariants.{Up, Waiting, Down}
+use Rattle.shdlc_core.specs.declared.answers.LinkState.TheVariants.{Up}
 use Rattle.hcp_packet.specs.declared.MessageKind.{MessageKind}
 use Rattle.hcp_packet.specs.declared.MessageKind.TheVariants.{Command as IsCommand, Event as IsEvent, Response as IsResponse}
 use Rattle.hcp_packet.specs.declared.MessageFault.{MessageFault}
@@ -32,6 +31,7 @@ use Rattle.node_machine.specs.Controller.{has_link, asks_for, view_for, decision
 use Rattle.node_machine.specs.HostReplies.{ordered_deeds, host_deeds}
 use Rattle.node_laws.proofs.Walks.{Plain, OfDecision, OfHost, anyone, all_of_controller, all_of_host}
 use Rattle.view_readings.specs.Errors.{errors_set_by}
+use Rattle.node_readings.proofs.Noticed.{up_is}
 
 -- an init ends so
 abbrev pub IsInitEnd : Entry → Type 0
@@ -139,11 +139,6 @@ host_unset core p m none =
 
 -- ## Commands that set it
 
-up_now : (s : LinkState) → is_up s ≡ true → s ≡ Up
-up_now Up e = refl
-up_now Waiting e = absurd (true≢false (sym e))
-up_now Down e = absurd (true≢false (sym e))
-
 -- a header that sets something is a command's
 pub record SetsBy (message : List ℕ) (v : ℕ) : Type 0 where
   pub instruction : ℕ
@@ -174,7 +169,7 @@ link_up : (ports : List Port) (h : ℕ) → has_link ports h ≡ true → IsUpAt
 link_up ports h up = by (port_at ports h) refl up where
   by : (o : Option Port) → port_at ports h ≡ o → option_map_or (λ (p : Port). is_up p.side.shdlc.phase) o false ≡ true → IsUpAt ports h
   by None q u = absurd (true≢false (sym u))
-  by (Some p) q u = record { port = p; here = q; up = up_now p.side.shdlc.phase u }
+  by (Some p) q u = record { port = p; here = q; up = up_is p.side.shdlc.phase u }
 
 set_deeds : (h pid errors instruction v : ℕ) (body : List ℕ) → (link_served 0 instruction body).1 ≡ Some v
     → link_deeds h pid (link_served errors instruction body) ≡ SetsErrors v ∷ Sends h (pid, answer_of response.Ok []) ∷ []
@@ -274,5 +269,5 @@ host_sets core ports p m v here zero sets = go (is_up p.side.shdlc.phase) refl w
   go false q = IsDropped (rw q refl)
   go true q =
       let shown : host_deeds core p m ≡ ordered_deeds core p.desk.errors m.0 s.instruction (body_in m.1) = rw (q, s.header) refl in
-      IsSet (record { port = p; here = here; up = up_now p.side.shdlc.phase q })
+      IsSet (record { port = p; here = here; up = up_is p.side.shdlc.phase q })
       (shown ∙ (ordered_is ∙ set_deeds core.node m.0 p.desk.errors s.instruction v (body_in m.1) s.sets))

@@ -22,6 +22,7 @@ use Rattle.view_readings.proofs.Turning.{passes_right}
 use Rattle.notice_readings.proofs.Steps.{sessions_tables}
 use Rattle.node_laws.proofs.Walks.{forgotten_hold, all_owed_hold, all_synced_hold}
 use Rattle.node_laws.proofs.Ports.{come_host, forgets_host, sessions_node}
+use Rattle.kept_laws.proofs.Stepping.{without_host, late_host}
 
 own_undamaged : (who : Side) (x : Noted) → IsOwnNote who x → IsUndamaged x
 own_undamaged who (Up side n) is = tt
@@ -56,19 +57,12 @@ come_errors : (p : Port) (o : Option LinkInput) → (has_come p o).desk.errors �
 come_errors p None = refl
 come_errors p (Some i) = refl
 
-late_host : (p : Port) → (reset_late p).desk.host ≡ p.desk.host
-late_host p = cond_both (is_late p) (record p { side = after_input p.side (Reset None); late = true }) p (λ q. q.desk.host ≡ p.desk.host)
-    (λ _. refl) (λ _. refl)
-
 late_errors : (p : Port) → (reset_late p).desk.errors ≡ p.desk.errors
 late_errors p = cond_both (is_late p) (record p { side = after_input p.side (Reset None); late = true }) p (λ q. q.desk.errors ≡ p.desk.errors)
     (λ _. refl) (λ _. refl)
 
 pub forgets_errors : (ports : List Port) (p : Port) → (forgets ports p).desk.errors ≡ p.desk.errors
 forgets_errors ports p = cond_both _ _ p (λ (q : Port). q.desk.errors ≡ p.desk.errors) (λ _. refl) (λ _. refl)
-
-without_host : (p : Port) → (without_notice p).desk.host ≡ p.desk.host
-without_host p = cond_both _ _ p (λ (q : Port). q.desk.host ≡ p.desk.host) (λ _. refl) (λ _. refl)
 
 pub without_errors : (p : Port) → (without_notice p).desk.errors ≡ p.desk.errors
 without_errors p = cond_both _ _ p (λ (q : Port). q.desk.errors ≡ p.desk.errors) (λ _. refl) (λ _. refl)

@@ -7,7 +7,7 @@ use Rattle.swp_lpdu.specs.Controls.{lpdu_of, control_of}
 use Rattle.trace_model.specs.declared.entry.Entry.{Entry}
 use Rattle.trace_model.specs.declared.line.End.{End}
 use Rattle.shdlc_core.specs.declared.answers.Due.{Due}
-use Rattle.shdlc_core.specs.Machine.{EndState, Fragment, fetched, frame_due, fragment_due, frames_of, after_frames}
+use Rattle.shdlc_core.specs.Machine.{EndState, fetched, frame_due, frames_of, after_frames}
 use Rattle.link_machine.specs.Machine.{LinkEnd, among, next_frame, frames_out, sent_all, after_input}
 use Rattle.link_machine.specs.Machine.LinkInput.{Fetch}
 use Rattle.message_link.specs.Links.{Link, put, put_all, becomes, with_controller}
@@ -22,7 +22,7 @@ use Rattle.world.proofs.Noting.{more_noted}
 use Rattle.world.proofs.Bare.{is_bare, plain_fetched}
 use Rattle.link_machine.proofs.Places.{fetched_due}
 use Rattle.session_laws.proofs.Ties.{nothing_sent}
-use Rattle.link_laws.proofs.Idle.{after_frames_idle}
+use Rattle.link_laws.proofs.Idle.{after_frames_idle, no_due, fetched_idle}
 
 -- ## The frames of an end without ACT frames
 
@@ -38,24 +38,6 @@ plain_next e p = rw p refl
 -- one is sent
 first_frame : (s : EndState) (c : Control) (n : ℕ) → frame_due s ≡ Some c → frames_of (suc n) s ≡ c ∷ frames_of n (fetched s)
 first_frame s c n q = rw q refl
-
--- nothing is to be sent
-none_due : (s : EndState) → frame_due s ≡ None → s.due ≡ []
-none_due s q = go s.due refl
-  where
-    go : (ds : List Due) → s.due ≡ ds → s.due ≡ []
-    go [] p = p
-    go (d ∷ ds) p = absurd (let z = rw p at q in cc)
-
-none_fetched : (s : EndState) → frame_due s ≡ None → fetched s ≡ s
-none_fetched s q = go (fragment_due s.session) refl
-  where
-    empty : s.due ≡ []
-    empty = none_due s q
-
-    go : (o : Option Fragment) → fragment_due s.session ≡ o → fetched s ≡ s
-    go None p = rw (empty, p) refl
-    go (Some info) p = absurd (let e = empty in let z = rw (e, p) at q in cc)
 
 -- ## One by one
 
@@ -188,8 +170,8 @@ sending_stops {at} {near} {far} {new} {resets} {l} {m} {before} {now} {left} s a
         let none : frame_due s.e.shdlc ≡ None = sym (plain_next s.e s.no_acts) ∙ q in
         let N : LinkEnd → Type 0 = λ z. NodeStandsFor new z in
         let same : after_input s.e Fetch ≡ s.e =
-        plain_fetched s.e s.no_acts ∙ ap (λ x. record s.e { shdlc = x }) (none_fetched s.e.shdlc none) in
-        sent s (subst N same a.node) (none_due s.e.shdlc none) (nothing_sent left s.e.shdlc none) (after_frames_idle left s.e.shdlc none)
+        plain_fetched s.e s.no_acts ∙ ap (λ x. record s.e { shdlc = x }) (fetched_idle s.e.shdlc none) in
+        sent s (subst N same a.node) (no_due s.e.shdlc none) (nothing_sent left s.e.shdlc none) (after_frames_idle left s.e.shdlc none)
 
 -- the most frames were sent
 pub sending_ends : {at : End} {near far : Side} {resets : ℕ} {l : Link} {m : LinkEnd} {before now : List Entry}
