@@ -129,7 +129,7 @@ module _ (hosts : List ℕ) (are : AreHosts hosts) (t : List Entry) (w : NodeWor
           desks = subst (λ n. AllByRecursion (λ (d : Desk). eqb d.host h ≡ true → d.errors ≡ n) r.desks) (sym now.0.is) e.at_desks;
         }
 
-    module _ (es_plain : AllByRecursion IsPlain es) (quiet : AreFar es) (still : (h : ℕ) → AllByRecursion (IsStill (end_c h)) es) (input : NodeInput)
+    module _ (es_plain : AllByRecursion IsPlain es) (quiet : AreFar es) (es_still : (h : ℕ) → AllByRecursion (IsStill (end_c h)) es) (input : NodeInput)
         (outside : IsOutside input) where
       fresh : AllByRecursion IsFresh begun.ports
       fresh = all_ports IsFresh near_ends (λ d. (refl, refl)) r.desks
@@ -158,7 +158,7 @@ module _ (hosts : List ℕ) (are : AreHosts hosts) (t : List Entry) (w : NodeWor
       errors h host =
           errors_ready (end_c h) hosts (errors_before before h) (single h) input begun
           (begun_right (end_c h) (real h) hosts (single h) (errors_before before h) r w.memory.plan near_ends es
-          (subst (λ hs. HasEnds 0 hs r) sites_are has) (still h)
+          (subst (λ hs. HasEnds 0 hs r) sites_are has) (es_still h)
           (λ near. kept.tables_are ∙ sym (ap (λ (b : Book). b.tables) (errors_old h host).1)) (errors_kept h host))
 
       pub step_begins : (comes_to_pass input begun).cut ≡ false → KeepsInStep hosts before (comes_to_pass input begun)
