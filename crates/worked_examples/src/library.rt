@@ -1,11 +1,18 @@
 //! A caller of the crates as a library: the first frame on one direction of a line.
+ghost use Rattle.std.specs.Prelude.{◌≡◌, [], map};
+ghost use Rattle.swp_frame.specs.Signal.{symbol_of};
+ghost use Rattle.swp_frame.specs.Verdicts.{answers_after};
+ghost use Rattle.worked_examples.specs.FirstFrames.{first_said};
+
 use std::test::Fail;
 use swp_base::{Control, Kind, Lpdu};
 use swp_frame::{Deframer, Fed, write_frame};
 use swp_lpdu::read_lpdu;
 
 /// What the first frame in these bits says; none where there is no whole frame, or it says nothing.
-pub fn first_frame(bits: &[bool]) -> Option<Control> {
+pub fn first_frame(bits: &[bool]) -> Option<Control>
+    ensures { result ≡ first_said (answers_after [] (map symbol_of bits.now)) }
+{
     let mut deframer = Deframer::new();
     for bit in bits {
         if let Fed::Frame(lpdu) = deframer.feed(*bit) {

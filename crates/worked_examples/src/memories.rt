@@ -17,7 +17,7 @@ pub const IMAGE: [u8; 25] = [
 pub const TABLES: &str = "tables nv 0 0 0 1\nsync 02 1A2B\n";
 
 /// A memory of 65,536 bytes that begins with these, all others FF.
-pub fn memory(alloc: Global, image: &[u8]) -> Result<MemNv, NoMemory>
+pub(crate) fn memory(alloc: Global, image: &[u8]) -> Result<MemNv, NoMemory>
     requires { length image.now ≤ 64 }
     ensures { IfOk result (λ m. length m.content ≡ 65536) }
 {
@@ -47,7 +47,7 @@ fn told(alloc: Global, nv: MemNv) -> Result<(Status, MemSink, MemNv), AllocError
 }
 
 /// A run with the word `tables` over this memory ends so and writes this text. It gives the memory back.
-pub fn tells(
+pub(crate) fn tells(
     rt: &impl Abort,
     alloc: Global,
     nv: MemNv,

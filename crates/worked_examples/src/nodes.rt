@@ -75,14 +75,14 @@ impl Node {
     ghost use Rattle.std.specs.Prelude.{◌<◌, ◌≤◌, length, IfSome};
 
     /// A node whose end has this role.
-    pub fn make(alloc: Global, role: Role) -> Result<Node, NoMemory> {
+    pub(crate) fn make(alloc: Global, role: Role) -> Result<Node, NoMemory> {
         let pool = Pool::make(alloc, &[128, 512])?;
         let end = LinkEnd::make(alloc, role, 0, 1)?;
         Ok(Node { end, pool })
     }
 
     /// Takes a frame in one of the three forms.
-    pub fn take(&mut self, rt: &impl Abort, form: Form, lpdu: &Lpdu) -> Told {
+    pub(crate) fn take(&mut self, rt: &impl Abort, form: Form, lpdu: &Lpdu) -> Told {
         let mut told = Told {
             report: NOTHING,
             message: None,
@@ -105,7 +105,7 @@ impl Node {
     }
 
     /// Takes an LPDU.
-    pub fn take_lpdu(&mut self, rt: &impl Abort, lpdu: &Lpdu) -> Told {
+    pub(crate) fn take_lpdu(&mut self, rt: &impl Abort, lpdu: &Lpdu) -> Told {
         has_room(rt, &self.end);
         let report = self.end.take_lpdu(&mut self.pool, lpdu);
         let message = fetch(&mut self.end, &mut self.pool);
@@ -113,7 +113,7 @@ impl Node {
     }
 
     /// Takes a period of a line record.
-    pub fn take_period(&mut self, rt: &impl Abort, byte: u8) -> Told {
+    pub(crate) fn take_period(&mut self, rt: &impl Abort, byte: u8) -> Told {
         has_room(rt, &self.end);
         let report = self.end.take_period(&mut self.pool, byte);
         let message = fetch(&mut self.end, &mut self.pool);
@@ -121,7 +121,7 @@ impl Node {
     }
 
     /// Takes a byte of a byte link.
-    pub fn take_byte(&mut self, rt: &impl Abort, byte: u8) -> Told {
+    pub(crate) fn take_byte(&mut self, rt: &impl Abort, byte: u8) -> Told {
         has_room(rt, &self.end);
         let report = self.end.take_byte(&mut self.pool, byte);
         let message = fetch(&mut self.end, &mut self.pool);
@@ -129,7 +129,7 @@ impl Node {
     }
 
     /// Gives a message to send.
-    pub fn send(&mut self, pipe: u8, message: &[u8]) -> Result<(), SendRefused>
+    pub(crate) fn send(&mut self, pipe: u8, message: &[u8]) -> Result<(), SendRefused>
         requires pipe { pipe < 112 }
         requires some { 0 < length message.now }
     {
@@ -139,7 +139,7 @@ impl Node {
     }
 
     /// One tick of time.
-    pub fn tick(&mut self, rt: &impl Abort) -> LinkReport {
+    pub(crate) fn tick(&mut self, rt: &impl Abort) -> LinkReport {
         has_room(rt, &self.end);
         let report = self.end.tick(&mut self.pool);
         let _none = fetch(&mut self.end, &mut self.pool);
@@ -147,7 +147,11 @@ impl Node {
     }
 
     /// Asks for a reset.
-    pub fn reset(&mut self, rt: &impl Abort, window: Option<u8>) -> Result<LinkReport, ResetRefused>
+    pub(crate) fn reset(
+        &mut self,
+        rt: &impl Abort,
+        window: Option<u8>,
+    ) -> Result<LinkReport, ResetRefused>
         requires { IfSome window (λ w. (1 ≤ w) × (w ≤ 4)) }
     {
         has_room(rt, &self.end);
@@ -157,7 +161,7 @@ impl Node {
     }
 
     /// Begins activation, with a value that any role takes.
-    pub fn activate(&mut self, rt: &impl Abort, value: u16) -> LinkReport
+    pub(crate) fn activate(&mut self, rt: &impl Abort, value: u16) -> LinkReport
         requires { value ≤ 1 }
     {
         has_room(rt, &self.end);
@@ -167,7 +171,7 @@ impl Node {
     }
 
     /// Ends activation.
-    pub fn deactivate(&mut self, rt: &impl Abort) -> LinkReport {
+    pub(crate) fn deactivate(&mut self, rt: &impl Abort) -> LinkReport {
         has_room(rt, &self.end);
         let report = self.end.deactivate(&mut self.pool);
         let _none = fetch(&mut self.end, &mut self.pool);
@@ -175,27 +179,27 @@ impl Node {
     }
 
     /// Holds the end, or lets it go.
-    pub fn hold(&mut self, rt: &impl Abort, held: bool) {
+    pub(crate) fn hold(&mut self, rt: &impl Abort, held: bool) {
         has_room(rt, &self.end);
         self.end.hold(held);
         let _none = fetch(&mut self.end, &mut self.pool);
     }
 
     /// The next frame to be sent.
-    pub fn next_out(&mut self) -> Option<Lpdu> {
+    pub(crate) fn next_out(&mut self) -> Option<Lpdu> {
         let frame = self.end.next_out(&self.pool);
         let _none = fetch(&mut self.end, &mut self.pool);
         frame
     }
 
     /// The state of the link.
-    pub fn state(&self) -> LinkState {
+    pub(crate) fn state(&self) -> LinkState {
         self.end.state()
     }
 }
 
 /// At most six control frames wait to be fetched.
-pub fn has_room(rt: &impl Abort, end: &LinkEnd)
+pub(crate) fn has_room(rt: &impl Abort, end: &LinkEnd)
     ensures { controls_in end.now.link ≤ 6 }
 {
     if end.controls_due() > 6 {

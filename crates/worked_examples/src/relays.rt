@@ -31,7 +31,7 @@ impl Model for Relay {
 
 impl Relay {
     /// A node with two bare ends.
-    pub fn make(alloc: Global) -> Result<Relay, NoMemory> {
+    pub(crate) fn make(alloc: Global) -> Result<Relay, NoMemory> {
         let pool = Pool::make(alloc, &[128, 512, 128, 512])?;
         let first = LinkEnd::make(alloc, Role::Bare, 0, 1)?;
         let second = LinkEnd::make(alloc, Role::Bare, 2, 3)?;
@@ -43,26 +43,26 @@ impl Relay {
     }
 
     /// Takes an LPDU at the first end. A message that comes with it goes to the second one.
-    pub fn take(&mut self, rt: &impl Abort, lpdu: &Lpdu) {
+    pub(crate) fn take(&mut self, rt: &impl Abort, lpdu: &Lpdu) {
         has_room(rt, &self.first);
         let _report = self.first.take_lpdu(&mut self.pool, lpdu);
         pass_on(&mut self.first, &mut self.second, &mut self.pool);
     }
 
     /// Takes an LPDU at the second end. A message that comes with it goes to the first one.
-    pub fn take_back(&mut self, rt: &impl Abort, lpdu: &Lpdu) {
+    pub(crate) fn take_back(&mut self, rt: &impl Abort, lpdu: &Lpdu) {
         has_room(rt, &self.second);
         let _report = self.second.take_lpdu(&mut self.pool, lpdu);
         pass_on(&mut self.second, &mut self.first, &mut self.pool);
     }
 
     /// The next frame that the first end sends.
-    pub fn next_back(&mut self) -> Option<Lpdu> {
+    pub(crate) fn next_back(&mut self) -> Option<Lpdu> {
         self.first.next_out(&self.pool)
     }
 
     /// The next frame that the second end sends.
-    pub fn next_out(&mut self) -> Option<Lpdu> {
+    pub(crate) fn next_out(&mut self) -> Option<Lpdu> {
         self.second.next_out(&self.pool)
     }
 }
