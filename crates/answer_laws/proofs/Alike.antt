@@ -1,5 +1,6 @@
 -- A controller replies alike over ends that are alike.
-use Rattle.std.proofs.Common.{◌≡◌, refl, ap, ap₂, sym, subst, ◌∙◌, ℕ, ◌≤◌, ◌==◌, ◌&&◌, ◌||◌, arith, Bool, true, false, cond, if◌then◌else◌, true≢false, List, [], ◌∷◌, map, Option, Some, None}
+use Rattle.std.proofs.Common.{◌≡◌, refl, ap, ap₂, sym, subst, ◌∙◌, ℕ, ◌≤◌, ◌==◌, ◌&&◌, ◌||◌, arith, Bool, true, false, cond, if◌then◌else◌, true≢false, List}
+use Rattle.std.proofs.Common.{[], ◌∷◌, map, Option, Some, None}
 use Rattle.std.specs.Prelude.{is_some, Result, Ok, Err}
 use mathlib.Core.Path.{fun_ext}
 use Rattle.std.specs.List.{filter_map, list_any, cons_option}
@@ -23,7 +24,10 @@ use Rattle.node_machine.specs.Parts.{Creation, About, Notice, Core, Port}
 use Rattle.node_machine.specs.Parts.About.{Waits, Forgotten, Removed}
 use Rattle.node_machine.specs.Parts.Deed.{Tells}
 use Rattle.node_machine.specs.Carrying.{port_at, has_room_for}
-use Rattle.node_machine.specs.Controller.{has_link, creation_in, asked_at, is_asked_at, asks_for, pipe_of, waiting_pipes, mask_where, is_connected_at, view_for, commit_deeds, decision_deeds, own_gate, goes_through, served_at, command_deeds, agreed, creation_deeds, notice_deeds, response_at, relayed_to, unrelayed, unless_asking, if_notice, kind_deeds, own_deeds, relay_deeds, deeds_by_relay, controller_deeds}
+use Rattle.node_machine.specs.Controller.{has_link, creation_in, asked_at, is_asked_at, asks_for, pipe_of, waiting_pipes, mask_where, is_connected_at, view_for}
+use Rattle.node_machine.specs.Controller.{commit_deeds, decision_deeds, own_gate, goes_through, served_at, command_deeds, agreed, creation_deeds, notice_deeds}
+use Rattle.node_machine.specs.Controller.{response_at, relayed_to, unrelayed, unless_asking, if_notice, kind_deeds, own_deeds, relay_deeds, deeds_by_relay}
+use Rattle.node_machine.specs.Controller.{controller_deeds}
 use Rattle.answer_laws.specs.Moments.{side_read}
 use Rattle.answer_laws.specs.Alike.{IsAlike, AreAlike}
 

@@ -1,18 +1,23 @@
 -- Linked blocks: what writes to links, bytes and heads leave of the chains.
-use Rattle.std.proofs.Common.{◌≡◌, ◌≢◌, ℕ, zero, suc, ◌+◌, ◌-◌, ◌*◌, ◌/◌, ◌%◌, ◌^◌, ◌<◌, ◌≤◌, inl, inr, List, [], ◌∷◌, ◌++◌, length, get_or, set, take, drop, replicate, map, refl, sym, ap, ◌∙◌, subst, arith, rules, Fits, w16, w32, length-set, get_or-set_same, get_or-set_other, length-drop, length-take, get_or-drop, min}
+use Rattle.std.proofs.Common.{◌≡◌, ◌≢◌, ℕ, zero, suc, ◌+◌, ◌-◌, ◌*◌, ◌/◌, ◌%◌, ◌^◌, ◌<◌, ◌≤◌, inl, inr, List, [], ◌∷◌, ◌++◌, length, get_or, set, take, drop}
+use Rattle.std.proofs.Common.{replicate, map, refl, sym, ap, ◌∙◌, subst, arith, rules, Fits, w16, w32, length-set, get_or-set_same, get_or-set_other}
+use Rattle.std.proofs.Common.{length-drop, length-take, get_or-drop, min}
 use Rattle.std.specs.Prelude.{Option, Some, None, IsSome}
 use Rattle.std.specs.List.{range_with_len, sum_by}
 use Rattle.std.specs.Int.{div_ceil}
 use Rattle.std.proofs.lemmas.List.{same_lists, get_or_past, get_or_default, length-replicate, get_or-replicate}
 use Rattle.std.proofs.lemmas.List.Sums.{sum_by-cons, sum_by-set}
 use Rattle.std.proofs.lemmas.Bool.{cases_lt, cases_eq}
-use Rattle.std.proofs.lemmas.List.FromFn.{length-map-range_with_len, get_or-map-range_with_len, take-map-range_with_len, length-range_with_len, get_or-range_with_len}
+use Rattle.std.proofs.lemmas.List.FromFn.{length-map-range_with_len, get_or-map-range_with_len, take-map-range_with_len, length-range_with_len}
+use Rattle.std.proofs.lemmas.List.FromFn.{get_or-range_with_len}
 use Rattle.std.proofs.lemmas.Grind.{common_steps}
 use Rattle.block_pool.specs.declared.blocks.Head.{Head}
 use Rattle.block_pool.specs.Slots.{Held, blocks_for, slot, with_chain, bytes_in, held_bytes, owner_in, owner_of}
 use Rattle.block_pool.specs.Links.{block_at, linked_byte}
 use Rattle.block_pool.specs.Layout.{laid_bytes, held_by, slots_of, head_blocks, IsMarked, IsChain, AreSoundBlocks}
-use Rattle.block_pool.proofs.LinkLemmas.{unchanged, behind, same_bytes, one_more_byte, one_byte, length-chain_bytes, length-slots_of, slot_is, same_slots, slots_set, none_is_some, same_mark, other_block, popped, popped_other, popped_first, popped_rest, freed, freed_chain, freed_free, freed_other, in_pool, block_of_byte, other_link, last_link, last_marked, free_link}
+use Rattle.block_pool.proofs.LinkLemmas.{unchanged, behind, same_bytes, one_more_byte, one_byte, length-chain_bytes, length-slots_of, slot_is, same_slots}
+use Rattle.block_pool.proofs.LinkLemmas.{slots_set, none_is_some, same_mark, other_block, popped, popped_other, popped_first, popped_rest, freed, freed_chain}
+use Rattle.block_pool.proofs.LinkLemmas.{freed_free, freed_other, in_pool, block_of_byte, other_link, last_link, last_marked, free_link}
 
 -- ---- a byte more in the last block
 

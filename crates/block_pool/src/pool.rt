@@ -42,7 +42,8 @@ impl Model for Pool {
 impl Pool {
     ghost use Rattle.std.specs.Prelude.{◌≡◌, ◌+◌, ◌-◌, ◌≤◌, ◌<◌, ◌↔◌, ◌++◌, length, sum, take, drop, min, IfOk, IfErr, IsOk, OnOk, OnErr};
     ghost use Rattle.block_pool.specs.Slots.{ShareNoBlock, blocks_for};
-    ghost use Rattle.block_pool.specs.Pool.{HasQuota, IsLive, IsEmptyChain, IsNew, Appends, Passes, Gives, KeepsOthers, chain_bytes, chain_spare, spare_of, quota_of, used_of, aside_of, more_blocks};
+    ghost use Rattle.block_pool.specs.Pool.{HasQuota, IsLive, IsEmptyChain, IsNew, Appends, Passes, Gives, KeepsOthers, chain_bytes, chain_spare, spare_of};
+    ghost use Rattle.block_pool.specs.Pool.{quota_of, used_of, aside_of, more_blocks};
     ghost use Rattle.block_pool.specs.declared.chain.Chain.{Chain};
     ghost use Rattle.block_pool.specs.Owners.{with_aside};
     ghost use Rattle.block_pool.specs.Counts.{IsCounted};

@@ -1,5 +1,6 @@
 -- What comes to the ends of a controller: with the session of its asker a creation is neither read nor kept any more.
-use Rattle.std.proofs.Common.{append_assoc, ◌≡◌, ◌⊎◌, inl, inr, ℕ, ◌&&◌, ◌||◌, Bool, true, false, not, cond, eqb, List, [], ◌∷◌, ◌++◌, map, sym, refl, ap, ◌∙◌, subst}
+use Rattle.std.proofs.Common.{append_assoc, ◌≡◌, ◌⊎◌, inl, inr, ℕ, ◌&&◌, ◌||◌, Bool, true, false, not, cond, eqb, List, [], ◌∷◌, ◌++◌, map, sym, refl, ap, ◌∙◌}
+use Rattle.std.proofs.Common.{subst}
 use Rattle.std.specs.Prelude.{Option, Some, None, is_some, nat_le}
 use Rattle.std.specs.List.{AllByRecursion, flat_map}
 use Rattle.std.specs.Option.{option_map, option_map_or}
@@ -14,7 +15,8 @@ use Rattle.link_machine.specs.Machine.{report, whole_acked}
 use Rattle.node_machine.specs.Parts.{Creation, Notice, Port, Work}
 use Rattle.node_machine.specs.Carrying.{own_side, port_at}
 use Rattle.node_machine.specs.Controller.{asked_at, creation_in}
-use Rattle.node_machine.specs.Node.{NodeInput, input_at, has_come, told_at, all_come, older_notice, with_older, is_late, reset_late, told_late, times_out, is_over, is_over_at}
+use Rattle.node_machine.specs.Node.{NodeInput, input_at, has_come, told_at, all_come, older_notice, with_older, is_late, reset_late, told_late, times_out}
+use Rattle.node_machine.specs.Node.{is_over, is_over_at}
 use Rattle.node_machine.specs.Node.NodeInput.{AtEnd, TimePasses}
 use Rattle.node_world.specs.NodeFilters.{book_in}
 use Rattle.node_links.specs.Notices.{IsComing, IsOutside}

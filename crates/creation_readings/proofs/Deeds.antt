@@ -1,5 +1,6 @@
 -- All that a controller does on one message: the creation that a host asked for stays the one that is read.
-use Rattle.std.proofs.Common.{append_assoc, ◌≡◌, ◌⊎◌, inl, inr, ℕ, ◌+◌, ◌≤◌, ◌&&◌, Bool, true, false, cond, eqb, List, [], ◌∷◌, ◌++◌, length, sym, refl, ap, ◌∙◌, subst, arith}
+use Rattle.std.proofs.Common.{append_assoc, ◌≡◌, ◌⊎◌, inl, inr, ℕ, ◌+◌, ◌≤◌, ◌&&◌, Bool, true, false, cond, eqb, List, [], ◌∷◌, ◌++◌, length, sym, refl, ap}
+use Rattle.std.proofs.Common.{◌∙◌, subst, arith}
 use Rattle.std.specs.Prelude.{Option, Some, None, nat_lt}
 use Rattle.std.specs.List.{AllByRecursion}
 use Rattle.std.specs.Option.{option_map_or}
@@ -30,7 +31,8 @@ use Rattle.creation_readings.specs.Worlds.{IsProperCommand, IsProperBook, IsAwai
 use Rattle.creation_readings.proofs.Asks.{Asked, waits, owes, set_asked, Split, asked_else, asked_here}
 use Rattle.creation_readings.proofs.Reading.{ask_more, asked_reads}
 use Rattle.creation_readings.proofs.Outcomes.{LeavesAsked}
-use Rattle.creation_readings.proofs.Doing.{EndAt, plain_of, at_here, IsOn, IsOff, reading, many, Good, on_is, off_is, notes, sets, alters_so, gives, desks, pays, tells, heard, done_so, commits}
+use Rattle.creation_readings.proofs.Doing.{EndAt, plain_of, at_here, IsOn, IsOff, reading, many, Good, on_is, off_is, notes, sets, alters_so, gives, desks}
+use Rattle.creation_readings.proofs.Doing.{pays, tells, heard, done_so, commits}
 use Rattle.pipe_table.specs.declared.row.PipeRow.{PipeRow}
 
 -- a block is to spare at an end that is up

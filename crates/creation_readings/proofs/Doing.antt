@@ -1,5 +1,6 @@
 -- A controller does the deeds of a message: the creation that a host asked for stays the one that is read.
-use Rattle.std.proofs.Common.{append_assoc, append-nil, ◌≡◌, ◌⊎◌, inl, inr, ℕ, ◌+◌, ◌-◌, ◌≤◌, ◌&&◌, Bool, true, false, cond, eqb, List, [], ◌∷◌, ◌++◌, length, map, sym, refl, ap, ap₂, ◌∙◌, subst, arith}
+use Rattle.std.proofs.Common.{append_assoc, append-nil, ◌≡◌, ◌⊎◌, inl, inr, ℕ, ◌+◌, ◌-◌, ◌≤◌, ◌&&◌, Bool, true, false, cond, eqb, List, [], ◌∷◌, ◌++◌, length}
+use Rattle.std.proofs.Common.{map, sym, refl, ap, ap₂, ◌∙◌, subst, arith}
 use Rattle.std.specs.Prelude.{Option, Some, None, nat_lt, ◌/◌}
 use Rattle.std.specs.List.{AllByRecursion, fold}
 use Rattle.std.specs.Option.{option_map, option_map_or}
@@ -20,7 +21,8 @@ use Rattle.history.specs.Steps.{entries_for}
 use Rattle.node_machine.specs.Parts.{Creation, Desk, Core, Port, Work}
 use Rattle.node_machine.specs.Parts.About.{Removed}
 use Rattle.node_machine.specs.Parts.Deed.{IsAnswered}
-use Rattle.node_machine.specs.Carrying.{own_side, noting, unless_cut, port_at, changed_if, with_port, with_desk, after_turn, noted_of, turn_at, notified, loses_power, keeps, commit, done}
+use Rattle.node_machine.specs.Carrying.{own_side, noting, unless_cut, port_at, changed_if, with_port, with_desk, after_turn, noted_of, turn_at, notified}
+use Rattle.node_machine.specs.Carrying.{loses_power, keeps, commit, done}
 use Rattle.node_machine.specs.Controller.{creation_in, asked_at}
 use Rattle.node_world.specs.NodeFilters.{Book, is_response, book_after, book_in, asking_in}
 use Rattle.node_links.proofs.Noticing.{turn-phase, at_all, at_host}
@@ -32,7 +34,8 @@ use Rattle.notice_readings.proofs.Doing.{controller_side, else_same}
 use Rattle.creation_readings.specs.Creations.{IsReadSo}
 use Rattle.creation_readings.specs.Worlds.{IsProperCommand, AreProper, IsProperBook, IsAwaited, IfAwaited}
 use Rattle.creation_readings.proofs.Rows.{proper_apply, proper_command}
-use Rattle.creation_readings.proofs.Asks.{Asked, asked_of, one_of, waits, owes, set_asked, read_none, none_read, both_empty, asked_with, asked_set, Split, left_same, owed_read, owed_length}
+use Rattle.creation_readings.proofs.Asks.{Asked, asked_of, one_of, waits, owes, set_asked, read_none, none_read, both_empty, asked_with, asked_set, Split}
+use Rattle.creation_readings.proofs.Asks.{left_same, owed_read, owed_length}
 use Rattle.creation_readings.proofs.Reading.{ask_more, sent_asks, answer_asks}
 use Rattle.node_laws.proofs.Ports.{changed_host}
 

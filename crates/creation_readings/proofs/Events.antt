@@ -1,5 +1,6 @@
 -- What is read of creations over whatever happens.
-use Rattle.std.proofs.Common.{◌≡◌, ◌⊎◌, inl, inr, ℕ, ◌+◌, ◌&&◌, Bool, true, false, not, cond, eqb, List, [], ◌∷◌, ◌++◌, length, map, min, sym, refl, ap, ◌∙◌, subst, append-nil}
+use Rattle.std.proofs.Common.{◌≡◌, ◌⊎◌, inl, inr, ℕ, ◌+◌, ◌&&◌, Bool, true, false, not, cond, eqb, List, [], ◌∷◌, ◌++◌, length, map, min, sym, refl, ap, ◌∙◌}
+use Rattle.std.proofs.Common.{subst, append-nil}
 use Rattle.std.specs.Prelude.{Option, Some, None}
 use Rattle.std.specs.List.{AllByRecursion, flat_map, find, cons_option, filter_map}
 use Rattle.std.specs.Option.{option_map_or}
@@ -28,7 +29,10 @@ use Rattle.node_machine.specs.Carrying.{changed_if, port_at}
 use Rattle.node_machine.specs.Controller.{creation_in}
 use Rattle.node_machine.specs.Node.{steps, begins_with, boot_writes, found, new_desk, with_error, has_come, input_at}
 use Rattle.node_machine.specs.Node.NodeInput.{AtEnd, TimePasses}
-use Rattle.node_world.specs.World.{NodeWorld, Site, node_at, memory_at, site_at, with_site, with_memory, with_node, link_to, links_of, ending_of, runs_on, turns_at, input_of, near_end_in, arrival, wires_for, work_of, frames_noted, comes_to, controller_work, link_after_controller, after_controller, host_work, after_host, host_does, controller_cut, host_cut, loses_power_at, boots, counts, frame_lost, all_aged, is_late_at, ticked_so, controller_ticks, comes_at, port_for}
+use Rattle.node_world.specs.World.{NodeWorld, Site, node_at, memory_at, site_at, with_site, with_memory, with_node, link_to, links_of, ending_of, runs_on}
+use Rattle.node_world.specs.World.{turns_at, input_of, near_end_in, arrival, wires_for, work_of, frames_noted, comes_to, controller_work, link_after_controller}
+use Rattle.node_world.specs.World.{after_controller, host_work, after_host, host_does, controller_cut, host_cut, loses_power_at, boots, counts, frame_lost}
+use Rattle.node_world.specs.World.{all_aged, is_late_at, ticked_so, controller_ticks, comes_at, port_for}
 use Rattle.node_world.specs.NodeFilters.{book_in, asking_in}
 use Rattle.kept_laws.specs.Hosts.{AreHosts}
 use Rattle.kept_laws.specs.Worlds.{AllKeep, IfRuns, RunsSo}

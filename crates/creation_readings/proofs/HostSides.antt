@@ -19,10 +19,12 @@ use Rattle.message_link.specs.Links.Comes.{NextFrame, AsksReset, Starts, Stops, 
 use Rattle.node_machine.specs.Parts.{About, Desk, Core, Port, Work, Deed}
 use Rattle.node_machine.specs.Parts.About.{Removed}
 use Rattle.node_machine.specs.Parts.Deed.{Commits, Sends, SaysOk, Asks, Releases, Tells, IsAnswered, Drops, SetsErrors, Orders, Hears, GoesOn, Ends}
-use Rattle.node_machine.specs.Carrying.{noting, unless_cut, port_at, changed_if, with_desk, after_turn, turn_at, notified, commit, done, all_done, end_of_node, needs, lack}
+use Rattle.node_machine.specs.Carrying.{noting, unless_cut, port_at, changed_if, with_desk, after_turn, turn_at, notified, commit, done, all_done, end_of_node}
+use Rattle.node_machine.specs.Carrying.{needs, lack}
 use Rattle.node_machine.specs.HostReplies.{host_deeds}
 use Rattle.node_machine.specs.Turns.{deeds_of, handles, holds_back, lets_go, have_turns, goes_through_ends, passes}
-use Rattle.node_machine.specs.Node.{NodeInput, input_at, has_come, all_come, with_older, is_late, reset_late, times_out, forgotten, forgets, all_owed, without_notice, after_sessions, synced, steps}
+use Rattle.node_machine.specs.Node.{NodeInput, input_at, has_come, all_come, with_older, is_late, reset_late, times_out, forgotten, forgets, all_owed}
+use Rattle.node_machine.specs.Node.{without_notice, after_sessions, synced, steps}
 use Rattle.node_machine.specs.Node.NodeInput.{AtEnd, TimePasses}
 use Rattle.node_telling.proofs.Steps.{without_same, forgets_same}
 use Rattle.notice_readings.proofs.Own.{IsOwn, AreOwn, host_own, forgotten_own, all_owed_own, all_synced_own}

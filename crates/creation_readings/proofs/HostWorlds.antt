@@ -22,7 +22,11 @@ use Rattle.node_machine.specs.Parts.{Desk, Port, Running, Work, Deed}
 use Rattle.node_machine.specs.Carrying.{changed_if}
 use Rattle.node_machine.specs.Node.{steps, begins_with, boot_writes, found}
 use Rattle.node_machine.specs.Node.NodeInput.{AtEnd, TimePasses}
-use Rattle.node_world.specs.World.{NodeWorld, Site, Happening, memory_at, site_at, with_site, with_memory, with_node, link_to, links_of, ending_of, turns_at, input_of, near_end_in, arrival, port_for, work_of, comes_to, controller_work, link_after_controller, after_controller, controller_does, host_work, after_host, host_does, controller_cut, host_cut, loses_power_at, boots, counts, frame_lost, all_aged, is_late_at, ticked_so, controller_ticks, host_ticks, hosts_tick, comes_at, sending, beginning, new_site, end_c, end_h, world_step}
+use Rattle.node_world.specs.World.{NodeWorld, Site, Happening, memory_at, site_at, with_site, with_memory, with_node, link_to, links_of, ending_of, turns_at}
+use Rattle.node_world.specs.World.{input_of, near_end_in, arrival, port_for, work_of, comes_to, controller_work, link_after_controller, after_controller}
+use Rattle.node_world.specs.World.{controller_does, host_work, after_host, host_does, controller_cut, host_cut, loses_power_at, boots, counts, frame_lost}
+use Rattle.node_world.specs.World.{all_aged, is_late_at, ticked_so, controller_ticks, host_ticks, hosts_tick, comes_at, sending, beginning, new_site, end_c}
+use Rattle.node_world.specs.World.{end_h, world_step}
 use Rattle.node_world.specs.World.Happening.{Boots, IsCut, Gives, Inits, Takes, Loses, Ticks, Resets, Activates, Arms}
 use Rattle.node_links.proofs.Ends.{here_host}
 use Rattle.link_entries.proofs.Together.{ticks_host as tick_host}

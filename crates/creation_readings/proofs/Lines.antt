@@ -8,7 +8,8 @@ use Rattle.trace_model.specs.declared.line.Header.{Header}
 use Rattle.trace_model.specs.declared.line.Line.{Line}
 use Rattle.node_world.specs.World.{NodeWorld, Happening, new_world, world_step}
 use Rattle.node_world.specs.Lines.{Occurrence, refusal_in, happenings}
-use Rattle.node_world.specs.NodeHistories.{LineStep, NodeHistory, FollowsNodes, steps_from, occurrences_of, occurrences_in, entries_in, node_entries, world_after}
+use Rattle.node_world.specs.NodeHistories.{LineStep, NodeHistory, FollowsNodes, steps_from, occurrences_of, occurrences_in, entries_in, node_entries}
+use Rattle.node_world.specs.NodeHistories.{world_after}
 use Rattle.kept_laws.specs.Hosts.{AreHosts, IsFew, IsSentByHost}
 use Rattle.kept_laws.specs.Worlds.{MayHappen}
 use Rattle.kept_laws.proofs.Lines.{MayAllHappen, line_may, few_front}

@@ -19,7 +19,8 @@ use Rattle.link_machine.specs.Machine.{Message}
 use Rattle.node_machine.specs.Parts.{Creation, Notice, Core, Port, Deed}
 use Rattle.node_machine.specs.Parts.Deed.{Commits, Sends, SaysOk, Asks, Releases, Tells, IsAnswered, Drops, SetsErrors, Orders, Hears, GoesOn, Ends}
 use Rattle.node_machine.specs.Carrying.{port_at, finds_room}
-use Rattle.node_machine.specs.Controller.{has_link, creation_in, asked_at, asks_for, view_for, commit_deeds, decision_deeds, link_deeds, gates, own_gate, goes_through, agreed, controller_deeds}
+use Rattle.node_machine.specs.Controller.{has_link, creation_in, asked_at, asks_for, view_for, commit_deeds, decision_deeds, link_deeds, gates, own_gate}
+use Rattle.node_machine.specs.Controller.{goes_through, agreed, controller_deeds}
 use Rattle.node_world.specs.NodeFilters.{is_response}
 use Rattle.notice_readings.specs.Notices.{has_notice, GoesToFree, IsNoticeOf}
 use Rattle.creation_readings.specs.Worlds.{IsProperCommand, AreProper, IsAwaited}

@@ -1,5 +1,6 @@
 -- A whole step of a controller: the creation that a host asked for stays the one that is read.
-use Rattle.std.proofs.Common.{◌≡◌, ◌⊎◌, inl, inr, ℕ, ◌+◌, ◌-◌, ◌&&◌, Bool, true, false, not, cond, eqb, List, [], ◌∷◌, ◌++◌, length, map, sym, refl, ap, ◌∙◌, subst, append-nil, arith}
+use Rattle.std.proofs.Common.{◌≡◌, ◌⊎◌, inl, inr, ℕ, ◌+◌, ◌-◌, ◌&&◌, Bool, true, false, not, cond, eqb, List, [], ◌∷◌, ◌++◌, length, map, sym, refl, ap, ◌∙◌}
+use Rattle.std.proofs.Common.{subst, append-nil, arith}
 use Rattle.std.specs.Prelude.{Option, Some, None}
 use Rattle.std.specs.List.{AllByRecursion, flat_map, filter, filter_map}
 use Rattle.std.specs.Option.{option_map, option_map_or}
@@ -19,7 +20,8 @@ use Rattle.node_machine.specs.Parts.About.{Forgotten}
 use Rattle.node_machine.specs.Carrying.{unless_cut, port_at, turn_at, commit, all_done, finds_room}
 use Rattle.node_machine.specs.Controller.{asked_at, creation_in}
 use Rattle.node_machine.specs.Turns.{passes}
-use Rattle.node_machine.specs.Node.{NodeInput, input_at, all_come, times_out, is_over, is_over_at, is_forgotten, forgets, forgotten, owed, all_owed, without_notice, after_sessions, synced, answers_and_passes, steps}
+use Rattle.node_machine.specs.Node.{NodeInput, input_at, all_come, times_out, is_over, is_over_at, is_forgotten, forgets, forgotten, owed, all_owed}
+use Rattle.node_machine.specs.Node.{without_notice, after_sessions, synced, answers_and_passes, steps}
 use Rattle.node_machine.specs.Node.NodeInput.{AtEnd, TimePasses}
 use Rattle.node_world.specs.NodeFilters.{is_response}
 use Rattle.node_links.specs.Notices.{IsOutside}

@@ -1,5 +1,6 @@
 -- What a world keeps of the creations that wait over each event.
-use Rattle.std.proofs.Common.{◌≡◌, ◌⊎◌, inl, inr, ℕ, ◌-◌, ◌^◌, ◌≤◌, ◌&&◌, Bool, true, false, not, eqb, List, [], ◌∷◌, ◌++◌, length, map, replicate, sym, refl, ap, ◌∙◌, subst, append_assoc, append-nil}
+use Rattle.std.proofs.Common.{◌≡◌, ◌⊎◌, inl, inr, ℕ, ◌-◌, ◌^◌, ◌≤◌, ◌&&◌, Bool, true, false, not, eqb, List, [], ◌∷◌, ◌++◌, length, map, replicate, sym, refl}
+use Rattle.std.proofs.Common.{ap, ◌∙◌, subst, append_assoc, append-nil}
 use Rattle.std.specs.Prelude.{Option, Some, None}
 use Rattle.std.proofs.lemmas.Bool.{cases_Bool, cond_both}
 use Rattle.swp_act.specs.Activation.{new_clf}
@@ -20,7 +21,9 @@ use Rattle.history.specs.Follows.{seen_from}
 use Rattle.node_machine.specs.Parts.{Running, Work}
 use Rattle.node_machine.specs.Node.{steps}
 use Rattle.node_machine.specs.Node.NodeInput.{AtEnd, TimePasses}
-use Rattle.node_world.specs.World.{NodeWorld, Site, Happening, memory_at, link_to, ending_of, turns_at, input_of, work_of, controller_work, after_controller, controller_does, all_aged, is_late_at, ticked_so, controller_ticks, hosts_tick, world_ticks, comes_at, activates, sending, beginning, new_site, new_world, end_c, end_h, world_step}
+use Rattle.node_world.specs.World.{NodeWorld, Site, Happening, memory_at, link_to, ending_of, turns_at, input_of, work_of, controller_work, after_controller}
+use Rattle.node_world.specs.World.{controller_does, all_aged, is_late_at, ticked_so, controller_ticks, hosts_tick, world_ticks, comes_at, activates, sending}
+use Rattle.node_world.specs.World.{beginning, new_site, new_world, end_c, end_h, world_step}
 use Rattle.node_world.specs.World.Happening.{Boots, IsCut, Gives, Inits, Takes, Loses, Ticks, Resets, Activates, Arms}
 use Rattle.node_world.specs.NodeFilters.{commands_in}
 use Rattle.node_links.proofs.Blocks.{IsWithin, input_within, sent_within}
@@ -45,7 +48,8 @@ use Rattle.creation_readings.proofs.Rows.{new_proper}
 use Rattle.creation_readings.proofs.Asides.{input_aside}
 use Rattle.creation_readings.proofs.HostWorlds.{event_none, new_none}
 use Rattle.creation_readings.proofs.Near.{Reads, new_ready}
-use Rattle.creation_readings.proofs.Events.{Beside, beside_reads, far_beside, begins_beside, memory_beside, lost_beside, cut_reads, boots_reads, near_step, near_tick}
+use Rattle.creation_readings.proofs.Events.{Beside, beside_reads, far_beside, begins_beside, memory_beside, lost_beside, cut_reads, boots_reads, near_step}
+use Rattle.creation_readings.proofs.Events.{near_tick}
 
 nothing : (t : List Entry) (w : NodeWorld) → Reads t w → Reads (t ++ []) w
 nothing t w a = subst (λ l. Reads l w) (sym (append-nil t)) a

@@ -1,5 +1,6 @@
 -- What whatever happens leaves of what is known of each node, and how its entries come.
-use Rattle.std.proofs.Common.{◌≡◌, ◌⊎◌, inl, inr, ℕ, ◌-◌, ◌^◌, ◌≤◌, ◌&&◌, Bool, true, false, cond, eqb, List, [], ◌∷◌, ◌++◌, length, sym, refl, ap, ◌∙◌, subst, arith}
+use Rattle.std.proofs.Common.{◌≡◌, ◌⊎◌, inl, inr, ℕ, ◌-◌, ◌^◌, ◌≤◌, ◌&&◌, Bool, true, false, cond, eqb, List, [], ◌∷◌, ◌++◌, length, sym, refl, ap, ◌∙◌, subst}
+use Rattle.std.proofs.Common.{arith}
 use Rattle.std.specs.Prelude.{Option, Some, None, is_some}
 use Rattle.std.specs.List.{AllByRecursion, fold}
 use Rattle.std.proofs.lemmas.Bool.{cond_both, cases_Bool, eq-eqb, ne_eqb, eqb-true, eqb-false}
@@ -26,7 +27,9 @@ use Rattle.node_machine.specs.Controller.{is_command_message}
 use Rattle.node_machine.specs.Node.{steps, begins_with, found, boot_writes}
 use Rattle.node_machine.specs.Node.NodeInput.{AtEnd}
 use Rattle.node_laws.specs.Waiting.{IsAllowedStill}
-use Rattle.node_world.specs.World.{NodeWorld, Site, Happening, node_at, site_at, with_site, link_to, input_of, host_does, loses_power_at, memory_at, with_memory, with_node, links_of, boots, counts, frame_lost, sending, beginning, comes_at, activates, end_c, end_h, world_step}
+use Rattle.node_world.specs.World.{NodeWorld, Site, Happening, node_at, site_at, with_site, link_to, input_of, host_does, loses_power_at, memory_at}
+use Rattle.node_world.specs.World.{with_memory, with_node, links_of, boots, counts, frame_lost, sending, beginning, comes_at, activates, end_c, end_h}
+use Rattle.node_world.specs.World.{world_step}
 use Rattle.node_world.specs.World.Happening.{Boots, IsCut, Gives, Inits, Takes, Loses, Ticks, Resets, Activates, Arms}
 use Rattle.node_world.specs.NodeFilters.{book_in, commands_in}
 use Rattle.kept_laws.specs.Reckonings.{Reckoning, reckoned, EachIsAsRead}

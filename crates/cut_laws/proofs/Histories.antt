@@ -1,5 +1,6 @@
 -- What is known of each node at each event of a history.
-use Rattle.std.proofs.Common.{◌≡◌, ◌⊎◌, inl, inr, ℕ, suc, ◌-◌, ◌^◌, ◌≤◌, ◌||◌, true, false, eqb, List, [], ◌∷◌, ◌++◌, length, map, sym, refl, ap, ◌∙◌, subst, arith, append_assoc, append-nil, Bool, cond}
+use Rattle.std.proofs.Common.{◌≡◌, ◌⊎◌, inl, inr, ℕ, suc, ◌-◌, ◌^◌, ◌≤◌, ◌||◌, true, false, eqb, List, [], ◌∷◌, ◌++◌, length, map, sym, refl, ap, ◌∙◌, subst}
+use Rattle.std.proofs.Common.{arith, append_assoc, append-nil, Bool, cond}
 use Rattle.std.specs.Option.{option_map_or}
 use Rattle.std.proofs.lemmas.List.Folds.{list_any-append}
 use Rattle.swp_base.specs.InMemory.{Memory}
@@ -32,7 +33,8 @@ use Rattle.kept_laws.proofs.Kept.{all_begin, blank_finds, are_kept}
 use Rattle.journal_laws.proofs.Opening.{fresh}
 use Rattle.node_telling.specs.Telling.{world_behind}
 use Rattle.node_telling.proofs.Lasting.{AllMay, AreCaused, lines_caused}
-use Rattle.cut_laws.specs.Histories.{boots_it, BootsWriteSo, FindsBy, FindsExactly, begun_by, with_event, reckoned_within, reckoning_in, IsNodeOf, AreFoundExactly, StandsInMemories, IsCutAsPlanned, AreCutAsPlanned, KeptExactly}
+use Rattle.cut_laws.specs.Histories.{boots_it, BootsWriteSo, FindsBy, FindsExactly, begun_by, with_event, reckoned_within, reckoning_in, IsNodeOf}
+use Rattle.cut_laws.specs.Histories.{AreFoundExactly, StandsInMemories, IsCutAsPlanned, AreCutAsPlanned, KeptExactly}
 use Rattle.cut_laws.proofs.Standing.{Stands, book_then}
 use Rattle.cut_laws.proofs.Worlds.{IsThere, StandsAt, memory_far, node_far}
 use Rattle.cut_laws.proofs.Events.{GoesExactly, event_exact}

@@ -14,7 +14,8 @@ use Rattle.history.specs.Steps.{entries_for}
 use Rattle.node_machine.specs.Parts.{Running, Work}
 use Rattle.node_machine.specs.Node.{steps}
 use Rattle.node_machine.specs.Node.NodeInput.{TimePasses}
-use Rattle.node_world.specs.World.{NodeWorld, Site, site_at, link_to, runs_on, work_of, all_aged, is_late_at, ticked_so, turns_at, ending_of, frames_noted, controller_ticks, host_ticks, hosts_tick, world_ticks}
+use Rattle.node_world.specs.World.{NodeWorld, Site, site_at, link_to, runs_on, work_of, all_aged, is_late_at, ticked_so, turns_at, ending_of, frames_noted}
+use Rattle.node_world.specs.World.{controller_ticks, host_ticks, hosts_tick, world_ticks}
 use Rattle.kept_laws.specs.Reckonings.{Reckoning, reckoned}
 use Rattle.kept_laws.specs.Books.{IsOf}
 use Rattle.kept_laws.specs.Hosts.{AreDifferent, AreHosts}

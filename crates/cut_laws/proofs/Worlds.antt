@@ -12,7 +12,9 @@ use Rattle.link_entries.specs.Entries.End.{Controller, Host}
 use Rattle.history.specs.Steps.{entries_for}
 use Rattle.node_machine.specs.Parts.{Running, Work}
 use Rattle.node_machine.specs.Carrying.{changed_if}
-use Rattle.node_world.specs.World.{NodeWorld, Site, node_at, site_at, with_site, link_to, memory_at, runs_on, near_end_in, arrival, wires_for, work_of, frames_noted, comes_to, controller_work, link_after_controller, after_controller, controller_does, host_work, after_host, host_does}
+use Rattle.node_world.specs.World.{NodeWorld, Site, node_at, site_at, with_site, link_to, memory_at, runs_on, near_end_in, arrival, wires_for, work_of}
+use Rattle.node_world.specs.World.{frames_noted, comes_to, controller_work, link_after_controller, after_controller, controller_does, host_work, after_host}
+use Rattle.node_world.specs.World.{host_does}
 use Rattle.kept_laws.specs.Reckonings.{Reckoning}
 use Rattle.kept_laws.specs.Books.{IsPlain, StillRuns}
 use Rattle.kept_laws.specs.Deeds.{IsOnOrder}

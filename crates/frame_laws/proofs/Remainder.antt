@@ -1,5 +1,6 @@
 -- Long division leaves the remainder.
-use Rattle.std.proofs.Common.{◌≡◌, ℕ, suc, zero, ◌+◌, ◌≤◌, List, [], ◌∷◌, ◌++◌, Bool, true, false, length, drop, replicate, refl, sym, ap, ◌∙◌, arith, length-append}
+use Rattle.std.proofs.Common.{◌≡◌, ℕ, suc, zero, ◌+◌, ◌≤◌, List, [], ◌∷◌, ◌++◌, Bool, true, false, length, drop, replicate, refl, sym, ap, ◌∙◌, arith}
+use Rattle.std.proofs.Common.{length-append}
 use Rattle.swp_base.specs.Bits.{bits_of}
 use Rattle.swp_crc.specs.Division.{sum_of_bits, sum_from_front, divisor, divided}
 use Rattle.swp_crc.specs.Crc.{zeros, complement_first, remainder_of, crc_of}

@@ -1,5 +1,6 @@
 -- A frame that was written is read.
-use Rattle.std.proofs.Common.{◌≡◌, ◌≢◌, ℕ, ◌+◌, ◌-◌, ◌*◌, ◌%◌, ◌≤◌, length, take, List, [], ◌∷◌, ◌++◌, Bool, true, false, eqb, cond, map, reverse, Option, Some, None, option_map, refl, sym, ap, ◌∙◌, subst, inl, inr, arith, append_assoc, append-nil}
+use Rattle.std.proofs.Common.{◌≡◌, ◌≢◌, ℕ, ◌+◌, ◌-◌, ◌*◌, ◌%◌, ◌≤◌, length, take, List, [], ◌∷◌, ◌++◌, Bool, true, false, eqb, cond, map, reverse, Option, Some}
+use Rattle.std.proofs.Common.{None, option_map, refl, sym, ap, ◌∙◌, subst, inl, inr, arith, append_assoc, append-nil}
 use Rattle.std.specs.Prelude.{filter, nat_lt, ◌||◌, min, slice_index}
 use Rattle.swp_base.specs.declared.link_terms.FrameFault.TheVariants.{Length, Alignment, Crc}
 use Rattle.swp_crc.specs.Crc.{crc_of}

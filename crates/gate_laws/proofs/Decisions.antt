@@ -3,7 +3,8 @@ use Rattle.std.proofs.Common.{◌≡◌, ℕ, Bool, true, false, cond, not, eqb,
 use Rattle.std.specs.Prelude.{Option, Some, None, IfSome, IsTrue, is_none, unwrap_or}
 use Rattle.std.specs.List.{list_all, filter, range_with_len}
 use Rattle.std.specs.Option.{option_map_or, option_and_then}
-use Rattle.std.proofs.lemmas.Bool.{cond_both, and_from, and_parts, and_cases, not-false, not_from_false, not-true, eqb-true, eqb-false, ne_eqb, false≢true, true≢false}
+use Rattle.std.proofs.lemmas.Bool.{cond_both, and_from, and_parts, and_cases, not-false, not_from_false, not-true, eqb-true, eqb-false, ne_eqb, false≢true}
+use Rattle.std.proofs.lemmas.Bool.{true≢false}
 use Rattle.pipe_table.specs.declared.row.PipeRow.{PipeRow}
 use Rattle.pipe_table.specs.PipeRows.{is_free, lowest_free, pipe_at}
 use Rattle.hci_tables.specs.declared.command.Command.TheVariants.{Create}
@@ -14,7 +15,9 @@ use Rattle.gate_answers.specs.Answers.{first_of, tests_to_get, param_in}
 use Rattle.gate_admin.specs.declared.view.LinkView.{LinkView}
 use Rattle.gate_admin.specs.declared.decision.Decision.{Decision}
 use Rattle.gate_admin.specs.View.{is_connected, hosts_where}
-use Rattle.gate_admin.specs.Decide.{answers, commits, unless_refused, tests_of_pipe, tests_to_open, tests_to_set_it, tests_to_create, tests_to_delete, tests_to_clear, opening, closing, setting, getting, creating, creation, created, deleting, clearing, carried_out, decided, dest_in, allows, told_of_deletion, told_of_clearing, shares, far_end_of, value_of}
+use Rattle.gate_admin.specs.Decide.{answers, commits, unless_refused, tests_of_pipe, tests_to_open, tests_to_set_it, tests_to_create, tests_to_delete}
+use Rattle.gate_admin.specs.Decide.{tests_to_clear, opening, closing, setting, getting, creating, creation, created, deleting, clearing, carried_out, decided}
+use Rattle.gate_admin.specs.Decide.{dest_in, allows, told_of_deletion, told_of_clearing, shares, far_end_of, value_of}
 use Rattle.gate_admin.proofs.CreationLemmas.{AllFalse, all_false}
 use Rattle.gate_laws.specs.Rules.{AsksAsAllowed, TellsOthers, AreOthers, IsLeastFree}
 use Rattle.gate_laws.proofs.FreePipes.{lowest_free-least}

@@ -1,5 +1,6 @@
 -- The commands of the records of a memory, one after another.
-use Rattle.std.proofs.Common.{◌≡◌, ◌⊎◌, inl, inr, ℕ, zero, suc, ◌+◌, Bool, true, false, cond, List, [], ◌∷◌, ◌++◌, length, take, fold, slice_get, Some, None, is_some, sym, refl, ap, ◌∙◌, subst, arith, add-one, add-zero}
+use Rattle.std.proofs.Common.{◌≡◌, ◌⊎◌, inl, inr, ℕ, zero, suc, ◌+◌, Bool, true, false, cond, List, [], ◌∷◌, ◌++◌, length, take, fold, slice_get, Some, None}
+use Rattle.std.proofs.Common.{is_some, sym, refl, ap, ◌∙◌, subst, arith, add-one, add-zero}
 use Rattle.std.specs.Option.{option_map_or}
 use Rattle.std.proofs.lemmas.Bool.{and_parts, and_from}
 use Rattle.nv_journal.specs.declared.JournalFault.{JournalFault}

@@ -1,5 +1,6 @@
 -- What a failed write of a commit leaves.
-use Rattle.std.proofs.Common.{◌≡◌, ◌⊎◌, inl, inr, ℕ, ◌+◌, ◌<◌, ◌≤◌, ◌^◌, ◌==◌, ◌&&◌, slice_index, Bool, true, false, cond, List, [], ◌∷◌, length, fold, map, IsSome, Result, Ok, Err, OnErr, sym, refl, ap, ap₂, ◌∙◌, subst, arith}
+use Rattle.std.proofs.Common.{◌≡◌, ◌⊎◌, inl, inr, ℕ, ◌+◌, ◌<◌, ◌≤◌, ◌^◌, ◌==◌, ◌&&◌, slice_index, Bool, true, false, cond, List, [], ◌∷◌, length, fold, map}
+use Rattle.std.proofs.Common.{IsSome, Result, Ok, Err, OnErr, sym, refl, ap, ap₂, ◌∙◌, subst, arith}
 use Rattle.std.specs.List.{AllByRecursion}
 use Rattle.journal_laws.specs.declared.state.State.{State}
 use Rattle.journal_laws.specs.Writes.{Write, after_writes, last_place}

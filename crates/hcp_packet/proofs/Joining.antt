@@ -1,12 +1,15 @@
 -- Cutting messages into packets and joining them again.
-use Rattle.std.proofs.Common.{◌≡◌, ℕ, zero, suc, ◌+◌, ◌-◌, ◌*◌, ◌/◌, ◌<◌, ◌≤◌, Bool, true, false, cond, eqb, leb, List, [], ◌∷◌, ◌++◌, length, take, drop, map, refl, sym, ap, ◌∙◌, append_assoc, arith, length-drop, take-append-drop}
+use Rattle.std.proofs.Common.{◌≡◌, ℕ, zero, suc, ◌+◌, ◌-◌, ◌*◌, ◌/◌, ◌<◌, ◌≤◌, Bool, true, false, cond, eqb, leb, List, [], ◌∷◌, ◌++◌, length, take, drop, map}
+use Rattle.std.proofs.Common.{refl, sym, ap, ◌∙◌, append_assoc, arith, length-drop, take-append-drop}
 use Rattle.std.specs.Prelude.{Some, slice_get}
 use Rattle.std.specs.List.{flat_map}
 use Rattle.std.proofs.lemmas.List.{append-nil, take_all, drop-drop}
 use Rattle.std.proofs.lemmas.List.Elements.{filter_map-append, filter-append}
 use Rattle.std.proofs.lemmas.Grind.{common_steps, fold-append}
 use Rattle.hcp_packet.specs.declared.Packet.{Packet}
-use Rattle.hcp_packet.specs.Packets.{packet, packet_bytes, packet_of, parts_of, packet_count, packets_of, packet_at, under_way_after, under_way, message_ended_by, messages_after, messages_of, is_good, good_of, packets_in, good_messages_of, fragments_of, AreSendable, IsFrontOf}
+use Rattle.hcp_packet.specs.Packets.{packet, packet_bytes, packet_of, parts_of, packet_count, packets_of, packet_at, under_way_after, under_way}
+use Rattle.hcp_packet.specs.Packets.{message_ended_by, messages_after, messages_of, is_good, good_of, packets_in, good_messages_of, fragments_of, AreSendable}
+use Rattle.hcp_packet.specs.Packets.{IsFrontOf}
 
 -- what packets end that come behind others
 messages_after-append : (before q r : List Packet) → messages_after before (q ++ r) ≡ messages_after before q ++ messages_after (before ++ q) r

@@ -1,6 +1,7 @@
 -- The packets of a message and the messages of packets (ETSI TS 102 622, message fragmentation): plain functions on
 -- lists of bytes.
-use Rattle.std.specs.Prelude.{◌≡◌, ℕ, zero, suc, ◌+◌, ◌/◌, ◌%◌, ◌<◌, Bool, false, not, if◌then◌else◌, ◌==◌, nat_lt, nat_le, IsTrue, List, [], ◌∷◌, ◌++◌, length, take, drop, map, Option, None, Some}
+use Rattle.std.specs.Prelude.{◌≡◌, ℕ, zero, suc, ◌+◌, ◌/◌, ◌%◌, ◌<◌, Bool, false, not, if◌then◌else◌, ◌==◌, nat_lt, nat_le, IsTrue, List, [], ◌∷◌, ◌++◌, length}
+use Rattle.std.specs.Prelude.{take, drop, map, Option, None, Some}
 use Rattle.std.specs.List.{fold, filter, filter_map, flat_map, AllByRecursion}
 use Rattle.hcp_packet.specs.declared.Packet.{Packet}
 

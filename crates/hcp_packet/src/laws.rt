@@ -1,7 +1,8 @@
 //! What cutting into packets and joining again says of messages. Nothing here runs.
 
 ghost use Rattle.std.specs.Prelude.{◌≡◌, ℕ, ◌*◌, ◌<◌, List, length, Some, slice_get};
-ghost use Rattle.hcp_packet.specs.Packets.{packets_of, packet_at, packet_count, packets_in, messages_of, fragments_of, good_messages_of, good_of, AreSendable, IsFrontOf};
+ghost use Rattle.hcp_packet.specs.Packets.{packets_of, packet_at, packet_count, packets_in, messages_of, fragments_of, good_messages_of, good_of, AreSendable};
+ghost use Rattle.hcp_packet.specs.Packets.{IsFrontOf};
 
 /// Messages that are cut into packets, one message after another, and joined again are the messages that were sent.
 pub fn joined_again()

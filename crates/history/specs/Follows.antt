@@ -1,5 +1,6 @@
 -- What each line of a schedule causes, and when a history follows a schedule.
-use Rattle.std.specs.Prelude.{◌≡◌, ℕ, nat_lt, min, if◌then◌else◌, true, false, List, [], ◌∷◌, ◌++◌, length, replicate, slice_index, Option, Some, None, unwrap_or}
+use Rattle.std.specs.Prelude.{◌≡◌, ℕ, nat_lt, min, if◌then◌else◌, true, false, List, [], ◌∷◌, ◌++◌, length, replicate, slice_index, Option, Some, None}
+use Rattle.std.specs.Prelude.{unwrap_or}
 use Rattle.swp_lpdu.specs.Controls.{lpdu_of}
 use Rattle.swp_frame.specs.Stuffing.{frame_of}
 use Rattle.trace_model.specs.declared.entry.Entry.{Entry}

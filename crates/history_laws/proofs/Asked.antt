@@ -16,7 +16,8 @@ use Rattle.history.specs.Histories.Outcome.{Refused, Caused}
 use Rattle.history.specs.Damage.{Verdict}
 use Rattle.history.specs.Damage.Verdict.{Same, LostFor, Undetected}
 use Rattle.history.specs.Steps.{link_after, link_after_all, events_at}
-use Rattle.history.specs.Follows.{machine_of, as_noted, refusal, causes_in, damage_causes, first_verdict, frames_to, taken_of, outcome_of, StepsFollow, link_after_line, host_of}
+use Rattle.history.specs.Follows.{machine_of, as_noted, refusal, causes_in, damage_causes, first_verdict, frames_to, taken_of, outcome_of, StepsFollow}
+use Rattle.history.specs.Follows.{link_after_line, host_of}
 use Rattle.history_laws.proofs.Runs.{events_in}
 
 -- ## Resets

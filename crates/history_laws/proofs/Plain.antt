@@ -1,5 +1,6 @@
 -- In what is noted of the events of causes no end is started, stopped or cut off, and the frames put on the link have their numbers below 8.
-use Rattle.std.proofs.Common.{◌≡◌, ℕ, zero, suc, ◌%◌, ◌-◌, Bool, true, false, List, [], ◌∷◌, ◌++◌, length, map, take, drop, Option, Some, None, refl, sym, subst, arith}
+use Rattle.std.proofs.Common.{◌≡◌, ℕ, zero, suc, ◌%◌, ◌-◌, Bool, true, false, List, [], ◌∷◌, ◌++◌, length, map, take, drop, Option, Some, None, refl, sym}
+use Rattle.std.proofs.Common.{subst, arith}
 use Rattle.std.specs.Prelude.{is_some, nat_lt, option_to_list, if◌then◌else◌}
 use Rattle.std.specs.List.{AllByRecursion}
 use Rattle.swp_base.specs.declared.control_frames.Control.{Control}
@@ -10,7 +11,8 @@ use Rattle.shdlc_core.specs.Machine.{EndState, Fragment, frame_due, fragment_due
 use Rattle.swp_lpdu.specs.Controls.{HasNumbers}
 use Rattle.trace_model.specs.declared.line.End.{End as NamedEnd}
 use Rattle.session_laws.specs.Sessions.{OnWire, took_with}
-use Rattle.link_machine.specs.Machine.{LinkEnd, ActDue, Refused, LinkInput, Turn, Report, report, whole_acked, turn, turned, give_refusal, after_input, ended_by, among, frames_out}
+use Rattle.link_machine.specs.Machine.{LinkEnd, ActDue, Refused, LinkInput, Turn, Report, report, whole_acked, turn, turned, give_refusal, after_input}
+use Rattle.link_machine.specs.Machine.{ended_by, among, frames_out}
 use Rattle.link_machine.specs.Machine.LinkInput.{Take, Tick as HasTick, Reset}
 use Rattle.link_machine.specs.Machine.Turn.{Give, Hold, FetchMessage, SetAside, Release}
 use Rattle.message_link.specs.Links.{NumberedEnd, Link, Loss, EndEvent, exchanged, number_of, put, with_ended, ticks_at_controller, aged, happens}
@@ -18,7 +20,9 @@ use Rattle.message_link.specs.Links.Ending.{GoesOut, CutOff}
 use Rattle.message_link.specs.Links.Comes.{NextFrame, AsksReset, Starts, Stops, NoInput}
 use Rattle.message_link.specs.Links.EndEvent.{Step as EndStep, Lose}
 use Rattle.message_link.specs.Links.Loss.{TooMany}
-use Rattle.link_entries.specs.Entries.{End, Entry, far, if_so, told, told_of, turn_entry, turn_entries, sent_unless, first_lost, wire_with, put_entries, puts_entries, rest_entries, left_after, taken_entries, step_entries, here_entries, aged_entries, tick_entries, event_entries, entries, trace}
+use Rattle.link_entries.specs.Entries.{End, Entry, far, if_so, told, told_of, turn_entry, turn_entries, sent_unless, first_lost, wire_with, put_entries}
+use Rattle.link_entries.specs.Entries.{puts_entries, rest_entries, left_after, taken_entries, step_entries, here_entries, aged_entries, tick_entries}
+use Rattle.link_entries.specs.Entries.{event_entries, entries, trace}
 use Rattle.link_entries.specs.Entries.End.{Controller, Host}
 use Rattle.link_entries.specs.Entries.Entry.{Up, Down, Active, GaveUp, Acked, Got, Emit, Restarted, Cut}
 use Rattle.history.specs.Histories.{Cause}

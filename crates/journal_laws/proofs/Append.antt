@@ -1,5 +1,6 @@
 -- One more record.
-use Rattle.std.proofs.Common.{◌≡◌, ℕ, suc, ◌+◌, ◌-◌, ◌*◌, ◌<◌, ◌≤◌, false, List, [], ◌∷◌, ◌++◌, length, take, drop, Option, Some, None, IsSome, sym, refl, ap, ap₂, ◌∙◌, subst, arith, append_assoc, append-nil, length-append, length-take, length-drop, drop_at, add_assoc, add-zero, zero-add}
+use Rattle.std.proofs.Common.{◌≡◌, ℕ, suc, ◌+◌, ◌-◌, ◌*◌, ◌<◌, ◌≤◌, false, List, [], ◌∷◌, ◌++◌, length, take, drop, Option, Some, None, IsSome, sym, refl, ap}
+use Rattle.std.proofs.Common.{ap₂, ◌∙◌, subst, arith, append_assoc, append-nil, length-append, length-take, length-drop, drop_at, add_assoc, add-zero, zero-add}
 use Rattle.std.proofs.lemmas.Bool.{true≢false}
 use Rattle.swp_base.specs.Outside.{overwritten}
 use Rattle.journal_laws.specs.Writes.{Write, write, after_writes}

@@ -1,5 +1,6 @@
 -- Which bank is in use after a write.
-use Rattle.std.proofs.Common.{◌≡◌, ℕ, ◌+◌, ◌<◌, ◌≤◌, true, false, List, ◌++◌, length, take, drop, Option, Some, None, sym, refl, ap, ap₂, ◌∙◌, arith, append_assoc, length-take, take-take}
+use Rattle.std.proofs.Common.{◌≡◌, ℕ, ◌+◌, ◌<◌, ◌≤◌, true, false, List, ◌++◌, length, take, drop, Option, Some, None, sym, refl, ap, ap₂, ◌∙◌, arith}
+use Rattle.std.proofs.Common.{append_assoc, length-take, take-take}
 use Rattle.std.specs.Option.{option_map_or}
 use Rattle.std.proofs.lemmas.List.{take-append-le}
 use Rattle.std.proofs.lemmas.Bool.{lt-ltb}

@@ -1,11 +1,13 @@
 -- The memory of a started journal stays one.
-use Rattle.std.proofs.Common.{◌≡◌, ◌⊎◌, inl, inr, ℕ, ◌+◌, ◌-◌, ◌^◌, ◌≤◌, ◌==◌, ◌||◌, ◌&&◌, slice_index, min, Bool, true, false, cond, List, length, Option, Some, None, IsSome, IsTrue, option_map, sym, refl, ap, ◌∙◌, subst, arith}
+use Rattle.std.proofs.Common.{◌≡◌, ◌⊎◌, inl, inr, ℕ, ◌+◌, ◌-◌, ◌^◌, ◌≤◌, ◌==◌, ◌||◌, ◌&&◌, slice_index, min, Bool, true, false, cond, List, length, Option}
+use Rattle.std.proofs.Common.{Some, None, IsSome, IsTrue, option_map, sym, refl, ap, ◌∙◌, subst, arith}
 use Rattle.journal_laws.specs.declared.banks.Side.{Side}
 use Rattle.journal_laws.specs.Writes.{Write, after_writes, IsCut, last_place}
 use Rattle.journal_laws.specs.declared.state.State.{State}
 use Rattle.journal_laws.specs.Banks.{other, is_opened_gate, current}
 use Rattle.journal_laws.specs.Journal.{Journal, journal, state_of, count_of, count, IsSound, IsStarted}
-use Rattle.journal_laws.specs.Operations.{format_writes, append_writes, compact_writes, IsUnformatted, HasRoomForBody, CanCompact, appended, compacted, outcome, IsAllOrNothing}
+use Rattle.journal_laws.specs.Operations.{format_writes, append_writes, compact_writes, IsUnformatted, HasRoomForBody, CanCompact, appended, compacted, outcome}
+use Rattle.journal_laws.specs.Operations.{IsAllOrNothing}
 use Rattle.journal_laws.proofs.InUse.{in_use_is, in_use_then}
 use Rattle.journal_laws.proofs.Cuts.{length-after, length-cut}
 use Rattle.journal_laws.proofs.Append.{one_more, bank_in_use, append_is_whole, append_state, append_is_cut}

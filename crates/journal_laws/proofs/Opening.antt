@@ -1,5 +1,7 @@
 -- A bank that is filled and opened: a format, and a compaction.
-use Rattle.std.proofs.Common.{◌≡◌, ◌⊎◌, inl, inr, ℕ, ◌+◌, ◌-◌, ◌^◌, ◌<◌, ◌≤◌, min, Bool, true, false, cond, List, [], ◌∷◌, ◌++◌, length, get_or, take, drop, replicate, slice_index, Option, Some, None, option_map, sym, refl, ap, ap₂, ◌∙◌, subst, arith, append_assoc, append-nil, length-append, add-zero, get_or-take, eqb-true, w16, w32}
+use Rattle.std.proofs.Common.{◌≡◌, ◌⊎◌, inl, inr, ℕ, ◌+◌, ◌-◌, ◌^◌, ◌<◌, ◌≤◌, min, Bool, true, false, cond, List, [], ◌∷◌, ◌++◌, length, get_or, take, drop}
+use Rattle.std.proofs.Common.{replicate, slice_index, Option, Some, None, option_map, sym, refl, ap, ap₂, ◌∙◌, subst, arith, append_assoc, append-nil}
+use Rattle.std.proofs.Common.{length-append, add-zero, get_or-take, eqb-true, w16, w32}
 use Rattle.std.specs.List.{AllByRecursion}
 use Rattle.std.specs.Int.{to_be_bytes, from_be_bytes}
 use Rattle.std.proofs.lemmas.Nat.{from_be_bytes-to_be_bytes_2, from_be_bytes-to_be_bytes_4}
@@ -17,7 +19,8 @@ use Rattle.journal_laws.specs.Journal.{Journal, found_in, journal_at, journal, s
 use Rattle.journal_laws.specs.Operations.{bank_bytes, open_bank, format_writes, compact_writes, IsUnformatted, formatted, CanCompact, compacted, IsAllOrNothing}
 use Rattle.journal_laws.proofs.Places.{length-overwritten, length-bank, bank_here, bank_beside, in_front, keeps_first}
 use Rattle.journal_laws.proofs.Reading.{found_closed, records_are_read, length-records_bytes, few_records}
-use Rattle.journal_laws.proofs.InUse.{at_bank, closed_first, closed_second, state_at, other_other, in_use_then, gate_is_open, same_current, moves, still_none, first_opens, same_journal, journal_in_use, no_journal, bank_across, head_across, journal_across}
+use Rattle.journal_laws.proofs.InUse.{at_bank, closed_first, closed_second, state_at, other_other, in_use_then, gate_is_open, same_current, moves, still_none}
+use Rattle.journal_laws.proofs.InUse.{first_opens, same_journal, journal_in_use, no_journal, bank_across, head_across, journal_across}
 use Rattle.journal_laws.proofs.Cuts.{one_byte, two_writes, more_writes}
 use Rattle.journal_laws.proofs.Append.{place_low}
 

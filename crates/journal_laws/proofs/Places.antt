@@ -1,5 +1,6 @@
 -- What a write leaves of two lists in a row, and of the two banks of a memory.
-use Rattle.std.proofs.Common.{◌≡◌, ℕ, ◌+◌, ◌<◌, ◌≤◌, List, [], ◌∷◌, ◌++◌, length, take, drop, slice_index, sym, refl, ap, ap₂, ◌∙◌, subst, arith, append_assoc, length-append, length-take, length-drop, take-append-drop, take_at, drop_at, add_assoc, zero-add, add-zero}
+use Rattle.std.proofs.Common.{◌≡◌, ℕ, ◌+◌, ◌<◌, ◌≤◌, List, [], ◌∷◌, ◌++◌, length, take, drop, slice_index, sym, refl, ap, ap₂, ◌∙◌, subst, arith, append_assoc}
+use Rattle.std.proofs.Common.{length-append, length-take, length-drop, take-append-drop, take_at, drop_at, add_assoc, zero-add, add-zero}
 use Rattle.std.proofs.Math.Seq.{take-append-add, drop-append-add}
 use Rattle.std.proofs.lemmas.List.{take-append-le, drop-append-le}
 use Rattle.swp_base.specs.Outside.{overwritten}

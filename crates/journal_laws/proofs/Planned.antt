@@ -1,5 +1,6 @@
 -- Where the failing write is planned, which writes are made is known.
-use Rattle.std.proofs.Common.{◌≡◌, ◌≢◌, inl, inr, ℕ, suc, ◌-◌, Bool, true, false, not, cond, ◌&&◌, leb, List, [], ◌∷◌, length, Option, Some, None, sym, refl, ap, ◌∙◌, arith}
+use Rattle.std.proofs.Common.{◌≡◌, ◌≢◌, inl, inr, ℕ, suc, ◌-◌, Bool, true, false, not, cond, ◌&&◌, leb, List, [], ◌∷◌, length, Option, Some, None, sym, refl}
+use Rattle.std.proofs.Common.{ap, ◌∙◌, arith}
 use Rattle.std.proofs.lemmas.Bool.{not-false, not-true, eqb-false, eqb-true}
 use Rattle.std.proofs.lemmas.Bool.Decides.{nat_tests}
 use Rattle.swp_base.specs.InMemory.{Plan, Memory, is_next, plan_after, memory_after, torn_bytes, WritesAsPlanned}

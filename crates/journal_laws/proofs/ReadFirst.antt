@@ -1,5 +1,6 @@
 -- Reads in front of writes.
-use Rattle.std.proofs.Common.{◌≡◌, inl, inr, ℕ, zero, suc, Bool, true, false, not, cond, List, [], ◌∷◌, Option, None, sym, refl, ap, ◌∙◌, subst, ◌⊎◌, ◌<◌, ◌≤◌, arith}
+use Rattle.std.proofs.Common.{◌≡◌, inl, inr, ℕ, zero, suc, Bool, true, false, not, cond, List, [], ◌∷◌, Option, None, sym, refl, ap, ◌∙◌, subst, ◌⊎◌, ◌<◌, ◌≤◌}
+use Rattle.std.proofs.Common.{arith}
 use Rattle.std.proofs.lemmas.Bool.{true≢false, false≢true, cases_lt}
 use Rattle.swp_base.specs.Outside.{one_more}
 use Rattle.swp_base.specs.InMemory.{Memory, is_next_read, read_plan_after, memory_read, ReadsAsPlanned, ReadsSurely, WritesSurely}

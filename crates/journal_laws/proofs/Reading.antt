@@ -1,5 +1,8 @@
 -- What is read of records in a row.
-use Rattle.std.proofs.Common.{◌≡◌, ◌⊎◌, inl, inr, ℕ, zero, suc, ◌+◌, ◌*◌, ◌^◌, ◌<◌, ◌≤◌, Bool, true, false, ◌&&◌, ◌||◌, ◌==◌, leb, ltb, cond, nat_lt, nat_le, List, [], ◌∷◌, ◌++◌, length, take, drop, slice_index, slice_range, sym, refl, ap, ap₂, ◌∙◌, subst, arith, append_assoc, length-append, length-take, length-drop, take-append-drop, take_at, drop_at, add_assoc, suc-add, add-zero, zero-add, get_or-take, take-take, w16}
+use Rattle.std.proofs.Common.{◌≡◌, ◌⊎◌, inl, inr, ℕ, zero, suc, ◌+◌, ◌*◌, ◌^◌, ◌<◌, ◌≤◌, Bool, true, false, ◌&&◌, ◌||◌, ◌==◌, leb, ltb, cond, nat_lt, nat_le}
+use Rattle.std.proofs.Common.{List, [], ◌∷◌, ◌++◌, length, take, drop, slice_index, slice_range, sym, refl, ap, ap₂, ◌∙◌, subst, arith, append_assoc}
+use Rattle.std.proofs.Common.{length-append, length-take, length-drop, take-append-drop, take_at, drop_at, add_assoc, suc-add, add-zero, zero-add, get_or-take}
+use Rattle.std.proofs.Common.{take-take, w16}
 use Rattle.std.specs.List.{AllByRecursion}
 use Rattle.std.specs.Int.{from_be_bytes, to_be_bytes}
 use Rattle.std.proofs.lemmas.Nat.{from_be_bytes-to_be_bytes_2}
@@ -7,7 +10,8 @@ use Rattle.std.proofs.lemmas.List.{drop-take}
 use Rattle.std.proofs.lemmas.Bool.{cases_Bool, and_parts, leb-true, ltb-true, true≢false, and_from, le-leb, lt-ltb, eq-eqb}
 use Rattle.std.proofs.lemmas.Bool.Decides.{nat_tests}
 use Rattle.journal_laws.specs.Banks.{is_opened_gate}
-use Rattle.journal_laws.specs.Records.{index_len, gap, body, IsBody, is_good_record, Found, nothing_found, bad, behind, found_from, record_bytes, records_bytes, used}
+use Rattle.journal_laws.specs.Records.{index_len, gap, body, IsBody, is_good_record, Found, nothing_found, bad, behind, found_from, record_bytes, records_bytes}
+use Rattle.journal_laws.specs.Records.{used}
 
 -- ---- one record
 

@@ -17,7 +17,9 @@ use Rattle.gate_answers.specs.Answers.{answer_of, first_of, tests_to_get, param_
 use Rattle.gate_admin.specs.declared.view.LinkView.{LinkView}
 use Rattle.gate_admin.specs.declared.decision.Decision.{Decision}
 use Rattle.gate_admin.specs.declared.decision.Decision.TheVariants.{Ask}
-use Rattle.gate_admin.specs.Decide.{IsRecordableDecision, commits, unless_refused, far_end_of, far_end, tests_of_pipe, tests_to_open, tests_to_set_it, tests_to_create, tests_to_delete, tests_to_clear, opening, closing, setting, getting, creating, created, creation, ends_of, deleting, clearing, carried_out, decided}
+use Rattle.gate_admin.specs.Decide.{IsRecordableDecision, commits, unless_refused, far_end_of, far_end, tests_of_pipe, tests_to_open, tests_to_set_it}
+use Rattle.gate_admin.specs.Decide.{tests_to_create, tests_to_delete, tests_to_clear, opening, closing, setting, getting, creating, created, creation, ends_of}
+use Rattle.gate_admin.specs.Decide.{deleting, clearing, carried_out, decided}
 use Rattle.gate_admin.proofs.CreationLemmas.{AllFalse, all_false, creation-recordable}
 
 unless : (refusal : Option Response) (otherwise : Decision) → (refusal ≡ None → IsRecordableDecision otherwise)

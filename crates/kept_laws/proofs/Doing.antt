@@ -1,6 +1,7 @@
 -- What a node keeps while it does the deeds of a message.
 use Rattle.std.specs.List.{AllByRecursion, fold}
-use Rattle.std.proofs.Common.{eqb, eqb-true, ◌≡◌, ◌⊎◌, inl, inr, ℕ, ◌+◌, ◌-◌, ◌^◌, min, true, false, List, [], ◌∷◌, ◌++◌, length, sym, refl, ap, ◌∙◌, subst, arith, append_assoc, length-append}
+use Rattle.std.proofs.Common.{eqb, eqb-true, ◌≡◌, ◌⊎◌, inl, inr, ℕ, ◌+◌, ◌-◌, ◌^◌, min, true, false, List, [], ◌∷◌, ◌++◌, length, sym, refl, ap, ◌∙◌, subst}
+use Rattle.std.proofs.Common.{arith, append_assoc, length-append}
 use Rattle.std.specs.Prelude.{Option, Some, None}
 use Rattle.std.proofs.lemmas.Bool.{cases_Bool}
 use Rattle.swp_base.specs.InMemory.{Memory}
@@ -24,7 +25,8 @@ use Rattle.node_machine.specs.Parts.Deed.{Commits, Sends, SaysOk, Asks, Releases
 use Rattle.node_machine.specs.Controller.{asked_at}
 use Rattle.node_laws.specs.Waiting.{IsAllowedFor, MayWait, IsAllowedStill}
 use Rattle.kept_laws.proofs.Asking.{NoneNew, same_new, new_then, may_still, port_found}
-use Rattle.node_machine.specs.Carrying.{port_at, changed_if, plan_behind, noting, unless_cut, turn_at, notified, loses_power, keeps, commit, done, all_done, end_of_node}
+use Rattle.node_machine.specs.Carrying.{port_at, changed_if, plan_behind, noting, unless_cut, turn_at, notified, loses_power, keeps, commit, done, all_done}
+use Rattle.node_machine.specs.Carrying.{end_of_node}
 use Rattle.node_world.specs.NodeFilters.{tables_in, Book, with_command, book_in, commands_in}
 use Rattle.node_world.specs.NodeLegal.{IsAllowedBy, last_in}
 use Rattle.node_world.specs.NodeLegal.Last.{CutBehindCommand}
@@ -37,7 +39,8 @@ use Rattle.kept_laws.proofs.Planned.{planned_whole, after_planned-append}
 use Rattle.kept_laws.proofs.Commits.{planned_knows, planned_left, planned_used, commit_count}
 use Rattle.kept_laws.proofs.Books.{book_command, book_more, last_cut, closed_book, closed_command, finds_all, finds_less, would_at, told_append}
 use Rattle.registry.proofs.ValueLemmas.{AllByRecursion-append as all_append}
-use Rattle.kept_laws.proofs.Plainly.{hosts_map, waits_map, changed_host, changed_waits, runs_plainly, plainly_then, plainly_turn, plainly_desk, plainly_noting, plainly_core, plainly_notified, Plainly}
+use Rattle.kept_laws.proofs.Plainly.{hosts_map, waits_map, changed_host, changed_waits, runs_plainly, plainly_then, plainly_turn, plainly_desk, plainly_noting}
+use Rattle.kept_laws.proofs.Plainly.{plainly_core, plainly_notified, Plainly}
 
 pub uncut : (f : Work → Work) (w : Work) → w.cut ≡ false → unless_cut f w ≡ f w
 uncut f w on = rw on refl

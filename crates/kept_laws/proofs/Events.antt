@@ -1,5 +1,6 @@
 -- What all nodes keep over what happens to the world.
-use Rattle.std.proofs.Common.{◌+◌, min, ◌≡◌, ◌⊎◌, inl, inr, ℕ, ◌-◌, ◌^◌, ◌≤◌, Bool, true, false, cond, eqb, ◌&&◌, List, [], ◌∷◌, ◌++◌, length, map, sym, refl, ap, ap₂, ◌∙◌, subst, append-nil}
+use Rattle.std.proofs.Common.{◌+◌, min, ◌≡◌, ◌⊎◌, inl, inr, ℕ, ◌-◌, ◌^◌, ◌≤◌, Bool, true, false, cond, eqb, ◌&&◌, List, [], ◌∷◌, ◌++◌, length, map, sym, refl}
+use Rattle.std.proofs.Common.{ap, ap₂, ◌∙◌, subst, append-nil}
 use Rattle.std.specs.Prelude.{Option, Some, None, is_some}
 use Rattle.std.specs.List.{AllByRecursion}
 use Rattle.std.specs.Option.{option_map_or}
@@ -31,7 +32,9 @@ use Rattle.node_laws.specs.Waiting.{IsAllowedStill}
 use Rattle.kept_laws.proofs.Asking.{NoneNew, same_new, may_still, map_found, map_two}
 use Rattle.node_machine.specs.Node.{steps, begins_with, boot_writes, found, with_error}
 use Rattle.node_machine.specs.Node.NodeInput.{AtEnd}
-use Rattle.node_world.specs.World.{port_for, NodeWorld, Site, node_at, site_at, with_site, link_to, input_of, host_does, controller_cut, host_cut, loses_power_at, memory_at, new_memory, with_memory, with_node, links_of, boots, counts, frame_lost, sending, beginning, comes_at, activates, end_c, end_h}
+use Rattle.node_world.specs.World.{port_for, NodeWorld, Site, node_at, site_at, with_site, link_to, input_of, host_does, controller_cut, host_cut}
+use Rattle.node_world.specs.World.{loses_power_at, memory_at, new_memory, with_memory, with_node, links_of, boots, counts, frame_lost, sending, beginning}
+use Rattle.node_world.specs.World.{comes_at, activates, end_c, end_h}
 use Rattle.node_world.specs.NodeFilters.{Book, new_book, with_found, book_in, commands_in}
 use Rattle.kept_laws.specs.Books.{IsPlain, IsOf, AreToldBehind, WaitsFor}
 use Rattle.kept_laws.specs.Deeds.{IsOnOrder, MayBeDone}

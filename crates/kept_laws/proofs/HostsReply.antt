@@ -1,5 +1,6 @@
 -- A host may do what it does with a message.
-use Rattle.std.proofs.Common.{◌≡◌, ◌⊎◌, ℕ, ◌+◌, ◌≤◌, zero, suc, Bool, true, false, not, cond, eqb, leb, ◌&&◌, subst, List, [], ◌∷◌, ◌++◌, map, slice_get, add-one, eqb-true, sym, refl, ap, ◌∙◌, inl, inr}
+use Rattle.std.proofs.Common.{◌≡◌, ◌⊎◌, ℕ, ◌+◌, ◌≤◌, zero, suc, Bool, true, false, not, cond, eqb, leb, ◌&&◌, subst, List, [], ◌∷◌, ◌++◌, map, slice_get}
+use Rattle.std.proofs.Common.{add-one, eqb-true, sym, refl, ap, ◌∙◌, inl, inr}
 use Rattle.std.specs.Prelude.{Option, Some, None, is_some}
 use Rattle.std.specs.Option.{option_map_or}
 use Rattle.std.proofs.lemmas.Bool.{cond_both, cases_Bool, and_parts, and_from, le-leb, lt-ltb}
@@ -19,7 +20,8 @@ use Rattle.link_machine.specs.Machine.{Message}
 use Rattle.node_machine.specs.Parts.{Init, Core, Port, Deed}
 use Rattle.node_machine.specs.Parts.Deed.{Commits, Ends}
 use Rattle.node_machine.specs.Carrying.{end_of_node, finds_room}
-use Rattle.node_machine.specs.HostReplies.{accepts, is_open_gate, is_welcome, pipe_named_in, orders_of, is_same, learns, init_agreed, init_deeds, learned, ordered_deeds, host_deeds}
+use Rattle.node_machine.specs.HostReplies.{accepts, is_open_gate, is_welcome, pipe_named_in, orders_of, is_same, learns, init_agreed, init_deeds, learned}
+use Rattle.node_machine.specs.HostReplies.{ordered_deeds, host_deeds}
 use Rattle.kept_laws.specs.Deeds.{IsOnOrder, MayBeDone}
 use Rattle.node_laws.proofs.Walks.{ordered_holds, learns_holds, learned_holds, host_holds}
 use Rattle.kept_laws.proofs.Replies.{commit_may, link_may}

@@ -1,5 +1,6 @@
 -- What all nodes keep over the lines of a schedule.
-use Rattle.std.proofs.Common.{◌≡◌, ◌⊎◌, inl, inr, ℕ, zero, suc, ◌-◌, ◌^◌, ◌≤◌, Bool, true, false, cond, eqb, ◌&&◌, List, [], ◌∷◌, ◌++◌, length, sym, refl, ap, ◌∙◌, subst, arith, append_assoc}
+use Rattle.std.proofs.Common.{◌≡◌, ◌⊎◌, inl, inr, ℕ, zero, suc, ◌-◌, ◌^◌, ◌≤◌, Bool, true, false, cond, eqb, ◌&&◌, List, [], ◌∷◌, ◌++◌, length, sym, refl, ap}
+use Rattle.std.proofs.Common.{◌∙◌, subst, arith, append_assoc}
 use Rattle.std.specs.Prelude.{Option, Some, None, is_some, replicate, IsTrue}
 use Rattle.std.specs.List.{AllByRecursion, flat_map}
 use Rattle.std.proofs.lemmas.Grind.{flat_map-append}
@@ -21,7 +22,8 @@ use Rattle.node_machine.specs.Parts.{Running}
 use Rattle.node_machine.specs.Controller.{is_command_message}
 use Rattle.node_world.specs.World.{NodeWorld, Site, Happening, node_at, site_at, node_of, world_step}
 use Rattle.node_world.specs.World.Happening.{Boots, IsCut, Gives, Inits, Takes, Loses, Ticks, Resets, Activates, Arms}
-use Rattle.node_world.specs.Lines.{first_cause, if_off, machine_in, frames_at, has_order, if_waiting, if_not_sent, refusal_in, happens_by, happenings, Occurrence, can_happen, all_happen, LineOutcome, tables_told, goes_on, line_step}
+use Rattle.node_world.specs.Lines.{first_cause, if_off, machine_in, frames_at, has_order, if_waiting, if_not_sent, refusal_in, happens_by, happenings}
+use Rattle.node_world.specs.Lines.{Occurrence, can_happen, all_happen, LineOutcome, tables_told, goes_on, line_step}
 use Rattle.node_world.specs.Lines.LineOutcome.{WasRefused, ToldTables}
 use Rattle.node_world.specs.NodeHistories.{LineStep, steps_from, occurrences_of, entries_in}
 use Rattle.node_world.specs.NodeFilters.{commands_in, tables_in}

@@ -14,7 +14,8 @@ use Rattle.link_entries.specs.Entries.End.{Controller, Host}
 use Rattle.history.specs.Steps.{entries_for}
 use Rattle.node_machine.specs.Parts.{Running, Port, Work}
 use Rattle.node_machine.specs.Carrying.{port_at}
-use Rattle.node_world.specs.World.{NodeWorld, Site, site_at, with_site, link_to, ending_of, runs_on, near_end_in, arrival, wires_for, work_of, frames_noted, comes_to, controller_work, link_after_controller, controller_does, host_work, after_host, host_does}
+use Rattle.node_world.specs.World.{NodeWorld, Site, site_at, with_site, link_to, ending_of, runs_on, near_end_in, arrival, wires_for, work_of, frames_noted}
+use Rattle.node_world.specs.World.{comes_to, controller_work, link_after_controller, controller_does, host_work, after_host, host_does}
 use Rattle.kept_laws.specs.Books.{IsPlain, IsOf, AreToldBehind, WaitsFor}
 use Rattle.kept_laws.specs.Deeds.{IsOnOrder}
 use Rattle.kept_laws.specs.Hosts.{AreDifferent, AreHosts}

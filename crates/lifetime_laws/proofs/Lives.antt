@@ -11,18 +11,22 @@ use Rattle.link_laws.specs.Wire.{OnWire, with_frame, fits, is_act, sans, overflo
 use Rattle.link_laws.proofs.Marks.{Shows, Counts}
 use Rattle.link_laws.proofs.Joined.{joined_weaker}
 use Rattle.link_laws.proofs.Idle.{few_taken, idle_after, left, no_due}
-use Rattle.session_laws.specs.Sessions.{NumberedShdlc, ShdlcLink, shdlc_exchanged, shdlc_put, shdlc_put_all, shdlc_becomes, with_shdlc_ended, took_with, shdlc_happens_at_controller, shdlc_ticks_at_controller, shdlc_aged, ShdlcEndEvent, shdlc_all_at_controller, ShdlcLinkEvent, shdlc_happens, shdlc_after, start, ShdlcTurn, shdlc_turn, shdlc_turned}
+use Rattle.session_laws.specs.Sessions.{NumberedShdlc, ShdlcLink, shdlc_exchanged, shdlc_put, shdlc_put_all, shdlc_becomes, with_shdlc_ended, took_with}
+use Rattle.session_laws.specs.Sessions.{shdlc_happens_at_controller, shdlc_ticks_at_controller, shdlc_aged, ShdlcEndEvent, shdlc_all_at_controller}
+use Rattle.session_laws.specs.Sessions.{ShdlcLinkEvent, shdlc_happens, shdlc_after, start, ShdlcTurn, shdlc_turn, shdlc_turned}
 use Rattle.session_laws.specs.Sessions.ShdlcTurn.{Offer, SetReady}
 use Rattle.session_laws.specs.Sessions.ShdlcEndEvent.{Turns, Deliver}
 use Rattle.session_laws.specs.Sessions.ShdlcLinkEvent.{AtController, AtHost, Tick, TickWithout}
-use Rattle.session_laws.specs.Losses.{Losses, no_losses, noted_loss, noted_all, noted_out, came_up, noted_here, noted_turns, noted_tick, noted_aged, noted_event, losses_after}
+use Rattle.session_laws.specs.Losses.{Losses, no_losses, noted_loss, noted_all, noted_out, came_up, noted_here, noted_turns, noted_tick, noted_aged}
+use Rattle.session_laws.specs.Losses.{noted_event, losses_after}
 use Rattle.session_laws.proofs.Wire.{IsData, Young, young_later, young_older}
 use Rattle.session_laws.proofs.Steps.{not_rset, took_other}
 use Rattle.session_laws.proofs.Ties.{Meets, IsNew, new_meets, data_due, sends_noted, offer_up, few_turns}
 use Rattle.session_laws.proofs.Quiet.{began_data, few_room}
 use Rattle.lifetime_laws.specs.Lifetime.{IsAnew, BeginsAnew, OnlyTurns, IsPlainHere, IsPlainEvent, AllPlain, LosesNone, GoesOn}
 use Rattle.lifetime_laws.proofs.Timely.{Timely}
-use Rattle.lifetime_laws.proofs.Lasts.{Lasts, lasts_of, lasts_exchanged, lasts_put, lasts_ready, lasts_ticked, lasts_older, lasts_taken, lasts_fetched, no_probe, ticked-due}
+use Rattle.lifetime_laws.proofs.Lasts.{Lasts, lasts_of, lasts_exchanged, lasts_put, lasts_ready, lasts_ticked, lasts_older, lasts_taken, lasts_fetched}
+use Rattle.lifetime_laws.proofs.Lasts.{no_probe, ticked-due}
 
 -- ## Wires that show marks
 

@@ -1,6 +1,7 @@
 -- One sender, its receiver and the wires between them, where nothing was lost: the sender's timer never comes to ten while
 -- something is sent and unacknowledged, and at most one try is made. The near end is the sender.
-use Rattle.std.proofs.Common.{◌≡◌, ℕ, ◌+◌, ◌<◌, ◌≤◌, ◌==◌, Bool, true, false, cond, List, [], ◌∷◌, ◌++◌, ◌⊎◌, inl, inr, ⊎_elim, refl, sym, ◌∙◌, arith, length, length-append, max}
+use Rattle.std.proofs.Common.{◌≡◌, ℕ, ◌+◌, ◌<◌, ◌≤◌, ◌==◌, Bool, true, false, cond, List, [], ◌∷◌, ◌++◌, ◌⊎◌, inl, inr, ⊎_elim, refl, sym, ◌∙◌, arith, length}
+use Rattle.std.proofs.Common.{length-append, max}
 use Rattle.std.proofs.lemmas.Bool.{cases_eq, cases_lt, true≢false}
 use Rattle.swp_base.specs.declared.control_frames.Kind.{Kind}
 use Rattle.swp_base.specs.declared.control_frames.Control.{Control}
@@ -12,7 +13,10 @@ use Rattle.link_laws.proofs.Marks.{Shows, last_count, last_count_push_I, last_co
 use Rattle.link_laws.proofs.Whole.{AnswersOnly, push_not_empty}
 use Rattle.link_laws.proofs.Joined.{changed}
 use Rattle.session_laws.proofs.Wire.{Young}
-use Rattle.lifetime_laws.proofs.Evidence.{Answers, SentBy, AnswerBy, DueBy, RewindDue, RewindBy, NoSrej, OnlyAcks, course_of, sent_push, sent_new, answer_push, answer_new, sent_older, answer_older, sent_in_time, answer_in_time, rewind_push, rewind_new, no_srej_push, no_srej_rest, only_acks, course_from, course_push, course_push_S, course_shows, last_answers, rewind_answers, rewind_due_answers, due_answers, due_push, rewind_due_push}
+use Rattle.lifetime_laws.proofs.Evidence.{Answers, SentBy, AnswerBy, DueBy, RewindDue, RewindBy, NoSrej, OnlyAcks, course_of, sent_push, sent_new, answer_push}
+use Rattle.lifetime_laws.proofs.Evidence.{answer_new, sent_older, answer_older, sent_in_time, answer_in_time, rewind_push, rewind_new, no_srej_push}
+use Rattle.lifetime_laws.proofs.Evidence.{no_srej_rest, only_acks, course_from, course_push, course_push_S, course_shows, last_answers, rewind_answers}
+use Rattle.lifetime_laws.proofs.Evidence.{rewind_due_answers, due_answers, due_push, rewind_due_push}
 
 -- one of three ways, each of which is kept
 each : {A B C D E F : Type 0} → A ⊎ (B ⊎ C) → (A → D) → (B → E) → (C → F) → D ⊎ (E ⊎ F)

@@ -9,7 +9,8 @@ use Rattle.block_pool.specs.Slots.{blocks_for}
 use Rattle.block_pool.specs.Owners.{owner_at, with_used, new_owners}
 use Rattle.block_pool.specs.Pool.{PoolState, IsNew, quota_of, used_of, IsLive, IsApart, chain_bytes, Gives, KeepsOthers}
 use Rattle.block_pool.specs.Holdings.{IsOwnChain as IsChainOf, OwnsAll, LiesApart}
-use Rattle.block_pool.proofs.HoldingLemmas.{apart_by_owner, apart_turned, all_mapped, all_joined, kept_each, lies_apart_by_owner, used-with_used, quota-with_used, other-with_used, length-with_used}
+use Rattle.block_pool.proofs.HoldingLemmas.{apart_by_owner, apart_turned, all_mapped, all_joined, kept_each, lies_apart_by_owner, used-with_used}
+use Rattle.block_pool.proofs.HoldingLemmas.{quota-with_used, other-with_used, length-with_used}
 use Rattle.hcp_packet.specs.Packets.{AreSendable, fragments_of}
 use Rattle.hcp_chain.specs.declared.joiner.Open.{Open}
 use Rattle.hcp_chain.specs.Holding.{IsOwnOpen, AreApart, HoldsChains, held_blocks, messages_in as messages_of, IsApartFrom}

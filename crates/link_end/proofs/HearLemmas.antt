@@ -1,5 +1,6 @@
 -- What a frame of SHDLC does to a link end that is open.
-use Rattle.std.proofs.Common.{◌≡◌, ℕ, zero, suc, ◌+◌, ◌-◌, ◌≤◌, ◌⊎◌, inl, inr, Bool, true, false, List, [], ◌∷◌, ◌++◌, length, drop, refl, sym, ap, ◌∙◌, subst, arith, length-append, length-drop}
+use Rattle.std.proofs.Common.{◌≡◌, ℕ, zero, suc, ◌+◌, ◌-◌, ◌≤◌, ◌⊎◌, inl, inr, Bool, true, false, List, [], ◌∷◌, ◌++◌, length, drop, refl, sym, ap, ◌∙◌, subst}
+use Rattle.std.proofs.Common.{arith, length-append, length-drop}
 use Rattle.std.specs.Prelude.{Option, Some, None, is_some, not, ◌&&◌, ◌==◌, if◌then◌else◌, IsTrue, IfSome}
 use Rattle.std.specs.Option.{option_to_list}
 use Rattle.std.proofs.lemmas.List.{append-nil, drop-drop}
@@ -29,7 +30,8 @@ use Rattle.block_pool.specs.Owners.{owner_at}
 use Rattle.hcp_chain.specs.declared.joiner.Open.{Open}
 use Rattle.hcp_chain.specs.Holding.{held_blocks, messages_in as messages_of}
 use Rattle.link_messages.specs.declared.inbox.Got.{Got}
-use Rattle.link_messages.specs.Incoming.{got_chains, chains_in, messages_under_way, came_whole, InboxLiesIn, IsInboxReady as InboxIsReady, InboxLeavesOthers as InboxLeaves}
+use Rattle.link_messages.specs.Incoming.{got_chains, chains_in, messages_under_way, came_whole, InboxLiesIn, IsInboxReady as InboxIsReady}
+use Rattle.link_messages.specs.Incoming.{InboxLeavesOthers as InboxLeaves}
 use Rattle.link_messages.proofs.OutgoingLemmas.{aside-with_used}
 use Rattle.link_messages.proofs.Among.{whole-more, whole-length}
 use Rattle.link_end.specs.Ends.{OutboxStandsFor, Halfway, EndStandsFor, MayTake, LeavesBoxes}

@@ -1,5 +1,6 @@
 -- What a node asks of a link end: resets, messages fetched and given, and frames fetched.
-use Rattle.std.proofs.Common.{◌≡◌, ℕ, ◌+◌, ◌-◌, ◌<◌, ◌≤◌, Bool, true, false, List, [], ◌∷◌, ◌++◌, length, map, drop, refl, sym, ap, ◌∙◌, subst, arith, length-append}
+use Rattle.std.proofs.Common.{◌≡◌, ℕ, ◌+◌, ◌-◌, ◌<◌, ◌≤◌, Bool, true, false, List, [], ◌∷◌, ◌++◌, length, map, drop, refl, sym, ap, ◌∙◌, subst, arith}
+use Rattle.std.proofs.Common.{length-append}
 use Rattle.std.specs.Prelude.{Option, Some, None, IfSome, unwrap_or, not, ◌==◌, nat_lt}
 use Rattle.std.proofs.lemmas.List.{append-nil, drop-append-le}
 use Rattle.std.proofs.lemmas.List.Sums.{sum_by-cons}
@@ -24,7 +25,8 @@ use Rattle.shdlc_core.proofs.Offering.{stands_reset, stands_idle, stands_fetched
 use Rattle.hcp_packet.specs.Packets.{packets_of, packets_in, packet_bytes, fragments_of, IsSendable}
 use Rattle.hcp_chain.specs.Joining.{are_taken, open_after}
 use Rattle.hcp_chain.specs.Holding.{held_blocks, HoldsChains, messages_in as messages_of}
-use Rattle.link_machine.specs.Machine.{LinkEnd as Machine, ActDue as Due, Message, Refused, moved, after_input, is_open, window_of, frame_fetched, next_frame, nearer as due_nearer, need_of_all, spare, in_use, whole_among, give_refusal, given, turn, unless, need}
+use Rattle.link_machine.specs.Machine.{LinkEnd as Machine, ActDue as Due, Message, Refused, moved, after_input, is_open, window_of, frame_fetched, next_frame}
+use Rattle.link_machine.specs.Machine.{nearer as due_nearer, need_of_all, spare, in_use, whole_among, give_refusal, given, turn, unless, need}
 use Rattle.link_machine.specs.Machine.Refused.{TooLong, Full}
 use Rattle.link_machine.specs.Machine.Turn.{Give}
 use Rattle.link_machine.specs.Machine.LinkInput.{Reset}

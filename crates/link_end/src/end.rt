@@ -29,12 +29,14 @@ pub struct End {
 }
 
 impl End {
-    ghost use Rattle.std.specs.Prelude.{◌≡◌, ◌≢◌, ℕ, ◌+◌, ◌-◌, ◌<◌, ◌≤◌, [], map, length, true, false, None, Some, IfOk, IfErr, IfSome, OnOk, OnErr, is_some, option_map, if◌then◌else◌};
+    ghost use Rattle.std.specs.Prelude.{◌≡◌, ◌≢◌, ℕ, ◌+◌, ◌-◌, ◌<◌, ◌≤◌, [], map, length, true, false, None, Some, IfOk, IfErr, IfSome, OnOk, OnErr, is_some};
+    ghost use Rattle.std.specs.Prelude.{option_map, if◌then◌else◌};
     ghost use Rattle.shdlc_core.specs.Offering.{StandsBefore};
     ghost use Rattle.shdlc_core.specs.Machine.{stopped, ticked, tick_answer};
     ghost use Rattle.block_pool.specs.Pool.{PoolState, used_of, chain_bytes};
     ghost use Rattle.hcp_packet.specs.Packets.{IsSendable};
-    ghost use Rattle.link_machine.specs.Machine.{LinkEnd as Machine, moved, put_down, if_up, with_act, activated, heard, report, after_input, next_frame, oldest, new_link_end, in_front as due_in_front};
+    ghost use Rattle.link_machine.specs.Machine.{LinkEnd as Machine, moved, put_down, if_up, with_act, activated, heard, report, after_input, next_frame};
+    ghost use Rattle.link_machine.specs.Machine.{oldest, new_link_end, in_front as due_in_front};
     ghost use Rattle.link_machine.specs.Machine.LinkInput.{Take, TakeUnknown, Tick, Reset, Start, Stop, FromNode, Fetch};
     ghost use Rattle.link_machine.specs.Machine.Turn.{Give, Hold, FetchMessage};
     ghost use Rattle.link_end.specs.Roles.{role_of, new_role, MayStart};
@@ -489,7 +491,8 @@ impl End {
     pub fn send(&mut self, pool: &mut Pool, pipe: u8, message: &[u8]) -> Result<(), SendRefused>
         requires stands { (m : Machine) × EndStandsFor self.old pool.old m }
         requires sendable { IsSendable (pipe, message.now) }
-        ensures stands { (m : Machine) → EndStandsFor self.old pool.old m → EndStandsFor self.new pool.new (after_input m (FromNode (Give (pipe, message.now)))) }
+        ensures stands { (m : Machine) → EndStandsFor self.old pool.old m
+            → EndStandsFor self.new pool.new (after_input m (FromNode (Give (pipe, message.now)))) }
         ensures answer { (m : Machine) → EndStandsFor self.old pool.old m → result ≡ give_told m (pipe, message.now) }
         ensures refused { OnErr result ((pool.new ≡ pool.old) × (self.new ≡ self.old)) }
         ensures elsewhere { EndLeavesOthers pool.old pool.new self.old self.new }
@@ -522,7 +525,8 @@ impl End {
         ensures answer { (m : Machine) → EndStandsFor self.old pool.old m → result ≡ pass_told m (pipe, chain_bytes pool.old chain) chain }
         ensures refused { OnErr result ((pool.new ≡ pool.old) × (self.new ≡ self.old)) }
         ensures back { IfErr result (λ e. e.0 ≡ chain) }
-        ensures elsewhere { OnOk result (LeavesOthersBut pool.old pool.new self.old.outbox.owner chain self.old.outbox.queue.items self.new.outbox.queue.items) }
+        ensures elsewhere { OnOk result
+            (LeavesOthersBut pool.old pool.new self.old.outbox.owner chain self.old.outbox.queue.items self.new.outbox.queue.items) }
         ensures inbox { self.new.inbox ≡ self.old.inbox }
         ensures owner { self.new.outbox.owner ≡ self.old.outbox.owner }
     {
@@ -549,7 +553,8 @@ impl End {
         ensures answer { (m : Machine) → EndStandsFor self.old pool.old m → result ≡ pass_told m (pipe, chain_bytes pool.old chain) chain }
         ensures refused { OnErr result ((pool.new ≡ pool.old) × (self.new ≡ self.old)) }
         ensures back { IfErr result (λ e. e.0 ≡ chain) }
-        ensures elsewhere { OnOk result (LeavesOthersBut pool.old pool.new self.old.outbox.owner chain self.old.outbox.queue.items self.new.outbox.queue.items) }
+        ensures elsewhere { OnOk result
+            (LeavesOthersBut pool.old pool.new self.old.outbox.owner chain self.old.outbox.queue.items self.new.outbox.queue.items) }
         ensures inbox { self.new.inbox ≡ self.old.inbox }
         ensures owner { self.new.outbox.owner ≡ self.old.outbox.owner }
     {
@@ -571,7 +576,8 @@ impl End {
         requires stands { (m : Machine) × EndStandsFor self.old pool.old m }
         requires up { self.old.shdlc.phase ≡ LinkState.Up }
         requires sendable { IsSendable (pipe, message.now) }
-        ensures stands { (m : Machine) → EndStandsFor self.old pool.old m → EndStandsFor self.new pool.new (after_input m (FromNode (Give (pipe, message.now)))) }
+        ensures stands { (m : Machine) → EndStandsFor self.old pool.old m
+            → EndStandsFor self.new pool.new (after_input m (FromNode (Give (pipe, message.now)))) }
         ensures answer { (m : Machine) → EndStandsFor self.old pool.old m → result ≡ give_told m (pipe, message.now) }
         ensures refused { OnErr result ((pool.new ≡ pool.old) × (self.new ≡ self.old)) }
         ensures elsewhere { EndLeavesOthers pool.old pool.new self.old self.new }

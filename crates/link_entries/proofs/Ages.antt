@@ -9,7 +9,8 @@ use Rattle.session_laws.proofs.Wire.{Young, young_push, young_later}
 use Rattle.session_laws.proofs.Steps.{aged-fresh}
 use Rattle.link_machine.specs.Machine.{LinkEnd, Turn, turned, after_input, ended_by, frames_out}
 use Rattle.link_machine.specs.Machine.LinkInput.{Take, Reset, Start, Stop, Tick as HasTick}
-use Rattle.message_link.specs.Links.{Link, IsStart, Ending, Comes, EndEvent, LinkEvent, exchanged, put, put_all, with_ended, silent, finished, steps_at_controller, happens_at_controller, happens, ticks_at_controller, aged, all_at_controller, after_link_events}
+use Rattle.message_link.specs.Links.{Link, IsStart, Ending, Comes, EndEvent, LinkEvent, exchanged, put, put_all, with_ended, silent, finished}
+use Rattle.message_link.specs.Links.{steps_at_controller, happens_at_controller, happens, ticks_at_controller, aged, all_at_controller, after_link_events}
 use Rattle.message_link.specs.Links.IsStart.{IsBare, IsLine}
 use Rattle.message_link.specs.Links.Ending.{GoesOut, CutOff}
 use Rattle.message_link.specs.Links.Loss.{TooOld}

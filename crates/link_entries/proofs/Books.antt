@@ -1,5 +1,6 @@
 -- What the entries of an end say of its sessions, and what each part of a step adds.
-use Rattle.std.proofs.Common.{◌≡◌, ℕ, ◌≤◌, ◌<◌, ◌-◌, Bool, true, false, cond, List, [], ◌∷◌, ◌++◌, length, map, drop, Option, Some, None, refl, ap, sym, ◌∙◌, arith, append-nil, append_assoc}
+use Rattle.std.proofs.Common.{◌≡◌, ℕ, ◌≤◌, ◌<◌, ◌-◌, Bool, true, false, cond, List, [], ◌∷◌, ◌++◌, length, map, drop, Option, Some, None, refl, ap, sym, ◌∙◌}
+use Rattle.std.proofs.Common.{arith, append-nil, append_assoc}
 use Rattle.std.specs.Prelude.{◌+◌, ◌==◌, ◌&&◌, nat_lt, option_to_list, max, not}
 use Rattle.std.proofs.lemmas.Bool.{true≢false, ltb-true, ltb-false, eqb-true}
 use Rattle.std.proofs.lemmas.Grind.{common_steps}
@@ -11,7 +12,8 @@ use Rattle.hcp_packet.specs.Packets.{packets_in, packet_of, good_of, is_good, Is
 use Rattle.hcp_packet.specs.declared.Packet.{Packet}
 use Rattle.hcp_chain.specs.Joining.{given_by, join_step, message_in}
 use Rattle.link_laws.proofs.Joined.{ready_cases}
-use Rattle.link_machine.specs.Machine.{Message, LinkEnd, Refused, Turn, Report, turn, given, give_refusal, aside_refusal, messages_got, whole_among, whole_acked, news}
+use Rattle.link_machine.specs.Machine.{Message, LinkEnd, Refused, Turn, Report, turn, given, give_refusal, aside_refusal, messages_got, whole_among}
+use Rattle.link_machine.specs.Machine.{whole_acked, news}
 use Rattle.link_machine.specs.Machine.Turn.{Give, Hold, FetchMessage, SetAside, Release}
 use Rattle.link_machine.proofs.Shifts.{Shift, IsNotUp}
 use Rattle.link_machine.proofs.Shifts.Shift.{Stays, Ends, Renews, Begins, Rests}

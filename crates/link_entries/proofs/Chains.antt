@@ -10,11 +10,14 @@ use Rattle.shdlc_core.specs.declared.answers.LinkState.{LinkState}
 use Rattle.shdlc_core.specs.declared.answers.LinkState.TheVariants.{Down as IsDown, Waiting as IsWaitingNow, Up as IsUpNow}
 use Rattle.shdlc_core.specs.Machine.{EndState, tick_answer, runs_timer}
 use Rattle.session_laws.specs.Sessions.{OnWire, took_with}
-use Rattle.link_machine.specs.Machine.{Message, LinkEnd, Role, Refused, LinkInput, Turn, Report, report, turn, turned, give_refusal, is_open, reset_refusal, if_up, after_input, ended_by, whole_acked, frames_out}
+use Rattle.link_machine.specs.Machine.{Message, LinkEnd, Role, Refused, LinkInput, Turn, Report, report, turn, turned, give_refusal, is_open, reset_refusal}
+use Rattle.link_machine.specs.Machine.{if_up, after_input, ended_by, whole_acked, frames_out}
 use Rattle.link_machine.specs.Machine.LinkInput.{Take, Tick as HasTick, Reset, Start, Stop}
 use Rattle.link_machine.specs.Machine.Role.{Bare, Clf, Uicc}
 use Rattle.link_machine.specs.Machine.Turn.{Give, Hold, FetchMessage, SetAside, Release}
-use Rattle.message_link.specs.Links.{NumberedEnd, Link, IsStart, Ending, Comes, Loss, EndEvent, Node, LinkEvent, exchanged, number_of, put, with_ended, silent, steps_at_controller, happens_at_controller, happens, all_at_controller, ticks_at_controller, aged, AreOwn, IsOwn, IsEvent, AllAllowed}
+use Rattle.message_link.specs.Links.{NumberedEnd, Link, IsStart, Ending, Comes, Loss, EndEvent, Node, LinkEvent, exchanged, number_of, put, with_ended, silent}
+use Rattle.message_link.specs.Links.{steps_at_controller, happens_at_controller, happens, all_at_controller, ticks_at_controller, aged, AreOwn, IsOwn, IsEvent}
+use Rattle.message_link.specs.Links.{AllAllowed}
 use Rattle.message_link.specs.Links.Ending.{GoesOut, CutOff}
 use Rattle.message_link.specs.Links.Loss.{TooMany}
 use Rattle.message_link.specs.Links.Comes.{NextFrame, AsksReset, Starts, Stops, NoInput}
@@ -24,7 +27,9 @@ use Rattle.message_link.specs.Projection.{core_of, core_event}
 use Rattle.message_link.proofs.Steps.{FromHost, core_first, no_fault_first}
 use Rattle.message_link.proofs.Runs.{Good, Reached, event_step, reached_more, from_host, from_controller}
 use Rattle.message_link.proofs.Whole.{not_chain, act_not_chain, start_good, start_reached}
-use Rattle.link_entries.specs.Entries.{End, Entry, far, if_so, told, told_of, turn_entry, turn_entries, sent_unless, first_lost, wire_with, pushed_out, put_entries, puts_entries, ending_entries, rest_entries, left_after, taken_entries, step_entries, here_entries, entries_of_events, aged_entries, tick_entries, event_entries, entries, first_entries, trace}
+use Rattle.link_entries.specs.Entries.{End, Entry, far, if_so, told, told_of, turn_entry, turn_entries, sent_unless, first_lost, wire_with, pushed_out}
+use Rattle.link_entries.specs.Entries.{put_entries, puts_entries, ending_entries, rest_entries, left_after, taken_entries, step_entries, here_entries}
+use Rattle.link_entries.specs.Entries.{entries_of_events, aged_entries, tick_entries, event_entries, entries, first_entries, trace}
 use Rattle.link_entries.specs.Entries.End.{Controller, Host}
 use Rattle.link_entries.specs.Entries.Entry.{Up, Down, Active, GaveUp, Acked, Got}
 use Rattle.link_entries.specs.Order.{is_noted_chain_fault}

@@ -1,5 +1,6 @@
 -- Each step keeps what is known of the sessions of both ends.
-use Rattle.std.proofs.Common.{◌≡◌, ℕ, Bool, true, false, cond, List, [], ◌∷◌, ◌++◌, map, Option, Some, None, ◌⊎◌, inl, inr, refl, ap, sym, subst, ◌∙◌, append_assoc, append-nil}
+use Rattle.std.proofs.Common.{◌≡◌, ℕ, Bool, true, false, cond, List, [], ◌∷◌, ◌++◌, map, Option, Some, None, ◌⊎◌, inl, inr, refl, ap, sym, subst, ◌∙◌}
+use Rattle.std.proofs.Common.{append_assoc, append-nil}
 use Rattle.std.specs.Prelude.{nat_lt, is_some, max, option_to_list}
 use Rattle.std.proofs.lemmas.Bool.{true≢false}
 use Rattle.swp_base.specs.declared.link_terms.Cause.TheVariants.{Asked}
@@ -7,13 +8,15 @@ use Rattle.shdlc_core.specs.declared.answers.LinkState.TheVariants.{Up as IsUpNo
 use Rattle.shdlc_core.specs.Machine.{EndState, most_frames}
 use Rattle.session_laws.specs.Sessions.{OnWire, took_with}
 use Rattle.session_laws.specs.Losses.{Losses, no_losses, noted_all, noted_turns, came_up, is_up_with}
-use Rattle.link_machine.specs.Machine.{LinkEnd, Role, Refused, LinkInput, Turn, report, turned, reset_refusal, reset_by, window_of, if_up, took, after_input, ended_by, began_by, whole_acked, frames_out, new_link_end, renewed}
+use Rattle.link_machine.specs.Machine.{LinkEnd, Role, Refused, LinkInput, Turn, report, turned, reset_refusal, reset_by, window_of, if_up, took, after_input}
+use Rattle.link_machine.specs.Machine.{ended_by, began_by, whole_acked, frames_out, new_link_end, renewed}
 use Rattle.link_machine.specs.Machine.Role.{Bare, Clf, Uicc}
 use Rattle.link_machine.specs.Machine.LinkInput.{Take, Reset, Start, Stop}
 use Rattle.link_machine.proofs.Shifts.{Shift, IsNotUp}
 use Rattle.link_machine.proofs.Shifts.Shift.{Stays, Ends, Renews, Begins, Rests as ShiftRests}
 use Rattle.link_machine.proofs.Reports.{Reports, take_so, reset_so}
-use Rattle.message_link.specs.Links.{NumberedEnd, Link, Ending, Comes, number_of, put_all, with_ended, finished, has_taken, steps_at_controller, AreSendableTurns, CanEnd, IsNode, IsOwn}
+use Rattle.message_link.specs.Links.{NumberedEnd, Link, Ending, Comes, number_of, put_all, with_ended, finished, has_taken, steps_at_controller}
+use Rattle.message_link.specs.Links.{AreSendableTurns, CanEnd, IsNode, IsOwn}
 use Rattle.message_link.specs.Links.Ending.{GoesOut, CutOff}
 use Rattle.message_link.specs.Links.Comes.{NextFrame, AsksReset, Starts, Stops, NoInput}
 use Rattle.message_link.specs.Links.EndEvent.{Step}
@@ -23,7 +26,8 @@ use Rattle.message_link.proofs.Project.{Tells}
 use Rattle.link_entries.specs.Entries.{End, Entry, if_so, told_of, left_after, rest_entries, taken_entries, step_entries}
 use Rattle.link_entries.specs.Entries.Entry.{Up, Down, Active, GaveUp, Acked, Got, Took}
 use Rattle.link_entries.proofs.Stepping.{puts_number, host_finished, CanFinish}
-use Rattle.link_entries.proofs.Noting.{Near, Frame, turned_same, IsPlainInput, plain_ended, plain_silent, idle_finishes, reset_finishes, take_finishes, start_restarts, stop_restarts, restart_finishes}
+use Rattle.link_entries.proofs.Noting.{Near, Frame, turned_same, IsPlainInput, plain_ended, plain_silent, idle_finishes, reset_finishes, take_finishes}
+use Rattle.link_entries.proofs.Noting.{start_restarts, stop_restarts, restart_finishes}
 use Rattle.link_entries.proofs.Running.{Before, frame_facts, near_of}
 use Rattle.link_entries.proofs.Losing.{bad, Disturbed, disturbed_right, Grows}
 use Rattle.link_entries.proofs.Disturbing.{idle_noted, reset_noted}

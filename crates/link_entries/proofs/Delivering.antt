@@ -3,12 +3,17 @@ use Rattle.std.proofs.Common.{◌≡◌, ℕ, Bool, true, false, List, [], ◌�
 use Rattle.std.proofs.lemmas.Bool.{true≢false}
 use Rattle.shdlc_core.specs.declared.answers.LinkState.TheVariants.{Up as IsUpNow}
 use Rattle.hcp_packet.specs.Packets.{good_of}
-use Rattle.session_laws.specs.Sessions.{ShdlcLink as CoreLink, ShdlcTurn as CoreTurn, ShdlcEndEvent as CoreEndEvent, ShdlcLinkEvent as CoreLinkEvent, shdlc_exchanged as core_exchanged, shdlc_happens as core_happens, shdlc_all_at_controller as core_all_here, shdlc_happens_at_controller as core_happens_here, ticks_or_cut as core_ticks_or_cut, ticks_if_waiting as core_ticks_if_waiting, shdlc_aged as core_aged, shdlc_after as core_after}
+use Rattle.session_laws.specs.Sessions.{ShdlcLink as CoreLink, ShdlcTurn as CoreTurn, ShdlcEndEvent as CoreEndEvent, ShdlcLinkEvent as CoreLinkEvent}
+use Rattle.session_laws.specs.Sessions.{shdlc_exchanged as core_exchanged, shdlc_happens as core_happens, shdlc_all_at_controller as core_all_here}
+use Rattle.session_laws.specs.Sessions.{shdlc_happens_at_controller as core_happens_here, ticks_or_cut as core_ticks_or_cut}
+use Rattle.session_laws.specs.Sessions.{ticks_if_waiting as core_ticks_if_waiting, shdlc_aged as core_aged, shdlc_after as core_after}
 use Rattle.session_laws.specs.Sessions.ShdlcLinkEvent.{AtController as CoreAtController, AtHost as CoreAtHost, Tick as CoreTick, TickWithout as CoreTickWithout}
 use Rattle.session_laws.specs.Losses.{Losses, no_losses, sans, noted_here, noted_turns, noted_tick, noted_if_waiting, noted_aged, noted_event, losses_after}
 use Rattle.session_laws.proofs.Steps.{safe_aged}
 use Rattle.link_machine.proofs.Runs.{Sound}
-use Rattle.message_link.specs.Links.{Talk, NumberedEnd, Link, IsStart, EndEvent, LinkEvent, exchanged, number_of, happens_at_controller, happens, all_at_controller, ticks_at_controller, aged, after_link_events, talk_now, talk_of, CanStart, IsUicc, IsNode, AreOwn, IsEvent, AllAllowed}
+use Rattle.message_link.specs.Links.{Talk, NumberedEnd, Link, IsStart, EndEvent, LinkEvent, exchanged, number_of, happens_at_controller, happens}
+use Rattle.message_link.specs.Links.{all_at_controller, ticks_at_controller, aged, after_link_events, talk_now, talk_of, CanStart, IsUicc, IsNode, AreOwn}
+use Rattle.message_link.specs.Links.{IsEvent, AllAllowed}
 use Rattle.message_link.specs.Links.IsStart.{IsBare, IsLine}
 use Rattle.message_link.specs.Links.Comes.{Starts}
 use Rattle.message_link.specs.Links.EndEvent.{Step}
@@ -19,13 +24,15 @@ use Rattle.message_link.proofs.Finishing.{step_tick, all_here-append}
 use Rattle.message_link.proofs.Runs.{Good, Reached, safe_reached, rests_of, reached_more, event_step, all_step, started_clf, clf_starts, can_start}
 use Rattle.message_link.proofs.Quiet.{all_here as delivered_here, all_there as delivered_there}
 use Rattle.message_link.proofs.Whole.{one_number}
-use Rattle.link_entries.specs.Entries.{End, Entry, far, here_entries, entries_of_events, aged_entries, tick_entries, event_entries, entries, first_entries, trace}
+use Rattle.link_entries.specs.Entries.{End, Entry, far, here_entries, entries_of_events, aged_entries, tick_entries, event_entries, entries, first_entries}
+use Rattle.link_entries.specs.Entries.{trace}
 use Rattle.link_entries.specs.Entries.End.{Controller, Host}
 use Rattle.link_entries.specs.Entries.Entry.{Tick}
 use Rattle.link_entries.specs.Quiet.{IsQuietSince, IsDeliveredOnLink}
 use Rattle.link_entries.specs.Sessions.{IsRead}
 use Rattle.link_entries.proofs.Books.{up_talk}
-use Rattle.link_entries.proofs.Running.{before_here, before_there, host_here, sound_here, Sounds, read_here, read_there, IsInTick, near_in_tick, own_step, own_in_tick, after_tick, without_tick, host_in_tick, IsUnderWay, goes_on, start_under_way, all_in_tick}
+use Rattle.link_entries.proofs.Running.{before_here, before_there, host_here, sound_here, Sounds, read_here, read_there, IsInTick, near_in_tick, own_step}
+use Rattle.link_entries.proofs.Running.{own_in_tick, after_tick, without_tick, host_in_tick, IsUnderWay, goes_on, start_under_way, all_in_tick}
 use Rattle.link_entries.proofs.Losing.{bad}
 use Rattle.link_entries.proofs.Lasting.{noted-append, same_number}
 use Rattle.link_entries.proofs.Completing.{Both}

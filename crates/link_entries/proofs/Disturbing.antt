@@ -11,17 +11,21 @@ use Rattle.swp_act.specs.declared.ActEvent.TheVariants.{Take as ActTake}
 use Rattle.shdlc_core.specs.declared.answers.LinkState.{LinkState}
 use Rattle.shdlc_core.specs.declared.answers.LinkState.TheVariants.{Down as IsDown, Waiting as IsWaitingNow, Up as IsUpNow}
 use Rattle.shdlc_core.specs.Machine.{EndState, taken, take_answer, reset_with}
-use Rattle.session_laws.specs.Sessions.{OnWire, ShdlcLink as CoreLink, ShdlcTurn as CoreTurn, shdlc_turned as core_turned, with_shdlc_ended as core_with_ended, is_rset, is_up, took_with, shdlc_happens_at_controller as core_happens_here}
-use Rattle.session_laws.specs.Sessions.ShdlcEndEvent.{Turns as CoreTurns, Deliver as CoreDeliver, Ignore as CoreIgnore, Acts as CoreActs, Lose as CoreLose, Reset as CoreReset}
+use Rattle.session_laws.specs.Sessions.{OnWire, ShdlcLink as CoreLink, ShdlcTurn as CoreTurn, shdlc_turned as core_turned, with_shdlc_ended as core_with_ended}
+use Rattle.session_laws.specs.Sessions.{is_rset, is_up, took_with, shdlc_happens_at_controller as core_happens_here}
+use Rattle.session_laws.specs.Sessions.ShdlcEndEvent.{Turns as CoreTurns, Deliver as CoreDeliver, Ignore as CoreIgnore, Acts as CoreActs, Lose as CoreLose}
+use Rattle.session_laws.specs.Sessions.ShdlcEndEvent.{Reset as CoreReset}
 use Rattle.session_laws.specs.Losses.{Losses, is_act, counts_first, noted_all, noted_out, noted_here, noted_turns, came_up}
-use Rattle.link_machine.specs.Machine.{LinkEnd, Turn, turned, is_open, role_after, act_answer, activated, reset_refusal, reset_by, if_up, took, ended_by, began_by, frames_out}
+use Rattle.link_machine.specs.Machine.{LinkEnd, Turn, turned, is_open, role_after, act_answer, activated, reset_refusal, reset_by, if_up, took, ended_by}
+use Rattle.link_machine.specs.Machine.{began_by, frames_out}
 use Rattle.link_machine.specs.Machine.LinkInput.{Take}
 use Rattle.message_link.specs.Links.{Link, with_ended, AreSendableTurns}
 use Rattle.message_link.specs.Projection.{core_of, core_turns, core_take}
 use Rattle.message_link.proofs.Project.{Now, Tells, turns_mid, with_ended-core, mid_moved}
 use Rattle.link_machine.proofs.Runs.{opened}
 use Rattle.link_machine.proofs.Reports.{shdlc_is as shdlc_moved}
-use Rattle.message_link.proofs.Steps.{ComesFirst, Heard, is_shdlc, heard_end, heard_is, counted_is, mid_counted, took_open, took_closed, no_fault_first, polite, role_closes, stays_down, act_mid}
+use Rattle.message_link.proofs.Steps.{ComesFirst, Heard, is_shdlc, heard_end, heard_is, counted_is, mid_counted, took_open, took_closed, no_fault_first, polite}
+use Rattle.message_link.proofs.Steps.{role_closes, stays_down, act_mid}
 use Rattle.message_link.proofs.Finishing.{reset_tells, reset_keeps}
 use Rattle.link_entries.specs.Entries.{left_after}
 use Rattle.link_entries.proofs.Losing.{out_noted}

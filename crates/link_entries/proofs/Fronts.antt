@@ -1,5 +1,6 @@
 -- Fronts of what is noted of a step: of one end alone, and never more acknowledged than sent.
-use Rattle.std.proofs.Common.{◌≡◌, ℕ, ◌≤◌, Bool, true, false, List, [], ◌∷◌, ◌++◌, length, map, Option, Some, None, ◌⊎◌, inl, inr, refl, ap, sym, subst, ◌∙◌, arith, append_assoc, length-append}
+use Rattle.std.proofs.Common.{◌≡◌, ℕ, ◌≤◌, Bool, true, false, List, [], ◌∷◌, ◌++◌, length, map, Option, Some, None, ◌⊎◌, inl, inr, refl, ap, sym, subst, ◌∙◌}
+use Rattle.std.proofs.Common.{arith, append_assoc, length-append}
 use Rattle.std.specs.Prelude.{max, nat_lt, option_to_list}
 use Rattle.hcp_packet.specs.Packets.{IsFrontOf}
 use Rattle.link_machine.specs.Machine.{Message, LinkEnd, Refused, Turn, Report, turn, give_refusal}

@@ -2,7 +2,8 @@
 use Rattle.std.proofs.Common.{◌≡◌, ℕ, List, [], ◌∷◌, ◌++◌, Option, Some, None, refl, ap, sym, subst, ◌∙◌}
 use Rattle.session_laws.proofs.Steps.{safe_aged}
 use Rattle.link_machine.proofs.Runs.{Sound}
-use Rattle.message_link.specs.Links.{NumberedEnd, Link, IsStart, EndEvent, LinkEvent, number_of, exchanged, happens_at_controller, happens, all_at_controller, ticks_at_controller, aged, after_link_events, CanStart, IsUicc, IsNode, AreOwn, IsEvent, AllAllowed}
+use Rattle.message_link.specs.Links.{NumberedEnd, Link, IsStart, EndEvent, LinkEvent, number_of, exchanged, happens_at_controller, happens, all_at_controller}
+use Rattle.message_link.specs.Links.{ticks_at_controller, aged, after_link_events, CanStart, IsUicc, IsNode, AreOwn, IsEvent, AllAllowed}
 use Rattle.message_link.specs.Links.IsStart.{IsBare, IsLine}
 use Rattle.message_link.specs.Links.Comes.{Starts}
 use Rattle.message_link.specs.Links.EndEvent.{Step}
@@ -16,7 +17,8 @@ use Rattle.link_entries.specs.Entries.Entry.{Tick}
 use Rattle.link_entries.specs.Reading.{Seen}
 use Rattle.link_entries.specs.Sessions.{session_in, number_now}
 use Rattle.link_entries.specs.Settled.{IsSettledSince, AreNotedUpTogether}
-use Rattle.link_entries.proofs.Running.{Sounds, before_here, before_there, host_here, sound_here, IsInTick, near_in_tick, own_in_tick, after_tick, without_tick, host_in_tick, IsUnderWay, goes_on, start_under_way, all_in_tick}
+use Rattle.link_entries.proofs.Running.{Sounds, before_here, before_there, host_here, sound_here, IsInTick, near_in_tick, own_in_tick, after_tick, without_tick}
+use Rattle.link_entries.proofs.Running.{host_in_tick, IsUnderWay, goes_on, start_under_way, all_in_tick}
 use Rattle.link_entries.proofs.Hearing.{up_session, heard, heard-append, passes-append, passes_aged, Heard, tick_heard, own_heard, here_heard}
 use Rattle.link_entries.proofs.Together.{ticks_host, together}
 use Rattle.link_entries.proofs.Ages.{read_off}

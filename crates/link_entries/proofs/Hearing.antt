@@ -9,24 +9,29 @@ use Rattle.shdlc_core.specs.declared.answers.LinkState.{LinkState}
 use Rattle.shdlc_core.specs.declared.answers.LinkState.TheVariants.{Down as IsDown, Waiting as IsWaitingNow, Up as IsUpNow}
 use Rattle.shdlc_core.specs.Machine.{most_frames}
 use Rattle.session_laws.specs.Sessions.{OnWire, is_up, took_with}
-use Rattle.link_machine.specs.Machine.{LinkEnd, Refused, LinkInput, Turn, Report, report, turn, turned, give_refusal, took, after_input, ended_by, began_by, whole_acked, frames_out}
+use Rattle.link_machine.specs.Machine.{LinkEnd, Refused, LinkInput, Turn, Report, report, turn, turned, give_refusal, took, after_input, ended_by, began_by}
+use Rattle.link_machine.specs.Machine.{whole_acked, frames_out}
 use Rattle.link_machine.specs.Machine.LinkInput.{Take, Tick as HasTick, Reset}
 use Rattle.link_machine.specs.Machine.Turn.{Give, Hold, FetchMessage, SetAside, Release}
 use Rattle.link_machine.proofs.Shifts.{Shift, IsNotUp}
 use Rattle.link_machine.proofs.Shifts.Shift.{Stays, Ends, Renews, Begins, Rests as ShiftRests}
 use Rattle.link_machine.proofs.Reports.{Reports, take_so, tick_so, reset_so}
-use Rattle.message_link.specs.Links.{NumberedEnd, Link, Loss, Ending, Node, EndEvent, number_of, put, becomes, silent, finished, with_ended, has_taken, happens_at_controller, ticks_at_controller, IsNode, IsAllowed, IsOwn}
+use Rattle.message_link.specs.Links.{NumberedEnd, Link, Loss, Ending, Node, EndEvent, number_of, put, becomes, silent, finished, with_ended, has_taken}
+use Rattle.message_link.specs.Links.{happens_at_controller, ticks_at_controller, IsNode, IsAllowed, IsOwn}
 use Rattle.message_link.specs.Links.Ending.{GoesOut, CutOff}
 use Rattle.message_link.specs.Links.Comes.{NextFrame, AsksReset, Starts, Stops, NoInput}
 use Rattle.message_link.specs.Links.EndEvent.{Step, Lose}
 use Rattle.message_link.specs.Links.Loss.{TooMany}
 use Rattle.message_link.proofs.Ends.{frames_alike}
-use Rattle.link_entries.specs.Entries.{End, Entry, far, if_so, told, told_of, turn_entry, turn_entries, sent_unless, first_lost, wire_with, put_entries, puts_entries, rest_entries, input_entries, restart_entries, step_entries, here_entries, tick_entries, left_after, taken_entries, aged_entries}
+use Rattle.link_entries.specs.Entries.{End, Entry, far, if_so, told, told_of, turn_entry, turn_entries, sent_unless, first_lost, wire_with, put_entries}
+use Rattle.link_entries.specs.Entries.{puts_entries, rest_entries, input_entries, restart_entries, step_entries, here_entries, tick_entries, left_after}
+use Rattle.link_entries.specs.Entries.{taken_entries, aged_entries}
 use Rattle.link_entries.specs.Entries.Entry.{Up, Down, Active, GaveUp, Acked, Got, Cut}
 use Rattle.link_entries.specs.Sessions.{hear, number_now}
 use Rattle.link_entries.proofs.Books.{same_self, same_far, with_side}
 use Rattle.link_entries.proofs.Stepping.{puts_number, CanFinish}
-use Rattle.link_entries.proofs.Noting.{turned_same, IsQuietEnd, Near, Frame, Frames, ended_number, IsRestart, start_restarts, stop_restarts, idle_finishes, tick_finishes, reset_finishes, take_finishes, restart_finishes}
+use Rattle.link_entries.proofs.Noting.{turned_same, IsQuietEnd, Near, Frame, Frames, ended_number, IsRestart, start_restarts, stop_restarts, idle_finishes}
+use Rattle.link_entries.proofs.Noting.{tick_finishes, reset_finishes, take_finishes, restart_finishes}
 use Rattle.link_entries.proofs.Completing.{new_not_up}
 use Rattle.link_entries.proofs.Running.{Before, frame_facts, near_of}
 use Rattle.swp_act.specs.declared.ActEvent.{ActEvent}

@@ -6,7 +6,8 @@ use Rattle.std.proofs.lemmas.Grind.{common_steps}
 use Rattle.std.specs.List.{list_any}
 use Rattle.shdlc_core.specs.declared.answers.LinkState.{LinkState}
 use Rattle.shdlc_core.specs.declared.answers.LinkState.TheVariants.{Down as IsDown, Waiting as IsWaitingNow, Up as IsUpNow}
-use Rattle.session_laws.specs.Sessions.{OnWire, ShdlcLink as CoreLink, ShdlcEndEvent as CoreEndEvent, is_up, shdlc_all_at_controller as core_all_here, shdlc_happens_at_controller as core_happens_here}
+use Rattle.session_laws.specs.Sessions.{OnWire, ShdlcLink as CoreLink, ShdlcEndEvent as CoreEndEvent, is_up, shdlc_all_at_controller as core_all_here}
+use Rattle.session_laws.specs.Sessions.{shdlc_happens_at_controller as core_happens_here}
 use Rattle.session_laws.specs.Losses.{Losses, noted_all, noted_here, noted_turns, came_up, is_up_with}
 use Rattle.link_machine.specs.Machine.{LinkEnd, Turn, turned, took, began_by, frames_out}
 use Rattle.link_machine.specs.Machine.LinkInput.{Take}

@@ -9,14 +9,17 @@ use Rattle.shdlc_core.specs.declared.answers.LinkState.{LinkState}
 use Rattle.shdlc_core.specs.declared.answers.LinkState.TheVariants.{Down as IsDown, Waiting as IsWaitingNow, Up as IsUpNow}
 use Rattle.shdlc_core.specs.Machine.{EndState, ticked, tick_answer, is_waiting, reset_with, stopped}
 use Rattle.session_laws.specs.Sessions.{OnWire, is_up, took_with}
-use Rattle.link_machine.specs.Machine.{LinkEnd, Role, Refused, LinkInput, Turn, turn, turned, is_open, role_after, act_answer, moved, activated, new_link_end, renewed, if_up, reset_refusal, give_refusal, aside_refusal, reset_by, window_of, took, after_input, ended_by, began_by, frames_out, sent_all}
+use Rattle.link_machine.specs.Machine.{LinkEnd, Role, Refused, LinkInput, Turn, turn, turned, is_open, role_after, act_answer, moved, activated, new_link_end}
+use Rattle.link_machine.specs.Machine.{renewed, if_up, reset_refusal, give_refusal, aside_refusal, reset_by, window_of, took, after_input, ended_by, began_by}
+use Rattle.link_machine.specs.Machine.{frames_out, sent_all}
 use Rattle.link_machine.specs.Machine.Role.{Bare, Clf, Uicc}
 use Rattle.link_machine.specs.Machine.LinkInput.{Take, Tick as HasTick, Reset, Start, Stop}
 use Rattle.link_machine.specs.Machine.Turn.{Give, Hold, FetchMessage, SetAside, Release}
 use Rattle.link_machine.proofs.Shifts.{IsNotUp}
 use Rattle.link_machine.proofs.Runs.{Sound, sound_input, opened}
 use Rattle.link_machine.proofs.Reports.{Reports, take_so, tick_so, reset_so, start_so, stop_so, shdlc_is as shdlc_moved}
-use Rattle.message_link.specs.Links.{NumberedEnd, Link, Ending, Comes, Node, number_of, no_talk, talk_of, with_ended, silent, finished, has_taken, steps_at_controller, ticks_at_controller, AreSendableTurns, CanEnd, IsNode}
+use Rattle.message_link.specs.Links.{NumberedEnd, Link, Ending, Comes, Node, number_of, no_talk, talk_of, with_ended, silent, finished, has_taken}
+use Rattle.message_link.specs.Links.{steps_at_controller, ticks_at_controller, AreSendableTurns, CanEnd, IsNode}
 use Rattle.message_link.specs.Links.Ending.{GoesOut, CutOff}
 use Rattle.message_link.specs.Links.Comes.{NextFrame, AsksReset, Starts, Stops, NoInput}
 use Rattle.message_link.proofs.Asks.{NoAsk, NoRset, none_due, ticked_asks}
@@ -24,7 +27,8 @@ use Rattle.message_link.proofs.Ends.{ticked_keeps}
 use Rattle.session_laws.proofs.Ties.{ready-phase as ready_phase}
 use Rattle.message_link.proofs.Project.{Tells, Now, mid_moved, moved_role, host_ended as ended_host}
 use Rattle.message_link.proofs.Steps.{Rests, activated_role, act_mid, tick_closes}
-use Rattle.message_link.proofs.Finishing.{can_end, can_after, took_can, none_out, reset_tells, reset_waits, tick_open, tick_closed, tick_role, waiting_phase, restart_mid}
+use Rattle.message_link.proofs.Finishing.{can_end, can_after, took_can, none_out, reset_tells, reset_waits, tick_open, tick_closed, tick_role, waiting_phase}
+use Rattle.message_link.proofs.Finishing.{restart_mid}
 use Rattle.link_entries.specs.Entries.{End, Entry, far, told_of, rest_entries, left_after, taken_entries, restart_entries, step_entries, tick_entries}
 use Rattle.link_entries.specs.Entries.Entry.{Took, Restarted}
 use Rattle.link_entries.proofs.Books.{told_silent, past_after}

@@ -7,13 +7,15 @@ use Rattle.swp_base.specs.declared.link_terms.Cause.TheVariants.{Act as ByAct}
 use Rattle.swp_act.specs.declared.ActEvent.TheVariants.{Tick as ActTick}
 use Rattle.shdlc_core.specs.declared.answers.LinkState.TheVariants.{Down as IsDown}
 use Rattle.shdlc_core.specs.Machine.{EndState, most_frames, ticked, tick_answer, frames_of}
-use Rattle.session_laws.specs.Sessions.{OnWire, ShdlcLink as CoreLink, ShdlcTurn as CoreTurn, ShdlcEndEvent as CoreEndEvent, shdlc_turned as core_turned, with_shdlc_ended as core_with_ended, ticks_or_cut as core_ticks_or_cut, shdlc_ticks_at_controller as core_ticks_here}
+use Rattle.session_laws.specs.Sessions.{OnWire, ShdlcLink as CoreLink, ShdlcTurn as CoreTurn, ShdlcEndEvent as CoreEndEvent, shdlc_turned as core_turned}
+use Rattle.session_laws.specs.Sessions.{with_shdlc_ended as core_with_ended, ticks_or_cut as core_ticks_or_cut, shdlc_ticks_at_controller as core_ticks_here}
 use Rattle.session_laws.specs.Sessions.ShdlcEndEvent.{Acts as CoreActs}
 use Rattle.session_laws.specs.Losses.{Losses, is_act, sans, counts_first, loses_aged, noted_all, noted_out, noted_here, noted_turns, noted_tick, noted_aged}
 use Rattle.link_machine.specs.Machine.{LinkEnd, Turn, turned, is_open, act_answer, moved, activated, if_up, after_input, ended_by, frames_out}
 use Rattle.link_machine.specs.Machine.LinkInput.{Tick as HasTick}
 use Rattle.link_machine.proofs.Reports.{tick_so, shdlc_is as shdlc_moved}
-use Rattle.message_link.specs.Links.{Link, Ending, Loss, EndEvent, Node, with_ended, happens_at_controller, ticks_at_controller, aged, AreSendableTurns, IsNode, IsAllowed, IsOwn}
+use Rattle.message_link.specs.Links.{Link, Ending, Loss, EndEvent, Node, with_ended, happens_at_controller, ticks_at_controller, aged, AreSendableTurns, IsNode}
+use Rattle.message_link.specs.Links.{IsAllowed, IsOwn}
 use Rattle.message_link.specs.Links.Ending.{GoesOut, CutOff}
 use Rattle.message_link.specs.Links.Comes.{NextFrame, AsksReset, Starts, Stops, NoInput}
 use Rattle.message_link.specs.Links.EndEvent.{Step, Lose}

@@ -6,7 +6,9 @@ use Rattle.swp_base.specs.declared.control_frames.Control.{Control}
 use Rattle.swp_base.specs.declared.control_frames.Control.TheVariants.{I, S, Rset, Ua, Act, Clt}
 use Rattle.shdlc_core.specs.declared.answers.LinkState.TheVariants.{Up as IsUpNow}
 use Rattle.shdlc_core.specs.Machine.{is_waiting, most_frames, taken}
-use Rattle.session_laws.specs.Sessions.{OnWire, ShdlcLink as CoreLink, ShdlcTurn as CoreTurn, is_rset, took_with, shdlc_aged as core_aged, shdlc_happens_at_controller as core_happens_here, shdlc_all_at_controller as core_all_here, ticks_or_cut as core_ticks_or_cut, ticks_if_waiting as core_ticks_if_waiting}
+use Rattle.session_laws.specs.Sessions.{OnWire, ShdlcLink as CoreLink, ShdlcTurn as CoreTurn, is_rset, took_with, shdlc_aged as core_aged}
+use Rattle.session_laws.specs.Sessions.{shdlc_happens_at_controller as core_happens_here, shdlc_all_at_controller as core_all_here}
+use Rattle.session_laws.specs.Sessions.{ticks_or_cut as core_ticks_or_cut, ticks_if_waiting as core_ticks_if_waiting}
 use Rattle.session_laws.specs.Sessions.ShdlcEndEvent.{Deliver as CoreDeliver}
 use Rattle.session_laws.specs.Losses.{is_act, sans}
 use Rattle.session_laws.proofs.Hand.{peer_of, rset_tells}
@@ -21,7 +23,10 @@ use Rattle.link_machine.proofs.Shifts.{Shift}
 use Rattle.link_machine.proofs.Shifts.Shift.{Stays, Ends, Renews, Begins, Rests as ShiftRests}
 use Rattle.link_machine.proofs.Runs.{Sound, new_sound}
 use Rattle.link_machine.proofs.Reports.{take_so}
-use Rattle.message_link.specs.Links.{NumberedEnd, Link, IsStart, Comes, EndEvent, Node, LinkEvent, exchanged, number_of, no_talk, ended_talk, talk_of, becomes, with_ended, steps_at_controller, happens_at_controller, happens, all_at_controller, ticks_at_controller, aged, after_link_events, new_numbered_end, AreSendableTurns, CanStart, IsClf, IsUicc, IsNode, IsAllowed, IsOwn, AreOwn, IsEvent, AllAllowed}
+use Rattle.message_link.specs.Links.{NumberedEnd, Link, IsStart, Comes, EndEvent, Node, LinkEvent, exchanged, number_of, no_talk, ended_talk, talk_of, becomes}
+use Rattle.message_link.specs.Links.{with_ended, steps_at_controller, happens_at_controller, happens, all_at_controller, ticks_at_controller, aged}
+use Rattle.message_link.specs.Links.{after_link_events, new_numbered_end, AreSendableTurns, CanStart, IsClf, IsUicc, IsNode, IsAllowed, IsOwn, AreOwn, IsEvent}
+use Rattle.message_link.specs.Links.{AllAllowed}
 use Rattle.message_link.specs.Links.IsStart.{IsBare, IsLine}
 use Rattle.message_link.specs.Links.Ending.{GoesOut}
 use Rattle.message_link.specs.Links.Comes.{NextFrame, AsksReset, Starts, Stops, NoInput}
@@ -34,9 +39,11 @@ use Rattle.message_link.proofs.Ends.{frames_alike}
 use Rattle.message_link.proofs.Project.{Tells, Step, beside-put_all}
 use Rattle.message_link.proofs.Steps.{ComesFirst, FromHost, core_first}
 use Rattle.message_link.proofs.Finishing.{first_none, step_tick}
-use Rattle.message_link.proofs.Runs.{Good, Reached, safe_reached, rests_of, reached_more, from_host, from_controller, own_here, own_turns, step_here, event_step, rest_both, tells_same, seen, started_clf, can_start}
+use Rattle.message_link.proofs.Runs.{Good, Reached, safe_reached, rests_of, reached_more, from_host, from_controller, own_here, own_turns, step_here}
+use Rattle.message_link.proofs.Runs.{event_step, rest_both, tells_same, seen, started_clf, can_start}
 use Rattle.message_link.proofs.Whole.{new_number, start_good, start_reached}
-use Rattle.link_entries.specs.Entries.{End, Entry, far, first_lost, left_after, here_entries, entries_of_events, aged_entries, tick_entries, event_entries, entries, first_entries, trace}
+use Rattle.link_entries.specs.Entries.{End, Entry, far, first_lost, left_after, here_entries, entries_of_events, aged_entries, tick_entries, event_entries}
+use Rattle.link_entries.specs.Entries.{entries, first_entries, trace}
 use Rattle.link_entries.specs.Entries.End.{Controller, Host}
 use Rattle.link_entries.specs.Entries.Entry.{Tick}
 use Rattle.link_entries.specs.Sessions.{IsRead}

@@ -4,15 +4,19 @@ use Rattle.std.specs.Prelude.{◌+◌, nat_lt, is_some, option_to_list}
 use Rattle.swp_base.specs.declared.control_frames.Control.{Control}
 use Rattle.swp_base.specs.declared.control_frames.Control.TheVariants.{I, S, Rset, Ua, Act, Clt}
 use Rattle.session_laws.specs.Sessions.{OnWire, is_rset, is_up, fits, took_with}
-use Rattle.link_machine.specs.Machine.{LinkEnd, Refused, LinkInput, Turn, Report, turn, turned, give_refusal, after_input, ended_by, frames_out, sent_all, report, whole_acked}
+use Rattle.link_machine.specs.Machine.{LinkEnd, Refused, LinkInput, Turn, Report, turn, turned, give_refusal, after_input, ended_by, frames_out, sent_all}
+use Rattle.link_machine.specs.Machine.{report, whole_acked}
 use Rattle.link_machine.specs.Machine.LinkInput.{Take, Tick as HasTick, Reset, Start, Stop}
 use Rattle.link_machine.specs.Machine.Turn.{Give, Hold, FetchMessage, SetAside, Release}
-use Rattle.message_link.specs.Links.{NumberedEnd, Link, Ending, Comes, EndEvent, Node, exchanged, number_of, put, put_all, with_controller, with_ended, silent, finished, steps_at_controller, happens_at_controller, ticks_at_controller, all_at_controller, has_taken}
+use Rattle.message_link.specs.Links.{NumberedEnd, Link, Ending, Comes, EndEvent, Node, exchanged, number_of, put, put_all, with_controller, with_ended, silent}
+use Rattle.message_link.specs.Links.{finished, steps_at_controller, happens_at_controller, ticks_at_controller, all_at_controller, has_taken}
 use Rattle.message_link.specs.Links.Ending.{GoesOut, CutOff}
 use Rattle.message_link.specs.Links.Loss.{TooMany}
 use Rattle.message_link.specs.Links.Comes.{NextFrame, AsksReset, Starts, Stops, NoInput}
 use Rattle.message_link.specs.Links.EndEvent.{Step, Lose}
-use Rattle.link_entries.specs.Entries.{End, Entry, far, if_so, told, told_of, turn_entry, turn_entries, sent_unless, first_lost, pushed_out, wire_with, put_entries, puts_entries, ending_entries, rest_entries, left_after, taken_entries, step_entries, here_entries, entries_of_events, tick_entries}
+use Rattle.link_entries.specs.Entries.{End, Entry, far, if_so, told, told_of, turn_entry, turn_entries, sent_unless, first_lost, pushed_out, wire_with}
+use Rattle.link_entries.specs.Entries.{put_entries, puts_entries, ending_entries, rest_entries, left_after, taken_entries, step_entries, here_entries}
+use Rattle.link_entries.specs.Entries.{entries_of_events, tick_entries}
 use Rattle.link_entries.specs.Entries.End.{Controller, Host}
 use Rattle.link_entries.specs.Entries.Entry.{Up, Down, Active, GaveUp, Acked, Got, Took, Cut}
 use Rattle.link_entries.specs.Reading.{Seen, see, see_all, kept}

@@ -15,11 +15,13 @@ use Rattle.shdlc_core.specs.declared.answers.Due.{Due}
 use Rattle.shdlc_core.specs.declared.answers.Due.TheVariants.{Rr as Rr_due, Rset as Rset_due}
 use Rattle.shdlc_core.specs.Machine.{EndState, Fragment, due_left, reset_with, is_waiting, frames_of, most_frames, stopped, taken, take_answer}
 use Rattle.link_laws.proofs.Joined.{ready_cases, changed}
-use Rattle.session_laws.specs.Sessions.{OnWire, ShdlcLink as CoreLink, ShdlcTurn as CoreTurn, ShdlcEndEvent as CoreEndEvent, shdlc_turn as core_turn, shdlc_turned as core_turned, is_rset, shdlc_happens_at_controller as core_happens_here}
+use Rattle.session_laws.specs.Sessions.{OnWire, ShdlcLink as CoreLink, ShdlcTurn as CoreTurn, ShdlcEndEvent as CoreEndEvent, shdlc_turn as core_turn}
+use Rattle.session_laws.specs.Sessions.{shdlc_turned as core_turned, is_rset, shdlc_happens_at_controller as core_happens_here}
 use Rattle.session_laws.specs.Sessions.ShdlcTurn.{Offer, SetReady}
 use Rattle.session_laws.specs.Sessions.ShdlcEndEvent.{Reset as CoreReset}
 use Rattle.session_laws.specs.Settled.{sure_here, sure_turns, sure_all}
-use Rattle.link_machine.specs.Machine.{LinkEnd, Role, Refused, Turn, turned, is_open, is_faulty, role_after, act_answer, after_input, ended_by, frames_out, among, if_up, put_down, heard, took, reset_refusal, reset_by, window_of}
+use Rattle.link_machine.specs.Machine.{LinkEnd, Role, Refused, Turn, turned, is_open, is_faulty, role_after, act_answer, after_input, ended_by, frames_out}
+use Rattle.link_machine.specs.Machine.{among, if_up, put_down, heard, took, reset_refusal, reset_by, window_of}
 use Rattle.link_machine.specs.Machine.LinkInput.{Take, Reset}
 use Rattle.message_link.specs.Links.{Link, Loss, EndEvent, put, with_ended, has_taken, happens_at_controller, AreSendableTurns, IsAllowed, IsOwn}
 use Rattle.message_link.specs.Links.Ending.{GoesOut, CutOff}
@@ -33,7 +35,8 @@ use Rattle.link_machine.proofs.Reports.{shdlc_is as shdlc_moved}
 use Rattle.message_link.proofs.Steps.{Rests, activated_role, role_closes}
 use Rattle.message_link.proofs.Finishing.{reset_tells, reset_keeps}
 use Rattle.message_link.proofs.Runs.{rests_of}
-use Rattle.link_entries.specs.Entries.{End, Entry, told_of, turn_entries, put_entries, puts_entries, rest_entries, input_entries, left_after, step_entries, taken_entries, here_entries}
+use Rattle.link_entries.specs.Entries.{End, Entry, told_of, turn_entries, put_entries, puts_entries, rest_entries, input_entries, left_after, step_entries}
+use Rattle.link_entries.specs.Entries.{taken_entries, here_entries}
 use Rattle.link_entries.specs.Entries.Entry.{Cut}
 use Rattle.link_entries.proofs.Noting.{reset_role}
 use Rattle.link_entries.proofs.Running.{Before, comes_first}

@@ -1,5 +1,6 @@
 -- Where nothing was lost in a step and no RSET put on the link, the answer to a reset is kept back no more than before.
-use Rattle.std.proofs.Common.{◌≡◌, Bool, true, false, List, [], ◌∷◌, ◌++◌, length, drop, Option, Some, None, ◌⊎◌, inl, inr, refl, ap, sym, subst, ◌∙◌, length-append}
+use Rattle.std.proofs.Common.{◌≡◌, Bool, true, false, List, [], ◌∷◌, ◌++◌, length, drop, Option, Some, None, ◌⊎◌, inl, inr, refl, ap, sym, subst, ◌∙◌}
+use Rattle.std.proofs.Common.{length-append}
 use Rattle.std.specs.Prelude.{◌+◌, ◌&&◌, ◌||◌, not, is_some, nat_lt, option_to_list, if◌then◌else◌}
 use Rattle.std.specs.List.{list_any}
 use Rattle.std.proofs.lemmas.Bool.{true≢false}
@@ -10,7 +11,8 @@ use Rattle.swp_act.specs.declared.ActEvent.{ActEvent}
 use Rattle.swp_act.specs.declared.ActEvent.TheVariants.{Take as ActTake}
 use Rattle.shdlc_core.specs.declared.answers.LinkState.TheVariants.{Down as IsDown}
 use Rattle.shdlc_core.specs.Machine.{EndState, taken, take_answer, ticked, tick_answer, frames_of, most_frames}
-use Rattle.session_laws.specs.Sessions.{OnWire, ShdlcLink as CoreLink, ShdlcTurn as CoreTurn, shdlc_turned as core_turned, shdlc_put as core_put, shdlc_put_all as core_put_all, is_rset, took_with, shdlc_happens_at_controller as core_happens_here}
+use Rattle.session_laws.specs.Sessions.{OnWire, ShdlcLink as CoreLink, ShdlcTurn as CoreTurn, shdlc_turned as core_turned, shdlc_put as core_put}
+use Rattle.session_laws.specs.Sessions.{shdlc_put_all as core_put_all, is_rset, took_with, shdlc_happens_at_controller as core_happens_here}
 use Rattle.session_laws.specs.Sessions.ShdlcEndEvent.{Turns as CoreTurns, Deliver as CoreDeliver, Acts as CoreActs, Lose as CoreLose}
 use Rattle.session_laws.specs.Losses.{is_act, counts_first, overflows}
 use Rattle.session_laws.specs.Settled.{sure_put, sure_all, sure_out, sure_here, sure_turns, sure_tick}
@@ -24,7 +26,8 @@ use Rattle.message_link.proofs.Ends.{ticked_keeps}
 use Rattle.message_link.proofs.Project.{Now, Tells, turns_mid, with_ended-core, mid_moved, due_now, frames_now, among_now, put-core}
 use Rattle.link_machine.proofs.Runs.{opened}
 use Rattle.link_machine.proofs.Reports.{shdlc_is as shdlc_moved}
-use Rattle.message_link.proofs.Steps.{ComesFirst, Heard, is_shdlc, heard_end, heard_is, counted_is, took_open, no_fault_first, polite, role_closes, stays_down, act_mid}
+use Rattle.message_link.proofs.Steps.{ComesFirst, Heard, is_shdlc, heard_end, heard_is, counted_is, took_open, no_fault_first, polite, role_closes, stays_down}
+use Rattle.message_link.proofs.Steps.{act_mid}
 use Rattle.message_link.proofs.Finishing.{tick_open}
 use Rattle.link_entries.specs.Entries.{End, Entry, far, first_lost, pushed_out, wire_with, put_entries, puts_entries, turn_entries, rest_entries, left_after}
 use Rattle.link_entries.specs.Entries.Entry.{Emit, Lost, Restarted, Cut}

@@ -8,23 +8,28 @@ use Rattle.shdlc_core.specs.declared.answers.Due.{Due}
 use Rattle.shdlc_core.specs.Machine.{EndState, Fragment, fetched, fragment_due, after_frames, most_frames}
 use Rattle.link_laws.proofs.Joined.{fetch_cases}
 use Rattle.session_laws.specs.Sessions.{OnWire, is_up, took_with}
-use Rattle.link_machine.specs.Machine.{LinkEnd, Role, LinkInput, Turn, Report, report, turn, turned, new_link_end, renewed, after_input, ended_by, began_by, whole_acked, frames_out, sent_all}
+use Rattle.link_machine.specs.Machine.{LinkEnd, Role, LinkInput, Turn, Report, report, turn, turned, new_link_end, renewed, after_input, ended_by, began_by}
+use Rattle.link_machine.specs.Machine.{whole_acked, frames_out, sent_all}
 use Rattle.link_machine.specs.Machine.Role.{Bare, Clf, Uicc}
 use Rattle.link_machine.specs.Machine.LinkInput.{Take, Reset, Start, Stop, FromNode}
 use Rattle.link_machine.specs.Machine.Turn.{Give, Hold, FetchMessage, SetAside, Release}
 use Rattle.link_machine.specs.Laws.{AreSendableInputs}
 use Rattle.link_machine.proofs.Runs.{Sound, sound_turn, fetched_data}
-use Rattle.message_link.specs.Links.{NumberedEnd, Link, Ending, Comes, Loss, number_of, ended_talk, talk_now, talk_of, becomes, put, put_all, with_controller, with_ended, silent, cut, finished, AreSendableTurns, CanEnd}
+use Rattle.message_link.specs.Links.{NumberedEnd, Link, Ending, Comes, Loss, number_of, ended_talk, talk_now, talk_of, becomes, put, put_all, with_controller}
+use Rattle.message_link.specs.Links.{with_ended, silent, cut, finished, AreSendableTurns, CanEnd}
 use Rattle.message_link.specs.Links.Ending.{GoesOut, CutOff}
 use Rattle.message_link.specs.Links.Loss.{TooMany}
 use Rattle.message_link.specs.Links.Comes.{NextFrame, AsksReset, Starts, Stops, NoInput}
 use Rattle.message_link.proofs.Asks.{NoRset, puts_none}
 use Rattle.message_link.proofs.Ends.{frames_alike}
 use Rattle.message_link.proofs.Project.{beside-put_all}
-use Rattle.link_entries.specs.Entries.{End, Entry, far, told, told_of, turn_entry, turn_entries, first_lost, pushed_out, wire_with, put_entries, puts_entries, ending_entries, rest_entries, left_after, taken_entries, step_entries}
+use Rattle.link_entries.specs.Entries.{End, Entry, far, told, told_of, turn_entry, turn_entries, first_lost, pushed_out, wire_with, put_entries, puts_entries}
+use Rattle.link_entries.specs.Entries.{ending_entries, rest_entries, left_after, taken_entries, step_entries}
 use Rattle.link_entries.specs.Entries.Entry.{Emit}
-use Rattle.link_entries.proofs.Fronts.{OfOne, one-append, one_told, one_turns, AllFew, few_told, few_more, few_grown, few_then, no_sent_told, NoAcked, no_acked-append, no_acked_turns}
-use Rattle.link_entries.proofs.Books.{book_of, Silent, silent-append, silent_cons, Told, up_talk, down_talk, told_far, told_silent, told_same, told_input, Input, with_side, told_turn, IsSendableTurn, turn_far}
+use Rattle.link_entries.proofs.Fronts.{OfOne, one-append, one_told, one_turns, AllFew, few_told, few_more, few_grown, few_then, no_sent_told, NoAcked}
+use Rattle.link_entries.proofs.Fronts.{no_acked-append, no_acked_turns}
+use Rattle.link_entries.proofs.Books.{book_of, Silent, silent-append, silent_cons, Told, up_talk, down_talk, told_far, told_silent, told_same, told_input}
+use Rattle.link_entries.proofs.Books.{Input, with_side, told_turn, IsSendableTurn, turn_far}
 
 -- ## Turns
 

@@ -4,14 +4,18 @@ use Rattle.std.specs.Prelude.{is_some, nat_lt}
 use Rattle.std.specs.List.{list_any}
 use Rattle.std.proofs.lemmas.Bool.{true≢false}
 use Rattle.shdlc_core.specs.Machine.{is_waiting}
-use Rattle.session_laws.specs.Sessions.{OnWire, ShdlcLink as CoreLink, ShdlcTurn as CoreTurn, ShdlcEndEvent as CoreEndEvent, ShdlcLinkEvent as CoreLinkEvent, shdlc_exchanged as core_exchanged, shdlc_aged as core_aged, shdlc_happens as core_happens, shdlc_happens_at_controller as core_happens_here, shdlc_all_at_controller as core_all_here, shdlc_after as core_after, ticks_or_cut as core_ticks_or_cut, ticks_if_waiting as core_ticks_if_waiting}
+use Rattle.session_laws.specs.Sessions.{OnWire, ShdlcLink as CoreLink, ShdlcTurn as CoreTurn, ShdlcEndEvent as CoreEndEvent, ShdlcLinkEvent as CoreLinkEvent}
+use Rattle.session_laws.specs.Sessions.{shdlc_exchanged as core_exchanged, shdlc_aged as core_aged, shdlc_happens as core_happens}
+use Rattle.session_laws.specs.Sessions.{shdlc_happens_at_controller as core_happens_here, shdlc_all_at_controller as core_all_here, shdlc_after as core_after}
+use Rattle.session_laws.specs.Sessions.{ticks_or_cut as core_ticks_or_cut, ticks_if_waiting as core_ticks_if_waiting}
 use Rattle.session_laws.specs.Sessions.ShdlcLinkEvent.{AtController as CoreAtController, AtHost as CoreAtHost, Tick as CoreTick, TickWithout as CoreTickWithout}
 use Rattle.session_laws.specs.Losses.{is_act, sans, loses_aged}
 use Rattle.session_laws.specs.Settled.{sure_here, sure_turns, sure_tick, sure_if_waiting, sure_aged, sure_event, sure_after}
 use Rattle.session_laws.proofs.Steps.{safe_aged, safe_exchanged}
 use Rattle.link_machine.specs.Machine.{LinkEnd, Turn, is_open, after_input, ended_by, turned}
 use Rattle.link_machine.specs.Machine.LinkInput.{Tick as HasTick, Reset}
-use Rattle.message_link.specs.Links.{NumberedEnd, Link, Ending, Node, IsStart, EndEvent, LinkEvent, exchanged, with_ended, happens_at_controller, happens, all_at_controller, ticks_at_controller, aged, after_link_events, IsNode, IsAllowed, AreOwn, IsEvent, AllAllowed}
+use Rattle.message_link.specs.Links.{NumberedEnd, Link, Ending, Node, IsStart, EndEvent, LinkEvent, exchanged, with_ended, happens_at_controller, happens}
+use Rattle.message_link.specs.Links.{all_at_controller, ticks_at_controller, aged, after_link_events, IsNode, IsAllowed, AreOwn, IsEvent, AllAllowed}
 use Rattle.message_link.specs.Links.Ending.{GoesOut, CutOff}
 use Rattle.message_link.specs.Links.Comes.{AsksReset}
 use Rattle.message_link.specs.Links.EndEvent.{Step}
@@ -22,10 +26,12 @@ use Rattle.message_link.proofs.Project.{Tells, turned_role, moved_role, host_end
 use Rattle.message_link.proofs.Finishing.{reset_tells, step_tick, tick_open, all_here-append}
 use Rattle.message_link.proofs.Quiet.{up_together}
 use Rattle.message_link.proofs.Runs.{Good, Reached, safe_reached, rests_of, own_here, all_step, event_step, step_here, tells_same}
-use Rattle.link_entries.specs.Entries.{End, Entry, told_of, rest_entries, here_entries, entries_of_events, aged_entries, tick_entries, event_entries, entries, first_entries}
+use Rattle.link_entries.specs.Entries.{End, Entry, told_of, rest_entries, here_entries, entries_of_events, aged_entries, tick_entries, event_entries, entries}
+use Rattle.link_entries.specs.Entries.{first_entries}
 use Rattle.link_entries.specs.Entries.End.{Controller, Host}
 use Rattle.link_entries.specs.Settled.{withholds, FindsReady, IsReset, rest_of}
-use Rattle.link_entries.proofs.Running.{before_here, before_there, host_here, Noted, IsInTick, near_in_tick, own_step, own_in_tick, after_tick, without_tick, IsUnderWay, goes_on, start_under_way}
+use Rattle.link_entries.proofs.Running.{before_here, before_there, host_here, Noted, IsInTick, near_in_tick, own_step, own_in_tick, after_tick, without_tick}
+use Rattle.link_entries.proofs.Running.{IsUnderWay, goes_on, start_under_way}
 use Rattle.link_entries.proofs.Noting.{reset_role}
 use Rattle.link_entries.proofs.Stepping.{host_finished}
 use Rattle.link_entries.proofs.Sparing.{Spared, Stands, spared_parts, stands_parts, none_withholds, rest_sure, tick_sure}

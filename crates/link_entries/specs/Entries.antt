@@ -3,11 +3,13 @@ use Rattle.std.specs.Prelude.{ℕ, ◌+◌, Bool, true, false, nat_lt, if◌then
 use Rattle.swp_base.specs.declared.control_frames.Control.{Control}
 use Rattle.swp_base.specs.declared.link_terms.Cause.{Cause}
 use Rattle.session_laws.specs.Sessions.{OnWire, is_rset, took_with}
-use Rattle.link_machine.specs.Machine.{Message, LinkEnd, Role, Refused, LinkInput, Turn, Report, report, whole_acked, after_input, ended_by, turn, turned, give_refusal, frames_out}
+use Rattle.link_machine.specs.Machine.{Message, LinkEnd, Role, Refused, LinkInput, Turn, Report, report, whole_acked, after_input, ended_by, turn, turned}
+use Rattle.link_machine.specs.Machine.{give_refusal, frames_out}
 use Rattle.link_machine.specs.Machine.Role.{Bare}
 use Rattle.link_machine.specs.Machine.LinkInput.{Take, Tick as HasTick, Reset, Start, Stop}
 use Rattle.link_machine.specs.Machine.Turn.{Give}
-use Rattle.message_link.specs.Links.{NumberedEnd, Link, Ending, Comes, Loss, EndEvent, Node, LinkEvent, exchanged, number_of, put, with_ended, silent, steps_at_controller, happens_at_controller, happens, ticks_at_controller, aged, all_at_controller}
+use Rattle.message_link.specs.Links.{NumberedEnd, Link, Ending, Comes, Loss, EndEvent, Node, LinkEvent, exchanged, number_of, put, with_ended, silent}
+use Rattle.message_link.specs.Links.{steps_at_controller, happens_at_controller, happens, ticks_at_controller, aged, all_at_controller}
 use Rattle.message_link.specs.Links.Ending.{GoesOut, CutOff}
 use Rattle.message_link.specs.Links.Loss.{TooOld, TooMany}
 use Rattle.message_link.specs.Links.Comes.{NextFrame, AsksReset, Starts, Stops, NoInput}

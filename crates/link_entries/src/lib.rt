@@ -55,7 +55,8 @@ pub fn no_chain_fault_is_noted()
 pub fn quiet_session_has_delivered_all()
     ensures to_host { (l : Link) → IsStart l → (events : List LinkEvent) → AllAllowed l events → IsQuietSince (trace l events) (after_link_events l events) →
         IsDeliveredOnLink (trace l events) Controller (number_of (after_link_events l events).controller) }
-    ensures to_controller { (l : Link) → IsStart l → (events : List LinkEvent) → AllAllowed l events → IsQuietSince (trace l events) (after_link_events l events) →
+    ensures to_controller { (l : Link) → IsStart l → (events : List LinkEvent) → AllAllowed l events →
+        IsQuietSince (trace l events) (after_link_events l events) →
         IsDeliveredOnLink (trace l events) Host (number_of (after_link_events l events).controller) }
 {}
 

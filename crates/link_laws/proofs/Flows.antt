@@ -7,7 +7,8 @@ use Rattle.swp_base.specs.declared.control_frames.Kind.{Kind}
 use Rattle.swp_base.specs.declared.control_frames.Control.{Control}
 use Rattle.swp_base.specs.declared.control_frames.Control.TheVariants.{I, S}
 use Rattle.shdlc_core.specs.Machine.{Fragment}
-use Rattle.link_laws.proofs.Marks.{Carries, Counts, NoneBelow, Places, MayFollow, counts_le, counts_lower, counts_higher, counts_push, counts_lost, places_grow, places_reach, places_accepted, places_lost, places_push, places_push_S}
+use Rattle.link_laws.proofs.Marks.{Carries, Counts, NoneBelow, Places, MayFollow, counts_le, counts_lower, counts_higher, counts_push, counts_lost, places_grow}
+use Rattle.link_laws.proofs.Marks.{places_reach, places_accepted, places_lost, places_push, places_push_S}
 
 -- out, the window w, the places a, s and m are the sender's; acc is the receiver's; there are marks on the wire from the
 -- sender and on the wire back

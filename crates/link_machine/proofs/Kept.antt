@@ -10,7 +10,8 @@ use Rattle.swp_act.specs.declared.ActEvent.TheVariants.{Take as ActTake}
 use Rattle.shdlc_core.specs.declared.answers.LinkState.{LinkState}
 use Rattle.shdlc_core.specs.declared.answers.LinkState.TheVariants.{Down, Waiting, Up}
 use Rattle.shdlc_core.specs.Machine.{EndState, taken, reset_with}
-use Rattle.link_machine.specs.Machine.{LinkEnd, Refused, is_open, is_faulty, act_answer, role_after, with_act, moved, put_down, activated, heard, took, news, brought, reset_refusal, if_up, window_of, after_input}
+use Rattle.link_machine.specs.Machine.{LinkEnd, Refused, is_open, is_faulty, act_answer, role_after, with_act, moved, put_down, activated, heard, took, news}
+use Rattle.link_machine.specs.Machine.{brought, reset_refusal, if_up, window_of, after_input}
 use Rattle.link_machine.specs.Machine.LinkInput.{Reset}
 
 pub moved_got : (e : LinkEnd) (b : Bool) (s : EndState) → (moved e b s).got ≡ e.got

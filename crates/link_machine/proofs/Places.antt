@@ -1,5 +1,6 @@
 -- ACT frames stand in their places among the control frames that are due, and frames fetched one by one are all that are due.
-use Rattle.std.proofs.Common.{◌≡◌, ℕ, zero, suc, ◌+◌, ◌-◌, ◌≤◌, Bool, true, false, List, [], ◌∷◌, ◌++◌, length, take, drop, map, Option, Some, None, refl, ap, sym, subst, ◌∙◌, arith, length-append}
+use Rattle.std.proofs.Common.{◌≡◌, ℕ, zero, suc, ◌+◌, ◌-◌, ◌≤◌, Bool, true, false, List, [], ◌∷◌, ◌++◌, length, take, drop, map, Option, Some, None, refl, ap}
+use Rattle.std.proofs.Common.{sym, subst, ◌∙◌, arith, length-append}
 use Rattle.std.proofs.lemmas.Bool.{eqb-true}
 use Rattle.std.proofs.lemmas.List.{length-map}
 use Rattle.std.specs.Prelude.{nat_lt, is_some, not, ◌==◌}
@@ -15,8 +16,11 @@ use Rattle.shdlc_core.specs.declared.answers.LinkState.{LinkState}
 use Rattle.shdlc_core.specs.declared.answers.LinkState.TheVariants.{Down, Waiting, Up}
 use Rattle.shdlc_core.specs.declared.answers.Due.{Due}
 use Rattle.shdlc_core.specs.declared.answers.Due.TheVariants.{Rr as Rr_due, Rej as Rej_due, Rnr as Rnr_due, Rset as Rset_due, Ua as Ua_due}
-use Rattle.shdlc_core.specs.Machine.{EndState, Fragment, taken, take_answer, ticked, tick_answer, place_of, acknowledged, ahead, received, runs_timer, reset_with, stopped, with_ready, fetched, frame_due, fragment_due, frames_of, after_frames, most_frames, control_due}
-use Rattle.link_machine.specs.Machine.{LinkEnd, Role, ActDue, Turn, LinkInput, Refused, new_link_end, is_faulty, is_open, role_after, act_answer, with_act, in_front, moved, put_down, activated, give_refusal, aside_refusal, turn, reset_refusal, if_up, reset_by, window_of, heard, took, had_tick, among, next_frame, frame_fetched, nearer, frames_out, sent_all, after_input, after_inputs}
+use Rattle.shdlc_core.specs.Machine.{EndState, Fragment, taken, take_answer, ticked, tick_answer, place_of, acknowledged, ahead, received, runs_timer}
+use Rattle.shdlc_core.specs.Machine.{reset_with, stopped, with_ready, fetched, frame_due, fragment_due, frames_of, after_frames, most_frames, control_due}
+use Rattle.link_machine.specs.Machine.{LinkEnd, Role, ActDue, Turn, LinkInput, Refused, new_link_end, is_faulty, is_open, role_after, act_answer, with_act}
+use Rattle.link_machine.specs.Machine.{in_front, moved, put_down, activated, give_refusal, aside_refusal, turn, reset_refusal, if_up, reset_by, window_of}
+use Rattle.link_machine.specs.Machine.{heard, took, had_tick, among, next_frame, frame_fetched, nearer, frames_out, sent_all, after_input, after_inputs}
 use Rattle.link_machine.specs.Machine.Role.{Bare, Clf, Uicc}
 use Rattle.link_machine.specs.Machine.Turn.{Give, Hold, FetchMessage, SetAside, Release}
 use Rattle.link_machine.specs.Machine.LinkInput.{Take, TakeUnknown, TakeBroken, Tick, Reset, Start, Stop, FromNode, Fetch}

@@ -1,5 +1,6 @@
 -- What an input does to the session of an end is what its report tells.
-use Rattle.std.proofs.Common.{◌≡◌, ℕ, ◌+◌, ◌-◌, Bool, true, false, cond, List, [], ◌++◌, length, take, drop, map, Option, Some, None, refl, ap, sym, subst, ◌∙◌, arith}
+use Rattle.std.proofs.Common.{◌≡◌, ℕ, ◌+◌, ◌-◌, Bool, true, false, cond, List, [], ◌++◌, length, take, drop, map, Option, Some, None, refl, ap, sym, subst, ◌∙◌}
+use Rattle.std.proofs.Common.{arith}
 use Rattle.std.proofs.lemmas.Bool.{true≢false}
 use Rattle.std.proofs.lemmas.List.Elements.{filter-append}
 use Rattle.std.proofs.lemmas.Grind.{common_steps}
@@ -14,7 +15,8 @@ use Rattle.shdlc_core.specs.declared.answers.LinkState.{LinkState}
 use Rattle.shdlc_core.specs.declared.answers.LinkState.TheVariants.{Down, Waiting, Up}
 use Rattle.shdlc_core.specs.Machine.{EndState, Session, no_session, taken, take_answer, ticked, tick_answer, is_waiting, reset_with, stopped}
 use Rattle.hcp_packet.specs.Packets.{good_of, is_good}
-use Rattle.link_machine.specs.Machine.{Message, LinkEnd, Role, LinkInput, is_faulty, messages_got, is_open, act_answer, role_after, with_act, in_front, moved, put_down, activated, heard, took, news, if_up, window_of, after_input, ended_by, ended_by_act, began_by, got_by, report}
+use Rattle.link_machine.specs.Machine.{Message, LinkEnd, Role, LinkInput, is_faulty, messages_got, is_open, act_answer, role_after, with_act, in_front, moved}
+use Rattle.link_machine.specs.Machine.{put_down, activated, heard, took, news, if_up, window_of, after_input, ended_by, ended_by_act, began_by, got_by, report}
 use Rattle.link_machine.specs.Machine.LinkInput.{Take, Tick, Reset, Start, Stop}
 use Rattle.link_machine.proofs.Shifts.{Shift, IsNotUp, same_shift, taken_shift, ticked_shift, reset_shift}
 use Rattle.link_machine.proofs.Shifts.Shift.{Stays, Ends, Renews, Begins, Rests}

@@ -1,5 +1,6 @@
 -- Each input keeps what is true of an end.
-use Rattle.std.proofs.Common.{◌≡◌, ℕ, suc, ◌+◌, ◌-◌, ◌<◌, ◌≤◌, Bool, true, false, cond, List, [], ◌∷◌, ◌++◌, length, take, drop, map, Option, Some, None, ◌⊎◌, inl, inr, refl, ap, sym, subst, ◌∙◌, arith, append-nil, length-append}
+use Rattle.std.proofs.Common.{◌≡◌, ℕ, suc, ◌+◌, ◌-◌, ◌<◌, ◌≤◌, Bool, true, false, cond, List, [], ◌∷◌, ◌++◌, length, take, drop, map, Option, Some, None, ◌⊎◌}
+use Rattle.std.proofs.Common.{inl, inr, refl, ap, sym, subst, ◌∙◌, arith, append-nil, length-append}
 use Rattle.std.proofs.lemmas.Bool.{true≢false, ltb-true, ltb-false}
 use Rattle.std.proofs.lemmas.List.Concat.{flat_map-append}
 use Rattle.std.proofs.lemmas.Grind.{common_steps}
@@ -18,9 +19,13 @@ use Rattle.shdlc_core.specs.declared.answers.LinkState.{LinkState}
 use Rattle.shdlc_core.specs.declared.answers.LinkState.TheVariants.{Down, Waiting, Up}
 use Rattle.shdlc_core.specs.declared.answers.Due.{Due}
 use Rattle.shdlc_core.specs.declared.answers.Due.TheVariants.{Rr as Rr_due}
-use Rattle.shdlc_core.specs.Machine.{EndState, Session, Fragment, no_session, taken, take_answer, ticked, tick_answer, is_waiting, reset_with, stopped, with_ready, fetched, frame_due, fragment_due, sent_next, begun, new_end}
+use Rattle.shdlc_core.specs.Machine.{EndState, Session, Fragment, no_session, taken, take_answer, ticked, tick_answer, is_waiting, reset_with, stopped}
+use Rattle.shdlc_core.specs.Machine.{with_ready, fetched, frame_due, fragment_due, sent_next, begun, new_end}
 use Rattle.hcp_packet.specs.Packets.{packets_of, packet_count, packet_bytes, fragments_of, IsSendable}
-use Rattle.link_machine.specs.Machine.{Message, LinkEnd, Role, ActDue, Turn, LinkInput, Refused, new_link_end, is_faulty, whole_among, need, need_of_all, in_use, spare, is_open, role_after, act_answer, with_act, in_front, moved, put_down, activated, started, deactivated, give_refusal, given, aside_refusal, turn, reset_refusal, if_up, reset_by, window_of, heard, took, had_tick, frame_fetched, nearer, after_input, after_inputs, news}
+use Rattle.link_machine.specs.Machine.{Message, LinkEnd, Role, ActDue, Turn, LinkInput, Refused, new_link_end, is_faulty, whole_among, need, need_of_all}
+use Rattle.link_machine.specs.Machine.{in_use, spare, is_open, role_after, act_answer, with_act, in_front, moved, put_down, activated, started, deactivated}
+use Rattle.link_machine.specs.Machine.{give_refusal, given, aside_refusal, turn, reset_refusal, if_up, reset_by, window_of, heard, took, had_tick}
+use Rattle.link_machine.specs.Machine.{frame_fetched, nearer, after_input, after_inputs, news}
 use Rattle.link_machine.specs.Machine.Role.{Bare, Clf, Uicc}
 use Rattle.link_machine.specs.Machine.Turn.{Give, Hold, FetchMessage, SetAside, Release}
 use Rattle.link_machine.specs.Machine.LinkInput.{Take, TakeUnknown, TakeBroken, Tick, Reset, Start, Stop, FromNode, Fetch}

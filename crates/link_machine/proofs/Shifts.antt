@@ -9,7 +9,8 @@ use Rattle.swp_base.specs.declared.control_frames.Control.{Control}
 use Rattle.swp_base.specs.declared.control_frames.Control.TheVariants.{I, S, Rset, Ua, Act, Clt}
 use Rattle.shdlc_core.specs.declared.answers.LinkState.{LinkState}
 use Rattle.shdlc_core.specs.declared.answers.LinkState.TheVariants.{Down, Waiting, Up}
-use Rattle.shdlc_core.specs.Machine.{EndState, Session, Fragment, new_session, no_session, taken, take_answer, ticked, tick_answer, place_of, acknowledged, received, fragment_accepted, runs_timer, is_waiting, reset_with, stopped, with_ready}
+use Rattle.shdlc_core.specs.Machine.{EndState, Session, Fragment, new_session, no_session, taken, take_answer, ticked, tick_answer, place_of, acknowledged}
+use Rattle.shdlc_core.specs.Machine.{received, fragment_accepted, runs_timer, is_waiting, reset_with, stopped, with_ready}
 use Rattle.shdlc_core.proofs.Histories.{place_of-within, received-phase, received-acked, received-sending, received-accepted}
 use Rattle.link_machine.specs.Machine.{if_up}
 

@@ -1,5 +1,6 @@
 -- What the laws of the machine say, from what is true of an end after any inputs.
-use Rattle.std.proofs.Common.{◌≡◌, ℕ, suc, ◌+◌, ◌-◌, ◌<◌, ◌≤◌, Bool, true, false, cond, List, [], ◌∷◌, ◌++◌, length, take, drop, map, Option, Some, None, refl, ap, sym, subst, ◌∙◌, arith, append-nil}
+use Rattle.std.proofs.Common.{◌≡◌, ℕ, suc, ◌+◌, ◌-◌, ◌<◌, ◌≤◌, Bool, true, false, cond, List, [], ◌∷◌, ◌++◌, length, take, drop, map, Option, Some, None, refl}
+use Rattle.std.proofs.Common.{ap, sym, subst, ◌∙◌, arith, append-nil}
 use Rattle.std.proofs.lemmas.Bool.{true≢false}
 use Rattle.std.proofs.lemmas.Grind.{common_steps}
 use Rattle.std.specs.Prelude.{nat_le, nat_lt, is_some, ◌==◌}
@@ -15,7 +16,9 @@ use Rattle.shdlc_core.specs.declared.answers.Due.{Due}
 use Rattle.shdlc_core.specs.declared.answers.Due.TheVariants.{Rr as Rr_due, Rej as Rej_due, Rnr as Rnr_due, Rset as Rset_due, Ua as Ua_due}
 use Rattle.shdlc_core.specs.Machine.{EndState, Session, no_session, taken, take_answer, ticked, tick_answer, is_waiting, reset_with, stopped, frame_due}
 use Rattle.hcp_packet.specs.Packets.{fragments_of}
-use Rattle.link_machine.specs.Machine.{Message, LinkEnd, Role, ActDue, LinkInput, Refused, is_faulty, messages_got, whole_among, whole_acked, in_use, spare, is_open, act_answer, role_after, with_act, moved, put_down, activated, started, deactivated, heard, took, had_tick, news, reset_refusal, if_up, reset_by, window_of, next_frame, after_input, ended_by, ended_by_act}
+use Rattle.link_machine.specs.Machine.{Message, LinkEnd, Role, ActDue, LinkInput, Refused, is_faulty, messages_got, whole_among, whole_acked, in_use, spare}
+use Rattle.link_machine.specs.Machine.{is_open, act_answer, role_after, with_act, moved, put_down, activated, started, deactivated, heard, took, had_tick, news}
+use Rattle.link_machine.specs.Machine.{reset_refusal, if_up, reset_by, window_of, next_frame, after_input, ended_by, ended_by_act}
 use Rattle.link_machine.specs.Machine.LinkInput.{Take, TakeUnknown, TakeBroken, Tick, Reset, Start, Stop, FromNode, Fetch}
 use Rattle.link_machine.specs.Laws.{AreSendableInputs, Forgets, IsNone, end_after, is_fragment, is_shdlc}
 use Rattle.link_machine.proofs.Shifts.{Shift, IsNotUp, IsNew, taken_shift, ticked_shift, reset_shift}

@@ -1,6 +1,7 @@
 -- The machine of one end of a link over whole messages: activation before the link, SHDLC, and packets cut and joined. It is
 -- a function over whole lists, so it computes. The limits of 4,096 bytes and 128 blocks are this project's own.
-use Rattle.std.specs.Prelude.{ℕ, suc, ◌+◌, ◌-◌, ◌/◌, ◌==◌, ◌&&◌, nat_lt, nat_le, Bool, true, false, not, if◌then◌else◌, List, [], ◌∷◌, ◌++◌, length, take, drop, map, is_some, unwrap_or, Option, Some, None, Result, Ok, Err}
+use Rattle.std.specs.Prelude.{ℕ, suc, ◌+◌, ◌-◌, ◌/◌, ◌==◌, ◌&&◌, nat_lt, nat_le, Bool, true, false, not, if◌then◌else◌, List, [], ◌∷◌, ◌++◌, length, take, drop}
+use Rattle.std.specs.Prelude.{map, is_some, unwrap_or, Option, Some, None, Result, Ok, Err}
 use Rattle.swp_base.specs.declared.control_frames.Control.{Control}
 use Rattle.swp_base.specs.declared.control_frames.Control.TheVariants.{Act as ActFrame, Clt}
 use Rattle.swp_base.specs.declared.control_frames.Act.{Act}
@@ -9,7 +10,8 @@ use Rattle.swp_base.specs.declared.link_terms.Cause.{Cause}
 use Rattle.swp_base.specs.declared.link_terms.Cause.TheVariants.{Asked, Act as ByAct, Chain}
 use Rattle.shdlc_core.specs.declared.answers.LinkState.{LinkState}
 use Rattle.shdlc_core.specs.declared.answers.LinkState.TheVariants.{Down, Waiting, Up}
-use Rattle.shdlc_core.specs.Machine.{EndState, Session, new_end, begun, stopped, put_out, taken, take_answer, ticked, tick_answer, is_waiting, reset_with, with_ready, frame_due, fetched, control_due, all_frames, all_fetched}
+use Rattle.shdlc_core.specs.Machine.{EndState, Session, new_end, begun, stopped, put_out, taken, take_answer, ticked, tick_answer, is_waiting, reset_with}
+use Rattle.shdlc_core.specs.Machine.{with_ready, frame_due, fetched, control_due, all_frames, all_fetched}
 use Rattle.hcp_packet.specs.Packets.{packets_of, packet_count, packets_in, packet_bytes, good_of}
 use Rattle.hcp_chain.specs.Joining.{are_taken, given_by}
 use Rattle.swp_lpdu.specs.declared.LpduFault.{LpduFault}

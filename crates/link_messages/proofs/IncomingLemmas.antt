@@ -18,7 +18,8 @@ use Rattle.hcp_chain.specs.declared.joiner.ChainFault.{ChainFault}
 use Rattle.hcp_chain.specs.declared.joiner.ChainFault.TheVariants.{TooManyChains, MessageTooLong}
 use Rattle.hcp_chain.specs.declared.joiner.Joined.TheVariants.{Fault}
 use Rattle.hcp_chain.specs.Joining.{JoinOutcome, Nothing, Message as Ended, join_step, message_in, is_fault, given_by, is_fifth, grown}
-use Rattle.hcp_chain.specs.Holding.{IsJoinerReady as CanTake, IsOwnOpen, AreApart, HoldsChains, HoldsWhole, held_blocks, open_messages, messages_in, KeepsOtherChains, IsApartFrom, AnswersOutcome}
+use Rattle.hcp_chain.specs.Holding.{IsJoinerReady as CanTake, IsOwnOpen, AreApart, HoldsChains, HoldsWhole, held_blocks, open_messages, messages_in}
+use Rattle.hcp_chain.specs.Holding.{KeepsOtherChains, IsApartFrom, AnswersOutcome}
 use Rattle.hcp_chain.proofs.HoldingLemmas.{all_front, all_map, apart_front}
 use Rattle.hcp_chain.proofs.ClearLemmas.{kept}
 use Rattle.hcp_chain.proofs.ReadyLemmas.{ready_given}

@@ -1,5 +1,6 @@
 -- What calls on a pool leave of the messages that are kept in it.
-use Rattle.std.proofs.Common.{◌≡◌, ◌≢◌, ℕ, zero, suc, ◌+◌, ◌-◌, ◌*◌, ◌<◌, ◌≤◌, Bool, true, false, List, [], ◌∷◌, ◌++◌, length, map, drop, refl, sym, ap, ◌∙◌, subst, arith, get_or-set_same}
+use Rattle.std.proofs.Common.{◌≡◌, ◌≢◌, ℕ, zero, suc, ◌+◌, ◌-◌, ◌*◌, ◌<◌, ◌≤◌, Bool, true, false, List, [], ◌∷◌, ◌++◌, length, map, drop, refl, sym, ap, ◌∙◌}
+use Rattle.std.proofs.Common.{subst, arith, get_or-set_same}
 use Rattle.std.specs.Prelude.{Some, None, slice_get}
 use Rattle.std.specs.Bool.{OnTrue, OnFalse}
 use Rattle.std.proofs.lemmas.Option.{slice_get_within}
@@ -10,15 +11,18 @@ use Rattle.block_pool.specs.declared.chain.Chain.{Chain}
 use Rattle.block_pool.specs.declared.owners.Owner.{Owner}
 use Rattle.block_pool.specs.Slots.{blocks_for}
 use Rattle.block_pool.specs.Owners.{owner_at, with_used}
-use Rattle.block_pool.specs.Pool.{PoolState, HasQuota, quota_of, used_of, aside_of, IsLive, IsEmptyChain, IsApart, chain_bytes, spare_of, chain_spare, more_blocks, KeepsOthers, Gives, Appends, Passes}
+use Rattle.block_pool.specs.Pool.{PoolState, HasQuota, quota_of, used_of, aside_of, IsLive, IsEmptyChain, IsApart, chain_bytes, spare_of, chain_spare}
+use Rattle.block_pool.specs.Pool.{more_blocks, KeepsOthers, Gives, Appends, Passes}
 use Rattle.block_pool.specs.Names.{named_bytes}
 use Rattle.block_pool.specs.Holdings.{IsOwnChain, OwnsAll, LiesApart, LieApart, all_bytes, all_blocks}
-use Rattle.block_pool.proofs.HoldingLemmas.{kept_all, all_pushed, lie_apart_pushed, used-with_used, quota-with_used, length-with_used, with_used-with_used, with_used-same, other-with_used, apart_empty, lies_apart_by_owner}
+use Rattle.block_pool.proofs.HoldingLemmas.{kept_all, all_pushed, lie_apart_pushed, used-with_used, quota-with_used, length-with_used, with_used-with_used}
+use Rattle.block_pool.proofs.HoldingLemmas.{with_used-same, other-with_used, apart_empty, lies_apart_by_owner}
 use Rattle.hcp_packet.specs.Packets.{packets_of, packet_count, packet_bytes, fragments_of, AreSendable, IsSendable}
 use Rattle.link_machine.specs.Machine.{Message, whole_among}
 use Rattle.link_messages.specs.declared.outbox.Queued.{Queued}
 use Rattle.link_messages.specs.declared.outbox.Outbox.{Outbox}
-use Rattle.link_messages.specs.Outgoing.{chain_in, queued_message, messages_of_all, queued_messages, rest_among, AreKept, OutboxLiesIn, OutboxLeavesOthers, Accepts, LeavesOthersBut, GivesFront, GivesBack}
+use Rattle.link_messages.specs.Outgoing.{chain_in, queued_message, messages_of_all, queued_messages, rest_among, AreKept, OutboxLiesIn, OutboxLeavesOthers}
+use Rattle.link_messages.specs.Outgoing.{Accepts, LeavesOthersBut, GivesFront, GivesBack}
 use Rattle.link_messages.proofs.Among.{whole-first, waiting-first, length-first, waiting-push, length-push}
 use Rattle.link_machine.proofs.Sound.{fragments_count as length-fragments}
 

@@ -29,7 +29,8 @@ pub struct Outbox {
 }
 
 impl Outbox {
-    ghost use Rattle.std.specs.Prelude.{◌≡◌, ◌≢◌, ℕ, ◌+◌, ◌-◌, ◌<◌, ◌≤◌, ◌↔◌, ◌++◌, [], ◌∷◌, length, take, drop, slice_get, IfOk, IfErr, IsOk, OnOk, OnErr, List, IsTrue, IsNone, OnSome, IfSome, IfNone};
+    ghost use Rattle.std.specs.Prelude.{◌≡◌, ◌≢◌, ℕ, ◌+◌, ◌-◌, ◌<◌, ◌≤◌, ◌↔◌, ◌++◌, [], ◌∷◌, length, take, drop, slice_get, IfOk, IfErr, IsOk, OnOk, OnErr};
+    ghost use Rattle.std.specs.Prelude.{List, IsTrue, IsNone, OnSome, IfSome, IfNone};
     ghost use Rattle.std.specs.Option.{option_to_list};
     ghost use Rattle.std.specs.Bool.{OnTrue, OnFalse};
     ghost use Rattle.circular_buffer.specs.Buffer.{buffer};
@@ -38,7 +39,8 @@ impl Outbox {
     ghost use Rattle.hcp_packet.specs.Packets.{packet_count, fragments_of, IsSendable};
     ghost use Rattle.link_machine.specs.Machine.{Message, whole_among};
     ghost use Rattle.link_messages.specs.declared.outbox.Queued.{Queued};
-    ghost use Rattle.link_messages.specs.Outgoing.{queued_messages, waiting_in, rest_among, AreKept, OutboxLiesIn, OutboxLeavesOthers, LeavesOthersBut, Accepts, GivesFront, GivesBack, acked_more};
+    ghost use Rattle.link_messages.specs.Outgoing.{queued_messages, waiting_in, rest_among, AreKept, OutboxLiesIn, OutboxLeavesOthers, LeavesOthersBut};
+    ghost use Rattle.link_messages.specs.Outgoing.{Accepts, GivesFront, GivesBack, acked_more};
 
     /// The most messages that wait: each uses at least one of the owner's 128 blocks.
     pub const MOST: usize = 128;

@@ -10,7 +10,8 @@ use Rattle.shdlc_core.specs.declared.answers.LinkState.{LinkState}
 use Rattle.shdlc_core.specs.declared.answers.LinkState.TheVariants.{Down, Waiting, Up}
 use Rattle.shdlc_core.specs.declared.answers.Due.{Due}
 use Rattle.shdlc_core.specs.declared.answers.Due.TheVariants.{Rr as Rr_due, Rej as Rej_due, Rnr as Rnr_due, Rset as Rset_due, Ua as Ua_due}
-use Rattle.shdlc_core.specs.Machine.{EndState, Fragment, fetched, frame_due, frames_of, control_due, taken, ticked, is_waiting, place_of, acknowledged, received, runs_timer}
+use Rattle.shdlc_core.specs.Machine.{EndState, Fragment, fetched, frame_due, frames_of, control_due, taken, ticked, is_waiting, place_of, acknowledged}
+use Rattle.shdlc_core.specs.Machine.{received, runs_timer}
 use Rattle.link_laws.proofs.Joined.{fetch_cases, ready_cases, received_cases}
 use Rattle.session_laws.specs.Sessions.{ShdlcTurn, is_rset, shdlc_turn, shdlc_turned}
 use Rattle.session_laws.specs.Sessions.ShdlcTurn.{Offer, SetReady}

@@ -7,7 +7,8 @@ use Rattle.swp_base.specs.declared.control_frames.Control.{Control}
 use Rattle.swp_base.specs.declared.control_frames.Control.TheVariants.{I, S, Rset, Ua, Act, Clt}
 use Rattle.shdlc_core.specs.declared.answers.LinkState.{LinkState}
 use Rattle.shdlc_core.specs.declared.answers.LinkState.TheVariants.{Down, Waiting, Up}
-use Rattle.shdlc_core.specs.Machine.{EndState, Fragment, fetched, after_frames, with_ready, taken, take_answer, ticked, tick_answer, place_of, acknowledged, runs_timer}
+use Rattle.shdlc_core.specs.Machine.{EndState, Fragment, fetched, after_frames, with_ready, taken, take_answer, ticked, tick_answer, place_of, acknowledged}
+use Rattle.shdlc_core.specs.Machine.{runs_timer}
 use Rattle.shdlc_core.proofs.Histories.{received-phase, received-sending}
 use Rattle.link_laws.proofs.Joined.{fetch_cases, ready_cases}
 

@@ -12,26 +12,37 @@ use Rattle.swp_act.specs.declared.Phase.{Phase}
 use Rattle.swp_act.specs.declared.Phase.TheVariants.{Inactive, Awaiting, Active}
 use Rattle.shdlc_core.specs.declared.answers.LinkState.{LinkState}
 use Rattle.shdlc_core.specs.declared.answers.LinkState.TheVariants.{Down, Waiting, Up}
-use Rattle.shdlc_core.specs.Machine.{EndState, frame_due, frames_of, after_frames, most_frames, taken, take_answer, ticked, tick_answer, reset_with, is_waiting, runs_timer, stopped, new_end, no_session}
+use Rattle.shdlc_core.specs.Machine.{EndState, frame_due, frames_of, after_frames, most_frames, taken, take_answer, ticked, tick_answer, reset_with, is_waiting}
+use Rattle.shdlc_core.specs.Machine.{runs_timer, stopped, new_end, no_session}
 use Rattle.hcp_packet.specs.Packets.{fragments_of}
 use Rattle.link_laws.proofs.Idle.{after_frames_idle}
-use Rattle.session_laws.specs.Sessions.{OnWire, ShdlcLink as CoreLink, ShdlcTurn as CoreTurn, ShdlcEndEvent as CoreEndEvent, shdlc_turned as core_turned, is_up, shdlc_put_all as core_put_all, shdlc_becomes as core_becomes, with_shdlc_ended as core_with_ended, with_shdlc_controller as core_with_controller, shdlc_silent as core_silent, shdlc_happens_at_controller as core_happens_here, shdlc_all_at_controller as core_all_here, shdlc_ticks_at_controller as core_ticks_here, ticks_or_cut as core_ticks_or_cut, took_with}
+use Rattle.session_laws.specs.Sessions.{OnWire, ShdlcLink as CoreLink, ShdlcTurn as CoreTurn, ShdlcEndEvent as CoreEndEvent, shdlc_turned as core_turned, is_up}
+use Rattle.session_laws.specs.Sessions.{shdlc_put_all as core_put_all, shdlc_becomes as core_becomes, with_shdlc_ended as core_with_ended}
+use Rattle.session_laws.specs.Sessions.{with_shdlc_controller as core_with_controller, shdlc_silent as core_silent}
+use Rattle.session_laws.specs.Sessions.{shdlc_happens_at_controller as core_happens_here, shdlc_all_at_controller as core_all_here}
+use Rattle.session_laws.specs.Sessions.{shdlc_ticks_at_controller as core_ticks_here, ticks_or_cut as core_ticks_or_cut, took_with}
 use Rattle.session_laws.specs.Sessions.ShdlcEndEvent.{Turns as CoreTurns, Deliver as CoreDeliver, Acts as CoreActs, Stop as CoreStop}
-use Rattle.link_machine.specs.Machine.{LinkEnd, Role, Turn, Refused, is_faulty, is_open, role_after, act_answer, moved, put_down, activated, heard, took, renewed, new_link_end, reset_refusal, if_up, reset_by, window_of, turned, after_input, among, frames_out, sent_all, ended_by, ended_by_act, ended_by_frame}
+use Rattle.link_machine.specs.Machine.{LinkEnd, Role, Turn, Refused, is_faulty, is_open, role_after, act_answer, moved, put_down, activated, heard, took}
+use Rattle.link_machine.specs.Machine.{renewed, new_link_end, reset_refusal, if_up, reset_by, window_of, turned, after_input, among, frames_out, sent_all}
+use Rattle.link_machine.specs.Machine.{ended_by, ended_by_act, ended_by_frame}
 use Rattle.link_machine.specs.Machine.LinkInput.{Tick}
 use Rattle.link_machine.specs.Machine.Role.{Bare, Clf, Uicc}
-use Rattle.message_link.specs.Links.{NumberedEnd, Link, Ending, becomes, put_all, with_controller, with_ended, silent, cut, finished, has_taken, has_restarted, steps_at_controller, ticks_at_controller, AreSendableTurns, IfLine, CanEnd}
+use Rattle.message_link.specs.Links.{NumberedEnd, Link, Ending, becomes, put_all, with_controller, with_ended, silent, cut, finished, has_taken, has_restarted}
+use Rattle.message_link.specs.Links.{steps_at_controller, ticks_at_controller, AreSendableTurns, IfLine, CanEnd}
 use Rattle.message_link.specs.Links.Ending.{GoesOut, CutOff}
 use Rattle.message_link.specs.Links.Comes.{NextFrame, AsksReset}
-use Rattle.message_link.specs.Projection.{core_of, core_turns, core_take, core_ending, core_reset, core_restart, core_step, is_lost_tick, core_tick, core_tick_rest}
+use Rattle.message_link.specs.Projection.{core_of, core_turns, core_take, core_ending, core_reset, core_restart, core_step, is_lost_tick, core_tick}
+use Rattle.message_link.specs.Projection.{core_tick_rest}
 use Rattle.message_link.proofs.Asks.{NoAsk, NoRset, none_due, no_rset, turned_asks, taken_asks, ticked_asks, turned_phase, puts_none}
 use Rattle.message_link.proofs.ActsInOrder.{ActsInOrder, LinkInOrder, IsPolite, with_sent, in_order_cut, in_order_tick}
 use Rattle.message_link.proofs.Ends.{Idle, Keeps, ticked_keeps, frames_alike}
-use Rattle.message_link.proofs.Project.{Mid, Now, mid_moved, moved_role, frames_now, among_now, Tells, Step, step_same, step_turned, step_moved, turns_mid, turned_role, past_ended, host_ended}
+use Rattle.message_link.proofs.Project.{Mid, Now, mid_moved, moved_role, frames_now, among_now, Tells, Step, step_same, step_turned, step_moved, turns_mid}
+use Rattle.message_link.proofs.Project.{turned_role, past_ended, host_ended}
 use Rattle.link_machine.proofs.Runs.{opened}
 use Rattle.link_machine.proofs.Reports.{shdlc_is as shdlc_moved}
 use Rattle.session_laws.proofs.Steps.{took as core_took}
-use Rattle.message_link.proofs.Steps.{FromHost, Rests, is_shdlc, heard_end, heard_is, mid_counted, took_open, took_closed, no_fault_first, polite, role_closes, ComesFirst, step_first, stays_down, activated_role, act_mid, Acted, tick_closes, core_first}
+use Rattle.message_link.proofs.Steps.{FromHost, Rests, is_shdlc, heard_end, heard_is, mid_counted, took_open, took_closed, no_fault_first, polite, role_closes}
+use Rattle.message_link.proofs.Steps.{ComesFirst, step_first, stays_down, activated_role, act_mid, Acted, tick_closes, core_first}
 
 -- ## A step that is cut off
 

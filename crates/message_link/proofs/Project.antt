@@ -11,9 +11,12 @@ use Rattle.shdlc_core.specs.declared.answers.LinkState.TheVariants.{Down, Waitin
 use Rattle.shdlc_core.specs.Machine.{EndState, frames_of, after_frames, most_frames, put_out}
 use Rattle.hcp_packet.specs.Packets.{packets_of, packet_bytes, fragments_of}
 use Rattle.message_laws.specs.Sending.{IsShort, AreShort}
-use Rattle.session_laws.specs.Sessions.{OnWire, ShdlcLink as CoreLink, ShdlcTurn as CoreTurn, shdlc_turned as core_turned, shdlc_turn as core_turn_of, act_frame, shdlc_put as core_put, shdlc_put_all as core_put_all, shdlc_becomes as core_becomes, with_shdlc_ended as core_with_ended, with_shdlc_controller as core_with_controller}
+use Rattle.session_laws.specs.Sessions.{OnWire, ShdlcLink as CoreLink, ShdlcTurn as CoreTurn, shdlc_turned as core_turned, shdlc_turn as core_turn_of}
+use Rattle.session_laws.specs.Sessions.{act_frame, shdlc_put as core_put, shdlc_put_all as core_put_all, shdlc_becomes as core_becomes}
+use Rattle.session_laws.specs.Sessions.{with_shdlc_ended as core_with_ended, with_shdlc_controller as core_with_controller}
 use Rattle.session_laws.specs.Sessions.ShdlcTurn.{Offer}
-use Rattle.link_machine.specs.Machine.{Message, LinkEnd, Role, ActDue, Turn, Refused, is_open, moved, given, give_refusal, aside_refusal, turn, turned, among, frames_out, sent_all}
+use Rattle.link_machine.specs.Machine.{Message, LinkEnd, Role, ActDue, Turn, Refused, is_open, moved, given, give_refusal, aside_refusal, turn, turned, among}
+use Rattle.link_machine.specs.Machine.{frames_out, sent_all}
 use Rattle.link_machine.specs.Machine.Turn.{Give, Hold, FetchMessage, SetAside, Release}
 use Rattle.message_link.specs.Links.{Talk, NumberedEnd, Link, talk_now, put, put_all, becomes, with_ended, AreSendableTurns}
 use Rattle.message_link.specs.Projection.{core_of, core_turn, core_turns}

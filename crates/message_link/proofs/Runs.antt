@@ -6,19 +6,26 @@ use Rattle.swp_act.specs.Activation.{is_active}
 use Rattle.swp_act.specs.declared.clf.ClfAct.{ClfAct}
 use Rattle.swp_act.specs.declared.ActEvent.TheVariants.{Start as ActStart, Stop as ActStop}
 use Rattle.shdlc_core.specs.Machine.{stopped}
-use Rattle.session_laws.specs.Sessions.{OnWire, ShdlcLink as CoreLink, ShdlcTurn as CoreTurn, ShdlcEndEvent as CoreEndEvent, ShdlcLinkEvent as CoreLinkEvent, IsShdlcStart as CoreIsStart, shdlc_exchanged as core_exchanged, shdlc_happens as core_happens, shdlc_happens_at_controller as core_happens_here, shdlc_all_at_controller as core_all_here, shdlc_after as core_after, shdlc_aged as core_aged, ticks_or_cut as core_ticks_or_cut, ticks_if_waiting as core_ticks_if_waiting, AllShdlcAllowed as CoreAllAllowed, AreTurns as CoreAreTurns, IsShdlcAllowed as CoreIsAllowed}
+use Rattle.session_laws.specs.Sessions.{OnWire, ShdlcLink as CoreLink, ShdlcTurn as CoreTurn, ShdlcEndEvent as CoreEndEvent, ShdlcLinkEvent as CoreLinkEvent}
+use Rattle.session_laws.specs.Sessions.{IsShdlcStart as CoreIsStart, shdlc_exchanged as core_exchanged, shdlc_happens as core_happens}
+use Rattle.session_laws.specs.Sessions.{shdlc_happens_at_controller as core_happens_here, shdlc_all_at_controller as core_all_here, shdlc_after as core_after}
+use Rattle.session_laws.specs.Sessions.{shdlc_aged as core_aged, ticks_or_cut as core_ticks_or_cut, ticks_if_waiting as core_ticks_if_waiting}
+use Rattle.session_laws.specs.Sessions.{AllShdlcAllowed as CoreAllAllowed, AreTurns as CoreAreTurns, IsShdlcAllowed as CoreIsAllowed}
 use Rattle.session_laws.specs.Sessions.ShdlcEndEvent.{Deliver as CoreDeliver}
 use Rattle.session_laws.specs.Sessions.ShdlcLinkEvent.{AtController as CoreAtController, AtHost as CoreAtHost, Tick as CoreTick, TickWithout as CoreTickWithout}
 use Rattle.session_laws.proofs.Sending.{SafeLink}
 use Rattle.session_laws.proofs.Steps.{after-append, safe, in_order_here, in_order_there, safe_aged, safe_turns, safe_exchanged, tick_or_cut, tick_if_waiting}
 use Rattle.link_machine.specs.Machine.{LinkEnd, Role, Turn, Refused, reset_refusal, window_of, is_open, moved, role_after, started, renewed, turned}
 use Rattle.link_machine.specs.Machine.Role.{Bare, Clf, Uicc}
-use Rattle.message_link.specs.Links.{Link, NumberedEnd, Ending, Comes, Loss, EndEvent, Node, LinkEvent, exchanged, steps_at_controller, happens_at_controller, all_at_controller, happens, after_link_events, aged, ticks_at_controller, IsClf, IsUicc, IsWindow, CanStart, CanCome, IsNode, IsAllowed, IsOwn, AreOwn, IsEvent, AllAllowed}
+use Rattle.message_link.specs.Links.{Link, NumberedEnd, Ending, Comes, Loss, EndEvent, Node, LinkEvent, exchanged, steps_at_controller, happens_at_controller}
+use Rattle.message_link.specs.Links.{all_at_controller, happens, after_link_events, aged, ticks_at_controller, IsClf, IsUicc, IsWindow, CanStart, CanCome}
+use Rattle.message_link.specs.Links.{IsNode, IsAllowed, IsOwn, AreOwn, IsEvent, AllAllowed}
 use Rattle.message_link.specs.Links.Ending.{GoesOut, CutOff}
 use Rattle.message_link.specs.Links.Comes.{NextFrame, AsksReset, Starts, Stops, NoInput}
 use Rattle.message_link.specs.Links.EndEvent.{Step as EndStep, Lose}
 use Rattle.message_link.specs.Links.LinkEvent.{AtController, AtHost, Ticks, TicksWithout, Activate}
-use Rattle.message_link.specs.Projection.{core_of, core_take, core_ending, core_reset, core_step, core_here, core_all, core_tick, core_tick_rest, is_lost_tick, core_event, core_events}
+use Rattle.message_link.specs.Projection.{core_of, core_take, core_ending, core_reset, core_step, core_here, core_all, core_tick, core_tick_rest, is_lost_tick}
+use Rattle.message_link.specs.Projection.{core_event, core_events}
 use Rattle.message_link.proofs.Project.{Tells, Step, turned_role}
 use Rattle.message_link.proofs.Steps.{Rests, FromHost, activated_role}
 use Rattle.message_link.proofs.Finishing.{step_idle, step_frame, step_reset, step_restart, step_tick, all_here-append}

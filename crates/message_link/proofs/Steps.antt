@@ -1,5 +1,6 @@
 -- Each thing that may happen at an end is projected, where no chain fault comes.
-use Rattle.std.proofs.Common.{◌≡◌, ℕ, ◌<◌, ◌≤◌, Bool, true, false, not, cond, List, [], ◌∷◌, ◌++◌, map, Option, Some, None, ◌⊎◌, inl, inr, refl, ap, sym, subst, ◌∙◌, arith}
+use Rattle.std.proofs.Common.{◌≡◌, ℕ, ◌<◌, ◌≤◌, Bool, true, false, not, cond, List, [], ◌∷◌, ◌++◌, map, Option, Some, None, ◌⊎◌, inl, inr, refl, ap, sym, subst}
+use Rattle.std.proofs.Common.{◌∙◌, arith}
 use Rattle.std.specs.Prelude.{◌+◌, nat_le, is_some, option_to_list, ◌==◌, IsTrue}
 use Rattle.std.proofs.lemmas.Bool.{true≢false}
 use Rattle.std.proofs.lemmas.Grind.{common_steps}
@@ -20,11 +21,15 @@ use Rattle.hcp_packet.specs.Packets.{fragments_of, packets_in, IsFrontOf}
 use Rattle.hcp_chain.specs.Joining.{are_taken}
 use Rattle.message_laws.proofs.TakenLemmas.{no_fault}
 use Rattle.link_laws.specs.Order.{FragmentsInOrder as CoreInOrder}
-use Rattle.session_laws.specs.Sessions.{OnWire, NumberedShdlc as CoreEnd, ShdlcLink as CoreLink, ShdlcTurn as CoreTurn, shdlc_turned as core_turned, is_rset, took_with, shdlc_put_all as core_put_all, shdlc_becomes as core_becomes, with_shdlc_ended as core_with_ended, shdlc_happens_at_controller as core_happens_here, shdlc_all_at_controller as core_all_here, ended_session, shdlc_session_of, shdlc_number_of as core_number_of}
+use Rattle.session_laws.specs.Sessions.{OnWire, NumberedShdlc as CoreEnd, ShdlcLink as CoreLink, ShdlcTurn as CoreTurn, shdlc_turned as core_turned, is_rset}
+use Rattle.session_laws.specs.Sessions.{took_with, shdlc_put_all as core_put_all, shdlc_becomes as core_becomes, with_shdlc_ended as core_with_ended}
+use Rattle.session_laws.specs.Sessions.{shdlc_happens_at_controller as core_happens_here, shdlc_all_at_controller as core_all_here, ended_session}
+use Rattle.session_laws.specs.Sessions.{shdlc_session_of, shdlc_number_of as core_number_of}
 use Rattle.session_laws.specs.Sessions.ShdlcEndEvent.{Deliver as CoreDeliver, Ignore as CoreIgnore, Acts as CoreActs, Lose as CoreLose}
 use Rattle.session_laws.specs.Losses.{is_act}
 use Rattle.session_laws.proofs.Steps.{took as core_took}
-use Rattle.link_machine.specs.Machine.{Message, LinkEnd, Role, ActDue, Turn, is_faulty, is_open, role_after, act_answer, with_act, in_front, moved, put_down, activated, news, took, if_up, turned, ended_by_frame}
+use Rattle.link_machine.specs.Machine.{Message, LinkEnd, Role, ActDue, Turn, is_faulty, is_open, role_after, act_answer, with_act, in_front, moved, put_down}
+use Rattle.link_machine.specs.Machine.{activated, news, took, if_up, turned, ended_by_frame}
 use Rattle.link_machine.specs.Machine.Role.{Bare, Clf, Uicc}
 use Rattle.message_link.specs.Links.{Talk, NumberedEnd, Link, talk_now, ended_talk, talk_of, number_of, becomes, with_ended, AreSendableTurns}
 use Rattle.message_link.specs.Projection.{core_past, core_end, core_of, core_turns, core_take}

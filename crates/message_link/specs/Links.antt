@@ -9,7 +9,8 @@ use Rattle.shdlc_core.specs.declared.answers.LinkState.TheVariants.{Down, Waitin
 use Rattle.shdlc_core.specs.Machine.{Session, no_session, is_waiting}
 use Rattle.hcp_packet.specs.Packets.{IsSendable}
 use Rattle.session_laws.specs.Sessions.{OnWire, is_rset, is_up, fits, aged_wire, took_with}
-use Rattle.link_machine.specs.Machine.{Message, LinkEnd, Role, new_link_end, renewed, started, deactivated, LinkInput, Turn, turned, after_input, frames_out, sent_all, ended_by}
+use Rattle.link_machine.specs.Machine.{Message, LinkEnd, Role, new_link_end, renewed, started, deactivated, LinkInput, Turn, turned, after_input, frames_out}
+use Rattle.link_machine.specs.Machine.{sent_all, ended_by}
 use Rattle.link_machine.specs.Machine.Role.{Bare, Clf, Uicc}
 use Rattle.link_machine.specs.Machine.LinkInput.{Take, Tick, Reset}
 use Rattle.link_machine.specs.Machine.Turn.{Give}

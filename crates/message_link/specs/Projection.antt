@@ -6,14 +6,18 @@ use Rattle.swp_act.specs.declared.ActEvent.{ActEvent}
 use Rattle.swp_act.specs.declared.ActEvent.TheVariants.{Start as ActStart, Stop as ActStop, Take as ActTake, Tick as ActTick}
 use Rattle.shdlc_core.specs.Machine.{Session, is_waiting}
 use Rattle.hcp_packet.specs.Packets.{packets_of, packet_bytes}
-use Rattle.session_laws.specs.Sessions.{OnWire, NumberedShdlc as CoreEnd, ShdlcLink as CoreLink, ShdlcTurn as CoreTurn, ShdlcEndEvent as CoreEndEvent, ShdlcLinkEvent as CoreLinkEvent}
+use Rattle.session_laws.specs.Sessions.{OnWire, NumberedShdlc as CoreEnd, ShdlcLink as CoreLink, ShdlcTurn as CoreTurn, ShdlcEndEvent as CoreEndEvent}
+use Rattle.session_laws.specs.Sessions.{ShdlcLinkEvent as CoreLinkEvent}
 use Rattle.session_laws.specs.Sessions.ShdlcTurn.{Offer, SetReady as CoreSetReady}
-use Rattle.session_laws.specs.Sessions.ShdlcEndEvent.{Turns as CoreTurns, Deliver as CoreDeliver, Ignore as CoreIgnore, Acts as CoreActs, Lose as CoreLose, Reset as CoreReset, Cut as CoreCut, Stop as CoreStop}
+use Rattle.session_laws.specs.Sessions.ShdlcEndEvent.{Turns as CoreTurns, Deliver as CoreDeliver, Ignore as CoreIgnore, Acts as CoreActs, Lose as CoreLose}
+use Rattle.session_laws.specs.Sessions.ShdlcEndEvent.{Reset as CoreReset, Cut as CoreCut, Stop as CoreStop}
 use Rattle.session_laws.specs.Sessions.ShdlcLinkEvent.{AtController as CoreAtController, AtHost as CoreAtHost, Tick as CoreTick, TickWithout as CoreTickWithout}
-use Rattle.link_machine.specs.Machine.{Message, LinkEnd, Turn, Refused, turn, give_refusal, reset_refusal, act_answer, after_input, reset_by, window_of, started, deactivated, is_open}
+use Rattle.link_machine.specs.Machine.{Message, LinkEnd, Turn, Refused, turn, give_refusal, reset_refusal, act_answer, after_input, reset_by, window_of}
+use Rattle.link_machine.specs.Machine.{started, deactivated, is_open}
 use Rattle.link_machine.specs.Machine.LinkInput.{Take, Tick}
 use Rattle.link_machine.specs.Machine.Turn.{Give, Hold}
-use Rattle.message_link.specs.Links.{Talk, NumberedEnd, Link, Ending, Comes, EndEvent, LinkEvent, exchanged, steps_at_controller, happens_at_controller, happens, ticks_at_controller, aged}
+use Rattle.message_link.specs.Links.{Talk, NumberedEnd, Link, Ending, Comes, EndEvent, LinkEvent, exchanged, steps_at_controller, happens_at_controller}
+use Rattle.message_link.specs.Links.{happens, ticks_at_controller, aged}
 use Rattle.message_link.specs.Links.Ending.{GoesOut, CutOff}
 use Rattle.message_link.specs.Links.Comes.{NextFrame, AsksReset, Starts, Stops, NoInput}
 use Rattle.message_link.specs.Links.EndEvent.{Step, Lose}

@@ -47,7 +47,8 @@ pub fn ends_agree_on_the_session()
 
 /// No ended session of an end has the number of the one that goes on.
 pub fn sessions_have_new_numbers()
-    ensures controller { (l : Link) → IsStart l → (events : List LinkEvent) → AllAllowed l events → (after_link_events l events).controller.side.shdlc.phase ≡ Up →
+    ensures controller { (l : Link) → IsStart l → (events : List LinkEvent) → AllAllowed l events →
+        (after_link_events l events).controller.side.shdlc.phase ≡ Up →
         ended_talk (after_link_events l events).controller.past (number_of (after_link_events l events).controller) ≡ no_talk }
     ensures host { (l : Link) → IsStart l → (events : List LinkEvent) → AllAllowed l events → (after_link_events l events).host.side.shdlc.phase ≡ Up →
         ended_talk (after_link_events l events).host.past (number_of (after_link_events l events).host) ≡ no_talk }
@@ -59,7 +60,8 @@ pub fn sessions_have_new_numbers()
 pub fn quiet_session_has_delivered_all()
     ensures to_host { (l : Link) → IsStart l → (events : List LinkEvent) → AllAllowed l events → IsQuiet (after_link_events l events) (losses_of l events) →
         AllDelivered (talk_now (after_link_events l events).controller.side) (talk_now (after_link_events l events).host.side) }
-    ensures to_controller { (l : Link) → IsStart l → (events : List LinkEvent) → AllAllowed l events → IsQuiet (after_link_events l events) (losses_of l events) →
+    ensures to_controller { (l : Link) → IsStart l → (events : List LinkEvent) → AllAllowed l events →
+        IsQuiet (after_link_events l events) (losses_of l events) →
         AllDelivered (talk_now (after_link_events l events).host.side) (talk_now (after_link_events l events).controller.side) }
 {}
 

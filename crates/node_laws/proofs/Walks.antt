@@ -30,8 +30,12 @@ use Rattle.link_machine.specs.Machine.{Message, LinkInput, report}
 use Rattle.node_machine.specs.Parts.{Init, Creation, Notice, Core, Port, Deed}
 use Rattle.node_machine.specs.Parts.Deed.{Commits, Sends, SaysOk, Asks, Releases, Tells, IsAnswered, Drops, SetsErrors, Orders, Hears, GoesOn, Ends}
 use Rattle.node_machine.specs.Carrying.{end_of_node, port_at, finds_room}
-use Rattle.node_machine.specs.Controller.{has_link, creation_in, asked_at, asks_for, view_for, answers_on, commit_deeds, decision_deeds, link_deeds, gates, gate_deeds, own_gate, goes_through, served_at, agreed, creation_deeds, notice_deeds, response_at, is_command_message, relayed_to, unless_asking, if_notice, kind_deeds, own_deeds, relay_deeds, deeds_by_relay, controller_deeds}
-use Rattle.node_machine.specs.HostReplies.{replies, accepts, is_welcome, pipe_named_in, pipe_created, pipe_deleted, pipes_cleared, notified_deeds, orders_of, is_same, learns, init_agreed, init_deeds, deleted_by, created_by, learned, response_deeds, is_gate, gate_of_pipe, ordered_deeds, host_deeds}
+use Rattle.node_machine.specs.Controller.{has_link, creation_in, asked_at, asks_for, view_for, answers_on, commit_deeds, decision_deeds, link_deeds, gates}
+use Rattle.node_machine.specs.Controller.{gate_deeds, own_gate, goes_through, served_at, agreed, creation_deeds, notice_deeds, response_at, is_command_message}
+use Rattle.node_machine.specs.Controller.{relayed_to, unless_asking, if_notice, kind_deeds, own_deeds, relay_deeds, deeds_by_relay, controller_deeds}
+use Rattle.node_machine.specs.HostReplies.{replies, accepts, is_welcome, pipe_named_in, pipe_created, pipe_deleted, pipes_cleared, notified_deeds, orders_of}
+use Rattle.node_machine.specs.HostReplies.{is_same, learns, init_agreed, init_deeds, deleted_by, created_by, learned, response_deeds, is_gate, gate_of_pipe}
+use Rattle.node_machine.specs.HostReplies.{ordered_deeds, host_deeds}
 use Rattle.node_machine.specs.Turns.{deeds_of}
 use Rattle.node_machine.specs.Node.{NodeInput, input_at, forgotten, owed, all_owed, synced}
 use Rattle.node_world.specs.NodeFilters.{is_response}

@@ -16,7 +16,8 @@ use Rattle.gate_admin.specs.declared.view.LinkView.{LinkView}
 use Rattle.gate_admin.specs.declared.decision.Decision.{Decision}
 use Rattle.gate_admin.specs.declared.decision.Decision.TheVariants.{Answer, Commit, Ask}
 use Rattle.gate_admin.specs.View.{has, hosts_where, is_asked}
-use Rattle.gate_admin.specs.Decide.{commits, unless_refused, tests_of_pipe, tests_to_open, tests_to_set_it, tests_to_create, tests_to_delete, tests_to_clear, opening, closing, setting, getting, creating, creation, deleting, clearing, carried_out, decided, ends_of, created}
+use Rattle.gate_admin.specs.Decide.{commits, unless_refused, tests_of_pipe, tests_to_open, tests_to_set_it, tests_to_create, tests_to_delete, tests_to_clear}
+use Rattle.gate_admin.specs.Decide.{opening, closing, setting, getting, creating, creation, deleting, clearing, carried_out, decided, ends_of, created}
 use Rattle.gate_admin.proofs.CreationLemmas.{AllFalse, all_false}
 use Rattle.link_machine.specs.Machine.{Message}
 use Rattle.node_machine.specs.Parts.{Core, Port}

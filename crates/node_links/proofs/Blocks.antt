@@ -15,14 +15,17 @@ use Rattle.shdlc_core.specs.declared.answers.LinkState.TheVariants.{Down, Waitin
 use Rattle.shdlc_core.specs.Machine.{EndState, taken, take_answer, ticked, tick_answer, reset_with, stopped, with_ready, fetched, after_frames, most_frames}
 use Rattle.session_laws.proofs.Ties.{fetched-phase, after_frames-phase}
 use Rattle.hcp_packet.specs.Packets.{packet_count}
-use Rattle.link_machine.specs.Machine.{Message, LinkEnd, LinkInput, ActDue, Role, Turn, Refused, is_faulty, is_open, act_answer, role_after, with_act, moved, put_down, activated, heard, had_tick, took, reset_refusal, reset_by, window_of, renewed, new_link_end, sent_all, frame_fetched, after_input, turn, turned, give_refusal, given, whole_among, need_of_all, need, in_use, spare, if_up}
+use Rattle.link_machine.specs.Machine.{Message, LinkEnd, LinkInput, ActDue, Role, Turn, Refused, is_faulty, is_open, act_answer, role_after, with_act, moved}
+use Rattle.link_machine.specs.Machine.{put_down, activated, heard, had_tick, took, reset_refusal, reset_by, window_of, renewed, new_link_end, sent_all}
+use Rattle.link_machine.specs.Machine.{frame_fetched, after_input, turn, turned, give_refusal, given, whole_among, need_of_all, need, in_use, spare, if_up}
 use Rattle.link_machine.specs.Machine.LinkInput.{Take, TakeUnknown, TakeBroken, Tick, Reset, Start, Stop, FromNode, Fetch}
 use Rattle.link_machine.specs.Machine.Turn.{Give, Hold, FetchMessage, SetAside, Release}
 use Rattle.link_machine.specs.Machine.Role.{Bare, Clf, Uicc}
 use Rattle.link_machine.proofs.Shifts.{IsNotUp, Shift, taken_shift, ticked_shift, reset_shift}
 use Rattle.link_machine.proofs.Shifts.Shift.{Stays, Ends, Renews, Begins, Rests}
 use Rattle.link_machine.proofs.Sound.{SentAfter, whole_more, whole_few, need_less, need_more}
-use Rattle.message_link.specs.Links.{Link, EndEvent, LinkEvent, exchanged, aged, happens_at_controller, all_at_controller, ticks_at_controller, steps_at_controller, happens, after_link_events}
+use Rattle.message_link.specs.Links.{Link, EndEvent, LinkEvent, exchanged, aged, happens_at_controller, all_at_controller, ticks_at_controller}
+use Rattle.message_link.specs.Links.{steps_at_controller, happens, after_link_events}
 use Rattle.message_link.specs.Links.Comes.{Starts}
 use Rattle.message_link.specs.Links.EndEvent.{Step}
 use Rattle.message_link.specs.Links.LinkEvent.{AtController, AtHost, Ticks, TicksWithout, Activate}

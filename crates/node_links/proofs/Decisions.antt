@@ -14,7 +14,9 @@ use Rattle.gate_admin.specs.declared.view.LinkView.{LinkView}
 use Rattle.gate_admin.specs.declared.decision.Decision.{Decision}
 use Rattle.gate_admin.specs.declared.decision.Decision.TheVariants.{Answer, Commit, Ask}
 use Rattle.gate_admin.specs.View.{has, hosts_where, mask_of}
-use Rattle.gate_admin.specs.Decide.{answers, ends_of, value_of, tests_to_set_it, commits, commits_and_tells, unless_refused, opening, closing, setting, getting, creation, creating, deleting, clearing, administration, carried_out, decided, others_opened, created, told_of_deletion, told_of_clearing, tests_to_create, tests_to_open, tests_to_delete, tests_to_clear, tests_of_pipe}
+use Rattle.gate_admin.specs.Decide.{answers, ends_of, value_of, tests_to_set_it, commits, commits_and_tells, unless_refused, opening, closing, setting, getting}
+use Rattle.gate_admin.specs.Decide.{creation, creating, deleting, clearing, administration, carried_out, decided, others_opened, created, told_of_deletion}
+use Rattle.gate_admin.specs.Decide.{told_of_clearing, tests_to_create, tests_to_open, tests_to_delete, tests_to_clear, tests_of_pipe}
 use Rattle.gate_link.specs.Link.{count_bytes, count_in, tests_to_set_errors, link_served, link_unless_refused as link_unless}
 use Rattle.gate_identity.specs.Identity.{identity_value, identity_served, identity_unless_refused as identity_unless}
 

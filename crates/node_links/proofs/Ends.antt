@@ -7,10 +7,12 @@ use Rattle.swp_act.specs.declared.ActEvent.{ActEvent}
 use Rattle.swp_act.specs.declared.ActEvent.TheVariants.{Take as ActTake, Tick as ActTick, Start as ActStart, Stop as ActStop}
 use Rattle.shdlc_core.specs.Machine.{taken, ticked, tick_answer, take_answer, stopped}
 use Rattle.session_laws.specs.Sessions.{OnWire, is_up}
-use Rattle.link_machine.specs.Machine.{LinkEnd, ActDue, Role, LinkInput, Turn, is_faulty, is_open, role_after, renewed, moved, put_down, activated, heard, took, had_tick, turned, after_input, ended_by, frame_fetched, sent_all, new_link_end}
+use Rattle.link_machine.specs.Machine.{LinkEnd, ActDue, Role, LinkInput, Turn, is_faulty, is_open, role_after, renewed, moved, put_down, activated, heard, took}
+use Rattle.link_machine.specs.Machine.{had_tick, turned, after_input, ended_by, frame_fetched, sent_all, new_link_end}
 use Rattle.link_machine.specs.Machine.LinkInput.{Take, TakeUnknown, TakeBroken, Tick, Reset, Start, Stop, FromNode, Fetch}
 use Rattle.link_machine.specs.Machine.Role.{Bare, Clf, Uicc}
-use Rattle.message_link.specs.Links.{Link, Ending, Comes, EndEvent, with_ended, silent, finished, has_taken, steps_at_controller, happens_at_controller, ticks_at_controller, IsClf, IsUicc}
+use Rattle.message_link.specs.Links.{Link, Ending, Comes, EndEvent, with_ended, silent, finished, has_taken, steps_at_controller, happens_at_controller}
+use Rattle.message_link.specs.Links.{ticks_at_controller, IsClf, IsUicc}
 use Rattle.message_link.specs.Links.Ending.{GoesOut, CutOff}
 use Rattle.message_link.specs.Links.Comes.{NextFrame, AsksReset, Starts, Stops, NoInput}
 use Rattle.message_link.specs.Links.EndEvent.{Step, Lose}

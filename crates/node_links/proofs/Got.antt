@@ -11,7 +11,9 @@ use Rattle.shdlc_core.specs.Machine.{Session, taken, ticked, tick_answer, reset_
 use Rattle.hcp_packet.specs.declared.Packet.{Packet}
 use Rattle.hcp_packet.specs.Packets.{packets_in, is_good, good_of, AreSendable}
 use Rattle.hcp_chain.specs.Joining.{join_step, message_in, given_by, is_fifth, grown}
-use Rattle.link_machine.specs.Machine.{Message, LinkEnd, ActDue, Refused, LinkInput, Turn, is_faulty, messages_got, is_open, moved, put_down, activated, started, deactivated, news, heard, took, had_tick, give_refusal, aside_refusal, turn, turned, reset_refusal, reset_by, if_up, window_of, after_input, frame_fetched}
+use Rattle.link_machine.specs.Machine.{Message, LinkEnd, ActDue, Refused, LinkInput, Turn, is_faulty, messages_got, is_open, moved, put_down, activated}
+use Rattle.link_machine.specs.Machine.{started, deactivated, news, heard, took, had_tick, give_refusal, aside_refusal, turn, turned, reset_refusal, reset_by}
+use Rattle.link_machine.specs.Machine.{if_up, window_of, after_input, frame_fetched}
 use Rattle.link_machine.specs.Machine.LinkInput.{Take, TakeUnknown, TakeBroken, Tick, Reset, Start, Stop, FromNode, Fetch}
 use Rattle.link_machine.specs.Machine.Turn.{Give, Hold, FetchMessage, SetAside, Release}
 use Rattle.link_machine.proofs.Kept.{moved_got, down_got, activated_got}

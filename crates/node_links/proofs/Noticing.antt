@@ -19,10 +19,12 @@ use Rattle.session_laws.proofs.Ties.{ready-phase as ready_phase}
 use Rattle.node_machine.specs.Parts.{About, Notice, Desk, Core, Port, Work, Deed}
 use Rattle.node_machine.specs.Parts.About.{Waits, Removed}
 use Rattle.node_machine.specs.Parts.Deed.{Commits, Sends, SaysOk, Asks, Releases, Tells, IsAnswered, Drops, SetsErrors, Orders, Hears, GoesOn, Ends}
-use Rattle.node_machine.specs.Carrying.{end_of_node, noting, unless_cut, port_at, changed_if, with_port, with_desk, after_turn, turn_at, notified, commit, done, all_done, needs, lack}
+use Rattle.node_machine.specs.Carrying.{end_of_node, noting, unless_cut, port_at, changed_if, with_port, with_desk, after_turn, turn_at, notified, commit, done}
+use Rattle.node_machine.specs.Carrying.{all_done, needs, lack}
 use Rattle.node_machine.specs.Controller.{has_link, asked_at, controller_deeds}
 use Rattle.node_machine.specs.Turns.{deeds_of, handles, holds_back, lets_go, have_turns, goes_through_ends, passes}
-use Rattle.node_machine.specs.Node.{NodeInput, input_at, has_come, all_come, older_notice, with_older, is_late, reset_late, times_out, is_over, is_forgotten, forgets, without_notice, after_sessions, forgotten, all_owed, synced, answers_and_passes, steps}
+use Rattle.node_machine.specs.Node.{NodeInput, input_at, has_come, all_come, older_notice, with_older, is_late, reset_late, times_out, is_over, is_forgotten}
+use Rattle.node_machine.specs.Node.{forgets, without_notice, after_sessions, forgotten, all_owed, synced, answers_and_passes, steps}
 use Rattle.node_machine.specs.Node.NodeInput.{AtEnd, TimePasses}
 use Rattle.node_links.specs.Notices.{Reaches, AllReach, IsComing, IsOutside, IsNoticedUp, IsBegun, OnFirst}
 use Rattle.node_links.proofs.Staying.{stays_up}

@@ -26,7 +26,9 @@ use Rattle.node_machine.specs.Parts.Deed.{Sends, Orders}
 use Rattle.node_machine.specs.Controller.{is_command_message}
 use Rattle.node_machine.specs.Node.{steps, begins_with}
 use Rattle.node_machine.specs.Node.NodeInput.{AtEnd}
-use Rattle.node_world.specs.World.{Site, NodeWorld, Happening, new_site, new_world, link_to, ending_of, turns_at, input_of, controller_work, link_after_controller, after_controller, controller_does, host_does, memory_at, sending, beginning, comes_at, end_c, end_h, activates, world_step}
+use Rattle.node_world.specs.World.{Site, NodeWorld, Happening, new_site, new_world, link_to, ending_of, turns_at, input_of, controller_work}
+use Rattle.node_world.specs.World.{link_after_controller, after_controller, controller_does, host_does, memory_at, sending, beginning, comes_at, end_c, end_h}
+use Rattle.node_world.specs.World.{activates, world_step}
 use Rattle.node_world.specs.World.Happening.{Boots, IsCut, Gives, Inits, Takes, Loses, Ticks, Resets, Activates, Arms}
 use Rattle.node_world.specs.Lines.{first_cause, if_off, refusal_in, happens_by, frames_at, Occurrence, can_happen, all_happen, LineOutcome, goes_on, line_step}
 use Rattle.node_world.specs.Lines.LineOutcome.{WasRefused}
@@ -35,7 +37,8 @@ use Rattle.node_world.specs.NodeHistories.{world_after}
 use Rattle.node_links.proofs.Deeds.{AreFine}
 use Rattle.node_links.proofs.Works.{all_done_fine, steps_fine}
 use Rattle.node_links.proofs.Sites.{MayCome, new_fine}
-use Rattle.node_links.proofs.Worlds.{AreFineSites, IsFineWorld, AtHostOnly, CanReach, power_fine, memory_fine, boots_fine, lost_fine, ticks_fine_all, controller_fine, host_fine}
+use Rattle.node_links.proofs.Worlds.{AreFineSites, IsFineWorld, AtHostOnly, CanReach, power_fine, memory_fine, boots_fine, lost_fine, ticks_fine_all}
+use Rattle.node_links.proofs.Worlds.{controller_fine, host_fine}
 
 -- ## What comes to an end
 

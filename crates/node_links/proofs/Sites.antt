@@ -5,7 +5,9 @@ use Rattle.shdlc_core.specs.Machine.{is_waiting}
 use Rattle.link_machine.specs.Machine.{Role, Turn}
 use Rattle.link_machine.specs.Machine.LinkInput.{Reset}
 use Rattle.link_machine.specs.Machine.Role.{Bare, Clf, Uicc}
-use Rattle.message_link.specs.Links.{Link, NumberedEnd, Ending, Comes, Loss, EndEvent, Node, LinkEvent, exchanged, aged, has_input, ticks_at_controller, happens_at_controller, happens, after_link_events, AreSendableTurns, IsClf, IsUicc, IfLine, IsWindow, CanEnd, CanCome, IsEvent, AllAllowed}
+use Rattle.message_link.specs.Links.{Link, NumberedEnd, Ending, Comes, Loss, EndEvent, Node, LinkEvent, exchanged, aged, has_input, ticks_at_controller}
+use Rattle.message_link.specs.Links.{happens_at_controller, happens, after_link_events, AreSendableTurns, IsClf, IsUicc, IfLine, IsWindow, CanEnd, CanCome}
+use Rattle.message_link.specs.Links.{IsEvent, AllAllowed}
 use Rattle.message_link.specs.Links.Ending.{GoesOut, CutOff}
 use Rattle.message_link.specs.Links.Comes.{NextFrame, AsksReset, Starts, Stops, NoInput}
 use Rattle.message_link.specs.Links.EndEvent.{Step, Lose}

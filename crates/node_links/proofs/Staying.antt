@@ -11,7 +11,8 @@ use Rattle.swp_act.specs.declared.ActEvent.{ActEvent}
 use Rattle.swp_act.specs.declared.ActEvent.TheVariants.{Take as ActTake, Tick as ActTick}
 use Rattle.shdlc_core.specs.declared.answers.LinkState.TheVariants.{Up}
 use Rattle.shdlc_core.specs.Machine.{EndState, taken, take_answer, ticked, tick_answer}
-use Rattle.link_machine.specs.Machine.{LinkEnd, Refused, LinkInput, is_faulty, is_open, act_answer, role_after, with_act, moved, put_down, activated, heard, had_tick, reset_refusal, if_up, after_input, ended_by, ended_by_act}
+use Rattle.link_machine.specs.Machine.{LinkEnd, Refused, LinkInput, is_faulty, is_open, act_answer, role_after, with_act, moved, put_down, activated, heard}
+use Rattle.link_machine.specs.Machine.{had_tick, reset_refusal, if_up, after_input, ended_by, ended_by_act}
 use Rattle.link_machine.specs.Machine.LinkInput.{Take, TakeUnknown, TakeBroken, Tick, Reset, Start, Stop, FromNode, Fetch}
 use Rattle.link_machine.proofs.Shifts.{Shift, taken_shift, ticked_shift}
 use Rattle.link_machine.proofs.Shifts.Shift.{Stays, Ends, Renews, Begins, Rests}

@@ -14,7 +14,8 @@ use Rattle.journal_laws.specs.Planned.{fails_within, after_planned}
 use Rattle.link_machine.specs.Machine.{Turn}
 use Rattle.link_machine.specs.Machine.LinkInput.{Reset}
 use Rattle.link_machine.specs.Machine.Role.{Bare}
-use Rattle.message_link.specs.Links.{Link, NumberedEnd, Ending, Comes, Loss, Node, new_link, exchanged, aged, has_input, ticks_at_controller, happens, AreSendableTurns, CanCome}
+use Rattle.message_link.specs.Links.{Link, NumberedEnd, Ending, Comes, Loss, Node, new_link, exchanged, aged, has_input, ticks_at_controller, happens}
+use Rattle.message_link.specs.Links.{AreSendableTurns, CanCome}
 use Rattle.message_link.specs.Links.Ending.{GoesOut, CutOff}
 use Rattle.message_link.specs.Links.Comes.{NextFrame, AsksReset, Starts, Stops, NoInput}
 use Rattle.message_link.specs.Links.Loss.{OnDemand, Broken, Unread, TooOld, TooMany}
@@ -27,7 +28,10 @@ use Rattle.node_machine.specs.Parts.{Desk, Running, Port, Work}
 use Rattle.node_machine.specs.Carrying.{changed_if, port_at}
 use Rattle.node_machine.specs.Node.{steps, found, boot_writes, with_error, new_desk}
 use Rattle.node_machine.specs.Node.NodeInput.{TimePasses}
-use Rattle.node_world.specs.World.{Site, NodeWorld, wires_for, frames_noted, site_at, with_site, link_to, ending_of, runs_on, turns_at, near_end_in, port_for, work_of, comes_to, controller_work, link_after_controller, after_controller, controller_does, host_work, after_host, host_does, controller_cut, host_cut, loses_power_at, memory_at, with_memory, with_node, links_of, boots, counts, frame_lost, all_aged, is_late_at, ticked_so, controller_ticks, host_ticks, hosts_tick, world_ticks}
+use Rattle.node_world.specs.World.{Site, NodeWorld, wires_for, frames_noted, site_at, with_site, link_to, ending_of, runs_on, turns_at, near_end_in, port_for}
+use Rattle.node_world.specs.World.{work_of, comes_to, controller_work, link_after_controller, after_controller, controller_does, host_work, after_host}
+use Rattle.node_world.specs.World.{host_does, controller_cut, host_cut, loses_power_at, memory_at, with_memory, with_node, links_of, boots, counts, frame_lost}
+use Rattle.node_world.specs.World.{all_aged, is_late_at, ticked_so, controller_ticks, host_ticks, hosts_tick, world_ticks}
 use Rattle.node_links.proofs.Got.{Clean}
 use Rattle.node_links.proofs.Deeds.{IsTrueDesk}
 use Rattle.node_links.proofs.Works.{AreFinePorts, IsFineWork, fine_at, steps_fine}

@@ -1,5 +1,6 @@
 -- Each event of a world but a tick leaves each link told.
-use Rattle.std.proofs.Common.{◌≡◌, ℕ, ◌==◌, Bool, true, false, cond, List, [], ◌∷◌, ◌++◌, length, Option, Some, None, map, refl, ap, sym, subst, ◌∙◌, append_assoc}
+use Rattle.std.proofs.Common.{◌≡◌, ℕ, ◌==◌, Bool, true, false, cond, List, [], ◌∷◌, ◌++◌, length, Option, Some, None, map, refl, ap, sym, subst, ◌∙◌}
+use Rattle.std.proofs.Common.{append_assoc}
 use Rattle.std.specs.Prelude.{is_some, min, ◌+◌}
 use Rattle.std.specs.List.{AllByRecursion}
 use Rattle.std.proofs.lemmas.Bool.{eqb-true, true≢false}
@@ -31,13 +32,17 @@ use Rattle.node_machine.specs.Parts.{Desk, Running, Work, Deed}
 use Rattle.node_machine.specs.Carrying.{changed_if}
 use Rattle.node_machine.specs.Node.{steps, begins_with, found, boot_writes, with_error, new_desk}
 use Rattle.node_machine.specs.Node.NodeInput.{AtEnd}
-use Rattle.node_world.specs.World.{Site, NodeWorld, site_at, with_site, link_to, input_of, near_end_in, arrival, work_of, ending_of, turns_at, runs_on, comes_to, controller_work, link_after_controller, after_controller, controller_does, host_work, after_host, host_does, controller_cut, host_cut, loses_power_at, memory_at, with_memory, with_node, links_of, boots, counts, frame_lost, comes_at, end_c, end_h, activates}
+use Rattle.node_world.specs.World.{Site, NodeWorld, site_at, with_site, link_to, input_of, near_end_in, arrival, work_of, ending_of, turns_at, runs_on}
+use Rattle.node_world.specs.World.{comes_to, controller_work, link_after_controller, after_controller, controller_does, host_work, after_host, host_does}
+use Rattle.node_world.specs.World.{controller_cut, host_cut, loses_power_at, memory_at, with_memory, with_node, links_of, boots, counts, frame_lost, comes_at}
+use Rattle.node_world.specs.World.{end_c, end_h, activates}
 use Rattle.link_entries.proofs.Lasting.{same_number}
 use Rattle.node_links.proofs.Ends.{here_host}
 use Rattle.node_links.proofs.Works.{IsFineWork, all_done_fine, steps_fine}
 use Rattle.node_links.proofs.Deeds.{AreFine}
 use Rattle.node_links.proofs.Sites.{MayCome, clf_line, uicc_line, can_come, can_end}
-use Rattle.node_links.proofs.Worlds.{AreTrueDesks, IsFineNode, IsFineSite, IsFineWorld, AtHostOnly, CanReach, near_end_clean, near_clean, fine_clean, ports_fine, turns_fine, may_here, memory_fine}
+use Rattle.node_links.proofs.Worlds.{AreTrueDesks, IsFineNode, IsFineSite, IsFineWorld, AtHostOnly, CanReach, near_end_clean, near_clean, fine_clean}
+use Rattle.node_links.proofs.Worlds.{ports_fine, turns_fine, may_here, memory_fine}
 use Rattle.node_links.proofs.Playing.{plain_reach, starts_fine, starts_then}
 use Rattle.node_telling.specs.Telling.{of_link, TellOf, HasEnds, IfItRuns, hosts_in, IsOrderly, IfOff}
 use Rattle.node_telling.specs.Standing.{StandsOf}
@@ -53,7 +58,8 @@ use Rattle.node_readings.proofs.NoticedWorlds.{far_side}
 use Rattle.node_order.specs.Told.{IsLinkTold}
 use Rattle.node_order.proofs.Unnoticed.{IfNone, IsHostWork, AreUnnoticed, all_done_none, steps_none, runs_none}
 use Rattle.node_order.proofs.Watches.{IsStepOf, WatchedLink, watched, unwatched, opened, watch_begins, watched-append}
-use Rattle.node_order.proofs.Knowing.{told_more, LeaveLink, told_same, cut_clf, cut_uicc, Knows, Each, later, each_empty, each_back, each_alike, was_there, each_map, each_site}
+use Rattle.node_order.proofs.Knowing.{told_more, LeaveLink, told_same, cut_clf, cut_uicc, Knows, Each, later, each_empty, each_back, each_alike, was_there}
+use Rattle.node_order.proofs.Knowing.{each_map, each_site}
 use Rattle.node_order.proofs.Wires.{Shown, shown_same, clear_unstarted, shown_more, step_shown, AreEmpty, started_empty, empty_shown}
 
 -- a world that is orderly, and whose nodes send what may be sent

@@ -4,12 +4,15 @@ use Rattle.std.specs.Prelude.{is_some}
 use Rattle.std.proofs.lemmas.Bool.{true≢false, eqb-true}
 use Rattle.swp_act.specs.declared.ActEvent.TheVariants.{Start as ActStart}
 use Rattle.shdlc_core.specs.declared.answers.LinkState.TheVariants.{Down as IsDown}
-use Rattle.session_laws.specs.Sessions.{OnWire, ShdlcLink as CoreLink, ShdlcEndEvent as CoreEndEvent, shdlc_aged as core_aged, ticks_or_cut as core_ticks_or_cut, ticks_if_waiting as core_ticks_if_waiting, took_with}
+use Rattle.session_laws.specs.Sessions.{OnWire, ShdlcLink as CoreLink, ShdlcEndEvent as CoreEndEvent, shdlc_aged as core_aged}
+use Rattle.session_laws.specs.Sessions.{ticks_or_cut as core_ticks_or_cut, ticks_if_waiting as core_ticks_if_waiting, took_with}
 use Rattle.session_laws.proofs.Sending.{SafeLink}
 use Rattle.session_laws.proofs.Steps.{safe_aged, safe_turns, tick_or_cut, tick_if_waiting}
 use Rattle.link_machine.specs.Machine.{LinkInput, Turn, turned, after_input, ended_by, frames_out}
 use Rattle.link_machine.specs.Machine.LinkInput.{Take, Tick as HasTick, Reset, Start, Stop}
-use Rattle.message_link.specs.Links.{NumberedEnd, Link, Ending, EndEvent, Node, LinkEvent, exchanged, number_of, with_ended, silent, steps_at_controller, happens_at_controller, happens, all_at_controller, ticks_at_controller, aged, CanStart, IsUicc, IsNode, IsOwn, AreOwn, IsEvent}
+use Rattle.message_link.specs.Links.{NumberedEnd, Link, Ending, EndEvent, Node, LinkEvent, exchanged, number_of, with_ended, silent, steps_at_controller}
+use Rattle.message_link.specs.Links.{happens_at_controller, happens, all_at_controller, ticks_at_controller, aged, CanStart, IsUicc, IsNode, IsOwn, AreOwn}
+use Rattle.message_link.specs.Links.{IsEvent}
 use Rattle.message_link.specs.Links.Comes.{NextFrame, AsksReset, Starts, Stops, NoInput}
 use Rattle.message_link.specs.Links.EndEvent.{Step, Lose}
 use Rattle.message_link.specs.Links.LinkEvent.{AtController, AtHost, Ticks, TicksWithout, Activate}
@@ -17,7 +20,8 @@ use Rattle.message_link.specs.Projection.{core_of, core_end, core_here, core_all
 use Rattle.message_link.proofs.Project.{Tells}
 use Rattle.message_link.proofs.Finishing.{step_tick}
 use Rattle.message_link.proofs.Runs.{Good, Reached, safe_reached, rests_of, reached_more, event_step, own_here, own_turns, all_step, rest_both, clf_starts}
-use Rattle.link_entries.specs.Entries.{End, Entry, told_of, left_after, rest_entries, taken_entries, step_entries, here_entries, entries_of_events, tick_entries, aged_entries, event_entries}
+use Rattle.link_entries.specs.Entries.{End, Entry, told_of, left_after, rest_entries, taken_entries, step_entries, here_entries, entries_of_events}
+use Rattle.link_entries.specs.Entries.{tick_entries, aged_entries, event_entries}
 use Rattle.link_entries.specs.Entries.End.{Controller, Host}
 use Rattle.link_entries.specs.Entries.Entry.{Took}
 use Rattle.link_entries.specs.Quiet.{begins}
@@ -29,7 +33,8 @@ use Rattle.message_link.proofs.Project.{host_ended as ended_host}
 use Rattle.link_entries.proofs.Sparing.{silences}
 use Rattle.node_order.proofs.Marking.{IsPast, turns_past, near_past, far_past}
 use Rattle.node_order.proofs.Jumping.{Jumps, StaysWithin, number_seen, all_jump, silenced, all_resets, all_number, see_within}
-use Rattle.node_order.proofs.Silencing.{IsDeaf, Hears, hears_parts, input_heard, rest_heard, none_first, none_aged, here_down, tick_down, restart_down, down_past, silences_deaf, never_put}
+use Rattle.node_order.proofs.Silencing.{IsDeaf, Hears, hears_parts, input_heard, rest_heard, none_first, none_aged, here_down, tick_down, restart_down}
+use Rattle.node_order.proofs.Silencing.{down_past, silences_deaf, never_put}
 
 -- no session with this number begins at the controller's end of this link, which has this name, any more
 abbrev pub IsGone : ℕ → End → Link → Type 0

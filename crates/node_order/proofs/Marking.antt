@@ -4,8 +4,12 @@ use Rattle.std.specs.Prelude.{is_some, if◌then◌else◌}
 use Rattle.swp_base.specs.declared.control_frames.Control.{Control}
 use Rattle.shdlc_core.specs.declared.answers.LinkState.{LinkState}
 use Rattle.shdlc_core.specs.declared.answers.LinkState.TheVariants.{Down, Waiting, Up}
-use Rattle.shdlc_core.specs.Machine.{EndState, Session, no_session, is_waiting, new_end, stopped, taken, take_answer, ticked, tick_answer, reset_with, frames_of, after_frames, most_frames}
-use Rattle.session_laws.specs.Sessions.{OnWire, NumberedShdlc, ShdlcLink, ShdlcTurn, ShdlcEndEvent, ShdlcLinkEvent, shdlc_number_of, ended_session, shdlc_session_of, shdlc_exchanged, shdlc_put, shdlc_put_all, shdlc_becomes, shdlc_turned, with_shdlc_ended, act_frame, shdlc_silent, took_with, is_rset, is_up, shdlc_happens_at_controller, shdlc_ticks_at_controller, shdlc_aged, ticks_or_cut, ticks_if_waiting, AreTurns, shdlc_all_at_controller, AllShdlcAllowed, shdlc_happens, shdlc_after}
+use Rattle.shdlc_core.specs.Machine.{EndState, Session, no_session, is_waiting, new_end, stopped, taken, take_answer, ticked, tick_answer, reset_with}
+use Rattle.shdlc_core.specs.Machine.{frames_of, after_frames, most_frames}
+use Rattle.session_laws.specs.Sessions.{OnWire, NumberedShdlc, ShdlcLink, ShdlcTurn, ShdlcEndEvent, ShdlcLinkEvent, shdlc_number_of, ended_session}
+use Rattle.session_laws.specs.Sessions.{shdlc_session_of, shdlc_exchanged, shdlc_put, shdlc_put_all, shdlc_becomes, shdlc_turned, with_shdlc_ended, act_frame}
+use Rattle.session_laws.specs.Sessions.{shdlc_silent, took_with, is_rset, is_up, shdlc_happens_at_controller, shdlc_ticks_at_controller, shdlc_aged}
+use Rattle.session_laws.specs.Sessions.{ticks_or_cut, ticks_if_waiting, AreTurns, shdlc_all_at_controller, AllShdlcAllowed, shdlc_happens, shdlc_after}
 use Rattle.session_laws.specs.Sessions.ShdlcEndEvent.{Turns, Deliver, Ignore, Acts, Lose, Reset, Cut, Stop}
 use Rattle.session_laws.specs.Sessions.ShdlcLinkEvent.{AtController, AtHost, Tick, TickWithout}
 use Rattle.session_laws.specs.Losses.{sans}

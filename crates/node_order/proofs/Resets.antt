@@ -33,7 +33,8 @@ use Rattle.node_machine.specs.Parts.{Running, Work}
 use Rattle.node_machine.specs.Carrying.{changed_if}
 use Rattle.node_machine.specs.Node.{steps}
 use Rattle.node_machine.specs.Node.NodeInput.{AtEnd}
-use Rattle.node_world.specs.World.{Site, NodeWorld, site_at, with_site, node_at, node_of, turns_at, ending_of, controller_work, link_after_controller, after_controller, controller_does, host_work, after_host, host_does, world_step}
+use Rattle.node_world.specs.World.{Site, NodeWorld, site_at, with_site, node_at, node_of, turns_at, ending_of, controller_work, link_after_controller}
+use Rattle.node_world.specs.World.{after_controller, controller_does, host_work, after_host, host_does, world_step}
 use Rattle.node_world.specs.World.Happening.{Resets}
 use Rattle.node_world.specs.Lines.{first_cause, if_off, machine_in, refusal_in}
 use Rattle.node_links.specs.Runs.{new_line, IsRunOf}

@@ -20,7 +20,8 @@ use Rattle.history.specs.Filters.Saying.{Begins, Ends, Sends, Gets, Counts, Puts
 use Rattle.history.specs.Steps.{end_of}
 use Rattle.history_laws.proofs.Noted.{same_as, if_said}
 use Rattle.node_links.specs.Runs.{new_line}
-use Rattle.node_telling.specs.Standing.{Standing, new_standing, said_near, said_far, stands_said, without_power, after_power, stands_noted, standing, law_noted, standing_by_law}
+use Rattle.node_telling.specs.Standing.{Standing, new_standing, said_near, said_far, stands_said, without_power, after_power, stands_noted, standing, law_noted}
+use Rattle.node_telling.specs.Standing.{standing_by_law}
 use Rattle.node_order.specs.Told.{IsLinkTold, AreSessionsRead}
 
 -- the session of an end

@@ -1,5 +1,6 @@
 -- An end that is started, stopped or cut off in a step is Down behind it, and what it comes up with is noted.
-use Rattle.std.proofs.Common.{◌≡◌, ℕ, ◌<◌, ◌≤◌, Bool, true, false, List, [], ◌∷◌, ◌++◌, length, map, Option, Some, None, ◌⊎◌, inl, inr, refl, ap, sym, ◌∙◌, arith}
+use Rattle.std.proofs.Common.{◌≡◌, ℕ, ◌<◌, ◌≤◌, Bool, true, false, List, [], ◌∷◌, ◌++◌, length, map, Option, Some, None, ◌⊎◌, inl, inr, refl, ap, sym, ◌∙◌}
+use Rattle.std.proofs.Common.{arith}
 use Rattle.std.specs.Prelude.{nat_lt, ◌||◌, is_some, option_to_list}
 use Rattle.std.specs.List.{list_any, AllByRecursion}
 use Rattle.std.proofs.lemmas.Bool.{true≢false}
@@ -11,11 +12,14 @@ use Rattle.shdlc_core.specs.declared.answers.LinkState.TheVariants.{Down as IsDo
 use Rattle.shdlc_core.specs.Machine.{EndState, most_frames, stopped}
 use Rattle.session_laws.specs.Sessions.{OnWire, took_with}
 use Rattle.session_laws.proofs.Data.{bound}
-use Rattle.link_machine.specs.Machine.{Message, LinkEnd, Role, Refused, LinkInput, Turn, Report, turn, turned, give_refusal, report, after_input, ended_by, activated, moved, took as took_frame, renewed, new_link_end, frames_out, whole_acked}
+use Rattle.link_machine.specs.Machine.{Message, LinkEnd, Role, Refused, LinkInput, Turn, Report, turn, turned, give_refusal, report, after_input, ended_by}
+use Rattle.link_machine.specs.Machine.{activated, moved, took as took_frame, renewed, new_link_end, frames_out, whole_acked}
 use Rattle.link_machine.specs.Machine.Role.{Bare, Clf, Uicc}
 use Rattle.link_machine.specs.Machine.LinkInput.{Take, Tick as HasTick, Reset, Start, Stop}
 use Rattle.link_machine.specs.Machine.Turn.{Give, Hold, FetchMessage, SetAside, Release}
-use Rattle.message_link.specs.Links.{NumberedEnd, Link, Ending, Comes, Loss, EndEvent, Node, LinkEvent, exchanged, number_of, put, with_ended, silent, finished, steps_at_controller, happens_at_controller, happens, all_at_controller, ticks_at_controller, aged, CanEnd, IsNode, IsAllowed}
+use Rattle.message_link.specs.Links.{NumberedEnd, Link, Ending, Comes, Loss, EndEvent, Node, LinkEvent, exchanged, number_of, put, with_ended, silent, finished}
+use Rattle.message_link.specs.Links.{steps_at_controller, happens_at_controller, happens, all_at_controller, ticks_at_controller, aged, CanEnd, IsNode}
+use Rattle.message_link.specs.Links.{IsAllowed}
 use Rattle.message_link.specs.Links.Ending.{GoesOut, CutOff}
 use Rattle.message_link.specs.Links.Comes.{NextFrame, AsksReset, Starts, Stops, NoInput}
 use Rattle.message_link.specs.Links.Loss.{TooMany, TooOld}
@@ -25,7 +29,9 @@ use Rattle.message_link.specs.Projection.{core_end}
 use Rattle.message_link.proofs.Ends.{frames_alike}
 use Rattle.message_link.proofs.Project.{Now}
 use Rattle.message_link.proofs.Finishing.{can_end, took_can, restart_mid}
-use Rattle.link_entries.specs.Entries.{End, Entry, far, if_so, told, told_of, turn_entry, turn_entries, sent_unless, first_lost, pushed_out, wire_with, put_entries, puts_entries, ending_entries, rest_entries, left_after, taken_entries, step_entries, here_entries, entries_of_events, tick_entries, aged_entries, event_entries, entries}
+use Rattle.link_entries.specs.Entries.{End, Entry, far, if_so, told, told_of, turn_entry, turn_entries, sent_unless, first_lost, pushed_out, wire_with}
+use Rattle.link_entries.specs.Entries.{put_entries, puts_entries, ending_entries, rest_entries, left_after, taken_entries, step_entries, here_entries}
+use Rattle.link_entries.specs.Entries.{entries_of_events, tick_entries, aged_entries, event_entries, entries}
 use Rattle.link_entries.specs.Entries.End.{Controller, Host}
 use Rattle.link_entries.specs.Entries.Entry.{Up, Down, Active, GaveUp, Acked, Got, Sent, Emit, Took, Lost, Tick, Restarted, Cut}
 use Rattle.link_entries.proofs.Noting.{turned_same, reset_role, restart_can, tick_can}

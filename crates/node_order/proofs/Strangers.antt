@@ -23,7 +23,11 @@ use Rattle.node_machine.specs.Parts.{Desk, Running, Work, Deed}
 use Rattle.node_machine.specs.Carrying.{port_at}
 use Rattle.node_machine.specs.Node.{steps, begins_with, found, boot_writes}
 use Rattle.node_machine.specs.Node.NodeInput.{AtEnd}
-use Rattle.node_world.specs.World.{Site, NodeWorld, Happening, site_at, with_site, link_to, input_of, near_end_in, arrival, work_of, ending_of, turns_at, comes_to, controller_work, link_after_controller, after_controller, controller_does, host_work, after_host, host_does, frames_noted, wires_for, controller_cut, host_cut, loses_power_at, memory_at, with_memory, with_node, links_of, boots, counts, frame_lost, sending, beginning, comes_at, end_c, end_h, all_aged, is_late_at, ticked_so, controller_ticks, hosts_tick, world_ticks, world_step}
+use Rattle.node_world.specs.World.{Site, NodeWorld, Happening, site_at, with_site, link_to, input_of, near_end_in, arrival, work_of, ending_of, turns_at}
+use Rattle.node_world.specs.World.{comes_to, controller_work, link_after_controller, after_controller, controller_does, host_work, after_host, host_does}
+use Rattle.node_world.specs.World.{frames_noted, wires_for, controller_cut, host_cut, loses_power_at, memory_at, with_memory, with_node, links_of, boots}
+use Rattle.node_world.specs.World.{counts, frame_lost, sending, beginning, comes_at, end_c, end_h, all_aged, is_late_at, ticked_so, controller_ticks}
+use Rattle.node_world.specs.World.{hosts_tick, world_ticks, world_step}
 use Rattle.node_world.specs.World.Happening.{Boots, IsCut, Gives, Inits, Takes, Loses, Ticks, Resets, Activates, Arms}
 use Rattle.kept_laws.proofs.Sites.{hosts_same, hosts_with}
 use Rattle.node_telling.specs.Telling.{of_link, IfItRuns, hosts_in, IsOrderly}

@@ -11,7 +11,8 @@ use Rattle.journal_laws.specs.Planned.{after_planned}
 use Rattle.link_machine.specs.Machine.{LinkEnd, Turn, is_open, new_link_end, turned, after_input, sent_all}
 use Rattle.link_machine.specs.Machine.LinkInput.{Tick, Reset}
 use Rattle.link_machine.specs.Machine.Role.{Clf, Uicc}
-use Rattle.message_link.specs.Links.{NumberedEnd, Link, Ending, LinkEvent, exchanged, aged, has_input, ticks_at_controller, AreSendableTurns, IsClf, IsUicc, IsEvent}
+use Rattle.message_link.specs.Links.{NumberedEnd, Link, Ending, LinkEvent, exchanged, aged, has_input, ticks_at_controller, AreSendableTurns, IsClf, IsUicc}
+use Rattle.message_link.specs.Links.{IsEvent}
 use Rattle.message_link.specs.Links.Ending.{GoesOut, CutOff}
 use Rattle.message_link.specs.Links.Comes.{AsksReset}
 use Rattle.message_link.specs.Links.EndEvent.{Step}
@@ -20,7 +21,8 @@ use Rattle.message_link.proofs.Whole.{from_start}
 use Rattle.node_machine.specs.Parts.{Notice, Desk, Running}
 use Rattle.node_machine.specs.Carrying.{port_at}
 use Rattle.node_machine.specs.Node.NodeInput.{TimePasses}
-use Rattle.node_world.specs.World.{Site, NodeWorld, site_at, link_to, port_for, work_of, ending_of, turns_at, runs_on, all_aged, is_late_at, ticked_so, controller_ticks, host_ticks, hosts_tick, world_ticks}
+use Rattle.node_world.specs.World.{Site, NodeWorld, site_at, link_to, port_for, work_of, ending_of, turns_at, runs_on, all_aged, is_late_at, ticked_so}
+use Rattle.node_world.specs.World.{controller_ticks, host_ticks, hosts_tick, world_ticks}
 use Rattle.node_links.specs.Runs.{new_line}
 use Rattle.node_links.specs.Notices.{IsNoticedUp, OnFirst}
 use Rattle.node_links.proofs.Got.{Clean}

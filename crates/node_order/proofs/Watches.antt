@@ -1,5 +1,6 @@
 -- How a link stands, and whether nothing has withheld the answer to a reset of it.
-use Rattle.std.proofs.Common.{◌≡◌, ℕ, suc, ◌+◌, ◌≤◌, Bool, true, false, cond, List, [], ◌∷◌, ◌++◌, length, replicate, Option, Some, None, refl, ap, sym, subst, ◌∙◌, append-nil, append_assoc, length-append, arith}
+use Rattle.std.proofs.Common.{◌≡◌, ℕ, suc, ◌+◌, ◌≤◌, Bool, true, false, cond, List, [], ◌∷◌, ◌++◌, length, replicate, Option, Some, None, refl, ap, sym, subst}
+use Rattle.std.proofs.Common.{◌∙◌, append-nil, append_assoc, length-append, arith}
 use Rattle.std.specs.Prelude.{◌==◌, ◌&&◌, ◌||◌, not, drop, if◌then◌else◌}
 use Rattle.std.specs.List.{AllByRecursion, list_any}
 use Rattle.std.proofs.lemmas.Bool.{true≢false}
@@ -28,7 +29,8 @@ use Rattle.node_world.specs.World.Happening.{Activates}
 use Rattle.node_links.specs.Runs.{new_line, IsRunOf}
 use Rattle.node_links.proofs.Sites.{run_of_more}
 use Rattle.node_telling.specs.Telling.{is_of, of_link, TellOf}
-use Rattle.node_telling.specs.Standing.{Standing, new_standing, with_empty_wires, as_event_begins, said_near, said_far, stands_said, stands_noted, standing, law_noted, standing_by_law, StandsOf}
+use Rattle.node_telling.specs.Standing.{Standing, new_standing, with_empty_wires, as_event_begins, said_near, said_far, stands_said, stands_noted, standing}
+use Rattle.node_telling.specs.Standing.{law_noted, standing_by_law, StandsOf}
 use Rattle.node_telling.proofs.Events.{after-append, entries-append}
 use Rattle.node_order.specs.Resets.{cuts_on, spoils_on, withholds_on}
 

@@ -22,7 +22,8 @@ use Rattle.history.specs.Steps.{entries_for}
 use Rattle.node_machine.specs.Parts.{Desk, Core, Port, Work, Deed}
 use Rattle.node_machine.specs.Parts.Deed.{Commits, Sends, SaysOk, Asks, Releases, Tells, IsAnswered, Drops, SetsErrors, Orders, Hears, GoesOn, Ends}
 use Rattle.node_machine.specs.Controller.{is_command_message}
-use Rattle.node_machine.specs.Carrying.{own_side, noting, unless_cut, port_at, changed_if, with_port, with_desk, after_turn, noted_of, turn_at, commit, done, all_done}
+use Rattle.node_machine.specs.Carrying.{own_side, noting, unless_cut, port_at, changed_if, with_port, with_desk, after_turn, noted_of, turn_at, commit, done}
+use Rattle.node_machine.specs.Carrying.{all_done}
 use Rattle.node_world.specs.NodeFilters.{order_in}
 use Rattle.node_links.proofs.Noticing.{turn-phase}
 use Rattle.node_readings.specs.Orders.{AreInitsShort, IsItsEnd, KeepsOrder, Fits, MayDo}

@@ -17,7 +17,8 @@ use Rattle.message_link.specs.Links.Ending.{GoesOut}
 use Rattle.message_link.proofs.Project.{moved_role}
 use Rattle.node_machine.specs.Parts.{Notice, Desk, Running, Port, Work}
 use Rattle.node_machine.specs.Carrying.{noting, port_at, changed_if, with_desk, after_turn, turn_at}
-use Rattle.node_machine.specs.Node.{NodeInput, input_at, has_come, all_come, with_older, is_late, reset_late, times_out, forgets, forgotten, all_owed, without_notice, after_sessions, synced, steps}
+use Rattle.node_machine.specs.Node.{NodeInput, input_at, has_come, all_come, with_older, is_late, reset_late, times_out, forgets, forgotten, all_owed}
+use Rattle.node_machine.specs.Node.{without_notice, after_sessions, synced, steps}
 use Rattle.node_machine.specs.Node.NodeInput.{AtEnd, TimePasses}
 use Rattle.node_world.specs.World.{port_for, work_of, is_late_at, ticked_so}
 use Rattle.node_links.specs.Notices.{IsComing, IsOutside, IsNoticedUp, IsBegun, OnFirst}

@@ -14,7 +14,8 @@ use Rattle.shdlc_core.specs.declared.answers.LinkState.{LinkState}
 use Rattle.shdlc_core.specs.declared.answers.LinkState.TheVariants.{Up}
 use Rattle.link_machine.specs.Machine.{LinkEnd, LinkInput, Turn, after_input}
 use Rattle.link_machine.specs.Machine.LinkInput.{Reset}
-use Rattle.message_link.specs.Links.{Link, NumberedEnd, Ending, Comes, Loss, EndEvent, exchanged, aged, has_input, steps_at_controller, ticks_at_controller, happens}
+use Rattle.message_link.specs.Links.{Link, NumberedEnd, Ending, Comes, Loss, EndEvent, exchanged, aged, has_input, steps_at_controller, ticks_at_controller}
+use Rattle.message_link.specs.Links.{happens}
 use Rattle.message_link.specs.Links.Ending.{GoesOut, CutOff}
 use Rattle.message_link.specs.Links.Comes.{NextFrame, AsksReset, Starts, NoInput}
 use Rattle.message_link.specs.Links.Loss.{OnDemand, Broken, Unread, TooOld, TooMany}
@@ -27,7 +28,11 @@ use Rattle.node_machine.specs.Parts.{Desk, Running, Port, Work}
 use Rattle.node_machine.specs.Carrying.{port_at, changed_if}
 use Rattle.node_machine.specs.Node.{steps, begins_with, boot_writes, found, new_desk, with_error}
 use Rattle.node_machine.specs.Node.NodeInput.{AtEnd, TimePasses}
-use Rattle.node_world.specs.World.{NodeWorld, Site, Happening, site_at, link_to, memory_at, with_site, with_memory, with_node, links_of, ending_of, runs_on, turns_at, input_of, near_end_in, arrival, port_for, work_of, comes_to, controller_work, link_after_controller, after_controller, controller_does, host_work, after_host, host_does, controller_cut, host_cut, loses_power_at, boots, counts, frame_lost, all_aged, is_late_at, ticked_so, controller_ticks, host_ticks, hosts_tick, world_ticks, sending, beginning, comes_at, end_c, end_h, new_world, world_step}
+use Rattle.node_world.specs.World.{NodeWorld, Site, Happening, site_at, link_to, memory_at, with_site, with_memory, with_node, links_of, ending_of, runs_on}
+use Rattle.node_world.specs.World.{turns_at, input_of, near_end_in, arrival, port_for, work_of, comes_to, controller_work, link_after_controller}
+use Rattle.node_world.specs.World.{after_controller, controller_does, host_work, after_host, host_does, controller_cut, host_cut, loses_power_at, boots, counts}
+use Rattle.node_world.specs.World.{frame_lost, all_aged, is_late_at, ticked_so, controller_ticks, host_ticks, hosts_tick, world_ticks, sending, beginning}
+use Rattle.node_world.specs.World.{comes_at, end_c, end_h, new_world, world_step}
 use Rattle.node_world.specs.World.Happening.{Boots, IsCut, Gives, Inits, Takes, Loses, Ticks, Resets, Activates, Arms}
 use Rattle.node_world.specs.Lines.{happenings}
 use Rattle.node_world.specs.NodeHistories.{world_after}

@@ -17,7 +17,8 @@ use Rattle.message_link.specs.Links.LinkEvent.{AtController}
 use Rattle.node_machine.specs.Parts.{Running}
 use Rattle.node_machine.specs.Carrying.{changed_if}
 use Rattle.node_machine.specs.Node.{boot_writes, found}
-use Rattle.node_world.specs.World.{NodeWorld, Site, site_at, node_at, memory_at, with_site, with_memory, with_node, links_of, controller_cut, host_cut, loses_power_at, boots}
+use Rattle.node_world.specs.World.{NodeWorld, Site, site_at, node_at, memory_at, with_site, with_memory, with_node, links_of, controller_cut, host_cut}
+use Rattle.node_world.specs.World.{loses_power_at, boots}
 use Rattle.node_links.proofs.Ends.{here_host}
 use Rattle.kept_laws.specs.Hosts.{AreDifferent, AreHosts}
 use Rattle.kept_laws.proofs.Sites.{site_found, hosts_same, hosts_with, with_site_twice}

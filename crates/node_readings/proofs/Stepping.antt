@@ -13,7 +13,8 @@ use Rattle.node_machine.specs.Parts.{Core, Port, Work, Deed}
 use Rattle.node_machine.specs.Parts.Deed.{Commits}
 use Rattle.node_machine.specs.Carrying.{noting, unless_cut, all_done}
 use Rattle.node_machine.specs.Turns.{passes}
-use Rattle.node_machine.specs.Node.{NodeInput, input_at, has_come, told_at, all_come, with_older, reset_late, told_late, times_out, forgotten, forgets, all_owed, without_notice, after_sessions, synced, answers_and_passes, steps, begins_with}
+use Rattle.node_machine.specs.Node.{NodeInput, input_at, has_come, told_at, all_come, with_older, reset_late, told_late, times_out, forgotten, forgets}
+use Rattle.node_machine.specs.Node.{all_owed, without_notice, after_sessions, synced, answers_and_passes, steps, begins_with}
 use Rattle.node_machine.specs.Node.NodeInput.{AtEnd, TimePasses}
 use Rattle.node_links.specs.Notices.{IsComing, IsOutside}
 use Rattle.node_links.proofs.Staying.{stays_up}

@@ -20,7 +20,8 @@ use Rattle.gate_loopback.specs.Loopback.{posts_back}
 use Rattle.node_machine.specs.Parts.{Port, Work, Deed}
 use Rattle.node_machine.specs.Parts.Deed.{Commits, Sends, SaysOk, Asks, Releases, Tells, IsAnswered, Drops, SetsErrors, Orders, Hears, GoesOn, Ends}
 use Rattle.node_machine.specs.Controller.{is_command_message}
-use Rattle.node_machine.specs.Carrying.{noting, unless_cut, port_at, changed_if, with_port, with_desk, after_turn, turn_at, end_of_node, done, all_done, needs, lack}
+use Rattle.node_machine.specs.Carrying.{noting, unless_cut, port_at, changed_if, with_port, with_desk, after_turn, turn_at, end_of_node, done, all_done, needs}
+use Rattle.node_machine.specs.Carrying.{lack}
 use Rattle.node_machine.specs.HostReplies.{learned, init_deeds, response_deeds, ordered_deeds, is_gate, gate_of_pipe, host_deeds}
 use Rattle.node_machine.specs.Turns.{deeds_of, handles, holds_back, lets_go, have_turns, goes_through_ends, passes}
 use Rattle.node_world.specs.NodeFilters.{is_response}

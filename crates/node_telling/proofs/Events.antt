@@ -1,5 +1,6 @@
 -- Each event of a world but a tick tells of each link.
-use Rattle.std.proofs.Common.{◌≡◌, ℕ, ◌==◌, Bool, true, false, cond, List, [], ◌∷◌, ◌++◌, length, Option, Some, None, map, refl, ap, sym, subst, ◌∙◌, append-nil, append_assoc}
+use Rattle.std.proofs.Common.{◌≡◌, ℕ, ◌==◌, Bool, true, false, cond, List, [], ◌∷◌, ◌++◌, length, Option, Some, None, map, refl, ap, sym, subst, ◌∙◌}
+use Rattle.std.proofs.Common.{append-nil, append_assoc}
 use Rattle.std.specs.Prelude.{◌&&◌}
 use Rattle.std.specs.List.{AllByRecursion}
 use Rattle.std.proofs.lemmas.Bool.{eqb-true}
@@ -26,7 +27,10 @@ use Rattle.node_machine.specs.Carrying.{changed_if}
 use Rattle.node_machine.specs.Controller.{is_command_message}
 use Rattle.node_machine.specs.Node.{steps, begins_with, found, boot_writes}
 use Rattle.node_machine.specs.Node.NodeInput.{AtEnd}
-use Rattle.node_world.specs.World.{Site, NodeWorld, Happening, site_at, with_site, link_to, input_of, near_end_in, arrival, work_of, ending_of, turns_at, runs_on, comes_to, controller_work, link_after_controller, after_controller, controller_does, host_work, after_host, host_does, frames_noted, wires_for, controller_cut, host_cut, loses_power_at, memory_at, with_memory, with_node, links_of, boots, counts, frame_lost, sending, beginning, comes_at, end_c, end_h, activates, world_step}
+use Rattle.node_world.specs.World.{Site, NodeWorld, Happening, site_at, with_site, link_to, input_of, near_end_in, arrival, work_of, ending_of, turns_at}
+use Rattle.node_world.specs.World.{runs_on, comes_to, controller_work, link_after_controller, after_controller, controller_does, host_work, after_host}
+use Rattle.node_world.specs.World.{host_does, frames_noted, wires_for, controller_cut, host_cut, loses_power_at, memory_at, with_memory, with_node, links_of}
+use Rattle.node_world.specs.World.{boots, counts, frame_lost, sending, beginning, comes_at, end_c, end_h, activates, world_step}
 use Rattle.node_world.specs.World.Happening.{Boots, IsCut, Gives, Inits, Takes, Loses, Ticks, Resets, Activates, Arms}
 use Rattle.kept_laws.specs.Hosts.{AreDifferent}
 use Rattle.kept_laws.proofs.Sites.{hosts_same, changed_host}

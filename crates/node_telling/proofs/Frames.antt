@@ -9,7 +9,8 @@ use Rattle.message_link.specs.Links.{Link, Ending, Comes, Loss, put}
 use Rattle.message_link.specs.Links.Comes.{NextFrame, AsksReset, Starts, Stops, NoInput}
 use Rattle.message_link.specs.Links.Ending.{GoesOut, CutOff}
 use Rattle.message_link.specs.Links.Loss.{TooOld, TooMany}
-use Rattle.link_entries.specs.Entries.{End as Side, Entry as Noted, far, first_lost, pushed_out, wire_with, put_entries, puts_entries, ending_entries, aged_entries}
+use Rattle.link_entries.specs.Entries.{End as Side, Entry as Noted, far, first_lost, pushed_out, wire_with, put_entries, puts_entries, ending_entries}
+use Rattle.link_entries.specs.Entries.{aged_entries}
 use Rattle.link_entries.specs.Entries.Entry.{Emit, Took, Lost, Cut}
 use Rattle.node_world.specs.World.{arrival}
 

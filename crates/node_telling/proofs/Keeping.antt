@@ -6,7 +6,8 @@ use Rattle.link_machine.specs.Machine.{LinkInput, Turn}
 use Rattle.link_machine.specs.Machine.LinkInput.{Tick}
 use Rattle.node_machine.specs.Parts.{Desk, Running, Core, Port, Work, Deed}
 use Rattle.node_machine.specs.Carrying.{noting, changed_if, with_desk, after_turn, turn_at}
-use Rattle.node_machine.specs.Node.{input_at, has_come, all_come, with_older, reset_late, times_out, is_over, forgotten, forgets, all_owed, without_notice, after_sessions, synced, steps, begins_with}
+use Rattle.node_machine.specs.Node.{input_at, has_come, all_come, with_older, reset_late, times_out, is_over, forgotten, forgets, all_owed, without_notice}
+use Rattle.node_machine.specs.Node.{after_sessions, synced, steps, begins_with}
 use Rattle.node_machine.specs.Node.NodeInput.{AtEnd, TimePasses}
 use Rattle.node_world.specs.World.{runs_on}
 use Rattle.kept_laws.specs.Books.{hosts_of_ends}

@@ -16,7 +16,8 @@ use Rattle.history.specs.Follows.{first_verdict, taken_of}
 use Rattle.node_machine.specs.Parts.{Running}
 use Rattle.node_world.specs.World.{NodeWorld, Happening, node_at, world_step}
 use Rattle.node_world.specs.World.Happening.{Takes, Loses, Ticks}
-use Rattle.node_world.specs.Lines.{if_true, frames_at, refusal_in, happens_by, happenings, Occurrence, can_happen, all_happen, LineOutcome, tables_told, goes_on, line_step}
+use Rattle.node_world.specs.Lines.{if_true, frames_at, refusal_in, happens_by, happenings, Occurrence, can_happen, all_happen, LineOutcome, tables_told}
+use Rattle.node_world.specs.Lines.{goes_on, line_step}
 use Rattle.node_world.specs.Lines.LineOutcome.{WasRefused}
 use Rattle.node_world.specs.NodeHistories.{LineStep, steps_from, occurrences_of, entries_in, world_after}
 use Rattle.node_telling.specs.Telling.{world_behind, MayBoot}

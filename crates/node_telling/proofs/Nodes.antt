@@ -19,7 +19,8 @@ use Rattle.node_machine.specs.Parts.{Desk, Running, Port, Work, Deed}
 use Rattle.node_machine.specs.Carrying.{port_at}
 use Rattle.node_machine.specs.Node.{steps, begins_with}
 use Rattle.node_machine.specs.Node.NodeInput.{AtEnd}
-use Rattle.node_world.specs.World.{Site, NodeWorld, site_at, link_to, input_of, near_end_in, arrival, wires_for, port_for, work_of, ending_of, turns_at, frames_noted, comes_to, controller_work, after_controller, host_work}
+use Rattle.node_world.specs.World.{Site, NodeWorld, site_at, link_to, input_of, near_end_in, arrival, wires_for, port_for, work_of, ending_of, turns_at}
+use Rattle.node_world.specs.World.{frames_noted, comes_to, controller_work, after_controller, host_work}
 use Rattle.kept_laws.specs.Books.{hosts_of_ends}
 use Rattle.kept_laws.specs.Hosts.{AreDifferent}
 use Rattle.node_telling.specs.Telling.{of_link, TellOf, HasEnds, hosts_in, IsOrderly}

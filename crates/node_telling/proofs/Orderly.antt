@@ -11,7 +11,8 @@ use Rattle.link_entries.specs.Entries.End.{Controller}
 use Rattle.node_machine.specs.Parts.{Running, Work}
 use Rattle.node_machine.specs.Node.{steps}
 use Rattle.node_machine.specs.Node.NodeInput.{TimePasses}
-use Rattle.node_world.specs.World.{Site, NodeWorld, Happening, new_site, new_world, link_to, work_of, ending_of, turns_at, runs_on, frames_noted, is_late_at, ticked_so, all_aged, controller_ticks, host_ticks, hosts_tick, world_ticks, world_step}
+use Rattle.node_world.specs.World.{Site, NodeWorld, Happening, new_site, new_world, link_to, work_of, ending_of, turns_at, runs_on, frames_noted, is_late_at}
+use Rattle.node_world.specs.World.{ticked_so, all_aged, controller_ticks, host_ticks, hosts_tick, world_ticks, world_step}
 use Rattle.node_world.specs.World.Happening.{Boots, IsCut, Gives, Inits, Takes, Loses, Ticks, Resets, Activates, Arms}
 use Rattle.node_world.specs.Lines.{happenings}
 use Rattle.node_world.specs.NodeHistories.{world_after}

@@ -8,7 +8,8 @@ use Rattle.link_machine.specs.Machine.LinkInput.{Take, Tick, Reset, Start, Stop}
 use Rattle.message_link.specs.Links.{NumberedEnd, Link, Ending, Comes, Node, number_of, put, with_ended, silent}
 use Rattle.message_link.specs.Links.Ending.{GoesOut, CutOff}
 use Rattle.message_link.specs.Links.Comes.{NextFrame, AsksReset, Starts, Stops, NoInput}
-use Rattle.link_entries.specs.Entries.{End as Side, Entry as Noted, far, told_of, turn_entries, pushed_out, wire_with, put_entries, puts_entries, ending_entries, rest_entries, left_after, step_entries, tick_entries}
+use Rattle.link_entries.specs.Entries.{End as Side, Entry as Noted, far, told_of, turn_entries, pushed_out, wire_with, put_entries, puts_entries}
+use Rattle.link_entries.specs.Entries.{ending_entries, rest_entries, left_after, step_entries, tick_entries}
 use Rattle.link_entries.specs.Entries.Entry.{Emit}
 use Rattle.history.specs.Steps.{entries_for}
 use Rattle.node_world.specs.World.{input_of, near_end_in, arrival, wires_for}

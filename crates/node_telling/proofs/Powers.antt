@@ -17,7 +17,8 @@ use Rattle.history.specs.Filters.Saying.{Sends}
 use Rattle.history.specs.Steps.{end_of, entry_of, entries_for}
 use Rattle.node_machine.specs.Parts.{Desk, Core, Port, Work, Deed}
 use Rattle.node_machine.specs.Carrying.{own_side, noting, port_at, with_desk, noted_of, turn_at, loses_power}
-use Rattle.node_machine.specs.Node.{NodeInput, input_at, told_at, all_come, with_older, is_late, told_late, times_out, is_over, forgotten, forgets, all_owed, without_notice, after_sessions, synced, steps, begins_with}
+use Rattle.node_machine.specs.Node.{NodeInput, input_at, told_at, all_come, with_older, is_late, told_late, times_out, is_over, forgotten, forgets, all_owed}
+use Rattle.node_machine.specs.Node.{without_notice, after_sessions, synced, steps, begins_with}
 use Rattle.node_machine.specs.Node.NodeInput.{AtEnd, TimePasses}
 use Rattle.node_telling.specs.Telling.{is_of, of_link}
 use Rattle.node_telling.specs.Standing.{Standing, said_near, said_far, stands_said, after_power, stands_noted, standing, law_noted, standing_by_law}

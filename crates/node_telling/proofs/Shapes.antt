@@ -1,6 +1,7 @@
 -- What the law of one link notes of a step ends with a cut exactly where the step does, and tells of no other one. So how the link
 -- stands by that law is read off the step of a node.
-use Rattle.std.proofs.Common.{◌≡◌, ℕ, Bool, true, false, cond, List, [], ◌∷◌, ◌++◌, length, map, Option, Some, None, refl, ap, sym, ◌∙◌, append-nil, append_assoc}
+use Rattle.std.proofs.Common.{◌≡◌, ℕ, Bool, true, false, cond, List, [], ◌∷◌, ◌++◌, length, map, Option, Some, None, refl, ap, sym, ◌∙◌, append-nil}
+use Rattle.std.proofs.Common.{append_assoc}
 use Rattle.std.specs.Prelude.{nat_lt, is_some, option_to_list}
 use Rattle.std.specs.List.{flat_map}
 use Rattle.std.specs.Option.{option_map_or}
@@ -8,14 +9,17 @@ use Rattle.std.proofs.lemmas.List.Sums.{fold-append}
 use Rattle.swp_base.specs.declared.control_frames.Control.{Control}
 use Rattle.trace_model.specs.declared.entry.Entry.{Entry}
 use Rattle.session_laws.specs.Sessions.{OnWire, took_with}
-use Rattle.link_machine.specs.Machine.{LinkEnd, LinkInput, Refused, Report, Turn, Message, report, whole_acked, after_input, ended_by, turn, turned, give_refusal, frames_out}
+use Rattle.link_machine.specs.Machine.{LinkEnd, LinkInput, Refused, Report, Turn, Message, report, whole_acked, after_input, ended_by, turn, turned}
+use Rattle.link_machine.specs.Machine.{give_refusal, frames_out}
 use Rattle.link_machine.specs.Machine.LinkInput.{Take, Tick as HasTick, Reset, Start, Stop}
 use Rattle.link_machine.specs.Machine.Turn.{Give, Hold, FetchMessage, SetAside, Release}
 use Rattle.message_link.specs.Links.{NumberedEnd, Link, Ending, Comes, Loss, Node, number_of, put, with_ended, silent}
 use Rattle.message_link.specs.Links.Ending.{GoesOut, CutOff}
 use Rattle.message_link.specs.Links.Comes.{NextFrame, AsksReset, Starts, Stops, NoInput}
 use Rattle.message_link.specs.Links.Loss.{TooOld, TooMany}
-use Rattle.link_entries.specs.Entries.{End as Side, Entry as Noted, far, if_so, told, told_of, turn_entry, sent_unless, turn_entries, first_lost, pushed_out, wire_with, puts_entries, ending_entries, rest_entries, input_entries, left_after, step_entries, aged_entries, tick_entries}
+use Rattle.link_entries.specs.Entries.{End as Side, Entry as Noted, far, if_so, told, told_of, turn_entry, sent_unless, turn_entries, first_lost, pushed_out}
+use Rattle.link_entries.specs.Entries.{wire_with, puts_entries, ending_entries, rest_entries, input_entries, left_after, step_entries, aged_entries}
+use Rattle.link_entries.specs.Entries.{tick_entries}
 use Rattle.link_entries.specs.Entries.End.{Controller, Host}
 use Rattle.link_entries.specs.Entries.Entry.{Up, Down, Active, GaveUp, Acked, Got, Took, Lost, Restarted, Cut}
 use Rattle.history.specs.Filters.{said}

@@ -1,5 +1,6 @@
 -- What a node notes of a link in a step is what the law of one link notes of the step of that end.
-use Rattle.std.proofs.Common.{◌≡◌, ℕ, ◌==◌, Bool, true, false, List, [], ◌∷◌, ◌++◌, Option, Some, None, map, refl, ap, sym, subst, ◌∙◌, append-nil, append_assoc}
+use Rattle.std.proofs.Common.{◌≡◌, ℕ, ◌==◌, Bool, true, false, List, [], ◌∷◌, ◌++◌, Option, Some, None, map, refl, ap, sym, subst, ◌∙◌, append-nil}
+use Rattle.std.proofs.Common.{append_assoc}
 use Rattle.std.specs.List.{AllByRecursion, find, flat_map, list_any}
 use Rattle.std.specs.Option.{option_map_or}
 use Rattle.std.proofs.lemmas.Bool.{eqb-true}
@@ -12,7 +13,8 @@ use Rattle.history.specs.Steps.{entry_of, entries_for}
 use Rattle.node_machine.specs.Parts.{Core, Port, Work, Deed}
 use Rattle.node_machine.specs.Carrying.{own_side, port_at}
 use Rattle.node_machine.specs.Controller.{asked_at}
-use Rattle.node_machine.specs.Node.{NodeInput, input_at, has_come, told_at, all_come, is_over, is_forgotten, forgotten, forgets, all_owed, without_notice, after_sessions, synced, steps, begins_with}
+use Rattle.node_machine.specs.Node.{NodeInput, input_at, has_come, told_at, all_come, is_over, is_forgotten, forgotten, forgets, all_owed, without_notice}
+use Rattle.node_machine.specs.Node.{after_sessions, synced, steps, begins_with}
 use Rattle.node_machine.specs.Node.NodeInput.{AtEnd}
 use Rattle.node_world.specs.World.{input_of, near_end_in, arrival, wires_for, ending_of, turns_at, frames_noted}
 use Rattle.kept_laws.specs.Books.{hosts_of_ends}

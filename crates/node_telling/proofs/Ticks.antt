@@ -13,7 +13,8 @@ use Rattle.link_entries.specs.Entries.{End as Side, told, told_of, turn_entries}
 use Rattle.history.specs.Steps.{entries_for}
 use Rattle.node_machine.specs.Parts.{Notice, Core, Port, Work}
 use Rattle.node_machine.specs.Carrying.{own_side, port_at}
-use Rattle.node_machine.specs.Node.{has_come, told_at, all_come, with_older, is_late, reset_late, told_late, times_out, forgotten, forgets, all_owed, without_notice, after_sessions, synced, steps}
+use Rattle.node_machine.specs.Node.{has_come, told_at, all_come, with_older, is_late, reset_late, told_late, times_out, forgotten, forgets, all_owed}
+use Rattle.node_machine.specs.Node.{without_notice, after_sessions, synced, steps}
 use Rattle.node_machine.specs.Node.NodeInput.{TimePasses}
 use Rattle.kept_laws.specs.Hosts.{AreDifferent}
 use Rattle.kept_laws.proofs.Plainly.{hosts_map}

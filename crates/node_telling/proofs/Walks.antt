@@ -17,7 +17,8 @@ use Rattle.history.specs.Filters.{said}
 use Rattle.node_machine.specs.Parts.{About, Desk, Port, Work, Deed}
 use Rattle.node_machine.specs.Parts.About.{Waits, Removed}
 use Rattle.node_machine.specs.Parts.Deed.{Commits, Sends, SaysOk, Asks, Releases, Tells, IsAnswered, Drops, SetsErrors, Orders, Hears, GoesOn, Ends}
-use Rattle.node_machine.specs.Carrying.{end_of_node, noting, unless_cut, port_at, with_desk, turn_at, notified, loses_power, keeps, commit, done, all_done, needs, lack}
+use Rattle.node_machine.specs.Carrying.{end_of_node, noting, unless_cut, port_at, with_desk, turn_at, notified, loses_power, keeps, commit, done, all_done}
+use Rattle.node_machine.specs.Carrying.{needs, lack}
 use Rattle.node_machine.specs.Turns.{deeds_of, handles, holds_back, lets_go, have_turns, goes_through_ends, passes}
 use Rattle.node_machine.specs.Node.{answers_and_passes}
 use Rattle.node_telling.proofs.Mute.{IsPlain, plain_said, IsMute, AreMute, deeds_mute}

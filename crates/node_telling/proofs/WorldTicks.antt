@@ -1,5 +1,6 @@
 -- What a tick of a world tells of each link.
-use Rattle.std.proofs.Common.{◌≡◌, ℕ, ◌==◌, Bool, true, false, List, [], ◌∷◌, ◌++◌, Option, Some, None, map, refl, ap, sym, subst, ◌∙◌, append-nil, append_assoc}
+use Rattle.std.proofs.Common.{◌≡◌, ℕ, ◌==◌, Bool, true, false, List, [], ◌∷◌, ◌++◌, Option, Some, None, map, refl, ap, sym, subst, ◌∙◌, append-nil}
+use Rattle.std.proofs.Common.{append_assoc}
 use Rattle.std.specs.Prelude.{if◌then◌else◌, is_some}
 use Rattle.std.specs.List.{AllByRecursion, find, flat_map}
 use Rattle.std.specs.Option.{option_map_or}
@@ -12,7 +13,8 @@ use Rattle.journal_laws.specs.Planned.{after_planned}
 use Rattle.link_machine.specs.Machine.{LinkEnd, LinkInput, Turn, new_link_end, turned, after_input, ended_by, report, whole_acked, frames_out}
 use Rattle.link_machine.specs.Machine.LinkInput.{Tick, Reset}
 use Rattle.link_machine.specs.Machine.Role.{Clf, Uicc}
-use Rattle.message_link.specs.Links.{NumberedEnd, Link, Ending, Node, LinkEvent, exchanged, aged, has_input, with_ended, steps_at_controller, ticks_at_controller, happens, number_of}
+use Rattle.message_link.specs.Links.{NumberedEnd, Link, Ending, Node, LinkEvent, exchanged, aged, has_input, with_ended, steps_at_controller}
+use Rattle.message_link.specs.Links.{ticks_at_controller, happens, number_of}
 use Rattle.message_link.specs.Links.Ending.{GoesOut}
 use Rattle.message_link.specs.Links.Comes.{AsksReset, NoInput}
 use Rattle.message_link.specs.Links.EndEvent.{Step}
@@ -26,13 +28,15 @@ use Rattle.node_machine.specs.Parts.{Desk, Running, Port, Work}
 use Rattle.node_machine.specs.Carrying.{port_at}
 use Rattle.node_machine.specs.Node.{is_late, steps}
 use Rattle.node_machine.specs.Node.NodeInput.{TimePasses}
-use Rattle.node_world.specs.World.{Site, NodeWorld, site_at, link_to, port_for, work_of, ending_of, turns_at, runs_on, frames_noted, all_aged, is_late_at, ticked_so, controller_ticks, host_ticks, hosts_tick, world_ticks}
+use Rattle.node_world.specs.World.{Site, NodeWorld, site_at, link_to, port_for, work_of, ending_of, turns_at, runs_on, frames_noted, all_aged, is_late_at}
+use Rattle.node_world.specs.World.{ticked_so, controller_ticks, host_ticks, hosts_tick, world_ticks}
 use Rattle.kept_laws.specs.Hosts.{AreDifferent}
 use Rattle.node_telling.specs.Telling.{of_link, TellOf, HasEnds, IfItRuns, hosts_in, IsOrderly, GoesSo, Tells, is_due, NoneDue, IfOff, IfDue, IsTimely}
 use Rattle.node_telling.specs.Standing.{Standing, without_power, stands_noted, standing, law_noted, standing_by_law, StandsOf}
 use Rattle.node_telling.proofs.Walks.{AreUncut}
 use Rattle.node_telling.proofs.Powers.{uncut_flat, entries_uncut, clear_stands, steps_powered}
-use Rattle.node_telling.proofs.Shapes.{clear-append, clear_aged, IsShaped, IsStepShaped, shaped_tick, shaped_step, twice, step_stands, step_away, own_frames, all_frames}
+use Rattle.node_telling.proofs.Shapes.{clear-append, clear_aged, IsShaped, IsStepShaped, shaped_tick, shaped_step, twice, step_stands, step_away, own_frames}
+use Rattle.node_telling.proofs.Shapes.{all_frames}
 use Rattle.node_telling.proofs.Accounts.{of-append, of_other}
 use Rattle.node_telling.proofs.Away.{Away}
 use Rattle.node_telling.proofs.Parts.{tick_is}

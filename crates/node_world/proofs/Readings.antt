@@ -14,7 +14,8 @@ use Rattle.node_world.specs.World.{NodeWorld, Site, new_world, node_at, link_to,
 use Rattle.node_world.specs.Lines.{LineOutcome, line_step}
 use Rattle.node_world.specs.NodeHistories.{entries_in, occurrences_of}
 use Rattle.node_world.proofs.First.{activation_and_first_pipe_lines, parameter_before_opening_lines}
-use Rattle.node_world.proofs.Cuts.{cut_in_first_write_lines, cut_in_second_write_13_lines, cut_in_second_write_FF_lines, cut_in_second_write_5A_lines, pipes_closed_by_a_cut_lines}
+use Rattle.node_world.proofs.Cuts.{cut_in_first_write_lines, cut_in_second_write_13_lines, cut_in_second_write_FF_lines, cut_in_second_write_5A_lines}
+use Rattle.node_world.proofs.Cuts.{pipes_closed_by_a_cut_lines}
 use Rattle.node_world.proofs.Hosts.{creation_between_hosts_lines, notice_never_answered_lines, relay_and_strangers_lines}
 use Rattle.node_world.proofs.User.{users_session_over_a_cut_lines}
 use Rattle.node_world.specs.NodeFilters.{commands_in, tables_in, spare_at, notice_in, order_in}

@@ -2,7 +2,8 @@
 use Rattle.std.proofs.Common.{◌≡◌, refl, List, [], ◌∷◌, Some, None}
 use Rattle.std.specs.Prelude.{true, false}
 use Rattle.swp_base.specs.declared.link_terms.Cause.TheVariants as cause
-use Rattle.trace_model.specs.declared.entry.Entry.TheVariants.{Up, Down, Active, Sent, Got, Acked, Emit, Took, Turn, Command, AnyOk, InitSame, InitMade, Cut, Booted}
+use Rattle.trace_model.specs.declared.entry.Entry.TheVariants.{Up, Down, Active, Sent, Got, Acked, Emit, Took, Turn, Command, AnyOk, InitSame, InitMade, Cut}
+use Rattle.trace_model.specs.declared.entry.Entry.TheVariants.{Booted}
 use Rattle.trace_model.specs.declared.line.Line.{Line}
 use Rattle.trace_model.specs.declared.line.Line.TheVariants as line
 use Rattle.hci_tables.specs.declared.command.Command.TheVariants as command

@@ -17,7 +17,9 @@ use Rattle.gate_admin.specs.declared.view.LinkView.{LinkView}
 use Rattle.gate_admin.specs.declared.decision.Decision.{Decision}
 use Rattle.gate_admin.specs.declared.decision.Decision.TheVariants.{Answer, Commit, Ask}
 use Rattle.gate_admin.specs.View.{has, hosts_where, mask_of, is_connected}
-use Rattle.gate_admin.specs.Decide.{answers, ends_of, value_of, tests_to_set_it, commits, commits_and_tells, unless_refused, far_end_of, opening, closing, setting, getting, creation, creating, deleting, clearing, shares, administration, carried_out, decided, others_opened, created, told_of_deletion, told_of_clearing, tests_to_create, tests_to_open, tests_to_delete, tests_to_clear, tests_of_pipe}
+use Rattle.gate_admin.specs.Decide.{answers, ends_of, value_of, tests_to_set_it, commits, commits_and_tells, unless_refused, far_end_of, opening, closing}
+use Rattle.gate_admin.specs.Decide.{setting, getting, creation, creating, deleting, clearing, shares, administration, carried_out, decided, others_opened}
+use Rattle.gate_admin.specs.Decide.{created, told_of_deletion, told_of_clearing, tests_to_create, tests_to_open, tests_to_delete, tests_to_clear, tests_of_pipe}
 use Rattle.node_machine.specs.Parts.About.{Removed}
 use Rattle.node_links.proofs.Masking.{from_mask, all_in, has_small}
 use Rattle.node_world.specs.NodeFilters.{is_notice}

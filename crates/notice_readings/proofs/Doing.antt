@@ -27,7 +27,8 @@ use Rattle.history.specs.Steps.{entries_for}
 use Rattle.node_machine.specs.Parts.{About, Notice, Desk, Core, Port, Work, Deed}
 use Rattle.node_machine.specs.Parts.About.{Waits, Removed}
 use Rattle.node_machine.specs.Parts.Deed.{Commits, Sends, SaysOk, Asks, Releases, Tells, IsAnswered, Drops, SetsErrors, Orders, Hears, GoesOn, Ends}
-use Rattle.node_machine.specs.Carrying.{own_side, noting, unless_cut, port_at, changed_if, with_port, with_desk, after_turn, noted_of, turn_at, notified, loses_power, keeps, commit, done, all_done}
+use Rattle.node_machine.specs.Carrying.{own_side, noting, unless_cut, port_at, changed_if, with_port, with_desk, after_turn, noted_of, turn_at, notified}
+use Rattle.node_machine.specs.Carrying.{loses_power, keeps, commit, done, all_done}
 use Rattle.node_world.specs.NodeFilters.{is_notice, notice_in}
 use Rattle.node_links.proofs.Noticing.{turn-phase, UpAt, at_all, at_host}
 use Rattle.notice_readings.specs.Notices.{IsAbout, IsKeptNotice}

@@ -31,7 +31,8 @@ use Rattle.history.specs.Steps.{entries_for}
 use Rattle.node_machine.specs.Parts.{Desk, Running}
 use Rattle.node_machine.specs.Carrying.{changed_if}
 use Rattle.node_machine.specs.Node.{boot_writes, found, new_desk, with_error}
-use Rattle.node_world.specs.World.{NodeWorld, Site, Happening, node_at, memory_at, with_site, with_memory, with_node, link_to, links_of, controller_cut, host_cut, loses_power_at, boots, counts, frame_lost, sending, beginning, new_site, new_world, world_step}
+use Rattle.node_world.specs.World.{NodeWorld, Site, Happening, node_at, memory_at, with_site, with_memory, with_node, link_to, links_of, controller_cut}
+use Rattle.node_world.specs.World.{host_cut, loses_power_at, boots, counts, frame_lost, sending, beginning, new_site, new_world, world_step}
 use Rattle.node_world.specs.World.Happening.{Boots, IsCut, Gives, Inits, Takes, Loses, Ticks, Resets, Activates, Arms}
 use Rattle.node_world.specs.NodeFilters.{notice_in}
 use Rattle.kept_laws.specs.Hosts.{AreHosts}
@@ -42,7 +43,8 @@ use Rattle.notice_readings.specs.Notices.{IsKeptNotice, notice_at}
 use Rattle.notice_readings.proofs.Reading.{notice_more}
 use Rattle.notice_readings.proofs.Shut.{here_shut}
 use Rattle.notice_readings.proofs.Far.{quiet_far, asking_more}
-use Rattle.notice_readings.proofs.Sites.{AreGood, Reads, AreHushed, still_reads, far_hushed, good_map, good_with, far_shut, begins_reads, sending_own, beginning_own}
+use Rattle.notice_readings.proofs.Sites.{AreGood, Reads, AreHushed, still_reads, far_hushed, good_map, good_with, far_shut, begins_reads, sending_own}
+use Rattle.notice_readings.proofs.Sites.{beginning_own}
 use Rattle.notice_readings.proofs.Near.{comes_reads, ticks_reads, activates_reads}
 use Rattle.node_telling.specs.Telling.{MayBoot}
 use Rattle.notice_readings.specs.Worlds.{ControllerReads, IfHostNode, IfReads, KeepsNotices, IsRightNotice}

@@ -23,10 +23,12 @@ use Rattle.history.specs.Steps.{entries_for, end_of}
 use Rattle.node_machine.specs.Parts.{About, Desk, Core, Port, Work, Deed}
 use Rattle.node_machine.specs.Parts.About.{Removed}
 use Rattle.node_machine.specs.Parts.Deed.{Commits, Sends, SaysOk, Asks, Releases, Tells, IsAnswered, Drops, SetsErrors, Orders, Hears, GoesOn, Ends}
-use Rattle.node_machine.specs.Carrying.{own_side, noting, unless_cut, port_at, with_desk, noted_of, turn_at, notified, commit, done, all_done, end_of_node, needs, lack}
+use Rattle.node_machine.specs.Carrying.{own_side, noting, unless_cut, port_at, with_desk, noted_of, turn_at, notified, commit, done, all_done, end_of_node}
+use Rattle.node_machine.specs.Carrying.{needs, lack}
 use Rattle.node_machine.specs.HostReplies.{host_deeds}
 use Rattle.node_machine.specs.Turns.{deeds_of, handles, holds_back, lets_go, have_turns, goes_through_ends, passes}
-use Rattle.node_machine.specs.Node.{NodeInput, input_at, told_at, all_come, with_older, is_late, told_late, times_out, forgotten, forgets, all_owed, after_sessions, synced, steps}
+use Rattle.node_machine.specs.Node.{NodeInput, input_at, told_at, all_come, with_older, is_late, told_late, times_out, forgotten, forgets, all_owed}
+use Rattle.node_machine.specs.Node.{after_sessions, synced, steps}
 use Rattle.node_machine.specs.Node.NodeInput.{AtEnd, TimePasses}
 use Rattle.node_world.specs.World.{end_c}
 use Rattle.node_world.specs.NodeFilters.{is_response, is_notice, asking_after, asking_in}

@@ -16,7 +16,9 @@ use Rattle.gate_admin.specs.declared.view.LinkView.{LinkView}
 use Rattle.gate_admin.specs.declared.decision.Decision.{Decision}
 use Rattle.gate_admin.specs.declared.decision.Decision.TheVariants.{Answer, Commit, Ask}
 use Rattle.gate_admin.specs.View.{has, hosts_where, mask_of, is_connected, is_noticed}
-use Rattle.gate_admin.specs.Decide.{ends_of, tests_to_set_it, commits, commits_and_tells, unless_refused, far_end_of, dest_in, opening, closing, setting, getting, creation, creating, deleting, clearing, shares, carried_out, decided, created, told_of_deletion, told_of_clearing, tests_to_create, tests_to_open, tests_to_delete, tests_to_clear, tests_of_pipe}
+use Rattle.gate_admin.specs.Decide.{ends_of, tests_to_set_it, commits, commits_and_tells, unless_refused, far_end_of, dest_in, opening, closing, setting}
+use Rattle.gate_admin.specs.Decide.{getting, creation, creating, deleting, clearing, shares, carried_out, decided, created, told_of_deletion, told_of_clearing}
+use Rattle.gate_admin.specs.Decide.{tests_to_create, tests_to_open, tests_to_delete, tests_to_clear, tests_of_pipe}
 use Rattle.gate_admin.proofs.CreationLemmas.{AllFalse, all_false}
 use Rattle.link_machine.specs.Machine.{Message}
 use Rattle.node_machine.specs.Parts.{Core, Port}

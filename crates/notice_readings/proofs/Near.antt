@@ -25,7 +25,9 @@ use Rattle.node_machine.specs.Parts.{Desk, Running, Port, Work}
 use Rattle.node_machine.specs.Carrying.{port_at}
 use Rattle.node_machine.specs.Node.{NodeInput, steps}
 use Rattle.node_machine.specs.Node.NodeInput.{AtEnd, TimePasses}
-use Rattle.node_world.specs.World.{NodeWorld, Site, link_to, ending_of, runs_on, turns_at, input_of, near_end_in, arrival, wires_for, port_for, work_of, frames_noted, comes_to, controller_work, link_after_controller, after_controller, controller_does, all_aged, is_late_at, ticked_so, controller_ticks, hosts_tick, world_ticks, comes_at, activates, end_c, end_h}
+use Rattle.node_world.specs.World.{NodeWorld, Site, link_to, ending_of, runs_on, turns_at, input_of, near_end_in, arrival, wires_for, port_for, work_of}
+use Rattle.node_world.specs.World.{frames_noted, comes_to, controller_work, link_after_controller, after_controller, controller_does, all_aged, is_late_at}
+use Rattle.node_world.specs.World.{ticked_so, controller_ticks, hosts_tick, world_ticks, comes_at, activates, end_c, end_h}
 use Rattle.node_world.specs.NodeFilters.{notice_in, asking_in}
 use Rattle.node_links.specs.Notices.{IsOutside, IsNoticedUp, OnFirst}
 use Rattle.node_links.proofs.Noticing.{UpAt}
@@ -43,7 +45,8 @@ use Rattle.notice_readings.proofs.Doing.{AreHostEnds, IsOn, Stands}
 use Rattle.notice_readings.proofs.Shut.{here_shut, ticks_shut}
 use Rattle.notice_readings.proofs.Steps.{steps_stand}
 use Rattle.notice_readings.proofs.Far.{AreFar, far-append, far_flat, far_reads, far_asks, asking_more, quiet_far}
-use Rattle.notice_readings.proofs.Sites.{AreGood, Reads, still_reads, far_hushed, good_map, link_shut, frames_quiet, arrival_quiet, nothing, far_reads_so, all_tick}
+use Rattle.notice_readings.proofs.Sites.{AreGood, Reads, still_reads, far_hushed, good_map, link_shut, frames_quiet, arrival_quiet, nothing, far_reads_so}
+use Rattle.notice_readings.proofs.Sites.{all_tick}
 use Rattle.notice_readings.specs.Worlds.{ControllerReads, IfReads, IsRightNotice, IsShut}
 
 -- ## Ends as a step begins

@@ -11,7 +11,8 @@ use Rattle.shdlc_core.specs.declared.answers.LinkState.{LinkState}
 use Rattle.shdlc_core.specs.declared.answers.LinkState.TheVariants.{Down, Waiting, Up}
 use Rattle.shdlc_core.specs.Machine.{ticked, tick_answer, stopped}
 use Rattle.session_laws.proofs.Ties.{fetched-phase}
-use Rattle.link_machine.specs.Machine.{LinkEnd, LinkInput, ActDue, Role, Turn, Refused, is_open, act_answer, role_after, with_act, moved, put_down, activated, heard, had_tick, took, reset_refusal, renewed, new_link_end, sent_all, frame_fetched, after_input, turn, turned}
+use Rattle.link_machine.specs.Machine.{LinkEnd, LinkInput, ActDue, Role, Turn, Refused, is_open, act_answer, role_after, with_act, moved, put_down, activated}
+use Rattle.link_machine.specs.Machine.{heard, had_tick, took, reset_refusal, renewed, new_link_end, sent_all, frame_fetched, after_input, turn, turned}
 use Rattle.link_machine.specs.Machine.LinkInput.{Take, TakeUnknown, TakeBroken, Tick, Reset, Start, Stop, FromNode, Fetch}
 use Rattle.link_machine.specs.Machine.Role.{Bare, Clf, Uicc}
 use Rattle.message_link.specs.Links.{Link, Ending, EndEvent, happens_at_controller, ticks_at_controller}

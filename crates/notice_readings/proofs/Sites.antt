@@ -24,7 +24,8 @@ use Rattle.node_machine.specs.Controller.{is_command_message}
 use Rattle.node_machine.specs.Carrying.{changed_if, port_at}
 use Rattle.node_machine.specs.Node.{steps, begins_with}
 use Rattle.node_machine.specs.Node.NodeInput.{AtEnd, TimePasses}
-use Rattle.node_world.specs.World.{NodeWorld, Site, site_at, with_site, link_to, ending_of, runs_on, turns_at, input_of, near_end_in, arrival, wires_for, work_of, frames_noted, host_work, after_host, host_does, host_ticks, hosts_tick, comes_at, sending, beginning}
+use Rattle.node_world.specs.World.{NodeWorld, Site, site_at, with_site, link_to, ending_of, runs_on, turns_at, input_of, near_end_in, arrival, wires_for}
+use Rattle.node_world.specs.World.{work_of, frames_noted, host_work, after_host, host_does, host_ticks, hosts_tick, comes_at, sending, beginning}
 use Rattle.node_world.specs.NodeFilters.{notice_in, asking_in}
 use Rattle.node_links.proofs.Ends.{here_host}
 use Rattle.link_entries.proofs.Together.{ticks_host as tick_host}

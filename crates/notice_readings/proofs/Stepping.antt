@@ -21,7 +21,8 @@ use Rattle.node_machine.specs.Parts.About.{Waits, Forgotten, Removed}
 use Rattle.node_machine.specs.Parts.Deed.{Commits, Sends, SaysOk, Asks, Releases, Tells, IsAnswered, Drops, SetsErrors, Orders, Hears, GoesOn, Ends}
 use Rattle.node_machine.specs.Carrying.{own_side, port_at, finds_room}
 use Rattle.node_machine.specs.Controller.{asked_at, creation_in}
-use Rattle.node_machine.specs.Node.{NodeInput, input_at, has_come, told_at, older_notice, with_older, is_late, reset_late, told_late, is_over, is_forgotten, forgets, owed, without_notice, synced}
+use Rattle.node_machine.specs.Node.{NodeInput, input_at, has_come, told_at, older_notice, with_older, is_late, reset_late, told_late, is_over, is_forgotten}
+use Rattle.node_machine.specs.Node.{forgets, owed, without_notice, synced}
 use Rattle.node_world.specs.NodeFilters.{is_notice}
 use Rattle.node_links.specs.Notices.{IsComing}
 use Rattle.node_links.proofs.Staying.{stays_up}

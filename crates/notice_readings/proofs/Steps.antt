@@ -17,7 +17,8 @@ use Rattle.node_machine.specs.Parts.Deed.{Releases}
 use Rattle.node_machine.specs.Carrying.{own_side, unless_cut, port_at, turn_at, all_done}
 use Rattle.node_machine.specs.Controller.{asked_at}
 use Rattle.node_machine.specs.Turns.{passes}
-use Rattle.node_machine.specs.Node.{NodeInput, input_at, has_come, told_at, all_come, older_notice, with_older, is_late, reset_late, told_late, times_out, is_over, is_forgotten, forgets, owed, all_owed, without_notice, after_sessions, synced, answers_and_passes, steps}
+use Rattle.node_machine.specs.Node.{NodeInput, input_at, has_come, told_at, all_come, older_notice, with_older, is_late, reset_late, told_late, times_out}
+use Rattle.node_machine.specs.Node.{is_over, is_forgotten, forgets, owed, all_owed, without_notice, after_sessions, synced, answers_and_passes, steps}
 use Rattle.node_machine.specs.Node.NodeInput.{AtEnd, TimePasses}
 use Rattle.node_links.specs.Notices.{IsComing, IsOutside}
 use Rattle.node_links.proofs.Noticing.{UpAt, at_all, at_host, outside as from_outside}
@@ -29,7 +30,9 @@ use Rattle.notice_readings.proofs.Reading.{reads, read_more}
 use Rattle.notice_readings.proofs.Telling.{AreRight}
 use Rattle.notice_readings.proofs.Doing.{AreHostEnds, all_map, controller_side, IsOn, Stands, then, turns, all_stand, read_in}
 use Rattle.notice_readings.proofs.Turning.{passes_stand, kept_none}
-use Rattle.notice_readings.proofs.Stepping.{TellNoNotices, no_notices-append, no_notices_flat, no_notices_all, no_notices_may, owed_no_notices, synced_no_notices, flat_reads, told_elsewhere, told_here, late_elsewhere, IsCome, IsComeAt, come_is, older_is, late_is, forgets_is, without_is}
+use Rattle.notice_readings.proofs.Stepping.{TellNoNotices, no_notices-append, no_notices_flat, no_notices_all, no_notices_may, owed_no_notices}
+use Rattle.notice_readings.proofs.Stepping.{synced_no_notices, flat_reads, told_elsewhere, told_here, late_elsewhere, IsCome, IsComeAt, come_is, older_is}
+use Rattle.notice_readings.proofs.Stepping.{late_is, forgets_is, without_is}
 use Rattle.notice_readings.specs.Worlds.{IsRightNotice, IsShut}
 use Rattle.node_laws.proofs.Ports.{at_port, come_host, forgets_host, sessions_node}
 

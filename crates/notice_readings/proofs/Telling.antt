@@ -26,7 +26,8 @@ use Rattle.node_machine.specs.Parts.{Creation, About, Notice, Core, Port, Deed}
 use Rattle.node_machine.specs.Parts.About.{Waits, Forgotten, Removed}
 use Rattle.node_machine.specs.Parts.Deed.{Commits, Sends, SaysOk, Asks, Releases, Tells, IsAnswered, Drops, SetsErrors}
 use Rattle.node_machine.specs.Carrying.{port_at, finds_room}
-use Rattle.node_machine.specs.Controller.{has_link, creation_in, asked_at, view_for, answers_on, commit_deeds, decision_deeds, link_deeds, gates, own_gate, agreed, controller_deeds}
+use Rattle.node_machine.specs.Controller.{has_link, creation_in, asked_at, view_for, answers_on, commit_deeds, decision_deeds, link_deeds, gates, own_gate}
+use Rattle.node_machine.specs.Controller.{agreed, controller_deeds}
 use Rattle.node_world.specs.NodeFilters.{is_response, is_notice}
 use Rattle.node_links.proofs.Noticing.{UpAt}
 use Rattle.node_laws.proofs.Ports.{at_port}

@@ -14,7 +14,8 @@ use Rattle.link_machine.specs.Machine.{Message, give_refusal, spare, need, is_he
 use Rattle.link_machine.specs.Machine.Turn.{FetchMessage, Hold}
 use Rattle.node_machine.specs.Parts.{Notice, Port, Work, Deed}
 use Rattle.node_machine.specs.Parts.Deed.{Commits, Sends, SaysOk, Asks, Releases, Tells, IsAnswered, Drops, SetsErrors, Orders, Hears, GoesOn, Ends}
-use Rattle.node_machine.specs.Carrying.{noting, unless_cut, port_at, changed_if, with_port, with_desk, after_turn, turn_at, end_of_node, done, all_done, needs, lack}
+use Rattle.node_machine.specs.Carrying.{noting, unless_cut, port_at, changed_if, with_port, with_desk, after_turn, turn_at, end_of_node, done, all_done, needs}
+use Rattle.node_machine.specs.Carrying.{lack}
 use Rattle.node_machine.specs.Controller.{has_link, controller_deeds}
 use Rattle.node_machine.specs.Turns.{deeds_of, handles, holds_back, lets_go, have_turns, goes_through_ends, passes}
 use Rattle.node_world.specs.World.{end_c}
@@ -27,7 +28,8 @@ use Rattle.notice_readings.specs.Notices.{IsKeptNotice}
 use Rattle.notice_readings.proofs.Reading.{reads, same_near}
 use Rattle.notice_readings.proofs.Telling.{noticed, IsShort, MayTell, answers, Outcome, controller_outcome}
 use Rattle.notice_readings.proofs.Telling.Outcome.{Leaves, IsHeard}
-use Rattle.notice_readings.proofs.Doing.{AreHostEnds, Takes, all_map, controller_side, Holds, IsOn, Stands, then, notes, hushed, turns, desks, all_stand, read_in}
+use Rattle.notice_readings.proofs.Doing.{AreHostEnds, Takes, all_map, controller_side, Holds, IsOn, Stands, then, notes, hushed, turns, desks, all_stand}
+use Rattle.notice_readings.proofs.Doing.{read_in}
 use Rattle.notice_readings.specs.Worlds.{IsRightNotice}
 use Rattle.node_readings.proofs.Turning.{lack_parts}
 use Rattle.node_laws.proofs.Ports.{changed_host}

@@ -1,5 +1,6 @@
 -- What a memory says where a pass comes to a gate.
-use Rattle.std.proofs.Common.{◌≡◌, ℕ, ◌+◌, ◌*◌, ◌<◌, ◌≤◌, ◌==◌, ◌||◌, min, Bool, true, false, List, length, take, drop, slice_index, slice_get, Option, Some, None, IsTrue, sym, refl, ap, ap₂, ◌∙◌, subst, arith, take-take, if◌then◌else◌, zero, suc, []}
+use Rattle.std.proofs.Common.{◌≡◌, ℕ, ◌+◌, ◌*◌, ◌<◌, ◌≤◌, ◌==◌, ◌||◌, min, Bool, true, false, List, length, take, drop, slice_index, slice_get, Option, Some}
+use Rattle.std.proofs.Common.{None, IsTrue, sym, refl, ap, ap₂, ◌∙◌, subst, arith, take-take, if◌then◌else◌, zero, suc, []}
 use Rattle.std.proofs.lemmas.Bool.{true≢false}
 use Rattle.nv_journal.specs.declared.JournalFault.TheVariants.{BadRecord}
 use Rattle.nv_journal.specs.declared.gates.Gate.TheVariants.{Closed, Bad, Record}
@@ -15,7 +16,8 @@ use Rattle.nv_journal.specs.Faults.{fault, IsFaulty}
 use Rattle.nv_journal.specs.Gates.{gate_of}
 use Rattle.nv_journal.specs.Kept.{Says}
 use Rattle.nv_journal.specs.Scanning.{passed_on, IsPassed, SaysSoFar}
-use Rattle.nv_journal.proofs.PassedSteps.{same_gate, closed_gate, bad_gate, record_gate, rest_is, closed_says, bad_says, bad_last, gate_is, record_there, body_len, passed_then}
+use Rattle.nv_journal.proofs.PassedSteps.{same_gate, closed_gate, bad_gate, record_gate, rest_is, closed_says, bad_says, bad_last, gate_is, record_there}
+use Rattle.nv_journal.proofs.PassedSteps.{body_len, passed_then}
 
 some_side : (o : Option Side) (ended : Bool) → (o ≡ None → IsTrue ended) → ended ≡ false → (side : Side) × (o ≡ Some side)
 some_side None ended idle going = absurd (true≢false (sym (idle refl) ∙ going))

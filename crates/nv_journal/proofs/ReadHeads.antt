@@ -1,5 +1,6 @@
 -- The head that is read of a bank.
-use Rattle.std.proofs.Common.{◌≡◌, ℕ, ◌+◌, ◌-◌, List, [], ◌∷◌, length, take, drop, slice_index, slice_range, sym, refl, ap, ap₂, ◌∙◌, arith, take-take, w16, w32}
+use Rattle.std.proofs.Common.{◌≡◌, ℕ, ◌+◌, ◌-◌, List, [], ◌∷◌, length, take, drop, slice_index, slice_range, sym, refl, ap, ap₂, ◌∙◌, arith, take-take, w16}
+use Rattle.std.proofs.Common.{w32}
 use Rattle.std.specs.Int.{from_be_bytes}
 use Rattle.journal_laws.specs.declared.banks.Side.{Side}
 use Rattle.journal_laws.specs.declared.state.Head.{Head}

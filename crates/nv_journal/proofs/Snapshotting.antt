@@ -1,5 +1,6 @@
 -- The bytes of a snapshot.
-use Rattle.std.proofs.Common.{◌≡◌, ℕ, ◌+◌, ◌≤◌, List, [], ◌∷◌, ◌++◌, length, sym, refl, ap, ap₂, ◌∙◌, subst, arith, append_assoc, append-nil, length-append, add-zero, zero-add, ◌-◌}
+use Rattle.std.proofs.Common.{◌≡◌, ℕ, ◌+◌, ◌≤◌, List, [], ◌∷◌, ◌++◌, length, sym, refl, ap, ap₂, ◌∙◌, subst, arith, append_assoc, append-nil, length-append}
+use Rattle.std.proofs.Common.{add-zero, zero-add, ◌-◌}
 use Rattle.std.specs.List.{AllByRecursion}
 use Rattle.journal_laws.specs.Records.{IsBody, Found, behind, found_from, record_bytes, records_bytes, size_in, used}
 use Rattle.journal_laws.proofs.Reading.{found_closed, records_are_read, length-records_bytes, few_records}

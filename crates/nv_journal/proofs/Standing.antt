@@ -1,5 +1,7 @@
 -- Where the records of a memory stand.
-use Rattle.std.proofs.Common.{◌≡◌, ◌⊎◌, inl, inr, ℕ, zero, suc, ◌+◌, ◌-◌, ◌<◌, ◌≤◌, ◌==◌, ◌||◌, ◌&&◌, min, Bool, true, false, nat_le, nat_lt, List, [], ◌∷◌, length, take, drop, slice_index, slice_range, slice_get, Option, Some, None, sym, refl, ap, ap₂, ◌∙◌, subst, arith, length-take, length-drop, take-take, suc-add, add-zero, cond}
+use Rattle.std.proofs.Common.{◌≡◌, ◌⊎◌, inl, inr, ℕ, zero, suc, ◌+◌, ◌-◌, ◌<◌, ◌≤◌, ◌==◌, ◌||◌, ◌&&◌, min, Bool, true, false, nat_le, nat_lt, List, [], ◌∷◌}
+use Rattle.std.proofs.Common.{length, take, drop, slice_index, slice_range, slice_get, Option, Some, None, sym, refl, ap, ap₂, ◌∙◌, subst, arith, length-take}
+use Rattle.std.proofs.Common.{length-drop, take-take, suc-add, add-zero, cond}
 use Rattle.std.specs.Option.{option_map_or}
 use Rattle.std.specs.Int.{w16, from_be_bytes}
 use Rattle.std.proofs.lemmas.List.{drop-drop}

@@ -1,5 +1,6 @@
 //! A journal over a memory.
-ghost use Rattle.std.specs.Prelude.{◌≡◌, ◌≢◌, ◌+◌, ◌-◌, ◌≤◌, ◌<◌, ◌++◌, ◌↔◌, ℕ, ◌⊎◌, [], ◌∷◌, length, Err, Some, true, false, IsTrue, IsSome, is_ok, OnOk, OnErr, IfOk, IfErr, MatchResult, MatchOption, IfSome, slice_get};
+ghost use Rattle.std.specs.Prelude.{◌≡◌, ◌≢◌, ◌+◌, ◌-◌, ◌≤◌, ◌<◌, ◌++◌, ◌↔◌, ℕ, ◌⊎◌, [], ◌∷◌, length, Err, Some, true, false, IsTrue, IsSome, is_ok, OnOk};
+ghost use Rattle.std.specs.Prelude.{OnErr, IfOk, IfErr, MatchResult, MatchOption, IfSome, slice_get};
 ghost use Rattle.swp_base.specs.Outside.{Rose};
 ghost use Rattle.journal_laws.specs.Writes.{AreMade, AreRead};
 ghost use Rattle.journal_laws.specs.Journal.{records, count_of, count, left, next_place, gate_at};

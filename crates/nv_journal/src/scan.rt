@@ -1,5 +1,6 @@
 //! A pass over the records of a memory.
-ghost use Rattle.std.specs.Prelude.{◌≡◌, ◌≢◌, ◌⊎◌, ◌↔◌, ◌<◌, ◌≤◌, length, min, None, Some, Ok, Err, true, false, IsTrue, IfOk, IfErr, OnOk, OnErr, MatchResult, MatchOption, slice_get};
+ghost use Rattle.std.specs.Prelude.{◌≡◌, ◌≢◌, ◌⊎◌, ◌↔◌, ◌<◌, ◌≤◌, length, min, None, Some, Ok, Err, true, false, IsTrue, IfOk, IfErr, OnOk, OnErr, MatchResult};
+ghost use Rattle.std.specs.Prelude.{MatchOption, slice_get};
 ghost use Rattle.swp_base.specs.Outside.{Rose};
 ghost use Rattle.journal_laws.specs.Writes.{AreRead, AreMade};
 ghost use Rattle.journal_laws.specs.Operations.{format_writes, start_writes, started_state, LeftByCut};

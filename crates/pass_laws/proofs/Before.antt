@@ -19,7 +19,8 @@ use Rattle.node_laws.proofs.Ports.{come_host, forgets_host, changed_host}
 use Rattle.node_telling.proofs.Mute.{AreMute, forgotten_mute, all_owed_mute, all_synced_mute}
 use Rattle.node_telling.proofs.Walks.{unless, every_do}
 use Rattle.node_machine.specs.Turns.{passes}
-use Rattle.node_machine.specs.Node.{NodeInput, input_at, has_come, told_at, all_come, with_older, is_late, reset_late, told_late, forgotten, after_sessions, forgets, without_notice, steps}
+use Rattle.node_machine.specs.Node.{NodeInput, input_at, has_come, told_at, all_come, with_older, is_late, reset_late, told_late, forgotten, after_sessions}
+use Rattle.node_machine.specs.Node.{forgets, without_notice, steps}
 use Rattle.node_machine.specs.Node.NodeInput.{AtEnd, TimePasses}
 use Rattle.pass_laws.specs.Noting.{noted_by_deeds}
 use Rattle.pass_laws.specs.Passing.{IsNoTurn, AreNoTurns}

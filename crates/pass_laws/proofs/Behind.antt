@@ -1,5 +1,6 @@
 -- What a pass leaves at each end of its node.
-use Rattle.std.proofs.Common.{◌≡◌, inl, inr, ℕ, ◌==◌, Bool, true, false, List, [], ◌∷◌, ◌++◌, Option, Some, None, refl, ap, sym, subst, ◌∙◌, append_assoc, append-nil}
+use Rattle.std.proofs.Common.{◌≡◌, inl, inr, ℕ, ◌==◌, Bool, true, false, List, [], ◌∷◌, ◌++◌, Option, Some, None, refl, ap, sym, subst, ◌∙◌, append_assoc}
+use Rattle.std.proofs.Common.{append-nil}
 use Rattle.std.specs.List.{AllByRecursion}
 use Rattle.std.proofs.lemmas.Bool.{true≢false}
 use Rattle.std.proofs.lemmas.List.Elements.{filter_map-append}
@@ -12,7 +13,8 @@ use Rattle.node_machine.specs.Carrying.{noting, unless_cut, with_desk, after_tur
 use Rattle.node_machine.specs.Turns.{deeds_of, handles, holds_back, lets_go, have_turns, goes_through_ends}
 use Rattle.node_telling.proofs.Walks.{unless as unless_lost}
 use Rattle.pass_laws.specs.Noting.{noted_by_deeds}
-use Rattle.pass_laws.specs.Passing.{link_of_turn, AreAlong, links_of_turns, waiting_at, is_held_at, lacking, takes_up, LastsOverTurns, ArePassed, Stays, IsBehind}
+use Rattle.pass_laws.specs.Passing.{link_of_turn, AreAlong, links_of_turns, waiting_at, is_held_at, lacking, takes_up, LastsOverTurns, ArePassed, Stays}
+use Rattle.pass_laws.specs.Passing.{IsBehind}
 use Rattle.pass_laws.proofs.Ends.{Sees, SeesAt, HasFirst, has_first, own_changed, other_stays, turn_sees, deeds_see, lets_see}
 use Rattle.pass_laws.proofs.Turnless.{reply_none}
 use Rattle.pass_laws.proofs.Walking.{no_links}

@@ -1,5 +1,6 @@
 -- A fact of a node is carried through its whole pass.
-use Rattle.std.proofs.Common.{◌≡◌, inl, inr, ℕ, ◌==◌, Bool, true, false, cond, List, [], ◌∷◌, ◌++◌, Option, Some, None, refl, ap, sym, subst, ◌∙◌, append_assoc, append-nil}
+use Rattle.std.proofs.Common.{◌≡◌, inl, inr, ℕ, ◌==◌, Bool, true, false, cond, List, [], ◌∷◌, ◌++◌, Option, Some, None, refl, ap, sym, subst, ◌∙◌, append_assoc}
+use Rattle.std.proofs.Common.{append-nil}
 use Rattle.std.specs.Prelude.{drop}
 use Rattle.std.specs.Option.{option_map_or}
 use Rattle.std.proofs.lemmas.Bool.{true≢false}
@@ -11,7 +12,8 @@ use Rattle.node_machine.specs.Parts.{Core, Port, Work, Deed}
 use Rattle.node_machine.specs.Carrying.{noting, unless_cut, port_at, noted_of, with_desk, after_turn, turn_at, end_of_node}
 use Rattle.node_machine.specs.Turns.{deeds_of, handles, holds_back, lets_go, have_turns, goes_through_ends}
 use Rattle.pass_laws.specs.Noting.{noted_by_deeds}
-use Rattle.pass_laws.specs.Passing.{BeginWithTurn, AreAlong, links_of_turns, waiting_at, is_held_at, lacking, takes_up, LastsOverTurns, ComesTo, IsTurnSo, ArePassed}
+use Rattle.pass_laws.specs.Passing.{BeginWithTurn, AreAlong, links_of_turns, waiting_at, is_held_at, lacking, takes_up, LastsOverTurns, ComesTo, IsTurnSo}
+use Rattle.pass_laws.specs.Passing.{ArePassed}
 use Rattle.pass_laws.specs.Passing.ComesTo.{Begins, Handles, Holds, LetsGo}
 use Rattle.pass_laws.proofs.Notes.{deeds_note}
 use Rattle.pass_laws.proofs.Ends.{HasFirst, has_first, own_changed, deeds_see, SeesAt, Sees}

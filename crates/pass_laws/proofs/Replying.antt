@@ -18,11 +18,13 @@ use Rattle.link_machine.specs.Machine.Turn.{Give, SetAside, Release}
 use Rattle.node_machine.specs.Parts.{About, Desk, Core, Port, Work, Deed}
 use Rattle.node_machine.specs.Parts.About.{Waits, Removed}
 use Rattle.node_machine.specs.Parts.Deed.{Commits, Sends, SaysOk, Asks, Releases, Tells, IsAnswered, Drops, SetsErrors, Orders, Hears, GoesOn, Ends}
-use Rattle.node_machine.specs.Carrying.{noting, port_at, changed_if, with_desk, after_turn, noted_of, turn_at, notified, loses_power, keeps, commit, done, all_done, end_of_node}
+use Rattle.node_machine.specs.Carrying.{noting, port_at, changed_if, with_desk, after_turn, noted_of, turn_at, notified, loses_power, keeps, commit, done}
+use Rattle.node_machine.specs.Carrying.{all_done, end_of_node}
 use Rattle.node_laws.proofs.Ports.{changed_host}
 use Rattle.node_telling.proofs.Accounts.{at_host}
 use Rattle.node_telling.proofs.Away.{at_map, none_map}
-use Rattle.pass_laws.specs.Noting.{goes_in, noted_by_deed, noted_by_deeds, session_of_port, sent_in_session, next_count, entries_of_reply, CountsCommands, TakesMessage, AreTaken, IsReplyNoted}
+use Rattle.pass_laws.specs.Noting.{goes_in, noted_by_deed, noted_by_deeds, session_of_port, sent_in_session, next_count, entries_of_reply, CountsCommands}
+use Rattle.pass_laws.specs.Noting.{TakesMessage, AreTaken, IsReplyNoted}
 use Rattle.node_links.proofs.Noticing.{turn-phase}
 
 -- ## Sessions

@@ -1,5 +1,6 @@
 -- A fact of a node is carried through its pass, to each turn of it.
-use Rattle.std.proofs.Common.{◌≡◌, ◌⊎◌, inl, inr, ℕ, Bool, true, false, cond, List, [], ◌∷◌, ◌++◌, Some, None, refl, ap, sym, subst, ◌∙◌, append_assoc, append-nil}
+use Rattle.std.proofs.Common.{◌≡◌, ◌⊎◌, inl, inr, ℕ, Bool, true, false, cond, List, [], ◌∷◌, ◌++◌, Some, None, refl, ap, sym, subst, ◌∙◌, append_assoc}
+use Rattle.std.proofs.Common.{append-nil}
 use Rattle.trace_model.specs.declared.entry.Entry.{Entry}
 use Rattle.trace_model.specs.declared.entry.Entry.TheVariants as entry
 use Rattle.link_machine.specs.Machine.{Message}
@@ -7,7 +8,8 @@ use Rattle.node_machine.specs.Parts.{Work, Deed}
 use Rattle.node_machine.specs.Carrying.{end_of_node}
 use Rattle.node_machine.specs.Turns.{deeds_of, handles}
 use Rattle.pass_laws.specs.Noting.{noted_by_deeds}
-use Rattle.pass_laws.specs.Passing.{IsNoTurn, AreNoTurns, BeginWithTurn, AreAlong, links_of_turns, waiting_at, is_held_at, lacking, takes_up, LastsOverTurns, HadTurn, WasHeld, IsTurnSo, ArePassed}
+use Rattle.pass_laws.specs.Passing.{IsNoTurn, AreNoTurns, BeginWithTurn, AreAlong, links_of_turns, waiting_at, is_held_at, lacking, takes_up, LastsOverTurns}
+use Rattle.pass_laws.specs.Passing.{HadTurn, WasHeld, IsTurnSo, ArePassed}
 use Rattle.pass_laws.proofs.Turnless.{reply_none}
 
 -- ## Lists of entries

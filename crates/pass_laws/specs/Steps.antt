@@ -4,7 +4,8 @@ use Rattle.std.specs.List.{flat_map}
 use Rattle.trace_model.specs.declared.entry.Entry.{Entry}
 use Rattle.node_machine.specs.Parts.{Work, Deed, Running}
 use Rattle.node_machine.specs.Carrying.{unless_cut, all_done}
-use Rattle.node_machine.specs.Node.{NodeInput, input_at, told_at, all_come, with_older, told_late, times_out, forgotten, forgets, all_owed, without_notice, after_sessions, synced}
+use Rattle.node_machine.specs.Node.{NodeInput, input_at, told_at, all_come, with_older, told_late, times_out, forgotten, forgets, all_owed, without_notice}
+use Rattle.node_machine.specs.Node.{after_sessions, synced}
 use Rattle.node_machine.specs.Node.NodeInput.{AtEnd, TimePasses}
 use Rattle.pass_laws.specs.Noting.{noted_by_deeds}
 use Rattle.message_link.specs.Links.{Comes}

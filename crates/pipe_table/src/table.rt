@@ -33,7 +33,8 @@ impl Model for PipeTable {
 
 impl PipeTable {
     ghost use Rattle.std.specs.Prelude.{◌≡◌, ◌↔◌, [], IsTrue, IsSome, IsNone, IfSome};
-    ghost use Rattle.pipe_table.specs.PipeRows.{ArePipeRows, IsDynamic, pipe_at, with_pipe, without_pipe, rows_without_host, with_opened, all_closed, opened_on, is_free, lowest_free};
+    ghost use Rattle.pipe_table.specs.PipeRows.{ArePipeRows, IsDynamic, pipe_at, with_pipe, without_pipe, rows_without_host, with_opened, all_closed};
+    ghost use Rattle.pipe_table.specs.PipeRows.{opened_on, is_free, lowest_free};
 
     /// No pipes.
     pub fn new() -> PipeTable

@@ -1,5 +1,6 @@
 -- In each event nothing of a node stands behind its cut.
-use Rattle.std.proofs.Common.{◌≡◌, ℕ, ◌==◌, Bool, true, false, cond, List, [], ◌∷◌, ◌++◌, Option, Some, None, map, refl, ap, sym, subst, ◌∙◌, append-nil, length}
+use Rattle.std.proofs.Common.{◌≡◌, ℕ, ◌==◌, Bool, true, false, cond, List, [], ◌∷◌, ◌++◌, Option, Some, None, map, refl, ap, sym, subst, ◌∙◌, append-nil}
+use Rattle.std.proofs.Common.{length}
 use Rattle.std.specs.Prelude.{◌&&◌}
 use Rattle.std.specs.List.{AllByRecursion, flat_map}
 use Rattle.std.proofs.lemmas.Bool.{eqb-true, true≢false}
@@ -22,7 +23,10 @@ use Rattle.node_machine.specs.Parts.Deed.{Sends, Orders}
 use Rattle.node_machine.specs.Controller.{is_command_message}
 use Rattle.node_machine.specs.Node.{steps, begins_with, boot_writes}
 use Rattle.node_machine.specs.Node.NodeInput.{AtEnd, TimePasses}
-use Rattle.node_world.specs.World.{Site, NodeWorld, Happening, site_at, link_to, near_end_in, arrival, wires_for, work_of, frames_noted, comes_to, controller_work, after_controller, controller_does, host_work, after_host, host_does, memory_at, boots, frame_lost, all_aged, ticked_so, is_late_at, turns_at, ending_of, runs_on, controller_ticks, host_ticks, hosts_tick, world_ticks, sending, beginning, input_of, comes_at, end_c, end_h, world_step, node_of}
+use Rattle.node_world.specs.World.{Site, NodeWorld, Happening, site_at, link_to, near_end_in, arrival, wires_for, work_of, frames_noted, comes_to}
+use Rattle.node_world.specs.World.{controller_work, after_controller, controller_does, host_work, after_host, host_does, memory_at, boots, frame_lost, all_aged}
+use Rattle.node_world.specs.World.{ticked_so, is_late_at, turns_at, ending_of, runs_on, controller_ticks, host_ticks, hosts_tick, world_ticks, sending}
+use Rattle.node_world.specs.World.{beginning, input_of, comes_at, end_c, end_h, world_step, node_of}
 use Rattle.node_world.specs.World.Happening.{Boots, IsCut, Gives, Inits, Takes, Loses, Ticks, Resets, Activates, Arms}
 use Rattle.kept_laws.specs.Books.{hosts_of_ends}
 use Rattle.kept_laws.specs.Hosts.{AreDifferent}

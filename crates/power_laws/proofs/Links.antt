@@ -11,7 +11,8 @@ use Rattle.message_link.specs.Links.{Link, Comes, Loss, put}
 use Rattle.message_link.specs.Links.Ending.{GoesOut}
 use Rattle.message_link.specs.Links.Comes.{NextFrame, AsksReset, Starts, Stops, NoInput}
 use Rattle.message_link.specs.Links.Loss.{TooMany}
-use Rattle.link_entries.specs.Entries.{End as Side, Entry as Noted, far, if_so, told, sent_unless, turn_entry, first_lost, pushed_out, wire_with, put_entries, puts_entries, ending_entries}
+use Rattle.link_entries.specs.Entries.{End as Side, Entry as Noted, far, if_so, told, sent_unless, turn_entry, first_lost, pushed_out, wire_with, put_entries}
+use Rattle.link_entries.specs.Entries.{puts_entries, ending_entries}
 use Rattle.link_entries.specs.Entries.Entry.{Up, Down, Active, GaveUp, Acked, Got, Sent, Emit, Took, Lost, Tick, Restarted, Cut}
 use Rattle.history.specs.Steps.{end_of, entry_of, entries_for}
 use Rattle.node_world.specs.World.{node_of, arrival}

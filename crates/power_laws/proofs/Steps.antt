@@ -1,5 +1,6 @@
 -- A step of a node, and what begins at a host.
-use Rattle.std.proofs.Common.{◌≡◌, inl, inr, ℕ, ◌&&◌, Bool, true, false, cond, List, [], ◌∷◌, ◌++◌, Option, Some, None, map, refl, ap, sym, subst, ◌∙◌, append-nil}
+use Rattle.std.proofs.Common.{◌≡◌, inl, inr, ℕ, ◌&&◌, Bool, true, false, cond, List, [], ◌∷◌, ◌++◌, Option, Some, None, map, refl, ap, sym, subst, ◌∙◌}
+use Rattle.std.proofs.Common.{append-nil}
 use Rattle.std.specs.Prelude.{not}
 use Rattle.std.specs.List.{AllByRecursion, flat_map, filter}
 use Rattle.registry.proofs.ValueLemmas.{AllByRecursion-append as all_append}
@@ -20,7 +21,8 @@ use Rattle.node_machine.specs.Parts.Deed.{Commits, Releases}
 use Rattle.node_machine.specs.Carrying.{own_side, port_at, finds_room, turn_at, all_done}
 use Rattle.node_machine.specs.Controller.{asked_at}
 use Rattle.node_machine.specs.Turns.{passes}
-use Rattle.node_machine.specs.Node.{NodeInput, input_at, told_at, all_come, with_older, is_late, told_late, forgets, owed, all_owed, without_notice, after_sessions, synced, steps}
+use Rattle.node_machine.specs.Node.{NodeInput, input_at, told_at, all_come, with_older, is_late, told_late, forgets, owed, all_owed, without_notice}
+use Rattle.node_machine.specs.Node.{after_sessions, synced, steps}
 use Rattle.node_machine.specs.Node.NodeInput.{AtEnd, TimePasses}
 use Rattle.node_world.specs.World.{node_of, frames_noted}
 use Rattle.kept_laws.specs.Books.{hosts_of_ends}

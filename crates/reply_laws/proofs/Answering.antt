@@ -1,5 +1,6 @@
 -- What a node answers until its next turn, as it is read off what was noted behind its turn.
-use Rattle.std.proofs.Common.{◌≡◌, ◌⊎◌, inl, inr, ℕ, suc, ◌≤◌, ◌||◌, Bool, true, false, cond, List, [], ◌∷◌, ◌++◌, sym, refl, ap, ap₂, ◌∙◌, subst, append_assoc, append-nil, arith}
+use Rattle.std.proofs.Common.{◌≡◌, ◌⊎◌, inl, inr, ℕ, suc, ◌≤◌, ◌||◌, Bool, true, false, cond, List, [], ◌∷◌, ◌++◌, sym, refl, ap, ap₂, ◌∙◌, subst, append_assoc}
+use Rattle.std.proofs.Common.{append-nil, arith}
 use Rattle.std.specs.Prelude.{◌+◌, not, take, Option, Some, None}
 use Rattle.std.specs.List.{AllByRecursion, filter, list_any, prefix_len}
 use Rattle.std.proofs.lemmas.Bool.{cases_Bool, eq-eqb}

@@ -22,7 +22,10 @@ use Rattle.link_machine.specs.Machine.{Message}
 use Rattle.node_machine.specs.Parts.{Creation, Notice, Core, Port, Deed}
 use Rattle.node_machine.specs.Parts.Deed.{Commits, Sends, SaysOk, Asks, Releases, Tells, IsAnswered, Drops, SetsErrors, Orders, Hears, GoesOn, Ends}
 use Rattle.node_machine.specs.Carrying.{port_at, finds_room}
-use Rattle.node_machine.specs.Controller.{has_link, creation_in, asked_at, asks_for, view_for, answers_on, commit_deeds, decision_deeds, link_deeds, gates, gate_deeds, own_gate, goes_through, served_at, agreed, creation_deeds, notice_deeds, response_at, is_command_message, relayed_to, unrelayed, event_deeds, unless_asking, if_notice, kind_deeds, own_deeds, relay_deeds, deeds_by_relay, controller_deeds}
+use Rattle.node_machine.specs.Controller.{has_link, creation_in, asked_at, asks_for, view_for, answers_on, commit_deeds, decision_deeds, link_deeds, gates}
+use Rattle.node_machine.specs.Controller.{gate_deeds, own_gate, goes_through, served_at, agreed, creation_deeds, notice_deeds, response_at, is_command_message}
+use Rattle.node_machine.specs.Controller.{relayed_to, unrelayed, event_deeds, unless_asking, if_notice, kind_deeds, own_deeds, relay_deeds, deeds_by_relay}
+use Rattle.node_machine.specs.Controller.{controller_deeds}
 use Rattle.node_links.proofs.Noticing.{UpAt}
 use Rattle.notice_readings.proofs.Telling.{AreRight, IsShort, MayTell, Outcome, controller_outcome}
 use Rattle.notice_readings.proofs.Telling.Outcome.{Leaves, IsHeard}

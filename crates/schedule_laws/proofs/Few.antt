@@ -1,5 +1,6 @@
 -- No node has more commands than a journal counts behind 20,000 lines.
-use Rattle.std.proofs.Common.{◌≡◌, ℕ, ◌+◌, ◌*◌, ◌≤◌, ◌==◌, Bool, true, false, cond, List, [], ◌∷◌, ◌++◌, length, length-append, length-take, sym, refl, ap, subst, arith, Option, Some, None}
+use Rattle.std.proofs.Common.{◌≡◌, ℕ, ◌+◌, ◌*◌, ◌≤◌, ◌==◌, Bool, true, false, cond, List, [], ◌∷◌, ◌++◌, length, length-append, length-take, sym, refl, ap}
+use Rattle.std.proofs.Common.{subst, arith, Option, Some, None}
 use Rattle.std.specs.Prelude.{replicate}
 use Rattle.std.proofs.lemmas.List.{length-map, length-replicate}
 use Rattle.std.specs.List.{AllByRecursion, fold}
@@ -21,7 +22,8 @@ use Rattle.history.specs.Follows.{taken_of, first_verdict}
 use Rattle.node_machine.specs.Parts.{Running}
 use Rattle.node_world.specs.World.{NodeWorld, Site, Happening, node_at, site_at, link_to, new_site, new_world, world_step}
 use Rattle.node_world.specs.World.Happening.{Takes, Ticks}
-use Rattle.node_world.specs.Lines.{frames_at, refusal_in, happens_by, happenings, Occurrence, can_happen, all_happen, LineOutcome, tables_told, goes_on, line_step}
+use Rattle.node_world.specs.Lines.{frames_at, refusal_in, happens_by, happenings, Occurrence, can_happen, all_happen, LineOutcome, tables_told, goes_on}
+use Rattle.node_world.specs.Lines.{line_step}
 use Rattle.node_world.specs.Lines.LineOutcome.{WasRefused}
 use Rattle.node_world.specs.NodeHistories.{NodeHistory, FollowsNodes, steps_from, occurrences_of, entries_in, node_entries}
 use Rattle.node_world.specs.NodeFilters.{Book, with_command, with_found, book_after, commands_in, new_book}

@@ -6,7 +6,9 @@ use Rattle.swp_base.specs.declared.control_frames.Control.{Control}
 use Rattle.session_laws.specs.Sessions.{OnWire, is_rset, fits, aged_wire, took_with}
 use Rattle.link_machine.specs.Machine.{LinkEnd, LinkInput, Turn, turned, after_input, frames_out, ended_by, started, deactivated}
 use Rattle.link_machine.specs.Machine.LinkInput.{Take, Tick, Reset}
-use Rattle.message_link.specs.Links.{Link, Ending, Comes, EndEvent, LinkEvent, exchanged, put, put_all, with_ended, finished, has_input, has_taken, has_restarted, steps_at_controller, happens_at_controller, all_at_controller, aged, ticks_at_controller, happens, after_link_events, silent}
+use Rattle.message_link.specs.Links.{Link, Ending, Comes, EndEvent, LinkEvent, exchanged, put, put_all, with_ended, finished, has_input, has_taken}
+use Rattle.message_link.specs.Links.{has_restarted, steps_at_controller, happens_at_controller, all_at_controller, aged, ticks_at_controller, happens}
+use Rattle.message_link.specs.Links.{after_link_events, silent}
 use Rattle.message_link.specs.Links.Ending.{GoesOut, CutOff}
 use Rattle.message_link.specs.Links.Comes.{NextFrame, AsksReset, Starts, Stops, NoInput}
 use Rattle.message_link.specs.Links.EndEvent.{Step, Lose}

@@ -17,9 +17,11 @@ use Rattle.link_entries.specs.Entries.{End as Side, sent_unless}
 use Rattle.history.specs.Steps.{entries_for}
 use Rattle.node_machine.specs.Parts.{Core, Port, Work, Deed}
 use Rattle.node_machine.specs.Parts.Deed.{Commits, Sends, SaysOk, Asks, Releases, Tells, IsAnswered, Drops, SetsErrors, Orders, Hears, GoesOn, Ends}
-use Rattle.node_machine.specs.Carrying.{own_side, end_of_node, noting, unless_cut, port_at, with_desk, noted_of, turn_at, loses_power, keeps, commit, done, all_done, needs, lack}
+use Rattle.node_machine.specs.Carrying.{own_side, end_of_node, noting, unless_cut, port_at, with_desk, noted_of, turn_at, loses_power, keeps, commit, done}
+use Rattle.node_machine.specs.Carrying.{all_done, needs, lack}
 use Rattle.node_machine.specs.Turns.{deeds_of, handles, holds_back, lets_go, have_turns, goes_through_ends, passes}
-use Rattle.node_machine.specs.Node.{NodeInput, input_at, has_come, told_at, all_come, with_older, is_late, reset_late, told_late, times_out, forgotten, forgets, without_notice, after_sessions, all_owed, synced, answers_and_passes, steps, begins_with}
+use Rattle.node_machine.specs.Node.{NodeInput, input_at, has_come, told_at, all_come, with_older, is_late, reset_late, told_late, times_out, forgotten, forgets}
+use Rattle.node_machine.specs.Node.{without_notice, after_sessions, all_owed, synced, answers_and_passes, steps, begins_with}
 use Rattle.node_machine.specs.Node.NodeInput.{AtEnd, TimePasses}
 use Rattle.schedule_laws.proofs.Costs.{costs, pays, costs-append, pays-append, told_cost}
 use Rattle.schedule_laws.proofs.Coming.{got_once}

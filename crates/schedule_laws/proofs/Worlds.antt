@@ -1,5 +1,6 @@
 -- What is noted of an event of a world of nodes is paid for, but for three of each end of a node that has a step in it.
-use Rattle.std.proofs.Common.{◌≡◌, ℕ, ◌+◌, ◌*◌, ◌≤◌, ◌==◌, ◌&&◌, Bool, true, false, cond, List, [], ◌∷◌, ◌++◌, length, map, sym, refl, ap, ◌∙◌, arith, Option, Some, None}
+use Rattle.std.proofs.Common.{◌≡◌, ℕ, ◌+◌, ◌*◌, ◌≤◌, ◌==◌, ◌&&◌, Bool, true, false, cond, List, [], ◌∷◌, ◌++◌, length, map, sym, refl, ap, ◌∙◌, arith, Option}
+use Rattle.std.proofs.Common.{Some, None}
 use Rattle.std.proofs.lemmas.List.{length-map}
 use Rattle.std.specs.List.{AllByRecursion, flat_map}
 use Rattle.std.specs.Option.{option_map_or}
@@ -23,7 +24,11 @@ use Rattle.node_machine.specs.Carrying.{port_at}
 use Rattle.node_machine.specs.Controller.{is_command_message}
 use Rattle.node_machine.specs.Node.{steps, begins_with, found, boot_writes}
 use Rattle.node_machine.specs.Node.NodeInput.{AtEnd, TimePasses}
-use Rattle.node_world.specs.World.{NodeWorld, Site, Happening, site_at, link_to, turns_at, ending_of, runs_on, input_of, near_end_in, arrival, wires_for, frames_noted, comes_to, controller_work, after_controller, controller_does, host_work, after_host, host_does, with_site, port_for, work_of, is_late_at, ticked_so, loses_power_at, memory_at, with_memory, with_node, links_of, boots, counts, frame_lost, all_aged, controller_ticks, host_ticks, hosts_tick, world_ticks, sending, beginning, comes_at, activates, end_c, end_h, world_step}
+use Rattle.node_world.specs.World.{NodeWorld, Site, Happening, site_at, link_to, turns_at, ending_of, runs_on, input_of, near_end_in, arrival, wires_for}
+use Rattle.node_world.specs.World.{frames_noted, comes_to, controller_work, after_controller, controller_does, host_work, after_host, host_does, with_site}
+use Rattle.node_world.specs.World.{port_for, work_of, is_late_at, ticked_so, loses_power_at, memory_at, with_memory, with_node, links_of, boots, counts}
+use Rattle.node_world.specs.World.{frame_lost, all_aged, controller_ticks, host_ticks, hosts_tick, world_ticks, sending, beginning, comes_at, activates, end_c}
+use Rattle.node_world.specs.World.{end_h, world_step}
 use Rattle.node_world.specs.World.Happening.{Boots, IsCut, Gives, Inits, Takes, Loses, Ticks, Resets, Activates, Arms}
 use Rattle.node_telling.specs.Telling.{HasEnds, IfItRuns, hosts_in, IsOrderly}
 use Rattle.node_telling.proofs.Worlds.{site_is}

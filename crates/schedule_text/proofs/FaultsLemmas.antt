@@ -1,5 +1,6 @@
 -- When each fault comes.
-use Rattle.std.proofs.Common.{◌≡◌, ◌≢◌, ℕ, ◌+◌, Bool, true, false, not, cond, List, [], ◌∷◌, refl, sym, ◌∙◌, subst, Option, Some, None, Result, Ok, Err, inl, inr, codes, ◌↔◌, IfOk, IsTrue}
+use Rattle.std.proofs.Common.{◌≡◌, ◌≢◌, ℕ, ◌+◌, Bool, true, false, not, cond, List, [], ◌∷◌, refl, sym, ◌∙◌, subst, Option, Some, None, Result, Ok, Err, inl}
+use Rattle.std.proofs.Common.{inr, codes, ◌↔◌, IfOk, IsTrue}
 use Rattle.std.specs.Option.{option_map, option_or}
 use Rattle.trace_model.specs.declared.line.Header.{Header}
 use Rattle.schedule_text.specs.declared.fault.LineFault.{LineFault}

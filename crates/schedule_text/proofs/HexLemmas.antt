@@ -1,5 +1,6 @@
 -- Which words are pairs of hexadecimal digits, and how many.
-use Rattle.std.proofs.Common.{◌≡◌, ◌==◌, ◌+◌, ◌*◌, ◌%◌, ◌/◌, ℕ, Bool, true, false, cond, List, [], ◌∷◌, length, slice_index, refl, sym, ◌∙◌, ap, ap₂, arith, Option, Some, None, Result, Ok, Err, eqb-true}
+use Rattle.std.proofs.Common.{◌≡◌, ◌==◌, ◌+◌, ◌*◌, ◌%◌, ◌/◌, ℕ, Bool, true, false, cond, List, [], ◌∷◌, length, slice_index, refl, sym, ◌∙◌, ap, ap₂, arith}
+use Rattle.std.proofs.Common.{Option, Some, None, Result, Ok, Err, eqb-true}
 use Rattle.std.proofs.lemmas.Bool.{eqb-false}
 use Rattle.std.specs.Result.{result_ok}
 use Rattle.std.specs.List.{list_all}

@@ -11,7 +11,8 @@ use Rattle.schedule_text.specs.declared.forms.Kind.{Kind}
 use Rattle.schedule_text.specs.declared.forms.Kind.TheVariants as kind
 use Rattle.schedule_text.specs.Values.{byte_value, bytes_value, number_in, end_value}
 use Rattle.schedule_text.specs.Forms.{FormRow, rows, row_for, send_row, deliver_row, lose_row, damage_row, tick_row, reset_row, busy_row, ready_row}
-use Rattle.schedule_text.specs.Rules.{Slot, slots, later, rising, stranger, has_byte, has_bytes, digits_fault, host_fault, first_digits_fault, first_host_fault, is_well_formed, words_fault}
+use Rattle.schedule_text.specs.Rules.{Slot, slots, later, rising, stranger, has_byte, has_bytes, digits_fault, host_fault, first_digits_fault, first_host_fault}
+use Rattle.schedule_text.specs.Rules.{is_well_formed, words_fault}
 use Rattle.schedule_text.specs.Lines.{read_of, may_stand, unless_fault, by_row}
 use Rattle.schedule_text.proofs.RowsLemmas.{row_cases}
 

@@ -1,5 +1,6 @@
 -- What is read is inside the grammar: a line for each form, by what its words are.
-use Rattle.std.proofs.Common.{◌≡◌, ◌==◌, ◌||◌, ℕ, suc, ◌<◌, ◌≤◌, Bool, true, false, not, cond, nat_lt, List, [], ◌∷◌, length, get_or, refl, sym, ◌∙◌, subst, arith, Option, Some, None, Result, Ok, Err, IfSome, Contains, All, IsTrue, IsSome, slice_get, eqb-true}
+use Rattle.std.proofs.Common.{◌≡◌, ◌==◌, ◌||◌, ℕ, suc, ◌<◌, ◌≤◌, Bool, true, false, not, cond, nat_lt, List, [], ◌∷◌, length, get_or, refl, sym, ◌∙◌, subst}
+use Rattle.std.proofs.Common.{arith, Option, Some, None, Result, Ok, Err, IfSome, Contains, All, IsTrue, IsSome, slice_get, eqb-true}
 use Rattle.std.specs.List.{list_any}
 use Rattle.std.specs.Result.{result_ok}
 use Rattle.std.proofs.lemmas.List.{get_or_default}

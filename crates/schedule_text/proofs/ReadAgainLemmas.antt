@@ -1,5 +1,7 @@
 -- What is written of a line or a header is read again as it: one lemma for each kind of word, and a line for each form.
-use Rattle.std.proofs.Common.{◌≡◌, ◌==◌, ◌||◌, ℕ, zero, suc, ◌+◌, ◌^◌, ◌<◌, ◌≤◌, Bool, true, false, not, cond, List, [], ◌∷◌, ◌++◌, length, get_or, slice_get, slice_index, map, refl, sym, ◌∙◌, ap, subst, arith, Option, Some, None, Ok, Err, IsTrue, IfSome, Contains, All, codes, length-append}
+use Rattle.std.proofs.Common.{◌≡◌, ◌==◌, ◌||◌, ℕ, zero, suc, ◌+◌, ◌^◌, ◌<◌, ◌≤◌, Bool, true, false, not, cond, List, [], ◌∷◌, ◌++◌, length, get_or, slice_get}
+use Rattle.std.proofs.Common.{slice_index, map, refl, sym, ◌∙◌, ap, subst, arith, Option, Some, None, Ok, Err, IsTrue, IfSome, Contains, All, codes}
+use Rattle.std.proofs.Common.{length-append}
 use Rattle.std.specs.List.{list_any, AllByRecursion}
 use Rattle.std.specs.List.Sorted.{IsStrictlyIncreasing}
 use Rattle.std.specs.Option.{option_map_or}
@@ -23,7 +25,8 @@ use Rattle.schedule_text.specs.Forms.{FormRow, header_row, send_row, deliver_row
 use Rattle.schedule_text.specs.Rules.{slots, words_fault}
 use Rattle.schedule_text.specs.Lines.{◌>>=◌, read_of, bit_places, unless_fault, by_words, line_of}
 use Rattle.schedule_text.specs.Entries.{byte_text, end_text, number_words, header_words, line_words, line_text}
-use Rattle.schedule_text.proofs.AgainLemmas.{IsWord, words-spaced, byte_again, end_again, bytes_again, number_again, hex_word, end_word, number_word, length-hex}
+use Rattle.schedule_text.proofs.AgainLemmas.{IsWord, words-spaced, byte_again, end_again, bytes_again, number_again, hex_word, end_word, number_word}
+use Rattle.schedule_text.proofs.AgainLemmas.{length-hex}
 use Rattle.schedule_text.proofs.RowsLemmas.{IsKnown, Fits, AllFit, Right, right_words}
 use Rattle.schedule_text.proofs.PlacesLemmas.{RiseFrom, number-in}
 

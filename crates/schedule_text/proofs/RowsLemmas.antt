@@ -1,5 +1,6 @@
 -- What is known of the words of a line without fault: one lemma for each kind of word, and_parts ways.
-use Rattle.std.proofs.Common.{◌≡◌, ◌==◌, ◌&&◌, ◌||◌, ℕ, ◌+◌, ◌<◌, ◌≤◌, Bool, true, false, not, cond, List, [], ◌∷◌, length, refl, sym, ◌∙◌, ap, Option, Some, None, is_some, codes, nat_lt, nat_le}
+use Rattle.std.proofs.Common.{◌≡◌, ◌==◌, ◌&&◌, ◌||◌, ℕ, ◌+◌, ◌<◌, ◌≤◌, Bool, true, false, not, cond, List, [], ◌∷◌, length, refl, sym, ◌∙◌, ap, Option, Some}
+use Rattle.std.proofs.Common.{None, is_some, codes, nat_lt, nat_le}
 use Rattle.std.proofs.lemmas.Bool.{leb-true, ltb-true, lt-ltb, le-leb, and_parts}
 use Rattle.std.specs.List.{list_all, list_any, AllByRecursion}
 use Rattle.std.specs.Option.{option_map, option_or}
@@ -12,7 +13,8 @@ use Rattle.schedule_text.specs.declared.forms.Kind.{Kind}
 use Rattle.schedule_text.specs.declared.forms.Kind.TheVariants as kind
 use Rattle.schedule_text.specs.Values.{byte_value, bytes_value, number_in, end_value, option_if}
 use Rattle.schedule_text.specs.Forms.{FormRow, row_in}
-use Rattle.schedule_text.specs.Rules.{Slot, slots, is_sender, has_byte, has_bytes, has_shape, rising, stranger, digits_fault, host_fault, is_well_formed, first_digits_fault, first_host_fault, words_fault}
+use Rattle.schedule_text.specs.Rules.{Slot, slots, is_sender, has_byte, has_bytes, has_shape, rising, stranger, digits_fault, host_fault, is_well_formed}
+use Rattle.schedule_text.specs.Rules.{first_digits_fault, first_host_fault, words_fault}
 
 if_none : (t : Bool) (f : LineFault) → cond t None (Some f) ≡ None → t ≡ true
 if_none true f h = refl

@@ -4,7 +4,8 @@ ghost use Rattle.std.specs.List.{list_all};
 ghost use Rattle.std.specs.Option.{option_map, option_or};
 ghost use Rattle.schedule_text.specs.Words.{words};
 ghost use Rattle.schedule_text.specs.Forms.{row_of_form};
-ghost use Rattle.schedule_text.specs.Rules.{slots, has_shape, rising, digits_fault, first_digits_fault, host_fault, first_host_fault, words_fault, has_byte, has_bytes};
+ghost use Rattle.schedule_text.specs.Rules.{slots, has_shape, rising, digits_fault, first_digits_fault, host_fault, first_host_fault, words_fault, has_byte};
+ghost use Rattle.schedule_text.specs.Rules.{has_bytes};
 ghost use Rattle.schedule_text.specs.Values.{byte_value, bytes_value, number_in};
 ghost use Rattle.hex.specs.Hex.{is_hex_digit};
 

@@ -106,7 +106,8 @@ impl Text {
     #[inline(always)]
     pub(crate) fn finish(&mut self)
         ensures all { self.new.short ≡ false → (start : Start) (text : List ℕ) → HoldsText start text self.old → self.new.bytes.items ≡ start.before ++ text }
-        ensures none { self.new.short ≡ true → (start : Start) (text : List ℕ) → HoldsText start text self.old → self.new.bytes.items ≡ take start.mark (start.before ++ text) }
+        ensures none { self.new.short ≡ true → (start : Start) (text : List ℕ) → HoldsText start text self.old
+            → self.new.bytes.items ≡ take start.mark (start.before ++ text) }
     {
         if !self.short {
             match self.bytes.extend_from_slice(self.waiting.as_slice()) {

@@ -4,7 +4,8 @@ ghost use Rattle.std.specs.Fmt.{decimal};
 ghost use Rattle.hex.specs.Hex.{encode_upper};
 ghost use Rattle.tables_text.specs.Tables.{hex_or_dash};
 ghost use Rattle.schedule_text.specs.Parts.{part_words};
-ghost use Rattle.schedule_text.specs.Entries.{end_text, byte_text, number_words, header_words, line_words, down_word, lost_word, cause_words, command_words, count_words, entry_words, lines_behind, entry_line, entry_lines};
+ghost use Rattle.schedule_text.specs.Entries.{end_text, byte_text, number_words, header_words, line_words, down_word, lost_word, cause_words, command_words};
+ghost use Rattle.schedule_text.specs.Entries.{count_words, entry_words, lines_behind, entry_line, entry_lines};
 ghost use Rattle.schedule_text.specs.Growth.{Start, start_in, HoldsText, HoldsWords};
 
 use crate::text::Part::{

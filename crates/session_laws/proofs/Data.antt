@@ -1,5 +1,6 @@
 -- What the sessions of two ends have to do with each other and with the frames on the wires, over resets.
-use Rattle.std.proofs.Common.{◌≡◌, ℕ, ◌+◌, ◌%◌, ◌<◌, ◌≤◌, ◌==◌, Bool, true, false, List, [], ◌∷◌, ◌++◌, Option, Some, None, ◌⊎◌, inl, inr, refl, ap, sym, ◌∙◌, arith, length, max, length-append, append_assoc}
+use Rattle.std.proofs.Common.{◌≡◌, ℕ, ◌+◌, ◌%◌, ◌<◌, ◌≤◌, ◌==◌, Bool, true, false, List, [], ◌∷◌, ◌++◌, Option, Some, None, ◌⊎◌, inl, inr, refl, ap, sym, ◌∙◌}
+use Rattle.std.proofs.Common.{arith, length, max, length-append, append_assoc}
 use Rattle.std.specs.Prelude.{slice_get}
 use Rattle.std.proofs.lemmas.Bool.{eqb-true, eq-eqb, ne_eqb}
 use Rattle.std.proofs.lemmas.Option.{slice_get_within}
@@ -11,11 +12,13 @@ use Rattle.shdlc_core.specs.declared.answers.LinkState.{LinkState}
 use Rattle.shdlc_core.specs.declared.answers.LinkState.TheVariants.{Down, Waiting, Up}
 use Rattle.shdlc_core.specs.declared.answers.Due.{Due}
 use Rattle.shdlc_core.specs.declared.answers.Due.TheVariants.{Rr as Rr_due, Rej as Rej_due, Rnr as Rnr_due}
-use Rattle.shdlc_core.specs.Machine.{EndState, Session, Fragment, new_session, no_session, sent_next, place_of, acknowledged, accepted, repeated, discarded, ready_again, rejected, made_busy, taken, take_answer}
+use Rattle.shdlc_core.specs.Machine.{EndState, Session, Fragment, new_session, no_session, sent_next, place_of, acknowledged, accepted, repeated, discarded}
+use Rattle.shdlc_core.specs.Machine.{ready_again, rejected, made_busy, taken, take_answer}
 use Rattle.link_laws.proofs.Numbers.{place_found, ahead_other}
 use Rattle.link_laws.proofs.Flows.{front_accept}
 use Rattle.link_laws.proofs.Joined.{received_cases, taken_I, taken_S, answer_I, answer_S}
-use Rattle.link_laws.proofs.Marks.{reduced, Carries, Counts, NoneBelow, Places, MayFollow, counts_le, counts_lower, counts_higher, counts_push, counts_lost, places_grow, places_reach, places_accepted, places_lost, places_push, places_push_S}
+use Rattle.link_laws.proofs.Marks.{reduced, Carries, Counts, NoneBelow, Places, MayFollow, counts_le, counts_lower, counts_higher, counts_push, counts_lost}
+use Rattle.link_laws.proofs.Marks.{places_grow, places_reach, places_accepted, places_lost, places_push, places_push_S}
 use Rattle.session_laws.specs.Sessions.{OnWire, NumberedShdlc, older, shdlc_number_of, shdlc_session_of, ended_session}
 use Rattle.session_laws.proofs.Wire.{IsData, add_rset, no_rset_step, rsets}
 

@@ -4,7 +4,11 @@ use Rattle.swp_base.specs.declared.control_frames.Control.TheVariants.{Rset, Ua}
 use Rattle.shdlc_core.specs.declared.answers.LinkState.{LinkState}
 use Rattle.shdlc_core.specs.declared.answers.LinkState.TheVariants.{Down, Waiting, Up}
 use Rattle.session_laws.specs.Sessions.{OnWire, NumberedShdlc, older}
-use Rattle.session_laws.proofs.Wire.{IsData, data_not_rset, data_not_ua, not_rset_adds, not_ua_adds, data_behind, not_rset_tail, rset_young, ua_young, after_rset_empty, rsets, uas, NumberOk, Numbered, Tail, AfterRset, behind_ua, live, Young, rsets-append, uas-append, numbered-append, numbered_none, tail_none, tail_push, tail_push_ua, behind_none, behind_push, behind_push_none, behind_new, behind_rsets, plus_one, rsets-older, uas-older, numbered_older, tail_older, behind_ua-older, live-older, older_part, young_push, young_later}
+use Rattle.session_laws.proofs.Wire.{IsData, data_not_rset, data_not_ua, not_rset_adds, not_ua_adds, data_behind, not_rset_tail, rset_young, ua_young}
+use Rattle.session_laws.proofs.Wire.{after_rset_empty, rsets, uas, NumberOk, Numbered, Tail, AfterRset, behind_ua, live, Young, rsets-append, uas-append}
+use Rattle.session_laws.proofs.Wire.{numbered-append, numbered_none, tail_none, tail_push, tail_push_ua, behind_none, behind_push, behind_push_none, behind_new}
+use Rattle.session_laws.proofs.Wire.{behind_rsets, plus_one, rsets-older, uas-older, numbered_older, tail_older, behind_ua-older, live-older, older_part}
+use Rattle.session_laws.proofs.Wire.{young_push, young_later}
 
 -- what of an end the handshake knows
 pub record Peer : Type 0 where

@@ -1,5 +1,6 @@
 -- Each event keeps what joins two ends that are in one session.
-use Rattle.std.proofs.Common.{◌≡◌, ℕ, ◌+◌, ◌<◌, ◌≤◌, ◌==◌, Bool, true, false, cond, ◌||◌, ◌&&◌, List, [], ◌∷◌, ◌++◌, Option, Some, None, ◌⊎◌, inl, inr, refl, ap, sym, subst, ◌∙◌, arith, length, drop, map, max, min}
+use Rattle.std.proofs.Common.{◌≡◌, ℕ, ◌+◌, ◌<◌, ◌≤◌, ◌==◌, Bool, true, false, cond, ◌||◌, ◌&&◌, List, [], ◌∷◌, ◌++◌, Option, Some, None, ◌⊎◌, inl, inr, refl}
+use Rattle.std.proofs.Common.{ap, sym, subst, ◌∙◌, arith, length, drop, map, max, min}
 use Rattle.std.specs.Prelude.{nat_lt, is_some}
 use Rattle.std.proofs.lemmas.Bool.{or_parts, eqb-false, true≢false, ne_eqb, ltb-false}
 use Rattle.swp_base.specs.declared.control_frames.Control.{Control}
@@ -9,24 +10,32 @@ use Rattle.shdlc_core.specs.declared.answers.LinkState.{LinkState}
 use Rattle.shdlc_core.specs.declared.answers.LinkState.TheVariants.{Down, Waiting, Up}
 use Rattle.shdlc_core.specs.declared.answers.Due.{Due}
 use Rattle.shdlc_core.specs.declared.answers.Due.TheVariants.{Rr as Rr_due, Rej as Rej_due, Rnr as Rnr_due, Rset as Rset_due, Ua as Ua_due}
-use Rattle.shdlc_core.specs.Machine.{EndState, Session, begun, new_end, new_session, no_session, frame_due, taken, take_answer, ticked, tick_answer, is_waiting, waiting_from, up_with, given_up, asked_again, reset_with, stopped, runs_timer}
+use Rattle.shdlc_core.specs.Machine.{EndState, Session, begun, new_end, new_session, no_session, frame_due, taken, take_answer, ticked, tick_answer, is_waiting}
+use Rattle.shdlc_core.specs.Machine.{waiting_from, up_with, given_up, asked_again, reset_with, stopped, runs_timer}
 use Rattle.link_laws.specs.Order.{FragmentsDelivered}
 use Rattle.link_laws.proofs.Delivered.{delivered}
 use Rattle.link_laws.proofs.Whole.{AnswersOnly}
 use Rattle.link_laws.proofs.Joined.{Joined, joined_ticked, joined_taken, tick_cases}
-use Rattle.session_laws.specs.Sessions.{OnWire, NumberedShdlc, ShdlcLink, fits, start_down, IsShdlcStart, shdlc_exchanged, shdlc_number_of, shdlc_put, shdlc_put_all, shdlc_becomes, with_shdlc_controller, with_shdlc_ended, shdlc_silent, took_with, is_up, act_frame, shdlc_happens_at_controller, shdlc_ticks_at_controller, shdlc_aged, ShdlcEndEvent, IsTurn, AreTurns, shdlc_all_at_controller, ticks_or_cut, ticks_if_waiting, ShdlcLinkEvent, AllShdlcAllowed, shdlc_happens, shdlc_after, ShdlcTurn, shdlc_turn, shdlc_turned}
+use Rattle.session_laws.specs.Sessions.{OnWire, NumberedShdlc, ShdlcLink, fits, start_down, IsShdlcStart, shdlc_exchanged, shdlc_number_of, shdlc_put}
+use Rattle.session_laws.specs.Sessions.{shdlc_put_all, shdlc_becomes, with_shdlc_controller, with_shdlc_ended, shdlc_silent, took_with, is_up, act_frame}
+use Rattle.session_laws.specs.Sessions.{shdlc_happens_at_controller, shdlc_ticks_at_controller, shdlc_aged, ShdlcEndEvent, IsTurn, AreTurns}
+use Rattle.session_laws.specs.Sessions.{shdlc_all_at_controller, ticks_or_cut, ticks_if_waiting, ShdlcLinkEvent, AllShdlcAllowed, shdlc_happens, shdlc_after}
+use Rattle.session_laws.specs.Sessions.{ShdlcTurn, shdlc_turn, shdlc_turned}
 use Rattle.session_laws.specs.Sessions.ShdlcTurn.{Offer, SetReady}
 use Rattle.session_laws.specs.Sessions.ShdlcEndEvent.{Turns, Deliver, Ignore, Acts, Lose, Reset, Cut, Stop}
 use Rattle.session_laws.specs.Sessions.ShdlcLinkEvent.{AtController, AtHost, Tick, TickWithout}
 use Rattle.session_laws.specs.Sessions.IsShdlcStart.{BothUp, BothDown}
-use Rattle.session_laws.specs.Losses.{is_act, sans, Losses, no_losses, counts_first, overflows, noted_loss, noted_all, noted_out, is_up_with, came_up, noted_here, noted_turns, noted_tick, noted_if_waiting, loses_aged, noted_aged, noted_event, losses_after, IsShdlcQuiet}
+use Rattle.session_laws.specs.Losses.{is_act, sans, Losses, no_losses, counts_first, overflows, noted_loss, noted_all, noted_out, is_up_with, came_up}
+use Rattle.session_laws.specs.Losses.{noted_here, noted_turns, noted_tick, noted_if_waiting, loses_aged, noted_aged, noted_event, losses_after, IsShdlcQuiet}
 use Rattle.session_laws.proofs.Wire.{IsData, rsets, uas, behind_ua, live, behind_none, data_behind, AfterRset, after_rset_empty}
 use Rattle.session_laws.proofs.Hand.{NothingIsOut, IsRset, idle_out, ua_told, rset_told, nothing_out}
 use Rattle.session_laws.proofs.Data.{IsAnswer, taken_up}
 use Rattle.session_laws.proofs.Safe.{Safe, agreed, pair_from, Idle, frame_cases, up_end, safe_swap, safe_lose}
 use Rattle.session_laws.proofs.Sending.{SafeLink, sans-push_act, fits_keeps, no_rset_out, room, ready_by, at_most_one}
-use Rattle.session_laws.proofs.Steps.{passes, passes_act, took, took_other, not_rset, fresh, aged-fresh, sans-aged, safe_fresh, safe_aged, safe_turn, safe_turns, safe_exchanged, tick_or_cut, tick_if_waiting, safe_event, safe_start}
-use Rattle.session_laws.proofs.Ties.{as_up, to_up, Meets, Tied, IsWhole, TiedLink, tied_swap, meets_like, none_due, IsNew, waiting_new, tied_new, new_meets, behind_fits, Rests, drains, sends_nothing, sends_ua, tied_none, tied_older, turned-phase}
+use Rattle.session_laws.proofs.Steps.{passes, passes_act, took, took_other, not_rset, fresh, aged-fresh, sans-aged, safe_fresh, safe_aged, safe_turn}
+use Rattle.session_laws.proofs.Steps.{safe_turns, safe_exchanged, tick_or_cut, tick_if_waiting, safe_event, safe_start}
+use Rattle.session_laws.proofs.Ties.{as_up, to_up, Meets, Tied, IsWhole, TiedLink, tied_swap, meets_like, none_due, IsNew, waiting_new, tied_new, new_meets}
+use Rattle.session_laws.proofs.Ties.{behind_fits, Rests, drains, sends_nothing, sends_ua, tied_none, tied_older, turned-phase}
 
 -- one answer at most
 one_answer : (due before : List Due) → before ≡ [] → (due ≡ before) ⊎ ((d : Due) × IsAnswer d × (due ≡ before ++ d ∷ [])) → AnswersOnly due × (length due ≤ 1)

@@ -1,5 +1,6 @@
 -- A reset while the other end isn't Waiting is answered, where nothing is lost.
-use Rattle.std.proofs.Common.{◌≡◌, ℕ, zero, suc, ◌+◌, Bool, true, false, cond, not, ◌&&◌, ◌||◌, List, [], ◌∷◌, ◌++◌, Option, Some, None, ◌⊎◌, inl, inr, refl, ap, sym, subst, ◌∙◌, drop, length, map, min}
+use Rattle.std.proofs.Common.{◌≡◌, ℕ, zero, suc, ◌+◌, Bool, true, false, cond, not, ◌&&◌, ◌||◌, List, [], ◌∷◌, ◌++◌, Option, Some, None, ◌⊎◌, inl, inr, refl}
+use Rattle.std.proofs.Common.{ap, sym, subst, ◌∙◌, drop, length, map, min}
 use Rattle.std.specs.Prelude.{nat_lt, is_some}
 use Rattle.std.proofs.lemmas.Bool.{and_parts, or_parts, not-true, true≢false, ltb-false}
 use Rattle.std.proofs.Common.{arith}
@@ -10,21 +11,29 @@ use Rattle.shdlc_core.specs.declared.answers.LinkState.{LinkState}
 use Rattle.shdlc_core.specs.declared.answers.LinkState.TheVariants.{Down, Waiting, Up}
 use Rattle.shdlc_core.specs.declared.answers.Due.{Due}
 use Rattle.shdlc_core.specs.declared.answers.Due.TheVariants.{Rset as Rset_due, Ua as Ua_due}
-use Rattle.shdlc_core.specs.Machine.{EndState, no_session, fetched, frame_due, frames_of, after_frames, taken, take_answer, ticked, tick_answer, is_waiting, up_with, waiting_from, asked_again, given_up, reset_with, runs_timer}
+use Rattle.shdlc_core.specs.Machine.{EndState, no_session, fetched, frame_due, frames_of, after_frames, taken, take_answer, ticked, tick_answer, is_waiting}
+use Rattle.shdlc_core.specs.Machine.{up_with, waiting_from, asked_again, given_up, reset_with, runs_timer}
 use Rattle.link_laws.proofs.Whole.{AnswersOnly}
 use Rattle.link_laws.proofs.Joined.{tick_cases, ready_cases}
 use Rattle.link_laws.proofs.Idle.{fetched_idle, after_frames_idle}
-use Rattle.session_laws.specs.Sessions.{OnWire, NumberedShdlc, ShdlcLink, IsShdlcStart, shdlc_exchanged, shdlc_number_of, fits, shdlc_put, shdlc_put_all, shdlc_becomes, with_shdlc_controller, with_shdlc_ended, took_with, is_up, act_frame, shdlc_happens_at_controller, shdlc_ticks_at_controller, older, aged_wire, shdlc_aged, ShdlcEndEvent, IsTurn, AreTurns, shdlc_all_at_controller, ticks_or_cut, ticks_if_waiting, ShdlcLinkEvent, AllShdlcAllowed, shdlc_happens, shdlc_after, ShdlcTurn, shdlc_turn, shdlc_turned}
+use Rattle.session_laws.specs.Sessions.{OnWire, NumberedShdlc, ShdlcLink, IsShdlcStart, shdlc_exchanged, shdlc_number_of, fits, shdlc_put, shdlc_put_all}
+use Rattle.session_laws.specs.Sessions.{shdlc_becomes, with_shdlc_controller, with_shdlc_ended, took_with, is_up, act_frame, shdlc_happens_at_controller}
+use Rattle.session_laws.specs.Sessions.{shdlc_ticks_at_controller, older, aged_wire, shdlc_aged, ShdlcEndEvent, IsTurn, AreTurns, shdlc_all_at_controller}
+use Rattle.session_laws.specs.Sessions.{ticks_or_cut, ticks_if_waiting, ShdlcLinkEvent, AllShdlcAllowed, shdlc_happens, shdlc_after, ShdlcTurn, shdlc_turn}
+use Rattle.session_laws.specs.Sessions.{shdlc_turned}
 use Rattle.session_laws.specs.Sessions.ShdlcTurn.{Offer, SetReady}
 use Rattle.session_laws.specs.Sessions.ShdlcEndEvent.{Turns, Deliver, Ignore, Acts, Lose, Reset, Cut, Stop}
 use Rattle.session_laws.specs.Sessions.ShdlcLinkEvent.{AtController, AtHost, Tick, TickWithout}
 use Rattle.session_laws.specs.Losses.{is_act, sans, counts_first, overflows, loses_aged}
-use Rattle.session_laws.specs.Settled.{sure_put, sure_all, sure_out, sure_here, sure_turns, sure_tick, sure_if_waiting, sure_aged, sure_event, sure_after, IsShdlcSettled, AreShdlcUpTogether}
-use Rattle.session_laws.proofs.Wire.{IsData, data_not_rset, data_not_ua, not_rset_adds, not_ua_adds, rsets, uas, rsets-append, uas-append, plus_one, rsets-older, uas-older}
+use Rattle.session_laws.specs.Settled.{sure_put, sure_all, sure_out, sure_here, sure_turns, sure_tick, sure_if_waiting, sure_aged, sure_event, sure_after}
+use Rattle.session_laws.specs.Settled.{IsShdlcSettled, AreShdlcUpTogether}
+use Rattle.session_laws.proofs.Wire.{IsData, data_not_rset, data_not_ua, not_rset_adds, not_ua_adds, rsets, uas, rsets-append, uas-append, plus_one}
+use Rattle.session_laws.proofs.Wire.{rsets-older, uas-older}
 use Rattle.session_laws.proofs.Hand.{NothingIsOut, nothing_out}
 use Rattle.session_laws.proofs.Safe.{Safe, up_end}
 use Rattle.session_laws.proofs.Sending.{SafeLink, sans-push, sans-push_act}
-use Rattle.session_laws.proofs.Steps.{passes_act, took, not_rset, sans-aged, agree, safe_aged, safe_turn, safe_turns, safe_exchanged, tick_or_cut, tick_if_waiting, safe_event, safe_start}
+use Rattle.session_laws.proofs.Steps.{passes_act, took, not_rset, sans-aged, agree, safe_aged, safe_turn, safe_turns, safe_exchanged, tick_or_cut}
+use Rattle.session_laws.proofs.Steps.{tick_if_waiting, safe_event, safe_start}
 use Rattle.session_laws.proofs.Ties.{data_due, fits_sans, fetched-phase, fetched_answers, answers_more, after_frames-phase, turned-phase}
 use Rattle.session_laws.proofs.Quiet.{Tells, takes_by, turned_idle, idle_end}
 

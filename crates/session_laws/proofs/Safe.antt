@@ -1,5 +1,6 @@
 -- All that is true of a link over resets, and how each thing that one end does keeps it.
-use Rattle.std.proofs.Common.{◌≡◌, ℕ, ◌+◌, ◌<◌, ◌≤◌, ◌==◌, Bool, true, false, List, [], ◌∷◌, ◌++◌, Option, Some, None, ◌⊎◌, inl, inr, refl, ap, sym, subst, ◌∙◌, arith}
+use Rattle.std.proofs.Common.{◌≡◌, ℕ, ◌+◌, ◌<◌, ◌≤◌, ◌==◌, Bool, true, false, List, [], ◌∷◌, ◌++◌, Option, Some, None, ◌⊎◌, inl, inr, refl, ap, sym, subst, ◌∙◌}
+use Rattle.std.proofs.Common.{arith}
 use Rattle.swp_base.specs.declared.control_frames.Control.{Control}
 use Rattle.swp_base.specs.declared.control_frames.Control.TheVariants.{I, S, Rset, Ua, Act, Clt}
 use Rattle.shdlc_core.specs.declared.answers.LinkState.{LinkState}
@@ -7,9 +8,13 @@ use Rattle.shdlc_core.specs.declared.answers.LinkState.TheVariants.{Down, Waitin
 use Rattle.shdlc_core.specs.Machine.{EndState, Session, new_session, no_session}
 use Rattle.std.proofs.lemmas.Bool.{eqb-true}
 use Rattle.session_laws.specs.Sessions.{OnWire, NumberedShdlc, older, shdlc_number_of, shdlc_session_of, ended_session}
-use Rattle.session_laws.proofs.Wire.{IsData, rsets, uas, AfterRset, behind_ua, live, Young, behind_none, behind_push, behind_push_none, behind_new, behind_rsets, data_behind, after_rset_empty, live-older, older_part}
-use Rattle.session_laws.proofs.Hand.{peer_of, Hand, Agrees, NothingIsOut, IsRset, IsNextRset, IsNewUa, hand_swap, hand_empty, idle_out, ua_told, rset_told, hand_past, hand_ask, hand_down, hand_up_ua, hand_up_rset, hand_wait_rset, hand_lose_rset, hand_lose_ua, hand_ignore, hand_older}
-use Rattle.session_laws.proofs.Data.{Base, Active, OnLive, active_empty, active_lost, Below, below_more, none_ended, bound, of_up, of_update, of_none, base_begins, base_begins_there, Pair, shows_push_rset, shows_older}
+use Rattle.session_laws.proofs.Wire.{IsData, rsets, uas, AfterRset, behind_ua, live, Young, behind_none, behind_push, behind_push_none, behind_new}
+use Rattle.session_laws.proofs.Wire.{behind_rsets, data_behind, after_rset_empty, live-older, older_part}
+use Rattle.session_laws.proofs.Hand.{peer_of, Hand, Agrees, NothingIsOut, IsRset, IsNextRset, IsNewUa, hand_swap, hand_empty, idle_out, ua_told, rset_told}
+use Rattle.session_laws.proofs.Hand.{hand_past, hand_ask, hand_down, hand_up_ua, hand_up_rset, hand_wait_rset, hand_lose_rset, hand_lose_ua, hand_ignore}
+use Rattle.session_laws.proofs.Hand.{hand_older}
+use Rattle.session_laws.proofs.Data.{Base, Active, OnLive, active_empty, active_lost, Below, below_more, none_ended, bound, of_up, of_update, of_none}
+use Rattle.session_laws.proofs.Data.{base_begins, base_begins_there, Pair, shows_push_rset, shows_older}
 
 -- the windows that an end may ask for
 pub record HasWindows (e : EndState) : Type 0 where

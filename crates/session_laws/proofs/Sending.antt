@@ -1,5 +1,6 @@
 -- An end has its turns, and then all that is due goes out.
-use Rattle.std.proofs.Common.{◌≡◌, ℕ, zero, suc, ◌+◌, ◌%◌, ◌≤◌, Bool, true, false, cond, List, [], ◌∷◌, ◌++◌, Option, Some, None, ◌⊎◌, inl, inr, refl, ap, sym, subst, ◌∙◌, arith, length, length-append, drop, map}
+use Rattle.std.proofs.Common.{◌≡◌, ℕ, zero, suc, ◌+◌, ◌%◌, ◌≤◌, Bool, true, false, cond, List, [], ◌∷◌, ◌++◌, Option, Some, None, ◌⊎◌, inl, inr, refl, ap, sym}
+use Rattle.std.proofs.Common.{subst, ◌∙◌, arith, length, length-append, drop, map}
 use Rattle.std.proofs.lemmas.List.{map-append}
 use Rattle.std.specs.Prelude.{nat_lt}
 use Rattle.std.proofs.lemmas.Bool.{true≢false}
@@ -11,11 +12,13 @@ use Rattle.shdlc_core.specs.declared.answers.LinkState.{LinkState}
 use Rattle.shdlc_core.specs.declared.answers.LinkState.TheVariants.{Down, Waiting, Up}
 use Rattle.shdlc_core.specs.declared.answers.Due.{Due}
 use Rattle.shdlc_core.specs.declared.answers.Due.TheVariants.{Rr as Rr_due, Rej as Rej_due, Rnr as Rnr_due, Rset as Rset_due, Ua as Ua_due}
-use Rattle.shdlc_core.specs.Machine.{EndState, Session, Fragment, no_session, sent_next, fetched, frame_due, fragment_due, control_due, expected, frames_of, after_frames, put_out, with_ready}
+use Rattle.shdlc_core.specs.Machine.{EndState, Session, Fragment, no_session, sent_next, fetched, frame_due, fragment_due, control_due, expected, frames_of}
+use Rattle.shdlc_core.specs.Machine.{after_frames, put_out, with_ready}
 use Rattle.shdlc_core.proofs.Histories.{fragment_due-within}
 use Rattle.link_laws.proofs.Idle.{fetched_idle, after_frames_idle}
 use Rattle.link_laws.proofs.Joined.{fetch_cases, changed}
-use Rattle.session_laws.specs.Sessions.{OnWire, NumberedShdlc, ShdlcLink, fits, shdlc_put, shdlc_put_all, with_shdlc_controller, shdlc_becomes, ShdlcTurn, shdlc_turn, shdlc_turned}
+use Rattle.session_laws.specs.Sessions.{OnWire, NumberedShdlc, ShdlcLink, fits, shdlc_put, shdlc_put_all, with_shdlc_controller, shdlc_becomes, ShdlcTurn}
+use Rattle.session_laws.specs.Sessions.{shdlc_turn, shdlc_turned}
 use Rattle.session_laws.specs.Losses.{is_act, sans}
 use Rattle.session_laws.specs.Sessions.ShdlcTurn.{Offer, SetReady}
 use Rattle.session_laws.proofs.Wire.{IsData, rsets, behind_ua, live, behind_push, behind_push_none, behind_rsets, data_not_ua}

@@ -1,5 +1,6 @@
 -- Each event keeps all that is true of a link.
-use Rattle.std.proofs.Common.{◌≡◌, ℕ, ◌+◌, ◌<◌, ◌≤◌, ◌==◌, Bool, true, false, cond, List, [], ◌∷◌, ◌++◌, Option, Some, None, ◌⊎◌, inl, inr, refl, ap, sym, subst, ◌∙◌, arith, max, min, map}
+use Rattle.std.proofs.Common.{◌≡◌, ℕ, ◌+◌, ◌<◌, ◌≤◌, ◌==◌, Bool, true, false, cond, List, [], ◌∷◌, ◌++◌, Option, Some, None, ◌⊎◌, inl, inr, refl, ap, sym}
+use Rattle.std.proofs.Common.{subst, ◌∙◌, arith, max, min, map}
 use Rattle.std.specs.Prelude.{nat_lt, is_some}
 use Rattle.std.proofs.lemmas.Bool.{ltb-true, ltb-false, ne_eqb}
 use Rattle.swp_base.specs.declared.control_frames.Control.{Control}
@@ -8,18 +9,26 @@ use Rattle.shdlc_core.specs.declared.answers.LinkState.{LinkState}
 use Rattle.shdlc_core.specs.declared.answers.LinkState.TheVariants.{Down, Waiting, Up}
 use Rattle.shdlc_core.specs.declared.answers.Due.{Due}
 use Rattle.shdlc_core.specs.declared.answers.Due.TheVariants.{Rset as Rset_due, Ua as Ua_due}
-use Rattle.shdlc_core.specs.Machine.{EndState, Session, begun, new_session, no_session, taken, take_answer, ticked, tick_answer, reset_with, stopped, new_end, waiting_from, runs_timer, sent_again, asked_again, given_up, up_with, is_waiting}
+use Rattle.shdlc_core.specs.Machine.{EndState, Session, begun, new_session, no_session, taken, take_answer, ticked, tick_answer, reset_with, stopped, new_end}
+use Rattle.shdlc_core.specs.Machine.{waiting_from, runs_timer, sent_again, asked_again, given_up, up_with, is_waiting}
 use Rattle.link_laws.specs.Order.{FragmentsInOrder}
-use Rattle.session_laws.specs.Sessions.{OnWire, NumberedShdlc, new_numbered_shdlc, ShdlcLink, bare, IsShdlcStart, shdlc_exchanged, shdlc_number_of, shdlc_session_of, ended_session, is_rset, shdlc_put, shdlc_put_all, shdlc_becomes, with_shdlc_ended, ShdlcTurn, shdlc_turned, is_up, ShdlcEndEvent, IsShdlcAllowed, shdlc_silent, took_with, act_frame, shdlc_happens_at_controller, shdlc_ticks_at_controller, older, aged_wire, shdlc_aged, ShdlcLinkEvent, IsTurn, AreTurns, shdlc_all_at_controller, ticks_or_cut, ticks_if_waiting, AllShdlcAllowed, shdlc_happens, shdlc_after}
+use Rattle.session_laws.specs.Sessions.{OnWire, NumberedShdlc, new_numbered_shdlc, ShdlcLink, bare, IsShdlcStart, shdlc_exchanged, shdlc_number_of}
+use Rattle.session_laws.specs.Sessions.{shdlc_session_of, ended_session, is_rset, shdlc_put, shdlc_put_all, shdlc_becomes, with_shdlc_ended, ShdlcTurn}
+use Rattle.session_laws.specs.Sessions.{shdlc_turned, is_up, ShdlcEndEvent, IsShdlcAllowed, shdlc_silent, took_with, act_frame, shdlc_happens_at_controller}
+use Rattle.session_laws.specs.Sessions.{shdlc_ticks_at_controller, older, aged_wire, shdlc_aged, ShdlcLinkEvent, IsTurn, AreTurns, shdlc_all_at_controller}
+use Rattle.session_laws.specs.Sessions.{ticks_or_cut, ticks_if_waiting, AllShdlcAllowed, shdlc_happens, shdlc_after}
 use Rattle.session_laws.specs.Losses.{is_act, sans}
 use Rattle.session_laws.specs.Sessions.IsShdlcStart.{BothUp, BothDown}
 use Rattle.swp_base.specs.declared.control_frames.Act.{Act as Activation}
 use Rattle.session_laws.specs.Sessions.ShdlcEndEvent.{Turns, Deliver, Ignore, Acts, Lose, Reset, Cut, Stop}
 use Rattle.session_laws.specs.Sessions.ShdlcLinkEvent.{AtController, AtHost, Tick, TickWithout}
 use Rattle.session_laws.proofs.Wire.{IsData, rsets, behind_ua, live, Young, data_behind, young_later, young_older}
-use Rattle.session_laws.proofs.Hand.{peer_of, NothingIsOut, IsRset, IsNextRset, hand_empty, agrees_from, idle_out, ua_told, rset_told, ahead_not_waiting, hand_past, hand_timer, nothing_out}
+use Rattle.session_laws.proofs.Hand.{peer_of, NothingIsOut, IsRset, IsNextRset, hand_empty, agrees_from, idle_out, ua_told, rset_told, ahead_not_waiting}
+use Rattle.session_laws.proofs.Hand.{hand_past, hand_timer, nothing_out}
 use Rattle.session_laws.proofs.Data.{Base, Below, below_more, none_ended, bound, OnLive, Pair, pair_next, IsAnswer, taken_up}
-use Rattle.session_laws.proofs.Safe.{HasWindows, Safe, session_with, agreed, safe_swap, pair_from, safe_up, safe_idle, Idle, HaveEnded, moves_end, moves_none, waiting_end, safe_asks, safe_down, up_end, safe_up_ua, safe_up_rset, WaitsOn, safe_wait_rset, frame_cases, safe_lose, safe_ignore, safe_older, live_empty, safe_silent}
+use Rattle.session_laws.proofs.Safe.{HasWindows, Safe, session_with, agreed, safe_swap, pair_from, safe_up, safe_idle, Idle, HaveEnded, moves_end, moves_none}
+use Rattle.session_laws.proofs.Safe.{waiting_end, safe_asks, safe_down, up_end, safe_up_ua, safe_up_rset, WaitsOn, safe_wait_rset, frame_cases, safe_lose}
+use Rattle.session_laws.proofs.Safe.{safe_ignore, safe_older, live_empty, safe_silent}
 use Rattle.session_laws.proofs.Sending.{SafeAt, SafeLink, sans-push_act, fits_keeps, safe_fits, no_rset_out, up_step, becomes_none, becomes_one, becomes_taken}
 
 -- ## It sends an RSET and waits

@@ -1,6 +1,7 @@
 -- Two ends that are in one session, or will be once they took the UAs on their way to them: what joins them while nothing of
 -- the session was lost and no RNR made.
-use Rattle.std.proofs.Common.{◌≡◌, ℕ, zero, suc, ◌+◌, ◌%◌, ◌<◌, ◌≤◌, Bool, true, false, cond, ◌||◌, ◌&&◌, List, [], ◌∷◌, ◌++◌, Option, Some, None, ◌⊎◌, inl, inr, refl, ap, sym, subst, ◌∙◌, arith, length, length-append, drop, min}
+use Rattle.std.proofs.Common.{◌≡◌, ℕ, zero, suc, ◌+◌, ◌%◌, ◌<◌, ◌≤◌, Bool, true, false, cond, ◌||◌, ◌&&◌, List, [], ◌∷◌, ◌++◌, Option, Some, None, ◌⊎◌, inl}
+use Rattle.std.proofs.Common.{inr, refl, ap, sym, subst, ◌∙◌, arith, length, length-append, drop, min}
 use Rattle.std.specs.Prelude.{nat_lt}
 use Rattle.std.proofs.lemmas.Bool.{or_parts}
 use Rattle.swp_base.specs.declared.control_frames.Control.{Control}
@@ -9,7 +10,8 @@ use Rattle.shdlc_core.specs.declared.answers.LinkState.{LinkState}
 use Rattle.shdlc_core.specs.declared.answers.LinkState.TheVariants.{Down, Waiting, Up}
 use Rattle.shdlc_core.specs.declared.answers.Due.{Due}
 use Rattle.shdlc_core.specs.declared.answers.Due.TheVariants.{Rr as Rr_due, Rej as Rej_due, Rnr as Rnr_due, Rset as Rset_due, Ua as Ua_due}
-use Rattle.shdlc_core.specs.Machine.{EndState, Fragment, new_session, fetched, frame_due, fragment_due, control_due, expected, frames_of, after_frames, put_out, with_ready}
+use Rattle.shdlc_core.specs.Machine.{EndState, Fragment, new_session, fetched, frame_due, fragment_due, control_due, expected, frames_of, after_frames, put_out}
+use Rattle.shdlc_core.specs.Machine.{with_ready}
 use Rattle.link_laws.specs.Wire.{with_frame, is_rnr}
 use Rattle.link_laws.proofs.Flows.{flows_new}
 use Rattle.link_laws.proofs.Whole.{AnswersOnly, Whole}

@@ -7,7 +7,9 @@ pub use Rattle.link_laws.specs.Wire.{is_act, sans, counts_first, overflows, lose
 use Rattle.shdlc_core.specs.declared.answers.LinkState.{LinkState}
 use Rattle.shdlc_core.specs.declared.answers.LinkState.TheVariants.{Down, Up}
 use Rattle.shdlc_core.specs.Machine.{EndState, taken, take_answer, ticked, tick_answer, is_waiting, reset_with, frames_of, most_frames}
-use Rattle.session_laws.specs.Sessions.{OnWire, NumberedShdlc, ShdlcLink, shdlc_exchanged, shdlc_number_of, is_up, shdlc_put, shdlc_put_all, with_shdlc_ended, ShdlcTurn, shdlc_turned, act_frame, ShdlcEndEvent, took_with, shdlc_happens_at_controller, shdlc_aged, ShdlcLinkEvent, shdlc_all_at_controller, ticks_or_cut, ticks_if_waiting, shdlc_happens}
+use Rattle.session_laws.specs.Sessions.{OnWire, NumberedShdlc, ShdlcLink, shdlc_exchanged, shdlc_number_of, is_up, shdlc_put, shdlc_put_all, with_shdlc_ended}
+use Rattle.session_laws.specs.Sessions.{ShdlcTurn, shdlc_turned, act_frame, ShdlcEndEvent, took_with, shdlc_happens_at_controller, shdlc_aged, ShdlcLinkEvent}
+use Rattle.session_laws.specs.Sessions.{shdlc_all_at_controller, ticks_or_cut, ticks_if_waiting, shdlc_happens}
 use Rattle.session_laws.specs.Sessions.ShdlcEndEvent.{Turns, Deliver, Ignore, Acts, Lose, Reset, Cut, Stop}
 use Rattle.session_laws.specs.Sessions.ShdlcLinkEvent.{AtController, AtHost, Tick, TickWithout}
 

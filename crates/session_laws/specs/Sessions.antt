@@ -6,7 +6,8 @@ use Rattle.swp_base.specs.declared.control_frames.Control.TheVariants.{Act as Ac
 use Rattle.swp_base.specs.declared.control_frames.Act.{Act}
 use Rattle.shdlc_core.specs.declared.answers.LinkState.{LinkState}
 use Rattle.shdlc_core.specs.declared.answers.LinkState.TheVariants.{Down, Waiting, Up}
-use Rattle.shdlc_core.specs.Machine.{EndState, Session, Fragment, new_end, no_session, begun, put_out, taken, take_answer, ticked, tick_answer, is_waiting, with_ready, reset_with, stopped, frames_of, after_frames, most_frames}
+use Rattle.shdlc_core.specs.Machine.{EndState, Session, Fragment, new_end, no_session, begun, put_out, taken, take_answer, ticked, tick_answer, is_waiting}
+use Rattle.shdlc_core.specs.Machine.{with_ready, reset_with, stopped, frames_of, after_frames, most_frames}
 use Rattle.link_laws.specs.Wire.{with_frame}
 pub use Rattle.link_laws.specs.Wire.{OnWire, is_rset, fits, older, aged_wire}
 

@@ -6,7 +6,9 @@ use Rattle.shdlc_core.specs.declared.answers.LinkState.{LinkState}
 use Rattle.shdlc_core.specs.declared.answers.LinkState.TheVariants.{Down, Up}
 use Rattle.shdlc_core.specs.Machine.{EndState, taken, take_answer, ticked, tick_answer, is_waiting, frames_of, most_frames}
 use Rattle.link_laws.specs.Wire.{with_frame}
-use Rattle.session_laws.specs.Sessions.{OnWire, ShdlcLink, shdlc_exchanged, shdlc_number_of, is_rset, shdlc_put, shdlc_put_all, with_shdlc_ended, ShdlcTurn, shdlc_turned, act_frame, ShdlcEndEvent, took_with, shdlc_happens_at_controller, shdlc_aged, ShdlcLinkEvent, shdlc_all_at_controller, ticks_or_cut, ticks_if_waiting, shdlc_happens}
+use Rattle.session_laws.specs.Sessions.{OnWire, ShdlcLink, shdlc_exchanged, shdlc_number_of, is_rset, shdlc_put, shdlc_put_all, with_shdlc_ended, ShdlcTurn}
+use Rattle.session_laws.specs.Sessions.{shdlc_turned, act_frame, ShdlcEndEvent, took_with, shdlc_happens_at_controller, shdlc_aged, ShdlcLinkEvent}
+use Rattle.session_laws.specs.Sessions.{shdlc_all_at_controller, ticks_or_cut, ticks_if_waiting, shdlc_happens}
 use Rattle.session_laws.specs.Sessions.ShdlcEndEvent.{Turns, Deliver, Ignore, Acts, Lose, Reset, Cut, Stop}
 use Rattle.session_laws.specs.Sessions.ShdlcLinkEvent.{AtController, AtHost, Tick, TickWithout}
 use Rattle.session_laws.specs.Losses.{sans, counts_first, overflows, loses_aged}

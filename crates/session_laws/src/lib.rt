@@ -9,7 +9,8 @@ ghost use Rattle.shdlc_core.specs.Machine.{no_session};
 ghost use Rattle.link_laws.specs.Order.{FragmentsDelivered, FragmentsInOrder};
 ghost use Rattle.session_laws.specs.Losses.{IsShdlcQuiet, losses_after, no_losses};
 ghost use Rattle.session_laws.specs.Settled.{AreShdlcUpTogether, IsShdlcSettled, sure_after};
-ghost use Rattle.session_laws.specs.Sessions.{AllShdlcAllowed, IsShdlcStart, ShdlcLink, ShdlcLinkEvent, shdlc_after, ended_session, shdlc_number_of, shdlc_session_of};
+ghost use Rattle.session_laws.specs.Sessions.{AllShdlcAllowed, IsShdlcStart, ShdlcLink, ShdlcLinkEvent, shdlc_after, ended_session, shdlc_number_of};
+ghost use Rattle.session_laws.specs.Sessions.{shdlc_session_of};
 
 /// Events happen one after another.
 pub fn events_in_turn()
@@ -34,7 +35,8 @@ pub fn ends_agree_on_the_session()
 
 /// No ended session of an end has the number of the one that goes on.
 pub fn sessions_have_new_numbers()
-    ensures controller { (l : ShdlcLink) → IsShdlcStart l → (events : List ShdlcLinkEvent) → AllShdlcAllowed events → (shdlc_after l events).controller.side.phase ≡ Up →
+    ensures controller { (l : ShdlcLink) → IsShdlcStart l → (events : List ShdlcLinkEvent) → AllShdlcAllowed events →
+        (shdlc_after l events).controller.side.phase ≡ Up →
         ended_session (shdlc_after l events).controller.past (shdlc_number_of (shdlc_after l events).controller) ≡ no_session }
     ensures host { (l : ShdlcLink) → IsShdlcStart l → (events : List ShdlcLinkEvent) → AllShdlcAllowed events → (shdlc_after l events).host.side.phase ≡ Up →
         ended_session (shdlc_after l events).host.past (shdlc_number_of (shdlc_after l events).host) ≡ no_session }
@@ -44,7 +46,8 @@ pub fn sessions_have_new_numbers()
 /// in it, and both wires hold none but of activation, all that was given to either end in it is accepted at the other and
 /// acknowledged.
 pub fn quiet_session_has_delivered_all()
-    ensures to_host { (l : ShdlcLink) → IsShdlcStart l → (events : List ShdlcLinkEvent) → AllShdlcAllowed events → IsShdlcQuiet (shdlc_after l events) (losses_after no_losses l events) →
+    ensures to_host { (l : ShdlcLink) → IsShdlcStart l → (events : List ShdlcLinkEvent) → AllShdlcAllowed events →
+        IsShdlcQuiet (shdlc_after l events) (losses_after no_losses l events) →
         FragmentsDelivered (shdlc_after l events).controller.side.session (shdlc_after l events).host.side.session }
     ensures to_controller { (l : ShdlcLink) → IsShdlcStart l → (events : List ShdlcLinkEvent) → AllShdlcAllowed events →
         IsShdlcQuiet (shdlc_after l events) (losses_after no_losses l events) →
@@ -55,6 +58,7 @@ pub fn quiet_session_has_delivered_all()
 /// no other RSET was sent, no end was stopped, none was inactive and none lost power, and both wires hold no frame but of
 /// activation, both ends are Up with one number.
 pub fn reset_brings_both_up()
-    ensures { (l : ShdlcLink) → IsShdlcStart l → (events : List ShdlcLinkEvent) → AllShdlcAllowed events → IsShdlcSettled (shdlc_after l events) (sure_after false l events) →
+    ensures { (l : ShdlcLink) → IsShdlcStart l → (events : List ShdlcLinkEvent) → AllShdlcAllowed events →
+        IsShdlcSettled (shdlc_after l events) (sure_after false l events) →
         AreShdlcUpTogether (shdlc_after l events) }
 {}

@@ -1,5 +1,6 @@
 -- What is true of an end and of the history of its session, whatever comes to it.
-use Rattle.std.proofs.Common.{ℕ, ◌+◌, ◌-◌, ◌<◌, ◌≤◌, ◌≡◌, ◌≢◌, ◌↔◌, Bool, true, false, List, [], ◌∷◌, ◌++◌, length, Option, Some, None, refl, sym, ap, subst, ◌∙◌, arith, max, min, option_to_list, nat_lt, length-append, slice_get, ◌⊎◌, inl, inr, ◌%◌}
+use Rattle.std.proofs.Common.{ℕ, ◌+◌, ◌-◌, ◌<◌, ◌≤◌, ◌≡◌, ◌≢◌, ◌↔◌, Bool, true, false, List, [], ◌∷◌, ◌++◌, length, Option, Some, None, refl, sym, ap, subst}
+use Rattle.std.proofs.Common.{◌∙◌, arith, max, min, option_to_list, nat_lt, length-append, slice_get, ◌⊎◌, inl, inr, ◌%◌}
 use Rattle.std.specs.Prelude.{Contains, ◌==◌}
 use Rattle.std.proofs.lemmas.Bool.{cases_lt}
 use Rattle.std.proofs.lemmas.Option.{slice_get_within}
@@ -14,7 +15,9 @@ use Rattle.shdlc_core.specs.declared.answers.LinkState.{LinkState}
 use Rattle.shdlc_core.specs.declared.answers.LinkState.TheVariants.{Down, Waiting, Up}
 use Rattle.shdlc_core.specs.declared.answers.Due.{Due}
 use Rattle.shdlc_core.specs.declared.answers.Due.TheVariants.{Rr as Due_rr, Rej as Due_rej, Rnr as Due_rnr, Rset as Due_rset, Ua as Due_ua}
-use Rattle.shdlc_core.specs.Machine.{begun, stopped, shdlc_after_inputs, fragment_due, sent_next, Timed, timed, runs_timer, up_with, waiting_from, given_up, sent_again, EndState, EndInput, EndOutput, Fragment, Session, end_step, new_session, no_session, new_end, place_of, received, acknowledged, fragment_accepted, ready_again, rejected, made_busy}
+use Rattle.shdlc_core.specs.Machine.{begun, stopped, shdlc_after_inputs, fragment_due, sent_next, Timed, timed, runs_timer, up_with, waiting_from, given_up}
+use Rattle.shdlc_core.specs.Machine.{sent_again, EndState, EndInput, EndOutput, Fragment, Session, end_step, new_session, no_session, new_end, place_of}
+use Rattle.shdlc_core.specs.Machine.{received, acknowledged, fragment_accepted, ready_again, rejected, made_busy}
 use Rattle.shdlc_core.specs.Machine.Timed.{Runs, Over, Spent}
 use Rattle.shdlc_core.specs.Machine.EndInput.{Begin, Offer, Take, Tick, Reset, Stop, SetReady, NextOut}
 use Rattle.shdlc_core.specs.Histories.{SessionHistory, no_history, with_answer, history_after, IsNextFragment, IsOneSession, Begins, accepted_at}

@@ -10,7 +10,8 @@ use Rattle.shdlc_core.specs.declared.answers.LinkState.{LinkState}
 use Rattle.shdlc_core.specs.declared.answers.LinkState.TheVariants.{Down, Waiting, Up}
 use Rattle.shdlc_core.specs.declared.answers.Due.{Due}
 use Rattle.shdlc_core.specs.declared.answers.Due.TheVariants.{Rej as Rej_due, Ua as Ua_due}
-use Rattle.shdlc_core.specs.Machine.{EndState, Fragment, taken, take_answer, place_of, ahead, accepted, repeated, discarded, acknowledged, ready_again, rejected, made_busy, received, fragment_accepted, up_with}
+use Rattle.shdlc_core.specs.Machine.{EndState, Fragment, taken, take_answer, place_of, ahead, accepted, repeated, discarded, acknowledged, ready_again}
+use Rattle.shdlc_core.specs.Machine.{rejected, made_busy, received, fragment_accepted, up_with}
 use Rattle.shdlc_core.specs.Offering.{with_out, left_waiting, IsNarrow, HasSession}
 use Rattle.std.specs.Option.{option_to_list}
 use Rattle.shdlc_core.proofs.Histories.{in_phase, place_of-within}

@@ -1,5 +1,6 @@
 -- What the machine does where it was offered only some of its fragments is what it does with all of them.
-use Rattle.std.proofs.Common.{◌≡◌, ℕ, ◌+◌, ◌<◌, ◌≤◌, ◌==◌, ◌⊎◌, inl, inr, Bool, true, false, List, [], ◌∷◌, ◌++◌, length, refl, sym, ap, ◌∙◌, arith, subst, length-append}
+use Rattle.std.proofs.Common.{◌≡◌, ℕ, ◌+◌, ◌<◌, ◌≤◌, ◌==◌, ◌⊎◌, inl, inr, Bool, true, false, List, [], ◌∷◌, ◌++◌, length, refl, sym, ap, ◌∙◌, arith, subst}
+use Rattle.std.proofs.Common.{length-append}
 use Rattle.std.specs.Prelude.{Option, Some, None, not, ◌&&◌, ◌||◌, slice_get, is_some, nat_lt, if◌then◌else◌}
 use Rattle.std.proofs.lemmas.Option.{slice_get-get_or}
 use Rattle.std.proofs.lemmas.List.{get_or_append_left, append-nil, append_assoc}
@@ -11,7 +12,9 @@ use Rattle.shdlc_core.specs.declared.answers.LinkState.TheVariants.{Down, Waitin
 use Rattle.shdlc_core.specs.declared.answers.Taken.{Taken}
 use Rattle.shdlc_core.specs.declared.answers.Due.{Due}
 use Rattle.shdlc_core.specs.declared.answers.Due.TheVariants.{Rr as Rr_due, Rej as Rej_due, Rnr as Rnr_due, Rset as Rset_due, Ua as Ua_due}
-use Rattle.shdlc_core.specs.Machine.{EndState, Session, Fragment, runs_timer, taken, take_answer, ticked, tick_answer, reset_with, with_ready, fetched, frame_due, fragment_due, sent_next, sent_again, asked_again, given_up, place_of, ahead, accepted, repeated, discarded, acknowledged, received, is_waiting, offered, put_out, stopped, no_session}
+use Rattle.shdlc_core.specs.Machine.{EndState, Session, Fragment, runs_timer, taken, take_answer, ticked, tick_answer, reset_with, with_ready, fetched}
+use Rattle.shdlc_core.specs.Machine.{frame_due, fragment_due, sent_next, sent_again, asked_again, given_up, place_of, ahead, accepted, repeated, discarded}
+use Rattle.shdlc_core.specs.Machine.{acknowledged, received, is_waiting, offered, put_out, stopped, no_session}
 use Rattle.shdlc_core.specs.Kept.{KeptEnd, ShdlcStandsFor}
 use Rattle.shdlc_core.specs.Offering.{with_out, left_waiting, IsNarrow, HasSession, StandsBefore, StandsWith}
 use Rattle.std.specs.Option.{option_to_list}

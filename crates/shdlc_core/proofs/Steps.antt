@@ -7,7 +7,8 @@ use Rattle.shdlc_core.specs.contracts.answers.LinkState.{the_type}
 use Rattle.shdlc_core.specs.declared.answers.LinkState.{LinkState}
 use Rattle.shdlc_core.specs.declared.answers.LinkState.TheVariants.{Down, Waiting, Up}
 use Rattle.shdlc_core.specs.declared.answers.Taken.{Taken}
-use Rattle.shdlc_core.specs.Machine.{is_waiting, reset_with, waiting_from, EndState, Fragment, place_of, taken, take_answer, received, acknowledged, ready_again, rejected, made_busy, nothing_taken, fragment_accepted}
+use Rattle.shdlc_core.specs.Machine.{is_waiting, reset_with, waiting_from, EndState, Fragment, place_of, taken, take_answer, received, acknowledged}
+use Rattle.shdlc_core.specs.Machine.{ready_again, rejected, made_busy, nothing_taken, fragment_accepted}
 
 pub taken-fragment : (e : EndState) (ns nr : ℕ) (info : Fragment) (x : ℕ) → e.phase ≡ Up → place_of e.session nr ≡ Some x →
     taken e (I ns nr info) ≡ received (acknowledged e x) ns info

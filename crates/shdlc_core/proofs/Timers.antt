@@ -1,5 +1,6 @@
 -- The timer, the tries and the windows of an end, whatever comes to it.
-use Rattle.std.proofs.Common.{ℕ, ◌+◌, ◌<◌, ◌≤◌, ◌≡◌, Bool, true, false, List, [], ◌∷◌, ◌++◌, length, Option, Some, None, refl, sym, subst, ◌∙◌, arith, max, min, nat_lt, cond}
+use Rattle.std.proofs.Common.{ℕ, ◌+◌, ◌<◌, ◌≤◌, ◌≡◌, Bool, true, false, List, [], ◌∷◌, ◌++◌, length, Option, Some, None, refl, sym, subst, ◌∙◌, arith, max, min}
+use Rattle.std.proofs.Common.{nat_lt, cond}
 use Rattle.std.specs.Prelude.{◌==◌}
 use Rattle.std.proofs.lemmas.Grind.{common_steps}
 use Rattle.swp_base.specs.declared.control_frames.Control.{Control}
@@ -9,7 +10,8 @@ use Rattle.swp_base.specs.declared.control_frames.Kind.TheVariants.{Rr, Rej, Rnr
 use Rattle.shdlc_core.specs.declared.answers.LinkState.{LinkState}
 use Rattle.shdlc_core.specs.declared.answers.LinkState.TheVariants.{Down, Waiting, Up}
 use Rattle.shdlc_core.specs.declared.answers.Due.{Due}
-use Rattle.shdlc_core.specs.Machine.{Timed, timed, runs_timer, EndState, EndInput, Fragment, Session, end_step, new_session, new_end, place_of, received, acknowledged, fragment_due, sent_next, shdlc_after_inputs}
+use Rattle.shdlc_core.specs.Machine.{Timed, timed, runs_timer, EndState, EndInput, Fragment, Session, end_step, new_session, new_end, place_of, received}
+use Rattle.shdlc_core.specs.Machine.{acknowledged, fragment_due, sent_next, shdlc_after_inputs}
 use Rattle.shdlc_core.specs.Machine.Timed.{Runs, Over, Spent}
 use Rattle.shdlc_core.specs.Machine.EndInput.{Begin, Offer, Take, Tick, Reset, Stop, SetReady, NextOut}
 use Rattle.shdlc_core.specs.Histories.{SessionHistory, AskForWindows, no_history}

@@ -1,5 +1,6 @@
 -- What has happened at one end in the session of the moment, read off what came to it and what it answered.
-use Rattle.std.specs.Prelude.{ℕ, ◌+◌, ◌<◌, ◌≤◌, ◌≡◌, ◌%◌, ◌||◌, Bool, true, false, if◌then◌else◌, List, [], ◌∷◌, ◌++◌, Some, is_some, option_to_list, slice_get, Contains}
+use Rattle.std.specs.Prelude.{ℕ, ◌+◌, ◌<◌, ◌≤◌, ◌≡◌, ◌%◌, ◌||◌, Bool, true, false, if◌then◌else◌, List, [], ◌∷◌, ◌++◌, Some, is_some, option_to_list, slice_get}
+use Rattle.std.specs.Prelude.{Contains}
 use Rattle.swp_base.specs.declared.control_frames.Control.{Control}
 use Rattle.swp_base.specs.declared.control_frames.Control.TheVariants.{I, S}
 use Rattle.shdlc_core.specs.Machine.{EndState, EndInput, EndOutput, Fragment, Session, shdlc_after_inputs, end_step, new_end}

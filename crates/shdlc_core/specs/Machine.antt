@@ -1,7 +1,8 @@
 -- The machine of one end of an SHDLC link (ETSI TS 102 613, section 10), over whole lists: every fragment of the session
 -- that was offered and every one that was accepted, with places in these lists. Frames carry numbers modulo 8; the machine
 -- keeps none. It is a function, so it computes. The timers, the tries and the window of 4 are this project's own.
-use Rattle.std.specs.Prelude.{ℕ, zero, suc, ◌+◌, ◌-◌, ◌%◌, ◌==◌, ◌&&◌, ◌||◌, nat_lt, nat_le, Bool, true, false, not, if◌then◌else◌, List, [], ◌∷◌, ◌++◌, length, slice_get, Option, Some, None, max, min}
+use Rattle.std.specs.Prelude.{ℕ, zero, suc, ◌+◌, ◌-◌, ◌%◌, ◌==◌, ◌&&◌, ◌||◌, nat_lt, nat_le, Bool, true, false, not, if◌then◌else◌, List, [], ◌∷◌, ◌++◌, length}
+use Rattle.std.specs.Prelude.{slice_get, Option, Some, None, max, min}
 use Rattle.swp_base.specs.declared.control_frames.Control.{Control}
 use Rattle.swp_base.specs.declared.control_frames.Control.TheVariants.{I, S, Rset, Ua}
 use Rattle.swp_base.specs.declared.control_frames.Kind.{Kind}

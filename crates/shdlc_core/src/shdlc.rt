@@ -1,8 +1,11 @@
 //! One end of a link.
-ghost use Rattle.std.specs.Prelude.{◌≡◌, ◌≢◌, ◌⊎◌, ◌+◌, ◌<◌, ◌≤◌, ◌↔◌, [], length, IsTrue, OnSome, option_map, min, ℕ, ◌++◌, ◌∷◌, OnErr, IfNone, IfSome, MatchResult, false, true};
+ghost use Rattle.std.specs.Prelude.{◌≡◌, ◌≢◌, ◌⊎◌, ◌+◌, ◌<◌, ◌≤◌, ◌↔◌, [], length, IsTrue, OnSome, option_map, min, ℕ, ◌++◌, ◌∷◌, OnErr, IfNone, IfSome};
+ghost use Rattle.std.specs.Prelude.{MatchResult, false, true};
 ghost use Rattle.std.specs.Bool.{OnFalse};
 ghost use Rattle.shdlc_core.specs.Kept.{ShdlcStandsFor, ReceivesFor, frames_left};
-ghost use Rattle.shdlc_core.specs.Machine.{EndState, new_end, begun, up_with, offered, offer_refusal, control_due, frame_due, fetched, acknowledged, received, fragment_accepted, with_timer, place_of, gap_found, due_left, taken, take_answer, ticked, tick_answer, sent_again, asked_again, waiting_from, no_session, reset_with, stopped, with_ready};
+ghost use Rattle.shdlc_core.specs.Machine.{EndState, new_end, begun, up_with, offered, offer_refusal, control_due, frame_due, fetched, acknowledged, received};
+ghost use Rattle.shdlc_core.specs.Machine.{fragment_accepted, with_timer, place_of, gap_found, due_left, taken, take_answer, ticked, tick_answer, sent_again};
+ghost use Rattle.shdlc_core.specs.Machine.{asked_again, waiting_from, no_session, reset_with, stopped, with_ready};
 
 use crate::answers::{Due, LinkState, OfferRefused, Taken, Ticked};
 use crate::receiver::Receiver;

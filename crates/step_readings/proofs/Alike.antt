@@ -16,7 +16,9 @@ use Rattle.link_machine.specs.Machine.{Message}
 use Rattle.node_machine.specs.Parts.{Creation, Notice, Core, Port, Deed}
 use Rattle.node_machine.specs.Parts.Deed.{Tells}
 use Rattle.node_machine.specs.Carrying.{port_at}
-use Rattle.node_machine.specs.Controller.{has_link, creation_in, asks_for, view_for, commit_deeds, decision_deeds, gate_deeds, own_gate, goes_through, served_at, command_deeds, agreed, creation_deeds, notice_deeds, response_at, relayed_to, unrelayed, event_deeds, unless_asking, if_notice, kind_deeds, own_deeds, relay_deeds, deeds_by_relay, controller_deeds}
+use Rattle.node_machine.specs.Controller.{has_link, creation_in, asks_for, view_for, commit_deeds, decision_deeds, gate_deeds, own_gate, goes_through}
+use Rattle.node_machine.specs.Controller.{served_at, command_deeds, agreed, creation_deeds, notice_deeds, response_at, relayed_to, unrelayed, event_deeds}
+use Rattle.node_machine.specs.Controller.{unless_asking, if_notice, kind_deeds, own_deeds, relay_deeds, deeds_by_relay, controller_deeds}
 use Rattle.view_readings.proofs.Viewing.{decided_same}
 use Rattle.step_readings.specs.Alike.{awaited_of, KnowsTheSame}
 

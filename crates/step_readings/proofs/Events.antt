@@ -18,7 +18,9 @@ use Rattle.history.specs.Follows.{seen_from}
 use Rattle.node_machine.specs.Parts.{Running, Work}
 use Rattle.node_machine.specs.Node.{boot_writes, steps}
 use Rattle.node_machine.specs.Node.NodeInput.{AtEnd, TimePasses}
-use Rattle.node_world.specs.World.{NodeWorld, Site, Happening, link_to, input_of, wires_for, frames_noted, comes_to, controller_does, controller_work, after_controller, all_aged, controller_ticks, hosts_tick, comes_at, activates, boots, memory_at, work_of, sending, beginning, new_world, world_step, end_c, end_h}
+use Rattle.node_world.specs.World.{NodeWorld, Site, Happening, link_to, input_of, wires_for, frames_noted, comes_to, controller_does, controller_work}
+use Rattle.node_world.specs.World.{after_controller, all_aged, controller_ticks, hosts_tick, comes_at, activates, boots, memory_at, work_of, sending, beginning}
+use Rattle.node_world.specs.World.{new_world, world_step, end_c, end_h}
 use Rattle.node_world.specs.World.Happening.{Boots, IsCut, Gives, Inits, Takes, Loses, Ticks, Resets, Activates, Arms}
 use Rattle.node_world.specs.Lines.{Occurrence}
 use Rattle.node_world.specs.NodeHistories.{NodeHistory, FollowsNodes, entries_in, node_entries, occurrences_in, steps_from}

@@ -23,7 +23,8 @@ use Rattle.notice_readings.proofs.Near.{noticed_desks}
 use Rattle.notice_readings.proofs.Turning.{kept_none}
 use Rattle.creation_readings.specs.Creations.{IsReadSo, KnowsAsRead, creations_at, is_asked_pipe, asked_pipes}
 use Rattle.creation_readings.proofs.Asks.{asked_of, waits, desks_wait}
-use Rattle.creation_readings.proofs.Knowing.{is_of_pipe, HasAsker, asker_of, asker_waits, Any, any_of, any_asked, asks_some, given_same, read_pipe, read_some, two_ways}
+use Rattle.creation_readings.proofs.Knowing.{is_of_pipe, HasAsker, asker_of, asker_waits, Any, any_of, any_asked, asks_some, given_same, read_pipe, read_some}
+use Rattle.creation_readings.proofs.Knowing.{two_ways}
 use Rattle.view_readings.specs.Errors.{errors_in}
 use Rattle.view_readings.specs.Views.{view_at, IsSameView}
 use Rattle.view_readings.proofs.Viewing.{where_same, pipes_same}

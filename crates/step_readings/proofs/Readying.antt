@@ -23,13 +23,15 @@ use Rattle.kept_laws.proofs.Asking.{same_new}
 use Rattle.kept_laws.proofs.Doing.{GoesOn_or_lost, all_fine}
 use Rattle.kept_laws.proofs.HostsReply.{OneOrNone}
 use Rattle.kept_laws.proofs.Plainly.{Plainly, runs_plainly, plainly_then}
-use Rattle.kept_laws.proofs.Stepping.{plainly_come, plainly_late, plainly_sessions, core_late, sessions_order, free_may, free_fit, freed_core, freed_cut, syncs_one, one_may, syncs_fit, without_host}
+use Rattle.kept_laws.proofs.Stepping.{plainly_come, plainly_late, plainly_sessions, core_late, sessions_order, free_may, free_fit, freed_core, freed_cut}
+use Rattle.kept_laws.proofs.Stepping.{syncs_one, one_may, syncs_fit, without_host}
 use Rattle.kept_laws.proofs.Turning.{then_all}
 use Rattle.node_readings.specs.Orders.{IsFresh}
 use Rattle.notice_readings.specs.Worlds.{IsShut}
 use Rattle.notice_readings.proofs.Doing.{Stands, IsOn as IsNoticed, then as then_noticed, all_stand}
 use Rattle.notice_readings.proofs.Stepping.{TellNoNotices, no_notices_flat, no_notices_may, synced_no_notices}
-use Rattle.notice_readings.proofs.Steps.{HasCome as HasComeNoticed, begun as begun_noticed, frees as frees_noticed, owed_all, came_near as near_noticed, came_tick as tick_noticed, sessions_tables}
+use Rattle.notice_readings.proofs.Steps.{HasCome as HasComeNoticed, begun as begun_noticed, frees as frees_noticed, owed_all, came_near as near_noticed}
+use Rattle.notice_readings.proofs.Steps.{came_tick as tick_noticed, sessions_tables}
 use Rattle.creation_readings.proofs.Asks.{Asked, asked_of}
 use Rattle.creation_readings.proofs.Coming.{HasCome as HasComeMade, came_near as near_made, came_tick as tick_made}
 use Rattle.creation_readings.proofs.Doing.{IsOn as IsMade, Good, many}

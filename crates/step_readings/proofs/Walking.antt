@@ -33,7 +33,8 @@ use Rattle.step_readings.proofs.Lasting.{near_deeds}
 use Rattle.step_readings.proofs.Running.{runs_handled, runs_holds, runs_lets}
 use Rattle.step_readings.proofs.Readying.{begun_by, left_by}
 use Rattle.step_readings.proofs.Knowing.{there_is}
-use Rattle.step_readings.proofs.Naming.{NamesSo, all_done_named, no_notices_name, handles_named, holds_named, late_named, lets_named, may_name, told_named, unless_named}
+use Rattle.step_readings.proofs.Naming.{NamesSo, all_done_named, no_notices_name, handles_named, holds_named, late_named, lets_named, may_name, told_named}
+use Rattle.step_readings.proofs.Naming.{unless_named}
 use Rattle.pass_laws.specs.Steps.{comes_to_pass}
 
 -- ## As the pass begins

@@ -11,7 +11,8 @@ use Rattle.link_entries.specs.Entries.End.{Host}
 use Rattle.node_machine.specs.Parts.{Running, Work}
 use Rattle.node_machine.specs.Node.{steps}
 use Rattle.node_machine.specs.Node.NodeInput.{AtEnd, TimePasses}
-use Rattle.node_world.specs.World.{Site, NodeWorld, site_at, input_of, ending_of, turns_at, comes_to, controller_work, link_after_controller, after_controller, controller_does, all_aged, controller_ticks, hosts_tick, comes_at, end_c}
+use Rattle.node_world.specs.World.{Site, NodeWorld, site_at, input_of, ending_of, turns_at, comes_to, controller_work, link_after_controller, after_controller}
+use Rattle.node_world.specs.World.{controller_does, all_aged, controller_ticks, hosts_tick, comes_at, end_c}
 use Rattle.node_world.specs.Lines.{Occurrence}
 use Rattle.node_world.specs.NodeHistories.{entries_in}
 use Rattle.node_links.proofs.Works.{steps_fine}

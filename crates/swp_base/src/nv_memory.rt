@@ -1,5 +1,6 @@
 //! Memories that keep their bytes over a power cut, themselves kept in memory.
-ghost use Rattle.std.specs.Prelude.{◌≡◌, ◌+◌, ◌^◌, ◌<◌, ◌≤◌, ◌↔◌, length, replicate, slice_index, slice_range, true, refl, is_ok, None, Some, Ok, IsTrue, IsErr, IsOk, IfOk, OnOk, OnErr};
+ghost use Rattle.std.specs.Prelude.{◌≡◌, ◌+◌, ◌^◌, ◌<◌, ◌≤◌, ◌↔◌, length, replicate, slice_index, slice_range, true, refl, is_ok, None, Some, Ok, IsTrue};
+ghost use Rattle.std.specs.Prelude.{IsErr, IsOk, IfOk, OnOk, OnErr};
 ghost use Rattle.swp_base.specs.Outside.{one_more, overwritten};
 ghost use Rattle.swp_base.specs.Told.{planned_is_told, sure_is_told};
 ghost use Rattle.swp_base.specs.InMemory.{cycled, read_plan_after, ReadsAsPlanned, ReadsSurely, WritesAsPlanned, WritesSurely};

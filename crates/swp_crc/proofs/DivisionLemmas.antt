@@ -1,5 +1,6 @@
 -- Division over two elements is linear.
-use Rattle.std.proofs.Common.{◌≡◌, ℕ, suc, zero, ◌+◌, ◌≤◌, Bool, true, false, List, [], ◌∷◌, ◌++◌, length, drop, replicate, refl, sym, ap, ◌∙◌, arith, zero-add, suc-add}
+use Rattle.std.proofs.Common.{◌≡◌, ℕ, suc, zero, ◌+◌, ◌≤◌, Bool, true, false, List, [], ◌∷◌, ◌++◌, length, drop, replicate, refl, sym, ap, ◌∙◌, arith, zero-add}
+use Rattle.std.proofs.Common.{suc-add}
 use Rattle.swp_crc.specs.Division.{sum_of_bits, sum_from_front, divisor, divided}
 
 pub sum_of_bits_comm : (a b : Bool) → sum_of_bits a b ≡ sum_of_bits b a

@@ -1,5 +1,6 @@
 -- Four more bytes of a CRC under way, at once.
-use Rattle.std.proofs.Common.{◌≡◌, ℕ, ◌+◌, ◌*◌, ◌/◌, ◌%◌, ◌^◌, ◌<◌, Bool, false, List, [], ◌∷◌, ◌++◌, length, drop, take, get_or, replicate, refl, sym, ap, ◌∙◌, arith, length-append, append_assoc, length-take, length-drop, take-append-drop, append-nil, subst}
+use Rattle.std.proofs.Common.{◌≡◌, ℕ, ◌+◌, ◌*◌, ◌/◌, ◌%◌, ◌^◌, ◌<◌, Bool, false, List, [], ◌∷◌, ◌++◌, length, drop, take, get_or, replicate, refl, sym, ap, ◌∙◌}
+use Rattle.std.proofs.Common.{arith, length-append, append_assoc, length-take, length-drop, take-append-drop, append-nil, subst}
 use Rattle.std.proofs.Math.ListN.{length-replicate}
 use Rattle.std.specs.Int.Bits.{bit_xor}
 use Rattle.swp_base.specs.Bits.{bits_of, bits_of_byte}
@@ -70,7 +71,8 @@ bits_of_sum : (bits : List Bool) (n b : ℕ) → length bits ≡ 8 → n ≡ spe
     → bits_of_byte (bit_xor n b) ≡ sum_from_front bits (bits_of_byte b)
 bits_of_sum bits n b eight is small =
     ap bits_of_byte index
-    ∙ number_of-injective (bits_of_byte (spelled_number top)) top (length-bits_of_byte (spelled_number top) ∙ sym long) (number_of_byte (spelled_number top) within)
+    ∙ number_of-injective (bits_of_byte (spelled_number top)) top (length-bits_of_byte (spelled_number top) ∙ sym long)
+        (number_of_byte (spelled_number top) within)
   where
     top : List Bool
     top = sum_from_front bits (bits_of_byte b)

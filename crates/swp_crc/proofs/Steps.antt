@@ -1,5 +1,6 @@
 -- One more byte of a CRC under way.
-use Rattle.std.proofs.Common.{◌≡◌, ℕ, suc, zero, ◌+◌, ◌-◌, ◌*◌, ◌/◌, ◌%◌, ◌^◌, ◌≤◌, ◌<◌, Bool, true, false, not, List, [], ◌∷◌, ◌++◌, length, drop, take, replicate, refl, sym, ap, ◌∙◌, arith, length-append, append_assoc, length-take, length-drop, take-append-drop, append-nil, subst}
+use Rattle.std.proofs.Common.{◌≡◌, ℕ, suc, zero, ◌+◌, ◌-◌, ◌*◌, ◌/◌, ◌%◌, ◌^◌, ◌≤◌, ◌<◌, Bool, true, false, not, List, [], ◌∷◌, ◌++◌, length, drop, take}
+use Rattle.std.proofs.Common.{replicate, refl, sym, ap, ◌∙◌, arith, length-append, append_assoc, length-take, length-drop, take-append-drop, append-nil, subst}
 use Rattle.std.proofs.Math.ListN.{length-replicate}
 use Rattle.std.specs.Int.Bits.{bit_xor}
 use Rattle.swp_base.specs.Bits.{bits_of, bits_of_byte}

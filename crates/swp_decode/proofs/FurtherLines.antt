@@ -1,5 +1,6 @@
 -- The lines that come with further bytes.
-use Rattle.std.proofs.Common.{◌≡◌, ℕ, ◌+◌, ◌-◌, ◌<◌, ◌≤◌, Bool, false, List, [], ◌∷◌, ◌++◌, Some, length, reverse, take, drop, get_or, refl, sym, ap, ap₂, subst, ◌∙◌, arith, append_assoc, append-nil, length-append, take-add}
+use Rattle.std.proofs.Common.{◌≡◌, ℕ, ◌+◌, ◌-◌, ◌<◌, ◌≤◌, Bool, false, List, [], ◌∷◌, ◌++◌, Some, length, reverse, take, drop, get_or, refl, sym, ap, ap₂}
+use Rattle.std.proofs.Common.{subst, ◌∙◌, arith, append_assoc, append-nil, length-append, take-add}
 use Rattle.std.proofs.lemmas.List.{reverse-append, take_more, length-reverse}
 use Rattle.swp_frame.specs.Signal.{HasNoMark, symbol_of}
 use Rattle.swp_decode.specs.declared.line.Wire.{Wire}

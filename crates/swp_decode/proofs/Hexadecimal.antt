@@ -1,5 +1,6 @@
 -- Bytes in hexadecimal, one after another.
-use Rattle.std.proofs.Common.{◌≡◌, ℕ, ◌+◌, ◌*◌, ◌/◌, ◌%◌, ◌<◌, ◌≤◌, ◌&&◌, List, [], ◌∷◌, ◌++◌, true, eqb, ltb, eqb-true, ltb-true, length, take, get_or, refl, sym, ap, ◌∙◌, arith, append_assoc, length-append, length-take}
+use Rattle.std.proofs.Common.{◌≡◌, ℕ, ◌+◌, ◌*◌, ◌/◌, ◌%◌, ◌<◌, ◌≤◌, ◌&&◌, List, [], ◌∷◌, ◌++◌, true, eqb, ltb, eqb-true, ltb-true, length, take, get_or, refl}
+use Rattle.std.proofs.Common.{sym, ap, ◌∙◌, arith, append_assoc, length-append, length-take}
 use Rattle.std.proofs.lemmas.Bool.{agree_below, agree_below_at, and_parts}
 use Rattle.std.specs.Fmt.{digit_glyph}
 use Rattle.swp_decode.specs.declared.words.TheConstants.{PAIRS}

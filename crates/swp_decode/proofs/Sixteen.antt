@@ -1,5 +1,6 @@
 -- Which of sixteen bytes are periods with bits, and what bits they are.
-use Rattle.std.proofs.Common.{◌≡◌, ℕ, suc, ◌+◌, ◌%◌, ◌^◌, ◌<◌, Bool, true, false, ◌&&◌, ◌||◌, cond, eqb, eqb-true, List, [], ◌∷◌, ◌++◌, Option, Some, None, map, length, reverse, replicate, get_or, refl, sym, ap, ap₂, ◌∙◌, subst, arith, w8}
+use Rattle.std.proofs.Common.{◌≡◌, ℕ, suc, ◌+◌, ◌%◌, ◌^◌, ◌<◌, Bool, true, false, ◌&&◌, ◌||◌, cond, eqb, eqb-true, List, [], ◌∷◌, ◌++◌, Option, Some, None, map}
+use Rattle.std.proofs.Common.{length, reverse, replicate, get_or, refl, sym, ap, ap₂, ◌∙◌, subst, arith, w8}
 use Rattle.std.proofs.Math.Nat.{pow-suc}
 use Rattle.std.proofs.lemmas.List.{reverse-append, length-reverse, length-map, map-append}
 use Rattle.std.proofs.lemmas.Bool.{agree_below, agree_below_at}

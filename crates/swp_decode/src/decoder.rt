@@ -164,8 +164,10 @@ impl Decoder {
     fn read_breaks(&mut self, text: &mut Text)
         requires { length text.old.items + Self.ROOM ≤ 8192 }
         ensures count { self.new.count ≡ self.old.count }
-        ensures reads_s1 { (place : ℕ) (older : List ReadSymbol) → ReadsSignal self.old.s1 older → ReadsSignal self.new.s1 (with_reading (Some break) place older) }
-        ensures reads_s2 { (place : ℕ) (older : List ReadSymbol) → ReadsSignal self.old.s2 older → ReadsSignal self.new.s2 (with_reading (Some break) place older) }
+        ensures reads_s1 { (place : ℕ) (older : List ReadSymbol) → ReadsSignal self.old.s1 older
+            → ReadsSignal self.new.s1 (with_reading (Some break) place older) }
+        ensures reads_s2 { (place : ℕ) (older : List ReadSymbol) → ReadsSignal self.old.s2 older
+            → ReadsSignal self.new.s2 (with_reading (Some break) place older) }
         ensures lines { (first second : List ReadSymbol) → ReadsSignal self.old.s1 first → ReadsSignal self.old.s2 second
             → text.new.items ≡ text.old.items ++ line_with Wire.S1 (Some break) first ++ line_with Wire.S2 (Some break) second }
         ensures sized { length text.new.items ≤ length text.old.items + Self.ROOM }

@@ -62,7 +62,8 @@ impl SignalReader {
     fn read_part(&mut self, part: Part, place: u32)
         requires some { 0 < part.width }
         requires place { place + part.width < 2 ^ 32 }
-        ensures { (older : List ReadSymbol) → ReadsSignal self.old older → IsPartBehind part (run_of (symbols older)) → HasNoMark (symbols older) (part_bits part)
+        ensures { (older : List ReadSymbol) → ReadsSignal self.old older → IsPartBehind part (run_of (symbols older))
+            → HasNoMark (symbols older) (part_bits part)
             → ReadsSignal self.new (readings_on place (part_bits part) older) }
     {
         self.deframer.feed_part(part);
@@ -114,7 +115,8 @@ impl SignalReader {
             → ReadsSignal self.new (readings_on place (take result (word_bits word.now)) older) }
         ensures items { (older : List ReadSymbol) → IsWordBehind word.now (run_of (symbols older)) → NoMarkEnds word.now from last
             → ReadsSignal self.old (readings_on place (take from (word_bits word.now)) older)
-            → text.new.items ≡ text.old.items ++ line_with wire (Some (symbol_of (bit word.now.bits (63 - last)))) (readings_on place (take last (word_bits word.now)) older) }
+            → text.new.items ≡ text.old.items ++ line_with wire (Some (symbol_of (bit word.now.bits (63 - last))))
+            (readings_on place (take last (word_bits word.now)) older) }
         ensures sized { length text.new.items ≤ length text.old.items + 128 }
     {
         if (word.marks >> (63 - last)) % 2 == 0 {

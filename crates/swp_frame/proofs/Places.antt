@@ -1,5 +1,6 @@
 -- Parts of a word: which of their bits were put in, and what is left without those.
-use Rattle.std.proofs.Common.{◌≡◌, ℕ, suc, zero, ◌+◌, ◌-◌, ◌*◌, ◌/◌, ◌%◌, ◌^◌, ◌<◌, ◌≤◌, min, Bool, true, false, not, cond, eqb, List, [], ◌∷◌, ◌++◌, length, take, drop, replicate, reverse, refl, sym, ap, ap₂, ◌∙◌, subst, arith, w64, append_assoc, append-nil}
+use Rattle.std.proofs.Common.{◌≡◌, ℕ, suc, zero, ◌+◌, ◌-◌, ◌*◌, ◌/◌, ◌%◌, ◌^◌, ◌<◌, ◌≤◌, min, Bool, true, false, not, cond, eqb, List, [], ◌∷◌, ◌++◌, length}
+use Rattle.std.proofs.Common.{take, drop, replicate, reverse, refl, sym, ap, ap₂, ◌∙◌, subst, arith, w64, append_assoc, append-nil}
 use mir.Val.{bool_byte}
 use mathlib.Core.Logic.{inl, inr}
 use Rattle.std.specs.Int.{bit_at, trailing_zeros, trailing_ones}

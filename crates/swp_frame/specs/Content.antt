@@ -1,5 +1,6 @@
 -- The content of a frame, its bits without those put in.
-use Rattle.std.specs.Prelude.{ℕ, zero, suc, ◌+◌, ◌-◌, ◌*◌, ◌/◌, ◌%◌, ◌==◌, nat_lt, ◌||◌, min, Bool, List, [], ◌∷◌, length, take, drop, slice_index, if◌then◌else◌}
+use Rattle.std.specs.Prelude.{ℕ, zero, suc, ◌+◌, ◌-◌, ◌*◌, ◌/◌, ◌%◌, ◌==◌, nat_lt, ◌||◌, min, Bool, List, [], ◌∷◌, length, take, drop, slice_index}
+use Rattle.std.specs.Prelude.{if◌then◌else◌}
 use Rattle.swp_base.specs.declared.link_terms.FrameFault.TheVariants.{Length, Alignment, Crc}
 use Rattle.swp_crc.specs.Division.{spelled_number}
 use Rattle.swp_crc.specs.Crc.{crc_of}

@@ -11,7 +11,8 @@ use Rattle.swp_tool.specs.declared.replay.Halt.TheVariants as halt
 use Rattle.swp_tool.specs.declared.pieces.Pieces.{Pieces}
 use Rattle.swp_tool.specs.Schedules.{Stop, AtFault, AtMisread, Too_many, Schedule, ended}
 use Rattle.swp_tool.specs.Transcripts.{IsTextOf, IsTranscript}
-use Rattle.swp_tool.specs.Pieces.{IsReading, IsRunning, HasRead, IsFrontTranscript, IsWholeTranscript, IsCompleteTranscript, StopsAt, Halts, HaltsAtEnd, schedule_read, schedule_so_far}
+use Rattle.swp_tool.specs.Pieces.{IsReading, IsRunning, HasRead, IsFrontTranscript, IsWholeTranscript, IsCompleteTranscript, StopsAt, Halts, HaltsAtEnd}
+use Rattle.swp_tool.specs.Pieces.{schedule_read, schedule_so_far}
 use Rattle.swp_tool.specs.Runs.{status_of, AppendsText, IsSomeTranscript, IsCutShort, Replayed, IsUnderWay}
 use Rattle.swp_tool.proofs.Reading.{front_so_far, played_transcript}
 

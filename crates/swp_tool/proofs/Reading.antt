@@ -1,5 +1,6 @@
 -- What a piece of a schedule adds to what was read before it.
-use Rattle.std.proofs.Common.{◌≡◌, ℕ, ◌+◌, ◌-◌, ◌<◌, Bool, true, false, cond, eqb, ltb, List, [], ◌∷◌, ◌++◌, length, map, refl, sym, ap, ◌∙◌, append_assoc, arith, subst, ◌⊎◌, ⊎_elim}
+use Rattle.std.proofs.Common.{◌≡◌, ℕ, ◌+◌, ◌-◌, ◌<◌, Bool, true, false, cond, eqb, ltb, List, [], ◌∷◌, ◌++◌, length, map, refl, sym, ap, ◌∙◌, append_assoc}
+use Rattle.std.proofs.Common.{arith, subst, ◌⊎◌, ⊎_elim}
 use Rattle.std.specs.Prelude.{Option, Some, None, Result, Ok, Err}
 use Rattle.std.specs.List.{flat_map}
 use Rattle.std.specs.Str.Lines.{lines, strip_carriage_return}
@@ -18,10 +19,12 @@ use Rattle.swp_tool.specs.declared.replay.Replay.{Replay}
 use Rattle.swp_tool.specs.declared.replay.Halt.{Halt}
 use Rattle.swp_tool.specs.declared.replay.Halt.TheVariants as halt
 use Rattle.swp_tool.specs.declared.pieces.Pieces.{Pieces}
-use Rattle.swp_tool.specs.Schedules.{Stop, AtFault, AtMisread, Too_many, Schedule, nothing_read, misread_behind, with_played, with_said, with_line, with_lines, ended, schedule_of}
+use Rattle.swp_tool.specs.Schedules.{Stop, AtFault, AtMisread, Too_many, Schedule, nothing_read, misread_behind, with_played, with_said, with_line, with_lines}
+use Rattle.swp_tool.specs.Schedules.{ended, schedule_of}
 use Rattle.swp_tool.specs.Transcripts.{IsTextOf, IsTranscript, done_line}
 use Rattle.swp_tool.specs.Replays.{IsAt, HasPlayed, HaltsAt}
-use Rattle.swp_tool.specs.Pieces.{LacksLineFeed, ended_line, AllLackLineFeed, schedule_so_far, HasRead, IsReading, IsFrontTranscript, StopsAt, Halts, HaltsAtEnd, schedule_read, IsCompleteTranscript}
+use Rattle.swp_tool.specs.Pieces.{LacksLineFeed, ended_line, AllLackLineFeed, schedule_so_far, HasRead, IsReading, IsFrontTranscript, StopsAt, Halts}
+use Rattle.swp_tool.specs.Pieces.{HaltsAtEnd, schedule_read, IsCompleteTranscript}
 use Rattle.swp_tool.proofs.Cutting.{lines-ended, lines-all_ended, long_line, some_line, lacks_append, lines-lacks}
 
 -- ## Schedules

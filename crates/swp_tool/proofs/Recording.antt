@@ -1,5 +1,6 @@
 -- What a decoding has written and gathered.
-use Rattle.std.proofs.Common.{◌≡◌, ℕ, ◌+◌, ◌≤◌, arith, inl, Bool, true, false, IsTrue, List, [], ◌∷◌, ◌++◌, length, take, refl, sym, ap, ◌∙◌, append_assoc, subst}
+use Rattle.std.proofs.Common.{◌≡◌, ℕ, ◌+◌, ◌≤◌, arith, inl, Bool, true, false, IsTrue, List, [], ◌∷◌, ◌++◌, length, take, refl, sym, ap, ◌∙◌, append_assoc}
+use Rattle.std.proofs.Common.{subst}
 use Rattle.std.specs.Prelude.{reverse, ◌⊎◌, nat_lt, if◌then◌else◌, Result, Ok, Err, OnErr}
 use Rattle.std.proofs.lemmas.List.{append-nil, reverse-append, length-reverse, length-append}
 use Rattle.std.proofs.Math.Seq.{take-append-add}
@@ -10,7 +11,8 @@ use Rattle.swp_decode.specs.declared.line.Wire.TheVariants.{S1, S2}
 use Rattle.swp_decode.specs.Kept.{DecoderStandsFor}
 use Rattle.swp_tool.specs.declared.status.Status.{Status}
 use Rattle.swp_tool.specs.declared.status.Status.TheVariants as status
-use Rattle.swp_tool.specs.Decodings.{IsDecoding, HasDecoded, IsFrontOfLines, IsFrontOfSome, IsFrontOfWhole, IsBrokenOff, EndedIn, DecodedBy, piece_of, most_bytes}
+use Rattle.swp_tool.specs.Decodings.{IsDecoding, HasDecoded, IsFrontOfLines, IsFrontOfSome, IsFrontOfWhole, IsBrokenOff, EndedIn, DecodedBy, piece_of}
+use Rattle.swp_tool.specs.Decodings.{most_bytes}
 use Rattle.swp_tool.proofs.Ending.{behind}
 
 -- before the first byte

@@ -199,7 +199,8 @@ fn step(alloc: Global, world: &mut World, line: &Line, text: &mut Vec<u8>) -> Re
     requires room { HasRoomForLine world.old }
     ensures runs { OnOk result ((header : Header) (lines : List Line) (before : List ℕ) → Runs world.old header lines (before ++ text.old.items)
         → Runs world.new header (lines ++ line.now ∷ []) (before ++ text.new.items)) }
-    ensures told { OnOk result ((header : Header) (lines : List Line) (t : History) → WorldStandsFor world.old header lines t → misread (link_at t) line.now ≡ None) }
+    ensures told { OnOk result ((header : Header) (lines : List Line) (t : History) → WorldStandsFor world.old header lines t
+        → misread (link_at t) line.now ≡ None) }
     ensures stepped { OnOk result ((most : ℕ) → WasStepped world.old most → WasStepped world.new (most + 1)) }
     ensures halts { IfErr result (λ why. (header : Header) (lines : List Line) (t : History) → WorldStandsFor world.old header lines t
         → HaltsOn why (misread (link_at t) line.now)) }

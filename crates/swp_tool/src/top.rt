@@ -1,8 +1,10 @@
 //! The top call.
-ghost use Rattle.std.specs.Prelude.{◌≡◌, ◌≢◌, ◌≤◌, ◌<◌, ◌+◌, ◌++◌, ◌∷◌, ◌↔◌, ◌⊎◌, [], List, ℕ, length, map, string_bytes, codes, Some, None, IsTrue, OnOk, OnErr, IfErr, Ok, Err, take, true, false};
+ghost use Rattle.std.specs.Prelude.{◌≡◌, ◌≢◌, ◌≤◌, ◌<◌, ◌+◌, ◌++◌, ◌∷◌, ◌↔◌, ◌⊎◌, [], List, ℕ, length, map, string_bytes, codes, Some, None, IsTrue, OnOk};
+ghost use Rattle.std.specs.Prelude.{OnErr, IfErr, Ok, Err, take, true, false};
 ghost use Rattle.swp_base.specs.Outside.{Rose};
 ghost use Rattle.swp_tool.specs.Schedules.{Stop, schedule_of};
-ghost use Rattle.swp_tool.specs.Runs.{status_of, status_at, AppendsText, Replayed, IsUnderWay, IsReplay, IsDecode, IsTables, AskForSomething, IsOfReplay, IsOfDecode};
+ghost use Rattle.swp_tool.specs.Runs.{status_of, status_at, AppendsText, Replayed, IsUnderWay, IsReplay, IsDecode, IsTables, AskForSomething, IsOfReplay};
+ghost use Rattle.swp_tool.specs.Runs.{IsOfDecode};
 ghost use Rattle.swp_tool.specs.Transcripts.{TellsHistory};
 ghost use Rattle.swp_tool.specs.Images.{Told, IsOfTables};
 ghost use Rattle.hci_store.specs.Image.{image_fault};

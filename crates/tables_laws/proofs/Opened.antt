@@ -4,7 +4,8 @@ use Rattle.std.specs.Prelude.{Option, Some, None, IsTrue, ◌⊎◌}
 use Rattle.std.specs.List.{AllByRecursion, list_any, filter}
 use Rattle.std.proofs.lemmas.List.Folds.{list_any-append}
 use Rattle.std.specs.Option.{option_map, option_map_or, option_and_then}
-use Rattle.std.proofs.lemmas.Bool.{cond_both, cond-true, cond-false, eqb-true, eq-eqb, ltb-false, le-ltb, or_left, or_right, or_cases, and_parts, and_from, cases_Bool, false≢true, not_from_false}
+use Rattle.std.proofs.lemmas.Bool.{cond_both, cond-true, cond-false, eqb-true, eq-eqb, ltb-false, le-ltb, or_left, or_right, or_cases, and_parts, and_from}
+use Rattle.std.proofs.lemmas.Bool.{cases_Bool, false≢true, not_from_false}
 use Rattle.sorted_rows.specs.Rows.{row_of, rows_before, rows_behind}
 use Rattle.sorted_rows.proofs.RowLemmas.{row_of-with_row, row_of-without_row}
 use Rattle.pipe_table.specs.declared.row.PipeRow.{PipeRow}

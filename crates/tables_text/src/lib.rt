@@ -7,7 +7,8 @@
 
 ghost use Rattle.std.specs.Prelude.{◌≡◌, ◌++◌, length, IfOk, OnOk, string_bytes};
 ghost use Rattle.std.specs.List.{flat_map};
-ghost use Rattle.tables_text.specs.Tables.{state_as_word, end_words, head_line, pipe_line, static_line, value_line, sync_line, hex_or_dash, rows_text, tables_text_of};
+ghost use Rattle.tables_text.specs.Tables.{state_as_word, end_words, head_line, pipe_line, static_line, value_line, sync_line, hex_or_dash, rows_text};
+ghost use Rattle.tables_text.specs.Tables.{tables_text_of};
 
 use hci_tables::Tables;
 use pipe_table::PipeRow;

@@ -1,5 +1,6 @@
 -- What a fault of a line says of it.
-use Rattle.std.proofs.Common.{◌≡◌, ◌==◌, ◌↔◌, ℕ, Bool, true, false, not, cond, nat_lt, List, [], ◌∷◌, length, refl, sym, subst, Option, Some, None, Ok, Err, IsSome, IsTrue, Contains}
+use Rattle.std.proofs.Common.{◌≡◌, ◌==◌, ◌↔◌, ℕ, Bool, true, false, not, cond, nat_lt, List, [], ◌∷◌, length, refl, sym, subst, Option, Some, None, Ok, Err}
+use Rattle.std.proofs.Common.{IsSome, IsTrue, Contains}
 use Rattle.std.specs.List.{list_any}
 use Rattle.trace_model.specs.declared.line.Header.{Header}
 use Rattle.schedule_text.specs.declared.fault.LineFault.{LineFault}

@@ -1,5 +1,6 @@
 -- The words of entries hold no space and no LF.
-use Rattle.std.proofs.Common.{◌≡◌, ◌==◌, ◌&&◌, ℕ, suc, ◌/◌, ◌%◌, ◌<◌, ◌≤◌, Bool, true, false, not, cond, nat_lt, List, [], ◌∷◌, ◌++◌, length, slice_index, refl, sym, ◌∙◌, subst, arith, Option, Some, None, IfSome, All, codes, map}
+use Rattle.std.proofs.Common.{◌≡◌, ◌==◌, ◌&&◌, ℕ, suc, ◌/◌, ◌%◌, ◌<◌, ◌≤◌, Bool, true, false, not, cond, nat_lt, List, [], ◌∷◌, ◌++◌, length, slice_index, refl}
+use Rattle.std.proofs.Common.{sym, ◌∙◌, subst, arith, Option, Some, None, IfSome, All, codes, map}
 use Rattle.std.specs.List.{list_all, AllByRecursion}
 use Rattle.std.specs.Char.{is_ascii_digit}
 use Rattle.std.specs.Str.{all_ascii_digits}
@@ -29,7 +30,8 @@ use Rattle.trace_model.specs.declared.entry.NoCause.{NoCause}
 use Rattle.trace_model.specs.declared.entry.NoCause.TheVariants as cause
 use Rattle.trace_model.specs.declared.entry.Entry.{Entry}
 use Rattle.trace_model.specs.declared.entry.Entry.TheVariants as entry
-use Rattle.schedule_text.specs.Entries.{byte_text, two_bytes_text, end_text, number_words, line_words, down_word, lost_word, cause_words, command_words, entry_words}
+use Rattle.schedule_text.specs.Entries.{byte_text, two_bytes_text, end_text, number_words, line_words, down_word, lost_word, cause_words, command_words}
+use Rattle.schedule_text.specs.Entries.{entry_words}
 use Rattle.schedule_text.proofs.AgainLemmas.{IsWord, hex_word, end_word, number_word, by_size, own}
 use Rattle.text_laws.specs.Ranges.{AreOctets, IsNumber, IsLineSaid, IsCause, IsEntry}
 use Rattle.text_laws.proofs.RowLemmas.{pipe_words, static_words, value_words, sync_words, rows_words}

@@ -10,7 +10,8 @@ use Rattle.trace_model.specs.Lines.{IsHeader}
 use Rattle.schedule_text.specs.Entries.{byte_text, header_words, line_words, entry_words}
 use Rattle.swp_base.specs.Bits.{IsByte}
 use Rattle.text_laws.specs.Ranges.{IsEntry}
-use Rattle.text_laws.proofs.SameLemmas.{head, other_word, other_words, same_end, same_byte, same_bytes, same_number, same_lost, same_map, same_down, same_cause, behind, behind_two, same_command, same_said}
+use Rattle.text_laws.proofs.SameLemmas.{head, other_word, other_words, same_end, same_byte, same_bytes, same_number, same_lost, same_map, same_down, same_cause}
+use Rattle.text_laws.proofs.SameLemmas.{behind, behind_two, same_command, same_said}
 use Rattle.text_laws.proofs.RowLemmas.{rows_words, same_counts, same_tables}
 
 hosts_are_bytes : (header : Header) → IsHeader header → All IsByte header.hosts.items

@@ -1,5 +1,6 @@
 -- The frames of an SHDLC end are in their ranges, whatever comes to it.
-use Rattle.std.proofs.Common.{◌≡◌, ℕ, zero, suc, ◌%◌, ◌≤◌, ◌<◌, Bool, true, false, cond, nat_lt, List, [], ◌∷◌, length, slice_get, refl, sym, subst, arith, Option, Some, None}
+use Rattle.std.proofs.Common.{◌≡◌, ℕ, zero, suc, ◌%◌, ◌≤◌, ◌<◌, Bool, true, false, cond, nat_lt, List, [], ◌∷◌, length, slice_get, refl, sym, subst, arith}
+use Rattle.std.proofs.Common.{Option, Some, None}
 use Rattle.std.specs.Prelude.{◌==◌}
 use Rattle.std.specs.List.{AllByRecursion}
 use Rattle.std.proofs.lemmas.Grind.{common_steps}
@@ -11,7 +12,8 @@ use Rattle.shdlc_core.specs.declared.answers.LinkState.{LinkState}
 use Rattle.shdlc_core.specs.declared.answers.LinkState.TheVariants.{Down, Waiting, Up}
 use Rattle.shdlc_core.specs.declared.answers.Due.{Due}
 use Rattle.shdlc_core.specs.declared.answers.Due.TheVariants.{Rr as Rr_due, Rej as Rej_due, Rnr as Rnr_due, Rset as Rset_due, Ua as Ua_due}
-use Rattle.shdlc_core.specs.Machine.{Timed, timed, runs_timer, EndState, Fragment, Session, place_of, received, acknowledged, taken, ticked, tick_answer, reset_with, stopped, with_ready, put_out, frame_due, fragment_due, control_due, expected, fetched, frames_of, after_frames}
+use Rattle.shdlc_core.specs.Machine.{Timed, timed, runs_timer, EndState, Fragment, Session, place_of, received, acknowledged, taken, ticked, tick_answer}
+use Rattle.shdlc_core.specs.Machine.{reset_with, stopped, with_ready, put_out, frame_due, fragment_due, control_due, expected, fetched, frames_of, after_frames}
 use Rattle.shdlc_core.specs.Machine.Timed.{Runs, Over, Spent}
 use Rattle.shdlc_core.proofs.Histories.{in_phase, received-sending}
 use Rattle.swp_base.specs.Bits.{IsByte}

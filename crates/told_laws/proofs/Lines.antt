@@ -1,5 +1,6 @@
 -- What is told of a line of a schedule is in its range, but for the messages that came.
-use Rattle.std.proofs.Common.{◌≡◌, ℕ, zero, suc, ◌+◌, ◌*◌, ◌^◌, ◌/◌, ◌≤◌, ◌<◌, Bool, true, false, cond, nat_lt, List, [], ◌∷◌, ◌++◌, length, replicate, refl, sym, subst, arith, Option, Some, None, All, length-append}
+use Rattle.std.proofs.Common.{◌≡◌, ℕ, zero, suc, ◌+◌, ◌*◌, ◌^◌, ◌/◌, ◌≤◌, ◌<◌, Bool, true, false, cond, nat_lt, List, [], ◌∷◌, ◌++◌, length, replicate, refl}
+use Rattle.std.proofs.Common.{sym, subst, arith, Option, Some, None, All, length-append}
 use Rattle.std.specs.Prelude.{unwrap_or, ◌==◌, ◌%◌}
 use Rattle.std.specs.List.{AllByRecursion, flat_map}
 use Rattle.std.proofs.lemmas.Bool.{ltb-false}
@@ -37,7 +38,8 @@ use Rattle.history.specs.Histories.Outcome.{Refused as LineRefused, Caused}
 use Rattle.history.specs.Damage.{Verdict}
 use Rattle.history.specs.Damage.Verdict.{Same, LostFor, Undetected}
 use Rattle.history.specs.Steps.{end_of, entry_of, entries_for, event_of, events_at, link_after, link_after_all}
-use Rattle.history.specs.Follows.{refusal, as_noted, if_empty, if_beyond, if_out_of_reach, machine_of, frames_to, taken_of, first_verdict, damage_causes, causes_in, outcome_of, host_of, link_after_line, StepsFollow}
+use Rattle.history.specs.Follows.{refusal, as_noted, if_empty, if_beyond, if_out_of_reach, machine_of, frames_to, taken_of, first_verdict, damage_causes}
+use Rattle.history.specs.Follows.{causes_in, outcome_of, host_of, link_after_line, StepsFollow}
 use Rattle.text_laws.specs.Ranges.{IsEnd, AreOctets, IsNumber, IsCause, IsEntry}
 use Rattle.text_laws.proofs.ReadLemmas.{said_in}
 use Rattle.told_laws.specs.Told.{step_told}

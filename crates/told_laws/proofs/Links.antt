@@ -1,5 +1,6 @@
 -- The ends of a bare link, and what is on its wires, are in their ranges.
-use Rattle.std.proofs.Common.{◌≡◌, ℕ, zero, suc, ◌+◌, ◌≤◌, ◌<◌, Bool, true, false, cond, nat_lt, List, [], ◌∷◌, ◌++◌, length, take, drop, map, refl, sym, ap, subst, arith, max, Option, Some, None, length-append}
+use Rattle.std.proofs.Common.{◌≡◌, ℕ, zero, suc, ◌+◌, ◌≤◌, ◌<◌, Bool, true, false, cond, nat_lt, List, [], ◌∷◌, ◌++◌, length, take, drop, map, refl, sym, ap}
+use Rattle.std.proofs.Common.{subst, arith, max, Option, Some, None, length-append}
 use Rattle.std.specs.Prelude.{is_some, if◌then◌else◌, ◌==◌, not}
 use Rattle.std.specs.List.{AllByRecursion}
 use Rattle.std.proofs.lemmas.Bool.{ltb-true, ltb-false}
@@ -12,13 +13,16 @@ use Rattle.shdlc_core.specs.Machine.{EndState, taken, take_answer, ticked, tick_
 use Rattle.hcp_packet.specs.Packets.{packets_of, parts_of, packet_count, packet_bytes}
 use Rattle.trace_model.specs.declared.line.End.{End}
 use Rattle.session_laws.specs.Sessions.{OnWire, is_rset, fits, aged_wire, took_with}
-use Rattle.link_machine.specs.Machine.{LinkEnd, LinkInput, Refused, Message, after_input, turn, moved, put_down, activated, heard, took, is_open, is_faulty, news, if_up, reset_by, reset_refusal, ended_by, window_of, give_refusal, given, unless, among, frames_out, sent_all, had_tick, in_front}
+use Rattle.link_machine.specs.Machine.{LinkEnd, LinkInput, Refused, Message, after_input, turn, moved, put_down, activated, heard, took, is_open, is_faulty}
+use Rattle.link_machine.specs.Machine.{news, if_up, reset_by, reset_refusal, ended_by, window_of, give_refusal, given, unless, among, frames_out, sent_all}
+use Rattle.link_machine.specs.Machine.{had_tick, in_front}
 use Rattle.link_machine.specs.Machine.Role.{Bare}
 use Rattle.link_machine.specs.Machine.LinkInput.{Take, Tick, Reset}
 use Rattle.link_machine.specs.Machine.Turn.{Give, Hold, FetchMessage}
 use Rattle.swp_base.specs.declared.link_terms.Cause.TheVariants.{Asked}
 use Rattle.swp_act.specs.declared.ActEvent.TheVariants.{Tick as ActTick}
-use Rattle.message_link.specs.Links.{NumberedEnd, Link, EndEvent, Loss, put, put_all, becomes, with_ended, has_input, happens_at_controller, ticks_at_controller, aged, exchanged, happens}
+use Rattle.message_link.specs.Links.{NumberedEnd, Link, EndEvent, Loss, put, put_all, becomes, with_ended, has_input, happens_at_controller}
+use Rattle.message_link.specs.Links.{ticks_at_controller, aged, exchanged, happens}
 use Rattle.message_link.specs.Links.Ending.{GoesOut}
 use Rattle.message_link.specs.Links.Comes.{NextFrame, AsksReset, NoInput}
 use Rattle.message_link.specs.Links.EndEvent.{Step, Lose}
@@ -26,7 +30,8 @@ use Rattle.history.specs.Histories.{Cause}
 use Rattle.history.specs.Histories.Cause.{Given, Taken, WasLost, Ticked, WasReset, Readied}
 use Rattle.history.specs.Steps.{at, bare_link, link_after}
 use Rattle.swp_base.specs.Bits.{IsByte}
-use Rattle.told_laws.proofs.Ends.{IsFragment, IsFrame, Ranged, ranged_taken, ranged_ticked, ranged_reset, ranged_stopped, ranged_ready, ranged_out, ranged_after, frames_in, frames_few}
+use Rattle.told_laws.proofs.Ends.{IsFragment, IsFrame, Ranged, ranged_taken, ranged_ticked, ranged_reset, ranged_stopped, ranged_ready, ranged_out}
+use Rattle.told_laws.proofs.Ends.{ranged_after, frames_in, frames_few}
 
 -- ## Messages
 

@@ -7,7 +7,8 @@ use Rattle.swp_base.specs.declared.control_frames.Control.{Control}
 use Rattle.shdlc_core.specs.Machine.{tick_answer}
 use Rattle.trace_model.specs.declared.line.End.{End as NamedEnd}
 use Rattle.session_laws.specs.Sessions.{OnWire, took_with}
-use Rattle.link_machine.specs.Machine.{LinkEnd, Refused, LinkInput, Report, report, whole_acked, turn, give_refusal, after_input, ended_by, frames_out, gave_up_by, act_answer, Message}
+use Rattle.link_machine.specs.Machine.{LinkEnd, Refused, LinkInput, Report, report, whole_acked, turn, give_refusal, after_input, ended_by, frames_out}
+use Rattle.link_machine.specs.Machine.{gave_up_by, act_answer, Message}
 use Rattle.link_machine.specs.Machine.LinkInput.{Take, Tick as HasTick, Reset}
 use Rattle.link_machine.specs.Machine.Turn.{Give, Hold, FetchMessage}
 use Rattle.link_machine.proofs.Sound.{whole_few}
@@ -17,7 +18,8 @@ use Rattle.message_link.specs.Links.Ending.{GoesOut}
 use Rattle.message_link.specs.Links.Comes.{NextFrame, AsksReset, NoInput}
 use Rattle.message_link.specs.Links.EndEvent.{Lose}
 use Rattle.message_link.specs.Links.Loss.{TooMany}
-use Rattle.link_entries.specs.Entries.{End, Entry, far, if_so, told, told_of, turn_entry, turn_entries, sent_unless, first_lost, wire_with, put_entries, puts_entries, rest_entries, taken_entries, step_entries, here_entries, aged_entries, tick_entries, event_entries}
+use Rattle.link_entries.specs.Entries.{End, Entry, far, if_so, told, told_of, turn_entry, turn_entries, sent_unless, first_lost, wire_with, put_entries}
+use Rattle.link_entries.specs.Entries.{puts_entries, rest_entries, taken_entries, step_entries, here_entries, aged_entries, tick_entries, event_entries}
 use Rattle.link_entries.specs.Entries.End.{Controller, Host}
 use Rattle.link_entries.specs.Entries.Entry.{Up, Down, Active, GaveUp, Acked, Got, Sent, Emit, Took, Lost, Tick, Restarted, Cut}
 use Rattle.history.specs.Histories.{Cause}
@@ -25,7 +27,9 @@ use Rattle.history.specs.Histories.Cause.{Given, Taken, WasLost, Ticked, WasRese
 use Rattle.history.specs.Steps.{at, idle, event_of}
 use Rattle.told_laws.proofs.Ends.{IsFrame, IfTries, few_tries}
 use Rattle.registry.proofs.ValueLemmas.{AllByRecursion-append as each-append}
-use Rattle.told_laws.proofs.Links.{IsTellable, EndIs, FrameIs, WireIs, LinkIs, CanTell, IsLowWindow, opens, end_took, end_ticked, end_reset, end_given, end_held, end_fetched, link_more, link_swapped, link_aged, link_ended, link_left, left_with, link_put, link_ticked, put_frame, put_frame_is, pushed_is, took_low, out_is}
+use Rattle.told_laws.proofs.Links.{IsTellable, EndIs, FrameIs, WireIs, LinkIs, CanTell, IsLowWindow, opens, end_took, end_ticked, end_reset, end_given}
+use Rattle.told_laws.proofs.Links.{end_held, end_fetched, link_more, link_swapped, link_aged, link_ended, link_left, left_with, link_put, link_ticked}
+use Rattle.told_laws.proofs.Links.{put_frame, put_frame_is, pushed_is, took_low, out_is}
 
 -- no number in it is above n
 abbrev pub IsNoted : ℕ → Entry → Type 0

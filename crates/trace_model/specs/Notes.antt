@@ -1,7 +1,8 @@
 -- Entries that are noted with the bytes of their message beside them.
 use Rattle.std.specs.Prelude.{◌≡◌, ℕ, List, []}
 use Rattle.trace_model.specs.declared.entry.Entry.{Entry}
-use Rattle.trace_model.specs.declared.entry.Entry.TheVariants.{Head, Echo, Up, Down, Active, GaveUp, Sent, Got, Acked, Emit, Took, Lost, Turn, Held, Ask, Dropped, Command, AnyOk, InitSame, InitMade, InitFailed, Cut, Booted, Tables, No}
+use Rattle.trace_model.specs.declared.entry.Entry.TheVariants.{Head, Echo, Up, Down, Active, GaveUp, Sent, Got, Acked, Emit, Took, Lost, Turn, Held, Ask}
+use Rattle.trace_model.specs.declared.entry.Entry.TheVariants.{Dropped, Command, AnyOk, InitSame, InitMade, InitFailed, Cut, Booted, Tables, No}
 
 -- an entry that is handed without the bytes of its message; where its form has no message, there are no bytes beside it
 abbrev pub IsNote : Entry → List ℕ → Type 0

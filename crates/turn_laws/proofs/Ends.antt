@@ -4,7 +4,8 @@ use Rattle.std.specs.Prelude.{drop, is_some, not, ◌&&◌}
 use Rattle.swp_act.specs.declared.ActEvent.TheVariants.{Start as ActStart, Tick as ActTick, Stop as ActStop}
 use Rattle.shdlc_core.specs.Machine.{is_waiting, ticked, tick_answer, stopped}
 use Rattle.session_laws.specs.Sessions.{OnWire}
-use Rattle.link_machine.specs.Machine.{Message, LinkEnd, Refused, LinkInput, Turn, is_open, moved, started, deactivated, had_tick, give_refusal, aside_refusal, turn, turned, after_input, ended_by, got_by}
+use Rattle.link_machine.specs.Machine.{Message, LinkEnd, Refused, LinkInput, Turn, is_open, moved, started, deactivated, had_tick, give_refusal, aside_refusal}
+use Rattle.link_machine.specs.Machine.{turn, turned, after_input, ended_by, got_by}
 use Rattle.link_machine.specs.Machine.LinkInput.{Take, TakeUnknown, TakeBroken, Tick, Reset, Start, Stop, FromNode, Fetch}
 use Rattle.link_machine.specs.Machine.Turn.{Give, Hold, FetchMessage, SetAside, Release}
 use Rattle.message_link.specs.Links.{Link, Ending, Comes, with_ended, finished, silent, has_input, steps_at_controller, ticks_at_controller}

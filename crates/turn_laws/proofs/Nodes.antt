@@ -22,7 +22,9 @@ use Rattle.node_machine.specs.Parts.{Desk, Running, Port, Work, Deed}
 use Rattle.node_machine.specs.Carrying.{own_side, port_at}
 use Rattle.node_machine.specs.Node.{NodeInput, steps, begins_with}
 use Rattle.node_machine.specs.Node.NodeInput.{AtEnd, TimePasses}
-use Rattle.node_world.specs.World.{Site, NodeWorld, site_at, link_to, turns_at, ending_of, runs_on, input_of, near_end_in, arrival, wires_for, frames_noted, comes_to, controller_work, link_after_controller, after_controller, host_work, after_host, port_for, work_of, is_late_at, ticked_so, end_c, end_h}
+use Rattle.node_world.specs.World.{Site, NodeWorld, site_at, link_to, turns_at, ending_of, runs_on, input_of, near_end_in, arrival, wires_for, frames_noted}
+use Rattle.node_world.specs.World.{comes_to, controller_work, link_after_controller, after_controller, host_work, after_host, port_for, work_of, is_late_at}
+use Rattle.node_world.specs.World.{ticked_so, end_c, end_h}
 use Rattle.kept_laws.specs.Books.{hosts_of_ends}
 use Rattle.kept_laws.specs.Hosts.{AreDifferent}
 use Rattle.node_links.specs.Notices.{IsOutside}
@@ -38,7 +40,8 @@ use Rattle.node_readings.proofs.Sites.{near_end_side, comes_outside}
 use Rattle.turn_laws.proofs.Queues.{goes-append, AreStill, still_goes}
 use Rattle.turn_laws.proofs.Ends.{left_by, ended_with, tick_got, step_got, ticks_got, late_got}
 use Rattle.turn_laws.proofs.Coming.{input_on, Fresh, steps_stand, begins_stand}
-use Rattle.turn_laws.proofs.Works.{arrival_still, frames_still, NearWaits, FarWaits, ByPower, Moves, AllMove, Leaves, leaves-append, still_leaves, flat_leaves, sites_is, SiteGoes, NodeDoes, Leaving, own_left, away, ends_so}
+use Rattle.turn_laws.proofs.Works.{arrival_still, frames_still, NearWaits, FarWaits, ByPower, Moves, AllMove, Leaves, leaves-append, still_leaves, flat_leaves}
+use Rattle.turn_laws.proofs.Works.{sites_is, SiteGoes, NodeDoes, Leaving, own_left, away, ends_so}
 
 -- ## Works
 

@@ -14,7 +14,8 @@ use Rattle.link_entries.specs.Entries.End.{Controller, Host}
 use Rattle.history.specs.Filters.{same_end}
 use Rattle.history.specs.Steps.{end_of, entries_for}
 use Rattle.node_machine.specs.Parts.{Desk, Core, Port, Work, Deed}
-use Rattle.node_machine.specs.Carrying.{own_side, end_of_node, noting, unless_cut, port_at, changed_if, with_desk, after_turn, noted_of, turn_at, loses_power, needs, lack, all_done}
+use Rattle.node_machine.specs.Carrying.{own_side, end_of_node, noting, unless_cut, port_at, changed_if, with_desk, after_turn, noted_of, turn_at, loses_power}
+use Rattle.node_machine.specs.Carrying.{needs, lack, all_done}
 use Rattle.node_machine.specs.Turns.{deeds_of, handles, holds_back, have_turns}
 use Rattle.node_machine.specs.Node.{answers_and_passes}
 use Rattle.node_telling.proofs.Mute.{AreMute, deeds_mute}

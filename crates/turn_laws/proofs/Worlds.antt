@@ -25,7 +25,11 @@ use Rattle.history.specs.Follows.{seen_from}
 use Rattle.node_machine.specs.Parts.{Running, Work, Deed}
 use Rattle.node_machine.specs.Node.{steps, begins_with, found, boot_writes}
 use Rattle.node_machine.specs.Node.NodeInput.{AtEnd, TimePasses}
-use Rattle.node_world.specs.World.{Site, NodeWorld, Happening, node_at, site_at, with_site, link_to, input_of, runs_on, turns_at, ending_of, is_late_at, ticked_so, work_of, frames_noted, wires_for, controller_work, after_controller, controller_does, host_work, after_host, host_does, controller_cut, host_cut, loses_power_at, memory_at, with_memory, with_node, links_of, boots, counts, frame_lost, all_aged, controller_ticks, host_ticks, hosts_tick, world_ticks, sending, beginning, comes_at, activates, end_c, end_h, world_step}
+use Rattle.node_world.specs.World.{Site, NodeWorld, Happening, node_at, site_at, with_site, link_to, input_of, runs_on, turns_at, ending_of, is_late_at}
+use Rattle.node_world.specs.World.{ticked_so, work_of, frames_noted, wires_for, controller_work, after_controller, controller_does, host_work, after_host}
+use Rattle.node_world.specs.World.{host_does, controller_cut, host_cut, loses_power_at, memory_at, with_memory, with_node, links_of, boots, counts, frame_lost}
+use Rattle.node_world.specs.World.{all_aged, controller_ticks, host_ticks, hosts_tick, world_ticks, sending, beginning, comes_at, activates, end_c, end_h}
+use Rattle.node_world.specs.World.{world_step}
 use Rattle.node_world.specs.World.Happening.{Boots, IsCut, Gives, Inits, Takes, Loses, Ticks, Resets, Activates, Arms}
 use Rattle.node_world.specs.NodeLegal.{node_number}
 use Rattle.kept_laws.proofs.Sites.{with_site_twice}
@@ -42,7 +46,8 @@ use Rattle.turn_laws.proofs.Queues.Doing.{Clears, Nothing}
 use Rattle.turn_laws.proofs.Queues.{Becomes, Goes, goes-append, doing}
 use Rattle.turn_laws.proofs.Ends.{ticks_got}
 use Rattle.turn_laws.proofs.Coming.{notes_still}
-use Rattle.turn_laws.proofs.Works.{lost_none, aged_none, ByPower, NearWaits, FarWaits, Waits, end_at, Moves, AllMove, move_then, Leaves, leaves-append, still_leaves, flat_leaves, sites_is, OwnMoves, SiteGoes, off_near, at_site}
+use Rattle.turn_laws.proofs.Works.{lost_none, aged_none, ByPower, NearWaits, FarWaits, Waits, end_at, Moves, AllMove, move_then, Leaves, leaves-append}
+use Rattle.turn_laws.proofs.Works.{still_leaves, flat_leaves, sites_is, OwnMoves, SiteGoes, off_near, at_site}
 use Rattle.turn_laws.proofs.Nodes.{host_steps, host_begins, host_ticked, controller_steps, controller_ticked}
 
 -- ## Worlds that stay

@@ -13,7 +13,8 @@ use Rattle.node_machine.specs.Parts.Deed.{Sends, Orders}
 use Rattle.node_machine.specs.Controller.{is_command_message}
 use Rattle.node_machine.specs.Carrying.{noting, unless_cut, all_done}
 use Rattle.node_machine.specs.Turns.{passes}
-use Rattle.node_machine.specs.Node.{NodeInput, input_at, has_come, told_at, all_come, reset_late, told_late, times_out, forgotten, forgets, all_owed, without_notice, after_sessions, synced, answers_and_passes, steps, begins_with}
+use Rattle.node_machine.specs.Node.{NodeInput, input_at, has_come, told_at, all_come, reset_late, told_late, times_out, forgotten, forgets, all_owed}
+use Rattle.node_machine.specs.Node.{without_notice, after_sessions, synced, answers_and_passes, steps, begins_with}
 use Rattle.node_machine.specs.Node.NodeInput.{AtEnd, TimePasses}
 use Rattle.node_world.specs.World.{runs_on, sending, beginning}
 use Rattle.node_links.specs.Notices.{IsComing, IsOutside}

@@ -24,7 +24,8 @@ use Rattle.history.specs.Steps.{end_of}
 use Rattle.node_machine.specs.Parts.{About, Desk, Core, Port, Work, Deed}
 use Rattle.node_machine.specs.Parts.About.{Waits, Removed}
 use Rattle.node_machine.specs.Parts.Deed.{Commits, Sends, SaysOk, Asks, Releases, Tells, IsAnswered, Drops, SetsErrors, Orders, Hears, GoesOn, Ends}
-use Rattle.node_machine.specs.Carrying.{own_side, noting, unless_cut, port_at, changed_if, with_port, with_desk, after_turn, noted_of, turn_at, notified, loses_power, keeps, commit, done, all_done, end_of_node}
+use Rattle.node_machine.specs.Carrying.{own_side, noting, unless_cut, port_at, changed_if, with_port, with_desk, after_turn, noted_of, turn_at, notified}
+use Rattle.node_machine.specs.Carrying.{loses_power, keeps, commit, done, all_done, end_of_node}
 use Rattle.node_machine.specs.Turns.{holds_back, lets_go}
 use Rattle.node_world.specs.World.{node_of}
 use Rattle.node_world.specs.NodeFilters.{Book, with_command}

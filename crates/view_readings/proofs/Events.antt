@@ -20,7 +20,9 @@ use Rattle.history.specs.Steps.{entries_for}
 use Rattle.node_machine.specs.Parts.{Desk, Running, Work}
 use Rattle.node_machine.specs.Node.{steps, found, boot_writes, new_desk}
 use Rattle.node_machine.specs.Node.NodeInput.{TimePasses}
-use Rattle.node_world.specs.World.{NodeWorld, Site, site_at, with_site, node_of, link_to, ending_of, runs_on, turns_at, work_of, frames_noted, controller_cut, host_cut, loses_power_at, memory_at, with_memory, with_node, links_of, boots, is_late_at, ticked_so, all_aged, controller_ticks, host_ticks, hosts_tick, world_ticks}
+use Rattle.node_world.specs.World.{NodeWorld, Site, site_at, with_site, node_of, link_to, ending_of, runs_on, turns_at, work_of, frames_noted, controller_cut}
+use Rattle.node_world.specs.World.{host_cut, loses_power_at, memory_at, with_memory, with_node, links_of, boots, is_late_at, ticked_so, all_aged}
+use Rattle.node_world.specs.World.{controller_ticks, host_ticks, hosts_tick, world_ticks}
 use Rattle.node_world.specs.NodeFilters.{Book}
 use Rattle.node_telling.specs.Telling.{HasEnds, IfItRuns, hosts_in, IsOrderly}
 use Rattle.node_telling.proofs.WorldTicks.{tick_host}
@@ -28,7 +30,9 @@ use Rattle.view_readings.specs.Errors.{ErrorCount}
 use Rattle.view_readings.proofs.Noting.{all_flat}
 use Rattle.view_readings.proofs.Leaving.{reads, reads_append, Leaves, IsStill, still_all, still_leaves}
 use Rattle.view_readings.proofs.Nodes.{IfKeeps, keeps_sets, leaves_kept, own_steps, others_step, frames_still, aged_still}
-use Rattle.view_readings.proofs.Worlds.{far_node, AreFine, orderly_fine, map_fine, node_map, with_kept, with_other, with_own, with_none, host_link, own_node, near_node, host_node, Kept, Known, After, left, near_single, near_zero, near_other, far_other, own_ends, no_near, host_side}
+use Rattle.view_readings.proofs.Worlds.{far_node, AreFine, orderly_fine, map_fine, node_map, with_kept, with_other, with_own, with_none, host_link, own_node}
+use Rattle.view_readings.proofs.Worlds.{near_node, host_node, Kept, Known, After, left, near_single, near_zero, near_other, far_other, own_ends, no_near}
+use Rattle.view_readings.proofs.Worlds.{host_side}
 use Rattle.registry.proofs.ValueLemmas.{AllByRecursion-append}
 use Rattle.kept_laws.proofs.Sites.{hosts_same}
 

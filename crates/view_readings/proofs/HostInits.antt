@@ -24,7 +24,8 @@ use Rattle.node_machine.specs.Controller.{is_command_message}
 use Rattle.node_machine.specs.Carrying.{port_at}
 use Rattle.node_machine.specs.Node.{input_at, has_come, steps, begins_with, found, new_desk}
 use Rattle.node_machine.specs.Node.NodeInput.{AtEnd, TimePasses}
-use Rattle.node_world.specs.World.{Site, ending_of, runs_on, turns_at, input_of, near_end_in, arrival, wires_for, port_for, work_of, frames_noted, host_work, after_host, host_cut, host_ticks, sending, beginning}
+use Rattle.node_world.specs.World.{Site, ending_of, runs_on, turns_at, input_of, near_end_in, arrival, wires_for, port_for, work_of, frames_noted, host_work}
+use Rattle.node_world.specs.World.{after_host, host_cut, host_ticks, sending, beginning}
 use Rattle.node_readings.specs.Worlds.{host_does_so, init_of}
 use Rattle.node_readings.proofs.Sites.{ending_quiet, arrival_quiet, sent_phase, stepped_phase, comes_outside, near_end_side}
 use Rattle.view_readings.specs.Inits.{init_kept, RunsInit, IfRunsInit, SiteKeepsInit}

@@ -23,7 +23,9 @@ use Rattle.node_machine.specs.Parts.{Init, Desk, Running, Work}
 use Rattle.node_machine.specs.Carrying.{changed_if}
 use Rattle.node_machine.specs.Node.{steps, found, boot_writes, with_error}
 use Rattle.node_machine.specs.Node.NodeInput.{TimePasses}
-use Rattle.node_world.specs.World.{NodeWorld, Site, Happening, site_at, with_site, node_at, link_to, ending_of, runs_on, turns_at, work_of, frames_noted, controller_cut, host_cut, loses_power_at, memory_at, with_memory, with_node, links_of, boots, counts, frame_lost, is_late_at, ticked_so, all_aged, controller_ticks, host_ticks, hosts_tick, world_ticks, world_step}
+use Rattle.node_world.specs.World.{NodeWorld, Site, Happening, site_at, with_site, node_at, link_to, ending_of, runs_on, turns_at, work_of, frames_noted}
+use Rattle.node_world.specs.World.{controller_cut, host_cut, loses_power_at, memory_at, with_memory, with_node, links_of, boots, counts, frame_lost, is_late_at}
+use Rattle.node_world.specs.World.{ticked_so, all_aged, controller_ticks, host_ticks, hosts_tick, world_ticks, world_step}
 use Rattle.node_world.specs.World.Happening.{Boots, IsCut, Gives, Inits, Takes, Loses, Ticks, Resets, Activates, Arms}
 use Rattle.node_telling.specs.Telling.{IfItRuns, hosts_in, IsOrderly}
 use Rattle.node_links.proofs.Ends.{here_host}
@@ -38,7 +40,8 @@ use Rattle.view_readings.proofs.Answering.{reads_init, init_append}
 use Rattle.view_readings.proofs.Elsewhere.{quiet_leaves, others_step}
 use Rattle.view_readings.proofs.HostInits.{ticks_keep, cut_keeps, boot_keeps}
 use Rattle.view_readings.proofs.Worlds.{far_node, with_kept, AreFine, orderly_fine, map_fine}
-use Rattle.view_readings.proofs.InitWorlds.{leaves_all, keep_same, AtSite, absent, present, MayInit, Keeps, Then, zero, zero_off, map_keeps, other_keeps, own_keeps, left, frames_leave, near_off, host_steps, comes_keep, activates_keep, gives_keep, inits_keep}
+use Rattle.view_readings.proofs.InitWorlds.{leaves_all, keep_same, AtSite, absent, present, MayInit, Keeps, Then, zero, zero_off, map_keeps, other_keeps}
+use Rattle.view_readings.proofs.InitWorlds.{own_keeps, left, frames_leave, near_off, host_steps, comes_keep, activates_keep, gives_keep, inits_keep}
 use Rattle.registry.proofs.ValueLemmas.{AllByRecursion-append}
 use Rattle.node_links.proofs.Worlds.{so_host}
 use Rattle.turn_laws.proofs.Works.{sites_is}

@@ -22,7 +22,9 @@ use Rattle.node_machine.specs.Controller.{is_command_message}
 use Rattle.node_machine.specs.Carrying.{changed_if, port_at}
 use Rattle.node_machine.specs.Node.{NodeInput, steps, begins_with}
 use Rattle.node_machine.specs.Node.NodeInput.{AtEnd}
-use Rattle.node_world.specs.World.{NodeWorld, Site, site_at, with_site, node_at, link_to, ending_of, turns_at, input_of, near_end_in, arrival, wires_for, work_of, frames_noted, comes_to, link_after_controller, after_controller, controller_does, host_work, after_host, host_does, sending, beginning, comes_at, activates, end_c, end_h}
+use Rattle.node_world.specs.World.{NodeWorld, Site, site_at, with_site, node_at, link_to, ending_of, turns_at, input_of, near_end_in, arrival, wires_for}
+use Rattle.node_world.specs.World.{work_of, frames_noted, comes_to, link_after_controller, after_controller, controller_does, host_work, after_host, host_does}
+use Rattle.node_world.specs.World.{sending, beginning, comes_at, activates, end_c, end_h}
 use Rattle.node_world.specs.World.Happening.{Inits}
 use Rattle.node_links.proofs.Ends.{here_host}
 use Rattle.node_telling.specs.Telling.{HasEnds, IfItRuns, hosts_in, IsOrderly}

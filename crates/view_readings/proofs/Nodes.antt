@@ -14,7 +14,8 @@ use Rattle.message_link.specs.Links.{NumberedEnd, Link, Ending, Comes, put}
 use Rattle.message_link.specs.Links.Comes.{NextFrame, AsksReset, Starts, Stops, NoInput}
 use Rattle.message_link.specs.Links.Ending.{GoesOut, CutOff}
 use Rattle.message_link.specs.Links.Loss.{TooOld, TooMany}
-use Rattle.link_entries.specs.Entries.{End as Side, Entry as Noted, far, first_lost, pushed_out, wire_with, put_entries, puts_entries, ending_entries, aged_entries}
+use Rattle.link_entries.specs.Entries.{End as Side, Entry as Noted, far, first_lost, pushed_out, wire_with, put_entries, puts_entries, ending_entries}
+use Rattle.link_entries.specs.Entries.{aged_entries}
 use Rattle.link_entries.specs.Entries.End.{Controller, Host}
 use Rattle.link_entries.specs.Entries.Entry.{Took, Lost}
 use Rattle.history.specs.Filters.{same_end}
@@ -29,7 +30,8 @@ use Rattle.node_telling.proofs.Mute.{IsPlain, IsMute, AreMute, deeds_mute}
 use Rattle.node_telling.proofs.Nodes.{hosts_same, ports_for}
 use Rattle.view_readings.specs.Errors.{ErrorCount}
 use Rattle.view_readings.proofs.Noting.{IsOwnNote, NotesSo, Notes, all_do as notes_do, steps_note}
-use Rattle.view_readings.proofs.Leaving.{reads, reads_append, Leaves, leaves_all, IsStill, still_all, still_leaves, IsUndamaged, note_still, notes_still, turn_leaves, beside_leaves, plainly}
+use Rattle.view_readings.proofs.Leaving.{reads, reads_append, Leaves, leaves_all, IsStill, still_all, still_leaves, IsUndamaged, note_still, notes_still}
+use Rattle.view_readings.proofs.Leaving.{turn_leaves, beside_leaves, plainly}
 use Rattle.view_readings.proofs.Setting.{AreUnset}
 use Rattle.view_readings.proofs.Doing.{side_of, HasErrors, Right, unset_fine, all_do}
 use Rattle.view_readings.proofs.Stepping.{all_undamaged, steps_right}

@@ -15,7 +15,9 @@ use Rattle.node_machine.specs.Parts.{Running, Work, Deed}
 use Rattle.node_machine.specs.Carrying.{changed_if}
 use Rattle.node_machine.specs.Node.{steps, begins_with}
 use Rattle.node_machine.specs.Node.NodeInput.{AtEnd}
-use Rattle.node_world.specs.World.{NodeWorld, Site, site_at, with_site, node_at, node_of, link_to, runs_on, input_of, near_end_in, arrival, wires_for, work_of, frames_noted, comes_to, controller_work, link_after_controller, after_controller, controller_does, host_work, after_host, host_does, comes_at, activates, end_c, end_h}
+use Rattle.node_world.specs.World.{NodeWorld, Site, site_at, with_site, node_at, node_of, link_to, runs_on, input_of, near_end_in, arrival, wires_for, work_of}
+use Rattle.node_world.specs.World.{frames_noted, comes_to, controller_work, link_after_controller, after_controller, controller_does, host_work, after_host}
+use Rattle.node_world.specs.World.{host_does, comes_at, activates, end_c, end_h}
 use Rattle.kept_laws.specs.Hosts.{AreDifferent}
 use Rattle.node_telling.specs.Telling.{HasEnds, IfItRuns, hosts_in, IsOrderly}
 use Rattle.node_telling.proofs.Mute.{AreMute}
@@ -24,7 +26,8 @@ use Rattle.view_readings.specs.Errors.{ErrorCount}
 use Rattle.view_readings.proofs.Noting.{all_flat}
 use Rattle.view_readings.proofs.Leaving.{reads, reads_append, Leaves, IsStill, still_leaves}
 use Rattle.view_readings.proofs.Setting.{AreUnset}
-use Rattle.view_readings.proofs.Nodes.{IfKeeps, KeepsErrors, leaves_kept, own_steps, own_begins, IsOther, others_step, others_begin, frames_still, arrival_still}
+use Rattle.view_readings.proofs.Nodes.{IfKeeps, KeepsErrors, leaves_kept, own_steps, own_begins, IsOther, others_step, others_begin, frames_still}
+use Rattle.view_readings.proofs.Nodes.{arrival_still}
 use Rattle.registry.proofs.ValueLemmas.{AllByRecursion-append}
 use Rattle.turn_laws.proofs.Works.{sites_is}
 use Rattle.node_telling.proofs.Worlds.{site_is}

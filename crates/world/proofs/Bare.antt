@@ -12,8 +12,11 @@ use Rattle.shdlc_core.specs.declared.answers.LinkState.{LinkState}
 use Rattle.shdlc_core.specs.declared.answers.LinkState.TheVariants.{Down, Waiting, Up}
 use Rattle.shdlc_core.specs.declared.answers.Due.{Due}
 use Rattle.shdlc_core.specs.declared.answers.Due.TheVariants.{Rr as Rr_due, Rej as Rej_due, Rnr as Rnr_due, Rset as Rset_due, Ua as Ua_due}
-use Rattle.shdlc_core.specs.Machine.{EndState, Fragment, taken, take_answer, ticked, tick_answer, place_of, acknowledged, ahead, received, runs_timer, reset_with, stopped, with_ready, fetched}
-use Rattle.link_machine.specs.Machine.{LinkEnd, LinkInput, Refused, Turn, Message, new_link_end, after_input, after_inputs, turn, moved, put_down, activated, heard, took, is_open, is_faulty, news, if_up, reset_by, reset_refusal, window_of, give_refusal, given, aside_refusal, unless, in_front, frame_fetched}
+use Rattle.shdlc_core.specs.Machine.{EndState, Fragment, taken, take_answer, ticked, tick_answer, place_of, acknowledged, ahead, received, runs_timer}
+use Rattle.shdlc_core.specs.Machine.{reset_with, stopped, with_ready, fetched}
+use Rattle.link_machine.specs.Machine.{LinkEnd, LinkInput, Refused, Turn, Message, new_link_end, after_input, after_inputs, turn, moved, put_down, activated}
+use Rattle.link_machine.specs.Machine.{heard, took, is_open, is_faulty, news, if_up, reset_by, reset_refusal, window_of, give_refusal, given, aside_refusal}
+use Rattle.link_machine.specs.Machine.{unless, in_front, frame_fetched}
 use Rattle.link_machine.specs.Machine.Role.{Bare}
 use Rattle.link_machine.specs.Machine.LinkInput.{Take, TakeUnknown, TakeBroken, Tick, Reset, Start, Stop, FromNode, Fetch}
 use Rattle.link_machine.specs.Machine.Turn.{Give, Hold, FetchMessage, SetAside, Release}

@@ -1,5 +1,6 @@
 -- The verdict on a damaged frame, bit by bit.
-use Rattle.std.proofs.Common.{◌≡◌, ℕ, zero, suc, ◌+◌, ◌≤◌, ◌<◌, Bool, true, false, not, eqb, List, [], ◌∷◌, length, get_or, set, drop, map, refl, ap, sym, ◌∙◌, arith}
+use Rattle.std.proofs.Common.{◌≡◌, ℕ, zero, suc, ◌+◌, ◌≤◌, ◌<◌, Bool, true, false, not, eqb, List, [], ◌∷◌, length, get_or, set, drop, map, refl, ap, sym, ◌∙◌}
+use Rattle.std.proofs.Common.{arith}
 use lib.Pointwise.{pointwise}
 use Rattle.std.proofs.lemmas.List.{drop_more}
 use Rattle.std.specs.Prelude.{Option, Some, None, filter, ◌&&◌, if◌then◌else◌}

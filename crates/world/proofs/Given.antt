@@ -1,5 +1,6 @@
 -- How many messages the ends of a link were given in their sessions: no cause but a message given adds one.
-use Rattle.std.proofs.Common.{◌≡◌, ℕ, zero, suc, ◌+◌, ◌≤◌, Bool, true, false, cond, List, [], ◌∷◌, ◌++◌, length, replicate, refl, ap, sym, subst, ◌∙◌, length-append, arith}
+use Rattle.std.proofs.Common.{◌≡◌, ℕ, zero, suc, ◌+◌, ◌≤◌, Bool, true, false, cond, List, [], ◌∷◌, ◌++◌, length, replicate, refl, ap, sym, subst, ◌∙◌}
+use Rattle.std.proofs.Common.{length-append, arith}
 use Rattle.std.specs.Prelude.{Option, Some, None, is_some, not, unwrap_or}
 use Rattle.swp_base.specs.declared.control_frames.Control.{Control}
 use Rattle.swp_base.specs.declared.control_frames.Control.TheVariants.{I, S, Rset, Ua, Act, Clt}
@@ -15,10 +16,13 @@ use Rattle.trace_model.specs.declared.line.Line.{Line}
 use Rattle.trace_model.specs.declared.line.Line.TheVariants as line
 use Rattle.trace_model.specs.declared.entry.NoCause.{NoCause}
 use Rattle.session_laws.specs.Sessions.{OnWire, is_rset, took_with}
-use Rattle.link_machine.specs.Machine.{LinkEnd, LinkInput, Refused, Message, after_input, turn, turned, moved, put_down, activated, with_act, act_answer, role_after, heard, took, is_open, is_faulty, news, if_up, reset_by, reset_refusal, ended_by, window_of, give_refusal, given, unless, frames_out}
+use Rattle.link_machine.specs.Machine.{LinkEnd, LinkInput, Refused, Message, after_input, turn, turned, moved, put_down, activated, with_act, act_answer}
+use Rattle.link_machine.specs.Machine.{role_after, heard, took, is_open, is_faulty, news, if_up, reset_by, reset_refusal, ended_by, window_of, give_refusal}
+use Rattle.link_machine.specs.Machine.{given, unless, frames_out}
 use Rattle.link_machine.specs.Machine.LinkInput.{Take, Tick, Reset}
 use Rattle.link_machine.specs.Machine.Turn.{Give, Hold, FetchMessage}
-use Rattle.message_link.specs.Links.{Link, EndEvent, put, put_all, becomes, with_ended, has_input, has_taken, happens_at_controller, ticks_at_controller, aged, exchanged, happens}
+use Rattle.message_link.specs.Links.{Link, EndEvent, put, put_all, becomes, with_ended, has_input, has_taken, happens_at_controller, ticks_at_controller, aged}
+use Rattle.message_link.specs.Links.{exchanged, happens}
 use Rattle.message_link.specs.Links.Ending.{GoesOut}
 use Rattle.message_link.specs.Links.Comes.{NextFrame, AsksReset, NoInput}
 use Rattle.message_link.specs.Links.EndEvent.{Step, Lose}

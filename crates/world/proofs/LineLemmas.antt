@@ -1,5 +1,6 @@
 -- What a line does on a link, seen from the end that it speaks of.
-use Rattle.std.proofs.Common.{◌≡◌, ℕ, zero, suc, ◌<◌, Bool, true, false, true≢false, eqb, List, [], ◌∷◌, ◌++◌, length, refl, sym, ap, subst, ◌∙◌, append-nil, arith}
+use Rattle.std.proofs.Common.{◌≡◌, ℕ, zero, suc, ◌<◌, Bool, true, false, true≢false, eqb, List, [], ◌∷◌, ◌++◌, length, refl, sym, ap, subst, ◌∙◌, append-nil}
+use Rattle.std.proofs.Common.{arith}
 use lib.Dec.{T, eqb→eq}
 use Rattle.std.specs.Prelude.{Option, Some, None, IfSome}
 use Rattle.circular_buffer.specs.Buffer.{Buffer}

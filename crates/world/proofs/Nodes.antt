@@ -23,7 +23,8 @@ use Rattle.swp_act.specs.declared.ActEvent.TheVariants.{Tick as ActTick}
 use Rattle.shdlc_core.specs.declared.answers.LinkState.{LinkState}
 use Rattle.shdlc_core.specs.declared.answers.LinkState.TheVariants.{Down, Waiting, Up}
 use Rattle.shdlc_core.specs.Machine.{fetched, ticked, tick_answer}
-use Rattle.link_machine.specs.Machine.{Message, ActDue, Refused, oldest, brought, lpdu_input, give_refusal, frame_fetched, whole_among, report, is_open, reset_refusal, reset_by, if_up, window_of}
+use Rattle.link_machine.specs.Machine.{Message, ActDue, Refused, oldest, brought, lpdu_input, give_refusal, frame_fetched, whole_among, report, is_open}
+use Rattle.link_machine.specs.Machine.{reset_refusal, reset_by, if_up, window_of}
 use Rattle.hcp_packet.specs.Packets.{IsSendable, packet_count}
 use Rattle.link_machine.proofs.Sound.{whole_given}
 use Rattle.link_machine.proofs.Reports.{Reports}

@@ -36,11 +36,13 @@ pub(crate) struct Node {
 }
 
 impl Node {
-    ghost use Rattle.std.specs.Prelude.{◌≡◌, ℕ, ◌<◌, ◌≤◌, ◌^◌, [], ◌∷◌, ◌++◌, OnOk, OnErr, IfOk, IfErr, IfSome, IsOk, ◌↔◌, List, None, Some, Ok, length, map, option_map};
+    ghost use Rattle.std.specs.Prelude.{◌≡◌, ℕ, ◌<◌, ◌≤◌, ◌^◌, [], ◌∷◌, ◌++◌, OnOk, OnErr, IfOk, IfErr, IfSome, IsOk, ◌↔◌, List, None, Some, Ok, length, map};
+    ghost use Rattle.std.specs.Prelude.{option_map};
     ghost use Rattle.swp_base.specs.declared.control_frames.Control.{Control as Frame};
     ghost use Rattle.swp_lpdu.specs.Controls.{lpdu_of, control_of};
     ghost use Rattle.hcp_packet.specs.Packets.{IsSendable};
-    ghost use Rattle.link_machine.specs.Machine.{LinkEnd as Machine, Bare, Message, report, new_link_end, after_input, next_frame, turn, give_refusal, reset_refusal, whole_acked};
+    ghost use Rattle.link_machine.specs.Machine.{LinkEnd as Machine, Bare, Message, report, new_link_end, after_input, next_frame, turn, give_refusal};
+    ghost use Rattle.link_machine.specs.Machine.{reset_refusal, whole_acked};
     ghost use Rattle.link_machine.specs.Machine.LinkInput.{Take, Tick, Reset, Fetch};
     ghost use Rattle.link_machine.specs.Machine.Turn.{Give, Hold, FetchMessage};
     ghost use Rattle.link_entries.specs.Entries.{told};
@@ -122,7 +124,8 @@ impl Node {
         requires read { (lpdu : List ℕ) × (read.now ≡ control_of lpdu) }
         ensures { (m : Machine) (c : Frame) → NodeStandsFor self.old m → HasFewDue m → read.now ≡ Ok c → length m.sent < 2 ^ 32
             → OnOk result (NodeStandsFor self.new (turn (after_input m (Take c)) FetchMessage)
-            × AreNoted place.at entries.old.items entries.new.items (told (side_of place.at) place.session (report m (Take c)) (whole_acked (after_input m (Take c))))) }
+            × AreNoted place.at entries.old.items entries.new.items
+            (told (side_of place.at) place.session (report m (Take c)) (whole_acked (after_input m (Take c))))) }
     {
         let report = self.end.take_read(&mut self.pool, read);
         self.note(place, &report, entries)?;
@@ -134,7 +137,8 @@ impl Node {
         requires { (m : Machine) × NodeStandsFor self.old m × HasFewDue m }
         ensures { (m : Machine) → NodeStandsFor self.old m → HasFewDue m → length m.sent < 2 ^ 32
             → OnOk result (NodeStandsFor self.new (after_input m Tick)
-            × AreNoted place.at entries.old.items entries.new.items (told (side_of place.at) place.session (report m Tick) (whole_acked (after_input m Tick)))) }
+            × AreNoted place.at entries.old.items entries.new.items
+            (told (side_of place.at) place.session (report m Tick) (whole_acked (after_input m Tick)))) }
     {
         let report = self.end.tick(&mut self.pool);
         self.note(place, &report, entries)
@@ -154,7 +158,8 @@ impl Node {
             → IfOk result (λ cause. IfSome cause (λ why. NodeStandsFor self.new m × (entries.new.items ≡ entries.old.items))) }
         ensures stands { (m : Machine) → NodeStandsFor self.old m → HasFewDue m → length m.sent < 2 ^ 32
             → IfOk result (λ cause. cause ≡ None → NodeStandsFor self.new (after_input m (Reset window))
-            × AreNoted place.at entries.old.items entries.new.items (told (side_of place.at) place.session (report m (Reset window)) (whole_acked (after_input m (Reset window))))) }
+            × AreNoted place.at entries.old.items entries.new.items
+            (told (side_of place.at) place.session (report m (Reset window)) (whole_acked (after_input m (Reset window))))) }
     {
         match self.end.reset(&mut self.pool, window) {
             Ok(report) => {

@@ -55,7 +55,8 @@ pub(crate) fn put_last(
     entries: &mut Vec<Entry>,
 ) -> Result<(), AllocError>
     ensures { (frames : List OnWire) (x : OnWire) → WireStandsFor wire.old frames → flying ≡ kept_of x → IsMade x
-        → OnOk result (WireStandsFor wire.new (fits (frames ++ x ∷ [])) × AreNoted to entries.old.items entries.new.items (pushed_out (side_of to) (frames ++ x ∷ []))) }
+        → OnOk result (WireStandsFor wire.new (fits (frames ++ x ∷ []))
+        × AreNoted to entries.old.items entries.new.items (pushed_out (side_of to) (frames ++ x ∷ []))) }
 {
     if let Some(lost) = wire.push_back(flying) {
         entries.push(Entry::Lost {

@@ -1,4 +1,5 @@
-use Rattle.std.proofs.Common.{◌≡◌, ◌≤◌, ◌<◌, ◌+◌, ◌-◌, ◌++◌, ◌∷◌, [], ◌∙◌, ℕ, List, sym, ap, ap₂, take, drop, get_or, length, arith, length-append, length-drop, take-add}
+use Rattle.std.proofs.Common.{◌≡◌, ◌≤◌, ◌<◌, ◌+◌, ◌-◌, ◌++◌, ◌∷◌, [], ◌∙◌, ℕ, List, sym, ap, ap₂, take, drop, get_or, length, arith, length-append, length-drop}
+use Rattle.std.proofs.Common.{take-add}
 use Rattle.std.proofs.lemmas.List.{take_rest, take_more, take_all, get_or-drop}
 use Rattle.swp_decode.specs.Texts.{hex_of}
 use Rattle.swp_decode.proofs.Hexadecimal.{hex_more, room_of, length-hex_of}

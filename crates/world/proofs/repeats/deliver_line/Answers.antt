@@ -7,7 +7,8 @@ use Rattle.history.specs.Steps.{link_after_all}
 use Rattle.history.specs.Follows.{seen_from, frames_to, taken_of}
 use Rattle.world.proofs.LineLemmas.{refused_does, none_there, some_there}
 use Rattle.world.proofs.Given.{sent_repeated}
-use Rattle.world.proofs.Repeating.{HasRepeated, happened_caused, repeats_more, repeats_does, few_here, few_short, kept_len, taken_few, room_for, grows_more, grows_in_all}
+use Rattle.world.proofs.Repeating.{HasRepeated, happened_caused, repeats_more, repeats_does, few_here, few_short, kept_len, taken_few, room_for, grows_more}
+use Rattle.world.proofs.Repeating.{grows_in_all}
 use Rattle.world.proofs.repeats.deliver_line.Goals as goal
 
 pub returns-then-is_empty-clause-stands : goal.returns-then-is_empty-clause-stands

@@ -1,4 +1,5 @@
-use Rattle.std.proofs.Common.{◌≡◌, ◌<◌, ◌++◌, [], ◌∷◌, Some, slice_get, List, ℕ, length, arith, refl, sym, ◌∙◌, ap, ap₂, subst, append-nil, append_assoc, length-take, take-append-drop}
+use Rattle.std.proofs.Common.{◌≡◌, ◌<◌, ◌++◌, [], ◌∷◌, Some, slice_get, List, ℕ, length, arith, refl, sym, ◌∙◌, ap, ap₂, subst, append-nil, append_assoc}
+use Rattle.std.proofs.Common.{length-take, take-append-drop}
 use Rattle.hex.specs.Hex.{encode_upper}
 use Rattle.schedule_text.specs.Growth.{HoldsText}
 use Rattle.schedule_text.proofs.GrowthLemmas.{encode-nil, encode-append, holds_two}

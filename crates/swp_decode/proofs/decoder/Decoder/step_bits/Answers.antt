@@ -1,4 +1,5 @@
-use Rattle.std.proofs.Common.{◌≡◌, ◌≤◌, ◌<◌, ◌∙◌, ◌+◌, ◌-◌, ◌%◌, ◌^◌, ◌++◌, ℕ, List, false, length, take, drop, get_or, Some, refl, sym, ap, ap₂, arith, append-nil, rules}
+use Rattle.std.proofs.Common.{◌≡◌, ◌≤◌, ◌<◌, ◌∙◌, ◌+◌, ◌-◌, ◌%◌, ◌^◌, ◌++◌, ℕ, List, false, length, take, drop, get_or, Some, refl, sym, ap, ap₂, arith}
+use Rattle.std.proofs.Common.{append-nil, rules}
 use Rattle.std.specs.Int.RustNames.{bit_or}
 use lib.Count.{count_leading_zeros}
 use Rattle.std.proofs.Math.Nat.{mod-eq_of_lt}
