@@ -10,7 +10,7 @@ use std::marker::Model;
 pub const BLOCK_BYTES: usize = 32;
 
 /// A chain of blocks, kept at its first block.
-#[derive(Clone, Copy, Debug)]
+#[derive(Clone, Copy)]
 struct Head {
     owner: u8,
     /// Its last block.

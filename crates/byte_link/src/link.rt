@@ -11,7 +11,7 @@ use swp_crc::crc;
 const MAX_COUNT: u16 = 30;
 
 /// Reads the units of a byte link, however they are cut into pieces.
-#[derive(Debug, Drop)]
+#[derive(Drop)]
 pub struct ByteLink {
     /// The bytes of the unit under way.
     unit: ArrayVec<u8, 34>,

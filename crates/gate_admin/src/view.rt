@@ -5,7 +5,7 @@ ghost use Rattle.gate_admin.specs.View.{has};
 use arrayvec::ArrayVec;
 
 /// What a controller knows of its links. In a mask bit h stands for host h.
-#[derive(Debug, Drop, PartialEq, Eq)]
+#[derive(Drop)]
 pub struct LinkView {
     /// The configured hosts.
     pub hosts: u8,

@@ -19,7 +19,7 @@ pub enum ChainFault {
 }
 
 /// What a packet gives.
-#[derive(Debug, PartialEq, Eq, Drop)]
+#[derive(Drop)]
 pub enum Joined {
     /// Its message isn't whole yet.
     More,
@@ -30,14 +30,14 @@ pub enum Joined {
 }
 
 /// What has come of the message on a pipe.
-#[derive(Debug, Default, PartialEq, Eq, Drop)]
+#[derive(Default, Drop)]
 pub struct Open {
     pipe: u8,
     chain: Chain,
 }
 
 /// The messages that are partly received, at most four, each on a pipe of its own.
-#[derive(Debug, PartialEq, Eq, Drop)]
+#[derive(Drop)]
 pub struct Joiner {
     owner: u8,
     open: ArrayVec<Open, 4>,

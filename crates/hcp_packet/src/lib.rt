@@ -16,7 +16,7 @@ pub const MAX_DATA: usize = 28;
 pub const FIRST_RESERVED_PIPE: u8 = 0x70;
 
 /// A packet: a part of a message, with its header (ETSI TS 102 622, message fragmentation).
-#[derive(Clone, Debug, PartialEq, Eq, Drop)]
+#[derive(Debug, PartialEq, Eq, Drop)]
 pub struct Packet {
     /// Whether it is the last or only packet of its message.
     pub last: bool,

@@ -6,7 +6,7 @@ use swp_act::{ActEvent, ActOut, ClfAct, UiccAct};
 use swp_base::Role;
 
 /// What goes before the link: nothing at a bare end, else the activation of a CLF or of a UICC.
-#[derive(Debug, PartialEq, Eq, Drop)]
+#[derive(Drop)]
 pub enum Activation {
     Bare,
     Clf(ClfAct),

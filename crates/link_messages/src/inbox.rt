@@ -9,7 +9,7 @@ use hcp_packet::{read_header, read_packet};
 use swp_base::Info;
 
 /// A message that came whole, in its chain, with its pipe.
-#[derive(Debug, PartialEq, Eq, Drop)]
+#[derive(Drop)]
 pub struct Got {
     pipe: u8,
     chain: Chain,
@@ -17,7 +17,7 @@ pub struct Got {
 
 /// The messages that come to one end, in the blocks of one owner: those that are partly received, and the one that came whole
 /// until it is fetched.
-#[derive(Debug, Drop)]
+#[derive(Drop)]
 pub struct Inbox {
     joiner: Joiner,
     got: Option<Got>,

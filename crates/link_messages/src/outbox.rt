@@ -11,7 +11,7 @@ use std::alloc::{AllocError, Global};
 use swp_base::Info;
 
 /// A message in its chain, with its pipe.
-#[derive(Debug, Default, PartialEq, Eq, Drop)]
+#[derive(Default, Drop)]
 pub struct Queued {
     pipe: u8,
     chain: Chain,

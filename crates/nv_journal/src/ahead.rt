@@ -11,7 +11,7 @@ use swp_base::{Failed, Nv};
 const PIECE: usize = 960;
 
 /// Bytes that were read and not passed yet, in order; at most 1,024. Contracts see the list of them.
-#[derive(Debug, Drop)]
+#[derive(Drop)]
 pub struct Ahead {
     bytes: ArrayVec<u8, 1024>,
     /// The index of the first that was not passed.

@@ -21,7 +21,7 @@ use std::marker::Model;
 use swp_base::{Failed, Nv};
 
 /// A start that was refused: the memory is handed back.
-#[derive(Debug, Drop)]
+#[derive(Drop)]
 pub struct StartRefused<N> {
     pub nv: N,
     pub fault: JournalFault,

@@ -7,7 +7,7 @@ use std::marker::Model;
 
 /// Bodies of records that stand for all records so far. Contracts see the list of these bodies. They take at most 2,560 bytes
 /// in their bank, each its length and 4.
-#[derive(Debug, Drop)]
+#[derive(Drop)]
 pub struct Snapshot {
     /// The records as they stand in a bank of version 02.
     bytes: ArrayVec<u8, 2560>,

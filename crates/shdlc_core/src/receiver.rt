@@ -5,7 +5,7 @@ ghost use Rattle.shdlc_core.specs.Machine.{Fragment, Session, ahead, expected, n
 
 use std::marker::Model;
 
-#[derive(Debug, Drop)]
+#[derive(Drop)]
 pub struct Receiver {
     awaited: u8,
     gap_open: bool,

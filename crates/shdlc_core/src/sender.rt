@@ -8,7 +8,7 @@ use arrayvec::ArrayVec;
 use std::marker::Model;
 use swp_base::Info;
 
-#[derive(Debug, Drop)]
+#[derive(Drop)]
 pub struct Sender {
     window: u8,
     queue: ArrayVec<Info, 4>,

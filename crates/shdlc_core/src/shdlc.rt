@@ -15,7 +15,7 @@ use std::marker::Model;
 use swp_base::{Cause, Control, Info, Kind};
 
 /// One end of an SHDLC link (ETSI TS 102 613, section 10).
-#[derive(Debug, Drop)]
+#[derive(Drop)]
 pub struct Shdlc {
     phase: LinkState,
     own_window: u8,

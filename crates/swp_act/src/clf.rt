@@ -3,7 +3,7 @@ use crate::{ActEvent, ActOut, Phase};
 use swp_base::Act;
 
 /// The CLF's end: it answers ACT_SYNC_ID by ACT_POWER_MODE, and waits for ACT_READY.
-#[derive(Debug, PartialEq, Eq, Drop)]
+#[derive(Drop)]
 pub struct ClfAct {
     phase: Phase,
     last: Option<Act>,

@@ -72,7 +72,7 @@ impl ActOut {
 }
 
 /// Where an end stands.
-#[derive(Clone, Copy, Debug, PartialEq, Eq)]
+#[derive(Clone, Copy)]
 enum Phase {
     Inactive,
     /// It waits for the other end's frame: how often it tried (1 to 3), and the ticks since its timer started (0 to 9).

@@ -3,7 +3,7 @@ use crate::{ActEvent, ActOut, Phase};
 use swp_base::Act;
 
 /// The UICC's end: it sends ACT_SYNC_ID at its start, and ACT_READY for an ACT_POWER_MODE.
-#[derive(Debug, PartialEq, Eq, Drop)]
+#[derive(Drop)]
 pub struct UiccAct {
     phase: Phase,
     last: Option<Act>,

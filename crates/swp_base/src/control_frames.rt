@@ -27,7 +27,7 @@ pub enum Act {
 
 /// What one LPDU says: a frame of activation (ETSI TS 102 613, section 9.4), of SHDLC (section 10.4) or of contactless
 /// tunnelling (section 11).
-#[derive(Clone, Debug, Drop, PartialEq, Eq)]
+#[derive(Debug, Drop, PartialEq, Eq)]
 pub enum Control {
     /// An information frame: its number, the number expected next from the other end (each 0 to 7), and what it carries.
     I { ns: u8, nr: u8, info: Info },

@@ -9,7 +9,7 @@ use std::marker::Model;
 
 /// A source whose bytes are in memory. It tells what is left. The calls whose numbers, from 1, were planned to fail do
 /// so, and no others.
-#[derive(Debug, Drop)]
+#[derive(Drop)]
 pub struct MemSource {
     bytes: Vec<u8>,
     at: usize,
@@ -110,7 +110,7 @@ impl Source for MemSource {
 
 /// A sink that keeps what it takes in memory, and tells it. The calls whose numbers, from 1, were planned to fail do
 /// so, and no others, but where there is no memory for the bytes.
-#[derive(Debug, Drop)]
+#[derive(Drop)]
 pub struct MemSink {
     bytes: Vec<u8>,
     fails: Vec<u64>,
@@ -197,7 +197,7 @@ impl Sink for MemSink {
 }
 
 /// A source whose bytes are in memory, and which never fails. It tells what is left.
-#[derive(Debug, Drop)]
+#[derive(Drop)]
 pub struct SureSource {
     bytes: Vec<u8>,
     at: usize,
@@ -252,7 +252,7 @@ impl Source for SureSource {
 }
 
 /// A sink that takes every piece whole and keeps nothing. It never fails, and does not tell what was written.
-#[derive(Debug, Drop)]
+#[derive(Drop)]
 pub struct SureSink;
 
 impl Sink for SureSink {

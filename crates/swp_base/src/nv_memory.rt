@@ -11,7 +11,7 @@ use std::alloc::Global;
 use std::marker::Model;
 
 /// The write that fails, and what its range is filled with.
-#[derive(Debug, Drop)]
+#[derive(Drop)]
 struct WritePlan {
     /// 1 is the next write.
     nth: u32,
@@ -31,7 +31,7 @@ impl Model for WritePlan {
 
 /// A memory that tells its content, and whose write or read fails where that was planned: the bytes of the write's range
 /// are then filled as planned, and a read leaves the memory as it was. No other call fails.
-#[derive(Debug, Drop)]
+#[derive(Drop)]
 pub struct MemNv {
     bytes: Vec<u8>,
     plan: Option<WritePlan>,
@@ -171,7 +171,7 @@ impl Nv for MemNv {
 }
 
 /// A memory that tells its content and never fails.
-#[derive(Debug, Drop)]
+#[derive(Drop)]
 pub struct SureNv {
     bytes: Vec<u8>,
 }

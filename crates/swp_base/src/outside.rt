@@ -23,7 +23,7 @@ impl From<AllocError> for NoMemory {
 
 /// What is known of a source's end: whether a read has said that it ended or has failed, and how many reads were asked of it since
 /// then. The number stands still at the last value of a `u64`.
-#[derive(Clone, Copy, Debug, PartialEq, Eq)]
+#[derive(Clone, Copy)]
 pub struct EndOfInput {
     /// A read gave no byte, or failed.
     pub ended: bool,

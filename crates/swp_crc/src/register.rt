@@ -7,7 +7,7 @@ use crate::table::{entry, entry_before_one, entry_before_three, entry_before_two
 use std::marker::Model;
 
 /// The CRC of the bytes pushed so far.
-#[derive(Clone, Copy, Debug, PartialEq, Eq)]
+#[derive(Clone, Copy)]
 pub struct Register {
     remainder: u16,
 }

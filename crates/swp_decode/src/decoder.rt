@@ -9,7 +9,7 @@ use crate::words::{Text, push_decimal, push_text};
 use swp_line::{Period, period_of};
 
 /// Decodes a line record, byte by byte or sixty-four bytes at once. It takes no memory, however long the record is.
-#[derive(Debug, Drop)]
+#[derive(Drop)]
 pub struct Decoder {
     /// The bytes read.
     pub count: u32,

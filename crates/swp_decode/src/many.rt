@@ -8,14 +8,14 @@ use crate::line::Wire;
 use std::simd::prelude::*;
 
 /// The bits of sixty-four periods in both directions, the oldest the most significant.
-#[derive(Clone, Copy, Debug)]
+#[derive(Clone, Copy)]
 pub struct ManyBits {
     pub s1: u64,
     pub s2: u64,
 }
 
 /// The same of sixteen periods.
-#[derive(Clone, Copy, Debug)]
+#[derive(Clone, Copy)]
 struct SixteenBits {
     s1: u16,
     s2: u16,

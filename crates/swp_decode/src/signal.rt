@@ -7,7 +7,7 @@ use crate::words::Text;
 use swp_frame::{Deframer, Fed, Part, Word};
 
 /// Reads one direction of a record.
-#[derive(Debug, Drop)]
+#[derive(Drop)]
 pub struct SignalReader {
     pub deframer: Deframer,
     /// The place of the 0 in front of the last run of 1 bits, or of the first 1 where this 0 was only read in.

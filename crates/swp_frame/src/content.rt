@@ -26,7 +26,7 @@ const MOST_TOLD: u32 = 65_535;
 
 /// The bits that were read since the start of the frame, without those put in. What stands at the end of the frame is among
 /// them.
-#[derive(Debug, Drop)]
+#[derive(Drop)]
 pub struct Content {
     /// The bytes of the whole words of 64 bits.
     pub bytes: ArrayVec<u8, 40>,

@@ -14,7 +14,7 @@ const START_ONES: u8 = 6;
 /// A run of exactly six 1 bits and a 0 behind it starts a frame, and the seventh 1 bit in a row ends one. The bits are
 /// read as if one 0 stood before them and after each break. A start of frame inside an open frame refuses this frame as
 /// broken, and opens a new one.
-#[derive(Debug, Drop)]
+#[derive(Drop)]
 pub struct Deframer {
     /// The 1 bits in a row that were read last; 7 stands for any greater number too.
     ones: u8,

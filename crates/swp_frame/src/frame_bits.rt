@@ -13,7 +13,7 @@ const START_OF_FRAME: [bool; 8] = [false, true, true, true, true, true, true, fa
 const END_OF_FRAME: [bool; 8] = [false, true, true, true, true, true, true, true];
 
 /// The bits of one frame in the order in which they are sent, at most 323.
-#[derive(Debug, Drop)]
+#[derive(Drop)]
 pub struct FrameBits {
     pub bits: ArrayVec<bool, 336>,
 }

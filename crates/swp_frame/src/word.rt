@@ -3,7 +3,7 @@ ghost use Rattle.std.specs.Prelude.{ℕ, List, ◌≡◌, ◌≤◌, ◌<◌, �
 ghost use Rattle.swp_frame.specs.Signal.{Symbol, run_of, unstuffed, read_on};
 
 /// Sixty-four bits of one direction as a number, the oldest the most significant, and which of them have a meaning of their own.
-#[derive(Clone, Copy, Debug)]
+#[derive(Clone, Copy)]
 pub struct Word {
     pub bits: u64,
     /// The bits with which a mark ends: those directly behind exactly six 1 bits.
@@ -13,7 +13,7 @@ pub struct Word {
 }
 
 /// Some neighbouring bits of a word.
-#[derive(Clone, Copy, Debug)]
+#[derive(Clone, Copy)]
 pub struct Part {
     pub bits: u64,
     pub put_in: u64,
@@ -25,7 +25,7 @@ pub struct Part {
 }
 
 /// Some bits as a number, the oldest the most significant.
-#[derive(Clone, Copy, Debug)]
+#[derive(Clone, Copy)]
 pub struct Kept {
     pub bits: u64,
     /// How many they are.

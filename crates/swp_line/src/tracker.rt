@@ -14,7 +14,7 @@ pub enum LineState {
 }
 
 /// Follows the state of a line over the bytes of its record.
-#[derive(Clone, Copy, Debug, PartialEq, Eq)]
+#[derive(Clone, Copy)]
 pub struct LineTracker {
     state: LineState,
 }

@@ -17,7 +17,7 @@ use trace_model::{Header, Line};
 use world::{World, WorldFault};
 
 /// Why a replay does not go on.
-#[derive(Clone, Copy, Debug, PartialEq, Eq)]
+#[derive(Clone, Copy)]
 pub enum Halt {
     /// The line just begun or read is outside the forms.
     Fault(LineFault),

@@ -47,7 +47,7 @@ pub enum LostCause {
 }
 
 /// A line of the transcript (this project's own).
-#[derive(Debug, Drop, PartialEq, Eq)]
+#[derive(Drop, PartialEq, Eq)]
 pub enum Entry {
     /// The header, as it was read.
     Head(Header),

@@ -50,7 +50,7 @@ impl Clone for Header {
 }
 
 /// A line of a schedule behind the header (this project's own).
-#[derive(Clone, Debug, Drop, PartialEq, Eq)]
+#[derive(Debug, Drop, PartialEq, Eq)]
 pub enum Line {
     /// `send E PID HEX`: the node of an end sends a message of at least one byte on a pipe from 00 to 6F.
     Send {

@@ -3,7 +3,7 @@ use std::alloc::{AllocError, Global};
 use std::marker::Model;
 
 /// The tables of a node, on the heap. Contracts see them as the tables.
-#[derive(Debug, Drop)]
+#[derive(Drop)]
 pub struct NodeTables {
     pub boxed: Box<Tables>,
 }

@@ -14,7 +14,7 @@ use swp_frame::{Deframer, Fed, FrameBits, write_frame};
 use trace_model::{LostCause, NoCause};
 
 /// What a reader makes of a damaged frame.
-#[derive(Debug, Drop)]
+#[derive(Drop)]
 pub(crate) enum Verdict {
     /// The frame is read as it was.
     Same,

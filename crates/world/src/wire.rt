@@ -23,7 +23,7 @@ const LIFE: u8 = 4;
 const RSET: u8 = 0xF9;
 
 /// A frame on its way.
-#[derive(Debug, Drop)]
+#[derive(Drop)]
 pub(crate) struct Flying {
     /// Its bytes.
     pub(crate) lpdu: Lpdu,
