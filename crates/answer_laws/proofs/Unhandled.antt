@@ -4,25 +4,18 @@ use Rattle.std.proofs.Common.{Option, Some}
 use Rattle.std.specs.List.{filter_map}
 use Rattle.std.proofs.lemmas.List.Elements.{filter_map-append}
 use Rattle.std.proofs.lemmas.List.Sums.{fold-append}
-use Rattle.std.proofs.lemmas.Bool.{eq-eqb}
 use Rattle.std.proofs.lemmas.List.{append_cancel_left}
 use Rattle.trace_model.specs.declared.entry.Entry.{Entry}
 use Rattle.trace_model.specs.declared.entry.Entry.TheVariants as entry
 use Rattle.trace_model.specs.declared.line.End.{End}
 use Rattle.hcp_packet.specs.Packets.{IsFrontOf}
 use Rattle.link_machine.specs.Machine.{Message, oldest}
-use Rattle.history.specs.Filters.{same_end, same_side}
+use Rattle.history.specs.Filters.{same_end}
 use Rattle.node_world.specs.World.{node_of}
 use Rattle.node_world.specs.NodeLegal.{since_boot, got_entry, turn_entry_at, AreInTurn}
 use Rattle.turn_laws.specs.Turns.{AreLeft}
 use Rattle.answer_laws.specs.Moments.{unhandled_after, unhandled_in}
-
-same_end_itself : (e : End) → same_end e e ≡ true
-same_end_itself e = rw (eq-eqb e.link e.link refl) (go e.at_host)
-  where
-    go : (b : Bool) → same_side b b ≡ true
-    go true = refl
-    go false = refl
+use Rattle.history.proofs.Filters.{same_end_itself}
 
 -- what was noted since a node booted, with one entry more
 abbrev with_entry : ℕ → List Entry → Entry → List Entry

@@ -5,7 +5,7 @@ use Rattle.std.specs.Prelude.{Option, Some, None}
 use Rattle.std.specs.List.{sum_by}
 use Rattle.std.proofs.lemmas.List.{set-set, length-map}
 use Rattle.std.proofs.lemmas.List.Sums.{sum_by-cons, sum_by-set, get_or-le-sum_by}
-use Rattle.std.proofs.lemmas.Bool.{cases_eq}
+use Rattle.std.proofs.lemmas.Bool.{cases_eq, eq-eqb, ne_eqb}
 use Rattle.block_pool.specs.declared.owners.Owner.{Owner}
 use Rattle.block_pool.specs.Slots.{Held, blocks_for, slot, with_chain, bytes_in, held_bytes, owner_in}
 use Rattle.block_pool.specs.Names.{named_bytes, IsLiveAt, put_at, removed_at, IsNamedAfter}
@@ -13,7 +13,6 @@ use Rattle.block_pool.specs.Owners.{owner_at, with_aside, new_owners}
 use Rattle.block_pool.specs.Pool.{PoolState, quota_of, used_of, aside_of, spare_of}
 use Rattle.block_pool.specs.Counts.{blocks_in, blocks_held, AreCounted, AreFree, IsCounted}
 use Rattle.block_pool.proofs.SlotLemmas.{slot_low}
-use Rattle.block_pool.proofs.LinkLemmas.{test_true, test_false}
 
 -- ---- sums
 
@@ -28,10 +27,10 @@ sum_le f g d (x ∷ xs) each =
 -- ---- one chain
 
 in_same : (o : ℕ) (bytes : List ℕ) → blocks_in o (Some (record { owner = o; bytes = bytes })) ≡ blocks_for (length bytes)
-in_same o bytes = ap (λ b. cond b (blocks_for (length bytes)) 0) (test_true o o refl)
+in_same o bytes = ap (λ b. cond b (blocks_for (length bytes)) 0) (eq-eqb o o refl)
 
 in_other : (p o : ℕ) (bytes : List ℕ) → p ≢ o → blocks_in p (Some (record { owner = o; bytes = bytes })) ≡ 0
-in_other p o bytes apart = ap (λ b. cond b (blocks_for (length bytes)) 0) (test_false o p (λ e. apart (sym e)))
+in_other p o bytes apart = ap (λ b. cond b (blocks_for (length bytes)) 0) (ne_eqb o p (λ e. apart (sym e)))
 
 -- a live chain lies at its name
 pub live_slot : (slots : List (Option Held)) (o b : ℕ) → IsLiveAt slots o (Some b) → slot slots b ≡ Some (record { owner = o; bytes = held_bytes slots b })

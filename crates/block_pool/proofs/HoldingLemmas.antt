@@ -73,15 +73,21 @@ kept_each X chain_of old new owner (x ∷ xs) own each =
           ∙ (ap (λ n. blocks_for (length (chain_bytes old (chain_of x))) + n) rest.blocks ∙ sym (sum_by-cons g x xs)));
     }
 
+-- their chains are live chains of one owner, and another chain lies apart from them
+pub record OwnsAllApart (X : Type 0) (chain_of : X → Chain) (pool : PoolState) (owner : ℕ) (xs : List X) (other : Chain) : Type 0 where
+  pub own : OwnsAll X chain_of pool owner xs
+  pub apart : LiesApart X chain_of xs other
+
 -- A call on one chain, from which all these lie apart, keeps them, and they lie apart from what it became.
-pub kept_all : (X : Type 0) (chain_of : X → Chain) (old new : PoolState) (owner : ℕ) (before after : Chain) (xs : List X) → KeepsOthers old new before after
-    → OwnsAll X chain_of old owner xs → LiesApart X chain_of xs before → KeptAll X chain_of old new owner xs × LiesApart X chain_of xs after
-kept_all X chain_of old new owner before after xs keeps own apart =
+pub kept_all : {X : Type 0} {chain_of : X → Chain} {old : PoolState} {owner : ℕ} {before : Chain} {xs : List X} (new : PoolState) (after : Chain)
+    → KeepsOthers old new before after → OwnsAllApart X chain_of old owner xs before
+    → KeptAll X chain_of old new owner xs × LiesApart X chain_of xs after
+kept_all {X} {chain_of} {old} {owner} {before} {xs} new after keeps all =
     let each = all_mapped X (λ x. IsOwnChain old owner (chain_of x) × IsApart before (chain_of x))
     (λ x. IsApart (chain_of x) after × (IsLive new (chain_of x) × (chain_bytes new (chain_of x) ≡ chain_bytes old (chain_of x)))) xs
     (λ x o. let k = keeps (chain_of x) o.0.live (apart_turned before (chain_of x) o.1) in (k.0, (k.1, k.2)))
-    (all_joined X (λ x. IsOwnChain old owner (chain_of x)) (λ x. IsApart before (chain_of x)) xs own apart) in (
-      kept_each X chain_of old new owner xs own
+    (all_joined X (λ x. IsOwnChain old owner (chain_of x)) (λ x. IsApart before (chain_of x)) xs all.own all.apart) in (
+      kept_each X chain_of old new owner xs all.own
           (all_mapped X (λ x. IsApart (chain_of x) after × (IsLive new (chain_of x) × (chain_bytes new (chain_of x) ≡ chain_bytes old (chain_of x))))
           (λ x. IsLive new (chain_of x) × (chain_bytes new (chain_of x) ≡ chain_bytes old (chain_of x))) xs (λ x e. e.1) each),
       all_mapped X (λ x. IsApart (chain_of x) after × (IsLive new (chain_of x) × (chain_bytes new (chain_of x) ≡ chain_bytes old (chain_of x))))

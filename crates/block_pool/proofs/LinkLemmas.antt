@@ -1,12 +1,11 @@
 -- Links between blocks, bytes and marks, one by one.
-use Rattle.std.proofs.Common.{◌≡◌, ◌≢◌, ℕ, zero, suc, ◌+◌, ◌-◌, ◌*◌, ◌/◌, ◌%◌, ◌<◌, ◌≤◌, true, false, cond, eqb, ◌⊎◌, inl, inr, List, [], ◌∷◌, ◌++◌, length}
+use Rattle.std.proofs.Common.{◌≡◌, ◌≢◌, ℕ, zero, suc, ◌+◌, ◌-◌, ◌*◌, ◌/◌, ◌%◌, ◌<◌, ◌≤◌, cond, eqb, ◌⊎◌, inl, inr, List, [], ◌∷◌, ◌++◌, length}
 use Rattle.std.proofs.Common.{get_or, set, map, refl, sym, ap, ◌∙◌, subst, arith, length-set, get_or-set_same, get_or-set_other}
 use Rattle.std.specs.Prelude.{Option, Some, None}
 use Rattle.std.specs.List.{range_with_len}
 use Rattle.std.proofs.lemmas.List.{same_lists, get_or_past, get_or_default}
-use Rattle.std.proofs.lemmas.Bool.{cases_lt, cases_eq}
+use Rattle.std.proofs.lemmas.Bool.{cases_lt, cases_eq, eq-eqb, ne_eqb}
 use Rattle.std.proofs.lemmas.List.FromFn.{length-map-range_with_len, get_or-map-range_with_len, map-range_with_len_more}
-use Rattle.std.proofs.lemmas.Grind.{common_steps}
 use Rattle.block_pool.specs.declared.blocks.Head.{Head}
 use Rattle.block_pool.specs.Slots.{Held, blocks_for, slot}
 use Rattle.block_pool.specs.Links.{block_at, linked_byte}
@@ -131,40 +130,34 @@ other_block x y i j apart same = apart (omega arith)
 other_offset : (x i j : ℕ) → i % 32 ≢ j % 32 → 32 * x + i % 32 ≢ 32 * x + j % 32
 other_offset x i j apart same = apart (omega arith)
 
-pub test_true : (a b : ℕ) → a ≡ b → eqb a b ≡ true
-test_true a b e = grind (arith, common_steps)
-
-pub test_false : (a b : ℕ) → a ≢ b → eqb a b ≡ false
-test_false a b e = grind (arith, common_steps)
-
 -- the marks after the first free block became block k of chain c
 abbrev pub popped : ℕ → ℕ → ℕ → ℕ × ℕ → ℕ × ℕ
 popped count c k m = cond (eqb m.0 count) (cond (eqb m.1 0) (c, k) (count, m.1 - 1)) m
 
 pub popped_other : (count c k d j : ℕ) → d ≢ count → popped count c k (d, j) ≡ (d, j)
-popped_other count c k d j apart = rw (test_false d count apart) refl
+popped_other count c k d j apart = rw (ne_eqb d count apart) refl
 
 pub popped_first : (count c k : ℕ) → popped count c k (count, 0) ≡ (c, k)
-popped_first count c k = rw (test_true count count refl) refl
+popped_first count c k = rw (eq-eqb count count refl) refl
 
 pub popped_rest : (count c k j : ℕ) → popped count c k (count, 1 + j) ≡ (count, j)
 popped_rest count c k j =
     let some : 1 + j ≢ 0 = omega arith in
     let less : 1 + j - 1 ≡ j = omega arith in
-    rw (test_true count count refl, test_false (1 + j) 0 some, less) refl
+    rw (eq-eqb count count refl, ne_eqb (1 + j) 0 some, less) refl
 
 -- the marks after the n blocks of chain b became the first free ones
 abbrev pub freed : ℕ → ℕ → ℕ → ℕ × ℕ → ℕ × ℕ
 freed count b n m = cond (eqb m.0 b) (count, m.1) (cond (eqb m.0 count) (count, m.1 + n) m)
 
 pub freed_chain : (count b n k : ℕ) → freed count b n (b, k) ≡ (count, k)
-freed_chain count b n k = rw (test_true b b refl) refl
+freed_chain count b n k = rw (eq-eqb b b refl) refl
 
 pub freed_free : (count b n k : ℕ) → count ≢ b → freed count b n (count, k) ≡ (count, k + n)
-freed_free count b n k apart = rw (test_false count b apart, test_true count count refl) refl
+freed_free count b n k apart = rw (ne_eqb count b apart, eq-eqb count count refl) refl
 
 pub freed_other : (count b n d k : ℕ) → d ≢ b → d ≢ count → freed count b n (d, k) ≡ (d, k)
-freed_other count b n d k apart below = rw (test_false d b apart, test_false d count below) refl
+freed_other count b n d k apart below = rw (ne_eqb d b apart, ne_eqb d count below) refl
 
 -- ---- chains
 

@@ -3,7 +3,7 @@
 use Rattle.std.proofs.Common.{◌≡◌, ◌⊎◌, inl, inr, ℕ, Bool, true, false, cond, not, eqb, ◌&&◌, ◌||◌, List, [], ◌∷◌, refl, sym, ap, ◌∙◌}
 use Rattle.std.specs.Prelude.{Option, Some, None, Ok, is_none, unwrap_or}
 use Rattle.std.specs.Option.{option_and_then}
-use Rattle.std.proofs.lemmas.Bool.{cond_both, cases_Bool, true≢false, eqb-true, eqb-false, ne_eqb}
+use Rattle.std.proofs.lemmas.Bool.{cond_both, cases_Bool, true≢false, eqb-true, eqb-false, ne_eqb, not-false}
 use Rattle.hcp_packet.specs.declared.MessageKind.TheVariants.{Command as IsCommand}
 use Rattle.hcp_packet.specs.MessageHeader.{header_of}
 use Rattle.pipe_table.specs.PipeRows.{lowest_free, pipe_at}
@@ -44,17 +44,13 @@ abbrev pub AsksNobody : Decision → Type 0
 AsksNobody (Ask dest notice c answer) = ⊥
 AsksNobody _ = Unit {0}
 
-not_false : (b : Bool) → not b ≡ false → b ≡ true
-not_false true e = refl
-not_false false e = absurd (true≢false e)
-
 -- a pipe to the controller itself leads to gate 04 or 05
 gate_fine : (gate : ℕ) → not (eqb gate 4 || eqb gate 5) ≡ false → eqb gate 0 ≡ false
 gate_fine gate e = go (cases_Bool (eqb gate 4)) where
   go : (eqb gate 4 ≡ true) ⊎ (eqb gate 4 ≡ false) → eqb gate 0 ≡ false
   go (inl is) = ap (λ n. eqb n 0) (eqb-true gate 4 is)
   go (inr off) =
-      let five : eqb gate 5 ≡ true = not_false (eqb gate 5) (rw off at e) in
+      let five : eqb gate 5 ≡ true = not-false (eqb gate 5) (rw off at e) in
       ap (λ n. eqb n 0) (eqb-true gate 5 five)
 
 module _ (v : LinkView) (h : ℕ) (host : eqb h 0 ≡ false) where

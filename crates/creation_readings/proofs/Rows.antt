@@ -1,5 +1,5 @@
 -- No pipe of a controller leads to its administration gate, but pipe 01 of each host.
-use Rattle.std.proofs.Common.{◌≡◌, ℕ, Bool, false, cond, eqb, ltb, List, [], ◌∷◌, map, take, suc, zero, subst}
+use Rattle.std.proofs.Common.{◌≡◌, ℕ, Bool, false, cond, eqb, ltb, List, [], ◌∷◌, map, take, subst}
 use Rattle.std.specs.Prelude.{not, Some}
 use Rattle.std.specs.List.{AllByRecursion, filter}
 use Rattle.std.proofs.lemmas.Bool.{cond_both}
@@ -10,17 +10,12 @@ use Rattle.hci_tables.specs.declared.command.Command.{Command}
 use Rattle.hci_tables.specs.declared.command.Command.TheVariants.{Create, Delete, Clear, SetOpened, Set, Sync}
 use Rattle.hci_tables.specs.Tables.{HciTables, no_tables, apply, after_commands, with_static}
 use Rattle.node_world.specs.NodeFilters.{Book, new_book, with_command, with_found}
-use Rattle.registry.proofs.ValueLemmas.{AllByRecursion-append as all_append, AllByRecursion-filter}
+use Rattle.registry.proofs.ValueLemmas.{AllByRecursion-append as all_append, AllByRecursion-filter, AllByRecursion-take}
 use Rattle.creation_readings.specs.Worlds.{IsProper, IsProperCommand, AreProper, IsProperBook}
 
 all_same : {X : Type 0} (P : X → Type 0) (f : X → X) → ((x : X) → P x → P (f x)) → (xs : List X) → AllByRecursion P xs → AllByRecursion P (map f xs)
 all_same P f one [] a = tt
 all_same P f one (x ∷ xs) a = (one x a.0, all_same P f one xs a.1)
-
-all_take : {X : Type 0} (P : X → Type 0) (n : ℕ) (xs : List X) → AllByRecursion P xs → AllByRecursion P (take n xs)
-all_take P zero xs a = tt
-all_take P (suc n) [] a = tt
-all_take P (suc n) (x ∷ xs) a = (a.0, all_take P n xs a.1)
 
 set_proper : (opened : Bool) (row : PipeRow) → IsProper row → IsProper (as_opened opened row)
 set_proper opened row a = record { host = a.host; two = a.two; gate = a.gate }
@@ -61,7 +56,7 @@ proper_command c b may a = record {
 
 pub proper_found : (k : ℕ) (b : Book) → IsProperBook b → IsProperBook (with_found k b)
 proper_found k b a =
-    let first : AllByRecursion IsProperCommand (take k b.commands) = all_take IsProperCommand k b.commands a.commands in
+    let first : AllByRecursion IsProperCommand (take k b.commands) = AllByRecursion-take IsProperCommand k b.commands a.commands in
     record {
       commands = first;
       tables =

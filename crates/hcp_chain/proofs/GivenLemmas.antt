@@ -1,5 +1,6 @@
 -- Joining packets one at a time gives the messages of the packets.
 use Rattle.std.proofs.Common.{◌≡◌, ◌≢◌, ℕ, Bool, true, false, cond, not, ◌&&◌, eqb, ltb, List, [], ◌∷◌, ◌++◌, length, refl, sym, ap, ◌∙◌, subst, arith, rules}
+use Rattle.std.proofs.lemmas.Bool.{ne_eqb}
 use Rattle.std.specs.Prelude.{IsTrue}
 use Rattle.std.proofs.lemmas.List.{append-nil}
 use Rattle.std.proofs.lemmas.Grind.{common_steps}
@@ -10,9 +11,6 @@ use Rattle.hcp_packet.proofs.Joining.{under_way-push}
 
 eqb_is : (a b : ℕ) → eqb a b ≡ true → a ≡ b
 eqb_is a b e = grind (arith, common_steps)
-
-eqb_not : (a b : ℕ) → a ≢ b → eqb a b ≡ false
-eqb_not a b apart = grind (arith, common_steps)
 
 eqb_apart : (a b : ℕ) → eqb a b ≡ false → a ≢ b
 eqb_apart a b e same = grind (arith, common_steps)
@@ -30,7 +28,7 @@ so_far-others pipe g tail q here (m ∷ ms) = by_pipe (eqb m.0 pipe) (eqb m.0 q)
         rw (p, r) (more ∙ (ap (λ b. cond b g (so_far ms q)) same ∙ sym (ap (λ b. cond b g m.1) same)))
     by_pipe true false p r more = rw (p, r) more
     by_pipe false true p r more =
-        let apart : eqb pipe q ≡ false = eqb_not pipe q (λ e. eqb_apart m.0 pipe p (eqb_is m.0 q r ∙ sym e)) in
+        let apart : eqb pipe q ≡ false = ne_eqb pipe q (λ e. eqb_apart m.0 pipe p (eqb_is m.0 q r ∙ sym e)) in
         rw (p, r, apart) refl
     by_pipe false false p r more = rw (p, r) more
 

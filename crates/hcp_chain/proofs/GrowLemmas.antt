@@ -1,6 +1,5 @@
 -- Appending a packet's data to the chain of its message.
-use Rattle.std.proofs.Common.{◌≡◌, ◌≢◌, ℕ, ◌+◌, ◌*◌, ◌≤◌, List, [], ◌∷◌, ◌++◌, length, sym, ap, ◌∙◌, subst, arith, rules, length-append}
-use Rattle.std.specs.Prelude.{Result, Ok, Err, IsOk, OnOk}
+use Rattle.std.proofs.Common.{◌≡◌, ◌≢◌, ℕ, ◌+◌, ◌*◌, ◌≤◌, List, [], ◌∷◌, ◌++◌, length, sym, ap, ◌∙◌, subst, arith, length-append}
 use Rattle.std.specs.List.{AllByRecursion}
 use Rattle.std.proofs.lemmas.List.{map_push}
 use Rattle.std.proofs.lemmas.List.Sums.{sum_by-cons, sum_by_push}
@@ -15,11 +14,6 @@ use Rattle.hcp_chain.specs.Holding.{message_of, messages_in, IsOwnOpen, AreApart
 use Rattle.hcp_chain.specs.TakingOut.{CanGrow, Grown}
 use Rattle.hcp_chain.proofs.HoldingLemmas.{all_push, all_map, all_both, apart_push}
 use Rattle.hcp_chain.proofs.ClearLemmas.{kept}
-
--- what holds of an Ok
-pub on_ok : {T E : Type 0} (r : Result T E) (P : Type 0) → IsOk r → OnOk r P → P
-on_ok (Ok x) P ok p = p
-on_ok (Err e) P ok p = absurd (search rules)
 
 -- a message has at most 128 blocks
 held_low : (pool : PoolState) (owner : ℕ) (xs : List Open) → AllByRecursion (IsOwnOpen pool owner) xs → held_blocks pool xs ≤ 128 * length xs

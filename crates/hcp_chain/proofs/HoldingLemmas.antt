@@ -1,12 +1,14 @@
 -- Chains of messages under way: one taken out, one put behind, and a pool that changed elsewhere.
 use Rattle.std.proofs.Common.{◌≡◌, ◌≢◌, ℕ, zero, suc, ◌+◌, ◌<◌, ◌≤◌, Bool, true, false, cond, not, ◌&&◌, ◌||◌, eqb, leb, ltb, List, [], ◌∷◌, ◌++◌, length}
 use Rattle.std.proofs.Common.{get_or, refl, sym, ap, ◌∙◌, subst, arith}
+use Rattle.std.proofs.lemmas.Bool.{eq-eqb, ne_eqb}
 use Rattle.std.specs.Prelude.{Some, None, remove}
 use Rattle.std.specs.List.{AllByRecursion, position, prefix_len}
 use Rattle.std.proofs.lemmas.List.{length-map}
 use Rattle.std.proofs.lemmas.List.Sums.{sum_by-remove}
 use Rattle.std.proofs.lemmas.List.Quantifiers.{position-Some}
 use Rattle.std.proofs.lemmas.Grind.{common_steps}
+use Rattle.std.proofs.lemmas.Option.{none-some}
 use Rattle.block_pool.specs.declared.chain.Chain.{Chain}
 use Rattle.block_pool.specs.Slots.{blocks_for}
 use Rattle.block_pool.specs.Names.{named_bytes, IsLiveAt}
@@ -16,12 +18,6 @@ use Rattle.hcp_chain.specs.declared.joiner.Joiner.{Joiner}
 use Rattle.hcp_chain.specs.TakingOut.{TakesOut}
 use Rattle.hcp_chain.specs.Joining.{is_message_open, so_far, others, is_fifth}
 use Rattle.hcp_chain.specs.Holding.{message_of, messages_in, IsOwnOpen, AreApart, ArePairwiseApart, HoldsChains, held_blocks, IsApartFrom}
-
-test_true : (a b : ℕ) → a ≡ b → eqb a b ≡ true
-test_true a b e = grind (arith, common_steps)
-
-test_false : (a b : ℕ) → a ≢ b → eqb a b ≡ false
-test_false a b e = grind (arith, common_steps)
 
 eqb_is : (a b : ℕ) → eqb a b ≡ true → a ≡ b
 eqb_is a b e = grind (arith, common_steps)
@@ -99,7 +95,7 @@ none_open : (pool : PoolState) (pipe : ℕ) (xs : List Open) → AllByRecursion 
     × (others (messages_in pool xs) pipe ≡ messages_in pool xs)
 none_open pool pipe [] all = (refl, refl, refl)
 none_open pool pipe (x ∷ xs) all =
-    let no = test_false x.pipe pipe all.0 in
+    let no = ne_eqb x.pipe pipe all.0 in
     let rest = none_open pool pipe xs all.1 in (
       ap (λ b. b || is_message_open (messages_in pool xs) pipe) no ∙ rest.0,
       ap (λ b. cond b (chain_bytes pool x.chain) (so_far (messages_in pool xs) pipe)) no ∙ rest.1,
@@ -113,7 +109,7 @@ pub one_open : (pool : PoolState) (pipe : ℕ) (d : Open) (xs : List Open) (i : 
     × (others (messages_in pool xs) pipe ≡ messages_in pool (remove xs i))
 one_open pool pipe d [] i apart low at = absurd (omega arith)
 one_open pool pipe d (x ∷ xs) zero apart low at =
-    let yes = test_true x.pipe pipe at in
+    let yes = eq-eqb x.pipe pipe at in
     let rest = none_open pool pipe xs (all_map (AreApart x) (λ y. y.pipe ≢ pipe) xs (λ y a e. a.pipes (at ∙ sym e)) apart.0) in (
       ap (λ b. b || is_message_open (messages_in pool xs) pipe) yes,
       ap (λ b. cond b (chain_bytes pool x.chain) (so_far (messages_in pool xs) pipe)) yes,
@@ -121,7 +117,7 @@ one_open pool pipe d (x ∷ xs) zero apart low at =
     )
 one_open pool pipe d (x ∷ xs) (suc i) apart low at =
     let differs : x.pipe ≢ pipe = λ e. (all_at (AreApart x) d xs i apart.0 (omega arith)).pipes (e ∙ sym at) in
-    let no = test_false x.pipe pipe differs in
+    let no = ne_eqb x.pipe pipe differs in
     let rest = one_open pool pipe d xs i apart.1 (omega arith) at in (
       ap (λ b. b || is_message_open (messages_in pool xs) pipe) no ∙ rest.0,
       ap (λ b. cond b (chain_bytes pool x.chain) (so_far (messages_in pool xs) pipe)) no ∙ rest.1,
@@ -138,7 +134,7 @@ none_far pipe (x ∷ xs) far = by_pipe (eqb x.pipe pipe) refl far (λ f. none_fa
         → (length xs ≤ prefix_len (λ x. not (eqb x.pipe pipe)) xs → AllByRecursion (λ x. x.pipe ≢ pipe) xs)
         → AllByRecursion (λ x. x.pipe ≢ pipe) (x ∷ xs)
     by_pipe true e far rest = absurd (omega arith)
-    by_pipe false e far rest = (λ same. absurd (true_false (sym (test_true x.pipe pipe same) ∙ e)), rest (omega arith))
+    by_pipe false e far rest = (λ same. absurd (true_false (sym (eq-eqb x.pipe pipe same) ∙ e)), rest (omega arith))
 
 none_is : (n len : ℕ) → cond (ltb n len) (Some n) None ≡ None → len ≤ n
 none_is n len e = by_test (ltb n len) refl e
@@ -151,9 +147,6 @@ pub found_none : (pipe : ℕ) (xs : List Open) → position (λ x. eqb x.pipe pi
 found_none pipe xs e = none_far pipe xs (none_is (prefix_len (λ x. not (eqb x.pipe pipe)) xs) (length xs) e)
 
 -- ---- taking out
-
-no_name : (n : ℕ) → None ≡ Some n → ⊥
-no_name n e = cc
 
 length-messages : (pool : PoolState) (xs : List Open) → length (messages_in pool xs) ≡ length xs
 length-messages pool xs = length-map xs (message_of pool)
@@ -213,11 +206,11 @@ begun {pool} {old} {new} {pipe} {chain} holds quota found owner items room empty
       owned = owned;
       short = omega (arith, ap length no_bytes);
       apart = subst (AllByRecursion (λ y. (y.pipe ≢ pipe) × IsApart y.chain chain)) (sym items)
-          (all_map (λ y. y.pipe ≢ pipe) (λ y. (y.pipe ≢ pipe) × IsApart y.chain chain) xs (λ y a. (a, λ first p q. no_name first (sym empty ∙ q))) away);
+          (all_map (λ y. y.pipe ≢ pipe) (λ y. (y.pipe ≢ pipe) × IsApart y.chain chain) xs (λ y a. (a, λ first p q. none-some first (sym empty ∙ q))) away);
       holds = subst (HoldsChains pool new.owner) (sym items) (subst (λ o. HoldsChains pool o xs) (sym owner) holds);
       blocks = ap (λ ys. blocks_for (length (chain_bytes pool chain)) + held_blocks pool ys) items
           ∙ (ap (λ bs. blocks_for (length bs) + held_blocks pool xs) no_bytes ∙ no_blocks (held_blocks pool xs));
-      outside = λ other apart. (λ first p q. no_name first (sym empty ∙ q), subst (λ ys. IsApartFrom ys other) (sym items) apart);
+      outside = λ other apart. (λ first p q. none-some first (sym empty ∙ q), subst (λ ys. IsApartFrom ys other) (sym items) apart);
     }
 
 -- whether a message would be the fifth

@@ -80,7 +80,7 @@ packet_count-suc : (len : ℕ) → 0 < len → (n : ℕ) × (packet_count len �
 packet_count-suc len some = ((len + 27) / 28 - 1, omega arith, omega arith)
 
 -- each message that was sent, as packets
-abbrev packets_of_all : List (ℕ × List ℕ) → List Packet
+abbrev pub packets_of_all : List (ℕ × List ℕ) → List Packet
 packets_of_all sent = flat_map (λ m. packets_of m.0 m.1) sent
 
 joined_behind : (sent : List (ℕ × List ℕ)) → AreSendable sent → (before : List Packet) → ((q : ℕ) → under_way q before ≡ [])

@@ -1,3 +1,4 @@
 pub mod Examples
 pub mod MoreExamples
 pub mod Leading
+pub mod Filters

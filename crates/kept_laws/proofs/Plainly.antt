@@ -9,7 +9,7 @@ use Rattle.trace_model.specs.declared.entry.Entry.{Entry}
 use Rattle.journal_laws.specs.Journal.{count_of}
 use Rattle.journal_laws.specs.Planned.{after_planned}
 use Rattle.link_machine.specs.Machine.{Turn}
-use Rattle.link_machine.specs.Machine.Turn.{Give}
+use Rattle.link_machine.specs.Machine.Turn.{Give, FetchMessage}
 use Rattle.link_entries.specs.Entries.{Entry as Noted, turn_entry}
 use Rattle.link_entries.specs.Entries.Entry.{Up, Down, Active, GaveUp, Acked, Got, Sent, Emit, Took, Lost, Tick, Restarted, Cut}
 use Rattle.history.specs.Steps.{entry_of, entries_for}
@@ -184,6 +184,11 @@ plainly_core w command init = record {
 plain_option : (core : Core) (t : Turn) (o : Option Port) → AllByRecursion IsPlain (option_map_or (noted_of core t) o [])
 plain_option core t None = tt
 plain_option core t (Some p) = plain_entries p.desk.host (turn_entry (own_side core) p.session p.side t)
+
+-- of a message that is fetched nothing is noted
+pub fetch_none : (core : Core) (o : Option Port) → option_map_or (noted_of core FetchMessage) o [] ≡ []
+fetch_none core None = refl
+fetch_none core (Some p) = refl
 
 pub plainly_turn : (h : ℕ) (t : Turn) (w : Work) → Plainly w (turn_at h t w)
 plainly_turn h t w =

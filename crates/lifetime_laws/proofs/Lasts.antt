@@ -265,7 +265,7 @@ lasts_taken near far x to_near to_far noprobe h = (
         → Lasts 0 0 (taken near x.frame) far to_near to_far
     go [] were near_sends far_sends near_timely far_timely = absurd were.near_shows
     go (I p n info ∷ ms) were near_sends far_sends near_timely far_timely =
-        let number = flows_number s.out s.window s.acked s.next s.reached t.acc back ms (I p n info) n refl near_sends in
+        let number = flows_number (I p n info) n refl near_sends in
         let reach : s.reached ≤ s.acked + 4 = omega (arith, near_sends.window, near_sends.reach_window) in
         let place : place_of s (n % 8) ≡ Some n = place_found s n number.0 number.1 reach in
         let told : n ≤ length t.acc = counts_le n (length t.acc) ms number.2 in
@@ -338,7 +338,7 @@ lasts_taken near far x to_near to_far noprobe h = (
         zeroed q b (inl e) = (ack_same near n e).0 ∙ near_timely.starts (omega (arith, near_sends.acked_next)) (inl b)
         zeroed q b (inr e) = (ack_timer near n e).0
     go (S k n ∷ ms) were near_sends far_sends near_timely far_timely =
-        let number = flows_number s.out s.window s.acked s.next s.reached t.acc back ms (S k n) n refl near_sends in
+        let number = flows_number (S k n) n refl near_sends in
         let reach : s.reached ≤ s.acked + 4 = omega (arith, near_sends.window, near_sends.reach_window) in
         let place : place_of s (n % 8) ≡ Some n = place_found s n number.0 number.1 reach in
         let told : n ≤ length t.acc = counts_le n (length t.acc) ms number.2 in
@@ -352,25 +352,26 @@ lasts_taken near far x to_near to_far noprobe h = (
         λ f a b c d g tries. timely_rewound near far to_near to_far ms back f x k n
         (record { fits = told; acked = a; next = b; out = c; no_probe = d; timer = g; most = tries.0; again = tries.1 }) near_timely in
         from (S k n) ms were
-        (subst (λ (c : Control). Both ms (taken near c)) (sym were.near_shows.0) (taken_S (Both ms) near k (n % 8) n h.joined.near_up place
-        (λ is. at (ready_again near n) refl refl
-        (timely_acked near far to_near to_far ms back (ready_again near n) x (S k n) n (rw is refl) h.joined.far_due were.far_shows were.near_shows.1
-        (record {
-          fits = (number.0, told);
-          acked = refl;
-          next = refl;
-          out = refl;
-          no_probe = (noprobe, refl);
-          busy = inl refl;
-          grew = λ g. (rr_timer near n g, (ack_timer near n g).1);
-          same_tries = λ g. (ack_same near n g).1;
-          same_timer = rr_same near n;
-          starts = λ q b. rr_stops near n q;
-        })
-        near_timely))
-        (λ is. at (rejected near n) refl refl (rewound (rejected near n) refl refl refl refl refl (once (same_or_below s.acked n number.0))))
-        (λ is. at (made_busy near n) refl refl (rewound (made_busy near n) refl refl refl refl refl (omega arith, λ e. absurd (omega arith))))
-        (λ is. absurd (rw is at near_timely.known))))
+        (subst (λ (c : Control). Both ms (taken near c)) (sym were.near_shows.0) (taken_S (Both ms) near k (n % 8) n h.joined.near_up place (record {
+          rr = λ is. at (ready_again near n) refl refl
+              (timely_acked near far to_near to_far ms back (ready_again near n) x (S k n) n (rw is refl) h.joined.far_due were.far_shows were.near_shows.1
+              (record {
+                fits = (number.0, told);
+                acked = refl;
+                next = refl;
+                out = refl;
+                no_probe = (noprobe, refl);
+                busy = inl refl;
+                grew = λ g. (rr_timer near n g, (ack_timer near n g).1);
+                same_tries = λ g. (ack_same near n g).1;
+                same_timer = rr_same near n;
+                starts = λ q b. rr_stops near n q;
+              })
+              near_timely);
+          rej = λ is. at (rejected near n) refl refl (rewound (rejected near n) refl refl refl refl refl (once (same_or_below s.acked n number.0)));
+          rnr = λ is. at (made_busy near n) refl refl (rewound (made_busy near n) refl refl refl refl refl (omega arith, λ e. absurd (omega arith)));
+          srej = λ is. absurd (rw is at near_timely.known);
+        })))
       where
         once : (s.acked ≡ n) ⊎ (s.acked < n)
             → ((rejected near n).tries ≤ 1) × ((rejected near n).tries ≡ 1 → (n ≡ s.acked) × (near.tries ≡ 1) × (false ≡ false))

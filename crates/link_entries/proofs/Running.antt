@@ -11,7 +11,7 @@ use Rattle.session_laws.specs.Sessions.{shdlc_happens_at_controller as core_happ
 use Rattle.session_laws.specs.Sessions.{ticks_or_cut as core_ticks_or_cut, ticks_if_waiting as core_ticks_if_waiting}
 use Rattle.session_laws.specs.Sessions.ShdlcEndEvent.{Deliver as CoreDeliver}
 use Rattle.session_laws.specs.Losses.{is_act, sans}
-use Rattle.session_laws.proofs.Hand.{peer_of, rset_tells}
+use Rattle.session_laws.proofs.Hand.{IsRset, rset_told}
 use Rattle.session_laws.proofs.Safe.{Safe}
 use Rattle.session_laws.proofs.Sending.{SafeLink}
 use Rattle.session_laws.proofs.Steps.{took_other, safe_aged, safe_turns, safe_exchanged, tick_or_cut, tick_if_waiting}
@@ -105,7 +105,7 @@ frame_facts l ts a b x xs w = record { quiet = none ts a; same = same; fresh = f
             subst P first b.safe
 
         positive : 0 < v
-        positive = (rset_tells 0 (peer_of (core_end l.controller)) (peer_of (core_end l.host)) x v caps (sans xs) (sans l.to_host) l.resets q here.hand).5
+        positive = let is : IsRset x = record { window = v; caps = caps; frame = q } in (rset_told here.hand is).wide
 
         not_zero : (v == 0) ≡ false
         not_zero = ne_eqb v 0 (λ z. omega (arith, z, positive))

@@ -127,21 +127,21 @@ module _ {out : List Fragment} {w a s m : ℕ} {acc : List Fragment} {there back
       }
 
 -- a number that comes back is one from the first unacknowledged place to one past the last that was sent
-pub flows_number : (out : List Fragment) (w a s m : ℕ) (acc : List Fragment) (there back : List Control) (c : Control) (n : ℕ)
+pub flows_number : {out : List Fragment} {w a s m : ℕ} {acc : List Fragment} {there back : List Control} (c : Control) (n : ℕ)
     → Carries c n → Flows out w a s m acc there (c ∷ back) → (a ≤ n) × (n ≤ m) × Counts n (length acc) back
-flows_number out w a s m acc there back (I p k info) n e h =
+flows_number {acc = acc} {back = back} (I p k info) n e h =
     let fits : k ≤ length acc = counts_le k (length acc) back h.counts.1 in
     (omega (arith, h.counts.0), omega (arith, h.sent), counts_lower k n (length acc) back (omega arith) h.counts.1)
-flows_number out w a s m acc there back (S kind k) n e h =
+flows_number {acc = acc} {back = back} (S kind k) n e h =
     let fits : k ≤ length acc = counts_le k (length acc) back h.counts.1 in
     (omega (arith, h.counts.0), omega (arith, h.sent), counts_lower k n (length acc) back (omega arith) h.counts.1)
-flows_number out w a s m acc there back (_) n e h = absurd e
+flows_number (_) n e h = absurd e
 
 -- the sender takes it
 pub flows_acked : {out : List Fragment} {w a s m : ℕ} {acc : List Fragment} {there back : List Control} {c : Control} → Flows out w a s m acc there (c ∷ back)
     → {n s' : ℕ} → Carries c n → n ≤ s' → s' ≤ m → Flows out w n s' m acc there back
 flows_acked {out} {w} {a} {s} {m} {acc} {there} {back} {c} h {n} e i j =
-    let number = flows_number out w a s m acc there back c n e h in
+    let number = flows_number c n e h in
     record {
       window = h.window;
       wide = h.wide;

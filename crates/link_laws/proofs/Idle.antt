@@ -69,19 +69,20 @@ few_taken_I e ns nr x info up at =
 
 few_taken_S : (e : EndState) (k : Kind) (nr x : ℕ) → e.phase ≡ Up → place_of e.session nr ≡ Some x → length (taken e (S k nr)).due ≤ length e.due + 1
 few_taken_S e k nr x up at =
-    taken_S (λ f. length f.due ≤ length e.due + 1) e k nr x up at (λ i. omega arith) (λ i. omega arith) (λ i. omega arith) (λ i. omega arith)
+    taken_S (λ f. length f.due ≤ length e.due + 1) e k nr x up at
+    (record { rr = λ i. omega arith; rej = λ i. omega arith; rnr = λ i. omega arith; srej = λ i. omega arith })
 
 pub few_taken : (e : EndState) (acc : List Fragment) (x : OnWire) (xs : List OnWire) (there back : List Control)
     → e.phase ≡ Up → Shows (x ∷ xs) back → Sends e.session acc there back → length (taken e x.frame).due ≤ length e.due + 1
 few_taken e acc x xs there [] up shows sends = absurd shows
 few_taken e acc x xs there (I p n info ∷ ms) up shows sends =
     let s = e.session in
-    let number = flows_number s.out s.window s.acked s.next s.reached acc there ms (I p n info) n refl sends in
+    let number = flows_number (I p n info) n refl sends in
     let reach : s.reached ≤ s.acked + 4 = omega (arith, sends.window, sends.reach_window) in
     rw shows.0 (few_taken_I e (p % 8) (n % 8) n info up (place_found s n number.0 number.1 reach))
 few_taken e acc x xs there (S k n ∷ ms) up shows sends =
     let s = e.session in
-    let number = flows_number s.out s.window s.acked s.next s.reached acc there ms (S k n) n refl sends in
+    let number = flows_number (S k n) n refl sends in
     let reach : s.reached ≤ s.acked + 4 = omega (arith, sends.window, sends.reach_window) in
     rw shows.0 (few_taken_S e k (n % 8) n up (place_found s n number.0 number.1 reach))
 few_taken e acc x xs there (Rset _ _ ∷ ms) up shows sends = absurd sends.counts

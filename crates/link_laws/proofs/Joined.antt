@@ -104,13 +104,19 @@ pub taken_I : (P : EndState → Type 0) (e : EndState) (ns nr x : ℕ) (info : F
     → P (received (acknowledged e x) ns info) → P (taken e (I ns nr info))
 taken_I P e ns nr x info up at h = rw (up, at) (rw up at h)
 
+-- P holds of the end whatever kind of S frame acknowledges x
+pub record HoldsOfKinds (P : EndState → Type 0) (e : EndState) (kind : Kind) (x : ℕ) : Type 0 where
+  pub rr : kind ≡ Rr → P (ready_again e x)
+  pub rej : kind ≡ Rej → P (rejected e x)
+  pub rnr : kind ≡ Rnr → P (made_busy e x)
+  pub srej : kind ≡ Srej → P e
+
 pub taken_S : (P : EndState → Type 0) (e : EndState) (kind : Kind) (nr x : ℕ) → e.phase ≡ Up → place_of e.session nr ≡ Some x
-    → (kind ≡ Rr → P (ready_again e x)) → (kind ≡ Rej → P (rejected e x)) → (kind ≡ Rnr → P (made_busy e x)) → (kind ≡ Srej → P e)
-    → P (taken e (S kind nr))
-taken_S P e Rr nr x up at a b c d = rw (up, at) (rw up at (a refl))
-taken_S P e Rej nr x up at a b c d = rw (up, at) (rw up at (b refl))
-taken_S P e Rnr nr x up at a b c d = rw (up, at) (rw up at (c refl))
-taken_S P e Srej nr x up at a b c d = rw up (rw up at (d refl))
+    → HoldsOfKinds P e kind x → P (taken e (S kind nr))
+taken_S P e Rr nr x up at h = rw (up, at) (rw up at (h.rr refl))
+taken_S P e Rej nr x up at h = rw (up, at) (rw up at (h.rej refl))
+taken_S P e Rnr nr x up at h = rw (up, at) (rw up at (h.rnr refl))
+taken_S P e Srej nr x up at h = rw up (rw up at (h.srej refl))
 
 pub answer_I : (e : EndState) (ns nr : ℕ) (info : Fragment) → e.phase ≡ Up → (take_answer e (I ns nr info)).ended ≡ None
 answer_I e ns nr info up = rw up refl
@@ -349,7 +355,7 @@ module _ (W : Type 0) where
           → Joined W (taken near x.frame) far to_near to_far × ((take_answer near x.frame).ended ≡ None)
       go [] shows near_sends far_sends near_whole far_whole = absurd shows
       go (I p n info ∷ ms) shows near_sends far_sends near_whole far_whole =
-          let number = flows_number s.out s.window s.acked s.next s.reached t.acc h.far_marks ms (I p n info) n refl near_sends in
+          let number = flows_number (I p n info) n refl near_sends in
           let reach : s.reached ≤ s.acked + 4 = omega (arith, near_sends.window, near_sends.reach_window) in
           let place : place_of s (n % 8) ≡ Some n = place_found s n number.0 number.1 reach in
           let e : EndState = acknowledged near n in
@@ -422,7 +428,7 @@ module _ (W : Type 0) where
             rw shows.0 (answer_I near (p % 8) (n % 8) info h.near_up),
           )
       go (S k n ∷ ms) shows near_sends far_sends near_whole far_whole =
-          let number = flows_number s.out s.window s.acked s.next s.reached t.acc h.far_marks ms (S k n) n refl near_sends in
+          let number = flows_number (S k n) n refl near_sends in
           let reach : s.reached ≤ s.acked + 4 = omega (arith, near_sends.window, near_sends.reach_window) in
           let place : place_of s (n % 8) ≡ Some n = place_found s n number.0 number.1 reach in
           let receives : Sends t s.acc ms h.far_marks = flows_past far_sends in
@@ -447,15 +453,15 @@ module _ (W : Type 0) where
           let acked : (s' : ℕ) → n ≤ s' → s' ≤ s.reached → Flows s.out s.window n s' s.reached t.acc h.far_marks ms =
           λ s' i j. flows_acked near_sends refl i j in
           let upper : max s.next n ≤ s.reached = omega (arith, near_sends.next_reach, number.1) in (
-            rw shows.0 (taken_S (λ f. Joined W f far to_near to_far) near k (n % 8) n h.near_up place
-                (λ is. from (ready_again near n) h.near_up refl (acked (max s.next n) (omega arith) upper) refl
-                (freed k n ms near_whole (ready_again near n).session refl refl refl))
-                (λ is. from (rejected near n) h.near_up refl (acked n (omega arith) number.1) refl
-                (freed k n ms near_whole (rejected near n).session refl refl refl))
-                (λ is. from (made_busy near n) h.near_up refl (acked n (omega arith) number.1) refl
-                (stopped_by k n ms (inl is) near_whole (made_busy near n).session))
-                (λ is. from near h.near_up refl (flows_lost_back near_sends) refl
-                (stopped_by k n ms (inr is) near_whole s))),
+            rw shows.0 (taken_S (λ f. Joined W f far to_near to_far) near k (n % 8) n h.near_up place (record {
+              rr = λ is. from (ready_again near n) h.near_up refl (acked (max s.next n) (omega arith) upper) refl
+                  (freed k n ms near_whole (ready_again near n).session refl refl refl);
+              rej = λ is. from (rejected near n) h.near_up refl (acked n (omega arith) number.1) refl
+                  (freed k n ms near_whole (rejected near n).session refl refl refl);
+              rnr = λ is. from (made_busy near n) h.near_up refl (acked n (omega arith) number.1) refl
+                  (stopped_by k n ms (inl is) near_whole (made_busy near n).session);
+              srej = λ is. from near h.near_up refl (flows_lost_back near_sends) refl (stopped_by k n ms (inr is) near_whole s);
+            })),
             rw shows.0 (answer_S near k (n % 8) h.near_up),
           )
         where

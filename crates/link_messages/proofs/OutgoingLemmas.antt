@@ -16,7 +16,7 @@ use Rattle.block_pool.specs.Pool.{more_blocks, KeepsOthers, Gives, Appends, Pass
 use Rattle.block_pool.specs.Names.{named_bytes}
 use Rattle.block_pool.specs.Holdings.{IsOwnChain, OwnsAll, LiesApart, LieApart, all_bytes, all_blocks}
 use Rattle.block_pool.proofs.HoldingLemmas.{kept_all, all_pushed, lie_apart_pushed, used-with_used, quota-with_used, length-with_used, with_used-with_used}
-use Rattle.block_pool.proofs.HoldingLemmas.{with_used-same, other-with_used, apart_empty, lies_apart_by_owner}
+use Rattle.block_pool.proofs.HoldingLemmas.{with_used-same, other-with_used, apart_empty, lies_apart_by_owner, OwnsAllApart}
 use Rattle.hcp_packet.specs.Packets.{packets_of, packet_count, packet_bytes, fragments_of, AreSendable, IsSendable}
 use Rattle.link_machine.specs.Machine.{Message, whole_among}
 use Rattle.link_messages.specs.declared.outbox.Queued.{Queued}
@@ -75,7 +75,8 @@ gives_front {old} {new} {before} {after} {q} kept items capacity same_places giv
     let own : OwnsAll Queued chain_in old o (q ∷ rest) = subst (OwnsAll Queued chain_in old o) items kept.own in
     let apart : LieApart Queued chain_in (q ∷ rest) = subst (LieApart Queued chain_in) items kept.apart in
     let sendable : AreSendable (messages_of_all old (q ∷ rest)) = subst (λ l. AreSendable (messages_of_all old l)) items kept.sendable in
-    let both = kept_all Queued chain_in old new o q.chain q.chain rest keeps own.1 apart.0 in
+    let others : OwnsAllApart Queued chain_in old o rest q.chain = record { own = own.1; apart = apart.0 } in
+    let both = kept_all new q.chain keeps others in
     let same : messages_of_all new rest ≡ messages_of_all old rest = messages_same old new rest both.0.bytes in
     let n = blocks_for (length (chain_bytes old q.chain)) in
     let owners : new.owners ≡ with_used old.owners o (used_of old o - n) = gives.owners ∙ ap (λ p. with_used old.owners p (used_of old p - n)) own.0.owned in
@@ -203,7 +204,8 @@ pushed : {old new : PoolState} {o : ℕ} {queue : Buffer Queued} {after : Chain}
 pushed {old} {new} {o} {queue} {after} {bytes} before pipe kept keeps away c sendable =
     let xs = queue.items in
     let y : Queued = record { pipe = pipe; chain = after } in
-    let both = kept_all Queued chain_in old new o before after xs keeps kept.own away in
+    let all : OwnsAllApart Queued chain_in old o xs before = record { own = kept.own; apart = away } in
+    let both = kept_all new after keeps all in
     let same : messages_of_all new xs ≡ messages_of_all old xs = messages_same old new xs both.0.bytes in
     let sum = sum_by_push (λ (x : Queued). blocks_for (length (chain_bytes new x.chain))) xs y in
     let size : blocks_for (length (chain_bytes new after)) ≡ blocks_for (length bytes) = ap (λ l. blocks_for (length l)) c.bytes_are in

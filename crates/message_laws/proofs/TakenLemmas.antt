@@ -1,8 +1,8 @@
 -- A sender of whole messages never causes a fault.
 use Rattle.std.proofs.Common.{◌≡◌, ℕ, zero, suc, ◌+◌, ◌-◌, ◌/◌, ◌<◌, ◌≤◌, Bool, true, false, cond, not, ◌&&◌, eqb, leb, ltb, List, [], ◌∷◌, ◌++◌, length, take}
 use Rattle.std.proofs.Common.{drop, map, refl, sym, ap, ◌∙◌, subst, arith, rules, length-append, length-take, length-drop}
+use Rattle.std.proofs.Math.Bool.{and-false}
 use Rattle.std.specs.Prelude.{IsTrue}
-use Rattle.std.specs.List.{flat_map}
 use Rattle.std.proofs.lemmas.List.Elements.{filter_map-append}
 use Rattle.std.proofs.lemmas.Grind.{common_steps}
 use Rattle.hcp_packet.specs.declared.Packet.{Packet}
@@ -10,12 +10,9 @@ use Rattle.hcp_packet.specs.Packets.{packet, packet_bytes, packet_of, parts_of, 
 use Rattle.hcp_chain.specs.Joining.{is_message_open, so_far, others, is_fifth, grown, join_step, is_fault, are_taken, given_by}
 use Rattle.hcp_chain.proofs.GivenLemmas.{given_messages, last_step, more_step}
 use Rattle.message_laws.specs.Sending.{AreShort}
-use Rattle.hcp_packet.proofs.Joining.{parts_of-more, packets_in-parts}
+use Rattle.hcp_packet.proofs.Joining.{parts_of-more, packets_in-parts, packets_of_all}
 
 -- ---- fragments
-
-abbrev packets_of_all : List (ℕ × List ℕ) → List Packet
-packets_of_all sent = flat_map (λ m. packets_of m.0 m.1) sent
 
 packets_in-fragments : (sent : List (ℕ × List ℕ)) → AreShort sent → packets_in (fragments_of sent) ≡ packets_of_all sent
 packets_in-fragments [] short = refl
@@ -37,11 +34,7 @@ record Alone (ms : List (ℕ × List ℕ)) (pipe : ℕ) (bytes : List ℕ) : Typ
 not_fifth : (ms : List (ℕ × List ℕ)) (pipe : ℕ) → length ms ≤ 1 → is_fifth ms pipe ≡ false
 not_fifth ms pipe few =
     let no : leb 4 (length ms) ≡ false = grind (arith, common_steps) in
-    ap (λ b. not (is_message_open ms pipe) && b) no ∙ and_false (not (is_message_open ms pipe))
-  where
-    and_false : (b : Bool) → (b && false) ≡ false
-    and_false true = refl
-    and_false false = refl
+    ap (λ b. not (is_message_open ms pipe) && b) no ∙ and-false (not (is_message_open ms pipe))
 
 not_long : (ms : List (ℕ × List ℕ)) (p : Packet) (bytes : List ℕ) → Alone ms p.pipe bytes → length bytes + length p.bytes.items ≤ 4096
     → ltb 4096 (length (grown ms p)) ≡ false

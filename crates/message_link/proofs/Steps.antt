@@ -2,8 +2,7 @@
 use Rattle.std.proofs.Common.{◌≡◌, ℕ, ◌<◌, ◌≤◌, Bool, true, false, not, cond, List, [], ◌∷◌, ◌++◌, map, Option, Some, None, ◌⊎◌, inl, inr, refl, ap, sym, subst}
 use Rattle.std.proofs.Common.{◌∙◌, arith}
 use Rattle.std.specs.Prelude.{◌+◌, nat_le, is_some, option_to_list, ◌==◌, IsTrue}
-use Rattle.std.proofs.lemmas.Bool.{true≢false}
-use Rattle.std.proofs.lemmas.Grind.{common_steps}
+use Rattle.std.proofs.lemmas.Bool.{true≢false, eq-eqb}
 use Rattle.swp_base.specs.declared.control_frames.Control.{Control}
 use Rattle.swp_base.specs.declared.control_frames.Control.TheVariants.{I, S, Rset, Ua, Act, Clt}
 use Rattle.swp_base.specs.declared.control_frames.Act.{Act as Activation}
@@ -337,11 +336,8 @@ says_of h n t = go h.side.shdlc.phase (n == number_of h) refl refl
 
 -- ## No chain fault
 
-itself : (n : ℕ) → (n == n) ≡ true
-itself n = grind (arith, common_steps)
-
 session_now : (h : CoreEnd) → h.side.phase ≡ Up → shdlc_session_of h (core_number_of h) ≡ h.side.session
-session_now h up = let same : (core_number_of h == core_number_of h) ≡ true = itself (core_number_of h) in rw (up, same) refl
+session_now h up = let same : (core_number_of h == core_number_of h) ≡ true = eq-eqb (core_number_of h) (core_number_of h) refl in rw (up, same) refl
 
 sound : (b : Bool) → IsTrue b → not b ≡ false
 sound true t = refl

@@ -20,16 +20,13 @@ use Rattle.pass_laws.proofs.Ends.{HasFirst, has_first, own_changed, deeds_see, S
 use Rattle.pass_laws.proofs.Turnless.{reply_none}
 use Rattle.pass_laws.proofs.Walking.{links_behind, goes_further, turned_passed, held_passed}
 use Rattle.kept_laws.proofs.Doing.{uncut, stays_cut}
+use Rattle.kept_laws.proofs.Plainly.{fetch_none}
 
 -- ## What each thing that a node does leaves
 
 hold_none : (core : Core) (held : Bool) (o : Option Port) → option_map_or (noted_of core (Hold held)) o [] ≡ []
 hold_none core held None = refl
 hold_none core held (Some p) = refl
-
-fetch_none : (core : Core) (o : Option Port) → option_map_or (noted_of core FetchMessage) o [] ≡ []
-fetch_none core None = refl
-fetch_none core (Some p) = refl
 
 -- what is noted, and whether the power goes
 pub record Notes (w v : Work) (es : List Entry) : Type 0 where

@@ -1,5 +1,5 @@
 -- What keeps the values of a registry sorted and apart from their defaults.
-use Rattle.std.proofs.Common.{ℕ, ◌<◌, ◌≤◌, Bool, not, eqb, leb, ◌&&◌, ◌||◌, List, [], ◌∷◌, ◌++◌, inl, inr, arith}
+use Rattle.std.proofs.Common.{ℕ, ◌<◌, ◌≤◌, Bool, not, eqb, leb, ◌&&◌, ◌||◌, List, [], ◌∷◌, ◌++◌, inl, inr, arith, zero, suc, take}
 use Rattle.std.specs.Prelude.{IsTrue}
 use Rattle.std.specs.List.{filter, AllByRecursion}
 use Rattle.std.proofs.lemmas.Bool.{cond_both, and_parts, or_cases, leb-true, eqb-true}
@@ -17,6 +17,11 @@ AllByRecursion-filter P test (x ∷ xs) h =
 pub AllByRecursion-append : {X : Type 0} (P : X → Type 0) (xs ys : List X) → AllByRecursion P xs → AllByRecursion P ys → AllByRecursion P (xs ++ ys)
 AllByRecursion-append P [] ys h k = k
 AllByRecursion-append P (x ∷ xs) ys h k = (h.0, AllByRecursion-append P xs ys h.1 k)
+
+pub AllByRecursion-take : {X : Type 0} (P : X → Type 0) (n : ℕ) (xs : List X) → AllByRecursion P xs → AllByRecursion P (take n xs)
+AllByRecursion-take P zero xs h = tt
+AllByRecursion-take P (suc n) [] h = tt
+AllByRecursion-take P (suc n) (x ∷ xs) h = (h.0, AllByRecursion-take P n xs h.1)
 
 pub AreValues-filter : (test : RegValue → Bool) (values : List RegValue) → AreValues values → AreValues (filter test values)
 AreValues-filter test values h = record {

@@ -2,7 +2,7 @@
 use Rattle.std.proofs.Common.{◌≡◌, ℕ, ◌+◌, ◌*◌, ◌≤◌, ◌==◌, Bool, true, false, List, [], ◌∷◌, ◌++◌, length, length-append, sym, refl, ap, ap₂, ◌∙◌, arith}
 use Rattle.std.proofs.Common.{Option, Some, None}
 use Rattle.std.specs.List.{filter_map}
-use Rattle.std.proofs.lemmas.Bool.{and_parts, eqb-true, eq-eqb}
+use Rattle.std.proofs.lemmas.Bool.{and_parts, eqb-true}
 use Rattle.std.proofs.lemmas.List.Elements.{filter_map-append}
 use Rattle.trace_model.specs.declared.entry.Entry.{Entry}
 use Rattle.trace_model.specs.declared.entry.Entry.TheVariants as entry
@@ -11,6 +11,7 @@ use Rattle.link_machine.specs.Machine.{Message}
 use Rattle.history.specs.Filters.{same_side, same_end}
 use Rattle.node_world.specs.NodeLegal.{since_boot, got_entry, turn_entry_at, node_number, AreInTurn}
 use Rattle.schedule_laws.proofs.Costs.{costs, pays}
+use Rattle.history.proofs.Filters.{same_end_itself}
 
 -- ## Ends in lists
 
@@ -28,18 +29,11 @@ side_true true b e = sym e
 side_true false true e = absurd (cc e)
 side_true false false e = refl
 
-side_itself : (a : Bool) → same_side a a ≡ true
-side_itself true = refl
-side_itself false = refl
-
 ends_same : (e f : End) → same_end e f ≡ true → e ≡ f
 ends_same e f is =
     let parts = and_parts (e.link == f.link) (same_side e.at_host f.at_host) is in
     ap₂ (λ (n : ℕ) (b : Bool). let made : End = record { link = n; at_host = b } in made) (eqb-true e.link f.link parts.0)
     (side_true e.at_host f.at_host parts.1)
-
-same_itself : (e : End) → same_end e e ≡ true
-same_itself e = let link = eq-eqb e.link e.link refl in let side = side_itself e.at_host in rw (link, side) refl
 
 -- a list in which an end stands, without it
 record Without (x : End) (ys : List End) : Type 0 where
@@ -69,7 +63,7 @@ take_one x (y ∷ ys) some = go (same_end y x) refl (take_one x ys) where
 fewer : (xs ys : List End) → ((e : End) → count e xs ≤ count e ys) → length xs ≤ length ys
 fewer [] ys each = omega arith
 fewer (x ∷ xs) ys each =
-    let own : one_at (same_end x x) ≡ 1 = ap one_at (same_itself x) in
+    let own : one_at (same_end x x) ≡ 1 = ap one_at (same_end_itself x) in
     let here = each x in
     let r : Without x ys = take_one x ys (omega (arith, here, own)) in
     let long = r.long in

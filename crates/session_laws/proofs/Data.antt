@@ -484,22 +484,23 @@ taken_up e {r} {x} {here} {there} up data' h = go h.comes.marks h.comes.shows h.
           own = own;
           peer = peer;
         } in (
-          rw shows.0 (taken_S (λ g. TakenUp e g r here there) e k (n % 8) n up place
-              (λ is. at (ready_again e n) (max s.next n) (omega arith) upper refl refl refl refl refl)
-              (λ is. at (rejected e n) n (omega arith) number.reached refl refl refl refl refl)
-              (λ is. at (made_busy e n) n (omega arith) number.reached refl refl refl refl refl)
-              (λ is. record {
-                up = up;
-                pair = record {
-                  mine = h.mine;
-                  theirs = h.theirs;
-                  comes = record { marks = ms; shows = shows.1; places = places; counts = counts_lower n s.acked (length r.acc) ms number.from number.counts };
-                  goes = h.goes;
-                };
-                due = inl refl;
-                own = refl;
-                peer = refl;
-              })),
+          rw shows.0 (taken_S (λ g. TakenUp e g r here there) e k (n % 8) n up place (record {
+            rr = λ is. at (ready_again e n) (max s.next n) (omega arith) upper refl refl refl refl refl;
+            rej = λ is. at (rejected e n) n (omega arith) number.reached refl refl refl refl refl;
+            rnr = λ is. at (made_busy e n) n (omega arith) number.reached refl refl refl refl refl;
+            srej = λ is. record {
+              up = up;
+              pair = record {
+                mine = h.mine;
+                theirs = h.theirs;
+                comes = record { marks = ms; shows = shows.1; places = places; counts = counts_lower n s.acked (length r.acc) ms number.from number.counts };
+                goes = h.goes;
+              };
+              due = inl refl;
+              own = refl;
+              peer = refl;
+            };
+          })),
           rw shows.0 (answer_S e k (n % 8) up),
         )
     go (Rset _ _ ∷ ms) shows places counts = absurd counts

@@ -594,13 +594,6 @@ rset_told {f = f} {x} {to_n} {to_f} h is =
       behind = after;
     }
 
-pub rset_tells : (kn : ℕ) (n f : Peer) (x : OnWire) (w c : ℕ) (to_n to_f : List OnWire) (r : ℕ) → x.frame ≡ Rset w c
-    → Hand kn 0 n f (x ∷ to_n) to_f r → (rsets to_n ≡ []) × (uas to_f ≡ []) × (f.phase ≡ Waiting) × (f.timer ≤ 4) × (x.number ≡ f.emitted) × (0 < w)
-    × AfterRset to_n
-rset_tells kn n f x w c to_n to_f r frame h =
-    let t = rset_told h (record { window = w; caps = c; frame = frame }) in
-    (t.out.no_rset, t.out.no_ua, t.waiting, t.timer, t.number, t.wide, t.behind)
-
 ua_added : (f : Peer) {y : OnWire} (to_f : List OnWire) → IsNewUa y → uas to_f ≡ [] → f.phase ≡ Waiting → f.timer ≤ 4
     → OneOut 0 f.phase f.timer [] (uas (to_f ++ y ∷ []))
 ua_added f {y} to_f new none waiting t =

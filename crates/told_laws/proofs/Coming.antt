@@ -29,6 +29,7 @@ use Rattle.told_laws.specs.Told.{step_told, entries_told}
 use Rattle.registry.proofs.ValueLemmas.{AllByRecursion-append as each-append}
 use Rattle.told_laws.proofs.Links.{bare_is}
 use Rattle.told_laws.proofs.Lines.{IsApart, AreApart, each_all, host_low, steps_told}
+use Rattle.history.proofs.Filters.{same_end_itself}
 
 -- ## Parts of lists
 
@@ -128,16 +129,9 @@ got_all t order sent e n =
     (front_in (got_in t (other_end (other_end e)) n) (good_of (sent_in t (other_end e) n)) (order.delivered (other_end e) n)
     (good_each (sent_in t (other_end e) n) (sent_each (other_end e) n t sent)))
 
-itself : (e : End) → same_end e e ≡ true
-itself e = go e.at_host
-  where
-    go : (b : Bool) → same_end (record { link = e.link; at_host = b }) (record { link = e.link; at_host = b }) ≡ true
-    go true = let z = same_number e.link in rw z refl
-    go false = let z = same_number e.link in rw z refl
-
 got_one : (x : Entry) (t : List Entry) → ((e : End) (n : ℕ) → AreMessagesIn (cons_option (got_in_session n (said_of e x)) (got_in t e n))) → IsGotIn x
 got_one (entry.Got e n pid message) t h =
-    let a = itself e in
+    let a = same_end_itself e in
     let b = same_number n in
     let now = h e n in
     let here : AreMessagesIn ((pid, message) ∷ got_in t e n) = rw (a, b) at now in here.0

@@ -32,6 +32,7 @@ use Rattle.history.specs.Steps.{at, bare_link, link_after}
 use Rattle.swp_base.specs.Bits.{IsByte}
 use Rattle.told_laws.proofs.Ends.{IsFragment, IsFrame, Ranged, ranged_taken, ranged_ticked, ranged_reset, ranged_stopped, ranged_ready, ranged_out}
 use Rattle.told_laws.proofs.Ends.{ranged_after, frames_in, frames_few}
+use Rattle.registry.proofs.ValueLemmas.{AllByRecursion-take}
 
 -- ## Messages
 
@@ -40,11 +41,6 @@ pub record IsTellable (m : Message) : Type 0 where
   pub pipe : m.0 < 112
   pub some : 0 < length m.1
   pub bytes : AllByRecursion IsByte m.1
-
-take_each : {X : Type 0} (P : X → Type 0) (n : ℕ) (xs : List X) → AllByRecursion P xs → AllByRecursion P (take n xs)
-take_each P zero xs h = tt
-take_each P (suc n) [] h = tt
-take_each P (suc n) (x ∷ xs) h = (h.0, take_each P n xs h.1)
 
 drop_each : {X : Type 0} (P : X → Type 0) (n : ℕ) (xs : List X) → AllByRecursion P xs → AllByRecursion P (drop n xs)
 drop_each P zero xs h = h
@@ -63,7 +59,7 @@ first_low false pipe low = omega (arith, low)
 parts_in : (pipe n : ℕ) (left : List ℕ) → pipe < 112 → AllByRecursion IsByte left → AllByRecursion IsFragment (map packet_bytes (parts_of pipe n left))
 parts_in pipe zero left low h = tt
 parts_in pipe (suc n) left low h = (
-  ((first_low (n == 0) pipe low, take_each IsByte 28 left h), let few = take_few 28 left in omega (arith, few)),
+  ((first_low (n == 0) pipe low, AllByRecursion-take IsByte 28 left h), let few = take_few 28 left in omega (arith, few)),
   parts_in pipe n (drop 28 left) low (drop_each IsByte 28 left h),
 )
 

@@ -1,5 +1,6 @@
 -- What waits at the ends of a world as one node has a step.
 use Rattle.std.proofs.Common.{◌≡◌, ℕ, ◌==◌, ◌&&◌, Bool, true, false, cond, List, [], ◌∷◌, ◌++◌, Option, Some, None, map, refl, ap, sym, subst, ◌∙◌}
+use Rattle.std.proofs.Math.Bool.{and-false}
 use Rattle.std.specs.Prelude.{is_some}
 use Rattle.std.specs.List.{flat_map}
 use Rattle.std.specs.Option.{option_map_or}
@@ -133,10 +134,6 @@ pub record SiteGoes (s v : Site) (t : List Entry) : Type 0 where
   pub goes : (q : List Message) → FarWaits q (Some s) → OwnMoves s.host v t q
   pub others : (e : End) → same_end (end_h s.host) e ≡ false → Leaves e t
 
-pub off_near : (b : Bool) → (b && false) ≡ false
-off_near true = refl
-off_near false = refl
-
 with_none : (k : ℕ) (g : Site → Site) (sites : List Site) → site_at sites k ≡ None → with_site k g sites ≡ sites
 with_none k g [] q = refl
 with_none k g (x ∷ sites) q = go (x.host == k) refl (with_none k g sites)
@@ -176,7 +173,7 @@ module _ (w : NodeWorld) (c : Option Running) (k : ℕ) (g : Site → Site) (t :
   site_moves : (s : Site) → site_at w.sites k ≡ Some s → SiteGoes s (g s) t → AllMove w After t
   site_moves s found a false h q x = record {
     left = q;
-    goes = a.others (end_c h) (off_near (s.host == h)) q;
+    goes = a.others (end_c h) (and-false (s.host == h)) q;
     waits = sites_is f same_host w.sites h (NearWaits c q) (λ z. tt)
         (λ y z.
         let was : ByPower (is_some w.controller) q y.link.controller.side.got = subst (NearWaits w.controller q) z x in

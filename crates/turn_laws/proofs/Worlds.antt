@@ -1,5 +1,6 @@
 -- What waits at each end of a world over whatever happens there.
 use Rattle.std.proofs.Common.{◌≡◌, ℕ, ◌==◌, ◌&&◌, Bool, true, false, cond, List, [], ◌∷◌, ◌++◌, length, Option, Some, None, map, refl, ap, sym, subst, ◌∙◌}
+use Rattle.std.proofs.Math.Bool.{and-false}
 use Rattle.std.specs.Prelude.{is_some}
 use Rattle.std.specs.List.{AllByRecursion, flat_map}
 use Rattle.std.proofs.lemmas.Bool.{eqb-true, eq-eqb, true≢false}
@@ -47,7 +48,7 @@ use Rattle.turn_laws.proofs.Queues.{Becomes, Goes, goes-append, doing}
 use Rattle.turn_laws.proofs.Ends.{ticks_got}
 use Rattle.turn_laws.proofs.Coming.{notes_still}
 use Rattle.turn_laws.proofs.Works.{lost_none, aged_none, ByPower, NearWaits, FarWaits, Waits, end_at, Moves, AllMove, move_then, Leaves, leaves-append}
-use Rattle.turn_laws.proofs.Works.{still_leaves, flat_leaves, sites_is, OwnMoves, SiteGoes, off_near, at_site}
+use Rattle.turn_laws.proofs.Works.{still_leaves, flat_leaves, sites_is, OwnMoves, SiteGoes, at_site}
 use Rattle.turn_laws.proofs.Nodes.{host_steps, host_begins, host_ticked, controller_steps, controller_ticked}
 
 -- ## Worlds that stay
@@ -493,7 +494,7 @@ AreNodes sites = AllByRecursion (λ (x : Site). IfItRuns x.host (x.host ∷ []) 
 near_leaves : (h : ℕ) (sites : List Site) → AreNumbered sites → AreNodes sites → Leaves (end_c h) (hosts_tick sites).1
 near_leaves h [] b a q = refl
 near_leaves h (x ∷ sites) b a q =
-    leaves-append (end_c h) (host_ticks x).1 (hosts_tick sites).1 ((site_ticks x b.0 a.0).others (end_c h) (off_near (x.host == h)))
+    leaves-append (end_c h) (host_ticks x).1 (hosts_tick sites).1 ((site_ticks x b.0 a.0).others (end_c h) (and-false (x.host == h)))
     (near_leaves h sites b.1 a.1) q
 
 near_stays : (c : Option Running) (h : ℕ) (q : List Message) (sites : List Site) → AreNumbered sites → AreNodes sites → NearWaits c q (site_at sites h)

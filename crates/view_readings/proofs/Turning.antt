@@ -34,7 +34,7 @@ use Rattle.view_readings.proofs.Leaving.{reads, reads_append, IsRead}
 use Rattle.view_readings.proofs.Setting.{is_link_gate, controller_unset, host_unset, controller_sets, host_sets, SetDeeds, IsUpAt}
 use Rattle.view_readings.proofs.Setting.SetDeeds.{IsSet, IsRefused, IsDropped}
 use Rattle.view_readings.proofs.Doing.{side_of, own_is, HasErrors, map_has, Right, desks, turns, unless, IsFine, unset_fine, all_do, holds, lets}
-use Rattle.kept_laws.proofs.Plainly.{hosts_map}
+use Rattle.kept_laws.proofs.Plainly.{hosts_map, fetch_none}
 
 -- ## Messages that are sent
 
@@ -75,10 +75,6 @@ sent_noted : (w : Work) (h : ℕ) (m : Message) (t : Takes w.ports h m)
 sent_noted w h m t = ap (λ es. w.entries ++ es) (ap (λ o. option_map_or (noted_of w.core (Give m)) o []) t.here
     ∙ (ap (λ o. entries_for t.port.desk.host (sent_unless o (own_side w.core) t.port.session m)) t.takes
     ∙ ap (λ n. entry.Sent (end_of n (own_side w.core)) t.port.session m.0 m.1 ∷ []) (at_host w.ports h t.port t.here)))
-
-fetch_silent : (core : Core) (o : Option Port) → option_map_or (noted_of core FetchMessage) o [] ≡ []
-fetch_silent core None = refl
-fetch_silent core (Some p) = refl
 
 with_hosts : (k : ℕ) (f : Port → Port) → ((p : Port) → (f p).desk.host ≡ p.desk.host) → (ports : List Port)
     → hosts_of_ends (with_port k f ports) ≡ hosts_of_ends ports
@@ -183,7 +179,7 @@ module _ (e : End) (hosts : List ℕ) (x0 : ErrorCount) (single : e.at_host ≡ 
         ∙ (ap (λ x. errors_after e x y) (reads_append e w.entries (turn_of w h m ∷ []) x0 ∙ turn_reads w h m on r)))
 
   fetched_entries : (h : ℕ) (m : Message) (w : Work) → (fetched h m w).entries ≡ w.entries ++ turn_of w h m ∷ []
-  fetched_entries h m w = ap (λ es. (w.entries ++ turn_of w h m ∷ []) ++ es) (fetch_silent w.core (port_at w.ports h))
+  fetched_entries h m w = ap (λ es. (w.entries ++ turn_of w h m ∷ []) ++ es) (fetch_none w.core (port_at w.ports h))
       ∙ append-nil (w.entries ++ turn_of w h m ∷ [])
 
   fetched_hosts : (h : ℕ) (m : Message) (w : Work) → hosts_of_ends (fetched h m w).ports ≡ hosts_of_ends w.ports

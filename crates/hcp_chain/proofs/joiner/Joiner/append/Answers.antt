@@ -1,7 +1,7 @@
-use Rattle.std.proofs.Common.{◌≡◌, ◌≤◌, ◌∙◌, sym, ap, subst, length, List, ℕ}
+use Rattle.std.proofs.Common.{◌≡◌, ◌≤◌, ◌∙◌, sym, ap, subst, length, List, ℕ, rules}
 use Rattle.std.specs.Prelude.{IsOk, ◌++◌}
 use Rattle.block_pool.specs.Pool.{Appends, KeepsOthers, IsLive, chain_bytes, chain_spare, more_blocks}
-use Rattle.hcp_chain.proofs.GrowLemmas.{on_ok, room_for, grows}
+use Rattle.hcp_chain.proofs.GrowLemmas.{room_for, grows}
 use Rattle.hcp_chain.proofs.joiner.Joiner.append.Goals as goal
 
 pub returns : goal.returns
@@ -15,10 +15,11 @@ returns c =
     let ok : IsOk c.take.result = c.take.ensures.room.1 (subst
     (λ (bs : List ℕ). more_blocks (length (chain_bytes old chain)) (length bs) ≤ chain_spare old chain) (sym value)
     (room_for old c.args.self.now packet chain c.requires)) in
+    let appends : Appends old new chain after c.as_slice.result.now = search (rules, ok, c.take.ensures.ok) in
+    let appended : chain_bytes new after ≡ chain_bytes old chain ++ c.as_slice.result.now = search (rules, ok, c.take.ensures.appended) in
+    let live : IsLive new after = search (rules, ok, c.take.ensures.live) in
+    let others : KeepsOthers old new chain after = search (rules, ok, c.take.ensures.others) in
     grows c.requires
-    (subst (λ (bs : List ℕ). Appends old new chain after bs) value
-    (on_ok c.take.result (Appends old new chain after c.as_slice.result.now) ok c.take.ensures.ok))
-    (on_ok c.take.result (chain_bytes new after ≡ chain_bytes old chain ++ c.as_slice.result.now) ok c.take.ensures.appended
-    ∙ ap (λ (bs : List ℕ). chain_bytes old chain ++ bs) value)
-    (on_ok c.take.result (IsLive new after) ok c.take.ensures.live)
-    (on_ok c.take.result (KeepsOthers old new chain after) ok c.take.ensures.others)
+    (subst (λ (bs : List ℕ). Appends old new chain after bs) value appends)
+    (appended ∙ ap (λ (bs : List ℕ). chain_bytes old chain ++ bs) value)
+    live others

@@ -3,7 +3,6 @@ use Rattle.journal_laws.specs.Records.{record_bytes}
 use Rattle.nv_journal.specs.Snapshots.{bodies_of, AreRecords}
 use Rattle.nv_journal.proofs.Snapshotting.{one_more_body, still_records, size_of_bytes, few_bodies}
 use Rattle.nv_journal.proofs.snapshot.Snapshot.push.Goals as goal
-use Rattle.swp_base.proofs.Results.{where_ok}
 
 grown : (c : goal.After-self-1)
     → c.try_extend_from_slice-fits.new.self.items ≡ c.self.inside.bytes.items ++ 90 ∷ record_bytes c.self.inside.many c.args.body.now
@@ -14,7 +13,9 @@ grown c =
     let room = rw (← c.self.view_is) at c.requires.room in
     let record_is = c.as_slice.ensures.value ∙ c.record-record.ensures in
     let fits = c.try_extend_from_slice-fits.ensures.variant.1 (omega (arith, c.push.ensures.len, size, room, ap length record_is)) in
-    where_ok c.try_extend_from_slice-fits.result _ fits c.try_extend_from_slice-fits.ensures.ok
+    let extended : c.try_extend_from_slice-fits.new.self.items ≡ c.push.new.self.items ++ c.as_slice.result.now =
+    search (rules, fits, c.try_extend_from_slice-fits.ensures.ok) in
+    extended
     ∙ ap (λ l. c.push.new.self.items ++ l) record_is
     ∙ ap (λ l. l ++ record_bytes s.many body) c.push.ensures.items
     ∙ append_assoc s.bytes.items (90 ∷ []) (record_bytes s.many body)
