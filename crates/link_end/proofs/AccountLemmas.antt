@@ -180,10 +180,10 @@ both_stay old new k m chain h a s =
 
 -- ---- calls on another end
 
-pub kept_beside_call : (old new : PoolState) (before after other : End) (m n : Machine) (theirs : Option Chain) → EndStandsFor before old m
-    → EndLeavesOthers old new before after → HaveOwners before other
+pub kept_beside_call : {old : PoolState} {before other : End} {m n : Machine} {theirs : Option Chain} (new : PoolState) (after : End)
+    → EndStandsFor before old m → EndLeavesOthers old new before after → HaveOwners before other
     → EndStandsFor other old n → Accounts other old theirs → EndStandsFor other new n × Accounts other new theirs
-kept_beside_call old new before after other m n theirs h l differ g a =
+kept_beside_call {old} {before} {other} {m} {n} {theirs} new after h l differ g a =
     let o = other.outbox.owner in
     let i = other.inbox.joiner.owner in
     both_stay old new other n theirs g a (record {
@@ -348,10 +348,10 @@ given_own old new k m chain h a gives keeps =
       lengths = ap length owners ∙ length-with_used old.owners i (used_of old i - n);
     })
 
-pub given_beside : (old new : PoolState) (k other : End) (n : Machine) (chain : Chain) (theirs : Option Chain) → Accounts k old (Some chain)
+pub given_beside : {old new : PoolState} {k other : End} {n : Machine} {chain : Chain} {theirs : Option Chain} → Accounts k old (Some chain)
     → Gives old new chain → KeepsOthers old new chain chain
     → HaveOwners k other → EndStandsFor other old n → Accounts other old theirs → EndStandsFor other new n × Accounts other new theirs
-given_beside old new k other n chain theirs a gives keeps differ g b =
+given_beside {old} {new} {k} {other} {n} {chain} {theirs} a gives keeps differ g b =
     let i = k.inbox.joiner.owner in
     let f = a.fetched in
     let left = used_of old i - blocks_for (length (chain_bytes old chain)) in
@@ -444,10 +444,10 @@ passed_beside {old} {new} {other = other} {o = o} {theirs = theirs} t differ apa
       lengths = l.lengths;
     })
 
-pub passed_giver : (old new : PoolState) (from to after : End) (m n : Machine) (chain : Chain) → EndStandsFor from old m
+pub passed_giver : {old new : PoolState} {from to : End} {after : List Queued} {m n : Machine} {chain : Chain} → EndStandsFor from old m
     → Accounts from old (Some chain) → HaveOwners from to → EndStandsFor to old n
-    → LeavesOthersBut old new to.outbox.owner chain to.outbox.queue.items after.outbox.queue.items → EndStandsFor from new m × Accounts from new None
-passed_giver old new from to after m n chain h a differ g l =
+    → LeavesOthersBut old new to.outbox.owner chain to.outbox.queue.items after → EndStandsFor from new m × Accounts from new None
+passed_giver {old} {new} {from} {chain = chain} h a differ g l =
     let t = adopted a g l in
     goes_own h a (record {
       apart = λ c live apart which. elim which [
@@ -460,11 +460,11 @@ passed_giver old new from to after m n chain h a differ g l =
       lengths = l.lengths;
     })
 
-pub passed_taker : (old new : PoolState) (from to after : End) (n : Machine) (chain : Chain) (theirs : Option Chain)
+pub passed_taker : {old new : PoolState} {from to : End} {n : Machine} {chain : Chain} {theirs : Option Chain} (after : End)
     → Accounts from old (Some chain) → HaveOwners from to → EndStandsFor to old n
     → Accounts to old theirs → after.inbox ≡ to.inbox → LeavesOthersBut old new to.outbox.owner chain to.outbox.queue.items after.outbox.queue.items
     → Accounts after new theirs
-passed_taker old new from to after n chain theirs a differ g b inbox l =
+passed_taker {old} {new} {to = to} {theirs = theirs} after a differ g b inbox l =
     let i = to.inbox.joiner.owner in
     let t = adopted a g l in
     let stay : (c : Chain) → IsLive old c → c.owner ≡ i → Stays old new c = λ c live is. stays_third t c i live is g.halfway.differ differ.receivers in

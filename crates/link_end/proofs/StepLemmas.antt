@@ -1,5 +1,6 @@
 -- What the inputs of a link end do.
 use Rattle.std.proofs.Common.{◌≡◌, ℕ, ◌+◌, ◌-◌, Bool, true, false, [], drop, min, refl, sym, ap, ◌∙◌, subst, arith}
+use Rattle.std.proofs.Math.Bool.{and-false}
 use Rattle.std.specs.Prelude.{Option, Some, None, is_some, ◌&&◌, if◌then◌else◌, nat_le}
 use Rattle.block_pool.specs.Pool.{PoolState}
 use Rattle.swp_base.specs.declared.control_frames.Control.{Control}
@@ -219,10 +220,6 @@ clt_begins Up e = refl
 clt_begins Waiting e = refl
 clt_begins Down e = refl
 
-and_false : (b : Bool) → (b && false) ≡ false
-and_false true = refl
-and_false false = refl
-
 -- a frame of activation never makes an end give up
 clf_takes : (s : ClfAct) (phase : Phase) (act : Act) (again : Bool) → (clf_step (record s { phase = phase }) (ActTake act again)).1.gave_up ≡ None
 clf_takes s phase act true = refl
@@ -263,7 +260,7 @@ pub act_is_told : (m : Machine) (act : Act) (again : Bool) → act_told m (ActTa
 act_is_told m act again =
     let out : ActOut = act_answer m.role (ActTake act again) in
     let began : false ≡ (is_open m.role && (take_answer m.shdlc (ActFrame act again)).began) =
-    sym (ap (λ b. is_open m.role && b) (act_begins m.shdlc.phase m.shdlc act again) ∙ and_false (is_open m.role)) in
+    sym (ap (λ b. is_open m.role && b) (act_begins m.shdlc.phase m.shdlc act again) ∙ and-false (is_open m.role)) in
     let acks : 0 ≡ whole_acked (activated m (ActTake act again)) - whole_acked m = sym (acked-activated m (ActTake act again)) in
     ap
     (λ (x : Option ℕ). record nothing_told { ended = ended_by_act m (ActTake act again); became_active = out.became_active; sync = out.sync; gave_up = x })

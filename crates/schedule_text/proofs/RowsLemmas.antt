@@ -1,7 +1,7 @@
 -- What is known of the words of a line without fault: one lemma for each kind of word, and_parts ways.
 use Rattle.std.proofs.Common.{◌≡◌, ◌==◌, ◌&&◌, ◌||◌, ℕ, ◌+◌, ◌<◌, ◌≤◌, Bool, true, false, not, cond, List, [], ◌∷◌, length, refl, sym, ◌∙◌, ap, Option, Some}
 use Rattle.std.proofs.Common.{None, is_some, codes, nat_lt, nat_le}
-use Rattle.std.proofs.lemmas.Bool.{leb-true, ltb-true, lt-ltb, le-leb, and_parts}
+use Rattle.std.proofs.lemmas.Bool.{leb-true, ltb-true, lt-ltb, le-leb, and_parts, not-false}
 use Rattle.std.specs.List.{list_all, list_any, AllByRecursion}
 use Rattle.std.specs.Option.{option_map, option_or}
 use Rattle.std.specs.Str.{bytes_eq}
@@ -32,10 +32,6 @@ unless_word : (t : Bool) (o : Option LineFault) → cond t o (Some fault.Word) �
 unless_word true o h = (refl, h)
 unless_word false o h = cc
 
-not_true : (b : Bool) → not b ≡ false → b ≡ true
-not_true true h = refl
-not_true false h = cc
-
 if_some_none : (t : Bool) (n : ℕ) → cond t (Some n) None ≡ None → t ≡ false
 if_some_none true n h = cc
 if_some_none false n h = refl
@@ -61,7 +57,7 @@ AllFit hci hosts from [] = Unit {0}
 AllFit hci hosts from (s ∷ ss) = Fits hci hosts from s.kind s.word × AllFit hci hosts (rising from s.kind s.word) ss
 
 known_host : (hosts : List ℕ) (h : ℕ) → stranger hosts (Some h) ≡ None → IsKnown hosts h
-known_host hosts h none = not_true _ (if_some_none _ h none)
+known_host hosts h none = not-false _ (if_some_none _ h none)
 
 end_fits : (hosts : List ℕ) (o : Option End) → is_some o ≡ true → stranger hosts (option_map (λ e. e.link) o) ≡ None
     → (e : End) × (o ≡ Some e) × IsKnown hosts e.link
@@ -90,7 +86,7 @@ host_fits : (from : ℕ) (o : Option ℕ) → is_some o ≡ true → option_if (
     → (h : ℕ) × (o ≡ Some h) × (1 ≤ h) × (from ≤ h) × (h ≤ 7)
 host_fits from None h none = cc
 host_fits from (Some h) is none =
-    let range = and_parts _ _ (not_true _ (if_some_none _ h none)) in
+    let range = and_parts _ _ (not-false _ (if_some_none _ h none)) in
     let high = and_parts _ _ range.1 in
     (h, refl, ltb-true _ _ range.0, leb-true _ _ high.0, leb-true _ _ high.1)
 

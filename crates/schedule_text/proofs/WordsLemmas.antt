@@ -1,7 +1,7 @@
 -- How the words of a line are found from its front.
 use Rattle.std.proofs.Common.{◌≡◌, ◌==◌, ℕ, zero, suc, ◌+◌, ◌<◌, ◌≤◌, Bool, true, false, not, cond, nat_lt, List, [], ◌∷◌, length, get_or, take, drop, refl}
 use Rattle.std.proofs.Common.{sym, ◌∙◌, ap, subst, arith, Some, None, unwrap_or, position, filter, drop-cons, add-one, add-zero, length-drop}
-use Rattle.std.proofs.lemmas.Bool.{eqb-true, ltb-false, ltb-true}
+use Rattle.std.proofs.lemmas.Bool.{eqb-true, ltb-false, ltb-true, not-false}
 use Rattle.std.proofs.lemmas.List.{drop_all, take_all, get_or-drop}
 use Rattle.std.proofs.lemmas.Grind.{common_steps}
 use Rattle.std.proofs.lemmas.Bool.Decides.{nat_tests}
@@ -38,13 +38,9 @@ place_or_len p xs =
     let within = prefix_len-le-length (λ x. not (p x)) xs in
     pick (nat_lt (position_or_len p xs) (length xs)) (position_or_len p xs) (length xs) (λ e. grind (arith, nat_tests, e, within))
 
-not_false : (b : Bool) → not b ≡ false → b ≡ true
-not_false true h = refl
-not_false false h = cc
-
 -- before the first letter stand spaces alone
 before_letter : (line : List ℕ) (k : ℕ) → k < position_or_len is_letter line → get_or line k 0 ≡ 32
-before_letter line k h = eqb-true (get_or line k 0) 32 (not_false _ (fails_before_first is_letter line k 0 h))
+before_letter line k h = eqb-true (get_or line k 0) 32 (not-false _ (fails_before_first is_letter line k 0 h))
 
 pub none_test : (t : Bool) (a : ℕ) → cond t (Some a) None ≡ None → t ≡ false
 none_test true a h = cc

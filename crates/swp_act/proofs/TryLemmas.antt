@@ -3,6 +3,7 @@ use Rattle.std.proofs.Common.{◌≡◌, ℕ, zero, suc, ◌+◌, ◌/◌, ◌%�
 use Rattle.std.specs.Prelude.{Option, Some, None}
 use Rattle.std.specs.List.{AllByRecursion}
 use Rattle.std.proofs.lemmas.Grind.{common_steps}
+use Rattle.std.proofs.lemmas.Option.{none-some}
 use Rattle.swp_base.specs.declared.control_frames.Act.{Act}
 use Rattle.swp_base.specs.declared.control_frames.Act.TheVariants.{Ready, SyncId, PowerMode}
 use Rattle.swp_act.specs.declared.ActEvent.{ActEvent}
@@ -152,56 +153,53 @@ clf_tries_later s id tries ticks between waiting small quiet few =
     ap (λ p. (clf_step (clf_after (record { phase = p; last = s.last; power = s.power }) (Take (SyncId id) false ∷ between)) Tick).1) waiting
     ∙ clf_waits s.power id tries between small quiet few
 
-none_is_not : (n : ℕ) → None ≡ Some n → ⊥
-none_is_not n e = cc
-
 -- an end gives up only while it waits
 ticked_up : (p : Phase) (last : Option Act) → (n : ℕ) → (out_ticked p last).gave_up ≡ Some n
     → (n ≡ 3) × (tries ticks : ℕ) × (p ≡ Awaiting tries ticks) × (3 ≤ tries) × (9 ≤ ticks)
-ticked_up Inactive last n some = absurd (none_is_not n some)
+ticked_up Inactive last n some = absurd (none-some n some)
 ticked_up (Awaiting tries ticks) last n some = by_tests (leb 10 (ticks + 1)) (leb 3 tries) refl refl
   where
     by_tests : (a b : Bool) → leb 10 (ticks + 1) ≡ a → leb 3 tries ≡ b → (n ≡ 3) × (m k : ℕ) × (Awaiting tries ticks ≡ Awaiting m k) × (3 ≤ m) × (9 ≤ k)
     by_tests true true p q = (let e : Some 3 ≡ Some n = rw (p, q) at some in cc, tries, ticks, refl, grind (arith, common_steps), grind (arith, common_steps))
-    by_tests true false p q = absurd (none_is_not n (rw (p, q) at some))
-    by_tests false b p q = absurd (none_is_not n (rw p at some))
-ticked_up Active last n some = absurd (none_is_not n some)
+    by_tests true false p q = absurd (none-some n (rw (p, q) at some))
+    by_tests false b p q = absurd (none-some n (rw p at some))
+ticked_up Active last n some = absurd (none-some n some)
 
 pub uicc_gives_up : (s : UiccAct) (e : ActEvent) → (n : ℕ) → (uicc_step s e).1.gave_up ≡ Some n
     → (n ≡ 3) × (e ≡ Tick) × (tries ticks : ℕ) × (s.phase ≡ Awaiting tries ticks) × (3 ≤ tries) × (9 ≤ ticks)
-uicc_gives_up s (Start value) n some = absurd (none_is_not n some)
-uicc_gives_up s (Take act true) n some = absurd (none_is_not n some)
+uicc_gives_up s (Start value) n some = absurd (none-some n some)
+uicc_gives_up s (Take act true) n some = absurd (none-some n some)
 uicc_gives_up s (Take (PowerMode code) false) n some = by_code (leb code 1) s.phase refl some
   where
     by_code : (b : Bool) (p : Phase) → leb code 1 ≡ b → (cond b (uicc_powered p s) (s, no_act_out)).1.gave_up ≡ Some n
         → (n ≡ 3) × (Take (PowerMode code) false ≡ Tick) × (tries ticks : ℕ) × (s.phase ≡ Awaiting tries ticks) × (3 ≤ tries) × (9 ≤ ticks)
-    by_code true Inactive e some = absurd (none_is_not n some)
-    by_code true (Awaiting tries ticks) e some = absurd (none_is_not n some)
-    by_code true Active e some = absurd (none_is_not n some)
-    by_code false p e some = absurd (none_is_not n some)
-uicc_gives_up s (Take Ready false) n some = absurd (none_is_not n some)
-uicc_gives_up s (Take (SyncId id) false) n some = absurd (none_is_not n some)
+    by_code true Inactive e some = absurd (none-some n some)
+    by_code true (Awaiting tries ticks) e some = absurd (none-some n some)
+    by_code true Active e some = absurd (none-some n some)
+    by_code false p e some = absurd (none-some n some)
+uicc_gives_up s (Take Ready false) n some = absurd (none-some n some)
+uicc_gives_up s (Take (SyncId id) false) n some = absurd (none-some n some)
 uicc_gives_up s Tick n some = let up = ticked_up s.phase s.last n some in (up.0, refl, up.1, up.2, up.3, up.4, up.5)
-uicc_gives_up s Stop n some = absurd (none_is_not n some)
+uicc_gives_up s Stop n some = absurd (none-some n some)
 
 pub clf_gives_up : (s : ClfAct) (e : ActEvent) → (n : ℕ) → (clf_step s e).1.gave_up ≡ Some n
     → (n ≡ 3) × (e ≡ Tick) × (tries ticks : ℕ) × (s.phase ≡ Awaiting tries ticks) × (3 ≤ tries) × (9 ≤ ticks)
-clf_gives_up s (Start value) n some = absurd (none_is_not n some)
-clf_gives_up s (Take act true) n some = absurd (none_is_not n some)
+clf_gives_up s (Start value) n some = absurd (none-some n some)
+clf_gives_up s (Take act true) n some = absurd (none-some n some)
 clf_gives_up s (Take (SyncId id) false) n some = by_phase s.phase some
   where
     by_phase : (p : Phase) → (clf_synced p s id).1.gave_up ≡ Some n
         → (n ≡ 3) × (Take (SyncId id) false ≡ Tick) × (tries ticks : ℕ) × (s.phase ≡ Awaiting tries ticks) × (3 ≤ tries) × (9 ≤ ticks)
-    by_phase Inactive some = absurd (none_is_not n some)
-    by_phase (Awaiting tries ticks) some = absurd (none_is_not n some)
-    by_phase Active some = absurd (none_is_not n some)
+    by_phase Inactive some = absurd (none-some n some)
+    by_phase (Awaiting tries ticks) some = absurd (none-some n some)
+    by_phase Active some = absurd (none-some n some)
 clf_gives_up s (Take Ready false) n some = by_phase s.phase some
   where
     by_phase : (p : Phase) → (clf_readied p s).1.gave_up ≡ Some n
         → (n ≡ 3) × (Take Ready false ≡ Tick) × (tries ticks : ℕ) × (s.phase ≡ Awaiting tries ticks) × (3 ≤ tries) × (9 ≤ ticks)
-    by_phase Inactive some = absurd (none_is_not n some)
-    by_phase (Awaiting tries ticks) some = absurd (none_is_not n some)
-    by_phase Active some = absurd (none_is_not n some)
-clf_gives_up s (Take (PowerMode code) false) n some = absurd (none_is_not n some)
+    by_phase Inactive some = absurd (none-some n some)
+    by_phase (Awaiting tries ticks) some = absurd (none-some n some)
+    by_phase Active some = absurd (none-some n some)
+clf_gives_up s (Take (PowerMode code) false) n some = absurd (none-some n some)
 clf_gives_up s Tick n some = let up = ticked_up s.phase s.last n some in (up.0, refl, up.1, up.2, up.3, up.4, up.5)
-clf_gives_up s Stop n some = absurd (none_is_not n some)
+clf_gives_up s Stop n some = absurd (none-some n some)

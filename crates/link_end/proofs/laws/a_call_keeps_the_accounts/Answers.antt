@@ -8,4 +8,4 @@ pub returns-clause-boxes : goal.returns-clause-boxes
 returns-clause-boxes c = account_moved
 
 pub returns-clause-others : goal.returns-clause-others
-returns-clause-others c = kept_beside_call
+returns-clause-others c old new before after other m n theirs = kept_beside_call new after

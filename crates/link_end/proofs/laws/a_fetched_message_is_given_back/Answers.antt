@@ -5,4 +5,4 @@ pub returns-clause-own : goal.returns-clause-own
 returns-clause-own c = given_own
 
 pub returns-clause-others : goal.returns-clause-others
-returns-clause-others c = given_beside
+returns-clause-others c old new k other n chain theirs = given_beside
