@@ -31,7 +31,7 @@ pub given_back : {old new : PoolState} {k to : End} {m : Machine} {chain : Chain
 given_back {old} {new} {k} {to} {m} {chain} h gives keeps =
     let r = h.rests in
     let own = given_own old new k m chain h.stands h.accounts gives keeps in
-    let other = given_beside old new k to r.state chain None h.accounts gives keeps h.owners r.stands r.accounts in (
+    let other = given_beside h.accounts gives keeps h.owners r.stands r.accounts in (
       record { state = m; stands = own.0; fetched = h.none_left; accounts = own.1 },
       record { state = r.state; stands = other.0; fetched = r.fetched; accounts = other.1 },
     )
@@ -41,20 +41,20 @@ pub passed_on : {old new : PoolState} {k to after : End} {m n : Machine} {chain 
     → Rests k new × Rests after new
 passed_on {old} {new} {k} {to} {after} {m} {n} {chain} h stands inbox leaves =
     let r = h.rests in
-    let giver = passed_giver old new k to after m r.state chain h.stands h.accounts h.owners r.stands leaves in (
+    let giver = passed_giver h.stands h.accounts h.owners r.stands leaves in (
       record { state = m; stands = giver.0; fetched = h.none_left; accounts = giver.1 },
       record {
         state = n;
         stands = stands;
         fetched = ap (λ (b : Inbox). b.got) inbox ∙ r.fetched;
-        accounts = passed_taker old new k to after r.state chain None h.accounts h.owners r.stands r.accounts inbox leaves;
+        accounts = passed_taker after h.accounts h.owners r.stands r.accounts inbox leaves;
       },
     )
 
 pub rests_beside : (old new : PoolState) (before after other : End) (m : Machine) → EndStandsFor before old m → EndLeavesOthers old new before after
     → HaveOwners before other → Rests other old → Rests other new
 rests_beside old new before after other m h leaves differ r =
-    let both = kept_beside_call old new before after other m r.state None h leaves differ r.stands r.accounts in
+    let both = kept_beside_call new after h leaves differ r.stands r.accounts in
     record { state = r.state; stands = both.0; fetched = r.fetched; accounts = both.1 }
 
 pub turned : (one other : End) → HaveOwners one other → HaveOwners other one
