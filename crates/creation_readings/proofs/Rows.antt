@@ -1,7 +1,7 @@
 -- No pipe of a controller leads to its administration gate, but pipe 01 of each host.
 use Rattle.std.proofs.Common.{◌≡◌, ℕ, Bool, false, cond, eqb, ltb, List, [], ◌∷◌, map, take, subst}
 use Rattle.std.specs.Prelude.{not, Some}
-use Rattle.std.specs.List.{AllByRecursion, filter}
+use Rattle.std.specs.List.{AllByRecursion}
 use Rattle.std.proofs.lemmas.Bool.{cond_both}
 use Rattle.sorted_rows.specs.Rows.{rows_before, rows_behind}
 use Rattle.pipe_table.specs.declared.row.PipeRow.{PipeRow}

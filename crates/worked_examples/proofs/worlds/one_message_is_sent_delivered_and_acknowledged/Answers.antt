@@ -1,19 +1,9 @@
 use Rattle.std.proofs.Common.{◌≡◌, ℕ, List, [], ◌∷◌, refl, sym, ap, ◌∙◌, subst, arith}
 use Rattle.std.specs.List.{Contains}
-use Rattle.trace_model.specs.declared.line.Header.{Header}
-use Rattle.trace_model.specs.declared.line.Line.{Line}
-use Rattle.history.specs.Histories.{History}
 use Rattle.history.specs.Follows.{opened}
-use Rattle.world.specs.declared.world_steps.World.{World}
-use Rattle.world.specs.Worlds.{WorldStandsFor}
 use Rattle.worked_examples.proofs.worlds.one_message_is_sent_delivered_and_acknowledged.Goals as goal
 use Rattle.world.proofs.Worlds.{has_room}
-
--- a world that stands for a history under its own header
-own : (w : World) (header : Header) (lines : List Line) (t : History) → WorldStandsFor w header lines t → WorldStandsFor w w.header lines t
-own w header lines t h =
-    let P : Header → Type 0 = λ x. WorldStandsFor w x lines t in
-    subst P (sym h.header_is) h
+use Rattle.swp_tool.proofs.Playing.{under_own_header}
 
 has_two : (hosts : List ℕ) (x : ℕ) → hosts ≡ 2 ∷ [] → x ≡ 2 → Contains hosts x
 has_two hosts x is two =
@@ -26,13 +16,13 @@ step-requires-clause-room g c =
 
 pub step-requires-2-clause-room : goal.step-requires-2-clause-room
 step-requires-2-clause-room g c =
-    let first = own c.in_ok-world.world c.bare_02.result [] (opened c.bare_02.result) c.in_ok-world.ensures.stands in
+    let first = under_own_header c.in_ok-world.world c.bare_02.result [] (opened c.bare_02.result) c.in_ok-world.ensures.stands in
     let second = c.in_ok-step.ensures.stands [] (opened c.bare_02.result) first in
     has_room c.step.new.self c.in_ok-world.world.header _ _ second (omega arith)
 
 pub step-requires-2-clause-line : goal.step-requires-2-clause-line
 step-requires-2-clause-line g c =
-    let first = own c.in_ok-world.world c.bare_02.result [] (opened c.bare_02.result) c.in_ok-world.ensures.stands in
+    let first = under_own_header c.in_ok-world.world c.bare_02.result [] (opened c.bare_02.result) c.in_ok-world.ensures.stands in
     let second = c.in_ok-step.ensures.stands [] (opened c.bare_02.result) first in (
       has_two c.step.new.self.header.hosts.items c.other-controller.result.link
           (ap (λ h. h.hosts.items) (second.header_is ∙ c.in_ok-world.ensures.stands.header_is) ∙ c.bare_02.ensures.hosts)
@@ -42,16 +32,16 @@ step-requires-2-clause-line g c =
 
 pub step-requires-3-clause-room : goal.step-requires-3-clause-room
 step-requires-3-clause-room g c =
-    let first = own c.in_ok-world.world c.bare_02.result [] (opened c.bare_02.result) c.in_ok-world.ensures.stands in
-    let second = own c.step.new.self c.in_ok-world.world.header _ _ (c.in_ok-step.ensures.stands [] (opened c.bare_02.result) first) in
+    let first = under_own_header c.in_ok-world.world c.bare_02.result [] (opened c.bare_02.result) c.in_ok-world.ensures.stands in
+    let second = under_own_header c.step.new.self c.in_ok-world.world.header _ _ (c.in_ok-step.ensures.stands [] (opened c.bare_02.result) first) in
     let third = c.in_ok-step-2.ensures.stands _ _ second in
     has_room c.step-2.new.self c.step.new.self.header _ _ third (omega arith)
 
 pub step-requires-3-clause-line : goal.step-requires-3-clause-line
 step-requires-3-clause-line g c =
-    let first = own c.in_ok-world.world c.bare_02.result [] (opened c.bare_02.result) c.in_ok-world.ensures.stands in
+    let first = under_own_header c.in_ok-world.world c.bare_02.result [] (opened c.bare_02.result) c.in_ok-world.ensures.stands in
     let early = c.in_ok-step.ensures.stands [] (opened c.bare_02.result) first in
-    let second = own c.step.new.self c.in_ok-world.world.header _ _ early in
+    let second = under_own_header c.step.new.self c.in_ok-world.world.header _ _ early in
     let third = c.in_ok-step-2.ensures.stands _ _ second in (
       has_two c.step-2.new.self.header.hosts.items 2
           (ap (λ h. h.hosts.items) (third.header_is ∙ (early.header_is ∙ c.in_ok-world.ensures.stands.header_is)) ∙ c.bare_02.ensures.hosts) refl,
