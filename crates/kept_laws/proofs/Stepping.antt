@@ -44,7 +44,7 @@ use Rattle.kept_laws.proofs.Plainly.{Plainly, runs_plainly, plainly_then, plainl
 use Rattle.kept_laws.proofs.Doing.{uncut, GoesOn_or_lost, all_fine}
 use Rattle.kept_laws.proofs.HostsReply.{OneOrNone, behind_one}
 use Rattle.kept_laws.proofs.Turning.{then_all, passes_fine}
-use Rattle.node_laws.proofs.Ports.{come_host, forgets_host}
+use Rattle.node_laws.proofs.Ports.{come_host, forgets_host, late_host, without_host}
 use Rattle.node_laws.proofs.Walks.{forgotten_hold, all_owed_hold}
 
 -- ## What comes
@@ -89,10 +89,6 @@ late_new p c asked =
 late_plain : (core : Core) (p : Port) → AllByRecursion IsPlain (told_late core p)
 late_plain core p =
     cond_both (is_late p) (told_at core p (Some (Reset None))) [] (AllByRecursion IsPlain) (λ _. told_plain core p (Some (Reset None))) (λ _. tt)
-
-pub late_host : (p : Port) → (reset_late p).desk.host ≡ p.desk.host
-late_host p = cond_both (is_late p) (record p { side = after_input p.side (Reset None); late = true }) p (λ q. q.desk.host ≡ p.desk.host) (λ _. refl)
-    (λ _. refl)
 
 late_waits : (p : Port) → WaitsAt p → WaitsAt (reset_late p)
 late_waits p w = cond_both (is_late p) (record p { side = after_input p.side (Reset None); late = true }) p WaitsAt (λ _. w) (λ _. w)
@@ -147,9 +143,6 @@ forgets_waits ports p w = cond_both (is_forgotten ports (asked_at p)) _ p WaitsA
   by_notice : (o : Option Notice) → WaitsFor (option_map_or (λ (n : Notice). Some (record n { about = Forgotten })) o None)
   by_notice None = tt
   by_notice (Some n) = tt
-
-pub without_host : (p : Port) → (without_notice p).desk.host ≡ p.desk.host
-without_host p = cond_both (is_over p) (record p { desk = record p.desk { notice = None } }) p (λ q. q.desk.host ≡ p.desk.host) (λ _. refl) (λ _. refl)
 
 without_waits : (p : Port) → WaitsAt p → WaitsAt (without_notice p)
 without_waits p w = cond_both (is_over p) (record p { desk = record p.desk { notice = None } }) p WaitsAt (λ _. tt) (λ _. w)

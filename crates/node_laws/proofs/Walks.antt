@@ -178,10 +178,10 @@ pub record Plain (Q : Deed → Type 0) : Type 0 where
   pub is_answered : Q IsAnswered
   pub drops : (pid : ℕ) → Q (Drops pid)
 
--- what holds of any number holds of each of these
-pub anyone : (R : ℕ → Type 0) → ((y : ℕ) → R y) → (hosts : List ℕ) → AllByRecursion R hosts
+-- what holds of any holds of each of these
+pub anyone : {X : Type 0} (R : X → Type 0) → ((y : X) → R y) → (ys : List X) → AllByRecursion R ys
 anyone R one [] = tt
-anyone R one (y ∷ hosts) = (one y, anyone R one hosts)
+anyone R one (y ∷ ys) = (one y, anyone R one ys)
 
 module _ (Q : Deed → Type 0) where
   -- it holds of what else comes of a decision

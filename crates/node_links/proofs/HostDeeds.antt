@@ -1,6 +1,6 @@
 -- What hosts send may be sent.
 use Rattle.std.proofs.Common.{◌≡◌, ℕ, ◌<◌, List, [], ◌∷◌, ◌++◌, subst, arith}
-use Rattle.std.specs.Prelude.{Some, map, slice_get, ◌+◌, zero, suc}
+use Rattle.std.specs.Prelude.{Some, map, slice_get, zero, suc}
 use Rattle.std.specs.List.{AllByRecursion}
 use Rattle.hcp_packet.specs.Packets.{IsSendable}
 use Rattle.registry.proofs.ValueLemmas.{AllByRecursion-append}

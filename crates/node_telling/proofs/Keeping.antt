@@ -12,11 +12,10 @@ use Rattle.node_machine.specs.Node.NodeInput.{AtEnd, TimePasses}
 use Rattle.node_world.specs.World.{runs_on}
 use Rattle.kept_laws.specs.Books.{hosts_of_ends}
 use Rattle.kept_laws.proofs.Plainly.{hosts_map}
-use Rattle.kept_laws.proofs.Stepping.{without_host, late_host}
 use Rattle.node_telling.specs.Telling.{IfItRuns}
 use Rattle.node_telling.proofs.Mute.{AreMute, forgotten_mute, all_owed_mute, all_synced_mute}
 use Rattle.node_telling.proofs.Walks.{AreSilent, all_do, rest}
-use Rattle.node_laws.proofs.Ports.{come_host, forgets_host, changed_host}
+use Rattle.node_laws.proofs.Ports.{come_host, forgets_host, changed_host, late_host, without_host}
 
 -- it has this number, and ends on the links with these hosts
 pub record Keeps (n : ℕ) (hosts : List ℕ) (w : Work) : Type 0 where
