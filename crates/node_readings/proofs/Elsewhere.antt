@@ -11,7 +11,7 @@ use Rattle.swp_base.specs.declared.link_terms.Cause.{Cause}
 use Rattle.hci_tables.specs.declared.command.Command.{Command}
 use Rattle.hci_tables.specs.Bodies.{body_of}
 use Rattle.hci_store.specs.Committing.{commit_writes}
-use Rattle.link_machine.specs.Machine.{Message, LinkInput, Refused, Turn, Report, give_refusal, report, whole_acked, after_input, is_held}
+use Rattle.link_machine.specs.Machine.{Message, LinkInput, Refused, Turn, Report, give_refusal, report, whole_acked, after_input}
 use Rattle.link_machine.specs.Machine.LinkInput.{Reset}
 use Rattle.link_machine.specs.Machine.Turn.{Give, Hold, FetchMessage, SetAside, Release}
 use Rattle.link_entries.specs.Entries.{End as Side, Entry as Noted, told, sent_unless}
@@ -22,9 +22,8 @@ use Rattle.node_machine.specs.Parts.{About, Desk, Core, Port, Work, Deed}
 use Rattle.node_machine.specs.Parts.About.{Waits, Removed}
 use Rattle.node_machine.specs.Parts.Deed.{Commits, Sends, SaysOk, Asks, Releases, Tells, IsAnswered, Drops, SetsErrors, Orders, Hears, GoesOn, Ends}
 use Rattle.node_machine.specs.Controller.{is_command_message}
-use Rattle.node_machine.specs.Carrying.{own_side, noting, unless_cut, port_at, changed_if, with_port, with_desk, after_turn, noted_of, turn_at, notified}
-use Rattle.node_machine.specs.Carrying.{commit, done, all_done, end_of_node, needs, lack}
-use Rattle.node_machine.specs.Turns.{deeds_of, handles, holds_back, lets_go, have_turns, goes_through_ends, passes}
+use Rattle.node_machine.specs.Carrying.{own_side, noting, port_at, changed_if, with_port, with_desk, after_turn, noted_of, turn_at, notified}
+use Rattle.node_machine.specs.Carrying.{commit, done, all_done, end_of_node}
 use Rattle.node_machine.specs.Node.{NodeInput, input_at, has_come, told_at, all_come, with_older, is_late, reset_late, told_late, times_out, forgotten, forgets}
 use Rattle.node_machine.specs.Node.{all_owed, without_notice, after_sessions, synced, steps}
 use Rattle.node_machine.specs.Node.NodeInput.{AtEnd, TimePasses}
@@ -32,8 +31,11 @@ use Rattle.node_world.specs.World.{end_h}
 use Rattle.node_world.specs.NodeFilters.{is_response}
 use Rattle.node_readings.specs.Orders.{IsSilent}
 use Rattle.node_readings.proofs.Silent.{IsQuiet, told_rest, rest_quiet}
-use Rattle.node_laws.proofs.Walks.{forgotten_hold, all_owed_hold, all_synced_hold}
+use Rattle.node_laws.proofs.Walks.{forgotten_hold, all_owed_hold, all_synced_hold, anyone}
 use Rattle.node_readings.proofs.Hushed.{IsHushed, AreHushed, deeds_hushed}
+use Rattle.node_laws.proofs.StepWalks.{got_at, all_do as all_away, Lasts, rest_lasts}
+use Rattle.node_laws.proofs.Ports.{come_host, forgets_host, late_host, without_host, changed_host, sessions_node, at_port}
+use Rattle.node_links.proofs.Noticing.{at_host}
 
 abbrev pub AreSilent : ℕ → List Entry → Type 0
 AreSilent k es = AllByRecursion (IsSilent k) es
@@ -132,10 +134,6 @@ module _ (k : ℕ) where
     maps : (f : Port → Port) (w : Work) → ((p : Port) → (f p).desk.host ≡ p.desk.host) → IsAway w → IsAway (record w { ports = map f w.ports })
     maps f w host a = record { number = a.number; side = a.side; ends = map_away f host w.ports a.ends; silent = a.silent }
 
-    changed_host : (b : Bool) (f : Port → Port) (p : Port) → ((q : Port) → (f q).desk.host ≡ q.desk.host) → (changed_if b f p).desk.host ≡ p.desk.host
-    changed_host true f p host = host p
-    changed_host false f p host = refl
-
     ends_with : (h : ℕ) (f : Port → Port) (w : Work) → ((p : Port) → (f p).desk.host ≡ p.desk.host) → IsAway w
         → IsAway (record w { ports = with_port h f w.ports })
     ends_with h f w host a = maps (λ p. changed_if (eqb p.desk.host h) f p) w (λ p. changed_host (eqb p.desk.host h) f p host) a
@@ -198,94 +196,43 @@ module _ (k : ℕ) where
     does h (Ends e) w q a =
         notes (e ∷ []) (record w { core = record w.core { init = None } }) (q, tt) (with_core w (record w.core { init = None }) refl a)
 
-    unless : (f : Work → Work) (w : Work) → (IsAway w → IsAway (f w)) → IsAway w → IsAway (unless_cut f w)
-    unless f w one a = go w.cut where
-      by : Bool → Work
-      by true = w
-      by false = f w
-
-      go : (b : Bool) → IsAway (by b)
-      go true = a
-      go false = one a
-
     pub all_do : (h : ℕ) (deeds : List Deed) (w : Work) → AreHushed k deeds → IsAway w → IsAway (all_done h deeds w)
-    all_do h [] w q a = a
-    all_do h (d ∷ deeds) w q a = unless (all_done h deeds) (done h d w) (λ b. all_do h deeds (done h d w) q.1 b) (does h d w q.0 a)
+    all_do h deeds w q a = all_away IsAway (IsHushed k) does h deeds w q a
 
     -- ## Turns
 
-    handles_away : (h : ℕ) (m : Message) (deeds : List Deed) (w : Work) → Away who h → AreHushed k deeds → IsAway w → IsAway (handles h m deeds w)
-    handles_away h m deeds w away q a =
-        let said : List Entry = entry.Turn (end_of_node w.core h) m.0 m.1 ∷ [] in
-        let quiet : AreSilent k said = (
-          (λ c. off_all (same_end (end_of_node w.core h) (end_h k)) (eqb m.0 1) (is_response m.1) None c (ap (λ s. same_end (end_of h s)
-              (end_h k)) a.side ∙ away)),
-          tt,
-        ) in
-        all_do h deeds (with_desk h (λ d. record d { holds = false }) (turn_at h FetchMessage (noting said w))) q
-        (desks h (λ d. record d { holds = false }) (turn_at h FetchMessage (noting said w)) (λ d. refl) (turns h FetchMessage (noting said w)
-        (notes said w quiet a)))
+    turn_silent_at : (h : ℕ) (m : Message) (w : Work) → Away who h → IsAway w → AreSilent k (entry.Turn (end_of_node w.core h) m.0 m.1 ∷ [])
+    turn_silent_at h m w away a = (
+      (λ c. off_all (same_end (end_of_node w.core h) (end_h k)) (eqb m.0 1) (is_response m.1) None c (ap (λ s. same_end (end_of h s)
+          (end_h k)) a.side ∙ away)),
+      tt,
+    )
 
-    holds : (h : ℕ) (short : ℕ × ℕ) (w : Work) → IsAway w → IsAway (holds_back h short w)
-    holds h short w a = go (option_map_or (λ (p : Port). p.desk.holds) (port_at w.ports h) false) where
-      said : Work
-      said = noting (entry.Held (end_of_node w.core h) short.0 short.1 ∷ []) w
+    -- each message comes at an end that is away
+    come_away : (h : ℕ) (w : Work) → IsAway w → AllByRecursion (λ (m : Message). Away who h) (got_at h w)
+    come_away h w a = go (port_at w.ports h) refl where
+      go : (o : Option Port) → port_at w.ports h ≡ o → AllByRecursion (λ (m : Message). Away who h) (option_map_or (λ (p : Port). p.side.got) o [])
+      go None q = tt
+      go (Some p) q =
+          anyone (λ (m : Message). Away who h)
+          (λ m. subst (Away who) (at_host w.ports h p q) (at_port (λ (p : Port). Away who p.desk.host) w.ports h p a.ends q)) p.side.got
 
-      by : Bool → Work
-      by true = turn_at h (Hold true) w
-      by false = turn_at h (Hold true) (with_desk h (λ d. record d { holds = true }) said)
+    abbrev ComesAway : ℕ → Message → Type 0
+    ComesAway h m = Away who h
 
-      go : (b : Bool) → IsAway (by b)
-      go true = turns h (Hold true) w a
-      go false =
-          turns h (Hold true) (with_desk h (λ d. record d { holds = true }) said) (desks h (λ d. record d { holds = true }) said (λ d. refl)
-          (notes (entry.Held (end_of_node w.core h) short.0 short.1 ∷ []) w ((λ c. refl), tt) a))
-
-    lets : (h : ℕ) (w : Work) → IsAway w → IsAway (lets_go h w)
-    lets h w a = go (option_map_or (λ (p : Port). is_held p.side) (port_at w.ports h) false) where
-      by : Bool → Work
-      by true = turn_at h (Hold false) w
-      by false = w
-
-      go : (b : Bool) → IsAway (by b)
-      go true = turns h (Hold false) w a
-      go false = a
-
-    have_away : (h : ℕ) (messages : List Message) (w : Work) → Away who h → IsAway w → IsAway (have_turns h messages w)
-    have_away h [] w away a = lets h w a
-    have_away h (m ∷ messages) w away a = go (lack w.ports (needs h deeds)) (λ v b. have_away h messages v away b) where
-      deeds : List Deed
-      deeds = deeds_of w.core w.ports h m
-
-      by : Option (ℕ × ℕ) → Work
-      by None = unless_cut (have_turns h messages) (handles h m deeds w)
-      by (Some short) = holds_back h short w
-
-      go : (o : Option (ℕ × ℕ)) → ((v : Work) → IsAway v → IsAway (have_turns h messages v)) → IsAway (by o)
-      go None later =
-          unless (have_turns h messages) (handles h m deeds w) (later (handles h m deeds w)) (handles_away h m deeds w away
-          (deeds_hushed k w.core w.ports h m) a)
-      go (Some short) later = holds h short w a
-
-    ends_away : (hosts : List ℕ) (w : Work) → AllByRecursion (Away who) hosts → IsAway w → IsAway (goes_through_ends hosts w)
-    ends_away [] w all a = a
-    ends_away (h ∷ hosts) w all a =
-        let messages : List Message = option_map_or (λ (p : Port). p.side.got) (port_at w.ports h) [] in
-        unless (goes_through_ends hosts) (have_turns h messages w) (λ b. ends_away hosts (have_turns h messages w) all.1 b) (have_away h messages w all.0 a)
-
-    hosts_away : (ports : List Port) → AllByRecursion (λ (p : Port). Away who p.desk.host) ports → AllByRecursion (Away who) (map (λ
-        (p : Port). p.desk.host) ports)
-    hosts_away [] all = tt
-    hosts_away (p ∷ ports) all = (all.0, hosts_away ports all.1)
-
-    passes_away : (w : Work) → IsAway w → IsAway (passes w)
-    passes_away w a = ends_away (map (λ (p : Port). p.desk.host) w.ports) w (hosts_away w.ports a.ends) a
+    away_lasts : Lasts IsAway (IsHushed k) ComesAway
+    away_lasts = record {
+      does = does;
+      turn_told = λ h m w away a. notes (entry.Turn (end_of_node w.core h) m.0 m.1 ∷ []) w (turn_silent_at h m w away a) a;
+      held_told = λ h need spare w a. notes (entry.Held (end_of_node w.core h) need spare ∷ []) w ((λ c. refl), tt) a;
+      fetched = λ h w a. turns h FetchMessage w a;
+      held = λ h flag w a. turns h (Hold flag) w a;
+      marked = λ h flag w a. desks h (λ d. record d { holds = flag }) w (λ d. refl) a;
+      come = come_away;
+      causes = λ h m w away a. deeds_hushed k w.core w.ports h m;
+    }
 
     -- ## Steps
-
-    come_host : (p : Port) (o : Option LinkInput) → (has_come p o).desk.host ≡ p.desk.host
-    come_host p None = refl
-    come_host p (Some i) = refl
 
     all_told : (f : Port → List Entry) → ((p : Port) → Away who p.desk.host → AreSilent k (f p)) → (ports : List Port)
         → AllByRecursion (λ (p : Port). Away who p.desk.host) ports → AreSilent k (flat_map f ports)
@@ -302,10 +249,6 @@ module _ (k : ℕ) where
         (here_away w.core p a.side away)) w.ports a.ends)
         (maps (λ p. has_come p (input_at input p)) w (λ p. come_host p (input_at input p)) a)
 
-    late_host : (p : Port) → (reset_late p).desk.host ≡ p.desk.host
-    late_host p = cond_both (is_late p) (record p { side = after_input p.side (Reset None); late = true }) p (λ q. q.desk.host ≡ p.desk.host)
-        (λ _. refl) (λ _. refl)
-
     late_silent : (core : Core) (p : Port) → Away (own_side core) p.desk.host → AreSilent k (told_late core p)
     late_silent core p away = cond_both (is_late p) (told_at core p (Some (Reset None))) [] (AreSilent k) (λ _. come_silent core p (Some
         (Reset None)) away) (λ _. tt)
@@ -319,15 +262,6 @@ module _ (k : ℕ) where
         (all_told (told_late v.core) (λ p away. late_silent v.core p (here_away v.core p b.side away)) v.ports b.ends)
         (maps reset_late v late_host b)
 
-    forgets_host : (ports : List Port) (p : Port) → (forgets ports p).desk.host ≡ p.desk.host
-    forgets_host ports p = cond_both _ _ p (λ (q : Port). q.desk.host ≡ p.desk.host) (λ _. refl) (λ _. refl)
-
-    without_host : (p : Port) → (without_notice p).desk.host ≡ p.desk.host
-    without_host p = cond_both _ _ p (λ (q : Port). q.desk.host ≡ p.desk.host) (λ _. refl) (λ _. refl)
-
-    sessions_node : (core : Core) (ports : List Port) → (after_sessions core ports).node ≡ core.node
-    sessions_node core ports = cond_both _ _ core (λ (c : Core). c.node ≡ core.node) (λ _. refl) (λ _. refl)
-
     pub steps_away : (input : NodeInput) (w : Work) → IsAway w → IsAway (steps input w)
     steps_away input w a =
         let came : Work = times_out input (all_come input w) in
@@ -337,12 +271,6 @@ module _ (k : ℕ) where
         let first : IsAway begun =
         with_core (record came { ports = map without_notice left }) (after_sessions came.core came.ports) (sessions_node came.core came.ports)
         (maps without_notice (record came { ports = left }) without_host (maps (forgets came.ports) came (forgets_host came.ports) b)) in
-        let freed : List Deed = forgotten came.ports in
-        let syncs : List Deed = flat_map (synced w.core input) w.ports in
-        let owing : List Deed = all_owed left in
-        let one : IsAway (all_done 0 syncs (all_done 0 freed begun)) =
-        all_do 0 syncs (all_done 0 freed begun) (all_synced_hold (IsHushed k) (λ host id. tt) w.core input w.ports)
-        (all_do 0 freed begun (forgotten_hold (IsHushed k) (λ asker. tt) came.ports) first) in
-        let owed_all : AreHushed k owing = all_owed_hold (IsHushed k) (λ asker. tt) (λ to r. tt) left in
-        unless passes (unless_cut (all_done 0 owing) (all_done 0 syncs (all_done 0 freed begun))) (λ c. passes_away _ c)
-        (unless (all_done 0 owing) (all_done 0 syncs (all_done 0 freed begun)) (λ c. all_do 0 owing _ owed_all c) one)
+        rest_lasts IsAway (IsHushed k) ComesAway away_lasts (forgotten came.ports) (flat_map (synced w.core input) w.ports) (all_owed left) begun
+        (forgotten_hold (IsHushed k) (λ asker. tt) came.ports) (all_synced_hold (IsHushed k) (λ host id. tt) w.core input w.ports)
+        (all_owed_hold (IsHushed k) (λ asker. tt) (λ to r. tt) left) first
