@@ -1,5 +1,5 @@
 -- What is read of creations over whatever happens.
-use Rattle.std.proofs.Common.{◌≡◌, ◌⊎◌, inl, inr, ℕ, ◌+◌, ◌&&◌, Bool, true, false, not, cond, eqb, List, [], ◌∷◌, ◌++◌, length, map, min, sym, refl, ap, ◌∙◌}
+use Rattle.std.proofs.Common.{◌≡◌, ◌⊎◌, inl, inr, ℕ, ◌+◌, ◌&&◌, Bool, true, false, not, cond, eqb, List, [], ◌∷◌, ◌++◌, map, min, sym, refl, ap, ◌∙◌}
 use Rattle.std.proofs.Common.{subst, append-nil}
 use Rattle.std.specs.Prelude.{Option, Some, None}
 use Rattle.std.specs.List.{AllByRecursion, flat_map, find, cons_option, filter_map}
@@ -7,7 +7,7 @@ use Rattle.std.specs.Option.{option_map_or}
 use Rattle.std.proofs.lemmas.Bool.{cases_Bool, eqb-true}
 use Rattle.swp_base.specs.InMemory.{Memory}
 use Rattle.journal_laws.specs.Journal.{count_of}
-use Rattle.journal_laws.specs.Planned.{fails_within, after_planned}
+use Rattle.journal_laws.specs.Planned.{after_planned}
 use Rattle.trace_model.specs.Lines.{IsHost}
 use Rattle.trace_model.specs.declared.entry.Entry.{Entry}
 use Rattle.trace_model.specs.declared.entry.Entry.TheVariants as entry
@@ -56,6 +56,7 @@ use Rattle.shdlc_core.specs.Machine.{is_waiting}
 use Rattle.session_laws.specs.Sessions.{OnWire}
 use Rattle.hci_tables.specs.Tables.{HciTables}
 use Rattle.kept_laws.proofs.Books.{book_more}
+use Rattle.kept_laws.proofs.Powers.{node_holds, cut_holds, booted_memory, booted_node, booted_off, boots_hold}
 
 -- ## Beside the controller
 
@@ -259,96 +260,47 @@ cut_ends (s ∷ sites) n = go (cases_Bool (eqb s.host n)) (cut_ends sites n) whe
   go (inr off) later = rw off later
 
 pub cut_reads : (t : List Entry) (w : NodeWorld) (n : ℕ) → Reads t w → Reads (t ++ entry.Cut n ∷ []) (loses_power_at n w)
-cut_reads t w n a = by_number (cases_Bool (eqb n 0)) where
-  near_is : eqb n 0 ≡ true → loses_power_at n w ≡ controller_cut w
-  near_is e = rw e refl
-
-  far_is : eqb n 0 ≡ false → loses_power_at n w ≡ record w { sites = with_site n host_cut w.sites }
-  far_is e = rw e refl
-
-  near : Reads (t ++ entry.Cut 0 ∷ []) (controller_cut w)
-  near = record {
-    book = subst IsProperBook (sym (book_more t (entry.Cut 0 ∷ []) 0)) a.book;
-    due = tt;
-    read = λ x. subst (λ m. IsReadSo m []) (sym (asking_more x t (entry.Cut 0 ∷ []))) tt;
-    ends = λ x. cut_ends w.sites x;
-  }
-
-  by_number : (eqb n 0 ≡ true) ⊎ (eqb n 0 ≡ false) → Reads (t ++ entry.Cut n ∷ []) (loses_power_at n w)
-  by_number (inl e) =
-      subst (Reads (t ++ entry.Cut n ∷ [])) (sym (near_is e))
-      (subst (λ m. Reads (t ++ entry.Cut m ∷ []) (controller_cut w)) (sym (eqb-true n 0 e)) near)
-  by_number (inr e) =
-      subst (Reads (t ++ entry.Cut n ∷ [])) (sym (far_is e))
-      (beside_reads t w (record w { sites = with_site n host_cut w.sites }) (entry.Cut n ∷ []) a
-      (sites_beside w n host_cut (entry.Cut n ∷ []) (e, tt) (λ s. refl) (λ s. far_side s.link (Step NoInput [] CutOff))))
+cut_reads t w n a =
+    cut_holds (Reads (t ++ entry.Cut n ∷ [])) w n
+    (λ e. subst (λ m. Reads (t ++ entry.Cut m ∷ []) (controller_cut w)) (sym (eqb-true n 0 e)) near)
+    (λ e. beside_reads t w (record w { sites = with_site n host_cut w.sites }) (entry.Cut n ∷ []) a
+    (sites_beside w n host_cut (entry.Cut n ∷ []) (e, tt) (λ s. refl) (λ s. far_side s.link (Step NoInput [] CutOff))))
+  where
+    near : Reads (t ++ entry.Cut 0 ∷ []) (controller_cut w)
+    near = record {
+      book = subst IsProperBook (sym (book_more t (entry.Cut 0 ∷ []) 0)) a.book;
+      due = tt;
+      read = λ x. subst (λ m. IsReadSo m []) (sym (asking_more x t (entry.Cut 0 ∷ []))) tt;
+      ends = λ x. cut_ends w.sites x;
+    }
 
 runs_reads : (t : List Entry) (w : NodeWorld) (n k : ℕ) (hosts content : List ℕ) → Reads t w → (eqb n 0 ≡ true → w.controller ≡ None)
     → Reads (t ++ entry.Booted n k ∷ []) (with_node n (found n hosts content) w)
-runs_reads t w n k hosts content a off = by_number (cases_Bool (eqb n 0)) where
-  near_is : eqb n 0 ≡ true → with_node n (found n hosts content) w ≡ record w { controller = Some (found n hosts content) }
-  near_is e = rw e refl
-
-  far_is : eqb n 0 ≡ false
-      → with_node n (found n hosts content) w ≡ record w { sites = with_site n (λ (s : Site). record s { node = Some (found n hosts content) }) w.sites }
-  far_is e = rw e refl
-
-  near : w.controller ≡ None → Reads (t ++ entry.Booted 0 k ∷ []) (record w { controller = Some (found n hosts content) })
-  near none = record {
-    book = subst IsProperBook (sym (book_more t (entry.Booted 0 k ∷ []) 0)) (proper_found k (book_in t 0) a.book);
-    due = new_due hosts;
-    read = λ x. subst (λ m. IsReadSo m (creations_at (map new_desk hosts) x))
-        (sym (asking_more x t (entry.Booted 0 k ∷ [])))
-        (subst (IsReadSo (asking_in t x)) (sym (none_asked hosts x)) (subst (λ o. IsReadSo (asking_in t x) (creations_of o x)) none (a.read x)));
-    ends = λ x. subst (λ l. HasSetAside l (link_to w.sites x).controller.side) (sym (none_asked hosts x))
-        (subst (λ o. HasSetAside (creations_of o x) (link_to w.sites x).controller.side) none (a.ends x));
-  }
-
-  by_number : (eqb n 0 ≡ true) ⊎ (eqb n 0 ≡ false) → Reads (t ++ entry.Booted n k ∷ []) (with_node n (found n hosts content) w)
-  by_number (inl e) =
-      subst (Reads (t ++ entry.Booted n k ∷ [])) (sym (near_is e))
-      (subst (λ m. Reads (t ++ entry.Booted m k ∷ []) (record w { controller = Some (found n hosts content) })) (sym (eqb-true n 0 e)) (near (off e)))
-  by_number (inr e) =
-      subst (Reads (t ++ entry.Booted n k ∷ [])) (sym (far_is e))
-      (beside_reads t w (record w { sites = with_site n (λ (s : Site). record s { node = Some (found n hosts content) }) w.sites }) (entry.Booted n k ∷ []) a
-      (sites_beside w n (λ (s : Site). record s { node = Some (found n hosts content) }) (entry.Booted n k ∷ []) (e, tt) (λ s. refl) (λ s. refl)))
+runs_reads t w n k hosts content a off =
+    node_holds (Reads (t ++ entry.Booted n k ∷ [])) w n (found n hosts content)
+    (λ e. subst (λ m. Reads (t ++ entry.Booted m k ∷ []) (record w { controller = Some (found n hosts content) })) (sym (eqb-true n 0 e)) (near (off e)))
+    (λ e. beside_reads t w (record w { sites = with_site n (λ (s : Site). record s { node = Some (found n hosts content) }) w.sites })
+    (entry.Booted n k ∷ []) a
+    (sites_beside w n (λ (s : Site). record s { node = Some (found n hosts content) }) (entry.Booted n k ∷ []) (e, tt) (λ s. refl) (λ s. refl)))
+  where
+    near : w.controller ≡ None → Reads (t ++ entry.Booted 0 k ∷ []) (record w { controller = Some (found n hosts content) })
+    near none = record {
+      book = subst IsProperBook (sym (book_more t (entry.Booted 0 k ∷ []) 0)) (proper_found k (book_in t 0) a.book);
+      due = new_due hosts;
+      read = λ x. subst (λ m. IsReadSo m (creations_at (map new_desk hosts) x))
+          (sym (asking_more x t (entry.Booted 0 k ∷ [])))
+          (subst (IsReadSo (asking_in t x)) (sym (none_asked hosts x)) (subst (λ o. IsReadSo (asking_in t x) (creations_of o x)) none (a.read x)));
+      ends = λ x. subst (λ l. HasSetAside l (link_to w.sites x).controller.side) (sym (none_asked hosts x))
+          (subst (λ o. HasSetAside (creations_of o x) (link_to w.sites x).controller.side) none (a.ends x));
+    }
 
 pub boots_reads : (t : List Entry) (w : NodeWorld) (n : ℕ) → Reads t w → node_at w n ≡ None → Reads (t ++ (boots w n).1) (boots w n).0
-boots_reads t w n a stands = by_plan (cases_Bool (fails_within (length (boot_writes before.content)) before.plan)) where
-  before : Memory
-  before = memory_at w n
-
-  written : NodeWorld
-  written = with_memory n (after_planned (boot_writes before.content) before) w
-
-  noted : List Entry
-  noted = entry.Booted n (count_of (found n (links_of w n) before.content).core.journal) ∷ []
-
-  Fine : NodeWorld × List Entry → Type 0
-  Fine p = Reads (t ++ p.1) p.0
-
-  lost_is : fails_within (length (boot_writes before.content)) before.plan ≡ true → boots w n ≡ (loses_power_at n written, entry.Cut n ∷ [])
-  lost_is e = rw e refl
-
-  runs_is : fails_within (length (boot_writes before.content)) before.plan ≡ false
-      → boots w n ≡ (with_node n (found n (links_of w n) before.content) written, noted)
-  runs_is e = rw e refl
-
-  still : Reads t written
-  still = subst (λ l. Reads l written) (append-nil t)
-      (beside_reads t w written [] a (memory_beside w n (after_planned (boot_writes before.content) before)))
-
-  off : eqb n 0 ≡ true → written.controller ≡ None
-  off e =
-      let same : written ≡ record w { memory = after_planned (boot_writes before.content) before } = rw e refl in
-      let none : w.controller ≡ None = rw e at stands in
-      ap (λ (v : NodeWorld). v.controller) same ∙ none
-
-  by_plan : (fails_within (length (boot_writes before.content)) before.plan ≡ true)
-      ⊎ (fails_within (length (boot_writes before.content)) before.plan ≡ false) → Fine (boots w n)
-  by_plan (inl fails) = subst Fine (sym (lost_is fails)) (cut_reads t written n still)
-  by_plan (inr none) = subst Fine (sym (runs_is none))
-      (runs_reads t written n (count_of (found n (links_of w n) before.content).core.journal) (links_of w n) before.content still off)
+boots_reads t w n a stands =
+    let still : Reads t (booted_memory w n) =
+    subst (λ l. Reads l (booted_memory w n)) (append-nil t)
+    (beside_reads t w (booted_memory w n) [] a (memory_beside w n (after_planned (boot_writes (memory_at w n).content) (memory_at w n)))) in
+    boots_hold (λ (p : NodeWorld × List Entry). Reads (t ++ p.1) p.0) w n (cut_reads t (booted_memory w n) n still)
+    (runs_reads t (booted_memory w n) n (count_of (booted_node w n).core.journal) (links_of w n) (memory_at w n).content still (booted_off w n stands))
 
 -- ## The controller acts
 

@@ -15,6 +15,7 @@ pub mod Standing
 pub mod Booting
 pub mod Sites
 pub mod Worlds
+pub mod Powers
 pub mod Events
 pub mod Ticking
 pub mod Lines
