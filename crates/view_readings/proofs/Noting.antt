@@ -13,7 +13,7 @@ use Rattle.swp_base.specs.declared.link_terms.Cause.{Cause}
 use Rattle.hci_tables.specs.declared.command.Command.{Command}
 use Rattle.hci_tables.specs.Bodies.{body_of}
 use Rattle.hci_store.specs.Committing.{commit_writes}
-use Rattle.link_machine.specs.Machine.{Message, LinkInput, Refused, Turn, Report, give_refusal, report, whole_acked, after_input, is_held}
+use Rattle.link_machine.specs.Machine.{Message, LinkInput, Refused, Turn, Report, give_refusal, report, whole_acked, after_input}
 use Rattle.link_machine.specs.Machine.LinkInput.{Reset}
 use Rattle.link_machine.specs.Machine.Turn.{Give, Hold, FetchMessage, SetAside, Release}
 use Rattle.link_entries.specs.Entries.{End as Side, Entry as Noted, if_so, told, sent_unless}
@@ -23,14 +23,17 @@ use Rattle.history.specs.Steps.{entries_for, entry_of, end_of}
 use Rattle.node_machine.specs.Parts.{About, Desk, Core, Port, Work, Deed}
 use Rattle.node_machine.specs.Parts.About.{Waits, Removed}
 use Rattle.node_machine.specs.Parts.Deed.{Commits, Sends, SaysOk, Asks, Releases, Tells, IsAnswered, Drops, SetsErrors, Orders, Hears, GoesOn, Ends}
-use Rattle.node_machine.specs.Carrying.{own_side, noting, unless_cut, port_at, changed_if, with_port, with_desk, after_turn, noted_of, turn_at, notified}
-use Rattle.node_machine.specs.Carrying.{commit, done, all_done, end_of_node, needs, lack}
-use Rattle.node_machine.specs.Turns.{deeds_of, handles, holds_back, lets_go, have_turns, goes_through_ends, passes}
+use Rattle.node_machine.specs.Carrying.{own_side, noting, port_at, changed_if, with_port, with_desk, after_turn, noted_of, turn_at, notified}
+use Rattle.node_machine.specs.Carrying.{commit, done, all_done, end_of_node}
+use Rattle.node_machine.specs.Turns.{deeds_of}
 use Rattle.node_machine.specs.Node.{NodeInput, input_at, has_come, told_at, all_come, with_older, is_late, reset_late, told_late, times_out, forgotten, forgets}
 use Rattle.node_machine.specs.Node.{all_owed, without_notice, after_sessions, synced, steps}
 use Rattle.node_machine.specs.Node.NodeInput.{AtEnd, TimePasses}
 use Rattle.registry.proofs.ValueLemmas.{AllByRecursion-append}
-use Rattle.node_laws.proofs.Walks.{forgotten_hold, all_owed_hold, all_synced_hold}
+use Rattle.node_laws.proofs.Walks.{forgotten_hold, all_owed_hold, all_synced_hold, anyone}
+use Rattle.node_laws.proofs.StepWalks.{got_at, all_do as all_note, Lasts, rest_lasts}
+use Rattle.node_laws.proofs.Ports.{come_host, forgets_host, late_host, without_host, changed_host, sessions_node, at_port}
+use Rattle.node_links.proofs.Noticing.{at_host}
 
 -- this is noted of an end of this side
 abbrev pub IsOwnNote : Side → Noted → Type 0
@@ -136,10 +139,6 @@ module _ (P : Entry → Type 0) (n : ℕ) (who : Side) (At : ℕ → Type 0)
   maps : (f : Port → Port) (w : Work) → ((p : Port) → (f p).desk.host ≡ p.desk.host) → Notes w → Notes (record w { ports = map f w.ports })
   maps f w host a = record { number = a.number; side = a.side; ends = map_at f host w.ports a.ends; so = a.so }
 
-  changed_host : (b : Bool) (f : Port → Port) (p : Port) → ((q : Port) → (f q).desk.host ≡ q.desk.host) → (changed_if b f p).desk.host ≡ p.desk.host
-  changed_host true f p host = host p
-  changed_host false f p host = refl
-
   ends_with : (h : ℕ) (f : Port → Port) (w : Work) → ((p : Port) → (f p).desk.host ≡ p.desk.host) → Notes w
       → Notes (record w { ports = with_port h f w.ports })
   ends_with h f w host a = maps (λ p. changed_if (eqb p.desk.host h) f p) w (λ p. changed_host (eqb p.desk.host h) f p host) a
@@ -203,89 +202,37 @@ module _ (P : Entry → Type 0) (n : ℕ) (who : Side) (At : ℕ → Type 0)
   does h (Ends e) w q a =
       notes (e ∷ []) (record w { core = record w.core { init = None } }) (q, tt) (with_core w (record w.core { init = None }) refl a)
 
-  unless : (f : Work → Work) (w : Work) → (Notes w → Notes (f w)) → Notes w → Notes (unless_cut f w)
-  unless f w one a = go w.cut where
-    by : Bool → Work
-    by true = w
-    by false = f w
-
-    go : (b : Bool) → Notes (by b)
-    go true = a
-    go false = one a
-
   pub all_do : (h : ℕ) (deeds : List Deed) (w : Work) → AllByRecursion (NotesSo P) deeds → Notes w → Notes (all_done h deeds w)
-  all_do h [] w q a = a
-  all_do h (d ∷ deeds) w q a = unless (all_done h deeds) (done h d w) (λ b. all_do h deeds (done h d w) q.1 b) (does h d w q.0 a)
+  all_do h deeds w q a = all_note Notes (NotesSo P) does h deeds w q a
 
   -- ## Turns
 
-  handled : (h : ℕ) (m : Message) (deeds : List Deed) (w : Work) → At h → AllByRecursion (NotesSo P) deeds → Notes w → Notes (handles h m deeds w)
-  handled h m deeds w at q a =
-      let said : List Entry = entry.Turn (end_of_node w.core h) m.0 m.1 ∷ [] in
-      let fine : AllByRecursion P said = (subst (λ s. P (entry.Turn (end_of h s) m.0 m.1)) (sym a.side) (turned h m.0 m.1 at), tt) in
-      all_do h deeds (with_desk h (λ d. record d { holds = false }) (turn_at h FetchMessage (noting said w))) q
-      (desks h (λ d. record d { holds = false }) (turn_at h FetchMessage (noting said w)) (λ d. refl) (turns h FetchMessage (noting said w)
-      (notes said w fine a)))
+  abbrev ComesAt : ℕ → Message → Type 0
+  ComesAt h m = At h
 
-  holds : (h : ℕ) (short : ℕ × ℕ) (w : Work) → Notes w → Notes (holds_back h short w)
-  holds h short w a = go (option_map_or (λ (p : Port). p.desk.holds) (port_at w.ports h) false) where
-    said : Work
-    said = noting (entry.Held (end_of_node w.core h) short.0 short.1 ∷ []) w
+  -- each message comes at an end of the node
+  come_at : (h : ℕ) (w : Work) → Notes w → AllByRecursion (ComesAt h) (got_at h w)
+  come_at h w a = go (port_at w.ports h) refl where
+    go : (o : Option Port) → port_at w.ports h ≡ o → AllByRecursion (ComesAt h) (option_map_or (λ (p : Port). p.side.got) o [])
+    go None q = tt
+    go (Some p) q =
+        anyone (ComesAt h) (λ m. subst At (at_host w.ports h p q) (at_port (λ (p : Port). At p.desk.host) w.ports h p a.ends q)) p.side.got
 
-    by : Bool → Work
-    by true = turn_at h (Hold true) w
-    by false = turn_at h (Hold true) (with_desk h (λ d. record d { holds = true }) said)
-
-    go : (b : Bool) → Notes (by b)
-    go true = turns h (Hold true) w a
-    go false =
-        turns h (Hold true) (with_desk h (λ d. record d { holds = true }) said) (desks h (λ d. record d { holds = true }) said (λ d. refl)
-        (notes (entry.Held (end_of_node w.core h) short.0 short.1 ∷ []) w (beside (entry.Held (end_of_node w.core h) short.0 short.1) tt, tt) a))
-
-  lets : (h : ℕ) (w : Work) → Notes w → Notes (lets_go h w)
-  lets h w a = go (option_map_or (λ (p : Port). is_held p.side) (port_at w.ports h) false) where
-    by : Bool → Work
-    by true = turn_at h (Hold false) w
-    by false = w
-
-    go : (b : Bool) → Notes (by b)
-    go true = turns h (Hold false) w a
-    go false = a
-
-  have_all : (h : ℕ) (messages : List Message) (w : Work) → At h → Notes w → Notes (have_turns h messages w)
-  have_all h [] w at a = lets h w a
-  have_all h (m ∷ messages) w at a = go (lack w.ports (needs h deeds)) (λ v b. have_all h messages v at b) where
-    deeds : List Deed
-    deeds = deeds_of w.core w.ports h m
-
-    by : Option (ℕ × ℕ) → Work
-    by None = unless_cut (have_turns h messages) (handles h m deeds w)
-    by (Some short) = holds_back h short w
-
-    go : (o : Option (ℕ × ℕ)) → ((v : Work) → Notes v → Notes (have_turns h messages v)) → Notes (by o)
-    go None later =
-        unless (have_turns h messages) (handles h m deeds w) (later (handles h m deeds w)) (handled h m deeds w at
-        (deeds_note w.core w.ports h m a.number) a)
-    go (Some short) later = holds h short w a
-
-  ends_all : (hosts : List ℕ) (w : Work) → AllByRecursion At hosts → Notes w → Notes (goes_through_ends hosts w)
-  ends_all [] w all a = a
-  ends_all (h ∷ hosts) w all a =
-      let messages : List Message = option_map_or (λ (p : Port). p.side.got) (port_at w.ports h) [] in
-      unless (goes_through_ends hosts) (have_turns h messages w) (λ b. ends_all hosts (have_turns h messages w) all.1 b) (have_all h messages w all.0 a)
-
-  hosts_at : (ports : List Port) → AllByRecursion (λ (p : Port). At p.desk.host) ports → AllByRecursion At (map (λ (p : Port). p.desk.host) ports)
-  hosts_at [] all = tt
-  hosts_at (p ∷ ports) all = (all.0, hosts_at ports all.1)
-
-  passes_all : (w : Work) → Notes w → Notes (passes w)
-  passes_all w a = ends_all (map (λ (p : Port). p.desk.host) w.ports) w (hosts_at w.ports a.ends) a
+  notes_last : Lasts Notes (NotesSo P) ComesAt
+  notes_last = record {
+    does = does;
+    turn_told = λ h m w at a. notes (entry.Turn (end_of_node w.core h) m.0 m.1 ∷ []) w
+        (subst (λ s. P (entry.Turn (end_of h s) m.0 m.1)) (sym a.side) (turned h m.0 m.1 at), tt) a;
+    held_told = λ h need spare w a. notes (entry.Held (end_of_node w.core h) need spare ∷ []) w
+        (beside (entry.Held (end_of_node w.core h) need spare) tt, tt) a;
+    fetched = λ h w a. turns h FetchMessage w a;
+    held = λ h flag w a. turns h (Hold flag) w a;
+    marked = λ h flag w a. desks h (λ d. record d { holds = flag }) w (λ d. refl) a;
+    come = come_at;
+    causes = λ h m w at a. deeds_note w.core w.ports h m a.number;
+  }
 
   -- ## Steps
-
-  come_host : (p : Port) (o : Option LinkInput) → (has_come p o).desk.host ≡ p.desk.host
-  come_host p None = refl
-  come_host p (Some i) = refl
 
   come_told : (core : Core) (p : Port) (o : Option LinkInput) → own_side core ≡ who → At p.desk.host → AllByRecursion P (told_at core p o)
   come_told core p None side at = tt
@@ -305,10 +252,6 @@ module _ (P : Entry → Type 0) (n : ℕ) (who : Side) (At : ℕ → Type 0)
       (all_told (λ p. told_at w.core p (input_at input p)) (λ p at. come_told w.core p (input_at input p) a.side at) w.ports a.ends)
       (maps (λ p. has_come p (input_at input p)) w (λ p. come_host p (input_at input p)) a)
 
-  late_host : (p : Port) → (reset_late p).desk.host ≡ p.desk.host
-  late_host p = cond_both (is_late p) (record p { side = after_input p.side (Reset None); late = true }) p (λ q. q.desk.host ≡ p.desk.host)
-      (λ _. refl) (λ _. refl)
-
   late_told : (core : Core) (p : Port) → own_side core ≡ who → At p.desk.host → AllByRecursion P (told_late core p)
   late_told core p side at = cond_both (is_late p) (told_at core p (Some (Reset None))) [] (AllByRecursion P) (λ _. come_told core p (Some
       (Reset None)) side at) (λ _. tt)
@@ -322,15 +265,6 @@ module _ (P : Entry → Type 0) (n : ℕ) (who : Side) (At : ℕ → Type 0)
       (all_told (told_late v.core) (λ p at. late_told v.core p b.side at) v.ports b.ends)
       (maps reset_late v late_host b)
 
-  forgets_host : (ports : List Port) (p : Port) → (forgets ports p).desk.host ≡ p.desk.host
-  forgets_host ports p = cond_both _ _ p (λ (q : Port). q.desk.host ≡ p.desk.host) (λ _. refl) (λ _. refl)
-
-  without_host : (p : Port) → (without_notice p).desk.host ≡ p.desk.host
-  without_host p = cond_both _ _ p (λ (q : Port). q.desk.host ≡ p.desk.host) (λ _. refl) (λ _. refl)
-
-  sessions_node : (core : Core) (ports : List Port) → (after_sessions core ports).node ≡ core.node
-  sessions_node core ports = cond_both _ _ core (λ (c : Core). c.node ≡ core.node) (λ _. refl) (λ _. refl)
-
   pub steps_note : (input : NodeInput) (w : Work) → Notes w → Notes (steps input w)
   steps_note input w a =
       let came : Work = times_out input (all_come input w) in
@@ -340,12 +274,6 @@ module _ (P : Entry → Type 0) (n : ℕ) (who : Side) (At : ℕ → Type 0)
       let first : Notes begun =
       with_core (record came { ports = map without_notice left }) (after_sessions came.core came.ports) (sessions_node came.core came.ports)
       (maps without_notice (record came { ports = left }) without_host (maps (forgets came.ports) came (forgets_host came.ports) b)) in
-      let freed : List Deed = forgotten came.ports in
-      let syncs : List Deed = flat_map (synced w.core input) w.ports in
-      let owing : List Deed = all_owed left in
-      let one : Notes (all_done 0 syncs (all_done 0 freed begun)) =
-      all_do 0 syncs (all_done 0 freed begun) (all_synced_hold (NotesSo P) (λ host id. tt) w.core input w.ports)
-      (all_do 0 freed begun (forgotten_hold (NotesSo P) (λ asker. tt) came.ports) first) in
-      let owed_all : AllByRecursion (NotesSo P) owing = all_owed_hold (NotesSo P) (λ asker. tt) (λ to r. tt) left in
-      unless passes (unless_cut (all_done 0 owing) (all_done 0 syncs (all_done 0 freed begun))) (λ c. passes_all _ c)
-      (unless (all_done 0 owing) (all_done 0 syncs (all_done 0 freed begun)) (λ c. all_do 0 owing _ owed_all c) one)
+      rest_lasts Notes (NotesSo P) ComesAt notes_last (forgotten came.ports) (flat_map (synced w.core input) w.ports) (all_owed left) begun
+      (forgotten_hold (NotesSo P) (λ asker. tt) came.ports) (all_synced_hold (NotesSo P) (λ host id. tt) w.core input w.ports)
+      (all_owed_hold (NotesSo P) (λ asker. tt) (λ to r. tt) left) first

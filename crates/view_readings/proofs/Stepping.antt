@@ -22,8 +22,7 @@ use Rattle.view_readings.proofs.Doing.{Right, note, maps, with_core, unless, uns
 use Rattle.view_readings.proofs.Turning.{passes_right}
 use Rattle.notice_readings.proofs.Steps.{sessions_tables}
 use Rattle.node_laws.proofs.Walks.{forgotten_hold, all_owed_hold, all_synced_hold}
-use Rattle.node_laws.proofs.Ports.{come_host, forgets_host, sessions_node}
-use Rattle.kept_laws.proofs.Stepping.{without_host, late_host}
+use Rattle.node_laws.proofs.Ports.{come_host, forgets_host, sessions_node, without_host, late_host}
 
 own_undamaged : (who : Side) (x : Noted) → IsOwnNote who x → IsUndamaged x
 own_undamaged who (Up side n) is = tt
