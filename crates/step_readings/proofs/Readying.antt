@@ -15,7 +15,7 @@ use Rattle.node_machine.specs.Node.{NodeInput, all_come, times_out, is_over_at, 
 use Rattle.node_machine.specs.Node.NodeInput.{AtEnd, TimePasses}
 use Rattle.node_links.specs.Notices.{IsOutside}
 use Rattle.node_links.proofs.Noticing.{UpAt}
-use Rattle.node_laws.proofs.Ports.{forgets_host, sessions_node}
+use Rattle.node_laws.proofs.Ports.{forgets_host, sessions_node, without_host}
 use Rattle.kept_laws.specs.Books.{StillRuns}
 use Rattle.kept_laws.specs.Deeds.{IsOnOrder, MayBeDone}
 use Rattle.kept_laws.specs.Hosts.{AreDifferent, AreHosts, IsNodeNumber}
@@ -24,7 +24,7 @@ use Rattle.kept_laws.proofs.Doing.{GoesOn_or_lost, all_fine}
 use Rattle.kept_laws.proofs.HostsReply.{OneOrNone}
 use Rattle.kept_laws.proofs.Plainly.{Plainly, runs_plainly, plainly_then}
 use Rattle.kept_laws.proofs.Stepping.{plainly_come, plainly_late, plainly_sessions, core_late, sessions_order, free_may, free_fit, freed_core, freed_cut}
-use Rattle.kept_laws.proofs.Stepping.{syncs_one, one_may, syncs_fit, without_host}
+use Rattle.kept_laws.proofs.Stepping.{syncs_one, one_may, syncs_fit}
 use Rattle.kept_laws.proofs.Turning.{then_all}
 use Rattle.node_readings.specs.Orders.{IsFresh}
 use Rattle.notice_readings.specs.Worlds.{IsShut}

@@ -34,13 +34,13 @@ use Rattle.notice_readings.proofs.Doing.{Holds, Stands}
 use Rattle.notice_readings.proofs.Stepping.{no_notices_flat, synced_no_notices}
 use Rattle.notice_readings.proofs.Steps.{owed_all}
 use Rattle.notice_readings.proofs.Far.{AreFar}
-use Rattle.notice_readings.proofs.Near.{begins as begins_noticed, aged_far, aged_side}
+use Rattle.notice_readings.proofs.Near.{begins as begins_noticed, aged_far, aged_side, all_ports}
 use Rattle.notice_readings.proofs.Sites.{Reads as NoticeReads, arrival_quiet, far_hushed, link_shut, still_reads}
 use Rattle.creation_readings.specs.Creations.{IsReadSo, creations_of}
 use Rattle.creation_readings.specs.Worlds.{AreProper}
 use Rattle.creation_readings.proofs.Asks.{asked_of}
 use Rattle.creation_readings.proofs.Deeds.{Still, Fine}
-use Rattle.creation_readings.proofs.Near.{Reads, all_ports, far_book, far_reading, begins as begins_made, up_at}
+use Rattle.creation_readings.proofs.Near.{Reads, far_book, far_reading, begins as begins_made, up_at}
 use Rattle.view_readings.specs.Errors.{ErrorCount, no_errors}
 use Rattle.view_readings.proofs.Leaving.{reads, reads_append, book_reads, IsRead, IsStill, still_all}
 use Rattle.view_readings.proofs.Doing.{Right}

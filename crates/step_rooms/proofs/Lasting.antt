@@ -38,7 +38,7 @@ module _ (t : List Entry) (who : Side) where
       record {
         carry = handling (AllCarry t who) (carry_note t who) (carry_desk t who) (carry_turns t who) (carry_beside t who) (carry_loses t who) h m deeds w
             (deeds_mute w.core w.ports h m) a.carry;
-        fine = handles_fine h m deeds w (deeds_fine w.core w.ports h m a.fine s) a.fine;
+        fine = handles_fine h m deeds w s (deeds_fine w.core w.ports h m a.fine s) a.fine;
       }
 
   -- which is the first that came at the end with this host

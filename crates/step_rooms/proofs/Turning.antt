@@ -10,7 +10,7 @@ use Rattle.node_machine.specs.Carrying.{unless_cut, port_at, needs, lack}
 use Rattle.node_machine.specs.Turns.{deeds_of, handles, holds_back, have_turns}
 use Rattle.node_machine.specs.Node.{NodeInput}
 use Rattle.node_links.proofs.Works.{got_fine}
-use Rattle.node_telling.proofs.Walks.{unless}
+use Rattle.node_laws.proofs.StepWalks.{unless}
 use Rattle.step_rooms.specs.Moments.{IfPowered, HoldsAtTurns, HoldsAtEnds, HoldsInStep, ArePortsRead}
 use Rattle.step_rooms.proofs.Lasting.{IsCarried, carried_turn, holds_last, lets_last, ports_read}
 use Rattle.pass_laws.specs.Steps.{comes_to_pass}
