@@ -1,6 +1,5 @@
 -- In each event nothing of a node stands behind its cut.
-use Rattle.std.proofs.Common.{◌≡◌, ℕ, ◌==◌, Bool, true, false, cond, List, [], ◌∷◌, ◌++◌, Option, Some, None, map, refl, ap, sym, subst, ◌∙◌, append-nil}
-use Rattle.std.proofs.Common.{length}
+use Rattle.std.proofs.Common.{◌≡◌, ℕ, ◌==◌, Bool, true, false, cond, List, [], ◌∷◌, ◌++◌, Option, None, refl, ap, sym, subst, ◌∙◌, append-nil}
 use Rattle.std.specs.Prelude.{◌&&◌}
 use Rattle.std.specs.List.{AllByRecursion, flat_map}
 use Rattle.std.proofs.lemmas.Bool.{eqb-true, true≢false}
@@ -8,25 +7,22 @@ use Rattle.registry.proofs.ValueLemmas.{AllByRecursion-append as all_append}
 use Rattle.swp_base.specs.InMemory.{Plan}
 use Rattle.trace_model.specs.declared.entry.Entry.{Entry}
 use Rattle.trace_model.specs.declared.line.End.{End}
-use Rattle.journal_laws.specs.Planned.{fails_within, after_planned}
-use Rattle.link_machine.specs.Machine.{Message, LinkInput}
+use Rattle.link_machine.specs.Machine.{Message}
 use Rattle.link_machine.specs.Machine.LinkInput.{Start}
-use Rattle.message_link.specs.Links.{NumberedEnd, Link, Comes, Loss, exchanged, aged, ticks_at_controller}
-use Rattle.message_link.specs.Links.Ending.{GoesOut}
+use Rattle.message_link.specs.Links.{NumberedEnd, Link, Comes, Loss, exchanged, aged}
 use Rattle.message_link.specs.Links.Comes.{NextFrame, AsksReset, Starts, NoInput}
 use Rattle.link_entries.specs.Entries.{Entry as Noted, first_lost, aged_entries}
 use Rattle.link_entries.specs.Entries.End.{Controller, Host}
-use Rattle.history.specs.Follows.{seen_from}
 use Rattle.history.specs.Steps.{entries_for}
 use Rattle.node_machine.specs.Parts.{Running, Port, Work, Deed}
 use Rattle.node_machine.specs.Parts.Deed.{Sends, Orders}
 use Rattle.node_machine.specs.Controller.{is_command_message}
-use Rattle.node_machine.specs.Node.{steps, begins_with, boot_writes}
+use Rattle.node_machine.specs.Node.{steps, begins_with}
 use Rattle.node_machine.specs.Node.NodeInput.{AtEnd, TimePasses}
 use Rattle.node_world.specs.World.{Site, NodeWorld, Happening, site_at, link_to, near_end_in, arrival, wires_for, work_of, frames_noted, comes_to}
-use Rattle.node_world.specs.World.{controller_work, after_controller, controller_does, host_work, after_host, host_does, memory_at, boots, frame_lost, all_aged}
-use Rattle.node_world.specs.World.{ticked_so, is_late_at, turns_at, ending_of, runs_on, controller_ticks, host_ticks, hosts_tick, world_ticks, sending}
-use Rattle.node_world.specs.World.{beginning, input_of, comes_at, end_c, end_h, world_step, node_of}
+use Rattle.node_world.specs.World.{controller_does, host_work, host_does, boots, frame_lost, all_aged}
+use Rattle.node_world.specs.World.{controller_ticks, host_ticks, hosts_tick, world_ticks, sending}
+use Rattle.node_world.specs.World.{beginning, comes_at, end_c, end_h, world_step, node_of}
 use Rattle.node_world.specs.World.Happening.{Boots, IsCut, Gives, Inits, Takes, Loses, Ticks, Resets, Activates, Arms}
 use Rattle.node_world.proofs.Cases.{by_controller, by_host, by_coming, by_boot, by_loss, near_tick, by_controller_tick, host_tick, by_host_tick}
 use Rattle.kept_laws.specs.Books.{hosts_of_ends}
