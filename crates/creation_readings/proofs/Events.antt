@@ -18,11 +18,11 @@ use Rattle.message_link.specs.Links.{Link, NumberedEnd, Loss, Comes, exchanged, 
 use Rattle.message_link.specs.Links.Ending.{GoesOut, CutOff}
 use Rattle.message_link.specs.Links.Comes.{NextFrame, AsksReset, Starts, NoInput, Stops}
 use Rattle.message_link.specs.Links.Loss.{OnDemand, Broken, Unread, TooOld, TooMany}
-use Rattle.message_link.specs.Links.EndEvent.{Step, Lose}
+use Rattle.message_link.specs.Links.EndEvent.{Step}
 use Rattle.message_link.specs.Links.LinkEvent.{AtController}
 use Rattle.link_entries.specs.Entries.{first_lost}
 use Rattle.link_entries.specs.Entries.End.{Controller, Host}
-use Rattle.history.specs.Steps.{at, entries_for}
+use Rattle.history.specs.Steps.{entries_for}
 use Rattle.history.specs.Follows.{seen_from}
 use Rattle.node_machine.specs.Parts.{Desk, Running, Port, Work, Deed}
 use Rattle.node_machine.specs.Carrying.{changed_if, port_at}
@@ -46,6 +46,8 @@ use Rattle.notice_readings.specs.Worlds.{IfHostNode, IsGoodSite, IsShut, KeepsNo
 use Rattle.notice_readings.proofs.Own.{AreOwn}
 use Rattle.notice_readings.proofs.Far.{AreFar, far-append, far_flat, quiet_far, IsHostWork, all_do, steps_far, asking_more}
 use Rattle.notice_readings.proofs.Sites.{AreGood, good_at, link_shut, frames_quiet, arrival_quiet}
+use Rattle.node_world.proofs.Cases.{by_power, by_memory, by_running, boot_written, boot_found, by_boot, site_lost, by_loss}
+use Rattle.notice_readings.proofs.Events.{written_off}
 use Rattle.creation_readings.specs.Creations.{creations_at, creations_of, IsReadSo, of_asker}
 use Rattle.creation_readings.specs.Worlds.{AreProper, IsProperBook, IfAwaited, HasSetAside, AreAwaited}
 use Rattle.creation_readings.proofs.Rows.{proper_found}
@@ -56,7 +58,6 @@ use Rattle.shdlc_core.specs.Machine.{is_waiting}
 use Rattle.session_laws.specs.Sessions.{OnWire}
 use Rattle.hci_tables.specs.Tables.{HciTables}
 use Rattle.kept_laws.proofs.Books.{book_more}
-use Rattle.kept_laws.proofs.Powers.{node_holds, cut_holds, booted_memory, booted_node, booted_off, boots_hold}
 
 -- ## Beside the controller
 
@@ -147,18 +148,9 @@ pub begins_beside : (w : NodeWorld) (h : ℕ) (deeds : List Deed) → AreGood w.
 begins_beside w h deeds good own = host_beside w h NoInput (begins_with h deeds) good (λ k b. all_do h deeds k own b)
 
 pub memory_beside : (w : NodeWorld) (n : ℕ) (m : Memory) → Beside w (with_memory n m w) []
-memory_beside w n m = by_number (cases_Bool (eqb n 0)) where
-  near_is : eqb n 0 ≡ true → with_memory n m w ≡ record w { memory = m }
-  near_is e = rw e refl
-
-  far_is : eqb n 0 ≡ false → with_memory n m w ≡ record w { sites = with_site n (λ (s : Site). record s { memory = m }) w.sites }
-  far_is e = rw e refl
-
-  by_number : (eqb n 0 ≡ true) ⊎ (eqb n 0 ≡ false) → Beside w (with_memory n m w) []
-  by_number (inl e) =
-      subst (λ v. Beside w v []) (sym (near_is e)) (record { far = tt; creations = λ x. refl; due = λ a. a; sides = λ k. refl })
-  by_number (inr e) =
-      subst (λ v. Beside w v []) (sym (far_is e)) (sites_beside w n (λ (s : Site). record s { memory = m }) [] tt (λ s. refl) (λ s. refl))
+memory_beside w n m =
+    by_memory (λ v. Beside w v []) n w m (λ e. record { far = tt; creations = λ x. refl; due = λ a. a; sides = λ k. refl })
+    (λ e. sites_beside w n (λ (s : Site). record s { memory = m }) [] tt (λ s. refl) (λ s. refl))
 
 -- ## Losses
 
@@ -203,38 +195,19 @@ counted_due TooOld h o a = a
 counted_due TooMany h o a = a
 
 pub lost_beside : (w : NodeWorld) (e : End) (why : Loss) → BesideBy w (frame_lost w e why)
-lost_beside w e why = by_side (cases_Bool e.at_host) where
-  l : Link
-  l = link_to w.sites e.link
-
-  lost : Site → Site
-  lost s = record s { link = happens s.link (at e (Lose why)) }
-
-  near_is : e.at_host ≡ false → frame_lost w e why
-      ≡ (
-        record w { controller = counts why e.link w.controller; sites = with_site e.link lost w.sites },
-        entries_for e.link (first_lost Controller why l.to_controller),
-      )
-  near_is b = rw b refl
-
-  far_is : e.at_host ≡ true → frame_lost w e why
-      ≡ (
-        record w { sites = with_site e.link (λ (s : Site). record (lost s) { node = counts why e.link s.node }) w.sites },
-        entries_for e.link (first_lost Host why l.to_host),
-      )
-  far_is b = rw b refl
-
-  by_side : (e.at_host ≡ true) ⊎ (e.at_host ≡ false) → BesideBy w (frame_lost w e why)
-  by_side (inl b) =
-      subst (BesideBy w) (sym (far_is b))
-      (sites_beside w e.link (λ (s : Site). record (lost s) { node = counts why e.link s.node }) (entries_for e.link (first_lost Host why l.to_host))
-      (quiet_far e.link (first_lost Host why l.to_host) (lost_quiet Host why l.to_host)) (λ s. refl) (λ s. lost_side e why s.link))
-  by_side (inr b) = subst (BesideBy w) (sym (near_is b)) (record {
-    far = quiet_far e.link (first_lost Controller why l.to_controller) (lost_quiet Controller why l.to_controller);
-    creations = λ x. counted_creations why e.link w.controller x;
-    due = counted_due why e.link w.controller;
-    sides = λ n. side_with e.link lost (λ s. refl) (λ s. lost_side e why s.link) w.sites n;
-  })
+lost_beside w e why =
+    by_loss (BesideBy w) w e why
+    (λ b. sites_beside w e.link (λ (s : Site). record (site_lost e why s) { node = counts why e.link s.node })
+    (entries_for e.link (first_lost Host why (link_to w.sites e.link).to_host))
+    (quiet_far e.link (first_lost Host why (link_to w.sites e.link).to_host) (lost_quiet Host why (link_to w.sites e.link).to_host)) (λ s. refl)
+    (λ s. lost_side e why s.link))
+    (λ b. record {
+      far = quiet_far e.link (first_lost Controller why (link_to w.sites e.link).to_controller)
+          (lost_quiet Controller why (link_to w.sites e.link).to_controller);
+      creations = λ x. counted_creations why e.link w.controller x;
+      due = counted_due why e.link w.controller;
+      sides = λ n. side_with e.link (site_lost e why) (λ s. refl) (λ s. lost_side e why s.link) w.sites n;
+    })
 
 -- ## Power
 
@@ -261,7 +234,7 @@ cut_ends (s ∷ sites) n = go (cases_Bool (eqb s.host n)) (cut_ends sites n) whe
 
 pub cut_reads : (t : List Entry) (w : NodeWorld) (n : ℕ) → Reads t w → Reads (t ++ entry.Cut n ∷ []) (loses_power_at n w)
 cut_reads t w n a =
-    cut_holds (Reads (t ++ entry.Cut n ∷ [])) w n
+    by_power (Reads (t ++ entry.Cut n ∷ [])) n w
     (λ e. subst (λ m. Reads (t ++ entry.Cut m ∷ []) (controller_cut w)) (sym (eqb-true n 0 e)) near)
     (λ e. beside_reads t w (record w { sites = with_site n host_cut w.sites }) (entry.Cut n ∷ []) a
     (sites_beside w n host_cut (entry.Cut n ∷ []) (e, tt) (λ s. refl) (λ s. far_side s.link (Step NoInput [] CutOff))))
@@ -277,7 +250,7 @@ cut_reads t w n a =
 runs_reads : (t : List Entry) (w : NodeWorld) (n k : ℕ) (hosts content : List ℕ) → Reads t w → (eqb n 0 ≡ true → w.controller ≡ None)
     → Reads (t ++ entry.Booted n k ∷ []) (with_node n (found n hosts content) w)
 runs_reads t w n k hosts content a off =
-    node_holds (Reads (t ++ entry.Booted n k ∷ [])) w n (found n hosts content)
+    by_running (Reads (t ++ entry.Booted n k ∷ [])) n w (found n hosts content)
     (λ e. subst (λ m. Reads (t ++ entry.Booted m k ∷ []) (record w { controller = Some (found n hosts content) })) (sym (eqb-true n 0 e)) (near (off e)))
     (λ e. beside_reads t w (record w { sites = with_site n (λ (s : Site). record s { node = Some (found n hosts content) }) w.sites })
     (entry.Booted n k ∷ []) a
@@ -296,11 +269,12 @@ runs_reads t w n k hosts content a off =
 
 pub boots_reads : (t : List Entry) (w : NodeWorld) (n : ℕ) → Reads t w → node_at w n ≡ None → Reads (t ++ (boots w n).1) (boots w n).0
 boots_reads t w n a stands =
-    let still : Reads t (booted_memory w n) =
-    subst (λ l. Reads l (booted_memory w n)) (append-nil t)
-    (beside_reads t w (booted_memory w n) [] a (memory_beside w n (after_planned (boot_writes (memory_at w n).content) (memory_at w n)))) in
-    boots_hold (λ (p : NodeWorld × List Entry). Reads (t ++ p.1) p.0) w n (cut_reads t (booted_memory w n) n still)
-    (runs_reads t (booted_memory w n) n (count_of (booted_node w n).core.journal) (links_of w n) (memory_at w n).content still (booted_off w n stands))
+    by_boot (λ p. Reads (t ++ p.1) p.0) w n (cut_reads t (boot_written w n) n still)
+    (runs_reads t (boot_written w n) n (count_of (boot_found w n).core.journal) (links_of w n) (memory_at w n).content still (written_off w n stands))
+  where
+    still : Reads t (boot_written w n)
+    still = subst (λ l. Reads l (boot_written w n)) (append-nil t)
+        (beside_reads t w (boot_written w n) [] a (memory_beside w n (after_planned (boot_writes (memory_at w n).content) (memory_at w n))))
 
 -- ## The controller acts
 

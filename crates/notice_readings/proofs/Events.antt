@@ -1,5 +1,5 @@
 -- What is read of the controller's notices over whatever happens.
-use Rattle.std.proofs.Common.{◌≡◌, ◌⊎◌, inl, inr, ℕ, ◌+◌, Bool, true, false, eqb, List, [], ◌∷◌, ◌++◌, map, min, sym, refl, subst, append-nil}
+use Rattle.std.proofs.Common.{◌≡◌, ◌⊎◌, inl, inr, ℕ, ◌+◌, Bool, true, false, eqb, List, [], ◌∷◌, ◌++◌, map, min, sym, refl, ap, ◌∙◌, subst, append-nil}
 use Rattle.std.specs.Prelude.{Option, Some, None, replicate}
 use Rattle.std.specs.List.{AllByRecursion, fold}
 use Rattle.std.specs.Option.{option_map_or}
@@ -39,6 +39,7 @@ use Rattle.kept_laws.specs.Hosts.{AreHosts}
 use Rattle.node_telling.proofs.Orderly.{new_orderly, step_orderly}
 use Rattle.node_readings.proofs.NoticedWorlds.{event_up, numbers}
 use Rattle.node_readings.proofs.Sites.{lost_quiet}
+use Rattle.node_world.proofs.Cases.{by_power, by_memory, by_running, boot_written, boot_found, by_boot}
 use Rattle.notice_readings.specs.Notices.{IsKeptNotice, notice_at}
 use Rattle.notice_readings.proofs.Reading.{notice_more}
 use Rattle.notice_readings.proofs.Shut.{here_shut}
@@ -49,7 +50,6 @@ use Rattle.notice_readings.proofs.Near.{comes_reads, ticks_reads, activates_read
 use Rattle.node_telling.specs.Telling.{MayBoot}
 use Rattle.notice_readings.specs.Worlds.{ControllerReads, IfHostNode, IfReads, KeepsNotices, IsRightNotice}
 use Rattle.kept_laws.proofs.Booting.{command_read}
-use Rattle.kept_laws.proofs.Powers.{memory_holds, node_holds, cut_holds, booted_memory, booted_node, booted_off, boots_hold}
 
 -- ## The tables of a memory
 
@@ -96,7 +96,8 @@ module _ (t : List Entry) (w : NodeWorld) (a : Reads t w) where
 
   memory_reads : (n : ℕ) (m : Memory) → Reads t (with_memory n m w)
   memory_reads n m =
-      memory_holds (Reads t) w n m (λ _. record { sites = a.sites; reads_so = a.reads_so }) (λ _. record {
+      by_memory (Reads t) n w m (λ e. record { sites = a.sites; reads_so = a.reads_so })
+      (λ e. record {
         sites = good_with n (λ (s : Site). record s { memory = m }) (λ s b. record { host = b.host; node = b.node; shut = b.shut }) w.sites a.sites;
         reads_so = a.reads_so;
       })
@@ -121,8 +122,8 @@ module _ (t : List Entry) (w : NodeWorld) (a : Reads t w) where
 
   pub cut_reads : (n : ℕ) → Reads (t ++ entry.Cut n ∷ []) (loses_power_at n w)
   cut_reads n =
-      cut_holds (Reads (t ++ entry.Cut n ∷ [])) w n
-      (λ e. subst (λ m. Reads (t ++ entry.Cut m ∷ []) (controller_cut w)) (sym (eqb-true n 0 e)) near_cut) (far_cut n)
+      by_power (Reads (t ++ entry.Cut n ∷ [])) n w
+      (λ e. subst (λ m. Reads (t ++ entry.Cut m ∷ []) (controller_cut w)) (sym (eqb-true n 0 e)) near_cut) (λ e. far_cut n e)
 
 booted_hushed : (n k : ℕ) → AreHushed (entry.Booted n k ∷ [])
 booted_hushed n k x r = (refl, refl)
@@ -131,7 +132,7 @@ booted_hushed n k x r = (refl, refl)
 runs_reads : (t : List Entry) (w : NodeWorld) (n k : ℕ) (hosts content : List ℕ) → Reads t w → (eqb n 0 ≡ true → w.controller ≡ None)
     → Reads (t ++ entry.Booted n k ∷ []) (with_node n (found n hosts content) w)
 runs_reads t w n k hosts content a off =
-    node_holds (Reads (t ++ entry.Booted n k ∷ [])) w n (found n hosts content)
+    by_running (Reads (t ++ entry.Booted n k ∷ [])) n w (found n hosts content)
     (λ e. record {
       sites = a.sites;
       reads_so = still_reads t (entry.Booted n k ∷ []) (Some (found n hosts content)) (booted_hushed n k)
@@ -144,11 +145,20 @@ runs_reads t w n k hosts content a off =
       reads_so = still_reads t (entry.Booted n k ∷ []) w.controller (booted_hushed n k) a.reads_so;
     })
 
+-- a controller that didn't run before doesn't run as its boot has written
+pub written_off : (w : NodeWorld) (n : ℕ) → node_at w n ≡ None → eqb n 0 ≡ true → (boot_written w n).controller ≡ None
+written_off w n stands e =
+    let same : boot_written w n ≡ record w { memory = after_planned (boot_writes (memory_at w n).content) (memory_at w n) } = rw e refl in
+    let none : w.controller ≡ None = rw e at stands in
+    ap (λ (v : NodeWorld). v.controller) same ∙ none
+
 boots_reads : (t : List Entry) (w : NodeWorld) (n : ℕ) → Reads t w → node_at w n ≡ None → Reads (t ++ (boots w n).1) (boots w n).0
 boots_reads t w n a stands =
-    let still : Reads t (booted_memory w n) = memory_reads t w a n (after_planned (boot_writes (memory_at w n).content) (memory_at w n)) in
-    boots_hold (λ (p : NodeWorld × List Entry). Reads (t ++ p.1) p.0) w n (cut_reads t (booted_memory w n) still n)
-    (runs_reads t (booted_memory w n) n (count_of (booted_node w n).core.journal) (links_of w n) (memory_at w n).content still (booted_off w n stands))
+    by_boot (λ p. Reads (t ++ p.1) p.0) w n (cut_reads t (boot_written w n) still n)
+    (runs_reads t (boot_written w n) n (count_of (boot_found w n).core.journal) (links_of w n) (memory_at w n).content still (written_off w n stands))
+  where
+    still : Reads t (boot_written w n)
+    still = memory_reads t w a n (after_planned (boot_writes (memory_at w n).content) (memory_at w n))
 
 -- ## Losses
 

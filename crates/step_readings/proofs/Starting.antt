@@ -53,7 +53,8 @@ use Rattle.step_readings.proofs.Naming.{far_named, unless_named}
 use Rattle.step_readings.proofs.Walking.{passes_walked, ready_named}
 use Rattle.step_readings.proofs.Parts.{errors_before, from_parts}
 use Rattle.step_readings.proofs.Running.{with_kept}
-use Rattle.step_readings.proofs.Readying.{kept_ready, notices_ready, creations_ready, errors_ready}
+use Rattle.kept_laws.proofs.Stepping.{ready_fine}
+use Rattle.step_readings.proofs.Readying.{notices_ready, creations_ready, errors_ready}
 use Rattle.pass_laws.specs.Steps.{comes_to_pass, controller_begins}
 
 module _ (hosts : List ℕ) (are : AreHosts hosts) (t : List Entry) (w : NodeWorld) (k : KeepsBetween hosts t w) (r : Running)
@@ -174,7 +175,7 @@ module _ (hosts : List ℕ) (are : AreHosts hosts) (t : List Entry) (w : NodeWor
       pub runs_begin : (comes_to_pass input begun).cut ≡ false → RunsInStep hosts before (comes_to_pass input begun)
       runs_begin on =
           with_kept hosts are before w.memory (comes_to_pass input begun) (step_begins on)
-          (kept_ready 0 hosts w.memory before (inl refl) are input begun (runs_begun 0 hosts before w.memory r near_ends es es_plain kept_old) kept_old.on)
+          (ready_fine 0 hosts w.memory before (inl refl) are input begun (runs_begun 0 hosts before w.memory r near_ends es es_plain kept_old) kept_old.on)
 
       noticed_first : Holds 0 before IsKeptNotice begun
       noticed_first = begins_noticed before w r has different ups k.creations.notices.sites notices_old w.memory.plan near_ends same es quiet input outside 0

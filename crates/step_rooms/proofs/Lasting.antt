@@ -32,7 +32,7 @@ module _ (t : List Entry) (who : Side) where
       }
 
   -- over a message that is handled
-  pub carried_turn : (h : ℕ) (m : Message) (w : Work) → IsSendable m → IsCarried t who w → IsCarried t who (handles h m (deeds_of w.core w.ports h m) w)
+  carried_turn : (h : ℕ) (m : Message) (w : Work) → IsSendable m → IsCarried t who w → IsCarried t who (handles h m (deeds_of w.core w.ports h m) w)
   carried_turn h m w s a =
       let deeds : List Deed = deeds_of w.core w.ports h m in
       record {

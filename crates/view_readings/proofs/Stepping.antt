@@ -15,7 +15,7 @@ use Rattle.node_machine.specs.Node.{NodeInput, input_at, has_come, told_at, all_
 use Rattle.node_machine.specs.Node.{all_owed, without_notice, after_sessions, synced, steps}
 use Rattle.node_machine.specs.Node.NodeInput.{AtEnd, TimePasses}
 use Rattle.view_readings.specs.Errors.{ErrorCount}
-use Rattle.view_readings.proofs.Noting.{IsOwnNote, all_notes, all_flat}
+use Rattle.node_readings.proofs.Noting.{IsOwnNote, all_notes, all_flat}
 use Rattle.view_readings.proofs.Leaving.{IsStill, notes_still, IsUndamaged}
 use Rattle.view_readings.proofs.Setting.{IsUnset, AreUnset}
 use Rattle.view_readings.proofs.Doing.{Right, note, maps, with_core, unless, unset_fine, all_do}
