@@ -46,8 +46,7 @@ use Rattle.notice_readings.specs.Worlds.{IfHostNode, IsGoodSite, IsShut, KeepsNo
 use Rattle.notice_readings.proofs.Own.{AreOwn}
 use Rattle.notice_readings.proofs.Far.{AreFar, far-append, far_flat, quiet_far, IsHostWork, all_do, steps_far, asking_more}
 use Rattle.notice_readings.proofs.Sites.{AreGood, good_at, link_shut, frames_quiet, arrival_quiet}
-use Rattle.node_world.proofs.Cases.{by_power, by_memory, by_running, boot_written, boot_found, by_boot, site_lost, by_loss}
-use Rattle.notice_readings.proofs.Events.{written_off}
+use Rattle.node_world.proofs.Cases.{by_power, by_memory, by_running, boot_written, boot_found, written_off, by_boot, site_lost, by_loss}
 use Rattle.creation_readings.specs.Creations.{creations_at, creations_of, IsReadSo, of_asker}
 use Rattle.creation_readings.specs.Worlds.{AreProper, IsProperBook, IfAwaited, HasSetAside, AreAwaited}
 use Rattle.creation_readings.proofs.Rows.{proper_found}

@@ -36,7 +36,7 @@ use Rattle.notice_readings.proofs.Sites.{AreGood, good_at, sending_own, beginnin
 use Rattle.notice_readings.proofs.Near.{comes_reads as notices_come}
 use Rattle.creation_readings.specs.Worlds.{HasNoneAside}
 use Rattle.creation_readings.proofs.HostSides.{SetsNoneAside, SetNone, step_none, tick_none, all_do, steps_none, none_at}
-use Rattle.kept_laws.proofs.Powers.{memory_holds, node_holds, cut_holds, booted_memory, booted_node, boots_hold}
+use Rattle.node_world.proofs.Cases.{by_memory, by_running, by_power, boot_written, boot_found, by_boot}
 
 abbrev pub HaveNoneAside : List Site → Type 0
 HaveNoneAside sites = AllByRecursion HasNoneAside sites
@@ -158,22 +158,22 @@ AsideNowhere w = HaveNoneAside w.sites
 
 memory_none : (w : NodeWorld) (n : ℕ) (m : Memory) → HaveNoneAside w.sites → HaveNoneAside (with_memory n m w).sites
 memory_none w n m a =
-    memory_holds AsideNowhere w n m (λ _. a) (λ _. none_with n (λ (s : Site). record s { memory = m }) (λ s b. b) w.sites a)
+    by_memory AsideNowhere n w m (λ _. a) (λ _. none_with n (λ (s : Site). record s { memory = m }) (λ s b. b) w.sites a)
 
 cut_none : (w : NodeWorld) (n : ℕ) → HaveNoneAside w.sites → HaveNoneAside (loses_power_at n w).sites
 cut_none w n a =
-    cut_holds AsideNowhere w n
+    by_power AsideNowhere n w
     (λ _. none_map (λ (s : Site). record s { link = happens s.link (AtController (Step NoInput [] CutOff)) })
     (λ s b. near_same s.link (Step NoInput [] CutOff) b) w.sites a)
     (λ _. none_with n host_cut (λ s b. step_none (exchanged s.link) NoInput [] CutOff tt b) w.sites a)
 
 boots_none : (w : NodeWorld) (n : ℕ) → HaveNoneAside w.sites → HaveNoneAside (boots w n).0.sites
 boots_none w n a =
-    let v : NodeWorld = booted_memory w n in
+    let v : NodeWorld = boot_written w n in
     let still : HaveNoneAside v.sites = memory_none w n (after_planned (boot_writes (memory_at w n).content) (memory_at w n)) a in
-    boots_hold (λ (p : NodeWorld × List Entry). HaveNoneAside p.0.sites) w n (cut_none v n still)
-    (node_holds AsideNowhere v n (booted_node w n) (λ _. still)
-    (λ _. none_with n (λ (s : Site). record s { node = Some (booted_node w n) }) (λ s b. b) v.sites still))
+    by_boot (λ (p : NodeWorld × List Entry). HaveNoneAside p.0.sites) w n (cut_none v n still)
+    (by_running AsideNowhere n v (boot_found w n) (λ _. still)
+    (λ _. none_with n (λ (s : Site). record s { node = Some (boot_found w n) }) (λ s b. b) v.sites still))
 
 lost_none : (w : NodeWorld) (e : End) (why : Loss) → HaveNoneAside w.sites → HaveNoneAside (frame_lost w e why).0.sites
 lost_none w e why a = by_side (cases_Bool e.at_host) where

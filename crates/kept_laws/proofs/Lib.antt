@@ -15,7 +15,6 @@ pub mod Standing
 pub mod Booting
 pub mod Sites
 pub mod Worlds
-pub mod Powers
 pub mod Events
 pub mod Ticking
 pub mod Lines

@@ -50,7 +50,7 @@ use Rattle.node_telling.proofs.WorldTicks.{tick_host as ticked_number}
 use Rattle.node_readings.specs.Noticed.{IfNoticedUp, NoticesAreUp}
 use Rattle.node_readings.proofs.Sites.{near_end_side, comes_outside, sent_phase, stepped_phase}
 use Rattle.node_readings.proofs.Noticed.{up_is, not_waiting, CameUp, input_up, tick_up, was_up}
-use Rattle.kept_laws.proofs.Powers.{memory_holds, node_holds, cut_holds, booted_memory, booted_node, boots_hold}
+use Rattle.node_world.proofs.Cases.{by_memory, by_running, by_power, boot_written, boot_found, by_boot}
 
 -- ## Ends
 
@@ -332,23 +332,23 @@ comes_up w e comes orderly a = go (input_of (seen_from e (link_to w.sites e.link
 
 memory_up : (n : ℕ) (m : Memory) (w : NodeWorld) → NoticesAreUp w → NoticesAreUp (with_memory n m w)
 memory_up n m w a =
-    memory_holds NoticesAreUp w n m (λ _. a)
+    by_memory NoticesAreUp n w m (λ _. a)
     (λ _. kept (with_site n (λ (s : Site). record s { memory = m }) w.sites) w.sites w.controller
     (side_with n (λ (s : Site). record s { memory = m }) (λ s. refl) (λ s. refl) w.sites) a)
 
 cut_up : (n : ℕ) (w : NodeWorld) → NoticesAreUp w → NoticesAreUp (loses_power_at n w)
 cut_up n w a =
-    cut_holds NoticesAreUp w n (λ _. tt)
+    by_power NoticesAreUp n w (λ _. tt)
     (λ _. kept (with_site n host_cut w.sites) w.sites w.controller
     (side_with n host_cut (λ s. refl) (λ s. far_side s.link (Step NoInput [] CutOff)) w.sites) a)
 
 boots_up : (n : ℕ) (w : NodeWorld) → NoticesAreUp w → NoticesAreUp (boots w n).0
 boots_up n w a =
-    let v : NodeWorld = booted_memory w n in
-    let f : Site → Site = λ s. record s { node = Some (booted_node w n) } in
+    let v : NodeWorld = boot_written w n in
+    let f : Site → Site = λ s. record s { node = Some (boot_found w n) } in
     let written : NoticesAreUp v = memory_up n (after_planned (boot_writes (memory_at w n).content) (memory_at w n)) w a in
-    boots_hold (λ (p : NodeWorld × List Entry). NoticesAreUp p.0) w n (cut_up n v written)
-    (node_holds NoticesAreUp v n (booted_node w n) (λ _ x. none_noticed (λ h. (link_to v.sites h).controller) (links_of w n) x)
+    by_boot (λ (p : NodeWorld × List Entry). NoticesAreUp p.0) w n (cut_up n v written)
+    (by_running NoticesAreUp n v (boot_found w n) (λ _ x. none_noticed (λ h. (link_to v.sites h).controller) (links_of w n) x)
     (λ _. kept (with_site n f v.sites) v.sites v.controller (side_with n f (λ s. refl) (λ s. refl) v.sites) written))
 
 -- ## Losses

@@ -1,5 +1,5 @@
 -- What a world of nodes does, case by case: what holds of the world and of what is noted in each case holds of all that happens so.
-use Rattle.std.proofs.Common.{◌≡◌, ℕ, ◌==◌, Bool, true, false, List, [], ◌∷◌, ◌++◌, length, map, Option, Some, None, refl}
+use Rattle.std.proofs.Common.{◌≡◌, ℕ, ◌==◌, Bool, true, false, List, [], ◌∷◌, ◌++◌, length, map, Option, Some, None, refl, ap, ◌∙◌}
 use Rattle.std.specs.List.{flat_map}
 use Rattle.swp_base.specs.InMemory.{Memory}
 use Rattle.trace_model.specs.declared.entry.Entry.{Entry}
@@ -20,7 +20,7 @@ use Rattle.node_machine.specs.Node.{steps, found, boot_writes}
 use Rattle.node_machine.specs.Node.NodeInput.{AtEnd, TimePasses}
 use Rattle.node_world.specs.World.{NodeWorld, Site, site_at, with_site, link_to, input_of, ending_of, runs_on, turns_at, wires_for, frames_noted, work_of}
 use Rattle.node_world.specs.World.{controller_work, after_controller, controller_does, host_work, after_host, host_does, controller_cut, host_cut}
-use Rattle.node_world.specs.World.{loses_power_at, memory_at, with_memory, with_node, links_of, boots, counts, frame_lost, is_late_at, ticked_so}
+use Rattle.node_world.specs.World.{node_at, loses_power_at, memory_at, with_memory, with_node, links_of, boots, counts, frame_lost, is_late_at, ticked_so}
 use Rattle.node_world.specs.World.{controller_ticks, host_ticks, comes_at}
 
 -- ## Steps
@@ -108,6 +108,13 @@ boot_written w n = with_memory n (after_planned (boot_writes (memory_at w n).con
 -- and what the node has found there
 abbrev pub boot_found : NodeWorld → ℕ → Running
 boot_found w n = found n (links_of w n) (memory_at w n).content
+
+-- a controller that didn't run before doesn't run as its boot has written
+pub written_off : (w : NodeWorld) (n : ℕ) → node_at w n ≡ None → (n == 0) ≡ true → (boot_written w n).controller ≡ None
+written_off w n stands e =
+    let same : boot_written w n ≡ record w { memory = after_planned (boot_writes (memory_at w n).content) (memory_at w n) } = rw e refl in
+    let none : w.controller ≡ None = rw e at stands in
+    ap (λ (v : NodeWorld). v.controller) same ∙ none
 
 -- a site at whose end a frame is lost
 abbrev pub site_lost : End → Loss → Site → Site

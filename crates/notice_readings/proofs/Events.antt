@@ -1,5 +1,5 @@
 -- What is read of the controller's notices over whatever happens.
-use Rattle.std.proofs.Common.{◌≡◌, ◌⊎◌, inl, inr, ℕ, ◌+◌, Bool, true, false, eqb, List, [], ◌∷◌, ◌++◌, map, min, sym, refl, ap, ◌∙◌, subst, append-nil}
+use Rattle.std.proofs.Common.{◌≡◌, ◌⊎◌, inl, inr, ℕ, ◌+◌, Bool, true, false, eqb, List, [], ◌∷◌, ◌++◌, map, min, sym, refl, subst, append-nil}
 use Rattle.std.specs.Prelude.{Option, Some, None, replicate}
 use Rattle.std.specs.List.{AllByRecursion, fold}
 use Rattle.std.specs.Option.{option_map_or}
@@ -39,7 +39,7 @@ use Rattle.kept_laws.specs.Hosts.{AreHosts}
 use Rattle.node_telling.proofs.Orderly.{new_orderly, step_orderly}
 use Rattle.node_readings.proofs.NoticedWorlds.{event_up, numbers}
 use Rattle.node_readings.proofs.Sites.{lost_quiet}
-use Rattle.node_world.proofs.Cases.{by_power, by_memory, by_running, boot_written, boot_found, by_boot}
+use Rattle.node_world.proofs.Cases.{by_power, by_memory, by_running, boot_written, boot_found, written_off, by_boot}
 use Rattle.notice_readings.specs.Notices.{IsKeptNotice, notice_at}
 use Rattle.notice_readings.proofs.Reading.{notice_more}
 use Rattle.notice_readings.proofs.Shut.{here_shut}
@@ -144,13 +144,6 @@ runs_reads t w n k hosts content a off =
           (λ s b. record { host = b.host; node = e; shut = b.shut }) w.sites a.sites;
       reads_so = still_reads t (entry.Booted n k ∷ []) w.controller (booted_hushed n k) a.reads_so;
     })
-
--- a controller that didn't run before doesn't run as its boot has written
-pub written_off : (w : NodeWorld) (n : ℕ) → node_at w n ≡ None → eqb n 0 ≡ true → (boot_written w n).controller ≡ None
-written_off w n stands e =
-    let same : boot_written w n ≡ record w { memory = after_planned (boot_writes (memory_at w n).content) (memory_at w n) } = rw e refl in
-    let none : w.controller ≡ None = rw e at stands in
-    ap (λ (v : NodeWorld). v.controller) same ∙ none
 
 boots_reads : (t : List Entry) (w : NodeWorld) (n : ℕ) → Reads t w → node_at w n ≡ None → Reads (t ++ (boots w n).1) (boots w n).0
 boots_reads t w n a stands =
