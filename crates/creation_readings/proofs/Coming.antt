@@ -27,7 +27,6 @@ use Rattle.kept_laws.specs.Hosts.{AreDifferent}
 use Rattle.kept_laws.proofs.Books.{book_more, plain_fold}
 use Rattle.kept_laws.proofs.Plainly.{plain_entries, plain_flat, hosts_map}
 use Rattle.kept_laws.specs.Books.{IsPlain}
-use Rattle.kept_laws.proofs.Stepping.{late_host}
 use Rattle.node_readings.specs.Orders.{IsFresh}
 use Rattle.node_readings.proofs.Noticed.{up_is}
 use Rattle.notice_readings.proofs.Reading.{reads}
@@ -41,7 +40,7 @@ use Rattle.creation_readings.proofs.Asks.{Asked, asked_of, waits, asked_map}
 use Rattle.creation_readings.proofs.Reading.{ask_more, told_same, flat_same}
 use Rattle.creation_readings.proofs.Asides.{input_aside}
 use Rattle.creation_readings.proofs.Doing.{EndHas, EndAt, IsOn, reading}
-use Rattle.node_laws.proofs.Ports.{at_port, come_host}
+use Rattle.node_laws.proofs.Ports.{at_port, come_host, late_host}
 
 or_false : (b : Bool) → (b || false) ≡ b
 or_false true = refl

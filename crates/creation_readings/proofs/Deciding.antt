@@ -1,24 +1,23 @@
 -- What a controller decides on a command: it makes pipes that lead to no administration gate, and asks for those that come on pipe 01
 -- alone.
 use Rattle.std.proofs.Common.{◌≡◌, ◌⊎◌, inl, inr, ℕ, Bool, true, false, cond, not, eqb, ◌&&◌, ◌||◌, List, [], ◌∷◌, refl, sym, ap, ◌∙◌}
-use Rattle.std.specs.Prelude.{Option, Some, None, Ok, is_none, unwrap_or}
+use Rattle.std.specs.Prelude.{Option, Some, None, Ok, is_none}
 use Rattle.std.specs.Option.{option_and_then}
 use Rattle.std.proofs.lemmas.Bool.{cond_both, cases_Bool, true≢false, eqb-true, eqb-false, ne_eqb, not-false}
 use Rattle.hcp_packet.specs.declared.MessageKind.TheVariants.{Command as IsCommand}
 use Rattle.hcp_packet.specs.MessageHeader.{header_of}
-use Rattle.pipe_table.specs.PipeRows.{lowest_free, pipe_at}
+use Rattle.pipe_table.specs.PipeRows.{pipe_at}
 use Rattle.pipe_table.specs.declared.row.PipeRow.{PipeRow}
 use Rattle.hci_tables.specs.Tables.{HciTables, is_opened}
 use Rattle.hci_tables.specs.declared.command.Command.TheVariants.{Create, Delete, Clear}
-use Rattle.gate_answers.specs.declared.response.Response.{Response}
 use Rattle.gate_answers.specs.declared.response.Response.TheVariants as response
-use Rattle.gate_answers.specs.Answers.{answer_of, first_of, tests_to_get, param_in}
+use Rattle.gate_answers.specs.Answers.{answer_of, first_of, param_in}
 use Rattle.gate_admin.specs.declared.view.LinkView.{LinkView}
 use Rattle.gate_admin.specs.declared.decision.Decision.{Decision}
 use Rattle.gate_admin.specs.declared.decision.Decision.TheVariants.{Answer, Commit, Ask}
-use Rattle.gate_admin.specs.Decide.{ends_of, far_end, far_end_of, tests_to_set_it, commits, commits_and_tells, unless_refused, dest_in, dest_gate_in, opening}
-use Rattle.gate_admin.specs.Decide.{closing, setting, getting, creation, creating, deleting, clearing, carried_out, decided, created, told_of_deletion}
-use Rattle.gate_admin.specs.Decide.{told_of_clearing, tests_to_create, tests_to_open, tests_to_delete, tests_to_clear, tests_of_pipe}
+use Rattle.gate_admin.specs.Decide.{ends_of, far_end, far_end_of, commits_and_tells, dest_in, dest_gate_in, opening}
+use Rattle.gate_admin.specs.Decide.{closing, carried_out, decided, created, told_of_deletion}
+use Rattle.gate_admin.specs.Decide.{told_of_clearing, tests_to_create, tests_to_open, tests_of_pipe}
 use Rattle.gate_admin.proofs.CreationLemmas.{AllFalse, all_false}
 use Rattle.link_machine.specs.Machine.{Message}
 use Rattle.node_machine.specs.Controller.{own_gate, goes_through, relayed_to}
@@ -26,6 +25,7 @@ use Rattle.node_world.specs.NodeFilters.{is_response}
 use Rattle.creation_readings.specs.Worlds.{IsProper, IsProperCommand, AreProper}
 use Rattle.creation_readings.proofs.Rows.{proper_at}
 use Rattle.hci_tables.specs.declared.command.Command.{Command}
+use Rattle.gate_laws.proofs.Decisions.{unless, new_row, decided_holds}
 
 -- a host is asked for this creation by this notice
 pub record IsAskFor (h : ℕ) (notice : List ℕ) (row : PipeRow) : Type 0 where
@@ -54,20 +54,10 @@ gate_fine gate e = go (cases_Bool (eqb gate 4)) where
       ap (λ n. eqb n 0) (eqb-true gate 5 five)
 
 module _ (v : LinkView) (h : ℕ) (host : eqb h 0 ≡ false) where
-  unless : (o : Option Response) (d : Decision) → (o ≡ None → Suits h d) → Suits h (unless_refused o d)
-  unless (Some r) d a = tt
-  unless None d a = a refl
-
   tells_suit : (c : Command) (told notice : List ℕ) → IsProperCommand c → is_response notice ≡ false
       → Suits h (commits_and_tells c told notice)
   tells_suit c [] notice may e = (may, refl)
   tells_suit c (y ∷ told) notice may e = (may, e)
-
-  creation_suits : (row : PipeRow) → row.creator ≡ h → IsProper row → Suits h (creation row)
-  creation_suits row own proper =
-      cond_both (eqb row.dest 0) (commits (Create row) (ends_of row))
-      (Ask row.dest (record { items = 18 ∷ ends_of row }) (Create row) (record { items = answer_of response.Ok (ends_of row) }))
-      (Suits h) (λ _. (proper, refl)) (λ _. (row, refl, refl, record { creator = own; proper = proper; notice_is = refl }))
 
   created_proper : (body : List ℕ) (pid : ℕ) → eqb (dest_in body) h ≡ false
       → (eqb (dest_in body) 0 && not (eqb (dest_gate_in body) 4 || eqb (dest_gate_in body) 5)) ≡ false → IsProper (created h body pid)
@@ -80,28 +70,18 @@ module _ (v : LinkView) (h : ℕ) (host : eqb h 0 ≡ false) where
   pub decided_suits : (t : HciTables) (pipe instruction : ℕ) (body : List ℕ) → Suits h (decided t v h pipe instruction body)
   unfolding AllFalse
   decided_suits t pipe instruction body =
-      unless (first_of (tests_of_pipe t h pipe instruction)) (carried_out t v h pipe instruction body) (λ _.
-      cond_both (eqb instruction 3) (opening t h pipe body) _ (Suits h)
-      (λ _. unless (first_of (tests_to_open body)) _ (λ _. cond_both (is_opened t h pipe) _ _ (Suits h) (λ _. tt) (λ _. (tt, refl))))
-      (λ _. cond_both (eqb instruction 4) (closing h pipe body) _ (Suits h) (λ _. unless (first_of (tests_to_open body)) _ (λ _. (tt, refl)))
-      (λ _. cond_both (eqb instruction 1) (setting v h body) _ (Suits h) (λ _. unless (first_of (tests_to_set_it v h body)) _ (λ _. (tt, refl)))
-      (λ _. cond_both (eqb instruction 2) (getting t v h body) _ (Suits h) (λ _. unless (first_of (tests_to_get 0 body)) _ (λ _. tt))
-      (λ _. cond_both (eqb instruction 16) (creating t v h body) _ (Suits h)
-      (λ _. unless (first_of (tests_to_create t v h body)) _ (λ passed.
-      let none = all_false (tests_to_create t v h body) passed in
-      creation_suits (created h body (unwrap_or (lowest_free t.rows v.waiting.items) 0)) refl
-      (created_proper body (unwrap_or (lowest_free t.rows v.waiting.items) 0) none.1.1.0 none.1.1.1.0)))
-      (λ _. cond_both (eqb instruction 17) (deleting t v h body) _ (Suits h)
-      (λ _. unless (first_of (tests_to_delete t v h body)) _ (λ _.
-      tells_suit (Delete (param_in body)) (told_of_deletion t v h (param_in body)) (19 ∷ param_in body ∷ []) tt refl))
-      (λ _. cond_both (eqb instruction 20) (clearing t v h body) _ (Suits h)
-      (λ _. unless (first_of (tests_to_clear t v h body)) _ (λ _.
-      tells_suit (Clear h) (told_of_clearing t v h) (21 ∷ h ∷ []) tt refl))
-      (λ _. tt))))))))
-
-  unless_nobody : (o : Option Response) (d : Decision) → (o ≡ None → AsksNobody d) → AsksNobody (unless_refused o d)
-  unless_nobody (Some r) d a = tt
-  unless_nobody None d a = a refl
+      let row : PipeRow = new_row t v h body in
+      let proper : first_of (tests_to_create t v h body) ≡ None → IsProper row =
+      λ passed. let none = all_false (tests_to_create t v h body) passed in created_proper body row.pid none.1.1.0 none.1.1.1.0 in
+      decided_holds (Suits h) t v h pipe body instruction (λ r value. tt) (λ _. record {
+        opens = (tt, refl);
+        closes = (tt, refl);
+        sets = λ _. (tt, refl);
+        makes = λ passed controller. (proper passed, refl);
+        asks = λ passed other. (row, refl, refl, record { creator = refl; proper = proper passed; notice_is = refl });
+        deletes = λ _. tells_suit (Delete (param_in body)) (told_of_deletion t v h (param_in body)) (19 ∷ param_in body ∷ []) tt refl;
+        clears = λ _. tells_suit (Clear h) (told_of_clearing t v h) (21 ∷ h ∷ []) tt refl;
+      })
 
   -- no pipe but 01 leads to the administration gate
   far_proper : (o : Option PipeRow) → ((row : PipeRow) → o ≡ Some row → IsProper row) → (end : ℕ × ℕ)
@@ -158,11 +138,12 @@ module _ (v : LinkView) (h : ℕ) (host : eqb h 0 ≡ false) where
       → AsksNobody (decided t v h m.0 instruction body)
   unfolding AllFalse
   nobody_asked t m instruction body command proper off none gate =
-      unless_nobody (first_of (tests_of_pipe t h m.0 instruction)) (carried_out t v h m.0 instruction body) (λ passed.
+      unless AsksNobody (first_of (tests_of_pipe t h m.0 instruction)) (carried_out t v h m.0 instruction body) (λ r. tt) (λ passed.
       let tests = all_false (tests_of_pipe t h m.0 instruction) passed in
       cond_both (eqb instruction 3) (opening t h m.0 body) _ AsksNobody
-      (λ _. unless_nobody (first_of (tests_to_open body)) _ (λ _. cond_both (is_opened t h m.0) _ _ AsksNobody (λ _. tt) (λ _. tt)))
-      (λ three. cond_both (eqb instruction 4) (closing h m.0 body) _ AsksNobody (λ _. unless_nobody (first_of (tests_to_open body)) _ (λ _. tt))
+      (λ _. unless AsksNobody (first_of (tests_to_open body)) _ (λ r. tt) (λ _. cond_both (is_opened t h m.0) _ _ AsksNobody (λ _. tt) (λ _. tt)))
+      (λ three. cond_both (eqb instruction 4) (closing h m.0 body) _ AsksNobody
+      (λ _. unless AsksNobody (first_of (tests_to_open body)) _ (λ r. tt) (λ _. tt))
       (λ four. absurd (is_through t m instruction command proper off none gate
       (opens (is_opened t h m.0) (rw three at tests.1.0)) tests.0 three four))))
     where

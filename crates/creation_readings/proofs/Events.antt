@@ -1,5 +1,5 @@
 -- What is read of creations over whatever happens.
-use Rattle.std.proofs.Common.{◌≡◌, ◌⊎◌, inl, inr, ℕ, ◌+◌, ◌&&◌, Bool, true, false, not, cond, eqb, List, [], ◌∷◌, ◌++◌, length, map, min, sym, refl, ap, ◌∙◌}
+use Rattle.std.proofs.Common.{◌≡◌, ◌⊎◌, inl, inr, ℕ, ◌+◌, ◌&&◌, Bool, true, false, not, cond, eqb, List, [], ◌∷◌, ◌++◌, map, min, sym, refl, ap, ◌∙◌}
 use Rattle.std.proofs.Common.{subst, append-nil}
 use Rattle.std.specs.Prelude.{Option, Some, None}
 use Rattle.std.specs.List.{AllByRecursion, flat_map, find, cons_option, filter_map}
@@ -7,7 +7,7 @@ use Rattle.std.specs.Option.{option_map_or}
 use Rattle.std.proofs.lemmas.Bool.{cases_Bool, eqb-true}
 use Rattle.swp_base.specs.InMemory.{Memory}
 use Rattle.journal_laws.specs.Journal.{count_of}
-use Rattle.journal_laws.specs.Planned.{fails_within, after_planned}
+use Rattle.journal_laws.specs.Planned.{after_planned}
 use Rattle.trace_model.specs.Lines.{IsHost}
 use Rattle.trace_model.specs.declared.entry.Entry.{Entry}
 use Rattle.trace_model.specs.declared.entry.Entry.TheVariants as entry
@@ -18,11 +18,11 @@ use Rattle.message_link.specs.Links.{Link, NumberedEnd, Loss, Comes, exchanged, 
 use Rattle.message_link.specs.Links.Ending.{GoesOut, CutOff}
 use Rattle.message_link.specs.Links.Comes.{NextFrame, AsksReset, Starts, NoInput, Stops}
 use Rattle.message_link.specs.Links.Loss.{OnDemand, Broken, Unread, TooOld, TooMany}
-use Rattle.message_link.specs.Links.EndEvent.{Step, Lose}
+use Rattle.message_link.specs.Links.EndEvent.{Step}
 use Rattle.message_link.specs.Links.LinkEvent.{AtController}
 use Rattle.link_entries.specs.Entries.{first_lost}
 use Rattle.link_entries.specs.Entries.End.{Controller, Host}
-use Rattle.history.specs.Steps.{at, entries_for}
+use Rattle.history.specs.Steps.{entries_for}
 use Rattle.history.specs.Follows.{seen_from}
 use Rattle.node_machine.specs.Parts.{Desk, Running, Port, Work, Deed}
 use Rattle.node_machine.specs.Carrying.{changed_if, port_at}
@@ -44,8 +44,9 @@ use Rattle.node_readings.proofs.NoticedWorlds.{side_map, side_with, far_side, lo
 use Rattle.node_readings.proofs.Sites.{near_end_side, comes_outside, lost_quiet}
 use Rattle.notice_readings.specs.Worlds.{IfHostNode, IsGoodSite, IsShut, KeepsNotices}
 use Rattle.notice_readings.proofs.Own.{AreOwn}
-use Rattle.notice_readings.proofs.Far.{AreFar, far-append, far_flat, quiet_far, IsHostWork, all_do, steps_far, asking_more}
+use Rattle.notice_readings.proofs.Far.{AreFar, far-append, far_flat, quiet_far, IsFarWork, all_do, steps_far, asking_more}
 use Rattle.notice_readings.proofs.Sites.{AreGood, good_at, link_shut, frames_quiet, arrival_quiet}
+use Rattle.node_world.proofs.Cases.{by_power, by_memory, by_running, boot_written, boot_found, written_off, by_boot, site_lost, by_loss}
 use Rattle.creation_readings.specs.Creations.{creations_at, creations_of, IsReadSo, of_asker}
 use Rattle.creation_readings.specs.Worlds.{AreProper, IsProperBook, IfAwaited, HasSetAside, AreAwaited}
 use Rattle.creation_readings.proofs.Rows.{proper_found}
@@ -89,7 +90,7 @@ sites_beside w h f es far host side =
     record { far = far; creations = λ x. refl; due = λ a. a; sides = λ n. side_with h f host side w.sites n }
 
 -- a host acts
-host_beside : (w : NodeWorld) (h : ℕ) (comes : Comes) (f : Work → Work) → AreGood w.sites → ((k : Work) → IsHostWork k → IsHostWork (f k))
+host_beside : (w : NodeWorld) (h : ℕ) (comes : Comes) (f : Work → Work) → AreGood w.sites → ((k : Work) → IsFarWork k → IsFarWork (f k))
     → BesideBy w (host_does w h comes f)
 host_beside w h comes f good keeps = by_site (site_at w.sites h) refl where
   none_is : site_at w.sites h ≡ None → host_does w h comes f ≡ (w, [])
@@ -118,7 +119,7 @@ host_beside w h comes f good keeps = by_site (site_at w.sites h) refl where
       frames : List Entry
       frames = frames_noted Host h (wires_for (exchanged s.link) comes) k
 
-      far : IsHostWork k
+      far : IsFarWork k
       far =
           keeps (work_of r s.memory.plan (λ n. near_end_in (exchanged s.link) comes) (entries_for s.host (arrival Host (exchanged s.link) comes)))
           (record { number = subst IfHostNode e fine.node; far = arrival_quiet Host s.host (exchanged s.link) comes })
@@ -146,18 +147,9 @@ pub begins_beside : (w : NodeWorld) (h : ℕ) (deeds : List Deed) → AreGood w.
 begins_beside w h deeds good own = host_beside w h NoInput (begins_with h deeds) good (λ k b. all_do h deeds k own b)
 
 pub memory_beside : (w : NodeWorld) (n : ℕ) (m : Memory) → Beside w (with_memory n m w) []
-memory_beside w n m = by_number (cases_Bool (eqb n 0)) where
-  near_is : eqb n 0 ≡ true → with_memory n m w ≡ record w { memory = m }
-  near_is e = rw e refl
-
-  far_is : eqb n 0 ≡ false → with_memory n m w ≡ record w { sites = with_site n (λ (s : Site). record s { memory = m }) w.sites }
-  far_is e = rw e refl
-
-  by_number : (eqb n 0 ≡ true) ⊎ (eqb n 0 ≡ false) → Beside w (with_memory n m w) []
-  by_number (inl e) =
-      subst (λ v. Beside w v []) (sym (near_is e)) (record { far = tt; creations = λ x. refl; due = λ a. a; sides = λ k. refl })
-  by_number (inr e) =
-      subst (λ v. Beside w v []) (sym (far_is e)) (sites_beside w n (λ (s : Site). record s { memory = m }) [] tt (λ s. refl) (λ s. refl))
+memory_beside w n m =
+    by_memory (λ v. Beside w v []) n w m (λ e. record { far = tt; creations = λ x. refl; due = λ a. a; sides = λ k. refl })
+    (λ e. sites_beside w n (λ (s : Site). record s { memory = m }) [] tt (λ s. refl) (λ s. refl))
 
 -- ## Losses
 
@@ -202,38 +194,19 @@ counted_due TooOld h o a = a
 counted_due TooMany h o a = a
 
 pub lost_beside : (w : NodeWorld) (e : End) (why : Loss) → BesideBy w (frame_lost w e why)
-lost_beside w e why = by_side (cases_Bool e.at_host) where
-  l : Link
-  l = link_to w.sites e.link
-
-  lost : Site → Site
-  lost s = record s { link = happens s.link (at e (Lose why)) }
-
-  near_is : e.at_host ≡ false → frame_lost w e why
-      ≡ (
-        record w { controller = counts why e.link w.controller; sites = with_site e.link lost w.sites },
-        entries_for e.link (first_lost Controller why l.to_controller),
-      )
-  near_is b = rw b refl
-
-  far_is : e.at_host ≡ true → frame_lost w e why
-      ≡ (
-        record w { sites = with_site e.link (λ (s : Site). record (lost s) { node = counts why e.link s.node }) w.sites },
-        entries_for e.link (first_lost Host why l.to_host),
-      )
-  far_is b = rw b refl
-
-  by_side : (e.at_host ≡ true) ⊎ (e.at_host ≡ false) → BesideBy w (frame_lost w e why)
-  by_side (inl b) =
-      subst (BesideBy w) (sym (far_is b))
-      (sites_beside w e.link (λ (s : Site). record (lost s) { node = counts why e.link s.node }) (entries_for e.link (first_lost Host why l.to_host))
-      (quiet_far e.link (first_lost Host why l.to_host) (lost_quiet Host why l.to_host)) (λ s. refl) (λ s. lost_side e why s.link))
-  by_side (inr b) = subst (BesideBy w) (sym (near_is b)) (record {
-    far = quiet_far e.link (first_lost Controller why l.to_controller) (lost_quiet Controller why l.to_controller);
-    creations = λ x. counted_creations why e.link w.controller x;
-    due = counted_due why e.link w.controller;
-    sides = λ n. side_with e.link lost (λ s. refl) (λ s. lost_side e why s.link) w.sites n;
-  })
+lost_beside w e why =
+    by_loss (BesideBy w) w e why
+    (λ b. sites_beside w e.link (λ (s : Site). record (site_lost e why s) { node = counts why e.link s.node })
+    (entries_for e.link (first_lost Host why (link_to w.sites e.link).to_host))
+    (quiet_far e.link (first_lost Host why (link_to w.sites e.link).to_host) (lost_quiet Host why (link_to w.sites e.link).to_host)) (λ s. refl)
+    (λ s. lost_side e why s.link))
+    (λ b. record {
+      far = quiet_far e.link (first_lost Controller why (link_to w.sites e.link).to_controller)
+          (lost_quiet Controller why (link_to w.sites e.link).to_controller);
+      creations = λ x. counted_creations why e.link w.controller x;
+      due = counted_due why e.link w.controller;
+      sides = λ n. side_with e.link (site_lost e why) (λ s. refl) (λ s. lost_side e why s.link) w.sites n;
+    })
 
 -- ## Power
 
@@ -259,96 +232,48 @@ cut_ends (s ∷ sites) n = go (cases_Bool (eqb s.host n)) (cut_ends sites n) whe
   go (inr off) later = rw off later
 
 pub cut_reads : (t : List Entry) (w : NodeWorld) (n : ℕ) → Reads t w → Reads (t ++ entry.Cut n ∷ []) (loses_power_at n w)
-cut_reads t w n a = by_number (cases_Bool (eqb n 0)) where
-  near_is : eqb n 0 ≡ true → loses_power_at n w ≡ controller_cut w
-  near_is e = rw e refl
-
-  far_is : eqb n 0 ≡ false → loses_power_at n w ≡ record w { sites = with_site n host_cut w.sites }
-  far_is e = rw e refl
-
-  near : Reads (t ++ entry.Cut 0 ∷ []) (controller_cut w)
-  near = record {
-    book = subst IsProperBook (sym (book_more t (entry.Cut 0 ∷ []) 0)) a.book;
-    due = tt;
-    read = λ x. subst (λ m. IsReadSo m []) (sym (asking_more x t (entry.Cut 0 ∷ []))) tt;
-    ends = λ x. cut_ends w.sites x;
-  }
-
-  by_number : (eqb n 0 ≡ true) ⊎ (eqb n 0 ≡ false) → Reads (t ++ entry.Cut n ∷ []) (loses_power_at n w)
-  by_number (inl e) =
-      subst (Reads (t ++ entry.Cut n ∷ [])) (sym (near_is e))
-      (subst (λ m. Reads (t ++ entry.Cut m ∷ []) (controller_cut w)) (sym (eqb-true n 0 e)) near)
-  by_number (inr e) =
-      subst (Reads (t ++ entry.Cut n ∷ [])) (sym (far_is e))
-      (beside_reads t w (record w { sites = with_site n host_cut w.sites }) (entry.Cut n ∷ []) a
-      (sites_beside w n host_cut (entry.Cut n ∷ []) (e, tt) (λ s. refl) (λ s. far_side s.link (Step NoInput [] CutOff))))
+cut_reads t w n a =
+    by_power (Reads (t ++ entry.Cut n ∷ [])) n w
+    (λ e. subst (λ m. Reads (t ++ entry.Cut m ∷ []) (controller_cut w)) (sym (eqb-true n 0 e)) near)
+    (λ e. beside_reads t w (record w { sites = with_site n host_cut w.sites }) (entry.Cut n ∷ []) a
+    (sites_beside w n host_cut (entry.Cut n ∷ []) (e, tt) (λ s. refl) (λ s. far_side s.link (Step NoInput [] CutOff))))
+  where
+    near : Reads (t ++ entry.Cut 0 ∷ []) (controller_cut w)
+    near = record {
+      book = subst IsProperBook (sym (book_more t (entry.Cut 0 ∷ []) 0)) a.book;
+      due = tt;
+      read = λ x. subst (λ m. IsReadSo m []) (sym (asking_more x t (entry.Cut 0 ∷ []))) tt;
+      ends = λ x. cut_ends w.sites x;
+    }
 
 runs_reads : (t : List Entry) (w : NodeWorld) (n k : ℕ) (hosts content : List ℕ) → Reads t w → (eqb n 0 ≡ true → w.controller ≡ None)
     → Reads (t ++ entry.Booted n k ∷ []) (with_node n (found n hosts content) w)
-runs_reads t w n k hosts content a off = by_number (cases_Bool (eqb n 0)) where
-  near_is : eqb n 0 ≡ true → with_node n (found n hosts content) w ≡ record w { controller = Some (found n hosts content) }
-  near_is e = rw e refl
-
-  far_is : eqb n 0 ≡ false
-      → with_node n (found n hosts content) w ≡ record w { sites = with_site n (λ (s : Site). record s { node = Some (found n hosts content) }) w.sites }
-  far_is e = rw e refl
-
-  near : w.controller ≡ None → Reads (t ++ entry.Booted 0 k ∷ []) (record w { controller = Some (found n hosts content) })
-  near none = record {
-    book = subst IsProperBook (sym (book_more t (entry.Booted 0 k ∷ []) 0)) (proper_found k (book_in t 0) a.book);
-    due = new_due hosts;
-    read = λ x. subst (λ m. IsReadSo m (creations_at (map new_desk hosts) x))
-        (sym (asking_more x t (entry.Booted 0 k ∷ [])))
-        (subst (IsReadSo (asking_in t x)) (sym (none_asked hosts x)) (subst (λ o. IsReadSo (asking_in t x) (creations_of o x)) none (a.read x)));
-    ends = λ x. subst (λ l. HasSetAside l (link_to w.sites x).controller.side) (sym (none_asked hosts x))
-        (subst (λ o. HasSetAside (creations_of o x) (link_to w.sites x).controller.side) none (a.ends x));
-  }
-
-  by_number : (eqb n 0 ≡ true) ⊎ (eqb n 0 ≡ false) → Reads (t ++ entry.Booted n k ∷ []) (with_node n (found n hosts content) w)
-  by_number (inl e) =
-      subst (Reads (t ++ entry.Booted n k ∷ [])) (sym (near_is e))
-      (subst (λ m. Reads (t ++ entry.Booted m k ∷ []) (record w { controller = Some (found n hosts content) })) (sym (eqb-true n 0 e)) (near (off e)))
-  by_number (inr e) =
-      subst (Reads (t ++ entry.Booted n k ∷ [])) (sym (far_is e))
-      (beside_reads t w (record w { sites = with_site n (λ (s : Site). record s { node = Some (found n hosts content) }) w.sites }) (entry.Booted n k ∷ []) a
-      (sites_beside w n (λ (s : Site). record s { node = Some (found n hosts content) }) (entry.Booted n k ∷ []) (e, tt) (λ s. refl) (λ s. refl)))
+runs_reads t w n k hosts content a off =
+    by_running (Reads (t ++ entry.Booted n k ∷ [])) n w (found n hosts content)
+    (λ e. subst (λ m. Reads (t ++ entry.Booted m k ∷ []) (record w { controller = Some (found n hosts content) })) (sym (eqb-true n 0 e)) (near (off e)))
+    (λ e. beside_reads t w (record w { sites = with_site n (λ (s : Site). record s { node = Some (found n hosts content) }) w.sites })
+    (entry.Booted n k ∷ []) a
+    (sites_beside w n (λ (s : Site). record s { node = Some (found n hosts content) }) (entry.Booted n k ∷ []) (e, tt) (λ s. refl) (λ s. refl)))
+  where
+    near : w.controller ≡ None → Reads (t ++ entry.Booted 0 k ∷ []) (record w { controller = Some (found n hosts content) })
+    near none = record {
+      book = subst IsProperBook (sym (book_more t (entry.Booted 0 k ∷ []) 0)) (proper_found k (book_in t 0) a.book);
+      due = new_due hosts;
+      read = λ x. subst (λ m. IsReadSo m (creations_at (map new_desk hosts) x))
+          (sym (asking_more x t (entry.Booted 0 k ∷ [])))
+          (subst (IsReadSo (asking_in t x)) (sym (none_asked hosts x)) (subst (λ o. IsReadSo (asking_in t x) (creations_of o x)) none (a.read x)));
+      ends = λ x. subst (λ l. HasSetAside l (link_to w.sites x).controller.side) (sym (none_asked hosts x))
+          (subst (λ o. HasSetAside (creations_of o x) (link_to w.sites x).controller.side) none (a.ends x));
+    }
 
 pub boots_reads : (t : List Entry) (w : NodeWorld) (n : ℕ) → Reads t w → node_at w n ≡ None → Reads (t ++ (boots w n).1) (boots w n).0
-boots_reads t w n a stands = by_plan (cases_Bool (fails_within (length (boot_writes before.content)) before.plan)) where
-  before : Memory
-  before = memory_at w n
-
-  written : NodeWorld
-  written = with_memory n (after_planned (boot_writes before.content) before) w
-
-  noted : List Entry
-  noted = entry.Booted n (count_of (found n (links_of w n) before.content).core.journal) ∷ []
-
-  Fine : NodeWorld × List Entry → Type 0
-  Fine p = Reads (t ++ p.1) p.0
-
-  lost_is : fails_within (length (boot_writes before.content)) before.plan ≡ true → boots w n ≡ (loses_power_at n written, entry.Cut n ∷ [])
-  lost_is e = rw e refl
-
-  runs_is : fails_within (length (boot_writes before.content)) before.plan ≡ false
-      → boots w n ≡ (with_node n (found n (links_of w n) before.content) written, noted)
-  runs_is e = rw e refl
-
-  still : Reads t written
-  still = subst (λ l. Reads l written) (append-nil t)
-      (beside_reads t w written [] a (memory_beside w n (after_planned (boot_writes before.content) before)))
-
-  off : eqb n 0 ≡ true → written.controller ≡ None
-  off e =
-      let same : written ≡ record w { memory = after_planned (boot_writes before.content) before } = rw e refl in
-      let none : w.controller ≡ None = rw e at stands in
-      ap (λ (v : NodeWorld). v.controller) same ∙ none
-
-  by_plan : (fails_within (length (boot_writes before.content)) before.plan ≡ true)
-      ⊎ (fails_within (length (boot_writes before.content)) before.plan ≡ false) → Fine (boots w n)
-  by_plan (inl fails) = subst Fine (sym (lost_is fails)) (cut_reads t written n still)
-  by_plan (inr none) = subst Fine (sym (runs_is none))
-      (runs_reads t written n (count_of (found n (links_of w n) before.content).core.journal) (links_of w n) before.content still off)
+boots_reads t w n a stands =
+    by_boot (λ p. Reads (t ++ p.1) p.0) w n (cut_reads t (boot_written w n) n still)
+    (runs_reads t (boot_written w n) n (count_of (boot_found w n).core.journal) (links_of w n) (memory_at w n).content still (written_off w n stands))
+  where
+    still : Reads t (boot_written w n)
+    still = subst (λ l. Reads l (boot_written w n)) (append-nil t)
+        (beside_reads t w (boot_written w n) [] a (memory_beside w n (after_planned (boot_writes (memory_at w n).content) (memory_at w n))))
 
 -- ## The controller acts
 

@@ -4,13 +4,12 @@ use Rattle.std.specs.Prelude.{Option, Some, None}
 use Rattle.std.specs.List.{AllByRecursion, flat_map}
 use Rattle.std.specs.Option.{option_map_or}
 use Rattle.trace_model.specs.declared.entry.Entry.{Entry}
-use Rattle.trace_model.specs.declared.entry.Entry.TheVariants as entry
 use Rattle.journal_laws.specs.Planned.{fails_within}
 use Rattle.hci_tables.specs.declared.command.Command.{Command}
 use Rattle.hci_tables.specs.Bodies.{body_of}
 use Rattle.hci_store.specs.Committing.{commit_writes}
 use Rattle.session_laws.specs.Sessions.{OnWire}
-use Rattle.link_machine.specs.Machine.{LinkEnd, LinkInput, Message, Turn, after_input, is_held, turn, turned}
+use Rattle.link_machine.specs.Machine.{LinkEnd, LinkInput, Message, Turn, after_input, turn, turned}
 use Rattle.link_machine.specs.Machine.LinkInput.{Take, Tick, Reset, Start, Stop}
 use Rattle.link_machine.specs.Machine.Turn.{Give, Hold, FetchMessage, SetAside, Release}
 use Rattle.message_link.specs.Links.{Link, Comes, Ending, finished, has_taken, steps_at_controller, ticks_at_controller}
@@ -19,20 +18,19 @@ use Rattle.message_link.specs.Links.Comes.{NextFrame, AsksReset, Starts, Stops, 
 use Rattle.node_machine.specs.Parts.{About, Desk, Core, Port, Work, Deed}
 use Rattle.node_machine.specs.Parts.About.{Removed}
 use Rattle.node_machine.specs.Parts.Deed.{Commits, Sends, SaysOk, Asks, Releases, Tells, IsAnswered, Drops, SetsErrors, Orders, Hears, GoesOn, Ends}
-use Rattle.node_machine.specs.Carrying.{noting, unless_cut, port_at, changed_if, with_desk, after_turn, turn_at, notified, commit, done, all_done, end_of_node}
-use Rattle.node_machine.specs.Carrying.{needs, lack}
-use Rattle.node_machine.specs.HostReplies.{host_deeds}
-use Rattle.node_machine.specs.Turns.{deeds_of, handles, holds_back, lets_go, have_turns, goes_through_ends, passes}
+use Rattle.node_machine.specs.Carrying.{noting, port_at, changed_if, with_desk, after_turn, turn_at, notified, commit, done, all_done}
 use Rattle.node_machine.specs.Node.{NodeInput, input_at, has_come, all_come, with_older, is_late, reset_late, times_out, forgotten, forgets, all_owed}
 use Rattle.node_machine.specs.Node.{without_notice, after_sessions, synced, steps}
 use Rattle.node_machine.specs.Node.NodeInput.{AtEnd, TimePasses}
 use Rattle.node_telling.proofs.Steps.{without_same, forgets_same}
-use Rattle.notice_readings.proofs.Own.{IsOwn, AreOwn, host_own, forgotten_own, all_owed_own, all_synced_own}
+use Rattle.notice_readings.proofs.Own.{IsOwn, AreOwn, deeds_own, forgotten_own, all_owed_own, all_synced_own}
 use Rattle.notice_readings.proofs.Doing.{all_map}
 use Rattle.registry.proofs.ValueLemmas.{AllByRecursion-append as all_append}
 use Rattle.creation_readings.proofs.Asides.{input_aside}
 use Rattle.creation_readings.proofs.Doing.{give_aside}
 use Rattle.node_laws.proofs.Ports.{at_port, sessions_node}
+use Rattle.node_laws.proofs.StepWalks.{got_at, all_do as all_none, Lasts, rest_lasts}
+use Rattle.node_laws.proofs.Walks.{anyone}
 
 -- ## One end
 
@@ -146,79 +144,25 @@ does h Hears w q a = with_core w (record w.core { command = None }) refl a
 does h (GoesOn i) w q a = with_core w (record w.core { init = Some i }) refl a
 does h (Ends e) w q a = notes (e ∷ []) (record w { core = record w.core { init = None } }) (with_core w (record w.core { init = None }) refl a)
 
-unless : (f : Work → Work) (w : Work) → (SetsNoneAside w → SetsNoneAside (f w)) → SetsNoneAside w → SetsNoneAside (unless_cut f w)
-unless f w one a = go w.cut where
-  by : Bool → Work
-  by true = w
-  by false = f w
-
-  go : (b : Bool) → SetsNoneAside (by b)
-  go true = a
-  go false = one a
-
 pub all_do : (h : ℕ) (deeds : List Deed) (w : Work) → AreOwn deeds → SetsNoneAside w → SetsNoneAside (all_done h deeds w)
-all_do h [] w q a = a
-all_do h (d ∷ deeds) w q a = unless (all_done h deeds) (done h d w) (λ b. all_do h deeds (done h d w) q.1 b) (does h d w q.0 a)
+all_do h deeds w q a = all_none SetsNoneAside IsOwn does h deeds w q a
 
 -- ## Turns
 
-handles_none : (h : ℕ) (m : Message) (deeds : List Deed) (w : Work) → AreOwn deeds → SetsNoneAside w → SetsNoneAside (handles h m deeds w)
-handles_none h m deeds w q a =
-    let noted : List Entry = entry.Turn (end_of_node w.core h) m.0 m.1 ∷ [] in
-    all_do h deeds (with_desk h (λ d. record d { holds = false }) (turn_at h FetchMessage (noting noted w))) q
-    (desks h (λ d. record d { holds = false }) (turn_at h FetchMessage (noting noted w)) (turns h FetchMessage (noting noted w) tt (notes noted w a)))
+abbrev Any : ℕ → Message → Type 0
+Any h m = Unit {0}
 
-holds_none : (h : ℕ) (short : ℕ × ℕ) (w : Work) → SetsNoneAside w → SetsNoneAside (holds_back h short w)
-holds_none h short w a = go (option_map_or (λ (p : Port). p.desk.holds) (port_at w.ports h) false) where
-  noted : Work
-  noted = noting (entry.Held (end_of_node w.core h) short.0 short.1 ∷ []) w
-
-  by : Bool → Work
-  by true = turn_at h (Hold true) w
-  by false = turn_at h (Hold true) (with_desk h (λ d. record d { holds = true }) noted)
-
-  go : (b : Bool) → SetsNoneAside (by b)
-  go true = turns h (Hold true) w tt a
-  go false = turns h (Hold true) (with_desk h (λ d. record d { holds = true }) noted) tt (desks h (λ d. record d { holds = true }) noted (notes _ w a))
-
-lets_none : (h : ℕ) (w : Work) → SetsNoneAside w → SetsNoneAside (lets_go h w)
-lets_none h w a = go (option_map_or (λ (p : Port). is_held p.side) (port_at w.ports h) false) where
-  by : Bool → Work
-  by true = turn_at h (Hold false) w
-  by false = w
-
-  go : (b : Bool) → SetsNoneAside (by b)
-  go true = turns h (Hold false) w tt a
-  go false = a
-
-deeds_own : (w : Work) (h : ℕ) (m : Message) → SetsNoneAside w → AreOwn (deeds_of w.core w.ports h m)
-deeds_own w h m a = subst AreOwn (sym is) (go (port_at w.ports h)) where
-  is : deeds_of w.core w.ports h m ≡ option_map_or (λ p. host_deeds w.core p m) (port_at w.ports h) []
-  is = let e : eqb w.core.node 0 ≡ false = a.number in rw e refl
-
-  go : (o : Option Port) → AreOwn (option_map_or (λ p. host_deeds w.core p m) o [])
-  go None = tt
-  go (Some p) = host_own w.core p m
-
-have_none : (h : ℕ) (messages : List Message) (w : Work) → SetsNoneAside w → SetsNoneAside (have_turns h messages w)
-have_none h [] w a = lets_none h w a
-have_none h (m ∷ messages) w a = go (lack w.ports (needs h deeds)) (λ v b. have_none h messages v b) where
-  deeds : List Deed
-  deeds = deeds_of w.core w.ports h m
-
-  by : Option (ℕ × ℕ) → Work
-  by None = unless_cut (have_turns h messages) (handles h m deeds w)
-  by (Some short) = holds_back h short w
-
-  go : (o : Option (ℕ × ℕ)) → ((v : Work) → SetsNoneAside v → SetsNoneAside (have_turns h messages v)) → SetsNoneAside (by o)
-  go None later = unless (have_turns h messages) (handles h m deeds w) (later (handles h m deeds w)) (handles_none h m deeds w (deeds_own w h m a) a)
-  go (Some short) later = holds_none h short w a
-
-ends_none : (hosts : List ℕ) (w : Work) → SetsNoneAside w → SetsNoneAside (goes_through_ends hosts w)
-ends_none [] w a = a
-ends_none (h ∷ hosts) w a =
-    let messages : List Message = option_map_or (λ (p : Port). p.side.got) (port_at w.ports h) [] in
-    unless (goes_through_ends hosts) (have_turns h messages w) (λ b. ends_none hosts (have_turns h messages w) b) (have_none h messages w a)
+none_lasts : Lasts SetsNoneAside IsOwn Any
+none_lasts = record {
+  does = does;
+  turn_told = λ h m w any a. notes _ w a;
+  held_told = λ h need spare w a. notes _ w a;
+  fetched = λ h w a. turns h FetchMessage w tt a;
+  held = λ h flag w a. turns h (Hold flag) w tt a;
+  marked = λ h flag w a. desks h (λ d. record d { holds = flag }) w a;
+  come = λ h w a. anyone (Any h) (λ m. tt) (got_at h w);
+  causes = λ h m w any a. deeds_own w.core w.ports h m a.number;
+}
 
 -- ## Steps
 
@@ -259,13 +203,8 @@ steps_none input w a =
           (all_map (λ (p : Port). SetNone p.turns) (λ (p : Port). SetNone p.turns) (forgets came.ports)
           (λ p c. subst SetNone (sym (forgets_same came.ports p).turns) c) came.ports b.turns);
     } in
-    let freed : List Deed = forgotten came.ports in
-    let syncs : List Deed = flat_map (synced w.core input) w.ports in
-    let owing : List Deed = all_owed left in
-    let one : SetsNoneAside (all_done 0 syncs (all_done 0 freed begun)) =
-    all_do 0 syncs (all_done 0 freed begun) (all_synced_own w.core input w.ports) (all_do 0 freed begun (forgotten_own came.ports) first) in
-    unless passes (unless_cut (all_done 0 owing) (all_done 0 syncs (all_done 0 freed begun))) (λ c. ends_none _ _ c)
-    (unless (all_done 0 owing) (all_done 0 syncs (all_done 0 freed begun)) (λ c. all_do 0 owing _ (all_owed_own left) c) one)
+    rest_lasts SetsNoneAside IsOwn Any none_lasts (forgotten came.ports) (flat_map (synced w.core input) w.ports) (all_owed left) begun
+    (forgotten_own came.ports) (all_synced_own w.core input w.ports) (all_owed_own left) first
 
 pub none_at : (k : Work) (h : ℕ) → SetsNoneAside k → SetNone (option_map_or (λ (p : Port). p.turns) (port_at k.ports h) [])
 none_at k h a = go (port_at k.ports h) refl where

@@ -1,10 +1,10 @@
 -- Whatever happens, no end of a host has a block set aside.
-use Rattle.std.proofs.Common.{◌≡◌, ◌⊎◌, inl, inr, ℕ, ◌&&◌, Bool, true, false, not, eqb, List, [], ◌∷◌, length, map, sym, refl, ap, ◌∙◌, subst}
+use Rattle.std.proofs.Common.{◌≡◌, ◌⊎◌, inl, inr, ℕ, ◌&&◌, Bool, true, false, not, eqb, List, [], ◌∷◌, map, sym, refl, ap, ◌∙◌, subst}
 use Rattle.std.specs.Prelude.{Option, Some, None}
 use Rattle.std.specs.List.{AllByRecursion}
 use Rattle.std.proofs.lemmas.Bool.{cases_Bool, cond_both}
 use Rattle.swp_base.specs.InMemory.{Memory}
-use Rattle.journal_laws.specs.Planned.{fails_within, after_planned}
+use Rattle.journal_laws.specs.Planned.{after_planned}
 use Rattle.trace_model.specs.declared.entry.Entry.{Entry}
 use Rattle.trace_model.specs.declared.line.End.{End}
 use Rattle.shdlc_core.specs.Machine.{is_waiting}
@@ -20,11 +20,11 @@ use Rattle.link_entries.specs.Entries.End.{Host}
 use Rattle.history.specs.Follows.{seen_from}
 use Rattle.node_machine.specs.Parts.{Desk, Port, Running, Work, Deed}
 use Rattle.node_machine.specs.Carrying.{changed_if}
-use Rattle.node_machine.specs.Node.{steps, begins_with, boot_writes, found}
+use Rattle.node_machine.specs.Node.{steps, begins_with, boot_writes}
 use Rattle.node_machine.specs.Node.NodeInput.{AtEnd, TimePasses}
-use Rattle.node_world.specs.World.{NodeWorld, Site, Happening, memory_at, site_at, with_site, with_memory, with_node, link_to, links_of, ending_of, turns_at}
+use Rattle.node_world.specs.World.{NodeWorld, Site, Happening, memory_at, site_at, with_site, with_memory, link_to, ending_of, turns_at}
 use Rattle.node_world.specs.World.{input_of, near_end_in, arrival, port_for, work_of, comes_to, controller_work, link_after_controller, after_controller}
-use Rattle.node_world.specs.World.{controller_does, host_work, after_host, host_does, controller_cut, host_cut, loses_power_at, boots, counts, frame_lost}
+use Rattle.node_world.specs.World.{controller_does, host_work, after_host, host_does, host_cut, loses_power_at, boots, counts, frame_lost}
 use Rattle.node_world.specs.World.{all_aged, is_late_at, ticked_so, controller_ticks, host_ticks, hosts_tick, comes_at, sending, beginning, new_site, end_c}
 use Rattle.node_world.specs.World.{end_h, world_step}
 use Rattle.node_world.specs.World.Happening.{Boots, IsCut, Gives, Inits, Takes, Loses, Ticks, Resets, Activates, Arms}
@@ -36,6 +36,7 @@ use Rattle.notice_readings.proofs.Sites.{AreGood, good_at, sending_own, beginnin
 use Rattle.notice_readings.proofs.Near.{comes_reads as notices_come}
 use Rattle.creation_readings.specs.Worlds.{HasNoneAside}
 use Rattle.creation_readings.proofs.HostSides.{SetsNoneAside, SetNone, step_none, tick_none, all_do, steps_none, none_at}
+use Rattle.node_world.proofs.Cases.{by_memory, by_running, by_power, boot_written, boot_found, by_boot}
 
 abbrev pub HaveNoneAside : List Site → Type 0
 HaveNoneAside sites = AllByRecursion HasNoneAside sites
@@ -151,67 +152,28 @@ begins_none w h deeds good own a = host_none w h NoInput (begins_with h deeds) g
 
 -- ## Power and memories
 
+-- no host has a block set aside
+abbrev AsideNowhere : NodeWorld → Type 0
+AsideNowhere w = HaveNoneAside w.sites
+
 memory_none : (w : NodeWorld) (n : ℕ) (m : Memory) → HaveNoneAside w.sites → HaveNoneAside (with_memory n m w).sites
-memory_none w n m a = by_number (cases_Bool (eqb n 0)) where
-  near_is : eqb n 0 ≡ true → (with_memory n m w).sites ≡ w.sites
-  near_is e = rw e refl
-
-  far_is : eqb n 0 ≡ false → (with_memory n m w).sites ≡ with_site n (λ (s : Site). record s { memory = m }) w.sites
-  far_is e = rw e refl
-
-  by_number : (eqb n 0 ≡ true) ⊎ (eqb n 0 ≡ false) → HaveNoneAside (with_memory n m w).sites
-  by_number (inl e) = subst HaveNoneAside (sym (near_is e)) a
-  by_number (inr e) = subst HaveNoneAside (sym (far_is e)) (none_with n (λ (s : Site). record s { memory = m }) (λ s b. b) w.sites a)
+memory_none w n m a =
+    by_memory AsideNowhere n w m (λ _. a) (λ _. none_with n (λ (s : Site). record s { memory = m }) (λ s b. b) w.sites a)
 
 cut_none : (w : NodeWorld) (n : ℕ) → HaveNoneAside w.sites → HaveNoneAside (loses_power_at n w).sites
-cut_none w n a = by_number (cases_Bool (eqb n 0)) where
-  near_is : eqb n 0 ≡ true → (loses_power_at n w).sites ≡ (controller_cut w).sites
-  near_is e = rw e refl
-
-  far_is : eqb n 0 ≡ false → (loses_power_at n w).sites ≡ with_site n host_cut w.sites
-  far_is e = rw e refl
-
-  by_number : (eqb n 0 ≡ true) ⊎ (eqb n 0 ≡ false) → HaveNoneAside (loses_power_at n w).sites
-  by_number (inl e) =
-      subst HaveNoneAside (sym (near_is e)) (none_map (λ (s : Site). record s { link = happens s.link (AtController (Step NoInput [] CutOff)) })
-      (λ s b. near_same s.link (Step NoInput [] CutOff) b) w.sites a)
-  by_number (inr e) =
-      subst HaveNoneAside (sym (far_is e)) (none_with n host_cut (λ s b. step_none (exchanged s.link) NoInput [] CutOff tt b) w.sites a)
+cut_none w n a =
+    by_power AsideNowhere n w
+    (λ _. none_map (λ (s : Site). record s { link = happens s.link (AtController (Step NoInput [] CutOff)) })
+    (λ s b. near_same s.link (Step NoInput [] CutOff) b) w.sites a)
+    (λ _. none_with n host_cut (λ s b. step_none (exchanged s.link) NoInput [] CutOff tt b) w.sites a)
 
 boots_none : (w : NodeWorld) (n : ℕ) → HaveNoneAside w.sites → HaveNoneAside (boots w n).0.sites
-boots_none w n a = by_plan (cases_Bool (fails_within (length (boot_writes before.content)) before.plan)) where
-  before : Memory
-  before = memory_at w n
-
-  written : NodeWorld
-  written = with_memory n (after_planned (boot_writes before.content) before) w
-
-  r : Running
-  r = found n (links_of w n) before.content
-
-  still : HaveNoneAside written.sites
-  still = memory_none w n (after_planned (boot_writes before.content) before) a
-
-  lost_is : fails_within (length (boot_writes before.content)) before.plan ≡ true → (boots w n).0 ≡ loses_power_at n written
-  lost_is e = rw e refl
-
-  runs_is : fails_within (length (boot_writes before.content)) before.plan ≡ false → (boots w n).0 ≡ with_node n r written
-  runs_is e = rw e refl
-
-  near_is : eqb n 0 ≡ true → (with_node n r written).sites ≡ written.sites
-  near_is e = rw e refl
-
-  far_is : eqb n 0 ≡ false → (with_node n r written).sites ≡ with_site n (λ (s : Site). record s { node = Some r }) written.sites
-  far_is e = rw e refl
-
-  runs_so : (eqb n 0 ≡ true) ⊎ (eqb n 0 ≡ false) → HaveNoneAside (with_node n r written).sites
-  runs_so (inl e) = subst HaveNoneAside (sym (near_is e)) still
-  runs_so (inr e) = subst HaveNoneAside (sym (far_is e)) (none_with n (λ (s : Site). record s { node = Some r }) (λ s b. b) written.sites still)
-
-  by_plan : (fails_within (length (boot_writes before.content)) before.plan ≡ true)
-      ⊎ (fails_within (length (boot_writes before.content)) before.plan ≡ false) → HaveNoneAside (boots w n).0.sites
-  by_plan (inl fails) = subst (λ (v : NodeWorld). HaveNoneAside v.sites) (sym (lost_is fails)) (cut_none written n still)
-  by_plan (inr none) = subst (λ (v : NodeWorld). HaveNoneAside v.sites) (sym (runs_is none)) (runs_so (cases_Bool (eqb n 0)))
+boots_none w n a =
+    let v : NodeWorld = boot_written w n in
+    let still : HaveNoneAside v.sites = memory_none w n (after_planned (boot_writes (memory_at w n).content) (memory_at w n)) a in
+    by_boot (λ (p : NodeWorld × List Entry). HaveNoneAside p.0.sites) w n (cut_none v n still)
+    (by_running AsideNowhere n v (boot_found w n) (λ _. still)
+    (λ _. none_with n (λ (s : Site). record s { node = Some (boot_found w n) }) (λ s b. b) v.sites still))
 
 lost_none : (w : NodeWorld) (e : End) (why : Loss) → HaveNoneAside w.sites → HaveNoneAside (frame_lost w e why).0.sites
 lost_none w e why a = by_side (cases_Bool e.at_host) where

@@ -38,6 +38,7 @@ use Rattle.creation_readings.proofs.Asks.{Asked, asked_of, waits, desks_wait}
 use Rattle.creation_readings.proofs.Doing.{EndHas, EndAt, IsOff, Good, many}
 use Rattle.creation_readings.proofs.Deeds.{Still, Fine}
 use Rattle.creation_readings.proofs.Steps.{steps_good}
+use Rattle.notice_readings.proofs.Near.{all_ports}
 
 -- ## Entries of hosts
 
@@ -90,11 +91,6 @@ port_of near_ends (d ∷ desks) x = go (cases_Bool (eqb d.host x)) (port_of near
       → port_at (ports_for near_ends (d ∷ desks)) x ≡ option_map (λ d. port_for (near_ends x) d) (find (λ (d : Desk). eqb d.host x) (d ∷ desks))
   go (inl is) later = rw is (ap (λ n. Some (port_for (near_ends n) d)) (eqb-true d.host x is))
   go (inr off) later = rw off later
-
-pub all_ports : (P : Port → Type 0) (near_ends : ℕ → NumberedEnd) → ((d : Desk) → P (port_for (near_ends d.host) d)) → (desks : List Desk)
-    → AllByRecursion P (ports_for near_ends desks)
-all_ports P near_ends one [] = tt
-all_ports P near_ends one (d ∷ desks) = (one d, all_ports P near_ends one desks)
 
 pub desks_back : (near_ends : ℕ → NumberedEnd) (desks : List Desk) → map (λ (p : Port). p.desk) (ports_for near_ends desks) ≡ desks
 desks_back near_ends [] = refl

@@ -29,8 +29,7 @@ use Rattle.node_telling.proofs.Late.{IsLasting, reset_same}
 use Rattle.node_telling.specs.Telling.{is_due}
 use Rattle.node_readings.proofs.Noticed.{up_is, not_waiting}
 use Rattle.notice_readings.specs.Worlds.{IsShut}
-use Rattle.node_laws.proofs.Ports.{come_host, forgets_host}
-use Rattle.kept_laws.proofs.Stepping.{without_host, late_host}
+use Rattle.node_laws.proofs.Ports.{come_host, forgets_host, without_host, late_host}
 
 module _ (x : ℕ) (e : LinkEnd) (late : Bool) where
   -- the end is what its turns made of this one, and its notice is late or not

@@ -29,7 +29,6 @@ use Rattle.node_links.proofs.Noticing.{UpAt, at_all}
 use Rattle.node_telling.proofs.Steps.{without_same, forgets_same}
 use Rattle.kept_laws.specs.Hosts.{AreDifferent}
 use Rattle.kept_laws.proofs.Plainly.{hosts_map}
-use Rattle.kept_laws.proofs.Stepping.{without_host}
 use Rattle.node_readings.specs.Orders.{IsFresh}
 use Rattle.notice_readings.specs.Worlds.{IsShut}
 use Rattle.creation_readings.specs.Creations.{IsReadSo}
@@ -41,7 +40,7 @@ use Rattle.creation_readings.proofs.Turning.{passes_good}
 use Rattle.creation_readings.proofs.Coming.{ComeAt, AreFlagged, HasCome, came_near, came_tick, over_at}
 use Rattle.notice_readings.proofs.Steps.{sessions_tables}
 use Rattle.registry.proofs.ValueLemmas.{AllByRecursion-append as all_joined}
-use Rattle.node_laws.proofs.Ports.{forgets_host, sessions_node}
+use Rattle.node_laws.proofs.Ports.{forgets_host, sessions_node, without_host}
 
 answer_response : (r : Response) → is_response (answer_of r []) ≡ true
 answer_response response.Ok = refl

@@ -7,51 +7,78 @@ use Rattle.std.proofs.lemmas.Bool.{cond_both, and_from, and_parts, and_cases, no
 use Rattle.std.proofs.lemmas.Bool.{true≢false}
 use Rattle.pipe_table.specs.declared.row.PipeRow.{PipeRow}
 use Rattle.pipe_table.specs.PipeRows.{is_free, lowest_free, pipe_at}
-use Rattle.hci_tables.specs.declared.command.Command.TheVariants.{Create}
+use Rattle.hci_tables.specs.declared.command.Command.TheVariants.{Create, Delete, Clear, SetOpened, Set}
 use Rattle.hci_tables.specs.Tables.{HciTables, is_opened}
 use Rattle.gate_answers.specs.declared.response.Response.{Response}
 use Rattle.gate_answers.specs.declared.response.Response.TheVariants as response
-use Rattle.gate_answers.specs.Answers.{first_of, tests_to_get, param_in}
+use Rattle.gate_answers.specs.Answers.{answer_of, first_of, tests_to_get, param_in, value_in}
 use Rattle.gate_admin.specs.declared.view.LinkView.{LinkView}
 use Rattle.gate_admin.specs.declared.decision.Decision.{Decision}
+use Rattle.gate_admin.specs.declared.decision.Decision.TheVariants.{Ask}
 use Rattle.gate_admin.specs.View.{is_connected, hosts_where}
 use Rattle.gate_admin.specs.Decide.{answers, commits, unless_refused, tests_of_pipe, tests_to_open, tests_to_set_it, tests_to_create, tests_to_delete}
 use Rattle.gate_admin.specs.Decide.{tests_to_clear, opening, closing, setting, getting, creating, creation, created, deleting, clearing, carried_out, decided}
-use Rattle.gate_admin.specs.Decide.{dest_in, allows, told_of_deletion, told_of_clearing, shares, far_end_of, value_of}
+use Rattle.gate_admin.specs.Decide.{dest_in, allows, told_of_deletion, told_of_clearing, shares, far_end_of, value_of, others_opened, ends_of}
+use Rattle.gate_admin.specs.Decide.{commits_and_tells}
 use Rattle.gate_admin.proofs.CreationLemmas.{AllFalse, all_false}
 use Rattle.gate_laws.specs.Rules.{AsksAsAllowed, TellsOthers, AreOthers, IsLeastFree}
 use Rattle.gate_laws.proofs.FreePipes.{lowest_free-least}
 
 -- what holds of an answer alone, and of what is done where no test holds, holds of both
-unless : (P : Decision → Type 0) (refusal : Option Response) (otherwise : Decision) → ((r : Response) → P (answers r []))
+pub unless : (P : Decision → Type 0) (refusal : Option Response) (otherwise : Decision) → ((r : Response) → P (answers r []))
     → (refusal ≡ None → P otherwise) → P (unless_refused refusal otherwise)
 unless P (Some r) otherwise refused done = refused r
 unless P None otherwise refused done = done refl
 
--- what holds of each case of a command holds of what is decided
-record Cases (P : Decision → Type 0) (t : HciTables) (v : LinkView) (host pipe : ℕ) (body : List ℕ) : Type 0 where
-  answered : (r : Response) (value : List ℕ) → P (answers r value)
-  opened : P (opening t host pipe body)
-  closed : P (closing host pipe body)
-  set : P (setting v host body)
-  created : P (creating t v host body)
-  deleted : P (deleting t v host body)
-  cleared : P (clearing t v host body)
+-- the pipe that a host asks for
+abbrev pub new_row : HciTables → LinkView → ℕ → List ℕ → PipeRow
+new_row t v host body = created host body (unwrap_or (lowest_free t.rows v.waiting.items) 0)
 
-by_cases : (P : Decision → Type 0) (t : HciTables) (v : LinkView) (host pipe instruction : ℕ) (body : List ℕ) → Cases P t v host pipe body
-    → P (decided t v host pipe instruction body)
-by_cases P t v host pipe instruction body cases =
-    let refused : (r : Response) → P (answers r []) = λ r. cases.answered r [] in
-    unless P (first_of (tests_of_pipe t host pipe instruction)) (carried_out t v host pipe instruction body) refused (λ _.
-    cond_both (eqb instruction 3) (opening t host pipe body) _ P (λ _. cases.opened)
-    (λ _. cond_both (eqb instruction 4) (closing host pipe body) _ P (λ _. cases.closed)
-    (λ _. cond_both (eqb instruction 1) (setting v host body) _ P (λ _. cases.set)
-    (λ _. cond_both (eqb instruction 2) (getting t v host body) _ P
-    (λ _. unless P (first_of (tests_to_get 0 body)) _ refused (λ _. cases.answered response.Ok (value_of t v host (param_in body))))
-    (λ _. cond_both (eqb instruction 16) (creating t v host body) _ P (λ _. cases.created)
-    (λ _. cond_both (eqb instruction 17) (deleting t v host body) _ P (λ _. cases.deleted)
-    (λ _. cond_both (eqb instruction 20) (clearing t v host body) _ P (λ _. cases.cleared)
-    (λ _. cases.answered response.CommandNotSupported []))))))))
+module _ (P : Decision → Type 0) (t : HciTables) (v : LinkView) (host pipe : ℕ) (body : List ℕ) where
+  abbrev row : PipeRow
+  row = new_row t v host body
+
+  -- it holds of what each command does where no test of it holds
+  pub record DecisionCases : Type 0 where
+    pub opens : P (commits (SetOpened host pipe true) (others_opened t host pipe ∷ []))
+    pub closes : P (commits (SetOpened host pipe false) [])
+    pub sets : first_of (tests_to_set_it v host body) ≡ None → P (commits (Set host 0 (param_in body) (record { items = value_in body })) [])
+    pub makes : first_of (tests_to_create t v host body) ≡ None → eqb (dest_in body) 0 ≡ true → P (commits (Create row) (ends_of row))
+    pub asks : first_of (tests_to_create t v host body) ≡ None → eqb (dest_in body) 0 ≡ false
+        → P (Ask (dest_in body) (record { items = 18 ∷ ends_of row }) (Create row) (record { items = answer_of response.Ok (ends_of row) }))
+    pub deletes : first_of (tests_to_delete t v host body) ≡ None
+        → P (commits_and_tells (Delete (param_in body)) (told_of_deletion t v host (param_in body)) (19 ∷ param_in body ∷ []))
+    pub clears : first_of (tests_to_clear t v host body) ≡ None
+        → P (commits_and_tells (Clear host) (told_of_clearing t v host) (21 ∷ host ∷ []))
+
+  -- what holds of an answer alone and, where no test of the pipe holds, of each case of a command holds of what is decided
+  pub decided_holds : (instruction : ℕ) → ((r : Response) (value : List ℕ) → P (answers r value))
+      → (first_of (tests_of_pipe t host pipe instruction) ≡ None → DecisionCases) → P (decided t v host pipe instruction body)
+  decided_holds instruction answered cases =
+      unless P (first_of (tests_of_pipe t host pipe instruction)) (carried_out t v host pipe instruction body) refused (λ tested. by (cases tested))
+    where
+      refused : (r : Response) → P (answers r [])
+      refused r = answered r []
+
+      creates : DecisionCases → first_of (tests_to_create t v host body) ≡ None → P (creation row)
+      creates c passed = cond_both (eqb (dest_in body) 0) (commits (Create row) _) _ P (c.makes passed) (c.asks passed)
+
+      by : DecisionCases → P (carried_out t v host pipe instruction body)
+      by c =
+          cond_both (eqb instruction 3) (opening t host pipe body) _ P
+          (λ _. unless P (first_of (tests_to_open body)) _ refused
+          (λ _. cond_both (is_opened t host pipe) _ _ P (λ _. answered response.Ok (others_opened t host pipe ∷ [])) (λ _. c.opens)))
+          (λ _. cond_both (eqb instruction 4) (closing host pipe body) _ P (λ _. unless P (first_of (tests_to_open body)) _ refused (λ _. c.closes))
+          (λ _. cond_both (eqb instruction 1) (setting v host body) _ P (λ _. unless P (first_of (tests_to_set_it v host body)) _ refused c.sets)
+          (λ _. cond_both (eqb instruction 2) (getting t v host body) _ P
+          (λ _. unless P (first_of (tests_to_get 0 body)) _ refused (λ _. answered response.Ok (value_of t v host (param_in body))))
+          (λ _. cond_both (eqb instruction 16) (creating t v host body) _ P
+          (λ _. unless P (first_of (tests_to_create t v host body)) (creation row) refused (creates c))
+          (λ _. cond_both (eqb instruction 17) (deleting t v host body) _ P
+          (λ _. unless P (first_of (tests_to_delete t v host body)) _ refused c.deletes)
+          (λ _. cond_both (eqb instruction 20) (clearing t v host body) _ P
+          (λ _. unless P (first_of (tests_to_clear t v host body)) _ refused c.clears)
+          (λ _. answered response.CommandNotSupported [])))))))
 
 free_of : (rows : List PipeRow) (kept : List ℕ) (free : Option ℕ) → IfSome free (IsLeastFree rows kept) → is_none free ≡ false
     → IsTrue (is_free rows kept (unwrap_or free 0))
@@ -62,39 +89,27 @@ free_of rows kept (Some p) h e = h.free
 second : (a b : Bool) → a ≡ true → (a && not b) ≡ false → b ≡ true
 second a b first failed = elim (and_cases a (not b) failed) [ inl not_a ↦ absurd (false≢true (sym not_a ∙ first)) | inr not_b ↦ not-false b not_b ]
 
-created_as_allowed : (t : HciTables) (v : LinkView) (host : ℕ) (body : List ℕ) → AsksAsAllowed t v host (creating t v host body)
-unfolding AllFalse
-created_as_allowed t v host body =
-    let P : Decision → Type 0 = AsksAsAllowed t v host in
-    let free = lowest_free t.rows v.waiting.items in
-    let row = created host body (unwrap_or free 0) in
-    let dest = dest_in body in
-    unless P (first_of (tests_to_create t v host body)) (creation row) (λ r. tt) (λ passed.
-    let none = all_false (tests_to_create t v host body) passed in
-    cond_both (eqb dest 0) (commits (Create row) _) _ P
-    (λ controller. eqb-true dest 0 controller)
-    (λ other.
-    let another = not_from_false (eqb dest 0) other in
-    record {
-      creator = refl;
-      asked = refl;
-      allowed = second (not (eqb dest 0)) (allows t dest host) another none.1.1.1.1.1.0;
-      connected = second (not (eqb dest 0)) (is_connected v dest) another none.1.1.1.1.0;
-      free = free_of t.rows v.waiting.items free (lowest_free-least t.rows v.waiting.items) none.1.1.1.1.1.1.1.0;
-    }))
-
 pub decided_as_allowed : (t : HciTables) (v : LinkView) (host pipe instruction : ℕ) (body : List ℕ)
     → AsksAsAllowed t v host (decided t v host pipe instruction body)
+unfolding AllFalse
 decided_as_allowed t v host pipe instruction body =
-    let P : Decision → Type 0 = AsksAsAllowed t v host in
-    by_cases P t v host pipe instruction body (record {
-      answered = λ r value. tt;
-      opened = unless P (first_of (tests_to_open body)) _ (λ r. tt) (λ _. cond_both (is_opened t host pipe) _ _ P (λ _. tt) (λ _. tt));
-      closed = unless P (first_of (tests_to_open body)) _ (λ r. tt) (λ _. tt);
-      set = unless P (first_of (tests_to_set_it v host body)) _ (λ r. tt) (λ _. tt);
-      created = created_as_allowed t v host body;
-      deleted = unless P (first_of (tests_to_delete t v host body)) _ (λ r. tt) (λ _. tt);
-      cleared = unless P (first_of (tests_to_clear t v host body)) _ (λ r. tt) (λ _. tt);
+    decided_holds (AsksAsAllowed t v host) t v host pipe body instruction (λ r value. tt) (λ _. record {
+      opens = tt;
+      closes = tt;
+      sets = λ _. tt;
+      makes = λ _ controller. eqb-true (dest_in body) 0 controller;
+      asks = λ passed other.
+          let none = all_false (tests_to_create t v host body) passed in
+          let another = not_from_false (eqb (dest_in body) 0) other in
+          record {
+            creator = refl;
+            asked = refl;
+            allowed = second (not (eqb (dest_in body) 0)) (allows t (dest_in body) host) another none.1.1.1.1.1.0;
+            connected = second (not (eqb (dest_in body) 0)) (is_connected v (dest_in body)) another none.1.1.1.1.0;
+            free = free_of t.rows v.waiting.items (lowest_free t.rows v.waiting.items) (lowest_free-least t.rows v.waiting.items) none.1.1.1.1.1.1.1.0;
+          };
+      deletes = λ _. tt;
+      clears = λ _. tt;
     })
 
 -- each of the hosts is connected and isn't the sender
@@ -115,7 +130,7 @@ sharing_others t v host =
     (λ other shared. (and_parts (is_connected v other && not (eqb other host)) _ shared).0) (range_with_len 1 7)
 
 -- the row of a pipe joins two hosts where all rows do
-joins_two : (rows : List PipeRow) (pid : ℕ) (row : PipeRow) → list_all (λ r. not (eqb r.creator r.dest)) rows ≡ true → pipe_at rows pid ≡ Some row
+pub joins_two : (rows : List PipeRow) (pid : ℕ) (row : PipeRow) → list_all (λ r. not (eqb r.creator r.dest)) rows ≡ true → pipe_at rows pid ≡ Some row
     → eqb row.creator row.dest ≡ false
 joins_two [] pid row all e = absurd (cc e)
 joins_two (r ∷ rows) pid row all e =
@@ -151,15 +166,14 @@ told_other v host pid rows (Some row) all is = far_other v host row (joins_two r
 pub decided_tells_others : (t : HciTables) (v : LinkView) (host pipe instruction : ℕ) (body : List ℕ)
     → IsTrue (list_all (λ row. not (eqb row.creator row.dest)) t.rows) → TellsOthers v host (decided t v host pipe instruction body)
 decided_tells_others t v host pipe instruction body two =
-    let P : Decision → Type 0 = TellsOthers v host in
     let nobody : AreOthers v host 0 = ([], refl, refl) in
-    by_cases P t v host pipe instruction body (record {
-      answered = λ r value. tt;
-      opened = unless P (first_of (tests_to_open body)) _ (λ r. tt) (λ _. cond_both (is_opened t host pipe) _ _ P (λ _. tt) (λ _. nobody));
-      closed = unless P (first_of (tests_to_open body)) _ (λ r. tt) (λ _. nobody);
-      set = unless P (first_of (tests_to_set_it v host body)) _ (λ r. tt) (λ _. nobody);
-      created = unless P (first_of (tests_to_create t v host body)) _ (λ r. tt) (λ _. cond_both (eqb (dest_in body) 0) _ _ P (λ _. nobody) (λ _. tt));
-      deleted = unless P (first_of (tests_to_delete t v host body)) _ (λ r. tt)
-          (λ _. (told_of_deletion t v host (param_in body), refl, told_other v host (param_in body) t.rows (pipe_at t.rows (param_in body)) two refl));
-      cleared = unless P (first_of (tests_to_clear t v host body)) _ (λ r. tt) (λ _. (told_of_clearing t v host, refl, sharing_others t v host));
+    decided_holds (TellsOthers v host) t v host pipe body instruction (λ r value. tt) (λ _. record {
+      opens = nobody;
+      closes = nobody;
+      sets = λ _. nobody;
+      makes = λ _ controller. nobody;
+      asks = λ _ other. tt;
+      deletes = λ _.
+          (told_of_deletion t v host (param_in body), refl, told_other v host (param_in body) t.rows (pipe_at t.rows (param_in body)) two refl);
+      clears = λ _. (told_of_clearing t v host, refl, sharing_others t v host);
     })

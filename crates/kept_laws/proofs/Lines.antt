@@ -44,6 +44,44 @@ MayAllHappen w (c ∷ causes) = MayHappen w c × MayAllHappen (world_step w c).0
 pub few_front : (xs ys : List Entry) → IsFew (xs ++ ys) → IsFew xs
 few_front xs ys few front back n is = few front (back ++ ys) n (ap (λ l. l ++ ys) is ∙ append_assoc front back ys)
 
+-- ## Messages that may be sent
+
+pub first_none : (a b : Option NoCause) → first_cause a b ≡ None → (a ≡ None) × (b ≡ None)
+first_none None b e = (refl, e)
+first_none (Some c) b e = absurd (cc e)
+
+not_waiting : (waits : Bool) (why : Option Refused) → if_waiting waits why ≡ None → waits ≡ false
+not_waiting false why e = refl
+not_waiting true (Some NotUp) e = absurd (cc e)
+not_waiting true _ e = absurd (cc e)
+
+pub off_none : (o : Option Running) → (cond (is_some o) None (Some cause.Off)) ≡ None → (r : Running) × (o ≡ Some r)
+off_none None e = absurd (cc e)
+off_none (Some r) e = (r, refl)
+
+both_false : (a b : Bool) → (a && b) ≡ false → a ≡ true → b ≡ false
+both_false true b e is = e
+both_false false b e is = absurd (true≢false (sym is))
+
+none_of : (o : Option (List ℕ)) → is_some o ≡ false → o ≡ None
+none_of None e = refl
+none_of (Some x) e = absurd (true≢false e)
+
+pub send_may : (w : NodeWorld) (e : End) (pid : ℕ) (message : List ℕ) → IsTrue e.at_host → if_not_sent w e (pid, message) ≡ None
+    → MayHappen w (Gives e (pid, message))
+send_may w e pid message side sent r running is =
+    let waits =
+    not_waiting (eqb pid 1 && is_command_message message && has_order (node_at w (node_of e))) (give_refusal (machine_in w e) (pid, message)) sent in
+    let none : has_order (node_at w (node_of e)) ≡ false =
+    both_false (eqb pid 1 && is_command_message message) (has_order (node_at w (node_of e))) waits is in
+    none_of r.core.command (sym (ap has_order node_is) ∙ none)
+  where
+    link_is : node_of e ≡ e.link
+    link_is = ap (λ b. cond b e.link 0) side
+
+    node_is : node_at w (node_of e) ≡ Some r
+    node_is = ap (node_at w) link_is ∙ running
+
 module _ (hosts : List ℕ) (are : AreHosts hosts) where
   known : (t : List Entry) (w : NodeWorld) (h : ℕ) (x : Site) → AllKeep hosts t w → site_at w.sites h ≡ Some x → SiteKeeps t x × IsHost x.host × (x.host ≡ h)
   known t w h x all here = site_found (SiteKeeps t) IsHost w.sites h x all.sites (subst (AllByRecursion IsHost) (sym all.hosts_are) are.all) here
@@ -115,42 +153,6 @@ module _ (hosts : List ℕ) (are : AreHosts hosts) where
   damage_may w e (Some Same) = (tt, tt)
   damage_may w e (Some (LostFor why)) = (tt, tt)
   damage_may w e (Some (Undetected read)) = tt
-
-  first_none : (a b : Option NoCause) → first_cause a b ≡ None → (a ≡ None) × (b ≡ None)
-  first_none None b e = (refl, e)
-  first_none (Some c) b e = absurd (cc e)
-
-  not_waiting : (waits : Bool) (why : Option Refused) → if_waiting waits why ≡ None → waits ≡ false
-  not_waiting false why e = refl
-  not_waiting true (Some NotUp) e = absurd (cc e)
-  not_waiting true _ e = absurd (cc e)
-
-  off_none : (o : Option Running) → (cond (is_some o) None (Some cause.Off)) ≡ None → (r : Running) × (o ≡ Some r)
-  off_none None e = absurd (cc e)
-  off_none (Some r) e = (r, refl)
-
-  both_false : (a b : Bool) → (a && b) ≡ false → a ≡ true → b ≡ false
-  both_false true b e is = e
-  both_false false b e is = absurd (true≢false (sym is))
-
-  none_of : (o : Option (List ℕ)) → is_some o ≡ false → o ≡ None
-  none_of None e = refl
-  none_of (Some x) e = absurd (true≢false e)
-
-  send_may : (w : NodeWorld) (e : End) (pid : ℕ) (message : List ℕ) → IsTrue e.at_host → if_not_sent w e (pid, message) ≡ None
-      → MayHappen w (Gives e (pid, message))
-  send_may w e pid message side sent r running is =
-      let waits =
-      not_waiting (eqb pid 1 && is_command_message message && has_order (node_at w (node_of e))) (give_refusal (machine_in w e) (pid, message)) sent in
-      let none : has_order (node_at w (node_of e)) ≡ false =
-      both_false (eqb pid 1 && is_command_message message) (has_order (node_at w (node_of e))) waits is in
-      none_of r.core.command (sym (ap has_order node_is) ∙ none)
-    where
-      link_is : node_of e ≡ e.link
-      link_is = ap (λ b. cond b e.link 0) side
-
-      node_is : node_at w (node_of e) ≡ Some r
-      node_is = ap (node_at w) link_is ∙ running
 
   pub line_may : (w : NodeWorld) (l : Line) → IsSentByHost l → refusal_in w l ≡ None → MayAllHappen w (happenings w l)
   line_may w (line.Send e pid message) side e2 =

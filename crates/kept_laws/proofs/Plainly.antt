@@ -128,24 +128,40 @@ pub waits_map : (f : Port → Port) → ((p : Port) → WaitsAt p → WaitsAt (f
 waits_map f keeps [] all = tt
 waits_map f keeps (p ∷ ports) all = (keeps p all.0, waits_map f keeps ports all.1)
 
--- all ends are changed, and this is noted
-pub plainly_map : (w : Work) (f : Port → Port) (es : List Entry) → AllByRecursion IsPlain es → ((p : Port) → (f p).desk.host ≡ p.desk.host)
-    → ((p : Port) → WaitsAt p → WaitsAt (f p)) → ((p : Port) (c : Creation) → asked_at (f p) ≡ Some c → asked_at p ≡ Some c)
-    → Plainly w (noting es (record w { ports = map f w.ports }))
-plainly_map w f es plain host waits none = record {
-  more = es;
-  plain = plain;
-  entries = refl;
+-- the ends are others, and the core but for its number, its journal and its tables
+pub plainly_changed : (w : Work) (core : Core) (ports : List Port) → core.node ≡ w.core.node → core.journal ≡ w.core.journal → core.tables ≡ w.core.tables
+    → hosts_of_ends ports ≡ hosts_of_ends w.ports → (AllByRecursion WaitsAt w.ports → AllByRecursion WaitsAt ports) → NoneNew w.ports ports
+    → Plainly w (record w { core = core; ports = ports })
+plainly_changed w core ports node journal tables hosts waits none_new = record {
+  more = [];
+  plain = tt;
+  entries = sym (append-nil w.entries);
   writes = refl;
   plan = refl;
   cut = refl;
-  node = refl;
-  journal = refl;
-  tables = refl;
-  hosts = hosts_map f host w.ports;
-  waits = waits_map f waits w.ports;
-  none_new = map_new f host none w.ports;
+  node = node;
+  journal = journal;
+  tables = tables;
+  hosts = hosts;
+  waits = waits;
+  none_new = none_new;
 }
+
+-- nothing changes
+pub plainly_same : (w : Work) → Plainly w w
+plainly_same w = plainly_changed w w.core w.ports refl refl refl refl (λ h. h) (same_new w.ports)
+
+-- its last command and its init are others
+pub plainly_core : (w : Work) (command : Option (List ℕ)) (init : Option Init)
+    → Plainly w (record w { core = record w.core { command = command; init = init } })
+plainly_core w command init =
+    plainly_changed w (record w.core { command = command; init = init }) w.ports refl refl refl refl (λ h. h) (same_new w.ports)
+
+-- all ends are changed
+pub plainly_ports : (w : Work) (f : Port → Port) → ((p : Port) → (f p).desk.host ≡ p.desk.host) → ((p : Port) → WaitsAt p → WaitsAt (f p))
+    → ((p : Port) (c : Creation) → asked_at (f p) ≡ Some c → asked_at p ≡ Some c) → Plainly w (record w { ports = map f w.ports })
+plainly_ports w f host waits none =
+    plainly_changed w w.core (map f w.ports) refl refl refl (hosts_map f host w.ports) (waits_map f waits w.ports) (map_new f host none w.ports)
 
 pub plainly_noting : (w : Work) (es : List Entry) → AllByRecursion IsPlain es → Plainly w (noting es w)
 plainly_noting w es plain = record {
@@ -163,23 +179,13 @@ plainly_noting w es plain = record {
   none_new = same_new w.ports;
 }
 
--- its last command and its init are others
-pub plainly_core : (w : Work) (command : Option (List ℕ)) (init : Option Init)
-    → Plainly w (record w { core = record w.core { command = command; init = init } })
-plainly_core w command init = record {
-  more = [];
-  plain = tt;
-  entries = sym (append-nil w.entries);
-  writes = refl;
-  plan = refl;
-  cut = refl;
-  node = refl;
-  journal = refl;
-  tables = refl;
-  hosts = refl;
-  waits = λ h. h;
-  none_new = same_new w.ports;
-}
+-- all ends are changed, and this is noted
+pub plainly_map : (w : Work) (f : Port → Port) (es : List Entry) → AllByRecursion IsPlain es → ((p : Port) → (f p).desk.host ≡ p.desk.host)
+    → ((p : Port) → WaitsAt p → WaitsAt (f p)) → ((p : Port) (c : Creation) → asked_at (f p) ≡ Some c → asked_at p ≡ Some c)
+    → Plainly w (noting es (record w { ports = map f w.ports }))
+plainly_map w f es plain host waits none =
+    let v : Work = record w { ports = map f w.ports } in
+    plainly_then w v (noting es v) (plainly_ports w f host waits none) (plainly_noting v es plain)
 
 plain_option : (core : Core) (t : Turn) (o : Option Port) → AllByRecursion IsPlain (option_map_or (noted_of core t) o [])
 plain_option core t None = tt
@@ -199,23 +205,10 @@ plainly_turn h t w =
 
 pub plainly_desk : (h : ℕ) (f : Desk → Desk) (w : Work) → ((d : Desk) → (f d).host ≡ d.host) → ((d : Desk) → WaitsFor d.notice → WaitsFor (f d).notice)
     → ((d : Desk) (c : Creation) → creation_in (f d).notice ≡ Some c → creation_in d.notice ≡ Some c) → Plainly w (with_desk h f w)
-plainly_desk h f w host waits none = record {
-  more = [];
-  plain = tt;
-  entries = sym (append-nil w.entries);
-  writes = refl;
-  plan = refl;
-  cut = refl;
-  node = refl;
-  journal = refl;
-  tables = refl;
-  hosts = hosts_map (λ (p : Port). changed_if (p.desk.host == h) change p) (λ p. changed_host (p.desk.host == h) change p (host p.desk)) w.ports;
-  waits = waits_map (λ (p : Port). changed_if (p.desk.host == h) change p) (λ p. changed_waits (p.desk.host == h) change p (waits p.desk)) w.ports;
-  none_new = map_new (λ (p : Port). changed_if (p.desk.host == h) change p) (λ p. changed_host (p.desk.host == h) change p (host p.desk))
-      (λ p c e. changed_new (p.desk.host == h) change p c (none p.desk) e) w.ports;
-} where
-  change : Port → Port
-  change p = record p { desk = f p.desk }
+plainly_desk h f w host waits none =
+    let change : Port → Port = λ p. record p { desk = f p.desk } in
+    plainly_ports w (λ (p : Port). changed_if (p.desk.host == h) change p) (λ p. changed_host (p.desk.host == h) change p (host p.desk))
+    (λ p. changed_waits (p.desk.host == h) change p (waits p.desk)) (λ p c e. changed_new (p.desk.host == h) change p c (none p.desk) e)
 
 pub plainly_notified : (h : ℕ) (about : About) (message : List ℕ) (w : Work) → WaitsAbout about → creation_in (Some (record { about = about; age = 0 })) ≡ None
     → Plainly w (notified h about message w)

@@ -31,7 +31,7 @@ use Rattle.node_machine.specs.Controller.{creation_in, asked_at}
 use Rattle.node_laws.specs.Waiting.{MayWait, IsAllowedStill}
 use Rattle.node_laws.proofs.Values.{whitelist_left}
 use Rattle.node_laws.proofs.Waits.{within, same_list}
-use Rattle.kept_laws.proofs.Asking.{same_new, new_then, map_new}
+use Rattle.kept_laws.proofs.Asking.{same_new}
 use Rattle.registry.proofs.ValueLemmas.{AllByRecursion-append as all_append}
 use Rattle.node_machine.specs.Turns.{passes}
 use Rattle.node_machine.specs.Node.{NodeInput, input_at, has_come, told_at, all_come, with_older, is_late, reset_late, told_late, times_out, is_over}
@@ -40,11 +40,11 @@ use Rattle.node_machine.specs.Node.NodeInput.{AtEnd, TimePasses}
 use Rattle.kept_laws.specs.Books.{IsPlain, WaitsFor, WaitsAt, hosts_of_ends, StillRuns}
 use Rattle.kept_laws.specs.Deeds.{IsOnOrder, MayBeDone}
 use Rattle.kept_laws.specs.Hosts.{AreDifferent, AreHosts, IsNodeNumber}
-use Rattle.kept_laws.proofs.Plainly.{Plainly, runs_plainly, plainly_then, plainly_map, plain_flat, plain_entries, hosts_map, waits_map}
+use Rattle.kept_laws.proofs.Plainly.{Plainly, runs_plainly, plainly_same, plainly_core, plainly_ports, plainly_then, plainly_map, plain_flat, plain_entries}
 use Rattle.kept_laws.proofs.Doing.{uncut, GoesOn_or_lost, all_fine}
 use Rattle.kept_laws.proofs.HostsReply.{OneOrNone, behind_one}
 use Rattle.kept_laws.proofs.Turning.{then_all, passes_fine}
-use Rattle.node_laws.proofs.Ports.{come_host, forgets_host}
+use Rattle.node_laws.proofs.Ports.{come_host, forgets_host, late_host, without_host}
 use Rattle.node_laws.proofs.Walks.{forgotten_hold, all_owed_hold}
 
 -- ## What comes
@@ -90,46 +90,11 @@ late_plain : (core : Core) (p : Port) → AllByRecursion IsPlain (told_late core
 late_plain core p =
     cond_both (is_late p) (told_at core p (Some (Reset None))) [] (AllByRecursion IsPlain) (λ _. told_plain core p (Some (Reset None))) (λ _. tt)
 
-pub late_host : (p : Port) → (reset_late p).desk.host ≡ p.desk.host
-late_host p = cond_both (is_late p) (record p { side = after_input p.side (Reset None); late = true }) p (λ q. q.desk.host ≡ p.desk.host) (λ _. refl)
-    (λ _. refl)
-
 late_waits : (p : Port) → WaitsAt p → WaitsAt (reset_late p)
 late_waits p w = cond_both (is_late p) (record p { side = after_input p.side (Reset None); late = true }) p WaitsAt (λ _. w) (λ _. w)
 
--- ends are changed, and the core but for its journal and tables
-plainly_ports : (w : Work) (f : Port → Port) → ((p : Port) → (f p).desk.host ≡ p.desk.host) → ((p : Port) → WaitsAt p → WaitsAt (f p))
-    → ((p : Port) (c : Creation) → asked_at (f p) ≡ Some c → asked_at p ≡ Some c) → Plainly w (record w { ports = map f w.ports })
-plainly_ports w f host waits none = record {
-  more = [];
-  plain = tt;
-  entries = sym (append-nil w.entries);
-  writes = refl;
-  plan = refl;
-  cut = refl;
-  node = refl;
-  journal = refl;
-  tables = refl;
-  hosts = hosts_map f host w.ports;
-  waits = waits_map f waits w.ports;
-  none_new = map_new f host none w.ports;
-}
-
 pub plainly_late : (input : NodeInput) (w : Work) → Plainly w (times_out input w)
-plainly_late (AtEnd h i) w = record {
-  more = [];
-  plain = tt;
-  entries = sym (append-nil w.entries);
-  writes = refl;
-  plan = refl;
-  cut = refl;
-  node = refl;
-  journal = refl;
-  tables = refl;
-  hosts = refl;
-  waits = λ x. x;
-  none_new = same_new w.ports;
-}
+plainly_late (AtEnd h i) w = plainly_same w
 plainly_late TimePasses w =
     let a : Work = record w { ports = map with_older w.ports } in
     plainly_then w a (times_out TimePasses w) (plainly_ports w with_older (λ p. refl) older_waits older_new)
@@ -147,9 +112,6 @@ forgets_waits ports p w = cond_both (is_forgotten ports (asked_at p)) _ p WaitsA
   by_notice : (o : Option Notice) → WaitsFor (option_map_or (λ (n : Notice). Some (record n { about = Forgotten })) o None)
   by_notice None = tt
   by_notice (Some n) = tt
-
-pub without_host : (p : Port) → (without_notice p).desk.host ≡ p.desk.host
-without_host p = cond_both (is_over p) (record p { desk = record p.desk { notice = None } }) p (λ q. q.desk.host ≡ p.desk.host) (λ _. refl) (λ _. refl)
 
 without_waits : (p : Port) → WaitsAt p → WaitsAt (without_notice p)
 without_waits p w = cond_both (is_over p) (record p { desk = record p.desk { notice = None } }) p WaitsAt (λ _. tt) (λ _. w)
@@ -169,25 +131,14 @@ without_new p c asked =
     (λ _ e. e) asked
 
 pub plainly_sessions : (w : Work) → Plainly w (record w { core = after_sessions w.core w.ports; ports = map without_notice (map (forgets w.ports) w.ports) })
-plainly_sessions w = record {
-  more = [];
-  plain = tt;
-  entries = sym (append-nil w.entries);
-  writes = refl;
-  plan = refl;
-  cut = refl;
-  node = cond_both (list_any is_over w.ports) (record w.core { command = None; init = None }) w.core (λ (c : Core). c.node ≡ w.core.node) (λ _. refl)
-      (λ _. refl);
-  journal = cond_both (list_any is_over w.ports) (record w.core { command = None; init = None }) w.core (λ (c : Core). c.journal ≡ w.core.journal)
-      (λ _. refl) (λ _. refl);
-  tables = cond_both (list_any is_over w.ports) (record w.core { command = None; init = None }) w.core (λ (c : Core). c.tables ≡ w.core.tables)
-      (λ _. refl) (λ _. refl);
-  hosts = hosts_map without_notice without_host (map (forgets w.ports) w.ports) ∙ hosts_map (forgets w.ports) (forgets_host w.ports) w.ports;
-  waits = λ x. waits_map without_notice without_waits (map (forgets w.ports) w.ports) (waits_map (forgets w.ports) (forgets_waits w.ports) w.ports x);
-  none_new = new_then w.ports (map (forgets w.ports) w.ports) (map without_notice (map (forgets w.ports) w.ports))
-      (map_new (forgets w.ports) (forgets_host w.ports) (forgets_new w.ports) w.ports) (map_new without_notice without_host without_new (map
-      (forgets w.ports) w.ports));
-}
+plainly_sessions w =
+    let a : Work = record w { ports = map (forgets w.ports) w.ports } in
+    let b : Work = record a { ports = map without_notice a.ports } in
+    plainly_then w b (record b { core = after_sessions w.core w.ports })
+    (plainly_then w a b (plainly_ports w (forgets w.ports) (forgets_host w.ports) (forgets_waits w.ports) (forgets_new w.ports))
+    (plainly_ports a without_notice without_host without_waits without_new))
+    (cond_both (list_any is_over w.ports) (record w.core { command = None; init = None }) w.core (λ (c : Core). Plainly b (record b { core = c }))
+    (λ _. plainly_core b None None) (λ _. plainly_same b))
 
 pub sessions_order : (core : Core) (ports : List Port) → IsOnOrder core.command core.init
     → IsOnOrder (after_sessions core ports).command (after_sessions core ports).init
@@ -332,17 +283,24 @@ module _ (t : HciTables) (ports : List Port) (sorted : AreTables t) (may : MayWa
 
 -- ## Steps
 
+-- what a step does before the node passes its ends
+abbrev pub ready : NodeInput → Work → Work
+ready input w =
+    let came : Work = times_out input (all_come input w) in
+    let left : List Port = map (forgets came.ports) came.ports in
+    let begun : Work = record came { core = after_sessions came.core came.ports; ports = map without_notice left } in
+    unless_cut (all_done 0 (all_owed left)) (all_done 0 (flat_map (synced w.core input) w.ports) (all_done 0 (forgotten came.ports) begun))
+
 module _ (n : ℕ) (hosts : List ℕ) (old : Memory) (before : List Entry) (node : IsNodeNumber n) (are : AreHosts hosts) where
-  pub steps_fine : (input : NodeInput) (w : Work) → StillRuns n hosts old before w → IsOnOrder w.core.command w.core.init
-      → GoesOn_or_lost n hosts old before (steps input w)
-  steps_fine input w r on =
-      then_all n hosts old before passes (unless_cut (all_done 0 owing) (all_done 0 syncs x))
-      (then_all n hosts old before (all_done 0 owing) (all_done 0 syncs x) (synced_fine freed_fine)
+  -- before the pass
+  pub ready_fine : (input : NodeInput) (w : Work) → StillRuns n hosts old before w → IsOnOrder w.core.command w.core.init
+      → GoesOn_or_lost n hosts old before (ready input w)
+  ready_fine input w r on =
+      then_all n hosts old before (all_done 0 owing) (all_done 0 syncs x) (synced_fine freed_fine)
       (λ y q o.
       all_fine n hosts old before 0 owing y (Some y.core.journal) q refl (free_may (Some y.core.journal) y.core.command y.core.init owing
       (all_owed_hold IsFree (λ asker. tt) (λ to r. tt) left) o) y.ports
-      (same_new y.ports) (λ z. free_fit y.core.tables y.ports owing (all_owed_hold IsFree (λ asker. tt) (λ to r. tt) left))))
-      (λ y q o. passes_fine n hosts old before node are.all y q o)
+      (same_new y.ports) (λ z. free_fit y.core.tables y.ports owing (all_owed_hold IsFree (λ asker. tt) (λ to r. tt) left)))
     where
       came : Work
       came = times_out input (all_come input w)
@@ -397,3 +355,8 @@ module _ (n : ℕ) (hosts : List ℕ) (old : Memory) (before : List Entry) (node
           (same_new x.ports)
           (λ z. syncs_fit x.core.tables x.ports go.0.sorted (go.0.allowed z) w.core input w.ports)
       synced_fine (inr lost) = absurd (true≢false (sym lost.off ∙ freed_cut freed are_free v q.on))
+
+  pub steps_fine : (input : NodeInput) (w : Work) → StillRuns n hosts old before w → IsOnOrder w.core.command w.core.init
+      → GoesOn_or_lost n hosts old before (steps input w)
+  steps_fine input w r on =
+      then_all n hosts old before passes (ready input w) (ready_fine input w r on) (λ y q o. passes_fine n hosts old before node are.all y q o)

@@ -5,3 +5,4 @@ pub mod Values
 pub mod Waits
 pub mod Ports
 pub mod Walks
+pub mod StepWalks

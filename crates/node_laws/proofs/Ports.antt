@@ -7,7 +7,7 @@ use Rattle.link_machine.specs.Machine.{LinkInput}
 use Rattle.node_machine.specs.Parts.{Core, Port}
 use Rattle.node_machine.specs.Carrying.{port_at, changed_if}
 use Rattle.node_machine.specs.Controller.{asked_at}
-use Rattle.node_machine.specs.Node.{has_come, is_over, is_forgotten, forgets, after_sessions}
+use Rattle.node_machine.specs.Node.{has_come, is_late, reset_late, is_over, is_forgotten, forgets, without_notice, after_sessions}
 
 pub come_host : (p : Port) (o : Option LinkInput) → (has_come p o).desk.host ≡ p.desk.host
 come_host p None = refl
@@ -15,6 +15,12 @@ come_host p (Some i) = refl
 
 pub forgets_host : (ports : List Port) (p : Port) → (forgets ports p).desk.host ≡ p.desk.host
 forgets_host ports p = cond_both (is_forgotten ports (asked_at p)) _ p (λ q. q.desk.host ≡ p.desk.host) (λ _. refl) (λ _. refl)
+
+pub late_host : (p : Port) → (reset_late p).desk.host ≡ p.desk.host
+late_host p = cond_both (is_late p) _ p (λ q. q.desk.host ≡ p.desk.host) (λ _. refl) (λ _. refl)
+
+pub without_host : (p : Port) → (without_notice p).desk.host ≡ p.desk.host
+without_host p = cond_both (is_over p) _ p (λ q. q.desk.host ≡ p.desk.host) (λ _. refl) (λ _. refl)
 
 pub changed_host : (b : Bool) (g : Port → Port) (p : Port) → ((q : Port) → (g q).desk.host ≡ q.desk.host) → (changed_if b g p).desk.host ≡ p.desk.host
 changed_host true g p keeps = keeps p

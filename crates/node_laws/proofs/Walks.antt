@@ -1,5 +1,6 @@
 -- What a node does with a message, case by case: what holds of the deeds in each case holds of all that is done.
-use Rattle.std.proofs.Common.{◌≡◌, ℕ, ◌+◌, Bool, true, false, cond, eqb, ◌&&◌, List, [], ◌∷◌, ◌++◌, length, slice_get, sym, refl, ap, ap₂, ◌∙◌, subst}
+use Rattle.std.proofs.Common.{◌≡◌, ℕ, ◌+◌, Bool, true, false, cond, eqb, ◌&&◌, List, [], ◌∷◌, ◌++◌, length, slice_get, sym, refl, ap, ap₂, ◌∙◌}
+use Rattle.std.proofs.Common.{subst}
 use Rattle.std.specs.Prelude.{Option, Some, None, Result, Ok, Err, map, is_some}
 use Rattle.std.specs.List.{AllByRecursion, flat_map, filter}
 use Rattle.std.specs.Option.{option_map_or, option_and_then}
@@ -178,10 +179,10 @@ pub record Plain (Q : Deed → Type 0) : Type 0 where
   pub is_answered : Q IsAnswered
   pub drops : (pid : ℕ) → Q (Drops pid)
 
--- what holds of any number holds of each of these
-pub anyone : (R : ℕ → Type 0) → ((y : ℕ) → R y) → (hosts : List ℕ) → AllByRecursion R hosts
+-- what holds of any holds of each of these
+pub anyone : {X : Type 0} (R : X → Type 0) → ((y : X) → R y) → (ys : List X) → AllByRecursion R ys
 anyone R one [] = tt
-anyone R one (y ∷ hosts) = (one y, anyone R one hosts)
+anyone R one (y ∷ ys) = (one y, anyone R one ys)
 
 module _ (Q : Deed → Type 0) where
   -- it holds of what else comes of a decision
@@ -361,6 +362,16 @@ module _ (P : List Deed → Type 0) (core : Core) where
         rw (up, is) (cond_both (eqb m.0 1) (response_deeds core code (body_in m.1)) [] P (λ _. response_holds code core.command refl) (λ _. cases.none))
     go true (Err fault) up is = rw (up, is) cases.none
 
+-- it holds of each command of an init
+pub orders_hold : (P : List ℕ → Type 0) (i : Init) → P (3 ∷ []) → P (2 ∷ 1 ∷ []) → P (20 ∷ []) → ((pipe : List ℕ) → P (16 ∷ pipe))
+    → P (1 ∷ 1 ∷ i.identity) → AllByRecursion P (orders_of i)
+orders_hold P i opens gets clears creates sets =
+    (opens, (gets, (clears, (opens, AllByRecursion-append P (map (λ pipe. 16 ∷ pipe) i.pipes) _ (each i.pipes) (sets, tt)))))
+  where
+    each : (pipes : List (List ℕ)) → AllByRecursion P (map (λ pipe. 16 ∷ pipe) pipes)
+    each [] = tt
+    each (pipe ∷ pipes) = (creates pipe, each pipes)
+
 -- it holds of what a host commits, and does for its own commands
 pub record OfHost (Q : Deed → Type 0) (core : Core) : Type 0 where
   pub commits : (c : Command) → Q (Commits c)
@@ -402,7 +413,7 @@ module _ (Q : Deed → Type 0) (core : Core) where
     creates = λ row named welcome. accepted (Create row);
     deletes = λ pid kept. accepted (Delete pid);
     clears = λ x host. accepted (Clear x);
-    counts = λ zero. link_holds Q plain core.node 0 (link_served errors n body) (sets zero);
+    counts = λ link. link_holds Q plain core.node 0 (link_served errors n body) (sets link);
     names = λ off. (plain.sends core.node (pipe, identity_served gates n body), tt);
   })
     where
@@ -421,7 +432,7 @@ module _ (Q : Deed → Type 0) (core : Core) where
     none = tt;
     drops = (plain.drops m.0, tt);
     goes = (plain.sends core.node m, tt);
-    ordered = λ n is. all_ordered plain own.commits p.desk.errors m.0 n (body_in m.1) (λ zero value sets_it. sets n value is zero sets_it);
+    ordered = λ n is. all_ordered plain own.commits p.desk.errors m.0 n (body_in m.1) (λ link value sets_it. sets n value is link sets_it);
     heard = λ code order is. all_heard own code order (body_in m.1);
   })
 
@@ -431,9 +442,9 @@ pub deeds_hold : (P : List Deed → Type 0) (core : Core) (ports : List Port) (h
     → ((p : Port) → P (host_deeds core p m)) → P (deeds_of core ports h m)
 deeds_hold P core ports h m controller none host = go (eqb core.node 0) (port_at ports h) refl refl where
   go : (b : Bool) (o : Option Port) → eqb core.node 0 ≡ b → port_at ports h ≡ o → P (deeds_of core ports h m)
-  go true o zero here = rw zero controller
-  go false None zero here = rw (zero, here) none
-  go false (Some p) zero here = rw (zero, here) (host p)
+  go true o q here = rw q controller
+  go false None q here = rw (q, here) none
+  go false (Some p) q here = rw (q, here) (host p)
 
 -- ## Steps
 

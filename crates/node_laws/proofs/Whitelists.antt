@@ -1,23 +1,18 @@
 -- While a host is asked for a creation, nothing that a controller commits sets or clears its whitelist.
-use Rattle.std.proofs.Common.{◌≡◌, ℕ, Bool, true, false, eqb, ◌&&◌, List, ◌∷◌, refl, sym, ap, ◌∙◌, inl, inr, ◌⊎◌}
-use Rattle.std.specs.Prelude.{Option, Some, None, unwrap_or}
+use Rattle.std.proofs.Common.{◌≡◌, ℕ, Bool, true, false, eqb, ◌&&◌, List, sym, ap, ◌∙◌, inl, inr, ◌⊎◌}
 use Rattle.std.specs.List.{AllByRecursion}
 use Rattle.std.specs.Option.{option_map_or}
-use Rattle.std.proofs.lemmas.Bool.{cond_both, cases_Bool, eqb-true, true≢false}
-use Rattle.pipe_table.specs.PipeRows.{lowest_free}
-use Rattle.pipe_table.specs.declared.row.PipeRow.{PipeRow}
+use Rattle.std.proofs.lemmas.Bool.{cases_Bool, eqb-true, true≢false}
 use Rattle.hci_tables.specs.declared.command.Command.{Command}
 use Rattle.hci_tables.specs.declared.command.Command.TheVariants.{Create, Delete, Clear, SetOpened, Set, Sync}
-use Rattle.hci_tables.specs.Tables.{HciTables, is_opened}
-use Rattle.gate_answers.specs.declared.response.Response.{Response}
-use Rattle.gate_answers.specs.declared.response.Response.TheVariants as response
-use Rattle.gate_answers.specs.Answers.{answer_of, body_in, first_of, tests_to_get, param_in}
+use Rattle.hci_tables.specs.Tables.{HciTables}
+use Rattle.gate_answers.specs.Answers.{body_in, param_in}
 use Rattle.gate_admin.specs.declared.view.LinkView.{LinkView}
 use Rattle.gate_admin.specs.declared.decision.Decision.{Decision}
 use Rattle.gate_admin.specs.declared.decision.Decision.TheVariants.{Answer, Commit, Ask}
 use Rattle.gate_admin.specs.View.{has, hosts_where, is_asked}
-use Rattle.gate_admin.specs.Decide.{commits, unless_refused, tests_of_pipe, tests_to_open, tests_to_set_it, tests_to_create, tests_to_delete, tests_to_clear}
-use Rattle.gate_admin.specs.Decide.{opening, closing, setting, getting, creating, creation, deleting, clearing, carried_out, decided, ends_of, created}
+use Rattle.gate_admin.specs.Decide.{tests_to_set_it, tests_to_clear}
+use Rattle.gate_admin.specs.Decide.{decided}
 use Rattle.gate_admin.proofs.CreationLemmas.{AllFalse, all_false}
 use Rattle.link_machine.specs.Machine.{Message}
 use Rattle.node_machine.specs.Parts.{Core, Port}
@@ -25,6 +20,7 @@ use Rattle.node_machine.specs.Parts.Deed.{Tells}
 use Rattle.node_machine.specs.Carrying.{port_at}
 use Rattle.node_machine.specs.Controller.{is_asked_at, view_for, controller_deeds}
 use Rattle.node_laws.specs.Creations.{LeavesWhitelist, DeedLeavesWhitelist, IsBeingAsked, IsMaking, WaitsForPipes}
+use Rattle.gate_laws.proofs.Decisions.{decided_holds}
 use Rattle.node_laws.proofs.Masks.{is_in_mask}
 use Rattle.node_laws.proofs.Walks.{Plain, OfDecision, anyone, all_of_controller}
 
@@ -35,10 +31,6 @@ abbrev Leaves : ℕ → Decision → Type 0
 Leaves x (Answer answer) = Unit {0}
 Leaves x (Commit command answer tell notice) = LeavesWhitelist x command
 Leaves x (Ask host notice command answer) = Unit {0}
-
-unless : (x : ℕ) (refusal : Option Response) (otherwise : Decision) → (refusal ≡ None → Leaves x otherwise) → Leaves x (unless_refused refusal otherwise)
-unless x (Some r) otherwise done = tt
-unless x None otherwise done = done refl
 
 -- a test that the host x is asked and sends the command itself refuses what it would do to itself
 own_one : (v : LinkView) (h x : ℕ) (b : Bool) → is_asked v x ≡ true → (b && is_asked v h) ≡ false → (eqb h x && b) ≡ false
@@ -58,38 +50,20 @@ own_all v h x asked free = by_host (cases_Bool (eqb h x)) where
   by_host (inl same) = absurd (true≢false (sym asked ∙ (ap (is_asked v) (sym (eqb-true h x same)) ∙ free)))
   by_host (inr other) = other
 
-set_leaves : (v : LinkView) (h x : ℕ) (body : List ℕ) → is_asked v x ≡ true → Leaves x (setting v h body)
-unfolding AllFalse
-set_leaves v h x body asked =
-    unless x (first_of (tests_to_set_it v h body)) _ (λ passed.
-    let none = all_false (tests_to_set_it v h body) passed in own_one v h x (eqb (param_in body) 3) asked none.1.1.1.1.0)
-
-clear_leaves : (t : HciTables) (v : LinkView) (h x : ℕ) (body : List ℕ) → is_asked v x ≡ true → Leaves x (clearing t v h body)
-unfolding AllFalse
-clear_leaves t v h x body asked =
-    unless x (first_of (tests_to_clear t v h body)) _ (λ passed.
-    let none = all_false (tests_to_clear t v h body) passed in own_all v h x asked none.1.0)
-
-creation_leaves : (x : ℕ) (row : PipeRow) → Leaves x (creation row)
-creation_leaves x row =
-    cond_both (eqb row.dest 0) (commits (Create row) (ends_of row))
-    (Ask row.dest (record { items = 18 ∷ ends_of row }) (Create row) (record { items = answer_of response.Ok (ends_of row) }))
-    (Leaves x) (λ _. tt) (λ _. tt)
-
 decided_leaves : (t : HciTables) (v : LinkView) (h pipe instruction x : ℕ) (body : List ℕ) → is_asked v x ≡ true
     → Leaves x (decided t v h pipe instruction body)
+unfolding AllFalse
 decided_leaves t v h pipe instruction x body asked =
-    unless x (first_of (tests_of_pipe t h pipe instruction)) (carried_out t v h pipe instruction body) (λ _.
-    cond_both (eqb instruction 3) (opening t h pipe body) _ (Leaves x)
-    (λ _. unless x (first_of (tests_to_open body)) _ (λ _. cond_both (is_opened t h pipe) _ _ (Leaves x) (λ _. tt) (λ _. tt)))
-    (λ _. cond_both (eqb instruction 4) (closing h pipe body) _ (Leaves x) (λ _. unless x (first_of (tests_to_open body)) _ (λ _. tt))
-    (λ _. cond_both (eqb instruction 1) (setting v h body) _ (Leaves x) (λ _. set_leaves v h x body asked)
-    (λ _. cond_both (eqb instruction 2) (getting t v h body) _ (Leaves x) (λ _. unless x (first_of (tests_to_get 0 body)) _ (λ _. tt))
-    (λ _. cond_both (eqb instruction 16) (creating t v h body) _ (Leaves x)
-    (λ _. unless x (first_of (tests_to_create t v h body)) _ (λ _. creation_leaves x (created h body (unwrap_or (lowest_free t.rows v.waiting.items) 0))))
-    (λ _. cond_both (eqb instruction 17) (deleting t v h body) _ (Leaves x) (λ _. unless x (first_of (tests_to_delete t v h body)) _ (λ _. tt))
-    (λ _. cond_both (eqb instruction 20) (clearing t v h body) _ (Leaves x) (λ _. clear_leaves t v h x body asked)
-    (λ _. tt))))))))
+    decided_holds (Leaves x) t v h pipe body instruction (λ r value. tt) (λ _. record {
+      opens = tt;
+      closes = tt;
+      sets = λ passed.
+          let none = all_false (tests_to_set_it v h body) passed in own_one v h x (eqb (param_in body) 3) asked none.1.1.1.1.0;
+      makes = λ _ controller. tt;
+      asks = λ _ other. tt;
+      deletes = λ _. tt;
+      clears = λ passed. let none = all_false (tests_to_clear t v h body) passed in own_all v h x asked none.1.0;
+    })
 
 -- ## Deeds
 

@@ -1,9 +1,7 @@
 -- What hosts send may be sent.
-use Rattle.std.proofs.Common.{◌≡◌, ℕ, ◌<◌, List, [], ◌∷◌, ◌++◌, subst, arith}
-use Rattle.std.specs.Prelude.{Some, map, slice_get, ◌+◌, zero, suc}
+use Rattle.std.proofs.Common.{ℕ, ◌<◌, List, [], arith}
 use Rattle.std.specs.List.{AllByRecursion}
 use Rattle.hcp_packet.specs.Packets.{IsSendable}
-use Rattle.registry.proofs.ValueLemmas.{AllByRecursion-append}
 use Rattle.hci_tables.specs.declared.command.Command.{Command}
 use Rattle.hci_tables.specs.declared.command.Command.TheVariants.{Create, Delete, Clear}
 use Rattle.gate_answers.specs.declared.response.Response.TheVariants as response
@@ -11,12 +9,13 @@ use Rattle.gate_answers.specs.Answers.{answer_of, body_in}
 use Rattle.gate_link.specs.Link.{link_served}
 use Rattle.gate_identity.specs.Identity.{identity_served}
 use Rattle.link_machine.specs.Machine.{Message}
+use Rattle.registry.proofs.ValueLemmas.{AllByRecursion-get}
 use Rattle.node_machine.specs.Parts.{Init, Core, Port}
 use Rattle.node_machine.specs.Carrying.{finds_room}
 use Rattle.node_machine.specs.Controller.{gates}
 use Rattle.node_machine.specs.HostReplies.{accepts, orders_of, ordered_deeds, host_deeds}
 use Rattle.node_links.proofs.Decisions.{IsSpoken, link_spoken, identity_spoken}
-use Rattle.node_laws.proofs.Walks.{OfHost, ordered_holds, host_holds, all_heard}
+use Rattle.node_laws.proofs.Walks.{OfHost, ordered_holds, host_holds, all_heard, orders_hold}
 use Rattle.node_links.proofs.Deeds.{IsFine, AreFine, answers_fine, commit_fine, link_fine, low}
 
 accepts_fine : (core : Core) (c : Command) → AreFine (accepts core c)
@@ -24,33 +23,15 @@ accepts_fine core c = commit_fine (finds_room core c) core.node 1 c (answer_of r
 
 -- ## Init
 
--- each of these has a byte
-abbrev AreSpoken : List (List ℕ) → Type 0
-AreSpoken orders = AllByRecursion IsSpoken orders
-
-pipes_spoken : (pipes : List (List ℕ)) → AreSpoken (map (λ pipe. 16 ∷ pipe) pipes)
-pipes_spoken [] = tt
-pipes_spoken (pipe ∷ pipes) = (omega arith, pipes_spoken pipes)
-
-orders_spoken : (i : Init) → AreSpoken (orders_of i)
-orders_spoken i =
-    let pipes : List (List ℕ) = map (λ pipe. 16 ∷ pipe) i.pipes in
-    let behind : AreSpoken (pipes ++ (1 ∷ 1 ∷ i.identity) ∷ []) =
-    AllByRecursion-append IsSpoken pipes ((1 ∷ 1 ∷ i.identity) ∷ []) (pipes_spoken i.pipes) (omega arith, tt) in
-    (omega arith, (omega arith, (omega arith, (omega arith, behind))))
-
-spoken_at : (xs : List (List ℕ)) (n : ℕ) (x : List ℕ) → AreSpoken xs → slice_get xs n ≡ Some x → IsSpoken x
-spoken_at [] zero x a q = cc
-spoken_at [] (suc n) x a q = cc
-spoken_at (y ∷ xs) zero x a q = let P : List ℕ → Type 0 = λ z. IsSpoken z in let is : y ≡ x = cc in subst P is a.0
-spoken_at (y ∷ xs) (suc n) x a q = spoken_at xs n x a.1 q
+orders_spoken : (i : Init) → AllByRecursion IsSpoken (orders_of i)
+orders_spoken i = orders_hold IsSpoken i (omega arith) (omega arith) (omega arith) (λ pipe. omega arith) (omega arith)
 
 own : (core : Core) → OfHost IsFine core
 own core = record {
   commits = λ c. tt;
   hears = tt;
   goes_on = λ i. tt;
-  orders = λ i k order is. spoken_at (orders_of i) k order (orders_spoken i) is;
+  orders = λ i k order is. AllByRecursion-get IsSpoken (orders_of i) k order (orders_spoken i) is;
   same = tt;
   made = λ count. tt;
   failed = λ code. tt;

@@ -18,6 +18,24 @@ has_small m x q = go (nat_le 1 x) (nat_le x 7) refl refl
     go true false p r = absurd (true≢false (sym (rw (p, r) at q)))
     go false b p r = absurd (true≢false (sym (rw p at q)))
 
+-- nobody is in an empty mask
+pub nobody : hosts_where (has 0) ≡ []
+unfolding hosts_where
+nobody = refl
+
+-- a host from 01 to 07 is alone in its mask
+pub alone : (P : ℕ → Type 0) (m y : ℕ) → has m y ≡ true → P y → AllByRecursion P (hosts_where (has (mask_of (y ∷ []))))
+unfolding hosts_where
+alone P m zero q e = absurd (true≢false (sym q))
+alone P m (suc zero) q e = (e, tt)
+alone P m (suc (suc zero)) q e = (e, tt)
+alone P m (suc (suc (suc zero))) q e = (e, tt)
+alone P m (suc (suc (suc (suc zero)))) q e = (e, tt)
+alone P m (suc (suc (suc (suc (suc zero))))) q e = (e, tt)
+alone P m (suc (suc (suc (suc (suc (suc zero)))))) q e = (e, tt)
+alone P m (suc (suc (suc (suc (suc (suc (suc zero))))))) q e = (e, tt)
+alone P m (suc (suc (suc (suc (suc (suc (suc (suc n)))))))) q e = absurd (omega (arith, has_small m (suc (suc (suc (suc (suc (suc (suc (suc n)))))))) q))
+
 -- one that is in their mask passes
 pub from_mask : (test : ℕ → Bool) (x : ℕ) → has (mask_of (hosts_where test)) x ≡ true → test x ≡ true
 from_mask test x q = by_host x q where

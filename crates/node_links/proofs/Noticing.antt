@@ -12,25 +12,25 @@ use Rattle.shdlc_core.specs.declared.answers.LinkState.TheVariants.{Up, Waiting,
 use Rattle.hci_tables.specs.declared.command.Command.{Command}
 use Rattle.hci_tables.specs.Bodies.{body_of}
 use Rattle.hci_store.specs.Committing.{commit_writes}
-use Rattle.link_machine.specs.Machine.{Message, LinkEnd, LinkInput, Refused, Turn, turn, is_held, give_refusal, aside_refusal, ended_by}
+use Rattle.link_machine.specs.Machine.{Message, LinkEnd, LinkInput, Refused, Turn, turn, give_refusal, aside_refusal, ended_by}
 use Rattle.link_machine.specs.Machine.LinkInput.{Tick}
 use Rattle.link_machine.specs.Machine.Turn.{Give, Hold, FetchMessage, SetAside, Release}
 use Rattle.session_laws.proofs.Ties.{ready-phase as ready_phase}
 use Rattle.node_machine.specs.Parts.{About, Notice, Desk, Core, Port, Work, Deed}
 use Rattle.node_machine.specs.Parts.About.{Waits, Removed}
 use Rattle.node_machine.specs.Parts.Deed.{Commits, Sends, SaysOk, Asks, Releases, Tells, IsAnswered, Drops, SetsErrors, Orders, Hears, GoesOn, Ends}
-use Rattle.node_machine.specs.Carrying.{end_of_node, noting, unless_cut, port_at, changed_if, with_port, with_desk, after_turn, turn_at, notified, commit, done}
-use Rattle.node_machine.specs.Carrying.{all_done, needs, lack}
+use Rattle.node_machine.specs.Carrying.{end_of_node, noting, port_at, changed_if, with_port, with_desk, after_turn, turn_at, notified, commit, done}
 use Rattle.node_machine.specs.Controller.{has_link, asked_at, controller_deeds}
-use Rattle.node_machine.specs.Turns.{deeds_of, handles, holds_back, lets_go, have_turns, goes_through_ends, passes}
+use Rattle.node_machine.specs.Turns.{deeds_of}
 use Rattle.node_machine.specs.Node.{NodeInput, input_at, has_come, all_come, older_notice, with_older, is_late, reset_late, times_out, is_over, is_forgotten}
-use Rattle.node_machine.specs.Node.{forgets, without_notice, after_sessions, forgotten, all_owed, synced, answers_and_passes, steps}
+use Rattle.node_machine.specs.Node.{forgets, without_notice, after_sessions, forgotten, all_owed, synced, steps}
 use Rattle.node_machine.specs.Node.NodeInput.{AtEnd, TimePasses}
 use Rattle.node_links.specs.Notices.{Reaches, AllReach, IsComing, IsOutside, IsNoticedUp, IsBegun, OnFirst}
 use Rattle.node_links.proofs.Staying.{stays_up}
 use Rattle.node_links.proofs.Reaching.{controller_reach}
-use Rattle.node_laws.proofs.Walks.{forgotten_hold, all_owed_hold, all_synced_hold}
-use Rattle.node_laws.proofs.Ports.{come_host, forgets_host, changed_host, sessions_node}
+use Rattle.node_laws.proofs.StepWalks.{Lasts, rest_lasts}
+use Rattle.node_laws.proofs.Walks.{anyone, forgotten_hold, all_owed_hold, all_synced_hold}
+use Rattle.node_laws.proofs.Ports.{come_host, forgets_host, late_host, without_host, changed_host, sessions_node}
 
 -- ## Ends
 
@@ -185,21 +185,6 @@ module _ (U : ℕ → Bool) where
   does k (GoesOn i) w g a = beside w (done k (GoesOn i) w) refl refl a
   does k (Ends e) w g a = beside w (done k (Ends e) w) refl refl a
 
-  unless : (f : Work → Work) (w : Work) → ((v : Work) → Sure v → Sure (f v)) → Sure w → Sure (unless_cut f w)
-  unless f w one a = go w.cut
-    where
-      by : Bool → Work
-      by true = w
-      by false = f w
-
-      go : (b : Bool) → Sure (by b)
-      go true = a
-      go false = one w a
-
-  all_do : (k : ℕ) (deeds : List Deed) (w : Work) → AllGo deeds → Sure w → Sure (all_done k deeds w)
-  all_do k [] w g a = a
-  all_do k (d ∷ deeds) w g a = unless (all_done k deeds) (done k d w) (λ v b. all_do k deeds v g.1 b) (does k d w g.0 a)
-
   goes_of : (w : Work) → Sure w → (deeds : List Deed) → AllReach w.ports deeds → AllGo deeds
   goes_of w a [] r = tt
   goes_of w a (d ∷ deeds) r = (one d r.0, goes_of w a deeds r.1)
@@ -226,69 +211,17 @@ module _ (U : ℕ → Bool) where
       go true q = rw q (goes_of w a (controller_deeds w.core w.ports k m) (controller_reach w.core w.ports k m))
       go false q = absurd (true≢false (sym (ap (λ n. n == 0) a.node) ∙ q))
 
-  -- ## The pass over its ends
-
-  handles_sure : (k : ℕ) (m : Message) (deeds : List Deed) (w : Work) → AllGo deeds → Sure w → Sure (handles k m deeds w)
-  handles_sure k m deeds w g a =
-      let told : Work = noting _ w in
-      let fetched : Work = turn_at k FetchMessage told in
-      all_do k deeds (with_desk k (λ d. record d { holds = false }) fetched) g
-      (desk k (λ d. record d { holds = false }) fetched (λ d. refl) (λ p found b. b) (turns k FetchMessage told (beside w told refl refl a)))
-
-  holds : (k : ℕ) (short : ℕ × ℕ) (w : Work) → Sure w → Sure (holds_back k short w)
-  holds k short w a = go (option_map_or (λ (p : Port). p.desk.holds) (port_at w.ports k) false)
-    where
-      told : Work
-      told = noting (entry.Held (end_of_node w.core k) short.0 short.1 ∷ []) w
-
-      by : Bool → Work
-      by true = turn_at k (Hold true) w
-      by false = turn_at k (Hold true) (with_desk k (λ d. record d { holds = true }) told)
-
-      go : (b : Bool) → Sure (by b)
-      go true = turns k (Hold true) w a
-      go false =
-          turns k (Hold true) (with_desk k (λ d. record d { holds = true }) told)
-          (desk k (λ d. record d { holds = true }) told (λ d. refl) (λ p found b. b) (beside w told refl refl a))
-
-  lets : (k : ℕ) (w : Work) → Sure w → Sure (lets_go k w)
-  lets k w a = go (option_map_or (λ (p : Port). is_held p.side) (port_at w.ports k) false)
-    where
-      by : Bool → Work
-      by true = turn_at k (Hold false) w
-      by false = w
-
-      go : (b : Bool) → Sure (by b)
-      go true = turns k (Hold false) w a
-      go false = a
-
-  have_sure : (k : ℕ) (messages : List Message) (w : Work) → Sure w → Sure (have_turns k messages w)
-  have_sure k [] w a = lets k w a
-  have_sure k (m ∷ messages) w a = go (lack w.ports (needs k deeds)) (λ v b. have_sure k messages v b)
-    where
-      deeds : List Deed
-      deeds = deeds_of w.core w.ports k m
-
-      by : Option (ℕ × ℕ) → Work
-      by None = unless_cut (have_turns k messages) (handles k m deeds w)
-      by (Some short) = holds_back k short w
-
-      go : (o : Option (ℕ × ℕ)) → ((v : Work) → Sure v → Sure (have_turns k messages v)) → Sure (by o)
-      go None later = unless (have_turns k messages) (handles k m deeds w) later (handles_sure k m deeds w (deeds_go k m w a) a)
-      go (Some short) later = holds k short w a
-
-  ends_sure : (hosts : List ℕ) (w : Work) → Sure w → Sure (goes_through_ends hosts w)
-  ends_sure [] w a = a
-  ends_sure (k ∷ hosts) w a =
-      unless (goes_through_ends hosts) (have_turns k (option_map_or (λ (p : Port). p.side.got) (port_at w.ports k) []) w) (λ v b. ends_sure hosts v b)
-      (have_sure k (option_map_or (λ (p : Port). p.side.got) (port_at w.ports k) []) w a)
-
-  pub rest_sure : (freed syncs owing : List Deed) (w : Work) → AllGo freed → AllGo syncs → AllGo owing → Sure w
-      → Sure (answers_and_passes freed syncs owing w)
-  rest_sure freed syncs owing w f s o a =
-      let one : Sure (all_done 0 syncs (all_done 0 freed w)) = all_do 0 syncs (all_done 0 freed w) s (all_do 0 freed w f a) in
-      unless passes (unless_cut (all_done 0 owing) (all_done 0 syncs (all_done 0 freed w))) (λ v b. ends_sure _ v b)
-      (unless (all_done 0 owing) (all_done 0 syncs (all_done 0 freed w)) (λ v b. all_do 0 owing v o b) one)
+  sure_lasts : Lasts Sure Goes (λ k m. Unit {0})
+  sure_lasts = record {
+    does = does;
+    turn_told = λ k m w comes a. beside w (noting (entry.Turn (end_of_node w.core k) m.0 m.1 ∷ []) w) refl refl a;
+    held_told = λ k need spare w a. beside w (noting (entry.Held (end_of_node w.core k) need spare ∷ []) w) refl refl a;
+    fetched = λ k w a. turns k FetchMessage w a;
+    held = λ k flag w a. turns k (Hold flag) w a;
+    marked = λ k flag w a. desk k (λ d. record d { holds = flag }) w (λ d. refl) (λ p found b. b) a;
+    come = λ k w a. anyone (λ (m : Message). Unit {0}) (λ m. tt) _;
+    causes = λ k m w comes a. deeds_go k m w a;
+  }
 
 -- ## What comes
 
@@ -334,13 +267,6 @@ late_ok p b = go (is_late p) refl
     go true q = rw q (λ n over. absurd (over_late p.ended over))
     go false q = rw q b
 
-late_host : (p : Port) → (reset_late p).desk.host ≡ p.desk.host
-late_host p = go (is_late p) refl
-  where
-    go : (c : Bool) → is_late p ≡ c → (reset_late p).desk.host ≡ p.desk.host
-    go true q = rw q refl
-    go false q = rw q refl
-
 forgets_ok : (ports : List Port) (p : Port) → IsOk p → IsOk (forgets ports p)
 forgets_ok ports p b = go (is_forgotten ports (asked_at p)) refl p.desk.notice refl
   where
@@ -355,13 +281,6 @@ without_up p b = go (is_over p) refl
     go : (c : Bool) → is_over p ≡ c → UpAt (Some (without_notice p))
     go true q = rw q (λ n. absurd (true≢false (sym n)))
     go false q = rw q (λ n. ap is_up (b n q))
-
-without_host : (p : Port) → (without_notice p).desk.host ≡ p.desk.host
-without_host p = go (is_over p) refl
-  where
-    go : (c : Bool) → is_over p ≡ c → (without_notice p).desk.host ≡ p.desk.host
-    go true q = rw q refl
-    go false q = rw q refl
 
 -- ## Steps
 
@@ -413,7 +332,7 @@ steps_sure input w k node a =
       links = λ x. refl;
       up = λ x. kept x;
     } in
-    rest_sure U (forgotten came.ports) (flat_map (synced w.core input) w.ports) (all_owed left) begun
+    rest_lasts (Sure U) (Goes U) (λ k m. Unit {0}) (sure_lasts U) (forgotten came.ports) (flat_map (synced w.core input) w.ports) (all_owed left) begun
     (forgotten_hold (Goes U) (λ asker. tt) came.ports) (all_synced_hold (Goes U) (λ host id. tt) w.core input w.ports)
     (all_owed_hold (Goes U) (λ asker. tt) (λ to r. tt) left) sure
   where

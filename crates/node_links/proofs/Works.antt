@@ -9,17 +9,17 @@ use Rattle.hcp_packet.specs.Packets.{IsSendable, AreSendable}
 use Rattle.hci_tables.specs.declared.command.Command.{Command}
 use Rattle.hci_tables.specs.Bodies.{body_of}
 use Rattle.hci_store.specs.Committing.{commit_writes}
-use Rattle.link_machine.specs.Machine.{Message, LinkInput, Turn, is_held}
+use Rattle.link_machine.specs.Machine.{Message, LinkInput, Turn}
 use Rattle.link_machine.specs.Machine.LinkInput.{Reset}
 use Rattle.link_machine.specs.Machine.Turn.{Give, Hold, FetchMessage, SetAside, Release}
 use Rattle.message_link.specs.Links.{AreSendableTurns}
 use Rattle.node_machine.specs.Parts.{About, Notice, Desk, Core, Port, Work, Deed}
 use Rattle.node_machine.specs.Parts.About.{Waits, Forgotten, Removed}
 use Rattle.node_machine.specs.Parts.Deed.{Commits, Sends, SaysOk, Asks, Releases, Tells, IsAnswered, Drops, SetsErrors, Orders, Hears, GoesOn, Ends}
-use Rattle.node_machine.specs.Carrying.{end_of_node, noting, unless_cut, port_at, changed_if, with_port, with_desk, after_turn, turn_at, notified, commit, done}
-use Rattle.node_machine.specs.Carrying.{all_done, needs, lack}
+use Rattle.node_machine.specs.Carrying.{noting, port_at, changed_if, with_port, with_desk, after_turn, turn_at, notified, commit, done}
+use Rattle.node_machine.specs.Carrying.{all_done}
 use Rattle.node_machine.specs.Controller.{creation_in, asked_at}
-use Rattle.node_machine.specs.Turns.{deeds_of, handles, holds_back, lets_go, have_turns, goes_through_ends, passes}
+use Rattle.node_machine.specs.Turns.{deeds_of, handles, holds_back, lets_go}
 use Rattle.node_machine.specs.Node.{NodeInput, input_at, has_come, all_come, older_notice, with_older, is_late, reset_late, times_out, is_over, is_forgotten}
 use Rattle.node_machine.specs.Node.{forgotten, forgets, all_owed, without_notice, after_sessions, synced, steps}
 use Rattle.node_machine.specs.Node.NodeInput.{AtEnd, TimePasses}
@@ -27,6 +27,7 @@ use Rattle.node_links.proofs.Got.{Clean, one_clean, input_clean}
 use Rattle.node_links.proofs.Decisions.{IsSpoken}
 use Rattle.node_links.proofs.Deeds.{HasAnswer, IsTrueDesk, IsFine, AreFine, AreTrue, low, controller_fine}
 use Rattle.node_links.proofs.HostDeeds.{host_fine}
+use Rattle.node_laws.proofs.StepWalks.{Lasts, all_do, lets, holds, handled, rest_lasts}
 use Rattle.node_laws.proofs.Walks.{forgotten_hold, all_owed_hold, all_synced_hold}
 
 -- ## Ends
@@ -123,21 +124,8 @@ done_fine h Hears w f a = a
 done_fine h (GoesOn i) w f a = a
 done_fine h (Ends e) w f a = a
 
-pub unless_fine : (f : Work → Work) (w : Work) → ((v : Work) → IsFineWork v → IsFineWork (f v)) → IsFineWork w → IsFineWork (unless_cut f w)
-unless_fine f w one a = go w.cut
-  where
-    by : Bool → Work
-    by true = w
-    by false = f w
-
-    go : (b : Bool) → IsFineWork (by b)
-    go true = a
-    go false = one w a
-
 pub all_done_fine : (h : ℕ) (deeds : List Deed) (w : Work) → AreFine deeds → IsFineWork w → IsFineWork (all_done h deeds w)
-all_done_fine h [] w f a = a
-all_done_fine h (d ∷ deeds) w f a =
-    unless_fine (all_done h deeds) (done h d w) (λ v fine. all_done_fine h deeds v f.1 fine) (done_fine h d w f.0 a)
+all_done_fine h deeds w f a = all_do IsFineWork IsFine done_fine h deeds w f a
 
 pub deeds_fine : (core : Core) (ports : List Port) (h : ℕ) (m : Message) → AreFinePorts ports → IsSendable m → AreFine (deeds_of core ports h m)
 deeds_fine core ports h m a s = go (core.node == 0) (port_at ports h) refl refl
@@ -149,45 +137,6 @@ deeds_fine core ports h m a s = go (core.node == 0) (port_at ports h) refl refl
 
 -- ## The pass over its ends
 
-pub handles_fine : (h : ℕ) (m : Message) (deeds : List Deed) (w : Work) → AreFine deeds → IsFineWork w → IsFineWork (handles h m deeds w)
-handles_fine h m deeds w f a =
-    let told : Work = noting (entry.Turn (end_of_node w.core h) m.0 m.1 ∷ []) w in
-    let fetched : Work = turn_at h FetchMessage told in
-    all_done_fine h deeds (with_desk h (λ d. record d { holds = false }) fetched) f
-    (desk_fine h (λ d. record d { holds = false }) fetched (λ d fine. fine) (turn_fine h FetchMessage told tt a))
-
-pub holds_fine : (h : ℕ) (short : ℕ × ℕ) (w : Work) → IsFineWork w → IsFineWork (holds_back h short w)
-holds_fine h short w a = go (option_map_or (λ (p : Port). p.desk.holds) (port_at w.ports h) false) refl
-  where
-    go : (b : Bool) → option_map_or (λ (p : Port). p.desk.holds) (port_at w.ports h) false ≡ b → IsFineWork (holds_back h short w)
-    go true q = rw q (turn_fine h (Hold true) w tt a)
-    go false q =
-        let told : Work = noting (entry.Held (end_of_node w.core h) short.0 short.1 ∷ []) w in
-        rw q (turn_fine h (Hold true) (with_desk h (λ d. record d { holds = true }) told) tt
-        (desk_fine h (λ d. record d { holds = true }) told (λ d fine. fine) a))
-
-pub lets_fine : (h : ℕ) (w : Work) → IsFineWork w → IsFineWork (lets_go h w)
-lets_fine h w a = go (option_map_or (λ (p : Port). is_held p.side) (port_at w.ports h) false) refl
-  where
-    go : (b : Bool) → option_map_or (λ (p : Port). is_held p.side) (port_at w.ports h) false ≡ b → IsFineWork (lets_go h w)
-    go true q = rw q (turn_fine h (Hold false) w tt a)
-    go false q = rw q a
-
-turns_fine : (h : ℕ) (messages : List Message) (w : Work) → AreSendable messages → IsFineWork w → IsFineWork (have_turns h messages w)
-turns_fine h [] w s a = lets_fine h w a
-turns_fine h (m ∷ messages) w s a = go (lack w.ports (needs h (deeds_of w.core w.ports h m))) (λ v fine. turns_fine h messages v s.1 fine)
-  where
-    deeds : List Deed
-    deeds = deeds_of w.core w.ports h m
-
-    by : Option (ℕ × ℕ) → Work
-    by None = unless_cut (have_turns h messages) (handles h m deeds w)
-    by (Some short) = holds_back h short w
-
-    go : (o : Option (ℕ × ℕ)) → ((v : Work) → IsFineWork v → IsFineWork (have_turns h messages v)) → IsFineWork (by o)
-    go None later = unless_fine (have_turns h messages) (handles h m deeds w) later (handles_fine h m deeds w (deeds_fine w.core w.ports h m a s.0) a)
-    go (Some short) later = holds_fine h short w a
-
 pub got_fine : (ports : List Port) (h : ℕ) → AreFinePorts ports → AreSendable (option_map_or (λ (p : Port). p.side.got) (port_at ports h) [])
 got_fine ports h a = go (port_at ports h) refl
   where
@@ -195,11 +144,29 @@ got_fine ports h a = go (port_at ports h) refl
     go None q = rw q tt
     go (Some p) q = rw q (fine_at ports h p a q).clean
 
-ends_fine : (hosts : List ℕ) (w : Work) → IsFineWork w → IsFineWork (goes_through_ends hosts w)
-ends_fine [] w a = a
-ends_fine (h ∷ hosts) w a =
-    unless_fine (goes_through_ends hosts) (have_turns h (option_map_or (λ (p : Port). p.side.got) (port_at w.ports h) []) w)
-    (λ v fine. ends_fine hosts v fine) (turns_fine h _ w (got_fine w.ports h a) a)
+abbrev pub MaySend : ℕ → Message → Type 0
+MaySend h m = IsSendable m
+
+fine_lasts : Lasts IsFineWork IsFine MaySend
+fine_lasts = record {
+  does = done_fine;
+  turn_told = λ h m w s a. a;
+  held_told = λ h need spare w a. a;
+  fetched = λ h w a. turn_fine h FetchMessage w tt a;
+  held = λ h flag w a. turn_fine h (Hold flag) w tt a;
+  marked = λ h flag w a. desk_fine h (λ d. record d { holds = flag }) w (λ d fine. fine) a;
+  come = λ h w a. got_fine w.ports h a;
+  causes = λ h m w s a. deeds_fine w.core w.ports h m a s;
+}
+
+pub handles_fine : (h : ℕ) (m : Message) (deeds : List Deed) (w : Work) → IsSendable m → AreFine deeds → IsFineWork w → IsFineWork (handles h m deeds w)
+handles_fine h m deeds w s f a = handled IsFineWork IsFine MaySend fine_lasts h m deeds w s f a
+
+pub holds_fine : (h : ℕ) (short : ℕ × ℕ) (w : Work) → IsFineWork w → IsFineWork (holds_back h short w)
+holds_fine h short w a = holds IsFineWork fine_lasts.held fine_lasts.marked fine_lasts.held_told h short w a
+
+pub lets_fine : (h : ℕ) (w : Work) → IsFineWork w → IsFineWork (lets_go h w)
+lets_fine h w a = lets IsFineWork fine_lasts.held h w a
 
 -- ## Steps
 
@@ -261,12 +228,6 @@ steps_fine input w a =
     let begun : Work = record came { core = after_sessions came.core came.ports; ports = map without_notice left } in
     let begun_fine : IsFineWork begun =
     map_fine without_notice without_fine left (map_fine (forgets came.ports) (forgets_fine came.ports) came.ports fine) in
-    let freed : List Deed = forgotten came.ports in
-    let syncs : List Deed = flat_map (synced w.core input) w.ports in
-    let owing : List Deed = all_owed left in
-    let one : IsFineWork (all_done 0 syncs (all_done 0 freed begun)) =
-    all_done_fine 0 syncs (all_done 0 freed begun) (all_synced_hold IsFine (λ host id. tt) w.core input w.ports)
-    (all_done_fine 0 freed begun (forgotten_hold IsFine (λ asker. tt) came.ports) begun_fine) in
-    let owed_all : AreFine owing = all_owed_hold IsFine (λ asker. tt) (λ to r. (low, omega arith)) left in
-    unless_fine passes (unless_cut (all_done 0 owing) (all_done 0 syncs (all_done 0 freed begun))) (λ v f. ends_fine _ v f)
-    (unless_fine (all_done 0 owing) (all_done 0 syncs (all_done 0 freed begun)) (λ v f. all_done_fine 0 owing v owed_all f) one)
+    rest_lasts IsFineWork IsFine MaySend fine_lasts (forgotten came.ports) (flat_map (synced w.core input) w.ports) (all_owed left) begun
+    (forgotten_hold IsFine (λ asker. tt) came.ports) (all_synced_hold IsFine (λ host id. tt) w.core input w.ports)
+    (all_owed_hold IsFine (λ asker. tt) (λ to r. (low, omega arith)) left) begun_fine

@@ -1,16 +1,13 @@
 -- Each link of a world of nodes is a run of the law of one link.
-use Rattle.std.proofs.Common.{◌≡◌, ℕ, ◌==◌, Bool, true, false, cond, List, [], ◌∷◌, ◌++◌, refl, ap, sym, subst, length}
+use Rattle.std.proofs.Common.{◌≡◌, ℕ, ◌==◌, Bool, true, false, cond, List, [], ◌∷◌, refl, ap, sym, subst}
 use Rattle.std.specs.Prelude.{Option, Some, None, map, not, ◌&&◌, min, ◌+◌}
-use Rattle.std.specs.List.{AllByRecursion, flat_map}
+use Rattle.std.specs.List.{AllByRecursion}
 use Rattle.std.specs.Option.{option_map_or}
 use Rattle.swp_base.specs.InMemory.{Memory}
-use Rattle.trace_model.specs.declared.entry.Entry.{Entry}
-use Rattle.trace_model.specs.declared.entry.Entry.TheVariants as entry
 use Rattle.trace_model.specs.declared.line.End.{End}
 use Rattle.shdlc_core.specs.Machine.{is_waiting}
 use Rattle.session_laws.specs.Sessions.{OnWire}
-use Rattle.journal_laws.specs.Journal.{count_of}
-use Rattle.journal_laws.specs.Planned.{fails_within, after_planned}
+use Rattle.journal_laws.specs.Planned.{after_planned}
 use Rattle.link_machine.specs.Machine.{Turn}
 use Rattle.link_machine.specs.Machine.LinkInput.{Reset}
 use Rattle.link_machine.specs.Machine.Role.{Bare}
@@ -21,17 +18,17 @@ use Rattle.message_link.specs.Links.Comes.{NextFrame, AsksReset, Starts, Stops, 
 use Rattle.message_link.specs.Links.Loss.{OnDemand, Broken, Unread, TooOld, TooMany}
 use Rattle.message_link.specs.Links.EndEvent.{Step, Lose}
 use Rattle.message_link.specs.Links.LinkEvent.{AtController, AtHost}
-use Rattle.link_entries.specs.Entries.End.{Controller, Host}
-use Rattle.link_entries.specs.Entries.{first_lost}
-use Rattle.history.specs.Steps.{at, entries_for}
+use Rattle.history.specs.Steps.{at}
 use Rattle.node_machine.specs.Parts.{Desk, Running, Port, Work}
 use Rattle.node_machine.specs.Carrying.{changed_if, port_at}
-use Rattle.node_machine.specs.Node.{steps, found, boot_writes, with_error, new_desk}
+use Rattle.node_machine.specs.Node.{boot_writes, with_error, new_desk}
 use Rattle.node_machine.specs.Node.NodeInput.{TimePasses}
-use Rattle.node_world.specs.World.{Site, NodeWorld, wires_for, frames_noted, site_at, with_site, link_to, ending_of, runs_on, turns_at, near_end_in, port_for}
+use Rattle.node_world.specs.World.{Site, NodeWorld, site_at, with_site, link_to, ending_of, runs_on, turns_at, near_end_in, port_for}
 use Rattle.node_world.specs.World.{work_of, comes_to, controller_work, link_after_controller, after_controller, controller_does, host_work, after_host}
 use Rattle.node_world.specs.World.{host_does, controller_cut, host_cut, loses_power_at, memory_at, with_memory, with_node, links_of, boots, counts, frame_lost}
 use Rattle.node_world.specs.World.{all_aged, is_late_at, ticked_so, controller_ticks, host_ticks, hosts_tick, world_ticks}
+use Rattle.node_world.proofs.Cases.{by_controller, by_host, by_power, by_memory, by_running, boot_written, boot_found, by_boot, site_lost, by_loss}
+use Rattle.node_world.proofs.Cases.{near_tick, by_controller_tick, host_tick, by_host_tick}
 use Rattle.node_links.proofs.Got.{Clean}
 use Rattle.node_links.proofs.Deeds.{IsTrueDesk}
 use Rattle.node_links.proofs.Works.{AreFinePorts, IsFineWork, fine_at, steps_fine}
@@ -205,21 +202,15 @@ after_controller_fine w h comes k m a fine =
 
 pub controller_fine : (w : NodeWorld) (h : ℕ) (comes : Comes) (f : Work → Work) → MayCome comes → KeepsFine f → IsFineWorld w
     → IsFineWorld (controller_does w h comes f).0
-controller_fine w h comes f m keeps fine = go w.controller fine.controller
-  where
-    by : Option Running → NodeWorld × List Entry
-    by None = (w, [])
-    by (Some r) = after_controller w h comes (controller_work w r h comes f)
-
-    clean : (k : ℕ) → Clean (near_end_in (link_to w.sites k) (comes_to h comes k)).side
-    clean k = near_end_clean (link_to w.sites k) (comes_to h comes k) (near_clean w.sites k (fine_clean w.sites fine.sites))
-
-    go : (o : Option Running) → IsFineNode o → IsFineWorld (by o).0
-    go None a = fine
-    go (Some r) a =
-        after_controller_fine w h comes (controller_work w r h comes f) m
-        (keeps (work_of r w.memory.plan (λ k. near_end_in (link_to w.sites k) (comes_to h comes k)) _)
-        (ports_fine (λ k. near_end_in (link_to w.sites k) (comes_to h comes k)) clean r.desks a)) fine
+controller_fine w h comes f m keeps fine =
+    by_controller (λ p. IsFineWorld p.0) w h comes f fine
+    (λ r is.
+    let near_ends : ℕ → NumberedEnd = λ k. near_end_in (link_to w.sites k) (comes_to h comes k) in
+    after_controller_fine w h comes (controller_work w r h comes f) m
+    (keeps (work_of r w.memory.plan near_ends _)
+    (ports_fine near_ends
+    (λ k. near_end_clean (link_to w.sites k) (comes_to h comes k) (near_clean w.sites k (fine_clean w.sites fine.sites))) r.desks
+    (subst IsFineNode is fine.controller))) fine)
 
 -- ## Steps of a host
 
@@ -233,34 +224,19 @@ there_fine comes k a s can fine =
 
 pub host_fine : (w : NodeWorld) (h : ℕ) (comes : Comes) (f : Work → Work) → AllByRecursion (AtHostOnly (CanReach comes) h) w.sites → KeepsFine f
     → IsFineWorld w → IsFineWorld (host_does w h comes f).0
-host_fine w h comes f can keeps fine = go (site_at w.sites h) refl
-  where
-    by_node : Site → Option Running → NodeWorld × List Entry
-    by_node s None = (w, [])
-    by_node s (Some r) = (
-      record w { sites = with_site h (after_host comes (host_work s r comes f)) w.sites },
-      (host_work s r comes f).entries ++ frames_noted Host h (wires_for (exchanged s.link) comes) (host_work s r comes f),
-    )
-
-    by : Option Site → NodeWorld × List Entry
-    by None = (w, [])
-    by (Some s) = by_node s s.node
-
-    one : (s : Site) → IsFineSite s → (o : Option Running) → IsFineNode o → IsFineWorld (by_node s o).0
-    one s here None a = fine
-    one s here (Some r) a =
-        let k : Work = host_work s r comes f in
-        let done : IsFineWork k =
-        keeps (work_of r s.memory.plan (λ k. near_end_in (exchanged s.link) comes) _)
-        (ports_fine (λ k. near_end_in (exchanged s.link) comes) (λ k. near_end_clean (exchanged s.link) comes here.link.line.far) r.desks a) in
-        record {
-          sites = site_changed (CanReach comes) h (after_host comes k) (there_fine comes k done) w.sites can fine.sites;
-          controller = fine.controller;
-        }
-
-    go : (o : Option Site) → site_at w.sites h ≡ o → IsFineWorld (by o).0
-    go None q = fine
-    go (Some s) q = let here : IsFineSite s = fine_site w.sites h s fine.sites q in one s here s.node here.node
+host_fine w h comes f can keeps fine =
+    by_host (λ p. IsFineWorld p.0) w h comes f fine
+    (λ s r found is.
+    let here : IsFineSite s = fine_site w.sites h s fine.sites found in
+    let k : Work = host_work s r comes f in
+    let near_ends : ℕ → NumberedEnd = λ j. near_end_in (exchanged s.link) comes in
+    let done : IsFineWork k =
+    keeps (work_of r s.memory.plan near_ends _)
+    (ports_fine near_ends (λ j. near_end_clean (exchanged s.link) comes here.link.line.far) r.desks (subst IsFineNode is here.node)) in
+    record {
+      sites = site_changed (CanReach comes) h (after_host comes k) (there_fine comes k done) w.sites can fine.sites;
+      controller = fine.controller;
+    })
 
 -- ## Power
 
@@ -276,67 +252,36 @@ host_cut_fine : (s : Site) → IsFineSite s → IsFineSite (host_cut s)
 host_cut_fine s a = record { link = host_steps s.link NoInput [] CutOff tt tt a.link; node = tt }
 
 pub power_fine : (n : ℕ) (w : NodeWorld) → IsFineWorld w → IsFineWorld (loses_power_at n w)
-power_fine n w fine = go (n == 0)
-  where
-    by : Bool → NodeWorld
-    by true = controller_cut w
-    by false = record w { sites = with_site n host_cut w.sites }
-
-    go : (b : Bool) → IsFineWorld (by b)
-    go true = controller_cut_fine w fine
-    go false = record { sites = site_fine n host_cut host_cut_fine w.sites fine.sites; controller = fine.controller }
+power_fine n w fine =
+    by_power IsFineWorld n w (λ z. controller_cut_fine w fine)
+    (λ z. record { sites = site_fine n host_cut host_cut_fine w.sites fine.sites; controller = fine.controller })
 
 pub memory_fine : (n : ℕ) (m : Memory) (w : NodeWorld) → IsFineWorld w → IsFineWorld (with_memory n m w)
-memory_fine n m w fine = go (n == 0)
-  where
-    by : Bool → NodeWorld
-    by true = record w { memory = m }
-    by false = record w { sites = with_site n (λ s. record s { memory = m }) w.sites }
-
-    go : (b : Bool) → IsFineWorld (by b)
-    go true = record { sites = fine.sites; controller = fine.controller }
-    go false = record {
+memory_fine n m w fine =
+    by_memory IsFineWorld n w m (λ z. record { sites = fine.sites; controller = fine.controller })
+    (λ z. record {
       sites = site_fine n (λ s. record s { memory = m }) (λ s a. record { link = a.link; node = a.node }) w.sites fine.sites;
       controller = fine.controller;
-    }
+    })
 
 node_fine : (n : ℕ) (r : Running) (w : NodeWorld) → AreTrueDesks r.desks → IsFineWorld w → IsFineWorld (with_node n r w)
-node_fine n r w a fine = go (n == 0)
-  where
-    by : Bool → NodeWorld
-    by true = record w { controller = Some r }
-    by false = record w { sites = with_site n (λ s. record s { node = Some r }) w.sites }
-
-    go : (b : Bool) → IsFineWorld (by b)
-    go true = record { sites = fine.sites; controller = a }
-    go false = record {
+node_fine n r w a fine =
+    by_running IsFineWorld n w r (λ z. record { sites = fine.sites; controller = a })
+    (λ z. record {
       sites = site_fine n (λ s. record s { node = Some r }) (λ s b. record { link = b.link; node = a }) w.sites fine.sites;
       controller = fine.controller;
-    }
+    })
 
 new_desks : (hosts : List ℕ) → AreTrueDesks (map new_desk hosts)
 new_desks [] = tt
 new_desks (h ∷ hosts) = (tt, new_desks hosts)
 
 pub boots_fine : (w : NodeWorld) (n : ℕ) → IsFineWorld w → IsFineWorld (boots w n).0
-boots_fine w n fine = go (fails_within (length (boot_writes (memory_at w n).content)) (memory_at w n).plan)
-  where
-    written : NodeWorld
-    written = with_memory n (after_planned (boot_writes (memory_at w n).content) (memory_at w n)) w
-
-    kept : IsFineWorld written
-    kept = memory_fine n (after_planned (boot_writes (memory_at w n).content) (memory_at w n)) w fine
-
-    r : Running
-    r = found n (links_of w n) (memory_at w n).content
-
-    by : Bool → NodeWorld × List Entry
-    by true = (loses_power_at n written, entry.Cut n ∷ [])
-    by false = (with_node n r written, entry.Booted n (count_of r.core.journal) ∷ [])
-
-    go : (b : Bool) → IsFineWorld (by b).0
-    go true = power_fine n written kept
-    go false = node_fine n r written (new_desks (links_of w n)) kept
+boots_fine w n fine =
+    let kept : IsFineWorld (boot_written w n) =
+    memory_fine n (after_planned (boot_writes (memory_at w n).content) (memory_at w n)) w fine in
+    by_boot (λ p. IsFineWorld p.0) w n (power_fine n (boot_written w n) kept)
+    (node_fine n (boot_found w n) (boot_written w n) (new_desks (links_of w n)) kept)
 
 -- ## Losses
 
@@ -360,38 +305,24 @@ counts_fine TooOld h o a = a
 counts_fine TooMany h o a = a
 
 pub lost_fine : (w : NodeWorld) (e : End) (why : Loss) → IsFineWorld w → IsFineWorld (frame_lost w e why).0
-lost_fine w e why fine = go e.at_host
+lost_fine w e why fine =
+    by_loss (λ p. IsFineWorld p.0) w e why
+    (λ side. record {
+      sites = site_fine e.link (λ s. record (site_lost e why s) { node = counts why e.link s.node })
+          (λ s a. record { link = loses s a; node = counts_fine why e.link s.node a.node }) w.sites fine.sites;
+      controller = fine.controller;
+    })
+    (λ side. record {
+      sites = site_fine e.link (site_lost e why) (λ s a. record { link = loses s a; node = a.node }) w.sites fine.sites;
+      controller = counts_fine why e.link w.controller fine.controller;
+    })
   where
-    lost : Site → Site
-    lost s = record s { link = happens s.link (at e (Lose why)) }
-
     loses : (s : Site) → IsFineSite s → IsFineLink (happens s.link (at e (Lose why)))
     loses s a = by e.at_host
       where
         by : (b : Bool) → IsFineLink (happens s.link (cond b (AtHost (Lose why)) (AtController (Lose why))))
         by true = host_loses s.link why a.link
         by false = controller_loses s.link why a.link
-
-    by : Bool → NodeWorld × List Entry
-    by false = (
-      record w { controller = counts why e.link w.controller; sites = with_site e.link lost w.sites },
-      entries_for e.link (first_lost Controller why (link_to w.sites e.link).to_controller),
-    )
-    by true = (
-      record w { sites = with_site e.link (λ s. record (lost s) { node = counts why e.link s.node }) w.sites },
-      entries_for e.link (first_lost Host why (link_to w.sites e.link).to_host),
-    )
-
-    go : (b : Bool) → IsFineWorld (by b).0
-    go false = record {
-      sites = site_fine e.link lost (λ s a. record { link = loses s a; node = a.node }) w.sites fine.sites;
-      controller = counts_fine why e.link w.controller fine.controller;
-    }
-    go true = record {
-      sites = site_fine e.link (λ s. record (lost s) { node = counts why e.link s.node })
-          (λ s a. record { link = loses s a; node = counts_fine why e.link s.node a.node }) w.sites fine.sites;
-      controller = fine.controller;
-    }
 
 -- ## Time
 
@@ -444,36 +375,19 @@ record IsNearWorld (w : NodeWorld) : Type 0 where
   controller : IsFineNode w.controller
 
 controller_ticks_fine : (w : NodeWorld) → AllByRecursion IsOld w.sites → IsFineNode w.controller → IsNearWorld (controller_ticks w).0
-controller_ticks_fine w old runs = go w.controller runs
-  where
-    after_work : Work → NodeWorld × List Entry
-    after_work k = (
-      record {
-        memory = after_planned k.writes w.memory;
-        controller = runs_on k;
-        sites = map (λ (s : Site). record s { link = ticked_so s.link (is_late_at k s.host) (turns_at k s.host) (ending_of k) }) w.sites;
-      },
-      k.entries ++ flat_map (λ (s : Site). frames_noted Controller s.host s.link k) w.sites,
-    )
-
-    near_ends : ℕ → NumberedEnd
-    near_ends h = (link_to w.sites h).controller
-
-    by : Option Running → NodeWorld × List Entry
-    by None = (record w { sites = map (λ (s : Site). record s { link = ticks_at_controller s.link [] GoesOut }) w.sites }, [])
-    by (Some r) = after_work (steps TimePasses (work_of r w.memory.plan near_ends []))
-
-    go : (o : Option Running) → IsFineNode o → IsNearWorld (by o).0
-    go None a = record { sites = near_sites (λ h. false) (λ h. record { turns = []; ending = GoesOut }) (λ h. tt) w.sites old; controller = runs }
-    go (Some r) a =
-        let k : Work = steps TimePasses (work_of r w.memory.plan near_ends []) in
-        let done : IsFineWork k =
-        steps_fine TimePasses (work_of r w.memory.plan near_ends [])
-        (ports_fine near_ends (λ h. near_clean w.sites h (old_clean w.sites old)) r.desks a) in
-        record {
-          sites = near_sites (λ h. is_late_at k h) (λ h. record { turns = turns_at k h; ending = ending_of k }) (λ h. turns_fine k h done) w.sites old;
-          controller = runs_fine k done;
-        }
+controller_ticks_fine w old runs =
+    by_controller_tick (λ p. IsNearWorld p.0) w
+    (λ is. record { sites = near_sites (λ h. false) (λ h. record { turns = []; ending = GoesOut }) (λ h. tt) w.sites old; controller = runs })
+    (λ r is.
+    let k : Work = near_tick w r in
+    let near_ends : ℕ → NumberedEnd = λ h. (link_to w.sites h).controller in
+    let done : IsFineWork k =
+    steps_fine TimePasses (work_of r w.memory.plan near_ends [])
+    (ports_fine near_ends (λ h. near_clean w.sites h (old_clean w.sites old)) r.desks (subst IsFineNode is runs)) in
+    record {
+      sites = near_sites (λ h. is_late_at k h) (λ h. record { turns = turns_at k h; ending = ending_of k }) (λ h. turns_fine k h done) w.sites old;
+      controller = runs_fine k done;
+    })
 
 pub so_host : (l : Link) (late : Bool) (ts : List Turn) (ending : Ending) → (ticked_so l late ts ending).host ≡ l.host
 so_host l late ts ending = go (late && not (is_waiting l.controller.side.shdlc))
@@ -483,22 +397,15 @@ so_host l late ts ending = go (late && not (is_waiting l.controller.side.shdlc))
     go false = tick_host l ts ending
 
 host_ticks_fine : (s : Site) → IsNear s → IsFineSite (host_ticks s).0
-host_ticks_fine s a = go s.node a.node
+host_ticks_fine s a =
+    by_host_tick (λ p. IsFineSite p.0) s (λ is. record { link = link (record { turns = []; ending = GoesOut }) tt; node = a.node })
+    (λ r is.
+    let k : Work = host_tick s r in
+    let done : IsFineWork k =
+    steps_fine TimePasses (work_of r s.memory.plan (λ h. s.link.host) [])
+    (ports_fine (λ h. s.link.host) (λ h. far) r.desks (subst IsFineNode is a.node)) in
+    record { link = link (record { turns = turns_at k s.host; ending = ending_of k }) (turns_fine k s.host done); node = runs_fine k done })
   where
-    after_work : Work → Site × List Entry
-    after_work k = (
-      record s {
-        link = exchanged (ticks_at_controller (exchanged s.link) (turns_at k s.host) (ending_of k));
-        memory = after_planned k.writes s.memory;
-        node = runs_on k;
-      },
-      k.entries ++ frames_noted Host s.host (exchanged s.link) k,
-    )
-
-    by : Option Running → Site × List Entry
-    by None = (record s { link = exchanged (ticks_at_controller (exchanged s.link) [] GoesOut) }, [])
-    by (Some r) = after_work (steps TimePasses (work_of r s.memory.plan (λ h. s.link.host) []))
-
     far : Clean s.link.host.side
     far =
         let P : Link → Type 0 = λ l. Clean l.host.side in
@@ -509,14 +416,6 @@ host_ticks_fine s a = go s.node a.node
     link h sends =
         let P : Link → Type 0 = λ l. IsFineLink (exchanged (ticks_at_controller (exchanged l) h.turns h.ending)) in
         subst P (sym a.is) (ticks_fine a.base a.late a.had h (record { controller = a.sends; host = sends }) a.fine)
-
-    go : (o : Option Running) → IsFineNode o → IsFineSite (by o).0
-    go None n = record { link = link (record { turns = []; ending = GoesOut }) tt; node = a.node }
-    go (Some r) n =
-        let k : Work = steps TimePasses (work_of r s.memory.plan (λ h. s.link.host) []) in
-        let done : IsFineWork k =
-        steps_fine TimePasses (work_of r s.memory.plan (λ h. s.link.host) []) (ports_fine (λ h. s.link.host) (λ h. far) r.desks n) in
-        record { link = link (record { turns = turns_at k s.host; ending = ending_of k }) (turns_fine k s.host done); node = runs_fine k done }
 
 hosts_tick_fine : (sites : List Site) → AllByRecursion IsNear sites → AreFineSites (hosts_tick sites).0
 hosts_tick_fine [] a = tt

@@ -56,7 +56,7 @@ use Rattle.node_telling.proofs.Worlds.{site_is, node_is, HostDoes, host_does_ste
 use Rattle.node_telling.proofs.Events.{memory_goes, comes_goes}
 use Rattle.node_readings.proofs.NoticedWorlds.{far_side}
 use Rattle.node_order.specs.Told.{IsLinkTold}
-use Rattle.node_order.proofs.Unnoticed.{IfNone, IsHostWork, AreUnnoticed, all_done_none, steps_none, runs_none}
+use Rattle.node_order.proofs.Unnoticed.{IfNone, HasNoNotices, AreUnnoticed, all_done_none, steps_none, runs_none}
 use Rattle.node_order.proofs.Watches.{IsStepOf, WatchedLink, watched, unwatched, opened, watch_begins, watched-append}
 use Rattle.node_order.proofs.Knowing.{told_more, LeaveLink, told_same, cut_clf, cut_uicc, Knows, Each, later, each_empty, each_back, each_alike, was_there}
 use Rattle.node_order.proofs.Knowing.{each_map, each_site}
@@ -204,7 +204,7 @@ module _ (w : NodeWorld) (t : List Entry) (X : ℕ → WatchedLink) (a : IsWell 
 module _ (w : NodeWorld) (t : List Entry) (X : ℕ → WatchedLink) (a : IsWell w) (each : Each t X w) (k : ℕ) (comes : Comes) (f : Work → Work)
     (reach : AllByRecursion (AtHostOnly (CanReach comes) k) w.sites)
     (does : (s : Site) (r : Running) → site_at w.sites k ≡ Some s → s.node ≡ Some r → HostDoes w k comes f s r)
-    (fine : (v : Work) → IsFineWork v → IsFineWork (f v)) (plain : (v : Work) → IsHostWork v → IsHostWork (f v))
+    (fine : (v : Work) → IsFineWork v → IsFineWork (f v)) (plain : (v : Work) → HasNoNotices v → HasNoNotices (f v))
     (o : Option LinkInput) (so : IsStep comes o)
     (q : (s : Site) → site_at w.sites k ≡ Some s → input_of (exchanged s.link) comes ≡ o)
     (plain_wires : (s : Site) → site_at w.sites k ≡ Some s → opened comes (X k) ≡ X k) where

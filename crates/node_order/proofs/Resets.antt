@@ -5,7 +5,6 @@ use Rattle.std.specs.List.{list_any}
 use Rattle.std.proofs.lemmas.Bool.{true≢false}
 use Rattle.std.proofs.lemmas.List.Folds.{list_any-append}
 use Rattle.trace_model.specs.declared.entry.Entry.{Entry}
-use Rattle.trace_model.specs.declared.entry.NoCause.{NoCause}
 use Rattle.trace_model.specs.declared.entry.NoCause.TheVariants as no
 use Rattle.trace_model.specs.declared.line.End.{End}
 use Rattle.trace_model.specs.declared.line.Line.TheVariants as line
@@ -36,11 +35,12 @@ use Rattle.node_machine.specs.Node.NodeInput.{AtEnd}
 use Rattle.node_world.specs.World.{Site, NodeWorld, site_at, with_site, node_at, node_of, turns_at, ending_of, controller_work, link_after_controller}
 use Rattle.node_world.specs.World.{after_controller, controller_does, host_work, after_host, host_does, world_step}
 use Rattle.node_world.specs.World.Happening.{Resets}
-use Rattle.node_world.specs.Lines.{first_cause, if_off, machine_in, refusal_in}
+use Rattle.node_world.specs.Lines.{if_off, machine_in, refusal_in}
 use Rattle.node_links.specs.Runs.{new_line, IsRunOf}
 use Rattle.node_links.proofs.Sites.{run_of_more}
 use Rattle.node_links.proofs.Works.{steps_fine}
 use Rattle.node_links.proofs.Playing.{plain_reach}
+use Rattle.kept_laws.proofs.Lines.{first_none}
 use Rattle.node_telling.specs.Standing.{Standing}
 use Rattle.node_telling.proofs.Nodes.{site_host, link_is}
 use Rattle.node_telling.proofs.Worlds.{host_does_step}
@@ -101,10 +101,6 @@ module _ (h : ℕ) (l : Link) (window : Option ℕ) (ts : List Turn) (u : List E
       ∙ no_cut h u (event_entries l (AtHost (Step (AsksReset window) ts CutOff))) powered n.stands))
 
 -- ## A reset in a world
-
-pub first_none : (a b : Option NoCause) → first_cause a b ≡ None → (a ≡ None) × (b ≡ None)
-first_none None b q = (refl, q)
-first_none (Some cause) b q = absurd (cc q)
 
 on_if : (b : Bool) → (cond b None (Some no.Off)) ≡ None → b ≡ true
 on_if true q = refl

@@ -1,5 +1,5 @@
 -- Nothing is told of a link with a host that isn't in the world, and no host comes to it.
-use Rattle.std.proofs.Common.{◌≡◌, ℕ, ◌==◌, Bool, true, false, cond, List, [], ◌∷◌, ◌++◌, length, Option, Some, None, map, refl, ap, sym, subst, ◌∙◌}
+use Rattle.std.proofs.Common.{◌≡◌, ℕ, ◌==◌, Bool, true, false, List, [], ◌∷◌, ◌++◌, length, Option, Some, None, map, refl, ap, sym, subst, ◌∙◌}
 use Rattle.std.specs.List.{AllByRecursion, flat_map}
 use Rattle.std.proofs.lemmas.Bool.{eqb-true}
 use Rattle.swp_base.specs.InMemory.{Memory}
@@ -10,27 +10,26 @@ use Rattle.journal_laws.specs.Journal.{count_of}
 use Rattle.journal_laws.specs.Planned.{fails_within, after_planned}
 use Rattle.link_machine.specs.Machine.{LinkInput}
 use Rattle.link_machine.specs.Machine.Role.{Bare}
-use Rattle.message_link.specs.Links.{NumberedEnd, Link, Comes, Loss, new_link, exchanged, aged, ticks_at_controller, happens}
+use Rattle.message_link.specs.Links.{NumberedEnd, Link, Comes, Loss, new_link, exchanged, aged, happens}
 use Rattle.message_link.specs.Links.Comes.{NextFrame, AsksReset, Starts, Stops, NoInput}
-use Rattle.message_link.specs.Links.Ending.{GoesOut, CutOff}
-use Rattle.message_link.specs.Links.EndEvent.{Step, Lose}
+use Rattle.message_link.specs.Links.Ending.{CutOff}
+use Rattle.message_link.specs.Links.EndEvent.{Step}
 use Rattle.message_link.specs.Links.LinkEvent.{AtController}
-use Rattle.link_entries.specs.Entries.{aged_entries, first_lost}
+use Rattle.link_entries.specs.Entries.{Entry as Noted, aged_entries, first_lost}
 use Rattle.link_entries.specs.Entries.End.{Controller, Host}
-use Rattle.history.specs.Steps.{at, entries_for}
-use Rattle.history.specs.Follows.{seen_from}
+use Rattle.history.specs.Steps.{entries_for}
 use Rattle.node_machine.specs.Parts.{Desk, Running, Work, Deed}
 use Rattle.node_machine.specs.Carrying.{port_at}
 use Rattle.node_machine.specs.Node.{steps, begins_with, found, boot_writes}
 use Rattle.node_machine.specs.Node.NodeInput.{AtEnd}
-use Rattle.node_world.specs.World.{Site, NodeWorld, Happening, site_at, with_site, link_to, input_of, near_end_in, arrival, work_of, ending_of, turns_at}
-use Rattle.node_world.specs.World.{comes_to, controller_work, link_after_controller, after_controller, controller_does, host_work, after_host, host_does}
-use Rattle.node_world.specs.World.{frames_noted, wires_for, controller_cut, host_cut, loses_power_at, memory_at, with_memory, with_node, links_of, boots}
-use Rattle.node_world.specs.World.{counts, frame_lost, sending, beginning, comes_at, end_c, end_h, all_aged, is_late_at, ticked_so, controller_ticks}
+use Rattle.node_world.specs.World.{Site, NodeWorld, Happening, site_at, link_to, input_of, near_end_in, arrival, work_of}
+use Rattle.node_world.specs.World.{comes_to, controller_work, link_after_controller, controller_does, host_work, after_host, host_does}
+use Rattle.node_world.specs.World.{frames_noted, wires_for, host_cut, loses_power_at, memory_at, with_memory, with_node, links_of, boots}
+use Rattle.node_world.specs.World.{counts, frame_lost, sending, beginning, comes_at, end_c, end_h, all_aged, controller_ticks}
 use Rattle.node_world.specs.World.{hosts_tick, world_ticks, world_step}
 use Rattle.node_world.specs.World.Happening.{Boots, IsCut, Gives, Inits, Takes, Loses, Ticks, Resets, Activates, Arms}
 use Rattle.kept_laws.proofs.Sites.{hosts_same, hosts_with}
-use Rattle.node_telling.specs.Telling.{of_link, IfItRuns, hosts_in, IsOrderly}
+use Rattle.node_telling.specs.Telling.{of_link, HasEnds, IfItRuns, hosts_in, IsOrderly}
 use Rattle.node_telling.proofs.Mute.{AreMute}
 use Rattle.node_telling.proofs.Accounts.{of-append, of_other}
 use Rattle.node_telling.proofs.Away.{Away}
@@ -39,7 +38,9 @@ use Rattle.node_telling.proofs.Ticks.{away_tick}
 use Rattle.node_telling.proofs.Nodes.{ports_for, link_is}
 use Rattle.node_telling.proofs.Worlds.{HostDoes, host_does_step, host_does_begin}
 use Rattle.node_telling.proofs.Events.{sending_mute, comes_goes, orderly_map}
-use Rattle.node_telling.proofs.WorldTicks.{near_tick, near_orderly, other_hosts}
+use Rattle.node_telling.proofs.WorldTicks.{near_orderly, other_hosts}
+use Rattle.node_world.proofs.Cases.{by_controller, by_host, by_coming, by_power, by_memory, by_running, boot_written, boot_found, by_boot, site_lost, by_loss}
+use Rattle.node_world.proofs.Cases.{site_unticked, site_ticked, near_tick, by_controller_tick}
 use Rattle.node_telling.proofs.Orderly.{hosts_ticked}
 
 -- ## Hosts stay
@@ -48,133 +49,46 @@ abbrev IsKept : NodeWorld → NodeWorld → Type 0
 IsKept w v = hosts_in v.sites ≡ hosts_in w.sites
 
 controller_kept : (w : NodeWorld) (k : ℕ) (comes : Comes) (f : Work → Work) → IsKept w (controller_does w k comes f).0
-controller_kept w k comes f = go w.controller
-  where
-    by : Option Running → NodeWorld × List Entry
-    by None = (w, [])
-    by (Some r) = after_controller w k comes (controller_work w r k comes f)
-
-    go : (o : Option Running) → IsKept w (by o).0
-    go None = refl
-    go (Some r) = hosts_same (link_after_controller k comes (controller_work w r k comes f)) (λ s. refl) w.sites
+controller_kept w k comes f =
+    by_controller (λ p. IsKept w p.0) w k comes f refl
+    (λ r q. hosts_same (link_after_controller k comes (controller_work w r k comes f)) (λ s. refl) w.sites)
 
 host_kept : (w : NodeWorld) (k : ℕ) (comes : Comes) (f : Work → Work) → IsKept w (host_does w k comes f).0
-host_kept w k comes f = go (site_at w.sites k)
-  where
-    by_node : Site → Option Running → NodeWorld × List Entry
-    by_node s None = (w, [])
-    by_node s (Some r) = (
-      record w { sites = with_site k (after_host comes (host_work s r comes f)) w.sites },
-      (host_work s r comes f).entries ++ frames_noted Host k (wires_for (exchanged s.link) comes) (host_work s r comes f),
-    )
-
-    by : Option Site → NodeWorld × List Entry
-    by None = (w, [])
-    by (Some s) = by_node s s.node
-
-    runs : (s : Site) (o : Option Running) → IsKept w (by_node s o).0
-    runs s None = refl
-    runs s (Some r) = hosts_with k (after_host comes (host_work s r comes f)) (λ x. refl) w.sites
-
-    go : (o : Option Site) → IsKept w (by o).0
-    go None = refl
-    go (Some s) = runs s s.node
+host_kept w k comes f =
+    by_host (λ p. IsKept w p.0) w k comes f refl (λ s r found q. hosts_with k (after_host comes (host_work s r comes f)) (λ x. refl) w.sites)
 
 comes_kept : (w : NodeWorld) (e : End) (comes : Comes) → IsKept w (comes_at w e comes).0
-comes_kept w e comes = go (input_of (seen_from e (link_to w.sites e.link)) comes) e.at_host
-  where
-    by : Option LinkInput → Bool → NodeWorld × List Entry
-    by None at_host = (w, [])
-    by (Some i) true = host_does w e.link comes (steps (AtEnd e.link i))
-    by (Some i) false = controller_does w e.link comes (steps (AtEnd e.link i))
-
-    go : (o : Option LinkInput) (b : Bool) → IsKept w (by o b).0
-    go None b = refl
-    go (Some i) true = host_kept w e.link comes (steps (AtEnd e.link i))
-    go (Some i) false = controller_kept w e.link comes (steps (AtEnd e.link i))
+comes_kept w e comes =
+    by_coming (λ p. IsKept w p.0) w e comes refl (λ i side q. host_kept w e.link comes (steps (AtEnd e.link i)))
+    (λ i side q. controller_kept w e.link comes (steps (AtEnd e.link i)))
 
 memory_kept : (n : ℕ) (m : Memory) (w : NodeWorld) → IsKept w (with_memory n m w)
-memory_kept n m w = go (n == 0)
-  where
-    by : Bool → NodeWorld
-    by true = record w { memory = m }
-    by false = record w { sites = with_site n (λ s. record s { memory = m }) w.sites }
-
-    go : (b : Bool) → IsKept w (by b)
-    go true = refl
-    go false = hosts_with n (λ s. record s { memory = m }) (λ s. refl) w.sites
+memory_kept n m w = by_memory (IsKept w) n w m (λ z. refl) (λ z. hosts_with n (λ s. record s { memory = m }) (λ s. refl) w.sites)
 
 power_kept : (n : ℕ) (w : NodeWorld) → IsKept w (loses_power_at n w)
-power_kept n w = go (n == 0)
-  where
-    by : Bool → NodeWorld
-    by true = controller_cut w
-    by false = record w { sites = with_site n host_cut w.sites }
-
-    go : (b : Bool) → IsKept w (by b)
-    go true = hosts_same (λ (s : Site). record s { link = happens s.link (AtController (Step NoInput [] CutOff)) }) (λ s. refl) w.sites
-    go false = hosts_with n host_cut (λ s. refl) w.sites
+power_kept n w =
+    by_power (IsKept w) n w
+    (λ z. hosts_same (λ (s : Site). record s { link = happens s.link (AtController (Step NoInput [] CutOff)) }) (λ s. refl) w.sites)
+    (λ z. hosts_with n host_cut (λ s. refl) w.sites)
 
 node_kept : (n : ℕ) (r : Running) (w : NodeWorld) → IsKept w (with_node n r w)
-node_kept n r w = go (n == 0)
-  where
-    by : Bool → NodeWorld
-    by true = record w { controller = Some r }
-    by false = record w { sites = with_site n (λ s. record s { node = Some r }) w.sites }
-
-    go : (b : Bool) → IsKept w (by b)
-    go true = refl
-    go false = hosts_with n (λ s. record s { node = Some r }) (λ s. refl) w.sites
+node_kept n r w = by_running (IsKept w) n w r (λ z. refl) (λ z. hosts_with n (λ s. record s { node = Some r }) (λ s. refl) w.sites)
 
 boots_kept : (w : NodeWorld) (n : ℕ) → IsKept w (boots w n).0
-boots_kept w n = go (fails_within (length (boot_writes (memory_at w n).content)) (memory_at w n).plan)
-  where
-    written : NodeWorld
-    written = with_memory n (after_planned (boot_writes (memory_at w n).content) (memory_at w n)) w
-
-    kept : IsKept w written
-    kept = memory_kept n (after_planned (boot_writes (memory_at w n).content) (memory_at w n)) w
-
-    r : Running
-    r = found n (links_of w n) (memory_at w n).content
-
-    by : Bool → NodeWorld × List Entry
-    by true = (loses_power_at n written, entry.Cut n ∷ [])
-    by false = (with_node n r written, entry.Booted n (count_of r.core.journal) ∷ [])
-
-    go : (b : Bool) → IsKept w (by b).0
-    go true = power_kept n written ∙ kept
-    go false = node_kept n r written ∙ kept
+boots_kept w n =
+    let kept : IsKept w (boot_written w n) = memory_kept n (after_planned (boot_writes (memory_at w n).content) (memory_at w n)) w in
+    by_boot (λ p. IsKept w p.0) w n (power_kept n (boot_written w n) ∙ kept) (node_kept n (boot_found w n) (boot_written w n) ∙ kept)
 
 lost_kept : (w : NodeWorld) (e : End) (why : Loss) → IsKept w (frame_lost w e why).0
-lost_kept w e why = go e.at_host
-  where
-    lost : Site → Site
-    lost s = record s { link = happens s.link (at e (Lose why)) }
-
-    by : Bool → NodeWorld × List Entry
-    by false = (
-      record w { controller = counts why e.link w.controller; sites = with_site e.link lost w.sites },
-      entries_for e.link (first_lost Controller why (link_to w.sites e.link).to_controller),
-    )
-    by true = (
-      record w { sites = with_site e.link (λ s. record (lost s) { node = counts why e.link s.node }) w.sites },
-      entries_for e.link (first_lost Host why (link_to w.sites e.link).to_host),
-    )
-
-    go : (b : Bool) → IsKept w (by b).0
-    go false = hosts_with e.link lost (λ s. refl) w.sites
-    go true = hosts_with e.link (λ s. record (lost s) { node = counts why e.link s.node }) (λ s. refl) w.sites
+lost_kept w e why =
+    by_loss (λ p. IsKept w p.0) w e why
+    (λ side. hosts_with e.link (λ s. record (site_lost e why s) { node = counts why e.link s.node }) (λ s. refl) w.sites)
+    (λ side. hosts_with e.link (site_lost e why) (λ s. refl) w.sites)
 
 near_kept : (w : NodeWorld) → IsKept w (controller_ticks w).0
-near_kept w = go w.controller refl
-  where
-    go : (o : Option Running) → w.controller ≡ o → IsKept w (controller_ticks w).0
-    go None e = rw e (hosts_same (λ (s : Site). record s { link = ticks_at_controller s.link [] GoesOut }) (λ s. refl) w.sites)
-    go (Some r) e =
-        rw e (hosts_same (λ (s : Site). record s {
-          link = ticked_so s.link (is_late_at (near_tick w r) s.host) (turns_at (near_tick w r) s.host) (ending_of (near_tick w r));
-        }) (λ s. refl) w.sites)
+near_kept w =
+    by_controller_tick (λ p. IsKept w p.0) w (λ q. hosts_same site_unticked (λ s. refl) w.sites)
+    (λ r q. hosts_same (site_ticked (near_tick w r)) (λ s. refl) w.sites)
 
 ticks_kept : (w : NodeWorld) → IsKept w (world_ticks w).0
 ticks_kept w =
@@ -242,23 +156,18 @@ module _ (h : ℕ) (w : NodeWorld) (orderly : IsOrderly w) (strange : IsStrange 
       go false q = of_other k h (arrival Controller (link_to w.sites k) comes) q
 
   controller_none : (k : ℕ) (comes : Comes) (i : LinkInput) → of_link h (controller_does w k comes (steps (AtEnd k i))).1 ≡ []
-  controller_none k comes i = go w.controller orderly.controller
-    where
-      by : Option Running → NodeWorld × List Entry
-      by None = (w, [])
-      by (Some r) = after_controller w k comes (controller_work w r k comes (steps (AtEnd k i)))
-
-      go : (o : Option Running) → IfItRuns 0 (hosts_in w.sites) o → of_link h (by o).1 ≡ []
-      go None n = refl
-      go (Some r) n =
-          let near_ends : ℕ → NumberedEnd = λ j. near_end_in (link_to w.sites j) (comes_to k comes j) in
-          let v : Work = controller_work w r k comes (steps (AtEnd k i)) in
-          let f : Site → List Entry = λ s. frames_noted Controller s.host (wires_for s.link (comes_to k comes s.host)) v in
-          let away : Away h v = away_steps h k i (work_of r w.memory.plan near_ends (entries_for k (arrival Controller (link_to w.sites k) comes)))
-          (record { none = no_port near_ends r.desks (hosts_in w.sites) h n.ends strange; told = arrival_none k comes }) in
-          of-append h v.entries (flat_map f w.sites)
-          ∙ (ap (λ t. t ++ of_link h (flat_map f w.sites)) away.told
-          ∙ of_sites h f (λ x q. frames_of h x.host Controller (wires_for x.link (comes_to k comes x.host)) v q) w.sites strange)
+  controller_none k comes i =
+      by_controller (λ p. of_link h p.1 ≡ []) w k comes (steps (AtEnd k i)) refl
+      (λ r z.
+      let n : HasEnds 0 (hosts_in w.sites) r = subst (IfItRuns 0 (hosts_in w.sites)) z orderly.controller in
+      let near_ends : ℕ → NumberedEnd = λ j. near_end_in (link_to w.sites j) (comes_to k comes j) in
+      let v : Work = controller_work w r k comes (steps (AtEnd k i)) in
+      let f : Site → List Entry = λ s. frames_noted Controller s.host (wires_for s.link (comes_to k comes s.host)) v in
+      let away : Away h v = away_steps h k i (work_of r w.memory.plan near_ends (entries_for k (arrival Controller (link_to w.sites k) comes)))
+      (record { none = no_port near_ends r.desks (hosts_in w.sites) h n.ends strange; told = arrival_none k comes }) in
+      of-append h v.entries (flat_map f w.sites)
+      ∙ (ap (λ t. t ++ of_link h (flat_map f w.sites)) away.told
+      ∙ of_sites h f (λ x q. frames_of h x.host Controller (wires_for x.link (comes_to k comes x.host)) v q) w.sites strange))
 
   host_none : (k : ℕ) (comes : Comes) (f : Work → Work)
       → ((s : Site) (r : Running) → site_at w.sites k ≡ Some s → s.node ≡ Some r → HostDoes w k comes f s r)
@@ -284,74 +193,38 @@ module _ (h : ℕ) (w : NodeWorld) (orderly : IsOrderly w) (strange : IsStrange 
           go (Some s) e = runs s e s.node refl
 
   comes_none : (e : End) (comes : Comes) → of_link h (comes_at w e comes).1 ≡ []
-  comes_none e comes = go (input_of (seen_from e (link_to w.sites e.link)) comes) e.at_host refl refl
-    where
-      by : Option LinkInput → Bool → NodeWorld × List Entry
-      by None at_host = (w, [])
-      by (Some i) true = host_does w e.link comes (steps (AtEnd e.link i))
-      by (Some i) false = controller_does w e.link comes (steps (AtEnd e.link i))
-
-      seen : Bool → Link → Link
-      seen b l = cond b (exchanged l) l
-
-      go : (o : Option LinkInput) (b : Bool) → input_of (seen_from e (link_to w.sites e.link)) comes ≡ o → e.at_host ≡ b → of_link h (by o b).1 ≡ []
-      go None b q r = refl
-      go (Some i) true q r =
-          host_none e.link comes (steps (AtEnd e.link i))
-          (λ s n found runs. host_does_step w s n e.link orderly found runs comes i
-          (ap (λ l. input_of (exchanged l) comes) (sym (link_is w.sites e.link s found))
-          ∙ (ap (λ b. input_of (seen b (link_to w.sites e.link)) comes) (sym r) ∙ q)))
-      go (Some i) false q r = controller_none e.link comes i
+  comes_none e comes =
+      by_coming (λ p. of_link h p.1 ≡ []) w e comes refl
+      (λ i side q. host_none e.link comes (steps (AtEnd e.link i))
+      (λ s n found runs. host_does_step w s n e.link orderly found runs comes i
+      (ap (λ l. input_of (exchanged l) comes) (sym (link_is w.sites e.link s found)) ∙ q)))
+      (λ i side q. controller_none e.link comes i)
 
   begins_none : (k : ℕ) (deeds : List Deed) → AreMute deeds → of_link h (host_does w k NoInput (begins_with k deeds)).1 ≡ []
   begins_none k deeds m = host_none k NoInput (begins_with k deeds) (λ s r found runs. host_does_begin w s r k orderly found runs deeds m)
 
   lost_none : (e : End) (why : Loss) → of_link h (frame_lost w e why).1 ≡ []
-  lost_none e why = go e.at_host
+  lost_none e why =
+      by_loss (λ p. of_link h p.1 ≡ []) w e why (λ side. here (λ l. first_lost Host why l.to_host) refl (e.link == h) refl)
+      (λ side. here (λ l. first_lost Controller why l.to_controller) refl (e.link == h) refl)
     where
-      lost : Site → Site
-      lost s = record s { link = happens s.link (at e (Lose why)) }
-
-      by : Bool → NodeWorld × List Entry
-      by false = (
-        record w { controller = counts why e.link w.controller; sites = with_site e.link lost w.sites },
-        entries_for e.link (first_lost Controller why (link_to w.sites e.link).to_controller),
-      )
-      by true = (
-        record w { sites = with_site e.link (λ s. record (lost s) { node = counts why e.link s.node }) w.sites },
-        entries_for e.link (first_lost Host why (link_to w.sites e.link).to_host),
-      )
-
-      here : (c : Bool) → (e.link == h) ≡ c → (b : Bool) → of_link h (by b).1 ≡ []
-      here true q false = ap (λ (l : Link). of_link h (entries_for e.link (first_lost Controller why l.to_controller))) (link_none e.link q)
-      here true q true = ap (λ (l : Link). of_link h (entries_for e.link (first_lost Host why l.to_host))) (link_none e.link q)
-      here false q false = of_other e.link h (first_lost Controller why (link_to w.sites e.link).to_controller) q
-      here false q true = of_other e.link h (first_lost Host why (link_to w.sites e.link).to_host) q
-
-      go : (b : Bool) → of_link h (by b).1 ≡ []
-      go b = here (e.link == h) refl b
+      here : (f : Link → List Noted) → f (new_link Bare Bare) ≡ [] → (c : Bool) → (e.link == h) ≡ c
+          → of_link h (entries_for e.link (f (link_to w.sites e.link))) ≡ []
+      here f none true q = ap (λ (l : Link). of_link h (entries_for e.link (f l))) (link_none e.link q) ∙ ap (λ z. of_link h (entries_for e.link z)) none
+      here f none false q = of_other e.link h (f (link_to w.sites e.link)) q
 
   near_none : of_link h (controller_ticks w).1 ≡ []
-  near_none = go w.controller refl orderly.controller
-    where
-      none_is : w.controller ≡ None → (controller_ticks w).1 ≡ []
-      none_is e = rw e refl
-
-      some_is : (r : Running) → w.controller ≡ Some r
-          → (controller_ticks w).1 ≡ (near_tick w r).entries ++ flat_map (λ (x : Site). frames_noted Controller x.host x.link (near_tick w r)) w.sites
-      some_is r e = rw e refl
-
-      go : (o : Option Running) → w.controller ≡ o → IfItRuns 0 (hosts_in w.sites) o → of_link h (controller_ticks w).1 ≡ []
-      go None e n = ap (of_link h) (none_is e)
-      go (Some r) e n =
-          let near_ends : ℕ → NumberedEnd = λ j. (link_to w.sites j).controller in
-          let f : Site → List Entry = λ x. frames_noted Controller x.host x.link (near_tick w r) in
-          let away : Away h (near_tick w r) = away_tick h (work_of r w.memory.plan near_ends [])
-          (record { none = no_port near_ends r.desks (hosts_in w.sites) h n.ends strange; told = refl }) in
-          ap (of_link h) (some_is r e)
-          ∙ (of-append h (near_tick w r).entries (flat_map f w.sites)
-          ∙ (ap (λ t. t ++ of_link h (flat_map f w.sites)) away.told
-          ∙ of_sites h f (λ x q. frames_of h x.host Controller x.link (near_tick w r) q) w.sites strange))
+  near_none =
+      by_controller_tick (λ p. of_link h p.1 ≡ []) w (λ z. refl)
+      (λ r z.
+      let n : HasEnds 0 (hosts_in w.sites) r = subst (IfItRuns 0 (hosts_in w.sites)) z orderly.controller in
+      let near_ends : ℕ → NumberedEnd = λ j. (link_to w.sites j).controller in
+      let f : Site → List Entry = λ x. frames_noted Controller x.host x.link (near_tick w r) in
+      let away : Away h (near_tick w r) = away_tick h (work_of r w.memory.plan near_ends [])
+      (record { none = no_port near_ends r.desks (hosts_in w.sites) h n.ends strange; told = refl }) in
+      of-append h (near_tick w r).entries (flat_map f w.sites)
+      ∙ (ap (λ t. t ++ of_link h (flat_map f w.sites)) away.told
+      ∙ of_sites h f (λ x q. frames_of h x.host Controller x.link (near_tick w r) q) w.sites strange))
 
 ticks_none : (h : ℕ) (w : NodeWorld) → IsOrderly w → IsStrange h (hosts_in w.sites) → of_link h (world_ticks w).1 ≡ []
 ticks_none h w orderly strange =

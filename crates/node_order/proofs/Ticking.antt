@@ -33,7 +33,8 @@ use Rattle.node_links.proofs.Worlds.{AreTrueDesks, IsFineNode, IsFineSite, AreFi
 use Rattle.node_telling.specs.Telling.{IfItRuns, is_due, NoneDue, IfOff, IfDue, IsTimely}
 use Rattle.node_telling.proofs.Nodes.{link_is, ports_for}
 use Rattle.node_telling.proofs.Worlds.{site_is}
-use Rattle.node_telling.proofs.WorldTicks.{host_tick, host_is, tick_host, host_turns, between, between_far, near_tick, near_turns, tick_event, Ticking, ticking}
+use Rattle.node_telling.proofs.WorldTicks.{host_is, tick_host, host_turns, between, between_far, near_turns, tick_event, Ticking, ticking}
+use Rattle.node_world.proofs.Cases.{near_tick, host_tick}
 use Rattle.node_readings.specs.Noticed.{IfNoticedUp, NoticesAreUp}
 use Rattle.node_readings.proofs.NoticedWorlds.{host_tick_side}
 use Rattle.node_order.specs.Told.{IsLinkTold}

@@ -1,27 +1,26 @@
 -- A host keeps no notice of a controller: nothing that it does in a step gives it one.
 use Rattle.std.proofs.Common.{◌≡◌, ◌∙◌, ℕ, ◌==◌, Bool, true, false, cond, List, [], ◌∷◌, refl, ap, length}
 use Rattle.std.specs.Prelude.{Option, Some, None, map}
-use Rattle.std.specs.List.{AllByRecursion, flat_map, list_any}
-use Rattle.std.specs.Option.{option_map_or}
-use Rattle.trace_model.specs.declared.entry.Entry.TheVariants as entry
+use Rattle.std.specs.List.{AllByRecursion, flat_map}
 use Rattle.journal_laws.specs.Planned.{fails_within}
 use Rattle.hci_tables.specs.declared.command.Command.{Command}
 use Rattle.hci_tables.specs.Bodies.{body_of}
 use Rattle.hci_store.specs.Committing.{commit_writes}
-use Rattle.link_machine.specs.Machine.{Message, LinkInput, Turn, is_held}
+use Rattle.link_machine.specs.Machine.{Message, LinkInput, Turn}
 use Rattle.link_machine.specs.Machine.Turn.{Give, Hold, FetchMessage, Release}
 use Rattle.node_machine.specs.Parts.{Desk, Core, Running, Port, Work, Deed}
 use Rattle.node_machine.specs.Parts.Deed.{Commits, Sends, SaysOk, Asks, Releases, Tells, IsAnswered, Drops, SetsErrors, Orders, Hears, GoesOn, Ends}
-use Rattle.node_machine.specs.Carrying.{end_of_node, noting, unless_cut, port_at, changed_if, with_port, with_desk, after_turn, turn_at, commit, done, all_done}
-use Rattle.node_machine.specs.Carrying.{needs, lack}
+use Rattle.node_machine.specs.Carrying.{port_at, changed_if, with_port, with_desk, after_turn, turn_at, commit, done, all_done}
 use Rattle.node_machine.specs.Controller.{asked_at}
-use Rattle.node_machine.specs.Turns.{deeds_of, handles, holds_back, lets_go, have_turns, goes_through_ends, passes}
+use Rattle.node_machine.specs.Turns.{deeds_of}
 use Rattle.node_machine.specs.Node.{NodeInput, input_at, has_come, all_come, with_older, is_late, reset_late, times_out, is_over, is_forgotten, forgotten}
 use Rattle.node_machine.specs.Node.{forgets, all_owed, without_notice, after_sessions, synced, steps}
 use Rattle.node_machine.specs.Node.NodeInput.{AtEnd, TimePasses}
 use Rattle.node_world.specs.World.{runs_on}
-use Rattle.node_laws.proofs.Walks.{Plain, OfHost, all_of_host, forgotten_hold, all_owed_hold, all_synced_hold}
+use Rattle.node_laws.proofs.Walks.{Plain, OfHost, all_of_host, forgotten_hold, all_owed_hold, all_synced_hold, anyone}
 use Rattle.node_links.proofs.Noticing.{came_node}
+use Rattle.node_laws.proofs.StepWalks.{got_at, all_do, Lasts, rest_lasts}
+use Rattle.node_laws.proofs.Ports.{sessions_node}
 
 -- ## Deeds
 
@@ -46,7 +45,7 @@ own core = record { commits = λ c. tt; hears = tt; goes_on = λ i. tt; orders =
 abbrev HasNone : Port → Type 0
 HasNone p = p.desk.notice ≡ None
 
-pub record IsHostWork (w : Work) : Type 0 where
+pub record HasNoNotices (w : Work) : Type 0 where
   pub host : (w.core.node == 0) ≡ false
   pub none : AllByRecursion HasNone w.ports
 
@@ -63,20 +62,20 @@ port_none : (h : ℕ) (f : Port → Port) → ((q : Port) → HasNone q → HasN
     → AllByRecursion HasNone (with_port h f ports)
 port_none h f one ports a = none_map (λ (p : Port). changed_if (p.desk.host == h) f p) (λ p b. changed_none (p.desk.host == h) f p one b) ports a
 
-turn_none : (h : ℕ) (t : Turn) (w : Work) → IsHostWork w → IsHostWork (turn_at h t w)
+turn_none : (h : ℕ) (t : Turn) (w : Work) → HasNoNotices w → HasNoNotices (turn_at h t w)
 turn_none h t w a = record { host = a.host; none = port_none h (after_turn t) (λ p b. b) w.ports a.none }
 
-desk_none : (h : ℕ) (f : Desk → Desk) (w : Work) → ((d : Desk) → d.notice ≡ None → (f d).notice ≡ None) → IsHostWork w → IsHostWork (with_desk h f w)
+desk_none : (h : ℕ) (f : Desk → Desk) (w : Work) → ((d : Desk) → d.notice ≡ None → (f d).notice ≡ None) → HasNoNotices w → HasNoNotices (with_desk h f w)
 desk_none h f w one a = record { host = a.host; none = port_none h (λ p. record p { desk = f p.desk }) (λ p b. one p.desk b) w.ports a.none }
 
-commit_none : (c : Command) (w : Work) → IsHostWork w → IsHostWork (commit c w)
+commit_none : (c : Command) (w : Work) → HasNoNotices w → HasNoNotices (commit c w)
 commit_none c w a = go (fails_within (length (commit_writes w.core.journal w.core.tables (body_of c))) w.plan) refl
   where
-    go : (b : Bool) → fails_within (length (commit_writes w.core.journal w.core.tables (body_of c))) w.plan ≡ b → IsHostWork (commit c w)
+    go : (b : Bool) → fails_within (length (commit_writes w.core.journal w.core.tables (body_of c))) w.plan ≡ b → HasNoNotices (commit c w)
     go true q = rw q (record { host = a.host; none = a.none })
     go false q = rw q (record { host = a.host; none = a.none })
 
-done_none : (h : ℕ) (d : Deed) (w : Work) → IsUnnoticed d → IsHostWork w → IsHostWork (done h d w)
+done_none : (h : ℕ) (d : Deed) (w : Work) → IsUnnoticed d → HasNoNotices w → HasNoNotices (done h d w)
 done_none h (Commits c) w u a = commit_none c w a
 done_none h (Sends to m) w u a = turn_none to (Give m) w a
 done_none h SaysOk w u a = record { host = a.host; none = a.none }
@@ -92,20 +91,8 @@ done_none h Hears w u a = record { host = a.host; none = a.none }
 done_none h (GoesOn i) w u a = record { host = a.host; none = a.none }
 done_none h (Ends e) w u a = record { host = a.host; none = a.none }
 
-unless_none : (f : Work → Work) (w : Work) → ((v : Work) → IsHostWork v → IsHostWork (f v)) → IsHostWork w → IsHostWork (unless_cut f w)
-unless_none f w one a = go w.cut
-  where
-    by : Bool → Work
-    by true = w
-    by false = f w
-
-    go : (b : Bool) → IsHostWork (by b)
-    go true = a
-    go false = one w a
-
-pub all_done_none : (h : ℕ) (deeds : List Deed) (w : Work) → AreUnnoticed deeds → IsHostWork w → IsHostWork (all_done h deeds w)
-all_done_none h [] w u a = a
-all_done_none h (d ∷ deeds) w u a = unless_none (all_done h deeds) (done h d w) (λ v b. all_done_none h deeds v u.1 b) (done_none h d w u.0 a)
+pub all_done_none : (h : ℕ) (deeds : List Deed) (w : Work) → AreUnnoticed deeds → HasNoNotices w → HasNoNotices (all_done h deeds w)
+all_done_none h deeds w u a = all_do HasNoNotices IsUnnoticed done_none h deeds w u a
 
 -- ## The pass over its ends
 
@@ -116,51 +103,20 @@ deeds_unnoticed core ports h m off = go (port_at ports h) refl
     go None q = rw (off, q) tt
     go (Some p) q = rw (off, q) (all_of_host IsUnnoticed core plain (own core) p m (λ n value command zero is. tt))
 
-handles_none : (h : ℕ) (m : Message) (deeds : List Deed) (w : Work) → AreUnnoticed deeds → IsHostWork w → IsHostWork (handles h m deeds w)
-handles_none h m deeds w u a =
-    let told : Work = noting (entry.Turn (end_of_node w.core h) m.0 m.1 ∷ []) w in
-    let fetched : Work = turn_at h FetchMessage told in
-    all_done_none h deeds (with_desk h (λ d. record d { holds = false }) fetched) u
-    (desk_none h (λ d. record d { holds = false }) fetched (λ d b. b) (turn_none h FetchMessage told (record { host = a.host; none = a.none })))
+abbrev Any : ℕ → Message → Type 0
+Any h m = Unit {0}
 
-holds_none : (h : ℕ) (short : ℕ × ℕ) (w : Work) → IsHostWork w → IsHostWork (holds_back h short w)
-holds_none h short w a = go (option_map_or (λ (p : Port). p.desk.holds) (port_at w.ports h) false) refl
-  where
-    go : (b : Bool) → option_map_or (λ (p : Port). p.desk.holds) (port_at w.ports h) false ≡ b → IsHostWork (holds_back h short w)
-    go true q = rw q (turn_none h (Hold true) w a)
-    go false q =
-        let told : Work = noting (entry.Held (end_of_node w.core h) short.0 short.1 ∷ []) w in
-        rw q (turn_none h (Hold true) (with_desk h (λ d. record d { holds = true }) told)
-        (desk_none h (λ d. record d { holds = true }) told (λ d b. b) (record { host = a.host; none = a.none })))
-
-lets_none : (h : ℕ) (w : Work) → IsHostWork w → IsHostWork (lets_go h w)
-lets_none h w a = go (option_map_or (λ (p : Port). is_held p.side) (port_at w.ports h) false) refl
-  where
-    go : (b : Bool) → option_map_or (λ (p : Port). is_held p.side) (port_at w.ports h) false ≡ b → IsHostWork (lets_go h w)
-    go true q = rw q (turn_none h (Hold false) w a)
-    go false q = rw q a
-
-turns_none : (h : ℕ) (messages : List Message) (w : Work) → IsHostWork w → IsHostWork (have_turns h messages w)
-turns_none h [] w a = lets_none h w a
-turns_none h (m ∷ messages) w a = go (lack w.ports (needs h (deeds_of w.core w.ports h m))) (λ v b. turns_none h messages v b)
-  where
-    deeds : List Deed
-    deeds = deeds_of w.core w.ports h m
-
-    by : Option (ℕ × ℕ) → Work
-    by None = unless_cut (have_turns h messages) (handles h m deeds w)
-    by (Some short) = holds_back h short w
-
-    go : (o : Option (ℕ × ℕ)) → ((v : Work) → IsHostWork v → IsHostWork (have_turns h messages v)) → IsHostWork (by o)
-    go None later =
-        unless_none (have_turns h messages) (handles h m deeds w) later (handles_none h m deeds w (deeds_unnoticed w.core w.ports h m a.host) a)
-    go (Some short) later = holds_none h short w a
-
-ends_none : (hosts : List ℕ) (w : Work) → IsHostWork w → IsHostWork (goes_through_ends hosts w)
-ends_none [] w a = a
-ends_none (h ∷ hosts) w a =
-    unless_none (goes_through_ends hosts) (have_turns h (option_map_or (λ (p : Port). p.side.got) (port_at w.ports h) []) w)
-    (λ v b. ends_none hosts v b) (turns_none h _ w a)
+none_lasts : Lasts HasNoNotices IsUnnoticed Any
+none_lasts = record {
+  does = done_none;
+  turn_told = λ h m w any a. record { host = a.host; none = a.none };
+  held_told = λ h need spare w a. record { host = a.host; none = a.none };
+  fetched = λ h w a. turn_none h FetchMessage w a;
+  held = λ h flag w a. turn_none h (Hold flag) w a;
+  marked = λ h flag w a. desk_none h (λ d. record d { holds = flag }) w (λ d b. b) a;
+  come = λ h w a. anyone (Any h) (λ m. tt) (got_at h w);
+  causes = λ h m w any a. deeds_unnoticed w.core w.ports h m a.host;
+}
 
 -- ## Steps
 
@@ -192,38 +148,25 @@ forgets_none ports p a = go (is_forgotten ports (asked_at p)) refl
     go true q = rw (q, a) refl
     go false q = rw q a
 
-came_none : (input : NodeInput) (w : Work) → IsHostWork w → AllByRecursion HasNone (times_out input (all_come input w)).ports
+came_none : (input : NodeInput) (w : Work) → HasNoNotices w → AllByRecursion HasNone (times_out input (all_come input w)).ports
 came_none (AtEnd h i) w a = none_map (λ p. has_come p (input_at (AtEnd h i) p)) (λ p b. come_none p (input_at (AtEnd h i) p) b) w.ports a.none
 came_none TimePasses w a =
     none_map reset_late late_none _
     (none_map with_older older_none _ (none_map (λ p. has_come p (input_at TimePasses p)) (λ p b. come_none p (input_at TimePasses p) b) w.ports a.none))
 
-sessions_node : (core : Core) (ports : List Port) → (core.node == 0) ≡ false → ((after_sessions core ports).node == 0) ≡ false
-sessions_node core ports a = go _ refl
-  where
-    go : (b : Bool) → list_any is_over ports ≡ b → ((after_sessions core ports).node == 0) ≡ false
-    go true q = rw q a
-    go false q = rw q a
-
-pub steps_none : (input : NodeInput) (w : Work) → IsHostWork w → IsHostWork (steps input w)
+pub steps_none : (input : NodeInput) (w : Work) → HasNoNotices w → HasNoNotices (steps input w)
 steps_none input w a =
     let came : Work = times_out input (all_come input w) in
     let left : List Port = map (forgets came.ports) came.ports in
     let begun : Work = record came { core = after_sessions came.core came.ports; ports = map without_notice left } in
     let so : (came.core.node == 0) ≡ false = ap (λ (c : Core). c.node == 0) (came_node input w) ∙ a.host in
-    let first : IsHostWork begun = record {
-      host = sessions_node came.core came.ports so;
+    let first : HasNoNotices begun = record {
+      host = ap (λ n. n == 0) (sessions_node came.core came.ports) ∙ so;
       none = none_map without_notice without_none left (none_map (forgets came.ports) (forgets_none came.ports) came.ports (came_none input w a));
     } in
-    let freed : List Deed = forgotten came.ports in
-    let syncs : List Deed = flat_map (synced w.core input) w.ports in
-    let owing : List Deed = all_owed left in
-    let one : IsHostWork (all_done 0 syncs (all_done 0 freed begun)) =
-    all_done_none 0 syncs (all_done 0 freed begun) (all_synced_hold IsUnnoticed (λ host id. tt) w.core input w.ports)
-    (all_done_none 0 freed begun (forgotten_hold IsUnnoticed (λ asker. tt) came.ports) first) in
-    let owed_all : AreUnnoticed owing = all_owed_hold IsUnnoticed (λ asker. tt) (λ to r. tt) left in
-    unless_none passes (unless_cut (all_done 0 owing) (all_done 0 syncs (all_done 0 freed begun))) (λ v b. ends_none _ v b)
-    (unless_none (all_done 0 owing) (all_done 0 syncs (all_done 0 freed begun)) (λ v b. all_done_none 0 owing v owed_all b) one)
+    rest_lasts HasNoNotices IsUnnoticed Any none_lasts (forgotten came.ports) (flat_map (synced w.core input) w.ports) (all_owed left) begun
+    (forgotten_hold IsUnnoticed (λ asker. tt) came.ports) (all_synced_hold IsUnnoticed (λ host id. tt) w.core input w.ports)
+    (all_owed_hold IsUnnoticed (λ asker. tt) (λ to r. tt) left) first
 
 -- ## Hosts
 
@@ -236,7 +179,7 @@ desks_none : (ports : List Port) → AllByRecursion HasNone ports → AllByRecur
 desks_none [] a = tt
 desks_none (p ∷ ports) a = (a.0, desks_none ports a.1)
 
-pub runs_none : (k : Work) → IsHostWork k → IfNone (runs_on k)
+pub runs_none : (k : Work) → HasNoNotices k → IfNone (runs_on k)
 runs_none k a = go k.cut
   where
     by : Bool → Option Running

@@ -1,39 +1,24 @@
 -- A step of another node tells nothing of the unanswered command of a host.
-use Rattle.std.proofs.Common.{◌≡◌, ℕ, ◌&&◌, Bool, true, false, cond, eqb, List, [], ◌∷◌, ◌++◌, length, map, sym, refl, ap, ◌∙◌, subst}
-use Rattle.std.specs.Prelude.{Option, Some, None, option_to_list}
+use Rattle.std.proofs.Common.{◌≡◌, ℕ, ◌&&◌, Bool, false, cond, eqb, List, [], ◌∷◌, ◌++◌, sym, refl, ap, ◌∙◌, subst}
+use Rattle.std.specs.Prelude.{Option, Some, None}
 use Rattle.std.specs.List.{AllByRecursion, flat_map}
-use Rattle.std.specs.Option.{option_map_or}
-use Rattle.std.proofs.lemmas.Bool.{cond_both}
 use Rattle.trace_model.specs.declared.entry.Entry.{Entry}
 use Rattle.trace_model.specs.declared.entry.Entry.TheVariants as entry
-use Rattle.journal_laws.specs.Planned.{fails_within}
-use Rattle.swp_base.specs.declared.link_terms.Cause.{Cause}
-use Rattle.hci_tables.specs.declared.command.Command.{Command}
-use Rattle.hci_tables.specs.Bodies.{body_of}
-use Rattle.hci_store.specs.Committing.{commit_writes}
-use Rattle.link_machine.specs.Machine.{Message, LinkInput, Refused, Turn, Report, give_refusal, report, whole_acked, after_input, is_held}
-use Rattle.link_machine.specs.Machine.LinkInput.{Reset}
-use Rattle.link_machine.specs.Machine.Turn.{Give, Hold, FetchMessage, SetAside, Release}
-use Rattle.link_entries.specs.Entries.{End as Side, Entry as Noted, told, sent_unless}
+use Rattle.link_entries.specs.Entries.{End as Side, Entry as Noted}
 use Rattle.link_entries.specs.Entries.Entry.{Up, Down, Active, GaveUp, Acked, Got, Sent, Emit, Took, Lost, Tick, Restarted, Cut}
 use Rattle.history.specs.Filters.{same_end}
-use Rattle.history.specs.Steps.{entries_for, end_of}
-use Rattle.node_machine.specs.Parts.{About, Desk, Core, Port, Work, Deed}
-use Rattle.node_machine.specs.Parts.About.{Waits, Removed}
-use Rattle.node_machine.specs.Parts.Deed.{Commits, Sends, SaysOk, Asks, Releases, Tells, IsAnswered, Drops, SetsErrors, Orders, Hears, GoesOn, Ends}
+use Rattle.history.specs.Steps.{entry_of, entries_for, end_of}
+use Rattle.node_machine.specs.Parts.{Work, Deed}
 use Rattle.node_machine.specs.Controller.{is_command_message}
-use Rattle.node_machine.specs.Carrying.{own_side, noting, unless_cut, port_at, changed_if, with_port, with_desk, after_turn, noted_of, turn_at, notified}
-use Rattle.node_machine.specs.Carrying.{commit, done, all_done, end_of_node, needs, lack}
-use Rattle.node_machine.specs.Turns.{deeds_of, handles, holds_back, lets_go, have_turns, goes_through_ends, passes}
-use Rattle.node_machine.specs.Node.{NodeInput, input_at, has_come, told_at, all_come, with_older, is_late, reset_late, told_late, times_out, forgotten, forgets}
-use Rattle.node_machine.specs.Node.{all_owed, without_notice, after_sessions, synced, steps}
-use Rattle.node_machine.specs.Node.NodeInput.{AtEnd, TimePasses}
+use Rattle.node_machine.specs.Carrying.{all_done}
+use Rattle.node_machine.specs.Node.{NodeInput}
+use Rattle.node_machine.specs.Node.{steps}
 use Rattle.node_world.specs.World.{end_h}
 use Rattle.node_world.specs.NodeFilters.{is_response}
 use Rattle.node_readings.specs.Orders.{IsSilent}
-use Rattle.node_readings.proofs.Silent.{IsQuiet, told_rest, rest_quiet}
-use Rattle.node_laws.proofs.Walks.{forgotten_hold, all_owed_hold, all_synced_hold}
-use Rattle.node_readings.proofs.Hushed.{IsHushed, AreHushed, deeds_hushed}
+use Rattle.node_readings.proofs.Silent.{IsQuiet}
+use Rattle.node_readings.proofs.Noting.{IsOwnNote, IsBeside, Notes, all_do as notes_do, steps_note}
+use Rattle.node_readings.proofs.Hushed.{AreHushed, deeds_hushed}
 
 abbrev pub AreSilent : ℕ → List Entry → Type 0
 AreSilent k es = AllByRecursion (IsSilent k) es
@@ -74,275 +59,39 @@ module _ (k : ℕ) where
   off_all : (a b c : Bool) (x y : Option (List ℕ)) → a ≡ false → cond (a && b && c) x y ≡ y
   off_all a b c x y e = rw e refl
 
-  told_silent : (who : Side) (h n acked : ℕ) (r : Report) → Away who h → AreSilent k (entries_for h (told who n r acked))
-  told_silent who h n acked r away = go r.ended where
-    rest : List Noted
-    rest = told_rest who n acked r
-
-    quiet : AllByRecursion IsQuiet rest
-    quiet = rest_quiet who n acked r
-
-    go : (o : Option Cause) → AreSilent k (entries_for h (map (Down who) (option_to_list o) ++ rest))
-    go None = quiet_silent k h rest quiet
-    go (Some cause) = ((λ c. off_cond (same_end (end_of h who) (end_h k)) None c away), quiet_silent k h rest quiet)
-
-  come_silent : (core : Core) (p : Port) (o : Option LinkInput) → Away (own_side core) p.desk.host → AreSilent k (told_at core p o)
-  come_silent core p None away = tt
-  come_silent core p (Some i) away =
-      told_silent (own_side core) p.desk.host p.session (whole_acked (after_input p.side i)) (report p.side i) away
-
-  sent_silent : (who : Side) (h n : ℕ) (m : Message) (o : Option Refused) → Away who h → AreSilent k (entries_for h (sent_unless o who n m))
-  sent_silent who h n m (Some why) away = tt
-  sent_silent who h n m None away = ((λ c. off_all (same_end (end_of h who) (end_h k)) (eqb m.0 1) (is_command_message m.1) (Some m.1) c away), tt)
-
-  turn_silent : (core : Core) (t : Turn) (p : Port) → Away (own_side core) p.desk.host → AreSilent k (noted_of core t p)
-  turn_silent core (Give m) p away = sent_silent (own_side core) p.desk.host p.session m (give_refusal p.side m) away
-  turn_silent core (Hold held) p away = tt
-  turn_silent core FetchMessage p away = tt
-  turn_silent core SetAside p away = tt
-  turn_silent core Release p away = tt
-
-  -- ## Works
-
   module _ (n : ℕ) (other : eqb n k ≡ false) (who : Side) where
     -- the node isn't this host, none of its ends is, and what was noted tells nothing of it
-    pub record IsAway (w : Work) : Type 0 where
-      pub number : w.core.node ≡ n
-      pub side : own_side w.core ≡ who
-      pub ends : AllByRecursion (λ (p : Port). Away who p.desk.host) w.ports
-      pub silent : AreSilent k w.entries
+    abbrev pub IsAway : Work → Type 0
+    IsAway w = Notes (IsSilent k) n who (Away who) w
 
-    with_core : (w : Work) (c : Core) → c.node ≡ w.core.node → IsAway w → IsAway (record w { core = c })
-    with_core w c same a = record {
-      number = same ∙ a.number;
-      side = ap (λ m. cond (eqb m 0) Rattle.link_entries.specs.Entries.End.Controller Rattle.link_entries.specs.Entries.End.Host) same ∙ a.side;
-      ends = a.ends;
-      silent = a.silent;
-    }
+    noted : (h : ℕ) (x : Noted) → Away who h → IsOwnNote who x → AreSilent k (entry_of h x)
+    noted h (Up side number) away own = ((λ c. refl), tt)
+    noted h (Down side cause) away own =
+        ((λ c. off_cond (same_end (end_of h side) (end_h k)) None c (subst (λ s. Away s h) (sym own) away)), tt)
+    noted h (Active side) away own = ((λ c. refl), tt)
+    noted h (GaveUp side tries) away own = ((λ c. refl), tt)
+    noted h (Acked side number count) away own = ((λ c. refl), tt)
+    noted h (Got side number m) away own = ((λ c. refl), tt)
+    noted h (Sent side number m) away own = (
+      (λ c. off_all (same_end (end_of h side) (end_h k)) (eqb m.0 1) (is_command_message m.1) (Some m.1) c (subst (λ s. Away s h) (sym own) away)),
+      tt,
+    )
+    noted h x away own = absurd own
 
-    notes : (es : List Entry) (w : Work) → AreSilent k es → IsAway w → IsAway (noting es w)
-    notes es w more a = record { number = a.number; side = a.side; ends = a.ends; silent = silent-append k w.entries es a.silent more }
+    turned : (h pid : ℕ) (message : List ℕ) → Away who h → IsSilent k (entry.Turn (end_of h who) pid message)
+    turned h pid message away = λ c. off_all (same_end (end_of h who) (end_h k)) (eqb pid 1) (is_response message) None c away
 
-    map_away : (f : Port → Port) → ((p : Port) → (f p).desk.host ≡ p.desk.host) → (ports : List Port) → AllByRecursion (λ
-        (p : Port). Away who p.desk.host) ports
-        → AllByRecursion (λ (p : Port). Away who p.desk.host) (map f ports)
-    map_away f host [] all = tt
-    map_away f host (p ∷ ports) all = (subst (Away who) (sym (host p)) all.0, map_away f host ports all.1)
-
-    maps : (f : Port → Port) (w : Work) → ((p : Port) → (f p).desk.host ≡ p.desk.host) → IsAway w → IsAway (record w { ports = map f w.ports })
-    maps f w host a = record { number = a.number; side = a.side; ends = map_away f host w.ports a.ends; silent = a.silent }
-
-    changed_host : (b : Bool) (f : Port → Port) (p : Port) → ((q : Port) → (f q).desk.host ≡ q.desk.host) → (changed_if b f p).desk.host ≡ p.desk.host
-    changed_host true f p host = host p
-    changed_host false f p host = refl
-
-    ends_with : (h : ℕ) (f : Port → Port) (w : Work) → ((p : Port) → (f p).desk.host ≡ p.desk.host) → IsAway w
-        → IsAway (record w { ports = with_port h f w.ports })
-    ends_with h f w host a = maps (λ p. changed_if (eqb p.desk.host h) f p) w (λ p. changed_host (eqb p.desk.host h) f p host) a
-
-    at_silent : (core : Core) (t : Turn) (ports : List Port) (h : ℕ) → own_side core ≡ who → AllByRecursion (λ (p : Port). Away who p.desk.host) ports
-        → AreSilent k (option_map_or (noted_of core t) (port_at ports h) [])
-    at_silent core t [] h side all = tt
-    at_silent core t (p ∷ ports) h side all =
-        cond_both (eqb p.desk.host h) (Some p) (port_at ports h) (λ o. AreSilent k (option_map_or (noted_of core t) o []))
-        (λ _. turn_silent core t p (subst (λ s. Away s p.desk.host) (sym side) all.0)) (λ _. at_silent core t ports h side all.1)
-
-    turns : (h : ℕ) (t : Turn) (w : Work) → IsAway w → IsAway (turn_at h t w)
-    turns h t w a =
-        notes (option_map_or (noted_of w.core t) (port_at w.ports h) []) (record w { ports = with_port h (after_turn t) w.ports })
-        (at_silent w.core t w.ports h a.side a.ends) (ends_with h (after_turn t) w (λ p. refl) a)
-
-    desks : (h : ℕ) (f : Desk → Desk) (w : Work) → ((d : Desk) → (f d).host ≡ d.host) → IsAway w → IsAway (with_desk h f w)
-    desks h f w host a = ends_with h (λ p. record p { desk = f p.desk }) w (λ p. host p.desk) a
-
-    tells : (h : ℕ) (about : About) (message : List ℕ) (w : Work) → IsAway w → IsAway (notified h about message w)
-    tells h about message w a =
-        desks h (λ d. record d { notice = Some (record { about = about; age = 0 }) }) (turn_at h (Give (1, message)) w) (λ d. refl) (turns h (Give
-        (1, message)) w a)
-
-    commits : (c : Command) (w : Work) → IsAway w → IsAway (commit c w)
-    commits c w a = go (fails_within (length (commit_writes w.core.journal w.core.tables (body_of c))) w.plan) refl where
-      go : (b : Bool) → fails_within (length (commit_writes w.core.journal w.core.tables (body_of c))) w.plan ≡ b → IsAway (commit c w)
-      go true q = rw q (record {
-        number = a.number;
-        side = a.side;
-        ends = a.ends;
-        silent = silent-append k (w.entries ++ entry.Command w.core.node c ∷ []) (entry.Cut w.core.node ∷ [])
-            (silent-append k w.entries (entry.Command w.core.node c ∷ []) a.silent ((λ c. refl), tt))
-            ((λ c. off_cond (eqb w.core.node k) None c (ap (λ m. eqb m k) a.number ∙ other)), tt);
-      })
-      go false q = rw q (record {
-        number = a.number;
-        side = a.side;
-        ends = a.ends;
-        silent = silent-append k w.entries (entry.Command w.core.node c ∷ []) a.silent ((λ c. refl), tt);
-      })
-
-    does : (h : ℕ) (d : Deed) (w : Work) → IsHushed k d → IsAway w → IsAway (done h d w)
-    does h (Commits c) w q a = commits c w a
-    does h (Sends to m) w q a = turns to (Give m) w a
-    does h SaysOk w q a = notes _ w ((λ c. refl), tt) a
-    does h (Asks to message c) w q a =
-        tells to (Waits c) message (noting (entry.Ask to message ∷ []) (turn_at c.asker SetAside w))
-        (notes (entry.Ask to message ∷ []) (turn_at c.asker SetAside w) ((λ c. refl), tt) (turns c.asker SetAside w a))
-    does h (Releases asker) w q a = turns asker Release w a
-    does h (Tells to message) w q a = tells to Removed message w a
-    does h IsAnswered w q a = desks h (λ d. record d { notice = None }) w (λ d. refl) a
-    does h (Drops pid) w q a = notes _ w ((λ c. refl), tt) a
-    does h (SetsErrors errors) w q a = desks h (λ d. record d { errors = errors }) w (λ d. refl) a
-    does h (Orders message) w q a =
-        turns h (Give (1, message)) (record w { core = record w.core { command = Some message } }) (with_core w
-        (record w.core { command = Some message }) refl a)
-    does h Hears w q a = with_core w (record w.core { command = None }) refl a
-    does h (GoesOn i) w q a = with_core w (record w.core { init = Some i }) refl a
-    does h (Ends e) w q a =
-        notes (e ∷ []) (record w { core = record w.core { init = None } }) (q, tt) (with_core w (record w.core { init = None }) refl a)
-
-    unless : (f : Work → Work) (w : Work) → (IsAway w → IsAway (f w)) → IsAway w → IsAway (unless_cut f w)
-    unless f w one a = go w.cut where
-      by : Bool → Work
-      by true = w
-      by false = f w
-
-      go : (b : Bool) → IsAway (by b)
-      go true = a
-      go false = one a
+    beside : (x : Entry) → IsBeside n x → IsSilent k x
+    beside (entry.Held e need spare) own = λ c. refl
+    beside (entry.Ask host message) own = λ c. refl
+    beside (entry.Dropped e pid) own = λ c. refl
+    beside (entry.Command node command) own = λ c. refl
+    beside (entry.AnyOk node count) own = λ c. refl
+    beside (entry.Cut node) own = λ c. off_cond (eqb node k) None c (ap (λ m. eqb m k) own ∙ other)
+    beside x own = absurd own
 
     pub all_do : (h : ℕ) (deeds : List Deed) (w : Work) → AreHushed k deeds → IsAway w → IsAway (all_done h deeds w)
-    all_do h [] w q a = a
-    all_do h (d ∷ deeds) w q a = unless (all_done h deeds) (done h d w) (λ b. all_do h deeds (done h d w) q.1 b) (does h d w q.0 a)
-
-    -- ## Turns
-
-    handles_away : (h : ℕ) (m : Message) (deeds : List Deed) (w : Work) → Away who h → AreHushed k deeds → IsAway w → IsAway (handles h m deeds w)
-    handles_away h m deeds w away q a =
-        let said : List Entry = entry.Turn (end_of_node w.core h) m.0 m.1 ∷ [] in
-        let quiet : AreSilent k said = (
-          (λ c. off_all (same_end (end_of_node w.core h) (end_h k)) (eqb m.0 1) (is_response m.1) None c (ap (λ s. same_end (end_of h s)
-              (end_h k)) a.side ∙ away)),
-          tt,
-        ) in
-        all_do h deeds (with_desk h (λ d. record d { holds = false }) (turn_at h FetchMessage (noting said w))) q
-        (desks h (λ d. record d { holds = false }) (turn_at h FetchMessage (noting said w)) (λ d. refl) (turns h FetchMessage (noting said w)
-        (notes said w quiet a)))
-
-    holds : (h : ℕ) (short : ℕ × ℕ) (w : Work) → IsAway w → IsAway (holds_back h short w)
-    holds h short w a = go (option_map_or (λ (p : Port). p.desk.holds) (port_at w.ports h) false) where
-      said : Work
-      said = noting (entry.Held (end_of_node w.core h) short.0 short.1 ∷ []) w
-
-      by : Bool → Work
-      by true = turn_at h (Hold true) w
-      by false = turn_at h (Hold true) (with_desk h (λ d. record d { holds = true }) said)
-
-      go : (b : Bool) → IsAway (by b)
-      go true = turns h (Hold true) w a
-      go false =
-          turns h (Hold true) (with_desk h (λ d. record d { holds = true }) said) (desks h (λ d. record d { holds = true }) said (λ d. refl)
-          (notes (entry.Held (end_of_node w.core h) short.0 short.1 ∷ []) w ((λ c. refl), tt) a))
-
-    lets : (h : ℕ) (w : Work) → IsAway w → IsAway (lets_go h w)
-    lets h w a = go (option_map_or (λ (p : Port). is_held p.side) (port_at w.ports h) false) where
-      by : Bool → Work
-      by true = turn_at h (Hold false) w
-      by false = w
-
-      go : (b : Bool) → IsAway (by b)
-      go true = turns h (Hold false) w a
-      go false = a
-
-    have_away : (h : ℕ) (messages : List Message) (w : Work) → Away who h → IsAway w → IsAway (have_turns h messages w)
-    have_away h [] w away a = lets h w a
-    have_away h (m ∷ messages) w away a = go (lack w.ports (needs h deeds)) (λ v b. have_away h messages v away b) where
-      deeds : List Deed
-      deeds = deeds_of w.core w.ports h m
-
-      by : Option (ℕ × ℕ) → Work
-      by None = unless_cut (have_turns h messages) (handles h m deeds w)
-      by (Some short) = holds_back h short w
-
-      go : (o : Option (ℕ × ℕ)) → ((v : Work) → IsAway v → IsAway (have_turns h messages v)) → IsAway (by o)
-      go None later =
-          unless (have_turns h messages) (handles h m deeds w) (later (handles h m deeds w)) (handles_away h m deeds w away
-          (deeds_hushed k w.core w.ports h m) a)
-      go (Some short) later = holds h short w a
-
-    ends_away : (hosts : List ℕ) (w : Work) → AllByRecursion (Away who) hosts → IsAway w → IsAway (goes_through_ends hosts w)
-    ends_away [] w all a = a
-    ends_away (h ∷ hosts) w all a =
-        let messages : List Message = option_map_or (λ (p : Port). p.side.got) (port_at w.ports h) [] in
-        unless (goes_through_ends hosts) (have_turns h messages w) (λ b. ends_away hosts (have_turns h messages w) all.1 b) (have_away h messages w all.0 a)
-
-    hosts_away : (ports : List Port) → AllByRecursion (λ (p : Port). Away who p.desk.host) ports → AllByRecursion (Away who) (map (λ
-        (p : Port). p.desk.host) ports)
-    hosts_away [] all = tt
-    hosts_away (p ∷ ports) all = (all.0, hosts_away ports all.1)
-
-    passes_away : (w : Work) → IsAway w → IsAway (passes w)
-    passes_away w a = ends_away (map (λ (p : Port). p.desk.host) w.ports) w (hosts_away w.ports a.ends) a
-
-    -- ## Steps
-
-    come_host : (p : Port) (o : Option LinkInput) → (has_come p o).desk.host ≡ p.desk.host
-    come_host p None = refl
-    come_host p (Some i) = refl
-
-    all_told : (f : Port → List Entry) → ((p : Port) → Away who p.desk.host → AreSilent k (f p)) → (ports : List Port)
-        → AllByRecursion (λ (p : Port). Away who p.desk.host) ports → AreSilent k (flat_map f ports)
-    all_told f one [] all = tt
-    all_told f one (p ∷ ports) all = silent-append k (f p) (flat_map f ports) (one p all.0) (all_told f one ports all.1)
-
-    here_away : (core : Core) (p : Port) → own_side core ≡ who → Away who p.desk.host → Away (own_side core) p.desk.host
-    here_away core p side away = subst (λ s. Away s p.desk.host) (sym side) away
-
-    came_away : (input : NodeInput) (w : Work) → IsAway w → IsAway (all_come input w)
-    came_away input w a =
-        notes (flat_map (λ p. told_at w.core p (input_at input p)) w.ports) (record w { ports = map (λ p. has_come p (input_at input p)) w.ports })
-        (all_told (λ p. told_at w.core p (input_at input p)) (λ p away. come_silent w.core p (input_at input p)
-        (here_away w.core p a.side away)) w.ports a.ends)
-        (maps (λ p. has_come p (input_at input p)) w (λ p. come_host p (input_at input p)) a)
-
-    late_host : (p : Port) → (reset_late p).desk.host ≡ p.desk.host
-    late_host p = cond_both (is_late p) (record p { side = after_input p.side (Reset None); late = true }) p (λ q. q.desk.host ≡ p.desk.host)
-        (λ _. refl) (λ _. refl)
-
-    late_silent : (core : Core) (p : Port) → Away (own_side core) p.desk.host → AreSilent k (told_late core p)
-    late_silent core p away = cond_both (is_late p) (told_at core p (Some (Reset None))) [] (AreSilent k) (λ _. come_silent core p (Some
-        (Reset None)) away) (λ _. tt)
-
-    timed_away : (input : NodeInput) (w : Work) → IsAway w → IsAway (times_out input w)
-    timed_away (AtEnd h i) w a = a
-    timed_away TimePasses w a =
-        let v : Work = record w { ports = map with_older w.ports } in
-        let b : IsAway v = maps with_older w (λ p. refl) a in
-        notes (flat_map (told_late v.core) v.ports) (record v { ports = map reset_late v.ports })
-        (all_told (told_late v.core) (λ p away. late_silent v.core p (here_away v.core p b.side away)) v.ports b.ends)
-        (maps reset_late v late_host b)
-
-    forgets_host : (ports : List Port) (p : Port) → (forgets ports p).desk.host ≡ p.desk.host
-    forgets_host ports p = cond_both _ _ p (λ (q : Port). q.desk.host ≡ p.desk.host) (λ _. refl) (λ _. refl)
-
-    without_host : (p : Port) → (without_notice p).desk.host ≡ p.desk.host
-    without_host p = cond_both _ _ p (λ (q : Port). q.desk.host ≡ p.desk.host) (λ _. refl) (λ _. refl)
-
-    sessions_node : (core : Core) (ports : List Port) → (after_sessions core ports).node ≡ core.node
-    sessions_node core ports = cond_both _ _ core (λ (c : Core). c.node ≡ core.node) (λ _. refl) (λ _. refl)
+    all_do = notes_do (IsSilent k) n who (Away who) noted turned beside (λ core ports h m is. deeds_hushed k core ports h m)
 
     pub steps_away : (input : NodeInput) (w : Work) → IsAway w → IsAway (steps input w)
-    steps_away input w a =
-        let came : Work = times_out input (all_come input w) in
-        let b : IsAway came = timed_away input (all_come input w) (came_away input w a) in
-        let left : List Port = map (forgets came.ports) came.ports in
-        let begun : Work = record came { core = after_sessions came.core came.ports; ports = map without_notice left } in
-        let first : IsAway begun =
-        with_core (record came { ports = map without_notice left }) (after_sessions came.core came.ports) (sessions_node came.core came.ports)
-        (maps without_notice (record came { ports = left }) without_host (maps (forgets came.ports) came (forgets_host came.ports) b)) in
-        let freed : List Deed = forgotten came.ports in
-        let syncs : List Deed = flat_map (synced w.core input) w.ports in
-        let owing : List Deed = all_owed left in
-        let one : IsAway (all_done 0 syncs (all_done 0 freed begun)) =
-        all_do 0 syncs (all_done 0 freed begun) (all_synced_hold (IsHushed k) (λ host id. tt) w.core input w.ports)
-        (all_do 0 freed begun (forgotten_hold (IsHushed k) (λ asker. tt) came.ports) first) in
-        let owed_all : AreHushed k owing = all_owed_hold (IsHushed k) (λ asker. tt) (λ to r. tt) left in
-        unless passes (unless_cut (all_done 0 owing) (all_done 0 syncs (all_done 0 freed begun))) (λ c. passes_away _ c)
-        (unless (all_done 0 owing) (all_done 0 syncs (all_done 0 freed begun)) (λ c. all_do 0 owing _ owed_all c) one)
+    steps_away = steps_note (IsSilent k) n who (Away who) noted turned beside (λ core ports h m is. deeds_hushed k core ports h m)

@@ -87,7 +87,7 @@ module _ (hosts : List ℕ) (are : AreHosts hosts) where
       controller = all.controller;
       hosts_are = hosts_with h (after_host NoInput k) (λ s. refl) w.sites ∙ all.hosts_are;
       sites = with_reads t (k.entries ++ frames) h (after_host NoInput k)
-          (λ n off. silent-append n k.entries frames (away n off).silent (frames_silent n Host h (wires_for (exchanged x.link) NoInput) k)) w.sites x
+          (λ n off. silent-append n k.entries frames (away n off).so (frames_silent n Host h (wires_for (exchanged x.link) NoInput) k)) w.sites x
           (subst AreDifferent (sym all.hosts_are) are.different) here changed all.sites;
     }) where
       k : Work
@@ -177,7 +177,7 @@ module _ (hosts : List ℕ) (are : AreHosts hosts) where
       hosts_are = hosts_same ticked (λ s. refl) w.sites ∙ all.hosts_are;
       sites = map_reads t (k.entries ++ frames) ticked (λ s. refl) (λ s. refl)
           (λ s. ap (λ (x : NumberedEnd). x.side) (ticked_host s.link (is_late_at k s.host) (turns_at k s.host) (ending_of k)))
-          (λ n host. silent-append n k.entries frames (away n host).silent (silent_flat n (λ (s : Site). frames_noted Controller s.host s.link k)
+          (λ n host. silent-append n k.entries frames (away n host).so (silent_flat n (λ (s : Site). frames_noted Controller s.host s.link k)
           (λ s. frames_silent n Controller s.host s.link k) w.sites)) w.sites known all.sites;
     }) where
       begun : Work
@@ -211,7 +211,7 @@ module _ (hosts : List ℕ) (are : AreHosts hosts) where
     by_node None e = subst (AreSilent k) (sym (off_is e)) tt
     by_node (Some r) e = subst (AreSilent k) (sym (on_is e)) (silent-append k work.entries (frames_noted Host s.host (exchanged s.link) work)
         (steps_away k s.host off Host TimePasses begun
-        (host_away s r host (subst (IfHostRuns s.host s.link) e keeps.runs) k off s.link.host [] tt)).silent
+        (host_away s r host (subst (IfHostRuns s.host s.link) e keeps.runs) k off s.link.host [] tt)).so
         (frames_silent k Host s.host (exchanged s.link) work)) where
           begun : Work
           begun = work_of r s.memory.plan (λ n. s.link.host) []

@@ -4,6 +4,7 @@ pub mod Replying
 pub mod Turning
 pub mod Stepping
 pub mod Sites
+pub mod Noting
 pub mod Hushed
 pub mod Elsewhere
 pub mod Worlds

@@ -28,8 +28,7 @@ use Rattle.node_telling.proofs.Mute.{forgotten_mute, all_owed_mute, all_synced_m
 use Rattle.node_telling.proofs.Walks.{AreSilent, rest}
 use Rattle.node_telling.proofs.Steps.{without_same, forgets_same}
 use Rattle.node_readings.proofs.Sites.{sent_phase}
-use Rattle.node_laws.proofs.Ports.{come_host, forgets_host, changed_host}
-use Rattle.kept_laws.proofs.Stepping.{without_host, late_host}
+use Rattle.node_laws.proofs.Ports.{come_host, forgets_host, changed_host, without_host, late_host}
 
 -- ## Phases
 

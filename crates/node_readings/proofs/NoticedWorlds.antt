@@ -1,11 +1,11 @@
 -- Over whatever happens in a world a controller has notices that aren't answered only at ends that are up.
-use Rattle.std.proofs.Common.{◌≡◌, ◌⊎◌, inl, inr, ℕ, ◌+◌, Bool, true, false, not, cond, eqb, List, [], ◌∷◌, map, length, min, sym, refl, ap, ◌∙◌, subst, arith}
+use Rattle.std.proofs.Common.{◌≡◌, ◌⊎◌, inl, inr, ℕ, ◌+◌, Bool, true, false, not, cond, eqb, List, [], ◌∷◌, map, min, sym, refl, ap, ◌∙◌, subst, arith}
 use Rattle.std.specs.Prelude.{Option, Some, None, is_some}
 use Rattle.std.specs.List.{AllByRecursion}
 use Rattle.std.specs.Option.{option_map}
 use Rattle.std.proofs.lemmas.Bool.{true≢false, eqb-true, cases_Bool, ne_eqb}
 use Rattle.swp_base.specs.InMemory.{Memory}
-use Rattle.journal_laws.specs.Planned.{fails_within, after_planned}
+use Rattle.journal_laws.specs.Planned.{after_planned}
 use Rattle.trace_model.specs.Lines.{IsHost}
 use Rattle.trace_model.specs.declared.entry.Entry.{Entry}
 use Rattle.trace_model.specs.declared.line.End.{End}
@@ -26,11 +26,11 @@ use Rattle.history.specs.Steps.{at, entries_for}
 use Rattle.history.specs.Follows.{seen_from}
 use Rattle.node_machine.specs.Parts.{Desk, Running, Port, Work}
 use Rattle.node_machine.specs.Carrying.{port_at, changed_if}
-use Rattle.node_machine.specs.Node.{steps, begins_with, boot_writes, found, new_desk, with_error}
+use Rattle.node_machine.specs.Node.{steps, begins_with, boot_writes, new_desk, with_error}
 use Rattle.node_machine.specs.Node.NodeInput.{AtEnd, TimePasses}
-use Rattle.node_world.specs.World.{NodeWorld, Site, Happening, site_at, link_to, memory_at, with_site, with_memory, with_node, links_of, ending_of, runs_on}
+use Rattle.node_world.specs.World.{NodeWorld, Site, Happening, site_at, link_to, memory_at, with_site, with_memory, links_of, ending_of, runs_on}
 use Rattle.node_world.specs.World.{turns_at, input_of, near_end_in, arrival, port_for, work_of, comes_to, controller_work, link_after_controller}
-use Rattle.node_world.specs.World.{after_controller, controller_does, host_work, after_host, host_does, controller_cut, host_cut, loses_power_at, boots, counts}
+use Rattle.node_world.specs.World.{after_controller, controller_does, host_work, after_host, host_does, host_cut, loses_power_at, boots, counts}
 use Rattle.node_world.specs.World.{frame_lost, all_aged, is_late_at, ticked_so, controller_ticks, host_ticks, hosts_tick, world_ticks, sending, beginning}
 use Rattle.node_world.specs.World.{comes_at, end_c, end_h, new_world, world_step}
 use Rattle.node_world.specs.World.Happening.{Boots, IsCut, Gives, Inits, Takes, Loses, Ticks, Resets, Activates, Arms}
@@ -44,26 +44,23 @@ use Rattle.kept_laws.specs.Hosts.{AreHosts}
 use Rattle.node_telling.specs.Telling.{HasEnds, IfItRuns, hosts_in, IsOrderly}
 use Rattle.node_telling.proofs.Events.{site_map, orderly_map, comes_goes}
 use Rattle.node_telling.proofs.Lasting.{Any, AnyLine, all_any, all_lines, lines_last}
-use Rattle.node_telling.proofs.Nodes.{site_host, link_is}
+use Rattle.node_telling.proofs.Nodes.{site_host, link_is, ports_for}
 use Rattle.node_telling.proofs.Orderly.{new_orderly, step_orderly}
 use Rattle.node_telling.proofs.WorldTicks.{tick_host as ticked_number}
 use Rattle.node_readings.specs.Noticed.{IfNoticedUp, NoticesAreUp}
 use Rattle.node_readings.proofs.Sites.{near_end_side, comes_outside, sent_phase, stepped_phase}
 use Rattle.node_readings.proofs.Noticed.{up_is, not_waiting, CameUp, input_up, tick_up, was_up}
+use Rattle.node_world.proofs.Cases.{by_memory, by_running, by_power, boot_written, boot_found, by_boot}
 
 -- ## Ends
 
--- the ends of these desks, by the ends of links
-abbrev ports_of : (ℕ → NumberedEnd) → List Desk → List Port
-ports_of near_ends desks = map (λ (d : Desk). port_for (near_ends d.host) d) desks
-
-same_sides : (g h : ℕ → NumberedEnd) → ((n : ℕ) → (h n).side ≡ (g n).side) → (desks : List Desk) (x : ℕ) → OnFirst IsNoticedUp (port_at (ports_of g desks) x)
-    → OnFirst IsNoticedUp (port_at (ports_of h desks) x)
+same_sides : (g h : ℕ → NumberedEnd) → ((n : ℕ) → (h n).side ≡ (g n).side) → (desks : List Desk) (x : ℕ) → OnFirst IsNoticedUp (port_at (ports_for g desks) x)
+    → OnFirst IsNoticedUp (port_at (ports_for h desks) x)
 same_sides g h same [] x a = tt
 same_sides g h same (d ∷ desks) x a = go (cases_Bool (eqb d.host x)) (same_sides g h same desks x) where
   go : (eqb d.host x ≡ true) ⊎ (eqb d.host x ≡ false)
-      → (OnFirst IsNoticedUp (port_at (ports_of g desks) x) → OnFirst IsNoticedUp (port_at (ports_of h desks) x))
-      → OnFirst IsNoticedUp (port_at (ports_of h (d ∷ desks)) x)
+      → (OnFirst IsNoticedUp (port_at (ports_for g desks) x) → OnFirst IsNoticedUp (port_at (ports_for h desks) x))
+      → OnFirst IsNoticedUp (port_at (ports_for h (d ∷ desks)) x)
   go (inl is) later =
       let b : IsNoticedUp (port_for (g d.host) d) = rw is at a in
       let c : IsNoticedUp (port_for (h d.host) d) = λ some. ap (λ (e : LinkEnd). e.shdlc.phase) (same d.host) ∙ b some in
@@ -76,11 +73,11 @@ kept v w None same a = tt
 kept v w (Some r) same a = λ x. same_sides (λ n. (link_to w n).controller) (λ n. (link_to v n).controller) same r.desks x (a x)
 
 -- a controller that boots has none
-none_noticed : (near_ends : ℕ → NumberedEnd) (hosts : List ℕ) (x : ℕ) → OnFirst IsNoticedUp (port_at (ports_of near_ends (map new_desk hosts)) x)
+none_noticed : (near_ends : ℕ → NumberedEnd) (hosts : List ℕ) (x : ℕ) → OnFirst IsNoticedUp (port_at (ports_for near_ends (map new_desk hosts)) x)
 none_noticed near_ends [] x = tt
 none_noticed near_ends (h ∷ hosts) x = go (cases_Bool (eqb h x)) (none_noticed near_ends hosts x) where
-  go : (eqb h x ≡ true) ⊎ (eqb h x ≡ false) → OnFirst IsNoticedUp (port_at (ports_of near_ends (map new_desk hosts)) x)
-      → OnFirst IsNoticedUp (port_at (ports_of near_ends (map new_desk (h ∷ hosts))) x)
+  go : (eqb h x ≡ true) ⊎ (eqb h x ≡ false) → OnFirst IsNoticedUp (port_at (ports_for near_ends (map new_desk hosts)) x)
+      → OnFirst IsNoticedUp (port_at (ports_for near_ends (map new_desk (h ∷ hosts))) x)
   go (inl is) later =
       let b : IsNoticedUp (port_for (near_ends h) (new_desk h)) = λ some. absurd (true≢false (sym some)) in
       rw is b
@@ -159,7 +156,7 @@ record HasSite (sites : List Site) (x : ℕ) : Type 0 where
   pub there : site_at sites x ≡ Some site
 
 site_there : (near_ends : ℕ → NumberedEnd) (desks : List Desk) (sites : List Site) (x : ℕ) (q : Port) → map (λ (d : Desk). d.host) desks ≡ hosts_in sites
-    → port_at (ports_of near_ends desks) x ≡ Some q → HasSite sites x
+    → port_at (ports_for near_ends desks) x ≡ Some q → HasSite sites x
 site_there near_ends [] sites x q e here = absurd (cc here)
 site_there near_ends (d ∷ desks) [] x q e here = absurd (cc e)
 site_there near_ends (d ∷ desks) (s ∷ sites) x q e here = go (cases_Bool (eqb s.host x)) (site_there near_ends desks sites x q) where
@@ -170,7 +167,7 @@ site_there near_ends (d ∷ desks) (s ∷ sites) x q e here = go (cases_Bool (eq
   others = cc
 
   go : (eqb s.host x ≡ true) ⊎ (eqb s.host x ≡ false)
-      → (map (λ (c : Desk). c.host) desks ≡ hosts_in sites → port_at (ports_of near_ends desks) x ≡ Some q → HasSite sites x) → HasSite (s ∷ sites) x
+      → (map (λ (c : Desk). c.host) desks ≡ hosts_in sites → port_at (ports_for near_ends desks) x ≡ Some q → HasSite sites x) → HasSite (s ∷ sites) x
   go (inl is) later = record { site = s; there = rw is refl }
   go (inr off) later =
       let passed : eqb d.host x ≡ false = ap (λ n. eqb n x) one ∙ off in
@@ -199,7 +196,7 @@ module _ (w : NodeWorld) (r : Running) (runs : w.controller ≡ Some r) (has : H
     k : Work
     k = controller_work w r h comes (steps (AtEnd h i))
 
-    noticed : (x : ℕ) → OnFirst IsNoticedUp (port_at (ports_of near_ends r.desks) x)
+    noticed : (x : ℕ) → OnFirst IsNoticedUp (port_at (ports_for near_ends r.desks) x)
     noticed x = same_sides (λ n. (link_to w.sites n).controller) near_ends (λ n. near_end_side (link_to w.sites n) (comes_to h comes n)) r.desks x (ups x)
 
     one : (x : ℕ) (p : Port) → k.cut ≡ false → port_at k.ports x ≡ Some p → is_some p.desk.notice ≡ true
@@ -334,80 +331,39 @@ comes_up w e comes orderly a = go (input_of (seen_from e (link_to w.sites e.link
   go (Some i) q true z = subst NoticesAreUp (sym (far_is i q z)) (host_up w e.link comes (steps (AtEnd e.link i)) a)
 
 memory_up : (n : ℕ) (m : Memory) (w : NodeWorld) → NoticesAreUp w → NoticesAreUp (with_memory n m w)
-memory_up n m w a = go (cases_Bool (eqb n 0)) where
-  near_is : eqb n 0 ≡ true → with_memory n m w ≡ record w { memory = m }
-  near_is e = rw e refl
-
-  far_is : eqb n 0 ≡ false → with_memory n m w ≡ record w { sites = with_site n (λ (s : Site). record s { memory = m }) w.sites }
-  far_is e = rw e refl
-
-  go : (eqb n 0 ≡ true) ⊎ (eqb n 0 ≡ false) → NoticesAreUp (with_memory n m w)
-  go (inl e) = subst NoticesAreUp (sym (near_is e)) a
-  go (inr e) =
-      subst NoticesAreUp (sym (far_is e)) (kept (with_site n (λ (s : Site). record s { memory = m }) w.sites) w.sites w.controller
-      (side_with n (λ (s : Site). record s { memory = m }) (λ s. refl) (λ s. refl) w.sites) a)
+memory_up n m w a =
+    by_memory NoticesAreUp n w m (λ _. a)
+    (λ _. kept (with_site n (λ (s : Site). record s { memory = m }) w.sites) w.sites w.controller
+    (side_with n (λ (s : Site). record s { memory = m }) (λ s. refl) (λ s. refl) w.sites) a)
 
 cut_up : (n : ℕ) (w : NodeWorld) → NoticesAreUp w → NoticesAreUp (loses_power_at n w)
-cut_up n w a = go (cases_Bool (eqb n 0)) where
-  near_is : eqb n 0 ≡ true → loses_power_at n w ≡ controller_cut w
-  near_is e = rw e refl
-
-  far_is : eqb n 0 ≡ false → loses_power_at n w ≡ record w { sites = with_site n host_cut w.sites }
-  far_is e = rw e refl
-
-  go : (eqb n 0 ≡ true) ⊎ (eqb n 0 ≡ false) → NoticesAreUp (loses_power_at n w)
-  go (inl e) = subst NoticesAreUp (sym (near_is e)) tt
-  go (inr e) =
-      subst NoticesAreUp (sym (far_is e)) (kept (with_site n host_cut w.sites) w.sites w.controller
-      (side_with n host_cut (λ s. refl) (λ s. far_side s.link (Step NoInput [] CutOff)) w.sites) a)
+cut_up n w a =
+    by_power NoticesAreUp n w (λ _. tt)
+    (λ _. kept (with_site n host_cut w.sites) w.sites w.controller
+    (side_with n host_cut (λ s. refl) (λ s. far_side s.link (Step NoInput [] CutOff)) w.sites) a)
 
 boots_up : (n : ℕ) (w : NodeWorld) → NoticesAreUp w → NoticesAreUp (boots w n).0
-boots_up n w a = by_plan (cases_Bool (fails_within (length (boot_writes (memory_at w n).content)) (memory_at w n).plan)) where
-  v : NodeWorld
-  v = with_memory n (after_planned (boot_writes (memory_at w n).content) (memory_at w n)) w
-
-  r : Running
-  r = found n (links_of w n) (memory_at w n).content
-
-  written : NoticesAreUp v
-  written = memory_up n (after_planned (boot_writes (memory_at w n).content) (memory_at w n)) w a
-
-  lost_is : fails_within (length (boot_writes (memory_at w n).content)) (memory_at w n).plan ≡ true → (boots w n).0 ≡ loses_power_at n v
-  lost_is e = rw e refl
-
-  runs_is : fails_within (length (boot_writes (memory_at w n).content)) (memory_at w n).plan ≡ false → (boots w n).0 ≡ with_node n r v
-  runs_is e = rw e refl
-
-  near_is : eqb n 0 ≡ true → with_node n r v ≡ record v { controller = Some r }
-  near_is e = rw e refl
-
-  far_is : eqb n 0 ≡ false → with_node n r v ≡ record v { sites = with_site n (λ (s : Site). record s { node = Some r }) v.sites }
-  far_is e = rw e refl
-
-  runs_so : (eqb n 0 ≡ true) ⊎ (eqb n 0 ≡ false) → NoticesAreUp (with_node n r v)
-  runs_so (inl e) = subst NoticesAreUp (sym (near_is e)) (λ x. none_noticed (λ h. (link_to v.sites h).controller) (links_of w n) x)
-  runs_so (inr e) =
-      subst NoticesAreUp (sym (far_is e)) (kept (with_site n (λ (s : Site). record s { node = Some r }) v.sites) v.sites v.controller
-      (side_with n (λ (s : Site). record s { node = Some r }) (λ s. refl) (λ s. refl) v.sites) written)
-
-  by_plan : (fails_within (length (boot_writes (memory_at w n).content)) (memory_at w n).plan ≡ true)
-      ⊎ (fails_within (length (boot_writes (memory_at w n).content)) (memory_at w n).plan ≡ false) → NoticesAreUp (boots w n).0
-  by_plan (inl fails) = subst NoticesAreUp (sym (lost_is fails)) (cut_up n v written)
-  by_plan (inr none) = subst NoticesAreUp (sym (runs_is none)) (runs_so (cases_Bool (eqb n 0)))
+boots_up n w a =
+    let v : NodeWorld = boot_written w n in
+    let f : Site → Site = λ s. record s { node = Some (boot_found w n) } in
+    let written : NoticesAreUp v = memory_up n (after_planned (boot_writes (memory_at w n).content) (memory_at w n)) w a in
+    by_boot (λ (p : NodeWorld × List Entry). NoticesAreUp p.0) w n (cut_up n v written)
+    (by_running NoticesAreUp n v (boot_found w n) (λ _ x. none_noticed (λ h. (link_to v.sites h).controller) (links_of w n) x)
+    (λ _. kept (with_site n f v.sites) v.sites v.controller (side_with n f (λ s. refl) (λ s. refl) v.sites) written))
 
 -- ## Losses
 
 -- an end whose errors were counted is as it was
-counted : (near_ends : ℕ → NumberedEnd) (h : ℕ) (desks : List Desk) (x : ℕ) → OnFirst IsNoticedUp (port_at (ports_of near_ends desks) x)
-    → OnFirst IsNoticedUp (port_at (ports_of near_ends (with_error h desks)) x)
+counted : (near_ends : ℕ → NumberedEnd) (h : ℕ) (desks : List Desk) (x : ℕ) → OnFirst IsNoticedUp (port_at (ports_for near_ends desks) x)
+    → OnFirst IsNoticedUp (port_at (ports_for near_ends (with_error h desks)) x)
 counted near_ends h [] x a = tt
 counted near_ends h (d ∷ desks) x a = by_error (eqb d.host h) (cases_Bool (eqb d.host x)) (counted near_ends h desks x) where
   more : Desk → Desk
   more c = record c { errors = min 65535 (c.errors + 1) }
 
   by_error : (b : Bool) → (eqb d.host x ≡ true) ⊎ (eqb d.host x ≡ false)
-      → (OnFirst IsNoticedUp (port_at (ports_of near_ends desks) x) → OnFirst IsNoticedUp (port_at (ports_of near_ends (with_error h desks)) x))
-      → OnFirst IsNoticedUp (port_at (port_for (near_ends (changed_if b more d).host) (changed_if b more d) ∷ ports_of near_ends (with_error h desks)) x)
+      → (OnFirst IsNoticedUp (port_at (ports_for near_ends desks) x) → OnFirst IsNoticedUp (port_at (ports_for near_ends (with_error h desks)) x))
+      → OnFirst IsNoticedUp (port_at (port_for (near_ends (changed_if b more d).host) (changed_if b more d) ∷ ports_for near_ends (with_error h desks)) x)
   by_error true (inl is) later = let c : IsNoticedUp (port_for (near_ends d.host) (more d)) = rw is at a in rw is c
   by_error true (inr off) later = rw off (later (rw off at a))
   by_error false (inl is) later = let c : IsNoticedUp (port_for (near_ends d.host) d) = rw is at a in rw is c

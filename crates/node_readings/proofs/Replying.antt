@@ -1,6 +1,6 @@
 -- What a host does with a message that answers none of its commands may be done, and so may what follows the answer to one.
-use Rattle.std.proofs.Common.{◌≡◌, ℕ, ◌≤◌, ◌&&◌, Bool, true, false, cond, eqb, List, [], ◌∷◌, ◌++◌, length, map, refl, ap, subst}
-use Rattle.std.specs.Prelude.{Option, Some, None, slice_get, ◌+◌, zero, suc}
+use Rattle.std.proofs.Common.{◌≡◌, ℕ, ◌≤◌, ◌&&◌, Bool, true, false, cond, eqb, List, [], ◌∷◌, ◌++◌, length, refl, ap}
+use Rattle.std.specs.Prelude.{Option, Some, None, ◌+◌}
 use Rattle.std.specs.List.{AllByRecursion}
 use Rattle.std.proofs.lemmas.Bool.{cond_both}
 use Rattle.trace_model.specs.declared.entry.Entry.TheVariants.{InitMade}
@@ -12,12 +12,13 @@ use Rattle.gate_answers.specs.Answers.{answer_of}
 use Rattle.gate_link.specs.Link.{link_served}
 use Rattle.gate_identity.specs.Identity.{identity_served}
 use Rattle.link_machine.specs.Machine.{Message}
+use Rattle.registry.proofs.ValueLemmas.{AllByRecursion-get}
 use Rattle.node_machine.specs.Parts.{Init, Core, Deed}
 use Rattle.node_machine.specs.Parts.Deed.{Sends, Ends}
 use Rattle.node_machine.specs.Carrying.{end_of_node, finds_room}
 use Rattle.node_machine.specs.Controller.{answers_on, commit_deeds, link_deeds, gates, is_command_message}
 use Rattle.node_machine.specs.HostReplies.{accepts, orders_of, learns, init_deeds, learned, ordered_deeds}
-use Rattle.node_laws.proofs.Walks.{ordered_holds, learns_holds, learned_holds, init_holds}
+use Rattle.node_laws.proofs.Walks.{ordered_holds, learns_holds, learned_holds, init_holds, orders_hold}
 use Rattle.node_readings.specs.Orders.{AreInitsShort, MayDo}
 
 -- an answer is no command
@@ -90,28 +91,8 @@ module _ (h : ℕ) (F : List ℕ → Type 0) where
       (λ _. learned_holds (λ deeds. May (deeds ++ behind)) core may (λ c is room. may) order value) (λ _. may)
 
 -- each command of an init is a command
-abbrev pub AreCommands : List (List ℕ) → Type 0
-AreCommands orders = AllByRecursion (λ order. is_command_message order ≡ true) orders
-
-commands-append : (xs ys : List (List ℕ)) → AreCommands xs → AreCommands ys → AreCommands (xs ++ ys)
-commands-append [] ys a b = b
-commands-append (x ∷ xs) ys a b = (a.0, commands-append xs ys a.1 b)
-
-pipes_commands : (pipes : List (List ℕ)) → AreCommands (map (λ pipe. 16 ∷ pipe) pipes)
-pipes_commands [] = tt
-pipes_commands (pipe ∷ pipes) = (refl, pipes_commands pipes)
-
-pub orders_commands : (i : Init) → AreCommands (orders_of i)
-orders_commands i =
-    let behind : AreCommands (map (λ pipe. 16 ∷ pipe) i.pipes ++ (1 ∷ 1 ∷ i.identity) ∷ []) =
-    commands-append (map (λ pipe. 16 ∷ pipe) i.pipes) ((1 ∷ 1 ∷ i.identity) ∷ []) (pipes_commands i.pipes) (refl, tt) in
-    (refl, (refl, (refl, (refl, behind))))
-
-pub all_at : (P : List ℕ → Type 0) (xs : List (List ℕ)) (n : ℕ) (x : List ℕ) → AllByRecursion P xs → slice_get xs n ≡ Some x → P x
-all_at P [] zero x a q = cc
-all_at P [] (suc n) x a q = cc
-all_at P (y ∷ xs) zero x a q = let is : y ≡ x = cc in subst P is a.0
-all_at P (y ∷ xs) (suc n) x a q = all_at P xs n x a.1 q
+pub orders_commands : (i : Init) → AllByRecursion (λ order. is_command_message order ≡ true) (orders_of i)
+orders_commands i = orders_hold (λ order. is_command_message order ≡ true) i refl refl refl (λ pipe. refl) refl
 
 -- what an init does next may be done, where each of its commands that isn't too long may be given
 module _ (h : ℕ) (core : Core) (code : ℕ) (value : List ℕ) where
@@ -128,6 +109,6 @@ module _ (h : ℕ) (core : Core) (code : ℕ) (value : List ℕ) where
         ((λ waits. refl), tt);
     next = λ order is.
         let commands : is_command_message order ≡ true =
-        all_at (λ x. is_command_message x ≡ true) (orders_of i) (i.answered + 1) order (orders_commands i) is in
-        (short, (fits order commands (all_at (λ x. length x ≤ 4096) (orders_of i) (i.answered + 1) order short is), commands, tt));
+        AllByRecursion-get (λ x. is_command_message x ≡ true) (orders_of i) (i.answered + 1) order (orders_commands i) is in
+        (short, (fits order commands (AllByRecursion-get (λ x. length x ≤ 4096) (orders_of i) (i.answered + 1) order short is), commands, tt));
   })

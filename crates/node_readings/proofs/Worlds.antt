@@ -116,7 +116,7 @@ controller_away r number k host plan near_ends es silent = record {
   number = number;
   side = ap (λ m. cond (eqb m 0) Controller Host) number;
   ends = all_ends (Away k Controller) (λ d. port_for (near_ends d.host) d) (λ d. refl) r.desks (λ d. near_away k d.host);
-  silent = silent;
+  so = silent;
 }
 
 pub runs_zero : (k : Work) → k.core.node ≡ 0 → IfZero (runs_on k)
@@ -139,7 +139,7 @@ host_away x r host so k other near_end es silent = record {
   side = ap (λ b. cond b Controller Host) (ne_eqb r.core.node 0 (λ e. omega (arith, e, so.number, host.0)));
   ends = subst (λ ds. AllByRecursion (λ (p : Port). Away k Host p.desk.host) (map (λ (d : Desk). port_for near_end d) ds)) (sym so.desks_are)
       (subst (Away k Host) (sym so.host) (far_away k x.host other), tt);
-  silent = silent;
+  so = silent;
 }
 
 -- ## What comes
@@ -168,7 +168,7 @@ module _ (hosts : List ℕ) (are : AreHosts hosts) where
       hosts_are = hosts_same (link_after_controller h comes k) (λ s. refl) w.sites ∙ all.hosts_are;
       sites = map_reads t (k.entries ++ frames) (link_after_controller h comes k) (λ s. refl) (λ s. refl)
           (λ s. ap (λ (x : NumberedEnd). x.side) (here_host s.link (Step (comes_to h comes s.host) (turns_at k s.host) (ending_of k))))
-          (λ n host. silent-append n k.entries frames (away n host).silent (silent_flat n (λ (s : Site). frames_noted Controller s.host
+          (λ n host. silent-append n k.entries frames (away n host).so (silent_flat n (λ (s : Site). frames_noted Controller s.host
           (wires_for s.link (comes_to h comes s.host)) k) (λ s. frames_silent n Controller s.host (wires_for s.link (comes_to h comes s.host)) k) w.sites))
           w.sites (all_hosts t w all) all.sites;
     }) where
@@ -221,7 +221,7 @@ module _ (hosts : List ℕ) (are : AreHosts hosts) where
       controller = all.controller;
       hosts_are = hosts_with h (after_host comes k) (λ s. refl) w.sites ∙ all.hosts_are;
       sites = with_reads t (k.entries ++ frames) h (after_host comes k)
-          (λ n off. silent-append n k.entries frames (away n off).silent (frames_silent n Host h (wires_for (exchanged x.link) comes) k)) w.sites x
+          (λ n off. silent-append n k.entries frames (away n off).so (frames_silent n Host h (wires_for (exchanged x.link) comes) k)) w.sites x
           (subst AreDifferent (sym all.hosts_are) are.different) here changed all.sites;
     }) where
       k : Work

@@ -1,5 +1,5 @@
 -- Each event of a world but a tick tells of each link.
-use Rattle.std.proofs.Common.{◌≡◌, ℕ, ◌==◌, Bool, true, false, cond, List, [], ◌∷◌, ◌++◌, length, Option, Some, None, map, refl, ap, sym, subst, ◌∙◌}
+use Rattle.std.proofs.Common.{◌≡◌, ℕ, ◌==◌, Bool, true, false, cond, List, [], ◌∷◌, ◌++◌, Option, Some, None, map, refl, ap, sym, subst, ◌∙◌}
 use Rattle.std.proofs.Common.{append-nil, append_assoc}
 use Rattle.std.specs.Prelude.{◌&&◌}
 use Rattle.std.specs.List.{AllByRecursion}
@@ -9,7 +9,7 @@ use Rattle.trace_model.specs.declared.entry.Entry.{Entry}
 use Rattle.trace_model.specs.declared.entry.Entry.TheVariants as entry
 use Rattle.trace_model.specs.declared.line.End.{End}
 use Rattle.journal_laws.specs.Journal.{count_of}
-use Rattle.journal_laws.specs.Planned.{fails_within, after_planned}
+use Rattle.journal_laws.specs.Planned.{after_planned}
 use Rattle.link_machine.specs.Machine.{Message, LinkInput}
 use Rattle.message_link.specs.Links.{NumberedEnd, Link, Comes, Loss, LinkEvent, exchanged, happens, after_link_events}
 use Rattle.message_link.specs.Links.Comes.{NextFrame, AsksReset, Starts, NoInput}
@@ -19,8 +19,7 @@ use Rattle.message_link.specs.Links.EndEvent.{Step, Lose}
 use Rattle.message_link.specs.Links.LinkEvent.{AtController, AtHost}
 use Rattle.link_entries.specs.Entries.{event_entries, entries, first_lost}
 use Rattle.link_entries.specs.Entries.End.{Controller, Host}
-use Rattle.history.specs.Steps.{at, entries_for}
-use Rattle.history.specs.Follows.{seen_from}
+use Rattle.history.specs.Steps.{entries_for}
 use Rattle.node_machine.specs.Parts.{Desk, Running, Work, Deed}
 use Rattle.node_machine.specs.Parts.Deed.{Sends, Orders}
 use Rattle.node_machine.specs.Carrying.{changed_if}
@@ -29,9 +28,11 @@ use Rattle.node_machine.specs.Node.{steps, begins_with, found, boot_writes}
 use Rattle.node_machine.specs.Node.NodeInput.{AtEnd}
 use Rattle.node_world.specs.World.{Site, NodeWorld, Happening, site_at, with_site, link_to, input_of, near_end_in, arrival, work_of, ending_of, turns_at}
 use Rattle.node_world.specs.World.{runs_on, comes_to, controller_work, link_after_controller, after_controller, controller_does, host_work, after_host}
-use Rattle.node_world.specs.World.{host_does, frames_noted, wires_for, controller_cut, host_cut, loses_power_at, memory_at, with_memory, with_node, links_of}
+use Rattle.node_world.specs.World.{host_does, host_cut, loses_power_at, memory_at, with_memory, with_node, links_of}
 use Rattle.node_world.specs.World.{boots, counts, frame_lost, sending, beginning, comes_at, end_c, end_h, activates, world_step}
 use Rattle.node_world.specs.World.Happening.{Boots, IsCut, Gives, Inits, Takes, Loses, Ticks, Resets, Activates, Arms}
+use Rattle.node_world.proofs.Cases.{by_controller, after_host_step, by_host, by_coming, by_power, by_memory, by_running, boot_written, boot_found, by_boot}
+use Rattle.node_world.proofs.Cases.{site_lost, by_loss}
 use Rattle.kept_laws.specs.Hosts.{AreDifferent}
 use Rattle.kept_laws.proofs.Sites.{hosts_same, changed_host}
 use Rattle.node_telling.specs.Telling.{of_link, TellOf, HasEnds, IfItRuns, hosts_in, IsOrderly, Tells, GoesSo, EachGoesSo, IsUntimed}
@@ -175,95 +176,60 @@ module _ (w : NodeWorld) (memory : Memory) (controller : Option Running) (k : �
 
 pub controller_goes : (w : NodeWorld) (k : ℕ) (comes : Comes) (i : LinkInput) → IsOrderly w → input_of (link_to w.sites k) comes ≡ Some i
     → EachGoesSo w (controller_does w k comes (steps (AtEnd k i))).0 (controller_does w k comes (steps (AtEnd k i))).1
-controller_goes w k comes i a q = go w.controller a.controller
-  where
-    by : Option Running → NodeWorld × List Entry
-    by None = (w, [])
-    by (Some r) = after_controller w k comes (controller_work w r k comes (steps (AtEnd k i)))
-
-    go : (o : Option Running) → IfItRuns 0 (hosts_in w.sites) o → EachGoesSo w (by o).0 (by o).1
-    go None n = goes_not w [] (λ h. refl) a
-    go (Some r) n =
-        let v : Work = controller_work w r k comes (steps (AtEnd k i)) in
-        let t : List Entry = (after_controller w k comes v).1 in
-        let near_ends : ℕ → NumberedEnd = λ j. near_end_in (link_to w.sites j) (comes_to k comes j) in
-        let kept : Keeps 0 (hosts_in w.sites) v =
-        steps_keep 0 (hosts_in w.sites) k i (work_of r w.memory.plan near_ends (entries_for k (arrival Controller (link_to w.sites k) comes)))
-        (record { number = n.number; ends = ends_same near_ends r.desks ∙ n.ends }) in
-        goes_map w (after_planned v.writes w.memory) (runs_on v) (link_after_controller k comes v) (λ s. refl) t a (runs_keep 0 (hosts_in w.sites) v kept)
-        (λ s node. node)
-        (λ h s found.
-        let P : ℕ → Type 0 = λ m. TellOf h s.link (AtController (Step (comes_to k comes m) (turns_at v m) (ending_of v))) t in
-        tells_one h s.link (AtController (Step (comes_to k comes s.host) (turns_at v s.host) (ending_of v))) t
-        (subst P (sym (site_host w.sites h s found)) (controller_tells w r k comes h s a n found i q)))
+controller_goes w k comes i a q =
+    by_controller (λ p. EachGoesSo w p.0 p.1) w k comes (steps (AtEnd k i)) (goes_not w [] (λ h. refl) a)
+    (λ r is.
+    let n : HasEnds 0 (hosts_in w.sites) r = subst (IfItRuns 0 (hosts_in w.sites)) is a.controller in
+    let v : Work = controller_work w r k comes (steps (AtEnd k i)) in
+    let t : List Entry = (after_controller w k comes v).1 in
+    let near_ends : ℕ → NumberedEnd = λ j. near_end_in (link_to w.sites j) (comes_to k comes j) in
+    let kept : Keeps 0 (hosts_in w.sites) v =
+    steps_keep 0 (hosts_in w.sites) k i (work_of r w.memory.plan near_ends (entries_for k (arrival Controller (link_to w.sites k) comes)))
+    (record { number = n.number; ends = ends_same near_ends r.desks ∙ n.ends }) in
+    goes_map w (after_planned v.writes w.memory) (runs_on v) (link_after_controller k comes v) (λ s. refl) t a (runs_keep 0 (hosts_in w.sites) v kept)
+    (λ s node. node)
+    (λ h s found.
+    let P : ℕ → Type 0 = λ m. TellOf h s.link (AtController (Step (comes_to k comes m) (turns_at v m) (ending_of v))) t in
+    tells_one h s.link (AtController (Step (comes_to k comes s.host) (turns_at v s.host) (ending_of v))) t
+    (subst P (sym (site_host w.sites h s found)) (controller_tells w r k comes h s a n found i q))))
 
 -- a host does something
 module _ (w : NodeWorld) (k : ℕ) (comes : Comes) (f : Work → Work) (a : IsOrderly w)
     (keeps : (v : Work) → Keeps k (k ∷ []) v → Keeps k (k ∷ []) (f v))
     (does : (s : Site) (r : Running) → site_at w.sites k ≡ Some s → s.node ≡ Some r → HostDoes w k comes f s r) where
   pub host_goes : EachGoesSo w (host_does w k comes f).0 (host_does w k comes f).1
-  host_goes = go (site_at w.sites k) refl
-    where
-      by_node : Site → Option Running → NodeWorld × List Entry
-      by_node s None = (w, [])
-      by_node s (Some r) = (
-        record w { sites = with_site k (after_host comes (host_work s r comes f)) w.sites },
-        (host_work s r comes f).entries ++ frames_noted Host k (wires_for (exchanged s.link) comes) (host_work s r comes f),
-      )
-
-      by : Option Site → NodeWorld × List Entry
-      by None = (w, [])
-      by (Some s) = by_node s s.node
-
-      runs : (s : Site) → site_at w.sites k ≡ Some s → (o : Option Running) → s.node ≡ o → EachGoesSo w (by_node s o).0 (by_node s o).1
-      runs s found None q = goes_not w [] (λ h. refl) a
-      runs s found (Some r) q =
-          let v : Work = host_work s r comes f in
-          let t : List Entry = (by_node s (Some r)).1 in
-          let told : HostDoes w k comes f s r = does s r found q in
-          let is : (host_does w k comes f).1 ≡ t = rw (found, q) refl in
-          let number : s.host ≡ k = site_host w.sites k s found in
-          let node : HasEnds s.host (s.host ∷ []) r =
-          node_is s.host (s.host ∷ []) s.node r (site_is (λ (x : Site). IfItRuns x.host (x.host ∷ []) x.node) w.sites k s a.nodes found) q in
-          let P : ℕ → Type 0 = λ n. HasEnds n (n ∷ []) r in
-          let here : HasEnds k (k ∷ []) r = subst P number node in
-          let near_ends : ℕ → NumberedEnd = λ j. near_end_in (exchanged s.link) comes in
-          let kept : Keeps k (k ∷ []) v = keeps _ (record { number = here.number; ends = ends_same near_ends r.desks ∙ here.ends }) in
-          let R : ℕ → Type 0 = λ n. IfItRuns n (n ∷ []) (runs_on v) in
-          let T : List Entry → Type 0 = λ z. TellOf k s.link (AtHost (Step comes (turns_at v s.host) (ending_of v))) z in
-          goes_site w w.memory w.controller k (after_host comes v) t (λ x. refl) a a.controller
-          (λ x e n. subst R (sym e) (runs_keep k (k ∷ []) v kept))
-          (λ x there.
-          let same : Some s ≡ Some x = sym found ∙ there in
-          let one : s ≡ x = cc in
-          let Q : Site → Type 0 = λ z. Tells k z.link (after_host comes v z).link t in
-          subst Q one (tells_one k s.link (AtHost (Step comes (turns_at v s.host) (ending_of v))) t (subst T is told.own)))
-          (λ h z. ap (of_link h) (sym is) ∙ told.others h z)
-
-      go : (o : Option Site) → site_at w.sites k ≡ o → EachGoesSo w (by o).0 (by o).1
-      go None q = goes_not w [] (λ h. refl) a
-      go (Some s) q = runs s q s.node refl
+  host_goes =
+      by_host (λ p. EachGoesSo w p.0 p.1) w k comes f (goes_not w [] (λ h. refl) a)
+      (λ s r found q.
+      let v : Work = host_work s r comes f in
+      let t : List Entry = (after_host_step w k comes s v).1 in
+      let told : HostDoes w k comes f s r = does s r found q in
+      let is : (host_does w k comes f).1 ≡ t = rw (found, q) refl in
+      let number : s.host ≡ k = site_host w.sites k s found in
+      let node : HasEnds s.host (s.host ∷ []) r =
+      node_is s.host (s.host ∷ []) s.node r (site_is (λ (x : Site). IfItRuns x.host (x.host ∷ []) x.node) w.sites k s a.nodes found) q in
+      let P : ℕ → Type 0 = λ n. HasEnds n (n ∷ []) r in
+      let here : HasEnds k (k ∷ []) r = subst P number node in
+      let near_ends : ℕ → NumberedEnd = λ j. near_end_in (exchanged s.link) comes in
+      let kept : Keeps k (k ∷ []) v = keeps _ (record { number = here.number; ends = ends_same near_ends r.desks ∙ here.ends }) in
+      let R : ℕ → Type 0 = λ n. IfItRuns n (n ∷ []) (runs_on v) in
+      let T : List Entry → Type 0 = λ z. TellOf k s.link (AtHost (Step comes (turns_at v s.host) (ending_of v))) z in
+      goes_site w w.memory w.controller k (after_host comes v) t (λ x. refl) a a.controller
+      (λ x e n. subst R (sym e) (runs_keep k (k ∷ []) v kept))
+      (λ x there.
+      let same : Some s ≡ Some x = sym found ∙ there in
+      let one : s ≡ x = cc in
+      let Q : Site → Type 0 = λ z. Tells k z.link (after_host comes v z).link t in
+      subst Q one (tells_one k s.link (AtHost (Step comes (turns_at v s.host) (ending_of v))) t (subst T is told.own)))
+      (λ h z. ap (of_link h) (sym is) ∙ told.others h z))
 
 pub comes_goes : (w : NodeWorld) (e : End) (comes : Comes) → IsOrderly w → EachGoesSo w (comes_at w e comes).0 (comes_at w e comes).1
-comes_goes w e comes a = go (input_of (seen_from e (link_to w.sites e.link)) comes) e.at_host refl refl
-  where
-    by : Option LinkInput → Bool → NodeWorld × List Entry
-    by None at_host = (w, [])
-    by (Some i) true = host_does w e.link comes (steps (AtEnd e.link i))
-    by (Some i) false = controller_does w e.link comes (steps (AtEnd e.link i))
-
-    seen : Bool → Link → Link
-    seen b l = cond b (exchanged l) l
-
-    go : (o : Option LinkInput) (b : Bool) → input_of (seen_from e (link_to w.sites e.link)) comes ≡ o → e.at_host ≡ b → EachGoesSo w (by o b).0 (by o b).1
-    go None b q r = goes_not w [] (λ h. refl) a
-    go (Some i) true q r =
-        host_goes w e.link comes (steps (AtEnd e.link i)) a (λ v kept. steps_keep e.link (e.link ∷ []) e.link i v kept)
-        (λ s n found runs. host_does_step w s n e.link a found runs comes i
-        (ap (λ l. input_of (exchanged l) comes) (sym (link_is w.sites e.link s found))
-        ∙ (ap (λ b. input_of (seen b (link_to w.sites e.link)) comes) (sym r) ∙ q)))
-    go (Some i) false q r =
-        controller_goes w e.link comes i a (ap (λ b. input_of (seen b (link_to w.sites e.link)) comes) (sym r) ∙ q)
+comes_goes w e comes a =
+    by_coming (λ p. EachGoesSo w p.0 p.1) w e comes (goes_not w [] (λ h. refl) a)
+    (λ i side q. host_goes w e.link comes (steps (AtEnd e.link i)) a (λ v kept. steps_keep e.link (e.link ∷ []) e.link i v kept)
+    (λ s n found runs. host_does_step w s n e.link a found runs comes i
+    (ap (λ l. input_of (exchanged l) comes) (sym (link_is w.sites e.link s found)) ∙ q)))
+    (λ i side q. controller_goes w e.link comes i a q)
 
 begins_goes : (w : NodeWorld) (k : ℕ) (deeds : List Deed) → AreMute deeds → IsOrderly w
     → EachGoesSo w (host_does w k NoInput (begins_with k deeds)).0 (host_does w k NoInput (begins_with k deeds)).1
@@ -290,50 +256,27 @@ lost_goes_nothing w k g t keeps nodes links q a =
     (λ h z. q h)
 
 pub memory_goes : (n : ℕ) (m : Memory) (w : NodeWorld) → IsOrderly w → EachGoesSo w (with_memory n m w) []
-memory_goes n m w a = go (n == 0)
-  where
-    by : Bool → NodeWorld
-    by true = record w { memory = m }
-    by false = record w { sites = with_site n (λ s. record s { memory = m }) w.sites }
-
-    go : (b : Bool) → EachGoesSo w (by b) []
-    go true = record {
+memory_goes n m w a =
+    by_memory (λ v. EachGoesSo w v []) n w m
+    (λ z. record {
       orderly = record { different = a.different; hosts = a.hosts; controller = a.controller; nodes = a.nodes };
       each = λ h s found. record { site = s; there = found; tells = tells_nothing h s.link [] refl };
-    }
-    go false = lost_goes_nothing w n (λ s. record s { memory = m }) [] (λ s. refl) (λ s e node. node) (λ s. refl) (λ h. refl) a
+    })
+    (λ z. lost_goes_nothing w n (λ s. record s { memory = m }) [] (λ s. refl) (λ s e node. node) (λ s. refl) (λ h. refl) a)
 
 power_goes : (n : ℕ) (w : NodeWorld) → IsOrderly w → EachGoesSo w (loses_power_at n w) (entry.Cut n ∷ [])
-power_goes n w a = go (n == 0)
-  where
-    by : Bool → NodeWorld
-    by true = controller_cut w
-    by false = record w { sites = with_site n host_cut w.sites }
-
-    t : List Entry
-    t = entry.Cut n ∷ []
-
-    go : (b : Bool) → EachGoesSo w (by b) (entry.Cut n ∷ [])
-    go true =
-        goes_map w w.memory None (λ (s : Site). record s { link = happens s.link (AtController (Step NoInput [] CutOff)) }) (λ s. refl) (entry.Cut n ∷ []) a tt
-        (λ s node. node) (λ h s found. tells_one h s.link (AtController (Step NoInput [] CutOff)) (entry.Cut n ∷ []) refl)
-    go false =
-        goes_site w w.memory w.controller n host_cut (entry.Cut n ∷ []) (λ s. refl) a a.controller (λ s e node. tt)
-        (λ s found. tells_one n s.link (AtHost (Step NoInput [] CutOff)) (entry.Cut n ∷ []) refl) (λ h z. refl)
+power_goes n w a =
+    by_power (λ v. EachGoesSo w v (entry.Cut n ∷ [])) n w
+    (λ z. goes_map w w.memory None (λ (s : Site). record s { link = happens s.link (AtController (Step NoInput [] CutOff)) }) (λ s. refl)
+    (entry.Cut n ∷ []) a tt (λ s node. node) (λ h s found. tells_one h s.link (AtController (Step NoInput [] CutOff)) (entry.Cut n ∷ []) refl))
+    (λ z. goes_site w w.memory w.controller n host_cut (entry.Cut n ∷ []) (λ s. refl) a a.controller (λ s e node. tt)
+    (λ s found. tells_one n s.link (AtHost (Step NoInput [] CutOff)) (entry.Cut n ∷ []) refl) (λ h z. refl))
 
 node_goes : (n : ℕ) (r : Running) (w : NodeWorld) (t : List Entry) → r.core.node ≡ n → map (λ (d : Desk). d.host) r.desks ≡ links_of w n
     → ((h : ℕ) → of_link h t ≡ []) → IsOrderly w → EachGoesSo w (with_node n r w) t
-node_goes n r w t number ends q a = go (n == 0) refl
-  where
-    by : Bool → NodeWorld
-    by true = record w { controller = Some r }
-    by false = record w { sites = with_site n (λ s. record s { node = Some r }) w.sites }
-
-    links : Bool → List ℕ
-    links b = cond b (map (λ (s : Site). s.host) w.sites) (n ∷ [])
-
-    go : (b : Bool) → (n == 0) ≡ b → EachGoesSo w (by b) t
-    go true e = record {
+node_goes n r w t number ends q a =
+    by_running (λ v. EachGoesSo w v t) n w r
+    (λ e. record {
       orderly = record {
         different = a.different;
         hosts = a.hosts;
@@ -341,48 +284,37 @@ node_goes n r w t number ends q a = go (n == 0) refl
         nodes = a.nodes;
       };
       each = λ h s found. record { site = s; there = found; tells = tells_nothing h s.link t (q h) };
-    }
-    go false e =
-        let P : ℕ → Type 0 = λ m. IfItRuns m (m ∷ []) (Some r) in
-        let node : IfItRuns n (n ∷ []) (Some r) = record { number = number; ends = ends ∙ ap links e } in
-        lost_goes_nothing w n (λ s. record s { node = Some r }) t (λ s. refl) (λ s is old. subst P (sym is) node) (λ s. refl) q a
+    })
+    (λ e.
+    let P : ℕ → Type 0 = λ m. IfItRuns m (m ∷ []) (Some r) in
+    let node : IfItRuns n (n ∷ []) (Some r) = record { number = number; ends = ends ∙ ap links e } in
+    lost_goes_nothing w n (λ s. record s { node = Some r }) t (λ s. refl) (λ s is old. subst P (sym is) node) (λ s. refl) q a)
+  where
+    links : Bool → List ℕ
+    links b = cond b (map (λ (s : Site). s.host) w.sites) (n ∷ [])
 
 pub boots_goes : (w : NodeWorld) (n : ℕ) → IsOrderly w → EachGoesSo w (boots w n).0 (boots w n).1
-boots_goes w n a = go (fails_within (length (boot_writes (memory_at w n).content)) (memory_at w n).plan)
+boots_goes w n a =
+    by_boot (λ p. EachGoesSo w p.0 p.1) w n
+    (goes_then w written (loses_power_at n written) [] (entry.Cut n ∷ []) kept (power_goes n written kept.orderly))
+    (goes_then w written (with_node n r written) [] (entry.Booted n (count_of r.core.journal) ∷ []) kept
+    (node_goes n r written (entry.Booted n (count_of r.core.journal) ∷ []) refl (new_ends (links_of w n) ∙ links) (λ h. refl) kept.orderly))
   where
     written : NodeWorld
-    written = with_memory n (after_planned (boot_writes (memory_at w n).content) (memory_at w n)) w
-
-    kept : EachGoesSo w written []
-    kept = memory_goes n (after_planned (boot_writes (memory_at w n).content) (memory_at w n)) w a
+    written = boot_written w n
 
     r : Running
-    r = found n (links_of w n) (memory_at w n).content
+    r = boot_found w n
 
-    by : Bool → NodeWorld × List Entry
-    by true = (loses_power_at n written, entry.Cut n ∷ [])
-    by false = (with_node n r written, entry.Booted n (count_of r.core.journal) ∷ [])
+    m : Memory
+    m = after_planned (boot_writes (memory_at w n).content) (memory_at w n)
+
+    kept : EachGoesSo w written []
+    kept = memory_goes n m w a
 
     -- the links of a node are the same over a memory
     links : links_of w n ≡ links_of written n
-    links = same (n == 0)
-      where
-        m : Memory
-        m = after_planned (boot_writes (memory_at w n).content) (memory_at w n)
-
-        at_world : Bool → NodeWorld
-        at_world true = record w { memory = m }
-        at_world false = record w { sites = with_site n (λ s. record s { memory = m }) w.sites }
-
-        same : (b : Bool) → cond b (hosts_in w.sites) (n ∷ []) ≡ cond b (hosts_in (at_world b).sites) (n ∷ [])
-        same true = refl
-        same false = refl
-
-    go : (b : Bool) → EachGoesSo w (by b).0 (by b).1
-    go true = goes_then w written (loses_power_at n written) [] (entry.Cut n ∷ []) kept (power_goes n written kept.orderly)
-    go false =
-        goes_then w written (with_node n r written) [] (entry.Booted n (count_of r.core.journal) ∷ []) kept
-        (node_goes n r written (entry.Booted n (count_of r.core.journal) ∷ []) refl (new_ends (links_of w n) ∙ links) (λ h. refl) kept.orderly)
+    links = by_memory (λ v. links_of w n ≡ links_of v n) n w m (λ z. refl) (λ z. rw z refl)
 
 -- ## Losses
 
@@ -395,43 +327,28 @@ counts_runs n hosts TooOld h o a = a
 counts_runs n hosts TooMany h o a = a
 
 pub lost_goes : (w : NodeWorld) (e : End) (why : Loss) → IsOrderly w → EachGoesSo w (frame_lost w e why).0 (frame_lost w e why).1
-lost_goes w e why a = go e.at_host refl
+lost_goes w e why a =
+    by_loss (λ p. EachGoesSo w p.0 p.1) w e why
+    (λ q.
+    let t : List Entry = entries_for e.link (first_lost Host why (link_to w.sites e.link).to_host) in
+    goes_site w w.memory w.controller e.link (λ s. record (site_lost e why s) { node = counts why e.link s.node }) t (λ s. refl) a a.controller
+    (λ s n node. counts_runs s.host (s.host ∷ []) why e.link s.node node)
+    (λ s there. loses s t true q (ap (λ (l : Link). of_link e.link (entries_for e.link (first_lost Host why l.to_host))) (link_is w.sites e.link s there)))
+    (λ h z. of_other e.link h (first_lost Host why (link_to w.sites e.link).to_host) z))
+    (λ q.
+    let t : List Entry = entries_for e.link (first_lost Controller why (link_to w.sites e.link).to_controller) in
+    goes_site w w.memory (counts why e.link w.controller) e.link (site_lost e why) t (λ s. refl) a
+    (counts_runs 0 (hosts_in w.sites) why e.link w.controller a.controller) (λ s n node. node)
+    (λ s there.
+    loses s t false q (ap (λ (l : Link). of_link e.link (entries_for e.link (first_lost Controller why l.to_controller))) (link_is w.sites e.link s there)))
+    (λ h z. of_other e.link h (first_lost Controller why (link_to w.sites e.link).to_controller) z))
   where
     event : Bool → LinkEvent
     event b = cond b (AtHost (Lose why)) (AtController (Lose why))
 
-    lost : Site → Site
-    lost s = record s { link = happens s.link (at e (Lose why)) }
-
-    by : Bool → NodeWorld × List Entry
-    by false = (
-      record w { controller = counts why e.link w.controller; sites = with_site e.link lost w.sites },
-      entries_for e.link (first_lost Controller why (link_to w.sites e.link).to_controller),
-    )
-    by true = (
-      record w { sites = with_site e.link (λ s. record (lost s) { node = counts why e.link s.node }) w.sites },
-      entries_for e.link (first_lost Host why (link_to w.sites e.link).to_host),
-    )
-
-    go : (b : Bool) → e.at_host ≡ b → EachGoesSo w (by b).0 (by b).1
-    go false q =
-        goes_site w w.memory (counts why e.link w.controller) e.link lost (by false).1 (λ s. refl) a
-        (counts_runs 0 (hosts_in w.sites) why e.link w.controller a.controller) (λ s n node. node)
-        (λ s there.
-        let P : Bool → Type 0 = λ b. Tells e.link s.link (happens s.link (event b)) (by false).1 in
-        let told : TellOf e.link s.link (AtController (Lose why)) (by false).1 =
-        ap (λ (l : Link). of_link e.link (entries_for e.link (first_lost Controller why l.to_controller))) (link_is w.sites e.link s there) in
-        subst P (sym q) (tells_one e.link s.link (AtController (Lose why)) (by false).1 told))
-        (λ h z. of_other e.link h (first_lost Controller why (link_to w.sites e.link).to_controller) z)
-    go true q =
-        goes_site w w.memory w.controller e.link (λ s. record (lost s) { node = counts why e.link s.node }) (by true).1 (λ s. refl) a a.controller
-        (λ s n node. counts_runs s.host (s.host ∷ []) why e.link s.node node)
-        (λ s there.
-        let P : Bool → Type 0 = λ b. Tells e.link s.link (happens s.link (event b)) (by true).1 in
-        let told : TellOf e.link s.link (AtHost (Lose why)) (by true).1 =
-        ap (λ (l : Link). of_link e.link (entries_for e.link (first_lost Host why l.to_host))) (link_is w.sites e.link s there) in
-        subst P (sym q) (tells_one e.link s.link (AtHost (Lose why)) (by true).1 told))
-        (λ h z. of_other e.link h (first_lost Host why (link_to w.sites e.link).to_host) z)
+    loses : (s : Site) (t : List Entry) (b : Bool) → e.at_host ≡ b → TellOf e.link s.link (event b) t → Tells e.link s.link (happens s.link (event e.at_host)) t
+    loses s t b q told =
+        let P : Bool → Type 0 = λ c. Tells e.link s.link (happens s.link (event c)) t in subst P (sym q) (tells_one e.link s.link (event b) t told)
 
 -- ## Events
 

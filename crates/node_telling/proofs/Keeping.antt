@@ -1,22 +1,21 @@
 -- A node keeps its number and its ends.
 use Rattle.std.proofs.Common.{◌≡◌, ℕ, ◌==◌, Bool, true, false, cond, List, [], ◌∷◌, Option, Some, None, map, refl, ap, ◌∙◌}
-use Rattle.std.specs.List.{flat_map, list_any}
+use Rattle.std.specs.List.{flat_map}
 use Rattle.trace_model.specs.declared.entry.Entry.{Entry}
 use Rattle.link_machine.specs.Machine.{LinkInput, Turn}
 use Rattle.link_machine.specs.Machine.LinkInput.{Tick}
-use Rattle.node_machine.specs.Parts.{Desk, Running, Core, Port, Work, Deed}
+use Rattle.node_machine.specs.Parts.{Desk, Running, Port, Work, Deed}
 use Rattle.node_machine.specs.Carrying.{noting, changed_if, with_desk, after_turn, turn_at}
-use Rattle.node_machine.specs.Node.{input_at, has_come, all_come, with_older, reset_late, times_out, is_over, forgotten, forgets, all_owed, without_notice}
+use Rattle.node_machine.specs.Node.{input_at, has_come, all_come, with_older, reset_late, times_out, forgotten, forgets, all_owed, without_notice}
 use Rattle.node_machine.specs.Node.{after_sessions, synced, steps, begins_with}
 use Rattle.node_machine.specs.Node.NodeInput.{AtEnd, TimePasses}
 use Rattle.node_world.specs.World.{runs_on}
 use Rattle.kept_laws.specs.Books.{hosts_of_ends}
 use Rattle.kept_laws.proofs.Plainly.{hosts_map}
-use Rattle.kept_laws.proofs.Stepping.{without_host, late_host}
 use Rattle.node_telling.specs.Telling.{IfItRuns}
 use Rattle.node_telling.proofs.Mute.{AreMute, forgotten_mute, all_owed_mute, all_synced_mute}
 use Rattle.node_telling.proofs.Walks.{AreSilent, all_do, rest}
-use Rattle.node_laws.proofs.Ports.{come_host, forgets_host, changed_host}
+use Rattle.node_laws.proofs.Ports.{come_host, forgets_host, changed_host, late_host, without_host, sessions_node}
 
 -- it has this number, and ends on the links with these hosts
 pub record Keeps (n : ℕ) (hosts : List ℕ) (w : Work) : Type 0 where
@@ -49,13 +48,6 @@ module _ (n : ℕ) (hosts : List ℕ) where
 
   beside : (w v : Work) → v.core.node ≡ w.core.node → v.ports ≡ w.ports → v.entries ≡ w.entries → Of w → Of v
   beside w v core ports entries a = record { number = core ∙ a.number; ends = ap hosts_of_ends ports ∙ a.ends }
-
-  sessions_node : (core : Core) (ports : List Port) → (after_sessions core ports).node ≡ core.node
-  sessions_node core ports = go (list_any is_over ports) refl
-    where
-      go : (b : Bool) → list_any is_over ports ≡ b → (after_sessions core ports).node ≡ core.node
-      go true q = rw q refl
-      go false q = rw q refl
 
   pub steps_keep : (k : ℕ) (i : LinkInput) (w : Work) → Of w → Of (steps (AtEnd k i) w)
   steps_keep k i w a =

@@ -1,47 +1,38 @@
 -- Whatever lines are played, a world of nodes is orderly.
-use Rattle.std.proofs.Common.{◌≡◌, ℕ, ◌==◌, false, List, [], ◌∷◌, ◌++◌, Option, Some, None, map, refl, ap, sym, subst, ◌∙◌}
+use Rattle.std.proofs.Common.{◌≡◌, ℕ, ◌==◌, false, List, [], ◌∷◌, map, refl, ap, sym, subst, ◌∙◌}
 use Rattle.std.specs.Prelude.{replicate}
-use Rattle.std.specs.List.{AllByRecursion, flat_map}
-use Rattle.trace_model.specs.declared.entry.Entry.{Entry}
+use Rattle.std.specs.List.{AllByRecursion}
 use Rattle.trace_model.specs.declared.line.Line.{Line}
 use Rattle.journal_laws.specs.Planned.{after_planned}
-use Rattle.message_link.specs.Links.{NumberedEnd, exchanged, aged, ticks_at_controller}
-use Rattle.message_link.specs.Links.Ending.{GoesOut}
-use Rattle.link_entries.specs.Entries.End.{Controller}
-use Rattle.node_machine.specs.Parts.{Running, Work}
-use Rattle.node_machine.specs.Node.{steps}
-use Rattle.node_machine.specs.Node.NodeInput.{TimePasses}
-use Rattle.node_world.specs.World.{Site, NodeWorld, Happening, new_site, new_world, link_to, work_of, ending_of, turns_at, runs_on, frames_noted, is_late_at}
-use Rattle.node_world.specs.World.{ticked_so, all_aged, controller_ticks, host_ticks, hosts_tick, world_ticks, world_step}
+use Rattle.message_link.specs.Links.{NumberedEnd, aged}
+use Rattle.node_machine.specs.Parts.{Work}
+use Rattle.node_world.specs.World.{Site, NodeWorld, Happening, new_site, new_world, link_to, work_of, runs_on}
+use Rattle.node_world.specs.World.{all_aged, controller_ticks, host_ticks, hosts_tick, world_ticks, world_step}
 use Rattle.node_world.specs.World.Happening.{Boots, IsCut, Gives, Inits, Takes, Loses, Ticks, Resets, Activates, Arms}
 use Rattle.node_world.specs.Lines.{happenings}
 use Rattle.node_world.specs.NodeHistories.{world_after}
 use Rattle.kept_laws.specs.Hosts.{AreDifferent}
-use Rattle.node_telling.specs.Telling.{IfItRuns, hosts_in, IsOrderly}
+use Rattle.node_world.proofs.Cases.{site_unticked, site_ticked, near_tick, by_controller_tick, host_tick, by_host_tick}
+use Rattle.node_telling.specs.Telling.{HasEnds, IfItRuns, hosts_in, IsOrderly}
 use Rattle.node_telling.proofs.Keeping.{Keeps, tick_keeps, runs_keep}
 use Rattle.node_telling.proofs.Nodes.{hosts_same}
 use Rattle.node_telling.proofs.Events.{orderly_map, untimed_goes}
 use Rattle.node_telling.proofs.Lasting.{Any, AnyLine, all_any, all_lines, lines_last}
-use Rattle.node_telling.proofs.WorldTicks.{after_tick, host_tick, tick_host}
+use Rattle.node_telling.proofs.WorldTicks.{tick_host}
 
 -- ## Ticks
 
 tick_node : (x : Site) → IfItRuns x.host (x.host ∷ []) x.node → IfItRuns x.host (x.host ∷ []) (host_ticks x).0.node
-tick_node x a = go x.node a
-  where
-    by : Option Running → Site × List Entry
-    by None = (record x { link = exchanged (ticks_at_controller (exchanged x.link) [] GoesOut) }, [])
-    by (Some n) = after_tick x (host_tick x n)
-
-    go : (o : Option Running) → IfItRuns x.host (x.host ∷ []) o → IfItRuns x.host (x.host ∷ []) (by o).0.node
-    go None b = a
-    go (Some n) b =
-        let near_ends : ℕ → NumberedEnd = λ j. x.link.host in
-        let first : Keeps x.host (x.host ∷ []) (work_of n x.memory.plan near_ends []) = record {
-          number = b.number;
-          ends = hosts_same near_ends n.desks ∙ b.ends;
-        } in
-        runs_keep x.host (x.host ∷ []) (host_tick x n) (tick_keeps x.host (x.host ∷ []) (work_of n x.memory.plan near_ends []) first)
+tick_node x a =
+    by_host_tick (λ p. IfItRuns x.host (x.host ∷ []) p.0.node) x (λ q. a)
+    (λ n q.
+    let b : HasEnds x.host (x.host ∷ []) n = subst (IfItRuns x.host (x.host ∷ [])) q a in
+    let near_ends : ℕ → NumberedEnd = λ j. x.link.host in
+    let first : Keeps x.host (x.host ∷ []) (work_of n x.memory.plan near_ends []) = record {
+      number = b.number;
+      ends = hosts_same near_ends n.desks ∙ b.ends;
+    } in
+    runs_keep x.host (x.host ∷ []) (host_tick x n) (tick_keeps x.host (x.host ∷ []) (work_of n x.memory.plan near_ends []) first))
 
 pub hosts_ticked : (sites : List Site) → hosts_in (hosts_tick sites).0 ≡ hosts_in sites
 hosts_ticked [] = refl
@@ -74,37 +65,17 @@ ticks_orderly w a =
     old_orderly : IsOrderly old
     old_orderly = orderly_map w w.memory w.controller (λ (x : Site). record x { link = aged x.link }) (λ x. refl) a a.controller (λ x n. n)
 
-    after_work : Work → NodeWorld × List Entry
-    after_work k = (
-      record {
-        memory = after_planned k.writes old.memory;
-        controller = runs_on k;
-        sites = map (λ (s : Site). record s { link = ticked_so s.link (is_late_at k s.host) (turns_at k s.host) (ending_of k) }) old.sites;
-      },
-      k.entries ++ flat_map (λ (s : Site). frames_noted Controller s.host s.link k) old.sites,
-    )
-
-    near_ends : ℕ → NumberedEnd
-    near_ends j = (link_to old.sites j).controller
-
-    by : Option Running → NodeWorld × List Entry
-    by None = (record old { sites = map (λ (s : Site). record s { link = ticks_at_controller s.link [] GoesOut }) old.sites }, [])
-    by (Some r) = after_work (steps TimePasses (work_of r old.memory.plan near_ends []))
-
-    go : (o : Option Running) → IfItRuns 0 (hosts_in old.sites) o → IsOrderly (by o).0
-    go None n =
-        orderly_map old old.memory old.controller (λ (s : Site). record s { link = ticks_at_controller s.link [] GoesOut }) (λ x. refl) old_orderly
-        old_orderly.controller (λ x m. m)
-    go (Some r) n =
-        let begun : Work = work_of r old.memory.plan near_ends [] in
-        let k : Work = steps TimePasses begun in
-        let first : Keeps 0 (hosts_in old.sites) begun = record { number = n.number; ends = hosts_same near_ends r.desks ∙ n.ends } in
-        orderly_map old (after_planned k.writes old.memory) (runs_on k)
-        (λ (s : Site). record s { link = ticked_so s.link (is_late_at k s.host) (turns_at k s.host) (ending_of k) }) (λ x. refl) old_orderly
-        (runs_keep 0 (hosts_in old.sites) k (tick_keeps 0 (hosts_in old.sites) begun first)) (λ x m. m)
-
     near : IsOrderly (controller_ticks old).0
-    near = go old.controller old_orderly.controller
+    near =
+        by_controller_tick (λ p. IsOrderly p.0) old
+        (λ q. orderly_map old old.memory old.controller site_unticked (λ x. refl) old_orderly old_orderly.controller (λ x m. m))
+        (λ r q.
+        let n : HasEnds 0 (hosts_in old.sites) r = subst (IfItRuns 0 (hosts_in old.sites)) q old_orderly.controller in
+        let near_ends : ℕ → NumberedEnd = λ j. (link_to old.sites j).controller in
+        let begun : Work = work_of r old.memory.plan near_ends [] in
+        let first : Keeps 0 (hosts_in old.sites) begun = record { number = n.number; ends = hosts_same near_ends r.desks ∙ n.ends } in
+        orderly_map old (after_planned (near_tick old r).writes old.memory) (runs_on (near_tick old r)) (site_ticked (near_tick old r)) (λ x. refl)
+        old_orderly (runs_keep 0 (hosts_in old.sites) (near_tick old r) (tick_keeps 0 (hosts_in old.sites) begun first)) (λ x m. m))
 
     same : hosts_in (hosts_tick (controller_ticks old).0.sites).0 ≡ hosts_in (controller_ticks old).0.sites
     same = hosts_ticked (controller_ticks old).0.sites

@@ -1,6 +1,6 @@
 -- How a link stands as it is read off a step of a node: what its end has and both wires, also where the node loses its power.
 use Rattle.std.proofs.Common.{◌≡◌, ℕ, ◌==◌, Bool, true, false, cond, List, [], ◌∷◌, ◌++◌, Option, Some, None, map, refl, ap, sym, ◌∙◌}
-use Rattle.std.specs.List.{AllByRecursion, flat_map, fold, list_any}
+use Rattle.std.specs.List.{AllByRecursion, flat_map, fold}
 use Rattle.std.specs.Option.{option_map_or}
 use Rattle.std.proofs.lemmas.List.Sums.{fold-append}
 use Rattle.trace_model.specs.declared.entry.Entry.{Entry}
@@ -17,12 +17,13 @@ use Rattle.history.specs.Filters.Saying.{Sends}
 use Rattle.history.specs.Steps.{end_of, entry_of, entries_for}
 use Rattle.node_machine.specs.Parts.{Desk, Core, Port, Work, Deed}
 use Rattle.node_machine.specs.Carrying.{own_side, noting, port_at, with_desk, noted_of, turn_at, loses_power}
-use Rattle.node_machine.specs.Node.{NodeInput, input_at, told_at, all_come, with_older, is_late, told_late, times_out, is_over, forgotten, forgets, all_owed}
+use Rattle.node_machine.specs.Node.{NodeInput, input_at, told_at, all_come, with_older, is_late, told_late, times_out, forgotten, forgets, all_owed}
 use Rattle.node_machine.specs.Node.{without_notice, after_sessions, synced, steps, begins_with}
 use Rattle.node_machine.specs.Node.NodeInput.{AtEnd, TimePasses}
 use Rattle.node_telling.specs.Telling.{is_of, of_link}
 use Rattle.node_telling.specs.Standing.{Standing, said_near, said_far, stands_said, after_power, stands_noted, standing, law_noted, standing_by_law}
 use Rattle.node_telling.proofs.Mute.{AreMute, forgotten_mute, all_owed_mute, all_synced_mute}
+use Rattle.node_laws.proofs.Ports.{sessions_node}
 use Rattle.node_telling.proofs.Walks.{AreSilent, IsUncut, AreUncut, all_last, rest_lasts}
 
 -- ## Entries that tell of no power
@@ -250,13 +251,6 @@ module _ (h n : ℕ) (off : Standing → Standing) (powers : (x : Standing) → 
   pub came_core : (input : NodeInput) (w : Work) → (times_out input (all_come input w)).core ≡ w.core
   came_core (AtEnd k i) w = refl
   came_core TimePasses w = refl
-
-  pub sessions_node : (core : Core) (ports : List Port) → (after_sessions core ports).node ≡ core.node
-  sessions_node core ports = go (list_any is_over ports)
-    where
-      go : (b : Bool) → (cond b (record core { command = None; init = None }) core).node ≡ core.node
-      go true = refl
-      go false = refl
 
   pub steps_powered : (input : NodeInput) (w : Work) → w.core.node ≡ n → w.cut ≡ false → AreUncut w.entries → Powered (steps input w)
   steps_powered input w node cut uncut =

@@ -19,14 +19,13 @@ use Rattle.node_machine.specs.Node.NodeInput.{AtEnd}
 use Rattle.node_world.specs.World.{input_of, near_end_in, arrival, wires_for, ending_of, turns_at, frames_noted}
 use Rattle.kept_laws.specs.Books.{hosts_of_ends}
 use Rattle.kept_laws.specs.Hosts.{AreDifferent}
-use Rattle.kept_laws.proofs.Stepping.{without_host}
 use Rattle.node_telling.specs.Telling.{of_link}
 use Rattle.node_telling.proofs.Mute.{AreMute, forgotten_mute, all_owed_mute, all_synced_mute}
 use Rattle.node_telling.proofs.Walks.{all_do, rest}
 use Rattle.node_telling.proofs.Accounts.{of-append, of_other, at_host, SameEnd, Account, note, desk, turns, beside}
 use Rattle.node_telling.proofs.Away.{Away, at_map, none_map, away_note, away_desk, away_turns, away_beside}
 use Rattle.node_telling.proofs.Parts.{after_coming, told_coming, IsStep, parts_of, step_is}
-use Rattle.node_laws.proofs.Ports.{come_host, forgets_host}
+use Rattle.node_laws.proofs.Ports.{come_host, forgets_host, without_host}
 
 -- ## Lists
 

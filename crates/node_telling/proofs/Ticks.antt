@@ -18,7 +18,6 @@ use Rattle.node_machine.specs.Node.{without_notice, after_sessions, synced, step
 use Rattle.node_machine.specs.Node.NodeInput.{TimePasses}
 use Rattle.kept_laws.specs.Hosts.{AreDifferent}
 use Rattle.kept_laws.proofs.Plainly.{hosts_map}
-use Rattle.kept_laws.proofs.Stepping.{without_host, late_host}
 use Rattle.node_telling.specs.Telling.{of_link, is_due}
 use Rattle.node_telling.proofs.Mute.{forgotten_mute, all_owed_mute, all_synced_mute}
 use Rattle.node_telling.proofs.Walks.{rest}
@@ -26,7 +25,7 @@ use Rattle.node_telling.proofs.Accounts.{of-append, of_other, at_host, SameEnd, 
 use Rattle.node_telling.proofs.Away.{Away, at_map, none_map, away_note, away_desk, away_turns, away_beside}
 use Rattle.node_telling.proofs.Late.{IsLasting, reset_same, tick_told, reset_told}
 use Rattle.node_telling.proofs.Steps.{only, Opening, Goes, GoesLate, before, without_same, forgets_same, sessions_side}
-use Rattle.node_laws.proofs.Ports.{forgets_host}
+use Rattle.node_laws.proofs.Ports.{forgets_host, late_host, without_host}
 
 -- ## Notices
 

@@ -1,8 +1,7 @@
 -- A fact of a node lasts over all that it does in a step, where it lasts over entries that tell of no link, over changes of what is
 -- kept of an end, over turns, over the loss of power, and over what changes neither ends nor entries.
-use Rattle.std.proofs.Common.{◌≡◌, ℕ, Bool, true, false, List, [], ◌∷◌, ◌++◌, length, Option, Some, None, refl}
+use Rattle.std.proofs.Common.{◌≡◌, ℕ, Bool, true, false, List, [], ◌∷◌, ◌++◌, length, Some, None, refl}
 use Rattle.std.specs.List.{AllByRecursion}
-use Rattle.std.specs.Option.{option_map_or}
 use Rattle.trace_model.specs.declared.entry.Entry.{Entry}
 use Rattle.trace_model.specs.declared.entry.Entry.TheVariants as entry
 use Rattle.journal_laws.specs.Planned.{fails_within}
@@ -11,16 +10,17 @@ use Rattle.journal_laws.specs.Journal.{count_of}
 use Rattle.hci_tables.specs.declared.command.Command.{Command}
 use Rattle.hci_tables.specs.Bodies.{body_of}
 use Rattle.hci_store.specs.Committing.{commit_writes}
-use Rattle.link_machine.specs.Machine.{Message, Turn, is_held}
+use Rattle.link_machine.specs.Machine.{Message, Turn}
 use Rattle.link_machine.specs.Machine.Turn.{Give, Hold, FetchMessage, SetAside, Release}
 use Rattle.history.specs.Filters.{said}
-use Rattle.node_machine.specs.Parts.{About, Desk, Port, Work, Deed}
+use Rattle.node_machine.specs.Parts.{About, Desk, Work, Deed}
 use Rattle.node_machine.specs.Parts.About.{Waits, Removed}
 use Rattle.node_machine.specs.Parts.Deed.{Commits, Sends, SaysOk, Asks, Releases, Tells, IsAnswered, Drops, SetsErrors, Orders, Hears, GoesOn, Ends}
-use Rattle.node_machine.specs.Carrying.{end_of_node, noting, unless_cut, port_at, with_desk, turn_at, notified, loses_power, keeps, commit, done, all_done}
-use Rattle.node_machine.specs.Carrying.{needs, lack}
-use Rattle.node_machine.specs.Turns.{deeds_of, handles, holds_back, lets_go, have_turns, goes_through_ends, passes}
+use Rattle.node_machine.specs.Carrying.{end_of_node, noting, with_desk, turn_at, notified, loses_power, keeps, commit, done, all_done}
+use Rattle.node_machine.specs.Turns.{handles, holds_back, lets_go}
 use Rattle.node_machine.specs.Node.{answers_and_passes}
+use Rattle.node_laws.proofs.StepWalks.{got_at, all_do as all_done_so, lets as lets_as, holds as holds_as, Lasts, handled, rest_lasts as rest_as}
+use Rattle.node_laws.proofs.Walks.{anyone}
 use Rattle.node_telling.proofs.Mute.{IsPlain, plain_said, IsMute, AreMute, deeds_mute}
 
 -- they tell of no link
@@ -55,17 +55,6 @@ plain_uncut (x ∷ t) a = (one_uncut x a.0, plain_uncut t a.1)
 abbrev pub IsNoFetch : Turn → Type 0
 IsNoFetch FetchMessage = ⊥
 IsNoFetch _ = Unit {0}
-
-pub unless : (Of : Work → Type 0) (f : Work → Work) (w : Work) → ((v : Work) → Of v → Of (f v)) → Of w → Of (unless_cut f w)
-unless Of f w one a = go w.cut
-  where
-    by : Bool → Work
-    by true = w
-    by false = f w
-
-    go : (b : Bool) → Of (by b)
-    go true = a
-    go false = one w a
 
 -- ## Deeds
 
@@ -123,56 +112,24 @@ module _ (Of : Work → Type 0)
       note (x ∷ []) v (i, tt) (beside w v refl refl refl refl a)
 
   pub every_do : (k : ℕ) (deeds : List Deed) (w : Work) → AreMute deeds → Of w → Of (all_done k deeds w)
-  every_do k [] w i a = a
-  every_do k (d ∷ deeds) w i a = unless Of (all_done k deeds) (done k d w) (λ v b. every_do k deeds v i.1 b) (does k d w i.0 a)
+  every_do k deeds w i a = all_done_so Of IsMute does k deeds w i a
+
+  held : (k : ℕ) (flag : Bool) (w : Work) → Of w → Of (turn_at k (Hold flag) w)
+  held k flag w a = turns k (Hold flag) w tt a
+
+  marked : (k : ℕ) (flag : Bool) (w : Work) → Of w → Of (with_desk k (λ d. record d { holds = flag }) w)
+  marked k flag w a = desk k (λ d. record d { holds = flag }) w (λ d. refl) a
+
+  held_told : (k need spare : ℕ) (w : Work) → Of w → Of (noting (entry.Held (end_of_node w.core k) need spare ∷ []) w)
+  held_told k need spare w a = note (entry.Held (end_of_node w.core k) need spare ∷ []) w (tt, tt) a
 
   pub holds : (k : ℕ) (short : ℕ × ℕ) (w : Work) → Of w → Of (holds_back k short w)
-  holds k short w a = go (option_map_or (λ (p : Port). p.desk.holds) (port_at w.ports k) false)
-    where
-      told : Work
-      told = noting (entry.Held (end_of_node w.core k) short.0 short.1 ∷ []) w
-
-      by : Bool → Work
-      by true = turn_at k (Hold true) w
-      by false = turn_at k (Hold true) (with_desk k (λ d. record d { holds = true }) told)
-
-      go : (b : Bool) → Of (by b)
-      go true = turns k (Hold true) w tt a
-      go false =
-          turns k (Hold true) (with_desk k (λ d. record d { holds = true }) told) tt
-          (desk k (λ d. record d { holds = true }) told (λ d. refl) (note (entry.Held (end_of_node w.core k) short.0 short.1 ∷ []) w (tt, tt) a))
+  holds k short w a = holds_as Of held marked held_told k short w a
 
   pub lets : (k : ℕ) (w : Work) → Of w → Of (lets_go k w)
-  lets k w a = go (option_map_or (λ (p : Port). is_held p.side) (port_at w.ports k) false)
-    where
-      by : Bool → Work
-      by true = turn_at k (Hold false) w
-      by false = w
-
-      go : (b : Bool) → Of (by b)
-      go true = turns k (Hold false) w tt a
-      go false = a
+  lets k w a = lets_as Of held k w a
 
 -- ## Steps
-
--- what lasts over deeds and over the turns of each end
-module _ (Of : Work → Type 0)
-    (all : (k : ℕ) (deeds : List Deed) (w : Work) → AreMute deeds → Of w → Of (all_done k deeds w))
-    (having : (k : ℕ) (w : Work) → Of w → Of (have_turns k (option_map_or (λ (p : Port). p.side.got) (port_at w.ports k) []) w)) where
-  going : (hosts : List ℕ) (w : Work) → Of w → Of (goes_through_ends hosts w)
-  going [] w a = a
-  going (k ∷ hosts) w a =
-      unless Of (goes_through_ends hosts) (have_turns k (option_map_or (λ (p : Port). p.side.got) (port_at w.ports k) []) w)
-      (λ v b. going hosts v b)
-      (having k w a)
-
-  -- what is left to do in a step once something has come: blocks are freed, identifiers kept, answers given, and messages have turns
-  pub rest_of : (freed syncs owing : List Deed) (w : Work) → AreMute freed → AreMute syncs → AreMute owing → Of w
-      → Of (answers_and_passes freed syncs owing w)
-  rest_of freed syncs owing w f s o a =
-      let one : Of (all_done 0 syncs (all_done 0 freed w)) = all 0 syncs (all_done 0 freed w) s (all 0 freed w f a) in
-      unless Of passes (unless_cut (all_done 0 owing) (all_done 0 syncs (all_done 0 freed w))) (λ v b. going _ v b)
-      (unless Of (all_done 0 owing) (all_done 0 syncs (all_done 0 freed w)) (λ v b. all 0 owing v o b) one)
 
 -- what lasts over all that is noted of no link and tells of no power, over all turns, and over the loss of power
 module _ (Of : Work → Type 0)
@@ -190,32 +147,27 @@ module _ (Of : Work → Type 0)
   pub all_last : (k : ℕ) (deeds : List Deed) (w : Work) → AreMute deeds → Of w → Of (all_done k deeds w)
   all_last k deeds w i a = every_do Of plainly desk any beside loses k deeds w i a
 
+  abbrev Any : ℕ → Message → Type 0
+  Any k m = Unit {0}
+
+  all_of_it : Lasts Of IsMute Any
+  all_of_it = record {
+    does = does Of plainly desk any beside loses;
+    turn_told = λ k m w comes a. note (entry.Turn (end_of_node w.core k) m.0 m.1 ∷ []) w (refl, tt) (tt, tt) a;
+    held_told = held_told Of plainly desk any beside loses;
+    fetched = λ k w a. turns k FetchMessage w a;
+    held = held Of plainly desk any beside loses;
+    marked = marked Of plainly desk any beside loses;
+    come = λ k w a. anyone (Any k) (λ m. tt) (got_at k w);
+    causes = λ k m w comes a. deeds_mute w.core w.ports k m;
+  }
+
   pub handling : (k : ℕ) (m : Message) (deeds : List Deed) (w : Work) → AreMute deeds → Of w → Of (handles k m deeds w)
-  handling k m deeds w f a =
-      let told : Work = noting (entry.Turn (end_of_node w.core k) m.0 m.1 ∷ []) w in
-      let fetched : Work = turn_at k FetchMessage told in
-      all_last k deeds (with_desk k (λ d. record d { holds = false }) fetched) f
-      (desk k (λ d. record d { holds = false }) fetched (λ d. refl)
-      (turns k FetchMessage told (note (entry.Turn (end_of_node w.core k) m.0 m.1 ∷ []) w (refl, tt) (tt, tt) a)))
-
-  having : (k : ℕ) (messages : List Message) (w : Work) → Of w → Of (have_turns k messages w)
-  having k [] w a = lets Of plainly desk any beside loses k w a
-  having k (m ∷ messages) w a = go (lack w.ports (needs k deeds)) (λ v b. having k messages v b)
-    where
-      deeds : List Deed
-      deeds = deeds_of w.core w.ports k m
-
-      by : Option (ℕ × ℕ) → Work
-      by None = unless_cut (have_turns k messages) (handles k m deeds w)
-      by (Some short) = holds_back k short w
-
-      go : (o : Option (ℕ × ℕ)) → ((v : Work) → Of v → Of (have_turns k messages v)) → Of (by o)
-      go None later = unless Of (have_turns k messages) (handles k m deeds w) later (handling k m deeds w (deeds_mute w.core w.ports k m) a)
-      go (Some short) later = holds Of plainly desk any beside loses k short w a
+  handling k m deeds w f a = handled Of IsMute Any all_of_it k m deeds w tt f a
 
   pub rest_lasts : (freed syncs owing : List Deed) (w : Work) → AreMute freed → AreMute syncs → AreMute owing → Of w
       → Of (answers_and_passes freed syncs owing w)
-  rest_lasts freed syncs owing w f s o a = rest_of Of all_last (λ k v b. having k _ v b) freed syncs owing w f s o a
+  rest_lasts freed syncs owing w f s o a = rest_as Of IsMute Any all_of_it freed syncs owing w f s o a
 
 -- what lasts over all that is noted of no link, also of power, and over all turns
 module _ (Of : Work → Type 0)

@@ -26,11 +26,12 @@ use Rattle.link_entries.proofs.Stepping.{host_finished}
 use Rattle.history.specs.Steps.{entries_for}
 use Rattle.node_machine.specs.Parts.{Desk, Running, Port, Work}
 use Rattle.node_machine.specs.Carrying.{port_at}
-use Rattle.node_machine.specs.Node.{is_late, steps}
+use Rattle.node_machine.specs.Node.{is_late}
 use Rattle.node_machine.specs.Node.NodeInput.{TimePasses}
 use Rattle.node_world.specs.World.{Site, NodeWorld, site_at, link_to, port_for, work_of, ending_of, turns_at, runs_on, frames_noted, all_aged, is_late_at}
 use Rattle.node_world.specs.World.{ticked_so, controller_ticks, host_ticks, hosts_tick, world_ticks}
 use Rattle.kept_laws.specs.Hosts.{AreDifferent}
+use Rattle.node_world.proofs.Cases.{near_tick, by_controller_tick, host_tick, after_tick, by_host_tick, site_ticked, site_unticked}
 use Rattle.node_telling.specs.Telling.{of_link, TellOf, HasEnds, IfItRuns, hosts_in, IsOrderly, GoesSo, Tells, is_due, NoneDue, IfOff, IfDue, IsTimely}
 use Rattle.node_telling.specs.Standing.{Standing, without_power, stands_noted, standing, law_noted, standing_by_law, StandsOf}
 use Rattle.node_telling.proofs.Walks.{AreUncut}
@@ -78,68 +79,36 @@ had k h = record { turns = turns_at k h; ending = ending_of k }
 
 -- ## Ticks of hosts
 
--- the work of a host's tick
-abbrev pub host_tick : Site → Running → Work
-host_tick x n = steps TimePasses (work_of n x.memory.plan (λ j. x.link.host) [])
-
--- a host, and what is noted, after its tick
-abbrev pub after_tick : Site → Work → Site × List Entry
-after_tick x k = (
-  record x {
-    link = exchanged (ticks_at_controller (exchanged x.link) (turns_at k x.host) (ending_of k));
-    memory = after_planned k.writes x.memory;
-    node = runs_on k;
-  },
-  k.entries ++ frames_noted Host x.host (exchanged x.link) k,
-)
-
 pub host_is : (x : Site) (n : Running) → x.node ≡ Some n → host_ticks x ≡ after_tick x (host_tick x n)
 host_is x n q = rw q refl
 
 pub tick_host : (x : Site) → (host_ticks x).0.host ≡ x.host
-tick_host x = go x.node
-  where
-    by : Option Running → Site × List Entry
-    by None = (record x { link = exchanged (ticks_at_controller (exchanged x.link) [] GoesOut) }, [])
-    by (Some n) = after_tick x (host_tick x n)
-
-    go : (o : Option Running) → (by o).0.host ≡ x.host
-    go None = refl
-    go (Some n) = refl
+tick_host x = by_host_tick (λ p. p.0.host ≡ x.host) x (λ q. refl) (λ n q. refl)
 
 module _ (h : ℕ) where
   other_host : (x : Site) → (x.host == 0) ≡ false → IfItRuns x.host (x.host ∷ []) x.node → (x.host == h) ≡ false → of_link h (host_ticks x).1 ≡ []
-  other_host x host a q = go x.node a
-    where
-      by : Option Running → Site × List Entry
-      by None = (record x { link = exchanged (ticks_at_controller (exchanged x.link) [] GoesOut) }, [])
-      by (Some n) = after_tick x (host_tick x n)
-
-      go : (o : Option Running) → IfItRuns x.host (x.host ∷ []) o → of_link h (by o).1 ≡ []
-      go None b = refl
-      go (Some n) b =
-          let k : Work = host_tick x n in
-          let away : Away h k = away_tick h (work_of n x.memory.plan (λ j. x.link.host) []) (host_away x n NoInput host b h q) in
-          of-append h k.entries (frames_noted Host x.host (exchanged x.link) k)
-          ∙ (ap (λ t. t ++ of_link h (frames_noted Host x.host (exchanged x.link) k)) away.told ∙ frames_of h x.host Host (exchanged x.link) k q)
+  other_host x host a q =
+      by_host_tick (λ p. of_link h p.1 ≡ []) x (λ none. refl)
+      (λ n runs.
+      let b : HasEnds x.host (x.host ∷ []) n = subst (IfItRuns x.host (x.host ∷ [])) runs a in
+      let k : Work = host_tick x n in
+      let away : Away h k = away_tick h (work_of n x.memory.plan (λ j. x.link.host) []) (host_away x n NoInput host b h q) in
+      of-append h k.entries (frames_noted Host x.host (exchanged x.link) k)
+      ∙ (ap (λ t. t ++ of_link h (frames_noted Host x.host (exchanged x.link) k)) away.told ∙ frames_of h x.host Host (exchanged x.link) k q))
 
   -- and it leaves how the link stands
   other_leaves : (x : Site) → (x.host == 0) ≡ false → IfItRuns x.host (x.host ∷ []) x.node → (x.host == h) ≡ false → (y : Standing)
       → standing h y (host_ticks x).1 ≡ y
-  other_leaves x host a q y = go x.node a (other_host x host a q)
-    where
-      by : Option Running → Site × List Entry
-      by None = (record x { link = exchanged (ticks_at_controller (exchanged x.link) [] GoesOut) }, [])
-      by (Some n) = after_tick x (host_tick x n)
-
-      go : (o : Option Running) → IfItRuns x.host (x.host ∷ []) o → of_link h (by o).1 ≡ [] → standing h y (by o).1 ≡ y
-      go None b none = refl
-      go (Some n) b none =
-          let k : Work = host_tick x n in
-          step_away h x.host (other_power x.host h host q) k (frames_noted Host x.host (exchanged x.link) k)
-          (steps_powered h x.host (λ z. z) (other_power x.host h host q) (λ z. refl) TimePasses
-          (work_of n x.memory.plan (λ j. x.link.host) []) b.number refl tt)
-          (own_frames Host x.host (exchanged x.link) k).0 none y
+  other_leaves x host a q y =
+      by_host_tick (λ p. of_link h p.1 ≡ [] → standing h y p.1 ≡ y) x (λ none told. refl)
+      (λ n runs told.
+      let b : HasEnds x.host (x.host ∷ []) n = subst (IfItRuns x.host (x.host ∷ [])) runs a in
+      let k : Work = host_tick x n in
+      step_away h x.host (other_power x.host h host q) k (frames_noted Host x.host (exchanged x.link) k)
+      (steps_powered h x.host (λ z. z) (other_power x.host h host q) (λ z. refl) TimePasses
+      (work_of n x.memory.plan (λ j. x.link.host) []) b.number refl tt)
+      (own_frames Host x.host (exchanged x.link) k).0 told y)
+      (other_host x host a q)
 
   abbrev pub AreNumbered : List Site → Type 0
   AreNumbered sites = AllByRecursion (λ (x : Site). (x.host == 0) ≡ false) sites
@@ -308,10 +277,6 @@ abbrev pub near_notes : Bool → Link → Node → List Noted
 near_notes true l c = step_entries Controller l (AsksReset None) c.turns c.ending ++ []
 near_notes false l c = tick_entries Controller l c
 
--- the work of the controller's tick
-abbrev pub near_tick : NodeWorld → Running → Work
-near_tick w r = steps TimePasses (work_of r w.memory.plan (λ j. (link_to w.sites j).controller) [])
-
 -- its turns at this end
 abbrev pub near_turns : NodeWorld → ℕ → Option Running → List Turn
 near_turns w h None = []
@@ -469,15 +434,10 @@ module _ (w : NodeWorld) (h : ℕ) (s : Site) (orderly : IsOrderly w) (found : s
 
 -- it leaves the world orderly
 pub near_orderly : (w : NodeWorld) → IsOrderly w → IsOrderly (record { memory = w.memory; controller = None; sites = (controller_ticks w).0.sites })
-near_orderly w a = go w.controller refl
-  where
-    so : Running → Site → Site
-    so r x =
-        record x { link = ticked_so x.link (is_late_at (near_tick w r) x.host) (turns_at (near_tick w r) x.host) (ending_of (near_tick w r)) }
-
-    go : (o : Option Running) → w.controller ≡ o → IsOrderly (record { memory = w.memory; controller = None; sites = (controller_ticks w).0.sites })
-    go None q = rw q (orderly_map w w.memory None (λ (x : Site). record x { link = ticks_at_controller x.link [] GoesOut }) (λ x. refl) a tt (λ x n. n))
-    go (Some r) q = rw q (orderly_map w w.memory None (so r) (λ x. refl) a tt (λ x n. n))
+near_orderly w a =
+    by_controller_tick (λ p. IsOrderly (record { memory = w.memory; controller = None; sites = p.0.sites })) w
+    (λ q. orderly_map w w.memory None site_unticked (λ x. refl) a tt (λ x n. n))
+    (λ r q. orderly_map w w.memory None (site_ticked (near_tick w r)) (λ x. refl) a tt (λ x n. n))
 
 -- an input to the controller's end leaves the other one
 host_left : (l : Link) (i : LinkInput) (ts : List Turn) (ending : Ending) → (has_input l i ts ending).host ≡ l.host

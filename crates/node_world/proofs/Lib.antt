@@ -4,3 +4,4 @@ pub mod Cuts
 pub mod Hosts
 pub mod User
 pub mod Readings
+pub mod Cases

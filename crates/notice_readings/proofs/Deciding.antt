@@ -1,27 +1,28 @@
 -- Which notices the administration gate decides on.
-use Rattle.std.proofs.Common.{◌≡◌, ℕ, zero, suc, ◌≤◌, inl, inr, Bool, true, false, cond, not, eqb, List, [], ◌∷◌, length, refl, sym, ap, ◌∙◌, arith}
-use Rattle.std.specs.Prelude.{Option, Some, None, unwrap_or}
-use Rattle.std.specs.List.{AllByRecursion, list_all}
+use Rattle.std.proofs.Common.{◌≡◌, ℕ, ◌≤◌, inl, inr, Bool, true, false, cond, eqb, List, [], ◌∷◌, length, refl, sym, ◌∙◌, arith}
+use Rattle.std.specs.Prelude.{Option, Some, None}
+use Rattle.std.specs.List.{AllByRecursion}
 use Rattle.std.specs.Option.{option_map_or, option_and_then}
-use Rattle.std.proofs.lemmas.Bool.{cond_both, and_parts, eqb-true, eqb-false, ne_eqb, true≢false}
-use Rattle.pipe_table.specs.PipeRows.{lowest_free, pipe_at}
+use Rattle.std.proofs.lemmas.Bool.{cond_both, eqb-true, eqb-false, ne_eqb, true≢false}
+use Rattle.pipe_table.specs.PipeRows.{pipe_at}
 use Rattle.pipe_table.specs.declared.row.PipeRow.{PipeRow}
-use Rattle.hci_tables.specs.Tables.{HciTables, is_opened}
+use Rattle.hci_tables.specs.Tables.{HciTables}
 use Rattle.hci_tables.specs.declared.command.Command.{Command}
 use Rattle.hci_tables.specs.declared.command.Command.TheVariants.{Create, Delete, Clear, SetOpened, Set}
 use Rattle.tables_laws.specs.Changes.{JoinTwo}
 use Rattle.gate_answers.specs.declared.response.Response.{Response}
 use Rattle.gate_answers.specs.declared.response.Response.TheVariants as response
-use Rattle.gate_answers.specs.Answers.{answer_of, first_of, tests_to_get, param_in, value_in}
+use Rattle.gate_answers.specs.Answers.{answer_of, param_in, value_in}
 use Rattle.gate_admin.specs.declared.view.LinkView.{LinkView}
 use Rattle.gate_admin.specs.declared.decision.Decision.{Decision}
 use Rattle.gate_admin.specs.declared.decision.Decision.TheVariants.{Answer, Commit, Ask}
 use Rattle.gate_admin.specs.View.{has, hosts_where, mask_of, is_connected}
-use Rattle.gate_admin.specs.Decide.{answers, ends_of, value_of, tests_to_set_it, commits, commits_and_tells, unless_refused, far_end_of, opening, closing}
-use Rattle.gate_admin.specs.Decide.{setting, getting, creation, creating, deleting, clearing, shares, administration, carried_out, decided, others_opened}
-use Rattle.gate_admin.specs.Decide.{created, told_of_deletion, told_of_clearing, tests_to_create, tests_to_open, tests_to_delete, tests_to_clear, tests_of_pipe}
+use Rattle.gate_admin.specs.Decide.{ends_of, commits, commits_and_tells, far_end_of}
+use Rattle.gate_admin.specs.Decide.{shares, decided, others_opened}
+use Rattle.gate_admin.specs.Decide.{told_of_deletion, told_of_clearing}
 use Rattle.node_machine.specs.Parts.About.{Removed}
-use Rattle.node_links.proofs.Masking.{from_mask, all_in, has_small}
+use Rattle.gate_laws.proofs.Decisions.{new_row, decided_holds, joins_two}
+use Rattle.node_links.proofs.Masking.{nobody, alone, from_mask, all_in}
 use Rattle.node_world.specs.NodeFilters.{is_notice}
 use Rattle.notice_readings.specs.Notices.{IsAbout}
 
@@ -73,38 +74,6 @@ Says h (Answer answer) = IsOther answer.items
 Says h (Commit c answer tell notice) = IsOther answer.items × AreTold h notice.items (hosts_where (has tell))
 Says h (Ask dest notice c answer) = IsAsking h notice.items c answer.items
 
--- nobody is in an empty mask
-nobody : hosts_where (has 0) ≡ []
-unfolding hosts_where
-nobody = refl
-
--- the row of a pipe joins two hosts where all rows do
-joins_two : (rows : List PipeRow) (pid : ℕ) (row : PipeRow) → JoinTwo rows → pipe_at rows pid ≡ Some row → eqb row.creator row.dest ≡ false
-joins_two [] pid row all e = absurd (cc e)
-joins_two (r ∷ rows) pid row all e =
-    let parts = and_parts (not (eqb r.creator r.dest)) (list_all (λ (r : PipeRow). not (eqb r.creator r.dest)) rows) all in
-    cond_both (eqb r.pid pid) (Some r) (pipe_at rows pid) (λ o. o ≡ Some row → eqb row.creator row.dest ≡ false)
-    (λ same is. let r_is : r ≡ row = cc in ap (λ (x : PipeRow). eqb x.creator x.dest) (sym r_is) ∙ no (eqb r.creator r.dest) parts.0)
-    (λ other found. joins_two rows pid row parts.1 found) e
-  where
-    no : (b : Bool) → not b ≡ true → b ≡ false
-    no true q = sym q
-    no false q = refl
-
--- one host that is connected is alone in its mask
-pub alone : (v : LinkView) (P : ℕ → Type 0) (y : ℕ) → is_connected v y ≡ true → P y → AllByRecursion P (hosts_where (has (mask_of (y ∷ []))))
-unfolding hosts_where
-alone v P zero q e = absurd (true≢false (sym q))
-alone v P (suc zero) q e = (e, tt)
-alone v P (suc (suc zero)) q e = (e, tt)
-alone v P (suc (suc (suc zero))) q e = (e, tt)
-alone v P (suc (suc (suc (suc zero)))) q e = (e, tt)
-alone v P (suc (suc (suc (suc (suc zero))))) q e = (e, tt)
-alone v P (suc (suc (suc (suc (suc (suc zero)))))) q e = (e, tt)
-alone v P (suc (suc (suc (suc (suc (suc (suc zero))))))) q e = (e, tt)
-alone v P (suc (suc (suc (suc (suc (suc (suc (suc n)))))))) q e =
-    absurd (omega (arith, has_small v.connected (suc (suc (suc (suc (suc (suc (suc (suc n)))))))) q))
-
 module _ (v : LinkView) (h : ℕ) where
   -- none of these is this host
   abbrev AreElse : List ℕ → Type 0
@@ -126,7 +95,7 @@ module _ (v : LinkView) (h : ℕ) where
   one_else : (y g : ℕ) → eqb y h ≡ false → AreElse (hosts_where (has (mask_of (one_told (Some (y, g))))))
   one_else y g e = go (is_connected v y) refl where
     go : (b : Bool) → is_connected v y ≡ b → AreElse (hosts_where (has (mask_of (cond b (y ∷ []) []))))
-    go true q = alone v (λ k. eqb k h ≡ false) y q e
+    go true q = alone (λ k. eqb k h ≡ false) v.connected y q e
     go false q = none_else
 
   deletion_else : (o : Option PipeRow) → ((row : PipeRow) → o ≡ Some row → eqb row.creator row.dest ≡ false)
@@ -157,61 +126,19 @@ module _ (v : LinkView) (h : ℕ) where
   commits_say : (c : Command) (value : List ℕ) → Says h (commits c value)
   commits_say c value = (answer_other response.Ok value, none_told [])
 
-  unless_says : (o : Option Response) (d : Decision) → Says h d → Says h (unless_refused o d)
-  unless_says (Some r) d a = answer_other r []
-  unless_says None d a = a
-
-  either : (b : Bool) (d e : Decision) → Says h d → Says h e → Says h (cond b d e)
-  either true d e x y = x
-  either false d e x y = y
-
-  opening_says : (t : HciTables) (pipe : ℕ) (body : List ℕ) → Says h (opening t h pipe body)
-  opening_says t pipe body =
-      let others : List ℕ = others_opened t h pipe ∷ [] in
-      let again : Decision = answers response.Ok others in
-      let now : Decision = commits (SetOpened h pipe true) others in
-      unless_says (first_of (tests_to_open body)) (cond (is_opened t h pipe) again now)
-      (either (is_opened t h pipe) again now (answer_other response.Ok others) (commits_say (SetOpened h pipe true) others))
-
-  creation_says : (row : PipeRow) → row.creator ≡ h → Says h (creation row)
-  creation_says row own =
-      let now : Decision = commits (Create row) (ends_of row) in
-      let ask : Decision = Ask row.dest (record { items = 18 ∷ ends_of row }) (Create row) (record { items = answer_of response.Ok (ends_of row) }) in
-      either (eqb row.dest 0) now ask (commits_say (Create row) (ends_of row))
-      (record { row = row; command = refl; creator = own; notice_is = refl; other = answer_other response.Ok (ends_of row) })
-
-  administration_says : (t : HciTables) (instruction : ℕ) (body : List ℕ) → JoinTwo t.rows → Says h (administration t v h instruction body)
-  administration_says t n body two =
-      let none : Decision = answers response.CommandNotSupported [] in
-      let five : Decision = cond (eqb n 20) (clearing t v h body) none in
-      let four : Decision = cond (eqb n 17) (deleting t v h body) five in
-      let three : Decision = cond (eqb n 16) (creating t v h body) four in
-      let two_or : Decision = cond (eqb n 2) (getting t v h body) three in
-      let row : PipeRow = created h body (unwrap_or (lowest_free t.rows v.waiting.items) 0) in
-      let gone : List ℕ = told_of_deletion t v h (param_in body) in
-      let set : Command = Set h 0 (param_in body) (record { items = value_in body }) in
-      let value : List ℕ = value_of t v h (param_in body) in
-      either (eqb n 1) (setting v h body) two_or (unless_says (first_of (tests_to_set_it v h body)) (commits set []) (commits_say set []))
-      (either (eqb n 2) (getting t v h body) three
-      (unless_says (first_of (tests_to_get 0 body)) (answers response.Ok value) (answer_other response.Ok value))
-      (either (eqb n 16) (creating t v h body) four
-      (unless_says (first_of (tests_to_create t v h body)) (creation row) (creation_says row refl))
-      (either (eqb n 17) (deleting t v h body) five
-      (unless_says (first_of (tests_to_delete t v h body)) (commits_and_tells (Delete (param_in body)) gone (19 ∷ param_in body ∷ []))
-      (tells_say (Delete (param_in body)) gone (19 ∷ param_in body ∷ []) (deleted_notice (param_in body))
-      (deletion_else (pipe_at t.rows (param_in body)) (λ r e. joins_two t.rows (param_in body) r two e))))
-      (either (eqb n 20) (clearing t v h body) none
-      (unless_says (first_of (tests_to_clear t v h body)) (commits_and_tells (Clear h) (told_of_clearing t v h) (21 ∷ h ∷ []))
-      (tells_say (Clear h) (told_of_clearing t v h) (21 ∷ h ∷ []) (cleared_notice h)
-      (sharing t (hosts_where (has (mask_of (told_of_clearing t v h)))) (all_in (has (mask_of (told_of_clearing t v h)))))))
-      (answer_other response.CommandNotSupported [])))))
-
   pub decided_says : (t : HciTables) (pipe instruction : ℕ) (body : List ℕ) → JoinTwo t.rows → Says h (decided t v h pipe instruction body)
   decided_says t pipe n body two =
-      let later : Decision = administration t v h n body in
-      let next : Decision = cond (eqb n 4) (closing h pipe body) later in
-      unless_says (first_of (tests_of_pipe t h pipe n)) (carried_out t v h pipe n body)
-      (either (eqb n 3) (opening t h pipe body) next (opening_says t pipe body)
-      (either (eqb n 4) (closing h pipe body) later
-      (unless_says (first_of (tests_to_open body)) (commits (SetOpened h pipe false) []) (commits_say (SetOpened h pipe false) []))
-      (administration_says t n body two)))
+      let row : PipeRow = new_row t v h body in
+      decided_holds (Says h) t v h pipe body n answer_other (λ _. record {
+        opens = commits_say (SetOpened h pipe true) (others_opened t h pipe ∷ []);
+        closes = commits_say (SetOpened h pipe false) [];
+        sets = λ _. commits_say (Set h 0 (param_in body) (record { items = value_in body })) [];
+        makes = λ _ controller. commits_say (Create row) (ends_of row);
+        asks = λ _ other. record { row = row; command = refl; creator = refl; notice_is = refl; other = answer_other response.Ok (ends_of row) };
+        deletes = λ _.
+            tells_say (Delete (param_in body)) (told_of_deletion t v h (param_in body)) (19 ∷ param_in body ∷ []) (deleted_notice (param_in body))
+            (deletion_else (pipe_at t.rows (param_in body)) (λ r e. joins_two t.rows (param_in body) r two e));
+        clears = λ _.
+            tells_say (Clear h) (told_of_clearing t v h) (21 ∷ h ∷ []) (cleared_notice h)
+            (sharing t (hosts_where (has (mask_of (told_of_clearing t v h)))) (all_in (has (mask_of (told_of_clearing t v h)))));
+      })

@@ -1,12 +1,12 @@
 -- What is read of the controller's notices over whatever happens.
-use Rattle.std.proofs.Common.{◌≡◌, ◌⊎◌, inl, inr, ℕ, ◌+◌, Bool, true, false, eqb, List, [], ◌∷◌, ◌++◌, length, map, min, sym, refl, ap, ◌∙◌, subst, append-nil}
+use Rattle.std.proofs.Common.{◌≡◌, ◌⊎◌, inl, inr, ℕ, ◌+◌, Bool, true, false, eqb, List, [], ◌∷◌, ◌++◌, map, min, sym, refl, subst, append-nil}
 use Rattle.std.specs.Prelude.{Option, Some, None, replicate}
 use Rattle.std.specs.List.{AllByRecursion, fold}
 use Rattle.std.specs.Option.{option_map_or}
 use Rattle.std.proofs.lemmas.Bool.{cases_Bool, eqb-true}
 use Rattle.swp_base.specs.InMemory.{Memory}
 use Rattle.journal_laws.specs.Journal.{count_of, records}
-use Rattle.journal_laws.specs.Planned.{fails_within, after_planned}
+use Rattle.journal_laws.specs.Planned.{after_planned}
 use Rattle.trace_model.specs.Lines.{IsHost}
 use Rattle.trace_model.specs.declared.entry.Entry.{Entry}
 use Rattle.trace_model.specs.declared.entry.Entry.TheVariants as entry
@@ -39,6 +39,7 @@ use Rattle.kept_laws.specs.Hosts.{AreHosts}
 use Rattle.node_telling.proofs.Orderly.{new_orderly, step_orderly}
 use Rattle.node_readings.proofs.NoticedWorlds.{event_up, numbers}
 use Rattle.node_readings.proofs.Sites.{lost_quiet}
+use Rattle.node_world.proofs.Cases.{by_power, by_memory, by_running, boot_written, boot_found, written_off, by_boot}
 use Rattle.notice_readings.specs.Notices.{IsKeptNotice, notice_at}
 use Rattle.notice_readings.proofs.Reading.{notice_more}
 use Rattle.notice_readings.proofs.Shut.{here_shut}
@@ -94,19 +95,12 @@ module _ (t : List Entry) (w : NodeWorld) (a : Reads t w) where
   -- ## Memories
 
   memory_reads : (n : ℕ) (m : Memory) → Reads t (with_memory n m w)
-  memory_reads n m = by_number (cases_Bool (eqb n 0)) where
-    near_is : eqb n 0 ≡ true → with_memory n m w ≡ record w { memory = m }
-    near_is e = rw e refl
-
-    far_is : eqb n 0 ≡ false → with_memory n m w ≡ record w { sites = with_site n (λ (s : Site). record s { memory = m }) w.sites }
-    far_is e = rw e refl
-
-    by_number : (eqb n 0 ≡ true) ⊎ (eqb n 0 ≡ false) → Reads t (with_memory n m w)
-    by_number (inl e) = subst (Reads t) (sym (near_is e)) (record { sites = a.sites; reads_so = a.reads_so })
-    by_number (inr e) = subst (Reads t) (sym (far_is e)) (record {
-      sites = good_with n (λ (s : Site). record s { memory = m }) (λ s b. record { host = b.host; node = b.node; shut = b.shut }) w.sites a.sites;
-      reads_so = a.reads_so;
-    })
+  memory_reads n m =
+      by_memory (Reads t) n w m (λ e. record { sites = a.sites; reads_so = a.reads_so })
+      (λ e. record {
+        sites = good_with n (λ (s : Site). record s { memory = m }) (λ s b. record { host = b.host; node = b.node; shut = b.shut }) w.sites a.sites;
+        reads_so = a.reads_so;
+      })
 
   -- ## Power
 
@@ -127,18 +121,9 @@ module _ (t : List Entry) (w : NodeWorld) (a : Reads t w) where
   }
 
   pub cut_reads : (n : ℕ) → Reads (t ++ entry.Cut n ∷ []) (loses_power_at n w)
-  cut_reads n = by_number (cases_Bool (eqb n 0)) where
-    near_is : eqb n 0 ≡ true → loses_power_at n w ≡ controller_cut w
-    near_is e = rw e refl
-
-    far_is : eqb n 0 ≡ false → loses_power_at n w ≡ record w { sites = with_site n host_cut w.sites }
-    far_is e = rw e refl
-
-    by_number : (eqb n 0 ≡ true) ⊎ (eqb n 0 ≡ false) → Reads (t ++ entry.Cut n ∷ []) (loses_power_at n w)
-    by_number (inl e) =
-        subst (Reads (t ++ entry.Cut n ∷ [])) (sym (near_is e))
-        (subst (λ m. Reads (t ++ entry.Cut m ∷ []) (controller_cut w)) (sym (eqb-true n 0 e)) near_cut)
-    by_number (inr e) = subst (Reads (t ++ entry.Cut n ∷ [])) (sym (far_is e)) (far_cut n e)
+  cut_reads n =
+      by_power (Reads (t ++ entry.Cut n ∷ [])) n w
+      (λ e. subst (λ m. Reads (t ++ entry.Cut m ∷ []) (controller_cut w)) (sym (eqb-true n 0 e)) near_cut) (λ e. far_cut n e)
 
 booted_hushed : (n k : ℕ) → AreHushed (entry.Booted n k ∷ [])
 booted_hushed n k x r = (refl, refl)
@@ -146,61 +131,27 @@ booted_hushed n k x r = (refl, refl)
 -- a node that doesn't run boots
 runs_reads : (t : List Entry) (w : NodeWorld) (n k : ℕ) (hosts content : List ℕ) → Reads t w → (eqb n 0 ≡ true → w.controller ≡ None)
     → Reads (t ++ entry.Booted n k ∷ []) (with_node n (found n hosts content) w)
-runs_reads t w n k hosts content a off = by_number (cases_Bool (eqb n 0)) where
-  near_is : eqb n 0 ≡ true → with_node n (found n hosts content) w ≡ record w { controller = Some (found n hosts content) }
-  near_is e = rw e refl
-
-  far_is : eqb n 0 ≡ false
-      → with_node n (found n hosts content) w ≡ record w { sites = with_site n (λ (s : Site). record s { node = Some (found n hosts content) }) w.sites }
-  far_is e = rw e refl
-
-  by_number : (eqb n 0 ≡ true) ⊎ (eqb n 0 ≡ false) → Reads (t ++ entry.Booted n k ∷ []) (with_node n (found n hosts content) w)
-  by_number (inl e) = subst (Reads (t ++ entry.Booted n k ∷ [])) (sym (near_is e)) (record {
-    sites = a.sites;
-    reads_so = still_reads t (entry.Booted n k ∷ []) (Some (found n hosts content)) (booted_hushed n k)
-        (subst (λ m. ControllerReads t (found m hosts content)) (sym (eqb-true n 0 e))
-        (found_reads t hosts content (subst (IfReads t) (off e) a.reads_so)));
-  })
-  by_number (inr e) = subst (Reads (t ++ entry.Booted n k ∷ [])) (sym (far_is e)) (record {
-    sites = good_with n (λ (s : Site). record s { node = Some (found n hosts content) })
-        (λ s b. record { host = b.host; node = e; shut = b.shut }) w.sites a.sites;
-    reads_so = still_reads t (entry.Booted n k ∷ []) w.controller (booted_hushed n k) a.reads_so;
-  })
+runs_reads t w n k hosts content a off =
+    by_running (Reads (t ++ entry.Booted n k ∷ [])) n w (found n hosts content)
+    (λ e. record {
+      sites = a.sites;
+      reads_so = still_reads t (entry.Booted n k ∷ []) (Some (found n hosts content)) (booted_hushed n k)
+          (subst (λ m. ControllerReads t (found m hosts content)) (sym (eqb-true n 0 e))
+          (found_reads t hosts content (subst (IfReads t) (off e) a.reads_so)));
+    })
+    (λ e. record {
+      sites = good_with n (λ (s : Site). record s { node = Some (found n hosts content) })
+          (λ s b. record { host = b.host; node = e; shut = b.shut }) w.sites a.sites;
+      reads_so = still_reads t (entry.Booted n k ∷ []) w.controller (booted_hushed n k) a.reads_so;
+    })
 
 boots_reads : (t : List Entry) (w : NodeWorld) (n : ℕ) → Reads t w → node_at w n ≡ None → Reads (t ++ (boots w n).1) (boots w n).0
-boots_reads t w n a stands = by_plan (cases_Bool (fails_within (length (boot_writes before.content)) before.plan)) where
-  before : Memory
-  before = memory_at w n
-
-  written : NodeWorld
-  written = with_memory n (after_planned (boot_writes before.content) before) w
-
-  noted : List Entry
-  noted = entry.Booted n (count_of (found n (links_of w n) before.content).core.journal) ∷ []
-
-  Fine : NodeWorld × List Entry → Type 0
-  Fine p = Reads (t ++ p.1) p.0
-
-  lost_is : fails_within (length (boot_writes before.content)) before.plan ≡ true → boots w n ≡ (loses_power_at n written, entry.Cut n ∷ [])
-  lost_is e = rw e refl
-
-  runs_is : fails_within (length (boot_writes before.content)) before.plan ≡ false
-      → boots w n ≡ (with_node n (found n (links_of w n) before.content) written, noted)
-  runs_is e = rw e refl
-
-  off : eqb n 0 ≡ true → written.controller ≡ None
-  off e =
-      let same : written ≡ record w { memory = after_planned (boot_writes before.content) before } = rw e refl in
-      let none : w.controller ≡ None = rw e at stands in
-      ap (λ (v : NodeWorld). v.controller) same ∙ none
-
-  by_plan : (fails_within (length (boot_writes before.content)) before.plan ≡ true)
-      ⊎ (fails_within (length (boot_writes before.content)) before.plan ≡ false) → Fine (boots w n)
-  by_plan (inl fails) = subst Fine (sym (lost_is fails))
-      (cut_reads t written (memory_reads t w a n (after_planned (boot_writes before.content) before)) n)
-  by_plan (inr none) = subst Fine (sym (runs_is none))
-      (runs_reads t written n (count_of (found n (links_of w n) before.content).core.journal) (links_of w n) before.content
-      (memory_reads t w a n (after_planned (boot_writes before.content) before)) off)
+boots_reads t w n a stands =
+    by_boot (λ p. Reads (t ++ p.1) p.0) w n (cut_reads t (boot_written w n) still n)
+    (runs_reads t (boot_written w n) n (count_of (boot_found w n).core.journal) (links_of w n) (memory_at w n).content still (written_off w n stands))
+  where
+    still : Reads t (boot_written w n)
+    still = memory_reads t w a n (after_planned (boot_writes (memory_at w n).content) (memory_at w n))
 
 -- ## Losses
 

@@ -12,7 +12,7 @@ use Rattle.swp_base.specs.declared.link_terms.Cause.{Cause}
 use Rattle.hci_tables.specs.declared.command.Command.{Command}
 use Rattle.hci_tables.specs.Bodies.{body_of}
 use Rattle.hci_store.specs.Committing.{commit_writes}
-use Rattle.link_machine.specs.Machine.{Message, LinkInput, Refused, Turn, Report, give_refusal, report, whole_acked, after_input, is_held}
+use Rattle.link_machine.specs.Machine.{Message, LinkInput, Refused, Turn, Report, give_refusal, report, whole_acked, after_input}
 use Rattle.link_machine.specs.Machine.LinkInput.{Reset}
 use Rattle.link_machine.specs.Machine.Turn.{Give, Hold, FetchMessage, SetAside, Release}
 use Rattle.link_entries.specs.Entries.{Entry as Noted, told, sent_unless}
@@ -23,10 +23,7 @@ use Rattle.history.specs.Steps.{entries_for, end_of}
 use Rattle.node_machine.specs.Parts.{About, Desk, Core, Port, Work, Deed}
 use Rattle.node_machine.specs.Parts.About.{Removed}
 use Rattle.node_machine.specs.Parts.Deed.{Commits, Sends, SaysOk, Asks, Releases, Tells, IsAnswered, Drops, SetsErrors, Orders, Hears, GoesOn, Ends}
-use Rattle.node_machine.specs.Carrying.{own_side, noting, unless_cut, port_at, with_desk, noted_of, turn_at, notified, commit, done, all_done, end_of_node}
-use Rattle.node_machine.specs.Carrying.{needs, lack}
-use Rattle.node_machine.specs.HostReplies.{host_deeds}
-use Rattle.node_machine.specs.Turns.{deeds_of, handles, holds_back, lets_go, have_turns, goes_through_ends, passes}
+use Rattle.node_machine.specs.Carrying.{own_side, noting, port_at, with_desk, noted_of, turn_at, notified, commit, done, all_done, end_of_node}
 use Rattle.node_machine.specs.Node.{NodeInput, input_at, told_at, all_come, with_older, is_late, told_late, times_out, forgotten, forgets, all_owed}
 use Rattle.node_machine.specs.Node.{after_sessions, synced, steps}
 use Rattle.node_machine.specs.Node.NodeInput.{AtEnd, TimePasses}
@@ -34,8 +31,10 @@ use Rattle.node_world.specs.World.{end_c}
 use Rattle.node_world.specs.NodeFilters.{is_response, is_notice, asking_after, asking_in}
 use Rattle.node_readings.proofs.Silent.{IsQuiet, told_rest, rest_quiet}
 use Rattle.notice_readings.proofs.Reading.{reads}
-use Rattle.notice_readings.proofs.Own.{IsFar, IsOwn, AreOwn, host_own, forgotten_own, all_owed_own, all_synced_own}
+use Rattle.notice_readings.proofs.Own.{IsFar, IsOwn, AreOwn, deeds_own, forgotten_own, all_owed_own, all_synced_own}
 use Rattle.node_laws.proofs.Ports.{sessions_node}
+use Rattle.node_laws.proofs.StepWalks.{got_at, all_do as all_far, Lasts, rest_lasts}
+use Rattle.node_laws.proofs.Walks.{anyone}
 
 abbrev pub AreFar : List Entry → Type 0
 AreFar es = AllByRecursion IsFar es
@@ -186,35 +185,35 @@ turn_far core Release p side = tt
 -- ## Works
 
 -- a node that isn't the controller, and what it noted
-pub record IsHostWork (w : Work) : Type 0 where
+pub record IsFarWork (w : Work) : Type 0 where
   pub number : eqb w.core.node 0 ≡ false
   pub far : AreFar w.entries
 
-host_side : (w : Work) → IsHostWork w → own_side w.core ≡ Host
+host_side : (w : Work) → IsFarWork w → own_side w.core ≡ Host
 host_side w a = let e : eqb w.core.node 0 ≡ false = a.number in rw e refl
 
-notes : (es : List Entry) (w : Work) → AreFar es → IsHostWork w → IsHostWork (noting es w)
+notes : (es : List Entry) (w : Work) → AreFar es → IsFarWork w → IsFarWork (noting es w)
 notes es w more a = record { number = a.number; far = far-append w.entries es a.far more }
 
-with_core : (w : Work) (c : Core) → c.node ≡ w.core.node → IsHostWork w → IsHostWork (record w { core = c })
+with_core : (w : Work) (c : Core) → c.node ≡ w.core.node → IsFarWork w → IsFarWork (record w { core = c })
 with_core w c same a = record { number = ap (λ n. eqb n 0) same ∙ a.number; far = a.far }
 
-turns : (h : ℕ) (t : Turn) (w : Work) → IsHostWork w → IsHostWork (turn_at h t w)
+turns : (h : ℕ) (t : Turn) (w : Work) → IsFarWork w → IsFarWork (turn_at h t w)
 turns h t w a = record { number = a.number; far = far-append w.entries _ a.far (go (port_at w.ports h)) } where
   go : (o : Option Port) → AreFar (option_map_or (noted_of w.core t) o [])
   go None = tt
   go (Some p) = turn_far w.core t p (host_side w a)
 
-desks : (h : ℕ) (f : Desk → Desk) (w : Work) → IsHostWork w → IsHostWork (with_desk h f w)
+desks : (h : ℕ) (f : Desk → Desk) (w : Work) → IsFarWork w → IsFarWork (with_desk h f w)
 desks h f w a = record { number = a.number; far = a.far }
 
-tells : (h : ℕ) (about : About) (message : List ℕ) (w : Work) → IsHostWork w → IsHostWork (notified h about message w)
+tells : (h : ℕ) (about : About) (message : List ℕ) (w : Work) → IsFarWork w → IsFarWork (notified h about message w)
 tells h about message w a =
     desks h (λ d. record d { notice = Some (record { about = about; age = 0 }) }) (turn_at h (Give (1, message)) w) (turns h (Give (1, message)) w a)
 
-commits : (c : Command) (w : Work) → IsHostWork w → IsHostWork (commit c w)
+commits : (c : Command) (w : Work) → IsFarWork w → IsFarWork (commit c w)
 commits c w a = go (fails_within (length (commit_writes w.core.journal w.core.tables (body_of c))) w.plan) refl where
-  go : (b : Bool) → fails_within (length (commit_writes w.core.journal w.core.tables (body_of c))) w.plan ≡ b → IsHostWork (commit c w)
+  go : (b : Bool) → fails_within (length (commit_writes w.core.journal w.core.tables (body_of c))) w.plan ≡ b → IsFarWork (commit c w)
   go true q = rw q (record {
     number = a.number;
     far = far-append (w.entries ++ entry.Command w.core.node c ∷ []) (entry.Cut w.core.node ∷ [])
@@ -222,7 +221,7 @@ commits c w a = go (fails_within (length (commit_writes w.core.journal w.core.ta
   })
   go false q = rw q (record { number = a.number; far = far-append w.entries (entry.Command w.core.node c ∷ []) a.far (a.number, tt) })
 
-does : (h : ℕ) (d : Deed) (w : Work) → IsOwn d → IsHostWork w → IsHostWork (done h d w)
+does : (h : ℕ) (d : Deed) (w : Work) → IsOwn d → IsFarWork w → IsFarWork (done h d w)
 does h (Commits c) w q a = commits c w a
 does h (Sends to m) w q a = turns to (Give m) w a
 does h SaysOk w q a = notes _ w (tt, tt) a
@@ -239,85 +238,28 @@ does h Hears w q a = with_core w (record w.core { command = None }) refl a
 does h (GoesOn i) w q a = with_core w (record w.core { init = Some i }) refl a
 does h (Ends e) w q a = notes (e ∷ []) (record w { core = record w.core { init = None } }) (q, tt) (with_core w (record w.core { init = None }) refl a)
 
-unless : (f : Work → Work) (w : Work) → (IsHostWork w → IsHostWork (f w)) → IsHostWork w → IsHostWork (unless_cut f w)
-unless f w one a = go w.cut where
-  by : Bool → Work
-  by true = w
-  by false = f w
-
-  go : (b : Bool) → IsHostWork (by b)
-  go true = a
-  go false = one a
-
-pub all_do : (h : ℕ) (deeds : List Deed) (w : Work) → AreOwn deeds → IsHostWork w → IsHostWork (all_done h deeds w)
-all_do h [] w q a = a
-all_do h (d ∷ deeds) w q a = unless (all_done h deeds) (done h d w) (λ b. all_do h deeds (done h d w) q.1 b) (does h d w q.0 a)
+pub all_do : (h : ℕ) (deeds : List Deed) (w : Work) → AreOwn deeds → IsFarWork w → IsFarWork (all_done h deeds w)
+all_do h deeds w q a = all_far IsFarWork IsOwn does h deeds w q a
 
 -- ## Turns
 
 end_far : (core : Core) (h : ℕ) → own_side core ≡ Host → (end_of_node core h).at_host ≡ true
 end_far core h side = ap (λ s. (end_of h s).at_host) side
 
-handles_far : (h : ℕ) (m : Message) (deeds : List Deed) (w : Work) → AreOwn deeds → IsHostWork w → IsHostWork (handles h m deeds w)
-handles_far h m deeds w q a =
-    let noted : List Entry = entry.Turn (end_of_node w.core h) m.0 m.1 ∷ [] in
-    all_do h deeds (with_desk h (λ d. record d { holds = false }) (turn_at h FetchMessage (noting noted w))) q
-    (desks h (λ d. record d { holds = false }) (turn_at h FetchMessage (noting noted w))
-    (turns h FetchMessage (noting noted w) (notes noted w (end_far w.core h (host_side w a), tt) a)))
+abbrev Any : ℕ → Message → Type 0
+Any h m = Unit {0}
 
-holds_far : (h : ℕ) (short : ℕ × ℕ) (w : Work) → IsHostWork w → IsHostWork (holds_back h short w)
-holds_far h short w a = go (option_map_or (λ (p : Port). p.desk.holds) (port_at w.ports h) false) where
-  noted : Work
-  noted = noting (entry.Held (end_of_node w.core h) short.0 short.1 ∷ []) w
-
-  by : Bool → Work
-  by true = turn_at h (Hold true) w
-  by false = turn_at h (Hold true) (with_desk h (λ d. record d { holds = true }) noted)
-
-  go : (b : Bool) → IsHostWork (by b)
-  go true = turns h (Hold true) w a
-  go false =
-      turns h (Hold true) (with_desk h (λ d. record d { holds = true }) noted)
-      (desks h (λ d. record d { holds = true }) noted (notes (entry.Held (end_of_node w.core h) short.0 short.1 ∷ []) w (tt, tt) a))
-
-lets_far : (h : ℕ) (w : Work) → IsHostWork w → IsHostWork (lets_go h w)
-lets_far h w a = go (option_map_or (λ (p : Port). is_held p.side) (port_at w.ports h) false) where
-  by : Bool → Work
-  by true = turn_at h (Hold false) w
-  by false = w
-
-  go : (b : Bool) → IsHostWork (by b)
-  go true = turns h (Hold false) w a
-  go false = a
-
-deeds_own : (w : Work) (h : ℕ) (m : Message) → IsHostWork w → AreOwn (deeds_of w.core w.ports h m)
-deeds_own w h m a = subst AreOwn (sym is) (go (port_at w.ports h)) where
-  is : deeds_of w.core w.ports h m ≡ option_map_or (λ p. host_deeds w.core p m) (port_at w.ports h) []
-  is = let e : eqb w.core.node 0 ≡ false = a.number in rw e refl
-
-  go : (o : Option Port) → AreOwn (option_map_or (λ p. host_deeds w.core p m) o [])
-  go None = tt
-  go (Some p) = host_own w.core p m
-
-have_far : (h : ℕ) (messages : List Message) (w : Work) → IsHostWork w → IsHostWork (have_turns h messages w)
-have_far h [] w a = lets_far h w a
-have_far h (m ∷ messages) w a = go (lack w.ports (needs h deeds)) (λ v b. have_far h messages v b) where
-  deeds : List Deed
-  deeds = deeds_of w.core w.ports h m
-
-  by : Option (ℕ × ℕ) → Work
-  by None = unless_cut (have_turns h messages) (handles h m deeds w)
-  by (Some short) = holds_back h short w
-
-  go : (o : Option (ℕ × ℕ)) → ((v : Work) → IsHostWork v → IsHostWork (have_turns h messages v)) → IsHostWork (by o)
-  go None later = unless (have_turns h messages) (handles h m deeds w) (later (handles h m deeds w)) (handles_far h m deeds w (deeds_own w h m a) a)
-  go (Some short) later = holds_far h short w a
-
-ends_far : (hosts : List ℕ) (w : Work) → IsHostWork w → IsHostWork (goes_through_ends hosts w)
-ends_far [] w a = a
-ends_far (h ∷ hosts) w a =
-    let messages : List Message = option_map_or (λ (p : Port). p.side.got) (port_at w.ports h) [] in
-    unless (goes_through_ends hosts) (have_turns h messages w) (λ b. ends_far hosts (have_turns h messages w) b) (have_far h messages w a)
+far_lasts : Lasts IsFarWork IsOwn Any
+far_lasts = record {
+  does = does;
+  turn_told = λ h m w any a. notes (entry.Turn (end_of_node w.core h) m.0 m.1 ∷ []) w (end_far w.core h (host_side w a), tt) a;
+  held_told = λ h need spare w a. notes (entry.Held (end_of_node w.core h) need spare ∷ []) w (tt, tt) a;
+  fetched = λ h w a. turns h FetchMessage w a;
+  held = λ h flag w a. turns h (Hold flag) w a;
+  marked = λ h flag w a. desks h (λ d. record d { holds = flag }) w a;
+  come = λ h w a. anyone (Any h) (λ m. tt) (got_at h w);
+  causes = λ h m w any a. deeds_own w.core w.ports h m a.number;
+}
 
 -- ## Steps
 
@@ -327,33 +269,28 @@ late_far core p side = go (is_late p) where
   go true = come_far core p (Some (Reset None)) side
   go false = tt
 
-came_far : (input : NodeInput) (w : Work) → IsHostWork w → IsHostWork (all_come input w)
+came_far : (input : NodeInput) (w : Work) → IsFarWork w → IsFarWork (all_come input w)
 came_far input w a = record {
   number = a.number;
   far = far-append w.entries _ a.far (far_flat (λ p. told_at w.core p (input_at input p)) (λ p. come_far w.core p (input_at input p) (host_side w a)) w.ports);
 }
 
-times_far : (input : NodeInput) (w : Work) → IsHostWork w → IsHostWork (times_out input w)
+times_far : (input : NodeInput) (w : Work) → IsFarWork w → IsFarWork (times_out input w)
 times_far (AtEnd h i) w a = a
 times_far TimePasses w a = record {
   number = a.number;
   far = far-append w.entries _ a.far (far_flat (told_late w.core) (λ p. late_far w.core p (host_side w a)) (map with_older w.ports));
 }
 
-pub steps_far : (input : NodeInput) (w : Work) → IsHostWork w → IsHostWork (steps input w)
+pub steps_far : (input : NodeInput) (w : Work) → IsFarWork w → IsFarWork (steps input w)
 steps_far input w a =
     let came : Work = times_out input (all_come input w) in
-    let b : IsHostWork came = times_far input (all_come input w) (came_far input w a) in
+    let b : IsFarWork came = times_far input (all_come input w) (came_far input w a) in
     let left : List Port = map (forgets came.ports) came.ports in
     let begun : Work = record came {
       core = after_sessions came.core came.ports;
       ports = map Rattle.node_machine.specs.Node.without_notice left;
     } in
-    let first : IsHostWork begun = record { number = ap (λ n. eqb n 0) (sessions_node came.core came.ports) ∙ b.number; far = b.far } in
-    let freed : List Deed = forgotten came.ports in
-    let syncs : List Deed = flat_map (synced w.core input) w.ports in
-    let owing : List Deed = all_owed left in
-    let one : IsHostWork (all_done 0 syncs (all_done 0 freed begun)) =
-    all_do 0 syncs (all_done 0 freed begun) (all_synced_own w.core input w.ports) (all_do 0 freed begun (forgotten_own came.ports) first) in
-    unless passes (unless_cut (all_done 0 owing) (all_done 0 syncs (all_done 0 freed begun))) (λ c. ends_far _ _ c)
-    (unless (all_done 0 owing) (all_done 0 syncs (all_done 0 freed begun)) (λ c. all_do 0 owing _ (all_owed_own left) c) one)
+    let first : IsFarWork begun = record { number = ap (λ n. eqb n 0) (sessions_node came.core came.ports) ∙ b.number; far = b.far } in
+    rest_lasts IsFarWork IsOwn Any far_lasts (forgotten came.ports) (flat_map (synced w.core input) w.ports) (all_owed left) begun
+    (forgotten_own came.ports) (all_synced_own w.core input w.ports) (all_owed_own left) first

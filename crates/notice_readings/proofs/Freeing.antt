@@ -1,33 +1,30 @@
 -- A controller asks and tells only hosts that have no notice to answer.
 use Rattle.std.proofs.Common.{◌≡◌, ◌⊎◌, inl, inr, ℕ, zero, suc, ◌≤◌, Bool, true, false, cond, not, eqb, ◌&&◌, ◌||◌, List, [], ◌∷◌, refl, sym, ◌∙◌, arith}
-use Rattle.std.specs.Prelude.{Option, Some, None, nat_le, unwrap_or}
+use Rattle.std.specs.Prelude.{Option, Some, None, nat_le}
 use Rattle.std.specs.List.{AllByRecursion, list_any, filter}
 use Rattle.std.specs.Option.{option_map_or, option_and_then}
-use Rattle.std.proofs.lemmas.Bool.{cond_both, cases_Bool, true≢false, leb-true}
-use Rattle.pipe_table.specs.PipeRows.{lowest_free, pipe_at}
-use Rattle.pipe_table.specs.declared.row.PipeRow.{PipeRow}
-use Rattle.hci_tables.specs.Tables.{HciTables, is_opened}
+use Rattle.std.proofs.lemmas.Bool.{cases_Bool, true≢false, leb-true}
+use Rattle.pipe_table.specs.PipeRows.{pipe_at}
+use Rattle.hci_tables.specs.Tables.{HciTables}
 use Rattle.hci_tables.specs.declared.command.Command.{Command}
-use Rattle.hci_tables.specs.declared.command.Command.TheVariants.{Create, Delete, Clear}
-use Rattle.gate_answers.specs.declared.response.Response.{Response}
-use Rattle.gate_answers.specs.declared.response.Response.TheVariants as response
-use Rattle.gate_answers.specs.Answers.{answer_of, body_in, first_of, tests_to_get, param_in}
+use Rattle.hci_tables.specs.declared.command.Command.TheVariants.{Delete, Clear}
+use Rattle.gate_answers.specs.Answers.{body_in, param_in}
 use Rattle.gate_admin.specs.declared.view.LinkView.{LinkView}
 use Rattle.gate_admin.specs.declared.decision.Decision.{Decision}
 use Rattle.gate_admin.specs.declared.decision.Decision.TheVariants.{Answer, Commit, Ask}
 use Rattle.gate_admin.specs.View.{has, hosts_where, mask_of, is_connected, is_noticed}
-use Rattle.gate_admin.specs.Decide.{ends_of, tests_to_set_it, commits, commits_and_tells, unless_refused, far_end_of, dest_in, opening, closing, setting}
-use Rattle.gate_admin.specs.Decide.{getting, creation, creating, deleting, clearing, shares, carried_out, decided, created, told_of_deletion, told_of_clearing}
-use Rattle.gate_admin.specs.Decide.{tests_to_create, tests_to_open, tests_to_delete, tests_to_clear, tests_of_pipe}
+use Rattle.gate_admin.specs.Decide.{commits_and_tells, far_end_of, dest_in}
+use Rattle.gate_admin.specs.Decide.{shares, decided, told_of_deletion, told_of_clearing}
+use Rattle.gate_admin.specs.Decide.{tests_to_create, tests_to_delete, tests_to_clear}
 use Rattle.gate_admin.proofs.CreationLemmas.{AllFalse, all_false}
 use Rattle.link_machine.specs.Machine.{Message}
 use Rattle.node_machine.specs.Parts.{Core, Port}
 use Rattle.node_machine.specs.Controller.{view_for, controller_deeds}
 use Rattle.node_laws.proofs.Masks.{is_in_mask}
 use Rattle.node_laws.proofs.Walks.{Plain, OfDecision, all_of_controller}
-use Rattle.node_links.proofs.Masking.{from_mask, all_in, has_small}
+use Rattle.gate_laws.proofs.Decisions.{decided_holds}
+use Rattle.node_links.proofs.Masking.{nobody, alone, from_mask, all_in, has_small}
 use Rattle.notice_readings.specs.Notices.{has_notice, GoesToFree}
-use Rattle.notice_readings.proofs.Deciding.{alone}
 
 -- ## Decisions
 
@@ -39,10 +36,6 @@ abbrev Frees : LinkView → Decision → Type 0
 Frees v (Answer answer) = Unit {0}
 Frees v (Commit c answer tell notice) = AllByRecursion (IsFree v) (hosts_where (has tell))
 Frees v (Ask dest notice c answer) = IsFree v dest
-
-nobody : hosts_where (has 0) ≡ []
-unfolding hosts_where
-nobody = refl
 
 -- a host in a mask is 01 at least
 has_some : (m y : ℕ) → has m y ≡ true → 1 ≤ y
@@ -57,10 +50,6 @@ module _ (v : LinkView) where
 
   none_told : AllByRecursion (IsFree v) (hosts_where (has 0))
   none_told = rw nobody tt
-
-  unless : (o : Option Response) (d : Decision) → (o ≡ None → Frees v d) → Frees v (unless_refused o d)
-  unless (Some r) d a = tt
-  unless None d a = a refl
 
   -- none of the hosts that pass a test passes another one
   none_both : (p q : ℕ → Bool) (hosts : List ℕ) → list_any p (filter q hosts) ≡ false → AllByRecursion (λ (y : ℕ). q y ≡ true → p y ≡ false) hosts
@@ -107,7 +96,7 @@ module _ (v : LinkView) where
 
     go : (b : Bool) → is_connected v end.0 ≡ b → list_any (is_noticed v) (cond b (end.0 ∷ []) []) ≡ false
         → AllByRecursion (IsFree v) (hosts_where (has (mask_of (cond b (end.0 ∷ []) []))))
-    go true q f = alone v (IsFree v) end.0 q (free_of v.connected end.0 q (first (is_noticed v end.0) f))
+    go true q f = alone (IsFree v) v.connected end.0 q (free_of v.connected end.0 q (first (is_noticed v end.0) f))
     go false q f = none_told
 
   sharing_frees : (t : HciTables) (h : ℕ) → list_any (is_noticed v) (told_of_clearing t v h) ≡ false → (hosts : List ℕ)
@@ -123,12 +112,6 @@ module _ (v : LinkView) where
   tells_free c [] notice a = none_told
   tells_free c (y ∷ told) notice a = a
 
-  creation_frees : (row : PipeRow) → (eqb row.dest 0 ≡ false → IsFree v row.dest) → Frees v (creation row)
-  creation_frees row a =
-      cond_both (eqb row.dest 0) (commits (Create row) (ends_of row))
-      (Ask row.dest (record { items = 18 ∷ ends_of row }) (Create row) (record { items = answer_of response.Ok (ends_of row) }))
-      (Frees v) (λ _. none_told) (λ off. a off)
-
   asked_free : (d : ℕ) → eqb d 0 ≡ false → (not (eqb d 0) && not (is_connected v d)) ≡ false → (not (eqb d 0) && is_noticed v d) ≡ false → IsFree v d
   asked_free d off connected noticed =
       let there : is_connected v d ≡ true = yes (is_connected v d) (rw off at connected) in
@@ -140,28 +123,22 @@ module _ (v : LinkView) where
   pub decided_frees : (t : HciTables) (h pipe instruction : ℕ) (body : List ℕ) → Frees v (decided t v h pipe instruction body)
   unfolding AllFalse
   decided_frees t h pipe instruction body =
-      unless (first_of (tests_of_pipe t h pipe instruction)) (carried_out t v h pipe instruction body) (λ _.
-      cond_both (eqb instruction 3) (opening t h pipe body) _ (Frees v)
-      (λ _. unless (first_of (tests_to_open body)) _ (λ _. cond_both (is_opened t h pipe) _ _ (Frees v) (λ _. tt) (λ _. none_told)))
-      (λ _. cond_both (eqb instruction 4) (closing h pipe body) _ (Frees v) (λ _. unless (first_of (tests_to_open body)) _ (λ _. none_told))
-      (λ _. cond_both (eqb instruction 1) (setting v h body) _ (Frees v) (λ _. unless (first_of (tests_to_set_it v h body)) _ (λ _. none_told))
-      (λ _. cond_both (eqb instruction 2) (getting t v h body) _ (Frees v) (λ _. unless (first_of (tests_to_get 0 body)) _ (λ _. tt))
-      (λ _. cond_both (eqb instruction 16) (creating t v h body) _ (Frees v)
-      (λ _. unless (first_of (tests_to_create t v h body)) _ (λ passed.
-      let none = all_false (tests_to_create t v h body) passed in
-      creation_frees (created h body (unwrap_or (lowest_free t.rows v.waiting.items) 0))
-      (λ off. asked_free (dest_in body) off none.1.1.1.1.0 none.1.1.1.1.1.1.0)))
-      (λ _. cond_both (eqb instruction 17) (deleting t v h body) _ (Frees v)
-      (λ _. unless (first_of (tests_to_delete t v h body)) _ (λ passed.
-      let none = all_false (tests_to_delete t v h body) passed in
-      tells_free (Delete (param_in body)) (told_of_deletion t v h (param_in body)) (19 ∷ param_in body ∷ [])
-      (deletion_frees (option_and_then (far_end_of h) (pipe_at t.rows (param_in body))) none.1.1.0)))
-      (λ _. cond_both (eqb instruction 20) (clearing t v h body) _ (Frees v)
-      (λ _. unless (first_of (tests_to_clear t v h body)) _ (λ passed.
-      let none = all_false (tests_to_clear t v h body) passed in
-      tells_free (Clear h) (told_of_clearing t v h) (21 ∷ h ∷ [])
-      (sharing_frees t h none.1.1.0 (hosts_where (has (mask_of (told_of_clearing t v h)))) (all_in (has (mask_of (told_of_clearing t v h)))))))
-      (λ _. tt))))))))
+      decided_holds (Frees v) t v h pipe body instruction (λ r value. tt) (λ _. record {
+        opens = none_told;
+        closes = none_told;
+        sets = λ _. none_told;
+        makes = λ _ controller. none_told;
+        asks = λ passed other.
+            let none = all_false (tests_to_create t v h body) passed in asked_free (dest_in body) other none.1.1.1.1.0 none.1.1.1.1.1.1.0;
+        deletes = λ passed.
+            let none = all_false (tests_to_delete t v h body) passed in
+            tells_free (Delete (param_in body)) (told_of_deletion t v h (param_in body)) (19 ∷ param_in body ∷ [])
+            (deletion_frees (option_and_then (far_end_of h) (pipe_at t.rows (param_in body))) none.1.1.0);
+        clears = λ passed.
+            let none = all_false (tests_to_clear t v h body) passed in
+            tells_free (Clear h) (told_of_clearing t v h) (21 ∷ h ∷ [])
+            (sharing_frees t h none.1.1.0 (hosts_where (has (mask_of (told_of_clearing t v h)))) (all_in (has (mask_of (told_of_clearing t v h)))));
+      })
 
 -- ## Deeds
 

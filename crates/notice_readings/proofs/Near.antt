@@ -48,47 +48,40 @@ use Rattle.notice_readings.proofs.Far.{AreFar, far-append, far_flat, far_reads, 
 use Rattle.notice_readings.proofs.Sites.{AreGood, Reads, still_reads, far_hushed, good_map, link_shut, frames_quiet, arrival_quiet, nothing, far_reads_so}
 use Rattle.notice_readings.proofs.Sites.{all_tick}
 use Rattle.notice_readings.specs.Worlds.{ControllerReads, IfReads, IsRightNotice, IsShut}
+use Rattle.node_telling.proofs.Nodes.{ports_for, hosts_same}
 
 -- ## Ends as a step begins
 
-abbrev ports_of : (ℕ → NumberedEnd) → List Desk → List Port
-ports_of near_ends desks = map (λ (d : Desk). port_for (near_ends d.host) d) desks
-
-hosts_of_ports : (near_ends : ℕ → NumberedEnd) (desks : List Desk)
-    → map (λ (p : Port). p.desk.host) (ports_of near_ends desks) ≡ map (λ (d : Desk). d.host) desks
-hosts_of_ports near_ends [] = refl
-hosts_of_ports near_ends (d ∷ desks) = ap (λ l. d.host ∷ l) (hosts_of_ports near_ends desks)
-
-all_ports : (P : Port → Type 0) (near_ends : ℕ → NumberedEnd) → ((d : Desk) → P (port_for (near_ends d.host) d)) → (desks : List Desk)
-    → AllByRecursion P (ports_of near_ends desks)
+pub all_ports : (P : Port → Type 0) (near_ends : ℕ → NumberedEnd) → ((d : Desk) → P (port_for (near_ends d.host) d)) → (desks : List Desk)
+    → AllByRecursion P (ports_for near_ends desks)
 all_ports P near_ends one [] = tt
 all_ports P near_ends one (d ∷ desks) = (one d, all_ports P near_ends one desks)
 
 right_ports : (near_ends : ℕ → NumberedEnd) (desks : List Desk) → AllByRecursion (λ (d : Desk). IsRightNotice d.notice) desks
-    → AreRight (ports_of near_ends desks)
+    → AreRight (ports_for near_ends desks)
 right_ports near_ends [] a = tt
 right_ports near_ends (d ∷ desks) a = (a.0, right_ports near_ends desks a.1)
 
 host_ports : (near_ends : ℕ → NumberedEnd) (desks : List Desk) → AllByRecursion IsHost (map (λ (d : Desk). d.host) desks)
-    → AreHostEnds (ports_of near_ends desks)
+    → AreHostEnds (ports_for near_ends desks)
 host_ports near_ends [] a = tt
 host_ports near_ends (d ∷ desks) a = (a.0, host_ports near_ends desks a.1)
 
-noticed_ports : (near_ends : ℕ → NumberedEnd) (desks : List Desk) (x : ℕ) → noticed (ports_of near_ends desks) x ≡ notice_at desks x
+noticed_ports : (near_ends : ℕ → NumberedEnd) (desks : List Desk) (x : ℕ) → noticed (ports_for near_ends desks) x ≡ notice_at desks x
 noticed_ports near_ends [] x = refl
 noticed_ports near_ends (d ∷ desks) x = go (cases_Bool (eqb d.host x)) (noticed_ports near_ends desks x) where
-  go : (eqb d.host x ≡ true) ⊎ (eqb d.host x ≡ false) → noticed (ports_of near_ends desks) x ≡ notice_at desks x
-      → noticed (ports_of near_ends (d ∷ desks)) x ≡ notice_at (d ∷ desks) x
+  go : (eqb d.host x ≡ true) ⊎ (eqb d.host x ≡ false) → noticed (ports_for near_ends desks) x ≡ notice_at desks x
+      → noticed (ports_for near_ends (d ∷ desks)) x ≡ notice_at (d ∷ desks) x
   go (inl is) later = rw is refl
   go (inr off) later = rw off later
 
-up_ports : (g h : ℕ → NumberedEnd) → ((n : ℕ) → (h n).side ≡ (g n).side) → (desks : List Desk) (x : ℕ) → OnFirst IsNoticedUp (port_at (ports_of g desks) x)
-    → UpAt (port_at (ports_of h desks) x)
+up_ports : (g h : ℕ → NumberedEnd) → ((n : ℕ) → (h n).side ≡ (g n).side) → (desks : List Desk) (x : ℕ) → OnFirst IsNoticedUp (port_at (ports_for g desks) x)
+    → UpAt (port_at (ports_for h desks) x)
 up_ports g h same [] x a = tt
 up_ports g h same (d ∷ desks) x a = go (cases_Bool (eqb d.host x)) (up_ports g h same desks x) where
   go : (eqb d.host x ≡ true) ⊎ (eqb d.host x ≡ false)
-      → (OnFirst IsNoticedUp (port_at (ports_of g desks) x) → UpAt (port_at (ports_of h desks) x))
-      → UpAt (port_at (ports_of h (d ∷ desks)) x)
+      → (OnFirst IsNoticedUp (port_at (ports_for g desks) x) → UpAt (port_at (ports_for h desks) x))
+      → UpAt (port_at (ports_for h (d ∷ desks)) x)
   go (inl is) later =
       let b : IsNoticedUp (port_for (g d.host) d) = rw is at a in
       let c : UpAt (Some (port_for (h d.host) d)) =
@@ -134,14 +127,14 @@ module _ (t : List Entry) (w : NodeWorld) (r : Running) (has : HasEnds 0 (hosts_
     hosts = host_ports near_ends r.desks (subst (AllByRecursion IsHost) (sym has.ends) (good_hosts w.sites sites));
     right = right_ports near_ends r.desks old.right;
     up = up_ports (λ n. (link_to w.sites n).controller) near_ends same r.desks x (ups x);
-    kept = subst (λ m. IsKeptNotice m (noticed (ports_of near_ends r.desks) x)) (sym (notice_more x t es ∙ far_reads x es quiet (notice_in t x)))
+    kept = subst (λ m. IsKeptNotice m (noticed (ports_for near_ends r.desks) x)) (sym (notice_more x t es ∙ far_reads x es quiet (notice_in t x)))
         (subst (IsKeptNotice (notice_in t x)) (sym (noticed_ports near_ends r.desks x)) (old.kept x));
   }
 
   stands : (x : ℕ) → Stands x t after_it
   stands x =
       steps_stand x t begun (begins x) input outside
-      (subst AreDifferent (sym (hosts_of_ports near_ends r.desks ∙ has.ends)) different)
+      (subst AreDifferent (sym (hosts_same near_ends r.desks ∙ has.ends)) different)
       (all_ports IsFresh near_ends (λ d. (refl, refl)) r.desks)
       (all_ports (λ (p : Port). IsShut p.side) near_ends (λ d. subst IsShut (sym (same d.host)) (link_shut w.sites d.host sites)) r.desks)
 

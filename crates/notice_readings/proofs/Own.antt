@@ -1,5 +1,6 @@
 -- What a host does: it neither asks nor tells anybody by a notice, and what it notes is of its own end.
-use Rattle.std.proofs.Common.{◌≡◌, true, false, eqb, List}
+use Rattle.std.proofs.Common.{◌≡◌, ℕ, true, false, eqb, List, refl}
+use Rattle.std.specs.Prelude.{Option, Some, None}
 use Rattle.std.specs.List.{AllByRecursion, flat_map}
 use Rattle.trace_model.specs.declared.entry.Entry.{Entry}
 use Rattle.trace_model.specs.declared.entry.Entry.TheVariants as entry
@@ -7,6 +8,8 @@ use Rattle.link_machine.specs.Machine.{Message}
 use Rattle.node_machine.specs.Parts.{Core, Port, Deed}
 use Rattle.node_machine.specs.Parts.Deed.{Asks, Ends}
 use Rattle.node_machine.specs.HostReplies.{host_deeds}
+use Rattle.node_machine.specs.Turns.{deeds_of}
+use Rattle.node_machine.specs.Carrying.{port_at}
 use Rattle.node_machine.specs.Node.{NodeInput, forgotten, all_owed, synced}
 use Rattle.node_laws.proofs.Walks.{Plain, OfHost, all_of_host, forgotten_hold, all_owed_hold, all_synced_hold}
 
@@ -39,8 +42,14 @@ own core = record { commits = λ c. tt; hears = tt; goes_on = λ i. tt; orders =
 
 -- ## All that is done in a step
 
-pub host_own : (core : Core) (p : Port) (m : Message) → AreOwn (host_deeds core p m)
+host_own : (core : Core) (p : Port) (m : Message) → AreOwn (host_deeds core p m)
 host_own core p m = all_of_host IsOwn core plain (own core) p m (λ n value command zero sets. tt)
+
+pub deeds_own : (core : Core) (ports : List Port) (h : ℕ) (m : Message) → eqb core.node 0 ≡ false → AreOwn (deeds_of core ports h m)
+deeds_own core ports h m off = go (port_at ports h) refl where
+  go : (o : Option Port) → port_at ports h ≡ o → AreOwn (deeds_of core ports h m)
+  go None here = rw (off, here) tt
+  go (Some p) here = rw (off, here) (host_own core p m)
 
 pub forgotten_own : (ports : List Port) → AreOwn (forgotten ports)
 forgotten_own ports = forgotten_hold IsOwn (λ asker. tt) ports

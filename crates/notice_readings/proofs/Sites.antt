@@ -33,7 +33,7 @@ use Rattle.node_readings.proofs.Sites.{ending_quiet}
 use Rattle.notice_readings.specs.Notices.{IsKeptNotice, notice_at}
 use Rattle.notice_readings.proofs.Reading.{reads, notice_more}
 use Rattle.notice_readings.proofs.Own.{AreOwn}
-use Rattle.notice_readings.proofs.Far.{AreFar, far-append, far_reads, far_asks, asks, asking_more, quiet_far, IsHostWork, all_do, steps_far}
+use Rattle.notice_readings.proofs.Far.{AreFar, far-append, far_reads, far_asks, asks, asking_more, quiet_far, IsFarWork, all_do, steps_far}
 use Rattle.notice_readings.specs.Worlds.{IfHostNode, IfReads, IsGoodSite, IsShut}
 
 abbrev pub AreGood : List Site → Type 0
@@ -122,7 +122,7 @@ arrival_quiet who h l NoInput = tt
 
 -- ## A host acts
 
-runs_far : (k : Work) → IsHostWork k → IfHostNode (runs_on k)
+runs_far : (k : Work) → IsFarWork k → IfHostNode (runs_on k)
 runs_far k a = go (cases_Bool k.cut) where
   off_is : k.cut ≡ true → runs_on k ≡ None
   off_is e = rw e refl
@@ -138,7 +138,7 @@ module _ (t : List Entry) (w : NodeWorld) (a : Reads t w) where
   pub nothing : Reads (t ++ []) w
   nothing = subst (λ l. Reads l w) (sym (append-nil t)) a
 
-  pub host_reads : (h : ℕ) (comes : Comes) (f : Work → Work) → ((k : Work) → IsHostWork k → IsHostWork (f k))
+  pub host_reads : (h : ℕ) (comes : Comes) (f : Work → Work) → ((k : Work) → IsFarWork k → IsFarWork (f k))
       → Reads (t ++ (host_does w h comes f).1) (host_does w h comes f).0
   host_reads h comes f keeps = by_site (site_at w.sites h) refl where
     Fine : NodeWorld × List Entry → Type 0
@@ -172,7 +172,7 @@ module _ (t : List Entry) (w : NodeWorld) (a : Reads t w) where
       frames : List Entry
       frames = frames_noted Host h (wires_for (exchanged s.link) comes) k
 
-      far : IsHostWork k
+      far : IsFarWork k
       far =
           keeps (work_of r s.memory.plan (λ n. near_end_in (exchanged s.link) comes) (entries_for s.host (arrival Host (exchanged s.link) comes)))
           (record { number = subst IfHostNode e good.node; far = arrival_quiet Host s.host (exchanged s.link) comes })
@@ -235,7 +235,7 @@ one_tick s good = by_node s.node refl good.node where
       subst (λ (p : Site × List Entry). IsGoodSite p.0 × AreFar p.1) (sym (off_is e))
       (record { host = good.host; node = subst IfHostNode (sym e) tt; shut = far_tick_shut s.link [] GoesOut good.shut }, tt)
   by_node (Some r) e node =
-      let far : IsHostWork (k r) = steps_far TimePasses (work_of r s.memory.plan (λ h. s.link.host) []) (record { number = node; far = tt }) in
+      let far : IsFarWork (k r) = steps_far TimePasses (work_of r s.memory.plan (λ h. s.link.host) []) (record { number = node; far = tt }) in
       subst (λ (p : Site × List Entry). IsGoodSite p.0 × AreFar p.1) (sym (on_is r e)) (
         record {
           host = good.host;

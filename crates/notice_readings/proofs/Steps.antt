@@ -23,7 +23,6 @@ use Rattle.node_machine.specs.Node.NodeInput.{AtEnd, TimePasses}
 use Rattle.node_links.specs.Notices.{IsComing, IsOutside}
 use Rattle.node_links.proofs.Noticing.{UpAt, at_all, at_host, outside as from_outside}
 use Rattle.kept_laws.specs.Hosts.{AreDifferent}
-use Rattle.kept_laws.proofs.Stepping.{without_host, late_host}
 use Rattle.node_readings.specs.Orders.{IsFresh}
 use Rattle.notice_readings.specs.Notices.{IsKeptNotice}
 use Rattle.notice_readings.proofs.Reading.{reads, read_more}
@@ -34,7 +33,7 @@ use Rattle.notice_readings.proofs.Stepping.{TellNoNotices, no_notices-append, no
 use Rattle.notice_readings.proofs.Stepping.{synced_no_notices, flat_reads, told_elsewhere, told_here, late_elsewhere, IsCome, IsComeAt, come_is, older_is}
 use Rattle.notice_readings.proofs.Stepping.{late_is, forgets_is, without_is}
 use Rattle.notice_readings.specs.Worlds.{IsRightNotice, IsShut}
-use Rattle.node_laws.proofs.Ports.{at_port, come_host, forgets_host, sessions_node}
+use Rattle.node_laws.proofs.Ports.{at_port, come_host, forgets_host, sessions_node, without_host, late_host}
 
 -- the hosts of ends that keep theirs
 hosts_map : (f : Port → Port) → ((p : Port) → (f p).desk.host ≡ p.desk.host) → (ports : List Port)

@@ -14,10 +14,10 @@ use Rattle.link_machine.specs.Machine.Turn.{Release}
 use Rattle.node_machine.specs.Carrying.{own_side, unless_cut, changed_if, with_port, after_turn, turn_at, all_done}
 use Rattle.kept_laws.specs.Books.{hosts_of_ends}
 use Rattle.kept_laws.proofs.Plainly.{hosts_map}
-use Rattle.kept_laws.proofs.Stepping.{without_host}
-use Rattle.node_laws.proofs.Ports.{come_host, forgets_host, changed_host}
+use Rattle.node_laws.proofs.Ports.{come_host, forgets_host, changed_host, without_host}
 use Rattle.node_telling.proofs.Mute.{AreMute, forgotten_mute, all_owed_mute, all_synced_mute}
-use Rattle.node_telling.proofs.Walks.{unless, every_do}
+use Rattle.node_telling.proofs.Walks.{every_do}
+use Rattle.node_laws.proofs.StepWalks.{unless}
 use Rattle.node_machine.specs.Turns.{passes}
 use Rattle.node_machine.specs.Node.{NodeInput, input_at, has_come, told_at, all_come, with_older, is_late, reset_late, told_late, forgotten, after_sessions}
 use Rattle.node_machine.specs.Node.{forgets, without_notice, steps}

@@ -11,7 +11,7 @@ use Rattle.link_machine.specs.Machine.Turn.{Hold, FetchMessage}
 use Rattle.node_machine.specs.Parts.{Desk, Port, Work, Deed}
 use Rattle.node_machine.specs.Carrying.{noting, unless_cut, with_desk, after_turn, turn_at, end_of_node}
 use Rattle.node_machine.specs.Turns.{deeds_of, handles, holds_back, lets_go, have_turns, goes_through_ends}
-use Rattle.node_telling.proofs.Walks.{unless as unless_lost}
+use Rattle.node_laws.proofs.StepWalks.{unless as unless_lost}
 use Rattle.pass_laws.specs.Noting.{noted_by_deeds}
 use Rattle.pass_laws.specs.Passing.{link_of_turn, AreAlong, links_of_turns, waiting_at, is_held_at, lacking, takes_up, LastsOverTurns, ArePassed, Stays}
 use Rattle.pass_laws.specs.Passing.{IsBehind}

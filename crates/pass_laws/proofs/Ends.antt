@@ -15,7 +15,8 @@ use Rattle.node_machine.specs.Turns.{lets_go}
 use Rattle.node_laws.proofs.Ports.{changed_host}
 use Rattle.node_telling.proofs.Accounts.{at_host}
 use Rattle.node_telling.proofs.Away.{at_map, none_map}
-use Rattle.node_telling.proofs.Walks.{IsNoFetch, unless as unless_lost}
+use Rattle.node_telling.proofs.Walks.{IsNoFetch}
+use Rattle.node_laws.proofs.StepWalks.{unless as unless_lost}
 use Rattle.pass_laws.specs.Noting.{goes_in}
 use Rattle.pass_laws.specs.Passing.{waiting_at}
 

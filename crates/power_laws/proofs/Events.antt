@@ -1,6 +1,5 @@
 -- In each event nothing of a node stands behind its cut.
-use Rattle.std.proofs.Common.{◌≡◌, ℕ, ◌==◌, Bool, true, false, cond, List, [], ◌∷◌, ◌++◌, Option, Some, None, map, refl, ap, sym, subst, ◌∙◌, append-nil}
-use Rattle.std.proofs.Common.{length}
+use Rattle.std.proofs.Common.{◌≡◌, ℕ, ◌==◌, Bool, true, false, cond, List, [], ◌∷◌, ◌++◌, Option, None, refl, ap, sym, subst, ◌∙◌, append-nil}
 use Rattle.std.specs.Prelude.{◌&&◌}
 use Rattle.std.specs.List.{AllByRecursion, flat_map}
 use Rattle.std.proofs.lemmas.Bool.{eqb-true, true≢false}
@@ -8,26 +7,24 @@ use Rattle.registry.proofs.ValueLemmas.{AllByRecursion-append as all_append}
 use Rattle.swp_base.specs.InMemory.{Plan}
 use Rattle.trace_model.specs.declared.entry.Entry.{Entry}
 use Rattle.trace_model.specs.declared.line.End.{End}
-use Rattle.journal_laws.specs.Planned.{fails_within, after_planned}
-use Rattle.link_machine.specs.Machine.{Message, LinkInput}
+use Rattle.link_machine.specs.Machine.{Message}
 use Rattle.link_machine.specs.Machine.LinkInput.{Start}
-use Rattle.message_link.specs.Links.{NumberedEnd, Link, Comes, Loss, exchanged, aged, ticks_at_controller}
-use Rattle.message_link.specs.Links.Ending.{GoesOut}
+use Rattle.message_link.specs.Links.{NumberedEnd, Link, Comes, Loss, exchanged, aged}
 use Rattle.message_link.specs.Links.Comes.{NextFrame, AsksReset, Starts, NoInput}
-use Rattle.link_entries.specs.Entries.{first_lost, aged_entries}
+use Rattle.link_entries.specs.Entries.{Entry as Noted, first_lost, aged_entries}
 use Rattle.link_entries.specs.Entries.End.{Controller, Host}
-use Rattle.history.specs.Follows.{seen_from}
 use Rattle.history.specs.Steps.{entries_for}
 use Rattle.node_machine.specs.Parts.{Running, Port, Work, Deed}
 use Rattle.node_machine.specs.Parts.Deed.{Sends, Orders}
 use Rattle.node_machine.specs.Controller.{is_command_message}
-use Rattle.node_machine.specs.Node.{steps, begins_with, boot_writes}
+use Rattle.node_machine.specs.Node.{steps, begins_with}
 use Rattle.node_machine.specs.Node.NodeInput.{AtEnd, TimePasses}
 use Rattle.node_world.specs.World.{Site, NodeWorld, Happening, site_at, link_to, near_end_in, arrival, wires_for, work_of, frames_noted, comes_to}
-use Rattle.node_world.specs.World.{controller_work, after_controller, controller_does, host_work, after_host, host_does, memory_at, boots, frame_lost, all_aged}
-use Rattle.node_world.specs.World.{ticked_so, is_late_at, turns_at, ending_of, runs_on, controller_ticks, host_ticks, hosts_tick, world_ticks, sending}
-use Rattle.node_world.specs.World.{beginning, input_of, comes_at, end_c, end_h, world_step, node_of}
+use Rattle.node_world.specs.World.{controller_does, host_work, host_does, boots, frame_lost, all_aged}
+use Rattle.node_world.specs.World.{controller_ticks, host_ticks, hosts_tick, world_ticks, sending}
+use Rattle.node_world.specs.World.{beginning, comes_at, end_c, end_h, world_step, node_of}
 use Rattle.node_world.specs.World.Happening.{Boots, IsCut, Gives, Inits, Takes, Loses, Ticks, Resets, Activates, Arms}
+use Rattle.node_world.proofs.Cases.{by_controller, by_host, by_coming, by_boot, by_loss, near_tick, by_controller_tick, host_tick, by_host_tick}
 use Rattle.kept_laws.specs.Books.{hosts_of_ends}
 use Rattle.kept_laws.specs.Hosts.{AreDifferent}
 use Rattle.node_telling.specs.Telling.{HasEnds, IfItRuns, hosts_in, IsOrderly}
@@ -36,6 +33,7 @@ use Rattle.node_telling.proofs.Nodes.{site_host, ports_for, hosts_same}
 use Rattle.node_telling.proofs.Worlds.{site_is}
 use Rattle.node_telling.proofs.Events.{orderly_map, comes_goes}
 use Rattle.node_telling.proofs.Powers.{entries_uncut}
+use Rattle.node_telling.proofs.WorldTicks.{near_orderly}
 use Rattle.node_telling.proofs.Shapes.{frames_uncut, frames_none}
 use Rattle.power_laws.specs.Powers.{AreNotOf}
 use Rattle.power_laws.proofs.Parts.{IsOwn, AreOwn, AreOver, IsPart, own_not, over_front, over_part, part_own, nothing_part, part_over}
@@ -104,72 +102,42 @@ far_part h v l fine =
 
 controller_part : (w : NodeWorld) (k : ℕ) (comes : Comes) (f : Work → Work) → ((v : Work) → Runs 0 v → Fine 0 (f v)) → IsOrderly w
     → IsPart 0 (controller_does w k comes f).1
-controller_part w k comes f does a = go w.controller a.controller
-  where
-    by : Option Running → NodeWorld × List Entry
-    by None = (w, [])
-    by (Some r) = after_controller w k comes (controller_work w r k comes f)
-
-    go : (o : Option Running) → IfItRuns 0 (hosts_in w.sites) o → IsPart 0 (by o).1
-    go None n = nothing_part 0
-    go (Some r) n =
-        let l : Link = link_to w.sites k in
-        let es : List Entry = entries_for k (arrival Controller l comes) in
-        let begun : Work = work_of r w.memory.plan (λ j. near_end_in (link_to w.sites j) (comes_to k comes j)) es in
-        near_part (f begun) (λ s. wires_for s.link (comes_to k comes s.host)) w.sites
-        (does begun (near_runs r w.memory.plan (λ j. near_end_in (link_to w.sites j) (comes_to k comes j)) es n.number
-        (links_own 0 k Controller refl (arrival Controller l comes) (arrival_of_side Controller l comes)) (entries_uncut k (arrival Controller l comes))))
+controller_part w k comes f does a =
+    by_controller (λ p. IsPart 0 p.1) w k comes f (nothing_part 0)
+    (λ r q.
+    let n : HasEnds 0 (hosts_in w.sites) r = subst (IfItRuns 0 (hosts_in w.sites)) q a.controller in
+    let l : Link = link_to w.sites k in
+    let es : List Entry = entries_for k (arrival Controller l comes) in
+    let near_ends : ℕ → NumberedEnd = λ j. near_end_in (link_to w.sites j) (comes_to k comes j) in
+    let begun : Work = work_of r w.memory.plan near_ends es in
+    near_part (f begun) (λ s. wires_for s.link (comes_to k comes s.host)) w.sites
+    (does begun (near_runs r w.memory.plan near_ends es n.number
+    (links_own 0 k Controller refl (arrival Controller l comes) (arrival_of_side Controller l comes)) (entries_uncut k (arrival Controller l comes)))))
 
 host_part : (w : NodeWorld) (h : ℕ) (comes : Comes) (f : Work → Work) → ((v : Work) → Runs h v → Fine h (f v)) → IsOrderly w
     → IsPart h (host_does w h comes f).1
-host_part w h comes f does a = go (site_at w.sites h) refl
-  where
-    by_node : Site → Option Running → NodeWorld × List Entry
-    by_node s None = (w, [])
-    by_node s (Some r) = (
-      record w { sites = map (λ (x : Site). cond (x.host == h) (after_host comes (host_work s r comes f) x) x) w.sites },
-      (host_work s r comes f).entries ++ frames_noted Host h (wires_for (exchanged s.link) comes) (host_work s r comes f),
-    )
-
-    runs : (s : Site) → site_at w.sites h ≡ Some s → (o : Option Running) → IfItRuns s.host (s.host ∷ []) o → IsPart h (by_node s o).1
-    runs s found None n = nothing_part h
-    runs s found (Some r) n =
-        let is : s.host ≡ h = site_host w.sites h s found in
-        let other : (s.host == 0) ≡ false = site_is (λ (x : Site). (x.host == 0) ≡ false) w.sites h s a.hosts found in
-        let off : (h == 0) ≡ false = subst (λ j. (j == 0) ≡ false) is other in
-        let P : ℕ → Type 0 = λ j. HasEnds j (j ∷ []) r in
-        let l : Link = exchanged s.link in
-        let es : List Entry = entries_for s.host (arrival Host l comes) in
-        let Q : ℕ → Type 0 = λ j. AreOwn h (entries_for j (arrival Host l comes)) in
-        far_part h (host_work s r comes f) (wires_for l comes)
-        (does (work_of r s.memory.plan (λ j. near_end_in l comes) es)
-        (far_runs h r s.memory.plan (λ j. near_end_in l comes) es off (subst P is n)
-        (subst Q (sym is) (links_own h h Host refl (arrival Host l comes) (arrival_of_side Host l comes))) (entries_uncut s.host (arrival Host l comes))))
-
-    go : (o : Option Site) → site_at w.sites h ≡ o → IsPart h (host_does w h comes f).1
-    go None q = rw q (nothing_part h)
-    go (Some s) q = node s.node refl
-      where
-        node : (o : Option Running) → s.node ≡ o → IsPart h (host_does w h comes f).1
-        node None e = rw (q, e) (nothing_part h)
-        node (Some r) e =
-            let n : IfItRuns s.host (s.host ∷ []) s.node = site_is (λ (x : Site). IfItRuns x.host (x.host ∷ []) x.node) w.sites h s a.nodes q in
-            rw (q, e) (runs s q (Some r) (subst (IfItRuns s.host (s.host ∷ [])) e n))
+host_part w h comes f does a =
+    by_host (λ p. IsPart h p.1) w h comes f (nothing_part h)
+    (λ s r found q.
+    let is : s.host ≡ h = site_host w.sites h s found in
+    let node : HasEnds s.host (s.host ∷ []) r =
+    subst (IfItRuns s.host (s.host ∷ [])) q (site_is (λ (x : Site). IfItRuns x.host (x.host ∷ []) x.node) w.sites h s a.nodes found) in
+    let other : (s.host == 0) ≡ false = site_is (λ (x : Site). (x.host == 0) ≡ false) w.sites h s a.hosts found in
+    let off : (h == 0) ≡ false = subst (λ j. (j == 0) ≡ false) is other in
+    let P : ℕ → Type 0 = λ j. HasEnds j (j ∷ []) r in
+    let l : Link = exchanged s.link in
+    let es : List Entry = entries_for s.host (arrival Host l comes) in
+    let Q : ℕ → Type 0 = λ j. AreOwn h (entries_for j (arrival Host l comes)) in
+    far_part h (host_work s r comes f) (wires_for l comes)
+    (does (work_of r s.memory.plan (λ j. near_end_in l comes) es)
+    (far_runs h r s.memory.plan (λ j. near_end_in l comes) es off (subst P is node)
+    (subst Q (sym is) (links_own h h Host refl (arrival Host l comes) (arrival_of_side Host l comes))) (entries_uncut s.host (arrival Host l comes)))))
 
 comes_part : (w : NodeWorld) (e : End) (comes : Comes) → IsOrderly w → IsPart (node_of e) (comes_at w e comes).1
-comes_part w e comes a = go (input_of (seen_from e (link_to w.sites e.link)) comes) e.at_host refl
-  where
-    by : Option LinkInput → Bool → NodeWorld × List Entry
-    by None at_host = (w, [])
-    by (Some i) true = host_does w e.link comes (steps (AtEnd e.link i))
-    by (Some i) false = controller_does w e.link comes (steps (AtEnd e.link i))
-
-    go : (o : Option LinkInput) (b : Bool) → e.at_host ≡ b → IsPart (cond e.at_host e.link 0) (by o b).1
-    go None b q = nothing_part _
-    go (Some i) true q =
-        rw q (host_part w e.link comes (steps (AtEnd e.link i)) (λ v r. steps_fine e.link (AtEnd e.link i) v r) a)
-    go (Some i) false q =
-        rw q (controller_part w e.link comes (steps (AtEnd e.link i)) (λ v r. steps_fine 0 (AtEnd e.link i) v r) a)
+comes_part w e comes a =
+    by_coming (λ p. IsPart (node_of e) p.1) w e comes (nothing_part (node_of e))
+    (λ i q seen. rw q (host_part w e.link comes (steps (AtEnd e.link i)) (λ v r. steps_fine e.link (AtEnd e.link i) v r) a))
+    (λ i q seen. rw q (controller_part w e.link comes (steps (AtEnd e.link i)) (λ v r. steps_fine 0 (AtEnd e.link i) v r) a))
 
 begins_part : (w : NodeWorld) (h : ℕ) (deeds : List Deed) → AllByRecursion (IsMine h h) deeds → IsOrderly w
     → IsPart h (host_does w h NoInput (begins_with h deeds)).1
@@ -184,39 +152,23 @@ sending_mine h m = go (m.0 == 1 && is_command_message m.1)
 
 -- ## Ticks
 
-near_tick : (w : NodeWorld) → IsOrderly w → IsPart 0 (controller_ticks w).1
-near_tick w a = go w.controller a.controller
-  where
-    after_work : Work → NodeWorld × List Entry
-    after_work v = (
-      record {
-        memory = after_planned v.writes w.memory;
-        controller = runs_on v;
-        sites = map (λ (s : Site). record s { link = ticked_so s.link (is_late_at v s.host) (turns_at v s.host) (ending_of v) }) w.sites;
-      },
-      v.entries ++ flat_map (λ (s : Site). frames_noted Controller s.host s.link v) w.sites,
-    )
-
-    by : Option Running → NodeWorld × List Entry
-    by None = (record w { sites = map (λ (s : Site). record s { link = ticks_at_controller s.link [] GoesOut }) w.sites }, [])
-    by (Some r) = after_work (steps TimePasses (work_of r w.memory.plan (λ h. (link_to w.sites h).controller) []))
-
-    go : (o : Option Running) → IfItRuns 0 (hosts_in w.sites) o → IsPart 0 (by o).1
-    go None n = nothing_part 0
-    go (Some r) n =
-        let begun : Work = work_of r w.memory.plan (λ h. (link_to w.sites h).controller) [] in
-        near_part (steps TimePasses begun) (λ s. s.link) w.sites
-        (steps_fine 0 TimePasses begun (near_runs r w.memory.plan (λ h. (link_to w.sites h).controller) [] n.number tt tt))
+near_ticks_part : (w : NodeWorld) → IsOrderly w → IsPart 0 (controller_ticks w).1
+near_ticks_part w a =
+    by_controller_tick (λ p. IsPart 0 p.1) w (λ q. nothing_part 0)
+    (λ r q.
+    let n : HasEnds 0 (hosts_in w.sites) r = subst (IfItRuns 0 (hosts_in w.sites)) q a.controller in
+    let near_ends : ℕ → NumberedEnd = λ h. (link_to w.sites h).controller in
+    near_part (near_tick w r) (λ s. s.link) w.sites
+    (steps_fine 0 TimePasses (work_of r w.memory.plan near_ends []) (near_runs r w.memory.plan near_ends [] n.number tt tt)))
 
 far_tick : (s : Site) → (s.host == 0) ≡ false → IfItRuns s.host (s.host ∷ []) s.node → IsPart s.host (host_ticks s).1
-far_tick s other runs = go s.node refl runs
-  where
-    go : (o : Option Running) → s.node ≡ o → IfItRuns s.host (s.host ∷ []) o → IsPart s.host (host_ticks s).1
-    go None q n = rw q (nothing_part s.host)
-    go (Some r) q n =
-        let begun : Work = work_of r s.memory.plan (λ h. s.link.host) [] in
-        rw q (far_part s.host (steps TimePasses begun) (exchanged s.link)
-        (steps_fine s.host TimePasses begun (far_runs s.host r s.memory.plan (λ h. s.link.host) [] other n tt tt)))
+far_tick s other runs =
+    by_host_tick (λ p. IsPart s.host p.1) s (λ q. nothing_part s.host)
+    (λ r q.
+    let n : HasEnds s.host (s.host ∷ []) r = subst (IfItRuns s.host (s.host ∷ [])) q runs in
+    far_part s.host (host_tick s r) (exchanged s.link)
+    (steps_fine s.host TimePasses (work_of r s.memory.plan (λ h. s.link.host) [])
+    (far_runs s.host r s.memory.plan (λ h. s.link.host) [] other n tt tt)))
 
 abbrev AreNodes : List Site → Type 0
 AreNodes sites = AllByRecursion (λ (s : Site). ((s.host == 0) ≡ false) × IfItRuns s.host (s.host ∷ []) s.node) sites
@@ -243,32 +195,6 @@ none_zero : (sites : List Site) → AllByRecursion (λ (s : Site). (s.host == 0)
 none_zero [] a = tt
 none_zero (s ∷ sites) a = (a.0, none_zero sites a.1)
 
--- the sites behind the tick of the controller
-ticked_orderly : (w : NodeWorld) → IsOrderly w → (P : List Site → Type 0)
-    → ((f : Site → Site) → ((s : Site) → (f s).host ≡ s.host) → ((s : Site) → (f s).node ≡ s.node) → P (map f w.sites))
-    → P (controller_ticks w).0.sites
-ticked_orderly w a P one = go w.controller
-  where
-    after_work : Work → NodeWorld × List Entry
-    after_work v = (
-      record {
-        memory = after_planned v.writes w.memory;
-        controller = runs_on v;
-        sites = map (λ (s : Site). record s { link = ticked_so s.link (is_late_at v s.host) (turns_at v s.host) (ending_of v) }) w.sites;
-      },
-      v.entries ++ flat_map (λ (s : Site). frames_noted Controller s.host s.link v) w.sites,
-    )
-
-    by : Option Running → NodeWorld × List Entry
-    by None = (record w { sites = map (λ (s : Site). record s { link = ticks_at_controller s.link [] GoesOut }) w.sites }, [])
-    by (Some r) = after_work (steps TimePasses (work_of r w.memory.plan (λ h. (link_to w.sites h).controller) []))
-
-    go : (o : Option Running) → P (by o).0.sites
-    go None = one (λ (s : Site). record s { link = ticks_at_controller s.link [] GoesOut }) (λ s. refl) (λ s. refl)
-    go (Some r) =
-        let v : Work = steps TimePasses (work_of r w.memory.plan (λ h. (link_to w.sites h).controller) []) in
-        one (λ (s : Site). record s { link = ticked_so s.link (is_late_at v s.host) (turns_at v s.host) (ending_of v) }) (λ s. refl) (λ s. refl)
-
 aged_uncut : (sites : List Site)
     → AreUncut (flat_map (λ (s : Site). entries_for s.host (aged_entries Controller s.link.to_controller ++ aged_entries Host s.link.to_host)) sites)
 aged_uncut sites =
@@ -278,7 +204,8 @@ aged_uncut sites =
 ticks_over : (w : NodeWorld) → IsOrderly w → AreOver (world_ticks w).1
 ticks_over w a =
     over_front (all_aged w).1 ((controller_ticks old).1 ++ (hosts_tick near).1) (aged_uncut w.sites)
-    (over_part 0 (controller_ticks old).1 (hosts_tick near).1 (near_tick old b) facts.0 facts.1)
+    (over_part 0 (controller_ticks old).1 (hosts_tick near).1 (near_ticks_part old b) (others_tick 0 near (none_zero near kept.hosts) nodes)
+    (hosts_over near kept.different nodes))
   where
     old : NodeWorld
     old = (all_aged w).0
@@ -289,33 +216,28 @@ ticks_over w a =
     near : List Site
     near = (controller_ticks old).0.sites
 
-    facts : AreNotOf 0 (hosts_tick near).1 × AreOver (hosts_tick near).1
-    facts = ticked_orderly old b (λ sites. AreNotOf 0 (hosts_tick sites).1 × AreOver (hosts_tick sites).1) (λ f host node.
-        let c : IsOrderly (record old { controller = None; sites = map f old.sites }) =
-        orderly_map old old.memory None f host b tt (λ s n. subst (IfItRuns s.host (s.host ∷ [])) (sym (node s)) n) in
-        let nodes : AreNodes (map f old.sites) = both_nodes (map f old.sites) c.hosts c.nodes in
-        (others_tick 0 (map f old.sites) (none_zero (map f old.sites) c.hosts) nodes, hosts_over (map f old.sites) c.different nodes))
+    -- the sites behind the tick of the controller
+    kept : IsOrderly (record { memory = old.memory; controller = None; sites = near })
+    kept = near_orderly old b
+
+    nodes : AreNodes near
+    nodes = both_nodes near kept.hosts kept.nodes
 
 -- ## Events
 
 boots_over : (w : NodeWorld) (n : ℕ) → AreOver (boots w n).1
-boots_over w n = go (fails_within (length (boot_writes (memory_at w n).content)) (memory_at w n).plan) refl
-  where
-    go : (b : Bool) → fails_within (length (boot_writes (memory_at w n).content)) (memory_at w n).plan ≡ b → AreOver (boots w n).1
-    go true q = rw q (tt, tt)
-    go false q = rw q (tt, tt)
+boots_over w n = by_boot (λ p. AreOver p.1) w n (tt, tt) (tt, tt)
 
 uncut_over : (es : List Entry) → AreUncut es → AreOver es
 uncut_over es u = subst AreOver (append-nil es) (over_front es [] u tt)
 
 lost_over : (w : NodeWorld) (e : End) (why : Loss) → AreOver (frame_lost w e why).1
-lost_over w e why = go e.at_host refl
+lost_over w e why =
+    by_loss (λ p. AreOver p.1) w e why (λ q. notes (first_lost Host why (link_to w.sites e.link).to_host))
+    (λ q. notes (first_lost Controller why (link_to w.sites e.link).to_controller))
   where
-    go : (b : Bool) → e.at_host ≡ b → AreOver (frame_lost w e why).1
-    go true q = rw q (uncut_over (entries_for e.link (first_lost Host why (link_to w.sites e.link).to_host))
-        (entries_uncut e.link (first_lost Host why (link_to w.sites e.link).to_host)))
-    go false q = rw q (uncut_over (entries_for e.link (first_lost Controller why (link_to w.sites e.link).to_controller))
-        (entries_uncut e.link (first_lost Controller why (link_to w.sites e.link).to_controller)))
+    notes : (es : List Noted) → AreOver (entries_for e.link es)
+    notes es = uncut_over (entries_for e.link es) (entries_uncut e.link es)
 
 -- no host has the number of the controller
 no_site : (sites : List Site) (h : ℕ) → (h == 0) ≡ true → AllByRecursion (λ (s : Site). (s.host == 0) ≡ false) sites → site_at sites h ≡ None

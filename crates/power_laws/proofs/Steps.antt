@@ -27,7 +27,7 @@ use Rattle.node_machine.specs.Node.NodeInput.{AtEnd, TimePasses}
 use Rattle.node_world.specs.World.{node_of, frames_noted}
 use Rattle.kept_laws.specs.Books.{hosts_of_ends}
 use Rattle.kept_laws.proofs.Plainly.{hosts_map}
-use Rattle.node_laws.proofs.Ports.{come_host, forgets_host, sessions_node}
+use Rattle.node_laws.proofs.Ports.{come_host, forgets_host, sessions_node, without_host}
 use Rattle.node_telling.proofs.Walks.{IsUncut, AreUncut}
 use Rattle.node_telling.proofs.Powers.{entries_uncut}
 use Rattle.node_telling.proofs.Shapes.{frames_none}
@@ -37,7 +37,6 @@ use Rattle.power_laws.proofs.Parts.{IsOwn, AreOwn, IsPart}
 use Rattle.power_laws.proofs.Links.{links_own, told_of_side, out_of_side}
 use Rattle.power_laws.proofs.Doing.{IsEndOf, AreEnds, Runs, Fine, IsMine, then_on, at_own, map_ends, turn_runs, deeds_fine, passes_fine}
 use Rattle.kept_laws.proofs.Doing.{uncut as on_goes}
-use Rattle.kept_laws.proofs.Stepping.{without_host}
 
 -- ## What comes
 

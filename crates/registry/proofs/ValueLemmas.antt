@@ -1,6 +1,6 @@
 -- What keeps the values of a registry sorted and apart from their defaults.
-use Rattle.std.proofs.Common.{ℕ, ◌<◌, ◌≤◌, Bool, not, eqb, leb, ◌&&◌, ◌||◌, List, [], ◌∷◌, ◌++◌, inl, inr, arith, zero, suc, take}
-use Rattle.std.specs.Prelude.{IsTrue}
+use Rattle.std.proofs.Common.{◌≡◌, ℕ, ◌<◌, ◌≤◌, Bool, not, eqb, leb, ◌&&◌, ◌||◌, List, [], ◌∷◌, ◌++◌, inl, inr, arith, zero, suc, take, slice_get, subst}
+use Rattle.std.specs.Prelude.{IsTrue, Some}
 use Rattle.std.specs.List.{filter, AllByRecursion}
 use Rattle.std.proofs.lemmas.Bool.{cond_both, and_parts, or_cases, leb-true, eqb-true}
 use Rattle.sorted_rows.specs.Rows.{rows_before, rows_behind, with_row}
@@ -22,6 +22,12 @@ pub AllByRecursion-take : {X : Type 0} (P : X → Type 0) (n : ℕ) (xs : List X
 AllByRecursion-take P zero xs h = tt
 AllByRecursion-take P (suc n) [] h = tt
 AllByRecursion-take P (suc n) (x ∷ xs) h = (h.0, AllByRecursion-take P n xs h.1)
+
+pub AllByRecursion-get : {X : Type 0} (P : X → Type 0) (xs : List X) (n : ℕ) (x : X) → AllByRecursion P xs → slice_get xs n ≡ Some x → P x
+AllByRecursion-get P [] zero x h q = cc
+AllByRecursion-get P [] (suc n) x h q = cc
+AllByRecursion-get P (y ∷ xs) zero x h q = let is : y ≡ x = cc in subst P is h.0
+AllByRecursion-get P (y ∷ xs) (suc n) x h q = AllByRecursion-get P xs n x h.1 q
 
 pub AreValues-filter : (test : RegValue → Bool) (values : List RegValue) → AreValues values → AreValues (filter test values)
 AreValues-filter test values h = record {

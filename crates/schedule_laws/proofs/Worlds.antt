@@ -1,35 +1,34 @@
 -- What is noted of an event of a world of nodes is paid for, but for three of each end of a node that has a step in it.
 use Rattle.std.proofs.Common.{◌≡◌, ℕ, ◌+◌, ◌*◌, ◌≤◌, ◌==◌, ◌&&◌, Bool, true, false, cond, List, [], ◌∷◌, ◌++◌, length, map, sym, refl, ap, ◌∙◌, arith, Option}
 use Rattle.std.proofs.Common.{Some, None}
+use Rattle.std.proofs.Common.{subst}
+use Rattle.std.proofs.lemmas.Bool.{true≢false}
 use Rattle.std.proofs.lemmas.List.{length-map}
 use Rattle.std.specs.List.{AllByRecursion, flat_map}
 use Rattle.std.specs.Option.{option_map_or}
 use Rattle.trace_model.specs.declared.entry.Entry.{Entry}
 use Rattle.trace_model.specs.declared.entry.Entry.TheVariants as entry
 use Rattle.trace_model.specs.declared.line.End.{End}
-use Rattle.journal_laws.specs.Journal.{count_of}
-use Rattle.journal_laws.specs.Planned.{fails_within, after_planned}
 use Rattle.link_machine.specs.Machine.{Message, LinkInput}
-use Rattle.message_link.specs.Links.{NumberedEnd, Link, Comes, Loss, exchanged, aged, ticks_at_controller, happens}
-use Rattle.message_link.specs.Links.EndEvent.{Lose}
-use Rattle.message_link.specs.Links.Ending.{GoesOut}
+use Rattle.message_link.specs.Links.{NumberedEnd, Link, Comes, Loss, exchanged, aged}
 use Rattle.message_link.specs.Links.Comes.{NextFrame, AsksReset, Starts, NoInput}
 use Rattle.link_entries.specs.Entries.{End as Side, first_lost, ending_entries, aged_entries}
 use Rattle.link_entries.specs.Entries.End.{Controller, Host}
-use Rattle.history.specs.Follows.{seen_from}
-use Rattle.history.specs.Steps.{at, entries_for}
+use Rattle.history.specs.Steps.{entries_for}
 use Rattle.node_machine.specs.Parts.{Desk, Running, Port, Work, Deed}
 use Rattle.node_machine.specs.Parts.Deed.{Sends, Orders}
 use Rattle.node_machine.specs.Carrying.{port_at}
 use Rattle.node_machine.specs.Controller.{is_command_message}
-use Rattle.node_machine.specs.Node.{steps, begins_with, found, boot_writes}
+use Rattle.node_machine.specs.Node.{steps, begins_with}
 use Rattle.node_machine.specs.Node.NodeInput.{AtEnd, TimePasses}
-use Rattle.node_world.specs.World.{NodeWorld, Site, Happening, site_at, link_to, turns_at, ending_of, runs_on, input_of, near_end_in, arrival, wires_for}
-use Rattle.node_world.specs.World.{frames_noted, comes_to, controller_work, after_controller, controller_does, host_work, after_host, host_does, with_site}
-use Rattle.node_world.specs.World.{port_for, work_of, is_late_at, ticked_so, loses_power_at, memory_at, with_memory, with_node, links_of, boots, counts}
+use Rattle.node_world.specs.World.{NodeWorld, Site, Happening, link_to, ending_of, near_end_in, arrival, wires_for}
+use Rattle.node_world.specs.World.{frames_noted, comes_to, controller_does, host_does}
+use Rattle.node_world.specs.World.{port_for, work_of, boots}
 use Rattle.node_world.specs.World.{frame_lost, all_aged, controller_ticks, host_ticks, hosts_tick, world_ticks, sending, beginning, comes_at, activates, end_c}
 use Rattle.node_world.specs.World.{end_h, world_step}
 use Rattle.node_world.specs.World.Happening.{Boots, IsCut, Gives, Inits, Takes, Loses, Ticks, Resets, Activates, Arms}
+use Rattle.node_world.proofs.Cases.{by_controller, by_host, by_coming, by_boot, by_loss, near_tick, by_controller_tick, host_tick, by_host_tick}
+use Rattle.node_world.proofs.Cases.{site_ticked, site_unticked}
 use Rattle.node_telling.specs.Telling.{HasEnds, IfItRuns, hosts_in, IsOrderly}
 use Rattle.node_telling.proofs.Worlds.{site_is}
 use Rattle.node_telling.proofs.Events.{orderly_map, comes_goes}
@@ -80,58 +79,49 @@ ends_many : (n : ℕ) (hosts : List ℕ) (r : Running) (near_ends : ℕ → Numb
 ends_many n hosts r near_ends has =
     length-map r.desks (λ (d : Desk). port_for (near_ends d.host) d) ∙ (sym (length-map r.desks (λ (d : Desk). d.host)) ∙ ap length has.ends)
 
+-- the controller does so much, and frames go out of its ends
+near_paid : (w : NodeWorld) (r : Running) (near_ends : ℕ → NumberedEnd) (begun k : Work) (wires : Site → Link) → IfItRuns 0 (hosts_in w.sites) (Some r)
+    → length w.sites ≤ 7 → length begun.ports ≡ length (map (λ (d : Desk). port_for (near_ends d.host) d) r.desks) → Owes 0 (3 * length begun.ports) k
+    → IsPaid 21 (k.entries ++ flat_map (λ (s : Site). frames_noted Controller s.host (wires s) k) w.sites)
+near_paid w r near_ends begun k wires has few ports owed =
+    let many : length (map (λ (d : Desk). port_for (near_ends d.host) d) r.desks) ≡ length (hosts_in w.sites) =
+    ends_many 0 (hosts_in w.sites) r near_ends has in
+    let same : length (hosts_in w.sites) ≡ length w.sites = length-map w.sites (λ (s : Site). s.host) in
+    let f : Site → List Entry = λ s. frames_noted Controller s.host (wires s) k in
+    let rest : costs (flat_map f w.sites) ≡ 0 = flat_free f (λ s. frames_free Controller s.host (wires s) k) w.sites in
+    more_paid (21 + 0) 21 (k.entries ++ flat_map f w.sites) (omega arith)
+    (both_paid 21 0 k.entries (flat_map f w.sites) (omega (arith, owed, ports, many, same, few)) (free_paid 0 (flat_map f w.sites) rest))
+
 -- the controller has a step, as something comes to its end of the link with the host h
 controller_paid : (w : NodeWorld) (h : ℕ) (i : LinkInput) (comes : Comes) → IsOrderly w → length w.sites ≤ 7
     → IsPaid 21 (controller_does w h comes (steps (AtEnd h i))).1
-controller_paid w h i comes orderly few = go w.controller orderly.controller where
-  by : Option Running → NodeWorld × List Entry
-  by None = (w, [])
-  by (Some r) = after_controller w h comes (controller_work w r h comes (steps (AtEnd h i)))
+controller_paid w h i comes orderly few =
+    by_controller (λ p. IsPaid 21 p.1) w h comes (steps (AtEnd h i)) (omega arith)
+    (λ r q.
+    let near_ends : ℕ → NumberedEnd = λ j. near_end_in (link_to w.sites j) (comes_to h comes j) in
+    let begun : Work = work_of r w.memory.plan near_ends (entries_for h (arrival Controller (link_to w.sites h) comes)) in
+    near_paid w r near_ends begun (steps (AtEnd h i) begun) (λ s. wires_for s.link (comes_to h comes s.host))
+    (subst (IfItRuns 0 (hosts_in w.sites)) q orderly.controller) few refl
+    (steps_owe (AtEnd h i) begun (arrival_free Controller h (link_to w.sites h) comes)))
 
-  go : (o : Option Running) → IfItRuns 0 (hosts_in w.sites) o → IsPaid 21 (by o).1
-  go None has = omega arith
-  go (Some r) has =
-      let l : Link = link_to w.sites h in
-      let near_ends : ℕ → NumberedEnd = λ j. near_end_in (link_to w.sites j) (comes_to h comes j) in
-      let begun : Work = work_of r w.memory.plan near_ends (entries_for h (arrival Controller l comes)) in
-      let k : Work = steps (AtEnd h i) begun in
-      let many : length begun.ports ≡ length (hosts_in w.sites) = ends_many 0 (hosts_in w.sites) r near_ends has in
-      let same : length (hosts_in w.sites) ≡ length w.sites = length-map w.sites (λ (s : Site). s.host) in
-      let owed : Owes 0 (3 * length begun.ports) k = steps_owe (AtEnd h i) begun (arrival_free Controller h l comes) in
-      let f : Site → List Entry = λ s. frames_noted Controller s.host (wires_for s.link (comes_to h comes s.host)) k in
-      let rest : costs (flat_map f w.sites) ≡ 0 = flat_free f (λ s. frames_free Controller s.host (wires_for s.link (comes_to h comes s.host)) k) w.sites in
-      more_paid (21 + 0) 21 (k.entries ++ flat_map f w.sites) (omega arith)
-      (both_paid 21 0 k.entries (flat_map f w.sites) (omega (arith, owed, many, same, few)) (free_paid 0 (flat_map f w.sites) rest))
+-- a host does so much, and frames go out of its end
+host_notes_paid : (h : ℕ) (k : Work) (l : Link) → Owes 0 3 k → IsPaid 3 (k.entries ++ frames_noted Host h l k)
+host_notes_paid h k l owed =
+    more_paid (3 + 0) 3 (k.entries ++ frames_noted Host h l k) (omega arith)
+    (both_paid 3 0 k.entries (frames_noted Host h l k) (omega (arith, owed)) (free_paid 0 (frames_noted Host h l k) (frames_free Host h l k)))
 
 -- a host has a step, or does something of itself
 host_paid : (w : NodeWorld) (h : ℕ) (comes : Comes) (f : Work → Work)
     → ((v : Work) → costs v.entries ≡ 0 → length v.ports ≡ 1 → Owes 0 3 (f v)) → IsOrderly w → IsPaid 3 (host_does w h comes f).1
-host_paid w h comes f does orderly = go (site_at w.sites h) refl where
-  by_node : Site → Option Running → NodeWorld × List Entry
-  by_node s None = (w, [])
-  by_node s (Some r) = (
-    record w { sites = with_site h (after_host comes (host_work s r comes f)) w.sites },
-    (host_work s r comes f).entries ++ frames_noted Host h (wires_for (exchanged s.link) comes) (host_work s r comes f),
-  )
-
-  by : Option Site → NodeWorld × List Entry
-  by None = (w, [])
-  by (Some s) = by_node s s.node
-
-  runs : (s : Site) (o : Option Running) → IfItRuns s.host (s.host ∷ []) o → IsPaid 3 (by_node s o).1
-  runs s None has = omega arith
-  runs s (Some r) has =
-      let near_ends : ℕ → NumberedEnd = λ j. near_end_in (exchanged s.link) comes in
-      let begun : Work = work_of r s.memory.plan near_ends (entries_for s.host (arrival Host (exchanged s.link) comes)) in
-      let k : Work = f begun in
-      let owed : Owes 0 3 k = does begun (arrival_free Host s.host (exchanged s.link) comes) (ends_many s.host (s.host ∷ []) r near_ends has) in
-      let t : List Entry = frames_noted Host h (wires_for (exchanged s.link) comes) k in
-      more_paid (3 + 0) 3 (k.entries ++ t) (omega arith)
-      (both_paid 3 0 k.entries t (omega (arith, owed)) (free_paid 0 t (frames_free Host h (wires_for (exchanged s.link) comes) k)))
-
-  go : (o : Option Site) → site_at w.sites h ≡ o → IsPaid 3 (by o).1
-  go None here = omega arith
-  go (Some s) here = runs s s.node (site_is (λ (x : Site). IfItRuns x.host (x.host ∷ []) x.node) w.sites h s orderly.nodes here)
+host_paid w h comes f does orderly =
+    by_host (λ p. IsPaid 3 p.1) w h comes f (omega arith)
+    (λ s r here q.
+    let has : IfItRuns s.host (s.host ∷ []) (Some r) =
+    subst (IfItRuns s.host (s.host ∷ [])) q (site_is (λ (x : Site). IfItRuns x.host (x.host ∷ []) x.node) w.sites h s orderly.nodes here) in
+    let near_ends : ℕ → NumberedEnd = λ j. near_end_in (exchanged s.link) comes in
+    let begun : Work = work_of r s.memory.plan near_ends (entries_for s.host (arrival Host (exchanged s.link) comes)) in
+    host_notes_paid h (f begun) (wires_for (exchanged s.link) comes)
+    (does begun (arrival_free Host s.host (exchanged s.link) comes) (ends_many s.host (s.host ∷ []) r near_ends has)))
 
 step_does : (h : ℕ) (i : LinkInput) (v : Work) → costs v.entries ≡ 0 → length v.ports ≡ 1 → Owes 0 3 (steps (AtEnd h i) v)
 step_does h i v none one = let owed = steps_owe (AtEnd h i) v none in omega (arith, owed, one)
@@ -140,79 +130,33 @@ begin_does : (h : ℕ) (deeds : List Deed) → weights deeds ≡ 0 → (v : Work
 begin_does h deeds free v none one = let owed = begins_owe h deeds v none free in omega (arith, owed)
 
 comes_paid : (w : NodeWorld) (e : End) (comes : Comes) → IsOrderly w → length w.sites ≤ 7 → IsPaid 21 (comes_at w e comes).1
-comes_paid w e comes orderly few = go (input_of (seen_from e (link_to w.sites e.link)) comes) e.at_host where
-  by : Option LinkInput → Bool → NodeWorld × List Entry
-  by None at_host = (w, [])
-  by (Some i) true = host_does w e.link comes (steps (AtEnd e.link i))
-  by (Some i) false = controller_does w e.link comes (steps (AtEnd e.link i))
-
-  go : (o : Option LinkInput) (b : Bool) → IsPaid 21 (by o b).1
-  go None b = omega arith
-  go (Some i) true =
-      more_paid 3 21 (by (Some i) true).1 (omega arith) (host_paid w e.link comes (steps (AtEnd e.link i)) (step_does e.link i) orderly)
-  go (Some i) false = controller_paid w e.link i comes orderly few
+comes_paid w e comes orderly few =
+    by_coming (λ p. IsPaid 21 p.1) w e comes (omega arith)
+    (λ i side seen.
+    more_paid 3 21 (host_does w e.link comes (steps (AtEnd e.link i))).1 (omega arith)
+    (host_paid w e.link comes (steps (AtEnd e.link i)) (step_does e.link i) orderly))
+    (λ i side seen. controller_paid w e.link i comes orderly few)
 
 -- ## Time
 
 controller_tick_paid : (w : NodeWorld) → IsOrderly w → length w.sites ≤ 7 → IsPaid 21 (controller_ticks w).1
-controller_tick_paid w orderly few = go w.controller orderly.controller where
-  after_work : Work → NodeWorld × List Entry
-  after_work k = (
-    record {
-      memory = after_planned k.writes w.memory;
-      controller = runs_on k;
-      sites = map (λ (s : Site). record s { link = ticked_so s.link (is_late_at k s.host) (turns_at k s.host) (ending_of k) }) w.sites;
-    },
-    k.entries ++ flat_map (λ (s : Site). frames_noted Controller s.host s.link k) w.sites,
-  )
-
-  near_ends : ℕ → NumberedEnd
-  near_ends j = (link_to w.sites j).controller
-
-  by : Option Running → NodeWorld × List Entry
-  by None = (record w { sites = map (λ (s : Site). record s { link = ticks_at_controller s.link [] GoesOut }) w.sites }, [])
-  by (Some r) = after_work (steps TimePasses (work_of r w.memory.plan near_ends []))
-
-  go : (o : Option Running) → IfItRuns 0 (hosts_in w.sites) o → IsPaid 21 (by o).1
-  go None has = omega arith
-  go (Some r) has =
-      let begun : Work = work_of r w.memory.plan near_ends [] in
-      let k : Work = steps TimePasses begun in
-      let many : length begun.ports ≡ length (hosts_in w.sites) = ends_many 0 (hosts_in w.sites) r near_ends has in
-      let same : length (hosts_in w.sites) ≡ length w.sites = length-map w.sites (λ (s : Site). s.host) in
-      let owed : Owes 0 (3 * length begun.ports) k = steps_owe TimePasses begun refl in
-      let f : Site → List Entry = λ s. frames_noted Controller s.host s.link k in
-      let rest : costs (flat_map f w.sites) ≡ 0 = flat_free f (λ s. frames_free Controller s.host s.link k) w.sites in
-      more_paid (21 + 0) 21 (k.entries ++ flat_map f w.sites) (omega arith)
-      (both_paid 21 0 k.entries (flat_map f w.sites) (omega (arith, owed, many, same, few)) (free_paid 0 (flat_map f w.sites) rest))
+controller_tick_paid w orderly few =
+    by_controller_tick (λ p. IsPaid 21 p.1) w (λ q. omega arith)
+    (λ r q.
+    let near_ends : ℕ → NumberedEnd = λ j. (link_to w.sites j).controller in
+    let begun : Work = work_of r w.memory.plan near_ends [] in
+    near_paid w r near_ends begun (near_tick w r) (λ s. s.link) (subst (IfItRuns 0 (hosts_in w.sites)) q orderly.controller) few refl
+    (steps_owe TimePasses begun refl))
 
 host_tick_paid : (s : Site) → IfItRuns s.host (s.host ∷ []) s.node → IsPaid 3 (host_ticks s).1
-host_tick_paid s has = go s.node has where
-  after_work : Work → Site × List Entry
-  after_work k = (
-    record s {
-      link = exchanged (ticks_at_controller (exchanged s.link) (turns_at k s.host) (ending_of k));
-      memory = after_planned k.writes s.memory;
-      node = runs_on k;
-    },
-    k.entries ++ frames_noted Host s.host (exchanged s.link) k,
-  )
-
-  by : Option Running → Site × List Entry
-  by None = (record s { link = exchanged (ticks_at_controller (exchanged s.link) [] GoesOut) }, [])
-  by (Some r) = after_work (steps TimePasses (work_of r s.memory.plan (λ h. s.link.host) []))
-
-  go : (o : Option Running) → IfItRuns s.host (s.host ∷ []) o → IsPaid 3 (by o).1
-  go None has = omega arith
-  go (Some r) has =
-      let near_ends : ℕ → NumberedEnd = λ j. s.link.host in
-      let begun : Work = work_of r s.memory.plan near_ends [] in
-      let k : Work = steps TimePasses begun in
-      let many : length begun.ports ≡ 1 = ends_many s.host (s.host ∷ []) r near_ends has in
-      let owed : Owes 0 (3 * length begun.ports) k = steps_owe TimePasses begun refl in
-      let t : List Entry = frames_noted Host s.host (exchanged s.link) k in
-      more_paid (3 + 0) 3 (k.entries ++ t) (omega arith)
-      (both_paid 3 0 k.entries t (omega (arith, owed, many)) (free_paid 0 t (frames_free Host s.host (exchanged s.link) k)))
+host_tick_paid s has =
+    by_host_tick (λ p. IsPaid 3 p.1) s (λ q. omega arith)
+    (λ r q.
+    let near_ends : ℕ → NumberedEnd = λ j. s.link.host in
+    let begun : Work = work_of r s.memory.plan near_ends [] in
+    let many : length begun.ports ≡ 1 = ends_many s.host (s.host ∷ []) r near_ends (subst (IfItRuns s.host (s.host ∷ [])) q has) in
+    let owed : Owes 0 (3 * length begun.ports) (host_tick s r) = steps_owe TimePasses begun refl in
+    host_notes_paid s.host (host_tick s r) (exchanged s.link) (omega (arith, owed, many)))
 
 hosts_tick_paid : (sites : List Site) → AllByRecursion (λ (s : Site). IfItRuns s.host (s.host ∷ []) s.node) sites
     → IsPaid (3 * length sites) (hosts_tick sites).1
@@ -222,26 +166,9 @@ hosts_tick_paid (s ∷ sites) all =
     (both_paid 3 (3 * length sites) (host_ticks s).1 (hosts_tick sites).1 (host_tick_paid s all.0) (hosts_tick_paid sites all.1))
 
 near_long : (w : NodeWorld) → length (controller_ticks w).0.sites ≡ length w.sites
-near_long w = go w.controller where
-  after_work : Work → NodeWorld × List Entry
-  after_work k = (
-    record {
-      memory = after_planned k.writes w.memory;
-      controller = runs_on k;
-      sites = map (λ (s : Site). record s { link = ticked_so s.link (is_late_at k s.host) (turns_at k s.host) (ending_of k) }) w.sites;
-    },
-    k.entries ++ flat_map (λ (s : Site). frames_noted Controller s.host s.link k) w.sites,
-  )
-
-  by : Option Running → NodeWorld × List Entry
-  by None = (record w { sites = map (λ (s : Site). record s { link = ticks_at_controller s.link [] GoesOut }) w.sites }, [])
-  by (Some r) = after_work (steps TimePasses (work_of r w.memory.plan (λ j. (link_to w.sites j).controller) []))
-
-  go : (o : Option Running) → length (by o).0.sites ≡ length w.sites
-  go None = length-map w.sites (λ (s : Site). record s { link = ticks_at_controller s.link [] GoesOut })
-  go (Some r) =
-      let k : Work = steps TimePasses (work_of r w.memory.plan (λ j. (link_to w.sites j).controller) []) in
-      length-map w.sites (λ (s : Site). record s { link = ticked_so s.link (is_late_at k s.host) (turns_at k s.host) (ending_of k) })
+near_long w =
+    by_controller_tick (λ p. length p.0.sites ≡ length w.sites) w (λ q. length-map w.sites site_unticked)
+    (λ r q. length-map w.sites (site_ticked (near_tick w r)))
 
 ticks_paid : (w : NodeWorld) → IsOrderly w → length w.sites ≤ 7 → IsPaid 42 (world_ticks w).1
 ticks_paid w orderly few =
@@ -265,43 +192,14 @@ ticks_paid w orderly few =
 -- ## Events
 
 boots_free : (w : NodeWorld) (n : ℕ) → costs (boots w n).1 ≡ 0
-boots_free w n = go (fails_within (length (boot_writes (memory_at w n).content)) (memory_at w n).plan) where
-  written : NodeWorld
-  written = with_memory n (after_planned (boot_writes (memory_at w n).content) (memory_at w n)) w
-
-  r : Running
-  r = found n (links_of w n) (memory_at w n).content
-
-  by : Bool → NodeWorld × List Entry
-  by true = (loses_power_at n written, entry.Cut n ∷ [])
-  by false = (with_node n r written, entry.Booted n (count_of r.core.journal) ∷ [])
-
-  go : (b : Bool) → costs (by b).1 ≡ 0
-  go true = refl
-  go false = refl
+boots_free w n = by_boot (λ p. costs p.1 ≡ 0) w n refl refl
 
 lost_free : (w : NodeWorld) (e : End) (why : Loss) → costs (frame_lost w e why).1 ≡ 0
-lost_free w e why = go e.at_host where
-  l : Link
-  l = link_to w.sites e.link
-
-  lost : Site → Site
-  lost s = record s { link = happens s.link (at e (Lose why)) }
-
-  by : Bool → NodeWorld × List Entry
-  by false = (
-    record w { controller = counts why e.link w.controller; sites = with_site e.link lost w.sites },
-    entries_for e.link (first_lost Controller why l.to_controller),
-  )
-  by true = (
-    record w { sites = with_site e.link (λ s. record (lost s) { node = counts why e.link s.node }) w.sites },
-    entries_for e.link (first_lost Host why l.to_host),
-  )
-
-  go : (b : Bool) → costs (by b).1 ≡ 0
-  go false = notes_free e.link (first_lost Controller why (link_to w.sites e.link).to_controller)
-      (lost_none Controller why (link_to w.sites e.link).to_controller)
-  go true = notes_free e.link (first_lost Host why (link_to w.sites e.link).to_host) (lost_none Host why (link_to w.sites e.link).to_host)
+lost_free w e why =
+    by_loss (λ p. costs p.1 ≡ 0) w e why
+    (λ q. notes_free e.link (first_lost Host why (link_to w.sites e.link).to_host) (lost_none Host why (link_to w.sites e.link).to_host))
+    (λ q. notes_free e.link (first_lost Controller why (link_to w.sites e.link).to_controller)
+    (lost_none Controller why (link_to w.sites e.link).to_controller))
 
 sending_free : (h : ℕ) (m : Message) → weights (sending h m) ≡ 0
 sending_free h m = go (m.0 == 1 && is_command_message m.1) where
@@ -317,15 +215,10 @@ begins_paid w h deeds free orderly =
 
 -- something comes to the end of a host
 far_paid : (w : NodeWorld) (h : ℕ) (comes : Comes) → IsOrderly w → IsPaid 3 (comes_at w (end_h h) comes).1
-far_paid w h comes orderly = go (input_of (seen_from (end_h h) (link_to w.sites h)) comes) where
-  by : Option LinkInput → Bool → NodeWorld × List Entry
-  by None at_host = (w, [])
-  by (Some i) true = host_does w h comes (steps (AtEnd h i))
-  by (Some i) false = controller_does w h comes (steps (AtEnd h i))
-
-  go : (o : Option LinkInput) → IsPaid 3 (by o true).1
-  go None = omega arith
-  go (Some i) = host_paid w h comes (steps (AtEnd h i)) (step_does h i) orderly
+far_paid w h comes orderly =
+    by_coming (λ p. IsPaid 3 p.1) w (end_h h) comes (omega arith)
+    (λ i side seen. host_paid w h comes (steps (AtEnd h i)) (step_does h i) orderly)
+    (λ i side seen. absurd (true≢false side))
 
 activates_paid : (w : NodeWorld) (h sync power : ℕ) → IsOrderly w → length w.sites ≤ 7 → IsPaid 42 (activates w h sync power).1
 activates_paid w h sync power orderly few =

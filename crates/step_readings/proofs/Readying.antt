@@ -1,31 +1,19 @@
 -- A controller has a step: as its pass over the ends begins, notices, creations and REC_ERROR are what is read.
-use Rattle.std.proofs.Common.{ap, ◌∙◌, ◌≡◌, inl, inr, ℕ, true, List, [], ◌∷◌, ◌++◌, map, sym, refl, subst, append-nil}
-use Rattle.std.specs.Prelude.{Some}
+use Rattle.std.proofs.Common.{◌≡◌, inl, inr, ℕ, true, List, [], ◌∷◌, ◌++◌, map, sym, subst, append-nil}
 use Rattle.std.specs.List.{AllByRecursion, flat_map, filter, filter_map}
-use Rattle.std.proofs.lemmas.Bool.{true≢false}
-use Rattle.swp_base.specs.InMemory.{Memory}
 use Rattle.trace_model.specs.Lines.{IsHost}
 use Rattle.trace_model.specs.declared.entry.Entry.{Entry}
 use Rattle.trace_model.specs.declared.line.End.{End}
 use Rattle.gate_answers.specs.declared.response.Response.TheVariants as response
-use Rattle.node_machine.specs.Parts.{Creation, Core, Port, Work, Deed}
+use Rattle.node_machine.specs.Parts.{Creation, Port, Work, Deed}
 use Rattle.node_machine.specs.Carrying.{port_at, all_done}
 use Rattle.node_machine.specs.Controller.{asked_at}
 use Rattle.node_machine.specs.Node.{NodeInput, all_come, times_out, is_over_at, forgotten, forgets, owed, all_owed, without_notice, after_sessions, synced}
 use Rattle.node_machine.specs.Node.NodeInput.{AtEnd, TimePasses}
 use Rattle.node_links.specs.Notices.{IsOutside}
 use Rattle.node_links.proofs.Noticing.{UpAt}
-use Rattle.node_laws.proofs.Ports.{forgets_host, sessions_node}
-use Rattle.kept_laws.specs.Books.{StillRuns}
-use Rattle.kept_laws.specs.Deeds.{IsOnOrder, MayBeDone}
-use Rattle.kept_laws.specs.Hosts.{AreDifferent, AreHosts, IsNodeNumber}
-use Rattle.kept_laws.proofs.Asking.{same_new}
-use Rattle.kept_laws.proofs.Doing.{GoesOn_or_lost, all_fine}
-use Rattle.kept_laws.proofs.HostsReply.{OneOrNone}
-use Rattle.kept_laws.proofs.Plainly.{Plainly, runs_plainly, plainly_then}
-use Rattle.kept_laws.proofs.Stepping.{plainly_come, plainly_late, plainly_sessions, core_late, sessions_order, free_may, free_fit, freed_core, freed_cut}
-use Rattle.kept_laws.proofs.Stepping.{syncs_one, one_may, syncs_fit, without_host}
-use Rattle.kept_laws.proofs.Turning.{then_all}
+use Rattle.node_laws.proofs.Ports.{forgets_host, sessions_node, without_host}
+use Rattle.kept_laws.specs.Hosts.{AreDifferent}
 use Rattle.node_readings.specs.Orders.{IsFresh}
 use Rattle.notice_readings.specs.Worlds.{IsShut}
 use Rattle.notice_readings.proofs.Doing.{Stands, IsOn as IsNoticed, then as then_noticed, all_stand}
@@ -59,69 +47,6 @@ abbrev freed_by : NodeInput → Work → List Creation
 freed_by input w =
     let v : Work = times_out input (all_come input w) in
     filter (λ (c : Creation). is_over_at v.ports c.asker) (filter_map asked_at v.ports)
-
--- ## What is kept in the memory
-
-module _ (n : ℕ) (hosts : List ℕ) (old : Memory) (before : List Entry) (node : IsNodeNumber n) (are : AreHosts hosts) where
-  pub kept_ready : (input : NodeInput) (w : Work) → StillRuns n hosts old before w → IsOnOrder w.core.command w.core.init
-      → GoesOn_or_lost n hosts old before (comes_to_pass input w)
-  kept_ready input w r on = then_all n hosts old before (all_done 0 owing) (all_done 0 syncs x) (synced_fine freed_fine)
-      (λ y q o. all_fine n hosts old before 0 owing y (Some y.core.journal) q refl (free_may (Some y.core.journal) y.core.command y.core.init owing
-      (all_owed_hold _ (λ asker. tt) (λ to r. tt) left) o) y.ports (same_new y.ports) (λ z. free_fit y.core.tables y.ports owing
-      (all_owed_hold _ (λ asker. tt) (λ to r. tt) left)))
-    where
-      came : Work
-      came = times_out input (all_come input w)
-
-      left : List Port
-      left = left_by input w
-
-      v : Work
-      v = begun_by input w
-
-      plainly : Plainly w v
-      plainly = plainly_then w came v (plainly_then w (all_come input w) came (plainly_come input w) (plainly_late input (all_come input w)))
-          (plainly_sessions came)
-
-      q : StillRuns n hosts old before v
-      q = runs_plainly n hosts old before w v r plainly
-
-      on_then : IsOnOrder v.core.command v.core.init
-      on_then = sessions_order came.core came.ports (subst (λ (c : Core). IsOnOrder c.command c.init) (sym (core_late input (all_come input w))) on)
-
-      freed : List Deed
-      freed = forgotten came.ports
-
-      syncs : List Deed
-      syncs = flat_map (synced w.core input) w.ports
-
-      owing : List Deed
-      owing = all_owed left
-
-      x : Work
-      x = all_done 0 freed v
-
-      freed_fine : GoesOn_or_lost n hosts old before x
-      freed_fine =
-          all_fine n hosts old before 0 freed v (Some v.core.journal) q refl
-          (free_may (Some v.core.journal) v.core.command v.core.init freed
-          (forgotten_hold _ (λ asker. tt) (times_out input (all_come input w)).ports) on_then) v.ports (same_new v.ports)
-          (λ z. free_fit v.core.tables v.ports freed (forgotten_hold _ (λ asker. tt) (times_out input (all_come input w)).ports))
-
-      one : OneOrNone w.core syncs
-      one = syncs_one w.core input w.ports (subst AreDifferent (sym r.hosts_are) are.different) (subst (AllByRecursion IsHost) (sym r.hosts_are) are.all)
-
-      journal_is : w.core.journal ≡ x.core.journal
-      journal_is = sym
-          (ap (λ (c : Core). c.journal) (freed_core freed (forgotten_hold _ (λ asker. tt) (times_out input (all_come input w)).ports) v q.on) ∙ plainly.journal)
-
-      synced_fine : GoesOn_or_lost n hosts old before x → GoesOn_or_lost n hosts old before (all_done 0 syncs x)
-      synced_fine (inl go) =
-          all_fine n hosts old before 0 syncs x (Some x.core.journal) go.0 refl
-          (subst (λ j. MayBeDone (Some j) x.core.command x.core.init syncs) journal_is (one_may w.core syncs x.core.command x.core.init one go.1)) x.ports
-          (same_new x.ports) (λ z. syncs_fit x.core.tables x.ports go.0.sorted (go.0.allowed z) w.core input w.ports)
-      synced_fine (inr lost) =
-          absurd (true≢false (sym lost.off ∙ freed_cut freed (forgotten_hold _ (λ asker. tt) (times_out input (all_come input w)).ports) v q.on))
 
 -- ## Notices
 

@@ -34,13 +34,13 @@ use Rattle.notice_readings.proofs.Doing.{Holds, Stands}
 use Rattle.notice_readings.proofs.Stepping.{no_notices_flat, synced_no_notices}
 use Rattle.notice_readings.proofs.Steps.{owed_all}
 use Rattle.notice_readings.proofs.Far.{AreFar}
-use Rattle.notice_readings.proofs.Near.{begins as begins_noticed, aged_far, aged_side}
+use Rattle.notice_readings.proofs.Near.{begins as begins_noticed, aged_far, aged_side, all_ports}
 use Rattle.notice_readings.proofs.Sites.{Reads as NoticeReads, arrival_quiet, far_hushed, link_shut, still_reads}
 use Rattle.creation_readings.specs.Creations.{IsReadSo, creations_of}
 use Rattle.creation_readings.specs.Worlds.{AreProper}
 use Rattle.creation_readings.proofs.Asks.{asked_of}
 use Rattle.creation_readings.proofs.Deeds.{Still, Fine}
-use Rattle.creation_readings.proofs.Near.{Reads, all_ports, far_book, far_reading, begins as begins_made, up_at}
+use Rattle.creation_readings.proofs.Near.{Reads, far_book, far_reading, begins as begins_made, up_at}
 use Rattle.view_readings.specs.Errors.{ErrorCount, no_errors}
 use Rattle.view_readings.proofs.Leaving.{reads, reads_append, book_reads, IsRead, IsStill, still_all}
 use Rattle.view_readings.proofs.Doing.{Right}
@@ -53,7 +53,8 @@ use Rattle.step_readings.proofs.Naming.{far_named, unless_named}
 use Rattle.step_readings.proofs.Walking.{passes_walked, ready_named}
 use Rattle.step_readings.proofs.Parts.{errors_before, from_parts}
 use Rattle.step_readings.proofs.Running.{with_kept}
-use Rattle.step_readings.proofs.Readying.{kept_ready, notices_ready, creations_ready, errors_ready}
+use Rattle.kept_laws.proofs.Stepping.{ready_fine}
+use Rattle.step_readings.proofs.Readying.{notices_ready, creations_ready, errors_ready}
 use Rattle.pass_laws.specs.Steps.{comes_to_pass, controller_begins}
 
 module _ (hosts : List ℕ) (are : AreHosts hosts) (t : List Entry) (w : NodeWorld) (k : KeepsBetween hosts t w) (r : Running)
@@ -174,7 +175,7 @@ module _ (hosts : List ℕ) (are : AreHosts hosts) (t : List Entry) (w : NodeWor
       pub runs_begin : (comes_to_pass input begun).cut ≡ false → RunsInStep hosts before (comes_to_pass input begun)
       runs_begin on =
           with_kept hosts are before w.memory (comes_to_pass input begun) (step_begins on)
-          (kept_ready 0 hosts w.memory before (inl refl) are input begun (runs_begun 0 hosts before w.memory r near_ends es es_plain kept_old) kept_old.on)
+          (ready_fine 0 hosts w.memory before (inl refl) are input begun (runs_begun 0 hosts before w.memory r near_ends es es_plain kept_old) kept_old.on)
 
       noticed_first : Holds 0 before IsKeptNotice begun
       noticed_first = begins_noticed before w r has different ups k.creations.notices.sites notices_old w.memory.plan near_ends same es quiet input outside 0

@@ -25,7 +25,7 @@ use Rattle.notice_readings.proofs.Telling.{IsShort, Outcome, controller_outcome}
 use Rattle.notice_readings.proofs.Telling.Outcome.{Leaves, IsHeard}
 use Rattle.registry.proofs.ValueLemmas.{AllByRecursion-append}
 use Rattle.cut_laws.specs.Histories.{is_one_of}
-use Rattle.view_readings.proofs.Noting.{all_flat}
+use Rattle.node_readings.proofs.Noting.{all_flat}
 use Rattle.step_readings.specs.Names.{IsNamed, AreNamed}
 use Rattle.step_readings.specs.Works.{RunsInStep}
 use Rattle.step_readings.proofs.Parts.{to_notices}

@@ -19,13 +19,12 @@ use Rattle.node_machine.specs.Node.NodeInput.{AtEnd}
 use Rattle.node_world.specs.World.{Site, NodeWorld, site_at, link_to, input_of, near_end_in, arrival, comes_to}
 use Rattle.kept_laws.specs.Books.{hosts_of_ends}
 use Rattle.kept_laws.proofs.Plainly.{hosts_map}
-use Rattle.kept_laws.proofs.Stepping.{without_host}
 use Rattle.node_links.proofs.Works.{IsFineWork, map_fine, came_fine, without_fine, forgets_fine}
 use Rattle.node_links.proofs.Worlds.{IsFineWorld, near_end_clean, near_clean, fine_clean, ports_fine}
 use Rattle.node_telling.specs.Telling.{of_link, HasEnds, hosts_in, IsOrderly}
 use Rattle.node_telling.specs.Standing.{without_power}
 use Rattle.node_telling.proofs.Mute.{forgotten_mute, all_owed_mute, all_synced_mute}
-use Rattle.node_telling.proofs.Walks.{unless}
+use Rattle.node_laws.proofs.StepWalks.{unless}
 use Rattle.node_telling.proofs.Powers.{AreClear, entries_uncut, came_uncut}
 use Rattle.node_telling.proofs.Shapes.{clear-append, clear_told, twice}
 use Rattle.node_telling.proofs.Accounts.{Account, at_host}
@@ -33,7 +32,7 @@ use Rattle.node_telling.proofs.Parts.{after_coming, told_coming}
 use Rattle.node_telling.proofs.Steps.{notes-append, Opening, GoesLate, came}
 use Rattle.node_telling.proofs.Nodes.{hosts_same, opened, given, is_so}
 use Rattle.node_telling.proofs.Worlds.{node_is}
-use Rattle.node_laws.proofs.Ports.{come_host, forgets_host}
+use Rattle.node_laws.proofs.Ports.{come_host, forgets_host, without_host}
 use Rattle.node_order.specs.Told.{IsLinkTold}
 use Rattle.node_order.proofs.Lines.{host_number}
 use Rattle.node_order.proofs.Ticking.{some_desks}

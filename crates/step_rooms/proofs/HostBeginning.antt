@@ -14,7 +14,6 @@ use Rattle.node_machine.specs.Node.NodeInput.{AtEnd}
 use Rattle.node_world.specs.World.{Site, input_of, near_end_in, arrival}
 use Rattle.kept_laws.specs.Books.{hosts_of_ends}
 use Rattle.kept_laws.proofs.Plainly.{hosts_map}
-use Rattle.kept_laws.proofs.Stepping.{without_host}
 use Rattle.node_links.proofs.Worlds.{IsFineSite, near_end_clean, ports_fine}
 use Rattle.node_telling.specs.Telling.{HasEnds}
 use Rattle.node_telling.specs.Standing.{without_power}
@@ -23,7 +22,7 @@ use Rattle.node_telling.proofs.Shapes.{twice}
 use Rattle.node_telling.proofs.Accounts.{at_host}
 use Rattle.node_telling.proofs.Steps.{Opening, came}
 use Rattle.node_telling.proofs.Nodes.{hosts_same, is_step, host_opened}
-use Rattle.node_laws.proofs.Ports.{come_host, forgets_host}
+use Rattle.node_laws.proofs.Ports.{come_host, forgets_host, without_host}
 use Rattle.link_entries.specs.Entries.End.{Controller}
 use Rattle.node_order.specs.Told.{IsLinkTold}
 use Rattle.node_order.proofs.Ticking.{some_desks}

@@ -30,7 +30,6 @@ use Rattle.node_world.specs.World.{Site, NodeWorld, site_at, all_aged, controlle
 use Rattle.kept_laws.specs.Books.{hosts_of_ends}
 use Rattle.kept_laws.specs.Hosts.{AreDifferent}
 use Rattle.kept_laws.proofs.Plainly.{hosts_map}
-use Rattle.kept_laws.proofs.Stepping.{without_host, late_host}
 use Rattle.node_links.proofs.Got.{Clean}
 use Rattle.node_links.proofs.Sites.{clf_line, can_end}
 use Rattle.node_links.proofs.Worlds.{IsFineSite, IsFineWorld, ports_fine}
@@ -44,7 +43,7 @@ use Rattle.node_telling.proofs.Nodes.{swapped, site_host, hosts_same, host_opene
 use Rattle.node_telling.proofs.Worlds.{site_is, node_is}
 use Rattle.node_telling.proofs.Events.{orderly_map}
 use Rattle.node_telling.proofs.WorldTicks.{young_ports, other_hosts, others_leave, between, near_notes, near_orderly, first, old_told, aged_uncut}
-use Rattle.node_laws.proofs.Ports.{forgets_host}
+use Rattle.node_laws.proofs.Ports.{forgets_host, without_host, late_host}
 use Rattle.node_order.specs.Told.{IsLinkTold}
 use Rattle.node_order.proofs.Ticking.{some_desks, aged_clean, near_sends, near_none}
 use Rattle.turn_laws.proofs.Works.{site_none}

@@ -32,13 +32,13 @@ module _ (t : List Entry) (who : Side) where
       }
 
   -- over a message that is handled
-  pub carried_turn : (h : ℕ) (m : Message) (w : Work) → IsSendable m → IsCarried t who w → IsCarried t who (handles h m (deeds_of w.core w.ports h m) w)
+  carried_turn : (h : ℕ) (m : Message) (w : Work) → IsSendable m → IsCarried t who w → IsCarried t who (handles h m (deeds_of w.core w.ports h m) w)
   carried_turn h m w s a =
       let deeds : List Deed = deeds_of w.core w.ports h m in
       record {
         carry = handling (AllCarry t who) (carry_note t who) (carry_desk t who) (carry_turns t who) (carry_beside t who) (carry_loses t who) h m deeds w
             (deeds_mute w.core w.ports h m) a.carry;
-        fine = handles_fine h m deeds w (deeds_fine w.core w.ports h m a.fine s) a.fine;
+        fine = handles_fine h m deeds w s (deeds_fine w.core w.ports h m a.fine s) a.fine;
       }
 
   -- which is the first that came at the end with this host

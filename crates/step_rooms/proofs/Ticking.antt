@@ -18,7 +18,6 @@ use Rattle.node_machine.specs.Node.NodeInput.{TimePasses}
 use Rattle.node_world.specs.World.{Site, NodeWorld, site_at, link_to, all_aged}
 use Rattle.kept_laws.specs.Books.{hosts_of_ends}
 use Rattle.kept_laws.proofs.Plainly.{hosts_map}
-use Rattle.kept_laws.proofs.Stepping.{without_host, late_host}
 use Rattle.node_links.proofs.Worlds.{IsFineWorld, near_clean, ports_fine}
 use Rattle.node_telling.specs.Telling.{HasEnds, hosts_in, IsOrderly, IfDue, IsTimely}
 use Rattle.node_telling.specs.Standing.{without_power}
@@ -29,7 +28,7 @@ use Rattle.node_telling.proofs.Ticks.{older, in_time, too_late}
 use Rattle.node_telling.proofs.Nodes.{hosts_same}
 use Rattle.node_telling.proofs.Worlds.{node_is}
 use Rattle.node_telling.proofs.WorldTicks.{opened, up_late, old_orderly, old_found, old_told, aged_uncut}
-use Rattle.node_laws.proofs.Ports.{forgets_host}
+use Rattle.node_laws.proofs.Ports.{forgets_host, without_host, late_host}
 use Rattle.node_order.specs.Told.{IsLinkTold}
 use Rattle.node_order.proofs.Lines.{host_number}
 use Rattle.node_order.proofs.Knowing.{WasThere, was_there}

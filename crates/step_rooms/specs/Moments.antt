@@ -1,52 +1,26 @@
 -- What is read of the ends of a node at each turn of a step.
-use Rattle.std.specs.Prelude.{◌≡◌, ℕ, Bool, true, false, if◌then◌else◌, drop, List, [], ◌∷◌, ◌++◌, map, Option, Some, None}
-use Rattle.std.specs.Option.{option_map_or}
+use Rattle.std.specs.Prelude.{◌≡◌, ℕ, false, if◌then◌else◌, drop, List, [], ◌++◌, Some, None}
 use Rattle.trace_model.specs.declared.entry.Entry.{Entry}
 use Rattle.trace_model.specs.declared.line.End.{End}
 use Rattle.session_laws.specs.Sessions.{is_up}
-use Rattle.link_machine.specs.Machine.{Message, spare, whole_acked}
+use Rattle.link_machine.specs.Machine.{spare, whole_acked}
 use Rattle.message_link.specs.Links.{Comes, exchanged}
 use Rattle.link_entries.specs.Entries.{End as Side}
 use Rattle.link_entries.specs.Entries.End.{Host}
 use Rattle.history.specs.Steps.{end_of, entries_for}
-use Rattle.node_machine.specs.Parts.{Running, Port, Work, Deed}
-use Rattle.node_machine.specs.Carrying.{port_at, needs, lack}
-use Rattle.node_machine.specs.Turns.{deeds_of, handles, have_turns}
+use Rattle.node_machine.specs.Parts.{Running, Port, Work}
+use Rattle.node_machine.specs.Carrying.{port_at}
 use Rattle.node_machine.specs.Node.{NodeInput}
 use Rattle.node_world.specs.World.{Site, node_of, near_end_in, arrival, work_of}
 use Rattle.node_world.specs.NodeFilters.{session_now, unacknowledged_in, aside_in, spare_at}
+use Rattle.pass_laws.specs.Passing.{ComesTo}
 use Rattle.pass_laws.specs.Steps.{comes_to_pass}
 
 -- ## The turns of a step
 
--- it holds unless the node has lost its power
-abbrev pub IfPowered : (Work → Type 0) → Work → Type 0
-IfPowered P w = by_power w.cut where
-  by_power : Bool → Type 0
-  by_power true = Unit {0}
-  by_power false = P w
-
--- This holds of the node as it decides what it does with each of the messages that came at an end, in order, until one is held.
-abbrev pub HoldsAtTurns : (Work → Type 0) → ℕ → List Message → Work → Type 0
-HoldsAtTurns P h [] w = Unit {0}
-HoldsAtTurns P h (m ∷ messages) w = P w × by_room (HoldsAtTurns P h messages) (deeds_of w.core w.ports h m) where
-  if_room : (Work → Type 0) → List Deed → Option (ℕ × ℕ) → Type 0
-  if_room later deeds None = IfPowered later (handles h m deeds w)
-  if_room later deeds (Some short) = Unit {0}
-
-  by_room : (Work → Type 0) → List Deed → Type 0
-  by_room later deeds = if_room later deeds (lack w.ports (needs h deeds))
-
--- so it does with each message that came at these ends
-abbrev pub HoldsAtEnds : (Work → Type 0) → List ℕ → Work → Type 0
-HoldsAtEnds P [] w = Unit {0}
-HoldsAtEnds P (h ∷ hosts) w =
-    let messages : List Message = option_map_or (λ (p : Port). p.side.got) (port_at w.ports h) [] in
-    HoldsAtTurns P h messages w × IfPowered (HoldsAtEnds P hosts) (have_turns h messages w)
-
--- This holds of a node at each turn of a step that begins so.
+-- This holds of a node at each turn of a step that begins so: its power is on as it begins to go through its ends, and turns lead from there.
 abbrev pub HoldsInStep : (Work → Type 0) → NodeInput → Work → Type 0
-HoldsInStep P input w = IfPowered (λ v. HoldsAtEnds P (map (λ (p : Port). p.desk.host) v.ports) v) (comes_to_pass input w)
+HoldsInStep P input w = (comes_to_pass input w).cut ≡ false → (v : Work) → ComesTo (comes_to_pass input w) v → P v
 
 -- a host as a step begins in which something comes to its end
 abbrev pub host_begins_step : Site → Running → Comes → Work

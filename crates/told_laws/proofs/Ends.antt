@@ -18,7 +18,7 @@ use Rattle.shdlc_core.specs.Machine.Timed.{Runs, Over, Spent}
 use Rattle.shdlc_core.proofs.Histories.{in_phase, received-sending}
 use Rattle.swp_base.specs.Bits.{IsByte}
 use Rattle.shdlc_core.proofs.Timers.{grown_tries, timed-over}
-use Rattle.registry.proofs.ValueLemmas.{AllByRecursion-append as each-append}
+use Rattle.registry.proofs.ValueLemmas.{AllByRecursion-append as each-append, AllByRecursion-get}
 
 -- ## Fragments and frames
 
@@ -186,11 +186,6 @@ control_frame e Rnr_due h = omega arith
 control_frame e Rset_due h = let w = h.window in (omega (arith, w), omega arith)
 control_frame e Ua_due h = tt
 
-picked : {X : Type 0} (P : X → Type 0) (xs : List X) (n : ℕ) (x : X) → AllByRecursion P xs → slice_get xs n ≡ Some x → P x
-picked P [] n x h q = absurd (cc)
-picked P (y ∷ xs) zero x h q = let same : y ≡ x = cc in subst P same h.0
-picked P (y ∷ xs) (suc n) x h q = picked P xs n x h.1 q
-
 due_fragment : (s : Session) (info : Fragment) → fragment_due s ≡ Some info → slice_get s.out s.next ≡ Some info
 due_fragment s info q = grind (arith, common_steps)
 
@@ -204,7 +199,7 @@ due_frame e [] (Some info) c f h is =
     let frame : IsFrame (I (e.session.next % 8) (expected e.session) info) = (
       omega arith,
       omega arith,
-      picked IsFragment e.session.out e.session.next info h.fragments (due_fragment e.session info f),
+      AllByRecursion-get IsFragment e.session.out e.session.next info h.fragments (due_fragment e.session info f),
     ) in
     subst IsFrame same frame
 

@@ -22,7 +22,6 @@ use Rattle.node_machine.specs.Node.{all_owed, without_notice, after_sessions, sy
 use Rattle.node_machine.specs.Node.NodeInput.{AtEnd, TimePasses}
 use Rattle.kept_laws.specs.Books.{hosts_of_ends}
 use Rattle.kept_laws.specs.Hosts.{AreDifferent}
-use Rattle.kept_laws.proofs.Stepping.{without_host, late_host}
 use Rattle.node_links.specs.Notices.{IsComing, IsOutside}
 use Rattle.node_telling.proofs.Mute.{AreMute, forgotten_mute, all_owed_mute, all_synced_mute}
 use Rattle.node_telling.proofs.Parts.{after_coming}
@@ -34,7 +33,7 @@ use Rattle.turn_laws.proofs.Queues.{Becomes, Goes, goes-append, AreStill, still_
 use Rattle.turn_laws.proofs.Ends.{left_by, input_got}
 use Rattle.turn_laws.proofs.Passing.{has_side, same_is, map_is, Knows, Stands, known_map, does, rest}
 use Rattle.link_machine.proofs.Kept.{reset_got}
-use Rattle.node_laws.proofs.Ports.{come_host, forgets_host}
+use Rattle.node_laws.proofs.Ports.{come_host, forgets_host, without_host, late_host}
 
 -- ## Notes
 

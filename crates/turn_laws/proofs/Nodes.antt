@@ -35,7 +35,7 @@ use Rattle.node_telling.proofs.Mute.{AreMute}
 use Rattle.node_telling.proofs.Parts.{after_coming}
 use Rattle.node_telling.proofs.Keeping.{Keeps, steps_keep, tick_keeps, begins_keep}
 use Rattle.node_telling.proofs.Nodes.{link_is, site_host, ports_for, hosts_same, stands, is_step}
-use Rattle.node_telling.proofs.WorldTicks.{after_tick, host_tick}
+use Rattle.node_world.proofs.Cases.{after_tick, host_tick, site_ticked}
 use Rattle.node_readings.proofs.Sites.{near_end_side, comes_outside}
 use Rattle.turn_laws.proofs.Queues.{goes-append, AreStill, still_goes}
 use Rattle.turn_laws.proofs.Ends.{left_by, ended_with, tick_got, step_got, ticks_got, late_got}
@@ -343,10 +343,6 @@ module _ (w : NodeWorld) (r : Running) (runs : w.controller ≡ Some r) (node : 
               (came None
               ∙ ap (λ b. (after_coming (near_end_in (link_to w.sites h) (comes_to k comes h)).side (cond b (Some i) None)).got) (sym e)))
 
-  -- the site of a link after a tick of the controller
-  abbrev pub ticked_site : Work → Site → Site
-  ticked_site v s = record s { link = ticked_so s.link (is_late_at v s.host) (turns_at v s.host) (ending_of v) }
-
   late_host : (l : Link) (late : Bool) (ts : List Turn) (ending : Ending) → (ticked_so l late ts ending).host ≡ l.host
   late_host l late ts ending = go (late && not (is_waiting l.controller.side.shdlc))
     where
@@ -358,7 +354,7 @@ module _ (w : NodeWorld) (r : Running) (runs : w.controller ≡ Some r) (node : 
   pub controller_ticked : AllMove w (record {
     memory = after_planned (steps TimePasses (starting (λ h. (link_to w.sites h).controller) [])).writes w.memory;
     controller = runs_on (steps TimePasses (starting (λ h. (link_to w.sites h).controller) []));
-    sites = map (ticked_site (steps TimePasses (starting (λ h. (link_to w.sites h).controller) []))) w.sites;
+    sites = map (site_ticked (steps TimePasses (starting (λ h. (link_to w.sites h).controller) []))) w.sites;
   })
       ((steps TimePasses (starting (λ h. (link_to w.sites h).controller) [])).entries
       ++ flat_map (λ (s : Site). frames_noted Controller s.host s.link (steps TimePasses (starting (λ h. (link_to w.sites h).controller) []))) w.sites)
@@ -366,7 +362,7 @@ module _ (w : NodeWorld) (r : Running) (runs : w.controller ≡ Some r) (node : 
       let near_ends : ℕ → NumberedEnd = λ h. (link_to w.sites h).controller in
       let begun : Work = starting near_ends [] in
       let v : Work = steps TimePasses begun in
-      controller_moves w r _ near_ends (came_by (λ j. (near_ends j).side) TimePasses) begun v (ticked_site v)
+      controller_moves w r _ near_ends (came_by (λ j. (near_ends j).side) TimePasses) begun v (site_ticked v)
       (flat_map (λ (s : Site). frames_noted Controller s.host s.link v) w.sites) runs node refl
       (step_does 0 (hosts_in w.sites) Controller (λ j. (near_ends j).side) begun near_side (near_kept near_ends []) (λ e. tt) TimePasses tt
       (near_different near_ends []))

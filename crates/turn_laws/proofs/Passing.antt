@@ -18,8 +18,9 @@ use Rattle.node_machine.specs.Carrying.{own_side, end_of_node, noting, unless_cu
 use Rattle.node_machine.specs.Carrying.{needs, lack, all_done}
 use Rattle.node_machine.specs.Turns.{deeds_of, handles, holds_back, have_turns}
 use Rattle.node_machine.specs.Node.{answers_and_passes}
-use Rattle.node_telling.proofs.Mute.{AreMute, deeds_mute}
-use Rattle.node_telling.proofs.Walks.{ArePlain, IsNoFetch, unless, every_do, holds, lets, rest_of}
+use Rattle.node_telling.proofs.Mute.{IsMute, AreMute, deeds_mute}
+use Rattle.node_telling.proofs.Walks.{ArePlain, IsNoFetch, every_do, holds, lets}
+use Rattle.node_laws.proofs.StepWalks.{unless, rest as rest_of}
 use Rattle.node_telling.proofs.Accounts.{at_host}
 use Rattle.node_telling.proofs.Away.{at_map, none_map}
 use Rattle.turn_laws.proofs.Queues.Doing.{Takes}
@@ -310,4 +311,4 @@ module _ (e : End) (who : Side) (own : Bool) (mine : own ≡ true → has_side w
   -- what is left to do in a step once something has come
   pub rest : (freed syncs owing : List Deed) (w : Work) → AreMute freed → AreMute syncs → AreMute owing → Stands w
       → Stands (answers_and_passes freed syncs owing w)
-  rest freed syncs owing w f s o a = rest_of Stands does having freed syncs owing w f s o a
+  rest freed syncs owing w f s o a = rest_of Stands IsMute does having freed syncs owing w f s o a

@@ -1,15 +1,15 @@
 -- What waits at each end of a world over whatever happens there.
-use Rattle.std.proofs.Common.{◌≡◌, ℕ, ◌==◌, ◌&&◌, Bool, true, false, cond, List, [], ◌∷◌, ◌++◌, length, Option, Some, None, map, refl, ap, sym, subst, ◌∙◌}
+use Rattle.std.proofs.Common.{◌≡◌, ℕ, ◌==◌, ◌&&◌, Bool, true, false, cond, List, [], ◌∷◌, ◌++◌, Option, Some, None, map, refl, ap, sym, subst, ◌∙◌}
 use Rattle.std.proofs.Math.Bool.{and-false}
 use Rattle.std.specs.Prelude.{is_some}
-use Rattle.std.specs.List.{AllByRecursion, flat_map}
+use Rattle.std.specs.List.{AllByRecursion}
 use Rattle.std.proofs.lemmas.Bool.{eqb-true, eq-eqb, true≢false}
 use Rattle.swp_base.specs.InMemory.{Memory}
 use Rattle.trace_model.specs.declared.entry.Entry.{Entry}
 use Rattle.trace_model.specs.declared.entry.Entry.TheVariants as entry
 use Rattle.trace_model.specs.declared.line.End.{End}
 use Rattle.journal_laws.specs.Journal.{count_of}
-use Rattle.journal_laws.specs.Planned.{fails_within, after_planned}
+use Rattle.journal_laws.specs.Planned.{after_planned}
 use Rattle.session_laws.specs.Sessions.{OnWire}
 use Rattle.link_machine.specs.Machine.{Message, LinkInput}
 use Rattle.message_link.specs.Links.{NumberedEnd, Link, Comes, Loss, exchanged, aged, happens, ticks_at_controller}
@@ -21,14 +21,13 @@ use Rattle.message_link.specs.Links.LinkEvent.{AtController, AtHost}
 use Rattle.link_entries.specs.Entries.{End as Side, aged_entries, first_lost}
 use Rattle.link_entries.specs.Entries.End.{Controller, Host}
 use Rattle.history.specs.Filters.{same_end}
-use Rattle.history.specs.Steps.{at, entries_for}
-use Rattle.history.specs.Follows.{seen_from}
+use Rattle.history.specs.Steps.{entries_for}
 use Rattle.node_machine.specs.Parts.{Running, Work, Deed}
-use Rattle.node_machine.specs.Node.{steps, begins_with, found, boot_writes}
-use Rattle.node_machine.specs.Node.NodeInput.{AtEnd, TimePasses}
-use Rattle.node_world.specs.World.{Site, NodeWorld, Happening, node_at, site_at, with_site, link_to, input_of, runs_on, turns_at, ending_of, is_late_at}
-use Rattle.node_world.specs.World.{ticked_so, work_of, frames_noted, wires_for, controller_work, after_controller, controller_does, host_work, after_host}
-use Rattle.node_world.specs.World.{host_does, controller_cut, host_cut, loses_power_at, memory_at, with_memory, with_node, links_of, boots, counts, frame_lost}
+use Rattle.node_machine.specs.Node.{steps, begins_with, boot_writes}
+use Rattle.node_machine.specs.Node.NodeInput.{AtEnd}
+use Rattle.node_world.specs.World.{Site, NodeWorld, Happening, node_at, site_at, with_site, link_to, input_of}
+use Rattle.node_world.specs.World.{frames_noted, wires_for, controller_does, host_work, after_host}
+use Rattle.node_world.specs.World.{host_does, host_cut, loses_power_at, memory_at, with_memory, with_node, boots, counts, frame_lost}
 use Rattle.node_world.specs.World.{all_aged, controller_ticks, host_ticks, hosts_tick, world_ticks, sending, beginning, comes_at, activates, end_c, end_h}
 use Rattle.node_world.specs.World.{world_step}
 use Rattle.node_world.specs.World.Happening.{Boots, IsCut, Gives, Inits, Takes, Loses, Ticks, Resets, Activates, Arms}
@@ -41,7 +40,9 @@ use Rattle.node_telling.proofs.Mute.{AreMute}
 use Rattle.node_telling.proofs.Nodes.{site_host, link_is}
 use Rattle.node_telling.proofs.Worlds.{site_is, node_is}
 use Rattle.node_telling.proofs.Events.{comes_goes, sending_mute, orderly_map}
-use Rattle.node_telling.proofs.WorldTicks.{after_tick, host_tick, tick_host as site_ticked}
+use Rattle.node_telling.proofs.WorldTicks.{near_orderly, tick_host as site_ticked}
+use Rattle.node_world.proofs.Cases.{by_controller, after_host_step, by_host, by_coming, by_power, by_memory, boot_written, boot_found, by_boot, site_lost}
+use Rattle.node_world.proofs.Cases.{by_loss, site_unticked, by_controller_tick, by_host_tick}
 use Rattle.kept_laws.specs.Hosts.{AreDifferent}
 use Rattle.turn_laws.proofs.Queues.Doing.{Clears, Nothing}
 use Rattle.turn_laws.proofs.Queues.{Becomes, Goes, goes-append, doing}
@@ -108,15 +109,9 @@ all_sites w memory c g t host node far near quiet false h q x = record {
 
 pub controller_moves_so : (w : NodeWorld) (k : ℕ) (comes : Comes) (i : LinkInput) → IsOrderly w → input_of (link_to w.sites k) comes ≡ Some i
     → AllMove w (controller_does w k comes (steps (AtEnd k i))).0 (controller_does w k comes (steps (AtEnd k i))).1
-controller_moves_so w k comes i a q = go w.controller refl a.controller
-  where
-    by : Option Running → NodeWorld × List Entry
-    by None = (w, [])
-    by (Some r) = after_controller w k comes (controller_work w r k comes (steps (AtEnd k i)))
-
-    go : (o : Option Running) → w.controller ≡ o → IfItRuns 0 (hosts_in w.sites) o → AllMove w (by o).0 (by o).1
-    go None z n = nothing_moves w
-    go (Some r) z n = controller_steps w r z n a.different k comes i q
+controller_moves_so w k comes i a q =
+    by_controller (λ p. AllMove w p.0 p.1) w k comes (steps (AtEnd k i)) (nothing_moves w)
+    (λ r z. controller_steps w r z (subst (IfItRuns 0 (hosts_in w.sites)) z a.controller) a.different k comes i q)
 
 -- a host does something
 module _ (w : NodeWorld) (k : ℕ) (comes : Comes) (f : Work → Work) (a : IsOrderly w)
@@ -124,59 +119,29 @@ module _ (w : NodeWorld) (k : ℕ) (comes : Comes) (f : Work → Work) (a : IsOr
     → (s.host == 0) ≡ false → SiteGoes s (after_host comes (host_work s r comes f) s)
     ((host_work s r comes f).entries ++ frames_noted Host k (wires_for (exchanged s.link) comes) (host_work s r comes f))) where
   pub host_moves : AllMove w (host_does w k comes f).0 (host_does w k comes f).1
-  host_moves = go (site_at w.sites k) refl
-    where
-      by_node : Site → Option Running → NodeWorld × List Entry
-      by_node s None = (w, [])
-      by_node s (Some r) = (
-        record w { sites = with_site k (after_host comes (host_work s r comes f)) w.sites },
-        (host_work s r comes f).entries ++ frames_noted Host k (wires_for (exchanged s.link) comes) (host_work s r comes f),
-      )
-
-      by : Option Site → NodeWorld × List Entry
-      by None = (w, [])
-      by (Some s) = by_node s s.node
-
-      runs : (s : Site) → site_at w.sites k ≡ Some s → (o : Option Running) → s.node ≡ o → AllMove w (by_node s o).0 (by_node s o).1
-      runs s here None z = nothing_moves w
-      runs s here (Some r) z =
-          let v : Work = host_work s r comes f in
-          let t : List Entry = (by_node s (Some r)).1 in
-          let host : (s.host == 0) ≡ false = site_is (λ (x : Site). (x.host == 0) ≡ false) w.sites k s a.hosts here in
-          let node : HasEnds s.host (s.host ∷ []) r =
-          node_is s.host (s.host ∷ []) s.node r (site_is (λ (x : Site). IfItRuns x.host (x.host ∷ []) x.node) w.sites k s a.nodes here) z in
-          let one : SiteGoes s (after_host comes v s) t = does s r here (site_host w.sites k s here) z node host in
-          at_site w w.controller k (after_host comes v) t refl (λ x. refl)
-          (λ x found.
-          let same : Some s ≡ Some x = sym here ∙ found in
-          let is : s ≡ x = cc in
-          let P : Site → Type 0 = λ y. SiteGoes y (after_host comes v y) t in subst P is one)
-          (λ none. let both : Some s ≡ None = sym here ∙ none in absurd (cc both))
-
-      go : (o : Option Site) → site_at w.sites k ≡ o → AllMove w (by o).0 (by o).1
-      go None z = nothing_moves w
-      go (Some s) z = runs s z s.node refl
+  host_moves =
+      by_host (λ p. AllMove w p.0 p.1) w k comes f (nothing_moves w)
+      (λ s r here z.
+      let v : Work = host_work s r comes f in
+      let t : List Entry = (after_host_step w k comes s v).1 in
+      let host : (s.host == 0) ≡ false = site_is (λ (x : Site). (x.host == 0) ≡ false) w.sites k s a.hosts here in
+      let node : HasEnds s.host (s.host ∷ []) r =
+      node_is s.host (s.host ∷ []) s.node r (site_is (λ (x : Site). IfItRuns x.host (x.host ∷ []) x.node) w.sites k s a.nodes here) z in
+      let one : SiteGoes s (after_host comes v s) t = does s r here (site_host w.sites k s here) z node host in
+      at_site w w.controller k (after_host comes v) t refl (λ x. refl)
+      (λ x found.
+      let same : Some s ≡ Some x = sym here ∙ found in
+      let is : s ≡ x = cc in
+      let P : Site → Type 0 = λ y. SiteGoes y (after_host comes v y) t in subst P is one)
+      (λ none. let both : Some s ≡ None = sym here ∙ none in absurd (cc both)))
 
 comes_move : (w : NodeWorld) (e : End) (comes : Comes) → IsOrderly w → AllMove w (comes_at w e comes).0 (comes_at w e comes).1
-comes_move w e comes a = go (input_of (seen_from e (link_to w.sites e.link)) comes) e.at_host refl refl
-  where
-    by : Option LinkInput → Bool → NodeWorld × List Entry
-    by None at_host = (w, [])
-    by (Some i) true = host_does w e.link comes (steps (AtEnd e.link i))
-    by (Some i) false = controller_does w e.link comes (steps (AtEnd e.link i))
-
-    seen : Bool → Link → Link
-    seen b l = cond b (exchanged l) l
-
-    go : (o : Option LinkInput) (b : Bool) → input_of (seen_from e (link_to w.sites e.link)) comes ≡ o → e.at_host ≡ b → AllMove w (by o b).0 (by o b).1
-    go None b q r = nothing_moves w
-    go (Some i) true q r =
-        host_moves w e.link comes (steps (AtEnd e.link i)) a
-        (λ s n here number runs node host. host_steps s n e.link number runs node host comes i
-        (ap (λ l. input_of (exchanged l) comes) (sym (link_is w.sites e.link s here))
-        ∙ (ap (λ b. input_of (seen b (link_to w.sites e.link)) comes) (sym r) ∙ q)))
-    go (Some i) false q r =
-        controller_moves_so w e.link comes i a (ap (λ b. input_of (seen b (link_to w.sites e.link)) comes) (sym r) ∙ q)
+comes_move w e comes a =
+    by_coming (λ p. AllMove w p.0 p.1) w e comes (nothing_moves w)
+    (λ i side q. host_moves w e.link comes (steps (AtEnd e.link i)) a
+    (λ s n here number runs node host. host_steps s n e.link number runs node host comes i
+    (ap (λ l. input_of (exchanged l) comes) (sym (link_is w.sites e.link s here)) ∙ q)))
+    (λ i side q. controller_moves_so w e.link comes i a q)
 
 begins_move : (w : NodeWorld) (k : ℕ) (deeds : List Deed) → AreMute deeds → IsOrderly w
     → AllMove w (host_does w k NoInput (begins_with k deeds)).0 (host_does w k NoInput (begins_with k deeds)).1
@@ -196,38 +161,24 @@ cut_quiet : (n : ℕ) (e : End) → Leaves e (entry.Cut n ∷ [])
 cut_quiet n e = still_leaves e (entry.Cut n ∷ []) (refl, tt)
 
 power_moves : (n : ℕ) (w : NodeWorld) → AllMove w (loses_power_at n w) (entry.Cut n ∷ [])
-power_moves n w = go (n == 0)
-  where
-    by : Bool → NodeWorld
-    by true = controller_cut w
-    by false = record w { sites = with_site n host_cut w.sites }
-
-    go : (b : Bool) → AllMove w (by b) (entry.Cut n ∷ [])
-    go true =
-        all_sites w w.memory None (λ (s : Site). record s { link = happens s.link (AtController (Step NoInput [] CutOff)) }) (entry.Cut n ∷ [])
-        (λ s. refl) (λ s. refl)
-        (λ s. ap (λ (x : NumberedEnd). x.side.got) (here_host s.link (Step NoInput [] CutOff))) (λ q s x. refl) (cut_quiet n)
-    go false =
-        at_site w w.controller n host_cut (entry.Cut n ∷ []) refl (λ s. refl)
-        (λ s here. record {
-          near = ap (λ (x : NumberedEnd). x.side.got) (here_host (exchanged s.link) (Step NoInput [] CutOff));
-          goes = λ q x. record { left = q; goes = cut_quiet n (end_h s.host) q; waits = refl };
-          others = λ e off. cut_quiet n e;
-        })
-        (λ none. all_stay w w (entry.Cut n ∷ []) refl refl (cut_quiet n))
+power_moves n w =
+    by_power (λ v. AllMove w v (entry.Cut n ∷ [])) n w
+    (λ z. all_sites w w.memory None (λ (s : Site). record s { link = happens s.link (AtController (Step NoInput [] CutOff)) }) (entry.Cut n ∷ [])
+    (λ s. refl) (λ s. refl)
+    (λ s. ap (λ (x : NumberedEnd). x.side.got) (here_host s.link (Step NoInput [] CutOff))) (λ q s x. refl) (cut_quiet n))
+    (λ z. at_site w w.controller n host_cut (entry.Cut n ∷ []) refl (λ s. refl)
+    (λ s here. record {
+      near = ap (λ (x : NumberedEnd). x.side.got) (here_host (exchanged s.link) (Step NoInput [] CutOff));
+      goes = λ q x. record { left = q; goes = cut_quiet n (end_h s.host) q; waits = refl };
+      others = λ e off. cut_quiet n e;
+    })
+    (λ none. all_stay w w (entry.Cut n ∷ []) refl refl (cut_quiet n)))
 
 memory_moves : (n : ℕ) (m : Memory) (w : NodeWorld) → AllMove w (with_memory n m w) []
-memory_moves n m w = go (n == 0)
-  where
-    by : Bool → NodeWorld
-    by true = record w { memory = m }
-    by false = record w { sites = with_site n (λ s. record s { memory = m }) w.sites }
-
-    go : (b : Bool) → AllMove w (by b) []
-    go true = all_stay w (record w { memory = m }) [] refl refl (λ e q. refl)
-    go false =
-        at_site w w.controller n (λ s. record s { memory = m }) [] refl (λ s. refl)
-        (λ s here. stays s (record s { memory = m }) [] refl refl refl (λ e q. refl)) (λ none. nothing_moves w)
+memory_moves n m w =
+    by_memory (λ v. AllMove w v []) n w m (λ z. all_stay w (record w { memory = m }) [] refl refl (λ e q. refl))
+    (λ z. at_site w w.controller n (λ s. record s { memory = m }) [] refl (λ s. refl)
+    (λ s here. stays s (record s { memory = m }) [] refl refl refl (λ e q. refl)) (λ none. nothing_moves w))
 
 -- ## Boots
 
@@ -332,26 +283,14 @@ module _ (w : NodeWorld) (n : ℕ) (r : Running) (m : Memory) (count : ℕ) (a :
           subst P (sym (is ∙ ap (λ l. record w { sites = l }) twice)) (far_boots z)
 
 boots_move : (w : NodeWorld) (n : ℕ) → IsOrderly w → node_at w n ≡ None → AllMove w (boots w n).0 (boots w n).1
-boots_move w n a off = go (fails_within (length (boot_writes m.content)) m.plan)
+boots_move w n a off =
+    by_boot (λ p. AllMove w p.0 p.1) w n
+    (move_then w (boot_written w n) (loses_power_at n (boot_written w n)) [] (entry.Cut n ∷ []) (memory_moves n later w)
+    (power_moves n (boot_written w n)))
+    (node_moves w n (boot_found w n) later (count_of (boot_found w n).core.journal) a off)
   where
-    m : Memory
-    m = memory_at w n
-
-    r : Running
-    r = found n (links_of w n) m.content
-
     later : Memory
-    later = after_planned (boot_writes m.content) m
-
-    by : Bool → NodeWorld × List Entry
-    by true = (loses_power_at n (with_memory n later w), entry.Cut n ∷ [])
-    by false = (with_node n r (with_memory n later w), entry.Booted n (count_of r.core.journal) ∷ [])
-
-    go : (b : Bool) → AllMove w (by b).0 (by b).1
-    go true =
-        move_then w (with_memory n later w) (loses_power_at n (with_memory n later w)) [] (entry.Cut n ∷ []) (memory_moves n later w)
-        (power_moves n (with_memory n later w))
-    go false = node_moves w n r later (count_of r.core.journal) a off
+    later = after_planned (boot_writes (memory_at w n).content) (memory_at w n)
 
 -- ## Losses
 
@@ -364,21 +303,23 @@ counts_power TooOld h o = refl
 counts_power TooMany h o = refl
 
 lost_moves : (w : NodeWorld) (e : End) (why : Loss) → AllMove w (frame_lost w e why).0 (frame_lost w e why).1
-lost_moves w e why = go e.at_host
+lost_moves w e why =
+    by_loss (λ p. AllMove w p.0 p.1) w e why
+    (λ side.
+    let t : List Entry = entries_for e.link (first_lost Host why (link_to w.sites e.link).to_host) in
+    let q : (x : End) → Leaves x t = quiet Host (link_to w.sites e.link).to_host in
+    at_site w w.controller e.link (λ s. record (site_lost e why s) { node = counts why e.link s.node }) t refl (λ s. refl)
+    (λ s here. stays s (record (site_lost e why s) { node = counts why e.link s.node }) t (near e.at_host s.link) (far e.at_host s.link)
+    (counts_power why e.link s.node) q)
+    (λ none. all_stay w w t refl refl q))
+    (λ side.
+    let c : Option Running = counts why e.link w.controller in
+    let t : List Entry = entries_for e.link (first_lost Controller why (link_to w.sites e.link).to_controller) in
+    let q : (x : End) → Leaves x t = quiet Controller (link_to w.sites e.link).to_controller in
+    at_site w c e.link (site_lost e why) t (counts_power why e.link w.controller) (λ s. refl)
+    (λ s here. stays s (site_lost e why s) t (near e.at_host s.link) (far e.at_host s.link) refl q)
+    (λ none. all_stay w (record w { controller = c }) t (counts_power why e.link w.controller) refl q))
   where
-    lost : Site → Site
-    lost s = record s { link = happens s.link (at e (Lose why)) }
-
-    by : Bool → NodeWorld × List Entry
-    by false = (
-      record w { controller = counts why e.link w.controller; sites = with_site e.link lost w.sites },
-      entries_for e.link (first_lost Controller why (link_to w.sites e.link).to_controller),
-    )
-    by true = (
-      record w { sites = with_site e.link (λ s. record (lost s) { node = counts why e.link s.node }) w.sites },
-      entries_for e.link (first_lost Host why (link_to w.sites e.link).to_host),
-    )
-
     near : (b : Bool) (l : Link) → (happens l (cond b (AtHost (Lose why)) (AtController (Lose why)))).controller.side.got ≡ l.controller.side.got
     near true l = refl
     near false l = refl
@@ -389,22 +330,6 @@ lost_moves w e why = go e.at_host
 
     quiet : (who : Side) (xs : List OnWire) (x : End) → Leaves x (entries_for e.link (first_lost who why xs))
     quiet who xs x = still_leaves x _ (notes_still x e.link (first_lost who why xs) (lost_none who why xs))
-
-    go : (b : Bool) → AllMove w (by b).0 (by b).1
-    go false =
-        let c : Option Running = counts why e.link w.controller in
-        let t : List Entry = (by false).1 in
-        let q : (x : End) → Leaves x t = quiet Controller (link_to w.sites e.link).to_controller in
-        at_site w c e.link lost t (counts_power why e.link w.controller) (λ s. refl)
-        (λ s here. stays s (lost s) t (near e.at_host s.link) (far e.at_host s.link) refl q)
-        (λ none. all_stay w (record w { controller = c }) t (counts_power why e.link w.controller) refl q)
-    go true =
-        let t : List Entry = (by true).1 in
-        let q : (x : End) → Leaves x t = quiet Host (link_to w.sites e.link).to_host in
-        at_site w w.controller e.link (λ s. record (lost s) { node = counts why e.link s.node }) t refl (λ s. refl)
-        (λ s here. stays s (record (lost s) { node = counts why e.link s.node }) t (near e.at_host s.link) (far e.at_host s.link)
-        (counts_power why e.link s.node) q)
-        (λ none. all_stay w w t refl refl q)
 
 -- ## Ticks
 
@@ -422,62 +347,28 @@ pub record NearTick (w : NodeWorld) (p : NodeWorld × List Entry) : Type 0 where
   pub hosts : AllByRecursion (λ (s : Site). (s.host == 0) ≡ false) p.0.sites
   pub nodes : AllByRecursion (λ (s : Site). IfItRuns s.host (s.host ∷ []) s.node) p.0.sites
 
-near_tick : (w : NodeWorld) → IsOrderly w → NearTick w (controller_ticks w)
-near_tick w a = go w.controller refl a.controller
+near_moves : (w : NodeWorld) → IsOrderly w → NearTick w (controller_ticks w)
+near_moves w a =
+    record {
+      moves = by_controller_tick (λ p. AllMove w p.0 p.1) w
+          (λ z. all_sites w w.memory w.controller site_unticked [] (λ s. refl) (λ s. refl)
+          (λ s. ap (λ (x : NumberedEnd). x.side.got) (tick_host s.link [] GoesOut))
+          (λ q s x. subst (ByPower (is_some w.controller) q) (sym (ticks_got s.link [] GoesOut)) x) (λ e q. refl))
+          (λ r z. controller_ticked w r z (subst (IfItRuns 0 (hosts_in w.sites)) z a.controller) a.different);
+      different = kept.different;
+      hosts = kept.hosts;
+      nodes = kept.nodes;
+    }
   where
-    near_ends : ℕ → NumberedEnd
-    near_ends h = (link_to w.sites h).controller
-
-    after_work : Work → NodeWorld × List Entry
-    after_work k = (
-      record {
-        memory = after_planned k.writes w.memory;
-        controller = runs_on k;
-        sites = map (λ (s : Site). record s { link = ticked_so s.link (is_late_at k s.host) (turns_at k s.host) (ending_of k) }) w.sites;
-      },
-      k.entries ++ flat_map (λ (s : Site). frames_noted Controller s.host s.link k) w.sites,
-    )
-
-    by : Option Running → NodeWorld × List Entry
-    by None = (record w { sites = map (λ (s : Site). record s { link = ticks_at_controller s.link [] GoesOut }) w.sites }, [])
-    by (Some r) = after_work (steps TimePasses (work_of r w.memory.plan near_ends []))
-
-    so : (g : Site → Site) → ((s : Site) → (g s).host ≡ s.host)
-        → ((s : Site) → IfItRuns s.host (s.host ∷ []) s.node → IfItRuns s.host (s.host ∷ []) (g s).node)
-        → IsOrderly (record { memory = w.memory; controller = None; sites = map g w.sites })
-    so g host node = orderly_map w w.memory None g host a tt node
-
-    go : (o : Option Running) → w.controller ≡ o → IfItRuns 0 (hosts_in w.sites) o → NearTick w (by o)
-    go None z n =
-        let g : Site → Site = λ s. record s { link = ticks_at_controller s.link [] GoesOut } in
-        let kept : IsOrderly (record { memory = w.memory; controller = None; sites = map g w.sites }) = so g (λ s. refl) (λ s x. x) in
-        let off : (q : List Message) (s : Site) → NearWaits w.controller q (Some s) → NearWaits w.controller q (Some (g s)) =
-        λ q s x. subst (ByPower (is_some w.controller) q) (sym (ticks_got s.link [] GoesOut)) x in
-        record {
-          moves = all_sites w w.memory w.controller g [] (λ s. refl) (λ s. refl) (λ s. ap (λ (x : NumberedEnd). x.side.got) (tick_host s.link [] GoesOut)) off
-              (λ e q. refl);
-          different = kept.different;
-          hosts = kept.hosts;
-          nodes = kept.nodes;
-        }
-    go (Some r) z n =
-        let k : Work = steps TimePasses (work_of r w.memory.plan near_ends []) in
-        let g : Site → Site = λ s. record s { link = ticked_so s.link (is_late_at k s.host) (turns_at k s.host) (ending_of k) } in
-        let kept : IsOrderly (record { memory = w.memory; controller = None; sites = map g w.sites }) = so g (λ s. refl) (λ s x. x) in
-        record { moves = controller_ticked w r z n a.different; different = kept.different; hosts = kept.hosts; nodes = kept.nodes }
+    kept : IsOrderly (record { memory = w.memory; controller = None; sites = (controller_ticks w).0.sites })
+    kept = near_orderly w a
 
 site_ticks : (x : Site) → (x.host == 0) ≡ false → IfItRuns x.host (x.host ∷ []) x.node → SiteGoes x (host_ticks x).0 (host_ticks x).1
-site_ticks x host a = go x.node refl a
-  where
-    by : Option Running → Site × List Entry
-    by None = (record x { link = exchanged (ticks_at_controller (exchanged x.link) [] GoesOut) }, [])
-    by (Some n) = after_tick x (host_tick x n)
-
-    go : (o : Option Running) → x.node ≡ o → IfItRuns x.host (x.host ∷ []) o → SiteGoes x (by o).0 (by o).1
-    go None z b =
-        stays x (by None).0 [] (ap (λ (y : NumberedEnd). y.side.got) (tick_host (exchanged x.link) [] GoesOut)) (ticks_got (exchanged x.link) [] GoesOut) refl
-        (λ e q. refl)
-    go (Some n) z b = host_ticked x n x.host refl z b host
+site_ticks x host a =
+    by_host_tick (λ p. SiteGoes x p.0 p.1) x
+    (λ z. stays x (record x { link = exchanged (ticks_at_controller (exchanged x.link) [] GoesOut) }) []
+    (ap (λ (y : NumberedEnd). y.side.got) (tick_host (exchanged x.link) [] GoesOut)) (ticks_got (exchanged x.link) [] GoesOut) refl (λ e q. refl))
+    (λ n z. host_ticked x n x.host refl z (subst (IfItRuns x.host (x.host ∷ [])) z a) host)
 
 -- what waits at the end of a host as all hosts have had their ticks
 pub record HostsMove (h : ℕ) (p : List Site × List Entry) (q : List Message) : Type 0 where
@@ -573,7 +464,7 @@ ticks_move w a =
     let near : NodeWorld × List Entry = controller_ticks old.0 in
     let far : List Site × List Entry = hosts_tick near.0.sites in
     let first : NearTick old.0 near =
-    near_tick old.0 (orderly_map w w.memory w.controller (λ (s : Site). record s { link = aged s.link }) (λ s. refl) a a.controller (λ s n. n)) in
+    near_moves old.0 (orderly_map w w.memory w.controller (λ (s : Site). record s { link = aged s.link }) (λ s. refl) a a.controller (λ s n. n)) in
     move_then w old.0 (record near.0 { sites = far.0 }) old.1 (near.1 ++ far.1) (old_moves w)
     (move_then old.0 near.0 (record near.0 { sites = far.0 }) near.1 far.1 first.moves (hosts_move near.0 first.different first.hosts first.nodes))
 

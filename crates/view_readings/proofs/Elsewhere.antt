@@ -25,27 +25,7 @@ use Rattle.node_telling.specs.Telling.{HasEnds}
 use Rattle.node_telling.proofs.Nodes.{ports_for}
 use Rattle.node_readings.proofs.Silent.{IsQuiet}
 use Rattle.view_readings.specs.Inits.{with_response, LeavesInit}
-use Rattle.view_readings.proofs.Noting.{IsOwnNote, IsBeside, NotesSo, Notes, all_do, steps_note}
-use Rattle.node_laws.proofs.Walks.{Plain, OfHost, any_of_controller, all_of_host}
-
--- ## Deeds
-
-plain : (P : Entry → Type 0) → Plain (NotesSo P)
-plain P = record { sends = λ to x. tt; says_ok = tt; releases = λ asker. tt; is_answered = tt; drops = λ pid. tt }
-
--- no init ends at a controller
-controller_notes : (P : Entry → Type 0) (core : Core) (ports : List Port) (h : ℕ) (m : Message) → AllByRecursion (NotesSo P) (controller_deeds core ports h m)
-controller_notes P core ports h m =
-    any_of_controller (NotesSo P) (plain P) (λ c. tt) (λ to message. tt) (λ to message c. tt) (λ errors. tt) core ports h m
-
-module _ (P : Entry → Type 0) (core : Core) (same : P (entry.InitSame (end_of_node core core.node)))
-    (made : (count : ℕ) → P (entry.InitMade (end_of_node core core.node) count))
-    (failed : (code : ℕ) → P (entry.InitFailed (end_of_node core core.node) code)) where
-  of_host : OfHost (NotesSo P) core
-  of_host = record { commits = λ c. tt; hears = tt; goes_on = λ i. tt; orders = λ i k order is. tt; same = same; made = made; failed = failed }
-
-  host_notes : (p : Port) (m : Message) → AllByRecursion (NotesSo P) (host_deeds core p m)
-  host_notes p m = all_of_host (NotesSo P) core (plain P) of_host p m (λ n value command zero is. tt)
+use Rattle.node_readings.proofs.Noting.{IsOwnNote, IsBeside, NotesSo, Notes, controller_notes, host_notes, all_do, steps_note}
 
 -- ## Entries
 
@@ -131,7 +111,7 @@ module _ (h n : ℕ) (other : eqb n h ≡ false) (who : Side) (is_side : cond (e
   begun_notes : (hosts : List ℕ) (r : Running) (plan : Option Plan) (near_ends : ℕ → NumberedEnd) (es : List Entry) → HasEnds n hosts r
       → AllByRecursion IsOff hosts
       → AllByRecursion (LeavesInit h) es
-      → Notes (LeavesInit h) n who IsOff note_leaves turned_leaves beside_leaves deeds_leave (work_of r plan near_ends es)
+      → Notes (LeavesInit h) n who IsOff (work_of r plan near_ends es)
   begun_notes hosts r plan near_ends es has off so = record {
     number = has.number;
     side = ap (λ k. cond (eqb k 0) Controller Host) has.number ∙ is_side;

@@ -1,11 +1,11 @@
 -- A tick of a world, losses and power: a node that runs keeps what is read of REC_ERROR of its end.
-use Rattle.std.proofs.Common.{◌≡◌, ◌⊎◌, inl, inr, ℕ, Bool, true, false, cond, eqb, List, [], ◌∷◌, ◌++◌, length, map, sym, refl, ap, ◌∙◌, subst}
+use Rattle.std.proofs.Common.{◌≡◌, ◌⊎◌, inl, inr, ℕ, Bool, true, false, cond, eqb, List, [], ◌∷◌, ◌++◌, map, sym, refl, ap, ◌∙◌, subst}
 use Rattle.std.specs.Prelude.{Option, Some, None}
 use Rattle.std.specs.List.{AllByRecursion, flat_map}
 use Rattle.std.proofs.lemmas.Bool.{cases_Bool, eqb-true, eq-eqb, true≢false, ne_eqb, eqb-false}
 use Rattle.swp_base.specs.InMemory.{Memory}
 use Rattle.journal_laws.specs.Journal.{count_of}
-use Rattle.journal_laws.specs.Planned.{fails_within, after_planned}
+use Rattle.journal_laws.specs.Planned.{after_planned}
 use Rattle.trace_model.specs.declared.entry.Entry.{Entry}
 use Rattle.trace_model.specs.declared.entry.Entry.TheVariants as entry
 use Rattle.trace_model.specs.declared.line.End.{End}
@@ -21,13 +21,14 @@ use Rattle.node_machine.specs.Parts.{Desk, Running, Work}
 use Rattle.node_machine.specs.Node.{steps, found, boot_writes, new_desk}
 use Rattle.node_machine.specs.Node.NodeInput.{TimePasses}
 use Rattle.node_world.specs.World.{NodeWorld, Site, site_at, with_site, node_of, link_to, ending_of, runs_on, turns_at, work_of, frames_noted, controller_cut}
-use Rattle.node_world.specs.World.{host_cut, loses_power_at, memory_at, with_memory, with_node, links_of, boots, is_late_at, ticked_so, all_aged}
+use Rattle.node_world.specs.World.{host_cut, loses_power_at, memory_at, with_memory, links_of, boots, is_late_at, ticked_so, all_aged}
 use Rattle.node_world.specs.World.{controller_ticks, host_ticks, hosts_tick, world_ticks}
 use Rattle.node_world.specs.NodeFilters.{Book}
 use Rattle.node_telling.specs.Telling.{HasEnds, IfItRuns, hosts_in, IsOrderly}
 use Rattle.node_telling.proofs.WorldTicks.{tick_host}
+use Rattle.node_world.proofs.Cases.{by_power, by_memory, by_running, boot_written, boot_found, by_boot}
 use Rattle.view_readings.specs.Errors.{ErrorCount}
-use Rattle.view_readings.proofs.Noting.{all_flat}
+use Rattle.node_readings.proofs.Noting.{all_flat}
 use Rattle.view_readings.proofs.Leaving.{reads, reads_append, Leaves, IsStill, still_all, still_leaves}
 use Rattle.view_readings.proofs.Nodes.{IfKeeps, keeps_sets, leaves_kept, own_steps, others_step, frames_still, aged_still}
 use Rattle.view_readings.proofs.Worlds.{far_node, AreFine, orderly_fine, map_fine, node_map, with_kept, with_other, with_own, with_none, host_link, own_node}
@@ -271,61 +272,49 @@ module _ (e : End) (real : e.at_host ≡ true → eqb e.link 0 ≡ false) where
   gone : (v : NodeWorld) (n : ℕ) (x : ErrorCount) → own_node e real v ≡ None → So v (reads e (entry.Cut n ∷ []) x)
   gone v n x none = subst (λ o. IfKeeps e o (reads e (entry.Cut n ∷ []) x)) (sym none) refl
 
-  loses_near : (w : NodeWorld) (n : ℕ) → eqb n 0 ≡ true → loses_power_at n w ≡ controller_cut w
-  loses_near w n q = rw q refl
-
-  loses_far : (w : NodeWorld) (n : ℕ) → eqb n 0 ≡ false → loses_power_at n w ≡ record w { sites = with_site n host_cut w.sites }
-  loses_far w n q = rw q refl
-
   pub cut_kept : (w : NodeWorld) (n : ℕ) (x : ErrorCount) → So w x → So (loses_power_at n w) (reads e (entry.Cut n ∷ []) x)
-  cut_kept w n x k = by_number (cases_Bool (eqb n 0)) (cases_Bool e.at_host) where
-    stays : (v : NodeWorld) → own_node e real v ≡ own_node e real w → So v (reads e (entry.Cut n ∷ []) x)
-    stays v same = left e real w v (entry.Cut n ∷ []) x same (cut_leaves n, tt) k
+  cut_kept w n x k =
+      by_power (λ v. So v (reads e (entry.Cut n ∷ []) x)) n w (λ z. near_cut (cases_Bool e.at_host)) (λ z. far_cut (cases_Bool e.at_host))
+    where
+      stays : (v : NodeWorld) → own_node e real v ≡ own_node e real w → So v (reads e (entry.Cut n ∷ []) x)
+      stays v same = left e real w v (entry.Cut n ∷ []) x same (cut_leaves n, tt) k
 
-    cut_here : Site → Site
-    cut_here s = record s { link = happens s.link (AtController (Step NoInput [] CutOff)) }
+      cut_here : Site → Site
+      cut_here s = record s { link = happens s.link (AtController (Step NoInput [] CutOff)) }
 
-    at_site : e.at_host ≡ true → (o : Option Site) → site_at w.sites e.link ≡ o → (eqb e.link n ≡ true) ⊎ (eqb e.link n ≡ false)
-        → So (record w { sites = with_site n host_cut w.sites }) (reads e (entry.Cut n ∷ []) x)
-    at_site far o here (inr off) =
-        stays (record w { sites = with_site n host_cut w.sites }) (host_node e real (record w { sites = with_site n host_cut w.sites }) far
-        ∙ (with_other n host_cut (λ s. refl) w.sites e.link off ∙ sym (host_node e real w far)))
-    at_site far None here (inl is) =
-        stays (record w { sites = with_site n host_cut w.sites }) (host_node e real (record w { sites = with_site n host_cut w.sites }) far
-        ∙ (lost ∙ sym (host_node e real w far ∙ ap far_node here))) where
-          lost : far_node (site_at (with_site n host_cut w.sites) e.link) ≡ None
-          lost = with_none n host_cut (λ s. refl) w.sites e.link here
-    at_site far (Some s) here (inl is) =
-        let link : e.link ≡ n = eqb-true e.link n is in
-        gone (record w { sites = with_site n host_cut w.sites }) n x (host_node e real (record w { sites = with_site n host_cut w.sites }) far
-        ∙ (ap (λ m. far_node (site_at (with_site n host_cut w.sites) m)) link
-        ∙ with_own n host_cut (λ s. refl) w.sites s (sym (ap (site_at w.sites) link) ∙ here)))
+      at_site : e.at_host ≡ true → (o : Option Site) → site_at w.sites e.link ≡ o → (eqb e.link n ≡ true) ⊎ (eqb e.link n ≡ false)
+          → So (record w { sites = with_site n host_cut w.sites }) (reads e (entry.Cut n ∷ []) x)
+      at_site far o here (inr off) =
+          stays (record w { sites = with_site n host_cut w.sites }) (host_node e real (record w { sites = with_site n host_cut w.sites }) far
+          ∙ (with_other n host_cut (λ s. refl) w.sites e.link off ∙ sym (host_node e real w far)))
+      at_site far None here (inl is) =
+          stays (record w { sites = with_site n host_cut w.sites }) (host_node e real (record w { sites = with_site n host_cut w.sites }) far
+          ∙ (lost ∙ sym (host_node e real w far ∙ ap far_node here))) where
+            lost : far_node (site_at (with_site n host_cut w.sites) e.link) ≡ None
+            lost = with_none n host_cut (λ s. refl) w.sites e.link here
+      at_site far (Some s) here (inl is) =
+          let link : e.link ≡ n = eqb-true e.link n is in
+          gone (record w { sites = with_site n host_cut w.sites }) n x (host_node e real (record w { sites = with_site n host_cut w.sites }) far
+          ∙ (ap (λ m. far_node (site_at (with_site n host_cut w.sites) m)) link
+          ∙ with_own n host_cut (λ s. refl) w.sites s (sym (ap (site_at w.sites) link) ∙ here)))
 
-    by_number : (eqb n 0 ≡ true) ⊎ (eqb n 0 ≡ false) → (e.at_host ≡ true) ⊎ (e.at_host ≡ false) → So (loses_power_at n w) (reads e (entry.Cut n ∷ []) x)
-    by_number (inl z) (inr near) = subst (λ v. So v (reads e (entry.Cut n ∷ []) x)) (sym (loses_near w n z))
-        (gone (controller_cut w) n x (near_node e real (controller_cut w) near))
-    by_number (inl z) (inl far) = subst (λ v. So v (reads e (entry.Cut n ∷ []) x)) (sym (loses_near w n z)) (stays (controller_cut w)
-        (host_node e real (controller_cut w) far ∙ (node_map cut_here (λ s. refl) (λ s. refl) w.sites e.link ∙ sym (host_node e real w far))))
-    by_number (inr z) (inr near) = subst (λ v. So v (reads e (entry.Cut n ∷ []) x)) (sym (loses_far w n z))
-        (stays (record w { sites = with_site n host_cut w.sites }) (near_node e real (record w { sites = with_site n host_cut w.sites }) near
-        ∙ sym (near_node e real w near)))
-    by_number (inr z) (inl far) = subst (λ v. So v (reads e (entry.Cut n ∷ []) x)) (sym (loses_far w n z))
-        (at_site far (site_at w.sites e.link) refl (cases_Bool (eqb e.link n)))
+      near_cut : (e.at_host ≡ true) ⊎ (e.at_host ≡ false) → So (controller_cut w) (reads e (entry.Cut n ∷ []) x)
+      near_cut (inl far) =
+          stays (controller_cut w)
+          (host_node e real (controller_cut w) far ∙ (node_map cut_here (λ s. refl) (λ s. refl) w.sites e.link ∙ sym (host_node e real w far)))
+      near_cut (inr near) = gone (controller_cut w) n x (near_node e real (controller_cut w) near)
+
+      far_cut : (e.at_host ≡ true) ⊎ (e.at_host ≡ false) → So (record w { sites = with_site n host_cut w.sites }) (reads e (entry.Cut n ∷ []) x)
+      far_cut (inl far) = at_site far (site_at w.sites e.link) refl (cases_Bool (eqb e.link n))
+      far_cut (inr near) =
+          stays (record w { sites = with_site n host_cut w.sites })
+          (near_node e real (record w { sites = with_site n host_cut w.sites }) near ∙ sym (near_node e real w near))
 
   -- a memory is another one: no node changes
   memory_node : (w : NodeWorld) (n : ℕ) (m : Memory) → own_node e real (with_memory n m w) ≡ own_node e real w
-  memory_node w n m = by_number (cases_Bool (eqb n 0)) where
-    near_is : eqb n 0 ≡ true → with_memory n m w ≡ record w { memory = m }
-    near_is q = rw q refl
-
-    far_is : eqb n 0 ≡ false → with_memory n m w ≡ record w { sites = with_site n (λ (s : Site). record s { memory = m }) w.sites }
-    far_is q = rw q refl
-
-    by_number : (eqb n 0 ≡ true) ⊎ (eqb n 0 ≡ false) → own_node e real (with_memory n m w) ≡ own_node e real w
-    by_number (inl q) = ap (own_node e real) (near_is q)
-    by_number (inr q) =
-        ap (own_node e real) (far_is q)
-        ∙ ap (λ o. cond e.at_host o w.controller) (with_kept n (λ (s : Site). record s { memory = m }) (λ s. refl) (λ s. refl) w.sites e.link)
+  memory_node w n m =
+      by_memory (λ v. own_node e real v ≡ own_node e real w) n w m (λ q. refl)
+      (λ q. ap (λ o. cond e.at_host o w.controller) (with_kept n (λ (s : Site). record s { memory = m }) (λ s. refl) (λ s. refl) w.sites e.link))
 
   pub memory_kept : (w : NodeWorld) (n : ℕ) (m : Memory) (x : ErrorCount) → So w x → So (with_memory n m w) x
   memory_kept w n m x k = subst (λ o. IfKeeps e o x) (sym (memory_node w n m)) k
@@ -353,28 +342,16 @@ module _ (e : End) (real : e.at_host ≡ true → eqb e.link 0 ≡ false) where
     after_it = after_planned (boot_writes before.content) before
 
     abbrev written : NodeWorld
-    written = with_memory n after_it w
+    written = boot_written w n
 
     abbrev runs : Running
-    runs = found n (links_of w n) before.content
+    runs = boot_found w n
 
     abbrev noted : Entry
     noted = entry.Booted n (count_of runs.core.journal)
 
     written_kept : So written x
     written_kept = memory_kept w n after_it x k
-
-    lost_is : fails_within (length (boot_writes before.content)) before.plan ≡ true → boots w n ≡ (loses_power_at n written, entry.Cut n ∷ [])
-    lost_is q = rw q refl
-
-    runs_is : fails_within (length (boot_writes before.content)) before.plan ≡ false → boots w n ≡ (with_node n runs written, noted ∷ [])
-    runs_is q = rw q refl
-
-    node_near : eqb n 0 ≡ true → with_node n runs written ≡ record written { controller = Some runs }
-    node_near q = rw q refl
-
-    node_far : eqb n 0 ≡ false → with_node n runs written ≡ record written { sites = with_site n (λ (s : Site). record s { node = Some runs }) written.sites }
-    node_far q = rw q refl
 
     stays : (v : NodeWorld) → own_node e real v ≡ own_node e real written → eqb n (node_of e) ≡ false → So v (reads e (noted ∷ []) x)
     stays v same off = left e real written v (noted ∷ []) x same (booted_other n (count_of runs.core.journal) off, tt) written_kept
@@ -402,19 +379,21 @@ module _ (e : End) (real : e.at_host ≡ true → eqb e.link 0 ≡ false) where
     far_zero : e.at_host ≡ true → eqb n 0 ≡ true → eqb n (node_of e) ≡ false
     far_zero far z = ne_eqb n (node_of e) (λ same. true≢false (sym (eq-eqb e.link 0 (sym (same ∙ host_link e real far) ∙ eqb-true n 0 z)) ∙ real far))
 
-    runs_kept : (eqb n 0 ≡ true) ⊎ (eqb n 0 ≡ false) → (e.at_host ≡ true) ⊎ (e.at_host ≡ false) → So (with_node n runs written) (reads e (noted ∷ []) x)
-    runs_kept (inl z) (inr near) = subst (λ v. So v (reads e (noted ∷ []) x)) (sym (node_near z)) (starts (record written { controller = Some runs })
-        (near_node e real (record written { controller = Some runs }) near) (eq-eqb n (node_of e) (eqb-true n 0 z ∙ sym (near_zero e real near))))
-    runs_kept (inl z) (inl far) = subst (λ v. So v (reads e (noted ∷ []) x)) (sym (node_near z)) (stays (record written { controller = Some runs })
-        (host_node e real (record written { controller = Some runs }) far ∙ sym (host_node e real written far)) (far_zero far z))
-    runs_kept (inr z) (inr near) = subst (λ v. So v (reads e (noted ∷ []) x)) (sym (node_far z)) (stays far_v (near_node e real far_v near
-        ∙ sym (near_node e real written near)) (ap (eqb n) (near_zero e real near) ∙ z))
-    runs_kept (inr z) (inl far) = subst (λ v. So v (reads e (noted ∷ []) x)) (sym (node_far z)) (at_site far (site_at written.sites e.link) refl
-        (cases_Bool (eqb e.link n)))
+    near_kept : eqb n 0 ≡ true → (e.at_host ≡ true) ⊎ (e.at_host ≡ false) → So (record written { controller = Some runs }) (reads e (noted ∷ []) x)
+    near_kept z (inl far) =
+        stays (record written { controller = Some runs })
+        (host_node e real (record written { controller = Some runs }) far ∙ sym (host_node e real written far)) (far_zero far z)
+    near_kept z (inr near) =
+        starts (record written { controller = Some runs }) (near_node e real (record written { controller = Some runs }) near)
+        (eq-eqb n (node_of e) (eqb-true n 0 z ∙ sym (near_zero e real near)))
+
+    far_kept : eqb n 0 ≡ false → (e.at_host ≡ true) ⊎ (e.at_host ≡ false) → So far_v (reads e (noted ∷ []) x)
+    far_kept z (inl far) = at_site far (site_at written.sites e.link) refl (cases_Bool (eqb e.link n))
+    far_kept z (inr near) =
+        stays far_v (near_node e real far_v near ∙ sym (near_node e real written near)) (ap (eqb n) (near_zero e real near) ∙ z)
 
     pub boots_kept : Then (boots w n) x
-    boots_kept = by_plan (cases_Bool (fails_within (length (boot_writes before.content)) before.plan)) where
-      by_plan : (fails_within (length (boot_writes before.content)) before.plan ≡ true)
-          ⊎ (fails_within (length (boot_writes before.content)) before.plan ≡ false) → Then (boots w n) x
-      by_plan (inl fails) = subst (λ p. Then p x) (sym (lost_is fails)) (cut_kept written n x written_kept)
-      by_plan (inr none) = subst (λ p. Then p x) (sym (runs_is none)) (runs_kept (cases_Bool (eqb n 0)) (cases_Bool e.at_host))
+    boots_kept =
+        by_boot (λ p. Then p x) w n (cut_kept written n x written_kept)
+        (by_running (λ v. So v (reads e (noted ∷ []) x)) n written runs (λ z. near_kept z (cases_Bool e.at_host))
+        (λ z. far_kept z (cases_Bool e.at_host)))

@@ -1,11 +1,11 @@
 -- A tick of a world, losses and power: a host keeps the init that is read of it.
-use Rattle.std.proofs.Common.{◌≡◌, ◌⊎◌, inl, inr, ℕ, ◌+◌, Bool, true, false, cond, eqb, List, [], ◌∷◌, ◌++◌, length, map, sym, refl, ap, ◌∙◌, subst}
+use Rattle.std.proofs.Common.{◌≡◌, ◌⊎◌, inl, inr, ℕ, ◌+◌, Bool, true, false, cond, eqb, List, [], ◌∷◌, ◌++◌, map, sym, refl, ap, ◌∙◌, subst}
 use Rattle.std.specs.Prelude.{Option, Some, None, min}
 use Rattle.std.specs.List.{AllByRecursion, flat_map}
 use Rattle.std.proofs.lemmas.Bool.{cases_Bool, eqb-true, eq-eqb, ne_eqb, eqb-false}
 use Rattle.swp_base.specs.InMemory.{Memory}
 use Rattle.journal_laws.specs.Journal.{count_of}
-use Rattle.journal_laws.specs.Planned.{fails_within, after_planned}
+use Rattle.journal_laws.specs.Planned.{after_planned}
 use Rattle.trace_model.specs.Lines.{IsHost}
 use Rattle.trace_model.specs.declared.entry.Entry.{Entry}
 use Rattle.trace_model.specs.declared.entry.Entry.TheVariants as entry
@@ -24,7 +24,7 @@ use Rattle.node_machine.specs.Carrying.{changed_if}
 use Rattle.node_machine.specs.Node.{steps, found, boot_writes, with_error}
 use Rattle.node_machine.specs.Node.NodeInput.{TimePasses}
 use Rattle.node_world.specs.World.{NodeWorld, Site, Happening, site_at, with_site, node_at, link_to, ending_of, runs_on, turns_at, work_of, frames_noted}
-use Rattle.node_world.specs.World.{controller_cut, host_cut, loses_power_at, memory_at, with_memory, with_node, links_of, boots, counts, frame_lost, is_late_at}
+use Rattle.node_world.specs.World.{controller_cut, host_cut, loses_power_at, memory_at, with_memory, links_of, boots, counts, frame_lost, is_late_at}
 use Rattle.node_world.specs.World.{ticked_so, all_aged, controller_ticks, host_ticks, hosts_tick, world_ticks, world_step}
 use Rattle.node_world.specs.World.Happening.{Boots, IsCut, Gives, Inits, Takes, Loses, Ticks, Resets, Activates, Arms}
 use Rattle.node_telling.specs.Telling.{IfItRuns, hosts_in, IsOrderly}
@@ -34,8 +34,9 @@ use Rattle.node_telling.proofs.Nodes.{site_host}
 use Rattle.node_telling.proofs.Frames.{wires_all}
 use Rattle.node_readings.proofs.Silent.{IsQuiet}
 use Rattle.node_readings.proofs.Sites.{lost_quiet}
+use Rattle.node_world.proofs.Cases.{by_power, by_memory, by_running, boot_written, boot_found, by_boot}
 use Rattle.view_readings.specs.Inits.{init_begun, init_kept, IfRunsInit, LeavesInit, SiteKeepsInit}
-use Rattle.view_readings.proofs.Noting.{all_flat}
+use Rattle.node_readings.proofs.Noting.{all_flat}
 use Rattle.view_readings.proofs.Answering.{reads_init, init_append}
 use Rattle.view_readings.proofs.Elsewhere.{quiet_leaves, others_step}
 use Rattle.view_readings.proofs.HostInits.{ticks_keep, cut_keeps, boot_keeps}
@@ -299,27 +300,16 @@ module _ (h : ℕ) (host : IsHost h) where
 
   -- ## Memories
 
-  memory_near : (w : NodeWorld) (n : ℕ) (m : Memory) → eqb n 0 ≡ true → with_memory n m w ≡ record w { memory = m }
-  memory_near w n m q = rw q refl
-
   memory_far : (w : NodeWorld) (n : ℕ) (m : Memory) → eqb n 0 ≡ false
       → with_memory n m w ≡ record w { sites = with_site n (λ (s : Site). record s { memory = m }) w.sites }
   memory_far w n m q = rw q refl
 
   pub memory_keeps : (w : NodeWorld) (n : ℕ) (m : Memory) (i : Option Init) → Has w i → Has (with_memory n m w) i
-  memory_keeps w n m i keeps = by (cases_Bool (eqb n 0)) where
-    by : (eqb n 0 ≡ true) ⊎ (eqb n 0 ≡ false) → Has (with_memory n m w) i
-    by (inl q) = subst (λ v. Has v i) (sym (memory_near w n m q)) keeps
-    by (inr q) = subst (λ v. Has v i) (sym (memory_far w n m q)) (with_keeps n (λ (s : Site). record s { memory = m }) (λ s. refl) i
-        (λ s k. keep_same i s (record s { memory = m }) refl refl refl k) w.sites keeps)
+  memory_keeps w n m i keeps =
+      by_memory (λ v. Has v i) n w m (λ q. keeps)
+      (λ q. with_keeps n (λ (s : Site). record s { memory = m }) (λ s. refl) i (λ s k. keep_same i s (record s { memory = m }) refl refl refl k) w.sites keeps)
 
   -- ## Power
-
-  cut_near : (w : NodeWorld) (n : ℕ) → eqb n 0 ≡ true → loses_power_at n w ≡ controller_cut w
-  cut_near w n q = rw q refl
-
-  cut_far : (w : NodeWorld) (n : ℕ) → eqb n 0 ≡ false → loses_power_at n w ≡ record w { sites = with_site n host_cut w.sites }
-  cut_far w n q = rw q refl
 
   cut_leaves : (n : ℕ) → eqb n h ≡ false → LeavesInit h (entry.Cut n)
   cut_leaves n off = λ y. ap (λ b. cond b None y) off
@@ -334,19 +324,22 @@ module _ (h : ℕ) (host : IsHost h) where
         changed false s = refl
 
   pub cut_keep : (w : NodeWorld) (n : ℕ) (i : Option Init) → Has w i → So (loses_power_at n w, entry.Cut n ∷ []) i
-  cut_keep w n i keeps = by (cases_Bool (eqb n 0)) (cases_Bool (eqb n h)) where
-    cut_here : Site → Site
-    cut_here s = record s { link = happens s.link (AtController (Step NoInput [] CutOff)) }
+  cut_keep w n i keeps =
+      by_power (λ v. So (v, entry.Cut n ∷ []) i) n w
+      (λ q. left h host (controller_cut w) (entry.Cut n ∷ []) i
+      (cut_leaves n (ap (λ m. eqb m h) (eqb-true n 0 q) ∙ zero_off h host), tt) (map_keeps h host cut_here (λ s. refl) (λ s. refl)
+      (λ s. ap (λ (x : NumberedEnd). x.side) (here_host s.link (Step NoInput [] CutOff))) w.sites i keeps))
+      (λ q. far (cases_Bool (eqb n h)))
+    where
+      cut_here : Site → Site
+      cut_here s = record s { link = happens s.link (AtController (Step NoInput [] CutOff)) }
 
-    by : (eqb n 0 ≡ true) ⊎ (eqb n 0 ≡ false) → (eqb n h ≡ true) ⊎ (eqb n h ≡ false) → So (loses_power_at n w, entry.Cut n ∷ []) i
-    by (inl q) b = subst (λ v. So (v, entry.Cut n ∷ []) i) (sym (cut_near w n q)) (left h host (controller_cut w) (entry.Cut n ∷ []) i
-        (cut_leaves n (ap (λ m. eqb m h) (eqb-true n 0 q) ∙ zero_off h host), tt) (map_keeps h host cut_here (λ s. refl) (λ s. refl)
-        (λ s. ap (λ (x : NumberedEnd). x.side) (here_host s.link (Step NoInput [] CutOff))) w.sites i keeps))
-    by (inr q) (inl is) = subst (λ v. So (v, entry.Cut n ∷ []) i) (sym (cut_far w n q))
-        (subst (λ m. AtSite (reads_init h (entry.Cut m ∷ []) i) (site_at (with_site m host_cut w.sites) h)) (sym (eqb-true n h is)) (cut_own w.sites i))
-    by (inr q) (inr off) = subst (λ v. So (v, entry.Cut n ∷ []) i) (sym (cut_far w n q)) (left h host (record w { sites = with_site n host_cut w.sites })
-        (entry.Cut n ∷ []) i (cut_leaves n off, tt) (other_keeps h host n host_cut (λ s. refl) w.sites i (ne_eqb h n (λ same. eqb-false n h off (sym same)))
-        keeps))
+      far : (eqb n h ≡ true) ⊎ (eqb n h ≡ false) → So (record w { sites = with_site n host_cut w.sites }, entry.Cut n ∷ []) i
+      far (inl is) =
+          subst (λ m. AtSite (reads_init h (entry.Cut m ∷ []) i) (site_at (with_site m host_cut w.sites) h)) (sym (eqb-true n h is)) (cut_own w.sites i)
+      far (inr off) =
+          left h host (record w { sites = with_site n host_cut w.sites }) (entry.Cut n ∷ []) i (cut_leaves n off, tt)
+          (other_keeps h host n host_cut (λ s. refl) w.sites i (ne_eqb h n (λ same. eqb-false n h off (sym same))) keeps)
 
   -- ## Boots
 
@@ -364,10 +357,10 @@ module _ (h : ℕ) (host : IsHost h) where
     after_it = after_planned (boot_writes before.content) before
 
     abbrev written : NodeWorld
-    written = with_memory n after_it w
+    written = boot_written w n
 
     abbrev runs : Running
-    runs = found n (links_of w n) before.content
+    runs = boot_found w n
 
     abbrev noted : Entry
     noted = entry.Booted n (count_of runs.core.journal)
@@ -375,20 +368,8 @@ module _ (h : ℕ) (host : IsHost h) where
     written_keeps : Has written i
     written_keeps = memory_keeps w n after_it i keeps
 
-    lost_is : fails_within (length (boot_writes before.content)) before.plan ≡ true → boots w n ≡ (loses_power_at n written, entry.Cut n ∷ [])
-    lost_is q = rw q refl
-
-    runs_is : fails_within (length (boot_writes before.content)) before.plan ≡ false → boots w n ≡ (with_node n runs written, noted ∷ [])
-    runs_is q = rw q refl
-
-    node_near : eqb n 0 ≡ true → with_node n runs written ≡ record written { controller = Some runs }
-    node_near q = rw q refl
-
     abbrev far_v : NodeWorld
     far_v = record written { sites = with_site n (λ (s : Site). record s { node = Some runs }) written.sites }
-
-    node_far : eqb n 0 ≡ false → with_node n runs written ≡ far_v
-    node_far q = rw q refl
 
     -- it doesn't run yet
     is_off : eqb n 0 ≡ false → n ≡ h → (s : Site) → site_at written.sites h ≡ Some s → s.node ≡ None
@@ -421,19 +402,16 @@ module _ (h : ℕ) (host : IsHost h) where
         (own_keeps h host (λ (s : Site). record s { node = Some runs }) (λ s. refl) written.sites s i here
         (subst (λ r. SiteKeepsInit i (record s { node = Some r })) node starts))
 
-    runs_keep : (eqb n 0 ≡ true) ⊎ (eqb n 0 ≡ false) → (eqb n h ≡ true) ⊎ (eqb n h ≡ false) → So (with_node n runs written, noted ∷ []) i
-    runs_keep (inl q) b = subst (λ v. So (v, noted ∷ []) i) (sym (node_near q)) written_keeps
-    runs_keep (inr q) (inl is) = subst (λ v. So (v, noted ∷ []) i) (sym (node_far q)) (own_boots q (eqb-true n h is) (site_at written.sites h) refl)
-    runs_keep (inr q) (inr off) =
-        subst (λ v. So (v, noted ∷ []) i) (sym (node_far q)) (other_keeps h host n (λ (s : Site). record s { node = Some runs }) (λ s. refl)
-        written.sites i (ne_eqb h n (λ same. eqb-false n h off (sym same))) written_keeps)
+    far_keep : eqb n 0 ≡ false → (eqb n h ≡ true) ⊎ (eqb n h ≡ false) → So (far_v, noted ∷ []) i
+    far_keep q (inl is) = own_boots q (eqb-true n h is) (site_at written.sites h) refl
+    far_keep q (inr off) =
+        other_keeps h host n (λ (s : Site). record s { node = Some runs }) (λ s. refl) written.sites i
+        (ne_eqb h n (λ same. eqb-false n h off (sym same))) written_keeps
 
     pub boots_keep : So (boots w n) i
-    boots_keep = by_plan (cases_Bool (fails_within (length (boot_writes before.content)) before.plan)) where
-      by_plan : (fails_within (length (boot_writes before.content)) before.plan ≡ true)
-          ⊎ (fails_within (length (boot_writes before.content)) before.plan ≡ false) → So (boots w n) i
-      by_plan (inl fails) = subst (λ p. So p i) (sym (lost_is fails)) (cut_keep written n i written_keeps)
-      by_plan (inr none) = subst (λ p. So p i) (sym (runs_is none)) (runs_keep (cases_Bool (eqb n 0)) (cases_Bool (eqb n h)))
+    boots_keep =
+        by_boot (λ p. So p i) w n (cut_keep written n i written_keeps)
+        (by_running (λ v. So (v, noted ∷ []) i) n written runs (λ q. written_keeps) (λ q. far_keep q (cases_Bool (eqb n h))))
 
   -- ## Events
 

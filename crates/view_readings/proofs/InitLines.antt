@@ -25,11 +25,11 @@ use Rattle.node_telling.proofs.Orderly.{step_orderly, new_orderly}
 use Rattle.node_telling.proofs.Lasting.{AllMay, repeated_may, damaged_may, stands_none, events_of_steps, behind_lines}
 use Rattle.view_readings.specs.Inits.{init_begun, init_behind, init_in, init_kept, IsBegunByHost}
 use Rattle.view_readings.proofs.Answering.{reads_init}
-use Rattle.view_readings.proofs.Lines.{off_none, none_zero}
+use Rattle.kept_laws.proofs.Lines.{first_none, off_none}
+use Rattle.view_readings.proofs.Lines.{none_zero}
 use Rattle.view_readings.proofs.InitWorlds.{AtSite, MayInit, Keeps, absent, present, zero}
 use Rattle.view_readings.proofs.InitEvents.{MayKeep, event_keeps}
 use Rattle.node_telling.proofs.Lasting.{AreCaused, lines_caused}
-use Rattle.node_order.proofs.Resets.{first_none}
 
 -- ## Lines
 

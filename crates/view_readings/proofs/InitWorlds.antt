@@ -33,7 +33,7 @@ use Rattle.node_telling.proofs.Events.{comes_goes}
 use Rattle.node_readings.specs.Worlds.{host_does_so, init_of}
 use Rattle.node_readings.proofs.Sites.{ending_quiet, arrival_quiet}
 use Rattle.view_readings.specs.Inits.{init_begun, init_kept, IfRunsInit, LeavesInit, SiteKeepsInit}
-use Rattle.view_readings.proofs.Noting.{NotesSo, all_flat}
+use Rattle.node_readings.proofs.Noting.{NotesSo, all_flat}
 use Rattle.view_readings.proofs.Answering.{reads_init, init_append}
 use Rattle.view_readings.proofs.Elsewhere.{quiet_leaves, others_step, others_begin}
 use Rattle.view_readings.proofs.HostInits.{comes_keeps, sends_keeps, begins_keeps}

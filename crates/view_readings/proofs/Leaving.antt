@@ -16,7 +16,7 @@ use Rattle.history.specs.Steps.{entries_for, entry_of, end_of, lost_as}
 use Rattle.swp_lpdu.specs.Controls.{lpdu_of}
 use Rattle.node_world.specs.NodeFilters.{book_after, was_refused}
 use Rattle.view_readings.specs.Errors.{ErrorCount, errors_after, errors_set_by, leads_to_link_gate, is_any_ok}
-use Rattle.view_readings.proofs.Noting.{IsBeside}
+use Rattle.node_readings.proofs.Noting.{IsBeside}
 use Rattle.registry.proofs.ValueLemmas.{AllByRecursion-append}
 
 -- what is read after these entries, where this was read before

@@ -1,4 +1,3 @@
-pub mod Noting
 pub mod Leaving
 pub mod Setting
 pub mod Doing

@@ -1,13 +1,12 @@
 -- What is read of REC_ERROR of all ends over the lines of a schedule.
 use Rattle.std.proofs.Common.{◌≡◌, ℕ, ◌&&◌, Bool, true, false, cond, eqb, List, [], ◌∷◌, ◌++◌, sym, refl, ap, ◌∙◌, subst, arith, ◌||◌}
-use Rattle.std.specs.Prelude.{Option, Some, None, is_some, unwrap_or, IsTrue}
+use Rattle.std.specs.Prelude.{Option, Some, None, unwrap_or}
 use Rattle.std.specs.List.{AllByRecursion, find}
 use Rattle.std.specs.Option.{option_map}
 use Rattle.std.proofs.lemmas.Bool.{cond_both, eqb-true, true≢false, ne_eqb}
 use Rattle.std.proofs.lemmas.Grind.{flat_map-append}
 use Rattle.trace_model.specs.Lines.{IsHost}
 use Rattle.trace_model.specs.declared.entry.Entry.{Entry}
-use Rattle.trace_model.specs.declared.entry.NoCause.TheVariants as cause
 use Rattle.trace_model.specs.declared.line.End.{End}
 use Rattle.trace_model.specs.declared.line.Header.{Header}
 use Rattle.trace_model.specs.declared.line.Line.{Line}
@@ -16,22 +15,21 @@ use Rattle.session_laws.specs.Sessions.{OnWire}
 use Rattle.history.specs.Damage.{Verdict}
 use Rattle.history.specs.Damage.Verdict.{Same, LostFor, Undetected}
 use Rattle.history.specs.Follows.{first_verdict, taken_of, if_empty}
-use Rattle.link_machine.specs.Machine.{Message, Refused, give_refusal}
-use Rattle.link_machine.specs.Machine.Refused.{NotUp}
+use Rattle.link_machine.specs.Machine.{Message}
 use Rattle.message_link.specs.Links.Comes.{NextFrame, AsksReset}
 use Rattle.node_machine.specs.Parts.{Desk, Running}
 use Rattle.node_machine.specs.Parts.Deed.{Orders, Sends}
 use Rattle.node_machine.specs.Controller.{is_command_message}
 use Rattle.node_world.specs.World.{NodeWorld, site_at, Happening, node_at, node_of, memory_at, sending, beginning, new_world, world_step}
 use Rattle.node_world.specs.World.Happening.{Boots, IsCut, Gives, Inits, Takes, Loses, Ticks, Resets, Activates, Arms}
-use Rattle.node_world.specs.Lines.{if_off, machine_in, frames_at, has_order, if_waiting, if_not_sent, refusal_in, happens_by, happenings}
+use Rattle.node_world.specs.Lines.{if_off, frames_at, if_not_sent, refusal_in, happens_by, happenings}
 use Rattle.node_world.specs.NodeFilters.{Book}
 use Rattle.node_world.specs.Lines.{Occurrence}
 use Rattle.node_world.specs.NodeHistories.{NodeHistory, FollowsNodes, steps_from, occurrences_in, entries_in, node_entries, world_after}
 use Rattle.kept_laws.specs.Hosts.{AreHosts, IsSentByHost, IsFew}
 use Rattle.kept_laws.specs.Worlds.{AllKeep, IfRuns, MayHappen}
 use Rattle.kept_laws.proofs.Kept.{all_begin}
-use Rattle.kept_laws.proofs.Lines.{world_goes, few_front}
+use Rattle.kept_laws.proofs.Lines.{world_goes, few_front, first_none, off_none, send_may}
 use Rattle.node_telling.specs.Telling.{HasEnds, IfItRuns, hosts_in, IsOrderly, MayBoot, world_behind}
 use Rattle.node_telling.proofs.Mute.{AreMute}
 use Rattle.node_telling.proofs.Orderly.{step_orderly, new_orderly}
@@ -51,7 +49,6 @@ use Rattle.node_readings.specs.Noticed.{ends_between}
 use Rattle.cut_laws.specs.Histories.{is_one_of}
 use Rattle.view_readings.specs.Views.{view_at, IsSameView}
 use Rattle.view_readings.proofs.Viewing.{SessionsAreRead, PipesAreRead, same_view}
-use Rattle.node_order.proofs.Resets.{first_none}
 
 -- the end of the link with a host is no end of 00
 pub real_of : (e : End) → IsHost e.link → e.at_host ≡ true → eqb e.link 0 ≡ false
@@ -145,38 +142,6 @@ event_so hosts are t w c so may few =
     }
 
 -- ## Lines
-
-not_waiting : (waits : Bool) (why : Option Refused) → if_waiting waits why ≡ None → waits ≡ false
-not_waiting false why e = refl
-not_waiting true (Some NotUp) e = absurd (cc e)
-not_waiting true _ e = absurd (cc e)
-
-pub off_none : (o : Option Running) → (cond (is_some o) None (Some cause.Off)) ≡ None → (r : Running) × (o ≡ Some r)
-off_none None e = absurd (cc e)
-off_none (Some r) e = (r, refl)
-
-both_false : (a b : Bool) → (a && b) ≡ false → a ≡ true → b ≡ false
-both_false true b e is = e
-both_false false b e is = absurd (true≢false (sym is))
-
-none_of : (o : Option (List ℕ)) → is_some o ≡ false → o ≡ None
-none_of None e = refl
-none_of (Some x) e = absurd (true≢false e)
-
-send_may : (w : NodeWorld) (e : End) (pid : ℕ) (message : List ℕ) → IsTrue e.at_host → if_not_sent w e (pid, message) ≡ None
-    → MayHappen w (Gives e (pid, message))
-send_may w e pid message side sent r running is =
-    let waits =
-    not_waiting (eqb pid 1 && is_command_message message && has_order (node_at w (node_of e))) (give_refusal (machine_in w e) (pid, message)) sent in
-    let none : has_order (node_at w (node_of e)) ≡ false =
-    both_false (eqb pid 1 && is_command_message message) (has_order (node_at w (node_of e))) waits is in
-    none_of r.core.command (sym (ap has_order node_is) ∙ none)
-  where
-    link_is : node_of e ≡ e.link
-    link_is = ap (λ b. cond b e.link 0) side
-
-    node_is : node_at w (node_of e) ≡ Some r
-    node_is = ap (node_at w) link_is ∙ running
 
 not_empty : (wire : List OnWire) → if_empty wire ≡ None → wire ≡ [] → ⊥
 not_empty [] none e = cc none

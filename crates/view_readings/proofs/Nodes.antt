@@ -29,7 +29,7 @@ use Rattle.node_telling.specs.Telling.{HasEnds}
 use Rattle.node_telling.proofs.Mute.{IsPlain, IsMute, AreMute, deeds_mute}
 use Rattle.node_telling.proofs.Nodes.{hosts_same, ports_for}
 use Rattle.view_readings.specs.Errors.{ErrorCount}
-use Rattle.view_readings.proofs.Noting.{IsOwnNote, NotesSo, Notes, all_do as notes_do, steps_note}
+use Rattle.node_readings.proofs.Noting.{IsOwnNote, NotesSo, Notes, all_do as notes_do, steps_note}
 use Rattle.view_readings.proofs.Leaving.{reads, reads_append, Leaves, leaves_all, IsStill, still_all, still_leaves, IsUndamaged, note_still, notes_still}
 use Rattle.view_readings.proofs.Leaving.{turn_leaves, beside_leaves, plainly}
 use Rattle.view_readings.proofs.Setting.{AreUnset}
@@ -247,7 +247,7 @@ module _ (e : End) (n : ℕ) (who : Side) where
 
   begun_notes : (hosts : List ℕ) (r : Running) (plan : Option Plan) (near_ends : ℕ → NumberedEnd) (es : List Entry) → HasEnds n hosts r
       → cond (eqb n 0) Controller Host ≡ who → AllByRecursion (IsOther e who) hosts → AllByRecursion (Leaves e) es
-      → Notes (Leaves e) n who (IsOther e who) note_leaves turned_leaves (beside_leaves e n) deeds_leave (work_of r plan near_ends es)
+      → Notes (Leaves e) n who (IsOther e who) (work_of r plan near_ends es)
   begun_notes hosts r plan near_ends es has side others so = record {
     number = has.number;
     side = ap (λ k. cond (eqb k 0) Controller Host) has.number ∙ side;

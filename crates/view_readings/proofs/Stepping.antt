@@ -15,15 +15,14 @@ use Rattle.node_machine.specs.Node.{NodeInput, input_at, has_come, told_at, all_
 use Rattle.node_machine.specs.Node.{all_owed, without_notice, after_sessions, synced, steps}
 use Rattle.node_machine.specs.Node.NodeInput.{AtEnd, TimePasses}
 use Rattle.view_readings.specs.Errors.{ErrorCount}
-use Rattle.view_readings.proofs.Noting.{IsOwnNote, all_notes, all_flat}
+use Rattle.node_readings.proofs.Noting.{IsOwnNote, all_notes, all_flat}
 use Rattle.view_readings.proofs.Leaving.{IsStill, notes_still, IsUndamaged}
 use Rattle.view_readings.proofs.Setting.{IsUnset, AreUnset}
 use Rattle.view_readings.proofs.Doing.{Right, note, maps, with_core, unless, unset_fine, all_do}
 use Rattle.view_readings.proofs.Turning.{passes_right}
 use Rattle.notice_readings.proofs.Steps.{sessions_tables}
 use Rattle.node_laws.proofs.Walks.{forgotten_hold, all_owed_hold, all_synced_hold}
-use Rattle.node_laws.proofs.Ports.{come_host, forgets_host, sessions_node}
-use Rattle.kept_laws.proofs.Stepping.{without_host, late_host}
+use Rattle.node_laws.proofs.Ports.{come_host, forgets_host, sessions_node, without_host, late_host}
 
 own_undamaged : (who : Side) (x : Noted) → IsOwnNote who x → IsUndamaged x
 own_undamaged who (Up side n) is = tt

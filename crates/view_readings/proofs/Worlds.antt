@@ -23,7 +23,7 @@ use Rattle.node_telling.specs.Telling.{HasEnds, IfItRuns, hosts_in, IsOrderly}
 use Rattle.node_telling.proofs.Mute.{AreMute}
 use Rattle.node_telling.proofs.Nodes.{site_host}
 use Rattle.view_readings.specs.Errors.{ErrorCount}
-use Rattle.view_readings.proofs.Noting.{all_flat}
+use Rattle.node_readings.proofs.Noting.{all_flat}
 use Rattle.view_readings.proofs.Leaving.{reads, reads_append, Leaves, IsStill, still_leaves}
 use Rattle.view_readings.proofs.Setting.{AreUnset}
 use Rattle.view_readings.proofs.Nodes.{IfKeeps, KeepsErrors, leaves_kept, own_steps, own_begins, IsOther, others_step, others_begin, frames_still}

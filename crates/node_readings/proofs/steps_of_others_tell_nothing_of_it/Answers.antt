@@ -5,4 +5,4 @@ use Rattle.node_readings.proofs.steps_of_others_tell_nothing_of_it.Goals as goal
 
 pub returns : goal.returns
 returns c = λ h input w another silent.
-    (steps_away h w.core.node another.other (own_side w.core) input w (record { number = refl; side = refl; ends = another.ends; silent = silent })).silent
+    (steps_away h w.core.node another.other (own_side w.core) input w (record { number = refl; side = refl; ends = another.ends; so = silent })).so
