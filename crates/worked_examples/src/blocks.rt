@@ -1,10 +1,10 @@
 //! Worked examples of a pool.
+use crate::shown::same;
 use block_pool::{NoRoom, Pool};
-use std::test::Fail;
 
 #[test]
-fn quotas_hold(rt: HostRuntime) -> Result<(), Fail> {
-    let mut pool = Pool::make(rt.alloc(), &[2, 1])?;
+fn quotas_hold(rt: HostRuntime) {
+    let mut pool = Pool::make(rt.alloc(), &[2, 1]).expect(&rt, "there is memory");
     let mut chain = pool.chain(0);
     let bytes = [7; 33];
     let taken = pool.take(&mut chain, &bytes);
@@ -13,22 +13,26 @@ fn quotas_hold(rt: HostRuntime) -> Result<(), Fail> {
     let spare = pool.spare(0);
     let len = pool.len(&chain);
     pool.give(chain);
-    assert_eq!(rt; taken, Ok(()));
-    assert_eq!(rt; further, Err(NoRoom { need: 1, spare: 0 }));
-    assert_eq!(rt; passed, Err(NoRoom { need: 2, spare: 1 }));
-    assert_eq!(rt; [spare, pool.spare(0)], [0, 2]);
-    assert_eq!(rt; len, 33);
-    Ok(())
+    let none = NoRoom { need: 1, spare: 0 };
+    let one = NoRoom { need: 2, spare: 1 };
+    same(
+        &rt,
+        &[taken, further, passed],
+        &[Ok(()), Err(none), Err(one)],
+    );
+    same(&rt, &(spare, pool.spare(0), len), &(0, 2, 33));
 }
 
 #[test]
-fn bytes_come_back(rt: HostRuntime) -> Result<(), Fail> {
-    let mut pool = Pool::make(rt.alloc(), &[4, 4])?;
+fn bytes_come_back(rt: HostRuntime) {
+    let mut pool = Pool::make(rt.alloc(), &[4, 4]).expect(&rt, "there is memory");
     let mut first = pool.chain(0);
     let mut second = pool.chain(1);
-    pool.take(&mut first, &[1; 20])?;
-    pool.take(&mut second, &[2; 33])?;
-    pool.take(&mut first, &[3; 30])?;
+    let taken = [
+        pool.take(&mut first, &[1; 20]),
+        pool.take(&mut second, &[2; 33]),
+        pool.take(&mut first, &[3; 30]),
+    ];
     let mut out = [0xEE; 40];
     let mut rest = [0xEE; 3];
     let counts = [
@@ -36,34 +40,34 @@ fn bytes_come_back(rt: HostRuntime) -> Result<(), Fail> {
         pool.copy_out(&second, 31, &mut rest),
     ];
     let shown = [out[0], out[1], out[2], out[31], out[32]];
-    assert_eq!(rt; counts, [32, 2]);
-    assert_eq!(rt; shown, [1, 1, 3, 3, 0xEE]);
-    assert_eq!(rt; rest, [2, 2, 0xEE]);
-    Ok(())
+    same(&rt, &taken, &[Ok(()), Ok(()), Ok(())]);
+    same(&rt, &(counts, shown), &([32, 2], [1, 1, 3, 3, 0xEE]));
+    same(&rt, &rest, &[2, 2, 0xEE]);
 }
 
 #[test]
-fn a_copy_goes_on_and_back(rt: HostRuntime) -> Result<(), Fail> {
-    let mut pool = Pool::make(rt.alloc(), &[4])?;
+fn a_copy_goes_on_and_back(rt: HostRuntime) {
+    let mut pool = Pool::make(rt.alloc(), &[4]).expect(&rt, "there is memory");
     let mut chain = pool.chain(0);
-    pool.take(&mut chain, &[1; 40])?;
-    pool.take(&mut chain, &[2; 60])?;
+    let taken = [
+        pool.take(&mut chain, &[1; 40]),
+        pool.take(&mut chain, &[2; 60]),
+    ];
     let (mut on, mut end, mut back) = ([0; 28], [0; 28], [0; 28]);
     let counts = [
         pool.copy_on(&chain, 28, &mut on),
         pool.copy_on(&chain, 84, &mut end),
         pool.copy_on(&chain, 0, &mut back),
     ];
-    assert_eq!(rt; counts, [28, 16, 28]);
-    assert_eq!(rt; [on[11], on[12], end[15], end[16]], [1, 2, 2, 0]);
-    assert_eq!(rt; back, [1; 28]);
-    Ok(())
+    let shown = [on[11], on[12], end[15], end[16]];
+    same(&rt, &taken, &[Ok(()), Ok(())]);
+    same(&rt, &(counts, shown), &([28, 16, 28], [1, 2, 2, 0]));
+    same(&rt, &back, &[1; 28]);
 }
 
 #[test]
-fn a_block_is_set_aside(rt: HostRuntime) -> Result<(), Fail> {
-    let mut pool = Pool::make(rt.alloc(), &[1])?;
+fn a_block_is_set_aside(rt: HostRuntime) {
+    let mut pool = Pool::make(rt.alloc(), &[1]).expect(&rt, "there is memory");
     let answers = [pool.set_aside(0), pool.set_aside(0)];
-    assert_eq!(rt; answers, [Ok(()), Err(NoRoom { need: 1, spare: 0 })]);
-    Ok(())
+    same(&rt, &answers, &[Ok(()), Err(NoRoom { need: 1, spare: 0 })]);
 }

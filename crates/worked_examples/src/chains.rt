@@ -1,21 +1,22 @@
 //! Worked examples of cutting and joining.
-ghost use Rattle.std.specs.Prelude.{◌≡◌, ◌≤◌, length, IfOk};
+ghost use Rattle.std.specs.Prelude.{◌≡◌, ◌<◌, ◌≤◌, length};
 ghost use Rattle.block_pool.specs.Pool.{IsLive, chain_bytes};
 ghost use Rattle.hcp_chain.specs.Holding.{IsJoinerReady};
 
+use crate::shown::same;
 use arrayvec::ArrayVec;
 use block_pool::{Chain, Pool};
 use hcp_chain::{ChainFault, Joined, Joiner, cut};
 use hcp_packet::Packet;
-use std::alloc::{AllocError, Global};
+use std::alloc::Global;
 use std::process::Abort;
-use std::test::Fail;
 
-fn joiner(alloc: Global) -> Result<(Pool, Joiner), AllocError>
-    ensures { IfOk result (λ made. IsJoinerReady made.0 made.1) }
+/// A pool, and a joiner of its only owner.
+fn joiner(rt: &impl Abort, alloc: Global) -> (Pool, Joiner)
+    ensures { IsJoinerReady result.0 result.1 }
 {
-    let pool = Pool::make(alloc, &[512])?;
-    Ok((pool, Joiner::new(0)))
+    let pool = Pool::make(alloc, &[512]).expect(rt, "there is memory");
+    (pool, Joiner::new(0))
 }
 
 fn packet(last: bool, pipe: u8, data: &[u8]) -> Packet
@@ -48,12 +49,12 @@ fn refuses(
 )
     requires { IsJoinerReady pool.old joiner.old }
 {
-    assert_eq!(rt; joiner.take(pool, packet), Joined::Fault(fault));
+    same(rt, &joiner.take(pool, packet), &Joined::Fault(fault));
 }
 
 #[test]
-fn a_fifth_pipe_is_refused(rt: HostRuntime) -> Result<(), Fail> {
-    let (mut pool, mut joiner) = joiner(rt.alloc())?;
+fn a_fifth_pipe_is_refused(rt: HostRuntime) {
+    let (mut pool, mut joiner) = joiner(&rt, rt.alloc());
     take_more(&rt, &mut pool, &mut joiner, 2, &[1]);
     take_more(&rt, &mut pool, &mut joiner, 3, &[1]);
     take_more(&rt, &mut pool, &mut joiner, 4, &[1]);
@@ -61,12 +62,11 @@ fn a_fifth_pipe_is_refused(rt: HostRuntime) -> Result<(), Fail> {
     take_more(&rt, &mut pool, &mut joiner, 3, &[2]);
     let fault = ChainFault::TooManyChains { pipe: 6 };
     refuses(&rt, &mut pool, &mut joiner, &packet(true, 6, &[1]), fault);
-    Ok(())
 }
 
 #[test]
-fn a_message_too_long_is_refused(rt: HostRuntime) -> Result<(), Fail> {
-    let (mut pool, mut joiner) = joiner(rt.alloc())?;
+fn a_message_too_long_is_refused(rt: HostRuntime) {
+    let (mut pool, mut joiner) = joiner(&rt, rt.alloc());
     for _packet in 0..146u8 {
         take_more(&rt, &mut pool, &mut joiner, 1, &[7; 28]);
     }
@@ -78,7 +78,6 @@ fn a_message_too_long_is_refused(rt: HostRuntime) -> Result<(), Fail> {
         &packet(false, 1, &[7; 9]),
         fault,
     );
-    Ok(())
 }
 
 /// The message that ends with this packet: its pipe, its length, and its last three bytes.
@@ -102,34 +101,43 @@ fn whole(
 }
 
 #[test]
-fn pipes_are_joined_apart(rt: HostRuntime) -> Result<(), Fail> {
-    let (mut pool, mut joiner) = joiner(rt.alloc())?;
+fn pipes_are_joined_apart(rt: HostRuntime) {
+    let (mut pool, mut joiner) = joiner(&rt, rt.alloc());
     take_more(&rt, &mut pool, &mut joiner, 2, &[1; 28]);
     take_more(&rt, &mut pool, &mut joiner, 3, &[9; 28]);
     take_more(&rt, &mut pool, &mut joiner, 2, &[2; 28]);
     let message = whole(&rt, &mut pool, &mut joiner, &packet(true, 2, &[3]));
-    assert_eq!(rt; message, (2, 57, [2, 2, 3]));
-    Ok(())
+    same(&rt, &message, &(2, 57, [2, 2, 3]));
 }
 
 /// A message of 4,096 bytes in a pool.
-fn message_of_4096(alloc: Global) -> Result<(Pool, Chain), Fail>
-    ensures live { IfOk result (λ made. IsLive made.0 made.1) }
-    ensures bytes { IfOk result (λ made. length (chain_bytes made.0 made.1) ≡ 4096) }
+fn message_of_4096(rt: &impl Abort, alloc: Global) -> (Pool, Chain)
+    ensures live { IsLive result.0 result.1 }
+    ensures bytes { length (chain_bytes result.0 result.1) ≡ 4096 }
 {
-    let mut pool = Pool::make(alloc, &[128])?;
+    let mut pool = Pool::make(alloc, &[128]).expect(rt, "there is memory");
     let mut chain = pool.chain(0);
-    pool.take(&mut chain, &[7; 4096])?;
-    Ok((pool, chain))
+    pool.take(&mut chain, &[7; 4096])
+        .expect(rt, "there is room");
+    (pool, chain)
+}
+
+/// Of a packet of the message, counted from 0, this is shown: whether it is the last one, and how many bytes it carries.
+fn is_cut(rt: &impl Abort, pool: &mut Pool, chain: &Chain, at: u32, shown: (bool, usize))
+    requires live { IsLive pool.old chain.now }
+    requires bytes { length (chain_bytes pool.old chain.now) ≡ 4096 }
+    requires within { at < 147 }
+    ensures { pool.new ≡ pool.old }
+{
+    let packet = cut(pool, chain, 2, 28 * at);
+    same(rt, &(packet.last, packet.bytes.len()), &shown);
 }
 
 #[test]
-fn a_long_message_is_cut(rt: HostRuntime) -> Result<(), Fail> {
-    let (mut pool, chain) = message_of_4096(rt.alloc())?;
-    for at in 0..147u32 {
-        let packet = cut(&mut pool, &chain, 2, 28 * at);
-        let shown = (packet.last, packet.bytes.len());
-        assert_eq!(rt; shown, if at == 146 { (true, 8) } else { (false, 28) });
+fn a_long_message_is_cut(rt: HostRuntime) {
+    let (mut pool, chain) = message_of_4096(&rt, rt.alloc());
+    for at in 0..146u32 {
+        is_cut(&rt, &mut pool, &chain, at, (false, 28));
     }
-    Ok(())
+    is_cut(&rt, &mut pool, &chain, 146, (true, 8));
 }

@@ -1,3 +1,4 @@
+use crate::shown::same;
 use swp_crc::*;
 
 #[test]
@@ -9,11 +10,11 @@ fn checksums_of_worked_frames(rt: HostRuntime) {
         crc(&[0x80, 0x81, 0x03]),
         crc(&[0xDD]),
     ];
-    assert_eq!(rt; sums, [0xD64E, 0xD762, 0x83E7, 0x10F3, 0x04DF]);
+    same(&rt, &sums, &[0xD64E, 0xD762, 0x83E7, 0x10F3, 0x04DF]);
 }
 
 #[test]
 fn entries_are_remainders(rt: HostRuntime) {
     let entries = [entry(0x01), entry(0x80), entry(0xFF)];
-    assert_eq!(rt; entries, [0x1021, 0x9188, 0x1EF0]);
+    same(&rt, &entries, &[0x1021, 0x9188, 0x1EF0]);
 }

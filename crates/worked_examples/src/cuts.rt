@@ -1,7 +1,8 @@
 //! Stores whose writes are cut, one after another.
-ghost use Rattle.std.specs.Prelude.{◌≡◌, ◌+◌, ◌<◌, ◌≤◌, length, IfOk, IsSome, IsTrue};
+ghost use Rattle.std.specs.Prelude.{◌≡◌, ◌+◌, ◌<◌, ◌≤◌, length, IsSome, IsTrue};
 
-use crate::memories::{IMAGE, TABLES, memory, tells};
+use crate::memories::{IMAGE, TABLES, memory, tells, whole};
+use crate::shown::same;
 use arrayvec::ArrayVec;
 use hci_store::Store;
 use hci_tables::{Command, Tables};
@@ -10,8 +11,7 @@ use pipe_table::PipeRow;
 use registry::{SESSION_IDENTITY, WHITELIST};
 use std::alloc::Global;
 use std::process::Abort;
-use std::test::Fail;
-use swp_base::{MemNv, NoMemory, Nv};
+use swp_base::{MemNv, Nv};
 use swp_tool::Status;
 
 /// The memory that a store is started on.
@@ -26,27 +26,27 @@ enum Before {
 }
 
 /// A memory of which a second bank is in use, with 4,094 records of the identifiers 0000 to 0FFD of host 02.
-fn full_memory(alloc: Global) -> Result<MemNv, NoMemory>
-    ensures { IfOk result (λ m. length m.content ≡ 65536) }
+fn full_memory(rt: &impl Abort, alloc: Global) -> MemNv
+    ensures { length result.content ≡ 65536 }
 {
-    let mut nv = memory(alloc, &IMAGE)?;
+    let mut nv = memory(rt, alloc, &IMAGE);
     let _ = nv.write(32_768, &[0x5A, 2, 0, 0, 0, 2, 0, 0, 0, 0, 0, 0]);
     for position in 0..4_094u16 {
         let [high, low] = position.to_be_bytes();
         let at = 32_780 + 8 * u32::from(position);
         let _ = nv.write(at, &[0x5A, 4, high, low, 6, 2, high, low]);
     }
-    Ok(nv)
+    nv
 }
 
 /// The memory before.
-fn memory_before(alloc: Global, before: &Before) -> Result<MemNv, NoMemory>
-    ensures { IfOk result (λ m. length m.content ≡ 65536) }
+fn memory_before(rt: &impl Abort, alloc: Global, before: &Before) -> MemNv
+    ensures { length result.content ≡ 65536 }
 {
     match before {
-        Before::New => memory(alloc, &[]),
-        Before::OldVersion => memory(alloc, &IMAGE),
-        Before::Full => full_memory(alloc),
+        Before::New => memory(rt, alloc, &[]),
+        Before::OldVersion => memory(rt, alloc, &IMAGE),
+        Before::Full => full_memory(rt, alloc),
     }
 }
 
@@ -83,48 +83,72 @@ fn kept_in(nv: MemNv) -> (Option<u32>, MemNv)
 }
 
 /// In this memory so many commands were kept, and they made these tables.
-fn keeps(rt: &impl Abort, alloc: Global, nv: MemNv, kept: u32, tables: &str) -> Result<(), Fail> {
-    assert_eq!(rt; nv.size(), 65_536);
-    let (found, nv) = kept_in(nv);
-    assert_eq!(rt; found, Some(kept));
-    let _nv = tells(rt, alloc, nv, Status::Done, tables)?;
-    Ok(())
+fn keeps(rt: &impl Abort, alloc: Global, nv: MemNv, kept: u32, tables: &str) {
+    let (found, nv) = kept_in(whole(rt, nv));
+    same(rt, &found, &Some(kept));
+    let _nv = tells(rt, alloc, nv, Status::Done, tables);
 }
 
-/// The memory in which so many commands made these tables is cut at each of six writes in turn. The tables from after are there
-/// once so many writes were made.
+/// What is kept once the identifier 1234 of host 02 is kept too, behind so many commands, and the tables then.
+fn one_more(commands: u32) -> (u32, &'static str)
+    requires { commands < 65536 }
+{
+    (commands + 1, "tables nv 0 0 0 1\nsync 02 1234\n")
+}
+
+/// The memory is cut at a write, which leaves this fill, and keeps so many commands and these tables then.
+fn cut_leaves(
+    rt: &impl Abort,
+    alloc: Global,
+    before: &Before,
+    nth: u32,
+    fill: u8,
+    kept: (u32, &str),
+)
+    requires { 1 ≤ nth }
+{
+    let nv = cut(memory_before(rt, alloc, before), nth, fill);
+    keeps(rt, alloc, nv, kept.0, kept.1);
+}
+
+/// The memory is cut at a write with each of three fills. What was kept before is kept then, or one command more once the write
+/// `last` was made. It opens a gate, which is open too where the cut left 5A there.
 fn cuts_leave(
     rt: &impl Abort,
     alloc: Global,
     before: &Before,
-    kept: u32,
-    tables: &str,
-    writes: u32,
-) -> Result<(), Fail>
-    requires { kept < 65536 }
+    nth: u32,
+    last: u32,
+    kept: (u32, &str),
+)
+    requires nth { 1 ≤ nth }
+    requires few { kept.0 < 65536 }
+{
+    let more = one_more(kept.0);
+    let closed = if nth > last { more } else { kept };
+    let opened = if nth >= last { more } else { kept };
+    cut_leaves(rt, alloc, before, nth, 0xFF, closed);
+    cut_leaves(rt, alloc, before, nth, 0x5A, opened);
+    cut_leaves(rt, alloc, before, nth, 0x13, closed);
+}
+
+/// The memory, of which so many commands made these tables, is cut at each of six writes in turn.
+fn each_cut_leaves(rt: &impl Abort, alloc: Global, before: &Before, last: u32, kept: (u32, &str))
+    requires { kept.0 < 65536 }
 {
     for nth in 1..=6u32 {
-        for fill in [0xFF, 0x5A, 0x13] {
-            let nv = cut(memory_before(alloc, before)?, nth, fill);
-            // A gate that was to be opened last is open where the cut left 5A there.
-            if nth > writes || (nth == writes && fill == 0x5A) {
-                keeps(rt, alloc, nv, kept + 1, "tables nv 0 0 0 1\nsync 02 1234\n")?;
-            } else {
-                keeps(rt, alloc, nv, kept, tables)?;
-            }
-        }
+        cuts_leave(rt, alloc, before, nth, last, kept);
     }
-    Ok(())
 }
 
 #[test]
-fn a_cut_leaves_the_tables_from_before_or_from_after(rt: HostRuntime) -> Result<(), Fail> {
+fn a_cut_leaves_the_tables_from_before_or_from_after(rt: HostRuntime) {
     let alloc = rt.alloc();
-    let full = "tables nv 0 0 0 1\nsync 02 0FFD\n";
-    cuts_leave(&rt, alloc, &Before::New, 0, "tables nv 0 0 0 0\n", 4)?;
-    cuts_leave(&rt, alloc, &Before::OldVersion, 2, TABLES, 4)?;
-    cuts_leave(&rt, alloc, &Before::Full, 4_094, full, 5)?;
-    Ok(())
+    let none = (0, "tables nv 0 0 0 0\n");
+    let full = (4_094, "tables nv 0 0 0 1\nsync 02 0FFD\n");
+    each_cut_leaves(&rt, alloc, &Before::New, 4, none);
+    each_cut_leaves(&rt, alloc, &Before::OldVersion, 4, (2, TABLES));
+    each_cut_leaves(&rt, alloc, &Before::Full, 5, full);
 }
 
 /// So many different bytes.
@@ -208,25 +232,24 @@ fn started(rt: &impl Abort, nv: MemNv) -> Store<MemNv>
 
 /// The store has these tables, and says that so many commands were kept.
 fn has(rt: &impl Abort, store: &Store<MemNv>, tables: &Tables, kept: u32) {
-    assert_eq!(rt; store.kept(), kept);
-    assert!(rt; store.tables() == tables);
+    same(rt, &store.kept(), &kept);
+    same(rt, store.tables(), tables);
 }
 
 #[test]
-fn thousands_of_commands_are_kept_over_compactions(rt: HostRuntime) -> Result<(), Fail> {
-    let mut store = started(&rt, full_memory(rt.alloc())?);
+fn thousands_of_commands_are_kept_over_compactions(rt: HostRuntime) {
+    let mut store = started(&rt, full_memory(&rt, rt.alloc()));
     let mut tables = Tables::new();
     tables.apply(&Command::Sync {
         host: 2,
         id: 0x0FFD,
     });
-    assert!(rt; commit_all(&mut store, &mut tables, 6_000));
+    let committed = commit_all(&mut store, &mut tables, 6_000);
+    same(&rt, &committed, &true);
     has(&rt, &store, &tables, 10_094);
-    let nv = store.into_nv();
-    assert_eq!(rt; nv.size(), 65_536);
+    let nv = whole(&rt, store.into_nv());
     tables.close();
     has(&rt, &started(&rt, nv), &tables, 10_094);
-    Ok(())
 }
 
 /// The bytes of a memory from a place on.
@@ -242,9 +265,8 @@ fn bytes_at(nv: &mut MemNv, at: u32) -> [u8; 29]
 fn leaves(rt: &impl Abort, store: Store<MemNv>, at: u32, bytes: [u8; 29])
     requires { at ≤ 32768 }
 {
-    let mut nv = store.into_nv();
-    assert_eq!(rt; nv.size(), 65_536);
-    assert_eq!(rt; bytes_at(&mut nv, at), bytes);
+    let mut nv = whole(rt, store.into_nv());
+    same(rt, &bytes_at(&mut nv, at), &bytes);
 }
 
 /// The store keeps the command.
@@ -262,7 +284,7 @@ fn commits(rt: &impl Abort, store: &mut Store<MemNv>, command: &Command)
 }
 
 #[test]
-fn two_commands_have_these_bytes(rt: HostRuntime) -> Result<(), Fail> {
+fn two_commands_have_these_bytes(rt: HostRuntime) {
     let alloc = rt.alloc();
     // From the gate of the bank on: version, generation, base, snapshot, and then two records and a closed gate.
     let new = [
@@ -274,7 +296,7 @@ fn two_commands_have_these_bytes(rt: HostRuntime) -> Result<(), Fail> {
         0x5A, 2, 0, 0, 0, 2, 0, 0, 0, 2, 0, 1, 0x5A, 4, 0, 0, 6, 2, 0x1A, 0x2B, 0xFF, 0xFF, 0xFF,
         0xFF, 0xFF, 0xFF, 0xFF, 0xFF, 0xFF,
     ];
-    let mut store = started(&rt, memory(alloc, &[])?);
+    let mut store = started(&rt, memory(&rt, alloc, &[]));
     let sync = Command::Sync {
         host: 2,
         id: 0x1A2B,
@@ -290,9 +312,8 @@ fn two_commands_have_these_bytes(rt: HostRuntime) -> Result<(), Fail> {
     // The same commands in a bank of version 01.
     leaves(
         &rt,
-        started(&rt, memory(alloc, &IMAGE)?),
+        started(&rt, memory(&rt, alloc, &IMAGE)),
         32_768,
         written_anew,
     );
-    Ok(())
 }

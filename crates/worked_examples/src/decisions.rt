@@ -1,9 +1,11 @@
 //! Worked examples of decisions, for a command of host 02. The pipes 01 of the hosts 01 and 02 are opened, and 01 and 02 are
 //! configured.
+use crate::shown::{same, same_bytes};
 use arrayvec::ArrayVec;
 use gate_admin::{Decision, LinkView, decide};
-use hci_tables::{Tables, read_command};
+use hci_tables::{Command, Tables, read_command};
 use std::process::Abort;
+use std::str::Split;
 
 /// A line has, in hexadecimal and split by bars: the body of a further command that made the tables; the masks of connected,
 /// noticed and asked hosts; the pipes of waiting creations; the pipe; the message; the body of the command that is committed,
@@ -60,31 +62,43 @@ const ROWS: &str = "\
 
 type Bytes = ArrayVec<u8, 32>;
 
-/// The bytes that hexadecimal digits spell.
+/// The bytes that hexadecimal digits spell, two for each byte, split by spaces.
 fn bytes_of(text: &str) -> Bytes {
     let mut bytes = ArrayVec::new();
-    let mut high = None;
-    for byte in text.bytes() {
-        let digit = match byte {
-            b'0'..=b'9' => byte - b'0',
-            b'A'..=b'F' => byte - b'A' + 10,
-            _ => continue,
-        };
-        high = match high {
-            None => Some(digit % 16),
-            Some(first) => {
-                let _ = bytes.try_push(first % 16 * 16 + digit % 16);
-                None
-            }
-        };
+    for digits in text.split(' ') {
+        if let Ok(byte) = u8::from_str_radix(digits, 16) {
+            let _ = bytes.try_push(byte);
+        }
     }
     bytes
+}
+
+/// Whether the text spells these bytes.
+fn spells(text: &str, bytes: &[u8]) -> bool {
+    bytes_of(text).as_slice() == bytes
+}
+
+/// Whether the text spells the body of this command.
+fn spells_command(text: &str, command: &Command) -> bool {
+    match read_command(bytes_of(text).as_slice()) {
+        Some(read) => read == *command,
+        None => false,
+    }
 }
 
 fn told(tables: &mut Tables, body: &[u8]) {
     if let Some(command) = read_command(body) {
         tables.apply(&command);
     }
+}
+
+/// The tables that a command made of those with the pipes 01 of the hosts 01 and 02 opened.
+fn tables_of(body: &str) -> Tables {
+    let mut tables = Tables::new();
+    told(&mut tables, &[0x04, 0x01, 0x01, 0x01]);
+    told(&mut tables, &[0x04, 0x02, 0x01, 0x01]);
+    told(&mut tables, bytes_of(body).as_slice());
+    tables
 }
 
 fn view_of(masks: &[u8], waiting: &[u8]) -> LinkView {
@@ -108,89 +122,115 @@ fn decided(tables: &Tables, view: &LinkView, pipe: &[u8], message: &[u8]) -> Opt
     Some(decide(tables, view, 0x02, pipe, message))
 }
 
-fn shows(decision: &Decision, command: &[u8], answer: &[u8], tell: &[u8], notice: &[u8]) -> bool {
-    let tell = tell.first().copied();
+/// Whether these are a row's command, answer, mask and notice.
+fn are_shown(row: &[&str; 4], command: &Command, answer: &[u8], tell: u8, notice: &[u8]) -> bool {
+    spells_command(row[0], command)
+        && spells(row[1], answer)
+        && spells(row[2], &[tell])
+        && spells(row[3], notice)
+}
+
+fn shows(row: &[&str; 4], decision: &Decision) -> bool {
     match decision {
-        Decision::Answer(a) => command.is_empty() && a.as_slice() == answer,
+        Decision::Answer(answer) => row[0].is_empty() && spells(row[1], answer.as_slice()),
         Decision::Commit {
-            command: c,
-            answer: a,
-            tell: t,
-            notice: n,
-        } => {
-            read_command(command).is_some_and(|read| read == *c)
-                && a.as_slice() == answer
-                && tell == Some(*t)
-                && n.as_slice() == notice
-        }
+            command,
+            answer,
+            tell,
+            notice,
+        } => are_shown(row, command, answer.as_slice(), *tell, notice.as_slice()),
         Decision::Ask {
             host,
-            notice: n,
-            command: c,
-            answer: a,
-        } => {
-            read_command(command).is_some_and(|read| read == *c)
-                && a.as_slice() == answer
-                && tell == Some(*host | 0x80)
-                && n.as_slice() == notice
-        }
+            notice,
+            command,
+            answer,
+        } => are_shown(
+            row,
+            command,
+            answer.as_slice(),
+            *host | 0x80,
+            notice.as_slice(),
+        ),
     }
+}
+
+/// The decision over tables, masks, waiting creations, a pipe and a message.
+fn decision_of(given: &[&str; 5]) -> Option<Decision> {
+    let tables = tables_of(given[0]);
+    let view = view_of(bytes_of(given[1]).as_slice(), bytes_of(given[2]).as_slice());
+    decided(
+        &tables,
+        &view,
+        bytes_of(given[3]).as_slice(),
+        bytes_of(given[4]).as_slice(),
+    )
+}
+
+/// The next field of a row.
+fn next_of<'a>(fields: &mut Split<'a, char>) -> &'a str {
+    fields.next().unwrap_or("")
 }
 
 fn row_holds(line: &str) -> bool {
     let mut fields = line.split('|');
-    let mut tables = Tables::new();
-    told(&mut tables, &[0x04, 0x01, 0x01, 0x01]);
-    told(&mut tables, &[0x04, 0x02, 0x01, 0x01]);
-    told(
-        &mut tables,
-        bytes_of(fields.next().unwrap_or("")).as_slice(),
-    );
-    let masks = bytes_of(fields.next().unwrap_or(""));
-    let waiting = bytes_of(fields.next().unwrap_or(""));
-    let pipe = bytes_of(fields.next().unwrap_or(""));
-    let message = bytes_of(fields.next().unwrap_or(""));
-    let command = bytes_of(fields.next().unwrap_or(""));
-    let answer = bytes_of(fields.next().unwrap_or(""));
-    let tell = bytes_of(fields.next().unwrap_or(""));
-    let notice = bytes_of(fields.next().unwrap_or(""));
-    let view = view_of(masks.as_slice(), waiting.as_slice());
-    match decided(&tables, &view, pipe.as_slice(), message.as_slice()) {
-        Some(decision) => shows(
-            &decision,
-            command.as_slice(),
-            answer.as_slice(),
-            tell.as_slice(),
-            notice.as_slice(),
-        ),
+    let given = [
+        next_of(&mut fields),
+        next_of(&mut fields),
+        next_of(&mut fields),
+        next_of(&mut fields),
+        next_of(&mut fields),
+    ];
+    let row = [
+        next_of(&mut fields),
+        next_of(&mut fields),
+        next_of(&mut fields),
+        next_of(&mut fields),
+    ];
+    match &decision_of(&given) {
+        Some(decision) => shows(&row, decision),
         None => false,
     }
+}
+
+/// The row of this line holds.
+fn holds(rt: &impl Abort, line: &str) {
+    same(rt, &(line, row_holds(line)), &(line, true));
 }
 
 #[test]
 fn commands_are_decided(rt: HostRuntime) {
     for line in ROWS.lines() {
-        assert!(rt; row_holds(line), "{line}");
+        holds(&rt, line);
     }
 }
 
-/// A further pipe gets this number, and is in the tables then. Where it were 70, it is refused.
-fn creates(rt: &impl Abort, tables: &mut Tables, view: &LinkView, pid: u8) {
+/// The host creates a pipe: the number that it gets, or the answer that refuses it.
+fn created(tables: &mut Tables, view: &LinkView) -> (Option<u8>, ArrayVec<u8, 24>) {
     let decision = decide(tables, view, 0x02, 0x01, &[0x10, 0x20, 0x00, 0x04]);
-    match &decision {
+    match decision {
         Decision::Commit {
             command,
             answer,
             ..
         } => {
-            tables.apply(command);
-            assert_eq!(rt; answer.last().copied(), Some(pid));
+            tables.apply(&command);
+            (answer.last().copied(), ArrayVec::new())
         }
-        Decision::Answer(answer) => {
-            assert_eq!(rt; (pid, answer.as_slice()), (0x70, [0x84].as_slice()));
-        }
-        Decision::Ask { .. } => panic!(rt; "a host is asked"),
+        Decision::Answer(answer) => (None, answer),
+        Decision::Ask { .. } => (None, ArrayVec::new()),
     }
+}
+
+/// A further pipe gets this number, and is in the tables then.
+fn creates(rt: &impl Abort, tables: &mut Tables, view: &LinkView, pid: u8) {
+    same(rt, &created(tables, view).0, &Some(pid));
+}
+
+/// A further pipe is refused.
+fn refuses(rt: &impl Abort, tables: &mut Tables, view: &LinkView) {
+    let (pid, answer) = created(tables, view);
+    same(rt, &pid, &None);
+    same_bytes(rt, answer.as_slice(), &[0x84]);
 }
 
 #[test]
@@ -198,7 +238,8 @@ fn the_111th_pipe_is_refused(rt: HostRuntime) {
     let mut tables = Tables::new();
     told(&mut tables, &[0x04, 0x02, 0x01, 0x01]);
     let view = view_of(&[0x04], &[]);
-    for pid in 0x02..0x71u8 {
+    for pid in 0x02..0x70u8 {
         creates(&rt, &mut tables, &view, pid);
     }
+    refuses(&rt, &mut tables, &view);
 }

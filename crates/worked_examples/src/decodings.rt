@@ -1,4 +1,8 @@
-//! Worked records.
+//! Records that are decoded byte by byte and many bytes at once. What the program prints for a record is shown by the table of cases,
+//! `examples/cases.txt`.
+ghost use Rattle.std.specs.Prelude.{◌<◌};
+
+use crate::shown::{same, same_bytes};
 use std::process::Abort;
 use swp_decode::{Decoder, Text};
 
@@ -9,14 +13,18 @@ const RECORD: [u8; 40] = [
     0x40, 0x54, 0x54, 0x54, 0x54, 0x54, 0x54, 0x54,
 ];
 
+/// One byte more of a record that gives few lines.
+fn step(rt: &impl Abort, decoder: &mut Decoder, text: &mut Text, byte: u8) {
+    assert!(rt; decoder.count < Decoder::MAX_BYTES && text.len() < 256);
+    decoder.step(byte, text);
+}
+
 /// The lines of a record that gives few.
 fn decoded(rt: &impl Abort, record: &[u8]) -> Text {
     let mut decoder = Decoder::new();
     let mut text = Text::new();
     for byte in record {
-        assert!(rt; decoder.count < Decoder::MAX_BYTES);
-        assert!(rt; text.len() < 256);
-        decoder.step(*byte, &mut text);
+        step(rt, &mut decoder, &mut text, *byte);
     }
     text
 }
@@ -27,15 +35,12 @@ fn decoded_by_many(rt: &impl Abort, record: &[u8]) -> Text {
     let mut text = Text::new();
     let mut left = record;
     'many: while let Some((many, _)) = left.split_first_chunk::<64>() {
-        assert!(rt; decoder.count <= Decoder::MAX_BYTES - 64);
-        assert!(rt; text.len() < 256);
+        assert!(rt; decoder.count <= Decoder::MAX_BYTES - 64 && text.len() < 256);
         let read = decoder.step_many(many, &mut text);
         left = &left[read..];
     }
     for byte in left {
-        assert!(rt; decoder.count < Decoder::MAX_BYTES);
-        assert!(rt; text.len() < 256);
-        decoder.step(*byte, &mut text);
+        step(rt, &mut decoder, &mut text, *byte);
     }
     text
 }
@@ -59,68 +64,50 @@ fn placed(s1: usize, s2: usize) -> [u8; 192] {
     record
 }
 
-/// The record gives these lines.
-fn gives(rt: &impl Abort, record: &[u8], lines: &str) {
-    assert_eq!(rt; decoded(rt, record).as_slice(), lines.as_bytes());
-}
-
 /// Many bytes at once, the record gives the lines that it gives byte by byte. How long these are is told.
 fn gives_the_same(rt: &impl Abort, record: &[u8]) -> usize {
     let text = decoded_by_many(rt, record);
-    assert_eq!(rt; text.as_slice(), decoded(rt, record).as_slice());
+    same_bytes(rt, text.as_slice(), decoded(rt, record).as_slice());
     text.len()
 }
 
-#[test]
-fn frame_is_decoded(rt: HostRuntime) {
-    gives(&rt, &RECORD, "s1 0 C1 rr 1\n");
+/// The record whose bits begin at these places gives the same, and more than one line.
+fn both_are_decoded(rt: &impl Abort, s1: usize, s2: usize) {
+    let len = gives_the_same(rt, &placed(s1, s2));
+    same(rt, &(s1, s2, len > 20), &(s1, s2, true));
 }
 
-#[test]
-fn invalid_byte_breaks_a_frame(rt: HostRuntime) {
-    let mut record = RECORD;
-    record[11] = 0x7F;
-    gives(&rt, &record, "s1 0 broken\n");
-}
-
-#[test]
-fn part_of_a_frame_gives_nothing(rt: HostRuntime) {
-    gives(&rt, &RECORD[..20], "");
-}
-
-#[test]
-fn both_wires_are_decoded(rt: HostRuntime) {
-    // The same bits on both wires; the first 0 is only read in.
-    let mut record = RECORD;
-    for byte in record.iter_mut() {
-        if *byte == 0x54 {
-            *byte = 0xFC;
-        }
-    }
-    gives(&rt, &record[1..], "s1 0 C1 rr 1\ns2 0 C1 rr 1\n");
+/// The bits begin at this place on one wire, and there or later on the other.
+fn marks_are_decoded(rt: &impl Abort, place: u8) {
+    let place = usize::from(place);
+    both_are_decoded(rt, place, place);
+    both_are_decoded(rt, place, place + 5);
+    both_are_decoded(rt, place + 5, place);
+    both_are_decoded(rt, place, place + 64);
+    both_are_decoded(rt, place + 64, place);
 }
 
 #[test]
 fn marks_at_each_place_of_a_word_are_decoded(rt: HostRuntime) {
-    for place in 0..64 {
-        for later in [0, 5, 64] {
-            for record in [placed(place, place + later), placed(place + later, place)] {
-                assert!(rt; gives_the_same(&rt, &record) > 20);
-            }
-        }
+    for place in 0..64u8 {
+        marks_are_decoded(&rt, place);
     }
+}
+
+/// A record with this byte at a place gives the same.
+fn odd_byte_gives_the_same(rt: &impl Abort, place: usize, byte: u8)
+    requires { place < 192 }
+{
+    let mut record = placed(64, 69);
+    record[place] = byte;
+    let _len = gives_the_same(rt, &record);
 }
 
 #[test]
 fn many_bytes_are_decoded_as_each_is(rt: HostRuntime) {
     let text = decoded_by_many(&rt, &placed(64, 64));
-    assert_eq!(rt;
-        text.as_slice(),
-        b"s1 64 C1 rr 1\ns2 64 C1 rr 1\n".as_slice()
-    );
-    for (place, byte) in [(75, 0x7F), (83, 0x55), (191, 0x00)] {
-        let mut record = placed(64, 69);
-        record[place] = byte;
-        let _len = gives_the_same(&rt, &record);
-    }
+    same_bytes(&rt, text.as_slice(), b"s1 64 C1 rr 1\ns2 64 C1 rr 1\n");
+    odd_byte_gives_the_same(&rt, 75, 0x7F);
+    odd_byte_gives_the_same(&rt, 83, 0x55);
+    odd_byte_gives_the_same(&rt, 191, 0x00);
 }

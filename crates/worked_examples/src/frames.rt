@@ -1,4 +1,6 @@
 //! Worked frames.
+use crate::shown::{same, same_bytes};
+use arrayvec::ArrayVec;
 use std::process::Abort;
 use swp_base::{FrameFault, Lpdu};
 use swp_frame::{Deframer, Fed, FrameBits, write_frame};
@@ -15,34 +17,29 @@ fn last_of(bits: &[u8]) -> Fed {
 
 /// The last of these bits gives this to a new deframer.
 fn gives(rt: &impl Abort, bits: &[u8], fed: Fed) {
-    assert_eq!(rt; last_of(bits), fed);
+    same(rt, &last_of(bits), &fed);
 }
 
-fn is_spelled(frame: &FrameBits, bits: &[u8]) -> bool {
-    let spelled = frame.bits.as_slice();
-    spelled.len() == bits.len()
-        && spelled
-            .iter()
-            .zip(bits)
-            .all(|(bit, digit)| *bit == (*digit == b'1'))
+/// The bits of a frame, each a `0` or a `1`.
+fn digits_of(frame: &FrameBits) -> ArrayVec<u8, 336> {
+    let mut digits = ArrayVec::new();
+    for bit in frame.bits.as_slice() {
+        let _ = digits.try_push(if *bit { b'1' } else { b'0' });
+    }
+    digits
+}
+
+/// The frame of this LPDU is spelled by these bits.
+fn is_spelled(rt: &impl Abort, lpdu: &Lpdu, bits: &[u8]) {
+    same_bytes(rt, digits_of(&write_frame(lpdu)).as_slice(), bits);
 }
 
 #[test]
 fn frames_are_spelled(rt: HostRuntime) {
-    let e6 = Lpdu::new(&[0xE6]);
-    assert!(rt;
-        is_spelled(
-            &write_frame(&e6),
-            b"01111110111001101000001111100011101111111"
-        )
-    );
-    let dd = Lpdu::new(&[0xDD]);
-    assert!(rt;
-        is_spelled(
-            &write_frame(&dd),
-            b"01111110110111010000010011011111001111111"
-        )
-    );
+    let e6 = b"01111110111001101000001111100011101111111";
+    let dd = b"01111110110111010000010011011111001111111";
+    is_spelled(&rt, &Lpdu::new(&[0xE6]), e6);
+    is_spelled(&rt, &Lpdu::new(&[0xDD]), dd);
 }
 
 #[test]
@@ -74,13 +71,14 @@ fn word_tells_its_marks_and_stuffed_zeros(rt: HostRuntime) {
     let second = deframer.word(0xE000_0000_0000_0000);
     deframer.feed_part(second.part(0, 2));
     let end = deframer.feed(true);
-    assert_eq!(rt;
-        [first.marks, first.put_in, second.marks],
-        [1 << 56, 1 << 50, 1 << 61]
+    same(
+        &rt,
+        &[first.marks, first.put_in, second.marks],
+        &[1 << 56, 1 << 50, 1 << 61],
     );
-    assert!(rt; before_start);
+    same(&rt, &before_start, &true);
     let alignment = Fed::Refused(FrameFault::Alignment { bits: 50 });
-    assert_eq!(rt; [start, end], [Fed::Nothing, alignment]);
+    same(&rt, &[start, end], &[Fed::Nothing, alignment]);
 }
 
 #[test]
@@ -93,42 +91,47 @@ fn last_stuffed_zero_may_be_absent(rt: HostRuntime) {
     );
 }
 
+/// These bits are refused so by a new deframer.
+fn are_refused(rt: &impl Abort, bits: &[u8], fault: FrameFault) {
+    gives(rt, bits, Fed::Refused(fault));
+}
+
 #[test]
 fn faulty_frames_are_refused(rt: HostRuntime) {
+    let (want, got) = (0x1E0F, 0);
     // In the first of them the end shares a 0 with the start.
-    let rows: [(&[u8], FrameFault); 4] = [
-        (b"011111101111111", FrameFault::Length { bits: 0 }),
-        (
-            b"0111111000000000000000000000000001111111",
-            FrameFault::Crc {
-                want: 0x1E0F,
-                got: 0,
-            },
-        ),
-        (
-            b"01111110000000000000000000000000001111111",
-            FrameFault::Alignment { bits: 25 },
-        ),
-        (b"011111100001111110", FrameFault::Broken),
-    ];
-    for (bits, fault) in rows {
-        gives(&rt, bits, Fed::Refused(fault));
-    }
+    are_refused(&rt, b"011111101111111", FrameFault::Length { bits: 0 });
+    are_refused(
+        &rt,
+        b"0111111000000000000000000000000001111111",
+        FrameFault::Crc { want, got },
+    );
+    are_refused(
+        &rt,
+        b"01111110000000000000000000000000001111111",
+        FrameFault::Alignment { bits: 25 },
+    );
+    are_refused(&rt, b"011111100001111110", FrameFault::Broken);
     gives(&rt, b"01111111", Fed::Nothing);
+}
+
+/// Each of these bits gives nothing.
+fn feed_nothing(rt: &impl Abort, deframer: &mut Deframer, bits: &[u8]) {
+    for bit in bits {
+        same(rt, &deframer.feed(*bit == b'1'), &Fed::Nothing);
+    }
 }
 
 /// A break gives this.
 fn break_gives(rt: &impl Abort, deframer: &mut Deframer, fed: Fed) {
-    assert_eq!(rt; deframer.break_off(), fed);
+    same(rt, &deframer.break_off(), &fed);
 }
 
 #[test]
 fn break_refuses_an_open_frame_alone(rt: HostRuntime) {
     let mut deframer = Deframer::new();
     break_gives(&rt, &mut deframer, Fed::Nothing);
-    for bit in b"1111110" {
-        assert_eq!(rt; deframer.feed(*bit == b'1'), Fed::Nothing);
-    }
+    feed_nothing(&rt, &mut deframer, b"1111110");
     break_gives(&rt, &mut deframer, Fed::Refused(FrameFault::Broken));
     break_gives(&rt, &mut deframer, Fed::Nothing);
 }

@@ -2,9 +2,9 @@
 ghost use Rattle.std.specs.Prelude.{◌≡◌, length};
 
 use crate::memories::memory;
+use crate::shown::same;
 use nv_journal::{Journal, JournalFault};
 use std::process::Abort;
-use std::test::Fail;
 use swp_base::MemNv;
 
 /// What the journal of a memory says: how many records were written, its version, and the bytes that are left.
@@ -21,11 +21,11 @@ fn found(nv: MemNv) -> Result<(u32, u8, u32), JournalFault>
 fn finds(rt: &impl Abort, nv: MemNv, wanted: Result<(u32, u8, u32), JournalFault>)
     requires { length nv.content ≡ 65536 }
 {
-    assert_eq!(rt; found(nv), wanted);
+    same(rt, &found(nv), &wanted);
 }
 
 #[test]
-fn a_start_finds_what_the_image_says(rt: HostRuntime) -> Result<(), Fail> {
+fn a_start_finds_what_the_image_says(rt: HostRuntime) {
     let alloc = rt.alloc();
     // version 01: a sync identifier and an opened pipe, the gate at 24 closed
     let old: [u8; 25] = [
@@ -47,11 +47,10 @@ fn a_start_finds_what_the_image_says(rt: HostRuntime) -> Result<(), Fail> {
     let version = JournalFault::UnknownFormat { version: 7 };
     let length = JournalFault::BadRecord { at: 24 };
     let position = JournalFault::BadRecord { at: 20 };
-    finds(&rt, memory(alloc, &[])?, Ok((0, 2, 32_756)));
-    finds(&rt, memory(alloc, &old)?, Ok((2, 1, 32_744)));
-    finds(&rt, memory(alloc, &unknown)?, Err(version));
-    finds(&rt, memory(alloc, &long)?, Err(length));
-    finds(&rt, memory(alloc, &new)?, Ok((2, 2, 32_740)));
-    finds(&rt, memory(alloc, &moved)?, Err(position));
-    Ok(())
+    finds(&rt, memory(&rt, alloc, &[]), Ok((0, 2, 32_756)));
+    finds(&rt, memory(&rt, alloc, &old), Ok((2, 1, 32_744)));
+    finds(&rt, memory(&rt, alloc, &unknown), Err(version));
+    finds(&rt, memory(&rt, alloc, &long), Err(length));
+    finds(&rt, memory(&rt, alloc, &new), Ok((2, 2, 32_740)));
+    finds(&rt, memory(&rt, alloc, &moved), Err(position));
 }

@@ -3,9 +3,9 @@ ghost use Rattle.std.specs.Prelude.{◌≡◌, length, IsTrue};
 ghost use Rattle.nv_journal.specs.Kept.{IsGate};
 
 use crate::memories::{IMAGE, memory};
+use crate::shown::{same, same_bytes};
 use nv_journal::{Journal, JournalFault};
 use std::process::Abort;
-use std::test::Fail;
 use swp_base::MemNv;
 
 /// The commands of `IMAGE` in a bank of version 02.
@@ -35,7 +35,7 @@ fn reads(rt: &impl Abort, journal: &mut Journal<MemNv>, at: u32, wanted: &[u8]) 
     let Ok(Some((body, next))) = journal.body(at) else {
         panic!(rt; "no record is there");
     };
-    assert_eq!(rt; body.as_slice(), wanted);
+    same_bytes(rt, body.as_slice(), wanted);
     next
 }
 
@@ -60,31 +60,29 @@ fn has(rt: &impl Abort, nv: MemNv, records: &[(u32, [u8; 4])])
     let mut journal = peeked(rt, nv);
     let mut at = journal.first();
     for (place, wanted) in records {
-        assert_eq!(rt; at, *place);
+        same(rt, &at, place);
         at = reads(rt, &mut journal, at, wanted);
     }
-    assert_eq!(rt; behind(&mut journal, at), Ok(None));
+    same(rt, &behind(&mut journal, at), &Ok(None));
 }
 
 #[test]
-fn records_are_read_at_their_places(rt: HostRuntime) -> Result<(), Fail> {
+fn records_are_read_at_their_places(rt: HostRuntime) {
     let alloc = rt.alloc();
     let old = [(12, [6, 2, 0x1A, 0x2B]), (18, [4, 2, 1, 1])];
     let new = [(12, [6, 2, 0x1A, 0x2B]), (20, [4, 2, 1, 1])];
-    has(&rt, memory(alloc, &[])?, &[]);
-    has(&rt, memory(alloc, &IMAGE)?, &old);
-    has(&rt, memory(alloc, &NEW_IMAGE)?, &new);
-    Ok(())
+    has(&rt, memory(&rt, alloc, &[]), &[]);
+    has(&rt, memory(&rt, alloc, &IMAGE), &old);
+    has(&rt, memory(&rt, alloc, &NEW_IMAGE), &new);
 }
 
 #[test]
-fn a_record_that_could_not_be_read_is_read_the_next_time(rt: HostRuntime) -> Result<(), Fail> {
-    let mut nv = memory(rt.alloc(), &NEW_IMAGE)?;
+fn a_record_that_could_not_be_read_is_read_the_next_time(rt: HostRuntime) {
+    let mut nv = memory(&rt, rt.alloc(), &NEW_IMAGE);
     // The heads of both banks and a piece of the first one are read, and then the record.
     nv.arm_read(4);
     let mut journal = peeked(&rt, nv);
     let at = journal.first();
     let places = [behind(&mut journal, at), behind(&mut journal, at)];
-    assert_eq!(rt; places, [Err(JournalFault::NvFault), Ok(Some(20))]);
-    Ok(())
+    same(&rt, &places, &[Err(JournalFault::NvFault), Ok(Some(20))]);
 }

@@ -54,6 +54,8 @@ mod runs;
 #[cfg(test)]
 mod shdlc_ends;
 #[cfg(test)]
+mod shown;
+#[cfg(test)]
 mod tables;
 #[cfg(test)]
 mod texts;
@@ -61,5 +63,3 @@ mod texts;
 mod units;
 #[cfg(test)]
 mod whitelists;
-#[cfg(test)]
-mod worlds;

@@ -4,7 +4,7 @@ ghost use Rattle.swp_frame.specs.Signal.{symbol_of};
 ghost use Rattle.swp_frame.specs.Verdicts.{answers_after};
 ghost use Rattle.worked_examples.specs.FirstFrames.{first_said};
 
-use std::test::Fail;
+use crate::shown::same;
 use swp_base::{Control, Kind, Lpdu};
 use swp_frame::{Deframer, Fed, write_frame};
 use swp_lpdu::read_lpdu;
@@ -23,14 +23,13 @@ pub fn first_frame(bits: &[bool]) -> Option<Control>
 }
 
 #[test]
-fn the_first_frame_is_found(rt: HostRuntime) -> Result<(), Fail> {
-    let frame = write_frame(&Lpdu::from_bytes(&[0xC1]).ok_or("short")?);
+fn the_first_frame_is_found(rt: HostRuntime) {
+    let frame = write_frame(&Lpdu::new(&[0xC1]));
     let bits = frame.bits.as_slice();
     let receive_ready = Control::S {
         kind: Kind::Rr,
         nr: 1,
     };
-    assert_eq!(rt; first_frame(bits), Some(receive_ready));
-    assert_eq!(rt; first_frame(&bits[..bits.len() - 1]), None);
-    Ok(())
+    same(&rt, &first_frame(bits), &Some(receive_ready));
+    same(&rt, &first_frame(&bits[..bits.len() - 1]), &None);
 }

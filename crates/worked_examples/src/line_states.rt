@@ -1,3 +1,4 @@
+use crate::shown::same;
 use swp_line::*;
 
 /// The state of a line behind one more byte of its record.
@@ -19,14 +20,15 @@ fn states_over_a_record(rt: HostRuntime) {
     ];
     let deactivated = LineState::Deactivated;
     let suspended = LineState::Suspended;
-    assert_eq!(rt;
-        states,
-        [
+    same(
+        &rt,
+        &states,
+        &[
             deactivated,
             LineState::Active,
             suspended,
             suspended,
-            deactivated
-        ]
+            deactivated,
+        ],
     );
 }

@@ -3,33 +3,39 @@ ghost use Rattle.std.specs.Prelude.{◌<◌, length};
 
 use crate::nodes::{Form, Message, NOTHING, Node, Told};
 use crate::relays::Relay;
+use crate::shown::{same, same_bytes};
 use link_end::{LinkReport, SendRefused};
 use shdlc_core::LinkState;
+use std::alloc::Global;
 use std::process::Abort;
-use swp_base::{Cause, FrameFault, Lpdu, NoMemory, Role};
+use swp_base::{Cause, FrameFault, Lpdu, Role};
 
 /// The LPDU of these bytes.
 fn lpdu(rt: &impl Abort, bytes: &[u8]) -> Lpdu {
-    match Lpdu::from_bytes(bytes) {
-        Some(lpdu) => lpdu,
-        None => panic!(rt; "no LPDU has these bytes"),
+    Lpdu::from_bytes(bytes).expect(rt, "an LPDU has these bytes")
+}
+
+/// These are the bytes of a frame, or none where they are empty.
+fn has_bytes(rt: &impl Abort, frame: &Option<Lpdu>, bytes: &[u8]) {
+    match frame {
+        Some(lpdu) => same_bytes(rt, lpdu.bytes(), bytes),
+        None => same_bytes(rt, &[], bytes),
     }
 }
 
 /// The end sends this frame next, or nothing where it is empty.
 fn sends(rt: &impl Abort, node: &mut Node, frame: &[u8]) {
-    let sent = node.next_out();
-    let bytes = match &sent {
-        Some(out) => out.bytes(),
-        None => &[],
-    };
-    assert_eq!(rt; bytes, frame);
+    has_bytes(rt, &node.next_out(), frame);
 }
 
 /// The end takes a frame, tells this of it, and sends one frame then, or nothing where it is empty.
 fn takes(rt: &impl Abort, node: &mut Node, frame: &[u8], report: LinkReport, reply: &[u8]) {
     let told = node.take(rt, Form::Lpdus, &lpdu(rt, frame));
-    assert_eq!(rt; (told.report, told.message.is_some()), (report, report.got));
+    same(
+        rt,
+        &(told.report, told.message.is_some()),
+        &(report, report.got),
+    );
     sends(rt, node, reply);
     sends(rt, node, &[]);
 }
@@ -51,14 +57,14 @@ fn ends(rt: &impl Abort, node: &mut Node, frame: &[u8]) {
         ..NOTHING
     };
     takes(rt, node, frame, over, &[]);
-    assert!(rt; node.state() == LinkState::Down);
+    same(rt, &node.state(), &LinkState::Down);
 }
 
 /// The end is given a message on pipe 01 to send, and takes it or refuses it so.
 fn offers(rt: &impl Abort, node: &mut Node, message: &[u8], answer: Result<(), SendRefused>)
     requires { 0 < length message.now }
 {
-    assert_eq!(rt; node.send(1, message), answer);
+    same(rt, &node.send(1, message), &answer);
 }
 
 /// What a row of frames did at the end that they came to.
@@ -112,6 +118,12 @@ fn deliver(rt: &impl Abort, form: Form, from: &mut Node, to: &mut Node) -> Seen 
     seen
 }
 
+/// Both ends are in this state.
+fn are(rt: &impl Abort, clf: &Node, uicc: &Node, state: LinkState) {
+    same(rt, &clf.state(), &state);
+    same(rt, &uicc.state(), &state);
+}
+
 /// Two ends become active, with the sync identifier 0001 and low power.
 fn become_active(rt: &impl Abort, form: Form, clf: &mut Node, uicc: &mut Node) {
     let _started = clf.activate(rt, 0);
@@ -120,11 +132,12 @@ fn become_active(rt: &impl Abort, form: Form, clf: &mut Node, uicc: &mut Node) {
     let asked = deliver(rt, form, uicc, clf);
     let powered = deliver(rt, form, clf, uicc);
     let ready = deliver(rt, form, uicc, clf);
-    assert_eq!(rt;
-        (asked.sync, powered.became_active, ready.became_active),
-        (Some(1), true, true)
+    same(
+        rt,
+        &(asked.sync, powered.became_active, ready.became_active),
+        &(Some(1), true, true),
     );
-    assert_eq!(rt; [clf.state(), uicc.state()], [LinkState::Down; 2]);
+    are(rt, clf, uicc, LinkState::Down);
 }
 
 /// A session begins between two ends that are active.
@@ -132,11 +145,12 @@ fn begin_session(rt: &impl Abort, form: Form, clf: &mut Node, uicc: &mut Node) {
     let reset = clf.reset(rt, None);
     let heard = deliver(rt, form, clf, uicc);
     let accepted = deliver(rt, form, uicc, clf);
-    assert_eq!(rt;
-        (reset, heard.began, accepted.began),
-        (Ok(NOTHING), true, true)
+    same(
+        rt,
+        &(reset, heard.began, accepted.began),
+        &(Ok(NOTHING), true, true),
     );
-    assert_eq!(rt; [clf.state(), uicc.state()], [LinkState::Up; 2]);
+    are(rt, clf, uicc, LinkState::Up);
 }
 
 /// A message of one end comes to the other, whose answer acknowledges it.
@@ -151,7 +165,18 @@ fn exchange(rt: &impl Abort, form: Form, from: &mut Node, to: &mut Node, pipe: u
     let front = if count > 1 { [0x42, 0x42] } else { [0x42, 0] };
     let len = count as u32;
     let message = Message { pipe, len, front };
-    assert_eq!(rt; (sent, came.last, back.acked), (Ok(()), Some(message), 1));
+    same(
+        rt,
+        &(sent, came.last, back.acked),
+        &(Ok(()), Some(message), 1),
+    );
+}
+
+/// An end is deactivated, which ends its session. Then it takes no message, and sends nothing.
+fn stops(rt: &impl Abort, node: &mut Node) {
+    same(rt, &node.deactivate(rt).ended, &Some(Cause::Act));
+    offers(rt, node, &[3], Err(SendRefused::NotUp));
+    sends(rt, node, &[]);
 }
 
 /// Two ends become active, exchange messages in this form, and end.
@@ -161,27 +186,27 @@ fn connect_and_exchange(rt: &impl Abort, form: Form, clf: &mut Node, uicc: &mut 
     exchange(rt, form, clf, uicc, 1, 60);
     exchange(rt, form, uicc, clf, 111, 1);
     exchange(rt, form, uicc, clf, 0, 29);
-    let ended = [clf.deactivate(rt).ended, uicc.deactivate(rt).ended];
-    let refused = clf.send(1, &[3]);
-    assert_eq!(rt; ended, [Some(Cause::Act); 2]);
-    assert_eq!(rt; refused, Err(SendRefused::NotUp));
-    sends(rt, clf, &[]);
-    sends(rt, uicc, &[]);
+    stops(rt, clf);
+    stops(rt, uicc);
+}
+
+/// Two new ends become active, exchange messages in this form, and end.
+fn exchange_in(rt: &impl Abort, alloc: Global, form: Form) {
+    let mut clf = Node::make(rt, alloc, Role::Clf);
+    let mut uicc = Node::make(rt, alloc, Role::Uicc);
+    connect_and_exchange(rt, form, &mut clf, &mut uicc);
 }
 
 #[test]
-fn two_ends_exchange_messages_in_each_form(rt: HostRuntime) -> Result<(), NoMemory> {
-    for form in [Form::Lpdus, Form::Periods, Form::Bytes] {
-        let mut clf = Node::make(rt.alloc(), Role::Clf)?;
-        let mut uicc = Node::make(rt.alloc(), Role::Uicc)?;
-        connect_and_exchange(&rt, form, &mut clf, &mut uicc);
-    }
-    Ok(())
+fn two_ends_exchange_messages_in_each_form(rt: HostRuntime) {
+    exchange_in(&rt, rt.alloc(), Form::Lpdus);
+    exchange_in(&rt, rt.alloc(), Form::Periods);
+    exchange_in(&rt, rt.alloc(), Form::Bytes);
 }
 
 #[test]
-fn a_bare_end_takes_whatever_comes(rt: HostRuntime) -> Result<(), NoMemory> {
-    let mut node = Node::make(rt.alloc(), Role::Bare)?;
+fn a_bare_end_takes_whatever_comes(rt: HostRuntime) {
+    let mut node = Node::make(&rt, rt.alloc(), Role::Bare);
     let got = LinkReport {
         got: true,
         ..NOTHING
@@ -203,7 +228,6 @@ fn a_bare_end_takes_whatever_comes(rt: HostRuntime) -> Result<(), NoMemory> {
     answers(&rt, &mut node, &[0x88, 0xF0, 0x03], &[0xC2]);
     ignores(&rt, &mut node, &[0xF9, 0x00, 0x00]);
     takes(&rt, &mut node, &[0xF9, 0x07], begins, &[0xE6]);
-    Ok(())
 }
 
 /// What is wrong with the frame that these bytes of a byte link end.
@@ -216,16 +240,15 @@ fn refused_at_last(rt: &impl Abort, node: &mut Node, bytes: &[u8]) -> Option<Fra
 }
 
 #[test]
-fn a_broken_frame_is_told(rt: HostRuntime) -> Result<(), NoMemory> {
-    let mut node = Node::make(rt.alloc(), Role::Bare)?;
+fn a_broken_frame_is_told(rt: HostRuntime) {
+    let mut node = Node::make(&rt, rt.alloc(), Role::Bare);
     let refused = refused_at_last(&rt, &mut node, &[0x00, 0x01, 0xC1, 0xD7, 0x63]);
     let fault = FrameFault::Crc {
         want: 0xD762,
         got: 0xD763,
     };
-    assert_eq!(rt; refused, Some(fault));
+    same(&rt, &refused, &Some(fault));
     sends(&rt, &mut node, &[]);
-    Ok(())
 }
 
 /// Two ends send what they have to each other, so many times in turn: how many frames came to the second one, the length of the
@@ -246,9 +269,9 @@ fn take_turns(rt: &impl Abort, node: &mut Node, other: &mut Node, turns: u8) -> 
 }
 
 #[test]
-fn message_of_4096_bytes(rt: HostRuntime) -> Result<(), NoMemory> {
-    let mut node = Node::make(rt.alloc(), Role::Bare)?;
-    let mut other = Node::make(rt.alloc(), Role::Bare)?;
+fn message_of_4096_bytes(rt: HostRuntime) {
+    let mut node = Node::make(&rt, rt.alloc(), Role::Bare);
+    let mut other = Node::make(&rt, rt.alloc(), Role::Bare);
     let bytes = [0x42; 4097];
     let too_long = SendRefused::TooLong { len: 4097 };
     offers(&rt, &mut node, &bytes, Err(too_long));
@@ -256,39 +279,28 @@ fn message_of_4096_bytes(rt: HostRuntime) -> Result<(), NoMemory> {
     let full = SendRefused::Full { need: 1, spare: 0 };
     offers(&rt, &mut node, &[3], Err(full));
     let came = take_turns(&rt, &mut node, &mut other, 37);
-    assert_eq!(rt; came, (147, 4096, 1));
+    same(&rt, &came, &(147, 4096, 1));
     offers(&rt, &mut node, &[3], Ok(()));
     let full = SendRefused::Full {
         need: 128,
         spare: 127,
     };
     offers(&rt, &mut node, &bytes[..4096], Err(full));
-    Ok(())
 }
 
 #[test]
-fn a_header_alone_is_one_fragment(rt: HostRuntime) -> Result<(), NoMemory> {
-    let mut node = Node::make(rt.alloc(), Role::Bare)?;
-    offers(&rt, &mut node, &[3], Ok(()));
-    sends(&rt, &mut node, &[0x80, 0x81, 0x03]);
-    sends(&rt, &mut node, &[]);
-    Ok(())
-}
-
-#[test]
-fn a_fifth_message_under_way_ends_the_session(rt: HostRuntime) -> Result<(), NoMemory> {
-    let mut node = Node::make(rt.alloc(), Role::Bare)?;
+fn a_fifth_message_under_way_ends_the_session(rt: HostRuntime) {
+    let mut node = Node::make(&rt, rt.alloc(), Role::Bare);
     answers(&rt, &mut node, &[0x80, 0x02, 0x41], &[0xC1]);
     answers(&rt, &mut node, &[0x88, 0x03, 0x41], &[0xC2]);
     answers(&rt, &mut node, &[0x90, 0x04, 0x41], &[0xC3]);
     answers(&rt, &mut node, &[0x98, 0x05, 0x41], &[0xC4]);
     ends(&rt, &mut node, &[0xA0, 0x06, 0x41]);
-    Ok(())
 }
 
 #[test]
-fn a_message_of_4097_bytes_ends_the_session(rt: HostRuntime) -> Result<(), NoMemory> {
-    let mut node = Node::make(rt.alloc(), Role::Bare)?;
+fn a_message_of_4097_bytes_ends_the_session(rt: HostRuntime) {
+    let mut node = Node::make(&rt, rt.alloc(), Role::Bare);
     let mut frame = [0x41; 30];
     frame[1] = 0x02;
     for number in 0..146u8 {
@@ -297,81 +309,48 @@ fn a_message_of_4097_bytes_ends_the_session(rt: HostRuntime) -> Result<(), NoMem
     }
     frame[0] = 0x80 + 8 * 2;
     ends(&rt, &mut node, &frame[..11]);
-    Ok(())
 }
 
 /// At a tick the end gives up after so many tries, or doesn't, and then sends this frame.
-fn ticks(rt: &impl Abort, node: &mut Node, tick: u8, gave_up: Option<u8>, frame: &[u8]) {
-    assert_eq!(rt; node.tick(rt).gave_up, gave_up, "at tick {tick}");
+fn ticks(rt: &impl Abort, node: &mut Node, gave_up: Option<u8>, frame: &[u8]) {
+    same(rt, &node.tick(rt).gave_up, &gave_up);
     sends(rt, node, frame);
 }
 
+/// At so many ticks the end does nothing.
+fn waits(rt: &impl Abort, node: &mut Node, count: u8) {
+    for _tick in 0..count {
+        ticks(rt, node, None, &[]);
+    }
+}
+
 #[test]
-fn an_end_that_is_not_answered_gives_up_after_three_tries(rt: HostRuntime) -> Result<(), NoMemory> {
-    let mut node = Node::make(rt.alloc(), Role::Uicc)?;
+fn an_end_that_is_not_answered_gives_up_after_three_tries(rt: HostRuntime) {
+    let mut node = Node::make(&rt, rt.alloc(), Role::Uicc);
     let _started = node.activate(&rt, 1);
     sends(&rt, &mut node, &[0x61, 0x00, 0x01]);
-    for tick in 1..=40u8 {
-        match tick {
-            10 | 20 => ticks(&rt, &mut node, tick, None, &[0x61, 0x00, 0x01]),
-            30 => ticks(&rt, &mut node, tick, Some(3), &[]),
-            _ => ticks(&rt, &mut node, tick, None, &[]),
-        }
-    }
-    Ok(())
-}
-
-#[test]
-fn a_window_of_one_lets_one_fragment_out(rt: HostRuntime) -> Result<(), NoMemory> {
-    let mut node = Node::make(rt.alloc(), Role::Bare)?;
-    let begins = LinkReport {
-        ended: Some(Cause::Peer),
-        began: true,
-        ..NOTHING
-    };
-    takes(&rt, &mut node, &[0xF9, 0x01, 0x00], begins, &[0xE6]);
-    offers(&rt, &mut node, &[3], Ok(()));
-    offers(&rt, &mut node, &[0x42], Ok(()));
-    sends(&rt, &mut node, &[0x80, 0x81, 0x03]);
-    sends(&rt, &mut node, &[]);
-    let acked = LinkReport {
-        acked: 1,
-        ..NOTHING
-    };
-    takes(&rt, &mut node, &[0xC1], acked, &[0x88, 0x81, 0x42]);
-    Ok(())
-}
-
-#[test]
-fn a_held_end_takes_no_fragments(rt: HostRuntime) -> Result<(), NoMemory> {
-    let mut node = Node::make(rt.alloc(), Role::Bare)?;
-    node.hold(&rt, true);
-    answers(&rt, &mut node, &[0x80, 0x81, 0x03], &[0xD0]);
-    node.hold(&rt, false);
-    sends(&rt, &mut node, &[0xC0]);
-    sends(&rt, &mut node, &[]);
-    Ok(())
+    waits(&rt, &mut node, 9);
+    ticks(&rt, &mut node, None, &[0x61, 0x00, 0x01]);
+    waits(&rt, &mut node, 9);
+    ticks(&rt, &mut node, None, &[0x61, 0x00, 0x01]);
+    waits(&rt, &mut node, 9);
+    ticks(&rt, &mut node, Some(3), &[]);
+    waits(&rt, &mut node, 10);
 }
 
 /// A frame comes to the first end, which answers it, and the second one sends the same frame.
 fn passes_on(rt: &impl Abort, relay: &mut Relay, frame: &[u8]) {
     relay.take(rt, &lpdu(rt, frame));
-    let answered = relay.next_back().is_some();
-    let sent = relay.next_out();
-    let bytes = match &sent {
-        Some(out) => out.bytes(),
-        None => &[],
-    };
-    assert_eq!(rt; (answered, bytes), (true, frame));
+    same(rt, &relay.next_back().is_some(), &true);
+    has_bytes(rt, &relay.next_out(), frame);
 }
 
 #[test]
-fn messages_are_passed_on_in_one_pool(rt: HostRuntime) -> Result<(), NoMemory> {
-    let mut relay = Relay::make(rt.alloc())?;
+fn messages_are_passed_on_in_one_pool(rt: HostRuntime) {
+    let mut relay = Relay::make(&rt, rt.alloc());
     for number in 0..140u8 {
         let come = [0x80 + 8 * (number % 8), 0x81, 0x42, number];
         passes_on(&rt, &mut relay, &come);
         relay.take_back(&rt, &lpdu(&rt, &[0xC0 + (number + 1) % 8]));
     }
-    Ok(())
 }

@@ -1,5 +1,6 @@
 ghost use Rattle.swp_lpdu.specs.Controls.{HasNumbers};
 
+use crate::shown::{same, same_bytes};
 use std::process::Abort;
 use swp_base::{Act, Control, Info, Kind, Lpdu};
 use swp_lpdu::{LpduFault, read_lpdu, write_lpdu};
@@ -11,7 +12,7 @@ fn read(bytes: &[u8]) -> Option<Result<Control, LpduFault>> {
 
 /// These bytes are read as this control.
 fn says(rt: &impl Abort, bytes: &[u8], control: Control) {
-    assert_eq!(rt; read(bytes), Some(Ok(control)));
+    same(rt, &read(bytes), &Some(Ok(control)));
 }
 
 /// These bytes are read as a supervisory frame.
@@ -47,7 +48,7 @@ fn control_bytes_say_what_the_table_says(rt: HostRuntime) {
 
 /// These bytes are refused so.
 fn is_refused(rt: &impl Abort, bytes: &[u8], fault: LpduFault) {
-    assert_eq!(rt; read(bytes), Some(Err(fault)));
+    same(rt, &read(bytes), &Some(Err(fault)));
 }
 
 #[test]
@@ -64,7 +65,7 @@ fn refusals_say_what_is_wrong(rt: HostRuntime) {
 fn is_written(rt: &impl Abort, control: Control, bytes: &[u8])
     requires { HasNumbers control }
 {
-    assert_eq!(rt; write_lpdu(&control).bytes(), bytes);
+    same_bytes(rt, write_lpdu(&control).bytes(), bytes);
     says(rt, bytes, control);
 }
 

@@ -10,7 +10,7 @@ use shdlc_core::LinkState;
 use std::alloc::Global;
 use std::marker::Model;
 use std::process::Abort;
-use swp_base::{Lpdu, NoMemory, Role};
+use swp_base::{Lpdu, Role};
 use swp_frame::write_frame;
 use swp_line::{Period, byte_of};
 
@@ -75,10 +75,10 @@ impl Node {
     ghost use Rattle.std.specs.Prelude.{◌<◌, ◌≤◌, length, IfSome};
 
     /// A node whose end has this role.
-    pub(crate) fn make(alloc: Global, role: Role) -> Result<Node, NoMemory> {
-        let pool = Pool::make(alloc, &[128, 512])?;
-        let end = LinkEnd::make(alloc, role, 0, 1)?;
-        Ok(Node { end, pool })
+    pub(crate) fn make(rt: &impl Abort, alloc: Global, role: Role) -> Node {
+        let pool = Pool::make(alloc, &[128, 512]).expect(rt, "there is memory");
+        let end = LinkEnd::make(alloc, role, 0, 1).expect(rt, "there is memory");
+        Node { end, pool }
     }
 
     /// Takes a frame in one of the three forms.
@@ -176,13 +176,6 @@ impl Node {
         let report = self.end.deactivate(&mut self.pool);
         let _none = fetch(&mut self.end, &mut self.pool);
         report
-    }
-
-    /// Holds the end, or lets it go.
-    pub(crate) fn hold(&mut self, rt: &impl Abort, held: bool) {
-        has_room(rt, &self.end);
-        self.end.hold(held);
-        let _none = fetch(&mut self.end, &mut self.pool);
     }
 
     /// The next frame to be sent.

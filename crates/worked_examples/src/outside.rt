@@ -2,10 +2,10 @@
 ghost use Rattle.std.specs.Prelude.{◌≡◌, ◌+◌, ◌<◌, ◌≤◌, ◌++◌, length, take, IsTrue, IfOk, OnOk, OnErr, ℕ};
 ghost use Rattle.swp_base.specs.Outside.{Rose};
 
+use crate::shown::{same, same_bytes};
 use arrayvec::ArrayVec;
 use std::alloc::Global;
 use std::process::Abort;
-use std::test::Fail;
 use swp_base::{
     Failed, Info, Lpdu, MemNv, MemSink, MemSource, NoMemory, Nv, Sink, Source, SureNv, SureSink,
     SureSource,
@@ -43,29 +43,32 @@ fn read_all<S: Source>(source: &mut S, bytes: &mut Vec<u8>, limit: u32) -> Resul
     Ok(false)
 }
 
+/// A copy of these bytes.
+fn copy_of(rt: &impl Abort, alloc: Global, bytes: &[u8]) -> Vec<u8> {
+    Vec::from_slice(alloc, bytes).expect(rt, "there is memory")
+}
+
+/// The call of this number alone is to fail.
+fn plan_of(rt: &impl Abort, alloc: Global, call: u64) -> Vec<u64> {
+    Vec::from_slice(alloc, &[call]).expect(rt, "there is memory")
+}
+
 /// A source is read, to its end where it says so, and these bytes come.
-fn gives<S: Source>(
-    rt: &impl Abort,
-    alloc: Global,
-    source: &mut S,
-    ended: bool,
-    wanted: &[u8],
-) -> Result<(), NoMemory> {
+fn gives<S: Source>(rt: &impl Abort, alloc: Global, source: &mut S, ended: bool, wanted: &[u8]) {
     let mut bytes = Vec::new(alloc);
-    let came = read_all(source, &mut bytes, 100)?;
-    assert_eq!(rt; (came, bytes.as_slice()), (ended, wanted));
-    Ok(())
+    let came = read_all(source, &mut bytes, 100).ok();
+    same(rt, &(came, bytes.as_slice()), &(Some(ended), wanted));
 }
 
 #[test]
-fn a_source_gives_its_bytes_in_pieces_and_fails_as_planned(rt: HostRuntime) -> Result<(), Fail> {
+fn a_source_gives_its_bytes_in_pieces_and_fails_as_planned(rt: HostRuntime) {
     let alloc = rt.alloc();
-    let mut source = MemSource::new(vec![in alloc; 1, 2, 3, 4, 5]?, vec![in alloc; 2]?, 2);
-    let mut sure = SureSource::new(vec![in alloc; 6, 7, 8, 9, 10, 11]?);
-    gives(&rt, alloc, &mut source, false, &[1, 2])?;
-    gives(&rt, alloc, &mut source, true, &[3, 4, 5])?;
-    gives(&rt, alloc, &mut sure, true, &[6, 7, 8, 9, 10, 11])?;
-    Ok(())
+    let bytes = copy_of(&rt, alloc, &[1, 2, 3, 4, 5]);
+    let mut source = MemSource::new(bytes, plan_of(&rt, alloc, 2), 2);
+    let mut sure = SureSource::new(copy_of(&rt, alloc, &[6, 7, 8, 9, 10, 11]));
+    gives(&rt, alloc, &mut source, false, &[1, 2]);
+    gives(&rt, alloc, &mut source, true, &[3, 4, 5]);
+    gives(&rt, alloc, &mut sure, true, &[6, 7, 8, 9, 10, 11]);
 }
 
 /// The whole piece is written to a sink, or not, and these are the sink's bytes then.
@@ -77,18 +80,17 @@ fn takes(
     wanted: &[u8],
 ) {
     let told = write_all(sink, piece);
-    assert_eq!(rt; (told, sink.bytes()), (answer, wanted));
+    same(rt, &(told, sink.bytes()), &(answer, wanted));
 }
 
 #[test]
-fn a_sink_takes_pieces_and_fails_as_planned(rt: HostRuntime) -> Result<(), Fail> {
+fn a_sink_takes_pieces_and_fails_as_planned(rt: HostRuntime) {
     let alloc = rt.alloc();
-    let mut sink = MemSink::new(vec![in alloc; 9]?, vec![in alloc; 3]?, 1);
+    let mut sink = MemSink::new(copy_of(&rt, alloc, &[9]), plan_of(&rt, alloc, 3), 1);
     takes(&rt, &mut sink, &[1, 2], Ok(()), &[9, 1, 2]);
     takes(&rt, &mut sink, &[3, 4], Err(Failed), &[9, 1, 2]);
     takes(&rt, &mut sink, &[3, 4], Ok(()), &[9, 1, 2, 3, 4]);
-    assert_eq!(rt; write_all(&mut SureSink, &[1, 2, 3]), Ok(()));
-    Ok(())
+    same(&rt, &write_all(&mut SureSink, &[1, 2, 3]), &Ok(()));
 }
 
 /// Writes these bytes at place 1 of a memory of at least 4 bytes, and gives its first four.
@@ -103,58 +105,91 @@ fn first_bytes<N: Nv>(nv: &mut N, bytes: &[u8]) -> (Result<(), Failed>, [u8; 4])
     (written, first)
 }
 
+/// The first four bytes of a memory of four, once these were written at place 1, and whether that went through.
+fn keeps(
+    rt: &impl Abort,
+    nv: &mut MemNv,
+    bytes: &[u8; 3],
+    written: Result<(), Failed>,
+    first: [u8; 4],
+)
+    requires { length nv.old.content ≡ 4 }
+    ensures { length nv.new.content ≡ 4 }
+{
+    same(rt, &first_bytes(nv, bytes), &(written, first));
+}
+
+/// A memory of four bytes.
+fn memory_of_4(rt: &impl Abort, alloc: Global) -> MemNv
+    ensures { length result.content ≡ 4 }
+{
+    MemNv::new(alloc, 4).expect(rt, "there is memory")
+}
+
 #[test]
 fn a_planned_write_of_a_memory_is_torn(rt: HostRuntime) {
-    let mut nv = MemNv::new(rt.alloc(), 4).expect(&rt, "there is memory");
+    let mut nv = memory_of_4(&rt, rt.alloc());
     let mut fill = ArrayVec::new();
     fill.push(0xA5);
     fill.push(0x5A);
     nv.arm(2, fill);
-    for (bytes, want) in [
-        ([1, 2, 3], (Ok(()), [0xFF, 1, 2, 3])),
-        ([4, 5, 6], (Err(Failed), [0xFF, 0xA5, 0x5A, 0xA5])),
-        ([7, 8, 9], (Ok(()), [0xFF, 7, 8, 9])),
-    ] {
-        assert_eq!(rt; nv.size(), 4);
-        assert_eq!(rt; first_bytes(&mut nv, &bytes), want);
-    }
+    keeps(&rt, &mut nv, &[1, 2, 3], Ok(()), [0xFF, 1, 2, 3]);
+    keeps(
+        &rt,
+        &mut nv,
+        &[4, 5, 6],
+        Err(Failed),
+        [0xFF, 0xA5, 0x5A, 0xA5],
+    );
+    keeps(&rt, &mut nv, &[7, 8, 9], Ok(()), [0xFF, 7, 8, 9]);
+}
+
+/// A read of two bytes goes through or fails, and leaves FF in their place.
+fn reads(rt: &impl Abort, nv: &mut MemNv, first: &mut [u8; 2], answer: Result<(), Failed>)
+    requires { length nv.old.content ≡ 4 }
+    ensures { length nv.new.content ≡ 4 }
+{
+    same(rt, &nv.read(1, first), &answer);
+    same_bytes(rt, first, &[0xFF, 0xFF]);
 }
 
 #[test]
 fn a_planned_read_of_a_memory_fails_once(rt: HostRuntime) {
-    let mut nv = MemNv::new(rt.alloc(), 4).expect(&rt, "there is memory");
+    let mut nv = memory_of_4(&rt, rt.alloc());
     nv.arm_read(2);
     let mut first = [0; 2];
-    for want in [Ok(()), Err(Failed), Ok(())] {
-        assert_eq!(rt; nv.size(), 4);
-        assert_eq!(rt; nv.read(1, &mut first), want);
-        assert_eq!(rt; first, [0xFF, 0xFF]);
-    }
+    reads(&rt, &mut nv, &mut first, Ok(()));
+    reads(&rt, &mut nv, &mut first, Err(Failed));
+    reads(&rt, &mut nv, &mut first, Ok(()));
 }
 
 #[test]
 fn a_sure_memory_never_fails(rt: HostRuntime) {
     let mut nv = SureNv::new(rt.alloc(), 4).expect(&rt, "there is memory");
-    assert_eq!(rt; first_bytes(&mut nv, &[1, 2]), (Ok(()), [0xFF, 1, 2, 0xFF]));
+    same(
+        &rt,
+        &first_bytes(&mut nv, &[1, 2]),
+        &(Ok(()), [0xFF, 1, 2, 0xFF]),
+    );
+}
+
+/// Bytes make an LPDU and an information field, or don't.
+fn make_units(rt: &impl Abort, bytes: &[u8], lpdu: bool, info: bool) {
+    let told = (
+        bytes.len(),
+        Lpdu::from_bytes(bytes).is_some(),
+        Info::from_bytes(bytes).is_some(),
+    );
+    same(rt, &told, &(bytes.len(), lpdu, info));
 }
 
 #[test]
 fn units_have_from_one_byte_to_their_longest(rt: HostRuntime) {
-    let bytes = [0xC1; 31];
-    for (len, lpdu, info) in [
-        (0, false, false),
-        (1, true, true),
-        (29, true, true),
-        (30, true, false),
-        (31, false, false),
-    ] {
-        let unit = &bytes[..len];
-        let told = (
-            Lpdu::from_bytes(unit).is_some(),
-            Info::from_bytes(unit).is_some(),
-        );
-        assert_eq!(rt; told, (lpdu, info), "{len} bytes");
-    }
-    assert_eq!(rt; Lpdu::default().bytes(), [0].as_slice());
-    assert_eq!(rt; Info::default().copied(), Info::default());
+    make_units(&rt, &[], false, false);
+    make_units(&rt, &[0xC1], true, true);
+    make_units(&rt, &[0xC1; 29], true, true);
+    make_units(&rt, &[0xC1; 30], true, false);
+    make_units(&rt, &[0xC1; 31], false, false);
+    same_bytes(&rt, Lpdu::default().bytes(), &[0]);
+    same(&rt, &Info::default().copied(), &Info::default());
 }

@@ -1,3 +1,4 @@
+use crate::shown::same;
 use swp_line::*;
 
 #[test]
@@ -17,9 +18,10 @@ fn periods_of_the_table(rt: HostRuntime) {
         period_of(0x7F),
     ];
     let deactivated = Period::Deactivated;
-    assert_eq!(rt;
-        periods,
-        [Some(one_on_s1), Some(one_on_s2), Some(deactivated), None]
+    same(
+        &rt,
+        &periods,
+        &[Some(one_on_s1), Some(one_on_s2), Some(deactivated), None],
     );
-    assert_eq!(rt; byte_of(&Period::ResumeAsked), 0xFF);
+    same(&rt, &byte_of(&Period::ResumeAsked), &0xFF);
 }

@@ -1,6 +1,7 @@
 //! Worked examples of pipes.
 ghost use Rattle.std.specs.Prelude.{◌≡◌};
 
+use crate::shown::same;
 use pipe_table::{PipeRow, PipeTable};
 use std::process::Abort;
 
@@ -19,18 +20,18 @@ fn pipe_of(pid: u8, creator: u8) -> PipeRow
 
 /// The table has so many rows.
 fn has_rows(rt: &impl Abort, table: &PipeTable, many: usize) {
-    assert_eq!(rt; table.rows().len(), many);
+    same(rt, &table.rows().len(), &many);
 }
 
 /// The lowest free pipe but those that are kept is this one.
 fn is_free(rt: &impl Abort, table: &PipeTable, kept: &[u8], pid: Option<u8>) {
-    assert_eq!(rt; table.lowest_free(kept), pid);
+    same(rt, &table.lowest_free(kept), &pid);
 }
 
 /// So many pipes of a gate of a host are opened, but for one pipe.
 fn are_opened(rt: &impl Abort, table: &PipeTable, end: (u8, u8), except: u8, many: u8) {
     let (host, gate) = end;
-    assert_eq!(rt; table.opened_on(host, gate, except), many);
+    same(rt, &table.opened_on(host, gate, except), &many);
 }
 
 #[test]
@@ -43,7 +44,7 @@ fn pipes_are_02_to_6f(rt: HostRuntime) {
     has_rows(&rt, &table, 110);
     is_free(&rt, &table, &[], None);
     let removed = [table.remove(0x33), table.remove(0x33)];
-    assert_eq!(rt; removed, [true, false]);
+    same(&rt, &removed, &[true, false]);
     is_free(&rt, &table, &[], Some(0x33));
     is_free(&rt, &table, &[0x33], None);
 }
@@ -56,9 +57,9 @@ fn rows_are_found_by_pipe_and_host(rt: HostRuntime) {
     }
     has_rows(&rt, &table, 2);
     let found = [table.find(0x05), table.find(0x04)];
-    assert_eq!(rt; found, [Some(pipe_of(0x05, 0x03)), None]);
+    same(&rt, &found, &[Some(pipe_of(0x05, 0x03)), None]);
     let set = [table.set_opened(0x03, true), table.set_opened(0x04, true)];
-    assert_eq!(rt; set, [true, false]);
+    same(&rt, &set, &[true, false]);
     are_opened(&rt, &table, (0x01, 0x05), 0x05, 1);
     are_opened(&rt, &table, (0x01, 0x05), 0x03, 0);
     are_opened(&rt, &table, (0x03, 0x41), 0x05, 1);

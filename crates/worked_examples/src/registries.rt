@@ -2,39 +2,41 @@
 ghost use Rattle.std.specs.Prelude.{IsTrue};
 ghost use Rattle.registry.specs.Values.{is_kept};
 
+use crate::shown::{same, same_bytes};
 use registry::{Access, Registry, SESSION_IDENTITY, WHITELIST, access_of};
 use std::process::Abort;
 
+/// A parameter of a gate may be used so.
+fn allows(rt: &impl Abort, gate: u8, param: u8, access: Access) {
+    same(
+        rt,
+        &(gate, param, access_of(gate, param)),
+        &(gate, param, access),
+    );
+}
+
 #[test]
 fn gates_have_their_parameters(rt: HostRuntime) {
-    for (gate, param, access) in [
-        (0x00, 0x01, Access::ReadWrite),
-        (0x00, 0x02, Access::ReadOnly),
-        (0x00, 0x03, Access::ReadWrite),
-        (0x00, 0x04, Access::ReadOnly),
-        (0x00, 0x05, Access::Unknown),
-        (0x00, 0x00, Access::Unknown),
-        (0x05, 0x00, Access::Unknown),
-        (0x05, 0x01, Access::ReadOnly),
-        (0x05, 0x06, Access::ReadOnly),
-        (0x05, 0x07, Access::Unknown),
-        (0x06, 0x01, Access::ReadWrite),
-        (0x06, 0x02, Access::Unknown),
-        (0x04, 0x01, Access::Unknown),
-    ] {
-        assert_eq!(rt;
-            access_of(gate, param),
-            access,
-            "gate {gate} parameter {param}"
-        );
-    }
+    allows(&rt, 0x00, 0x01, Access::ReadWrite);
+    allows(&rt, 0x00, 0x02, Access::ReadOnly);
+    allows(&rt, 0x00, 0x03, Access::ReadWrite);
+    allows(&rt, 0x00, 0x04, Access::ReadOnly);
+    allows(&rt, 0x00, 0x05, Access::Unknown);
+    allows(&rt, 0x00, 0x00, Access::Unknown);
+    allows(&rt, 0x05, 0x00, Access::Unknown);
+    allows(&rt, 0x05, 0x01, Access::ReadOnly);
+    allows(&rt, 0x05, 0x06, Access::ReadOnly);
+    allows(&rt, 0x05, 0x07, Access::Unknown);
+    allows(&rt, 0x06, 0x01, Access::ReadWrite);
+    allows(&rt, 0x06, 0x02, Access::Unknown);
+    allows(&rt, 0x04, 0x01, Access::Unknown);
 }
 
 /// The registry has this value of a parameter of gate 00.
 fn has(rt: &impl Abort, registry: &Registry, host: u8, param: u8, value: &[u8])
     requires { IsTrue (is_kept host 0 param) }
 {
-    assert_eq!(rt; registry.get(host, 0x00, param).as_slice(), value);
+    same_bytes(rt, registry.get(host, 0x00, param).as_slice(), value);
 }
 
 #[test]
@@ -50,7 +52,7 @@ fn a_value_equal_to_its_default_is_absent(rt: HostRuntime) {
     let set_back = registry.values().len();
     registry.clear_host(0x02);
     let cleared = registry.values().len();
-    assert_eq!(rt; [set, set_back, cleared], [3, 2, 1]);
+    same(&rt, &[set, set_back, cleared], &[3, 2, 1]);
     has(&rt, &registry, 0x02, WHITELIST, &[]);
     has(&rt, &registry, 0x01, WHITELIST, &[0x02, 0x03]);
 }

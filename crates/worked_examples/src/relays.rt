@@ -9,7 +9,7 @@ use link_end::LinkEnd;
 use std::alloc::Global;
 use std::marker::Model;
 use std::process::Abort;
-use swp_base::{Lpdu, NoMemory, Role};
+use swp_base::{Lpdu, Role};
 
 /// A node that passes what comes to one of its ends on to the other. Both are at rest between two calls.
 #[derive(Drop)]
@@ -31,15 +31,15 @@ impl Model for Relay {
 
 impl Relay {
     /// A node with two bare ends.
-    pub(crate) fn make(alloc: Global) -> Result<Relay, NoMemory> {
-        let pool = Pool::make(alloc, &[128, 512, 128, 512])?;
-        let first = LinkEnd::make(alloc, Role::Bare, 0, 1)?;
-        let second = LinkEnd::make(alloc, Role::Bare, 2, 3)?;
-        Ok(Relay {
+    pub(crate) fn make(rt: &impl Abort, alloc: Global) -> Relay {
+        let pool = Pool::make(alloc, &[128, 512, 128, 512]).expect(rt, "there is memory");
+        let first = LinkEnd::make(alloc, Role::Bare, 0, 1).expect(rt, "there is memory");
+        let second = LinkEnd::make(alloc, Role::Bare, 2, 3).expect(rt, "there is memory");
+        Relay {
             first,
             second,
             pool,
-        })
+        }
     }
 
     /// Takes an LPDU at the first end. A message that comes with it goes to the second one.

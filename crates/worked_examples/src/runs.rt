@@ -1,72 +1,93 @@
-//! The worked examples of the program, over sources and sinks in memory.
+//! The worked examples of the program, over sources and sinks in memory. What it prints for a whole schedule or record is shown by
+//! the table of cases, `examples/cases.txt`; here are faults of the outside, pieces, and what is left unread.
 ghost use Rattle.std.specs.Prelude.{◌≡◌, ◌≤◌, ◌⊎◌, ◌∷◌, [], ℕ, length, map, string_bytes, codes, Some, None, IfOk};
 ghost use Rattle.swp_tool.specs.Schedules.{Stop, schedule_of};
 ghost use Rattle.swp_tool.specs.Runs.{status_at};
 ghost use Rattle.swp_tool.specs.Decodings.{most_bytes};
 
 use crate::rows::*;
-use nv_journal::JournalFault;
+use crate::shown::{same, same_bytes};
 use schedule_text::LineFault;
-use std::alloc::{AllocError, Global};
+use std::alloc::Global;
 use std::process::Abort;
-use std::test::Fail;
 use swp_base::{MemNv, MemSink, MemSource, NoMemory, SureNv, SureSink, SureSource};
 use swp_tool::*;
 
-/// What a run ended with, what it wrote, and how many bytes it left unread.
+/// What a run ended with, where it wrote to, and how many bytes it left unread.
 #[derive(Drop)]
 struct Outcome {
     status: Status,
-    written: Vec<u8>,
+    sink: MemSink,
     left: usize,
+}
+
+/// A copy of these bytes.
+fn bytes_of(rt: &impl Abort, alloc: Global, bytes: &[u8]) -> Vec<u8> {
+    Vec::from_slice(alloc, bytes).expect(rt, "there is memory")
+}
+
+/// A copy of these numbers of calls.
+fn calls_of(rt: &impl Abort, alloc: Global, calls: &[u64]) -> Vec<u64> {
+    Vec::from_slice(alloc, calls).expect(rt, "there is memory")
+}
+
+/// A copy of this word.
+fn text_of(rt: &impl Abort, alloc: Global, word: &str) -> String {
+    String::from_str(alloc, word).expect(rt, "there is memory")
+}
+
+/// A copy of these words.
+fn words_of(rt: &impl Abort, alloc: Global, words: &[&str]) -> Vec<String> {
+    let mut given = Vec::new(alloc);
+    for word in words {
+        let _ = given.push(text_of(rt, alloc, word));
+    }
+    given
+}
+
+/// A memory for a run.
+fn memory_of(rt: &impl Abort, alloc: Global) -> MemNv
+    ensures { length result.content ≡ 65536 }
+{
+    MemNv::new(alloc, 65_536).expect(rt, "there is memory")
 }
 
 /// What becomes of a run over these words and these bytes. The calls of these numbers fail; a call moves at most `piece` bytes.
 fn outcome_of(
+    rt: &impl Abort,
     alloc: Global,
     words: &[&str],
     bytes: &[u8],
     fails: (&[u64], &[u64]),
     piece: u32,
-) -> Result<Outcome, NoMemory>
+) -> Outcome
     requires { 1 ≤ piece }
 {
-    let mut given = Vec::new(alloc);
-    for word in words {
-        given
-            .push(String::from_str(alloc, word)?)
-            .map_err(AllocError::from)?;
-    }
     let (reads, writes) = fails;
+    let given = words_of(rt, alloc, words);
     let mut source = MemSource::new(
-        Vec::from_slice(alloc, bytes)?,
-        Vec::from_slice(alloc, reads)?,
+        bytes_of(rt, alloc, bytes),
+        calls_of(rt, alloc, reads),
         piece,
     );
-    let mut sink = MemSink::new(Vec::new(alloc), Vec::from_slice(alloc, writes)?, piece);
-    let nv = MemNv::new(alloc, 65_536)?;
+    let mut sink = MemSink::new(Vec::new(alloc), calls_of(rt, alloc, writes), piece);
+    let nv = memory_of(rt, alloc);
     let Ended { status, nv: _ } = run(alloc, given.as_slice(), &mut source, &mut sink, nv);
-    Ok(Outcome {
+    Outcome {
         status,
-        written: Vec::from_slice(alloc, sink.bytes())?,
+        sink,
         left: source.left().len(),
-    })
-}
-
-/// The run ended with this status, and wrote these bytes.
-fn ended(rt: &impl Abort, run: &Outcome, status: &Status, written: &[u8], what: &str) {
-    assert_eq!(rt; &run.status, status, "{what}");
-    assert_eq!(rt; run.written.as_slice(), written, "{what}");
+    }
 }
 
 /// The words that are this one.
-fn one_word(alloc: Global, word: &str) -> Result<Vec<String>, NoMemory>
+pub(crate) fn one_word(alloc: Global, word: &str) -> Result<Vec<String>, NoMemory>
     ensures { IfOk result (λ words. map string_bytes words.items ≡ word.now ∷ []) }
 {
     let mut words = Vec::new(alloc);
-    words
-        .push(String::from_str(alloc, word)?)
-        .map_err(AllocError::from)?;
+    if words.push(String::from_str(alloc, word)?).is_err() {
+        return Err(NoMemory);
+    }
     Ok(words)
 }
 
@@ -90,262 +111,262 @@ fn status_over_sure(alloc: Global, word: &str, bytes: &[u8]) -> Result<Status, N
 
 const REPLAY: [&str; 1] = ["replay"];
 
+const DECODE: [&str; 1] = ["decode"];
+
 const NONE: (&[u64], &[u64]) = (&[], &[]);
 
-#[test]
-fn worked_examples_are_replayed(rt: HostRuntime) -> Result<(), Fail> {
-    for [schedule, transcript] in [
-        ONE_MESSAGE,
-        WINDOW_OF_FOUR,
-        NUMBERS_WRAP,
-        RESERVED_TYPE_IS_ACKNOWLEDGED_NOT_GOT,
-        DELIVER_ON_EMPTY_WIRE,
-        ECHO_IS_NORMALISED,
-        WORDS_ARE_NORMALISED,
-        NOBODY_DELIVERS_FIVE_TRIES,
-        LOST_FRAME_IS_REJECTED_AND_RESENT,
-        LOST_ACK_IS_ANSWERED_AGAIN,
-        BUSY_THEN_READY,
-        DAMAGE_BREAKS_A_FRAME,
-        RESET_AND_ITS_RESEND,
-        CROSSED_RESETS,
-        CROSSED_RESETS_ONE_LOST,
-        RESET_GIVES_UP,
-        HEADER_ALONE_IS_ONE_FRAGMENT,
-    ] {
-        for piece in [4096, 1] {
-            let run = outcome_of(rt.alloc(), &REPLAY, schedule.as_bytes(), NONE, piece)?;
-            ended(&rt, &run, &Status::Done, transcript.as_bytes(), schedule);
-            assert_eq!(rt; run.left, 0, "{schedule}");
-        }
-    }
-    Ok(())
+/// A run of which these calls fail ends with this status, and wrote this text.
+fn writes(
+    rt: &impl Abort,
+    alloc: Global,
+    words: &[&str],
+    bytes: &[u8],
+    fails: (&[u64], &[u64]),
+    piece: u32,
+    status: Status,
+    text: &str,
+)
+    requires { 1 ≤ piece }
+{
+    let run = outcome_of(rt, alloc, words, bytes, fails, piece);
+    same(
+        rt,
+        &(run.status, run.sink.bytes()),
+        &(status, text.as_bytes()),
+    );
+}
+
+/// A replay of which these calls fail ends with this status, and wrote a front of this text.
+fn replays_a_front(
+    rt: &impl Abort,
+    alloc: Global,
+    schedule: &str,
+    fails: (&[u64], &[u64]),
+    piece: u32,
+    status: Status,
+    text: &str,
+)
+    requires { 1 ≤ piece }
+{
+    let run = outcome_of(rt, alloc, &REPLAY, schedule.as_bytes(), fails, piece);
+    let is_front = text.as_bytes().starts_with(run.sink.bytes());
+    same(rt, &(run.status, is_front), &(status, true));
+}
+
+/// A run of which these calls fail ends with this status, and leaves so many bytes unread.
+fn leaves(
+    rt: &impl Abort,
+    alloc: Global,
+    words: &[&str],
+    bytes: &[u8],
+    fails: (&[u64], &[u64]),
+    piece: u32,
+    status: Status,
+    left: usize,
+)
+    requires { 1 ≤ piece }
+{
+    let run = outcome_of(rt, alloc, words, bytes, fails, piece);
+    same(rt, &(run.status, run.left), &(status, left));
 }
 
 #[test]
-fn damage_that_the_crc_does_not_show_ends_a_replay(rt: HostRuntime) -> Result<(), Fail> {
-    let [schedule, transcript] = DAMAGE_THE_CRC_DOES_NOT_SHOW;
-    for piece in [4096, 1] {
-        let run = outcome_of(rt.alloc(), &REPLAY, schedule.as_bytes(), NONE, piece)?;
-        let status = Status::Undetected { line: 3 };
-        ended(&rt, &run, &status, transcript.as_bytes(), schedule);
-    }
-    Ok(())
-}
-
-const OPENING: &[u8] = b"> swp 1 bare 02\nup 02c 0\nup 02h 0\n";
-
-#[test]
-fn a_fault_is_told_with_its_line(rt: HostRuntime) -> Result<(), Fail> {
-    for (schedule, line, fault, written) in [
-        ("", 1, LineFault::Order, b"".as_slice()),
-        ("# nothing\n", 2, LineFault::Order, b"".as_slice()),
-        (
-            "swp 1 bare 02\n\nsend 02h 01\n",
-            3,
-            LineFault::Word,
-            OPENING,
-        ),
-        ("swp 1 bare 02\nboot 02", 2, LineFault::Word, OPENING),
-        (
-            "swp 1 bare 02\ndamage 02c 9 9",
-            2,
-            LineFault::Number { at: 4 },
-            OPENING,
-        ),
-        (
-            "swp 1 bare 02\nsend 03h 01 03",
-            2,
-            LineFault::Host { id: 3 },
-            OPENING,
-        ),
-        (
-            "swp 1 bare 02\r\ndeliver 02c 65\r\n",
-            2,
-            LineFault::Number { at: 3 },
-            OPENING,
-        ),
-    ] {
-        let run = outcome_of(rt.alloc(), &REPLAY, schedule.as_bytes(), NONE, 4096)?;
-        let status = Status::BadSchedule { line, fault };
-        ended(&rt, &run, &status, written, schedule);
-    }
-    Ok(())
-}
-
-#[test]
-fn what_stands_behind_a_bad_line_is_left(rt: HostRuntime) -> Result<(), Fail> {
-    let [damage, _] = DAMAGE_THE_CRC_DOES_NOT_SHOW;
-    for begin in ["swp 1 bare 02\nsent 02h 01 03\n", damage] {
-        let mut schedule = Vec::from_slice(rt.alloc(), begin.as_bytes())?;
-        for _ in 0..10_000 {
-            schedule.extend_from_slice(b"# nothing\n")?;
-        }
-        let run = outcome_of(rt.alloc(), &REPLAY, schedule.as_slice(), NONE, 65_536)?;
-        assert!(rt; run.status != Status::Done, "{begin}");
-        assert!(rt; run.left >= 95_000, "{begin}");
-    }
-    Ok(())
-}
-
-#[test]
-fn a_schedule_has_20000_lines_at_most(rt: HostRuntime) -> Result<(), Fail> {
-    let mut schedule = Vec::from_slice(rt.alloc(), b"swp 1 bare 02\n")?;
-    for _ in 0..19_999 {
-        schedule.push(b'\n')?;
-    }
-    let run = outcome_of(rt.alloc(), &REPLAY, schedule.as_slice(), NONE, 4096)?;
-    assert_eq!(rt; run.status, Status::Done);
-    assert!(rt; run.written.as_slice().ends_with(b"\ndone 20000\n"));
-    schedule.push(b'\n')?;
-    let run = outcome_of(rt.alloc(), &REPLAY, schedule.as_slice(), NONE, 4096)?;
-    let status = Status::TooMany { count: 20_001 };
-    ended(&rt, &run, &status, OPENING, "one line more");
-    Ok(())
-}
-
-/// Whether these words are refused, and nothing is written.
-fn refuses(alloc: Global, words: &[&str]) -> Result<bool, NoMemory> {
-    let run = outcome_of(alloc, words, b"swp 1 bare 02\n", NONE, 4096)?;
-    Ok(run.status == Status::BadWords && run.written.is_empty() && run.left == 14)
-}
-
-#[test]
-fn other_words_are_refused_and_nothing_is_written(rt: HostRuntime) -> Result<(), Fail> {
-    assert!(rt; refuses(rt.alloc(), &[])?);
-    assert!(rt; refuses(rt.alloc(), &["replay", "x"])?);
-    assert!(rt; refuses(rt.alloc(), &["Replay"])?);
-    assert!(rt; refuses(rt.alloc(), &["play"])?);
-    assert!(rt; !refuses(rt.alloc(), &REPLAY)?);
-    Ok(())
-}
-
-#[test]
-fn a_read_that_fails_leaves_the_whole_lines_before_it(rt: HostRuntime) -> Result<(), Fail> {
+fn schedules_that_come_byte_by_byte_are_replayed(rt: HostRuntime) {
+    let alloc = rt.alloc();
     let [schedule, transcript] = ONE_MESSAGE;
-    let lines = transcript.trim_end_matches("done 4\n").as_bytes();
-    for (failing, written) in [(1, b"".as_slice()), (2, lines)] {
-        let fails: (&[u64], &[u64]) = (&[failing], &[]);
-        let run = outcome_of(rt.alloc(), &REPLAY, schedule.as_bytes(), fails, 4096)?;
-        ended(&rt, &run, &Status::ReadFault, written, schedule);
+    writes(
+        &rt,
+        alloc,
+        &REPLAY,
+        schedule.as_bytes(),
+        NONE,
+        1,
+        Status::Done,
+        transcript,
+    );
+    leaves(
+        &rt,
+        alloc,
+        &REPLAY,
+        schedule.as_bytes(),
+        NONE,
+        1,
+        Status::Done,
+        0,
+    );
+    let [damage, begun] = DAMAGE_THE_CRC_DOES_NOT_SHOW;
+    let undetected = Status::Undetected { line: 3 };
+    writes(
+        &rt,
+        alloc,
+        &REPLAY,
+        damage.as_bytes(),
+        NONE,
+        1,
+        undetected,
+        begun,
+    );
+}
+
+/// A schedule that begins so, and has 10,000 lines of comments behind.
+fn with_comments(rt: &impl Abort, alloc: Global, begin: &str) -> Vec<u8> {
+    let mut schedule = bytes_of(rt, alloc, begin.as_bytes());
+    for _ in 0..10_000 {
+        schedule
+            .extend_from_slice(b"# nothing\n")
+            .expect(rt, "there is memory");
     }
-    Ok(())
+    schedule
+}
+
+/// A schedule that begins so isn't done, and most of the lines behind that stay unread.
+fn ends_early(rt: &impl Abort, alloc: Global, begin: &str) {
+    let schedule = with_comments(rt, alloc, begin);
+    let run = outcome_of(rt, alloc, &REPLAY, schedule.as_slice(), NONE, 65_536);
+    let is_early = run.status != Status::Done && run.left >= 95_000;
+    same(rt, &(begin, is_early), &(begin, true));
 }
 
 #[test]
-fn each_read_that_fails_ends_a_replay(rt: HostRuntime) -> Result<(), Fail> {
+fn what_stands_behind_a_bad_line_is_left(rt: HostRuntime) {
+    let [damage, _] = DAMAGE_THE_CRC_DOES_NOT_SHOW;
+    ends_early(&rt, rt.alloc(), "swp 1 bare 02\nsent 02h 01 03\n");
+    ends_early(&rt, rt.alloc(), damage);
+}
+
+/// Whether these words are refused, and nothing is read or written.
+fn refuses(rt: &impl Abort, alloc: Global, words: &[&str]) -> bool {
+    let run = outcome_of(rt, alloc, words, b"swp 1 bare 02\n", NONE, 4096);
+    run.status == Status::BadWords && run.sink.bytes().is_empty() && run.left == 14
+}
+
+#[test]
+fn other_words_are_refused_and_nothing_is_written(rt: HostRuntime) {
+    let alloc = rt.alloc();
+    let refused = [
+        refuses(&rt, alloc, &[]),
+        refuses(&rt, alloc, &["replay", "x"]),
+        refuses(&rt, alloc, &["Replay"]),
+        refuses(&rt, alloc, &["play"]),
+        refuses(&rt, alloc, &REPLAY),
+    ];
+    same(&rt, &refused, &[true, true, true, true, false]);
+}
+
+#[test]
+fn a_read_that_fails_leaves_the_whole_lines_before_it(rt: HostRuntime) {
+    let [schedule, transcript] = ONE_MESSAGE;
+    let lines = transcript.trim_end_matches("done 4\n");
+    let alloc = rt.alloc();
+    writes(
+        &rt,
+        alloc,
+        &REPLAY,
+        schedule.as_bytes(),
+        (&[1], &[]),
+        4096,
+        Status::ReadFault,
+        "",
+    );
+    writes(
+        &rt,
+        alloc,
+        &REPLAY,
+        schedule.as_bytes(),
+        (&[2], &[]),
+        4096,
+        Status::ReadFault,
+        lines,
+    );
+}
+
+#[test]
+fn each_read_that_fails_ends_a_replay(rt: HostRuntime) {
     let [schedule, transcript] = DAMAGE_BREAKS_A_FRAME;
     for failing in 1..=56 {
-        let run = outcome_of(
+        let fails: (&[u64], &[u64]) = (&[failing], &[]);
+        replays_a_front(
+            &rt,
             rt.alloc(),
-            &REPLAY,
-            schedule.as_bytes(),
-            (&[failing], &[]),
+            schedule,
+            fails,
             1,
-        )?;
-        assert_eq!(rt; run.status, Status::ReadFault, "{failing}");
-        assert!(rt;
-            transcript.as_bytes().starts_with(run.written.as_slice()),
-            "{failing}"
+            Status::ReadFault,
+            transcript,
         );
     }
-    Ok(())
 }
 
 #[test]
-fn nothing_is_read_behind_the_end_or_a_bad_line(rt: HostRuntime) -> Result<(), Fail> {
+fn nothing_is_read_behind_the_end_or_a_bad_line(rt: HostRuntime) {
+    let alloc = rt.alloc();
     let [schedule, _] = ONE_MESSAGE;
+    let [damage, begun] = DAMAGE_THE_CRC_DOES_NOT_SHOW;
+    let undetected = Status::Undetected { line: 3 };
     // Two reads give the schedule and its end, and a third would fail.
-    let run = outcome_of(rt.alloc(), &REPLAY, schedule.as_bytes(), (&[3], &[]), 4096)?;
-    assert_eq!(rt; run.status, Status::Done);
-    let run = outcome_of(rt.alloc(), &DECODE, &RECORD, (&[3], &[]), 4096)?;
-    assert_eq!(rt; run.status, Status::Done);
-    let [damage, _] = DAMAGE_THE_CRC_DOES_NOT_SHOW;
-    let run = outcome_of(rt.alloc(), &REPLAY, damage.as_bytes(), (&[2], &[]), 4096)?;
-    assert_eq!(rt; run.status, Status::Undetected { line: 3 });
-    Ok(())
+    leaves(
+        &rt,
+        alloc,
+        &REPLAY,
+        schedule.as_bytes(),
+        (&[3], &[]),
+        4096,
+        Status::Done,
+        0,
+    );
+    leaves(
+        &rt,
+        alloc,
+        &DECODE,
+        &RECORD,
+        (&[3], &[]),
+        4096,
+        Status::Done,
+        0,
+    );
+    writes(
+        &rt,
+        alloc,
+        &REPLAY,
+        damage.as_bytes(),
+        (&[2], &[]),
+        4096,
+        undetected,
+        begun,
+    );
 }
 
 #[test]
-fn a_write_that_fails_leaves_a_front_of_the_transcript(rt: HostRuntime) -> Result<(), Fail> {
+fn a_write_that_fails_leaves_a_front_of_the_transcript(rt: HostRuntime) {
     let [schedule, transcript] = ONE_MESSAGE;
     for failing in 1..=48 {
-        let run = outcome_of(
+        let fails: (&[u64], &[u64]) = (&[], &[failing]);
+        replays_a_front(
+            &rt,
             rt.alloc(),
-            &REPLAY,
-            schedule.as_bytes(),
-            (&[], &[failing]),
+            schedule,
+            fails,
             2,
-        )?;
-        assert_eq!(rt; run.status, Status::WriteFault, "{failing}");
-        assert!(rt;
-            transcript.as_bytes().starts_with(run.written.as_slice()),
-            "{failing}"
+            Status::WriteFault,
+            transcript,
         );
     }
-    // The write of the first line fails, and the rest stays unread.
-    let run = outcome_of(rt.alloc(), &REPLAY, schedule.as_bytes(), (&[], &[1]), 14)?;
-    assert_eq!(rt; run.status, Status::WriteFault);
-    assert_eq!(rt; run.left, 39);
-    Ok(())
 }
 
 #[test]
-fn statuses_are_told(rt: HostRuntime) -> Result<(), Fail> {
-    for (status, code, text) in [
-        (Status::Done, 0, ""),
-        (
-            Status::BadWords,
-            2,
-            "usage: swp replay | end ROLE LINK | decode | tables | gen N",
-        ),
-        (
-            Status::BadSchedule {
-                line: 12,
-                fault: LineFault::Hex { at: 4 },
-            },
-            3,
-            "line 12: bad hex in word 4",
-        ),
-        (
-            Status::BadSchedule {
-                line: 1,
-                fault: LineFault::Host { id: 0x0A },
-            },
-            3,
-            "line 1: bad host 0A",
-        ),
-        (
-            Status::Undetected { line: 3 },
-            4,
-            "line 3: damage not detected",
-        ),
-        (
-            Status::TooMany { count: 20_001 },
-            9,
-            "too much input: 20001",
-        ),
-        (
-            Status::BadImage {
-                fault: JournalFault::UnknownFormat { version: 7 },
-            },
-            10,
-            "bad image: version 07",
-        ),
-        (
-            Status::BadImage {
-                fault: JournalFault::BadRecord { at: 24 },
-            },
-            10,
-            "bad image: place 24",
-        ),
-    ] {
-        let mut out = Vec::new(rt.alloc());
-        status_text(rt.alloc(), &status, &mut out)?;
-        assert_eq!(rt; exit_code(&status), code);
-        assert_eq!(rt; out.as_slice(), text.as_bytes());
-    }
-    Ok(())
+fn a_write_of_the_first_line_that_fails_leaves_the_rest_unread(rt: HostRuntime) {
+    let [schedule, _] = ONE_MESSAGE;
+    let fails: (&[u64], &[u64]) = (&[], &[1]);
+    leaves(
+        &rt,
+        rt.alloc(),
+        &REPLAY,
+        schedule.as_bytes(),
+        fails,
+        14,
+        Status::WriteFault,
+        39,
+    );
 }
 
 /// The frame of `C1` on S1.
@@ -355,82 +376,96 @@ const RECORD: [u8; 40] = [
     0x40, 0x54, 0x54, 0x54, 0x54, 0x54, 0x54, 0x54,
 ];
 
-const DECODE: [&str; 1] = ["decode"];
-
 #[test]
-fn records_are_decoded(rt: HostRuntime) -> Result<(), Fail> {
-    let mut broken = RECORD;
-    broken[11] = 0x7F;
-    for (record, text) in [
-        (RECORD.as_slice(), "s1 0 C1 rr 1\ndone 40\n"),
-        (broken.as_slice(), "s1 0 broken\ndone 40\n"),
-        (&RECORD[..20], "done 20\n"),
-        (&RECORD[..0], "done 0\n"),
-    ] {
-        for piece in [1, 7, 4096] {
-            let run = outcome_of(rt.alloc(), &DECODE, record, NONE, piece)?;
-            ended(&rt, &run, &Status::Done, text.as_bytes(), text);
-        }
-    }
-    Ok(())
+fn a_record_that_comes_in_pieces_is_decoded(rt: HostRuntime) {
+    let text = "s1 0 C1 rr 1\ndone 40\n";
+    writes(
+        &rt,
+        rt.alloc(),
+        &DECODE,
+        &RECORD,
+        NONE,
+        1,
+        Status::Done,
+        text,
+    );
+    writes(
+        &rt,
+        rt.alloc(),
+        &DECODE,
+        &RECORD,
+        NONE,
+        7,
+        Status::Done,
+        text,
+    );
 }
 
 #[test]
-fn a_long_record_is_decoded_in_order(rt: HostRuntime) -> Result<(), Fail> {
-    // The frame on S1, then the same bits on both wires, over and over: more text than is gathered at once.
-    let mut record = Vec::new(rt.alloc());
-    let mut text = Vec::new(rt.alloc());
-    for _ in 0..400 {
-        let first = record.len();
-        record.extend_from_slice(&RECORD)?;
-        let second = record.len();
-        for byte in RECORD {
-            record.push(if byte == 0x54 { 0xFC } else { byte })?;
-        }
-        text.extend_from_slice(format!(in rt.alloc();
-            "s1 {first} C1 rr 1\ns1 {second} C1 rr 1\ns2 {second} C1 rr 1\n"
-        )?.as_bytes())?;
-    }
-    text.extend_from_slice(b"done 32000\n")?;
-    let run = outcome_of(rt.alloc(), &DECODE, record.as_slice(), NONE, 4096)?;
-    ended(&rt, &run, &Status::Done, text.as_slice(), "a long record");
-    Ok(())
+fn a_decoding_that_is_cut_off_leaves_the_lines_before_it(rt: HostRuntime) {
+    let alloc = rt.alloc();
+    let line = "s1 0 C1 rr 1\n";
+    writes(
+        &rt,
+        alloc,
+        &DECODE,
+        &RECORD,
+        (&[2], &[]),
+        4096,
+        Status::ReadFault,
+        line,
+    );
+    writes(
+        &rt,
+        alloc,
+        &DECODE,
+        &RECORD,
+        (&[], &[2]),
+        7,
+        Status::WriteFault,
+        "s1 0 C1",
+    );
+    writes(
+        &rt,
+        alloc,
+        &DECODE,
+        &RECORD,
+        (&[], &[2]),
+        4096,
+        Status::WriteFault,
+        line,
+    );
+}
+
+/// A run over this word and these bytes ends so where nothing outside ever fails.
+fn ends(rt: &impl Abort, alloc: Global, word: &str, bytes: &[u8], status: Status) {
+    same(
+        rt,
+        &status_over_sure(alloc, word, bytes).ok(),
+        &Some(status),
+    );
 }
 
 #[test]
-fn a_decoding_that_is_cut_off_leaves_the_lines_before_it(rt: HostRuntime) -> Result<(), Fail> {
-    let read: (&[u64], &[u64]) = (&[2], &[]);
-    let write: (&[u64], &[u64]) = (&[], &[2]);
-    for (fails, piece, status, text) in [
-        (read, 4096, Status::ReadFault, "s1 0 C1 rr 1\n"),
-        (write, 7, Status::WriteFault, "s1 0 C1"),
-        (write, 4096, Status::WriteFault, "s1 0 C1 rr 1\n"),
-    ] {
-        let run = outcome_of(rt.alloc(), &DECODE, &RECORD, fails, piece)?;
-        ended(&rt, &run, &status, text.as_bytes(), text);
-    }
-    Ok(())
-}
-
-#[test]
-fn worked_examples_end_alike_over_a_sink_that_tells_nothing(rt: HostRuntime) -> Result<(), Fail> {
+fn worked_examples_end_alike_over_a_sink_that_tells_nothing(rt: HostRuntime) {
+    let alloc = rt.alloc();
     let [schedule, _] = ONE_MESSAGE;
     let [damage, _] = DAMAGE_THE_CRC_DOES_NOT_SHOW;
-    for (word, bytes, wanted) in [
-        ("replay", schedule.as_bytes(), Status::Done),
-        ("replay", damage.as_bytes(), Status::Undetected { line: 3 }),
-        (
-            "replay",
-            b"".as_slice(),
-            Status::BadSchedule {
-                line: 1,
-                fault: LineFault::Order,
-            },
-        ),
-        ("decode", RECORD.as_slice(), Status::Done),
-    ] {
-        let status = status_over_sure(rt.alloc(), word, bytes)?;
-        assert_eq!(rt; status, wanted, "{word}");
-    }
-    Ok(())
+    let (line, fault) = (1, LineFault::Order);
+    ends(&rt, alloc, "replay", schedule.as_bytes(), Status::Done);
+    ends(
+        &rt,
+        alloc,
+        "replay",
+        damage.as_bytes(),
+        Status::Undetected { line: 3 },
+    );
+    ends(
+        &rt,
+        alloc,
+        "replay",
+        b"",
+        Status::BadSchedule { line, fault },
+    );
+    ends(&rt, alloc, "decode", &RECORD, Status::Done);
 }

@@ -1,6 +1,7 @@
 //! Worked examples of one SHDLC end.
 ghost use Rattle.std.specs.Prelude.{◌≡◌, ◌≤◌, [], length};
 
+use crate::shown::{same, same_bytes};
 use arrayvec::ArrayVec;
 use shdlc_core::{Shdlc, Taken, Ticked};
 use std::process::Abort;
@@ -88,47 +89,65 @@ fn of_ticked(ticked: Ticked) -> Answer {
     }
 }
 
+// A tick without an answer and without a frame.
+fn does_nothing(rt: &impl Abort, end: &mut Shdlc)
+    requires { end.old.due ≡ [] }
+    ensures { end.new.due ≡ [] }
+{
+    same(rt, &of_ticked(end.tick()), &Answer::Nothing);
+    same_bytes(rt, sent(end).as_slice(), &[]);
+}
+
 // The ticks, all of them but the last without an answer and without a frame.
 fn ticks(rt: &impl Abort, end: &mut Shdlc, count: u8) -> Answer
     requires { end.old.due ≡ [] }
     ensures { length end.new.due ≤ 1 }
 {
     for _ in 1..count {
-        assert_eq!(rt; of_ticked(end.tick()), Answer::Nothing);
-        assert!(rt; sent(end).is_empty());
+        does_nothing(rt, end);
     }
     of_ticked(end.tick())
+}
+
+// The frame that is taken.
+fn control_of(input: Input) -> Option<Control> {
+    match input {
+        Input::I(ns, nr) => Some(Control::I {
+            ns,
+            nr,
+            info: info(),
+        }),
+        Input::S(kind, nr) => Some(Control::S { kind, nr }),
+        Input::Rset(window) => Some(Control::Rset { window, caps: 0 }),
+        Input::Ua => Some(Control::Ua),
+        _ => None,
+    }
+}
+
+// What an end answers that did its part, or refused it.
+fn unless_refused(done: bool) -> Answer {
+    if done {
+        Answer::Nothing
+    } else {
+        Answer::Refused
+    }
 }
 
 fn apply(rt: &impl Abort, end: &mut Shdlc, input: Input) -> Answer
     requires { end.old.due ≡ [] }
 {
+    if let Some(control) = control_of(input) {
+        return of_taken(&end.take(&control));
+    }
     match input {
-        Input::Offer => match end.offer(&info()) {
-            Ok(()) => Answer::Nothing,
-            Err(_) => Answer::Refused,
-        },
-        Input::I(ns, nr) => of_taken(&end.take(&Control::I {
-            ns,
-            nr,
-            info: info(),
-        })),
-        Input::S(kind, nr) => of_taken(&end.take(&Control::S { kind, nr })),
-        Input::Rset(window) => of_taken(&end.take(&Control::Rset { window, caps: 0 })),
-        Input::Ua => of_taken(&end.take(&Control::Ua)),
+        Input::Offer => unless_refused(end.offer(&info()).is_ok()),
         Input::Ticks(count) => ticks(rt, end, count),
-        Input::Reset(window) => {
-            if end.reset(window.clamp(1, 4)) {
-                Answer::Nothing
-            } else {
-                Answer::Refused
-            }
-        }
+        Input::Reset(window) => unless_refused(end.reset(window.clamp(1, 4))),
         Input::Ready(ready) => {
             end.set_ready(ready);
             Answer::Nothing
         }
-        Input::Stop => {
+        _ => {
             end.stop();
             Answer::Nothing
         }
@@ -141,8 +160,8 @@ fn play(rt: &impl Abort, end: &mut Shdlc, table: &[(Input, Answer, &[u8])])
     ensures { end.new.due ≡ [] }
 {
     for (input, answer, frames) in table {
-        assert_eq!(rt; apply(rt, end, *input), *answer);
-        assert_eq!(rt; sent(end).as_slice(), *frames);
+        same(rt, &apply(rt, end, *input), answer);
+        same_bytes(rt, sent(end).as_slice(), frames);
     }
 }
 

@@ -1,10 +1,12 @@
+//! Faults of the lines of a schedule, and the entries of a transcript that no replay writes yet. What is read and written of the
+//! others is shown by the table of cases, `examples/cases.txt`.
+use crate::shown::{same, same_bytes};
 use arrayvec::ArrayVec;
 use hci_tables::{Command, Tables};
 use pipe_table::PipeRow;
 use schedule_text::{LineFault, Read, read_line, write_entry};
-use std::alloc::{AllocError, Global};
+use std::alloc::Global;
 use std::process::Abort;
-use std::test::Fail;
 use swp_base::{Cause, Lpdu};
 use trace_model::{End, Entry, Header, Line, LostCause, NoCause, NodeTables, Octets};
 
@@ -18,499 +20,270 @@ const CONTROLLER: End = End {
     at_host: false,
 };
 
+/// The header of a world with the host 02: of nodes, or of one bare link.
 fn header_of(hci: bool) -> Header {
     let mut hosts = ArrayVec::new();
     hosts.push(2);
     Header { hci, hosts }
 }
 
-fn header() -> Header {
-    header_of(false)
+fn octets(rt: &impl Abort, alloc: Global, bytes: &[u8]) -> Octets {
+    Octets::from_slice(alloc, bytes).expect(rt, "there is memory")
 }
 
-fn places(numbers: &[u16]) -> ArrayVec<u16, 16> {
-    let mut places = ArrayVec::new();
-    let _ = places.try_extend_from_slice(numbers);
-    places
-}
-
-fn send(alloc: Global, pid: u8, message: &[u8]) -> Result<Line, AllocError> {
-    Ok(Line::Send {
-        at: HOST,
-        pid,
-        message: Octets::from_slice(alloc, message)?,
-    })
-}
-
-#[test]
-fn lines_are_read(rt: HostRuntime) -> Result<(), Fail> {
-    let alloc = rt.alloc();
-    assert_eq!(rt;
-        read_line(alloc, None, b"swp  1 bare 02 ")?,
-        Read::Header(header())
-    );
-    let known = header();
-    let table = [
-        (
-            " send  02h 6f 81aA ",
-            Read::Line(send(alloc, 0x6F, &[0x81, 0xAA])?),
-        ),
-        ("", Read::Skip),
-        ("   ", Read::Skip),
-        ("# deliver", Read::Skip),
-        ("  #swp", Read::Skip),
-    ];
-    for (line, said) in &table {
-        assert_eq!(rt;
-            read_line(alloc, Some(&known), line.as_bytes()).as_ref(),
-            Ok(said),
-            "{line}"
-        );
-    }
-    Ok(())
+/// What is read of a line below the header of a world.
+fn read_below(alloc: Global, hci: bool, text: &str) -> Result<Read, LineFault> {
+    let known = header_of(hci);
+    read_line(alloc, Some(&known), text.as_bytes())
 }
 
 /// The entry is written as this line.
-fn is_written(rt: &impl Abort, alloc: Global, entry: Entry, line: &str) -> Result<(), Fail> {
+fn is_written(rt: &impl Abort, alloc: Global, entry: Entry, line: &str) {
     let mut out = Vec::new(alloc);
-    write_entry(alloc, &entry, &mut out).map_err(|_| AllocError)?;
-    assert_eq!(rt; out.as_slice(), line.as_bytes());
-    Ok(())
+    let _ = write_entry(alloc, &entry, &mut out);
+    same_bytes(rt, out.as_slice(), line.as_bytes());
 }
 
-/// The text is read as this line, and echoed again.
-fn stands_for(rt: &impl Abort, alloc: Global, text: &str, line: Line) -> Result<(), Fail> {
-    match read_line(alloc, Some(&header()), text.as_bytes())? {
-        Read::Line(read) => assert_eq!(rt; read, line, "{text}"),
-        _ => panic!(rt; "{text} is read as no line"),
+/// The line is echoed as this text.
+fn is_echoed(rt: &impl Abort, alloc: Global, line: Line, text: &str) {
+    is_written(rt, alloc, Entry::Echo(line), text);
+}
+
+/// As the first line of a schedule this line is refused so.
+fn is_refused_at_first(rt: &impl Abort, alloc: Global, fault: LineFault, line: &str) {
+    let refused = read_line(alloc, None, line.as_bytes()).err();
+    same(rt, &(line, refused), &(line, Some(fault)));
+}
+
+/// As the first line of a schedule these lines are refused so.
+fn are_refused_at_first(rt: &impl Abort, alloc: Global, fault: LineFault, lines: &str) {
+    for line in lines.lines() {
+        is_refused_at_first(rt, alloc, fault, line);
     }
-    is_written(
-        rt,
-        alloc,
-        Entry::Echo(line),
-        format!(in alloc; "> {text}\n")?.as_str(),
-    )
 }
 
 #[test]
-fn each_form_is_read_and_written(rt: HostRuntime) -> Result<(), Fail> {
+fn faults_of_a_first_line(rt: HostRuntime) {
     let alloc = rt.alloc();
-    stands_for(&rt, alloc, "send 02h 01 03", send(alloc, 1, &[3])?)?;
-    stands_for(
+    are_refused_at_first(&rt, alloc, LineFault::Order, "deliver 02c\nboot 00");
+    are_refused_at_first(
         &rt,
         alloc,
-        "deliver 02c",
-        Line::Deliver {
-            at: CONTROLLER,
-            count: None,
-        },
-    )?;
-    stands_for(
-        &rt,
-        alloc,
-        "deliver 02h 64",
-        Line::Deliver {
-            at: HOST,
-            count: Some(64),
-        },
-    )?;
-    stands_for(&rt, alloc, "lose 02h", Line::Lose { at: HOST })?;
-    stands_for(
-        &rt,
-        alloc,
-        "damage 02c 0",
-        Line::Damage {
-            at: CONTROLLER,
-            places: places(&[0]),
-        },
-    )?;
-    stands_for(
-        &rt,
-        alloc,
-        "damage 02c 24 28 399",
-        Line::Damage {
-            at: CONTROLLER,
-            places: places(&[24, 28, 399]),
-        },
-    )?;
-    stands_for(&rt, alloc, "tick", Line::Tick { times: None })?;
-    stands_for(&rt, alloc, "tick 100", Line::Tick { times: Some(100) })?;
-    stands_for(
-        &rt,
-        alloc,
-        "reset 02h",
-        Line::Reset {
-            at: HOST,
-            window: None,
-        },
-    )?;
-    stands_for(
-        &rt,
-        alloc,
-        "reset 02c 4",
-        Line::Reset {
-            at: CONTROLLER,
-            window: Some(4),
-        },
-    )?;
-    stands_for(&rt, alloc, "busy 02c", Line::Busy { at: CONTROLLER })?;
-    stands_for(&rt, alloc, "ready 02h", Line::Ready { at: HOST })?;
-    Ok(())
-}
-
-#[test]
-fn faults_of_a_first_line(rt: HostRuntime) -> Result<(), Fail> {
-    let alloc = rt.alloc();
-    let table = [
-        ("deliver 02c", LineFault::Order),
-        ("boot 00", LineFault::Order),
-        ("swp 1 bare", LineFault::Word),
-        ("swp 1 bare 02 03", LineFault::Word),
-        ("swp 2 bare 02", LineFault::Word),
-        ("swp 1 hci 02", LineFault::Word),
-        ("swp 1 bare 2", LineFault::Hex { at: 4 }),
-        ("swp 1 bare 0g", LineFault::Hex { at: 4 }),
-        ("swp 1 bare 00", LineFault::Host { id: 0 }),
-        ("swp 1 bare 08", LineFault::Host { id: 8 }),
-    ];
-    for (line, fault) in table {
-        assert_eq!(rt;
-            read_line(alloc, None, line.as_bytes()),
-            Err(fault),
-            "{line}"
-        );
-    }
-    Ok(())
-}
-
-#[test]
-fn faults_below_a_header(rt: HostRuntime) -> Result<(), Fail> {
-    let alloc = rt.alloc();
-    let known = header();
-    let table = [
-        ("swp 1 bare 02", LineFault::Order),
-        ("boot 00", LineFault::Word),
-        ("\tdeliver 02c", LineFault::Word),
-        ("deliver", LineFault::Word),
-        ("deliver 02C", LineFault::Word),
-        ("deliver 2c", LineFault::Word),
-        ("deliver 02c 1 1", LineFault::Word),
-        ("deliver 03c 0", LineFault::Number { at: 3 }),
-        ("deliver 02c 65", LineFault::Number { at: 3 }),
-        ("deliver 02c 01", LineFault::Number { at: 3 }),
-        ("deliver 02c +1", LineFault::Number { at: 3 }),
-        ("deliver 1Fh", LineFault::Host { id: 0x1F }),
-        ("lose 02", LineFault::Word),
-        ("lose 02c 1", LineFault::Word),
-        ("damage 02c", LineFault::Word),
-        (
-            "damage 02c 0 1 2 3 4 5 6 7 8 9 10 11 12 13 14 15 16",
-            LineFault::Word,
-        ),
-        ("damage 02c 400", LineFault::Number { at: 3 }),
-        ("damage 02c 5 5", LineFault::Number { at: 4 }),
-        ("damage 03c 7 9 8", LineFault::Number { at: 5 }),
-        ("damage 03c 7", LineFault::Host { id: 3 }),
-        ("tick 1 1", LineFault::Word),
-        ("tick 0", LineFault::Number { at: 2 }),
-        ("tick 101", LineFault::Number { at: 2 }),
-        ("reset 02c 5", LineFault::Number { at: 3 }),
-        ("busy 02c 1", LineFault::Word),
-        ("ready 03h", LineFault::Host { id: 3 }),
-        ("send 02h 70 03", LineFault::Hex { at: 3 }),
-        ("send 03h 1 3", LineFault::Hex { at: 3 }),
-        ("send 03h 01 030", LineFault::Hex { at: 4 }),
-        ("send 03h 01 03", LineFault::Host { id: 3 }),
-    ];
-    for (line, fault) in table {
-        assert_eq!(rt;
-            read_line(alloc, Some(&known), line.as_bytes()),
-            Err(fault),
-            "{line}"
-        );
-    }
-    Ok(())
-}
-
-#[test]
-fn a_world_of_nodes_has_no_readiness(rt: HostRuntime) -> Result<(), Fail> {
-    let alloc = rt.alloc();
-    let known = header_of(true);
-    let table = [
-        ("busy 02c", LineFault::Order),
-        ("ready 02c 1", LineFault::Order),
-        ("send 02c 01 03", LineFault::Word),
-    ];
-    for (line, fault) in table {
-        assert_eq!(rt;
-            read_line(alloc, Some(&known), line.as_bytes()),
-            Err(fault),
-            "{line}"
-        );
-    }
-    Ok(())
-}
-
-#[test]
-fn a_line_has_at_most_nine_thousand_bytes(rt: HostRuntime) -> Result<(), Fail> {
-    let alloc = rt.alloc();
-    let mut line = vec![in alloc; b'#'; 9000]?;
-    assert_eq!(rt; read_line(alloc, None, line.as_slice())?, Read::Skip);
-    line.push(b' ')?;
-    assert_eq!(rt;
-        read_line(alloc, None, line.as_slice()),
-        Err(LineFault::TooLong)
+        LineFault::Word,
+        "swp 1 bare\nswp 1 bare 02 03\nswp 2 bare 02\nswp 1 hci 02",
     );
-    Ok(())
+    let digits = LineFault::Hex { at: 4 };
+    are_refused_at_first(&rt, alloc, digits, "swp 1 bare 2\nswp 1 bare 0g");
+    are_refused_at_first(&rt, alloc, LineFault::Host { id: 0 }, "swp 1 bare 00");
+    are_refused_at_first(&rt, alloc, LineFault::Host { id: 8 }, "swp 1 bare 08");
 }
 
-fn lpdu(bytes: &[u8]) -> Result<Lpdu, Fail> {
-    Ok(Lpdu::from_bytes(bytes).ok_or("no LPDU")?)
+/// Below the header of a world this line is refused so.
+fn is_refused(rt: &impl Abort, alloc: Global, hci: bool, fault: LineFault, line: &str) {
+    let refused = read_below(alloc, hci, line).err();
+    same(rt, &(line, refused), &(line, Some(fault)));
+}
+
+/// Below the header of a world these lines are refused so.
+fn are_refused(rt: &impl Abort, alloc: Global, hci: bool, fault: LineFault, lines: &str) {
+    for line in lines.lines() {
+        is_refused(rt, alloc, hci, fault, line);
+    }
+}
+
+/// Lines that have a wrong word, or too few or too many.
+const WRONG_WORDS: &str = "\
+boot 00
+\tdeliver 02c
+deliver
+deliver 02C
+deliver 2c
+deliver 02c 1 1
+lose 02
+lose 02c 1
+damage 02c
+damage 02c 0 1 2 3 4 5 6 7 8 9 10 11 12 13 14 15 16
+tick 1 1
+busy 02c 1";
+
+/// Lines whose third word is a wrong number.
+const WRONG_NUMBERS: &str = "\
+deliver 03c 0
+deliver 02c 65
+deliver 02c 01
+deliver 02c +1
+damage 02c 400
+reset 02c 5";
+
+/// Lines that name the host 03.
+const WRONG_HOSTS: &str = "\
+damage 03c 7
+ready 03h
+send 03h 01 03";
+
+/// The word at this place is a wrong number.
+fn number(at: u32) -> LineFault {
+    LineFault::Number { at }
 }
 
 #[test]
-fn entries_are_written(rt: HostRuntime) -> Result<(), Fail> {
+fn faults_below_a_header(rt: HostRuntime) {
     let alloc = rt.alloc();
-    is_written(&rt, alloc, Entry::Head(header()), "> swp 1 bare 02\n")?;
-    is_written(
+    are_refused(&rt, alloc, false, LineFault::Order, "swp 1 bare 02");
+    are_refused(&rt, alloc, false, LineFault::Word, WRONG_WORDS);
+    are_refused(&rt, alloc, false, number(2), "tick 0\ntick 101");
+    are_refused(&rt, alloc, false, number(3), WRONG_NUMBERS);
+    are_refused(&rt, alloc, false, number(4), "damage 02c 5 5");
+    are_refused(&rt, alloc, false, number(5), "damage 03c 7 9 8");
+}
+
+#[test]
+fn faults_of_digits_and_hosts_below_a_header(rt: HostRuntime) {
+    let alloc = rt.alloc();
+    let third = LineFault::Hex { at: 3 };
+    let fourth = LineFault::Hex { at: 4 };
+    let high = LineFault::Host { id: 0x1F };
+    are_refused(&rt, alloc, false, third, "send 02h 70 03\nsend 03h 1 3");
+    are_refused(&rt, alloc, false, fourth, "send 03h 01 030");
+    are_refused(&rt, alloc, false, LineFault::Host { id: 3 }, WRONG_HOSTS);
+    are_refused(&rt, alloc, false, high, "deliver 1Fh");
+}
+
+#[test]
+fn a_world_of_nodes_has_no_readiness(rt: HostRuntime) {
+    let alloc = rt.alloc();
+    are_refused(&rt, alloc, true, LineFault::Order, "busy 02c\nready 02c 1");
+    are_refused(&rt, alloc, true, LineFault::Word, "send 02c 01 03");
+}
+
+#[test]
+fn a_line_has_at_most_nine_thousand_bytes(rt: HostRuntime) {
+    let mut line = [b'#'; 9001];
+    line[9000] = b' ';
+    let longest = read_line(rt.alloc(), None, &line[..9000]);
+    let longer = read_line(rt.alloc(), None, &line);
+    same(&rt, &longest, &Ok(Read::Skip));
+    same(&rt, &longer, &Err(LineFault::TooLong));
+}
+
+#[test]
+fn ends_of_sessions_and_large_numbers_are_written(rt: HostRuntime) {
+    let alloc = rt.alloc();
+    let (at, session, count) = (HOST, 0, 4_294_967_295);
+    let (need, spare) = (129, 128);
+    is_written(&rt, alloc, Entry::Active { at }, "active 02h\n");
+    let acked = Entry::Acked { at, session, count };
+    is_written(&rt, alloc, acked, "acked 02h 0 4294967295\n");
+    refuses(
         &rt,
         alloc,
-        Entry::Up {
-            at: CONTROLLER,
-            session: 0,
-        },
-        "up 02c 0\n",
-    )?;
-    is_written(
-        &rt,
-        alloc,
-        Entry::Echo(send(alloc, 1, &[3])?),
-        "> send 02h 01 03\n",
-    )?;
-    is_written(
-        &rt,
-        alloc,
-        Entry::Sent {
-            at: HOST,
-            session: 0,
-            pid: 1,
-            message: Octets::from_slice(alloc, &[3])?,
-        },
-        "sent 02h 0 01 03\n",
-    )?;
-    is_written(
-        &rt,
-        alloc,
-        Entry::Emit {
-            at: HOST,
-            lpdu: lpdu(&[0x80, 0x81, 3])?,
-        },
-        "emit 02h 808103\n",
-    )?;
-    is_written(
-        &rt,
-        alloc,
-        Entry::Echo(Line::Deliver {
-            at: CONTROLLER,
-            count: Some(10),
-        }),
-        "> deliver 02c 10\n",
-    )?;
-    is_written(
-        &rt,
-        alloc,
-        Entry::Took {
-            at: CONTROLLER,
-            lpdu: lpdu(&[0x80, 0x81, 3])?,
-        },
-        "took 02c 808103\n",
-    )?;
-    is_written(
-        &rt,
-        alloc,
-        Entry::Got {
-            at: CONTROLLER,
-            session: 0,
-            pid: 1,
-            message: Octets::from_slice(alloc, &[3])?,
-        },
-        "got 02c 0 01 03\n",
-    )?;
-    is_written(
-        &rt,
-        alloc,
-        Entry::Acked {
-            at: HOST,
-            session: 0,
-            count: 4_294_967_295,
-        },
-        "acked 02h 0 4294967295\n",
-    )?;
-    is_written(
-        &rt,
-        alloc,
-        Entry::Lost {
-            at: HOST,
-            lpdu: lpdu(&[0xC1])?,
-            cause: LostCause::Nothing,
-        },
-        "lost 02h C1 none\n",
-    )?;
-    is_written(
-        &rt,
-        alloc,
-        Entry::No {
-            cause: NoCause::Full {
-                need: 129,
-                spare: 128,
-            },
-        },
+        NoCause::Full { need, spare },
         "no full 129 128\n",
-    )?;
-    is_written(
-        &rt,
-        alloc,
-        Entry::No {
-            cause: NoCause::TooLong,
-        },
-        "no too-long\n",
-    )?;
-    Ok(())
+    );
+    let at = CONTROLLER;
+    let cause = Cause::Act;
+    is_written(&rt, alloc, Entry::Down { at, cause }, "down 02c act\n");
+    let cause = Cause::Chain;
+    is_written(&rt, alloc, Entry::Down { at, cause }, "down 02c chain\n");
+}
+
+/// The frame on its way to the host is lost so, and this is written.
+fn is_lost(rt: &impl Abort, alloc: Global, lpdu: Lpdu, cause: LostCause, line: &str) {
+    let lost = Entry::Lost {
+        at: HOST,
+        lpdu,
+        cause,
+    };
+    is_written(rt, alloc, lost, line);
+}
+
+/// The frame `C1` is lost so, and this is written.
+fn ready_is_lost(rt: &impl Abort, alloc: Global, cause: LostCause, line: &str) {
+    is_lost(rt, alloc, Lpdu::new(&[0xC1]), cause, line);
 }
 
 #[test]
-fn ends_of_sessions_are_written(rt: HostRuntime) -> Result<(), Fail> {
-    for (at, cause, line) in [
-        (HOST, Cause::Asked, "down 02h asked\n"),
-        (HOST, Cause::NoAnswer, "down 02h noanswer\n"),
-        (CONTROLLER, Cause::Peer, "down 02c peer\n"),
-        (CONTROLLER, Cause::Act, "down 02c act\n"),
-        (CONTROLLER, Cause::Chain, "down 02c chain\n"),
-    ] {
-        is_written(&rt, rt.alloc(), Entry::Down { at, cause }, line)?;
-    }
-    is_written(&rt, rt.alloc(), Entry::Active { at: HOST }, "active 02h\n")?;
-    let gave_up = Entry::GaveUp { at: HOST, tries: 5 };
-    is_written(&rt, rt.alloc(), gave_up, "gaveup 02h 5\n")
-}
-
-#[test]
-fn losses_are_written(rt: HostRuntime) -> Result<(), Fail> {
-    let reset = lpdu(&[0xF9, 4, 0])?;
-    let ready = lpdu(&[0xC1])?;
-    for (lpdu, cause, line) in [
-        (reset, LostCause::Asked, "lost 02h F90400 asked\n"),
-        (ready.copied(), LostCause::Age, "lost 02h C1 age\n"),
-        (ready.copied(), LostCause::Full, "lost 02h C1 full\n"),
-        (ready.copied(), LostCause::Length, "lost 02h C1 length\n"),
-        (
-            ready.copied(),
-            LostCause::Alignment,
-            "lost 02h C1 alignment\n",
-        ),
-        (ready.copied(), LostCause::Crc, "lost 02h C1 crc\n"),
-        (ready.copied(), LostCause::Broken, "lost 02h C1 broken\n"),
-    ] {
-        let lost = Entry::Lost {
-            at: HOST,
-            lpdu,
-            cause,
-        };
-        is_written(&rt, rt.alloc(), lost, line)?;
-    }
-    Ok(())
-}
-
-#[test]
-fn causes_of_refusals_are_written(rt: HostRuntime) -> Result<(), Fail> {
-    for (cause, line) in [
-        (NoCause::Off, "no off\n"),
-        (NoCause::Running, "no running\n"),
-        (NoCause::Inactive, "no inactive\n"),
-        (NoCause::NotUp, "no not-up\n"),
-        (NoCause::Waiting, "no waiting\n"),
-        (NoCause::Empty, "no empty\n"),
-        (NoCause::Beyond { bits: 71 }, "no beyond 71\n"),
-    ] {
-        is_written(&rt, rt.alloc(), Entry::No { cause }, line)?;
-    }
-    Ok(())
-}
-
-#[test]
-fn turns_of_nodes_are_written(rt: HostRuntime) -> Result<(), Fail> {
+fn losses_are_written(rt: HostRuntime) {
     let alloc = rt.alloc();
+    let reset = Lpdu::new(&[0xF9, 4, 0]);
+    is_lost(
+        &rt,
+        alloc,
+        reset,
+        LostCause::Asked,
+        "lost 02h F90400 asked\n",
+    );
+    ready_is_lost(&rt, alloc, LostCause::Nothing, "lost 02h C1 none\n");
+    ready_is_lost(&rt, alloc, LostCause::Age, "lost 02h C1 age\n");
+    ready_is_lost(&rt, alloc, LostCause::Full, "lost 02h C1 full\n");
+    ready_is_lost(&rt, alloc, LostCause::Length, "lost 02h C1 length\n");
+    ready_is_lost(&rt, alloc, LostCause::Alignment, "lost 02h C1 alignment\n");
+    ready_is_lost(&rt, alloc, LostCause::Crc, "lost 02h C1 crc\n");
+    ready_is_lost(&rt, alloc, LostCause::Broken, "lost 02h C1 broken\n");
+}
+
+/// A line is refused so, and this is written.
+fn refuses(rt: &impl Abort, alloc: Global, cause: NoCause, line: &str) {
+    is_written(rt, alloc, Entry::No { cause }, line);
+}
+
+#[test]
+fn causes_of_refusals_are_written(rt: HostRuntime) {
+    let alloc = rt.alloc();
+    refuses(&rt, alloc, NoCause::Off, "no off\n");
+    refuses(&rt, alloc, NoCause::Running, "no running\n");
+    refuses(&rt, alloc, NoCause::Inactive, "no inactive\n");
+    refuses(&rt, alloc, NoCause::Waiting, "no waiting\n");
+    refuses(&rt, alloc, NoCause::Beyond { bits: 71 }, "no beyond 71\n");
+}
+
+#[test]
+fn turns_of_nodes_are_written(rt: HostRuntime) {
+    let alloc = rt.alloc();
+    let message = octets(&rt, alloc, &[2, 1]);
+    let (at, pid) = (CONTROLLER, 1);
+    let turn = Entry::Turn { at, pid, message };
+    is_written(&rt, alloc, turn, "turn 02c 01 0201\n");
+    let (need, spare) = (32, 0);
     is_written(
         &rt,
         alloc,
-        Entry::Turn {
-            at: CONTROLLER,
-            pid: 1,
-            message: Octets::from_slice(alloc, &[2, 1])?,
-        },
-        "turn 02c 01 0201\n",
-    )?;
-    is_written(
-        &rt,
-        alloc,
-        Entry::Held {
-            at: CONTROLLER,
-            need: 32,
-            spare: 0,
-        },
+        Entry::Held { at, need, spare },
         "held 02c 32 0\n",
-    )?;
+    );
+    let message = octets(&rt, alloc, &[0x12, 2, 0x41, 1, 0x41, 2]);
     is_written(
         &rt,
         alloc,
-        Entry::Ask {
-            host: 1,
-            message: Octets::from_slice(alloc, &[0x12, 2, 0x41, 1, 0x41, 2])?,
-        },
+        Entry::Ask { host: 1, message },
         "ask 01 120241014102\n",
-    )?;
+    );
+    let (at, pid) = (HOST, 0x0A);
+    is_written(&rt, alloc, Entry::Dropped { at, pid }, "drop 02h 0A\n");
+    let (node, count) = (0, 114);
+    is_written(&rt, alloc, Entry::AnyOk { node, count }, "ok 00 114\n");
+}
+
+#[test]
+fn starts_of_nodes_are_written(rt: HostRuntime) {
+    let alloc = rt.alloc();
+    let (at, count, code) = (HOST, 3, 0x0B);
+    is_written(&rt, alloc, Entry::InitSame { at }, "init 02h same\n");
     is_written(
         &rt,
         alloc,
-        Entry::Dropped {
-            at: HOST,
-            pid: 0x0A,
-        },
-        "drop 02h 0A\n",
-    )?;
-    is_written(
-        &rt,
-        alloc,
-        Entry::AnyOk {
-            node: 0,
-            count: 114,
-        },
-        "ok 00 114\n",
-    )?;
-    is_written(&rt, alloc, Entry::InitSame { at: HOST }, "init 02h same\n")?;
-    is_written(
-        &rt,
-        alloc,
-        Entry::InitMade { at: HOST, count: 3 },
+        Entry::InitMade { at, count },
         "init 02h made 3\n",
-    )?;
+    );
     is_written(
         &rt,
         alloc,
-        Entry::InitFailed {
-            at: HOST,
-            code: 0x0B,
-        },
+        Entry::InitFailed { at, code },
         "init 02h failed 0B\n",
-    )?;
-    is_written(&rt, alloc, Entry::Cut { node: 0 }, "cut 00\n")?;
-    is_written(
-        &rt,
-        alloc,
-        Entry::Booted { node: 2, count: 1 },
-        "booted 02 1\n",
-    )?;
-    Ok(())
+    );
+    is_written(&rt, alloc, Entry::Cut { node: 0 }, "cut 00\n");
+    let (node, count) = (2, 1);
+    is_written(&rt, alloc, Entry::Booted { node, count }, "booted 02 1\n");
 }
 
 fn value(bytes: &[u8]) -> ArrayVec<u8, 20> {
@@ -519,114 +292,93 @@ fn value(bytes: &[u8]) -> ArrayVec<u8, 20> {
     value
 }
 
-#[test]
-fn commands_and_tables_are_written(rt: HostRuntime) -> Result<(), Fail> {
-    let alloc = rt.alloc();
-    let row = PipeRow {
+/// The command of a node is written as this line.
+fn commands(rt: &impl Abort, alloc: Global, node: u8, command: Command, line: &str) {
+    is_written(rt, alloc, Entry::Command { node, command }, line);
+}
+
+/// The host 02 sets its whitelist.
+fn set(bytes: &[u8]) -> Command {
+    Command::Set {
+        host: 2,
+        gate: 0,
+        param: 3,
+        value: value(bytes),
+    }
+}
+
+/// The host 02 made a pipe to the controller.
+fn created() -> Command {
+    Command::Create(PipeRow {
         pid: 2,
         creator: 2,
         creator_gate: 0x20,
         dest: 0,
         dest_gate: 4,
         opened: false,
-    };
-    let mut tables = Tables::new();
-    let sync = Command::Sync {
+    })
+}
+
+/// The host 02 has a sync identifier.
+fn sync() -> Command {
+    Command::Sync {
         host: 2,
         id: 0x1A2B,
-    };
-    let created = Command::Create(row);
-    if created.is_recordable() && sync.is_recordable() {
-        tables.apply(&created);
-        tables.apply(&sync);
     }
-    is_written(
+}
+
+#[test]
+fn commands_are_written(rt: HostRuntime) {
+    let alloc = rt.alloc();
+    let (host, pid, opened) = (1, 1, true);
+    let opening = Command::SetOpened { host, pid, opened };
+    commands(
         &rt,
         alloc,
-        Entry::Command {
-            node: 0,
-            command: created,
-        },
+        0,
+        created(),
         "command 00 create 02 02 20 00 04\n",
-    )?;
-    is_written(
+    );
+    commands(
         &rt,
         alloc,
-        Entry::Command {
-            node: 0,
-            command: Command::Delete { pid: 5 },
-        },
+        0,
+        Command::Delete { pid: 5 },
         "command 00 delete 05\n",
-    )?;
-    is_written(
+    );
+    commands(
         &rt,
         alloc,
-        Entry::Command {
-            node: 0,
-            command: Command::Clear { host: 2 },
-        },
+        0,
+        Command::Clear { host: 2 },
         "command 00 clear 02\n",
-    )?;
-    is_written(
+    );
+    commands(&rt, alloc, 0, opening, "command 00 opened 01 01 01\n");
+    commands(
         &rt,
         alloc,
-        Entry::Command {
-            node: 0,
-            command: Command::SetOpened {
-                host: 1,
-                pid: 1,
-                opened: true,
-            },
-        },
-        "command 00 opened 01 01 01\n",
-    )?;
-    is_written(
-        &rt,
-        alloc,
-        Entry::Command {
-            node: 2,
-            command: Command::Set {
-                host: 2,
-                gate: 0,
-                param: 3,
-                value: value(&[1, 2]),
-            },
-        },
+        2,
+        set(&[1, 2]),
         "command 02 set 02 00 03 0102\n",
-    )?;
-    is_written(
-        &rt,
-        alloc,
-        Entry::Command {
-            node: 2,
-            command: Command::Set {
-                host: 2,
-                gate: 0,
-                param: 3,
-                value: value(&[]),
-            },
-        },
-        "command 02 set 02 00 03 -\n",
-    )?;
-    is_written(
-        &rt,
-        alloc,
-        Entry::Command {
-            node: 0,
-            command: sync,
-        },
-        "command 00 sync 02 1A2B\n",
-    )?;
-    is_written(
-        &rt,
-        alloc,
-        Entry::Tables {
-            node: 0,
-            tables: NodeTables::new(alloc, tables)?,
-        },
-        "tables 00 1 0 0 1\npipe 02 02 20 00 04 closed\nsync 02 1A2B\n",
-    )?;
-    Ok(())
+    );
+    commands(&rt, alloc, 2, set(&[]), "command 02 set 02 00 03 -\n");
+    commands(&rt, alloc, 0, sync(), "command 00 sync 02 1A2B\n");
+}
+
+/// The tables that a command made of these.
+fn after(mut tables: Tables, command: &Command) -> Tables {
+    if command.is_recordable() {
+        tables.apply(command);
+    }
+    tables
+}
+
+#[test]
+fn tables_are_written(rt: HostRuntime) {
+    let tables = after(after(Tables::new(), &created()), &sync());
+    let tables = NodeTables::new(rt.alloc(), tables).expect(&rt, "there is memory");
+    let text = "tables 00 1 0 0 1\npipe 02 02 20 00 04 closed\nsync 02 1A2B\n";
+    is_written(&rt, rt.alloc(), Entry::Tables { node: 0, tables }, text);
 }
 
 fn triples(triple: [u8; 3]) -> ArrayVec<[u8; 3], 8> {
@@ -636,52 +388,31 @@ fn triples(triple: [u8; 3]) -> ArrayVec<[u8; 3], 8> {
 }
 
 #[test]
-fn lines_of_a_world_of_nodes_are_written(rt: HostRuntime) -> Result<(), Fail> {
+fn lines_of_a_world_of_nodes_are_written(rt: HostRuntime) {
     let alloc = rt.alloc();
     let mut fill = ArrayVec::new();
     fill.push(0x13);
-    is_written(
+    let (host, sync, power) = (2, 0x1A2B, 1);
+    let (node, nth) = (0, 1000);
+    let init = Line::Init {
+        at: HOST,
+        identity: [1, 2, 3, 4, 5, 6, 7, 8],
+        pipes: triples([0x20, 0, 4]),
+    };
+    is_echoed(&rt, alloc, Line::Boot { node }, "> boot 00\n");
+    is_echoed(&rt, alloc, Line::Cut { node: 2 }, "> cut 02\n");
+    is_echoed(
         &rt,
         alloc,
-        Entry::Echo(Line::Boot { node: 0 }),
-        "> boot 00\n",
-    )?;
-    is_written(&rt, alloc, Entry::Echo(Line::Cut { node: 2 }), "> cut 02\n")?;
-    is_written(
-        &rt,
-        alloc,
-        Entry::Echo(Line::Activate {
-            host: 2,
-            sync: 0x1A2B,
-            power: 1,
-        }),
+        Line::Activate { host, sync, power },
         "> activate 02 1A2B 01\n",
-    )?;
-    is_written(
+    );
+    is_echoed(
         &rt,
         alloc,
-        Entry::Echo(Line::Arm {
-            node: 0,
-            nth: 1000,
-            fill,
-        }),
+        Line::Arm { node, nth, fill },
         "> arm 00 1000 13\n",
-    )?;
-    is_written(
-        &rt,
-        alloc,
-        Entry::Echo(Line::Init {
-            at: HOST,
-            identity: [1, 2, 3, 4, 5, 6, 7, 8],
-            pipes: triples([0x20, 0, 4]),
-        }),
-        "> init 02h 0102030405060708 200004\n",
-    )?;
-    is_written(
-        &rt,
-        alloc,
-        Entry::Echo(Line::Tables { node: 0 }),
-        "> tables 00\n",
-    )?;
-    Ok(())
+    );
+    is_echoed(&rt, alloc, init, "> init 02h 0102030405060708 200004\n");
+    is_echoed(&rt, alloc, Line::Tables { node }, "> tables 00\n");
 }

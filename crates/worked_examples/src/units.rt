@@ -1,3 +1,4 @@
+use crate::shown::{same, same_bytes};
 use byte_link::{ByteLink, Unit, write_unit};
 use std::process::Abort;
 use swp_base::{FrameFault, Lpdu};
@@ -14,7 +15,7 @@ fn last_of(bytes: &[u8]) -> Unit {
 
 /// The last of these bytes gives this to a new link.
 fn gives(rt: &impl Abort, bytes: &[u8], unit: Unit) {
-    assert_eq!(rt; last_of(bytes), unit);
+    same(rt, &last_of(bytes), &unit);
 }
 
 #[test]
@@ -37,5 +38,5 @@ fn units_are_read(rt: HostRuntime) {
 fn unit_is_spelled(rt: HostRuntime) {
     let sync = Lpdu::new(&[0x61, 0x00, 0x01]);
     let unit = [0x00, 0x03, 0x61, 0x00, 0x01, 0x8F, 0x19];
-    assert_eq!(rt; write_unit(&sync).as_slice(), unit.as_slice());
+    same_bytes(&rt, write_unit(&sync).as_slice(), unit.as_slice());
 }

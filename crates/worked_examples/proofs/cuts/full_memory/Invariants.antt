@@ -2,4 +2,4 @@ use Rattle.std.proofs.Common.{◌≡◌, length}
 use Rattle.worked_examples.proofs.cuts.full_memory.Given as goal
 
 abbrev pub invariant-loop-position : goal.invariant-loop-position
-invariant-loop-position l = length l.nv.content ≡ 65536
+invariant-loop-position g l = length l.nv.content ≡ 65536
