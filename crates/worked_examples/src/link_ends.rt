@@ -289,14 +289,6 @@ fn message_of_4096_bytes(rt: HostRuntime) {
 }
 
 #[test]
-fn a_header_alone_is_one_fragment(rt: HostRuntime) {
-    let mut node = Node::make(&rt, rt.alloc(), Role::Bare);
-    offers(&rt, &mut node, &[3], Ok(()));
-    sends(&rt, &mut node, &[0x80, 0x81, 0x03]);
-    sends(&rt, &mut node, &[]);
-}
-
-#[test]
 fn a_fifth_message_under_way_ends_the_session(rt: HostRuntime) {
     let mut node = Node::make(&rt, rt.alloc(), Role::Bare);
     answers(&rt, &mut node, &[0x80, 0x02, 0x41], &[0xC1]);
@@ -344,36 +336,6 @@ fn an_end_that_is_not_answered_gives_up_after_three_tries(rt: HostRuntime) {
     waits(&rt, &mut node, 9);
     ticks(&rt, &mut node, Some(3), &[]);
     waits(&rt, &mut node, 10);
-}
-
-#[test]
-fn a_window_of_one_lets_one_fragment_out(rt: HostRuntime) {
-    let mut node = Node::make(&rt, rt.alloc(), Role::Bare);
-    let begins = LinkReport {
-        ended: Some(Cause::Peer),
-        began: true,
-        ..NOTHING
-    };
-    takes(&rt, &mut node, &[0xF9, 0x01, 0x00], begins, &[0xE6]);
-    offers(&rt, &mut node, &[3], Ok(()));
-    offers(&rt, &mut node, &[0x42], Ok(()));
-    sends(&rt, &mut node, &[0x80, 0x81, 0x03]);
-    sends(&rt, &mut node, &[]);
-    let acked = LinkReport {
-        acked: 1,
-        ..NOTHING
-    };
-    takes(&rt, &mut node, &[0xC1], acked, &[0x88, 0x81, 0x42]);
-}
-
-#[test]
-fn a_held_end_takes_no_fragments(rt: HostRuntime) {
-    let mut node = Node::make(&rt, rt.alloc(), Role::Bare);
-    node.hold(&rt, true);
-    answers(&rt, &mut node, &[0x80, 0x81, 0x03], &[0xD0]);
-    node.hold(&rt, false);
-    sends(&rt, &mut node, &[0xC0]);
-    sends(&rt, &mut node, &[]);
 }
 
 /// A frame comes to the first end, which answers it, and the second one sends the same frame.

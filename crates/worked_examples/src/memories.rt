@@ -1,9 +1,9 @@
-//! The word `tables` over memories.
+//! The word `tables` over memories that fail. What it says of a whole memory is shown by the table of cases, `examples/cases.txt`.
 ghost use Rattle.std.specs.Prelude.{◌≡◌, ◌≤◌, length};
 
+use crate::runs::one_word;
 use crate::shown::same;
-use nv_journal::JournalFault;
-use std::alloc::{AllocError, Global};
+use std::alloc::Global;
 use std::process::Abort;
 use swp_base::{MemNv, MemSink, MemSource, Nv};
 use swp_tool::{Ended, Status, run};
@@ -26,20 +26,11 @@ pub(crate) fn memory(rt: &impl Abort, alloc: Global, image: &[u8]) -> MemNv
     nv
 }
 
-/// The word `tables` alone.
-fn tables_word(alloc: Global) -> Result<Vec<String>, AllocError> {
-    let mut words = Vec::new(alloc);
-    words
-        .push(String::from_str(alloc, "tables")?)
-        .map_err(AllocError::from)?;
-    Ok(words)
-}
-
 /// How a run with the word `tables` over a memory ended, what it wrote, and the memory.
 fn told(rt: &impl Abort, alloc: Global, nv: MemNv) -> (Status, MemSink, MemNv)
     requires { length nv.content ≡ 65536 }
 {
-    let words = tables_word(alloc).expect(rt, "there is memory");
+    let words = one_word(alloc, "tables").expect(rt, "there is memory");
     let mut source = MemSource::new(Vec::new(alloc), Vec::new(alloc), 4096);
     let mut sink = MemSink::new(Vec::new(alloc), Vec::new(alloc), 4096);
     let Ended { status, nv } = run(alloc, words.as_slice(), &mut source, &mut sink, nv);
@@ -59,31 +50,6 @@ pub(crate) fn tells(rt: &impl Abort, alloc: Global, nv: MemNv, ended: Status, te
     let (status, sink, nv) = told(rt, alloc, whole(rt, nv));
     same(rt, &(status, sink.bytes()), &(ended, text.as_bytes()));
     nv
-}
-
-/// Over a memory that begins with these bytes, the word `tables` ends so and writes this text.
-fn image_tells(rt: &impl Abort, alloc: Global, image: &[u8], ended: Status, text: &str)
-    requires { length image.now ≤ 64 }
-{
-    let _nv = tells(rt, alloc, memory(rt, alloc, image), ended, text);
-}
-
-#[test]
-fn images_are_told_or_refused_with_their_place(rt: HostRuntime) {
-    let alloc = rt.alloc();
-    let mut unknown = IMAGE;
-    unknown[1] = 0x07;
-    // Behind the two records a third one begins, whose length of 3E is above 61.
-    let mut bad = [0xFF; 26];
-    bad[..25].copy_from_slice(&IMAGE);
-    bad[24] = 0x5A;
-    bad[25] = 0x3E;
-    image_tells(&rt, alloc, &[], Status::Done, "tables nv 0 0 0 0\n");
-    image_tells(&rt, alloc, &IMAGE, Status::Done, TABLES);
-    let fault = JournalFault::UnknownFormat { version: 7 };
-    image_tells(&rt, alloc, &unknown, Status::BadImage { fault }, "");
-    let fault = JournalFault::BadRecord { at: 24 };
-    image_tells(&rt, alloc, &bad, Status::BadImage { fault }, "");
 }
 
 /// A memory of which the read of this number fails is told the next time.

@@ -178,13 +178,6 @@ impl Node {
         report
     }
 
-    /// Holds the end, or lets it go.
-    pub(crate) fn hold(&mut self, rt: &impl Abort, held: bool) {
-        has_room(rt, &self.end);
-        self.end.hold(held);
-        let _none = fetch(&mut self.end, &mut self.pool);
-    }
-
     /// The next frame to be sent.
     pub(crate) fn next_out(&mut self) -> Option<Lpdu> {
         let frame = self.end.next_out(&self.pool);

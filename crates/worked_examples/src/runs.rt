@@ -8,7 +8,7 @@ ghost use Rattle.swp_tool.specs.Decodings.{most_bytes};
 use crate::rows::*;
 use crate::shown::{same, same_bytes};
 use schedule_text::LineFault;
-use std::alloc::{AllocError, Global};
+use std::alloc::Global;
 use std::process::Abort;
 use swp_base::{MemNv, MemSink, MemSource, NoMemory, SureNv, SureSink, SureSource};
 use swp_tool::*;
@@ -31,15 +31,18 @@ fn calls_of(rt: &impl Abort, alloc: Global, calls: &[u64]) -> Vec<u64> {
     Vec::from_slice(alloc, calls).expect(rt, "there is memory")
 }
 
+/// A copy of this word.
+fn text_of(rt: &impl Abort, alloc: Global, word: &str) -> String {
+    String::from_str(alloc, word).expect(rt, "there is memory")
+}
+
 /// A copy of these words.
-fn words_of(alloc: Global, words: &[&str]) -> Result<Vec<String>, AllocError> {
+fn words_of(rt: &impl Abort, alloc: Global, words: &[&str]) -> Vec<String> {
     let mut given = Vec::new(alloc);
     for word in words {
-        given
-            .push(String::from_str(alloc, word)?)
-            .map_err(AllocError::from)?;
+        let _ = given.push(text_of(rt, alloc, word));
     }
-    Ok(given)
+    given
 }
 
 /// A memory for a run.
@@ -61,7 +64,7 @@ fn outcome_of(
     requires { 1 ≤ piece }
 {
     let (reads, writes) = fails;
-    let given = words_of(alloc, words).expect(rt, "there is memory");
+    let given = words_of(rt, alloc, words);
     let mut source = MemSource::new(
         bytes_of(rt, alloc, bytes),
         calls_of(rt, alloc, reads),
@@ -78,13 +81,13 @@ fn outcome_of(
 }
 
 /// The words that are this one.
-fn one_word(alloc: Global, word: &str) -> Result<Vec<String>, NoMemory>
+pub(crate) fn one_word(alloc: Global, word: &str) -> Result<Vec<String>, NoMemory>
     ensures { IfOk result (λ words. map string_bytes words.items ≡ word.now ∷ []) }
 {
     let mut words = Vec::new(alloc);
-    words
-        .push(String::from_str(alloc, word)?)
-        .map_err(AllocError::from)?;
+    if words.push(String::from_str(alloc, word)?).is_err() {
+        return Err(NoMemory);
+    }
     Ok(words)
 }
 
@@ -112,11 +115,12 @@ const DECODE: [&str; 1] = ["decode"];
 
 const NONE: (&[u64], &[u64]) = (&[], &[]);
 
-/// A replay of which these calls fail ends with this status, and wrote this text.
-fn replays(
+/// A run of which these calls fail ends with this status, and wrote this text.
+fn writes(
     rt: &impl Abort,
     alloc: Global,
-    schedule: &str,
+    words: &[&str],
+    bytes: &[u8],
     fails: (&[u64], &[u64]),
     piece: u32,
     status: Status,
@@ -124,7 +128,7 @@ fn replays(
 )
     requires { 1 ≤ piece }
 {
-    let run = outcome_of(rt, alloc, &REPLAY, schedule.as_bytes(), fails, piece);
+    let run = outcome_of(rt, alloc, words, bytes, fails, piece);
     same(
         rt,
         &(run.status, run.sink.bytes()),
@@ -149,22 +153,6 @@ fn replays_a_front(
     same(rt, &(run.status, is_front), &(status, true));
 }
 
-/// A decoding of which these calls fail ends with this status, and wrote this text.
-fn decodes(
-    rt: &impl Abort,
-    alloc: Global,
-    record: &[u8],
-    fails: (&[u64], &[u64]),
-    piece: u32,
-    status: Status,
-    text: &[u8],
-)
-    requires { 1 ≤ piece }
-{
-    let run = outcome_of(rt, alloc, &DECODE, record, fails, piece);
-    same(rt, &(run.status, run.sink.bytes()), &(status, text));
-}
-
 /// A run of which these calls fail ends with this status, and leaves so many bytes unread.
 fn leaves(
     rt: &impl Abort,
@@ -186,7 +174,16 @@ fn leaves(
 fn schedules_that_come_byte_by_byte_are_replayed(rt: HostRuntime) {
     let alloc = rt.alloc();
     let [schedule, transcript] = ONE_MESSAGE;
-    replays(&rt, alloc, schedule, NONE, 1, Status::Done, transcript);
+    writes(
+        &rt,
+        alloc,
+        &REPLAY,
+        schedule.as_bytes(),
+        NONE,
+        1,
+        Status::Done,
+        transcript,
+    );
     leaves(
         &rt,
         alloc,
@@ -199,7 +196,16 @@ fn schedules_that_come_byte_by_byte_are_replayed(rt: HostRuntime) {
     );
     let [damage, begun] = DAMAGE_THE_CRC_DOES_NOT_SHOW;
     let undetected = Status::Undetected { line: 3 };
-    replays(&rt, alloc, damage, NONE, 1, undetected, begun);
+    writes(
+        &rt,
+        alloc,
+        &REPLAY,
+        damage.as_bytes(),
+        NONE,
+        1,
+        undetected,
+        begun,
+    );
 }
 
 /// A schedule that begins so, and has 10,000 lines of comments behind.
@@ -252,19 +258,21 @@ fn a_read_that_fails_leaves_the_whole_lines_before_it(rt: HostRuntime) {
     let [schedule, transcript] = ONE_MESSAGE;
     let lines = transcript.trim_end_matches("done 4\n");
     let alloc = rt.alloc();
-    replays(
+    writes(
         &rt,
         alloc,
-        schedule,
+        &REPLAY,
+        schedule.as_bytes(),
         (&[1], &[]),
         4096,
         Status::ReadFault,
         "",
     );
-    replays(
+    writes(
         &rt,
         alloc,
-        schedule,
+        &REPLAY,
+        schedule.as_bytes(),
         (&[2], &[]),
         4096,
         Status::ReadFault,
@@ -316,7 +324,16 @@ fn nothing_is_read_behind_the_end_or_a_bad_line(rt: HostRuntime) {
         Status::Done,
         0,
     );
-    replays(&rt, alloc, damage, (&[2], &[]), 4096, undetected, begun);
+    writes(
+        &rt,
+        alloc,
+        &REPLAY,
+        damage.as_bytes(),
+        (&[2], &[]),
+        4096,
+        undetected,
+        begun,
+    );
 }
 
 #[test]
@@ -361,79 +378,57 @@ const RECORD: [u8; 40] = [
 
 #[test]
 fn a_record_that_comes_in_pieces_is_decoded(rt: HostRuntime) {
-    let text = b"s1 0 C1 rr 1\ndone 40\n";
-    decodes(&rt, rt.alloc(), &RECORD, NONE, 1, Status::Done, text);
-    decodes(&rt, rt.alloc(), &RECORD, NONE, 7, Status::Done, text);
-}
-
-/// The frame on S1, then the same bits on both wires, over and over: more text than is gathered at once.
-fn long_record(alloc: Global) -> Result<Vec<u8>, AllocError> {
-    let mut record = Vec::new(alloc);
-    for _ in 0..400 {
-        record.extend_from_slice(&RECORD)?;
-        for byte in RECORD {
-            record.push(if byte == 0x54 { 0xFC } else { byte })?;
-        }
-    }
-    Ok(record)
-}
-
-/// The text of that record.
-fn long_text(alloc: Global) -> Result<Vec<u8>, AllocError> {
-    let mut text = Vec::new(alloc);
-    for turn in 0..400u32 {
-        let first = 80 * turn;
-        let second = first + 40;
-        let lines = format!(in alloc;
-            "s1 {first} C1 rr 1\ns1 {second} C1 rr 1\ns2 {second} C1 rr 1\n"
-        )?;
-        text.extend_from_slice(lines.as_bytes())?;
-    }
-    text.extend_from_slice(b"done 32000\n")?;
-    Ok(text)
-}
-
-#[test]
-fn a_long_record_is_decoded_in_order(rt: HostRuntime) {
-    let alloc = rt.alloc();
-    let record = long_record(alloc).expect(&rt, "there is memory");
-    let text = long_text(alloc).expect(&rt, "there is memory");
-    decodes(
+    let text = "s1 0 C1 rr 1\ndone 40\n";
+    writes(
         &rt,
-        alloc,
-        record.as_slice(),
+        rt.alloc(),
+        &DECODE,
+        &RECORD,
         NONE,
-        4096,
+        1,
         Status::Done,
-        text.as_slice(),
+        text,
+    );
+    writes(
+        &rt,
+        rt.alloc(),
+        &DECODE,
+        &RECORD,
+        NONE,
+        7,
+        Status::Done,
+        text,
     );
 }
 
 #[test]
 fn a_decoding_that_is_cut_off_leaves_the_lines_before_it(rt: HostRuntime) {
     let alloc = rt.alloc();
-    let line = b"s1 0 C1 rr 1\n";
-    decodes(
+    let line = "s1 0 C1 rr 1\n";
+    writes(
         &rt,
         alloc,
+        &DECODE,
         &RECORD,
         (&[2], &[]),
         4096,
         Status::ReadFault,
         line,
     );
-    decodes(
+    writes(
         &rt,
         alloc,
+        &DECODE,
         &RECORD,
         (&[], &[2]),
         7,
         Status::WriteFault,
-        b"s1 0 C1",
+        "s1 0 C1",
     );
-    decodes(
+    writes(
         &rt,
         alloc,
+        &DECODE,
         &RECORD,
         (&[], &[2]),
         4096,

@@ -1,4 +1,5 @@
-//! The lines of a schedule and the entries of a transcript, as texts.
+//! Faults of the lines of a schedule, and the entries of a transcript that no replay writes yet. What is read and written of the
+//! others is shown by the table of cases, `examples/cases.txt`.
 use crate::shown::{same, same_bytes};
 use arrayvec::ArrayVec;
 use hci_tables::{Command, Tables};
@@ -26,37 +27,14 @@ fn header_of(hci: bool) -> Header {
     Header { hci, hosts }
 }
 
-fn places(numbers: &[u16]) -> ArrayVec<u16, 16> {
-    let mut places = ArrayVec::new();
-    let _ = places.try_extend_from_slice(numbers);
-    places
-}
-
 fn octets(rt: &impl Abort, alloc: Global, bytes: &[u8]) -> Octets {
     Octets::from_slice(alloc, bytes).expect(rt, "there is memory")
-}
-
-/// The host sends a message.
-fn send(rt: &impl Abort, alloc: Global, pid: u8, message: &[u8]) -> Line {
-    Line::Send {
-        at: HOST,
-        pid,
-        message: octets(rt, alloc, message),
-    }
 }
 
 /// What is read of a line below the header of a world.
 fn read_below(alloc: Global, hci: bool, text: &str) -> Result<Read, LineFault> {
     let known = header_of(hci);
     read_line(alloc, Some(&known), text.as_bytes())
-}
-
-/// In a bare world this text is read as this line.
-fn is_read(rt: &impl Abort, alloc: Global, text: &str, line: &Line) {
-    match read_below(alloc, false, text) {
-        Ok(Read::Line(read)) => same(rt, &read, line),
-        _ => panic!(rt; "the text is read as no line"),
-    }
 }
 
 /// The entry is written as this line.
@@ -69,79 +47,6 @@ fn is_written(rt: &impl Abort, alloc: Global, entry: Entry, line: &str) {
 /// The line is echoed as this text.
 fn is_echoed(rt: &impl Abort, alloc: Global, line: Line, text: &str) {
     is_written(rt, alloc, Entry::Echo(line), text);
-}
-
-/// The text behind an echo's first two bytes, in front of its line feed.
-fn echoed(echo: &str) -> &str {
-    echo.trim_start_matches("> ").trim_end_matches("\n")
-}
-
-/// The text of this echo is read as this line, and echoed again.
-fn stands_for(rt: &impl Abort, alloc: Global, echo: &str, line: Line) {
-    is_read(rt, alloc, echoed(echo), &line);
-    is_echoed(rt, alloc, line, echo);
-}
-
-/// In a bare world this line is skipped.
-fn is_skipped(rt: &impl Abort, alloc: Global, text: &str) {
-    same(rt, &read_below(alloc, false, text), &Ok(Read::Skip));
-}
-
-#[test]
-fn lines_are_read(rt: HostRuntime) {
-    let alloc = rt.alloc();
-    let header = read_line(alloc, None, b"swp  1 bare 02 ");
-    same(&rt, &header, &Ok(Read::Header(header_of(false))));
-    let line = send(&rt, alloc, 0x6F, &[0x81, 0xAA]);
-    is_read(&rt, alloc, " send  02h 6f 81aA ", &line);
-    is_skipped(&rt, alloc, "");
-    is_skipped(&rt, alloc, "   ");
-    is_skipped(&rt, alloc, "# deliver");
-    is_skipped(&rt, alloc, "  #swp");
-}
-
-#[test]
-fn forms_of_messages_and_frames_are_read_and_written(rt: HostRuntime) {
-    let alloc = rt.alloc();
-    let (at, count, window) = (CONTROLLER, None, None);
-    stands_for(&rt, alloc, "> send 02h 01 03\n", send(&rt, alloc, 1, &[3]));
-    stands_for(&rt, alloc, "> deliver 02c\n", Line::Deliver { at, count });
-    let (at, count) = (HOST, Some(64));
-    stands_for(
-        &rt,
-        alloc,
-        "> deliver 02h 64\n",
-        Line::Deliver { at, count },
-    );
-    stands_for(&rt, alloc, "> lose 02h\n", Line::Lose { at });
-    stands_for(&rt, alloc, "> reset 02h\n", Line::Reset { at, window });
-    let (at, window) = (CONTROLLER, Some(4));
-    stands_for(&rt, alloc, "> reset 02c 4\n", Line::Reset { at, window });
-}
-
-#[test]
-fn forms_of_damage_time_and_readiness_are_read_and_written(rt: HostRuntime) {
-    let alloc = rt.alloc();
-    let at = CONTROLLER;
-    let first = places(&[0]);
-    let three = places(&[24, 28, 399]);
-    let (one, many) = (None, Some(100));
-    stands_for(
-        &rt,
-        alloc,
-        "> damage 02c 0\n",
-        Line::Damage { at, places: first },
-    );
-    stands_for(
-        &rt,
-        alloc,
-        "> damage 02c 24 28 399\n",
-        Line::Damage { at, places: three },
-    );
-    stands_for(&rt, alloc, "> tick\n", Line::Tick { times: one });
-    stands_for(&rt, alloc, "> tick 100\n", Line::Tick { times: many });
-    stands_for(&rt, alloc, "> busy 02c\n", Line::Busy { at });
-    stands_for(&rt, alloc, "> ready 02h\n", Line::Ready { at: HOST });
 }
 
 /// As the first line of a schedule this line is refused so.
@@ -262,81 +167,24 @@ fn a_line_has_at_most_nine_thousand_bytes(rt: HostRuntime) {
 }
 
 #[test]
-fn entries_of_messages_are_written(rt: HostRuntime) {
+fn ends_of_sessions_and_large_numbers_are_written(rt: HostRuntime) {
     let alloc = rt.alloc();
-    let message = octets(&rt, alloc, &[3]);
-    let (at, session, pid) = (HOST, 0, 1);
-    let sent = Entry::Sent {
-        at,
-        session,
-        pid,
-        message,
-    };
-    is_written(&rt, alloc, sent, "sent 02h 0 01 03\n");
-    let message = octets(&rt, alloc, &[3]);
-    let at = CONTROLLER;
-    let got = Entry::Got {
-        at,
-        session,
-        pid,
-        message,
-    };
-    is_written(&rt, alloc, got, "got 02c 0 01 03\n");
-    let count = 4_294_967_295;
-    let acked = Entry::Acked {
-        at: HOST,
-        session,
-        count,
-    };
-    is_written(&rt, alloc, acked, "acked 02h 0 4294967295\n");
-    let full = NoCause::Full {
-        need: 129,
-        spare: 128,
-    };
-    is_written(&rt, alloc, Entry::No { cause: full }, "no full 129 128\n");
-    let long = NoCause::TooLong;
-    is_written(&rt, alloc, Entry::No { cause: long }, "no too-long\n");
-}
-
-#[test]
-fn entries_of_frames_and_echoes_are_written(rt: HostRuntime) {
-    let alloc = rt.alloc();
-    is_written(
-        &rt,
-        alloc,
-        Entry::Head(header_of(false)),
-        "> swp 1 bare 02\n",
-    );
-    let (at, count) = (CONTROLLER, Some(10));
-    is_written(&rt, alloc, Entry::Up { at, session: 0 }, "up 02c 0\n");
-    is_echoed(
-        &rt,
-        alloc,
-        Line::Deliver { at, count },
-        "> deliver 02c 10\n",
-    );
-    let lpdu = Lpdu::new(&[0x80, 0x81, 3]);
-    is_written(&rt, alloc, Entry::Took { at, lpdu }, "took 02c 808103\n");
-    let (at, lpdu) = (HOST, Lpdu::new(&[0x80, 0x81, 3]));
-    is_written(&rt, alloc, Entry::Emit { at, lpdu }, "emit 02h 808103\n");
-}
-
-/// An end goes down so, and this is written.
-fn goes_down(rt: &impl Abort, alloc: Global, at: End, cause: Cause, line: &str) {
-    is_written(rt, alloc, Entry::Down { at, cause }, line);
-}
-
-#[test]
-fn ends_of_sessions_are_written(rt: HostRuntime) {
-    let alloc = rt.alloc();
-    goes_down(&rt, alloc, HOST, Cause::Asked, "down 02h asked\n");
-    goes_down(&rt, alloc, HOST, Cause::NoAnswer, "down 02h noanswer\n");
-    goes_down(&rt, alloc, CONTROLLER, Cause::Peer, "down 02c peer\n");
-    goes_down(&rt, alloc, CONTROLLER, Cause::Act, "down 02c act\n");
-    goes_down(&rt, alloc, CONTROLLER, Cause::Chain, "down 02c chain\n");
-    let (at, tries) = (HOST, 5);
+    let (at, session, count) = (HOST, 0, 4_294_967_295);
+    let (need, spare) = (129, 128);
     is_written(&rt, alloc, Entry::Active { at }, "active 02h\n");
-    is_written(&rt, alloc, Entry::GaveUp { at, tries }, "gaveup 02h 5\n");
+    let acked = Entry::Acked { at, session, count };
+    is_written(&rt, alloc, acked, "acked 02h 0 4294967295\n");
+    refuses(
+        &rt,
+        alloc,
+        NoCause::Full { need, spare },
+        "no full 129 128\n",
+    );
+    let at = CONTROLLER;
+    let cause = Cause::Act;
+    is_written(&rt, alloc, Entry::Down { at, cause }, "down 02c act\n");
+    let cause = Cause::Chain;
+    is_written(&rt, alloc, Entry::Down { at, cause }, "down 02c chain\n");
 }
 
 /// The frame on its way to the host is lost so, and this is written.
@@ -385,9 +233,7 @@ fn causes_of_refusals_are_written(rt: HostRuntime) {
     refuses(&rt, alloc, NoCause::Off, "no off\n");
     refuses(&rt, alloc, NoCause::Running, "no running\n");
     refuses(&rt, alloc, NoCause::Inactive, "no inactive\n");
-    refuses(&rt, alloc, NoCause::NotUp, "no not-up\n");
     refuses(&rt, alloc, NoCause::Waiting, "no waiting\n");
-    refuses(&rt, alloc, NoCause::Empty, "no empty\n");
     refuses(&rt, alloc, NoCause::Beyond { bits: 71 }, "no beyond 71\n");
 }
 
