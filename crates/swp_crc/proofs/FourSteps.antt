@@ -72,7 +72,7 @@ bits_of_sum : (bits : List Bool) (n b : ℕ) → length bits ≡ 8 → n ≡ spe
 bits_of_sum bits n b eight is small =
     ap bits_of_byte index
     ∙ number_of-injective (bits_of_byte (spelled_number top)) top (length-bits_of_byte (spelled_number top) ∙ sym long)
-        (number_of_byte (spelled_number top) within)
+    (number_of_byte (spelled_number top) within)
   where
     top : List Bool
     top = sum_from_front bits (bits_of_byte b)
