@@ -96,7 +96,7 @@ module _ (region next : List ℕ) (heads : List (Option Head)) (free free_len : 
       ap (block_at next b) e ∙ (sound.chains b head at).last
 
   -- the chain's bytes after a byte more in its last block
-  pushed_bytes : (b : ℕ) (head : Head) (byte : ℕ) → get_or heads b None ≡ Some head → 0 < head.len % 32
+  pub pushed_bytes : (b : ℕ) (head : Head) (byte : ℕ) → get_or heads b None ≡ Some head → 0 < head.len % 32
       → laid_bytes (set region (32 * head.last + head.len % 32) byte) next b (head.len + 1) ≡ laid_bytes region next b head.len ++ byte ∷ []
   pushed_bytes b head byte at room =
       let chain = sound.chains b head at in

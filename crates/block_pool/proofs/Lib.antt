@@ -1,5 +1,7 @@
 pub mod LinkLemmas
 pub mod LayoutLemmas
+pub mod CopyLemmas
+pub mod FillLemmas
 pub mod WalkLemmas
 pub mod PlaceLemmas
 pub mod SlotLemmas

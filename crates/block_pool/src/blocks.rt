@@ -1,7 +1,7 @@
 //! Blocks of memory in one region, linked into chains and a list of free blocks.
 ghost use Rattle.std.specs.Prelude.{◌≡◌, ℕ, ◌+◌, ◌*◌, ◌/◌, ◌^◌, ◌<◌, ◌≤◌, length, map, replicate, None, Some, IsSome, IfOk, slice_index_or};
 ghost use Rattle.std.specs.List.{range_with_len};
-ghost use Rattle.block_pool.specs.Links.{block_at, linked_byte};
+ghost use Rattle.block_pool.specs.Links.{block_at, linked_byte, overwritten};
 
 use std::alloc::{AllocError, Global};
 use std::marker::Model;
@@ -79,15 +79,26 @@ fn copy_from(
     ensures behind { result ≡ block_at next.now first ((from + length out.old) / 32) }
 {
     let mut block = seek(next, first, head, from / BLOCK_BYTES);
-    let mut place = from;
-    for byte in out.iter_mut() {
-        *byte = region[BLOCK_BYTES * block as usize + place % BLOCK_BYTES];
-        place += 1;
-        if place % BLOCK_BYTES == 0 {
+    let mut done = 0;
+    'pieces: while done < out.len() {
+        let offset = (from + done) % BLOCK_BYTES;
+        let count = (out.len() - done).min(BLOCK_BYTES - offset);
+        let place = BLOCK_BYTES * block as usize + offset;
+        overwrite(out, done, &region[place..place + count]);
+        done += count;
+        if offset + count == BLOCK_BYTES {
             block = next[block as usize];
         }
     }
     block
+}
+
+/// Writes bytes over a slice from a place on.
+fn overwrite(region: &mut [u8], place: usize, bytes: &[u8])
+    requires { place + length bytes.now ≤ length region.old }
+    ensures { region.new ≡ overwritten region.old place bytes.now }
+{
+    region[place..place + bytes.len()].copy_from_slice(bytes);
 }
 
 /// Links from each of so many blocks to the one behind it.
@@ -202,21 +213,23 @@ impl Blocks {
         block
     }
 
-    /// Appends a byte to a chain whose last block has room.
-    fn push_in_block(&mut self, first: u16, byte: u8)
-        requires room { 0 < length (held_bytes self.old.slots first) % 32 }
+    /// Appends bytes to a chain whose last block has room for them.
+    fn fill_block(&mut self, first: u16, bytes: &[u8])
+        requires more { 0 < length bytes.now }
+        requires begun { 0 < length (held_bytes self.old.slots first) % 32 }
+        requires room { length (held_bytes self.old.slots first) % 32 + length bytes.now ≤ 32 }
         requires short { length (held_bytes self.old.slots first) < 2 ^ 24 }
         ensures slots { self.new.slots
-            ≡ with_chain self.old.slots first (owner_of self.old.slots first) (held_bytes self.old.slots first ++ byte ∷ []) }
+            ≡ with_chain self.old.slots first (owner_of self.old.slots first) (held_bytes self.old.slots first ++ bytes.now) }
         ensures free { self.new.free ≡ self.old.free }
     {
         let head = head_at(&self.heads, first);
         let place = BLOCK_BYTES * head.last as usize + head.len as usize % BLOCK_BYTES;
-        self.region[place] = byte;
+        overwrite(&mut self.region, place, bytes);
         self.heads[first as usize] = Some(Head {
             owner: head.owner,
             last: head.last,
-            len: head.len + 1,
+            len: head.len + bytes.len() as u32,
             read_on: head.read_on,
             passed: head.passed,
         });
@@ -261,22 +274,28 @@ impl Blocks {
         self.heads[first as usize] = None;
     }
 
-    /// Appends a byte to a chain.
-    fn push(&mut self, first: u16, byte: u8)
+    /// Appends as many bytes to a chain as its last block has room for, or the first one in a new block, and says how many.
+    fn push_some(&mut self, first: u16, bytes: &[u8]) -> usize
         requires some { 0 < length (held_bytes self.old.slots first) }
-        requires short { length (held_bytes self.old.slots first) < 2 ^ 24 }
-        requires room { blocks_for (length (held_bytes self.old.slots first) + 1)
+        requires more { 0 < length bytes.now }
+        requires short { length (held_bytes self.old.slots first) + length bytes.now < 2 ^ 24 }
+        requires room { blocks_for (length (held_bytes self.old.slots first) + length bytes.now)
             ≤ blocks_for (length (held_bytes self.old.slots first)) + self.old.free }
+        ensures one { 0 < result }
+        ensures count { result ≤ length bytes.now }
         ensures slots { self.new.slots
-            ≡ with_chain self.old.slots first (owner_of self.old.slots first) (held_bytes self.old.slots first ++ byte ∷ []) }
-        ensures free { self.new.free + blocks_for (length (held_bytes self.old.slots first) + 1)
+            ≡ with_chain self.old.slots first (owner_of self.old.slots first) (held_bytes self.old.slots first ++ take result bytes.now) }
+        ensures free { self.new.free + blocks_for (length (held_bytes self.old.slots first) + result)
             ≡ self.old.free + blocks_for (length (held_bytes self.old.slots first)) }
     {
-        if self.len(first) as usize % BLOCK_BYTES == 0 {
-            self.push_in_new_block(first, byte);
-        } else {
-            self.push_in_block(first, byte);
+        let used = self.len(first) as usize % BLOCK_BYTES;
+        if used == 0 {
+            self.push_in_new_block(first, bytes[0]);
+            return 1;
         }
+        let count = bytes.len().min(BLOCK_BYTES - used);
+        self.fill_block(first, &bytes[..count]);
+        count
     }
 
     /// Appends bytes to a chain.
@@ -290,8 +309,9 @@ impl Blocks {
         ensures free { self.new.free + blocks_for (length (held_bytes self.old.slots first) + length bytes.now)
             ≡ self.old.free + blocks_for (length (held_bytes self.old.slots first)) }
     {
-        for byte in bytes {
-            self.push(first, *byte);
+        let mut done = 0;
+        'pieces: while done < bytes.len() {
+            done += self.push_some(first, &bytes[done..]);
         }
     }
 

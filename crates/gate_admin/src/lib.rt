@@ -9,4 +9,5 @@ mod tests_in_order;
 mod view;
 
 pub use decision::{Decision, decide};
+pub use pipes::{far_end, far_end_of, is_opened};
 pub use view::LinkView;

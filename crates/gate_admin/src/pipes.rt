@@ -48,8 +48,8 @@ pub(crate) fn refusal_of_pipe(
     ])
 }
 
-// The end of a pipe that isn't the host's: a host and a gate.
-fn far_end(tables: &Tables, host: u8, pipe: u8) -> Option<(u8, u8)>
+/// The end of a pipe of a host that isn't the host's own: a host and a gate. None where the pipe isn't the host's.
+pub fn far_end(tables: &Tables, host: u8, pipe: u8) -> Option<(u8, u8)>
     ensures { result ≡ far_end tables.now host pipe }
 {
     match pipe {
@@ -59,7 +59,8 @@ fn far_end(tables: &Tables, host: u8, pipe: u8) -> Option<(u8, u8)>
     }
 }
 
-fn far_end_of(host: u8, row: &PipeRow) -> Option<(u8, u8)>
+/// The end of this dynamic pipe that isn't the host's own: none where the pipe doesn't end at the host.
+pub fn far_end_of(host: u8, row: &PipeRow) -> Option<(u8, u8)>
     ensures { result ≡ far_end_of host row.now }
 {
     if row.creator == host {
@@ -71,7 +72,8 @@ fn far_end_of(host: u8, row: &PipeRow) -> Option<(u8, u8)>
     }
 }
 
-fn is_opened(tables: &Tables, host: u8, pipe: u8) -> bool
+/// Whether a pipe is opened: a static one of this host, or a dynamic one.
+pub fn is_opened(tables: &Tables, host: u8, pipe: u8) -> bool
     ensures { result ≡ is_opened tables.now host pipe }
 {
     if pipe < FIRST_DYNAMIC {

@@ -62,6 +62,37 @@ impl Command {
             Command::Sync { host, .. } => 1 <= *host && *host <= 7,
         }
     }
+
+    /// Another command that is equal to it. It takes no memory.
+    pub fn copied(&self) -> Self
+        ensures { result ≡ self.now }
+    {
+        match self {
+            Command::Create(row) => Command::Create(*row),
+            Command::Delete { pid } => Command::Delete { pid: *pid },
+            Command::Clear { host } => Command::Clear { host: *host },
+            Command::SetOpened { host, pid, opened } => Command::SetOpened {
+                host: *host,
+                pid: *pid,
+                opened: *opened,
+            },
+            Command::Set {
+                host,
+                gate,
+                param,
+                value,
+            } => Command::Set {
+                host: *host,
+                gate: *gate,
+                param: *param,
+                value: copied_value(value),
+            },
+            Command::Sync { host, id } => Command::Sync {
+                host: *host,
+                id: *id,
+            },
+        }
+    }
 }
 
 ghost use Rattle.std.specs.Prelude.{◌≡◌, ◌&&◌, ◌==◌, not};
@@ -113,30 +144,15 @@ impl Clone for Command {
     ghost is_clone = { λ a b. b ≡ a };
 
     fn clone(&self) -> Result<Self, AllocError> {
-        match self {
-            Command::Create(row) => Ok(Command::Create(*row)),
-            Command::Delete { pid } => Ok(Command::Delete { pid: *pid }),
-            Command::Clear { host } => Ok(Command::Clear { host: *host }),
-            Command::SetOpened { host, pid, opened } => Ok(Command::SetOpened {
-                host: *host,
-                pid: *pid,
-                opened: *opened,
-            }),
-            Command::Set {
-                host,
-                gate,
-                param,
-                value,
-            } => Ok(Command::Set {
-                host: *host,
-                gate: *gate,
-                param: *param,
-                value: value.clone()?,
-            }),
-            Command::Sync { host, id } => Ok(Command::Sync {
-                host: *host,
-                id: *id,
-            }),
-        }
+        Ok(self.copied())
     }
+}
+
+// Another value that is equal to it.
+fn copied_value(value: &ArrayVec<u8, 20>) -> ArrayVec<u8, 20>
+    ensures { result ≡ value.now }
+{
+    let mut copy = ArrayVec::new();
+    let _all = copy.try_extend_from_slice(value.as_slice());
+    copy
 }

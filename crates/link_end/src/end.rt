@@ -36,7 +36,7 @@ impl End {
     ghost use Rattle.block_pool.specs.Pool.{PoolState, used_of, chain_bytes};
     ghost use Rattle.hcp_packet.specs.Packets.{IsSendable};
     ghost use Rattle.link_machine.specs.Machine.{LinkEnd as Machine, moved, put_down, if_up, with_act, activated, heard, report, after_input, next_frame};
-    ghost use Rattle.link_machine.specs.Machine.{oldest, new_link_end, in_front as due_in_front};
+    ghost use Rattle.link_machine.specs.Machine.{is_held, oldest, new_link_end, in_front as due_in_front};
     ghost use Rattle.link_machine.specs.Machine.LinkInput.{Take, TakeUnknown, Tick, Reset, Start, Stop, FromNode, Fetch};
     ghost use Rattle.link_machine.specs.Machine.Turn.{Give, Hold, FetchMessage};
     ghost use Rattle.link_end.specs.Roles.{role_of, new_role, MayStart};
@@ -395,6 +395,13 @@ impl End {
         ensures boxes { (self.new.outbox ≡ self.old.outbox) × (self.new.inbox ≡ self.old.inbox) }
     {
         self.shdlc.set_ready(!held);
+    }
+
+    /// Whether its node holds the end, so that it takes no fragments.
+    pub fn is_held(&self) -> bool
+        ensures { (pool : PoolState) (m : Machine) → EndStandsFor self.now pool m → result ≡ is_held m }
+    {
+        !self.shdlc.is_ready()
     }
 
     /// How many control frames wait to be fetched, ACT frames among them.

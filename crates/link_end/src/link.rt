@@ -35,7 +35,7 @@ impl LinkEnd {
     ghost use Rattle.link_messages.specs.Outgoing.{LeavesOthersBut};
     ghost use Rattle.swp_act.specs.declared.ActEvent.TheVariants.{Start as ActStart};
     ghost use Rattle.swp_lpdu.specs.Controls.{lpdu_of, control_of};
-    ghost use Rattle.link_machine.specs.Machine.{LinkEnd as Machine, new_link_end, after_input, report, lpdu_input, next_frame, oldest};
+    ghost use Rattle.link_machine.specs.Machine.{LinkEnd as Machine, new_link_end, after_input, is_held, report, lpdu_input, next_frame, oldest};
     ghost use Rattle.link_machine.specs.Machine.LinkInput.{TakeBroken, Tick, Reset, Start, Stop, FromNode, Fetch};
     ghost use Rattle.link_machine.specs.Machine.Turn.{Give, Hold, FetchMessage};
     ghost use Rattle.link_end.specs.Roles.{role_of, new_role, MayStart};
@@ -322,6 +322,13 @@ impl LinkEnd {
         ensures inputs { (self.new.deframer ≡ self.old.deframer) × (self.new.byte_link ≡ self.old.byte_link) }
     {
         self.link.hold(held);
+    }
+
+    /// Whether its node holds the end, so that it takes no fragments.
+    pub fn is_held(&self) -> bool
+        ensures { (pool : PoolState) (m : Machine) → EndStandsFor self.now.link pool m → result ≡ is_held m }
+    {
+        self.link.is_held()
     }
 
     /// How many control frames wait to be fetched, ACT frames among them. Where `next_out` is called until nothing is to be sent,

@@ -1,11 +1,12 @@
 -- How growing text goes on.
-use Rattle.std.proofs.Common.{◌≡◌, ℕ, ◌+◌, ◌≤◌, ◌/◌, ◌%◌, ◌<◌, List, [], ◌∷◌, ◌++◌, length, take, refl, sym, ◌∙◌, ap, ap₂, subst, arith, slice_index}
+use Rattle.std.proofs.Common.{◌≡◌, ℕ, ◌+◌, ◌*◌, ◌≤◌, ◌/◌, ◌%◌, ◌<◌, List, [], ◌∷◌, ◌++◌, length, take, refl, sym, ◌∙◌, ap, subst, slice_index}
 use Rattle.std.proofs.Common.{append_assoc, get_or, ◌^◌, append-nil}
-use Rattle.std.proofs.lemmas.List.{take_more}
+use Rattle.std.proofs.lemmas.List.{take_at, take_more}
 use Rattle.std.proofs.lemmas.Grind.{flat_map-append}
 use Rattle.std.specs.Fmt.{decimal}
 use Rattle.std.proofs.lemmas.Fmt.{decimal_step}
 use Rattle.hex.specs.Hex.{encode_with, encode_upper, upper_digits}
+use Rattle.hex.proofs.HexLemmas.{length-encode_with}
 use Rattle.schedule_text.specs.declared.text.Text.{Text}
 use Rattle.trace_model.specs.declared.entry.Entry.{Entry}
 use Rattle.schedule_text.specs.Words.{spaced}
@@ -72,20 +73,19 @@ pub encode-nil : encode_upper [] ≡ []
 unfolding encode_with
 encode-nil = refl
 
--- the digits of two more bytes behind those of a front
-pub holds_two : {start : Start} (text front two : List ℕ) {upper lower : List ℕ} {t : Text} → length two ≡ 2 → upper ≡ encode_upper (get_or two 0 0 ∷ [])
-    → lower ≡ encode_upper (get_or two 1 0 ∷ [])
-    → HoldsText start ((text ++ encode_upper front) ++ (get_or upper 0 0 ∷ get_or upper 1 0 ∷ get_or lower 0 0 ∷ get_or lower 1 0 ∷ [])) t
-    → HoldsText start (text ++ encode_upper (front ++ two)) t
-unfolding encode_with
-holds_two text front [] e u l h = absurd (omega arith)
-holds_two text front (a ∷ []) e u l h = absurd (omega arith)
-holds_two {start} text front (a ∷ b ∷ []) {t = t} e u l h =
+-- the digits of more bytes behind those of a front
+pub holds_digits : (start : Start) (text front more digits : List ℕ) (t : Text) → digits ≡ encode_upper more
+    → HoldsText start ((text ++ encode_upper front) ++ digits) t → HoldsText start (text ++ encode_upper (front ++ more)) t
+holds_digits start text front more digits t e h =
     subst (λ x. HoldsText start x t)
-    (ap₂ (λ x y. (text ++ encode_upper front) ++ (get_or x 0 0 ∷ get_or x 1 0 ∷ get_or y 0 0 ∷ get_or y 1 0 ∷ [])) u l
-    ∙ append_assoc text (encode_upper front) (encode_upper (a ∷ b ∷ []))
-    ∙ ap (λ t. text ++ t) (sym (encode-append front (a ∷ b ∷ [])))) h
-holds_two text front (a ∷ b ∷ c ∷ two) e u l h = absurd (omega arith)
+    (ap (λ ds. (text ++ encode_upper front) ++ ds) e
+    ∙ (append_assoc text (encode_upper front) (encode_upper more) ∙ ap (λ t. text ++ t) (sym (encode-append front more)))) h
+
+-- the digits of a front
+pub front_digits : (front more : List ℕ) → take (2 * length front) (encode_upper (front ++ more)) ≡ encode_upper front
+front_digits front more =
+    ap (take (2 * length front)) (encode-append front more)
+    ∙ take_at (encode_upper front) (encode_upper more) (2 * length front) (length-encode_with upper_digits front)
 
 -- the last digit of a number
 pub holds_digit : (start : Start) (text : List ℕ) (n : ℕ) (t : Text) → 10 ≤ n → n < 2 ^ 64

@@ -1,6 +1,7 @@
 pub mod AgainLemmas
 mod AtOnceLemmas
 pub mod FaultsLemmas
+pub mod Finding
 pub mod FormsLemmas
 pub mod GrowthLemmas
 pub mod HexLemmas

@@ -1,7 +1,7 @@
 //! Text that grows at the end of a vector until memory runs out.
-ghost use Rattle.std.specs.Prelude.{◌≡◌, ◌<◌, true, false, List, ℕ, [], ◌∷◌, ◌++◌, map, take, length, if◌then◌else◌};
+ghost use Rattle.std.specs.Prelude.{◌≡◌, ◌<◌, true, false, List, ℕ, [], ◌∷◌, ◌++◌, ◌+◌, ◌*◌, map, take, length, slice_index, if◌then◌else◌};
 ghost use Rattle.std.specs.Fmt.{decimal};
-ghost use Rattle.hex.specs.Hex.{encode_upper};
+ghost use Rattle.hex.specs.Hex.{encode_upper, upper_digits};
 ghost use Rattle.schedule_text.specs.Entries.{end_text, byte_text, two_bytes_text, number_words};
 ghost use Rattle.schedule_text.specs.Growth.{Start, HoldsText, HoldsWords};
 ghost use Rattle.schedule_text.specs.Parts.{part_words, parts_words};
@@ -11,6 +11,9 @@ use trace_model::End;
 
 /// The sixteen hexadecimal digits.
 const DIGITS: &[u8; 16] = b"0123456789ABCDEF";
+
+/// How many bytes are written as digits at once.
+const AT_ONCE: usize = 32;
 
 /// Words to be written, by their kind.
 #[derive(Clone, Copy)]
@@ -216,8 +219,8 @@ impl Text {
         ensures { (start : Start) (first : List ℕ) (more : List (List ℕ)) → HoldsWords start (first ∷ more) self.old
             → HoldsWords start (first ∷ (more ++ end_text at ∷ [])) self.new }
     {
-        let [high, low, letter] = end_letters(at);
-        self.push(&[b' ', high, low, letter]);
+        self.byte(at.link);
+        self.push(&[side_letter(at.at_host)]);
     }
 
     /// Appends a space and a byte as two hexadecimal digits.
@@ -226,8 +229,8 @@ impl Text {
         ensures { (start : Start) (first : List ℕ) (more : List (List ℕ)) → HoldsWords start (first ∷ more) self.old
             → HoldsWords start (first ∷ (more ++ byte_text byte ∷ [])) self.new }
     {
-        let [high, low] = hex_digits(byte);
-        self.push(&[b' ', high, low]);
+        self.push(b" ");
+        self.push(&hex_digits(byte));
     }
 
     /// Appends a space and bytes as pairs of hexadecimal digits.
@@ -245,21 +248,42 @@ impl Text {
         }
     }
 
-    /// Appends bytes as pairs of hexadecimal digits, two bytes at once.
+    /// Appends bytes as pairs of hexadecimal digits, 32 bytes at once.
     fn pairs(&mut self, bytes: &[u8])
         ensures { (start : Start) (text : List ℕ) → HoldsText start text self.old
             → HoldsText start (text ++ encode_upper bytes.now) self.new }
     {
         let mut left = bytes;
-        'twos: while let Some(([first, second], more)) = left.split_first_chunk::<2>() {
-            let [a, b] = hex_digits(*first);
-            let [c, d] = hex_digits(*second);
-            self.push(&[a, b, c, d]);
+        'pieces: while let Some((piece, more)) = left.split_first_chunk::<AT_ONCE>() {
+            self.push(&all_digits(piece));
             left = more;
         }
-        if let Some(last) = left.first() {
-            self.push(&hex_digits(*last));
+        if left.len() < 8 {
+            self.each_pair(left);
+        } else {
+            self.few_pairs(left);
         }
+    }
+
+    /// Appends bytes as pairs of hexadecimal digits, one by one.
+    fn each_pair(&mut self, bytes: &[u8])
+        ensures { (start : Start) (text : List ℕ) → HoldsText start text self.old
+            → HoldsText start (text ++ encode_upper bytes.now) self.new }
+    {
+        for byte in bytes {
+            self.push(&hex_digits(*byte));
+        }
+    }
+
+    /// Appends fewer than 32 bytes as pairs of hexadecimal digits, as the front of 32.
+    fn few_pairs(&mut self, bytes: &[u8])
+        requires { length bytes.now < 32 }
+        ensures { (start : Start) (text : List ℕ) → HoldsText start text self.old
+            → HoldsText start (text ++ encode_upper bytes.now) self.new }
+    {
+        let mut piece = [0; AT_ONCE];
+        piece[..bytes.len()].copy_from_slice(bytes);
+        self.push(&all_digits(&piece)[..2 * bytes.len()]);
     }
 
     /// Appends a space and a decimal number.
@@ -298,6 +322,30 @@ impl Text {
     }
 }
 
+/// Bytes as pairs of hexadecimal digits.
+fn all_digits(bytes: &[u8; AT_ONCE]) -> [u8; 64]
+    ensures { result ≡ encode_upper bytes.now }
+{
+    let mut digits = [0; 64];
+    'bytes: for i in 0..AT_ONCE {
+        digits[2 * i] = digit(bytes[i] / 16);
+        digits[2 * i + 1] = digit(bytes[i] % 16);
+    }
+    digits
+}
+
+/// A hexadecimal digit, without a table, so that many digits are made at once.
+fn digit(value: u8) -> u8
+    requires { value < 16 }
+    ensures { result ≡ slice_index upper_digits value }
+{
+    if value < 10 {
+        b'0' + value
+    } else {
+        b'A' - 10 + value
+    }
+}
+
 #[tactic(auto, unfolding(hex::specs::Hex::encode_with))]
 fn hex_digits(byte: u8) -> [u8; 2]
     ensures { result ≡ byte_text byte }
@@ -305,17 +353,6 @@ fn hex_digits(byte: u8) -> [u8; 2]
     [
         DIGITS[usize::from(byte / 16)],
         DIGITS[usize::from(byte % 16)],
-    ]
-}
-
-#[tactic(auto, unfolding(hex::specs::Hex::encode_with))]
-fn end_letters(at: End) -> [u8; 3]
-    ensures { result ≡ end_text at }
-{
-    [
-        DIGITS[usize::from(at.link / 16)],
-        DIGITS[usize::from(at.link % 16)],
-        side_letter(at.at_host),
     ]
 }
 

@@ -4,6 +4,11 @@ ghost use Rattle.std.specs.List.{position_or_len};
 ghost use Rattle.std.specs.Option.{option_copied};
 ghost use Rattle.schedule_text.specs.Words.{words};
 
+use memchr::memchr;
+
+/// From how many bytes on a line is searched many bytes at once.
+const LONG: usize = 32;
+
 /// The first word of a line, and what stands behind it.
 pub(crate) fn next_word(line: &[u8]) -> Option<(&[u8], &[u8])>
     ensures some { IfSome result (λ r. words line.now ≡ r.0.now ∷ words r.1.now) }
@@ -39,7 +44,17 @@ fn first_letter(line: &[u8]) -> Option<usize>
 fn first_space(line: &[u8]) -> Option<usize>
     ensures { result ≡ position (λ b. b == 32) line.now }
 {
-    line.iter().position(|b| *b == b' ')
+    if line.len() < LONG {
+        line.iter().position(|b| *b == b' ')
+    } else {
+        space_in(line)
+    }
+}
+
+fn space_in(line: &[u8]) -> Option<usize>
+    ensures { result ≡ position (λ b. b == 32) line.now }
+{
+    memchr(b' ', line)
 }
 
 /// Word `k` of a line, counted from 0.

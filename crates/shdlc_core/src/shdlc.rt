@@ -106,6 +106,13 @@ impl Shdlc {
         self.phase
     }
 
+    /// Whether the end takes fragments.
+    pub fn is_ready(&self) -> bool
+        ensures { (e : EndState) → ShdlcStandsFor self.now e → result ≡ e.ready }
+    {
+        self.ready
+    }
+
     /// How many control frames were made and not yet fetched: 0 to 8. `next_out` gives these before any fragment.
     pub fn controls_due(&self) -> u8
         ensures value { result ≡ length self.now.due }

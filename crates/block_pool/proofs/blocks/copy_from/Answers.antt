@@ -1,30 +1,40 @@
-use Rattle.std.proofs.Common.{◌≡◌, ◌≢◌, ◌+◌, ◌*◌, ◌%◌, ◌<◌, ap, ◌∙◌, arith, length, get_or, get_or-set_other, get_or-set_same, below_more}
-use Rattle.block_pool.specs.Links.{linked_byte}
-use Rattle.block_pool.proofs.WalkLemmas.{next_block, same_block, made_from}
-use Rattle.block_pool.proofs.blocks.copy_from.Goals.{then-place-eq0, else-place-eq0}
+use Rattle.std.proofs.Common.{◌≡◌, ℕ, ◌+◌, ◌-◌, ◌*◌, ◌/◌, ◌%◌, ◌<◌, ◌≤◌, sym, ap, ◌∙◌, arith, subst, length, get_or}
+use Rattle.block_pool.specs.Links.{block_at, linked_byte}
+use Rattle.block_pool.proofs.WalkLemmas.{block_at-more, made_from}
+use Rattle.block_pool.proofs.CopyLemmas.{copied-length, copied-bytes}
 use Rattle.block_pool.proofs.blocks.copy_from.Goals as goal
 
-pub loop-byte-preserved : goal.loop-byte-preserved
-loop-byte-preserved c =
-    let i = c.loop-byte.byte-index in
-    let place_is = c.loop-byte.invariant.0 in
-    let block_is = c.loop-byte.invariant.1 in
-    let byte = get_or c.args.region.now (32 * c.loop-byte.block + c.loop-byte.place % 32) 0 in
-    let low : i < length c.loop-byte.out = omega arith in
-    let here : byte ≡ linked_byte c.args.region.now c.args.next.now c.args.first (c.args.from + i) =
-    ap (λ b. get_or c.args.region.now (32 * b + c.loop-byte.place % 32) 0) block_is
-    ∙ ap (linked_byte c.args.region.now c.args.next.now c.args.first) place_is in (
-      omega arith,
-      elim c.if-place-eq0.branch [
-        | then-place-eq0 w ↦ w.block-is ∙ next_block c.args.next.now c.args.first c.loop-byte.place c.loop-byte.block block_is (omega arith)
-        | else-place-eq0 w ↦ w.block-is ∙ same_block c.args.next.now c.args.first c.loop-byte.place c.loop-byte.block block_is w.if-place-eq0.false
-      ],
-      below_more _ _
-          (λ k h. let ne : k ≢ i = omega arith in rw get_or-set_other (c.loop-byte.invariant.2 k h))
-          (get_or-set_same c.loop-byte.out i byte 0 low ∙ here),
+pub pieces-preserved-then-offset-count-eq-BLOCK_BYTES : goal.pieces-preserved-then-offset-count-eq-BLOCK_BYTES
+pieces-preserved-then-offset-count-eq-BLOCK_BYTES c =
+    let region = c.args.region.now in
+    let next = c.args.next.now in
+    let first = c.args.first in
+    let from = c.args.from in
+    let out = c.pieces.out in
+    let done = c.pieces.done in
+    let count = c.min-count.result in
+    let block = c.pieces.block in
+    let at = c.pieces.invariant.2 in
+    let least : count ≤ length out - done = omega (arith, c.min-count.ensures) in
+    let fits : done + count ≤ length out = omega (arith, least, c.pieces-test.true) in
+    let one_block : (from + done) % 32 + count ≤ 32 = omega (arith, c.if-offset-count-eq-BLOCK_BYTES.true) in
+    let low : block < length next =
+    subst (λ (b : ℕ). b < length next) (sym at) (c.requires.reached ((from + done) / 32) (omega (arith, c.pieces-test.true, c.pieces.auto.out))) in
+    let within : 32 * block + (from + done) % 32 + count ≤ length region = omega (arith, low, c.requires.whole, one_block) in
+    let place = 32 * block + (from + done) % 32 in
+    let n = place + count - place in
+    let is : n ≡ count = omega arith in
+    let over : (from + done) / 32 + 1 ≡ (from + (done + count)) / 32 = omega (arith, c.if-offset-count-eq-BLOCK_BYTES.true) in
+    let copied = c.overwrite.ensures in (
+      omega (arith, fits, c.pieces.auto.out),
+      ap length copied ∙ (copied-length region next out first from done count n block at one_block fits within is ∙ c.pieces.auto.out),
+      ap (λ b. get_or next b 0) at ∙ (block_at-more next first ((from + done) / 32) ∙ ap (block_at next first) over),
+      λ k h.
+          ap (λ xs. get_or xs k 0) copied
+          ∙ copied-bytes region next out first from done count n block at one_block fits within is c.pieces.invariant.3 k h,
     )
 
 pub returns-clause-copied : goal.returns-clause-copied
 returns-clause-copied c =
-    made_from (linked_byte c.args.region.now c.args.next.now c.args.first) c.args.from (length c.args.out.now) c.loop-byte.out c.loop-byte.auto.out
-    (λ k low. c.loop-byte.invariant.2 k (omega arith))
+    made_from (linked_byte c.args.region.now c.args.next.now c.args.first) c.args.from (length c.args.out.now) c.pieces.out c.pieces.auto.out
+    (λ k low. c.pieces.invariant.3 k (omega (arith, c.pieces-test.false, c.pieces.auto.out)))

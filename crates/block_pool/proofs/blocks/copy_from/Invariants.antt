@@ -1,9 +1,13 @@
-use Rattle.std.proofs.Common.{◌≡◌, ℕ, ◌+◌, ◌/◌, ◌<◌, get_or}
+use Rattle.std.proofs.Common.{◌≡◌, ℕ, ◌+◌, ◌-◌, ◌/◌, ◌<◌, ◌≤◌, length, get_or}
 use Rattle.block_pool.specs.Links.{block_at, linked_byte}
 use Rattle.block_pool.proofs.blocks.copy_from.Given as goal
 
-abbrev pub invariant-loop-byte : goal.invariant-loop-byte
-invariant-loop-byte l =
-    (l.place ≡ l.fn.from + l.byte-index)
-    × (l.block ≡ block_at l.next l.first (l.place / 32))
-    × ((k : ℕ) → k < l.byte-index → get_or l.out k 0 ≡ linked_byte l.region l.next l.first (l.fn.from + k))
+abbrev pub invariant-pieces : goal.invariant-pieces
+invariant-pieces l =
+    (l.done ≤ length l.fn.out)
+    × (length l.out ≡ length l.fn.out)
+    × (l.block ≡ block_at l.next l.first ((l.from + l.done) / 32))
+    × ((k : ℕ) → k < l.done → get_or l.out k 0 ≡ linked_byte l.region l.next l.first (l.from + k))
+
+abbrev pub decreases-pieces : goal.decreases-pieces
+decreases-pieces l = length l.fn.out - l.done

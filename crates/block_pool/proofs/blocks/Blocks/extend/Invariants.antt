@@ -1,10 +1,14 @@
-use Rattle.std.proofs.Common.{◌≡◌, ◌+◌, length, take}
+use Rattle.std.proofs.Common.{◌≡◌, ◌+◌, ◌-◌, ◌≤◌, length, take}
 use Rattle.std.specs.Prelude.{◌++◌}
 use Rattle.block_pool.specs.Slots.{with_chain, held_bytes, owner_of, blocks_for}
 use Rattle.block_pool.proofs.blocks.Blocks.extend.Given as goal
 
-abbrev pub invariant-loop-byte : goal.invariant-loop-byte
-invariant-loop-byte l =
-    (l.self.slots ≡ with_chain l.fn.self.slots l.first (owner_of l.fn.self.slots l.first) (held_bytes l.fn.self.slots l.first ++ take l.byte-index l.bytes))
-    × (l.self.free + blocks_for (length (held_bytes l.fn.self.slots l.first) + l.byte-index)
-    ≡ l.fn.self.free + blocks_for (length (held_bytes l.fn.self.slots l.first)))
+abbrev pub invariant-pieces : goal.invariant-pieces
+invariant-pieces l =
+    (l.done ≤ length l.bytes)
+    × ((l.self.slots ≡ with_chain l.fn.self.slots l.first (owner_of l.fn.self.slots l.first) (held_bytes l.fn.self.slots l.first ++ take l.done l.bytes))
+    × (l.self.free + blocks_for (length (held_bytes l.fn.self.slots l.first) + l.done)
+    ≡ l.fn.self.free + blocks_for (length (held_bytes l.fn.self.slots l.first))))
+
+abbrev pub decreases-pieces : goal.decreases-pieces
+decreases-pieces l = length l.bytes - l.done

@@ -4,10 +4,10 @@ use Rattle.schedule_text.specs.Growth.{Start, HoldsText}
 use Rattle.schedule_text.proofs.text.Text.pairs.Given as goal
 
 -- the digits of a front of the bytes were appended
-abbrev pub invariant-twos : goal.invariant-twos
-invariant-twos l =
+abbrev pub invariant-pieces : goal.invariant-pieces
+invariant-pieces l =
     (front : List ℕ) × ((front ++ l.left ≡ l.bytes)
     × ((start : Start) (text : List ℕ) → HoldsText start text l.fn.self → HoldsText start (text ++ encode_upper front) l.self))
 
-abbrev pub decreases-twos : goal.decreases-twos
-decreases-twos l = length l.left
+abbrev pub decreases-pieces : goal.decreases-pieces
+decreases-pieces l = length l.left

@@ -1,0 +1,18 @@
+use Rattle.std.proofs.Common.{◌++◌, [], ◌∷◌, take, get_or, sym, ◌∙◌, ap, subst, append-nil}
+use Rattle.std.proofs.lemmas.List.{take_more}
+use Rattle.hex.specs.Hex.{encode_upper}
+use Rattle.schedule_text.specs.Growth.{HoldsText}
+use Rattle.schedule_text.proofs.GrowthLemmas.{encode-nil, holds_digits}
+use Rattle.schedule_text.proofs.text.Text.each_pair.Goals as goal
+
+pub loop-byte-init : goal.loop-byte-init
+loop-byte-init c = λ start text h. subst (λ t. HoldsText start t c.args.self.now) (sym (ap (λ t. text ++ t) encode-nil ∙ append-nil text)) h
+
+pub loop-byte-preserved : goal.loop-byte-preserved
+loop-byte-preserved c =
+    λ start text h.
+    let k = c.loop-byte.byte-index in
+    let bytes = c.args.bytes.now in
+    subst (λ bs. HoldsText start (text ++ encode_upper bs) c.push.new.self) (sym (take_more bytes k 0 c.loop-byte-test.true))
+    (holds_digits start text (take k bytes) (get_or bytes k 0 ∷ []) _ c.push.new.self c.hex_digits.ensures
+    (c.push.ensures start (text ++ encode_upper (take k bytes)) (c.loop-byte.invariant start text h)))

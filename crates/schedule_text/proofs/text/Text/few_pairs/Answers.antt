@@ -1,0 +1,13 @@
+use Rattle.std.proofs.Common.{◌≡◌, ◌++◌, ◌*◌, take, length, ◌∙◌, ap, subst}
+use Rattle.hex.specs.Hex.{encode_upper}
+use Rattle.schedule_text.specs.Growth.{HoldsText}
+use Rattle.schedule_text.proofs.GrowthLemmas.{front_digits}
+use Rattle.schedule_text.proofs.text.Text.few_pairs.Goals as goal
+
+pub returns : goal.returns
+returns c =
+    λ start text h.
+    let bytes = c.args.bytes.now in
+    let e : take (2 * length bytes) c.all_digits.result ≡ encode_upper bytes =
+    ap (take (2 * length bytes)) c.all_digits.ensures ∙ rw c.copy_from_slice.ensures.after (front_digits bytes _) in
+    subst (λ ds. HoldsText start (text ++ ds) c.push.new.self) e (c.push.ensures start text h)
