@@ -1,0 +1,16 @@
+mod Relays
+mod OrderAgain
+mod Clears
+mod Forgotten
+mod DeletionLate
+mod HostGates
+mod UnknownPipe
+mod InitForgotten
+mod InitDefault
+mod LateAndNoanswer
+mod AnswersInOneTick
+mod BootsCut
+mod HostDrop
+mod RecError
+mod Off
+mod Refusals
