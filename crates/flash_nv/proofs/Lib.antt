@@ -1,0 +1,10 @@
+pub mod CellLemmas
+pub mod ContentLemmas
+pub mod HeaderLemmas
+pub mod MapLemmas
+pub mod NvLemmas
+pub mod PageLemmas
+pub mod PutLemmas
+pub mod ScanLemmas
+pub mod WriteLemmas
+pub mod StepLemmas

@@ -1,0 +1,11 @@
+pub mod Cells
+pub mod Maps
+pub mod MemCells
+pub mod Pages
+pub mod Putting
+pub mod Writing
+pub mod Scanning
+pub mod Content
+pub mod Memory
+pub mod Steps
+pub mod Calls
