@@ -58,6 +58,8 @@ mod shown;
 #[cfg(test)]
 mod tables;
 #[cfg(test)]
+mod taps;
+#[cfg(test)]
 mod texts;
 #[cfg(test)]
 mod units;

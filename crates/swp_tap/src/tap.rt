@@ -1,0 +1,201 @@
+//! The tap.
+ghost use Rattle.std.specs.Prelude.{◌≡◌, ◌<◌, ◌+◌, Bool};
+ghost use Rattle.tap_keeping.specs.Keeping.{kept_hears, kept_numbered};
+ghost use Rattle.swp_tap.specs.Coming.{news_in};
+ghost use Rattle.swp_tap.specs.Hearing.{kept_pair, news_at, news_by, rsets_with};
+
+use crate::side::Side;
+use crate::under_way::Message;
+use arrayvec::ArrayVec;
+use std::alloc::Global;
+use std::marker::Model;
+use swp_base::{Control, Lpdu, NoMemory};
+use swp_lpdu::read_lpdu;
+
+/// One message that an end has got.
+#[derive(Drop)]
+pub struct TapMessage {
+    /// The end is the CLF.
+    pub to_clf: bool,
+    /// The number of the session: that of the RSET that began it, and 0 on a bare link before any.
+    pub session: u32,
+    /// 0 to 6F.
+    pub pipe: u8,
+    /// With its header.
+    pub body: ArrayVec<u8, 4096>,
+}
+
+/// A passive tap on one link. It hears the frames that both ends put on the link, and tells a message once the end that it was sent to
+/// has acknowledged its last fragment. It keeps at most four fragments of each side, and no history.
+#[derive(Drop)]
+pub struct Tap {
+    bare: bool,
+    clf: Side,
+    uicc: Side,
+    rsets: u32,
+    taken: u32,
+}
+
+impl Model for Tap {
+    ghost use Rattle.std.specs.Prelude.{◌≤◌};
+    ghost use Rattle.swp_tap.specs.Hearing.{TapValue};
+
+    ghost Value = { TapValue };
+
+    ghost view = { λ t. record { bare = t.bare; kept = record { clf = t.clf; uicc = t.uicc; rsets = t.rsets }; taken = t.taken } };
+
+    ghost invariant = { λ t. t.rsets ≤ t.taken };
+}
+
+// An N(R) of the near side.
+fn number(near: &mut Side, far: &mut Side, nr: u8) -> Option<Message>
+    ensures near { near.new ≡ (kept_numbered (kept_pair near.old far.old 0) nr).clf }
+    ensures far { far.new ≡ (kept_numbered (kept_pair near.old far.old 0) nr).uicc }
+    ensures news { news_in result ≡ news_at near.old far.old nr }
+{
+    if !near.tells_more(far, nr) {
+        return None;
+    }
+    let first = far.first();
+    near.acknowledge(&first)
+}
+
+// A frame of the near side, of which this many RSETs were heard before on the link.
+fn hear(
+    near: &mut Side,
+    far: &mut Side,
+    bare: bool,
+    rsets: u32,
+    control: &Control,
+) -> Option<Message>
+    requires { rsets < 4294967295 }
+    ensures near { near.new ≡ (kept_hears bare (kept_pair near.old far.old rsets) control.now).clf }
+    ensures far { far.new ≡ (kept_hears bare (kept_pair near.old far.old rsets) control.now).uicc }
+    ensures news { news_in result ≡ news_by bare near.old far.old control.now }
+{
+    match control {
+        Control::I { ns, nr, info } => {
+            if !bare && near.number() == 0 {
+                return None;
+            }
+            near.list();
+            near.add(*ns, info);
+            number(near, far, *nr)
+        }
+        Control::S { kind: _, nr } => {
+            if !bare && near.number() == 0 {
+                return None;
+            }
+            number(near, far, *nr)
+        }
+        Control::Rset { .. } => {
+            near.asks(rsets + 1);
+            None
+        }
+        Control::Ua => {
+            near.renumber(far.asked());
+            None
+        }
+        Control::Act { .. } | Control::Clt => None,
+    }
+}
+
+// How many RSETs were heard after this frame.
+fn rsets_after(rsets: u32, control: &Control) -> u32
+    requires { rsets < 4294967295 }
+    ensures { result ≡ rsets_with rsets control.now }
+{
+    match control {
+        Control::Rset { .. } => rsets + 1,
+        _ => rsets,
+    }
+}
+
+impl Tap {
+    ghost use Rattle.std.specs.Prelude.{◌≡◌, ◌+◌, ◌<◌, List, ℕ, Bool, ◌++◌, ◌∷◌, [], IfOk};
+    ghost use Rattle.tap_reading.specs.Lpdus.{tapped_lpdus};
+    ghost use Rattle.swp_tap.specs.Hearing.{StandsFor, new_tap_value, kept_after_lpdu, kept_reports_lpdu, reports_in};
+
+    /// A tap on a link that is bare or not. It has heard nothing.
+    pub fn new(alloc: Global, bare: bool) -> Result<Tap, NoMemory>
+        ensures new { IfOk result (λ t. t ≡ new_tap_value bare) }
+        ensures stands { IfOk result (λ t. StandsFor t []) }
+    {
+        let clf = Side::make(alloc)?;
+        let uicc = Side::make(alloc)?;
+        Ok(Tap {
+            bare,
+            clf,
+            uicc,
+            rsets: 0,
+            taken: 0,
+        })
+    }
+
+    /// How many frames it has taken.
+    pub fn taken(&self) -> u32
+        ensures { result ≡ self.now.taken }
+    {
+        self.taken
+    }
+
+    /// Takes a frame that a side put on the link. The message that it tells comes, if any: at most one. One that is outside the grammar of
+    /// LPDUs, and frames of activation and of contactless tunnelling, tell nothing. It takes no memory. It asks that fewer than
+    /// 4,294,967,295 frames were taken.
+    pub fn take(&mut self, from_clf: bool, lpdu: &Lpdu) -> Option<TapMessage>
+        requires { self.old.taken < 4294967295 }
+        ensures bare { self.new.bare ≡ self.old.bare }
+        ensures taken { self.new.taken ≡ self.old.taken + 1 }
+        ensures stands { (lpdus : List (Bool × List ℕ)) → StandsFor self.old lpdus → StandsFor self.new (lpdus ++ (from_clf, lpdu.now) ∷ []) }
+        ensures reports { (lpdus : List (Bool × List ℕ)) → StandsFor self.old lpdus →
+            tapped_lpdus self.old.bare (lpdus ++ (from_clf, lpdu.now) ∷ []) ≡ tapped_lpdus self.old.bare lpdus ++ reports_in result }
+    {
+        self.hear(from_clf, lpdu)
+    }
+
+    // Takes a frame.
+    fn hear(&mut self, from_clf: bool, lpdu: &Lpdu) -> Option<TapMessage>
+        requires { self.old.taken < 4294967295 }
+        ensures bare { self.new.bare ≡ self.old.bare }
+        ensures taken { self.new.taken ≡ self.old.taken + 1 }
+        ensures kept { self.new.kept ≡ kept_after_lpdu self.old.bare self.old.kept from_clf lpdu.now }
+        ensures reports { reports_in result ≡ kept_reports_lpdu self.old.bare self.old.kept from_clf lpdu.now }
+    {
+        let rsets = self.rsets;
+        self.taken += 1;
+        let Ok(control) = read_lpdu(lpdu) else {
+            return None;
+        };
+        self.rsets = rsets_after(rsets, &control);
+        if from_clf {
+            let session = self.clf.number();
+            let Message { pipe, body } = hear(
+                &mut self.clf,
+                &mut self.uicc,
+                self.bare,
+                rsets,
+                &control,
+            )?;
+            return Some(TapMessage {
+                to_clf: true,
+                session,
+                pipe,
+                body,
+            });
+        }
+        let session = self.uicc.number();
+        let Message { pipe, body } = hear(
+            &mut self.uicc,
+            &mut self.clf,
+            self.bare,
+            rsets,
+            &control,
+        )?;
+        Some(TapMessage {
+            to_clf: false,
+            session,
+            pipe,
+            body,
+        })
+    }
+}

@@ -1,0 +1,3 @@
+pub mod Joins
+pub mod Stands
+pub mod Acknowledging
