@@ -1,0 +1,3 @@
+pub mod Projected
+pub mod Rest
+pub mod Law
