@@ -1,0 +1,4 @@
+pub mod Lone
+pub mod Known
+pub mod Answers
+pub mod Ends
