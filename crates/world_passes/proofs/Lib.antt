@@ -1,0 +1,14 @@
+pub mod Sides
+pub mod Holding
+pub mod Held
+pub mod Came
+pub mod Begins
+pub mod Growing
+pub mod Memories
+pub mod Roomy
+pub mod Ready
+pub mod Paying
+pub mod Ordered
+pub mod Few
+pub mod Whole
+pub mod Events
