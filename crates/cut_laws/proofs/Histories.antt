@@ -33,7 +33,8 @@ use Rattle.kept_laws.proofs.Kept.{all_begin, blank_finds, are_kept}
 use Rattle.journal_laws.proofs.Opening.{fresh}
 use Rattle.node_telling.specs.Telling.{world_behind}
 use Rattle.node_telling.proofs.Lasting.{AllMay, AreCaused, lines_caused}
-use Rattle.cut_laws.specs.Histories.{boots_it, BootsWriteSo, FindsBy, FindsExactly, begun_by, with_event, reckoned_within, reckoning_in, IsNodeOf}
+use Rattle.cut_laws.specs.Histories.{boots_it, BootsWriteSo, FindsBy, FindsExactly, begun_by, with_event, reckoned_within, reckoning_in}
+use Rattle.trace_model.specs.Lines.{IsNodeOf}
 use Rattle.cut_laws.specs.Histories.{AreFoundExactly, StandsInMemories, IsCutAsPlanned, AreCutAsPlanned, KeptExactly}
 use Rattle.cut_laws.proofs.Standing.{Stands, book_then}
 use Rattle.cut_laws.proofs.Worlds.{IsThere, StandsAt, memory_far, node_far}

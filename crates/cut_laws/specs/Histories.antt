@@ -1,8 +1,9 @@
 -- What is read of a node with its memory off a history: which commands its boots find, and where its power goes.
-use Rattle.std.specs.Prelude.{◌≡◌, ℕ, suc, ◌==◌, ◌||◌, Bool, true, false, if◌then◌else◌, IsTrue, List, [], ◌∷◌, ◌++◌, length, replicate, Some}
+use Rattle.std.specs.Prelude.{◌≡◌, ℕ, suc, ◌==◌, Bool, true, false, if◌then◌else◌, List, [], ◌∷◌, ◌++◌, length, replicate, Some}
 use Rattle.std.specs.List.{fold, list_any}
 use Rattle.trace_model.specs.declared.entry.Entry.{Entry}
 use Rattle.trace_model.specs.declared.entry.Entry.TheVariants as entry
+use Rattle.trace_model.specs.Lines.{IsNodeOf}
 use Rattle.journal_laws.specs.Operations.{format_writes}
 use Rattle.journal_laws.specs.Planned.{fails_within, after_planned}
 use Rattle.node_machine.specs.Node.{boot_writes}
@@ -40,10 +41,6 @@ reckoning_in events n = fold (with_event n) (reckoning_of false new_book (new_me
 -- one of these hosts
 abbrev pub is_one_of : List ℕ → ℕ → Bool
 is_one_of hosts h = list_any (λ k. k == h) hosts
-
--- a node of this world: the controller, or one of its hosts
-abbrev pub IsNodeOf : List ℕ → ℕ → Type 0
-IsNodeOf hosts n = IsTrue (n == 0 || is_one_of hosts n)
 
 -- a boot finds all but the last one of these commands exactly where that one is lost, and else all
 abbrev pub FindsBy : Bool → ℕ → ℕ → Type 0

@@ -55,6 +55,7 @@ said (entry.InitFailed e code) = None
 said (entry.Cut node) = None
 said (entry.Booted node count) = None
 said (entry.Tables node tables) = None
+said (entry.Settled rounds) = None
 said (entry.No cause) = None
 
 -- what is said of an end, if it is said of this one

@@ -82,6 +82,7 @@ refusal l (line.Activate host sync power) = None
 refusal l (line.Arm node nth fill) = None
 refusal l (line.Init e identity pipes) = None
 refusal l (line.Tables node) = None
+refusal l (line.Settle rounds) = None
 
 -- ## What a line causes
 
@@ -118,6 +119,7 @@ causes_in l (line.Activate host sync power) = []
 causes_in l (line.Arm node nth fill) = []
 causes_in l (line.Init e identity pipes) = []
 causes_in l (line.Tables node) = []
+causes_in l (line.Settle rounds) = []
 
 -- what becomes of a line on the link with this host
 abbrev pub outcome_of : ℕ → Link → Line → Outcome

@@ -7,6 +7,7 @@ use Rattle.trace_model.specs.declared.line.End.{End}
 use Rattle.trace_model.specs.declared.line.Header.{Header}
 use Rattle.trace_model.specs.declared.line.Line.{Line}
 use Rattle.trace_model.specs.declared.line.Line.TheVariants.{Send, Deliver, Lose, Damage, Tick, Reset, Busy, Ready, Boot, Cut, Activate, Arm, Init, Tables}
+use Rattle.trace_model.specs.declared.line.Line.TheVariants.{Settle}
 use Rattle.trace_model.specs.Lines.{IsLineOf, IsEndOf, IsHeader}
 use Rattle.link_machine.specs.Machine.{Refused as EndRefused, reset_refusal}
 use Rattle.message_link.specs.Links.{Link}
@@ -107,6 +108,7 @@ asked_line header h l (Activate host sync power) is ends = absurd is
 asked_line header h l (Arm node nth fill) is ends = absurd is
 asked_line header h l (Init e identity pipes) is ends = absurd is
 asked_line header h l (Tables node) is ends = absurd is
+asked_line header h l (Settle rounds) is ends = absurd is
 
 asked_steps : (header : Header) (h : ℕ) (l : Link) (lines : List Line) (steps : List Step) → AllByRecursion (IsLineOf header) lines
     → ((e : End) → IsEndOf header e → e.link ≡ h) → StepsFollow h l lines steps → AreAsked h l (events_in steps)

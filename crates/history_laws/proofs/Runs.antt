@@ -9,6 +9,7 @@ use Rattle.trace_model.specs.declared.line.End.{End}
 use Rattle.trace_model.specs.declared.line.Header.{Header}
 use Rattle.trace_model.specs.declared.line.Line.{Line}
 use Rattle.trace_model.specs.declared.line.Line.TheVariants.{Send, Deliver, Lose, Damage, Tick, Reset, Busy, Ready, Boot, Cut, Activate, Arm, Init, Tables}
+use Rattle.trace_model.specs.declared.line.Line.TheVariants.{Settle}
 use Rattle.trace_model.specs.Lines.{IsLineOf}
 use Rattle.hcp_packet.specs.Packets.{IsSendable}
 use Rattle.message_link.specs.Links.{Link, LinkEvent, EndEvent, IsWindow, IsEvent, IsAllowed, AllAllowed, exchanged}
@@ -78,6 +79,7 @@ can_line header l (Activate host sync power) is = tt
 can_line header l (Arm node nth fill) is = tt
 can_line header l (Init e identity pipes) is = tt
 can_line header l (Tables node) is = tt
+can_line header l (Settle rounds) is = tt
 
 -- ## Events
 

@@ -170,6 +170,7 @@ module _ (hosts : List ℕ) (are : AreHosts hosts) where
   line_may w (line.Arm n nth fill) side none = (tt, tt)
   line_may w (line.Init e identity pipes) side none = (tt, tt)
   line_may w (line.Tables n) side none = tt
+  line_may w (line.Settle n) side none = tt
 
   -- a line goes on, but for one that tells tables
   abbrev LineFine : List Entry → NodeWorld × LineOutcome → Type 0
@@ -190,6 +191,7 @@ module _ (hosts : List ℕ) (are : AreHosts hosts) where
   on_goes t w (line.Tick times) all may few = happen_goes (happenings w (line.Tick times)) t w all may few
   on_goes t w (line.Reset e window) all may few = happen_goes (happenings w (line.Reset e window)) t w all may few
   on_goes t w (line.Busy e) all may few = happen_goes (happenings w (line.Busy e)) t w all may few
+  on_goes t w (line.Settle n) all may few = happen_goes (happenings w (line.Settle n)) t w all may few
   on_goes t w (line.Ready e) all may few = happen_goes (happenings w (line.Ready e)) t w all may few
   on_goes t w (line.Boot n) all may few = happen_goes (happenings w (line.Boot n)) t w all may few
   on_goes t w (line.Cut n) all may few = happen_goes (happenings w (line.Cut n)) t w all may few
@@ -248,6 +250,7 @@ module _ (hosts : List ℕ) (are : AreHosts hosts) where
   on_right t w (line.Tick times) all = tt
   on_right t w (line.Reset e window) all = tt
   on_right t w (line.Busy e) all = tt
+  on_right t w (line.Settle n) all = tt
   on_right t w (line.Ready e) all = tt
   on_right t w (line.Boot n) all = tt
   on_right t w (line.Cut n) all = tt

@@ -218,6 +218,7 @@ goes_fine w (line.Damage e places) p q fine =
 goes_fine w (line.Tick times) p q fine = all_fine (replicate (unwrap_or times 1) Ticks) w (repeated (unwrap_or times 1) Ticks (λ v. tt)) fine
 goes_fine w (line.Reset e window) p q fine = all_fine (Resets e window ∷ []) w ((λ v. p), tt) fine
 goes_fine w (line.Busy e) p q fine = fine
+goes_fine w (line.Settle rounds) p q fine = fine
 goes_fine w (line.Ready e) p q fine = fine
 goes_fine w (line.Boot node) p q fine = all_fine (Boots node ∷ []) w ((λ v. tt), tt) fine
 goes_fine w (line.Cut node) p q fine = all_fine (IsCut node ∷ []) w ((λ v. tt), tt) fine

@@ -39,6 +39,7 @@ asked_may w (line.Activate host sync power) none = (tt, tt)
 asked_may w (line.Arm n nth fill) none = (tt, tt)
 asked_may w (line.Init e identity pipes) none = (tt, tt)
 asked_may w (line.Tables n) none = tt
+asked_may w (line.Settle n) none = tt
 
 both_may : (causes : List Happening) (w : NodeWorld) → AllMay MayHappen w causes → AllMay IsAskedIn w causes → AllMay MayBeAsked w causes
 both_may [] w a b = tt

@@ -148,6 +148,7 @@ line_may w (line.Activate host sync power) p q = (runs_then (is_some w.controlle
 line_may w (line.Arm node nth fill) p q = (tt, tt)
 line_may w (line.Init e identity pipes) p q = (tt, tt)
 line_may w (line.Tables n) p q = tt
+line_may w (line.Settle n) p q = tt
 
 -- ## Schedules
 

@@ -65,6 +65,7 @@ line_may w (line.Activate host sync power) side init none = (tt, tt)
 line_may w (line.Arm n nth fill) side init none = (tt, tt)
 line_may w (line.Init e identity pipes) side init none = ((is_taken w e (1, 3 ∷ []) init.0 none, init.1), tt)
 line_may w (line.Tables n) side init none = tt
+line_may w (line.Settle n) side init none = tt
 
 module _ (hosts : List ℕ) (are : AreHosts hosts) where
   -- ## Events

@@ -51,6 +51,7 @@ line_untimed w (line.Activate host sync power) u q = (tt, tt)
 line_untimed w (line.Arm node nth fill) u q = (tt, tt)
 line_untimed w (line.Init e identity pipes) u q = (tt, tt)
 line_untimed w (line.Tables n) u q = tt
+line_untimed w (line.Settle n) u q = tt
 
 pub lines_go : (lines : List Line) (w : NodeWorld) → AreUntimed lines → IsOrderly w → EachGoesSo w (world_after w lines) (entries_of_steps (steps_from w lines))
 lines_go lines w u a =

@@ -76,6 +76,7 @@ boots_may w (line.Activate host sync power) any none = (tt, tt)
 boots_may w (line.Arm n nth fill) any none = (tt, tt)
 boots_may w (line.Init e identity pipes) any none = (tt, tt)
 boots_may w (line.Tables n) any none = tt
+boots_may w (line.Settle n) any none = tt
 
 -- the events of the steps of a history, and their entries
 abbrev pub events_of_steps : List LineStep → List Occurrence
@@ -119,6 +120,7 @@ caused_is w (line.Damage e places) = refl
 caused_is w (line.Tick times) = refl
 caused_is w (line.Reset e window) = refl
 caused_is w (line.Busy e) = refl
+caused_is w (line.Settle n) = refl
 caused_is w (line.Ready e) = refl
 caused_is w (line.Boot n) = refl
 caused_is w (line.Cut n) = refl
@@ -135,6 +137,7 @@ left_is w (line.Damage e places) = refl
 left_is w (line.Tick times) = refl
 left_is w (line.Reset e window) = refl
 left_is w (line.Busy e) = refl
+left_is w (line.Settle n) = refl
 left_is w (line.Ready e) = refl
 left_is w (line.Boot n) = refl
 left_is w (line.Cut n) = refl

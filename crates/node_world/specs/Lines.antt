@@ -78,6 +78,7 @@ refusal_in w (line.Activate host sync power) = first_cause (if_off w 0) (if_off 
 refusal_in w (line.Arm node nth fill) = None
 refusal_in w (line.Init e identity pipes) = first_cause (if_off w (node_of e)) (if_not_sent w e (1, 3 ∷ []))
 refusal_in w (line.Tables node) = if_off w node
+refusal_in w (line.Settle rounds) = None
 
 -- ## What a line causes
 
@@ -104,6 +105,7 @@ happenings w (line.Activate host sync power) = Activates host sync power ∷ []
 happenings w (line.Arm node nth fill) = Arms node (record { nth = nth; fill = fill.items }) ∷ []
 happenings w (line.Init e identity pipes) = Inits e identity pipes.items ∷ []
 happenings w (line.Tables node) = []
+happenings w (line.Settle rounds) = []
 
 -- the frame that is read in place of the first one on its way to an end, where a line damages that one so that its CRC doesn't
 -- show it

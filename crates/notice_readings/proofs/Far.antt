@@ -88,6 +88,7 @@ module _ (x : ℕ) where
   one_far (entry.Cut n) a r = off_one (eqb n 0) None r a
   one_far (entry.Booted n k) a r = refl
   one_far (entry.Tables n tables) a r = refl
+  one_far (entry.Settled rounds) a r = refl
   one_far (entry.No cause) a r = refl
 
   pub far_reads : (es : List Entry) → AreFar es → (r : Option (List ℕ)) → reads x es r ≡ r
@@ -127,6 +128,7 @@ module _ (x : ℕ) where
   one_asks (entry.Cut n) a r = off_one (eqb n 0) None r a
   one_asks (entry.Booted n k) a r = refl
   one_asks (entry.Tables n tables) a r = refl
+  one_asks (entry.Settled rounds) a r = refl
   one_asks (entry.No cause) a r = refl
 
   pub far_asks : (es : List Entry) → AreFar es → (r : Option (List ℕ)) → asks es r ≡ r

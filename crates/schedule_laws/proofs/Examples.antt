@@ -11,7 +11,8 @@ use Rattle.trace_model.specs.declared.line.Line.{Line}
 use Rattle.trace_model.specs.declared.line.Line.TheVariants as line
 use Rattle.trace_model.specs.Lines.{IsHost}
 use Rattle.node_world.specs.World.{end_c, end_h}
-use Rattle.schedule_laws.specs.Ranges.{IsNodeHeader, IsNodeLineOf, AreNodeLinesOf}
+use Rattle.schedule_laws.specs.Ranges.{IsNodeLineOf, AreNodeLinesOf}
+use Rattle.trace_model.specs.Lines.{IsNodeHeader}
 
 -- `swp 1 hci 01 02`
 abbrev two_hosts : Header

@@ -38,7 +38,8 @@ use Rattle.node_telling.proofs.Worlds.{site_is}
 use Rattle.node_readings.proofs.NoticedWorlds.{numbers}
 use Rattle.turn_laws.proofs.Lines.{in_turn}
 use Rattle.node_order.proofs.Strangers.{step_kept}
-use Rattle.schedule_laws.specs.Ranges.{IsNodeHeader, IsNodeLineOf, AreNodeLinesOf}
+use Rattle.schedule_laws.specs.Ranges.{IsNodeLineOf, AreNodeLinesOf}
+use Rattle.trace_model.specs.Lines.{IsNodeHeader}
 use Rattle.schedule_laws.proofs.Ranges.{hosts_are, hosts_few, playable}
 use Rattle.schedule_laws.proofs.Wires.{IsFewWires, run_few}
 use Rattle.schedule_laws.proofs.Ends.{commits, few_commits}
@@ -124,6 +125,7 @@ causes_few header w (line.Activate host sync power) few is = omega arith
 causes_few header w (line.Arm node nth fill) few is = omega arith
 causes_few header w (line.Init e identity pipes) few is = omega arith
 causes_few header w (line.Tables node) few is = omega arith
+causes_few header w (line.Settle rounds) few is = omega arith
 
 abbrev noted_of_line : LineOutcome → List Entry
 noted_of_line o = entries_in (occurrences_of o)
@@ -145,6 +147,7 @@ on_paid w (line.Damage e places) a = a
 on_paid w (line.Tick times) a = a
 on_paid w (line.Reset e window) a = a
 on_paid w (line.Busy e) a = a
+on_paid w (line.Settle n) a = a
 on_paid w (line.Ready e) a = a
 on_paid w (line.Boot n) a = a
 on_paid w (line.Cut n) a = a

@@ -1,5 +1,5 @@
 -- What may stand in a schedule of a world of nodes is what the laws of such worlds ask for.
-use Rattle.std.proofs.Common.{◌≡◌, ℕ, ◌+◌, ◌≤◌, ◌<◌, ◌==◌, false, List, [], ◌∷◌, ◌++◌, length, map, sym, arith}
+use Rattle.std.proofs.Common.{◌≡◌, ℕ, ◌+◌, ◌≤◌, ◌<◌, ◌==◌, false, List, [], ◌∷◌, ◌++◌, length, map, refl, sym, arith}
 use Rattle.std.specs.Prelude.{Some, None, All}
 use Rattle.std.specs.List.{AllByRecursion}
 use Rattle.std.specs.List.Sorted.{IsStrictlySortedBy}
@@ -9,7 +9,7 @@ use Rattle.std.proofs.lemmas.Bool.{ne_eqb}
 use Rattle.std.proofs.lemmas.Cmp.{ranked}
 use Rattle.std.proofs.lemmas.List.Elements.{recursion_from_All}
 use Rattle.std.proofs.lemmas.Map.Keys.{sorted_head, sorted_tail, sorted_from_strictly_increasing}
-use Rattle.trace_model.specs.Lines.{IsHost, IsLineOf}
+use Rattle.trace_model.specs.Lines.{IsHost, IsNodeHeader, MayFollow}
 use Rattle.trace_model.specs.declared.line.Header.{Header}
 use Rattle.trace_model.specs.declared.line.Line.{Line}
 use Rattle.trace_model.specs.declared.line.Line.TheVariants as line
@@ -17,7 +17,7 @@ use Rattle.node_links.specs.Runs.{IsPlayable, ArePlayable}
 use Rattle.kept_laws.specs.Hosts.{AreDifferent, AreHosts, IsSentByHost}
 use Rattle.node_readings.specs.Orders.{AreInitsShort}
 use Rattle.node_readings.specs.Worlds.{init_of, IsInitOfHost}
-use Rattle.schedule_laws.specs.Ranges.{IsNodeHeader, IsNodeLineOf, AreNodeLinesOf}
+use Rattle.schedule_laws.specs.Ranges.{IsNodeLineOf, AreNodeLinesOf}
 
 -- ## Hosts
 
@@ -67,22 +67,23 @@ each_line : (P Q : Line → Type 0) → ((l : Line) → P l → Q l) → (lines 
 each_line P Q one [] a = tt
 each_line P Q one (l ∷ lines) a = (one l a.0, each_line P Q one lines a.1)
 
--- what may be said below a header today is in these ranges
-pub in_range : (header : Header) (l : Line) → IsLineOf header l → IsNodeLineOf header l
-in_range header (line.Boot node) is = absurd is
-in_range header (line.Cut node) is = absurd is
-in_range header (line.Activate host sync power) is = absurd is
-in_range header (line.Arm node nth fill) is = absurd is
-in_range header (line.Init e identity pipes) is = absurd is
-in_range header (line.Tables node) is = absurd is
-in_range header (line.Send e pid message) is = is
-in_range header (line.Reset e window) is = is
-in_range header (line.Deliver e count) is = is
-in_range header (line.Lose e) is = is
-in_range header (line.Damage e places) is = is
-in_range header (line.Tick times) is = is
-in_range header (line.Busy e) is = is
-in_range header (line.Ready e) is = is
+-- what may be said below a header is in these ranges, but for settling, which no world of nodes does yet
+pub in_range : (header : Header) (l : Line) → MayFollow header l → ((rounds : ℕ) → l ≡ line.Settle rounds → ⊥) → IsNodeLineOf header l
+in_range header (line.Boot node) is other = is.1
+in_range header (line.Cut node) is other = is.1
+in_range header (line.Activate host sync power) is other = is.1
+in_range header (line.Arm node nth fill) is other = is.1
+in_range header (line.Init e identity pipes) is other = is.1
+in_range header (line.Tables node) is other = is.1
+in_range header (line.Settle rounds) is other = absurd (other rounds refl)
+in_range header (line.Send e pid message) is other = is
+in_range header (line.Reset e window) is other = is
+in_range header (line.Deliver e count) is other = is
+in_range header (line.Lose e) is other = is
+in_range header (line.Damage e places) is other = is
+in_range header (line.Tick times) is other = is
+in_range header (line.Busy e) is other = is
+in_range header (line.Ready e) is other = is
 
 playable_line : (header : Header) (l : Line) → IsNodeLineOf header l → IsPlayable l
 playable_line header (line.Send e pid message) is = (is.pipe, is.some)
@@ -100,6 +101,7 @@ playable_line header (line.Activate host sync power) is = tt
 playable_line header (line.Arm node nth fill) is = tt
 playable_line header (line.Init e identity pipes) is = tt
 playable_line header (line.Tables node) is = tt
+playable_line header (line.Settle rounds) is = tt
 
 pub playable : (header : Header) (lines : List Line) → AreNodeLinesOf header lines → ArePlayable lines
 playable header lines are = each_line (IsNodeLineOf header) IsPlayable (playable_line header) lines are
@@ -119,6 +121,7 @@ sent_line header nodes (line.Activate host sync power) is = tt
 sent_line header nodes (line.Arm node nth fill) is = tt
 sent_line header nodes (line.Init e identity pipes) is = tt
 sent_line header nodes (line.Tables node) is = tt
+sent_line header nodes (line.Settle rounds) is = tt
 
 pub sent_by_hosts : (header : Header) (lines : List Line) → IsNodeHeader header → AreNodeLinesOf header lines → AllByRecursion IsSentByHost lines
 sent_by_hosts header lines nodes are = each_line (IsNodeLineOf header) IsSentByHost (sent_line header nodes) lines are
@@ -154,6 +157,7 @@ init_line header (line.Cut node) is = tt
 init_line header (line.Activate host sync power) is = tt
 init_line header (line.Arm node nth fill) is = tt
 init_line header (line.Tables node) is = tt
+init_line header (line.Settle rounds) is = tt
 
 pub inits_of_hosts : (header : Header) (lines : List Line) → AreNodeLinesOf header lines → AllByRecursion IsInitOfHost lines
 inits_of_hosts header lines are = each_line (IsNodeLineOf header) IsInitOfHost (init_line header) lines are

@@ -7,19 +7,20 @@ ghost use Rattle.std.specs.List.{AllByRecursion};
 ghost use Rattle.trace_model.specs.declared.entry.Entry.{Entry};
 ghost use Rattle.trace_model.specs.declared.line.Header.{Header};
 ghost use Rattle.trace_model.specs.declared.line.Line.{Line};
-ghost use Rattle.trace_model.specs.Lines.{IsLineOf};
+ghost use Rattle.trace_model.specs.declared.line.Line.TheVariants as line;
+ghost use Rattle.trace_model.specs.Lines.{IsNodeHeader, MayFollow};
 ghost use Rattle.node_world.specs.NodeHistories.{FollowsNodes, NodeHistory, node_entries};
 ghost use Rattle.node_world.specs.NodeFilters.{commands_in};
 ghost use Rattle.node_links.specs.Runs.{ArePlayable};
 ghost use Rattle.kept_laws.specs.Hosts.{AreHosts, IsFew, IsSentByHost};
 ghost use Rattle.node_readings.specs.Worlds.{IsInitOfHost};
 ghost use Rattle.node_order.specs.Legal.{LegalNodes};
-ghost use Rattle.schedule_laws.specs.Ranges.{AreNodeLinesOf, IsNodeHeader, IsNodeLineOf};
+ghost use Rattle.schedule_laws.specs.Ranges.{AreNodeLinesOf, IsNodeLineOf};
 
-/// A line that may stand below a header, as a reader of schedules takes it, is in its range. The forms of nodes aren't among these
-/// lines yet: a reader that takes them owes that they are in their ranges, and that a header of nodes is.
+/// A line that may stand below a header, as a reader of schedules takes it, is in its range, but for settling, which no world of nodes
+/// does yet.
 pub fn lines_that_may_stand_are_in_their_ranges()
-    ensures { (header : Header) (said : Line) → IsLineOf header said → IsNodeLineOf header said }
+    ensures { (header : Header) (said : Line) → MayFollow header said → ((rounds : ℕ) → said ≡ line.Settle rounds → ⊥) → IsNodeLineOf header said }
 {}
 
 /// The hosts of a header of a world of nodes are from 01 to 07 and all different. The lines that may stand below it can be played:

@@ -12,9 +12,9 @@ use Rattle.schedule_text.proofs.ReadAgainLemmas.{again}
 -- three words that fit their kinds
 pub sends : (header : Header) (ws : List (List ℕ)) (a b c : List ℕ) → ws ≡ a ∷ b ∷ c ∷ [] → (at : Fits header.hci header.hosts.items 0 kind.Sender a)
     → (pid : Fits header.hci header.hosts.items 0 (kind.Byte 112) b) → (message : Fits header.hci header.hosts.items 0 (kind.Bytes 1 4500) c)
-    → Ok (read.Line (line.Send at.0 pid.0 message.0)) ≡ by_row (Some header) (row_for (codes "send")) ws
+    → Ok (read.Line (line.Send at.0 pid.0 message.0)) ≡ by_row (Some header) (row_for (codes "send") ws) ws
 sends header ws a b c is at pid message =
-    let P : List (List ℕ) → Type 0 = λ l. Ok (read.Line (line.Send at.0 pid.0 message.0)) ≡ by_row (Some header) (row_for (codes "send")) l in
+    let P : List (List ℕ) → Type 0 = λ l. Ok (read.Line (line.Send at.0 pid.0 message.0)) ≡ by_row (Some header) (row_for (codes "send") l) l in
     subst P (sym is)
     (sym (again header.hci header.hosts.items send_row (a ∷ b ∷ c ∷ []) _
     (record { least = omega arith; most = omega arith; words = (at, (pid, (message, tt))) })
@@ -22,9 +22,9 @@ sends header ws a b c is at pid message =
 
 -- one word that fits its kind
 pub delivers : (header : Header) (ws : List (List ℕ)) (a : List ℕ) → ws ≡ a ∷ [] → (at : Fits header.hci header.hosts.items 0 kind.End a)
-    → Ok (read.Line (line.Deliver at.0 None)) ≡ by_row (Some header) (row_for (codes "deliver")) ws
+    → Ok (read.Line (line.Deliver at.0 None)) ≡ by_row (Some header) (row_for (codes "deliver") ws) ws
 delivers header ws a is at =
-    let P : List (List ℕ) → Type 0 = λ l. Ok (read.Line (line.Deliver at.0 None)) ≡ by_row (Some header) (row_for (codes "deliver")) l in
+    let P : List (List ℕ) → Type 0 = λ l. Ok (read.Line (line.Deliver at.0 None)) ≡ by_row (Some header) (row_for (codes "deliver") l) l in
     subst P (sym is)
     (sym (again header.hci header.hosts.items deliver_row (a ∷ []) _ (record { least = omega arith; most = omega arith; words = (at, tt) }) (rw at.1 refl)))
 

@@ -9,10 +9,12 @@ use Rattle.schedule_text.specs.declared.read.Read.{Read}
 use Rattle.schedule_text.specs.declared.read.Read.TheVariants as read
 use Rattle.schedule_text.specs.declared.forms.Kind.{Kind}
 use Rattle.schedule_text.specs.declared.forms.Kind.TheVariants as kind
-use Rattle.schedule_text.specs.Forms.{FormRow, rows, row_for, header_row, send_row, deliver_row, lose_row, damage_row, tick_row, reset_row, busy_row, ready_row}
+use Rattle.schedule_text.specs.Forms.{FormRow, rows, row_for, has_third, nodes_row, header_row}
+use Rattle.schedule_text.specs.Forms.{send_row, deliver_row, lose_row, damage_row, tick_row, reset_row, busy_row, ready_row}
+use Rattle.schedule_text.specs.Forms.{boot_row, cut_row, activate_row, arm_row, init_row, tables_row, settle_row}
 use Rattle.schedule_text.specs.Rules.{Slot, slots, rising, digits_fault, first_digits_fault, first_host_fault, is_well_formed, words_fault}
 use Rattle.schedule_text.specs.Lines.{read_of, may_stand, has_nodes, hosts_of, unless_fault, by_row, is_comment}
-use Rattle.schedule_text.specs.Answers.{IsReadOrNoMemory, IsBareForm, IsOutOfOrder}
+use Rattle.schedule_text.specs.Answers.{IsReadOrNoMemory, IsBareForm, IsNodeForm, IsOutOfOrder}
 use Rattle.schedule_text.proofs.RowsLemmas.{row_cases}
 
 -- a fault of the words behind the first
@@ -41,6 +43,9 @@ later_digits at from kind.Version word = tt
 later_digits at from kind.Bare word = tt
 later_digits at from kind.End word = tt
 later_digits at from kind.Sender word = tt
+later_digits at from kind.Nodes word = tt
+later_digits at from kind.Host word = later_cond _ (fault.Hex at) tt
+later_digits at from kind.Node word = later_cond _ (fault.Hex at) tt
 later_digits at from kind.NewHost word = later_cond _ (fault.Hex at) tt
 later_digits at from (kind.Byte below) word = later_cond _ (fault.Hex at) tt
 later_digits at from (kind.Bytes low high) word = later_cond _ (fault.Hex at) tt
@@ -99,58 +104,156 @@ not_bare : (hci : Bool) → not hci ≡ false → IsTrue hci
 not_bare true h = refl
 not_bare false h = cc
 
-first_order : (first : List ℕ) (ws : List (List ℕ)) → first ≢ codes "swp" → by_row None (row_for first) ws ≡ Err fault.Order
+first_order : (first : List ℕ) (ws : List (List ℕ)) → first ≢ codes "swp" → by_row None (row_for first ws) ws ≡ Err fault.Order
 first_order first ws other =
-    row_cases (λ o. by_row None o ws ≡ Err fault.Order) rows first
-    (λ e. absurd (other e), (λ e. refl, (λ e. refl, (λ e. refl, (λ e. refl, (λ e. refl, (λ e. refl, (λ e. refl, (λ e. refl, tt))))))))) (λ e. refl)
-
-bare_forbidden : (header : Header) (row : FormRow) (ws : List (List ℕ)) → may_stand row.place (Some header) ≡ not header.hci
-    → by_row (Some header) (Some row) ws ≡ Err fault.Order → IsTrue header.hci
-bare_forbidden header row ws stands h = not_bare header.hci (sym stands ∙ not_standing (Some header) row ws h)
-
-later_order : (header : Header) (first : List ℕ) (ws : List (List ℕ)) → by_row (Some header) (row_for first) ws ≡ Err fault.Order
-    → IsOutOfOrder (Some header) (first ∷ ws)
-later_order header first ws =
-    row_cases (λ o. by_row (Some header) o ws ≡ Err fault.Order → IsOutOfOrder (Some header) (first ∷ ws)) rows first (
-      λ e h. inl e,
+    row_cases (λ o. by_row None o ws ≡ Err fault.Order) rows first ws (
+      λ e. absurd (other e),
       (
-        λ e h. absurd (allowed (Some header) send_row ws refl h),
+        λ e. absurd (other e),
         (
-          λ e h. absurd (allowed (Some header) deliver_row ws refl h),
+          λ e. refl,
           (
-            λ e h. absurd (allowed (Some header) lose_row ws refl h),
+            λ e. refl,
             (
-              λ e h. absurd (allowed (Some header) damage_row ws refl h),
+              λ e. refl,
               (
-                λ e h. absurd (allowed (Some header) tick_row ws refl h),
+                λ e. refl,
                 (
-                  λ e h. absurd (allowed (Some header) reset_row ws refl h),
-                  (λ e h. inr (bare_forbidden header busy_row ws refl h, inl e), (λ e h. inr (bare_forbidden header ready_row ws refl h, inr e), tt)),
+                  λ e. refl,
+                  (
+                    λ e. refl,
+                    (
+                      λ e. refl,
+                      (
+                        λ e. refl,
+                        (
+                          λ e. refl,
+                          (
+                            λ e. refl,
+                            (
+                              λ e. refl,
+                              (
+                                λ e. refl,
+                                (
+                                  λ e. refl,
+                                  (
+                                    λ e. refl,
+                                    (λ e. refl, tt),
+                                  ),
+                                ),
+                              ),
+                            ),
+                          ),
+                        ),
+                      ),
+                    ),
+                  ),
                 ),
               ),
             ),
           ),
         ),
       ),
-    )
-    (λ e h. cc)
+    ) (λ e. refl)
+
+bare_forbidden : (header : Header) (row : FormRow) (ws : List (List ℕ)) → may_stand row.place (Some header) ≡ not header.hci
+    → by_row (Some header) (Some row) ws ≡ Err fault.Order → IsTrue header.hci
+bare_forbidden header row ws stands h = not_bare header.hci (sym stands ∙ not_standing (Some header) row ws h)
+
+nodes_forbidden : (header : Header) (row : FormRow) (ws : List (List ℕ)) → may_stand row.place (Some header) ≡ header.hci
+    → by_row (Some header) (Some row) ws ≡ Err fault.Order → header.hci ≡ false
+nodes_forbidden header row ws stands h = sym stands ∙ not_standing (Some header) row ws h
+
+later_order : (header : Header) (first : List ℕ) (ws : List (List ℕ)) → by_row (Some header) (row_for first ws) ws ≡ Err fault.Order
+    → IsOutOfOrder (Some header) (first ∷ ws)
+later_order header first ws =
+    row_cases (λ o. by_row (Some header) o ws ≡ Err fault.Order → IsOutOfOrder (Some header) (first ∷ ws)) rows first ws (
+      λ e h. inl e,
+      (
+        λ e h. inl e,
+        (
+          λ e h. absurd (allowed (Some header) send_row ws refl h),
+          (
+            λ e h. absurd (allowed (Some header) deliver_row ws refl h),
+            (
+              λ e h. absurd (allowed (Some header) lose_row ws refl h),
+              (
+                λ e h. absurd (allowed (Some header) damage_row ws refl h),
+                (
+                  λ e h. absurd (allowed (Some header) tick_row ws refl h),
+                  (
+                    λ e h. absurd (allowed (Some header) reset_row ws refl h),
+                    (
+                      λ e h. inr (inl (bare_forbidden header busy_row ws refl h, inl e)),
+                      (
+                        λ e h. inr (inl (bare_forbidden header ready_row ws refl h, inr e)),
+                        (
+                          λ e h. inr (inr (nodes_forbidden header boot_row ws refl h, inl e)),
+                          (
+                            λ e h. inr (inr (nodes_forbidden header cut_row ws refl h, inr (inl e))),
+                            (
+                              λ e h. inr (inr (nodes_forbidden header activate_row ws refl h, inr (inr (inl e)))),
+                              (
+                                λ e h. inr (inr (nodes_forbidden header arm_row ws refl h, inr (inr (inr (inl e))))),
+                                (
+                                  λ e h. inr (inr (nodes_forbidden header init_row ws refl h, inr (inr (inr (inr (inl e)))))),
+                                  (
+                                    λ e h. inr (inr (nodes_forbidden header tables_row ws refl h, inr (inr (inr (inr (inr e)))))),
+                                    (λ e h. absurd (allowed (Some header) settle_row ws refl h), tt),
+                                  ),
+                                ),
+                              ),
+                            ),
+                          ),
+                        ),
+                      ),
+                    ),
+                  ),
+                ),
+              ),
+            ),
+          ),
+        ),
+      ),
+    ) (λ e h. cc)
 
 bare_order : (header : Header) (first : List ℕ) (ws : List (List ℕ)) → IsTrue header.hci → IsBareForm first
-    → by_row (Some header) (row_for first) ws ≡ Err fault.Order
-bare_order header first ws hci (inl e) = subst (λ w. by_row (Some header) (row_for w) ws ≡ Err fault.Order) (sym e) (rw hci refl)
-bare_order header first ws hci (inr e) = subst (λ w. by_row (Some header) (row_for w) ws ≡ Err fault.Order) (sym e) (rw hci refl)
+    → by_row (Some header) (row_for first ws) ws ≡ Err fault.Order
+bare_order header first ws hci (inl e) = subst (λ w. by_row (Some header) (row_for w ws) ws ≡ Err fault.Order) (sym e) (rw hci refl)
+bare_order header first ws hci (inr e) = subst (λ w. by_row (Some header) (row_for w ws) ws ≡ Err fault.Order) (sym e) (rw hci refl)
+
+nodes_order : (header : Header) (first : List ℕ) (ws : List (List ℕ)) → header.hci ≡ false → IsNodeForm first
+    → by_row (Some header) (row_for first ws) ws ≡ Err fault.Order
+nodes_order header first ws bare (inl e) = subst (λ w. by_row (Some header) (row_for w ws) ws ≡ Err fault.Order) (sym e) (rw bare refl)
+nodes_order header first ws bare (inr (inl e)) = subst (λ w. by_row (Some header) (row_for w ws) ws ≡ Err fault.Order) (sym e) (rw bare refl)
+nodes_order header first ws bare (inr (inr (inl e))) = subst (λ w. by_row (Some header) (row_for w ws) ws ≡ Err fault.Order) (sym e) (rw bare refl)
+nodes_order header first ws bare (inr (inr (inr (inl e)))) = subst (λ w. by_row (Some header) (row_for w ws) ws ≡ Err fault.Order) (sym e) (rw bare refl)
+nodes_order header first ws bare (inr (inr (inr (inr (inl e))))) = subst (λ w. by_row (Some header) (row_for w ws) ws ≡ Err fault.Order) (sym e) (rw bare refl)
+nodes_order header first ws bare (inr (inr (inr (inr (inr e))))) = subst (λ w. by_row (Some header) (row_for w ws) ws ≡ Err fault.Order) (sym e) (rw bare refl)
+
+-- a header behind the first line
+second_header : (header : Header) (ws : List (List ℕ)) (t : Bool) → by_row (Some header) (cond t (Some nodes_row) (Some header_row)) ws ≡ Err fault.Order
+second_header header ws true = refl
+second_header header ws false = refl
 
 order_later : (header : Header) (first : List ℕ) (ws : List (List ℕ)) → IsOutOfOrder (Some header) (first ∷ ws)
-    → by_row (Some header) (row_for first) ws ≡ Err fault.Order
-order_later header first ws (inl e) = subst (λ w. by_row (Some header) (row_for w) ws ≡ Err fault.Order) (sym e) refl
-order_later header first ws (inr h) = bare_order header first ws h.0 h.1
+    → by_row (Some header) (row_for first ws) ws ≡ Err fault.Order
+order_later header first ws (inl e) =
+    subst (λ w. by_row (Some header) (row_for w ws) ws ≡ Err fault.Order) (sym e) (second_header header ws (has_third (codes "hci") ws))
+order_later header first ws (inr (inl h)) = bare_order header first ws h.0 h.1
+order_later header first ws (inr (inr h)) = nodes_order header first ws h.0 h.1
 
-header_stands : (first : List ℕ) (ws : List (List ℕ)) → by_row None (row_for first) ws ≡ Err fault.Order → first ≡ codes "swp" → ⊥
-header_stands first ws h e = allowed None header_row ws refl (subst (λ w. by_row None (row_for w) ws ≡ Err fault.Order) e h)
+first_header : (ws : List (List ℕ)) (t : Bool) → by_row None (cond t (Some nodes_row) (Some header_row)) ws ≡ Err fault.Order → ⊥
+first_header ws true h = allowed None nodes_row ws refl h
+first_header ws false h = allowed None header_row ws refl h
+
+header_stands : (first : List ℕ) (ws : List (List ℕ)) → by_row None (row_for first ws) ws ≡ Err fault.Order → first ≡ codes "swp" → ⊥
+header_stands first ws h e =
+    first_header ws (has_third (codes "hci") ws) (subst (λ w. by_row None (row_for w ws) ws ≡ Err fault.Order) e h)
 
 -- out of order
 pub order_iff : (header : Option Header) (first : List ℕ) (ws : List (List ℕ)) → is_comment first ≡ false
-    → (by_row header (row_for first) ws ≡ Err fault.Order) ↔ IsOutOfOrder header (first ∷ ws)
+    → (by_row header (row_for first ws) ws ≡ Err fault.Order) ↔ IsOutOfOrder header (first ∷ ws)
 order_iff None first ws letter = (λ h. (λ t. cc, header_stands first ws h), λ h. first_order first ws h.1)
 order_iff (Some header) first ws letter = (later_order header first ws, order_later header first ws)
 

@@ -1,18 +1,19 @@
 -- The table of the program is that of the definition.
-use Rattle.std.proofs.Common.{◌≡◌, ℕ, Bool, true, false, cond, List, [], ◌∷◌, refl, Some, map, find}
+use Rattle.std.proofs.Common.{◌≡◌, ◌&&◌, ℕ, Bool, true, false, cond, List, [], ◌∷◌, refl, Some, map, find}
 use Rattle.std.specs.Option.{option_map}
 use Rattle.std.specs.Str.{bytes_eq}
 use Rattle.schedule_text.specs.declared.forms.Form.{Form}
-use Rattle.schedule_text.specs.Forms.{row_of_form, row_in}
+use Rattle.schedule_text.specs.Forms.{row_of_form, has_third, row_in}
 
 -- the row of the form that is found
-pub row-find : (forms : List Form) (first : List ℕ)
-    → option_map row_of_form (find (λ form. bytes_eq form.first.now first) forms) ≡ row_in (map row_of_form forms) first
-row-find [] first = refl
-row-find (form ∷ forms) first = go (bytes_eq form.first.now first) (row-find forms first)
+pub row-find : (forms : List Form) (first : List ℕ) (ws : List (List ℕ))
+    → option_map row_of_form (find (λ form. bytes_eq form.first.now first && has_third form.third.now ws) forms) ≡ row_in (map row_of_form forms) first ws
+row-find [] first ws = refl
+row-find (form ∷ forms) first ws = go (bytes_eq form.first.now first && has_third form.third.now ws) (row-find forms first ws)
   where
-    go : (t : Bool) → option_map row_of_form (find (λ f. bytes_eq f.first.now first) forms) ≡ row_in (map row_of_form forms) first
-        → option_map row_of_form (cond t (Some form) (find (λ f. bytes_eq f.first.now first) forms))
-        ≡ cond t (Some (row_of_form form)) (row_in (map row_of_form forms) first)
+    go : (t : Bool)
+        → option_map row_of_form (find (λ f. bytes_eq f.first.now first && has_third f.third.now ws) forms) ≡ row_in (map row_of_form forms) first ws
+        → option_map row_of_form (cond t (Some form) (find (λ f. bytes_eq f.first.now first && has_third f.third.now ws) forms))
+        ≡ cond t (Some (row_of_form form)) (row_in (map row_of_form forms) first ws)
     go true h = refl
     go false h = h

@@ -1,5 +1,6 @@
 -- Which words are pairs of hexadecimal digits, and how many.
-use Rattle.std.proofs.Common.{◌≡◌, ◌==◌, ◌+◌, ◌*◌, ◌%◌, ◌/◌, ℕ, Bool, true, false, cond, List, [], ◌∷◌, length, slice_index, refl, sym, ◌∙◌, ap, ap₂, arith}
+use Rattle.std.proofs.Common.{◌≡◌, ◌==◌, ◌+◌, ◌*◌, ◌%◌, ◌/◌, ◌<◌, ◌≤◌, IfSome, ℕ, Bool, true, false, cond, List, [], ◌∷◌}
+use Rattle.std.proofs.Common.{length, slice_index, refl, sym, ◌∙◌, ap, ap₂, arith}
 use Rattle.std.proofs.Common.{Option, Some, None, Result, Ok, Err, eqb-true}
 use Rattle.std.proofs.lemmas.Bool.{eqb-false}
 use Rattle.std.specs.Result.{result_ok}
@@ -68,3 +69,11 @@ pub byte_of_others : (word : List ℕ) → (length word ≡ 2 → ⊥) → byte_
 byte_of_others word other =
     no_byte (length word % 2 == 1) (length word / 2 == 1) (decode_pairs 0 word)
     (λ even half. other (let e = eqb-false (length word % 2) 1 even in let h = eqb-true (length word / 2) 1 half in omega (arith, e, h)))
+
+-- a word of more digits than 64 bytes have, where a word stands for no more
+pub too_long : (word : List ℕ) → 64 < length word / 2 → IfSome (bytes_value word) (λ bytes. length bytes ≤ 64) → None ≡ bytes_value word
+too_long word long few = go (decode_of word) refl few
+  where
+    go : (r : Result (List ℕ) FromHexError) → decode_of word ≡ r → IfSome (result_ok r) (λ bytes. length bytes ≤ 64) → None ≡ result_ok r
+    go (Ok bytes) e h = let twice = (decode_of-ok word bytes e).2 in let most : length bytes ≤ 64 = h in absurd (omega (arith, twice, most, long))
+    go (Err f) e h = refl

@@ -1,5 +1,5 @@
 -- A host that a line is refused for isn't in the header.
-use Rattle.std.proofs.Common.{◌≡◌, ◌==◌, ◌&&◌, ℕ, ◌+◌, Bool, true, false, not, cond, List, [], ◌∷◌, refl, subst, Option, Some, None, Err, is_some}
+use Rattle.std.proofs.Common.{◌≡◌, ◌==◌, ◌&&◌, ◌||◌, ℕ, ◌+◌, Bool, true, false, not, cond, List, [], ◌∷◌, refl, subst, Option, Some, None, Err, is_some}
 use Rattle.std.proofs.lemmas.Bool.{and_parts}
 use Rattle.std.specs.List.{list_all, list_any}
 use Rattle.std.specs.Option.{option_map, option_or}
@@ -11,7 +11,9 @@ use Rattle.schedule_text.specs.declared.forms.Kind.{Kind}
 use Rattle.schedule_text.specs.declared.forms.Kind.TheVariants as kind
 use Rattle.schedule_text.specs.Values.{byte_value, bytes_value, number_in, end_value}
 use Rattle.schedule_text.specs.Forms.{FormRow, rows, row_for, send_row, deliver_row, lose_row, damage_row, tick_row, reset_row, busy_row, ready_row}
-use Rattle.schedule_text.specs.Rules.{Slot, slots, later, rising, stranger, has_byte, has_bytes, digits_fault, host_fault, first_digits_fault, first_host_fault}
+use Rattle.schedule_text.specs.Forms.{boot_row, cut_row, activate_row, arm_row, init_row, tables_row, settle_row}
+use Rattle.schedule_text.specs.Rules.{Slot, slots, later, rising, stranger, no_node, has_byte, has_bytes}
+use Rattle.schedule_text.specs.Rules.{digits_fault, host_fault, first_digits_fault, first_host_fault}
 use Rattle.schedule_text.specs.Rules.{is_well_formed, words_fault}
 use Rattle.schedule_text.specs.Lines.{read_of, may_stand, unless_fault, by_row}
 use Rattle.schedule_text.proofs.RowsLemmas.{row_cases}
@@ -25,6 +27,9 @@ no_host_digits at from kind.Version word id h = cc
 no_host_digits at from kind.Bare word id h = cc
 no_host_digits at from kind.End word id h = cc
 no_host_digits at from kind.Sender word id h = cc
+no_host_digits at from kind.Nodes word id h = cc
+no_host_digits at from kind.Host word id h = no_host_if (is_some (byte_value word)) (fault.Hex at) id (λ e. cc) h
+no_host_digits at from kind.Node word id h = no_host_if (is_some (byte_value word)) (fault.Hex at) id (λ e. cc) h
 no_host_digits at from kind.NewHost word id h = no_host_if (is_some (byte_value word)) (fault.Hex at) id (λ e. cc) h
 no_host_digits at from (kind.Byte below) word id h = no_host_if (has_byte below (byte_value word)) (fault.Hex at) id (λ e. cc) h
 no_host_digits at from (kind.Bytes low high) word id h = no_host_if (has_bytes low high (bytes_value word)) (fault.Hex at) id (λ e. cc) h
@@ -59,11 +64,24 @@ unknown hosts (Some k) id h = go (list_any (λ host. host == k) hosts) refl h
     go true e h = cc
     go false e h = let same : k ≡ id = cc in subst (λ n. list_any (λ host. host == n) hosts ≡ false) same e
 
+unknown_node : (hosts : List ℕ) (o : Option ℕ) (id : ℕ) → no_node hosts o ≡ Some id → list_any (λ host. host == id) hosts ≡ false
+unknown_node hosts None id h = cc
+unknown_node hosts (Some k) id h = go (k == 0) (list_any (λ host. host == k) hosts) refl h
+  where
+    go : (z t : Bool) → list_any (λ host. host == k) hosts ≡ t → cond (not (z || t)) (Some k) None ≡ Some id
+        → list_any (λ host. host == id) hosts ≡ false
+    go true t e h = cc
+    go false true e h = cc
+    go false false e h = let same : k ≡ id = cc in subst (λ n. list_any (λ host. host == n) hosts ≡ false) same e
+
 -- no word that names a new host
 abbrev is_old : Kind → Bool
 is_old kind.NewHost = false
 is_old kind.Version = true
 is_old kind.Bare = true
+is_old kind.Nodes = true
+is_old kind.Host = true
+is_old kind.Node = true
 is_old kind.End = true
 is_old kind.Sender = true
 is_old (kind.Byte below) = true
@@ -76,6 +94,9 @@ word_unknown : (hosts : List ℕ) (from : ℕ) (k : Kind) (word : List ℕ) (id 
 word_unknown hosts from kind.NewHost word id old h = cc
 word_unknown hosts from kind.Version word id old h = cc
 word_unknown hosts from kind.Bare word id old h = cc
+word_unknown hosts from kind.Nodes word id old h = cc
+word_unknown hosts from kind.Host word id old h = unknown hosts (byte_value word) id h
+word_unknown hosts from kind.Node word id old h = unknown_node hosts (byte_value word) id h
 word_unknown hosts from kind.End word id old h = unknown hosts (option_map (λ e. e.link) (end_value word)) id h
 word_unknown hosts from kind.Sender word id old h = unknown hosts (option_map (λ e. e.link) (end_value word)) id h
 word_unknown hosts from (kind.Byte below) word id old h = cc
@@ -118,24 +139,51 @@ line_unknown header row ws id old h = go (may_stand row.place (Some header)) h
         (host_behind (first_digits_fault 2 0 (slots row.kinds ws)) _ id (no_host_first 2 0 (slots row.kinds ws) id) found)
     go false e = cc
 
-pub row_unknown : (header : Header) (first : List ℕ) (ws : List (List ℕ)) (id : ℕ) → by_row (Some header) (row_for first) ws ≡ Err (fault.Host id)
+pub row_unknown : (header : Header) (first : List ℕ) (ws : List (List ℕ)) (id : ℕ) → by_row (Some header) (row_for first ws) ws ≡ Err (fault.Host id)
     → list_any (λ host. host == id) header.hosts.items ≡ false
 row_unknown header first ws id =
-    row_cases (λ o. by_row (Some header) o ws ≡ Err (fault.Host id) → list_any (λ host. host == id) header.hosts.items ≡ false) rows first (
+    row_cases (λ o. by_row (Some header) o ws ≡ Err (fault.Host id) → list_any (λ host. host == id) header.hosts.items ≡ false) rows first ws (
       λ e h. cc,
       (
-        λ e. line_unknown header send_row ws id refl,
+        λ e h. cc,
         (
-          λ e. line_unknown header deliver_row ws id refl,
+          λ e. line_unknown header send_row ws id refl,
           (
-            λ e. line_unknown header lose_row ws id refl,
+            λ e. line_unknown header deliver_row ws id refl,
             (
-              λ e. line_unknown header damage_row ws id refl,
+              λ e. line_unknown header lose_row ws id refl,
               (
-                λ e. line_unknown header tick_row ws id refl,
+                λ e. line_unknown header damage_row ws id refl,
                 (
-                  λ e. line_unknown header reset_row ws id refl,
-                  (λ e. line_unknown header busy_row ws id refl, (λ e. line_unknown header ready_row ws id refl, tt)),
+                  λ e. line_unknown header tick_row ws id refl,
+                  (
+                    λ e. line_unknown header reset_row ws id refl,
+                    (
+                      λ e. line_unknown header busy_row ws id refl,
+                      (
+                        λ e. line_unknown header ready_row ws id refl,
+                        (
+                          λ e. line_unknown header boot_row ws id refl,
+                          (
+                            λ e. line_unknown header cut_row ws id refl,
+                            (
+                              λ e. line_unknown header activate_row ws id refl,
+                              (
+                                λ e. line_unknown header arm_row ws id refl,
+                                (
+                                  λ e. line_unknown header init_row ws id refl,
+                                  (
+                                    λ e. line_unknown header tables_row ws id refl,
+                                    (λ e. line_unknown header settle_row ws id refl, tt),
+                                  ),
+                                ),
+                              ),
+                            ),
+                          ),
+                        ),
+                      ),
+                    ),
+                  ),
                 ),
               ),
             ),

@@ -12,8 +12,9 @@ use Rattle.schedule_text.specs.declared.fault.LineFault.TheVariants as fault
 use Rattle.schedule_text.specs.declared.forms.Kind.{Kind}
 use Rattle.schedule_text.specs.declared.forms.Kind.TheVariants as kind
 use Rattle.schedule_text.specs.Values.{byte_value, bytes_value, number_in, end_value, option_if}
-use Rattle.schedule_text.specs.Forms.{FormRow, row_in}
-use Rattle.schedule_text.specs.Rules.{Slot, slots, is_sender, has_byte, has_bytes, has_shape, rising, stranger, digits_fault, host_fault, is_well_formed}
+use Rattle.schedule_text.specs.Forms.{FormRow, has_third, row_in}
+use Rattle.schedule_text.specs.Rules.{Slot, slots, is_sender, has_byte, has_bytes, has_shape, rising, stranger, no_node}
+use Rattle.schedule_text.specs.Rules.{digits_fault, host_fault, is_well_formed}
 use Rattle.schedule_text.specs.Rules.{first_digits_fault, first_host_fault, words_fault}
 
 if_none : (t : Bool) (f : LineFault) → cond t None (Some f) ≡ None → t ≡ true
@@ -40,10 +41,17 @@ if_some_none false n h = refl
 abbrev pub IsKnown : List ℕ → ℕ → Type 0
 IsKnown hosts h = list_any (λ host. host == h) hosts ≡ true
 
+-- the controller or a host of the header
+abbrev pub IsNodeKnown : List ℕ → ℕ → Type 0
+IsNodeKnown hosts n = (n == 0 || list_any (λ host. host == n) hosts) ≡ true
+
 -- a word without fault, by its kind
 abbrev pub Fits : Bool → List ℕ → ℕ → Kind → List ℕ → Type 0
 Fits hci hosts from kind.Version word = bytes_eq word (codes "1") ≡ true
 Fits hci hosts from kind.Bare word = bytes_eq word (codes "bare") ≡ true
+Fits hci hosts from kind.Nodes word = bytes_eq word (codes "hci") ≡ true
+Fits hci hosts from kind.Host word = (h : ℕ) × (byte_value word ≡ Some h) × IsKnown hosts h
+Fits hci hosts from kind.Node word = (n : ℕ) × (byte_value word ≡ Some n) × IsNodeKnown hosts n
 Fits hci hosts from kind.NewHost word = (h : ℕ) × (byte_value word ≡ Some h) × (1 ≤ h) × (from ≤ h) × (h ≤ 7)
 Fits hci hosts from kind.End word = (e : End) × (end_value word ≡ Some e) × IsKnown hosts e.link
 Fits hci hosts from kind.Sender word = (e : End) × (end_value word ≡ Some e) × IsKnown hosts e.link × ((not hci || e.at_host) ≡ true)
@@ -63,6 +71,14 @@ end_fits : (hosts : List ℕ) (o : Option End) → is_some o ≡ true → strang
     → (e : End) × (o ≡ Some e) × IsKnown hosts e.link
 end_fits hosts None h none = cc
 end_fits hosts (Some e) h none = (e, refl, known_host hosts e.link none)
+
+host_known : (hosts : List ℕ) (o : Option ℕ) → is_some o ≡ true → stranger hosts o ≡ None → (h : ℕ) × (o ≡ Some h) × IsKnown hosts h
+host_known hosts None h none = cc
+host_known hosts (Some k) h none = (k, refl, known_host hosts k none)
+
+node_known : (hosts : List ℕ) (o : Option ℕ) → is_some o ≡ true → no_node hosts o ≡ None → (n : ℕ) × (o ≡ Some n) × IsNodeKnown hosts n
+node_known hosts None h none = cc
+node_known hosts (Some k) h none = (k, refl, not-false _ (if_some_none _ k none))
 
 sender_fits : (hci : Bool) (hosts : List ℕ) (o : Option End) → is_sender hci o ≡ true → stranger hosts (option_map (λ e. e.link) o) ≡ None
     → (e : End) × (o ≡ Some e) × IsKnown hosts e.link × ((not hci || e.at_host) ≡ true)
@@ -95,6 +111,9 @@ word_fits : (hci : Bool) (hosts : List ℕ) (at from : ℕ) (k : Kind) (word : L
     → host_fault hosts from k word ≡ None → Fits hci hosts from k word
 word_fits hci hosts at from kind.Version word shape digits host = shape
 word_fits hci hosts at from kind.Bare word shape digits host = shape
+word_fits hci hosts at from kind.Nodes word shape digits host = shape
+word_fits hci hosts at from kind.Host word shape digits host = host_known hosts (byte_value word) (if_none _ (fault.Hex at) digits) host
+word_fits hci hosts at from kind.Node word shape digits host = node_known hosts (byte_value word) (if_none _ (fault.Hex at) digits) host
 word_fits hci hosts at from kind.NewHost word shape digits host = host_fits from (byte_value word) (if_none _ (fault.Hex at) digits) host
 word_fits hci hosts at from kind.End word shape digits host = end_fits hosts (end_value word) shape host
 word_fits hci hosts at from kind.Sender word shape digits host = sender_fits hci hosts (end_value word) shape host
@@ -110,6 +129,9 @@ HasNoFault hci hosts at from k word = (has_shape hci k word ≡ true) × (digits
 word_is_right : (hci : Bool) (hosts : List ℕ) (at from : ℕ) (k : Kind) (word : List ℕ) → Fits hci hosts from k word → HasNoFault hci hosts at from k word
 word_is_right hci hosts at from kind.Version word h = (h, refl, refl)
 word_is_right hci hosts at from kind.Bare word h = (h, refl, refl)
+word_is_right hci hosts at from kind.Nodes word h = (h, refl, refl)
+word_is_right hci hosts at from kind.Host word h = (refl, rw h.1 refl, rw (h.1, h.2) refl)
+word_is_right hci hosts at from kind.Node word h = (refl, rw h.1 refl, rw (h.1, h.2) refl)
 word_is_right hci hosts at from kind.NewHost word h =
     (refl, rw h.1 refl, rw (h.1, lt-ltb 0 h.0 h.2, le-leb from h.0 h.3, le-leb h.0 7 h.4) refl)
 word_is_right hci hosts at from kind.End word h = (rw h.1 refl, refl, rw (h.1, h.2) refl)
@@ -163,13 +185,14 @@ right_words hci hosts row ws h =
     let all = all_right hci hosts 2 0 (slots row.kinds ws) h.words in
     rw (le-leb row.least (length ws) h.least, le-leb (length ws) row.most h.most, all.0, all.1, all.2) refl
 
--- what holds of each row of a table, and where no row is there, holds of the row of a word
-pub row_cases : (P : Option FormRow → Type 0) (table : List FormRow) (first : List ℕ) → AllByRecursion (λ row. first ≡ row.first → P (Some row)) table
-    → (row_in table first ≡ None → P None) → P (row_in table first)
-row_cases P [] first each none = none refl
-row_cases P (row ∷ table) first each none = go (bytes_eq row.first first) refl (row_cases P table first each.1) none
+-- what holds of each row of a table, and where no row is there, holds of the row of a line
+pub row_cases : (P : Option FormRow → Type 0) (table : List FormRow) (first : List ℕ) (ws : List (List ℕ))
+    → AllByRecursion (λ row. first ≡ row.first → P (Some row)) table → (row_in table first ws ≡ None → P None) → P (row_in table first ws)
+row_cases P [] first ws each none = none refl
+row_cases P (row ∷ table) first ws each none =
+    go (bytes_eq row.first first && has_third row.third ws) refl (row_cases P table first ws each.1) none
   where
-    go : (t : Bool) → bytes_eq row.first first ≡ t → ((row_in table first ≡ None → P None) → P (row_in table first))
-        → (cond t (Some row) (row_in table first) ≡ None → P None) → P (cond t (Some row) (row_in table first))
-    go true e more none = each.0 (sym ((bytes_eq-Decides row.first first).0 e))
+    go : (t : Bool) → (bytes_eq row.first first && has_third row.third ws) ≡ t → ((row_in table first ws ≡ None → P None) → P (row_in table first ws))
+        → (cond t (Some row) (row_in table first ws) ≡ None → P None) → P (cond t (Some row) (row_in table first ws))
+    go true e more none = each.0 (sym ((bytes_eq-Decides row.first first).0 (and_parts _ _ e).0))
     go false e more none = more none

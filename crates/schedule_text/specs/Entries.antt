@@ -59,6 +59,7 @@ line_words (line.Activate host sync power) = codes "activate" ∷ byte_text host
 line_words (line.Arm node nth fill) = codes "arm" ∷ byte_text node ∷ decimal nth ∷ encode_upper fill.items ∷ []
 line_words (line.Init at identity pipes) = codes "init" ∷ end_text at ∷ encode_upper identity ∷ map encode_upper pipes.items
 line_words (line.Tables node) = codes "tables" ∷ byte_text node ∷ []
+line_words (line.Settle rounds) = codes "settle" ∷ decimal rounds ∷ []
 
 -- why a session ended
 abbrev pub down_word : Cause → List ℕ
@@ -135,6 +136,7 @@ entry_words (entry.InitFailed at code) = codes "init" ∷ end_text at ∷ codes 
 entry_words (entry.Cut node) = codes "cut" ∷ byte_text node ∷ []
 entry_words (entry.Booted node count) = codes "booted" ∷ byte_text node ∷ decimal count ∷ []
 entry_words (entry.Tables node tables) = count_words node tables
+entry_words (entry.Settled rounds) = codes "settled" ∷ decimal rounds ∷ []
 entry_words (entry.No cause) = codes "no" ∷ cause_words cause
 
 -- the lines behind the first one: those of the rows of tables

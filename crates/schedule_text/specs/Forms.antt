@@ -1,5 +1,5 @@
 -- The table of the forms of lines.
-use Rattle.std.specs.Prelude.{ℕ, List, [], ◌∷◌, Option, codes, find}
+use Rattle.std.specs.Prelude.{ℕ, ◌==◌, ◌&&◌, ◌||◌, Bool, false, List, [], ◌∷◌, length, slice_get, Option, Some, None, codes, find}
 use Rattle.std.specs.Str.{bytes_eq}
 use Rattle.schedule_text.specs.declared.forms.Form.{Form}
 use Rattle.schedule_text.specs.declared.forms.Name.{Name}
@@ -9,10 +9,11 @@ use Rattle.schedule_text.specs.declared.forms.Place.TheVariants as place
 use Rattle.schedule_text.specs.declared.forms.Kind.{Kind}
 use Rattle.schedule_text.specs.declared.forms.Kind.TheVariants as kind
 
--- the first word, which line it is, where it may stand, the kinds of the words behind the first one (the last kind is that
--- of all further words), and how many of them there are at least and at most
+-- the first word, the third one where another row has the same first word, which line it is, where it may stand, the kinds of the
+-- words behind the first one (the last kind is that of all further words), and how many of them there are at least and at most
 pub record FormRow : Type 0 where
   pub first : List ℕ
+  pub third : List ℕ
   pub name : Name
   pub place : Place
   pub kinds : List Kind
@@ -22,14 +23,36 @@ pub record FormRow : Type 0 where
 -- a row as the program keeps it
 abbrev pub row_of_form : Form → FormRow
 row_of_form form =
-    record { first = form.first.now; name = form.name; place = form.place; kinds = form.kinds.now; least = form.least; most = form.most }
+    record {
+      first = form.first.now;
+      third = form.third.now;
+      name = form.name;
+      place = form.place;
+      kinds = form.kinds.now;
+      least = form.least;
+      most = form.most;
+    }
 
 abbrev form_row : List ℕ → Name → Place → List Kind → ℕ → ℕ → FormRow
-form_row first name place kinds least most = record { first = first; name = name; place = place; kinds = kinds; least = least; most = most }
+form_row first name place kinds least most =
+    record { first = first; third = []; name = name; place = place; kinds = kinds; least = least; most = most }
 
 -- `swp 1 bare H`
 abbrev pub header_row : FormRow
 header_row = form_row (codes "swp") name.Header place.First (kind.Version ∷ kind.Bare ∷ kind.NewHost ∷ []) 3 3
+
+-- `swp 1 hci H..`: the hosts rise, so that there are seven at most
+abbrev pub nodes_row : FormRow
+nodes_row =
+    record {
+      first = codes "swp";
+      third = codes "hci";
+      name = name.NodesHeader;
+      place = place.First;
+      kinds = kind.Version ∷ kind.Nodes ∷ kind.NewHost ∷ [];
+      least = 3;
+      most = 9000;
+    }
 
 -- `send E PID HEX`
 abbrev pub send_row : FormRow
@@ -62,12 +85,49 @@ busy_row = form_row (codes "busy") name.Busy place.BelowBare (kind.End ∷ []) 1
 abbrev pub ready_row : FormRow
 ready_row = form_row (codes "ready") name.Ready place.BelowBare (kind.End ∷ []) 1 1
 
+-- `boot NODE`, `cut NODE`
+abbrev pub boot_row : FormRow
+boot_row = form_row (codes "boot") name.Boot place.BelowNodes (kind.Node ∷ []) 1 1
+
+abbrev pub cut_row : FormRow
+cut_row = form_row (codes "cut") name.Cut place.BelowNodes (kind.Node ∷ []) 1 1
+
+-- `activate H SYNC POWER`
+abbrev pub activate_row : FormRow
+activate_row = form_row (codes "activate") name.Activate place.BelowNodes (kind.Host ∷ kind.Bytes 2 2 ∷ kind.Byte 2 ∷ []) 3 3
+
+-- `arm NODE K FILL`
+abbrev pub arm_row : FormRow
+arm_row = form_row (codes "arm") name.Arm place.BelowNodes (kind.Node ∷ kind.Number 1 1000 ∷ kind.Bytes 1 64 ∷ []) 3 3
+
+-- `init E IDENTITY TRIPLE..`
+abbrev pub init_row : FormRow
+init_row = form_row (codes "init") name.Init place.BelowNodes (kind.Sender ∷ kind.Bytes 8 8 ∷ kind.Bytes 3 3 ∷ []) 2 10
+
+-- `tables NODE`
+abbrev pub tables_row : FormRow
+tables_row = form_row (codes "tables") name.Tables place.BelowNodes (kind.Node ∷ []) 1 1
+
+-- `settle N`
+abbrev pub settle_row : FormRow
+settle_row = form_row (codes "settle") name.Settle place.Below (kind.Number 1 20000 ∷ []) 1 1
+
 abbrev pub rows : List FormRow
-rows = header_row ∷ send_row ∷ deliver_row ∷ lose_row ∷ damage_row ∷ tick_row ∷ reset_row ∷ busy_row ∷ ready_row ∷ []
+rows =
+    nodes_row ∷ header_row ∷ send_row ∷ deliver_row ∷ lose_row ∷ damage_row ∷ tick_row ∷ reset_row ∷ busy_row ∷ ready_row ∷ boot_row ∷ cut_row
+    ∷ activate_row ∷ arm_row ∷ init_row ∷ tables_row ∷ settle_row ∷ []
 
--- the row of a first word
-abbrev pub row_in : List FormRow → List ℕ → Option FormRow
-row_in table first = find (λ r. bytes_eq r.first first) table
+-- whether a line has this third word, the words behind its first one being these; no word stands for any
+abbrev pub is_word : List ℕ → Option (List ℕ) → Bool
+is_word wanted None = false
+is_word wanted (Some word) = bytes_eq word wanted
 
-abbrev pub row_for : List ℕ → Option FormRow
-row_for first = row_in rows first
+abbrev pub has_third : List ℕ → List (List ℕ) → Bool
+has_third wanted ws = length wanted == 0 || is_word wanted (slice_get ws 1)
+
+-- the row of a line, by its first word and those behind it
+abbrev pub row_in : List FormRow → List ℕ → List (List ℕ) → Option FormRow
+row_in table first ws = find (λ r. bytes_eq r.first first && has_third r.third ws) table
+
+abbrev pub row_for : List ℕ → List (List ℕ) → Option FormRow
+row_for first ws = row_in rows first ws

@@ -1,5 +1,5 @@
 -- A line of a schedule: what it says, or what is wrong with it.
-use Rattle.std.specs.Prelude.{ℕ, ◌==◌, nat_lt, Bool, false, not, if◌then◌else◌, List, [], ◌∷◌, length, drop, slice_get, slice_index, Option, Some, None}
+use Rattle.std.specs.Prelude.{ℕ, ◌==◌, nat_lt, Bool, true, false, not, if◌then◌else◌, List, [], ◌∷◌, length, drop, slice_get, slice_index, Option, Some, None}
 use Rattle.std.specs.Prelude.{is_some, Result, Ok, Err}
 use Rattle.std.specs.Option.{option_and_then, option_map_or, ok_or}
 use Rattle.trace_model.specs.declared.line.End.{End}
@@ -14,7 +14,7 @@ use Rattle.schedule_text.specs.declared.forms.Name.TheVariants as name
 use Rattle.schedule_text.specs.declared.forms.Place.{Place}
 use Rattle.schedule_text.specs.declared.forms.Place.TheVariants as place
 use Rattle.schedule_text.specs.Words.{words}
-use Rattle.schedule_text.specs.Values.{byte_value, bytes_value, number_in, end_value}
+use Rattle.schedule_text.specs.Values.{byte_value, bytes_value, sized_value, two_bytes_value, number_in, end_value}
 use Rattle.schedule_text.specs.Forms.{FormRow, row_for}
 use Rattle.schedule_text.specs.Rules.{words_fault}
 
@@ -44,11 +44,22 @@ bit_places (word ∷ ws) = do
   places ← bit_places ws
   Some (place ∷ places)
 
+-- what each word says, if each says something
+abbrev pub each_word : {A : Type 0} → (List ℕ → Option A) → List (List ℕ) → Option (List A)
+each_word read [] = Some []
+each_word read (word ∷ ws) = do
+  x ← read word
+  xs ← each_word read ws
+  Some (x ∷ xs)
+
 -- what the words behind the first say
 abbrev pub read_of : Name → List (List ℕ) → Option Read
 read_of name.Header ws = do
   host ← byte_in_word ws 2
   Some (read.Header (record { hci = false; hosts = record { items = host ∷ [] } }))
+read_of name.NodesHeader ws = do
+  hosts ← each_word byte_value (drop 2 ws)
+  Some (read.Header (record { hci = true; hosts = record { items = hosts } }))
 read_of name.Send ws = do
   at ← end_at ws 0
   pid ← byte_in_word ws 1
@@ -74,12 +85,40 @@ read_of name.Busy ws = do
 read_of name.Ready ws = do
   at ← end_at ws 0
   Some (read.Line (line.Ready at))
+read_of name.Boot ws = do
+  node ← byte_in_word ws 0
+  Some (read.Line (line.Boot node))
+read_of name.Cut ws = do
+  node ← byte_in_word ws 0
+  Some (read.Line (line.Cut node))
+read_of name.Activate ws = do
+  host ← byte_in_word ws 0
+  sync ← slice_get ws 1 >>= two_bytes_value
+  power ← byte_in_word ws 2
+  Some (read.Line (line.Activate host sync power))
+read_of name.Arm ws = do
+  node ← byte_in_word ws 0
+  nth ← number_at 1000 ws 1
+  fill ← bytes_in_word ws 2
+  Some (read.Line (line.Arm node nth (record { items = fill })))
+read_of name.Init ws = do
+  at ← end_at ws 0
+  identity ← slice_get ws 1 >>= sized_value 8
+  pipes ← each_word (sized_value 3) (drop 2 ws)
+  Some (read.Line (line.Init at identity (record { items = pipes })))
+read_of name.Tables ws = do
+  node ← byte_in_word ws 0
+  Some (read.Line (line.Tables node))
+read_of name.Settle ws = do
+  rounds ← number_at 20000 ws 0
+  Some (read.Line (line.Settle rounds))
 
 -- whether a line may stand there
 abbrev pub may_stand : Place → Option Header → Bool
 may_stand place.First header = not (is_some header)
 may_stand place.Below header = is_some header
 may_stand place.BelowBare header = option_map_or (λ h. not h.hci) header false
+may_stand place.BelowNodes header = option_map_or (λ h. h.hci) header false
 
 -- whether the world has nodes, and its hosts
 abbrev pub has_nodes : Option Header → Bool
@@ -108,7 +147,7 @@ is_comment word = slice_index word 0 == 35
 -- a line by its words
 abbrev pub by_words : Option Header → List (List ℕ) → Result Read LineFault
 by_words header [] = Ok read.Skip
-by_words header (first ∷ ws) = if is_comment first then Ok read.Skip else by_row header (row_for first) ws
+by_words header (first ∷ ws) = if is_comment first then Ok read.Skip else by_row header (row_for first ws) ws
 
 -- a line below the header, or the first line where there is no header yet
 abbrev pub line_of : Option Header → List ℕ → Result Read LineFault

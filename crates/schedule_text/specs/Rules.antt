@@ -37,9 +37,12 @@ is_sender hci (Some e) = not hci || e.at_host
 abbrev pub has_shape : Bool → Kind → List ℕ → Bool
 has_shape hci kind.Version word = bytes_eq word (codes "1")
 has_shape hci kind.Bare word = bytes_eq word (codes "bare")
+has_shape hci kind.Nodes word = bytes_eq word (codes "hci")
 has_shape hci kind.End word = is_some (end_value word)
 has_shape hci kind.Sender word = is_sender hci (end_value word)
 has_shape hci kind.NewHost word = true
+has_shape hci kind.Host word = true
+has_shape hci kind.Node word = true
 has_shape hci (kind.Byte below) word = true
 has_shape hci (kind.Bytes low high) word = true
 has_shape hci (kind.Number low high) word = true
@@ -61,6 +64,9 @@ rising from kind.NewHost word = option_map_or (λ h. h + 1) (byte_value word) fr
 rising from (kind.Rising high) word = option_map_or (λ n. n + 1) (number_in from high word) from
 rising from kind.Version word = from
 rising from kind.Bare word = from
+rising from kind.Nodes word = from
+rising from kind.Host word = from
+rising from kind.Node word = from
 rising from kind.End word = from
 rising from kind.Sender word = from
 rising from (kind.Byte below) word = from
@@ -71,9 +77,12 @@ rising from (kind.Number low high) word = from
 abbrev pub digits_fault : ℕ → ℕ → Kind → List ℕ → Option LineFault
 digits_fault at from kind.Version word = None
 digits_fault at from kind.Bare word = None
+digits_fault at from kind.Nodes word = None
 digits_fault at from kind.End word = None
 digits_fault at from kind.Sender word = None
 digits_fault at from kind.NewHost word = if is_some (byte_value word) then None else Some (fault.Hex at)
+digits_fault at from kind.Host word = if is_some (byte_value word) then None else Some (fault.Hex at)
+digits_fault at from kind.Node word = if is_some (byte_value word) then None else Some (fault.Hex at)
 digits_fault at from (kind.Byte below) word = if has_byte below (byte_value word) then None else Some (fault.Hex at)
 digits_fault at from (kind.Bytes low high) word = if has_bytes low high (bytes_value word) then None else Some (fault.Hex at)
 digits_fault at from (kind.Number low high) word = if is_some (number_in low high word) then None else Some (fault.Number at)
@@ -89,12 +98,19 @@ first_digits_fault at from (s ∷ ss) =
 abbrev pub stranger : List ℕ → Option ℕ → Option ℕ
 stranger hosts host = option_if (λ h. not (list_any (λ known. known == h) hosts)) host
 
+-- the node, if it is neither the controller nor a host in the header
+abbrev pub no_node : List ℕ → Option ℕ → Option ℕ
+no_node hosts node = option_if (λ n. not (n == 0 || list_any (λ known. known == n) hosts)) node
+
 -- a host that a word names and that isn't in the header; in a header one that isn't 01 to 07 or not above the one before
 abbrev pub host_fault : List ℕ → ℕ → Kind → List ℕ → Option ℕ
 host_fault hosts from kind.NewHost word = option_if (λ h. not (nat_lt 0 h && (nat_le from h && nat_le h 7))) (byte_value word)
 host_fault hosts from kind.End word = stranger hosts (option_map (λ e. e.link) (end_value word))
 host_fault hosts from kind.Sender word = stranger hosts (option_map (λ e. e.link) (end_value word))
+host_fault hosts from kind.Host word = stranger hosts (byte_value word)
+host_fault hosts from kind.Node word = no_node hosts (byte_value word)
 host_fault hosts from kind.Version word = None
+host_fault hosts from kind.Nodes word = None
 host_fault hosts from kind.Bare word = None
 host_fault hosts from (kind.Byte below) word = None
 host_fault hosts from (kind.Bytes low high) word = None

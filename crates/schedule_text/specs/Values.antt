@@ -1,5 +1,6 @@
 -- What one word of a line stands for.
-use Rattle.std.specs.Prelude.{ℕ, ◌==◌, ◌&&◌, ◌||◌, nat_le, nat_lt, Bool, true, false, if◌then◌else◌, List, [], ◌∷◌, length, slice_index, Option, Some, None}
+use Rattle.std.specs.Prelude.{ℕ, ◌+◌, ◌*◌, ◌==◌, ◌&&◌, ◌||◌, nat_le, nat_lt, Bool, true, false, if◌then◌else◌, List, [], ◌∷◌, length, slice_index}
+use Rattle.std.specs.Prelude.{Option, Some, None}
 use Rattle.std.specs.Option.{option_map, option_and_then}
 use Rattle.std.specs.Result.{result_ok}
 use Rattle.std.specs.Str.{all_ascii_digits}
@@ -19,6 +20,17 @@ byte_value word = option_map (λ bytes. slice_index bytes 0) (result_ok (decode_
 -- the bytes of pairs of hexadecimal digits
 abbrev pub bytes_value : List ℕ → Option (List ℕ)
 bytes_value word = result_ok (decode_of word)
+
+-- the bytes of so many pairs of hexadecimal digits
+abbrev pub sized_value : ℕ → List ℕ → Option (List ℕ)
+sized_value n word = result_ok (decode_sized word n)
+
+-- two bytes as a number, the high byte first
+abbrev pub two_bytes : List ℕ → ℕ
+two_bytes bytes = slice_index bytes 0 * 256 + slice_index bytes 1
+
+abbrev pub two_bytes_value : List ℕ → Option ℕ
+two_bytes_value word = option_map two_bytes (sized_value 2 word)
 
 -- the number that decimal digits write, leading zeros and no digits at all allowed
 abbrev pub digits_number : List ℕ → Option ℕ

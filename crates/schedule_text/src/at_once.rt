@@ -19,7 +19,8 @@ const MOST_DIGITS: usize = 9000;
 /// The end, the pipe and the message of a line `send E PID HEX`, if it has no fault and there is memory for its message.
 #[inline]
 pub(crate) fn send_at_once(alloc: Global, header: &Header, rest: &[u8]) -> Option<(End, u8, Octets)>
-    ensures { IfSome result (λ sent. Ok (read.Line (line.Send sent.0 sent.1 sent.2)) ≡ by_row (Some header.now) (row_for (codes "send")) (words rest.now)) }
+    ensures { IfSome result (λ sent. Ok (read.Line (line.Send sent.0 sent.1 sent.2))
+        ≡ by_row (Some header.now) (row_for (codes "send") (words rest.now)) (words rest.now)) }
 {
     let (first, more) = next_word(rest)?;
     let (second, more) = next_word(more)?;
@@ -51,7 +52,8 @@ fn may_send(header: &Header, at: End) -> bool
 /// The end of a line `deliver E`, if it has no fault.
 #[inline]
 pub(crate) fn deliver_at_once(header: &Header, rest: &[u8]) -> Option<End>
-    ensures { IfSome result (λ at. Ok (read.Line (line.Deliver at None)) ≡ by_row (Some header.now) (row_for (codes "deliver")) (words rest.now)) }
+    ensures { IfSome result (λ at. Ok (read.Line (line.Deliver at None))
+        ≡ by_row (Some header.now) (row_for (codes "deliver") (words rest.now)) (words rest.now)) }
 {
     let (first, more) = next_word(rest)?;
     if next_word(more).is_some() {

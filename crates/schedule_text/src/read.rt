@@ -1,10 +1,12 @@
 //! A line of a schedule is read.
-ghost use Rattle.std.specs.Prelude.{◌≡◌, ◌≤◌, ◌<◌, length, ◌↔◌, Ok, Err, IfOk};
+ghost use Rattle.std.specs.Prelude.{◌≡◌, ◌≤◌, ◌<◌, [], length, drop, ◌↔◌, Ok, Err, IfOk, IfSome, IfNone};
 ghost use Rattle.std.specs.Option.{option_copied, option_map};
 ghost use Rattle.schedule_text.specs.declared.forms.Name.TheVariants as name;
 ghost use Rattle.schedule_text.specs.declared.read.Read.TheVariants as read;
 ghost use Rattle.schedule_text.specs.Words.{words};
-ghost use Rattle.schedule_text.specs.Lines.{is_comment, may_stand, has_nodes, hosts_of, by_row, end_at, byte_in_word, number_at, bit_places, read_of, line_of};
+ghost use Rattle.schedule_text.specs.Values.{byte_value, sized_value};
+ghost use Rattle.schedule_text.specs.Lines.{is_comment, may_stand, has_nodes, hosts_of, by_row, end_at, byte_in_word, number_at, bit_places};
+ghost use Rattle.schedule_text.specs.Lines.{each_word, read_of, line_of};
 ghost use Rattle.schedule_text.specs.Forms.{row_for};
 ghost use Rattle.schedule_text.specs.Answers.{IsSaidOrNoMemory, IsReadOrNoMemory, CanBeRead, IsInGrammar, IsSkipped, IsOutOfOrder};
 
@@ -12,7 +14,7 @@ use crate::LineFault;
 use crate::at_once::{deliver_at_once, send_at_once};
 use crate::forms::{Name, Place, form_of};
 use crate::rules::fault_in;
-use crate::values::{byte_of, end_of, number_of};
+use crate::values::{byte_of, eight_of, end_of, fill_of, number_of, three_of, two_of};
 use crate::words::{first_word, next_word, word_at};
 use arrayvec::ArrayVec;
 use hex::FromHexError;
@@ -75,7 +77,7 @@ fn read_words(
     rest: &[u8],
 ) -> Result<Read, LineFault>
     requires { length rest.now ≤ 9000 }
-    ensures { IsReadOrNoMemory result (by_row (option_copied header.entry) (row_for first.now) (words rest.now)) }
+    ensures { IsReadOrNoMemory result (by_row (option_copied header.entry) (row_for first.now (words rest.now)) (words rest.now)) }
 {
     if let Some(below) = header {
         match first {
@@ -105,9 +107,9 @@ fn read_by_form(
     rest: &[u8],
 ) -> Result<Read, LineFault>
     requires { length rest.now ≤ 9000 }
-    ensures { IsReadOrNoMemory result (by_row (option_copied header.entry) (row_for first.now) (words rest.now)) }
+    ensures { IsReadOrNoMemory result (by_row (option_copied header.entry) (row_for first.now (words rest.now)) (words rest.now)) }
 {
-    let Some(form) = form_of(first) else {
+    let Some(form) = form_of(first, rest) else {
         return Err(if header.is_some() {
             LineFault::Word
         } else {
@@ -131,6 +133,10 @@ fn allowed(place: Place, header: Option<&Header>) -> bool
         Place::Below => header.is_some(),
         Place::BelowBare => match header {
             Some(header) => !header.hci,
+            None => false,
+        },
+        Place::BelowNodes => match header {
+            Some(header) => header.hci,
             None => false,
         },
     }
@@ -161,6 +167,7 @@ fn said(alloc: Global, name: Name, rest: &[u8]) -> Option<Read>
 {
     let line = match name {
         Name::Header => return header(rest),
+        Name::NodesHeader => return nodes_header(rest),
         Name::Send => return send(alloc, rest),
         Name::Deliver => deliver(rest)?,
         Name::Lose => Line::Lose {
@@ -180,6 +187,19 @@ fn said(alloc: Global, name: Name, rest: &[u8]) -> Option<Read>
         Name::Ready => Line::Ready {
             at: end_at(rest, 0)?,
         },
+        Name::Boot => Line::Boot {
+            node: byte_at(rest, 0)?,
+        },
+        Name::Cut => Line::Cut {
+            node: byte_at(rest, 0)?,
+        },
+        Name::Activate => activate(rest)?,
+        Name::Arm => arm(rest)?,
+        Name::Init => init(rest)?,
+        Name::Tables => Line::Tables {
+            node: byte_at(rest, 0)?,
+        },
+        Name::Settle => settle(rest)?,
     };
     Some(Read::Line(line))
 }
@@ -203,6 +223,13 @@ fn number_at(rest: &[u8], k: usize, high: u8) -> Option<u8>
     u8::try_from(number).ok()
 }
 
+fn count_at(rest: &[u8], k: usize, high: u16) -> Option<u32>
+    ensures { result ≡ number_at high (words rest.now) k }
+{
+    let number = number_of(word_at(rest, k)?, 1, high)?;
+    Some(u32::from(number))
+}
+
 fn header(rest: &[u8]) -> Option<Read>
     ensures { result ≡ read_of name.Header (words rest.now) }
 {
@@ -210,6 +237,40 @@ fn header(rest: &[u8]) -> Option<Read>
     let mut hosts = ArrayVec::new();
     hosts.push(host);
     Some(Read::Header(Header { hci: false, hosts }))
+}
+
+fn nodes_header(rest: &[u8]) -> Option<Read>
+    requires { CanBeRead name.NodesHeader (words rest.now) }
+    ensures { result ≡ read_of name.NodesHeader (words rest.now) }
+{
+    let hosts = match behind_two(rest) {
+        Some(more) => hosts_in(more)?,
+        None => ArrayVec::new(),
+    };
+    Some(Read::Header(Header { hci: true, hosts }))
+}
+
+/// What stands behind the first two words, if there are so many.
+fn behind_two(rest: &[u8]) -> Option<&[u8]>
+    ensures some { IfSome result (λ more. words more.now ≡ drop 2 (words rest.now)) }
+    ensures none { IfNone result (drop 2 (words rest.now) ≡ []) }
+{
+    let (_, more) = next_word(rest)?;
+    let (_, more) = next_word(more)?;
+    Some(more)
+}
+
+fn hosts_in(rest: &[u8]) -> Option<ArrayVec<u8, 7>>
+    requires { length (words rest.now) ≤ 7 }
+    ensures { option_map (λ hosts. hosts.items) result ≡ each_word byte_value (words rest.now) }
+{
+    let mut hosts = ArrayVec::new();
+    let mut left = rest;
+    'words: while let Some((word, more)) = next_word(left) {
+        hosts.push(byte_of(word)?);
+        left = more;
+    }
+    Some(hosts)
 }
 
 fn send(alloc: Global, rest: &[u8]) -> Option<Read>
@@ -264,4 +325,59 @@ fn places_in(rest: &[u8]) -> Option<ArrayVec<u16, 16>>
         left = more;
     }
     Some(places)
+}
+
+fn activate(rest: &[u8]) -> Option<Line>
+    ensures { option_map read.Line result ≡ read_of name.Activate (words rest.now) }
+{
+    Some(Line::Activate {
+        host: byte_at(rest, 0)?,
+        sync: two_of(word_at(rest, 1)?)?,
+        power: byte_at(rest, 2)?,
+    })
+}
+
+fn arm(rest: &[u8]) -> Option<Line>
+    requires { CanBeRead name.Arm (words rest.now) }
+    ensures { option_map read.Line result ≡ read_of name.Arm (words rest.now) }
+{
+    Some(Line::Arm {
+        node: byte_at(rest, 0)?,
+        nth: count_at(rest, 1, 1000)?,
+        fill: fill_of(word_at(rest, 2)?)?,
+    })
+}
+
+fn init(rest: &[u8]) -> Option<Line>
+    requires { CanBeRead name.Init (words rest.now) }
+    ensures { option_map read.Line result ≡ read_of name.Init (words rest.now) }
+{
+    let (first, more) = next_word(rest)?;
+    let (second, more) = next_word(more)?;
+    Some(Line::Init {
+        at: end_of(first)?,
+        identity: eight_of(second)?,
+        pipes: pipes_in(more)?,
+    })
+}
+
+fn pipes_in(rest: &[u8]) -> Option<ArrayVec<[u8; 3], 8>>
+    requires { length (words rest.now) ≤ 8 }
+    ensures { option_map (λ pipes. pipes.items) result ≡ each_word (sized_value 3) (words rest.now) }
+{
+    let mut pipes = ArrayVec::new();
+    let mut left = rest;
+    'words: while let Some((word, more)) = next_word(left) {
+        pipes.push(three_of(word)?);
+        left = more;
+    }
+    Some(pipes)
+}
+
+fn settle(rest: &[u8]) -> Option<Line>
+    ensures { option_map read.Line result ≡ read_of name.Settle (words rest.now) }
+{
+    Some(Line::Settle {
+        rounds: count_at(rest, 0, 20000)?,
+    })
 }

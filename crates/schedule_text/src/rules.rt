@@ -141,12 +141,15 @@ fn shaped(hci: bool, kind: Kind, word: &[u8]) -> bool
     match kind {
         Kind::Version => word == b"1".as_slice(),
         Kind::Bare => word == b"bare".as_slice(),
+        Kind::Nodes => word == b"hci".as_slice(),
         Kind::End => end_of(word).is_some(),
         Kind::Sender => match end_of(word) {
             Some(at) => !hci || at.at_host,
             None => false,
         },
         Kind::NewHost
+        | Kind::Host
+        | Kind::Node
         | Kind::Byte { .. }
         | Kind::Bytes { .. }
         | Kind::Number { .. }
@@ -158,8 +161,10 @@ fn wrong_digits(at: u32, from: u32, kind: Kind, word: &[u8]) -> Option<LineFault
     ensures { result ≡ digits_fault at from kind word.now }
 {
     let (is_right, fault) = match kind {
-        Kind::Version | Kind::Bare | Kind::End | Kind::Sender => return None,
-        Kind::NewHost => (byte_of(word).is_some(), LineFault::Hex { at }),
+        Kind::Version | Kind::Bare | Kind::Nodes | Kind::End | Kind::Sender => return None,
+        Kind::NewHost | Kind::Host | Kind::Node => {
+            (byte_of(word).is_some(), LineFault::Hex { at })
+        }
         Kind::Byte { below } => (byte_below(word, below), LineFault::Hex { at }),
         Kind::Bytes { low, high } => (is_bytes(word, low, high), LineFault::Hex { at }),
         Kind::Number { low, high } => (
@@ -230,8 +235,17 @@ fn unknown_host(hosts: &[u8], from: u32, kind: Kind, word: &[u8]) -> Option<u8>
             Some(at) => Some(at.link),
             None => None,
         },
+        Kind::Host => match byte_of(word) {
+            Some(host) if hosts.contains(&host) => None,
+            other => other,
+        },
+        Kind::Node => match byte_of(word) {
+            Some(node) if node == 0 || hosts.contains(&node) => None,
+            other => other,
+        },
         Kind::Version
         | Kind::Bare
+        | Kind::Nodes
         | Kind::Byte { .. }
         | Kind::Bytes { .. }
         | Kind::Number { .. }
@@ -254,8 +268,11 @@ fn rising(from: u32, kind: Kind, word: &[u8]) -> u32
         },
         Kind::Version
         | Kind::Bare
+        | Kind::Nodes
         | Kind::End
         | Kind::Sender
+        | Kind::Host
+        | Kind::Node
         | Kind::Byte { .. }
         | Kind::Bytes { .. }
         | Kind::Number { .. } => from,

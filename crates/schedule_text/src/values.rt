@@ -1,8 +1,10 @@
 //! What one word of a line stands for.
-ghost use Rattle.std.specs.Prelude.{◌≡◌, ◌<◌, [], ◌∷◌, nat_le, IfSome};
+ghost use Rattle.std.specs.Prelude.{◌≡◌, ◌<◌, ◌≤◌, [], ◌∷◌, length, nat_le, Some, IfSome};
 ghost use Rattle.hex.specs.Hex.{hex_digit_value};
-ghost use Rattle.schedule_text.specs.Values.{byte_value, end_value, number_in, digits_number, option_if, side_value};
+ghost use Rattle.std.specs.Option.{option_map};
+ghost use Rattle.schedule_text.specs.Values.{byte_value, bytes_value, sized_value, two_bytes_value, end_value, number_in, digits_number, option_if, side_value};
 
+use arrayvec::ArrayVec;
 use trace_model::End;
 
 /// The byte of two hexadecimal digits, of either case.
@@ -61,6 +63,71 @@ fn side_of(letter: u8) -> Option<bool>
         b'c' => Some(false),
         b'h' => Some(true),
         _ => None,
+    }
+}
+
+/// The bytes of sixteen hexadecimal digits.
+pub(crate) fn eight_of(word: &[u8]) -> Option<[u8; 8]>
+    ensures { result ≡ sized_value 8 word.now }
+{
+    let mut bytes = [0u8; 8];
+    match hex::decode_to_slice(word, &mut bytes) {
+        Ok(()) => Some(bytes),
+        Err(_) => None,
+    }
+}
+
+/// The bytes of six hexadecimal digits.
+pub(crate) fn three_of(word: &[u8]) -> Option<[u8; 3]>
+    ensures { result ≡ sized_value 3 word.now }
+{
+    let mut bytes = [0u8; 3];
+    match hex::decode_to_slice(word, &mut bytes) {
+        Ok(()) => Some(bytes),
+        Err(_) => None,
+    }
+}
+
+/// The number of four hexadecimal digits.
+pub(crate) fn two_of(word: &[u8]) -> Option<u16>
+    ensures { result ≡ two_bytes_value word.now }
+{
+    let mut bytes = [0u8; 2];
+    match hex::decode_to_slice(word, &mut bytes) {
+        Ok(()) => {
+            let [high, low] = bytes;
+            Some(u16::from(high) * 256 + u16::from(low))
+        }
+        Err(_) => None,
+    }
+}
+
+/// The bytes of up to 128 hexadecimal digits.
+pub(crate) fn fill_of(word: &[u8]) -> Option<ArrayVec<u8, 64>>
+    requires { IfSome (bytes_value word.now) (λ bytes. length bytes ≤ 64) }
+    ensures { option_map (λ fill. fill.items) result ≡ bytes_value word.now }
+{
+    let mut bytes = [0u8; 64];
+    let count = word.len() / 2;
+    if count > 64 {
+        return None;
+    }
+    let (front, _) = bytes.split_at_mut(count);
+    match hex::decode_to_slice(word, front) {
+        Ok(()) => kept(front),
+        Err(_) => None,
+    }
+}
+
+/// The bytes, of which there are 64 at most.
+fn kept(bytes: &[u8]) -> Option<ArrayVec<u8, 64>>
+    requires { length bytes.now ≤ 64 }
+    ensures { option_map (λ fill. fill.items) result ≡ Some bytes.now }
+{
+    let mut fill = ArrayVec::new();
+    match fill.try_extend_from_slice(bytes) {
+        Ok(()) => Some(fill),
+        Err(_) => None,
     }
 }
 

@@ -257,6 +257,7 @@ fn write_words(text: &mut Text, entry: &Entry)
         Entry::Cut { node } => write_node(text, b"cut", *node),
         Entry::Booted { node, count } => write_node_number(text, b"booted", *node, *count),
         Entry::Tables { node, tables } => write_counts(text, *node, tables.tables()),
+        Entry::Settled { rounds } => text.entry(b"settled", &[Number(*rounds)]),
         Entry::No { cause } => {
             text.entry(b"no", &[]);
             write_cause(text, *cause);
@@ -514,6 +515,7 @@ fn write_by_parts(text: &mut Text, line: &Line)
             EachThree(pipes.as_slice()),
         ]),
         Line::Tables { node } => text.parts(&[Word(b"tables"), Byte(*node)]),
+        Line::Settle { rounds } => text.parts(&[Word(b"settle"), Number(*rounds)]),
     }
 }
 

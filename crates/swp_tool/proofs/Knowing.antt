@@ -1,6 +1,6 @@
 -- The text of a replay that is done tells the history of its schedule.
 use Rattle.std.proofs.Common.{◌≡◌, ◌==◌, ℕ, ◌+◌, ◌≤◌, ◌<◌, Bool, true, false, cond, List, [], ◌∷◌, ◌++◌, length, refl, sym, ap, ◌∙◌, append_assoc}
-use Rattle.std.proofs.Common.{length-append, arith, subst, codes, All}
+use Rattle.std.proofs.Common.{length-append, arith, subst, codes, All, inl, inr, IsTrue}
 use Rattle.std.specs.Prelude.{Option, Some, None, Result, Ok, Err}
 use Rattle.std.specs.List.{flat_map, AllByRecursion}
 use Rattle.std.specs.Fmt.{decimal}
@@ -12,8 +12,10 @@ use Rattle.trace_model.specs.declared.entry.Entry.{Entry}
 use Rattle.trace_model.specs.declared.entry.Entry.TheVariants as entry
 use Rattle.trace_model.specs.declared.line.Header.{Header}
 use Rattle.trace_model.specs.declared.line.Line.{Line}
-use Rattle.trace_model.specs.Lines.{IsHeader, IsLineOf}
+use Rattle.trace_model.specs.declared.line.Line.TheVariants as saying
+use Rattle.trace_model.specs.Lines.{IsHeader, MayBegin, MayFollow, IsLineOf}
 use Rattle.schedule_text.specs.declared.fault.LineFault.{LineFault}
+use Rattle.schedule_text.specs.declared.fault.LineFault.TheVariants as fault
 use Rattle.schedule_text.specs.declared.read.Read.{Read}
 use Rattle.schedule_text.specs.declared.read.Read.TheVariants as read
 use Rattle.schedule_text.specs.Answers.{IsInGrammar}
@@ -29,6 +31,7 @@ use Rattle.told_laws.proofs.Coming.{told_in}
 use Rattle.swp_tool.specs.declared.status.Status.{Status}
 use Rattle.swp_tool.specs.declared.status.Status.TheVariants as status
 use Rattle.swp_tool.specs.Schedules.{Stop, Too_many, Schedule, nothing_read, misread_behind, with_played, with_said, with_line, with_lines, ended, schedule_of}
+use Rattle.swp_tool.specs.Schedules.{is_settling, as_played, played_line}
 use Rattle.swp_tool.specs.Transcripts.{step_text, transcript_of, done_line, whole_text, IsTranscriptOf, IsTextOf, TellsEntries, TellsHistory}
 use Rattle.swp_tool.specs.Pieces.{IsCompleteTranscript, schedule_read}
 use Rattle.swp_tool.specs.Runs.{AppendsText, Replayed}
@@ -59,37 +62,107 @@ record Fits (s : Schedule) : Type 0 where
   few : length s.lines ≤ s.count
   most : s.stop ≡ None → s.count ≤ 20000
 
-fits_began : (o : Option Header) (lines : List Line) (header : Header) → AreLines o lines → IsInGrammar o (read.Header header) → AreLines (Some header) lines
-fits_began None lines header none is = (is, subst (AllByRecursion (IsLineOf header)) (sym none) tt)
-fits_began (Some other) lines header all is = absurd is
+-- what is played is of a bare world
+bare_header : (header : Header) → header.hci ≡ false → MayBegin header → IsHeader header
+bare_header header bare (inl h) = h
+bare_header header bare (inr h) = absurd (no_nodes header.hci bare h.nodes)
+  where
+    no_nodes : (t : Bool) → t ≡ false → t ≡ true → ⊥
+    no_nodes true a b = cc
+    no_nodes false a b = cc
 
-fits_went : (o : Option Header) (lines : List Line) (line : Line) → AreLines o lines → IsInGrammar o (read.Line line) → AreLines o (lines ++ line ∷ [])
-fits_went None lines line none is = absurd is
-fits_went (Some header) lines line all is = (all.0, all_pushed Line (IsLineOf header) lines line all.1 is)
+no_nodes_there : (t : Bool) → t ≡ false → IsTrue t → ⊥
+no_nodes_there true a b = cc
+no_nodes_there false a b = cc
 
-fits_played : (s : Schedule) (line : Line) (other : Option (List ℕ)) → IsInGrammar s.header (read.Line line) → s.count < 20000 → Fits s
-    → Fits (with_played s line other)
-fits_played s line None is more h =
+pub bare_line : (header : Header) (said : Line) → header.hci ≡ false → is_settling said ≡ false → MayFollow header said → IsLineOf header said
+bare_line header (saying.Send e p m) bare still h = h
+bare_line header (saying.Deliver e n) bare still h = h
+bare_line header (saying.Lose e) bare still h = h
+bare_line header (saying.Damage e p) bare still h = h
+bare_line header (saying.Tick n) bare still h = h
+bare_line header (saying.Reset e n) bare still h = h
+bare_line header (saying.Busy e) bare still h = h
+bare_line header (saying.Ready e) bare still h = h
+bare_line header (saying.Boot n) bare still h = absurd (no_nodes_there header.hci bare h.0)
+bare_line header (saying.Cut n) bare still h = absurd (no_nodes_there header.hci bare h.0)
+bare_line header (saying.Activate n s p) bare still h = absurd (no_nodes_there header.hci bare h.0)
+bare_line header (saying.Arm n k x) bare still h = absurd (no_nodes_there header.hci bare h.0)
+bare_line header (saying.Init e i p) bare still h = absurd (no_nodes_there header.hci bare h.0)
+bare_line header (saying.Tables n) bare still h = absurd (no_nodes_there header.hci bare h.0)
+bare_line header (saying.Settle n) bare still h = cc
+
+header_played : (r : Result Read LineFault) (header : Header) → as_played r ≡ Ok (read.Header header)
+    → (r ≡ Ok (read.Header header)) × (header.hci ≡ false)
+header_played (Err f) header h = cc
+header_played (Ok read.Skip) header h = cc
+header_played (Ok read.NoMemory) header h = cc
+header_played (Ok (read.Header said)) header h = go said.hci refl h
+  where
+    go : (t : Bool) → said.hci ≡ t → cond t (Err fault.Word) (Ok (read.Header said)) ≡ Ok (read.Header header)
+        → (Ok (read.Header said) ≡ (let x : Result Read LineFault = Ok (read.Header header) in x)) × (header.hci ≡ false)
+    go true e k = cc
+    go false e k = let same : said ≡ header = cc in (k, subst (λ (x : Header). x.hci ≡ false) same e)
+header_played (Ok (read.Line said)) header h = go (is_settling said) h
+  where
+    go : (t : Bool) → cond t (Err fault.Word) (Ok (read.Line said)) ≡ Ok (read.Header header)
+        → (Ok (read.Line said) ≡ (let x : Result Read LineFault = Ok (read.Header header) in x)) × (header.hci ≡ false)
+    go true k = cc
+    go false k = cc
+
+line_played : (r : Result Read LineFault) (l : Line) → as_played r ≡ Ok (read.Line l) → (r ≡ Ok (read.Line l)) × (is_settling l ≡ false)
+line_played (Err f) l h = cc
+line_played (Ok read.Skip) l h = cc
+line_played (Ok read.NoMemory) l h = cc
+line_played (Ok (read.Header said)) l h = go said.hci h
+  where
+    go : (t : Bool) → cond t (Err fault.Word) (Ok (read.Header said)) ≡ Ok (read.Line l)
+        → (Ok (read.Header said) ≡ (let x : Result Read LineFault = Ok (read.Line l) in x)) × (is_settling l ≡ false)
+    go true k = cc
+    go false k = cc
+line_played (Ok (read.Line said)) l h = go (is_settling said) refl h
+  where
+    go : (t : Bool) → is_settling said ≡ t → cond t (Err fault.Word) (Ok (read.Line said)) ≡ Ok (read.Line l)
+        → (Ok (read.Line said) ≡ (let x : Result Read LineFault = Ok (read.Line l) in x)) × (is_settling l ≡ false)
+    go true e k = cc
+    go false e k = let same : said ≡ l = cc in (k, subst (λ x. is_settling x ≡ false) same e)
+
+fits_began : (o : Option Header) (lines : List Line) (header : Header) → AreLines o lines → IsInGrammar o (read.Header header) → header.hci ≡ false
+    → AreLines (Some header) lines
+fits_began None lines header none is bare = (bare_header header bare is, subst (AllByRecursion (IsLineOf header)) (sym none) tt)
+fits_began (Some other) lines header all is bare = absurd is
+
+fits_went : (o : Option Header) (lines : List Line) (line : Line) → AreLines o lines → IsInGrammar o (read.Line line) → is_settling line ≡ false
+    → AreLines o (lines ++ line ∷ [])
+fits_went None lines line none is still = absurd is
+fits_went (Some header) lines line all is still =
+    (all.0, all_pushed Line (IsLineOf header) lines line all.1 (bare_line header line all.0.bare still is))
+
+fits_played : (s : Schedule) (line : Line) (other : Option (List ℕ)) → IsInGrammar s.header (read.Line line) → is_settling line ≡ false
+    → s.count < 20000 → Fits s → Fits (with_played s line other)
+fits_played s line None is still more h =
     let few = h.few in
     let long = length-append s.lines (line ∷ []) in
-    record { lines_are = fits_went s.header s.lines line h.lines_are is; few = omega (arith, few, long); most = λ _. omega (arith, more) }
-fits_played s line (Some other) is more h =
+    record { lines_are = fits_went s.header s.lines line h.lines_are is still; few = omega (arith, few, long); most = λ _. omega (arith, more) }
+fits_played s line (Some other) is still more h =
     let few = h.few in record { lines_are = h.lines_are; few = omega (arith, few); most = λ running. absurd (cc) }
 
-fits_said : (s : Schedule) (bytes : List ℕ) (r : Result Read LineFault) → line_of s.header bytes ≡ r → s.count < 20000 → Fits s → Fits (with_said s r)
+fits_said : (s : Schedule) (bytes : List ℕ) (r : Result Read LineFault) → played_line s.header bytes ≡ r → s.count < 20000 → Fits s → Fits (with_said s r)
 fits_said s bytes (Err f) is more h =
     let few = h.few in record { lines_are = h.lines_are; few = omega (arith, few); most = λ running. absurd (cc) }
 fits_said s bytes (Ok read.Skip) is more h =
     let few = h.few in record { lines_are = h.lines_are; few = omega (arith, few); most = λ _. omega (arith, more) }
 fits_said s bytes (Ok (read.Header header)) is more h =
     let few = h.few in
+    let said = header_played (line_of s.header bytes) header is in
     record {
-      lines_are = fits_began s.header s.lines header h.lines_are (line_fits s.header bytes (read.Header header) is);
+      lines_are = fits_began s.header s.lines header h.lines_are (line_fits s.header bytes (read.Header header) said.0) said.1;
       few = omega (arith, few);
       most = λ _. omega (arith, more);
     }
 fits_said s bytes (Ok (read.Line line)) is more h =
-    fits_played s line (misread_behind s.header s.lines line) (line_fits s.header bytes (read.Line line) is) more h
+    let said = line_played (line_of s.header bytes) line is in
+    fits_played s line (misread_behind s.header s.lines line) (line_fits s.header bytes (read.Line line) said.0) said.1 more h
 fits_said s bytes (Ok read.NoMemory) is more h = h
 
 below : (count : ℕ) → count ≤ 20000 → (count == 20000) ≡ false → count < 20000
@@ -102,10 +175,10 @@ fits_line s bytes h = go s.stop h
     run = record s { stop = None }
 
     next : (b : Bool) → (s.count == 20000) ≡ b → Fits run
-        → Fits (cond b (record s { count = s.count + 1; stop = Some Too_many }) (with_said run (line_of s.header bytes)))
+        → Fits (cond b (record s { count = s.count + 1; stop = Some Too_many }) (with_said run (played_line s.header bytes)))
     next true is k =
         let few = k.few in record { lines_are = k.lines_are; few = omega (arith, few); most = λ running. absurd (cc) }
-    next false is k = fits_said run bytes (line_of s.header bytes) refl (below s.count (k.most refl) is) k
+    next false is k = fits_said run bytes (played_line s.header bytes) refl (below s.count (k.most refl) is) k
 
     go : (o : Option Stop) → Fits (record s { stop = o }) → Fits (with_line (record s { stop = o }) bytes)
     go (Some why) k = k

@@ -1,9 +1,10 @@
 -- The schedule that bytes are: the lines below its header, or the first line at which they stop being one that is played.
-use Rattle.std.specs.Prelude.{ℕ, ◌+◌, ◌==◌, if◌then◌else◌, List, [], ◌∷◌, ◌++◌, Option, Some, None, Result, Ok, Err}
+use Rattle.std.specs.Prelude.{ℕ, ◌+◌, ◌==◌, Bool, true, false, if◌then◌else◌, List, [], ◌∷◌, ◌++◌, Option, Some, None, Result, Ok, Err}
 use Rattle.std.specs.List.{fold}
 use Rattle.std.specs.Str.Lines.{lines}
 use Rattle.trace_model.specs.declared.line.Header.{Header}
 use Rattle.trace_model.specs.declared.line.Line.{Line}
+use Rattle.trace_model.specs.declared.line.Line.TheVariants as saying
 use Rattle.schedule_text.specs.declared.fault.LineFault.{LineFault}
 use Rattle.schedule_text.specs.declared.fault.LineFault.TheVariants as fault
 use Rattle.schedule_text.specs.declared.read.Read.{Read}
@@ -52,6 +53,22 @@ with_said s (Ok (read.Header header)) = record s { header = Some header; count =
 with_said s (Ok (read.Line line)) = with_played s line (misread_behind s.header s.lines line)
 with_said s (Ok read.NoMemory) = s
 
+-- a line that lets the links of a world settle
+abbrev pub is_settling : Line → Bool
+is_settling (saying.Settle rounds) = true
+is_settling said = false
+
+-- what is read of a line, where it is played: worlds of nodes aren't yet, nor does a world settle, so these are unknown words
+abbrev pub as_played : Result Read LineFault → Result Read LineFault
+as_played (Err f) = Err f
+as_played (Ok read.Skip) = Ok read.Skip
+as_played (Ok (read.Header header)) = if header.hci then Err fault.Word else Ok (read.Header header)
+as_played (Ok (read.Line said)) = if is_settling said then Err fault.Word else Ok (read.Line said)
+as_played (Ok read.NoMemory) = Ok read.NoMemory
+
+abbrev pub played_line : Option Header → List ℕ → Result Read LineFault
+played_line header bytes = as_played (line_of header bytes)
+
 -- a schedule with one line more; behind a line at which it stopped nothing is read
 abbrev pub with_line : Schedule → List ℕ → Schedule
 with_line s bytes = unless s.stop where
@@ -60,7 +77,7 @@ with_line s bytes = unless s.stop where
   unless None =
       if s.count == most_lines
       then record s { count = s.count + 1; stop = Some Too_many }
-      else with_said s (line_of s.header bytes)
+      else with_said s (played_line s.header bytes)
 
 abbrev pub with_lines : Schedule → List (List ℕ) → Schedule
 with_lines s bytes = fold with_line s bytes

@@ -3,7 +3,7 @@ ghost use Rattle.std.specs.Prelude.{◌≡◌, ◌+◌, ◌<◌, ◌++◌, ◌�
 ghost use Rattle.trace_model.specs.declared.line.Header.{Header};
 ghost use Rattle.trace_model.specs.declared.line.Line.{Line};
 ghost use Rattle.trace_model.specs.Lines.{IsHeader, IsLineOf};
-ghost use Rattle.swp_tool.specs.Schedules.{Schedule, with_line, with_said, nothing_read};
+ghost use Rattle.swp_tool.specs.Schedules.{Schedule, with_line, with_said, nothing_read, is_settling};
 ghost use Rattle.swp_tool.specs.Replays.{Runs, WasStepped, HasPlayed, HasFew, HaltsOn, HaltsBefore, HaltsAt};
 ghost use Rattle.swp_tool.specs.Transcripts.{transcript_of, done_line};
 ghost use Rattle.history.specs.Histories.{History};
@@ -102,8 +102,18 @@ impl Replay {
                 self.count += 1;
                 Ok(())
             }
-            Ok(Read::Header(header)) => self.begin(alloc, &header),
-            Ok(Read::Line(line)) => self.go_on(alloc, &line),
+            Ok(Read::Header(header)) => {
+                if header.hci {
+                    return Err(Halt::Fault(LineFault::Word));
+                }
+                self.begin(alloc, &header)
+            }
+            Ok(Read::Line(line)) => {
+                if settles(&line) {
+                    return Err(Halt::Fault(LineFault::Word));
+                }
+                self.go_on(alloc, &line)
+            }
         }
     }
 
@@ -168,6 +178,13 @@ impl Replay {
             Err(_) => Err(Halt::NoMemory),
         }
     }
+}
+
+/// Whether a line lets the links settle, which no world does yet.
+fn settles(line: &Line) -> bool
+    ensures { result ≡ is_settling line.now }
+{
+    matches!(line, Line::Settle { .. })
 }
 
 /// Appends the last line of a transcript. Where there is no memory, the text stays as it was.

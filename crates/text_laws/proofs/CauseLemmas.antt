@@ -7,12 +7,14 @@ use Rattle.schedule_text.specs.declared.fault.LineFault.{LineFault}
 use Rattle.schedule_text.specs.declared.fault.LineFault.TheVariants as fault
 use Rattle.schedule_text.specs.declared.read.Read.{Read}
 use Rattle.schedule_text.specs.declared.read.Read.TheVariants as read
-use Rattle.schedule_text.specs.Forms.{FormRow, rows, row_for, header_row, send_row, deliver_row, lose_row, damage_row, tick_row, reset_row, busy_row, ready_row}
+use Rattle.schedule_text.specs.Forms.{FormRow, rows, row_for, nodes_row, header_row, send_row, deliver_row, lose_row, damage_row, tick_row, reset_row, busy_row}
+use Rattle.schedule_text.specs.Forms.{ready_row, boot_row, cut_row, activate_row, arm_row, init_row, tables_row, settle_row}
 use Rattle.schedule_text.specs.Rules.{words_fault}
 use Rattle.schedule_text.specs.Lines.{read_of, may_stand, has_nodes, hosts_of, unless_fault, by_row, by_words, is_comment, line_of}
 use Rattle.schedule_text.specs.Words.{words}
 use Rattle.schedule_text.proofs.RowsLemmas.{no_fault, row_cases}
-use Rattle.schedule_text.proofs.LinesLemmas.{Says, says_header, says_send, says_deliver, says_lose, says_damage, says_tick, says_reset, says_busy, says_ready}
+use Rattle.schedule_text.proofs.LinesLemmas.{Says, says_nodes, says_header, says_send, says_deliver, says_lose, says_damage, says_tick, says_reset, says_busy}
+use Rattle.schedule_text.proofs.LinesLemmas.{says_ready, says_boot, says_cut, says_activate, says_arm, says_init, says_tables, says_settle}
 use Rattle.schedule_text.proofs.HostsLemmas.{row_unknown}
 use Rattle.schedule_text.proofs.ReadAgainLemmas.{found_in}
 
@@ -40,6 +42,10 @@ header_iff : (ws : List (List ℕ)) (f : LineFault) → HasFault None ws f (Some
 header_iff ws f stands =
     unless_iff _ _ f (λ h. let said = says_header ws (no_fault false [] header_row ws h) in subst IsSome (sym said.1) refl)
 
+nodes_iff : (ws : List (List ℕ)) (f : LineFault) → HasFault None ws f (Some nodes_row)
+nodes_iff ws f stands =
+    unless_iff _ _ f (λ h. let said = says_nodes ws (no_fault false [] nodes_row ws h) in subst IsSome (sym said.1) refl)
+
 bare_iff : (header : Header) (row : FormRow) (ws : List (List ℕ)) (f : LineFault) (t : Bool) → header.hci ≡ t
     → (header.hci ≡ false → Says header row ws) → IsTrue (not t)
     → (cond (not t) (unless_fault (words_fault header.hci header.hosts.items row ws) (read_of row.name ws)) (Err fault.Order) ≡ Err f)
@@ -47,28 +53,106 @@ bare_iff : (header : Header) (row : FormRow) (ws : List (List ℕ)) (f : LineFau
 bare_iff header row ws f true e says stands = cc
 bare_iff header row ws f false e says stands = line_iff header row ws f (says e)
 
-faults : (header : Option Header) (first : List ℕ) (ws : List (List ℕ)) (f : LineFault) → HasFault header ws f (row_for first)
+node_iff : (header : Header) (row : FormRow) (ws : List (List ℕ)) (f : LineFault) (t : Bool) → header.hci ≡ t
+    → (header.hci ≡ true → Says header row ws) → IsTrue t
+    → (cond t (unless_fault (words_fault header.hci header.hosts.items row ws) (read_of row.name ws)) (Err fault.Order) ≡ Err f)
+    ↔ (words_fault header.hci header.hosts.items row ws ≡ Some f)
+node_iff header row ws f true e says stands = line_iff header row ws f (says e)
+node_iff header row ws f false e says stands = cc
+
+faults : (header : Option Header) (first : List ℕ) (ws : List (List ℕ)) (f : LineFault) → HasFault header ws f (row_for first ws)
 faults None first ws f =
-    row_cases (HasFault None ws f) rows first
-    (λ e. header_iff ws f, (λ e h. cc, (λ e h. cc, (λ e h. cc, (λ e h. cc, (λ e h. cc, (λ e h. cc, (λ e h. cc, (λ e h. cc, tt))))))))) (λ e. tt)
+    row_cases (HasFault None ws f) rows first ws (
+      λ e. nodes_iff ws f,
+      (
+        λ e. header_iff ws f,
+        (
+          λ e h. cc,
+          (
+            λ e h. cc,
+            (
+              λ e h. cc,
+              (
+                λ e h. cc,
+                (
+                  λ e h. cc,
+                  (
+                    λ e h. cc,
+                    (
+                      λ e h. cc,
+                      (
+                        λ e h. cc,
+                        (
+                          λ e h. cc,
+                          (
+                            λ e h. cc,
+                            (
+                              λ e h. cc,
+                              (
+                                λ e h. cc,
+                                (
+                                  λ e h. cc,
+                                  (
+                                    λ e h. cc,
+                                    (λ e h. cc, tt),
+                                  ),
+                                ),
+                              ),
+                            ),
+                          ),
+                        ),
+                      ),
+                    ),
+                  ),
+                ),
+              ),
+            ),
+          ),
+        ),
+      ),
+    ) (λ e. tt)
 faults (Some header) first ws f =
-    row_cases (HasFault (Some header) ws f) rows first (
+    row_cases (HasFault (Some header) ws f) rows first ws (
       λ e h. cc,
       (
-        λ e h. line_iff header send_row ws f (says_send header ws),
+        λ e h. cc,
         (
-          λ e h. line_iff header deliver_row ws f (says_deliver header ws),
+          λ e h. line_iff header send_row ws f (says_send header ws),
           (
-            λ e h. line_iff header lose_row ws f (says_lose header ws),
+            λ e h. line_iff header deliver_row ws f (says_deliver header ws),
             (
-              λ e h. line_iff header damage_row ws f (says_damage header ws),
+              λ e h. line_iff header lose_row ws f (says_lose header ws),
               (
-                λ e h. line_iff header tick_row ws f (says_tick header ws),
+                λ e h. line_iff header damage_row ws f (says_damage header ws),
                 (
-                  λ e h. line_iff header reset_row ws f (says_reset header ws),
+                  λ e h. line_iff header tick_row ws f (says_tick header ws),
                   (
-                    λ e. bare_iff header busy_row ws f header.hci refl (says_busy header ws),
-                    (λ e. bare_iff header ready_row ws f header.hci refl (says_ready header ws), tt),
+                    λ e h. line_iff header reset_row ws f (says_reset header ws),
+                    (
+                      λ e. bare_iff header busy_row ws f header.hci refl (says_busy header ws),
+                      (
+                        λ e. bare_iff header ready_row ws f header.hci refl (says_ready header ws),
+                        (
+                          λ e. node_iff header boot_row ws f header.hci refl (says_boot header ws),
+                          (
+                            λ e. node_iff header cut_row ws f header.hci refl (says_cut header ws),
+                            (
+                              λ e. node_iff header activate_row ws f header.hci refl (says_activate header ws),
+                              (
+                                λ e. node_iff header arm_row ws f header.hci refl (says_arm header ws),
+                                (
+                                  λ e. node_iff header init_row ws f header.hci refl (says_init header ws),
+                                  (
+                                    λ e. node_iff header tables_row ws f header.hci refl (says_tables header ws),
+                                    (λ e h. line_iff header settle_row ws f (says_settle header ws), tt),
+                                  ),
+                                ),
+                              ),
+                            ),
+                          ),
+                        ),
+                      ),
+                    ),
                   ),
                 ),
               ),
@@ -78,9 +162,9 @@ faults (Some header) first ws f =
       ),
     ) (λ e. tt)
 
-pub fault_iff : (header : Option Header) (first : List ℕ) (row : FormRow) (ws : List (List ℕ)) (f : LineFault) → row_for first ≡ Some row
+pub fault_iff : (header : Option Header) (first : List ℕ) (row : FormRow) (ws : List (List ℕ)) (f : LineFault) → row_for first ws ≡ Some row
     → IsTrue (may_stand row.place header)
-    → (by_row header (row_for first) ws ≡ Err f) ↔ (words_fault (has_nodes header) (hosts_of header) row ws ≡ Some f)
+    → (by_row header (row_for first ws) ws ≡ Err f) ↔ (words_fault (has_nodes header) (hosts_of header) row ws ≡ Some f)
 fault_iff header first row ws f e stands =
     let P : Option FormRow → Type 0 = λ o. (by_row header o ws ≡ Err f) ↔ (words_fault (has_nodes header) (hosts_of header) row ws ≡ Some f) in
     subst P (sym e) (subst (HasFault header ws f) e (faults header first ws f) stands)
@@ -91,7 +175,7 @@ words_unknown : (header : Header) (ws : List (List ℕ)) (id : ℕ) → by_words
 words_unknown header [] id h = cc
 words_unknown header (first ∷ ws) id h = go (is_comment first) h
   where
-    go : (t : Bool) → cond t (Ok read.Skip) (by_row (Some header) (row_for first) ws) ≡ Err (fault.Host id)
+    go : (t : Bool) → cond t (Ok read.Skip) (by_row (Some header) (row_for first ws) ws) ≡ Err (fault.Host id)
         → list_any (λ host. host == id) header.hosts.items ≡ false
     go true e = cc
     go false e = row_unknown header first ws id e

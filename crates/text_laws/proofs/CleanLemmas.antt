@@ -163,6 +163,7 @@ said_clean (line.Activate n s p) h = (((omega arith, refl), refl), (byte_clean n
 said_clean (line.Arm n k x) h = (((omega arith, refl), refl), (byte_clean n, (number_clean k h.1, (hex_clean x.items h.2.0, tt))))
 said_clean (line.Init e i p) h = (((omega arith, refl), refl), (end_clean e, (hex_clean i h.1.0, each_clean p.items h.2)))
 said_clean (line.Tables n) h = (((omega arith, refl), refl), (byte_clean n, tt))
+said_clean (line.Settle n) h = (((omega arith, refl), refl), (number_clean n h, tt))
 
 pub entry_clean : (a : Entry) → IsEntry a → AllByRecursion IsClean (entry_words a)
 entry_clean (entry.Head header) h =
@@ -199,6 +200,7 @@ entry_clean (entry.Tables n t) h = (
     ),
   ),
 )
+entry_clean (entry.Settled n) h = (((omega arith, refl), refl), (number_clean n h, tt))
 entry_clean (entry.No why) h = (((omega arith, refl), refl), cause_clean why h)
 
 -- so do those of the lines of tables

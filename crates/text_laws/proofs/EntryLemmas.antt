@@ -1,12 +1,13 @@
 -- Entries with the same words are the same.
-use Rattle.std.proofs.Common.{◌≡◌, ℕ, ◌≤◌, Bool, false, List, [], get_or, refl, sym, ◌∙◌, ap, arith, All, map, codes}
+use Rattle.std.proofs.Common.{◌≡◌, ℕ, ◌≤◌, Bool, true, false, cond, List, [], get_or, refl, sym, ◌∙◌, ap, arith, All, map, codes}
 use Rattle.std.specs.Str.{bytes_eq}
 use Rattle.trace_model.specs.declared.line.Header.{Header}
 use Rattle.trace_model.specs.declared.line.Line.{Line}
 use Rattle.trace_model.specs.declared.line.Line.TheVariants as line
 use Rattle.trace_model.specs.declared.entry.Entry.{Entry}
 use Rattle.trace_model.specs.declared.entry.Entry.TheVariants as entry
-use Rattle.trace_model.specs.Lines.{IsHeader}
+use Rattle.trace_model.specs.Lines.{MayBegin}
+use Rattle.schedule_text.proofs.ReadAgainLemmas.{header_hosts}
 use Rattle.schedule_text.specs.Entries.{byte_text, header_words, line_words, entry_words}
 use Rattle.swp_base.specs.Bits.{IsByte}
 use Rattle.text_laws.specs.Ranges.{IsEntry}
@@ -14,15 +15,23 @@ use Rattle.text_laws.proofs.SameLemmas.{head, other_word, other_words, same_end,
 use Rattle.text_laws.proofs.SameLemmas.{behind, behind_two, same_command, same_said}
 use Rattle.text_laws.proofs.RowLemmas.{rows_words, same_counts, same_tables}
 
-hosts_are_bytes : (header : Header) → IsHeader header → All IsByte header.hosts.items
-hosts_are_bytes header known = λ k d within. let small : get_or header.hosts.items k d ≤ 7 = (known.hosts k d within).1 in omega (arith, small)
+hosts_are_bytes : (header : Header) → MayBegin header → All IsByte header.hosts.items
+hosts_are_bytes header known =
+    λ k d within. let small : get_or header.hosts.items k d ≤ 7 = (header_hosts header known k d within).1 in omega (arith, small)
 
-same_header : (a b : Header) → IsHeader a → IsHeader b → header_words a ≡ header_words b → a ≡ b
+same_world : (a b : Bool) → cond a (codes "hci") (codes "bare") ≡ cond b (codes "hci") (codes "bare") → a ≡ b
+same_world true true h = refl
+same_world true false h = absurd (other_word (codes "hci") (codes "bare") refl h)
+same_world false true h = absurd (other_word (codes "bare") (codes "hci") refl h)
+same_world false false h = refl
+
+same_header : (a b : Header) → MayBegin a → MayBegin b → header_words a ≡ header_words b → a ≡ b
 same_header a b ra rb h =
     let hosts : map byte_text a.hosts.items ≡ map byte_text b.hosts.items = cc in
+    let world : cond a.hci (codes "hci") (codes "bare") ≡ cond b.hci (codes "hci") (codes "bare") = cc in
     let items = same_map byte_text IsByte same_byte a.hosts.items b.hosts.items (hosts_are_bytes a ra) (hosts_are_bytes b rb) hosts in
     let made : Bool → List ℕ → Header = λ hci xs. record { hci = hci; hosts = record { items = xs } } in
-    ap (λ hci. made hci a.hosts.items) (ra.bare ∙ sym rb.bare) ∙ ap (made b.hci) items
+    ap (λ hci. made hci a.hosts.items) (same_world a.hci b.hci world) ∙ ap (made b.hci) items
 
 no_swp : (said : Line) → bytes_eq (codes "swp") (head (line_words said)) ≡ false
 no_swp (line.Send e p m) = refl
@@ -39,6 +48,7 @@ no_swp (line.Activate h s p) = refl
 no_swp (line.Arm n k x) = refl
 no_swp (line.Init e i p) = refl
 no_swp (line.Tables n) = refl
+no_swp (line.Settle n) = refl
 
 no_line : (header : Header) (said : Line) → header_words header ≡ line_words said → ⊥
 no_line header said h = other_words (header_words header) (line_words said) (no_swp said) h
@@ -128,5 +138,6 @@ same_entry (entry.Booted n i) (entry.Booted m j) ra rb h k =
 same_entry (entry.Tables n t) (entry.Tables m u) ra rb h k =
     let node : n ≡ m = same_byte n m ra.0 rb.0 cc in
     let tables : t ≡ u = same_tables t u ra.1 rb.1 (same_counts n m t u ra.1 rb.1 h) k in cc
+same_entry (entry.Settled n) (entry.Settled m) ra rb h k = ap entry.Settled (same_number n m ra rb cc)
 same_entry (entry.No c) (entry.No d) ra rb h k = ap entry.No (same_cause c d ra rb (behind _ _ _ _ h))
 same_entry a b ra rb h k = absurd (other_words (entry_words a) (entry_words b) refl h)

@@ -211,4 +211,5 @@ same_said (line.Init e i p) (line.Init f j q) ra rb h =
     let pipes : p.items ≡ q.items = same_map encode_upper AreOctets same_bytes p.items q.items ra.2 rb.2 (behind _ _ _ _ (behind_two _ _ _ _ _ _ h)) in
     ap (λ at. line.Init at i p) end ∙ ap (λ bytes. line.Init f bytes p) identity ∙ ap (λ ps. line.Init f j (record { items = ps })) pipes
 same_said (line.Tables n) (line.Tables m) ra rb h = ap line.Tables (same_byte n m ra rb cc)
+same_said (line.Settle n) (line.Settle m) ra rb h = ap line.Settle (same_number n m ra rb cc)
 same_said a b ra rb h = absurd (other_words (line_words a) (line_words b) refl h)

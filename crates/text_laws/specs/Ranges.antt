@@ -13,7 +13,7 @@ use Rattle.trace_model.specs.declared.entry.NoCause.{NoCause}
 use Rattle.trace_model.specs.declared.entry.NoCause.TheVariants as cause
 use Rattle.trace_model.specs.declared.entry.Entry.{Entry}
 use Rattle.trace_model.specs.declared.entry.Entry.TheVariants as entry
-use Rattle.trace_model.specs.Lines.{IsHeader}
+use Rattle.trace_model.specs.Lines.{MayBegin}
 
 -- a link is a byte, and so are a pipe, a host and a node; a message has a byte at least, and so has an LPDU
 abbrev pub IsEnd : End → Type 0
@@ -44,6 +44,7 @@ IsLineSaid (line.Activate host sync power) = IsByte host × IsTwoBytes sync × I
 IsLineSaid (line.Arm node nth fill) = IsByte node × IsNumber nth × AreOctets fill.items
 IsLineSaid (line.Init at identity pipes) = IsEnd at × AreOctets identity × All AreOctets pipes.items
 IsLineSaid (line.Tables node) = IsByte node
+IsLineSaid (line.Settle rounds) = IsNumber rounds
 
 abbrev pub IsCause : NoCause → Type 0
 IsCause (cause.Full need spare) = IsNumber need × IsNumber spare
@@ -95,7 +96,7 @@ pub record AreSaidTables (t : HciTables) : Type 0 where
 
 -- an entry
 abbrev pub IsEntry : Entry → Type 0
-IsEntry (entry.Head header) = IsHeader header
+IsEntry (entry.Head header) = MayBegin header
 IsEntry (entry.Echo said) = IsLineSaid said
 IsEntry (entry.Up at session) = IsEnd at × IsNumber session
 IsEntry (entry.Down at cause) = IsEnd at
@@ -119,4 +120,5 @@ IsEntry (entry.InitFailed at code) = IsEnd at × IsByte code
 IsEntry (entry.Cut node) = IsByte node
 IsEntry (entry.Booted node count) = IsByte node × IsNumber count
 IsEntry (entry.Tables node tables) = IsByte node × AreSaidTables tables
+IsEntry (entry.Settled rounds) = IsNumber rounds
 IsEntry (entry.No cause) = IsCause cause

@@ -6,7 +6,7 @@ ghost use Rattle.std.specs.List.{flat_map};
 ghost use Rattle.trace_model.specs.declared.entry.Entry.{Entry};
 ghost use Rattle.trace_model.specs.declared.line.Header.{Header};
 ghost use Rattle.trace_model.specs.declared.line.Line.{Line};
-ghost use Rattle.trace_model.specs.Lines.{IsHeader};
+ghost use Rattle.trace_model.specs.Lines.{MayBegin};
 ghost use Rattle.schedule_text.specs.declared.fault.LineFault.{LineFault};
 ghost use Rattle.schedule_text.specs.Entries.{entry_line};
 ghost use Rattle.schedule_text.specs.Forms.{FormRow, row_for};
@@ -25,9 +25,9 @@ pub fn a_text_has_one_transcript()
 /// Where the form of a line may stand, the line has a fault exactly where its words have it: their number and shapes, then
 /// their digits and ranges, then their hosts. So nothing is refused that has a meaning.
 pub fn a_line_has_the_fault_of_its_words()
-    ensures { (header : Option Header) (first : List ℕ) (row : FormRow) (ws : List (List ℕ)) (f : LineFault) → row_for first ≡ Some row
+    ensures { (header : Option Header) (first : List ℕ) (row : FormRow) (ws : List (List ℕ)) (f : LineFault) → row_for first ws ≡ Some row
         → IsTrue (may_stand row.place header)
-        → (by_row header (row_for first) ws ≡ Err f) ↔ (words_fault (has_nodes header) (hosts_of header) row ws ≡ Some f) }
+        → (by_row header (row_for first ws) ws ≡ Err f) ↔ (words_fault (has_nodes header) (hosts_of header) row ws ≡ Some f) }
 {}
 
 /// A host that a line below the header is refused for isn't in the header.
@@ -37,5 +37,5 @@ pub fn a_refused_host_is_unknown()
 
 /// What is read of a line below a header is in its range.
 pub fn a_read_line_is_in_its_range()
-    ensures { (header : Header) (bytes : List ℕ) (said : Line) → IsHeader header → line_of (Some header) bytes ≡ Ok (read.Line said) → IsLineSaid said }
+    ensures { (header : Header) (bytes : List ℕ) (said : Line) → MayBegin header → line_of (Some header) bytes ≡ Ok (read.Line said) → IsLineSaid said }
 {}

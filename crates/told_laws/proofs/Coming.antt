@@ -1,5 +1,5 @@
 -- The messages that came are among those that were sent, so all that is told of a history is in its range.
-use Rattle.std.proofs.Common.{◌≡◌, ℕ, ◌≤◌, ◌<◌, Bool, true, false, cond, List, [], ◌∷◌, ◌++◌, length, refl, sym, ap, subst, arith, Option, Some, None, All}
+use Rattle.std.proofs.Common.{◌≡◌, ℕ, ◌≤◌, ◌<◌, Bool, true, false, cond, List, [], ◌∷◌, ◌++◌, length, refl, sym, ap, subst, arith, inl, Option, Some, None, All}
 use Rattle.std.specs.Prelude.{◌==◌}
 use Rattle.std.specs.List.{AllByRecursion, flat_map, cons_option}
 use Rattle.std.proofs.lemmas.List.Concat.{flat_map-append}
@@ -196,7 +196,7 @@ told_in header lines t valid is follows few = each_all IsEntry (entries_told t) 
     steps = steps_told header 0 bare_link lines t.steps is valid follows.steps_follow bare_is (omega (arith, few))
 
     apart : AreApart (entries_told t)
-    apart = (subst IsHeader (sym follows.header_is) is, each-append IsApart t.opening (flat_map step_told t.steps) opening steps)
+    apart = (inl (subst IsHeader (sym follows.header_is) is), each-append IsApart t.opening (flat_map step_told t.steps) opening steps)
 
     sent : AllByRecursion IsSentIn (all_entries t)
     sent =

@@ -41,7 +41,7 @@ use Rattle.history.specs.Steps.{end_of, entry_of, entries_for, event_of, events_
 use Rattle.history.specs.Follows.{refusal, as_noted, if_empty, if_beyond, if_out_of_reach, machine_of, frames_to, taken_of, first_verdict, damage_causes}
 use Rattle.history.specs.Follows.{causes_in, outcome_of, host_of, link_after_line, StepsFollow}
 use Rattle.text_laws.specs.Ranges.{IsEnd, AreOctets, IsNumber, IsCause, IsEntry}
-use Rattle.text_laws.proofs.ReadLemmas.{said_in}
+use Rattle.text_laws.proofs.ReadLemmas.{bare_said_in}
 use Rattle.told_laws.specs.Told.{step_told}
 use Rattle.told_laws.proofs.Ends.{IsFrame}
 use Rattle.registry.proofs.ValueLemmas.{AllByRecursion-append as each-append}
@@ -172,6 +172,7 @@ can_tell header l (line.Activate host sync power) is = tt
 can_tell header l (line.Arm node nth fill) is = tt
 can_tell header l (line.Init e identity pipes) is = tt
 can_tell header l (line.Tables node) is = tt
+can_tell header l (line.Settle rounds) is = tt
 
 few_taken : (count : Option ℕ) (w : List OnWire) → length w ≤ 64 → taken_of count w ≤ 64
 few_taken None w few = few
@@ -201,6 +202,7 @@ few_causes header n l (line.Activate host sync power) is h = omega arith
 few_causes header n l (line.Arm node nth fill) is h = omega arith
 few_causes header n l (line.Init e identity pipes) is h = omega arith
 few_causes header n l (line.Tables node) is h = omega arith
+few_causes header n l (line.Settle rounds) is h = omega arith
 
 -- ## Refusals
 
@@ -282,6 +284,7 @@ refusal_in n l (line.Activate host sync power) h = tt
 refusal_in n l (line.Arm node nth fill) h = tt
 refusal_in n l (line.Init e identity pipes) h = tt
 refusal_in n l (line.Tables node) h = tt
+refusal_in n l (line.Settle rounds) h = tt
 
 -- ## Lines
 
@@ -323,5 +326,5 @@ steps_told header n l (said ∷ lines) (step ∷ steps) is valid follows link sm
     subst (LineTold n l) (sym follows.1)
     (line_told header (host_of header) n l said (host_low header is) valid.0 link (omega (arith, small))) in
     let later = steps_told header (n + 2400) (link_after_line l step.outcome) lines steps is valid.1 follows.3 here.link (omega (arith, small)) in
-    let echo : IsApart (entry.Echo step.line) = subst (λ x. IsApart (entry.Echo x)) (sym follows.0) (said_in header is said valid.0) in
+    let echo : IsApart (entry.Echo step.line) = subst (λ x. IsApart (entry.Echo x)) (sym follows.0) (bare_said_in header is said valid.0) in
     each-append IsApart (step_told step) (flat_map step_told steps) (echo, here.told) later

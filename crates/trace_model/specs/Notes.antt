@@ -2,7 +2,7 @@
 use Rattle.std.specs.Prelude.{◌≡◌, ℕ, List, []}
 use Rattle.trace_model.specs.declared.entry.Entry.{Entry}
 use Rattle.trace_model.specs.declared.entry.Entry.TheVariants.{Head, Echo, Up, Down, Active, GaveUp, Sent, Got, Acked, Emit, Took, Lost, Turn, Held, Ask}
-use Rattle.trace_model.specs.declared.entry.Entry.TheVariants.{Dropped, Command, AnyOk, InitSame, InitMade, InitFailed, Cut, Booted, Tables, No}
+use Rattle.trace_model.specs.declared.entry.Entry.TheVariants.{Dropped, Command, AnyOk, InitSame, InitMade, InitFailed, Cut, Booted, Tables, Settled, No}
 
 -- an entry that is handed without the bytes of its message; where its form has no message, there are no bytes beside it
 abbrev pub IsNote : Entry → List ℕ → Type 0
@@ -30,6 +30,7 @@ IsNote (InitFailed at code) body = body ≡ []
 IsNote (Cut node) body = body ≡ []
 IsNote (Booted node count) body = body ≡ []
 IsNote (Tables node tables) body = body ≡ []
+IsNote (Settled rounds) body = body ≡ []
 IsNote (No cause) body = body ≡ []
 
 -- the entry with these bytes as its message, where its form has one
@@ -58,4 +59,5 @@ with_body body (InitFailed at code) = InitFailed at code
 with_body body (Cut node) = Cut node
 with_body body (Booted node count) = Booted node count
 with_body body (Tables node tables) = Tables node tables
+with_body body (Settled rounds) = Settled rounds
 with_body body (No cause) = No cause

@@ -168,6 +168,10 @@ pub enum Entry {
         node: u8,
         tables: NodeTables,
     },
+    /// So many rounds were done until all links were quiet, or as many as were asked for.
+    Settled {
+        rounds: u32,
+    },
     /// The line was refused and changed nothing.
     No {
         cause: NoCause,

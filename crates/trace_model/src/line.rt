@@ -121,4 +121,8 @@ pub enum Line {
     Tables {
         node: u8,
     },
+    /// `settle N`: rounds of deliveries and ticks until all links are quiet, 1 to 20,000 of them at most.
+    Settle {
+        rounds: u32,
+    },
 }

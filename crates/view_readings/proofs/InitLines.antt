@@ -77,6 +77,7 @@ line_may w (line.Arm n nth fill) side none = (tt, tt)
 line_may w (line.Init e identity pipes) side none =
     (init_may w e side (first_none (if_off w (node_of e)) (if_not_sent w e (1, 3 ∷ [])) none), tt)
 line_may w (line.Tables n) side none = tt
+line_may w (line.Settle n) side none = tt
 
 module _ (h : ℕ) (host : IsHost h) where
   -- ## Events

@@ -160,6 +160,7 @@ book_of e x (entry.InitFailed f code) = refl
 book_of e x (entry.Cut node) = refl
 book_of e x (entry.Booted node count) = refl
 book_of e x (entry.Tables node tables) = refl
+book_of e x (entry.Settled rounds) = refl
 book_of e x (entry.No cause) = refl
 
 -- it is what is read of it without REC_ERROR

@@ -175,6 +175,7 @@ line_may w (line.Activate host sync power) side none = ((tt, tt, tt), tt)
 line_may w (line.Arm n nth fill) side none = ((tt, tt, tt), tt)
 line_may w (line.Init e identity pipes) side none = ((tt, tt, tt), tt)
 line_may w (line.Tables n) side none = tt
+line_may w (line.Settle n) side none = tt
 
 -- ## Schedules
 

@@ -70,7 +70,7 @@ fn faults_of_a_first_line(rt: HostRuntime) {
         &rt,
         alloc,
         LineFault::Word,
-        "swp 1 bare\nswp 1 bare 02 03\nswp 2 bare 02\nswp 1 hci 02",
+        "swp 1 bare\nswp 1 bare 02 03\nswp 2 bare 02\nswp 1 hci",
     );
     let digits = LineFault::Hex { at: 4 };
     are_refused_at_first(&rt, alloc, digits, "swp 1 bare 2\nswp 1 bare 0g");
@@ -93,7 +93,7 @@ fn are_refused(rt: &impl Abort, alloc: Global, hci: bool, fault: LineFault, line
 
 /// Lines that have a wrong word, or too few or too many.
 const WRONG_WORDS: &str = "\
-boot 00
+settle
 \tdeliver 02c
 deliver
 deliver 02C
@@ -147,6 +147,18 @@ fn faults_of_digits_and_hosts_below_a_header(rt: HostRuntime) {
     are_refused(&rt, alloc, false, fourth, "send 03h 01 030");
     are_refused(&rt, alloc, false, LineFault::Host { id: 3 }, WRONG_HOSTS);
     are_refused(&rt, alloc, false, high, "deliver 1Fh");
+}
+
+#[test]
+fn faults_below_a_header_of_nodes(rt: HostRuntime) {
+    let alloc = rt.alloc();
+    let third = LineFault::Hex { at: 3 };
+    are_refused(&rt, alloc, false, LineFault::Order, "boot 00\ntables 03 1");
+    are_refused(&rt, alloc, true, LineFault::Word, "init 02c 01\nboot");
+    are_refused(&rt, alloc, true, number(3), "arm 03 1001 5A");
+    are_refused(&rt, alloc, true, third, "activate 00 1A2 02");
+    are_refused(&rt, alloc, true, LineFault::Host { id: 0 }, "activate 00 1A2B 01");
+    are_refused(&rt, alloc, true, LineFault::Host { id: 3 }, "cut 03\narm 03 1 5A");
 }
 
 #[test]

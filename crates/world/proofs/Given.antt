@@ -245,6 +245,7 @@ sent_caused n l (line.Activate host sync power) h = weaker n l h
 sent_caused n l (line.Arm node nth fill) h = weaker n l h
 sent_caused n l (line.Init e identity pipes) h = weaker n l h
 sent_caused n l (line.Tables node) h = weaker n l h
+sent_caused n l (line.Settle rounds) h = weaker n l h
 
 pub causes_of-events : (h : ℕ) (l : Link) (cs : List Cause) → causes_of (events_at h l cs) ≡ cs
 causes_of-events h l [] = refl

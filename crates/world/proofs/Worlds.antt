@@ -8,6 +8,7 @@ use Rattle.trace_model.specs.declared.line.End.{End}
 use Rattle.trace_model.specs.declared.line.Header.{Header}
 use Rattle.trace_model.specs.declared.line.Line.{Line}
 use Rattle.trace_model.specs.declared.line.Line.TheVariants.{Send, Deliver, Lose, Damage, Tick, Reset, Busy, Ready, Boot, Cut, Activate, Arm, Init, Tables}
+use Rattle.trace_model.specs.declared.line.Line.TheVariants.{Settle}
 use Rattle.trace_model.specs.Lines.{IsHeader, IsLineOf}
 use Rattle.link_machine.specs.Machine.{new_link_end}
 use Rattle.link_machine.specs.Machine.Role.{Bare}
@@ -143,6 +144,7 @@ link_is header (Activate host sync power) h is = absurd is
 link_is header (Arm node nth fill) h is = absurd is
 link_is header (Init e identity pipes) h is = absurd is
 link_is header (Tables node) h is = absurd is
+link_is header (Settle rounds) h is = absurd is
 
 -- what a line adds to what the world stands for
 pub record Grows (now : World) (header : Header) (lines : List Line) (t : History) (line : Line) : Type 0 where

@@ -76,3 +76,4 @@ end_for e (line.Activate host sync power) = e
 end_for e (line.Arm node nth fill) = e
 end_for e (line.Init at identity pipes) = e
 end_for e (line.Tables node) = e
+end_for e (line.Settle rounds) = e

@@ -120,5 +120,6 @@ pub(crate) fn play_line(
         Line::Arm { .. } => Ok(()),
         Line::Init { .. } => Ok(()),
         Line::Tables { .. } => Ok(()),
+        Line::Settle { .. } => Ok(()),
     }
 }

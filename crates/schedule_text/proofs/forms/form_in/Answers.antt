@@ -1,8 +1,9 @@
 use Rattle.std.proofs.Common.{ap, ◌∙◌}
 use Rattle.std.specs.Option.{option_map}
+use Rattle.schedule_text.specs.Words.{words}
 use Rattle.schedule_text.specs.Forms.{row_of_form}
 use Rattle.schedule_text.proofs.FormsLemmas.{row-find}
 use Rattle.schedule_text.proofs.forms.form_in.Goals as goal
 
 pub returns : goal.returns
-returns c = ap (option_map row_of_form) c.found.ensures ∙ row-find c.args.forms.now c.args.first.now
+returns c = ap (option_map row_of_form) c.found.ensures ∙ row-find c.args.forms.now c.args.first.now (words c.args.rest.now)

@@ -15,7 +15,7 @@ returns-clause-fits c =
 
 pub returns-clause-too_long : goal.returns-clause-too_long
 returns-clause-too_long c = (
-  λ h. absurd (not_too_long (option_copied c.args.header) (row_for c.in-Some.first.now) (words c.in-Some.rest.now)
+  λ h. absurd (not_too_long (option_copied c.args.header) (row_for c.in-Some.first.now (words c.in-Some.rest.now)) (words c.in-Some.rest.now)
       ((same_fault c.read_words.result _ fault.TooLong c.read_words.ensures).0 h)),
   λ long. absurd (omega arith),
 )

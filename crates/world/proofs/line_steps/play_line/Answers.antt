@@ -78,3 +78,7 @@ returns-in-Init c =
 pub returns-in-Tables : goal.returns-in-Tables
 returns-in-Tables c =
     let P : Line → Type 0 = λ x. IsLineOf c.requires.line.0 x in absurd (subst P c.in-Tables.is c.requires.line.1)
+
+pub returns-in-Settle : goal.returns-in-Settle
+returns-in-Settle c =
+    let P : Line → Type 0 = λ x. IsLineOf c.requires.line.0 x in absurd (subst P c.in-Settle.is c.requires.line.1)
