@@ -1,0 +1,3 @@
+pub mod Noting
+pub mod Nodes
+pub mod Bringing

@@ -1,0 +1,59 @@
+//! One end of a link of a node, and what the node keeps of it.
+ghost use Rattle.std.specs.Prelude.{◌≡◌};
+
+use crate::desk::Desk;
+use block_pool::{Chain, Pool};
+use link_end::LinkEnd;
+
+/// A message that came to an end and had no turn yet.
+#[derive(Drop)]
+pub(crate) struct Waiting {
+    pub(crate) pipe: u8,
+    pub(crate) chain: Chain,
+}
+
+/// One end of a link of a node, and what the node keeps of it.
+#[derive(Drop)]
+pub struct Seat {
+    pub(crate) side: LinkEnd,
+    pub(crate) waiting: Option<Waiting>,
+    pub(crate) desk: Desk,
+    /// Its session ended in this step, as the hundredth tick of a notice came or otherwise.
+    pub(crate) late: bool,
+    pub(crate) ended: bool,
+}
+
+impl Seat {
+    ghost use Rattle.std.specs.Prelude.{◌≡◌, ◌≤◌, is_none};
+    ghost use Rattle.block_pool.specs.Pool.{PoolState};
+    ghost use Rattle.hcp_packet.specs.Packets.{IsSendable};
+    ghost use Rattle.link_machine.specs.Machine.{LinkEnd as Machine, turn, give_refusal};
+    ghost use Rattle.link_machine.specs.Machine.Turn.{Give, Hold};
+    ghost use Rattle.link_end.specs.Ends.{controls_in};
+    ghost use Rattle.node_ends.specs.Holding.{HoldsSeat, Moves};
+
+    /// A message, which isn't empty, is given to the end to send on a pipe that isn't reserved. Whether it is taken.
+    pub(crate) fn send(&mut self, pool: &mut Pool, pipe: u8, message: &[u8]) -> bool
+        requires stands { (m : Machine) × HoldsSeat pool.old self.old m }
+        requires sendable { IsSendable (pipe, message.now) }
+        ensures stands { (m : Machine) → HoldsSeat pool.old self.old m → HoldsSeat pool.new self.new (turn m (Give (pipe, message.now))) }
+        ensures answer { (m : Machine) → HoldsSeat pool.old self.old m → result ≡ is_none (give_refusal m (pipe, message.now)) }
+        ensures moves { Moves pool.old pool.new self.old.side.link self.new.side.link }
+        ensures rest { self.new ≡ record self.old { side = self.new.side } }
+    {
+        match self.side.send(pool, pipe, message) {
+            Ok(()) => true,
+            Err(_why) => false,
+        }
+    }
+
+    /// The end is held, so that it takes no fragments, or let go.
+    pub(crate) fn hold(&mut self, held: bool)
+        requires room { controls_in self.old.side.link ≤ 6 }
+        ensures stands { (pool : PoolState) (m : Machine) → HoldsSeat pool self.old m → HoldsSeat pool self.new (turn m (Hold held)) }
+        ensures moves { (pool : PoolState) → Moves pool pool self.old.side.link self.new.side.link }
+        ensures rest { self.new ≡ record self.old { side = self.new.side } }
+    {
+        self.side.hold(held);
+    }
+}
