@@ -12,7 +12,10 @@ use Rattle.node_machine.specs.Carrying.{port_at, changed_if, with_port, after_tu
 use Rattle.link_machine.specs.Machine.{LinkEnd as Machine, Turn, turn}
 use Rattle.node_ends.specs.declared.seat.Seat.{Seat}
 use Rattle.node_ends.specs.Desks.{desk_of}
-use Rattle.node_ends.specs.Holding.{HoldsSeat, Moves}
+use Rattle.link_end.specs.declared.link.LinkEnd.{LinkEnd as Link}
+use Rattle.node_ends.specs.declared.seat.Waiting.{Waiting}
+use Rattle.node_ends.specs.Holding.{HoldsSeat, HoldsEnd, Moves}
+use Rattle.node_ends.proofs.Moving.{stays_beside}
 use Rattle.node_ends.specs.Ends.{SeatStandsFor, SeatsStandFor, HaveOwnersFrom, HaveOwnHosts, AreEnds, place_in}
 
 -- ## Hosts
@@ -292,3 +295,44 @@ nowhere {pool} {seats} {ports} h f None is none e =
     let P : List Port → Type 0 = λ l. AreEnds pool seats l in
     (subst P (sym n.0) e, n.1)
 nowhere h f (Some i) is none e = absurd (none i refl)
+
+-- the owner of the end at a place
+pub owner_is : {pool : PoolState} {seats : List Seat} {ports : List Port} (h i : ℕ) (d : Seat) → place_in h seats ≡ Some i → AreEnds pool seats ports
+    → (slice_index_or seats i d).side.link.outbox.owner ≡ 2 * i
+owner_is {pool} {seats} h i d place e =
+    let p = placed_in h i place e in
+    let o = owners_at 0 i seats p.seat p.seat_is e.owners in
+    ap (λ (s : Seat). s.side.link.outbox.owner) (read_at seats i p.seat d p.seat_is) ∙ (let q = o.0 in omega (arith, q))
+
+-- what is kept of an end beside it is changed
+pub record SetsDesk (pool : PoolState) (seats : List Seat) (h i : ℕ) (f : DeskOf → DeskOf) (d t : Seat) : Type 0 where
+  pub place : place_in h seats ≡ Some i
+  pub side : t.side ≡ (slice_index_or seats i d).side
+  pub waiting : t.waiting ≡ (slice_index_or seats i d).waiting
+  pub late : t.late ≡ (slice_index_or seats i d).late
+  pub ended : t.ended ≡ (slice_index_or seats i d).ended
+  pub host : t.desk.host ≡ (slice_index_or seats i d).desk.host
+  pub desk : desk_of t.desk ≡ f (desk_of (slice_index_or seats i d).desk)
+
+pub sets_desk : {pool : PoolState} {seats : List Seat} {h i : ℕ} {f : DeskOf → DeskOf} {d t : Seat} (ports : List Port) → SetsDesk pool seats h i f d t
+    → AreEnds pool seats ports → AreEnds pool (slice_set seats i t) (with_port h (λ p. record p { desk = f p.desk }) ports)
+sets_desk {pool} {seats} {h} {i} {f} {d} {t} ports c e =
+    let p = placed_in h i c.place e in
+    let r : Seat = slice_index_or seats i d in
+    let same_seat : r ≡ p.seat = read_at seats i p.seat d p.seat_is in
+    let host : r.desk.host ≡ h = ap (λ (s : Seat). s.desk.host) same_seat ∙ p.host in
+    let link : t.side.link ≡ r.side.link = ap (λ (l : Link). l.link) c.side in
+    let one : OneChanges pool pool h (λ q. record q { desk = f q.desk }) r t = record {
+      before = host;
+      after = c.host ∙ host;
+      moves = stays_beside pool r.side.link t.side.link (ap (λ (k : End). k.outbox) link) (ap (λ (k : End). k.inbox) link);
+      stands = λ q g. record {
+        holds = (let P : End → Type 0 = λ k. HoldsEnd pool k t.waiting q.side in
+        let Q : Option Waiting → Type 0 = λ w. HoldsEnd pool r.side.link w q.side in
+        subst P (sym link) (subst Q (sym c.waiting) g.holds));
+        desk = c.desk ∙ ap f g.desk;
+        late = c.late ∙ g.late;
+        ended = c.ended ∙ g.ended;
+      };
+    } in
+    one_changes one i seats ports (p.seat_is ∙ ap (λ (s : Seat). Some s) (sym same_seat)) e

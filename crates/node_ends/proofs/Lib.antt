@@ -1,3 +1,4 @@
 pub mod Turning
 pub mod Moving
 pub mod Changing
+pub mod Setting

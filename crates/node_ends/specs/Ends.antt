@@ -1,5 +1,5 @@
 -- What is kept of the ends of a node, and for which ports of its machine it stands.
-use Rattle.std.specs.Prelude.{◌≡◌, ◌≢◌, ℕ, suc, ◌+◌, ◌*◌, ◌==◌, Bool, false, if◌then◌else◌, List, [], ◌∷◌, length, ◌≤◌, is_none, Option, Some, None, option_map}
+use Rattle.std.specs.Prelude.{◌≡◌, ◌≢◌, ℕ, suc, ◌+◌, ◌*◌, ◌==◌, Bool, false, if◌then◌else◌, List, [], ◌∷◌, length, ◌≤◌, ◌<◌, is_none, Option, Some, None, option_map}
 use Rattle.std.specs.List.{AllByRecursion}
 use Rattle.std.specs.Option.{option_map_or}
 use Rattle.block_pool.specs.Pool.{PoolState}
@@ -50,6 +50,11 @@ place_in h (s ∷ seats) = if s.desk.host == h then Some 0 else option_map suc (
 -- an end, where there is one, takes a message for sending
 abbrev pub takes_at : Message → Option Port → Bool
 takes_at m port = option_map_or (λ (p : Port). is_none (give_refusal p.side m)) port false
+
+-- a block is set aside at an end, where there is one
+abbrev pub HasAside : Option Port → Type 0
+HasAside None = Unit {0}
+HasAside (Some p) = 0 < p.side.aside
 
 -- what is kept of all ends of a node, with their pool, stands for these ports
 abbrev pub EndsStandFor : Ends → List Port → Type 0

@@ -1,11 +1,13 @@
 //! The ends of all links of a node in one pool.
 ghost use Rattle.std.specs.Prelude.{◌≡◌, List, Some};
 ghost use Rattle.hcp_packet.specs.Packets.{IsSendable};
-ghost use Rattle.link_machine.specs.Machine.Turn.{Give};
+ghost use Rattle.link_machine.specs.Machine.Turn.{Give, SetAside, Release};
+ghost use Rattle.node_ends.specs.Desks.{notice_of};
 ghost use Rattle.node_machine.specs.Parts.{Port};
 ghost use Rattle.node_machine.specs.Carrying.{port_at, with_port, after_turn};
-ghost use Rattle.node_ends.specs.Ends.{AreEnds, takes_at, place_in};
+ghost use Rattle.node_ends.specs.Ends.{AreEnds, HasAside, takes_at, place_in};
 
+use crate::desk::Unanswered;
 use crate::places::place_of;
 use crate::seat::Seat;
 use block_pool::Pool;
@@ -20,10 +22,11 @@ pub struct Ends {
 impl Ends {
     ghost use Rattle.std.specs.Prelude.{◌≡◌, List};
     ghost use Rattle.hcp_packet.specs.Packets.{IsSendable};
-    ghost use Rattle.link_machine.specs.Machine.Turn.{Give};
+    ghost use Rattle.link_machine.specs.Machine.Turn.{Give, SetAside, Release};
+    ghost use Rattle.node_ends.specs.Desks.{notice_of};
     ghost use Rattle.node_machine.specs.Parts.{Port};
     ghost use Rattle.node_machine.specs.Carrying.{port_at, with_port, after_turn};
-    ghost use Rattle.node_ends.specs.Ends.{EndsStandFor, takes_at};
+    ghost use Rattle.node_ends.specs.Ends.{EndsStandFor, HasAside, takes_at};
 
     /// A message, which isn't empty, is given to the end of the link with this host, to be sent on a pipe that isn't reserved.
     /// Whether there is such an end and it takes the message.
@@ -39,6 +42,37 @@ impl Ends {
             return false;
         };
         send_at(&mut self.seats, i, &mut self.pool, host, pipe, message)
+    }
+
+    /// A block is set aside at the end of the link with this host, where one is spare.
+    pub fn set_aside(&mut self, host: u8)
+        requires { (ports : List Port) × EndsStandFor self.old ports }
+        ensures { (ports : List Port) → EndsStandFor self.old ports → EndsStandFor self.new (with_port host (after_turn SetAside) ports) }
+    {
+        if let Some(i) = place_of(self.seats.as_slice(), host) {
+            set_aside_at(&mut self.seats, i, &mut self.pool, host);
+        }
+    }
+
+    /// One that was set aside there is free again.
+    pub fn release(&mut self, host: u8)
+        requires { (ports : List Port) × EndsStandFor self.old ports × HasAside (port_at ports host) }
+        ensures { (ports : List Port) → EndsStandFor self.old ports → EndsStandFor self.new (with_port host (after_turn Release) ports) }
+    {
+        if let Some(i) = place_of(self.seats.as_slice(), host) {
+            release_at(&mut self.seats, i, &mut self.pool, host);
+        }
+    }
+
+    /// What is known of the notice to this host.
+    pub fn set_notice(&mut self, host: u8, notice: Option<Unanswered>)
+        requires { (ports : List Port) × EndsStandFor self.old ports }
+        ensures { (ports : List Port) → EndsStandFor self.old ports
+            → EndsStandFor self.new (with_port host (λ p. record p { desk = record p.desk { notice = notice_of notice } }) ports) }
+    {
+        if let Some(i) = place_of(self.seats.as_slice(), host) {
+            set_notice_at(&mut self.seats, i, &self.pool, host, notice);
+        }
     }
 }
 
@@ -59,4 +93,29 @@ fn send_at(
     ensures answer { (ports : List Port) → AreEnds pool.old seats.old ports → result ≡ takes_at (pipe, message.now) (port_at ports host) }
 {
     seats[i].send(pool, pipe, message)
+}
+
+fn set_aside_at(seats: &mut [Seat], i: usize, pool: &mut Pool, host: u8)
+    requires place { place_in host seats.old ≡ Some i }
+    requires stands { (ports : List Port) × AreEnds pool.old seats.old ports }
+    ensures { (ports : List Port) → AreEnds pool.old seats.old ports → AreEnds pool.new seats.new (with_port host (after_turn SetAside) ports) }
+{
+    seats[i].set_aside(pool, 2 * i as u8);
+}
+
+fn release_at(seats: &mut [Seat], i: usize, pool: &mut Pool, host: u8)
+    requires place { place_in host seats.old ≡ Some i }
+    requires stands { (ports : List Port) × AreEnds pool.old seats.old ports × HasAside (port_at ports host) }
+    ensures { (ports : List Port) → AreEnds pool.old seats.old ports → AreEnds pool.new seats.new (with_port host (after_turn Release) ports) }
+{
+    seats[i].release(pool, 2 * i as u8);
+}
+
+fn set_notice_at(seats: &mut [Seat], i: usize, pool: &Pool, host: u8, notice: Option<Unanswered>)
+    requires place { place_in host seats.old ≡ Some i }
+    requires stands { (ports : List Port) × AreEnds pool.now seats.old ports }
+    ensures { (ports : List Port) → AreEnds pool.now seats.old ports
+        → AreEnds pool.now seats.new (with_port host (λ p. record p { desk = record p.desk { notice = notice_of notice } }) ports) }
+{
+    seats[i].desk.notice = notice;
 }

@@ -24,11 +24,11 @@ pub struct Seat {
 }
 
 impl Seat {
-    ghost use Rattle.std.specs.Prelude.{◌≡◌, ◌≤◌, is_none};
+    ghost use Rattle.std.specs.Prelude.{◌≡◌, ◌≤◌, ◌<◌, is_none};
     ghost use Rattle.block_pool.specs.Pool.{PoolState};
     ghost use Rattle.hcp_packet.specs.Packets.{IsSendable};
     ghost use Rattle.link_machine.specs.Machine.{LinkEnd as Machine, turn, give_refusal};
-    ghost use Rattle.link_machine.specs.Machine.Turn.{Give, Hold};
+    ghost use Rattle.link_machine.specs.Machine.Turn.{Give, Hold, SetAside, Release};
     ghost use Rattle.link_end.specs.Ends.{controls_in};
     ghost use Rattle.node_ends.specs.Holding.{HoldsSeat, Moves};
 
@@ -55,5 +55,30 @@ impl Seat {
         ensures rest { self.new ≡ record self.old { side = self.new.side } }
     {
         self.side.hold(held);
+    }
+
+    /// A block of the end's owner for what goes out, which has this number, is set aside, where one is spare.
+    pub(crate) fn set_aside(&mut self, pool: &mut Pool, owner: u8)
+        requires stands { (m : Machine) × HoldsSeat pool.old self.old m }
+        requires owner { self.old.side.link.outbox.owner ≡ owner }
+        ensures stands { (m : Machine) → HoldsSeat pool.old self.old m → HoldsSeat pool.new self.new (turn m SetAside) }
+        ensures moves { Moves pool.old pool.new self.old.side.link self.new.side.link }
+        ensures rest { self.new ≡ record self.old { side = self.new.side } }
+    {
+        match pool.set_aside(owner) {
+            Ok(()) => {}
+            Err(_full) => {}
+        }
+    }
+
+    /// One that was set aside is free again.
+    pub(crate) fn release(&mut self, pool: &mut Pool, owner: u8)
+        requires stands { (m : Machine) × HoldsSeat pool.old self.old m × (0 < m.aside) }
+        requires owner { self.old.side.link.outbox.owner ≡ owner }
+        ensures stands { (m : Machine) → HoldsSeat pool.old self.old m → HoldsSeat pool.new self.new (turn m Release) }
+        ensures moves { Moves pool.old pool.new self.old.side.link self.new.side.link }
+        ensures rest { self.new ≡ record self.old { side = self.new.side } }
+    {
+        pool.release(owner);
     }
 }
