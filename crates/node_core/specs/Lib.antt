@@ -1,3 +1,4 @@
 pub mod Noting
 pub mod Nodes
 pub mod Bringing
+pub mod Deeds

@@ -2,22 +2,30 @@
 ghost use Rattle.std.specs.Prelude.{◌≡◌};
 
 use crate::copies::copied;
+use crate::deed::Deed;
 use crate::node::Node;
 use crate::noting::note;
 use hci_tables::Command;
+use node_ends::{About, Unanswered};
+use pipe_table::PipeRow;
 use swp_base::Nv;
 use trace_model::{End, Entry, Octets, Watch};
 
 impl<N: Nv + Drop> Node<N> {
-    ghost use Rattle.std.specs.Prelude.{◌≡◌, ◌<◌, ℕ, true, false, List, IsTrue};
+    ghost use Rattle.std.specs.Prelude.{◌≡◌, ◌<◌, ℕ, true, false, List, ◌∷◌, [], length, IsTrue};
     ghost use Rattle.hcp_packet.specs.Packets.{IsSendable};
     ghost use Rattle.trace_model.specs.declared.entry.Entry.{Entry as Noted};
     ghost use Rattle.hci_tables.specs.Commands.{IsCommand};
-    ghost use Rattle.link_machine.specs.Machine.Turn.{Give};
-    ghost use Rattle.node_machine.specs.Parts.{Core, Work};
-    ghost use Rattle.node_machine.specs.Carrying.{turn_at, commit, has_room_for, end_of_node, noting};
+    ghost use Rattle.gate_admin.specs.Decide.{ends_of};
+    ghost use Rattle.link_machine.specs.Machine.Turn.{Give, Release};
+    ghost use Rattle.node_machine.specs.Parts.{Core, Port, Work};
+    ghost use Rattle.node_machine.specs.Parts.Deed.{Asks, SaysOk, Drops};
+    ghost use Rattle.node_ends.specs.Desks.{about_of, creation_of};
+    ghost use Rattle.node_ends.specs.Ends.{EndsStandFor, HasAside};
+    ghost use Rattle.node_machine.specs.Carrying.{turn_at, commit, notified, done, all_done, port_at, has_room_for, end_of_node, noting};
     ghost use Rattle.node_core.specs.Nodes.{IsUnderWay, Runs};
     ghost use Rattle.node_core.specs.Bringing.{Brings};
+    ghost use Rattle.node_core.specs.Deeds.{deed_of, deeds_of, IsDoable, AreDoable};
 
     // The node's end of the link with this host.
     pub(crate) fn end_at(&self, host: u8) -> End
@@ -73,5 +81,164 @@ impl<N: Nv + Drop> Node<N> {
         }
         note(watch, Entry::Cut { node }, &[]);
         false
+    }
+
+    // A notice goes to a host, and isn't answered yet.
+    fn notify<W: Watch>(&mut self, host: u8, about: About, message: &[u8], watch: &mut W)
+        requires runs { Runs self.old }
+        requires some { 0 < length message.now }
+        ensures carried { (start : List Noted) (w : Work) → IsUnderWay self.old (W.noted watch.old) (W.is_short watch.old) start w
+            → IsUnderWay self.new (W.noted watch.new) (W.is_short watch.new) start (notified host (about_of about) message.now w) }
+        ensures store { self.new.store ≡ self.old.store }
+        ensures runs { Runs self.new }
+    {
+        self.send(host, 1, message, watch);
+        self.ends.set_notice(host, Some(Unanswered { about, age: 0 }));
+    }
+
+    // A host is asked for the creation of a pipe.
+    fn ask<W: Watch>(&mut self, row: PipeRow, watch: &mut W)
+        requires runs { Runs self.old }
+        ensures carried { (start : List Noted) (w : Work) → IsUnderWay self.old (W.noted watch.old) (W.is_short watch.old) start w
+            → IsUnderWay self.new (W.noted watch.new) (W.is_short watch.new) start
+            (done 0 (Asks row.dest (18 ∷ ends_of row) (creation_of row)) w) }
+        ensures store { self.new.store ≡ self.old.store }
+        ensures runs { Runs self.new }
+    {
+        self.ends.set_aside(row.creator);
+        let notice = [18, row.creator, row.creator_gate, row.dest, row.dest_gate, row.pid];
+        let asked = Entry::Ask {
+            host: row.dest,
+            message: Octets::new(self.alloc),
+        };
+        note(watch, asked, &notice);
+        self.notify(row.dest, About::Waits(row), &notice, watch);
+    }
+
+    // The block that was set aside for an asker is free.
+    fn release<W: Watch>(&mut self, asker: u8, watch: &mut W)
+        requires runs { Runs self.old }
+        requires aside { (ports : List Port) × EndsStandFor self.old.ends ports × HasAside (port_at ports asker) }
+        ensures carried { (start : List Noted) (w : Work) → IsUnderWay self.old (W.noted watch.old) (W.is_short watch.old) start w
+            → IsUnderWay self.new (W.noted watch.new) (W.is_short watch.new) start (turn_at asker Release w) }
+        ensures store { self.new.store ≡ self.old.store }
+        ensures runs { Runs self.new }
+    {
+        self.ends.release(asker);
+    }
+
+    // ANY_OK was sent for the command that was committed last.
+    fn say_ok<W: Watch>(&mut self, watch: &mut W)
+        requires live { IsTrue self.old.store.journal.live }
+        ensures carried { (start : List Noted) (w : Work) → IsUnderWay self.old (W.noted watch.old) (W.is_short watch.old) start w
+            → IsUnderWay self.new (W.noted watch.new) (W.is_short watch.new) start (done 0 SaysOk w) }
+        ensures same { self.new ≡ self.old }
+    {
+        let count = self.store.kept();
+        note(
+            watch,
+            Entry::AnyOk {
+                node: self.number,
+                count,
+            },
+            &[],
+        );
+    }
+
+    // The message of this end, which came on this pipe, is dropped.
+    fn drop_message<W: Watch>(&mut self, host: u8, pipe: u8, watch: &mut W)
+        ensures carried { (start : List Noted) (w : Work) → IsUnderWay self.old (W.noted watch.old) (W.is_short watch.old) start w
+            → IsUnderWay self.new (W.noted watch.new) (W.is_short watch.new) start (done host (Drops pipe) w) }
+        ensures same { self.new ≡ self.old }
+    {
+        let at = self.end_at(host);
+        note(watch, Entry::Dropped { at, pid: pipe }, &[]);
+    }
+
+    // One deed, where this message of the end with this host is handled. Whether the node has its power still.
+    fn carry_out<W: Watch>(
+        &mut self,
+        host: u8,
+        deed: &Deed,
+        pipe: u8,
+        message: &[u8],
+        watch: &mut W,
+    ) -> bool
+        requires runs { Runs self.old }
+        requires live { IsTrue self.old.store.journal.live }
+        requires doable { (start : List Noted) × (w : Work) × IsUnderWay self.old (W.noted watch.old) (W.is_short watch.old) start w
+            × IsDoable (pipe, message.now) deed.now w }
+        ensures carried { (start : List Noted) (w : Work) → IsUnderWay self.old (W.noted watch.old) (W.is_short watch.old) start w
+            → Brings N.writes self.old.store.journal.nv self.new.store.journal.nv
+            (IsUnderWay self.new (W.noted watch.new) (W.is_short watch.new) start) (done host (deed_of (pipe, message.now) deed.now)) w }
+        ensures live { result ≡ self.new.store.journal.live }
+        ensures runs { Runs self.new }
+    {
+        match deed {
+            Deed::Commits(command) => self.commit(command, watch),
+            Deed::PassesOn { host: to } => {
+                self.send(*to, pipe, message, watch);
+                true
+            }
+            Deed::Sends {
+                host: to,
+                pipe: on,
+                message: answer,
+            } => {
+                self.send(*to, *on, answer.as_slice(), watch);
+                true
+            }
+            Deed::SaysOk => {
+                self.say_ok(watch);
+                true
+            }
+            Deed::Asks(row) => {
+                self.ask(*row, watch);
+                true
+            }
+            Deed::Releases { asker } => {
+                self.release(*asker, watch);
+                true
+            }
+            Deed::Tells { host: to, notice } => {
+                self.notify(*to, About::Removed, notice.as_slice(), watch);
+                true
+            }
+            Deed::IsAnswered => {
+                self.ends.set_notice(host, None);
+                true
+            }
+            Deed::Drops { pipe: on } => {
+                self.drop_message(host, *on, watch);
+                true
+            }
+        }
+    }
+
+    /// Carries out deeds, one after another, until a write fails. Whether the node has its power still.
+    pub(crate) fn carry_all<W: Watch>(
+        &mut self,
+        host: u8,
+        deeds: &[Deed],
+        pipe: u8,
+        message: &[u8],
+        watch: &mut W,
+    ) -> bool
+        requires runs { Runs self.old }
+        requires live { IsTrue self.old.store.journal.live }
+        requires doable { (start : List Noted) × (w : Work) × IsUnderWay self.old (W.noted watch.old) (W.is_short watch.old) start w
+            × AreDoable host (pipe, message.now) deeds.now w }
+        ensures carried { (start : List Noted) (w : Work) → IsUnderWay self.old (W.noted watch.old) (W.is_short watch.old) start w
+            → Brings N.writes self.old.store.journal.nv self.new.store.journal.nv
+            (IsUnderWay self.new (W.noted watch.new) (W.is_short watch.new) start) (all_done host (deeds_of (pipe, message.now) deeds.now)) w }
+        ensures live { result ≡ self.new.store.journal.live }
+        ensures runs { Runs self.new }
+    {
+        for deed in deeds {
+            if !self.carry_out(host, deed, pipe, message, watch) {
+                return false;
+            }
+        }
+        true
     }
 }

@@ -4,7 +4,9 @@
 
 mod carrying;
 mod copies;
+mod deed;
 mod node;
 mod noting;
 
+pub use deed::Deed;
 pub use node::Node;
