@@ -70,7 +70,7 @@ goes_on g w q = rw q refl
 -- ## Writes
 
 module _ {N : Type 0} (writes : N → ℕ → List ℕ → Bool → N → Type 0) where
-  made_append : (a b : List Write) (old mid new : N) (ok : Bool) → AreMade writes a old true mid → AreMade writes b mid ok new
+  pub made_append : (a b : List Write) (old mid new : N) (ok : Bool) → AreMade writes a old true mid → AreMade writes b mid ok new
       → AreMade writes (a ++ b) old ok new
   made_append [] b old mid new ok first later = let P : N → Type 0 = λ m. AreMade writes b m ok new in subst P first.1 later
   made_append (w ∷ a) b old mid new ok (inl fails) later = absurd (true≢false fails.0)

@@ -1,3 +1,4 @@
 pub mod Joining
 pub mod Doing
 pub mod Steps
+pub mod Planned

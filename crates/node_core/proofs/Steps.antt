@@ -16,7 +16,7 @@ use Rattle.node_core.specs.Noting.{unnumbered}
 use Rattle.node_core.specs.Nodes.{CoreStandsFor, IsUnderWay}
 use Rattle.swp_base.specs.InMemory.{Plan}
 use Rattle.hci_store.specs.Stored.{Stored}
-use Rattle.node_core.specs.Bringing.{Brings, Foretells, plan_left}
+use Rattle.node_core.specs.Bringing.{Brings, WereMade, Foretells, plan_left}
 use Rattle.link_machine.specs.Machine.{Message}
 use Rattle.node_machine.specs.Parts.{Deed as DeedOf}
 use Rattle.node_machine.specs.Carrying.{done, all_done}
@@ -162,3 +162,21 @@ split_at deeds i d low = rw (add-one, drop-cons deeds i d) refl
 
 pub none_left : (deeds : List Deed) (i : ℕ) → length deeds ≤ i → drop i deeds ≡ []
 none_left deeds i past = drop_all i deeds past
+
+-- ## What goes before deeds
+
+-- where what goes before has nothing to do with the plan and writes nothing
+pub brings_after : {N : Type 0} {writes : N → ℕ → List ℕ → Bool → N → Type 0} {old old2 new : N} {S : Work → Type 0} {g : Work → Work} {w : Work}
+    (f : Work → Work) → old2 ≡ old → ((plan : Option Plan) → f (record w { plan = plan }) ≡ record (f w) { plan = plan }) → (f w).writes ≡ w.writes
+    → Brings writes old2 new S g (f w) → Brings writes old new S (λ v. g (f v)) w
+brings_after {N} {writes = writes} {new = new} {S = S} {g = g} {w = w} f same is written b =
+    let P : N → Type 0 = λ m. WereMade writes b.sure b.torn m b.after.cut new in
+    record {
+      after = b.after;
+      stands = b.stands;
+      sure = b.sure;
+      torn = b.torn;
+      written = b.written ∙ ap (λ ws. ws ++ (b.sure ++ b.torn)) written;
+      made = subst P same b.made;
+      is = λ plan foretold. ap g (is plan) ∙ b.is plan foretold;
+    }

@@ -2,3 +2,4 @@ pub mod Noting
 pub mod Nodes
 pub mod Bringing
 pub mod Deeds
+pub mod Handling

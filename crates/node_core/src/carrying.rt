@@ -25,6 +25,8 @@ impl<N: Nv + Drop> Node<N> {
     ghost use Rattle.node_machine.specs.Carrying.{turn_at, commit, notified, done, all_done, port_at, has_room_for, end_of_node, noting};
     ghost use Rattle.node_core.specs.Nodes.{IsUnderWay, Runs};
     ghost use Rattle.node_core.specs.Bringing.{Brings};
+    ghost use Rattle.node_machine.specs.Turns.{handles};
+    ghost use Rattle.node_core.specs.Handling.{has_turn};
     ghost use Rattle.node_core.specs.Deeds.{deed_of, deeds_of, IsDoable, AreDoable};
 
     // The node's end of the link with this host.
@@ -240,5 +242,48 @@ impl<N: Nv + Drop> Node<N> {
             }
         }
         true
+    }
+
+    // The message has its turn: that is noted, and its blocks are given back.
+    fn begin_turn<W: Watch>(&mut self, host: u8, pipe: u8, message: &[u8], watch: &mut W)
+        requires runs { Runs self.old }
+        ensures carried { (start : List Noted) (w : Work) → IsUnderWay self.old (W.noted watch.old) (W.is_short watch.old) start w
+            → IsUnderWay self.new (W.noted watch.new) (W.is_short watch.new) start (has_turn host (pipe, message.now) w) }
+        ensures store { self.new.store ≡ self.old.store }
+        ensures runs { Runs self.new }
+    {
+        let turn = Entry::Turn {
+            at: self.end_at(host),
+            pid: pipe,
+            message: Octets::new(self.alloc),
+        };
+        note(watch, turn, message);
+        self.ends.give_back(host);
+        self.ends.set_holds(host, false);
+    }
+
+    /// The message that waits at the end of the link with this host is handled: it is the node's from now on, and these deeds are done.
+    /// Whether the node has its power still.
+    pub(crate) fn handle<W: Watch>(
+        &mut self,
+        host: u8,
+        deeds: &[Deed],
+        pipe: u8,
+        message: &[u8],
+        watch: &mut W,
+    ) -> bool
+        requires runs { Runs self.old }
+        requires live { IsTrue self.old.store.journal.live }
+        requires doable { (start : List Noted) × (w : Work) × IsUnderWay self.old (W.noted watch.old) (W.is_short watch.old) start w
+            × AreDoable host (pipe, message.now) deeds.now (has_turn host (pipe, message.now) w) }
+        ensures carried { (start : List Noted) (w : Work) → IsUnderWay self.old (W.noted watch.old) (W.is_short watch.old) start w
+            → Brings N.writes self.old.store.journal.nv self.new.store.journal.nv
+            (IsUnderWay self.new (W.noted watch.new) (W.is_short watch.new) start)
+            (handles host (pipe, message.now) (deeds_of (pipe, message.now) deeds.now)) w }
+        ensures live { result ≡ self.new.store.journal.live }
+        ensures runs { Runs self.new }
+    {
+        self.begin_turn(host, pipe, message, watch);
+        self.carry_all(host, deeds, pipe, message, watch)
     }
 }

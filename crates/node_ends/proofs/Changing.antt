@@ -11,6 +11,7 @@ use Rattle.node_machine.specs.Parts.{Port, Desk as DeskOf}
 use Rattle.node_machine.specs.Carrying.{port_at, changed_if, with_port, after_turn}
 use Rattle.link_machine.specs.Machine.{LinkEnd as Machine, Turn, turn}
 use Rattle.node_ends.specs.declared.seat.Seat.{Seat}
+use Rattle.node_ends.specs.declared.desk.Desk.{Desk}
 use Rattle.node_ends.specs.Desks.{desk_of}
 use Rattle.link_end.specs.declared.link.LinkEnd.{LinkEnd as Link}
 use Rattle.node_ends.specs.declared.seat.Waiting.{Waiting}
@@ -255,25 +256,46 @@ pub record Turns (old new : PoolState) (seats : List Seat) (h i : ℕ) (x : Turn
   pub rest : t ≡ record (slice_index_or seats i d) { side = t.side }
   pub stands : (m : Machine) → HoldsSeat old (slice_index_or seats i d) m → HoldsSeat new t (turn m x)
 
-pub turns : {old new : PoolState} {seats : List Seat} {h i : ℕ} {x : Turn} {d t : Seat} (ports : List Port) → Turns old new seats h i x d t
+-- the same, where more than the end itself may have changed
+pub record TurnsSo (old new : PoolState) (seats : List Seat) (h i : ℕ) (x : Turn) (d t : Seat) : Type 0 where
+  pub place : place_in h seats ≡ Some i
+  pub moves : Moves old new (slice_index_or seats i d).side.link t.side.link
+  pub desk : t.desk ≡ (slice_index_or seats i d).desk
+  pub late : t.late ≡ (slice_index_or seats i d).late
+  pub ended : t.ended ≡ (slice_index_or seats i d).ended
+  pub stands : (m : Machine) → HoldsSeat old (slice_index_or seats i d) m → HoldsSeat new t (turn m x)
+
+pub turns_so : {old new : PoolState} {seats : List Seat} {h i : ℕ} {x : Turn} {d t : Seat} (ports : List Port) → TurnsSo old new seats h i x d t
     → AreEnds old seats ports → AreEnds new (slice_set seats i t) (with_port h (after_turn x) ports)
-turns {old} {new} {seats} {h} {i} {x} {d} {t} ports c e =
+turns_so {old} {new} {seats} {h} {i} {x} {d} {t} ports c e =
     let p = placed_in h i c.place e in
     let r : Seat = slice_index_or seats i d in
     let same_seat : r ≡ p.seat = read_at seats i p.seat d p.seat_is in
     let host : r.desk.host ≡ h = ap (λ (s : Seat). s.desk.host) same_seat ∙ p.host in
     let one : OneChanges old new h (after_turn x) r t = record {
       before = host;
-      after = ap (λ (s : Seat). s.desk.host) c.rest ∙ host;
+      after = ap (λ (s : Desk). s.host) c.desk ∙ host;
       moves = c.moves;
       stands = λ q g. record {
         holds = c.stands q.side g.holds;
-        desk = ap (λ (s : Seat). desk_of s.desk) c.rest ∙ g.desk;
-        late = ap (λ (s : Seat). s.late) c.rest ∙ g.late;
-        ended = ap (λ (s : Seat). s.ended) c.rest ∙ g.ended;
+        desk = ap desk_of c.desk ∙ g.desk;
+        late = c.late ∙ g.late;
+        ended = c.ended ∙ g.ended;
       };
     } in
     one_changes one i seats ports (p.seat_is ∙ ap (λ (s : Seat). Some s) (sym same_seat)) e
+
+pub turns : {old new : PoolState} {seats : List Seat} {h i : ℕ} {x : Turn} {d t : Seat} (ports : List Port) → Turns old new seats h i x d t
+    → AreEnds old seats ports → AreEnds new (slice_set seats i t) (with_port h (after_turn x) ports)
+turns {x = x} {d = d} {t = t} ports c e =
+    turns_so {x = x} {d = d} {t = t} ports (record {
+      place = c.place;
+      moves = c.moves;
+      desk = ap (λ (s : Seat). s.desk) c.rest;
+      late = ap (λ (s : Seat). s.late) c.rest;
+      ended = ap (λ (s : Seat). s.ended) c.rest;
+      stands = c.stands;
+    }) e
 
 -- the end that is read at a place stands for the port there
 pub record IsRead (pool : PoolState) (ports : List Port) (h : ℕ) (r : Seat) : Type 0 where

@@ -2,3 +2,4 @@ pub mod Turning
 pub mod Moving
 pub mod Changing
 pub mod Setting
+pub mod Apart

@@ -56,6 +56,11 @@ abbrev pub HasAside : Option Port → Type 0
 HasAside None = Unit {0}
 HasAside (Some p) = 0 < p.side.aside
 
+-- at most six control frames wait to be sent at an end, where there is one
+abbrev pub HasFewDue : Option Port → Type 0
+HasFewDue None = Unit {0}
+HasFewDue (Some p) = length p.side.acts + length p.side.shdlc.due ≤ 6
+
 -- what is kept of all ends of a node, with their pool, stands for these ports
 abbrev pub EndsStandFor : Ends → List Port → Type 0
 EndsStandFor e ports = AreEnds e.pool e.seats.items ports

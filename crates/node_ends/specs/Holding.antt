@@ -1,5 +1,6 @@
 -- What is kept of one end with the message that waits there for its turn, and for which states of the end's machine it stands.
-use Rattle.std.specs.Prelude.{◌≡◌, List, [], ◌∷◌, Option, Some, None}
+use Rattle.std.specs.Prelude.{◌≡◌, ◌≤◌, length, List, [], ◌∷◌, Option, Some, None}
+use Rattle.std.specs.List.{AllByRecursion}
 use Rattle.block_pool.specs.declared.chain.Chain.{Chain}
 use Rattle.block_pool.specs.Pool.{PoolState, chain_bytes}
 use Rattle.link_machine.specs.Machine.{LinkEnd as Machine, Message}
@@ -27,6 +28,7 @@ pub record HoldsEnd (pool : PoolState) (k : End) (waiting : Option Waiting) (m :
   pub stands : EndStandsFor k pool (without_got m)
   pub accounts : Accounts k pool (chain_of waiting)
   pub waits : m.got ≡ waiting_in pool waiting
+  pub short : AllByRecursion (λ (x : Message). length x.1 ≤ 4096) m.got
 
 abbrev pub HoldsSeat : PoolState → Seat → Machine → Type 0
 HoldsSeat pool s m = HoldsEnd pool s.side.link s.waiting m

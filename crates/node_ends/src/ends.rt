@@ -1,11 +1,11 @@
 //! The ends of all links of a node in one pool.
 ghost use Rattle.std.specs.Prelude.{◌≡◌, List, Some};
 ghost use Rattle.hcp_packet.specs.Packets.{IsSendable};
-ghost use Rattle.link_machine.specs.Machine.Turn.{Give, SetAside, Release};
+ghost use Rattle.link_machine.specs.Machine.Turn.{Give, Hold, SetAside, Release, FetchMessage};
 ghost use Rattle.node_ends.specs.Desks.{notice_of};
 ghost use Rattle.node_machine.specs.Parts.{Port};
 ghost use Rattle.node_machine.specs.Carrying.{port_at, with_port, after_turn};
-ghost use Rattle.node_ends.specs.Ends.{AreEnds, HasAside, takes_at, place_in};
+ghost use Rattle.node_ends.specs.Ends.{AreEnds, HasAside, HasFewDue, takes_at, place_in};
 
 use crate::desk::Unanswered;
 use crate::places::place_of;
@@ -22,11 +22,11 @@ pub struct Ends {
 impl Ends {
     ghost use Rattle.std.specs.Prelude.{◌≡◌, List};
     ghost use Rattle.hcp_packet.specs.Packets.{IsSendable};
-    ghost use Rattle.link_machine.specs.Machine.Turn.{Give, SetAside, Release};
+    ghost use Rattle.link_machine.specs.Machine.Turn.{Give, Hold, SetAside, Release, FetchMessage};
     ghost use Rattle.node_ends.specs.Desks.{notice_of};
     ghost use Rattle.node_machine.specs.Parts.{Port};
     ghost use Rattle.node_machine.specs.Carrying.{port_at, with_port, after_turn};
-    ghost use Rattle.node_ends.specs.Ends.{EndsStandFor, HasAside, takes_at};
+    ghost use Rattle.node_ends.specs.Ends.{EndsStandFor, HasAside, HasFewDue, takes_at};
 
     /// A message, which isn't empty, is given to the end of the link with this host, to be sent on a pipe that isn't reserved.
     /// Whether there is such an end and it takes the message.
@@ -74,6 +74,37 @@ impl Ends {
             set_notice_at(&mut self.seats, i, &self.pool, host, notice);
         }
     }
+
+    /// The message that waits at the end of the link with this host has its turn: its blocks are given back.
+    pub fn give_back(&mut self, host: u8)
+        requires { (ports : List Port) × EndsStandFor self.old ports }
+        ensures { (ports : List Port) → EndsStandFor self.old ports → EndsStandFor self.new (with_port host (after_turn FetchMessage) ports) }
+    {
+        if let Some(i) = place_of(self.seats.as_slice(), host) {
+            give_back_at(&mut self.seats, i, &mut self.pool, host);
+        }
+    }
+
+    /// That end is held, so that it takes no fragments, or let go. At most six control frames wait there to be sent.
+    pub fn hold(&mut self, host: u8, held: bool)
+        requires { (ports : List Port) × EndsStandFor self.old ports × HasFewDue (port_at ports host) }
+        ensures { (ports : List Port) → EndsStandFor self.old ports → EndsStandFor self.new (with_port host (after_turn (Hold held)) ports) }
+    {
+        if let Some(i) = place_of(self.seats.as_slice(), host) {
+            hold_at(&mut self.seats, i, &self.pool, host, held);
+        }
+    }
+
+    /// Whether the first message that waits there was noted as held.
+    pub fn set_holds(&mut self, host: u8, holds: bool)
+        requires { (ports : List Port) × EndsStandFor self.old ports }
+        ensures { (ports : List Port) → EndsStandFor self.old ports
+            → EndsStandFor self.new (with_port host (λ p. record p { desk = record p.desk { holds = holds } }) ports) }
+    {
+        if let Some(i) = place_of(self.seats.as_slice(), host) {
+            set_holds_at(&mut self.seats, i, &self.pool, host, holds);
+        }
+    }
 }
 
 // The end at this place, that of the link with this host, is given a message.
@@ -118,4 +149,29 @@ fn set_notice_at(seats: &mut [Seat], i: usize, pool: &Pool, host: u8, notice: Op
         → AreEnds pool.now seats.new (with_port host (λ p. record p { desk = record p.desk { notice = notice_of notice } }) ports) }
 {
     seats[i].desk.notice = notice;
+}
+
+fn give_back_at(seats: &mut [Seat], i: usize, pool: &mut Pool, host: u8)
+    requires place { place_in host seats.old ≡ Some i }
+    requires stands { (ports : List Port) × AreEnds pool.old seats.old ports }
+    ensures { (ports : List Port) → AreEnds pool.old seats.old ports → AreEnds pool.new seats.new (with_port host (after_turn FetchMessage) ports) }
+{
+    seats[i].give_back(pool);
+}
+
+fn hold_at(seats: &mut [Seat], i: usize, pool: &Pool, host: u8, held: bool)
+    requires place { place_in host seats.old ≡ Some i }
+    requires stands { (ports : List Port) × AreEnds pool.now seats.old ports × HasFewDue (port_at ports host) }
+    ensures { (ports : List Port) → AreEnds pool.now seats.old ports → AreEnds pool.now seats.new (with_port host (after_turn (Hold held)) ports) }
+{
+    seats[i].hold(held);
+}
+
+fn set_holds_at(seats: &mut [Seat], i: usize, pool: &Pool, host: u8, holds: bool)
+    requires place { place_in host seats.old ≡ Some i }
+    requires stands { (ports : List Port) × AreEnds pool.now seats.old ports }
+    ensures { (ports : List Port) → AreEnds pool.now seats.old ports
+        → AreEnds pool.now seats.new (with_port host (λ p. record p { desk = record p.desk { holds = holds } }) ports) }
+{
+    seats[i].desk.holds = holds;
 }

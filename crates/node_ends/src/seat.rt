@@ -24,11 +24,11 @@ pub struct Seat {
 }
 
 impl Seat {
-    ghost use Rattle.std.specs.Prelude.{◌≡◌, ◌≤◌, ◌<◌, is_none};
+    ghost use Rattle.std.specs.Prelude.{◌≡◌, ◌≤◌, ◌<◌, ◌∷◌, [], is_none, length, take, IfSome, IfNone};
     ghost use Rattle.block_pool.specs.Pool.{PoolState};
     ghost use Rattle.hcp_packet.specs.Packets.{IsSendable};
     ghost use Rattle.link_machine.specs.Machine.{LinkEnd as Machine, turn, give_refusal};
-    ghost use Rattle.link_machine.specs.Machine.Turn.{Give, Hold, SetAside, Release};
+    ghost use Rattle.link_machine.specs.Machine.Turn.{Give, Hold, SetAside, Release, FetchMessage};
     ghost use Rattle.link_end.specs.Ends.{controls_in};
     ghost use Rattle.node_ends.specs.Holding.{HoldsSeat, Moves};
 
@@ -80,5 +80,34 @@ impl Seat {
         ensures rest { self.new ≡ record self.old { side = self.new.side } }
     {
         pool.release(owner);
+    }
+
+    /// The message that waits has its turn: its blocks are given back.
+    pub(crate) fn give_back(&mut self, pool: &mut Pool)
+        requires stands { (m : Machine) × HoldsSeat pool.old self.old m }
+        ensures stands { (m : Machine) → HoldsSeat pool.old self.old m → HoldsSeat pool.new self.new (turn m FetchMessage) }
+        ensures moves { Moves pool.old pool.new self.old.side.link self.new.side.link }
+        ensures rest { self.new ≡ record self.old { waiting = None } }
+    {
+        if let Some(Waiting { chain, pipe: _ }) = self.waiting.take() {
+            pool.give(chain);
+        }
+    }
+
+    /// Copies the message that waits into the front of a buffer of 4,096 bytes. Its pipe, and how many bytes it has.
+    pub(crate) fn read(&self, pool: &Pool, buffer: &mut [u8]) -> Option<(u8, usize)>
+        requires stands { (m : Machine) × HoldsSeat pool.now self.now m }
+        requires buffer { length buffer.old ≡ 4096 }
+        ensures some { (m : Machine) → HoldsSeat pool.now self.now m → IfSome result (λ x. m.got ≡ (x.0, take x.1 buffer.new) ∷ []) }
+        ensures none { (m : Machine) → HoldsSeat pool.now self.now m → IfNone result (m.got ≡ []) }
+        ensures inside { IfSome result (λ x. x.1 ≤ 4096) }
+    {
+        match &self.waiting {
+            Some(waiting) => {
+                let len = pool.copy_out(&waiting.chain, 0, buffer);
+                Some((waiting.pipe, len))
+            }
+            None => None,
+        }
     }
 }
