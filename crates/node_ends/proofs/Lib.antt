@@ -3,3 +3,5 @@ pub mod Moving
 pub mod Changing
 pub mod Setting
 pub mod Apart
+pub mod Quiet
+pub mod Fetching

@@ -1,9 +1,12 @@
 //! One end of a link of a node, and what the node keeps of it.
-ghost use Rattle.std.specs.Prelude.{◌≡◌};
+ghost use Rattle.std.specs.Prelude.{◌≡◌, option_map};
+ghost use Rattle.node_ends.specs.Holding.{as_waiting};
 
 use crate::desk::Desk;
 use block_pool::{Chain, Pool};
-use link_end::LinkEnd;
+use link_end::{LinkEnd, LinkReport};
+use swp_base::Control;
+use swp_lpdu::LpduFault;
 
 /// A message that came to an end and had no turn yet.
 #[derive(Drop)]
@@ -24,13 +27,15 @@ pub struct Seat {
 }
 
 impl Seat {
-    ghost use Rattle.std.specs.Prelude.{◌≡◌, ◌≤◌, ◌<◌, ◌∷◌, [], is_none, length, take, IfSome, IfNone};
+    ghost use Rattle.std.specs.Prelude.{◌≡◌, ◌≤◌, ◌<◌, ◌∷◌, [], ℕ, List, None, is_none, length, take, IfSome, IfNone};
     ghost use Rattle.block_pool.specs.Pool.{PoolState};
     ghost use Rattle.hcp_packet.specs.Packets.{IsSendable};
-    ghost use Rattle.link_machine.specs.Machine.{LinkEnd as Machine, turn, give_refusal};
+    ghost use Rattle.link_machine.specs.Machine.{LinkEnd as Machine, turn, give_refusal, after_input, lpdu_input, report};
+    ghost use Rattle.swp_lpdu.specs.Controls.{control_of};
+    ghost use Rattle.link_end.specs.Reports.{report_told};
     ghost use Rattle.link_machine.specs.Machine.Turn.{Give, Hold, SetAside, Release, FetchMessage};
-    ghost use Rattle.link_end.specs.Ends.{controls_in};
-    ghost use Rattle.node_ends.specs.Holding.{HoldsSeat, Moves};
+    ghost use Rattle.link_end.specs.Ends.{EndStandsFor, Accounts, controls_in};
+    ghost use Rattle.node_ends.specs.Holding.{HoldsSeat, Moves, WaitsHeld};
 
     /// A message, which isn't empty, is given to the end to send on a pipe that isn't reserved. Whether it is taken.
     pub(crate) fn send(&mut self, pool: &mut Pool, pipe: u8, message: &[u8]) -> bool
@@ -109,5 +114,46 @@ impl Seat {
             }
             None => None,
         }
+    }
+
+    /// Takes what an LPDU says, and fetches the message that it brings. While a message waits here the end is held, so that none comes.
+    /// At most six control frames wait to be sent.
+    pub(crate) fn take(&mut self, pool: &mut Pool, read: &Result<Control, LpduFault>) -> LinkReport
+        requires stands { (m : Machine) × HoldsSeat pool.old self.old m × WaitsHeld self.old.waiting m }
+        requires read { (lpdu : List ℕ) × (read.now ≡ control_of lpdu) }
+        requires room { controls_in self.old.side.link ≤ 6 }
+        ensures stands { (m : Machine) (lpdu : List ℕ) → HoldsSeat pool.old self.old m → WaitsHeld self.old.waiting m → read.now ≡ control_of lpdu
+            → HoldsSeat pool.new self.new (after_input m (lpdu_input lpdu)) }
+        ensures answer { (m : Machine) (lpdu : List ℕ) → HoldsSeat pool.old self.old m → read.now ≡ control_of lpdu
+            → result ≡ report_told (report m (lpdu_input lpdu)) }
+        ensures moves { Moves pool.old pool.new self.old.side.link self.new.side.link }
+        ensures desk { self.new.desk ≡ self.old.desk }
+    {
+        let report = self.side.take_read(pool, read);
+        if self.waiting.is_none() {
+            self.fetch();
+        }
+        report
+    }
+
+    /// Fetches the message that came, where one did: it waits from now on.
+    fn fetch(&mut self)
+        ensures holds { (pool : PoolState) (m : Machine) → EndStandsFor self.old.side.link pool m → Accounts self.old.side.link pool None
+            → HoldsSeat pool self.new m }
+        ensures owners { (self.new.side.link.outbox.owner ≡ self.old.side.link.outbox.owner)
+            × (self.new.side.link.inbox.joiner.owner ≡ self.old.side.link.inbox.joiner.owner) }
+        ensures rest { self.new ≡ record self.old { side = self.new.side; waiting = self.new.waiting } }
+    {
+        self.waiting = as_waiting(self.side.next_message());
+    }
+}
+
+// A message that was fetched waits.
+fn as_waiting(message: Option<(u8, Chain)>) -> Option<Waiting>
+    ensures { result ≡ option_map as_waiting message }
+{
+    match message {
+        Some((pipe, chain)) => Some(Waiting { pipe, chain }),
+        None => None,
     }
 }
