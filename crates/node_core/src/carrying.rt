@@ -95,7 +95,8 @@ impl<N: Nv + Drop> Node<N> {
         ensures runs { Runs self.new }
     {
         self.send(host, 1, message, watch);
-        self.ends.set_notice(host, Some(Unanswered { about, age: 0 }));
+        self.ends
+            .set_notice(host, Some(Unanswered { about, age: 0 }));
     }
 
     // A host is asked for the creation of a pipe.
@@ -108,7 +109,14 @@ impl<N: Nv + Drop> Node<N> {
         ensures runs { Runs self.new }
     {
         self.ends.set_aside(row.creator);
-        let notice = [18, row.creator, row.creator_gate, row.dest, row.dest_gate, row.pid];
+        let notice = [
+            18,
+            row.creator,
+            row.creator_gate,
+            row.dest,
+            row.dest_gate,
+            row.pid,
+        ];
         let asked = Entry::Ask {
             host: row.dest,
             message: Octets::new(self.alloc),

@@ -350,11 +350,20 @@ sets_desk {pool} {seats} {h} {i} {f} {d} {t} ports c e =
       moves = stays_beside pool r.side.link t.side.link (ap (λ (k : End). k.outbox) link) (ap (λ (k : End). k.inbox) link);
       stands = λ q g. record {
         holds = (let P : End → Type 0 = λ k. HoldsEnd pool k t.waiting q.side in
-        let Q : Option Waiting → Type 0 = λ w. HoldsEnd pool r.side.link w q.side in
-        subst P (sym link) (subst Q (sym c.waiting) g.holds));
+            let Q : Option Waiting → Type 0 = λ w. HoldsEnd pool r.side.link w q.side in
+            subst P (sym link) (subst Q (sym c.waiting) g.holds));
         desk = c.desk ∙ ap f g.desk;
         late = c.late ∙ g.late;
         ended = c.ended ∙ g.ended;
       };
     } in
     one_changes one i seats ports (p.seat_is ∙ ap (λ (s : Seat). Some s) (sym same_seat)) e
+
+-- the owner of the end there
+pub owner_at_place : {pool : PoolState} {seats : List Seat} {ports : List Port} (h i : ℕ) (place : place_in h seats ≡ Some i) (e : AreEnds pool seats ports)
+    → (placed_in h i place e).seat.side.link.outbox.owner ≡ 2 * i
+owner_at_place {pool} {seats} h i place e =
+    let p = placed_in h i place e in
+    let o = owners_at 0 i seats p.seat p.seat_is e.owners in
+    let q = o.0 in
+    omega (arith, q)

@@ -3,6 +3,9 @@ ghost use Rattle.std.specs.Prelude.{◌≡◌, List, Some};
 ghost use Rattle.hcp_packet.specs.Packets.{IsSendable};
 ghost use Rattle.link_machine.specs.Machine.Turn.{Give, Hold, SetAside, Release, FetchMessage};
 ghost use Rattle.node_ends.specs.Desks.{notice_of};
+ghost use Rattle.std.specs.Option.{option_map_or};
+ghost use Rattle.link_machine.specs.Machine.{spare};
+ghost use Rattle.node_machine.specs.Controller.{has_link};
 ghost use Rattle.node_machine.specs.Parts.{Port};
 ghost use Rattle.node_machine.specs.Carrying.{port_at, with_port, after_turn};
 ghost use Rattle.node_ends.specs.Ends.{AreEnds, HasAside, HasFewDue, takes_at, place_in};
@@ -25,6 +28,9 @@ impl Ends {
     ghost use Rattle.link_machine.specs.Machine.Turn.{Give, Hold, SetAside, Release, FetchMessage};
     ghost use Rattle.node_ends.specs.Desks.{notice_of};
     ghost use Rattle.node_machine.specs.Parts.{Port};
+    ghost use Rattle.std.specs.Option.{option_map_or};
+    ghost use Rattle.link_machine.specs.Machine.{spare};
+    ghost use Rattle.node_machine.specs.Controller.{has_link};
     ghost use Rattle.node_machine.specs.Carrying.{port_at, with_port, after_turn};
     ghost use Rattle.node_ends.specs.Ends.{EndsStandFor, HasAside, HasFewDue, takes_at};
 
@@ -105,6 +111,28 @@ impl Ends {
             set_holds_at(&mut self.seats, i, &self.pool, host, holds);
         }
     }
+
+    /// How many blocks the end of the link with this host has to spare for messages; 0 where there is no such end.
+    pub fn spare(&self, host: u8) -> u16
+        requires { (ports : List Port) × EndsStandFor self.now ports }
+        ensures { (ports : List Port) → EndsStandFor self.now ports → result ≡ option_map_or (λ (p : Port). spare p.side) (port_at ports host) 0 }
+    {
+        let Some(i) = place_of(self.seats.as_slice(), host) else {
+            return 0;
+        };
+        spare_at(self.seats.as_slice(), i, &self.pool, host)
+    }
+
+    /// Whether the link with this host is up.
+    pub fn has_link(&self, host: u8) -> bool
+        requires { (ports : List Port) × EndsStandFor self.now ports }
+        ensures { (ports : List Port) → EndsStandFor self.now ports → result ≡ has_link ports host }
+    {
+        let Some(i) = place_of(self.seats.as_slice(), host) else {
+            return false;
+        };
+        is_up_at(self.seats.as_slice(), i, &self.pool, host)
+    }
 }
 
 // The end at this place, that of the link with this host, is given a message.
@@ -174,4 +202,21 @@ fn set_holds_at(seats: &mut [Seat], i: usize, pool: &Pool, host: u8, holds: bool
         → AreEnds pool.now seats.new (with_port host (λ p. record p { desk = record p.desk { holds = holds } }) ports) }
 {
     seats[i].desk.holds = holds;
+}
+
+fn spare_at(seats: &[Seat], i: usize, pool: &Pool, host: u8) -> u16
+    requires place { place_in host seats.now ≡ Some i }
+    requires stands { (ports : List Port) × AreEnds pool.now seats.now ports }
+    ensures { (ports : List Port) → AreEnds pool.now seats.now ports
+        → result ≡ option_map_or (λ (p : Port). spare p.side) (port_at ports host) 0 }
+{
+    pool.spare((2 * i) as u8)
+}
+
+fn is_up_at(seats: &[Seat], i: usize, pool: &Pool, host: u8) -> bool
+    requires place { place_in host seats.now ≡ Some i }
+    requires stands { (ports : List Port) × AreEnds pool.now seats.now ports }
+    ensures { (ports : List Port) → AreEnds pool.now seats.now ports → result ≡ has_link ports host }
+{
+    seats[i].is_up()
 }

@@ -5,6 +5,7 @@ ghost use Rattle.node_ends.specs.Holding.{as_waiting};
 use crate::desk::Desk;
 use block_pool::{Chain, Pool};
 use link_end::{LinkEnd, LinkReport};
+use shdlc_core::LinkState;
 use swp_base::Control;
 use swp_lpdu::LpduFault;
 
@@ -33,6 +34,7 @@ impl Seat {
     ghost use Rattle.link_machine.specs.Machine.{LinkEnd as Machine, turn, give_refusal, after_input, lpdu_input, report};
     ghost use Rattle.swp_lpdu.specs.Controls.{control_of};
     ghost use Rattle.link_end.specs.Reports.{report_told};
+    ghost use Rattle.session_laws.specs.Sessions.{is_up};
     ghost use Rattle.link_machine.specs.Machine.Turn.{Give, Hold, SetAside, Release, FetchMessage};
     ghost use Rattle.link_end.specs.Ends.{EndStandsFor, Accounts, controls_in};
     ghost use Rattle.node_ends.specs.Holding.{HoldsSeat, Moves, WaitsHeld};
@@ -145,6 +147,17 @@ impl Seat {
         ensures rest { self.new ≡ record self.old { side = self.new.side; waiting = self.new.waiting } }
     {
         self.waiting = as_waiting(self.side.next_message());
+    }
+
+    /// Whether the link is up.
+    pub(crate) fn is_up(&self) -> bool
+        ensures { (pool : PoolState) (m : Machine) → HoldsSeat pool self.now m → result ≡ is_up m.shdlc.phase }
+    {
+        match self.side.state() {
+            LinkState::Up => true,
+            LinkState::Waiting => false,
+            LinkState::Down => false,
+        }
     }
 }
 
