@@ -1,6 +1,6 @@
 -- One of the ends of a node is changed: the ports that they stand for change as the definition says.
 use Rattle.std.proofs.Common.{◌≡◌, ◌≢◌, ℕ, zero, suc, ◌+◌, ◌*◌, ◌<◌, Bool, true, false, List, [], ◌∷◌, length, refl, sym, ap, ◌∙◌, subst, arith, length-set}
-use Rattle.std.specs.Prelude.{◌==◌, Option, Some, None, option_map, slice_get, slice_set, slice_index_or, ◌≤◌}
+use Rattle.std.specs.Prelude.{◌==◌, Option, Some, None, option_map, slice_get, slice_set, slice_index_or, ◌≤◌, IfSome}
 use Rattle.std.specs.List.{AllByRecursion}
 use Rattle.std.proofs.lemmas.Option.{slice_get_within, get_or_from_slice_get}
 use Rattle.std.proofs.lemmas.Bool.{eqb-true, eq-eqb}
@@ -15,9 +15,9 @@ use Rattle.node_ends.specs.declared.desk.Desk.{Desk}
 use Rattle.node_ends.specs.Desks.{desk_of}
 use Rattle.link_end.specs.declared.link.LinkEnd.{LinkEnd as Link}
 use Rattle.node_ends.specs.declared.seat.Waiting.{Waiting}
-use Rattle.node_ends.specs.Holding.{HoldsSeat, HoldsEnd, Moves}
+use Rattle.node_ends.specs.Holding.{HoldsSeat, HoldsEnd, Moves, WaitsHeld}
 use Rattle.node_ends.proofs.Moving.{stays_beside}
-use Rattle.node_ends.specs.Ends.{SeatStandsFor, SeatsStandFor, HaveOwnersFrom, HaveOwnHosts, AreEnds, place_in}
+use Rattle.node_ends.specs.Ends.{SeatStandsFor, SeatsStandFor, HaveOwnersFrom, HaveOwnHosts, AreEnds, AreHeld, place_in}
 
 -- ## Hosts
 
@@ -367,3 +367,31 @@ owner_at_place {pool} {seats} h i place e =
     let o = owners_at 0 i seats p.seat p.seat_is e.owners in
     let q = o.0 in
     omega (arith, q)
+
+-- anything comes to the end at a place
+pub record Comes (old new : PoolState) (seats : List Seat) (h i : ℕ) (f : Port → Port) (d t : Seat) : Type 0 where
+  pub place : place_in h seats ≡ Some i
+  pub moves : Moves old new (slice_index_or seats i d).side.link t.side.link
+  pub host : t.desk.host ≡ (slice_index_or seats i d).desk.host
+  pub stands : (q : Port) → SeatStandsFor old (slice_index_or seats i d) q → SeatStandsFor new t (f q)
+
+pub comes : {old new : PoolState} {seats : List Seat} {h i : ℕ} {f : Port → Port} {d t : Seat} (ports : List Port) → Comes old new seats h i f d t
+    → AreEnds old seats ports → AreEnds new (slice_set seats i t) (with_port h f ports)
+comes {old} {new} {seats} {h} {i} {f} {d} {t} ports c e =
+    let p = placed_in h i c.place e in
+    let r : Seat = slice_index_or seats i d in
+    let same_seat : r ≡ p.seat = read_at seats i p.seat d p.seat_is in
+    let host : r.desk.host ≡ h = ap (λ (s : Seat). s.desk.host) same_seat ∙ p.host in
+    let one : OneChanges old new h f r t = record { before = host; after = c.host ∙ host; moves = c.moves; stands = c.stands } in
+    one_changes one i seats ports (p.seat_is ∙ ap (λ (s : Seat). Some s) (sym same_seat)) e
+
+-- the end at a place is held while a message waits there
+pub held_at : {pool : PoolState} {seats : List Seat} {ports : List Port} (h i : ℕ) (d : Seat) → place_in h seats ≡ Some i → AreEnds pool seats ports
+    → AreHeld seats → WaitsHeld (slice_index_or seats i d).waiting (slice_index_or seats i d).side.link
+held_at {pool} {seats} h i d place e held =
+    let p = placed_in h i place e in
+    let P : Seat → Type 0 = λ s. WaitsHeld s.waiting s.side.link in
+    subst P (sym (read_at seats i p.seat d p.seat_is)) (all_at P seats i p.seat p.seat_is held)
+
+pub if_some : (P : Port → Type 0) (o : Option Port) (p : Port) → o ≡ Some p → P p → IfSome o P
+if_some P o p is h = let Q : Option Port → Type 0 = λ x. IfSome x P in subst Q (sym is) h

@@ -80,9 +80,9 @@ fetches {pool} {before} {after} {m} {o} f =
 
 -- ## A frame may be taken
 
-pub may_take : (pool : PoolState) (k : End) (waiting : Option Waiting) (m : Machine) → HoldsEnd pool k waiting m → WaitsHeld waiting m → MayTake k pool
+pub may_take : (pool : PoolState) (k : End) (waiting : Option Waiting) (m : Machine) → HoldsEnd pool k waiting m → WaitsHeld waiting k → MayTake k pool
 may_take pool k None m h held = rests_may_take k pool (rests k pool (without_got m) h.stands h.accounts refl)
-may_take pool k (Some w) m h held = may_take_held k pool (without_got m) h.stands held refl
+may_take pool k (Some w) m h held = may_take_held k pool (without_got m) h.stands (sym h.stands.halfway.link.kept.ready ∙ held) refl
 
 -- where none waits, all was fetched
 pub none_got : (pool : PoolState) (k : End) (m : Machine) → HoldsEnd pool k None m → without_got m ≡ m

@@ -8,7 +8,7 @@ use Rattle.node_machine.specs.Parts.{Port}
 use Rattle.node_ends.specs.declared.seat.Seat.{Seat}
 use Rattle.node_ends.specs.declared.ends.Ends.{Ends}
 use Rattle.node_ends.specs.Desks.{desk_of}
-use Rattle.node_ends.specs.Holding.{HoldsSeat}
+use Rattle.node_ends.specs.Holding.{HoldsSeat, WaitsHeld}
 
 -- one end with what is kept of it
 pub record SeatStandsFor (pool : PoolState) (s : Seat) (p : Port) : Type 0 where
@@ -60,6 +60,10 @@ HasAside (Some p) = 0 < p.side.aside
 abbrev pub HasFewDue : Option Port → Type 0
 HasFewDue None = Unit {0}
 HasFewDue (Some p) = length p.side.acts + length p.side.shdlc.due ≤ 6
+
+-- while a message waits at an end, it is held
+abbrev pub AreHeld : List Seat → Type 0
+AreHeld seats = AllByRecursion (λ (s : Seat). WaitsHeld s.waiting s.side.link) seats
 
 -- what is kept of all ends of a node, with their pool, stands for these ports
 abbrev pub EndsStandFor : Ends → List Port → Type 0

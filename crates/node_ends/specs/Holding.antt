@@ -41,8 +41,8 @@ pub record Moves (old new : PoolState) (before after : End) : Type 0 where
       → HoldsEnd new other waiting m
 
 -- while a message waits, the end is held
-abbrev pub WaitsHeld : Option Waiting → Machine → Type 0
-WaitsHeld waiting m = IfSome waiting (λ w. m.shdlc.ready ≡ false)
+abbrev pub WaitsHeld : Option Waiting → End → Type 0
+WaitsHeld waiting k = IfSome waiting (λ w. k.shdlc.ready ≡ false)
 
 -- a message that was fetched waits
 abbrev pub as_waiting : ℕ × Chain → Waiting

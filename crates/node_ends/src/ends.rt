@@ -1,5 +1,9 @@
 //! The ends of all links of a node in one pool.
-ghost use Rattle.std.specs.Prelude.{◌≡◌, List, Some};
+ghost use Rattle.std.specs.Prelude.{◌≡◌, ℕ, List, Some, IfSome};
+ghost use Rattle.swp_lpdu.specs.Controls.{control_of};
+ghost use Rattle.link_machine.specs.Machine.{lpdu_input, report};
+ghost use Rattle.link_end.specs.Reports.{report_told};
+ghost use Rattle.node_machine.specs.Node.{has_come};
 ghost use Rattle.hcp_packet.specs.Packets.{IsSendable};
 ghost use Rattle.link_machine.specs.Machine.Turn.{Give, Hold, SetAside, Release, FetchMessage};
 ghost use Rattle.node_ends.specs.Desks.{notice_of};
@@ -8,12 +12,15 @@ ghost use Rattle.link_machine.specs.Machine.{spare};
 ghost use Rattle.node_machine.specs.Controller.{has_link};
 ghost use Rattle.node_machine.specs.Parts.{Port};
 ghost use Rattle.node_machine.specs.Carrying.{port_at, with_port, after_turn};
-ghost use Rattle.node_ends.specs.Ends.{AreEnds, HasAside, HasFewDue, takes_at, place_in};
+ghost use Rattle.node_ends.specs.Ends.{AreEnds, AreHeld, HasAside, HasFewDue, takes_at, place_in};
 
 use crate::desk::Unanswered;
 use crate::places::place_of;
 use crate::seat::Seat;
 use block_pool::Pool;
+use link_end::LinkReport;
+use swp_base::Control;
+use swp_lpdu::LpduFault;
 
 /// The ends of all links of a node in one pool.
 #[derive(Drop)]
@@ -219,4 +226,27 @@ fn is_up_at(seats: &[Seat], i: usize, pool: &Pool, host: u8) -> bool
     ensures { (ports : List Port) → AreEnds pool.now seats.now ports → result ≡ has_link ports host }
 {
     seats[i].is_up()
+}
+
+// Something comes to the end at this place.
+fn take_at(
+    seats: &mut [Seat],
+    i: usize,
+    pool: &mut Pool,
+    host: u8,
+    read: &Result<Control, LpduFault>,
+) -> LinkReport
+    requires place { place_in host seats.old ≡ Some i }
+    requires stands { (ports : List Port) × AreEnds pool.old seats.old ports × HasFewDue (port_at ports host) }
+    requires held { AreHeld seats.old }
+    requires read { (lpdu : List ℕ) × (read.now ≡ control_of lpdu) }
+    ensures stands { (ports : List Port) (lpdu : List ℕ) → AreEnds pool.old seats.old ports → read.now ≡ control_of lpdu
+        → AreEnds pool.new seats.new (with_port host (λ p. has_come p (Some (lpdu_input lpdu))) ports) }
+    ensures answer { (ports : List Port) (lpdu : List ℕ) → AreEnds pool.old seats.old ports → read.now ≡ control_of lpdu
+        → IfSome (port_at ports host) (λ p. result ≡ report_told (report p.side (lpdu_input lpdu))) }
+{
+    let seat = &mut seats[i];
+    let report = seat.take(pool, read);
+    seat.ended = report.ended.is_some();
+    report
 }

@@ -121,15 +121,16 @@ impl Seat {
     /// Takes what an LPDU says, and fetches the message that it brings. While a message waits here the end is held, so that none comes.
     /// At most six control frames wait to be sent.
     pub(crate) fn take(&mut self, pool: &mut Pool, read: &Result<Control, LpduFault>) -> LinkReport
-        requires stands { (m : Machine) × HoldsSeat pool.old self.old m × WaitsHeld self.old.waiting m }
+        requires stands { (m : Machine) × HoldsSeat pool.old self.old m }
+        requires held { WaitsHeld self.old.waiting self.old.side.link }
         requires read { (lpdu : List ℕ) × (read.now ≡ control_of lpdu) }
         requires room { controls_in self.old.side.link ≤ 6 }
-        ensures stands { (m : Machine) (lpdu : List ℕ) → HoldsSeat pool.old self.old m → WaitsHeld self.old.waiting m → read.now ≡ control_of lpdu
+        ensures stands { (m : Machine) (lpdu : List ℕ) → HoldsSeat pool.old self.old m → read.now ≡ control_of lpdu
             → HoldsSeat pool.new self.new (after_input m (lpdu_input lpdu)) }
         ensures answer { (m : Machine) (lpdu : List ℕ) → HoldsSeat pool.old self.old m → read.now ≡ control_of lpdu
             → result ≡ report_told (report m (lpdu_input lpdu)) }
         ensures moves { Moves pool.old pool.new self.old.side.link self.new.side.link }
-        ensures desk { self.new.desk ≡ self.old.desk }
+        ensures rest { self.new ≡ record self.old { side = self.new.side; waiting = self.new.waiting } }
     {
         let report = self.side.take_read(pool, read);
         if self.waiting.is_none() {

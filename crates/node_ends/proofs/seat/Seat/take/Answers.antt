@@ -13,10 +13,10 @@ use Rattle.node_ends.proofs.seat.Seat.take.Goals as goal
 pub take_read-report-requires-clause-ready : goal.take_read-report-requires-clause-ready
 take_read-report-requires-clause-ready c =
     let r = c.requires.stands in
-    may_take c.args.pool.now c.args.self.now.side.link c.args.self.now.waiting r.0 r.1 r.2
+    may_take c.args.pool.now c.args.self.now.side.link c.args.self.now.waiting r.0 r.1 c.requires.held
 
 pub returns-then-is_none-clause-stands : goal.returns-then-is_none-clause-stands
-returns-then-is_none-clause-stands c m lpdu h held is =
+returns-then-is_none-clause-stands c m lpdu h is =
     let t = c.take_read-report in
     let none : c.args.self.now.waiting ≡ None = none_waits c.args.self.now.waiting c.if-is_none.ensures in
     let P : Option Waiting → Type 0 = λ o. HoldsEnd c.args.pool.now c.args.self.now.side.link o m in
@@ -37,15 +37,15 @@ returns-then-is_none-clause-moves c =
     (call_moves c.args.pool.now t.new.pool c.args.self.now.side.link t.new.self.link (without_got r.0) r.1.stands t.ensures.elsewhere) c.fetch.ensures.owners
 
 pub returns-else-is_none-clause-stands : goal.returns-else-is_none-clause-stands
-returns-else-is_none-clause-stands c m lpdu h held is =
+returns-else-is_none-clause-stands c m lpdu h is =
     let t = c.take_read-report in
     let k = c.args.self.now.side.link in
     let some = one_waits c.args.self.now.waiting c.if-is_none.ensures in
     let P : Option Waiting → Type 0 = λ o. HoldsEnd c.args.pool.now k o m in
-    let W : Option Waiting → Type 0 = λ o. WaitsHeld o m in
+    let W : Option Waiting → Type 0 = λ o. WaitsHeld o k in
     let Q : Option Waiting → Type 0 = λ o. HoldsEnd t.new.pool t.new.self.link o (after_input m (lpdu_input lpdu)) in
     subst Q (sym some.1)
-    (waits_still c.args.pool.now t.new.pool k t.new.self.link some.0 m lpdu (subst P some.1 h) (held_gets_none m lpdu (subst W some.1 held))
+    (waits_still c.args.pool.now t.new.pool k t.new.self.link some.0 m lpdu (subst P some.1 h) (held_gets_none m lpdu (sym h.stands.halfway.link.kept.ready ∙ subst W some.1 c.requires.held))
     (lpdu_is_outside lpdu) t.ensures.elsewhere (t.ensures.stands (without_got m) lpdu h.stands is))
 
 pub returns-else-is_none-clause-answer : goal.returns-else-is_none-clause-answer
