@@ -1,6 +1,6 @@
 -- One deed, as it is done and as it is noted.
 use Rattle.std.proofs.Common.{◌≡◌, ◌≢◌, ℕ, Bool, true, false, not, List, [], ◌∷◌, ◌++◌, map, length, refl, sym, ap, ◌∙◌, subst, append_assoc, append-nil}
-use Rattle.std.specs.Prelude.{Option, Some, None, is_none, is_ok, ◌==◌, ◌⊎◌, IsTrue, Result, Ok, Err}
+use Rattle.std.specs.Prelude.{Option, Some, None, is_none, is_ok, ◌==◌, ◌⊎◌, Result, Ok, Err}
 use Rattle.std.proofs.Common.{inl, inr}
 use Rattle.nv_journal.specs.declared.JournalFault.{JournalFault}
 use Rattle.nv_journal.specs.declared.JournalFault.TheVariants.{NvFault, GenerationsSpent}
@@ -8,12 +8,11 @@ use Rattle.std.specs.Option.{option_map_or}
 use Rattle.std.proofs.lemmas.Bool.{true≢false, eqb-true}
 use Rattle.trace_model.specs.declared.entry.Entry.{Entry}
 use Rattle.trace_model.specs.declared.entry.Entry.TheVariants as entry
-use Rattle.swp_base.specs.InMemory.{Plan}
 use Rattle.journal_laws.specs.Writes.{Write, AreMade}
 use Rattle.journal_laws.specs.Planned.{fails_within}
 use Rattle.journal_laws.specs.declared.state.State.{State}
 use Rattle.hci_tables.specs.declared.command.Command.{Command}
-use Rattle.hci_tables.specs.Tables.{HciTables, apply}
+use Rattle.hci_tables.specs.Tables.{apply}
 use Rattle.hci_tables.specs.Bodies.{body_of}
 use Rattle.hci_store.specs.Stored.{Stored}
 use Rattle.hci_store.specs.Committing.{record_fits, commit_writes, committed}

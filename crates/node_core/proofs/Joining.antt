@@ -1,9 +1,9 @@
 -- What a node does one thing after another, as far as its memory goes along.
-use Rattle.std.proofs.Common.{◌≡◌, ◌⊎◌, inl, inr, ℕ, suc, ◌+◌, ◌-◌, Bool, true, false, List, [], ◌∷◌, ◌++◌, length, refl, sym, ap, ◌∙◌, subst, arith, append_assoc, append-nil}
+use Rattle.std.proofs.Common.{◌≡◌, inl, inr, ℕ, suc, ◌-◌, Bool, true, false, List, [], ◌∷◌, ◌++◌, length, refl, sym, ap, ◌∙◌, subst, arith, append_assoc, append-nil}
 use Rattle.std.specs.Prelude.{Option, Some, None, ◌==◌, ◌&&◌, nat_le}
 use Rattle.std.proofs.lemmas.Bool.{true≢false, eqb-true}
 use Rattle.std.proofs.lemmas.Bool.Decides.{nat_tests}
-use Rattle.swp_base.specs.InMemory.{Plan, is_next, plan_after}
+use Rattle.swp_base.specs.InMemory.{Plan, plan_after}
 use Rattle.journal_laws.specs.Writes.{Write, AreMade}
 use Rattle.journal_laws.specs.Planned.{fails_within}
 use Rattle.node_machine.specs.Parts.{Work}

@@ -1,9 +1,8 @@
 -- Over a memory whose failing write is planned, what a node did is what the machine does under that plan.
 use Rattle.std.proofs.Common.{◌≡◌, inl, inr, ℕ, Bool, true, false, not, List, [], ◌∷◌, ◌++◌, length, refl, sym, ap, ◌∙◌, subst, append-nil}
-use Rattle.std.specs.Prelude.{Option, Some, None, if◌then◌else◌}
+use Rattle.std.specs.Prelude.{None}
 use Rattle.std.proofs.lemmas.Bool.{true≢false, not-false, not-true}
-use Rattle.swp_base.specs.InMemory.{Plan, Memory, is_next, plan_after, memory_after, torn_bytes, WritesAsPlanned}
-use Rattle.swp_base.specs.Outside.{one_more, overwritten}
+use Rattle.swp_base.specs.InMemory.{Memory, is_next, memory_after, WritesAsPlanned}
 use Rattle.journal_laws.specs.Writes.{Write, AreMade}
 use Rattle.journal_laws.specs.Planned.{fails_within, after_planned}
 use Rattle.journal_laws.proofs.Planned.{plan_of_memory_after, planned_answer, planned_memory}

@@ -1,7 +1,6 @@
 -- The parts of deeds: what is noted, what is done to an end, and what is kept of it.
-use Rattle.std.proofs.Common.{◌≡◌, ℕ, Bool, true, false, not, List, [], ◌∷◌, ◌++◌, map, refl, sym, ap, ◌∙◌, subst, append-nil, ◌+◌, ◌<◌, ◌≤◌, length, drop, add-one, drop-cons, arith}
+use Rattle.std.proofs.Common.{◌≡◌, ℕ, Bool, true, false, not, List, [], ◌∷◌, ◌++◌, map, refl, sym, ap, ◌∙◌, subst, append-nil, ◌+◌, ◌<◌, ◌≤◌, length, drop, add-one, drop-cons}
 use Rattle.std.specs.Prelude.{slice_index_or}
-use Rattle.std.proofs.lemmas.Bool.{true≢false}
 use Rattle.std.proofs.lemmas.List.{drop_all}
 use Rattle.std.specs.Prelude.{Option, Some, None}
 use Rattle.std.specs.Option.{option_map_or}
@@ -13,7 +12,7 @@ use Rattle.node_ends.specs.declared.ends.Ends.{Ends}
 use Rattle.node_ends.specs.Ends.{EndsStandFor}
 use Rattle.node_core.specs.declared.node.Node.{Node}
 use Rattle.node_core.specs.Noting.{unnumbered}
-use Rattle.node_core.specs.Nodes.{CoreStandsFor, IsUnderWay}
+use Rattle.node_core.specs.Nodes.{IsUnderWay}
 use Rattle.swp_base.specs.InMemory.{Plan}
 use Rattle.hci_store.specs.Stored.{Stored}
 use Rattle.node_core.specs.Bringing.{Brings, WereMade, Foretells, plan_left}
@@ -22,7 +21,7 @@ use Rattle.node_machine.specs.Parts.{Deed as DeedOf}
 use Rattle.node_machine.specs.Carrying.{done, all_done}
 use Rattle.node_core.specs.declared.deed.Deed.{Deed}
 use Rattle.node_core.specs.declared.deed.Deed.TheVariants as kept
-use Rattle.node_core.specs.Deeds.{deed_of, deeds_of, IsDoable, AreDoable}
+use Rattle.node_core.specs.Deeds.{deed_of, IsDoable, AreDoable}
 use Rattle.node_core.proofs.Joining.{brings_plain, brings_then, brings_cut}
 use Rattle.node_core.proofs.Doing.{more_noted}
 

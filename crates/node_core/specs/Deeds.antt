@@ -1,5 +1,5 @@
 -- Deeds as the machine of a node has them, and when they may be done.
-use Rattle.std.specs.Prelude.{◌≡◌, ℕ, true, List, [], ◌∷◌, map, Option, None}
+use Rattle.std.specs.Prelude.{◌≡◌, ℕ, true, List, [], ◌∷◌, map, None}
 use Rattle.gate_admin.specs.Decide.{ends_of}
 use Rattle.hcp_packet.specs.Packets.{IsSendable}
 use Rattle.hci_tables.specs.Commands.{IsCommand}

@@ -1,5 +1,5 @@
 -- What is kept of a node, and for which states of its machine it stands.
-use Rattle.std.specs.Prelude.{◌≡◌, ℕ, Bool, true, false, not, List, ◌++◌, map, IsSome, IsTrue}
+use Rattle.std.specs.Prelude.{◌≡◌, Bool, false, not, List, ◌++◌, map, IsSome, IsTrue}
 use Rattle.trace_model.specs.declared.entry.Entry.{Entry}
 use Rattle.node_machine.specs.Parts.{Core, Port, Work}
 use Rattle.node_ends.specs.Ends.{EndsStandFor}

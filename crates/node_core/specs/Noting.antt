@@ -1,5 +1,4 @@
 -- Entries as a node notes them: it sees one end of each link alone, and so notes the number of every session as 0.
-use Rattle.std.specs.Prelude.{List, map}
 use Rattle.trace_model.specs.declared.entry.Entry.{Entry}
 use Rattle.trace_model.specs.declared.entry.Entry.TheVariants.{Up, Sent, Got, Acked}
 

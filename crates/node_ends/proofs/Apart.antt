@@ -1,5 +1,5 @@
 -- What comes to an end has nothing to do with the messages that came there before and wait.
-use Rattle.std.proofs.Common.{◌≡◌, ℕ, Bool, true, false, List, [], ◌∷◌, ◌++◌, length, drop, refl, sym, ap, ◌∙◌, append-nil, append_assoc}
+use Rattle.std.proofs.Common.{◌≡◌, ℕ, Bool, true, false, List, [], ◌++◌, refl, sym, ap, ◌∙◌, append-nil}
 use Rattle.std.specs.Prelude.{Option, Some, None, is_some, ◌+◌, if◌then◌else◌}
 use Rattle.std.proofs.lemmas.Bool.{true≢false}
 use Rattle.swp_base.specs.declared.control_frames.Control.{Control}
@@ -12,7 +12,7 @@ use Rattle.shdlc_core.specs.declared.answers.LinkState.{LinkState}
 use Rattle.shdlc_core.specs.declared.answers.LinkState.TheVariants.{Down, Waiting, Up}
 use Rattle.shdlc_core.specs.Machine.{EndState, taken, take_answer, ticked, tick_answer, stopped, reset_with}
 use Rattle.link_machine.specs.Machine.{LinkEnd as Machine, Message, Refused, LinkInput, after_input, got_by, took, brought, heard, news, moved, put_down, activated}
-use Rattle.link_machine.specs.Machine.{with_act, act_answer, role_after, is_open, is_faulty, reset_refusal, reset_by, if_up, window_of, started, deactivated, had_tick}
+use Rattle.link_machine.specs.Machine.{with_act, act_answer, role_after, is_open, is_faulty, reset_refusal, if_up, window_of, started, deactivated, had_tick}
 use Rattle.link_machine.specs.Machine.LinkInput.{Take, TakeUnknown, TakeBroken, Tick, Reset, Start, Stop, FromNode, Fetch}
 
 -- an end where these messages wait

@@ -1,11 +1,11 @@
 -- A frame comes to an end, and the message that it brings is fetched.
-use Rattle.std.proofs.Common.{◌≡◌, ◌⊎◌, ℕ, ◌≤◌, Bool, true, false, List, [], ◌∷◌, ◌++◌, length, drop, map, refl, sym, ap, ◌∙◌, subst, append-nil}
-use Rattle.std.specs.Prelude.{Option, Some, None, option_map, option_to_list, IfSome}
+use Rattle.std.proofs.Common.{◌≡◌, ℕ, ◌≤◌, true, false, List, [], ◌∷◌, ◌++◌, length, drop, refl, sym, ap, ◌∙◌, subst, append-nil}
+use Rattle.std.specs.Prelude.{Option, Some, None, option_map, option_to_list}
 use Rattle.std.specs.List.{AllByRecursion}
 use Rattle.block_pool.specs.declared.chain.Chain.{Chain}
 use Rattle.block_pool.specs.Pool.{PoolState, chain_bytes}
 use Rattle.hcp_chain.specs.declared.joiner.Open.{Open}
-use Rattle.hcp_chain.specs.Holding.{IsOwnOpen, HoldsChains, messages_in as messages_of}
+use Rattle.hcp_chain.specs.Holding.{IsOwnOpen, messages_in as messages_of}
 use Rattle.hcp_chain.proofs.HoldingLemmas.{all_front}
 use Rattle.link_machine.specs.Machine.{LinkEnd as Machine, Message, oldest, after_input, got_by, turn, lpdu_input}
 use Rattle.link_machine.specs.Machine.Turn.{FetchMessage}
@@ -19,10 +19,10 @@ use Rattle.swp_lpdu.specs.declared.LpduFault.{LpduFault}
 use Rattle.std.specs.Prelude.{Result, Ok, Err, ◌-◌, is_some}
 use Rattle.std.proofs.lemmas.Bool.{true≢false}
 use Rattle.link_messages.specs.declared.inbox.Got.{Got}
-use Rattle.link_messages.specs.Incoming.{got_chains, chains_in, came_whole}
+use Rattle.link_messages.specs.Incoming.{got_chains}
 use Rattle.link_end.specs.declared.«end».End.{End}
 use Rattle.link_end.specs.Ends.{EndStandsFor, EndLeavesOthers, Accounts, MayTake}
-use Rattle.link_end.proofs.AccountLemmas.{rests, rests_may_take, may_take_held, account_kept}
+use Rattle.link_end.proofs.AccountLemmas.{rests, rests_may_take, may_take_held}
 use Rattle.node_ends.specs.declared.seat.Waiting.{Waiting}
 use Rattle.node_ends.specs.Holding.{waiting_in, chain_of, without_got, as_waiting, HoldsEnd, Moves, WaitsHeld}
 use Rattle.node_ends.proofs.Apart.{with_got, is_outside, took_apart, input_apart}

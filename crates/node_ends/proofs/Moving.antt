@@ -1,6 +1,6 @@
 -- What calls on one end leave of the ends beside it in the pool.
 use Rattle.std.proofs.Common.{◌≡◌, ◌≢◌, ℕ, List, [], ◌∷◌, refl, sym, ap, ◌∙◌, subst}
-use Rattle.std.specs.Prelude.{Option, Some, None, IfSome, length, ◌≤◌, drop}
+use Rattle.std.specs.Prelude.{Option, Some, None, length, ◌≤◌, drop}
 use Rattle.std.specs.List.{AllByRecursion}
 use Rattle.block_pool.specs.declared.chain.Chain.{Chain}
 use Rattle.block_pool.specs.Pool.{PoolState, IsLive, chain_bytes, IsApart, Gives, KeepsOthers}
@@ -17,7 +17,7 @@ use Rattle.link_messages.specs.declared.outbox.Queued.{Queued}
 use Rattle.link_messages.specs.Outgoing.{chain_in}
 use Rattle.link_messages.specs.Incoming.{chains_in}
 use Rattle.link_end.specs.declared.«end».End.{End}
-use Rattle.link_end.specs.Ends.{EndStandsFor, EndLeavesOthers, HaveOwners, Accounts, controls_in, due_of}
+use Rattle.link_end.specs.Ends.{EndStandsFor, EndLeavesOthers, Accounts, controls_in, due_of}
 use Rattle.link_end.proofs.AccountLemmas.{kept_beside_call, account_kept, account_moved, given_beside, given_own}
 use Rattle.node_ends.specs.declared.seat.Waiting.{Waiting}
 use Rattle.node_ends.specs.Holding.{waiting_in, chain_of, without_got, HoldsEnd, Moves}

@@ -1,9 +1,8 @@
 -- An end that isn't ready accepts nothing, so that no message comes to it.
-use Rattle.std.proofs.Common.{◌≡◌, ◌⊎◌, inl, inr, ℕ, Bool, true, false, List, [], ◌∷◌, ◌++◌, length, drop, refl, sym, ap, ◌∙◌}
+use Rattle.std.proofs.Common.{◌≡◌, ◌⊎◌, inl, inr, ℕ, Bool, true, false, List, [], length, drop, refl, ap, ◌∙◌}
 use Rattle.std.proofs.lemmas.List.{drop_all}
 use Rattle.std.specs.Prelude.{Option, Some, None, ◌==◌, if◌then◌else◌}
-use Rattle.std.proofs.Common.{arith, ◌≤◌}
-use Rattle.swp_base.specs.declared.data_units.Info.{Info}
+use Rattle.std.proofs.Common.{arith}
 use Rattle.swp_base.specs.declared.control_frames.Control.{Control}
 use Rattle.swp_base.specs.declared.control_frames.Control.TheVariants.{I, S, Rset, Ua, Act as ActFrame, Clt}
 use Rattle.swp_base.specs.declared.control_frames.Kind.{Kind}
@@ -13,7 +12,7 @@ use Rattle.swp_lpdu.specs.declared.LpduFault.{LpduFault}
 use Rattle.std.specs.Prelude.{Result, Ok, Err}
 use Rattle.shdlc_core.specs.declared.answers.LinkState.{LinkState}
 use Rattle.shdlc_core.specs.declared.answers.LinkState.TheVariants.{Down, Waiting, Up}
-use Rattle.shdlc_core.specs.Machine.{EndState, Session, Fragment, taken, place_of}
+use Rattle.shdlc_core.specs.Machine.{EndState, Fragment, taken, place_of}
 use Rattle.link_machine.specs.Machine.{LinkEnd as Machine, Message, brought, news, messages_got, is_open, is_faulty, got_by, lpdu_input}
 
 -- what an end has accepted after a frame: the same, or nothing, in a new session

@@ -1,29 +1,27 @@
 -- A block is set aside for an end, or released.
-use Rattle.std.proofs.Common.{◌≡◌, ◌≢◌, ℕ, ◌+◌, ◌-◌, ◌≤◌, ◌<◌, ◌*◌, Bool, true, false, List, [], ◌∷◌, length, map, refl, sym, ap, ◌∙◌, subst, arith, inl, inr}
+use Rattle.std.proofs.Common.{◌≡◌, ◌≢◌, ℕ, ◌+◌, ◌-◌, ◌≤◌, ◌<◌, Bool, true, false, List, length, refl, sym, ap, ◌∙◌, subst, arith}
 use Rattle.std.proofs.lemmas.List.{get_or-set_same, get_or-set_other}
 use Rattle.std.proofs.Common.{length-set}
-use Rattle.std.specs.Prelude.{Option, Some, None, nat_lt, IsOk, Result}
-use Rattle.std.proofs.lemmas.Bool.{lt-ltb, ltb-false, ltb-true}
+use Rattle.std.specs.Prelude.{Option, nat_lt}
+use Rattle.std.proofs.lemmas.Bool.{lt-ltb, ltb-true}
 use Rattle.block_pool.specs.declared.chain.Chain.{Chain}
 use Rattle.block_pool.specs.declared.owners.Owner.{Owner}
 use Rattle.block_pool.specs.Slots.{Places, Held}
 use Rattle.block_pool.specs.Owners.{owner_at, with_aside}
-use Rattle.block_pool.specs.Pool.{PoolState, HasQuota, quota_of, used_of, aside_of, spare_of, IsLive, chain_bytes}
-use Rattle.block_pool.specs.Holdings.{IsOwnChain, OwnsAll, LiesApart}
+use Rattle.block_pool.specs.Pool.{PoolState, used_of, aside_of, spare_of, IsLive, chain_bytes}
+use Rattle.block_pool.specs.Holdings.{IsOwnChain}
 use Rattle.block_pool.proofs.HoldingLemmas.{all_mapped, counted_keeps}
 use Rattle.hcp_chain.specs.declared.joiner.Open.{Open}
-use Rattle.hcp_chain.specs.Holding.{IsOwnOpen, IsApartFrom, held_blocks}
-use Rattle.link_machine.specs.Machine.{LinkEnd as Machine, turn, spare, aside_refusal}
+use Rattle.hcp_chain.specs.Holding.{IsOwnOpen, held_blocks}
+use Rattle.link_machine.specs.Machine.{LinkEnd as Machine, turn, spare}
 use Rattle.link_machine.specs.Machine.Turn.{SetAside, Release}
 use Rattle.link_messages.specs.declared.outbox.Queued.{Queued}
-use Rattle.link_messages.specs.Outgoing.{chain_in}
 use Rattle.link_messages.specs.Incoming.{chains_in}
 use Rattle.link_end.specs.declared.«end».End.{End}
 use Rattle.link_end.specs.Ends.{EndStandsFor, EndLeavesOthers}
 use Rattle.link_end.proofs.NodeLemmas.{spare_is}
 use Rattle.node_ends.specs.declared.seat.Waiting.{Waiting}
 use Rattle.node_ends.specs.Holding.{without_got, HoldsEnd, Moves}
-use Rattle.node_ends.proofs.Turning.{aside_without, aside_got}
 use Rattle.node_ends.proofs.Moving.{call_moves, call_holds}
 
 -- so many blocks of this owner are used and set aside now, and no chain has changed

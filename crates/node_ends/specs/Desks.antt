@@ -1,5 +1,5 @@
 -- What is kept of an end beside the end itself, as the machine of a node has it.
-use Rattle.std.specs.Prelude.{List, [], ◌∷◌, Option, Some, None}
+use Rattle.std.specs.Prelude.{Option, Some, None}
 use Rattle.pipe_table.specs.declared.row.PipeRow.{PipeRow}
 use Rattle.hci_tables.specs.declared.command.Command.TheVariants.{Create}
 use Rattle.gate_answers.specs.declared.response.Response.TheVariants as response

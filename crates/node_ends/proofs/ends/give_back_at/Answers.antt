@@ -1,10 +1,7 @@
-use Rattle.std.proofs.Common.{sym, ap, ◌∙◌, arith, refl, subst}
-use Rattle.std.specs.Prelude.{None}
+use Rattle.std.proofs.Common.{ap, arith}
 use Rattle.node_ends.specs.declared.seat.Seat.{Seat}
-use Rattle.node_ends.specs.Ends.{HasFewDue}
-use Rattle.link_machine.specs.Machine.Turn.{Hold, FetchMessage}
-use Rattle.node_ends.proofs.Moving.{few_controls}
-use Rattle.node_ends.proofs.Changing.{within, turns, turns_so, reads, sets_desk}
+use Rattle.link_machine.specs.Machine.Turn.{FetchMessage}
+use Rattle.node_ends.proofs.Changing.{within, turns_so, reads}
 use Rattle.node_ends.proofs.ends.give_back_at.Goals as goal
 
 pub offset_bounds-seats-i : goal.offset_bounds-seats-i

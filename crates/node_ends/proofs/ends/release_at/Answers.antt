@@ -1,7 +1,7 @@
-use Rattle.std.proofs.Common.{sym, ap, ◌∙◌, arith, refl, subst}
+use Rattle.std.proofs.Common.{arith, subst}
 use Rattle.node_ends.specs.Ends.{HasAside}
-use Rattle.link_machine.specs.Machine.Turn.{SetAside, Release}
-use Rattle.node_ends.proofs.Changing.{within, turns, reads, owner_is, sets_desk}
+use Rattle.link_machine.specs.Machine.Turn.{Release}
+use Rattle.node_ends.proofs.Changing.{within, turns, reads, owner_is}
 use Rattle.node_ends.proofs.ends.release_at.Goals as goal
 
 pub offset_bounds-seats-i : goal.offset_bounds-seats-i

@@ -1,9 +1,5 @@
-use Rattle.std.proofs.Common.{sym, ap, ◌∙◌, arith, refl, subst}
-use Rattle.std.specs.Prelude.{None}
-use Rattle.node_ends.specs.Ends.{HasFewDue}
-use Rattle.link_machine.specs.Machine.Turn.{Hold, FetchMessage}
-use Rattle.node_ends.proofs.Moving.{few_controls}
-use Rattle.node_ends.proofs.Changing.{within, turns, turns_so, reads, sets_desk}
+use Rattle.std.proofs.Common.{arith, refl}
+use Rattle.node_ends.proofs.Changing.{within, sets_desk}
 use Rattle.node_ends.proofs.ends.set_holds_at.Goals as goal
 
 pub offset_bounds-seats-i : goal.offset_bounds-seats-i

@@ -1,7 +1,6 @@
-use Rattle.std.proofs.Common.{sym, ap, ◌∙◌, arith, refl}
-use Rattle.link_machine.specs.Machine.Turn.{SetAside, Release}
+use Rattle.std.proofs.Common.{arith, refl}
 use Rattle.node_ends.specs.Desks.{notice_of}
-use Rattle.node_ends.proofs.Changing.{within, turns, reads, owner_is, sets_desk}
+use Rattle.node_ends.proofs.Changing.{within, sets_desk}
 use Rattle.node_ends.proofs.ends.set_notice_at.Goals as goal
 
 pub offset_bounds-seats-i : goal.offset_bounds-seats-i

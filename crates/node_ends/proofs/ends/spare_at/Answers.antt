@@ -1,11 +1,10 @@
-use Rattle.std.proofs.Common.{◌≡◌, ℕ, ◌<◌, length, sym, ap, ◌∙◌, arith, subst}
+use Rattle.std.proofs.Common.{ℕ, ◌<◌, length, sym, ap, ◌∙◌, arith, subst}
 use Rattle.std.specs.Prelude.{Option}
 use Rattle.std.specs.Option.{option_map_or}
 use Rattle.block_pool.specs.Pool.{spare_of}
 use Rattle.link_machine.specs.Machine.{spare}
 use Rattle.link_end.proofs.NodeLemmas.{spare_is}
 use Rattle.node_machine.specs.Parts.{Port}
-use Rattle.node_ends.specs.declared.seat.Seat.{Seat}
 use Rattle.node_ends.specs.Holding.{without_got}
 use Rattle.node_ends.proofs.Changing.{within, placed_in, owner_at_place}
 use Rattle.node_ends.proofs.ends.spare_at.Goals as goal

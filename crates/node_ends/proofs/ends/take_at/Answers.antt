@@ -1,4 +1,4 @@
-use Rattle.std.proofs.Common.{◌≡◌, List, ℕ, sym, ap, ◌∙◌, arith, refl, subst}
+use Rattle.std.proofs.Common.{◌≡◌, ap, ◌∙◌, arith, subst}
 use Rattle.std.specs.Prelude.{Some, is_some}
 use Rattle.link_machine.specs.Machine.{lpdu_input, report}
 use Rattle.link_end.specs.declared.report.LinkReport.{LinkReport}

@@ -1,4 +1,4 @@
-use Rattle.std.proofs.Common.{refl, List, ◌∷◌, []}
+use Rattle.std.proofs.Common.{refl, ◌∷◌, []}
 use Rattle.gate_admin.specs.Decide.{ends_of}
 use Rattle.trace_model.specs.declared.entry.Entry.TheVariants as entry
 use Rattle.link_machine.specs.Machine.Turn.{SetAside}

@@ -1,4 +1,4 @@
-use Rattle.std.proofs.Common.{refl, ap, ◌∙◌, false, List, ◌++◌, ◌∷◌, []}
+use Rattle.std.proofs.Common.{refl, ap, ◌∙◌, false, ◌++◌, ◌∷◌, []}
 use Rattle.trace_model.specs.declared.line.End.{End}
 use Rattle.trace_model.specs.declared.entry.Entry.TheVariants as entry
 use Rattle.link_machine.specs.Machine.Turn.{FetchMessage}

@@ -1,7 +1,5 @@
-use Rattle.std.proofs.Common.{◌≡◌, ◌+◌, Bool, true, false, not, List, ◌∷◌, drop, sym, ap, ◌∙◌, subst, arith}
-use Rattle.std.specs.Prelude.{slice_index_or, None}
+use Rattle.std.proofs.Common.{◌≡◌, ◌+◌, true, not, List, ◌∷◌, drop, sym, ap, ◌∙◌, subst}
 use Rattle.link_machine.specs.Machine.{Message}
-use Rattle.node_machine.specs.Parts.{Work}
 use Rattle.node_machine.specs.Carrying.{done}
 use Rattle.node_core.specs.declared.deed.Deed.{Deed}
 use Rattle.node_core.specs.Nodes.{IsUnderWay}

@@ -1,9 +1,7 @@
-use Rattle.std.proofs.Common.{ℕ, List, ◌∷◌, [], refl, ap, subst}
+use Rattle.std.proofs.Common.{ℕ, List, ◌∷◌, refl, ap, subst}
 use Rattle.std.specs.Prelude.{None}
 use Rattle.gate_admin.specs.Decide.{ends_of}
-use Rattle.trace_model.specs.declared.entry.Entry.{Entry}
 use Rattle.link_machine.specs.Machine.Turn.{Give}
-use Rattle.node_machine.specs.Parts.{Work}
 use Rattle.node_machine.specs.Parts.About.{Removed}
 use Rattle.node_machine.specs.Parts.Deed.{Sends, SaysOk, Asks, Releases, Tells, IsAnswered, Drops}
 use Rattle.node_machine.specs.Carrying.{done, turn_at, notified}

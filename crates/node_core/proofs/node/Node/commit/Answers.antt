@@ -1,7 +1,7 @@
 use Rattle.journal_laws.specs.Writes.{AreMade}
 use Rattle.hci_tables.specs.Bodies.{body_of}
 use Rattle.hci_store.specs.Committing.{commit_writes}
-use Rattle.std.proofs.Common.{◌≡◌, List, ℕ, Bool, sym, ap, ◌∙◌, subst, ◌++◌, ◌∷◌, [], false}
+use Rattle.std.proofs.Common.{◌≡◌, ℕ, Bool, sym, ap, ◌∙◌, ◌++◌, ◌∷◌, []}
 use Rattle.hci_tables.specs.declared.command.Command.{Command}
 use Rattle.trace_model.specs.declared.entry.Entry.{Entry}
 use Rattle.trace_model.specs.declared.entry.Entry.TheVariants as entry

@@ -1,4 +1,3 @@
-use Rattle.std.proofs.Common.{List}
 use Rattle.std.specs.Prelude.{Some}
 use Rattle.link_machine.specs.Machine.Turn.{Give}
 use Rattle.node_machine.specs.Parts.{Work}

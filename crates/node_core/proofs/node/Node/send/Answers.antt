@@ -1,9 +1,5 @@
-use Rattle.std.proofs.Common.{sym, ap, ◌∙◌, subst, List, [], ◌∷◌, ◌++◌}
-use Rattle.trace_model.specs.declared.entry.Entry.{Entry}
-use Rattle.trace_model.specs.declared.entry.Entry.TheVariants as entry
-use Rattle.link_machine.specs.Machine.{Message}
-use Rattle.node_core.specs.Nodes.{IsUnderWay}
-use Rattle.node_core.proofs.Doing.{more_noted, sent_noted, sent_under_way}
+use Rattle.std.proofs.Common.{sym, ◌∙◌}
+use Rattle.node_core.proofs.Doing.{sent_under_way}
 use Rattle.node_core.proofs.node.Node.send.Goals as goal
 
 pub returns-then-send-clause-carried : goal.returns-then-send-clause-carried

@@ -1,9 +1,7 @@
-use Rattle.std.proofs.Common.{◌≡◌, ℕ, List, sym, ap, ◌∙◌, subst}
-use Rattle.std.specs.Prelude.{Option, Some, None}
-use Rattle.block_pool.specs.declared.chain.Chain.{Chain}
-use Rattle.block_pool.specs.Pool.{Gives, KeepsOthers}
+use Rattle.std.proofs.Common.{◌≡◌, sym, ◌∙◌, subst}
+use Rattle.std.specs.Prelude.{Option, Some}
 use Rattle.link_end.specs.Ends.{Accounts}
-use Rattle.link_machine.specs.Machine.{LinkEnd as Machine, turn}
+use Rattle.link_machine.specs.Machine.{turn}
 use Rattle.link_machine.specs.Machine.Turn.{FetchMessage}
 use Rattle.node_ends.specs.declared.seat.Waiting.{Waiting}
 use Rattle.node_ends.specs.Holding.{HoldsEnd, chain_of}

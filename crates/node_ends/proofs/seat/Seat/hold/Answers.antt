@@ -1,4 +1,4 @@
-use Rattle.std.proofs.Common.{refl, ap}
+use Rattle.std.proofs.Common.{refl}
 use Rattle.link_machine.specs.Machine.{turn}
 use Rattle.link_machine.specs.Machine.Turn.{Hold}
 use Rattle.node_ends.specs.Holding.{without_got}

@@ -1,4 +1,4 @@
-use Rattle.std.proofs.Common.{◌≡◌, ℕ, ◌+◌, ◌-◌, ◌<◌, length, sym, ap, ◌∙◌, subst, arith}
+use Rattle.std.proofs.Common.{ℕ, ◌-◌, ◌<◌, length, sym, subst, arith}
 use Rattle.block_pool.specs.Pool.{used_of, aside_of}
 use Rattle.node_ends.specs.Holding.{without_got}
 use Rattle.node_ends.proofs.Setting.{Counts, released_holds, counted_moves}

@@ -1,10 +1,10 @@
-use Rattle.std.proofs.Common.{◌≡◌, ℕ, List, refl, sym, ap, ◌∙◌, subst}
-use Rattle.std.specs.Prelude.{Option, Some, None}
+use Rattle.std.proofs.Common.{◌≡◌, sym, ◌∙◌, subst}
+use Rattle.std.specs.Prelude.{Option, None}
 use Rattle.link_machine.specs.Machine.{LinkEnd as Machine, after_input, lpdu_input}
-use Rattle.link_end.specs.Ends.{EndStandsFor, Accounts}
+use Rattle.link_end.specs.Ends.{EndStandsFor}
 use Rattle.link_end.proofs.AccountLemmas.{account_kept}
 use Rattle.node_ends.specs.declared.seat.Waiting.{Waiting}
-use Rattle.node_ends.specs.Holding.{HoldsEnd, WaitsHeld, chain_of, without_got}
+use Rattle.node_ends.specs.Holding.{HoldsEnd, WaitsHeld, without_got}
 use Rattle.node_ends.proofs.Moving.{call_moves}
 use Rattle.node_ends.proofs.Quiet.{held_gets_none}
 use Rattle.node_ends.proofs.Fetching.{may_take, none_got, waits_still, lpdu_told_apart, lpdu_is_outside, moves_on, none_waits, one_waits}
