@@ -2,3 +2,4 @@ pub mod Joining
 pub mod Doing
 pub mod Steps
 pub mod Planned
+pub mod Holding

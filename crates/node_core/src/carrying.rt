@@ -21,12 +21,12 @@ impl<N: Nv + Drop> Node<N> {
     ghost use Rattle.node_machine.specs.Parts.{Core, Port, Work};
     ghost use Rattle.node_machine.specs.Parts.Deed.{Asks, SaysOk, Drops};
     ghost use Rattle.node_ends.specs.Desks.{about_of, creation_of};
-    ghost use Rattle.node_ends.specs.Ends.{EndsStandFor, HasAside};
+    ghost use Rattle.node_ends.specs.Ends.{EndsStandFor, HasAside, HasFewDue};
     ghost use Rattle.node_machine.specs.Carrying.{turn_at, commit, notified, done, all_done, port_at, has_room_for, end_of_node, noting};
     ghost use Rattle.node_core.specs.Nodes.{IsUnderWay, Runs};
     ghost use Rattle.node_core.specs.Bringing.{Brings};
-    ghost use Rattle.node_machine.specs.Turns.{handles};
-    ghost use Rattle.node_core.specs.Handling.{has_turn};
+    ghost use Rattle.node_machine.specs.Turns.{handles, holds_back};
+    ghost use Rattle.node_core.specs.Handling.{has_turn, is_noted_held};
     ghost use Rattle.node_core.specs.Deeds.{deed_of, deeds_of, IsDoable, AreDoable};
 
     // The node's end of the link with this host.
@@ -293,5 +293,36 @@ impl<N: Nv + Drop> Node<N> {
     {
         self.begin_turn(host, pipe, message, watch);
         self.carry_all(host, deeds, pipe, message, watch)
+    }
+
+    // That the first message that waits at an end is held is noted, unless it was.
+    fn note_held<W: Watch>(&mut self, host: u8, need: u16, spare: u16, watch: &mut W)
+        requires runs { Runs self.old }
+        ensures carried { (start : List Noted) (w : Work) → IsUnderWay self.old (W.noted watch.old) (W.is_short watch.old) start w
+            → IsUnderWay self.new (W.noted watch.new) (W.is_short watch.new) start (is_noted_held host (need, spare) w) }
+        ensures store { self.new.store ≡ self.old.store }
+        ensures runs { Runs self.new }
+    {
+        if self.ends.holds(host) {
+            return;
+        }
+        let at = self.end_at(host);
+        note(watch, Entry::Held { at, need, spare }, &[]);
+        self.ends.set_holds(host, true);
+    }
+
+    /// The message that waits at an end lacks room: that is noted once, and its end takes no more fragments. At most six control frames
+    /// wait there to be sent.
+    pub(crate) fn hold_back<W: Watch>(&mut self, host: u8, need: u16, spare: u16, watch: &mut W)
+        requires runs { Runs self.old }
+        requires few { (start : List Noted) × (w : Work) × IsUnderWay self.old (W.noted watch.old) (W.is_short watch.old) start w
+            × HasFewDue (port_at w.ports host) }
+        ensures carried { (start : List Noted) (w : Work) → IsUnderWay self.old (W.noted watch.old) (W.is_short watch.old) start w
+            → IsUnderWay self.new (W.noted watch.new) (W.is_short watch.new) start (holds_back host (need, spare) w) }
+        ensures store { self.new.store ≡ self.old.store }
+        ensures runs { Runs self.new }
+    {
+        self.note_held(host, need, spare, watch);
+        self.ends.hold(host, true);
     }
 }

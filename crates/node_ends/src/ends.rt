@@ -1,5 +1,5 @@
 //! The ends of all links of a node in one pool.
-ghost use Rattle.std.specs.Prelude.{◌≡◌, ℕ, List, Some, IfSome};
+ghost use Rattle.std.specs.Prelude.{◌≡◌, ℕ, List, Some, IfSome, false};
 ghost use Rattle.swp_lpdu.specs.Controls.{control_of};
 ghost use Rattle.link_machine.specs.Machine.{lpdu_input, report};
 ghost use Rattle.link_end.specs.Reports.{report_told};
@@ -30,7 +30,7 @@ pub struct Ends {
 }
 
 impl Ends {
-    ghost use Rattle.std.specs.Prelude.{◌≡◌, List};
+    ghost use Rattle.std.specs.Prelude.{◌≡◌, List, false};
     ghost use Rattle.hcp_packet.specs.Packets.{IsSendable};
     ghost use Rattle.link_machine.specs.Machine.Turn.{Give, Hold, SetAside, Release, FetchMessage};
     ghost use Rattle.node_ends.specs.Desks.{notice_of};
@@ -139,6 +139,18 @@ impl Ends {
             return false;
         };
         is_up_at(self.seats.as_slice(), i, &self.pool, host)
+    }
+
+    /// Whether the first message that waits at the end of the link with this host was noted as held.
+    pub fn holds(&self, host: u8) -> bool
+        requires { (ports : List Port) × EndsStandFor self.now ports }
+        ensures { (ports : List Port) → EndsStandFor self.now ports
+            → result ≡ option_map_or (λ (p : Port). p.desk.holds) (port_at ports host) false }
+    {
+        let Some(i) = place_of(self.seats.as_slice(), host) else {
+            return false;
+        };
+        holds_at(self.seats.as_slice(), i, &self.pool, host)
     }
 }
 
@@ -249,4 +261,13 @@ fn take_at(
     let report = seat.take(pool, read);
     seat.ended = report.ended.is_some();
     report
+}
+
+fn holds_at(seats: &[Seat], i: usize, pool: &Pool, host: u8) -> bool
+    requires place { place_in host seats.now ≡ Some i }
+    requires stands { (ports : List Port) × AreEnds pool.now seats.now ports }
+    ensures { (ports : List Port) → AreEnds pool.now seats.now ports
+        → result ≡ option_map_or (λ (p : Port). p.desk.holds) (port_at ports host) false }
+{
+    seats[i].desk.holds
 }
