@@ -1,0 +1,7 @@
+pub mod Ports
+pub mod Decisions
+pub mod Headers
+pub mod Views
+pub mod Telling
+pub mod Rooms
+pub mod Control

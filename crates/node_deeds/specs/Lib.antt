@@ -1,0 +1,5 @@
+pub mod Shown
+pub mod Pipes
+pub mod Desks
+pub mod Cores
+pub mod Replies

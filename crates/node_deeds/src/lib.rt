@@ -1,0 +1,17 @@
+//! What a node does with a message, a controller or a host, as a short list of deeds, and which blocks they need (ETSI TS 102 622).
+//! Nothing is carried out here.
+#![tactic(auto)]
+
+mod answering;
+mod controller;
+mod deeds;
+mod desks;
+mod inits;
+mod pipes;
+mod replies;
+mod view;
+
+pub use controller::controller_deeds;
+pub use deeds::{Deed, Deeds, InitEnd, Order, asking_notice};
+pub use desks::{About, Desk, Unanswered};
+pub use inits::{Init, Ordered, ordered_by};
