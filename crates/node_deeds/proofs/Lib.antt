@@ -5,3 +5,6 @@ pub mod Views
 pub mod Telling
 pub mod Rooms
 pub mod Control
+pub mod HostWalks
+pub mod RoomLemmas
+pub mod SameBytes

@@ -3,3 +3,5 @@ pub mod Pipes
 pub mod Desks
 pub mod Cores
 pub mod Replies
+pub mod Hosts
+pub mod Room

@@ -89,3 +89,13 @@ pub(crate) fn link_answered(errors: u16, host: u8, pipe: u8, message: &[u8]) -> 
         None => answered(host, pipe, answer),
     }
 }
+
+/// What stands behind the header of a message.
+pub(crate) fn body_in(message: &[u8]) -> &[u8]
+    ensures { result.now ≡ body_in message.now }
+{
+    match message {
+        [] => &[],
+        [_, body @ ..] => body,
+    }
+}

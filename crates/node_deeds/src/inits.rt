@@ -1,5 +1,5 @@
 //! The init of a host, and what it keeps of its last command. Both are this project's own.
-ghost use Rattle.std.specs.Prelude.{◌≡◌, ◌+◌, ◌<◌, ◌≤◌, ◌++◌, option_map, slice_get, IsSome, length};
+ghost use Rattle.std.specs.Prelude.{◌≡◌, ◌+◌, ◌<◌, ◌≤◌, ◌++◌, option_map, slice_get, IsSome, IfSome, length};
 ghost use Rattle.node_machine.specs.HostReplies.{orders_of};
 ghost use Rattle.node_deeds.specs.Shown.{init_shown, ordered_by, deletion_in, own_orders};
 
@@ -62,6 +62,7 @@ fn deletion_in(body: &[u8]) -> Ordered
 pub(crate) fn order_at(init: &Init, place: usize) -> Option<Order>
     ensures order { option_map (λ o. o.items) result ≡ slice_get (orders_of (init_shown init.now)) place }
     ensures few { IsSome result → place < 13 }
+    ensures some { IfSome result (λ o. 0 < length o.items) }
 {
     match place {
         0 | 3 => Some(order_of(&[ANY_OPEN_PIPE], &[])),
@@ -75,6 +76,7 @@ pub(crate) fn order_at(init: &Init, place: usize) -> Option<Order>
 fn last_order_at(init: &Init, place: usize) -> Option<Order>
     ensures order { option_map (λ o. o.items) result ≡ slice_get (own_orders init.now) place }
     ensures few { IsSome result → place < 9 }
+    ensures some { IfSome result (λ o. 0 < length o.items) }
 {
     let pipes = init.pipes.as_slice();
     match pipes.get(place) {
