@@ -1,8 +1,8 @@
 -- What a controller does, case by case, over what its code keeps.
-use Rattle.std.proofs.Common.{◌≡◌, ℕ, Bool, true, false, cond, eqb, eq-eqb, ◌&&◌, List, [], ◌∷◌, ◌++◌, refl, sym, subst, ap, ap₂, ◌∙◌}
-use Rattle.std.specs.Prelude.{Option, Some, None, Result, Ok, map}
+use Rattle.std.proofs.Common.{◌≡◌, ℕ, Bool, true, false, cond, eqb, eq-eqb, ◌&&◌, List, [], ◌∷◌, refl, sym, subst, ap, ap₂, ◌∙◌}
+use Rattle.std.specs.Prelude.{Some, None, Ok, map}
 use Rattle.std.specs.Option.{option_map_or}
-use Rattle.std.proofs.lemmas.Bool.{cond_both, and_from}
+use Rattle.std.proofs.lemmas.Bool.{cond_both}
 use Rattle.hcp_packet.specs.declared.MessageKind.TheVariants.{Command as IsCommand, Response as IsResponse}
 use Rattle.hcp_packet.specs.MessageHeader.{header_of}
 use Rattle.pipe_table.specs.declared.row.PipeRow.{PipeRow}
@@ -16,7 +16,7 @@ use Rattle.gate_admin.specs.declared.decision.Decision.TheVariants.{Commit}
 use Rattle.gate_admin.specs.View.{has, hosts_where}
 use Rattle.gate_admin.specs.Decide.{decided}
 use Rattle.link_machine.specs.Machine.{Message}
-use Rattle.node_machine.specs.Parts.{Core, Port, Deed}
+use Rattle.node_machine.specs.Parts.{Core, Port}
 use Rattle.node_machine.specs.Parts.Deed.{Commits, Sends, SaysOk, Tells, Drops}
 use Rattle.node_machine.specs.Carrying.{port_at, has_room_for}
 use Rattle.node_machine.specs.Controller.{asks_for, view_for, commit_deeds, decision_deeds, gate_deeds, own_gate, goes_through, served_at, command_deeds, agreed}
@@ -24,9 +24,9 @@ use Rattle.node_machine.specs.Controller.{response_at, unless_asking, if_notice,
 use Rattle.node_deeds.specs.declared.desks.About.{About as KeptAbout}
 use Rattle.node_deeds.specs.declared.desks.About.TheVariants as about
 use Rattle.node_deeds.specs.declared.desks.Desk.{Desk as KeptDesk}
-use Rattle.node_deeds.specs.Shown.{creation_of_row, ports_shown, row_noticed, AreSeen}
+use Rattle.node_deeds.specs.Shown.{creation_of_row, ports_shown, AreSeen}
 use Rattle.node_deeds.specs.Desks.{desk_of}
-use Rattle.node_deeds.specs.Cores.{controller_core, IsCoreOf, IsSoundRow, IsSoundDesk, AreSoundDesks}
+use Rattle.node_deeds.specs.Cores.{controller_core, IsCoreOf, IsSoundDesk, AreSoundDesks}
 use Rattle.node_deeds.specs.Replies.{about_deeds}
 use Rattle.node_deeds.proofs.Headers.{command_instruction}
 use Rattle.node_deeds.proofs.Ports.{deeds_alike}

@@ -1,12 +1,12 @@
 -- What is decided tells at most six hosts, and asks for pipes of the asker alone.
-use Rattle.std.proofs.Common.{◌≡◌, ℕ, zero, suc, ◌+◌, ◌*◌, ◌/◌, ◌%◌, ◌^◌, ◌≤◌, ◌<◌, Bool, true, false, cond, not, eqb, ◌&&◌, List, [], ◌∷◌, length, refl, sym, ap, ◌∙◌}
+use Rattle.std.proofs.Common.{◌≡◌, ℕ, zero, suc, ◌+◌, ◌*◌, ◌/◌, ◌%◌, ◌^◌, ◌≤◌, ◌<◌, Bool, true, false, cond, not, eqb, ◌&&◌, List, [], ◌∷◌, length, refl, ap, ◌∙◌}
 use Rattle.std.proofs.Common.{inl, inr, arith, leb, eq-eqb}
 use Rattle.std.specs.Prelude.{◌⊎◌, Option, Some, None}
-use Rattle.std.specs.List.{filter, list_any, range_with_len}
+use Rattle.std.specs.List.{filter, range_with_len}
 use Rattle.std.specs.Option.{option_map_or, option_and_then}
-use Rattle.std.proofs.lemmas.Bool.{cond_both, and_parts, eqb-true, leb-true}
+use Rattle.std.proofs.lemmas.Bool.{cond_both, and_parts, leb-true}
 use Rattle.std.proofs.lemmas.List.Sums.{sum_by-cons}
-use Rattle.pipe_table.specs.PipeRows.{pipe_at, joins_host}
+use Rattle.pipe_table.specs.PipeRows.{pipe_at}
 use Rattle.hci_tables.specs.Tables.{HciTables}
 use Rattle.gate_answers.specs.Answers.{param_in}
 use Rattle.gate_admin.specs.declared.view.LinkView.{LinkView}
@@ -149,9 +149,9 @@ deletion_few v None = none_few
 deletion_few v (Some end) =
     cond_both (is_connected v end.0) (end.0 ∷ []) [] (λ told. length (hosts_where (has (mask_of told))) ≤ 6)
     (λ there.
-        let in_range = (and_parts (leb 1 end.0 && leb end.0 7) _ there).0 in
-        let ends = and_parts (leb 1 end.0) (leb end.0 7) in_range in
-        one_alone end.0 (leb-true 1 end.0 ends.0) (leb-true end.0 7 ends.1))
+    let in_range = (and_parts (leb 1 end.0 && leb end.0 7) _ there).0 in
+    let ends = and_parts (leb 1 end.0) (leb end.0 7) in_range in
+    one_alone end.0 (leb-true 1 end.0 ends.0) (leb-true end.0 7 ends.1))
     (λ gone. none_few)
 
 clearing_few : (t : HciTables) (v : LinkView) (host : ℕ) → 1 ≤ host → host ≤ 7
@@ -184,8 +184,10 @@ decided_soundly t v host pipe instruction body some most =
         asks = refl;
         answers = refl;
       };
-      deletes = λ _.
-          (omega arith, told_few (told_of_deletion t v host (param_in body)) 19 (param_in body ∷ [])
-          (deletion_few v (option_and_then (far_end_of host) (pipe_at t.rows (param_in body)))));
+      deletes = λ _. (
+        omega arith,
+        told_few (told_of_deletion t v host (param_in body)) 19 (param_in body ∷ [])
+            (deletion_few v (option_and_then (far_end_of host) (pipe_at t.rows (param_in body)))),
+      );
       clears = λ _. (omega arith, told_few (told_of_clearing t v host) 21 (host ∷ []) (clearing_few t v host some most));
     })

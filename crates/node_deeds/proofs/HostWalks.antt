@@ -1,7 +1,7 @@
 -- What a host does, case by case, over what its code keeps.
-use Rattle.std.proofs.Common.{◌≡◌, ℕ, ◌+◌, ◌≤◌, Bool, true, false, cond, eqb, leb, eq-eqb, ◌&&◌, List, [], ◌∷◌, ◌++◌, length, slice_get, get_or, refl, sym, subst}
+use Rattle.std.proofs.Common.{◌≡◌, ℕ, ◌+◌, ◌≤◌, Bool, true, false, cond, eqb, ◌&&◌, List, [], ◌∷◌, ◌++◌, length, slice_get, get_or, refl, sym}
 use Rattle.std.proofs.Common.{ap, ap₂, ◌∙◌, arith, append_assoc}
-use Rattle.std.specs.Prelude.{Option, Some, None, Result, Ok, Err, map, is_some, option_map}
+use Rattle.std.specs.Prelude.{Option, Some, None, Result, Ok, Err, is_some, option_map}
 use Rattle.std.specs.Option.{option_map_or}
 use Rattle.std.proofs.lemmas.Bool.{le-leb, ne_eqb}
 use Rattle.std.proofs.lemmas.List.{map-append}
@@ -31,7 +31,7 @@ use Rattle.node_machine.specs.HostReplies.{replies, accepts, is_welcome, pipe_na
 use Rattle.node_machine.specs.HostReplies.{init_agreed, init_deeds, deleted_by, created_by, learned, response_deeds, is_gate, gate_of_pipe, host_deeds}
 use Rattle.node_deeds.specs.declared.desks.Desk.{Desk as KeptDesk}
 use Rattle.node_deeds.specs.declared.inits.Ordered.{Ordered}
-use Rattle.node_deeds.specs.declared.inits.Ordered.TheVariants.{Creation as ToCreate, Deletion as ToDelete, Clearing, Other}
+use Rattle.node_deeds.specs.declared.inits.Ordered.TheVariants.{Creation as ToCreate, Clearing, Other}
 use Rattle.node_deeds.specs.declared.host.Tasks.{Tasks}
 use Rattle.node_deeds.specs.declared.inits.Init.{Init as KeptInit}
 use Rattle.node_deeds.specs.declared.deeds.InitEnd.TheVariants.{Made}
@@ -39,7 +39,6 @@ use Rattle.node_deeds.specs.declared.deeds.Deed.{Deed as KeptDeed}
 use Rattle.node_deeds.specs.declared.deeds.Deed.TheVariants as kept
 use Rattle.node_deeds.specs.Pipes.{gate_in}
 use Rattle.node_deeds.specs.Shown.{Handling, ordered_by, deletion_in, init_shown, deed_shown, deeds_shown}
-use Rattle.node_deeds.specs.Cores.{IsCoreOf}
 use Rattle.node_deeds.specs.Hosts.{init_of, handled_by, host_core, IsHostAt, learned_of, heard_deeds, next_deeds, host_kind_deeds}
 
 -- ## Notices

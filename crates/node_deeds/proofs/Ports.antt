@@ -3,8 +3,6 @@ use Rattle.std.proofs.Common.{◌≡◌, ℕ, Bool, true, false, cond, eqb, ◌&
 use Rattle.std.specs.Prelude.{Option, Some, None, Result, Ok, Err, map, is_some, option_map}
 use Rattle.std.specs.List.{find, filter, filter_map, list_any, range_with_len, cons_option}
 use Rattle.std.specs.Option.{option_map_or, option_and_then}
-use Rattle.session_laws.specs.Sessions.{is_up}
-use Rattle.shdlc_core.specs.declared.answers.LinkState.TheVariants.{Down, Up}
 use Rattle.hcp_packet.specs.declared.MessageKind.{MessageKind}
 use Rattle.hcp_packet.specs.declared.MessageKind.TheVariants.{Command as IsCommand, Event as IsEvent, Response as IsResponse}
 use Rattle.hcp_packet.specs.declared.MessageFault.{MessageFault}
@@ -12,11 +10,11 @@ use Rattle.hcp_packet.specs.MessageHeader.{header_of}
 use Rattle.hci_tables.specs.Tables.{HciTables, is_opened}
 use Rattle.gate_answers.specs.Answers.{body_in}
 use Rattle.gate_admin.specs.declared.view.LinkView.{LinkView}
-use Rattle.gate_admin.specs.View.{has, hosts_where, mask_of}
+use Rattle.gate_admin.specs.View.{hosts_where, mask_of}
 use Rattle.link_machine.specs.Machine.{Message}
-use Rattle.node_machine.specs.Parts.{Creation, Notice, Desk, Core, Port, Deed}
+use Rattle.node_machine.specs.Parts.{Creation, Desk, Core, Port, Deed}
 use Rattle.node_machine.specs.Carrying.{port_at}
-use Rattle.node_machine.specs.Controller.{has_link, creation_in, asked_at, is_asked_at, asks_for, pipe_of, waiting_pipes, mask_where, is_connected_at, view_for}
+use Rattle.node_machine.specs.Controller.{has_link, creation_in, is_asked_at, asks_for, pipe_of, waiting_pipes, mask_where, view_for}
 use Rattle.node_machine.specs.Controller.{own_gate, goes_through, served_at, notice_deeds, response_at, relayed_to, unrelayed, unless_asking, if_notice, kind_deeds}
 use Rattle.node_machine.specs.Controller.{own_deeds, relay_deeds, deeds_by_relay, controller_deeds}
 use Rattle.node_machine.specs.Parts.Deed.{Drops}
@@ -145,7 +143,7 @@ module _ (one other : List Port) (alike : map seen_at one ≡ map seen_at other)
     asks false instruction =
         ap
         (λ view. served_at core view h m.0 instruction (body_in m.1)
-            (cond (goes_through core.tables h m.0 instruction) (own_gate core.tables h m.0) None))
+        (cond (goes_through core.tables h m.0 instruction) (own_gate core.tables h m.0) None))
         (view_alike core.tables h)
 
     replies : (b : Bool) (code : ℕ) → if_notice core one h m code b ≡ if_notice core other h m code b

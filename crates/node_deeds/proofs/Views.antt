@@ -1,6 +1,6 @@
 -- What code reads at the desks that it keeps is what the definition reads at the ends.
 use Rattle.std.proofs.Common.{◌≡◌, ℕ, suc, zero, ◌+◌, ◌^◌, ◌<◌, ◌≤◌, Bool, true, false, cond, eqb, ◌&&◌, ◌||◌, List, [], ◌∷◌, refl, sym, ap, ap₂, ◌∙◌, arith}
-use Rattle.std.specs.Prelude.{Option, Some, None, map, is_some, option_map}
+use Rattle.std.specs.Prelude.{Option, Some, None, is_some, option_map}
 use Rattle.std.specs.List.{filter_map, list_any, cons_option}
 use Rattle.std.specs.Option.{option_map_or, option_and_then}
 use Rattle.session_laws.specs.Sessions.{is_up}
@@ -19,7 +19,7 @@ use Rattle.node_deeds.specs.declared.desks.About.TheVariants as about
 use Rattle.node_deeds.specs.declared.desks.Unanswered.{Unanswered}
 use Rattle.node_deeds.specs.declared.desks.Desk.{Desk as KeptDesk}
 use Rattle.node_deeds.specs.Shown.{about_shown, notice_shown, port_shown, ports_shown, row_about, row_noticed, row_waits_for, awaited_pipe}
-use Rattle.node_deeds.specs.Desks.{desk_of, desk_passes, configured_by, connected_by, noticed_by, asked_in, asked_by, errors_by}
+use Rattle.node_deeds.specs.Desks.{desk_of, configured_by, connected_by, noticed_by, asked_in, asked_by, errors_by}
 use Rattle.node_deeds.specs.Replies.{about_deeds}
 use Rattle.node_deeds.proofs.Ports.{find-map, hosts_same, view_with, view_made}
 
@@ -185,7 +185,7 @@ view_read t up desks host other a b c d e w last hosts links notices asks waits 
     (mask_all (configured_by desks) _ other a last hosts (λ h. read_found (λ d. true) (λ p. true) false up (λ d. refl) desks h (desk_of desks h) refl))
     (mask_all (connected_by t up desks) _ other b last links
     (λ h. read_found (λ d. has up d.host && is_opened t d.host 1) (is_connected_at t) false up
-        (λ d. ap (λ up. up && is_opened t d.host 1) (sym (up_shown (has up d.host)))) desks h (desk_of desks h) refl))
+    (λ d. ap (λ up. up && is_opened t d.host 1) (sym (up_shown (has up d.host)))) desks h (desk_of desks h) refl))
     (mask_all (noticed_by desks) _ other c last notices
     (λ h. read_found (λ d. is_some d.notice) (λ p. is_some p.desk.notice) false up (λ d. some_shown d.notice) desks h (desk_of desks h) refl))
     (mask_all (asked_by desks) _ other d last asks

@@ -1,5 +1,5 @@
 -- A node's core as its code keeps it, and what its code asks for.
-use Rattle.std.specs.Prelude.{◌≡◌, ℕ, ◌^◌, ◌<◌, ◌≤◌, ◌⊎◌, Bool, if◌then◌else◌, ◌==◌, List, [], ◌∷◌, length, Option, Some, None, IsTrue, IsSome}
+use Rattle.std.specs.Prelude.{◌≡◌, ℕ, ◌^◌, ◌<◌, ◌≤◌, ◌⊎◌, List, [], ◌∷◌, length, Option, Some, None, IsTrue, IsSome}
 use Rattle.std.specs.List.{AllByRecursion}
 use Rattle.journal_laws.specs.declared.state.State.{State}
 use Rattle.pipe_table.specs.declared.row.PipeRow.{PipeRow}
@@ -14,7 +14,7 @@ use Rattle.gate_admin.specs.declared.decision.Decision.{Decision}
 use Rattle.gate_admin.specs.declared.decision.Decision.TheVariants.{Answer, Commit, Ask}
 use Rattle.gate_admin.specs.View.{has, hosts_where}
 use Rattle.gate_admin.specs.Decide.{ends_of}
-use Rattle.node_machine.specs.Parts.{Init, Core}
+use Rattle.node_machine.specs.Parts.{Core}
 use Rattle.node_deeds.specs.declared.desks.Desk.{Desk as KeptDesk}
 use Rattle.node_deeds.specs.declared.deeds.Deed.{Deed as KeptDeed}
 use Rattle.node_deeds.specs.declared.deeds.Deed.TheVariants as kept

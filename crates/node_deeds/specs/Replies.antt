@@ -1,5 +1,5 @@
 -- What an answer to a notice does, by what the notice is about.
-use Rattle.std.specs.Prelude.{ℕ, List, Option, Some, None}
+use Rattle.std.specs.Prelude.{ℕ, List, Some, None}
 use Rattle.node_machine.specs.Parts.{Core, Deed}
 use Rattle.node_machine.specs.Controller.{creation_deeds}
 use Rattle.node_deeds.specs.declared.desks.About.{About as KeptAbout}

@@ -1,5 +1,5 @@
 -- What the values that a node's code keeps stand for.
-use Rattle.std.specs.Prelude.{◌≡◌, ℕ, ◌==◌, Bool, true, false, if◌then◌else◌, List, [], ◌∷◌, ◌++◌, map, length, option_map, Option, Some, None}
+use Rattle.std.specs.Prelude.{◌≡◌, ℕ, ◌==◌, Bool, false, if◌then◌else◌, List, [], ◌∷◌, ◌++◌, map, option_map, Option, Some, None}
 use Rattle.std.specs.Option.{option_map_or}
 use Rattle.session_laws.specs.Sessions.{is_up}
 use Rattle.shdlc_core.specs.declared.answers.LinkState.TheVariants.{Down, Up}
@@ -9,17 +9,15 @@ use Rattle.trace_model.specs.declared.entry.Entry.TheVariants.{InitSame, InitMad
 use Rattle.trace_model.specs.declared.line.End.{End}
 use Rattle.history.specs.Steps.{end_of}
 use Rattle.link_entries.specs.Entries.End.{Host}
-use Rattle.journal_laws.specs.declared.state.State.{State}
 use Rattle.pipe_table.specs.declared.row.PipeRow.{PipeRow}
 use Rattle.hci_tables.specs.declared.command.Command.TheVariants.{Create}
-use Rattle.hci_tables.specs.Tables.{HciTables}
 use Rattle.gate_answers.specs.declared.response.Response.TheVariants as response
 use Rattle.gate_answers.specs.Answers.{answer_of, instruction_in, body_in}
 use Rattle.gate_admin.specs.View.{has}
 use Rattle.gate_admin.specs.Decide.{ends_of}
 use Rattle.link_machine.specs.Machine.{Message, end_with}
 use Rattle.link_machine.specs.Machine.Role.{Bare}
-use Rattle.node_machine.specs.Parts.{Creation, About, Notice, Desk, Init, Core, Port, Deed}
+use Rattle.node_machine.specs.Parts.{Creation, About, Notice, Desk, Init, Port, Deed}
 use Rattle.node_machine.specs.Parts.About.{Waits, Forgotten, Removed}
 use Rattle.node_machine.specs.Parts.Deed.{Commits, Sends, SaysOk, Asks, Releases, Tells, IsAnswered, Drops, SetsErrors, Orders, Hears, GoesOn, Ends}
 use Rattle.node_deeds.specs.declared.desks.About.{About as KeptAbout}

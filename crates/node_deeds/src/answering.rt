@@ -43,7 +43,11 @@ pub(crate) fn passed_on(host: u8) -> Deeds
 pub(crate) fn answered(host: u8, pipe: u8, message: Answer) -> Deeds
     ensures { result.items ≡ kept.Sends host pipe message ∷ [] }
 {
-    only(Deed::Sends { host, pipe, message })
+    only(Deed::Sends {
+        host,
+        pipe,
+        message,
+    })
 }
 
 /// An answer of this code alone.

@@ -45,10 +45,12 @@ impl Desk {
         ensures { result ≡ awaited_row self.now }
     {
         match self.notice {
-            Some(Unanswered {
-                about: About::Waits(row),
-                ..
-            }) => Some(row),
+            Some(
+                Unanswered {
+                    about: About::Waits(row),
+                    ..
+                },
+            ) => Some(row),
             _ => None,
         }
     }

@@ -86,7 +86,13 @@ fn heard_of<N: Nv + Drop>(
     ensures unchanged { store.new ≡ store.old }
 {
     match read_header(message) {
-        Ok((MessageKind::Command, _instruction)) => commanded(store, desk.host, desk.errors, pipe, message),
+        Ok((MessageKind::Command, _instruction)) => commanded(
+            store,
+            desk.host,
+            desk.errors,
+            pipe,
+            message,
+        ),
         Ok((MessageKind::Event, _instruction)) => posted(store.tables(), desk.host, pipe, message),
         Ok((MessageKind::Response, code)) => {
             if pipe == ADMINISTRATION_PIPE {

@@ -6,7 +6,8 @@ ghost use Rattle.node_deeds.specs.Shown.{init_shown, ordered_by, deletion_in, ow
 use crate::deeds::Order;
 use arrayvec::ArrayVec;
 use gate_answers::{
-    ADM_CLEAR_ALL_PIPE, ADM_CREATE_PIPE, ADM_DELETE_PIPE, ANY_GET_PARAMETER, ANY_OPEN_PIPE, ANY_SET_PARAMETER,
+    ADM_CLEAR_ALL_PIPE, ADM_CREATE_PIPE, ADM_DELETE_PIPE, ANY_GET_PARAMETER, ANY_OPEN_PIPE,
+    ANY_SET_PARAMETER,
 };
 use registry::SESSION_IDENTITY;
 

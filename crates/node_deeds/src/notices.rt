@@ -12,8 +12,8 @@ use crate::answering::{body_in, committed, has_room, refused_on};
 use crate::deeds::Deeds;
 use crate::view::ADMINISTRATION_PIPE;
 use gate_answers::{
-    ADM_NOTIFY_ALL_PIPE_CLEARED, ADM_NOTIFY_PIPE_CREATED, ADM_NOTIFY_PIPE_DELETED, IDENTITY_GATE, LOOPBACK_GATE, Response, instruction_of,
-    refused,
+    ADM_NOTIFY_ALL_PIPE_CLEARED, ADM_NOTIFY_PIPE_CREATED, ADM_NOTIFY_PIPE_DELETED, IDENTITY_GATE,
+    LOOPBACK_GATE, Response, instruction_of, refused,
 };
 use hci_store::Store;
 use hci_tables::Command;

@@ -8,9 +8,7 @@ ghost use Rattle.pipe_table.specs.PipeRows.{pipe_at};
 ghost use Rattle.node_machine.specs.HostReplies.{is_gate};
 ghost use Rattle.node_deeds.specs.Pipes.{is_opening_or_closing, gate_in};
 
-use gate_answers::{
-    ADMINISTRATION_GATE, ANY_CLOSE_PIPE, ANY_OPEN_PIPE, LINK_MANAGEMENT_GATE,
-};
+use gate_answers::{ADMINISTRATION_GATE, ANY_CLOSE_PIPE, ANY_OPEN_PIPE, LINK_MANAGEMENT_GATE};
 use hci_tables::Tables;
 use hcp_packet::{MessageKind, read_header};
 use pipe_table::{FIRST_DYNAMIC, PipeRow};

@@ -116,7 +116,12 @@ fn copy_of(notice: &Notice) -> Notice
 
 /// A host has answered with this code on pipe 01: its notice is answered, and the creation that it was asked for is done or not,
 /// where it waits.
-pub(crate) fn replied<N: Nv + Drop>(store: &mut Store<N>, desks: &[Desk], host: u8, code: u8) -> Deeds
+pub(crate) fn replied<N: Nv + Drop>(
+    store: &mut Store<N>,
+    desks: &[Desk],
+    host: u8,
+    code: u8,
+) -> Deeds
     requires ready { IsReady store.old }
     requires sound { AreSoundDesks desks.now }
     ensures deeds { (a : Handling) (up : ℕ) → deeds_shown a result.items

@@ -199,7 +199,9 @@ fn is_same(tables: &Tables, host: u8, init: &Init, value: &[u8]) -> bool
     requires host { host ≤ 7 }
     ensures { (journal : State) (i : Option InitOf) → result ≡ is_same (host_core host journal tables.now i) (init_shown init.now) value.now }
 {
-    let kept = tables.registry().get(host, ADMINISTRATION_GATE, SESSION_IDENTITY);
+    let kept = tables
+        .registry()
+        .get(host, ADMINISTRATION_GATE, SESSION_IDENTITY);
     init.answered == 1 && same_bytes(value, kept.as_slice()) && !is_unset(value)
 }
 

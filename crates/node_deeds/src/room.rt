@@ -40,7 +40,11 @@ fn lack_of(deed: &Deed, host: u8, len: usize, spares: &[u16]) -> Option<Shortfal
 {
     match deed {
         Deed::PassesOn { host: to } => lack_at(spares, *to, blocks_for(len)),
-        Deed::Sends { host: to, message, .. } => lack_at(spares, *to, blocks_for(message.len())),
+        Deed::Sends {
+            host: to,
+            message,
+            ..
+        } => lack_at(spares, *to, blocks_for(message.len())),
         Deed::Asks(row) => {
             let aside = lack_at(spares, row.creator, 1);
             if aside.is_some() {

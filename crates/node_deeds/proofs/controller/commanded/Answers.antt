@@ -16,7 +16,7 @@ returns-in-Some-clause-deeds g c =
     let pipe = c.args.pipe in
     let ports = ports_shown c.args.up c.args.desks.now in
     let gate = ap₂ (λ t n. cond (goes_through t host pipe n) (own_gate t host pipe) None) (sym c.tables.ensures) (sym c.instruction_of.ensures)
-        ∙ (sym c.gate_for.ensures ∙ c.in-Some.is) in
+    ∙ (sym c.gate_for.ensures ∙ c.in-Some.is) in
     c.served.ensures.deeds
     ∙ gate_serves (controller_core s.journal.state s.tables) ports host (pipe, message) pipe (instruction_in message) c.in-Some.gate c.errors_at.result
     (body_in message) gate (c.errors_at.ensures ∙ errors_shown c.args.up c.args.desks.now host)
@@ -29,7 +29,7 @@ returns-in-None-clause-deeds g c =
     let pipe = c.args.pipe in
     let ports = ports_shown c.args.up c.args.desks.now in
     let gate = ap₂ (λ t n. cond (goes_through t host pipe n) (own_gate t host pipe) None) (sym c.tables.ensures) (sym c.instruction_of.ensures)
-        ∙ (sym c.gate_for.ensures ∙ c.in-None.is) in
+    ∙ (sym c.gate_for.ensures ∙ c.in-None.is) in
     c.administered.ensures.deeds (handled pipe message)
     ∙ gate_decides (controller_core s.journal.state s.tables) ports host (pipe, message) pipe (instruction_in message) (body_in message)
     c.view_for-view.result gate (c.view_for-view.ensures ∙ ap (λ t. view_for t ports host) c.tables-in-None.ensures)

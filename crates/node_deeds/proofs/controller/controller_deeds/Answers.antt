@@ -1,5 +1,4 @@
-use Rattle.std.proofs.Common.{◌≡◌, sym, ap, ◌∙◌}
-use Rattle.node_machine.specs.Parts.{Core, Port}
+use Rattle.std.proofs.Common.{sym, ap, ◌∙◌}
 use Rattle.node_machine.specs.Controller.{relayed_to, own_deeds, deeds_by_relay}
 use Rattle.node_deeds.specs.Shown.{ports_shown, deeds_shown}
 use Rattle.node_deeds.specs.Cores.{controller_core, handled}

@@ -1,4 +1,4 @@
-use Rattle.std.proofs.Common.{◌&&◌, ◌∷◌, [], cond, eqb, eq-eqb, sym, ap, ◌∙◌}
+use Rattle.std.proofs.Common.{◌&&◌, ◌∷◌, [], cond, eq-eqb, sym, ap, ◌∙◌}
 use Rattle.std.specs.Prelude.{Ok}
 use Rattle.pipe_table.specs.PipeRows.{pipe_at}
 use Rattle.gate_answers.specs.Answers.{body_in}

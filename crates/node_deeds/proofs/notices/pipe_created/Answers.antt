@@ -9,4 +9,4 @@ returns-then-is_welcome-clause-deeds g c =
     let named = sym c.pipe_named_in.ensures ∙ c.in-Some.is in
     let welcome = sym c.is_welcome.ensures ∙ c.if-is_welcome.true in
     λ a init. c.accepts.ensures.deeds a init
-        ∙ created_welcome (host_core c.args.host s.journal.state s.tables init) c.args.body.now c.in-Some.row named welcome
+    ∙ created_welcome (host_core c.args.host s.journal.state s.tables init) c.args.body.now c.in-Some.row named welcome

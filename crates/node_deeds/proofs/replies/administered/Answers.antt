@@ -17,6 +17,6 @@ returns-clause-deeds g c =
     let s = c.args.store.now in
     let message = c.args.message.now in
     λ a. c.done.ensures.deeds a
-        ∙ ap (decision_deeds (controller_core s.journal.state s.tables) c.args.host c.args.pipe)
-        (c.decide-decision.ensures.decided
-        ∙ ap (λ t. decided t c.args.view.now c.args.host c.args.pipe (instruction_in message) (body_in message)) c.tables.ensures)
+    ∙ ap (decision_deeds (controller_core s.journal.state s.tables) c.args.host c.args.pipe)
+    (c.decide-decision.ensures.decided
+    ∙ ap (λ t. decided t c.args.view.now c.args.host c.args.pipe (instruction_in message) (body_in message)) c.tables.ensures)

@@ -14,18 +14,18 @@ pub returns-in-Some-notice-clause-deeds : goal.returns-in-Some-notice-clause-dee
 returns-in-Some-notice-clause-deeds g c =
     let s = c.args.store.now in
     λ a up. c.settled.ensures.deeds a
-        ∙ one_notice (controller_core s.journal.state s.tables) c.args.code up c.args.desks.now c.args.host c.in-Some.desk c.in-Some-notice.notice
-        c.in-Some.ensures c.in-Some-notice.is
+    ∙ one_notice (controller_core s.journal.state s.tables) c.args.code up c.args.desks.now c.args.host c.in-Some.desk c.in-Some-notice.notice
+    c.in-Some.ensures c.in-Some-notice.is
 
 pub returns-in-None-notice-clause-deeds : goal.returns-in-None-notice-clause-deeds
 returns-in-None-notice-clause-deeds g c =
     let s = c.args.store.now in
     λ a up. ap (deeds_shown a) c.dropped.ensures
-        ∙ no_notice (controller_core s.journal.state s.tables) c.args.code up c.args.desks.now c.args.host c.in-Some.desk c.in-Some.ensures
-        c.in-None-notice.is
+    ∙ no_notice (controller_core s.journal.state s.tables) c.args.code up c.args.desks.now c.args.host c.in-Some.desk c.in-Some.ensures
+    c.in-None-notice.is
 
 pub returns-in-None-clause-deeds : goal.returns-in-None-clause-deeds
 returns-in-None-clause-deeds g c =
     let s = c.args.store.now in
     λ a up. ap (deeds_shown a) c.dropped-in-None.ensures
-        ∙ no_desk (controller_core s.journal.state s.tables) c.args.code up c.args.desks.now c.args.host c.in-None.ensures
+    ∙ no_desk (controller_core s.journal.state s.tables) c.args.code up c.args.desks.now c.args.host c.in-None.ensures

@@ -13,8 +13,8 @@ pub push-requires : goal.push-requires
 push-requires c =
     let passed = sym c.is_in.ensures ∙ c.if-is_in.true in
     let place : length c.loop-host.deeds.items < 9 =
-        has_place c.args.tell c.args.notice.now.items c.loop-host.host c.loop-host.deeds.items c.requires.few c.loop-host.auto.host
-        c.loop-host-test.true passed c.loop-host.invariant.many in
+    has_place c.args.tell c.args.notice.now.items c.loop-host.host c.loop-host.deeds.items c.requires.few c.loop-host.auto.host
+    c.loop-host-test.true passed c.loop-host.invariant.many in
     (omega arith, place)
 
 pub loop-host-preserved : goal.loop-host-preserved
@@ -53,6 +53,6 @@ unfolding hosts_where
 returns-clause-told c =
     let last : c.loop-host.host ≡ 8 = omega arith in
     λ a. c.loop-host.invariant.told a
-        ∙ ap
-        (λ (host : ℕ). deeds_shown a c.args.deeds.now.items
-            ++ map (λ (told : ℕ). Tells told c.args.notice.now.items) (hosts_below (has c.args.tell) host)) last
+    ∙ ap
+    (λ (host : ℕ). deeds_shown a c.args.deeds.now.items
+    ++ map (λ (told : ℕ). Tells told c.args.notice.now.items) (hosts_below (has c.args.tell) host)) last

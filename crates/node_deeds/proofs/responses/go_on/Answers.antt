@@ -18,7 +18,7 @@ returns-then-is_same-clause-deeds g c = λ pipe message.
     let a = handled_by host (Some i) pipe message in
     let old = c.args.deeds.now.items in
     let same = ap (λ t. is_same (host_core host s.journal.state t (Some i)) i value) (sym c.tables.ensures)
-        ∙ (sym (c.is_same.ensures s.journal.state (Some i)) ∙ c.if-is_same.true) in
+    ∙ (sym (c.is_same.ensures s.journal.state (Some i)) ∙ c.if-is_same.true) in
     ap (deeds_shown a) c.push-then-is_same.ensures.items
     ∙ (map-append (deed_shown a) old (kept.Ends Same ∷ [])
     ∙ ap (λ ds. deeds_shown a old ++ ds)
@@ -32,7 +32,7 @@ returns-else-is_same-clause-deeds g c = λ pipe message.
     let value = c.args.value.now in
     let a = handled_by host (Some i) pipe message in
     let differs = ap (λ t. is_same (host_core host s.journal.state t (Some i)) i value) (sym c.tables.ensures)
-        ∙ (sym (c.is_same.ensures s.journal.state (Some i)) ∙ c.if-is_same.false) in
+    ∙ (sym (c.is_same.ensures s.journal.state (Some i)) ∙ c.if-is_same.false) in
     c.send_next.ensures.deeds pipe message
     ∙ ap (λ ds. deeds_shown a c.args.deeds.now.items ++ ds)
     (init_next (host_core host s.journal.state s.tables (Some i)) i c.args.code value c.if-code-ne0.false differs)

@@ -7,7 +7,7 @@ pub returns-then-code-eq0-clause-deeds : goal.returns-then-code-eq0-clause-deeds
 returns-then-code-eq0-clause-deeds g c =
     let s = c.args.store.now in
     λ a init. c.learn.ensures.deeds a init
-        ∙ ap
-        (λ b. deeds_shown a c.args.deeds.now.items
-            ++ cond b (learned_of (host_core c.args.host s.journal.state s.tables init) c.args.order c.args.value.now) [])
-        (sym (eq-eqb c.args.code 0 c.if-code-eq0.true))
+    ∙ ap
+    (λ b. deeds_shown a c.args.deeds.now.items
+    ++ cond b (learned_of (host_core c.args.host s.journal.state s.tables init) c.args.order c.args.value.now) [])
+    (sym (eq-eqb c.args.code 0 c.if-code-eq0.true))

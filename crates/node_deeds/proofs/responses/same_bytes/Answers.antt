@@ -1,4 +1,4 @@
-use Rattle.std.proofs.Common.{sym, ◌∙◌}
+use Rattle.std.proofs.Common.{◌∙◌}
 use Rattle.std.specs.Cmp.Lexicographic.{same_text, other_text}
 use Rattle.node_deeds.proofs.SameBytes.{same_by}
 use Rattle.node_deeds.proofs.responses.same_bytes.Goals as goal

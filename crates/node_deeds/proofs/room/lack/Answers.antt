@@ -1,4 +1,4 @@
-use Rattle.std.proofs.Common.{◌≡◌, suc, ◌+◌, ◌∷◌, [], drop, sym, ap, ap₂, ◌∙◌, arith}
+use Rattle.std.proofs.Common.{◌≡◌, suc, ◌+◌, ◌∷◌, drop, sym, ap, ap₂, ◌∙◌, arith}
 use Rattle.std.specs.Prelude.{slice_index}
 use Rattle.std.proofs.Math.Seq.{drop-cons}
 use Rattle.std.proofs.Math.ListN.{drop_of_length-le}
@@ -17,7 +17,7 @@ returns-in-Some c = λ a ports long same.
     let next : suc i ≡ i + 1 = omega arith in
     let dropped = drop-cons ds i d c.loop-deed-test.true ∙ ap₂ (λ x k. x ∷ drop k ds) (sym c.deed-item.is) next in
     let found = lack_found (λ h. slice_index spares h) c.args.host (deed_shown a d) (deeds_shown a (drop (i + 1) ds)) (lack_shown c.in-Some.lack)
-        (c.in-Some.ensures a long) in
+    (c.in-Some.ensures a long) in
     found
     ∙ (ap (λ xs. lack_by (λ h. slice_index spares h) (needs c.args.host (deeds_shown a xs))) (sym dropped)
     ∙ (sym (c.loop-deed.invariant a long) ∙ lack_there spares ports same (needs c.args.host (deeds_shown a ds))))

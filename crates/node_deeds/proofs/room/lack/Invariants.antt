@@ -1,4 +1,4 @@
-use Rattle.std.proofs.Common.{◌≡◌, ℕ, List, take, drop, length}
+use Rattle.std.proofs.Common.{◌≡◌, ℕ, drop, length}
 use Rattle.std.specs.Prelude.{slice_index}
 use Rattle.node_machine.specs.Carrying.{needs}
 use Rattle.node_deeds.specs.Shown.{Handling, deeds_shown}
