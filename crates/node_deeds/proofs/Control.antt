@@ -19,7 +19,8 @@ use Rattle.link_machine.specs.Machine.{Message}
 use Rattle.node_machine.specs.Parts.{Core, Port}
 use Rattle.node_machine.specs.Parts.Deed.{Commits, Sends, SaysOk, Tells, Drops}
 use Rattle.node_machine.specs.Carrying.{port_at, has_room_for}
-use Rattle.node_machine.specs.Controller.{asks_for, view_for, commit_deeds, decision_deeds, gate_deeds, own_gate, goes_through, served_at, command_deeds, agreed}
+use Rattle.node_machine.specs.Controller.{asks_for, view_for, commit_deeds, decision_deeds, gate_deeds, own_gate, goes_through, served_at, command_deeds}
+use Rattle.node_machine.specs.Controller.{agreed}
 use Rattle.node_machine.specs.Controller.{response_at, unless_asking, if_notice, kind_deeds, controller_deeds}
 use Rattle.node_deeds.specs.declared.desks.About.{About as KeptAbout}
 use Rattle.node_deeds.specs.declared.desks.About.TheVariants as about

@@ -30,7 +30,8 @@ command_instruction (first ∷ rest) n e =
     (λ _. cond_both (eqb (first / 64) 1) (Ok (Event, first % 64)) _ (λ (x : Result (MessageKind × ℕ) MessageFault). x ≡ Ok (Command, n) → n ≡ first % 64)
     (λ _ is. absurd (false≢true (ap is_command_header is)))
     (λ _. cond_both (eqb (first / 64) 2) (Ok (Response, first % 64)) (Err ReservedType)
-    (λ (x : Result (MessageKind × ℕ) MessageFault). x ≡ Ok (Command, n) → n ≡ first % 64) (λ _ is. absurd (false≢true (ap is_command_header is))) (λ _ is. absurd (false≢true (ap is_command_header is))))) e
+    (λ (x : Result (MessageKind × ℕ) MessageFault). x ≡ Ok (Command, n) → n ≡ first % 64)
+    (λ _ is. absurd (false≢true (ap is_command_header is))) (λ _ is. absurd (false≢true (ap is_command_header is))))) e
 
 pub command_message : (message : List ℕ) (n : ℕ) → header_of message ≡ Ok (Command, n) → IsCommandMessage message
 command_message message n e = e ∙ ap (λ k. Ok (Command, k)) (command_instruction message n e)

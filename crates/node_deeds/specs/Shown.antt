@@ -129,9 +129,9 @@ pub record Handling : Type 0 where
   pub message : Message
 
 -- the init with so many answers
-abbrev pub goes_on : Option Init → ℕ → Deed
-goes_on None answered = Hears
-goes_on (Some i) answered = GoesOn (record i { answered = answered })
+abbrev pub goes_on_with : Option Init → ℕ → Deed
+goes_on_with None answered = Hears
+goes_on_with (Some i) answered = GoesOn (record i { answered = answered })
 
 -- how an init ends at the end of a host
 abbrev pub end_shown : End → InitEnd → Entry
@@ -153,7 +153,7 @@ deed_shown a (kept.Drops pipe) = Drops pipe
 deed_shown a (kept.SetsErrors errors) = SetsErrors errors
 deed_shown a (kept.Orders order) = Orders order.items
 deed_shown a kept.Hears = Hears
-deed_shown a (kept.GoesOn answered) = goes_on a.init answered
+deed_shown a (kept.GoesOn answered) = goes_on_with a.init answered
 deed_shown a (kept.Ends e) = Ends (end_shown (end_of a.node Host) e)
 
 abbrev pub deeds_shown : Handling → List KeptDeed → List Deed
