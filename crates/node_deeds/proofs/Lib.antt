@@ -3,7 +3,6 @@ pub mod Decisions
 pub mod Headers
 pub mod Views
 pub mod Telling
-pub mod Rooms
 pub mod Control
 pub mod HostWalks
 pub mod RoomLemmas

@@ -1,5 +1,5 @@
 -- A node's core as its code keeps it, and what its code asks for.
-use Rattle.std.specs.Prelude.{◌≡◌, ℕ, ◌^◌, ◌<◌, ◌≤◌, ◌⊎◌, List, [], ◌∷◌, length, Option, Some, None, IsTrue, IsSome}
+use Rattle.std.specs.Prelude.{◌≡◌, ℕ, ◌<◌, ◌≤◌, ◌⊎◌, List, [], ◌∷◌, length, Option, Some, None, IsTrue, IsSome}
 use Rattle.std.specs.List.{AllByRecursion}
 use Rattle.journal_laws.specs.declared.state.State.{State}
 use Rattle.pipe_table.specs.declared.row.PipeRow.{PipeRow}
@@ -33,12 +33,11 @@ pub record IsCoreOf {N : Type 0} (s : Stored N) (core : Core) : Type 0 where
   pub journal : core.journal ≡ s.journal.state
   pub tables : core.tables ≡ s.tables
 
--- a store that was started and may be asked for room, and whose generation is one that a memory holds
+-- a store that was started and may be asked for room
 pub record IsReady {N : Type 0} (s : Stored N) : Type 0 where
   pub live : IsTrue s.journal.live
   pub started : IsSome s.journal.state.in_use
   pub version : s.journal.state.version ≡ 2
-  pub generation : s.journal.state.generation < 2 ^ 32
 
 -- the pipe of a creation that waits, where there is one, may be made
 abbrev pub IsSoundRow : Option PipeRow → Type 0
