@@ -1,5 +1,5 @@
 //! A store over a memory.
-ghost use Rattle.std.specs.Prelude.{◌≡◌, ◌≢◌, ◌⊎◌, ◌↔◌, ◌+◌, ◌-◌, ◌^◌, ◌≤◌, ◌<◌, length, min, true, false, is_ok, None, Err, Some, IsSome, IsTrue, IfOk, IfErr};
+ghost use Rattle.std.specs.Prelude.{◌≡◌, ◌≢◌, ◌⊎◌, ◌↔◌, ◌+◌, ◌-◌, ◌^◌, ◌≤◌, ◌<◌, if◌then◌else◌, nat_lt, length, min, true, false, is_ok, None, Err, Some, IsSome, IsTrue, IfOk, IfErr};
 ghost use Rattle.std.specs.Prelude.{OnOk, OnErr, MatchResult};
 ghost use Rattle.swp_base.specs.Outside.{Rose};
 ghost use Rattle.journal_laws.specs.Writes.{AreRead, AreMade};
@@ -228,10 +228,12 @@ impl<N: Nv + Drop> Store<N> {
         requires command { IsCommand command.now }
         ensures answer { (result ≡ false)
             ↔ ((record_fits self.old.journal.state (body_of command.now) ≡ false) × (self.old.journal.state.generation ≡ 4294967295)) }
+        ensures room { result ≡ (if record_fits self.old.journal.state (body_of command.now) then true
+            else nat_lt self.old.journal.state.generation 4294967295) }
         ensures unchanged { self.new ≡ self.old }
     {
         let body = write_command(command);
-        self.is_fitting(body.as_slice()) || self.journal.generation() != u32::MAX
+        self.is_fitting(body.as_slice()) || self.journal.generation() < u32::MAX
     }
 
     /// Writes the tables as a snapshot into the other bank where a record with this body doesn't fit into the bank in use.
