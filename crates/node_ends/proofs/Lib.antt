@@ -5,3 +5,4 @@ pub mod Setting
 pub mod Apart
 pub mod Quiet
 pub mod Fetching
+mod Reading

@@ -1,10 +1,11 @@
 -- What is kept of the ends of a node, and for which ports of its machine it stands.
-use Rattle.std.specs.Prelude.{◌≡◌, ◌≢◌, ℕ, suc, ◌+◌, ◌*◌, ◌==◌, Bool, false, if◌then◌else◌, List, [], ◌∷◌, length, ◌≤◌, ◌<◌, is_none, Option, Some, None, option_map}
+use Rattle.std.specs.Prelude.{◌≡◌, ◌≢◌, ℕ, suc, ◌+◌, ◌*◌, ◌==◌, Bool, false, if◌then◌else◌, List, [], ◌∷◌, length, take, ◌≤◌, ◌<◌, is_none, Option, Some, None, option_map}
 use Rattle.std.specs.List.{AllByRecursion}
 use Rattle.std.specs.Option.{option_map_or}
 use Rattle.block_pool.specs.Pool.{PoolState}
 use Rattle.link_machine.specs.Machine.{Message, give_refusal}
 use Rattle.node_machine.specs.Parts.{Port}
+use Rattle.node_machine.specs.Carrying.{port_at}
 use Rattle.node_ends.specs.declared.seat.Seat.{Seat}
 use Rattle.node_ends.specs.declared.ends.Ends.{Ends}
 use Rattle.node_ends.specs.Desks.{desk_of}
@@ -68,3 +69,12 @@ AreHeld seats = AllByRecursion (λ (s : Seat). WaitsHeld s.waiting s.side.link) 
 -- what is kept of all ends of a node, with their pool, stands for these ports
 abbrev pub EndsStandFor : Ends → List Port → Type 0
 EndsStandFor e ports = AreEnds e.pool e.seats.items ports
+
+-- the messages that came at the end of the link with this host and had no turn
+abbrev pub got_at : List Port → ℕ → List Message
+got_at ports h = option_map_or (λ (p : Port). p.side.got) (port_at ports h) []
+
+-- a message that was read, with its pipe and how many bytes of the buffer it has
+abbrev pub message_read : Option (ℕ × ℕ) → List ℕ → List Message
+message_read None buffer = []
+message_read (Some x) buffer = (x.0, take x.1 buffer) ∷ []

@@ -25,8 +25,8 @@ use swp_lpdu::LpduFault;
 /// The ends of all links of a node in one pool.
 #[derive(Drop)]
 pub struct Ends {
-    pool: Pool,
-    seats: Vec<Seat>,
+    pub(crate) pool: Pool,
+    pub(crate) seats: Vec<Seat>,
 }
 
 impl Ends {

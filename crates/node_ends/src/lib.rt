@@ -4,6 +4,7 @@
 
 mod desk;
 mod ends;
+mod looking;
 mod places;
 mod seat;
 
