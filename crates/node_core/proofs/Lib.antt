@@ -3,3 +3,6 @@ pub mod Doing
 pub mod Steps
 pub mod Planned
 pub mod Holding
+pub mod Deciding
+pub mod Quiet
+pub mod Turns

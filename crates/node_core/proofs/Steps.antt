@@ -19,8 +19,8 @@ use Rattle.node_core.specs.Bringing.{Brings, WereMade, Foretells, plan_left}
 use Rattle.link_machine.specs.Machine.{Message}
 use Rattle.node_machine.specs.Parts.{Deed as DeedOf}
 use Rattle.node_machine.specs.Carrying.{done, all_done}
-use Rattle.node_core.specs.declared.deed.Deed.{Deed}
-use Rattle.node_core.specs.declared.deed.Deed.TheVariants as kept
+use Rattle.node_deeds.specs.declared.deeds.Deed.{Deed}
+use Rattle.node_deeds.specs.declared.deeds.Deed.TheVariants as kept
 use Rattle.node_core.specs.Deeds.{deed_of, IsDoable, AreDoable}
 use Rattle.node_core.proofs.Joining.{brings_plain, brings_then, brings_cut}
 use Rattle.node_core.proofs.Doing.{more_noted}
@@ -99,6 +99,11 @@ deed_anyway m (kept.Releases asker) w plan h = h
 deed_anyway m (kept.Tells host notice) w plan h = h
 deed_anyway m kept.IsAnswered w plan h = h
 deed_anyway m (kept.Drops pipe) w plan h = h
+deed_anyway m (kept.SetsErrors errors) w plan h = h
+deed_anyway m (kept.Orders order) w plan h = h
+deed_anyway m kept.Hears w plan h = h
+deed_anyway m (kept.GoesOn answered) w plan h = h
+deed_anyway m (kept.Ends e) w plan h = h
 
 deeds_anyway : (h : ℕ) (m : Message) (deeds : List Deed) (w : Work) (plan : Option Plan) → AreDoable h m deeds (record w { plan = plan })
     → AreDoable h m deeds w

@@ -3,3 +3,4 @@ pub mod Nodes
 pub mod Bringing
 pub mod Deeds
 pub mod Handling
+pub mod Turning

@@ -2,17 +2,17 @@
 ghost use Rattle.std.specs.Prelude.{◌≡◌};
 
 use crate::copies::copied;
-use crate::deed::Deed;
 use crate::node::Node;
 use crate::noting::note;
 use hci_tables::Command;
+use node_deeds::Deed;
 use node_ends::{About, Unanswered};
 use pipe_table::PipeRow;
 use swp_base::Nv;
 use trace_model::{End, Entry, Octets, Watch};
 
 impl<N: Nv + Drop> Node<N> {
-    ghost use Rattle.std.specs.Prelude.{◌≡◌, ◌<◌, ℕ, true, false, List, ◌∷◌, [], length, IsTrue};
+    ghost use Rattle.std.specs.Prelude.{◌≡◌, ◌<◌, ℕ, true, false, List, ◌∷◌, [], map, length, IsTrue};
     ghost use Rattle.hcp_packet.specs.Packets.{IsSendable};
     ghost use Rattle.trace_model.specs.declared.entry.Entry.{Entry as Noted};
     ghost use Rattle.hci_tables.specs.Commands.{IsCommand};
@@ -27,7 +27,7 @@ impl<N: Nv + Drop> Node<N> {
     ghost use Rattle.node_core.specs.Bringing.{Brings};
     ghost use Rattle.node_machine.specs.Turns.{handles, holds_back};
     ghost use Rattle.node_core.specs.Handling.{has_turn, is_noted_held};
-    ghost use Rattle.node_core.specs.Deeds.{deed_of, deeds_of, IsDoable, AreDoable};
+    ghost use Rattle.node_core.specs.Deeds.{deed_of, IsDoable, AreDoable};
 
     // The node's end of the link with this host.
     pub(crate) fn end_at(&self, host: u8) -> End
@@ -210,8 +210,11 @@ impl<N: Nv + Drop> Node<N> {
                 self.release(*asker, watch);
                 true
             }
-            Deed::Tells { host: to, notice } => {
-                self.notify(*to, About::Removed, notice.as_slice(), watch);
+            Deed::Tells {
+                host: to,
+                message: told,
+            } => {
+                self.notify(*to, About::Removed, told.as_slice(), watch);
                 true
             }
             Deed::IsAnswered => {
@@ -222,6 +225,14 @@ impl<N: Nv + Drop> Node<N> {
                 self.drop_message(host, *on, watch);
                 true
             }
+            Deed::SetsErrors { errors } => {
+                self.ends.set_errors(host, *errors);
+                true
+            }
+            Deed::Orders(_order) => true,
+            Deed::Hears => true,
+            Deed::GoesOn { answered: _ } => true,
+            Deed::Ends(_end) => true,
         }
     }
 
@@ -240,7 +251,7 @@ impl<N: Nv + Drop> Node<N> {
             × AreDoable host (pipe, message.now) deeds.now w }
         ensures carried { (start : List Noted) (w : Work) → IsUnderWay self.old (W.noted watch.old) (W.is_short watch.old) start w
             → Brings N.writes self.old.store.journal.nv self.new.store.journal.nv
-            (IsUnderWay self.new (W.noted watch.new) (W.is_short watch.new) start) (all_done host (deeds_of (pipe, message.now) deeds.now)) w }
+            (IsUnderWay self.new (W.noted watch.new) (W.is_short watch.new) start) (all_done host (map (deed_of (pipe, message.now)) deeds.now)) w }
         ensures live { result ≡ self.new.store.journal.live }
         ensures runs { Runs self.new }
     {
@@ -287,7 +298,7 @@ impl<N: Nv + Drop> Node<N> {
         ensures carried { (start : List Noted) (w : Work) → IsUnderWay self.old (W.noted watch.old) (W.is_short watch.old) start w
             → Brings N.writes self.old.store.journal.nv self.new.store.journal.nv
             (IsUnderWay self.new (W.noted watch.new) (W.is_short watch.new) start)
-            (handles host (pipe, message.now) (deeds_of (pipe, message.now) deeds.now)) w }
+            (handles host (pipe, message.now) (map (deed_of (pipe, message.now)) deeds.now)) w }
         ensures live { result ≡ self.new.store.journal.live }
         ensures runs { Runs self.new }
     {

@@ -4,9 +4,8 @@
 
 mod carrying;
 mod copies;
-mod deed;
 mod node;
 mod noting;
+mod turns;
 
-pub use deed::Deed;
 pub use node::Node;

@@ -1,8 +1,7 @@
 //! What is read at the ends of a node.
-ghost use Rattle.std.specs.Prelude.{◌≡◌, ◌≤◌, List, Some, IfSome, length, option_map};
+ghost use Rattle.std.specs.Prelude.{◌≡◌, ◌≤◌, List, Some, IfSome, length};
 ghost use Rattle.node_machine.specs.Parts.{Port};
 ghost use Rattle.node_machine.specs.Carrying.{port_at, with_port};
-ghost use Rattle.node_ends.specs.Desks.{desk_of};
 ghost use Rattle.node_ends.specs.Ends.{AreEnds, place_in, got_at, message_read};
 
 use crate::desk::Desk;
@@ -12,7 +11,7 @@ use crate::seat::Seat;
 use block_pool::Pool;
 
 impl Ends {
-    ghost use Rattle.std.specs.Prelude.{◌≡◌, ◌≤◌, List, IfSome, length, option_map};
+    ghost use Rattle.std.specs.Prelude.{◌≡◌, ◌≤◌, List, IfSome, length, option_map, slice_get};
     ghost use Rattle.node_machine.specs.Parts.{Port};
     ghost use Rattle.node_machine.specs.Carrying.{port_at, with_port};
     ghost use Rattle.node_ends.specs.Desks.{desk_of};
@@ -43,16 +42,16 @@ impl Ends {
         }
     }
 
-    /// What is kept of the end of the link with this host, where there is one.
-    pub fn desk(&self, host: u8) -> Option<Desk>
+    /// What is kept of the end at this place, where there is one.
+    pub fn desk(&self, i: usize) -> Option<Desk>
         requires { (ports : List Port) × EndsStandFor self.now ports }
         ensures { (ports : List Port) → EndsStandFor self.now ports
-            → option_map desk_of result ≡ option_map (λ (p : Port). p.desk) (port_at ports host) }
+            → option_map desk_of result ≡ option_map (λ (p : Port). p.desk) (slice_get ports i) }
     {
-        let Some(i) = place_of(self.seats.as_slice(), host) else {
-            return None;
-        };
-        Some(desk_at(self.seats.as_slice(), i, &self.pool, host))
+        match self.seats.get(i) {
+            Some(seat) => Some(seat.desk),
+            None => None,
+        }
     }
 }
 
@@ -80,13 +79,4 @@ fn set_errors_at(seats: &mut [Seat], i: usize, pool: &Pool, host: u8, errors: u1
         → AreEnds pool.now seats.new (with_port host (λ p. record p { desk = record p.desk { errors = errors } }) ports) }
 {
     seats[i].desk.errors = errors;
-}
-
-fn desk_at(seats: &[Seat], i: usize, pool: &Pool, host: u8) -> Desk
-    requires place { place_in host seats.now ≡ Some i }
-    requires stands { (ports : List Port) × AreEnds pool.now seats.now ports }
-    ensures { (ports : List Port) → AreEnds pool.now seats.now ports
-        → Some (desk_of result) ≡ option_map (λ (p : Port). p.desk) (port_at ports host) }
-{
-    seats[i].desk
 }

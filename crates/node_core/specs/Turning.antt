@@ -1,0 +1,26 @@
+-- A turn of a message, as a node decides on it.
+use Rattle.std.specs.Prelude.{◌≡◌, ℕ, Bool, false, List, map, Option, option_map}
+use Rattle.std.specs.Option.{option_map_or}
+use Rattle.link_machine.specs.Machine.{Message, is_held}
+use Rattle.node_machine.specs.Parts.{Port, Work}
+use Rattle.node_machine.specs.Carrying.{port_at, needs, lack}
+use Rattle.node_machine.specs.Turns.{deeds_of}
+use Rattle.node_deeds.specs.declared.deeds.Deed.{Deed}
+use Rattle.node_deeds.specs.declared.room.Shortfall.{Shortfall}
+use Rattle.node_deeds.specs.Room.{lack_shown}
+use Rattle.node_ends.specs.Ends.{HasFewDue}
+use Rattle.node_core.specs.Deeds.{deed_of, AreDoable}
+use Rattle.node_core.specs.Handling.{has_turn}
+
+-- the end of the link with this host is held
+abbrev pub held_at : List Port → ℕ → Bool
+held_at ports h = option_map_or (λ (p : Port). is_held p.side) (port_at ports h) false
+
+-- What was decided of a message that waits at the end with this host: these deeds, which lack this room or may be done. The end is
+-- held or not, and at most six control frames wait there to be sent.
+pub record IsDecided (h : ℕ) (m : Message) (deeds : List Deed) (short : Option Shortfall) (held : Bool) (w : Work) : Type 0 where
+  pub deeds_are : deeds_of w.core w.ports h m ≡ map (deed_of m) deeds
+  pub lacks : lack w.ports (needs h (map (deed_of m) deeds)) ≡ option_map lack_shown short
+  pub doable : AreDoable h m deeds (has_turn h m w)
+  pub held_is : held ≡ held_at w.ports h
+  pub few : HasFewDue (port_at w.ports h)
