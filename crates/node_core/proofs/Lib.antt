@@ -5,4 +5,4 @@ pub mod Planned
 pub mod Holding
 pub mod Deciding
 pub mod Quiet
-pub mod Turns
+pub mod HavingTurns

@@ -91,11 +91,12 @@ done_quiet h (Ends e) w = refl
 
 all_quiet : (h : ℕ) (deeds : List Deed) (w : Work) → map quiet_at (all_done h deeds w).ports ≡ map quiet_at w.ports
 all_quiet h [] w = refl
-all_quiet h (d ∷ deeds) w = by (done h d w).cut refl
+all_quiet h (d ∷ deeds) w = by (all_quiet h deeds (done h d w)) (done h d w).cut refl
   where
-    by : (b : Bool) → (done h d w).cut ≡ b → map quiet_at (all_done h (d ∷ deeds) w).ports ≡ map quiet_at w.ports
-    by true q = rw q (done_quiet h d w)
-    by false q = rw q (all_quiet h deeds (done h d w) ∙ done_quiet h d w)
+    by : map quiet_at (all_done h deeds (done h d w)).ports ≡ map quiet_at (done h d w).ports → (b : Bool) → (done h d w).cut ≡ b
+        → map quiet_at (all_done h (d ∷ deeds) w).ports ≡ map quiet_at w.ports
+    by later true q = rw q (done_quiet h d w)
+    by later false q = rw q (later ∙ done_quiet h d w)
 
 pub handles_quiet : (h : ℕ) (m : Message) (deeds : List Deed) (w : Work) → map quiet_at (handles h m deeds w).ports ≡ map quiet_at w.ports
 handles_quiet h m deeds w =

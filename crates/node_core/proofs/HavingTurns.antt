@@ -29,6 +29,11 @@ pub has_none : (h : ℕ) (m : Message) (deeds : List DeedOf) (short : ℕ × ℕ
     → have_turns h (m ∷ []) (record w { plan = plan }) ≡ holds_back h short (record w { plan = plan })
 has_none h m deeds short w is none plan = rw (is, none) refl
 
+-- nothing is lacking
+pub no_some : {X : Type 0} (o : Option X) → ((x : X) → o ≡ Some x → ⊥) → o ≡ None
+no_some None none = refl
+no_some (Some x) none = absurd (none x refl)
+
 -- ## What is done without a write
 
 pub held_cut : (h : ℕ) (short : ℕ × ℕ) (w : Work) → (holds_back h short w).cut ≡ w.cut
