@@ -50,5 +50,5 @@ returns-clause-carried g c start w u d =
     let held = d.held_is ∙ sym (held_kept b.after.ports w.ports h (quiet_after h m deeds b power)) in
     let later = plainly g.N.Nv.writes {n2 = c.let_go.new.self} (lets_go h) b.stands on c.let_go.ensures.store
     (c.let_go.ensures.carried _ _ start b.after b.stands held) (let_cut h b.after) (let_writes h b.after) (let_anyway h b.after) in
-    let room = d.lacks ∙ ap (option_map lack_shown) (no_some c.args.lack c.in_default.not-Some) in
+    let room = d.lacks ∙ ap (option_map lack_shown) (no_some c.args.short c.in_default.not-Some) in
     brings_same (brings_then g.N.Nv.writes b power later) (λ plan. has_room h m deeds w d.deeds_are room plan)
