@@ -9,7 +9,6 @@ use Rattle.node_machine.specs.Parts.{Port, Work, Deed as DeedOf}
 use Rattle.node_machine.specs.Carrying.{port_at, turn_at, unless_cut, lack, needs}
 use Rattle.node_machine.specs.Turns.{deeds_of, handles, holds_back, lets_go, have_turns}
 use Rattle.std.specs.Prelude.{◌==◌}
-use Rattle.std.specs.List.{AllByRecursion}
 use Rattle.hcp_packet.specs.Packets.{AreSendable}
 use Rattle.node_machine.specs.Parts.{Core}
 use Rattle.node_machine.specs.Controller.{controller_deeds}
@@ -22,6 +21,7 @@ use Rattle.node_ends.specs.Ends.{got_at}
 use Rattle.node_core.specs.Deeds.{deed_of, AreAllowed}
 use Rattle.node_core.specs.Handling.{has_turn}
 use Rattle.node_core.specs.Turning.{held_at, IsDecided, MayHaveTurns}
+use Rattle.node_core.proofs.Allowing.{controller_allowed}
 use Rattle.node_core.proofs.Deciding.{all_doable}
 use Rattle.node_core.specs.Bringing.{Foretells, Brings}
 use Rattle.node_core.proofs.Quiet.{quiet_at, handles_quiet}
@@ -131,13 +131,11 @@ decided h pipe up message desks spares deeds short held w node may got told made
     let m : Message = (pipe, message) in
     let is : deeds_of w.core w.ports h m ≡ map (deed_of m) deeds = at_controller w.core w.ports h m node ∙ sym told in
     let sendable = subst AreSendable got may.sendable in
-    let P : List Message → Type 0 = λ ms. AllByRecursion (λ (x : Message). AreAllowed h (deeds_of w.core w.ports h x) (has_turn h x w)) ms in
-    let allowed = subst P got may.allowed in
     let A : List DeedOf → Type 0 = λ ds. AreAllowed h ds (has_turn h m w) in
     record {
       deeds_are = is;
       lacks = sym lacks;
-      doable = all_doable h m deeds (has_turn h m w) sendable.0 made (subst A is allowed.0);
+      doable = all_doable h m deeds (has_turn h m w) sendable.0 made (subst A (sym told) (controller_allowed h m w may.asides));
       held_is = holds ∙ may.held_is;
       few = may.few;
     }

@@ -6,3 +6,4 @@ pub mod Holding
 pub mod Deciding
 pub mod Quiet
 pub mod HavingTurns
+pub mod Allowing

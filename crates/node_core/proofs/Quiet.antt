@@ -63,7 +63,7 @@ keeps_desk h f same ports =
     with_port_quiet h (λ p. record p { desk = f p.desk })
     (λ p. ap (λ (n : ℕ). (n, length p.side.acts + length p.side.shdlc.due, p.side.shdlc.ready)) (same p.desk)) ports
 
-commit_ports : (c : Command) (w : Work) → (commit c w).ports ≡ w.ports
+pub commit_ports : (c : Command) (w : Work) → (commit c w).ports ≡ w.ports
 commit_ports c w = by (fails_within (length (commit_writes w.core.journal w.core.tables (body_of c))) w.plan) refl
   where
     by : (b : Bool) → fails_within (length (commit_writes w.core.journal w.core.tables (body_of c))) w.plan ≡ b → (commit c w).ports ≡ w.ports

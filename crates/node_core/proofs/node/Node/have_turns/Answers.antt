@@ -1,9 +1,8 @@
-use Rattle.std.proofs.Common.{◌≡◌, ℕ, List, [], ◌∷◌, map, take, length, refl, sym, ap, ◌∙◌, subst, true, false, not, arith, length-take}
-use Rattle.std.specs.Prelude.{Option, Some, None, option_map}
+use Rattle.std.proofs.Common.{◌≡◌, ℕ, List, [], ◌∷◌, map, take, length, sym, ap, ◌∙◌, subst, false, not, arith, length-take}
+use Rattle.std.specs.Prelude.{Option, option_map}
 use Rattle.hci_store.specs.Stored.{Stored}
-use Rattle.trace_model.specs.declared.entry.Entry.{Entry as Noted}
 use Rattle.link_machine.specs.Machine.{Message}
-use Rattle.node_machine.specs.Parts.{Port, Work}
+use Rattle.node_machine.specs.Parts.{Work}
 use Rattle.node_machine.specs.Turns.{lets_go, have_turns}
 use Rattle.node_machine.specs.Carrying.{lack, needs}
 use Rattle.node_machine.specs.Controller.{controller_deeds}
@@ -14,7 +13,7 @@ use Rattle.node_ends.specs.Ends.{got_at, message_read}
 use Rattle.node_core.specs.Nodes.{IsUnderWay}
 use Rattle.node_core.specs.Bringing.{Brings}
 use Rattle.node_core.specs.Deeds.{deed_of}
-use Rattle.node_core.specs.Turning.{IsDecided, MayHaveTurns}
+use Rattle.node_core.specs.Turning.{IsDecided}
 use Rattle.node_core.proofs.Steps.{plainly}
 use Rattle.node_core.proofs.HavingTurns.{no_some, decided, let_cut, let_writes, let_anyway}
 use Rattle.node_core.proofs.node.Node.have_turns.Goals as goal

@@ -1,4 +1,4 @@
-use Rattle.std.proofs.Common.{refl, ap, sym, ◌∙◌, subst, true, List, ◌++◌, ◌∷◌, []}
+use Rattle.std.proofs.Common.{refl, ap, sym, ◌∙◌, subst, true, ◌++◌, ◌∷◌, []}
 use Rattle.trace_model.specs.declared.line.End.{End}
 use Rattle.trace_model.specs.declared.entry.Entry.TheVariants as entry
 use Rattle.node_machine.specs.Parts.{Work}

@@ -1,14 +1,12 @@
-use Rattle.std.proofs.Common.{◌≡◌, ℕ, refl, sym, ap, ◌∙◌, subst, true, false, not, map}
-use Rattle.std.specs.Prelude.{Option, Some, None, option_map}
-use Rattle.node_deeds.specs.declared.room.Shortfall.{Shortfall}
+use Rattle.std.proofs.Common.{◌≡◌, ℕ, sym, ap, ◌∙◌, true, not, map}
+use Rattle.std.specs.Prelude.{option_map}
 use Rattle.node_deeds.specs.Room.{lack_shown}
 use Rattle.node_core.specs.Bringing.{Brings}
-use Rattle.node_machine.specs.Parts.{Work}
-use Rattle.node_machine.specs.Turns.{handles, holds_back, lets_go, have_turns}
+use Rattle.node_machine.specs.Turns.{handles, holds_back, lets_go}
 use Rattle.link_machine.specs.Machine.{Message}
 use Rattle.node_core.specs.Nodes.{IsUnderWay}
 use Rattle.node_core.specs.Deeds.{deed_of}
-use Rattle.node_core.proofs.Joining.{brings_then, brings_cut}
+use Rattle.node_core.proofs.Joining.{brings_then}
 use Rattle.node_core.proofs.Steps.{plainly}
 use Rattle.node_core.proofs.Quiet.{few_kept, held_kept}
 use Rattle.node_core.proofs.HavingTurns.{no_some, has_room, has_none, held_cut, held_writes, held_anyway, let_cut, let_writes, let_anyway, brings_same, quiet_after}
