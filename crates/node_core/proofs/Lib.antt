@@ -7,3 +7,5 @@ pub mod Deciding
 pub mod Quiet
 pub mod HavingTurns
 pub mod Allowing
+pub mod Passing
+pub mod Spares

@@ -6,6 +6,7 @@ mod carrying;
 mod copies;
 mod node;
 mod noting;
+mod seeing;
 mod turns;
 
 pub use node::Node;
