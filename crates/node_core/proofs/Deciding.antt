@@ -1,5 +1,5 @@
 -- Deeds that were decided may be done.
-use Rattle.std.proofs.Common.{arith, ◌≡◌, ℕ, true, List, [], ◌∷◌, map, refl}
+use Rattle.std.proofs.Common.{arith, ℕ, List, [], ◌∷◌, map}
 use Rattle.std.specs.Prelude.{None}
 use Rattle.hcp_packet.specs.Packets.{IsSendable}
 use Rattle.link_machine.specs.Machine.{Message}

@@ -1,11 +1,11 @@
 -- A message that lacks room.
-use Rattle.std.proofs.Common.{◌≡◌, ℕ, Bool, true, false, List, [], ◌∷◌, refl, sym, ap, ◌∙◌, subst}
-use Rattle.std.specs.Prelude.{Option, Some, None, ◌==◌}
+use Rattle.std.proofs.Common.{◌≡◌, ℕ, Bool, true, false, List, [], ◌∷◌, refl, ap, ◌∙◌}
+use Rattle.std.specs.Prelude.{◌==◌}
 use Rattle.std.specs.Option.{option_map_or}
 use Rattle.trace_model.specs.declared.entry.Entry.TheVariants as entry
 use Rattle.link_machine.specs.Machine.Turn.{Hold}
 use Rattle.node_machine.specs.Parts.{Port, Work, Desk as DeskOf}
-use Rattle.node_machine.specs.Carrying.{port_at, changed_if, with_port, with_desk, turn_at, noting, end_of_node}
+use Rattle.node_machine.specs.Carrying.{port_at, with_port, with_desk, turn_at, noting, end_of_node}
 use Rattle.node_machine.specs.Turns.{holds_back}
 use Rattle.node_ends.specs.Ends.{HasFewDue}
 use Rattle.node_core.specs.Handling.{is_noted_held}

@@ -7,7 +7,7 @@ use Rattle.journal_laws.specs.Planned.{fails_within}
 use Rattle.hci_tables.specs.declared.command.Command.{Command}
 use Rattle.hci_tables.specs.Bodies.{body_of}
 use Rattle.hci_store.specs.Committing.{commit_writes}
-use Rattle.link_machine.specs.Machine.{Message, Turn, Refused, given, unless, give_refusal, aside_refusal}
+use Rattle.link_machine.specs.Machine.{Message, Refused, given, unless, give_refusal, aside_refusal}
 use Rattle.link_machine.specs.Machine.Turn.{Give, FetchMessage, SetAside, Release}
 use Rattle.node_machine.specs.Parts.{Port, Work, Deed, Desk as DeskOf}
 use Rattle.node_machine.specs.Parts.Deed.{Commits, Sends, SaysOk, Asks, Releases, Tells, IsAnswered, Drops, SetsErrors, Orders, Hears, GoesOn, Ends}

@@ -31,9 +31,12 @@ let_go-requires-clause-few g c =
     let b : Brings g.N.Nv.writes c.args.self.now.store.journal.nv c.handle.new.self.store.journal.nv
     (IsUnderWay c.handle.new.self (g.W.Watch.noted c.handle.new.watch) (g.W.Watch.is_short c.handle.new.watch) r.0)
     (handles h m (map (deed_of m) c.args.deeds.now)) r.1 = c.handle.ensures.carried r.0 r.1 r.2 in
-    let on : c.handle.new.self.store.journal.live ≡ true = sym c.handle.ensures.live ∙ c.if-not-handle.false in
-    (b.after.ports, b.stands.ends, few_kept r.1.ports b.after.ports h
-    (sym (quiet_after h m (map (deed_of m) c.args.deeds.now) b (b.stands.power ∙ ap not on))) r.3.few)
+    let on : c.handle.new.self.store.journal.live ≡ true = sym c.handle.ensures.live ∙ c.if-not-handle.false in (
+      b.after.ports,
+      b.stands.ends,
+      few_kept r.1.ports b.after.ports h
+          (sym (quiet_after h m (map (deed_of m) c.args.deeds.now) b (b.stands.power ∙ ap not on))) r.3.few,
+    )
 
 pub returns-clause-carried : goal.returns-clause-carried
 returns-clause-carried g c start w u d =

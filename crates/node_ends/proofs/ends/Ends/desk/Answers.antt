@@ -1,5 +1,5 @@
-use Rattle.std.proofs.Common.{List, sym, ap, ◌∙◌}
-use Rattle.std.specs.Prelude.{Option, option_map, slice_get}
+use Rattle.std.proofs.Common.{List, ap, ◌∙◌}
+use Rattle.std.specs.Prelude.{option_map, slice_get}
 use Rattle.node_ends.specs.declared.seat.Seat.{Seat}
 use Rattle.node_ends.specs.Desks.{desk_of}
 use Rattle.node_ends.proofs.Reading.{desk_is, is_there, is_none_there}
