@@ -1,0 +1,203 @@
+-- One deed, as it is done and as it is noted.
+use Rattle.std.proofs.Common.{◌≡◌, ◌≢◌, ℕ, Bool, true, false, not, List, [], ◌∷◌, ◌++◌, map, length, refl, sym, ap, ◌∙◌, subst, append_assoc, append-nil}
+use Rattle.std.specs.Prelude.{Option, Some, None, is_none, is_ok, ◌==◌, ◌⊎◌, Result, Ok, Err}
+use Rattle.std.proofs.Common.{inl, inr}
+use Rattle.nv_journal.specs.declared.JournalFault.{JournalFault}
+use Rattle.nv_journal.specs.declared.JournalFault.TheVariants.{NvFault, GenerationsSpent}
+use Rattle.std.specs.Option.{option_map_or}
+use Rattle.std.proofs.lemmas.Bool.{true≢false, eqb-true}
+use Rattle.trace_model.specs.declared.entry.Entry.{Entry}
+use Rattle.trace_model.specs.declared.entry.Entry.TheVariants as entry
+use Rattle.journal_laws.specs.Writes.{Write, AreMade}
+use Rattle.journal_laws.specs.Planned.{fails_within}
+use Rattle.journal_laws.specs.declared.state.State.{State}
+use Rattle.hci_tables.specs.declared.command.Command.{Command}
+use Rattle.hci_tables.specs.Tables.{apply}
+use Rattle.hci_tables.specs.Bodies.{body_of}
+use Rattle.hci_store.specs.Stored.{Stored}
+use Rattle.hci_store.specs.Committing.{record_fits, commit_writes, committed}
+use Rattle.link_machine.specs.Machine.{Message, Refused, give_refusal}
+use Rattle.link_machine.specs.Machine.Turn.{Give}
+use Rattle.node_machine.specs.Parts.{Core, Port, Work}
+use Rattle.node_machine.specs.Carrying.{port_at, noted_of, end_of_node, with_port, after_turn, turn_at, commit, keeps, loses_power, noting, has_room_for, plan_behind}
+use Rattle.trace_model.specs.declared.line.End.{End}
+use Rattle.node_ends.specs.declared.ends.Ends.{Ends}
+use Rattle.node_ends.specs.Ends.{takes_at, EndsStandFor}
+use Rattle.node_core.specs.declared.node.Node.{Node}
+use Rattle.node_core.specs.Noting.{unnumbered}
+use Rattle.node_core.specs.Nodes.{CoreStandsFor, IsUnderWay}
+use Rattle.node_core.specs.Bringing.{WereMade, Foretells, plan_left, Brings}
+
+-- ## Entries
+
+mapped : (e : Entry) (es : List Entry) → map unnumbered (es ++ e ∷ []) ≡ map unnumbered es ++ unnumbered e ∷ []
+mapped e [] = refl
+mapped e (x ∷ es) = ap (λ l. unnumbered x ∷ l) (mapped e es)
+
+-- one entry more is noted
+pub more_noted : {before now : List Entry} {short was : Bool} (start old : List Entry) (e : Entry) → (was ≡ true → short ≡ true)
+    → (short ≡ false → now ≡ before ++ unnumbered e ∷ []) → (was ≡ false → before ≡ start ++ map unnumbered old)
+    → short ≡ false → now ≡ start ++ map unnumbered (old ++ e ∷ [])
+more_noted {before} {now} {short} {was} start old e stays more told kept = by was refl
+  where
+    by : (b : Bool) → was ≡ b → now ≡ start ++ map unnumbered (old ++ e ∷ [])
+    by true q = absurd (true≢false (sym (stays q) ∙ kept))
+    by false q =
+        more kept ∙ (ap (λ es. es ++ unnumbered e ∷ []) (told q) ∙ (append_assoc start (map unnumbered old) (unnumbered e ∷ [])
+        ∙ ap (λ es. start ++ es) (sym (mapped e old))))
+
+-- ## Messages
+
+pub host_at : (h : ℕ) (ports : List Port) (p : Port) → port_at ports h ≡ Some p → p.desk.host ≡ h
+host_at h [] p is = cc
+host_at h (q ∷ ports) p is = by (host_at h ports p) (q.desk.host == h) refl
+  where
+    by : (port_at ports h ≡ Some p → p.desk.host ≡ h) → (b : Bool) → (q.desk.host == h) ≡ b → p.desk.host ≡ h
+    by later true e =
+        let first : Some q ≡ Some p = rw e at is in
+        let same : q ≡ p = cc in
+        ap (λ (x : Port). x.desk.host) (sym same) ∙ eqb-true q.desk.host h e
+    by later false e = later (rw e at is)
+
+-- what is noted of a message that an end takes for sending
+pub record IsSent (core : Core) (h : ℕ) (m : Message) (notes : List Entry) : Type 0 where
+  pub session : ℕ
+  pub notes_are : notes ≡ entry.Sent (end_of_node core h) session m.0 m.1 ∷ []
+
+pub sent_noted : (core : Core) (h : ℕ) (m : Message) (ports : List Port) → true ≡ takes_at m (port_at ports h)
+    → IsSent core h m (option_map_or (noted_of core (Give m)) (port_at ports h) [])
+sent_noted core h m ports takes = by (port_at ports h) refl
+  where
+    by_refusal : (p : Port) → port_at ports h ≡ Some p → (o : Option Refused) → give_refusal p.side m ≡ o
+        → IsSent core h m (option_map_or (noted_of core (Give m)) (port_at ports h) [])
+    by_refusal p at None q = record {
+      session = p.session;
+      notes_are = rw (at, q) (ap (λ n. entry.Sent (end_of_node core n) p.session m.0 m.1 ∷ []) (host_at h ports p at));
+    }
+    by_refusal p at (Some why) q = absurd (true≢false (takes ∙ (ap (takes_at m) at ∙ ap (λ o. is_none o) q)))
+
+    by : (o : Option Port) → port_at ports h ≡ o → IsSent core h m (option_map_or (noted_of core (Give m)) (port_at ports h) [])
+    by None at = absurd (true≢false (takes ∙ ap (takes_at m) at))
+    by (Some p) at = by_refusal p at (give_refusal p.side m) refl
+
+-- a message was taken for sending and noted
+pub sent_under_way : {N : Type 0} {n : Node N} {ends : Ends} {noted now start : List Entry} {was short : Bool} {w : Work} {at : End} (m : Message) (h : ℕ)
+    → IsUnderWay n noted was start w → EndsStandFor ends (with_port h (after_turn (Give m)) w.ports) → true ≡ takes_at m (port_at w.ports h)
+    → (was ≡ true → short ≡ true) → (short ≡ false → now ≡ noted ++ entry.Sent at 0 m.0 m.1 ∷ []) → at ≡ end_of_node w.core h
+    → IsUnderWay (record n { ends = ends }) now short start (turn_at h (Give m) w)
+sent_under_way {n = n} {noted = noted} {now = now} {start = start} {w = w} {at = at} m h u stands takes stays more is =
+    let s = sent_noted w.core h m w.ports takes in
+    let at_is : noted ++ entry.Sent at 0 m.0 m.1 ∷ [] ≡ noted ++ entry.Sent (end_of_node w.core h) 0 m.0 m.1 ∷ [] =
+    ap (λ (e : End). noted ++ entry.Sent e 0 m.0 m.1 ∷ []) is in
+    record {
+      node = u.node;
+      core = λ live. (let k = u.core live in record { journal = k.journal; tables = k.tables });
+      ends = stands;
+      noted_are = λ kept.
+          more_noted start w.entries (entry.Sent (end_of_node w.core h) s.session m.0 m.1) stays (λ k. more k ∙ at_is) u.noted_are kept
+          ∙ ap (λ es. start ++ map unnumbered (w.entries ++ es)) (sym s.notes_are);
+      power = u.power;
+    }
+
+-- ## Commits
+
+pub no_room : (s : State) (c : Command) → has_room_for s c ≡ true → record_fits s (body_of c) ≡ false → s.generation ≡ 4294967295 → ⊥
+no_room s c room full spent = true≢false (sym room ∙ (rw (full, spent) refl))
+
+-- what was made by a commit that went through, and by one that didn't
+pub made_ok : (P : Bool → Type 0) (r : Result (Unit {0}) JournalFault) → r ≡ Ok tt → (r ≢ Err GenerationsSpent → P (is_ok r)) → P true
+made_ok P r ok made = subst P (ap is_ok ok) (made (λ e. (let z : Ok tt ≡ Err GenerationsSpent = sym ok ∙ e in cc)))
+
+pub made_err : (P : Bool → Type 0) (r : Result (Unit {0}) JournalFault) → r ≡ Err NvFault → (r ≢ Err GenerationsSpent → P (is_ok r)) → P false
+made_err P r err made =
+    subst P (ap is_ok err) (made (λ e. (let y : Err NvFault ≡ Err GenerationsSpent = sym err ∙ e in (let z : NvFault ≡ GenerationsSpent = cc in cc))))
+
+-- a commit for which there was room ends by a write that failed
+pub nv_fault : (r : Result (Unit {0}) JournalFault) (f : JournalFault) → r ≡ Err f → (f ≡ NvFault) ⊎ (f ≡ GenerationsSpent)
+    → (r ≡ Err GenerationsSpent → ⊥) → r ≡ Err NvFault
+nv_fault r f is (inl e) never = is ∙ ap (λ x. Err x) e
+nv_fault r f is (inr e) never = absurd (never (is ∙ ap (λ x. Err x) e))
+
+-- a store has kept a command, or lost its memory in it
+pub record HasKept {N : Type 0} (writes : N → ℕ → List ℕ → Bool → N → Type 0) (old new : Stored N) (c : Command) : Type 0 where
+  pub made : AreMade writes (commit_writes old.journal.state old.tables (body_of c)) old.journal.nv true new.journal.nv
+  pub state : new.journal.state ≡ committed old.journal.state old.tables (body_of c)
+  pub tables : new.tables ≡ apply old.tables c
+  pub before : old.journal.live ≡ true
+  pub live : new.journal.live ≡ true
+
+pub record HasLost {N : Type 0} (writes : N → ℕ → List ℕ → Bool → N → Type 0) (old new : Stored N) (c : Command) : Type 0 where
+  pub made : AreMade writes (commit_writes old.journal.state old.tables (body_of c)) old.journal.nv false new.journal.nv
+  pub before : old.journal.live ≡ true
+  pub dead : new.journal.live ≡ false
+
+-- the writes are those of the definition
+same_writes : {N : Type 0} (n : Node N) (core : Core) (c : Command) → CoreStandsFor n core
+    → commit_writes n.store.journal.state n.store.tables (body_of c) ≡ commit_writes core.journal core.tables (body_of c)
+same_writes n core c k =
+    ap (λ s. commit_writes s n.store.tables (body_of c)) (sym k.journal) ∙ ap (λ t. commit_writes core.journal t (body_of c)) (sym k.tables)
+
+has_power : {N : Type 0} {n : Node N} {noted start : List Entry} {short : Bool} {w : Work} → IsUnderWay n noted short start w → n.store.journal.live ≡ true
+    → w.cut ≡ false
+has_power u live = u.power ∙ ap not live
+
+pub kept_brings : {N : Type 0} {writes : N → ℕ → List ℕ → Bool → N → Type 0} {n : Node N} {s : Stored N} {noted now start : List Entry} {short was : Bool}
+    {w : Work} (c : Command) → HasKept writes n.store s c → IsUnderWay n noted was start w
+    → (short ≡ false → now ≡ start ++ map unnumbered (w.entries ++ entry.Command w.core.node c ∷ []))
+    → Brings writes n.store.journal.nv s.journal.nv (IsUnderWay (record n { store = s }) now short start) (commit c) w
+kept_brings {N} {writes} {n} {s} {now = now} {start = start} {short = short} {w = w} c h u notes =
+    let power = has_power u h.before in
+    let k = u.core power in
+    let ws : List Write = commit_writes w.core.journal w.core.tables (body_of c) in
+    let after : Work = keeps c ws (noting (entry.Command w.core.node c ∷ []) w) in
+    let P : List Write → Type 0 = λ l. AreMade writes l n.store.journal.nv true s.journal.nv in
+    let Q : Bool → Type 0 = λ t. WereMade writes ws [] n.store.journal.nv t s.journal.nv in
+    record {
+      after = after;
+      stands = record {
+        node = u.node;
+        core = λ live. record {
+          journal = ap (λ x. committed x w.core.tables (body_of c)) k.journal
+              ∙ (ap (λ t. committed n.store.journal.state t (body_of c)) k.tables ∙ sym h.state);
+          tables = ap (λ t. apply t c) k.tables ∙ sym h.tables;
+        };
+        ends = u.ends;
+        noted_are = notes;
+        power = power ∙ sym (ap not h.live);
+      };
+      sure = ws;
+      torn = [];
+      written = ap (λ l. w.writes ++ l) (sym (append-nil ws));
+      made = subst Q (sym power) (refl, subst P (same_writes n w.core c k) h.made);
+      is = λ plan foretold.
+          let F : Bool → Type 0 = λ t. Foretells plan ws [] t in
+          let goes : fails_within (length ws) plan ≡ false = subst F power foretold in
+          let one : commit c (record w { plan = plan }) ≡ record after { plan = plan_behind ws plan } = rw goes refl in
+          one ∙ ap (λ t. record after { plan = plan_left t ws plan }) (sym power);
+    }
+
+pub lost_brings : {N : Type 0} {writes : N → ℕ → List ℕ → Bool → N → Type 0} {n : Node N} {s : Stored N} {noted now start : List Entry} {short was : Bool}
+    {w : Work} (c : Command) → HasLost writes n.store s c → IsUnderWay n noted was start w
+    → (short ≡ false → now ≡ start ++ map unnumbered ((w.entries ++ entry.Command w.core.node c ∷ []) ++ entry.Cut w.core.node ∷ []))
+    → Brings writes n.store.journal.nv s.journal.nv (IsUnderWay (record n { store = s }) now short start) (commit c) w
+lost_brings {N} {writes} {n} {s} {now = now} {start = start} {short = short} {w = w} c h u notes =
+    let power = has_power u h.before in
+    let k = u.core power in
+    let ws : List Write = commit_writes w.core.journal w.core.tables (body_of c) in
+    let after : Work = loses_power ws (noting (entry.Command w.core.node c ∷ []) w) in
+    let P : List Write → Type 0 = λ l. AreMade writes l n.store.journal.nv false s.journal.nv in
+    record {
+      after = after;
+      stands = record {
+        node = u.node;
+        core = λ live. absurd (true≢false live);
+        ends = u.ends;
+        noted_are = notes;
+        power = sym (ap not h.dead);
+      };
+      sure = [];
+      torn = ws;
+      written = refl;
+      made = (n.store.journal.nv, (refl, refl), subst P (same_writes n w.core c k) h.made);
+      is = λ plan foretold. rw foretold.1 refl;
+    }

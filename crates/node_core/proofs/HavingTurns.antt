@@ -1,0 +1,141 @@
+-- A message that has its turn.
+use Rattle.std.proofs.Common.{◌≡◌, ℕ, Bool, true, false, List, [], ◌∷◌, map, refl, sym, ap, ◌∙◌, subst}
+use Rattle.std.specs.Prelude.{Option, Some, None, option_map}
+use Rattle.swp_base.specs.InMemory.{Plan}
+use Rattle.link_machine.specs.Machine.{Message}
+use Rattle.link_machine.specs.Machine.Turn.{Hold}
+use Rattle.std.specs.Option.{option_map_or}
+use Rattle.node_machine.specs.Parts.{Port, Work, Deed as DeedOf}
+use Rattle.node_machine.specs.Carrying.{port_at, turn_at, unless_cut, lack, needs}
+use Rattle.node_machine.specs.Turns.{deeds_of, handles, holds_back, lets_go, have_turns}
+use Rattle.std.specs.Prelude.{◌==◌}
+use Rattle.hcp_packet.specs.Packets.{AreSendable}
+use Rattle.node_machine.specs.Parts.{Core}
+use Rattle.node_machine.specs.Controller.{controller_deeds}
+use Rattle.node_deeds.specs.declared.desks.Desk.{Desk}
+use Rattle.node_deeds.specs.declared.deeds.Deed.{Deed}
+use Rattle.node_deeds.specs.declared.room.Shortfall.{Shortfall}
+use Rattle.node_deeds.specs.Room.{lack_shown}
+use Rattle.node_deeds.specs.Cores.{AreDoable as AreDecided}
+use Rattle.node_ends.specs.Ends.{got_at}
+use Rattle.node_core.specs.Deeds.{deed_of, AreAllowed}
+use Rattle.node_core.specs.Handling.{has_turn}
+use Rattle.node_core.specs.Turning.{held_at, IsDecided, MayHaveTurns}
+use Rattle.node_core.proofs.Allowing.{controller_allowed}
+use Rattle.node_core.proofs.Deciding.{all_doable}
+use Rattle.node_core.specs.Bringing.{Foretells, Brings}
+use Rattle.node_core.proofs.Quiet.{quiet_at, handles_quiet}
+
+pub goes : (h : ℕ) (w : Work) → held_at w.ports h ≡ true → lets_go h w ≡ turn_at h (Hold false) w
+goes h w q = rw q refl
+
+pub stays : (h : ℕ) (w : Work) → held_at w.ports h ≡ false → lets_go h w ≡ w
+stays h w q = rw q refl
+
+-- one message waits, and its deeds find room
+pub has_room : (h : ℕ) (m : Message) (deeds : List DeedOf) (w : Work) → deeds_of w.core w.ports h m ≡ deeds → lack w.ports (needs h deeds) ≡ None
+    → (plan : Option Plan) → have_turns h (m ∷ []) (record w { plan = plan }) ≡ unless_cut (lets_go h) (handles h m deeds (record w { plan = plan }))
+has_room h m deeds w is room plan = rw (is, room) refl
+
+-- one message waits, and they find none
+pub has_none : (h : ℕ) (m : Message) (deeds : List DeedOf) (short : ℕ × ℕ) (w : Work) → deeds_of w.core w.ports h m ≡ deeds
+    → lack w.ports (needs h deeds) ≡ Some short → (plan : Option Plan)
+    → have_turns h (m ∷ []) (record w { plan = plan }) ≡ holds_back h short (record w { plan = plan })
+has_none h m deeds short w is none plan = rw (is, none) refl
+
+-- nothing is lacking
+pub no_some : {X : Type 0} (o : Option X) → ((x : X) → o ≡ Some x → ⊥) → o ≡ None
+no_some None none = refl
+no_some (Some x) none = absurd (none x refl)
+
+-- ## What is done without a write
+
+pub held_cut : (h : ℕ) (short : ℕ × ℕ) (w : Work) → (holds_back h short w).cut ≡ w.cut
+held_cut h short w = by (option_map_or (λ (p : Port). p.desk.holds) (port_at w.ports h) false) refl
+  where
+    by : (b : Bool) → option_map_or (λ (p : Port). p.desk.holds) (port_at w.ports h) false ≡ b → (holds_back h short w).cut ≡ w.cut
+    by true q = rw q refl
+    by false q = rw q refl
+
+pub held_writes : (h : ℕ) (short : ℕ × ℕ) (w : Work) → (holds_back h short w).writes ≡ w.writes
+held_writes h short w = by (option_map_or (λ (p : Port). p.desk.holds) (port_at w.ports h) false) refl
+  where
+    by : (b : Bool) → option_map_or (λ (p : Port). p.desk.holds) (port_at w.ports h) false ≡ b → (holds_back h short w).writes ≡ w.writes
+    by true q = rw q refl
+    by false q = rw q refl
+
+pub held_anyway : (h : ℕ) (short : ℕ × ℕ) (w : Work) (plan : Option Plan)
+    → holds_back h short (record w { plan = plan }) ≡ record (holds_back h short w) { plan = plan }
+held_anyway h short w plan = by (option_map_or (λ (p : Port). p.desk.holds) (port_at w.ports h) false) refl
+  where
+    by : (b : Bool) → option_map_or (λ (p : Port). p.desk.holds) (port_at w.ports h) false ≡ b
+        → holds_back h short (record w { plan = plan }) ≡ record (holds_back h short w) { plan = plan }
+    by true q = rw q refl
+    by false q = rw q refl
+
+pub let_cut : (h : ℕ) (w : Work) → (lets_go h w).cut ≡ w.cut
+let_cut h w = by (held_at w.ports h) refl
+  where
+    by : (b : Bool) → held_at w.ports h ≡ b → (lets_go h w).cut ≡ w.cut
+    by true q = rw q refl
+    by false q = rw q refl
+
+pub let_writes : (h : ℕ) (w : Work) → (lets_go h w).writes ≡ w.writes
+let_writes h w = by (held_at w.ports h) refl
+  where
+    by : (b : Bool) → held_at w.ports h ≡ b → (lets_go h w).writes ≡ w.writes
+    by true q = rw q refl
+    by false q = rw q refl
+
+pub let_anyway : (h : ℕ) (w : Work) (plan : Option Plan) → lets_go h (record w { plan = plan }) ≡ record (lets_go h w) { plan = plan }
+let_anyway h w plan = by (held_at w.ports h) refl
+  where
+    by : (b : Bool) → held_at w.ports h ≡ b → lets_go h (record w { plan = plan }) ≡ record (lets_go h w) { plan = plan }
+    by true q = rw q refl
+    by false q = rw q refl
+
+-- ## Definitions that are the same
+
+pub brings_same : {N : Type 0} {writes : N → ℕ → List ℕ → Bool → N → Type 0} {old new : N} {S : Work → Type 0} {f g : Work → Work} {w : Work}
+    → Brings writes old new S f w → ((plan : Option Plan) → g (record w { plan = plan }) ≡ f (record w { plan = plan })) → Brings writes old new S g w
+brings_same b same = record {
+  after = b.after;
+  stands = b.stands;
+  sure = b.sure;
+  torn = b.torn;
+  written = b.written;
+  made = b.made;
+  is = λ plan foretold. same plan ∙ b.is plan foretold;
+}
+
+-- the ends after a message was handled, where no write failed
+pub quiet_after : {N : Type 0} {writes : N → ℕ → List ℕ → Bool → N → Type 0} {old new : N} {S : Work → Type 0} {w : Work} (h : ℕ) (m : Message)
+    (deeds : List DeedOf) (b : Brings writes old new S (handles h m deeds) w) → b.after.cut ≡ false
+    → map quiet_at b.after.ports ≡ map quiet_at w.ports
+quiet_after {w = w} h m deeds b live =
+    let F : Bool → Type 0 = λ t. Foretells None b.sure b.torn t in
+    ap (λ (v : Work). map quiet_at v.ports) (sym (b.is None (subst F (sym live) refl))) ∙ handles_quiet h m deeds (record w { plan = None })
+
+-- ## What a controller decides
+
+at_controller : (core : Core) (ports : List Port) (h : ℕ) (m : Message) → core.node ≡ 0 → deeds_of core ports h m ≡ controller_deeds core ports h m
+at_controller core ports h m q = let e : (core.node == 0) ≡ true = ap (λ n. n == 0) q in rw e refl
+
+-- what a controller decided of the message that waits
+pub decided : (h pipe up : ℕ) (message : List ℕ) (desks : List Desk) (spares : List ℕ) (deeds : List Deed) (short : Option Shortfall) (held : Bool) (w : Work)
+    → w.core.node ≡ 0 → MayHaveTurns h up desks spares w → got_at w.ports h ≡ (pipe, message) ∷ []
+    → map (deed_of (pipe, message)) deeds ≡ controller_deeds w.core w.ports h (pipe, message) → AreDecided deeds
+    → option_map lack_shown short ≡ lack w.ports (needs h (map (deed_of (pipe, message)) deeds))
+    → held ≡ option_map_or (λ (p : Port). p.desk.holds) (port_at w.ports h) false → IsDecided h (pipe, message) deeds short held w
+decided h pipe up message desks spares deeds short held w node may got told made lacks holds =
+    let m : Message = (pipe, message) in
+    let is : deeds_of w.core w.ports h m ≡ map (deed_of m) deeds = at_controller w.core w.ports h m node ∙ sym told in
+    let sendable = subst AreSendable got may.sendable in
+    let A : List DeedOf → Type 0 = λ ds. AreAllowed h ds (has_turn h m w) in
+    record {
+      deeds_are = is;
+      lacks = sym lacks;
+      doable = all_doable h m deeds (has_turn h m w) sendable.0 made (subst A (sym told) (controller_allowed h m w may.asides));
+      held_is = holds ∙ may.held_is;
+      few = may.few;
+    }

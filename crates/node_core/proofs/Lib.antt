@@ -1,0 +1,11 @@
+pub mod Joining
+pub mod Doing
+pub mod Steps
+pub mod Planned
+pub mod Holding
+pub mod Deciding
+pub mod Quiet
+pub mod HavingTurns
+pub mod Allowing
+pub mod Passing
+pub mod Spares

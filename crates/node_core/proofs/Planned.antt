@@ -1,0 +1,67 @@
+-- Over a memory whose failing write is planned, what a node did is what the machine does under that plan.
+use Rattle.std.proofs.Common.{◌≡◌, inl, inr, ℕ, Bool, true, false, not, List, [], ◌∷◌, ◌++◌, length, refl, sym, ap, ◌∙◌, subst, append-nil}
+use Rattle.std.specs.Prelude.{None}
+use Rattle.std.proofs.lemmas.Bool.{true≢false, not-false, not-true}
+use Rattle.swp_base.specs.InMemory.{Memory, is_next, memory_after, WritesAsPlanned}
+use Rattle.journal_laws.specs.Writes.{Write, AreMade}
+use Rattle.journal_laws.specs.Planned.{fails_within, after_planned}
+use Rattle.journal_laws.proofs.Planned.{plan_of_memory_after, planned_answer, planned_memory}
+use Rattle.node_machine.specs.Parts.{Work}
+use Rattle.node_machine.specs.Carrying.{plan_behind}
+use Rattle.node_core.specs.Bringing.{WereMade, Foretells, plan_left, Brings}
+use Rattle.node_core.proofs.Joining.{made_append}
+
+-- the plan behind writes that went through, and behind one that failed
+plan_made : (ws : List Write) (m n : Memory) → AreMade WritesAsPlanned ws m true n → n.plan ≡ plan_behind ws m.plan
+plan_made [] m n made = ap (λ (x : Memory). x.plan) made.1
+plan_made (w ∷ ws) m n (inl failed) = absurd (true≢false failed.0)
+plan_made (w ∷ ws) m n (inr rest) =
+    let later : is_next m.plan ≡ false = not-true (is_next m.plan) (sym rest.1.answer) in
+    plan_made ws rest.0 n rest.2
+    ∙ ap (plan_behind ws) (ap (λ (x : Memory). x.plan) rest.1.memory ∙ plan_of_memory_after m w.at w.bytes later)
+
+spent_at : (m : Memory) (at : ℕ) (bytes : List ℕ) → is_next m.plan ≡ true → (memory_after m at bytes).plan ≡ None
+spent_at m at bytes next = rw next refl
+
+plan_spent : (ws : List Write) (m n : Memory) → AreMade WritesAsPlanned ws m false n → n.plan ≡ None
+plan_spent [] m n made = absurd (true≢false (sym made.0))
+plan_spent (w ∷ ws) m n (inl failed) =
+    ap (λ (x : Memory). x.plan) failed.1.memory ∙ spent_at m w.at w.bytes (not-false (is_next m.plan) (sym failed.1.answer))
+plan_spent (w ∷ ws) m n (inr rest) = plan_spent ws rest.0 n rest.2
+
+-- the plan foretells what was made, and this is left of it
+as_planned : (cut : Bool) (sure torn : List Write) (m n : Memory) → WereMade WritesAsPlanned sure torn m cut n
+    → Foretells m.plan sure torn cut × (plan_left cut sure m.plan ≡ n.plan)
+as_planned false sure torn m n made = (
+  not-true (fails_within (length sure) m.plan) (sym (planned_answer sure m true n made.1)),
+  sym (plan_made sure m n made.1),
+)
+as_planned true sure torn m n made =
+    let first = made.1 in
+    let on = plan_made sure m made.0 first in
+    let fails = not-false (fails_within (length torn) made.0.plan) (sym (planned_answer torn made.0 false n made.2)) in (
+      (
+        not-true (fails_within (length sure) m.plan) (sym (planned_answer sure m true made.0 first)),
+        ap (fails_within (length torn)) (sym on) ∙ fails,
+      ),
+      sym (plan_spent torn made.0 n made.2),
+    )
+
+all_made : (cut : Bool) (sure torn : List Write) (m n : Memory) → WereMade WritesAsPlanned sure torn m cut n
+    → AreMade WritesAsPlanned (sure ++ torn) m (not cut) n
+all_made false sure torn m n made =
+    let P : List Write → Type 0 = λ ws. AreMade WritesAsPlanned ws m true n in
+    subst P (sym (append-nil sure) ∙ ap (λ t. sure ++ t) (sym made.0)) made.1
+all_made true sure torn m n made = made_append WritesAsPlanned sure torn m made.0 n false made.1 made.2
+
+-- What the node did is what the machine does under the plan of its memory, and the memory is that after the writes of the step.
+pub planned_step : {S : Work → Type 0} {f : Work → Work} {w : Work} {m n : Memory} (b : Brings WritesAsPlanned m n S f w) → w.plan ≡ m.plan
+    → f w ≡ record b.after { plan = n.plan }
+planned_step {f = f} {w = w} {m = m} {n = n} b same =
+    let a = as_planned b.after.cut b.sure b.torn m n b.made in
+    ap (λ p. f (record w { plan = p })) same ∙ (b.is m.plan a.0 ∙ ap (λ p. record b.after { plan = p }) a.1)
+
+pub planned_writes : {S : Work → Type 0} {f : Work → Work} {w : Work} {m n : Memory} (b : Brings WritesAsPlanned m n S f w)
+    → n ≡ after_planned (b.sure ++ b.torn) m
+planned_writes {m = m} {n = n} b =
+    planned_memory (b.sure ++ b.torn) m (not b.after.cut) n (all_made b.after.cut b.sure b.torn m n b.made)

@@ -1,0 +1,134 @@
+-- What deeds leave at the ends of a node as it was: how many control frames wait there to be sent, and whether they are held.
+use Rattle.std.proofs.Common.{◌≡◌, ℕ, ◌+◌, ◌≤◌, Bool, true, false, not, List, [], ◌∷◌, ◌++◌, map, length, refl, sym, ap, ap₂, ◌∙◌, subst}
+use Rattle.std.specs.Prelude.{Option, Some, None, ◌==◌, option_map}
+use Rattle.std.specs.List.{find}
+use Rattle.std.specs.Option.{option_map_or}
+use Rattle.journal_laws.specs.Planned.{fails_within}
+use Rattle.hci_tables.specs.declared.command.Command.{Command}
+use Rattle.hci_tables.specs.Bodies.{body_of}
+use Rattle.hci_store.specs.Committing.{commit_writes}
+use Rattle.link_machine.specs.Machine.{Message, Refused, given, unless, give_refusal, aside_refusal}
+use Rattle.link_machine.specs.Machine.Turn.{Give, FetchMessage, SetAside, Release}
+use Rattle.node_machine.specs.Parts.{Port, Work, Deed, Desk as DeskOf}
+use Rattle.node_machine.specs.Parts.Deed.{Commits, Sends, SaysOk, Asks, Releases, Tells, IsAnswered, Drops, SetsErrors, Orders, Hears, GoesOn, Ends}
+use Rattle.node_machine.specs.Carrying.{port_at, changed_if, with_port, after_turn, commit, done, all_done}
+use Rattle.node_machine.specs.Turns.{handles}
+use Rattle.node_deeds.proofs.Ports.{find-map}
+use Rattle.node_ends.specs.Ends.{HasFewDue}
+use Rattle.node_core.specs.Turning.{held_at}
+
+-- the host of an end, how many control frames wait there, and whether it takes fragments
+abbrev pub Quiet : Type 0
+Quiet = ℕ × ℕ × Bool
+
+abbrev pub quiet_at : Port → Quiet
+quiet_at p = (p.desk.host, length p.side.acts + length p.side.shdlc.due, p.side.shdlc.ready)
+
+-- ## What is done to one end
+
+give_quiet : (m : Message) (p : Port) → quiet_at (after_turn (Give m) p) ≡ quiet_at p
+give_quiet m p = by (give_refusal p.side m)
+  where
+    by : (o : Option Refused) → quiet_at (record p { side = unless o p.side (given p.side m); turns = p.turns ++ Give m ∷ [] }) ≡ quiet_at p
+    by None = refl
+    by (Some why) = refl
+
+aside_quiet : (p : Port) → quiet_at (after_turn SetAside p) ≡ quiet_at p
+aside_quiet p = by (aside_refusal p.side)
+  where
+    by : (o : Option Refused)
+        → quiet_at (record p { side = unless o p.side (record p.side { aside = p.side.aside + 1 }); turns = p.turns ++ SetAside ∷ [] }) ≡ quiet_at p
+    by None = refl
+    by (Some why) = refl
+
+-- ## All ends
+
+pub with_port_quiet : (h : ℕ) (f : Port → Port) → ((p : Port) → quiet_at (f p) ≡ quiet_at p) → (ports : List Port)
+    → map quiet_at (with_port h f ports) ≡ map quiet_at ports
+with_port_quiet h f same [] = refl
+with_port_quiet h f same (p ∷ ports) = ap₂ (λ (q : Quiet) qs. q ∷ qs) (one (p.desk.host == h)) (with_port_quiet h f same ports)
+  where
+    one : (b : Bool) → quiet_at (changed_if b f p) ≡ quiet_at p
+    one true = same p
+    one false = refl
+
+-- ## Deeds
+
+gives : (h : ℕ) (m : Message) (ports : List Port) → map quiet_at (with_port h (after_turn (Give m)) ports) ≡ map quiet_at ports
+gives h m ports = with_port_quiet h (after_turn (Give m)) (give_quiet m) ports
+
+keeps_desk : (h : ℕ) (f : DeskOf → DeskOf) → ((d : DeskOf) → (f d).host ≡ d.host) → (ports : List Port)
+    → map quiet_at (with_port h (λ p. record p { desk = f p.desk }) ports) ≡ map quiet_at ports
+keeps_desk h f same ports =
+    with_port_quiet h (λ p. record p { desk = f p.desk })
+    (λ p. ap (λ (n : ℕ). (n, length p.side.acts + length p.side.shdlc.due, p.side.shdlc.ready)) (same p.desk)) ports
+
+pub commit_ports : (c : Command) (w : Work) → (commit c w).ports ≡ w.ports
+commit_ports c w = by (fails_within (length (commit_writes w.core.journal w.core.tables (body_of c))) w.plan) refl
+  where
+    by : (b : Bool) → fails_within (length (commit_writes w.core.journal w.core.tables (body_of c))) w.plan ≡ b → (commit c w).ports ≡ w.ports
+    by true q = rw q refl
+    by false q = rw q refl
+
+done_quiet : (h : ℕ) (d : Deed) (w : Work) → map quiet_at (done h d w).ports ≡ map quiet_at w.ports
+done_quiet h (Commits c) w = ap (map quiet_at) (commit_ports c w)
+done_quiet h (Sends to m) w = gives to m w.ports
+done_quiet h SaysOk w = refl
+done_quiet h (Asks to message c) w =
+    keeps_desk to _ (λ d. refl) (with_port to (after_turn (Give (1, message))) (with_port c.asker (after_turn SetAside) w.ports))
+    ∙ (gives to (1, message) (with_port c.asker (after_turn SetAside) w.ports)
+    ∙ with_port_quiet c.asker (after_turn SetAside) aside_quiet w.ports)
+done_quiet h (Releases asker) w = with_port_quiet asker (after_turn Release) (λ p. refl) w.ports
+done_quiet h (Tells to message) w =
+    keeps_desk to _ (λ d. refl) (with_port to (after_turn (Give (1, message))) w.ports) ∙ gives to (1, message) w.ports
+done_quiet h IsAnswered w = keeps_desk h _ (λ d. refl) w.ports
+done_quiet h (Drops pid) w = refl
+done_quiet h (SetsErrors errors) w = keeps_desk h _ (λ d. refl) w.ports
+done_quiet h (Orders message) w = gives h (1, message) w.ports
+done_quiet h Hears w = refl
+done_quiet h (GoesOn i) w = refl
+done_quiet h (Ends e) w = refl
+
+all_quiet : (h : ℕ) (deeds : List Deed) (w : Work) → map quiet_at (all_done h deeds w).ports ≡ map quiet_at w.ports
+all_quiet h [] w = refl
+all_quiet h (d ∷ deeds) w = by (all_quiet h deeds (done h d w)) (done h d w).cut refl
+  where
+    by : map quiet_at (all_done h deeds (done h d w)).ports ≡ map quiet_at (done h d w).ports → (b : Bool) → (done h d w).cut ≡ b
+        → map quiet_at (all_done h (d ∷ deeds) w).ports ≡ map quiet_at w.ports
+    by later true q = rw q (done_quiet h d w)
+    by later false q = rw q (later ∙ done_quiet h d w)
+
+pub handles_quiet : (h : ℕ) (m : Message) (deeds : List Deed) (w : Work) → map quiet_at (handles h m deeds w).ports ≡ map quiet_at w.ports
+handles_quiet h m deeds w =
+    all_quiet h deeds _
+    ∙ (keeps_desk h (λ d. record d { holds = false }) (λ d. refl) (with_port h (after_turn FetchMessage) w.ports)
+    ∙ with_port_quiet h (after_turn FetchMessage) (λ p. refl) w.ports)
+
+-- ## One end of them
+
+pub same_at : (a b : List Port) (h : ℕ) → map quiet_at a ≡ map quiet_at b → option_map quiet_at (port_at a h) ≡ option_map quiet_at (port_at b h)
+same_at a b h same =
+    sym (find-map (λ (q : Quiet). q.0 == h) quiet_at a) ∙ (ap (find (λ (q : Quiet). q.0 == h)) same ∙ find-map (λ (q : Quiet). q.0 == h) quiet_at b)
+
+abbrev FewIn : Option Quiet → Type 0
+FewIn None = Unit {0}
+FewIn (Some q) = q.1 ≤ 6
+
+few_in : (o : Option Port) → HasFewDue o → FewIn (option_map quiet_at o)
+few_in None few = tt
+few_in (Some p) few = few
+
+in_few : (o : Option Port) → FewIn (option_map quiet_at o) → HasFewDue o
+in_few None few = tt
+in_few (Some p) few = few
+
+pub few_kept : (a b : List Port) (h : ℕ) → map quiet_at a ≡ map quiet_at b → HasFewDue (port_at a h) → HasFewDue (port_at b h)
+few_kept a b h same few = in_few (port_at b h) (subst FewIn (same_at a b h same) (few_in (port_at a h) few))
+
+held_in : (o : Option Port) → option_map_or (λ (p : Port). not p.side.shdlc.ready) o false ≡ option_map_or (λ (q : Quiet). not q.2) (option_map quiet_at o) false
+held_in None = refl
+held_in (Some p) = refl
+
+pub held_kept : (a b : List Port) (h : ℕ) → map quiet_at a ≡ map quiet_at b → held_at a h ≡ held_at b h
+held_kept a b h same =
+    held_in (port_at a h) ∙ (ap (λ o. option_map_or (λ (q : Quiet). not q.2) o false) (same_at a b h same) ∙ sym (held_in (port_at b h)))

@@ -1,0 +1,186 @@
+-- The parts of deeds: what is noted, what is done to an end, and what is kept of it.
+use Rattle.std.proofs.Common.{◌≡◌, ℕ, Bool, true, false, not, List, [], ◌∷◌, ◌++◌, map, refl, sym, ap, ◌∙◌, subst, append-nil, ◌+◌, ◌<◌, ◌≤◌, length, drop, add-one, drop-cons}
+use Rattle.std.specs.Prelude.{slice_index_or}
+use Rattle.std.proofs.lemmas.List.{drop_all}
+use Rattle.std.specs.Prelude.{Option, Some, None}
+use Rattle.std.specs.Option.{option_map_or}
+use Rattle.trace_model.specs.declared.entry.Entry.{Entry}
+use Rattle.link_machine.specs.Machine.{Turn}
+use Rattle.node_machine.specs.Parts.{Core, Port, Work, Desk as DeskOf}
+use Rattle.node_machine.specs.Carrying.{port_at, noted_of, with_port, with_desk, after_turn, turn_at, noting}
+use Rattle.node_ends.specs.declared.ends.Ends.{Ends}
+use Rattle.node_ends.specs.Ends.{EndsStandFor}
+use Rattle.node_core.specs.declared.node.Node.{Node}
+use Rattle.node_core.specs.Noting.{unnumbered}
+use Rattle.node_core.specs.Nodes.{IsUnderWay}
+use Rattle.swp_base.specs.InMemory.{Plan}
+use Rattle.hci_store.specs.Stored.{Stored}
+use Rattle.node_core.specs.Bringing.{Brings, WereMade, Foretells, plan_left}
+use Rattle.link_machine.specs.Machine.{Message}
+use Rattle.node_machine.specs.Parts.{Deed as DeedOf}
+use Rattle.node_machine.specs.Carrying.{done, all_done}
+use Rattle.node_deeds.specs.declared.deeds.Deed.{Deed}
+use Rattle.node_deeds.specs.declared.deeds.Deed.TheVariants as kept
+use Rattle.node_core.specs.Deeds.{deed_of, IsDoable, AreDoable}
+use Rattle.node_core.proofs.Joining.{brings_plain, brings_then, brings_cut}
+use Rattle.node_core.proofs.Doing.{more_noted}
+
+-- an entry without the number of a session is noted
+pub plain_noted : {N : Type 0} {n : Node N} {noted now start : List Entry} {was short : Bool} {w : Work} (e : Entry) → unnumbered e ≡ e
+    → IsUnderWay n noted was start w → (was ≡ true → short ≡ true) → (short ≡ false → now ≡ noted ++ e ∷ [])
+    → IsUnderWay n now short start (noting (e ∷ []) w)
+plain_noted {noted = noted} {start = start} {w = w} e same u stays more = record {
+  node = u.node;
+  core = u.core;
+  ends = u.ends;
+  noted_are = more_noted start w.entries e stays (λ kept. more kept ∙ ap (λ x. noted ++ x ∷ []) (sym same)) u.noted_are;
+  power = u.power;
+}
+
+silent_notes : (core : Core) (x : Turn) (ports : List Port) (h : ℕ) → ((p : Port) → noted_of core x p ≡ [])
+    → option_map_or (noted_of core x) (port_at ports h) [] ≡ []
+silent_notes core x ports h silent = by (port_at ports h) refl
+  where
+    by : (o : Option Port) → port_at ports h ≡ o → option_map_or (noted_of core x) (port_at ports h) [] ≡ []
+    by None q = rw q refl
+    by (Some p) q = rw q (silent p)
+
+-- something is done to an end of which nothing is noted
+pub silent_turn : {N : Type 0} {n : Node N} {ends : Ends} {noted start : List Entry} {was : Bool} {w : Work} (h : ℕ) (x : Turn)
+    → ((p : Port) → noted_of w.core x p ≡ []) → IsUnderWay n noted was start w → EndsStandFor ends (with_port h (after_turn x) w.ports)
+    → IsUnderWay (record n { ends = ends }) noted was start (turn_at h x w)
+silent_turn {n = n} {noted = noted} {start = start} {w = w} h x silent u stands = record {
+  node = u.node;
+  core = λ live. (let k = u.core live in record { journal = k.journal; tables = k.tables });
+  ends = stands;
+  noted_are = λ kept.
+      u.noted_are kept
+      ∙ ap (λ es. start ++ map unnumbered es)
+      (sym (ap (λ es. w.entries ++ es) (silent_notes w.core x w.ports h silent) ∙ append-nil w.entries));
+  power = u.power;
+}
+
+-- what is kept of an end is changed
+pub desk_changed : {N : Type 0} {n : Node N} {ends : Ends} {noted start : List Entry} {was : Bool} {w : Work} (h : ℕ) (f : DeskOf → DeskOf)
+    → IsUnderWay n noted was start w → EndsStandFor ends (with_port h (λ p. record p { desk = f p.desk }) w.ports)
+    → IsUnderWay (record n { ends = ends }) noted was start (with_desk h f w)
+desk_changed h f u stands = record {
+  node = u.node;
+  core = λ live. (let k = u.core live in record { journal = k.journal; tables = k.tables });
+  ends = stands;
+  noted_are = u.noted_are;
+  power = u.power;
+}
+
+-- a deed without a write
+pub plainly : {N : Type 0} (writes : N → ℕ → List ℕ → Bool → N → Type 0) {n n2 : Node N} {noted now start : List Entry} {was short : Bool} {w : Work}
+    (f : Work → Work) → IsUnderWay n noted was start w → n.store.journal.live ≡ true → n2.store ≡ n.store → IsUnderWay n2 now short start (f w)
+    → (f w).cut ≡ w.cut → (f w).writes ≡ w.writes → ((plan : Option Plan) → f (record w { plan = plan }) ≡ record (f w) { plan = plan })
+    → Brings writes n.store.journal.nv n2.store.journal.nv (IsUnderWay n2 now short start) f w
+plainly {N} writes {n} {n2} {noted} {now} {start} {was} {short} {w} f u live same after cut written is =
+    let power : w.cut ≡ false = u.power ∙ ap not live in
+    let P : N → Type 0 = λ m. Brings writes n.store.journal.nv m (IsUnderWay n2 now short start) f w in
+    subst P (sym (ap (λ (s : Stored N). s.journal.nv) same)) (brings_plain writes after (cut ∙ power) written is)
+
+-- the deed of an arm
+pub of_deed : {N : Type 0} {writes : N → ℕ → List ℕ → Bool → N → Type 0} {old new : N} {S : Work → Type 0} {w : Work} (h : ℕ) (m : Message) (deed d : Deed)
+    → deed ≡ d → Brings writes old new S (done h (deed_of m d)) w → Brings writes old new S (done h (deed_of m deed)) w
+of_deed {N} {writes} {old} {new} {S} {w} h m deed d is b =
+    let P : Deed → Type 0 = λ x. Brings writes old new S (done h (deed_of m x)) w in subst P (sym is) b
+
+-- whether deeds may be done has nothing to do with the plan
+deed_anyway : (m : Message) (d : Deed) (w : Work) (plan : Option Plan) → IsDoable m d (record w { plan = plan }) → IsDoable m d w
+deed_anyway m (kept.Commits c) w plan h = h
+deed_anyway m (kept.PassesOn host) w plan h = h
+deed_anyway m (kept.Sends host pipe message) w plan h = h
+deed_anyway m kept.SaysOk w plan h = h
+deed_anyway m (kept.Asks row) w plan h = h
+deed_anyway m (kept.Releases asker) w plan h = h
+deed_anyway m (kept.Tells host notice) w plan h = h
+deed_anyway m kept.IsAnswered w plan h = h
+deed_anyway m (kept.Drops pipe) w plan h = h
+deed_anyway m (kept.SetsErrors errors) w plan h = h
+deed_anyway m (kept.Orders order) w plan h = h
+deed_anyway m kept.Hears w plan h = h
+deed_anyway m (kept.GoesOn answered) w plan h = h
+deed_anyway m (kept.Ends e) w plan h = h
+
+deeds_anyway : (h : ℕ) (m : Message) (deeds : List Deed) (w : Work) (plan : Option Plan) → AreDoable h m deeds (record w { plan = plan })
+    → AreDoable h m deeds w
+deeds_anyway h m [] w plan a = tt
+deeds_anyway h m (d ∷ deeds) w plan a = (deed_anyway m d w plan a.0, a.1)
+
+-- those behind one that went through may be done
+pub doable_then : {N : Type 0} {writes : N → ℕ → List ℕ → Bool → N → Type 0} {old new : N} {S : Work → Type 0} {w : Work} (h : ℕ) (m : Message) (d : Deed)
+    (deeds : List Deed) (b : Brings writes old new S (done h (deed_of m d)) w) → b.after.cut ≡ false
+    → AreDoable h m deeds (done h (deed_of m d) (record w { plan = None })) → AreDoable h m deeds b.after
+doable_then {w = w} h m d deeds b live a =
+    let F : Bool → Type 0 = λ t. Foretells None b.sure b.torn t in
+    let P : Work → Type 0 = λ v. AreDoable h m deeds v in
+    deeds_anyway h m deeds b.after (plan_left b.after.cut b.sure None) (subst P (b.is None (subst F (sym live) refl)) a)
+
+-- The node has come to this state in its deeds, and whatever these deeds bring from there, all deeds bring.
+pub record GoesOn {N : Type 0} (writes : N → ℕ → List ℕ → Bool → N → Type 0) (first n : Node N) (noted : List Entry) (short : Bool) (start : List Entry)
+    (left all : List DeedOf) (h : ℕ) (w : Work) : Type 0 where
+  pub now : Work
+  pub under : IsUnderWay n noted short start now
+  pub onto : (last : Node N) (notes : List Entry) (full : Bool)
+      → Brings writes n.store.journal.nv last.store.journal.nv (IsUnderWay last notes full start) (all_done h left) now
+      → Brings writes first.store.journal.nv last.store.journal.nv (IsUnderWay last notes full start) (all_done h all) w
+
+pub begins : {N : Type 0} {writes : N → ℕ → List ℕ → Bool → N → Type 0} {n : Node N} {noted start : List Entry} {short : Bool} {w : Work} (all : List DeedOf) (h : ℕ)
+    → IsUnderWay n noted short start w → GoesOn writes n n noted short start all all h w
+begins {w = w} all h u = record { now = w; under = u; onto = λ last notes full b. b }
+
+-- one more deed went through
+pub goes_on : {N : Type 0} {writes : N → ℕ → List ℕ → Bool → N → Type 0} {first n n2 : Node N} {noted noted2 start : List Entry} {short short2 : Bool} {w : Work}
+    {d : DeedOf} {left all : List DeedOf} {h : ℕ} (k : GoesOn writes first n noted short start (d ∷ left) all h w)
+    (b : Brings writes n.store.journal.nv n2.store.journal.nv (IsUnderWay n2 noted2 short2 start) (done h d) k.now) → b.after.cut ≡ false
+    → GoesOn writes first n2 noted2 short2 start left all h w
+goes_on {writes = writes} {d = d} {left = left} {h = h} k b live = record {
+  now = b.after;
+  under = b.stands;
+  onto = λ last notes full c. k.onto last notes full (brings_then writes b live c);
+}
+
+-- a write of it failed
+pub goes_no_further : {N : Type 0} {writes : N → ℕ → List ℕ → Bool → N → Type 0} {first n n2 : Node N} {noted noted2 start : List Entry} {short short2 : Bool}
+    {w : Work} {d : DeedOf} {left all : List DeedOf} {h : ℕ} (k : GoesOn writes first n noted short start (d ∷ left) all h w)
+    (b : Brings writes n.store.journal.nv n2.store.journal.nv (IsUnderWay n2 noted2 short2 start) (done h d) k.now) → b.after.cut ≡ true
+    → Brings writes first.store.journal.nv n2.store.journal.nv (IsUnderWay n2 noted2 short2 start) (all_done h all) w
+goes_no_further {writes = writes} {n2 = n2} {noted2 = noted2} {short2 = short2} {left = left} {h = h} k b dead =
+    k.onto n2 noted2 short2 (brings_cut writes (all_done h left) b dead refl b.stands)
+
+-- no deed is left
+pub all_gone : {N : Type 0} {writes : N → ℕ → List ℕ → Bool → N → Type 0} {first n : Node N} {noted start : List Entry} {short : Bool} {w : Work}
+    {all : List DeedOf} {h : ℕ} (k : GoesOn writes first n noted short start [] all h w) → n.store.journal.live ≡ true
+    → Brings writes first.store.journal.nv n.store.journal.nv (IsUnderWay n noted short start) (all_done h all) w
+all_gone {writes = writes} {n = n} {noted = noted} {short = short} {h = h} k live =
+    let power : k.now.cut ≡ false = k.under.power ∙ ap not live in
+    k.onto n noted short (brings_plain writes k.under power refl (λ plan. refl))
+
+-- ## A list of deeds, from a place on
+
+pub split_at : (deeds : List Deed) (i : ℕ) (d : Deed) → i < length deeds → drop i deeds ≡ slice_index_or deeds i d ∷ drop (i + 1) deeds
+split_at deeds i d low = rw (add-one, drop-cons deeds i d) refl
+
+pub none_left : (deeds : List Deed) (i : ℕ) → length deeds ≤ i → drop i deeds ≡ []
+none_left deeds i past = drop_all i deeds past
+
+-- ## What goes before deeds
+
+-- where what goes before has nothing to do with the plan and writes nothing
+pub brings_after : {N : Type 0} {writes : N → ℕ → List ℕ → Bool → N → Type 0} {old old2 new : N} {S : Work → Type 0} {g : Work → Work} {w : Work}
+    (f : Work → Work) → old2 ≡ old → ((plan : Option Plan) → f (record w { plan = plan }) ≡ record (f w) { plan = plan }) → (f w).writes ≡ w.writes
+    → Brings writes old2 new S g (f w) → Brings writes old new S (λ v. g (f v)) w
+brings_after {N} {writes = writes} {new = new} {S = S} {g = g} {w = w} f same is written b =
+    let P : N → Type 0 = λ m. WereMade writes b.sure b.torn m b.after.cut new in
+    record {
+      after = b.after;
+      stands = b.stands;
+      sure = b.sure;
+      torn = b.torn;
+      written = b.written ∙ ap (λ ws. ws ++ (b.sure ++ b.torn)) written;
+      made = subst P same b.made;
+      is = λ plan foretold. ap g (is plan) ∙ b.is plan foretold;
+    }

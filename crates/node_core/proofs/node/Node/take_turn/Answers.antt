@@ -1,0 +1,55 @@
+use Rattle.std.proofs.Common.{◌≡◌, ℕ, sym, ap, ◌∙◌, true, not, map}
+use Rattle.std.specs.Prelude.{option_map}
+use Rattle.node_deeds.specs.Room.{lack_shown}
+use Rattle.node_core.specs.Bringing.{Brings}
+use Rattle.node_machine.specs.Turns.{handles, holds_back, lets_go}
+use Rattle.link_machine.specs.Machine.{Message}
+use Rattle.node_core.specs.Nodes.{IsUnderWay}
+use Rattle.node_core.specs.Deeds.{deed_of}
+use Rattle.node_core.proofs.Joining.{brings_then}
+use Rattle.node_core.proofs.Steps.{plainly}
+use Rattle.node_core.proofs.Quiet.{few_kept, held_kept}
+use Rattle.node_core.proofs.HavingTurns.{no_some, has_room, has_none, held_cut, held_writes, held_anyway, let_cut, let_writes, let_anyway, brings_same, quiet_after}
+use Rattle.node_core.proofs.node.Node.take_turn.Goals as goal
+
+pub returns-in-Some-clause-carried : goal.returns-in-Some-clause-carried
+returns-in-Some-clause-carried g c start w u d =
+    let h = c.args.host in
+    let m : Message = (c.args.pipe, c.args.message.now) in
+    let short : ℕ × ℕ = (c.in-Some.field-0.need, c.in-Some.field-0.spare) in
+    let none = d.lacks ∙ ap (option_map lack_shown) c.in-Some.is in
+    brings_same
+    (plainly g.N.Nv.writes {n2 = c.hold_back.new.self} (holds_back h short) u c.requires.live c.hold_back.ensures.store (c.hold_back.ensures.carried start w u)
+    (held_cut h short w) (held_writes h short w) (held_anyway h short w))
+    (λ plan. has_none h m (map (deed_of m) c.args.deeds.now) short w d.deeds_are none plan)
+
+pub let_go-requires-clause-few : goal.let_go-requires-clause-few
+let_go-requires-clause-few g c =
+    let r = c.requires.decided in
+    let h = c.args.host in
+    let m : Message = (c.args.pipe, c.args.message.now) in
+    let b : Brings g.N.Nv.writes c.args.self.now.store.journal.nv c.handle.new.self.store.journal.nv
+    (IsUnderWay c.handle.new.self (g.W.Watch.noted c.handle.new.watch) (g.W.Watch.is_short c.handle.new.watch) r.0)
+    (handles h m (map (deed_of m) c.args.deeds.now)) r.1 = c.handle.ensures.carried r.0 r.1 r.2 in
+    let on : c.handle.new.self.store.journal.live ≡ true = sym c.handle.ensures.live ∙ c.if-not-handle.false in (
+      b.after.ports,
+      b.stands.ends,
+      few_kept r.1.ports b.after.ports h
+          (sym (quiet_after h m (map (deed_of m) c.args.deeds.now) b (b.stands.power ∙ ap not on))) r.3.few,
+    )
+
+pub returns-clause-carried : goal.returns-clause-carried
+returns-clause-carried g c start w u d =
+    let h = c.args.host in
+    let m : Message = (c.args.pipe, c.args.message.now) in
+    let deeds = map (deed_of m) c.args.deeds.now in
+    let b : Brings g.N.Nv.writes c.args.self.now.store.journal.nv c.handle.new.self.store.journal.nv
+    (IsUnderWay c.handle.new.self (g.W.Watch.noted c.handle.new.watch) (g.W.Watch.is_short c.handle.new.watch) start)
+    (handles h m deeds) w = c.handle.ensures.carried start w u in
+    let on : c.handle.new.self.store.journal.live ≡ true = sym c.handle.ensures.live ∙ c.if-not-handle.false in
+    let power = b.stands.power ∙ ap not on in
+    let held = d.held_is ∙ sym (held_kept b.after.ports w.ports h (quiet_after h m deeds b power)) in
+    let later = plainly g.N.Nv.writes {n2 = c.let_go.new.self} (lets_go h) b.stands on c.let_go.ensures.store
+    (c.let_go.ensures.carried _ _ start b.after b.stands held) (let_cut h b.after) (let_writes h b.after) (let_anyway h b.after) in
+    let room = d.lacks ∙ ap (option_map lack_shown) (no_some c.args.short c.in_default.not-Some) in
+    brings_same (brings_then g.N.Nv.writes b power later) (λ plan. has_room h m deeds w d.deeds_are room plan)

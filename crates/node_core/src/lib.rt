@@ -1,0 +1,12 @@
+//! A node, controller or host, from its store and its ends: how it carries out what the handling of a message does, one thing after
+//! another, until its memory fails. It stands for the machine of a node. All of it is this project's own.
+#![tactic(auto)]
+
+mod carrying;
+mod copies;
+mod node;
+mod noting;
+mod seeing;
+mod turns;
+
+pub use node::Node;

@@ -1,0 +1,14 @@
+//! A node that runs.
+use hci_store::Store;
+use node_ends::Ends;
+use std::alloc::Global;
+use swp_base::Nv;
+
+/// A node that runs. 00 is the controller, any other number is that of the host.
+#[derive(Drop)]
+pub struct Node<N: Nv + Drop> {
+    pub(crate) alloc: Global,
+    pub(crate) number: u8,
+    pub(crate) store: Store<N>,
+    pub(crate) ends: Ends,
+}

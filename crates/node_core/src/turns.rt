@@ -1,0 +1,105 @@
+//! How a message has its turn.
+ghost use Rattle.std.specs.Prelude.{◌≡◌};
+
+use crate::node::Node;
+use node_deeds::{Deed, Desk, Shortfall, controller_deeds, lack};
+use swp_base::Nv;
+use trace_model::Watch;
+
+impl<N: Nv + Drop> Node<N> {
+    ghost use Rattle.std.specs.Prelude.{◌≡◌, ◌≤◌, Bool, List, ◌∷◌, [], length, IsTrue};
+    ghost use Rattle.trace_model.specs.declared.entry.Entry.{Entry as Noted};
+    ghost use Rattle.node_machine.specs.Parts.{Port, Work};
+    ghost use Rattle.node_machine.specs.Carrying.{port_at};
+    ghost use Rattle.node_machine.specs.Turns.{lets_go, have_turns};
+    ghost use Rattle.node_ends.specs.Ends.{EndsStandFor, HasFewDue, got_at};
+    ghost use Rattle.node_deeds.specs.Cores.{AreSoundDesks};
+    ghost use Rattle.node_core.specs.Nodes.{IsUnderWay, Runs};
+    ghost use Rattle.node_core.specs.Bringing.{Brings};
+    ghost use Rattle.node_core.specs.Turning.{held_at, IsDecided, MayHaveTurns};
+
+    // No message is held at an end: it takes fragments again, if it was held.
+    fn let_go(&mut self, host: u8, held: bool)
+        requires runs { Runs self.old }
+        requires few { (ports : List Port) × EndsStandFor self.old.ends ports × HasFewDue (port_at ports host) }
+        ensures carried { (noted : List Noted) (short : Bool) (start : List Noted) (w : Work) → IsUnderWay self.old noted short start w
+            → held ≡ held_at w.ports host → IsUnderWay self.new noted short start (lets_go host w) }
+        ensures store { self.new.store ≡ self.old.store }
+        ensures runs { Runs self.new }
+    {
+        if held {
+            self.ends.hold(host, false);
+        }
+    }
+
+    // The message that waits at the end of the link with this host has its turn, as it was decided: it is held back where these deeds
+    // lack room, and handled otherwise. Whether the node has its power still.
+    fn take_turn<W: Watch>(
+        &mut self,
+        host: u8,
+        deeds: &[Deed],
+        short: Option<Shortfall>,
+        held: bool,
+        pipe: u8,
+        message: &[u8],
+        watch: &mut W,
+    ) -> bool
+        requires runs { Runs self.old }
+        requires live { IsTrue self.old.store.journal.live }
+        requires decided { (start : List Noted) × (w : Work) × IsUnderWay self.old (W.noted watch.old) (W.is_short watch.old) start w
+            × IsDecided host (pipe, message.now) deeds.now short held w }
+        ensures carried { (start : List Noted) (w : Work) → IsUnderWay self.old (W.noted watch.old) (W.is_short watch.old) start w
+            → IsDecided host (pipe, message.now) deeds.now short held w → Brings N.writes self.old.store.journal.nv self.new.store.journal.nv
+            (IsUnderWay self.new (W.noted watch.new) (W.is_short watch.new) start) (have_turns host ((pipe, message.now) ∷ [])) w }
+        ensures live { result ≡ self.new.store.journal.live }
+        ensures runs { Runs self.new }
+    {
+        if let Some(Shortfall { need, spare }) = short {
+            self.hold_back(host, need, spare, watch);
+            return true;
+        }
+        if !self.handle(host, deeds, pipe, message, watch) {
+            return false;
+        }
+        self.let_go(host, held);
+        true
+    }
+    /// The message that waits at the end of the link with this host has its turn at a controller, where one does; then the end takes
+    /// fragments again, unless the message is held back. These desks, the mask of the links that are up and what is spare at each end
+    /// are those of the ends of the controller. The buffer has 4,096 bytes. Whether the node has its power still.
+    pub(crate) fn have_turns<W: Watch>(
+        &mut self,
+        host: u8,
+        desks: &[Desk],
+        up: u8,
+        spares: &[u16],
+        buffer: &mut [u8],
+        watch: &mut W,
+    ) -> bool
+        requires runs { Runs self.old }
+        requires live { IsTrue self.old.store.journal.live }
+        requires controller { self.old.number ≡ 0 }
+        requires some { 1 ≤ host }
+        requires host { host ≤ 7 }
+        requires few { length desks.now ≤ 7 }
+        requires sound { AreSoundDesks desks.now }
+        requires buffer { length buffer.old ≡ 4096 }
+        requires may { (start : List Noted) × (w : Work) × IsUnderWay self.old (W.noted watch.old) (W.is_short watch.old) start w
+            × MayHaveTurns host up desks.now spares.now w }
+        ensures carried { (start : List Noted) (w : Work) → IsUnderWay self.old (W.noted watch.old) (W.is_short watch.old) start w
+            → MayHaveTurns host up desks.now spares.now w → Brings N.writes self.old.store.journal.nv self.new.store.journal.nv
+            (IsUnderWay self.new (W.noted watch.new) (W.is_short watch.new) start) (have_turns host (got_at w.ports host)) w }
+        ensures live { result ≡ self.new.store.journal.live }
+        ensures runs { Runs self.new }
+    {
+        let held = self.ends.holds(host);
+        let Some((pipe, len)) = self.ends.read(host, buffer) else {
+            self.let_go(host, held);
+            return true;
+        };
+        let message = &buffer[..len];
+        let deeds = controller_deeds(&mut self.store, desks, up, host, pipe, message);
+        let short = lack(deeds.as_slice(), host, len, spares);
+        self.take_turn(host, deeds.as_slice(), short, held, pipe, message, watch)
+    }
+}

@@ -1,0 +1,168 @@
+-- What a host does, case by case, over what its code keeps.
+use Rattle.std.proofs.Common.{◌≡◌, ℕ, ◌+◌, ◌≤◌, Bool, true, false, cond, eqb, ◌&&◌, List, [], ◌∷◌, ◌++◌, length, slice_get, get_or, refl, sym}
+use Rattle.std.proofs.Common.{ap, ap₂, ◌∙◌, arith, append_assoc}
+use Rattle.std.specs.Prelude.{Option, Some, None, Result, Ok, Err, is_some, option_map}
+use Rattle.std.specs.Option.{option_map_or}
+use Rattle.std.proofs.lemmas.Bool.{le-leb, ne_eqb}
+use Rattle.std.proofs.lemmas.List.{map-append}
+use Rattle.session_laws.specs.Sessions.{is_up}
+use Rattle.hcp_packet.specs.declared.MessageKind.{MessageKind}
+use Rattle.hcp_packet.specs.declared.MessageKind.TheVariants.{Command as IsCommand, Event as IsEvent, Response as IsResponse}
+use Rattle.hcp_packet.specs.declared.MessageFault.{MessageFault}
+use Rattle.hcp_packet.specs.MessageHeader.{header_of}
+use Rattle.journal_laws.specs.declared.state.State.{State}
+use Rattle.history.specs.Steps.{end_of}
+use Rattle.link_entries.specs.Entries.End.{Controller, Host}
+use Rattle.trace_model.specs.declared.entry.Entry.TheVariants.{InitSame, InitMade}
+use Rattle.pipe_table.specs.declared.row.PipeRow.{PipeRow}
+use Rattle.pipe_table.specs.PipeRows.{pipe_at}
+use Rattle.hci_tables.specs.declared.command.Command.{Command}
+use Rattle.hci_tables.specs.declared.command.Command.TheVariants.{Create, Delete, Clear, Set}
+use Rattle.hci_tables.specs.Tables.{HciTables}
+use Rattle.hci_store.specs.Stored.{Stored}
+use Rattle.gate_answers.specs.declared.response.Response.TheVariants as response
+use Rattle.gate_answers.specs.Answers.{instruction_in, body_in}
+use Rattle.gate_loopback.specs.Loopback.{is_post_data}
+use Rattle.link_machine.specs.Machine.{Message}
+use Rattle.node_machine.specs.Parts.{Init, Core, Port, Deed}
+use Rattle.node_machine.specs.Parts.Deed.{Sends, Hears, Ends}
+use Rattle.node_machine.specs.Carrying.{end_of_node}
+use Rattle.node_machine.specs.HostReplies.{replies, accepts, is_welcome, pipe_named_in, pipe_created, pipe_deleted, pipes_cleared, orders_of, is_same, learns}
+use Rattle.node_machine.specs.HostReplies.{init_agreed, init_deeds, deleted_by, created_by, learned, response_deeds, is_gate, gate_of_pipe, host_deeds}
+use Rattle.node_deeds.specs.declared.desks.Desk.{Desk as KeptDesk}
+use Rattle.node_deeds.specs.declared.inits.Ordered.{Ordered}
+use Rattle.node_deeds.specs.declared.inits.Ordered.TheVariants.{Creation as ToCreate, Clearing, Other}
+use Rattle.node_deeds.specs.declared.host.Tasks.{Tasks}
+use Rattle.node_deeds.specs.declared.inits.Init.{Init as KeptInit}
+use Rattle.node_deeds.specs.declared.deeds.InitEnd.TheVariants.{Made}
+use Rattle.node_deeds.specs.declared.deeds.Deed.{Deed as KeptDeed}
+use Rattle.node_deeds.specs.declared.deeds.Deed.TheVariants as kept
+use Rattle.node_deeds.specs.Pipes.{gate_in}
+use Rattle.node_deeds.specs.Shown.{Handling, ordered_by, deletion_in, init_shown, deed_shown, deeds_shown}
+use Rattle.node_deeds.specs.Hosts.{init_kept, handled_by, host_core, IsHostAt, learned_of, heard_deeds, next_deeds, host_kind_deeds}
+
+-- ## Notices
+
+pub created_welcome : (core : Core) (body : List ℕ) (row : PipeRow) → pipe_named_in body ≡ Some row → is_welcome core.node row ≡ true
+    → accepts core (Create row) ≡ pipe_created core body
+created_welcome core body row named welcome =
+    let chosen : cond (is_welcome core.node row) (accepts core (Create row)) (replies core response.NotOk) ≡ pipe_created core body = rw named refl in
+    sym (ap (λ b. cond b (accepts core (Create row)) (replies core response.NotOk)) welcome) ∙ chosen
+
+pub deleted_kept : (core : Core) (body : List ℕ) → length body ≡ 1 → is_some (pipe_at core.tables.rows (get_or body 0 0)) ≡ true
+    → accepts core (Delete (get_or body 0 0)) ≡ pipe_deleted core body
+deleted_kept core [] one kept = absurd (omega arith)
+deleted_kept core (pid ∷ []) one kept = sym (ap (λ b. cond b (accepts core (Delete pid)) (replies core response.Ok)) kept)
+deleted_kept core (pid ∷ x ∷ more) one kept = absurd (omega arith)
+
+pub cleared_host : (core : Core) (body : List ℕ) → length body ≡ 1 → get_or body 0 0 ≤ 7
+    → accepts core (Clear (get_or body 0 0)) ≡ pipes_cleared core body
+cleared_host core [] one host = absurd (omega arith)
+cleared_host core (x ∷ []) one host = sym (ap (λ b. cond b (accepts core (Clear x)) (replies core response.CommandParameterUnknown)) (le-leb x 7 host))
+cleared_host core (x ∷ y ∷ more) one host = absurd (omega arith)
+
+-- ## Responses
+
+pub learned_creation : (core : Core) (order : Ordered) (value : List ℕ) (row : PipeRow) → order ≡ ToCreate → pipe_named_in value ≡ Some row
+    → learns core (Create row) ≡ learned_of core order value
+learned_creation core order value row is named =
+    ap (λ o. option_map_or (λ row. learns core (Create row)) o []) (sym named) ∙ ap (λ o. learned_of core o value) (sym is)
+
+-- what is learned goes by what was ordered
+learned_by_order : (core : Core) (order value : List ℕ) → learned_of core (ordered_by order) value ≡ learned core order value
+learned_by_order core order value =
+    by (eqb (instruction_in order) 16) (eqb (instruction_in order) 17) (eqb (instruction_in order) 20)
+  where
+    deleted : (body : List ℕ) → learned_of core (deletion_in body) value ≡ deleted_by core body
+    deleted [] = refl
+    deleted (pid ∷ []) = refl
+    deleted (pid ∷ x ∷ more) = refl
+
+    by : (a b c : Bool) → learned_of core (cond a ToCreate (cond b (deletion_in (body_in order)) (cond c Clearing Other))) value
+        ≡ cond a (created_by core value) (cond b (deleted_by core (body_in order)) (cond c (learns core (Clear core.node)) []))
+    by true b c = refl
+    by false true c = deleted (body_in order)
+    by false false true = refl
+    by false false false = refl
+
+-- the end of a host is its own
+pub host_end : (core : Core) → 1 ≤ core.node → end_of_node core core.node ≡ end_of core.node Host
+host_end core some = ap (λ b. end_of core.node (cond b Controller Host)) (ne_eqb core.node 0 (λ none. absurd (omega arith)))
+
+pub init_same : (core : Core) (i : Init) (code : ℕ) (value : List ℕ) → code ≡ 0 → is_same core i value ≡ true → 1 ≤ core.node
+    → Ends (InitSame (end_of core.node Host)) ∷ [] ≡ init_deeds core code value (Some i)
+init_same core i code value ok same some =
+    ap (λ e. Ends (InitSame e) ∷ []) (sym (host_end core some))
+    ∙ (agreed ∙ ap (λ n. init_deeds core n value (Some i)) (sym ok))
+  where
+    agreed : Ends (InitSame (end_of_node core core.node)) ∷ [] ≡ init_agreed core i value
+    agreed = sym (ap (λ b. cond b (Ends (InitSame (end_of_node core core.node)) ∷ []) (next_deeds core i (slice_get (orders_of i) (i.answered + 1)))) same)
+
+pub init_next : (core : Core) (i : Init) (code : ℕ) (value : List ℕ) → code ≡ 0 → is_same core i value ≡ false
+    → next_deeds core i (slice_get (orders_of i) (i.answered + 1)) ≡ init_deeds core code value (Some i)
+init_next core i code value ok differs = agreed ∙ ap (λ n. init_deeds core n value (Some i)) (sym ok) where
+  agreed : next_deeds core i (slice_get (orders_of i) (i.answered + 1)) ≡ init_agreed core i value
+  agreed = sym (ap (λ b. cond b (Ends (InitSame (end_of_node core core.node)) ∷ []) (next_deeds core i (slice_get (orders_of i) (i.answered + 1)))) differs)
+
+-- an init has made all
+pub init_made : (host : ℕ) (journal : State) (tables : HciTables) (i : KeptInit) (pipe : ℕ) (message : List ℕ) (before : List Deed)
+    (items more : List KeptDeed) (c : Command) (count : ℕ) (o : Option (List ℕ)) → 1 ≤ host
+    → deeds_shown (handled_by host (Some (init_shown i)) pipe message) items ≡ before ++ learns (host_core host journal tables (Some (init_shown i))) c
+    → c ≡ Set host 0 1 (record { items = i.identity }) → count ≡ length i.pipes.items → more ≡ items ++ kept.Ends (Made count) ∷ [] → None ≡ o
+    → deeds_shown (handled_by host (Some (init_shown i)) pipe message) more
+    ≡ before ++ next_deeds (host_core host journal tables (Some (init_shown i))) (init_shown i) o
+init_made host journal tables i pipe message before items more c count o some learned sets counted is none =
+    ap (deeds_shown a) is
+    ∙ (map-append (deed_shown a) items (kept.Ends (Made count) ∷ [])
+    ∙ (ap (λ xs. xs ++ Ends (InitMade (end_of host Host) count) ∷ []) learned
+    ∙ (append_assoc before (learns core c) (Ends (InitMade (end_of host Host) count) ∷ [])
+    ∙ ap (λ xs. before ++ xs)
+    (ap₂ (λ c n. learns core c ++ Ends (InitMade (end_of host Host) n) ∷ []) sets counted
+    ∙ (ap (λ e. learns core (Set host 0 1 (record { items = i.identity })) ++ Ends (InitMade e (length i.pipes.items)) ∷ []) (sym (host_end core some))
+    ∙ ap (next_deeds core (init_shown i)) none)))))
+  where
+    a : Handling
+    a = handled_by host (Some (init_shown i)) pipe message
+
+    core : Core
+    core = host_core host journal tables (Some (init_shown i))
+
+-- ## Cores
+
+module _ (core : Core) (p : Port) (m : Message) where
+  abbrev bare : Core
+  bare = host_core core.node core.journal core.tables core.init
+
+  gate_same : (o : Option PipeRow) → pipe_at core.tables.rows m.0 ≡ o → gate_in (pipe_at core.tables.rows m.0) core.node ≡ gate_of_pipe core m.0
+  gate_same None is = rw is refl
+  gate_same (Some row) is = rw is refl
+
+  heard_bare : (code : ℕ) (value : List ℕ) (o : Option (List ℕ)) → core.command ≡ o
+      → heard_deeds bare code value (option_map ordered_by o) ≡ response_deeds core code value
+  heard_bare code value None is = rw is refl
+  heard_bare code value (Some order) is =
+      rw is (ap (λ ds. Hears ∷ cond (eqb code 0) ds [] ++ init_deeds core code value core.init) (learned_by_order core order value))
+
+  kind_bare : (x : Result (MessageKind × ℕ) MessageFault) → header_of m.1 ≡ x → is_up p.side.shdlc.phase ≡ true
+      → host_kind_deeds bare p.desk.errors (option_map ordered_by core.command) m x ≡ host_deeds core p m
+  kind_bare (Ok (IsCommand, n)) is up = rw (up, is) refl
+  kind_bare (Ok (IsEvent, n)) is up =
+      rw (up, is)
+      (ap₂ (λ gate posts. cond (is_gate 4 gate && posts) (Sends core.node m ∷ []) []) (gate_same (pipe_at core.tables.rows m.0) refl)
+      (sym (ap is_post_data is)))
+  kind_bare (Ok (IsResponse, code)) is up =
+      rw (up, is) (ap (λ ds. cond (eqb m.0 1) ds []) (heard_bare code (body_in m.1) core.command refl))
+  kind_bare (Err fault) is up = rw (up, is) refl
+
+  pub host_of_core : {N : Type 0} (s : Stored N) (d : KeptDesk) (tasks : Tasks) → IsHostAt s d true tasks core p
+      → host_kind_deeds (host_core d.host s.journal.state s.tables (init_kept tasks.init)) d.errors tasks.command m (header_of m.1) ≡ host_deeds core p m
+  host_of_core s d tasks at =
+      let k = at.kept in
+      let errors = ap (λ seen. seen.0.errors) at.seen in
+      ap (λ n. host_kind_deeds (host_core n s.journal.state s.tables (init_kept tasks.init)) d.errors tasks.command m (header_of m.1)) (sym at.node)
+      ∙ (ap (λ j. host_kind_deeds (host_core core.node j s.tables (init_kept tasks.init)) d.errors tasks.command m (header_of m.1)) (sym k.journal)
+      ∙ (ap (λ t. host_kind_deeds (host_core core.node core.journal t (init_kept tasks.init)) d.errors tasks.command m (header_of m.1)) (sym k.tables)
+      ∙ (ap (λ i. host_kind_deeds (host_core core.node core.journal core.tables i) d.errors tasks.command m (header_of m.1)) (sym at.init)
+      ∙ (ap (λ e. host_kind_deeds bare e tasks.command m (header_of m.1)) (sym errors)
+      ∙ (ap (λ o. host_kind_deeds bare p.desk.errors o m (header_of m.1)) (sym at.command)
+      ∙ kind_bare (header_of m.1) refl (ap (λ seen. seen.1) at.seen))))))

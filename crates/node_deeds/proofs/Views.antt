@@ -1,0 +1,193 @@
+-- What code reads at the desks that it keeps is what the definition reads at the ends.
+use Rattle.std.proofs.Common.{◌≡◌, ℕ, suc, zero, ◌+◌, ◌^◌, ◌<◌, ◌≤◌, Bool, true, false, cond, eqb, ◌&&◌, ◌||◌, List, [], ◌∷◌, refl, sym, ap, ap₂, ◌∙◌, arith}
+use Rattle.std.specs.Prelude.{Option, Some, None, is_some, option_map}
+use Rattle.std.specs.List.{filter_map, list_any, cons_option}
+use Rattle.std.specs.Option.{option_map_or, option_and_then}
+use Rattle.session_laws.specs.Sessions.{is_up}
+use Rattle.shdlc_core.specs.declared.answers.LinkState.TheVariants.{Down, Up}
+use Rattle.pipe_table.specs.declared.row.PipeRow.{PipeRow}
+use Rattle.hci_tables.specs.Tables.{HciTables, is_opened}
+use Rattle.gate_admin.specs.View.{has, mask_of, hosts_where}
+use Rattle.gate_admin.proofs.ViewLemmas.{hosts_below, hosts_below-left, mask_of-taken, double}
+use Rattle.node_machine.specs.Parts.{Creation, Core, Port, Deed}
+use Rattle.node_machine.specs.Parts.Deed.{Drops}
+use Rattle.node_machine.specs.Carrying.{port_at}
+use Rattle.node_machine.specs.Controller.{has_link, asks_for, asked_at, is_asked_at, creation_in, pipe_of, waiting_pipes, is_connected_at, view_for}
+use Rattle.node_machine.specs.Controller.{response_at, notice_deeds}
+use Rattle.node_deeds.specs.declared.desks.About.{About as KeptAbout}
+use Rattle.node_deeds.specs.declared.desks.About.TheVariants as about
+use Rattle.node_deeds.specs.declared.desks.Unanswered.{Unanswered}
+use Rattle.node_deeds.specs.declared.desks.Desk.{Desk as KeptDesk}
+use Rattle.node_deeds.specs.Shown.{about_shown, notice_shown, port_shown, ports_shown, row_about, row_noticed, row_waits_for, awaited_pipe}
+use Rattle.node_deeds.specs.Desks.{desk_of, configured_by, connected_by, noticed_by, asked_in, asked_by, errors_by}
+use Rattle.node_deeds.specs.Replies.{about_deeds}
+use Rattle.node_deeds.proofs.Ports.{find-map, hosts_same, view_with, view_made}
+
+-- ## One end
+
+up_shown : (up : Bool) → is_up (cond up Up Down) ≡ up
+up_shown true = refl
+up_shown false = refl
+
+-- the end of the link with a host, by the desk that is found
+port_found : (up : ℕ) (desks : List KeptDesk) (h : ℕ) (o : Option KeptDesk) → o ≡ desk_of desks h
+    → option_map (port_shown up) o ≡ port_at (ports_shown up desks) h
+port_found up desks h o found = ap (option_map (port_shown up)) found ∙ sym (find-map (λ (p : Port). eqb p.desk.host h) (port_shown up) desks)
+
+-- what is read at a desk is what is read at its end
+read_found : {X : Type 0} (g : KeptDesk → X) (f : Port → X) (x : X) (up : ℕ) → ((d : KeptDesk) → g d ≡ f (port_shown up d))
+    → (desks : List KeptDesk) (h : ℕ) (o : Option KeptDesk) → o ≡ desk_of desks h
+    → option_map_or g o x ≡ option_map_or f (port_at (ports_shown up desks) h) x
+read_found {X} g f x up same desks h o found = by o ∙ ap (λ p. option_map_or f p x) (port_found up desks h o found) where
+  by : (o : Option KeptDesk) → option_map_or g o x ≡ option_map_or f (option_map (port_shown up) o) x
+  by None = refl
+  by (Some d) = same d
+
+pub link_found : (up : ℕ) (desks : List KeptDesk) (h : ℕ) (o : Option KeptDesk) → o ≡ desk_of desks h
+    → option_map_or (λ (d : KeptDesk). has up d.host) o false ≡ has_link (ports_shown up desks) h
+link_found up desks h o found =
+    read_found (λ d. has up d.host) (λ p. is_up p.side.shdlc.phase) false up (λ d. sym (up_shown (has up d.host))) desks h o found
+
+pub errors_shown : (up : ℕ) (desks : List KeptDesk) (h : ℕ)
+    → errors_by desks h ≡ option_map_or (λ (p : Port). p.desk.errors) (port_at (ports_shown up desks) h) 0
+errors_shown up desks h = read_found (λ d. d.errors) (λ p. p.desk.errors) 0 up (λ d. refl) desks h (desk_of desks h) refl
+
+-- ## All ends
+
+waits_shown : (up h : ℕ) (d : KeptDesk) → row_waits_for h d ≡ option_map_or (λ (c : Creation). eqb c.asker h) (asked_at (port_shown up d)) false
+waits_shown up h d = by d.notice where
+  by_about : (age : ℕ) (a : KeptAbout) → option_map_or (λ (row : PipeRow). eqb row.creator h) (row_about a) false
+      ≡ option_map_or (λ (c : Creation). eqb c.asker h) (creation_in (Some (record { about = about_shown a; age = age }))) false
+  by_about age (about.Waits row) = refl
+  by_about age about.Forgotten = refl
+  by_about age about.Removed = refl
+
+  by : (o : Option Unanswered) → option_map_or (λ (row : PipeRow). eqb row.creator h) (row_noticed o) false
+      ≡ option_map_or (λ (c : Creation). eqb c.asker h) (creation_in (option_map notice_shown o)) false
+  by None = refl
+  by (Some n) = by_about n.age n.about
+
+pub asks_shown : (up : ℕ) (desks : List KeptDesk) (h : ℕ) → list_any (row_waits_for h) desks ≡ asks_for (ports_shown up desks) h
+asks_shown up [] h = refl
+asks_shown up (d ∷ desks) h = ap₂ (λ a b. a || b) (waits_shown up h d) (asks_shown up desks h)
+
+pipe_shown : (o : Option Unanswered) → option_map (λ (row : PipeRow). row.pid) (row_noticed o)
+    ≡ option_and_then (λ (c : Creation). pipe_of c.command) (creation_in (option_map notice_shown o))
+pipe_shown None = refl
+pipe_shown (Some n) = by_about n.age n.about where
+  by_about : (age : ℕ) (a : KeptAbout) → option_map (λ (row : PipeRow). row.pid) (row_about a)
+      ≡ option_and_then (λ (c : Creation). pipe_of c.command) (creation_in (Some (record { about = about_shown a; age = age })))
+  by_about age (about.Waits row) = refl
+  by_about age about.Forgotten = refl
+  by_about age about.Removed = refl
+
+waiting_shown : (up : ℕ) (desks : List KeptDesk) → filter_map awaited_pipe desks ≡ waiting_pipes (ports_shown up desks)
+waiting_shown up [] = refl
+waiting_shown up (d ∷ desks) = ap₂ (λ o pipes. cons_option o pipes) (pipe_shown d.notice) (waiting_shown up desks)
+
+-- an answer to the notice of the desk that is found
+notice_reply : Core → ℕ → Option Unanswered → List Deed
+notice_reply core code None = Drops 1 ∷ []
+notice_reply core code (Some n) = about_deeds core code n.about
+
+notice_replied : (core : Core) (code : ℕ) (o : Option Unanswered) → notice_reply core code o ≡ notice_deeds core code (option_map notice_shown o)
+unfolding notice_reply
+notice_replied core code None = refl
+notice_replied core code (Some n) = by_about n.age n.about where
+  by_about : (age : ℕ) (a : KeptAbout) → about_deeds core code a ≡ notice_deeds core code (Some (record { about = about_shown a; age = age }))
+  by_about age (about.Waits row) = refl
+  by_about age about.Forgotten = refl
+  by_about age about.Removed = refl
+
+reply_found : (core : Core) (code up : ℕ) (desks : List KeptDesk) (h : ℕ) (o : Option KeptDesk) → o ≡ desk_of desks h
+    → response_at core code (option_map (port_shown up) o) ≡ response_at core code (port_at (ports_shown up desks) h)
+reply_found core code up desks h o found = ap (response_at core code) (port_found up desks h o found)
+
+pub no_desk : (core : Core) (code up : ℕ) (desks : List KeptDesk) (h : ℕ) → None ≡ desk_of desks h
+    → Drops 1 ∷ [] ≡ response_at core code (port_at (ports_shown up desks) h)
+no_desk core code up desks h found = reply_found core code up desks h None found
+
+pub no_notice : (core : Core) (code up : ℕ) (desks : List KeptDesk) (h : ℕ) (d : KeptDesk) → Some d ≡ desk_of desks h → d.notice ≡ None
+    → Drops 1 ∷ [] ≡ response_at core code (port_at (ports_shown up desks) h)
+unfolding notice_reply
+no_notice core code up desks h d found none =
+    ap (notice_reply core code) (sym none) ∙ (notice_replied core code d.notice ∙ reply_found core code up desks h (Some d) found)
+
+pub one_notice : (core : Core) (code up : ℕ) (desks : List KeptDesk) (h : ℕ) (d : KeptDesk) (n : Unanswered) → Some d ≡ desk_of desks h
+    → d.notice ≡ Some n → about_deeds core code n.about ≡ response_at core code (port_at (ports_shown up desks) h)
+unfolding notice_reply
+one_notice core code up desks h d n found some =
+    ap (notice_reply core code) (sym some) ∙ (notice_replied core code d.notice ∙ reply_found core code up desks h (Some d) found)
+
+-- ## Masks
+
+-- the places of hosts fit a byte
+pub places_fit : (h : ℕ) → h < 8 → 2 ^ h + 2 ^ h ≤ 256
+places_fit zero small = omega arith
+places_fit (suc zero) small = omega arith
+places_fit (suc (suc zero)) small = omega arith
+places_fit (suc (suc (suc zero))) small = omega arith
+places_fit (suc (suc (suc (suc zero)))) small = omega arith
+places_fit (suc (suc (suc (suc (suc zero))))) small = omega arith
+places_fit (suc (suc (suc (suc (suc (suc zero)))))) small = omega arith
+places_fit (suc (suc (suc (suc (suc (suc (suc zero))))))) small = omega arith
+places_fit (suc (suc (suc (suc (suc (suc (suc (suc n)))))))) small = absurd (omega arith)
+
+-- the mask of the hosts below one that pass a test
+pub record IsMaskBelow (test : ℕ → Bool) (host mask : ℕ) : Type 0 where
+  pub is : mask ≡ mask_of (hosts_below test host)
+  pub below : mask < 2 ^ host
+
+pub mask_grows : (test : ℕ → Bool) (host : ℕ) (mask next place : ℕ) (passes : Bool) → 1 ≤ host → IsMaskBelow test host mask → passes ≡ test host
+    → place ≡ cond passes (2 ^ host) 0 → next ≡ mask + place → IsMaskBelow test (host + 1) next
+mask_grows test host mask next place true from so_far passed is grown =
+    let more = mask_of-taken test host from (sym passed) in
+    let twice = double host in
+    let mask_is = so_far.is in
+    let below = so_far.below in
+    record { is = omega arith; below = omega arith }
+mask_grows test host mask next place false from so_far passed is grown =
+    let same = ap mask_of (hosts_below-left test host from (sym passed)) in
+    let twice = double host in
+    let mask_is = so_far.is in
+    let below = so_far.below in
+    record { is = omega arith; below = omega arith }
+
+mask_all : (test other : ℕ → Bool) (host mask : ℕ) → host ≡ 8 → IsMaskBelow test host mask → ((h : ℕ) → test h ≡ other h)
+    → mask ≡ mask_of (hosts_where other)
+unfolding hosts_where
+mask_all test other host mask last m same =
+    m.is ∙ (ap (λ h. mask_of (hosts_below test h)) last ∙ ap mask_of (hosts_same test other same))
+
+asked_shown : (up : ℕ) (d : KeptDesk) → asked_in d.notice ≡ is_asked_at (port_shown up d)
+asked_shown up d = by d.notice d.host d.holds d.errors where
+  by : (o : Option Unanswered) (host : ℕ) (holds : Bool) (errors : ℕ)
+      → asked_in o ≡ is_asked_at (port_shown up (record { host = host; notice = o; holds = holds; errors = errors }))
+  by None host holds errors = refl
+  by (Some n) host holds errors = by_about n.about where
+    by_about : (a : KeptAbout)
+        → asked_in (Some (record { about = a; age = n.age }))
+        ≡ is_asked_at (port_shown up (record { host = host; notice = Some (record { about = a; age = n.age }); holds = holds; errors = errors }))
+    by_about (about.Waits row) = refl
+    by_about about.Forgotten = refl
+    by_about about.Removed = refl
+
+some_shown : (o : Option Unanswered) → is_some o ≡ is_some (option_map notice_shown o)
+some_shown None = refl
+some_shown (Some n) = refl
+
+pub view_read : (t : HciTables) (up : ℕ) (desks : List KeptDesk) (host other a b c d e : ℕ) (w : List ℕ) → other ≡ 8
+    → IsMaskBelow (configured_by desks) other a → IsMaskBelow (connected_by t up desks) other b → IsMaskBelow (noticed_by desks) other c
+    → IsMaskBelow (asked_by desks) other d → w ≡ filter_map awaited_pipe desks → e ≡ errors_by desks host
+    → view_with a b c d w e ≡ view_for t (ports_shown up desks) host
+view_read t up desks host other a b c d e w last hosts links notices asks waits errors =
+    view_made _ _ _ _ _ _ _ _ _ _ _ _
+    (mask_all (configured_by desks) _ other a last hosts (λ h. read_found (λ d. true) (λ p. true) false up (λ d. refl) desks h (desk_of desks h) refl))
+    (mask_all (connected_by t up desks) _ other b last links
+    (λ h. read_found (λ d. has up d.host && is_opened t d.host 1) (is_connected_at t) false up
+    (λ d. ap (λ up. up && is_opened t d.host 1) (sym (up_shown (has up d.host)))) desks h (desk_of desks h) refl))
+    (mask_all (noticed_by desks) _ other c last notices
+    (λ h. read_found (λ d. is_some d.notice) (λ p. is_some p.desk.notice) false up (λ d. some_shown d.notice) desks h (desk_of desks h) refl))
+    (mask_all (asked_by desks) _ other d last asks
+    (λ h. read_found (λ d. asked_in d.notice) is_asked_at false up (asked_shown up) desks h (desk_of desks h) refl))
+    (waits ∙ waiting_shown up desks) (errors ∙ errors_shown up desks host)

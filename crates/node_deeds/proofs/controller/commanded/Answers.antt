@@ -1,0 +1,35 @@
+use Rattle.std.proofs.Common.{cond, sym, ap, ap₂, ◌∙◌}
+use Rattle.std.specs.Prelude.{None}
+use Rattle.gate_answers.specs.Answers.{instruction_in, body_in}
+use Rattle.node_machine.specs.Controller.{goes_through, own_gate, view_for}
+use Rattle.node_deeds.specs.Shown.{ports_shown}
+use Rattle.node_deeds.specs.Cores.{controller_core, handled}
+use Rattle.node_deeds.proofs.Control.{gate_serves, gate_decides}
+use Rattle.node_deeds.proofs.Views.{errors_shown}
+use Rattle.node_deeds.proofs.controller.commanded.Goals as goal
+
+pub returns-in-Some-clause-deeds : goal.returns-in-Some-clause-deeds
+returns-in-Some-clause-deeds g c =
+    let s = c.args.store.now in
+    let message = c.args.message.now in
+    let host = c.args.host in
+    let pipe = c.args.pipe in
+    let ports = ports_shown c.args.up c.args.desks.now in
+    let gate = ap₂ (λ t n. cond (goes_through t host pipe n) (own_gate t host pipe) None) (sym c.tables.ensures) (sym c.instruction_of.ensures)
+    ∙ (sym c.gate_for.ensures ∙ c.in-Some.is) in
+    c.served.ensures.deeds
+    ∙ gate_serves (controller_core s.journal.state s.tables) ports host (pipe, message) pipe (instruction_in message) c.in-Some.gate c.errors_at.result
+    (body_in message) gate (c.errors_at.ensures ∙ errors_shown c.args.up c.args.desks.now host)
+
+pub returns-in-None-clause-deeds : goal.returns-in-None-clause-deeds
+returns-in-None-clause-deeds g c =
+    let s = c.args.store.now in
+    let message = c.args.message.now in
+    let host = c.args.host in
+    let pipe = c.args.pipe in
+    let ports = ports_shown c.args.up c.args.desks.now in
+    let gate = ap₂ (λ t n. cond (goes_through t host pipe n) (own_gate t host pipe) None) (sym c.tables.ensures) (sym c.instruction_of.ensures)
+    ∙ (sym c.gate_for.ensures ∙ c.in-None.is) in
+    c.administered.ensures.deeds (handled pipe message)
+    ∙ gate_decides (controller_core s.journal.state s.tables) ports host (pipe, message) pipe (instruction_in message) (body_in message)
+    c.view_for-view.result gate (c.view_for-view.ensures ∙ ap (λ t. view_for t ports host) c.tables-in-None.ensures)

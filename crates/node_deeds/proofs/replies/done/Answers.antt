@@ -1,0 +1,18 @@
+use Rattle.std.proofs.Common.{◌++◌, ℕ, sym, ap, ◌∙◌}
+use Rattle.std.specs.Prelude.{map}
+use Rattle.gate_admin.specs.View.{has, hosts_where}
+use Rattle.node_machine.specs.Parts.Deed.{Tells}
+use Rattle.node_deeds.specs.Shown.{deeds_shown}
+use Rattle.node_deeds.specs.Cores.{controller_core}
+use Rattle.node_deeds.proofs.Control.{decision_commits}
+use Rattle.node_deeds.proofs.replies.done.Goals as goal
+
+pub returns-then-has_room-clause-deeds : goal.returns-then-has_room-clause-deeds
+returns-then-has_room-clause-deeds g c =
+    let s = c.args.store.now in
+    let is = c.in-Commit in
+    let room = sym c.has_room.ensures.room ∙ c.if-has_room.true in
+    λ a. c.tell_hosts.ensures.told a
+    ∙ (ap (λ items. deeds_shown a items ++ map (λ (told : ℕ). Tells told is.notice.items) (hosts_where (has is.tell))) c.committed-deeds.ensures
+    ∙ decision_commits (controller_core s.journal.state s.tables) c.args.host c.args.pipe c.args.decision is.command is.answer is.tell is.notice
+    is.is room)

@@ -1,0 +1,48 @@
+use Rattle.std.proofs.Common.{◌≡◌, [], ◌∷◌, ◌++◌, cond, eqb, sym, subst, ap, ◌∙◌, append-nil}
+use Rattle.std.specs.Prelude.{Option, Some, None}
+use Rattle.node_machine.specs.Parts.Deed.{Hears}
+use Rattle.node_machine.specs.HostReplies.{init_deeds}
+use Rattle.node_deeds.specs.declared.inits.Init.{Init as KeptInit}
+use Rattle.node_deeds.specs.Shown.{deeds_shown, init_shown}
+use Rattle.node_deeds.specs.Hosts.{init_kept, host_core, handled_by, learned_of, heard_deeds}
+use Rattle.node_deeds.proofs.responses.heard.Goals as goal
+
+pub returns-in-Some-init-clause-deeds : goal.returns-in-Some-init-clause-deeds
+returns-in-Some-init-clause-deeds g c = λ pipe message.
+    let s = c.args.store.now in
+    let host = c.args.host in
+    let i = init_shown c.in-Some-init.init in
+    let code = c.args.code in
+    let value = c.args.value.now in
+    let a = handled_by host (Some i) pipe message in
+    let core = host_core host s.journal.state s.tables (Some i) in
+    let learns = cond (eqb code 0) (learned_of core c.in-Some.order value) [] in
+    let at : deeds_shown a c.go_on.new.deeds.items ≡ heard_deeds core code value c.args.tasks.now.command =
+    c.go_on.ensures.deeds pipe message
+    ∙ (ap (λ kept. deeds_shown a c.learn_if_ok.new.deeds.items
+    ++ init_deeds (host_core host kept.journal.state kept.tables (Some i)) code value (Some i)) c.learn_if_ok.ensures.unchanged
+    ∙ (ap (λ ds. ds ++ init_deeds core code value (Some i))
+    (c.learn_if_ok.ensures.deeds a (Some i) ∙ ap (λ items. deeds_shown a items ++ learns) c.only-deeds.ensures)
+    ∙ ap (heard_deeds core code value) (sym c.in-Some.is))) in
+    subst
+    (λ (o : Option KeptInit). deeds_shown (handled_by host (init_kept o) pipe message) c.go_on.new.deeds.items
+    ≡ heard_deeds (host_core host s.journal.state s.tables (init_kept o)) code value c.args.tasks.now.command)
+    (sym c.in-Some-init.is) at
+
+pub returns-in_default-init-clause-deeds : goal.returns-in_default-init-clause-deeds
+returns-in_default-init-clause-deeds g c = λ pipe message.
+    let s = c.args.store.now in
+    let host = c.args.host in
+    let code = c.args.code in
+    let value = c.args.value.now in
+    let a = handled_by host None pipe message in
+    let core = host_core host s.journal.state s.tables None in
+    let learns = cond (eqb code 0) (learned_of core c.in-Some.order value) [] in
+    let at : deeds_shown a c.learn_if_ok.new.deeds.items ≡ heard_deeds core code value c.args.tasks.now.command =
+    c.learn_if_ok.ensures.deeds a None
+    ∙ (ap (λ items. deeds_shown a items ++ learns) c.only-deeds.ensures
+    ∙ (sym (append-nil (Hears ∷ learns)) ∙ ap (heard_deeds core code value) (sym c.in-Some.is))) in
+    subst
+    (λ (o : Option KeptInit). deeds_shown (handled_by host (init_kept o) pipe message) c.learn_if_ok.new.deeds.items
+    ≡ heard_deeds (host_core host s.journal.state s.tables (init_kept o)) code value c.args.tasks.now.command)
+    (sym c.in_default-init.is) at

@@ -1,0 +1,29 @@
+use Rattle.std.proofs.Common.{◌≡◌, refl, arith}
+use Rattle.node_deeds.specs.Desks.{configured_by, connected_by, noticed_by, asked_by}
+use Rattle.node_deeds.proofs.Views.{mask_grows, view_read}
+use Rattle.node_deeds.proofs.view.view_for.Goals as goal
+
+pub loop-other-preserved : goal.loop-other-preserved
+loop-other-preserved c =
+    let desks = c.args.desks.now in
+    let host = c.loop-other.other in
+    let from = c.loop-other.auto.other in
+    let so_far = c.loop-other.invariant in
+    record {
+      hosts = mask_grows (configured_by desks) host c.loop-other.hosts _ c.place_if-hosts.result c.is_configured.result from so_far.hosts
+          c.is_configured.ensures c.place_if-hosts.ensures.place refl;
+      connected = mask_grows (connected_by c.args.tables.now c.args.up desks) host c.loop-other.connected _ c.place_if-connected.result
+          c.is_connected.result from so_far.connected c.is_connected.ensures c.place_if-connected.ensures.place refl;
+      noticed = mask_grows (noticed_by desks) host c.loop-other.noticed _ c.place_if-noticed.result c.is_noticed.result from so_far.noticed
+          c.is_noticed.ensures c.place_if-noticed.ensures.place refl;
+      asked = mask_grows (asked_by desks) host c.loop-other.asked _ c.place_if-asked.result c.is_asked.result from so_far.asked
+          c.is_asked.ensures c.place_if-asked.ensures.place refl;
+    }
+
+pub returns : goal.returns
+returns c =
+    let last : c.loop-other.other ≡ 8 = omega arith in
+    let all = c.loop-other.invariant in
+    view_read c.args.tables.now c.args.up c.args.desks.now c.args.host c.loop-other.other c.loop-other.hosts c.loop-other.connected
+    c.loop-other.noticed c.loop-other.asked c.errors_at.result c.waiting_pipes.result.items last all.hosts all.connected all.noticed all.asked
+    c.waiting_pipes.ensures c.errors_at.ensures

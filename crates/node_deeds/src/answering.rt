@@ -1,0 +1,105 @@
+//! Deeds that answer, and those that wait for room in the journal.
+ghost use Rattle.std.specs.Prelude.{◌≡◌, ◌∷◌, [], ◌<◌, ◌≤◌, ◌^◌, IsTrue, IsSome, length};
+ghost use Rattle.hci_tables.specs.Commands.{IsCommand};
+ghost use Rattle.gate_answers.specs.Answers.{IsCommandMessage, answer_of, instruction_in, body_in};
+ghost use Rattle.gate_link.specs.Link.{link_served};
+ghost use Rattle.node_machine.specs.Carrying.{has_room_for};
+ghost use Rattle.node_machine.specs.Controller.{answers_on, link_deeds};
+ghost use Rattle.node_deeds.specs.Shown.{Handling, deeds_shown};
+ghost use Rattle.node_deeds.specs.Cores.{IsReady, AreDoable};
+ghost use Rattle.node_deeds.specs.declared.deeds.Deed.TheVariants as kept;
+
+use crate::deeds::{Deed, Deeds, only};
+use gate_answers::{Answer, Response, refused};
+use hci_store::Store;
+use hci_tables::Command;
+use swp_base::Nv;
+
+/// Whether the journal has room for a command. The store stays as it is.
+pub(crate) fn has_room<N: Nv + Drop>(store: &mut Store<N>, command: &Command) -> bool
+    requires ready { IsReady store.old }
+    requires command { IsCommand command.now }
+    ensures room { result ≡ has_room_for store.old.journal.state command.now }
+    ensures unchanged { store.new ≡ store.old }
+{
+    store.room(command)
+}
+
+/// The message is dropped.
+pub(crate) fn dropped(pipe: u8) -> Deeds
+    ensures { result.items ≡ kept.Drops pipe ∷ [] }
+{
+    only(Deed::Drops { pipe })
+}
+
+/// The message goes on to a host.
+pub(crate) fn passed_on(host: u8) -> Deeds
+    ensures { result.items ≡ kept.PassesOn host ∷ [] }
+{
+    only(Deed::PassesOn { host })
+}
+
+/// An answer to a host on the pipe of its command.
+pub(crate) fn answered(host: u8, pipe: u8, message: Answer) -> Deeds
+    ensures { result.items ≡ kept.Sends host pipe message ∷ [] }
+{
+    only(Deed::Sends {
+        host,
+        pipe,
+        message,
+    })
+}
+
+/// An answer of this code alone.
+pub(crate) fn refused_on(host: u8, pipe: u8, response: Response) -> Deeds
+    ensures { result.items ≡ kept.Sends host pipe (record { items = answer_of response [] }) ∷ [] }
+{
+    answered(host, pipe, refused(response))
+}
+
+/// A command is committed and answered.
+pub(crate) fn committed(host: u8, pipe: u8, command: Command, message: Answer) -> Deeds
+    ensures { result.items ≡ kept.Commits command ∷ kept.Sends host pipe message ∷ kept.SaysOk ∷ [] }
+{
+    let mut deeds = only(Deed::Commits(command));
+    deeds.push(Deed::Sends {
+        host,
+        pipe,
+        message,
+    });
+    deeds.push(Deed::SaysOk);
+    deeds
+}
+
+/// The answer of the link management gate of an end, and REC_ERROR where it is set.
+pub(crate) fn link_answered(errors: u16, host: u8, pipe: u8, message: &[u8]) -> Deeds
+    requires pipe { pipe < 112 }
+    requires command { IsCommandMessage message.now }
+    ensures deeds { (a : Handling) → deeds_shown a result.items
+        ≡ link_deeds host pipe (link_served errors (instruction_in message.now) (body_in message.now)) }
+    ensures doable { AreDoable result.items }
+{
+    let (answer, set) = gate_link::serve(errors, message);
+    match set {
+        Some(errors) => {
+            let mut deeds = only(Deed::SetsErrors { errors });
+            deeds.push(Deed::Sends {
+                host,
+                pipe,
+                message: answer,
+            });
+            deeds
+        }
+        None => answered(host, pipe, answer),
+    }
+}
+
+/// What stands behind the header of a message.
+pub(crate) fn body_in(message: &[u8]) -> &[u8]
+    ensures { result.now ≡ body_in message.now }
+{
+    match message {
+        [] => &[],
+        [_, body @ ..] => body,
+    }
+}

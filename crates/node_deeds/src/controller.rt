@@ -1,0 +1,201 @@
+//! What a controller does with a message of a host.
+ghost use Rattle.std.specs.Prelude.{◌≡◌, ℕ, ◌≤◌, ◌<◌, ◌==◌, ◌&&◌, if◌then◌else◌, List, length, None};
+ghost use Rattle.std.specs.List.{list_any};
+ghost use Rattle.hcp_packet.specs.MessageHeader.{header_of};
+ghost use Rattle.gate_answers.specs.Answers.{IsCommandMessage, instruction_in, body_in};
+ghost use Rattle.node_machine.specs.Parts.{Core, Port};
+ghost use Rattle.node_machine.specs.Controller.{has_link, gate_deeds, own_gate, goes_through, command_deeds, event_deeds, kind_deeds, relay_deeds};
+ghost use Rattle.node_machine.specs.Controller.{is_command_message};
+ghost use Rattle.node_machine.specs.Controller.{controller_deeds};
+ghost use Rattle.node_deeds.specs.Shown.{ports_shown, row_waits_for, deeds_shown, AreSeen};
+ghost use Rattle.node_deeds.specs.Cores.{controller_core, handled, IsReady, IsCoreOf, AreDoable, AreSoundDesks};
+
+use crate::answering::{answered, dropped, link_answered, passed_on, refused_on};
+use crate::deeds::Deeds;
+use crate::desks::Desk;
+use crate::pipes::{goes_through, is_gate, is_opened, own_gate, relayed_to};
+use crate::replies::{administered, replied};
+use crate::view::{ADMINISTRATION_PIPE, errors_at, is_asking, is_linked, view_for};
+use gate_answers::{IDENTITY_GATE, LINK_MANAGEMENT_GATE, LOOPBACK_GATE, Response, instruction_of};
+use gate_loopback::posts_back;
+use hci_store::Store;
+use hci_tables::Tables;
+use hcp_packet::{MessageKind, read_header};
+use swp_base::Nv;
+
+/// GATES_LIST: the loopback gate and the identity gate.
+pub(crate) const GATES: [u8; 2] = [LOOPBACK_GATE, IDENTITY_GATE];
+
+/// What a controller does with a message of a host, in order. It asks for a store that was started and may be used, at most seven
+/// desks, a host from 01 to 07 and a pipe that isn't reserved. In the mask `up` bit h stands for host h: its link is up. The store
+/// stays as it is.
+pub fn controller_deeds<N: Nv + Drop>(
+    store: &mut Store<N>,
+    desks: &[Desk],
+    up: u8,
+    host: u8,
+    pipe: u8,
+    message: &[u8],
+) -> Deeds
+    requires ready { IsReady store.old }
+    requires few { length desks.now ≤ 7 }
+    requires sound { AreSoundDesks desks.now }
+    requires some { 1 ≤ host }
+    requires host { host ≤ 7 }
+    requires pipe { pipe < 112 }
+    ensures deeds { (core : Core) (ports : List Port) → IsCoreOf store.old core → AreSeen up desks.now ports
+        → deeds_shown (handled pipe message.now) result.items ≡ controller_deeds core ports host (pipe, message.now) }
+    ensures doable { AreDoable result.items }
+    ensures unchanged { store.new ≡ store.old }
+{
+    match relayed_to(store.tables(), host, pipe, message) {
+        Some(other) => relayed(desks, up, host, other, pipe, message),
+        None => {
+            if is_linked(desks, up, host) {
+                own_deeds(store, desks, up, host, pipe, message)
+            } else {
+                dropped(pipe)
+            }
+        }
+    }
+}
+
+// A message that is for another host. A command that can't go there is answered, where its own link is up.
+fn relayed(desks: &[Desk], up: u8, host: u8, other: u8, pipe: u8, message: &[u8]) -> Deeds
+    requires pipe { pipe < 112 }
+    ensures deeds { deeds_shown (handled pipe message.now) result.items
+        ≡ relay_deeds (ports_shown up desks.now) host (pipe, message.now) other (has_link (ports_shown up desks.now) other) }
+    ensures doable { AreDoable result.items }
+{
+    if is_linked(desks, up, other) {
+        return passed_on(other);
+    }
+    if is_linked(desks, up, host) && is_command(message) {
+        return refused_on(host, pipe, Response::NotConnected);
+    }
+    dropped(pipe)
+}
+
+fn is_command(message: &[u8]) -> bool
+    ensures { result ≡ is_command_message message.now }
+{
+    matches!(read_header(message), Ok((MessageKind::Command, _)))
+}
+
+// A message that isn't relayed, of a host whose link is up. A command of one whose creation waits is dropped on pipe 01.
+fn own_deeds<N: Nv + Drop>(
+    store: &mut Store<N>,
+    desks: &[Desk],
+    up: u8,
+    host: u8,
+    pipe: u8,
+    message: &[u8],
+) -> Deeds
+    requires ready { IsReady store.old }
+    requires few { length desks.now ≤ 7 }
+    requires sound { AreSoundDesks desks.now }
+    requires some { 1 ≤ host }
+    requires host { host ≤ 7 }
+    requires pipe { pipe < 112 }
+    ensures deeds { deeds_shown (handled pipe message.now) result.items
+        ≡ kind_deeds (controller_core store.old.journal.state store.old.tables) (ports_shown up desks.now) host (pipe, message.now) (header_of message.now) }
+    ensures doable { AreDoable result.items }
+    ensures unchanged { store.new ≡ store.old }
+{
+    match read_header(message) {
+        Ok((MessageKind::Command, _instruction)) => {
+            if is_waiting(desks, host, pipe) {
+                dropped(pipe)
+            } else {
+                commanded(store, desks, up, host, pipe, message)
+            }
+        }
+        Ok((MessageKind::Event, _instruction)) => posted(store.tables(), host, pipe, message),
+        Ok((MessageKind::Response, code)) => {
+            if pipe == ADMINISTRATION_PIPE {
+                replied(store, desks, host, code)
+            } else {
+                dropped(pipe)
+            }
+        }
+        Err(_fault) => dropped(pipe),
+    }
+}
+
+// A command on this pipe of the host waits for the answer to an earlier creation.
+fn is_waiting(desks: &[Desk], host: u8, pipe: u8) -> bool
+    ensures { result ≡ (pipe == 1 && list_any (row_waits_for host) desks.now) }
+{
+    pipe == ADMINISTRATION_PIPE && is_asking(desks, host)
+}
+
+// A command of a host: one of its gates serves it, or the administration gate decides.
+fn commanded<N: Nv + Drop>(
+    store: &mut Store<N>,
+    desks: &[Desk],
+    up: u8,
+    host: u8,
+    pipe: u8,
+    message: &[u8],
+) -> Deeds
+    requires ready { IsReady store.old }
+    requires few { length desks.now ≤ 7 }
+    requires some { 1 ≤ host }
+    requires host { host ≤ 7 }
+    requires pipe { pipe < 112 }
+    requires command { IsCommandMessage message.now }
+    ensures deeds { deeds_shown (handled pipe message.now) result.items
+        ≡ command_deeds (controller_core store.old.journal.state store.old.tables) (ports_shown up desks.now) host pipe
+        (instruction_in message.now) (body_in message.now) }
+    ensures doable { AreDoable result.items }
+    ensures unchanged { store.new ≡ store.old }
+{
+    match gate_for(store.tables(), host, pipe, instruction_of(message)) {
+        Some(gate) => served(errors_at(desks, host), host, pipe, gate, message),
+        None => {
+            let view = view_for(store.tables(), desks, up, host);
+            administered(store, &view, host, pipe, message)
+        }
+    }
+}
+
+// The gate of the controller that serves a command, where the administration gate doesn't decide.
+fn gate_for(tables: &Tables, host: u8, pipe: u8, instruction: u8) -> Option<u8>
+    ensures { result ≡ (if goes_through tables.now host pipe instruction then own_gate tables.now host pipe else None) }
+{
+    if goes_through(tables, host, pipe, instruction) {
+        own_gate(tables, host, pipe)
+    } else {
+        None
+    }
+}
+
+// A command to a gate of the controller but administration, on a pipe that is opened.
+fn served(errors: u16, host: u8, pipe: u8, gate: u8, message: &[u8]) -> Deeds
+    requires pipe { pipe < 112 }
+    requires command { IsCommandMessage message.now }
+    ensures deeds { deeds_shown (handled pipe message.now) result.items
+        ≡ gate_deeds gate errors host pipe (instruction_in message.now) (body_in message.now) }
+    ensures doable { AreDoable result.items }
+{
+    match gate {
+        LINK_MANAGEMENT_GATE => link_answered(errors, host, pipe, message),
+        IDENTITY_GATE => answered(host, pipe, gate_identity::serve(&GATES, message)),
+        _ => refused_on(host, pipe, Response::CommandNotSupported),
+    }
+}
+
+// An event to the loopback gate goes back.
+fn posted(tables: &Tables, host: u8, pipe: u8, message: &[u8]) -> Deeds
+    ensures deeds { deeds_shown (handled pipe message.now) result.items ≡ event_deeds tables.now host (pipe, message.now) }
+    ensures doable { AreDoable result.items }
+{
+    if is_opened(tables, host, pipe)
+        && is_gate(LOOPBACK_GATE, own_gate(tables, host, pipe))
+        && posts_back(message)
+    {
+        passed_on(host)
+    } else {
+        dropped(pipe)
+    }
+}

@@ -1,0 +1,195 @@
+//! What a controller does where its administration gate has decided, and where a host has answered a notice.
+ghost use Rattle.std.specs.Prelude.{◌≡◌, ℕ, ◌≤◌, ◌<◌, ◌++◌, true, false, map, length};
+ghost use Rattle.pipe_table.specs.declared.row.PipeRow.{PipeRow};
+ghost use Rattle.hci_tables.specs.Commands.{IsCommand};
+ghost use Rattle.gate_answers.specs.Answers.{IsCommandMessage, instruction_in, body_in};
+ghost use Rattle.gate_admin.specs.View.{has, hosts_where};
+ghost use Rattle.gate_admin.specs.Decide.{decided, IsRecordableDecision};
+ghost use Rattle.node_machine.specs.Parts.Deed.{Tells};
+ghost use Rattle.node_machine.specs.Carrying.{port_at, has_room_for};
+ghost use Rattle.node_machine.specs.Controller.{decision_deeds, agreed, response_at};
+ghost use Rattle.node_deeds.specs.Shown.{Handling, ports_shown, deeds_shown, creation_of_row};
+ghost use Rattle.node_deeds.specs.Cores.{controller_core, handled, IsReady, AreDoable, AreSoundDesks, IsSoundDecision, TellsFew};
+ghost use Rattle.node_deeds.specs.Replies.{about_deeds, IsSoundAbout};
+
+use crate::answering::{answered, committed, dropped, has_room, refused_on};
+use crate::deeds::{Deed, Deeds, ends_of, only};
+use crate::desks::{About, Desk, desk_at};
+use crate::view::{ADMINISTRATION_PIPE, is_in};
+use gate_admin::{Decision, LinkView, decide};
+use gate_answers::{Notice, Response, answer, refused};
+use hci_store::Store;
+use hci_tables::Command;
+use pipe_table::PipeRow;
+use swp_base::Nv;
+
+/// What the administration gate decides of a command is done.
+pub(crate) fn administered<N: Nv + Drop>(
+    store: &mut Store<N>,
+    view: &LinkView,
+    host: u8,
+    pipe: u8,
+    message: &[u8],
+) -> Deeds
+    requires ready { IsReady store.old }
+    requires some { 1 ≤ host }
+    requires host { host ≤ 7 }
+    requires pipe { pipe < 112 }
+    requires command { IsCommandMessage message.now }
+    ensures deeds { (a : Handling) → deeds_shown a result.items
+        ≡ decision_deeds (controller_core store.old.journal.state store.old.tables) host pipe
+        (decided store.old.tables view.now host pipe (instruction_in message.now) (body_in message.now)) }
+    ensures doable { AreDoable result.items }
+    ensures unchanged { store.new ≡ store.old }
+{
+    let decision = decide(store.tables(), view, host, pipe, message);
+    done(store, host, pipe, decision)
+}
+
+fn done<N: Nv + Drop>(store: &mut Store<N>, host: u8, pipe: u8, decision: Decision) -> Deeds
+    requires ready { IsReady store.old }
+    requires pipe { pipe < 112 }
+    requires sound { IsSoundDecision host decision }
+    requires recordable { IsRecordableDecision decision }
+    ensures deeds { (a : Handling) → deeds_shown a result.items
+        ≡ decision_deeds (controller_core store.old.journal.state store.old.tables) host pipe decision }
+    ensures doable { AreDoable result.items }
+    ensures unchanged { store.new ≡ store.old }
+{
+    match decision {
+        Decision::Answer(message) => answered(host, pipe, message),
+        Decision::Commit {
+            command,
+            answer,
+            tell,
+            notice,
+        } => {
+            if has_room(store, &command) {
+                let mut deeds = committed(host, pipe, command, answer);
+                tell_hosts(&mut deeds, tell, &notice);
+                deeds
+            } else {
+                refused_on(host, pipe, Response::NotOk)
+            }
+        }
+        Decision::Ask { command, .. } => only(Deed::Asks(created_by(command))),
+    }
+}
+
+// The pipe that a command creates.
+fn created_by(command: Command) -> PipeRow
+    requires { (row : PipeRow) × (command ≡ Command.Create row) }
+    ensures { command ≡ Command.Create result }
+{
+    match command {
+        Command::Create(row) => row,
+        _ => unreachable!(),
+    }
+}
+
+// The hosts of a mask are told by a notice.
+fn tell_hosts(deeds: &mut Deeds, tell: u8, notice: &Notice)
+    requires three { length deeds.old.items ≡ 3 }
+    requires few { TellsFew tell notice.now.items }
+    requires doable { AreDoable deeds.old.items }
+    ensures told { (a : Handling) → deeds_shown a deeds.new.items
+        ≡ deeds_shown a deeds.old.items ++ map (λ told. Tells told notice.now.items) (hosts_where (has tell)) }
+    ensures doable { AreDoable deeds.new.items }
+{
+    for host in 1..8 {
+        if is_in(tell, host) {
+            deeds.push(Deed::Tells {
+                host,
+                message: copy_of(notice),
+            });
+        }
+    }
+}
+
+fn copy_of(notice: &Notice) -> Notice
+    ensures { result.items ≡ notice.now.items }
+{
+    let mut copy = Notice::new();
+    let _ = copy.try_extend_from_slice(notice.as_slice());
+    copy
+}
+
+/// A host has answered with this code on pipe 01: its notice is answered, and the creation that it was asked for is done or not,
+/// where it waits.
+pub(crate) fn replied<N: Nv + Drop>(
+    store: &mut Store<N>,
+    desks: &[Desk],
+    host: u8,
+    code: u8,
+) -> Deeds
+    requires ready { IsReady store.old }
+    requires sound { AreSoundDesks desks.now }
+    ensures deeds { (a : Handling) (up : ℕ) → deeds_shown a result.items
+        ≡ response_at (controller_core store.old.journal.state store.old.tables) code (port_at (ports_shown up desks.now) host) }
+    ensures doable { AreDoable result.items }
+    ensures unchanged { store.new ≡ store.old }
+{
+    match desk_at(desks, host) {
+        Some(desk) => match desk.notice {
+            Some(notice) => settled(store, notice.about, code),
+            None => dropped(ADMINISTRATION_PIPE),
+        },
+        None => dropped(ADMINISTRATION_PIPE),
+    }
+}
+
+// The notice is answered by this code.
+fn settled<N: Nv + Drop>(store: &mut Store<N>, about: About, code: u8) -> Deeds
+    requires ready { IsReady store.old }
+    requires sound { IsSoundAbout about }
+    ensures deeds { (a : Handling) → deeds_shown a result.items
+        ≡ about_deeds (controller_core store.old.journal.state store.old.tables) code about }
+    ensures doable { AreDoable result.items }
+    ensures unchanged { store.new ≡ store.old }
+{
+    match about {
+        About::Waits(row) => {
+            if code == 0 && has_room(store, &Command::Create(row)) {
+                agreed(row)
+            } else {
+                disagreed(&row)
+            }
+        }
+        About::Forgotten => only(Deed::IsAnswered),
+        About::Removed => only(Deed::IsAnswered),
+    }
+}
+
+// A creation is committed, and its asker gets its answer.
+fn agreed(row: PipeRow) -> Deeds
+    requires { IsCommand (Command.Create row) }
+    ensures deeds { (a : Handling) → deeds_shown a result.items ≡ agreed true (creation_of_row row) }
+    ensures doable { AreDoable result.items }
+{
+    let message = answer(Response::Ok, &ends_of(&row));
+    let mut deeds = only(Deed::IsAnswered);
+    deeds.push(Deed::Commits(Command::Create(row)));
+    deeds.push(Deed::Releases { asker: row.creator });
+    deeds.push(Deed::Sends {
+        host: row.creator,
+        pipe: ADMINISTRATION_PIPE,
+        message,
+    });
+    deeds.push(Deed::SaysOk);
+    deeds
+}
+
+// A creation isn't made, and its asker is told so.
+fn disagreed(row: &PipeRow) -> Deeds
+    ensures deeds { (a : Handling) → deeds_shown a result.items ≡ agreed false (creation_of_row row.now) }
+    ensures doable { AreDoable result.items }
+{
+    let mut deeds = only(Deed::IsAnswered);
+    deeds.push(Deed::Releases { asker: row.creator });
+    deeds.push(Deed::Sends {
+        host: row.creator,
+        pipe: ADMINISTRATION_PIPE,
+        message: refused(Response::NotOk),
+    });
+    deeds
+}

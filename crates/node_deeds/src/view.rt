@@ -1,0 +1,158 @@
+//! What a controller knows of its links as it handles a message.
+ghost use Rattle.std.specs.Prelude.{◌≡◌, ◌≤◌, ◌<◌, ◌^◌, if◌then◌else◌, length};
+ghost use Rattle.std.specs.List.{filter_map, list_any};
+ghost use Rattle.gate_admin.specs.View.{has};
+ghost use Rattle.node_machine.specs.Controller.{has_link, view_for};
+ghost use Rattle.node_deeds.specs.Shown.{ports_shown, row_waits_for, awaited_pipe};
+ghost use Rattle.node_deeds.specs.Desks.{configured_by, connected_by, noticed_by, asked_in, asked_by, errors_by};
+
+use crate::desks::{About, Desk, Unanswered, desk_at};
+use crate::pipes::is_opened;
+use arrayvec::ArrayVec;
+use gate_admin::LinkView;
+use hci_tables::Tables;
+
+/// The pipe on which a host and the controller's administration gate talk.
+pub(crate) const ADMINISTRATION_PIPE: u8 = 0x01;
+
+/// Whether a host is in a mask.
+pub(crate) fn is_in(mask: u8, host: u8) -> bool
+    ensures { result ≡ has mask host }
+{
+    1 <= host && host <= 7 && (mask >> host) % 2 == 1
+}
+
+/// Whether the link with a host is up.
+pub(crate) fn is_linked(desks: &[Desk], up: u8, host: u8) -> bool
+    ensures { result ≡ has_link (ports_shown up desks.now) host }
+{
+    match desk_at(desks, host) {
+        Some(desk) => is_in(up, desk.host),
+        None => false,
+    }
+}
+
+/// REC_ERROR of the end of the link with a host.
+pub(crate) fn errors_at(desks: &[Desk], host: u8) -> u16
+    ensures { result ≡ errors_by desks.now host }
+{
+    match desk_at(desks, host) {
+        Some(desk) => desk.errors,
+        None => 0,
+    }
+}
+
+/// Whether a creation that this host asked for waits.
+pub(crate) fn is_asking(desks: &[Desk], host: u8) -> bool
+    ensures { result ≡ list_any (row_waits_for host) desks.now }
+{
+    desks.iter().any(|desk| waits_for(desk, host))
+}
+
+fn waits_for(desk: &Desk, host: u8) -> bool
+    ensures { result ≡ row_waits_for host desk.now }
+{
+    match desk.awaited() {
+        Some(row) => row.creator == host,
+        None => false,
+    }
+}
+
+fn is_configured(desks: &[Desk], host: u8) -> bool
+    ensures { result ≡ configured_by desks.now host }
+{
+    match desk_at(desks, host) {
+        Some(_desk) => true,
+        None => false,
+    }
+}
+
+fn is_connected(tables: &Tables, desks: &[Desk], up: u8, host: u8) -> bool
+    ensures { result ≡ connected_by tables.now up desks.now host }
+{
+    match desk_at(desks, host) {
+        Some(desk) => is_in(up, desk.host) && is_opened(tables, desk.host, ADMINISTRATION_PIPE),
+        None => false,
+    }
+}
+
+fn is_noticed(desks: &[Desk], host: u8) -> bool
+    ensures { result ≡ noticed_by desks.now host }
+{
+    match desk_at(desks, host) {
+        Some(desk) => desk.notice.is_some(),
+        None => false,
+    }
+}
+
+fn is_asked(desks: &[Desk], host: u8) -> bool
+    ensures { result ≡ asked_by desks.now host }
+{
+    match desk_at(desks, host) {
+        Some(desk) => is_asked_for(desk.notice),
+        None => false,
+    }
+}
+
+// A notice of a creation, also of one that was forgotten.
+fn is_asked_for(notice: Option<Unanswered>) -> bool
+    ensures { result ≡ asked_in notice }
+{
+    match notice {
+        Some(notice) => match notice.about {
+            About::Waits(_) => true,
+            About::Forgotten => true,
+            About::Removed => false,
+        },
+        None => false,
+    }
+}
+
+// The pipes of the creations that wait.
+fn waiting_pipes(desks: &[Desk]) -> ArrayVec<u8, 7>
+    requires { length desks.now ≤ 7 }
+    ensures { result.items ≡ filter_map awaited_pipe desks.now }
+{
+    let mut pipes = ArrayVec::new();
+    for desk in desks {
+        if let Some(row) = desk.awaited() {
+            pipes.push(row.pid);
+        }
+    }
+    pipes
+}
+
+// The place of a host in a mask, where it passes a test.
+fn place_if(passes: bool, host: u8) -> u8
+    requires { host < 8 }
+    ensures place { result ≡ (if passes then 2 ^ host else 0) }
+    ensures small { result ≤ 2 ^ host }
+{
+    if passes { 1 << host } else { 0 }
+}
+
+/// What a controller with these tables and desks knows of its links as a command of a host comes. `up` has the hosts whose links are
+/// up.
+pub(crate) fn view_for(tables: &Tables, desks: &[Desk], up: u8, host: u8) -> LinkView
+    requires { length desks.now ≤ 7 }
+    ensures { result ≡ view_for tables.now (ports_shown up desks.now) host }
+{
+    let mut hosts = 0;
+    let mut connected = 0;
+    let mut noticed = 0;
+    let mut asked = 0;
+    for other in 1..8 {
+        hosts += place_if(is_configured(desks, other), other);
+        connected += place_if(is_connected(tables, desks, up, other), other);
+        noticed += place_if(is_noticed(desks, other), other);
+        asked += place_if(is_asked(desks, other), other);
+    }
+    LinkView {
+        hosts,
+        connected,
+        noticed,
+        asked,
+        waiting: waiting_pipes(desks),
+        errors: errors_at(desks, host),
+    }
+}

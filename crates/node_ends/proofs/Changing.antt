@@ -1,0 +1,397 @@
+-- One of the ends of a node is changed: the ports that they stand for change as the definition says.
+use Rattle.std.proofs.Common.{◌≡◌, ◌≢◌, ℕ, zero, suc, ◌+◌, ◌*◌, ◌<◌, Bool, true, false, List, [], ◌∷◌, length, refl, sym, ap, ◌∙◌, subst, arith, length-set}
+use Rattle.std.specs.Prelude.{◌==◌, Option, Some, None, slice_get, slice_set, slice_index_or, IfSome}
+use Rattle.std.specs.List.{AllByRecursion}
+use Rattle.std.proofs.lemmas.Option.{slice_get_within, get_or_from_slice_get}
+use Rattle.std.proofs.lemmas.Bool.{eqb-true, eq-eqb}
+use Rattle.block_pool.specs.Pool.{PoolState}
+use Rattle.link_end.specs.declared.«end».End.{End}
+use Rattle.link_end.specs.Ends.{HaveOwners}
+use Rattle.node_machine.specs.Parts.{Port, Desk as DeskOf}
+use Rattle.node_machine.specs.Carrying.{port_at, changed_if, with_port, after_turn}
+use Rattle.link_machine.specs.Machine.{LinkEnd as Machine, Turn, turn}
+use Rattle.node_ends.specs.declared.seat.Seat.{Seat}
+use Rattle.node_ends.specs.declared.desk.Desk.{Desk}
+use Rattle.node_ends.specs.Desks.{desk_of}
+use Rattle.link_end.specs.declared.link.LinkEnd.{LinkEnd as Link}
+use Rattle.node_ends.specs.declared.seat.Waiting.{Waiting}
+use Rattle.node_ends.specs.Holding.{HoldsSeat, HoldsEnd, Moves, WaitsHeld}
+use Rattle.node_ends.proofs.Moving.{stays_beside}
+use Rattle.node_ends.specs.Ends.{SeatStandsFor, SeatsStandFor, HaveOwnersFrom, HaveOwnHosts, AreEnds, AreHeld, place_in}
+
+-- ## Hosts
+
+pub host_is : {pool : PoolState} {s : Seat} {p : Port} → SeatStandsFor pool s p → s.desk.host ≡ p.desk.host
+host_is h = ap (λ (d : DeskOf). d.host) h.desk
+
+differs : (a b : ℕ) → a ≢ b → (a == b) ≡ false
+differs a b n = by (a == b) refl
+  where
+    by : (t : Bool) → (a == b) ≡ t → (a == b) ≡ false
+    by true e = absurd (n (eqb-true a b e))
+    by false e = e
+
+same : (a b : ℕ) → a ≡ b → (a == b) ≡ true
+same a b e = eq-eqb a b e
+
+-- a port of another host stays
+passed_by : {pool : PoolState} {s : Seat} {p : Port} (h : ℕ) (f : Port → Port) → SeatStandsFor pool s p → s.desk.host ≢ h
+    → changed_if (p.desk.host == h) f p ≡ p
+passed_by {p = p} h f g other = let no = differs p.desk.host h (λ e. other (host_is g ∙ e)) in rw no refl
+
+-- the port of this host is changed
+picked : {pool : PoolState} {s : Seat} {p : Port} (h : ℕ) (f : Port → Port) → SeatStandsFor pool s p → s.desk.host ≡ h
+    → changed_if (p.desk.host == h) f p ≡ f p
+picked {p = p} h f g is = let yes = same p.desk.host h (sym (host_is g) ∙ is) in rw yes refl
+
+-- ## Owners
+
+-- two ends at different places use four owners
+apart_places : (one other : End) (j k : ℕ) → (one.outbox.owner ≡ 2 * j) → (one.inbox.joiner.owner ≡ 2 * j + 1)
+    → (other.outbox.owner ≡ 2 * k) → (other.inbox.joiner.owner ≡ 2 * k + 1) → j ≢ k → HaveOwners one other
+apart_places one other j k a b c d differ = record {
+  senders = λ e. differ (omega (arith, a, c, e));
+  receivers = λ e. differ (omega (arith, b, d, e));
+  to = λ e. omega (arith, a, d, e);
+  from = λ e. omega (arith, b, c, e);
+}
+
+owners_at : (k i : ℕ) (seats : List Seat) (s : Seat) → slice_get seats i ≡ Some s → HaveOwnersFrom k seats
+    → (s.side.link.outbox.owner ≡ 2 * (k + i)) × (s.side.link.inbox.joiner.owner ≡ 2 * (k + i) + 1)
+owners_at k i [] s is o = cc
+owners_at k zero (t ∷ seats) s is o =
+    let e : t ≡ s = cc in
+    let a : s.side.link.outbox.owner ≡ 2 * k = ap (λ (x : Seat). x.side.link.outbox.owner) (sym e) ∙ o.0 in
+    let b : s.side.link.inbox.joiner.owner ≡ 2 * k + 1 = ap (λ (x : Seat). x.side.link.inbox.joiner.owner) (sym e) ∙ o.1 in
+    (omega (arith, a), omega (arith, b))
+owners_at k (suc i) (t ∷ seats) s is o =
+    let r = owners_at (k + 1) i seats s is o.2 in
+    (omega (arith, r.0), omega (arith, r.1))
+
+all_at : {X : Type 0} (P : X → Type 0) (xs : List X) (i : ℕ) (x : X) → slice_get xs i ≡ Some x → AllByRecursion P xs → P x
+all_at P [] i x is all = cc
+all_at P (y ∷ xs) zero x is all = let e : y ≡ x = cc in subst P e all.0
+all_at P (y ∷ xs) (suc i) x is all = all_at P xs i x is all.1
+
+-- ## One end is changed
+
+-- The end of the link with this host is changed with its pool, and stands for the changed port.
+pub record OneChanges (old new : PoolState) (h : ℕ) (f : Port → Port) (s t : Seat) : Type 0 where
+  pub before : s.desk.host ≡ h
+  pub after : t.desk.host ≡ h
+  pub moves : Moves old new s.side.link t.side.link
+  pub stands : (p : Port) → SeatStandsFor old s p → SeatStandsFor new t (f p)
+
+module _ {old new : PoolState} {h : ℕ} {f : Port → Port} {s t : Seat} (c : OneChanges old new h f s t) where
+  -- an end at another place of another host stays
+  stays : (j k : ℕ) (u : Seat) (p : Port) → j ≢ k → (s.side.link.outbox.owner ≡ 2 * j) × (s.side.link.inbox.joiner.owner ≡ 2 * j + 1)
+      → (u.side.link.outbox.owner ≡ 2 * k) → (u.side.link.inbox.joiner.owner ≡ 2 * k + 1) → u.desk.host ≢ h → SeatStandsFor old u p
+      → SeatStandsFor new u (changed_if (p.desk.host == h) f p)
+  stays j k u p differ own a b other g =
+      let P : Port → Type 0 = λ q. SeatStandsFor new u q in
+      subst P (sym (passed_by h f g other)) (record {
+        holds = c.moves.beside u.side.link u.waiting p.side (apart_places s.side.link u.side.link j k own.0 own.1 a b differ) g.holds;
+        desk = g.desk;
+        late = g.late;
+        ended = g.ended;
+      })
+
+  -- all ends behind that place stay
+  rest_stays : (j k : ℕ) (seats : List Seat) (ports : List Port) → j < k
+      → (s.side.link.outbox.owner ≡ 2 * j) × (s.side.link.inbox.joiner.owner ≡ 2 * j + 1)
+      → HaveOwnersFrom k seats → AllByRecursion (λ (u : Seat). u.desk.host ≢ h) seats → SeatsStandFor old seats ports
+      → SeatsStandFor new seats (with_port h f ports)
+  rest_stays j k [] [] behind own owners hosts g = tt
+  rest_stays j k [] (p ∷ ports) behind own owners hosts g = g
+  rest_stays j k (u ∷ seats) [] behind own owners hosts g = g
+  rest_stays j k (u ∷ seats) (p ∷ ports) behind own owners hosts g = (
+    stays j k u p (λ e. omega (arith, behind, e)) own owners.0 owners.1 hosts.0 g.0,
+    rest_stays j (k + 1) seats ports (omega (arith, behind)) own owners.2 hosts.1 g.1,
+  )
+
+  -- all ends, from the place k on
+  change_at : (k i : ℕ) (seats : List Seat) (ports : List Port) → slice_get seats i ≡ Some s → HaveOwnersFrom k seats → HaveOwnHosts seats
+      → SeatsStandFor old seats ports → SeatsStandFor new (slice_set seats i t) (with_port h f ports)
+  change_at k i [] ports is owners hosts g = cc
+  change_at k i (u ∷ seats) [] is owners hosts g = absurd g
+  change_at k zero (u ∷ seats) (p ∷ ports) is owners hosts g =
+      let e : u ≡ s = cc in
+      let P : Seat → Type 0 = λ x. SeatStandsFor old x p in
+      let Q : Port → Type 0 = λ q. SeatStandsFor new t q in
+      let one : SeatStandsFor old s p = subst P e g.0 in
+      let own = owners_at k zero (u ∷ seats) s is owners in
+      let others = subst (λ (x : Seat). AllByRecursion (λ (y : Seat). y.desk.host ≢ x.desk.host) seats) e hosts.0 in
+      let rest = subst (λ n. AllByRecursion (λ (y : Seat). y.desk.host ≢ n) seats) c.before others in (
+        subst Q (sym (picked h f one c.before)) (c.stands p one),
+        rest_stays (k + zero) (k + 1) seats ports (omega arith) own owners.2 rest g.1,
+      )
+  change_at k (suc i) (u ∷ seats) (p ∷ ports) is owners hosts g =
+      let own = owners_at (k + 1) i seats s is owners.2 in
+      let other = all_at (λ (y : Seat). y.desk.host ≢ u.desk.host) seats i s is hosts.0 in (
+        stays (k + 1 + i) k u p (λ e. omega (arith, e)) own owners.0 owners.1 (λ e. other (c.before ∙ sym e)) g.0,
+        change_at (k + 1) i seats ports is owners.2 hosts.1 g.1,
+      )
+
+  owners_stay : (k i : ℕ) (seats : List Seat) → slice_get seats i ≡ Some s → HaveOwnersFrom k seats → HaveOwnersFrom k (slice_set seats i t)
+  owners_stay k i [] is o = cc
+  owners_stay k zero (u ∷ seats) is o =
+      let e : u ≡ s = cc in (
+        c.moves.sender ∙ (ap (λ (x : Seat). x.side.link.outbox.owner) (sym e) ∙ o.0),
+        c.moves.receiver ∙ (ap (λ (x : Seat). x.side.link.inbox.joiner.owner) (sym e) ∙ o.1),
+        o.2,
+      )
+  owners_stay k (suc i) (u ∷ seats) is o = (o.0, o.1, owners_stay (k + 1) i seats is o.2)
+
+  all_stay : (n i : ℕ) (seats : List Seat) → slice_get seats i ≡ Some s → AllByRecursion (λ (u : Seat). u.desk.host ≢ n) seats
+      → AllByRecursion (λ (u : Seat). u.desk.host ≢ n) (slice_set seats i t)
+  all_stay n i [] is all = cc
+  all_stay n zero (u ∷ seats) is all =
+      let e : u ≡ s = cc in
+      (λ q. all.0 (ap (λ (x : Seat). x.desk.host) e ∙ (c.before ∙ (sym c.after ∙ q))), all.1)
+  all_stay n (suc i) (u ∷ seats) is all = (all.0, all_stay n i seats is all.1)
+
+  hosts_stay : (i : ℕ) (seats : List Seat) → slice_get seats i ≡ Some s → HaveOwnHosts seats → HaveOwnHosts (slice_set seats i t)
+  hosts_stay i [] is hosts = cc
+  hosts_stay zero (u ∷ seats) is hosts =
+      let e : u ≡ s = cc in
+      let same_host : u.desk.host ≡ t.desk.host = ap (λ (x : Seat). x.desk.host) e ∙ (c.before ∙ sym c.after) in
+      (subst (λ n. AllByRecursion (λ (y : Seat). y.desk.host ≢ n) seats) same_host hosts.0, hosts.1)
+  hosts_stay (suc i) (u ∷ seats) is hosts = (all_stay u.desk.host i seats is hosts.0, hosts_stay i seats is hosts.1)
+
+  pub one_changes : (i : ℕ) (seats : List Seat) (ports : List Port) → slice_get seats i ≡ Some s → AreEnds old seats ports
+      → AreEnds new (slice_set seats i t) (with_port h f ports)
+  one_changes i seats ports is e = record {
+    each = change_at 0 i seats ports is e.owners e.hosts e.each;
+    owners = owners_stay 0 i seats is e.owners;
+    hosts = hosts_stay i seats is e.hosts;
+    few = (let l = length-set {A = Seat} seats i t in omega (arith, l, e.few));
+  }
+
+-- ## Places
+
+-- where no end is that of this host, no port is
+pub none_at : (pool : PoolState) (h : ℕ) (f : Port → Port) (seats : List Seat) (ports : List Port) → place_in h seats ≡ None → SeatsStandFor pool seats ports
+    → (with_port h f ports ≡ ports) × (port_at ports h ≡ None)
+none_at pool h f [] [] none g = (refl, refl)
+none_at pool h f [] (p ∷ ports) none g = absurd g
+none_at pool h f (s ∷ seats) [] none g = absurd g
+none_at pool h f (s ∷ seats) (p ∷ ports) none g = by (λ r. none_at pool h f seats ports r g.1) (s.desk.host == h) (place_in h seats) refl refl
+  where
+    by : (place_in h seats ≡ None → (with_port h f ports ≡ ports) × (port_at ports h ≡ None)) → (b : Bool) (o : Option ℕ) → (s.desk.host == h) ≡ b
+        → place_in h seats ≡ o → (with_port h f (p ∷ ports) ≡ p ∷ ports) × (port_at (p ∷ ports) h ≡ None)
+    by later true o q r = absurd (let z : Some 0 ≡ None = rw q at none in cc)
+    by later false (Some i) q r = absurd (let z : Some (suc i) ≡ None = rw (q, r) at none in cc)
+    by later false None q r =
+        let none_later = later r in
+        let other : (p.desk.host == h) ≡ false = ap (λ n. n == h) (sym (host_is g.0)) ∙ q in
+        (rw other (ap (λ l. p ∷ l) none_later.0), rw other none_later.1)
+
+-- the end at the place of this host, and the port that it stands for
+pub record IsPlaced (pool : PoolState) (seats : List Seat) (ports : List Port) (i h : ℕ) : Type 0 where
+  pub seat : Seat
+  pub port : Port
+  pub seat_is : slice_get seats i ≡ Some seat
+  pub host : seat.desk.host ≡ h
+  pub port_is : port_at ports h ≡ Some port
+  pub stands : SeatStandsFor pool seat port
+
+pub placed : (pool : PoolState) (h i : ℕ) (seats : List Seat) (ports : List Port) → place_in h seats ≡ Some i → SeatsStandFor pool seats ports
+    → IsPlaced pool seats ports i h
+placed pool h i [] ports is g = cc
+placed pool h i (s ∷ seats) [] is g = absurd g
+placed pool h i (s ∷ seats) (p ∷ ports) is g = by (λ j r. placed pool h j seats ports r g.1) (s.desk.host == h) (place_in h seats) refl refl
+  where
+    by : ((j : ℕ) → place_in h seats ≡ Some j → IsPlaced pool seats ports j h) → (b : Bool) (o : Option ℕ) → (s.desk.host == h) ≡ b
+        → place_in h seats ≡ o → IsPlaced pool (s ∷ seats) (p ∷ ports) i h
+    by later true o q r =
+        let first : Some 0 ≡ Some i = rw q at is in
+        let zero_is : 0 ≡ i = cc in
+        let here : (p.desk.host == h) ≡ true = ap (λ n. n == h) (sym (host_is g.0)) ∙ q in
+        let P : ℕ → Type 0 = λ n. IsPlaced pool (s ∷ seats) (p ∷ ports) n h in
+        subst P zero_is (record {
+          seat = s;
+          port = p;
+          seat_is = refl;
+          host = eqb-true s.desk.host h q;
+          port_is = rw here refl;
+          stands = g.0;
+        })
+    by later false None q r = absurd (let z : None ≡ Some i = rw (q, r) at is in cc)
+    by later false (Some j) q r =
+        let next : Some (suc j) ≡ Some i = rw (q, r) at is in
+        let suc_is : suc j ≡ i = cc in
+        let l = later j r in
+        let other : (p.desk.host == h) ≡ false = ap (λ n. n == h) (sym (host_is g.0)) ∙ q in
+        let P : ℕ → Type 0 = λ n. IsPlaced pool (s ∷ seats) (p ∷ ports) n h in
+        subst P suc_is (record {
+          seat = l.seat;
+          port = l.port;
+          seat_is = l.seat_is;
+          host = l.host;
+          port_is = rw other l.port_is;
+          stands = l.stands;
+        })
+
+-- ## The end of this host is changed
+
+pub placed_in : {pool : PoolState} {seats : List Seat} {ports : List Port} (h i : ℕ) → place_in h seats ≡ Some i → AreEnds pool seats ports
+    → IsPlaced pool seats ports i h
+placed_in {pool} {seats} {ports} h i is e = placed pool h i seats ports is e.each
+
+pub within : {pool : PoolState} {seats : List Seat} {ports : List Port} (h i : ℕ) → place_in h seats ≡ Some i → AreEnds pool seats ports
+    → (i < length seats) × (i < 7)
+within {pool} {seats} h i is e =
+    let p = placed_in h i is e in
+    let n = slice_get_within seats i p.seat p.seat_is in
+    (n, omega (arith, n, e.few))
+
+-- what is read at the place is the end there
+pub read_at : (seats : List Seat) (i : ℕ) (s d : Seat) → slice_get seats i ≡ Some s → slice_index_or seats i d ≡ s
+read_at seats i s d is = get_or_from_slice_get seats i s d is
+
+-- a call on the end at a place does to it what the node does to the port
+pub record Turns (old new : PoolState) (seats : List Seat) (h i : ℕ) (x : Turn) (d t : Seat) : Type 0 where
+  pub place : place_in h seats ≡ Some i
+  pub moves : Moves old new (slice_index_or seats i d).side.link t.side.link
+  pub rest : t ≡ record (slice_index_or seats i d) { side = t.side }
+  pub stands : (m : Machine) → HoldsSeat old (slice_index_or seats i d) m → HoldsSeat new t (turn m x)
+
+-- the same, where more than the end itself may have changed
+pub record TurnsSo (old new : PoolState) (seats : List Seat) (h i : ℕ) (x : Turn) (d t : Seat) : Type 0 where
+  pub place : place_in h seats ≡ Some i
+  pub moves : Moves old new (slice_index_or seats i d).side.link t.side.link
+  pub desk : t.desk ≡ (slice_index_or seats i d).desk
+  pub late : t.late ≡ (slice_index_or seats i d).late
+  pub ended : t.ended ≡ (slice_index_or seats i d).ended
+  pub stands : (m : Machine) → HoldsSeat old (slice_index_or seats i d) m → HoldsSeat new t (turn m x)
+
+pub turns_so : {old new : PoolState} {seats : List Seat} {h i : ℕ} {x : Turn} {d t : Seat} (ports : List Port) → TurnsSo old new seats h i x d t
+    → AreEnds old seats ports → AreEnds new (slice_set seats i t) (with_port h (after_turn x) ports)
+turns_so {old} {new} {seats} {h} {i} {x} {d} {t} ports c e =
+    let p = placed_in h i c.place e in
+    let r : Seat = slice_index_or seats i d in
+    let same_seat : r ≡ p.seat = read_at seats i p.seat d p.seat_is in
+    let host : r.desk.host ≡ h = ap (λ (s : Seat). s.desk.host) same_seat ∙ p.host in
+    let one : OneChanges old new h (after_turn x) r t = record {
+      before = host;
+      after = ap (λ (s : Desk). s.host) c.desk ∙ host;
+      moves = c.moves;
+      stands = λ q g. record {
+        holds = c.stands q.side g.holds;
+        desk = ap desk_of c.desk ∙ g.desk;
+        late = c.late ∙ g.late;
+        ended = c.ended ∙ g.ended;
+      };
+    } in
+    one_changes one i seats ports (p.seat_is ∙ ap (λ (s : Seat). Some s) (sym same_seat)) e
+
+pub turns : {old new : PoolState} {seats : List Seat} {h i : ℕ} {x : Turn} {d t : Seat} (ports : List Port) → Turns old new seats h i x d t
+    → AreEnds old seats ports → AreEnds new (slice_set seats i t) (with_port h (after_turn x) ports)
+turns {x = x} {d = d} {t = t} ports c e =
+    turns_so {x = x} {d = d} {t = t} ports (record {
+      place = c.place;
+      moves = c.moves;
+      desk = ap (λ (s : Seat). s.desk) c.rest;
+      late = ap (λ (s : Seat). s.late) c.rest;
+      ended = ap (λ (s : Seat). s.ended) c.rest;
+      stands = c.stands;
+    }) e
+
+-- the end that is read at a place stands for the port there
+pub record IsRead (pool : PoolState) (ports : List Port) (h : ℕ) (r : Seat) : Type 0 where
+  pub port : Port
+  pub port_is : port_at ports h ≡ Some port
+  pub stands : SeatStandsFor pool r port
+
+pub reads : {pool : PoolState} {seats : List Seat} {ports : List Port} (h i : ℕ) (d : Seat) → place_in h seats ≡ Some i
+    → AreEnds pool seats ports → IsRead pool ports h (slice_index_or seats i d)
+reads {pool} {seats} h i d place e =
+    let p = placed_in h i place e in
+    let P : Seat → Type 0 = λ s. SeatStandsFor pool s p.port in
+    record { port = p.port; port_is = p.port_is; stands = subst P (sym (read_at seats i p.seat d p.seat_is)) p.stands }
+
+pub nowhere : {pool : PoolState} {seats : List Seat} {ports : List Port} (h : ℕ) (f : Port → Port) (o : Option ℕ) → o ≡ place_in h seats
+    → ((i : ℕ) → o ≡ Some i → ⊥) → AreEnds pool seats ports → AreEnds pool seats (with_port h f ports) × (port_at ports h ≡ None)
+nowhere {pool} {seats} {ports} h f None is none e =
+    let n = none_at pool h f seats ports (sym is) e.each in
+    let P : List Port → Type 0 = λ l. AreEnds pool seats l in
+    (subst P (sym n.0) e, n.1)
+nowhere h f (Some i) is none e = absurd (none i refl)
+
+-- the owner of the end at a place
+pub owner_is : {pool : PoolState} {seats : List Seat} {ports : List Port} (h i : ℕ) (d : Seat) → place_in h seats ≡ Some i → AreEnds pool seats ports
+    → (slice_index_or seats i d).side.link.outbox.owner ≡ 2 * i
+owner_is {pool} {seats} h i d place e =
+    let p = placed_in h i place e in
+    let o = owners_at 0 i seats p.seat p.seat_is e.owners in
+    ap (λ (s : Seat). s.side.link.outbox.owner) (read_at seats i p.seat d p.seat_is) ∙ (let q = o.0 in omega (arith, q))
+
+-- what is kept of an end beside it is changed
+pub record SetsDesk (pool : PoolState) (seats : List Seat) (h i : ℕ) (f : DeskOf → DeskOf) (d t : Seat) : Type 0 where
+  pub place : place_in h seats ≡ Some i
+  pub side : t.side ≡ (slice_index_or seats i d).side
+  pub waiting : t.waiting ≡ (slice_index_or seats i d).waiting
+  pub late : t.late ≡ (slice_index_or seats i d).late
+  pub ended : t.ended ≡ (slice_index_or seats i d).ended
+  pub host : t.desk.host ≡ (slice_index_or seats i d).desk.host
+  pub desk : desk_of t.desk ≡ f (desk_of (slice_index_or seats i d).desk)
+
+pub sets_desk : {pool : PoolState} {seats : List Seat} {h i : ℕ} {f : DeskOf → DeskOf} {d t : Seat} (ports : List Port) → SetsDesk pool seats h i f d t
+    → AreEnds pool seats ports → AreEnds pool (slice_set seats i t) (with_port h (λ p. record p { desk = f p.desk }) ports)
+sets_desk {pool} {seats} {h} {i} {f} {d} {t} ports c e =
+    let p = placed_in h i c.place e in
+    let r : Seat = slice_index_or seats i d in
+    let same_seat : r ≡ p.seat = read_at seats i p.seat d p.seat_is in
+    let host : r.desk.host ≡ h = ap (λ (s : Seat). s.desk.host) same_seat ∙ p.host in
+    let link : t.side.link ≡ r.side.link = ap (λ (l : Link). l.link) c.side in
+    let one : OneChanges pool pool h (λ q. record q { desk = f q.desk }) r t = record {
+      before = host;
+      after = c.host ∙ host;
+      moves = stays_beside pool r.side.link t.side.link (ap (λ (k : End). k.outbox) link) (ap (λ (k : End). k.inbox) link);
+      stands = λ q g. record {
+        holds = (let P : End → Type 0 = λ k. HoldsEnd pool k t.waiting q.side in
+            let Q : Option Waiting → Type 0 = λ w. HoldsEnd pool r.side.link w q.side in
+            subst P (sym link) (subst Q (sym c.waiting) g.holds));
+        desk = c.desk ∙ ap f g.desk;
+        late = c.late ∙ g.late;
+        ended = c.ended ∙ g.ended;
+      };
+    } in
+    one_changes one i seats ports (p.seat_is ∙ ap (λ (s : Seat). Some s) (sym same_seat)) e
+
+-- the owner of the end there
+pub owner_at_place : {pool : PoolState} {seats : List Seat} {ports : List Port} (h i : ℕ) (place : place_in h seats ≡ Some i) (e : AreEnds pool seats ports)
+    → (placed_in h i place e).seat.side.link.outbox.owner ≡ 2 * i
+owner_at_place {pool} {seats} h i place e =
+    let p = placed_in h i place e in
+    let o = owners_at 0 i seats p.seat p.seat_is e.owners in
+    let q = o.0 in
+    omega (arith, q)
+
+-- anything comes to the end at a place
+pub record Comes (old new : PoolState) (seats : List Seat) (h i : ℕ) (f : Port → Port) (d t : Seat) : Type 0 where
+  pub place : place_in h seats ≡ Some i
+  pub moves : Moves old new (slice_index_or seats i d).side.link t.side.link
+  pub host : t.desk.host ≡ (slice_index_or seats i d).desk.host
+  pub stands : (q : Port) → SeatStandsFor old (slice_index_or seats i d) q → SeatStandsFor new t (f q)
+
+pub comes : {old new : PoolState} {seats : List Seat} {h i : ℕ} {f : Port → Port} {d t : Seat} (ports : List Port) → Comes old new seats h i f d t
+    → AreEnds old seats ports → AreEnds new (slice_set seats i t) (with_port h f ports)
+comes {old} {new} {seats} {h} {i} {f} {d} {t} ports c e =
+    let p = placed_in h i c.place e in
+    let r : Seat = slice_index_or seats i d in
+    let same_seat : r ≡ p.seat = read_at seats i p.seat d p.seat_is in
+    let host : r.desk.host ≡ h = ap (λ (s : Seat). s.desk.host) same_seat ∙ p.host in
+    let one : OneChanges old new h f r t = record { before = host; after = c.host ∙ host; moves = c.moves; stands = c.stands } in
+    one_changes one i seats ports (p.seat_is ∙ ap (λ (s : Seat). Some s) (sym same_seat)) e
+
+-- the end at a place is held while a message waits there
+pub held_at : {pool : PoolState} {seats : List Seat} {ports : List Port} (h i : ℕ) (d : Seat) → place_in h seats ≡ Some i → AreEnds pool seats ports
+    → AreHeld seats → WaitsHeld (slice_index_or seats i d).waiting (slice_index_or seats i d).side.link
+held_at {pool} {seats} h i d place e held =
+    let p = placed_in h i place e in
+    let P : Seat → Type 0 = λ s. WaitsHeld s.waiting s.side.link in
+    subst P (sym (read_at seats i p.seat d p.seat_is)) (all_at P seats i p.seat p.seat_is held)
+
+pub if_some : (P : Port → Type 0) (o : Option Port) (p : Port) → o ≡ Some p → P p → IfSome o P
+if_some P o p is h = let Q : Option Port → Type 0 = λ x. IfSome x P in subst Q (sym is) h

@@ -1,0 +1,145 @@
+-- A frame comes to an end, and the message that it brings is fetched.
+use Rattle.std.proofs.Common.{◌≡◌, ℕ, ◌≤◌, true, false, List, [], ◌∷◌, ◌++◌, length, drop, refl, sym, ap, ◌∙◌, subst, append-nil}
+use Rattle.std.specs.Prelude.{Option, Some, None, option_map, option_to_list}
+use Rattle.std.specs.List.{AllByRecursion}
+use Rattle.block_pool.specs.declared.chain.Chain.{Chain}
+use Rattle.block_pool.specs.Pool.{PoolState, chain_bytes}
+use Rattle.hcp_chain.specs.declared.joiner.Open.{Open}
+use Rattle.hcp_chain.specs.Holding.{IsOwnOpen, messages_in as messages_of}
+use Rattle.hcp_chain.proofs.HoldingLemmas.{all_front}
+use Rattle.link_machine.specs.Machine.{LinkEnd as Machine, Message, oldest, after_input, got_by, turn, lpdu_input}
+use Rattle.link_machine.specs.Machine.Turn.{FetchMessage}
+use Rattle.link_machine.specs.Machine.{report, whole_acked}
+use Rattle.link_machine.specs.Machine.LinkInput.{Take}
+use Rattle.link_end.specs.Reports.{report_told}
+use Rattle.swp_base.specs.declared.control_frames.Control.{Control}
+use Rattle.swp_base.specs.declared.control_frames.Control.TheVariants.{I, S, Rset, Ua, Act as ActFrame, Clt}
+use Rattle.swp_lpdu.specs.Controls.{control_of}
+use Rattle.swp_lpdu.specs.declared.LpduFault.{LpduFault}
+use Rattle.std.specs.Prelude.{Result, Ok, Err, ◌-◌, is_some}
+use Rattle.std.proofs.lemmas.Bool.{true≢false}
+use Rattle.link_messages.specs.declared.inbox.Got.{Got}
+use Rattle.link_messages.specs.Incoming.{got_chains}
+use Rattle.link_end.specs.declared.«end».End.{End}
+use Rattle.link_end.specs.Ends.{EndStandsFor, EndLeavesOthers, Accounts, MayTake}
+use Rattle.link_end.proofs.AccountLemmas.{rests, rests_may_take, may_take_held}
+use Rattle.node_ends.specs.declared.seat.Waiting.{Waiting}
+use Rattle.node_ends.specs.Holding.{waiting_in, chain_of, without_got, as_waiting, HoldsEnd, Moves, WaitsHeld}
+use Rattle.node_ends.proofs.Apart.{with_got, is_outside, took_apart, input_apart}
+use Rattle.node_ends.proofs.Moving.{call_holds}
+
+-- at most one message came
+one_in : (pool : PoolState) (g : Option Got) → drop 1 (messages_of pool (got_chains g)) ≡ []
+one_in pool None = refl
+one_in pool (Some g) = refl
+
+one_came : (pool : PoolState) (k : End) (m : Machine) → EndStandsFor k pool m → drop 1 m.got ≡ []
+one_came pool k m h = ap (drop 1) (sym h.halfway.got) ∙ one_in pool k.inbox.got
+
+is_oldest : (l : List Message) (o : Option Message) → drop 1 l ≡ [] → o ≡ oldest l → l ≡ option_to_list o
+is_oldest [] o one is = ap (λ x. option_to_list x) (sym is)
+is_oldest (x ∷ l) o one is = ap (λ t. x ∷ t) one ∙ ap (λ x. option_to_list x) (sym is)
+
+-- it has no more bytes than a message has
+short_in : (pool : PoolState) (owner : ℕ) (opens : List Open) (g : Option Got) → AllByRecursion (IsOwnOpen pool owner) (opens ++ got_chains g)
+    → AllByRecursion (λ (x : Message). length x.1 ≤ 4096) (messages_of pool (got_chains g))
+short_in pool owner opens None all = tt
+short_in pool owner opens (Some g) all =
+    ((all_front (IsOwnOpen pool owner) opens (record { pipe = g.pipe; chain = g.chain }) all).1.short, tt)
+
+waits_of : (pool : PoolState) (o : Option (ℕ × Chain))
+    → option_to_list (option_map (λ (x : ℕ × Chain). (x.0, chain_bytes pool x.1)) o) ≡ waiting_in pool (option_map as_waiting o)
+waits_of pool None = refl
+waits_of pool (Some x) = refl
+
+chain_is : (o : Option (ℕ × Chain)) → option_map (λ (x : ℕ × Chain). x.1) o ≡ chain_of (option_map as_waiting o)
+chain_is None = refl
+chain_is (Some x) = refl
+
+-- the message that came was fetched, if one did, and waits from now on
+pub record Fetches (pool : PoolState) (before after : End) (m : Machine) (o : Option (ℕ × Chain)) : Type 0 where
+  pub stands : EndStandsFor before pool m
+  pub next : EndStandsFor after pool (turn m FetchMessage)
+  pub accounts : Accounts after pool (option_map (λ (x : ℕ × Chain). x.1) o)
+  pub answer : option_map (λ (x : ℕ × Chain). (x.0, chain_bytes pool x.1)) o ≡ oldest m.got
+
+pub fetches : {pool : PoolState} {before after : End} {m : Machine} {o : Option (ℕ × Chain)} → Fetches pool before after m o
+    → HoldsEnd pool after (option_map as_waiting o) m
+fetches {pool} {before} {after} {m} {o} f =
+    let one = one_came pool before m f.stands in
+    let P : List Message → Type 0 = λ g. EndStandsFor after pool (record m { got = g }) in
+    let A : Option Chain → Type 0 = λ c. Accounts after pool c in
+    let S : List Message → Type 0 = λ l. AllByRecursion (λ (x : Message). length x.1 ≤ 4096) l in
+    record {
+      stands = subst P one f.next;
+      accounts = subst A (chain_is o) f.accounts;
+      waits = is_oldest m.got (option_map (λ (x : ℕ × Chain). (x.0, chain_bytes pool x.1)) o) one f.answer ∙ waits_of pool o;
+      short = subst S f.stands.halfway.got
+          (short_in pool before.inbox.joiner.owner before.inbox.joiner.open.items before.inbox.got f.stands.halfway.receives.lies.holds.own);
+    }
+
+-- ## A frame may be taken
+
+pub may_take : (pool : PoolState) (k : End) (waiting : Option Waiting) (m : Machine) → HoldsEnd pool k waiting m → WaitsHeld waiting k → MayTake k pool
+may_take pool k None m h held = rests_may_take k pool (rests k pool (without_got m) h.stands h.accounts refl)
+may_take pool k (Some w) m h held = may_take_held k pool (without_got m) h.stands (sym h.stands.halfway.link.kept.ready ∙ held) refl
+
+-- where none waits, all was fetched
+pub none_got : (pool : PoolState) (k : End) (m : Machine) → HoldsEnd pool k None m → without_got m ≡ m
+none_got pool k m h = ap (λ g. record m { got = g }) (sym h.waits)
+
+-- where one waits, an input that brings none leaves it
+pub waits_still : (old new : PoolState) (k after : End) (w : Waiting) (m : Machine) (lpdu : List ℕ) → HoldsEnd old k (Some w) m
+    → got_by m (lpdu_input lpdu) ≡ [] → is_outside (lpdu_input lpdu) ≡ true → EndLeavesOthers old new k after
+    → EndStandsFor after new (after_input (without_got m) (lpdu_input lpdu)) → HoldsEnd new after (Some w) (after_input m (lpdu_input lpdu))
+waits_still old new k after w m lpdu h none out leaves stands =
+    let i = lpdu_input lpdu in
+    let before : after_input (without_got m) i ≡ without_got (after_input m i) =
+    input_apart m [] i out ∙ ap (λ l. with_got l (after_input m i)) none in
+    let all : after_input m i ≡ with_got m.got (after_input m i) =
+    input_apart m m.got i out ∙ (ap (λ l. with_got (m.got ++ l) (after_input m i)) none ∙ ap (λ l. with_got l (after_input m i)) (append-nil m.got)) in
+    call_holds old new k after (Some w) m (after_input m i) h leaves (subst (λ n. EndStandsFor after new n) before stands)
+    (ap (λ (x : Machine). x.got) all)
+
+-- ## What is told
+
+told_apart : (m : Machine) (c : Control) → report_told (report (without_got m) (Take c)) ≡ report_told (report m (Take c))
+told_apart m (I ns nr info) =
+    ap (λ (x : Machine). record (report_told (report m (Take (I ns nr info)))) { acked = whole_acked x - whole_acked m }) (took_apart m [] (I ns nr info))
+told_apart m (S kind nr) =
+    ap (λ (x : Machine). record (report_told (report m (Take (S kind nr)))) { acked = whole_acked x - whole_acked m }) (took_apart m [] (S kind nr))
+told_apart m (Rset window caps) =
+    ap (λ (x : Machine). record (report_told (report m (Take (Rset window caps)))) { acked = whole_acked x - whole_acked m }) (took_apart m [] (Rset window caps))
+told_apart m Ua = ap (λ (x : Machine). record (report_told (report m (Take Ua))) { acked = whole_acked x - whole_acked m }) (took_apart m [] Ua)
+told_apart m (ActFrame act again) =
+    ap (λ (x : Machine). record (report_told (report m (Take (ActFrame act again)))) { acked = whole_acked x - whole_acked m })
+    (took_apart m [] (ActFrame act again))
+told_apart m Clt = ap (λ (x : Machine). record (report_told (report m (Take Clt))) { acked = whole_acked x - whole_acked m }) (took_apart m [] Clt)
+
+pub lpdu_told_apart : (m : Machine) (lpdu : List ℕ) → report_told (report (without_got m) (lpdu_input lpdu)) ≡ report_told (report m (lpdu_input lpdu))
+lpdu_told_apart m lpdu = by (control_of lpdu) refl
+  where
+    by : (o : Result Control LpduFault) → control_of lpdu ≡ o
+        → report_told (report (without_got m) (lpdu_input lpdu)) ≡ report_told (report m (lpdu_input lpdu))
+    by (Ok c) q = rw q (told_apart m c)
+    by (Err fault) q = rw q refl
+
+pub lpdu_is_outside : (lpdu : List ℕ) → is_outside (lpdu_input lpdu) ≡ true
+lpdu_is_outside lpdu = by (control_of lpdu) refl
+  where
+    by : (o : Result Control LpduFault) → control_of lpdu ≡ o → is_outside (lpdu_input lpdu) ≡ true
+    by (Ok c) q = rw q refl
+    by (Err fault) q = rw q refl
+
+-- an end whose owners are the same moves the same
+pub moves_on : (old new : PoolState) (before between after : End) → Moves old new before between
+    → (after.outbox.owner ≡ between.outbox.owner) × (after.inbox.joiner.owner ≡ between.inbox.joiner.owner) → Moves old new before after
+moves_on old new before between after m same = record { sender = same.0 ∙ m.sender; receiver = same.1 ∙ m.receiver; beside = m.beside }
+
+pub none_waits : (o : Option Waiting) → is_some o ≡ false → o ≡ None
+none_waits None e = refl
+none_waits (Some w) e = cc
+
+pub one_waits : (o : Option Waiting) → is_some o ≡ true → (w : Waiting) × (o ≡ Some w)
+one_waits None e = absurd (true≢false (sym e))
+one_waits (Some w) e = (w, refl)

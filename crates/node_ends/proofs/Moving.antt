@@ -1,0 +1,143 @@
+-- What calls on one end leave of the ends beside it in the pool.
+use Rattle.std.proofs.Common.{◌≡◌, ◌≢◌, ℕ, List, [], ◌∷◌, refl, sym, ap, ◌∙◌, subst}
+use Rattle.std.specs.Prelude.{Option, Some, None, length, ◌≤◌, drop}
+use Rattle.std.specs.List.{AllByRecursion}
+use Rattle.block_pool.specs.declared.chain.Chain.{Chain}
+use Rattle.block_pool.specs.Pool.{PoolState, IsLive, chain_bytes, IsApart, Gives, KeepsOthers}
+use Rattle.block_pool.specs.Holdings.{LiesApart}
+use Rattle.block_pool.proofs.HoldingLemmas.{apart_by_owner, all_mapped, lies_apart_by_owner}
+use Rattle.hcp_chain.specs.declared.joiner.Open.{Open}
+use Rattle.hcp_chain.specs.Holding.{IsOwnOpen, IsApartFrom}
+use Rattle.link_machine.specs.Machine.{LinkEnd as Machine, Message, ActDue as Due, turn}
+use Rattle.link_machine.specs.Machine.Turn.{FetchMessage}
+use Rattle.shdlc_core.specs.declared.answers.Due.{Due as ShdlcDue}
+use Rattle.std.proofs.Common.{◌+◌, arith}
+use Rattle.std.proofs.lemmas.List.{length-map}
+use Rattle.link_messages.specs.declared.outbox.Queued.{Queued}
+use Rattle.link_messages.specs.Outgoing.{chain_in}
+use Rattle.link_messages.specs.Incoming.{chains_in}
+use Rattle.link_end.specs.declared.«end».End.{End}
+use Rattle.link_end.specs.Ends.{EndStandsFor, EndLeavesOthers, Accounts, controls_in, due_of}
+use Rattle.link_end.proofs.AccountLemmas.{kept_beside_call, account_kept, account_moved, given_beside, given_own}
+use Rattle.node_ends.specs.declared.seat.Waiting.{Waiting}
+use Rattle.node_ends.specs.Holding.{waiting_in, chain_of, without_got, HoldsEnd, Moves}
+
+-- a message that waits has its bytes still
+waits_on : (old new : PoolState) (k : End) (waiting : Option Waiting) → Accounts k old (chain_of waiting)
+    → ((c : Chain) → IsLive old c → c.owner ≡ k.inbox.joiner.owner → chain_bytes new c ≡ chain_bytes old c) → waiting_in new waiting ≡ waiting_in old waiting
+waits_on old new k None a same = refl
+waits_on old new k (Some w) a same =
+    ap (λ (bytes : List ℕ). (w.pipe, bytes) ∷ []) (same w.chain a.fetched.live a.fetched.owned)
+
+-- a chain of neither owner lies apart from all chains of an end
+far_from : (pool : PoolState) (k : End) (m : Machine) (c : Chain) → EndStandsFor k pool m → IsLive pool c → c.owner ≢ k.outbox.owner
+    → c.owner ≢ k.inbox.joiner.owner → LiesApart Queued chain_in k.outbox.queue.items c × IsApartFrom (chains_in k.inbox) c
+far_from pool k m c h live out into = (
+  lies_apart_by_owner Queued chain_in pool k.outbox.owner k.outbox.queue.items c h.halfway.sends.lies.kept.own live out,
+  all_mapped Open (IsOwnOpen pool k.inbox.joiner.owner) (λ x. IsApart c x.chain) (chains_in k.inbox)
+      (λ x o. apart_by_owner pool c x.chain live o.live (λ e. into (e ∙ o.owned))) h.halfway.receives.lies.holds.own,
+)
+
+-- a call that leaves the others moves its end
+pub call_moves : (old new : PoolState) (before after : End) (m : Machine) → EndStandsFor before old m → EndLeavesOthers old new before after
+    → Moves old new before after
+call_moves old new before after m h l = record {
+  sender = l.sender;
+  receiver = l.receiver;
+  beside = λ other waiting n differ g.
+      let both = kept_beside_call new after h l differ g.stands g.accounts in
+      let same : (c : Chain) → IsLive old c → c.owner ≡ other.inbox.joiner.owner → chain_bytes new c ≡ chain_bytes old c = λ c live is.
+      (let away = far_from old before m c h live (λ e. differ.to (sym e ∙ is)) (λ e. differ.receivers (sym e ∙ is)) in
+      (l.others c live away.0 away.1).1) in
+      record { stands = both.0; accounts = both.1; waits = g.waits ∙ sym (waits_on old new other waiting g.accounts same); short = g.short };
+}
+
+-- an end that is changed while nothing changes in the pool
+pub stays_beside : (pool : PoolState) (before after : End) → after.outbox ≡ before.outbox → after.inbox ≡ before.inbox → Moves pool pool before after
+stays_beside pool before after out into = record {
+  sender = ap (λ b. b.owner) out;
+  receiver = ap (λ b. b.joiner.owner) into;
+  beside = λ other waiting n differ g. g;
+}
+
+-- ## The end itself
+
+short_on : (m n : Machine) → n.got ≡ m.got → AllByRecursion (λ (x : Message). length x.1 ≤ 4096) m.got
+    → AllByRecursion (λ (x : Message). length x.1 ≤ 4096) n.got
+short_on m n same short = let P : List Message → Type 0 = λ l. AllByRecursion (λ (x : Message). length x.1 ≤ 4096) l in subst P (sym same) short
+
+-- an end with its message that waits, after a call that leaves others
+pub call_holds : (old new : PoolState) (before after : End) (waiting : Option Waiting) (m n : Machine) → HoldsEnd old before waiting m
+    → EndLeavesOthers old new before after → EndStandsFor after new (without_got n) → n.got ≡ m.got → HoldsEnd new after waiting n
+call_holds old new before after waiting m n h l stands got =
+    let same = own_bytes waiting h.accounts in
+    record {
+      stands = stands;
+      accounts = account_kept old new before after (without_got m) (chain_of waiting) h.stands l h.accounts;
+      waits = got ∙ (h.waits ∙ sym same);
+      short = short_on m n got h.short;
+    }
+  where
+    own_bytes : (w : Option Waiting) → Accounts before old (chain_of w) → waiting_in new w ≡ waiting_in old w
+    own_bytes None a = refl
+    own_bytes (Some w) a =
+        let f = a.fetched in
+        let queue = lies_apart_by_owner Queued chain_in old before.outbox.owner before.outbox.queue.items w.chain
+        h.stands.halfway.sends.lies.kept.own f.live (λ e. h.stands.halfway.differ (sym e ∙ f.owned)) in
+        ap (λ (bytes : List ℕ). (w.pipe, bytes) ∷ []) (l.others w.chain f.live queue f.apart).1
+
+-- an end that is changed while nothing changes in the pool
+pub boxes_hold : (pool : PoolState) (before after : End) (waiting : Option Waiting) (m n : Machine) → HoldsEnd pool before waiting m
+    → after.inbox ≡ before.inbox → EndStandsFor after pool (without_got n) → n.got ≡ m.got → HoldsEnd pool after waiting n
+boxes_hold pool before after waiting m n h into stands got = record {
+  stands = stands;
+  accounts = account_moved pool before after (chain_of waiting) into h.accounts;
+  waits = got ∙ h.waits;
+  short = short_on m n got h.short;
+}
+
+-- ## The message that waits is given back
+
+-- a chain went back to the pool: the ends beside its own are as they were
+pub given_moves : (old new : PoolState) (k : End) (chain : Chain) → Accounts k old (Some chain) → Gives old new chain → KeepsOthers old new chain chain
+    → Moves old new k k
+given_moves old new k chain a gives keeps = record {
+  sender = refl;
+  receiver = refl;
+  beside = λ other waiting n differ g.
+      let both = given_beside a gives keeps differ g.stands g.accounts in
+      let same : (c : Chain) → IsLive old c → c.owner ≡ other.inbox.joiner.owner → chain_bytes new c ≡ chain_bytes old c = λ c live is.
+      (keeps c live (apart_by_owner old c chain live a.fetched.live (λ e. differ.receivers (sym (sym is ∙ (e ∙ a.fetched.owned)))))).2 in
+      record { stands = both.0; accounts = both.1; waits = g.waits ∙ sym (waits_on old new other waiting g.accounts same); short = g.short };
+}
+
+pub given_holds : (old new : PoolState) (k : End) (w : Waiting) (m : Machine) → HoldsEnd old k (Some w) m → Gives old new w.chain
+    → KeepsOthers old new w.chain w.chain → HoldsEnd new k None (turn m FetchMessage)
+given_holds old new k w m h gives keeps =
+    let own = given_own old new k (without_got m) w.chain h.stands h.accounts gives keeps in
+    let none : drop 1 m.got ≡ [] = ap (drop 1) h.waits in
+    record {
+      stands = own.0;
+      accounts = own.1;
+      waits = none;
+      short = (let P : List Message → Type 0 = λ l. AllByRecursion (λ (x : Message). length x.1 ≤ 4096) l in subst P (sym none) tt);
+    }
+
+pub none_holds : (pool : PoolState) (k : End) (m : Machine) → HoldsEnd pool k None m → HoldsEnd pool k None (turn m FetchMessage)
+none_holds pool k m h =
+    let none : drop 1 m.got ≡ [] = ap (drop 1) h.waits in
+    record {
+      stands = h.stands;
+      accounts = h.accounts;
+      waits = none;
+      short = (let P : List Message → Type 0 = λ l. AllByRecursion (λ (x : Message). length x.1 ≤ 4096) l in subst P (sym none) tt);
+    }
+
+-- few control frames wait at an end whose machine has few
+pub few_controls : (pool : PoolState) (k : End) (m : Machine) → EndStandsFor k pool (without_got m) → length m.acts + length m.shdlc.due ≤ 6
+    → controls_in k ≤ 6
+few_controls pool k m h few =
+    let acts = ap (λ (l : List Due). length l) h.halfway.acts in
+    let same = length-map k.acts.items due_of in
+    let due = ap (λ (l : List ShdlcDue). length l) h.halfway.link.kept.due in
+    omega (arith, acts, same, due, few)

@@ -1,0 +1,97 @@
+-- An end that isn't ready accepts nothing, so that no message comes to it.
+use Rattle.std.proofs.Common.{◌≡◌, ◌⊎◌, inl, inr, ℕ, Bool, true, false, List, [], length, drop, refl, ap, ◌∙◌}
+use Rattle.std.proofs.lemmas.List.{drop_all}
+use Rattle.std.specs.Prelude.{Option, Some, None, ◌==◌, if◌then◌else◌}
+use Rattle.std.proofs.Common.{arith}
+use Rattle.swp_base.specs.declared.control_frames.Control.{Control}
+use Rattle.swp_base.specs.declared.control_frames.Control.TheVariants.{I, S, Rset, Ua, Act as ActFrame, Clt}
+use Rattle.swp_base.specs.declared.control_frames.Kind.{Kind}
+use Rattle.swp_base.specs.declared.control_frames.Kind.TheVariants.{Rr, Rej, Rnr, Srej}
+use Rattle.swp_lpdu.specs.Controls.{control_of}
+use Rattle.swp_lpdu.specs.declared.LpduFault.{LpduFault}
+use Rattle.std.specs.Prelude.{Result, Ok, Err}
+use Rattle.shdlc_core.specs.declared.answers.LinkState.{LinkState}
+use Rattle.shdlc_core.specs.declared.answers.LinkState.TheVariants.{Down, Waiting, Up}
+use Rattle.shdlc_core.specs.Machine.{EndState, Fragment, taken, place_of}
+use Rattle.link_machine.specs.Machine.{LinkEnd as Machine, Message, brought, news, messages_got, is_open, is_faulty, got_by, lpdu_input}
+
+-- what an end has accepted after a frame: the same, or nothing, in a new session
+abbrev AcceptsNone : EndState → EndState → Type 0
+AcceptsNone e f = (f.session.acc ≡ e.session.acc) ⊎ (f.session.acc ≡ [])
+
+up_i : (e : EndState) (ns nr : ℕ) (info : Fragment) → e.phase ≡ Up → e.ready ≡ false → (o : Option ℕ) → place_of e.session nr ≡ o
+    → AcceptsNone e (taken e (I ns nr info))
+up_i e ns nr info p r None q = inl (rw (p, q) refl)
+up_i e ns nr info p r (Some x) q = inl (rw (p, q, r) refl)
+
+up_s : (e : EndState) (kind : Kind) (nr : ℕ) → e.phase ≡ Up → (o : Option ℕ) → place_of e.session nr ≡ o → AcceptsNone e (taken e (S kind nr))
+up_s e Rr nr p None q = inl (rw (p, q) refl)
+up_s e Rr nr p (Some x) q = inl (rw (p, q) refl)
+up_s e Rej nr p None q = inl (rw (p, q) refl)
+up_s e Rej nr p (Some x) q = inl (rw (p, q) refl)
+up_s e Rnr nr p None q = inl (rw (p, q) refl)
+up_s e Rnr nr p (Some x) q = inl (rw (p, q) refl)
+up_s e Srej nr p o q = inl (rw p refl)
+
+any_rset : (e : EndState) (window caps : ℕ) (p : LinkState) → e.phase ≡ p → (b : Bool) → (window == 0) ≡ b → AcceptsNone e (taken e (Rset window caps))
+any_rset e window caps Up p true q = inl (rw (p, q) refl)
+any_rset e window caps Waiting p true q = inl (rw (p, q) refl)
+any_rset e window caps Down p true q = inl (rw (p, q) refl)
+any_rset e window caps Up p false q = inr (rw (p, q) refl)
+any_rset e window caps Waiting p false q = inl (rw (p, q) refl)
+any_rset e window caps Down p false q = inr (rw (p, q) refl)
+
+quiet_in : (e : EndState) (c : Control) → e.ready ≡ false → (p : LinkState) → e.phase ≡ p → AcceptsNone e (taken e c)
+quiet_in e (I ns nr info) r Up p = up_i e ns nr info p r (place_of e.session nr) refl
+quiet_in e (I ns nr info) r Waiting p = inl (rw p refl)
+quiet_in e (I ns nr info) r Down p = inl (rw p refl)
+quiet_in e (S kind nr) r Up p = up_s e kind nr p (place_of e.session nr) refl
+quiet_in e (S kind nr) r Waiting p = inl (rw p refl)
+quiet_in e (S kind nr) r Down p = inl (rw p refl)
+quiet_in e (Rset window caps) r q p = any_rset e window caps q p (window == 0) refl
+quiet_in e Ua r Up p = inl (rw p refl)
+quiet_in e Ua r Waiting p = inr (rw p refl)
+quiet_in e Ua r Down p = inl (rw p refl)
+quiet_in e (ActFrame act again) r Up p = inl (rw p refl)
+quiet_in e (ActFrame act again) r Waiting p = inl (rw p refl)
+quiet_in e (ActFrame act again) r Down p = inl (rw p refl)
+quiet_in e Clt r Up p = inl (rw p refl)
+quiet_in e Clt r Waiting p = inl (rw p refl)
+quiet_in e Clt r Down p = inl (rw p refl)
+
+drop_nil : (n : ℕ) → drop {A = Message} n [] ≡ []
+drop_nil n = drop_all n [] (omega arith)
+
+no_news : (e : EndState) (s : EndState) → AcceptsNone e s → news e.session s ≡ []
+no_news e s (inl q) =
+    ap (λ (xs : List Fragment). drop (length (messages_got e.session)) (messages_got (record s.session { acc = xs }))) q
+    ∙ drop_all (length (messages_got e.session)) (messages_got e.session) (omega arith)
+no_news e s (inr q) =
+    ap (λ (xs : List Fragment). drop (length (messages_got e.session)) (messages_got (record s.session { acc = xs }))) q
+    ∙ drop_nil (length (messages_got e.session))
+
+brings_none : (m : Machine) (c : Control) → m.shdlc.ready ≡ false
+    → (brought m c ≡ (if is_open m.role then (if is_faulty (taken m.shdlc c).session then [] else news m.shdlc.session (taken m.shdlc c)) else []))
+    → brought m c ≡ []
+brings_none m c r b = by (is_open m.role) (is_faulty (taken m.shdlc c).session) refl refl
+  where
+    by : (o f : Bool) → is_open m.role ≡ o → is_faulty (taken m.shdlc c).session ≡ f → brought m c ≡ []
+    by false f p q = rw (b, p) refl
+    by true true p q = rw (b, p, q) refl
+    by true false p q = rw (b, p, q) (no_news m.shdlc (taken m.shdlc c) (quiet_in m.shdlc c r m.shdlc.phase refl))
+
+-- no frame brings a message to an end that isn't ready
+pub held_brings_none : (m : Machine) (c : Control) → m.shdlc.ready ≡ false → brought m c ≡ []
+held_brings_none m (ActFrame act again) r = refl
+held_brings_none m Clt r = refl
+held_brings_none m (I ns nr info) r = brings_none m (I ns nr info) r refl
+held_brings_none m (S kind nr) r = brings_none m (S kind nr) r refl
+held_brings_none m (Rset window caps) r = brings_none m (Rset window caps) r refl
+held_brings_none m Ua r = brings_none m Ua r refl
+
+pub held_gets_none : (m : Machine) (lpdu : List ℕ) → m.shdlc.ready ≡ false → got_by m (lpdu_input lpdu) ≡ []
+held_gets_none m lpdu r = by (control_of lpdu) refl
+  where
+    by : (o : Result Control LpduFault) → control_of lpdu ≡ o → got_by m (lpdu_input lpdu) ≡ []
+    by (Ok c) q = rw q (held_brings_none m c r)
+    by (Err fault) q = rw q refl

@@ -1,0 +1,34 @@
+-- A message that is read.
+use Rattle.std.proofs.Common.{◌≡◌, ℕ, List, [], ◌∷◌, take, zero, suc, length, ◌<◌, ◌≤◌, refl, ap, arith}
+use Rattle.std.specs.Prelude.{Option, Some, None, IfSome, IfNone, option_map, slice_get, slice_index_or}
+use Rattle.link_machine.specs.Machine.{Message}
+use Rattle.block_pool.specs.Pool.{PoolState}
+use Rattle.node_machine.specs.Parts.{Port, Desk as DeskOf}
+use Rattle.node_ends.specs.declared.seat.Seat.{Seat}
+use Rattle.node_ends.specs.Desks.{desk_of}
+use Rattle.node_ends.specs.Ends.{SeatsStandFor, message_read}
+
+pub read_is : (got : List Message) (o : Option (ℕ × ℕ)) (buffer : List ℕ) → IfSome o (λ x. got ≡ (x.0, take x.1 buffer) ∷ []) → IfNone o (got ≡ [])
+    → got ≡ message_read o buffer
+read_is got None buffer some none = none
+read_is got (Some x) buffer some none = some
+
+-- what is kept at a place
+pub desk_is : (pool : PoolState) (seats : List Seat) (ports : List Port) (i : ℕ) → SeatsStandFor pool seats ports
+    → option_map (λ (s : Seat). desk_of s.desk) (slice_get seats i) ≡ option_map (λ (p : Port). p.desk) (slice_get ports i)
+desk_is pool [] [] i each = refl
+desk_is pool [] (p ∷ ports) i each = absurd each
+desk_is pool (s ∷ seats) [] i each = absurd each
+desk_is pool (s ∷ seats) (p ∷ ports) zero each = ap (λ (d : DeskOf). Some d) each.0.desk
+desk_is pool (s ∷ seats) (p ∷ ports) (suc i) each = desk_is pool seats ports i each.1
+
+-- what is read at a place
+pub is_there : (seats : List Seat) (i : ℕ) (s : Seat) → i < length seats → ((d : Seat) → s ≡ slice_index_or seats i d) → Some s ≡ slice_get seats i
+is_there [] i s inside is = absurd (omega (arith, inside))
+is_there (t ∷ seats) zero s inside is = ap (λ (x : Seat). Some x) (is s)
+is_there (t ∷ seats) (suc i) s inside is = is_there seats i s (omega (arith, inside)) is
+
+pub is_none_there : (seats : List Seat) (i : ℕ) → length seats ≤ i → None ≡ slice_get seats i
+is_none_there [] i past = refl
+is_none_there (t ∷ seats) zero past = absurd (omega (arith, past))
+is_none_there (t ∷ seats) (suc i) past = is_none_there seats i (omega (arith, past))

@@ -1,0 +1,16 @@
+use Rattle.std.proofs.Common.{sym, ap, ◌∙◌}
+use Rattle.link_machine.specs.Machine.Turn.{Give}
+use Rattle.node_machine.specs.Carrying.{after_turn}
+use Rattle.node_ends.specs.Ends.{takes_at, place_in}
+use Rattle.node_ends.proofs.Changing.{nowhere}
+use Rattle.node_ends.proofs.ends.Ends.send.Goals as goal
+
+pub returns-in_default-clause-stands : goal.returns-in_default-clause-stands
+returns-in_default-clause-stands c ports e =
+    let f = after_turn (Give (c.args.pipe, c.args.message.now)) in
+    (nowhere c.args.host f c.place_of.result (c.place_of.ensures.place ∙ ap (place_in c.args.host) c.as_slice.ensures.value) c.in_default.not-Some e).0
+
+pub returns-in_default-clause-answer : goal.returns-in_default-clause-answer
+returns-in_default-clause-answer c ports e =
+    let f = after_turn (Give (c.args.pipe, c.args.message.now)) in
+    ap (takes_at (c.args.pipe, c.args.message.now)) (sym (nowhere c.args.host f c.place_of.result (c.place_of.ensures.place ∙ ap (place_in c.args.host) c.as_slice.ensures.value) c.in_default.not-Some e).1)

@@ -1,0 +1,34 @@
+use Rattle.std.proofs.Common.{arith, subst}
+use Rattle.node_ends.specs.Ends.{HasAside}
+use Rattle.link_machine.specs.Machine.Turn.{Release}
+use Rattle.node_ends.proofs.Changing.{within, turns, reads, owner_is}
+use Rattle.node_ends.proofs.ends.release_at.Goals as goal
+
+pub offset_bounds-seats-i : goal.offset_bounds-seats-i
+offset_bounds-seats-i c = let w = within c.args.host c.args.i c.requires.place c.requires.stands.1 in omega (arith, w.1)
+
+pub bounds-seats-i : goal.bounds-seats-i
+bounds-seats-i c = (within c.args.host c.args.i c.requires.place c.requires.stands.1).0
+
+pub release-requires-clause-stands : goal.release-requires-clause-stands
+release-requires-clause-stands c =
+    let r = reads c.args.host c.args.i c.index-seats-i.result c.requires.place c.requires.stands.1 in
+    (r.port.side, r.stands.holds, subst (λ o. HasAside o) r.port_is c.requires.stands.2)
+
+pub release-requires-clause-owner : goal.release-requires-clause-owner
+release-requires-clause-owner c = owner_is c.args.host c.args.i c.index-seats-i.result c.requires.place c.requires.stands.1
+
+pub overflow_cast-i : goal.overflow_cast-i
+overflow_cast-i c = let w = within c.args.host c.args.i c.requires.place c.requires.stands.1 in omega (arith, w.1)
+
+pub overflow_mul-i : goal.overflow_mul-i
+overflow_mul-i c = let w = within c.args.host c.args.i c.requires.place c.requires.stands.1 in omega (arith, w.1)
+
+pub returns : goal.returns
+returns c ports e =
+    turns {x = Release} {d = c.index-seats-i.result} {t = c.release.new.self} ports (record {
+      place = c.requires.place;
+      moves = c.release.ensures.moves;
+      rest = c.release.ensures.rest;
+      stands = c.release.ensures.stands;
+    }) e

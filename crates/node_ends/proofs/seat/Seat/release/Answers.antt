@@ -1,0 +1,36 @@
+use Rattle.std.proofs.Common.{ℕ, ◌-◌, ◌<◌, length, sym, subst, arith}
+use Rattle.block_pool.specs.Pool.{used_of, aside_of}
+use Rattle.node_ends.specs.Holding.{without_got}
+use Rattle.node_ends.proofs.Setting.{Counts, released_holds, counted_moves}
+use Rattle.node_ends.proofs.seat.Seat.release.Goals as goal
+
+pub release-requires-clause-quota : goal.release-requires-clause-quota
+release-requires-clause-quota c =
+    let P : ℕ → Type 0 = λ n. n < length c.args.pool.now.owners in
+    subst P c.requires.owner c.requires.stands.1.stands.halfway.sends.lies.kept.has_quota
+
+pub release-requires-clause-aside : goal.release-requires-clause-aside
+release-requires-clause-aside c =
+    let P : ℕ → Type 0 = λ n. 0 < aside_of c.args.pool.now n in
+    let a = c.requires.stands.1.stands.halfway.aside in
+    let b = c.requires.stands.2 in
+    subst P c.requires.owner (omega (arith, a, b))
+
+pub returns-clause-stands : goal.returns-clause-stands
+returns-clause-stands c m h =
+    let old = c.args.pool.now in
+    let new = c.release.new.self in
+    let a = c.requires.stands.1.stands.halfway.aside in
+    let b = c.requires.stands.2 in
+    let Q : ℕ → Type 0 = λ n. Counts old new n (used_of old n - 1) (aside_of old n - 1) in
+    released_holds old new c.args.self.now.side.link c.args.self.now.waiting m h (omega (arith, a, b))
+    (subst Q (sym c.requires.owner) (record { slots = c.release.ensures.slots; owners = c.release.ensures.owners }))
+
+pub returns-clause-moves : goal.returns-clause-moves
+returns-clause-moves c =
+    let old = c.args.pool.now in
+    let new = c.release.new.self in
+    let o = c.args.self.now.side.link.outbox.owner in
+    let Q : ℕ → Type 0 = λ n. Counts old new n (used_of old n - 1) (aside_of old n - 1) in
+    counted_moves old new c.args.self.now.side.link (without_got c.requires.stands.0) (used_of old o - 1) (aside_of old o - 1)
+    c.requires.stands.1.stands (subst Q (sym c.requires.owner) (record { slots = c.release.ensures.slots; owners = c.release.ensures.owners }))

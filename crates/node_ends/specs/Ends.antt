@@ -1,0 +1,80 @@
+-- What is kept of the ends of a node, and for which ports of its machine it stands.
+use Rattle.std.specs.Prelude.{◌≡◌, ◌≢◌, ℕ, suc, ◌+◌, ◌*◌, ◌==◌, Bool, false, if◌then◌else◌, List, [], ◌∷◌, length, take, ◌≤◌, ◌<◌, is_none, Option, Some, None, option_map}
+use Rattle.std.specs.List.{AllByRecursion}
+use Rattle.std.specs.Option.{option_map_or}
+use Rattle.block_pool.specs.Pool.{PoolState}
+use Rattle.link_machine.specs.Machine.{Message, give_refusal}
+use Rattle.node_machine.specs.Parts.{Port}
+use Rattle.node_machine.specs.Carrying.{port_at}
+use Rattle.node_ends.specs.declared.seat.Seat.{Seat}
+use Rattle.node_ends.specs.declared.ends.Ends.{Ends}
+use Rattle.node_ends.specs.Desks.{desk_of}
+use Rattle.node_ends.specs.Holding.{HoldsSeat, WaitsHeld}
+
+-- one end with what is kept of it
+pub record SeatStandsFor (pool : PoolState) (s : Seat) (p : Port) : Type 0 where
+  pub holds : HoldsSeat pool s p.side
+  pub desk : desk_of s.desk ≡ p.desk
+  pub late : s.late ≡ p.late
+  pub ended : s.ended ≡ p.ended
+
+-- all of them, one by one
+abbrev pub SeatsStandFor : PoolState → List Seat → List Port → Type 0
+SeatsStandFor pool [] [] = Unit {0}
+SeatsStandFor pool [] (p ∷ ports) = ⊥
+SeatsStandFor pool (s ∷ seats) [] = ⊥
+SeatsStandFor pool (s ∷ seats) (p ∷ ports) = SeatStandsFor pool s p × SeatsStandFor pool seats ports
+
+-- the owners of the ends from the place k on: two for each, by its place
+abbrev pub HaveOwnersFrom : ℕ → List Seat → Type 0
+HaveOwnersFrom k [] = Unit {0}
+HaveOwnersFrom k (s ∷ seats) =
+    (s.side.link.outbox.owner ≡ 2 * k) × (s.side.link.inbox.joiner.owner ≡ 2 * k + 1) × HaveOwnersFrom (k + 1) seats
+
+-- no two ends are those of links with one host
+abbrev pub HaveOwnHosts : List Seat → Type 0
+HaveOwnHosts [] = Unit {0}
+HaveOwnHosts (s ∷ seats) = AllByRecursion (λ (t : Seat). t.desk.host ≢ s.desk.host) seats × HaveOwnHosts seats
+
+-- What is kept of the ends of a node stands for these ports.
+pub record AreEnds (pool : PoolState) (seats : List Seat) (ports : List Port) : Type 0 where
+  pub each : SeatsStandFor pool seats ports
+  pub owners : HaveOwnersFrom 0 seats
+  pub hosts : HaveOwnHosts seats
+  pub few : length seats ≤ 7
+
+-- the place of the end of the link with this host
+abbrev pub place_in : ℕ → List Seat → Option ℕ
+place_in h [] = None
+place_in h (s ∷ seats) = if s.desk.host == h then Some 0 else option_map suc (place_in h seats)
+
+-- an end, where there is one, takes a message for sending
+abbrev pub takes_at : Message → Option Port → Bool
+takes_at m port = option_map_or (λ (p : Port). is_none (give_refusal p.side m)) port false
+
+-- a block is set aside at an end, where there is one
+abbrev pub HasAside : Option Port → Type 0
+HasAside None = Unit {0}
+HasAside (Some p) = 0 < p.side.aside
+
+-- at most six control frames wait to be sent at an end, where there is one
+abbrev pub HasFewDue : Option Port → Type 0
+HasFewDue None = Unit {0}
+HasFewDue (Some p) = length p.side.acts + length p.side.shdlc.due ≤ 6
+
+-- while a message waits at an end, it is held
+abbrev pub AreHeld : List Seat → Type 0
+AreHeld seats = AllByRecursion (λ (s : Seat). WaitsHeld s.waiting s.side.link) seats
+
+-- what is kept of all ends of a node, with their pool, stands for these ports
+abbrev pub EndsStandFor : Ends → List Port → Type 0
+EndsStandFor e ports = AreEnds e.pool e.seats.items ports
+
+-- the messages that came at the end of the link with this host and had no turn
+abbrev pub got_at : List Port → ℕ → List Message
+got_at ports h = option_map_or (λ (p : Port). p.side.got) (port_at ports h) []
+
+-- a message that was read, with its pipe and how many bytes of the buffer it has
+abbrev pub message_read : Option (ℕ × ℕ) → List ℕ → List Message
+message_read None buffer = []
+message_read (Some x) buffer = (x.0, take x.1 buffer) ∷ []

@@ -1,0 +1,13 @@
+//! The ends of all links of a node, controller or host, in one pool of blocks of memory, and what the node keeps of each of them:
+//! they stand for the ports of its machine. All of it is this project's own.
+#![tactic(auto)]
+
+mod desk;
+mod ends;
+mod looking;
+mod places;
+mod seat;
+
+pub use desk::{About, Desk, Unanswered};
+pub use ends::Ends;
+pub use seat::Seat;

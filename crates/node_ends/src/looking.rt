@@ -1,0 +1,82 @@
+//! What is read at the ends of a node.
+ghost use Rattle.std.specs.Prelude.{◌≡◌, ◌≤◌, List, Some, IfSome, length};
+ghost use Rattle.node_machine.specs.Parts.{Port};
+ghost use Rattle.node_machine.specs.Carrying.{port_at, with_port};
+ghost use Rattle.node_ends.specs.Ends.{AreEnds, place_in, got_at, message_read};
+
+use crate::desk::Desk;
+use crate::ends::Ends;
+use crate::places::place_of;
+use crate::seat::Seat;
+use block_pool::Pool;
+
+impl Ends {
+    ghost use Rattle.std.specs.Prelude.{◌≡◌, ◌≤◌, List, IfSome, length, option_map, slice_get};
+    ghost use Rattle.node_machine.specs.Parts.{Port};
+    ghost use Rattle.node_machine.specs.Carrying.{port_at, with_port};
+    ghost use Rattle.node_ends.specs.Desks.{desk_of};
+    ghost use Rattle.node_ends.specs.Ends.{EndsStandFor, got_at, message_read};
+
+    /// Copies the message that waits at the end of the link with this host into the front of a buffer of 4,096 bytes. Its pipe, and
+    /// how many bytes it has.
+    pub fn read(&self, host: u8, buffer: &mut [u8]) -> Option<(u8, usize)>
+        requires stands { (ports : List Port) × EndsStandFor self.now ports }
+        requires buffer { length buffer.old ≡ 4096 }
+        ensures waits { (ports : List Port) → EndsStandFor self.now ports → got_at ports host ≡ message_read result buffer.new }
+        ensures inside { IfSome result (λ x. x.1 ≤ 4096) }
+    {
+        let Some(i) = place_of(self.seats.as_slice(), host) else {
+            return None;
+        };
+        read_at(self.seats.as_slice(), i, &self.pool, host, buffer)
+    }
+
+    /// REC_ERROR of the end of the link with this host is set.
+    pub fn set_errors(&mut self, host: u8, errors: u16)
+        requires { (ports : List Port) × EndsStandFor self.old ports }
+        ensures { (ports : List Port) → EndsStandFor self.old ports
+            → EndsStandFor self.new (with_port host (λ p. record p { desk = record p.desk { errors = errors } }) ports) }
+    {
+        if let Some(i) = place_of(self.seats.as_slice(), host) {
+            set_errors_at(&mut self.seats, i, &self.pool, host, errors);
+        }
+    }
+
+    /// What is kept of the end at this place, where there is one.
+    pub fn desk(&self, i: usize) -> Option<Desk>
+        requires { (ports : List Port) × EndsStandFor self.now ports }
+        ensures { (ports : List Port) → EndsStandFor self.now ports
+            → option_map desk_of result ≡ option_map (λ (p : Port). p.desk) (slice_get ports i) }
+    {
+        match self.seats.get(i) {
+            Some(seat) => Some(seat.desk),
+            None => None,
+        }
+    }
+}
+
+// The message that waits at the end at this place, that of the link with this host.
+fn read_at(
+    seats: &[Seat],
+    i: usize,
+    pool: &Pool,
+    host: u8,
+    buffer: &mut [u8],
+) -> Option<(u8, usize)>
+    requires place { place_in host seats.now ≡ Some i }
+    requires stands { (ports : List Port) × AreEnds pool.now seats.now ports }
+    requires buffer { length buffer.old ≡ 4096 }
+    ensures waits { (ports : List Port) → AreEnds pool.now seats.now ports → got_at ports host ≡ message_read result buffer.new }
+    ensures inside { IfSome result (λ x. x.1 ≤ 4096) }
+{
+    seats[i].read(pool, buffer)
+}
+
+fn set_errors_at(seats: &mut [Seat], i: usize, pool: &Pool, host: u8, errors: u16)
+    requires place { place_in host seats.old ≡ Some i }
+    requires stands { (ports : List Port) × AreEnds pool.now seats.old ports }
+    ensures { (ports : List Port) → AreEnds pool.now seats.old ports
+        → AreEnds pool.now seats.new (with_port host (λ p. record p { desk = record p.desk { errors = errors } }) ports) }
+{
+    seats[i].desk.errors = errors;
+}
