@@ -80,10 +80,11 @@ fn data_of(bytes: &[u8]) -> ArrayVec<u8, 28>
     data
 }
 
-/// Writes a packet: its header and its data. It asks for a pipe that isn't reserved.
-pub fn write_packet(packet: &Packet) -> ArrayVec<u8, 29>
+/// Writes a packet: its header and its data, 1 to 29 bytes. It asks for a pipe that isn't reserved.
+pub fn write_packet(packet: &Packet) -> ArrayVec<u8, 32>
     requires { packet.now.pipe < 112 }
     ensures written { result.items ≡ packet_bytes packet.now }
+    ensures short { (1 ≤ length result.items) × (length result.items ≤ 29) }
     ensures read_again { packet_of result.items ≡ Some packet.now }
 {
     let mark = if packet.last { 0x80 } else { 0 };
