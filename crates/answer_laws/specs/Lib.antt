@@ -1,4 +1,7 @@
-pub mod Moments
-pub mod Unasked
-pub mod Answered
-pub mod Alike
+pub mod answers
+pub mod steps
+pub mod rooms
+pub mod replies
+pub mod schedules
+pub mod worlds
+pub mod passes

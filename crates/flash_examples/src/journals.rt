@@ -8,7 +8,9 @@ use flash_nv::{FlashNv, MemFlash};
 use nv_journal::{Journal, JournalFault, StartRefused};
 
 /// A started journal has the records that the pages of the flash say.
-pub fn start_over_flash(nv: FlashNv<MemFlash>) -> Result<Journal<FlashNv<MemFlash>>, StartRefused<FlashNv<MemFlash>>>
+pub fn start_over_flash(
+    nv: FlashNv<MemFlash>,
+) -> Result<Journal<FlashNv<MemFlash>>, StartRefused<FlashNv<MemFlash>>>
     ensures { IfOk result (λ j. records (flash_content j.nv.flash.cells) ≡ records (flash_content nv.flash.cells)) }
 {
     Journal::start(nv)
@@ -16,7 +18,10 @@ pub fn start_over_flash(nv: FlashNv<MemFlash>) -> Result<Journal<FlashNv<MemFlas
 
 /// An append adds the record to those that the pages of the flash say, or is cut: then these are the old ones, or these and the
 /// new one.
-pub fn append_over_flash(journal: &mut Journal<FlashNv<MemFlash>>, body: &[u8]) -> Result<(), JournalFault>
+pub fn append_over_flash(
+    journal: &mut Journal<FlashNv<MemFlash>>,
+    body: &[u8],
+) -> Result<(), JournalFault>
     requires live { IsTrue journal.old.live }
     requires room { HasRoomForBody journal.old.state body.now }
     ensures records { OnOk result (records (flash_content journal.new.nv.flash.cells)

@@ -2,3 +2,4 @@ pub mod Examples
 pub mod MoreExamples
 pub mod Leading
 pub mod Filters
+pub mod legal

@@ -1,21 +1,2 @@
-pub mod Seeing
-pub mod Ages
-pub mod Books
-pub mod Fronts
-pub mod Stepping
-pub mod Noting
-pub mod Moments
-pub mod Running
-pub mod Chains
-pub mod Losing
-pub mod Disturbing
-pub mod Lasting
-pub mod Completing
-pub mod Quieting
-pub mod Delivering
-pub mod Hearing
-pub mod Sparing
-pub mod Settling
-pub mod Together
-pub mod Heard
-mod Examples
+pub mod messages
+pub mod entries

@@ -1,7 +1,2 @@
-pub mod Entries
-pub mod Filters
-pub mod Reading
-pub mod Sessions
-pub mod Order
-pub mod Quiet
-pub mod Settled
+pub mod messages
+pub mod entries

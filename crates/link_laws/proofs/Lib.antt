@@ -1,7 +1,3 @@
-pub mod Numbers
-pub mod Marks
-pub mod Flows
-pub mod Whole
-pub mod Joined
-pub mod Idle
-pub mod Delivered
+pub mod places
+pub mod sessions
+pub mod lifetimes

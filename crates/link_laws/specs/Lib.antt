@@ -1,2 +1,3 @@
-pub mod Wire
-pub mod Order
+pub mod places
+pub mod sessions
+pub mod lifetimes

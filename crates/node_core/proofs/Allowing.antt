@@ -24,7 +24,8 @@ use Rattle.node_machine.specs.Parts.{Creation, Notice, Port, Work, Deed}
 use Rattle.node_machine.specs.Parts.Deed.{Commits, Sends, SaysOk, Asks, Releases, Tells, IsAnswered, Drops, SetsErrors, Orders, Hears, GoesOn, Ends}
 use Rattle.node_machine.specs.Carrying.{port_at, changed_if, with_port, after_turn, finds_room, done}
 use Rattle.node_machine.specs.Controller.{asked_at, creation_in, commit_deeds, decision_deeds, link_deeds, gate_deeds, served_at, agreed, creation_deeds}
-use Rattle.node_machine.specs.Controller.{notice_deeds, response_at, relayed_to, unrelayed, event_deeds, unless_asking, if_notice, kind_deeds, own_deeds, relay_deeds}
+use Rattle.node_machine.specs.Controller.{notice_deeds, response_at, relayed_to, unrelayed, event_deeds, unless_asking, if_notice, kind_deeds}
+use Rattle.node_machine.specs.Controller.{own_deeds, relay_deeds}
 use Rattle.node_machine.specs.Controller.{deeds_by_relay, controller_deeds, has_link, own_gate, view_for, goes_through, is_command_message, answers_on}
 use Rattle.node_deeds.proofs.Ports.{find-map}
 use Rattle.node_ends.specs.Ends.{HasAside}

@@ -19,7 +19,8 @@ use Rattle.hci_store.specs.Committing.{record_fits, commit_writes, committed}
 use Rattle.link_machine.specs.Machine.{Message, Refused, give_refusal}
 use Rattle.link_machine.specs.Machine.Turn.{Give}
 use Rattle.node_machine.specs.Parts.{Core, Port, Work}
-use Rattle.node_machine.specs.Carrying.{port_at, noted_of, end_of_node, with_port, after_turn, turn_at, commit, keeps, loses_power, noting, has_room_for, plan_behind}
+use Rattle.node_machine.specs.Carrying.{port_at, noted_of, end_of_node, with_port, after_turn, turn_at, commit, keeps, loses_power, noting}
+use Rattle.node_machine.specs.Carrying.{has_room_for, plan_behind}
 use Rattle.trace_model.specs.declared.line.End.{End}
 use Rattle.node_ends.specs.declared.ends.Ends.{Ends}
 use Rattle.node_ends.specs.Ends.{takes_at, EndsStandFor}

@@ -5,14 +5,14 @@ use Rattle.std.specs.Prelude.{Option, Some, None, Result, Ok, Err, is_some, opti
 use Rattle.std.specs.Option.{option_map_or}
 use Rattle.std.proofs.lemmas.Bool.{le-leb, ne_eqb}
 use Rattle.std.proofs.lemmas.List.{map-append}
-use Rattle.session_laws.specs.Sessions.{is_up}
+use Rattle.link_laws.specs.sessions.Sessions.{is_up}
 use Rattle.hcp_packet.specs.declared.MessageKind.{MessageKind}
 use Rattle.hcp_packet.specs.declared.MessageKind.TheVariants.{Command as IsCommand, Event as IsEvent, Response as IsResponse}
 use Rattle.hcp_packet.specs.declared.MessageFault.{MessageFault}
 use Rattle.hcp_packet.specs.MessageHeader.{header_of}
 use Rattle.journal_laws.specs.declared.state.State.{State}
 use Rattle.history.specs.Steps.{end_of}
-use Rattle.link_entries.specs.Entries.End.{Controller, Host}
+use Rattle.link_entries.specs.entries.Entries.End.{Controller, Host}
 use Rattle.trace_model.specs.declared.entry.Entry.TheVariants.{InitSame, InitMade}
 use Rattle.pipe_table.specs.declared.row.PipeRow.{PipeRow}
 use Rattle.pipe_table.specs.PipeRows.{pipe_at}

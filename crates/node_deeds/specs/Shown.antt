@@ -1,14 +1,14 @@
 -- What the values that a node's code keeps stand for.
 use Rattle.std.specs.Prelude.{◌≡◌, ℕ, ◌==◌, Bool, false, if◌then◌else◌, List, [], ◌∷◌, ◌++◌, map, option_map, Option, Some, None}
 use Rattle.std.specs.Option.{option_map_or}
-use Rattle.session_laws.specs.Sessions.{is_up}
+use Rattle.link_laws.specs.sessions.Sessions.{is_up}
 use Rattle.shdlc_core.specs.declared.answers.LinkState.TheVariants.{Down, Up}
 use Rattle.shdlc_core.specs.Machine.{new_end}
 use Rattle.trace_model.specs.declared.entry.Entry.{Entry}
 use Rattle.trace_model.specs.declared.entry.Entry.TheVariants.{InitSame, InitMade, InitFailed}
 use Rattle.trace_model.specs.declared.line.End.{End}
 use Rattle.history.specs.Steps.{end_of}
-use Rattle.link_entries.specs.Entries.End.{Host}
+use Rattle.link_entries.specs.entries.Entries.End.{Host}
 use Rattle.pipe_table.specs.declared.row.PipeRow.{PipeRow}
 use Rattle.hci_tables.specs.declared.command.Command.TheVariants.{Create}
 use Rattle.gate_answers.specs.declared.response.Response.TheVariants as response

@@ -1,5 +1,6 @@
 -- What is kept of the ends of a node, and for which ports of its machine it stands.
-use Rattle.std.specs.Prelude.{◌≡◌, ◌≢◌, ℕ, suc, ◌+◌, ◌*◌, ◌==◌, Bool, false, if◌then◌else◌, List, [], ◌∷◌, length, take, ◌≤◌, ◌<◌, is_none, Option, Some, None, option_map}
+use Rattle.std.specs.Prelude.{◌≡◌, ◌≢◌, ℕ, suc, ◌+◌, ◌*◌, ◌==◌, Bool, false, if◌then◌else◌, List, [], ◌∷◌, length, take, ◌≤◌, ◌<◌, is_none, Option}
+use Rattle.std.specs.Prelude.{Some, None, option_map}
 use Rattle.std.specs.List.{AllByRecursion}
 use Rattle.std.specs.Option.{option_map_or}
 use Rattle.block_pool.specs.Pool.{PoolState}

@@ -34,7 +34,7 @@ impl Seat {
     ghost use Rattle.link_machine.specs.Machine.{LinkEnd as Machine, turn, give_refusal, after_input, lpdu_input, report};
     ghost use Rattle.swp_lpdu.specs.Controls.{control_of};
     ghost use Rattle.link_end.specs.Reports.{report_told};
-    ghost use Rattle.session_laws.specs.Sessions.{is_up};
+    ghost use Rattle.link_laws.specs.sessions.Sessions.{is_up};
     ghost use Rattle.link_machine.specs.Machine.Turn.{Give, Hold, SetAside, Release, FetchMessage};
     ghost use Rattle.link_end.specs.Ends.{EndStandsFor, Accounts, controls_in};
     ghost use Rattle.node_ends.specs.Holding.{HoldsSeat, Moves, WaitsHeld};

@@ -7,9 +7,9 @@ use Rattle.trace_model.specs.declared.entry.Entry.TheVariants as entry
 use Rattle.trace_model.specs.declared.line.Line.{Line}
 use Rattle.trace_model.specs.declared.line.Line.TheVariants as line
 use Rattle.hci_tables.specs.declared.command.Command.TheVariants as command
-use Rattle.node_world.specs.World.{new_world, end_c, end_h}
-use Rattle.node_world.specs.Lines.{noted_lines}
-use Rattle.node_world.specs.Lines.NotedBelow.{Entries, TablesOf}
+use Rattle.node_machine.specs.world.World.{new_world, end_c, end_h}
+use Rattle.node_machine.specs.world.Lines.{noted_lines}
+use Rattle.node_machine.specs.world.Lines.NotedBelow.{Entries, TablesOf}
 use Rattle.journal_laws.specs.Records.{found_from}
 use Rattle.gate_admin.specs.View.{hosts_where}
 use Rattle.pipe_table.specs.PipeRows.{lowest_free}

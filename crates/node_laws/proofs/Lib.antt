@@ -1,8 +1,4 @@
-pub mod Deeds
-pub mod Masks
-pub mod Whitelists
-pub mod Values
-pub mod Waits
-pub mod Ports
-pub mod Walks
-pub mod StepWalks
+pub mod steps
+pub mod kept
+pub mod telling
+pub mod cuts

@@ -1,2 +1,4 @@
-pub mod Creations
-pub mod Waiting
+pub mod steps
+pub mod kept
+pub mod telling
+pub mod cuts

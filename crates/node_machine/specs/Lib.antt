@@ -4,3 +4,4 @@ pub mod Controller
 pub mod HostReplies
 pub mod Turns
 pub mod Node
+pub mod world

@@ -15,7 +15,7 @@ use Rattle.gate_answers.specs.declared.response.Response.TheVariants as response
 use Rattle.gate_answers.specs.Answers.{answer_of}
 use Rattle.link_machine.specs.Machine.{LinkInput, after_input, ended_by, report, whole_acked}
 use Rattle.link_machine.specs.Machine.LinkInput.{Tick, Reset}
-use Rattle.link_entries.specs.Entries.{told}
+use Rattle.link_entries.specs.entries.Entries.{told}
 use Rattle.history.specs.Steps.{entries_for}
 use Rattle.node_machine.specs.Parts.{Creation, Notice, Desk, Core, Running, Port, Work, Deed}
 use Rattle.node_machine.specs.Parts.About.{Forgotten}

@@ -1,3 +1,6 @@
-pub mod Told
-pub mod Resets
-pub mod Legal
+pub mod links
+pub mod passes
+pub mod power
+pub mod readings
+pub mod turns
+pub mod order

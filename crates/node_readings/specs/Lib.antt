@@ -1,3 +1,4 @@
-pub mod Orders
-pub mod Worlds
-pub mod Noticed
+pub mod notices
+pub mod creations
+pub mod rooms
+pub mod views

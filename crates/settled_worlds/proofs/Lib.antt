@@ -1,5 +1,2 @@
-pub mod WorldRest
-pub mod LinkEvents
-pub mod Endings
-pub mod RoundEvents
-pub mod WorldLaw
+pub mod links
+pub mod worlds

@@ -1,3 +1,2 @@
-pub mod WorldRest
-pub mod LinkEvents
-pub mod RoundEvents
+pub mod links
+pub mod worlds

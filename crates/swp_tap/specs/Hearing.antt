@@ -7,9 +7,9 @@ use Rattle.swp_lpdu.specs.declared.LpduFault.{LpduFault}
 use Rattle.swp_lpdu.specs.Controls.{control_of}
 use Rattle.tap_reading.specs.Tap.{TapReport, new_tap, tap_after}
 use Rattle.tap_reading.specs.Lpdus.{frames_read}
-use Rattle.tap_keeping.specs.Keeping.{KeptSide, KeptTap, new_kept_tap, kept_tells_more, kept_news, first_packet, kept_in_session, kept_after_frame}
-use Rattle.tap_keeping.specs.Keeping.{kept_reports}
-use Rattle.tap_keeping.specs.Keeping.{StandsForTap}
+use Rattle.tap_reading.specs.keeping.Keeping.{KeptSide, KeptTap, new_kept_tap, kept_tells_more, kept_news, first_packet, kept_in_session, kept_after_frame}
+use Rattle.tap_reading.specs.keeping.Keeping.{kept_reports}
+use Rattle.tap_reading.specs.keeping.Keeping.{StandsForTap}
 use Rattle.swp_tap.specs.declared.tap.TapMessage.{TapMessage}
 
 -- a tap: whether its link is bare, what it keeps, and how many frames it has taken

@@ -21,7 +21,7 @@ pub struct Side {
 
 impl Model for Side {
     ghost use Rattle.std.specs.Prelude.{◌<◌};
-    ghost use Rattle.tap_keeping.specs.Keeping.{KeptSide};
+    ghost use Rattle.tap_reading.specs.keeping.Keeping.{KeptSide};
 
     ghost Value = { KeptSide };
 
@@ -43,7 +43,7 @@ impl Side {
     ghost use Rattle.std.specs.Prelude.{◌≡◌, ◌==◌, ◌+◌, ◌%◌, ◌<◌, ◌≤◌, ◌∷◌, drop, length, nat_lt, IfOk, Some};
     ghost use Rattle.swp_base.specs.DataUnits.{IsInfo};
     ghost use Rattle.hcp_packet.specs.Packets.{packet_of};
-    ghost use Rattle.tap_keeping.specs.Keeping.{new_kept_side, kept_renumbered, kept_listed, kept_added, kept_tells_more, kept_joined, kept_news};
+    ghost use Rattle.tap_reading.specs.keeping.Keeping.{new_kept_side, kept_renumbered, kept_listed, kept_added, kept_tells_more, kept_joined, kept_news};
     ghost use Rattle.swp_tap.specs.Coming.{news_in};
 
     /// Nothing was heard of it yet.

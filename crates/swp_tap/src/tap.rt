@@ -1,6 +1,6 @@
 //! The tap.
 ghost use Rattle.std.specs.Prelude.{◌≡◌, ◌<◌, ◌+◌, Bool};
-ghost use Rattle.tap_keeping.specs.Keeping.{kept_hears, kept_numbered};
+ghost use Rattle.tap_reading.specs.keeping.Keeping.{kept_hears, kept_numbered};
 ghost use Rattle.swp_tap.specs.Coming.{news_in};
 ghost use Rattle.swp_tap.specs.Hearing.{kept_pair, news_at, news_by, rsets_with};
 

@@ -3,7 +3,7 @@ use Rattle.std.proofs.Common.{◌≡◌, ℕ, ◌+◌, ◌<◌, List, [], ◌∷
 use Rattle.std.specs.Prelude.{Option, Some, None, Ok, IsSome}
 use Rattle.trace_model.specs.declared.line.Header.{Header}
 use Rattle.trace_model.specs.declared.line.Line.{Line}
-use Rattle.message_link.specs.Links.{Link}
+use Rattle.link_entries.specs.messages.Links.{Link}
 use Rattle.history.specs.Histories.{History}
 use Rattle.history.specs.Follows.{link_at, misread, opened}
 use Rattle.history.proofs.Leading.{lines_lead}

@@ -1,8 +1,3 @@
-pub mod Wires
-pub mod Sides
-pub mod Frames
-pub mod Turning
-pub mod Going
-pub mod Taking
-pub mod Events
-pub mod Runs
+pub mod fragments
+pub mod entries
+pub mod histories

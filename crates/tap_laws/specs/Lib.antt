@@ -1,2 +1,3 @@
-pub mod Emitted
-pub mod Knowing
+pub mod fragments
+pub mod entries
+pub mod histories

@@ -1,2 +1,3 @@
 pub mod Tap
 pub mod Lpdus
+pub mod keeping

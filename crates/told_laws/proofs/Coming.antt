@@ -13,7 +13,7 @@ use Rattle.trace_model.specs.Ends.{other_end}
 use Rattle.trace_model.specs.Lines.{IsHeader, IsLineOf}
 use Rattle.hcp_packet.specs.Packets.{IsFrontOf, good_of, is_good}
 use Rattle.link_machine.specs.Machine.{Message}
-use Rattle.link_entries.proofs.Lasting.{same_number}
+use Rattle.link_entries.proofs.entries.Lasting.{same_number}
 use Rattle.history.specs.Histories.{Event, Outcome, Step, History, noted, events_of, entries_of, all_events, all_entries}
 use Rattle.history.specs.Histories.Outcome.{Refused, Caused}
 use Rattle.history.specs.Filters.{Saying, same_end, said, at_end, said_of, sent_by, sent_in, got_in_session, got_in}
@@ -21,8 +21,8 @@ use Rattle.history.specs.Filters.Saying.{Sends}
 use Rattle.history.specs.Steps.{bare_link}
 use Rattle.history.specs.Follows.{Follows, host_of}
 use Rattle.history.specs.Legal.{IsInOrder}
-use Rattle.history_laws.proofs.Ordered.{in_order}
-use Rattle.history_laws.proofs.Runs.{events_in}
+use Rattle.history.proofs.legal.Ordered.{in_order}
+use Rattle.history.proofs.legal.Runs.{events_in}
 use Rattle.swp_base.specs.Bits.{IsByte}
 use Rattle.text_laws.specs.Ranges.{AreOctets, IsEntry}
 use Rattle.told_laws.specs.Told.{step_told, entries_told}

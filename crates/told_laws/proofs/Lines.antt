@@ -25,13 +25,13 @@ use Rattle.trace_model.specs.declared.line.Header.{Header}
 use Rattle.trace_model.specs.declared.line.Line.{Line}
 use Rattle.trace_model.specs.declared.line.Line.TheVariants as line
 use Rattle.trace_model.specs.Lines.{IsHeader, IsLineOf}
-use Rattle.session_laws.specs.Sessions.{OnWire}
+use Rattle.link_laws.specs.sessions.Sessions.{OnWire}
 use Rattle.link_machine.specs.Machine.{LinkEnd, Message, give_refusal, reset_refusal, is_open, need, spare}
 use Rattle.link_machine.specs.Machine.Refused.{TooLong, Full, Inactive, IsWaiting}
-use Rattle.message_link.specs.Links.{Link}
-use Rattle.link_entries.specs.Entries.{End as Side, Entry as Noted, event_entries}
-use Rattle.link_entries.specs.Entries.End.{Controller, Host}
-use Rattle.link_entries.specs.Entries.Entry.{Up as Begins, Down as Ends, Active, GaveUp, Acked, Got, Sent, Emit, Took, Lost, Tick, Restarted, Cut}
+use Rattle.link_entries.specs.messages.Links.{Link}
+use Rattle.link_entries.specs.entries.Entries.{End as Side, Entry as Noted, event_entries}
+use Rattle.link_entries.specs.entries.Entries.End.{Controller, Host}
+use Rattle.link_entries.specs.entries.Entries.Entry.{Up as Begins, Down as Ends, Active, GaveUp, Acked, Got, Sent, Emit, Took, Lost, Tick, Restarted, Cut}
 use Rattle.history.specs.Histories.{Cause, Event, Outcome, Step, noted, entries_of, causes_of}
 use Rattle.history.specs.Histories.Cause.{Taken, Ticked}
 use Rattle.history.specs.Histories.Outcome.{Refused as LineRefused, Caused}

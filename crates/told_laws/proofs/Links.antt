@@ -12,7 +12,7 @@ use Rattle.shdlc_core.specs.declared.answers.LinkState.TheVariants.{Down, Waitin
 use Rattle.shdlc_core.specs.Machine.{EndState, taken, take_answer, ticked, tick_answer, reset_with, stopped, all_frames}
 use Rattle.hcp_packet.specs.Packets.{packets_of, parts_of, packet_count, packet_bytes}
 use Rattle.trace_model.specs.declared.line.End.{End}
-use Rattle.session_laws.specs.Sessions.{OnWire, is_rset, fits, aged_wire, took_with}
+use Rattle.link_laws.specs.sessions.Sessions.{OnWire, is_rset, fits, aged_wire, took_with}
 use Rattle.link_machine.specs.Machine.{LinkEnd, LinkInput, Refused, Message, after_input, turn, moved, put_down, activated, heard, took, is_open, is_faulty}
 use Rattle.link_machine.specs.Machine.{news, if_up, reset_by, reset_refusal, ended_by, window_of, give_refusal, given, unless, among, frames_out, sent_all}
 use Rattle.link_machine.specs.Machine.{had_tick, in_front}
@@ -21,11 +21,11 @@ use Rattle.link_machine.specs.Machine.LinkInput.{Take, Tick, Reset}
 use Rattle.link_machine.specs.Machine.Turn.{Give, Hold, FetchMessage}
 use Rattle.swp_base.specs.declared.link_terms.Cause.TheVariants.{Asked}
 use Rattle.swp_act.specs.declared.ActEvent.TheVariants.{Tick as ActTick}
-use Rattle.message_link.specs.Links.{NumberedEnd, Link, EndEvent, Loss, put, put_all, becomes, with_ended, has_input, happens_at_controller}
-use Rattle.message_link.specs.Links.{ticks_at_controller, aged, exchanged, happens}
-use Rattle.message_link.specs.Links.Ending.{GoesOut}
-use Rattle.message_link.specs.Links.Comes.{NextFrame, AsksReset, NoInput}
-use Rattle.message_link.specs.Links.EndEvent.{Step, Lose}
+use Rattle.link_entries.specs.messages.Links.{NumberedEnd, Link, EndEvent, Loss, put, put_all, becomes, with_ended, has_input, happens_at_controller}
+use Rattle.link_entries.specs.messages.Links.{ticks_at_controller, aged, exchanged, happens}
+use Rattle.link_entries.specs.messages.Links.Ending.{GoesOut}
+use Rattle.link_entries.specs.messages.Links.Comes.{NextFrame, AsksReset, NoInput}
+use Rattle.link_entries.specs.messages.Links.EndEvent.{Step, Lose}
 use Rattle.history.specs.Histories.{Cause}
 use Rattle.history.specs.Histories.Cause.{Given, Taken, WasLost, Ticked, WasReset, Readied}
 use Rattle.history.specs.Steps.{at, bare_link, link_after}

@@ -6,22 +6,22 @@ use Rattle.block_pool.proofs.HoldingLemmas.{all_mapped}
 use Rattle.swp_base.specs.declared.control_frames.Control.{Control}
 use Rattle.shdlc_core.specs.Machine.{tick_answer}
 use Rattle.trace_model.specs.declared.line.End.{End as NamedEnd}
-use Rattle.session_laws.specs.Sessions.{OnWire, took_with}
+use Rattle.link_laws.specs.sessions.Sessions.{OnWire, took_with}
 use Rattle.link_machine.specs.Machine.{LinkEnd, Refused, LinkInput, Report, report, whole_acked, turn, give_refusal, after_input, ended_by, frames_out}
 use Rattle.link_machine.specs.Machine.{gave_up_by, act_answer, Message}
 use Rattle.link_machine.specs.Machine.LinkInput.{Take, Tick as HasTick, Reset}
 use Rattle.link_machine.specs.Machine.Turn.{Give, Hold, FetchMessage}
 use Rattle.link_machine.proofs.Sound.{whole_few}
 use Rattle.swp_act.specs.declared.ActEvent.TheVariants.{Tick as ActTick}
-use Rattle.message_link.specs.Links.{NumberedEnd, Link, Loss, EndEvent, exchanged, number_of, put, with_ended, ticks_at_controller, aged}
-use Rattle.message_link.specs.Links.Ending.{GoesOut}
-use Rattle.message_link.specs.Links.Comes.{NextFrame, AsksReset, NoInput}
-use Rattle.message_link.specs.Links.EndEvent.{Lose}
-use Rattle.message_link.specs.Links.Loss.{TooMany}
-use Rattle.link_entries.specs.Entries.{End, Entry, far, if_so, told, told_of, turn_entry, turn_entries, sent_unless, first_lost, wire_with, put_entries}
-use Rattle.link_entries.specs.Entries.{puts_entries, rest_entries, taken_entries, step_entries, here_entries, aged_entries, tick_entries, event_entries}
-use Rattle.link_entries.specs.Entries.End.{Controller, Host}
-use Rattle.link_entries.specs.Entries.Entry.{Up, Down, Active, GaveUp, Acked, Got, Sent, Emit, Took, Lost, Tick, Restarted, Cut}
+use Rattle.link_entries.specs.messages.Links.{NumberedEnd, Link, Loss, EndEvent, exchanged, number_of, put, with_ended, ticks_at_controller, aged}
+use Rattle.link_entries.specs.messages.Links.Ending.{GoesOut}
+use Rattle.link_entries.specs.messages.Links.Comes.{NextFrame, AsksReset, NoInput}
+use Rattle.link_entries.specs.messages.Links.EndEvent.{Lose}
+use Rattle.link_entries.specs.messages.Links.Loss.{TooMany}
+use Rattle.link_entries.specs.entries.Entries.{End, Entry, far, if_so, told, told_of, turn_entry, turn_entries, sent_unless, first_lost, wire_with, put_entries}
+use Rattle.link_entries.specs.entries.Entries.{puts_entries, rest_entries, taken_entries, step_entries, here_entries, aged_entries, tick_entries, event_entries}
+use Rattle.link_entries.specs.entries.Entries.End.{Controller, Host}
+use Rattle.link_entries.specs.entries.Entries.Entry.{Up, Down, Active, GaveUp, Acked, Got, Sent, Emit, Took, Lost, Tick, Restarted, Cut}
 use Rattle.history.specs.Histories.{Cause}
 use Rattle.history.specs.Histories.Cause.{Given, Taken, WasLost, Ticked, WasReset, Readied}
 use Rattle.history.specs.Steps.{at, idle, event_of}

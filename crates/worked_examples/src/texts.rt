@@ -157,8 +157,20 @@ fn faults_below_a_header_of_nodes(rt: HostRuntime) {
     are_refused(&rt, alloc, true, LineFault::Word, "init 02c 01\nboot");
     are_refused(&rt, alloc, true, number(3), "arm 03 1001 5A");
     are_refused(&rt, alloc, true, third, "activate 00 1A2 02");
-    are_refused(&rt, alloc, true, LineFault::Host { id: 0 }, "activate 00 1A2B 01");
-    are_refused(&rt, alloc, true, LineFault::Host { id: 3 }, "cut 03\narm 03 1 5A");
+    are_refused(
+        &rt,
+        alloc,
+        true,
+        LineFault::Host { id: 0 },
+        "activate 00 1A2B 01",
+    );
+    are_refused(
+        &rt,
+        alloc,
+        true,
+        LineFault::Host { id: 3 },
+        "cut 03\narm 03 1 5A",
+    );
 }
 
 #[test]

@@ -34,8 +34,8 @@ use Rattle.link_end.specs.declared.report.LinkReport.{LinkReport}
 use Rattle.link_end.specs.Ends.{EndStandsFor, Accounts, EndLeavesOthers}
 use Rattle.link_end.specs.Reports.{report_told as told_of, nothing_told, reset_told, reset_refused}
 use Rattle.link_end.proofs.AccountLemmas.{account_kept, account_moved, given_own}
-use Rattle.link_entries.specs.Entries.{told}
-use Rattle.link_entries.specs.Entries.Entry.{Got}
+use Rattle.link_entries.specs.entries.Entries.{told}
+use Rattle.link_entries.specs.entries.Entries.Entry.{Got}
 use Rattle.history.specs.Steps.{entries_for}
 use Rattle.world.specs.declared.node.Node.{Node}
 use Rattle.world.specs.declared.node.Place.{Place}
@@ -44,7 +44,7 @@ use Rattle.world.specs.Nodes.{Reached, CanFetch, HasInput, NodeStandsFor}
 use Rattle.world.specs.Sides.{AreNoted}
 use Rattle.world.proofs.Noting.{end_is, told_at, acked_told}
 use Rattle.link_machine.proofs.Kept.{took_got, moved_got, activated_got}
-use Rattle.link_entries.proofs.Stepping.{one_fetched_acked}
+use Rattle.link_entries.proofs.entries.Stepping.{one_fetched_acked}
 
 pub is_sound : (m : LinkEnd) → Reached m → Sound m
 is_sound m r = let P : LinkEnd → Type 0 = λ e. Sound e in subst P (sym r.is) (sound Bare r.inputs r.sendable)

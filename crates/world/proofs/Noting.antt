@@ -15,8 +15,8 @@ use Rattle.link_machine.proofs.Sound.{SentAfter, whole_more, whole_few}
 use Rattle.link_machine.proofs.Runs.{Sound}
 use Rattle.link_machine.proofs.Reports.{Reports}
 use Rattle.link_end.specs.Reports.{report_told as told_of}
-use Rattle.link_entries.specs.Entries.{End as Which, Entry as Noted, told, if_so}
-use Rattle.link_entries.specs.Entries.Entry.{Up, Down, Active, GaveUp, Acked, Got}
+use Rattle.link_entries.specs.entries.Entries.{End as Which, Entry as Noted, told, if_so}
+use Rattle.link_entries.specs.entries.Entries.Entry.{Up, Down, Active, GaveUp, Acked, Got}
 use Rattle.history.specs.Steps.{end_of, entry_of, entries_for}
 use Rattle.world.specs.Noting.{side_of, acked_on, reported}
 use Rattle.world.specs.Sides.{AreNoted}

@@ -6,10 +6,10 @@ use Rattle.trace_model.specs.declared.entry.Entry.{Entry}
 use Rattle.trace_model.specs.declared.line.End.{End}
 use Rattle.trace_model.specs.Ends.{other_end}
 use Rattle.trace_model.specs.declared.line.Line.{Line}
-use Rattle.message_link.specs.Links.{Link, EndEvent, happens, aged, ticks_at_controller, exchanged}
-use Rattle.message_link.specs.Links.Ending.{GoesOut}
-use Rattle.link_entries.specs.Entries.{End as Which, Entry as Noted, event_entries, aged_entries, tick_entries}
-use Rattle.link_entries.specs.Entries.End.{Controller, Host}
+use Rattle.link_entries.specs.messages.Links.{Link, EndEvent, happens, aged, ticks_at_controller, exchanged}
+use Rattle.link_entries.specs.messages.Links.Ending.{GoesOut}
+use Rattle.link_entries.specs.entries.Entries.{End as Which, Entry as Noted, event_entries, aged_entries, tick_entries}
+use Rattle.link_entries.specs.entries.Entries.End.{Controller, Host}
 use Rattle.history.specs.Histories.{Cause, entries_of}
 use Rattle.history.specs.Histories.Cause.{Ticked}
 use Rattle.history.specs.Histories.Outcome.{Caused}
@@ -22,7 +22,7 @@ use Rattle.world.specs.Wires.{WireStandsFor, kept_of}
 use Rattle.world.specs.Lines.{SidesStandFor, HasCaused, HaveSent, Does}
 use Rattle.world.specs.declared.wire.Flying.{Flying}
 use Rattle.circular_buffer.specs.Buffer.{Buffer}
-use Rattle.session_laws.specs.Sessions.{OnWire}
+use Rattle.link_laws.specs.sessions.Sessions.{OnWire}
 use Rattle.std.proofs.lemmas.List.{length-map}
 use Rattle.world.proofs.LineLemmas.{seen_happens, seen_noted, caused, does}
 use Rattle.world.proofs.Given.{causes_of-events}

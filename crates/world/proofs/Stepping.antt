@@ -9,12 +9,12 @@ use Rattle.trace_model.specs.declared.entry.Entry.TheVariants as entry
 use Rattle.trace_model.specs.declared.entry.LostCause.{LostCause}
 use Rattle.trace_model.specs.declared.line.End.{End}
 use Rattle.trace_model.specs.Ends.{other_end}
-use Rattle.session_laws.specs.Sessions.{OnWire, is_rset, fits}
+use Rattle.link_laws.specs.sessions.Sessions.{OnWire, is_rset, fits}
 use Rattle.link_machine.specs.Machine.{LinkEnd}
-use Rattle.message_link.specs.Links.{Link, Loss, put}
-use Rattle.message_link.specs.Links.EndEvent.{Lose}
-use Rattle.link_entries.specs.Entries.Entry.{Emit as NotedEmit, Lost as NotedLost}
-use Rattle.link_entries.specs.Entries.{End as Which, far as far_side, put_entries, pushed_out, wire_with, first_lost, here_entries}
+use Rattle.link_entries.specs.messages.Links.{Link, Loss, put}
+use Rattle.link_entries.specs.messages.Links.EndEvent.{Lose}
+use Rattle.link_entries.specs.entries.Entries.Entry.{Emit as NotedEmit, Lost as NotedLost}
+use Rattle.link_entries.specs.entries.Entries.{End as Which, far as far_side, put_entries, pushed_out, wire_with, first_lost, here_entries}
 use Rattle.history.specs.Steps.{entries_for, lost_as}
 use Rattle.world.specs.declared.wire.Flying.{Flying}
 use Rattle.world.specs.declared.side.Side.{Side}

@@ -12,14 +12,14 @@ use Rattle.trace_model.specs.declared.line.Line.TheVariants.{Settle}
 use Rattle.trace_model.specs.Lines.{IsHeader, IsLineOf}
 use Rattle.link_machine.specs.Machine.{new_link_end}
 use Rattle.link_machine.specs.Machine.Role.{Bare}
-use Rattle.message_link.specs.Links.{Link, new_numbered_end}
-use Rattle.link_entries.specs.Entries.End.{Controller}
+use Rattle.link_entries.specs.messages.Links.{Link, new_numbered_end}
+use Rattle.link_entries.specs.entries.Entries.End.{Controller}
 use Rattle.history.specs.Histories.{Outcome, Step, History, events_of, causes_of, all_events, all_entries, noted}
 use Rattle.history.specs.Steps.{end_of, bare_link, link_after_all}
 use Rattle.history.specs.Follows.{Follows, StepsFollow, host_of, link_at, link_after_line, outcome_of, misread, opened, with_step}
 use Rattle.history.proofs.Leading.{events_in, after_events}
 use Rattle.history.specs.Legal.{Legal, Complete, Prefix, Settled, is_chain_fault}
-use Rattle.history_laws.proofs.Asked.{only_one}
+use Rattle.history.proofs.legal.Asked.{only_one}
 use Rattle.world.specs.declared.side.Side.{Side}
 use Rattle.world.specs.declared.damage_line.Misread.{Misread}
 use Rattle.world.specs.declared.world_steps.World.{World}

@@ -1,12 +1,12 @@
 -- What a line does on a link, seen from the end that it speaks of.
 use Rattle.std.specs.Prelude.{◌≡◌, ℕ, ◌≤◌, List, [], ◌∷◌, ◌++◌, length, Option, Some, None}
 use Rattle.swp_lpdu.specs.Controls.{lpdu_of}
-use Rattle.session_laws.specs.Sessions.{OnWire}
+use Rattle.link_laws.specs.sessions.Sessions.{OnWire}
 use Rattle.trace_model.specs.declared.entry.Entry.{Entry}
 use Rattle.trace_model.specs.declared.line.End.{End}
 use Rattle.trace_model.specs.declared.line.Line.{Line}
 use Rattle.trace_model.specs.declared.line.Line.TheVariants as line
-use Rattle.message_link.specs.Links.{Link, Loss}
+use Rattle.link_entries.specs.messages.Links.{Link, Loss}
 use Rattle.history.specs.Histories.{Cause, noted}
 use Rattle.history.specs.Damage.Verdict.{Same as ReadSame, LostFor, Undetected as ReadOther}
 use Rattle.history.specs.Steps.{lost_as, link_after, event_at}

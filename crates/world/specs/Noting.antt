@@ -3,8 +3,8 @@ use Rattle.std.specs.Prelude.{ℕ, ◌+◌, min, nat_lt, if◌then◌else◌, Li
 use Rattle.trace_model.specs.declared.entry.Entry.{Entry}
 use Rattle.trace_model.specs.declared.entry.Entry.TheVariants as entry
 use Rattle.trace_model.specs.declared.line.End.{End}
-use Rattle.link_entries.specs.Entries.{End as Which, if_so}
-use Rattle.link_entries.specs.Entries.End.{Controller, Host}
+use Rattle.link_entries.specs.entries.Entries.{End as Which, if_so}
+use Rattle.link_entries.specs.entries.Entries.End.{Controller, Host}
 use Rattle.link_end.specs.declared.report.LinkReport.{LinkReport}
 
 -- which of the two ends of its link an end is

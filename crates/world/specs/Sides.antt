@@ -2,10 +2,10 @@
 use Rattle.std.specs.Prelude.{◌≡◌, ℕ, ◌≤◌, List, [], ◌++◌, length}
 use Rattle.trace_model.specs.declared.entry.Entry.{Entry}
 use Rattle.trace_model.specs.declared.line.End.{End}
-use Rattle.session_laws.specs.Sessions.{OnWire}
+use Rattle.link_laws.specs.sessions.Sessions.{OnWire}
 use Rattle.link_machine.specs.Machine.{LinkEnd as Machine}
-use Rattle.message_link.specs.Links.{NumberedEnd, Link, EndEvent, happens_at_controller}
-use Rattle.link_entries.specs.Entries.{Entry as Noted, here_entries}
+use Rattle.link_entries.specs.messages.Links.{NumberedEnd, Link, EndEvent, happens_at_controller}
+use Rattle.link_entries.specs.entries.Entries.{Entry as Noted, here_entries}
 use Rattle.history.specs.Steps.{entries_for}
 use Rattle.world.specs.declared.side.Side.{Side}
 use Rattle.world.specs.Noting.{side_of}

@@ -3,7 +3,7 @@ use Rattle.std.specs.Prelude.{◌≡◌, ◌≤◌, false, List, length, map, Ok
 use Rattle.std.specs.List.{AllByRecursion}
 use Rattle.circular_buffer.specs.Buffer.{Buffer}
 use Rattle.swp_lpdu.specs.Controls.{lpdu_of, control_of}
-use Rattle.session_laws.specs.Sessions.{OnWire, is_rset}
+use Rattle.link_laws.specs.sessions.Sessions.{OnWire, is_rset}
 use Rattle.world.specs.declared.wire.Flying.{Flying}
 
 -- a frame on its way, as it is kept

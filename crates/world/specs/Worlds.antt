@@ -5,7 +5,7 @@ use Rattle.trace_model.specs.declared.entry.Entry.{Entry}
 use Rattle.trace_model.specs.declared.line.Header.{Header}
 use Rattle.trace_model.specs.declared.line.Line.{Line}
 use Rattle.trace_model.specs.Lines.{IsHeader, IsLineOf}
-use Rattle.message_link.specs.Links.{Link}
+use Rattle.link_entries.specs.messages.Links.{Link}
 use Rattle.history.specs.Histories.{History}
 use Rattle.history.specs.Follows.{Follows, link_at, misread}
 use Rattle.history.specs.Legal.{Legal}

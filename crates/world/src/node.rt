@@ -1,7 +1,7 @@
 //! The node of a bare end: the end, the blocks of memory of its messages, and what is noted of the end.
 ghost use Rattle.std.specs.Prelude.{◌≡◌, ◌++◌, OnOk, IfOk, map, option_to_list};
 ghost use Rattle.trace_model.specs.declared.entry.Entry.{Entry};
-ghost use Rattle.link_entries.specs.Entries.{if_so};
+ghost use Rattle.link_entries.specs.entries.Entries.{if_so};
 ghost use Rattle.block_pool.specs.Pool.{PoolState, IsLive, chain_bytes};
 
 use block_pool::{Chain, Pool};
@@ -45,8 +45,8 @@ impl Node {
     ghost use Rattle.link_machine.specs.Machine.{reset_refusal, whole_acked};
     ghost use Rattle.link_machine.specs.Machine.LinkInput.{Take, Tick, Reset, Fetch};
     ghost use Rattle.link_machine.specs.Machine.Turn.{Give, Hold, FetchMessage};
-    ghost use Rattle.link_entries.specs.Entries.{told};
-    ghost use Rattle.link_entries.specs.Entries.Entry.{Got};
+    ghost use Rattle.link_entries.specs.entries.Entries.{told};
+    ghost use Rattle.link_entries.specs.entries.Entries.Entry.{Got};
     ghost use Rattle.history.specs.Follows.{as_noted};
     ghost use Rattle.world.specs.Noting.{acked_on, reported, side_of};
     ghost use Rattle.world.specs.Nodes.{NodeStandsFor, HasInput, CanFetch, HasFewDue};

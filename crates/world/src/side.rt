@@ -1,7 +1,7 @@
 //! One side of a link: the node of an end, the frames on the way to it, and the numbers of RSETs that it knows.
 ghost use Rattle.std.specs.Prelude.{◌≡◌, [], IfOk, max};
 ghost use Rattle.link_machine.specs.Machine.{Bare, new_link_end};
-ghost use Rattle.message_link.specs.Links.{new_numbered_end};
+ghost use Rattle.link_entries.specs.messages.Links.{new_numbered_end};
 ghost use Rattle.world.specs.Sides.{SideStandsFor};
 
 use crate::node::{Node, Place};

@@ -1,18 +1,18 @@
 //! What happens at one end of a link, the near one, and what is noted of it. All of it is this project's own: two sides stand for
 //! a link, of which at most 2^32 - 12 RSETs may have been put on their wires before a step.
 ghost use Rattle.std.specs.Prelude.{◌≡◌, ℕ, ◌+◌, ◌<◌, ◌≤◌, ◌^◌, [], ◌∷◌, ◌++◌, List, None, Some, Ok, length, not, if◌then◌else◌, OnOk, IfOk, IfSome};
-ghost use Rattle.session_laws.specs.Sessions.{is_rset, aged_wire};
+ghost use Rattle.link_laws.specs.sessions.Sessions.{is_rset, aged_wire};
 ghost use Rattle.swp_base.specs.declared.control_frames.Control.{Control as Frame};
 ghost use Rattle.swp_lpdu.specs.Controls.{lpdu_of, control_of};
 ghost use Rattle.hcp_packet.specs.Packets.{IsSendable};
 ghost use Rattle.link_machine.specs.Machine.{LinkEnd as Machine, give_refusal, reset_refusal, frames_out};
 ghost use Rattle.link_machine.specs.Machine.LinkInput.{Tick};
 ghost use Rattle.link_machine.specs.Machine.Turn.{Give, Hold, FetchMessage};
-ghost use Rattle.message_link.specs.Links.{Link, Loss, becomes, put, ticks_at_controller};
-ghost use Rattle.message_link.specs.Links.Ending.{GoesOut};
-ghost use Rattle.message_link.specs.Links.Comes.{NextFrame, AsksReset, NoInput};
-ghost use Rattle.message_link.specs.Links.EndEvent.{Step, Lose};
-ghost use Rattle.link_entries.specs.Entries.{puts_entries, put_entries, tick_entries, aged_entries};
+ghost use Rattle.link_entries.specs.messages.Links.{Link, Loss, becomes, put, ticks_at_controller};
+ghost use Rattle.link_entries.specs.messages.Links.Ending.{GoesOut};
+ghost use Rattle.link_entries.specs.messages.Links.Comes.{NextFrame, AsksReset, NoInput};
+ghost use Rattle.link_entries.specs.messages.Links.EndEvent.{Step, Lose};
+ghost use Rattle.link_entries.specs.entries.Entries.{puts_entries, put_entries, tick_entries, aged_entries};
 ghost use Rattle.history.specs.Steps.{idle, lost_as};
 ghost use Rattle.history.specs.Follows.{as_noted};
 ghost use Rattle.world.specs.Noting.{side_of};

@@ -2,8 +2,8 @@
 ghost use Rattle.std.specs.Prelude.{◌≡◌, ℕ, ◌+◌, ◌<◌, ◌≤◌, ◌^◌, [], ◌∷◌, ◌++◌, List, OnOk, OnSome, IfOk, IfSome, IfNone, Ok, IsTrue, ◌↔◌};
 ghost use Rattle.swp_base.specs.declared.control_frames.Control.{Control as Frame};
 ghost use Rattle.swp_lpdu.specs.Controls.{lpdu_of, control_of};
-ghost use Rattle.session_laws.specs.Sessions.{OnWire, is_rset, aged_wire, fits};
-ghost use Rattle.link_entries.specs.Entries.{aged_entries, pushed_out, far};
+ghost use Rattle.link_laws.specs.sessions.Sessions.{OnWire, is_rset, aged_wire, fits};
+ghost use Rattle.link_entries.specs.entries.Entries.{aged_entries, pushed_out, far};
 ghost use Rattle.world.specs.Noting.{side_of};
 ghost use Rattle.world.specs.Wires.{WireStandsFor, IsMade, kept_of};
 ghost use Rattle.world.specs.Sides.{AreNoted};

@@ -2,7 +2,7 @@
 ghost use Rattle.std.specs.Prelude.{◌≡◌, [], ◌∷◌, ◌++◌, List, IfOk, OnOk, IfErr, None};
 ghost use Rattle.trace_model.specs.declared.line.Line.{Line};
 ghost use Rattle.trace_model.specs.Lines.{IsHeader, IsLineOf};
-ghost use Rattle.link_entries.specs.Entries.End.{Controller};
+ghost use Rattle.link_entries.specs.entries.Entries.End.{Controller};
 ghost use Rattle.history.specs.Histories.{History, noted};
 ghost use Rattle.history.specs.Follows.{opening_of, host_of, outcome_of, misread, link_at, opened, with_step};
 ghost use Rattle.history.specs.Steps.{end_of};
@@ -10,7 +10,7 @@ ghost use Rattle.history.specs.Steps.{end_of};
 use crate::damage_line::Misread;
 use crate::line_steps::{end_of, play_line};
 use crate::side::Side;
-use history_laws::every_history_is_legal;
+use history::bare_histories::every_history_is_legal;
 use std::alloc::{AllocError, Global};
 use swp_base::{Lpdu, NoMemory};
 use trace_model::{End, Entry, Header, Line};

@@ -1,7 +1,7 @@
 use Rattle.std.proofs.Common.{◌≡◌, ℕ, suc, ◌+◌, [], ◌∷◌, ◌++◌, replicate, refl, sym, ap, subst, ◌∙◌, arith}
 use Rattle.trace_model.specs.declared.entry.Entry.TheVariants.{No}
 use Rattle.trace_model.specs.declared.entry.NoCause.TheVariants.{Empty}
-use Rattle.message_link.specs.Links.{Link}
+use Rattle.link_entries.specs.messages.Links.{Link}
 use Rattle.history.specs.Histories.Cause.{Taken}
 use Rattle.history.specs.Steps.{link_after_all}
 use Rattle.history.specs.Follows.{seen_from, frames_to, taken_of}

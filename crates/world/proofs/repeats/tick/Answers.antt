@@ -1,9 +1,9 @@
 use Rattle.std.proofs.Common.{[], subst}
 use Rattle.trace_model.specs.declared.line.End.{End}
-use Rattle.link_entries.specs.Entries.{aged_entries, tick_entries}
-use Rattle.session_laws.specs.Sessions.{aged_wire}
-use Rattle.message_link.specs.Links.{Link, aged, exchanged, ticks_at_controller}
-use Rattle.message_link.specs.Links.Ending.{GoesOut}
+use Rattle.link_entries.specs.entries.Entries.{aged_entries, tick_entries}
+use Rattle.link_laws.specs.sessions.Sessions.{aged_wire}
+use Rattle.link_entries.specs.messages.Links.{Link, aged, exchanged, ticks_at_controller}
+use Rattle.link_entries.specs.messages.Links.Ending.{GoesOut}
 use Rattle.history.specs.Steps.{idle}
 use Rattle.world.specs.Noting.{side_of}
 use Rattle.world.specs.Sides.{AreNoted}

@@ -1,5 +1,5 @@
 use Rattle.std.proofs.Common.{◌+◌, ◌*◌, ◌≤◌}
-use Rattle.message_link.specs.Links.{Link}
+use Rattle.link_entries.specs.messages.Links.{Link}
 use Rattle.history.specs.Histories.Cause.{Ticked}
 use Rattle.world.specs.Lines.{SidesStandFor, HaveSent}
 use Rattle.world.proofs.Repeating.{HasRepeated}

@@ -1,8 +1,8 @@
 use Rattle.std.proofs.Common.{ℕ, ◌+◌, List, ◌∷◌, [], ◌++◌, ap, ◌∙◌, subst}
 use Rattle.trace_model.specs.declared.entry.Entry.TheVariants as entry
 use Rattle.trace_model.specs.declared.line.End.{End}
-use Rattle.session_laws.specs.Sessions.{fits}
-use Rattle.link_entries.specs.Entries.{pushed_out}
+use Rattle.link_laws.specs.sessions.Sessions.{fits}
+use Rattle.link_entries.specs.entries.Entries.{pushed_out}
 use Rattle.world.specs.Noting.{side_of}
 use Rattle.world.specs.Wires.{WireStandsFor}
 use Rattle.world.specs.Sides.{AreNoted}

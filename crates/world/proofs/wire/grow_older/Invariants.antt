@@ -1,5 +1,5 @@
 use Rattle.std.proofs.Common.{List, ◌-◌}
-use Rattle.session_laws.specs.Sessions.{OnWire}
+use Rattle.link_laws.specs.sessions.Sessions.{OnWire}
 use Rattle.world.specs.Wires.{WireStandsFor}
 use Rattle.world.proofs.Wires.{Aging}
 use Rattle.world.proofs.wire.grow_older.Given as goal

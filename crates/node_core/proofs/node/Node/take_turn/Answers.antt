@@ -9,7 +9,8 @@ use Rattle.node_core.specs.Deeds.{deed_of}
 use Rattle.node_core.proofs.Joining.{brings_then}
 use Rattle.node_core.proofs.Steps.{plainly}
 use Rattle.node_core.proofs.Quiet.{few_kept, held_kept}
-use Rattle.node_core.proofs.HavingTurns.{no_some, has_room, has_none, held_cut, held_writes, held_anyway, let_cut, let_writes, let_anyway, brings_same, quiet_after}
+use Rattle.node_core.proofs.HavingTurns.{no_some, has_room, has_none, held_cut, held_writes, held_anyway, let_cut, let_writes, let_anyway}
+use Rattle.node_core.proofs.HavingTurns.{brings_same, quiet_after}
 use Rattle.node_core.proofs.node.Node.take_turn.Goals as goal
 
 pub returns-in-Some-clause-carried : goal.returns-in-Some-clause-carried

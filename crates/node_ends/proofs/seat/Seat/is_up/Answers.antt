@@ -1,5 +1,5 @@
 use Rattle.std.proofs.Common.{sym, ap, ◌∙◌}
-use Rattle.session_laws.specs.Sessions.{is_up}
+use Rattle.link_laws.specs.sessions.Sessions.{is_up}
 use Rattle.node_ends.specs.Holding.{without_got}
 use Rattle.node_ends.proofs.seat.Seat.is_up.Goals as goal
 

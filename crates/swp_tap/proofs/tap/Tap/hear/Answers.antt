@@ -1,5 +1,5 @@
 use Rattle.std.proofs.Common.{◌≡◌, sym, subst}
-use Rattle.tap_keeping.specs.Keeping.{KeptTap}
+use Rattle.tap_reading.specs.keeping.Keeping.{KeptTap}
 use Rattle.swp_tap.specs.Hearing.{TapValue, kept_after_lpdu}
 use Rattle.swp_tap.proofs.Hearing.{near_kept, far_kept}
 use Rattle.swp_tap.proofs.tap.Tap.hear.Goals as goal

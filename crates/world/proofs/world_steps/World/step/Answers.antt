@@ -2,7 +2,7 @@ use Rattle.std.proofs.Common.{List, ◌≡◌, ◌+◌, true, false, refl, sym, 
 use Rattle.std.specs.Prelude.{None}
 use Rattle.trace_model.specs.declared.line.End.{End}
 use Rattle.trace_model.specs.declared.line.Line.{Line}
-use Rattle.message_link.specs.Links.{Link}
+use Rattle.link_entries.specs.messages.Links.{Link}
 use Rattle.history.specs.Histories.{History}
 use Rattle.history.specs.Follows.{link_at}
 use Rattle.world.specs.declared.world_steps.World.{World}

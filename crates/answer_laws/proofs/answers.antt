@@ -1,0 +1,12 @@
+pub mod Splits
+pub mod Walks
+pub mod Schedules
+pub mod Unhandled
+pub mod Alike
+pub mod Examples
+pub mod Late
+pub mod Held
+pub mod Session
+pub mod Otherwise
+pub mod Damaged
+pub mod Wrong

@@ -1,0 +1,4 @@
+pub mod Moments
+pub mod Unasked
+pub mod Answered
+pub mod Alike

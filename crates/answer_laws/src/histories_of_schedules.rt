@@ -1,0 +1,50 @@
+//! Schedules of worlds of nodes whose header and lines are in their ranges: what the laws of such worlds ask for holds of each of
+//! them, so every history that follows one is legal. Nothing here runs.
+
+ghost use Rattle.std.specs.Prelude.{◌≡◌, ◌++◌, ℕ, ◌*◌, ◌≤◌, List, length};
+ghost use Rattle.std.specs.List.{AllByRecursion};
+ghost use Rattle.trace_model.specs.declared.entry.Entry.{Entry};
+ghost use Rattle.trace_model.specs.declared.line.Header.{Header};
+ghost use Rattle.trace_model.specs.declared.line.Line.{Line};
+ghost use Rattle.trace_model.specs.declared.line.Line.TheVariants as line;
+ghost use Rattle.trace_model.specs.Lines.{IsNodeHeader, MayFollow};
+ghost use Rattle.node_machine.specs.world.NodeHistories.{FollowsNodes, NodeHistory, node_entries};
+ghost use Rattle.node_machine.specs.world.NodeFilters.{commands_in};
+ghost use Rattle.node_order.specs.links.Runs.{ArePlayable};
+ghost use Rattle.node_laws.specs.kept.Hosts.{AreHosts, IsFew, IsSentByHost};
+ghost use Rattle.node_order.specs.readings.Worlds.{IsInitOfHost};
+ghost use Rattle.node_order.specs.order.Legal.{LegalNodes};
+ghost use Rattle.answer_laws.specs.schedules.Ranges.{AreNodeLinesOf, IsNodeLineOf};
+
+/// A line that may stand below a header, as a reader of schedules takes it, is in its range, but for settling, which no world of nodes
+/// does yet.
+pub fn lines_that_may_stand_are_in_their_ranges()
+    ensures { (header : Header) (said : Line) → MayFollow header said → ((rounds : ℕ) → said ≡ line.Settle rounds → ⊥) → IsNodeLineOf header said }
+{}
+
+/// The hosts of a header of a world of nodes are from 01 to 07 and all different. The lines that may stand below it can be played:
+/// a message that is sent isn't empty, its pipe isn't reserved, and a window is from 1 to 4; messages are sent by hosts; and inits are
+/// those of hosts, none of whose commands is longer than 4,096 bytes.
+pub fn lines_in_their_ranges_can_be_played()
+    ensures hosts { (header : Header) → IsNodeHeader header → AreHosts header.hosts.items }
+    ensures playable { (header : Header) (lines : List Line) → AreNodeLinesOf header lines → ArePlayable lines }
+    ensures sent { (header : Header) (lines : List Line) → IsNodeHeader header → AreNodeLinesOf header lines → AllByRecursion IsSentByHost lines }
+    ensures inits { (header : Header) (lines : List Line) → AreNodeLinesOf header lines → AllByRecursion IsInitOfHost lines }
+{}
+
+/// Over a history that follows such a schedule no node ever has more commands than 4,200 for each line. So behind 20,000 lines, as many
+/// as a schedule has at most, none has more than a journal counts.
+pub fn commands_of_a_schedule_are_few()
+    ensures bounded { (header : Header) (lines : List Line) (t : NodeHistory) → FollowsNodes header lines t → IsNodeHeader header →
+        AreNodeLinesOf header lines → (front back : List Entry) (n : ℕ) → node_entries t ≡ front ++ back →
+        length (commands_in front n) ≤ 4200 * length lines }
+    ensures few { (header : Header) (lines : List Line) (t : NodeHistory) → FollowsNodes header lines t → IsNodeHeader header →
+        AreNodeLinesOf header lines → length lines ≤ 20000 → IsFew (node_entries t) }
+{}
+
+/// Every history that follows a schedule of a world of nodes is legal. It asks for nothing but that the header and the lines are in
+/// their ranges, and that there are 20,000 lines at most.
+pub fn every_history_of_a_schedule_is_legal()
+    ensures { (header : Header) (lines : List Line) (t : NodeHistory) → FollowsNodes header lines t → IsNodeHeader header →
+        AreNodeLinesOf header lines → length lines ≤ 20000 → LegalNodes t }
+{}

@@ -1,5 +1,0 @@
-use Rattle.cut_laws.proofs.Banks.{bank_stayed, bank_moved}
-use Rattle.cut_laws.proofs.a_cut_commit_changes_banks_exactly_where_its_snapshot_was_opened.Goals as goal
-
-pub returns : goal.returns
-returns c = record { stayed = bank_stayed; moved = bank_moved }

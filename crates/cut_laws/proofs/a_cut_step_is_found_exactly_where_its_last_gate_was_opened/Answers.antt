@@ -1,5 +1,0 @@
-use Rattle.cut_laws.proofs.Steps.{step_opened, step_closed}
-use Rattle.cut_laws.proofs.a_cut_step_is_found_exactly_where_its_last_gate_was_opened.Goals as goal
-
-pub returns : goal.returns
-returns c = record { opened = step_opened; closed = step_closed }

@@ -1,0 +1,25 @@
+-- What is noted of the events of causes says which sessions both ends have.
+use Rattle.std.proofs.Common.{◌≡◌, List, [], ◌∷◌, map, None}
+use Rattle.link_entries.specs.messages.Links.{Link, after_link_events, happens, AllAllowed}
+use Rattle.link_entries.specs.messages.Links.IsStart.{IsBare}
+use Rattle.link_entries.specs.entries.Entries.{trace}
+use Rattle.link_entries.specs.entries.Entries.End.{Controller, Host}
+use Rattle.link_entries.specs.entries.Sessions.{number_now}
+use Rattle.link_entries.proofs.entries.Hearing.{heard}
+use Rattle.link_entries.proofs.entries.Heard.{controller_heard as link_controller, host_heard as link_host}
+use Rattle.history.specs.Histories.{Cause}
+use Rattle.history.specs.Steps.{event_of, bare_link}
+use Rattle.history.proofs.legal.Runs.{CanAll, can_event}
+
+all_can : (cs : List Cause) (l : Link) → CanAll cs → AllAllowed l (map event_of cs)
+all_can [] l can = tt
+all_can (c ∷ cs) l can = (can_event l c can.0, all_can cs (happens l (event_of c)) can.1)
+
+-- what is heard of a bare link from its beginning on
+pub controller_heard : (cs : List Cause) → CanAll cs
+    → heard Controller None (trace bare_link (map event_of cs)) ≡ number_now (after_link_events bare_link (map event_of cs)).controller
+controller_heard cs can = link_controller bare_link IsBare (map event_of cs) (all_can cs bare_link can)
+
+pub host_heard : (cs : List Cause) → CanAll cs
+    → heard Host None (trace bare_link (map event_of cs)) ≡ number_now (after_link_events bare_link (map event_of cs)).host
+host_heard cs can = link_host bare_link IsBare (map event_of cs) (all_can cs bare_link can)

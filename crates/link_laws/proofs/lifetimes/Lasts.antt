@@ -1,0 +1,510 @@
+-- Two ends that are Up in one session and the wires between them, where nothing was lost: how each thing that one end does
+-- keeps its timer in time.
+use Rattle.std.proofs.Common.{◌≡◌, ℕ, ◌+◌, ◌%◌, ◌<◌, ◌≤◌, ◌==◌, Bool, true, false, ◌&&◌, ◌||◌, not, List, [], ◌∷◌, ◌++◌, Option, Some, None, refl, sym, subst}
+use Rattle.std.proofs.Common.{◌∙◌, ◌⊎◌, inl, inr, ⊎_elim, arith, length, length-append, max}
+use Rattle.std.specs.Prelude.{slice_get, nat_lt}
+use Rattle.std.proofs.lemmas.Bool.{eq-eqb, ne_eqb, ltb-true, ltb-false, lt-ltb, le-ltb, and_parts, and_from, or_parts, or_cases, or_right, cases_lt, true≢false}
+use Rattle.std.proofs.lemmas.Bool.{not-true}
+use Rattle.std.proofs.lemmas.Option.{slice_get_within}
+use Rattle.swp_base.specs.declared.control_frames.Kind.{Kind}
+use Rattle.swp_base.specs.declared.control_frames.Kind.TheVariants.{Rr, Rej, Rnr}
+use Rattle.swp_base.specs.declared.control_frames.Control.{Control}
+use Rattle.swp_base.specs.declared.control_frames.Control.TheVariants.{I, S, Rset, Ua, Act, Clt}
+use Rattle.shdlc_core.specs.declared.answers.LinkState.TheVariants.{Up}
+use Rattle.shdlc_core.specs.declared.answers.Due.{Due}
+use Rattle.shdlc_core.specs.declared.answers.Due.TheVariants.{Rr as Rr_due, Rej as Rej_due, Rnr as Rnr_due, Rset as Rset_due, Ua as Ua_due}
+use Rattle.shdlc_core.specs.Machine.{EndState, Session, Fragment, place_of, acknowledged, ahead, taken, take_answer, ticked, tick_answer, sent_again}
+use Rattle.shdlc_core.specs.Machine.{with_ready, put_out, fetched, frame_due, fragment_due, expected, control_due, sent_next, ready_again, rejected, made_busy}
+use Rattle.shdlc_core.specs.Machine.{runs_timer}
+use Rattle.shdlc_core.proofs.Histories.{fragment_due-within}
+use Rattle.link_laws.specs.places.Wire.{OnWire, older, with_frame}
+use Rattle.link_laws.proofs.places.Numbers.{place_found, ahead_same, ahead_other}
+use Rattle.link_laws.proofs.places.Marks.{reduced, counts_le, shows_push, shows_older}
+use Rattle.link_laws.proofs.places.Flows.{flows_number}
+use Rattle.link_laws.proofs.places.Whole.{AnswersOnly, push_not_empty}
+use Rattle.link_laws.proofs.places.Delivered.{past_end}
+use Rattle.link_laws.proofs.places.Joined.{Joined, Sends, changed, ready_cases, received_cases, taken_I, taken_S, not_expected, gap_behind}
+use Rattle.link_laws.proofs.places.Joined.{fetch_cases, with_next}
+use Rattle.link_laws.proofs.places.Joined.{joined_exchanged, joined_put, joined_ready, joined_ticked, joined_older, joined_taken, joined_fetched}
+use Rattle.link_laws.proofs.sessions.Wire.{Young, young_push, young_later}
+use Rattle.link_laws.proofs.lifetimes.SameMarks.{Within, Shown, shown, within_push, marks_are, marks_exchanged}
+use Rattle.link_laws.proofs.lifetimes.Evidence.{Answers, DueBy, RewindDue, RewindBy, NoSrej, due_push, due_more, due_new_rr, due_new_rnr, rewind_due_push}
+use Rattle.link_laws.proofs.lifetimes.Evidence.{rewind_due_rnr}
+use Rattle.link_laws.proofs.lifetimes.Timely.{Timely, MaySend, AnswersAll, TookFragment, answers_same, answers_pushed, same_or_below, timely_acked}
+use Rattle.link_laws.proofs.lifetimes.Timely.{timely_rewound}
+use Rattle.link_laws.proofs.lifetimes.Timely.{timely_answering, timely_kept, timely_past, timely_received, timely_put, timely_changed, timely_answer}
+use Rattle.link_laws.proofs.lifetimes.Timely.{timely_answer_I}
+use Rattle.link_laws.proofs.lifetimes.Timely.{timely_send, timely_send_S, timely_older, in_time, timely_counted, timely_still, timely_probe}
+
+-- kn and kf ticks have passed that the near and the far end have still to count
+pub record Lasts (kn kf : ℕ) (near far : EndState) (to_near to_far : List OnWire) : Type 0 where
+  pub joined : Joined ⊥ near far to_near to_far
+  pub near_young : Young 4 to_near
+  pub far_young : Young 4 to_far
+  pub near_timely : Timely kn near far to_near to_far joined.near_marks joined.far_marks
+  pub far_timely : Timely kf far near to_far to_near joined.far_marks joined.near_marks
+
+-- the two ends are alike
+pub lasts_exchanged : (kn kf : ℕ) (near far : EndState) (to_near to_far : List OnWire) → Lasts kn kf near far to_near to_far
+    → Lasts kf kn far near to_far to_near
+lasts_exchanged kn kf near far to_near to_far h =
+    let k = joined_exchanged ⊥ near far to_near to_far h.joined in
+    let same = marks_exchanged near far to_near to_far h.joined k in
+    record {
+      joined = k;
+      near_young = h.far_young;
+      far_young = h.near_young;
+      near_timely = rw (same.0, same.1) h.far_timely;
+      far_timely = rw (same.0, same.1) h.near_timely;
+    }
+
+-- both ends are timely on the wires with these marks
+abbrev pub BothTimely : ℕ → ℕ → EndState → EndState → List OnWire → List OnWire → List Control → List Control → Type 0
+BothTimely kn kf near far to_near to_far near_marks far_marks =
+    Timely kn near far to_near to_far near_marks far_marks × Timely kf far near to_far to_near far_marks near_marks
+
+module _ (kn kf : ℕ) (near far : EndState) (to_near to_far : List OnWire) where
+  -- it is so for the marks of what is joined where it is so for marks that the wires show
+  pub lasts_of : (near_marks far_marks : List Control) → Joined ⊥ near far to_near to_far → Shown far to_near to_far near_marks far_marks
+      → Young 4 to_near → Young 4 to_far → BothTimely kn kf near far to_near to_far near_marks far_marks → Lasts kn kf near far to_near to_far
+  lasts_of near_marks far_marks k shown yn yf both =
+      let same = marks_are near far to_near to_far k near_marks far_marks shown in
+      record {
+        joined = k;
+        near_young = yn;
+        far_young = yf;
+        near_timely = rw (same.0, same.1) both.0;
+        far_timely = rw (same.0, same.1) both.1;
+      }
+
+  -- the near end was another before, on the same wires
+  lasts_changed : (ln lf : ℕ) (before : EndState) (h : Lasts ln lf before far to_near to_far) → Joined ⊥ near far to_near to_far
+      → BothTimely kn kf near far to_near to_far h.joined.near_marks h.joined.far_marks → Lasts kn kf near far to_near to_far
+  lasts_changed ln lf before h k both =
+      lasts_of h.joined.near_marks h.joined.far_marks k (shown before far to_near to_far h.joined) h.near_young h.far_young both
+
+-- ## Turns
+
+-- more is offered
+pub lasts_put : (kn kf : ℕ) (near far : EndState) (to_near to_far : List OnWire) (more : List Fragment)
+    → Lasts kn kf near far to_near to_far → Lasts kn kf (put_out near more) far to_near to_far
+lasts_put kn kf near far to_near to_far more h =
+    lasts_changed kn kf (put_out near more) far to_near to_far kn kf near h (joined_put ⊥ near far to_near to_far more h.joined) (
+      timely_put near far to_near to_far h.joined.near_marks h.joined.far_marks kn more h.near_timely,
+      timely_kept far near to_far to_near h.joined.far_marks h.joined.near_marks kf (put_out near more) refl refl h.far_timely,
+    )
+
+-- the end becomes ready or not ready
+pub lasts_ready : (kn kf : ℕ) (near far : EndState) (to_near to_far : List OnWire) (r : Bool)
+    → Lasts kn kf near far to_near to_far → Lasts kn kf (with_ready near r) far to_near to_far
+lasts_ready kn kf near far to_near to_far r h =
+    lasts_changed kn kf (with_ready near r) far to_near to_far kn kf near h (joined_ready ⊥ near far to_near to_far r h.joined)
+    (ready_cases (λ e. BothTimely kn kf e far to_near to_far h.joined.near_marks h.joined.far_marks) near r (h.near_timely, h.far_timely)
+    (at near.due (answers_same (length near.session.acc) near.due))
+    (at (near.due ++ Rr_due ∷ []) (answers_pushed (length near.session.acc) near.due Rr_due)))
+  where
+    at : (due : List Due) → AnswersAll (length near.session.acc) (length near.session.acc) near.due due
+        → BothTimely kn kf (changed near r due) far to_near to_far h.joined.near_marks h.joined.far_marks
+    at due all = (
+      timely_changed near far to_near to_far h.joined.near_marks h.joined.far_marks kn r due h.near_timely,
+      timely_answering far near to_far to_near h.joined.far_marks h.joined.near_marks kf (changed near r due) refl all h.far_timely,
+    )
+
+-- ## A tick
+
+tick_by : (P : EndState → Type 0) (e : EndState) → e.phase ≡ Up
+    → (runs_timer e.session ≡ false → P e) → (runs_timer e.session ≡ true → P (record e { timer = e.timer + 1 }))
+    → (runs_timer e.session ≡ true → 10 ≤ e.timer + 1 → P (sent_again e)) → e.tries < 5
+    → P (ticked e) × ((tick_answer e).ended ≡ None)
+tick_by P e up still counted again few = go (runs_timer e.session) (nat_lt (e.timer + 1) 10) refl refl
+  where
+    try : nat_lt e.tries 5 ≡ true
+    try = lt-ltb e.tries 5 few
+
+    go : (a b : Bool) → runs_timer e.session ≡ a → nat_lt (e.timer + 1) 10 ≡ b → P (ticked e) × ((tick_answer e).ended ≡ None)
+    go false b p q = (rw (up, p) (rw up at (still p)), rw (up, p) refl)
+    go true true p q = (rw (up, p, q) (rw up at (counted p)), rw (up, p, q) refl)
+    go true false p q = (rw (up, p, q, try) (rw up at (again p (ltb-false (e.timer + 1) 10 q))), rw (up, p, q, try) refl)
+
+-- what a timer that runs tells, where nothing is sent and unacknowledged
+waits : (s : Session) → runs_timer s ≡ true → s.next ≤ s.acked → (s.peer_busy ≡ true) × (s.next < length s.out)
+waits s h i = go (or_cases (nat_lt s.acked s.next) (s.peer_busy && nat_lt s.next (length s.out)) h)
+  where
+    go : (nat_lt s.acked s.next ≡ true) ⊎ ((s.peer_busy && nat_lt s.next (length s.out)) ≡ true) → (s.peer_busy ≡ true) × (s.next < length s.out)
+    go (inl e) = absurd (let g = ltb-true s.acked s.next e in omega arith)
+    go (inr e) = let g = and_parts s.peer_busy (nat_lt s.next (length s.out)) e in (g.0, ltb-true s.next (length s.out) g.1)
+
+pub lasts_ticked : (kf : ℕ) (near far : EndState) (to_near to_far : List OnWire) → near.session.probe ≡ false → far.due ≡ []
+    → Lasts 1 kf near far to_near to_far → Lasts 0 kf (ticked near) far to_near to_far × ((tick_answer near).ended ≡ None)
+lasts_ticked kf near far to_near to_far noprobe none h =
+    let both =
+    tick_by (λ e. BothTimely 0 kf e far to_near to_far near_marks far_marks) near h.joined.near_up
+    (λ r. at near refl refl
+    (timely_still near far to_near to_far near_marks far_marks
+    (λ e. let g = (or_parts (nat_lt s.acked s.next) (s.peer_busy && nat_lt s.next (length s.out)) r).0 in let f = ltb-false s.acked s.next g in omega arith)
+    h.near_timely))
+    (λ r. at (record near { timer = near.timer + 1 }) refl refl
+    (timely_counted near far to_near to_far near_marks far_marks (λ e b. runs r e b) h.near_timely))
+    (λ r late.
+    let none_sent : s.next ≤ s.acked = no_more late in
+    let w = waits s r none_sent in
+    at (sent_again near) refl refl
+    (timely_probe near far to_near to_far near_marks far_marks (omega (arith, h.joined.near_sends.acked_next)) w.1 w.0 noprobe
+    (counts_le s.acked (length far.session.acc) near_marks h.joined.near_sends.counts) h.near_timely))
+    (omega (arith, h.near_timely.most)) in (
+      lasts_changed 0 kf (ticked near) far to_near to_far 1 kf near h (joined_ticked ⊥ near far to_near to_far both.1 h.joined) both.0,
+      both.1,
+    )
+  where
+    s : Session
+    s = near.session
+
+    near_marks : List Control
+    near_marks = h.joined.near_marks
+
+    far_marks : List Control
+    far_marks = h.joined.far_marks
+
+    at : (e : EndState) → e.session.acc ≡ near.session.acc → e.due ≡ near.due → Timely 0 e far to_near to_far near_marks far_marks
+        → BothTimely 0 kf e far to_near to_far near_marks far_marks
+    at e acc due timely = (timely, timely_kept far near to_far to_near far_marks near_marks kf e acc due h.far_timely)
+
+    runs : runs_timer s ≡ true → s.acked ≡ s.next → MaySend s → ⊥
+    runs r e (inl b) = true≢false (sym (waits s r (omega arith)).0 ∙ b)
+    runs r e (inr b) = true≢false (sym b ∙ noprobe)
+
+    no_more : 10 ≤ near.timer + 1 → s.next ≤ s.acked
+    no_more late = ⊎_elim (λ (e : s.acked < s.next). absurd (let g =
+        in_time near far to_near to_far near_marks far_marks none h.near_young h.far_young h.near_timely e in omega arith)) (λ e. e)
+        (cases_lt s.acked s.next)
+
+-- all frames grow older
+pub lasts_older : (near far : EndState) (to_near to_far : List OnWire) → near.due ≡ [] → far.due ≡ [] → Young 4 (older to_near) → Young 4 (older to_far)
+    → Lasts 0 0 near far to_near to_far → Lasts 1 1 near far (older to_near) (older to_far)
+lasts_older near far to_near to_far a b yn yf h =
+    let j = h.joined in
+    let m = shown near far to_near to_far j in
+    let one = joined_exchanged ⊥ near far (older to_near) to_far (joined_older ⊥ near far to_near to_far j) in
+    let k = joined_exchanged ⊥ far near (older to_far) (older to_near) (joined_older ⊥ far near to_far (older to_near) one) in
+    lasts_of 1 1 near far (older to_near) (older to_far) j.near_marks j.far_marks k
+    (record {
+      near_shows = shows_older to_near j.near_marks m.near_shows;
+      far_shows = shows_older to_far j.far_marks m.far_shows;
+      near_within = m.near_within;
+      far_within = m.far_within;
+    })
+    yn yf (
+      timely_older near far to_near to_far j.near_marks j.far_marks b h.near_timely,
+      timely_older far near to_far to_near j.far_marks j.near_marks a h.far_timely,
+    )
+
+-- ## A frame is taken
+
+-- the timer and the tries after a number was taken
+ack_timer : (e : EndState) (n : ℕ) → e.session.acked < n → ((acknowledged e n).timer ≡ 0) × ((acknowledged e n).tries ≡ 0)
+ack_timer e n i = let b : nat_lt e.session.acked n ≡ true = lt-ltb e.session.acked n i in (rw b refl, rw b refl)
+
+ack_same : (e : EndState) (n : ℕ) → e.session.acked ≡ n → ((acknowledged e n).timer ≡ e.timer) × ((acknowledged e n).tries ≡ e.tries)
+ack_same e n i = let b : nat_lt e.session.acked n ≡ false = le-ltb e.session.acked n (omega arith) in (rw b refl, rw b refl)
+
+rr_timer : (e : EndState) (n : ℕ) → e.session.acked < n → (ready_again e n).timer ≡ 0
+rr_timer e n i = go (runs_timer (ready_again e n).session) refl
+  where
+    go : (b : Bool) → runs_timer (ready_again e n).session ≡ b → (ready_again e n).timer ≡ 0
+    go true q = rw q (ack_timer e n i).0
+    go false q = rw q refl
+
+rr_same : (e : EndState) (n : ℕ) → e.session.acked ≡ n → n < max e.session.next n → (ready_again e n).timer ≡ e.timer
+rr_same e n i j =
+    let b : nat_lt n (max e.session.next n) ≡ true = lt-ltb n (max e.session.next n) j in
+    rw b (ack_same e n i).0
+
+rr_stops : (e : EndState) (n : ℕ) → n ≡ max e.session.next n → (ready_again e n).timer ≡ 0
+rr_stops e n i =
+    let b : nat_lt n (max e.session.next n) ≡ false = le-ltb n (max e.session.next n) (omega arith) in
+    rw b refl
+
+-- an end that has accepted these fragments and has these control frames to send
+abbrev answering : EndState → List Fragment → List Due → Bool → Bool → EndState
+answering e acc due gap noted = record e { due = due; session = record e.session { acc = acc; gap_open = gap; answered_rnr = noted } }
+
+pub lasts_taken : (near far : EndState) (x : OnWire) (to_near to_far : List OnWire) → near.session.probe ≡ false
+    → Lasts 0 0 near far (x ∷ to_near) to_far
+    → Lasts 0 0 (taken near x.frame) far to_near to_far × ((take_answer near x.frame).ended ≡ None)
+lasts_taken near far x to_near to_far noprobe h = (
+  go h.joined.near_marks (shown near far (x ∷ to_near) to_far h.joined) h.joined.near_sends h.joined.far_sends h.near_timely h.far_timely,
+  one.1,
+)
+  where
+    s : Session
+    s = near.session
+
+    t : Session
+    t = far.session
+
+    back : List Control
+    back = h.joined.far_marks
+
+    one : Joined ⊥ (taken near x.frame) far to_near to_far × ((take_answer near x.frame).ended ≡ None)
+    one = joined_taken ⊥ near far x to_near to_far h.joined
+
+    Both : List Control → EndState → Type 0
+    Both ms f = BothTimely 0 0 f far to_near to_far ms back
+
+    from : (m : Control) (ms : List Control) → Shown far (x ∷ to_near) to_far (m ∷ ms) back → Both ms (taken near x.frame)
+        → Lasts 0 0 (taken near x.frame) far to_near to_far
+    from m ms were both =
+        lasts_of 0 0 (taken near x.frame) far to_near to_far ms back one.0
+        (record {
+          near_shows = were.near_shows.1;
+          far_shows = were.far_shows;
+          near_within = were.near_within.1;
+          far_within = were.far_within;
+        })
+        (young_later x.age 4 to_near h.near_young.0 h.near_young.1) h.far_young both
+
+    go : (ms : List Control) → Shown far (x ∷ to_near) to_far ms back → Sends s t.acc back ms → Sends t s.acc ms back
+        → Timely 0 near far (x ∷ to_near) to_far ms back → Timely 0 far near to_far (x ∷ to_near) back ms
+        → Lasts 0 0 (taken near x.frame) far to_near to_far
+    go [] were near_sends far_sends near_timely far_timely = absurd were.near_shows
+    go (I p n info ∷ ms) were near_sends far_sends near_timely far_timely =
+        let number = flows_number (I p n info) n refl near_sends in
+        let reach : s.reached ≤ s.acked + 4 = omega (arith, near_sends.window, near_sends.reach_window) in
+        let place : place_of s (n % 8) ≡ Some n = place_found s n number.0 number.1 reach in
+        let told : n ≤ length t.acc = counts_le n (length t.acc) ms number.2 in
+        let e : EndState = acknowledged near n in
+        let low : t.acked ≤ length s.acc = counts_le t.acked (length s.acc) back far_sends.counts in
+        let high : p ≤ length s.acc + 3 = omega (arith, far_sends.places.1, far_sends.reach_window, far_sends.window, low) in
+        let behind : (ahead e.session (p % 8) ≡ 0 → ⊥) → p ≤ length s.acc → p < length s.acc = λ z b. not_expected e.session p z b in
+        let other : (ahead e.session (p % 8) ≡ 0 → ⊥) → (p == length s.acc) ≡ false = λ z. ne_eqb p (length s.acc) (λ q. z (ahead_same e.session p q)) in
+        let at : (acc : List Fragment) (due : List Due) (gap noted : Bool) → TookFragment (length s.acc) (length acc) near.due due p ms
+        → Both ms (answering e acc due gap noted) =
+        λ acc due gap noted took. (
+          timely_acked near far to_near to_far ms back (answering e acc due gap noted) x (I p n info) n refl h.joined.far_due were.far_shows were.near_shows.1
+              (record {
+                fits = (number.0, told);
+                acked = refl;
+                next = refl;
+                out = refl;
+                no_probe = (noprobe, noprobe);
+                busy = inr refl;
+                grew = ack_timer near n;
+                same_tries = λ g. (ack_same near n g).1;
+                same_timer = λ g i. (ack_same near n g).0;
+                starts = λ q b. zeroed q b (same_or_below s.acked n number.0);
+              })
+              near_timely,
+          timely_received far near to_far to_near back ms 0 (answering e acc due gap noted) x p n info h.near_young low took far_timely,
+        ) in
+        from (I p n info) ms were
+        (subst (λ (c : Control). Both ms (taken near c)) (sym were.near_shows.0) (taken_I (Both ms) near (p % 8) (n % 8) n info h.joined.near_up place
+        (received_cases (Both ms) e (p % 8) info
+        (λ z.
+        let here : p ≡ length s.acc = ahead_other e.session p far_sends.places.0 high z in
+        let more : length (s.acc ++ info ∷ []) ≡ length s.acc + 1 = omega (arith, length-append s.acc (info ∷ [])) in
+        at (s.acc ++ info ∷ []) (near.due ++ Rr_due ∷ []) false s.answered_rnr
+        (record {
+          all = record {
+            told = λ g. absurd (push_not_empty near.due Rr_due g);
+            kept = λ a u g. rw more (due_push a u (length s.acc + 1) near.due Rr_due (due_more a u (length s.acc) near.due g));
+            rewind = rewind_due_push near.due Rr_due;
+          };
+          new = λ u i j. due_new_rr p u (length (s.acc ++ info ∷ [])) near.due (omega arith) j;
+          course = λ m c. inl (rw more (rw (eq-eqb p (length s.acc) here) at c));
+        }))
+        (λ z g. at s.acc near.due s.gap_open s.answered_rnr
+        (record {
+          all = answers_same (length s.acc) near.due;
+          new = λ u i j. absurd (gap_behind e.session p z g i far_sends.places.0);
+          course = λ m c. inl (rw (other z) at c);
+        }))
+        (λ z g. at s.acc (near.due ++ Rej_due ∷ []) true s.answered_rnr
+        (record {
+          all = answers_pushed (length s.acc) near.due Rej_due;
+          new = λ u i j. absurd (gap_behind e.session p z g i far_sends.places.0);
+          course = λ m c. inl (rw (other z) at c);
+        }))
+        (λ z g. at s.acc (near.due ++ Rr_due ∷ []) s.gap_open s.answered_rnr
+        (record {
+          all = answers_pushed (length s.acc) near.due Rr_due;
+          new = λ u i j. due_new_rr p u (length s.acc) near.due (behind z i) j;
+          course = λ m c. inl (rw (other z) at c);
+        }))
+        (at s.acc (near.due ++ Rnr_due ∷ []) s.gap_open true
+        (record {
+          all = answers_pushed (length s.acc) near.due Rnr_due;
+          new = λ u i j. due_new_rnr p u (length s.acc) near.due j;
+          course = λ m c. inr (rewind_due_rnr near.due);
+        })))))
+      where
+        zeroed : n ≡ max s.next n → s.peer_busy ≡ false → (s.acked ≡ n) ⊎ (s.acked < n) → (acknowledged near n).timer ≡ 0
+        zeroed q b (inl e) = (ack_same near n e).0 ∙ near_timely.starts (omega (arith, near_sends.acked_next)) (inl b)
+        zeroed q b (inr e) = (ack_timer near n e).0
+    go (S k n ∷ ms) were near_sends far_sends near_timely far_timely =
+        let number = flows_number (S k n) n refl near_sends in
+        let reach : s.reached ≤ s.acked + 4 = omega (arith, near_sends.window, near_sends.reach_window) in
+        let place : place_of s (n % 8) ≡ Some n = place_found s n number.0 number.1 reach in
+        let told : n ≤ length t.acc = counts_le n (length t.acc) ms number.2 in
+        let at : (f : EndState) → f.session.acc ≡ s.acc → f.due ≡ near.due → Timely 0 f far to_near to_far ms back → Both ms f =
+        λ f acc due timely. (
+          timely,
+          timely_kept far near to_far to_near back ms 0 f acc due (timely_past far near to_far to_near back ms 0 x k n far_timely),
+        ) in
+        let rewound : (f : EndState) → f.session.acked ≡ n → f.session.next ≡ n → f.session.out ≡ s.out → f.session.probe ≡ false → f.timer ≡ 0
+        → (f.tries ≤ 1) × (f.tries ≡ 1 → (n ≡ s.acked) × (near.tries ≡ 1) × (f.session.peer_busy ≡ false)) → Timely 0 f far to_near to_far ms back =
+        λ f a b c d g tries. timely_rewound near far to_near to_far ms back f x k n
+        (record { fits = told; acked = a; next = b; out = c; no_probe = d; timer = g; most = tries.0; again = tries.1 }) near_timely in
+        from (S k n) ms were
+        (subst (λ (c : Control). Both ms (taken near c)) (sym were.near_shows.0) (taken_S (Both ms) near k (n % 8) n h.joined.near_up place (record {
+          rr = λ is. at (ready_again near n) refl refl
+              (timely_acked near far to_near to_far ms back (ready_again near n) x (S k n) n (rw is refl) h.joined.far_due were.far_shows were.near_shows.1
+              (record {
+                fits = (number.0, told);
+                acked = refl;
+                next = refl;
+                out = refl;
+                no_probe = (noprobe, refl);
+                busy = inl refl;
+                grew = λ g. (rr_timer near n g, (ack_timer near n g).1);
+                same_tries = λ g. (ack_same near n g).1;
+                same_timer = rr_same near n;
+                starts = λ q b. rr_stops near n q;
+              })
+              near_timely);
+          rej = λ is. at (rejected near n) refl refl (rewound (rejected near n) refl refl refl refl refl (once (same_or_below s.acked n number.0)));
+          rnr = λ is. at (made_busy near n) refl refl (rewound (made_busy near n) refl refl refl refl refl (omega arith, λ e. absurd (omega arith)));
+          srej = λ is. absurd (rw is at near_timely.known);
+        })))
+      where
+        once : (s.acked ≡ n) ⊎ (s.acked < n)
+            → ((rejected near n).tries ≤ 1) × ((rejected near n).tries ≡ 1 → (n ≡ s.acked) × (near.tries ≡ 1) × (false ≡ false))
+        once (inl e) = (omega (arith, (ack_same near n e).1, near_timely.most), λ k. (sym e, sym (ack_same near n e).1 ∙ k, refl))
+        once (inr e) = (omega (arith, (ack_timer near n e).1), λ k. absurd (let z = (ack_timer near n e).1 in omega arith))
+    go (Rset _ _ ∷ ms) were near_sends far_sends near_timely far_timely = absurd near_sends.counts
+    go (Ua ∷ ms) were near_sends far_sends near_timely far_timely = absurd near_sends.counts
+    go (Act _ _ ∷ ms) were near_sends far_sends near_timely far_timely = absurd near_sends.counts
+    go (Clt ∷ ms) were near_sends far_sends near_timely far_timely = absurd near_sends.counts
+
+-- ## A frame is made
+
+-- where a fragment is due the sender may send: the other end isn't busy, or a probe goes out
+may_send : (s : Session) (info : Fragment) → fragment_due s ≡ Some info → MaySend s
+may_send s info e = go ((not s.peer_busy || s.probe) && nat_lt s.next (s.acked + s.window)) refl
+  where
+    pick : (not s.peer_busy ≡ true) ⊎ (s.probe ≡ true) → MaySend s
+    pick (inl b) = inl (not-true s.peer_busy b)
+    pick (inr b) = inr b
+
+    go : (b : Bool) → ((not s.peer_busy || s.probe) && nat_lt s.next (s.acked + s.window)) ≡ b → MaySend s
+    go true q = pick (or_cases (not s.peer_busy) s.probe (and_parts (not s.peer_busy || s.probe) (nat_lt s.next (s.acked + s.window)) q).0)
+    go false q = absurd (let n = rw q at e in cc)
+
+module _ (kf : ℕ) (near far : EndState) (to_near to_far : List OnWire) (h : Lasts 0 kf near far to_near to_far) where
+  -- the near end has become e and sent this frame, if any: what is on the wire to the far end then
+  record Sent (e : EndState) (frame : Option Control) : Type 0 where
+    marks : List Control
+    shown : Shown far to_near (with_next to_far frame) h.joined.near_marks marks
+    young : Young 4 (with_next to_far frame)
+    both : BothTimely 0 kf e far to_near (with_next to_far frame) h.joined.near_marks marks
+
+  -- it is one frame more, with this mark
+  sent_one : (e : EndState) (c m : Control) → c ≡ reduced m → Within (far.session.acked + 4) (length far.session.acc + 4) m
+      → BothTimely 0 kf e far to_near (with_frame to_far c) h.joined.near_marks (h.joined.far_marks ++ m ∷ []) → Sent e (Some c)
+  sent_one e c m is within both =
+      let were = shown near far to_near to_far h.joined in
+      record {
+        marks = h.joined.far_marks ++ m ∷ [];
+        shown = record {
+          near_shows = were.near_shows;
+          far_shows = shows_push to_far h.joined.far_marks c m is were.far_shows;
+          near_within = were.near_within;
+          far_within = within_push (far.session.acked + 4) (length far.session.acc + 4) h.joined.far_marks m within were.far_within;
+        };
+        young = young_push 4 to_far (record { frame = c; age = 0; number = 0 }) refl h.far_young;
+        both = both;
+      }
+
+  -- the number accepted that a frame carries
+  number_within : (length near.session.acc ≤ far.session.acked + 4) × (far.session.acked + 4 ≤ length near.session.acc + 7)
+  number_within =
+      let k = h.joined.far_sends in (
+        omega (arith, k.sent, k.reach_window, k.window),
+        omega (arith, counts_le far.session.acked (length near.session.acc) h.joined.far_marks k.counts),
+      )
+
+  answered : (k : Kind) (ds : List Due) → NoSrej (S k (length near.session.acc) ∷ [])
+      → (RewindDue near.due → RewindBy (S k (length near.session.acc) ∷ []) ⊎ RewindDue ds)
+      → ((a t : ℕ) → DueBy a t (length near.session.acc) near.due
+      → (Answers a (S k (length near.session.acc)) × (t ≤ 4)) ⊎ DueBy a t (length near.session.acc) ds)
+      → Sent (record near { due = ds }) (Some (S k (expected near.session)))
+  answered k ds srej rewind answers =
+      let j = h.joined in
+      let c : Control = S k (expected near.session) in
+      sent_one (record near { due = ds }) c (S k (length near.session.acc)) refl number_within (
+        timely_send_S near far to_near to_far j.near_marks j.far_marks 0 ds k (length near.session.acc) c h.near_timely,
+        timely_answer far near to_far to_near j.far_marks j.near_marks kf ds k c j.far_shows srej rewind answers h.far_timely,
+      )
+
+  sent : (info : Fragment) → fragment_due near.session ≡ Some info
+      → Sent (record near { session = sent_next near.session }) (Some (I (near.session.next % 8) (expected near.session) info))
+  sent info is =
+      let s = near.session in
+      let j = h.joined in
+      let k = h.joined.near_sends in
+      let low = counts_le s.acked (length far.session.acc) j.near_marks k.counts in
+      let tells = fragment_due-within s info is in
+      let c : Control = I (s.next % 8) (expected s) info in
+      sent_one (record near { session = sent_next s }) c (I s.next (length s.acc) info) refl
+      (number_within.0, number_within.1, omega (arith, tells.0, k.window, low), omega (arith, k.sent, k.reach_window, k.window, k.acked_next)) (
+        timely_send near far to_near to_far j.near_marks j.far_marks (length s.acc) info c j.far_shows k.acked_next
+            (slice_get_within s.out s.next info tells.1) (may_send s info is) h.near_timely,
+        timely_answer_I far near to_far to_near j.far_marks j.near_marks kf s.next info c h.far_timely,
+      )
+
+  -- the near end sends its next frame, where one is due
+  pub lasts_fetched : Lasts 0 kf (fetched near) far to_near (with_next to_far (frame_due near))
+  lasts_fetched =
+      let k = joined_fetched ⊥ ⊥ (λ v. v) near far to_near to_far (λ v. absurd v) h.joined in
+      let r =
+      fetch_cases Sent near (λ d ds p. control d ds p (rw p at h.joined.near_due))
+      (λ p q. record {
+        marks = h.joined.far_marks;
+        shown = shown near far to_near to_far h.joined;
+        young = h.far_young;
+        both = (h.near_timely, h.far_timely);
+      })
+      (λ info p q. sent info q) in
+      lasts_of 0 kf (fetched near) far to_near (with_next to_far (frame_due near)) h.joined.near_marks r.marks k r.shown h.near_young r.young r.both
+    where
+      control : (d : Due) (ds : List Due) → near.due ≡ d ∷ ds → AnswersOnly (d ∷ ds) → Sent (record near { due = ds }) (Some (control_due near d))
+      control Rr_due ds p a = answered Rr ds tt (λ g. inr (rw p at g)) (λ b t g. rw p at g)
+      control Rej_due ds p a = answered Rej ds tt (λ g. inl tt) (λ b t g. ⊎_elim (λ e. inl (tt, e)) (λ e. inr e) (rw p at g))
+      control Rnr_due ds p a = answered Rnr ds tt (λ g. inl tt) (λ b t g. ⊎_elim (λ e. inl (tt, e)) (λ e. inr e) (rw p at g))
+      control Rset_due ds p a = absurd a
+      control Ua_due ds p a = absurd a
+
+-- an end that has sent all that is due makes no probe
+pub no_probe : (kn kf : ℕ) (near far : EndState) (to_near to_far : List OnWire) → frame_due near ≡ None → Lasts kn kf near far to_near to_far
+    → near.session.probe ≡ false
+no_probe kn kf near far to_near to_far idle h = go near.session.probe refl
+  where
+    s : Session
+    s = near.session
+
+    none : fragment_due s ≡ None
+    none = fetch_cases (λ f c. c ≡ None → fragment_due s ≡ None) near (λ d ds p n. cc) (λ p q n. q) (λ info p q n. cc) idle
+
+    go : (b : Bool) → s.probe ≡ b → s.probe ≡ false
+    go false q = q
+    go true q =
+        let g = h.near_timely.probes q in
+        let may : (not s.peer_busy || s.probe) ≡ true = or_right (not s.peer_busy) s.probe q in
+        let inside : nat_lt s.next (s.acked + s.window) ≡ true = lt-ltb s.next (s.acked + s.window) (omega (arith, g.0, h.joined.near_sends.wide)) in
+        let test : ((not s.peer_busy || s.probe) && nat_lt s.next (s.acked + s.window)) ≡ true =
+        and_from (not s.peer_busy || s.probe) (nat_lt s.next (s.acked + s.window)) may inside in
+        let past : slice_get s.out s.next ≡ None = rw test at none in
+        absurd (let f = past_end s.out s.next past in omega (arith, g.0, g.1))
+
+-- a tick that ends no session makes no control frame
+pub ticked-due : (e : EndState) → e.phase ≡ Up → e.tries < 5 → (ticked e).due ≡ e.due
+ticked-due e up few = (tick_by (λ f. f.due ≡ e.due) e up (λ r. refl) (λ r. refl) (λ r l. refl) few).0

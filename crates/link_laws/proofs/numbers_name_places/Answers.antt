@@ -1,8 +1,0 @@
-use Rattle.link_laws.proofs.Numbers.{place_found, ahead_other}
-use Rattle.link_laws.proofs.numbers_name_places.Goals as goal
-
-pub returns-clause-acknowledged : goal.returns-clause-acknowledged
-returns-clause-acknowledged c = place_found
-
-pub returns-clause-expected : goal.returns-clause-expected
-returns-clause-expected c = ahead_other

@@ -1,0 +1,548 @@
+-- Two ends that are Up in one session and the wires between them: what is true of them at every moment of an event, and
+-- how each thing that one end does keeps it.
+use Rattle.std.proofs.Common.{◌≡◌, ℕ, ◌+◌, ◌%◌, ◌<◌, ◌≤◌, ◌==◌, Bool, true, false, List, [], ◌∷◌, ◌++◌, Option, Some, None, refl, ap, sym, ◌∙◌, ◌⊎◌, inl}
+use Rattle.std.proofs.Common.{inr, arith, length, length-append, max}
+use Rattle.std.specs.Prelude.{nat_lt}
+use Rattle.std.proofs.lemmas.Bool.{eqb-true, eqb-false, ltb-true, ltb-false, cases_eq, true≢false}
+use Rattle.swp_base.specs.declared.control_frames.Kind.{Kind}
+use Rattle.swp_base.specs.declared.control_frames.Kind.TheVariants.{Rr, Rej, Rnr, Srej}
+use Rattle.swp_base.specs.declared.control_frames.Control.{Control}
+use Rattle.swp_base.specs.declared.control_frames.Control.TheVariants.{I, S, Rset, Ua, Act, Clt}
+use Rattle.shdlc_core.specs.declared.answers.LinkState.TheVariants.{Up}
+use Rattle.shdlc_core.specs.declared.answers.Due.{Due}
+use Rattle.shdlc_core.specs.declared.answers.Due.TheVariants.{Rr as Rr_due, Rej as Rej_due, Rnr as Rnr_due, Rset as Rset_due, Ua as Ua_due}
+use Rattle.shdlc_core.specs.Machine.{EndState, Session, Fragment, place_of, acknowledged, ahead, received, accepted, repeated, discarded, taken, take_answer}
+use Rattle.shdlc_core.specs.Machine.{ticked, tick_answer, with_ready, put_out, fetched, frame_due, fragment_due, expected, control_due, sent_next, ready_again}
+use Rattle.shdlc_core.specs.Machine.{rejected, made_busy, sent_again, runs_timer}
+use Rattle.shdlc_core.proofs.Histories.{fragment_due-within}
+use Rattle.link_laws.specs.places.Wire.{OnWire, older, with_frame, is_rnr}
+use Rattle.link_laws.proofs.places.Numbers.{place_found, ahead_same, ahead_other, ahead_repeat}
+use Rattle.link_laws.proofs.places.Marks.{Shows, counts_le, AcksOnly, shows_push, shows_older}
+use Rattle.link_laws.proofs.places.Whole.{AnswersOnly, NoRnr, Whole, answers_push, no_rnr_push, rnr_pushed, push_not_empty, whole_send, whole_send_S}
+use Rattle.link_laws.proofs.places.Whole.{whole_answer_I}
+use Rattle.link_laws.proofs.places.Whole.{whole_answer_S}
+use Rattle.link_laws.proofs.places.Flows.{Flows, flows_put, flows_send, flows_send_S, flows_answer, flows_move, flows_number, flows_acked}
+use Rattle.link_laws.proofs.places.Flows.{flows_accept, flows_past}
+use Rattle.link_laws.proofs.places.Flows.{flows_lost_back}
+
+-- the sender with this session, the receiver that accepted acc, and the marks on the wires from it and to it
+abbrev pub Sends : Session → List Fragment → List Control → List Control → Type 0
+Sends s acc there back = Flows s.out s.window s.acked s.next s.reached acc there back
+
+-- an end that has become ready or not ready, and the control frames that wait then
+abbrev pub changed : EndState → Bool → List Due → EndState
+changed e r ds = record e { ready = r; due = ds; session = record e.session { answered_rnr = false } }
+
+pub ready_cases : (P : EndState → Type 0) (e : EndState) (r : Bool) → P e → P (changed e r e.due) → P (changed e r (e.due ++ Rr_due ∷ [])) → P (with_ready e r)
+ready_cases P e r same other answered = go e.ready r e.session.answered_rnr same other answered
+  where
+    at : Bool → Bool → EndState
+    at was noted = record e { ready = was; session = record e.session { answered_rnr = noted } }
+
+    go : (was now noted : Bool) → P (at was noted) → P (changed e now e.due) → P (changed e now (e.due ++ Rr_due ∷ [])) → P (with_ready (at was noted) now)
+    go true true noted a b c = a
+    go false false noted a b c = a
+    go true false noted a b c = b
+    go false true true a b c = c
+    go false true false a b c = b
+
+pub tick_cases : (P : EndState → Type 0) (e : EndState) → e.phase ≡ Up → (tick_answer e).ended ≡ None → P e → P (record e { timer = e.timer + 1 })
+    → P (sent_again e) → P (ticked e)
+tick_cases P e up answer same counted again = go (runs_timer e.session) (nat_lt (e.timer + 1) 10) (nat_lt e.tries 5) refl refl refl answer
+  where
+    go : (a b c : Bool) → runs_timer e.session ≡ a → nat_lt (e.timer + 1) 10 ≡ b → nat_lt e.tries 5 ≡ c → (tick_answer e).ended ≡ None → P (ticked e)
+    go false b c p q r n = rw (up, p) (rw up at same)
+    go true true c p q r n = rw (up, p, q) (rw up at counted)
+    go true false true p q r n = rw (up, p, q, r) (rw up at again)
+    go true false false p q r n = absurd (let m = rw (up, p, q, r) at n in cc)
+
+-- what an end does with a fragment, by cases
+pub received_cases : (P : EndState → Type 0) (e : EndState) (ns : ℕ) (info : Fragment)
+    → (ahead e.session ns ≡ 0 → P (accepted e info))
+    → ((ahead e.session ns ≡ 0 → ⊥) → ahead e.session ns < 4 → P e)
+    → ((ahead e.session ns ≡ 0 → ⊥) → ahead e.session ns < 4 → P (record e { due = e.due ++ Rej_due ∷ []; session = record e.session { gap_open = true } }))
+    → ((ahead e.session ns ≡ 0 → ⊥) → 4 ≤ ahead e.session ns → P (repeated e))
+    → P (discarded e)
+    → P (received e ns info)
+received_cases P e ns info takes same gap repeat not_ready =
+    go e.ready (ahead e.session ns == 0) (nat_lt (ahead e.session ns) 4) e.session.gap_open refl refl refl refl
+  where
+    go : (a b c d : Bool) → e.ready ≡ a → (ahead e.session ns == 0) ≡ b → nat_lt (ahead e.session ns) 4 ≡ c → e.session.gap_open ≡ d → P (received e ns info)
+    go false b c d p q r t = rw p (rw p at not_ready)
+    go true true c d p q r t = rw (p, q) (rw p at takes (eqb-true (ahead e.session ns) 0 q))
+    go true false true true p q r t = rw (p, q, r, t) (rw (p, t) at (same (eqb-false (ahead e.session ns) 0 q) (ltb-true (ahead e.session ns) 4 r)))
+    go true false true false p q r t = rw (p, q, r, t) (rw p at (gap (eqb-false (ahead e.session ns) 0 q) (ltb-true (ahead e.session ns) 4 r)))
+    go true false false d p q r t = rw (p, q, r) (rw p at (repeat (eqb-false (ahead e.session ns) 0 q) (ltb-false (ahead e.session ns) 4 r)))
+
+-- a place that isn't the one expected, and not ahead of it, is behind it
+pub not_expected : (s : Session) (p : ℕ) → (ahead s (p % 8) ≡ 0 → ⊥) → p ≤ length s.acc → p < length s.acc
+not_expected s p z b = go (cases_eq p (length s.acc))
+  where
+    go : (p ≡ length s.acc) ⊎ (p ≡ length s.acc → ⊥) → p < length s.acc
+    go (inl e) = absurd (z (ahead_same s p e))
+    go (inr n) = omega arith
+
+pub gap_behind : (s : Session) (p : ℕ) → (ahead s (p % 8) ≡ 0 → ⊥) → ahead s (p % 8) < 4 → p ≤ length s.acc → length s.acc ≤ p + 4 → ⊥
+gap_behind s p z g b i =
+    let behind : 4 ≤ ahead s (p % 8) = ahead_repeat s p (not_expected s p z b) i in
+    omega arith
+
+-- RR and REJ are the only control frames where nothing was lost and no RNR was made
+acks_rest : (k : Kind) (n : ℕ) (ms : List Control) → AcksOnly (S k n ∷ ms) → AcksOnly ms
+acks_rest Rr n ms h = h
+acks_rest Rej n ms h = h
+acks_rest Rnr n ms h = absurd h
+acks_rest Srej n ms h = absurd h
+
+no_stop : (k : Kind) (n : ℕ) (ms : List Control) → ((k ≡ Rnr) ⊎ (k ≡ Srej)) → AcksOnly (S k n ∷ ms) → ⊥
+no_stop Rr n ms (inl e) h = cc
+no_stop Rr n ms (inr e) h = cc
+no_stop Rej n ms (inl e) h = cc
+no_stop Rej n ms (inr e) h = cc
+no_stop Rnr n ms e h = h
+no_stop Srej n ms e h = h
+
+pub taken_I : (P : EndState → Type 0) (e : EndState) (ns nr x : ℕ) (info : Fragment) → e.phase ≡ Up → place_of e.session nr ≡ Some x
+    → P (received (acknowledged e x) ns info) → P (taken e (I ns nr info))
+taken_I P e ns nr x info up at h = rw (up, at) (rw up at h)
+
+-- P holds of the end whatever kind of S frame acknowledges x
+pub record HoldsOfKinds (P : EndState → Type 0) (e : EndState) (kind : Kind) (x : ℕ) : Type 0 where
+  pub rr : kind ≡ Rr → P (ready_again e x)
+  pub rej : kind ≡ Rej → P (rejected e x)
+  pub rnr : kind ≡ Rnr → P (made_busy e x)
+  pub srej : kind ≡ Srej → P e
+
+pub taken_S : (P : EndState → Type 0) (e : EndState) (kind : Kind) (nr x : ℕ) → e.phase ≡ Up → place_of e.session nr ≡ Some x
+    → HoldsOfKinds P e kind x → P (taken e (S kind nr))
+taken_S P e Rr nr x up at h = rw (up, at) (rw up at (h.rr refl))
+taken_S P e Rej nr x up at h = rw (up, at) (rw up at (h.rej refl))
+taken_S P e Rnr nr x up at h = rw (up, at) (rw up at (h.rnr refl))
+taken_S P e Srej nr x up at h = rw up (rw up at (h.srej refl))
+
+pub answer_I : (e : EndState) (ns nr : ℕ) (info : Fragment) → e.phase ≡ Up → (take_answer e (I ns nr info)).ended ≡ None
+answer_I e ns nr info up = rw up refl
+
+pub answer_S : (e : EndState) (k : Kind) (nr : ℕ) → e.phase ≡ Up → (take_answer e (S k nr)).ended ≡ None
+answer_S e k nr up = rw up refl
+
+-- what one fetch does: a control frame goes first, and a fragment where there is none
+pub fetch_cases : (P : EndState → Option Control → Type 0) (e : EndState)
+    → ((d : Due) (ds : List Due) → e.due ≡ d ∷ ds → P (record e { due = ds }) (Some (control_due e d)))
+    → (e.due ≡ [] → fragment_due e.session ≡ None → P e None)
+    → ((info : Fragment) → e.due ≡ [] → fragment_due e.session ≡ Some info
+    → P (record e { session = sent_next e.session }) (Some (I (e.session.next % 8) (expected e.session) info)))
+    → P (fetched e) (frame_due e)
+fetch_cases P e control none fragment = go e.due (fragment_due e.session) refl refl
+  where
+    go : (ds : List Due) (f : Option Fragment) → e.due ≡ ds → fragment_due e.session ≡ f → P (fetched e) (frame_due e)
+    go [] None p q = rw (p, q) (rw p at (none p q))
+    go [] (Some info) p q = rw (p, q) (rw p at (fragment info p q))
+    go (d ∷ ds) f p q = rw p (rw p at (control d ds p))
+
+-- a wire with one more frame, where there is one
+abbrev pub with_next : List OnWire → Option Control → List OnWire
+with_next wire None = wire
+with_next wire (Some c) = with_frame wire c
+
+abbrev pub rnr_next : Option Control → Bool
+rnr_next None = false
+rnr_next (Some c) = is_rnr c
+
+-- W says that nothing was lost and no RNR was made
+pub record Joined (W : Type 0) (near far : EndState) (to_near to_far : List OnWire) : Type 0 where
+  pub near_up : near.phase ≡ Up
+  pub far_up : far.phase ≡ Up
+  pub near_due : AnswersOnly near.due
+  pub far_due : AnswersOnly far.due
+  -- the marks on the wire to each end
+  pub near_marks : List Control
+  pub far_marks : List Control
+  pub near_shows : Shows to_near near_marks
+  pub far_shows : Shows to_far far_marks
+  pub near_sends : Sends near.session far.session.acc far_marks near_marks
+  pub far_sends : Sends far.session near.session.acc near_marks far_marks
+  pub near_whole : W → NoRnr far.due → Whole near.session far.session.acc far.due far_marks near_marks
+  pub far_whole : W → NoRnr near.due → Whole far.session near.session.acc near.due near_marks far_marks
+
+-- to the other end near' is what near is: it changed its timer and what it notes of itself, and may have more answers to send
+record SameToOther (near near' : EndState) : Type 0 where
+  up : near'.phase ≡ Up
+  answers : AnswersOnly near'.due
+  no_rnr : NoRnr near'.due → NoRnr near.due
+  none_due : near'.due ≡ [] → near.due ≡ []
+  session : record near'.session { answered_rnr = false } ≡ record near.session { answered_rnr = false }
+
+module _ (W : Type 0) where
+  -- the two ends are alike
+  pub joined_exchanged : (near far : EndState) (to_near to_far : List OnWire) → Joined W near far to_near to_far → Joined W far near to_far to_near
+  joined_exchanged near far to_near to_far h =
+      record {
+        near_up = h.far_up;
+        far_up = h.near_up;
+        near_due = h.far_due;
+        far_due = h.near_due;
+        near_marks = h.far_marks;
+        far_marks = h.near_marks;
+        near_shows = h.far_shows;
+        far_shows = h.near_shows;
+        near_sends = h.far_sends;
+        far_sends = h.near_sends;
+        near_whole = h.far_whole;
+        far_whole = h.near_whole;
+      }
+
+  -- less is claimed to be whole
+  pub joined_weaker : (V : Type 0) → (V → W) → (near far : EndState) (to_near to_far : List OnWire) → Joined W near far to_near to_far
+      → Joined V near far to_near to_far
+  joined_weaker V f near far to_near to_far h =
+      record {
+        near_up = h.near_up;
+        far_up = h.far_up;
+        near_due = h.near_due;
+        far_due = h.far_due;
+        near_marks = h.near_marks;
+        far_marks = h.far_marks;
+        near_shows = h.near_shows;
+        far_shows = h.far_shows;
+        near_sends = h.near_sends;
+        far_sends = h.far_sends;
+        near_whole = λ v. h.near_whole (f v);
+        far_whole = λ v. h.far_whole (f v);
+      }
+
+  -- more is offered
+  pub joined_put : (near far : EndState) (to_near to_far : List OnWire) (more : List Fragment)
+      → Joined W near far to_near to_far → Joined W (put_out near more) far to_near to_far
+  joined_put near far to_near to_far more h =
+      let s = near.session in
+      record {
+        near_up = h.near_up;
+        far_up = h.far_up;
+        near_due = h.near_due;
+        far_due = h.far_due;
+        near_marks = h.near_marks;
+        far_marks = h.far_marks;
+        near_shows = h.near_shows;
+        far_shows = h.far_shows;
+        near_sends = flows_put h.near_sends more;
+        far_sends = h.far_sends;
+        near_whole = λ w n. let x = h.near_whole w n in record { caught = x.caught; told = x.told; free = x.free; acks = x.acks };
+        far_whole = h.far_whole;
+      }
+
+  -- an end that changed its timer and what it notes of itself, and that has perhaps one more answer to send
+  joined_same : {near near' far : EndState} {to_near to_far : List OnWire} → SameToOther near near'
+      → Joined W near far to_near to_far → Joined W near' far to_near to_far
+  joined_same {near} {near'} same h =
+      let acc : near'.session.acc ≡ near.session.acc = ap (λ (s : Session). s.acc) same.session in
+      let acked : near'.session.acked ≡ near.session.acked = ap (λ (s : Session). s.acked) same.session in
+      let reached : near'.session.reached ≡ near.session.reached = ap (λ (s : Session). s.reached) same.session in
+      record {
+        near_up = same.up;
+        far_up = h.far_up;
+        near_due = same.answers;
+        far_due = h.far_due;
+        near_marks = h.near_marks;
+        far_marks = h.far_marks;
+        near_shows = h.near_shows;
+        far_shows = h.far_shows;
+        near_sends = rw (ap (λ (s : Session). Sends s) same.session) h.near_sends;
+        far_sends = rw acc h.far_sends;
+        near_whole = λ w n.
+            let x = h.near_whole w n in
+            record { caught = rw reached x.caught; told = rw acked x.told; free = ap (λ (s : Session). s.peer_busy) same.session ∙ x.free; acks = x.acks };
+        far_whole = λ w n.
+            let x = h.far_whole w (same.no_rnr n) in
+            record { caught = rw acc x.caught; told = λ e. x.told (same.none_due e) ∙ ap length (sym acc); free = x.free; acks = x.acks };
+      }
+
+  -- the end becomes ready or not ready
+  pub joined_ready : (near far : EndState) (to_near to_far : List OnWire) (r : Bool)
+      → Joined W near far to_near to_far → Joined W (with_ready near r) far to_near to_far
+  joined_ready near far to_near to_far r h =
+      ready_cases (λ e. Joined W e far to_near to_far) near r h
+      (joined_same (record { up = h.near_up; answers = h.near_due; no_rnr = λ n. n; none_due = λ n. n; session = refl }) h)
+      (joined_same (record {
+        up = h.near_up;
+        answers = answers_push near.due Rr_due tt h.near_due;
+        no_rnr = no_rnr_push near.due Rr_due;
+        none_due = λ n. absurd (push_not_empty near.due Rr_due n);
+        session = refl;
+      }) h)
+
+  -- a tick that doesn't end the session
+  pub joined_ticked : (near far : EndState) (to_near to_far : List OnWire) → (tick_answer near).ended ≡ None
+      → Joined W near far to_near to_far → Joined W (ticked near) far to_near to_far
+  joined_ticked near far to_near to_far answer h =
+      let s = near.session in
+      tick_cases (λ e. Joined W e far to_near to_far) near h.near_up answer h
+      (joined_same (record { up = h.near_up; answers = h.near_due; no_rnr = λ n. n; none_due = λ n. n; session = refl }) h)
+      (record {
+        near_up = h.near_up;
+        far_up = h.far_up;
+        near_due = h.near_due;
+        far_due = h.far_due;
+        near_marks = h.near_marks;
+        far_marks = h.far_marks;
+        near_shows = h.near_shows;
+        far_shows = h.far_shows;
+        near_sends = flows_move h.near_sends (omega arith) (omega (arith, h.near_sends.acked_next, h.near_sends.next_reach));
+        far_sends = h.far_sends;
+        near_whole = λ w n. let x = h.near_whole w n in record { caught = x.caught; told = x.told; free = x.free; acks = x.acks };
+        far_whole = h.far_whole;
+      })
+
+  -- a frame on the way to the near end is lost, and nothing is whole any more
+  pub joined_lost : (V : Type 0) → (V → ⊥) → (near far : EndState) (x : OnWire) (to_near to_far : List OnWire)
+      → Joined W near far (x ∷ to_near) to_far → Joined V near far to_near to_far
+  joined_lost V lossy near far x to_near to_far h = go h.near_marks h.near_shows h.near_sends h.far_sends
+    where
+      go : (ms : List Control) → Shows (x ∷ to_near) ms → Sends near.session far.session.acc h.far_marks ms
+          → Sends far.session near.session.acc ms h.far_marks → Joined V near far to_near to_far
+      go [] shows near_sends far_sends = absurd shows
+      go (m ∷ ms) shows near_sends far_sends =
+          let s = near.session in
+          let t = far.session in
+          record {
+            near_up = h.near_up;
+            far_up = h.far_up;
+            near_due = h.near_due;
+            far_due = h.far_due;
+            near_marks = ms;
+            far_marks = h.far_marks;
+            near_shows = shows.1;
+            far_shows = h.far_shows;
+            near_sends = flows_lost_back near_sends;
+            far_sends = flows_past far_sends;
+            near_whole = λ v. absurd (lossy v);
+            far_whole = λ v. absurd (lossy v);
+          }
+
+  -- the frames on the way to the near end grow older
+  pub joined_older : (near far : EndState) (to_near to_far : List OnWire)
+      → Joined W near far to_near to_far → Joined W near far (older to_near) to_far
+  joined_older near far to_near to_far h =
+      record {
+        near_up = h.near_up;
+        far_up = h.far_up;
+        near_due = h.near_due;
+        far_due = h.far_due;
+        near_marks = h.near_marks;
+        far_marks = h.far_marks;
+        near_shows = shows_older to_near h.near_marks h.near_shows;
+        far_shows = h.far_shows;
+        near_sends = h.near_sends;
+        far_sends = h.far_sends;
+        near_whole = h.near_whole;
+        far_whole = h.far_whole;
+      }
+
+  -- the near end takes the first frame on the way to it, which ends no session
+  pub joined_taken : (near far : EndState) (x : OnWire) (to_near to_far : List OnWire)
+      → Joined W near far (x ∷ to_near) to_far
+      → Joined W (taken near x.frame) far to_near to_far × ((take_answer near x.frame).ended ≡ None)
+  joined_taken near far x to_near to_far h = go h.near_marks h.near_shows h.near_sends h.far_sends h.near_whole h.far_whole
+    where
+      s : Session
+      s = near.session
+
+      t : Session
+      t = far.session
+
+      go : (ms : List Control) → Shows (x ∷ to_near) ms → Sends near.session far.session.acc h.far_marks ms
+          → Sends far.session near.session.acc ms h.far_marks
+          → (W → NoRnr far.due → Whole near.session far.session.acc far.due h.far_marks ms)
+          → (W → NoRnr near.due → Whole far.session near.session.acc near.due ms h.far_marks)
+          → Joined W (taken near x.frame) far to_near to_far × ((take_answer near x.frame).ended ≡ None)
+      go [] shows near_sends far_sends near_whole far_whole = absurd shows
+      go (I p n info ∷ ms) shows near_sends far_sends near_whole far_whole =
+          let number = flows_number (I p n info) n refl near_sends in
+          let reach : s.reached ≤ s.acked + 4 = omega (arith, near_sends.window, near_sends.reach_window) in
+          let place : place_of s (n % 8) ≡ Some n = place_found s n number.0 number.1 reach in
+          let e : EndState = acknowledged near n in
+          let sends : Sends e.session t.acc h.far_marks ms =
+          flows_acked near_sends refl (omega arith) (omega (arith, near_sends.next_reach, number.1)) in
+          let receives : Sends t s.acc ms h.far_marks = flows_past far_sends in
+          let low : t.acked ≤ length s.acc = counts_le t.acked (length s.acc) h.far_marks far_sends.counts in
+          let high : p ≤ length s.acc + 3 = omega (arith, far_sends.places.1, far_sends.reach_window, far_sends.window, low) in
+          let whole : W → NoRnr far.due → Whole e.session t.acc far.due h.far_marks ms =
+          λ w q. let y = near_whole w q in record { caught = y.caught; told = y.told; free = y.free; acks = y.acks } in
+          -- a place that isn't ahead of what was accepted shows no gap
+          let no_gap : (ahead e.session (p % 8) ≡ 0 → ⊥) → ahead e.session (p % 8) < 4 → p ≤ length s.acc → ⊥ =
+          λ z g b. gap_behind e.session p z g b far_sends.places.0 in
+          let same : (d : List Due) → AnswersOnly d → (g b : Bool) → (W → NoRnr d → Whole t s.acc d ms h.far_marks)
+          → Joined W (record e { due = d; session = record e.session { gap_open = g; answered_rnr = b } }) far to_near to_far =
+          λ d a g b c. record {
+            near_up = h.near_up;
+            far_up = h.far_up;
+            near_due = a;
+            far_due = h.far_due;
+            near_marks = ms;
+            far_marks = h.far_marks;
+            near_shows = shows.1;
+            far_shows = h.far_shows;
+            near_sends = sends;
+            far_sends = receives;
+            near_whole = λ w q. let y = whole w q in record { caught = y.caught; told = y.told; free = y.free; acks = y.acks };
+            far_whole = c;
+          } in (
+            rw shows.0 (taken_I (λ f. Joined W f far to_near to_far) near (p % 8) (n % 8) n info h.near_up place
+                (received_cases (λ f. Joined W f far to_near to_far) e (p % 8) info
+                (λ z. let at : p ≡ length s.acc = ahead_other e.session p far_sends.places.0 high z in
+                record {
+                  near_up = h.near_up;
+                  far_up = h.far_up;
+                  near_due = answers_push e.due Rr_due tt h.near_due;
+                  far_due = h.far_due;
+                  near_marks = ms;
+                  far_marks = h.far_marks;
+                  near_shows = shows.1;
+                  far_shows = h.far_shows;
+                  near_sends = sends;
+                  far_sends = flows_accept far_sends at;
+                  near_whole = λ w q. let y = whole w q in record { caught = y.caught; told = y.told; free = y.free; acks = y.acks };
+                  far_whole = λ w q.
+                      let y = far_whole w (no_rnr_push near.due Rr_due q) in
+                      let next : length (s.acc ++ info ∷ []) ≡ max (length s.acc) (p + 1) = omega (arith, length-append s.acc (info ∷ [])) in
+                      record {
+                        caught = rw next y.caught.1;
+                        told = λ f. absurd (push_not_empty near.due Rr_due f);
+                        free = y.free;
+                        acks = y.acks;
+                      };
+                })
+                (λ z g. same e.due h.near_due s.gap_open s.answered_rnr (λ w q. absurd (no_gap z g (far_whole w q).caught.0)))
+                (λ z g. same (e.due ++ Rej_due ∷ []) (answers_push e.due Rej_due tt h.near_due) true s.answered_rnr
+                (λ w q. absurd (no_gap z g (far_whole w (no_rnr_push near.due Rej_due q)).caught.0)))
+                (λ z g. same (e.due ++ Rr_due ∷ []) (answers_push e.due Rr_due tt h.near_due) s.gap_open s.answered_rnr
+                (λ w q.
+                let y = far_whole w (no_rnr_push near.due Rr_due q) in
+                let below : p < length s.acc = not_expected e.session p z y.caught.0 in
+                let still : length s.acc ≡ max (length s.acc) (p + 1) = omega arith in
+                record {
+                  caught = rw still y.caught.1;
+                  told = λ f. absurd (push_not_empty near.due Rr_due f);
+                  free = y.free;
+                  acks = y.acks;
+                }))
+                (same (e.due ++ Rnr_due ∷ []) (answers_push e.due Rnr_due tt h.near_due) s.gap_open true (λ w q. absurd (rnr_pushed near.due q))))),
+            rw shows.0 (answer_I near (p % 8) (n % 8) info h.near_up),
+          )
+      go (S k n ∷ ms) shows near_sends far_sends near_whole far_whole =
+          let number = flows_number (S k n) n refl near_sends in
+          let reach : s.reached ≤ s.acked + 4 = omega (arith, near_sends.window, near_sends.reach_window) in
+          let place : place_of s (n % 8) ≡ Some n = place_found s n number.0 number.1 reach in
+          let receives : Sends t s.acc ms h.far_marks = flows_past far_sends in
+          let from : (f : EndState) → f.phase ≡ Up → f.due ≡ near.due → Sends f.session t.acc h.far_marks ms → f.session.acc ≡ s.acc
+          → (W → NoRnr far.due → Whole f.session t.acc far.due h.far_marks ms) → Joined W f far to_near to_far =
+          λ f up due sends acc whole. record {
+            near_up = up;
+            far_up = h.far_up;
+            near_due = rw due h.near_due;
+            far_due = h.far_due;
+            near_marks = ms;
+            far_marks = h.far_marks;
+            near_shows = shows.1;
+            far_shows = h.far_shows;
+            near_sends = sends;
+            far_sends = rw acc receives;
+            near_whole = whole;
+            far_whole = λ w q.
+                let y = far_whole w (rw due at q) in
+                record { caught = rw acc y.caught; told = λ z. y.told (sym due ∙ z) ∙ ap length (sym acc); free = y.free; acks = y.acks };
+          } in
+          let acked : (s' : ℕ) → n ≤ s' → s' ≤ s.reached → Flows s.out s.window n s' s.reached t.acc h.far_marks ms =
+          λ s' i j. flows_acked near_sends refl i j in
+          let upper : max s.next n ≤ s.reached = omega (arith, near_sends.next_reach, number.1) in (
+            rw shows.0 (taken_S (λ f. Joined W f far to_near to_far) near k (n % 8) n h.near_up place (record {
+              rr = λ is. from (ready_again near n) h.near_up refl (acked (max s.next n) (omega arith) upper) refl
+                  (freed k n ms near_whole (ready_again near n).session refl refl refl);
+              rej = λ is. from (rejected near n) h.near_up refl (acked n (omega arith) number.1) refl
+                  (freed k n ms near_whole (rejected near n).session refl refl refl);
+              rnr = λ is. from (made_busy near n) h.near_up refl (acked n (omega arith) number.1) refl
+                  (stopped_by k n ms (inl is) near_whole (made_busy near n).session);
+              srej = λ is. from near h.near_up refl (flows_lost_back near_sends) refl (stopped_by k n ms (inr is) near_whole s);
+            })),
+            rw shows.0 (answer_S near k (n % 8) h.near_up),
+          )
+        where
+          -- an acknowledgement frees the sender
+          freed : (k : Kind) (n : ℕ) (ms : List Control) → (W → NoRnr far.due → Whole s t.acc far.due h.far_marks (S k n ∷ ms))
+              → (f : Session) → f.acked ≡ n → f.reached ≡ s.reached → f.peer_busy ≡ false
+              → W → NoRnr far.due → Whole f t.acc far.due h.far_marks ms
+          freed k n ms whole f acked reached busy w q =
+              let y = whole w q in
+              record { caught = rw reached y.caught; told = rw acked y.told; free = busy; acks = acks_rest k n ms y.acks }
+
+          stopped_by : (k : Kind) (n : ℕ) (ms : List Control) → ((k ≡ Rnr) ⊎ (k ≡ Srej)) → (W → NoRnr far.due → Whole s t.acc far.due h.far_marks (S k n ∷ ms))
+              → (f : Session) → W → NoRnr far.due → Whole f t.acc far.due h.far_marks ms
+          stopped_by k n ms is whole f w q = absurd (no_stop k n ms is (whole w q).acks)
+      go (Rset _ _ ∷ ms) shows near_sends far_sends near_whole far_whole = absurd near_sends.counts
+      go (Ua ∷ ms) shows near_sends far_sends near_whole far_whole = absurd near_sends.counts
+      go (Act _ _ ∷ ms) shows near_sends far_sends near_whole far_whole = absurd near_sends.counts
+      go (Clt ∷ ms) shows near_sends far_sends near_whole far_whole = absurd near_sends.counts
+
+  -- ## A frame is made. V says that nothing was lost and no RNR was made, this frame among them.
+
+  joined_answered : {V : Type 0} → (V → W) → {near far : EndState} {to_near to_far : List OnWire} (k : Kind) {ds : List Due} → AnswersOnly ds
+      → (V → AcksOnly (S k (length near.session.acc) ∷ [])) → (V → NoRnr ds → NoRnr near.due)
+      → Joined W near far to_near to_far → Joined V (record near { due = ds }) far to_near (with_frame to_far (S k (expected near.session)))
+  joined_answered weak {near} {far} {to_far = to_far} k due acks rnr h =
+      let s = near.session in
+      let t = far.session in
+      record {
+        near_up = h.near_up;
+        far_up = h.far_up;
+        near_due = due;
+        far_due = h.far_due;
+        near_marks = h.near_marks;
+        far_marks = h.far_marks ++ S k (length s.acc) ∷ [];
+        near_shows = h.near_shows;
+        far_shows = shows_push to_far h.far_marks (S k (expected s)) (S k (length s.acc)) refl h.far_shows;
+        near_sends = flows_send_S h.near_sends (length s.acc) k;
+        far_sends = flows_answer h.far_sends (S k (length s.acc)) refl;
+        near_whole = λ v q. whole_send_S (length s.acc) k (h.near_whole (weak v) q);
+        far_whole = λ v q. whole_answer_S k (acks v) (h.far_whole (weak v) (rnr v q));
+      }
+
+  joined_sent : {V : Type 0} → (V → W) → {near far : EndState} {to_near to_far : List OnWire} {info : Fragment} → fragment_due near.session ≡ Some info
+      → Joined W near far to_near to_far
+      → Joined V (record near { session = sent_next near.session }) far to_near (with_frame to_far (I (near.session.next % 8) (expected near.session) info))
+  joined_sent weak {near} {far} {to_far = to_far} {info} is h =
+      let s = near.session in
+      let t = far.session in
+      let tells = fragment_due-within s info is in
+      record {
+        near_up = h.near_up;
+        far_up = h.far_up;
+        near_due = h.near_due;
+        far_due = h.far_due;
+        near_marks = h.near_marks;
+        far_marks = h.far_marks ++ I s.next (length s.acc) info ∷ [];
+        near_shows = h.near_shows;
+        far_shows = shows_push to_far h.far_marks (I (s.next % 8) (expected s) info) (I s.next (length s.acc) info) refl h.far_shows;
+        near_sends = flows_send h.near_sends (length s.acc) tells.0 tells.1;
+        far_sends = flows_answer h.far_sends (I s.next (length s.acc) info) refl;
+        near_whole = λ v q. whole_send (length s.acc) info h.near_sends.next_reach refl refl refl (h.near_whole (weak v) q);
+        far_whole = λ v q. whole_answer_I s.next info (h.far_whole (weak v) q);
+      }
+
+  -- the near end sends its next frame, where one is due
+  pub joined_fetched : (V : Type 0) → (V → W) → (near far : EndState) (to_near to_far : List OnWire)
+      → (V → rnr_next (frame_due near) ≡ false)
+      → Joined W near far to_near to_far → Joined V (fetched near) far to_near (with_next to_far (frame_due near))
+  joined_fetched V weak near far to_near to_far rnr h =
+      fetch_cases (λ e c. (V → rnr_next c ≡ false) → Joined V e far to_near (with_next to_far c)) near
+      (λ d ds p r. control d ds p (rw p at h.near_due) r)
+      (λ p q r. joined_weaker V weak near far to_near to_far h)
+      (λ info p q r. joined_sent weak q h)
+      rnr
+    where
+      control : (d : Due) (ds : List Due) → near.due ≡ d ∷ ds → AnswersOnly (d ∷ ds) → (V → rnr_next (Some (control_due near d)) ≡ false)
+          → Joined V (record near { due = ds }) far to_near (with_frame to_far (control_due near d))
+      control Rr_due ds p a r = joined_answered weak Rr a (λ v. tt) (λ v n. rw p n) h
+      control Rej_due ds p a r = joined_answered weak Rej a (λ v. tt) (λ v n. rw p n) h
+      control Rnr_due ds p a r = joined_answered weak Rnr a (λ v. absurd (true≢false (r v))) (λ v n. absurd (true≢false (r v))) h
+      control Rset_due ds p a r = absurd a
+      control Ua_due ds p a r = absurd a

@@ -1,0 +1,222 @@
+-- The two machines, the wires and the numbers compute the worked examples with losses and resets.
+use Rattle.std.proofs.Common.{true, false, ◌≡◌, refl, Some, ℕ, suc, zero, List, [], ◌∷◌, ◌++◌, map}
+use Rattle.swp_base.specs.declared.control_frames.Control.{Control}
+use Rattle.swp_base.specs.declared.control_frames.Control.TheVariants.{I, S, Rset}
+use Rattle.swp_base.specs.declared.control_frames.Kind.TheVariants.{Rr, Rej, Rnr}
+use Rattle.shdlc_core.specs.declared.answers.LinkState.TheVariants.{Waiting, Up, Down}
+use Rattle.link_laws.specs.sessions.Losses.{no_losses, losses_after, IsShdlcQuiet}
+use Rattle.link_laws.specs.sessions.Settled.{sure_after, IsShdlcSettled}
+use Rattle.link_laws.specs.sessions.Sessions.ShdlcTurn.{Offer, SetReady}
+use Rattle.link_laws.specs.sessions.Sessions.{OnWire, start, start_down, shdlc_number_of, ShdlcLinkEvent, shdlc_after}
+use Rattle.link_laws.specs.sessions.Sessions.ShdlcEndEvent.{Turns, Deliver, Ignore, Lose, Reset, Cut, Stop}
+use Rattle.link_laws.specs.sessions.Sessions.ShdlcLinkEvent.{AtController, AtHost, Tick}
+
+abbrev ticks : ℕ → List ShdlcLinkEvent
+ticks zero = []
+ticks (suc n) = Tick (Some []) [] (Some []) ∷ ticks n
+
+abbrev frames : List OnWire → List Control
+frames wire = map (λ x. x.frame) wire
+
+-- the one packet of the message 03 on pipe 01
+abbrev packet : List ℕ
+packet = 129 ∷ 3 ∷ []
+
+abbrev send : ShdlcLinkEvent
+send = AtHost (Turns (Offer (packet ∷ []) ∷ []))
+
+-- a lost frame is rejected and sent again
+abbrev rejected : List ShdlcLinkEvent
+rejected = send ∷ send ∷ send ∷ AtController (Deliver []) ∷ AtController Lose ∷ AtController (Deliver []) ∷ []
+
+rejected_answers : frames (shdlc_after start rejected).to_host ≡ S Rr 1 ∷ S Rej 1 ∷ []
+rejected_answers = refl
+
+abbrev gap : List ShdlcLinkEvent
+gap = rejected ++ (AtHost (Deliver []) ∷ AtHost (Deliver []) ∷ [])
+
+gap_sends_again : frames (shdlc_after start gap).to_controller ≡ I 1 0 packet ∷ I 2 0 packet ∷ []
+gap_sends_again = refl
+
+gap_accepts_all : (shdlc_after start (gap ++ (AtController (Deliver []) ∷ AtController (Deliver []) ∷ []))).controller.side.session.acc
+    ≡ packet ∷ packet ∷ packet ∷ []
+gap_accepts_all = refl
+
+-- a lost acknowledgement is answered again
+abbrev lost_ack : List ShdlcLinkEvent
+lost_ack = send ∷ AtController (Deliver []) ∷ AtHost Lose ∷ ticks 10
+
+lost_ack_sends_again : frames (shdlc_after start lost_ack).to_controller ≡ I 0 0 packet ∷ []
+lost_ack_sends_again = refl
+
+abbrev acked_again : List ShdlcLinkEvent
+acked_again = lost_ack ++ (AtController (Deliver []) ∷ AtHost (Deliver []) ∷ [])
+
+acked_again_accepts_once : (shdlc_after start acked_again).controller.side.session.acc ≡ packet ∷ []
+acked_again_accepts_once = refl
+
+acked_again_is_acknowledged : (shdlc_after start acked_again).host.side.session.acked ≡ 1
+acked_again_is_acknowledged = refl
+
+-- busy, then ready
+abbrev busy : List ShdlcLinkEvent
+busy =
+    AtController (Turns (SetReady false ∷ [])) ∷ send ∷ AtController (Deliver []) ∷ AtController (Turns (SetReady true ∷ [])) ∷ []
+
+busy_answers : frames (shdlc_after start busy).to_host ≡ S Rnr 0 ∷ S Rr 0 ∷ []
+busy_answers = refl
+
+busy_sends_again : frames (shdlc_after start (busy ++ (AtHost (Deliver []) ∷ AtHost (Deliver []) ∷ []))).to_controller ≡ I 0 0 packet ∷ []
+busy_sends_again = refl
+
+-- nobody delivers: each frame is lost by its age, and the sixtieth tick ends the session
+abbrev nobody : ℕ → List ShdlcLinkEvent
+nobody n = send ∷ ticks n
+
+nobody_goes_on : (shdlc_after start (nobody 59)).host.side.phase ≡ Up
+nobody_goes_on = refl
+
+nobody_ends : (shdlc_after start (nobody 60)).host.side.phase ≡ Waiting
+nobody_ends = refl
+
+nobody_resets : frames (shdlc_after start (nobody 60)).to_controller ≡ Rset 4 0 ∷ []
+nobody_resets = refl
+
+-- what was lost in that session isn't counted in the next one
+abbrev next_session : List ShdlcLinkEvent
+next_session = nobody 60 ++ (AtController (Deliver []) ∷ AtHost (Deliver []) ∷ [])
+
+next_session_number : shdlc_number_of (shdlc_after start next_session).host ≡ 1
+next_session_number = refl
+
+next_session_lost : (losses_after no_losses start next_session).lost ≡ false
+next_session_lost = refl
+
+-- a reset whose first RSET is lost
+abbrev resent : List ShdlcLinkEvent
+resent = AtHost (Reset 4 []) ∷ AtController Lose ∷ ticks 10 ++ (AtController (Deliver []) ∷ AtHost (Deliver []) ∷ [])
+
+resent_controller : shdlc_number_of (shdlc_after start resent).controller ≡ 2
+resent_controller = refl
+
+resent_host : shdlc_number_of (shdlc_after start resent).host ≡ 2
+resent_host = refl
+
+resent_is_up : (shdlc_after start resent).host.side.phase ≡ Up
+resent_is_up = refl
+
+-- two resets that cross
+abbrev crossed : List ShdlcLinkEvent
+crossed =
+    AtController (Reset 4 []) ∷ AtHost (Reset 4 []) ∷ AtController (Deliver []) ∷ AtHost (Deliver []) ∷ AtHost (Deliver []) ∷ AtController (Deliver []) ∷ []
+
+crossed_controller : shdlc_number_of (shdlc_after start crossed).controller ≡ 2
+crossed_controller = refl
+
+crossed_host : shdlc_number_of (shdlc_after start crossed).host ≡ 2
+crossed_host = refl
+
+crossed_is_up : (shdlc_after start crossed).controller.side.phase ≡ Up
+crossed_is_up = refl
+
+-- two that cross, of which one is lost: one end comes up alone, and both after the next RSET
+abbrev one_lost : List ShdlcLinkEvent
+one_lost = AtController (Reset 4 []) ∷ AtHost (Reset 4 []) ∷ AtController Lose ∷ AtHost (Deliver []) ∷ AtController (Deliver []) ∷ []
+
+one_lost_controller : shdlc_number_of (shdlc_after start one_lost).controller ≡ 1
+one_lost_controller = refl
+
+one_lost_host : (shdlc_after start one_lost).host.side.phase ≡ Waiting
+one_lost_host = refl
+
+one_lost_later : shdlc_number_of (shdlc_after start (one_lost ++ ticks 10 ++ (AtController (Deliver []) ∷ AtHost (Deliver []) ∷ []))).host ≡ 3
+one_lost_later = refl
+
+-- a cut of the controller, while the host goes on; then an activation, and a reset
+abbrev cut : List ShdlcLinkEvent
+cut = AtController (Reset 4 []) ∷ AtHost (Deliver []) ∷ AtController (Deliver []) ∷ AtController Cut ∷ []
+
+cut_is_down : (shdlc_after start cut).controller.side.phase ≡ Down
+cut_is_down = refl
+
+cut_goes_on : (shdlc_after start cut).host.side.phase ≡ Up
+cut_goes_on = refl
+
+abbrev active_again : List ShdlcLinkEvent
+active_again = cut ++ (AtController Stop ∷ AtHost Stop ∷ AtHost (Reset 2 []) ∷ AtController (Deliver []) ∷ AtHost (Deliver []) ∷ [])
+
+again_is_up : shdlc_number_of (shdlc_after start active_again).controller ≡ 2
+again_is_up = refl
+
+-- the controller, which is inactive, takes an RSET; once it is started it comes up with the next one, or by its own
+abbrev ignored : List ShdlcLinkEvent
+ignored = AtHost (Reset 4 []) ∷ AtController (Ignore []) ∷ []
+
+ignored_is_down : (shdlc_after start_down ignored).controller.side.phase ≡ Down
+ignored_is_down = refl
+
+ignored_number : shdlc_number_of (shdlc_after start_down ignored).controller ≡ 1
+ignored_number = refl
+
+abbrev started : List ShdlcLinkEvent
+started = ignored ++ ticks 10 ++ (AtController (Deliver []) ∷ AtHost (Deliver []) ∷ [])
+
+started_is_up : (shdlc_after start_down started).controller.side.phase ≡ Up
+started_is_up = refl
+
+started_controller : shdlc_number_of (shdlc_after start_down started).controller ≡ 2
+started_controller = refl
+
+started_host : shdlc_number_of (shdlc_after start_down started).host ≡ 2
+started_host = refl
+
+abbrev asks_itself : List ShdlcLinkEvent
+asks_itself = ignored ++ (AtController (Reset 4 []) ∷ AtHost (Deliver []) ∷ AtController (Deliver []) ∷ [])
+
+asks_is_up : (shdlc_after start_down asks_itself).controller.side.phase ≡ Up
+asks_is_up = refl
+
+asks_number : shdlc_number_of (shdlc_after start_down asks_itself).controller ≡ 2
+asks_number = refl
+
+-- an end that is Up ignores nothing
+up_ignores_nothing : shdlc_after start (AtHost (Reset 4 []) ∷ AtController (Ignore []) ∷ []) ≡ shdlc_after start (AtHost (Reset 4 []) ∷ [])
+up_ignores_nothing = refl
+
+-- a reset that is answered: both wires are empty, and it is known to be answered
+abbrev answered : List ShdlcLinkEvent
+answered = AtHost (Reset 4 []) ∷ AtController (Deliver []) ∷ AtHost (Deliver []) ∷ []
+
+answered_is_settled : IsShdlcSettled (shdlc_after start answered) (sure_after false start answered)
+answered_is_settled = record { sure = refl; to_controller = refl; to_host = refl }
+
+-- one whose RSET was lost, and two that crossed, aren't known to be answered
+resent_not_sure : sure_after false start resent ≡ false
+resent_not_sure = refl
+
+crossed_not_sure : sure_after false start crossed ≡ false
+crossed_not_sure = refl
+
+-- a frame is lost in session 0
+abbrev broken : List ShdlcLinkEvent
+broken = AtController (Turns (Offer ((1 ∷ []) ∷ []) ∷ [])) ∷ AtHost Lose ∷ []
+
+broken_lost : (losses_after no_losses start broken).lost ≡ true
+broken_lost = refl
+
+-- in the next session nothing is, and fragments go both ways
+abbrev told : List ShdlcLinkEvent
+told =
+    broken ++ answered
+    ++ (AtController (Turns (Offer ((2 ∷ []) ∷ (3 ∷ []) ∷ []) ∷ [])) ∷ AtHost (Turns (Offer ((4 ∷ []) ∷ []) ∷ [])) ∷ [])
+    ++ (AtHost (Deliver []) ∷ AtHost (Deliver []) ∷ AtController (Deliver []) ∷ AtController (Deliver []) ∷ AtController (Deliver [])
+    ∷ AtHost (Deliver []) ∷ [])
+
+told_is_quiet : IsShdlcQuiet (shdlc_after start told) (losses_after no_losses start told)
+told_is_quiet = record { controller = refl; host = refl; lost = refl; rnr = refl; to_controller = refl; to_host = refl }
+
+told_session : shdlc_number_of (shdlc_after start told).controller ≡ 1
+told_session = refl
+
+told_fragments : (shdlc_after start told).host.side.session.acc ≡ (2 ∷ []) ∷ (3 ∷ []) ∷ []
+told_fragments = refl

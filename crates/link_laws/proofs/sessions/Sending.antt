@@ -1,0 +1,372 @@
+-- An end has its turns, and then all that is due goes out.
+use Rattle.std.proofs.Common.{◌≡◌, ℕ, zero, suc, ◌+◌, ◌%◌, ◌≤◌, Bool, true, false, cond, List, [], ◌∷◌, ◌++◌, Option, Some, None, ◌⊎◌, inl, inr, refl, ap, sym}
+use Rattle.std.proofs.Common.{subst, ◌∙◌, arith, length, length-append, drop, map}
+use Rattle.std.proofs.lemmas.List.{map-append}
+use Rattle.std.specs.Prelude.{nat_lt}
+use Rattle.std.proofs.lemmas.Bool.{true≢false}
+use Rattle.swp_base.specs.declared.control_frames.Kind.{Kind}
+use Rattle.swp_base.specs.declared.control_frames.Kind.TheVariants.{Rr, Rej, Rnr}
+use Rattle.swp_base.specs.declared.control_frames.Control.{Control}
+use Rattle.swp_base.specs.declared.control_frames.Control.TheVariants.{I, S}
+use Rattle.shdlc_core.specs.declared.answers.LinkState.{LinkState}
+use Rattle.shdlc_core.specs.declared.answers.LinkState.TheVariants.{Down, Waiting, Up}
+use Rattle.shdlc_core.specs.declared.answers.Due.{Due}
+use Rattle.shdlc_core.specs.declared.answers.Due.TheVariants.{Rr as Rr_due, Rej as Rej_due, Rnr as Rnr_due, Rset as Rset_due, Ua as Ua_due}
+use Rattle.shdlc_core.specs.Machine.{EndState, Session, Fragment, no_session, sent_next, fetched, frame_due, fragment_due, control_due, expected, frames_of}
+use Rattle.shdlc_core.specs.Machine.{after_frames, put_out, with_ready}
+use Rattle.shdlc_core.proofs.Histories.{fragment_due-within}
+use Rattle.link_laws.proofs.places.Idle.{fetched_idle, after_frames_idle}
+use Rattle.link_laws.proofs.places.Joined.{fetch_cases, changed}
+use Rattle.link_laws.specs.sessions.Sessions.{OnWire, NumberedShdlc, ShdlcLink, fits, shdlc_put, shdlc_put_all, with_shdlc_controller, shdlc_becomes, ShdlcTurn}
+use Rattle.link_laws.specs.sessions.Sessions.{shdlc_turn, shdlc_turned}
+use Rattle.link_laws.specs.sessions.Losses.{is_act, sans}
+use Rattle.link_laws.specs.sessions.Sessions.ShdlcTurn.{Offer, SetReady}
+use Rattle.link_laws.proofs.sessions.Wire.{IsData, rsets, behind_ua, live, behind_push, behind_push_none, behind_rsets, data_not_ua}
+use Rattle.link_laws.proofs.sessions.Hand.{NothingIsOut, idle_out, hand_send, hand_timer}
+use Rattle.link_laws.proofs.sessions.Data.{Pair, pair_next, pair_put, Plain, pushed, pair_send, pair_send_S, IsAnswer}
+use Rattle.link_laws.proofs.sessions.Safe.{Safe, session_with, safe_swap, GoesOn, pair_from, safe_up, safe_idle, safe_lose}
+
+abbrev pub SafeAt : ℕ → ℕ → ShdlcLink → EndState → Type 0
+SafeAt kn kf l q = Safe kn kf (record l.controller { side = q }) l.host (sans l.to_controller) (sans l.to_host) l.resets
+
+abbrev pub SafeLink : ℕ → ℕ → ShdlcLink → Type 0
+SafeLink kn kf l = Safe kn kf l.controller l.host (sans l.to_controller) (sans l.to_host) l.resets
+
+-- ## Sending
+
+pub sans-push : (w : List OnWire) (x : OnWire) → is_act x.frame ≡ false → sans (w ++ x ∷ []) ≡ sans w ++ x ∷ []
+sans-push [] x q = rw q refl
+sans-push (y ∷ w) x q = go (is_act y.frame) refl (sans-push w x q)
+  where
+    go : (b : Bool) → is_act y.frame ≡ b → sans (w ++ x ∷ []) ≡ sans w ++ x ∷ [] → sans ((y ∷ w) ++ x ∷ []) ≡ sans (y ∷ w) ++ x ∷ []
+    go true p more = rw p more
+    go false p more = rw p (ap (λ v. y ∷ v) more)
+
+pub sans-push_act : (w : List OnWire) (x : OnWire) → is_act x.frame ≡ true → sans (w ++ x ∷ []) ≡ sans w
+sans-push_act [] x q = rw q refl
+sans-push_act (y ∷ w) x q = go (is_act y.frame) refl (sans-push_act w x q)
+  where
+    go : (b : Bool) → is_act y.frame ≡ b → sans (w ++ x ∷ []) ≡ sans w → sans ((y ∷ w) ++ x ∷ []) ≡ sans (y ∷ w)
+    go true p more = rw p more
+    go false p more = rw p (ap (λ v. y ∷ v) more)
+
+-- a wire that is full loses its first frame
+pub fits_keeps : {kf : ℕ} {n f : NumberedShdlc} {to_n : List OnWire} {r : ℕ} (w : List OnWire) → Safe 0 kf n f to_n (sans w) r
+    → Safe 0 kf n f to_n (sans (fits w)) r
+fits_keeps {kf} {n} {f} {to_n} {r} w h = go (nat_lt 64 (length w)) w h
+  where
+    first : (x : OnWire) (xs : List OnWire) (b : Bool) → is_act x.frame ≡ b → Safe 0 kf n f to_n (sans (x ∷ xs)) r → Safe 0 kf n f to_n (sans xs) r
+    first x xs true q g = rw q at g
+    first x xs false q g =
+        let k : Safe 0 kf n f to_n (x ∷ sans xs) r = rw q at g in
+        safe_swap (safe_lose (safe_swap k))
+
+    go : (b : Bool) (v : List OnWire) → Safe 0 kf n f to_n (sans v) r → Safe 0 kf n f to_n (sans (cond b (drop 1 v) v)) r
+    go false v g = g
+    go true [] g = g
+    go true (x ∷ xs) g = first x xs (is_act x.frame) refl g
+
+-- one frame more
+pub safe_fits : {kf : ℕ} {n f : NumberedShdlc} {to_n : List OnWire} {r : ℕ} (w : List OnWire) (x : OnWire) → is_act x.frame ≡ false
+    → Safe 0 kf n f to_n (sans w ++ x ∷ []) r → Safe 0 kf n f to_n (sans (fits (w ++ x ∷ []))) r
+safe_fits {kf} {n} {f} {to_n} {r} w x q h =
+    fits_keeps (w ++ x ∷ []) (let P : List OnWire → Type 0 = λ v. Safe 0 kf n f to_n v r in subst P (sym (sans-push w x q)) h)
+
+pub live-push : (p : LinkState) (w : List OnWire) (x : OnWire) → IsData x.frame → live p (w ++ x ∷ []) ≡ pushed (live p w) x
+live-push Up w x d = refl
+live-push Down w x d = refl
+live-push Waiting w x d = go (behind_ua w) refl
+  where
+    go : (o : Option (List OnWire)) → behind_ua w ≡ o → behind_ua (w ++ x ∷ []) ≡ pushed (behind_ua w) x
+    go None e = rw e (behind_push_none w x (data_not_ua x.frame d) e)
+    go (Some ys) e = rw e (behind_push w ys x e)
+
+pub plain_live : (p : LinkState) (w : List OnWire) → rsets w ≡ [] → Plain (live p w)
+plain_live Up w e = e
+plain_live Down w e = tt
+plain_live Waiting w e = go (behind_ua w) refl
+  where
+    go : (o : Option (List OnWire)) → behind_ua w ≡ o → Plain (behind_ua w)
+    go None q = rw q tt
+    go (Some ys) q = rw q (sym (behind_rsets w ys q).0 ∙ e)
+
+pub no_rset_out : {kn kf : ℕ} {n f : NumberedShdlc} {to_n to_f : List OnWire} {r : ℕ} → Safe kn kf n f to_n to_f r → n.side.phase ≡ Up → NothingIsOut to_n to_f
+no_rset_out h up = idle_out h.hand (λ w. let e = sym up ∙ w in cc)
+
+pub pair_part : {s t : Session} {here : List OnWire} {o p : Option (List OnWire)} → p ≡ o → Pair s t here o → Pair s t here p
+pair_part e h = rw e h
+
+-- an answer of an end that is Up
+pub safe_answer : {kf : ℕ} {n f : NumberedShdlc} {to_n to_f : List OnWire} {r : ℕ} (k : Kind) → n.side.phase ≡ Up → Safe 0 kf n f to_n to_f r
+    → Safe 0 kf n f to_n (to_f ++ record { frame = S k (expected n.side.session); age = 0; number = 0 } ∷ []) r
+safe_answer {n = n} {f} {to_f = to_f} k up h =
+    let x : OnWire = record { frame = S k (expected n.side.session); age = 0; number = 0 } in
+    safe_up h (record { was_up = up; up = up; due = h.n_due; own = refl; peer = refl }) (hand_send h.hand x up tt refl)
+    (pair_part (live-push f.side.phase to_f x tt) (pair_send_S x refl (plain_live f.side.phase to_f (no_rset_out h up).no_rset) (pair_from h up)))
+
+-- a fragment of an end that is Up
+pub safe_fragment : {kf : ℕ} {n f : NumberedShdlc} {to_n to_f : List OnWire} {r : ℕ} {info : Fragment} → n.side.phase ≡ Up
+    → fragment_due n.side.session ≡ Some info → Safe 0 kf n f to_n to_f r
+    → Safe 0 kf (record n { side = record n.side { session = sent_next n.side.session } }) f to_n
+    (to_f ++ record { frame = I (n.side.session.next % 8) (expected n.side.session) info; age = 0; number = 0 } ∷ []) r
+safe_fragment {n = n} {f} {to_f = to_f} {info = info} up is h =
+    let s = n.side.session in
+    let x : OnWire = record { frame = I (s.next % 8) (expected s) info; age = 0; number = 0 } in
+    let tells = fragment_due-within s info is in
+    safe_up h (record { was_up = up; up = up; due = h.n_due; own = refl; peer = refl }) (hand_send h.hand x up tt refl)
+    (pair_part (live-push f.side.phase to_f x tt)
+    (pair_send x tells.0 tells.1 refl (plain_live f.side.phase to_f (no_rset_out h up).no_rset) (pair_from h up)))
+
+-- what each frame that is due keeps, as the end sends it, all of them keep
+pub sends_keeps : (P : EndState → ShdlcLink → Type 0)
+    → ((e : EndState) (l : ShdlcLink) (c : Control) → frame_due e ≡ Some c → P e l → P (fetched e) (shdlc_put l c))
+    → (n : ℕ) (e : EndState) (l : ShdlcLink) → P e l → P (after_frames n e) (shdlc_put_all l (frames_of n e))
+sends_keeps P each zero e l h = h
+sends_keeps P each (suc n) e l h = go (frame_due e) refl (sends_keeps P each n (fetched e))
+  where
+    go : (o : Option Control) → frame_due e ≡ o
+        → ((m : ShdlcLink) → P (fetched e) m → P (after_frames n (fetched e)) (shdlc_put_all m (frames_of n (fetched e))))
+        → P (after_frames (suc n) e) (shdlc_put_all l (frames_of (suc n) e))
+    go None q later = rw q (rw (fetched_idle e q, after_frames_idle n e q) h)
+    go (Some c) q later = rw q (later (shdlc_put l c) (each e l c q h))
+
+pub safe_drains : (kf m : ℕ) (q : EndState) (l : ShdlcLink) → SafeAt 0 kf l q
+    → SafeLink 0 kf (with_shdlc_controller (shdlc_put_all l (frames_of m q)) (after_frames m q))
+safe_drains kf m q l h = sends_keeps (λ e v. SafeAt 0 kf v e) each m q l h
+  where
+    is_up : (e : EndState) (info : Fragment) → ((e.phase ≡ Up → ⊥) → e.session ≡ no_session) → fragment_due e.session ≡ Some info → e.phase ≡ Up
+    is_up e info none is = go e.phase refl
+      where
+        absent : (e.phase ≡ Up → ⊥) → ⊥
+        absent no_up = let a : fragment_due no_session ≡ Some info = rw (none no_up) at is in let b : None ≡ Some info = a in cc
+
+        go : (p : LinkState) → e.phase ≡ p → e.phase ≡ Up
+        go Up p = p
+        go Waiting p = absurd (absent (λ u. let g = sym p ∙ u in cc))
+        go Down p = absurd (absent (λ u. let g = sym p ∙ u in cc))
+
+    each : (e : EndState) (v : ShdlcLink) (c : Control) → frame_due e ≡ Some c → SafeAt 0 kf v e → SafeAt 0 kf (shdlc_put v c) (fetched e)
+    each e v c is g =
+        fetch_cases (λ f o. o ≡ Some c → SafeAt 0 kf (shdlc_put v c) f) e
+        (λ d ds p n. absurd (let z = sym p ∙ g.n_due in cc))
+        (λ p q n. cc)
+        (λ info p q n.
+        let frame : Control = I (e.session.next % 8) (expected e.session) info in
+        let same : frame ≡ c = cc in
+        let a : SafeAt 0 kf (shdlc_put v frame) (record e { session = sent_next e.session }) =
+        safe_fits v.to_host (record { frame = frame; age = 0; number = 0 }) refl (safe_fragment (is_up e info g.n_none q) q g) in
+        let P : Control → Type 0 = λ k. SafeAt 0 kf (shdlc_put v k) (record e { session = sent_next e.session }) in
+        subst P same a)
+        is
+
+pub up_step : {kn kf : ℕ} (l : ShdlcLink) {q : EndState} → GoesOn l.controller.side q
+    → Pair q.session (session_with l.host l.controller) (sans l.to_controller) (live l.host.side.phase (sans l.to_host))
+    → SafeLink kn kf l → SafeAt 0 kf l q
+up_step l on pair h =
+    safe_up h on
+    (hand_timer h.hand (record {
+      phase = on.up ∙ sym on.was_up;
+      emitted = refl;
+      took = refl;
+      timer = λ w. absurd (let e = sym on.was_up ∙ w in let f : Up ≡ Waiting = e in cc);
+    }))
+    pair
+
+-- it becomes ready or not ready
+pub ready_by : (P : EndState → Type 0) (e : EndState) (r : Bool) → (e.phase ≡ Up → ⊥) ⊎ (e.phase ≡ Up) → ((e.phase ≡ Up → ⊥) → e.session ≡ no_session)
+    → P e → P (changed e r e.due) → (e.phase ≡ Up → e.session.answered_rnr ≡ true → P (changed e r (e.due ++ Rr_due ∷ []))) → P (with_ready e r)
+ready_by P e r up none same other answered = go e.ready r e.session.answered_rnr refl same other answered
+  where
+    noted_up : (b : Bool) → e.session.answered_rnr ≡ true → (e.phase ≡ Up → ⊥) ⊎ (e.phase ≡ Up) → e.phase ≡ Up
+    noted_up b q (inr u) = u
+    noted_up b q (inl n) = absurd (true≢false (sym q ∙ ap (λ (s : Session). s.answered_rnr) (none n)))
+
+    at : Bool → Bool → EndState
+    at was noted = record e { ready = was; session = record e.session { answered_rnr = noted } }
+
+    go : (was now noted : Bool) → e.session.answered_rnr ≡ noted → P (at was noted) → P (changed e now e.due)
+        → (e.phase ≡ Up → e.session.answered_rnr ≡ true → P (changed e now (e.due ++ Rr_due ∷ []))) → P (with_ready (at was noted) now)
+    go true true noted q a b c = a
+    go false false noted q a b c = a
+    go true false noted q a b c = b
+    go false true true q a b c = c (noted_up true q up) q
+    go false true false q a b c = b
+
+pub phase_known : (p : LinkState) → (p ≡ Up → ⊥) ⊎ (p ≡ Up)
+phase_known Up = inr refl
+phase_known Waiting = inl (λ e. cc)
+phase_known Down = inl (λ e. cc)
+
+-- an answer goes out
+pub put_answer : (kf : ℕ) (l : ShdlcLink) (e : EndState) (k : Kind) → e.phase ≡ Up → SafeAt 0 kf l e → SafeAt 0 kf (shdlc_put l (S k (expected e.session))) e
+put_answer kf l e k up h = safe_fits l.to_host (record { frame = S k (expected e.session); age = 0; number = 0 }) refl (safe_answer k up h)
+
+-- ## Turns, and then all that is due goes out
+
+abbrev pub controls : EndState → List Control
+controls e = map (control_due e) e.due
+
+-- how many control frames are due, and may be made by turns
+abbrev pub room : EndState → ℕ
+room e = length e.due + cond e.session.answered_rnr 1 0
+
+-- the end has become e: with its control frames on the wire the link is as it should be
+pub record Pending (kf : ℕ) (l : ShdlcLink) (e : EndState) : Type 0 where
+  pub safe : SafeAt 0 kf (shdlc_put_all l (controls e)) (record e { due = [] })
+  pub few : room e ≤ 2
+
+pub controls_same : (e f : EndState) (ds : List Due) → f.session.acc ≡ e.session.acc → f.own_window ≡ e.own_window → map (control_due f) ds
+    ≡ map (control_due e) ds
+controls_same e f [] a w = refl
+controls_same e f (d ∷ ds) a w = let more = controls_same e f ds a w in let one = go d in cc
+  where
+    go : (d : Due) → control_due f d ≡ control_due e d
+    go Rr_due = rw a refl
+    go Rej_due = rw a refl
+    go Rnr_due = rw a refl
+    go Rset_due = rw w refl
+    go Ua_due = refl
+
+pub put_all-append : (l : ShdlcLink) (cs ds : List Control) → shdlc_put_all l (cs ++ ds) ≡ shdlc_put_all (shdlc_put_all l cs) ds
+put_all-append l [] ds = refl
+put_all-append l (c ∷ cs) ds = put_all-append (shdlc_put l c) cs ds
+
+pub offer_at : (kf : ℕ) (l : ShdlcLink) (fragments : List Fragment) → l.controller.side.phase ≡ Up → SafeLink 0 kf l
+    → SafeAt 0 kf l (put_out l.controller.side fragments)
+offer_at kf l fragments q h =
+    up_step l (record { was_up = q; up = q; due = h.n_due; own = refl; peer = refl }) (pair_put fragments (pair_from h q)) h
+
+pub ready_at : (kf : ℕ) (l : ShdlcLink) (r : Bool) → SafeLink 0 kf l → SafeAt 0 kf l (changed l.controller.side r l.controller.side.due)
+ready_at kf l r h = other (phase_known e.phase)
+  where
+    e : EndState
+    e = l.controller.side
+
+    other : (e.phase ≡ Up → ⊥) ⊎ (e.phase ≡ Up) → SafeAt 0 kf l (changed e r e.due)
+    other (inr up) =
+        let p = pair_from h up in
+        up_step l (record { was_up = up; up = up; due = h.n_due; own = refl; peer = refl }) (pair_next p.mine.from p.mine.sent refl p) h
+    other (inl no_up) =
+        let none = ap (λ (s : Session). record s { answered_rnr = false }) (h.n_none no_up) in
+        safe_idle h no_up (record { phase = refl; due = refl; session = none; own = refl; peer = refl }) refl h.hand
+
+pub turn_pending : (kf : ℕ) (l : ShdlcLink) (e : EndState) (t : ShdlcTurn) → Pending kf l e → Pending kf l (shdlc_turn e t)
+turn_pending kf l e (Offer fragments) h = go e.phase refl
+  where
+    other : shdlc_turn e (Offer fragments) ≡ e → Pending kf l (shdlc_turn e (Offer fragments))
+    other q = let P : EndState → Type 0 = λ f. Pending kf l f in subst P (sym q) h
+
+    up_is : e.phase ≡ Up → shdlc_turn e (Offer fragments) ≡ put_out e fragments
+    up_is p = rw p refl
+
+    up : e.phase ≡ Up → Pending kf l (put_out e fragments)
+    up p =
+        let m : ShdlcLink = with_shdlc_controller (shdlc_put_all l (controls e)) (record e { due = [] }) in
+        let s : SafeAt 0 kf m (put_out m.controller.side fragments) = offer_at kf m fragments p h.safe in
+        record {
+          safe = let P : List Control → Type 0 = λ cs. SafeAt 0 kf (shdlc_put_all l cs) (record (put_out e fragments) { due = [] }) in
+              subst P (sym (controls_same e (put_out e fragments) e.due refl refl)) s;
+          few = h.few;
+        }
+
+    go : (p : LinkState) → e.phase ≡ p → Pending kf l (shdlc_turn e (Offer fragments))
+    go Up p = let P : EndState → Type 0 = λ f. Pending kf l f in subst P (sym (up_is p)) (up p)
+    go Waiting p = other (rw p refl)
+    go Down p = other (rw p refl)
+turn_pending kf l e (SetReady r) h =
+    ready_by (λ f. Pending kf l f) e r (phase_known e.phase) h.safe.n_none h
+    (record { safe = as_changed e.due (controls_same e (changed e r e.due) e.due refl refl); few = omega (arith, h.few) })
+    (λ up noted. record {
+      safe = answered up;
+      few = let i = h.few in let j : length (e.due ++ Rr_due ∷ []) ≡ length e.due + 1 = length-append e.due (Rr_due ∷ []) in let k = rw noted at i in
+          omega arith;
+    })
+  where
+    m : ShdlcLink
+    m = with_shdlc_controller (shdlc_put_all l (controls e)) (record e { due = [] })
+
+    s : SafeAt 0 kf m (changed (record e { due = [] }) r [])
+    s = ready_at kf m r h.safe
+
+    as_changed : (ds : List Due) → map (control_due (changed e r ds)) e.due ≡ controls e
+        → SafeAt 0 kf (shdlc_put_all l (map (control_due (changed e r ds)) e.due)) (changed e r [])
+    as_changed ds q = let P : List Control → Type 0 = λ cs. SafeAt 0 kf (shdlc_put_all l cs) (changed e r []) in subst P (sym q) s
+
+    answered : e.phase ≡ Up → SafeAt 0 kf (shdlc_put_all l (controls (changed e r (e.due ++ Rr_due ∷ [])))) (changed e r [])
+    answered up =
+        let f : EndState = changed e r (e.due ++ Rr_due ∷ []) in
+        let a : SafeAt 0 kf (shdlc_put (shdlc_put_all l (controls e)) (S Rr (expected e.session))) (changed e r []) =
+        put_answer kf (shdlc_put_all l (controls e))
+        (changed e r []) Rr up s in
+        let q : controls f ≡ controls e ++ S Rr (expected e.session) ∷ [] =
+        map-append (control_due f) e.due (Rr_due ∷ []) ∙ ap (λ cs. cs ++ S Rr (expected e.session) ∷ []) (controls_same e f e.due refl refl) in
+        let P : ShdlcLink → Type 0 = λ k. SafeAt 0 kf k (changed e r []) in
+        subst P (sym (ap (shdlc_put_all l) q ∙ put_all-append l (controls e) (S Rr (expected e.session) ∷ []))) a
+
+pub turned_pending : (kf : ℕ) (ts : List ShdlcTurn) (l : ShdlcLink) (e : EndState) → Pending kf l e → Pending kf l (shdlc_turned e ts)
+turned_pending kf [] l e h = h
+turned_pending kf (t ∷ ts) l e h = turned_pending kf ts l (shdlc_turn e t) (turn_pending kf l e t h)
+
+-- the control frames go first
+pub frames_in_order : (ds : List Due) (n : ℕ) (e : EndState) → e.due ≡ ds → length ds ≤ n
+    → (m : ℕ) × (frames_of n e ≡ map (control_due e) ds ++ frames_of m (record e { due = [] })) × (after_frames n e ≡ after_frames m (record e { due = [] }))
+frames_in_order [] n e q i = (n, rw (← q) refl, rw (← q) refl)
+frames_in_order (d ∷ ds) zero e q i = absurd (omega (arith, i))
+frames_in_order (d ∷ ds) (suc n) e q i =
+    let more = frames_in_order ds n (record e { due = ds }) refl (omega (arith, i)) in
+    let frame : frame_due e ≡ Some (control_due e d) = rw q refl in
+    let next : fetched e ≡ record e { due = ds } = rw q refl in
+    (more.0, rw (frame, next) (ap (λ cs. control_due e d ∷ cs) more.1), rw next more.2)
+
+pub pending_goes : (kf : ℕ) (l : ShdlcLink) (e : EndState) → Pending kf l e → SafeLink 0 kf (shdlc_becomes l e)
+pending_goes kf l e h =
+    let f = frames_in_order e.due 12 e refl (omega (arith, h.few)) in
+    let s = safe_drains kf f.0 (record e { due = [] }) (shdlc_put_all l (controls e)) h.safe in
+    let q : shdlc_put_all l (frames_of 12 e) ≡ shdlc_put_all (shdlc_put_all l (controls e)) (frames_of f.0 (record e { due = [] })) =
+    ap (shdlc_put_all l) f.1 ∙ put_all-append l (controls e) (frames_of f.0 (record e { due = [] })) in
+    let P : ShdlcLink → EndState → Type 0 = λ k g. SafeLink 0 kf (with_shdlc_controller k g) in
+    subst (λ k. P k (after_frames 12 e)) (sym q) (subst (P (shdlc_put_all (shdlc_put_all l (controls e)) (frames_of f.0 (record e { due = [] })))) (sym f.2) s)
+
+pub at_most_one : (b : Bool) → cond b 1 0 ≤ 1
+at_most_one true = omega arith
+at_most_one false = omega arith
+
+-- an end with nothing to answer
+pub becomes_none : (kf : ℕ) (ts : List ShdlcTurn) (l : ShdlcLink) (e : EndState) → SafeAt 0 kf l e → SafeLink 0 kf (shdlc_becomes l (shdlc_turned e ts))
+becomes_none kf ts l e h =
+    pending_goes kf l (shdlc_turned e ts)
+    (turned_pending kf ts l e
+    (record {
+      safe = let due : e.due ≡ [] = h.n_due in let P : List Due
+          → Type 0 = λ ds. SafeAt 0 kf (shdlc_put_all l (map (control_due e) ds)) (record e { due = [] }) in
+          let Q : List Due → Type 0 = λ ds. SafeAt 0 kf l (record e { due = ds }) in subst P (sym due) (subst Q due h);
+      few = let due : length e.due ≡ 0 = ap (length {A = Due}) h.n_due in omega (arith, due, at_most_one e.session.answered_rnr);
+    }))
+
+-- an end with one control frame to send, which goes first
+pub becomes_one : (kf : ℕ) (ts : List ShdlcTurn) (l : ShdlcLink) (e : EndState) (d : Due) → e.due ≡ d ∷ []
+    → SafeAt 0 kf (shdlc_put l (control_due e d)) (record e { due = [] })
+    → SafeLink 0 kf (shdlc_becomes l (shdlc_turned e ts))
+becomes_one kf ts l e d is h =
+    pending_goes kf l (shdlc_turned e ts)
+    (turned_pending kf ts l e
+    (record {
+      safe = let P : List Due → Type 0 = λ ds. SafeAt 0 kf (shdlc_put_all l (map (control_due e) ds)) (record e { due = [] }) in subst P (sym is) h;
+      few = let due : length e.due ≡ 1 = ap (length {A = Due}) is in omega (arith, due, at_most_one e.session.answered_rnr);
+    }))
+
+pub becomes_answer : (kf : ℕ) (ts : List ShdlcTurn) (l : ShdlcLink) (e : EndState) (d : Due) → IsAnswer d
+    → e.due ≡ d ∷ [] → e.phase ≡ Up → SafeAt 0 kf l (record e { due = [] }) → SafeLink 0 kf (shdlc_becomes l (shdlc_turned e ts))
+becomes_answer kf ts l e Rr_due a is up h = becomes_one kf ts l e Rr_due is (put_answer kf l (record e { due = [] }) Rr up h)
+becomes_answer kf ts l e Rej_due a is up h = becomes_one kf ts l e Rej_due is (put_answer kf l (record e { due = [] }) Rej up h)
+becomes_answer kf ts l e Rnr_due a is up h = becomes_one kf ts l e Rnr_due is (put_answer kf l (record e { due = [] }) Rnr up h)
+becomes_answer kf ts l e Rset_due a is up h = absurd a
+becomes_answer kf ts l e Ua_due a is up h = absurd a
+
+-- the end has become e, with an answer to send or none
+pub becomes_taken : (kf : ℕ) (ts : List ShdlcTurn) (l : ShdlcLink) (e : EndState) → e.phase ≡ Up → (e.due ≡ []) ⊎ ((d : Due) × IsAnswer d × (e.due ≡ d ∷ []))
+    → SafeAt 0 kf l (record e { due = [] }) → SafeLink 0 kf (shdlc_becomes l (shdlc_turned e ts))
+becomes_taken kf ts l e up (inl is) h = becomes_none kf ts l e (let P : List Due → Type 0 = λ d. SafeAt 0 kf l (record e { due = d }) in subst P (sym is) h)
+becomes_taken kf ts l e up (inr a) h = becomes_answer kf ts l e a.0 a.1 a.2 up h
+
+-- ## Events of an end that is Up

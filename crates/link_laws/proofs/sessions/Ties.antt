@@ -1,0 +1,477 @@
+-- Two ends that are in one session, or will be once they took the UAs on their way to them: what joins them while nothing of
+-- the session was lost and no RNR made.
+use Rattle.std.proofs.Common.{◌≡◌, ℕ, zero, suc, ◌+◌, ◌%◌, ◌<◌, ◌≤◌, Bool, true, false, cond, ◌||◌, ◌&&◌, List, [], ◌∷◌, ◌++◌, Option, Some, None, ◌⊎◌, inl}
+use Rattle.std.proofs.Common.{inr, refl, ap, sym, subst, ◌∙◌, arith, length, length-append, drop, min}
+use Rattle.std.specs.Prelude.{nat_lt}
+use Rattle.std.proofs.lemmas.Bool.{or_parts}
+use Rattle.swp_base.specs.declared.control_frames.Control.{Control}
+use Rattle.swp_base.specs.declared.control_frames.Control.TheVariants.{I, S, Rset, Ua, Act, Clt}
+use Rattle.shdlc_core.specs.declared.answers.LinkState.{LinkState}
+use Rattle.shdlc_core.specs.declared.answers.LinkState.TheVariants.{Down, Waiting, Up}
+use Rattle.shdlc_core.specs.declared.answers.Due.{Due}
+use Rattle.shdlc_core.specs.declared.answers.Due.TheVariants.{Rr as Rr_due, Rej as Rej_due, Rnr as Rnr_due, Rset as Rset_due, Ua as Ua_due}
+use Rattle.shdlc_core.specs.Machine.{EndState, Fragment, new_session, fetched, frame_due, fragment_due, control_due, expected, frames_of, after_frames, put_out}
+use Rattle.shdlc_core.specs.Machine.{with_ready}
+use Rattle.link_laws.specs.places.Wire.{with_frame, is_rnr}
+use Rattle.link_laws.proofs.places.Flows.{flows_new}
+use Rattle.link_laws.proofs.places.Whole.{AnswersOnly, Whole}
+use Rattle.link_laws.proofs.places.Joined.{Joined, joined_exchanged, joined_older, joined_fetched, joined_put, joined_ready, ready_cases, fetch_cases}
+use Rattle.link_laws.proofs.places.Idle.{fetched_idle, after_frames_idle, left, idle_after}
+use Rattle.link_laws.specs.sessions.Sessions.{OnWire, ShdlcLink, fits, shdlc_put, shdlc_put_all, with_shdlc_controller, older, ShdlcTurn, shdlc_turn}
+use Rattle.link_laws.specs.sessions.Sessions.{shdlc_turned}
+use Rattle.link_laws.specs.sessions.Sessions.ShdlcTurn.{Offer, SetReady}
+use Rattle.link_laws.specs.sessions.Losses.{is_act, sans, Losses, counts_first, overflows, noted_loss, noted_all}
+use Rattle.link_laws.proofs.sessions.Wire.{IsData, rsets, uas, behind_ua, live, no_ua_step, behind_new, live-older, older_part}
+use Rattle.link_laws.proofs.sessions.Data.{pushed}
+use Rattle.link_laws.proofs.sessions.Safe.{HasWindows, up_end}
+use Rattle.link_laws.proofs.sessions.Sending.{sans-push, live-push, room, ready_by}
+use Rattle.link_laws.proofs.sessions.Steps.{not_rset}
+
+-- the end as it will be once it took its UA
+abbrev pub as_up : LinkState → EndState → EndState
+as_up Waiting e = up_end e (min e.own_window e.peer_window)
+as_up Up e = e
+as_up Down e = e
+
+-- an end that is up
+pub from_up : (P : EndState → Type 0) (e : EndState) → e.phase ≡ Up → P e → P (as_up e.phase e)
+from_up P e up h = let Q : LinkState → Type 0 = λ p. P (as_up p e) in subst Q (sym up) h
+
+pub to_up : (P : EndState → Type 0) (e : EndState) → e.phase ≡ Up → P (as_up e.phase e) → P e
+to_up P e up h = let Q : LinkState → Type 0 = λ p. P (as_up p e) in subst Q up h
+
+pub record Meets (n f : EndState) (to_n to_f : List OnWire) : Type 0 where
+  pub joined : Joined (Unit {0}) n f to_n to_f
+  pub near : frame_due n ≡ None
+  pub far : frame_due f ≡ None
+
+-- W says that nothing was lost and no RNR made since the first of them came up; where none did yet, both wait
+abbrev pub Tied : Type 0 → EndState → EndState → List OnWire → List OnWire → Type 0
+Tied W n f to_n to_f =
+    (((n.phase ≡ Waiting) × (f.phase ≡ Waiting)) ⊎ W) → (a b : List OnWire) → live n.phase to_n ≡ Some a → live f.phase to_f ≡ Some b
+    → Meets (as_up n.phase n) (as_up f.phase f) a b
+
+abbrev pub IsWhole : Losses → Type 0
+IsWhole n = (n.lost ≡ false) × (n.rnr ≡ false)
+
+abbrev pub TiedLink : Losses → ShdlcLink → Type 0
+TiedLink n l = Tied (IsWhole n) l.controller.side l.host.side (sans l.to_controller) (sans l.to_host)
+
+pub tied_swap : (W : Type 0) (n f : EndState) (to_n to_f : List OnWire) → Tied W n f to_n to_f → Tied W f n to_f to_n
+tied_swap W n f to_n to_f h w a b p q =
+    let m = h (shdlc_turned w) b a q p in
+    record { joined = joined_exchanged (Unit {0}) (as_up n.phase n) (as_up f.phase f) b a m.joined; near = m.far; far = m.near }
+  where
+    shdlc_turned : (((f.phase ≡ Waiting) × (n.phase ≡ Waiting)) ⊎ W) → ((n.phase ≡ Waiting) × (f.phase ≡ Waiting)) ⊎ W
+    shdlc_turned (inl e) = inl (e.1, e.0)
+    shdlc_turned (inr v) = inr v
+
+-- only what an end notes of itself has changed
+pub meets_like : (n m f : EndState) (to_n to_f : List OnWire) → m.phase ≡ n.phase → m.due ≡ n.due → m.session ≡ n.session → frame_due m ≡ None
+    → Meets n f to_n to_f → Meets m f to_n to_f
+meets_like n m f to_n to_f phase due session idle h =
+    let j = h.joined in
+    record {
+      joined = record {
+        near_up = phase ∙ j.near_up;
+        far_up = j.far_up;
+        near_due = rw due j.near_due;
+        far_due = j.far_due;
+        near_marks = j.near_marks;
+        far_marks = j.far_marks;
+        near_shows = j.near_shows;
+        far_shows = j.far_shows;
+        near_sends = rw session j.near_sends;
+        far_sends = rw session j.far_sends;
+        near_whole = λ v d. rw session (j.near_whole v d);
+        far_whole = λ v d. rw (session, due) (j.far_whole v (rw due at d));
+      };
+      near = idle;
+      far = h.far;
+    }
+
+-- ## A new session
+
+pub record IsNew (e : EndState) : Type 0 where
+  pub up : e.phase ≡ Up
+  pub due : e.due ≡ []
+  pub window : ℕ
+  pub fits : (0 < window) × (window ≤ 4)
+  pub session : e.session ≡ new_session window
+
+pub waiting_new : (e : EndState) → e.phase ≡ Waiting → HasWindows e → IsNew (as_up e.phase e)
+waiting_new e waiting h =
+    let n : IsNew (as_up Waiting e) = record {
+      up = refl;
+      due = refl;
+      window = min e.own_window e.peer_window;
+      fits = (omega (arith, h.own.0, h.peer.0), omega (arith, h.own.1));
+      session = refl;
+    } in
+    rw waiting n
+
+pub up_new : (e : EndState) → IsNew e → IsNew (as_up e.phase e)
+up_new e h = from_up IsNew e h.up h
+
+pub none_due : (v : ℕ) → fragment_due (new_session v) ≡ None
+none_due v = same (nat_lt 0 (0 + v)) None
+  where
+    same : (b : Bool) (o : Option Fragment) → cond b o o ≡ o
+    same true o = refl
+    same false o = refl
+
+new_idle : (e : EndState) → IsNew e → frame_due e ≡ None
+new_idle e h = rw (h.due, h.session, none_due h.window) refl
+
+pub new_meets : (n f : EndState) → IsNew n → IsNew f → Meets n f [] []
+new_meets n f g h =
+    record {
+      joined = record {
+        near_up = g.up;
+        far_up = h.up;
+        near_due = rw g.due tt;
+        far_due = rw h.due tt;
+        near_marks = [];
+        far_marks = [];
+        near_shows = tt;
+        far_shows = tt;
+        near_sends = rw (g.session, h.session) (flows_new g.window g.fits.0 g.fits.1);
+        far_sends = rw (g.session, h.session) (flows_new h.window h.fits.0 h.fits.1);
+        near_whole = λ v d. rw (g.session, h.session) (whole g.window f.due);
+        far_whole = λ v d. rw (g.session, h.session) (whole h.window n.due);
+      };
+      near = new_idle n g;
+      far = new_idle f h;
+    }
+  where
+    whole : (w : ℕ) (d : List Due) → Whole (new_session w) [] d [] []
+    whole w d = record { caught = refl; told = λ e. refl; free = refl; acks = tt }
+
+pub tied_new : (W : Type 0) (n f : EndState) (to_n to_f : List OnWire) → IsNew (as_up n.phase n) → IsNew (as_up f.phase f)
+    → ((a : List OnWire) → live n.phase to_n ≡ Some a → a ≡ []) → ((b : List OnWire) → live f.phase to_f ≡ Some b → b ≡ []) → Tied W n f to_n to_f
+tied_new W n f to_n to_f g h near far w a b p q =
+    let m : Meets (as_up n.phase n) (as_up f.phase f) [] [] = new_meets (as_up n.phase n) (as_up f.phase f) g h in
+    let P : List OnWire → Type 0 = λ v. Meets (as_up n.phase n) (as_up f.phase f) v b in
+    let Q : List OnWire → Type 0 = λ v. Meets (as_up n.phase n) (as_up f.phase f) [] v in
+    subst P (sym (near a p)) (subst Q (sym (far b q)) m)
+
+-- behind a new UA, the only one, stands nothing
+pub behind_fits : (w : List OnWire) (x : OnWire) → x.frame ≡ Ua → uas (sans w) ≡ [] → (b : List OnWire)
+    → behind_ua (sans (fits (w ++ x ∷ []))) ≡ Some b → b ≡ []
+behind_fits w x ua none b = go (nat_lt 64 (length (w ++ x ∷ []))) w none
+  where
+    new : (v : List OnWire) → uas (sans v) ≡ [] → behind_ua (sans (v ++ x ∷ [])) ≡ Some b → b ≡ []
+    new v e q = by_new (behind_new (sans v) x ua e)
+      where
+        q2 : behind_ua (sans v ++ x ∷ []) ≡ Some b
+        q2 = ap behind_ua (sym (sans-push v x (rw ua refl))) ∙ q
+
+        by_new : ((behind_ua (sans v ++ x ∷ []) ≡ None) ⊎ ((behind_ua (sans v ++ x ∷ []) ≡ Some []) × (rsets (sans v) ≡ []))) → b ≡ []
+        by_new (inl r) = absurd (let z = sym r ∙ q2 in cc)
+        by_new (inr r) = let z = sym r.0 ∙ q2 in cc
+
+    less : (y : OnWire) (v : List OnWire) (o : Bool) → is_act y.frame ≡ o → uas (sans (y ∷ v)) ≡ [] → uas (sans v) ≡ []
+    less y v true p e = rw p at e
+    less y v false p e = (no_ua_step y.frame y.age (uas (sans v)) (rw p at e)).0
+
+    go : (o : Bool) (v : List OnWire) → uas (sans v) ≡ [] → behind_ua (sans (cond o (drop 1 (v ++ x ∷ [])) (v ++ x ∷ []))) ≡ Some b → b ≡ []
+    go false v e q = new v e q
+    go true [] e q = cc
+    go true (y ∷ v) e q = new v (less y v (is_act y.frame) refl e) q
+
+-- a wire that loses no frame that counts
+pub fits_sans : (w : List OnWire) → overflows w ≡ false → sans (fits w) ≡ sans w
+fits_sans w h = go (nat_lt 64 (length w)) w h
+  where
+    first : (y : OnWire) (v : List OnWire) (o : Bool) → is_act y.frame ≡ o → counts_first (y ∷ v) ≡ false → sans v ≡ sans (y ∷ v)
+    first y v true p e = rw p refl
+    first y v false p e = absurd (let z : true ≡ false = rw p at e in cc)
+
+    go : (o : Bool) (v : List OnWire) → (o && counts_first v) ≡ false → sans (cond o (drop 1 v) v) ≡ sans v
+    go false v e = refl
+    go true [] e = refl
+    go true (y ∷ v) e = first y v (is_act y.frame) refl e
+
+-- ## Sending
+
+-- the near end, which is up, while it sends what is due; G is kept
+abbrev pub Rests : Type 0 → Type 0 → EndState → EndState → List OnWire → List OnWire → Type 0
+Rests G W e f to_n to_f =
+    W → (b : List OnWire) → live f.phase to_f ≡ Some b
+    → Joined (Unit {0}) e (as_up f.phase f) to_n b × (frame_due (as_up f.phase f) ≡ None) × G
+
+pub data_due : (e : EndState) (c : Control) → AnswersOnly e.due → frame_due e ≡ Some c → IsData c × (is_act c ≡ false)
+data_due e c a is =
+    fetch_cases (λ f o. o ≡ Some c → IsData c × (is_act c ≡ false)) e (λ d ds p q. control d ds (rw p at a) q) (λ p q n. cc)
+    (λ info p q n. let P : Control → Type 0 = λ k. IsData k × (is_act k ≡ false) in
+    subst P (some (I (e.session.next % 8) (expected e.session) info) c n) (tt, refl)) is
+  where
+    some : (k c : Control) → Some k ≡ Some c → k ≡ c
+    some k c e = cc
+
+    P : Control → Type 0
+    P k = IsData k × (is_act k ≡ false)
+
+    control : (d : Due) (ds : List Due) → AnswersOnly (d ∷ ds) → Some (control_due e d) ≡ Some c → IsData c × (is_act c ≡ false)
+    control Rr_due ds h q = subst P (some (control_due e Rr_due) c q) (tt, refl)
+    control Rej_due ds h q = subst P (some (control_due e Rej_due) c q) (tt, refl)
+    control Rnr_due ds h q = subst P (some (control_due e Rnr_due) c q) (tt, refl)
+    control Rset_due ds h q = absurd h
+    control Ua_due ds h q = absurd h
+
+answers_rest : (d : Due) (ds : List Due) → AnswersOnly (d ∷ ds) → AnswersOnly ds
+answers_rest Rr_due ds h = h
+answers_rest Rej_due ds h = h
+answers_rest Rnr_due ds h = h
+answers_rest Rset_due ds h = absurd h
+answers_rest Ua_due ds h = absurd h
+
+pub fetched-phase : (e : EndState) → (fetched e).phase ≡ e.phase
+fetched-phase e = fetch_cases (λ f o. f.phase ≡ e.phase) e (λ d ds p. refl) (λ p q. refl) (λ info p q. refl)
+
+pub fetched_answers : (e : EndState) → AnswersOnly e.due → AnswersOnly (fetched e).due
+fetched_answers e a =
+    fetch_cases (λ f o. AnswersOnly f.due) e (λ d ds p. answers_rest d ds (rw p at a)) (λ p q. a) (λ info p q. a)
+
+-- V says what W says, and that the frame c, put on the wire w, makes it lose no frame that counts and is no RNR
+record SaysMore (W V : Type 0) (w : List OnWire) (c : Control) : Type 0 where
+  weaker : V → W
+  fits : V → overflows (with_frame w c) ≡ false
+  no_rnr : V → is_rnr c ≡ false
+
+rests_put : (G : Type 0) {W V : Type 0} (e f : EndState) {c : Control} (to_n : List OnWire) {w : List OnWire} → frame_due e ≡ Some c
+    → IsData c × (is_act c ≡ false) → SaysMore W V w c
+    → Rests G W e f to_n (sans w) → Rests G V (fetched e) f to_n (sans (fits (with_frame w c)))
+rests_put G {W} {V} e f {c} to_n {w} is d more h v b p =
+    go (live f.phase (sans w)) refl (sym (live-push f.phase (sans w) x d.0) ∙ whole)
+  where
+    x : OnWire
+    x = record { frame = c; age = 0; number = 0 }
+
+    kept : sans (fits (with_frame w c)) ≡ sans w ++ x ∷ []
+    kept = fits_sans (with_frame w c) (more.fits v) ∙ sans-push w x d.1
+
+    whole : live f.phase (sans w ++ x ∷ []) ≡ Some b
+    whole = ap (live f.phase) (sym kept) ∙ p
+
+    go : (o : Option (List OnWire)) → live f.phase (sans w) ≡ o → pushed (live f.phase (sans w)) x ≡ Some b
+        → Joined (Unit {0}) (fetched e) (as_up f.phase f) to_n b × (frame_due (as_up f.phase f) ≡ None) × G
+    go None q r = absurd (let z : pushed None x ≡ Some b = rw q at r in cc)
+    go (Some u) q r =
+        let z : pushed (Some u) x ≡ Some b = rw q at r in
+        let same : u ++ x ∷ [] ≡ b = cc in
+        let g = h (more.weaker v) u q in
+        let one : Joined (Unit {0}) (fetched e) (as_up f.phase f) to_n (with_frame u c) =
+        rw is at (joined_fetched (Unit {0}) (Unit {0}) (λ u. u) e (as_up f.phase f) to_n u (λ u. rw is (more.no_rnr v)) g.0) in
+        (subst (Joined (Unit {0}) (fetched e) (as_up f.phase f) to_n) same one, g.1, g.2)
+
+-- what the near end keeps as it sends
+abbrev pub Keeps : Type 0 → Losses → EndState → ShdlcLink → Type 0
+Keeps G n e v = (e.phase ≡ Up) × AnswersOnly e.due × Rests G (IsWhole n) e v.host.side (sans v.to_controller) (sans v.to_host)
+
+keeps_each : (G : Type 0) (n : Losses) (e : EndState) (v : ShdlcLink) (c : Control) → frame_due e ≡ Some c → Keeps G n e v
+    → Keeps G (noted_loss n v c) (fetched e) (shdlc_put v c)
+keeps_each G n e v c is k =
+    let d = data_due e c k.1 is in
+    let over : Bool = overflows (with_frame v.to_host c) in
+    let V : Type 0 = ((n.lost || over) ≡ false) × ((n.rnr || is_rnr c) ≡ false) in
+    let more : SaysMore (IsWhole n) V v.to_host c =
+    record {
+      weaker = λ w. ((or_parts n.lost over w.0).0, (or_parts n.rnr (is_rnr c) w.1).0);
+      fits = λ w. (or_parts n.lost over w.0).1;
+      no_rnr = λ w. (or_parts n.rnr (is_rnr c) w.1).1;
+    } in
+    let r : Rests G V (fetched e) v.host.side (sans v.to_controller) (sans (fits (with_frame v.to_host c))) =
+    rests_put G e v.host.side (sans v.to_controller) is d more k.2 in
+    (fetched-phase e ∙ k.0, fetched_answers e k.1, rw (not_rset c (inl d.0)) r)
+
+-- what each frame that is due keeps, as the end sends it, all of them keep
+pub sends_noted : (P : Losses → EndState → ShdlcLink → Type 0)
+    → ((n : Losses) (e : EndState) (l : ShdlcLink) (c : Control) → frame_due e ≡ Some c → P n e l → P (noted_loss n l c) (fetched e) (shdlc_put l c))
+    → (m : ℕ) (n : Losses) (e : EndState) (l : ShdlcLink) → P n e l → P (noted_all n l (frames_of m e)) (after_frames m e) (shdlc_put_all l (frames_of m e))
+sends_noted P each zero n e l h = h
+sends_noted P each (suc m) n e l h = go (frame_due e) refl (λ k. sends_noted P each m k (fetched e))
+  where
+    go : (o : Option Control) → frame_due e ≡ o
+        → ((k : Losses) (v : ShdlcLink) → P k (fetched e) v
+        → P (noted_all k v (frames_of m (fetched e))) (after_frames m (fetched e)) (shdlc_put_all v (frames_of m (fetched e))))
+        → P (noted_all n l (frames_of (suc m) e)) (after_frames (suc m) e) (shdlc_put_all l (frames_of (suc m) e))
+    go None q later = rw q (rw (fetched_idle e q, after_frames_idle m e q) h)
+    go (Some c) q later = rw q (later (noted_loss n l c) (shdlc_put l c) (each n e l c q h))
+
+tied_drains : (m : ℕ) (n : Losses) (e : EndState) (l : ShdlcLink) → Keeps (left e ≤ m) n e l
+    → TiedLink (noted_all n l (frames_of m e)) (with_shdlc_controller (shdlc_put_all l (frames_of m e)) (after_frames m e))
+tied_drains m n e l h w a b p q =
+    let k = sends_noted (Keeps (left e ≤ m)) (keeps_each (left e ≤ m)) m n e l h in
+    go (noted_all n l (frames_of m e)) (after_frames m e) (shdlc_put_all l (frames_of m e)) k (λ i. idle_after m e i) w p q
+  where
+    go : (k : Losses) (z : EndState) (v : ShdlcLink) → Keeps (left e ≤ m) k z v → (left e ≤ m → frame_due z ≡ None)
+        → (((z.phase ≡ Waiting) × (v.host.side.phase ≡ Waiting)) ⊎ IsWhole k) → live z.phase (sans v.to_controller) ≡ Some a
+        → live v.host.side.phase (sans v.to_host) ≡ Some b
+        → Meets (as_up z.phase z) (as_up v.host.side.phase v.host.side) a b
+    go i z v k idle (inl u) p q = absurd (let g = sym k.0 ∙ u.0 in let y : Up ≡ Waiting = g in cc)
+    go i z v k idle (inr u) p q =
+        let r = k.2 u b q in
+        let y : Some (sans v.to_controller) ≡ Some a = rw k.0 at p in
+        let same : sans v.to_controller ≡ a = cc in
+        let j : Joined (Unit {0}) z (as_up v.host.side.phase v.host.side) a b = rw same at r.0 in
+        from_up (λ y. Meets y (as_up v.host.side.phase v.host.side) a b) z k.0 (record { joined = j; near = idle r.2; far = r.1 })
+
+-- ## Turns
+
+pub ready-phase : (e : EndState) (r : Bool) → (with_ready e r).phase ≡ e.phase
+ready-phase e r = ready_cases (λ f. f.phase ≡ e.phase) e r refl refl refl
+
+pub answers_more : (ds : List Due) → AnswersOnly ds → AnswersOnly (ds ++ Rr_due ∷ [])
+answers_more [] a = tt
+answers_more (Rr_due ∷ ds) a = answers_more ds a
+answers_more (Rej_due ∷ ds) a = answers_more ds a
+answers_more (Rnr_due ∷ ds) a = answers_more ds a
+answers_more (Rset_due ∷ ds) a = absurd a
+answers_more (Ua_due ∷ ds) a = absurd a
+
+-- an end that is up is given fragments
+pub offer_up : (e : EndState) (fragments : List Fragment) → e.phase ≡ Up → shdlc_turn e (Offer fragments) ≡ put_out e fragments
+offer_up e fragments up = rw up refl
+
+pub turn-phase : (e : EndState) (t : ShdlcTurn) → (shdlc_turn e t).phase ≡ e.phase
+turn-phase e (SetReady r) = ready-phase e r
+turn-phase e (Offer fragments) = go e.phase refl
+  where
+    go : (p : LinkState) → e.phase ≡ p → (shdlc_turn e (Offer fragments)).phase ≡ e.phase
+    go Up q = rw q refl
+    go Waiting q = rw q refl
+    go Down q = rw q refl
+
+-- turns leave few answers to send
+few_turn : (e : EndState) (t : ShdlcTurn) → e.phase ≡ Up → room e ≤ 2 → room (shdlc_turn e t) ≤ 2
+few_turn e (Offer fragments) up few = let P : EndState → Type 0 = λ f. room f ≤ 2 in subst P (sym (offer_up e fragments up)) few
+few_turn e (SetReady r) up few =
+    ready_by (λ f. room f ≤ 2) e r (inr up) (λ no. absurd (no up)) few (omega (arith, few))
+    (λ up noted_loss. let j : length (e.due ++ Rr_due ∷ []) ≡ length e.due + 1 = length-append e.due (Rr_due ∷ []) in let i =
+    rw noted_loss at few in omega arith)
+
+pub few_turns : (ts : List ShdlcTurn) (e : EndState) → e.phase ≡ Up → room e ≤ 2 → room (shdlc_turned e ts) ≤ 2
+few_turns [] e up few = few
+few_turns (t ∷ ts) e up few = few_turns ts (shdlc_turn e t) (turn-phase e t ∙ up) (few_turn e t up few)
+
+turn_keeps : (n : Losses) (e : EndState) (t : ShdlcTurn) (l : ShdlcLink) → Keeps (Unit {0}) n e l → Keeps (Unit {0}) n (shdlc_turn e t) l
+turn_keeps n e (Offer fragments) l k =
+    let P : EndState → Type 0 = λ f. Keeps (Unit {0}) n f l in
+    subst P (sym (offer_up e fragments k.0)) (
+      k.0,
+      k.1,
+      λ w b q. let r = k.2 w b q in
+          (joined_put (Unit {0}) e (as_up l.host.side.phase l.host.side) (sans l.to_controller) b fragments r.0, r.1, tt),
+    )
+turn_keeps n e (SetReady r) l k = (
+  ready-phase e r ∙ k.0,
+  ready_cases (λ f. AnswersOnly f.due) e r k.1 k.1 (answers_more e.due k.1),
+  λ w b q. let g = k.2 w b q in
+      (joined_ready (Unit {0}) e (as_up l.host.side.phase l.host.side) (sans l.to_controller) b r g.0, g.1, tt),
+)
+
+turns_keep : (n : Losses) (ts : List ShdlcTurn) (e : EndState) (l : ShdlcLink) → Keeps (Unit {0}) n e l → Keeps (Unit {0}) n (shdlc_turned e ts) l
+turns_keep n [] e l k = k
+turns_keep n (t ∷ ts) e l k = turns_keep n ts (shdlc_turn e t) l (turn_keeps n e t l k)
+
+-- an end that is up, and has few answers to send, has its turns
+pub drains : (m : ℕ) → 6 ≤ m → (n : Losses) (ts : List ShdlcTurn) (l : ShdlcLink) (e : EndState) → e.phase ≡ Up → AnswersOnly e.due → room e ≤ 2
+    → Rests (Unit {0}) (IsWhole n) e l.host.side (sans l.to_controller) (sans l.to_host)
+    → TiedLink (noted_all n l (frames_of m (shdlc_turned e ts)))
+    (with_shdlc_controller (shdlc_put_all l (frames_of m (shdlc_turned e ts))) (after_frames m (shdlc_turned e ts)))
+drains m i n ts l e up answers few h =
+    let k = turns_keep n ts e l (up, answers, h) in
+    let f = few_turns ts e up few in
+    tied_drains m n (shdlc_turned e ts) l
+    (k.0, k.1, λ w b q. let r = k.2 w b q in (r.0, r.1, omega (arith, i, f, r.0.near_sends.acked_next, r.0.near_sends.window)))
+
+-- an end with nothing to send
+pub nothing_sent : (m : ℕ) (e : EndState) → frame_due e ≡ None → frames_of m e ≡ []
+nothing_sent zero e none = refl
+nothing_sent (suc m) e none = rw none refl
+
+pub sends_nothing : (m : ℕ) (n : Losses) (l : ShdlcLink) (e : EndState) → frame_due e ≡ None → TiedLink n (with_shdlc_controller l e)
+    → TiedLink (noted_all n l (frames_of m e)) (with_shdlc_controller (shdlc_put_all l (frames_of m e)) (after_frames m e))
+sends_nothing m n l e none h = rw (nothing_sent m e none, after_frames_idle m e none) h
+
+-- a UA goes first
+abbrev pub with_ua : EndState → EndState
+with_ua e = record e { due = Ua_due ∷ e.due }
+
+turn-ua : (e : EndState) (t : ShdlcTurn) → shdlc_turn (with_ua e) t ≡ with_ua (shdlc_turn e t)
+turn-ua e (Offer fragments) = go e.phase refl
+  where
+    go : (p : LinkState) → e.phase ≡ p → shdlc_turn (with_ua e) (Offer fragments) ≡ with_ua (shdlc_turn e (Offer fragments))
+    go Up q = rw q refl
+    go Waiting q = rw q refl
+    go Down q = rw q refl
+turn-ua e (SetReady r) = go e.ready r e.session.answered_rnr refl refl
+  where
+    go : (a b c : Bool) → e.ready ≡ a → e.session.answered_rnr ≡ c → shdlc_turn (with_ua e) (SetReady b) ≡ with_ua (shdlc_turn e (SetReady b))
+    go true true c p q = rw p refl
+    go false false c p q = rw p refl
+    go true false c p q = rw p refl
+    go false true true p q = rw (p, q) refl
+    go false true false p q = rw (p, q) refl
+
+turned-ua : (ts : List ShdlcTurn) (e : EndState) → shdlc_turned (with_ua e) ts ≡ with_ua (shdlc_turned e ts)
+turned-ua [] e = refl
+turned-ua (t ∷ ts) e = ap (λ f. shdlc_turned f ts) (turn-ua e t) ∙ turned-ua ts (shdlc_turn e t)
+
+pub sends_ua : (m : ℕ) (n : Losses) (ts : List ShdlcTurn) (l : ShdlcLink) (e : EndState)
+    → TiedLink (noted_all (noted_loss n l Ua) (shdlc_put l Ua) (frames_of m (shdlc_turned e ts)))
+    (with_shdlc_controller (shdlc_put_all (shdlc_put l Ua) (frames_of m (shdlc_turned e ts))) (after_frames m (shdlc_turned e ts)))
+    → TiedLink (noted_all n l (frames_of (suc m) (shdlc_turned (with_ua e) ts)))
+    (with_shdlc_controller (shdlc_put_all l (frames_of (suc m) (shdlc_turned (with_ua e) ts))) (after_frames (suc m) (shdlc_turned (with_ua e) ts)))
+sends_ua m n ts l e h =
+    let P : EndState → Type 0 = λ f. TiedLink (noted_all n l (frames_of (suc m) f))
+    (with_shdlc_controller (shdlc_put_all l (frames_of (suc m) f)) (after_frames (suc m) f)) in
+    subst P (sym (turned-ua ts e)) h
+
+-- an end that is in no session
+pub after_frames-phase : (m : ℕ) (e : EndState) → (after_frames m e).phase ≡ e.phase
+after_frames-phase zero e = refl
+after_frames-phase (suc m) e = after_frames-phase m (fetched e) ∙ fetched-phase e
+
+put-to_controller : (l : ShdlcLink) (c : Control) → (shdlc_put l c).to_controller ≡ l.to_controller
+put-to_controller l (Rset _ _) = refl
+put-to_controller l (I _ _ _) = refl
+put-to_controller l (S _ _) = refl
+put-to_controller l Ua = refl
+put-to_controller l (Act _ _) = refl
+put-to_controller l Clt = refl
+
+pub put_all-to_controller : (cs : List Control) (l : ShdlcLink) → (shdlc_put_all l cs).to_controller ≡ l.to_controller
+put_all-to_controller [] l = refl
+put_all-to_controller (c ∷ cs) l = put_all-to_controller cs (shdlc_put l c) ∙ put-to_controller l c
+
+pub tied_none : (m : ℕ) (n : Losses) (l : ShdlcLink) (e : EndState) → live e.phase (sans l.to_controller) ≡ None
+    → TiedLink (noted_all n l (frames_of m e)) (with_shdlc_controller (shdlc_put_all l (frames_of m e)) (after_frames m e))
+tied_none m n l e none w a b p q = absurd (let z : None ≡ Some a = sym (rw (after_frames-phase m e, put_all-to_controller (frames_of m e) l) none) ∙ p in cc)
+
+pub turned-phase : (ts : List ShdlcTurn) (e : EndState) → (shdlc_turned e ts).phase ≡ e.phase
+turned-phase [] e = refl
+turned-phase (t ∷ ts) e = turned-phase ts (shdlc_turn e t) ∙ turn-phase e t
+
+-- ## Older wires
+
+live_older : (p : LinkState) (w b : List OnWire) → live p (older w) ≡ Some b → (v : List OnWire) × (live p w ≡ Some v) × (b ≡ older v)
+live_older p w b q = go (live p w) refl (sym (live-older p w) ∙ q)
+  where
+    go : (o : Option (List OnWire)) → live p w ≡ o → older_part (live p w) ≡ Some b → (v : List OnWire) × (live p w ≡ Some v) × (b ≡ older v)
+    go None e r = absurd (let z : older_part None ≡ Some b = rw e at r in cc)
+    go (Some v) e r = (v, e, let z : older_part (Some v) ≡ Some b = rw e at r in let y : older v ≡ b = cc in sym y)
+
+pub tied_older : (W : Type 0) (n f : EndState) (to_n to_f : List OnWire) → Tied W n f to_n to_f → Tied W n f (older to_n) (older to_f)
+tied_older W n f to_n to_f h w a b p q =
+    let s = live_older n.phase to_n a p in
+    let t = live_older f.phase to_f b q in
+    let m = h w s.0 t.0 s.1 t.1 in
+    let x : EndState = as_up n.phase n in
+    let y : EndState = as_up f.phase f in
+    let one : Joined (Unit {0}) y x t.0 (older s.0) =
+    joined_exchanged (Unit {0}) x y (older s.0) t.0 (joined_older (Unit {0}) x y s.0 t.0 m.joined) in
+    let two : Joined (Unit {0}) x y (older s.0) (older t.0) =
+    joined_exchanged (Unit {0}) y x (older t.0) (older s.0) (joined_older (Unit {0}) y x t.0 (older s.0) one) in
+    record { joined = rw (s.2, t.2) two; near = m.near; far = m.far }

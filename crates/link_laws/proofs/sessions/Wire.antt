@@ -1,0 +1,429 @@
+-- What stands on a wire: RSETs, UAs, and the frames that the end will take in a session.
+use Rattle.std.proofs.Common.{◌≡◌, ℕ, ◌+◌, ◌<◌, ◌≤◌, List, [], ◌∷◌, ◌++◌, Option, Some, None, ◌⊎◌, inl, inr, refl, ap, ◌∙◌, arith}
+use Rattle.swp_base.specs.declared.control_frames.Control.{Control}
+use Rattle.swp_base.specs.declared.control_frames.Control.TheVariants.{I, S, Rset, Ua, Act, Clt}
+use Rattle.shdlc_core.specs.declared.answers.LinkState.{LinkState}
+use Rattle.shdlc_core.specs.declared.answers.LinkState.TheVariants.{Down, Waiting, Up}
+use Rattle.link_laws.specs.sessions.Sessions.{OnWire, older}
+
+-- a frame of a session
+abbrev pub IsData : Control → Type 0
+IsData (Rset w c) = ⊥
+IsData Ua = ⊥
+IsData _ = Unit {0}
+
+-- the ages of the RSETs, and of the UAs
+abbrev pub add_rset : Control → ℕ → List ℕ → List ℕ
+add_rset (Rset w c) a r = a ∷ r
+add_rset _ a r = r
+
+abbrev pub rsets : List OnWire → List ℕ
+rsets [] = []
+rsets (x ∷ xs) = add_rset x.frame x.age (rsets xs)
+
+abbrev pub add_ua : Control → ℕ → List ℕ → List ℕ
+add_ua Ua a r = a ∷ r
+add_ua _ a r = r
+
+abbrev pub uas : List OnWire → List ℕ
+uas [] = []
+uas (x ∷ xs) = add_ua x.frame x.age (uas xs)
+
+-- each RSET has this number, and a window that isn't 0
+abbrev pub NumberOk : ℕ → Control → ℕ → Type 0
+NumberOk n (Rset w c) k = (k ≡ n) × (0 < w)
+NumberOk n _ k = Unit {0}
+
+abbrev pub Numbered : ℕ → List OnWire → Type 0
+Numbered n [] = Unit {0}
+Numbered n (x ∷ xs) = NumberOk n x.frame x.number × Numbered n xs
+
+-- behind an RSET stands one UA at most
+abbrev pub AfterRset : List OnWire → Type 0
+AfterRset [] = Unit {0}
+AfterRset (x ∷ []) = x.frame ≡ Ua
+AfterRset (x ∷ y ∷ ys) = ⊥
+
+abbrev pub tail_step : Control → List OnWire → Type 0 → Type 0
+tail_step (Rset w c) xs later = AfterRset xs
+tail_step _ xs later = later
+
+abbrev pub Tail : List OnWire → Type 0
+Tail [] = Unit {0}
+Tail (x ∷ xs) = tail_step x.frame xs (Tail xs)
+
+-- what stands behind the first UA, where no RSET stands before it
+abbrev pub behind_step : Control → List OnWire → Option (List OnWire) → Option (List OnWire)
+behind_step (Rset w c) xs later = None
+behind_step Ua xs later = Some xs
+behind_step _ xs later = later
+
+abbrev pub behind_ua : List OnWire → Option (List OnWire)
+behind_ua [] = None
+behind_ua (x ∷ xs) = behind_step x.frame xs (behind_ua xs)
+
+-- the part of the wire to an end that it will take in a session: all of it where it is Up, and what stands behind the UA
+-- where it waits
+abbrev pub live : LinkState → List OnWire → Option (List OnWire)
+live Up w = Some w
+live Waiting w = behind_ua w
+live Down w = None
+
+abbrev pub Young : ℕ → List OnWire → Type 0
+Young b [] = Unit {0}
+Young b (x ∷ xs) = (x.age ≤ b) × Young x.age xs
+
+-- ## One frame more
+
+add_rset-append : (c : Control) (a : ℕ) (r s : List ℕ) → add_rset c a (r ++ s) ≡ add_rset c a r ++ s
+add_rset-append (Rset _ _) a r s = refl
+add_rset-append (I _ _ _) a r s = refl
+add_rset-append (S _ _) a r s = refl
+add_rset-append Ua a r s = refl
+add_rset-append (Act _ _) a r s = refl
+add_rset-append Clt a r s = refl
+
+pub rsets-append : (w : List OnWire) (x : OnWire) → rsets (w ++ x ∷ []) ≡ rsets w ++ rsets (x ∷ [])
+rsets-append [] x = refl
+rsets-append (y ∷ w) x = ap (add_rset y.frame y.age) (rsets-append w x) ∙ add_rset-append y.frame y.age (rsets w) (rsets (x ∷ []))
+
+add_ua-append : (c : Control) (a : ℕ) (r s : List ℕ) → add_ua c a (r ++ s) ≡ add_ua c a r ++ s
+add_ua-append (Rset _ _) a r s = refl
+add_ua-append (I _ _ _) a r s = refl
+add_ua-append (S _ _) a r s = refl
+add_ua-append Ua a r s = refl
+add_ua-append (Act _ _) a r s = refl
+add_ua-append Clt a r s = refl
+
+pub uas-append : (w : List OnWire) (x : OnWire) → uas (w ++ x ∷ []) ≡ uas w ++ uas (x ∷ [])
+uas-append [] x = refl
+uas-append (y ∷ w) x = ap (add_ua y.frame y.age) (uas-append w x) ∙ add_ua-append y.frame y.age (uas w) (uas (x ∷ []))
+
+pub numbered-append : (n : ℕ) (w : List OnWire) (x : OnWire) → Numbered n w → Numbered n (x ∷ []) → Numbered n (w ++ x ∷ [])
+numbered-append n [] x h e = e
+numbered-append n (y ∷ w) x h e = (h.0, numbered-append n w x h.1 e)
+
+abbrev pub NotRset : Control → Type 0
+NotRset (Rset w c) = ⊥
+NotRset _ = Unit {0}
+
+abbrev pub NotUa : Control → Type 0
+NotUa Ua = ⊥
+NotUa _ = Unit {0}
+
+pub no_rset_step : (c : Control) (a : ℕ) (r : List ℕ) → add_rset c a r ≡ [] → (r ≡ []) × NotRset c
+no_rset_step (Rset _ _) a r h = cc
+no_rset_step (I _ _ _) a r h = (h, tt)
+no_rset_step (S _ _) a r h = (h, tt)
+no_rset_step Ua a r h = (h, tt)
+no_rset_step (Act _ _) a r h = (h, tt)
+no_rset_step Clt a r h = (h, tt)
+
+pub no_ua_step : (c : Control) (a : ℕ) (r : List ℕ) → add_ua c a r ≡ [] → (r ≡ []) × NotUa c
+no_ua_step Ua a r h = cc
+no_ua_step (I _ _ _) a r h = (h, tt)
+no_ua_step (S _ _) a r h = (h, tt)
+no_ua_step (Rset _ _) a r h = (h, tt)
+no_ua_step (Act _ _) a r h = (h, tt)
+no_ua_step Clt a r h = (h, tt)
+
+pub number_ok : (m k : ℕ) (c : Control) → NotRset c → NumberOk m c k
+number_ok m k (Rset _ _) h = absurd h
+number_ok m k (I _ _ _) h = tt
+number_ok m k (S _ _) h = tt
+number_ok m k Ua h = tt
+number_ok m k (Act _ _) h = tt
+number_ok m k Clt h = tt
+
+pub numbered_none : (m : ℕ) (w : List OnWire) → rsets w ≡ [] → Numbered m w
+numbered_none m [] h = tt
+numbered_none m (x ∷ xs) h =
+    let s = no_rset_step x.frame x.age (rsets xs) h in
+    (number_ok m x.number x.frame s.1, numbered_none m xs s.0)
+
+pub tail_step_other : (c : Control) (xs : List OnWire) (P : Type 0) → NotRset c → P → tail_step c xs P
+tail_step_other (Rset _ _) xs P h p = absurd h
+tail_step_other (I _ _ _) xs P h p = p
+tail_step_other (S _ _) xs P h p = p
+tail_step_other Ua xs P h p = p
+tail_step_other (Act _ _) xs P h p = p
+tail_step_other Clt xs P h p = p
+
+pub tail_none : (w : List OnWire) → rsets w ≡ [] → Tail w
+tail_none [] h = tt
+tail_none (x ∷ xs) h =
+    let s = no_rset_step x.frame x.age (rsets xs) h in
+    tail_step_other x.frame xs (Tail xs) s.1 (tail_none xs s.0)
+
+tail_one : (c : Control) → tail_step c [] (Unit {0})
+tail_one (Rset _ _) = tt
+tail_one (I _ _ _) = tt
+tail_one (S _ _) = tt
+tail_one Ua = tt
+tail_one (Act _ _) = tt
+tail_one Clt = tt
+
+-- any frame may stand behind frames without an RSET
+pub tail_push : (w : List OnWire) (x : OnWire) → rsets w ≡ [] → Tail (w ++ x ∷ [])
+tail_push [] x h = tail_one x.frame
+tail_push (y ∷ w) x h =
+    let s = no_rset_step y.frame y.age (rsets w) h in
+    tail_step_other y.frame (w ++ x ∷ []) (Tail (w ++ x ∷ [])) s.1 (tail_push w x s.0)
+
+after_rset_ua : (w : List OnWire) (x : OnWire) → x.frame ≡ Ua → uas w ≡ [] → AfterRset w → AfterRset (w ++ x ∷ [])
+after_rset_ua [] x e u h = e
+after_rset_ua (y ∷ []) x e u h = absurd (let q : add_ua Ua y.age [] ≡ [] = rw h at u in let r : y.age ∷ [] ≡ [] = q in cc)
+after_rset_ua (y ∷ z ∷ w) x e u h = absurd h
+
+tail_step_ua : (c : Control) (w : List OnWire) (x : OnWire) (P Q : Type 0) → x.frame ≡ Ua → uas w ≡ [] → (P → Q) → tail_step c w P → tail_step c (w ++ x ∷ []) Q
+tail_step_ua (Rset _ _) w x P Q e u f h = after_rset_ua w x e u h
+tail_step_ua (I _ _ _) w x P Q e u f h = f h
+tail_step_ua (S _ _) w x P Q e u f h = f h
+tail_step_ua Ua w x P Q e u f h = f h
+tail_step_ua (Act _ _) w x P Q e u f h = f h
+tail_step_ua Clt w x P Q e u f h = f h
+
+-- a UA may stand behind an RSET where there is none yet
+pub tail_push_ua : (w : List OnWire) (x : OnWire) → x.frame ≡ Ua → uas w ≡ [] → Tail w → Tail (w ++ x ∷ [])
+tail_push_ua [] x e u h = tail_one x.frame
+tail_push_ua (y ∷ w) x e u h =
+    let s = no_ua_step y.frame y.age (uas w) u in
+    tail_step_ua y.frame w x (Tail w) (Tail (w ++ x ∷ [])) e s.0 (tail_push_ua w x e s.0) h
+
+-- ## Behind a UA
+
+behind_step_none : (c : Control) (xs : List OnWire) (o : Option (List OnWire)) → NotUa c → o ≡ None → behind_step c xs o ≡ None
+behind_step_none (Rset _ _) xs o h e = refl
+behind_step_none (I _ _ _) xs o h e = e
+behind_step_none (S _ _) xs o h e = e
+behind_step_none Ua xs o h e = absurd h
+behind_step_none (Act _ _) xs o h e = e
+behind_step_none Clt xs o h e = e
+
+pub behind_none : (w : List OnWire) → uas w ≡ [] → behind_ua w ≡ None
+behind_none [] h = refl
+behind_none (x ∷ xs) h =
+    let s = no_ua_step x.frame x.age (uas xs) h in
+    behind_step_none x.frame xs (behind_ua xs) s.1 (behind_none xs s.0)
+
+behind_step_push : (c : Control) (w ys : List OnWire) (x : OnWire) (o p : Option (List OnWire)) → (o ≡ Some ys → p ≡ Some (ys ++ x ∷ []))
+    → behind_step c w o ≡ Some ys → behind_step c (w ++ x ∷ []) p ≡ Some (ys ++ x ∷ [])
+behind_step_push (Rset _ _) w ys x o p f h = cc
+behind_step_push (I _ _ _) w ys x o p f h = f h
+behind_step_push (S _ _) w ys x o p f h = f h
+behind_step_push Ua w ys x o p f h = let e : w ≡ ys = cc in ap (λ (l : List OnWire). Some (l ++ x ∷ [])) e
+behind_step_push (Act _ _) w ys x o p f h = f h
+behind_step_push Clt w ys x o p f h = f h
+
+pub behind_push : (w ys : List OnWire) (x : OnWire) → behind_ua w ≡ Some ys → behind_ua (w ++ x ∷ []) ≡ Some (ys ++ x ∷ [])
+behind_push [] ys x h = cc
+behind_push (y ∷ w) ys x h = behind_step_push y.frame w ys x (behind_ua w) (behind_ua (w ++ x ∷ [])) (behind_push w ys x) h
+
+behind_step_push_none : (c : Control) (w : List OnWire) (x : OnWire) (o p : Option (List OnWire)) → (o ≡ None → p ≡ None)
+    → behind_step c w o ≡ None → behind_step c (w ++ x ∷ []) p ≡ None
+behind_step_push_none (Rset _ _) w x o p f h = refl
+behind_step_push_none (I _ _ _) w x o p f h = f h
+behind_step_push_none (S _ _) w x o p f h = f h
+behind_step_push_none Ua w x o p f h = cc
+behind_step_push_none (Act _ _) w x o p f h = f h
+behind_step_push_none Clt w x o p f h = f h
+
+pub behind_push_none : (w : List OnWire) (x : OnWire) → NotUa x.frame → behind_ua w ≡ None → behind_ua (w ++ x ∷ []) ≡ None
+behind_push_none [] x n h = behind_step_none x.frame [] None n refl
+behind_push_none (y ∷ w) x n h = behind_step_push_none y.frame w x (behind_ua w) (behind_ua (w ++ x ∷ [])) (behind_push_none w x n) h
+
+-- a new UA leads into a session where no RSET stands before it
+pub behind_new : (w : List OnWire) (x : OnWire) → x.frame ≡ Ua → uas w ≡ [] → (behind_ua (w ++ x ∷ []) ≡ None)
+    ⊎ ((behind_ua (w ++ x ∷ []) ≡ Some []) × (rsets w ≡ []))
+behind_new [] x e u = inr (rw e refl, refl)
+behind_new (y ∷ w) x e u = go y.frame y.age u (behind_new w x e)
+  where
+    go : (c : Control) (a : ℕ) → add_ua c a (uas w) ≡ []
+        → (uas w ≡ [] → (behind_ua (w ++ x ∷ []) ≡ None) ⊎ ((behind_ua (w ++ x ∷ []) ≡ Some []) × (rsets w ≡ [])))
+        → (behind_step c (w ++ x ∷ []) (behind_ua (w ++ x ∷ [])) ≡ None)
+        ⊎ ((behind_step c (w ++ x ∷ []) (behind_ua (w ++ x ∷ [])) ≡ Some []) × (add_rset c a (rsets w) ≡ []))
+    go (Rset _ _) a q f = inl refl
+    go Ua a q f = cc
+    go (I _ _ _) a q f = f q
+    go (S _ _) a q f = f q
+    go (Act _ _) a q f = f q
+    go Clt a q f = f q
+
+-- no RSET stands before the UA, and one UA less behind it
+pub behind_rsets : (w ys : List OnWire) → behind_ua w ≡ Some ys → (rsets w ≡ rsets ys) × ((a : ℕ) × (uas w ≡ a ∷ uas ys))
+behind_rsets [] ys h = cc
+behind_rsets (x ∷ xs) ys h = go x.frame x.age h (behind_rsets xs ys)
+  where
+    go : (c : Control) (a : ℕ) → behind_step c xs (behind_ua xs) ≡ Some ys
+        → (behind_ua xs ≡ Some ys → (rsets xs ≡ rsets ys) × ((b : ℕ) × (uas xs ≡ b ∷ uas ys)))
+        → (add_rset c a (rsets xs) ≡ rsets ys) × ((b : ℕ) × (add_ua c a (uas xs) ≡ b ∷ uas ys))
+    go (Rset _ _) a q f = cc
+    go Ua a q f = let e : xs ≡ ys = cc in (ap rsets e, (a, ap (λ (l : List OnWire). a ∷ uas l) e))
+    go (I _ _ _) a q f = f q
+    go (S _ _) a q f = f q
+    go (Act _ _) a q f = f q
+    go Clt a q f = f q
+
+-- ## Older wires
+
+abbrev pub plus_one : List ℕ → List ℕ
+plus_one [] = []
+plus_one (a ∷ r) = (a + 1) ∷ plus_one r
+
+add_rset-plus : (c : Control) (a : ℕ) (r : List ℕ) → add_rset c (a + 1) (plus_one r) ≡ plus_one (add_rset c a r)
+add_rset-plus (Rset _ _) a r = refl
+add_rset-plus (I _ _ _) a r = refl
+add_rset-plus (S _ _) a r = refl
+add_rset-plus Ua a r = refl
+add_rset-plus (Act _ _) a r = refl
+add_rset-plus Clt a r = refl
+
+pub rsets-older : (w : List OnWire) → rsets (older w) ≡ plus_one (rsets w)
+rsets-older [] = refl
+rsets-older (x ∷ xs) = ap (add_rset x.frame (x.age + 1)) (rsets-older xs) ∙ add_rset-plus x.frame x.age (rsets xs)
+
+add_ua-plus : (c : Control) (a : ℕ) (r : List ℕ) → add_ua c (a + 1) (plus_one r) ≡ plus_one (add_ua c a r)
+add_ua-plus (Rset _ _) a r = refl
+add_ua-plus (I _ _ _) a r = refl
+add_ua-plus (S _ _) a r = refl
+add_ua-plus Ua a r = refl
+add_ua-plus (Act _ _) a r = refl
+add_ua-plus Clt a r = refl
+
+pub uas-older : (w : List OnWire) → uas (older w) ≡ plus_one (uas w)
+uas-older [] = refl
+uas-older (x ∷ xs) = ap (add_ua x.frame (x.age + 1)) (uas-older xs) ∙ add_ua-plus x.frame x.age (uas xs)
+
+pub numbered_older : (m : ℕ) (w : List OnWire) → Numbered m w → Numbered m (older w)
+numbered_older m [] h = tt
+numbered_older m (x ∷ xs) h = (h.0, numbered_older m xs h.1)
+
+after_rset_older : (w : List OnWire) → AfterRset w → AfterRset (older w)
+after_rset_older [] h = tt
+after_rset_older (x ∷ []) h = h
+after_rset_older (x ∷ y ∷ ys) h = absurd h
+
+tail_step_older : (c : Control) (w : List OnWire) (P Q : Type 0) → (P → Q) → tail_step c w P → tail_step c (older w) Q
+tail_step_older (Rset _ _) w P Q f h = after_rset_older w h
+tail_step_older (I _ _ _) w P Q f h = f h
+tail_step_older (S _ _) w P Q f h = f h
+tail_step_older Ua w P Q f h = f h
+tail_step_older (Act _ _) w P Q f h = f h
+tail_step_older Clt w P Q f h = f h
+
+pub tail_older : (w : List OnWire) → Tail w → Tail (older w)
+tail_older [] h = tt
+tail_older (x ∷ xs) h = tail_step_older x.frame xs (Tail xs) (Tail (older xs)) (tail_older xs) h
+
+abbrev pub older_part : Option (List OnWire) → Option (List OnWire)
+older_part None = None
+older_part (Some w) = Some (older w)
+
+behind_step-older : (c : Control) (w : List OnWire) (o : Option (List OnWire)) → behind_step c (older w) (older_part o) ≡ older_part (behind_step c w o)
+behind_step-older (Rset _ _) w o = refl
+behind_step-older (I _ _ _) w o = refl
+behind_step-older (S _ _) w o = refl
+behind_step-older Ua w o = refl
+behind_step-older (Act _ _) w o = refl
+behind_step-older Clt w o = refl
+
+pub behind_ua-older : (w : List OnWire) → behind_ua (older w) ≡ older_part (behind_ua w)
+behind_ua-older [] = refl
+behind_ua-older (x ∷ xs) = ap (behind_step x.frame (older xs)) (behind_ua-older xs) ∙ behind_step-older x.frame xs (behind_ua xs)
+
+pub live-older : (p : LinkState) (w : List OnWire) → live p (older w) ≡ older_part (live p w)
+live-older Up w = refl
+live-older Waiting w = behind_ua-older w
+live-older Down w = refl
+
+pub young_push : (b : ℕ) (w : List OnWire) (x : OnWire) → x.age ≡ 0 → Young b w → Young b (w ++ x ∷ [])
+young_push b [] x e h = (omega arith, tt)
+young_push b (y ∷ w) x e h = (h.0, young_push y.age w x e h.1)
+
+pub young_later : (b c : ℕ) (w : List OnWire) → b ≤ c → Young b w → Young c w
+young_later b c [] i h = tt
+young_later b c (x ∷ xs) i h = (omega (arith, h.0), h.1)
+
+pub young_older : (b : ℕ) (w : List OnWire) → Young b w → Young (b + 1) (older w)
+young_older b [] h = tt
+young_older b (x ∷ xs) h = (omega (arith, h.0), young_older x.age xs h.1)
+
+-- ## A frame of a session changes none of these
+
+pub data_not_rset : (c : Control) → IsData c → NotRset c
+data_not_rset (Rset _ _) h = absurd h
+data_not_rset (I _ _ _) h = tt
+data_not_rset (S _ _) h = tt
+data_not_rset Ua h = tt
+data_not_rset (Act _ _) h = tt
+data_not_rset Clt h = tt
+
+pub data_not_ua : (c : Control) → IsData c → NotUa c
+data_not_ua (Rset _ _) h = tt
+data_not_ua (I _ _ _) h = tt
+data_not_ua (S _ _) h = tt
+data_not_ua Ua h = absurd h
+data_not_ua (Act _ _) h = tt
+data_not_ua Clt h = tt
+
+pub not_rset_adds : (c : Control) (a : ℕ) (r : List ℕ) → NotRset c → add_rset c a r ≡ r
+not_rset_adds (Rset _ _) a r h = absurd h
+not_rset_adds (I _ _ _) a r h = refl
+not_rset_adds (S _ _) a r h = refl
+not_rset_adds Ua a r h = refl
+not_rset_adds (Act _ _) a r h = refl
+not_rset_adds Clt a r h = refl
+
+pub not_ua_adds : (c : Control) (a : ℕ) (r : List ℕ) → NotUa c → add_ua c a r ≡ r
+not_ua_adds (Rset _ _) a r h = refl
+not_ua_adds (I _ _ _) a r h = refl
+not_ua_adds (S _ _) a r h = refl
+not_ua_adds Ua a r h = absurd h
+not_ua_adds (Act _ _) a r h = refl
+not_ua_adds Clt a r h = refl
+
+pub data_behind : (c : Control) (w : List OnWire) (o : Option (List OnWire)) → IsData c → behind_step c w o ≡ o
+data_behind (Rset _ _) w o h = absurd h
+data_behind (I _ _ _) w o h = refl
+data_behind (S _ _) w o h = refl
+data_behind Ua w o h = absurd h
+data_behind (Act _ _) w o h = refl
+data_behind Clt w o h = refl
+
+pub not_rset_tail : (c : Control) (w : List OnWire) (P : Type 0) → NotRset c → tail_step c w P → P
+not_rset_tail (Rset _ _) w P h p = absurd h
+not_rset_tail (I _ _ _) w P h p = p
+not_rset_tail (S _ _) w P h p = p
+not_rset_tail Ua w P h p = p
+not_rset_tail (Act _ _) w P h p = p
+not_rset_tail Clt w P h p = p
+
+pub rset_young : (b a : ℕ) (r : List ℕ) (w : List OnWire) → Young b w → rsets w ≡ a ∷ r → a ≤ b
+rset_young b a r [] y h = cc
+rset_young b a r (x ∷ xs) y h = go x.frame h (rset_young b a r xs (young_later x.age b xs y.0 y.1))
+  where
+    go : (c : Control) → add_rset c x.age (rsets xs) ≡ a ∷ r → (rsets xs ≡ a ∷ r → a ≤ b) → a ≤ b
+    go (Rset _ _) q f = let e : x.age ≡ a = cc in omega (arith, y.0)
+    go (I _ _ _) q f = f q
+    go (S _ _) q f = f q
+    go Ua q f = f q
+    go (Act _ _) q f = f q
+    go Clt q f = f q
+
+pub ua_young : (b a : ℕ) (r : List ℕ) (w : List OnWire) → Young b w → uas w ≡ a ∷ r → a ≤ b
+ua_young b a r [] y h = cc
+ua_young b a r (x ∷ xs) y h = go x.frame h (ua_young b a r xs (young_later x.age b xs y.0 y.1))
+  where
+    go : (c : Control) → add_ua c x.age (uas xs) ≡ a ∷ r → (uas xs ≡ a ∷ r → a ≤ b) → a ≤ b
+    go Ua q f = let e : x.age ≡ a = cc in omega (arith, y.0)
+    go (I _ _ _) q f = f q
+    go (S _ _) q f = f q
+    go (Rset _ _) q f = f q
+    go (Act _ _) q f = f q
+    go Clt q f = f q
+
+-- behind an RSET without a UA stands nothing
+pub after_rset_empty : (w : List OnWire) → uas w ≡ [] → AfterRset w → w ≡ []
+after_rset_empty [] u h = refl
+after_rset_empty (y ∷ []) u h = absurd (let q : add_ua Ua y.age [] ≡ [] = rw h at u in let r : y.age ∷ [] ≡ [] = q in cc)
+after_rset_empty (y ∷ z ∷ w) u h = absurd h

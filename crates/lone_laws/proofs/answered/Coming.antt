@@ -1,0 +1,199 @@
+-- A node with one link in a step before its pass: something comes to its end, and an identifier may be kept; nothing else is done.
+use Rattle.std.proofs.Common.{◌≡◌, ℕ, Bool, true, false, cond, eqb, List, [], ◌∷◌, ◌++◌, map, refl, sym, ap, ap₂, ◌∙◌, append-nil}
+use Rattle.std.specs.Prelude.{Some, None, is_some}
+use Rattle.std.specs.List.{flat_map, list_any}
+use Rattle.std.proofs.lemmas.Bool.{cond_both}
+use Rattle.trace_model.specs.declared.entry.Entry.{Entry}
+use Rattle.trace_model.specs.declared.line.End.{End}
+use Rattle.swp_act.specs.declared.ActEvent.TheVariants.{Start as ActStart, Tick as ActTick, Stop as ActStop}
+use Rattle.shdlc_core.specs.Machine.{ticked, tick_answer, stopped}
+use Rattle.link_machine.specs.Machine.{LinkEnd, LinkInput, is_open, moved, had_tick, started, deactivated, after_input, got_by, report, whole_acked}
+use Rattle.link_machine.specs.Machine.LinkInput.{Take, TakeUnknown, TakeBroken, Tick, Reset, Start, Stop, FromNode, Fetch}
+use Rattle.link_machine.proofs.Kept.{moved_got, activated_got, reset_got, took_got}
+use Rattle.history.specs.Filters.{same_end}
+use Rattle.history.specs.Steps.{end_of}
+use Rattle.node_machine.specs.Parts.{Core, Port, Work}
+use Rattle.node_machine.specs.Carrying.{own_side, unless_cut, all_done}
+use Rattle.node_machine.specs.Node.{NodeInput, input_at, has_come, told_at, all_come, with_older, is_late, reset_late, told_late, times_out, forgotten}
+use Rattle.node_machine.specs.Node.{forgets, is_over}
+use Rattle.node_machine.specs.Node.{all_owed, without_notice, after_sessions}
+use Rattle.node_machine.specs.Node.NodeInput.{AtEnd, TimePasses}
+use Rattle.node_laws.proofs.steps.StepWalks.{unless}
+use Rattle.node_order.specs.passes.Steps.{has_come_so, syncs_in, has_freed, has_synced, comes_to_pass}
+use Rattle.lone_laws.specs.alone.Lone.{end_of_node_alone, node_input}
+use Rattle.lone_laws.proofs.answered.Reading.{eqb_same, Read, read_all, told_read, reads_of, Alone, read_more}
+use Rattle.lone_laws.proofs.answered.Turning.{same_self, own_end}
+
+-- ## What comes
+
+-- this may come to the end of a node alone
+abbrev pub IsLoneInput : LinkInput → Type 0
+IsLoneInput (Take c) = Unit {0}
+IsLoneInput TakeUnknown = Unit {0}
+IsLoneInput Tick = Unit {0}
+IsLoneInput (Reset window) = Unit {0}
+IsLoneInput (Start value) = Unit {0}
+IsLoneInput Stop = Unit {0}
+IsLoneInput _ = ⊥
+
+nothing_more : (e f : LinkEnd) → f.got ≡ e.got → f.got ≡ e.got ++ []
+nothing_more e f q = q ∙ sym (append-nil e.got)
+
+pub lone_got : (e : LinkEnd) (i : LinkInput) → IsLoneInput i → (after_input e i).got ≡ e.got ++ got_by e i
+lone_got e (Take c) a = took_got e c
+lone_got e TakeUnknown a = nothing_more e (after_input e TakeUnknown) refl
+lone_got e Tick a = nothing_more e (after_input e Tick) (go (is_open e.role) refl) where
+  go : (b : Bool) → is_open e.role ≡ b → (had_tick e).got ≡ e.got
+  go true q = let b : Bool = is_some (tick_answer e.shdlc).ended in rw q (moved_got e b (ticked e.shdlc))
+  go false q = rw q (activated_got e ActTick)
+lone_got e (Reset window) a = nothing_more e (after_input e (Reset window)) (reset_got e window)
+lone_got e (Start value) a =
+    nothing_more e (started e value) (activated_got (moved e true (stopped e.shdlc)) (ActStart value) ∙ moved_got e true (stopped e.shdlc))
+lone_got e Stop a =
+    nothing_more e (deactivated e) (activated_got (moved e true (stopped e.shdlc)) ActStop ∙ moved_got e true (stopped e.shdlc))
+lone_got e (TakeBroken fault) a = absurd a
+lone_got e (FromNode x) a = absurd a
+lone_got e Fetch a = absurd a
+
+-- it comes to the end
+pub comes_there : (h : ℕ) (i : LinkInput) (p : Port) → p.desk.host ≡ h → input_at (node_input h i) p ≡ Some i
+comes_there h (Take c) p q = ap (λ b. cond b (Some (Take c)) None) (ap (λ n. eqb n h) q ∙ eqb_same h)
+comes_there h TakeUnknown p q = ap (λ b. cond b (Some TakeUnknown) None) (ap (λ n. eqb n h) q ∙ eqb_same h)
+comes_there h (TakeBroken fault) p q = ap (λ b. cond b (Some (TakeBroken fault)) None) (ap (λ n. eqb n h) q ∙ eqb_same h)
+comes_there h Tick p q = refl
+comes_there h (Reset window) p q = ap (λ b. cond b (Some (Reset window)) None) (ap (λ n. eqb n h) q ∙ eqb_same h)
+comes_there h (Start value) p q = ap (λ b. cond b (Some (Start value)) None) (ap (λ n. eqb n h) q ∙ eqb_same h)
+comes_there h Stop p q = ap (λ b. cond b (Some Stop) None) (ap (λ n. eqb n h) q ∙ eqb_same h)
+comes_there h (FromNode x) p q = ap (λ b. cond b (Some (FromNode x)) None) (ap (λ n. eqb n h) q ∙ eqb_same h)
+comes_there h Fetch p q = ap (λ b. cond b (Some Fetch) None) (ap (λ n. eqb n h) q ∙ eqb_same h)
+
+-- ## Without notices
+
+older_none : (p : Port) → p.desk.notice ≡ None → with_older p ≡ p
+older_none p q = rw q refl
+
+late_none : (p : Port) → p.desk.notice ≡ None → is_late p ≡ false
+late_none p q = rw q refl
+
+reset_none : (p : Port) → p.desk.notice ≡ None → reset_late p ≡ p
+reset_none p q = ap (λ b. cond b (record p { side = after_input p.side (Reset None); late = true }) p) (late_none p q)
+
+forgets_none : (ports : List Port) (p : Port) → p.desk.notice ≡ None → forgets ports p ≡ p
+forgets_none ports p q = rw q refl
+
+without_none : (p : Port) → p.desk.notice ≡ None → without_notice p ≡ p
+without_none p q = cond_both (is_over p) (record p { desk = record p.desk { notice = None } }) p (λ x. x ≡ p)
+    (λ _. ap (λ n. record p { desk = record p.desk { notice = n } }) (sym q)) (λ _. refl)
+
+owed_none : (p : Port) → p.desk.notice ≡ None → all_owed (p ∷ []) ≡ []
+owed_none p q = go p.ended p.late where
+  go : (a b : Bool) → all_owed (record p { ended = a; late = b } ∷ []) ≡ []
+  go true true = rw q refl
+  go true false = rw q refl
+  go false true = rw q refl
+  go false false = refl
+
+forgotten_none : (p : Port) → p.desk.notice ≡ None → forgotten (p ∷ []) ≡ []
+forgotten_none p q = rw q refl
+
+sessions_none : (core : Core) (ports : List Port) → core.command ≡ None → core.init ≡ None → after_sessions core ports ≡ core
+sessions_none core ports command init = cond_both (list_any is_over ports) (record core { command = None; init = None }) core (λ x. x ≡ core)
+    (λ _. ap₂ (λ c i. record core { command = c; init = i }) (sym command) (sym init)) (λ _. refl)
+
+-- ## Before the pass
+
+-- doing nothing changes nothing
+undone : (w : Work) → unless_cut (all_done 0 []) w ≡ w
+undone w = unless (λ v. v ≡ w) (all_done 0 []) w (λ v q. q) refl
+
+-- no notice is late
+times_none : (input : NodeInput) (v : Work) (q : Port) → v.ports ≡ q ∷ [] → q.desk.notice ≡ None → times_out input v ≡ v
+times_none (AtEnd k i) v q ports none = refl
+times_none TimePasses v q ports none =
+    let older : with_older q ≡ q = older_none q none in
+    let told : told_late v.core (with_older q) ≡ [] =
+    ap (told_late v.core) older ∙ ap (λ b. cond b (told_at v.core q (Some (Reset None))) []) (late_none q none) in
+    let es : flat_map (told_late v.core) (map with_older v.ports) ≡ [] =
+    ap (λ ps. flat_map (told_late v.core) (map with_older ps)) ports ∙ ap (λ z. z ++ []) told in
+    let ps : map reset_late (map with_older v.ports) ≡ v.ports =
+    ap (λ z. map reset_late (map with_older z)) ports ∙ (ap (λ z. z ∷ []) (ap reset_late older ∙ reset_none q none) ∙ sym ports) in
+    ap₂ (λ z es. record v { ports = z; entries = v.entries ++ es }) ps es ∙ ap (λ z. record v { entries = z }) (append-nil v.entries)
+
+-- nothing is forgotten
+freed_none : (v : Work) (q : Port) → v.ports ≡ q ∷ [] → q.desk.notice ≡ None → v.core.command ≡ None → v.core.init ≡ None
+    → all_done 0 (forgotten v.ports)
+    (record v { core = after_sessions v.core v.ports; ports = map without_notice (map (forgets v.ports) v.ports) }) ≡ v
+freed_none v q ports none command init =
+    let freed : forgotten v.ports ≡ [] = ap forgotten ports ∙ forgotten_none q none in
+    let ps : map without_notice (map (forgets v.ports) v.ports) ≡ v.ports =
+    ap (λ z. map without_notice (map (forgets v.ports) z)) ports
+    ∙ (ap (λ z. z ∷ []) (ap without_notice (forgets_none v.ports q none) ∙ without_none q none) ∙ sym ports) in
+    ap (λ d. all_done 0 d (record v { core = after_sessions v.core v.ports; ports = map without_notice (map (forgets v.ports) v.ports) })) freed
+    ∙ ap₂ (λ c z. record v { core = c; ports = z }) (sessions_none v.core v.ports command init) ps
+
+owed_left : (v : Work) (q : Port) → v.ports ≡ q ∷ [] → q.desk.notice ≡ None → all_owed (map (forgets v.ports) v.ports) ≡ []
+owed_left v q ports none =
+    ap (λ z. all_owed (map (forgets v.ports) z)) ports ∙ (ap (λ z. all_owed (z ∷ [])) (forgets_none v.ports q none) ∙ owed_none q none)
+
+module _ (number h : ℕ) (r : Read) (t : List Entry) where
+  abbrev e : End
+  e = end_of_node_alone number h
+
+  abbrev Of : Work → Type 0
+  Of w = Alone number h r t w
+
+  module _ (i : LinkInput) (may : IsLoneInput i) (w : Work) (a : Of w) where
+    abbrev input : NodeInput
+    input = node_input h i
+
+    -- the end as this has come there
+    abbrev pub came_port : Port
+    came_port = has_come a.port (Some i)
+
+    pub came_ports : (all_come input w).ports ≡ came_port ∷ []
+    came_ports = ap (map (λ p. has_come p (input_at input p))) a.ports_are ∙ ap (λ o. has_come a.port o ∷ []) (comes_there h i a.port a.host)
+
+    pub came_entries : (all_come input w).entries ≡ w.entries ++ told_at w.core a.port (Some i)
+    came_entries =
+        ap (λ z. w.entries ++ flat_map (λ p. told_at w.core p (input_at input p)) z) a.ports_are
+        ∙ (ap (λ o. w.entries ++ (told_at w.core a.port o ++ [])) (comes_there h i a.port a.host)
+        ∙ ap (λ z. w.entries ++ z) (append-nil (told_at w.core a.port (Some i))))
+
+    pub own_side_end : same_end (end_of a.port.desk.host (own_side w.core)) e ≡ true
+    own_side_end = ap (λ x. same_end x e) (own_end w.core number h a.port.desk.host a.node a.host) ∙ same_self e
+
+    pub alone_comes : Of (all_come input w)
+    alone_comes =
+        let told_it : List Entry = told_at w.core a.port (Some i) in
+        let R : Read = reads_of w.core a.port in
+        record {
+          port = came_port;
+          ports_are = came_ports;
+          host = a.host;
+          none = a.none;
+          node = a.node;
+          command = a.command;
+          init = a.init;
+          good = a.good;
+          read =
+              ap (λ es. read_all e r (t ++ es)) came_entries
+              ∙ read_more number h r t w told_it R (reads_of w.core came_port) a.read
+              (told_read e a.port.desk.host (own_side w.core) a.port.session (whole_acked (after_input a.port.side i)) (report a.port.side i) R own_side_end
+              ∙ ap (λ z. record R { left = z }) (sym (lone_got a.port.side i may)));
+        }
+
+    pub came_is : has_come_so input w ≡ all_come input w
+    came_is = times_none input (all_come input w) came_port came_ports a.none
+
+    freed_is : has_freed input w ≡ all_come input w
+    freed_is =
+        ap (λ v. all_done 0 (forgotten v.ports)
+        (record v { core = after_sessions v.core v.ports; ports = map without_notice (map (forgets v.ports) v.ports) })) came_is
+        ∙ freed_none (all_come input w) came_port came_ports a.none a.command a.init
+
+    -- As its pass begins, something has come to the end, and an identifier may have been kept.
+    pub pass_is : comes_to_pass input w ≡ all_done 0 (syncs_in input w) (all_come input w)
+    pass_is =
+        ap (λ d. unless_cut (all_done 0 d) (has_synced input w))
+        (ap (λ v. all_owed (map (forgets v.ports) v.ports)) came_is ∙ owed_left (all_come input w) came_port came_ports a.none)
+        ∙ (undone (has_synced input w) ∙ ap (all_done 0 (syncs_in input w)) freed_is)

@@ -1,0 +1,328 @@
+-- Before the first turn in an event a node alone answers what is due.
+use Rattle.std.proofs.Common.{◌≡◌, ℕ, ◌≤◌, Bool, true, false, cond, eqb, ◌&&◌, ◌||◌, List, [], ◌∷◌, ◌++◌, refl, sym, ap, subst, ◌∙◌, append_assoc, append-nil}
+use Rattle.std.specs.Prelude.{◌+◌, Option, Some, None, not, Result, Ok, Err, nat_le}
+use Rattle.std.specs.List.{AllByRecursion, filter, list_any, flat_map}
+use Rattle.std.proofs.lemmas.Bool.{cond_both}
+use Rattle.registry.proofs.ValueLemmas.{AllByRecursion-append}
+use Rattle.swp_base.specs.declared.control_frames.Control.{Control}
+use Rattle.swp_base.specs.declared.control_frames.Control.TheVariants as control
+use Rattle.swp_base.specs.declared.control_frames.Act.{Act}
+use Rattle.swp_base.specs.declared.control_frames.Act.TheVariants.{SyncId, Ready, PowerMode}
+use Rattle.swp_lpdu.specs.declared.LpduFault.{LpduFault}
+use Rattle.swp_lpdu.specs.Controls.{control_of}
+use Rattle.swp_act.specs.declared.ActEvent.{ActEvent}
+use Rattle.swp_act.specs.declared.ActEvent.TheVariants.{Start as ActStart, Take as ActTake, Tick as ActTick, Stop as ActStop}
+use Rattle.swp_act.specs.declared.Phase.{Phase}
+use Rattle.swp_act.specs.declared.Phase.TheVariants.{Inactive, Awaiting, Active as ActiveNow}
+use Rattle.swp_act.specs.declared.clf.ClfAct.{ClfAct}
+use Rattle.swp_act.specs.declared.uicc.UiccAct.{UiccAct}
+use Rattle.swp_act.specs.Activation.{clf_step, uicc_step, out_ticked, sends, no_act_out}
+use Rattle.trace_model.specs.declared.entry.Entry.{Entry}
+use Rattle.trace_model.specs.declared.entry.Entry.TheVariants as entry
+use Rattle.trace_model.specs.declared.line.End.{End}
+use Rattle.hci_tables.specs.declared.command.Command.TheVariants.{Sync}
+use Rattle.hci_tables.specs.Tables.{is_kept_sync}
+use Rattle.link_machine.specs.Machine.{Message, LinkEnd, LinkInput, Report, Role, report, after_input, whole_acked, act_out, act_event, lpdu_input, is_open}
+use Rattle.link_machine.specs.Machine.Role.{Bare, Clf, Uicc}
+use Rattle.link_entries.specs.entries.Entries.{End as Side, Entry as Noted, told}
+use Rattle.link_entries.specs.entries.Entries.Entry.{Up, Down, Active, GaveUp, Acked, Got}
+use Rattle.history.specs.Steps.{entries_for}
+use Rattle.node_machine.specs.Parts.{Core, Running, Port, Work, Deed}
+use Rattle.node_machine.specs.Parts.Deed.{Commits}
+use Rattle.node_machine.specs.Carrying.{own_side, all_done, finds_room}
+use Rattle.node_machine.specs.Node.{all_come, told_at, synced, input_at}
+use Rattle.node_order.specs.passes.Noting.{noted_by_deeds, goes_in}
+use Rattle.node_order.specs.passes.Passing.{ComesTo, IsTurnSo}
+use Rattle.node_order.specs.passes.Steps.{syncs_in}
+use Rattle.node_order.proofs.passes.Notes.{deeds_note}
+use Rattle.lone_laws.specs.alone.Lone.{Lone, LoneCause, lone_end, lone_input, node_input, lone_arrival, emits_behind, frames_behind, session_with}
+use Rattle.lone_laws.specs.alone.Lone.LoneCause.{FrameComes, FrameIsRefused, TickComes, ResetComes, StartComes, StopComes}
+use Rattle.lone_laws.specs.alone.Known.{core_since, talk_since}
+use Rattle.lone_laws.specs.alone.Answers.{is_own_answer, is_own_cut, to_turn, through_command, AnswersAlone, entries_of_deeds, noted_since, sync_due}
+use Rattle.lone_laws.specs.alone.Answers.{IsDueAlone}
+use Rattle.lone_laws.proofs.answered.Reading.{Read, Alone, core_is}
+use Rattle.lone_laws.proofs.answered.Coming.{comes_there, came_entries, pass_is}
+use Rattle.lone_laws.proofs.answered.Stepping.{lone_comes}
+use Rattle.lone_laws.proofs.answered.Lasting.{begins_alone, arrival_nothing}
+use Rattle.lone_laws.proofs.answered.Ordered.{begin_read, start, begun, ended, start_alone, pass_noted}
+use Rattle.lone_laws.proofs.answered.Roles.{kind_of}
+use Rattle.lone_laws.proofs.answered.Replying.{IsMuteEntry, AreUntil, IsNotedSo, deeds_answer, noted_answers}
+use Rattle.lone_laws.proofs.answered.Errors.{IsToldNote, told_of_it}
+use Rattle.lone_laws.proofs.answered.Answering.{none_until, BeginsBehind, emits_mute}
+use Rattle.lone_laws.proofs.answered.Keeping.{core_of, KeepsAll}
+
+-- ## What a frame says of an identifier
+
+-- the identifier that a frame of activation brings to a CLF
+abbrev wanted : ActEvent → Option ℕ
+wanted (ActTake (SyncId id) false) = Some id
+wanted _ = None
+
+tick_none : (p : Phase) (last : Option Act) → (out_ticked p last).sync ≡ None
+tick_none Inactive last = refl
+tick_none (Awaiting tries ticks) last =
+    cond_both (nat_le 10 (ticks + 1))
+    (cond (nat_le 3 tries) (record { send = None; became_active = false; ended_link = false; sync = None; gave_up = Some 3 }) (sends last)) no_act_out
+    (λ o. o.sync ≡ None)
+    (λ _. cond_both (nat_le 3 tries) (record { send = None; became_active = false; ended_link = false; sync = None; gave_up = Some 3 }) (sends last)
+    (λ o. o.sync ≡ None) (λ _. refl) (λ _. refl)) (λ _. refl)
+tick_none ActiveNow last = refl
+
+clf_sync : (s : ClfAct) (event : ActEvent) → (clf_step s event).1.sync ≡ wanted event
+clf_sync s (ActStart value) = refl
+clf_sync s (ActTake (SyncId id) true) = refl
+clf_sync s (ActTake Ready true) = refl
+clf_sync s (ActTake (PowerMode code) true) = refl
+clf_sync s (ActTake (SyncId id) false) = go s.phase refl where
+  go : (p : Phase) → s.phase ≡ p → (clf_step s (ActTake (SyncId id) false)).1.sync ≡ Some id
+  go Inactive q = rw q refl
+  go (Awaiting tries ticks) q = rw q refl
+  go ActiveNow q = rw q refl
+clf_sync s (ActTake Ready false) = go s.phase refl where
+  go : (p : Phase) → s.phase ≡ p → (clf_step s (ActTake Ready false)).1.sync ≡ None
+  go Inactive q = rw q refl
+  go (Awaiting tries ticks) q = rw q refl
+  go ActiveNow q = rw q refl
+clf_sync s (ActTake (PowerMode code) false) = refl
+clf_sync s ActTick = tick_none s.phase s.last
+clf_sync s ActStop = refl
+
+uicc_sync : (s : UiccAct) (event : ActEvent) → (uicc_step s event).1.sync ≡ None
+uicc_sync s (ActStart value) = refl
+uicc_sync s (ActTake act true) = refl
+uicc_sync s (ActTake (SyncId id) false) = refl
+uicc_sync s (ActTake Ready false) = refl
+uicc_sync s (ActTake (PowerMode code) false) = go (nat_le code 1) refl s.phase refl where
+  go : (b : Bool) → nat_le code 1 ≡ b → (p : Phase) → s.phase ≡ p → (uicc_step s (ActTake (PowerMode code) false)).1.sync ≡ None
+  go true z Inactive q = rw (z, q) refl
+  go true z (Awaiting tries ticks) q = rw (z, q) refl
+  go true z ActiveNow q = rw (z, q) refl
+  go false z p q = rw z refl
+uicc_sync s ActTick = tick_none s.phase s.last
+uicc_sync s ActStop = refl
+
+out_none : (r : Role) (o : Option ActEvent) → kind_of r ≡ Some false → (act_out r o).sync ≡ None
+out_none Bare o q = absurd (cc q)
+out_none (Clf s) o q = absurd (cc q)
+out_none (Uicc s) None q = refl
+out_none (Uicc s) (Some event) q = uicc_sync s event
+
+clf_out : (r : Role) (event : ActEvent) → kind_of r ≡ Some true → (act_out r (Some event)).sync ≡ wanted event
+clf_out Bare event q = absurd (cc q)
+clf_out (Uicc s) event q = absurd (cc q)
+clf_out (Clf s) event q = clf_sync s event
+
+-- the command that keeps an identifier
+abbrev of_sync : Core → ℕ → Option ℕ → List Deed
+of_sync core h None = []
+of_sync core h (Some id) = cond (not (is_kept_sync core.tables.syncs h id) && finds_room core (Sync h id)) (Commits (Sync h id) ∷ []) []
+
+synced_is : (core : Core) (h : ℕ) (i : LinkInput) (p : Port) (o : Option ℕ) → p.desk.host ≡ h → (report p.side i).sync ≡ o
+    → synced core (node_input h i) p ≡ of_sync core h o
+synced_is core h i p None host q = rw (comes_there h i p host, q) refl
+synced_is core h i p (Some id) host q =
+    (let is : input_at (node_input h i) p ≡ Some i = comes_there h i p host in rw (is, q) refl)
+    ∙ ap (λ k. of_sync core k (Some id)) host
+
+frame_due : (core : Core) (h : ℕ) (s : LinkEnd) (bytes : List ℕ) → eqb core.node 0 ≡ true → kind_of s.role ≡ Some true
+    → of_sync core h (report s (lpdu_input bytes)).sync ≡ sync_due core h (FrameComes bytes)
+frame_due core h s bytes zero kind = go (control_of bytes) refl where
+  act : (event : ActEvent) → (act_out s.role (Some event)).sync ≡ wanted event
+  act event = clf_out s.role event kind
+
+  go : (x : Result Control LpduFault) → control_of bytes ≡ x → of_sync core h (report s (lpdu_input bytes)).sync ≡ sync_due core h (FrameComes bytes)
+  go (Err fault) q = rw (q, zero) refl
+  go (Ok (control.I ns nr info)) q = rw (q, zero) refl
+  go (Ok (control.S kind nr)) q = rw (q, zero) refl
+  go (Ok (control.Rset window caps)) q = rw (q, zero) refl
+  go (Ok control.Ua) q = rw (q, zero) refl
+  go (Ok control.Clt) q = rw (q, zero) refl
+  go (Ok (control.Act (SyncId id) false)) q = rw (q, zero) (ap (of_sync core h) (act (ActTake (SyncId id) false)))
+  go (Ok (control.Act (SyncId id) true)) q = rw (q, zero) (ap (of_sync core h) (act (ActTake (SyncId id) true)))
+  go (Ok (control.Act Ready again)) q = rw (q, zero) (ap (of_sync core h) (act (ActTake Ready again) ∙ ready again)) where
+    ready : (b : Bool) → wanted (ActTake Ready b) ≡ None
+    ready true = refl
+    ready false = refl
+  go (Ok (control.Act (PowerMode code) again)) q = rw (q, zero) (ap (of_sync core h) (act (ActTake (PowerMode code) again) ∙ power again)) where
+    power : (b : Bool) → wanted (ActTake (PowerMode code) b) ≡ None
+    power true = refl
+    power false = refl
+
+other_due : (core : Core) (h : ℕ) (c : LoneCause) → eqb core.node 0 ≡ false → sync_due core h c ≡ []
+other_due core h (FrameComes bytes) another = rw another refl
+other_due core h (FrameIsRefused fault) another = refl
+other_due core h TickComes another = refl
+other_due core h (ResetComes window) another = refl
+other_due core h (StartComes value) another = refl
+other_due core h StopComes another = refl
+
+input_due : (core : Core) (h : ℕ) (s : LinkEnd) (c : LoneCause) (i : LinkInput) → lone_input c ≡ Some i → kind_of s.role ≡ Some (eqb core.node 0)
+    → of_sync core h (report s i).sync ≡ sync_due core h c
+input_due core h s c i comes kind = go (eqb core.node 0) refl where
+  clf : eqb core.node 0 ≡ true → (c : LoneCause) → lone_input c ≡ Some i → of_sync core h (report s i).sync ≡ sync_due core h c
+  clf zero (FrameComes bytes) q =
+      let is : lpdu_input bytes ≡ i = cc in
+      subst (λ x. of_sync core h (report s x).sync ≡ sync_due core h (FrameComes bytes)) is (frame_due core h s bytes zero (kind ∙ ap (λ b. Some b) zero))
+  clf zero (FrameIsRefused fault) q = absurd (cc q)
+  clf zero TickComes q =
+      let is : Rattle.link_machine.specs.Machine.LinkInput.Tick ≡ i = cc in
+      subst (λ x. of_sync core h (report s x).sync ≡ []) is
+      (cond_both (is_open s.role) None (Some ActTick) (λ o. of_sync core h (act_out s.role o).sync ≡ []) (λ _. refl)
+      (λ _. ap (of_sync core h) (clf_out s.role ActTick (kind ∙ ap (λ b. Some b) zero))))
+  clf zero (ResetComes window) q =
+      let is : Rattle.link_machine.specs.Machine.LinkInput.Reset window ≡ i = cc in subst (λ x. of_sync core h (report s x).sync ≡ []) is refl
+  clf zero (StartComes value) q =
+      let is : Rattle.link_machine.specs.Machine.LinkInput.Start value ≡ i = cc in
+      subst (λ x. of_sync core h (report s x).sync ≡ []) is (ap (of_sync core h) (clf_out s.role (ActStart value) (kind ∙ ap (λ b. Some b) zero)))
+  clf zero StopComes q =
+      let is : Rattle.link_machine.specs.Machine.LinkInput.Stop ≡ i = cc in
+      subst (λ x. of_sync core h (report s x).sync ≡ []) is (ap (of_sync core h) (clf_out s.role ActStop (kind ∙ ap (λ b. Some b) zero)))
+
+  go : (b : Bool) → eqb core.node 0 ≡ b → of_sync core h (report s i).sync ≡ sync_due core h c
+  go true zero = clf zero c comes
+  go false another =
+      ap (of_sync core h) (out_none s.role (act_event s i) (kind ∙ ap (λ b. Some b) another)) ∙ sym (other_due core h c another)
+
+-- ## What is noted first
+
+notes_mute : (h : ℕ) (xs : List Noted) → AllByRecursion IsToldNote xs → AllByRecursion IsMuteEntry (entries_for h xs)
+notes_mute h [] a = tt
+notes_mute h (Up who n ∷ xs) a = ((refl, refl, refl), notes_mute h xs a.1)
+notes_mute h (Down who cause ∷ xs) a = ((refl, refl, refl), notes_mute h xs a.1)
+notes_mute h (Active who ∷ xs) a = ((refl, refl, refl), notes_mute h xs a.1)
+notes_mute h (GaveUp who tries ∷ xs) a = ((refl, refl, refl), notes_mute h xs a.1)
+notes_mute h (Acked who n count ∷ xs) a = ((refl, refl, refl), notes_mute h xs a.1)
+notes_mute h (Got who n m ∷ xs) a = ((refl, refl, refl), notes_mute h xs a.1)
+notes_mute h (_ ∷ xs) a = absurd a.0
+
+told_mute : (h : ℕ) (who : Side) (n acked : ℕ) (rep : Report) → AllByRecursion IsMuteEntry (entries_for h (told who n rep acked))
+told_mute h who n acked rep = notes_mute h (told who n rep acked) (told_of_it who n acked rep)
+
+arrival_mute : (l : Lone) (c : LoneCause) → AllByRecursion IsMuteEntry (lone_arrival l c)
+arrival_mute l (FrameComes bytes) = ((refl, refl, refl), tt)
+arrival_mute l (FrameIsRefused fault) = tt
+arrival_mute l TickComes = tt
+arrival_mute l (ResetComes window) = tt
+arrival_mute l (StartComes value) = tt
+arrival_mute l StopComes = tt
+
+mute_answers : (x : Entry) (es answers : List Entry) → IsMuteEntry x → AnswersAlone es answers → AnswersAlone (x ∷ es) answers
+mute_answers x es answers mute a =
+    ap (λ b. filter is_own_answer (cond b [] (x ∷ to_turn es))) mute.1
+    ∙ (ap (λ b. cond b (x ∷ filter is_own_answer (to_turn es)) (filter is_own_answer (to_turn es))) mute.0
+    ∙ (a ∙ sym (ap (λ b. cond (list_any is_own_cut (cond b [] (x ∷ to_turn es))) (through_command answers) answers) mute.1
+    ∙ ap (λ b. cond (b || list_any is_own_cut (to_turn es)) (through_command answers) answers) mute.2)))
+
+mutes_answer : (xs es answers : List Entry) → AllByRecursion IsMuteEntry xs → AnswersAlone es answers → AnswersAlone (xs ++ es) answers
+mutes_answer [] es answers mute a = a
+mutes_answer (x ∷ xs) es answers mute a = mute_answers x (xs ++ es) answers mute.0 (mutes_answer xs es answers mute.1 a)
+
+-- an identifier that is kept is noted so
+sync_noted : (number h : ℕ) (e : End) (session : Option ℕ) (u : Work) (o : Option ℕ) → u.cut ≡ false → u.core.node ≡ number
+    → IsNotedSo number h (all_done 0 (of_sync u.core h o) u).cut (noted_by_deeds 0 (of_sync u.core h o) u) (entries_of_deeds u.core e session
+    (of_sync u.core h o))
+sync_noted number h e session u None on node = subst (λ b. IsNotedSo number h b [] []) (sym on) refl
+sync_noted number h e session u (Some id) on node =
+    cond_both (not (is_kept_sync u.core.tables.syncs h id) && finds_room u.core (Sync h id)) (Commits (Sync h id) ∷ []) []
+    (λ D. IsNotedSo number h (all_done 0 D u).cut (noted_by_deeds 0 D u) (entries_of_deeds u.core e session D))
+    (λ _. commits (goes_in (Sync h id) u) refl) (λ _. subst (λ b. IsNotedSo number h b [] []) (sym on) refl) where
+      D : List Deed
+      D = Commits (Sync h id) ∷ []
+
+      commits : (b : Bool) → goes_in (Sync h id) u ≡ b
+          → IsNotedSo number h (all_done 0 (Commits (Sync h id) ∷ []) u).cut (noted_by_deeds 0 (Commits (Sync h id) ∷ []) u)
+          (entries_of_deeds u.core e session (Commits (Sync h id) ∷ []))
+      commits true q = rw q (Sync h id, [], ap (λ n. entry.Command n (Sync h id) ∷ []) node, ap (λ n. entry.Command n (Sync h id) ∷ entry.Cut n ∷ []) node)
+      commits false q = rw (q, on) (refl)
+
+-- ## A step
+
+module _ (rest : Core) (t : List Entry) (l : Lone) (some : 1 ≤ l.link) (most : l.link ≤ 7) (n : Running)
+    (k : KeepsAll rest t l n) (c : LoneCause) (i : LinkInput) (comes : lone_input c ≡ Some i) where
+  abbrev G : Core
+  G = core_of rest l.number
+
+  abbrev R : Read
+  R = begin_read G
+
+  abbrev first : Work
+  first = start G t l some most n k.keep c i comes
+
+  abbrev B : Work
+  B = begun G t l some most n k.keep c i comes
+
+  abbrev last : Work
+  last = ended G t l some most n k.keep c i comes
+
+  abbrev tail : List Entry
+  tail = emits_behind l last
+
+  abbrev more : List Entry
+  more = (pass_noted G t l some most n k.keep c i comes).more
+
+  abbrev a : Alone l.number l.link R t first
+  a = begins_alone R t l n i (lone_arrival l c) (arrival_nothing l c) k.keep
+
+  abbrev e : End
+  e = lone_end l
+
+  -- what came, before what is due
+  abbrev before : List Entry
+  before = lone_arrival l c ++ told_at first.core a.port (Some i)
+
+  abbrev come : Work
+  come = all_come (node_input l.link i) first
+
+  abbrev due : List Deed
+  due = of_sync n.core l.link (report l.side i).sync
+
+  syncs_are : syncs_in (node_input l.link i) first ≡ due
+  syncs_are =
+      ap (flat_map (synced first.core (node_input l.link i))) a.ports_are
+      ∙ (append-nil (synced first.core (node_input l.link i) a.port) ∙ synced_is n.core l.link i a.port (report l.side i).sync k.keep.host refl)
+
+  is_begun : B ≡ all_done 0 due come
+  is_begun =
+      pass_is l.number l.link R t i (lone_comes c i comes) first (start_alone G t l some most n k.keep c i comes)
+      ∙ ap (λ d. all_done 0 d come) syncs_are
+
+  begun_entries : B.entries ≡ before ++ noted_by_deeds 0 due come
+  begun_entries =
+      ap (λ (w : Work). w.entries) is_begun
+      ∙ (deeds_note 0 due come ∙ ap (λ es. es ++ noted_by_deeds 0 due come) (came_entries l.number l.link R t i (lone_comes c i comes) first a))
+
+  each_is : (front back : List Entry) (x : Entry) → more ≡ front ++ (x ∷ back) → BeginsBehind x back
+  each_is front back x q = by x ((pass_noted G t l some most n k.keep c i comes).each front back x q).1 where
+    by : (y : Entry) → IsTurnSo (ComesTo B) B front y back → BeginsBehind y back
+    by (entry.Held f need spare) a = a.next
+    by (entry.Turn f pid message) a = tt
+    by _ a = tt
+
+  core_read : core_since G t ≡ n.core
+  core_read = sym (core_is e t R) ∙ ap (λ (z : Read). z.core) k.keep.read
+
+  due_read : noted_since G l.link t (sync_due (core_since G t) l.link c) ≡ entries_of_deeds n.core e (talk_since e l.number t).session due
+  due_read =
+      ap (λ x. entries_of_deeds x e (talk_since e l.number t).session (sync_due x l.link c)) core_read
+      ∙ ap (entries_of_deeds n.core e (talk_since e l.number t).session)
+      (sym (input_due n.core l.link l.side c i comes (k.talks.role ∙ ap (λ z. Some (eqb z 0)) (sym k.keep.node))))
+
+  entries_are_so : last.entries ++ tail ≡ before ++ (noted_by_deeds 0 due come ++ (more ++ tail))
+  entries_are_so =
+      ap (λ es. es ++ tail) ((pass_noted G t l some most n k.keep c i comes).entries ∙ ap (λ es. es ++ more) begun_entries)
+      ∙ (append_assoc (before ++ noted_by_deeds 0 due come) more tail ∙ append_assoc before (noted_by_deeds 0 due come) (more ++ tail))
+
+  -- The answers before the first turn are exactly those that are due.
+  pub due_in_step : IsDueAlone G l.link t (record { cause = c; entries = last.entries ++ tail })
+  due_in_step =
+      let session : Option ℕ = (talk_since e l.number t).session in
+      let until : AreUntil [] false (more ++ tail) =
+      none_until more tail (emits_mute e (frames_behind l last)) (pass_noted G t l some most n k.keep c i comes).begin each_is in
+      let one : AnswersAlone (noted_by_deeds 0 due come ++ (more ++ tail)) (entries_of_deeds n.core e session due) =
+      noted_answers l.number l.link (all_done 0 due come).cut (noted_by_deeds 0 due come) (entries_of_deeds n.core e session due) (more ++ tail)
+      (deeds_answer e session due n.core) (sync_noted l.number l.link e session come (report l.side i).sync refl k.keep.node) (λ q. until) (λ q. until) in
+      subst (λ es. AnswersAlone es (noted_since G l.link t (sync_due (core_since G t) l.link c))) (sym entries_are_so)
+      (subst (AnswersAlone (before ++ (noted_by_deeds 0 due come ++ (more ++ tail)))) (sym due_read)
+      (mutes_answer before (noted_by_deeds 0 due come ++ (more ++ tail)) (entries_of_deeds n.core e session due)
+      (AllByRecursion-append IsMuteEntry (lone_arrival l c) (told_at first.core a.port (Some i)) (arrival_mute l c)
+      (told_mute a.port.desk.host (own_side first.core) (session_with l i) (whole_acked (after_input l.side i)) (report l.side i))) one))

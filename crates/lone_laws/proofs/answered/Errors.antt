@@ -1,0 +1,308 @@
+-- REC_ERROR of a node alone is what is read, over each message that it handles.
+use Rattle.std.proofs.Common.{◌≡◌, ℕ, Bool, true, false, cond, eqb, ◌&&◌, List, [], ◌∷◌, ◌++◌, map, refl, sym, ap, ap₂, subst, ◌∙◌, append-nil}
+use Rattle.std.specs.Prelude.{Option, Some, None, unwrap_or, Result, Ok, Err, option_to_list, nat_lt}
+use Rattle.std.specs.List.{AllByRecursion, fold}
+use Rattle.std.specs.Option.{option_map_or}
+use Rattle.std.proofs.lemmas.Bool.{true≢false}
+use Rattle.std.proofs.lemmas.List.Sums.{fold-append}
+use Rattle.registry.proofs.ValueLemmas.{AllByRecursion-append}
+use Rattle.swp_base.specs.declared.link_terms.Cause.{Cause as EndedBy}
+use Rattle.hcp_packet.specs.declared.MessageKind.{MessageKind}
+use Rattle.hcp_packet.specs.declared.MessageKind.TheVariants.{Command as IsCommandKind, Event as IsEventKind, Response as IsResponseKind}
+use Rattle.hcp_packet.specs.declared.MessageFault.{MessageFault}
+use Rattle.hcp_packet.specs.MessageHeader.{header_of}
+use Rattle.trace_model.specs.declared.entry.Entry.{Entry}
+use Rattle.trace_model.specs.declared.entry.Entry.TheVariants as entry
+use Rattle.trace_model.specs.declared.line.End.{End}
+use Rattle.shdlc_core.specs.declared.answers.LinkState.TheVariants.{Up as IsUpNow}
+use Rattle.link_laws.specs.sessions.Sessions.{is_up}
+use Rattle.gate_answers.specs.declared.response.Response.TheVariants as response
+use Rattle.gate_answers.specs.Answers.{answer_of}
+use Rattle.hci_tables.specs.declared.command.Command.{Command}
+use Rattle.link_machine.specs.Machine.{Message, Report, Turn}
+use Rattle.link_machine.specs.Machine.Turn.{Give}
+use Rattle.link_entries.specs.entries.Entries.{End as Side, Entry as Noted, told, if_so}
+use Rattle.link_entries.specs.entries.Entries.Entry.{Up, Down, Active, GaveUp, Acked, Got}
+use Rattle.history.specs.Filters.{same_end}
+use Rattle.history.specs.Steps.{entries_for}
+use Rattle.node_machine.specs.Parts.{Core, Port, Work, Deed}
+use Rattle.node_machine.specs.Parts.Deed.{Commits, Sends, SaysOk, IsAnswered, Drops, SetsErrors}
+use Rattle.node_machine.specs.Carrying.{port_at, changed_if, with_port, after_turn, turn_at, done, all_done, unless_cut}
+use Rattle.node_machine.specs.Controller.{own_gate, controller_deeds}
+use Rattle.node_machine.specs.HostReplies.{host_deeds}
+use Rattle.node_readings.specs.views.Errors.{errors_set_by}
+use Rattle.node_readings.proofs.views.Setting.{AreUnset, is_link_gate, SetsNone, IsUpAt, SetDeeds, controller_unset, controller_sets, host_unset, host_sets}
+use Rattle.node_readings.proofs.views.Setting.SetDeeds.{IsSet as IsSetSo, IsRefused as IsRefusedSo, IsDropped as IsDroppedSo}
+use Rattle.lone_laws.specs.alone.Lone.{end_of_node_alone}
+use Rattle.lone_laws.specs.alone.Known.{core_noted, is_to_link_gate, value_set_by, says_ok, RecErrors, errors_noted}
+use Rattle.lone_laws.specs.alone.Answers.{entries_of_deeds}
+use Rattle.lone_laws.proofs.answered.Turning.{same_self}
+use Rattle.lone_laws.proofs.answered.Replying.{session_of_end, sent_alone, unless_on}
+use Rattle.lone_laws.proofs.answered.Shapes.{IsLoneReply}
+use Rattle.lone_laws.proofs.answered.Shapes.IsLoneReply.{IsNone, IsDrop, IsSend, IsCommit, IsSet, IsHeard}
+
+-- ## What is read
+
+abbrev pub errs_all : End → RecErrors → List Entry → RecErrors
+errs_all e x t = fold (errors_noted e) x t
+
+pub errs-append : (e : End) (x : RecErrors) (t u : List Entry) → errs_all e x (t ++ u) ≡ errs_all e (errs_all e x t) u
+errs-append e x t u = fold-append (errors_noted e) x t u
+
+noted_core : (e : End) (x : RecErrors) (y : Entry) → (errors_noted e x y).core ≡ core_noted x.core y
+noted_core e x (entry.Turn f pid message) = refl
+noted_core e x (entry.Sent f n pid message) = refl
+noted_core e x (entry.Lost f lpdu cause) = refl
+noted_core e x _ = refl
+
+-- beside REC_ERROR it is what the node keeps
+pub errs_core : (e : End) (t : List Entry) (x : RecErrors) → (errs_all e x t).core ≡ fold core_noted x.core t
+errs_core e [] x = refl
+errs_core e (y ∷ t) x = errs_core e t (errors_noted e x y) ∙ ap (λ c. fold core_noted c t) (noted_core e x y)
+
+-- an entry leaves REC_ERROR
+abbrev pub IsSettled : End → Entry → Type 0
+IsSettled e y = (x : RecErrors) → (errors_noted e x y).errors ≡ x.errors
+
+pub settled_errs : (e : End) (es : List Entry) → AllByRecursion (IsSettled e) es → (x : RecErrors) → (errs_all e x es).errors ≡ x.errors
+settled_errs e [] a x = refl
+settled_errs e (y ∷ es) a x = settled_errs e es a.1 (errors_noted e x y) ∙ a.0 x
+
+abbrev pub IsToldNote : Noted → Type 0
+IsToldNote (Up who n) = Unit {0}
+IsToldNote (Down who cause) = Unit {0}
+IsToldNote (Active who) = Unit {0}
+IsToldNote (GaveUp who tries) = Unit {0}
+IsToldNote (Acked who n count) = Unit {0}
+IsToldNote (Got who n m) = Unit {0}
+IsToldNote _ = ⊥
+
+notes_settled : (e : End) (h : ℕ) (xs : List Noted) → AllByRecursion IsToldNote xs → AllByRecursion (IsSettled e) (entries_for h xs)
+notes_settled e h [] a = tt
+notes_settled e h (Up who n ∷ xs) a = ((λ x. refl), notes_settled e h xs a.1)
+notes_settled e h (Down who cause ∷ xs) a = ((λ x. refl), notes_settled e h xs a.1)
+notes_settled e h (Active who ∷ xs) a = ((λ x. refl), notes_settled e h xs a.1)
+notes_settled e h (GaveUp who tries ∷ xs) a = ((λ x. refl), notes_settled e h xs a.1)
+notes_settled e h (Acked who n count ∷ xs) a = ((λ x. refl), notes_settled e h xs a.1)
+notes_settled e h (Got who n m ∷ xs) a = ((λ x. refl), notes_settled e h xs a.1)
+notes_settled e h (_ ∷ xs) a = absurd a.0
+
+so_told : (b : Bool) (x : Noted) → IsToldNote x → AllByRecursion IsToldNote (if_so b x)
+so_told true x a = (a, tt)
+so_told false x a = tt
+
+down_told : (who : Side) (o : Option EndedBy) → AllByRecursion IsToldNote (map (Down who) (option_to_list o))
+down_told who None = tt
+down_told who (Some cause) = (tt, tt)
+
+tries_told : (who : Side) (o : Option ℕ) → AllByRecursion IsToldNote (map (GaveUp who) (option_to_list o))
+tries_told who None = tt
+tries_told who (Some n) = (tt, tt)
+
+gots_told : (who : Side) (n : ℕ) (ms : List Message) → AllByRecursion IsToldNote (map (Got who n) ms)
+gots_told who n [] = tt
+gots_told who n (m ∷ ms) = (tt, gots_told who n ms)
+
+pub told_of_it : (who : Side) (n acked : ℕ) (rep : Report) → AllByRecursion IsToldNote (told who n rep acked)
+told_of_it who n acked rep =
+    AllByRecursion-append IsToldNote (map (Down who) (option_to_list rep.ended)) _ (down_told who rep.ended)
+    (AllByRecursion-append IsToldNote (if_so rep.began (Up who n)) _ (so_told rep.began (Up who n) tt)
+    (AllByRecursion-append IsToldNote (if_so rep.became_active (Active who)) _ (so_told rep.became_active (Active who) tt)
+    (AllByRecursion-append IsToldNote (map (GaveUp who) (option_to_list rep.gave_up)) _ (tries_told who rep.gave_up)
+    (AllByRecursion-append IsToldNote (if_so (nat_lt 0 rep.acked) (Acked who n acked)) _ (so_told (nat_lt 0 rep.acked) (Acked who n acked) tt)
+    (gots_told who n rep.got)))))
+
+pub told_settled : (e : End) (h : ℕ) (who : Side) (n acked : ℕ) (rep : Report) → AllByRecursion (IsSettled e) (entries_for h (told who n rep acked))
+told_settled e h who n acked rep = notes_settled e h (told who n rep acked) (told_of_it who n acked rep)
+
+-- ## What is kept
+
+abbrev pub desk_errors : List Port → ℕ
+desk_errors [] = 0
+desk_errors (p ∷ ports) = p.desk.errors
+
+pub errors_with : (k : ℕ) (f : Port → Port) → ((p : Port) → (f p).desk.errors ≡ p.desk.errors) → (ports : List Port)
+    → desk_errors (with_port k f ports) ≡ desk_errors ports
+errors_with k f keeps [] = refl
+errors_with k f keeps (p ∷ ports) = go (eqb p.desk.host k) where
+  go : (b : Bool) → (changed_if b f p).desk.errors ≡ p.desk.errors
+  go true = keeps p
+  go false = refl
+
+-- ## A message that has its turn
+
+set_same : (message : List ℕ) → value_set_by message ≡ errors_set_by message
+set_same message = go (header_of message) refl where
+  go : (x : Result (MessageKind × ℕ) MessageFault) → header_of message ≡ x → value_set_by message ≡ errors_set_by message
+  go (Ok (IsCommandKind, n)) q = rw q refl
+  go (Ok (IsEventKind, n)) q = rw q refl
+  go (Ok (IsResponseKind, n)) q = rw q refl
+  go (Err fault) q = rw q refl
+
+-- what a message sets at the one end of a node with this number
+abbrev pub sets_there : Core → End → Message → Option ℕ
+sets_there core e m = cond (is_to_link_gate core e m.0) (value_set_by m.1) None
+
+-- what is done with a message fits what it sets: it sets nothing, or it is set and answered by ANY_OK, answered otherwise, or dropped
+pub data FitsErrors (ports : List Port) (k pid : ℕ) (deeds : List Deed) : Option ℕ → Type 0 where
+  SetsNothing : AreUnset deeds → FitsErrors ports k pid deeds None
+  SetsIt : (v : ℕ) → SetDeeds ports k pid v deeds → FitsErrors ports k pid deeds (Some v)
+
+fits_by : (ports : List Port) (k : ℕ) (m : Message) (deeds : List Deed) (here : Bool) (sets : Option ℕ)
+    → (SetsNone here sets → AreUnset deeds) → ((v : ℕ) → here ≡ true → sets ≡ Some v → SetDeeds ports k m.0 v deeds)
+    → FitsErrors ports k m.0 deeds (cond here sets None)
+fits_by ports k m deeds true None unset set = SetsNothing (unset refl)
+fits_by ports k m deeds true (Some v) unset set = SetsIt v (set v refl refl)
+fits_by ports k m deeds false sets unset set = SetsNothing (unset refl)
+
+-- of a controller
+pub controller_fits : (core : Core) (ports : List Port) (k number h : ℕ) (m : Message) → eqb number 0 ≡ true → k ≡ h
+    → FitsErrors ports k m.0 (controller_deeds core ports k m) (sets_there core (end_of_node_alone number h) m)
+controller_fits core ports k number h m zero same =
+    let e : End = end_of_node_alone number h in
+    let here : is_to_link_gate core e m.0 ≡ is_link_gate (own_gate core.tables k m.0) =
+    ap (λ b. is_to_link_gate core (cond b (Rattle.node_machine.specs.world.World.end_c h) (Rattle.node_machine.specs.world.World.end_h h)) m.0) zero
+    ∙ ap (λ z. is_link_gate (own_gate core.tables z m.0)) (sym same) in
+    subst (FitsErrors ports k m.0 (controller_deeds core ports k m)) (sym (ap₂ (λ b s. cond b s None) here (set_same m.1)))
+    (fits_by ports k m (controller_deeds core ports k m) (is_link_gate (own_gate core.tables k m.0)) (errors_set_by m.1)
+    (controller_unset core ports k m) (λ v leads sets. controller_sets core ports k m v leads sets))
+
+-- and of a host
+pub host_fits : (core : Core) (ports : List Port) (p : Port) (k number h : ℕ) (m : Message) → eqb number 0 ≡ false → core.node ≡ k → port_at ports k ≡ Some p
+    → FitsErrors ports k m.0 (host_deeds core p m) (sets_there core (end_of_node_alone number h) m)
+host_fits core ports p k number h m another node here =
+    let e : End = end_of_node_alone number h in
+    let zero : is_to_link_gate core e m.0 ≡ eqb m.0 0 =
+    ap (λ b. is_to_link_gate core (cond b (Rattle.node_machine.specs.world.World.end_c h) (Rattle.node_machine.specs.world.World.end_h h)) m.0) another in
+    subst (FitsErrors ports k m.0 (host_deeds core p m)) (sym (ap₂ (λ b s. cond b s None) zero (set_same m.1)))
+    (fits_by ports k m (host_deeds core p m) (eqb m.0 0) (errors_set_by m.1) (host_unset core p m)
+    (λ v leads sets. subst (λ n. SetDeeds ports n m.0 v (host_deeds core p m)) node
+    (host_sets core ports p m v (subst (λ n. port_at ports n ≡ Some p) (sym node) here) leads sets)))
+
+-- ## Its deeds
+
+same_both : {X : Type 0} (b : Bool) (x : X) → cond b x x ≡ x
+same_both true x = refl
+same_both false x = refl
+
+and_no : (a b : Bool) → b ≡ false → (a && b) ≡ false
+and_no true b q = q
+and_no false b q = refl
+
+module _ (e : End) where
+  sent_unset : (session : Option ℕ) (to : ℕ) (m : Message) (z : RecErrors) → z.sets ≡ None → (errs_all e z (sent_alone e session to m)).errors ≡ z.errors
+  sent_unset session to m z none = by (eqb to e.link) session where
+    by : (b : Bool) (s : Option ℕ) → (errs_all e z (cond b (option_map_or (λ n. entry.Sent e n m.0 m.1 ∷ []) s []) [])).errors ≡ z.errors
+    by true None = refl
+    by true (Some n) = ap (λ o. cond (same_end e e && says_ok m.1) (unwrap_or o z.errors) z.errors) none ∙ same_both (same_end e e && says_ok m.1) z.errors
+    by false s = refl
+
+  sent_other : (session : Option ℕ) (to : ℕ) (m : Message) (z : RecErrors) → says_ok m.1 ≡ false → (errs_all e z (sent_alone e session to m)).errors ≡ z.errors
+  sent_other session to m z other = by (eqb to e.link) session where
+    by : (b : Bool) (s : Option ℕ) → (errs_all e z (cond b (option_map_or (λ n. entry.Sent e n m.0 m.1 ∷ []) s []) [])).errors ≡ z.errors
+    by true None = refl
+    by true (Some n) = ap (λ b. cond b (unwrap_or z.sets z.errors) z.errors) (and_no (same_end e e) (says_ok m.1) other)
+    by false s = refl
+
+  sent_ok : (n : ℕ) (to pid v : ℕ) (z : RecErrors) → eqb to e.link ≡ true → z.sets ≡ Some v
+      → (errs_all e z (sent_alone e (Some n) to (pid, answer_of response.Ok []))).errors ≡ v
+  sent_ok n to pid v z there set =
+      ap (λ b. (errs_all e z (cond b (entry.Sent e n pid (answer_of response.Ok []) ∷ []) [])).errors) there
+      ∙ (ap (λ b. cond (b && true) (unwrap_or z.sets z.errors) z.errors) (same_self e) ∙ ap (λ o. unwrap_or o z.errors) set)
+
+  -- deeds that set nothing, where no command that sets it waits for its answer
+  unset_errs : (core : Core) (session : Option ℕ) (deeds : List Deed) → IsLoneReply deeds → AreUnset deeds → (z : RecErrors) → z.sets ≡ None
+      → (errs_all e z (entries_of_deeds core e session deeds)).errors ≡ z.errors
+  unset_errs core session _ IsNone unset z none = refl
+  unset_errs core session _ (IsDrop pid) unset z none = refl
+  unset_errs core session _ (IsSend to m) unset z none =
+      ap (λ es. (errs_all e z es).errors) (append-nil (sent_alone e session to m)) ∙ sent_unset session to m z none
+  unset_errs core session _ (IsCommit c to m) unset z none =
+      let y : RecErrors = errors_noted e z (entry.Command core.node c) in
+      let last : List Entry = entry.AnyOk core.node _ ∷ [] in
+      ap (λ (x : RecErrors). x.errors) (errs-append e y (sent_alone e session to m) last) ∙ sent_unset session to m y refl
+  unset_errs core session _ (IsSet v to m) unset z none = absurd unset.0
+  unset_errs core session _ IsHeard unset z none = refl
+
+-- ## What is kept after them
+
+kept_turn : (to : ℕ) (x : Turn) (u : Work) → desk_errors (turn_at to x u).ports ≡ desk_errors u.ports
+kept_turn to x u = errors_with to (after_turn x) (λ p. refl) u.ports
+
+kept_commit : (c : Command) (u : Work) → (done 0 (Commits c) u).cut ≡ false → desk_errors (done 0 (Commits c) u).ports ≡ desk_errors u.ports
+kept_commit c u still = go (Rattle.node_order.specs.passes.Noting.goes_in c u) refl where
+  go : (b : Bool) → Rattle.node_order.specs.passes.Noting.goes_in c u ≡ b → desk_errors (done 0 (Commits c) u).ports ≡ desk_errors u.ports
+  go true q = rw q refl
+  go false q = rw q refl
+
+module _ (k : ℕ) (u : Work) (on : u.cut ≡ false) where
+  one_done : (d : Deed) → (done k d u).cut ≡ false → all_done k (d ∷ []) u ≡ done k d u
+  one_done d q = unless_on (all_done k []) (done k d u) q
+
+  unset_kept : (deeds : List Deed) → IsLoneReply deeds → AreUnset deeds → (all_done k deeds u).cut ≡ false
+      → desk_errors (all_done k deeds u).ports ≡ desk_errors u.ports
+  unset_kept _ IsNone unset still = refl
+  unset_kept _ (IsDrop pid) unset still = ap (λ (w : Work). desk_errors w.ports) (one_done (Drops pid) on)
+  unset_kept _ (IsSend to m) unset still = ap (λ (w : Work). desk_errors w.ports) (one_done (Sends to m) on) ∙ kept_turn to (Give m) u
+  unset_kept _ (IsCommit c to m) unset still = go (done k (Commits c) u).cut refl where
+    w : Work
+    w = done k (Commits c) u
+
+    D : List Deed
+    D = Sends to m ∷ SaysOk ∷ []
+
+    go : (b : Bool) → w.cut ≡ b → desk_errors (all_done k (Commits c ∷ D) u).ports ≡ desk_errors u.ports
+    go true q =
+        let gone : (all_done k (Commits c ∷ D) u).cut ≡ true = ap (λ (x : Work). x.cut) (off w q) ∙ q in absurd (true≢false (sym gone ∙ still)) where
+          off : (x : Work) → x.cut ≡ true → unless_cut (all_done k D) x ≡ x
+          off x z = rw z refl
+    go false q =
+        let first : all_done k (Commits c ∷ D) u ≡ all_done k D w = unless_on (all_done k D) w q in
+        let second : all_done k D w ≡ all_done k (SaysOk ∷ []) (done k (Sends to m) w) = unless_on (all_done k (SaysOk ∷ [])) (done k (Sends to m) w) q in
+        let third : all_done k (SaysOk ∷ []) (done k (Sends to m) w) ≡ done k SaysOk (done k (Sends to m) w) =
+        unless_on (all_done k []) (done k SaysOk (done k (Sends to m) w)) q in
+        ap (λ (x : Work). desk_errors x.ports) (first ∙ (second ∙ third)) ∙ (kept_turn to (Give m) w ∙ kept_commit c u q)
+  unset_kept _ (IsSet v to m) unset still = absurd unset.0
+  unset_kept _ IsHeard unset still =
+      ap (λ (w : Work). desk_errors w.ports) (one_done IsAnswered on)
+      ∙ errors_with k (λ p. record p { desk = record p.desk { notice = None } }) (λ p. refl) u.ports
+
+  set_kept : (v to : ℕ) (m : Message) (p : Port) → u.ports ≡ p ∷ [] → eqb p.desk.host k ≡ true
+      → desk_errors (all_done k (SetsErrors v ∷ Sends to m ∷ []) u).ports ≡ v
+  set_kept v to m p ports own =
+      let g : Port → Port = λ q. record q { desk = record q.desk { errors = v } } in
+      let w : Work = done k (SetsErrors v) u in
+      let first : all_done k (SetsErrors v ∷ Sends to m ∷ []) u ≡ all_done k (Sends to m ∷ []) w = unless_on (all_done k (Sends to m ∷ [])) w on in
+      let second : all_done k (Sends to m ∷ []) w ≡ done k (Sends to m) w = unless_on (all_done k []) (done k (Sends to m) w) on in
+      ap (λ (x : Work). desk_errors x.ports) (first ∙ second)
+      ∙ (kept_turn to (Give m) w ∙ ap desk_errors (ap (with_port k g) ports ∙ ap (λ b. changed_if b g p ∷ []) own))
+
+  -- What is read behind deeds that fit what their message sets is what is kept behind them.
+  pub deeds_errs : (e : End) (core : Core) (p : Port) (ports : List Port) (pid : ℕ) (deeds : List Deed) (z : RecErrors) → IsLoneReply deeds
+      → u.ports ≡ p ∷ [] → eqb p.desk.host k ≡ true → eqb k e.link ≡ true → (IsUpAt ports k → p.side.shdlc.phase ≡ IsUpNow)
+      → z.errors ≡ desk_errors u.ports → FitsErrors ports k pid deeds z.sets → (all_done k deeds u).cut ≡ false
+      → (errs_all e z (entries_of_deeds core e (session_of_end p) deeds)).errors ≡ desk_errors (all_done k deeds u).ports
+  deeds_errs e core p ports pid deeds z shape one own there up same fits still = by z.sets refl fits where
+    by : (o : Option ℕ) → z.sets ≡ o → FitsErrors ports k pid deeds o
+        → (errs_all e z (entries_of_deeds core e (session_of_end p) deeds)).errors ≡ desk_errors (all_done k deeds u).ports
+    by None q (SetsNothing unset) =
+        unset_errs e core (session_of_end p) deeds shape unset z q ∙ (same ∙ sym (unset_kept deeds shape unset still))
+    by (Some v) q (SetsIt _ (IsSetSo is_up_there is)) =
+        let m : Message = (pid, answer_of response.Ok []) in
+        let D : List Deed = SetsErrors v ∷ Sends k m ∷ [] in
+        let session : session_of_end p ≡ Some p.session = ap (λ s. cond (is_up s) (Some p.session) None) (up is_up_there) in
+        ap (λ d. (errs_all e z (entries_of_deeds core e (session_of_end p) d)).errors) is
+        ∙ (ap (λ o. (errs_all e z (sent_alone e o k m ++ [])).errors) session
+        ∙ (ap (λ es. (errs_all e z es).errors) (append-nil (sent_alone e (Some p.session) k m))
+        ∙ (sent_ok e p.session k pid v z there q ∙ (sym (set_kept v k m p one own) ∙ ap (λ d. desk_errors (all_done k d u).ports) (sym is)))))
+    by (Some v) q (SetsIt _ (IsRefusedSo is_up_there is)) =
+        let m : Message = (pid, answer_of response.PipeNotOpened []) in
+        ap (λ d. (errs_all e z (entries_of_deeds core e (session_of_end p) d)).errors) is
+        ∙ (ap (λ es. (errs_all e z es).errors) (append-nil (sent_alone e (session_of_end p) k m))
+        ∙ (sent_other e (session_of_end p) k m z refl
+        ∙ (same ∙ (sym (unset_kept (Sends k m ∷ []) (IsSend k m) (tt, tt) (subst (λ d. (all_done k d u).cut ≡ false) is still))
+        ∙ ap (λ d. desk_errors (all_done k d u).ports) (sym is)))))
+    by (Some v) q (SetsIt _ (IsDroppedSo is)) =
+        ap (λ d. (errs_all e z (entries_of_deeds core e (session_of_end p) d)).errors) is
+        ∙ (same ∙ (sym (unset_kept (Drops pid ∷ []) (IsDrop pid) (tt, tt) (subst (λ d. (all_done k d u).cut ≡ false) is still))
+        ∙ ap (λ d. desk_errors (all_done k d u).ports) (sym is)))

@@ -1,0 +1,206 @@
+-- Between events of a node alone all that is read of it is what it keeps.
+use Rattle.std.proofs.Common.{◌≡◌, ℕ, ◌≤◌, Bool, true, false, cond, eqb, List, [], ◌∷◌, ◌++◌, map, refl, sym, ap, subst, ◌∙◌, append_assoc}
+use Rattle.std.specs.Prelude.{Some, None}
+use Rattle.std.specs.List.{AllByRecursion}
+use Rattle.std.proofs.lemmas.Bool.{true≢false}
+use Rattle.swp_base.specs.declared.control_frames.Control.{Control}
+use Rattle.swp_lpdu.specs.Controls.{lpdu_of}
+use Rattle.trace_model.specs.declared.entry.Entry.{Entry}
+use Rattle.trace_model.specs.declared.entry.Entry.TheVariants as entry
+use Rattle.trace_model.specs.declared.line.End.{End}
+use Rattle.link_machine.specs.Machine.{LinkEnd, LinkInput, after_input, report, whole_acked, sent_all}
+use Rattle.link_entries.proofs.entries.Stepping.{sound_sent}
+use Rattle.node_machine.specs.Parts.{Desk, Core, Running, Port, Work, Deed}
+use Rattle.node_machine.specs.Parts.Deed.{Commits}
+use Rattle.node_machine.specs.Carrying.{own_side, done, all_done, port_at}
+use Rattle.node_machine.specs.Node.{all_come, told_at}
+use Rattle.node_machine.specs.Turns.{passes}
+use Rattle.node_laws.proofs.steps.Walks.{all_synced_hold}
+use Rattle.node_laws.proofs.steps.StepWalks.{all_do}
+use Rattle.node_order.proofs.links.Works.{fine_at}
+use Rattle.node_order.specs.passes.Noting.{goes_in}
+use Rattle.node_order.specs.passes.Passing.{ComesTo}
+use Rattle.node_order.specs.passes.Steps.{syncs_in}
+use Rattle.node_order.proofs.passes.Before.{steps_are}
+use Rattle.lone_laws.specs.alone.Lone.{Lone, LoneCause, lone_end, lone_input, node_input, lone_arrival, lone_port, session_with, side_behind, emits_behind}
+use Rattle.lone_laws.specs.alone.Lone.{frames_behind, lone_behind_step}
+use Rattle.lone_laws.specs.alone.Lone.LoneCause.{FrameComes, FrameIsRefused, TickComes, ResetComes, StartComes, StopComes}
+use Rattle.lone_laws.specs.alone.Known.{RecErrors, no_session_now}
+use Rattle.lone_laws.proofs.answered.Reading.{eqb_same, Read, Alone}
+use Rattle.lone_laws.proofs.answered.Coming.{IsLoneInput, pass_is, came_ports, came_entries}
+use Rattle.lone_laws.proofs.answered.Stepping.{lone_comes, passed}
+use Rattle.lone_laws.proofs.answered.Lasting.{LoneKeeps, begins_alone, arrival_nothing, side_is}
+use Rattle.lone_laws.proofs.answered.Ordered.{begin_read, start, begun, ended, start_alone, was_on}
+use Rattle.lone_laws.proofs.answered.Talking.{talk_all, talk-append, talk_of_side}
+use Rattle.lone_laws.proofs.answered.Rooms.{AreStill, still_talk, Talks, sent_same}
+use Rattle.lone_laws.proofs.answered.Knowing.{LoneTalks, passing_known}
+use Rattle.lone_laws.proofs.answered.Errors.{errs_all, errs-append, IsSettled, settled_errs, desk_errors, told_settled}
+use Rattle.lone_laws.proofs.answered.Replied.{begin_errs, KnowsAll, same_port}
+use Rattle.lone_laws.proofs.answered.Answering.{errs_more, all_at}
+
+abbrev pub errors_of : List Desk → ℕ
+errors_of [] = 0
+errors_of (d ∷ desks) = d.errors
+
+errors_ports : (ports : List Port) → errors_of (map (λ (p : Port). p.desk) ports) ≡ desk_errors ports
+errors_ports [] = refl
+errors_ports (p ∷ ports) = refl
+
+errors_work : (side : LinkEnd) (s : ℕ) (desks : List Desk) → desk_errors (map (lone_port side s) desks) ≡ errors_of desks
+errors_work side s [] = refl
+errors_work side s (d ∷ desks) = refl
+
+abbrev pub core_of : Core → ℕ → Core
+core_of rest number = record rest { node = number }
+
+-- what is kept between events of a node that runs, whose boot found this
+pub record KeepsAll (rest : Core) (t : List Entry) (l : Lone) (n : Running) : Type 0 where
+  pub keep : LoneKeeps (begin_read (core_of rest l.number)) t l n
+  pub talks : LoneTalks t l
+  pub errs : (errs_all (lone_end l) (begin_errs (core_of rest l.number)) t).errors ≡ errors_of n.desks
+
+arrival_settled : (e : End) (l : Lone) (c : LoneCause) → AllByRecursion (IsSettled e) (lone_arrival l c)
+arrival_settled e l (FrameComes bytes) = ((λ z. refl), tt)
+arrival_settled e l (FrameIsRefused fault) = tt
+arrival_settled e l TickComes = tt
+arrival_settled e l (ResetComes window) = tt
+arrival_settled e l (StartComes value) = tt
+arrival_settled e l StopComes = tt
+
+pub emits_settled : (e f : End) (frames : List Control) → AllByRecursion (IsSettled e) (map (λ c. entry.Emit f (lpdu_of c)) frames)
+emits_settled e f [] = tt
+emits_settled e f (c ∷ frames) = ((λ z. refl), emits_settled e f frames)
+
+pub emits_still : (e f : End) (n : ℕ) (frames : List Control) → AreStill e n (map (λ c. entry.Emit f (lpdu_of c)) frames)
+emits_still e f n [] = tt
+emits_still e f n (c ∷ frames) = ((λ z. refl), emits_still e f n frames)
+
+-- it is a commit
+abbrev IsCommits : Deed → Type 0
+IsCommits (Commits c) = Unit {0}
+IsCommits _ = ⊥
+
+-- ## A step
+
+module _ (rest : Core) (t : List Entry) (l : Lone) (some : 1 ≤ l.link) (most : l.link ≤ 7) (its : eqb l.number 0 ≡ false → l.number ≡ l.link) (n : Running)
+    (k : KeepsAll rest t l n) (c : LoneCause) (i : LinkInput) (comes : lone_input c ≡ Some i) where
+  abbrev s : ℕ
+  s = session_with l i
+
+  abbrev e : End
+  e = lone_end l
+
+  abbrev G : Core
+  G = core_of rest l.number
+
+  abbrev R : Read
+  R = begin_read G
+
+  abbrev first : Work
+  first = start G t l some most n k.keep c i comes
+
+  abbrev passing : Work
+  passing = begun G t l some most n k.keep c i comes
+
+  abbrev last : Work
+  last = ended G t l some most n k.keep c i comes
+
+  abbrev Errs : Work → Type 0
+  Errs w = (errs_all e (begin_errs G) (t ++ w.entries)).errors ≡ desk_errors w.ports
+
+  errs_first : Errs first
+  errs_first =
+      ap (λ (r : RecErrors). r.errors) (errs-append e (begin_errs G) t (lone_arrival l c))
+      ∙ (settled_errs e (lone_arrival l c) (arrival_settled e l c) (errs_all e (begin_errs G) t)
+      ∙ (k.errs ∙ sym (errors_work l.side s n.desks)))
+
+  abbrev a : Alone l.number l.link R t first
+  a = begins_alone R t l n i (lone_arrival l c) (arrival_nothing l c) k.keep
+
+  abbrev come : Work
+  come = all_come (node_input l.link i) first
+
+  errs_come : Errs come
+  errs_come =
+      let may : IsLoneInput i = lone_comes c i comes in
+      let told_it : List Entry = told_at first.core a.port (Some i) in
+      ap (λ es. (errs_all e (begin_errs G) (t ++ es)).errors) (came_entries l.number l.link R t i may first a)
+      ∙ (errs_more rest l.number l.link some most s t its first told_it
+      (told_settled e a.port.desk.host (own_side first.core) s (whole_acked (after_input l.side i)) (report l.side i)) errs_first
+      ∙ (ap desk_errors a.ports_are ∙ ap desk_errors (sym (came_ports l.number l.link R t i may first a))))
+
+  commits_errs : (h : ℕ) (d : Deed) (v : Work) → IsCommits d → (v.cut ≡ false → Errs v) → (done h d v).cut ≡ false → Errs (done h d v)
+  commits_errs h (Commits x) v may b = go (goes_in x v) refl where
+    go : (z : Bool) → goes_in x v ≡ z → (done h (Commits x) v).cut ≡ false → Errs (done h (Commits x) v)
+    go true q = rw q (λ still. absurd (true≢false still))
+    go false q = rw q (λ still. errs_more rest l.number l.link some most s t its v (entry.Command v.core.node x ∷ []) ((λ z. refl), tt) (b still))
+  commits_errs h _ v may b = absurd may
+
+  pub all_passing : passing.cut ≡ false → KnowsAll rest l.number l.link some most s t passing
+  all_passing on =
+      let may : IsLoneInput i = lone_comes c i comes in
+      let syncs : List Deed = syncs_in (node_input l.link i) first in
+      let is : passing ≡ all_done 0 syncs come = pass_is l.number l.link R t i may first (start_alone G t l some most n k.keep c i comes) in
+      record {
+        known = passing_known G t l some most n k.keep k.talks c i comes on;
+        errs = subst Errs (sym is)
+            (all_do (λ v. v.cut ≡ false → Errs v) IsCommits commits_errs 0 syncs come
+            (all_synced_hold IsCommits (λ host id. tt) first.core (node_input l.link i) first.ports) (λ _. errs_come) (subst (λ v. v.cut ≡ false) is on));
+      }
+
+  pub all_ended : last.cut ≡ false → KnowsAll rest l.number l.link some most s t last
+  all_ended still =
+      let on : passing.cut ≡ false = was_on G t l some most n k.keep c i comes still in
+      let is : last ≡ passes passing = steps_are (node_input l.link i) first ∙ (rw on refl) in
+      let comes_last : ComesTo passing last =
+      subst (ComesTo passing) (sym is) ((passed l.number l.link some most R t passing on).keeps (sym (ap (λ (w : Work). w.cut) is) ∙ still)) in
+      all_at rest l.number l.link some most s t its passing last (all_passing on) comes_last
+
+  -- ## Behind it
+
+  abbrev emits : List Entry
+  emits = emits_behind l last
+
+  abbrev behind : Lone
+  behind = lone_behind_step l i last
+
+  talks_behind : last.cut ≡ false → LoneTalks (t ++ (last.entries ++ emits)) behind
+  talks_behind still =
+      let b : KnowsAll rest l.number l.link some most s t last = all_ended still in
+      let alone : Alone l.number l.link R t last = b.known.keeps in
+      let talks : Talks l.number l.link s no_session_now t last = b.known.talks in
+      let ports : talks.port ≡ alone.port = same_port rest l.number l.link some most s t last b in
+      let side : side_behind l last ≡ talks.port.side = side_is R t l last alone still ∙ ap (λ (p : Port). p.side) (sym ports) in
+      let own : eqb talks.port.desk.host l.link ≡ true = ap (λ x. eqb x l.link) talks.host ∙ eqb_same l.link in
+      let here : port_at last.ports l.link ≡ Some talks.port =
+      ap (λ ps. port_at ps l.link) talks.ports_are ∙ ap (λ z. cond z (Some talks.port) None) own in
+      subst (λ (x : LinkEnd). LoneTalks (t ++ (last.entries ++ emits)) (record behind { side = sent_all x })) (sym side)
+      (record {
+        talk =
+            ap (talk_all e l.number no_session_now) (sym (append_assoc t last.entries emits))
+            ∙ (talk-append e l.number no_session_now (t ++ last.entries) emits
+            ∙ (still_talk e l.number emits (emits_still e e l.number (frames_behind l last)) (talk_all e l.number no_session_now (t ++ last.entries))
+            ∙ (talks.talk ∙ (ap (λ z. talk_of_side talks.port.side z) talks.same ∙ sym (sent_same talks.port.side s)))));
+        sound = sound_sent talks.port.side talks.sound;
+        aside = talks.aside;
+        role = talks.role;
+        clean = (fine_at last.ports l.link talks.port b.known.fine here).clean;
+      })
+
+  errs_behind : last.cut ≡ false → (errs_all e (begin_errs G) (t ++ (last.entries ++ emits))).errors ≡ errors_of (map (λ (p : Port). p.desk) last.ports)
+  errs_behind still =
+      errs_more rest l.number l.link some most s t its last emits (emits_settled e e (frames_behind l last)) (all_ended still).errs
+      ∙ sym (errors_ports last.ports)
+
+  abbrev now : Running
+  now = record { core = last.core; desks = map (λ (p : Port). p.desk) last.ports }
+
+  pub keeps_behind : (m : Running) → behind.node ≡ Some m → LoneKeeps R (t ++ (last.entries ++ emits)) behind m
+      → KeepsAll rest (t ++ (last.entries ++ emits)) behind m
+  keeps_behind m runs keep = go last.cut refl where
+    go : (b : Bool) → last.cut ≡ b → KeepsAll rest (t ++ (last.entries ++ emits)) behind m
+    go true off = let gone : None ≡ Some m = sym (ap (λ b. cond b None (Some now)) off) ∙ runs in absurd (cc gone)
+    go false on =
+        let both : Some now ≡ Some m = sym (ap (λ b. cond b None (Some now)) on) ∙ runs in
+        let is : now ≡ m = cc in
+        record { keep = keep; talks = talks_behind on; errs = errs_behind on ∙ ap (λ (x : Running). errors_of x.desks) is }

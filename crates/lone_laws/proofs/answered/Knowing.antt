@@ -1,0 +1,226 @@
+-- What is known of a node alone at each turn of a step: what it keeps, its session and its blocks are read.
+use Rattle.std.proofs.Common.{◌≡◌, ℕ, ◌≤◌, Bool, true, false, cond, eqb, List, [], ◌∷◌, ◌++◌, map, refl, sym, ap, subst, ◌∙◌, append_assoc}
+use Rattle.std.specs.Prelude.{Some, None}
+use Rattle.std.specs.List.{AllByRecursion}
+use Rattle.std.specs.Option.{option_map_or}
+use Rattle.trace_model.specs.declared.entry.Entry.{Entry}
+use Rattle.trace_model.specs.declared.entry.Entry.TheVariants as entry
+use Rattle.trace_model.specs.declared.line.End.{End}
+use Rattle.hcp_packet.specs.Packets.{AreSendable}
+use Rattle.link_machine.specs.Machine.{Message, LinkEnd, LinkInput, after_input, report, whole_acked}
+use Rattle.link_machine.specs.Machine.LinkInput.{Take, TakeUnknown, TakeBroken, Tick, Reset, Start, Stop, FromNode, Fetch}
+use Rattle.link_machine.specs.Machine.Turn.{Hold, FetchMessage}
+use Rattle.link_machine.proofs.Runs.{Sound, sound_input}
+use Rattle.node_machine.specs.Parts.{Core, Running, Port, Work, Deed}
+use Rattle.node_machine.specs.Carrying.{own_side, end_of_node, noting, port_at, with_desk, turn_at, all_done}
+use Rattle.node_machine.specs.Turns.{deeds_of, handles, holds_back}
+use Rattle.node_machine.specs.Node.{all_come, told_at}
+use Rattle.node_laws.proofs.steps.StepWalks.{all_do, lets}
+use Rattle.node_order.proofs.links.Deeds.{IsFine, AreFine, IsTrueDesk}
+use Rattle.node_laws.proofs.steps.Walks.{all_synced_hold}
+use Rattle.node_order.proofs.links.Works.{IsFinePort, IsFineWork, fine_at, deeds_fine, all_done_fine, handles_fine, holds_fine, lets_fine, came_fine}
+use Rattle.node_order.specs.passes.Passing.{LastsOverTurns, ComesTo, waiting_at, takes_up}
+use Rattle.node_order.specs.passes.Steps.{syncs_in}
+use Rattle.node_order.proofs.passes.Passing.{comes_so}
+use Rattle.lone_laws.specs.alone.Lone.{Lone, LoneCause, end_of_node_alone, lone_end, lone_input, node_input, lone_arrival, lone_port, lone_work, rsets_with}
+use Rattle.lone_laws.specs.alone.Lone.{session_with, side_behind, emits_behind}
+use Rattle.lone_laws.specs.alone.Known.{LoneTalk, no_session_now}
+use Rattle.lone_laws.proofs.answered.Own.{IsOwnDeed}
+use Rattle.lone_laws.proofs.answered.Reading.{Read, Alone}
+use Rattle.lone_laws.proofs.answered.Turning.{IsHere, alone_here, own_deeds, alone_handled, alone_held, alone_lasts}
+use Rattle.lone_laws.proofs.answered.Coming.{IsLoneInput, pass_is, came_is, came_port, came_ports, came_entries, own_side_end}
+use Rattle.lone_laws.proofs.answered.Stepping.{lone_comes, syncs_own}
+use Rattle.lone_laws.proofs.answered.Lasting.{LoneKeeps, begins_alone, arrival_nothing}
+use Rattle.lone_laws.proofs.answered.Ordered.{begin_read, start, begun, start_alone, begun_alone}
+use Rattle.lone_laws.proofs.answered.Roles.{kind_of, input_kind}
+use Rattle.lone_laws.proofs.answered.Talking.{talk_all, talk-append, talk_of_side, told_talk, input_talk, input_aside}
+use Rattle.lone_laws.proofs.answered.Rooms.{AreStill, still_talk, Talks, talks_note, talks_desk, talks_turn, talks_does}
+
+-- ## Turns
+
+both_hold : {X : Type 0} (P Q : X → Type 0) (xs : List X) → AllByRecursion P xs → AllByRecursion Q xs → AllByRecursion (λ x. P x × Q x) xs
+both_hold P Q [] a b = tt
+both_hold P Q (x ∷ xs) a b = ((a.0, b.0), both_hold P Q xs a.1 b.1)
+
+-- What is known of a node alone in a step.
+pub record KnowsAlone (number h s : ℕ) (r : Read) (t : List Entry) (w : Work) : Type 0 where
+  pub keeps : Alone number h r t w
+  pub talks : Talks number h s no_session_now t w
+  pub fine : IsFineWork w
+
+module _ (number h : ℕ) (some : 1 ≤ h) (most : h ≤ 7) (s : ℕ) (r : Read) (t : List Entry) where
+  abbrev Of : Work → Type 0
+  Of w = KnowsAlone number h s r t w
+
+  abbrev TalkOf : Work → Type 0
+  TalkOf w = Talks number h s no_session_now t w
+
+  talks_takes : (k : ℕ) (m : Message) (w : Work) → TalkOf w → TalkOf (takes_up k m w)
+  talks_takes k m w a =
+      let told : Work = noting (entry.Turn (end_of_node w.core k) m.0 m.1 ∷ []) w in
+      talks_desk number h s no_session_now t k (λ d. record d { holds = false }) (turn_at k FetchMessage told) (λ d. refl)
+      (talks_turn number h s no_session_now t k FetchMessage told tt
+      (talks_note number h s no_session_now t (entry.Turn (end_of_node w.core k) m.0 m.1 ∷ []) w ((λ z. refl), tt) a))
+
+  known_handled : (k : ℕ) (m : Message) (messages : List Message) (w : Work) → Of w → waiting_at w.ports k ≡ m ∷ messages
+      → (handles k m (deeds_of w.core w.ports k m) w).cut ≡ false → Of (handles k m (deeds_of w.core w.ports k m) w)
+  known_handled k m messages w a waits still =
+      let here : IsHere a.keeps.port k m messages = alone_here number h some most r t k m messages w a.keeps waits in
+      let port : port_at w.ports k ≡ Some a.keeps.port = ap (λ ps. port_at ps k) a.keeps.ports_are ∙ ap (λ b. cond b (Some a.keeps.port) None) here.own in
+      let came : AreSendable (m ∷ messages) = subst AreSendable here.got (fine_at w.ports k a.keeps.port a.fine port).clean in
+      let fine : AreFine (deeds_of w.core w.ports k m) = deeds_fine w.core w.ports k m a.fine came.0 in
+      record {
+        keeps = alone_handled number h some most r t k m messages w a.keeps waits still;
+        talks = all_do (λ v. v.cut ≡ false → TalkOf v) (λ d. IsFine d × IsOwnDeed number d) (talks_does number h s no_session_now t) k
+            (deeds_of w.core w.ports k m) (takes_up k m w)
+            (both_hold IsFine (IsOwnDeed number) (deeds_of w.core w.ports k m) fine (own_deeds number h some most r t k m w a.keeps here.own))
+            (λ _. talks_takes k m w a.talks) still;
+        fine = handles_fine k m (deeds_of w.core w.ports k m) w came.0 fine a.fine;
+      }
+
+  talks_held : (k : ℕ) (short : ℕ × ℕ) (w : Work) → TalkOf w → TalkOf (holds_back k short w)
+  talks_held k short w a = go (option_map_or (λ (p : Port). p.desk.holds) (port_at w.ports k) false) where
+    told : Work
+    told = noting (entry.Held (end_of_node w.core k) short.0 short.1 ∷ []) w
+
+    by : Bool → Work
+    by true = turn_at k (Hold true) w
+    by false = turn_at k (Hold true) (with_desk k (λ d. record d { holds = true }) told)
+
+    go : (b : Bool) → TalkOf (by b)
+    go true = talks_turn number h s no_session_now t k (Hold true) w tt a
+    go false =
+        talks_turn number h s no_session_now t k (Hold true) (with_desk k (λ d. record d { holds = true }) told) tt
+        (talks_desk number h s no_session_now t k (λ d. record d { holds = true }) told (λ d. refl)
+        (talks_note number h s no_session_now t (entry.Held (end_of_node w.core k) short.0 short.1 ∷ []) w ((λ z. refl), tt) a))
+
+  pub knows_lasts : LastsOverTurns Of
+  knows_lasts = record {
+    handled = λ w k m messages a on waits room still. known_handled k m messages w a waits still;
+    held = λ w k m messages short a on waits lacks. record {
+      keeps = alone_held number h some most r t k m messages short w a.keeps waits;
+      talks = talks_held k short w a.talks;
+      fine = holds_fine k short w a.fine;
+    };
+    let_go = λ w k a on waits. record {
+      keeps = (alone_lasts number h some most r t).let_go w k a.keeps on waits;
+      talks = lets TalkOf (λ j flag v b. talks_turn number h s no_session_now t j (Hold flag) v tt b) k w a.talks;
+      fine = lets_fine k w a.fine;
+    };
+  }
+
+  pub knows_at : (w v : Work) → Of w → ComesTo w v → Of v
+  knows_at w v a comes = comes_so Of knows_lasts w a v comes
+
+-- ## A step
+
+-- what is known of the session of a node alone between events
+pub record LoneTalks (t : List Entry) (l : Lone) : Type 0 where
+  pub talk : talk_all (lone_end l) l.number no_session_now t ≡ talk_of_side l.side l.session
+  pub sound : Sound l.side
+  pub aside : l.side.aside ≡ 0
+  pub role : kind_of l.side.role ≡ Some (eqb l.number 0)
+  pub clean : AreSendable l.side.got
+
+pub arrival_still : (l : Lone) (c : LoneCause) → AreStill (lone_end l) l.number (lone_arrival l c)
+arrival_still l (Rattle.lone_laws.specs.alone.Lone.LoneCause.FrameComes bytes) = ((λ z. refl), tt)
+arrival_still l (Rattle.lone_laws.specs.alone.Lone.LoneCause.FrameIsRefused fault) = tt
+arrival_still l Rattle.lone_laws.specs.alone.Lone.LoneCause.TickComes = tt
+arrival_still l (Rattle.lone_laws.specs.alone.Lone.LoneCause.ResetComes window) = tt
+arrival_still l (Rattle.lone_laws.specs.alone.Lone.LoneCause.StartComes value) = tt
+arrival_still l Rattle.lone_laws.specs.alone.Lone.LoneCause.StopComes = tt
+
+lone_sound : (s : LinkEnd) (i : LinkInput) → IsLoneInput i → Sound s → Sound (after_input s i)
+lone_sound s (Take c) may a = sound_input s (Take c) tt a
+lone_sound s TakeUnknown may a = sound_input s TakeUnknown tt a
+lone_sound s Tick may a = sound_input s Tick tt a
+lone_sound s (Reset window) may a = sound_input s (Reset window) tt a
+lone_sound s (Start value) may a = sound_input s (Start value) tt a
+lone_sound s Stop may a = sound_input s Stop tt a
+lone_sound s (TakeBroken fault) may a = absurd may
+lone_sound s (FromNode x) may a = absurd may
+lone_sound s Fetch may a = absurd may
+
+module _ (found : Core) (t : List Entry) (l : Lone) (some : 1 ≤ l.link) (most : l.link ≤ 7) (n : Running) (keeps : LoneKeeps (begin_read found) t l n)
+    (talk : LoneTalks t l) (c : LoneCause) (i : LinkInput) (comes : lone_input c ≡ Some i) where
+  abbrev pub begins : Work
+  begins = start found t l some most n keeps c i comes
+
+  abbrev pub passing : Work
+  passing = begun found t l some most n keeps c i comes
+
+  start_is : Alone l.number l.link (begin_read found) t begins
+  start_is = start_alone found t l some most n keeps c i comes
+
+  start_fine : IsFineWork begins
+  start_fine =
+      subst (AllByRecursion IsFinePort) (sym (ap (map (lone_port l.side (session_with l i))) keeps.desks_are)) (
+        record {
+          turns = tt;
+          clean = talk.clean;
+          desk = subst (λ o. IsTrueDesk (record keeps.desk { notice = o })) (sym keeps.none) tt;
+        },
+        tt,
+      )
+
+  -- as something has come to the end
+  abbrev come : Work
+  come = all_come (node_input l.link i) begins
+
+  come_fine : IsFineWork come
+  come_fine = subst IsFineWork (came_is l.number l.link (begin_read found) t i (lone_comes c i comes) begins start_is) (came_fine
+      (node_input l.link i) begins start_fine)
+
+  come_talks : Talks l.number l.link (session_with l i) no_session_now t come
+  come_talks =
+      let may : IsLoneInput i = lone_comes c i comes in
+      let R : Read = begin_read found in
+      let p : Port = lone_port l.side (session_with l i) keeps.desk in
+      let a : Alone l.number l.link R t begins = begins_alone R t l n i (lone_arrival l c) (arrival_nothing l c) keeps in
+      let first : List Entry = lone_arrival l c in
+      let told_it : List Entry = told_at begins.core p (Some i) in
+      let X : LoneTalk = talk_of_side l.side l.session in
+      let e : End = lone_end l in
+      record {
+        port = came_port l.number l.link R t i may begins a;
+        ports_are = came_ports l.number l.link R t i may begins a;
+        host = keeps.host;
+        node = keeps.node;
+        same = refl;
+        aside = input_aside l.side i may ∙ talk.aside;
+        role = input_kind l.side i may ∙ talk.role;
+        sound = lone_sound l.side i may talk.sound;
+        talk =
+            ap (λ es. talk_all e l.number no_session_now (t ++ es)) (came_entries l.number l.link R t i may begins a)
+            ∙ (ap (talk_all e l.number no_session_now) (sym (append_assoc t first told_it))
+            ∙ (talk-append e l.number no_session_now (t ++ first) told_it
+            ∙ (ap (λ z. talk_all e l.number z told_it)
+            (talk-append e l.number no_session_now t first ∙ (ap (λ z. talk_all e l.number z first) talk.talk
+            ∙ still_talk e l.number first (arrival_still l c) X))
+            ∙ (told_talk e l.number keeps.desk.host (own_side begins.core) (own_side_end l.number l.link R t i may begins a) (session_with l i)
+            (whole_acked (after_input l.side i)) (report l.side i) X
+            ∙ input_talk l.side i may talk.sound (session_with l i) l.session (λ q. ap (λ b. cond b (rsets_with i l.rsets) l.session) q)))));
+      }
+
+  syncs_fine : AllByRecursion IsFine (syncs_in (node_input l.link i) begins)
+  syncs_fine = all_synced_hold IsFine (λ host id. tt) begins.core (node_input l.link i) begins.ports
+
+  pub passing_known : passing.cut ≡ false → KnowsAlone l.number l.link (session_with l i) (begin_read found) t passing
+  passing_known on =
+      let may : IsLoneInput i = lone_comes c i comes in
+      let R : Read = begin_read found in
+      let syncs : List Deed = syncs_in (node_input l.link i) begins in
+      let is : passing ≡ all_done 0 syncs come = pass_is l.number l.link R t i may begins start_is in
+      record {
+        keeps = begun_alone found t l some most n keeps c i comes on;
+        talks = subst (Talks l.number l.link (session_with l i) no_session_now t) (sym is)
+            (all_do (λ v. v.cut ≡ false → Talks l.number l.link (session_with l i) no_session_now t v) (λ d. IsFine d × IsOwnDeed l.number d)
+            (talks_does l.number l.link (session_with l i) no_session_now t) 0 syncs come
+            (both_hold IsFine (IsOwnDeed l.number) syncs syncs_fine (syncs_own l.number l.link some most R t i begins start_is)) (λ _. come_talks)
+            (subst (λ v. v.cut ≡ false) is on));
+        fine = subst IsFineWork (sym is) (all_done_fine 0 syncs come syncs_fine come_fine);
+      }
+
+  -- at each turn of the pass
+  pub known_at : passing.cut ≡ false → (v : Work) → ComesTo passing v → KnowsAlone l.number l.link (session_with l i) (begin_read found) t v
+  known_at on v comes = knows_at l.number l.link some most (session_with l i) (begin_read found) t passing v (passing_known on) comes

@@ -1,0 +1,314 @@
+-- What a node with one link keeps in a step is what is read off all entries until there: its tables and its journal, the messages that wait,
+-- and whether the first of them was noted as held.
+use Rattle.std.proofs.Common.{◌≡◌, ℕ, Bool, true, false, cond, eqb, List, [], ◌∷◌, ◌++◌, map, refl, sym, ap, ◌∙◌, append_assoc, append-nil, arith}
+use Rattle.std.specs.Prelude.{◌+◌, nat_lt, length, Option, Some, None, option_to_list}
+use Rattle.std.specs.List.{AllByRecursion, fold}
+use Rattle.std.specs.Option.{option_map_or}
+use Rattle.std.proofs.lemmas.Bool.{true≢false}
+use Rattle.std.proofs.lemmas.Grind.{common_steps}
+use Rattle.std.proofs.lemmas.List.Sums.{fold-append}
+use Rattle.swp_base.specs.declared.link_terms.Cause.{Cause as EndedBy}
+use Rattle.trace_model.specs.declared.entry.Entry.{Entry}
+use Rattle.trace_model.specs.declared.entry.Entry.TheVariants as entry
+use Rattle.trace_model.specs.declared.line.End.{End}
+use Rattle.journal_laws.specs.Planned.{fails_within}
+use Rattle.hci_tables.specs.declared.command.Command.{Command}
+use Rattle.hci_tables.specs.Bodies.{body_of}
+use Rattle.hci_tables.specs.Commands.{IsCommand}
+use Rattle.hci_tables.specs.Tables.{AreTables}
+use Rattle.hci_store.specs.Committing.{commit_writes}
+use Rattle.tables_laws.specs.Changes.{JoinTwo}
+use Rattle.tables_laws.proofs.TwoHosts.{JoinTwo-after}
+use Rattle.tables_laws.proofs.SortedTables.{AreTables-apply}
+use Rattle.link_machine.specs.Machine.{Message, Refused, LinkEnd, Turn, turn, given, give_refusal, aside_refusal, unless, Report}
+use Rattle.link_machine.specs.Machine.Turn.{Give, Hold, FetchMessage, SetAside, Release}
+use Rattle.link_entries.specs.entries.Entries.{End as Side, Entry as Noted, told, turn_entry, if_so}
+use Rattle.link_entries.specs.entries.Entries.Entry.{Up, Down, Active, GaveUp, Acked, Got}
+use Rattle.link_entries.specs.entries.Entries.End.{Controller, Host}
+use Rattle.history.specs.Filters.{same_end}
+use Rattle.history.specs.Steps.{end_of, entries_for}
+use Rattle.node_machine.specs.Parts.{Desk, Core, Port, Work, Deed}
+use Rattle.node_machine.specs.Parts.Deed.{Commits, Sends, SaysOk, Asks, Releases, Tells, IsAnswered, Drops, SetsErrors, Orders, Hears, GoesOn, Ends}
+use Rattle.node_machine.specs.Carrying.{own_side, end_of_node, noting, port_at, changed_if, with_port, with_desk, after_turn, noted_of, turn_at, loses_power}
+use Rattle.node_machine.specs.Carrying.{keeps}
+use Rattle.node_machine.specs.Carrying.{commit, done}
+use Rattle.lone_laws.specs.alone.Lone.{end_of_node_alone}
+use Rattle.lone_laws.specs.alone.Known.{core_with, core_noted, left_noted, hold_noted}
+use Rattle.lone_laws.proofs.answered.Own.{IsOwnDeed}
+
+-- a number is itself
+pub eqb_same : (n : ℕ) → eqb n n ≡ true
+eqb_same n = grind (arith, common_steps)
+
+-- ## What is read
+
+pub record Read : Type 0 where
+  pub core : Core
+  pub left : List Message
+  pub held : Bool
+
+abbrev pub read_noted : End → Read → Entry → Read
+read_noted e r x = record { core = core_noted r.core x; left = left_noted e r.left x; held = hold_noted e r.held x }
+
+abbrev pub read_all : End → Read → List Entry → Read
+read_all e r t = fold (read_noted e) r t
+
+pub read-append : (e : End) (r : Read) (t u : List Entry) → read_all e r (t ++ u) ≡ read_all e (read_all e r t) u
+read-append e r t u = fold-append (read_noted e) r t u
+
+pub core_is : (e : End) (t : List Entry) (r : Read) → (read_all e r t).core ≡ fold core_noted r.core t
+core_is e [] r = refl
+core_is e (x ∷ t) r = core_is e t (read_noted e r x)
+
+pub left_is : (e : End) (t : List Entry) (r : Read) → (read_all e r t).left ≡ fold (left_noted e) r.left t
+left_is e [] r = refl
+left_is e (x ∷ t) r = left_is e t (read_noted e r x)
+
+pub held_is : (e : End) (t : List Entry) (r : Read) → (read_all e r t).held ≡ fold (hold_noted e) r.held t
+held_is e [] r = refl
+held_is e (x ∷ t) r = held_is e t (read_noted e r x)
+
+-- an entry says nothing of it
+abbrev pub IsNothing : End → Entry → Type 0
+IsNothing e x = (r : Read) → read_noted e r x ≡ r
+
+abbrev pub AreNothing : End → List Entry → Type 0
+AreNothing e es = AllByRecursion (IsNothing e) es
+
+pub nothing_read : (e : End) (es : List Entry) → AreNothing e es → (r : Read) → read_all e r es ≡ r
+nothing_read e [] a r = refl
+nothing_read e (x ∷ es) a r = ap (λ z. read_all e z es) (a.0 r) ∙ nothing_read e es a.1 r
+
+-- ## What comes to an end
+
+-- a note tells of no message that came
+abbrev pub IsQuiet : Noted → Type 0
+IsQuiet (Up who n) = Unit {0}
+IsQuiet (Down who cause) = Unit {0}
+IsQuiet (Active who) = Unit {0}
+IsQuiet (GaveUp who tries) = Unit {0}
+IsQuiet (Acked who n count) = Unit {0}
+IsQuiet _ = ⊥
+
+quiet_first : (e : End) (h : ℕ) (xs ys : List Noted) (r : Read) → AllByRecursion IsQuiet xs
+    → read_all e r (entries_for h (xs ++ ys)) ≡ read_all e r (entries_for h ys)
+quiet_first e h [] ys r a = refl
+quiet_first e h (Up who n ∷ xs) ys r a = quiet_first e h xs ys r a.1
+quiet_first e h (Down who cause ∷ xs) ys r a = quiet_first e h xs ys r a.1
+quiet_first e h (Active who ∷ xs) ys r a = quiet_first e h xs ys r a.1
+quiet_first e h (GaveUp who tries ∷ xs) ys r a = quiet_first e h xs ys r a.1
+quiet_first e h (Acked who n count ∷ xs) ys r a = quiet_first e h xs ys r a.1
+quiet_first e h (_ ∷ xs) ys r a = absurd a.0
+
+-- messages that come wait behind the others
+got_read : (e : End) (h : ℕ) (who : Side) (n : ℕ) → same_end (end_of h who) e ≡ true → (ms : List Message) (r : Read)
+    → read_all e r (entries_for h (map (Got who n) ms)) ≡ record r { left = r.left ++ ms }
+got_read e h who n own [] r = ap (λ z. record r { left = z }) (sym (append-nil r.left))
+got_read e h who n own (m ∷ ms) r =
+    ap (λ b. read_all e (record r { left = cond b (r.left ++ m ∷ []) r.left }) (entries_for h (map (Got who n) ms))) own
+    ∙ (got_read e h who n own ms (record r { left = r.left ++ m ∷ [] })
+    ∙ ap (λ z. record r { left = z }) (append_assoc r.left (m ∷ []) ms))
+
+quiet_so : (b : Bool) (x : Noted) → IsQuiet x → AllByRecursion IsQuiet (if_so b x)
+quiet_so true x a = (a, tt)
+quiet_so false x a = tt
+
+ended_quiet : (who : Side) (o : Option EndedBy) → AllByRecursion IsQuiet (map (Down who) (option_to_list o))
+ended_quiet who None = tt
+ended_quiet who (Some cause) = (tt, tt)
+
+tries_quiet : (who : Side) (o : Option ℕ) → AllByRecursion IsQuiet (map (GaveUp who) (option_to_list o))
+tries_quiet who None = tt
+tries_quiet who (Some n) = (tt, tt)
+
+pub told_read : (e : End) (h : ℕ) (who : Side) (n acked : ℕ) (rep : Report) (r : Read) → same_end (end_of h who) e ≡ true
+    → read_all e r (entries_for h (told who n rep acked)) ≡ record r { left = r.left ++ rep.got }
+told_read e h who n acked rep r own =
+    let five : List Noted = map (Got who n) rep.got in
+    let four : List Noted = if_so (nat_lt 0 rep.acked) (Acked who n acked) ++ five in
+    let three : List Noted = map (GaveUp who) (option_to_list rep.gave_up) ++ four in
+    let two : List Noted = if_so rep.became_active (Active who) ++ three in
+    quiet_first e h (map (Down who) (option_to_list rep.ended)) (if_so rep.began (Up who n) ++ two) r (ended_quiet who rep.ended)
+    ∙ (quiet_first e h (if_so rep.began (Up who n)) two r (quiet_so rep.began (Up who n) tt)
+    ∙ (quiet_first e h (if_so rep.became_active (Active who)) three r (quiet_so rep.became_active (Active who) tt)
+    ∙ (quiet_first e h (map (GaveUp who) (option_to_list rep.gave_up)) four r (tries_quiet who rep.gave_up)
+    ∙ (quiet_first e h (if_so (nat_lt 0 rep.acked) (Acked who n acked)) five r
+    (quiet_so (nat_lt 0 rep.acked) (Acked who n acked) tt)
+    ∙ got_read e h who n own rep.got r))))
+
+-- ## A node with one link in a step
+
+-- what it keeps, where its one end is this
+abbrev pub reads_of : Core → Port → Read
+reads_of core p = record { core = core; left = p.side.got; held = p.desk.holds }
+
+-- A node with one link is in a step, before which these entries were noted, and where r was read at the beginning: what it keeps is read.
+pub record Alone (number h : ℕ) (r : Read) (t : List Entry) (w : Work) : Type 0 where
+  pub port : Port
+  pub ports_are : w.ports ≡ port ∷ []
+  pub host : port.desk.host ≡ h
+  pub none : port.desk.notice ≡ None
+  pub node : w.core.node ≡ number
+  pub command : w.core.command ≡ None
+  pub init : w.core.init ≡ None
+  pub good : eqb number 0 ≡ true → AreTables w.core.tables × JoinTwo w.core.tables.rows
+  pub read : read_all (end_of_node_alone number h) r (t ++ w.entries) ≡ reads_of w.core port
+
+-- an end is changed in nothing that is read
+pub record IsSamePort (p q : Port) : Type 0 where
+  pub host : q.desk.host ≡ p.desk.host
+  pub none : p.desk.notice ≡ None → q.desk.notice ≡ None
+  pub got : q.side.got ≡ p.side.got
+  pub holds : q.desk.holds ≡ p.desk.holds
+
+pub same_if : (b : Bool) (f : Port → Port) (p : Port) → IsSamePort p (f p) → IsSamePort p (changed_if b f p)
+same_if true f p a = a
+same_if false f p a = record { host = refl; none = λ q. q; got = refl; holds = refl }
+
+unless_got : (o : Option Refused) (e f : LinkEnd) → f.got ≡ e.got → (unless o e f).got ≡ e.got
+unless_got None e f q = q
+unless_got (Some why) e f q = refl
+
+-- a turn that fetches nothing
+abbrev pub IsNoFetching : Turn → Type 0
+IsNoFetching FetchMessage = ⊥
+IsNoFetching _ = Unit {0}
+
+turn_got : (e : LinkEnd) (x : Turn) → IsNoFetching x → (turn e x).got ≡ e.got
+turn_got e (Give m) a = unless_got (give_refusal e m) e (given e m) refl
+turn_got e (Hold held) a = refl
+turn_got e FetchMessage a = absurd a
+turn_got e SetAside a = unless_got (aside_refusal e) e (record e { aside = e.aside + 1 }) refl
+turn_got e Release a = refl
+
+turn_same : (x : Turn) → IsNoFetching x → (p : Port) → IsSamePort p (after_turn x p)
+turn_same x a p = record { host = refl; none = λ q. q; got = turn_got p.side x a; holds = refl }
+
+module _ (number h : ℕ) (r : Read) (t : List Entry) where
+  abbrev pub e : End
+  e = end_of_node_alone number h
+
+  abbrev Of : Work → Type 0
+  Of w = Alone number h r t w
+
+  -- more is noted
+  pub read_more : (w : Work) (es : List Entry) (x y : Read) → read_all e r (t ++ w.entries) ≡ x → read_all e x es ≡ y
+      → read_all e r (t ++ (w.entries ++ es)) ≡ y
+  read_more w es x y a b =
+      ap (read_all e r) (sym (append_assoc t w.entries es)) ∙ (read-append e r (t ++ w.entries) es ∙ (ap (λ z. read_all e z es) a ∙ b))
+
+  -- which says nothing of it
+  pub alone_note : (es : List Entry) (w : Work) → AreNothing e es → Of w → Of (noting es w)
+  alone_note es w nothing a =
+      record {
+        port = a.port;
+        ports_are = a.ports_are;
+        host = a.host;
+        none = a.none;
+        node = a.node;
+        command = a.command;
+        init = a.init;
+        good = a.good;
+        read = read_more w es (reads_of w.core a.port) (reads_of w.core a.port) a.read (nothing_read e es nothing (reads_of w.core a.port));
+      }
+
+  -- the end is changed in nothing that is read
+  pub alone_change : (k : ℕ) (f : Port → Port) (w : Work) → ((p : Port) → IsSamePort p (f p)) → Of w → Of (record w { ports = with_port k f w.ports })
+  alone_change k f w same a =
+      let b : Bool = eqb a.port.desk.host k in
+      let q : Port = changed_if b f a.port in
+      let s : IsSamePort a.port q = same_if b f a.port (same a.port) in
+      record {
+        port = q;
+        ports_are = ap (with_port k f) a.ports_are;
+        host = s.host ∙ a.host;
+        none = s.none a.none;
+        node = a.node;
+        command = a.command;
+        init = a.init;
+        good = a.good;
+        read = a.read ∙ (ap (λ z. record (reads_of w.core a.port) { left = z }) (sym s.got) ∙ ap (λ z. record (reads_of w.core q) { held = z }) (sym s.holds));
+      }
+
+  sent_nothing : (core : Core) (x : Turn) (o : Option Port) → AreNothing e (option_map_or (noted_of core x) o [])
+  sent_nothing core x None = tt
+  sent_nothing core x (Some p) = by_turn x where
+    by_refusal : (m : Message) (why : Option Refused)
+        → AreNothing e (entries_for p.desk.host (Rattle.link_entries.specs.entries.Entries.sent_unless why (own_side core) p.session m))
+    by_refusal m None = ((λ z. refl), tt)
+    by_refusal m (Some why) = tt
+
+    by_turn : (x : Turn) → AreNothing e (noted_of core x p)
+    by_turn (Give m) = by_refusal m (give_refusal p.side m)
+    by_turn (Hold held) = tt
+    by_turn FetchMessage = tt
+    by_turn SetAside = tt
+    by_turn Release = tt
+
+  pub alone_turn : (k : ℕ) (x : Turn) (w : Work) → IsNoFetching x → Of w → Of (turn_at k x w)
+  alone_turn k x w still a =
+      alone_note (option_map_or (noted_of w.core x) (port_at w.ports k) []) (record w { ports = with_port k (after_turn x) w.ports })
+      (sent_nothing w.core x (port_at w.ports k)) (alone_change k (after_turn x) w (turn_same x still) a)
+
+  pub alone_desk : (k : ℕ) (f : Desk → Desk) (w : Work) → ((d : Desk) → (f d).host ≡ d.host) → ((d : Desk) → d.notice ≡ None → (f d).notice ≡ None)
+      → ((d : Desk) → (f d).holds ≡ d.holds) → Of w → Of (with_desk k f w)
+  alone_desk k f w host none holds a =
+      alone_change k (λ (p : Port). record p { desk = f p.desk }) w
+      (λ p. record { host = host p.desk; none = none p.desk; got = refl; holds = holds p.desk }) a
+
+  -- ## Deeds
+
+  own_command : (n : ℕ) (core : Core) (c : Command) → eqb n core.node ≡ true → core_noted core (entry.Command n c) ≡ core_with core c
+  own_command n core c q = ap (λ b. cond b (core_with core c) core) q
+
+  -- a command is kept
+  alone_keeps : (c : Command) (w : Work) → (eqb number 0 ≡ true → IsCommand c) → Of w
+      → Of (keeps c (commit_writes w.core.journal w.core.tables (body_of c)) (noting (entry.Command w.core.node c ∷ []) w))
+  alone_keeps c w may a =
+      record {
+        port = a.port;
+        ports_are = a.ports_are;
+        host = a.host;
+        none = a.none;
+        node = a.node;
+        command = a.command;
+        init = a.init;
+        good = λ zero.
+            let good : AreTables w.core.tables × JoinTwo w.core.tables.rows = a.good zero in
+            (AreTables-apply w.core.tables c (may zero) good.0, JoinTwo-after w.core.tables (c ∷ []) (may zero, tt) good.1);
+        read = read_more w (entry.Command w.core.node c ∷ []) (reads_of w.core a.port) (reads_of (core_with w.core c) a.port) a.read
+            (ap (λ z. record (reads_of w.core a.port) { core = z }) (own_command w.core.node w.core c (eqb_same w.core.node)));
+      }
+
+  -- so it is while the power is on
+  abbrev pub While : Work → Type 0
+  While w = w.cut ≡ false → Of w
+
+  alone_commit : (c : Command) (w : Work) → (eqb number 0 ≡ true → IsCommand c) → While w → While (commit c w)
+  alone_commit c w may a = go (fails_within (length (commit_writes w.core.journal w.core.tables (body_of c))) w.plan) where
+    begun : Work
+    begun = noting (entry.Command w.core.node c ∷ []) w
+
+    by : Bool → Work
+    by true = loses_power (commit_writes w.core.journal w.core.tables (body_of c)) begun
+    by false = keeps c (commit_writes w.core.journal w.core.tables (body_of c)) begun
+
+    go : (b : Bool) → While (by b)
+    go true = λ q. absurd (true≢false q)
+    go false = λ q. alone_keeps c w may (a q)
+
+  pub alone_does : (k : ℕ) (d : Deed) (w : Work) → IsOwnDeed number d → While w → While (done k d w)
+  alone_does k (Commits c) w may a = alone_commit c w may a
+  alone_does k (Sends to m) w may a = λ q. alone_turn to (Give m) w tt (a q)
+  alone_does k SaysOk w may a = λ q. alone_note (entry.AnyOk w.core.node _ ∷ []) w ((λ z. refl), tt) (a q)
+  alone_does k (Asks to message c) w may a = absurd may
+  alone_does k (Releases asker) w may a = λ q. alone_turn asker Release w tt (a q)
+  alone_does k (Tells to message) w may a = absurd may
+  alone_does k IsAnswered w may a = λ q. alone_desk k (λ d. record d { notice = None }) w (λ d. refl) (λ d z. refl) (λ d. refl) (a q)
+  alone_does k (Drops pid) w may a = λ q. alone_note (entry.Dropped (end_of_node w.core k) pid ∷ []) w ((λ z. refl), tt) (a q)
+  alone_does k (SetsErrors errors) w may a =
+      λ q. alone_desk k (λ d. record d { errors = errors }) w (λ d. refl) (λ d z. z) (λ d. refl) (a q)
+  alone_does k (Orders message) w may a = absurd may
+  alone_does k Hears w may a = absurd may
+  alone_does k (GoesOn i) w may a = absurd may
+  alone_does k (Ends x) w may a = absurd may

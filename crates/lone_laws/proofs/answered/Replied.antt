@@ -1,0 +1,295 @@
+-- At each turn of a step a node alone replies to its message as is read.
+use Rattle.std.proofs.Common.{◌≡◌, ℕ, ◌≤◌, Bool, true, false, cond, eqb, ◌&&◌, List, [], ◌∷◌, ◌++◌, refl, sym, ap, ap₂, subst, ◌∙◌, append_assoc, arith}
+use Rattle.std.specs.Prelude.{Some, None, is_some, nat_lt, Result, Ok, Err}
+use Rattle.std.specs.List.{AllByRecursion, fold}
+use Rattle.std.specs.Option.{option_map_or}
+use Rattle.std.proofs.lemmas.Bool.{eqb-true}
+use Rattle.hcp_packet.specs.declared.MessageKind.{MessageKind}
+use Rattle.hcp_packet.specs.declared.MessageKind.TheVariants.{Command as IsCommandKind, Event as IsEventKind, Response as IsResponseKind}
+use Rattle.hcp_packet.specs.declared.MessageFault.{MessageFault}
+use Rattle.hcp_packet.specs.MessageHeader.{header_of}
+use Rattle.trace_model.specs.declared.entry.Entry.{Entry}
+use Rattle.trace_model.specs.declared.entry.Entry.TheVariants as entry
+use Rattle.trace_model.specs.declared.line.End.{End}
+use Rattle.shdlc_core.specs.declared.answers.LinkState.TheVariants.{Up as IsUpNow}
+use Rattle.link_laws.specs.sessions.Sessions.{is_up}
+use Rattle.history.specs.Filters.{same_end}
+use Rattle.hci_tables.specs.Tables.{AreTables}
+use Rattle.tables_laws.specs.Changes.{JoinTwo}
+use Rattle.gate_answers.specs.Answers.{body_in}
+use Rattle.link_machine.specs.Machine.{Message, spare}
+use Rattle.link_machine.specs.Machine.Turn.{FetchMessage}
+use Rattle.node_machine.specs.Parts.{Desk, Core, Port, Work, Deed}
+use Rattle.node_machine.specs.Parts.Deed.{Sends}
+use Rattle.node_machine.specs.Carrying.{end_of_node, port_at, changed_if, with_port, after_turn, all_done, needs, lack}
+use Rattle.node_machine.specs.HostReplies.{ordered_deeds, host_deeds}
+use Rattle.node_machine.specs.Turns.{deeds_of, handles}
+use Rattle.answer_laws.proofs.answers.Alike.{replies_alike, up_read, spare_read}
+use Rattle.node_order.specs.passes.Passing.{waiting_at, lacking, takes_up}
+use Rattle.node_order.specs.passes.Noting.{noted_by_deeds}
+use Rattle.node_order.proofs.passes.Notes.{deeds_note}
+use Rattle.node_order.proofs.passes.Passing.{takes_entries}
+use Rattle.node_order.proofs.passes.Counts.{taken_at_once}
+use Rattle.node_readings.proofs.views.Setting.{IsUpAt}
+use Rattle.lone_laws.specs.alone.Lone.{end_of_node_alone}
+use Rattle.lone_laws.specs.alone.Known.{RecErrors, LoneTalk, no_session_now, errors_noted, spare_in_talk, talk_since, core_since, port_since, reply_since}
+use Rattle.lone_laws.specs.alone.Known.{lack_since, is_to_link_gate, value_set_by}
+use Rattle.lone_laws.specs.alone.Answers.{entries_of_deeds}
+use Rattle.lone_laws.proofs.answered.Reading.{eqb_same, Read, core_is, Alone}
+use Rattle.lone_laws.proofs.answered.Turning.{same_self, own_end, IsHere, alone_here, link_is}
+use Rattle.lone_laws.proofs.answered.Ordered.{begin_read}
+use Rattle.lone_laws.proofs.answered.Talking.{talk_of_side}
+use Rattle.lone_laws.proofs.answered.Rooms.{Talks, spare_is}
+use Rattle.lone_laws.proofs.answered.Knowing.{KnowsAlone}
+use Rattle.lone_laws.proofs.answered.Shapes.{IsLoneReply, controller_reply, host_reply}
+use Rattle.lone_laws.proofs.answered.Replying.{link_of_end, session_of_end, TakesIt, IsNotedSo, reply_noted}
+use Rattle.lone_laws.proofs.answered.Errors.{errs_all, errs-append, errs_core, desk_errors, FitsErrors, sets_there, controller_fits, host_fits, deeds_errs}
+
+-- nothing was refused yet at a node whose boot found this
+abbrev pub begin_errs : Core → RecErrors
+begin_errs found = record { core = found; sets = None; errors = 0 }
+
+-- what a host does with a message is decided by REC_ERROR and whether its end is up
+pub host_same : (core : Core) (p q : Port) (m : Message) → is_up p.side.shdlc.phase ≡ is_up q.side.shdlc.phase → p.desk.errors ≡ q.desk.errors
+    → host_deeds core p m ≡ host_deeds core q m
+host_same core p q m ups errors = go (is_up p.side.shdlc.phase) (header_of m.1) refl refl where
+  go : (b : Bool) (x : Result (MessageKind × ℕ) MessageFault) → is_up p.side.shdlc.phase ≡ b → header_of m.1 ≡ x → host_deeds core p m ≡ host_deeds core q m
+  go false x up is = let other : is_up q.side.shdlc.phase ≡ false = sym ups ∙ up in rw (up, other) refl
+  go true (Ok (IsCommandKind, n)) up is =
+      let other : is_up q.side.shdlc.phase ≡ true = sym ups ∙ up in rw (up, other, is) (ap (λ k. ordered_deeds core k m.0 n (body_in m.1)) errors)
+  go true (Ok (IsEventKind, n)) up is = let other : is_up q.side.shdlc.phase ≡ true = sym ups ∙ up in rw (up, other, is) refl
+  go true (Ok (IsResponseKind, n)) up is = let other : is_up q.side.shdlc.phase ≡ true = sym ups ∙ up in rw (up, other, is) refl
+  go true (Err fault) up is = let other : is_up q.side.shdlc.phase ≡ true = sym ups ∙ up in rw (up, other, is) refl
+
+-- what lacks is decided by what is spare
+pub lack_same : (p q : Port) → p.desk.host ≡ q.desk.host → spare p.side ≡ spare q.side → (ns : List (ℕ × ℕ)) → lack (p ∷ []) ns ≡ lack (q ∷ []) ns
+lack_same p q host same [] = refl
+lack_same p q host same (n ∷ ns) =
+    let one : option_map_or (λ (x : Port). spare x.side) (port_at (p ∷ []) n.0) 0 ≡ option_map_or (λ (x : Port). spare x.side) (port_at (q ∷ []) n.0) 0 =
+    ap (λ h. option_map_or (λ (x : Port). spare x.side) (cond (eqb h n.0) (Some p) None) 0) host ∙ by (eqb q.desk.host n.0) in
+    ap₂ (λ s o. cond (nat_lt s n.1) (Some (n.1, s)) o) one (lack_same p q host same ns)
+  where
+    by : (b : Bool) → option_map_or (λ (x : Port). spare x.side) (cond b (Some p) None) 0 ≡ option_map_or (λ (x : Port). spare x.side) (cond b (Some q) None) 0
+    by true = same
+    by false = refl
+
+small : (x : LoneTalk) → spare_in_talk x ≤ 128
+small x = omega arith
+
+module _ (rest : Core) (number h : ℕ) (some : 1 ≤ h) (most : h ≤ 7) (s : ℕ) (t : List Entry) where
+  -- what the boot of this node found
+  abbrev pub found : Core
+  found = record rest { node = number }
+
+  abbrev e : End
+  e = end_of_node_alone number h
+
+  -- What is known of it in a step.
+  pub record KnowsAll (w : Work) : Type 0 where
+    pub known : KnowsAlone number h s (begin_read found) t w
+    pub errs : (errs_all e (begin_errs found) (t ++ w.entries)).errors ≡ desk_errors w.ports
+
+  -- ## What is read
+
+  module _ (w : Work) (a : KnowsAll w) where
+    abbrev pub alone : Alone number h (begin_read found) t w
+    alone = a.known.keeps
+
+    abbrev talks : Talks number h s no_session_now t w
+    talks = a.known.talks
+
+    abbrev pub its_port : Port
+    its_port = alone.port
+
+    pub same_port : talks.port ≡ its_port
+    same_port = let both : (talks.port ∷ []) ≡ (its_port ∷ []) = sym talks.ports_are ∙ alone.ports_are in cc
+
+    abbrev all : List Entry
+    all = t ++ w.entries
+
+    abbrev pub read_port : Port
+    read_port = port_since found h all
+
+    pub core_read : core_since found all ≡ w.core
+    core_read = sym (core_is e all (begin_read found)) ∙ ap (λ (z : Read). z.core) alone.read
+
+    pub talk_read : talk_since e number all ≡ talk_of_side its_port.side its_port.session
+    talk_read = talks.talk ∙ ap (λ (p : Port). talk_of_side p.side p.session) same_port
+
+    pub session_read : (talk_since e number all).session ≡ session_of_end its_port
+    session_read = ap (λ (x : LoneTalk). x.session) talk_read
+
+    up_is : is_up its_port.side.shdlc.phase ≡ is_up read_port.side.shdlc.phase
+    up_is =
+        sym (up_read (is_some (talk_since e number all).session) (spare_in_talk (talk_since e number all))
+        ∙ (ap is_some session_read ∙ by (is_up its_port.side.shdlc.phase))) where
+          by : (b : Bool) → is_some (cond b (Some its_port.session) None) ≡ b
+          by true = refl
+          by false = refl
+
+    spare_at_it : spare its_port.side ≡ spare read_port.side
+    spare_at_it =
+        sym (spare_read (is_some (talk_since e number all).session) (spare_in_talk (talk_since e number all)) (small (talk_since e number all))
+        ∙ (ap spare_in_talk talk_read ∙ spare_is its_port.side its_port.session (ap (λ (p : Port). p.side.aside) (sym same_port) ∙ talks.aside)))
+
+    errors_is : its_port.desk.errors ≡ read_port.desk.errors
+    errors_is = sym (a.errs ∙ ap desk_errors alone.ports_are)
+
+    pub deeds_read : (k : ℕ) (m : Message) → k ≡ h → reply_since found h all m ≡ deeds_of w.core w.ports k m
+    deeds_read k m same =
+        ap (λ c. deeds_of c (read_port ∷ []) h m) core_read
+        ∙ (by (eqb w.core.node 0) refl ∙ (ap (λ n. deeds_of w.core (its_port ∷ []) n m) (sym same)
+        ∙ ap (λ ps. deeds_of w.core ps k m) (sym alone.ports_are))) where
+          here : (p : Port) → p.desk.host ≡ h → port_at (p ∷ []) h ≡ Some p
+          here p host = ap (λ b. cond b (Some p) None) (ap (λ n. eqb n h) host ∙ eqb_same h)
+
+          by : (b : Bool) → eqb w.core.node 0 ≡ b → deeds_of w.core (read_port ∷ []) h m ≡ deeds_of w.core (its_port ∷ []) h m
+          by true q =
+              rw q (sym (replies_alike w.core w.core.journal (λ c. refl) (its_port ∷ []) (read_port ∷ []) (
+                record {
+                  host = alone.host;
+                  up = up_is;
+                  about = ap (Rattle.std.specs.Option.option_map
+                      (λ (n : Rattle.node_machine.specs.Parts.Notice). n.about)) alone.none;
+                  errors = errors_is;
+                },
+                tt,
+              ) h m))
+          by false q =
+              rw (q, here read_port refl, here its_port alone.host) (host_same w.core read_port its_port m (sym up_is) (sym errors_is))
+
+    pub lack_read : (k : ℕ) (m : Message) → k ≡ h → lack_since found h all m ≡ lacking w k m
+    lack_read k m same =
+        ap (λ d. lack (read_port ∷ []) (needs h d)) (deeds_read k m same)
+        ∙ (sym (lack_same its_port read_port alone.host spare_at_it (needs h (deeds_of w.core w.ports k m)))
+        ∙ (ap (λ n. lack (its_port ∷ []) (needs n (deeds_of w.core w.ports k m))) (sym same)
+        ∙ ap (λ ps. lack ps (needs k (deeds_of w.core w.ports k m))) (sym alone.ports_are)))
+
+  -- ## A message that has its turn
+
+  deeds_shape : (k : ℕ) (m : Message) (w : Work) (a : Alone number h (begin_read found) t w) → eqb a.port.desk.host k ≡ true
+      → IsLoneReply (deeds_of w.core w.ports k m)
+  deeds_shape k m w a own =
+      subst (λ ps. IsLoneReply (deeds_of w.core ps k m)) (sym a.ports_are) (go (eqb w.core.node 0) refl) where
+        go : (b : Bool) → eqb w.core.node 0 ≡ b → IsLoneReply (deeds_of w.core (a.port ∷ []) k m)
+        go true q =
+            let good : AreTables w.core.tables × JoinTwo w.core.tables.rows = a.good (ap (λ n. eqb n 0) (sym a.node) ∙ q) in
+            rw q (controller_reply w.core a.port k m (eqb-true a.port.desk.host k own) a.none good.1)
+        go false q = rw (q, own) (host_reply w.core a.port m a.command)
+
+  module _ (its : eqb number 0 ≡ false → number ≡ h) where
+    -- what is done with a message fits what it sets
+    deeds_fit : (k : ℕ) (m : Message) (w : Work) (a : Alone number h (begin_read found) t w) → eqb a.port.desk.host k ≡ true → k ≡ h
+        → FitsErrors w.ports k m.0 (deeds_of w.core w.ports k m) (sets_there w.core e m)
+    deeds_fit k m w a own same = go (eqb w.core.node 0) refl where
+      here : port_at w.ports k ≡ Some a.port
+      here = ap (λ ps. port_at ps k) a.ports_are ∙ ap (λ b. cond b (Some a.port) None) own
+
+      go : (b : Bool) → eqb w.core.node 0 ≡ b → FitsErrors w.ports k m.0 (deeds_of w.core w.ports k m) (sets_there w.core e m)
+      go true q =
+          subst (λ d. FitsErrors w.ports k m.0 d (sets_there w.core e m)) (rw q refl)
+          (controller_fits w.core w.ports k number h m (ap (λ n. eqb n 0) (sym a.node) ∙ q) same)
+      go false q =
+          let another : eqb number 0 ≡ false = ap (λ n. eqb n 0) (sym a.node) ∙ q in
+          subst (λ d. FitsErrors w.ports k m.0 d (sets_there w.core e m)) (rw (q, here) refl)
+          (host_fits w.core w.ports a.port k number h m another (a.node ∙ (its another ∙ sym same)) here)
+
+    module _ (w : Work) (a : KnowsAll w) (on : w.cut ≡ false) (k : ℕ) (m : Message) (messages : List Message)
+        (waits : waiting_at w.ports k ≡ m ∷ messages) where
+      abbrev pub al : Alone number h (begin_read found) t w
+      al = a.known.keeps
+
+      abbrev pub own_port : Port
+      own_port = its_port w a
+
+      at_here : IsHere own_port k m messages
+      at_here = alone_here number h some most (begin_read found) t k m messages w al waits
+
+      pub same_link : k ≡ h
+      same_link = link_is number h some most (begin_read found) t k own_port al.host at_here.own
+
+      abbrev D : List Deed
+      D = deeds_of w.core w.ports k m
+
+      abbrev u : Work
+      u = takes_up k m w
+
+      abbrev f : Port → Port
+      f = after_turn FetchMessage
+
+      abbrev g : Port → Port
+      g p = record p { desk = record p.desk { holds = false } }
+
+      abbrev q : Port
+      q = g (f own_port)
+
+      u_ports : u.ports ≡ q ∷ []
+      u_ports =
+          ap (λ ps. with_port k g (with_port k f ps)) al.ports_are
+          ∙ (ap (λ b. with_port k g (changed_if b f own_port ∷ [])) at_here.own ∙ ap (λ b. changed_if b g (f own_port) ∷ []) at_here.own)
+
+      room_then : (ns : List (ℕ × ℕ)) → lack w.ports ns ≡ None → lack u.ports ns ≡ None
+      room_then ns room =
+          ap (λ ps. lack ps ns) u_ports ∙ (lack_same q own_port refl refl ns ∙ (ap (λ ps. lack ps ns) (sym al.ports_are) ∙ room))
+
+      takes_it : (to : ℕ) (x : Message) → lack u.ports (needs k (Sends to x ∷ [])) ≡ None → TakesIt q to x
+      takes_it to x room own up =
+          (taken_at_once k (Sends to x ∷ []) u (tt, tt) room).0 q (ap (λ ps. port_at ps to) u_ports ∙ ap (λ b. cond b (Some q) None) own) up
+
+      its_end_is : end_of_node w.core k ≡ e
+      its_end_is = own_end w.core number h k al.node same_link
+
+      -- what its deeds note
+      pub noted_so : lacking w k m ≡ None
+          → IsNotedSo number h (all_done k D u).cut (noted_by_deeds k D u) (entries_of_deeds w.core e (session_of_end own_port) D)
+      noted_so room =
+          reply_noted number h k u q on u_ports al.node al.host its_end_is D (deeds_shape k m w al at_here.own) takes_it (room_then (needs k D) room)
+
+      -- ## REC_ERROR
+
+      abbrev pub x : RecErrors
+      x = errs_all e (begin_errs found) (t ++ w.entries)
+
+      abbrev pub z : RecErrors
+      z = errs_all e (begin_errs found) (t ++ u.entries)
+
+      abbrev pub turned : Entry
+      turned = entry.Turn (end_of_node w.core k) m.0 m.1
+
+      z_is : z ≡ errors_noted e x turned
+      z_is =
+          ap (λ es. errs_all e (begin_errs found) (t ++ es)) (takes_entries k m w)
+          ∙ (ap (errs_all e (begin_errs found)) (sym (append_assoc t w.entries (turned ∷ [])))
+          ∙ errs-append e (begin_errs found) (t ++ w.entries) (turned ∷ []))
+
+      x_core : x.core ≡ w.core
+      x_core = errs_core e (t ++ w.entries) (begin_errs found) ∙ core_read w a
+
+      z_sets : z.sets ≡ sets_there w.core e m
+      z_sets =
+          ap (λ (r : RecErrors). r.sets) z_is
+          ∙ (ap (λ (b : Bool). cond (b && is_to_link_gate x.core e m.0) (value_set_by m.1) None) (ap (λ d. same_end d e) its_end_is ∙ same_self e)
+          ∙ ap (λ c. sets_there c e m) x_core)
+
+      z_errors : z.errors ≡ desk_errors u.ports
+      z_errors = ap (λ (r : RecErrors). r.errors) z_is ∙ (a.errs ∙ (ap desk_errors al.ports_are ∙ ap desk_errors (sym u_ports)))
+
+      up_then : IsUpAt w.ports k → q.side.shdlc.phase ≡ IsUpNow
+      up_then i =
+          let both : Some i.port ≡ Some own_port = sym i.here ∙ (ap (λ ps. port_at ps k) al.ports_are ∙ ap (λ b. cond b (Some own_port) None) at_here.own) in
+          let same : i.port ≡ own_port = cc in
+          ap (λ (p : Port). p.side.shdlc.phase) (sym same) ∙ i.up
+
+      link_here : eqb k e.link ≡ true
+      link_here = ap₂ eqb same_link (link_of_end number h) ∙ eqb_same h
+
+      pub errs_handled : lacking w k m ≡ None → (handles k m D w).cut ≡ false
+          → (errs_all e (begin_errs found) (t ++ (handles k m D w).entries)).errors ≡ desk_errors (handles k m D w).ports
+      errs_handled room still =
+          let reply : List Entry = entries_of_deeds w.core e (session_of_end own_port) D in
+          let noted : noted_by_deeds k D u ≡ reply = subst (λ b. IsNotedSo number h b (noted_by_deeds k D u) reply) still (noted_so room) in
+          ap (λ es. (errs_all e (begin_errs found) (t ++ es)).errors) (deeds_note k D u ∙ ap (λ es. u.entries ++ es) noted)
+          ∙ (ap (λ es. (errs_all e (begin_errs found) es).errors) (sym (append_assoc t u.entries reply))
+          ∙ (ap (λ (r : RecErrors). r.errors) (errs-append e (begin_errs found) (t ++ u.entries) reply)
+          ∙ deeds_errs k u on e w.core q w.ports m.0 D z (deeds_shape k m w al at_here.own) u_ports at_here.own link_here up_then z_errors
+          (subst (FitsErrors w.ports k m.0 D) (sym z_sets) (deeds_fit k m w al at_here.own same_link)) still))

@@ -1,0 +1,391 @@
+-- Sessions of a node alone end by resets exactly where they are asked for.
+use Rattle.std.proofs.Common.{ℕ, ◌≤◌, Bool, true, false, cond, List, [], ◌∷◌, map, Option, Some, None, refl}
+use Rattle.std.specs.List.{AllByRecursion, flat_map}
+use Rattle.std.specs.Option.{option_map_or}
+use Rattle.registry.proofs.ValueLemmas.{AllByRecursion-append as all_append}
+use Rattle.trace_model.specs.declared.entry.Entry.TheVariants as entry
+use Rattle.hci_tables.specs.declared.command.Command.{Command}
+use Rattle.hci_tables.specs.declared.command.Command.TheVariants.{Sync}
+use Rattle.gate_answers.specs.Answers.{answer_of}
+use Rattle.link_machine.specs.Machine.{Message, Refused, give_refusal}
+use Rattle.link_machine.specs.Machine.Turn.{Give, SetAside}
+use Rattle.link_entries.specs.entries.Entries.{End as Side, sent_unless}
+use Rattle.history.specs.Steps.{entries_for}
+use Rattle.node_machine.specs.Parts.{Creation, Core, Port, Work, Deed}
+use Rattle.node_machine.specs.Parts.Deed.{Commits, Asks, Tells}
+use Rattle.node_machine.specs.Carrying.{own_side, port_at, noted_of, turn_at}
+use Rattle.node_machine.specs.Node.{NodeInput, all_owed, synced}
+use Rattle.node_order.specs.passes.Noting.{goes_in, noted_by_deed}
+use Rattle.node_laws.proofs.steps.Walks.{Plain, OfHost, any_of_controller, all_of_host, deeds_hold, all_owed_hold, all_synced_hold, forgotten_hold}
+use Rattle.std.proofs.Common.{◌≡◌, ◌++◌, ◌||◌, eqb, sym, ap, subst, ◌∙◌}
+use Rattle.std.proofs.lemmas.Bool.{cond_both}
+use Rattle.std.specs.Prelude.{is_some, option_to_list, nat_lt}
+use Rattle.std.specs.List.{list_any}
+use Rattle.swp_base.specs.declared.control_frames.Control.{Control}
+use Rattle.swp_base.specs.declared.control_frames.Control.TheVariants as control
+use Rattle.swp_base.specs.declared.link_terms.Cause.{Cause as EndedBy}
+use Rattle.swp_base.specs.declared.link_terms.Cause.TheVariants.{Asked, NoAnswer, Peer, Act as ByAct, Chain}
+use Rattle.swp_lpdu.specs.declared.LpduFault.{LpduFault}
+use Rattle.swp_lpdu.specs.Controls.{lpdu_of, control_of}
+use Rattle.trace_model.specs.declared.entry.Entry.{Entry}
+use Rattle.trace_model.specs.declared.line.End.{End}
+use Rattle.shdlc_core.specs.declared.answers.LinkState.{LinkState}
+use Rattle.shdlc_core.specs.declared.answers.LinkState.TheVariants.{Up as IsUpNow, Waiting as IsWaitingNow, Down as IsDown}
+use Rattle.shdlc_core.specs.Machine.{EndState, take_answer, tick_answer, timed, Timed}
+use Rattle.shdlc_core.specs.Machine.Timed.{Runs, Over, Spent}
+use Rattle.link_laws.specs.sessions.Sessions.{is_up}
+use Rattle.link_machine.specs.Machine.{LinkEnd, LinkInput, Report, after_input, report, ended_by, ended_by_frame, ended_by_reset, reset_refusal, if_up}
+use Rattle.link_machine.specs.Machine.{whole_acked, lpdu_input, is_open}
+use Rattle.link_entries.specs.entries.Entries.{Entry as Noted, told, if_so}
+use Rattle.link_entries.specs.entries.Entries.Entry.{Up, Down, Active, GaveUp, Acked, Got}
+use Rattle.node_machine.specs.Carrying.{end_of_node}
+use Rattle.link_machine.specs.Machine.{Turn}
+use Rattle.link_machine.specs.Machine.Turn.{FetchMessage, Hold}
+use Rattle.node_laws.proofs.steps.Walks.{anyone}
+use Rattle.node_laws.proofs.steps.StepWalks.{Lasts, rest_lasts}
+use Rattle.node_order.proofs.passes.Notes.{deed_notes}
+use Rattle.lone_laws.specs.alone.Lone.{Lone, LoneCause, lone_end, lone_input, node_input, lone_arrival, emits_behind, frames_behind, session_with}
+use Rattle.lone_laws.specs.alone.Lone.LoneCause.{FrameComes, FrameIsRefused, TickComes, ResetComes, StartComes, StopComes}
+use Rattle.lone_laws.specs.alone.Known.{LoneTalk, talk_since}
+use Rattle.lone_laws.specs.alone.Answers.{is_asked_down, is_reset_alone, IsResetAlone}
+use Rattle.swp_act.specs.declared.ActEvent.{ActEvent}
+use Rattle.swp_act.specs.declared.ActEvent.TheVariants.{Take as ActTake, Tick as ActTick}
+use Rattle.shdlc_core.specs.Machine.{taken, runs_timer, nothing_taken, nothing_ticked}
+use Rattle.link_machine.specs.Machine.{ended_by_act, act_answer, is_faulty}
+use Rattle.link_machine.proofs.Runs.{Sound}
+use Rattle.std.specs.Prelude.{Result, Ok, Err}
+use Rattle.node_machine.specs.Parts.{Running}
+use Rattle.node_machine.specs.Node.{all_come, told_at, times_out, forgets, forgotten, after_sessions, without_notice}
+use Rattle.lone_laws.proofs.answered.Reading.{Alone}
+use Rattle.lone_laws.proofs.answered.Coming.{came_entries, came_is}
+use Rattle.lone_laws.proofs.answered.Stepping.{lone_comes}
+use Rattle.lone_laws.proofs.answered.Lasting.{begins_alone, arrival_nothing}
+use Rattle.lone_laws.proofs.answered.Ordered.{begin_read, start, ended}
+use Rattle.lone_laws.proofs.answered.Keeping.{core_of, KeepsAll}
+
+-- an entry tells of no reset that was asked for
+abbrev pub IsQuietEntry : Entry → Type 0
+IsQuietEntry x = is_asked_down x ≡ false
+
+abbrev pub AreQuiet : List Entry → Type 0
+AreQuiet es = AllByRecursion IsQuietEntry es
+
+sent_none : (h n : ℕ) (m : Message) (side : Side) (o : Option Refused) → AreQuiet (entries_for h (sent_unless o side n m))
+sent_none h n m side None = (refl, tt)
+sent_none h n m side (Some why) = tt
+
+given_none : (core : Core) (m : Message) (o : Option Port) → AreQuiet (option_map_or (noted_of core (Give m)) o [])
+given_none core m None = tt
+given_none core m (Some p) = sent_none p.desk.host p.session m (own_side core) (give_refusal p.side m)
+
+-- what a deed notes, whatever the node is
+abbrev NotesQuiet : Deed → Type 0
+NotesQuiet d = (h : ℕ) (w : Work) → AreQuiet (noted_by_deed h d w)
+
+cut_none : (b : Bool) (n : ℕ) → AreQuiet (cond b (entry.Cut n ∷ []) [])
+cut_none true n = (refl, tt)
+cut_none false n = tt
+
+plain : Plain NotesQuiet
+plain = record {
+  sends = λ to m h w. given_none w.core m (port_at w.ports to);
+  says_ok = λ h w. (refl, tt);
+  releases = λ asker h w. tt;
+  is_answered = λ h w. tt;
+  drops = λ pid h w. (refl, tt);
+}
+
+commits_none : (c : Command) → NotesQuiet (Commits c)
+commits_none c h w = (refl, cut_none (goes_in c w) w.core.node)
+
+tells_none : (to : ℕ) (message : List ℕ) → NotesQuiet (Tells to message)
+tells_none to message h w = given_none w.core (1, message) (port_at w.ports to)
+
+asks_none : (to : ℕ) (message : List ℕ) (c : Creation) → NotesQuiet (Asks to message c)
+asks_none to message c h w = (refl, given_none w.core (1, message) (port_at (turn_at c.asker SetAside w).ports to))
+
+own : (core : Core) → OfHost NotesQuiet core
+own core = record {
+  commits = commits_none;
+  hears = λ h w. tt;
+  goes_on = λ i h w. tt;
+  orders = λ i k order is h w. given_none w.core (1, order) (port_at w.ports h);
+  same = λ h w. (refl, tt);
+  made = λ count h w. (refl, tt);
+  failed = λ code h w. (refl, tt);
+}
+
+-- ## What is noted behind what comes
+
+or_same : (a b c : Bool) → b ≡ c → (a || b) ≡ (a || c)
+or_same a b c q = ap (λ z. a || z) q
+
+any_quiet : (a es : List Entry) → AreQuiet es → list_any is_asked_down (a ++ es) ≡ list_any is_asked_down a
+any_quiet [] [] quiet = refl
+any_quiet [] (x ∷ es) quiet = ap (λ b. b || list_any is_asked_down es) quiet.0 ∙ any_quiet [] es quiet.1
+any_quiet (x ∷ a) es quiet = or_same (is_asked_down x) (list_any is_asked_down (a ++ es)) (list_any is_asked_down a) (any_quiet a es quiet)
+
+turn_quiet : (core : Core) (y : Turn) (o : Option Port) → AreQuiet (option_map_or (noted_of core y) o [])
+turn_quiet core (Give m) o = given_none core m o
+turn_quiet core y None = tt
+turn_quiet core _ (Some p) = tt
+
+module _ (b : Bool) where
+  abbrev Tells_so : Work → Type 0
+  Tells_so w = list_any is_asked_down w.entries ≡ b
+
+  quiet_lasts : Lasts Tells_so NotesQuiet (λ h m. Unit {0})
+  quiet_lasts = record {
+    does = λ h d w may a. ap (list_any is_asked_down) (deed_notes h d w) ∙ (any_quiet w.entries (noted_by_deed h d w) (may h w) ∙ a);
+    turn_told = λ h m w c a. any_quiet w.entries (entry.Turn (end_of_node w.core h) m.0 m.1 ∷ []) (refl, tt) ∙ a;
+    held_told = λ h need spare w a. any_quiet w.entries (entry.Held (end_of_node w.core h) need spare ∷ []) (refl, tt) ∙ a;
+    fetched = λ h w a. any_quiet w.entries (option_map_or (noted_of w.core FetchMessage) (port_at w.ports h) []) (turn_quiet w.core FetchMessage
+        (port_at w.ports h)) ∙ a;
+    held = λ h flag w a. any_quiet w.entries (option_map_or (noted_of w.core (Hold flag)) (port_at w.ports h) []) (turn_quiet w.core (Hold flag)
+        (port_at w.ports h)) ∙ a;
+    marked = λ h flag w a. a;
+    come = λ h w a. anyone (λ m. Unit {0}) (λ m. tt) _;
+    causes = λ h m w c a.
+        deeds_hold (AllByRecursion NotesQuiet) w.core w.ports h m
+        (any_of_controller NotesQuiet plain commits_none tells_none asks_none (λ errors k v. tt) w.core w.ports h m) tt
+        (λ p. all_of_host NotesQuiet w.core plain (own w.core) p m (λ n value is zero sets k v. tt));
+  }
+
+-- ## What an input tells
+
+-- it is a reset on demand
+abbrev pub asked : Option EndedBy → Bool
+asked (Some Asked) = true
+asked _ = false
+
+-- this tells of no end of a session
+abbrev EndsNothing : Noted → Type 0
+EndsNothing (Up who n) = Unit {0}
+EndsNothing (Active who) = Unit {0}
+EndsNothing (GaveUp who tries) = Unit {0}
+EndsNothing (Acked who n count) = Unit {0}
+EndsNothing (Got who n m) = Unit {0}
+EndsNothing _ = ⊥
+
+notes_quiet : (h : ℕ) (xs : List Noted) → AllByRecursion EndsNothing xs → AreQuiet (entries_for h xs)
+notes_quiet h [] a = tt
+notes_quiet h (Up who n ∷ xs) a = (refl, notes_quiet h xs a.1)
+notes_quiet h (Active who ∷ xs) a = (refl, notes_quiet h xs a.1)
+notes_quiet h (GaveUp who tries ∷ xs) a = (refl, notes_quiet h xs a.1)
+notes_quiet h (Acked who n count ∷ xs) a = (refl, notes_quiet h xs a.1)
+notes_quiet h (Got who n m ∷ xs) a = (refl, notes_quiet h xs a.1)
+notes_quiet h (_ ∷ xs) a = absurd a.0
+
+so_ends : (b : Bool) (x : Noted) → EndsNothing x → AllByRecursion EndsNothing (if_so b x)
+so_ends true x a = (a, tt)
+so_ends false x a = tt
+
+tries_ends : (who : Side) (o : Option ℕ) → AllByRecursion EndsNothing (map (GaveUp who) (option_to_list o))
+tries_ends who None = tt
+tries_ends who (Some n) = (tt, tt)
+
+gots_ends : (who : Side) (n : ℕ) (ms : List Message) → AllByRecursion EndsNothing (map (Got who n) ms)
+gots_ends who n [] = tt
+gots_ends who n (m ∷ ms) = (tt, gots_ends who n ms)
+
+-- what is told of an input tells so where the session is ended by a reset on demand
+told_asked : (h : ℕ) (who : Side) (n acked : ℕ) (rep : Report) → list_any is_asked_down (entries_for h (told who n rep acked)) ≡ asked rep.ended
+told_asked h who n acked rep = go rep.ended where
+  others : List Noted
+  others =
+      if_so rep.began (Up who n) ++ (if_so rep.became_active (Active who)
+      ++ (map (GaveUp who) (option_to_list rep.gave_up) ++ (if_so (nat_lt 0 rep.acked) (Acked who n acked) ++ map (Got who n) rep.got)))
+
+  quiet : list_any is_asked_down (entries_for h others) ≡ false
+  quiet =
+      any_quiet [] (entries_for h others)
+      (notes_quiet h others
+      (all_append EndsNothing (if_so rep.began (Up who n)) _ (so_ends rep.began (Up who n) tt)
+      (all_append EndsNothing (if_so rep.became_active (Active who)) _ (so_ends rep.became_active (Active who) tt)
+      (all_append EndsNothing (map (GaveUp who) (option_to_list rep.gave_up)) _ (tries_ends who rep.gave_up)
+      (all_append EndsNothing (if_so (nat_lt 0 rep.acked) (Acked who n acked)) _ (so_ends (nat_lt 0 rep.acked) (Acked who n acked) tt)
+      (gots_ends who n rep.got))))))
+
+  go : (o : Option EndedBy) → list_any is_asked_down (entries_for h (map (Down who) (option_to_list o) ++ others)) ≡ asked o
+  go None = quiet
+  go (Some Asked) = refl
+  go (Some NoAnswer) = quiet
+  go (Some Peer) = quiet
+  go (Some ByAct) = quiet
+  go (Some Chain) = quiet
+
+-- ## Why a session ends
+
+up_asked : (s : EndState) (cause : EndedBy) → asked (Some cause) ≡ false → asked (if_up s cause) ≡ false
+up_asked s cause other = go s.phase refl where
+  go : (p : LinkState) → s.phase ≡ p → asked (if_up s cause) ≡ false
+  go IsUpNow q = rw q other
+  go IsWaitingNow q = rw q refl
+  go IsDown q = rw q refl
+
+take_asked : (s : EndState) (c : Control) → asked (take_answer s c).ended ≡ false
+take_asked s c = go s.phase refl c where
+  go : (p : LinkState) → s.phase ≡ p → (c : Control) → asked (take_answer s c).ended ≡ false
+  go IsUpNow q (control.I ns nr info) = rw q refl
+  go IsUpNow q (control.S kind nr) = rw q refl
+  go IsUpNow q (control.Rset window caps) =
+      rw q (cond_both (eqb window 0) nothing_taken (record nothing_taken { ended = Some Peer; began = true }) (λ r. asked r.ended ≡ false) (λ _. refl)
+      (λ _. refl))
+  go IsUpNow q _ = rw q refl
+  go IsDown q (control.Rset window caps) =
+      rw q (cond_both (eqb window 0) nothing_taken (record nothing_taken { began = true }) (λ r. asked r.ended ≡ false) (λ _. refl) (λ _. refl))
+  go IsDown q _ = rw q refl
+  go IsWaitingNow q (control.Ua) = rw q refl
+  go IsWaitingNow q _ = rw q refl
+
+tick_asked : (s : EndState) → asked (tick_answer s).ended ≡ false
+tick_asked s = go s.phase refl where
+  up : (z : Timed) → timed s ≡ z → s.phase ≡ IsUpNow → asked (tick_answer s).ended ≡ false
+  up Runs z q = rw (q, z) (cond_both (runs_timer s.session) nothing_ticked nothing_ticked (λ r. asked r.ended ≡ false) (λ _. refl) (λ _. refl))
+  up Over z q = rw (q, z) (cond_both (runs_timer s.session) nothing_ticked nothing_ticked (λ r. asked r.ended ≡ false) (λ _. refl) (λ _. refl))
+  up Spent z q =
+      rw (q, z) (cond_both (runs_timer s.session) (record nothing_ticked { ended = Some NoAnswer }) nothing_ticked (λ r. asked r.ended ≡ false)
+      (λ _. refl) (λ _. refl))
+
+  waits : (z : Timed) → timed s ≡ z → s.phase ≡ IsWaitingNow → asked (tick_answer s).ended ≡ false
+  waits Runs z q = rw (q, z) refl
+  waits Over z q = rw (q, z) refl
+  waits Spent z q = rw (q, z) refl
+
+  go : (p : LinkState) → s.phase ≡ p → asked (tick_answer s).ended ≡ false
+  go IsUpNow q = up (timed s) refl q
+  go IsWaitingNow q = waits (timed s) refl q
+  go IsDown q = rw q refl
+
+act_asked : (s : LinkEnd) (event : ActEvent) → asked (ended_by_act s event) ≡ false
+act_asked s event =
+    cond_both (act_answer s.role event).ended_link (if_up s.shdlc ByAct) None (λ o. asked o ≡ false) (λ _. up_asked s.shdlc ByAct refl) (λ _. refl)
+
+heard_asked : (s : LinkEnd) (c : Control)
+    → asked (cond (is_open s.role) (cond (is_faulty (taken s.shdlc c).session) (Some Chain) (take_answer s.shdlc c).ended) None) ≡ false
+heard_asked s c =
+    cond_both (is_open s.role) (cond (is_faulty (taken s.shdlc c).session) (Some Chain) (take_answer s.shdlc c).ended) None (λ o. asked o ≡ false)
+    (λ _. cond_both (is_faulty (taken s.shdlc c).session) (Some Chain) (take_answer s.shdlc c).ended (λ o. asked o ≡ false) (λ _. refl)
+    (λ _. take_asked s.shdlc c))
+    (λ _. refl)
+
+frame_asked : (s : LinkEnd) (c : Control) → asked (ended_by_frame s c) ≡ false
+frame_asked s (control.Act act again) = act_asked s (ActTake act again)
+frame_asked s control.Clt = refl
+frame_asked s (control.I ns nr info) = heard_asked s (control.I ns nr info)
+frame_asked s (control.S kind nr) = heard_asked s (control.S kind nr)
+frame_asked s (control.Rset window caps) = heard_asked s (control.Rset window caps)
+frame_asked s control.Ua = heard_asked s control.Ua
+
+lpdu_asked : (s : LinkEnd) (bytes : List ℕ) → asked (ended_by s (lpdu_input bytes)) ≡ false
+lpdu_asked s bytes = go (control_of bytes) refl where
+  go : (x : Result Control LpduFault) → control_of bytes ≡ x → asked (ended_by s (lpdu_input bytes)) ≡ false
+  go (Ok c) q = rw q (frame_asked s c)
+  go (Err fault) q = rw q refl
+
+reset_asked : (s : LinkEnd) → Sound s → asked (ended_by_reset s (reset_refusal s)) ≡ is_up s.shdlc.phase
+reset_asked s sound = go (is_open s.role) refl s.shdlc.phase refl where
+  go : (b : Bool) → is_open s.role ≡ b → (p : LinkState) → s.shdlc.phase ≡ p → asked (ended_by_reset s (reset_refusal s)) ≡ is_up s.shdlc.phase
+  go true q IsUpNow z = rw (q, z) refl
+  go true q IsWaitingNow z = rw (q, z) refl
+  go true q IsDown z = rw (q, z) refl
+  go false q IsUpNow z = let gone : IsUpNow ≡ IsDown = sym z ∙ (sound.closed q).phase in absurd (cc gone)
+  go false q IsWaitingNow z = rw (q, z) refl
+  go false q IsDown z = rw (q, z) refl
+
+-- a reset that comes ends the session where the end is up, and nothing else that comes ends it so
+abbrev pub resets : LoneCause → Bool → Bool
+resets (ResetComes window) up = up
+resets _ up = false
+
+input_asked : (s : LinkEnd) (c : LoneCause) (i : LinkInput) → lone_input c ≡ Some i → Sound s → asked (ended_by s i) ≡ resets c (is_up s.shdlc.phase)
+input_asked s (FrameComes bytes) i q sound = let is : lpdu_input bytes ≡ i = cc in subst (λ x. asked (ended_by s x) ≡ false) is (lpdu_asked s bytes)
+input_asked s (FrameIsRefused fault) i q sound = absurd (cc q)
+input_asked s TickComes i q sound =
+    let is : Rattle.link_machine.specs.Machine.LinkInput.Tick ≡ i = cc in
+    subst (λ x. asked (ended_by s x) ≡ false) is
+    (cond_both (is_open s.role) (tick_answer s.shdlc).ended (ended_by_act s ActTick) (λ o. asked o ≡ false) (λ _. tick_asked s.shdlc)
+    (λ _. act_asked s ActTick))
+input_asked s (ResetComes window) i q sound =
+    let is : Rattle.link_machine.specs.Machine.LinkInput.Reset window ≡ i = cc in
+    subst (λ x. asked (ended_by s x) ≡ is_up s.shdlc.phase) is (reset_asked s sound)
+input_asked s (StartComes value) i q sound =
+    let is : Rattle.link_machine.specs.Machine.LinkInput.Start value ≡ i = cc in subst (λ x. asked (ended_by s x) ≡ false) is (up_asked s.shdlc ByAct refl)
+input_asked s StopComes i q sound =
+    let is : Rattle.link_machine.specs.Machine.LinkInput.Stop ≡ i = cc in subst (λ x. asked (ended_by s x) ≡ false) is (up_asked s.shdlc ByAct refl)
+
+-- ## A step
+
+any_front : (a es : List Entry) → AreQuiet a → list_any is_asked_down (a ++ es) ≡ list_any is_asked_down es
+any_front [] es quiet = refl
+any_front (x ∷ a) es quiet = ap (λ b. b || list_any is_asked_down (a ++ es)) quiet.0 ∙ any_front a es quiet.1
+
+emits_quiet : (f : End) (frames : List Control) → AreQuiet (map (λ c. entry.Emit f (lpdu_of c)) frames)
+emits_quiet f [] = tt
+emits_quiet f (c ∷ frames) = (refl, emits_quiet f frames)
+
+arrival_quiet : (l : Lone) (c : LoneCause) → AreQuiet (lone_arrival l c)
+arrival_quiet l (FrameComes bytes) = (refl, tt)
+arrival_quiet l (FrameIsRefused fault) = tt
+arrival_quiet l TickComes = tt
+arrival_quiet l (ResetComes window) = tt
+arrival_quiet l (StartComes value) = tt
+arrival_quiet l StopComes = tt
+
+module _ (rest : Core) (t : List Entry) (l : Lone) (some : 1 ≤ l.link) (most : l.link ≤ 7) (its : eqb l.number 0 ≡ false → l.number ≡ l.link) (n : Running)
+    (k : KeepsAll rest t l n) (c : LoneCause) (i : LinkInput) (comes : lone_input c ≡ Some i) where
+  abbrev G : Core
+  G = core_of rest l.number
+
+  abbrev first : Work
+  first = start G t l some most n k.keep c i comes
+
+  abbrev last : Work
+  last = ended G t l some most n k.keep c i comes
+
+  abbrev a : Alone l.number l.link (begin_read G) t first
+  a = begins_alone (begin_read G) t l n i (lone_arrival l c) (arrival_nothing l c) k.keep
+
+  abbrev input : NodeInput
+  input = node_input l.link i
+
+  came_tells : list_any is_asked_down (all_come input first).entries ≡ resets c (is_up l.side.shdlc.phase)
+  came_tells =
+      let told_it : List Entry = told_at first.core a.port (Some i) in
+      ap (list_any is_asked_down) (came_entries l.number l.link (begin_read G) t i (lone_comes c i comes) first a)
+      ∙ (any_front (lone_arrival l c) told_it (arrival_quiet l c)
+      ∙ (told_asked a.port.desk.host (own_side first.core) (session_with l i) (whole_acked (after_input l.side i)) (report l.side i)
+      ∙ input_asked l.side c i comes k.talks.sound))
+
+  last_tells : list_any is_asked_down last.entries ≡ resets c (is_up l.side.shdlc.phase)
+  last_tells =
+      let b : Bool = resets c (is_up l.side.shdlc.phase) in
+      let came : Work = times_out input (all_come input first) in
+      let left : List Port = map (forgets came.ports) came.ports in
+      rest_lasts (Tells_so b) NotesQuiet
+      (λ h m. Unit {0}) (quiet_lasts b) (forgotten came.ports) (flat_map (synced first.core input) first.ports) (all_owed left)
+      (record came { core = after_sessions came.core came.ports; ports = map without_notice left })
+      (forgotten_quiet came.ports) (all_synced_hold NotesQuiet (λ host id. commits_none (Sync host id)) first.core input first.ports)
+      (all_owed_hold NotesQuiet (λ asker. plain.releases asker) (λ to r. plain.sends to (1, answer_of r [])) left)
+      (ap (λ (w : Work). list_any is_asked_down w.entries)
+      (came_is l.number l.link (begin_read G) t i (lone_comes c i comes) first a) ∙ came_tells) where
+        forgotten_quiet : (ports : List Port) → AllByRecursion NotesQuiet (forgotten ports)
+        forgotten_quiet ports = forgotten_hold NotesQuiet plain.releases ports
+
+  -- Its session ends by a reset exactly where that is asked for.
+  pub reset_in_step : IsResetAlone G l.link t (record { cause = c; entries = last.entries ++ emits_behind l last })
+  reset_in_step =
+      any_quiet last.entries (emits_behind l last) (emits_quiet (lone_end l) (frames_behind l last)) ∙ (last_tells ∙ by c) where
+        up : is_up l.side.shdlc.phase ≡ is_some (talk_since (lone_end l) l.number t).session
+        up = sym (ap (λ (x : LoneTalk). is_some x.session) k.talks.talk ∙ go (is_up l.side.shdlc.phase)) where
+          go : (b : Bool) → is_some (cond b (Some l.session) None) ≡ b
+          go true = refl
+          go false = refl
+
+        by : (c : LoneCause) → resets c (is_up l.side.shdlc.phase) ≡ is_reset_alone G l.link t c
+        by (ResetComes window) = up
+        by (FrameComes bytes) = refl
+        by (FrameIsRefused fault) = refl
+        by TickComes = refl
+        by (StartComes value) = refl
+        by StopComes = refl

@@ -1,0 +1,81 @@
+-- An end of a CLF stays one, and so does an end of a UICC; what each takes of activation.
+use Rattle.std.proofs.Common.{◌≡◌, Bool, true, false, cond, ◌++◌, refl, ◌∙◌}
+use Rattle.std.specs.Prelude.{Option, Some, None, is_some}
+use Rattle.std.proofs.lemmas.Bool.{cond_both}
+use Rattle.swp_base.specs.declared.control_frames.Control.{Control}
+use Rattle.swp_base.specs.declared.control_frames.Control.TheVariants.{I, S, Rset, Ua, Act as ActFrame, Clt}
+use Rattle.swp_base.specs.declared.control_frames.Act.{Act}
+use Rattle.swp_act.specs.declared.ActEvent.{ActEvent}
+use Rattle.swp_act.specs.declared.ActEvent.TheVariants.{Start as ActStart, Take as ActTake, Tick as ActTick, Stop as ActStop}
+use Rattle.shdlc_core.specs.declared.answers.LinkState.{LinkState}
+use Rattle.shdlc_core.specs.declared.answers.LinkState.TheVariants.{Down as IsDown, Waiting as IsWaitingNow, Up as IsUpNow}
+use Rattle.shdlc_core.specs.Machine.{EndState, taken, take_answer, ticked, tick_answer, stopped, reset_with}
+use Rattle.link_machine.specs.Machine.{LinkEnd, LinkInput, Refused, is_open, is_faulty, moved, put_down, with_act, activated, act_answer, role_after, heard}
+use Rattle.link_machine.specs.Machine.{news}
+use Rattle.link_machine.specs.Machine.{reset_by, window_of, reset_refusal, unless, after_input}
+use Rattle.link_machine.specs.Machine.LinkInput.{Take, TakeUnknown, TakeBroken, Tick, Reset, Start, Stop, FromNode, Fetch}
+use Rattle.lone_laws.proofs.answered.Coming.{IsLoneInput}
+use Rattle.link_machine.specs.Machine.{Role}
+use Rattle.link_machine.specs.Machine.Role.{Bare, Clf, Uicc}
+
+-- an end of a CLF, or of a UICC
+abbrev pub kind_of : Role → Option Bool
+kind_of Bare = None
+kind_of (Clf s) = Some true
+kind_of (Uicc s) = Some false
+
+after_kind : (r : Role) (event : ActEvent) → kind_of (role_after r event) ≡ kind_of r
+after_kind Bare event = refl
+after_kind (Clf s) event = refl
+after_kind (Uicc s) event = refl
+
+act_kind : (o : Option Act) (e : LinkEnd) → kind_of (with_act o e).role ≡ kind_of e.role
+act_kind None e = refl
+act_kind (Some act) e = refl
+
+moved_kind : (e : LinkEnd) (b : Bool) (s : EndState) → kind_of (moved e b s).role ≡ kind_of e.role
+moved_kind e true s = refl
+moved_kind e false s = refl
+
+down_kind : (b : Bool) (e : LinkEnd) → kind_of (put_down b e).role ≡ kind_of e.role
+down_kind false e = refl
+down_kind true e = go e.shdlc.phase refl where
+  go : (p : LinkState) → e.shdlc.phase ≡ p → kind_of (put_down true e).role ≡ kind_of e.role
+  go IsUpNow q = rw q refl
+  go IsWaitingNow q = rw q refl
+  go IsDown q = rw q refl
+
+activated_kind : (e : LinkEnd) (event : ActEvent) → kind_of (activated e event).role ≡ kind_of e.role
+activated_kind e event =
+    act_kind (act_answer e.role event).send (record (put_down (act_answer e.role event).ended_link e) { role = role_after e.role event })
+    ∙ after_kind e.role event
+
+heard_kind : (e : LinkEnd) (c : Control) → kind_of (heard e c).role ≡ kind_of e.role
+heard_kind e c =
+    cond_both (is_faulty (taken e.shdlc c).session) (put_down true e)
+    (let f : LinkEnd = moved e (is_some (take_answer e.shdlc c).ended) (taken e.shdlc c) in record f { got = e.got ++ news e.shdlc.session (taken e.shdlc c) })
+    (λ f. kind_of f.role ≡ kind_of e.role) (λ _. down_kind true e) (λ _. moved_kind e (is_some (take_answer e.shdlc c).ended) (taken e.shdlc c))
+
+open_kind : (e : LinkEnd) (c : Control) → kind_of (cond (is_open e.role) (heard e c) e).role ≡ kind_of e.role
+open_kind e c = cond_both (is_open e.role) (heard e c) e (λ f. kind_of f.role ≡ kind_of e.role) (λ _. heard_kind e c) (λ _. refl)
+
+pub input_kind : (e : LinkEnd) (i : LinkInput) → IsLoneInput i → kind_of (after_input e i).role ≡ kind_of e.role
+input_kind e (Take (I ns nr info)) a = open_kind e (I ns nr info)
+input_kind e (Take (S kind nr)) a = open_kind e (S kind nr)
+input_kind e (Take (Rset window caps)) a = open_kind e (Rset window caps)
+input_kind e (Take Ua) a = open_kind e Ua
+input_kind e (Take (ActFrame act again)) a = activated_kind e (ActTake act again)
+input_kind e (Take Clt) a = refl
+input_kind e TakeUnknown a = refl
+input_kind e Tick a =
+    cond_both (is_open e.role) (moved e (is_some (tick_answer e.shdlc).ended) (ticked e.shdlc)) (activated e ActTick) (λ f. kind_of f.role ≡ kind_of e.role)
+    (λ _. moved_kind e (is_some (tick_answer e.shdlc).ended) (ticked e.shdlc)) (λ _. activated_kind e ActTick)
+input_kind e (Reset window) a = by (reset_refusal e) where
+  by : (o : Option Refused) → kind_of (unless o e (reset_by e (window_of e window))).role ≡ kind_of e.role
+  by None = moved_kind e _ (reset_with e.shdlc (window_of e window))
+  by (Some why) = refl
+input_kind e (Start value) a = activated_kind (moved e true (stopped e.shdlc)) (ActStart value)
+input_kind e Stop a = activated_kind (moved e true (stopped e.shdlc)) ActStop
+input_kind e (TakeBroken fault) a = absurd a
+input_kind e (FromNode x) a = absurd a
+input_kind e Fetch a = absurd a

@@ -1,0 +1,295 @@
+-- The session of the end of a node alone, and the blocks that it has to spare, are what is read at each turn of a step.
+use Rattle.std.proofs.Common.{◌≡◌, ℕ, zero, suc, ◌<◌, ◌+◌, ◌-◌, Bool, true, false, cond, eqb, not, List, [], ◌∷◌, ◌++◌, length, refl, sym, ap, ◌∙◌}
+use Rattle.std.proofs.Common.{append_assoc, arith}
+use Rattle.std.specs.Prelude.{Option, Some, None}
+use Rattle.std.specs.List.{AllByRecursion}
+use Rattle.std.specs.Option.{option_map_or}
+use Rattle.std.proofs.lemmas.Bool.{true≢false}
+use Rattle.trace_model.specs.declared.entry.Entry.{Entry}
+use Rattle.trace_model.specs.declared.entry.Entry.TheVariants as entry
+use Rattle.trace_model.specs.declared.line.End.{End}
+use Rattle.shdlc_core.specs.Machine.{EndState, most_frames, after_frames, fetched}
+use Rattle.link_laws.specs.sessions.Sessions.{is_up}
+use Rattle.hcp_packet.specs.Packets.{IsSendable, packet_count, fragments_of}
+use Rattle.journal_laws.specs.Planned.{fails_within}
+use Rattle.hci_tables.specs.declared.command.Command.{Command}
+use Rattle.hci_tables.specs.Bodies.{body_of}
+use Rattle.hci_store.specs.Committing.{commit_writes}
+use Rattle.link_machine.specs.Machine.{Message, Refused, LinkEnd, Turn, turn, given, give_refusal, unless, sent_all, whole_among, whole_acked, in_use, spare}
+use Rattle.link_machine.specs.Machine.Turn.{Give, Hold, FetchMessage, SetAside, Release}
+use Rattle.link_machine.proofs.Sound.{whole_given}
+use Rattle.link_machine.proofs.Runs.{Sound, sound_turn}
+use Rattle.link_laws.proofs.places.Joined.{ready_cases}
+use Rattle.link_laws.proofs.places.Joined.{fetch_cases}
+use Rattle.link_entries.specs.entries.Entries.{End as Side, sent_unless, turn_entry}
+use Rattle.link_entries.proofs.entries.Stepping.{fetched_acked}
+use Rattle.history.specs.Filters.{same_end}
+use Rattle.history.specs.Steps.{end_of, entries_for}
+use Rattle.node_machine.specs.Parts.{Desk, Port, Work, Deed}
+use Rattle.node_machine.specs.Parts.Deed.{Commits, Sends, SaysOk, Asks, Releases, Tells, IsAnswered, Drops, SetsErrors, Orders, Hears, GoesOn, Ends}
+use Rattle.node_machine.specs.Carrying.{own_side, end_of_node, noting, port_at, changed_if, with_port, with_desk, after_turn, noted_of, turn_at, loses_power}
+use Rattle.node_machine.specs.Carrying.{keeps, commit, done}
+use Rattle.node_order.proofs.links.Deeds.{IsFine}
+use Rattle.lone_laws.specs.alone.Lone.{end_of_node_alone}
+use Rattle.lone_laws.specs.alone.Known.{LoneTalk, talk_noted, spare_in_talk}
+use Rattle.lone_laws.proofs.answered.Own.{IsOwnDeed}
+use Rattle.lone_laws.proofs.answered.Roles.{kind_of}
+use Rattle.lone_laws.proofs.answered.Turning.{same_self, own_end}
+use Rattle.lone_laws.proofs.answered.Talking.{talk_all, talk-append, talk_of_side}
+
+-- ## Entries that say nothing of it
+
+abbrev pub IsStill : End → ℕ → Entry → Type 0
+IsStill e n x = (z : LoneTalk) → talk_noted e n z x ≡ z
+
+abbrev pub AreStill : End → ℕ → List Entry → Type 0
+AreStill e n es = AllByRecursion (IsStill e n) es
+
+pub still_talk : (e : End) (n : ℕ) (es : List Entry) → AreStill e n es → (z : LoneTalk) → talk_all e n z es ≡ z
+still_talk e n [] a z = refl
+still_talk e n (x ∷ es) a z = ap (λ y. talk_all e n y es) (a.0 z) ∙ still_talk e n es a.1 z
+
+-- ## A turn of its node
+
+-- what a node alone does to its end
+abbrev pub IsLoneTurn : Turn → Type 0
+IsLoneTurn (Give m) = IsSendable m
+IsLoneTurn (Hold held) = Unit {0}
+IsLoneTurn FetchMessage = Unit {0}
+IsLoneTurn SetAside = ⊥
+IsLoneTurn Release = Unit {0}
+
+pub lone_turn_sound : (s : LinkEnd) (x : Turn) → IsLoneTurn x → Sound s → Sound (turn s x)
+lone_turn_sound s (Give m) may a = sound_turn s (Give m) (may, tt) a
+lone_turn_sound s (Hold held) may a = sound_turn s (Hold held) tt a
+lone_turn_sound s FetchMessage may a = sound_turn s FetchMessage tt a
+lone_turn_sound s SetAside may a = absurd may
+lone_turn_sound s Release may a = sound_turn s Release tt a
+
+lone_turn_kind : (s : LinkEnd) (x : Turn) → IsLoneTurn x → kind_of (turn s x).role ≡ kind_of s.role
+lone_turn_kind s (Give m) may = by (give_refusal s m) where
+  by : (o : Option Refused) → kind_of (unless o s (given s m)).role ≡ kind_of s.role
+  by None = refl
+  by (Some why) = refl
+lone_turn_kind s (Hold held) may = refl
+lone_turn_kind s FetchMessage may = refl
+lone_turn_kind s SetAside may = absurd may
+lone_turn_kind s Release may = refl
+
+lone_turn_aside : (s : LinkEnd) (x : Turn) → IsLoneTurn x → s.aside ≡ 0 → (turn s x).aside ≡ 0
+lone_turn_aside s (Give m) may a = by (give_refusal s m) where
+  by : (o : Option Refused) → (unless o s (given s m)).aside ≡ 0
+  by None = a
+  by (Some why) = a
+lone_turn_aside s (Hold held) may a = a
+lone_turn_aside s FetchMessage may a = a
+lone_turn_aside s SetAside may a = absurd may
+lone_turn_aside s Release may a = ap (λ n. n - 1) a
+
+given_talk : (s : LinkEnd) (m : Message) (k : ℕ) → IsSendable m → Sound s
+    → talk_of_side (given s m) k ≡ record (talk_of_side s k) { sent = s.sent ++ m ∷ [] }
+given_talk s m k may sound =
+    let count : 0 < packet_count (length m.1) = let n = may.1 in omega (arith, n) in
+    let len : length s.shdlc.session.out ≡ length (fragments_of s.sent) = ap (λ (xs : List (List ℕ)). length xs) sound.is.out in
+    ap (λ c. record (talk_of_side s k) { sent = s.sent ++ m ∷ []; acked = c })
+    (whole_given s.sent m s.shdlc.session.acked count (omega (arith, len, sound.is.acked, sound.is.reached)))
+
+module _ (e : End) (n : ℕ) (who : Side) (h : ℕ) (own : same_end (end_of h who) e ≡ true) where
+  sent_talk : (s : LinkEnd) (k : ℕ) (m : Message) → IsSendable m → Sound s
+      → talk_all e n (talk_of_side s k) (entries_for h (turn_entry who k s (Give m))) ≡ talk_of_side (turn s (Give m)) k
+  sent_talk s k m may sound = by (give_refusal s m) where
+    by : (o : Option Refused) → talk_all e n (talk_of_side s k) (entries_for h (sent_unless o who k m)) ≡ talk_of_side (unless o s (given s m)) k
+    by None = ap (λ b. cond b (record (talk_of_side s k) { sent = s.sent ++ m ∷ [] }) (talk_of_side s k)) own ∙ sym (given_talk s m k may sound)
+    by (Some why) = refl
+
+  pub turn_talk : (s : LinkEnd) (k : ℕ) (x : Turn) → IsLoneTurn x → Sound s
+      → talk_all e n (talk_of_side s k) (entries_for h (turn_entry who k s x)) ≡ talk_of_side (turn s x) k
+  turn_talk s k (Give m) may sound = sent_talk s k m may sound
+  turn_talk s k (Hold held) may sound =
+      ready_cases (λ f. talk_of_side s k ≡ talk_of_side (record s { shdlc = f }) k) s.shdlc (not held) refl refl refl
+  turn_talk s k FetchMessage may sound = refl
+  turn_talk s k SetAside may sound = absurd may
+  turn_talk s k Release may sound = refl
+
+-- ## A node alone in a step
+
+-- What is read of the session of its one end, which has this number, is what the end has.
+pub record Talks (number h s : ℕ) (x : LoneTalk) (t : List Entry) (w : Work) : Type 0 where
+  pub port : Port
+  pub ports_are : w.ports ≡ port ∷ []
+  pub host : port.desk.host ≡ h
+  pub node : w.core.node ≡ number
+  pub same : port.session ≡ s
+  pub aside : port.side.aside ≡ 0
+  pub role : kind_of port.side.role ≡ Some (eqb number 0)
+  pub sound : Sound port.side
+  pub talk : talk_all (end_of_node_alone number h) number x (t ++ w.entries) ≡ talk_of_side port.side port.session
+
+module _ (number h s : ℕ) (x : LoneTalk) (t : List Entry) where
+  abbrev e : End
+  e = end_of_node_alone number h
+
+  abbrev Of : Work → Type 0
+  Of w = Talks number h s x t w
+
+  -- more is noted
+  pub talk_more : (w : Work) (es : List Entry) (y z : LoneTalk) → talk_all e number x (t ++ w.entries) ≡ y → talk_all e number y es ≡ z
+      → talk_all e number x (t ++ (w.entries ++ es)) ≡ z
+  talk_more w es y z a b =
+      ap (talk_all e number x) (sym (append_assoc t w.entries es))
+      ∙ (talk-append e number x (t ++ w.entries) es ∙ (ap (λ v. talk_all e number v es) a ∙ b))
+
+  pub talks_note : (es : List Entry) (w : Work) → AreStill e number es → Of w → Of (noting es w)
+  talks_note es w still a =
+      record {
+        port = a.port;
+        ports_are = a.ports_are;
+        host = a.host;
+        node = a.node;
+        same = a.same;
+        aside = a.aside;
+        role = a.role;
+        sound = a.sound;
+        talk = talk_more w es (talk_of_side a.port.side a.port.session) (talk_of_side a.port.side a.port.session) a.talk
+            (still_talk e number es still (talk_of_side a.port.side a.port.session));
+      }
+
+  -- what is kept of the end changes
+  pub talks_desk : (k : ℕ) (f : Desk → Desk) (w : Work) → ((d : Desk) → (f d).host ≡ d.host) → Of w → Of (with_desk k f w)
+  talks_desk k f w keeps a = go (eqb a.port.desk.host k) (ap (with_port k g) a.ports_are) where
+    g : Port → Port
+    g p = record p { desk = f p.desk }
+
+    go : (b : Bool) → with_port k g w.ports ≡ changed_if b g a.port ∷ [] → Of (with_desk k f w)
+    go true ports = record {
+      port = g a.port;
+      ports_are = ports;
+      host = keeps a.port.desk
+          ∙ a.host;
+      node = a.node;
+      same = a.same;
+      aside = a.aside;
+      role = a.role;
+      sound = a.sound;
+      talk = a.talk;
+    }
+    go false ports = record {
+      port = a.port;
+      ports_are = ports;
+      host = a.host;
+      node = a.node;
+      same = a.same;
+      aside = a.aside;
+      role = a.role;
+      sound = a.sound;
+      talk = a.talk;
+    }
+
+  -- its node does something to it
+  pub talks_turn : (k : ℕ) (y : Turn) (w : Work) → IsLoneTurn y → Of w → Of (turn_at k y w)
+  talks_turn k y w may a = go (eqb a.port.desk.host k) refl where
+    f : Port → Port
+    f = after_turn y
+
+    own : same_end (end_of a.port.desk.host (own_side w.core)) e ≡ true
+    own = ap (λ z. same_end z e) (own_end w.core number h a.port.desk.host a.node a.host) ∙ same_self e
+
+    Y : LoneTalk
+    Y = talk_of_side a.port.side a.port.session
+
+    es : List Entry
+    es = option_map_or (noted_of w.core y) (port_at w.ports k) []
+
+    go : (b : Bool) → eqb a.port.desk.host k ≡ b → Of (turn_at k y w)
+    go true q =
+        let noted : es ≡ noted_of w.core y a.port =
+        ap (λ ps. option_map_or (noted_of w.core y) (port_at ps k) []) a.ports_are
+        ∙ ap (λ b. option_map_or (noted_of w.core y) (cond b (Some a.port) None) []) q in
+        record {
+          port = f a.port;
+          ports_are = ap (with_port k f) a.ports_are ∙ ap (λ b. changed_if b f a.port ∷ []) q;
+          host = a.host;
+          node = a.node;
+          same = a.same;
+          aside = lone_turn_aside a.port.side y may a.aside;
+          role = lone_turn_kind a.port.side y may ∙ a.role;
+          sound = lone_turn_sound a.port.side y may a.sound;
+          talk = talk_more w es Y (talk_of_side (turn a.port.side y) a.port.session) a.talk
+              (ap (talk_all e number Y) noted ∙ turn_talk e number (own_side w.core) a.port.desk.host own a.port.side a.port.session y may a.sound);
+        }
+    go false q =
+        let noted : es ≡ [] =
+        ap (λ ps. option_map_or (noted_of w.core y) (port_at ps k) []) a.ports_are
+        ∙ ap (λ b. option_map_or (noted_of w.core y) (cond b (Some a.port) None) []) q in
+        record {
+          port = a.port;
+          ports_are = ap (with_port k f) a.ports_are ∙ ap (λ b. changed_if b f a.port ∷ []) q;
+          host = a.host;
+          node = a.node;
+          same = a.same;
+          aside = a.aside;
+          role = a.role;
+          sound = a.sound;
+          talk = talk_more w es Y Y a.talk (ap (talk_all e number Y) noted);
+        }
+
+  -- ## Deeds
+
+  abbrev While : Work → Type 0
+  While w = w.cut ≡ false → Of w
+
+  talks_commit : (c : Command) (w : Work) → While w → While (commit c w)
+  talks_commit c w a = go (fails_within (length (commit_writes w.core.journal w.core.tables (body_of c))) w.plan) where
+    begun : Work
+    begun = noting (entry.Command w.core.node c ∷ []) w
+
+    by : Bool → Work
+    by true = loses_power (commit_writes w.core.journal w.core.tables (body_of c)) begun
+    by false = keeps c (commit_writes w.core.journal w.core.tables (body_of c)) begun
+
+    go : (b : Bool) → While (by b)
+    go true = λ q. absurd (true≢false q)
+    go false = λ q.
+        let b : Of begun = talks_note (entry.Command w.core.node c ∷ []) w ((λ z. refl), tt) (a q) in
+        record {
+          port = b.port;
+          ports_are = b.ports_are;
+          host = b.host;
+          node = b.node;
+          same = b.same;
+          aside = b.aside;
+          role = b.role;
+          sound = b.sound;
+          talk = b.talk;
+        }
+
+  pub talks_does : (k : ℕ) (d : Deed) (w : Work) → IsFine d × IsOwnDeed number d → While w → While (done k d w)
+  talks_does k (Commits c) w may a = talks_commit c w a
+  talks_does k (Sends to m) w may a = λ q. talks_turn to (Give m) w may.0 (a q)
+  talks_does k SaysOk w may a = λ q. talks_note (entry.AnyOk w.core.node _ ∷ []) w ((λ z. refl), tt) (a q)
+  talks_does k (Asks to message c) w may a = absurd may.1
+  talks_does k (Releases asker) w may a = λ q. talks_turn asker Release w tt (a q)
+  talks_does k (Tells to message) w may a = absurd may.1
+  talks_does k IsAnswered w may a = λ q. talks_desk k (λ d. record d { notice = None }) w (λ d. refl) (a q)
+  talks_does k (Drops pid) w may a = λ q. talks_note (entry.Dropped (end_of_node w.core k) pid ∷ []) w ((λ z. refl), tt) (a q)
+  talks_does k (SetsErrors errors) w may a = λ q. talks_desk k (λ d. record d { errors = errors }) w (λ d. refl) (a q)
+  talks_does k (Orders message) w may a = absurd may.1
+  talks_does k Hears w may a = absurd may.1
+  talks_does k (GoesOn i) w may a = absurd may.1
+  talks_does k (Ends y) w may a = absurd may.1
+
+-- ## Spare blocks
+
+pub spare_is : (s : LinkEnd) (k : ℕ) → s.aside ≡ 0 → spare_in_talk (talk_of_side s k) ≡ spare s
+spare_is s k none = ap (λ n. 128 - n) (sym (ap (λ a. in_use s + a) none ∙ omega arith))
+
+-- ## Frames go out
+
+sent_phase : (n : ℕ) (e : EndState) → (after_frames n e).phase ≡ e.phase
+sent_phase zero e = refl
+sent_phase (suc n) e = sent_phase n (fetched e) ∙ fetch_cases (λ f o. f.phase ≡ e.phase) e (λ d ds p. refl) (λ p q. refl) (λ info p q. refl)
+
+pub sent_same : (s : LinkEnd) (k : ℕ) → talk_of_side (sent_all s) k ≡ talk_of_side s k
+sent_same s k =
+    ap (λ p. record { session = cond (is_up p) (Some k) None; sent = s.sent; acked = whole_acked (sent_all s) }) (sent_phase most_frames s.shdlc)
+    ∙ ap (λ n. record { session = cond (is_up s.shdlc.phase) (Some k) None; sent = s.sent; acked = whole_among s.sent n }) (fetched_acked most_frames s.shdlc)

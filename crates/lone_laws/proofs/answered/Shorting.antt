@@ -1,0 +1,198 @@
+-- Behind each step of a node alone that runs on, the first message that came and had no turn lacks room.
+use Rattle.std.proofs.Common.{◌≡◌, ℕ, ◌≤◌, Bool, true, false, cond, eqb, ◌||◌, List, [], ◌∷◌, ◌++◌, map, refl, sym, ap, ap₂, subst, ◌∙◌, append_assoc}
+use Rattle.std.proofs.Common.{append-nil}
+use Rattle.std.specs.Prelude.{Option, Some, None, is_some, is_none, unwrap_or}
+use Rattle.std.specs.List.{AllByRecursion, fold}
+use Rattle.std.specs.Option.{option_map_or, option_and_then}
+use Rattle.std.proofs.lemmas.List.Sums.{fold-append}
+use Rattle.registry.proofs.ValueLemmas.{AllByRecursion-append}
+use Rattle.swp_base.specs.declared.control_frames.Control.{Control}
+use Rattle.swp_lpdu.specs.Controls.{lpdu_of}
+use Rattle.trace_model.specs.declared.entry.Entry.{Entry}
+use Rattle.trace_model.specs.declared.entry.Entry.TheVariants as entry
+use Rattle.trace_model.specs.declared.line.End.{End}
+use Rattle.link_machine.specs.Machine.{Message, LinkInput, oldest}
+use Rattle.node_machine.specs.Parts.{Core, Running, Port, Work}
+use Rattle.node_machine.specs.Carrying.{end_of_node, port_at, needs, lack}
+use Rattle.node_machine.specs.Turns.{deeds_of}
+use Rattle.answer_laws.proofs.answers.Alike.{replies_alike}
+use Rattle.node_order.specs.passes.Passing.{BeginWithTurn, AreAlong, links_of_turns, ComesTo, IsBehind, Stays, waiting_at, is_held_at}
+use Rattle.lone_laws.specs.alone.Lone.{Lone, LoneCause, end_of_node_alone, lone_input, emits_behind, frames_behind, session_with}
+use Rattle.lone_laws.specs.alone.Known.{RecErrors, LoneTalk, core_noted, left_noted, talk_noted, no_session_now, spare_in_talk, side_told, core_since}
+use Rattle.lone_laws.specs.alone.Known.{left_since}
+use Rattle.lone_laws.specs.alone.Known.{is_held_since, talk_since, errors_since, lack_since}
+use Rattle.lone_laws.specs.alone.Answers.{is_left_lacking}
+use Rattle.lone_laws.proofs.answered.Reading.{eqb_same, Read, Alone, left_is}
+use Rattle.lone_laws.proofs.answered.Ordered.{begin_read, begun, ended, was_on, left_so}
+use Rattle.lone_laws.proofs.answered.Errors.{errs_all, errs-append, IsSettled, settled_errs}
+use Rattle.lone_laws.proofs.answered.Replied.{begin_errs, lack_same, host_same, KnowsAll}
+use Rattle.lone_laws.proofs.answered.Answering.{all_at, its_lack}
+use Rattle.lone_laws.proofs.answered.Keeping.{core_of, KeepsAll, all_passing}
+
+-- an entry that changes nothing of what is read of a reply
+abbrev pub IsIdle : End → ℕ → Entry → Type 0
+IsIdle e n x =
+    ((c : Core) → core_noted c x ≡ c) × ((z : LoneTalk) → talk_noted e n z x ≡ z) × IsSettled e x × ((ms : List Message) → left_noted e ms x ≡ ms)
+
+idle_core : (e : End) (n : ℕ) (es : List Entry) → AllByRecursion (IsIdle e n) es → (c : Core) → fold core_noted c es ≡ c
+idle_core e n [] a c = refl
+idle_core e n (x ∷ es) a c = ap (λ d. fold core_noted d es) (a.0.0 c) ∙ idle_core e n es a.1 c
+
+idle_talk : (e : End) (n : ℕ) (es : List Entry) → AllByRecursion (IsIdle e n) es → (z : LoneTalk) → fold (talk_noted e n) z es ≡ z
+idle_talk e n [] a z = refl
+idle_talk e n (x ∷ es) a z = ap (λ d. fold (talk_noted e n) d es) (a.0.1 z) ∙ idle_talk e n es a.1 z
+
+idle_left : (e : End) (n : ℕ) (es : List Entry) → AllByRecursion (IsIdle e n) es → (ms : List Message) → fold (left_noted e) ms es ≡ ms
+idle_left e n [] a ms = refl
+idle_left e n (x ∷ es) a ms = ap (λ d. fold (left_noted e) d es) (a.0.3 ms) ∙ idle_left e n es a.1 ms
+
+idle_settled : (e : End) (n : ℕ) (es : List Entry) → AllByRecursion (IsIdle e n) es → AllByRecursion (IsSettled e) es
+idle_settled e n [] a = tt
+idle_settled e n (x ∷ es) a = (a.0.2, idle_settled e n es a.1)
+
+emits_idle : (e f : End) (n : ℕ) (frames : List Control) → AllByRecursion (IsIdle e n) (map (λ c. entry.Emit f (lpdu_of c)) frames)
+emits_idle e f n [] = tt
+emits_idle e f n (c ∷ frames) = (((λ z. refl), (λ z. refl), (λ z. refl), (λ z. refl)), emits_idle e f n frames)
+
+-- an end as it is read
+abbrev port_of : ℕ → LoneTalk → ℕ → Bool → Port
+port_of h x errors holds = record {
+  desk = record { host = h; notice = None; holds = holds; errors = errors };
+  side = side_told (is_some x.session) (spare_in_talk x);
+  session = unwrap_or x.session 0;
+  late = false;
+  ended = false;
+  turns = [];
+}
+
+-- whether a message is noted as held changes no reply
+deeds_holds : (c : Core) (h : ℕ) (x : LoneTalk) (errors : ℕ) (a b : Bool) (m : Message)
+    → deeds_of c (port_of h x errors a ∷ []) h m ≡ deeds_of c (port_of h x errors b ∷ []) h m
+deeds_holds c h x errors a b m = go (eqb c.node 0) refl where
+  p : Bool → Port
+  p = port_of h x errors
+
+  here : (z : Bool) → port_at (p z ∷ []) h ≡ Some (p z)
+  here z = ap (λ y. cond y (Some (p z)) None) (eqb_same h)
+
+  go : (z : Bool) → eqb c.node 0 ≡ z → deeds_of c (p a ∷ []) h m ≡ deeds_of c (p b ∷ []) h m
+  go true q = rw q (replies_alike c c.journal (λ d. refl) (p a ∷ []) (p b ∷ []) (record { host = refl; up = refl; about = refl; errors = refl }, tt) h m)
+  go false q = rw (q, here a, here b) (host_same c (p a) (p b) m refl refl)
+
+abbrev lacks_of : ℕ → Message → Core → LoneTalk → ℕ → Bool → Option (ℕ × ℕ)
+lacks_of h m c x errors holds = lack (port_of h x errors holds ∷ []) (needs h (deeds_of c (port_of h x errors holds ∷ []) h m))
+
+module _ (F : Core) (h : ℕ) where
+  abbrev e : End
+  e = end_of_node_alone F.node h
+
+  module _ (T X : List Entry) (idle : AllByRecursion (IsIdle e F.node) X) where
+    core_same : core_since F (T ++ X) ≡ core_since F T
+    core_same = fold-append core_noted F T X ∙ idle_core e F.node X idle (core_since F T)
+
+    talk_same : talk_since e F.node (T ++ X) ≡ talk_since e F.node T
+    talk_same = fold-append (talk_noted e F.node) no_session_now T X ∙ idle_talk e F.node X idle (talk_since e F.node T)
+
+    errors_same : errors_since F e (T ++ X) ≡ errors_since F e T
+    errors_same =
+        ap (λ (r : RecErrors). r.errors) (errs-append e (begin_errs F) T X)
+        ∙ settled_errs e X (idle_settled e F.node X idle) (errs_all e (begin_errs F) T)
+
+    pub left_same : left_since e (T ++ X) ≡ left_since e T
+    left_same = fold-append (left_noted e) [] T X ∙ idle_left e F.node X idle (left_since e T)
+
+    pub lack_same_there : (m : Message) → lack_since F h (T ++ X) m ≡ lack_since F h T m
+    lack_same_there m =
+        let c : Core = core_since F T in
+        let x : LoneTalk = talk_since e F.node T in
+        let r : ℕ = errors_since F e T in
+        let a : Bool = is_held_since e (T ++ X) in
+        let b : Bool = is_held_since e T in
+        ap (λ d. lacks_of h m d (talk_since e F.node (T ++ X)) (errors_since F e (T ++ X)) a) core_same
+        ∙ (ap (λ d. lacks_of h m c d (errors_since F e (T ++ X)) a) talk_same
+        ∙ (ap (λ d. lacks_of h m c x d a) errors_same
+        ∙ (ap (λ d. lack (port_of h x r a ∷ []) (needs h d)) (deeds_holds c h x r a b m)
+        ∙ lack_same (port_of h x r a) (port_of h x r b) refl refl (needs h (deeds_of c (port_of h x r b ∷ []) h m)))))
+
+-- nothing comes behind the one end
+none_behind : (back : List Entry) → BeginWithTurn back → AreAlong [] (links_of_turns back) → back ≡ []
+none_behind [] begin along = refl
+none_behind (entry.Turn f pid message ∷ back) begin along = absurd along
+none_behind (entry.Held f need spare ∷ back) begin along = absurd along
+none_behind (_ ∷ back) begin along = absurd (cc begin)
+
+-- ## A step
+
+module _ (rest : Core) (t : List Entry) (l : Lone) (some : 1 ≤ l.link) (most : l.link ≤ 7) (its : eqb l.number 0 ≡ false → l.number ≡ l.link) (n : Running)
+    (k : KeepsAll rest t l n) (c : LoneCause) (i : LinkInput) (comes : lone_input c ≡ Some i) where
+  abbrev s : ℕ
+  s = session_with l i
+
+  abbrev G : Core
+  G = core_of rest l.number
+
+  abbrev f : End
+  f = end_of_node_alone l.number l.link
+
+  abbrev passing : Work
+  passing = begun G t l some most n k.keep c i comes
+
+  abbrev last : Work
+  last = ended G t l some most n k.keep c i comes
+
+  abbrev emits : List Entry
+  emits = emits_behind l last
+
+  held_idle : (b : Bool) (x : End) (short : ℕ × ℕ) → AllByRecursion (IsIdle f l.number) (cond b [] (entry.Held x short.0 short.1 ∷ []))
+  held_idle true x short = tt
+  held_idle false x short = (((λ z. refl), (λ z. refl), (λ z. refl), (λ z. refl)), tt)
+
+  pub short_behind : last.cut ≡ false → is_left_lacking G l.link (t ++ (last.entries ++ emits)) ≡ true
+  short_behind still =
+      let b : IsBehind (ComesTo passing) passing last [] l.link [] = left_so G t l some most n k.keep c i comes still in
+      let on : passing.cut ≡ false = was_on G t l some most n k.keep c i comes still in
+      let K : KnowsAll rest l.number l.link some most s t b.work =
+      all_at rest l.number l.link some most s t its passing b.work (all_passing rest t l some most its n k c i comes on) b.keeps in
+      let T : List Entry = t ++ b.work.entries in
+      let own : List Entry = b.own ++ emits in
+      let is : t ++ (last.entries ++ emits) ≡ T ++ own =
+      ap (λ es. t ++ (es ++ emits)) (b.all ∙ (ap (λ es. (passing.entries ++ b.front) ++ (b.own ++ es)) (none_behind b.back b.next b.behind)
+      ∙ ap₂ (λ x y. x ++ y) (sym b.entries) (append-nil b.own)))
+      ∙ (ap (λ es. t ++ es) (append_assoc b.work.entries b.own emits) ∙ sym (append_assoc t b.work.entries own)) in
+      ap (is_left_lacking G l.link) is ∙ go b.work K b.on b.own (waiting_at b.work.ports l.link) refl b.stays where
+        got : (w : Work) (K : KnowsAll rest l.number l.link some most s t w) → left_since f (t ++ w.entries) ≡ waiting_at w.ports l.link
+        got w K =
+            let a : Alone l.number l.link (begin_read G) t w = K.known.keeps in
+            sym (left_is f (t ++ w.entries) (begin_read G)) ∙ (ap (λ (z : Read). z.left) a.read
+            ∙ sym (ap (λ ps. waiting_at ps l.link) a.ports_are
+            ∙ ap (λ z. option_map_or (λ (p : Port). p.side.got) (cond z (Some a.port) None) []) (ap (λ x. eqb x l.link) a.host ∙ eqb_same l.link)))
+
+        by : (T own : List Entry) (ms : List Message) → AllByRecursion (IsIdle f l.number) own → left_since f T ≡ ms
+            → ((m : Message) (messages : List Message) → ms ≡ m ∷ messages → is_some (lack_since G l.link T m) ≡ true)
+            → is_left_lacking G l.link (T ++ own) ≡ true
+        by T own [] idle left lacks = ap
+            (λ z. is_none (oldest z) || is_some (option_and_then (lack_since G l.link (T ++ own)) (oldest z))) (left_same G l.link T own idle ∙ left)
+        by T own (m ∷ messages) idle left lacks =
+            ap (λ z. is_none (oldest z) || is_some (option_and_then (lack_since G l.link (T ++ own)) (oldest z))) (left_same G l.link T own idle ∙ left)
+            ∙ (ap is_some (lack_same_there G l.link T own idle m) ∙ lacks m messages refl)
+
+        go : (w : Work) (K : KnowsAll rest l.number l.link some most s t w) → w.cut ≡ false → (own : List Entry) (ms : List Message)
+            → waiting_at w.ports l.link ≡ ms
+            → Stays w last l.link own (waiting_at w.ports l.link) → is_left_lacking G l.link ((t ++ w.entries) ++ (own ++ emits)) ≡ true
+        go w K on own [] q stays =
+            let none : own ≡ [] = subst (Stays w last l.link own) q stays in
+            by (t ++ w.entries) (own ++ emits) []
+            (AllByRecursion-append (IsIdle f l.number) own emits (subst (AllByRecursion (IsIdle f l.number)) (sym none) tt) (emits_idle f f l.number
+            (frames_behind l last)))
+            (got w K ∙ q) (λ m messages z. absurd (cc z))
+        go w K on own (m ∷ messages) q stays =
+            let so = subst (Stays w last l.link own) q stays in
+            by (t ++ w.entries) (own ++ emits) (m ∷ messages)
+            (AllByRecursion-append (IsIdle f l.number) own emits
+            (subst (AllByRecursion (IsIdle f l.number)) (sym so.3) (held_idle (is_held_at w.ports l.link) (end_of_node w.core l.link) so.0))
+            (emits_idle f f l.number (frames_behind l last)))
+            (got w K ∙ q)
+            (λ m2 others z.
+            let same : m ≡ m2 = cc in
+            subst (λ x. is_some (lack_since G l.link (t ++ w.entries) x) ≡ true) same
+            (ap is_some (its_lack rest l.number l.link some most s t its w K on l.link m messages q ∙ so.1)))

@@ -1,0 +1,102 @@
+-- A node with one link keeps over each event what is read.
+use Rattle.std.proofs.Common.{◌≡◌, ℕ, ◌≤◌, Bool, true, false, List, [], ◌∷◌, refl, sym, subst, ◌∙◌, append-nil}
+use Rattle.std.specs.Prelude.{Option, Some, None, Result, Ok, Err}
+use Rattle.std.specs.List.{AllByRecursion, flat_map}
+use Rattle.std.proofs.lemmas.Bool.{true≢false, cond_both, and_from, le-leb}
+use Rattle.swp_base.specs.declared.control_frames.Control.{Control}
+use Rattle.swp_lpdu.specs.declared.LpduFault.{LpduFault}
+use Rattle.swp_lpdu.specs.Controls.{control_of}
+use Rattle.trace_model.specs.declared.entry.Entry.{Entry}
+use Rattle.trace_model.specs.declared.line.End.{End}
+use Rattle.hci_tables.specs.declared.command.Command.TheVariants.{Sync}
+use Rattle.hci_tables.specs.Commands.{IsCommand}
+use Rattle.link_machine.specs.Machine.{LinkInput, lpdu_input, report}
+use Rattle.node_machine.specs.Parts.{Core, Port, Work}
+use Rattle.node_machine.specs.Parts.Deed.{Commits}
+use Rattle.node_machine.specs.Carrying.{unless_cut, all_done}
+use Rattle.node_machine.specs.Turns.{passes}
+use Rattle.node_machine.specs.Node.{NodeInput, input_at, synced, steps, all_come}
+use Rattle.node_laws.proofs.steps.StepWalks.{all_do}
+use Rattle.node_order.specs.passes.Passing.{ComesTo, ArePassed}
+use Rattle.node_order.specs.passes.Passing.ComesTo.{Begins}
+use Rattle.node_order.specs.passes.Steps.{syncs_in, comes_to_pass}
+use Rattle.node_order.proofs.passes.Passing.{through, comes_lasts}
+use Rattle.node_order.proofs.passes.Before.{steps_are}
+use Rattle.node_laws.specs.kept.Books.{hosts_of_ends}
+use Rattle.lone_laws.specs.alone.Lone.{LoneCause, end_of_node_alone, lone_input, node_input}
+use Rattle.lone_laws.specs.alone.Lone.LoneCause.{FrameComes, FrameIsRefused, TickComes, ResetComes, StartComes, StopComes}
+use Rattle.lone_laws.proofs.answered.Own.{IsOwnDeed}
+use Rattle.lone_laws.proofs.answered.Reading.{Read, Alone, alone_does}
+use Rattle.lone_laws.proofs.answered.Turning.{alone_at}
+use Rattle.lone_laws.proofs.answered.Coming.{IsLoneInput, alone_comes, pass_is}
+
+-- ## What comes
+
+pub lone_lpdu : (bytes : List ℕ) → IsLoneInput (lpdu_input bytes)
+lone_lpdu bytes = go (control_of bytes) refl where
+  go : (x : Result Control LpduFault) → control_of bytes ≡ x → IsLoneInput (lpdu_input bytes)
+  go (Ok c) q = rw q tt
+  go (Err fault) q = rw q tt
+
+pub lone_comes : (c : LoneCause) (i : LinkInput) → lone_input c ≡ Some i → IsLoneInput i
+lone_comes (FrameComes bytes) i q = let is : lpdu_input bytes ≡ i = cc in subst IsLoneInput is (lone_lpdu bytes)
+lone_comes (FrameIsRefused fault) i q = absurd (cc q)
+lone_comes TickComes i q = let is : Rattle.link_machine.specs.Machine.LinkInput.Tick ≡ i = cc in subst IsLoneInput is tt
+lone_comes (ResetComes window) i q = let is : Rattle.link_machine.specs.Machine.LinkInput.Reset window ≡ i = cc in subst IsLoneInput is tt
+lone_comes (StartComes value) i q = let is : Rattle.link_machine.specs.Machine.LinkInput.Start value ≡ i = cc in subst IsLoneInput is tt
+lone_comes StopComes i q = let is : Rattle.link_machine.specs.Machine.LinkInput.Stop ≡ i = cc in subst IsLoneInput is tt
+
+-- ## A step
+
+module _ (number h : ℕ) (some : 1 ≤ h) (most : h ≤ 7) (r : Read) (t : List Entry) where
+  abbrev e : End
+  e = end_of_node_alone number h
+
+  abbrev Of : Work → Type 0
+  Of w = Alone number h r t w
+
+  abbrev While : Work → Type 0
+  While w = w.cut ≡ false → Of w
+
+  sync_may : (k id : ℕ) → k ≡ h → IsCommand (Sync k id)
+  sync_may k id q = subst (λ n. IsCommand (Sync n id)) (sym q) (and_from _ _ (le-leb 1 h some) (le-leb h 7 most))
+
+  sync_own : (core : Core) (input : NodeInput) (p : Port) → p.desk.host ≡ h → AllByRecursion (IsOwnDeed number) (synced core input p)
+  sync_own core input p host = go (input_at input p) refl where
+    go : (o : Option LinkInput) → input_at input p ≡ o → AllByRecursion (IsOwnDeed number) (synced core input p)
+    go None q = rw q tt
+    go (Some i) q = by (report p.side i).sync refl where
+      by : (o : Option ℕ) → (report p.side i).sync ≡ o → AllByRecursion (IsOwnDeed number) (synced core input p)
+      by None e = rw (q, e) tt
+      by (Some id) e =
+          rw (q, e) (cond_both _ (Commits (Sync p.desk.host id) ∷ []) [] (AllByRecursion (IsOwnDeed number))
+          (λ _. ((λ zero. sync_may p.desk.host id host), tt)) (λ _. tt))
+
+  pub syncs_own : (i : LinkInput) (w : Work) (a : Of w) → AllByRecursion (IsOwnDeed number) (syncs_in (node_input h i) w)
+  syncs_own i w a =
+      subst (λ ps. AllByRecursion (IsOwnDeed number) (flat_map (synced w.core (node_input h i)) ps)) (sym a.ports_are)
+      (subst (AllByRecursion (IsOwnDeed number)) (sym (append-nil (synced w.core (node_input h i) a.port)))
+      (sync_own w.core (node_input h i) a.port a.host))
+
+  pub alone_begins : (i : LinkInput) → IsLoneInput i → (w : Work) → Of w → While (comes_to_pass (node_input h i) w)
+  alone_begins i may w a still =
+      let input : NodeInput = node_input h i in
+      let is : comes_to_pass input w ≡ all_done 0 (syncs_in input w) (all_come input w) = pass_is number h r t i may w a in
+      subst Of (sym is)
+      (all_do While (IsOwnDeed number) (alone_does number h r t) 0 (syncs_in input w) (all_come input w) (syncs_own i w a)
+      (λ _. alone_comes number h r t i may w a) (subst (λ v. v.cut ≡ false) is still))
+
+  -- its pass
+  pub passed : (v : Work) → v.cut ≡ false → ArePassed (ComesTo v) (hosts_of_ends v.ports) v (passes v)
+  passed v on = through (ComesTo v) (comes_lasts v) (hosts_of_ends v.ports) v Begins on
+
+  pub alone_steps : (i : LinkInput) → IsLoneInput i → (w : Work) → Of w → While (steps (node_input h i) w)
+  alone_steps i may w a =
+      let v : Work = comes_to_pass (node_input h i) w in
+      subst While (sym (steps_are (node_input h i) w)) (go v.cut refl) where
+        v : Work
+        v = comes_to_pass (node_input h i) w
+
+        go : (b : Bool) → v.cut ≡ b → While (unless_cut passes v)
+        go true q = rw q (λ still. absurd (true≢false (sym q ∙ still)))
+        go false q = rw q (λ still. alone_at number h some most r t v (passes v) (alone_begins i may w a q) ((passed v q).keeps still))

@@ -1,0 +1,264 @@
+-- The session of an end, the messages sent in it and how many of them are acknowledged are what is read, over what comes to it.
+use Rattle.std.proofs.Common.{◌≡◌, ℕ, ◌≤◌, ◌-◌, Bool, true, false, cond, List, [], ◌∷◌, ◌++◌, map, refl, sym, ap, ap₂, subst, ◌∙◌, arith}
+use Rattle.std.specs.Prelude.{nat_lt, Option, Some, None, is_some, option_to_list}
+use Rattle.std.specs.List.{fold}
+use Rattle.std.proofs.lemmas.Bool.{cond_both, ltb-false}
+use Rattle.std.proofs.lemmas.List.Sums.{fold-append}
+use Rattle.std.proofs.lemmas.List.Concat.{flat_map-append}
+use Rattle.swp_base.specs.declared.control_frames.Control.{Control}
+use Rattle.swp_base.specs.declared.control_frames.Control.TheVariants.{I, S, Rset, Ua, Act as ActFrame, Clt}
+use Rattle.swp_base.specs.declared.control_frames.Act.{Act}
+use Rattle.swp_base.specs.declared.link_terms.Cause.{Cause as EndedBy}
+use Rattle.swp_act.specs.declared.ActEvent.{ActEvent}
+use Rattle.swp_act.specs.declared.ActEvent.TheVariants.{Start as ActStart, Take as ActTake, Tick as ActTick, Stop as ActStop}
+use Rattle.trace_model.specs.declared.entry.Entry.{Entry}
+use Rattle.trace_model.specs.declared.line.End.{End}
+use Rattle.shdlc_core.specs.declared.answers.LinkState.{LinkState}
+use Rattle.shdlc_core.specs.declared.answers.LinkState.TheVariants.{Down as IsDown, Waiting as IsWaitingNow, Up as IsUpNow}
+use Rattle.shdlc_core.specs.Machine.{EndState, taken, take_answer, ticked, tick_answer, stopped, reset_with}
+use Rattle.link_laws.specs.sessions.Sessions.{is_up}
+use Rattle.link_machine.specs.Machine.{Message, LinkEnd, LinkInput, Refused, Report, is_open, is_faulty, moved, put_down, with_act, activated, act_answer}
+use Rattle.link_machine.specs.Machine.{role_after, heard, news}
+use Rattle.link_machine.specs.Machine.{reset_by, window_of, reset_refusal, unless, after_input, ended_by, began_by, got_by, report}
+use Rattle.link_machine.specs.Machine.{whole_among, whole_acked}
+use Rattle.link_machine.specs.Machine.LinkInput.{Take, TakeUnknown, TakeBroken, Tick, Reset, Start, Stop, FromNode, Fetch}
+use Rattle.link_machine.proofs.Shifts.{Shift, IsNotUp}
+use Rattle.link_machine.proofs.Shifts.Shift.{Stays, Ends, Renews, Begins, Rests}
+use Rattle.link_machine.proofs.Sound.{Data, SentAfter, whole_more}
+use Rattle.link_machine.proofs.Runs.{Sound}
+use Rattle.link_machine.proofs.Reports.{Becomes, take_so, tick_so, reset_so, start_so, stop_so}
+use Rattle.link_entries.specs.entries.Entries.{End as Side, Entry as Noted, told, if_so}
+use Rattle.link_entries.specs.entries.Entries.Entry.{Up, Down, Active, GaveUp, Acked, Got}
+use Rattle.history.specs.Filters.{same_end}
+use Rattle.history.specs.Steps.{end_of, entry_of, entries_for}
+use Rattle.lone_laws.specs.alone.Known.{LoneTalk, no_session_now, talk_noted}
+use Rattle.lone_laws.proofs.answered.Coming.{IsLoneInput}
+
+-- ## What is read
+
+abbrev pub talk_all : End → ℕ → LoneTalk → List Entry → LoneTalk
+talk_all e n x t = fold (talk_noted e n) x t
+
+pub talk-append : (e : End) (n : ℕ) (x : LoneTalk) (t u : List Entry) → talk_all e n x (t ++ u) ≡ talk_all e n (talk_all e n x t) u
+talk-append e n x t u = fold-append (talk_noted e n) x t u
+
+-- what an end has, whose session has this number
+abbrev pub talk_of_side : LinkEnd → ℕ → LoneTalk
+talk_of_side s m = record { session = cond (is_up s.shdlc.phase) (Some m) None; sent = s.sent; acked = whole_acked s }
+
+-- ## What is told
+
+abbrev ended_if : Bool → LoneTalk → LoneTalk
+ended_if b x = cond b no_session_now x
+
+abbrev began_if : Bool → ℕ → LoneTalk → LoneTalk
+began_if b k x = cond b (record { session = Some k; sent = []; acked = 0 }) x
+
+abbrev acked_if : Bool → ℕ → LoneTalk → LoneTalk
+acked_if b count x = cond b (record x { acked = count }) x
+
+module _ (e : End) (n h : ℕ) (who : Side) (own : same_end (end_of h who) e ≡ true) where
+  notes_talk : (xs ys : List Noted) (x : LoneTalk)
+      → talk_all e n x (entries_for h (xs ++ ys)) ≡ talk_all e n (talk_all e n x (entries_for h xs)) (entries_for h ys)
+  notes_talk xs ys x = ap (talk_all e n x) (flat_map-append (entry_of h) xs ys) ∙ talk-append e n x (entries_for h xs) (entries_for h ys)
+
+  down_talk : (o : Option EndedBy) (x : LoneTalk) → talk_all e n x (entries_for h (map (Down who) (option_to_list o))) ≡ ended_if (is_some o) x
+  down_talk None x = refl
+  down_talk (Some cause) x = ap (λ b. cond b no_session_now x) own
+
+  up_talk : (b : Bool) (k : ℕ) (x : LoneTalk) → talk_all e n x (entries_for h (if_so b (Up who k))) ≡ began_if b k x
+  up_talk true k x = ap (λ b. cond b (record { session = Some k; sent = []; acked = 0 }) x) own
+  up_talk false k x = refl
+
+  active_talk : (b : Bool) (x : LoneTalk) → talk_all e n x (entries_for h (if_so b (Active who))) ≡ x
+  active_talk true x = refl
+  active_talk false x = refl
+
+  tries_talk : (o : Option ℕ) (x : LoneTalk) → talk_all e n x (entries_for h (map (GaveUp who) (option_to_list o))) ≡ x
+  tries_talk None x = refl
+  tries_talk (Some k) x = refl
+
+  acked_talk : (b : Bool) (k count : ℕ) (x : LoneTalk) → talk_all e n x (entries_for h (if_so b (Acked who k count))) ≡ acked_if b count x
+  acked_talk true k count x = ap (λ b. cond b (record x { acked = count }) x) own
+  acked_talk false k count x = refl
+
+  got_talk : (k : ℕ) (ms : List Message) (x : LoneTalk) → talk_all e n x (entries_for h (map (Got who k) ms)) ≡ x
+  got_talk k [] x = refl
+  got_talk k (m ∷ ms) x = got_talk k ms x
+
+  pub told_talk : (k acked : ℕ) (rep : Report) (x : LoneTalk)
+      → talk_all e n x (entries_for h (told who k rep acked)) ≡ acked_if (nat_lt 0 rep.acked) acked (began_if rep.began k (ended_if (is_some rep.ended) x))
+  told_talk k acked rep x =
+      let six : List Noted = map (Got who k) rep.got in
+      let five : List Noted = if_so (nat_lt 0 rep.acked) (Acked who k acked) in
+      let four : List Noted = map (GaveUp who) (option_to_list rep.gave_up) in
+      let three : List Noted = if_so rep.became_active (Active who) in
+      let two : List Noted = if_so rep.began (Up who k) in
+      let x1 : LoneTalk = ended_if (is_some rep.ended) x in
+      let x2 : LoneTalk = began_if rep.began k x1 in
+      notes_talk (map (Down who) (option_to_list rep.ended)) (two ++ (three ++ (four ++ (five ++ six)))) x
+      ∙ (ap (λ z. talk_all e n z (entries_for h (two ++ (three ++ (four ++ (five ++ six)))))) (down_talk rep.ended x)
+      ∙ (notes_talk two (three ++ (four ++ (five ++ six))) x1
+      ∙ (ap (λ z. talk_all e n z (entries_for h (three ++ (four ++ (five ++ six))))) (up_talk rep.began k x1)
+      ∙ (notes_talk three (four ++ (five ++ six)) x2
+      ∙ (ap (λ z. talk_all e n z (entries_for h (four ++ (five ++ six)))) (active_talk rep.became_active x2)
+      ∙ (notes_talk four (five ++ six) x2
+      ∙ (ap (λ z. talk_all e n z (entries_for h (five ++ six))) (tries_talk rep.gave_up x2)
+      ∙ (notes_talk five six x2
+      ∙ (ap (λ z. talk_all e n z (entries_for h six)) (acked_talk (nat_lt 0 rep.acked) k acked x2)
+      ∙ got_talk k rep.got (acked_if (nat_lt 0 rep.acked) acked x2))))))))))
+
+-- ## What an input does
+
+same_acked : (b : Bool) (count : ℕ) (x : LoneTalk) → count ≡ x.acked → acked_if b count x ≡ x
+same_acked true count x q = ap (λ c. record x { acked = c }) q
+same_acked false count x q = refl
+
+grown_acked : (a c : ℕ) (x : LoneTalk) → x.acked ≡ a → a ≤ c → acked_if (nat_lt 0 (c - a)) c x ≡ record x { acked = c }
+grown_acked a c x q low = go (nat_lt 0 (c - a)) refl where
+  go : (b : Bool) → nat_lt 0 (c - a) ≡ b → acked_if b c x ≡ record x { acked = c }
+  go true z = refl
+  go false z = let less = ltb-false 0 (c - a) z in let same : a ≡ c = omega (arith, less, low) in ap (λ k. record x { acked = k }) (q ∙ same)
+
+not_up : (p : LinkState) → (p ≡ IsUpNow → ⊥) → is_up p ≡ false
+not_up IsUpNow f = absurd (f refl)
+not_up IsWaitingNow f = refl
+not_up IsDown f = refl
+
+none_whole : (s : LinkEnd) → s.sent ≡ [] → whole_acked s ≡ 0
+none_whole s q = rw q refl
+
+-- an end without a session
+silent_side : (s : LinkEnd) (m : ℕ) → IsNotUp s.shdlc → s.sent ≡ [] → talk_of_side s m ≡ no_session_now
+silent_side s m off none =
+    ap (λ b. record { session = cond b (Some m) None; sent = s.sent; acked = whole_acked s }) (not_up s.shdlc.phase off)
+    ∙ (ap (λ ms. record { session = None; sent = ms; acked = whole_acked s }) none
+    ∙ ap (λ k. record { session = None; sent = []; acked = k }) (none_whole s none))
+
+new_side : (s : LinkEnd) (m : ℕ) → s.shdlc.phase ≡ IsUpNow → s.sent ≡ [] → talk_of_side s m ≡ record { session = Some m; sent = []; acked = 0 }
+new_side s m up none =
+    ap (λ p. record { session = cond (is_up p) (Some m) None; sent = s.sent; acked = whole_acked s }) up
+    ∙ (ap (λ ms. record { session = Some m; sent = ms; acked = whole_acked s }) none
+    ∙ ap (λ k. record { session = Some m; sent = []; acked = k }) (none_whole s none))
+
+module _ (e f : LinkEnd) (ended began : Bool) (k m : ℕ) (d : Data e) (number : began ≡ false → k ≡ m) where
+  abbrev acked_more : Bool
+  acked_more = nat_lt 0 (whole_acked f - whole_acked e)
+
+  sent_still : ended ≡ false → SentAfter ended e f → f.sent ≡ e.sent
+  sent_still q s = subst (λ b. SentAfter b e f) q s
+
+  sent_gone : ended ≡ true → SentAfter ended e f → f.sent ≡ []
+  sent_gone q s = subst (λ b. SentAfter b e f) q s
+
+  shift_talk : (ms : List Message) → Becomes e f ended began ms
+      → acked_if acked_more (whole_acked f) (began_if began k (ended_if ended (talk_of_side e m))) ≡ talk_of_side f k
+  shift_talk ms b = go b.shift where
+    goes : ended ≡ false → began ≡ false → began_if began k (ended_if ended (talk_of_side e m)) ≡ talk_of_side e m
+    goes p q = ap₂ (λ x y. began_if y k (ended_if x (talk_of_side e m))) p q
+
+    go : Shift e.shdlc f.shdlc ended began
+        → acked_if acked_more (whole_acked f) (began_if began k (ended_if ended (talk_of_side e m))) ≡ talk_of_side f k
+    go (Stays p q g) =
+        let sent : f.sent ≡ e.sent = sent_still p b.sent in
+        let w : whole_acked f ≡ whole_among e.sent f.shdlc.session.acked = ap (λ xs. whole_among xs f.shdlc.session.acked) sent in
+        let z = whole_more e.sent e.shdlc.session.acked f.shdlc.session.acked g.low in
+        let low : whole_acked e ≤ whole_acked f = omega (arith, z, w) in
+        ap (acked_if acked_more (whole_acked f)) (goes p q)
+        ∙ (grown_acked (whole_acked e) (whole_acked f) (talk_of_side e m) refl low
+        ∙ (ap (λ s. record { session = cond (is_up s) (Some m) None; sent = e.sent; acked = whole_acked f }) (g.was ∙ sym g.is)
+        ∙ (ap (λ x. record { session = cond (is_up f.shdlc.phase) (Some x) None; sent = e.sent; acked = whole_acked f }) (sym (number q))
+        ∙ ap (λ xs. record { session = cond (is_up f.shdlc.phase) (Some k) None; sent = xs; acked = whole_acked f }) (sym sent))))
+    go (Ends p q up still s) =
+        let none : f.sent ≡ [] = sent_gone p b.sent in
+        ap₂ (λ x y. acked_if acked_more (whole_acked f) (began_if y k (ended_if x (talk_of_side e m)))) p q
+        ∙ (same_acked acked_more (whole_acked f) no_session_now (none_whole f none) ∙ sym (silent_side f k still none))
+    go (Renews p q up new) =
+        let none : f.sent ≡ [] = sent_gone p b.sent in
+        ap₂ (λ x y. acked_if acked_more (whole_acked f) (began_if y k (ended_if x (talk_of_side e m)))) p q
+        ∙ (same_acked acked_more (whole_acked f) (record { session = Some k; sent = []; acked = 0 }) (none_whole f none) ∙ sym (new_side f k new.is none))
+    go (Begins p q off new) =
+        let none : f.sent ≡ [] = sent_still p b.sent ∙ d.forgot off in
+        ap₂ (λ x y. acked_if acked_more (whole_acked f) (began_if y k (ended_if x (talk_of_side e m)))) p q
+        ∙ (same_acked acked_more (whole_acked f) (record { session = Some k; sent = []; acked = 0 }) (none_whole f none) ∙ sym (new_side f k new.is none))
+    go (Rests p q off still s) =
+        let none : f.sent ≡ [] = sent_still p b.sent ∙ d.forgot off in
+        ap (acked_if acked_more (whole_acked f)) (goes p q ∙ silent_side e m off (d.forgot off))
+        ∙ (same_acked acked_more (whole_acked f) no_session_now (none_whole f none) ∙ sym (silent_side f k still none))
+
+-- Whatever comes to the end of a node alone, what is told of it says what the end has then.
+pub input_talk : (s : LinkEnd) (i : LinkInput) → IsLoneInput i → Sound s → (k m : ℕ) → (began_by s i ≡ false → k ≡ m)
+    → acked_if (nat_lt 0 (report s i).acked) (whole_acked (after_input s i)) (began_if (report s i).began k (ended_if (is_some (report s i).ended)
+    (talk_of_side s m)))
+    ≡ talk_of_side (after_input s i) k
+input_talk s (Take c) may sound k m number =
+    shift_talk s (after_input s (Take c)) (is_some (ended_by s (Take c))) (began_by s (Take c)) k m sound.is number (got_by s (Take c)) (take_so s c sound)
+input_talk s TakeUnknown may sound k m number =
+    same_acked (nat_lt 0 (whole_acked s - whole_acked s)) (whole_acked s) (talk_of_side s m) refl
+    ∙ ap (λ x. record { session = cond (is_up s.shdlc.phase) (Some x) None; sent = s.sent; acked = whole_acked s }) (sym (number refl))
+input_talk s Tick may sound k m number =
+    shift_talk s (after_input s Tick) (is_some (ended_by s Tick)) false k m sound.is (λ q. number refl) (got_by s Tick) (tick_so s sound)
+input_talk s (Reset window) may sound k m number =
+    shift_talk s (after_input s (Reset window)) (is_some (ended_by s (Reset window))) false k m sound.is (λ q. number refl) (got_by s (Reset window))
+    (reset_so s window sound)
+input_talk s (Start value) may sound k m number =
+    shift_talk s (after_input s (Start value)) (is_some (ended_by s (Start value))) false k m sound.is (λ q. number refl) (got_by s (Start value))
+    (start_so s value sound)
+input_talk s Stop may sound k m number =
+    shift_talk s (after_input s Stop) (is_some (ended_by s Stop)) false k m sound.is (λ q. number refl) (got_by s Stop) (stop_so s sound)
+input_talk s (TakeBroken fault) may sound k m number = absurd may
+input_talk s (FromNode x) may sound k m number = absurd may
+input_talk s Fetch may sound k m number = absurd may
+
+-- ## Blocks set aside
+
+act_aside : (o : Option Act) (e : LinkEnd) → (with_act o e).aside ≡ e.aside
+act_aside None e = refl
+act_aside (Some act) e = refl
+
+moved_aside : (e : LinkEnd) (b : Bool) (s : EndState) → (moved e b s).aside ≡ e.aside
+moved_aside e true s = refl
+moved_aside e false s = refl
+
+down_aside : (b : Bool) (e : LinkEnd) → (put_down b e).aside ≡ e.aside
+down_aside false e = refl
+down_aside true e = go e.shdlc.phase refl where
+  go : (p : LinkState) → e.shdlc.phase ≡ p → (put_down true e).aside ≡ e.aside
+  go IsUpNow q = rw q refl
+  go IsWaitingNow q = rw q refl
+  go IsDown q = rw q refl
+
+activated_aside : (e : LinkEnd) (event : ActEvent) → (activated e event).aside ≡ e.aside
+activated_aside e event =
+    act_aside (act_answer e.role event).send (record (put_down (act_answer e.role event).ended_link e) { role = role_after e.role event })
+    ∙ down_aside (act_answer e.role event).ended_link e
+
+heard_aside : (e : LinkEnd) (c : Control) → (heard e c).aside ≡ e.aside
+heard_aside e c =
+    cond_both (is_faulty (taken e.shdlc c).session) (put_down true e)
+    (let f : LinkEnd = moved e (is_some (take_answer e.shdlc c).ended) (taken e.shdlc c) in record f { got = e.got ++ news e.shdlc.session (taken e.shdlc c) })
+    (λ f. f.aside ≡ e.aside) (λ _. down_aside true e) (λ _. moved_aside e (is_some (take_answer e.shdlc c).ended) (taken e.shdlc c))
+
+open_aside : (e : LinkEnd) (c : Control) → (cond (is_open e.role) (heard e c) e).aside ≡ e.aside
+open_aside e c = cond_both (is_open e.role) (heard e c) e (λ f. f.aside ≡ e.aside) (λ _. heard_aside e c) (λ _. refl)
+
+pub input_aside : (e : LinkEnd) (i : LinkInput) → IsLoneInput i → (after_input e i).aside ≡ e.aside
+input_aside e (Take (I ns nr info)) a = open_aside e (I ns nr info)
+input_aside e (Take (S kind nr)) a = open_aside e (S kind nr)
+input_aside e (Take (Rset window caps)) a = open_aside e (Rset window caps)
+input_aside e (Take Ua) a = open_aside e Ua
+input_aside e (Take (ActFrame act again)) a = activated_aside e (ActTake act again)
+input_aside e (Take Clt) a = refl
+input_aside e TakeUnknown a = refl
+input_aside e Tick a =
+    cond_both (is_open e.role) (moved e (is_some (tick_answer e.shdlc).ended) (ticked e.shdlc)) (activated e ActTick) (λ f. f.aside ≡ e.aside)
+    (λ _. moved_aside e (is_some (tick_answer e.shdlc).ended) (ticked e.shdlc)) (λ _. activated_aside e ActTick)
+input_aside e (Reset window) a = by (reset_refusal e) where
+  by : (o : Option Refused) → (unless o e (reset_by e (window_of e window))).aside ≡ e.aside
+  by None = moved_aside e _ (reset_with e.shdlc (window_of e window))
+  by (Some why) = refl
+input_aside e (Start value) a = activated_aside (moved e true (stopped e.shdlc)) (ActStart value)
+input_aside e Stop a = activated_aside (moved e true (stopped e.shdlc)) ActStop
+input_aside e (TakeBroken fault) a = absurd a
+input_aside e (FromNode x) a = absurd a
+input_aside e Fetch a = absurd a

@@ -1,0 +1,166 @@
+-- What a node with one link keeps is read over each turn of its pass.
+use Rattle.std.proofs.Common.{◌≡◌, ℕ, ◌≤◌, Bool, true, false, cond, eqb, ◌&&◌, List, [], ◌∷◌, ◌++◌, refl, sym, ap, subst, ◌∙◌}
+use Rattle.std.specs.Prelude.{Some, None, drop}
+use Rattle.std.specs.Option.{option_map_or}
+use Rattle.std.proofs.lemmas.Bool.{eqb-true}
+use Rattle.trace_model.specs.declared.entry.Entry.{Entry}
+use Rattle.trace_model.specs.declared.entry.Entry.TheVariants as entry
+use Rattle.trace_model.specs.declared.line.End.{End}
+use Rattle.hci_tables.specs.Tables.{AreTables}
+use Rattle.tables_laws.specs.Changes.{JoinTwo}
+use Rattle.link_machine.specs.Machine.{Message}
+use Rattle.link_machine.specs.Machine.Turn.{Hold, FetchMessage}
+use Rattle.history.specs.Filters.{same_end, same_side}
+use Rattle.node_machine.specs.Parts.{Core, Port, Work}
+use Rattle.node_machine.specs.Carrying.{end_of_node, noting, port_at, changed_if, with_port, with_desk, after_turn, turn_at}
+use Rattle.node_machine.specs.Turns.{deeds_of, handles, holds_back}
+use Rattle.node_laws.proofs.steps.StepWalks.{all_do, lets}
+use Rattle.node_order.specs.passes.Passing.{waiting_at, takes_up, LastsOverTurns, ComesTo}
+use Rattle.node_order.proofs.passes.Passing.{comes_so, takes_entries}
+use Rattle.lone_laws.specs.alone.Lone.{end_of_node_alone}
+use Rattle.lone_laws.proofs.answered.Own.{IsOwnDeed, AreOwnDeeds, controller_own, host_own}
+use Rattle.lone_laws.proofs.answered.Reading.{eqb_same, Read, read_all, reads_of, Alone, read_more, alone_turn}
+use Rattle.lone_laws.proofs.answered.Reading.{alone_does}
+
+-- ## Its end
+
+side_self : (b : Bool) → same_side b b ≡ true
+side_self true = refl
+side_self false = refl
+
+pub same_self : (e : End) → same_end e e ≡ true
+same_self e = ap (λ b. b && same_side e.at_host e.at_host) (eqb_same e.link) ∙ side_self e.at_host
+
+-- the end of a node with this number
+pub own_end : (core : Core) (number h k : ℕ) → core.node ≡ number → k ≡ h → end_of_node core k ≡ end_of_node_alone number h
+own_end core number h k node q = ap (λ z. end_of_node core z) q ∙ (go (eqb core.node 0) refl ∙ ap (λ n. end_of_node_alone n h) node) where
+  go : (b : Bool) → eqb core.node 0 ≡ b → end_of_node core h ≡ end_of_node_alone core.node h
+  go true z = rw z refl
+  go false z = rw z refl
+
+-- where messages wait, it is at the one end
+pub record IsHere (p : Port) (k : ℕ) (m : Message) (messages : List Message) : Type 0 where
+  pub own : eqb p.desk.host k ≡ true
+  pub got : p.side.got ≡ m ∷ messages
+
+pub is_here : (p : Port) (k : ℕ) (m : Message) (messages : List Message) → waiting_at (p ∷ []) k ≡ m ∷ messages → IsHere p k m messages
+is_here p k m messages q = go (eqb p.desk.host k) refl q where
+  go : (b : Bool) → eqb p.desk.host k ≡ b → option_map_or (λ (x : Port). x.side.got) (cond b (Some p) None) [] ≡ m ∷ messages → IsHere p k m messages
+  go true own z = record { own = own; got = z }
+  go false own z = absurd (cc z)
+
+module _ (number h : ℕ) (some : 1 ≤ h) (most : h ≤ 7) (r : Read) (t : List Entry) where
+  abbrev e : End
+  e = end_of_node_alone number h
+
+  abbrev Of : Work → Type 0
+  Of w = Alone number h r t w
+
+  -- the end of the link is the one where messages wait
+  pub alone_here : (k : ℕ) (m : Message) (messages : List Message) (w : Work) (a : Of w) → waiting_at w.ports k ≡ m ∷ messages → IsHere a.port k m messages
+  alone_here k m messages w a waits = is_here a.port k m messages (ap (λ ps. waiting_at ps k) (sym a.ports_are) ∙ waits)
+
+  pub link_is : (k : ℕ) (p : Port) → p.desk.host ≡ h → eqb p.desk.host k ≡ true → k ≡ h
+  link_is k p host own = sym (eqb-true p.desk.host k own) ∙ host
+
+  -- ## A message that has its turn
+
+  pub own_deeds : (k : ℕ) (m : Message) (w : Work) (a : Of w) → eqb a.port.desk.host k ≡ true → AreOwnDeeds number (deeds_of w.core w.ports k m)
+  own_deeds k m w a own =
+      let P : List Port → Type 0 = λ ps. AreOwnDeeds number (deeds_of w.core ps k m) in
+      subst P (sym a.ports_are) (go (eqb w.core.node 0) refl) where
+        same : k ≡ h
+        same = link_is k a.port a.host own
+
+        go : (b : Bool) → eqb w.core.node 0 ≡ b → AreOwnDeeds number (deeds_of w.core (a.port ∷ []) k m)
+        go true q =
+            let good : AreTables w.core.tables × JoinTwo w.core.tables.rows = a.good (ap (λ n. eqb n 0) (sym a.node) ∙ q) in
+            rw q (controller_own number w.core a.port k m (eqb-true a.port.desk.host k own) a.none (subst (λ n. 1 ≤ n) (sym same) some)
+            (subst (λ n. n ≤ 7) (sym same) most) good.0 good.1)
+        go false q = rw (q, own) (host_own number (ap (λ n. eqb n 0) (sym a.node) ∙ q) w.core a.port m a.command)
+
+  pub alone_takes : (k : ℕ) (m : Message) (messages : List Message) (w : Work) → Of w → waiting_at w.ports k ≡ m ∷ messages → Of (takes_up k m w)
+  alone_takes k m messages w a waits =
+      let here : IsHere a.port k m messages = alone_here k m messages w a waits in
+      let f : Port → Port = after_turn FetchMessage in
+      let g : Port → Port = λ p. record p { desk = record p.desk { holds = false } } in
+      let one : with_port k f (a.port ∷ []) ≡ f a.port ∷ [] = ap (λ b. changed_if b f a.port ∷ []) here.own in
+      let two : with_port k g (f a.port ∷ []) ≡ g (f a.port) ∷ [] = ap (λ b. changed_if b g (f a.port) ∷ []) here.own in
+      let turned : List Entry = entry.Turn (end_of_node w.core k) m.0 m.1 ∷ [] in
+      let its : end_of_node w.core k ≡ e = own_end w.core number h k a.node (link_is k a.port a.host here.own) in
+      let own : same_end (end_of_node w.core k) e ≡ true = ap (λ x. same_end x e) its ∙ same_self e in
+      let R : Read = reads_of w.core a.port in
+      record {
+        port = g (f a.port);
+        ports_are = ap (λ ps. with_port k g (with_port k f ps)) a.ports_are ∙ (ap (with_port k g) one ∙ two);
+        host = a.host;
+        none = a.none;
+        node = a.node;
+        command = a.command;
+        init = a.init;
+        good = a.good;
+        read =
+            ap (λ es. read_all e r (t ++ es)) (takes_entries k m w)
+            ∙ read_more number h r t w turned R (reads_of w.core (g (f a.port))) a.read
+            (ap (λ b. record R { left = cond b (drop 1 R.left) R.left; held = cond b false R.held }) own);
+      }
+
+  abbrev While : Work → Type 0
+  While w = w.cut ≡ false → Of w
+
+  pub alone_handled : (k : ℕ) (m : Message) (messages : List Message) (w : Work) → Of w → waiting_at w.ports k ≡ m ∷ messages
+      → (handles k m (deeds_of w.core w.ports k m) w).cut ≡ false → Of (handles k m (deeds_of w.core w.ports k m) w)
+  alone_handled k m messages w a waits still =
+      let here : IsHere a.port k m messages = alone_here k m messages w a waits in
+      all_do While (IsOwnDeed number) (alone_does number h r t) k (deeds_of w.core w.ports k m) (takes_up k m w) (own_deeds k m w a here.own)
+      (λ _. alone_takes k m messages w a waits) still
+
+  -- ## One that is held
+
+  alone_marked : (k : ℕ) (m : Message) (messages : List Message) (need spare : ℕ) (w : Work) → Of w → waiting_at w.ports k ≡ m ∷ messages
+      → Of (with_desk k (λ d. record d { holds = true }) (noting (entry.Held (end_of_node w.core k) need spare ∷ []) w))
+  alone_marked k m messages need spare w a waits =
+      let here : IsHere a.port k m messages = alone_here k m messages w a waits in
+      let g : Port → Port = λ p. record p { desk = record p.desk { holds = true } } in
+      let one : with_port k g (a.port ∷ []) ≡ g a.port ∷ [] = ap (λ b. changed_if b g a.port ∷ []) here.own in
+      let held : List Entry = entry.Held (end_of_node w.core k) need spare ∷ [] in
+      let its : end_of_node w.core k ≡ e = own_end w.core number h k a.node (link_is k a.port a.host here.own) in
+      let own : same_end (end_of_node w.core k) e ≡ true = ap (λ x. same_end x e) its ∙ same_self e in
+      let R : Read = reads_of w.core a.port in
+      record {
+        port = g a.port;
+        ports_are = ap (with_port k g) a.ports_are ∙ one;
+        host = a.host;
+        none = a.none;
+        node = a.node;
+        command = a.command;
+        init = a.init;
+        good = a.good;
+        read = read_more number h r t w held R (reads_of w.core (g a.port)) a.read (ap (λ b. record R { held = cond b true R.held }) own);
+      }
+
+  pub alone_held : (k : ℕ) (m : Message) (messages : List Message) (short : ℕ × ℕ) (w : Work) → Of w → waiting_at w.ports k ≡ m ∷ messages
+      → Of (holds_back k short w)
+  alone_held k m messages short w a waits = go (option_map_or (λ (p : Port). p.desk.holds) (port_at w.ports k) false) where
+    marked : Work
+    marked = with_desk k (λ d. record d { holds = true }) (noting (entry.Held (end_of_node w.core k) short.0 short.1 ∷ []) w)
+
+    by : Bool → Work
+    by true = turn_at k (Hold true) w
+    by false = turn_at k (Hold true) marked
+
+    go : (b : Bool) → Of (by b)
+    go true = alone_turn number h r t k (Hold true) w tt a
+    go false = alone_turn number h r t k (Hold true) marked tt (alone_marked k m messages short.0 short.1 w a waits)
+
+  -- ## All turns
+
+  pub alone_lasts : LastsOverTurns Of
+  alone_lasts = record {
+    handled = λ w k m messages a on waits room still. alone_handled k m messages w a waits still;
+    held = λ w k m messages short a on waits lacks. alone_held k m messages short w a waits;
+    let_go = λ w k a on waits. lets Of (λ j flag v b. alone_turn number h r t j (Hold flag) v tt b) k w a;
+  }
+
+  pub alone_at : (w v : Work) → Of w → ComesTo w v → Of v
+  alone_at w v a comes = comes_so Of alone_lasts w a v comes

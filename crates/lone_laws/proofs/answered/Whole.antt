@@ -1,0 +1,392 @@
+-- Every history of a node alone answers as is read.
+use Rattle.std.proofs.Common.{◌≡◌, ℕ, ◌≤◌, Bool, true, false, cond, eqb, ◌&&◌, ◌||◌, List, [], ◌∷◌, ◌++◌, map, refl, sym, ap, ap₂, subst, ◌∙◌}
+use Rattle.std.specs.Prelude.{◌+◌, min, not, Option, Some, None, is_some, is_none, length}
+use Rattle.std.specs.List.{fold, list_any}
+use Rattle.std.specs.Option.{option_map_or}
+use Rattle.std.proofs.lemmas.Bool.{true≢false}
+use Rattle.std.proofs.lemmas.List.Sums.{fold-append}
+use Rattle.swp_base.specs.InMemory.{Memory}
+use Rattle.swp_base.specs.declared.link_terms.FrameFault.{FrameFault}
+use Rattle.swp_base.specs.declared.link_terms.FrameFault.TheVariants as fault
+use Rattle.journal_laws.specs.Journal.{records}
+use Rattle.journal_laws.specs.Planned.{fails_within}
+use Rattle.trace_model.specs.declared.entry.Entry.{Entry}
+use Rattle.trace_model.specs.declared.entry.Entry.TheVariants as entry
+use Rattle.trace_model.specs.declared.line.End.{End}
+use Rattle.hci_tables.specs.declared.command.Command.{Command}
+use Rattle.hci_tables.specs.Commands.{IsCommand}
+use Rattle.hci_tables.specs.Bodies.{spelled_by, command_of}
+use Rattle.hci_tables.specs.Tables.{HciTables, AreTables, no_tables, apply, close}
+use Rattle.tables_laws.specs.Changes.{JoinTwo}
+use Rattle.tables_laws.proofs.SortedTables.{AreTables-apply, AreTables-close, AreTables-none}
+use Rattle.tables_laws.proofs.TwoHosts.{JoinTwo-after, JoinTwo-closed}
+use Rattle.hci_store.specs.Image.{applied, tables_of}
+use Rattle.node_laws.proofs.kept.Booting.{command_read}
+use Rattle.link_entries.specs.messages.Links.Loss.{Broken}
+use Rattle.history.specs.Steps.{lost_as}
+use Rattle.link_machine.specs.Machine.{LinkInput, oldest, new_link_end}
+use Rattle.swp_act.specs.Activation.{new_clf, new_uicc}
+use Rattle.link_machine.specs.Machine.Role.{Clf, Uicc}
+use Rattle.link_machine.proofs.Runs.{new_sound}
+use Rattle.node_machine.specs.Parts.{Desk, Core, Running, Work}
+use Rattle.node_machine.specs.Carrying.{changed_if}
+use Rattle.node_machine.specs.Node.{boot_writes, found, new_desk, with_error}
+use Rattle.node_machine.specs.world.NodeFilters.{was_refused}
+use Rattle.node_order.specs.passes.Passing.{link_of_turn, AreNoTurns}
+use Rattle.lone_laws.specs.alone.Lone.{Lone, LoneCause, LoneEvent, lone_end, lone_input, node_input, lone_arrival, lone_work, emits_behind, counted_at}
+use Rattle.lone_laws.specs.alone.Lone.{noted_of_refused, lone_behind_step, does_by_power, lone_step, lone_events, lone_booted, new_role}
+use Rattle.lone_laws.specs.alone.Lone.LoneCause.{FrameComes, FrameIsRefused, TickComes, ResetComes, StartComes, StopComes}
+use Rattle.lone_laws.specs.alone.Known.{RecErrors, left_noted, hold_noted, no_session_now}
+use Rattle.lone_laws.specs.alone.Answers.{AtEachNoted, AtEachLoneEvent, entries_of_events_alone, is_own_cut, runs_behind, is_at_rest, is_left_lacking}
+use Rattle.lone_laws.specs.alone.Answers.{is_done_alone}
+use Rattle.lone_laws.specs.alone.Answers.{is_short_alone, goes_through_end, IsRepliedAlone, IsHeldAlone, IsDueAlone, IsResetAlone, AreInTurnAlone}
+use Rattle.lone_laws.specs.alone.Answers.{AnsweredAlone}
+use Rattle.lone_laws.proofs.answered.Reading.{eqb_same}
+use Rattle.lone_laws.proofs.answered.Turning.{same_self}
+use Rattle.lone_laws.proofs.answered.Lasting.{LoneKeeps, IfKeeps, step_is, keeps_step}
+use Rattle.lone_laws.proofs.answered.Events.{at_each, none_at}
+use Rattle.lone_laws.proofs.answered.Powers.{cut_noted, any_more}
+use Rattle.lone_laws.proofs.answered.Ordered.{begin_read, ended, at_rest}
+use Rattle.lone_laws.proofs.answered.Roles.{kind_of}
+use Rattle.lone_laws.proofs.answered.Talking.{talk_all, talk-append, talk_of_side}
+use Rattle.lone_laws.proofs.answered.Rooms.{still_talk}
+use Rattle.lone_laws.proofs.answered.Errors.{errs_all, errs-append}
+use Rattle.lone_laws.proofs.answered.Replied.{begin_errs}
+use Rattle.lone_laws.proofs.answered.Answering.{replied_silent, answered_in_step}
+use Rattle.lone_laws.proofs.answered.Keeping.{core_of, errors_of, KeepsAll, all_passing, keeps_behind}
+use Rattle.lone_laws.proofs.answered.Shorting.{short_behind}
+use Rattle.lone_laws.proofs.answered.Dues.{due_in_step}
+use Rattle.lone_laws.proofs.answered.Resets.{reset_in_step}
+use Rattle.lone_laws.proofs.answered.Queued.{IsFirstThere, are_in_turn}
+
+-- ## What holds of an event
+
+pub record EventFacts (F : Core) (h : ℕ) (t : List Entry) (o : LoneEvent) : Type 0 where
+  pub turns : (front behind : List Entry) (x : Entry) → o.entries ≡ front ++ (x ∷ behind)
+      → IsRepliedAlone F h (t ++ front) x behind × IsHeldAlone F h (t ++ front) x behind
+  pub done : is_done_alone F h t o ≡ true
+  pub short : is_short_alone F h t o ≡ true
+  pub due : IsDueAlone F h t o
+  pub reset : IsResetAlone F h t o
+
+-- what is kept between events
+pub record Between (rest : Core) (number h : ℕ) (t : List Entry) (l : Lone) : Type 0 where
+  pub number_is : l.number ≡ number
+  pub link_is : l.link ≡ h
+  pub all : (n : Running) → l.node ≡ Some n → KeepsAll rest t l n
+  pub rests : (n : Running) → l.node ≡ Some n → is_at_rest (lone_end l) t ≡ true
+
+cond_true : (b x : Bool) → (b ≡ true → x ≡ true) → cond b x true ≡ true
+cond_true true x q = q refl
+cond_true false x q = refl
+
+and_cond : (a b x : Bool) → (b ≡ true → x ≡ true) → cond (a && b) x true ≡ true
+and_cond true b x q = cond_true b x q
+and_cond false b x q = refl
+
+not_true : (b : Bool) → not b ≡ true → b ≡ true → ⊥
+not_true true q r = true≢false (sym q)
+not_true false q r = true≢false (sym r)
+
+-- ## A step
+
+module _ (rest : Core) (t : List Entry) (l : Lone) (some : 1 ≤ l.link) (most : l.link ≤ 7) (its : eqb l.number 0 ≡ false → l.number ≡ l.link) (n : Running)
+    (on : l.node ≡ Some n) (k : KeepsAll rest t l n) (c : LoneCause) (i : LinkInput) (comes : lone_input c ≡ Some i) where
+  abbrev G : Core
+  G = core_of rest l.number
+
+  abbrev last : Work
+  last = ended G t l some most n k.keep c i comes
+
+  abbrev es : List Entry
+  es = last.entries ++ emits_behind l last
+
+  abbrev event : LoneEvent
+  event = record { cause = c; entries = es }
+
+  -- where it runs behind it, it kept its power
+  ran : runs_behind event ≡ true → last.cut ≡ false
+  ran q = go last.cut refl where
+    go : (b : Bool) → last.cut ≡ b → last.cut ≡ false
+    go false z = z
+    go true z =
+        absurd (not_true (list_any is_own_cut es) q
+        (any_more last.entries (emits_behind l last) (cut_noted (node_input l.link i) (lone_work l n i (lone_arrival l c)) refl z)))
+
+  facts : EventFacts G l.link t event
+  facts = record {
+    turns = answered_in_step rest t l some most its n c i comes k.keep (all_passing rest t l some most its n k c i comes);
+    done = cond_true (runs_behind event) (is_at_rest (lone_end l) (t ++ es)) (λ q. at_rest G t l some most n k.keep c i comes (ran q));
+    short = and_cond (goes_through_end c) (runs_behind event) (is_left_lacking G l.link (t ++ es))
+        (λ q. short_behind rest t l some most its n k c i comes (ran q));
+    due = due_in_step rest t l some most n k c i comes;
+    reset = reset_in_step rest t l some most its n k c i comes;
+  }
+
+  runs_still : (m : Running) → (lone_behind_step l i last).node ≡ Some m → last.cut ≡ false
+  runs_still m q = go last.cut refl where
+    go : (b : Bool) → last.cut ≡ b → last.cut ≡ false
+    go false z = z
+    go true z =
+        let gone : None ≡ Some m = sym (ap (λ b. cond b None (Some (record {
+          core = last.core;
+          desks = map
+              (λ (p : Rattle.node_machine.specs.Parts.Port). p.desk) last.ports;
+        }))) z) ∙ q in
+        absurd (cc gone)
+
+  pub input_step : EventFacts G l.link t (record { cause = c; entries = (lone_step l c).1 })
+      × ((m : Running) → (lone_step l c).0.node ≡ Some m → KeepsAll rest (t ++ (lone_step l c).1) (lone_step l c).0 m)
+      × ((m : Running) → (lone_step l c).0.node ≡ Some m → is_at_rest (lone_end (lone_step l c).0) (t ++ (lone_step l c).1) ≡ true)
+      × ((lone_step l c).0.number ≡ l.number) × ((lone_step l c).0.link ≡ l.link)
+  input_step =
+      let is : lone_step l c ≡ (lone_behind_step l i last, es) = step_is l n c i on comes in
+      let keeps : IfKeeps (begin_read G) (t ++ es) (lone_behind_step l i last) =
+      subst (λ (x : Lone × List Entry). IfKeeps (begin_read G) (t ++ x.1) x.0) is
+      (keeps_step (begin_read G) t l c some most (ap is_some on)
+      (λ m q. let both : Some n ≡ Some m = sym on ∙ q in let same : n ≡ m = cc in subst (LoneKeeps (begin_read G) t l) same k.keep)) in
+      subst (λ (x : Lone × List Entry). EventFacts G l.link t (record { cause = c; entries = x.1 })
+      × ((m : Running) → x.0.node ≡ Some m → KeepsAll rest (t ++ x.1) x.0 m)
+      × ((m : Running) → x.0.node ≡ Some m → is_at_rest (lone_end x.0) (t ++ x.1) ≡ true)
+      × (x.0.number ≡ l.number) × (x.0.link ≡ l.link)) (sym is) (
+        facts,
+        (λ m q. keeps_behind rest t l some most its n k c i comes m q (keeps m q)),
+        (λ m q. at_rest G t l some most n k.keep c i comes (runs_still m q)),
+        refl,
+        refl,
+      )
+
+-- ## A frame that is refused
+
+refused_true : (f : FrameFault) → was_refused (lost_as (Broken f)) ≡ true
+refused_true (fault.Length bits) = refl
+refused_true (fault.Alignment bits) = refl
+refused_true (fault.Crc want got) = refl
+refused_true fault.Broken = refl
+
+module _ (rest : Core) (t : List Entry) (l : Lone) (n : Running) (on : l.node ≡ Some n) (k : KeepsAll rest t l n) (f : FrameFault) where
+  abbrev J : Core
+  J = core_of rest l.number
+
+  abbrev e : End
+  e = lone_end l
+
+  abbrev lost : List Entry
+  lost = noted_of_refused l (FrameIsRefused f)
+
+  abbrev counted : Lone
+  counted = record l { node = Some (counted_at l.link n) }
+
+  counted_errors : (errs_all e (begin_errs J) (t ++ lost)).errors ≡ errors_of (with_error l.link n.desks)
+  counted_errors =
+      let x : RecErrors = errs_all e (begin_errs J) t in
+      let g : Desk → Desk = λ d. record d { errors = min 65535 (d.errors + 1) } in
+      ap (λ (r : RecErrors). r.errors) (errs-append e (begin_errs J) t lost)
+      ∙ (ap₂ (λ a b. cond (a && b) (min 65535 (x.errors + 1)) x.errors) (same_self e) (refused_true f)
+      ∙ (ap (λ z. min 65535 (z + 1)) (k.errs ∙ ap errors_of k.keep.desks_are)
+      ∙ sym (ap (λ ds. errors_of (with_error l.link ds)) k.keep.desks_are
+      ∙ ap (λ b. (changed_if b g k.keep.desk).errors) (ap (λ z. eqb z l.link) k.keep.host ∙ eqb_same l.link))))
+
+  counted_all : LoneKeeps (begin_read J) (t ++ lost) counted (counted_at l.link n) → KeepsAll rest (t ++ lost) counted (counted_at l.link n)
+  counted_all keep = record {
+    keep = keep;
+    talks = record {
+      talk =
+          talk-append e l.number no_session_now t lost
+          ∙ (still_talk e l.number lost ((λ z. refl), tt) (talk_all e l.number no_session_now t) ∙ k.talks.talk);
+      sound = k.talks.sound;
+      aside = k.talks.aside;
+      role = k.talks.role;
+      clean = k.talks.clean;
+    };
+    errs = counted_errors;
+  }
+
+  rests_still : is_at_rest e t ≡ true → is_at_rest e (t ++ lost) ≡ true
+  rests_still rests = ap₂ (λ ms b. is_none (oldest ms) || b) (fold-append (left_noted e) [] t lost) (fold-append (hold_noted e) false t lost) ∙ rests
+
+  refused_facts : is_at_rest e t ≡ true → EventFacts J l.link t (record { cause = FrameIsRefused f; entries = lost })
+  refused_facts rests = record {
+    turns = λ front behind x q. replied_silent J l.link (t ++ front) x behind (none_at
+        (λ y. link_of_turn y ≡ None) front behind x (subst AreNoTurns q (refl, tt)));
+    done = rests_still rests;
+    short = refl;
+    due = refl;
+    reset = refl;
+  }
+
+  pub refused_step : 1 ≤ l.link → l.link ≤ 7 → is_at_rest e t ≡ true
+      → EventFacts J l.link t (record { cause = FrameIsRefused f; entries = (lone_step l (FrameIsRefused f)).1 })
+      × ((m : Running) → (lone_step l (FrameIsRefused f)).0.node ≡ Some m
+      → KeepsAll rest (t ++ (lone_step l (FrameIsRefused f)).1) (lone_step l (FrameIsRefused f)).0 m)
+      × ((m : Running) → (lone_step l (FrameIsRefused f)).0.node ≡ Some m
+      → is_at_rest (lone_end (lone_step l (FrameIsRefused f)).0) (t ++ (lone_step l (FrameIsRefused f)).1) ≡ true)
+      × ((lone_step l (FrameIsRefused f)).0.number ≡ l.number) × ((lone_step l (FrameIsRefused f)).0.link ≡ l.link)
+  refused_step some most rests =
+      let is : lone_step l (FrameIsRefused f) ≡ (counted, lost) = ap (does_by_power l (FrameIsRefused f)) on in
+      let keeps : IfKeeps (begin_read J) (t ++ lost) counted =
+      subst (λ (x : Lone × List Entry). IfKeeps (begin_read J) (t ++ x.1) x.0) is
+      (keeps_step (begin_read J) t l (FrameIsRefused f) some most (ap is_some on)
+      (λ m q. let both : Some n ≡ Some m = sym on ∙ q in let same : n ≡ m = cc in subst (LoneKeeps (begin_read J) t l) same k.keep)) in
+      subst (λ (x : Lone × List Entry). EventFacts J l.link t (record { cause = FrameIsRefused f; entries = x.1 })
+      × ((m : Running) → x.0.node ≡ Some m → KeepsAll rest (t ++ x.1) x.0 m)
+      × ((m : Running) → x.0.node ≡ Some m → is_at_rest (lone_end x.0) (t ++ x.1) ≡ true)
+      × (x.0.number ≡ l.number) × (x.0.link ≡ l.link)) (sym is) (
+        refused_facts rests,
+        (λ m q. let same : counted_at l.link n ≡ m = cc in subst (KeepsAll rest (t ++ lost) counted) same (counted_all (keeps (counted_at l.link n) refl))),
+        (λ m q. rests_still rests),
+        refl,
+        refl,
+      )
+
+-- ## Each event
+
+module _ (rest : Core) (number h : ℕ) (some : 1 ≤ h) (most : h ≤ 7) (its : eqb number 0 ≡ false → number ≡ h) where
+  abbrev F : Core
+  F = core_of rest number
+
+  abbrev Step : List Entry → LoneCause → Lone × List Entry → ℕ → ℕ → Type 0
+  Step t c x m k = EventFacts (core_of rest m) k t (record { cause = c; entries = x.1 })
+      × ((r : Running) → x.0.node ≡ Some r → KeepsAll rest (t ++ x.1) x.0 r)
+      × ((r : Running) → x.0.node ≡ Some r → is_at_rest (lone_end x.0) (t ++ x.1) ≡ true)
+      × (x.0.number ≡ m) × (x.0.link ≡ k)
+
+  each_step : (t : List Entry) (l : Lone) (c : LoneCause) → is_some l.node ≡ true → Between rest number h t l
+      → EventFacts F h t (record { cause = c; entries = (lone_step l c).1 }) × Between rest number h (t ++ (lone_step l c).1) (lone_step l c).0
+  each_step t l c runs b = by_node l.node refl where
+    its_l : eqb l.number 0 ≡ false → l.number ≡ l.link
+    its_l q = b.number_is ∙ (its (ap (λ x. eqb x 0) (sym b.number_is) ∙ q) ∙ sym b.link_is)
+
+    some_l : 1 ≤ l.link
+    some_l = subst (λ x. 1 ≤ x) (sym b.link_is) some
+
+    most_l : l.link ≤ 7
+    most_l = subst (λ x. x ≤ 7) (sym b.link_is) most
+
+    so : Step t c (lone_step l c) l.number l.link
+        → EventFacts F h t (record { cause = c; entries = (lone_step l c).1 }) × Between rest number h (t ++ (lone_step l c).1) (lone_step l c).0
+    so s =
+        let z : Step t c (lone_step l c) number h = subst (λ m. Step t c (lone_step l c) m h) b.number_is (subst
+        (λ k. Step t c (lone_step l c) l.number k) b.link_is s) in
+        (z.0, record { number_is = z.3; link_is = z.4; all = z.1; rests = z.2 })
+
+    by_input : (n : Running) → l.node ≡ Some n → (o : Option LinkInput) → lone_input c ≡ o → Step t c (lone_step l c) l.number l.link
+    by_input n on (Some i) q = input_step rest t l some_l most_l its_l n on (b.all n on) c i q
+    by_input n on None q = by_cause c q where
+      by_cause : (c : LoneCause) → lone_input c ≡ None → Step t c (lone_step l c) l.number l.link
+      by_cause (FrameIsRefused f) q = refused_step rest t l n on (b.all n on) f some_l most_l (b.rests n on)
+      by_cause (FrameComes bytes) q = absurd (cc q)
+      by_cause TickComes q = absurd (cc q)
+      by_cause (ResetComes window) q = absurd (cc q)
+      by_cause (StartComes value) q = absurd (cc q)
+      by_cause StopComes q = absurd (cc q)
+
+    by_node : (o : Option Running) → l.node ≡ o
+        → EventFacts F h t (record { cause = c; entries = (lone_step l c).1 }) × Between rest number h (t ++ (lone_step l c).1) (lone_step l c).0
+    by_node None off = absurd (true≢false (sym runs ∙ ap is_some off))
+    by_node (Some n) on = so (by_input n on (lone_input c) refl)
+
+  pub each_event : (causes : List LoneCause) (t : List Entry) (l : Lone) → Between rest number h t l
+      → (past back : List LoneEvent) (o : LoneEvent) → lone_events l causes ≡ past ++ (o ∷ back) → EventFacts F h (t ++ entries_of_events_alone past) o
+  each_event causes t l b = at_each (EventFacts F h) (Between rest number h) each_step causes t l b
+
+-- ## The beginning
+
+fine_one : (t : HciTables) (o : Option Command) → ((c : Command) → o ≡ Some c → IsCommand c) → AreTables t × JoinTwo t.rows
+    → AreTables (option_map_or (apply t) o t) × JoinTwo (option_map_or (apply t) o t).rows
+fine_one t None may fine = fine
+fine_one t (Some c) may fine = (AreTables-apply t c (may c refl) fine.0, JoinTwo-after t (c ∷ []) (may c refl, tt) fine.1)
+
+fine_fold : (t : HciTables) (bodies : List (List ℕ)) → AreTables t × JoinTwo t.rows → AreTables (fold applied t bodies) × JoinTwo (fold applied t bodies).rows
+fine_fold t [] fine = fine
+fine_fold t (body ∷ bodies) fine =
+    fine_fold (applied t body) bodies (fine_one t (command_of body) (λ c e. command_read (spelled_by body) c e) fine)
+
+fine_tables : (content : List ℕ) → AreTables (close (tables_of content)) × JoinTwo (close (tables_of content)).rows
+fine_tables content =
+    let fine = fine_fold no_tables (records content) (AreTables-none, refl) in
+    (AreTables-close (tables_of content) fine.0, JoinTwo-closed (tables_of content).rows fine.1)
+
+module _ (number h : ℕ) (some : 1 ≤ h) (most : h ≤ 7) (its : eqb number 0 ≡ false → number ≡ h) (m : Memory) where
+  -- what its boot finds
+  abbrev pub booted_core : Core
+  booted_core = (found number (h ∷ []) m.content).core
+
+  abbrev l : Lone
+  l = lone_booted number h m
+
+  no_talk : (b : Bool) → no_session_now ≡ talk_of_side (new_link_end (cond b (Clf new_clf) (Uicc new_uicc))) 0
+  no_talk true = refl
+  no_talk false = refl
+
+  new_kind : (b : Bool) → kind_of (new_link_end (cond b (Clf new_clf) (Uicc new_uicc))).role ≡ Some b
+  new_kind true = refl
+  new_kind false = refl
+
+  begin_all : (n : Running) → l.node ≡ Some n → KeepsAll booted_core [] l n
+  begin_all n on = go (fails_within (length (boot_writes m.content)) m.plan) on where
+    go : (b : Bool) → cond b None (Some (found number (h ∷ []) m.content)) ≡ Some n → KeepsAll booted_core [] l n
+    go true q = absurd (cc q)
+    go false q =
+        let is : found number (h ∷ []) m.content ≡ n = cc in
+        subst (KeepsAll booted_core [] l) is (record {
+          keep = record {
+            desk = new_desk h;
+            desks_are = refl;
+            host = refl;
+            none = refl;
+            node = refl;
+            command = refl;
+            init = refl;
+            good = λ z. fine_tables m.content;
+            read = refl;
+          };
+          talks = record { talk = no_talk (eqb number 0); sound = new_sound (new_role number); aside = refl; role = new_kind (eqb number 0); clean = tt };
+          errs = refl;
+        })
+
+  begin_between : Between booted_core number h [] l
+  begin_between = record { number_is = refl; link_is = refl; all = begin_all; rests = λ n on. refl }
+
+  pub lone_facts : (causes : List LoneCause) (past back : List LoneEvent) (o : LoneEvent) → lone_events l causes ≡ past ++ (o ∷ back)
+      → EventFacts booted_core h (entries_of_events_alone past) o
+  lone_facts causes = each_event booted_core number h some most its causes [] l begin_between
+
+  pub lone_replied : (causes : List LoneCause) → AtEachNoted (lone_events l causes) (IsRepliedAlone booted_core h)
+  lone_replied causes past back o front behind x q z = ((lone_facts causes past back o q).turns front behind x z).0
+
+  pub lone_held : (causes : List LoneCause) → AtEachNoted (lone_events l causes) (IsHeldAlone booted_core h)
+  lone_held causes past back o front behind x q z = ((lone_facts causes past back o q).turns front behind x z).1
+
+  pub lone_done : (causes : List LoneCause) → AtEachLoneEvent (lone_events l causes) (λ t o. is_done_alone booted_core h t o ≡ true)
+  lone_done causes past back o q = (lone_facts causes past back o q).done
+
+  pub lone_short : (causes : List LoneCause) → AtEachLoneEvent (lone_events l causes) (λ t o. is_short_alone booted_core h t o ≡ true)
+  lone_short causes past back o q = (lone_facts causes past back o q).short
+
+  pub lone_reset : (causes : List LoneCause) → AtEachLoneEvent (lone_events l causes) (IsResetAlone booted_core h)
+  lone_reset causes past back o q = (lone_facts causes past back o q).reset
+
+  first_there : (t : List Entry) (x : Entry) (behind : List Entry) → IsRepliedAlone booted_core h t x behind → IsFirstThere t x
+  first_there t (entry.Turn f pid message) behind a = a.0
+  first_there t _ behind a = tt
+
+  pub lone_in_turn : (causes : List LoneCause) → AreInTurnAlone (entries_of_events_alone (lone_events l causes))
+  lone_in_turn causes =
+      are_in_turn (lone_events l causes) (λ past back o front behind x q z.
+      first_there (entries_of_events_alone past ++ front) x behind (lone_replied causes past back o front behind x q z))
+
+  pub lone_due : (causes : List LoneCause) → AtEachLoneEvent (lone_events l causes) (IsDueAlone booted_core h)
+  lone_due causes past back o q = (lone_facts causes past back o q).due
+
+  -- Every message that comes to a node alone is answered, and nothing else is.
+  pub lone_answered : (causes : List LoneCause) → AnsweredAlone booted_core h (lone_events l causes)
+  lone_answered causes = record {
+    in_turn = lone_in_turn causes;
+    replied = lone_replied causes;
+    held = lone_held causes;
+    done = lone_done causes;
+    short = lone_short causes;
+    due = lone_due causes;
+    reset = lone_reset causes;
+  }

@@ -1,0 +1,184 @@
+-- What the history of a node alone must be as to its answers, by what its boot found and what was noted since.
+use Rattle.std.specs.Prelude.{◌≡◌, ℕ, ◌==◌, ◌&&◌, ◌||◌, Bool, true, false, not, if◌then◌else◌, List, [], ◌∷◌, ◌++◌, is_some, is_none, Option, Some, None}
+use Rattle.std.specs.Prelude.{Result, Ok}
+use Rattle.std.specs.List.{flat_map, filter, filter_map, list_any}
+use Rattle.std.specs.Option.{option_map_or}
+use Rattle.swp_base.specs.declared.control_frames.Control.{Control}
+use Rattle.swp_base.specs.declared.control_frames.Control.TheVariants.{Act as ActFrame}
+use Rattle.swp_base.specs.declared.control_frames.Act.TheVariants.{SyncId}
+use Rattle.swp_base.specs.declared.link_terms.Cause.TheVariants.{Asked}
+use Rattle.swp_lpdu.specs.declared.LpduFault.{LpduFault}
+use Rattle.swp_lpdu.specs.Controls.{control_of}
+use Rattle.trace_model.specs.declared.entry.Entry.{Entry}
+use Rattle.trace_model.specs.declared.entry.Entry.TheVariants as entry
+use Rattle.trace_model.specs.declared.line.End.{End}
+use Rattle.journal_laws.specs.Journal.{count_of}
+use Rattle.hci_tables.specs.declared.command.Command.TheVariants.{Sync}
+use Rattle.hci_tables.specs.Tables.{is_kept_sync}
+use Rattle.link_machine.specs.Machine.{oldest}
+use Rattle.node_machine.specs.Parts.{Core, Deed}
+use Rattle.node_machine.specs.Parts.Deed.{Commits, Sends, SaysOk, Drops}
+use Rattle.node_machine.specs.Carrying.{finds_room}
+use Rattle.hcp_packet.specs.Packets.{IsFrontOf}
+use Rattle.node_machine.specs.world.NodeLegal.{turn_entry_at, got_entry}
+use Rattle.lone_laws.specs.alone.Lone.{LoneCause, LoneEvent, end_of_node_alone}
+use Rattle.lone_laws.specs.alone.Lone.LoneCause.{FrameComes, FrameIsRefused, ResetComes}
+use Rattle.lone_laws.specs.alone.Known.{core_with, core_since, left_since, is_held_since, talk_since, reply_since, lack_since, first_lack_since}
+
+-- ## Where facts speak
+
+-- all entries of events
+abbrev pub entries_of_events_alone : List LoneEvent → List Entry
+entries_of_events_alone events = flat_map (λ (o : LoneEvent). o.entries) events
+
+-- So it is with each entry, the entries before it, and those of its event behind it.
+abbrev pub AtEachNoted : List LoneEvent → (List Entry → Entry → List Entry → Type 0) → Type 0
+AtEachNoted events P =
+    (past back : List LoneEvent) (o : LoneEvent) (front behind : List Entry) (x : Entry)
+    → events ≡ past ++ (o ∷ back) → o.entries ≡ front ++ (x ∷ behind) → P (entries_of_events_alone past ++ front) x behind
+
+-- So it is with each event, and the entries before it.
+abbrev pub AtEachLoneEvent : List LoneEvent → (List Entry → LoneEvent → Type 0) → Type 0
+AtEachLoneEvent events P = (past back : List LoneEvent) (o : LoneEvent) → events ≡ past ++ (o ∷ back) → P (entries_of_events_alone past) o
+
+-- ## Answers
+
+-- an entry is an answer of a node: it commits, sends, counts, asks, drops, or ends an init
+abbrev pub is_own_answer : Entry → Bool
+is_own_answer (entry.Command n command) = true
+is_own_answer (entry.Sent e n pid message) = true
+is_own_answer (entry.AnyOk n count) = true
+is_own_answer (entry.Ask host message) = true
+is_own_answer (entry.Dropped e pid) = true
+is_own_answer (entry.InitSame e) = true
+is_own_answer (entry.InitMade e count) = true
+is_own_answer (entry.InitFailed e code) = true
+is_own_answer _ = false
+
+-- a message has its turn
+abbrev pub is_own_turn : Entry → Bool
+is_own_turn (entry.Turn e pid message) = true
+is_own_turn _ = false
+
+-- the power goes
+abbrev pub is_own_cut : Entry → Bool
+is_own_cut (entry.Cut n) = true
+is_own_cut _ = false
+
+-- these entries up to the next turn
+abbrev pub to_turn : List Entry → List Entry
+to_turn [] = []
+to_turn (x ∷ entries) = if is_own_turn x then [] else x ∷ to_turn entries
+
+-- up to the first command, and with it
+abbrev pub through_command : List Entry → List Entry
+through_command [] = []
+through_command (entry.Command n c ∷ entries) = entry.Command n c ∷ []
+through_command (x ∷ entries) = x ∷ through_command entries
+
+-- A node answers so until its next turn; where its power goes there, up to and with the command that is written.
+abbrev pub AnswersAlone : List Entry → List Entry → Type 0
+AnswersAlone entries answers =
+    filter is_own_answer (to_turn entries) ≡ (if list_any is_own_cut (to_turn entries) then through_command answers else answers)
+
+-- The entries of deeds of a node that keeps this, whose end has this session where it is up, as a message of that end is handled.
+abbrev pub entries_of_deeds : Core → End → Option ℕ → List Deed → List Entry
+entries_of_deeds core e session [] = []
+entries_of_deeds core e session (Commits c ∷ deeds) = entry.Command core.node c ∷ entries_of_deeds (core_with core c) e session deeds
+entries_of_deeds core e session (Sends to m ∷ deeds) =
+    (if to == e.link then option_map_or (λ n. entry.Sent e n m.0 m.1 ∷ []) session [] else []) ++ entries_of_deeds core e session deeds
+entries_of_deeds core e session (SaysOk ∷ deeds) = entry.AnyOk core.node (count_of core.journal) ∷ entries_of_deeds core e session deeds
+entries_of_deeds core e session (Drops pid ∷ deeds) = entry.Dropped e pid ∷ entries_of_deeds core e session deeds
+entries_of_deeds core e session (_ ∷ deeds) = entries_of_deeds core e session deeds
+
+-- those of a node whose boot found this, behind these entries
+abbrev pub noted_since : Core → ℕ → List Entry → List Deed → List Entry
+noted_since found h t deeds =
+    let e : End = end_of_node_alone found.node h in entries_of_deeds (core_since found t) e (talk_since e found.node t).session deeds
+
+-- ## Turns
+
+-- A message that has its turn is the first that came and had none, and lacks no room; until the next turn stand the answers of the reply
+-- to it.
+abbrev pub IsRepliedAlone : Core → ℕ → List Entry → Entry → List Entry → Type 0
+IsRepliedAlone found h t (entry.Turn e pid message) behind =
+    (oldest (left_since e t) ≡ Some (pid, message))
+    × (lack_since found h t (pid, message) ≡ None)
+    × AnswersAlone behind (noted_since found h t (reply_since found h t (pid, message)))
+IsRepliedAlone found h t _ behind = Unit {0}
+
+-- Where a message is noted as held, it wasn't noted so before, and lacks just these blocks.
+abbrev pub IsHeldAlone : Core → ℕ → List Entry → Entry → List Entry → Type 0
+IsHeldAlone found h t (entry.Held e need spare) behind = (is_held_since e t ≡ false) × (first_lack_since found h t ≡ Some (need, spare))
+IsHeldAlone found h t _ behind = Unit {0}
+
+-- the node runs behind an event that began while it ran
+abbrev pub runs_behind : LoneEvent → Bool
+runs_behind o = not (list_any is_own_cut o.entries)
+
+-- all messages that came had their turns, or all before one that is held
+abbrev pub is_at_rest : End → List Entry → Bool
+is_at_rest e t = is_none (oldest (left_since e t)) || is_held_since e t
+
+-- So it is behind each event.
+abbrev pub is_done_alone : Core → ℕ → List Entry → LoneEvent → Bool
+is_done_alone found h t o = if runs_behind o then is_at_rest (end_of_node_alone found.node h) (t ++ o.entries) else true
+
+-- the node goes through its end in an event: each but one in which a frame was refused
+abbrev pub goes_through_end : LoneCause → Bool
+goes_through_end (FrameIsRefused fault) = false
+goes_through_end _ = true
+
+-- the first message that is left lacks room
+abbrev pub is_left_lacking : Core → ℕ → List Entry → Bool
+is_left_lacking found h t = is_none (oldest (left_since (end_of_node_alone found.node h) t)) || is_some (first_lack_since found h t)
+
+-- so it is where the node has gone through its end
+abbrev pub is_short_alone : Core → ℕ → List Entry → LoneEvent → Bool
+is_short_alone found h t o = if goes_through_end o.cause && runs_behind o then is_left_lacking found h (t ++ o.entries) else true
+
+-- ## Outside turns
+
+-- a controller takes ACT_SYNC_ID, which doesn't ask for the last frame again, with an identifier that isn't the kept one and finds room
+abbrev pub sync_due : Core → ℕ → LoneCause → List Deed
+sync_due core h (FrameComes bytes) = if core.node == 0 then by_frame (control_of bytes) else [] where
+  by_frame : Result Control LpduFault → List Deed
+  by_frame (Ok (ActFrame (SyncId id) false)) =
+      if not (is_kept_sync core.tables.syncs h id) && finds_room core (Sync h id) then Commits (Sync h id) ∷ [] else []
+  by_frame _ = []
+sync_due core h _ = []
+
+-- The answers before the first turn in an event are exactly those that are due.
+abbrev pub IsDueAlone : Core → ℕ → List Entry → LoneEvent → Type 0
+IsDueAlone found h t o = AnswersAlone o.entries (noted_since found h t (sync_due (core_since found t) h o.cause))
+
+-- the session ends by a reset of the end itself
+abbrev pub is_asked_down : Entry → Bool
+is_asked_down (entry.Down e Asked) = true
+is_asked_down _ = false
+
+-- a reset is asked for at an end that is up
+abbrev pub is_reset_alone : Core → ℕ → List Entry → LoneCause → Bool
+is_reset_alone found h t (ResetComes window) = is_some (talk_since (end_of_node_alone found.node h) found.node t).session
+is_reset_alone found h t _ = false
+
+-- Sessions end by resets exactly where they are asked for.
+abbrev pub IsResetAlone : Core → ℕ → List Entry → LoneEvent → Type 0
+IsResetAlone found h t o = list_any is_asked_down o.entries ≡ is_reset_alone found h t o.cause
+
+-- ## Answered
+
+-- Messages have their turns in the order in which they came: those of an end that had one are a front of those that it got.
+abbrev pub AreInTurnAlone : List Entry → Type 0
+AreInTurnAlone t =
+    (front back : List Entry) (e : End) → t ≡ front ++ back → IsFrontOf (filter_map (turn_entry_at e) front) (filter_map (got_entry e) front)
+
+-- Every message that comes to a node alone is answered, and nothing else is: its boot found this, and its link is that with the host h.
+pub record AnsweredAlone (found : Core) (h : ℕ) (events : List LoneEvent) : Type 0 where
+  pub in_turn : AreInTurnAlone (entries_of_events_alone events)
+  pub replied : AtEachNoted events (IsRepliedAlone found h)
+  pub held : AtEachNoted events (IsHeldAlone found h)
+  pub done : AtEachLoneEvent events (λ t o. is_done_alone found h t o ≡ true)
+  pub short : AtEachLoneEvent events (λ t o. is_short_alone found h t o ≡ true)
+  pub due : AtEachLoneEvent events (IsDueAlone found h)
+  pub reset : AtEachLoneEvent events (IsResetAlone found h)

@@ -1,0 +1,163 @@
+-- What is read of a node alone, off what its boot found and what was noted since.
+use Rattle.std.specs.Prelude.{ℕ, ◌+◌, ◌-◌, ◌==◌, ◌&&◌, min, Bool, true, false, if◌then◌else◌, List, [], ◌∷◌, ◌++◌, drop, is_some, unwrap_or, Option, Some, None}
+use Rattle.std.specs.Prelude.{Result, Ok}
+use Rattle.std.specs.List.{fold}
+use Rattle.std.specs.Option.{option_map_or, option_and_then}
+use Rattle.swp_act.specs.Activation.{new_clf}
+use Rattle.trace_model.specs.declared.entry.Entry.{Entry}
+use Rattle.trace_model.specs.declared.entry.Entry.TheVariants as entry
+use Rattle.trace_model.specs.declared.line.End.{End}
+use Rattle.hcp_packet.specs.declared.MessageKind.{MessageKind}
+use Rattle.hcp_packet.specs.declared.MessageKind.TheVariants.{Command as IsCommand, Response as IsResponse}
+use Rattle.hcp_packet.specs.declared.MessageFault.{MessageFault}
+use Rattle.hcp_packet.specs.MessageHeader.{header_of}
+use Rattle.hci_tables.specs.declared.command.Command.{Command}
+use Rattle.hci_tables.specs.Bodies.{body_of}
+use Rattle.hci_tables.specs.Tables.{apply}
+use Rattle.hci_store.specs.Committing.{committed}
+use Rattle.gate_answers.specs.Answers.{body_in}
+use Rattle.gate_link.specs.Link.{link_served}
+use Rattle.link_machine.specs.Machine.{Message, LinkEnd, new_link_end, oldest, need_of_all}
+use Rattle.link_machine.specs.Machine.Role.{Bare, Clf}
+use Rattle.history.specs.Filters.{same_end}
+use Rattle.node_machine.specs.Parts.{Core, Port, Deed}
+use Rattle.node_machine.specs.Carrying.{needs, lack}
+use Rattle.node_machine.specs.Controller.{own_gate}
+use Rattle.node_machine.specs.Turns.{deeds_of}
+use Rattle.node_machine.specs.world.NodeFilters.{was_refused}
+use Rattle.lone_laws.specs.alone.Lone.{end_of_node_alone}
+
+-- ## What it keeps
+
+-- a node commits a command: it is in its tables, and its journal has a record more, over a snapshot where it didn't fit
+abbrev pub core_with : Core → Command → Core
+core_with c x = record c { journal = committed c.journal c.tables (body_of x); tables = apply c.tables x }
+
+abbrev pub core_noted : Core → Entry → Core
+core_noted c (entry.Command n x) = if n == c.node then core_with c x else c
+core_noted c _ = c
+
+-- What a node keeps behind these entries, where its boot found this.
+abbrev pub core_since : Core → List Entry → Core
+core_since found t = fold core_noted found t
+
+-- ## What came to its end
+
+-- the messages that came at an end and had no turn, after an entry
+abbrev pub left_noted : End → List Message → Entry → List Message
+left_noted e messages (entry.Got f n pid message) = if same_end f e then messages ++ (pid, message) ∷ [] else messages
+left_noted e messages (entry.Turn f pid message) = if same_end f e then drop 1 messages else messages
+left_noted e messages _ = messages
+
+-- the messages that came at an end and had no turn, in order
+abbrev pub left_since : End → List Entry → List Message
+left_since e t = fold (left_noted e) [] t
+
+-- the first of them was noted as held
+abbrev pub hold_noted : End → Bool → Entry → Bool
+hold_noted e holds (entry.Held f need spare) = if same_end f e then true else holds
+hold_noted e holds (entry.Turn f pid message) = if same_end f e then false else holds
+hold_noted e holds _ = holds
+
+abbrev pub is_held_since : End → List Entry → Bool
+is_held_since e t = fold (hold_noted e) false t
+
+-- ## REC_ERROR
+
+-- a pipe of an end leads to the link management gate of its node: at a host pipe 00 alone, at the controller as its tables say
+abbrev pub is_to_link_gate : Core → End → ℕ → Bool
+is_to_link_gate c e pid = if e.at_host then pid == 0 else option_map_or (λ gate. gate == 6) (own_gate c.tables e.link pid) false
+
+-- the value that a command sets there, if it is one that sets REC_ERROR
+abbrev pub value_set_by : List ℕ → Option ℕ
+value_set_by message = by_header (header_of message) where
+  by_header : Result (MessageKind × ℕ) MessageFault → Option ℕ
+  by_header (Ok (IsCommand, instruction)) = (link_served 0 instruction (body_in message)).1
+  by_header _ = None
+
+-- a message is ANY_OK
+abbrev pub says_ok : List ℕ → Bool
+says_ok message = by_header (header_of message) where
+  by_header : Result (MessageKind × ℕ) MessageFault → Bool
+  by_header (Ok (IsResponse, code)) = code == 0
+  by_header _ = false
+
+-- What is read of REC_ERROR: what the node keeps, which says where pipes lead; the value that a command sets whose turn was noted last,
+-- until more is noted; and REC_ERROR.
+pub record RecErrors : Type 0 where
+  pub core : Core
+  pub sets : Option ℕ
+  pub errors : ℕ
+
+-- after an entry: a command that sets it has its turn, and ANY_OK is sent next; a frame that was refused counts for one more, up to FFFF
+abbrev pub errors_noted : End → RecErrors → Entry → RecErrors
+errors_noted e x (entry.Turn f pid message) =
+    record x { sets = if same_end f e && is_to_link_gate x.core e pid then value_set_by message else None }
+errors_noted e x (entry.Sent f n pid message) =
+    record x { sets = None; errors = if same_end f e && says_ok message then unwrap_or x.sets x.errors else x.errors }
+errors_noted e x (entry.Lost f lpdu cause) =
+    record x { sets = None; errors = if same_end f e && was_refused cause then min 65535 (x.errors + 1) else x.errors }
+errors_noted e x y = record x { core = core_noted x.core y; sets = None }
+
+abbrev pub errors_since : Core → End → List Entry → ℕ
+errors_since found e t = (fold (errors_noted e) (record { core = found; sets = None; errors = 0 }) t).errors
+
+-- ## The session of now
+
+-- What is read of the session of now: its number, while there is one, the messages sent in it, and how many of them are acknowledged.
+pub record LoneTalk : Type 0 where
+  pub session : Option ℕ
+  pub sent : List Message
+  pub acked : ℕ
+
+-- there is none
+abbrev pub no_session_now : LoneTalk
+no_session_now = record { session = None; sent = []; acked = 0 }
+
+abbrev pub talk_noted : End → ℕ → LoneTalk → Entry → LoneTalk
+talk_noted e n x (entry.Up f k) = if same_end f e then record { session = Some k; sent = []; acked = 0 } else x
+talk_noted e n x (entry.Down f cause) = if same_end f e then no_session_now else x
+talk_noted e n x (entry.Cut k) = if k == n then no_session_now else x
+talk_noted e n x (entry.Sent f k pid message) = if same_end f e then record x { sent = x.sent ++ (pid, message) ∷ [] } else x
+talk_noted e n x (entry.Acked f k count) = if same_end f e then record x { acked = count } else x
+talk_noted e n x _ = x
+
+abbrev pub talk_since : End → ℕ → List Entry → LoneTalk
+talk_since e n t = fold (talk_noted e n) no_session_now t
+
+-- the blocks of 128 that the messages which aren't acknowledged leave: none is set aside where there is one link
+abbrev pub spare_in_talk : LoneTalk → ℕ
+spare_in_talk x = 128 - need_of_all (drop x.acked x.sent)
+
+-- ## Its end
+
+-- an end that is up or not, and has so many blocks to spare
+abbrev pub side_told : Bool → ℕ → LinkEnd
+side_told up spare = record (new_link_end (if up then Bare else Clf new_clf)) { aside = 128 - spare }
+
+-- The end of a node on the link with this host, as it is read: no notice is sent where there is one link.
+abbrev pub port_since : Core → ℕ → List Entry → Port
+port_since found h t =
+    let e : End = end_of_node_alone found.node h in
+    record {
+      desk = record { host = h; notice = None; holds = is_held_since e t; errors = errors_since found e t };
+      side = side_told (is_some (talk_since e found.node t).session) (spare_in_talk (talk_since e found.node t));
+      session = unwrap_or (talk_since e found.node t).session 0;
+      late = false;
+      ended = false;
+      turns = [];
+    }
+
+-- ## Replies
+
+-- What the node does with a message that came at its end.
+abbrev pub reply_since : Core → ℕ → List Entry → Message → List Deed
+reply_since found h t m = deeds_of (core_since found t) (port_since found h t ∷ []) h m
+
+-- the first number of blocks that this needs and that isn't spare, with what is
+abbrev pub lack_since : Core → ℕ → List Entry → Message → Option (ℕ × ℕ)
+lack_since found h t m = lack (port_since found h t ∷ []) (needs h (reply_since found h t m))
+
+-- that of the first message that came there and had no turn
+abbrev pub first_lack_since : Core → ℕ → List Entry → Option (ℕ × ℕ)
+first_lack_since found h t = option_and_then (lack_since found h t) (oldest (left_since (end_of_node_alone found.node h) t))

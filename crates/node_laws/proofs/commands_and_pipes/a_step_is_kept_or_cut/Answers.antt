@@ -1,0 +1,12 @@
+use Rattle.std.specs.Prelude.{Some}
+use Rattle.std.proofs.Common.{refl}
+use Rattle.node_laws.proofs.kept.Asking.{same_new}
+use Rattle.node_laws.proofs.kept.Doing.{all_fine}
+use Rattle.node_laws.proofs.kept.Stepping.{steps_fine}
+use Rattle.node_laws.proofs.commands_and_pipes.a_step_is_kept_or_cut.Goals as goal
+
+pub returns : goal.returns
+returns c = record {
+  deeds = λ n hosts old before h deeds w runs may fit. all_fine n hosts old before h deeds w (Some w.core.journal) runs refl may w.ports (same_new w.ports) fit;
+  step = λ n hosts old before input w node are runs on. steps_fine n hosts old before node are input w runs on;
+}

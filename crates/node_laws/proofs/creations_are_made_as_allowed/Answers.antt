@@ -1,5 +1,0 @@
-use Rattle.node_laws.proofs.Deeds.{controller_fine}
-use Rattle.node_laws.proofs.creations_are_made_as_allowed.Goals as goal
-
-pub returns : goal.returns
-returns c = controller_fine

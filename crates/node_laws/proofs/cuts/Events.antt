@@ -1,0 +1,410 @@
+-- What whatever happens leaves of what is known of each node, and how its entries come.
+use Rattle.std.proofs.Common.{◌≡◌, ◌⊎◌, inl, inr, ℕ, ◌-◌, ◌^◌, ◌≤◌, ◌&&◌, Bool, true, false, cond, eqb, List, [], ◌∷◌, ◌++◌, length, sym, refl, ap, ◌∙◌, subst}
+use Rattle.std.proofs.Common.{arith}
+use Rattle.std.specs.Prelude.{Option, Some, None, is_some}
+use Rattle.std.specs.List.{AllByRecursion, fold}
+use Rattle.std.proofs.lemmas.Bool.{cond_both, cases_Bool, eq-eqb, ne_eqb, eqb-true, eqb-false}
+use Rattle.swp_base.specs.InMemory.{Memory, Plan}
+use Rattle.trace_model.specs.Lines.{IsHost}
+use Rattle.trace_model.specs.declared.entry.Entry.{Entry}
+use Rattle.trace_model.specs.declared.entry.Entry.TheVariants as entry
+use Rattle.trace_model.specs.declared.line.End.{End}
+use Rattle.journal_laws.specs.Journal.{count_of}
+use Rattle.journal_laws.specs.Planned.{fails_within, after_planned}
+use Rattle.link_machine.specs.Machine.{Message, LinkInput}
+use Rattle.link_entries.specs.messages.Links.{Comes, Loss, happens}
+use Rattle.link_entries.specs.messages.Links.Comes.{NextFrame, AsksReset, Starts, NoInput}
+use Rattle.link_entries.specs.messages.Links.Loss.{OnDemand, Broken, Unread, TooOld, TooMany}
+use Rattle.link_entries.specs.messages.Links.EndEvent.{Lose}
+use Rattle.link_entries.specs.entries.Entries.{first_lost}
+use Rattle.link_entries.specs.entries.Entries.End.{Controller, Host}
+use Rattle.history.specs.Steps.{at, entries_for}
+use Rattle.history.specs.Follows.{seen_from}
+use Rattle.node_machine.specs.Parts.{Core, Running}
+use Rattle.node_machine.specs.Parts.Deed.{Sends, Orders}
+use Rattle.node_machine.specs.Carrying.{changed_if}
+use Rattle.node_machine.specs.Controller.{is_command_message}
+use Rattle.node_machine.specs.Node.{steps, begins_with, found, boot_writes}
+use Rattle.node_machine.specs.Node.NodeInput.{AtEnd}
+use Rattle.node_laws.specs.steps.Waiting.{IsAllowedStill}
+use Rattle.node_machine.specs.world.World.{NodeWorld, Site, Happening, node_at, site_at, with_site, link_to, input_of, host_does, loses_power_at, memory_at}
+use Rattle.node_machine.specs.world.World.{with_memory, with_node, links_of, boots, counts, frame_lost, sending, beginning, comes_at, activates, end_c, end_h}
+use Rattle.node_machine.specs.world.World.{world_step}
+use Rattle.node_machine.specs.world.World.Happening.{Boots, IsCut, Gives, Inits, Takes, Loses, Ticks, Resets, Activates, Arms}
+use Rattle.node_machine.specs.world.NodeFilters.{book_in, commands_in}
+use Rattle.node_laws.specs.kept.Reckonings.{Reckoning, reckoned, EachIsAsRead}
+use Rattle.node_laws.specs.kept.Deeds.{IsOnOrder, MayBeDone}
+use Rattle.node_laws.specs.kept.Hosts.{AreHosts}
+use Rattle.node_laws.specs.kept.Worlds.{SiteKeeps, AllKeep, MayHappen}
+use Rattle.node_laws.proofs.kept.Asking.{same_new}
+use Rattle.node_laws.proofs.kept.Plainly.{plain_entries}
+use Rattle.node_laws.proofs.kept.Doing.{all_fine}
+use Rattle.node_laws.proofs.kept.Stepping.{steps_fine}
+use Rattle.node_laws.proofs.kept.Sites.{site_found}
+use Rattle.node_laws.proofs.kept.Events.{no_order, comes_goes}
+use Rattle.node_laws.proofs.kept.Reckoned.{IsNothingFor, other_idles}
+use Rattle.node_laws.specs.cuts.Histories.{FindsExactly, begun_by, reckoned_within, IsBootedBy, IsCutAsPlanned}
+use Rattle.node_laws.proofs.cuts.Standing.{Stands, exact_idle, stands_same}
+use Rattle.node_laws.proofs.cuts.Worlds.{IsThere, StandsAt, ExactAt, plain_exact, none_exact, controller_exact, host_exact}
+use Rattle.node_laws.proofs.cuts.Powers.{booting, boot_cut, boot_found, boot_run, cut_stands, armed_stands}
+use Rattle.node_laws.proofs.cuts.Places.{IsSameAt, same_then, same_memory, same_node, same_loses, IsNowAt, now_memory, now_node, now_loses, runs_of}
+use Rattle.node_laws.proofs.cuts.Ticking.{exact_both, ticks_exact}
+
+-- how the entries of an event come, and what is known of the node after it
+pub record GoesExactly (n : ℕ) (t : List Entry) (r : Reckoning) (c : Happening) (p : NodeWorld × List Entry) : Type 0 where
+  pub planned : IsCutAsPlanned n r c p.1
+  pub booted : (before behind : List Entry) (many : ℕ) → p.1 ≡ before ++ (entry.Booted n many ∷ behind) → FindsExactly (reckoned_within n c r before) many
+  pub stands : StandsAt n (t ++ p.1) (reckoned_within n c r p.1) p.0
+  pub there : IsThere p.0 n
+
+so_or_so : (P : Bool → Type 0) → P true → P false → (b : Bool) → P b
+so_or_so P here there true = here
+so_or_so P here there false = there
+
+-- ## Boots that are noted
+
+-- none is where the node doesn't boot
+none_booted : (P : Type 0) (n : ℕ) (r : Reckoning) (before behind : List Entry) (many : ℕ) → EachIsAsRead n r (before ++ (entry.Booted n many ∷ behind)) → P
+none_booted P n r [] behind many each = absurd (each.1 refl)
+none_booted P n r (e ∷ before) behind many each = none_booted P n (reckoned n r e) before behind many each.2
+
+one_booted : (n j many : ℕ) (r : Reckoning) (before behind : List Entry) → entry.Booted n j ∷ [] ≡ before ++ (entry.Booted n many ∷ behind)
+    → FindsExactly r j → FindsExactly (fold (reckoned n) r before) many
+one_booted n j many r [] behind is right = let same : entry.Booted n j ≡ entry.Booted n many = cc in let number : j ≡ many =
+    cc in subst (FindsExactly r) number right
+one_booted n j many r (e ∷ []) behind is right = absurd (cc is)
+one_booted n j many r (e ∷ f ∷ before) behind is right = absurd (cc is)
+
+none_in_cut : (P : Type 0) (k n many : ℕ) (before behind : List Entry) → entry.Cut k ∷ [] ≡ before ++ (entry.Booted n many ∷ behind) → P
+none_in_cut P k n many [] behind is = absurd (cc is)
+none_in_cut P k n many (e ∷ []) behind is = absurd (cc is)
+none_in_cut P k n many (e ∷ f ∷ before) behind is = absurd (cc is)
+
+-- ## What happens to no memory from outside
+
+usual : (n : ℕ) (t : List Entry) (r : Reckoning) (c : Happening) (p : NodeWorld × List Entry) → begun_by n c r ≡ r
+    → (EachIsAsRead n r p.1 × ((fold (reckoned n) r p.1).due ≡ false) → IsCutAsPlanned n r c p.1) → ExactAt n t r p → GoesExactly n t r c p
+usual n t r c p same planned a = record {
+  planned = planned (a.exact.each, a.exact.stands.none_due);
+  booted = λ before behind many is. none_booted _ n r before behind many (subst (EachIsAsRead n r) is a.exact.each);
+  stands = subst (λ x. StandsAt n (t ++ p.1) (fold (reckoned n) x p.1) p.0) (sym same) a.exact.stands;
+  there = a.there;
+}
+
+module _ (hosts : List ℕ) (are : AreHosts hosts) (n : ℕ) where
+  -- ## Steps
+
+  comes_exact : (t : List Entry) (r : Reckoning) (w : NodeWorld) (e : End) (comes : Comes) → AllKeep hosts t w → IsThere w n → StandsAt n t r w
+      → ExactAt n t r (comes_at w e comes)
+  comes_exact t r w e comes all there stands =
+      by_input (input_of (seen_from e (link_to w.sites e.link)) comes) refl (cases_Bool e.at_host) where
+        by_input : (o : Option LinkInput) → input_of (seen_from e (link_to w.sites e.link)) comes ≡ o → (e.at_host ≡ true) ⊎ (e.at_host ≡ false)
+            → ExactAt n t r (comes_at w e comes)
+        by_input None is side =
+            let none_is : comes_at w e comes ≡ (w, []) = rw is refl in
+            subst (ExactAt n t r) (sym none_is) (none_exact n t r w there stands)
+        by_input (Some i) is (inl side) = rw is (rw side (
+            host_exact hosts are n t r w e.link comes (steps (AtEnd e.link i)) all
+            (λ x q here running host on before work same k.
+            steps_fine x.host (x.host ∷ []) x.memory before (inr host) (record { all = (host, tt); different = (tt, tt) }) (AtEnd e.link i) work k
+            (subst (λ (c : Core). IsOnOrder c.command c.init) (sym same) on)) there stands))
+        by_input (Some i) is (inr side) = rw is (rw side (
+            controller_exact hosts are n t r w e.link comes (steps (AtEnd e.link i)) all
+            (λ old before work k on. steps_fine 0 hosts old before (inl refl) are (AtEnd e.link i) work k on) there stands))
+
+  activates_exact : (t : List Entry) (r : Reckoning) (w : NodeWorld) (h sync power : ℕ) → AllKeep hosts t w → IsThere w n → StandsAt n t r w
+      → ExactAt n t r (activates w h sync power)
+  activates_exact t r w h sync power all there stands =
+      let near : NodeWorld × List Entry = comes_at w (end_c h) (Starts power) in
+      let a : ExactAt n t r near = comes_exact t r w (end_c h) (Starts power) all there stands in
+      exact_both n t r near (comes_at near.0 (end_h h) (Starts sync)) a
+      (comes_exact (t ++ near.1) (fold (reckoned n) r near.1) near.0 (end_h h) (Starts sync) (comes_goes hosts are t w (end_c h) (Starts power) all).keep
+      a.there a.exact.stands)
+
+  gives_exact : (t : List Entry) (r : Reckoning) (w : NodeWorld) (h : ℕ) (m : Message) → AllKeep hosts t w
+      → ((x : Site) (q : Running) → site_at w.sites h ≡ Some x → x.node ≡ Some q → (eqb m.0 1 && is_command_message m.1) ≡ true
+      → is_some q.core.command ≡ false)
+      → IsThere w n → StandsAt n t r w → ExactAt n t r (host_does w h NoInput (begins_with h (sending h m)))
+  gives_exact t r w h m all free there stands =
+      host_exact hosts are n t r w h NoInput (begins_with h (sending h m)) all
+      (λ x q here running host on before work same k.
+      let on_now : IsOnOrder work.core.command work.core.init = subst (λ (c : Core). IsOnOrder c.command c.init) (sym same) on in
+      all_fine x.host (x.host ∷ []) x.memory before h (sending h m) work (Some work.core.journal) k refl
+      (cond_both (eqb m.0 1 && is_command_message m.1) (Orders m.1 ∷ []) (Sends h m ∷ []) (MayBeDone (Some work.core.journal) work.core.command work.core.init)
+      (λ is. no_order work.core.command (Some m.1) work.core.init (ap (λ (c : Core). is_some c.command) same ∙ free x q here running is) on_now) (λ _. on_now))
+      work.ports (same_new work.ports)
+      (λ z. cond_both (eqb m.0 1 && is_command_message m.1) (Orders m.1 ∷ []) (Sends h m ∷ []) (AllByRecursion
+      (IsAllowedStill work.core.tables work.ports)) (λ _. (tt, tt)) (λ _. (tt, tt)))) there stands
+
+  inits_exact : (t : List Entry) (r : Reckoning) (w : NodeWorld) (h : ℕ) (identity : List ℕ) (pipes : List (List ℕ)) → AllKeep hosts t w
+      → IsThere w n → StandsAt n t r w → ExactAt n t r (host_does w h NoInput (begins_with h (beginning identity pipes)))
+  inits_exact t r w h identity pipes all there stands =
+      host_exact hosts are n t r w h NoInput (begins_with h (beginning identity pipes)) all
+      (λ x q here running host on before work same k.
+      all_fine x.host (x.host ∷ []) x.memory before h (beginning identity pipes) work (Some work.core.journal) k refl refl work.ports
+      (same_new work.ports) (λ z. (tt, (tt, tt)))) there stands
+
+  -- ## Losses
+
+  counts_on : (why : Loss) (h : ℕ) (o : Option Running) → is_some (counts why h o) ≡ is_some o
+  counts_on (Broken fault) h None = refl
+  counts_on (Broken fault) h (Some q) = refl
+  counts_on OnDemand h o = refl
+  counts_on Unread h o = refl
+  counts_on TooOld h o = refl
+  counts_on TooMany h o = refl
+
+  lost_exact : (t : List Entry) (r : Reckoning) (w : NodeWorld) (e : End) (why : Loss) → IsThere w n → StandsAt n t r w → ExactAt n t r (frame_lost w e why)
+  lost_exact t r w e why there stands = by_side (cases_Bool e.at_host) where
+    near : Site → Site
+    near s = record s { link = happens s.link (at e (Lose why)) }
+
+    far : Site → Site
+    far s = record s { link = happens s.link (at e (Lose why)); node = counts why e.link s.node }
+
+    far_is : NodeWorld × List Entry
+    far_is = (record w { sites = with_site e.link far w.sites }, entries_for e.link (first_lost Host why (link_to w.sites e.link).to_host))
+
+    near_is : NodeWorld × List Entry
+    near_is = (
+      record w { controller = counts why e.link w.controller; sites = with_site e.link near w.sites },
+      entries_for e.link (first_lost Controller why (link_to w.sites e.link).to_controller),
+    )
+
+    by_side : (e.at_host ≡ true) ⊎ (e.at_host ≡ false) → ExactAt n t r (frame_lost w e why)
+    by_side (inl side) =
+        let is : frame_lost w e why ≡ far_is = rw side refl in
+        subst (ExactAt n t r) (sym is) (plain_exact n t r w far_is (record {
+          plain = plain_entries e.link (first_lost Host why (link_to w.sites e.link).to_host);
+          memory_is = refl;
+          controller = refl;
+          change = λ (s : Site). changed_if (eqb s.host e.link) far s;
+          sites = refl;
+          host = λ s. so_or_so (λ b. (changed_if b far s).host ≡ s.host) refl refl (eqb s.host e.link);
+          memory = λ s. so_or_so (λ b. (changed_if b far s).memory ≡ s.memory) refl refl (eqb s.host e.link);
+          node = λ s. so_or_so (λ b. is_some (changed_if b far s).node ≡ is_some s.node) (counts_on why e.link s.node) refl
+              (eqb s.host e.link);
+        }) there stands)
+    by_side (inr side) =
+        let is : frame_lost w e why ≡ near_is = rw side refl in
+        subst (ExactAt n t r) (sym is) (plain_exact n t r w near_is (record {
+          plain = plain_entries e.link (first_lost Controller why (link_to w.sites e.link).to_controller);
+          memory_is = refl;
+          controller = counts_on why e.link w.controller;
+          change = λ (s : Site). changed_if (eqb s.host e.link) near s;
+          sites = refl;
+          host = λ s. so_or_so (λ b. (changed_if b near s).host ≡ s.host) refl refl (eqb s.host e.link);
+          memory = λ s. so_or_so (λ b. (changed_if b near s).memory ≡ s.memory) refl refl (eqb s.host e.link);
+          node = λ s. so_or_so (λ b. is_some (changed_if b near s).node ≡ is_some s.node) refl refl (eqb s.host e.link);
+        }) there stands)
+
+  -- ## Power
+
+  -- where this node has the same as before, and nothing is noted of it
+  same_exact : (t : List Entry) (r : Reckoning) (w v : NodeWorld) (es : List Entry) → IsSameAt n w v → AllByRecursion (IsNothingFor n) es → StandsAt n t r w
+      → ExactAt n t r (v, es)
+  same_exact t r w v es a idle stands = record {
+    exact = exact_idle n t r es (memory_at v n) (node_at v n)
+        (stands_same n t r (memory_at w n) (memory_at v n) (node_at w n) (node_at v n) stands a.memory (ap is_some a.node)) idle;
+    there = a.there;
+  }
+
+  stands_now : (t : List Entry) (r : Reckoning) (v : NodeWorld) (m : Memory) (node : Option Running) → IsNowAt n v m node → Stands n t r m node
+      → StandsAt n t r v
+  stands_now t r v m node a s = subst (λ x. Stands n t r x (node_at v n)) (sym a.memory) (subst (Stands n t r m) (sym a.running) s)
+
+  cut_exact : (t : List Entry) (r : Reckoning) (w : NodeWorld) (k : ℕ) (q : Running) → node_at w k ≡ Some q → IsThere w n → StandsAt n t r w
+      → GoesExactly n t r (IsCut k) (loses_power_at k w, entry.Cut k ∷ [])
+  cut_exact t r w k q running there stands = by_node (cases_Bool (eqb k n)) where
+    by_node : (eqb k n ≡ true) ⊎ (eqb k n ≡ false) → GoesExactly n t r (IsCut k) (loses_power_at k w, entry.Cut k ∷ [])
+    by_node (inl is) =
+        let same : k ≡ n = eqb-true k n is in
+        subst (λ j. GoesExactly n t r (IsCut j) (loses_power_at j w, entry.Cut j ∷ [])) (sym same) (record {
+          planned = refl;
+          booted = λ before behind many at_it. none_in_cut _ n n many before behind at_it;
+          stands = stands_now (t ++ entry.Cut n ∷ []) (fold (reckoned n) r (entry.Cut n ∷ [])) (loses_power_at n w) (memory_at w n) None
+              (now_loses n w there) (cut_stands n t r (memory_at w n) q (subst (Stands n t r (memory_at w n)) (sym (ap (node_at w) same) ∙ running) stands));
+          there = (now_loses n w there).there;
+        })
+    by_node (inr other) =
+        let a : ExactAt n t r (loses_power_at k w, entry.Cut k ∷ []) =
+        same_exact t r w (loses_power_at k w) (entry.Cut k ∷ []) (same_loses k n w (eqb-false k n other) there)
+        (other_idles k n (entry.Cut k ∷ []) (eqb-false k n other) (refl, tt)) stands in
+        record {
+          planned = refl;
+          booted = λ before behind many at_it. none_in_cut _ k n many before behind at_it;
+          stands = a.exact.stands;
+          there = a.there;
+        }
+
+  arms_exact : (t : List Entry) (r : Reckoning) (w : NodeWorld) (k : ℕ) (plan : Plan) → IsThere w n → StandsAt n t r w
+      → GoesExactly n t r (Arms k plan) (with_memory k (record (memory_at w k) { plan = Some plan }) w, [])
+  arms_exact t r w k plan there stands = by_node (cases_Bool (eqb k n)) where
+    by_node : (eqb k n ≡ true) ⊎ (eqb k n ≡ false) → GoesExactly n t r (Arms k plan) (with_memory k (record (memory_at w k) { plan = Some plan }) w, [])
+    by_node (inl is) =
+        let same : k ≡ n = eqb-true k n is in
+        let armed : Memory = record (memory_at w n) { plan = Some plan } in
+        let now : IsNowAt n (with_memory n armed w) armed (node_at w n) = now_memory n w armed there in
+        let here : begun_by n (Arms n plan) r ≡ record r { memory = record r.memory { plan = Some plan } } =
+        ap (λ b. cond b (record r { memory = record r.memory { plan = Some plan } }) r) (eq-eqb n n refl) in
+        let after_it : StandsAt n (t ++ []) (begun_by n (Arms n plan) r) (with_memory n armed w) =
+        subst (λ x. StandsAt n (t ++ []) x (with_memory n armed w)) (sym here)
+        (stands_now (t ++ []) (record r { memory = record r.memory { plan = Some plan } }) (with_memory n armed w) armed (node_at w n) now
+        (armed_stands n t r (memory_at w n) plan (node_at w n) stands)) in
+        subst (λ j. GoesExactly n t r (Arms j plan) (with_memory j (record (memory_at w j) { plan = Some plan }) w, [])) (sym same) (record {
+          planned = (tt, ap (λ (x : Reckoning). x.due) here ∙ stands.none_due);
+          booted = λ before behind many at_it. none_here _ n many before behind at_it;
+          stands = after_it;
+          there = now.there;
+        })
+      where
+        none_here : (P : Type 0) (j many : ℕ) (before behind : List Entry) → [] ≡ before ++ (entry.Booted j many ∷ behind) → P
+        none_here P j many [] behind at_it = absurd (cc at_it)
+        none_here P j many (e ∷ before) behind at_it = absurd (cc at_it)
+    by_node (inr other) =
+        usual n t r (Arms k plan) (with_memory k (record (memory_at w k) { plan = Some plan }) w, [])
+        (ap (λ b. cond b (record r { memory = record r.memory { plan = Some plan } }) r) other) (λ z. rw other z)
+        (same_exact t r w (with_memory k (record (memory_at w k) { plan = Some plan }) w) []
+        (same_memory k n w (record (memory_at w k) { plan = Some plan }) (eqb-false k n other) there) tt stands)
+
+  -- ## Boots
+
+  module _ (w : NodeWorld) (k : ℕ) where
+    abbrev memory : Memory
+    memory = memory_at w k
+
+    abbrev fails : Bool
+    fails = fails_within (length (boot_writes memory.content)) memory.plan
+
+    abbrev written : NodeWorld
+    written = with_memory k (after_planned (boot_writes memory.content) memory) w
+
+    abbrev starts : Running
+    starts = found k (links_of w k) memory.content
+
+    cut_is : fails ≡ true → boots w k ≡ (loses_power_at k written, entry.Cut k ∷ [])
+    cut_is e = rw e refl
+
+    run_is : fails ≡ false → boots w k ≡ (with_node k starts written, entry.Booted k (count_of starts.core.journal) ∷ [])
+    run_is e = rw e refl
+
+  boots_other : (t : List Entry) (r : Reckoning) (w : NodeWorld) (k : ℕ) → (k ≡ n → ⊥) → IsThere w n → StandsAt n t r w → ExactAt n t r (boots w k)
+  boots_other t r w k other there stands = by_plan (cases_Bool (fails w k)) where
+    first : IsSameAt n w (written w k)
+    first = same_memory k n w (after_planned (boot_writes (memory w k).content) (memory w k)) other there
+
+    by_plan : (fails w k ≡ true) ⊎ (fails w k ≡ false) → ExactAt n t r (boots w k)
+    by_plan (inl e) =
+        subst (ExactAt n t r) (sym (cut_is w k e))
+        (same_exact t r w (loses_power_at k (written w k)) (entry.Cut k ∷ [])
+        (same_then n w (written w k) (loses_power_at k (written w k)) first (same_loses k n (written w k) other first.there))
+        (other_idles k n (entry.Cut k ∷ []) other (refl, tt)) stands)
+    by_plan (inr e) =
+        let many : ℕ = count_of (starts w k).core.journal in
+        subst (ExactAt n t r) (sym (run_is w k e))
+        (same_exact t r w (with_node k (starts w k) (written w k)) (entry.Booted k many ∷ [])
+        (same_then n w (written w k) (with_node k (starts w k) (written w k)) first (same_node k n (written w k) (starts w k) other first.there))
+        (other_idles k n (entry.Booted k many ∷ []) other (refl, tt)) stands)
+
+  boots_own : (t : List Entry) (r : Reckoning) (w : NodeWorld) → length (commands_in t n) ≤ 2 ^ 32 - 1 → AllKeep hosts (t ++ (boots w n).1) (boots w n).0
+      → IsThere w n → StandsAt n t r w → GoesExactly n t r (Boots n) (boots w n)
+  boots_own t r w few keep there stands = by_plan (cases_Bool (fails w n)) where
+    here : begun_by n (Boots n) r ≡ booting n t r (memory w n)
+    here = ap (λ b. cond b (booting n t r (memory w n)) r) (eq-eqb n n refl)
+
+    planned_is : (es : List Entry) (b : Bool) → fails w n ≡ b → IsBootedBy b n r es → IsCutAsPlanned n r (Boots n) es
+    planned_is es b e x =
+        let same : fails_within (length (boot_writes r.memory.content)) r.memory.plan ≡ b =
+        ap (λ (m : Memory). fails_within (length (boot_writes m.content)) m.plan) stands.memory_is ∙ e in
+        rw (eq-eqb n n refl) (rw same x)
+
+    first : IsNowAt n (written w n) (after_planned (boot_writes (memory w n).content) (memory w n)) (node_at w n)
+    first = now_memory n w (after_planned (boot_writes (memory w n).content) (memory w n)) there
+
+    by_plan : (fails w n ≡ true) ⊎ (fails w n ≡ false) → GoesExactly n t r (Boots n) (boots w n)
+    by_plan (inl e) =
+        let v : NodeWorld = loses_power_at n (written w n) in
+        let off : IsNowAt n v (memory_at (written w n) n) None = now_loses n (written w n) first.there in
+        let now : IsNowAt n v (after_planned (boot_writes (memory w n).content) (memory w n)) None =
+        record { memory = off.memory ∙ first.memory; running = off.running; there = off.there } in
+        let es : List Entry = entry.Cut n ∷ [] in
+        subst (GoesExactly n t r (Boots n)) (sym (cut_is w n e)) (record {
+          planned = planned_is es true e refl;
+          booted = λ before behind many at_it. none_in_cut _ n n many before behind at_it;
+          stands = subst (λ x. StandsAt n (t ++ es) (fold (reckoned n) x es) v) (sym here)
+              (stands_now (t ++ es) (fold (reckoned n) (booting n t r (memory w n)) es) v (after_planned (boot_writes (memory w n).content) (memory w n)) None
+              now (boot_cut n t r (memory w n) (node_at w n) stands e));
+          there = now.there;
+        })
+    by_plan (inr e) =
+        let v : NodeWorld = with_node n (starts w n) (written w n) in
+        let on : IsNowAt n v (memory_at (written w n) n) (Some (starts w n)) = now_node n (written w n) (starts w n) first.there in
+        let now : IsNowAt n v (after_planned (boot_writes (memory w n).content) (memory w n)) (Some (starts w n)) =
+        record { memory = on.memory ∙ first.memory; running = on.running; there = on.there } in
+        let many : ℕ = count_of (starts w n).core.journal in
+        let es : List Entry = entry.Booted n many ∷ [] in
+        let right : FindsExactly r many =
+        boot_found n t r (memory w n) (links_of w n) (node_at w n) stands
+        (subst (λ b. length b ≤ 2 ^ 32 - 1) (sym (ap (λ b. commands_of b) stands.book_is)) few) in
+        let kept : AllKeep hosts (t ++ es) v = subst (λ (p : NodeWorld × List Entry). AllKeep hosts (t ++ p.1) p.0) (run_is w n e) keep in
+        let runs = runs_of hosts are (t ++ es) v n (starts w n) kept now.there now.running in
+        subst (GoesExactly n t r (Boots n)) (sym (run_is w n e)) (record {
+          planned = planned_is es false e (many, refl, right);
+          booted = λ before behind found at_it.
+              subst (λ x. FindsExactly (fold (reckoned n) x before) found) (sym here)
+              (one_booted n many found (booting n t r (memory w n)) before behind at_it right);
+          stands = subst (λ x. StandsAt n (t ++ es) (fold (reckoned n) x es) v) (sym here)
+              (stands_now (t ++ es) (fold (reckoned n) (booting n t r (memory w n)) es) v (after_planned (boot_writes (memory w n).content) (memory w n))
+              (Some (starts w n)) now
+              (boot_run n t r (memory w n) runs.0 many (node_at w n) (starts w n) stands
+              (subst (λ (m : Memory). Rattle.node_laws.specs.kept.Worlds.RunsSo n runs.0 m.content (t ++ es) (starts w n)) now.memory runs.1)));
+          there = now.there;
+        })
+      where
+        commands_of : Rattle.node_machine.specs.world.NodeFilters.Book → List Rattle.hci_tables.specs.declared.command.Command.Command
+        commands_of b = b.commands
+
+  boots_exact : (t : List Entry) (r : Reckoning) (w : NodeWorld) (k : ℕ) → length (commands_in t n) ≤ 2 ^ 32 - 1
+      → AllKeep hosts (t ++ (boots w k).1) (boots w k).0 → IsThere w n → StandsAt n t r w → GoesExactly n t r (Boots k) (boots w k)
+  boots_exact t r w k few keep there stands = by_node (cases_Bool (eqb k n)) where
+    by_node : (eqb k n ≡ true) ⊎ (eqb k n ≡ false) → GoesExactly n t r (Boots k) (boots w k)
+    by_node (inl is) =
+        let same : k ≡ n = eqb-true k n is in
+        subst (λ j. GoesExactly n t r (Boots j) (boots w j)) (sym same)
+        (boots_own t r w few (subst (λ j. AllKeep hosts (t ++ (boots w j).1) (boots w j).0) same keep) there stands)
+    by_node (inr other) =
+        usual n t r (Boots k) (boots w k)
+        (ap (λ b. cond b (record r { memory = after_planned (boot_writes r.memory.content) r.memory }) r) other) (λ z. rw other z.0)
+        (boots_other t r w k (eqb-false k n other) there stands)
+
+  -- ## Whatever happens
+
+  node_there : (w : NodeWorld) (h : ℕ) (x : Site) (q : Running) → IsHost h → site_at w.sites h ≡ Some x → x.node ≡ Some q → node_at w h ≡ Some q
+  node_there w h x q host here running =
+      let off : eqb h 0 ≡ false = ne_eqb h 0 (λ z. not_host h host z) in rw off (rw here running)
+    where
+      not_host : (h : ℕ) → IsHost h → h ≡ 0 → ⊥
+      not_host h host z = omega (arith, z, host.0)
+
+  pub event_exact : (t : List Entry) (r : Reckoning) (w : NodeWorld) (c : Happening) → AllKeep hosts t w → MayHappen w c → length (commands_in t n) ≤ 2 ^ 32 - 1
+      → AllKeep hosts (t ++ (world_step w c).1) (world_step w c).0 → IsThere w n → StandsAt n t r w → GoesExactly n t r c (world_step w c)
+  event_exact t r w (Boots k) all may few keep there stands = boots_exact t r w k few keep there stands
+  event_exact t r w (IsCut k) all may few keep there stands = cut_exact t r w k may.0 may.1 there stands
+  event_exact t r w (Gives e m) all may few keep there stands =
+      usual n t r (Gives e m) (world_step w (Gives e m)) refl (λ z. z) (gives_exact t r w e.link m all
+      (λ x q here running is.
+      let k = site_found (SiteKeeps t) IsHost w.sites e.link x all.sites (subst (AllByRecursion IsHost) (sym all.hosts_are) are.all) here in
+      ap is_some (may q (node_there w e.link x q (subst IsHost k.2 k.1) here running) is)) there stands)
+  event_exact t r w (Inits e identity pipes) all may few keep there stands =
+      usual n t r (Inits e identity pipes) (world_step w (Inits e identity pipes)) refl (λ z. z) (inits_exact t r w e.link identity pipes all there stands)
+  event_exact t r w (Takes e) all may few keep there stands =
+      usual n t r (Takes e) (world_step w (Takes e)) refl (λ z. z) (comes_exact t r w e NextFrame all there stands)
+  event_exact t r w (Loses e why) all may few keep there stands =
+      usual n t r (Loses e why) (world_step w (Loses e why)) refl (λ z. z) (lost_exact t r w e why there stands)
+  event_exact t r w Ticks all may few keep there stands =
+      usual n t r Ticks (world_step w Ticks) refl (λ z. z) (ticks_exact hosts are n t r w all there stands)
+  event_exact t r w (Resets e window) all may few keep there stands =
+      usual n t r (Resets e window) (world_step w (Resets e window)) refl (λ z. z) (comes_exact t r w e (AsksReset window) all there stands)
+  event_exact t r w (Activates h sync power) all may few keep there stands =
+      usual n t r (Activates h sync power) (world_step w (Activates h sync power)) refl (λ z. z) (activates_exact t r w h sync power all there stands)
+  event_exact t r w (Arms k plan) all may few keep there stands = arms_exact t r w k plan there stands

@@ -1,0 +1,321 @@
+-- What is known of each node at each event of a history.
+use Rattle.std.proofs.Common.{◌≡◌, ◌⊎◌, inl, inr, ℕ, suc, ◌-◌, ◌^◌, ◌≤◌, ◌||◌, true, false, eqb, List, [], ◌∷◌, ◌++◌, length, map, sym, refl, ap, ◌∙◌, subst}
+use Rattle.std.proofs.Common.{arith, append_assoc, append-nil, Bool, cond}
+use Rattle.std.specs.Option.{option_map_or}
+use Rattle.std.proofs.lemmas.List.Folds.{list_any-append}
+use Rattle.swp_base.specs.InMemory.{Memory}
+use Rattle.journal_laws.specs.declared.banks.Side.{Side}
+use Rattle.journal_laws.specs.Banks.{current}
+use Rattle.journal_laws.specs.Operations.{format_writes}
+use Rattle.std.specs.Prelude.{Option, IsSome, Some, None, replicate}
+use Rattle.std.specs.List.{AllByRecursion, list_any, flat_map, fold}
+use Rattle.std.proofs.lemmas.Bool.{cond_both, cases_Bool, cond-true, cond-false, eqb-true, true≢false}
+use Rattle.std.proofs.lemmas.Grind.{flat_map-append}
+use Rattle.std.proofs.lemmas.List.Sums.{fold-append}
+use Rattle.trace_model.specs.declared.entry.Entry.{Entry}
+use Rattle.trace_model.specs.declared.entry.Entry.TheVariants as entry
+use Rattle.trace_model.specs.declared.line.Header.{Header}
+use Rattle.trace_model.specs.declared.line.Line.{Line}
+use Rattle.journal_laws.specs.Planned.{after_planned}
+use Rattle.node_machine.specs.Node.{boot_writes}
+use Rattle.node_machine.specs.world.World.Happening.{Boots, IsCut, Gives, Inits, Takes, Loses, Ticks, Resets, Activates, Arms}
+use Rattle.node_machine.specs.world.NodeLegal.{last_in, FindsCommands}
+use Rattle.node_machine.specs.world.NodeLegal.Last.{CutBehindCommand}
+use Rattle.node_machine.specs.world.World.{NodeWorld, Site, Happening, new_memory, new_site, new_world, node_at, site_at, memory_at, world_step}
+use Rattle.node_machine.specs.world.Lines.{Occurrence, happenings}
+use Rattle.node_machine.specs.world.NodeHistories.{LineStep, NodeHistory, FollowsNodes, occurrences_of, occurrences_in, entries_in, node_entries}
+use Rattle.node_machine.specs.world.NodeFilters.{Book, new_book, with_found, book_in, commands_in}
+use Rattle.node_laws.specs.kept.Reckonings.{Reckoning, reckoning_of, with_written, reckoned, IsAsRead, EachIsAsRead}
+use Rattle.node_laws.specs.kept.Hosts.{AreHosts, IsFew, IsSentByHost}
+use Rattle.node_laws.specs.kept.Worlds.{AllKeep, MayHappen}
+use Rattle.node_laws.proofs.kept.Lines.{MayAllHappen, line_may, world_goes}
+use Rattle.node_laws.proofs.kept.Kept.{all_begin, blank_finds, are_kept}
+use Rattle.journal_laws.proofs.Opening.{fresh}
+use Rattle.node_laws.specs.telling.Telling.{world_behind}
+use Rattle.node_laws.proofs.telling.Lasting.{AllMay, AreCaused, lines_caused}
+use Rattle.node_laws.specs.cuts.Histories.{boots_it, BootsWriteSo, FindsBy, FindsExactly, begun_by, with_event, reckoned_within, reckoning_in}
+use Rattle.trace_model.specs.Lines.{IsNodeOf}
+use Rattle.node_laws.specs.cuts.Histories.{AreFoundExactly, StandsInMemories, IsCutAsPlanned, AreCutAsPlanned, KeptExactly}
+use Rattle.node_laws.proofs.cuts.Standing.{Stands, book_then}
+use Rattle.node_laws.proofs.cuts.Worlds.{IsThere, StandsAt, memory_far, node_far}
+use Rattle.node_laws.proofs.cuts.Events.{GoesExactly, event_exact}
+
+-- ## The beginning
+
+begins : (n : ℕ) → Stands n [] (reckoning_of false new_book (new_memory (replicate 65536 255))) (new_memory (replicate 65536 255)) None
+begins n = record {
+  runs_is = refl;
+  book_is = refl;
+  memory_is = refl;
+  none_due = refl;
+  none_lost = λ on. refl;
+  many = 0;
+  which = refl;
+  finds = blank_finds (replicate 65536 255) (fresh 65536 (omega arith));
+  used = λ on. absurd (true≢false (sym on));
+}
+
+site_in : (content : List ℕ) (hosts : List ℕ) (n : ℕ) → list_any (λ h. eqb h n) hosts ≡ true
+    → (s : Site) × (site_at (map (new_site content) hosts) n ≡ Some s) × (s.memory ≡ new_memory content) × (s.node ≡ None)
+site_in content [] n is = absurd (true≢false (sym is))
+site_in content (h ∷ hosts) n is = by_host (cases_Bool (eqb h n)) (site_in content hosts n) where
+  by_host : (eqb h n ≡ true) ⊎ (eqb h n ≡ false)
+      → (list_any (λ k. eqb k n) hosts ≡ true → (s : Site) × (site_at (map (new_site content) hosts) n ≡ Some s)
+      × (s.memory ≡ new_memory content) × (s.node ≡ None))
+      → (s : Site) × (site_at (map (new_site content) (h ∷ hosts)) n ≡ Some s) × (s.memory ≡ new_memory content) × (s.node ≡ None)
+  by_host (inl same) later = (new_site content h, cond-true (eqb h n) _ _ same, refl, refl)
+  by_host (inr other) later =
+      let rest = later (sym (ap (λ b. b || list_any (λ k. eqb k n) hosts) other) ∙ is) in
+      (rest.0, cond-false (eqb h n) _ _ other ∙ rest.1, rest.2, rest.3)
+
+-- a node of these hosts, as the world begins
+record Begins (n : ℕ) (w : NodeWorld) : Type 0 where
+  there : IsThere w n
+  stands : StandsAt n [] (reckoning_of false new_book (new_memory (replicate 65536 255))) w
+
+node_begins : (hosts : List ℕ) (n : ℕ) → IsNodeOf hosts n → Begins n (new_world hosts)
+node_begins hosts n is = by_number (cases_Bool (eqb n 0)) where
+  w : NodeWorld
+  w = new_world hosts
+
+  blank : Reckoning
+  blank = reckoning_of false new_book (new_memory (replicate 65536 255))
+
+  by_number : (eqb n 0 ≡ true) ⊎ (eqb n 0 ≡ false) → Begins n w
+  by_number (inl zero_is) =
+      subst (λ k. Begins k w) (sym (eqb-true n 0 zero_is)) (record { there = inl refl; stands = begins 0 })
+  by_number (inr off) =
+      let s = site_in (replicate 65536 255) hosts n (sym (ap (λ b. b || list_any (λ h. eqb h n) hosts) off) ∙ is) in
+      record {
+        there = inr (off, (s.0, s.1));
+        stands = subst (λ m. Stands n [] blank m (node_at w n)) (sym (memory_far w n s.0 off s.1 ∙ s.2))
+            (subst (Stands n [] blank (new_memory (replicate 65536 255))) (sym (node_far w n s.0 off s.1 ∙ s.3)) (begins n));
+      }
+
+-- ## Events
+
+entries-append : (xs ys : List Occurrence) → entries_in (xs ++ ys) ≡ entries_in xs ++ entries_in ys
+entries-append xs ys = flat_map-append (λ (o : Occurrence). o.entries) xs ys
+
+or_false_left : (a b : Bool) → (a || (b || false)) ≡ false → a ≡ false
+or_false_left true b is = is
+or_false_left false b is = refl
+
+or_false_right : (a b : Bool) → (a || (b || false)) ≡ false → b ≡ false
+or_false_right true b is = absurd (true≢false is)
+or_false_right false true is = is
+or_false_right false false is = refl
+
+abbrev pub blank : List ℕ
+blank = replicate 65536 255
+
+-- a node that doesn't run, over a memory that is blank
+pub record IsNew (r : Reckoning) : Type 0 where
+  pub off : r.runs ≡ false
+  pub content : r.memory.content ≡ blank
+
+abbrev pub boots_in : ℕ → List Occurrence → Bool
+boots_in n events = list_any (λ (o : Occurrence). boots_it n o.cause) events
+
+-- entries in which it doesn't boot leave it so
+new_one : (n : ℕ) (r : Reckoning) (e : Entry) → IsAsRead n r e → IsNew r → IsNew (reckoned n r e)
+new_one n r (entry.Command k c) as_read new =
+    cond_both (eqb k n) (with_written c r) r IsNew (λ is. absurd (true≢false (sym (as_read (eqb-true k n is)) ∙ new.off))) (λ _. new)
+new_one n r (entry.Booted k j) as_read new =
+    cond_both (eqb k n) (record r { runs = true; book = with_found j r.book; lost = false }) r IsNew (λ is. absurd (as_read (eqb-true k n is))) (λ _. new)
+new_one n r (entry.Cut k) as_read new =
+    cond_both (eqb k n) (record r { runs = false; due = false }) r IsNew (λ _. record { off = refl; content = new.content }) (λ _. new)
+new_one n r _ as_read new = new
+
+new_all : (n : ℕ) (r : Reckoning) (es : List Entry) → EachIsAsRead n r es → IsNew r → IsNew (fold (reckoned n) r es)
+new_all n r [] each new = new
+new_all n r (e ∷ es) each new = new_all n (reckoned n r e) es each.2 (new_one n r e each.1 new)
+
+new_event : (n : ℕ) (r : Reckoning) (c : Happening) (es : List Entry) → boots_it n c ≡ false → IsCutAsPlanned n r c es → IsNew r
+    → IsNew (reckoned_within n c r es)
+new_event n r (Boots k) es none planned new =
+    let each : EachIsAsRead n r es = rw none at planned in
+    subst (λ x. IsNew (fold (reckoned n) x es))
+    (sym (ap (λ b. cond b (record r { memory = after_planned (boot_writes r.memory.content) r.memory }) r) none)) (new_all n r es each new)
+new_event n r (IsCut k) es none planned new =
+    subst (λ l. IsNew (fold (reckoned n) r l)) (sym planned) (new_one n r (entry.Cut k) tt new)
+new_event n r (Arms k plan) es none planned new =
+    new_all n (begun_by n (Arms k plan) r) es planned.0
+    (cond_both (eqb k n) (record r { memory = record r.memory { plan = Some plan } }) r IsNew (λ _. record { off = new.off; content = new.content }) (λ _. new))
+new_event n r (Gives e m) es none planned new = new_all n r es planned.0 new
+new_event n r (Inits e identity pipes) es none planned new = new_all n r es planned.0 new
+new_event n r (Takes e) es none planned new = new_all n r es planned.0 new
+new_event n r (Loses e why) es none planned new = new_all n r es planned.0 new
+new_event n r Ticks es none planned new = new_all n r es planned.0 new
+new_event n r (Resets e window) es none planned new = new_all n r es planned.0 new
+new_event n r (Activates h sync power) es none planned new = new_all n r es planned.0 new
+
+module _ (hosts : List ℕ) (are : AreHosts hosts) (n : ℕ) where
+  -- what is known before each of these events, and behind all of them
+  pub record IsKnown (front : List Occurrence) (w : NodeWorld) (events : List Occurrence) : Type 0 where
+    pub keep : AllKeep hosts (entries_in front) w
+    pub caused : AreCaused MayHappen w events
+    pub few : IsFew (entries_in front ++ entries_in events)
+    pub there : IsThere w n
+    pub stands : StandsAt n (entries_in front) (reckoning_in front n) w
+    pub new : boots_in n front ≡ false → IsNew (reckoning_in front n)
+
+  goes : (front : List Occurrence) (w : NodeWorld) (o : Occurrence) (events : List Occurrence) → IsKnown front w (o ∷ events)
+      → GoesExactly n (entries_in front) (reckoning_in front n) o.cause (world_step w o.cause)
+  goes front w o events k =
+      let few : (j : ℕ) → length (commands_in (entries_in front) j) ≤ 2 ^ 32 - 1 = λ j. k.few (entries_in front) (entries_in (o ∷ events)) j refl in
+      event_exact hosts are n (entries_in front) (reckoning_in front n) w o.cause k.keep k.caused.1 (few n)
+      (world_goes hosts are (entries_in front) w o.cause k.keep k.caused.1 few).keep k.there k.stands
+
+  next_known : (front : List Occurrence) (w : NodeWorld) (o : Occurrence) (events : List Occurrence) → IsKnown front w (o ∷ events)
+      → IsKnown (front ++ o ∷ []) (world_step w o.cause).0 events
+  next_known front w o events k =
+      let few : (j : ℕ) → length (commands_in (entries_in front) j) ≤ 2 ^ 32 - 1 = λ j. k.few (entries_in front) (entries_in (o ∷ events)) j refl in
+      let g = goes front w o events k in
+      let es : List Entry = (world_step w o.cause).1 in
+      let here : entries_in (front ++ o ∷ []) ≡ entries_in front ++ es =
+      entries-append front (o ∷ []) ∙ ap (λ l. entries_in front ++ l) (append-nil o.entries ∙ k.caused.0) in
+      let read : reckoning_in (front ++ o ∷ []) n ≡ reckoned_within n o.cause (reckoning_in front n) es =
+      fold-append (with_event n) (reckoning_of false new_book (new_memory (replicate 65536 255))) front (o ∷ [])
+      ∙ ap (reckoned_within n o.cause (reckoning_in front n)) k.caused.0 in
+      record {
+        keep = subst (λ t. AllKeep hosts t (world_step w o.cause).0) (sym here)
+            (world_goes hosts are (entries_in front) w o.cause k.keep k.caused.1 few).keep;
+        caused = k.caused.2;
+        few = subst IsFew (sym (append_assoc (entries_in front) o.entries (entries_in events)) ∙ ap (λ l. l ++ entries_in events)
+            (sym (entries-append front (o ∷ []) ∙ ap (λ l. entries_in front ++ l) (append-nil o.entries)))) k.few;
+        there = g.there;
+        new = λ none.
+            let both : (boots_in n front || (boots_it n o.cause || false)) ≡ false =
+            sym (list_any-append (λ (x : Occurrence). boots_it n x.cause) front (o ∷ [])) ∙ none in
+            let first : boots_in n front ≡ false = or_false_left (boots_in n front) (boots_it n o.cause) both in
+            let last : boots_it n o.cause ≡ false = or_false_right (boots_in n front) (boots_it n o.cause) both in
+            subst IsNew (sym read) (new_event n (reckoning_in front n) o.cause es last g.planned (k.new first));
+        stands = subst (λ t. StandsAt n t (reckoning_in (front ++ o ∷ []) n) (world_step w o.cause).0) (sym here)
+            (subst (λ r. StandsAt n (entries_in front ++ es) r (world_step w o.cause).0) (sym read) g.stands);
+      }
+
+  -- behind some more of them
+  pub known_behind : (more : List Occurrence) (front : List Occurrence) (w : NodeWorld) (events : List Occurrence) → IsKnown front w (more ++ events)
+      → IsKnown (front ++ more) (world_behind w more) events
+  known_behind [] front w events k = subst (λ f. IsKnown f w events) (sym (append-nil front)) k
+  known_behind (o ∷ more) front w events k =
+      subst (λ f. IsKnown f (world_behind w (o ∷ more)) events) (append_assoc front (o ∷ []) more)
+      (known_behind more (front ++ o ∷ []) (world_step w o.cause).0 events (next_known front w o (more ++ events) k))
+
+  -- an event of them
+  pub event_is : (front : List Occurrence) (w : NodeWorld) (o : Occurrence) (events : List Occurrence) → IsKnown front w (o ∷ events)
+      → IsCutAsPlanned n (reckoning_in front n) o.cause o.entries
+      × ((before behind : List Entry) (many : ℕ) → o.entries ≡ before ++ (entry.Booted n many ∷ behind)
+      → FindsExactly (reckoned_within n o.cause (reckoning_in front n) before) many)
+  event_is front w o events k =
+      let g = goes front w o events k in (
+        subst (IsCutAsPlanned n (reckoning_in front n) o.cause) (sym k.caused.0) g.planned,
+        λ before behind many is. g.booted before behind many (sym k.caused.0 ∙ is),
+      )
+
+-- what an event begins with leaves the commands
+begun_book : (n : ℕ) (c : Happening) (r : Reckoning) → (begun_by n c r).book ≡ r.book
+begun_book n (Boots k) r = cond_both (eqb k n) (record r { memory = after_planned (boot_writes r.memory.content) r.memory }) r
+    (λ (x : Reckoning). x.book ≡ r.book) (λ _. refl) (λ _. refl)
+begun_book n (Arms k plan) r = cond_both (eqb k n) (record r { memory = record r.memory { plan = Some plan } }) r
+    (λ (x : Reckoning). x.book ≡ r.book) (λ _. refl) (λ _. refl)
+begun_book n _ r = refl
+
+-- ## Schedules
+
+may_all : (causes : List Happening) (w : NodeWorld) → MayAllHappen w causes → AllMay MayHappen w causes
+may_all [] w may = tt
+may_all (c ∷ causes) w may = (may.0, may_all causes (world_step w c).0 may.1)
+
+module _ (header : Header) (lines : List Line) (t : NodeHistory) (follows : FollowsNodes header lines t) (are : AreHosts header.hosts.items)
+    (sides : AllByRecursion IsSentByHost lines) (few : IsFew (node_entries t)) where
+  hosts_are : t.header.hosts.items ≡ header.hosts.items
+  hosts_are = ap (λ (h : Header). h.hosts.items) follows.header_is
+
+  abbrev w0 : NodeWorld
+  w0 = new_world header.hosts.items
+
+  caused : AreCaused MayHappen w0 (occurrences_in t)
+  caused =
+      subst (λ steps. AreCaused MayHappen w0 (flat_map (λ (s : LineStep). occurrences_of s.outcome) steps)) (sym follows.steps_are)
+      (lines_caused MayHappen IsSentByHost
+      (λ w l side none. may_all (happenings w l) w (line_may header.hosts.items are w l side none)) lines w0 sides)
+
+  known : (n : ℕ) → IsNodeOf t.header.hosts.items n → (front back : List Occurrence) → occurrences_in t ≡ front ++ back
+      → IsKnown header.hosts.items are n front (world_behind w0 front) back
+  known n node front back is =
+      let b : Begins n w0 = node_begins header.hosts.items n (subst (λ l. IsNodeOf l n) hosts_are node) in
+      known_behind header.hosts.items are n front [] w0 back (record {
+        keep = all_begin header.hosts.items;
+        caused = subst (AreCaused MayHappen w0) is caused;
+        few = subst (λ l. IsFew (entries_in l)) is few;
+        there = b.there;
+        stands = b.stands;
+        new = λ none. record { off = refl; content = refl };
+      })
+
+  pub found_exactly : AreFoundExactly t
+  found_exactly front back o before behind n many node is at_it = (of_entries, cut_behind) where
+    k : IsKnown header.hosts.items are n front (world_behind w0 front) (o ∷ back)
+    k = known n node front (o ∷ back) is
+
+    finds : FindsExactly (reckoned_within n o.cause (reckoning_in front n) before) many
+    finds = (event_is header.hosts.items are n front (world_behind w0 front) o back k).1 before behind many at_it
+
+    seen : List Entry
+    seen = entries_in front ++ before
+
+    entries_are : node_entries t ≡ seen ++ (entry.Booted n many ∷ (behind ++ entries_in back))
+    entries_are =
+        ap entries_in is ∙ entries-append front (o ∷ back) ∙ ap (λ l. entries_in front ++ (l ++ entries_in back)) at_it
+        ∙ ap (λ l. entries_in front ++ l) (append_assoc before (entry.Booted n many ∷ behind) (entries_in back))
+        ∙ sym (append_assoc (entries_in front) before (entry.Booted n many ∷ (behind ++ entries_in back)))
+
+    book_is : (reckoned_within n o.cause (reckoning_in front n) before).book ≡ book_in seen n
+    book_is = book_then n (entries_in front) (begun_by n o.cause (reckoning_in front n)) before (begun_book n o.cause (reckoning_in front n) ∙ k.stands.book_is)
+
+    of_entries : FindsBy (reckoned_within n o.cause (reckoning_in front n) before).lost many (length (commands_in seen n))
+    of_entries = subst (λ (b : Book). FindsBy (reckoned_within n o.cause (reckoning_in front n) before).lost many (length b.commands)) book_is finds
+
+    cut_behind : (reckoned_within n o.cause (reckoning_in front n) before).lost ≡ true → last_in seen n ≡ CutBehindCommand
+    cut_behind lost = by_which ((are_kept header lines t follows are sides few).found seen (behind ++ entries_in back) n many entries_are) where
+      less : suc many ≡ length (commands_in seen n)
+      less = subst (λ b. FindsBy b many (length (reckoned_within n o.cause (reckoning_in front n) before).book.commands)) lost finds
+          ∙ ap (λ (b : Book). length b.commands) book_is
+
+      by_which : FindsCommands seen n many → last_in seen n ≡ CutBehindCommand
+      by_which (inl all) = absurd (omega (arith, all, less))
+      by_which (inr cut) = cut.1
+
+  pub cut_as_planned : AreCutAsPlanned t
+  cut_as_planned front back o n node is =
+      (event_is header.hosts.items are n front (world_behind w0 front) o back (known n node front (o ∷ back) is)).0
+
+  pub stands_in_memories : StandsInMemories t
+  stands_in_memories front back n node is =
+      ap (λ l. memory_at (world_behind (new_world l) front) n) hosts_are ∙ sym (known n node front back is).stands.memory_is
+
+  -- what a boot writes, by whether a bank is in use
+  writes_none : (content : List ℕ) → IsSome (current content) → boot_writes content ≡ []
+  writes_none content some = by_bank (current content) refl some where
+    by_bank : (b : Option Side) → current content ≡ b → IsSome b → boot_writes content ≡ []
+    by_bank None is used = absurd (true≢false (sym used))
+    by_bank (Some side) is used = ap (λ p. option_map_or (λ _. []) p format_writes) is
+
+  pub boots_write_so : BootsWriteSo t
+  boots_write_so front back n node is =
+      let k : IsKnown header.hosts.items are n front (world_behind w0 front) back = known n node front back is in (
+        λ booted. writes_none (reckoning_in front n).memory.content
+            (subst (λ (m : Memory). IsSome (current m.content)) (sym k.stands.memory_is) (k.stands.used booted)),
+        λ none. ap boot_writes (k.new none).content ∙ ap (λ p. option_map_or (λ _. []) p format_writes) (fresh 65536 (omega arith)).closed,
+      )
+
+  pub kept_exactly : KeptExactly t
+  kept_exactly = record {
+    kept = are_kept header lines t follows are sides few;
+    found = found_exactly;
+    cut = cut_as_planned;
+    boots = boots_write_so;
+    stands = stands_in_memories;
+  }

@@ -1,0 +1,235 @@
+-- What a tick leaves of what is known of each node.
+use Rattle.std.proofs.Common.{◌≡◌, ◌⊎◌, inl, inr, ℕ, true, false, eqb, List, [], ◌∷◌, ◌++◌, map, sym, refl, ap, ◌∙◌, subst}
+use Rattle.std.specs.Prelude.{Option, Some, None}
+use Rattle.std.specs.List.{AllByRecursion, fold, flat_map}
+use Rattle.std.proofs.lemmas.Bool.{cases_Bool, cond-true, cond-false, eqb-true, eqb-false}
+use Rattle.trace_model.specs.Lines.{IsHost}
+use Rattle.trace_model.specs.declared.entry.Entry.{Entry}
+use Rattle.journal_laws.specs.Planned.{after_planned}
+use Rattle.link_entries.specs.messages.Links.{exchanged, aged, ticks_at_controller}
+use Rattle.link_entries.specs.messages.Links.Ending.{GoesOut}
+use Rattle.link_entries.specs.entries.Entries.{aged_entries}
+use Rattle.link_entries.specs.entries.Entries.End.{Controller, Host}
+use Rattle.history.specs.Steps.{entries_for}
+use Rattle.node_machine.specs.Parts.{Running, Work}
+use Rattle.node_machine.specs.Node.{steps}
+use Rattle.node_machine.specs.Node.NodeInput.{TimePasses}
+use Rattle.node_machine.specs.world.World.{NodeWorld, Site, site_at, link_to, runs_on, work_of, all_aged, is_late_at, ticked_so, turns_at, ending_of}
+use Rattle.node_machine.specs.world.World.{frames_noted}
+use Rattle.node_machine.specs.world.World.{controller_ticks, host_ticks, hosts_tick, world_ticks}
+use Rattle.node_laws.specs.kept.Reckonings.{Reckoning, reckoned}
+use Rattle.node_laws.specs.kept.Books.{IsOf}
+use Rattle.node_laws.specs.kept.Hosts.{AreDifferent, AreHosts}
+use Rattle.node_laws.specs.kept.Worlds.{NodeKeeps, SiteKeeps, AllKeep}
+use Rattle.registry.proofs.ValueLemmas.{AllByRecursion-append as all_append}
+use Rattle.node_laws.proofs.kept.Plainly.{plain_entries, plain_flat}
+use Rattle.node_laws.proofs.kept.Doing.{GoesOn_or_lost}
+use Rattle.node_laws.proofs.kept.Stepping.{steps_fine}
+use Rattle.node_laws.proofs.kept.Standing.{runs_begun}
+use Rattle.node_laws.proofs.kept.Sites.{hosts_in}
+use Rattle.node_laws.proofs.kept.Worlds.{step_keeps, plain_frames}
+use Rattle.node_laws.proofs.kept.Ticking.{moved, none_zero, aged_goes, near_ticks}
+use Rattle.node_laws.proofs.kept.Reckoned.{IsNothingFor, plain_idles, other_idles}
+use Rattle.node_laws.proofs.cuts.Standing.{Stands, Exact, exact_idle, exact_then, exact_step}
+use Rattle.node_laws.proofs.cuts.Worlds.{IsThere, StandsAt, ExactAt, stands_far, exact_far, exact_near, plain_exact, run_exact}
+
+-- one part of an event, and another
+pub exact_both : (n : ℕ) (t : List Entry) (r : Reckoning) (p q : NodeWorld × List Entry) → ExactAt n t r p
+    → ExactAt n (t ++ p.1) (fold (reckoned n) r p.1) q → ExactAt n t r (q.0, p.1 ++ q.1)
+exact_both n t r p q a b = record { exact = exact_then n t r p.1 q.1 _ _ a.exact.each b.exact; there = b.there }
+
+-- ## Hosts
+
+-- the tick of a host: its entries are its own, and it stands so after them
+record HostTicks (t : List Entry) (s : Site) (p : Site × List Entry) : Type 0 where
+  own : AllByRecursion (IsOf s.host) p.1
+  host : p.0.host ≡ s.host
+  exact : (r : Reckoning) → Stands s.host t r s.memory s.node → Exact s.host t r p.1 p.0.memory p.0.node
+
+host_ticked : (t : List Entry) (s : Site) → IsHost s.host → SiteKeeps t s → HostTicks t s (host_ticks s)
+host_ticked t s is k = by_node s.node refl k where
+  by_node : (o : Option Running) → s.node ≡ o → NodeKeeps s.host (s.host ∷ []) t s.memory o → HostTicks t s (host_ticks s)
+  by_node None e k =
+      let off_is : host_ticks s ≡ (record s { link = exchanged (ticks_at_controller (exchanged s.link) [] GoesOut) }, []) = rw e refl in
+      subst (HostTicks t s) (sym off_is) (record {
+        own = tt;
+        host = refl;
+        exact = λ r a. exact_idle s.host t r [] s.memory s.node a tt;
+      })
+  by_node (Some q) e k =
+      let begun : Work = work_of q s.memory.plan (λ h. s.link.host) [] in
+      let work : Work = steps TimePasses begun in
+      let more : List Entry = frames_noted Host s.host (exchanged s.link) work in
+      let fine : GoesOn_or_lost s.host (s.host ∷ []) s.memory t work =
+      steps_fine s.host (s.host ∷ []) s.memory t (inr is) (record { all = (is, tt); different = (tt, tt) }) TimePasses begun
+      (runs_begun s.host (s.host ∷ []) t s.memory q (λ h. s.link.host) [] tt k.runs) k.runs.on in
+      let after_it : Site = record s {
+        link = exchanged (ticks_at_controller (exchanged s.link) (turns_at work s.host) (ending_of work));
+        memory = after_planned work.writes s.memory;
+        node = runs_on work;
+      } in
+      let on_is : host_ticks s ≡ (after_it, work.entries ++ more) = rw e refl in
+      subst (HostTicks t s) (sym on_is) (record {
+        own = (step_keeps s.host (s.host ∷ []) t s.memory work more fine (plain_frames Host s.host (exchanged s.link) work)).2;
+        host = refl;
+        exact = λ r a. exact_step s.host (s.host ∷ []) t s.memory q r (subst (Stands s.host t r s.memory) e a) work more fine
+            (plain_idles s.host more (plain_frames Host s.host (exchanged s.link) work));
+      })
+
+-- the ticks of hosts are nothing for a node that isn't one of them
+others_tick : (n : ℕ) (t : List Entry) (sites : List Site) → AreDifferent (hosts_in sites) → AllByRecursion IsHost (hosts_in sites)
+    → AllByRecursion (SiteKeeps t) sites → AllByRecursion (λ k. eqb k n ≡ false) (hosts_in sites)
+    → AllByRecursion (IsNothingFor n) (hosts_tick sites).1
+others_tick n t [] different hosts all off = tt
+others_tick n t (s ∷ sites) different hosts all off =
+    let one : HostTicks t s (host_ticks s) = host_ticked t s hosts.0 all.0 in
+    all_append (IsNothingFor n) (host_ticks s).1 (hosts_tick sites).1 (other_idles s.host n (host_ticks s).1 (eqb-false s.host n off.0) one.own)
+    (others_tick n (t ++ (host_ticks s).1) sites different.1 hosts.1
+    (moved t (t ++ (host_ticks s).1) s.host (host_ticks s).1 refl one.own sites different.0 all.1) off.1)
+
+-- a host that is one of them
+record SiteStands (n : ℕ) (t : List Entry) (r : Reckoning) (p : List Site × List Entry) : Type 0 where
+  site : Site
+  there : site_at p.0 n ≡ Some site
+  exact : Exact n t r p.1 site.memory site.node
+
+site_stands : (n : ℕ) (t : List Entry) (r : Reckoning) (sites : List Site) (x : Site) → AreDifferent (hosts_in sites) → AllByRecursion IsHost (hosts_in sites)
+    → AllByRecursion (SiteKeeps t) sites → site_at sites n ≡ Some x → Stands n t r x.memory x.node → SiteStands n t r (hosts_tick sites)
+site_stands n t r [] x different hosts all here a = absurd (cc here)
+site_stands n t r (s ∷ sites) x different hosts all here a = by_host (cases_Bool (eqb s.host n))
+    (λ found stands. site_stands n (t ++ first.1) (fold (reckoned n) r first.1) sites x different.1 hosts.1 later_keep found stands) where
+      first : Site × List Entry
+      first = host_ticks s
+
+      one : HostTicks t s first
+      one = host_ticked t s hosts.0 all.0
+
+      later_keep : AllByRecursion (SiteKeeps (t ++ first.1)) sites
+      later_keep = moved t (t ++ first.1) s.host first.1 refl one.own sites different.0 all.1
+
+      by_host : (eqb s.host n ≡ true) ⊎ (eqb s.host n ≡ false)
+          → (site_at sites n ≡ Some x → Stands n (t ++ first.1) (fold (reckoned n) r first.1) x.memory x.node
+          → SiteStands n (t ++ first.1) (fold (reckoned n) r first.1) (hosts_tick sites))
+          → SiteStands n t r (hosts_tick (s ∷ sites))
+      by_host (inl is) later =
+          let found : Some s ≡ Some x = sym (cond-true (eqb s.host n) (Some s) (site_at sites n) is) ∙ here in
+          let same : s ≡ x = cc in
+          let number : s.host ≡ n = eqb-true s.host n is in
+          let now : Stands n t r s.memory s.node = subst (λ (y : Site). Stands n t r y.memory y.node) (sym same) a in
+          let here_exact : Exact n t r first.1 first.0.memory first.0.node =
+          subst (λ k. Exact k t r first.1 first.0.memory first.0.node) number (one.exact r (subst (λ k. Stands k t r s.memory s.node) (sym number) now)) in
+          let others : AllByRecursion (λ k. eqb k n ≡ false) (hosts_in sites) =
+          subst (λ j. AllByRecursion (λ k. eqb k j ≡ false) (hosts_in sites)) number different.0 in
+          record {
+            site = first.0;
+            there = cond-true (eqb first.0.host n) (Some first.0) (site_at (hosts_tick sites).0 n) (ap (λ k. eqb k n) one.host ∙ is);
+            exact = exact_then n t r first.1 (hosts_tick sites).1 first.0.memory first.0.node here_exact.each
+                (exact_idle n (t ++ first.1) (fold (reckoned n) r first.1) (hosts_tick sites).1 first.0.memory first.0.node here_exact.stands
+                (others_tick n (t ++ first.1) sites different.1 hosts.1 later_keep others));
+          }
+      by_host (inr off) later =
+          let found : site_at sites n ≡ Some x = sym (cond-false (eqb s.host n) (Some s) (site_at sites n) off) ∙ here in
+          let begun : Exact n t r first.1 x.memory x.node =
+          exact_idle n t r first.1 x.memory x.node a (other_idles s.host n first.1 (eqb-false s.host n off) one.own) in
+          let rest : SiteStands n (t ++ first.1) (fold (reckoned n) r first.1) (hosts_tick sites) = later found begun.stands in
+          record {
+            site = rest.site;
+            there = cond-false (eqb first.0.host n) (Some first.0) (site_at (hosts_tick sites).0 n) (ap (λ k. eqb k n) one.host ∙ off) ∙ rest.there;
+            exact = exact_then n t r first.1 (hosts_tick sites).1 rest.site.memory rest.site.node begun.each rest.exact;
+          }
+
+-- ## A tick
+
+module _ (hosts : List ℕ) (are : AreHosts hosts) (n : ℕ) where
+  aged_exact : (t : List Entry) (r : Reckoning) (w : NodeWorld) → IsThere w n → StandsAt n t r w → ExactAt n t r (all_aged w)
+  aged_exact t r w there stands = plain_exact n t r w (all_aged w) (record {
+    plain = plain_flat (λ (s : Site). entries_for s.host (aged_entries Controller s.link.to_controller ++ aged_entries Host s.link.to_host))
+        (λ s. plain_entries s.host (aged_entries Controller s.link.to_controller ++ aged_entries Host s.link.to_host)) w.sites;
+    memory_is = refl;
+    controller = refl;
+    change = λ (s : Site). record s { link = aged s.link };
+    sites = refl;
+    host = λ s. refl;
+    memory = λ s. refl;
+    node = λ s. refl;
+  }) there stands
+
+  near_exact : (t : List Entry) (r : Reckoning) (w : NodeWorld) → AllKeep hosts t w → IsThere w n → StandsAt n t r w → ExactAt n t r (controller_ticks w)
+  near_exact t r w all there stands = by_node w.controller refl all.controller where
+    by_node : (o : Option Running) → w.controller ≡ o → NodeKeeps 0 hosts t w.memory o → ExactAt n t r (controller_ticks w)
+    by_node None e k =
+        let off : NodeWorld × List Entry = (record w { sites = map (λ (s : Site). record s { link = ticks_at_controller s.link [] GoesOut }) w.sites }, []) in
+        let off_is : controller_ticks w ≡ off = rw e refl in
+        subst (ExactAt n t r) (sym off_is) (plain_exact n t r w off (record {
+          plain = tt;
+          memory_is = refl;
+          controller = refl;
+          change = λ (s : Site). record s { link = ticks_at_controller s.link [] GoesOut };
+          sites = refl;
+          host = λ s. refl;
+          memory = λ s. refl;
+          node = λ s. refl;
+        }) there stands)
+    by_node (Some q) e k =
+        let begun : Work = work_of q w.memory.plan (λ h. (link_to w.sites h).controller) [] in
+        let work : Work = steps TimePasses begun in
+        let more : List Entry = flat_map (λ (s : Site). frames_noted Controller s.host s.link work) w.sites in
+        let change : Site → Site = λ (s : Site). record s { link = ticked_so s.link (is_late_at work s.host) (turns_at work s.host) (ending_of work) } in
+        let on : NodeWorld × List Entry =
+        (record { memory = after_planned work.writes w.memory; controller = runs_on work; sites = map change w.sites }, work.entries ++ more) in
+        let on_is : controller_ticks w ≡ on = rw e refl in
+        subst (ExactAt n t r) (sym on_is) (run_exact hosts n t r w on (record {
+          running = q;
+          was = e;
+          work = work;
+          more = more;
+          plain = plain_flat (λ (s : Site). frames_noted Controller s.host s.link work) (λ s. plain_frames Controller s.host s.link work) w.sites;
+          fine = steps_fine 0 hosts w.memory t (inl refl) are TimePasses begun
+              (runs_begun 0 hosts t w.memory q (λ h. (link_to w.sites h).controller) [] tt k.runs) k.runs.on;
+          memory_is = refl;
+          controller_is = refl;
+          entries_are = refl;
+          change = change;
+          sites = refl;
+          host = λ s. refl;
+          memory = λ s. refl;
+          node = λ s. refl;
+        }) there stands)
+
+  far_exact : (t : List Entry) (r : Reckoning) (w : NodeWorld) → AllKeep hosts t w → IsThere w n → StandsAt n t r w
+      → ExactAt n t r (record w { sites = (hosts_tick w.sites).0 }, (hosts_tick w.sites).1)
+  far_exact t r w all there stands = by_node there where
+    v : NodeWorld
+    v = record w { sites = (hosts_tick w.sites).0 }
+
+    different : AreDifferent (hosts_in w.sites)
+    different = subst AreDifferent (sym all.hosts_are) are.different
+
+    are_hosts : AllByRecursion IsHost (hosts_in w.sites)
+    are_hosts = subst (AllByRecursion IsHost) (sym all.hosts_are) are.all
+
+    by_node : IsThere w n → ExactAt n t r (v, (hosts_tick w.sites).1)
+    by_node (inl is) =
+        subst (λ k. ExactAt k t r (v, (hosts_tick w.sites).1)) (sym is)
+        (exact_near t r v (hosts_tick w.sites).1
+        (exact_idle 0 t r (hosts_tick w.sites).1 w.memory w.controller (subst (λ k. StandsAt k t r w) is stands)
+        (others_tick 0 t w.sites different are_hosts all.sites (none_zero (hosts_in w.sites) are_hosts))))
+    by_node (inr far) =
+        let s : Site = far.1.0 in
+        let rest : SiteStands n t r (hosts_tick w.sites) =
+        site_stands n t r w.sites s different are_hosts all.sites far.1.1 (stands_far n t r w s far.0 far.1.1 stands) in
+        exact_far n t r v (hosts_tick w.sites).1 rest.site far.0 rest.there rest.exact
+
+  pub ticks_exact : (t : List Entry) (r : Reckoning) (w : NodeWorld) → AllKeep hosts t w → IsThere w n → StandsAt n t r w → ExactAt n t r (world_ticks w)
+  ticks_exact t r w all there stands =
+      let old = all_aged w in
+      let near = controller_ticks old.0 in
+      let far = hosts_tick near.0.sites in
+      let v : NodeWorld = record near.0 { sites = far.0 } in
+      let a : ExactAt n t r old = aged_exact t r w there stands in
+      let b : ExactAt n (t ++ old.1) (fold (reckoned n) r old.1) near =
+      near_exact (t ++ old.1) (fold (reckoned n) r old.1) old.0 (aged_goes hosts are t w all).keep a.there a.exact.stands in
+      let c : ExactAt n ((t ++ old.1) ++ near.1) (fold (reckoned n) (fold (reckoned n) r old.1) near.1) (v, far.1) =
+      far_exact ((t ++ old.1) ++ near.1) (fold (reckoned n) (fold (reckoned n) r old.1) near.1) near.0
+      (near_ticks hosts are (t ++ old.1) old.0 (aged_goes hosts are t w all).keep).keep b.there b.exact.stands in
+      exact_both n t r old (v, near.1 ++ far.1) a (exact_both n (t ++ old.1) (fold (reckoned n) r old.1) near (v, far.1) b c)

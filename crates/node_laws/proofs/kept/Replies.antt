@@ -1,0 +1,82 @@
+-- A controller may do what it does with a message.
+use Rattle.std.proofs.Common.{◌≡◌, ℕ, ◌≤◌, subst, Bool, true, false, List, [], ◌∷◌, refl}
+use Rattle.std.specs.Prelude.{Option, Some, None, map}
+use Rattle.std.specs.List.{AllByRecursion}
+use Rattle.journal_laws.specs.declared.state.State.{State}
+use Rattle.hci_tables.specs.declared.command.Command.{Command}
+use Rattle.hci_tables.specs.Commands.{IsCommand}
+use Rattle.hci_tables.specs.Tables.{AreTables}
+use Rattle.gate_answers.specs.Answers.{body_in}
+use Rattle.gate_admin.specs.declared.view.LinkView.{LinkView}
+use Rattle.gate_admin.specs.declared.decision.Decision.{Decision}
+use Rattle.gate_admin.specs.declared.decision.Decision.TheVariants.{Answer, Commit, Ask}
+use Rattle.gate_admin.specs.View.{has, hosts_where}
+use Rattle.gate_admin.specs.Decide.{IsRecordableDecision, decided}
+use Rattle.gate_link.specs.Link.{link_served}
+use Rattle.link_machine.specs.Machine.{Message}
+use Rattle.node_machine.specs.Parts.{Creation, About, Notice, Core, Port, Deed}
+use Rattle.node_machine.specs.Parts.About.{Waits, Forgotten, Removed}
+use Rattle.node_machine.specs.Parts.Deed.{Tells}
+use Rattle.node_machine.specs.Carrying.{finds_room}
+use Rattle.node_machine.specs.Controller.{creation_in, view_for, commit_deeds, decision_deeds, link_deeds, agreed, controller_deeds}
+use Rattle.node_laws.specs.kept.Books.{WaitsFor, WaitsAt}
+use Rattle.node_laws.specs.kept.Deeds.{IsOnOrder, MayBeDone}
+use Rattle.node_laws.proofs.steps.Ports.{at_port}
+use Rattle.node_laws.proofs.steps.Walks.{controller_holds}
+use Rattle.node_laws.proofs.kept.Deciding.{decided_recordable}
+
+waiting : (n : Option Notice) (c : Creation) → WaitsFor n → creation_in n ≡ Some c → IsCommand c.command
+waiting None c w e = absurd (cc e)
+waiting (Some n) c w e = by_about n.about w e where
+  by_about : (a : About) → WaitsFor (Some (record { about = a; age = n.age })) → creation_in (Some
+      (record { about = a; age = n.age })) ≡ Some c → IsCommand c.command
+  by_about (Waits d) w e = let same : d ≡ c = cc in subst (λ (x : Creation). IsCommand x.command) same w
+  by_about Forgotten w e = absurd (cc e)
+  by_about Removed w e = absurd (cc e)
+
+module _ (core : Core) (on : IsOnOrder core.command core.init) where
+  abbrev Fine : List Deed → Type 0
+  Fine deeds = MayBeDone (Some core.journal) core.command core.init deeds
+
+  told : (s : Option State) (message : List ℕ) (hosts : List ℕ) → MayBeDone s core.command core.init (map (λ x. Tells x message) hosts)
+  told s message [] = on
+  told s message (x ∷ hosts) = told s message hosts
+
+  pub commit_may : (c : Command) (room : Bool) → finds_room core c ≡ room → (h pipe : ℕ) (answer : List ℕ) (behind : List Deed) → IsCommand c
+      → MayBeDone None core.command core.init behind → Fine (commit_deeds room h pipe c answer behind)
+  commit_may c true e h pipe answer behind may fine = ((may, e), fine)
+  commit_may c false e h pipe answer behind may fine = on
+
+  agreed_may : (c : Creation) (flag : Bool) → (flag ≡ true → finds_room core c.command ≡ true) → IsCommand c.command → Fine (agreed flag c)
+  agreed_may c true e may = ((may, e refl), on)
+  agreed_may c false e may = on
+
+  pub link_may : (h pipe : ℕ) (answer : List ℕ × Option ℕ) → Fine (link_deeds h pipe answer)
+  link_may h pipe answer = by_value answer.0 answer.1 where
+    by_value : (message : List ℕ) (value : Option ℕ) → Fine (link_deeds h pipe (message, value))
+    by_value message None = on
+    by_value message (Some errors) = on
+
+  decision_may : (h pipe : ℕ) (d : Decision) → IsRecordableDecision d → Fine (decision_deeds core h pipe d)
+  decision_may h pipe (Answer answer) may = on
+  decision_may h pipe (Commit c answer tell notice) may =
+      commit_may c (finds_room core c) refl h pipe answer.items _ may (told None notice.items (hosts_where (has tell)))
+  decision_may h pipe (Ask asked notice c answer) may = (may, on)
+
+  module _ (sorted : AreTables core.tables) (ports : List Port) (all : AllByRecursion WaitsAt ports) (h : ℕ) (some : 1 ≤ h) (most : h ≤ 7) where
+    pub controller_may : (m : Message) → Fine (controller_deeds core ports h m)
+    controller_may m =
+        let v : LinkView = view_for core.tables ports h in
+        controller_holds Fine core ports h m (record {
+          drops = λ pid none. on;
+          goes_on = λ to off. on;
+          goes_back = λ n event. on;
+          refuses = λ r off free. on;
+          names = λ n served gate. on;
+          counts = λ errors n served gate. link_may h m.0 (link_served errors n (body_in m.1));
+          decides =
+              λ n served gate. decision_may h m.0 (decided core.tables v h m.0 n (body_in m.1))
+              (decided_recordable core.tables v h m.0 n (body_in m.1) sorted some most);
+          hears = λ p reply here asked. on;
+          agrees = λ flag p c reply here asked room. agreed_may c flag room (waiting p.desk.notice c (at_port WaitsAt ports h p all here) asked);
+        })

@@ -1,0 +1,5 @@
+use Rattle.node_laws.proofs.telling.Orderly.{worlds_are_orderly}
+use Rattle.node_laws.proofs.links_told.worlds_stay_orderly.Goals as goal
+
+pub returns : goal.returns
+returns c = worlds_are_orderly

@@ -1,0 +1,35 @@
+-- A command that neither sets nor clears the whitelist of a host leaves it as it is.
+use Rattle.std.proofs.Common.{◌≡◌, ◌⊎◌, ℕ, ◌≤◌, true, false, not, cond, eqb, leb, ◌&&◌, refl, ap, ◌∙◌, inl, inr}
+use Rattle.std.specs.Prelude.{IsTrue}
+use Rattle.std.proofs.lemmas.Bool.{and_from, le-leb, cases_Bool}
+use Rattle.registry.specs.Values.{value_at, is_kept, default_of}
+use Rattle.hci_tables.specs.declared.command.Command.{Command}
+use Rattle.hci_tables.specs.declared.command.Command.TheVariants.{Create, Delete, Clear, SetOpened, Set, Sync}
+use Rattle.hci_tables.specs.Commands.{IsCommand}
+use Rattle.hci_tables.specs.Tables.{HciTables, AreTables, apply, is_kept_sync}
+use Rattle.tables_laws.specs.Changes.{told_value}
+use Rattle.tables_laws.proofs.Values.{values-apply}
+use Rattle.node_laws.specs.steps.Creations.{LeavesWhitelist}
+
+synced : (t : HciTables) (h id x : ℕ) → told_value t (Sync h id) x 3 ≡ value_at t.values x 0 3
+synced t h id x = by_host (cases_Bool (eqb h x)) where
+  by_host : (eqb h x ≡ true) ⊎ (eqb h x ≡ false) → told_value t (Sync h id) x 3 ≡ value_at t.values x 0 3
+  by_host (inl same) = ap (λ b. cond (b && false && not (is_kept_sync t.syncs h id)) (default_of 1) (value_at t.values x 0 3)) same
+  by_host (inr other) = ap (λ b. cond (b && false && not (is_kept_sync t.syncs h id)) (default_of 1) (value_at t.values x 0 3)) other
+
+left : (t : HciTables) (c : Command) (x : ℕ) → LeavesWhitelist x c → told_value t c x 3 ≡ value_at t.values x 0 3
+left t (Set h gate p value) x leaves = ap (λ b. cond b value.items (value_at t.values x 0 3)) leaves
+left t (Clear h) x leaves = ap (λ b. cond b (default_of 3) (value_at t.values x 0 3)) leaves
+left t (Sync h id) x leaves = synced t h id x
+left t (Create row) x leaves = refl
+left t (Delete pid) x leaves = refl
+left t (SetOpened h pid opened) x leaves = refl
+
+kept : (x : ℕ) → 1 ≤ x → x ≤ 7 → IsTrue (is_kept x 0 3)
+kept x some most =
+    let host = and_from (leb 1 x) (leb x 7) (le-leb 1 x some) (le-leb x 7 most) in
+    and_from (leb 1 x && leb x 7 && true) true (and_from (leb 1 x && leb x 7) true host refl) refl
+
+pub whitelist_left : (t : HciTables) (c : Command) (x : ℕ) → AreTables t → IsCommand c → 1 ≤ x → x ≤ 7 → LeavesWhitelist x c
+    → value_at (apply t c).values x 0 3 ≡ value_at t.values x 0 3
+whitelist_left t c x are may some most leaves = values-apply t c x 3 are may (kept x some most) ∙ left t c x leaves

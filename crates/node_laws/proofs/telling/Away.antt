@@ -1,0 +1,93 @@
+-- A node that has no end on a link notes nothing of it.
+use Rattle.std.proofs.Common.{◌≡◌, ℕ, ◌==◌, Bool, true, false, List, [], ◌∷◌, ◌++◌, Option, Some, None, map, refl, ap, subst, ◌∙◌}
+use Rattle.std.specs.Option.{option_map_or}
+use Rattle.trace_model.specs.declared.entry.Entry.{Entry}
+use Rattle.link_machine.specs.Machine.{Turn}
+use Rattle.link_entries.specs.entries.Entries.{turn_entry}
+use Rattle.node_machine.specs.Parts.{Desk, Port, Work}
+use Rattle.node_machine.specs.Carrying.{own_side, noting, port_at, changed_if, with_desk, after_turn, noted_of, turn_at}
+use Rattle.node_laws.specs.telling.Telling.{of_link}
+use Rattle.node_laws.proofs.telling.Walks.{AreSilent}
+use Rattle.node_laws.proofs.telling.Accounts.{of-append, of_silent, of_other}
+use Rattle.node_laws.proofs.steps.Ports.{changed_host}
+
+pub at_map : (f : Port → Port) → ((p : Port) → (f p).desk.host ≡ p.desk.host) → (ports : List Port) (h : ℕ) (p : Port) → port_at ports h ≡ Some p
+    → port_at (map f ports) h ≡ Some (f p)
+at_map f keeps [] h p q = cc
+at_map f keeps (x ∷ ports) h p q = go (x.desk.host == h) refl (at_map f keeps ports h p)
+  where
+    same : ((f x).desk.host == h) ≡ (x.desk.host == h)
+    same = ap (λ n. n == h) (keeps x)
+
+    go : (b : Bool) → (x.desk.host == h) ≡ b → (port_at ports h ≡ Some p → port_at (map f ports) h ≡ Some (f p)) → port_at (map f (x ∷ ports)) h ≡ Some (f p)
+    go true e later =
+        let is : Some x ≡ Some p = rw e at q in
+        let one : x ≡ p = cc in
+        let found : ((f x).desk.host == h) ≡ true = same ∙ e in
+        rw found (ap (λ z. Some (f z)) one)
+    go false e later =
+        let passed : ((f x).desk.host == h) ≡ false = same ∙ e in
+        rw passed (later (rw e at q))
+
+pub none_map : (f : Port → Port) → ((p : Port) → (f p).desk.host ≡ p.desk.host) → (ports : List Port) (h : ℕ) → port_at ports h ≡ None
+    → port_at (map f ports) h ≡ None
+none_map f keeps [] h q = refl
+none_map f keeps (x ∷ ports) h q = go (x.desk.host == h) refl (none_map f keeps ports h)
+  where
+    same : ((f x).desk.host == h) ≡ (x.desk.host == h)
+    same = ap (λ n. n == h) (keeps x)
+
+    go : (b : Bool) → (x.desk.host == h) ≡ b → (port_at ports h ≡ None → port_at (map f ports) h ≡ None) → port_at (map f (x ∷ ports)) h ≡ None
+    go true e later = let is : Some x ≡ None = rw e at q in absurd (cc is)
+    go false e later =
+        let passed : ((f x).desk.host == h) ≡ false = same ∙ e in
+        rw passed (later (rw e at q))
+
+-- where none has this number, the end with another one hasn't either
+pub none_is : (ports : List Port) (h k : ℕ) (x : Port) → port_at ports h ≡ None → port_at ports k ≡ Some x → (x.desk.host == h) ≡ false
+none_is [] h k x q r = absurd (cc r)
+none_is (y ∷ ports) h k x q r = go (y.desk.host == h) (y.desk.host == k) refl refl (none_is ports h k x)
+  where
+    go : (b c : Bool) → (y.desk.host == h) ≡ b → (y.desk.host == k) ≡ c
+        → (port_at ports h ≡ None → port_at ports k ≡ Some x → (x.desk.host == h) ≡ false) → (x.desk.host == h) ≡ false
+    go true c e f later = let is : Some y ≡ None = rw e at q in absurd (cc is)
+    go false true e f later =
+        let is : Some y ≡ Some x = rw f at r in
+        let one : y ≡ x = cc in
+        let P : Port → Type 0 = λ z. (z.desk.host == h) ≡ false in subst P one e
+    go false false e f later = later (rw e at q) (rw f at r)
+
+-- the node has no end on the link with this host, and noted nothing of it
+pub record Away (h : ℕ) (w : Work) : Type 0 where
+  pub none : port_at w.ports h ≡ None
+  pub told : of_link h w.entries ≡ []
+
+module _ (h : ℕ) where
+  more : (w : Work) (es : List Entry) → of_link h w.entries ≡ [] → of_link h es ≡ [] → of_link h (w.entries ++ es) ≡ []
+  more w es p q = of-append h w.entries es ∙ (ap (λ t. t ++ of_link h es) p ∙ q)
+
+  pub away_note : (es : List Entry) (w : Work) → AreSilent es → Away h w → Away h (noting es w)
+  away_note es w s a = record { none = a.none; told = more w es a.told (of_silent h es s) }
+
+  pub away_desk : (k : ℕ) (f : Desk → Desk) (w : Work) → ((d : Desk) → (f d).host ≡ d.host) → Away h w → Away h (with_desk k f w)
+  away_desk k f w keeps a =
+      let g : Port → Port = λ p. record p { desk = f p.desk } in
+      record {
+        none = none_map (λ p. changed_if (p.desk.host == k) g p) (λ p. changed_host (p.desk.host == k) g p (λ q. keeps q.desk)) w.ports h a.none;
+        told = a.told;
+      }
+
+  pub away_turns : (k : ℕ) (t : Turn) (w : Work) → Away h w → Away h (turn_at k t w)
+  away_turns k t w a =
+      record {
+        none = none_map (λ p. changed_if (p.desk.host == k) (after_turn t) p) (λ p. changed_host (p.desk.host == k) (after_turn t) p (λ q. refl)) w.ports h
+            a.none;
+        told = more w (option_map_or (noted_of w.core t) (port_at w.ports k) []) a.told (go (port_at w.ports k) refl);
+      }
+    where
+      go : (o : Option Port) → port_at w.ports k ≡ o → of_link h (option_map_or (noted_of w.core t) o []) ≡ []
+      go None r = refl
+      go (Some x) r = of_other x.desk.host h (turn_entry (own_side w.core) x.session x.side t) (none_is w.ports h k x a.none r)
+
+  pub away_beside : (w v : Work) → v.core.node ≡ w.core.node → v.ports ≡ w.ports → v.entries ≡ w.entries → Away h w → Away h v
+  away_beside w v core ports entries a = record { none = ap (λ ps. port_at ps h) ports ∙ a.none; told = ap (of_link h) entries ∙ a.told }

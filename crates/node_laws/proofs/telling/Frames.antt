@@ -1,0 +1,71 @@
+-- What holds of all that is noted of frames and of power holds as frames come, go out, are lost and grow old.
+use Rattle.std.proofs.Common.{Bool, true, false, cond, List, [], ◌∷◌, ◌++◌, length}
+use Rattle.std.specs.Prelude.{nat_lt}
+use Rattle.std.specs.List.{AllByRecursion}
+use Rattle.swp_base.specs.declared.control_frames.Control.{Control}
+use Rattle.link_laws.specs.sessions.Sessions.{OnWire}
+use Rattle.link_machine.specs.Machine.{LinkEnd, frames_out}
+use Rattle.link_entries.specs.messages.Links.{Link, Ending, Comes, Loss, put}
+use Rattle.link_entries.specs.messages.Links.Comes.{NextFrame, AsksReset, Starts, Stops, NoInput}
+use Rattle.link_entries.specs.messages.Links.Ending.{GoesOut, CutOff}
+use Rattle.link_entries.specs.messages.Links.Loss.{TooOld, TooMany}
+use Rattle.link_entries.specs.entries.Entries.{End as Side, Entry as Noted, far, first_lost, pushed_out, wire_with, put_entries, puts_entries, ending_entries}
+use Rattle.link_entries.specs.entries.Entries.{aged_entries}
+use Rattle.link_entries.specs.entries.Entries.Entry.{Emit, Took, Lost, Cut}
+use Rattle.node_machine.specs.world.World.{arrival}
+
+module _ (P : Noted → Type 0) (emit : (who : Side) (c : Control) → P (Emit who c)) (took : (who : Side) (c : Control) → P (Took who c))
+    (lost : (who : Side) (c : Control) (why : Loss) → P (Lost who c why)) (cut : (who : Side) → P (Cut who)) where
+  abbrev All : List Noted → Type 0
+  All notes = AllByRecursion P notes
+
+  pub all-append : (xs ys : List Noted) → All xs → All ys → All (xs ++ ys)
+  all-append [] ys a b = b
+  all-append (x ∷ xs) ys a b = (a.0, all-append xs ys a.1 b)
+
+  pub lost_all : (who : Side) (why : Loss) (xs : List OnWire) → All (first_lost who why xs)
+  lost_all who why [] = tt
+  lost_all who why (x ∷ xs) = (lost who x.frame why, tt)
+
+  pushed_all : (who : Side) (wire : List OnWire) → All (pushed_out who wire)
+  pushed_all who wire = go (nat_lt 64 (length wire))
+    where
+      go : (b : Bool) → All (cond b (first_lost who TooMany wire) [])
+      go true = lost_all who TooMany wire
+      go false = tt
+
+  puts_all : (who : Side) (l : Link) (cs : List Control) → All (puts_entries who l cs)
+  puts_all who l [] = tt
+  puts_all who l (c ∷ cs) =
+      all-append (put_entries who l c) (puts_entries who (put l c) cs) (emit who c, pushed_all (far who) (wire_with l c)) (puts_all who (put l c) cs)
+
+  pub ending_all : (who : Side) (l : Link) (e : LinkEnd) (ending : Ending) → All (ending_entries who l e ending)
+  ending_all who l e GoesOut = puts_all who l (frames_out e)
+  ending_all who l e CutOff = (cut who, tt)
+
+  pub arrival_all : (who : Side) (l : Link) (comes : Comes) → All (arrival who l comes)
+  arrival_all who l NextFrame = go l.to_controller
+    where
+      first : List OnWire → List Noted
+      first [] = []
+      first (x ∷ xs) = Took who x.frame ∷ []
+
+      go : (xs : List OnWire) → All (first xs)
+      go [] = tt
+      go (x ∷ xs) = (took who x.frame, tt)
+  arrival_all who l (AsksReset window) = tt
+  arrival_all who l (Starts value) = tt
+  arrival_all who l Stops = tt
+  arrival_all who l NoInput = tt
+
+  aged_all : (who : Side) (xs : List OnWire) → All (aged_entries who xs)
+  aged_all who [] = tt
+  aged_all who (x ∷ xs) = go (nat_lt x.age 4) (aged_all who xs)
+    where
+      go : (b : Bool) → All (aged_entries who xs) → All (cond b (aged_entries who xs) (Lost who x.frame TooOld ∷ aged_entries who xs))
+      go true later = later
+      go false later = (lost who x.frame TooOld, later)
+
+  -- on both wires of a link
+  pub wires_all : (one other : Side) (xs ys : List OnWire) → All (aged_entries one xs ++ aged_entries other ys)
+  wires_all one other xs ys = all-append (aged_entries one xs) (aged_entries other ys) (aged_all one xs) (aged_all other ys)

@@ -1,0 +1,60 @@
+-- What a history without ticks tells of each link.
+use Rattle.std.proofs.Common.{◌≡◌, ℕ, zero, suc, List, [], ◌∷◌, Option, Some, None, refl}
+use Rattle.std.specs.Prelude.{replicate}
+use Rattle.std.specs.List.{AllByRecursion}
+use Rattle.trace_model.specs.declared.line.End.{End}
+use Rattle.trace_model.specs.declared.line.Line.{Line}
+use Rattle.trace_model.specs.declared.line.Line.TheVariants as line
+use Rattle.history.specs.Damage.{Verdict}
+use Rattle.history.specs.Damage.Verdict.{Same, LostFor, Undetected}
+use Rattle.history.specs.Follows.{first_verdict, taken_of}
+use Rattle.node_machine.specs.world.World.{NodeWorld, Happening, world_step}
+use Rattle.node_machine.specs.world.World.Happening.{Takes}
+use Rattle.node_machine.specs.world.Lines.{refusal_in, happenings, happens_by, frames_at}
+use Rattle.node_machine.specs.world.NodeHistories.{steps_from, world_after}
+use Rattle.node_laws.specs.telling.Telling.{IsOrderly, EachGoesSo, IsUntimed, IsUntimedLine, AreUntimed}
+use Rattle.node_laws.proofs.telling.Events.{goes_not, goes_then, untimed_goes}
+use Rattle.node_laws.proofs.telling.Lasting.{AllMay, entries_of_steps, lines_last}
+
+-- no time passes in any world
+abbrev MayBeUntimed : NodeWorld → Happening → Type 0
+MayBeUntimed w c = IsUntimed c
+
+all_untimed : (causes : List Happening) (w : NodeWorld) → AllByRecursion IsUntimed causes → AllMay MayBeUntimed w causes
+all_untimed [] w u = tt
+all_untimed (c ∷ causes) w u = (u.0, all_untimed causes (world_step w c).0 u.1)
+
+repeated : (n : ℕ) (c : Happening) → IsUntimed c → AllByRecursion IsUntimed (replicate n c)
+repeated zero c u = tt
+repeated (suc n) c u = (u, repeated n c u)
+
+damaged : (e : End) (v : Option Verdict) → AllByRecursion IsUntimed (happens_by e v)
+damaged e None = tt
+damaged e (Some Same) = (tt, tt)
+damaged e (Some (LostFor why)) = (tt, tt)
+damaged e (Some (Undetected read)) = tt
+
+line_untimed : (w : NodeWorld) (l : Line) → IsUntimedLine l → refusal_in w l ≡ None → AllMay MayBeUntimed w (happenings w l)
+line_untimed w (line.Tick times) u q = absurd u
+line_untimed w (line.Send e pid message) u q = (tt, tt)
+line_untimed w (line.Deliver e count) u q =
+    all_untimed (happenings w (line.Deliver e count)) w (repeated (taken_of count (frames_at w e)) (Takes e) tt)
+line_untimed w (line.Lose e) u q = (tt, tt)
+line_untimed w (line.Damage e places) u q =
+    all_untimed (happenings w (line.Damage e places)) w (damaged e (first_verdict (frames_at w e) places.items))
+line_untimed w (line.Reset e window) u q = (tt, tt)
+line_untimed w (line.Busy e) u q = tt
+line_untimed w (line.Ready e) u q = tt
+line_untimed w (line.Boot node) u q = (tt, tt)
+line_untimed w (line.Cut node) u q = (tt, tt)
+line_untimed w (line.Activate host sync power) u q = (tt, tt)
+line_untimed w (line.Arm node nth fill) u q = (tt, tt)
+line_untimed w (line.Init e identity pipes) u q = (tt, tt)
+line_untimed w (line.Tables n) u q = tt
+line_untimed w (line.Settle n) u q = tt
+
+pub lines_go : (lines : List Line) (w : NodeWorld) → AreUntimed lines → IsOrderly w → EachGoesSo w (world_after w lines) (entries_of_steps (steps_from w lines))
+lines_go lines w u a =
+    lines_last (λ t v. EachGoesSo w v t) MayBeUntimed IsUntimedLine
+    (λ t v c so untimed. goes_then w v (world_step v c).0 t (world_step v c).1 so (untimed_goes v c untimed so.orderly)) line_untimed lines [] w
+    (goes_not w [] (λ h. refl) a) u

@@ -1,0 +1,334 @@
+-- What lasts over each event of a world of nodes, with the entries noted so far, lasts over all events of a schedule.
+use Rattle.std.proofs.Common.{◌≡◌, ℕ, zero, suc, Bool, true, false, List, [], ◌∷◌, ◌++◌, sym, refl, ap, ◌∙◌, subst, append_assoc, append-nil}
+use Rattle.std.specs.Prelude.{Option, Some, None, is_some, replicate, unwrap_or}
+use Rattle.std.specs.List.{AllByRecursion, flat_map}
+use Rattle.std.proofs.lemmas.List.Concat.{flat_map-append}
+use Rattle.trace_model.specs.declared.entry.Entry.{Entry}
+use Rattle.trace_model.specs.declared.entry.NoCause.{NoCause}
+use Rattle.trace_model.specs.declared.entry.NoCause.TheVariants as cause
+use Rattle.trace_model.specs.declared.line.End.{End}
+use Rattle.trace_model.specs.declared.line.Line.{Line}
+use Rattle.trace_model.specs.declared.line.Line.TheVariants as line
+use Rattle.link_entries.specs.messages.Links.{Loss}
+use Rattle.history.specs.Damage.{Verdict}
+use Rattle.history.specs.Damage.Verdict.{Same, LostFor, Undetected}
+use Rattle.history.specs.Follows.{first_verdict, taken_of}
+use Rattle.node_machine.specs.Parts.{Running}
+use Rattle.node_machine.specs.world.World.{NodeWorld, Happening, node_at, world_step}
+use Rattle.node_machine.specs.world.World.Happening.{Takes, Loses, Ticks}
+use Rattle.node_machine.specs.world.Lines.{if_true, frames_at, refusal_in, happens_by, happenings, Occurrence, can_happen, all_happen, LineOutcome, tables_told}
+use Rattle.node_machine.specs.world.Lines.{goes_on, line_step}
+use Rattle.node_machine.specs.world.Lines.LineOutcome.{WasRefused}
+use Rattle.node_machine.specs.world.NodeHistories.{LineStep, steps_from, occurrences_of, entries_in, world_after}
+use Rattle.node_laws.specs.telling.Telling.{world_behind, MayBoot}
+
+-- events that may happen one after another
+abbrev pub AllMay : (NodeWorld → Happening → Type 0) → NodeWorld → List Happening → Type 0
+AllMay May w [] = Unit {0}
+AllMay May w (c ∷ causes) = May w c × AllMay May (world_step w c).0 causes
+
+-- what may happen in any world may happen again and again
+pub repeated_may : (May : NodeWorld → Happening → Type 0) (c : Happening) → ((w : NodeWorld) → May w c) → (n : ℕ) (w : NodeWorld)
+    → AllMay May w (replicate n c)
+repeated_may May c one zero w = tt
+repeated_may May c one (suc n) w = (one w, repeated_may May c one n (world_step w c).0)
+
+-- a damaged frame is taken or lost
+pub damaged_may : (May : NodeWorld → Happening → Type 0) (w : NodeWorld) (e : End) → May w (Takes e) → ((why : Loss) → May w (Loses e why))
+    → (o : Option Verdict) → AllMay May w (happens_by e o)
+damaged_may May w e takes loses None = tt
+damaged_may May w e takes loses (Some Same) = (takes, tt)
+damaged_may May w e takes loses (Some (LostFor why)) = (loses why, tt)
+damaged_may May w e takes loses (Some (Undetected read)) = tt
+
+-- any event, and any line
+abbrev pub Any : NodeWorld → Happening → Type 0
+Any w c = Unit {0}
+
+abbrev pub AnyLine : Line → Type 0
+AnyLine l = Unit {0}
+
+pub all_any : (w : NodeWorld) (causes : List Happening) → AllMay Any w causes
+all_any w [] = tt
+all_any w (c ∷ causes) = (tt, all_any (world_step w c).0 causes)
+
+pub all_lines : (lines : List Line) → AllByRecursion AnyLine lines
+all_lines [] = tt
+all_lines (l ∷ lines) = (tt, all_lines lines)
+
+pub stands_none : (o : Option Running) → if_true (is_some o) cause.Running ≡ None → o ≡ None
+stands_none None e = refl
+stands_none (Some r) e = absurd (cc e)
+
+-- a line that isn't refused boots a node only while it doesn't run
+pub boots_may : (w : NodeWorld) (l : Line) → AnyLine l → refusal_in w l ≡ None → AllMay MayBoot w (happenings w l)
+boots_may w (line.Send e pid message) any none = (tt, tt)
+boots_may w (line.Deliver e count) any none = repeated_may MayBoot (Takes e) (λ v. tt) (taken_of count (frames_at w e)) w
+boots_may w (line.Lose e) any none = (tt, tt)
+boots_may w (line.Damage e places) any none = damaged_may MayBoot w e tt (λ why. tt) (first_verdict (frames_at w e) places.items)
+boots_may w (line.Tick times) any none = repeated_may MayBoot Ticks (λ v. tt) (unwrap_or times 1) w
+boots_may w (line.Reset e window) any none = (tt, tt)
+boots_may w (line.Busy e) any none = tt
+boots_may w (line.Ready e) any none = tt
+boots_may w (line.Boot n) any none = (stands_none (node_at w n) none, tt)
+boots_may w (line.Cut n) any none = (tt, tt)
+boots_may w (line.Activate host sync power) any none = (tt, tt)
+boots_may w (line.Arm n nth fill) any none = (tt, tt)
+boots_may w (line.Init e identity pipes) any none = (tt, tt)
+boots_may w (line.Tables n) any none = tt
+boots_may w (line.Settle n) any none = tt
+
+-- the events of the steps of a history, and their entries
+abbrev pub events_of_steps : List LineStep → List Occurrence
+events_of_steps steps = flat_map (λ (s : LineStep). occurrences_of s.outcome) steps
+
+abbrev pub entries_of_steps : List LineStep → List Entry
+entries_of_steps steps = entries_in (events_of_steps steps)
+
+-- ## The worlds behind events
+
+behind-append : (xs ys : List Occurrence) (w : NodeWorld) → world_behind w (xs ++ ys) ≡ world_behind (world_behind w xs) ys
+behind-append [] ys w = refl
+behind-append (o ∷ xs) ys w = behind-append xs ys (world_step w o.cause).0
+
+behind_all : (causes : List Happening) (w : NodeWorld) → world_behind w (all_happen w causes).1 ≡ (all_happen w causes).0
+behind_all [] w = refl
+behind_all (c ∷ causes) w = go (can_happen w c) (behind_all causes (world_step w c).0)
+  where
+    later : NodeWorld × List Occurrence
+    later = all_happen (world_step w c).0 causes
+
+    by : Bool → NodeWorld × List Occurrence
+    by true = (later.0, record { cause = c; entries = (world_step w c).1 } ∷ later.1)
+    by false = (w, [])
+
+    go : (b : Bool) → world_behind (world_step w c).0 later.1 ≡ later.0 → world_behind w (by b).1 ≡ (by b).0
+    go true q = q
+    go false q = refl
+
+told_nothing : (n : ℕ) (o : Option Running) → occurrences_of (tables_told n o) ≡ []
+told_nothing n None = refl
+told_nothing n (Some r) = refl
+
+-- what a line that isn't refused causes is what happens
+caused_is : (w : NodeWorld) (l : Line) → occurrences_of (goes_on w l).1 ≡ (all_happen w (happenings w l)).1
+caused_is w (line.Tables n) = told_nothing n (node_at w n)
+caused_is w (line.Send e pid message) = refl
+caused_is w (line.Deliver e count) = refl
+caused_is w (line.Lose e) = refl
+caused_is w (line.Damage e places) = refl
+caused_is w (line.Tick times) = refl
+caused_is w (line.Reset e window) = refl
+caused_is w (line.Busy e) = refl
+caused_is w (line.Settle n) = refl
+caused_is w (line.Ready e) = refl
+caused_is w (line.Boot n) = refl
+caused_is w (line.Cut n) = refl
+caused_is w (line.Activate host sync power) = refl
+caused_is w (line.Arm n nth fill) = refl
+caused_is w (line.Init e identity pipes) = refl
+
+left_is : (w : NodeWorld) (l : Line) → (goes_on w l).0 ≡ (all_happen w (happenings w l)).0
+left_is w (line.Tables n) = refl
+left_is w (line.Send e pid message) = refl
+left_is w (line.Deliver e count) = refl
+left_is w (line.Lose e) = refl
+left_is w (line.Damage e places) = refl
+left_is w (line.Tick times) = refl
+left_is w (line.Reset e window) = refl
+left_is w (line.Busy e) = refl
+left_is w (line.Settle n) = refl
+left_is w (line.Ready e) = refl
+left_is w (line.Boot n) = refl
+left_is w (line.Cut n) = refl
+left_is w (line.Activate host sync power) = refl
+left_is w (line.Arm n nth fill) = refl
+left_is w (line.Init e identity pipes) = refl
+
+refused_is : (w : NodeWorld) (l : Line) (cause : NoCause) → refusal_in w l ≡ Some cause → line_step w l ≡ (w, WasRefused cause)
+refused_is w l cause e = rw e refl
+
+goes_is : (w : NodeWorld) (l : Line) → refusal_in w l ≡ None → line_step w l ≡ goes_on w l
+goes_is w l e = rw e refl
+
+behind_line : (w : NodeWorld) (l : Line) → world_behind w (occurrences_of (line_step w l).1) ≡ (line_step w l).0
+behind_line w l = go (refusal_in w l) refl
+  where
+    IsBehind : NodeWorld × LineOutcome → Type 0
+    IsBehind o = world_behind w (occurrences_of o.1) ≡ o.0
+
+    go : (o : Option NoCause) → refusal_in w l ≡ o → IsBehind (line_step w l)
+    go (Some cause) e = subst IsBehind (sym (refused_is w l cause e)) refl
+    go None e =
+        subst IsBehind (sym (goes_is w l e))
+        (ap (world_behind w) (caused_is w l) ∙ (behind_all (happenings w l) w ∙ sym (left_is w l)))
+
+pub behind_lines : (lines : List Line) (w : NodeWorld) → world_behind w (events_of_steps (steps_from w lines)) ≡ world_after w lines
+behind_lines [] w = refl
+behind_lines (l ∷ lines) w =
+    let v : NodeWorld = (line_step w l).0 in
+    behind-append (occurrences_of (line_step w l).1) (events_of_steps (steps_from v lines)) w
+    ∙ (ap (λ x. world_behind x (events_of_steps (steps_from v lines))) (behind_line w l) ∙ behind_lines lines v)
+
+-- ## Causes
+
+-- each of these events notes what its cause makes of the world before it, and may happen there
+abbrev pub AreCaused : (NodeWorld → Happening → Type 0) → NodeWorld → List Occurrence → Type 0
+AreCaused May w [] = Unit {0}
+AreCaused May w (o ∷ events) = (o.entries ≡ (world_step w o.cause).1) × May w o.cause × AreCaused May (world_step w o.cause).0 events
+
+module _ (May : NodeWorld → Happening → Type 0) (Is : Line → Type 0)
+    (line_may : (w : NodeWorld) (l : Line) → Is l → refusal_in w l ≡ None → AllMay May w (happenings w l)) where
+  caused-append : (xs ys : List Occurrence) (w : NodeWorld) → AreCaused May w xs → AreCaused May (world_behind w xs) ys → AreCaused May w (xs ++ ys)
+  caused-append [] ys w a b = b
+  caused-append (o ∷ xs) ys w a b = (a.0, a.1, caused-append xs ys (world_step w o.cause).0 a.2 b)
+
+  all_caused : (causes : List Happening) (w : NodeWorld) → AllMay May w causes → AreCaused May w (all_happen w causes).1
+  all_caused [] w may = tt
+  all_caused (c ∷ causes) w may = go (can_happen w c) (all_caused causes (world_step w c).0 may.1)
+    where
+      later : NodeWorld × List Occurrence
+      later = all_happen (world_step w c).0 causes
+
+      by : Bool → NodeWorld × List Occurrence
+      by true = (later.0, record { cause = c; entries = (world_step w c).1 } ∷ later.1)
+      by false = (w, [])
+
+      go : (b : Bool) → AreCaused May (world_step w c).0 later.1 → AreCaused May w (by b).1
+      go true z = (refl, may.0, z)
+      go false z = tt
+
+  line_caused : (w : NodeWorld) (l : Line) → Is l → AreCaused May w (occurrences_of (line_step w l).1)
+  line_caused w l is = by_refusal (refusal_in w l) refl where
+    Fine : NodeWorld × LineOutcome → Type 0
+    Fine o = AreCaused May w (occurrences_of o.1)
+
+    by_refusal : (o : Option NoCause) → refusal_in w l ≡ o → Fine (line_step w l)
+    by_refusal (Some cause) e = subst Fine (sym (refused_is w l cause e)) tt
+    by_refusal None e =
+        subst Fine (sym (goes_is w l e)) (subst (AreCaused May w) (sym (caused_is w l)) (all_caused (happenings w l) w (line_may w l is e)))
+
+  pub lines_caused : (lines : List Line) (w : NodeWorld) → AllByRecursion Is lines → AreCaused May w (events_of_steps (steps_from w lines))
+  lines_caused [] w are = tt
+  lines_caused (l ∷ lines) w are =
+      let v : NodeWorld = (line_step w l).0 in
+      caused-append (occurrences_of (line_step w l).1) (events_of_steps (steps_from v lines)) w (line_caused w l are.0)
+      (subst (λ x. AreCaused May x (events_of_steps (steps_from v lines))) (sym (behind_line w l)) (lines_caused lines v are.1))
+
+-- ## What lasts
+
+-- an event of a world
+abbrev pub occurs : NodeWorld → Happening → Occurrence
+occurs w c = record { cause = c; entries = (world_step w c).1 }
+
+-- what holds of a world by the events before it
+module _ (Holds : List Occurrence → NodeWorld → Type 0) (May : NodeWorld → Happening → Type 0) (Is : Line → Type 0)
+    (lasts : (os : List Occurrence) (w : NodeWorld) (c : Happening) → Holds os w → May w c → Holds (os ++ occurs w c ∷ []) (world_step w c).0)
+    (line_may : (w : NodeWorld) (l : Line) → Is l → refusal_in w l ≡ None → AllMay May w (happenings w l)) where
+  nothing : (os : List Occurrence) (w : NodeWorld) → Holds os w → Holds (os ++ []) w
+  nothing os w all = subst (λ l. Holds l w) (sym (append-nil os)) all
+
+  -- ## Events
+
+  -- it holds before each of these events, and behind all of them
+  abbrev pub EachHolds : List Occurrence → NodeWorld → List Occurrence → Type 0
+  EachHolds os w [] = Holds os w
+  EachHolds os w (o ∷ events) = Holds os w × EachHolds (os ++ o ∷ []) (world_step w o.cause).0 events
+
+  all_happen_hold : (causes : List Happening) (os : List Occurrence) (w : NodeWorld) → Holds os w → AllMay May w causes
+      → EachHolds os w (all_happen w causes).1
+  all_happen_hold [] os w all may = all
+  all_happen_hold (c ∷ causes) os w all may =
+      go (can_happen w c) (all_happen_hold causes (os ++ occurs w c ∷ []) (world_step w c).0 (lasts os w c all may.0) may.1)
+    where
+      later : NodeWorld × List Occurrence
+      later = all_happen (world_step w c).0 causes
+
+      by : Bool → NodeWorld × List Occurrence
+      by true = (later.0, occurs w c ∷ later.1)
+      by false = (w, [])
+
+      go : (b : Bool) → EachHolds (os ++ occurs w c ∷ []) (world_step w c).0 later.1 → EachHolds os w (by b).1
+      go true z = (all, z)
+      go false z = all
+
+  -- behind the first of them
+  pub front_each : (front back : List Occurrence) (os : List Occurrence) (w : NodeWorld) → EachHolds os w (front ++ back)
+      → Holds (os ++ front) (world_behind w front)
+  front_each [] [] os w a = nothing os w a
+  front_each [] (o ∷ back) os w a = nothing os w a.0
+  front_each (o ∷ front) back os w a =
+      subst (λ x. Holds x (world_behind w (o ∷ front))) (append_assoc os (o ∷ []) front) (front_each front back (os ++ o ∷ []) (world_step w o.cause).0 a.1)
+
+  hold-append : (xs ys : List Occurrence) (os : List Occurrence) (w : NodeWorld) → EachHolds os w xs
+      → (Holds (os ++ xs) (world_behind w xs) → EachHolds (os ++ xs) (world_behind w xs) ys) → EachHolds os w (xs ++ ys)
+  hold-append [] ys os w a later = subst (λ x. EachHolds x w ys) (append-nil os) (later (nothing os w a))
+  hold-append (o ∷ xs) ys os w a later =
+      let v : NodeWorld = (world_step w o.cause).0 in
+      let same : (os ++ o ∷ []) ++ xs ≡ os ++ (o ∷ xs) = append_assoc os (o ∷ []) xs in (
+        a.0,
+        hold-append xs ys (os ++ o ∷ []) v a.1
+            (λ z. subst (λ x. EachHolds x (world_behind v xs) ys) (sym same) (later (subst (λ x. Holds x (world_behind v xs)) same z))),
+      )
+
+  -- ## Lines
+
+  line_holds : (os : List Occurrence) (w : NodeWorld) (l : Line) → Holds os w → Is l → EachHolds os w (occurrences_of (line_step w l).1)
+  line_holds os w l all is = by_refusal (refusal_in w l) refl where
+    Fine : NodeWorld × LineOutcome → Type 0
+    Fine o = EachHolds os w (occurrences_of o.1)
+
+    by_refusal : (o : Option NoCause) → refusal_in w l ≡ o → Fine (line_step w l)
+    by_refusal (Some cause) e = subst Fine (sym (refused_is w l cause e)) all
+    by_refusal None e =
+        subst Fine (sym (goes_is w l e))
+        (subst (EachHolds os w) (sym (caused_is w l)) (all_happen_hold (happenings w l) os w all (line_may w l is e)))
+
+  -- ## Schedules
+
+  pub lines_each : (lines : List Line) (os : List Occurrence) (w : NodeWorld) → Holds os w → AllByRecursion Is lines
+      → EachHolds os w (events_of_steps (steps_from w lines))
+  lines_each [] os w all are = all
+  lines_each (l ∷ lines) os w all are =
+      let v : NodeWorld = (line_step w l).0 in
+      let here : List Occurrence = occurrences_of (line_step w l).1 in
+      let later : List Occurrence = events_of_steps (steps_from v lines) in
+      hold-append here later os w (line_holds os w l all are.0)
+      (λ z. subst (λ x. EachHolds (os ++ here) x later) (sym (behind_line w l))
+      (lines_each lines (os ++ here) v (subst (λ x. Holds (os ++ here) x) (behind_line w l) z) are.1))
+
+-- what holds of a world by the entries before it
+module _ (Holds : List Entry → NodeWorld → Type 0) (May : NodeWorld → Happening → Type 0) (Is : Line → Type 0)
+    (lasts : (t : List Entry) (w : NodeWorld) (c : Happening) → Holds t w → May w c → Holds (t ++ (world_step w c).1) (world_step w c).0)
+    (line_may : (w : NodeWorld) (l : Line) → Is l → refusal_in w l ≡ None → AllMay May w (happenings w l)) where
+  abbrev pub Behind : List Entry → List Occurrence → NodeWorld → Type 0
+  Behind t os w = Holds (t ++ entries_in os) w
+
+  pub goes_on_so : (t : List Entry) (os : List Occurrence) (w : NodeWorld) (c : Happening) → Behind t os w → May w c
+      → Behind t (os ++ occurs w c ∷ []) (world_step w c).0
+  goes_on_so t os w c all may =
+      let u : List Entry = (world_step w c).1 in
+      let same : entries_in (os ++ occurs w c ∷ []) ≡ entries_in os ++ u =
+      flat_map-append (λ (o : Occurrence). o.entries) os (occurs w c ∷ []) ∙ ap (λ z. entries_in os ++ z) (append-nil u) in
+      subst (λ z. Holds z (world_step w c).0) (append_assoc t (entries_in os) u ∙ ap (λ z. t ++ z) (sym same)) (lasts (t ++ entries_in os) w c all may)
+
+  -- it holds before each of these events, and behind all of them
+  abbrev pub AllHold : List Entry → NodeWorld → List Occurrence → Type 0
+  AllHold t w events = EachHolds (Behind t) May Is (goes_on_so t) line_may [] w events
+
+  -- behind the first of them
+  pub front_holds : (front back : List Occurrence) (t : List Entry) (w : NodeWorld) → AllHold t w (front ++ back)
+      → Holds (t ++ entries_in front) (world_behind w front)
+  front_holds front back t w a = front_each (Behind t) May Is (goes_on_so t) line_may front back [] w a
+
+  pub lines_hold : (lines : List Line) (t : List Entry) (w : NodeWorld) → Holds t w → AllByRecursion Is lines
+      → AllHold t w (events_of_steps (steps_from w lines))
+  lines_hold lines t w all are =
+      lines_each (Behind t) May Is (goes_on_so t) line_may lines [] w (subst (λ z. Holds z w) (sym (append-nil t)) all) are
+
+  pub lines_last : (lines : List Line) (t : List Entry) (w : NodeWorld) → Holds t w → AllByRecursion Is lines
+      → Holds (t ++ entries_of_steps (steps_from w lines)) (world_after w lines)
+  lines_last lines t w all are =
+      let events : List Occurrence = events_of_steps (steps_from w lines) in
+      subst (λ x. Holds (t ++ entries_in events) x) (behind_lines lines w)
+      (front_holds events [] t w (subst (AllHold t w) (sym (append-nil events)) (lines_hold lines t w all are)))

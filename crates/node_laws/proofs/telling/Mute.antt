@@ -1,0 +1,68 @@
+-- What nodes do notes nothing of a link but by what it does to an end.
+use Rattle.std.proofs.Common.{◌≡◌, ℕ, List, refl}
+use Rattle.std.specs.Prelude.{None}
+use Rattle.std.specs.List.{AllByRecursion, flat_map}
+use Rattle.trace_model.specs.declared.entry.Entry.{Entry}
+use Rattle.trace_model.specs.declared.entry.Entry.TheVariants as entry
+use Rattle.history.specs.Filters.{said}
+use Rattle.link_machine.specs.Machine.{Message}
+use Rattle.node_machine.specs.Parts.{Core, Port, Deed}
+use Rattle.node_machine.specs.Parts.Deed.{Ends}
+use Rattle.node_machine.specs.Turns.{deeds_of}
+use Rattle.node_machine.specs.Node.{NodeInput, forgotten, all_owed, synced}
+use Rattle.node_laws.proofs.steps.Walks.{Plain, OfHost, any_of_controller, all_of_host, deeds_hold, forgotten_hold, all_owed_hold, all_synced_hold}
+
+-- what a node notes beside its links, its turns, its boots and its power
+abbrev pub IsPlain : Entry → Type 0
+IsPlain (entry.Held e need spare) = Unit {0}
+IsPlain (entry.Ask host message) = Unit {0}
+IsPlain (entry.Dropped e pid) = Unit {0}
+IsPlain (entry.Command node command) = Unit {0}
+IsPlain (entry.AnyOk node count) = Unit {0}
+IsPlain (entry.InitSame e) = Unit {0}
+IsPlain (entry.InitMade e count) = Unit {0}
+IsPlain (entry.InitFailed e code) = Unit {0}
+IsPlain _ = ⊥
+
+-- it tells of no link
+pub plain_said : (x : Entry) → IsPlain x → said x ≡ None
+plain_said (entry.Held e need spare) p = refl
+plain_said (entry.Ask host message) p = refl
+plain_said (entry.Dropped e pid) p = refl
+plain_said (entry.Command node command) p = refl
+plain_said (entry.AnyOk node count) p = refl
+plain_said (entry.InitSame e) p = refl
+plain_said (entry.InitMade e count) p = refl
+plain_said (entry.InitFailed e code) p = refl
+plain_said x p = absurd p
+
+-- what is noted as an init ends is so
+abbrev pub IsMute : Deed → Type 0
+IsMute (Ends x) = IsPlain x
+IsMute _ = Unit {0}
+
+abbrev pub AreMute : List Deed → Type 0
+AreMute deeds = AllByRecursion IsMute deeds
+
+plain : Plain IsMute
+plain = record { sends = λ to x. tt; says_ok = tt; releases = λ asker. tt; is_answered = tt; drops = λ pid. tt }
+
+own : (core : Core) → OfHost IsMute core
+own core = record { commits = λ c. tt; hears = tt; goes_on = λ i. tt; orders = λ i k order is. tt; same = tt; made = λ count. tt; failed = λ code. tt }
+
+-- ## All that is done in a step
+
+pub deeds_mute : (core : Core) (ports : List Port) (h : ℕ) (m : Message) → AreMute (deeds_of core ports h m)
+deeds_mute core ports h m =
+    deeds_hold AreMute core ports h m
+    (any_of_controller IsMute plain (λ c. tt) (λ to message. tt) (λ to message c. tt) (λ errors. tt) core ports h m) tt
+    (λ p. all_of_host IsMute core plain (own core) p m (λ n value command zero sets. tt))
+
+pub forgotten_mute : (ports : List Port) → AreMute (forgotten ports)
+forgotten_mute ports = forgotten_hold IsMute (λ asker. tt) ports
+
+pub all_owed_mute : (ports : List Port) → AreMute (all_owed ports)
+all_owed_mute ports = all_owed_hold IsMute (λ asker. tt) (λ to r. tt) ports
+
+pub all_synced_mute : (core : Core) (input : NodeInput) (ports : List Port) → AreMute (flat_map (synced core input) ports)
+all_synced_mute core input ports = all_synced_hold IsMute (λ host id. tt) core input ports

@@ -1,0 +1,263 @@
+-- How a link stands as it is read off a step of a node: what its end has and both wires, also where the node loses its power.
+use Rattle.std.proofs.Common.{◌≡◌, ℕ, ◌==◌, Bool, true, false, cond, List, [], ◌∷◌, ◌++◌, Option, Some, None, map, refl, ap, sym, ◌∙◌}
+use Rattle.std.specs.List.{AllByRecursion, flat_map, fold}
+use Rattle.std.specs.Option.{option_map_or}
+use Rattle.std.proofs.lemmas.List.Sums.{fold-append}
+use Rattle.trace_model.specs.declared.entry.Entry.{Entry}
+use Rattle.trace_model.specs.declared.entry.Entry.TheVariants as entry
+use Rattle.trace_model.specs.declared.line.End.{End}
+use Rattle.journal_laws.specs.Writes.{Write}
+use Rattle.link_machine.specs.Machine.{LinkInput, Refused, Turn, Message, give_refusal, report, whole_acked, after_input}
+use Rattle.link_machine.specs.Machine.LinkInput.{Reset}
+use Rattle.link_machine.specs.Machine.Turn.{Give, Hold, FetchMessage, SetAside, Release}
+use Rattle.link_entries.specs.entries.Entries.{End as Side, Entry as Noted, told, sent_unless}
+use Rattle.link_entries.specs.entries.Entries.Entry.{Up, Down, Active, GaveUp, Acked, Got, Sent, Emit, Took, Lost, Tick, Restarted, Cut}
+use Rattle.history.specs.Filters.{Saying, said}
+use Rattle.history.specs.Filters.Saying.{Sends}
+use Rattle.history.specs.Steps.{end_of, entry_of, entries_for}
+use Rattle.node_machine.specs.Parts.{Desk, Core, Port, Work, Deed}
+use Rattle.node_machine.specs.Carrying.{own_side, noting, port_at, with_desk, noted_of, turn_at, loses_power}
+use Rattle.node_machine.specs.Node.{NodeInput, input_at, told_at, all_come, with_older, is_late, told_late, times_out, forgotten, forgets, all_owed}
+use Rattle.node_machine.specs.Node.{without_notice, after_sessions, synced, steps, begins_with}
+use Rattle.node_machine.specs.Node.NodeInput.{AtEnd, TimePasses}
+use Rattle.node_laws.specs.telling.Telling.{is_of, of_link}
+use Rattle.node_laws.specs.telling.Standing.{Standing, said_near, said_far, stands_said, after_power, stands_noted, standing, law_noted, standing_by_law}
+use Rattle.node_laws.proofs.telling.Mute.{AreMute, forgotten_mute, all_owed_mute, all_synced_mute}
+use Rattle.node_laws.proofs.steps.Ports.{sessions_node}
+use Rattle.node_laws.proofs.telling.Walks.{AreSilent, IsUncut, AreUncut, all_last, rest_lasts}
+
+-- ## Entries that tell of no power
+
+-- how a link stands behind entries, as far as they say something of it
+abbrev pub standing_said : ℕ → Standing → List Entry → Standing
+standing_said h x t = fold (λ y e. stands_said h y (said e)) x t
+
+one_uncut : (h : ℕ) (x : Standing) (e : Entry) → IsUncut e → stands_noted h x e ≡ stands_said h x (said e)
+one_uncut h x (entry.Cut n) u = absurd u
+one_uncut h x e u = refl
+
+pub uncut_said : (h : ℕ) (t : List Entry) → AreUncut t → (x : Standing) → standing h x t ≡ standing_said h x t
+uncut_said h [] u x = refl
+uncut_said h (e ∷ t) u x = ap (λ y. standing h y t) (one_uncut h x e u.0) ∙ uncut_said h t u.1 (stands_said h x (said e))
+
+-- what is said of other links says nothing of this one
+other_said : (h : ℕ) (x : Standing) (o : Option (End × Saying)) → is_of h o ≡ false → stands_said h x o ≡ x
+other_said h x None q = refl
+other_said h x (Some (e, s)) q = rw q refl
+
+pub said_of_link : (h : ℕ) (t : List Entry) (x : Standing) → standing_said h x t ≡ standing_said h x (of_link h t)
+said_of_link h [] x = refl
+said_of_link h (e ∷ t) x = go (is_of h (said e)) refl (said_of_link h t)
+  where
+    go : (b : Bool) → is_of h (said e) ≡ b → ((y : Standing) → standing_said h y t ≡ standing_said h y (of_link h t))
+        → standing_said h x (e ∷ t) ≡ standing_said h x (of_link h (e ∷ t))
+    go true q later = rw q (later (stands_said h x (said e)))
+    go false q later = rw q (ap (λ y. standing_said h y t) (other_said h x (said e) q) ∙ later x)
+
+-- ## What the law of one link notes
+
+-- no power is cut, and no activation begins or ends
+abbrev pub IsClear : Noted → Type 0
+IsClear (Cut who) = ⊥
+IsClear (Restarted who) = ⊥
+IsClear _ = Unit {0}
+
+abbrev pub AreClear : List Noted → Type 0
+AreClear notes = AllByRecursion IsClear notes
+
+one_clear : (h : ℕ) (x : Standing) (n : Noted) → IsClear n → law_noted h x n ≡ standing_said h x (entry_of h n)
+one_clear h x (Cut who) c = absurd c
+one_clear h x n c = refl
+
+pub clear_said : (h : ℕ) (notes : List Noted) → AreClear notes → (x : Standing) → standing_by_law h x notes ≡ standing_said h x (entries_for h notes)
+clear_said h [] c x = refl
+clear_said h (n ∷ notes) c x =
+    ap (λ y. standing_by_law h y notes) (one_clear h x n c.0)
+    ∙ (clear_said h notes c.1 (standing_said h x (entry_of h n))
+    ∙ sym (fold-append (λ y e. stands_said h y (said e)) x (entry_of h n) (entries_for h notes)))
+
+pub uncut-append : (t u : List Entry) → AreUncut t → AreUncut u → AreUncut (t ++ u)
+uncut-append [] u a b = b
+uncut-append (x ∷ t) u a b = (a.0, uncut-append t u a.1 b)
+
+pub uncut_flat : {X : Type 0} (f : X → List Entry) → ((x : X) → AreUncut (f x)) → (xs : List X) → AreUncut (flat_map f xs)
+uncut_flat f one [] = tt
+uncut_flat f one (x ∷ xs) = uncut-append (f x) (flat_map f xs) (one x) (uncut_flat f one xs)
+
+pub entry_uncut : (h : ℕ) (n : Noted) → AreUncut (entry_of h n)
+entry_uncut h (Up w n) = (tt, tt)
+entry_uncut h (Down w cause) = (tt, tt)
+entry_uncut h (Active w) = (tt, tt)
+entry_uncut h (GaveUp w tries) = (tt, tt)
+entry_uncut h (Acked w n count) = (tt, tt)
+entry_uncut h (Got w n m) = (tt, tt)
+entry_uncut h (Sent w n m) = (tt, tt)
+entry_uncut h (Emit w c) = (tt, tt)
+entry_uncut h (Took w c) = (tt, tt)
+entry_uncut h (Lost w c why) = (tt, tt)
+entry_uncut h Tick = tt
+entry_uncut h (Restarted w) = tt
+entry_uncut h (Cut w) = tt
+
+pub entries_uncut : (h : ℕ) (notes : List Noted) → AreUncut (entries_for h notes)
+entries_uncut h notes = uncut_flat (entry_of h) (entry_uncut h) notes
+
+-- where no power is cut, what is told of a link tells how it stands
+pub clear_stands : (h : ℕ) (t : List Entry) (notes : List Noted) → AreUncut t → AreClear notes → of_link h t ≡ of_link h (entries_for h notes)
+    → (x : Standing) → standing h x t ≡ standing_by_law h x notes
+clear_stands h t notes u c told x =
+    uncut_said h t u x
+    ∙ (said_of_link h t x
+    ∙ (ap (standing_said h x) told ∙ (sym (said_of_link h (entries_for h notes) x) ∙ sym (clear_said h notes c x))))
+
+-- what tells nothing of it leaves it
+pub away_stands : (h : ℕ) (t : List Entry) → AreUncut t → of_link h t ≡ [] → (x : Standing) → standing h x t ≡ x
+away_stands h t u none x = uncut_said h t u x ∙ (said_of_link h t x ∙ ap (standing_said h x) none)
+
+-- ## A step of a node
+
+-- these entries tell nothing of how a link stands
+abbrev IsNeutral : ℕ → List Entry → Type 0
+IsNeutral h t = (x : Standing) → (standing h x t ≡ x) × (standing_said h x t ≡ x)
+
+silent_said : (h : ℕ) (t : List Entry) → AreSilent t → (x : Standing) → standing_said h x t ≡ x
+silent_said h [] s x = refl
+silent_said h (e ∷ t) s x = ap (λ o. standing_said h (stands_said h x o) t) s.0 ∙ silent_said h t s.1 x
+
+silent_neutral : (h : ℕ) (t : List Entry) → AreSilent t → AreUncut t → IsNeutral h t
+silent_neutral h t s u x = (uncut_said h t u x ∙ silent_said h t s x, silent_said h t s x)
+
+-- a message that is sent changes neither sessions nor wires
+sends_same : (b c : Bool) (n : ℕ) (m : Message) (x : Standing) → cond b (cond c (said_far (Sends n m) x) (said_near (Sends n m) x)) x ≡ x
+sends_same true true n m x = refl
+sends_same true false n m x = refl
+sends_same false c n m x = refl
+
+sent_neutral : (h k n : ℕ) (who : Side) (m : Message) (o : Option Refused) → IsNeutral h (entries_for k (sent_unless o who n m))
+sent_neutral h k n who m None x =
+    let e : End = end_of k who in
+    (sends_same (e.link == h) e.at_host n m x, sends_same (e.link == h) e.at_host n m x)
+sent_neutral h k n who m (Some why) x = (refl, refl)
+
+turn_neutral : (h : ℕ) (core : Core) (t : Turn) (p : Port) → IsNeutral h (noted_of core t p)
+turn_neutral h core (Give m) p x = sent_neutral h p.desk.host p.session (own_side core) m (give_refusal p.side m) x
+turn_neutral h core (Hold held) p x = (refl, refl)
+turn_neutral h core FetchMessage p x = (refl, refl)
+turn_neutral h core SetAside p x = (refl, refl)
+turn_neutral h core Release p x = (refl, refl)
+
+at_neutral : (h : ℕ) (core : Core) (t : Turn) (o : Option Port) → IsNeutral h (option_map_or (noted_of core t) o [])
+at_neutral h core t None x = (refl, refl)
+at_neutral h core t (Some p) x = turn_neutral h core t p x
+
+-- where the loss of power of the node n changes how the link with this host stands so
+module _ (h n : ℕ) (off : Standing → Standing) (powers : (x : Standing) → after_power h n x ≡ off x) (twice : (x : Standing) → off (off x) ≡ off x) where
+  -- how it stands is what is said of it, or the power of the node was cut behind that
+  pub record Powered (w : Work) : Type 0 where
+    pub node : w.core.node ≡ n
+    pub stands : (x : Standing) → standing h x w.entries ≡ cond w.cut (off (standing_said h x w.entries)) (standing_said h x w.entries)
+
+  more : (es : List Entry) (w v : Work) → IsNeutral h es → v.core.node ≡ w.core.node → v.cut ≡ w.cut → v.entries ≡ w.entries ++ es → Powered w → Powered v
+  more es w v z node cut entries a =
+      let same : (x : Standing) → standing_said h x v.entries ≡ standing_said h x w.entries = λ x.
+      ap (standing_said h x) entries ∙ (fold-append (λ y e. stands_said h y (said e)) x w.entries es ∙ (z (standing_said h x w.entries)).1) in
+      record {
+        node = node ∙ a.node;
+        stands = λ x.
+            ap (standing h x) entries ∙ (fold-append (stands_noted h) x w.entries es
+            ∙ ((z (standing h x w.entries)).0
+            ∙ (a.stands x
+            ∙ (ap (λ y. cond w.cut (off y) y) (sym (same x)) ∙ ap (λ b. cond b (off (standing_said h x v.entries)) (standing_said h x v.entries)) (sym cut)))));
+      }
+
+  note : (es : List Entry) (w : Work) → AreSilent es → AreUncut es → Powered w → Powered (noting es w)
+  note es w s u a = more es w (noting es w) (silent_neutral h es s u) refl refl refl a
+
+  desk : (k : ℕ) (f : Desk → Desk) (w : Work) → ((d : Desk) → (f d).host ≡ d.host) → Powered w → Powered (with_desk k f w)
+  desk k f w keeps a = record { node = a.node; stands = a.stands }
+
+  turns : (k : ℕ) (t : Turn) (w : Work) → Powered w → Powered (turn_at k t w)
+  turns k t w a =
+      more (option_map_or (noted_of w.core t) (port_at w.ports k) []) w (turn_at k t w) (at_neutral h w.core t (port_at w.ports k)) refl refl refl a
+
+  beside : (w v : Work) → v.cut ≡ w.cut → v.core.node ≡ w.core.node → v.ports ≡ w.ports → v.entries ≡ w.entries → Powered w → Powered v
+  beside w v cut node ports entries a =
+      record {
+        node = node ∙ a.node;
+        stands = λ x.
+            ap (standing h x) entries
+            ∙ (a.stands x
+            ∙ (ap (λ t. cond w.cut (off (standing_said h x t)) (standing_said h x t)) (sym entries)
+            ∙ ap (λ b. cond b (off (standing_said h x v.entries)) (standing_said h x v.entries)) (sym cut)));
+      }
+
+  loses : (writes : List Write) (w : Work) → Powered w → Powered (loses_power writes w)
+  loses writes w a =
+      record {
+        node = a.node;
+        stands = λ x.
+            fold-append (stands_noted h) x w.entries (entry.Cut w.core.node ∷ [])
+            ∙ (ap (λ m. after_power h m (standing h x w.entries)) a.node
+            ∙ (powers (standing h x w.entries)
+            ∙ (ap off (a.stands x)
+            ∙ (gone w.cut (standing_said h x w.entries)
+            ∙ ap off (sym (fold-append (λ y e. stands_said h y (said e)) x w.entries (entry.Cut w.core.node ∷ [])))))));
+      }
+    where
+      gone : (b : Bool) (y : Standing) → off (cond b (off y) y) ≡ off y
+      gone true y = twice y
+      gone false y = refl
+
+  -- a node as a step begins
+  fresh : (w : Work) → w.core.node ≡ n → w.cut ≡ false → AreUncut w.entries → Powered w
+  fresh w node cut uncut =
+      record {
+        node = node;
+        stands = λ x.
+            uncut_said h w.entries uncut x
+            ∙ sym (ap (λ b. cond b (off (standing_said h x w.entries)) (standing_said h x w.entries)) cut);
+      }
+
+  pub begins_powered : (k : ℕ) (deeds : List Deed) (w : Work) → AreMute deeds → w.core.node ≡ n → w.cut ≡ false → AreUncut w.entries
+      → Powered (begins_with k deeds w)
+  begins_powered k deeds w m node cut uncut = all_last Powered note desk turns beside loses k deeds w m (fresh w node cut uncut)
+
+  -- ## What comes first
+
+  told_uncut : (core : Core) (p : Port) (o : Option LinkInput) → AreUncut (told_at core p o)
+  told_uncut core p None = tt
+  told_uncut core p (Some i) =
+      entries_uncut p.desk.host (told (own_side core) p.session (report p.side i) (whole_acked (after_input p.side i)))
+
+  late_uncut : (core : Core) (p : Port) → AreUncut (told_late core p)
+  late_uncut core p = go (is_late p)
+    where
+      go : (b : Bool) → AreUncut (cond b (told_at core p (Some (Reset None))) [])
+      go true = told_uncut core p (Some (Reset None))
+      go false = tt
+
+  pub came_uncut : (input : NodeInput) (w : Work) → AreUncut w.entries → AreUncut (times_out input (all_come input w)).entries
+  came_uncut (AtEnd k i) w u =
+      uncut-append w.entries _ u (uncut_flat (λ p. told_at w.core p (input_at (AtEnd k i) p)) (λ p. told_uncut w.core p (input_at (AtEnd k i) p)) w.ports)
+  came_uncut TimePasses w u =
+      uncut-append _ _
+      (uncut-append w.entries _ u (uncut_flat (λ p. told_at w.core p (input_at TimePasses p)) (λ p. told_uncut w.core p (input_at TimePasses p)) w.ports))
+      (uncut_flat (told_late w.core) (late_uncut w.core) (map with_older (all_come TimePasses w).ports))
+
+  pub came_cut : (input : NodeInput) (w : Work) → (times_out input (all_come input w)).cut ≡ w.cut
+  came_cut (AtEnd k i) w = refl
+  came_cut TimePasses w = refl
+
+  pub came_core : (input : NodeInput) (w : Work) → (times_out input (all_come input w)).core ≡ w.core
+  came_core (AtEnd k i) w = refl
+  came_core TimePasses w = refl
+
+  pub steps_powered : (input : NodeInput) (w : Work) → w.core.node ≡ n → w.cut ≡ false → AreUncut w.entries → Powered (steps input w)
+  steps_powered input w node cut uncut =
+      let v : Work = times_out input (all_come input w) in
+      let left : List Port = map (forgets v.ports) v.ports in
+      let start : Work = record v { core = after_sessions v.core v.ports; ports = map without_notice left } in
+      let number : start.core.node ≡ n = sessions_node v.core v.ports ∙ (ap (λ (c : Core). c.node) (came_core input w) ∙ node) in
+      rest_lasts Powered note desk turns beside loses (forgotten v.ports) (flat_map (synced w.core input) w.ports) (all_owed left) start
+      (forgotten_mute v.ports) (all_synced_mute w.core input w.ports) (all_owed_mute left)
+      (fresh start number (came_cut input w ∙ cut) (came_uncut input w uncut))

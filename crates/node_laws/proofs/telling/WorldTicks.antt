@@ -1,0 +1,619 @@
+-- What a tick of a world tells of each link.
+use Rattle.std.proofs.Common.{◌≡◌, ℕ, ◌==◌, Bool, true, false, List, [], ◌∷◌, ◌++◌, Option, Some, None, map, refl, ap, sym, subst, ◌∙◌, append-nil}
+use Rattle.std.proofs.Common.{append_assoc}
+use Rattle.std.specs.Prelude.{if◌then◌else◌, is_some}
+use Rattle.std.specs.List.{AllByRecursion, find, flat_map}
+use Rattle.std.specs.Option.{option_map_or}
+use Rattle.std.proofs.lemmas.Bool.{eqb-true}
+use Rattle.std.proofs.lemmas.List.Sums.{fold-append}
+use Rattle.swp_act.specs.Activation.{new_clf, new_uicc}
+use Rattle.trace_model.specs.declared.entry.Entry.{Entry}
+use Rattle.shdlc_core.specs.Machine.{is_waiting}
+use Rattle.journal_laws.specs.Planned.{after_planned}
+use Rattle.link_machine.specs.Machine.{LinkEnd, LinkInput, Turn, new_link_end, turned, after_input, ended_by, report, whole_acked, frames_out}
+use Rattle.link_machine.specs.Machine.LinkInput.{Tick, Reset}
+use Rattle.link_machine.specs.Machine.Role.{Clf, Uicc}
+use Rattle.link_entries.specs.messages.Links.{NumberedEnd, Link, Ending, Node, LinkEvent, exchanged, aged, has_input, with_ended, steps_at_controller}
+use Rattle.link_entries.specs.messages.Links.{ticks_at_controller, happens, number_of}
+use Rattle.link_entries.specs.messages.Links.Ending.{GoesOut}
+use Rattle.link_entries.specs.messages.Links.Comes.{AsksReset, NoInput}
+use Rattle.link_entries.specs.messages.Links.EndEvent.{Step}
+use Rattle.link_entries.specs.messages.Links.LinkEvent.{Ticks, TicksWithout}
+use Rattle.link_entries.proofs.messages.Project.{host_ended}
+use Rattle.link_entries.specs.entries.Entries.{End as Side, Entry as Noted, told, puts_entries, step_entries, aged_entries, tick_entries, event_entries}
+use Rattle.link_entries.specs.entries.Entries.End.{Controller, Host}
+use Rattle.link_entries.proofs.entries.Stepping.{host_finished}
+use Rattle.history.specs.Steps.{entries_for}
+use Rattle.node_machine.specs.Parts.{Desk, Running, Port, Work}
+use Rattle.node_machine.specs.Carrying.{port_at}
+use Rattle.node_machine.specs.Node.{is_late}
+use Rattle.node_machine.specs.Node.NodeInput.{TimePasses}
+use Rattle.node_machine.specs.world.World.{Site, NodeWorld, site_at, link_to, port_for, work_of, ending_of, turns_at, runs_on, frames_noted, all_aged}
+use Rattle.node_machine.specs.world.World.{is_late_at}
+use Rattle.node_machine.specs.world.World.{ticked_so, controller_ticks, host_ticks, hosts_tick, world_ticks}
+use Rattle.node_laws.specs.kept.Hosts.{AreDifferent}
+use Rattle.node_machine.proofs.world.Cases.{near_tick, by_controller_tick, host_tick, after_tick, by_host_tick, site_ticked, site_unticked}
+use Rattle.node_laws.specs.telling.Telling.{of_link, TellOf, HasEnds, IfItRuns, hosts_in, IsOrderly, GoesSo, Tells, is_due, NoneDue, IfOff, IfDue, IsTimely}
+use Rattle.node_laws.specs.telling.Standing.{Standing, without_power, stands_noted, standing, law_noted, standing_by_law, StandsOf}
+use Rattle.node_laws.proofs.telling.Walks.{AreUncut}
+use Rattle.node_laws.proofs.telling.Powers.{uncut_flat, entries_uncut, clear_stands, steps_powered}
+use Rattle.node_laws.proofs.telling.Shapes.{clear-append, clear_aged, IsShaped, IsStepShaped, shaped_tick, shaped_step, twice, step_stands, step_away}
+use Rattle.node_laws.proofs.telling.Shapes.{own_frames}
+use Rattle.node_laws.proofs.telling.Shapes.{all_frames}
+use Rattle.node_laws.proofs.telling.Accounts.{of-append, of_other}
+use Rattle.node_laws.proofs.telling.Away.{Away}
+use Rattle.node_laws.proofs.telling.Parts.{tick_is}
+use Rattle.node_laws.proofs.telling.Steps.{only, notes-append, Opening, in_parts, closed, frames_of}
+use Rattle.node_laws.proofs.telling.Nodes.{site_host, link_is, ports_for, hosts_same, Stands, stands, own_power, other_power, host_opened, host_away}
+use Rattle.node_laws.proofs.telling.Worlds.{site_is}
+use Rattle.node_laws.proofs.telling.Events.{tells_one, site_map, orderly_map}
+use Rattle.node_laws.proofs.telling.Ticks.{older, not_late, late_parts, IfLate, Ticked, ticked, away_tick}
+
+pub young_ports : (near_ends : ℕ → NumberedEnd) (desks : List Desk) (h : ℕ) (p : Port) → AllByRecursion (λ (d : Desk). is_due d ≡ false) desks
+    → port_at (ports_for near_ends desks) h ≡ Some p → is_due p.desk ≡ false
+young_ports near_ends [] h p a q = absurd (cc q)
+young_ports near_ends (d ∷ desks) h p a q = go (d.host == h) refl (young_ports near_ends desks h p a.1)
+  where
+    go : (b : Bool) → (d.host == h) ≡ b → (port_at (ports_for near_ends desks) h ≡ Some p → is_due p.desk ≡ false) → is_due p.desk ≡ false
+    go true e later =
+        let is : Some (port_for (near_ends d.host) d) ≡ Some p = rw e at q in
+        let one : port_for (near_ends d.host) d ≡ p = cc in
+        let P : Port → Type 0 = λ z. is_due z.desk ≡ false in subst P one a.0
+    go false e later = later (rw e at q)
+
+-- the desk of an end
+desk_found : (near_ends : ℕ → NumberedEnd) (desks : List Desk) (h : ℕ) (p : Port) → port_at (ports_for near_ends desks) h ≡ Some p
+    → find (λ d. d.host == h) desks ≡ Some p.desk
+desk_found near_ends [] h p q = absurd (cc q)
+desk_found near_ends (d ∷ desks) h p q = go (d.host == h) refl (desk_found near_ends desks h p)
+  where
+    go : (b : Bool) → (d.host == h) ≡ b → (port_at (ports_for near_ends desks) h ≡ Some p → find (λ d. d.host == h) desks ≡ Some p.desk)
+        → find (λ d. d.host == h) (d ∷ desks) ≡ Some p.desk
+    go true e later =
+        let is : Some (port_for (near_ends d.host) d) ≡ Some p = rw e at q in
+        let one : port_for (near_ends d.host) d ≡ p = cc in
+        rw e (ap (λ (z : Port). Some z.desk) one)
+    go false e later = rw e (later (rw e at q))
+
+-- what a node did to an end in its tick
+abbrev pub had : Work → ℕ → Node
+had k h = record { turns = turns_at k h; ending = ending_of k }
+
+-- ## Ticks of hosts
+
+pub host_is : (x : Site) (n : Running) → x.node ≡ Some n → host_ticks x ≡ after_tick x (host_tick x n)
+host_is x n q = rw q refl
+
+pub tick_host : (x : Site) → (host_ticks x).0.host ≡ x.host
+tick_host x = by_host_tick (λ p. p.0.host ≡ x.host) x (λ q. refl) (λ n q. refl)
+
+module _ (h : ℕ) where
+  other_host : (x : Site) → (x.host == 0) ≡ false → IfItRuns x.host (x.host ∷ []) x.node → (x.host == h) ≡ false → of_link h (host_ticks x).1 ≡ []
+  other_host x host a q =
+      by_host_tick (λ p. of_link h p.1 ≡ []) x (λ none. refl)
+      (λ n runs.
+      let b : HasEnds x.host (x.host ∷ []) n = subst (IfItRuns x.host (x.host ∷ [])) runs a in
+      let k : Work = host_tick x n in
+      let away : Away h k = away_tick h (work_of n x.memory.plan (λ j. x.link.host) []) (host_away x n NoInput host b h q) in
+      of-append h k.entries (frames_noted Host x.host (exchanged x.link) k)
+      ∙ (ap (λ t. t ++ of_link h (frames_noted Host x.host (exchanged x.link) k)) away.told ∙ frames_of h x.host Host (exchanged x.link) k q))
+
+  -- and it leaves how the link stands
+  other_leaves : (x : Site) → (x.host == 0) ≡ false → IfItRuns x.host (x.host ∷ []) x.node → (x.host == h) ≡ false → (y : Standing)
+      → standing h y (host_ticks x).1 ≡ y
+  other_leaves x host a q y =
+      by_host_tick (λ p. of_link h p.1 ≡ [] → standing h y p.1 ≡ y) x (λ none told. refl)
+      (λ n runs told.
+      let b : HasEnds x.host (x.host ∷ []) n = subst (IfItRuns x.host (x.host ∷ [])) runs a in
+      let k : Work = host_tick x n in
+      step_away h x.host (other_power x.host h host q) k (frames_noted Host x.host (exchanged x.link) k)
+      (steps_powered h x.host (λ z. z) (other_power x.host h host q) (λ z. refl) TimePasses
+      (work_of n x.memory.plan (λ j. x.link.host) []) b.number refl tt)
+      (own_frames Host x.host (exchanged x.link) k).0 told y)
+      (other_host x host a q)
+
+  abbrev pub AreNumbered : List Site → Type 0
+  AreNumbered sites = AllByRecursion (λ (x : Site). (x.host == 0) ≡ false) sites
+
+  abbrev pub AreNodes : List Site → Type 0
+  AreNodes sites = AllByRecursion (λ (x : Site). IfItRuns x.host (x.host ∷ []) x.node) sites
+
+  pub other_hosts : (sites : List Site) → AreNumbered sites → AreNodes sites → AllByRecursion (λ n. (n == h) ≡ false) (hosts_in sites)
+      → of_link h (hosts_tick sites).1 ≡ []
+  other_hosts [] b a q = refl
+  other_hosts (x ∷ sites) b a q =
+      of-append h (host_ticks x).1 (hosts_tick sites).1
+      ∙ (ap (λ t. t ++ of_link h (hosts_tick sites).1) (other_host x b.0 a.0 q.0) ∙ other_hosts sites b.1 a.1 q.1)
+
+  pub others_leave : (sites : List Site) → AreNumbered sites → AreNodes sites → AllByRecursion (λ n. (n == h) ≡ false) (hosts_in sites) → (y : Standing)
+      → standing h y (hosts_tick sites).1 ≡ y
+  others_leave [] b a q y = refl
+  others_leave (x ∷ sites) b a q y =
+      fold-append (stands_noted h) y (host_ticks x).1 (hosts_tick sites).1
+      ∙ (ap (λ z. standing h z (hosts_tick sites).1) (other_leaves x b.0 a.0 q.0 y) ∙ others_leave sites b.1 a.1 q.1 y)
+
+  stands_only : (sites : List Site) (x : Site) → AreDifferent (hosts_in sites) → AreNumbered sites → AreNodes sites → site_at sites h ≡ Some x → (y : Standing)
+      → standing h y (hosts_tick sites).1 ≡ standing h y (host_ticks x).1
+  stands_only [] x d b a q y = absurd (cc q)
+  stands_only (z ∷ sites) x d b a q y = go (z.host == h) refl (stands_only sites x d.1 b.1 a.1)
+    where
+      both : standing h y (hosts_tick (z ∷ sites)).1 ≡ standing h (standing h y (host_ticks z).1) (hosts_tick sites).1
+      both = fold-append (stands_noted h) y (host_ticks z).1 (hosts_tick sites).1
+
+      go : (c : Bool) → (z.host == h) ≡ c
+          → (site_at sites h ≡ Some x → (y : Standing) → standing h y (hosts_tick sites).1 ≡ standing h y (host_ticks x).1)
+          → standing h y (hosts_tick (z ∷ sites)).1 ≡ standing h y (host_ticks x).1
+      go true e later =
+          let is : Some z ≡ Some x = rw e at q in
+          let one : z ≡ x = cc in
+          let A : ℕ → Type 0 = λ n. AllByRecursion (λ k. (k == n) ≡ false) (hosts_in sites) in
+          both
+          ∙ (others_leave sites b.1 a.1 (subst A (eqb-true z.host h e) d.0) (standing h y (host_ticks z).1)
+          ∙ ap (λ (v : Site). standing h y (host_ticks v).1) one)
+      go false e later =
+          both ∙ (ap (λ v. standing h v (hosts_tick sites).1) (other_leaves z b.0 a.0 e y) ∙ later (rw e at q) y)
+
+  -- of a link its host's tick tells alone
+  hosts_only : (sites : List Site) (x : Site) → AreDifferent (hosts_in sites) → AreNumbered sites → AreNodes sites → site_at sites h ≡ Some x
+      → of_link h (hosts_tick sites).1 ≡ of_link h (host_ticks x).1
+  hosts_only [] x d b a q = absurd (cc q)
+  hosts_only (y ∷ sites) x d b a q = go (y.host == h) refl (hosts_only sites x d.1 b.1 a.1)
+    where
+      both : of_link h (hosts_tick (y ∷ sites)).1 ≡ of_link h (host_ticks y).1 ++ of_link h (hosts_tick sites).1
+      both = of-append h (host_ticks y).1 (hosts_tick sites).1
+
+      go : (c : Bool) → (y.host == h) ≡ c → (site_at sites h ≡ Some x → of_link h (hosts_tick sites).1 ≡ of_link h (host_ticks x).1)
+          → of_link h (hosts_tick (y ∷ sites)).1 ≡ of_link h (host_ticks x).1
+      go true e later =
+          let is : Some y ≡ Some x = rw e at q in
+          let one : y ≡ x = cc in
+          let A : ℕ → Type 0 = λ n. AllByRecursion (λ k. (k == n) ≡ false) (hosts_in sites) in
+          both
+          ∙ (ap (λ t. of_link h (host_ticks y).1 ++ t) (other_hosts sites b.1 a.1 (subst A (eqb-true y.host h e) d.0))
+          ∙ (append-nil (of_link h (host_ticks y).1) ∙ ap (λ (z : Site). of_link h (host_ticks z).1) one))
+      go false e later = both ∙ (ap (λ t. t ++ of_link h (hosts_tick sites).1) (other_host y b.0 a.0 e) ∙ later (rw e at q))
+
+  hosts_at : (sites : List Site) (x : Site) → site_at sites h ≡ Some x → site_at (hosts_tick sites).0 h ≡ Some (host_ticks x).0
+  hosts_at [] x q = absurd (cc q)
+  hosts_at (y ∷ sites) x q = go (y.host == h) refl (hosts_at sites x)
+    where
+      same : ((host_ticks y).0.host == h) ≡ (y.host == h)
+      same = ap (λ n. n == h) (tick_host y)
+
+      go : (c : Bool) → (y.host == h) ≡ c → (site_at sites h ≡ Some x → site_at (hosts_tick sites).0 h ≡ Some (host_ticks x).0)
+          → site_at (hosts_tick (y ∷ sites)).0 h ≡ Some (host_ticks x).0
+      go true e later =
+          let is : Some y ≡ Some x = rw e at q in
+          let one : y ≡ x = cc in
+          let passes : ((host_ticks y).0.host == h) ≡ true = same ∙ e in
+          rw passes (ap (λ (z : Site). Some (host_ticks z).0) one)
+      go false e later =
+          let fails : ((host_ticks y).0.host == h) ≡ false = same ∙ e in
+          rw fails (later (rw e at q))
+
+-- the turns of a host in its tick
+abbrev pub host_turns : Site → Option Running → List Turn
+host_turns x None = []
+host_turns x (Some n) = turns_at (host_tick x n) x.host
+
+-- an end that is new has nothing to tell of a tick
+still_near : (who : Side) (l : Link) → l.controller.side ≡ new_link_end (Clf new_clf) → tick_entries who l (record { turns = []; ending = GoesOut }) ≡ []
+still_near who l q =
+    let P : LinkEnd → Type 0 = λ e. told who (number_of l.controller) (report e Tick) (whole_acked (after_input e Tick))
+    ++ puts_entries who l (frames_out (after_input e Tick)) ≡ [] in
+    tick_is who l (record { turns = []; ending = GoesOut }) ∙ subst P (sym q) refl
+
+still_far : (who : Side) (l : Link) → l.controller.side ≡ new_link_end (Uicc new_uicc) → tick_entries who l (record { turns = []; ending = GoesOut }) ≡ []
+still_far who l q =
+    let P : LinkEnd → Type 0 = λ e. told who (number_of l.controller) (report e Tick) (whole_acked (after_input e Tick))
+    ++ puts_entries who l (frames_out (after_input e Tick)) ≡ [] in
+    tick_is who l (record { turns = []; ending = GoesOut }) ∙ subst P (sym q) refl
+
+-- what a host does and notes in its tick
+pub record Far (x : Site) : Type 0 where
+  pub had : Node
+  pub turns : had.turns ≡ host_turns x x.node
+  pub is : (host_ticks x).0.link ≡ exchanged (ticks_at_controller (exchanged x.link) had.turns had.ending)
+  pub told : of_link x.host (host_ticks x).1 ≡ of_link x.host (entries_for x.host (tick_entries Host (exchanged x.link) had))
+  pub stands : (y : Standing) → standing x.host y (host_ticks x).1 ≡ standing_by_law x.host y (tick_entries Host (exchanged x.link) had)
+
+-- what a host that runs notes of its own link
+host_tells : (x : Site) (n : Running) → (x.host == 0) ≡ false → HasEnds x.host (x.host ∷ []) n → AllByRecursion (λ (d : Desk). is_due d ≡ false) n.desks
+    → of_link x.host (after_tick x (host_tick x n)).1
+    ≡ of_link x.host (entries_for x.host (tick_entries Host (exchanged x.link) (had (host_tick x n) x.host)))
+host_tells x n host node young =
+    let k : Work = host_tick x n in
+    let l : Link = exchanged x.link in
+    let begun : Opening x.host Host l NoInput (work_of n x.memory.plan (λ j. x.link.host) []) = host_opened x n NoInput host node in
+    let late : is_late (older begun.port) ≡ false = not_late begun.port (young_ports (λ j. x.link.host) n.desks x.host begun.port young begun.here) in
+    let done : Ticked x.host Host l false k = ticked x.host Host l false _ begun late tt in
+    of-append x.host k.entries (frames_noted Host x.host l k)
+    ∙ (in_parts x.host Host l NoInput (Some Tick) false k done ∙ ap (λ z. of_link x.host (entries_for x.host z)) (sym (tick_is Host l (had k x.host))))
+
+-- and how that link stands behind it
+host_stands_so : (x : Site) (n : Running) → (x.host == 0) ≡ false → HasEnds x.host (x.host ∷ []) n → AllByRecursion (λ (d : Desk). is_due d ≡ false) n.desks
+    → (y : Standing)
+    → standing x.host y (after_tick x (host_tick x n)).1 ≡ standing_by_law x.host y (tick_entries Host (exchanged x.link) (had (host_tick x n) x.host))
+host_stands_so x n host node young =
+    let k : Work = host_tick x n in
+    let l : Link = exchanged x.link in
+    step_stands x.host x.host Host (own_power x.host host) k (frames_noted Host x.host l k)
+    (steps_powered x.host x.host (without_power Host) (own_power x.host host) (twice Host) TimePasses
+    (work_of n x.memory.plan (λ j. x.link.host) []) node.number
+    refl tt)
+    (own_frames Host x.host l k) (tick_entries Host l (had k x.host)) (shaped_tick Host l (had k x.host)) (host_tells x n host node young)
+
+far : (x : Site) → (x.host == 0) ≡ false → IfItRuns x.host (x.host ∷ []) x.node → IfOff x.node (new_link_end (Uicc new_uicc)) x.link.host.side
+    → NoneDue x.node → Far x
+far x host node off young = go x.node refl node off young
+  where
+    none_is : x.node ≡ None → host_ticks x ≡ (record x { link = exchanged (ticks_at_controller (exchanged x.link) [] GoesOut) }, [])
+    none_is q = rw q refl
+
+    go : (o : Option Running) → x.node ≡ o → IfItRuns x.host (x.host ∷ []) o → IfOff o (new_link_end (Uicc new_uicc)) x.link.host.side → NoneDue o → Far x
+    go None q n f y = record {
+      had = record { turns = []; ending = GoesOut };
+      turns = sym (ap (host_turns x) q);
+      is = ap (λ (z : Site × List Entry). z.0.link) (none_is q);
+      told = ap (λ (z : Site × List Entry). of_link x.host z.1) (none_is q)
+          ∙ sym (ap (λ z. of_link x.host (entries_for x.host z)) (still_far Host (exchanged x.link) f));
+      stands = λ v. ap (λ (z : Site × List Entry). standing x.host v z.1) (none_is q)
+          ∙ sym (ap (standing_by_law x.host v) (still_far Host (exchanged x.link) f));
+    }
+    go (Some r) q n f y = record {
+      had = had (host_tick x r) x.host;
+      turns = sym (ap (host_turns x) q);
+      is = ap (λ (z : Site × List Entry). z.0.link) (host_is x r q);
+      told = ap (λ (z : Site × List Entry). of_link x.host z.1) (host_is x r q) ∙ host_tells x r host n y;
+      stands = λ v. ap (λ (z : Site × List Entry). standing x.host v z.1) (host_is x r q) ∙ host_stands_so x r host n y v;
+    }
+
+-- ## The tick of the controller
+
+-- a link after the tick of the controller's end, or its reset in place of it
+abbrev pub between : Bool → Link → Node → Link
+between true l c = steps_at_controller l (AsksReset None) c.turns c.ending
+between false l c = ticks_at_controller l c.turns c.ending
+
+abbrev pub near_notes : Bool → Link → Node → List Noted
+near_notes true l c = step_entries Controller l (AsksReset None) c.turns c.ending ++ []
+near_notes false l c = tick_entries Controller l c
+
+-- its turns at this end
+abbrev pub near_turns : NodeWorld → ℕ → Option Running → List Turn
+near_turns w h None = []
+near_turns w h (Some r) = turns_at (near_tick w r) h
+
+-- what it does to the link with a host, and notes of it
+pub record Near (w : NodeWorld) (h : ℕ) (s : Site) : Type 0 where
+  pub late : Bool
+  pub had : Node
+  pub turns : had.turns ≡ near_turns w h w.controller
+  pub there : site_at (controller_ticks w).0.sites h ≡ Some (record s { link = between late s.link had })
+  pub told : of_link h (controller_ticks w).1 ≡ of_link h (entries_for h (near_notes late s.link had))
+  pub stands : (x : Standing) → standing h x (controller_ticks w).1 ≡ standing_by_law h x (near_notes late s.link had)
+  pub ready : late ≡ true → is_waiting s.link.controller.side.shdlc ≡ false
+
+module _ (w : NodeWorld) (h : ℕ) (s : Site) (orderly : IsOrderly w) (found : site_at w.sites h ≡ Some s) where
+  number_is : s.host ≡ h
+  number_is = site_host w.sites h s found
+
+  module _ (r : Running) (runs : w.controller ≡ Some r) (node : HasEnds 0 (hosts_in w.sites) r) (due : IfDue (Some r) h s.link.controller.side) where
+    abbrev Begun : Work
+    Begun = work_of r w.memory.plan (λ j. (link_to w.sites j).controller) []
+
+    abbrev k : Work
+    k = near_tick w r
+
+    pub opened : Opening h Controller s.link NoInput Begun
+    opened =
+        let ends : ℕ → NumberedEnd = λ j. (link_to w.sites j).controller in
+        let one : Stands ends r.desks h = stands ends r.desks w.sites h s node.ends found in
+        record {
+          side = ap (λ (n : ℕ). if n == 0 then Controller else Host) node.number;
+          port = port_for (link_to w.sites h).controller one.desk;
+          here = one.here;
+          is = ap (λ (l : Link). l.controller.side) (link_is w.sites h s found);
+          session = ap (λ (l : Link). number_of l.controller) (link_is w.sites h s found);
+          turns = refl;
+          late = refl;
+          told = refl;
+          different = subst AreDifferent (sym (hosts_same ends r.desks ∙ node.ends)) orderly.different;
+        }
+
+    -- where its notice is late, its end is active and up
+    pub up_late : (b : Bool) → is_late (older opened.port) ≡ b → IfLate b s.link.controller.side
+    up_late true q =
+        due opened.port.desk (desk_found (λ j. (link_to w.sites j).controller) r.desks h opened.port opened.here) (late_parts opened.port q).due
+    up_late false q = tt
+
+    done : (b : Bool) → is_late (older opened.port) ≡ b → Ticked h Controller s.link b k
+    done b q = ticked h Controller s.link b Begun opened q (up_late b q)
+
+    late_is : (b : Bool) → Ticked h Controller s.link b k → is_late_at k h ≡ b
+    late_is true a = ap (λ o. option_map_or (λ (p : Port). p.late) o false) a.here ∙ a.late_is
+    late_is false a = ap (λ o. option_map_or (λ (p : Port). p.late) o false) a.here ∙ a.late_is
+
+    noted_is : (t : List Noted) → of_link h k.entries ++ of_link h (frames_noted Controller h s.link k) ≡ of_link h (entries_for h t)
+        → of_link h (k.entries ++ flat_map (λ (x : Site). frames_noted Controller x.host x.link k) w.sites) ≡ of_link h (entries_for h t)
+    noted_is t q =
+        let f : Site → List Entry = λ x. frames_noted Controller x.host x.link k in
+        of-append h k.entries (flat_map f w.sites)
+        ∙ (ap (λ t. of_link h k.entries ++ t)
+        (only (λ (x : Site). x.host) f h (λ x e. frames_of h x.host Controller x.link k e) w.sites s orderly.different found
+        ∙ ap (λ n. of_link h (frames_noted Controller n s.link k)) number_is)
+        ∙ q)
+
+    told_is : (b : Bool) → Ticked h Controller s.link b k
+        → of_link h (k.entries ++ flat_map (λ (x : Site). frames_noted Controller x.host x.link k) w.sites)
+        ≡ of_link h (entries_for h (near_notes b s.link (had k h)))
+    told_is true a =
+        noted_is (near_notes true s.link (had k h))
+        (closed h Controller s.link (AsksReset None) (Some (Reset None)) true k refl tt a
+        ∙ ap (λ z. of_link h (entries_for h z)) (sym (append-nil (step_entries Controller s.link (AsksReset None) (turns_at k h) (ending_of k)))))
+    told_is false a =
+        noted_is (near_notes false s.link (had k h))
+        (in_parts h Controller s.link NoInput (Some Tick) false k a ∙ ap (λ z. of_link h (entries_for h z)) (sym (tick_is Controller s.link (had k h))))
+
+    shaped_is : (b : Bool) → IsShaped Controller (ending_of k) (near_notes b s.link (had k h))
+    shaped_is false = shaped_tick Controller s.link (had k h)
+    shaped_is true =
+        let S : List Noted → Type 0 = IsShaped Controller (ending_of k) in
+        subst S (sym (append-nil (step_entries Controller s.link (AsksReset None) (turns_at k h) (ending_of k))))
+        (let a : IsStepShaped Controller (AsksReset None) (ending_of k) (step_entries Controller s.link (AsksReset None) (turns_at k h) (ending_of k)) =
+        shaped_step Controller s.link (AsksReset None) (turns_at k h) (ending_of k) (Some (Reset None)) refl tt in
+        subst S (sym a.is) a.shaped)
+
+    stands_is : (b : Bool) → Ticked h Controller s.link b k → (x : Standing)
+        → standing h x (k.entries ++ flat_map (λ (x : Site). frames_noted Controller x.host x.link k) w.sites)
+        ≡ standing_by_law h x (near_notes b s.link (had k h))
+    stands_is b a =
+        step_stands h 0 Controller (λ x. refl) k (flat_map (λ (x : Site). frames_noted Controller x.host x.link k) w.sites)
+        (steps_powered h 0 (without_power Controller) (λ x. refl) (twice Controller) TimePasses Begun node.number refl tt)
+        (all_frames Controller (λ (x : Site). x.link) k w.sites) (near_notes b s.link (had k h)) (shaped_is b) (told_is b a)
+
+    -- an end that is up doesn't wait
+    ready_is : (b : Bool) → IfLate b s.link.controller.side → b ≡ true → is_waiting s.link.controller.side.shdlc ≡ false
+    ready_is true up q = let u = up.1 in rw u refl
+    ready_is false up q = absurd (cc q)
+
+    so_is : (b : Bool) → IfLate b s.link.controller.side → ticked_so s.link b (turns_at k h) (ending_of k) ≡ between b s.link (had k h)
+    so_is true up = let z = ready_is true up refl in rw z refl
+    so_is false up = refl
+
+    runs_so : Near w h s
+    runs_so = go (is_late (older opened.port)) refl
+      where
+        f : Site → Site
+        f x = record x { link = ticked_so x.link (is_late_at k x.host) (turns_at k x.host) (ending_of k) }
+
+        near_is : controller_ticks w ≡ (
+          record { memory = after_planned k.writes w.memory; controller = runs_on k; sites = map f w.sites },
+          k.entries ++ flat_map (λ (x : Site). frames_noted Controller x.host x.link k) w.sites,
+        )
+        near_is = rw runs refl
+
+        go : (b : Bool) → is_late (older opened.port) ≡ b → Near w h s
+        go b q =
+            let a : Ticked h Controller s.link b k = done b q in
+            record {
+              late = b;
+              had = had k h;
+              turns = sym (ap (near_turns w h) runs);
+              there = ap (λ (z : NodeWorld × List Entry). site_at z.0.sites h) near_is
+                  ∙ (site_map f (λ x. refl) w.sites h s found
+                  ∙ ap (λ l. Some (record s { link = l }))
+                  (ap (λ n. ticked_so s.link (is_late_at k n) (turns_at k n) (ending_of k)) number_is
+                  ∙ (ap (λ c. ticked_so s.link c (turns_at k h) (ending_of k)) (late_is b a) ∙ so_is b (up_late b q))));
+              told = ap (λ (z : NodeWorld × List Entry). of_link h z.1) near_is ∙ told_is b a;
+              stands = λ x. ap (λ (z : NodeWorld × List Entry). standing h x z.1) near_is ∙ stands_is b a x;
+              ready = ready_is b (up_late b q);
+            }
+
+  near : IfOff w.controller (new_link_end (Clf new_clf)) s.link.controller.side → IfDue w.controller h s.link.controller.side → Near w h s
+  near off due = go w.controller refl orderly.controller off due
+    where
+      f : Site → Site
+      f x = record x { link = ticks_at_controller x.link [] GoesOut }
+
+      none_is : w.controller ≡ None → controller_ticks w ≡ (record w { sites = map f w.sites }, [])
+      none_is q = rw q refl
+
+      go : (o : Option Running) → w.controller ≡ o → IfItRuns 0 (hosts_in w.sites) o → IfOff o (new_link_end (Clf new_clf)) s.link.controller.side
+          → IfDue o h s.link.controller.side → Near w h s
+      go None q n x d = record {
+        late = false;
+        had = record { turns = []; ending = GoesOut };
+        turns = sym (ap (near_turns w h) q);
+        there = ap (λ (z : NodeWorld × List Entry). site_at z.0.sites h) (none_is q) ∙ site_map f (λ x. refl) w.sites h s found;
+        told = ap (λ (z : NodeWorld × List Entry). of_link h z.1) (none_is q)
+            ∙ sym (ap (λ z. of_link h (entries_for h z)) (still_near Controller s.link x));
+        stands = λ y. ap (λ (z : NodeWorld × List Entry). standing h y z.1) (none_is q)
+            ∙ sym (ap (standing_by_law h y) (still_near Controller s.link x));
+        ready = λ e. absurd (cc e);
+      }
+      go (Some r) q n x d = runs_so r q n d
+
+-- it leaves the world orderly
+pub near_orderly : (w : NodeWorld) → IsOrderly w → IsOrderly (record { memory = w.memory; controller = None; sites = (controller_ticks w).0.sites })
+near_orderly w a =
+    by_controller_tick (λ p. IsOrderly (record { memory = w.memory; controller = None; sites = p.0.sites })) w
+    (λ q. orderly_map w w.memory None site_unticked (λ x. refl) a tt (λ x n. n))
+    (λ r q. orderly_map w w.memory None (site_ticked (near_tick w r)) (λ x. refl) a tt (λ x n. n))
+
+-- an input to the controller's end leaves the other one
+host_left : (l : Link) (i : LinkInput) (ts : List Turn) (ending : Ending) → (has_input l i ts ending).host ≡ l.host
+host_left l i ts ending =
+    host_finished (with_ended l (is_some (ended_by l.controller.side i))) (turned (after_input l.controller.side i) ts) ending
+    ∙ host_ended l (is_some (ended_by l.controller.side i))
+
+pub between_far : (b : Bool) (l : Link) (c : Node) → (between b l c).host.side ≡ l.host.side
+between_far true l c = ap (λ (z : NumberedEnd). z.side) (host_left l (Reset None) c.turns c.ending)
+between_far false l c = ap (λ (z : NumberedEnd). z.side) (host_left l Tick c.turns c.ending)
+
+-- ## A tick of the world
+
+-- the event of the law of one link
+abbrev pub tick_event : Bool → Node → Node → LinkEvent
+tick_event true c h = TicksWithout (Step (AsksReset None) c.turns c.ending ∷ []) h
+tick_event false c h = Ticks c [] h
+
+-- what a tick does to a link, and tells of it
+pub record Ticking (w : NodeWorld) (h : ℕ) (s : Site) : Type 0 where
+  pub late : Bool
+  pub near : Node
+  pub far : Node
+  pub near_had : near.turns ≡ near_turns (all_aged w).0 h w.controller
+  pub far_had : far.turns ≡ host_turns (record s { link = between late (aged s.link) near }) s.node
+  pub ready : late ≡ true → is_waiting s.link.controller.side.shdlc ≡ false
+  pub near_there : site_at (controller_ticks (all_aged w).0).0.sites h ≡ Some (record s { link = between late (aged s.link) near })
+  pub there : site_at (world_ticks w).0.sites h ≡ Some (host_ticks (record s { link = between late (aged s.link) near })).0
+  pub is : happens s.link (tick_event late near far) ≡ (host_ticks (record s { link = between late (aged s.link) near })).0.link
+  pub told : TellOf h s.link (tick_event late near far) (world_ticks w).1
+  pub stands : StandsOf h s.link (tick_event late near far) (world_ticks w).1
+
+module _ (w : NodeWorld) (h : ℕ) (s : Site) (orderly : IsOrderly w) (found : site_at w.sites h ≡ Some s) (timely : IsTimely w h s) where
+  abbrev older_site : Site → Site
+  older_site x = record x { link = aged x.link }
+
+  abbrev old : NodeWorld
+  old = (all_aged w).0
+
+  pub old_orderly : IsOrderly old
+  old_orderly = orderly_map w w.memory w.controller older_site (λ x. refl) orderly orderly.controller (λ x a. a)
+
+  pub old_found : site_at old.sites h ≡ Some (older_site s)
+  old_found = site_map older_site (λ x. refl) w.sites h s found
+
+  number : s.host ≡ h
+  number = site_host w.sites h s found
+
+  pub first : Near old h (older_site s)
+  first = near old h (older_site s) old_orderly old_found timely.controller timely.up
+
+  abbrev mine : Site
+  mine = record s { link = between first.late (aged s.link) first.had }
+
+  next_orderly : IsOrderly (record { memory = old.memory; controller = None; sites = (controller_ticks old).0.sites })
+  next_orderly = near_orderly old old_orderly
+
+  second : Far mine
+  second =
+      far mine (site_is (λ (x : Site). (x.host == 0) ≡ false) (controller_ticks old).0.sites h mine next_orderly.hosts first.there)
+      (site_is (λ (x : Site). IfItRuns x.host (x.host ∷ []) x.node) (controller_ticks old).0.sites h mine next_orderly.nodes first.there)
+      (let P : LinkEnd → Type 0 = IfOff s.node (new_link_end (Uicc new_uicc)) in subst P (sym (between_far first.late (aged s.link) first.had)) timely.host)
+      timely.young
+
+  abbrev aged_notes : Site → List Noted
+  aged_notes x = aged_entries Controller x.link.to_controller ++ aged_entries Host x.link.to_host
+
+  pub old_told : of_link h (all_aged w).1 ≡ of_link h (entries_for h (aged_notes s))
+  old_told =
+      only (λ (x : Site). x.host) (λ (x : Site). entries_for x.host (aged_notes x)) h (λ x e. of_other x.host h (aged_notes x) e) w.sites s orderly.different
+      found
+      ∙ ap (λ m. of_link h (entries_for m (aged_notes s))) number
+
+  abbrev far_notes : List Noted
+  far_notes = tick_entries Host (exchanged mine.link) second.had
+
+  far_told : of_link h (hosts_tick (controller_ticks old).0.sites).1 ≡ of_link h (entries_for h far_notes)
+  far_told =
+      let P : ℕ → Type 0 = λ m. of_link m (host_ticks mine).1 ≡ of_link m (entries_for m far_notes) in
+      hosts_only h (controller_ticks old).0.sites mine next_orderly.different next_orderly.hosts next_orderly.nodes first.there ∙ subst P number second.told
+
+  O : List Noted → List Entry
+  O z = of_link h (entries_for h z)
+
+  told_all : of_link h (world_ticks w).1 ≡ of_link h (entries_for h (aged_notes s ++ (near_notes first.late (aged s.link) first.had ++ far_notes)))
+  told_all =
+      let far : List Entry = (hosts_tick (controller_ticks old).0.sites).1 in
+      let one : List Noted = near_notes first.late (aged s.link) first.had in
+      let both : of_link h ((controller_ticks old).1 ++ far) ≡ of_link h (entries_for h (one ++ far_notes)) =
+      of-append h (controller_ticks old).1 far
+      ∙ (ap (λ t. t ++ of_link h far) first.told
+      ∙ (ap (λ t. of_link h (entries_for h one) ++ t) far_told ∙ sym (notes-append h one far_notes))) in
+      of-append h (all_aged w).1 ((controller_ticks old).1 ++ far)
+      ∙ (ap (λ t. t ++ of_link h ((controller_ticks old).1 ++ far)) old_told
+      ∙ (ap (λ t. of_link h (entries_for h (aged_notes s)) ++ t) both
+      ∙ sym (notes-append h (aged_notes s) (one ++ far_notes))))
+
+  pub aged_uncut : (sites : List Site) → AreUncut (flat_map (λ (x : Site). entries_for x.host (aged_notes x)) sites)
+  aged_uncut sites = uncut_flat (λ (x : Site). entries_for x.host (aged_notes x)) (λ x. entries_uncut x.host (aged_notes x)) sites
+
+  old_stands : (x : Standing) → standing h x (all_aged w).1 ≡ standing_by_law h x (aged_notes s)
+  old_stands =
+      clear_stands h (all_aged w).1 (aged_notes s) (aged_uncut w.sites)
+      (clear-append (aged_entries Controller s.link.to_controller) (aged_entries Host s.link.to_host) (clear_aged Controller s.link.to_controller)
+      (clear_aged Host s.link.to_host)) old_told
+
+  far_stands : (x : Standing) → standing h x (hosts_tick (controller_ticks old).0.sites).1 ≡ standing_by_law h x far_notes
+  far_stands x =
+      let P : ℕ → Type 0 = λ m. (y : Standing) → standing m y (host_ticks mine).1 ≡ standing_by_law m y far_notes in
+      stands_only h (controller_ticks old).0.sites mine next_orderly.different next_orderly.hosts next_orderly.nodes first.there x
+      ∙ subst P number second.stands x
+
+  stands_all : (x : Standing) → standing h x (world_ticks w).1
+      ≡ standing_by_law h x (aged_notes s ++ (near_notes first.late (aged s.link) first.had ++ far_notes))
+  stands_all x =
+      let far : List Entry = (hosts_tick (controller_ticks old).0.sites).1 in
+      let one : List Noted = near_notes first.late (aged s.link) first.had in
+      let y : Standing = standing_by_law h x (aged_notes s) in
+      fold-append (stands_noted h) x (all_aged w).1 ((controller_ticks old).1 ++ far)
+      ∙ (ap (λ z. standing h z ((controller_ticks old).1 ++ far)) (old_stands x)
+      ∙ (fold-append (stands_noted h) y (controller_ticks old).1 far
+      ∙ (ap (λ z. standing h z far) (first.stands y)
+      ∙ (far_stands (standing_by_law h y one)
+      ∙ (sym (fold-append (law_noted h) y one far_notes) ∙ sym (fold-append (law_noted h) x (aged_notes s) (one ++ far_notes)))))))
+
+  event_stands : (b : Bool) (l : Link) (c n : Node) (x : Standing)
+      → standing_by_law h x ((aged_entries Controller l.to_controller ++ aged_entries Host l.to_host)
+      ++ (near_notes b (aged l) c ++ tick_entries Host (exchanged (between b (aged l) c)) n))
+      ≡ standing_by_law h x (event_entries l (tick_event b c n))
+  event_stands true l c n x =
+      ap (standing_by_law h x) (append_assoc (aged_entries Controller l.to_controller) (aged_entries Host l.to_host)
+      (near_notes true (aged l) c ++ tick_entries Host (exchanged (between true (aged l) c)) n))
+  event_stands false l c n x =
+      ap (standing_by_law h x) (append_assoc (aged_entries Controller l.to_controller) (aged_entries Host l.to_host)
+      (near_notes false (aged l) c ++ tick_entries Host (exchanged (between false (aged l) c)) n))
+
+  event_told : (b : Bool) (l : Link) (c n : Node)
+      → of_link h (entries_for h ((aged_entries Controller l.to_controller ++ aged_entries Host l.to_host)
+      ++ (near_notes b (aged l) c ++ tick_entries Host (exchanged (between b (aged l) c)) n)))
+      ≡ of_link h (entries_for h (event_entries l (tick_event b c n)))
+  event_told true l c n =
+      ap (λ z. of_link h (entries_for h z)) (append_assoc (aged_entries Controller l.to_controller) (aged_entries Host l.to_host)
+      (near_notes true (aged l) c ++ tick_entries Host (exchanged (between true (aged l) c)) n))
+  event_told false l c n =
+      ap (λ z. of_link h (entries_for h z)) (append_assoc (aged_entries Controller l.to_controller) (aged_entries Host l.to_host)
+      (near_notes false (aged l) c ++ tick_entries Host (exchanged (between false (aged l) c)) n))
+
+  happens_is : (b : Bool) (l : Link) (c n : Node)
+      → happens l (tick_event b c n) ≡ exchanged (ticks_at_controller (exchanged (between b (aged l) c)) n.turns n.ending)
+  happens_is true l c n = refl
+  happens_is false l c n = refl
+
+  pub ticking : Ticking w h s
+  ticking = record {
+    late = first.late;
+    near = first.had;
+    far = second.had;
+    near_had = first.turns;
+    far_had = second.turns;
+    ready = first.ready;
+    near_there = first.there;
+    there = hosts_at h (controller_ticks old).0.sites mine first.there;
+    is = happens_is first.late s.link first.had second.had ∙ sym second.is;
+    told = told_all ∙ event_told first.late s.link first.had second.had;
+    stands = λ x. stands_all x ∙ event_stands first.late s.link first.had second.had x;
+  }
+
+  pub tick_goes : GoesSo h s (world_ticks w).0 (world_ticks w).1
+  tick_goes =
+      let a : Ticking w h s = ticking in
+      let site : Site = (host_ticks (record s { link = between a.late (aged s.link) a.near })).0 in
+      let P : Link → Type 0 = λ l. Tells h s.link l (world_ticks w).1 in
+      record {
+        site = site;
+        there = a.there;
+        tells = subst P a.is (tells_one h s.link (tick_event a.late a.near a.far) (world_ticks w).1 a.told);
+      }

@@ -1,0 +1,75 @@
+-- What the events of a world tell of each link.
+use Rattle.std.proofs.Common.{◌≡◌, ℕ, ◌==◌, Bool, true, false, List, [], ◌∷◌, ◌++◌, Option, Some, None, refl, ap, sym, subst, ◌∙◌}
+use Rattle.std.specs.List.{AllByRecursion}
+use Rattle.trace_model.specs.declared.entry.Entry.{Entry}
+use Rattle.link_machine.specs.Machine.{LinkInput}
+use Rattle.link_entries.specs.messages.Links.{Comes, exchanged}
+use Rattle.link_entries.specs.messages.Links.Comes.{NoInput}
+use Rattle.link_entries.specs.messages.Links.EndEvent.{Step}
+use Rattle.link_entries.specs.messages.Links.LinkEvent.{AtHost}
+use Rattle.link_entries.specs.entries.Entries.End.{Host}
+use Rattle.node_machine.specs.Parts.{Running, Work, Deed}
+use Rattle.node_machine.specs.Node.{steps, begins_with}
+use Rattle.node_machine.specs.Node.NodeInput.{AtEnd}
+use Rattle.node_machine.specs.world.World.{Site, NodeWorld, site_at, input_of, ending_of, turns_at, frames_noted, wires_for, host_work, host_does}
+use Rattle.node_laws.specs.telling.Telling.{of_link, TellOf, HasEnds, IsOrderly, IfItRuns}
+use Rattle.node_laws.specs.telling.Standing.{Standing, standing, StandsOf}
+use Rattle.node_laws.proofs.telling.Mute.{AreMute}
+use Rattle.node_laws.proofs.telling.Nodes.{site_host, HostTells, host_steps, host_begins}
+
+-- the site with a number is one of them
+pub site_is : (P : Site → Type 0) (sites : List Site) (h : ℕ) (s : Site) → AllByRecursion P sites → site_at sites h ≡ Some s → P s
+site_is P [] h s a q = absurd (cc q)
+site_is P (x ∷ sites) h s a q = go (x.host == h) refl (site_is P sites h s a.1)
+  where
+    go : (b : Bool) → (x.host == h) ≡ b → (site_at sites h ≡ Some s → P s) → P s
+    go true e later =
+        let is : Some x ≡ Some s = rw e at q in
+        let one : x ≡ s = cc in
+        subst P one a.0
+    go false e later = later (rw e at q)
+
+pub node_is : (n : ℕ) (hosts : List ℕ) (o : Option Running) (r : Running) → IfItRuns n hosts o → o ≡ Some r → HasEnds n hosts r
+node_is n hosts None r a q = absurd (cc q)
+node_is n hosts (Some x) r a q = let one : x ≡ r = cc in let P : Running → Type 0 = λ z. HasEnds n hosts z in subst P one a
+
+-- what a host notes is told of its own link as it does this, and of no other one
+pub record HostDoes (w : NodeWorld) (k : ℕ) (comes : Comes) (f : Work → Work) (s : Site) (r : Running) : Type 0 where
+  pub own : TellOf k s.link (AtHost (Step comes (turns_at (host_work s r comes f) s.host) (ending_of (host_work s r comes f)))) (host_does w k comes f).1
+  pub others : (h : ℕ) → (k == h) ≡ false → of_link h (host_does w k comes f).1 ≡ []
+  pub stands : StandsOf k s.link (AtHost (Step comes (turns_at (host_work s r comes f) s.host) (ending_of (host_work s r comes f)))) (host_does w k comes f).1
+  pub leaves : (h : ℕ) → (k == h) ≡ false → (x : Standing) → standing h x (host_does w k comes f).1 ≡ x
+
+module _ (w : NodeWorld) (s : Site) (r : Running) (k : ℕ) (orderly : IsOrderly w) (found : site_at w.sites k ≡ Some s) (runs : s.node ≡ Some r) where
+  number : s.host ≡ k
+  number = site_host w.sites k s found
+
+  host : (s.host == 0) ≡ false
+  host = site_is (λ (x : Site). (x.host == 0) ≡ false) w.sites k s orderly.hosts found
+
+  node : HasEnds s.host (s.host ∷ []) r
+  node = node_is s.host (s.host ∷ []) s.node r (site_is (λ (x : Site). IfItRuns x.host (x.host ∷ []) x.node) w.sites k s orderly.nodes found) runs
+
+  does : (comes : Comes) (f : Work → Work) → HostTells s r comes host node (host_work s r comes f) → HostDoes w k comes f s r
+  does comes f a =
+      let v : Work = host_work s r comes f in
+      let noted : ℕ → List Entry = λ n. v.entries ++ frames_noted Host n (wires_for (exchanged s.link) comes) v in
+      let is : (host_does w k comes f).1 ≡ noted k = rw (found, runs) refl in
+      let P : ℕ → Type 0 = λ n. TellOf n s.link (AtHost (Step comes (turns_at v s.host) (ending_of v))) (noted n) in
+      record {
+        own = ap (of_link k) is ∙ subst P number a.own;
+        others = λ h z. ap (of_link h) is ∙ (ap (λ n. of_link h (noted n)) (sym number) ∙ a.others h (ap (λ n. n == h) number ∙ z));
+        stands = let S : ℕ → Type 0 = λ n. StandsOf n s.link (AtHost (Step comes (turns_at v s.host) (ending_of v))) (noted n) in
+            λ x. ap (standing k x) is ∙ subst S number a.stands x;
+        leaves = λ h z x. ap (standing h x) is ∙ (ap (λ n. standing h x (noted n)) (sym number) ∙ a.leaves h (ap (λ n. n == h) number ∙ z) x);
+      }
+
+  pub host_does_step : (comes : Comes) (i : LinkInput) → input_of (exchanged s.link) comes ≡ Some i → HostDoes w k comes (steps (AtEnd k i)) s r
+  host_does_step comes i q =
+      let P : ℕ → Type 0 = λ n. HostTells s r comes host node (host_work s r comes (steps (AtEnd n i))) in
+      does comes (steps (AtEnd k i)) (subst P number (host_steps s r comes host node i q))
+
+  pub host_does_begin : (deeds : List Deed) → AreMute deeds → HostDoes w k NoInput (begins_with k deeds) s r
+  host_does_begin deeds m =
+      let P : ℕ → Type 0 = λ n. HostTells s r NoInput host node (host_work s r NoInput (begins_with n deeds)) in
+      does NoInput (begins_with k deeds) (subst P number (host_begins s r host node deeds m))

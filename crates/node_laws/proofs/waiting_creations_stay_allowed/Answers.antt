@@ -1,5 +1,0 @@
-use Rattle.node_laws.proofs.Waits.{message_allowed}
-use Rattle.node_laws.proofs.waiting_creations_stay_allowed.Goals as goal
-
-pub returns : goal.returns
-returns c = λ core ports h m sorted may. message_allowed core ports h sorted may m

@@ -1,0 +1,87 @@
+-- A host that is in the mask of the hosts that pass a test passes it.
+use Rattle.std.proofs.Common.{◌≡◌, ℕ, zero, suc, ◌/◌, ◌%◌, ◌≤◌, Bool, true, false, eqb, List, [], ◌∷◌, refl, sym, ap, ◌∙◌, arith}
+use Rattle.std.specs.Prelude.{nat_le}
+use Rattle.std.specs.List.{filter, AllByRecursion}
+use Rattle.std.proofs.lemmas.Bool.{true≢false, leb-true}
+use Rattle.gate_admin.specs.View.{has, hosts_where, mask_of}
+use Rattle.node_laws.proofs.steps.Masks.{bit_most, bit_none, digits}
+
+zero_one : (n : ℕ) → n ≡ 0 → eqb n 1 ≡ true → ⊥
+zero_one n z q = absurd (true≢false (sym q ∙ ap (λ k. eqb k 1) z))
+
+-- hosts in a mask are 07 at most
+pub has_small : (m x : ℕ) → has m x ≡ true → x ≤ 7
+has_small m x q = go (nat_le 1 x) (nat_le x 7) refl refl
+  where
+    go : (a b : Bool) → nat_le 1 x ≡ a → nat_le x 7 ≡ b → x ≤ 7
+    go true true p r = leb-true x 7 r
+    go true false p r = absurd (true≢false (sym (rw (p, r) at q)))
+    go false b p r = absurd (true≢false (sym (rw p at q)))
+
+-- nobody is in an empty mask
+pub nobody : hosts_where (has 0) ≡ []
+unfolding hosts_where
+nobody = refl
+
+-- a host from 01 to 07 is alone in its mask
+pub alone : (P : ℕ → Type 0) (m y : ℕ) → has m y ≡ true → P y → AllByRecursion P (hosts_where (has (mask_of (y ∷ []))))
+unfolding hosts_where
+alone P m zero q e = absurd (true≢false (sym q))
+alone P m (suc zero) q e = (e, tt)
+alone P m (suc (suc zero)) q e = (e, tt)
+alone P m (suc (suc (suc zero))) q e = (e, tt)
+alone P m (suc (suc (suc (suc zero)))) q e = (e, tt)
+alone P m (suc (suc (suc (suc (suc zero))))) q e = (e, tt)
+alone P m (suc (suc (suc (suc (suc (suc zero)))))) q e = (e, tt)
+alone P m (suc (suc (suc (suc (suc (suc (suc zero))))))) q e = (e, tt)
+alone P m (suc (suc (suc (suc (suc (suc (suc (suc n)))))))) q e = absurd (omega (arith, has_small m (suc (suc (suc (suc (suc (suc (suc (suc n)))))))) q))
+
+-- one that is in their mask passes
+pub from_mask : (test : ℕ → Bool) (x : ℕ) → has (mask_of (hosts_where test)) x ≡ true → test x ≡ true
+from_mask test x q = by_host x q where
+  m : ℕ
+  m = mask_of (hosts_where test)
+
+  by_host : (x : ℕ) → has m x ≡ true → test x ≡ true
+  by_host zero q = absurd (true≢false (sym q))
+  by_host (suc zero) q = go (test 1) refl where
+    go : (b : Bool) → test 1 ≡ b → test 1 ≡ true
+    go true e = e
+    go false e = absurd (zero_one (m / 2 % 2) (omega (arith, digits test, bit_none (test 1) e, bit_most)) q)
+  by_host (suc (suc zero)) q = go (test 2) refl where
+    go : (b : Bool) → test 2 ≡ b → test 2 ≡ true
+    go true e = e
+    go false e = absurd (zero_one (m / 4 % 2) (omega (arith, digits test, bit_none (test 2) e, bit_most)) q)
+  by_host (suc (suc (suc zero))) q = go (test 3) refl where
+    go : (b : Bool) → test 3 ≡ b → test 3 ≡ true
+    go true e = e
+    go false e = absurd (zero_one (m / 8 % 2) (omega (arith, digits test, bit_none (test 3) e, bit_most)) q)
+  by_host (suc (suc (suc (suc zero)))) q = go (test 4) refl where
+    go : (b : Bool) → test 4 ≡ b → test 4 ≡ true
+    go true e = e
+    go false e = absurd (zero_one (m / 16 % 2) (omega (arith, digits test, bit_none (test 4) e, bit_most)) q)
+  by_host (suc (suc (suc (suc (suc zero))))) q = go (test 5) refl where
+    go : (b : Bool) → test 5 ≡ b → test 5 ≡ true
+    go true e = e
+    go false e = absurd (zero_one (m / 32 % 2) (omega (arith, digits test, bit_none (test 5) e, bit_most)) q)
+  by_host (suc (suc (suc (suc (suc (suc zero)))))) q = go (test 6) refl where
+    go : (b : Bool) → test 6 ≡ b → test 6 ≡ true
+    go true e = e
+    go false e = absurd (zero_one (m / 64 % 2) (omega (arith, digits test, bit_none (test 6) e, bit_most)) q)
+  by_host (suc (suc (suc (suc (suc (suc (suc zero))))))) q = go (test 7) refl where
+    go : (b : Bool) → test 7 ≡ b → test 7 ≡ true
+    go true e = e
+    go false e = absurd (zero_one (m / 128 % 2) (omega (arith, digits test, bit_none (test 7) e, bit_most)) q)
+  by_host (suc (suc (suc (suc (suc (suc (suc (suc n)))))))) q = absurd (omega (arith, has_small m (suc (suc (suc (suc (suc (suc (suc (suc n)))))))) q))
+
+-- each of the hosts that pass a test passes it
+all_pass : (test : ℕ → Bool) (hosts : List ℕ) → AllByRecursion (λ x. test x ≡ true) (filter test hosts)
+all_pass test [] = tt
+all_pass test (x ∷ hosts) = go (test x) refl (all_pass test hosts) where
+  go : (b : Bool) → test x ≡ b → AllByRecursion (λ y. test y ≡ true) (filter test hosts) → AllByRecursion (λ y. test y ≡ true) (filter test (x ∷ hosts))
+  go true q later = rw q (q, later)
+  go false q later = rw q later
+
+pub all_in : (test : ℕ → Bool) → AllByRecursion (λ x. test x ≡ true) (hosts_where test)
+unfolding hosts_where
+all_in test = all_pass test (1 ∷ 2 ∷ 3 ∷ 4 ∷ 5 ∷ 6 ∷ 7 ∷ [])

@@ -1,5 +1,0 @@
-use Rattle.node_order.proofs.Ordered.{in_order, joined}
-use Rattle.node_order.proofs.messages_are_in_order_in_each_history.Goals as goal
-
-pub returns : goal.returns
-returns c = record { in_order = in_order; joined = joined }

@@ -1,0 +1,3 @@
+pub mod Told
+pub mod Resets
+pub mod Legal

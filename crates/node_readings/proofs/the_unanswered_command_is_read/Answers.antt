@@ -1,5 +1,0 @@
-use Rattle.node_readings.proofs.Stepping.{steps_keep, begins_keep}
-use Rattle.node_readings.proofs.the_unanswered_command_is_read.Goals as goal
-
-pub returns : goal.returns
-returns c = record { step = steps_keep; begins = begins_keep }

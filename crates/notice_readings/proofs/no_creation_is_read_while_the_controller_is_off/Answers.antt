@@ -1,5 +1,0 @@
-use Rattle.notice_readings.proofs.Lines.{none_waits, schedule_waits}
-use Rattle.notice_readings.proofs.no_creation_is_read_while_the_controller_is_off.Goals as goal
-
-pub returns : goal.returns
-returns c = record { moment = none_waits; histories = schedule_waits }

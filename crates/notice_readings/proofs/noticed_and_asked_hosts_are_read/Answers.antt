@@ -1,5 +1,0 @@
-use Rattle.notice_readings.proofs.Knowing.{noticed_is, asked_is}
-use Rattle.notice_readings.proofs.noticed_and_asked_hosts_are_read.Goals as goal
-
-pub returns : goal.returns
-returns c = record { noticed = noticed_is; asked = asked_is }

@@ -1,5 +1,0 @@
-use Rattle.pass_laws.proofs.Waiting.{waiting_read}
-use Rattle.pass_laws.proofs.waiting_messages_are_read_at_turns.Goals as goal
-
-pub returns : goal.returns
-returns c = record { waits = λ w v h comes. waiting_read h w v comes }

@@ -1,8 +1,0 @@
-use Rattle.settled_worlds.proofs.LinkEvents.{takes_go, ticks_go}
-use Rattle.settled_worlds.proofs.takes_and_ticks_are_events_on_each_link.Goals as goal
-
-pub returns-clause-takes : goal.returns-clause-takes
-returns-clause-takes c = takes_go
-
-pub returns-clause-ticks : goal.returns-clause-ticks
-returns-clause-ticks c = ticks_go

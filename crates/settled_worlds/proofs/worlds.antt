@@ -1,0 +1,5 @@
+pub mod WorldRest
+pub mod LinkEvents
+pub mod Endings
+pub mod RoundEvents
+pub mod WorldLaw

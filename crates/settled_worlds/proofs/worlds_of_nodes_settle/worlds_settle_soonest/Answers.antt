@@ -1,0 +1,10 @@
+use Rattle.settling_laws.proofs.messages.Rest.{first_rest}
+use Rattle.settled_worlds.specs.worlds.WorldRest.{world_after_round, world_rests}
+use Rattle.settled_worlds.proofs.worlds.WorldRest.{settling_is}
+use Rattle.settled_worlds.proofs.worlds_of_nodes_settle.worlds_settle_soonest.Goals as goal
+
+pub returns-clause-least : goal.returns-clause-least
+returns-clause-least c = first_rest world_rests world_after_round
+
+pub returns-clause-rounds : goal.returns-clause-rounds
+returns-clause-rounds c = settling_is

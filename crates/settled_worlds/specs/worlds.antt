@@ -1,0 +1,3 @@
+pub mod WorldRest
+pub mod LinkEvents
+pub mod RoundEvents

@@ -1,0 +1,46 @@
+//! A world of nodes that settles. There is no code here that runs.
+
+ghost use Rattle.std.specs.Prelude.{◌≡◌, ◌+◌, ◌*◌, ◌≤◌, ℕ, List, Some};
+ghost use Rattle.link_entries.specs.messages.Links.{AllAllowed, IsStart, Link, LinkEvent, after_link_events};
+ghost use Rattle.settling_laws.specs.messages.Recovery.{AreLinkRounds, IsLinkUndisturbed, fragments_left};
+ghost use Rattle.settled_worlds.specs.worlds.RoundEvents.{LinkSettled, rounds_events};
+ghost use Rattle.trace_model.specs.declared.line.End.{End};
+ghost use Rattle.node_machine.specs.world.World.{NodeWorld, Site, site_at, world_step};
+ghost use Rattle.node_machine.specs.world.World.Happening.{Takes, Ticks};
+ghost use Rattle.settled_worlds.specs.worlds.LinkEvents.{GoesOnLink, link_events_in};
+ghost use Rattle.settling_laws.specs.messages.Rest.{IsFirstRest, after_steps};
+ghost use Rattle.settled_worlds.specs.worlds.WorldRest.{rounds_of_world, world_after_round, world_rests, world_rounds_to_settle, world_settling};
+
+/// A world settles in the least number of rounds after which all its links are at rest, or in n where none below n is; and it is then
+/// what these rounds make of it.
+pub fn worlds_settle_soonest()
+    ensures least { (n : ℕ) → (w : NodeWorld) → IsFirstRest world_rests world_after_round n w (world_rounds_to_settle n w) }
+    ensures rounds { (n : ℕ) → (w : NodeWorld) → (world_settling n w).0 ≡ after_steps world_after_round (world_rounds_to_settle n w) w }
+{}
+
+/// As an end of a world takes a frame, and as time passes, what happens on the link of each host is the event of the law of one link that is
+/// said of it, or nothing.
+pub fn takes_and_ticks_are_events_on_each_link()
+    ensures takes { (w : NodeWorld) → (e : End) → (h : ℕ) → (s : Site) → site_at w.sites h ≡ Some s →
+        GoesOnLink (world_step w (Takes e)).0 h s (link_events_in h w (Takes e)) }
+    ensures ticks { (w : NodeWorld) → (h : ℕ) → (s : Site) → site_at w.sites h ≡ Some s →
+        GoesOnLink (world_step w Ticks).0 h s (link_events_in h w Ticks) }
+{}
+
+/// So rounds of a world are events of the law of one link, one after another, on the link of each host.
+pub fn rounds_of_a_world_are_events_on_each_link()
+    ensures { (r : ℕ) → (w : NodeWorld) → (h : ℕ) → (s : Site) → site_at w.sites h ≡ Some s →
+        GoesOnLink (rounds_of_world r w).0 h s (rounds_events h r w) }
+{}
+
+/// Where a world settles, with 24 (F + 1) rounds at least, F being the fragments of the messages sent both ways on the link of a host that
+/// aren't acknowledged, and the events of these rounds on that link are rounds of it that may happen and are undisturbed, all good messages
+/// that were sent on it before are got, and all that were sent before are acknowledged.
+pub fn links_of_settled_worlds_have_brought_all()
+    ensures { (l : Link) → IsStart l → (before : List LinkEvent) → AllAllowed l before → (w : NodeWorld) → (h : ℕ) → (s : Site) →
+        site_at w.sites h ≡ Some s → after_link_events l before ≡ s.link → (n : ℕ) →
+        AllAllowed s.link (rounds_events h (world_rounds_to_settle n w) w) →
+        AreLinkRounds (world_rounds_to_settle n w) s.link (rounds_events h (world_rounds_to_settle n w) w) →
+        IsLinkUndisturbed s.link (rounds_events h (world_rounds_to_settle n w) w) → 24 * (fragments_left s.link + 1) ≤ n →
+        LinkSettled (world_settling n w).0 h s }
+{}

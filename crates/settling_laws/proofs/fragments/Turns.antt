@@ -1,0 +1,127 @@
+-- What the turns of its node leave of an end that is up.
+use Rattle.std.proofs.Common.{◌≡◌, List, [], ◌∷◌, ◌++◌, refl, ap, sym, subst, ◌∙◌, append_assoc}
+use Rattle.std.proofs.lemmas.List.{append-nil}
+use Rattle.shdlc_core.specs.declared.answers.LinkState.TheVariants.{Up}
+use Rattle.shdlc_core.specs.declared.answers.Due.{Due}
+use Rattle.shdlc_core.specs.declared.answers.Due.TheVariants.{Rr as Rr_due, Rej as Rej_due, Rnr as Rnr_due, Rset as Rset_due, Ua as Ua_due}
+use Rattle.shdlc_core.specs.Machine.{EndState, Fragment}
+use Rattle.link_laws.proofs.places.Whole.{AnswersOnly, NoRnr}
+use Rattle.link_laws.proofs.places.Joined.{ready_cases}
+use Rattle.link_laws.specs.sessions.Sessions.{ShdlcTurn, shdlc_turn, shdlc_turned}
+use Rattle.link_laws.specs.sessions.Sessions.ShdlcTurn.{Offer, SetReady}
+use Rattle.link_laws.proofs.sessions.Ties.{offer_up, answers_more, turn-phase}
+
+no_rnr_more : (ds : List Due) → NoRnr ds → NoRnr (ds ++ Rr_due ∷ [])
+no_rnr_more [] a = tt
+no_rnr_more (Rr_due ∷ ds) a = no_rnr_more ds a
+no_rnr_more (Rej_due ∷ ds) a = no_rnr_more ds a
+no_rnr_more (Rnr_due ∷ ds) a = absurd a
+no_rnr_more (Rset_due ∷ ds) a = no_rnr_more ds a
+no_rnr_more (Ua_due ∷ ds) a = no_rnr_more ds a
+
+-- e has become f: more may be offered, and an answer more may be due behind the others
+pub record Turned (e f : EndState) : Type 0 where
+  pub phase : f.phase ≡ e.phase
+  pub timer : f.timer ≡ e.timer
+  pub window : f.session.window ≡ e.session.window
+  pub acked : f.session.acked ≡ e.session.acked
+  pub next : f.session.next ≡ e.session.next
+  pub busy : f.session.peer_busy ≡ e.session.peer_busy
+  pub probe : f.session.probe ≡ e.session.probe
+  pub acc : f.session.acc ≡ e.session.acc
+  pub more : List Fragment
+  pub out : f.session.out ≡ e.session.out ++ more
+  pub answers : AnswersOnly e.due → AnswersOnly f.due
+  pub no_rnr : NoRnr e.due → NoRnr f.due
+  pub first : (d : Due) (ds : List Due) → e.due ≡ d ∷ ds → (es : List Due) × (f.due ≡ d ∷ es)
+
+unturned : (e : EndState) → Turned e e
+unturned e =
+    record {
+      phase = refl;
+      timer = refl;
+      window = refl;
+      acked = refl;
+      next = refl;
+      busy = refl;
+      probe = refl;
+      acc = refl;
+      more = [];
+      out = sym (append-nil e.session.out);
+      answers = λ a. a;
+      no_rnr = λ a. a;
+      first = λ d ds q. (ds, q);
+    }
+
+then_turned : {d e f : EndState} → Turned d e → Turned e f → Turned d f
+then_turned {d} a b =
+    record {
+      phase = b.phase ∙ a.phase;
+      timer = b.timer ∙ a.timer;
+      window = b.window ∙ a.window;
+      acked = b.acked ∙ a.acked;
+      next = b.next ∙ a.next;
+      busy = b.busy ∙ a.busy;
+      probe = b.probe ∙ a.probe;
+      acc = b.acc ∙ a.acc;
+      more = a.more ++ b.more;
+      out = b.out ∙ (ap (λ l. l ++ b.more) a.out ∙ append_assoc d.session.out a.more b.more);
+      answers = λ k. b.answers (a.answers k);
+      no_rnr = λ k. b.no_rnr (a.no_rnr k);
+      first = λ x xs q. let g = a.first x xs q in b.first x g.0 g.1;
+    }
+
+one_turn : (e : EndState) (t : ShdlcTurn) → e.phase ≡ Up → Turned e (shdlc_turn e t)
+one_turn e (Offer fragments) up =
+    subst (Turned e) (sym (offer_up e fragments up))
+    (record {
+      phase = refl;
+      timer = refl;
+      window = refl;
+      acked = refl;
+      next = refl;
+      busy = refl;
+      probe = refl;
+      acc = refl;
+      more = fragments;
+      out = refl;
+      answers = λ a. a;
+      no_rnr = λ a. a;
+      first = λ d ds q. (ds, q);
+    })
+one_turn e (SetReady r) up =
+    ready_cases (Turned e) e r (unturned e)
+    (record {
+      phase = refl;
+      timer = refl;
+      window = refl;
+      acked = refl;
+      next = refl;
+      busy = refl;
+      probe = refl;
+      acc = refl;
+      more = [];
+      out = sym (append-nil e.session.out);
+      answers = λ a. a;
+      no_rnr = λ a. a;
+      first = λ d ds q. (ds, q);
+    })
+    (record {
+      phase = refl;
+      timer = refl;
+      window = refl;
+      acked = refl;
+      next = refl;
+      busy = refl;
+      probe = refl;
+      acc = refl;
+      more = [];
+      out = sym (append-nil e.session.out);
+      answers = answers_more e.due;
+      no_rnr = no_rnr_more e.due;
+      first = λ d ds q. (ds ++ Rr_due ∷ [], ap (λ l. l ++ Rr_due ∷ []) q);
+    })
+
+pub turned_up : (ts : List ShdlcTurn) (e : EndState) → e.phase ≡ Up → Turned e (shdlc_turned e ts)
+turned_up [] e up = unturned e
+turned_up (t ∷ ts) e up = then_turned (one_turn e t up) (turned_up ts (shdlc_turn e t) (turn-phase e t ∙ up))

@@ -1,5 +1,0 @@
-use Rattle.view_readings.proofs.Beginning.{begins_keep, sends_keep, steps_keep}
-use Rattle.view_readings.proofs.the_running_init_is_read.Goals as goal
-
-pub returns : goal.returns
-returns c = record { step = steps_keep; sends = sends_keep; begins = begins_keep }

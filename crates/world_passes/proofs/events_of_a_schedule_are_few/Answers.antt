@@ -1,5 +1,0 @@
-use Rattle.world_passes.proofs.Events.{front_long}
-use Rattle.world_passes.proofs.events_of_a_schedule_are_few.Goals as goal
-
-pub returns : goal.returns
-returns c = λ header lines t follows are play most front back parts. front_long header lines t follows are play most front back parts
