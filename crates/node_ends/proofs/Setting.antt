@@ -151,7 +151,8 @@ set_holds old new k waiting m h some c =
     let spare_here = spare_is old k (without_got m) h.stands in
     let quota = h.stands.halfway.sends.lies.kept.quota in
     let within = h.stands.halfway.sends.lies.kept.within in
-    let next = counted_stands old new k (without_got m) (used_of old o + 1) (aside_of old o + 1) h.stands c (omega arith) (omega (arith, some, quota, within)) in
+    let next = counted_stands old new k (without_got m) (used_of old o + 1) (aside_of old o + 1) h.stands c (omega arith)
+    (omega (arith, some, quota, within)) in
     let room : nat_lt 0 (spare m) ≡ true = lt-ltb 0 (spare m) (omega (arith, some, spare_here)) in
     let is : turn m SetAside ≡ record m { aside = m.aside + 1 } = rw room refl in
     let P : ℕ → Type 0 = λ a. EndStandsFor k new (record (without_got m) { aside = a + 1 }) in

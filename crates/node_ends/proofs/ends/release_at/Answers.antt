@@ -28,6 +28,7 @@ pub returns : goal.returns
 returns c ports e =
     turns {x = Release} {d = c.index-seats-i.result} {t = c.release.new.self} ports (record {
       place = c.requires.place;
+      sendable = tt;
       moves = c.release.ensures.moves;
       rest = c.release.ensures.rest;
       stands = c.release.ensures.stands;

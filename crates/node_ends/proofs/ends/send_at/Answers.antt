@@ -19,6 +19,7 @@ pub returns-clause-stands : goal.returns-clause-stands
 returns-clause-stands c ports e =
     turns {x = Give (c.args.pipe, c.args.message.now)} {d = c.index-seats-i.result} ports (record {
       place = c.requires.place;
+      sendable = (c.requires.sendable, tt);
       moves = c.send.ensures.moves;
       rest = c.send.ensures.rest;
       stands = c.send.ensures.stands;

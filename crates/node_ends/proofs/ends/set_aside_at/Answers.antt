@@ -27,6 +27,7 @@ pub returns : goal.returns
 returns c ports e =
     turns {x = SetAside} {d = c.index-seats-i.result} {t = c.set_aside.new.self} ports (record {
       place = c.requires.place;
+      sendable = tt;
       moves = c.set_aside.ensures.moves;
       rest = c.set_aside.ensures.rest;
       stands = c.set_aside.ensures.stands;

@@ -19,6 +19,7 @@ returns c ports e =
       waiting = refl;
       late = refl;
       ended = refl;
+      acked = refl;
       host = refl;
       desk = refl;
     }) e
