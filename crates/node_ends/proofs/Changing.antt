@@ -99,6 +99,7 @@ module _ {old new : PoolState} {h : ℕ} {f : Port → Port} {s t : Seat} (c : O
         ended = g.ended;
         reached = g.reached;
         acked = g.acked;
+        aside = g.aside;
       })
 
   -- all ends behind that place stay
@@ -260,6 +261,7 @@ pub record Turns (old new : PoolState) (seats : List Seat) (h i : ℕ) (x : Turn
   pub sendable : AreSendableInputs (FromNode x ∷ [])
   pub moves : Moves old new (slice_index_or seats i d).side.link t.side.link
   pub rest : t ≡ record (slice_index_or seats i d) { side = t.side }
+  pub aside : (m : Machine) → (turn m x).aside ≡ m.aside
   pub stands : (m : Machine) → HoldsSeat old (slice_index_or seats i d) m → HoldsSeat new t (turn m x)
 
 -- the same, where more than the end itself may have changed
@@ -271,7 +273,8 @@ pub record TurnsSo (old new : PoolState) (seats : List Seat) (h i : ℕ) (x : Tu
   pub late : t.late ≡ (slice_index_or seats i d).late
   pub ended : t.ended ≡ (slice_index_or seats i d).ended
   pub acked : t.acked ≡ (slice_index_or seats i d).acked
-  pub stands : (m : Machine) → HoldsSeat old (slice_index_or seats i d) m → HoldsSeat new t (turn m x)
+  pub stands : (m : Machine) → HoldsSeat old (slice_index_or seats i d) m → (slice_index_or seats i d).aside ≡ m.aside
+      → HoldsSeat new t (turn m x) × (t.aside ≡ (turn m x).aside)
 
 pub turns_so : {old new : PoolState} {seats : List Seat} {h i : ℕ} {x : Turn} {d t : Seat} (ports : List Port) → TurnsSo old new seats h i x d t
     → AreEnds old seats ports → AreEnds new (slice_set seats i t) (with_port h (after_turn x) ports)
@@ -285,12 +288,13 @@ turns_so {old} {new} {seats} {h} {i} {x} {d} {t} ports c e =
       after = ap (λ (s : Desk). s.host) c.desk ∙ host;
       moves = c.moves;
       stands = λ q g. record {
-        holds = c.stands q.side g.holds;
+        holds = (c.stands q.side g.holds g.aside).0;
         desk = ap desk_shown c.desk ∙ g.desk;
         late = c.late ∙ g.late;
         ended = c.ended ∙ g.ended;
         reached = reached_on q.side (FromNode x) c.sendable g.reached;
         acked = c.acked ∙ (g.acked ∙ ap kept_number (sym (turn_acked q.side x c.sendable g.reached)));
+        aside = (c.stands q.side g.holds g.aside).1;
       };
     } in
     one_changes one i seats ports (p.seat_is ∙ ap (λ (s : Seat). Some s) (sym same_seat)) e
@@ -306,7 +310,7 @@ turns {x = x} {d = d} {t = t} ports c e =
       late = ap (λ (s : Seat). s.late) c.rest;
       ended = ap (λ (s : Seat). s.ended) c.rest;
       acked = ap (λ (s : Seat). s.acked) c.rest;
-      stands = c.stands;
+      stands = λ m h same. (c.stands m h, ap (λ (s : Seat). s.aside) c.rest ∙ (same ∙ sym (c.aside m)));
     }) e
 
 -- the end that is read at a place stands for the port there
@@ -346,6 +350,7 @@ pub record SetsDesk (pool : PoolState) (seats : List Seat) (h i : ℕ) (f : Desk
   pub late : t.late ≡ (slice_index_or seats i d).late
   pub ended : t.ended ≡ (slice_index_or seats i d).ended
   pub acked : t.acked ≡ (slice_index_or seats i d).acked
+  pub aside : t.aside ≡ (slice_index_or seats i d).aside
   pub host : t.desk.host ≡ (slice_index_or seats i d).desk.host
   pub desk : desk_shown t.desk ≡ f (desk_shown (slice_index_or seats i d).desk)
 
@@ -370,6 +375,7 @@ sets_desk {pool} {seats} {h} {i} {f} {d} {t} ports c e =
         ended = c.ended ∙ g.ended;
         reached = g.reached;
         acked = c.acked ∙ g.acked;
+        aside = c.aside ∙ g.aside;
       };
     } in
     one_changes one i seats ports (p.seat_is ∙ ap (λ (s : Seat). Some s) (sym same_seat)) e

@@ -13,3 +13,4 @@ pub mod Noticing
 pub mod Making
 pub mod Sending
 pub mod Over
+mod Blocks

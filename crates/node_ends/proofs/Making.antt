@@ -65,6 +65,7 @@ new_stands pool role k h s n free unused =
       ended = n.ended;
       reached = reached_new role;
       acked = n.acked;
+      aside = n.aside;
     }
 
 each_stands : (pool : PoolState) (role : Named) (k : ℕ) (hosts : List ℕ) (seats : List Seat) → AreNewFrom role k hosts seats

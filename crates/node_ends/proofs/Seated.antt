@@ -32,6 +32,7 @@ module _ {old new : PoolState} {f : Port → Port} {s t : Seat} (c : HereChanges
     ended = g.ended;
     reached = g.reached;
     acked = g.acked;
+    aside = g.aside;
   }
 
   -- all ends behind that place stay
@@ -176,6 +177,7 @@ pub record SetsHere (pool : PoolState) (seats : List Seat) (i : ℕ) (f : Port �
   pub side : t.side ≡ (slice_index_or seats i d).side
   pub waiting : t.waiting ≡ (slice_index_or seats i d).waiting
   pub acked : t.acked ≡ (slice_index_or seats i d).acked
+  pub aside : t.aside ≡ (slice_index_or seats i d).aside
   pub host : t.desk.host ≡ (slice_index_or seats i d).desk.host
   pub same_side : (q : Port) → (f q).side ≡ q.side
   pub desk : (q : Port) → SeatStandsFor pool (slice_index_or seats i d) q → desk_shown t.desk ≡ (f q).desk
@@ -201,6 +203,7 @@ sets_here {pool} {seats} {i} {f} {d} {t} ports c e =
         ended = c.ended q g;
         reached = (let M : Machine → Type 0 = λ m. IsReached m in subst M (sym (c.same_side q)) g.reached);
         acked = c.acked ∙ (g.acked ∙ ap (λ (m : Machine). kept_number (whole_acked m)) (sym (c.same_side q)));
+        aside = c.aside ∙ (g.aside ∙ ap (λ (m : Machine). m.aside) (sym (c.same_side q)));
       };
     }) e
 

@@ -26,6 +26,7 @@ pub record SeatStandsFor (pool : PoolState) (s : Seat) (p : Port) : Type 0 where
   pub ended : s.ended ≡ p.ended
   pub reached : IsReached p.side
   pub acked : s.acked ≡ kept_number (whole_acked p.side)
+  pub aside : s.aside ≡ p.side.aside
 
 -- all of them, one by one
 abbrev pub SeatsStandFor : PoolState → List Seat → List Port → Type 0
@@ -60,11 +61,6 @@ place_in h (s ∷ seats) = if s.desk.host == h then Some 0 else option_map suc (
 -- an end, where there is one, takes a message for sending
 abbrev pub takes_at : Message → Option Port → Bool
 takes_at m port = option_map_or (λ (p : Port). is_none (give_refusal p.side m)) port false
-
--- a block is set aside at an end, where there is one
-abbrev pub HasAside : Option Port → Type 0
-HasAside None = Unit {0}
-HasAside (Some p) = 0 < p.side.aside
 
 -- at most six control frames wait to be sent at an end, where there is one
 abbrev pub FewAreDue : Option Port → Type 0

@@ -25,6 +25,7 @@ pub record IsNewSeat (role : Named) (k h : ℕ) (s : Seat) : Type 0 where
   pub late : s.late ≡ false
   pub ended : s.ended ≡ false
   pub acked : s.acked ≡ 0
+  pub aside : s.aside ≡ 0
 
 -- new ends of the links with these hosts, from the place k on
 abbrev pub AreNewFrom : Named → ℕ → List ℕ → List Seat → Type 0

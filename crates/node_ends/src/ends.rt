@@ -17,7 +17,7 @@ ghost use Rattle.link_machine.specs.Machine.{spare};
 ghost use Rattle.node_machine.specs.Controller.{has_link};
 ghost use Rattle.node_machine.specs.Parts.{Port};
 ghost use Rattle.node_machine.specs.Carrying.{port_at, with_port, after_turn};
-ghost use Rattle.node_ends.specs.Ends.{AreEnds, AreHeld, HasAside, FewAreDue, MayStartAt, takes_at, place_in, at_place, has_sent, frame_at};
+ghost use Rattle.node_ends.specs.Ends.{AreEnds, AreHeld, FewAreDue, MayStartAt, takes_at, place_in, at_place, has_sent, frame_at};
 
 use crate::new_seats::add_seats;
 use crate::places::place_of;
@@ -65,7 +65,7 @@ impl Ends {
     ghost use Rattle.link_machine.specs.Machine.{spare};
     ghost use Rattle.node_machine.specs.Controller.{has_link};
     ghost use Rattle.node_machine.specs.Carrying.{port_at, with_port, after_turn};
-    ghost use Rattle.node_ends.specs.Ends.{EndsStandFor, AreHeld, HasAside, FewAreDue, MayStartAt, takes_at, at_place, late_told, has_sent, frame_at};
+    ghost use Rattle.node_ends.specs.Ends.{EndsStandFor, AreHeld, FewAreDue, MayStartAt, takes_at, at_place, late_told, has_sent, frame_at};
 
     /// New ends of the links with these hosts, at most seven, in a pool with 128 blocks of each end for what it sends, and 512 for what
     /// comes there.
@@ -106,9 +106,9 @@ impl Ends {
         }
     }
 
-    /// One that was set aside there is free again.
+    /// One that was set aside there, where one was, is free again.
     pub fn release(&mut self, host: u8)
-        requires { (ports : List Port) × EndsStandFor self.old ports × HasAside (port_at ports host) }
+        requires { (ports : List Port) × EndsStandFor self.old ports }
         ensures { (ports : List Port) → EndsStandFor self.old ports → EndsStandFor self.new (with_port host (after_turn Release) ports) }
     {
         if let Some(i) = place_of(self.seats.as_slice(), host) {
@@ -422,7 +422,7 @@ fn set_aside_at(seats: &mut [Seat], i: usize, pool: &mut Pool, host: u8)
 
 fn release_at(seats: &mut [Seat], i: usize, pool: &mut Pool, host: u8)
     requires place { place_in host seats.old ≡ Some i }
-    requires stands { (ports : List Port) × AreEnds pool.old seats.old ports × HasAside (port_at ports host) }
+    requires stands { (ports : List Port) × AreEnds pool.old seats.old ports }
     ensures { (ports : List Port) → AreEnds pool.old seats.old ports → AreEnds pool.new seats.new (with_port host (after_turn Release) ports) }
 {
     seats[i].release(pool, 2 * i as u8);

@@ -26,6 +26,7 @@ fn new_seat(alloc: Global, role: Role, host: u8, k: u8) -> Result<Seat, NoMemory
         late: false,
         ended: false,
         acked: 0,
+        aside: 0,
     })
 }
 

@@ -27,6 +27,8 @@ pub struct Seat {
     pub(crate) ended: bool,
     /// How many messages of the session are acknowledged; 4,294,967,295 stands for any greater number.
     pub(crate) acked: u32,
+    /// How many blocks for what goes out are set aside, at most 128.
+    pub(crate) aside: u8,
 }
 
 impl Seat {
@@ -76,27 +78,34 @@ impl Seat {
 
     /// A block of the end's owner for what goes out, which has this number, is set aside, where one is spare.
     pub(crate) fn set_aside(&mut self, pool: &mut Pool, owner: u8)
-        requires stands { (m : Machine) × HoldsSeat pool.old self.old m }
+        requires stands { (m : Machine) × HoldsSeat pool.old self.old m × (self.old.aside ≡ m.aside) }
         requires owner { self.old.side.link.outbox.owner ≡ owner }
         ensures stands { (m : Machine) → HoldsSeat pool.old self.old m → HoldsSeat pool.new self.new (turn m SetAside) }
+        ensures aside { (m : Machine) → HoldsSeat pool.old self.old m → self.old.aside ≡ m.aside → self.new.aside ≡ (turn m SetAside).aside }
         ensures moves { Moves pool.old pool.new self.old.side.link self.new.side.link }
-        ensures rest { self.new ≡ record self.old { side = self.new.side } }
+        ensures rest { self.new ≡ record self.old { side = self.new.side; aside = self.new.aside } }
     {
         match pool.set_aside(owner) {
-            Ok(()) => {}
+            Ok(()) => self.aside += 1,
             Err(_full) => {}
         }
     }
 
-    /// One that was set aside is free again.
+    /// One that was set aside, where one was, is free again.
     pub(crate) fn release(&mut self, pool: &mut Pool, owner: u8)
-        requires stands { (m : Machine) × HoldsSeat pool.old self.old m × (0 < m.aside) }
+        requires stands { (m : Machine) × HoldsSeat pool.old self.old m × (self.old.aside ≡ m.aside) }
         requires owner { self.old.side.link.outbox.owner ≡ owner }
-        ensures stands { (m : Machine) → HoldsSeat pool.old self.old m → HoldsSeat pool.new self.new (turn m Release) }
+        ensures stands { (m : Machine) → HoldsSeat pool.old self.old m → self.old.aside ≡ m.aside
+            → HoldsSeat pool.new self.new (turn m Release) }
+        ensures aside { (m : Machine) → self.old.aside ≡ m.aside → self.new.aside ≡ (turn m Release).aside }
         ensures moves { Moves pool.old pool.new self.old.side.link self.new.side.link }
-        ensures rest { self.new ≡ record self.old { side = self.new.side } }
+        ensures rest { self.new ≡ record self.old { side = self.new.side; aside = self.new.aside } }
     {
+        if self.aside == 0 {
+            return;
+        }
         pool.release(owner);
+        self.aside -= 1;
     }
 
     /// The message that waits has its turn: its blocks are given back.

@@ -17,6 +17,7 @@ use Rattle.link_machine.proofs.Reports.{start_so}
 use Rattle.node_ends.specs.Ends.{AreEnds}
 use Rattle.node_machine.specs.Carrying.{with_port}
 use Rattle.std.specs.Prelude.{slice_set}
+use Rattle.node_ends.proofs.Blocks.{start_aside}
 use Rattle.node_ends.proofs.ends.activate_at.Goals as goal
 
 pub offset_bounds-seats-i : goal.offset_bounds-seats-i
@@ -53,6 +54,7 @@ returns-clause-stands c ports e =
         reached = reached_on q.side (Start c.args.value) tt g.reached;
         acked = acked_so t.result (report q.side (Start c.args.value)) t.new.self.acked (ap (λ (s : Seat). s.acked) t.ensures.rest ∙ g.acked)
             (t.ensures.answer q.side g.holds) (input_acked q.side (Start c.args.value) g.reached (start_so q.side c.args.value));
+        aside = ap (λ (s : Seat). s.aside) t.ensures.rest ∙ (g.aside ∙ sym (start_aside q.side c.args.value));
       };
     }) e)
 

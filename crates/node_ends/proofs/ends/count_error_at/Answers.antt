@@ -19,6 +19,7 @@ returns c ports e =
       late = refl;
       ended = refl;
       acked = refl;
+      aside = refl;
       host = refl;
       desk = ap (λ (n : ℕ). record (desk_shown (slice_index_or c.args.seats.now c.args.i c.index-seats-i.result).desk) { errors = n })
           (let s = c.saturating_add-seat.ensures in omega (arith, s));

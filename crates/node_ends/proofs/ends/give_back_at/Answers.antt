@@ -25,5 +25,5 @@ returns c ports e =
       late = ap (λ (s : Seat). s.late) c.give_back.ensures.rest;
       ended = ap (λ (s : Seat). s.ended) c.give_back.ensures.rest;
       acked = ap (λ (s : Seat). s.acked) c.give_back.ensures.rest;
-      stands = c.give_back.ensures.stands;
+      stands = λ m h same. (c.give_back.ensures.stands m h, ap (λ (s : Seat). s.aside) c.give_back.ensures.rest ∙ same);
     }) e

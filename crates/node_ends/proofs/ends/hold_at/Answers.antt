@@ -1,4 +1,4 @@
-use Rattle.std.proofs.Common.{arith, subst}
+use Rattle.std.proofs.Common.{arith, refl, subst}
 use Rattle.node_ends.specs.Ends.{FewAreDue}
 use Rattle.link_machine.specs.Machine.Turn.{Hold}
 use Rattle.node_ends.proofs.Moving.{few_controls}
@@ -23,5 +23,6 @@ returns c ports e =
       sendable = tt;
       moves = c.hold.ensures.moves c.args.pool.now;
       rest = c.hold.ensures.rest;
+      aside = λ m. refl;
       stands = c.hold.ensures.stands c.args.pool.now;
     }) e

@@ -15,6 +15,7 @@ use Rattle.node_ends.proofs.Counting.{reset_so_far, reset_acked, reached_on}
 use Rattle.node_ends.specs.Ends.{AreEnds}
 use Rattle.node_machine.specs.Carrying.{with_port}
 use Rattle.std.specs.Prelude.{slice_set}
+use Rattle.node_ends.proofs.Blocks.{reset_aside}
 use Rattle.node_ends.proofs.ends.reset_at.Goals as goal
 
 pub offset_bounds-seats-i : goal.offset_bounds-seats-i
@@ -51,6 +52,7 @@ returns-clause-stands c ports e =
         reached = reached_on q.side (Reset c.args.window) tt g.reached;
         acked = reset_so_far t.result (reset_told q.side c.args.window) t.new.self.acked (ap (λ (s : Seat). s.acked) t.ensures.rest ∙ g.acked)
             (t.ensures.answer q.side g.holds) (reset_acked q.side c.args.window g.reached);
+        aside = ap (λ (s : Seat). s.aside) t.ensures.rest ∙ (g.aside ∙ sym (reset_aside q.side c.args.window));
       };
     }) e)
 

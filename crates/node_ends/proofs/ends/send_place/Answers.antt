@@ -7,6 +7,7 @@ use Rattle.node_ends.specs.Ends.{has_sent, frame_at}
 use Rattle.node_ends.proofs.Seated.{reads_here, comes_here}
 use Rattle.node_ends.proofs.Counting.{reached_on}
 use Rattle.node_ends.proofs.Sending.{sent_same}
+use Rattle.node_ends.proofs.Blocks.{fetched_aside}
 use Rattle.node_ends.proofs.ends.send_place.Goals as goal
 
 pub next_out-requires : goal.next_out-requires
@@ -28,6 +29,7 @@ returns-clause-stands c ports e =
         ended = ap (λ (s : Seat). s.ended) t.ensures.rest ∙ g.ended;
         reached = reached_on q.side Fetch tt g.reached;
         acked = ap (λ (s : Seat). s.acked) t.ensures.rest ∙ (g.acked ∙ ap kept_number (sym (sent_same q.side).1));
+        aside = ap (λ (s : Seat). s.aside) t.ensures.rest ∙ (g.aside ∙ sym (fetched_aside q.side));
       };
     }) e
 

@@ -20,6 +20,7 @@ returns c ports e =
       late = refl;
       ended = refl;
       acked = refl;
+      aside = refl;
       host = refl;
       desk = refl;
     }) e

@@ -22,6 +22,7 @@ returns c ports e =
       late = refl;
       ended = refl;
       acked = refl;
+      aside = refl;
       host = refl;
       desk = refl;
     }) e

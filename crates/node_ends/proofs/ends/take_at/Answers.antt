@@ -15,6 +15,7 @@ use Rattle.node_ends.proofs.Counting.{acked_so, reached_lpdu, lpdu_acked}
 use Rattle.node_ends.specs.Ends.{AreEnds}
 use Rattle.node_machine.specs.Carrying.{with_port}
 use Rattle.std.specs.Prelude.{slice_set}
+use Rattle.node_ends.proofs.Blocks.{lpdu_aside}
 use Rattle.node_ends.proofs.ends.take_at.Goals as goal
 
 pub offset_bounds-seats-i : goal.offset_bounds-seats-i
@@ -54,6 +55,7 @@ returns-clause-stands c ports lpdu e is =
         reached = reached_lpdu q.side lpdu g.reached;
         acked = acked_so t.result (report q.side (lpdu_input lpdu)) t.new.self.acked (ap (λ (s : Seat). s.acked) t.ensures.rest ∙ g.acked)
             (t.ensures.answer q.side lpdu g.holds is) (lpdu_acked q.side lpdu g.reached);
+        aside = ap (λ (s : Seat). s.aside) t.ensures.rest ∙ (g.aside ∙ sym (lpdu_aside q.side lpdu));
       };
     }) e)
 

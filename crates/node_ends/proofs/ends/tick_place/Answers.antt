@@ -17,6 +17,7 @@ use Rattle.node_ends.proofs.Counting.{acked_so, reached_on, input_acked}
 use Rattle.link_machine.proofs.Reports.{tick_so}
 use Rattle.node_ends.specs.Ends.{AreEnds, at_place}
 use Rattle.std.specs.Prelude.{slice_set}
+use Rattle.node_ends.proofs.Blocks.{tick_aside}
 use Rattle.node_ends.proofs.ends.tick_place.Goals as goal
 
 pub tick-report-requires-clause-stands : goal.tick-report-requires-clause-stands
@@ -47,6 +48,7 @@ returns-clause-stands c ports e =
         reached = reached_on q.side Tick tt g.reached;
         acked = acked_so t.result (report q.side Tick) t.new.self.acked (ap (λ (s : Seat). s.acked) t.ensures.rest ∙ g.acked)
             (t.ensures.answer q.side g.holds) (input_acked q.side Tick g.reached (tick_so q.side));
+        aside = ap (λ (s : Seat). s.aside) t.ensures.rest ∙ (g.aside ∙ sym (tick_aside q.side));
       };
     }) e)
 

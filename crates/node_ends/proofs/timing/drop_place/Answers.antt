@@ -18,6 +18,7 @@ returns c ports e =
       side = refl;
       waiting = refl;
       acked = refl;
+      aside = refl;
       host = refl;
       same_side = λ q. (without_same q).0;
       desk = λ q g. kept_desk r.desk q r.ended r.late g.desk g.ended g.late;

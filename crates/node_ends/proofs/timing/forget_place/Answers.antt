@@ -17,6 +17,7 @@ returns c ports e =
       side = refl;
       waiting = refl;
       acked = refl;
+      aside = refl;
       host = refl;
       same_side = λ q. refl;
       desk = λ q g. forgotten_desk r.desk q g.desk;
