@@ -29,7 +29,7 @@ use Rattle.node_machine.specs.Controller.{own_deeds, relay_deeds}
 use Rattle.node_machine.specs.Controller.{deeds_by_relay, controller_deeds, has_link, own_gate, view_for, goes_through, is_command_message, answers_on}
 use Rattle.node_deeds.proofs.Ports.{find-map}
 use Rattle.node_ends.specs.Ends.{HasAside}
-use Rattle.node_core.specs.Deeds.{IsAllowed, AreAllowed}
+use Rattle.node_core.specs.Deeds.{IsGranted, AreGranted}
 use Rattle.node_core.specs.Handling.{has_turn}
 use Rattle.node_core.specs.Asides.{AreAside}
 use Rattle.node_core.proofs.Quiet.{commit_ports}
@@ -54,7 +54,7 @@ IsPlain (Ends e) = ⊥
 abbrev ArePlain : List Deed → Type 0
 ArePlain deeds = AllByRecursion IsPlain deeds
 
-one_plain : (d : Deed) (w : Work) → IsPlain d → IsAllowed d w
+one_plain : (d : Deed) (w : Work) → IsPlain d → IsGranted d w
 one_plain (Commits c) w plain = absurd plain
 one_plain (Sends to m) w plain = tt
 one_plain SaysOk w plain = tt
@@ -69,7 +69,7 @@ one_plain Hears w plain = plain
 one_plain (GoesOn i) w plain = plain
 one_plain (Ends e) w plain = plain
 
-all_plain : (h : ℕ) (deeds : List Deed) (w : Work) → ArePlain deeds → AreAllowed h deeds w
+all_plain : (h : ℕ) (deeds : List Deed) (w : Work) → ArePlain deeds → AreGranted h deeds w
 all_plain h [] w plain = tt
 all_plain h (d ∷ deeds) w plain = (one_plain d w plain.0, all_plain h deeds (done h d (record w { plan = None })) plain.1)
 
@@ -144,29 +144,30 @@ answered_asides h w = same_asides h (λ p. record p { desk = record p.desk { not
 
 module _ (h : ℕ) (m : Message) (w : Work) where
   commit_allowed : (b : Bool) (pipe : ℕ) (c : Command) (answer : List ℕ) (told : List Deed) → (b ≡ true → finds_room w.core c ≡ true) → ArePlain told
-      → AreAllowed h (commit_deeds b h pipe c answer told) (has_turn h m w)
-  commit_allowed true pipe c answer told room plain = (room refl, all_plain h (Sends h (pipe, answer) ∷ SaysOk ∷ told) (done h (Commits c) (record (has_turn h m w) { plan = None })) (tt, (tt, plain)))
+      → AreGranted h (commit_deeds b h pipe c answer told) (has_turn h m w)
+  commit_allowed true pipe c answer told room plain =
+      (room refl, all_plain h (Sends h (pipe, answer) ∷ SaysOk ∷ told) (done h (Commits c) (record (has_turn h m w) { plan = None })) (tt, (tt, plain)))
   commit_allowed false pipe c answer told room plain = (tt, tt)
 
-  decision_allowed : (pipe : ℕ) (d : Decision) → AreAllowed h (decision_deeds w.core h pipe d) (has_turn h m w)
+  decision_allowed : (pipe : ℕ) (d : Decision) → AreGranted h (decision_deeds w.core h pipe d) (has_turn h m w)
   decision_allowed pipe (Answer answer) = (tt, tt)
   decision_allowed pipe (Commit c answer tell notice) =
       commit_allowed (finds_room w.core c) pipe c answer.items (map (λ told. Tells told notice.items) (hosts_where (has tell))) (λ q. q)
       (tells_plain notice.items (hosts_where (has tell)))
   decision_allowed pipe (Ask asked notice c answer) = (tt, tt)
 
-  gate_allowed : (gate errors pipe instruction : ℕ) (body : List ℕ) → AreAllowed h (gate_deeds gate errors h pipe instruction body) (has_turn h m w)
+  gate_allowed : (gate errors pipe instruction : ℕ) (body : List ℕ) → AreGranted h (gate_deeds gate errors h pipe instruction body) (has_turn h m w)
   gate_allowed gate errors pipe instruction body =
       all_plain h (gate_deeds gate errors h pipe instruction body) (has_turn h m w)
       (either ArePlain (gate == 6) _ _ (link_plain h pipe _ _) (either ArePlain (gate == 5) _ _ (tt, tt) (tt, tt)))
 
   served_allowed : (view : LinkView) (pipe instruction : ℕ) (body : List ℕ) (o : Option ℕ)
-      → AreAllowed h (served_at w.core view h pipe instruction body o) (has_turn h m w)
+      → AreGranted h (served_at w.core view h pipe instruction body o) (has_turn h m w)
   served_allowed view pipe instruction body None = decision_allowed pipe (decided w.core.tables view h pipe instruction body)
   served_allowed view pipe instruction body (Some gate) = gate_allowed gate view.errors pipe instruction body
 
   agreed_allowed : (b : Bool) (c : Creation) → (b ≡ true → finds_room w.core c.command ≡ true) → HasAside (port_at w.ports c.asker)
-      → AreAllowed h (agreed b c) (has_turn h m w)
+      → AreGranted h (agreed b c) (has_turn h m w)
   agreed_allowed true c room has =
       let v : Work = record (done h IsAnswered (record (has_turn h m w) { plan = None })) { plan = None } in
       let same = sym (ap (map aside_at) (commit_ports c.command v) ∙ (answered_asides h (has_turn h m w) ∙ turn_asides h m w)) in
@@ -176,57 +177,58 @@ module _ (h : ℕ) (m : Message) (w : Work) where
       (tt, (aside_kept w.ports (done h IsAnswered (has_turn h m w)).ports c.asker same has, (tt, tt)))
 
   creation_allowed : (code : ℕ) (o : Option Creation) → IfSome o (λ (c : Creation). HasAside (port_at w.ports c.asker))
-      → AreAllowed h (creation_deeds w.core code o) (has_turn h m w)
+      → AreGranted h (creation_deeds w.core code o) (has_turn h m w)
   creation_allowed code None has = (tt, tt)
   creation_allowed code (Some c) has =
       agreed_allowed ((code == 0) && finds_room w.core c.command) c (both_true (code == 0) (finds_room w.core c.command)) has
 
   notice_allowed : (code : ℕ) (o : Option Notice) → IfSome (creation_in o) (λ (c : Creation). HasAside (port_at w.ports c.asker))
-      → AreAllowed h (notice_deeds w.core code o) (has_turn h m w)
+      → AreGranted h (notice_deeds w.core code o) (has_turn h m w)
   notice_allowed code None has = (tt, tt)
   notice_allowed code (Some n) has = creation_allowed code (creation_in (Some n)) has
 
   response_allowed : (code : ℕ) (o : Option Port)
       → IfSome o (λ (p : Port). IfSome (asked_at p) (λ (c : Creation). HasAside (port_at w.ports c.asker)))
-      → AreAllowed h (response_at w.core code o) (has_turn h m w)
+      → AreGranted h (response_at w.core code o) (has_turn h m w)
   response_allowed code None has = (tt, tt)
   response_allowed code (Some p) has = notice_allowed code p.desk.notice has
 
-  plain_allowed : (deeds : List Deed) → ArePlain deeds → AreAllowed h deeds (has_turn h m w)
+  plain_allowed : (deeds : List Deed) → ArePlain deeds → AreGranted h deeds (has_turn h m w)
   plain_allowed deeds plain = all_plain h deeds (has_turn h m w) plain
 
-  asking_allowed : (instruction : ℕ) (b : Bool) → AreAllowed h (unless_asking w.core w.ports h m instruction b) (has_turn h m w)
+  asking_allowed : (instruction : ℕ) (b : Bool) → AreGranted h (unless_asking w.core w.ports h m instruction b) (has_turn h m w)
   asking_allowed instruction true = (tt, tt)
   asking_allowed instruction false =
       served_allowed (view_for w.core.tables w.ports h) m.0 instruction (body_in m.1)
       (cond (goes_through w.core.tables h m.0 instruction) (own_gate w.core.tables h m.0) None)
 
-  kind_allowed : AreAside w.ports → (r : Result (MessageKind × ℕ) MessageFault) → AreAllowed h (kind_deeds w.core w.ports h m r) (has_turn h m w)
+  kind_allowed : AreAside w.ports → (r : Result (MessageKind × ℕ) MessageFault) → AreGranted h (kind_deeds w.core w.ports h m r) (has_turn h m w)
   kind_allowed asides (Ok (IsCommand, instruction)) = asking_allowed instruction _
   kind_allowed asides (Ok (IsEvent, instruction)) = plain_allowed (event_deeds w.core.tables h m)
       (either ArePlain (is_opened w.core.tables h m.0 && option_map_or (λ gate. gate == 4) (own_gate w.core.tables h m.0) false && posts_back m.1)
       (Sends h m ∷ []) (Drops m.0 ∷ []) (tt, tt) (tt, tt))
   kind_allowed asides (Ok (IsResponse, code)) = by (m.0 == 1)
     where
-      by : (b : Bool) → AreAllowed h (if_notice w.core w.ports h m code b) (has_turn h m w)
+      by : (b : Bool) → AreGranted h (if_notice w.core w.ports h m code b) (has_turn h m w)
       by true = response_allowed code (port_at w.ports h) (found_all _ w.ports h asides)
       by false = (tt, tt)
   kind_allowed asides (Err fault) = (tt, tt)
 
-  own_allowed : AreAside w.ports → (b : Bool) → AreAllowed h (own_deeds w.core w.ports h m b) (has_turn h m w)
+  own_allowed : AreAside w.ports → (b : Bool) → AreGranted h (own_deeds w.core w.ports h m b) (has_turn h m w)
   own_allowed asides true = kind_allowed asides (header_of m.1)
   own_allowed asides false = (tt, tt)
 
-  relay_allowed : (other : ℕ) (b : Bool) → AreAllowed h (relay_deeds w.ports h m other b) (has_turn h m w)
+  relay_allowed : (other : ℕ) (b : Bool) → AreGranted h (relay_deeds w.ports h m other b) (has_turn h m w)
   relay_allowed other true = (tt, tt)
   relay_allowed other false =
       plain_allowed (unrelayed (has_link w.ports h) h m)
-      (either ArePlain (has_link w.ports h && is_command_message m.1) (answers_on h m.0 (answer_of response.NotConnected [])) (Drops m.0 ∷ []) (tt, tt) (tt, tt))
+      (either ArePlain (has_link w.ports h && is_command_message m.1) (answers_on h m.0 (answer_of response.NotConnected [])) (Drops m.0 ∷ [])
+      (tt, tt) (tt, tt))
 
-  by_relay_allowed : AreAside w.ports → (o : Option ℕ) → AreAllowed h (deeds_by_relay w.core w.ports h m o) (has_turn h m w)
+  by_relay_allowed : AreAside w.ports → (o : Option ℕ) → AreGranted h (deeds_by_relay w.core w.ports h m o) (has_turn h m w)
   by_relay_allowed asides (Some other) = relay_allowed other (has_link w.ports other)
   by_relay_allowed asides None = own_allowed asides (has_link w.ports h)
 
   -- what a controller decides may be done, once the message has its turn
-  pub controller_allowed : AreAside w.ports → AreAllowed h (controller_deeds w.core w.ports h m) (has_turn h m w)
+  pub controller_allowed : AreAside w.ports → AreGranted h (controller_deeds w.core w.ports h m) (has_turn h m w)
   controller_allowed asides = by_relay_allowed asides (relayed_to w.core.tables h m)

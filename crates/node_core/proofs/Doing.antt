@@ -26,7 +26,7 @@ use Rattle.node_ends.specs.declared.ends.Ends.{Ends}
 use Rattle.node_ends.specs.Ends.{takes_at, EndsStandFor}
 use Rattle.node_core.specs.declared.node.Node.{Node}
 use Rattle.node_core.specs.Noting.{unnumbered}
-use Rattle.node_core.specs.Nodes.{CoreStandsFor, IsUnderWay}
+use Rattle.node_core.specs.Nodes.{CoreStandsFor, IsInStep}
 use Rattle.node_core.specs.Bringing.{WereMade, Foretells, plan_left, Brings}
 
 -- ## Entries
@@ -83,9 +83,9 @@ sent_noted core h m ports takes = by (port_at ports h) refl
 
 -- a message was taken for sending and noted
 pub sent_under_way : {N : Type 0} {n : Node N} {ends : Ends} {noted now start : List Entry} {was short : Bool} {w : Work} {at : End} (m : Message) (h : ℕ)
-    → IsUnderWay n noted was start w → EndsStandFor ends (with_port h (after_turn (Give m)) w.ports) → true ≡ takes_at m (port_at w.ports h)
+    → IsInStep n noted was start w → EndsStandFor ends (with_port h (after_turn (Give m)) w.ports) → true ≡ takes_at m (port_at w.ports h)
     → (was ≡ true → short ≡ true) → (short ≡ false → now ≡ noted ++ entry.Sent at 0 m.0 m.1 ∷ []) → at ≡ end_of_node w.core h
-    → IsUnderWay (record n { ends = ends }) now short start (turn_at h (Give m) w)
+    → IsInStep (record n { ends = ends }) now short start (turn_at h (Give m) w)
 sent_under_way {n = n} {noted = noted} {now = now} {start = start} {w = w} {at = at} m h u stands takes stays more is =
     let s = sent_noted w.core h m w.ports takes in
     let at_is : noted ++ entry.Sent at 0 m.0 m.1 ∷ [] ≡ noted ++ entry.Sent (end_of_node w.core h) 0 m.0 m.1 ∷ [] =
@@ -138,14 +138,14 @@ same_writes : {N : Type 0} (n : Node N) (core : Core) (c : Command) → CoreStan
 same_writes n core c k =
     ap (λ s. commit_writes s n.store.tables (body_of c)) (sym k.journal) ∙ ap (λ t. commit_writes core.journal t (body_of c)) (sym k.tables)
 
-has_power : {N : Type 0} {n : Node N} {noted start : List Entry} {short : Bool} {w : Work} → IsUnderWay n noted short start w → n.store.journal.live ≡ true
+has_power : {N : Type 0} {n : Node N} {noted start : List Entry} {short : Bool} {w : Work} → IsInStep n noted short start w → n.store.journal.live ≡ true
     → w.cut ≡ false
 has_power u live = u.power ∙ ap not live
 
 pub kept_brings : {N : Type 0} {writes : N → ℕ → List ℕ → Bool → N → Type 0} {n : Node N} {s : Stored N} {noted now start : List Entry} {short was : Bool}
-    {w : Work} (c : Command) → HasKept writes n.store s c → IsUnderWay n noted was start w
+    {w : Work} (c : Command) → HasKept writes n.store s c → IsInStep n noted was start w
     → (short ≡ false → now ≡ start ++ map unnumbered (w.entries ++ entry.Command w.core.node c ∷ []))
-    → Brings writes n.store.journal.nv s.journal.nv (IsUnderWay (record n { store = s }) now short start) (commit c) w
+    → Brings writes n.store.journal.nv s.journal.nv (IsInStep (record n { store = s }) now short start) (commit c) w
 kept_brings {N} {writes} {n} {s} {now = now} {start = start} {short = short} {w = w} c h u notes =
     let power = has_power u h.before in
     let k = u.core power in
@@ -178,9 +178,9 @@ kept_brings {N} {writes} {n} {s} {now = now} {start = start} {short = short} {w 
     }
 
 pub lost_brings : {N : Type 0} {writes : N → ℕ → List ℕ → Bool → N → Type 0} {n : Node N} {s : Stored N} {noted now start : List Entry} {short was : Bool}
-    {w : Work} (c : Command) → HasLost writes n.store s c → IsUnderWay n noted was start w
+    {w : Work} (c : Command) → HasLost writes n.store s c → IsInStep n noted was start w
     → (short ≡ false → now ≡ start ++ map unnumbered ((w.entries ++ entry.Command w.core.node c ∷ []) ++ entry.Cut w.core.node ∷ []))
-    → Brings writes n.store.journal.nv s.journal.nv (IsUnderWay (record n { store = s }) now short start) (commit c) w
+    → Brings writes n.store.journal.nv s.journal.nv (IsInStep (record n { store = s }) now short start) (commit c) w
 lost_brings {N} {writes} {n} {s} {now = now} {start = start} {short = short} {w = w} c h u notes =
     let power = has_power u h.before in
     let k = u.core power in

@@ -18,7 +18,7 @@ use Rattle.node_deeds.specs.declared.room.Shortfall.{Shortfall}
 use Rattle.node_deeds.specs.Room.{lack_shown}
 use Rattle.node_deeds.specs.Cores.{AreDoable as AreDecided}
 use Rattle.node_ends.specs.Ends.{got_at}
-use Rattle.node_core.specs.Deeds.{deed_of, AreAllowed}
+use Rattle.node_core.specs.Deeds.{deed_of, AreGranted}
 use Rattle.node_core.specs.Handling.{has_turn}
 use Rattle.node_core.specs.Turning.{held_at, IsDecided, MayHaveTurns}
 use Rattle.node_core.proofs.Allowing.{controller_allowed}
@@ -131,7 +131,7 @@ decided h pipe up message desks spares deeds short held w node may got told made
     let m : Message = (pipe, message) in
     let is : deeds_of w.core w.ports h m ≡ map (deed_of m) deeds = at_controller w.core w.ports h m node ∙ sym told in
     let sendable = subst AreSendable got may.sendable in
-    let A : List DeedOf → Type 0 = λ ds. AreAllowed h ds (has_turn h m w) in
+    let A : List DeedOf → Type 0 = λ ds. AreGranted h ds (has_turn h m w) in
     record {
       deeds_are = is;
       lacks = sym lacks;

@@ -7,7 +7,7 @@ use Rattle.link_machine.specs.Machine.Turn.{Hold}
 use Rattle.node_machine.specs.Parts.{Port, Work, Desk as DeskOf}
 use Rattle.node_machine.specs.Carrying.{port_at, with_port, with_desk, turn_at, noting, end_of_node}
 use Rattle.node_machine.specs.Turns.{holds_back}
-use Rattle.node_ends.specs.Ends.{HasFewDue}
+use Rattle.node_ends.specs.Ends.{FewAreDue}
 use Rattle.node_core.specs.Handling.{is_noted_held}
 
 -- it is noted, and then the end is held
@@ -28,21 +28,21 @@ pub is_noted_now : (h : ℕ) (short : ℕ × ℕ) (w : Work) → option_map_or (
 is_noted_now h short w q = rw q refl
 
 -- the end of this host, where what is kept of it is changed
-few_on : (h : ℕ) (f : DeskOf → DeskOf) (ports : List Port) → ((d : DeskOf) → (f d).host ≡ d.host) → HasFewDue (port_at ports h)
-    → HasFewDue (port_at (with_port h (λ p. record p { desk = f p.desk }) ports) h)
+few_on : (h : ℕ) (f : DeskOf → DeskOf) (ports : List Port) → ((d : DeskOf) → (f d).host ≡ d.host) → FewAreDue (port_at ports h)
+    → FewAreDue (port_at (with_port h (λ p. record p { desk = f p.desk }) ports) h)
 few_on h f [] same few = tt
 few_on h f (p ∷ ports) same few = by (few_on h f ports same) (p.desk.host == h) refl
   where
-    by : (HasFewDue (port_at ports h) → HasFewDue (port_at (with_port h (λ p. record p { desk = f p.desk }) ports) h)) → (b : Bool)
-        → (p.desk.host == h) ≡ b → HasFewDue (port_at (with_port h (λ p. record p { desk = f p.desk }) (p ∷ ports)) h)
+    by : (FewAreDue (port_at ports h) → FewAreDue (port_at (with_port h (λ p. record p { desk = f p.desk }) ports) h)) → (b : Bool)
+        → (p.desk.host == h) ≡ b → FewAreDue (port_at (with_port h (λ p. record p { desk = f p.desk }) (p ∷ ports)) h)
     by later true q =
         let one : ((f p.desk).host == h) ≡ true = ap (λ n. n == h) (same p.desk) ∙ q in
         rw (q, one) (rw q at few)
     by later false q = rw (q, q) (later (rw q at few))
 
-pub few_held : (h : ℕ) (short : ℕ × ℕ) (w : Work) → HasFewDue (port_at w.ports h) → HasFewDue (port_at (is_noted_held h short w).ports h)
+pub few_held : (h : ℕ) (short : ℕ × ℕ) (w : Work) → FewAreDue (port_at w.ports h) → FewAreDue (port_at (is_noted_held h short w).ports h)
 few_held h short w few = by (option_map_or (λ (p : Port). p.desk.holds) (port_at w.ports h) false) refl
   where
-    by : (b : Bool) → option_map_or (λ (p : Port). p.desk.holds) (port_at w.ports h) false ≡ b → HasFewDue (port_at (is_noted_held h short w).ports h)
+    by : (b : Bool) → option_map_or (λ (p : Port). p.desk.holds) (port_at w.ports h) false ≡ b → FewAreDue (port_at (is_noted_held h short w).ports h)
     by true q = rw q few
     by false q = rw q (few_on h (λ d. record d { holds = true }) w.ports (λ d. refl) few)

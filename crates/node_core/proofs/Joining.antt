@@ -32,7 +32,8 @@ fewer_fail : (n : ℕ) (plan : Option Plan) → fails_within 0 plan ≡ false
 fewer_fail n None = refl
 fewer_fail n (Some p) = grind (arith, nat_tests)
 
-fails_on : (n : ℕ) (plan : Option Plan) → fails_within (suc n) plan ≡ false → (m : ℕ) → fails_within m (plan_after plan) ≡ false → fails_within (suc m) plan ≡ false
+fails_on : (n : ℕ) (plan : Option Plan) → fails_within (suc n) plan ≡ false → (m : ℕ) → fails_within m (plan_after plan) ≡ false
+    → fails_within (suc m) plan ≡ false
 fails_on n None none m later = refl
 fails_on n (Some p) none m later = by (p.nth == 1) refl
   where

@@ -14,7 +14,7 @@ use Rattle.node_machine.specs.Parts.Deed.{Commits, Sends, SaysOk, Asks, Releases
 use Rattle.node_machine.specs.Carrying.{port_at, changed_if, with_port, after_turn, commit, done, all_done}
 use Rattle.node_machine.specs.Turns.{handles}
 use Rattle.node_deeds.proofs.Ports.{find-map}
-use Rattle.node_ends.specs.Ends.{HasFewDue}
+use Rattle.node_ends.specs.Ends.{FewAreDue}
 use Rattle.node_core.specs.Turning.{held_at}
 
 -- the host of an end, how many control frames wait there, and whether it takes fragments
@@ -114,18 +114,19 @@ abbrev FewIn : Option Quiet → Type 0
 FewIn None = Unit {0}
 FewIn (Some q) = q.1 ≤ 6
 
-few_in : (o : Option Port) → HasFewDue o → FewIn (option_map quiet_at o)
+few_in : (o : Option Port) → FewAreDue o → FewIn (option_map quiet_at o)
 few_in None few = tt
 few_in (Some p) few = few
 
-in_few : (o : Option Port) → FewIn (option_map quiet_at o) → HasFewDue o
+in_few : (o : Option Port) → FewIn (option_map quiet_at o) → FewAreDue o
 in_few None few = tt
 in_few (Some p) few = few
 
-pub few_kept : (a b : List Port) (h : ℕ) → map quiet_at a ≡ map quiet_at b → HasFewDue (port_at a h) → HasFewDue (port_at b h)
+pub few_kept : (a b : List Port) (h : ℕ) → map quiet_at a ≡ map quiet_at b → FewAreDue (port_at a h) → FewAreDue (port_at b h)
 few_kept a b h same few = in_few (port_at b h) (subst FewIn (same_at a b h same) (few_in (port_at a h) few))
 
-held_in : (o : Option Port) → option_map_or (λ (p : Port). not p.side.shdlc.ready) o false ≡ option_map_or (λ (q : Quiet). not q.2) (option_map quiet_at o) false
+held_in : (o : Option Port) → option_map_or (λ (p : Port). not p.side.shdlc.ready) o false
+    ≡ option_map_or (λ (q : Quiet). not q.2) (option_map quiet_at o) false
 held_in None = refl
 held_in (Some p) = refl
 

@@ -13,7 +13,7 @@ use Rattle.node_ends.specs.declared.ends.Ends.{Ends}
 use Rattle.node_ends.specs.Ends.{EndsStandFor}
 use Rattle.node_core.specs.declared.node.Node.{Node}
 use Rattle.node_core.specs.Noting.{unnumbered}
-use Rattle.node_core.specs.Nodes.{IsUnderWay}
+use Rattle.node_core.specs.Nodes.{IsInStep}
 use Rattle.swp_base.specs.InMemory.{Plan}
 use Rattle.hci_store.specs.Stored.{Stored}
 use Rattle.node_core.specs.Bringing.{Brings, WereMade, Foretells, plan_left}
@@ -22,14 +22,14 @@ use Rattle.node_machine.specs.Parts.{Deed as DeedOf}
 use Rattle.node_machine.specs.Carrying.{done, all_done}
 use Rattle.node_deeds.specs.declared.deeds.Deed.{Deed}
 use Rattle.node_deeds.specs.declared.deeds.Deed.TheVariants as kept
-use Rattle.node_core.specs.Deeds.{deed_of, IsDoable, AreDoable}
+use Rattle.node_core.specs.Deeds.{deed_of, IsDoableNow, AreDoableInTurn}
 use Rattle.node_core.proofs.Joining.{brings_plain, brings_then, brings_cut}
 use Rattle.node_core.proofs.Doing.{more_noted}
 
 -- an entry without the number of a session is noted
 pub plain_noted : {N : Type 0} {n : Node N} {noted now start : List Entry} {was short : Bool} {w : Work} (e : Entry) → unnumbered e ≡ e
-    → IsUnderWay n noted was start w → (was ≡ true → short ≡ true) → (short ≡ false → now ≡ noted ++ e ∷ [])
-    → IsUnderWay n now short start (noting (e ∷ []) w)
+    → IsInStep n noted was start w → (was ≡ true → short ≡ true) → (short ≡ false → now ≡ noted ++ e ∷ [])
+    → IsInStep n now short start (noting (e ∷ []) w)
 plain_noted {noted = noted} {start = start} {w = w} e same u stays more = record {
   node = u.node;
   core = u.core;
@@ -48,8 +48,8 @@ silent_notes core x ports h silent = by (port_at ports h) refl
 
 -- something is done to an end of which nothing is noted
 pub silent_turn : {N : Type 0} {n : Node N} {ends : Ends} {noted start : List Entry} {was : Bool} {w : Work} (h : ℕ) (x : Turn)
-    → ((p : Port) → noted_of w.core x p ≡ []) → IsUnderWay n noted was start w → EndsStandFor ends (with_port h (after_turn x) w.ports)
-    → IsUnderWay (record n { ends = ends }) noted was start (turn_at h x w)
+    → ((p : Port) → noted_of w.core x p ≡ []) → IsInStep n noted was start w → EndsStandFor ends (with_port h (after_turn x) w.ports)
+    → IsInStep (record n { ends = ends }) noted was start (turn_at h x w)
 silent_turn {n = n} {noted = noted} {start = start} {w = w} h x silent u stands = record {
   node = u.node;
   core = λ live. (let k = u.core live in record { journal = k.journal; tables = k.tables });
@@ -63,8 +63,8 @@ silent_turn {n = n} {noted = noted} {start = start} {w = w} h x silent u stands 
 
 -- what is kept of an end is changed
 pub desk_changed : {N : Type 0} {n : Node N} {ends : Ends} {noted start : List Entry} {was : Bool} {w : Work} (h : ℕ) (f : DeskOf → DeskOf)
-    → IsUnderWay n noted was start w → EndsStandFor ends (with_port h (λ p. record p { desk = f p.desk }) w.ports)
-    → IsUnderWay (record n { ends = ends }) noted was start (with_desk h f w)
+    → IsInStep n noted was start w → EndsStandFor ends (with_port h (λ p. record p { desk = f p.desk }) w.ports)
+    → IsInStep (record n { ends = ends }) noted was start (with_desk h f w)
 desk_changed h f u stands = record {
   node = u.node;
   core = λ live. (let k = u.core live in record { journal = k.journal; tables = k.tables });
@@ -75,12 +75,12 @@ desk_changed h f u stands = record {
 
 -- a deed without a write
 pub plainly : {N : Type 0} (writes : N → ℕ → List ℕ → Bool → N → Type 0) {n n2 : Node N} {noted now start : List Entry} {was short : Bool} {w : Work}
-    (f : Work → Work) → IsUnderWay n noted was start w → n.store.journal.live ≡ true → n2.store ≡ n.store → IsUnderWay n2 now short start (f w)
+    (f : Work → Work) → IsInStep n noted was start w → n.store.journal.live ≡ true → n2.store ≡ n.store → IsInStep n2 now short start (f w)
     → (f w).cut ≡ w.cut → (f w).writes ≡ w.writes → ((plan : Option Plan) → f (record w { plan = plan }) ≡ record (f w) { plan = plan })
-    → Brings writes n.store.journal.nv n2.store.journal.nv (IsUnderWay n2 now short start) f w
+    → Brings writes n.store.journal.nv n2.store.journal.nv (IsInStep n2 now short start) f w
 plainly {N} writes {n} {n2} {noted} {now} {start} {was} {short} {w} f u live same after cut written is =
     let power : w.cut ≡ false = u.power ∙ ap not live in
-    let P : N → Type 0 = λ m. Brings writes n.store.journal.nv m (IsUnderWay n2 now short start) f w in
+    let P : N → Type 0 = λ m. Brings writes n.store.journal.nv m (IsInStep n2 now short start) f w in
     subst P (sym (ap (λ (s : Stored N). s.journal.nv) same)) (brings_plain writes after (cut ∙ power) written is)
 
 -- the deed of an arm
@@ -90,7 +90,7 @@ of_deed {N} {writes} {old} {new} {S} {w} h m deed d is b =
     let P : Deed → Type 0 = λ x. Brings writes old new S (done h (deed_of m x)) w in subst P (sym is) b
 
 -- whether deeds may be done has nothing to do with the plan
-deed_anyway : (m : Message) (d : Deed) (w : Work) (plan : Option Plan) → IsDoable m d (record w { plan = plan }) → IsDoable m d w
+deed_anyway : (m : Message) (d : Deed) (w : Work) (plan : Option Plan) → IsDoableNow m d (record w { plan = plan }) → IsDoableNow m d w
 deed_anyway m (kept.Commits c) w plan h = h
 deed_anyway m (kept.PassesOn host) w plan h = h
 deed_anyway m (kept.Sends host pipe message) w plan h = h
@@ -106,37 +106,39 @@ deed_anyway m kept.Hears w plan h = h
 deed_anyway m (kept.GoesOn answered) w plan h = h
 deed_anyway m (kept.Ends e) w plan h = h
 
-deeds_anyway : (h : ℕ) (m : Message) (deeds : List Deed) (w : Work) (plan : Option Plan) → AreDoable h m deeds (record w { plan = plan })
-    → AreDoable h m deeds w
+deeds_anyway : (h : ℕ) (m : Message) (deeds : List Deed) (w : Work) (plan : Option Plan) → AreDoableInTurn h m deeds (record w { plan = plan })
+    → AreDoableInTurn h m deeds w
 deeds_anyway h m [] w plan a = tt
 deeds_anyway h m (d ∷ deeds) w plan a = (deed_anyway m d w plan a.0, a.1)
 
 -- those behind one that went through may be done
 pub doable_then : {N : Type 0} {writes : N → ℕ → List ℕ → Bool → N → Type 0} {old new : N} {S : Work → Type 0} {w : Work} (h : ℕ) (m : Message) (d : Deed)
     (deeds : List Deed) (b : Brings writes old new S (done h (deed_of m d)) w) → b.after.cut ≡ false
-    → AreDoable h m deeds (done h (deed_of m d) (record w { plan = None })) → AreDoable h m deeds b.after
+    → AreDoableInTurn h m deeds (done h (deed_of m d) (record w { plan = None })) → AreDoableInTurn h m deeds b.after
 doable_then {w = w} h m d deeds b live a =
     let F : Bool → Type 0 = λ t. Foretells None b.sure b.torn t in
-    let P : Work → Type 0 = λ v. AreDoable h m deeds v in
+    let P : Work → Type 0 = λ v. AreDoableInTurn h m deeds v in
     deeds_anyway h m deeds b.after (plan_left b.after.cut b.sure None) (subst P (b.is None (subst F (sym live) refl)) a)
 
 -- The node has come to this state in its deeds, and whatever these deeds bring from there, all deeds bring.
 pub record GoesOn {N : Type 0} (writes : N → ℕ → List ℕ → Bool → N → Type 0) (first n : Node N) (noted : List Entry) (short : Bool) (start : List Entry)
     (left all : List DeedOf) (h : ℕ) (w : Work) : Type 0 where
   pub now : Work
-  pub under : IsUnderWay n noted short start now
+  pub under : IsInStep n noted short start now
   pub onto : (last : Node N) (notes : List Entry) (full : Bool)
-      → Brings writes n.store.journal.nv last.store.journal.nv (IsUnderWay last notes full start) (all_done h left) now
-      → Brings writes first.store.journal.nv last.store.journal.nv (IsUnderWay last notes full start) (all_done h all) w
+      → Brings writes n.store.journal.nv last.store.journal.nv (IsInStep last notes full start) (all_done h left) now
+      → Brings writes first.store.journal.nv last.store.journal.nv (IsInStep last notes full start) (all_done h all) w
 
-pub begins : {N : Type 0} {writes : N → ℕ → List ℕ → Bool → N → Type 0} {n : Node N} {noted start : List Entry} {short : Bool} {w : Work} (all : List DeedOf) (h : ℕ)
-    → IsUnderWay n noted short start w → GoesOn writes n n noted short start all all h w
+pub begins : {N : Type 0} {writes : N → ℕ → List ℕ → Bool → N → Type 0} {n : Node N} {noted start : List Entry} {short : Bool} {w : Work}
+    (all : List DeedOf) (h : ℕ)
+    → IsInStep n noted short start w → GoesOn writes n n noted short start all all h w
 begins {w = w} all h u = record { now = w; under = u; onto = λ last notes full b. b }
 
 -- one more deed went through
-pub goes_on : {N : Type 0} {writes : N → ℕ → List ℕ → Bool → N → Type 0} {first n n2 : Node N} {noted noted2 start : List Entry} {short short2 : Bool} {w : Work}
+pub goes_on : {N : Type 0} {writes : N → ℕ → List ℕ → Bool → N → Type 0} {first n n2 : Node N} {noted noted2 start : List Entry}
+    {short short2 : Bool} {w : Work}
     {d : DeedOf} {left all : List DeedOf} {h : ℕ} (k : GoesOn writes first n noted short start (d ∷ left) all h w)
-    (b : Brings writes n.store.journal.nv n2.store.journal.nv (IsUnderWay n2 noted2 short2 start) (done h d) k.now) → b.after.cut ≡ false
+    (b : Brings writes n.store.journal.nv n2.store.journal.nv (IsInStep n2 noted2 short2 start) (done h d) k.now) → b.after.cut ≡ false
     → GoesOn writes first n2 noted2 short2 start left all h w
 goes_on {writes = writes} {d = d} {left = left} {h = h} k b live = record {
   now = b.after;
@@ -147,15 +149,15 @@ goes_on {writes = writes} {d = d} {left = left} {h = h} k b live = record {
 -- a write of it failed
 pub goes_no_further : {N : Type 0} {writes : N → ℕ → List ℕ → Bool → N → Type 0} {first n n2 : Node N} {noted noted2 start : List Entry} {short short2 : Bool}
     {w : Work} {d : DeedOf} {left all : List DeedOf} {h : ℕ} (k : GoesOn writes first n noted short start (d ∷ left) all h w)
-    (b : Brings writes n.store.journal.nv n2.store.journal.nv (IsUnderWay n2 noted2 short2 start) (done h d) k.now) → b.after.cut ≡ true
-    → Brings writes first.store.journal.nv n2.store.journal.nv (IsUnderWay n2 noted2 short2 start) (all_done h all) w
+    (b : Brings writes n.store.journal.nv n2.store.journal.nv (IsInStep n2 noted2 short2 start) (done h d) k.now) → b.after.cut ≡ true
+    → Brings writes first.store.journal.nv n2.store.journal.nv (IsInStep n2 noted2 short2 start) (all_done h all) w
 goes_no_further {writes = writes} {n2 = n2} {noted2 = noted2} {short2 = short2} {left = left} {h = h} k b dead =
     k.onto n2 noted2 short2 (brings_cut writes (all_done h left) b dead refl b.stands)
 
 -- no deed is left
 pub all_gone : {N : Type 0} {writes : N → ℕ → List ℕ → Bool → N → Type 0} {first n : Node N} {noted start : List Entry} {short : Bool} {w : Work}
     {all : List DeedOf} {h : ℕ} (k : GoesOn writes first n noted short start [] all h w) → n.store.journal.live ≡ true
-    → Brings writes first.store.journal.nv n.store.journal.nv (IsUnderWay n noted short start) (all_done h all) w
+    → Brings writes first.store.journal.nv n.store.journal.nv (IsInStep n noted short start) (all_done h all) w
 all_gone {writes = writes} {n = n} {noted = noted} {short = short} {h = h} k live =
     let power : k.now.cut ≡ false = k.under.power ∙ ap not live in
     k.onto n noted short (brings_plain writes k.under power refl (λ plan. refl))

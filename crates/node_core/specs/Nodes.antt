@@ -12,14 +12,14 @@ pub record CoreStandsFor {N : Type 0} (n : Node N) (c : Core) : Type 0 where
   pub tables : c.tables ≡ n.store.tables
 
 -- a node is in order: its ends stand for some ports, and its store may be used while it is live
-pub record Runs {N : Type 0} (n : Node N) : Type 0 where
+pub record IsSoundNode {N : Type 0} (n : Node N) : Type 0 where
   pub ports : List Port
   pub ends : EndsStandFor n.ends ports
   pub started : IsTrue n.store.journal.live → IsSome n.store.journal.state.in_use
   pub version : IsTrue n.store.journal.live → n.store.journal.state.version ≡ 2
 
 -- A node in a step, with what was noted in it: behind the entries from before, while there was memory for them.
-pub record IsUnderWay {N : Type 0} (n : Node N) (noted : List Entry) (short : Bool) (start : List Entry) (w : Work) : Type 0 where
+pub record IsInStep {N : Type 0} (n : Node N) (noted : List Entry) (short : Bool) (start : List Entry) (w : Work) : Type 0 where
   pub node : w.core.node ≡ n.number
   pub core : w.cut ≡ false → CoreStandsFor n w.core
   pub ends : EndsStandFor n.ends w.ports

@@ -11,8 +11,8 @@ use Rattle.node_deeds.specs.declared.room.Shortfall.{Shortfall}
 use Rattle.node_deeds.specs.declared.desks.Desk.{Desk}
 use Rattle.node_deeds.specs.Room.{AreSpares, lack_shown}
 use Rattle.node_deeds.specs.Shown.{AreSeen}
-use Rattle.node_ends.specs.Ends.{HasFewDue, got_at}
-use Rattle.node_core.specs.Deeds.{deed_of, AreDoable}
+use Rattle.node_ends.specs.Ends.{FewAreDue, got_at}
+use Rattle.node_core.specs.Deeds.{deed_of, AreDoableInTurn}
 use Rattle.node_core.specs.Asides.{AreAside}
 use Rattle.node_core.specs.Handling.{has_turn}
 
@@ -25,9 +25,9 @@ held_at ports h = option_map_or (λ (p : Port). is_held p.side) (port_at ports h
 pub record IsDecided (h : ℕ) (m : Message) (deeds : List Deed) (short : Option Shortfall) (held : Bool) (w : Work) : Type 0 where
   pub deeds_are : deeds_of w.core w.ports h m ≡ map (deed_of m) deeds
   pub lacks : lack w.ports (needs h (map (deed_of m) deeds)) ≡ option_map lack_shown short
-  pub doable : AreDoable h m deeds (has_turn h m w)
+  pub doable : AreDoableInTurn h m deeds (has_turn h m w)
   pub held_is : held ≡ held_at w.ports h
-  pub few : HasFewDue (port_at w.ports h)
+  pub few : FewAreDue (port_at w.ports h)
 
 -- The messages that wait at the end with this host of a controller may have their turns: these desks, the mask of the links that are up
 -- and what is spare are those of its ends; an end is held where its first message was noted as held; and a block is set aside for each
@@ -36,6 +36,6 @@ pub record MayHaveTurns (h up : ℕ) (desks : List Desk) (spares : List ℕ) (w 
   pub seen : AreSeen up desks w.ports
   pub spares_are : AreSpares spares w.ports
   pub held_is : option_map_or (λ (p : Port). p.desk.holds) (port_at w.ports h) false ≡ held_at w.ports h
-  pub few : HasFewDue (port_at w.ports h)
+  pub few : FewAreDue (port_at w.ports h)
   pub sendable : AreSendable (got_at w.ports h)
   pub asides : AreAside w.ports

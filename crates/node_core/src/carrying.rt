@@ -1,12 +1,10 @@
 //! How a node carries out one deed.
 ghost use Rattle.std.specs.Prelude.{◌≡◌};
 
-use crate::copies::copied;
 use crate::node::Node;
 use crate::noting::note;
 use hci_tables::Command;
-use node_deeds::Deed;
-use node_ends::{About, Unanswered};
+use node_deeds::{About, Deed, Unanswered};
 use pipe_table::PipeRow;
 use swp_base::Nv;
 use trace_model::{End, Entry, Octets, Watch};
@@ -20,14 +18,14 @@ impl<N: Nv + Drop> Node<N> {
     ghost use Rattle.link_machine.specs.Machine.Turn.{Give, Release};
     ghost use Rattle.node_machine.specs.Parts.{Core, Port, Work};
     ghost use Rattle.node_machine.specs.Parts.Deed.{Asks, SaysOk, Drops};
-    ghost use Rattle.node_ends.specs.Desks.{about_of, creation_of};
-    ghost use Rattle.node_ends.specs.Ends.{EndsStandFor, HasAside, HasFewDue};
+    ghost use Rattle.node_deeds.specs.Shown.{about_shown, creation_of_row};
+    ghost use Rattle.node_ends.specs.Ends.{EndsStandFor, HasAside, FewAreDue};
     ghost use Rattle.node_machine.specs.Carrying.{turn_at, commit, notified, done, all_done, port_at, has_room_for, end_of_node, noting};
-    ghost use Rattle.node_core.specs.Nodes.{IsUnderWay, Runs};
+    ghost use Rattle.node_core.specs.Nodes.{IsInStep, IsSoundNode};
     ghost use Rattle.node_core.specs.Bringing.{Brings};
     ghost use Rattle.node_machine.specs.Turns.{handles, holds_back};
     ghost use Rattle.node_core.specs.Handling.{has_turn, is_noted_held};
-    ghost use Rattle.node_core.specs.Deeds.{deed_of, IsDoable, AreDoable};
+    ghost use Rattle.node_core.specs.Deeds.{deed_of, IsDoableNow, AreDoableInTurn};
 
     // The node's end of the link with this host.
     pub(crate) fn end_at(&self, host: u8) -> End
@@ -41,12 +39,12 @@ impl<N: Nv + Drop> Node<N> {
 
     // A message, which isn't empty, goes to the host of this link, or from a host to the controller, on a pipe that isn't reserved.
     pub(crate) fn send<W: Watch>(&mut self, host: u8, pipe: u8, message: &[u8], watch: &mut W)
-        requires runs { Runs self.old }
+        requires runs { IsSoundNode self.old }
         requires sendable { IsSendable (pipe, message.now) }
-        ensures carried { (start : List Noted) (w : Work) → IsUnderWay self.old (W.noted watch.old) (W.is_short watch.old) start w
-            → IsUnderWay self.new (W.noted watch.new) (W.is_short watch.new) start (turn_at host (Give (pipe, message.now)) w) }
+        ensures carried { (start : List Noted) (w : Work) → IsInStep self.old (W.noted watch.old) (W.is_short watch.old) start w
+            → IsInStep self.new (W.noted watch.new) (W.is_short watch.new) start (turn_at host (Give (pipe, message.now)) w) }
         ensures store { self.new.store ≡ self.old.store }
-        ensures runs { Runs self.new }
+        ensures runs { IsSoundNode self.new }
     {
         if self.ends.send(host, pipe, message) {
             let entry = Entry::Sent {
@@ -61,20 +59,20 @@ impl<N: Nv + Drop> Node<N> {
 
     // A command for which there is room is committed: it is noted, and then written. Whether its writes went through.
     pub(crate) fn commit<W: Watch>(&mut self, command: &Command, watch: &mut W) -> bool
-        requires runs { Runs self.old }
+        requires runs { IsSoundNode self.old }
         requires live { IsTrue self.old.store.journal.live }
         requires command { IsCommand command.now }
         requires room { has_room_for self.old.store.journal.state command.now ≡ true }
-        ensures carried { (start : List Noted) (w : Work) → IsUnderWay self.old (W.noted watch.old) (W.is_short watch.old) start w
+        ensures carried { (start : List Noted) (w : Work) → IsInStep self.old (W.noted watch.old) (W.is_short watch.old) start w
             → Brings N.writes self.old.store.journal.nv self.new.store.journal.nv
-            (IsUnderWay self.new (W.noted watch.new) (W.is_short watch.new) start) (commit command.now) w }
+            (IsInStep self.new (W.noted watch.new) (W.is_short watch.new) start) (commit command.now) w }
         ensures live { result ≡ self.new.store.journal.live }
-        ensures runs { Runs self.new }
+        ensures runs { IsSoundNode self.new }
     {
         let node = self.number;
         let begun = Entry::Command {
             node,
-            command: copied(command),
+            command: command.copied(),
         };
         note(watch, begun, &[]);
         match self.store.commit(command) {
@@ -87,12 +85,12 @@ impl<N: Nv + Drop> Node<N> {
 
     // A notice goes to a host, and isn't answered yet.
     fn notify<W: Watch>(&mut self, host: u8, about: About, message: &[u8], watch: &mut W)
-        requires runs { Runs self.old }
+        requires runs { IsSoundNode self.old }
         requires some { 0 < length message.now }
-        ensures carried { (start : List Noted) (w : Work) → IsUnderWay self.old (W.noted watch.old) (W.is_short watch.old) start w
-            → IsUnderWay self.new (W.noted watch.new) (W.is_short watch.new) start (notified host (about_of about) message.now w) }
+        ensures carried { (start : List Noted) (w : Work) → IsInStep self.old (W.noted watch.old) (W.is_short watch.old) start w
+            → IsInStep self.new (W.noted watch.new) (W.is_short watch.new) start (notified host (about_shown about) message.now w) }
         ensures store { self.new.store ≡ self.old.store }
-        ensures runs { Runs self.new }
+        ensures runs { IsSoundNode self.new }
     {
         self.send(host, 1, message, watch);
         self.ends
@@ -101,12 +99,12 @@ impl<N: Nv + Drop> Node<N> {
 
     // A host is asked for the creation of a pipe.
     fn ask<W: Watch>(&mut self, row: PipeRow, watch: &mut W)
-        requires runs { Runs self.old }
-        ensures carried { (start : List Noted) (w : Work) → IsUnderWay self.old (W.noted watch.old) (W.is_short watch.old) start w
-            → IsUnderWay self.new (W.noted watch.new) (W.is_short watch.new) start
-            (done 0 (Asks row.dest (18 ∷ ends_of row) (creation_of row)) w) }
+        requires runs { IsSoundNode self.old }
+        ensures carried { (start : List Noted) (w : Work) → IsInStep self.old (W.noted watch.old) (W.is_short watch.old) start w
+            → IsInStep self.new (W.noted watch.new) (W.is_short watch.new) start
+            (done 0 (Asks row.dest (18 ∷ ends_of row) (creation_of_row row)) w) }
         ensures store { self.new.store ≡ self.old.store }
-        ensures runs { Runs self.new }
+        ensures runs { IsSoundNode self.new }
     {
         self.ends.set_aside(row.creator);
         let notice = [
@@ -127,12 +125,12 @@ impl<N: Nv + Drop> Node<N> {
 
     // The block that was set aside for an asker is free.
     fn release<W: Watch>(&mut self, asker: u8, watch: &mut W)
-        requires runs { Runs self.old }
+        requires runs { IsSoundNode self.old }
         requires aside { (ports : List Port) × EndsStandFor self.old.ends ports × HasAside (port_at ports asker) }
-        ensures carried { (start : List Noted) (w : Work) → IsUnderWay self.old (W.noted watch.old) (W.is_short watch.old) start w
-            → IsUnderWay self.new (W.noted watch.new) (W.is_short watch.new) start (turn_at asker Release w) }
+        ensures carried { (start : List Noted) (w : Work) → IsInStep self.old (W.noted watch.old) (W.is_short watch.old) start w
+            → IsInStep self.new (W.noted watch.new) (W.is_short watch.new) start (turn_at asker Release w) }
         ensures store { self.new.store ≡ self.old.store }
-        ensures runs { Runs self.new }
+        ensures runs { IsSoundNode self.new }
     {
         self.ends.release(asker);
     }
@@ -140,8 +138,8 @@ impl<N: Nv + Drop> Node<N> {
     // ANY_OK was sent for the command that was committed last.
     fn say_ok<W: Watch>(&mut self, watch: &mut W)
         requires live { IsTrue self.old.store.journal.live }
-        ensures carried { (start : List Noted) (w : Work) → IsUnderWay self.old (W.noted watch.old) (W.is_short watch.old) start w
-            → IsUnderWay self.new (W.noted watch.new) (W.is_short watch.new) start (done 0 SaysOk w) }
+        ensures carried { (start : List Noted) (w : Work) → IsInStep self.old (W.noted watch.old) (W.is_short watch.old) start w
+            → IsInStep self.new (W.noted watch.new) (W.is_short watch.new) start (done 0 SaysOk w) }
         ensures same { self.new ≡ self.old }
     {
         let count = self.store.kept();
@@ -157,8 +155,8 @@ impl<N: Nv + Drop> Node<N> {
 
     // The message of this end, which came on this pipe, is dropped.
     fn drop_message<W: Watch>(&mut self, host: u8, pipe: u8, watch: &mut W)
-        ensures carried { (start : List Noted) (w : Work) → IsUnderWay self.old (W.noted watch.old) (W.is_short watch.old) start w
-            → IsUnderWay self.new (W.noted watch.new) (W.is_short watch.new) start (done host (Drops pipe) w) }
+        ensures carried { (start : List Noted) (w : Work) → IsInStep self.old (W.noted watch.old) (W.is_short watch.old) start w
+            → IsInStep self.new (W.noted watch.new) (W.is_short watch.new) start (done host (Drops pipe) w) }
         ensures same { self.new ≡ self.old }
     {
         let at = self.end_at(host);
@@ -174,15 +172,15 @@ impl<N: Nv + Drop> Node<N> {
         message: &[u8],
         watch: &mut W,
     ) -> bool
-        requires runs { Runs self.old }
+        requires runs { IsSoundNode self.old }
         requires live { IsTrue self.old.store.journal.live }
-        requires doable { (start : List Noted) × (w : Work) × IsUnderWay self.old (W.noted watch.old) (W.is_short watch.old) start w
-            × IsDoable (pipe, message.now) deed.now w }
-        ensures carried { (start : List Noted) (w : Work) → IsUnderWay self.old (W.noted watch.old) (W.is_short watch.old) start w
+        requires doable { (start : List Noted) × (w : Work) × IsInStep self.old (W.noted watch.old) (W.is_short watch.old) start w
+            × IsDoableNow (pipe, message.now) deed.now w }
+        ensures carried { (start : List Noted) (w : Work) → IsInStep self.old (W.noted watch.old) (W.is_short watch.old) start w
             → Brings N.writes self.old.store.journal.nv self.new.store.journal.nv
-            (IsUnderWay self.new (W.noted watch.new) (W.is_short watch.new) start) (done host (deed_of (pipe, message.now) deed.now)) w }
+            (IsInStep self.new (W.noted watch.new) (W.is_short watch.new) start) (done host (deed_of (pipe, message.now) deed.now)) w }
         ensures live { result ≡ self.new.store.journal.live }
-        ensures runs { Runs self.new }
+        ensures runs { IsSoundNode self.new }
     {
         match deed {
             Deed::Commits(command) => self.commit(command, watch),
@@ -245,15 +243,15 @@ impl<N: Nv + Drop> Node<N> {
         message: &[u8],
         watch: &mut W,
     ) -> bool
-        requires runs { Runs self.old }
+        requires runs { IsSoundNode self.old }
         requires live { IsTrue self.old.store.journal.live }
-        requires doable { (start : List Noted) × (w : Work) × IsUnderWay self.old (W.noted watch.old) (W.is_short watch.old) start w
-            × AreDoable host (pipe, message.now) deeds.now w }
-        ensures carried { (start : List Noted) (w : Work) → IsUnderWay self.old (W.noted watch.old) (W.is_short watch.old) start w
+        requires doable { (start : List Noted) × (w : Work) × IsInStep self.old (W.noted watch.old) (W.is_short watch.old) start w
+            × AreDoableInTurn host (pipe, message.now) deeds.now w }
+        ensures carried { (start : List Noted) (w : Work) → IsInStep self.old (W.noted watch.old) (W.is_short watch.old) start w
             → Brings N.writes self.old.store.journal.nv self.new.store.journal.nv
-            (IsUnderWay self.new (W.noted watch.new) (W.is_short watch.new) start) (all_done host (map (deed_of (pipe, message.now)) deeds.now)) w }
+            (IsInStep self.new (W.noted watch.new) (W.is_short watch.new) start) (all_done host (map (deed_of (pipe, message.now)) deeds.now)) w }
         ensures live { result ≡ self.new.store.journal.live }
-        ensures runs { Runs self.new }
+        ensures runs { IsSoundNode self.new }
     {
         for deed in deeds {
             if !self.carry_out(host, deed, pipe, message, watch) {
@@ -265,11 +263,11 @@ impl<N: Nv + Drop> Node<N> {
 
     // The message has its turn: that is noted, and its blocks are given back.
     fn begin_turn<W: Watch>(&mut self, host: u8, pipe: u8, message: &[u8], watch: &mut W)
-        requires runs { Runs self.old }
-        ensures carried { (start : List Noted) (w : Work) → IsUnderWay self.old (W.noted watch.old) (W.is_short watch.old) start w
-            → IsUnderWay self.new (W.noted watch.new) (W.is_short watch.new) start (has_turn host (pipe, message.now) w) }
+        requires runs { IsSoundNode self.old }
+        ensures carried { (start : List Noted) (w : Work) → IsInStep self.old (W.noted watch.old) (W.is_short watch.old) start w
+            → IsInStep self.new (W.noted watch.new) (W.is_short watch.new) start (has_turn host (pipe, message.now) w) }
         ensures store { self.new.store ≡ self.old.store }
-        ensures runs { Runs self.new }
+        ensures runs { IsSoundNode self.new }
     {
         let turn = Entry::Turn {
             at: self.end_at(host),
@@ -291,16 +289,16 @@ impl<N: Nv + Drop> Node<N> {
         message: &[u8],
         watch: &mut W,
     ) -> bool
-        requires runs { Runs self.old }
+        requires runs { IsSoundNode self.old }
         requires live { IsTrue self.old.store.journal.live }
-        requires doable { (start : List Noted) × (w : Work) × IsUnderWay self.old (W.noted watch.old) (W.is_short watch.old) start w
-            × AreDoable host (pipe, message.now) deeds.now (has_turn host (pipe, message.now) w) }
-        ensures carried { (start : List Noted) (w : Work) → IsUnderWay self.old (W.noted watch.old) (W.is_short watch.old) start w
+        requires doable { (start : List Noted) × (w : Work) × IsInStep self.old (W.noted watch.old) (W.is_short watch.old) start w
+            × AreDoableInTurn host (pipe, message.now) deeds.now (has_turn host (pipe, message.now) w) }
+        ensures carried { (start : List Noted) (w : Work) → IsInStep self.old (W.noted watch.old) (W.is_short watch.old) start w
             → Brings N.writes self.old.store.journal.nv self.new.store.journal.nv
-            (IsUnderWay self.new (W.noted watch.new) (W.is_short watch.new) start)
+            (IsInStep self.new (W.noted watch.new) (W.is_short watch.new) start)
             (handles host (pipe, message.now) (map (deed_of (pipe, message.now)) deeds.now)) w }
         ensures live { result ≡ self.new.store.journal.live }
-        ensures runs { Runs self.new }
+        ensures runs { IsSoundNode self.new }
     {
         self.begin_turn(host, pipe, message, watch);
         self.carry_all(host, deeds, pipe, message, watch)
@@ -308,11 +306,11 @@ impl<N: Nv + Drop> Node<N> {
 
     // That the first message that waits at an end is held is noted, unless it was.
     fn note_held<W: Watch>(&mut self, host: u8, need: u16, spare: u16, watch: &mut W)
-        requires runs { Runs self.old }
-        ensures carried { (start : List Noted) (w : Work) → IsUnderWay self.old (W.noted watch.old) (W.is_short watch.old) start w
-            → IsUnderWay self.new (W.noted watch.new) (W.is_short watch.new) start (is_noted_held host (need, spare) w) }
+        requires runs { IsSoundNode self.old }
+        ensures carried { (start : List Noted) (w : Work) → IsInStep self.old (W.noted watch.old) (W.is_short watch.old) start w
+            → IsInStep self.new (W.noted watch.new) (W.is_short watch.new) start (is_noted_held host (need, spare) w) }
         ensures store { self.new.store ≡ self.old.store }
-        ensures runs { Runs self.new }
+        ensures runs { IsSoundNode self.new }
     {
         if self.ends.holds(host) {
             return;
@@ -325,13 +323,13 @@ impl<N: Nv + Drop> Node<N> {
     /// The message that waits at an end lacks room: that is noted once, and its end takes no more fragments. At most six control frames
     /// wait there to be sent.
     pub(crate) fn hold_back<W: Watch>(&mut self, host: u8, need: u16, spare: u16, watch: &mut W)
-        requires runs { Runs self.old }
-        requires few { (start : List Noted) × (w : Work) × IsUnderWay self.old (W.noted watch.old) (W.is_short watch.old) start w
-            × HasFewDue (port_at w.ports host) }
-        ensures carried { (start : List Noted) (w : Work) → IsUnderWay self.old (W.noted watch.old) (W.is_short watch.old) start w
-            → IsUnderWay self.new (W.noted watch.new) (W.is_short watch.new) start (holds_back host (need, spare) w) }
+        requires runs { IsSoundNode self.old }
+        requires few { (start : List Noted) × (w : Work) × IsInStep self.old (W.noted watch.old) (W.is_short watch.old) start w
+            × FewAreDue (port_at w.ports host) }
+        ensures carried { (start : List Noted) (w : Work) → IsInStep self.old (W.noted watch.old) (W.is_short watch.old) start w
+            → IsInStep self.new (W.noted watch.new) (W.is_short watch.new) start (holds_back host (need, spare) w) }
         ensures store { self.new.store ≡ self.old.store }
-        ensures runs { Runs self.new }
+        ensures runs { IsSoundNode self.new }
     {
         self.note_held(host, need, spare, watch);
         self.ends.hold(host, true);

@@ -3,7 +3,6 @@
 #![tactic(auto)]
 
 mod carrying;
-mod copies;
 mod node;
 mod noting;
 mod seeing;

@@ -8,11 +8,11 @@ impl<N: Nv + Drop> Node<N> {
     ghost use Rattle.node_machine.specs.Parts.{Port};
     ghost use Rattle.node_deeds.specs.Room.{AreSpares};
     ghost use Rattle.node_ends.specs.Ends.{EndsStandFor};
-    ghost use Rattle.node_core.specs.Nodes.{Runs};
+    ghost use Rattle.node_core.specs.Nodes.{IsSoundNode};
 
     /// What is spare at the end of the link with each host, 0 to 7, by its number.
     pub(crate) fn spares(&self) -> [u16; 8]
-        requires { Runs self.now }
+        requires { IsSoundNode self.now }
         ensures { (ports : List Port) → EndsStandFor self.now.ends ports → AllByRecursion (λ (p : Port). p.desk.host ≤ 7) ports
             → AreSpares result ports }
     {

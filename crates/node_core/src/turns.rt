@@ -12,20 +12,20 @@ impl<N: Nv + Drop> Node<N> {
     ghost use Rattle.node_machine.specs.Parts.{Port, Work};
     ghost use Rattle.node_machine.specs.Carrying.{port_at};
     ghost use Rattle.node_machine.specs.Turns.{lets_go, have_turns};
-    ghost use Rattle.node_ends.specs.Ends.{EndsStandFor, HasFewDue, got_at};
+    ghost use Rattle.node_ends.specs.Ends.{EndsStandFor, FewAreDue, got_at};
     ghost use Rattle.node_deeds.specs.Cores.{AreSoundDesks};
-    ghost use Rattle.node_core.specs.Nodes.{IsUnderWay, Runs};
+    ghost use Rattle.node_core.specs.Nodes.{IsInStep, IsSoundNode};
     ghost use Rattle.node_core.specs.Bringing.{Brings};
     ghost use Rattle.node_core.specs.Turning.{held_at, IsDecided, MayHaveTurns};
 
     // No message is held at an end: it takes fragments again, if it was held.
     fn let_go(&mut self, host: u8, held: bool)
-        requires runs { Runs self.old }
-        requires few { (ports : List Port) × EndsStandFor self.old.ends ports × HasFewDue (port_at ports host) }
-        ensures carried { (noted : List Noted) (short : Bool) (start : List Noted) (w : Work) → IsUnderWay self.old noted short start w
-            → held ≡ held_at w.ports host → IsUnderWay self.new noted short start (lets_go host w) }
+        requires runs { IsSoundNode self.old }
+        requires few { (ports : List Port) × EndsStandFor self.old.ends ports × FewAreDue (port_at ports host) }
+        ensures carried { (noted : List Noted) (short : Bool) (start : List Noted) (w : Work) → IsInStep self.old noted short start w
+            → held ≡ held_at w.ports host → IsInStep self.new noted short start (lets_go host w) }
         ensures store { self.new.store ≡ self.old.store }
-        ensures runs { Runs self.new }
+        ensures runs { IsSoundNode self.new }
     {
         if held {
             self.ends.hold(host, false);
@@ -44,15 +44,15 @@ impl<N: Nv + Drop> Node<N> {
         message: &[u8],
         watch: &mut W,
     ) -> bool
-        requires runs { Runs self.old }
+        requires runs { IsSoundNode self.old }
         requires live { IsTrue self.old.store.journal.live }
-        requires decided { (start : List Noted) × (w : Work) × IsUnderWay self.old (W.noted watch.old) (W.is_short watch.old) start w
+        requires decided { (start : List Noted) × (w : Work) × IsInStep self.old (W.noted watch.old) (W.is_short watch.old) start w
             × IsDecided host (pipe, message.now) deeds.now short held w }
-        ensures carried { (start : List Noted) (w : Work) → IsUnderWay self.old (W.noted watch.old) (W.is_short watch.old) start w
+        ensures carried { (start : List Noted) (w : Work) → IsInStep self.old (W.noted watch.old) (W.is_short watch.old) start w
             → IsDecided host (pipe, message.now) deeds.now short held w → Brings N.writes self.old.store.journal.nv self.new.store.journal.nv
-            (IsUnderWay self.new (W.noted watch.new) (W.is_short watch.new) start) (have_turns host ((pipe, message.now) ∷ [])) w }
+            (IsInStep self.new (W.noted watch.new) (W.is_short watch.new) start) (have_turns host ((pipe, message.now) ∷ [])) w }
         ensures live { result ≡ self.new.store.journal.live }
-        ensures runs { Runs self.new }
+        ensures runs { IsSoundNode self.new }
     {
         if let Some(Shortfall { need, spare }) = short {
             self.hold_back(host, need, spare, watch);
@@ -76,7 +76,7 @@ impl<N: Nv + Drop> Node<N> {
         buffer: &mut [u8],
         watch: &mut W,
     ) -> bool
-        requires runs { Runs self.old }
+        requires runs { IsSoundNode self.old }
         requires live { IsTrue self.old.store.journal.live }
         requires controller { self.old.number ≡ 0 }
         requires some { 1 ≤ host }
@@ -84,13 +84,13 @@ impl<N: Nv + Drop> Node<N> {
         requires few { length desks.now ≤ 7 }
         requires sound { AreSoundDesks desks.now }
         requires buffer { length buffer.old ≡ 4096 }
-        requires may { (start : List Noted) × (w : Work) × IsUnderWay self.old (W.noted watch.old) (W.is_short watch.old) start w
+        requires may { (start : List Noted) × (w : Work) × IsInStep self.old (W.noted watch.old) (W.is_short watch.old) start w
             × MayHaveTurns host up desks.now spares.now w }
-        ensures carried { (start : List Noted) (w : Work) → IsUnderWay self.old (W.noted watch.old) (W.is_short watch.old) start w
+        ensures carried { (start : List Noted) (w : Work) → IsInStep self.old (W.noted watch.old) (W.is_short watch.old) start w
             → MayHaveTurns host up desks.now spares.now w → Brings N.writes self.old.store.journal.nv self.new.store.journal.nv
-            (IsUnderWay self.new (W.noted watch.new) (W.is_short watch.new) start) (have_turns host (got_at w.ports host)) w }
+            (IsInStep self.new (W.noted watch.new) (W.is_short watch.new) start) (have_turns host (got_at w.ports host)) w }
         ensures live { result ≡ self.new.store.journal.live }
-        ensures runs { Runs self.new }
+        ensures runs { IsSoundNode self.new }
     {
         let held = self.ends.holds(host);
         let Some((pipe, len)) = self.ends.read(host, buffer) else {

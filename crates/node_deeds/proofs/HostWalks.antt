@@ -39,7 +39,7 @@ use Rattle.node_deeds.specs.declared.deeds.Deed.{Deed as KeptDeed}
 use Rattle.node_deeds.specs.declared.deeds.Deed.TheVariants as kept
 use Rattle.node_deeds.specs.Pipes.{gate_in}
 use Rattle.node_deeds.specs.Shown.{Handling, ordered_by, deletion_in, init_shown, deed_shown, deeds_shown}
-use Rattle.node_deeds.specs.Hosts.{init_kept, handled_by, host_core, IsHostAt, learned_of, heard_deeds, next_deeds, host_kind_deeds}
+use Rattle.node_deeds.specs.Hosts.{init_running, handled_by, host_core, IsHostAt, learned_of, heard_deeds, next_deeds, host_kind_deeds}
 
 -- ## Notices
 
@@ -155,13 +155,13 @@ module _ (core : Core) (p : Port) (m : Message) where
   kind_bare (Err fault) is up = rw (up, is) refl
 
   pub host_of_core : {N : Type 0} (s : Stored N) (d : KeptDesk) (tasks : Tasks) → IsHostAt s d true tasks core p
-      → host_kind_deeds (host_core d.host s.journal.state s.tables (init_kept tasks.init)) d.errors tasks.command m (header_of m.1) ≡ host_deeds core p m
+      → host_kind_deeds (host_core d.host s.journal.state s.tables (init_running tasks.init)) d.errors tasks.command m (header_of m.1) ≡ host_deeds core p m
   host_of_core s d tasks at =
       let k = at.kept in
       let errors = ap (λ seen. seen.0.errors) at.seen in
-      ap (λ n. host_kind_deeds (host_core n s.journal.state s.tables (init_kept tasks.init)) d.errors tasks.command m (header_of m.1)) (sym at.node)
-      ∙ (ap (λ j. host_kind_deeds (host_core core.node j s.tables (init_kept tasks.init)) d.errors tasks.command m (header_of m.1)) (sym k.journal)
-      ∙ (ap (λ t. host_kind_deeds (host_core core.node core.journal t (init_kept tasks.init)) d.errors tasks.command m (header_of m.1)) (sym k.tables)
+      ap (λ n. host_kind_deeds (host_core n s.journal.state s.tables (init_running tasks.init)) d.errors tasks.command m (header_of m.1)) (sym at.node)
+      ∙ (ap (λ j. host_kind_deeds (host_core core.node j s.tables (init_running tasks.init)) d.errors tasks.command m (header_of m.1)) (sym k.journal)
+      ∙ (ap (λ t. host_kind_deeds (host_core core.node core.journal t (init_running tasks.init)) d.errors tasks.command m (header_of m.1)) (sym k.tables)
       ∙ (ap (λ i. host_kind_deeds (host_core core.node core.journal core.tables i) d.errors tasks.command m (header_of m.1)) (sym at.init)
       ∙ (ap (λ e. host_kind_deeds bare e tasks.command m (header_of m.1)) (sym errors)
       ∙ (ap (λ o. host_kind_deeds bare p.desk.errors o m (header_of m.1)) (sym at.command)

@@ -25,8 +25,8 @@ use Rattle.node_deeds.specs.Shown.{Handling, desk_shown, seen_at, init_shown, or
 use Rattle.node_deeds.specs.Cores.{IsCoreOf}
 use Rattle.node_deeds.specs.Pipes.{gate_in}
 
-abbrev pub init_kept : Option KeptInit → Option Init
-init_kept init = option_map init_shown init
+abbrev pub init_running : Option KeptInit → Option Init
+init_running init = option_map init_shown init
 
 -- the core of a host over this journal and these tables, while this init runs
 abbrev pub host_core : ℕ → State → HciTables → Option Init → Core
@@ -41,7 +41,7 @@ pub record IsHostAt {N : Type 0} (s : Stored N) (d : KeptDesk) (up : Bool) (task
   pub node : core.node ≡ d.host
   pub kept : IsCoreOf s core
   pub command : option_map ordered_by core.command ≡ tasks.command
-  pub init : core.init ≡ init_kept tasks.init
+  pub init : core.init ≡ init_running tasks.init
   pub seen : seen_at p ≡ (desk_shown d, up)
 
 -- what a host keeps of its own command, to which ANY_OK came with this value

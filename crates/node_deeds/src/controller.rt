@@ -13,9 +13,10 @@ ghost use Rattle.node_deeds.specs.Cores.{controller_core, handled, IsReady, IsCo
 use crate::answering::{answered, dropped, link_answered, passed_on, refused_on};
 use crate::deeds::Deeds;
 use crate::desks::Desk;
-use crate::pipes::{goes_through, is_gate, is_opened, own_gate, relayed_to};
+use crate::pipes::{goes_through, is_gate, own_gate, relayed_to};
 use crate::replies::{administered, replied};
 use crate::view::{ADMINISTRATION_PIPE, errors_at, is_asking, is_linked, view_for};
+use gate_admin::is_opened;
 use gate_answers::{IDENTITY_GATE, LINK_MANAGEMENT_GATE, LOOPBACK_GATE, Response, instruction_of};
 use gate_loopback::posts_back;
 use hci_store::Store;

@@ -11,7 +11,7 @@ ghost use Rattle.node_machine.specs.HostReplies.{is_gate, ordered_deeds, host_de
 ghost use Rattle.node_deeds.specs.Pipes.{gate_in};
 ghost use Rattle.node_deeds.specs.Shown.{deeds_shown, init_shown};
 ghost use Rattle.node_deeds.specs.Cores.{IsReady, AreDoable};
-ghost use Rattle.node_deeds.specs.Hosts.{host_core, handled_by, init_kept, host_kind_deeds, IsHostAt};
+ghost use Rattle.node_deeds.specs.Hosts.{host_core, handled_by, init_running, host_kind_deeds, IsHostAt};
 
 use crate::answering::{answered, body_in, dropped, link_answered, passed_on};
 use crate::controller::GATES;
@@ -56,7 +56,7 @@ pub fn host_deeds<N: Nv + Drop>(
     requires host { desk.now.host ≤ 7 }
     requires pipe { pipe < 112 }
     ensures deeds { (core : Core) (p : Port) → IsHostAt store.old desk.now is_up tasks.now core p
-        → deeds_shown (handled_by desk.now.host (init_kept tasks.now.init) pipe message.now) result.items ≡ host_deeds core p (pipe, message.now) }
+        → deeds_shown (handled_by desk.now.host (init_running tasks.now.init) pipe message.now) result.items ≡ host_deeds core p (pipe, message.now) }
     ensures doable { AreDoable result.items }
     ensures unchanged { store.new ≡ store.old }
 {
@@ -79,8 +79,8 @@ fn heard_of<N: Nv + Drop>(
     requires some { 1 ≤ desk.now.host }
     requires host { desk.now.host ≤ 7 }
     requires pipe { pipe < 112 }
-    ensures deeds { deeds_shown (handled_by desk.now.host (init_kept tasks.now.init) pipe message.now) result.items
-        ≡ host_kind_deeds (host_core desk.now.host store.old.journal.state store.old.tables (init_kept tasks.now.init))
+    ensures deeds { deeds_shown (handled_by desk.now.host (init_running tasks.now.init) pipe message.now) result.items
+        ≡ host_kind_deeds (host_core desk.now.host store.old.journal.state store.old.tables (init_running tasks.now.init))
         desk.now.errors tasks.now.command (pipe, message.now) (header_of message.now) }
     ensures doable { AreDoable result.items }
     ensures unchanged { store.new ≡ store.old }

@@ -7,7 +7,7 @@ ghost use Rattle.node_machine.specs.Parts.{Init as InitOf};
 ghost use Rattle.node_machine.specs.HostReplies.{is_same, learns, init_deeds, orders_of};
 ghost use Rattle.node_deeds.specs.Shown.{Handling, deeds_shown, init_shown};
 ghost use Rattle.node_deeds.specs.Cores.{IsReady, AreDoable};
-ghost use Rattle.node_deeds.specs.Hosts.{host_core, handled_by, init_kept, learned_of, heard_deeds, next_deeds};
+ghost use Rattle.node_deeds.specs.Hosts.{host_core, handled_by, init_running, learned_of, heard_deeds, next_deeds};
 ghost use Rattle.journal_laws.specs.declared.state.State.{State};
 
 use crate::answering::has_room;
@@ -33,8 +33,8 @@ pub(crate) fn heard<N: Nv + Drop>(
     requires ready { IsReady store.old }
     requires some { 1 ≤ host }
     requires host { host ≤ 7 }
-    ensures deeds { (pipe : ℕ) (message : List ℕ) → deeds_shown (handled_by host (init_kept tasks.now.init) pipe message) result.items
-        ≡ heard_deeds (host_core host store.old.journal.state store.old.tables (init_kept tasks.now.init)) code value.now tasks.now.command }
+    ensures deeds { (pipe : ℕ) (message : List ℕ) → deeds_shown (handled_by host (init_running tasks.now.init) pipe message) result.items
+        ≡ heard_deeds (host_core host store.old.journal.state store.old.tables (init_running tasks.now.init)) code value.now tasks.now.command }
     ensures doable { AreDoable result.items }
     ensures unchanged { store.new ≡ store.old }
 {

@@ -7,9 +7,8 @@ ghost use Rattle.node_deeds.specs.Shown.{ports_shown, row_waits_for, awaited_pip
 ghost use Rattle.node_deeds.specs.Desks.{configured_by, connected_by, noticed_by, asked_in, asked_by, errors_by};
 
 use crate::desks::{About, Desk, Unanswered, desk_at};
-use crate::pipes::is_opened;
 use arrayvec::ArrayVec;
-use gate_admin::LinkView;
+use gate_admin::{LinkView, is_opened};
 use hci_tables::Tables;
 
 /// The pipe on which a host and the controller's administration gate talk.

@@ -39,7 +39,8 @@ moved_apart false s e g = refl
 
 pub activated_apart : (e : Machine) (g : List Message) (event : ActEvent) → activated (with_got g e) event ≡ with_got g (activated e event)
 activated_apart e g event =
-    ap (λ (x : Machine). with_act (act_answer e.role event).send (record x { role = role_after e.role event })) (down_apart (act_answer e.role event).ended_link e g)
+    ap (λ (x : Machine). with_act (act_answer e.role event).send (record x { role = role_after e.role event }))
+    (down_apart (act_answer e.role event).ended_link e g)
     ∙ act_apart (act_answer e.role event).send (record (put_down (act_answer e.role event).ended_link e) { role = role_after e.role event }) g
 
 -- nothing came with it
@@ -51,7 +52,8 @@ heard_apart : (e : Machine) (g : List Message) (c : Control)
 heard_apart e g c = by (is_faulty (taken e.shdlc c).session) refl
   where
     by_end : (b : Bool) → record (moved (with_got g e) b (taken e.shdlc c)) { got = g ++ news e.shdlc.session (taken e.shdlc c) }
-        ≡ with_got (g ++ news e.shdlc.session (taken e.shdlc c)) (record (moved e b (taken e.shdlc c)) { got = e.got ++ news e.shdlc.session (taken e.shdlc c) })
+        ≡ with_got (g ++ news e.shdlc.session (taken e.shdlc c))
+        (record (moved e b (taken e.shdlc c)) { got = e.got ++ news e.shdlc.session (taken e.shdlc c) })
     by_end true = refl
     by_end false = refl
 

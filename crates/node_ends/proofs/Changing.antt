@@ -1,6 +1,6 @@
 -- One of the ends of a node is changed: the ports that they stand for change as the definition says.
 use Rattle.std.proofs.Common.{◌≡◌, ◌≢◌, ℕ, zero, suc, ◌+◌, ◌*◌, ◌<◌, Bool, true, false, List, [], ◌∷◌, length, refl, sym, ap, ◌∙◌, subst, arith, length-set}
-use Rattle.std.specs.Prelude.{◌==◌, Option, Some, None, slice_get, slice_set, slice_index_or, IfSome}
+use Rattle.std.specs.Prelude.{◌==◌, Option, Some, None, option_map, slice_get, slice_set, slice_index_or, IfSome}
 use Rattle.std.specs.List.{AllByRecursion}
 use Rattle.std.proofs.lemmas.Option.{slice_get_within, get_or_from_slice_get}
 use Rattle.std.proofs.lemmas.Bool.{eqb-true, eq-eqb}
@@ -11,11 +11,14 @@ use Rattle.node_machine.specs.Parts.{Port, Desk as DeskOf}
 use Rattle.node_machine.specs.Carrying.{port_at, changed_if, with_port, after_turn}
 use Rattle.link_machine.specs.Machine.{LinkEnd as Machine, Turn, turn}
 use Rattle.node_ends.specs.declared.seat.Seat.{Seat}
-use Rattle.node_ends.specs.declared.desk.Desk.{Desk}
-use Rattle.node_ends.specs.Desks.{desk_of}
+use Rattle.node_deeds.specs.declared.desks.Desk.{Desk}
+use Rattle.node_deeds.specs.Shown.{desk_shown}
 use Rattle.link_end.specs.declared.link.LinkEnd.{LinkEnd as Link}
 use Rattle.node_ends.specs.declared.seat.Waiting.{Waiting}
-use Rattle.node_ends.specs.Holding.{HoldsSeat, HoldsEnd, Moves, WaitsHeld}
+use Rattle.link_machine.specs.Machine.LinkInput.{FromNode}
+use Rattle.link_machine.specs.Laws.{AreSendableInputs}
+use Rattle.node_ends.specs.Holding.{HoldsSeat, HoldsEnd, Moves, WaitsHeld, kept_number}
+use Rattle.node_ends.proofs.Counting.{reached_on, turn_acked}
 use Rattle.node_ends.proofs.Moving.{stays_beside}
 use Rattle.node_ends.specs.Ends.{SeatStandsFor, SeatsStandFor, HaveOwnersFrom, HaveOwnHosts, AreEnds, AreHeld, place_in}
 
@@ -47,7 +50,7 @@ picked {p = p} h f g is = let yes = same p.desk.host h (sym (host_is g) ∙ is) 
 -- ## Owners
 
 -- two ends at different places use four owners
-apart_places : (one other : End) (j k : ℕ) → (one.outbox.owner ≡ 2 * j) → (one.inbox.joiner.owner ≡ 2 * j + 1)
+pub apart_places : (one other : End) (j k : ℕ) → (one.outbox.owner ≡ 2 * j) → (one.inbox.joiner.owner ≡ 2 * j + 1)
     → (other.outbox.owner ≡ 2 * k) → (other.inbox.joiner.owner ≡ 2 * k + 1) → j ≢ k → HaveOwners one other
 apart_places one other j k a b c d differ = record {
   senders = λ e. differ (omega (arith, a, c, e));
@@ -56,7 +59,7 @@ apart_places one other j k a b c d differ = record {
   from = λ e. omega (arith, b, c, e);
 }
 
-owners_at : (k i : ℕ) (seats : List Seat) (s : Seat) → slice_get seats i ≡ Some s → HaveOwnersFrom k seats
+pub owners_at : (k i : ℕ) (seats : List Seat) (s : Seat) → slice_get seats i ≡ Some s → HaveOwnersFrom k seats
     → (s.side.link.outbox.owner ≡ 2 * (k + i)) × (s.side.link.inbox.joiner.owner ≡ 2 * (k + i) + 1)
 owners_at k i [] s is o = cc
 owners_at k zero (t ∷ seats) s is o =
@@ -94,6 +97,9 @@ module _ {old new : PoolState} {h : ℕ} {f : Port → Port} {s t : Seat} (c : O
         desk = g.desk;
         late = g.late;
         ended = g.ended;
+        reached = g.reached;
+        acked = g.acked;
+        aside = g.aside;
       })
 
   -- all ends behind that place stay
@@ -132,7 +138,7 @@ module _ {old new : PoolState} {h : ℕ} {f : Port → Port} {s t : Seat} (c : O
         change_at (k + 1) i seats ports is owners.2 hosts.1 g.1,
       )
 
-  owners_stay : (k i : ℕ) (seats : List Seat) → slice_get seats i ≡ Some s → HaveOwnersFrom k seats → HaveOwnersFrom k (slice_set seats i t)
+  pub owners_stay : (k i : ℕ) (seats : List Seat) → slice_get seats i ≡ Some s → HaveOwnersFrom k seats → HaveOwnersFrom k (slice_set seats i t)
   owners_stay k i [] is o = cc
   owners_stay k zero (u ∷ seats) is o =
       let e : u ≡ s = cc in (
@@ -150,7 +156,7 @@ module _ {old new : PoolState} {h : ℕ} {f : Port → Port} {s t : Seat} (c : O
       (λ q. all.0 (ap (λ (x : Seat). x.desk.host) e ∙ (c.before ∙ (sym c.after ∙ q))), all.1)
   all_stay n (suc i) (u ∷ seats) is all = (all.0, all_stay n i seats is all.1)
 
-  hosts_stay : (i : ℕ) (seats : List Seat) → slice_get seats i ≡ Some s → HaveOwnHosts seats → HaveOwnHosts (slice_set seats i t)
+  pub hosts_stay : (i : ℕ) (seats : List Seat) → slice_get seats i ≡ Some s → HaveOwnHosts seats → HaveOwnHosts (slice_set seats i t)
   hosts_stay i [] is hosts = cc
   hosts_stay zero (u ∷ seats) is hosts =
       let e : u ≡ s = cc in
@@ -252,18 +258,23 @@ read_at seats i s d is = get_or_from_slice_get seats i s d is
 -- a call on the end at a place does to it what the node does to the port
 pub record Turns (old new : PoolState) (seats : List Seat) (h i : ℕ) (x : Turn) (d t : Seat) : Type 0 where
   pub place : place_in h seats ≡ Some i
+  pub sendable : AreSendableInputs (FromNode x ∷ [])
   pub moves : Moves old new (slice_index_or seats i d).side.link t.side.link
   pub rest : t ≡ record (slice_index_or seats i d) { side = t.side }
+  pub aside : (m : Machine) → (turn m x).aside ≡ m.aside
   pub stands : (m : Machine) → HoldsSeat old (slice_index_or seats i d) m → HoldsSeat new t (turn m x)
 
 -- the same, where more than the end itself may have changed
 pub record TurnsSo (old new : PoolState) (seats : List Seat) (h i : ℕ) (x : Turn) (d t : Seat) : Type 0 where
   pub place : place_in h seats ≡ Some i
+  pub sendable : AreSendableInputs (FromNode x ∷ [])
   pub moves : Moves old new (slice_index_or seats i d).side.link t.side.link
   pub desk : t.desk ≡ (slice_index_or seats i d).desk
   pub late : t.late ≡ (slice_index_or seats i d).late
   pub ended : t.ended ≡ (slice_index_or seats i d).ended
-  pub stands : (m : Machine) → HoldsSeat old (slice_index_or seats i d) m → HoldsSeat new t (turn m x)
+  pub acked : t.acked ≡ (slice_index_or seats i d).acked
+  pub stands : (m : Machine) → HoldsSeat old (slice_index_or seats i d) m → (slice_index_or seats i d).aside ≡ m.aside
+      → HoldsSeat new t (turn m x) × (t.aside ≡ (turn m x).aside)
 
 pub turns_so : {old new : PoolState} {seats : List Seat} {h i : ℕ} {x : Turn} {d t : Seat} (ports : List Port) → TurnsSo old new seats h i x d t
     → AreEnds old seats ports → AreEnds new (slice_set seats i t) (with_port h (after_turn x) ports)
@@ -277,10 +288,13 @@ turns_so {old} {new} {seats} {h} {i} {x} {d} {t} ports c e =
       after = ap (λ (s : Desk). s.host) c.desk ∙ host;
       moves = c.moves;
       stands = λ q g. record {
-        holds = c.stands q.side g.holds;
-        desk = ap desk_of c.desk ∙ g.desk;
+        holds = (c.stands q.side g.holds g.aside).0;
+        desk = ap desk_shown c.desk ∙ g.desk;
         late = c.late ∙ g.late;
         ended = c.ended ∙ g.ended;
+        reached = reached_on q.side (FromNode x) c.sendable g.reached;
+        acked = c.acked ∙ (g.acked ∙ ap kept_number (sym (turn_acked q.side x c.sendable g.reached)));
+        aside = (c.stands q.side g.holds g.aside).1;
       };
     } in
     one_changes one i seats ports (p.seat_is ∙ ap (λ (s : Seat). Some s) (sym same_seat)) e
@@ -290,11 +304,13 @@ pub turns : {old new : PoolState} {seats : List Seat} {h i : ℕ} {x : Turn} {d 
 turns {x = x} {d = d} {t = t} ports c e =
     turns_so {x = x} {d = d} {t = t} ports (record {
       place = c.place;
+      sendable = c.sendable;
       moves = c.moves;
       desk = ap (λ (s : Seat). s.desk) c.rest;
       late = ap (λ (s : Seat). s.late) c.rest;
       ended = ap (λ (s : Seat). s.ended) c.rest;
-      stands = c.stands;
+      acked = ap (λ (s : Seat). s.acked) c.rest;
+      stands = λ m h same. (c.stands m h, ap (λ (s : Seat). s.aside) c.rest ∙ (same ∙ sym (c.aside m)));
     }) e
 
 -- the end that is read at a place stands for the port there
@@ -333,8 +349,10 @@ pub record SetsDesk (pool : PoolState) (seats : List Seat) (h i : ℕ) (f : Desk
   pub waiting : t.waiting ≡ (slice_index_or seats i d).waiting
   pub late : t.late ≡ (slice_index_or seats i d).late
   pub ended : t.ended ≡ (slice_index_or seats i d).ended
+  pub acked : t.acked ≡ (slice_index_or seats i d).acked
+  pub aside : t.aside ≡ (slice_index_or seats i d).aside
   pub host : t.desk.host ≡ (slice_index_or seats i d).desk.host
-  pub desk : desk_of t.desk ≡ f (desk_of (slice_index_or seats i d).desk)
+  pub desk : desk_shown t.desk ≡ f (desk_shown (slice_index_or seats i d).desk)
 
 pub sets_desk : {pool : PoolState} {seats : List Seat} {h i : ℕ} {f : DeskOf → DeskOf} {d t : Seat} (ports : List Port) → SetsDesk pool seats h i f d t
     → AreEnds pool seats ports → AreEnds pool (slice_set seats i t) (with_port h (λ p. record p { desk = f p.desk }) ports)
@@ -355,6 +373,9 @@ sets_desk {pool} {seats} {h} {i} {f} {d} {t} ports c e =
         desk = c.desk ∙ ap f g.desk;
         late = c.late ∙ g.late;
         ended = c.ended ∙ g.ended;
+        reached = g.reached;
+        acked = c.acked ∙ g.acked;
+        aside = c.aside ∙ g.aside;
       };
     } in
     one_changes one i seats ports (p.seat_is ∙ ap (λ (s : Seat). Some s) (sym same_seat)) e
@@ -392,6 +413,18 @@ held_at {pool} {seats} h i d place e held =
     let p = placed_in h i place e in
     let P : Seat → Type 0 = λ s. WaitsHeld s.waiting s.side.link in
     subst P (sym (read_at seats i p.seat d p.seat_is)) (all_at P seats i p.seat p.seat_is held)
+
+-- what is told where there is an end
+pub told_there : {X : Type 0} (f : Port → X) (x : X) (o : Option Port) (p : Port) → o ≡ Some p → x ≡ f p → Some x ≡ option_map f o
+told_there f x o p is told = ap (λ y. Some y) told ∙ ap (option_map f) (sym is)
+
+-- where no end is that of this host, nothing comes there, and nothing is told
+pub comes_nowhere : {pool : PoolState} {seats : List Seat} {ports : List Port} {X : Type 0} (h : ℕ) (f : Port → Port) (g : Port → X) (o : Option ℕ)
+    → o ≡ place_in h seats → ((i : ℕ) → o ≡ Some i → ⊥) → AreEnds pool seats ports
+    → AreEnds pool seats (with_port h f ports) × (None ≡ option_map g (port_at ports h))
+comes_nowhere h f g o is none e =
+    let n = nowhere h f o is none e in
+    (n.0, ap (option_map g) (sym n.1))
 
 pub if_some : (P : Port → Type 0) (o : Option Port) (p : Port) → o ≡ Some p → P p → IfSome o P
 if_some P o p is h = let Q : Option Port → Type 0 = λ x. IfSome x P in subst Q (sym is) h

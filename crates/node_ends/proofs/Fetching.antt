@@ -24,7 +24,7 @@ use Rattle.link_end.specs.declared.«end».End.{End}
 use Rattle.link_end.specs.Ends.{EndStandsFor, EndLeavesOthers, Accounts, MayTake}
 use Rattle.link_end.proofs.AccountLemmas.{rests, rests_may_take, may_take_held}
 use Rattle.node_ends.specs.declared.seat.Waiting.{Waiting}
-use Rattle.node_ends.specs.Holding.{waiting_in, chain_of, without_got, as_waiting, HoldsEnd, Moves, WaitsHeld}
+use Rattle.node_ends.specs.Holding.{messages_waiting, chain_of, without_got, as_waiting, HoldsEnd, Moves, WaitsHeld}
 use Rattle.node_ends.proofs.Apart.{with_got, is_outside, took_apart, input_apart}
 use Rattle.node_ends.proofs.Moving.{call_holds}
 
@@ -48,7 +48,7 @@ short_in pool owner opens (Some g) all =
     ((all_front (IsOwnOpen pool owner) opens (record { pipe = g.pipe; chain = g.chain }) all).1.short, tt)
 
 waits_of : (pool : PoolState) (o : Option (ℕ × Chain))
-    → option_to_list (option_map (λ (x : ℕ × Chain). (x.0, chain_bytes pool x.1)) o) ≡ waiting_in pool (option_map as_waiting o)
+    → option_to_list (option_map (λ (x : ℕ × Chain). (x.0, chain_bytes pool x.1)) o) ≡ messages_waiting pool (option_map as_waiting o)
 waits_of pool None = refl
 waits_of pool (Some x) = refl
 
@@ -109,7 +109,8 @@ told_apart m (I ns nr info) =
 told_apart m (S kind nr) =
     ap (λ (x : Machine). record (report_told (report m (Take (S kind nr)))) { acked = whole_acked x - whole_acked m }) (took_apart m [] (S kind nr))
 told_apart m (Rset window caps) =
-    ap (λ (x : Machine). record (report_told (report m (Take (Rset window caps)))) { acked = whole_acked x - whole_acked m }) (took_apart m [] (Rset window caps))
+    ap (λ (x : Machine). record (report_told (report m (Take (Rset window caps)))) { acked = whole_acked x - whole_acked m })
+    (took_apart m [] (Rset window caps))
 told_apart m Ua = ap (λ (x : Machine). record (report_told (report m (Take Ua))) { acked = whole_acked x - whole_acked m }) (took_apart m [] Ua)
 told_apart m (ActFrame act again) =
     ap (λ (x : Machine). record (report_told (report m (Take (ActFrame act again)))) { acked = whole_acked x - whole_acked m })

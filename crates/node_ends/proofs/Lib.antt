@@ -6,3 +6,11 @@ pub mod Apart
 pub mod Quiet
 pub mod Fetching
 mod Reading
+pub mod Coming
+pub mod Seated
+pub mod Counting
+pub mod Noticing
+pub mod Making
+pub mod Sending
+pub mod Over
+mod Blocks

@@ -20,11 +20,12 @@ use Rattle.link_end.specs.declared.«end».End.{End}
 use Rattle.link_end.specs.Ends.{EndStandsFor, EndLeavesOthers, Accounts, controls_in, due_of}
 use Rattle.link_end.proofs.AccountLemmas.{kept_beside_call, account_kept, account_moved, given_beside, given_own}
 use Rattle.node_ends.specs.declared.seat.Waiting.{Waiting}
-use Rattle.node_ends.specs.Holding.{waiting_in, chain_of, without_got, HoldsEnd, Moves}
+use Rattle.node_ends.specs.Holding.{messages_waiting, chain_of, without_got, HoldsEnd, Moves}
 
 -- a message that waits has its bytes still
 waits_on : (old new : PoolState) (k : End) (waiting : Option Waiting) → Accounts k old (chain_of waiting)
-    → ((c : Chain) → IsLive old c → c.owner ≡ k.inbox.joiner.owner → chain_bytes new c ≡ chain_bytes old c) → waiting_in new waiting ≡ waiting_in old waiting
+    → ((c : Chain) → IsLive old c → c.owner ≡ k.inbox.joiner.owner → chain_bytes new c ≡ chain_bytes old c) → messages_waiting new waiting
+    ≡ messages_waiting old waiting
 waits_on old new k None a same = refl
 waits_on old new k (Some w) a same =
     ap (λ (bytes : List ℕ). (w.pipe, bytes) ∷ []) (same w.chain a.fetched.live a.fetched.owned)
@@ -78,7 +79,7 @@ call_holds old new before after waiting m n h l stands got =
       short = short_on m n got h.short;
     }
   where
-    own_bytes : (w : Option Waiting) → Accounts before old (chain_of w) → waiting_in new w ≡ waiting_in old w
+    own_bytes : (w : Option Waiting) → Accounts before old (chain_of w) → messages_waiting new w ≡ messages_waiting old w
     own_bytes None a = refl
     own_bytes (Some w) a =
         let f = a.fetched in

@@ -5,7 +5,7 @@ use Rattle.link_machine.specs.Machine.{Message}
 use Rattle.block_pool.specs.Pool.{PoolState}
 use Rattle.node_machine.specs.Parts.{Port, Desk as DeskOf}
 use Rattle.node_ends.specs.declared.seat.Seat.{Seat}
-use Rattle.node_ends.specs.Desks.{desk_of}
+use Rattle.node_deeds.specs.Shown.{desk_shown}
 use Rattle.node_ends.specs.Ends.{SeatsStandFor, message_read}
 
 pub read_is : (got : List Message) (o : Option (ℕ × ℕ)) (buffer : List ℕ) → IfSome o (λ x. got ≡ (x.0, take x.1 buffer) ∷ []) → IfNone o (got ≡ [])
@@ -15,7 +15,7 @@ read_is got (Some x) buffer some none = some
 
 -- what is kept at a place
 pub desk_is : (pool : PoolState) (seats : List Seat) (ports : List Port) (i : ℕ) → SeatsStandFor pool seats ports
-    → option_map (λ (s : Seat). desk_of s.desk) (slice_get seats i) ≡ option_map (λ (p : Port). p.desk) (slice_get ports i)
+    → option_map (λ (s : Seat). desk_shown s.desk) (slice_get seats i) ≡ option_map (λ (p : Port). p.desk) (slice_get ports i)
 desk_is pool [] [] i each = refl
 desk_is pool [] (p ∷ ports) i each = absurd each
 desk_is pool (s ∷ seats) [] i each = absurd each

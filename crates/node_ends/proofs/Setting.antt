@@ -151,13 +151,36 @@ set_holds old new k waiting m h some c =
     let spare_here = spare_is old k (without_got m) h.stands in
     let quota = h.stands.halfway.sends.lies.kept.quota in
     let within = h.stands.halfway.sends.lies.kept.within in
-    let next = counted_stands old new k (without_got m) (used_of old o + 1) (aside_of old o + 1) h.stands c (omega arith) (omega (arith, some, quota, within)) in
+    let next = counted_stands old new k (without_got m) (used_of old o + 1) (aside_of old o + 1) h.stands c (omega arith)
+    (omega (arith, some, quota, within)) in
     let room : nat_lt 0 (spare m) ≡ true = lt-ltb 0 (spare m) (omega (arith, some, spare_here)) in
     let is : turn m SetAside ≡ record m { aside = m.aside + 1 } = rw room refl in
     let P : ℕ → Type 0 = λ a. EndStandsFor k new (record (without_got m) { aside = a + 1 }) in
     let Q : Machine → Type 0 = λ n. HoldsEnd new k waiting n in
     subst Q (sym is) (call_holds old new k k waiting m (record m { aside = m.aside + 1 }) h
     (counted_leaves old new k (without_got m) (used_of old o + 1) (aside_of old o + 1) h.stands c) (subst P h.stands.halfway.aside next) refl)
+
+pub set_counts : (pool : PoolState) (k : End) (m : Machine) → EndStandsFor k pool (without_got m) → 0 < spare_of pool k.outbox.owner
+    → (turn m SetAside).aside ≡ m.aside + 1
+set_counts pool k m h some =
+    let spare_here = spare_is pool k (without_got m) h in
+    let room : nat_lt 0 (spare m) ≡ true = lt-ltb 0 (spare m) (omega (arith, some, spare_here)) in
+    rw room refl
+
+-- at most 128 blocks are set aside
+pub few_aside : (pool : PoolState) (k : End) (m : Machine) → EndStandsFor k pool (without_got m) → m.aside ≤ 128
+few_aside pool k m h =
+    let kept = h.halfway.sends.lies.kept in
+    let used = kept.used in let within = kept.within in let aside = h.halfway.aside in
+    omega (arith, used, within, aside)
+
+-- where none is, there is none to release
+pub none_released : (pool : PoolState) (k : End) (waiting : Option Waiting) (m : Machine) → m.aside ≡ 0 → HoldsEnd pool k waiting m
+    → HoldsEnd pool k waiting (turn m Release)
+none_released pool k waiting m none h =
+    let same : m.aside ≡ m.aside - 1 = omega (arith, none) in
+    let P : ℕ → Type 0 = λ n. HoldsEnd pool k waiting (record m { aside = n }) in
+    subst P same h
 
 pub set_refused : (pool : PoolState) (k : End) (m : Machine) → EndStandsFor k pool (without_got m) → (0 < spare_of pool k.outbox.owner → ⊥)
     → turn m SetAside ≡ m

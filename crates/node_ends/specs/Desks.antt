@@ -1,29 +1,56 @@
--- What is kept of an end beside the end itself, as the machine of a node has it.
-use Rattle.std.specs.Prelude.{Option, Some, None}
-use Rattle.pipe_table.specs.declared.row.PipeRow.{PipeRow}
-use Rattle.hci_tables.specs.declared.command.Command.TheVariants.{Create}
-use Rattle.gate_answers.specs.declared.response.Response.TheVariants as response
-use Rattle.gate_answers.specs.Answers.{answer_of}
-use Rattle.gate_admin.specs.Decide.{ends_of}
-use Rattle.node_machine.specs.Parts.{Creation, About as Subject, Notice, Desk as DeskOf}
-use Rattle.node_machine.specs.Parts.About.{Waits as IsWaiting, Forgotten as IsForgotten, Removed as IsRemoved}
-use Rattle.node_ends.specs.declared.desk.About.{About}
-use Rattle.node_ends.specs.declared.desk.About.TheVariants.{Waits, Forgotten, Removed}
-use Rattle.node_ends.specs.declared.desk.Unanswered.{Unanswered}
-use Rattle.node_ends.specs.declared.desk.Desk.{Desk}
+-- Notices that a node keeps of its ends: their ages, and the creations that wait for them.
+use Rattle.std.specs.Prelude.{ℕ, ◌+◌, ◌<◌, nat_le, Bool, true, false, Option, Some, None, option_map}
+use Rattle.std.specs.Option.{option_map_or}
+use Rattle.node_machine.specs.Parts.{Port, Creation, Notice}
+use Rattle.node_machine.specs.Parts.About.{Forgotten as IsForgotten}
+use Rattle.node_machine.specs.Controller.{asked_at}
+use Rattle.node_deeds.specs.declared.desks.About.{About}
+use Rattle.node_deeds.specs.declared.desks.About.TheVariants.{Waits, Forgotten, Removed}
+use Rattle.node_deeds.specs.declared.desks.Unanswered.{Unanswered}
 
--- the creation of a pipe: its creator asked for it, and gets its ends and its number as the answer
-abbrev pub creation_of : PipeRow → Creation
-creation_of row = record { asker = row.creator; command = Create row; answer = answer_of response.Ok (ends_of row) }
+-- a notice that is one tick older
+abbrev pub grown_older : Option Unanswered → Option Unanswered
+grown_older None = None
+grown_older (Some n) = Some (record n { age = n.age + 1 })
 
-abbrev pub about_of : About → Subject
-about_of (Waits row) = IsWaiting (creation_of row)
-about_of Forgotten = IsForgotten
-about_of Removed = IsRemoved
+-- the age of the notice that waits at an end, where there is one
+abbrev pub age_at : Option Port → ℕ
+age_at port = option_map_or (λ (p : Port). option_map_or (λ (n : Notice). n.age) p.desk.notice 0) port 0
 
-abbrev pub notice_of : Option Unanswered → Option Notice
-notice_of None = None
-notice_of (Some n) = Some (record { about = about_of n.about; age = n.age })
+-- such a notice may grow older by a tick
+abbrev pub IsYoung : Option Port → Type 0
+IsYoung port = age_at port < 255
 
-abbrev pub desk_of : Desk → DeskOf
-desk_of d = record { host = d.host; notice = notice_of d.notice; holds = d.holds; errors = d.errors }
+-- the notice that is kept once its session has ended
+abbrev pub kept_notice : Bool → Option Unanswered → Option Unanswered
+kept_notice true notice = None
+kept_notice false notice = notice
+
+-- its hundredth tick came
+abbrev pub has_hundred_ticks : Option Unanswered → Bool
+has_hundred_ticks None = false
+has_hundred_ticks (Some n) = nat_le 100 n.age
+
+-- the asker of a creation that waits
+abbrev pub asker_of : Option Unanswered → Option ℕ
+asker_of None = None
+asker_of (Some n) = by_about n.about where
+  by_about : About → Option ℕ
+  by_about (Waits row) = Some row.creator
+  by_about Forgotten = None
+  by_about Removed = None
+
+-- the same, where there is an end
+abbrev pub asker_at : Option Port → Option ℕ
+asker_at None = None
+asker_at (Some p) = option_map (λ (c : Creation). c.asker) (asked_at p)
+
+-- a notice of a creation that was forgotten
+abbrev pub as_forgotten : Option Unanswered → Option Unanswered
+as_forgotten None = None
+as_forgotten (Some n) = Some (record n { about = Forgotten })
+
+-- an end whose notice is one of a creation that was forgotten
+abbrev pub forgotten_at : Port → Port
+forgotten_at p =
+    record p { desk = record p.desk { notice = option_map_or (λ (n : Notice). Some (record n { about = IsForgotten })) p.desk.notice None } }

@@ -1,23 +1,32 @@
 -- What is kept of the ends of a node, and for which ports of its machine it stands.
-use Rattle.std.specs.Prelude.{◌≡◌, ◌≢◌, ℕ, suc, ◌+◌, ◌*◌, ◌==◌, Bool, false, if◌then◌else◌, List, [], ◌∷◌, length, take, ◌≤◌, ◌<◌, is_none, Option}
+use Rattle.std.specs.Prelude.{◌≡◌, ◌≢◌, ℕ, zero, suc, ◌+◌, ◌*◌, ◌==◌, Bool, false, if◌then◌else◌, List, [], ◌∷◌, length, take, ◌≤◌, ◌<◌, is_none, Option}
 use Rattle.std.specs.Prelude.{Some, None, option_map}
 use Rattle.std.specs.List.{AllByRecursion}
 use Rattle.std.specs.Option.{option_map_or}
 use Rattle.block_pool.specs.Pool.{PoolState}
-use Rattle.link_machine.specs.Machine.{Message, give_refusal}
+use Rattle.link_machine.specs.Machine.{Message, give_refusal, whole_acked, next_frame, frame_fetched}
+use Rattle.swp_lpdu.specs.Controls.{lpdu_of}
+use Rattle.swp_act.specs.declared.ActEvent.TheVariants.{Start as ActStart}
+use Rattle.link_end.specs.Roles.{MayStart}
+use Rattle.link_end.specs.declared.report.LinkReport.{LinkReport}
+use Rattle.link_end.specs.Reports.{reset_told}
 use Rattle.node_machine.specs.Parts.{Port}
 use Rattle.node_machine.specs.Carrying.{port_at}
+use Rattle.node_machine.specs.Node.{is_late}
 use Rattle.node_ends.specs.declared.seat.Seat.{Seat}
 use Rattle.node_ends.specs.declared.ends.Ends.{Ends}
-use Rattle.node_ends.specs.Desks.{desk_of}
-use Rattle.node_ends.specs.Holding.{HoldsSeat, WaitsHeld}
+use Rattle.node_deeds.specs.Shown.{desk_shown}
+use Rattle.node_ends.specs.Holding.{HoldsSeat, WaitsHeld, IsReached, kept_number, where_done}
 
 -- one end with what is kept of it
 pub record SeatStandsFor (pool : PoolState) (s : Seat) (p : Port) : Type 0 where
   pub holds : HoldsSeat pool s p.side
-  pub desk : desk_of s.desk ≡ p.desk
+  pub desk : desk_shown s.desk ≡ p.desk
   pub late : s.late ≡ p.late
   pub ended : s.ended ≡ p.ended
+  pub reached : IsReached p.side
+  pub acked : s.acked ≡ kept_number (whole_acked p.side)
+  pub aside : s.aside ≡ p.side.aside
 
 -- all of them, one by one
 abbrev pub SeatsStandFor : PoolState → List Seat → List Port → Type 0
@@ -53,15 +62,10 @@ place_in h (s ∷ seats) = if s.desk.host == h then Some 0 else option_map suc (
 abbrev pub takes_at : Message → Option Port → Bool
 takes_at m port = option_map_or (λ (p : Port). is_none (give_refusal p.side m)) port false
 
--- a block is set aside at an end, where there is one
-abbrev pub HasAside : Option Port → Type 0
-HasAside None = Unit {0}
-HasAside (Some p) = 0 < p.side.aside
-
 -- at most six control frames wait to be sent at an end, where there is one
-abbrev pub HasFewDue : Option Port → Type 0
-HasFewDue None = Unit {0}
-HasFewDue (Some p) = length p.side.acts + length p.side.shdlc.due ≤ 6
+abbrev pub FewAreDue : Option Port → Type 0
+FewAreDue None = Unit {0}
+FewAreDue (Some p) = length p.side.acts + length p.side.shdlc.due ≤ 6
 
 -- while a message waits at an end, it is held
 abbrev pub AreHeld : List Seat → Type 0
@@ -79,3 +83,28 @@ got_at ports h = option_map_or (λ (p : Port). p.side.got) (port_at ports h) []
 abbrev pub message_read : Option (ℕ × ℕ) → List ℕ → List Message
 message_read None buffer = []
 message_read (Some x) buffer = (x.0, take x.1 buffer) ∷ []
+
+-- the ends, where the one at this place is changed
+abbrev pub at_place : ℕ → (Port → Port) → List Port → List Port
+at_place i f [] = []
+at_place zero f (p ∷ ports) = f p ∷ ports
+at_place (suc i) f (p ∷ ports) = p ∷ at_place i f ports
+
+-- an end, where there is one, may be activated with this value
+abbrev pub MayStartAt : ℕ → Option Port → Type 0
+MayStartAt value None = Unit {0}
+MayStartAt value (Some p) = MayStart p.side.role (ActStart value)
+
+-- what is told of the reset of an end whose notice is late, where it is and the reset isn't refused
+abbrev pub late_told : Option Port → Option LinkReport
+late_told None = None
+late_told (Some p) = if is_late p then where_done (reset_told p.side None) else None
+
+-- an end whose next frame was fetched
+abbrev pub has_sent : Port → Port
+has_sent p = record p { side = frame_fetched p.side }
+
+-- the frame that goes out next at an end, where there is one
+abbrev pub frame_at : Option Port → Option (List ℕ)
+frame_at None = None
+frame_at (Some p) = option_map lpdu_of (next_frame p.side)

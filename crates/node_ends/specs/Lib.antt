@@ -1,3 +1,4 @@
 pub mod Desks
 pub mod Holding
 pub mod Ends
+pub mod Making

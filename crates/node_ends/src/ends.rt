@@ -1,26 +1,41 @@
 //! The ends of all links of a node in one pool.
-ghost use Rattle.std.specs.Prelude.{◌≡◌, ℕ, List, Some, IfSome, false};
+ghost use Rattle.link_machine.specs.Machine.{whole_acked};
+ghost use Rattle.std.specs.Prelude.{IfNone, take, ◌∷◌, []};
+ghost use Rattle.node_ends.specs.Holding.{kept_number};
+ghost use Rattle.std.specs.Prelude.{◌≡◌, ◌<◌, ◌≤◌, ◌+◌, min, ℕ, List, Some, IfSome, false, length, option_map, slice_get};
+ghost use Rattle.link_machine.specs.Machine.LinkInput.{Tick, Reset, Start, Stop};
+ghost use Rattle.link_end.specs.Reports.{reset_told};
 ghost use Rattle.swp_lpdu.specs.Controls.{control_of};
 ghost use Rattle.link_machine.specs.Machine.{lpdu_input, report};
 ghost use Rattle.link_end.specs.Reports.{report_told};
 ghost use Rattle.node_machine.specs.Node.{has_come};
 ghost use Rattle.hcp_packet.specs.Packets.{IsSendable};
 ghost use Rattle.link_machine.specs.Machine.Turn.{Give, Hold, SetAside, Release, FetchMessage};
-ghost use Rattle.node_ends.specs.Desks.{notice_of};
+ghost use Rattle.node_deeds.specs.Shown.{notice_shown};
 ghost use Rattle.std.specs.Option.{option_map_or};
 ghost use Rattle.link_machine.specs.Machine.{spare};
 ghost use Rattle.node_machine.specs.Controller.{has_link};
 ghost use Rattle.node_machine.specs.Parts.{Port};
 ghost use Rattle.node_machine.specs.Carrying.{port_at, with_port, after_turn};
-ghost use Rattle.node_ends.specs.Ends.{AreEnds, AreHeld, HasAside, HasFewDue, takes_at, place_in};
+ghost use Rattle.node_ends.specs.Ends.{AreEnds, AreHeld, FewAreDue, MayStartAt, takes_at, place_in, at_place, has_sent, frame_at};
 
-use crate::desk::Unanswered;
+use crate::new_seats::add_seats;
 use crate::places::place_of;
 use crate::seat::Seat;
+use crate::timing::{
+    asker_place, begin_place, drop_place, forget_place, late_place, older_place, over_at,
+};
 use block_pool::Pool;
-use link_end::LinkReport;
-use swp_base::Control;
+use link_end::{LinkReport, ResetRefused};
+use node_deeds::Unanswered;
+use std::alloc::Global;
+use swp_base::{Control, Lpdu, NoMemory, Role};
 use swp_lpdu::LpduFault;
+
+/// The blocks of each end: for what it sends, and for what comes there. This project's own.
+const QUOTAS: [u16; 14] = [
+    128, 512, 128, 512, 128, 512, 128, 512, 128, 512, 128, 512, 128, 512,
+];
 
 /// The ends of all links of a node in one pool.
 #[derive(Drop)]
@@ -30,16 +45,40 @@ pub struct Ends {
 }
 
 impl Ends {
-    ghost use Rattle.std.specs.Prelude.{◌≡◌, List, false};
+    ghost use Rattle.node_ends.specs.Making.{AreAllDifferent, new_port};
+    ghost use Rattle.std.specs.Prelude.{IfOk, IfNone, map, take, ◌∷◌};
+    ghost use Rattle.link_machine.specs.Machine.{whole_acked};
+    ghost use Rattle.node_machine.specs.Node.{with_older, without_notice, reset_late, is_over_at, forgets};
+    ghost use Rattle.node_ends.specs.Holding.{kept_number};
+    ghost use Rattle.node_ends.specs.Desks.{IsYoung};
+    ghost use Rattle.std.specs.Prelude.{◌≡◌, ◌≤◌, ◌+◌, min, [], ℕ, List, Some, IfSome, false, length, option_map, slice_get};
+    ghost use Rattle.swp_lpdu.specs.Controls.{control_of};
+    ghost use Rattle.link_machine.specs.Machine.{lpdu_input, report};
+    ghost use Rattle.link_machine.specs.Machine.LinkInput.{Tick, Reset, Start, Stop};
+    ghost use Rattle.link_end.specs.Reports.{report_told, reset_told};
+    ghost use Rattle.node_machine.specs.Node.{has_come};
     ghost use Rattle.hcp_packet.specs.Packets.{IsSendable};
     ghost use Rattle.link_machine.specs.Machine.Turn.{Give, Hold, SetAside, Release, FetchMessage};
-    ghost use Rattle.node_ends.specs.Desks.{notice_of};
+    ghost use Rattle.node_deeds.specs.Shown.{notice_shown};
     ghost use Rattle.node_machine.specs.Parts.{Port};
     ghost use Rattle.std.specs.Option.{option_map_or};
     ghost use Rattle.link_machine.specs.Machine.{spare};
     ghost use Rattle.node_machine.specs.Controller.{has_link};
     ghost use Rattle.node_machine.specs.Carrying.{port_at, with_port, after_turn};
-    ghost use Rattle.node_ends.specs.Ends.{EndsStandFor, HasAside, HasFewDue, takes_at};
+    ghost use Rattle.node_ends.specs.Ends.{EndsStandFor, AreHeld, FewAreDue, MayStartAt, takes_at, at_place, late_told, has_sent, frame_at};
+
+    /// New ends of the links with these hosts, at most seven, in a pool with 128 blocks of each end for what it sends, and 512 for what
+    /// comes there.
+    pub fn make(alloc: Global, role: Role, hosts: &[u8]) -> Result<Ends, NoMemory>
+        requires few { length hosts.now ≤ 7 }
+        requires different { AreAllDifferent hosts.now }
+        ensures { IfOk result (λ e. EndsStandFor e (map (new_port role) hosts.now)) }
+    {
+        let pool = Pool::make(alloc, &QUOTAS[..2 * hosts.len()])?;
+        let mut seats = Vec::with_capacity(alloc, hosts.len())?;
+        add_seats(alloc, role, hosts, &mut seats)?;
+        Ok(Ends { pool, seats })
+    }
 
     /// A message, which isn't empty, is given to the end of the link with this host, to be sent on a pipe that isn't reserved.
     /// Whether there is such an end and it takes the message.
@@ -67,9 +106,9 @@ impl Ends {
         }
     }
 
-    /// One that was set aside there is free again.
+    /// One that was set aside there, where one was, is free again.
     pub fn release(&mut self, host: u8)
-        requires { (ports : List Port) × EndsStandFor self.old ports × HasAside (port_at ports host) }
+        requires { (ports : List Port) × EndsStandFor self.old ports }
         ensures { (ports : List Port) → EndsStandFor self.old ports → EndsStandFor self.new (with_port host (after_turn Release) ports) }
     {
         if let Some(i) = place_of(self.seats.as_slice(), host) {
@@ -81,7 +120,7 @@ impl Ends {
     pub fn set_notice(&mut self, host: u8, notice: Option<Unanswered>)
         requires { (ports : List Port) × EndsStandFor self.old ports }
         ensures { (ports : List Port) → EndsStandFor self.old ports
-            → EndsStandFor self.new (with_port host (λ p. record p { desk = record p.desk { notice = notice_of notice } }) ports) }
+            → EndsStandFor self.new (with_port host (λ p. record p { desk = record p.desk { notice = option_map notice_shown notice } }) ports) }
     {
         if let Some(i) = place_of(self.seats.as_slice(), host) {
             set_notice_at(&mut self.seats, i, &self.pool, host, notice);
@@ -100,7 +139,7 @@ impl Ends {
 
     /// That end is held, so that it takes no fragments, or let go. At most six control frames wait there to be sent.
     pub fn hold(&mut self, host: u8, held: bool)
-        requires { (ports : List Port) × EndsStandFor self.old ports × HasFewDue (port_at ports host) }
+        requires { (ports : List Port) × EndsStandFor self.old ports × FewAreDue (port_at ports host) }
         ensures { (ports : List Port) → EndsStandFor self.old ports → EndsStandFor self.new (with_port host (after_turn (Hold held)) ports) }
     {
         if let Some(i) = place_of(self.seats.as_slice(), host) {
@@ -116,6 +155,206 @@ impl Ends {
     {
         if let Some(i) = place_of(self.seats.as_slice(), host) {
             set_holds_at(&mut self.seats, i, &self.pool, host, holds);
+        }
+    }
+
+    /// What an LPDU says comes to the end of the link with this host. While a message waits at an end, it is held. At most six control
+    /// frames wait there to be sent. What is told of it; `None` where there is no such end.
+    pub fn take(&mut self, host: u8, read: &Result<Control, LpduFault>) -> Option<LinkReport>
+        requires stands { (ports : List Port) × EndsStandFor self.old ports × FewAreDue (port_at ports host) }
+        requires held { AreHeld self.old.seats.items }
+        requires read { (lpdu : List ℕ) × (read.now ≡ control_of lpdu) }
+        ensures stands { (ports : List Port) (lpdu : List ℕ) → EndsStandFor self.old ports → read.now ≡ control_of lpdu
+            → EndsStandFor self.new (with_port host (λ p. has_come p (Some (lpdu_input lpdu))) ports) }
+        ensures answer { (ports : List Port) (lpdu : List ℕ) → EndsStandFor self.old ports → read.now ≡ control_of lpdu
+            → result ≡ option_map (λ (p : Port). report_told (report p.side (lpdu_input lpdu))) (port_at ports host) }
+    {
+        let Some(i) = place_of(self.seats.as_slice(), host) else {
+            return None;
+        };
+        Some(take_at(&mut self.seats, i, &mut self.pool, host, read))
+    }
+
+    /// A reset of the link with this host is asked for, with this window, which is 1 to 4, or with the end's own one.
+    /// At most six control frames wait there to be sent. What is told of it; `None` where there is no such end.
+    pub fn reset(
+        &mut self,
+        host: u8,
+        window: Option<u8>,
+    ) -> Option<Result<LinkReport, ResetRefused>>
+        requires stands { (ports : List Port) × EndsStandFor self.old ports × FewAreDue (port_at ports host) }
+        requires window { IfSome window (λ w. (1 ≤ w) × (w ≤ 4)) }
+        ensures stands { (ports : List Port) → EndsStandFor self.old ports
+            → EndsStandFor self.new (with_port host (λ p. has_come p (Some (Reset window))) ports) }
+        ensures answer { (ports : List Port) → EndsStandFor self.old ports
+            → result ≡ option_map (λ (p : Port). reset_told p.side window) (port_at ports host) }
+    {
+        let Some(i) = place_of(self.seats.as_slice(), host) else {
+            return None;
+        };
+        Some(reset_at(&mut self.seats, i, &mut self.pool, host, window))
+    }
+
+    /// Activation begins at the end of the link with this host, with the sync identifier of a UICC or the power code of a CLF, which is
+    /// 00 or 01. At most six control frames wait there to be sent. What is told of it; `None` where there is no such end.
+    pub fn activate(&mut self, host: u8, value: u16) -> Option<LinkReport>
+        requires stands { (ports : List Port) × EndsStandFor self.old ports × FewAreDue (port_at ports host) × MayStartAt value (port_at ports host) }
+        ensures stands { (ports : List Port) → EndsStandFor self.old ports
+            → EndsStandFor self.new (with_port host (λ p. has_come p (Some (Start value))) ports) }
+        ensures answer { (ports : List Port) → EndsStandFor self.old ports
+            → result ≡ option_map (λ (p : Port). report_told (report p.side (Start value))) (port_at ports host) }
+    {
+        let Some(i) = place_of(self.seats.as_slice(), host) else {
+            return None;
+        };
+        Some(activate_at(&mut self.seats, i, &mut self.pool, host, value))
+    }
+
+    /// Activation ends there, and the link with it. At most six control frames wait there to be sent.
+    /// What is told of it; `None` where there is no such end.
+    pub fn deactivate(&mut self, host: u8) -> Option<LinkReport>
+        requires stands { (ports : List Port) × EndsStandFor self.old ports × FewAreDue (port_at ports host) }
+        ensures stands { (ports : List Port) → EndsStandFor self.old ports
+            → EndsStandFor self.new (with_port host (λ p. has_come p (Some Stop)) ports) }
+        ensures answer { (ports : List Port) → EndsStandFor self.old ports
+            → result ≡ option_map (λ (p : Port). report_told (report p.side Stop)) (port_at ports host) }
+    {
+        let Some(i) = place_of(self.seats.as_slice(), host) else {
+            return None;
+        };
+        Some(deactivate_at(&mut self.seats, i, &mut self.pool, host))
+    }
+
+    /// One tick at the end at this place. At most six control frames wait there to be sent. What is told of it; `None` behind the last
+    /// end.
+    pub fn tick(&mut self, i: usize) -> Option<LinkReport>
+        requires { (ports : List Port) × EndsStandFor self.old ports × FewAreDue (slice_get ports i) }
+        ensures stands { (ports : List Port) → EndsStandFor self.old ports → EndsStandFor self.new (at_place i (λ p. has_come p (Some Tick)) ports) }
+        ensures answer { (ports : List Port) → EndsStandFor self.old ports
+            → result ≡ option_map (λ (p : Port). report_told (report p.side Tick)) (slice_get ports i) }
+    {
+        if i >= self.seats.len() {
+            return None;
+        }
+        Some(tick_place(&mut self.seats, i, &mut self.pool))
+    }
+
+    /// The host of the link whose end is at this place; `None` behind the last end.
+    pub fn host(&self, i: usize) -> Option<u8>
+        requires { (ports : List Port) × EndsStandFor self.now ports }
+        ensures { (ports : List Port) → EndsStandFor self.now ports → result ≡ option_map (λ (p : Port). p.desk.host) (slice_get ports i) }
+    {
+        if i >= self.seats.len() {
+            return None;
+        }
+        Some(host_place(self.seats.as_slice(), i, &self.pool))
+    }
+
+    /// The notice of the end at this place, which has fewer than 255 ticks, is a tick older.
+    pub fn grow_older(&mut self, i: usize)
+        requires { (ports : List Port) × EndsStandFor self.old ports × IsYoung (slice_get ports i) }
+        ensures { (ports : List Port) → EndsStandFor self.old ports → EndsStandFor self.new (at_place i with_older ports) }
+    {
+        if i < self.seats.len() {
+            older_place(&mut self.seats, i, &self.pool);
+        }
+    }
+
+    /// Where the session of the end at this place has ended in this step, its notice is answered no more.
+    pub fn drop_notice(&mut self, i: usize)
+        requires { (ports : List Port) × EndsStandFor self.old ports }
+        ensures { (ports : List Port) → EndsStandFor self.old ports → EndsStandFor self.new (at_place i without_notice ports) }
+    {
+        if i < self.seats.len() {
+            drop_place(&mut self.seats, i, &self.pool);
+        }
+    }
+
+    /// A new step begins at the end at this place.
+    pub fn begin_step(&mut self, i: usize)
+        requires { (ports : List Port) × EndsStandFor self.old ports }
+        ensures { (ports : List Port) → EndsStandFor self.old ports
+            → EndsStandFor self.new (at_place i (λ p. record p { late = false; ended = false; turns = [] }) ports) }
+    {
+        if i < self.seats.len() {
+            begin_place(&mut self.seats, i, &self.pool);
+        }
+    }
+
+    /// Whether the session of the end of the link with this host has ended in this step.
+    pub fn is_over(&self, host: u8) -> bool
+        requires { (ports : List Port) × EndsStandFor self.now ports }
+        ensures { (ports : List Port) → EndsStandFor self.now ports → result ≡ is_over_at ports host }
+    {
+        let Some(i) = place_of(self.seats.as_slice(), host) else {
+            return false;
+        };
+        over_at(self.seats.as_slice(), i, &self.pool, host)
+    }
+
+    /// How many messages of the session of the end of the link with this host are acknowledged; 4,294,967,295 stands for any greater
+    /// number, and 0 where there is no such end.
+    pub fn acked(&self, host: u8) -> u32
+        requires { (ports : List Port) × EndsStandFor self.now ports }
+        ensures { (ports : List Port) → EndsStandFor self.now ports
+            → result ≡ option_map_or (λ (p : Port). kept_number (whole_acked p.side)) (port_at ports host) 0 }
+    {
+        let Some(i) = place_of(self.seats.as_slice(), host) else {
+            return 0;
+        };
+        acked_at(self.seats.as_slice(), i, &self.pool, host)
+    }
+
+    /// A frame on its way to that end was refused: one more for REC_ERROR, which stops at FFFF.
+    pub fn count_error(&mut self, host: u8)
+        requires { (ports : List Port) × EndsStandFor self.old ports }
+        ensures { (ports : List Port) → EndsStandFor self.old ports
+            → EndsStandFor self.new (with_port host (λ p. record p { desk = record p.desk { errors = min 65535 (p.desk.errors + 1) } }) ports) }
+    {
+        if let Some(i) = place_of(self.seats.as_slice(), host) {
+            count_error_at(&mut self.seats, i, &self.pool, host);
+        }
+    }
+
+    /// The link of the end at this place is reset, where its notice is late. At most six control frames wait there to be sent. What is
+    /// told of it; `None` where it isn't late, where the reset is refused, and behind the last end.
+    pub fn reset_late(&mut self, i: usize) -> Option<LinkReport>
+        requires { (ports : List Port) × EndsStandFor self.old ports × FewAreDue (slice_get ports i) }
+        ensures stands { (ports : List Port) → EndsStandFor self.old ports → EndsStandFor self.new (at_place i reset_late ports) }
+        ensures answer { (ports : List Port) → EndsStandFor self.old ports → result ≡ late_told (slice_get ports i) }
+    {
+        if i >= self.seats.len() {
+            return None;
+        }
+        late_place(&mut self.seats, i, &mut self.pool)
+    }
+
+    /// Fetches the frame that the end at this place is to send now; `None` where it has none to send, and behind the last end.
+    pub fn next_out(&mut self, i: usize) -> Option<Lpdu>
+        requires { (ports : List Port) × EndsStandFor self.old ports }
+        ensures stands { (ports : List Port) → EndsStandFor self.old ports → EndsStandFor self.new (at_place i has_sent ports) }
+        ensures answer { (ports : List Port) → EndsStandFor self.old ports → result ≡ frame_at (slice_get ports i) }
+    {
+        if i >= self.seats.len() {
+            return None;
+        }
+        send_place(&mut self.seats, i, &self.pool)
+    }
+
+    /// The notice at the end at this place is one of a creation that was forgotten, where the session of the creation's asker has ended in
+    /// this step. Nothing changes behind the last end.
+    pub fn forget(&mut self, i: usize)
+        requires { (ports : List Port) × EndsStandFor self.old ports }
+        ensures { (ports : List Port) → EndsStandFor self.old ports → EndsStandFor self.new (at_place i (forgets ports) ports) }
+    {
+        if i >= self.seats.len() {
+            return;
+        }
+        let Some(asker) = asker_place(self.seats.as_slice(), i, &self.pool) else {
+            return;
+        };
+        if self.is_over(asker) {
+            forget_place(&mut self.seats, i, &self.pool);
         }
     }
 
@@ -183,7 +422,7 @@ fn set_aside_at(seats: &mut [Seat], i: usize, pool: &mut Pool, host: u8)
 
 fn release_at(seats: &mut [Seat], i: usize, pool: &mut Pool, host: u8)
     requires place { place_in host seats.old ≡ Some i }
-    requires stands { (ports : List Port) × AreEnds pool.old seats.old ports × HasAside (port_at ports host) }
+    requires stands { (ports : List Port) × AreEnds pool.old seats.old ports }
     ensures { (ports : List Port) → AreEnds pool.old seats.old ports → AreEnds pool.new seats.new (with_port host (after_turn Release) ports) }
 {
     seats[i].release(pool, 2 * i as u8);
@@ -193,7 +432,7 @@ fn set_notice_at(seats: &mut [Seat], i: usize, pool: &Pool, host: u8, notice: Op
     requires place { place_in host seats.old ≡ Some i }
     requires stands { (ports : List Port) × AreEnds pool.now seats.old ports }
     ensures { (ports : List Port) → AreEnds pool.now seats.old ports
-        → AreEnds pool.now seats.new (with_port host (λ p. record p { desk = record p.desk { notice = notice_of notice } }) ports) }
+        → AreEnds pool.now seats.new (with_port host (λ p. record p { desk = record p.desk { notice = option_map notice_shown notice } }) ports) }
 {
     seats[i].desk.notice = notice;
 }
@@ -208,7 +447,7 @@ fn give_back_at(seats: &mut [Seat], i: usize, pool: &mut Pool, host: u8)
 
 fn hold_at(seats: &mut [Seat], i: usize, pool: &Pool, host: u8, held: bool)
     requires place { place_in host seats.old ≡ Some i }
-    requires stands { (ports : List Port) × AreEnds pool.now seats.old ports × HasFewDue (port_at ports host) }
+    requires stands { (ports : List Port) × AreEnds pool.now seats.old ports × FewAreDue (port_at ports host) }
     ensures { (ports : List Port) → AreEnds pool.now seats.old ports → AreEnds pool.now seats.new (with_port host (after_turn (Hold held)) ports) }
 {
     seats[i].hold(held);
@@ -249,18 +488,121 @@ fn take_at(
     read: &Result<Control, LpduFault>,
 ) -> LinkReport
     requires place { place_in host seats.old ≡ Some i }
-    requires stands { (ports : List Port) × AreEnds pool.old seats.old ports × HasFewDue (port_at ports host) }
+    requires stands { (ports : List Port) × AreEnds pool.old seats.old ports × FewAreDue (port_at ports host) }
     requires held { AreHeld seats.old }
     requires read { (lpdu : List ℕ) × (read.now ≡ control_of lpdu) }
     ensures stands { (ports : List Port) (lpdu : List ℕ) → AreEnds pool.old seats.old ports → read.now ≡ control_of lpdu
         → AreEnds pool.new seats.new (with_port host (λ p. has_come p (Some (lpdu_input lpdu))) ports) }
     ensures answer { (ports : List Port) (lpdu : List ℕ) → AreEnds pool.old seats.old ports → read.now ≡ control_of lpdu
-        → IfSome (port_at ports host) (λ p. result ≡ report_told (report p.side (lpdu_input lpdu))) }
+        → Some result ≡ option_map (λ (p : Port). report_told (report p.side (lpdu_input lpdu))) (port_at ports host) }
 {
     let seat = &mut seats[i];
     let report = seat.take(pool, read);
-    seat.ended = report.ended.is_some();
+    seat.count(&report);
     report
+}
+
+// A reset is asked for at the end at this place.
+fn reset_at(
+    seats: &mut [Seat],
+    i: usize,
+    pool: &mut Pool,
+    host: u8,
+    window: Option<u8>,
+) -> Result<LinkReport, ResetRefused>
+    requires place { place_in host seats.old ≡ Some i }
+    requires stands { (ports : List Port) × AreEnds pool.old seats.old ports × FewAreDue (port_at ports host) }
+    requires window { IfSome window (λ w. (1 ≤ w) × (w ≤ 4)) }
+    ensures stands { (ports : List Port) → AreEnds pool.old seats.old ports
+        → AreEnds pool.new seats.new (with_port host (λ p. has_come p (Some (Reset window))) ports) }
+    ensures answer { (ports : List Port) → AreEnds pool.old seats.old ports → Some result
+        ≡ option_map (λ (p : Port). reset_told p.side window) (port_at ports host) }
+{
+    let seat = &mut seats[i];
+    let report = seat.reset(pool, window);
+    seat.count_reset(&report);
+    report
+}
+
+// Activation begins there.
+fn activate_at(seats: &mut [Seat], i: usize, pool: &mut Pool, host: u8, value: u16) -> LinkReport
+    requires place { place_in host seats.old ≡ Some i }
+    requires stands { (ports : List Port) × AreEnds pool.old seats.old ports × FewAreDue (port_at ports host) × MayStartAt value (port_at ports host) }
+    ensures stands { (ports : List Port) → AreEnds pool.old seats.old ports
+        → AreEnds pool.new seats.new (with_port host (λ p. has_come p (Some (Start value))) ports) }
+    ensures answer { (ports : List Port) → AreEnds pool.old seats.old ports → Some result
+        ≡ option_map (λ (p : Port). report_told (report p.side (Start value))) (port_at ports host) }
+{
+    let seat = &mut seats[i];
+    let report = seat.activate(pool, value);
+    seat.count(&report);
+    report
+}
+
+// Activation ends there.
+fn deactivate_at(seats: &mut [Seat], i: usize, pool: &mut Pool, host: u8) -> LinkReport
+    requires place { place_in host seats.old ≡ Some i }
+    requires stands { (ports : List Port) × AreEnds pool.old seats.old ports × FewAreDue (port_at ports host) }
+    ensures stands { (ports : List Port) → AreEnds pool.old seats.old ports
+        → AreEnds pool.new seats.new (with_port host (λ p. has_come p (Some Stop)) ports) }
+    ensures answer { (ports : List Port) → AreEnds pool.old seats.old ports → Some result
+        ≡ option_map (λ (p : Port). report_told (report p.side Stop)) (port_at ports host) }
+{
+    let seat = &mut seats[i];
+    let report = seat.deactivate(pool);
+    seat.count(&report);
+    report
+}
+
+// One tick there.
+fn tick_place(seats: &mut [Seat], i: usize, pool: &mut Pool) -> LinkReport
+    requires inside { i < length seats.old }
+    requires stands { (ports : List Port) × AreEnds pool.old seats.old ports × FewAreDue (slice_get ports i) }
+    ensures stands { (ports : List Port) → AreEnds pool.old seats.old ports
+        → AreEnds pool.new seats.new (at_place i (λ p. has_come p (Some Tick)) ports) }
+    ensures answer { (ports : List Port) → AreEnds pool.old seats.old ports
+        → Some result ≡ option_map (λ (p : Port). report_told (report p.side Tick)) (slice_get ports i) }
+{
+    let seat = &mut seats[i];
+    let report = seat.tick(pool);
+    seat.count(&report);
+    report
+}
+
+fn host_place(seats: &[Seat], i: usize, pool: &Pool) -> u8
+    requires inside { i < length seats.now }
+    requires stands { (ports : List Port) × AreEnds pool.now seats.now ports }
+    ensures { (ports : List Port) → AreEnds pool.now seats.now ports → Some result ≡ option_map (λ (p : Port). p.desk.host) (slice_get ports i) }
+{
+    seats[i].desk.host
+}
+
+fn acked_at(seats: &[Seat], i: usize, pool: &Pool, host: u8) -> u32
+    requires place { place_in host seats.now ≡ Some i }
+    requires stands { (ports : List Port) × AreEnds pool.now seats.now ports }
+    ensures { (ports : List Port) → AreEnds pool.now seats.now ports
+        → result ≡ option_map_or (λ (p : Port). kept_number (whole_acked p.side)) (port_at ports host) 0 }
+{
+    seats[i].acked
+}
+
+fn count_error_at(seats: &mut [Seat], i: usize, pool: &Pool, host: u8)
+    requires place { place_in host seats.old ≡ Some i }
+    requires stands { (ports : List Port) × AreEnds pool.now seats.old ports }
+    ensures { (ports : List Port) → AreEnds pool.now seats.old ports
+        → AreEnds pool.now seats.new (with_port host (λ p. record p { desk = record p.desk { errors = min 65535 (p.desk.errors + 1) } }) ports) }
+{
+    let seat = &mut seats[i];
+    seat.desk.errors = seat.desk.errors.saturating_add(1);
+}
+
+fn send_place(seats: &mut [Seat], i: usize, pool: &Pool) -> Option<Lpdu>
+    requires inside { i < length seats.old }
+    requires stands { (ports : List Port) × AreEnds pool.now seats.old ports }
+    ensures stands { (ports : List Port) → AreEnds pool.now seats.old ports → AreEnds pool.now seats.new (at_place i has_sent ports) }
+    ensures answer { (ports : List Port) → AreEnds pool.now seats.old ports → result ≡ frame_at (slice_get ports i) }
+{
+    seats[i].next_out(pool)
 }
 
 fn holds_at(seats: &[Seat], i: usize, pool: &Pool, host: u8) -> bool

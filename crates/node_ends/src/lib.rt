@@ -2,12 +2,12 @@
 //! they stand for the ports of its machine. All of it is this project's own.
 #![tactic(auto)]
 
-mod desk;
 mod ends;
 mod looking;
+mod new_seats;
 mod places;
 mod seat;
+mod timing;
 
-pub use desk::{About, Desk, Unanswered};
 pub use ends::Ends;
 pub use seat::Seat;

@@ -4,17 +4,17 @@ ghost use Rattle.node_machine.specs.Parts.{Port};
 ghost use Rattle.node_machine.specs.Carrying.{port_at, with_port};
 ghost use Rattle.node_ends.specs.Ends.{AreEnds, place_in, got_at, message_read};
 
-use crate::desk::Desk;
 use crate::ends::Ends;
 use crate::places::place_of;
 use crate::seat::Seat;
 use block_pool::Pool;
+use node_deeds::Desk;
 
 impl Ends {
     ghost use Rattle.std.specs.Prelude.{◌≡◌, ◌≤◌, List, IfSome, length, option_map, slice_get};
     ghost use Rattle.node_machine.specs.Parts.{Port};
     ghost use Rattle.node_machine.specs.Carrying.{port_at, with_port};
-    ghost use Rattle.node_ends.specs.Desks.{desk_of};
+    ghost use Rattle.node_deeds.specs.Shown.{desk_shown};
     ghost use Rattle.node_ends.specs.Ends.{EndsStandFor, got_at, message_read};
 
     /// Copies the message that waits at the end of the link with this host into the front of a buffer of 4,096 bytes. Its pipe, and
@@ -46,7 +46,7 @@ impl Ends {
     pub fn desk(&self, i: usize) -> Option<Desk>
         requires { (ports : List Port) × EndsStandFor self.now ports }
         ensures { (ports : List Port) → EndsStandFor self.now ports
-            → option_map desk_of result ≡ option_map (λ (p : Port). p.desk) (slice_get ports i) }
+            → option_map desk_shown result ≡ option_map (λ (p : Port). p.desk) (slice_get ports i) }
     {
         match self.seats.get(i) {
             Some(seat) => Some(seat.desk),

@@ -1,12 +1,12 @@
 //! One end of a link of a node, and what the node keeps of it.
 ghost use Rattle.std.specs.Prelude.{◌≡◌, option_map};
-ghost use Rattle.node_ends.specs.Holding.{as_waiting};
+ghost use Rattle.node_ends.specs.Holding.{as_waiting, where_done};
 
-use crate::desk::Desk;
 use block_pool::{Chain, Pool};
-use link_end::{LinkEnd, LinkReport};
+use link_end::{LinkEnd, LinkReport, ResetRefused};
+use node_deeds::{About, Desk, Unanswered};
 use shdlc_core::LinkState;
-use swp_base::Control;
+use swp_base::{Control, Lpdu};
 use swp_lpdu::LpduFault;
 
 /// A message that came to an end and had no turn yet.
@@ -25,10 +25,14 @@ pub struct Seat {
     /// Its session ended in this step, as the hundredth tick of a notice came or otherwise.
     pub(crate) late: bool,
     pub(crate) ended: bool,
+    /// How many messages of the session are acknowledged; 4,294,967,295 stands for any greater number.
+    pub(crate) acked: u32,
+    /// How many blocks for what goes out are set aside, at most 128.
+    pub(crate) aside: u8,
 }
 
 impl Seat {
-    ghost use Rattle.std.specs.Prelude.{◌≡◌, ◌≤◌, ◌<◌, ◌∷◌, [], ℕ, List, None, is_none, length, take, IfSome, IfNone};
+    ghost use Rattle.std.specs.Prelude.{◌≡◌, ◌||◌, ◌&&◌, not, true, false, ◌≤◌, ◌<◌, ◌∷◌, [], ℕ, List, None, is_none, is_some, length, take, IfSome, IfNone};
     ghost use Rattle.block_pool.specs.Pool.{PoolState};
     ghost use Rattle.hcp_packet.specs.Packets.{IsSendable};
     ghost use Rattle.link_machine.specs.Machine.{LinkEnd as Machine, turn, give_refusal, after_input, lpdu_input, report};
@@ -36,8 +40,16 @@ impl Seat {
     ghost use Rattle.link_end.specs.Reports.{report_told};
     ghost use Rattle.link_laws.specs.sessions.Sessions.{is_up};
     ghost use Rattle.link_machine.specs.Machine.Turn.{Give, Hold, SetAside, Release, FetchMessage};
+    ghost use Rattle.link_machine.specs.Machine.LinkInput.{Tick, Reset, Start, Stop};
+    ghost use Rattle.link_machine.specs.Machine.{next_frame, frame_fetched};
+    ghost use Rattle.swp_lpdu.specs.Controls.{lpdu_of};
+    ghost use Rattle.std.specs.Prelude.{option_map};
+    ghost use Rattle.link_end.specs.Roles.{MayStart};
+    ghost use Rattle.link_end.specs.Reports.{reset_told};
+    ghost use Rattle.swp_act.specs.declared.ActEvent.TheVariants.{Start as ActStart};
     ghost use Rattle.link_end.specs.Ends.{EndStandsFor, Accounts, controls_in};
-    ghost use Rattle.node_ends.specs.Holding.{HoldsSeat, Moves, WaitsHeld};
+    ghost use Rattle.node_ends.specs.Desks.{grown_older, kept_notice, has_hundred_ticks, asker_of, as_forgotten};
+    ghost use Rattle.node_ends.specs.Holding.{HoldsSeat, Moves, WaitsHeld, acked_since, acked_by_reset, ends_by, where_done};
 
     /// A message, which isn't empty, is given to the end to send on a pipe that isn't reserved. Whether it is taken.
     pub(crate) fn send(&mut self, pool: &mut Pool, pipe: u8, message: &[u8]) -> bool
@@ -66,27 +78,34 @@ impl Seat {
 
     /// A block of the end's owner for what goes out, which has this number, is set aside, where one is spare.
     pub(crate) fn set_aside(&mut self, pool: &mut Pool, owner: u8)
-        requires stands { (m : Machine) × HoldsSeat pool.old self.old m }
+        requires stands { (m : Machine) × HoldsSeat pool.old self.old m × (self.old.aside ≡ m.aside) }
         requires owner { self.old.side.link.outbox.owner ≡ owner }
         ensures stands { (m : Machine) → HoldsSeat pool.old self.old m → HoldsSeat pool.new self.new (turn m SetAside) }
+        ensures aside { (m : Machine) → HoldsSeat pool.old self.old m → self.old.aside ≡ m.aside → self.new.aside ≡ (turn m SetAside).aside }
         ensures moves { Moves pool.old pool.new self.old.side.link self.new.side.link }
-        ensures rest { self.new ≡ record self.old { side = self.new.side } }
+        ensures rest { self.new ≡ record self.old { side = self.new.side; aside = self.new.aside } }
     {
         match pool.set_aside(owner) {
-            Ok(()) => {}
+            Ok(()) => self.aside += 1,
             Err(_full) => {}
         }
     }
 
-    /// One that was set aside is free again.
+    /// One that was set aside, where one was, is free again.
     pub(crate) fn release(&mut self, pool: &mut Pool, owner: u8)
-        requires stands { (m : Machine) × HoldsSeat pool.old self.old m × (0 < m.aside) }
+        requires stands { (m : Machine) × HoldsSeat pool.old self.old m × (self.old.aside ≡ m.aside) }
         requires owner { self.old.side.link.outbox.owner ≡ owner }
-        ensures stands { (m : Machine) → HoldsSeat pool.old self.old m → HoldsSeat pool.new self.new (turn m Release) }
+        ensures stands { (m : Machine) → HoldsSeat pool.old self.old m → self.old.aside ≡ m.aside
+            → HoldsSeat pool.new self.new (turn m Release) }
+        ensures aside { (m : Machine) → self.old.aside ≡ m.aside → self.new.aside ≡ (turn m Release).aside }
         ensures moves { Moves pool.old pool.new self.old.side.link self.new.side.link }
-        ensures rest { self.new ≡ record self.old { side = self.new.side } }
+        ensures rest { self.new ≡ record self.old { side = self.new.side; aside = self.new.aside } }
     {
+        if self.aside == 0 {
+            return;
+        }
         pool.release(owner);
+        self.aside -= 1;
     }
 
     /// The message that waits has its turn: its blocks are given back.
@@ -150,6 +169,209 @@ impl Seat {
         self.waiting = as_waiting(self.side.next_message());
     }
 
+    /// One tick of time. At most six control frames wait to be sent.
+    pub(crate) fn tick(&mut self, pool: &mut Pool) -> LinkReport
+        requires stands { (m : Machine) × HoldsSeat pool.old self.old m }
+        requires room { controls_in self.old.side.link ≤ 6 }
+        ensures stands { (m : Machine) → HoldsSeat pool.old self.old m → HoldsSeat pool.new self.new (after_input m Tick) }
+        ensures answer { (m : Machine) → HoldsSeat pool.old self.old m → result ≡ report_told (report m Tick) }
+        ensures moves { Moves pool.old pool.new self.old.side.link self.new.side.link }
+        ensures rest { self.new ≡ record self.old { side = self.new.side } }
+    {
+        self.side.tick(pool)
+    }
+
+    /// A reset of the link is asked for, with this window, which is 1 to 4, or with the end's own one. At most six control frames wait
+    /// to be sent.
+    ///
+    /// # Errors
+    ///
+    /// `Inactive` where activation isn't done, and `Waiting` where the end waits already. Nothing changes then.
+    pub(crate) fn reset(
+        &mut self,
+        pool: &mut Pool,
+        window: Option<u8>,
+    ) -> Result<LinkReport, ResetRefused>
+        requires stands { (m : Machine) × HoldsSeat pool.old self.old m }
+        requires window { IfSome window (λ w. (1 ≤ w) × (w ≤ 4)) }
+        requires room { controls_in self.old.side.link ≤ 6 }
+        ensures stands { (m : Machine) → HoldsSeat pool.old self.old m → HoldsSeat pool.new self.new (after_input m (Reset window)) }
+        ensures answer { (m : Machine) → HoldsSeat pool.old self.old m → result ≡ reset_told m window }
+        ensures moves { Moves pool.old pool.new self.old.side.link self.new.side.link }
+        ensures rest { self.new ≡ record self.old { side = self.new.side } }
+    {
+        self.side.reset(pool, window)
+    }
+
+    /// Activation begins, with the sync identifier of a UICC or the power code of a CLF, which is 00 or 01. At most six control frames
+    /// wait to be sent.
+    pub(crate) fn activate(&mut self, pool: &mut Pool, value: u16) -> LinkReport
+        requires stands { (m : Machine) × HoldsSeat pool.old self.old m × MayStart m.role (ActStart value) }
+        requires room { controls_in self.old.side.link ≤ 6 }
+        ensures stands { (m : Machine) → HoldsSeat pool.old self.old m → HoldsSeat pool.new self.new (after_input m (Start value)) }
+        ensures answer { (m : Machine) → HoldsSeat pool.old self.old m → result ≡ report_told (report m (Start value)) }
+        ensures moves { Moves pool.old pool.new self.old.side.link self.new.side.link }
+        ensures rest { self.new ≡ record self.old { side = self.new.side } }
+    {
+        self.side.activate(pool, value)
+    }
+
+    /// Activation ends, and the link with it. At most six control frames wait to be sent.
+    pub(crate) fn deactivate(&mut self, pool: &mut Pool) -> LinkReport
+        requires stands { (m : Machine) × HoldsSeat pool.old self.old m }
+        requires room { controls_in self.old.side.link ≤ 6 }
+        ensures stands { (m : Machine) → HoldsSeat pool.old self.old m → HoldsSeat pool.new self.new (after_input m Stop) }
+        ensures answer { (m : Machine) → HoldsSeat pool.old self.old m → result ≡ report_told (report m Stop) }
+        ensures moves { Moves pool.old pool.new self.old.side.link self.new.side.link }
+        ensures rest { self.new ≡ record self.old { side = self.new.side } }
+    {
+        self.side.deactivate(pool)
+    }
+
+    /// What an input did to the session is kept.
+    pub(crate) fn count(&mut self, report: &LinkReport)
+        ensures { self.new ≡ record self.old { ended = is_some report.now.ended; acked = acked_since self.old.acked report.now } }
+    {
+        self.ended = report.ended.is_some();
+        if self.ended {
+            self.acked = 0;
+        }
+        self.acked = self.acked.saturating_add(u32::from(report.acked));
+    }
+
+    /// What the asking for a reset did to the session is kept.
+    pub(crate) fn count_reset(&mut self, told: &Result<LinkReport, ResetRefused>)
+        ensures { self.new ≡ record self.old { ended = ends_by told.now; acked = acked_by_reset self.old.acked told.now } }
+    {
+        match told {
+            Ok(report) => self.count(report),
+            Err(_why) => self.ended = false,
+        }
+    }
+
+    /// The notice that isn't answered is a tick older.
+    pub(crate) fn grow_older(&mut self)
+        requires { IfSome self.old.desk.notice (λ n. n.age < 255) }
+        ensures { self.new ≡ record self.old { desk = record self.old.desk { notice = grown_older self.old.desk.notice } } }
+    {
+        if let Some(Unanswered { about, age }) = self.desk.notice {
+            self.desk.notice = Some(Unanswered {
+                about,
+                age: age + 1,
+            });
+        }
+    }
+
+    /// Its session has ended in this step.
+    pub(crate) fn is_over(&self) -> bool
+        ensures { result ≡ self.now.ended || self.now.late }
+    {
+        self.ended || self.late
+    }
+
+    /// With its session the notice is answered no more.
+    pub(crate) fn drop_notice(&mut self)
+        ensures { self.new ≡ record self.old { desk = record self.old.desk { notice = kept_notice (self.old.ended || self.old.late) self.old.desk.notice } } }
+    {
+        if self.is_over() {
+            self.desk.notice = None;
+        }
+    }
+
+    /// A new step begins.
+    pub(crate) fn begin_step(&mut self)
+        ensures { self.new ≡ record self.old { late = false; ended = false } }
+    {
+        self.late = false;
+        self.ended = false;
+    }
+
+    /// The hundredth tick of the notice comes, and the session hasn't ended.
+    pub(crate) fn is_late(&self) -> bool
+        ensures { result ≡ (has_hundred_ticks self.now.desk.notice && not self.now.ended) }
+    {
+        match self.desk.notice {
+            Some(Unanswered { about: _, age }) => age >= 100 && !self.ended,
+            None => false,
+        }
+    }
+
+    /// What the reset of a late notice did is kept.
+    fn count_late(&mut self, told: &Result<LinkReport, ResetRefused>)
+        ensures { self.new ≡ record self.old { late = true; acked = acked_by_reset self.old.acked told.now } }
+    {
+        let ended = self.ended;
+        self.count_reset(told);
+        self.ended = ended;
+        self.late = true;
+    }
+
+    /// The link is reset, since its notice is late. At most six control frames wait to be sent. What is told of it; `None` where it is
+    /// refused.
+    pub(crate) fn reset_late(&mut self, pool: &mut Pool) -> Option<LinkReport>
+        requires stands { (m : Machine) × HoldsSeat pool.old self.old m }
+        requires room { controls_in self.old.side.link ≤ 6 }
+        ensures stands { (m : Machine) → HoldsSeat pool.old self.old m → HoldsSeat pool.new self.new (after_input m (Reset None)) }
+        ensures answer { (m : Machine) → HoldsSeat pool.old self.old m → result ≡ where_done (reset_told m None) }
+        ensures acked { (m : Machine) → HoldsSeat pool.old self.old m → self.new.acked ≡ acked_by_reset self.old.acked (reset_told m None) }
+        ensures moves { Moves pool.old pool.new self.old.side.link self.new.side.link }
+        ensures rest { self.new ≡ record self.old { side = self.new.side; late = true; acked = self.new.acked } }
+    {
+        let told = self.reset(pool, None);
+        self.count_late(&told);
+        done(told)
+    }
+
+    /// Fetches the frame that is to be sent now. None where nothing is to be sent.
+    pub(crate) fn next_out(&mut self, pool: &Pool) -> Option<Lpdu>
+        requires { (m : Machine) × HoldsSeat pool.now self.old m }
+        ensures stands { (m : Machine) → HoldsSeat pool.now self.old m → HoldsSeat pool.now self.new (frame_fetched m) }
+        ensures answer { (m : Machine) → HoldsSeat pool.now self.old m → result ≡ option_map lpdu_of (next_frame m) }
+        ensures moves { Moves pool.now pool.now self.old.side.link self.new.side.link }
+        ensures rest { self.new ≡ record self.old { side = self.new.side } }
+    {
+        self.side.next_out(pool)
+    }
+
+    /// The asker of the creation that waits.
+    pub(crate) fn asker(&self) -> Option<u8>
+        ensures { result ≡ asker_of self.now.desk.notice }
+    {
+        match &self.desk.notice {
+            Some(
+                Unanswered {
+                    about: About::Waits(row),
+                    age: _,
+                },
+            ) => Some(row.creator),
+            Some(
+                Unanswered {
+                    about: About::Forgotten,
+                    age: _,
+                },
+            ) => None,
+            Some(
+                Unanswered {
+                    about: About::Removed,
+                    age: _,
+                },
+            ) => None,
+            None => None,
+        }
+    }
+
+    /// The notice is one of a creation that was forgotten.
+    pub(crate) fn forget(&mut self)
+        ensures { self.new ≡ record self.old { desk = record self.old.desk { notice = as_forgotten self.old.desk.notice } } }
+    {
+        if let Some(Unanswered { about: _, age }) = self.desk.notice {
+            self.desk.notice = Some(Unanswered {
+                about: About::Forgotten,
+                age,
+            });
+        }
+    }
+
     /// Whether the link is up.
     pub(crate) fn is_up(&self) -> bool
         ensures { (pool : PoolState) (m : Machine) → HoldsSeat pool self.now m → result ≡ is_up m.shdlc.phase }
@@ -159,6 +381,16 @@ impl Seat {
             LinkState::Waiting => false,
             LinkState::Down => false,
         }
+    }
+}
+
+// What is told of a reset that is done.
+fn done(told: Result<LinkReport, ResetRefused>) -> Option<LinkReport>
+    ensures { result ≡ where_done told }
+{
+    match told {
+        Ok(report) => Some(report),
+        Err(_why) => None,
     }
 }
 

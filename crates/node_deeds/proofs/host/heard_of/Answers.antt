@@ -6,7 +6,7 @@ use Rattle.gate_loopback.specs.Loopback.{posts_back}
 use Rattle.node_machine.specs.Parts.Deed.{Sends}
 use Rattle.node_machine.specs.HostReplies.{is_gate}
 use Rattle.node_deeds.specs.Pipes.{gate_in}
-use Rattle.node_deeds.specs.Hosts.{host_core, init_kept, heard_deeds, host_kind_deeds}
+use Rattle.node_deeds.specs.Hosts.{host_core, init_running, heard_deeds, host_kind_deeds}
 use Rattle.node_deeds.proofs.host.heard_of.Goals as goal
 
 pub returns-in-Ok-Event-default-clause-deeds : goal.returns-in-Ok-Event-default-clause-deeds
@@ -15,7 +15,7 @@ returns-in-Ok-Event-default-clause-deeds g c =
     let d = c.args.desk.now in
     let pipe = c.args.pipe in
     let message = c.args.message.now in
-    let init = init_kept c.args.tasks.now.init in
+    let init = init_running c.args.tasks.now.init in
     let arm = c.in-Ok-Event-default in
     let header = sym c.read_header.ensures.header ∙ (arm.is ∙ ap (λ kind. Ok (kind, arm._instruction)) arm.field-0-0-is) in
     c.posted.ensures.deeds init
@@ -28,7 +28,7 @@ returns-then-pipe-eq-ADMINISTRATION_PIPE-clause-deeds g c =
     let d = c.args.desk.now in
     let pipe = c.args.pipe in
     let message = c.args.message.now in
-    let init = init_kept c.args.tasks.now.init in
+    let init = init_running c.args.tasks.now.init in
     let order = c.args.tasks.now.command in
     let core = host_core d.host s.journal.state s.tables init in
     let arm = c.in-Ok-Response-default in

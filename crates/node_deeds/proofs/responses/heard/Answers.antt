@@ -4,7 +4,7 @@ use Rattle.node_machine.specs.Parts.Deed.{Hears}
 use Rattle.node_machine.specs.HostReplies.{init_deeds}
 use Rattle.node_deeds.specs.declared.inits.Init.{Init as KeptInit}
 use Rattle.node_deeds.specs.Shown.{deeds_shown, init_shown}
-use Rattle.node_deeds.specs.Hosts.{init_kept, host_core, handled_by, learned_of, heard_deeds}
+use Rattle.node_deeds.specs.Hosts.{init_running, host_core, handled_by, learned_of, heard_deeds}
 use Rattle.node_deeds.proofs.responses.heard.Goals as goal
 
 pub returns-in-Some-init-clause-deeds : goal.returns-in-Some-init-clause-deeds
@@ -25,8 +25,8 @@ returns-in-Some-init-clause-deeds g c = λ pipe message.
     (c.learn_if_ok.ensures.deeds a (Some i) ∙ ap (λ items. deeds_shown a items ++ learns) c.only-deeds.ensures)
     ∙ ap (heard_deeds core code value) (sym c.in-Some.is))) in
     subst
-    (λ (o : Option KeptInit). deeds_shown (handled_by host (init_kept o) pipe message) c.go_on.new.deeds.items
-    ≡ heard_deeds (host_core host s.journal.state s.tables (init_kept o)) code value c.args.tasks.now.command)
+    (λ (o : Option KeptInit). deeds_shown (handled_by host (init_running o) pipe message) c.go_on.new.deeds.items
+    ≡ heard_deeds (host_core host s.journal.state s.tables (init_running o)) code value c.args.tasks.now.command)
     (sym c.in-Some-init.is) at
 
 pub returns-in_default-init-clause-deeds : goal.returns-in_default-init-clause-deeds
@@ -43,6 +43,6 @@ returns-in_default-init-clause-deeds g c = λ pipe message.
     ∙ (ap (λ items. deeds_shown a items ++ learns) c.only-deeds.ensures
     ∙ (sym (append-nil (Hears ∷ learns)) ∙ ap (heard_deeds core code value) (sym c.in-Some.is))) in
     subst
-    (λ (o : Option KeptInit). deeds_shown (handled_by host (init_kept o) pipe message) c.learn_if_ok.new.deeds.items
-    ≡ heard_deeds (host_core host s.journal.state s.tables (init_kept o)) code value c.args.tasks.now.command)
+    (λ (o : Option KeptInit). deeds_shown (handled_by host (init_running o) pipe message) c.learn_if_ok.new.deeds.items
+    ≡ heard_deeds (host_core host s.journal.state s.tables (init_running o)) code value c.args.tasks.now.command)
     (sym c.in_default-init.is) at

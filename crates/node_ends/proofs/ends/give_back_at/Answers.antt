@@ -19,9 +19,11 @@ pub returns : goal.returns
 returns c ports e =
     turns_so {x = FetchMessage} {d = c.index-seats-i.result} {t = c.give_back.new.self} ports (record {
       place = c.requires.place;
+      sendable = tt;
       moves = c.give_back.ensures.moves;
       desk = ap (λ (s : Seat). s.desk) c.give_back.ensures.rest;
       late = ap (λ (s : Seat). s.late) c.give_back.ensures.rest;
       ended = ap (λ (s : Seat). s.ended) c.give_back.ensures.rest;
-      stands = c.give_back.ensures.stands;
+      acked = ap (λ (s : Seat). s.acked) c.give_back.ensures.rest;
+      stands = λ m h same. (c.give_back.ensures.stands m h, ap (λ (s : Seat). s.aside) c.give_back.ensures.rest ∙ same);
     }) e

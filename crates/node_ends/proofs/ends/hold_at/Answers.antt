@@ -1,5 +1,5 @@
-use Rattle.std.proofs.Common.{arith, subst}
-use Rattle.node_ends.specs.Ends.{HasFewDue}
+use Rattle.std.proofs.Common.{arith, refl, subst}
+use Rattle.node_ends.specs.Ends.{FewAreDue}
 use Rattle.link_machine.specs.Machine.Turn.{Hold}
 use Rattle.node_ends.proofs.Moving.{few_controls}
 use Rattle.node_ends.proofs.Changing.{within, turns, reads}
@@ -14,13 +14,15 @@ bounds-seats-i c = (within c.args.host c.args.i c.requires.place c.requires.stan
 pub hold-requires : goal.hold-requires
 hold-requires c =
     let r = reads c.args.host c.args.i c.index-seats-i.result c.requires.place c.requires.stands.1 in
-    record { room = few_controls c.args.pool.now _ r.port.side r.stands.holds.stands (subst (λ o. HasFewDue o) r.port_is c.requires.stands.2) }
+    record { room = few_controls c.args.pool.now _ r.port.side r.stands.holds.stands (subst (λ o. FewAreDue o) r.port_is c.requires.stands.2) }
 
 pub returns : goal.returns
 returns c ports e =
     turns {x = Hold c.args.held} {d = c.index-seats-i.result} {t = c.hold.new.self} ports (record {
       place = c.requires.place;
+      sendable = tt;
       moves = c.hold.ensures.moves c.args.pool.now;
       rest = c.hold.ensures.rest;
+      aside = λ m. refl;
       stands = c.hold.ensures.stands c.args.pool.now;
     }) e

@@ -1,7 +1,7 @@
-use Rattle.std.proofs.Common.{arith, subst}
-use Rattle.node_ends.specs.Ends.{HasAside}
+use Rattle.std.proofs.Common.{ap, arith}
+use Rattle.node_ends.specs.declared.seat.Seat.{Seat}
 use Rattle.link_machine.specs.Machine.Turn.{Release}
-use Rattle.node_ends.proofs.Changing.{within, turns, reads, owner_is}
+use Rattle.node_ends.proofs.Changing.{within, turns_so, reads, owner_is}
 use Rattle.node_ends.proofs.ends.release_at.Goals as goal
 
 pub offset_bounds-seats-i : goal.offset_bounds-seats-i
@@ -13,7 +13,7 @@ bounds-seats-i c = (within c.args.host c.args.i c.requires.place c.requires.stan
 pub release-requires-clause-stands : goal.release-requires-clause-stands
 release-requires-clause-stands c =
     let r = reads c.args.host c.args.i c.index-seats-i.result c.requires.place c.requires.stands.1 in
-    (r.port.side, r.stands.holds, subst (λ o. HasAside o) r.port_is c.requires.stands.2)
+    (r.port.side, r.stands.holds, r.stands.aside)
 
 pub release-requires-clause-owner : goal.release-requires-clause-owner
 release-requires-clause-owner c = owner_is c.args.host c.args.i c.index-seats-i.result c.requires.place c.requires.stands.1
@@ -26,9 +26,13 @@ overflow_mul-i c = let w = within c.args.host c.args.i c.requires.place c.requir
 
 pub returns : goal.returns
 returns c ports e =
-    turns {x = Release} {d = c.index-seats-i.result} {t = c.release.new.self} ports (record {
+    turns_so {x = Release} {d = c.index-seats-i.result} {t = c.release.new.self} ports (record {
       place = c.requires.place;
+      sendable = tt;
       moves = c.release.ensures.moves;
-      rest = c.release.ensures.rest;
-      stands = c.release.ensures.stands;
+      desk = ap (λ (s : Seat). s.desk) c.release.ensures.rest;
+      late = ap (λ (s : Seat). s.late) c.release.ensures.rest;
+      ended = ap (λ (s : Seat). s.ended) c.release.ensures.rest;
+      acked = ap (λ (s : Seat). s.acked) c.release.ensures.rest;
+      stands = λ m h same. (c.release.ensures.stands m h same, c.release.ensures.aside m same);
     }) e

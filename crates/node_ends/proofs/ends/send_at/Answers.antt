@@ -2,6 +2,7 @@ use Rattle.std.proofs.Common.{sym, ap, ◌∙◌, arith}
 use Rattle.link_machine.specs.Machine.Turn.{Give}
 use Rattle.node_ends.specs.Ends.{takes_at}
 use Rattle.node_ends.proofs.Changing.{within, turns, reads}
+use Rattle.node_ends.proofs.Blocks.{give_aside}
 use Rattle.node_ends.proofs.ends.send_at.Goals as goal
 
 pub offset_bounds-seats-i : goal.offset_bounds-seats-i
@@ -19,8 +20,10 @@ pub returns-clause-stands : goal.returns-clause-stands
 returns-clause-stands c ports e =
     turns {x = Give (c.args.pipe, c.args.message.now)} {d = c.index-seats-i.result} ports (record {
       place = c.requires.place;
+      sendable = (c.requires.sendable, tt);
       moves = c.send.ensures.moves;
       rest = c.send.ensures.rest;
+      aside = λ m. give_aside m (c.args.pipe, c.args.message.now);
       stands = c.send.ensures.stands;
     }) e
 

@@ -1,6 +1,7 @@
-use Rattle.std.proofs.Common.{arith}
+use Rattle.std.proofs.Common.{ap, arith}
+use Rattle.node_ends.specs.declared.seat.Seat.{Seat}
 use Rattle.link_machine.specs.Machine.Turn.{SetAside}
-use Rattle.node_ends.proofs.Changing.{within, turns, reads, owner_is}
+use Rattle.node_ends.proofs.Changing.{within, turns_so, reads, owner_is}
 use Rattle.node_ends.proofs.ends.set_aside_at.Goals as goal
 
 pub offset_bounds-seats-i : goal.offset_bounds-seats-i
@@ -12,7 +13,7 @@ bounds-seats-i c = (within c.args.host c.args.i c.requires.place c.requires.stan
 pub set_aside-requires-clause-stands : goal.set_aside-requires-clause-stands
 set_aside-requires-clause-stands c =
     let r = reads c.args.host c.args.i c.index-seats-i.result c.requires.place c.requires.stands.1 in
-    (r.port.side, r.stands.holds)
+    (r.port.side, r.stands.holds, r.stands.aside)
 
 pub set_aside-requires-clause-owner : goal.set_aside-requires-clause-owner
 set_aside-requires-clause-owner c = owner_is c.args.host c.args.i c.index-seats-i.result c.requires.place c.requires.stands.1
@@ -25,9 +26,13 @@ overflow_mul-i c = let w = within c.args.host c.args.i c.requires.place c.requir
 
 pub returns : goal.returns
 returns c ports e =
-    turns {x = SetAside} {d = c.index-seats-i.result} {t = c.set_aside.new.self} ports (record {
+    turns_so {x = SetAside} {d = c.index-seats-i.result} {t = c.set_aside.new.self} ports (record {
       place = c.requires.place;
+      sendable = tt;
       moves = c.set_aside.ensures.moves;
-      rest = c.set_aside.ensures.rest;
-      stands = c.set_aside.ensures.stands;
+      desk = ap (λ (s : Seat). s.desk) c.set_aside.ensures.rest;
+      late = ap (λ (s : Seat). s.late) c.set_aside.ensures.rest;
+      ended = ap (λ (s : Seat). s.ended) c.set_aside.ensures.rest;
+      acked = ap (λ (s : Seat). s.acked) c.set_aside.ensures.rest;
+      stands = λ m h same. (c.set_aside.ensures.stands m h, c.set_aside.ensures.aside m h same);
     }) e

@@ -19,6 +19,8 @@ returns c ports e =
       waiting = refl;
       late = refl;
       ended = refl;
+      acked = refl;
+      aside = refl;
       host = refl;
       desk = refl;
     }) e

@@ -1,5 +1,6 @@
 use Rattle.std.proofs.Common.{arith, refl}
-use Rattle.node_ends.specs.Desks.{notice_of}
+use Rattle.std.specs.Prelude.{option_map}
+use Rattle.node_deeds.specs.Shown.{notice_shown}
 use Rattle.node_ends.proofs.Changing.{within, sets_desk}
 use Rattle.node_ends.proofs.ends.set_notice_at.Goals as goal
 
@@ -14,12 +15,14 @@ bounds-seats-i-2 c = (within c.args.host c.args.i c.requires.place c.requires.st
 
 pub returns : goal.returns
 returns c ports e =
-    sets_desk {f = λ d. record d { notice = notice_of c.args.notice }} {d = c.index-seats-i.result} ports (record {
+    sets_desk {f = λ d. record d { notice = option_map notice_shown c.args.notice }} {d = c.index-seats-i.result} ports (record {
       place = c.requires.place;
       side = refl;
       waiting = refl;
       late = refl;
       ended = refl;
+      acked = refl;
+      aside = refl;
       host = refl;
       desk = refl;
     }) e

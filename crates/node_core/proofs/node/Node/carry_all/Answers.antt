@@ -2,9 +2,9 @@ use Rattle.std.proofs.Common.{◌≡◌, ◌+◌, true, not, List, ◌∷◌, ma
 use Rattle.link_machine.specs.Machine.{Message}
 use Rattle.node_machine.specs.Carrying.{done}
 use Rattle.node_deeds.specs.declared.deeds.Deed.{Deed}
-use Rattle.node_core.specs.Nodes.{IsUnderWay}
+use Rattle.node_core.specs.Nodes.{IsInStep}
 use Rattle.node_core.specs.Bringing.{Brings}
-use Rattle.node_core.specs.Deeds.{deed_of, AreDoable}
+use Rattle.node_core.specs.Deeds.{deed_of, AreDoableInTurn}
 use Rattle.node_core.proofs.Steps.{GoesOn, goes_on, goes_no_further, all_gone, doable_then, split_at, none_left}
 use Rattle.node_core.proofs.node.Node.carry_all.Goals as goal
 
@@ -16,10 +16,12 @@ returns-then-not-carry_out-clause-carried g c start w u =
     let m : Message = (c.args.pipe, c.args.message.now) in
     let P : List Deed → Type 0 = λ l. GoesOn g.N.Nv.writes c.args.self.now c.loop-deed.self (g.W.Watch.noted c.loop-deed.watch)
     (g.W.Watch.is_short c.loop-deed.watch) start (map (deed_of m) l) (map (deed_of m) deeds) c.args.host w in
-    let split : drop i deeds ≡ d ∷ drop (i + 1) deeds = split_at deeds i d c.loop-deed-test.true ∙ ap (λ (x : Deed). x ∷ drop (i + 1) deeds) (sym c.deed-item.is) in
+    let split : drop i deeds ≡ d ∷ drop (i + 1) deeds = split_at deeds i d c.loop-deed-test.true
+    ∙ ap (λ (x : Deed). x ∷ drop (i + 1) deeds) (sym c.deed-item.is) in
     let k : P (d ∷ drop (i + 1) deeds) = subst P split (c.loop-deed.invariant.goes start w u) in
     let b : Brings g.N.Nv.writes c.loop-deed.self.store.journal.nv c.carry_out.new.self.store.journal.nv
-    (IsUnderWay c.carry_out.new.self (g.W.Watch.noted c.carry_out.new.watch) (g.W.Watch.is_short c.carry_out.new.watch) start) (done c.args.host (deed_of m d)) k.now = c.carry_out.ensures.carried start k.now k.under in
+    (IsInStep c.carry_out.new.self (g.W.Watch.noted c.carry_out.new.watch) (g.W.Watch.is_short c.carry_out.new.watch) start)
+    (done c.args.host (deed_of m d)) k.now = c.carry_out.ensures.carried start k.now k.under in
     goes_no_further k b (b.stands.power ∙ ap not (sym c.carry_out.ensures.live ∙ c.if-not-carry_out.true))
 
 pub loop-deed-preserved : goal.loop-deed-preserved
@@ -28,13 +30,15 @@ loop-deed-preserved g c =
     let i = c.loop-deed.deed-index in
     let d : Deed = c.deed-item.result in
     let m : Message = (c.args.pipe, c.args.message.now) in
-    let split : drop i deeds ≡ d ∷ drop (i + 1) deeds = split_at deeds i d c.loop-deed-test.true ∙ ap (λ (x : Deed). x ∷ drop (i + 1) deeds) (sym c.deed-item.is) in
+    let split : drop i deeds ≡ d ∷ drop (i + 1) deeds = split_at deeds i d c.loop-deed-test.true
+    ∙ ap (λ (x : Deed). x ∷ drop (i + 1) deeds) (sym c.deed-item.is) in
     let on : c.carry_out.new.self.store.journal.live ≡ true = sym c.carry_out.ensures.live ∙ c.if-not-carry_out.false in
     let a = c.loop-deed.invariant.doable in
-    let D : List Deed → Type 0 = λ l. AreDoable c.args.host m l a.1 in
+    let D : List Deed → Type 0 = λ l. AreDoableInTurn c.args.host m l a.1 in
     let doable : D (d ∷ drop (i + 1) deeds) = subst D split a.3 in
     let b : Brings g.N.Nv.writes c.loop-deed.self.store.journal.nv c.carry_out.new.self.store.journal.nv
-    (IsUnderWay c.carry_out.new.self (g.W.Watch.noted c.carry_out.new.watch) (g.W.Watch.is_short c.carry_out.new.watch) a.0) (done c.args.host (deed_of m d)) a.1 = c.carry_out.ensures.carried a.0 a.1 a.2 in
+    (IsInStep c.carry_out.new.self (g.W.Watch.noted c.carry_out.new.watch) (g.W.Watch.is_short c.carry_out.new.watch) a.0)
+    (done c.args.host (deed_of m d)) a.1 = c.carry_out.ensures.carried a.0 a.1 a.2 in
     record {
       runs = c.carry_out.ensures.runs;
       live = on;
@@ -44,7 +48,8 @@ loop-deed-preserved g c =
           (g.W.Watch.is_short c.loop-deed.watch) start (map (deed_of m) l) (map (deed_of m) deeds) c.args.host w in
           let k : P (d ∷ drop (i + 1) deeds) = subst P split (c.loop-deed.invariant.goes start w u) in
           let e : Brings g.N.Nv.writes c.loop-deed.self.store.journal.nv c.carry_out.new.self.store.journal.nv
-          (IsUnderWay c.carry_out.new.self (g.W.Watch.noted c.carry_out.new.watch) (g.W.Watch.is_short c.carry_out.new.watch) start) (done c.args.host (deed_of m d)) k.now = c.carry_out.ensures.carried start k.now k.under in
+          (IsInStep c.carry_out.new.self (g.W.Watch.noted c.carry_out.new.watch) (g.W.Watch.is_short c.carry_out.new.watch) start)
+          (done c.args.host (deed_of m d)) k.now = c.carry_out.ensures.carried start k.now k.under in
           goes_on k e (e.stands.power ∙ ap not on);
     }
 

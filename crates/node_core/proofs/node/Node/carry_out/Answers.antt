@@ -5,14 +5,14 @@ use Rattle.link_machine.specs.Machine.Turn.{Give}
 use Rattle.node_machine.specs.Parts.About.{Removed}
 use Rattle.node_machine.specs.Parts.Deed.{Sends, SaysOk, Asks, Releases, Tells, IsAnswered, Drops, SetsErrors}
 use Rattle.node_machine.specs.Carrying.{done, turn_at, notified}
-use Rattle.node_ends.specs.Desks.{creation_of}
+use Rattle.node_deeds.specs.Shown.{creation_of_row}
 use Rattle.node_core.specs.declared.node.Node.{Node}
-use Rattle.node_core.specs.Nodes.{IsUnderWay}
+use Rattle.node_core.specs.Nodes.{IsInStep}
 use Rattle.node_deeds.specs.declared.deeds.Deed.TheVariants as kept
 use Rattle.link_machine.specs.Machine.{Message}
 use Rattle.node_machine.specs.Parts.{Work}
 use Rattle.node_deeds.specs.declared.deeds.Deed.{Deed}
-use Rattle.node_core.specs.Deeds.{IsDoable}
+use Rattle.node_core.specs.Deeds.{IsDoableNow}
 use Rattle.node_core.proofs.Steps.{plainly, desk_changed, of_deed}
 use Rattle.node_core.proofs.node.Node.carry_out.Goals as goal
 
@@ -25,7 +25,7 @@ returns-in-PassesOn-clause-carried g c start w u =
 pub returns-in-Sends-clause-carried : goal.returns-in-Sends-clause-carried
 returns-in-Sends-clause-carried g c start w u =
     let s = c.send-in-Sends in
-    let P : List ℕ → Type 0 = λ bytes. IsUnderWay s.new.self (g.W.Watch.noted s.new.watch) (g.W.Watch.is_short s.new.watch) start
+    let P : List ℕ → Type 0 = λ bytes. IsInStep s.new.self (g.W.Watch.noted s.new.watch) (g.W.Watch.is_short s.new.watch) start
     (turn_at c.in-Sends.to (Give (c.in-Sends.on, bytes)) w) in
     of_deed c.args.host (c.args.pipe, c.args.message.now) c.args.deed.now (kept.Sends c.in-Sends.to c.in-Sends.on c.in-Sends.answer) c.in-Sends.is
     (plainly g.N.Nv.writes (done c.args.host (Sends c.in-Sends.to (c.in-Sends.on, c.in-Sends.answer.items))) u c.requires.live s.ensures.store
@@ -40,7 +40,8 @@ returns-in-SaysOk-clause-carried g c start w u =
 pub returns-in-Asks-clause-carried : goal.returns-in-Asks-clause-carried
 returns-in-Asks-clause-carried g c start w u =
     of_deed c.args.host (c.args.pipe, c.args.message.now) c.args.deed.now (kept.Asks c.in-Asks.row) c.in-Asks.is
-    (plainly g.N.Nv.writes (done c.args.host (Asks c.in-Asks.row.dest (18 ∷ ends_of c.in-Asks.row) (creation_of c.in-Asks.row))) u c.requires.live c.ask.ensures.store
+    (plainly g.N.Nv.writes (done c.args.host (Asks c.in-Asks.row.dest (18 ∷ ends_of c.in-Asks.row) (creation_of_row c.in-Asks.row)))
+    u c.requires.live c.ask.ensures.store
     (c.ask.ensures.carried start w u) refl refl (λ plan. refl))
 
 pub returns-in-Releases-clause-carried : goal.returns-in-Releases-clause-carried
@@ -52,7 +53,7 @@ returns-in-Releases-clause-carried g c start w u =
 pub returns-in-Tells-clause-carried : goal.returns-in-Tells-clause-carried
 returns-in-Tells-clause-carried g c start w u =
     let s = c.notify in
-    let P : List ℕ → Type 0 = λ bytes. IsUnderWay s.new.self (g.W.Watch.noted s.new.watch) (g.W.Watch.is_short s.new.watch) start
+    let P : List ℕ → Type 0 = λ bytes. IsInStep s.new.self (g.W.Watch.noted s.new.watch) (g.W.Watch.is_short s.new.watch) start
     (notified c.in-Tells.to Removed bytes w) in
     of_deed c.args.host (c.args.pipe, c.args.message.now) c.args.deed.now (kept.Tells c.in-Tells.to c.in-Tells.told) c.in-Tells.is
     (plainly g.N.Nv.writes (done c.args.host (Tells c.in-Tells.to c.in-Tells.told.items)) u c.requires.live s.ensures.store
@@ -76,8 +77,8 @@ returns-in-SetsErrors-clause-carried g c start w u =
     (plainly g.N.Nv.writes (done c.args.host (SetsErrors c.in-SetsErrors.errors)) u c.requires.live refl
     (desk_changed c.args.host (λ d. record d { errors = c.in-SetsErrors.errors }) u (c.set_errors.ensures w.ports u.ends)) refl refl (λ plan. refl))
 
-no_deed : {P : Type 0} (m : Message) (d other : Deed) (w : Work) → d ≡ other → IsDoable m d w → (IsDoable m other w → ⊥) → P
-no_deed m d other w is may none = let D : Deed → Type 0 = λ x. IsDoable m x w in absurd (none (subst D is may))
+no_deed : {P : Type 0} (m : Message) (d other : Deed) (w : Work) → d ≡ other → IsDoableNow m d w → (IsDoableNow m other w → ⊥) → P
+no_deed m d other w is may none = let D : Deed → Type 0 = λ x. IsDoableNow m x w in absurd (none (subst D is may))
 
 pub returns-in-Orders-clause-carried : goal.returns-in-Orders-clause-carried
 returns-in-Orders-clause-carried g c start w u =

@@ -10,7 +10,7 @@ use Rattle.node_deeds.specs.declared.deeds.Deed.{Deed}
 use Rattle.node_deeds.specs.Cores.{handled}
 use Rattle.node_deeds.specs.Room.{lack_shown}
 use Rattle.node_ends.specs.Ends.{got_at, message_read}
-use Rattle.node_core.specs.Nodes.{IsUnderWay}
+use Rattle.node_core.specs.Nodes.{IsInStep}
 use Rattle.node_core.specs.Bringing.{Brings}
 use Rattle.node_core.specs.Deeds.{deed_of}
 use Rattle.node_core.specs.Turning.{IsDecided}
@@ -21,9 +21,10 @@ use Rattle.node_core.proofs.node.Node.have_turns.Goals as goal
 pub returns-in_default-clause-carried : goal.returns-in_default-clause-carried
 returns-in_default-clause-carried g c start w u may =
     let h = c.args.host in
-    let none = c.read.ensures.waits w.ports u.ends ∙ ap (λ (o : Option (ℕ × ℕ)). message_read o c.read.new.buffer) (no_some c.read.result c.in_default.not-Some) in
+    let none = c.read.ensures.waits w.ports u.ends
+    ∙ ap (λ (o : Option (ℕ × ℕ)). message_read o c.read.new.buffer) (no_some c.read.result c.in_default.not-Some) in
     let P : List Message → Type 0 = λ ms. Brings g.N.Nv.writes c.args.self.now.store.journal.nv c.let_go.new.self.store.journal.nv
-    (IsUnderWay c.let_go.new.self (g.W.Watch.noted c.args.watch.now) (g.W.Watch.is_short c.args.watch.now) start) (have_turns h ms) w in
+    (IsInStep c.let_go.new.self (g.W.Watch.noted c.args.watch.now) (g.W.Watch.is_short c.args.watch.now) start) (have_turns h ms) w in
     subst P (sym none)
     (plainly g.N.Nv.writes {n2 = c.let_go.new.self} (lets_go h) u c.requires.live c.let_go.ensures.store
     (c.let_go.ensures.carried _ _ start w u (c.holds-held.ensures w.ports u.ends ∙ may.held_is)) (let_cut h w) (let_writes h w) (let_anyway h w))
@@ -46,14 +47,16 @@ take_turn-requires-clause-decided g c =
     let told : map (deed_of m) deeds ≡ controller_deeds w.core w.ports h m =
     c.controller_deeds-deeds.ensures.deeds w.core w.ports (record { journal = k.journal; tables = k.tables }) may.seen in
     let long : length bytes ≡ c.in-Some.len =
-    (let a = length-take c.in-Some.len c.read.new.buffer in let b = c.in-Some.ensures.inside in let n = c.requires.buffer in let l = c.read.auto.buffer in omega (arith, a, b, n, l)) in
+    (let a = length-take c.in-Some.len c.read.new.buffer in let b = c.in-Some.ensures.inside in let n = c.requires.buffer in
+    let l = c.read.auto.buffer in omega (arith, a, b, n, l)) in
     let L : List Deed → Type 0 = λ ds. option_map lack_shown c.lack-short.result ≡ lack w.ports (needs h (map (deed_of m) ds)) in
     let lacks : L deeds = subst L c.as_slice.ensures.value (c.lack-short.ensures (handled pipe bytes) w.ports long may.spares_are) in
     let D : List Deed → Type 0 = λ ds. IsDecided h m ds c.lack-short.result c.holds-held.result w in
     let d : D c.as_slice-2.result.now = subst D (sym c.as_slice-2.ensures.value)
-    (decided h pipe c.args.up bytes c.args.desks.now c.args.spares.now deeds c.lack-short.result c.holds-held.result w (u.node ∙ c.requires.controller) may got told
+    (decided h pipe c.args.up bytes c.args.desks.now c.args.spares.now deeds c.lack-short.result c.holds-held.result w
+    (u.node ∙ c.requires.controller) may got told
     c.controller_deeds-deeds.ensures.doable lacks (c.holds-held.ensures w.ports u.ends)) in
-    let U : Stored g.row.N.Denot → Type 0 = λ s. IsUnderWay (record c.args.self.now { store = s }) (g.W.Watch.noted c.args.watch.now)
+    let U : Stored g.row.N.Denot → Type 0 = λ s. IsInStep (record c.args.self.now { store = s }) (g.W.Watch.noted c.args.watch.now)
     (g.W.Watch.is_short c.args.watch.now) start w in
     let v = subst U (sym c.controller_deeds-deeds.ensures.unchanged) u in
     (start, w, v, d)
@@ -71,18 +74,20 @@ returns-clause-carried g c start w u may =
     let told : map (deed_of m) deeds ≡ controller_deeds w.core w.ports h m =
     c.controller_deeds-deeds.ensures.deeds w.core w.ports (record { journal = k.journal; tables = k.tables }) may.seen in
     let long : length bytes ≡ c.in-Some.len =
-    (let a = length-take c.in-Some.len c.read.new.buffer in let b = c.in-Some.ensures.inside in let n = c.requires.buffer in let l = c.read.auto.buffer in omega (arith, a, b, n, l)) in
+    (let a = length-take c.in-Some.len c.read.new.buffer in let b = c.in-Some.ensures.inside in let n = c.requires.buffer in
+    let l = c.read.auto.buffer in omega (arith, a, b, n, l)) in
     let L : List Deed → Type 0 = λ ds. option_map lack_shown c.lack-short.result ≡ lack w.ports (needs h (map (deed_of m) ds)) in
     let lacks : L deeds = subst L c.as_slice.ensures.value (c.lack-short.ensures (handled pipe bytes) w.ports long may.spares_are) in
     let D : List Deed → Type 0 = λ ds. IsDecided h m ds c.lack-short.result c.holds-held.result w in
     let d : D c.as_slice-2.result.now = subst D (sym c.as_slice-2.ensures.value)
-    (decided h pipe c.args.up bytes c.args.desks.now c.args.spares.now deeds c.lack-short.result c.holds-held.result w (u.node ∙ c.requires.controller) may got told
+    (decided h pipe c.args.up bytes c.args.desks.now c.args.spares.now deeds c.lack-short.result c.holds-held.result w
+    (u.node ∙ c.requires.controller) may got told
     c.controller_deeds-deeds.ensures.doable lacks (c.holds-held.ensures w.ports u.ends)) in
-    let U : Stored g.row.N.Denot → Type 0 = λ s. IsUnderWay (record c.args.self.now { store = s }) (g.W.Watch.noted c.args.watch.now)
+    let U : Stored g.row.N.Denot → Type 0 = λ s. IsInStep (record c.args.self.now { store = s }) (g.W.Watch.noted c.args.watch.now)
     (g.W.Watch.is_short c.args.watch.now) start w in
     let v = subst U (sym c.controller_deeds-deeds.ensures.unchanged) u in
     let P : List Message → Type 0 = λ ms. Brings g.N.Nv.writes c.args.self.now.store.journal.nv c.take_turn.new.self.store.journal.nv
-    (IsUnderWay c.take_turn.new.self (g.W.Watch.noted c.take_turn.new.watch) (g.W.Watch.is_short c.take_turn.new.watch) start) (have_turns h ms) w in
+    (IsInStep c.take_turn.new.self (g.W.Watch.noted c.take_turn.new.watch) (g.W.Watch.is_short c.take_turn.new.watch) start) (have_turns h ms) w in
     let Q : Stored g.row.N.Denot → Type 0 = λ s. Brings g.N.Nv.writes s.journal.nv c.take_turn.new.self.store.journal.nv
-    (IsUnderWay c.take_turn.new.self (g.W.Watch.noted c.take_turn.new.watch) (g.W.Watch.is_short c.take_turn.new.watch) start) (have_turns h (m ∷ [])) w in
+    (IsInStep c.take_turn.new.self (g.W.Watch.noted c.take_turn.new.watch) (g.W.Watch.is_short c.take_turn.new.watch) start) (have_turns h (m ∷ [])) w in
     subst P (sym got) (subst Q c.controller_deeds-deeds.ensures.unchanged (c.take_turn.ensures.carried start w v d))

@@ -1,7 +1,7 @@
 use Rattle.std.proofs.Common.{refl, true, subst}
 use Rattle.link_machine.specs.Machine.Turn.{Hold}
 use Rattle.node_machine.specs.Parts.{Work}
-use Rattle.node_core.specs.Nodes.{IsUnderWay}
+use Rattle.node_core.specs.Nodes.{IsInStep}
 use Rattle.node_core.specs.Handling.{is_noted_held}
 use Rattle.node_core.proofs.Steps.{silent_turn}
 use Rattle.node_core.proofs.Holding.{held_so, few_held}
@@ -17,7 +17,7 @@ pub returns-clause-carried : goal.returns-clause-carried
 returns-clause-carried g c start w u =
     let v : Work = is_noted_held c.args.host (c.args.need, c.args.spare) w in
     let n = c.note_held.ensures.carried start w u in
-    let P : Work → Type 0 = λ x. IsUnderWay (record c.note_held.new.self { ends = c.hold.new.self }) (g.W.Watch.noted c.note_held.new.watch)
+    let P : Work → Type 0 = λ x. IsInStep (record c.note_held.new.self { ends = c.hold.new.self }) (g.W.Watch.noted c.note_held.new.watch)
     (g.W.Watch.is_short c.note_held.new.watch) start x in
     subst P (held_so c.args.host (c.args.need, c.args.spare) w)
     (silent_turn {ends = c.hold.new.self} c.args.host (Hold true) (λ p. refl) n (c.hold.ensures v.ports n.ends))

@@ -2,7 +2,7 @@ use Rattle.std.specs.Prelude.{Some}
 use Rattle.link_machine.specs.Machine.Turn.{Give}
 use Rattle.node_machine.specs.Parts.{Work}
 use Rattle.node_machine.specs.Carrying.{turn_at}
-use Rattle.node_ends.specs.Desks.{about_of}
+use Rattle.node_deeds.specs.Shown.{about_shown}
 use Rattle.node_core.proofs.Steps.{desk_changed}
 use Rattle.node_core.proofs.node.Node.notify.Goals as goal
 
@@ -10,5 +10,5 @@ pub returns-clause-carried : goal.returns-clause-carried
 returns-clause-carried g c start w u =
     let sent = c.send.ensures.carried start w u in
     let after : Work = turn_at c.args.host (Give (1, c.args.message.now)) w in
-    desk_changed c.args.host (λ d. record d { notice = Some (record { about = about_of c.args.about; age = 0 }) }) sent
+    desk_changed c.args.host (λ d. record d { notice = Some (record { about = about_shown c.args.about; age = 0 }) }) sent
     (c.set_notice.ensures after.ports sent.ends)

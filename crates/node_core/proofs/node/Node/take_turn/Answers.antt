@@ -4,7 +4,7 @@ use Rattle.node_deeds.specs.Room.{lack_shown}
 use Rattle.node_core.specs.Bringing.{Brings}
 use Rattle.node_machine.specs.Turns.{handles, holds_back, lets_go}
 use Rattle.link_machine.specs.Machine.{Message}
-use Rattle.node_core.specs.Nodes.{IsUnderWay}
+use Rattle.node_core.specs.Nodes.{IsInStep}
 use Rattle.node_core.specs.Deeds.{deed_of}
 use Rattle.node_core.proofs.Joining.{brings_then}
 use Rattle.node_core.proofs.Steps.{plainly}
@@ -30,7 +30,7 @@ let_go-requires-clause-few g c =
     let h = c.args.host in
     let m : Message = (c.args.pipe, c.args.message.now) in
     let b : Brings g.N.Nv.writes c.args.self.now.store.journal.nv c.handle.new.self.store.journal.nv
-    (IsUnderWay c.handle.new.self (g.W.Watch.noted c.handle.new.watch) (g.W.Watch.is_short c.handle.new.watch) r.0)
+    (IsInStep c.handle.new.self (g.W.Watch.noted c.handle.new.watch) (g.W.Watch.is_short c.handle.new.watch) r.0)
     (handles h m (map (deed_of m) c.args.deeds.now)) r.1 = c.handle.ensures.carried r.0 r.1 r.2 in
     let on : c.handle.new.self.store.journal.live ≡ true = sym c.handle.ensures.live ∙ c.if-not-handle.false in (
       b.after.ports,
@@ -45,7 +45,7 @@ returns-clause-carried g c start w u d =
     let m : Message = (c.args.pipe, c.args.message.now) in
     let deeds = map (deed_of m) c.args.deeds.now in
     let b : Brings g.N.Nv.writes c.args.self.now.store.journal.nv c.handle.new.self.store.journal.nv
-    (IsUnderWay c.handle.new.self (g.W.Watch.noted c.handle.new.watch) (g.W.Watch.is_short c.handle.new.watch) start)
+    (IsInStep c.handle.new.self (g.W.Watch.noted c.handle.new.watch) (g.W.Watch.is_short c.handle.new.watch) start)
     (handles h m deeds) w = c.handle.ensures.carried start w u in
     let on : c.handle.new.self.store.journal.live ≡ true = sym c.handle.ensures.live ∙ c.if-not-handle.false in
     let power = b.stands.power ∙ ap not on in

@@ -13,4 +13,6 @@ returns-in_default-clause-stands c ports e =
 pub returns-in_default-clause-answer : goal.returns-in_default-clause-answer
 returns-in_default-clause-answer c ports e =
     let f = after_turn (Give (c.args.pipe, c.args.message.now)) in
-    ap (takes_at (c.args.pipe, c.args.message.now)) (sym (nowhere c.args.host f c.place_of.result (c.place_of.ensures.place ∙ ap (place_in c.args.host) c.as_slice.ensures.value) c.in_default.not-Some e).1)
+    ap (takes_at (c.args.pipe, c.args.message.now))
+    (sym (nowhere c.args.host f c.place_of.result (c.place_of.ensures.place ∙ ap (place_in c.args.host) c.as_slice.ensures.value)
+    c.in_default.not-Some e).1)

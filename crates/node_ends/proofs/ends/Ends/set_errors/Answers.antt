@@ -6,5 +6,6 @@ use Rattle.node_ends.proofs.ends.Ends.set_errors.Goals as goal
 
 pub returns-in_default : goal.returns-in_default
 returns-in_default c ports e =
-    (nowhere c.args.host (λ (p : Port). record p { desk = record p.desk { errors = c.args.errors } }) c.place_of.result (c.place_of.ensures.place ∙ ap (place_in c.args.host) c.as_slice.ensures.value)
+    (nowhere c.args.host (λ (p : Port). record p { desk = record p.desk { errors = c.args.errors } }) c.place_of.result
+    (c.place_of.ensures.place ∙ ap (place_in c.args.host) c.as_slice.ensures.value)
     c.in_default.not-Some e).0

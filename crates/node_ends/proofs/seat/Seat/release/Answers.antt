@@ -1,7 +1,8 @@
-use Rattle.std.proofs.Common.{ℕ, ◌-◌, ◌<◌, length, sym, subst, arith}
+use Rattle.std.proofs.Common.{ℕ, ◌-◌, ◌<◌, length, refl, sym, ap, ◌∙◌, subst, arith}
 use Rattle.block_pool.specs.Pool.{used_of, aside_of}
 use Rattle.node_ends.specs.Holding.{without_got}
-use Rattle.node_ends.proofs.Setting.{Counts, released_holds, counted_moves}
+use Rattle.node_ends.proofs.Moving.{stays_beside}
+use Rattle.node_ends.proofs.Setting.{Counts, released_holds, none_released, counted_moves}
 use Rattle.node_ends.proofs.seat.Seat.release.Goals as goal
 
 pub release-requires-clause-quota : goal.release-requires-clause-quota
@@ -14,17 +15,21 @@ release-requires-clause-aside c =
     let P : ℕ → Type 0 = λ n. 0 < aside_of c.args.pool.now n in
     let a = c.requires.stands.1.stands.halfway.aside in
     let b = c.requires.stands.2 in
-    subst P c.requires.owner (omega (arith, a, b))
+    let some = c.if-self-aside-eq0.false in
+    subst P c.requires.owner (omega (arith, a, b, some))
 
 pub returns-clause-stands : goal.returns-clause-stands
-returns-clause-stands c m h =
+returns-clause-stands c m h same =
     let old = c.args.pool.now in
     let new = c.release.new.self in
-    let a = c.requires.stands.1.stands.halfway.aside in
-    let b = c.requires.stands.2 in
+    let a = h.stands.halfway.aside in
+    let some = c.if-self-aside-eq0.false in
     let Q : ℕ → Type 0 = λ n. Counts old new n (used_of old n - 1) (aside_of old n - 1) in
-    released_holds old new c.args.self.now.side.link c.args.self.now.waiting m h (omega (arith, a, b))
+    released_holds old new c.args.self.now.side.link c.args.self.now.waiting m h (omega (arith, a, same, some))
     (subst Q (sym c.requires.owner) (record { slots = c.release.ensures.slots; owners = c.release.ensures.owners }))
+
+pub returns-clause-aside : goal.returns-clause-aside
+returns-clause-aside c m same = ap (λ n. n - 1) same
 
 pub returns-clause-moves : goal.returns-clause-moves
 returns-clause-moves c =
@@ -34,3 +39,15 @@ returns-clause-moves c =
     let Q : ℕ → Type 0 = λ n. Counts old new n (used_of old n - 1) (aside_of old n - 1) in
     counted_moves old new c.args.self.now.side.link (without_got c.requires.stands.0) (used_of old o - 1) (aside_of old o - 1)
     c.requires.stands.1.stands (subst Q (sym c.requires.owner) (record { slots = c.release.ensures.slots; owners = c.release.ensures.owners }))
+
+pub returns-then-self-aside-eq0-clause-stands : goal.returns-then-self-aside-eq0-clause-stands
+returns-then-self-aside-eq0-clause-stands c m h same =
+    none_released c.args.pool.now c.args.self.now.side.link c.args.self.now.waiting m (sym same ∙ c.if-self-aside-eq0.true) h
+
+pub returns-then-self-aside-eq0-clause-aside : goal.returns-then-self-aside-eq0-clause-aside
+returns-then-self-aside-eq0-clause-aside c m same = let none = c.if-self-aside-eq0.true in omega (arith, same, none)
+
+pub returns-then-self-aside-eq0-clause-moves : goal.returns-then-self-aside-eq0-clause-moves
+returns-then-self-aside-eq0-clause-moves c =
+    let k = c.args.self.now.side.link in
+    stays_beside c.args.pool.now k k refl refl

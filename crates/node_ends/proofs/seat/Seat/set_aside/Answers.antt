@@ -1,10 +1,10 @@
-use Rattle.std.proofs.Common.{ℕ, ◌+◌, ◌<◌, length, refl, sym, subst}
+use Rattle.std.proofs.Common.{ℕ, ◌+◌, ◌<◌, length, refl, sym, ap, ◌∙◌, subst, arith}
 use Rattle.std.proofs.lemmas.Bool.{true≢false}
 use Rattle.block_pool.specs.Pool.{PoolState, spare_of, used_of, aside_of}
 use Rattle.link_machine.specs.Machine.{LinkEnd as Machine}
 use Rattle.node_ends.specs.Holding.{HoldsEnd, Moves, without_got}
 use Rattle.node_ends.proofs.Moving.{stays_beside}
-use Rattle.node_ends.proofs.Setting.{Counts, set_holds, set_refused, counted_moves}
+use Rattle.node_ends.proofs.Setting.{Counts, set_holds, set_refused, set_counts, few_aside, counted_moves}
 use Rattle.node_ends.proofs.seat.Seat.set_aside.Goals as goal
 
 pub set_aside-requires : goal.set_aside-requires
@@ -46,3 +46,23 @@ returns-in-Err-clause-moves c =
     let k = c.args.self.now.side.link in
     let A : PoolState → Type 0 = λ p. Moves c.args.pool.now p k k in
     subst A (sym c.in-Err.ensures.err) (stays_beside c.args.pool.now k k refl refl)
+
+pub overflow_add-self-aside : goal.overflow_add-self-aside
+overflow_add-self-aside c =
+    let low = few_aside c.args.pool.now c.args.self.now.side.link c.requires.stands.0 c.requires.stands.1.stands in
+    let same = c.requires.stands.2 in
+    omega (arith, low, same)
+
+pub returns-in-Ok-clause-aside : goal.returns-in-Ok-clause-aside
+returns-in-Ok-clause-aside c m h same =
+    let old = c.args.pool.now in
+    let P : ℕ → Type 0 = λ n. 0 < spare_of old n in
+    ap (λ n. n + 1) same
+    ∙ sym (set_counts old c.args.self.now.side.link m h.stands (subst P (sym c.requires.owner) (c.in-Ok.ensures.room.0 refl)))
+
+pub returns-in-Err-clause-aside : goal.returns-in-Err-clause-aside
+returns-in-Err-clause-aside c m h same =
+    let k = c.args.self.now.side.link in
+    let P : ℕ → Type 0 = λ n. 0 < spare_of c.args.pool.now n in
+    same ∙ sym (ap (λ (x : Machine). x.aside) (set_refused c.args.pool.now k m h.stands
+    (λ s. true≢false (sym (c.in-Err.ensures.room.1 (subst P c.requires.owner s))))))

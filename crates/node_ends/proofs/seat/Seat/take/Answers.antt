@@ -45,7 +45,8 @@ returns-else-is_none-clause-stands c m lpdu h is =
     let W : Option Waiting → Type 0 = λ o. WaitsHeld o k in
     let Q : Option Waiting → Type 0 = λ o. HoldsEnd t.new.pool t.new.self.link o (after_input m (lpdu_input lpdu)) in
     subst Q (sym some.1)
-    (waits_still c.args.pool.now t.new.pool k t.new.self.link some.0 m lpdu (subst P some.1 h) (held_gets_none m lpdu (sym h.stands.halfway.link.kept.ready ∙ subst W some.1 c.requires.held))
+    (waits_still c.args.pool.now t.new.pool k t.new.self.link some.0 m lpdu (subst P some.1 h)
+    (held_gets_none m lpdu (sym h.stands.halfway.link.kept.ready ∙ subst W some.1 c.requires.held))
     (lpdu_is_outside lpdu) t.ensures.elsewhere (t.ensures.stands (without_got m) lpdu h.stands is))
 
 pub returns-else-is_none-clause-answer : goal.returns-else-is_none-clause-answer

@@ -1,0 +1,52 @@
+-- What comes to an end and brings no message leaves the one that waits there.
+use Rattle.std.proofs.Common.{◌≡◌, ℕ, true, refl, [], ◌++◌, ap, ◌∙◌, subst, append-nil}
+use Rattle.std.specs.Prelude.{Option, None, Some, ◌-◌, is_some}
+use Rattle.block_pool.specs.Pool.{PoolState}
+use Rattle.link_machine.specs.Machine.{LinkEnd as Machine, LinkInput, Refused, after_input, got_by, report, whole_acked, reset_refusal, ended_by}
+use Rattle.link_machine.specs.Machine.LinkInput.{Tick, Reset, Start, Stop}
+use Rattle.link_end.specs.Reports.{report_told, reset_told}
+use Rattle.link_end.specs.declared.«end».End.{End}
+use Rattle.link_end.specs.Ends.{EndStandsFor, EndLeavesOthers}
+use Rattle.node_ends.specs.declared.seat.Waiting.{Waiting}
+use Rattle.node_ends.specs.Holding.{HoldsEnd, without_got, ends_by}
+use Rattle.node_ends.proofs.Apart.{with_got, is_outside, input_apart}
+use Rattle.node_ends.proofs.Moving.{call_holds}
+
+-- an input that brings none leaves what waits
+pub still_holds : (old new : PoolState) (k after : End) (waiting : Option Waiting) (m : Machine) (i : LinkInput) → HoldsEnd old k waiting m
+    → got_by m i ≡ [] → is_outside i ≡ true → EndLeavesOthers old new k after
+    → EndStandsFor after new (after_input (without_got m) i) → HoldsEnd new after waiting (after_input m i)
+still_holds old new k after waiting m i h none out leaves stands =
+    let before : after_input (without_got m) i ≡ without_got (after_input m i) =
+    input_apart m [] i out ∙ ap (λ l. with_got l (after_input m i)) none in
+    let all : after_input m i ≡ with_got m.got (after_input m i) =
+    input_apart m m.got i out ∙ (ap (λ l. with_got (m.got ++ l) (after_input m i)) none ∙ ap (λ l. with_got l (after_input m i)) (append-nil m.got)) in
+    call_holds old new k after waiting m (after_input m i) h leaves (subst (λ n. EndStandsFor after new n) before stands)
+    (ap (λ (x : Machine). x.got) all)
+
+-- ## What is told
+
+pub tick_told_apart : (m : Machine) → report_told (report (without_got m) Tick) ≡ report_told (report m Tick)
+tick_told_apart m = ap (λ (x : Machine). record (report_told (report m Tick)) { acked = whole_acked x - whole_acked m }) (input_apart m [] Tick refl)
+
+pub start_told_apart : (m : Machine) (value : ℕ) → report_told (report (without_got m) (Start value)) ≡ report_told (report m (Start value))
+start_told_apart m value =
+    ap (λ (x : Machine). record (report_told (report m (Start value))) { acked = whole_acked x - whole_acked m }) (input_apart m [] (Start value) refl)
+
+pub stop_told_apart : (m : Machine) → report_told (report (without_got m) Stop) ≡ report_told (report m Stop)
+stop_told_apart m = ap (λ (x : Machine). record (report_told (report m Stop)) { acked = whole_acked x - whole_acked m }) (input_apart m [] Stop refl)
+
+pub reset_told_apart : (m : Machine) (window : Option ℕ) → reset_told (without_got m) window ≡ reset_told m window
+reset_told_apart m window = by (reset_refusal m) refl
+  where
+    by : (o : Option Refused) → reset_refusal m ≡ o → reset_told (without_got m) window ≡ reset_told m window
+    by None q = rw q refl
+    by (Some why) q = rw q refl
+
+-- a reset that is told ends the session where the definition says so
+pub reset_ends : (m : Machine) (window : Option ℕ) → ends_by (reset_told m window) ≡ is_some (ended_by m (Reset window))
+reset_ends m window = by (reset_refusal m) refl
+  where
+    by : (o : Option Refused) → reset_refusal m ≡ o → ends_by (reset_told m window) ≡ is_some (ended_by m (Reset window))
+    by None q = rw q refl
+    by (Some why) q = rw q refl

@@ -1,0 +1,226 @@
+-- How many messages of the session of an end are acknowledged, as it is kept, from input to input.
+use Rattle.std.proofs.Common.{◌≡◌, ℕ, ◌+◌, ◌-◌, ◌<◌, ◌≤◌, Bool, true, false, cond, List, [], ◌∷◌, ◌++◌, length, refl, ap, sym, subst, ◌∙◌, arith}
+use Rattle.std.proofs.lemmas.Bool.{true≢false}
+use Rattle.std.specs.Prelude.{Option, Some, None, Result, Ok, Err, is_some, min}
+use Rattle.shdlc_core.specs.declared.answers.LinkState.{LinkState}
+use Rattle.hcp_packet.specs.Packets.{IsSendable, packet_count}
+use Rattle.swp_base.specs.declared.control_frames.Control.{Control}
+use Rattle.swp_lpdu.specs.Controls.{control_of}
+use Rattle.swp_lpdu.specs.declared.LpduFault.{LpduFault}
+use Rattle.link_machine.specs.Machine.{LinkEnd as Machine, LinkInput, Turn, Message, Refused, Report, report, after_input, after_inputs, ended_by}
+use Rattle.link_machine.specs.Machine.{began_by, whole_among}
+use Rattle.link_machine.specs.Machine.{whole_acked, turn, give_refusal, aside_refusal, new_link_end, lpdu_input, reset_refusal, reset_by, window_of, if_up}
+use Rattle.link_machine.specs.Machine.LinkInput.{Take, TakeUnknown, TakeBroken, Tick, Reset, Start, Stop, FromNode, Fetch}
+use Rattle.link_machine.specs.Machine.Turn.{Give, Hold, FetchMessage, SetAside, Release}
+use Rattle.link_machine.specs.Laws.{AreSendableInputs}
+use Rattle.link_machine.proofs.Runs.{Sound, sound, parted}
+use Rattle.link_machine.proofs.Shifts.{Shift}
+use Rattle.link_machine.proofs.Shifts.Shift.{Stays, Ends, Renews, Begins, Rests}
+use Rattle.link_machine.proofs.Sound.{SentAfter, whole_more, whole_given}
+use Rattle.link_machine.proofs.Reports.{Reports, take_so, reset_so}
+use Rattle.link_end.specs.declared.report.LinkReport.{LinkReport}
+use Rattle.link_end.specs.Reports.{report_told, nothing_told, reset_told}
+use Rattle.link_end.specs.declared.report.ResetRefused.{ResetRefused}
+use Rattle.swp_base.specs.declared.link_terms.Cause.TheVariants.{Asked}
+use Rattle.shdlc_core.specs.declared.answers.LinkState.TheVariants.{Down, Waiting, Up}
+use Rattle.node_ends.specs.Holding.{IsReached, kept_number, acked_since, acked_by_reset}
+
+pub is_sound : (m : Machine) → IsReached m → Sound m
+is_sound m r = let P : Machine → Type 0 = λ e. Sound e in subst P (sym r.is) (sound r.role r.inputs r.sendable)
+
+after-append : (e : Machine) (is js : List LinkInput) → after_inputs e (is ++ js) ≡ after_inputs (after_inputs e is) js
+after-append e [] js = refl
+after-append e (i ∷ is) js = after-append (after_input e i) is js
+
+joined : (i : LinkInput) (is : List LinkInput) → AreSendableInputs (i ∷ []) → AreSendableInputs is → AreSendableInputs (i ∷ is)
+joined (FromNode (Give m)) is a b = (a.0, b)
+joined (FromNode (Hold h)) is a b = b
+joined (FromNode FetchMessage) is a b = b
+joined (FromNode SetAside) is a b = b
+joined (FromNode Release) is a b = b
+joined (Take c) is a b = b
+joined TakeUnknown is a b = b
+joined (TakeBroken fault) is a b = b
+joined Tick is a b = b
+joined (Reset window) is a b = b
+joined (Start v) is a b = b
+joined Stop is a b = b
+joined Fetch is a b = b
+
+sendable-append : (is js : List LinkInput) → AreSendableInputs is → AreSendableInputs js → AreSendableInputs (is ++ js)
+sendable-append [] js a b = b
+sendable-append (i ∷ is) js a b = let p = parted i is a in joined i (is ++ js) p.0 (sendable-append is js p.1 b)
+
+-- an end that was reached is reached after one input more
+pub reached_on : (m : Machine) (i : LinkInput) → AreSendableInputs (i ∷ []) → IsReached m → IsReached (after_input m i)
+reached_on m i a r = record {
+  role = r.role;
+  inputs = r.inputs ++ i ∷ [];
+  sendable = sendable-append r.inputs (i ∷ []) r.sendable a;
+  is = ap (λ e. after_input e i) r.is ∙ sym (after-append (new_link_end r.role) r.inputs (i ∷ []));
+}
+
+pub reached_lpdu : (m : Machine) (lpdu : List ℕ) → IsReached m → IsReached (after_input m (lpdu_input lpdu))
+reached_lpdu m lpdu r = reached_on m (lpdu_input lpdu) (by (control_of lpdu) refl) r
+  where
+    by : (o : Result Control LpduFault) → control_of lpdu ≡ o → AreSendableInputs (lpdu_input lpdu ∷ [])
+    by (Ok c) q = rw q tt
+    by (Err fault) q = rw q tt
+
+-- ## Turns
+
+-- a message that is given isn't acknowledged
+given_acked : (m : Machine) (x : Message) → IsSendable x → Sound m → whole_acked (turn m (Give x)) ≡ whole_acked m
+given_acked m x s h = by (give_refusal m x) refl
+  where
+    count : 0 < packet_count (length x.1)
+    count = let l = s.1 in omega (arith, l)
+
+    whole : whole_among (m.sent ++ x ∷ []) m.shdlc.session.acked ≡ whole_acked m
+    whole =
+        let len = ap (λ (xs : List (List ℕ)). length xs) h.is.out in
+        let i = h.is.acked in let r = h.is.reached in
+        whole_given m.sent x m.shdlc.session.acked count (omega (arith, len, i, r))
+
+    by : (o : Option Refused) → give_refusal m x ≡ o → whole_acked (turn m (Give x)) ≡ whole_acked m
+    by None q = rw q whole
+    by (Some why) q = rw q refl
+
+held_acked : (m : Machine) (held : Bool) → whole_acked (turn m (Hold held)) ≡ whole_acked m
+held_acked m held = go m.shdlc.ready held m.shdlc.session.answered_rnr refl refl refl
+  where
+    go : (was hold noted : Bool) → m.shdlc.ready ≡ was → held ≡ hold → m.shdlc.session.answered_rnr ≡ noted
+        → whole_acked (turn m (Hold held)) ≡ whole_acked m
+    go true true noted p q n = rw (p, q) refl
+    go true false noted p q n = rw (p, q) refl
+    go false true noted p q n = rw (p, q) refl
+    go false false true p q n = rw (p, q, n) refl
+    go false false false p q n = rw (p, q, n) refl
+
+aside_acked : (m : Machine) → whole_acked (turn m SetAside) ≡ whole_acked m
+aside_acked m = by (aside_refusal m) refl
+  where
+    by : (o : Option Refused) → aside_refusal m ≡ o → whole_acked (turn m SetAside) ≡ whole_acked m
+    by None q = rw q refl
+    by (Some why) q = rw q refl
+
+-- what a node does to an end acknowledges none
+pub turn_acked : (m : Machine) (t : Turn) → AreSendableInputs (FromNode t ∷ []) → IsReached m → whole_acked (turn m t) ≡ whole_acked m
+turn_acked m (Give x) a r = given_acked m x a.0 (is_sound m r)
+turn_acked m (Hold held) a r = held_acked m held
+turn_acked m FetchMessage a r = refl
+turn_acked m SetAside a r = aside_acked m
+turn_acked m Release a r = refl
+
+-- ## Inputs
+
+acked_by : (e f : Machine) (ended began : Bool) → Sound e → Shift e.shdlc f.shdlc ended began → SentAfter ended e f
+    → kept_number (cond ended 0 (kept_number (whole_acked e)) + (whole_acked f - whole_acked e)) ≡ kept_number (whole_acked f)
+acked_by e f ended began h shift sent = go shift
+  where
+    Is : Bool → Type 0
+    Is x = kept_number (cond x 0 (kept_number (whole_acked e)) + (whole_acked f - whole_acked e)) ≡ kept_number (whole_acked f)
+
+    without : (x : Machine) → x.sent ≡ [] → whole_acked x ≡ 0
+    without x q = rw q refl
+
+    sent_true : (x : Bool) → x ≡ true → SentAfter x e f → f.sent ≡ []
+    sent_true true z s = s
+    sent_true false z s = absurd (true≢false (sym z))
+
+    sent_false : (x : Bool) → x ≡ false → SentAfter x e f → f.sent ≡ e.sent
+    sent_false false z s = s
+    sent_false true z s = absurd (true≢false z)
+
+    over : ended ≡ true → Is ended
+    over p = subst Is (sym p) (at (whole_acked e) (whole_acked f) (without f (sent_true ended p sent)))
+      where
+        at : (a b : ℕ) → b ≡ 0 → min (0 + (b - a)) 4294967295 ≡ min b 4294967295
+        at a b q = omega (arith, q)
+
+    fresh : ended ≡ false → e.sent ≡ [] → Is ended
+    fresh p q =
+        let none = without f (sent_false ended p sent ∙ q) in
+        let old = without e q in
+        subst Is (sym p) (at (whole_acked e) (whole_acked f) old none)
+      where
+        at : (a b : ℕ) → a ≡ 0 → b ≡ 0 → min (min a 4294967295 + (b - a)) 4294967295 ≡ min b 4294967295
+        at a b q r = omega (arith, q, r)
+
+    go : Shift e.shdlc f.shdlc ended began → Is ended
+    go (Stays p q g) =
+        let same = sent_false ended p sent in
+        let now : whole_acked f ≡ whole_among e.sent f.shdlc.session.acked = ap (λ ms. whole_among ms f.shdlc.session.acked) same in
+        subst Is (sym p) (at (whole_acked e) (whole_acked f)
+        (let z = whole_more e.sent e.shdlc.session.acked f.shdlc.session.acked g.low in omega (arith, z, now)))
+      where
+        at : (a b : ℕ) → a ≤ b → min (min a 4294967295 + (b - a)) 4294967295 ≡ min b 4294967295
+        at a b q = omega (arith, q)
+    go (Ends p q up still s) = over p
+    go (Renews p q up new) = over p
+    go (Begins p q not new) = fresh p (h.is.forgot not)
+    go (Rests p q not still s) = fresh p (h.is.forgot not)
+
+pub input_acked : (e : Machine) (i : LinkInput) → IsReached e → (Sound e → Reports e i)
+    → acked_since (kept_number (whole_acked e)) (report_told (report e i)) ≡ kept_number (whole_acked (after_input e i))
+input_acked e i r reports =
+    let h = is_sound e r in
+    let b = reports h in
+    acked_by e (after_input e i) (is_some (ended_by e i)) (began_by e i) h b.shift b.sent
+
+pub lpdu_acked : (e : Machine) (lpdu : List ℕ) → IsReached e
+    → acked_since (kept_number (whole_acked e)) (report_told (report e (lpdu_input lpdu))) ≡ kept_number (whole_acked (after_input e (lpdu_input lpdu)))
+lpdu_acked e lpdu r = by (control_of lpdu) refl
+  where
+    at : (a : ℕ) → min (min a 4294967295 + (a - a)) 4294967295 ≡ min a 4294967295
+    at a = omega arith
+
+    by : (o : Result Control LpduFault) → control_of lpdu ≡ o
+        → acked_since (kept_number (whole_acked e)) (report_told (report e (lpdu_input lpdu))) ≡ kept_number (whole_acked (after_input e (lpdu_input lpdu)))
+    by (Ok c) q = rw q (input_acked e (Take c) r (take_so e c))
+    by (Err fault) q = rw q (at (whole_acked e))
+
+-- what was kept, and what was told of the input, give what is kept
+pub acked_so : (told : LinkReport) (x : Report) (before : ℕ) {was now : ℕ} → before ≡ was → told ≡ report_told x → acked_since was (report_told x) ≡ now
+    → acked_since before told ≡ now
+acked_so told x before {was} {now} b t is = ap (λ n. acked_since n told) b ∙ (ap (acked_since was) t ∙ is)
+
+-- ## Resets
+
+-- an end that was reset has no messages
+reset_sent : (m : Machine) (w : ℕ) → Sound m → (reset_by m w).sent ≡ []
+reset_sent m w h = by m.shdlc.phase refl
+  where
+    by : (p : LinkState) → m.shdlc.phase ≡ p → (reset_by m w).sent ≡ []
+    by Up p = rw p refl
+    by Waiting p = rw p (h.is.forgot (λ u. let z = sym p ∙ u in cc))
+    by Down p = rw p (h.is.forgot (λ u. let z = sym p ∙ u in cc))
+
+reset_report : (m : Machine) (window : Option ℕ) → Sound m → reset_refusal m ≡ None
+    → record nothing_told { ended = if_up m.shdlc Asked } ≡ report_told (report m (Reset window))
+reset_report m window h q =
+    let w : ℕ = window_of m window in
+    let none : whole_acked (reset_by m w) - whole_acked m ≡ 0 = gone (whole_acked m) (reset_by m w) (reset_sent m w h) in
+    rw q (ap (λ x. record nothing_told { ended = if_up m.shdlc Asked; acked = x }) (sym none))
+  where
+    gone : (a : ℕ) (e : Machine) → e.sent ≡ [] → whole_acked e - a ≡ 0
+    gone a e s = let z : whole_acked e ≡ 0 = rw s refl in omega (arith, z)
+
+pub reset_acked : (m : Machine) (window : Option ℕ) → IsReached m
+    → acked_by_reset (kept_number (whole_acked m)) (reset_told m window) ≡ kept_number (whole_acked (after_input m (Reset window)))
+reset_acked m window r = by (reset_refusal m) refl
+  where
+    told : reset_refusal m ≡ None
+        → acked_since (kept_number (whole_acked m)) (record nothing_told { ended = if_up m.shdlc Asked })
+        ≡ kept_number (whole_acked (after_input m (Reset window)))
+    told q =
+        ap (acked_since (kept_number (whole_acked m))) (reset_report m window (is_sound m r) q) ∙ input_acked m (Reset window) r (reset_so m window)
+
+    by : (o : Option Refused) → reset_refusal m ≡ o
+        → acked_by_reset (kept_number (whole_acked m)) (reset_told m window) ≡ kept_number (whole_acked (after_input m (Reset window)))
+    by None q = let t = told q in rw q (rw q at t)
+    by (Some why) q = rw q refl
+
+pub reset_so_far : (told : Result LinkReport ResetRefused) (x : Result LinkReport ResetRefused) (before : ℕ) {was now : ℕ} → before ≡ was → told ≡ x
+    → acked_by_reset was x ≡ now → acked_by_reset before told ≡ now
+reset_so_far told x before {was} {now} b t is = ap (λ n. acked_by_reset n told) b ∙ (ap (acked_by_reset was) t ∙ is)

@@ -1,0 +1,48 @@
+-- Whether the session of the end with a host has ended in a step.
+use Rattle.std.proofs.Common.{◌≡◌, ◌≢◌, ℕ, Bool, true, false, List, [], ◌∷◌, refl, ap, ◌∙◌, subst}
+use Rattle.std.specs.Prelude.{◌==◌, ◌||◌}
+use Rattle.std.specs.List.{AllByRecursion}
+use Rattle.std.specs.Option.{option_map_or}
+use Rattle.std.proofs.lemmas.Bool.{eqb-true}
+use Rattle.block_pool.specs.Pool.{PoolState}
+use Rattle.node_machine.specs.Parts.{Port}
+use Rattle.node_machine.specs.Carrying.{port_at}
+use Rattle.node_machine.specs.Node.{is_over, is_over_at}
+use Rattle.node_ends.specs.declared.seat.Seat.{Seat}
+use Rattle.node_ends.specs.Ends.{SeatsStandFor, HaveOwnHosts, AreEnds}
+use Rattle.node_ends.proofs.Changing.{host_is}
+
+none_over : (pool : PoolState) (h : ℕ) (seats : List Seat) (ports : List Port) → AllByRecursion (λ (t : Seat). t.desk.host ≢ h) seats
+    → SeatsStandFor pool seats ports → is_over_at ports h ≡ false
+none_over pool h [] [] d g = refl
+none_over pool h [] (p ∷ ports) d g = absurd g
+none_over pool h (s ∷ seats) [] d g = absurd g
+none_over pool h (s ∷ seats) (p ∷ ports) d g = by (none_over pool h seats ports d.1 g.1) (p.desk.host == h) refl
+  where
+    by : is_over_at ports h ≡ false → (b : Bool) → (p.desk.host == h) ≡ b → is_over_at (p ∷ ports) h ≡ false
+    by later true q = absurd (d.0 (host_is g.0 ∙ eqb-true p.desk.host h q))
+    by later false q = rw q later
+
+or_false : (b : Bool) → (b || false) ≡ b
+or_false true = refl
+or_false false = refl
+
+over_in : (pool : PoolState) (h : ℕ) (seats : List Seat) (ports : List Port) → HaveOwnHosts seats → SeatsStandFor pool seats ports
+    → is_over_at ports h ≡ option_map_or is_over (port_at ports h) false
+over_in pool h [] [] d g = refl
+over_in pool h [] (p ∷ ports) d g = absurd g
+over_in pool h (s ∷ seats) [] d g = absurd g
+over_in pool h (s ∷ seats) (p ∷ ports) d g = by (over_in pool h seats ports d.1 g.1) (p.desk.host == h) refl
+  where
+    by : is_over_at ports h ≡ option_map_or is_over (port_at ports h) false → (b : Bool) → (p.desk.host == h) ≡ b → is_over_at (p ∷ ports) h
+        ≡ option_map_or is_over (port_at (p ∷ ports) h) false
+    by later true q =
+        let here : s.desk.host ≡ h = host_is g.0 ∙ eqb-true p.desk.host h q in
+        let none = none_over pool h seats ports (subst (λ n. AllByRecursion (λ (t : Seat). t.desk.host ≢ n) seats) here d.0) g.1 in
+        rw q (ap (λ b. is_over p || b) none ∙ or_false (is_over p))
+    by later false q = rw q later
+
+-- what is asked of one end is what the definition asks of all
+pub over_is : {pool : PoolState} {seats : List Seat} {ports : List Port} (h : ℕ) → AreEnds pool seats ports
+    → is_over_at ports h ≡ option_map_or is_over (port_at ports h) false
+over_is {pool} {seats} {ports} h e = over_in pool h seats ports e.hosts e.each

@@ -1,0 +1,221 @@
+-- The end at a place is changed, or those at all places, one after another.
+use Rattle.std.proofs.Common.{◌≡◌, ◌≢◌, ℕ, zero, suc, ◌+◌, ◌*◌, ◌<◌, ◌≤◌, List, [], ◌∷◌, ◌++◌, length, map, take, drop, refl, sym, ap, ◌∙◌, subst}
+use Rattle.std.proofs.Common.{arith, length-set}
+use Rattle.std.specs.Prelude.{Option, Some, None, slice_get, slice_set, slice_index_or}
+use Rattle.block_pool.specs.Pool.{PoolState}
+use Rattle.node_machine.specs.Parts.{Port}
+use Rattle.node_ends.specs.declared.seat.Seat.{Seat}
+use Rattle.link_end.specs.declared.«end».End.{End}
+use Rattle.link_end.specs.declared.link.LinkEnd.{LinkEnd as Link}
+use Rattle.link_machine.specs.Machine.{LinkEnd as Machine, whole_acked}
+use Rattle.node_ends.specs.declared.seat.Waiting.{Waiting}
+use Rattle.node_deeds.specs.Shown.{desk_shown}
+use Rattle.node_ends.proofs.Moving.{stays_beside}
+use Rattle.node_ends.specs.Holding.{Moves, HoldsEnd, IsReached, kept_number}
+use Rattle.node_ends.specs.Ends.{SeatStandsFor, SeatsStandFor, HaveOwnersFrom, AreEnds, at_place}
+use Rattle.node_ends.proofs.Changing.{OneChanges, apart_places, owners_at, owners_stay, hosts_stay, read_at}
+
+-- The end at a place is changed with its pool, and stands for the changed port.
+pub record HereChanges (old new : PoolState) (f : Port → Port) (s t : Seat) : Type 0 where
+  pub host : t.desk.host ≡ s.desk.host
+  pub moves : Moves old new s.side.link t.side.link
+  pub stands : (p : Port) → SeatStandsFor old s p → SeatStandsFor new t (f p)
+
+module _ {old new : PoolState} {f : Port → Port} {s t : Seat} (c : HereChanges old new f s t) where
+  -- an end at another place stays
+  stays : (j k : ℕ) (u : Seat) (p : Port) → j ≢ k → (s.side.link.outbox.owner ≡ 2 * j) × (s.side.link.inbox.joiner.owner ≡ 2 * j + 1)
+      → (u.side.link.outbox.owner ≡ 2 * k) → (u.side.link.inbox.joiner.owner ≡ 2 * k + 1) → SeatStandsFor old u p → SeatStandsFor new u p
+  stays j k u p differ own a b g = record {
+    holds = c.moves.beside u.side.link u.waiting p.side (apart_places s.side.link u.side.link j k own.0 own.1 a b differ) g.holds;
+    desk = g.desk;
+    late = g.late;
+    ended = g.ended;
+    reached = g.reached;
+    acked = g.acked;
+    aside = g.aside;
+  }
+
+  -- all ends behind that place stay
+  rest_stays : (j k : ℕ) (seats : List Seat) (ports : List Port) → j < k
+      → (s.side.link.outbox.owner ≡ 2 * j) × (s.side.link.inbox.joiner.owner ≡ 2 * j + 1)
+      → HaveOwnersFrom k seats → SeatsStandFor old seats ports → SeatsStandFor new seats ports
+  rest_stays j k [] [] behind own owners g = tt
+  rest_stays j k [] (p ∷ ports) behind own owners g = g
+  rest_stays j k (u ∷ seats) [] behind own owners g = g
+  rest_stays j k (u ∷ seats) (p ∷ ports) behind own owners g = (
+    stays j k u p (λ e. omega (arith, behind, e)) own owners.0 owners.1 g.0,
+    rest_stays j (k + 1) seats ports (omega (arith, behind)) own owners.2 g.1,
+  )
+
+  -- all ends, from the place k on
+  change_at : (k i : ℕ) (seats : List Seat) (ports : List Port) → slice_get seats i ≡ Some s → HaveOwnersFrom k seats
+      → SeatsStandFor old seats ports → SeatsStandFor new (slice_set seats i t) (at_place i f ports)
+  change_at k i [] ports is owners g = cc
+  change_at k i (u ∷ seats) [] is owners g = absurd g
+  change_at k zero (u ∷ seats) (p ∷ ports) is owners g =
+      let e : u ≡ s = cc in
+      let P : Seat → Type 0 = λ x. SeatStandsFor old x p in
+      let own = owners_at k zero (u ∷ seats) s is owners in
+      (c.stands p (subst P e g.0), rest_stays (k + zero) (k + 1) seats ports (omega arith) own owners.2 g.1)
+  change_at k (suc i) (u ∷ seats) (p ∷ ports) is owners g =
+      let own = owners_at (k + 1) i seats s is owners.2 in
+      (stays (k + 1 + i) k u p (λ e. omega (arith, e)) own owners.0 owners.1 g.0, change_at (k + 1) i seats ports is owners.2 g.1)
+
+  pub here_changes : (i : ℕ) (seats : List Seat) (ports : List Port) → slice_get seats i ≡ Some s → AreEnds old seats ports
+      → AreEnds new (slice_set seats i t) (at_place i f ports)
+  here_changes i seats ports is e =
+      let one : OneChanges old new s.desk.host f s t = record { before = refl; after = c.host; moves = c.moves; stands = c.stands } in
+      record {
+        each = change_at 0 i seats ports is e.owners e.each;
+        owners = owners_stay one 0 i seats is e.owners;
+        hosts = hosts_stay one i seats is e.hosts;
+        few = (let l = length-set {A = Seat} seats i t in omega (arith, l, e.few));
+      }
+
+-- ## The end at a place
+
+-- the end at a place, and the port that it stands for
+pub record IsSeated (pool : PoolState) (seats : List Seat) (ports : List Port) (i : ℕ) : Type 0 where
+  pub seat : Seat
+  pub port : Port
+  pub seat_is : slice_get seats i ≡ Some seat
+  pub port_is : slice_get ports i ≡ Some port
+  pub stands : SeatStandsFor pool seat port
+
+pub seated : (pool : PoolState) (i : ℕ) (seats : List Seat) (ports : List Port) → i < length seats → SeatsStandFor pool seats ports
+    → IsSeated pool seats ports i
+seated pool i [] ports inside g = absurd (omega (arith, inside))
+seated pool i (s ∷ seats) [] inside g = absurd g
+seated pool zero (s ∷ seats) (p ∷ ports) inside g = record { seat = s; port = p; seat_is = refl; port_is = refl; stands = g.0 }
+seated pool (suc i) (s ∷ seats) (p ∷ ports) inside g =
+    let r = seated pool i seats ports (omega (arith, inside)) g.1 in
+    record { seat = r.seat; port = r.port; seat_is = r.seat_is; port_is = r.port_is; stands = r.stands }
+
+-- behind the last end there is none
+pub beyond : (pool : PoolState) (i : ℕ) (f : Port → Port) (seats : List Seat) (ports : List Port) → length seats ≤ i → SeatsStandFor pool seats ports
+    → (at_place i f ports ≡ ports) × (slice_get ports i ≡ None)
+beyond pool i f [] [] past g = (refl, refl)
+beyond pool i f [] (p ∷ ports) past g = absurd g
+beyond pool i f (s ∷ seats) [] past g = absurd g
+beyond pool zero f (s ∷ seats) (p ∷ ports) past g = absurd (omega (arith, past))
+beyond pool (suc i) f (s ∷ seats) (p ∷ ports) past g =
+    let r = beyond pool i f seats ports (omega (arith, past)) g.1 in
+    (ap (λ l. p ∷ l) r.0, r.1)
+
+-- the end that is read at a place stands for the port there
+pub record IsReadHere (pool : PoolState) (ports : List Port) (i : ℕ) (r : Seat) : Type 0 where
+  pub port : Port
+  pub port_is : slice_get ports i ≡ Some port
+  pub stands : SeatStandsFor pool r port
+
+pub reads_here : {pool : PoolState} {seats : List Seat} {ports : List Port} (i : ℕ) (d : Seat) → i < length seats
+    → AreEnds pool seats ports → IsReadHere pool ports i (slice_index_or seats i d)
+reads_here {pool} {seats} {ports} i d inside e =
+    let p = seated pool i seats ports inside e.each in
+    let P : Seat → Type 0 = λ s. SeatStandsFor pool s p.port in
+    record { port = p.port; port_is = p.port_is; stands = subst P (sym (read_at seats i p.seat d p.seat_is)) p.stands }
+
+-- anything comes to the end at a place
+pub record ComesHere (old new : PoolState) (seats : List Seat) (i : ℕ) (f : Port → Port) (d t : Seat) : Type 0 where
+  pub inside : i < length seats
+  pub moves : Moves old new (slice_index_or seats i d).side.link t.side.link
+  pub host : t.desk.host ≡ (slice_index_or seats i d).desk.host
+  pub stands : (q : Port) → SeatStandsFor old (slice_index_or seats i d) q → SeatStandsFor new t (f q)
+
+pub comes_here : {old new : PoolState} {seats : List Seat} {i : ℕ} {f : Port → Port} {d t : Seat} (ports : List Port)
+    → ComesHere old new seats i f d t → AreEnds old seats ports → AreEnds new (slice_set seats i t) (at_place i f ports)
+comes_here {old} {new} {seats} {i} {f} {d} {t} ports c e =
+    let p = seated old i seats ports c.inside e.each in
+    let r : Seat = slice_index_or seats i d in
+    let same_seat : r ≡ p.seat = read_at seats i p.seat d p.seat_is in
+    let one : HereChanges old new f r t = record { host = c.host; moves = c.moves; stands = c.stands } in
+    here_changes one i seats ports (p.seat_is ∙ ap (λ (s : Seat). Some s) (sym same_seat)) e
+
+-- ## All ends, one after another
+
+-- those at the first places are changed so, and the others aren't
+abbrev pub first_changed : ℕ → (Port → Port) → List Port → List Port
+first_changed i f ports = map f (take i ports) ++ drop i ports
+
+-- none is changed yet
+pub none_changed : (f : Port → Port) (ports : List Port) → first_changed 0 f ports ≡ ports
+none_changed f [] = refl
+none_changed f (p ∷ ports) = refl
+
+-- the next one is changed
+pub next_changed : (i : ℕ) (f : Port → Port) (ports : List Port) → at_place i f (first_changed i f ports) ≡ first_changed (suc i) f ports
+next_changed zero f [] = refl
+next_changed (suc i) f [] = refl
+next_changed zero f (p ∷ []) = refl
+next_changed zero f (p ∷ q ∷ ports) = refl
+next_changed (suc i) f (p ∷ ports) = ap (λ l. f p ∷ l) (next_changed i f ports)
+
+-- the next one is the one that was there
+pub next_there : (i : ℕ) (f : Port → Port) (ports : List Port) → slice_get (first_changed i f ports) i ≡ slice_get ports i
+next_there zero f [] = refl
+next_there (suc i) f [] = refl
+next_there zero f (p ∷ ports) = refl
+next_there (suc i) f (p ∷ ports) = next_there i f ports
+
+-- behind the last place all are changed
+pub all_changed : (i : ℕ) (f : Port → Port) (ports : List Port) → length ports ≤ i → first_changed i f ports ≡ map f ports
+all_changed zero f [] past = refl
+all_changed (suc i) f [] past = refl
+all_changed zero f (p ∷ ports) past = absurd (omega (arith, past))
+all_changed (suc i) f (p ∷ ports) past = ap (λ l. f p ∷ l) (all_changed i f ports (omega (arith, past)))
+
+-- there are as many ports as ends
+pub as_many : (pool : PoolState) (seats : List Seat) (ports : List Port) → SeatsStandFor pool seats ports → length seats ≡ length ports
+as_many pool [] [] g = refl
+as_many pool [] (p ∷ ports) g = absurd g
+as_many pool (s ∷ seats) [] g = absurd g
+as_many pool (s ∷ seats) (p ∷ ports) g = ap suc (as_many pool seats ports g.1)
+
+-- what is kept of the end at a place beside it is changed
+pub record SetsHere (pool : PoolState) (seats : List Seat) (i : ℕ) (f : Port → Port) (d t : Seat) : Type 0 where
+  pub inside : i < length seats
+  pub side : t.side ≡ (slice_index_or seats i d).side
+  pub waiting : t.waiting ≡ (slice_index_or seats i d).waiting
+  pub acked : t.acked ≡ (slice_index_or seats i d).acked
+  pub aside : t.aside ≡ (slice_index_or seats i d).aside
+  pub host : t.desk.host ≡ (slice_index_or seats i d).desk.host
+  pub same_side : (q : Port) → (f q).side ≡ q.side
+  pub desk : (q : Port) → SeatStandsFor pool (slice_index_or seats i d) q → desk_shown t.desk ≡ (f q).desk
+  pub late : (q : Port) → SeatStandsFor pool (slice_index_or seats i d) q → t.late ≡ (f q).late
+  pub ended : (q : Port) → SeatStandsFor pool (slice_index_or seats i d) q → t.ended ≡ (f q).ended
+
+pub sets_here : {pool : PoolState} {seats : List Seat} {i : ℕ} {f : Port → Port} {d t : Seat} (ports : List Port)
+    → SetsHere pool seats i f d t → AreEnds pool seats ports → AreEnds pool (slice_set seats i t) (at_place i f ports)
+sets_here {pool} {seats} {i} {f} {d} {t} ports c e =
+    let r : Seat = slice_index_or seats i d in
+    let link : t.side.link ≡ r.side.link = ap (λ (l : Link). l.link) c.side in
+    comes_here {f = f} {d = d} {t = t} ports (record {
+      inside = c.inside;
+      moves = stays_beside pool r.side.link t.side.link (ap (λ (k : End). k.outbox) link) (ap (λ (k : End). k.inbox) link);
+      host = c.host;
+      stands = λ q g. record {
+        holds = (let P : End → Type 0 = λ k. HoldsEnd pool k t.waiting (f q).side in
+            let Q : Option Waiting → Type 0 = λ w. HoldsEnd pool r.side.link w (f q).side in
+            let M : Machine → Type 0 = λ m. HoldsEnd pool r.side.link r.waiting m in
+            subst P (sym link) (subst Q (sym c.waiting) (subst M (sym (c.same_side q)) g.holds)));
+        desk = c.desk q g;
+        late = c.late q g;
+        ended = c.ended q g;
+        reached = (let M : Machine → Type 0 = λ m. IsReached m in subst M (sym (c.same_side q)) g.reached);
+        acked = c.acked ∙ (g.acked ∙ ap (λ (m : Machine). kept_number (whole_acked m)) (sym (c.same_side q)));
+        aside = c.aside ∙ (g.aside ∙ ap (λ (m : Machine). m.aside) (sym (c.same_side q)));
+      };
+    }) e
+
+-- at a place only the port there matters
+pub at_place_as : (i : ℕ) (f g : Port → Port) (ports : List Port) → ((p : Port) → slice_get ports i ≡ Some p → f p ≡ g p)
+    → at_place i f ports ≡ at_place i g ports
+at_place_as i f g [] same = refl
+at_place_as zero f g (p ∷ ports) same = ap (λ (q : Port). q ∷ ports) (same p refl)
+at_place_as (suc i) f g (p ∷ ports) same = ap (λ (l : List Port). p ∷ l) (at_place_as i f g ports same)
+
+-- where nothing changes there, nothing changes
+pub at_place_still : (i : ℕ) (ports : List Port) → at_place i (λ (p : Port). p) ports ≡ ports
+at_place_still i [] = refl
+at_place_still zero (p ∷ ports) = refl
+at_place_still (suc i) (p ∷ ports) = ap (λ (l : List Port). p ∷ l) (at_place_still i ports)

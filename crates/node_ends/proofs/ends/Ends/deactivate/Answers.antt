@@ -1,0 +1,20 @@
+use Rattle.std.proofs.Common.{ap, ◌∙◌}
+use Rattle.std.specs.Prelude.{Some}
+use Rattle.link_machine.specs.Machine.{report}
+use Rattle.link_end.specs.Reports.{report_told}
+use Rattle.link_machine.specs.Machine.LinkInput.{Stop}
+use Rattle.node_machine.specs.Parts.{Port}
+use Rattle.node_machine.specs.Node.{has_come}
+use Rattle.node_ends.specs.Ends.{place_in}
+use Rattle.node_ends.proofs.Changing.{comes_nowhere}
+use Rattle.node_ends.proofs.ends.Ends.deactivate.Goals as goal
+
+pub returns-in_default-clause-stands : goal.returns-in_default-clause-stands
+returns-in_default-clause-stands c ports e =
+    (comes_nowhere c.args.host (λ (p : Port). has_come p (Some Stop)) (λ (p : Port). report_told (report p.side Stop)) c.place_of.result
+    (c.place_of.ensures.place ∙ ap (place_in c.args.host) c.as_slice.ensures.value) c.in_default.not-Some e).0
+
+pub returns-in_default-clause-answer : goal.returns-in_default-clause-answer
+returns-in_default-clause-answer c ports e =
+    (comes_nowhere c.args.host (λ (p : Port). has_come p (Some Stop)) (λ (p : Port). report_told (report p.side Stop)) c.place_of.result
+    (c.place_of.ensures.place ∙ ap (place_in c.args.host) c.as_slice.ensures.value) c.in_default.not-Some e).1

@@ -1,0 +1,59 @@
+use Rattle.std.proofs.Common.{sym, ap, ◌∙◌, subst}
+use Rattle.std.specs.Prelude.{Some, is_some}
+use Rattle.link_machine.specs.Machine.{report}
+use Rattle.link_machine.specs.Machine.LinkInput.{Tick}
+use Rattle.link_end.specs.declared.report.LinkReport.{LinkReport}
+use Rattle.link_end.specs.Reports.{report_told}
+use Rattle.node_machine.specs.Parts.{Port}
+use Rattle.node_machine.specs.Node.{has_come}
+use Rattle.node_ends.specs.declared.seat.Seat.{Seat}
+use Rattle.node_deeds.specs.Shown.{desk_shown}
+use Rattle.node_ends.specs.Ends.{FewAreDue}
+use Rattle.node_ends.proofs.Moving.{few_controls}
+use Rattle.node_ends.proofs.Changing.{told_there}
+use Rattle.node_ends.proofs.Seated.{reads_here, comes_here}
+use Rattle.node_ends.specs.Holding.{acked_since}
+use Rattle.node_ends.proofs.Counting.{acked_so, reached_on, input_acked}
+use Rattle.link_machine.proofs.Reports.{tick_so}
+use Rattle.node_ends.specs.Ends.{AreEnds, at_place}
+use Rattle.std.specs.Prelude.{slice_set}
+use Rattle.node_ends.proofs.Blocks.{tick_aside}
+use Rattle.node_ends.proofs.ends.tick_place.Goals as goal
+
+pub tick-report-requires-clause-stands : goal.tick-report-requires-clause-stands
+tick-report-requires-clause-stands c =
+    let r = reads_here c.args.i c.index-seats-i.result c.requires.inside c.requires.stands.1 in
+    (r.port.side, r.stands.holds)
+
+pub tick-report-requires-clause-room : goal.tick-report-requires-clause-room
+tick-report-requires-clause-room c =
+    let r = reads_here c.args.i c.index-seats-i.result c.requires.inside c.requires.stands.1 in
+    few_controls c.args.pool.now _ r.port.side r.stands.holds.stands (subst (λ o. FewAreDue o) r.port_is c.requires.stands.2)
+
+pub returns-clause-stands : goal.returns-clause-stands
+returns-clause-stands c ports e =
+    let t = c.tick-report in
+    let f : Port → Port = λ p. has_come p (Some Tick) in
+    let now : Seat = record t.new.self { ended = is_some t.result.ended; acked = acked_since t.new.self.acked t.result } in
+    let P : Seat → Type 0 = λ s. AreEnds t.new.pool (slice_set c.args.seats.now c.args.i s) (at_place c.args.i f ports) in
+    subst P (sym c.count.ensures) (comes_here {f = f} {d = c.index-seats-i.result} {t = now} ports (record {
+      inside = c.requires.inside;
+      moves = t.ensures.moves;
+      host = ap (λ (s : Seat). s.desk.host) t.ensures.rest;
+      stands = λ q g. record {
+        holds = t.ensures.stands q.side g.holds;
+        desk = ap (λ (s : Seat). desk_shown s.desk) t.ensures.rest ∙ g.desk;
+        late = ap (λ (s : Seat). s.late) t.ensures.rest ∙ g.late;
+        ended = ap (λ (r : LinkReport). is_some r.ended) (t.ensures.answer q.side g.holds);
+        reached = reached_on q.side Tick tt g.reached;
+        acked = acked_so t.result (report q.side Tick) t.new.self.acked (ap (λ (s : Seat). s.acked) t.ensures.rest ∙ g.acked)
+            (t.ensures.answer q.side g.holds) (input_acked q.side Tick g.reached (tick_so q.side));
+        aside = ap (λ (s : Seat). s.aside) t.ensures.rest ∙ (g.aside ∙ sym (tick_aside q.side));
+      };
+    }) e)
+
+pub returns-clause-answer : goal.returns-clause-answer
+returns-clause-answer c ports e =
+    let r = reads_here c.args.i c.index-seats-i.result c.requires.inside e in
+    told_there (λ (p : Port). report_told (report p.side Tick)) c.tick-report.result _ r.port r.port_is
+    (c.tick-report.ensures.answer r.port.side r.stands.holds)
