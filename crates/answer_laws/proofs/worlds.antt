@@ -15,4 +15,5 @@ pub mod Order
 pub mod Orders
 pub mod Ascending
 pub mod Turns
+pub mod Lifting
 pub mod Schedules

@@ -78,6 +78,7 @@ causes_few header w (line.Activate host sync power) few is = omega arith
 causes_few header w (line.Arm node nth fill) few is = omega arith
 causes_few header w (line.Init e identity pipes) few is = omega arith
 causes_few header w (line.Tables node) few is = omega arith
+causes_few header w (line.Settle rounds) few is = omega arith
 
 happen_long : (causes : List Happening) (w : NodeWorld) → length (all_happen w causes).1 ≤ length causes
 happen_long [] w = omega arith
@@ -112,6 +113,7 @@ on_long w (line.Cut n) a = a
 on_long w (line.Activate host sync power) a = a
 on_long w (line.Arm n nth fill) a = a
 on_long w (line.Init e identity pipes) a = a
+on_long w (line.Settle rounds) a = a
 
 line_long : (header : Header) (w : NodeWorld) (l : Line) → AreFewWires w.sites → IsNodeLineOf header l → length (occurrences_of (line_step w l).1) ≤ 100
 line_long header w l few is = go (refusal_in w l) where

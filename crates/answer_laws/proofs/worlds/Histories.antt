@@ -27,7 +27,8 @@ use Rattle.node_readings.specs.views.Inits.{IsBegunByHost, init_behind}
 use Rattle.node_readings.proofs.views.InitWorlds.{AtSite, Keeps}
 use Rattle.node_readings.proofs.views.InitEvents.{MayKeep}
 use Rattle.node_readings.proofs.views.Lines.{none_zero}
-use Rattle.answer_laws.specs.answers.Answered.{AtEachOccurrence, AreReset, ends_in}
+use Rattle.answer_laws.specs.answers.Moments.{AtEachOccurrence}
+use Rattle.answer_laws.specs.answers.Answered.{AreReset, ends_in}
 use Rattle.answer_laws.specs.answers.Unasked.{is_reset_down, is_reset_due}
 use Rattle.std.proofs.Common.{append-nil}
 use Rattle.std.proofs.lemmas.List.Concat.{flat_map-append}

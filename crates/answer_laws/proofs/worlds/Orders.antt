@@ -36,7 +36,7 @@ use Rattle.node_laws.proofs.telling.Frames.{lost_all, wires_all}
 use Rattle.node_order.specs.passes.Steps.{controller_begins, controller_tick_begins}
 use Rattle.node_order.specs.power.Powers.{AreNotOf}
 use Rattle.node_order.proofs.power.Parts.{own_not, part_own}
-use Rattle.answer_laws.specs.worlds.Order.{NodesHearFirst}
+use Rattle.answer_laws.specs.answers.Order.{NodesHearFirst}
 use Rattle.answer_laws.proofs.worlds.Steps.{host_begins}
 use Rattle.answer_laws.proofs.worlds.Hearing.{IsFrame, IsParted, IsUnheard, AreUnheard, AreUnanswered, NotesUnheard, frames_unheard, out_unheard}
 use Rattle.answer_laws.proofs.worlds.Hearing.{arrival_unanswered}

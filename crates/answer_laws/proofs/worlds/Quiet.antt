@@ -73,6 +73,7 @@ line_may w (line.Arm n nth fill) side none = (tt, tt)
 line_may w (line.Init e identity pipes) side none =
     (init_may w e side (first_none (if_off w (node_of e)) (if_not_sent w e (1, 3 ∷ [])) none), tt)
 line_may w (line.Tables n) side none = tt
+line_may w (line.Settle rounds) side none = tt
 
 module _ (h : ℕ) (host : IsHost h) where
   pub front_keeps : (front back : List Occurrence) (w : NodeWorld) (i : Option Init) → IsOrderly w → Keeps h host w i → AreCaused MayKeep w (front ++ back)

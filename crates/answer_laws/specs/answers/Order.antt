@@ -1,12 +1,31 @@
 -- In which order a node notes in an event what comes to it and what it answers.
 use Rattle.std.specs.Prelude.{◌≡◌, ℕ, ◌≤◌, ◌==◌, Bool, true, false, if◌then◌else◌, List, [], ◌∷◌, Option, Some, None}
 use Rattle.std.specs.List.{AllByRecursion, filter_map}
+use Rattle.std.specs.Option.{option_map_or}
 use Rattle.trace_model.specs.declared.entry.Entry.{Entry}
 use Rattle.trace_model.specs.declared.entry.Entry.TheVariants as entry
 use Rattle.node_machine.specs.world.World.{node_of}
 use Rattle.node_machine.specs.world.NodeHistories.{NodeHistory}
-use Rattle.answer_laws.specs.answers.Moments.{Moment}
-use Rattle.answer_laws.specs.answers.Answered.{AtEachEntry, AtEachOccurrence, is_answer_of}
+use Rattle.answer_laws.specs.answers.Moments.{AtEachEntry, AtEachOccurrence, Moment}
+
+-- ## Answers
+
+-- the node whose answer an entry is
+abbrev pub answerer : Entry → Option ℕ
+answerer (entry.Command n command) = Some n
+answerer (entry.Sent e n pid message) = Some (node_of e)
+answerer (entry.AnyOk n count) = Some n
+answerer (entry.Ask host message) = Some 0
+answerer (entry.Dropped e pid) = Some (node_of e)
+answerer (entry.InitSame e) = Some (node_of e)
+answerer (entry.InitMade e count) = Some (node_of e)
+answerer (entry.InitFailed e code) = Some (node_of e)
+answerer _ = None
+
+abbrev pub is_answer_of : ℕ → Entry → Bool
+is_answer_of n x = option_map_or (λ k. k == n) (answerer x) false
+
+-- ## Their order
 
 -- A session of an end of this node begins or ends, messages came there, or are acknowledged.
 abbrev pub hears : ℕ → Entry → Bool
