@@ -87,6 +87,7 @@ impl<N: Nv + Drop> Store<N> {
         ensures version { IfOk result (λ s. s.journal.state.version ≡ 2) }
         ensures tables { IsTrue N.tells → IfOk result (λ s. s.tables ≡ close (tables_of (N.content nv))) }
         ensures commands { IsTrue N.tells → OnOk result (are_commands (records (N.content nv)) ≡ true) }
+        ensures sound { IsTrue N.tells → OnOk result (image_fault (N.content nv) ≡ None) }
         ensures count { IsTrue N.tells → IfOk result (λ s. count_of s.journal.state ≡ count (N.content nv)) }
         ensures holds { IsTrue N.tells → IfOk result (λ s. HoldsTables (N.content s.journal.nv) s.tables) }
         ensures fault { IfErr result (λ e. (e.fault ≡ JournalFault.NvFault) ⊎ (e.fault ≡ JournalFault.GenerationsSpent)

@@ -4,6 +4,7 @@ use Rattle.hci_tables.specs.Tables.{no_tables, close}
 use Rattle.hci_store.specs.Image.{applied, tables_of, are_commands}
 use Rattle.hci_store.specs.Stored.{FindsSame}
 use Rattle.hci_store.proofs.LeftBehind.{same_content, keeps_same, format_same, refused_same}
+use Rattle.hci_store.proofs.Applying.{sound_has_no_fault}
 use Rattle.hci_store.proofs.Closing.{close-close}
 use Rattle.hci_store.proofs.Recorded.{recordable-close}
 use Rattle.hci_store.proofs.Refusing.{heads_refused, records_refused, rose_of, image_of, memory_is_no_image, start_is_no_image}
@@ -208,3 +209,11 @@ returns-in-Err-start-clause-torn g c tells = λ memory.
           (ready_written (g.N.Nv.content c.args.nv) scan.state (started_state scan.state) says refl c.close.new.self tables)
           (made-cut g.N.Nv.writes (start_writes scan.state) later scan.nv last failed.made);
     })
+
+pub returns-in-Ok-ready-clause-sound : goal.returns-in-Ok-ready-clause-sound
+returns-in-Ok-ready-clause-sound g c tells =
+    let scan = c.apply_all.new.scan in
+    let passed = c.in-Ok-apply_all.ensures in
+    let opened = c.in-Ok.ensures in
+    let says = subst (λ l. Says l scan.state) (passed.kept tells ∙ opened.kept tells) (c.in-Ok-start.ensures.said tells) in
+    sound_has_no_fault (g.N.Nv.content c.args.nv) (ap (λ l. are_commands (records l)) (sym (opened.kept tells)) ∙ passed.commands tells) says.sound
