@@ -14,3 +14,5 @@ pub mod Making
 pub mod Sending
 pub mod Over
 mod Blocks
+pub mod Dues
+pub mod Sendable
