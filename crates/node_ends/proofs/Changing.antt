@@ -12,6 +12,7 @@ use Rattle.node_machine.specs.Carrying.{port_at, changed_if, with_port, after_tu
 use Rattle.link_machine.specs.Machine.{LinkEnd as Machine, Turn, turn}
 use Rattle.node_ends.specs.declared.seat.Seat.{Seat}
 use Rattle.node_deeds.specs.declared.desks.Desk.{Desk}
+use Rattle.node_deeds.specs.Cores.{IsSoundDesk}
 use Rattle.node_deeds.specs.Shown.{desk_shown}
 use Rattle.link_end.specs.declared.link.LinkEnd.{LinkEnd as Link}
 use Rattle.node_ends.specs.declared.seat.Waiting.{Waiting}
@@ -100,6 +101,7 @@ module _ {old new : PoolState} {h : ℕ} {f : Port → Port} {s t : Seat} (c : O
         reached = g.reached;
         acked = g.acked;
         aside = g.aside;
+        sound = g.sound;
       })
 
   -- all ends behind that place stay
@@ -295,6 +297,7 @@ turns_so {old} {new} {seats} {h} {i} {x} {d} {t} ports c e =
         reached = reached_on q.side (FromNode x) c.sendable g.reached;
         acked = c.acked ∙ (g.acked ∙ ap kept_number (sym (turn_acked q.side x c.sendable g.reached)));
         aside = (c.stands q.side g.holds g.aside).1;
+        sound = subst IsSoundDesk (sym c.desk) g.sound;
       };
     } in
     one_changes one i seats ports (p.seat_is ∙ ap (λ (s : Seat). Some s) (sym same_seat)) e
@@ -353,6 +356,7 @@ pub record SetsDesk (pool : PoolState) (seats : List Seat) (h i : ℕ) (f : Desk
   pub aside : t.aside ≡ (slice_index_or seats i d).aside
   pub host : t.desk.host ≡ (slice_index_or seats i d).desk.host
   pub desk : desk_shown t.desk ≡ f (desk_shown (slice_index_or seats i d).desk)
+  pub sound : IsSoundDesk (slice_index_or seats i d).desk → IsSoundDesk t.desk
 
 pub sets_desk : {pool : PoolState} {seats : List Seat} {h i : ℕ} {f : DeskOf → DeskOf} {d t : Seat} (ports : List Port) → SetsDesk pool seats h i f d t
     → AreEnds pool seats ports → AreEnds pool (slice_set seats i t) (with_port h (λ p. record p { desk = f p.desk }) ports)
@@ -376,6 +380,7 @@ sets_desk {pool} {seats} {h} {i} {f} {d} {t} ports c e =
         reached = g.reached;
         acked = c.acked ∙ g.acked;
         aside = c.aside ∙ g.aside;
+        sound = c.sound g.sound;
       };
     } in
     one_changes one i seats ports (p.seat_is ∙ ap (λ (s : Seat). Some s) (sym same_seat)) e

@@ -16,3 +16,4 @@ pub mod Over
 mod Blocks
 pub mod Dues
 pub mod Sendable
+pub mod Gathering
