@@ -3,13 +3,13 @@ use Rattle.std.proofs.Common.{◌≡◌, ◌≢◌, ℕ, zero, suc, ◌+◌, ◌
 use Rattle.std.specs.Prelude.{◌==◌, Option, Some, None, option_map, slice_get, slice_set, slice_index_or, IfSome}
 use Rattle.std.specs.List.{AllByRecursion}
 use Rattle.std.proofs.lemmas.Option.{slice_get_within, get_or_from_slice_get}
-use Rattle.std.proofs.lemmas.Bool.{eqb-true, eq-eqb}
+use Rattle.std.proofs.lemmas.Bool.{eqb-true, eq-eqb, not-true}
 use Rattle.block_pool.specs.Pool.{PoolState}
 use Rattle.link_end.specs.declared.«end».End.{End}
 use Rattle.link_end.specs.Ends.{HaveOwners}
 use Rattle.node_machine.specs.Parts.{Port, Desk as DeskOf}
 use Rattle.node_machine.specs.Carrying.{port_at, changed_if, with_port, after_turn}
-use Rattle.link_machine.specs.Machine.{LinkEnd as Machine, Turn, turn}
+use Rattle.link_machine.specs.Machine.{LinkEnd as Machine, Turn, turn, is_held}
 use Rattle.node_ends.specs.declared.seat.Seat.{Seat}
 use Rattle.node_deeds.specs.declared.desks.Desk.{Desk}
 use Rattle.node_deeds.specs.Cores.{IsSoundDesk}
@@ -18,10 +18,10 @@ use Rattle.link_end.specs.declared.link.LinkEnd.{LinkEnd as Link}
 use Rattle.node_ends.specs.declared.seat.Waiting.{Waiting}
 use Rattle.link_machine.specs.Machine.LinkInput.{FromNode}
 use Rattle.link_machine.specs.Laws.{AreSendableInputs}
-use Rattle.node_ends.specs.Holding.{HoldsSeat, HoldsEnd, Moves, WaitsHeld, kept_number}
+use Rattle.node_ends.specs.Holding.{HoldsSeat, HoldsEnd, Moves, WaitsHeld, messages_waiting, kept_number}
 use Rattle.node_ends.proofs.Counting.{reached_on, turn_acked}
 use Rattle.node_ends.proofs.Moving.{stays_beside}
-use Rattle.node_ends.specs.Ends.{SeatStandsFor, SeatsStandFor, HaveOwnersFrom, HaveOwnHosts, AreEnds, AreHeld, place_in}
+use Rattle.node_ends.specs.Ends.{SeatStandsFor, SeatsStandFor, HaveOwnersFrom, HaveOwnHosts, AreEnds, place_in}
 
 -- ## Hosts
 
@@ -411,13 +411,16 @@ comes {old} {new} {seats} {h} {i} {f} {d} {t} ports c e =
     let one : OneChanges old new h f r t = record { before = host; after = c.host ∙ host; moves = c.moves; stands = c.stands } in
     one_changes one i seats ports (p.seat_is ∙ ap (λ (s : Seat). Some s) (sym same_seat)) e
 
--- the end at a place is held while a message waits there
-pub held_at : {pool : PoolState} {seats : List Seat} {ports : List Port} (h i : ℕ) (d : Seat) → place_in h seats ≡ Some i → AreEnds pool seats ports
-    → AreHeld seats → WaitsHeld (slice_index_or seats i d).waiting (slice_index_or seats i d).side.link
-held_at {pool} {seats} h i d place e held =
-    let p = placed_in h i place e in
-    let P : Seat → Type 0 = λ s. WaitsHeld s.waiting s.side.link in
-    subst P (sym (read_at seats i p.seat d p.seat_is)) (all_at P seats i p.seat p.seat_is held)
+-- an end is held while a message waits there
+pub waits_held : (pool : PoolState) (r : Seat) (p : Port) → SeatStandsFor pool r p → ((p.side.got ≡ [] → ⊥) → is_held p.side ≡ true)
+    → WaitsHeld r.waiting r.side.link
+waits_held pool r p g held = by r.waiting refl
+  where
+    by : (o : Option Waiting) → r.waiting ≡ o → WaitsHeld o r.side.link
+    by None q = tt
+    by (Some w) q =
+        let got = g.holds.waits ∙ ap (messages_waiting pool) q in
+        g.holds.stands.halfway.link.kept.ready ∙ not-true p.side.shdlc.ready (held (λ none. let z = sym got ∙ none in cc))
 
 -- what is told where there is an end
 pub told_there : {X : Type 0} (f : Port → X) (x : X) (o : Option Port) (p : Port) → o ≡ Some p → x ≡ f p → Some x ≡ option_map f o

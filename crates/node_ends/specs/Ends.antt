@@ -1,5 +1,5 @@
 -- What is kept of the ends of a node, and for which ports of its machine it stands.
-use Rattle.std.specs.Prelude.{◌≡◌, ◌≢◌, ℕ, zero, suc, ◌+◌, ◌*◌, ◌==◌, Bool, false, if◌then◌else◌, List, [], ◌∷◌, length, take, ◌≤◌, ◌<◌, is_none, Option}
+use Rattle.std.specs.Prelude.{◌≡◌, ◌≢◌, ℕ, zero, suc, ◌+◌, ◌*◌, ◌==◌, Bool, true, false, if◌then◌else◌, List, [], ◌∷◌, length, take, ◌≤◌, ◌<◌, is_none, Option}
 use Rattle.std.specs.Prelude.{Some, None, option_map}
 use Rattle.std.specs.List.{AllByRecursion}
 use Rattle.std.specs.Option.{option_map_or}
@@ -17,7 +17,7 @@ use Rattle.node_deeds.specs.Cores.{IsSoundDesk}
 use Rattle.node_ends.specs.declared.seat.Seat.{Seat}
 use Rattle.node_ends.specs.declared.ends.Ends.{Ends}
 use Rattle.node_deeds.specs.Shown.{desk_shown}
-use Rattle.node_ends.specs.Holding.{HoldsSeat, WaitsHeld, IsReached, kept_number, where_done}
+use Rattle.node_ends.specs.Holding.{HoldsSeat, IsReached, kept_number, where_done}
 
 -- one end with what is kept of it
 pub record SeatStandsFor (pool : PoolState) (s : Seat) (p : Port) : Type 0 where
@@ -69,9 +69,10 @@ abbrev pub FewAreDue : Option Port → Type 0
 FewAreDue None = Unit {0}
 FewAreDue (Some p) = length p.side.acts + length p.side.shdlc.due ≤ 6
 
--- while a message waits at an end, it is held
-abbrev pub AreHeld : List Seat → Type 0
-AreHeld seats = AllByRecursion (λ (s : Seat). WaitsHeld s.waiting s.side.link) seats
+-- while a message waits at an end, where there is one, it is held
+abbrev pub IsHeldWhileOneWaits : Option Port → Type 0
+IsHeldWhileOneWaits None = Unit {0}
+IsHeldWhileOneWaits (Some p) = (p.side.got ≡ [] → ⊥) → is_held p.side ≡ true
 
 -- what is kept of all ends of a node, with their pool, stands for these ports
 abbrev pub EndsStandFor : Ends → List Port → Type 0

@@ -18,7 +18,7 @@ ghost use Rattle.link_machine.specs.Machine.{spare};
 ghost use Rattle.node_machine.specs.Controller.{has_link};
 ghost use Rattle.node_machine.specs.Parts.{Port};
 ghost use Rattle.node_machine.specs.Carrying.{port_at, with_port, after_turn};
-ghost use Rattle.node_ends.specs.Ends.{AreEnds, AreHeld, FewAreDue, MayStartAt, held_at, takes_at, place_in, at_place, has_sent, frame_at};
+ghost use Rattle.node_ends.specs.Ends.{AreEnds, FewAreDue, IsHeldWhileOneWaits, MayStartAt, held_at, takes_at, place_in, at_place, has_sent, frame_at};
 
 use crate::new_seats::add_seats;
 use crate::places::place_of;
@@ -67,7 +67,7 @@ impl Ends {
     ghost use Rattle.link_machine.specs.Machine.{spare};
     ghost use Rattle.node_machine.specs.Controller.{has_link};
     ghost use Rattle.node_machine.specs.Carrying.{port_at, with_port, after_turn};
-    ghost use Rattle.node_ends.specs.Ends.{EndsStandFor, AreHeld, FewAreDue, MayStartAt, held_at, takes_at, at_place, late_told, has_sent, frame_at};
+    ghost use Rattle.node_ends.specs.Ends.{EndsStandFor, FewAreDue, IsHeldWhileOneWaits, MayStartAt, held_at, takes_at, at_place, late_told, has_sent, frame_at};
 
     /// New ends of the links with these hosts, at most seven, in a pool with 128 blocks of each end for what it sends, and 512 for what
     /// comes there.
@@ -164,8 +164,8 @@ impl Ends {
     /// What an LPDU says comes to the end of the link with this host. While a message waits at an end, it is held. At most six control
     /// frames wait there to be sent. What is told of it; `None` where there is no such end.
     pub fn take(&mut self, host: u8, read: &Result<Control, LpduFault>) -> Option<LinkReport>
-        requires stands { (ports : List Port) × EndsStandFor self.old ports × FewAreDue (port_at ports host) }
-        requires held { AreHeld self.old.seats.items }
+        requires stands { (ports : List Port) × EndsStandFor self.old ports × FewAreDue (port_at ports host)
+            × IsHeldWhileOneWaits (port_at ports host) }
         requires read { (lpdu : List ℕ) × (read.now ≡ control_of lpdu) }
         ensures stands { (ports : List Port) (lpdu : List ℕ) → EndsStandFor self.old ports → read.now ≡ control_of lpdu
             → EndsStandFor self.new (with_port host (λ p. has_come p (Some (lpdu_input lpdu))) ports) }
@@ -503,8 +503,8 @@ fn take_at(
     read: &Result<Control, LpduFault>,
 ) -> LinkReport
     requires place { place_in host seats.old ≡ Some i }
-    requires stands { (ports : List Port) × AreEnds pool.old seats.old ports × FewAreDue (port_at ports host) }
-    requires held { AreHeld seats.old }
+    requires stands { (ports : List Port) × AreEnds pool.old seats.old ports × FewAreDue (port_at ports host)
+        × IsHeldWhileOneWaits (port_at ports host) }
     requires read { (lpdu : List ℕ) × (read.now ≡ control_of lpdu) }
     ensures stands { (ports : List Port) (lpdu : List ℕ) → AreEnds pool.old seats.old ports → read.now ≡ control_of lpdu
         → AreEnds pool.new seats.new (with_port host (λ p. has_come p (Some (lpdu_input lpdu))) ports) }

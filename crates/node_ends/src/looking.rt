@@ -29,7 +29,8 @@ impl Ends {
     ghost use Rattle.node_machine.specs.Carrying.{port_at, with_port};
     ghost use Rattle.node_deeds.specs.Shown.{desk_shown};
     ghost use Rattle.node_ends.specs.Ends.{EndsStandFor, AreOfHosts, got_at, message_read};
-    ghost use Rattle.std.specs.Prelude.{ℕ};
+    ghost use Rattle.std.specs.Prelude.{ℕ, false};
+    ghost use Rattle.std.specs.Option.{option_map_or};
     ghost use Rattle.gate_admin.specs.View.{has};
     ghost use Rattle.node_machine.specs.Controller.{has_link};
     ghost use Rattle.node_deeds.specs.Shown.{AreSeen};
@@ -74,6 +75,28 @@ impl Ends {
             + 32 * bit(self.has_link(5))
             + 64 * bit(self.has_link(6))
             + 128 * bit(self.has_link(7))
+    }
+
+    /// Whether the session of the end at this place ended in this step as something came there; `false` behind the last end.
+    pub fn has_ended(&self, i: usize) -> bool
+        requires { (ports : List Port) × EndsStandFor self.now ports }
+        ensures { (ports : List Port) → EndsStandFor self.now ports → result ≡ option_map_or (λ (p : Port). p.ended) (slice_get ports i) false }
+    {
+        match self.seats.get(i) {
+            Some(seat) => seat.ended,
+            None => false,
+        }
+    }
+
+    /// Whether the notice of the end at this place was late in this step; `false` behind the last end.
+    pub fn was_late(&self, i: usize) -> bool
+        requires { (ports : List Port) × EndsStandFor self.now ports }
+        ensures { (ports : List Port) → EndsStandFor self.now ports → result ≡ option_map_or (λ (p : Port). p.late) (slice_get ports i) false }
+    {
+        match self.seats.get(i) {
+            Some(seat) => seat.late,
+            None => false,
+        }
     }
 
     /// REC_ERROR of the end of the link with this host is set.
