@@ -9,3 +9,4 @@ pub mod HavingTurns
 pub mod Allowing
 pub mod Passing
 pub mod Spares
+mod Sendables
