@@ -10,3 +10,4 @@ pub mod Allowing
 pub mod Passing
 pub mod Spares
 mod Sendables
+mod Elsewhere

@@ -1,7 +1,8 @@
 -- A turn of a message, as a node decides on it.
-use Rattle.std.specs.Prelude.{◌≡◌, ℕ, Bool, List, map, Option, option_map}
+use Rattle.std.specs.Prelude.{◌≡◌, ℕ, Bool, List, map, Option, Some, option_map}
+use Rattle.std.specs.List.{AllByRecursion}
 use Rattle.link_machine.specs.Machine.{Message}
-use Rattle.node_machine.specs.Parts.{Work}
+use Rattle.node_machine.specs.Parts.{Port, Work}
 use Rattle.node_machine.specs.Carrying.{port_at, needs, lack}
 use Rattle.node_machine.specs.Turns.{deeds_of}
 use Rattle.node_deeds.specs.declared.deeds.Deed.{Deed}
@@ -19,3 +20,7 @@ pub record IsDecided (h : ℕ) (m : Message) (deeds : List Deed) (short : Option
   pub doable : AreDoableInTurn h m deeds (has_turn h m w)
   pub held_is : held ≡ held_at w.ports h
   pub few : FewAreDue (port_at w.ports h)
+
+-- at most six control frames wait to be sent at each end
+abbrev pub AreFewDue : List Port → Type 0
+AreFewDue ports = AllByRecursion (λ (p : Port). FewAreDue (Some p)) ports

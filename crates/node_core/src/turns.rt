@@ -20,12 +20,12 @@ impl<N: Nv + Drop> Node<N> {
     ghost use Rattle.trace_model.specs.declared.entry.Entry.{Entry as Noted};
     ghost use Rattle.node_machine.specs.Parts.{Port, Work};
     ghost use Rattle.node_machine.specs.Carrying.{port_at};
-    ghost use Rattle.node_machine.specs.Turns.{lets_go, have_turns};
+    ghost use Rattle.node_machine.specs.Turns.{lets_go, have_turns, passes};
     ghost use Rattle.hcp_packet.specs.Packets.{IsSendable};
     ghost use Rattle.node_ends.specs.Ends.{EndsStandFor, AreOfHosts, FewAreDue, held_at, got_at};
     ghost use Rattle.node_core.specs.Nodes.{IsInStep, IsSoundNode};
     ghost use Rattle.node_core.specs.Bringing.{Brings};
-    ghost use Rattle.node_core.specs.Turning.{IsDecided};
+    ghost use Rattle.node_core.specs.Turning.{IsDecided, AreFewDue};
 
     // No message is held at an end: it takes fragments again, if it was held.
     fn let_go(&mut self, host: u8, held: bool)
@@ -144,5 +144,33 @@ impl<N: Nv + Drop> Node<N> {
             message,
             watch,
         )
+    }
+
+    /// A controller goes once through its ends, ascending, and the messages that wait there have their turns. The ends are those of
+    /// links with hosts 01 to 07, and at most six control frames wait at each to be sent. The buffer has 4,096 bytes. Whether the
+    /// node has its power still.
+    pub(crate) fn passes<W: Watch>(&mut self, buffer: &mut [u8], watch: &mut W) -> bool
+        requires runs { IsSoundNode self.old }
+        requires live { IsTrue self.old.store.journal.live }
+        requires controller { self.old.number ≡ 0 }
+        requires buffer { length buffer.old ≡ 4096 }
+        requires may { (start : List Noted) × (w : Work) × IsInStep self.old (W.noted watch.old) (W.is_short watch.old) start w
+            × AreOfHosts w.ports × AreFewDue w.ports }
+        ensures carried { (start : List Noted) (w : Work) → IsInStep self.old (W.noted watch.old) (W.is_short watch.old) start w
+            → AreOfHosts w.ports → AreFewDue w.ports → Brings N.writes self.old.store.journal.nv self.new.store.journal.nv
+            (IsInStep self.new (W.noted watch.new) (W.is_short watch.new) start) passes w }
+        ensures live { result ≡ self.new.store.journal.live }
+        ensures number { self.new.number ≡ self.old.number }
+        ensures runs { IsSoundNode self.new }
+    {
+        for i in 0..7 {
+            let Some(host) = self.ends.host(i) else {
+                return true;
+            };
+            if !self.have_turns(host, buffer, watch) {
+                return false;
+            }
+        }
+        true
     }
 }
