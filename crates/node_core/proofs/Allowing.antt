@@ -1,4 +1,4 @@
--- What a controller decides may be done: a command finds room, and for a creation that waits a block is set aside.
+-- What a controller decides may be done: a command finds room.
 use Rattle.std.proofs.Common.{◌≡◌, ℕ, Bool, true, false, cond, ◌&&◌, List, [], ◌∷◌, map, refl, sym, ap, ap₂, ◌∙◌, subst}
 use Rattle.std.specs.Prelude.{Option, Some, None, Result, Ok, Err, ◌==◌, ◌<◌, option_map, IfSome}
 use Rattle.std.specs.List.{AllByRecursion, find}
@@ -28,11 +28,8 @@ use Rattle.node_machine.specs.Controller.{notice_deeds, response_at, relayed_to,
 use Rattle.node_machine.specs.Controller.{own_deeds, relay_deeds}
 use Rattle.node_machine.specs.Controller.{deeds_by_relay, controller_deeds, has_link, own_gate, view_for, goes_through, is_command_message, answers_on}
 use Rattle.node_deeds.proofs.Ports.{find-map}
-use Rattle.node_ends.specs.Ends.{HasAside}
 use Rattle.node_core.specs.Deeds.{IsGranted, AreGranted}
 use Rattle.node_core.specs.Handling.{has_turn}
-use Rattle.node_core.specs.Asides.{AreAside}
-use Rattle.node_core.proofs.Quiet.{commit_ports}
 
 -- ## Deeds that may always be done
 
@@ -59,7 +56,7 @@ one_plain (Commits c) w plain = absurd plain
 one_plain (Sends to m) w plain = tt
 one_plain SaysOk w plain = tt
 one_plain (Asks to message c) w plain = tt
-one_plain (Releases asker) w plain = absurd plain
+one_plain (Releases asker) w plain = tt
 one_plain (Tells to message) w plain = tt
 one_plain IsAnswered w plain = tt
 one_plain (Drops pid) w plain = tt
@@ -89,57 +86,6 @@ both_true : (a b : Bool) → (a && b) ≡ true → b ≡ true
 both_true true b q = q
 both_true false b q = absurd (true≢false (sym q))
 
--- ## What is set aside
-
-abbrev Aside : Type 0
-Aside = ℕ × ℕ
-
-abbrev aside_at : Port → Aside
-aside_at p = (p.desk.host, p.side.aside)
-
-same_asides : (h : ℕ) (f : Port → Port) → ((p : Port) → aside_at (f p) ≡ aside_at p) → (ports : List Port)
-    → map aside_at (with_port h f ports) ≡ map aside_at ports
-same_asides h f same [] = refl
-same_asides h f same (p ∷ ports) = ap₂ (λ (q : Aside) qs. q ∷ qs) (one (p.desk.host == h)) (same_asides h f same ports)
-  where
-    one : (b : Bool) → aside_at (changed_if b f p) ≡ aside_at p
-    one true = same p
-    one false = refl
-
-abbrev AsideIn : Option Aside → Type 0
-AsideIn None = Unit {0}
-AsideIn (Some q) = 0 < q.1
-
-aside_in : (o : Option Port) → HasAside o → AsideIn (option_map aside_at o)
-aside_in None has = tt
-aside_in (Some p) has = has
-
-in_aside : (o : Option Port) → AsideIn (option_map aside_at o) → HasAside o
-in_aside None has = tt
-in_aside (Some p) has = has
-
-aside_kept : (a b : List Port) (h : ℕ) → map aside_at a ≡ map aside_at b → HasAside (port_at a h) → HasAside (port_at b h)
-aside_kept a b h same has =
-    in_aside (port_at b h) (subst AsideIn (sym (find-map (λ (q : Aside). q.0 == h) aside_at a) ∙ (ap (find (λ (q : Aside). q.0 == h)) same
-    ∙ find-map (λ (q : Aside). q.0 == h) aside_at b)) (aside_in (port_at a h) has))
-
-found_all : (P : Port → Type 0) (ports : List Port) (h : ℕ) → AllByRecursion P ports → IfSome (port_at ports h) P
-found_all P [] h all = tt
-found_all P (p ∷ ports) h all = one (p.desk.host == h) (found_all P ports h all.1)
-  where
-    one : (b : Bool) → IfSome (port_at ports h) P → IfSome (cond b (Some p) (port_at ports h)) P
-    one true later = all.0
-    one false later = later
-
-turn_asides : (h : ℕ) (m : Message) (w : Work) → map aside_at (has_turn h m w).ports ≡ map aside_at w.ports
-turn_asides h m w =
-    same_asides h (λ p. record p { desk = record p.desk { holds = false } }) (λ p. refl) (with_port h (after_turn FetchMessage) w.ports)
-    ∙ same_asides h (after_turn FetchMessage) (λ p. refl) w.ports
-
--- the notice is answered, and what is set aside stays
-answered_asides : (h : ℕ) (w : Work) → map aside_at (done h IsAnswered w).ports ≡ map aside_at w.ports
-answered_asides h w = same_asides h (λ p. record p { desk = record p.desk { notice = None } }) (λ p. refl) w.ports
-
 -- ## Decisions
 
 module _ (h : ℕ) (m : Message) (w : Work) where
@@ -166,32 +112,22 @@ module _ (h : ℕ) (m : Message) (w : Work) where
   served_allowed view pipe instruction body None = decision_allowed pipe (decided w.core.tables view h pipe instruction body)
   served_allowed view pipe instruction body (Some gate) = gate_allowed gate view.errors pipe instruction body
 
-  agreed_allowed : (b : Bool) (c : Creation) → (b ≡ true → finds_room w.core c.command ≡ true) → HasAside (port_at w.ports c.asker)
-      → AreGranted h (agreed b c) (has_turn h m w)
-  agreed_allowed true c room has =
-      let v : Work = record (done h IsAnswered (record (has_turn h m w) { plan = None })) { plan = None } in
-      let same = sym (ap (map aside_at) (commit_ports c.command v) ∙ (answered_asides h (has_turn h m w) ∙ turn_asides h m w)) in
-      (tt, (room refl, (aside_kept w.ports (done h (Commits c.command) v).ports c.asker same has, (tt, (tt, tt)))))
-  agreed_allowed false c room has =
-      let same = sym (answered_asides h (has_turn h m w) ∙ turn_asides h m w) in
-      (tt, (aside_kept w.ports (done h IsAnswered (has_turn h m w)).ports c.asker same has, (tt, tt)))
+  agreed_allowed : (b : Bool) (c : Creation) → (b ≡ true → finds_room w.core c.command ≡ true) → AreGranted h (agreed b c) (has_turn h m w)
+  agreed_allowed true c room = (tt, (room refl, (tt, (tt, (tt, tt)))))
+  agreed_allowed false c room = (tt, (tt, (tt, tt)))
 
-  creation_allowed : (code : ℕ) (o : Option Creation) → IfSome o (λ (c : Creation). HasAside (port_at w.ports c.asker))
-      → AreGranted h (creation_deeds w.core code o) (has_turn h m w)
-  creation_allowed code None has = (tt, tt)
-  creation_allowed code (Some c) has =
-      agreed_allowed ((code == 0) && finds_room w.core c.command) c (both_true (code == 0) (finds_room w.core c.command)) has
+  creation_allowed : (code : ℕ) (o : Option Creation) → AreGranted h (creation_deeds w.core code o) (has_turn h m w)
+  creation_allowed code None = (tt, tt)
+  creation_allowed code (Some c) =
+      agreed_allowed ((code == 0) && finds_room w.core c.command) c (both_true (code == 0) (finds_room w.core c.command))
 
-  notice_allowed : (code : ℕ) (o : Option Notice) → IfSome (creation_in o) (λ (c : Creation). HasAside (port_at w.ports c.asker))
-      → AreGranted h (notice_deeds w.core code o) (has_turn h m w)
-  notice_allowed code None has = (tt, tt)
-  notice_allowed code (Some n) has = creation_allowed code (creation_in (Some n)) has
+  notice_allowed : (code : ℕ) (o : Option Notice) → AreGranted h (notice_deeds w.core code o) (has_turn h m w)
+  notice_allowed code None = (tt, tt)
+  notice_allowed code (Some n) = creation_allowed code (creation_in (Some n))
 
-  response_allowed : (code : ℕ) (o : Option Port)
-      → IfSome o (λ (p : Port). IfSome (asked_at p) (λ (c : Creation). HasAside (port_at w.ports c.asker)))
-      → AreGranted h (response_at w.core code o) (has_turn h m w)
-  response_allowed code None has = (tt, tt)
-  response_allowed code (Some p) has = notice_allowed code p.desk.notice has
+  response_allowed : (code : ℕ) (o : Option Port) → AreGranted h (response_at w.core code o) (has_turn h m w)
+  response_allowed code None = (tt, tt)
+  response_allowed code (Some p) = notice_allowed code p.desk.notice
 
   plain_allowed : (deeds : List Deed) → ArePlain deeds → AreGranted h deeds (has_turn h m w)
   plain_allowed deeds plain = all_plain h deeds (has_turn h m w) plain
@@ -202,21 +138,21 @@ module _ (h : ℕ) (m : Message) (w : Work) where
       served_allowed (view_for w.core.tables w.ports h) m.0 instruction (body_in m.1)
       (cond (goes_through w.core.tables h m.0 instruction) (own_gate w.core.tables h m.0) None)
 
-  kind_allowed : AreAside w.ports → (r : Result (MessageKind × ℕ) MessageFault) → AreGranted h (kind_deeds w.core w.ports h m r) (has_turn h m w)
-  kind_allowed asides (Ok (IsCommand, instruction)) = asking_allowed instruction _
-  kind_allowed asides (Ok (IsEvent, instruction)) = plain_allowed (event_deeds w.core.tables h m)
+  kind_allowed : (r : Result (MessageKind × ℕ) MessageFault) → AreGranted h (kind_deeds w.core w.ports h m r) (has_turn h m w)
+  kind_allowed (Ok (IsCommand, instruction)) = asking_allowed instruction _
+  kind_allowed (Ok (IsEvent, instruction)) = plain_allowed (event_deeds w.core.tables h m)
       (either ArePlain (is_opened w.core.tables h m.0 && option_map_or (λ gate. gate == 4) (own_gate w.core.tables h m.0) false && posts_back m.1)
       (Sends h m ∷ []) (Drops m.0 ∷ []) (tt, tt) (tt, tt))
-  kind_allowed asides (Ok (IsResponse, code)) = by (m.0 == 1)
+  kind_allowed (Ok (IsResponse, code)) = by (m.0 == 1)
     where
       by : (b : Bool) → AreGranted h (if_notice w.core w.ports h m code b) (has_turn h m w)
-      by true = response_allowed code (port_at w.ports h) (found_all _ w.ports h asides)
+      by true = response_allowed code (port_at w.ports h)
       by false = (tt, tt)
-  kind_allowed asides (Err fault) = (tt, tt)
+  kind_allowed (Err fault) = (tt, tt)
 
-  own_allowed : AreAside w.ports → (b : Bool) → AreGranted h (own_deeds w.core w.ports h m b) (has_turn h m w)
-  own_allowed asides true = kind_allowed asides (header_of m.1)
-  own_allowed asides false = (tt, tt)
+  own_allowed : (b : Bool) → AreGranted h (own_deeds w.core w.ports h m b) (has_turn h m w)
+  own_allowed true = kind_allowed (header_of m.1)
+  own_allowed false = (tt, tt)
 
   relay_allowed : (other : ℕ) (b : Bool) → AreGranted h (relay_deeds w.ports h m other b) (has_turn h m w)
   relay_allowed other true = (tt, tt)
@@ -225,10 +161,10 @@ module _ (h : ℕ) (m : Message) (w : Work) where
       (either ArePlain (has_link w.ports h && is_command_message m.1) (answers_on h m.0 (answer_of response.NotConnected [])) (Drops m.0 ∷ [])
       (tt, tt) (tt, tt))
 
-  by_relay_allowed : AreAside w.ports → (o : Option ℕ) → AreGranted h (deeds_by_relay w.core w.ports h m o) (has_turn h m w)
-  by_relay_allowed asides (Some other) = relay_allowed other (has_link w.ports other)
-  by_relay_allowed asides None = own_allowed asides (has_link w.ports h)
+  by_relay_allowed : (o : Option ℕ) → AreGranted h (deeds_by_relay w.core w.ports h m o) (has_turn h m w)
+  by_relay_allowed (Some other) = relay_allowed other (has_link w.ports other)
+  by_relay_allowed None = own_allowed (has_link w.ports h)
 
   -- what a controller decides may be done, once the message has its turn
-  pub controller_allowed : AreAside w.ports → AreGranted h (controller_deeds w.core w.ports h m) (has_turn h m w)
-  controller_allowed asides = by_relay_allowed asides (relayed_to w.core.tables h m)
+  pub controller_allowed : AreGranted h (controller_deeds w.core w.ports h m) (has_turn h m w)
+  controller_allowed = by_relay_allowed (relayed_to w.core.tables h m)

@@ -9,18 +9,17 @@ use Rattle.node_machine.specs.Parts.{Port, Work, Deed as DeedOf}
 use Rattle.node_machine.specs.Carrying.{port_at, turn_at, unless_cut, lack, needs}
 use Rattle.node_machine.specs.Turns.{deeds_of, handles, holds_back, lets_go, have_turns}
 use Rattle.std.specs.Prelude.{◌==◌}
-use Rattle.hcp_packet.specs.Packets.{AreSendable}
+use Rattle.hcp_packet.specs.Packets.{IsSendable}
 use Rattle.node_machine.specs.Parts.{Core}
 use Rattle.node_machine.specs.Controller.{controller_deeds}
-use Rattle.node_deeds.specs.declared.desks.Desk.{Desk}
 use Rattle.node_deeds.specs.declared.deeds.Deed.{Deed}
 use Rattle.node_deeds.specs.declared.room.Shortfall.{Shortfall}
 use Rattle.node_deeds.specs.Room.{lack_shown}
 use Rattle.node_deeds.specs.Cores.{AreDoable as AreDecided}
-use Rattle.node_ends.specs.Ends.{got_at}
+use Rattle.node_ends.specs.Ends.{FewAreDue, held_at}
 use Rattle.node_core.specs.Deeds.{deed_of, AreGranted}
 use Rattle.node_core.specs.Handling.{has_turn}
-use Rattle.node_core.specs.Turning.{held_at, IsDecided, MayHaveTurns}
+use Rattle.node_core.specs.Turning.{IsDecided}
 use Rattle.node_core.proofs.Allowing.{controller_allowed}
 use Rattle.node_core.proofs.Deciding.{all_doable}
 use Rattle.node_core.specs.Bringing.{Foretells, Brings}
@@ -122,20 +121,18 @@ at_controller : (core : Core) (ports : List Port) (h : ℕ) (m : Message) → co
 at_controller core ports h m q = let e : (core.node == 0) ≡ true = ap (λ n. n == 0) q in rw e refl
 
 -- what a controller decided of the message that waits
-pub decided : (h pipe up : ℕ) (message : List ℕ) (desks : List Desk) (spares : List ℕ) (deeds : List Deed) (short : Option Shortfall) (held : Bool) (w : Work)
-    → w.core.node ≡ 0 → MayHaveTurns h up desks spares w → got_at w.ports h ≡ (pipe, message) ∷ []
+pub decided : (h pipe : ℕ) (message : List ℕ) (deeds : List Deed) (short : Option Shortfall) (w : Work) → w.core.node ≡ 0
+    → FewAreDue (port_at w.ports h) → IsSendable (pipe, message)
     → map (deed_of (pipe, message)) deeds ≡ controller_deeds w.core w.ports h (pipe, message) → AreDecided deeds
     → option_map lack_shown short ≡ lack w.ports (needs h (map (deed_of (pipe, message)) deeds))
-    → held ≡ option_map_or (λ (p : Port). p.desk.holds) (port_at w.ports h) false → IsDecided h (pipe, message) deeds short held w
-decided h pipe up message desks spares deeds short held w node may got told made lacks holds =
+    → IsDecided h (pipe, message) deeds short (held_at w.ports h) w
+decided h pipe message deeds short w node few sendable told made lacks =
     let m : Message = (pipe, message) in
-    let is : deeds_of w.core w.ports h m ≡ map (deed_of m) deeds = at_controller w.core w.ports h m node ∙ sym told in
-    let sendable = subst AreSendable got may.sendable in
     let A : List DeedOf → Type 0 = λ ds. AreGranted h ds (has_turn h m w) in
     record {
-      deeds_are = is;
+      deeds_are = at_controller w.core w.ports h m node ∙ sym told;
       lacks = sym lacks;
-      doable = all_doable h m deeds (has_turn h m w) sendable.0 made (subst A (sym told) (controller_allowed h m w may.asides));
-      held_is = holds ∙ may.held_is;
-      few = may.few;
+      doable = all_doable h m deeds (has_turn h m w) sendable made (subst A (sym told) (controller_allowed h m w));
+      held_is = refl;
+      few = few;
     }

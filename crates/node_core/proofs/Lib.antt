@@ -9,3 +9,5 @@ pub mod HavingTurns
 pub mod Allowing
 pub mod Passing
 pub mod Spares
+mod Sendables
+mod Elsewhere

@@ -14,8 +14,7 @@ use Rattle.node_machine.specs.Parts.Deed.{Commits, Sends, SaysOk, Asks, Releases
 use Rattle.node_machine.specs.Carrying.{port_at, changed_if, with_port, after_turn, commit, done, all_done}
 use Rattle.node_machine.specs.Turns.{handles}
 use Rattle.node_deeds.proofs.Ports.{find-map}
-use Rattle.node_ends.specs.Ends.{FewAreDue}
-use Rattle.node_core.specs.Turning.{held_at}
+use Rattle.node_ends.specs.Ends.{FewAreDue, held_at}
 
 -- the host of an end, how many control frames wait there, and whether it takes fragments
 abbrev pub Quiet : Type 0

@@ -2,29 +2,29 @@
 use Rattle.std.specs.Prelude.{ℕ, ◌≡◌, true, List, [], ◌∷◌, None}
 use Rattle.hcp_packet.specs.Packets.{IsSendable}
 use Rattle.hci_tables.specs.Commands.{IsCommand}
+use Rattle.hci_tables.specs.declared.command.Command.TheVariants.{Create}
 use Rattle.link_machine.specs.Machine.{Message}
 use Rattle.node_machine.specs.Parts.{Work, Deed as DeedOf}
 use Rattle.node_machine.specs.Parts.Deed.{Commits, Sends, SaysOk, Asks, Releases, Tells, IsAnswered, Drops, SetsErrors, Orders, Hears, GoesOn, Ends}
-use Rattle.node_machine.specs.Carrying.{port_at, finds_room, done}
+use Rattle.node_machine.specs.Carrying.{finds_room, done}
 use Rattle.node_deeds.specs.declared.deeds.Deed.{Deed}
 use Rattle.node_deeds.specs.declared.deeds.Deed.TheVariants as kept
 use Rattle.node_deeds.specs.Shown.{deed_shown}
 use Rattle.node_deeds.specs.Cores.{handled}
-use Rattle.node_ends.specs.Ends.{HasAside}
 
 -- the deed of the machine, where a controller handles this message
 abbrev pub deed_of : Message → Deed → DeedOf
 deed_of m d = deed_shown (handled m.0 m.1) d
 
--- A deed may be done at a controller: a command finds room and may be recorded, what is sent isn't empty and goes over a pipe, what is
--- released was set aside, and it is none of those of a host.
+-- A deed may be done at a controller: a command finds room and may be recorded, a pipe that is asked for may be made, what is sent isn't
+-- empty and goes over a pipe, and it is none of those of a host.
 abbrev pub IsDoableNow : Message → Deed → Work → Type 0
 IsDoableNow m (kept.Commits c) w = IsCommand c × (finds_room w.core c ≡ true)
 IsDoableNow m (kept.PassesOn host) w = IsSendable m
 IsDoableNow m (kept.Sends host pipe message) w = IsSendable (pipe, message.items)
 IsDoableNow m kept.SaysOk w = Unit {0}
-IsDoableNow m (kept.Asks row) w = Unit {0}
-IsDoableNow m (kept.Releases asker) w = HasAside (port_at w.ports asker)
+IsDoableNow m (kept.Asks row) w = IsCommand (Create row)
+IsDoableNow m (kept.Releases asker) w = Unit {0}
 IsDoableNow m (kept.Tells host message) w = IsSendable (1, message.items)
 IsDoableNow m kept.IsAnswered w = Unit {0}
 IsDoableNow m (kept.Drops pipe) w = Unit {0}
@@ -39,14 +39,14 @@ abbrev pub AreDoableInTurn : ℕ → Message → List Deed → Work → Type 0
 AreDoableInTurn h m [] w = Unit {0}
 AreDoableInTurn h m (d ∷ deeds) w = IsDoableNow m d w × AreDoableInTurn h m deeds (done h (deed_of m d) (record w { plan = None }))
 
--- A deed of a machine may be done here as far as its node knows more than its decision: a command finds room, what is released was set
--- aside, and it is none of those of a host.
+-- A deed of a machine may be done here as far as its node knows more than its decision: a command finds room, and it is none of those of
+-- a host.
 abbrev pub IsGranted : DeedOf → Work → Type 0
 IsGranted (Commits c) w = finds_room w.core c ≡ true
 IsGranted (Sends to m) w = Unit {0}
 IsGranted SaysOk w = Unit {0}
 IsGranted (Asks to message c) w = Unit {0}
-IsGranted (Releases asker) w = HasAside (port_at w.ports asker)
+IsGranted (Releases asker) w = Unit {0}
 IsGranted (Tells to message) w = Unit {0}
 IsGranted IsAnswered w = Unit {0}
 IsGranted (Drops pid) w = Unit {0}

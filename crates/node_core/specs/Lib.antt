@@ -4,4 +4,3 @@ pub mod Bringing
 pub mod Deeds
 pub mod Handling
 pub mod Turning
-pub mod Asides

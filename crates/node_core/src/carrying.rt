@@ -16,10 +16,12 @@ impl<N: Nv + Drop> Node<N> {
     ghost use Rattle.hci_tables.specs.Commands.{IsCommand};
     ghost use Rattle.gate_admin.specs.Decide.{ends_of};
     ghost use Rattle.link_machine.specs.Machine.Turn.{Give, Release};
-    ghost use Rattle.node_machine.specs.Parts.{Core, Port, Work};
+    ghost use Rattle.node_machine.specs.Parts.{Core, Work};
     ghost use Rattle.node_machine.specs.Parts.Deed.{Asks, SaysOk, Drops};
     ghost use Rattle.node_deeds.specs.Shown.{about_shown, creation_of_row};
-    ghost use Rattle.node_ends.specs.Ends.{EndsStandFor, HasAside, FewAreDue};
+    ghost use Rattle.node_deeds.specs.Replies.{IsSoundAbout};
+    ghost use Rattle.hci_tables.specs.declared.command.Command.TheVariants.{Create};
+    ghost use Rattle.node_ends.specs.Ends.{FewAreDue};
     ghost use Rattle.node_machine.specs.Carrying.{turn_at, commit, notified, done, all_done, port_at, has_room_for, end_of_node, noting};
     ghost use Rattle.node_core.specs.Nodes.{IsInStep, IsSoundNode};
     ghost use Rattle.node_core.specs.Bringing.{Brings};
@@ -44,6 +46,7 @@ impl<N: Nv + Drop> Node<N> {
         ensures carried { (start : List Noted) (w : Work) → IsInStep self.old (W.noted watch.old) (W.is_short watch.old) start w
             → IsInStep self.new (W.noted watch.new) (W.is_short watch.new) start (turn_at host (Give (pipe, message.now)) w) }
         ensures store { self.new.store ≡ self.old.store }
+        ensures number { self.new.number ≡ self.old.number }
         ensures runs { IsSoundNode self.new }
     {
         if self.ends.send(host, pipe, message) {
@@ -67,6 +70,7 @@ impl<N: Nv + Drop> Node<N> {
             → Brings N.writes self.old.store.journal.nv self.new.store.journal.nv
             (IsInStep self.new (W.noted watch.new) (W.is_short watch.new) start) (commit command.now) w }
         ensures live { result ≡ self.new.store.journal.live }
+        ensures number { self.new.number ≡ self.old.number }
         ensures runs { IsSoundNode self.new }
     {
         let node = self.number;
@@ -83,13 +87,15 @@ impl<N: Nv + Drop> Node<N> {
         false
     }
 
-    // A notice goes to a host, and isn't answered yet.
+    // A notice goes to a host, and isn't answered yet. A pipe that the host is asked for may be made.
     fn notify<W: Watch>(&mut self, host: u8, about: About, message: &[u8], watch: &mut W)
         requires runs { IsSoundNode self.old }
+        requires sound { IsSoundAbout about }
         requires some { 0 < length message.now }
         ensures carried { (start : List Noted) (w : Work) → IsInStep self.old (W.noted watch.old) (W.is_short watch.old) start w
             → IsInStep self.new (W.noted watch.new) (W.is_short watch.new) start (notified host (about_shown about) message.now w) }
         ensures store { self.new.store ≡ self.old.store }
+        ensures number { self.new.number ≡ self.old.number }
         ensures runs { IsSoundNode self.new }
     {
         self.send(host, 1, message, watch);
@@ -97,13 +103,15 @@ impl<N: Nv + Drop> Node<N> {
             .set_notice(host, Some(Unanswered { about, age: 0 }));
     }
 
-    // A host is asked for the creation of a pipe.
+    // A host is asked for the creation of a pipe, which may be made.
     fn ask<W: Watch>(&mut self, row: PipeRow, watch: &mut W)
         requires runs { IsSoundNode self.old }
+        requires row { IsCommand (Create row) }
         ensures carried { (start : List Noted) (w : Work) → IsInStep self.old (W.noted watch.old) (W.is_short watch.old) start w
             → IsInStep self.new (W.noted watch.new) (W.is_short watch.new) start
             (done 0 (Asks row.dest (18 ∷ ends_of row) (creation_of_row row)) w) }
         ensures store { self.new.store ≡ self.old.store }
+        ensures number { self.new.number ≡ self.old.number }
         ensures runs { IsSoundNode self.new }
     {
         self.ends.set_aside(row.creator);
@@ -123,13 +131,13 @@ impl<N: Nv + Drop> Node<N> {
         self.notify(row.dest, About::Waits(row), &notice, watch);
     }
 
-    // The block that was set aside for an asker is free.
+    // The block that was set aside for an asker, where one was, is free.
     fn release<W: Watch>(&mut self, asker: u8, watch: &mut W)
         requires runs { IsSoundNode self.old }
-        requires aside { (ports : List Port) × EndsStandFor self.old.ends ports × HasAside (port_at ports asker) }
         ensures carried { (start : List Noted) (w : Work) → IsInStep self.old (W.noted watch.old) (W.is_short watch.old) start w
             → IsInStep self.new (W.noted watch.new) (W.is_short watch.new) start (turn_at asker Release w) }
         ensures store { self.new.store ≡ self.old.store }
+        ensures number { self.new.number ≡ self.old.number }
         ensures runs { IsSoundNode self.new }
     {
         self.ends.release(asker);
@@ -180,6 +188,7 @@ impl<N: Nv + Drop> Node<N> {
             → Brings N.writes self.old.store.journal.nv self.new.store.journal.nv
             (IsInStep self.new (W.noted watch.new) (W.is_short watch.new) start) (done host (deed_of (pipe, message.now) deed.now)) w }
         ensures live { result ≡ self.new.store.journal.live }
+        ensures number { self.new.number ≡ self.old.number }
         ensures runs { IsSoundNode self.new }
     {
         match deed {
@@ -251,6 +260,7 @@ impl<N: Nv + Drop> Node<N> {
             → Brings N.writes self.old.store.journal.nv self.new.store.journal.nv
             (IsInStep self.new (W.noted watch.new) (W.is_short watch.new) start) (all_done host (map (deed_of (pipe, message.now)) deeds.now)) w }
         ensures live { result ≡ self.new.store.journal.live }
+        ensures number { self.new.number ≡ self.old.number }
         ensures runs { IsSoundNode self.new }
     {
         for deed in deeds {
@@ -267,6 +277,7 @@ impl<N: Nv + Drop> Node<N> {
         ensures carried { (start : List Noted) (w : Work) → IsInStep self.old (W.noted watch.old) (W.is_short watch.old) start w
             → IsInStep self.new (W.noted watch.new) (W.is_short watch.new) start (has_turn host (pipe, message.now) w) }
         ensures store { self.new.store ≡ self.old.store }
+        ensures number { self.new.number ≡ self.old.number }
         ensures runs { IsSoundNode self.new }
     {
         let turn = Entry::Turn {
@@ -298,6 +309,7 @@ impl<N: Nv + Drop> Node<N> {
             (IsInStep self.new (W.noted watch.new) (W.is_short watch.new) start)
             (handles host (pipe, message.now) (map (deed_of (pipe, message.now)) deeds.now)) w }
         ensures live { result ≡ self.new.store.journal.live }
+        ensures number { self.new.number ≡ self.old.number }
         ensures runs { IsSoundNode self.new }
     {
         self.begin_turn(host, pipe, message, watch);
@@ -310,6 +322,7 @@ impl<N: Nv + Drop> Node<N> {
         ensures carried { (start : List Noted) (w : Work) → IsInStep self.old (W.noted watch.old) (W.is_short watch.old) start w
             → IsInStep self.new (W.noted watch.new) (W.is_short watch.new) start (is_noted_held host (need, spare) w) }
         ensures store { self.new.store ≡ self.old.store }
+        ensures number { self.new.number ≡ self.old.number }
         ensures runs { IsSoundNode self.new }
     {
         if self.ends.holds(host) {
@@ -329,6 +342,7 @@ impl<N: Nv + Drop> Node<N> {
         ensures carried { (start : List Noted) (w : Work) → IsInStep self.old (W.noted watch.old) (W.is_short watch.old) start w
             → IsInStep self.new (W.noted watch.new) (W.is_short watch.new) start (holds_back host (need, spare) w) }
         ensures store { self.new.store ≡ self.old.store }
+        ensures number { self.new.number ≡ self.old.number }
         ensures runs { IsSoundNode self.new }
     {
         self.note_held(host, need, spare, watch);

@@ -2,21 +2,30 @@
 ghost use Rattle.std.specs.Prelude.{◌≡◌};
 
 use crate::node::Node;
-use node_deeds::{Deed, Desk, Shortfall, controller_deeds, lack};
+use node_deeds::{Deed, Deeds, Shortfall, controller_deeds, lack};
 use swp_base::Nv;
 use trace_model::Watch;
+
+/// What was decided of a message.
+#[derive(Drop)]
+pub(crate) struct Decided {
+    /// What is done with it.
+    pub(crate) deeds: Deeds,
+    /// The room that this lacks.
+    pub(crate) short: Option<Shortfall>,
+}
 
 impl<N: Nv + Drop> Node<N> {
     ghost use Rattle.std.specs.Prelude.{◌≡◌, ◌≤◌, Bool, List, ◌∷◌, [], length, IsTrue};
     ghost use Rattle.trace_model.specs.declared.entry.Entry.{Entry as Noted};
     ghost use Rattle.node_machine.specs.Parts.{Port, Work};
     ghost use Rattle.node_machine.specs.Carrying.{port_at};
-    ghost use Rattle.node_machine.specs.Turns.{lets_go, have_turns};
-    ghost use Rattle.node_ends.specs.Ends.{EndsStandFor, FewAreDue, got_at};
-    ghost use Rattle.node_deeds.specs.Cores.{AreSoundDesks};
+    ghost use Rattle.node_machine.specs.Turns.{lets_go, have_turns, passes};
+    ghost use Rattle.hcp_packet.specs.Packets.{IsSendable};
+    ghost use Rattle.node_ends.specs.Ends.{EndsStandFor, AreOfHosts, FewAreDue, held_at, got_at};
     ghost use Rattle.node_core.specs.Nodes.{IsInStep, IsSoundNode};
     ghost use Rattle.node_core.specs.Bringing.{Brings};
-    ghost use Rattle.node_core.specs.Turning.{held_at, IsDecided, MayHaveTurns};
+    ghost use Rattle.node_core.specs.Turning.{IsDecided, AreFewDue};
 
     // No message is held at an end: it takes fragments again, if it was held.
     fn let_go(&mut self, host: u8, held: bool)
@@ -25,6 +34,7 @@ impl<N: Nv + Drop> Node<N> {
         ensures carried { (noted : List Noted) (short : Bool) (start : List Noted) (w : Work) → IsInStep self.old noted short start w
             → held ≡ held_at w.ports host → IsInStep self.new noted short start (lets_go host w) }
         ensures store { self.new.store ≡ self.old.store }
+        ensures number { self.new.number ≡ self.old.number }
         ensures runs { IsSoundNode self.new }
     {
         if held {
@@ -52,6 +62,7 @@ impl<N: Nv + Drop> Node<N> {
             → IsDecided host (pipe, message.now) deeds.now short held w → Brings N.writes self.old.store.journal.nv self.new.store.journal.nv
             (IsInStep self.new (W.noted watch.new) (W.is_short watch.new) start) (have_turns host ((pipe, message.now) ∷ [])) w }
         ensures live { result ≡ self.new.store.journal.live }
+        ensures number { self.new.number ≡ self.old.number }
         ensures runs { IsSoundNode self.new }
     {
         if let Some(Shortfall { need, spare }) = short {
@@ -64,15 +75,41 @@ impl<N: Nv + Drop> Node<N> {
         self.let_go(host, held);
         true
     }
+
+    // What a controller does with this message, which waits at its end with this host, and the room that this lacks.
+    fn decide(&mut self, host: u8, pipe: u8, message: &[u8]) -> Decided
+        requires runs { IsSoundNode self.old }
+        requires live { IsTrue self.old.store.journal.live }
+        requires controller { self.old.number ≡ 0 }
+        requires some { 1 ≤ host }
+        requires host { host ≤ 7 }
+        requires sendable { IsSendable (pipe, message.now) }
+        requires short { length message.now ≤ 4096 }
+        ensures decided { (noted : List Noted) (full : Bool) (start : List Noted) (w : Work) → IsInStep self.old noted full start w
+            → AreOfHosts w.ports → FewAreDue (port_at w.ports host) → IsDecided host (pipe, message.now) result.deeds.items result.short
+            (held_at w.ports host) w }
+        ensures same { self.new ≡ self.old }
+    {
+        let spares = self.spares();
+        let seen = self.ends.seen();
+        let deeds = controller_deeds(
+            &mut self.store,
+            seen.desks.as_slice(),
+            seen.up,
+            host,
+            pipe,
+            message,
+        );
+        let short = lack(deeds.as_slice(), host, message.len(), &spares);
+        Decided { deeds, short }
+    }
+
     /// The message that waits at the end of the link with this host has its turn at a controller, where one does; then the end takes
-    /// fragments again, unless the message is held back. These desks, the mask of the links that are up and what is spare at each end
-    /// are those of the ends of the controller. The buffer has 4,096 bytes. Whether the node has its power still.
+    /// fragments again, unless the message is held back. The ends are those of links with hosts 01 to 07, and at most six control
+    /// frames wait at this one to be sent. The buffer has 4,096 bytes. Whether the node has its power still.
     pub(crate) fn have_turns<W: Watch>(
         &mut self,
         host: u8,
-        desks: &[Desk],
-        up: u8,
-        spares: &[u16],
         buffer: &mut [u8],
         watch: &mut W,
     ) -> bool
@@ -81,25 +118,59 @@ impl<N: Nv + Drop> Node<N> {
         requires controller { self.old.number ≡ 0 }
         requires some { 1 ≤ host }
         requires host { host ≤ 7 }
-        requires few { length desks.now ≤ 7 }
-        requires sound { AreSoundDesks desks.now }
         requires buffer { length buffer.old ≡ 4096 }
         requires may { (start : List Noted) × (w : Work) × IsInStep self.old (W.noted watch.old) (W.is_short watch.old) start w
-            × MayHaveTurns host up desks.now spares.now w }
+            × AreOfHosts w.ports × FewAreDue (port_at w.ports host) }
         ensures carried { (start : List Noted) (w : Work) → IsInStep self.old (W.noted watch.old) (W.is_short watch.old) start w
-            → MayHaveTurns host up desks.now spares.now w → Brings N.writes self.old.store.journal.nv self.new.store.journal.nv
+            → AreOfHosts w.ports → FewAreDue (port_at w.ports host) → Brings N.writes self.old.store.journal.nv self.new.store.journal.nv
             (IsInStep self.new (W.noted watch.new) (W.is_short watch.new) start) (have_turns host (got_at w.ports host)) w }
         ensures live { result ≡ self.new.store.journal.live }
+        ensures number { self.new.number ≡ self.old.number }
         ensures runs { IsSoundNode self.new }
     {
-        let held = self.ends.holds(host);
+        let held = self.ends.is_held(host);
         let Some((pipe, len)) = self.ends.read(host, buffer) else {
             self.let_go(host, held);
             return true;
         };
         let message = &buffer[..len];
-        let deeds = controller_deeds(&mut self.store, desks, up, host, pipe, message);
-        let short = lack(deeds.as_slice(), host, len, spares);
-        self.take_turn(host, deeds.as_slice(), short, held, pipe, message, watch)
+        let decided = self.decide(host, pipe, message);
+        self.take_turn(
+            host,
+            decided.deeds.as_slice(),
+            decided.short,
+            held,
+            pipe,
+            message,
+            watch,
+        )
+    }
+
+    /// A controller goes once through its ends, ascending, and the messages that wait there have their turns. The ends are those of
+    /// links with hosts 01 to 07, and at most six control frames wait at each to be sent. The buffer has 4,096 bytes. Whether the
+    /// node has its power still.
+    pub(crate) fn passes<W: Watch>(&mut self, buffer: &mut [u8], watch: &mut W) -> bool
+        requires runs { IsSoundNode self.old }
+        requires live { IsTrue self.old.store.journal.live }
+        requires controller { self.old.number ≡ 0 }
+        requires buffer { length buffer.old ≡ 4096 }
+        requires may { (start : List Noted) × (w : Work) × IsInStep self.old (W.noted watch.old) (W.is_short watch.old) start w
+            × AreOfHosts w.ports × AreFewDue w.ports }
+        ensures carried { (start : List Noted) (w : Work) → IsInStep self.old (W.noted watch.old) (W.is_short watch.old) start w
+            → AreOfHosts w.ports → AreFewDue w.ports → Brings N.writes self.old.store.journal.nv self.new.store.journal.nv
+            (IsInStep self.new (W.noted watch.new) (W.is_short watch.new) start) passes w }
+        ensures live { result ≡ self.new.store.journal.live }
+        ensures number { self.new.number ≡ self.old.number }
+        ensures runs { IsSoundNode self.new }
+    {
+        for i in 0..7 {
+            let Some(host) = self.ends.host(i) else {
+                return true;
+            };
+            if !self.have_turns(host, buffer, watch) {
+                return false;
+            }
+        }
+        true
     }
 }

@@ -3,24 +3,25 @@ use Rattle.std.proofs.Common.{◌≡◌, ◌≢◌, ℕ, zero, suc, ◌+◌, ◌
 use Rattle.std.specs.Prelude.{◌==◌, Option, Some, None, option_map, slice_get, slice_set, slice_index_or, IfSome}
 use Rattle.std.specs.List.{AllByRecursion}
 use Rattle.std.proofs.lemmas.Option.{slice_get_within, get_or_from_slice_get}
-use Rattle.std.proofs.lemmas.Bool.{eqb-true, eq-eqb}
+use Rattle.std.proofs.lemmas.Bool.{eqb-true, eq-eqb, not-true}
 use Rattle.block_pool.specs.Pool.{PoolState}
 use Rattle.link_end.specs.declared.«end».End.{End}
 use Rattle.link_end.specs.Ends.{HaveOwners}
 use Rattle.node_machine.specs.Parts.{Port, Desk as DeskOf}
 use Rattle.node_machine.specs.Carrying.{port_at, changed_if, with_port, after_turn}
-use Rattle.link_machine.specs.Machine.{LinkEnd as Machine, Turn, turn}
+use Rattle.link_machine.specs.Machine.{LinkEnd as Machine, Turn, turn, is_held}
 use Rattle.node_ends.specs.declared.seat.Seat.{Seat}
 use Rattle.node_deeds.specs.declared.desks.Desk.{Desk}
+use Rattle.node_deeds.specs.Cores.{IsSoundDesk}
 use Rattle.node_deeds.specs.Shown.{desk_shown}
 use Rattle.link_end.specs.declared.link.LinkEnd.{LinkEnd as Link}
 use Rattle.node_ends.specs.declared.seat.Waiting.{Waiting}
 use Rattle.link_machine.specs.Machine.LinkInput.{FromNode}
 use Rattle.link_machine.specs.Laws.{AreSendableInputs}
-use Rattle.node_ends.specs.Holding.{HoldsSeat, HoldsEnd, Moves, WaitsHeld, kept_number}
+use Rattle.node_ends.specs.Holding.{HoldsSeat, HoldsEnd, Moves, WaitsHeld, messages_waiting, kept_number}
 use Rattle.node_ends.proofs.Counting.{reached_on, turn_acked}
 use Rattle.node_ends.proofs.Moving.{stays_beside}
-use Rattle.node_ends.specs.Ends.{SeatStandsFor, SeatsStandFor, HaveOwnersFrom, HaveOwnHosts, AreEnds, AreHeld, place_in}
+use Rattle.node_ends.specs.Ends.{SeatStandsFor, SeatsStandFor, HaveOwnersFrom, HaveOwnHosts, AreEnds, place_in}
 
 -- ## Hosts
 
@@ -100,6 +101,7 @@ module _ {old new : PoolState} {h : ℕ} {f : Port → Port} {s t : Seat} (c : O
         reached = g.reached;
         acked = g.acked;
         aside = g.aside;
+        sound = g.sound;
       })
 
   -- all ends behind that place stay
@@ -295,6 +297,7 @@ turns_so {old} {new} {seats} {h} {i} {x} {d} {t} ports c e =
         reached = reached_on q.side (FromNode x) c.sendable g.reached;
         acked = c.acked ∙ (g.acked ∙ ap kept_number (sym (turn_acked q.side x c.sendable g.reached)));
         aside = (c.stands q.side g.holds g.aside).1;
+        sound = subst IsSoundDesk (sym c.desk) g.sound;
       };
     } in
     one_changes one i seats ports (p.seat_is ∙ ap (λ (s : Seat). Some s) (sym same_seat)) e
@@ -353,6 +356,7 @@ pub record SetsDesk (pool : PoolState) (seats : List Seat) (h i : ℕ) (f : Desk
   pub aside : t.aside ≡ (slice_index_or seats i d).aside
   pub host : t.desk.host ≡ (slice_index_or seats i d).desk.host
   pub desk : desk_shown t.desk ≡ f (desk_shown (slice_index_or seats i d).desk)
+  pub sound : IsSoundDesk (slice_index_or seats i d).desk → IsSoundDesk t.desk
 
 pub sets_desk : {pool : PoolState} {seats : List Seat} {h i : ℕ} {f : DeskOf → DeskOf} {d t : Seat} (ports : List Port) → SetsDesk pool seats h i f d t
     → AreEnds pool seats ports → AreEnds pool (slice_set seats i t) (with_port h (λ p. record p { desk = f p.desk }) ports)
@@ -376,6 +380,7 @@ sets_desk {pool} {seats} {h} {i} {f} {d} {t} ports c e =
         reached = g.reached;
         acked = c.acked ∙ g.acked;
         aside = c.aside ∙ g.aside;
+        sound = c.sound g.sound;
       };
     } in
     one_changes one i seats ports (p.seat_is ∙ ap (λ (s : Seat). Some s) (sym same_seat)) e
@@ -406,13 +411,16 @@ comes {old} {new} {seats} {h} {i} {f} {d} {t} ports c e =
     let one : OneChanges old new h f r t = record { before = host; after = c.host ∙ host; moves = c.moves; stands = c.stands } in
     one_changes one i seats ports (p.seat_is ∙ ap (λ (s : Seat). Some s) (sym same_seat)) e
 
--- the end at a place is held while a message waits there
-pub held_at : {pool : PoolState} {seats : List Seat} {ports : List Port} (h i : ℕ) (d : Seat) → place_in h seats ≡ Some i → AreEnds pool seats ports
-    → AreHeld seats → WaitsHeld (slice_index_or seats i d).waiting (slice_index_or seats i d).side.link
-held_at {pool} {seats} h i d place e held =
-    let p = placed_in h i place e in
-    let P : Seat → Type 0 = λ s. WaitsHeld s.waiting s.side.link in
-    subst P (sym (read_at seats i p.seat d p.seat_is)) (all_at P seats i p.seat p.seat_is held)
+-- an end is held while a message waits there
+pub waits_held : (pool : PoolState) (r : Seat) (p : Port) → SeatStandsFor pool r p → ((p.side.got ≡ [] → ⊥) → is_held p.side ≡ true)
+    → WaitsHeld r.waiting r.side.link
+waits_held pool r p g held = by r.waiting refl
+  where
+    by : (o : Option Waiting) → r.waiting ≡ o → WaitsHeld o r.side.link
+    by None q = tt
+    by (Some w) q =
+        let got = g.holds.waits ∙ ap (messages_waiting pool) q in
+        g.holds.stands.halfway.link.kept.ready ∙ not-true p.side.shdlc.ready (held (λ none. let z = sym got ∙ none in cc))
 
 -- what is told where there is an end
 pub told_there : {X : Type 0} (f : Port → X) (x : X) (o : Option Port) (p : Port) → o ≡ Some p → x ≡ f p → Some x ≡ option_map f o

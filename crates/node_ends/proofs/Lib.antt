@@ -14,3 +14,6 @@ pub mod Making
 pub mod Sending
 pub mod Over
 mod Blocks
+pub mod Dues
+pub mod Sendable
+pub mod Gathering

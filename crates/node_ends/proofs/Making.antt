@@ -13,6 +13,7 @@ use Rattle.link_end.proofs.AccountLemmas.{new_free, new_unused}
 use Rattle.node_deeds.specs.declared.desks.Desk.{Desk}
 use Rattle.node_ends.specs.declared.seat.Seat.{Seat}
 use Rattle.node_ends.specs.declared.seat.Waiting.{Waiting}
+use Rattle.node_deeds.specs.Cores.{IsSoundDesk}
 use Rattle.node_deeds.specs.Shown.{desk_shown}
 use Rattle.node_ends.specs.Holding.{HoldsEnd, IsReached}
 use Rattle.node_ends.specs.Ends.{SeatStandsFor, SeatsStandFor, HaveOwnersFrom, HaveOwnHosts, AreEnds}
@@ -66,6 +67,7 @@ new_stands pool role k h s n free unused =
       reached = reached_new role;
       acked = n.acked;
       aside = n.aside;
+      sound = subst IsSoundDesk (sym n.desk) tt;
     }
 
 each_stands : (pool : PoolState) (role : Named) (k : ℕ) (hosts : List ℕ) (seats : List Seat) → AreNewFrom role k hosts seats

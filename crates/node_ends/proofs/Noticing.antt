@@ -11,7 +11,8 @@ use Rattle.node_deeds.specs.declared.desks.About.{About}
 use Rattle.node_deeds.specs.declared.desks.About.TheVariants.{Waits, Forgotten, Removed}
 use Rattle.node_deeds.specs.declared.desks.Desk.{Desk}
 use Rattle.node_deeds.specs.declared.desks.Unanswered.{Unanswered}
-use Rattle.node_deeds.specs.Shown.{desk_shown, notice_shown}
+use Rattle.node_deeds.specs.Shown.{desk_shown, notice_shown, row_noticed}
+use Rattle.node_deeds.specs.Cores.{IsSoundRow}
 use Rattle.node_ends.specs.Desks.{asker_of, asker_at, as_forgotten, forgotten_at, grown_older, kept_notice, IsYoung, has_hundred_ticks}
 
 older_notice_is : (x : DeskOf) (o : Option Unanswered) → x.notice ≡ option_map notice_shown o → (p : Port) → p.desk ≡ x
@@ -49,6 +50,19 @@ without_same p = by (is_over p) refl
     by : (b : Bool) → is_over p ≡ b → ((without_notice p).side ≡ p.side) × ((without_notice p).late ≡ p.late) × ((without_notice p).ended ≡ p.ended)
     by true q = rw q (refl, refl, refl)
     by false q = rw q (refl, refl, refl)
+
+-- the pipe of a creation that waits may be made still
+pub older_sound : (o : Option Unanswered) → IsSoundRow (row_noticed o) → IsSoundRow (row_noticed (grown_older o))
+older_sound None s = tt
+older_sound (Some n) s = s
+
+pub forgotten_sound : (o : Option Unanswered) → IsSoundRow (row_noticed o) → IsSoundRow (row_noticed (as_forgotten o))
+forgotten_sound None s = tt
+forgotten_sound (Some n) s = tt
+
+pub kept_sound : (b : Bool) (o : Option Unanswered) → IsSoundRow (row_noticed o) → IsSoundRow (row_noticed (kept_notice b o))
+kept_sound true o s = tt
+kept_sound false o s = s
 
 due_is : (o : Option Unanswered) → has_hundred_ticks o ≡ option_map_or (λ (n : Notice). nat_le 100 n.age) (option_map notice_shown o) false
 due_is None = refl

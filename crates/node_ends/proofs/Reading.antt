@@ -1,12 +1,13 @@
 -- A message that is read.
 use Rattle.std.proofs.Common.{◌≡◌, ℕ, List, [], ◌∷◌, take, zero, suc, length, ◌<◌, ◌≤◌, refl, ap, arith}
-use Rattle.std.specs.Prelude.{Option, Some, None, IfSome, IfNone, option_map, slice_get, slice_index_or}
+use Rattle.std.specs.Option.{option_map_or}
+use Rattle.std.specs.Prelude.{Bool, false, Option, Some, None, IfSome, IfNone, option_map, slice_get, slice_index_or}
 use Rattle.link_machine.specs.Machine.{Message}
 use Rattle.block_pool.specs.Pool.{PoolState}
 use Rattle.node_machine.specs.Parts.{Port, Desk as DeskOf}
 use Rattle.node_ends.specs.declared.seat.Seat.{Seat}
 use Rattle.node_deeds.specs.Shown.{desk_shown}
-use Rattle.node_ends.specs.Ends.{SeatsStandFor, message_read}
+use Rattle.node_ends.specs.Ends.{SeatStandsFor, SeatsStandFor, message_read}
 
 pub read_is : (got : List Message) (o : Option (ℕ × ℕ)) (buffer : List ℕ) → IfSome o (λ x. got ≡ (x.0, take x.1 buffer) ∷ []) → IfNone o (got ≡ [])
     → got ≡ message_read o buffer
@@ -21,6 +22,16 @@ desk_is pool [] (p ∷ ports) i each = absurd each
 desk_is pool (s ∷ seats) [] i each = absurd each
 desk_is pool (s ∷ seats) (p ∷ ports) zero each = ap (λ (d : DeskOf). Some d) each.0.desk
 desk_is pool (s ∷ seats) (p ∷ ports) (suc i) each = desk_is pool seats ports i each.1
+
+-- flags that are kept at a place
+pub flag_is : (pool : PoolState) (f : Seat → Bool) (g : Port → Bool) → ((s : Seat) (p : Port) → SeatStandsFor pool s p → f s ≡ g p)
+    → (seats : List Seat) (ports : List Port) (i : ℕ) → SeatsStandFor pool seats ports
+    → option_map_or f (slice_get seats i) false ≡ option_map_or g (slice_get ports i) false
+flag_is pool f g same [] [] i each = refl
+flag_is pool f g same [] (p ∷ ports) i each = absurd each
+flag_is pool f g same (s ∷ seats) [] i each = absurd each
+flag_is pool f g same (s ∷ seats) (p ∷ ports) zero each = same s p each.0
+flag_is pool f g same (s ∷ seats) (p ∷ ports) (suc i) each = flag_is pool f g same seats ports i each.1
 
 -- what is read at a place
 pub is_there : (seats : List Seat) (i : ℕ) (s : Seat) → i < length seats → ((d : Seat) → s ≡ slice_index_or seats i d) → Some s ≡ slice_get seats i

@@ -9,6 +9,7 @@ use Rattle.link_end.specs.declared.«end».End.{End}
 use Rattle.link_end.specs.declared.link.LinkEnd.{LinkEnd as Link}
 use Rattle.link_machine.specs.Machine.{LinkEnd as Machine, whole_acked}
 use Rattle.node_ends.specs.declared.seat.Waiting.{Waiting}
+use Rattle.node_deeds.specs.Cores.{IsSoundDesk}
 use Rattle.node_deeds.specs.Shown.{desk_shown}
 use Rattle.node_ends.proofs.Moving.{stays_beside}
 use Rattle.node_ends.specs.Holding.{Moves, HoldsEnd, IsReached, kept_number}
@@ -33,6 +34,7 @@ module _ {old new : PoolState} {f : Port → Port} {s t : Seat} (c : HereChanges
     reached = g.reached;
     acked = g.acked;
     aside = g.aside;
+    sound = g.sound;
   }
 
   -- all ends behind that place stay
@@ -181,6 +183,7 @@ pub record SetsHere (pool : PoolState) (seats : List Seat) (i : ℕ) (f : Port �
   pub host : t.desk.host ≡ (slice_index_or seats i d).desk.host
   pub same_side : (q : Port) → (f q).side ≡ q.side
   pub desk : (q : Port) → SeatStandsFor pool (slice_index_or seats i d) q → desk_shown t.desk ≡ (f q).desk
+  pub sound : IsSoundDesk (slice_index_or seats i d).desk → IsSoundDesk t.desk
   pub late : (q : Port) → SeatStandsFor pool (slice_index_or seats i d) q → t.late ≡ (f q).late
   pub ended : (q : Port) → SeatStandsFor pool (slice_index_or seats i d) q → t.ended ≡ (f q).ended
 
@@ -203,6 +206,7 @@ sets_here {pool} {seats} {i} {f} {d} {t} ports c e =
         ended = c.ended q g;
         reached = (let M : Machine → Type 0 = λ m. IsReached m in subst M (sym (c.same_side q)) g.reached);
         acked = c.acked ∙ (g.acked ∙ ap (λ (m : Machine). kept_number (whole_acked m)) (sym (c.same_side q)));
+        sound = c.sound g.sound;
         aside = c.aside ∙ (g.aside ∙ ap (λ (m : Machine). m.aside) (sym (c.same_side q)));
       };
     }) e

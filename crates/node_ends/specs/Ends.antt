@@ -1,10 +1,10 @@
 -- What is kept of the ends of a node, and for which ports of its machine it stands.
-use Rattle.std.specs.Prelude.{◌≡◌, ◌≢◌, ℕ, zero, suc, ◌+◌, ◌*◌, ◌==◌, Bool, false, if◌then◌else◌, List, [], ◌∷◌, length, take, ◌≤◌, ◌<◌, is_none, Option}
+use Rattle.std.specs.Prelude.{◌≡◌, ◌≢◌, ℕ, zero, suc, ◌+◌, ◌*◌, ◌==◌, Bool, true, false, if◌then◌else◌, List, [], ◌∷◌, length, take, ◌≤◌, ◌<◌, is_none, Option}
 use Rattle.std.specs.Prelude.{Some, None, option_map}
 use Rattle.std.specs.List.{AllByRecursion}
 use Rattle.std.specs.Option.{option_map_or}
 use Rattle.block_pool.specs.Pool.{PoolState}
-use Rattle.link_machine.specs.Machine.{Message, give_refusal, whole_acked, next_frame, frame_fetched}
+use Rattle.link_machine.specs.Machine.{Message, is_held, give_refusal, whole_acked, next_frame, frame_fetched}
 use Rattle.swp_lpdu.specs.Controls.{lpdu_of}
 use Rattle.swp_act.specs.declared.ActEvent.TheVariants.{Start as ActStart}
 use Rattle.link_end.specs.Roles.{MayStart}
@@ -13,10 +13,11 @@ use Rattle.link_end.specs.Reports.{reset_told}
 use Rattle.node_machine.specs.Parts.{Port}
 use Rattle.node_machine.specs.Carrying.{port_at}
 use Rattle.node_machine.specs.Node.{is_late}
+use Rattle.node_deeds.specs.Cores.{IsSoundDesk}
 use Rattle.node_ends.specs.declared.seat.Seat.{Seat}
 use Rattle.node_ends.specs.declared.ends.Ends.{Ends}
 use Rattle.node_deeds.specs.Shown.{desk_shown}
-use Rattle.node_ends.specs.Holding.{HoldsSeat, WaitsHeld, IsReached, kept_number, where_done}
+use Rattle.node_ends.specs.Holding.{HoldsSeat, IsReached, kept_number, where_done}
 
 -- one end with what is kept of it
 pub record SeatStandsFor (pool : PoolState) (s : Seat) (p : Port) : Type 0 where
@@ -27,6 +28,7 @@ pub record SeatStandsFor (pool : PoolState) (s : Seat) (p : Port) : Type 0 where
   pub reached : IsReached p.side
   pub acked : s.acked ≡ kept_number (whole_acked p.side)
   pub aside : s.aside ≡ p.side.aside
+  pub sound : IsSoundDesk s.desk
 
 -- all of them, one by one
 abbrev pub SeatsStandFor : PoolState → List Seat → List Port → Type 0
@@ -67,13 +69,18 @@ abbrev pub FewAreDue : Option Port → Type 0
 FewAreDue None = Unit {0}
 FewAreDue (Some p) = length p.side.acts + length p.side.shdlc.due ≤ 6
 
--- while a message waits at an end, it is held
-abbrev pub AreHeld : List Seat → Type 0
-AreHeld seats = AllByRecursion (λ (s : Seat). WaitsHeld s.waiting s.side.link) seats
+-- while a message waits at an end, where there is one, it is held
+abbrev pub IsHeldWhileOneWaits : Option Port → Type 0
+IsHeldWhileOneWaits None = Unit {0}
+IsHeldWhileOneWaits (Some p) = (p.side.got ≡ [] → ⊥) → is_held p.side ≡ true
 
 -- what is kept of all ends of a node, with their pool, stands for these ports
 abbrev pub EndsStandFor : Ends → List Port → Type 0
 EndsStandFor e ports = AreEnds e.pool e.seats.items ports
+
+-- all are links with hosts 01 to 07
+abbrev pub AreOfHosts : List Port → Type 0
+AreOfHosts ports = AllByRecursion (λ (p : Port). (1 ≤ p.desk.host) × (p.desk.host ≤ 7)) ports
 
 -- the messages that came at the end of the link with this host and had no turn
 abbrev pub got_at : List Port → ℕ → List Message
@@ -83,6 +90,10 @@ got_at ports h = option_map_or (λ (p : Port). p.side.got) (port_at ports h) []
 abbrev pub message_read : Option (ℕ × ℕ) → List ℕ → List Message
 message_read None buffer = []
 message_read (Some x) buffer = (x.0, take x.1 buffer) ∷ []
+
+-- the end of the link with this host is held
+abbrev pub held_at : List Port → ℕ → Bool
+held_at ports h = option_map_or (λ (p : Port). is_held p.side) (port_at ports h) false
 
 -- the ends, where the one at this place is changed
 abbrev pub at_place : ℕ → (Port → Port) → List Port → List Port

@@ -11,13 +11,14 @@ ghost use Rattle.link_end.specs.Reports.{report_told};
 ghost use Rattle.node_machine.specs.Node.{has_come};
 ghost use Rattle.hcp_packet.specs.Packets.{IsSendable};
 ghost use Rattle.link_machine.specs.Machine.Turn.{Give, Hold, SetAside, Release, FetchMessage};
-ghost use Rattle.node_deeds.specs.Shown.{notice_shown};
+ghost use Rattle.node_deeds.specs.Shown.{notice_shown, row_noticed};
+ghost use Rattle.node_deeds.specs.Cores.{IsSoundRow};
 ghost use Rattle.std.specs.Option.{option_map_or};
 ghost use Rattle.link_machine.specs.Machine.{spare};
 ghost use Rattle.node_machine.specs.Controller.{has_link};
 ghost use Rattle.node_machine.specs.Parts.{Port};
 ghost use Rattle.node_machine.specs.Carrying.{port_at, with_port, after_turn};
-ghost use Rattle.node_ends.specs.Ends.{AreEnds, AreHeld, FewAreDue, MayStartAt, takes_at, place_in, at_place, has_sent, frame_at};
+ghost use Rattle.node_ends.specs.Ends.{AreEnds, FewAreDue, IsHeldWhileOneWaits, MayStartAt, held_at, takes_at, place_in, at_place, has_sent, frame_at};
 
 use crate::new_seats::add_seats;
 use crate::places::place_of;
@@ -59,13 +60,14 @@ impl Ends {
     ghost use Rattle.node_machine.specs.Node.{has_come};
     ghost use Rattle.hcp_packet.specs.Packets.{IsSendable};
     ghost use Rattle.link_machine.specs.Machine.Turn.{Give, Hold, SetAside, Release, FetchMessage};
-    ghost use Rattle.node_deeds.specs.Shown.{notice_shown};
+    ghost use Rattle.node_deeds.specs.Shown.{notice_shown, row_noticed};
+    ghost use Rattle.node_deeds.specs.Cores.{IsSoundRow};
     ghost use Rattle.node_machine.specs.Parts.{Port};
     ghost use Rattle.std.specs.Option.{option_map_or};
     ghost use Rattle.link_machine.specs.Machine.{spare};
     ghost use Rattle.node_machine.specs.Controller.{has_link};
     ghost use Rattle.node_machine.specs.Carrying.{port_at, with_port, after_turn};
-    ghost use Rattle.node_ends.specs.Ends.{EndsStandFor, AreHeld, FewAreDue, MayStartAt, takes_at, at_place, late_told, has_sent, frame_at};
+    ghost use Rattle.node_ends.specs.Ends.{EndsStandFor, FewAreDue, IsHeldWhileOneWaits, MayStartAt, held_at, takes_at, at_place, late_told, has_sent, frame_at};
 
     /// New ends of the links with these hosts, at most seven, in a pool with 128 blocks of each end for what it sends, and 512 for what
     /// comes there.
@@ -116,9 +118,10 @@ impl Ends {
         }
     }
 
-    /// What is known of the notice to this host.
+    /// What is known of the notice to this host; a pipe that it is asked for may be made.
     pub fn set_notice(&mut self, host: u8, notice: Option<Unanswered>)
-        requires { (ports : List Port) × EndsStandFor self.old ports }
+        requires stands { (ports : List Port) × EndsStandFor self.old ports }
+        requires sound { IsSoundRow (row_noticed notice) }
         ensures { (ports : List Port) → EndsStandFor self.old ports
             → EndsStandFor self.new (with_port host (λ p. record p { desk = record p.desk { notice = option_map notice_shown notice } }) ports) }
     {
@@ -161,8 +164,8 @@ impl Ends {
     /// What an LPDU says comes to the end of the link with this host. While a message waits at an end, it is held. At most six control
     /// frames wait there to be sent. What is told of it; `None` where there is no such end.
     pub fn take(&mut self, host: u8, read: &Result<Control, LpduFault>) -> Option<LinkReport>
-        requires stands { (ports : List Port) × EndsStandFor self.old ports × FewAreDue (port_at ports host) }
-        requires held { AreHeld self.old.seats.items }
+        requires stands { (ports : List Port) × EndsStandFor self.old ports × FewAreDue (port_at ports host)
+            × IsHeldWhileOneWaits (port_at ports host) }
         requires read { (lpdu : List ℕ) × (read.now ≡ control_of lpdu) }
         ensures stands { (ports : List Port) (lpdu : List ℕ) → EndsStandFor self.old ports → read.now ≡ control_of lpdu
             → EndsStandFor self.new (with_port host (λ p. has_come p (Some (lpdu_input lpdu))) ports) }
@@ -380,6 +383,17 @@ impl Ends {
         is_up_at(self.seats.as_slice(), i, &self.pool, host)
     }
 
+    /// Whether the end of the link with this host is held.
+    pub fn is_held(&self, host: u8) -> bool
+        requires { (ports : List Port) × EndsStandFor self.now ports }
+        ensures { (ports : List Port) → EndsStandFor self.now ports → result ≡ held_at ports host }
+    {
+        let Some(i) = place_of(self.seats.as_slice(), host) else {
+            return false;
+        };
+        is_held_at(self.seats.as_slice(), i, &self.pool, host)
+    }
+
     /// Whether the first message that waits at the end of the link with this host was noted as held.
     pub fn holds(&self, host: u8) -> bool
         requires { (ports : List Port) × EndsStandFor self.now ports }
@@ -430,6 +444,7 @@ fn release_at(seats: &mut [Seat], i: usize, pool: &mut Pool, host: u8)
 
 fn set_notice_at(seats: &mut [Seat], i: usize, pool: &Pool, host: u8, notice: Option<Unanswered>)
     requires place { place_in host seats.old ≡ Some i }
+    requires sound { IsSoundRow (row_noticed notice) }
     requires stands { (ports : List Port) × AreEnds pool.now seats.old ports }
     ensures { (ports : List Port) → AreEnds pool.now seats.old ports
         → AreEnds pool.now seats.new (with_port host (λ p. record p { desk = record p.desk { notice = option_map notice_shown notice } }) ports) }
@@ -488,8 +503,8 @@ fn take_at(
     read: &Result<Control, LpduFault>,
 ) -> LinkReport
     requires place { place_in host seats.old ≡ Some i }
-    requires stands { (ports : List Port) × AreEnds pool.old seats.old ports × FewAreDue (port_at ports host) }
-    requires held { AreHeld seats.old }
+    requires stands { (ports : List Port) × AreEnds pool.old seats.old ports × FewAreDue (port_at ports host)
+        × IsHeldWhileOneWaits (port_at ports host) }
     requires read { (lpdu : List ℕ) × (read.now ≡ control_of lpdu) }
     ensures stands { (ports : List Port) (lpdu : List ℕ) → AreEnds pool.old seats.old ports → read.now ≡ control_of lpdu
         → AreEnds pool.new seats.new (with_port host (λ p. has_come p (Some (lpdu_input lpdu))) ports) }
@@ -612,4 +627,12 @@ fn holds_at(seats: &[Seat], i: usize, pool: &Pool, host: u8) -> bool
         → result ≡ option_map_or (λ (p : Port). p.desk.holds) (port_at ports host) false }
 {
     seats[i].desk.holds
+}
+
+fn is_held_at(seats: &[Seat], i: usize, pool: &Pool, host: u8) -> bool
+    requires place { place_in host seats.now ≡ Some i }
+    requires stands { (ports : List Port) × AreEnds pool.now seats.now ports }
+    ensures { (ports : List Port) → AreEnds pool.now seats.now ports → result ≡ held_at ports host }
+{
+    seats[i].is_held()
 }

@@ -10,4 +10,5 @@ mod seat;
 mod timing;
 
 pub use ends::Ends;
+pub use looking::Seen;
 pub use seat::Seat;

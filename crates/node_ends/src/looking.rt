@@ -3,11 +3,24 @@ ghost use Rattle.std.specs.Prelude.{◌≡◌, ◌≤◌, List, Some, IfSome, le
 ghost use Rattle.node_machine.specs.Parts.{Port};
 ghost use Rattle.node_machine.specs.Carrying.{port_at, with_port};
 ghost use Rattle.node_ends.specs.Ends.{AreEnds, place_in, got_at, message_read};
+ghost use Rattle.std.specs.Prelude.{if◌then◌else◌, map};
+ghost use Rattle.node_ends.specs.declared.seat.Seat.{Seat as Kept};
 
 use crate::ends::Ends;
 use crate::places::place_of;
 use crate::seat::Seat;
+use arrayvec::ArrayVec;
 use block_pool::Pool;
+
+/// What a node looks at of its ends before it decides.
+#[derive(Drop)]
+pub struct Seen {
+    /// What is kept of each end, in their order.
+    pub desks: ArrayVec<Desk, 7>,
+    /// The links that are up: bit h stands for the one with host h, 1 to 7.
+    pub up: u8,
+}
+
 use node_deeds::Desk;
 
 impl Ends {
@@ -15,7 +28,13 @@ impl Ends {
     ghost use Rattle.node_machine.specs.Parts.{Port};
     ghost use Rattle.node_machine.specs.Carrying.{port_at, with_port};
     ghost use Rattle.node_deeds.specs.Shown.{desk_shown};
-    ghost use Rattle.node_ends.specs.Ends.{EndsStandFor, got_at, message_read};
+    ghost use Rattle.node_ends.specs.Ends.{EndsStandFor, AreOfHosts, got_at, message_read};
+    ghost use Rattle.std.specs.Prelude.{ℕ, false};
+    ghost use Rattle.std.specs.Option.{option_map_or};
+    ghost use Rattle.gate_admin.specs.View.{has};
+    ghost use Rattle.node_machine.specs.Controller.{has_link};
+    ghost use Rattle.node_deeds.specs.Shown.{AreSeen};
+    ghost use Rattle.node_deeds.specs.Cores.{AreSoundDesks};
 
     /// Copies the message that waits at the end of the link with this host into the front of a buffer of 4,096 bytes. Its pipe, and
     /// how many bytes it has.
@@ -29,6 +48,55 @@ impl Ends {
             return None;
         };
         read_at(self.seats.as_slice(), i, &self.pool, host, buffer)
+    }
+
+    /// What is kept of the ends, and which links are up. They are links with hosts 01 to 07.
+    pub fn seen(&self) -> Seen
+        requires { (ports : List Port) × EndsStandFor self.now ports }
+        ensures seen { (ports : List Port) → EndsStandFor self.now ports → AreOfHosts ports → AreSeen result.up result.desks.items ports }
+        ensures few { length result.desks.items ≤ 7 }
+        ensures sound { AreSoundDesks result.desks.items }
+    {
+        Seen {
+            desks: desks_of(self.seats.as_slice(), &self.pool),
+            up: self.up(),
+        }
+    }
+
+    // The links that are up.
+    fn up(&self) -> u8
+        requires { (ports : List Port) × EndsStandFor self.now ports }
+        ensures { (ports : List Port) → EndsStandFor self.now ports → (h : ℕ) → 1 ≤ h → h ≤ 7 → has result h ≡ has_link ports h }
+    {
+        2 * bit(self.has_link(1))
+            + 4 * bit(self.has_link(2))
+            + 8 * bit(self.has_link(3))
+            + 16 * bit(self.has_link(4))
+            + 32 * bit(self.has_link(5))
+            + 64 * bit(self.has_link(6))
+            + 128 * bit(self.has_link(7))
+    }
+
+    /// Whether the session of the end at this place ended in this step as something came there; `false` behind the last end.
+    pub fn has_ended(&self, i: usize) -> bool
+        requires { (ports : List Port) × EndsStandFor self.now ports }
+        ensures { (ports : List Port) → EndsStandFor self.now ports → result ≡ option_map_or (λ (p : Port). p.ended) (slice_get ports i) false }
+    {
+        match self.seats.get(i) {
+            Some(seat) => seat.ended,
+            None => false,
+        }
+    }
+
+    /// Whether the notice of the end at this place was late in this step; `false` behind the last end.
+    pub fn was_late(&self, i: usize) -> bool
+        requires { (ports : List Port) × EndsStandFor self.now ports }
+        ensures { (ports : List Port) → EndsStandFor self.now ports → result ≡ option_map_or (λ (p : Port). p.late) (slice_get ports i) false }
+    {
+        match self.seats.get(i) {
+            Some(seat) => seat.late,
+            None => false,
+        }
     }
 
     /// REC_ERROR of the end of the link with this host is set.
@@ -79,4 +147,24 @@ fn set_errors_at(seats: &mut [Seat], i: usize, pool: &Pool, host: u8, errors: u1
         → AreEnds pool.now seats.new (with_port host (λ p. record p { desk = record p.desk { errors = errors } }) ports) }
 {
     seats[i].desk.errors = errors;
+}
+
+// What is kept of each of these ends.
+fn desks_of(seats: &[Seat], pool: &Pool) -> ArrayVec<Desk, 7>
+    requires { (ports : List Port) × AreEnds pool.now seats.now ports }
+    ensures { result.items ≡ map (λ (s : Kept). s.desk) seats.now }
+{
+    let mut desks = ArrayVec::new();
+    for seat in seats {
+        desks.push(seat.desk);
+    }
+    desks
+}
+
+// 1 where it is so.
+fn bit(is: bool) -> u8
+    ensures value { result ≡ (if is then 1 else 0) }
+    ensures small { result ≤ 1 }
+{
+    if is { 1 } else { 0 }
 }

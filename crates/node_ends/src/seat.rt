@@ -35,7 +35,7 @@ impl Seat {
     ghost use Rattle.std.specs.Prelude.{◌≡◌, ◌||◌, ◌&&◌, not, true, false, ◌≤◌, ◌<◌, ◌∷◌, [], ℕ, List, None, is_none, is_some, length, take, IfSome, IfNone};
     ghost use Rattle.block_pool.specs.Pool.{PoolState};
     ghost use Rattle.hcp_packet.specs.Packets.{IsSendable};
-    ghost use Rattle.link_machine.specs.Machine.{LinkEnd as Machine, turn, give_refusal, after_input, lpdu_input, report};
+    ghost use Rattle.link_machine.specs.Machine.{LinkEnd as Machine, turn, is_held, give_refusal, after_input, lpdu_input, report};
     ghost use Rattle.swp_lpdu.specs.Controls.{control_of};
     ghost use Rattle.link_end.specs.Reports.{report_told};
     ghost use Rattle.link_laws.specs.sessions.Sessions.{is_up};
@@ -370,6 +370,13 @@ impl Seat {
                 age,
             });
         }
+    }
+
+    /// Whether the end is held.
+    pub(crate) fn is_held(&self) -> bool
+        ensures { (pool : PoolState) (m : Machine) → HoldsSeat pool self.now m → result ≡ is_held m }
+    {
+        self.side.is_held()
     }
 
     /// Whether the link is up.

@@ -7,6 +7,7 @@ use Rattle.link_end.specs.Reports.{report_told}
 use Rattle.node_machine.specs.Parts.{Port}
 use Rattle.node_machine.specs.Node.{has_come}
 use Rattle.node_ends.specs.declared.seat.Seat.{Seat}
+use Rattle.node_deeds.specs.Cores.{IsSoundDesk}
 use Rattle.node_deeds.specs.Shown.{desk_shown}
 use Rattle.node_ends.specs.Ends.{FewAreDue, MayStartAt}
 use Rattle.node_ends.proofs.Moving.{few_controls}
@@ -55,6 +56,7 @@ returns-clause-stands c ports e =
         acked = acked_so t.result (report q.side (Start c.args.value)) t.new.self.acked (ap (λ (s : Seat). s.acked) t.ensures.rest ∙ g.acked)
             (t.ensures.answer q.side g.holds) (input_acked q.side (Start c.args.value) g.reached (start_so q.side c.args.value));
         aside = ap (λ (s : Seat). s.aside) t.ensures.rest ∙ (g.aside ∙ sym (start_aside q.side c.args.value));
+        sound = subst IsSoundDesk (sym (ap (λ (s : Seat). s.desk) t.ensures.rest)) g.sound;
       };
     }) e)
 

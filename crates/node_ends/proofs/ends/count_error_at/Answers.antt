@@ -20,6 +20,7 @@ returns c ports e =
       ended = refl;
       acked = refl;
       aside = refl;
+      sound = λ s. s;
       host = refl;
       desk = ap (λ (n : ℕ). record (desk_shown (slice_index_or c.args.seats.now c.args.i c.index-seats-i.result).desk) { errors = n })
           (let s = c.saturating_add-seat.ensures in omega (arith, s));

@@ -1,4 +1,4 @@
-use Rattle.std.proofs.Common.{ap, arith}
+use Rattle.std.proofs.Common.{ap, ◌∙◌, arith}
 use Rattle.node_ends.specs.declared.seat.Seat.{Seat}
 use Rattle.link_machine.specs.Machine.Turn.{FetchMessage}
 use Rattle.node_ends.proofs.Changing.{within, turns_so, reads}

@@ -5,6 +5,7 @@ use Rattle.link_end.specs.Reports.{reset_told}
 use Rattle.node_machine.specs.Parts.{Port}
 use Rattle.node_machine.specs.Node.{has_come}
 use Rattle.node_ends.specs.declared.seat.Seat.{Seat}
+use Rattle.node_deeds.specs.Cores.{IsSoundDesk}
 use Rattle.node_deeds.specs.Shown.{desk_shown}
 use Rattle.node_ends.specs.Ends.{FewAreDue}
 use Rattle.node_ends.proofs.Moving.{few_controls}
@@ -53,6 +54,7 @@ returns-clause-stands c ports e =
         acked = reset_so_far t.result (reset_told q.side c.args.window) t.new.self.acked (ap (λ (s : Seat). s.acked) t.ensures.rest ∙ g.acked)
             (t.ensures.answer q.side g.holds) (reset_acked q.side c.args.window g.reached);
         aside = ap (λ (s : Seat). s.aside) t.ensures.rest ∙ (g.aside ∙ sym (reset_aside q.side c.args.window));
+        sound = subst IsSoundDesk (sym (ap (λ (s : Seat). s.desk) t.ensures.rest)) g.sound;
       };
     }) e)
 

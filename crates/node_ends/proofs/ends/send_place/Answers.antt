@@ -1,6 +1,7 @@
-use Rattle.std.proofs.Common.{sym, ap, ◌∙◌}
+use Rattle.std.proofs.Common.{subst, sym, ap, ◌∙◌}
 use Rattle.link_machine.specs.Machine.LinkInput.{Fetch}
 use Rattle.node_ends.specs.declared.seat.Seat.{Seat}
+use Rattle.node_deeds.specs.Cores.{IsSoundDesk}
 use Rattle.node_deeds.specs.Shown.{desk_shown}
 use Rattle.node_ends.specs.Holding.{kept_number}
 use Rattle.node_ends.specs.Ends.{has_sent, frame_at}
@@ -30,6 +31,7 @@ returns-clause-stands c ports e =
         reached = reached_on q.side Fetch tt g.reached;
         acked = ap (λ (s : Seat). s.acked) t.ensures.rest ∙ (g.acked ∙ ap kept_number (sym (sent_same q.side).1));
         aside = ap (λ (s : Seat). s.aside) t.ensures.rest ∙ (g.aside ∙ sym (fetched_aside q.side));
+        sound = subst IsSoundDesk (sym (ap (λ (s : Seat). s.desk) t.ensures.rest)) g.sound;
       };
     }) e
 

@@ -21,6 +21,7 @@ returns c ports e =
       ended = refl;
       acked = refl;
       aside = refl;
+      sound = λ s. s;
       host = refl;
       desk = refl;
     }) e

@@ -23,6 +23,7 @@ returns c ports e =
       ended = refl;
       acked = refl;
       aside = refl;
+      sound = λ s. c.requires.sound;
       host = refl;
       desk = refl;
     }) e

@@ -6,10 +6,11 @@ use Rattle.link_end.specs.Reports.{report_told}
 use Rattle.node_machine.specs.Parts.{Port}
 use Rattle.node_machine.specs.Node.{has_come}
 use Rattle.node_ends.specs.declared.seat.Seat.{Seat}
+use Rattle.node_deeds.specs.Cores.{IsSoundDesk}
 use Rattle.node_deeds.specs.Shown.{desk_shown}
-use Rattle.node_ends.specs.Ends.{FewAreDue}
+use Rattle.node_ends.specs.Ends.{FewAreDue, IsHeldWhileOneWaits}
 use Rattle.node_ends.proofs.Moving.{few_controls}
-use Rattle.node_ends.proofs.Changing.{within, reads, comes, held_at, told_there}
+use Rattle.node_ends.proofs.Changing.{within, reads, comes, waits_held, told_there}
 use Rattle.node_ends.specs.Holding.{acked_since}
 use Rattle.node_ends.proofs.Counting.{acked_so, reached_lpdu, lpdu_acked}
 use Rattle.node_ends.specs.Ends.{AreEnds}
@@ -30,7 +31,9 @@ take-report-requires-clause-stands c =
     (r.port.side, r.stands.holds)
 
 pub take-report-requires-clause-held : goal.take-report-requires-clause-held
-take-report-requires-clause-held c = held_at c.args.host c.args.i c.index-seats-i.result c.requires.place c.requires.stands.1 c.requires.held
+take-report-requires-clause-held c =
+    let r = reads c.args.host c.args.i c.index-seats-i.result c.requires.place c.requires.stands.1 in
+    waits_held c.args.pool.now _ r.port r.stands (subst (λ o. IsHeldWhileOneWaits o) r.port_is c.requires.stands.3)
 
 pub take-report-requires-clause-room : goal.take-report-requires-clause-room
 take-report-requires-clause-room c =
@@ -56,6 +59,7 @@ returns-clause-stands c ports lpdu e is =
         acked = acked_so t.result (report q.side (lpdu_input lpdu)) t.new.self.acked (ap (λ (s : Seat). s.acked) t.ensures.rest ∙ g.acked)
             (t.ensures.answer q.side lpdu g.holds is) (lpdu_acked q.side lpdu g.reached);
         aside = ap (λ (s : Seat). s.aside) t.ensures.rest ∙ (g.aside ∙ sym (lpdu_aside q.side lpdu));
+        sound = subst IsSoundDesk (sym (ap (λ (s : Seat). s.desk) t.ensures.rest)) g.sound;
       };
     }) e)
 

@@ -18,6 +18,7 @@ returns c ports e =
       waiting = refl;
       acked = refl;
       aside = refl;
+      sound = λ s. s;
       host = refl;
       same_side = λ q. refl;
       desk = λ q g. g.desk;

@@ -5,7 +5,7 @@ use Rattle.node_ends.specs.declared.seat.Seat.{Seat}
 use Rattle.node_ends.specs.Desks.{kept_notice}
 use Rattle.node_ends.specs.Ends.{AreEnds, at_place}
 use Rattle.node_ends.proofs.Seated.{sets_here}
-use Rattle.node_ends.proofs.Noticing.{kept_desk, without_same}
+use Rattle.node_ends.proofs.Noticing.{kept_desk, kept_sound, without_same}
 use Rattle.node_ends.proofs.timing.drop_place.Goals as goal
 
 pub returns : goal.returns
@@ -19,6 +19,7 @@ returns c ports e =
       waiting = refl;
       acked = refl;
       aside = refl;
+      sound = kept_sound (r.ended || r.late) r.desk.notice;
       host = refl;
       same_side = λ q. (without_same q).0;
       desk = λ q g. kept_desk r.desk q r.ended r.late g.desk g.ended g.late;

@@ -4,7 +4,7 @@ use Rattle.node_ends.specs.declared.seat.Seat.{Seat}
 use Rattle.node_ends.specs.Desks.{as_forgotten, forgotten_at}
 use Rattle.node_ends.specs.Ends.{AreEnds, at_place}
 use Rattle.node_ends.proofs.Seated.{sets_here}
-use Rattle.node_ends.proofs.Noticing.{forgotten_desk}
+use Rattle.node_ends.proofs.Noticing.{forgotten_desk, forgotten_sound}
 use Rattle.node_ends.proofs.timing.forget_place.Goals as goal
 
 pub returns : goal.returns
@@ -18,6 +18,7 @@ returns c ports e =
       waiting = refl;
       acked = refl;
       aside = refl;
+      sound = forgotten_sound r.desk.notice;
       host = refl;
       same_side = λ q. refl;
       desk = λ q g. forgotten_desk r.desk q g.desk;

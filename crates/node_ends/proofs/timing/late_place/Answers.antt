@@ -5,6 +5,7 @@ use Rattle.link_end.specs.Reports.{reset_told}
 use Rattle.node_machine.specs.Parts.{Port}
 use Rattle.node_machine.specs.Node.{reset_late, is_late}
 use Rattle.node_ends.specs.declared.seat.Seat.{Seat}
+use Rattle.node_deeds.specs.Cores.{IsSoundDesk}
 use Rattle.node_deeds.specs.Shown.{desk_shown}
 use Rattle.node_ends.specs.Holding.{where_done, acked_by_reset}
 use Rattle.node_ends.specs.Ends.{SeatStandsFor, FewAreDue, late_told}
@@ -43,6 +44,7 @@ returns-clause-stands c ports e =
             reached = reached_on q.side (Reset None) tt g.reached;
             acked = t.ensures.acked q.side g.holds ∙ (ap (λ n. acked_by_reset n (reset_told q.side None)) g.acked ∙ reset_acked q.side None g.reached);
             aside = ap (λ (s : Seat). s.aside) t.ensures.rest ∙ (g.aside ∙ sym (reset_aside q.side None));
+            sound = subst IsSoundDesk (sym (ap (λ (s : Seat). s.desk) t.ensures.rest)) g.sound;
           });
     }) e
 

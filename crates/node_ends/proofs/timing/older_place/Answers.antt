@@ -5,7 +5,7 @@ use Rattle.node_ends.specs.declared.seat.Seat.{Seat}
 use Rattle.node_ends.specs.Desks.{grown_older, IsYoung}
 use Rattle.node_ends.specs.Ends.{AreEnds, at_place}
 use Rattle.node_ends.proofs.Seated.{reads_here, sets_here}
-use Rattle.node_ends.proofs.Noticing.{older_desk, is_young}
+use Rattle.node_ends.proofs.Noticing.{older_desk, older_sound, is_young}
 use Rattle.node_ends.proofs.timing.older_place.Goals as goal
 
 pub grow_older-requires : goal.grow_older-requires
@@ -24,6 +24,7 @@ returns c ports e =
       waiting = refl;
       acked = refl;
       aside = refl;
+      sound = older_sound r.desk.notice;
       host = refl;
       same_side = λ q. refl;
       desk = λ q g. older_desk r.desk q g.desk;

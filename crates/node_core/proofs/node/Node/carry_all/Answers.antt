@@ -42,6 +42,7 @@ loop-deed-preserved g c =
     record {
       runs = c.carry_out.ensures.runs;
       live = on;
+      number = c.carry_out.ensures.number ∙ c.loop-deed.invariant.number;
       doable = (a.0, b.after, b.stands, doable_then c.args.host m d (drop (i + 1) deeds) b (b.stands.power ∙ ap not on) doable.1);
       goes = λ start w u.
           let P : List Deed → Type 0 = λ l. GoesOn g.N.Nv.writes c.args.self.now c.loop-deed.self (g.W.Watch.noted c.loop-deed.watch)

@@ -14,6 +14,7 @@ invariant-loop-deed g l =
     record {
       runs : IsSoundNode l.self;
       live : l.self.store.journal.live ≡ true;
+      number : l.self.number ≡ l.fn.self.number;
       doable : (start : List Entry) × (w : Work) × IsInStep l.self (noted l.watch) (short l.watch) start w
           × AreDoableInTurn l.host (l.pipe, l.message) (drop l.deed-index l.deeds) w;
       goes : (start : List Entry) (w : Work) → IsInStep l.fn.self (noted l.fn.watch) (short l.fn.watch) start w

@@ -15,7 +15,7 @@ release-requires-clause-aside c =
     let P : ℕ → Type 0 = λ n. 0 < aside_of c.args.pool.now n in
     let a = c.requires.stands.1.stands.halfway.aside in
     let b = c.requires.stands.2 in
-    let some = c.if-self-aside-eq0.false in
+    let some = c.if-self-eq0.false in
     subst P c.requires.owner (omega (arith, a, b, some))
 
 pub returns-clause-stands : goal.returns-clause-stands
@@ -23,7 +23,7 @@ returns-clause-stands c m h same =
     let old = c.args.pool.now in
     let new = c.release.new.self in
     let a = h.stands.halfway.aside in
-    let some = c.if-self-aside-eq0.false in
+    let some = c.if-self-eq0.false in
     let Q : ℕ → Type 0 = λ n. Counts old new n (used_of old n - 1) (aside_of old n - 1) in
     released_holds old new c.args.self.now.side.link c.args.self.now.waiting m h (omega (arith, a, same, some))
     (subst Q (sym c.requires.owner) (record { slots = c.release.ensures.slots; owners = c.release.ensures.owners }))
@@ -40,14 +40,14 @@ returns-clause-moves c =
     counted_moves old new c.args.self.now.side.link (without_got c.requires.stands.0) (used_of old o - 1) (aside_of old o - 1)
     c.requires.stands.1.stands (subst Q (sym c.requires.owner) (record { slots = c.release.ensures.slots; owners = c.release.ensures.owners }))
 
-pub returns-then-self-aside-eq0-clause-stands : goal.returns-then-self-aside-eq0-clause-stands
-returns-then-self-aside-eq0-clause-stands c m h same =
-    none_released c.args.pool.now c.args.self.now.side.link c.args.self.now.waiting m (sym same ∙ c.if-self-aside-eq0.true) h
+pub returns-then-self-eq0-clause-stands : goal.returns-then-self-eq0-clause-stands
+returns-then-self-eq0-clause-stands c m h same =
+    none_released c.args.pool.now c.args.self.now.side.link c.args.self.now.waiting m (sym same ∙ c.if-self-eq0.true) h
 
-pub returns-then-self-aside-eq0-clause-aside : goal.returns-then-self-aside-eq0-clause-aside
-returns-then-self-aside-eq0-clause-aside c m same = let none = c.if-self-aside-eq0.true in omega (arith, same, none)
+pub returns-then-self-eq0-clause-aside : goal.returns-then-self-eq0-clause-aside
+returns-then-self-eq0-clause-aside c m same = let none = c.if-self-eq0.true in omega (arith, same, none)
 
-pub returns-then-self-aside-eq0-clause-moves : goal.returns-then-self-aside-eq0-clause-moves
-returns-then-self-aside-eq0-clause-moves c =
+pub returns-then-self-eq0-clause-moves : goal.returns-then-self-eq0-clause-moves
+returns-then-self-eq0-clause-moves c =
     let k = c.args.self.now.side.link in
     stays_beside c.args.pool.now k k refl refl

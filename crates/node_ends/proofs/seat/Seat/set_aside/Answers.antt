@@ -47,8 +47,8 @@ returns-in-Err-clause-moves c =
     let A : PoolState → Type 0 = λ p. Moves c.args.pool.now p k k in
     subst A (sym c.in-Err.ensures.err) (stays_beside c.args.pool.now k k refl refl)
 
-pub overflow_add-self-aside : goal.overflow_add-self-aside
-overflow_add-self-aside c =
+pub overflow_add-self : goal.overflow_add-self
+overflow_add-self c =
     let low = few_aside c.args.pool.now c.args.self.now.side.link c.requires.stands.0 c.requires.stands.1.stands in
     let same = c.requires.stands.2 in
     omega (arith, low, same)

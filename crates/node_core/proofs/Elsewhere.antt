@@ -1,0 +1,217 @@
+-- What the turns of the messages at one end leave of the other ends.
+use Rattle.std.proofs.Common.{◌≡◌, ◌≢◌, ℕ, zero, suc, ◌≤◌, Bool, true, false, cond, List, [], ◌∷◌, map, drop, length, refl, sym, ap, ap₂, ◌∙◌, subst, arith}
+use Rattle.std.specs.Prelude.{Option, Some, None, ◌==◌, option_map, slice_get, IfSome}
+use Rattle.std.specs.List.{AllByRecursion}
+use Rattle.std.specs.Option.{option_map_or}
+use Rattle.std.proofs.lemmas.Bool.{eqb-true}
+use Rattle.block_pool.specs.Pool.{PoolState}
+use Rattle.link_machine.specs.Machine.{Message}
+use Rattle.link_machine.specs.Machine.Turn.{Hold}
+use Rattle.node_machine.specs.Parts.{Port, Work, Deed as DeedOf, Desk as DeskOf}
+use Rattle.node_machine.specs.Carrying.{port_at, changed_if, with_port, after_turn, lack, needs}
+use Rattle.node_machine.specs.Turns.{deeds_of, handles, holds_back, lets_go, have_turns}
+use Rattle.node_ends.specs.declared.seat.Seat.{Seat}
+use Rattle.node_ends.specs.Ends.{SeatsStandFor, HaveOwnHosts, AreEnds, AreOfHosts, FewAreDue, held_at}
+use Rattle.node_ends.specs.Making.{AreAllDifferent}
+use Rattle.node_ends.proofs.Changing.{host_is}
+use Rattle.node_core.specs.Turning.{AreFewDue}
+use Rattle.node_core.proofs.Quiet.{Quiet, quiet_at, handles_quiet, few_kept}
+use Rattle.node_core.proofs.Sendables.{found_all}
+
+-- ## Hosts
+
+abbrev pub host_at : Port → ℕ
+host_at p = p.desk.host
+
+quiet_hosts : (ports : List Port) → map (λ (q : Quiet). q.0) (map quiet_at ports) ≡ map host_at ports
+quiet_hosts [] = refl
+quiet_hosts (p ∷ ports) = ap (λ ns. p.desk.host ∷ ns) (quiet_hosts ports)
+
+same_hosts : (a b : List Port) → map quiet_at a ≡ map quiet_at b → map host_at a ≡ map host_at b
+same_hosts a b same = sym (quiet_hosts a) ∙ (ap (map (λ (q : Quiet). q.0)) same ∙ quiet_hosts b)
+
+pub port_hosts : (h : ℕ) (f : Port → Port) → ((p : Port) → (f p).desk.host ≡ p.desk.host) → (ports : List Port)
+    → map host_at (with_port h f ports) ≡ map host_at ports
+port_hosts h f same [] = refl
+port_hosts h f same (p ∷ ports) = ap₂ (λ (n : ℕ) ns. n ∷ ns) (one (p.desk.host == h)) (port_hosts h f same ports)
+  where
+    one : (b : Bool) → (changed_if b f p).desk.host ≡ p.desk.host
+    one true = same p
+    one false = refl
+
+-- the end of another host is as it was
+pub elsewhere : (h k : ℕ) (f : Port → Port) → k ≢ h → ((p : Port) → (f p).desk.host ≡ p.desk.host) → (ports : List Port)
+    → port_at (with_port h f ports) k ≡ port_at ports k
+elsewhere h k f other same [] = refl
+elsewhere h k f other same (p ∷ ports) = by (p.desk.host == h) (p.desk.host == k) refl refl (elsewhere h k f other same ports)
+  where
+    by : (a b : Bool) → (p.desk.host == h) ≡ a → (p.desk.host == k) ≡ b → port_at (with_port h f ports) k ≡ port_at ports k
+        → port_at (with_port h f (p ∷ ports)) k ≡ port_at (p ∷ ports) k
+    by true true q r later = absurd (other (sym (eqb-true p.desk.host k r) ∙ eqb-true p.desk.host h q))
+    by true false q r later = let s : ((f p).desk.host == k) ≡ false = ap (λ n. n == k) (same p) ∙ r in rw (q, r, s) later
+    by false true q r later = rw (q, r) refl
+    by false false q r later = rw (q, r) later
+
+-- ## Turns
+
+-- what the turns at the end of one host keep of the ends
+record Keeps (h : ℕ) (v w : Work) : Type 0 where
+  hosts : map host_at v.ports ≡ map host_at w.ports
+  few : (k : ℕ) → k ≢ h → FewAreDue (port_at w.ports k) → FewAreDue (port_at v.ports k)
+
+keeps_none : (h : ℕ) (w : Work) → Keeps h w w
+keeps_none h w = record { hosts = refl; few = λ k other few. few }
+
+keeps_on : (h : ℕ) (u v w : Work) → Keeps h u v → Keeps h v w → Keeps h u w
+keeps_on h u v w a b = record { hosts = a.hosts ∙ b.hosts; few = λ k other few. a.few k other (b.few k other few) }
+
+keeps_port : (h : ℕ) (f : Port → Port) → ((p : Port) → (f p).desk.host ≡ p.desk.host) → (v w : Work) → v.ports ≡ with_port h f w.ports → Keeps h v w
+keeps_port h f same v w is = record {
+  hosts = ap (map host_at) is ∙ port_hosts h f same w.ports;
+  few = λ k other few.
+      let P : Option Port → Type 0 = λ o. FewAreDue o in
+      subst P (sym (ap (λ ports. port_at ports k) is ∙ elsewhere h k f other same w.ports)) few;
+}
+
+keeps_let : (h : ℕ) (w : Work) → Keeps h (lets_go h w) w
+keeps_let h w = by (held_at w.ports h) refl
+  where
+    by : (b : Bool) → held_at w.ports h ≡ b → Keeps h (lets_go h w) w
+    by true q = keeps_port h (after_turn (Hold false)) (λ p. refl) (lets_go h w) w (rw q refl)
+    by false q = let P : Work → Type 0 = λ v. Keeps h v w in subst P (sym (same q)) (keeps_none h w)
+      where
+        same : held_at w.ports h ≡ false → lets_go h w ≡ w
+        same q = rw q refl
+
+twice_hosts : (h : ℕ) (f g : Port → Port) → ((p : Port) → (f p).desk.host ≡ p.desk.host) → ((p : Port) → (g p).desk.host ≡ p.desk.host)
+    → (v w : Work) → v.ports ≡ with_port h f (with_port h g w.ports) → Keeps h v w
+twice_hosts h f g same other v w is =
+    let mid : Work = record w { ports = with_port h g w.ports } in
+    keeps_on h v mid w (keeps_port h f same v mid is) (keeps_port h g other mid w refl)
+
+keeps_held : (h : ℕ) (short : ℕ × ℕ) (w : Work) → Keeps h (holds_back h short w) w
+keeps_held h short w = by (option_map_or (λ (p : Port). p.desk.holds) (port_at w.ports h) false) refl
+  where
+    by : (b : Bool) → option_map_or (λ (p : Port). p.desk.holds) (port_at w.ports h) false ≡ b → Keeps h (holds_back h short w) w
+    by true q = keeps_port h (after_turn (Hold true)) (λ p. refl) (holds_back h short w) w (rw q refl)
+    by false q = twice_hosts h (after_turn (Hold true)) (λ p. record p { desk = record p.desk { holds = true } }) (λ p. refl) (λ p. refl)
+        (holds_back h short w) w (rw q refl)
+
+keeps_handled : (h : ℕ) (m : Message) (deeds : List DeedOf) (w : Work) → Keeps h (handles h m deeds w) w
+keeps_handled h m deeds w =
+    let same = handles_quiet h m deeds w in
+    record {
+      hosts = same_hosts (handles h m deeds w).ports w.ports same;
+      few = λ k other few. few_kept w.ports (handles h m deeds w).ports k (sym same) few;
+    }
+
+keeps_turns : (h : ℕ) (ms : List Message) (w : Work) → Keeps h (have_turns h ms w) w
+keeps_turns h [] w = keeps_let h w
+keeps_turns h (m ∷ ms) w =
+    by (lack w.ports (needs h (deeds_of w.core w.ports h m))) refl (keeps_turns h ms (handles h m (deeds_of w.core w.ports h m) w))
+  where
+    done : Work
+    done = handles h m (deeds_of w.core w.ports h m) w
+
+    behind : (b : Bool) → done.cut ≡ b → lack w.ports (needs h (deeds_of w.core w.ports h m)) ≡ None → Keeps h (have_turns h ms done) done
+        → Keeps h (have_turns h (m ∷ ms) w) w
+    behind true c q later =
+        let P : Work → Type 0 = λ v. Keeps h v w in
+        subst P (sym (stop c q)) (keeps_handled h m (deeds_of w.core w.ports h m) w)
+      where
+        stop : done.cut ≡ true → lack w.ports (needs h (deeds_of w.core w.ports h m)) ≡ None → have_turns h (m ∷ ms) w ≡ done
+        stop c q = rw (q, c) refl
+    behind false c q later =
+        let P : Work → Type 0 = λ v. Keeps h v w in
+        subst P (sym (on c q)) (keeps_on h (have_turns h ms done) done w later (keeps_handled h m (deeds_of w.core w.ports h m) w))
+      where
+        on : done.cut ≡ false → lack w.ports (needs h (deeds_of w.core w.ports h m)) ≡ None → have_turns h (m ∷ ms) w ≡ have_turns h ms done
+        on c q = rw (q, c) refl
+
+    by : (o : Option (ℕ × ℕ)) → lack w.ports (needs h (deeds_of w.core w.ports h m)) ≡ o → Keeps h (have_turns h ms done) done
+        → Keeps h (have_turns h (m ∷ ms) w) w
+    by None q later = behind done.cut refl q later
+    by (Some short) q later = let P : Work → Type 0 = λ v. Keeps h v w in subst P (sym (held q)) (keeps_held h short w)
+      where
+        held : lack w.ports (needs h (deeds_of w.core w.ports h m)) ≡ Some short → have_turns h (m ∷ ms) w ≡ holds_back h short w
+        held q = rw q refl
+
+pub turns_hosts : (h : ℕ) (ms : List Message) (w : Work) → map host_at (have_turns h ms w).ports ≡ map host_at w.ports
+turns_hosts h ms w = (keeps_turns h ms w).hosts
+
+pub turns_few : (h : ℕ) (ms : List Message) (w : Work) (k : ℕ) → k ≢ h → FewAreDue (port_at w.ports k)
+    → FewAreDue (port_at (have_turns h ms w).ports k)
+turns_few h ms w = (keeps_turns h ms w).few
+
+-- ## All ends
+
+pub of_hosts : (a b : List Port) → map host_at a ≡ map host_at b → AreOfHosts b → AreOfHosts a
+of_hosts [] b same all = tt
+of_hosts (p ∷ a) [] same all = cc
+of_hosts (p ∷ a) (q ∷ b) same all =
+    let here : p.desk.host ≡ q.desk.host = cc in
+    let there : map host_at a ≡ map host_at b = cc in
+    let P : ℕ → Type 0 = λ n. (1 ≤ n) × (n ≤ 7) in
+    (subst P (sym here) all.0, of_hosts a b there all.1)
+
+pub few_at : (ports : List Port) (k : ℕ) → AreFewDue ports → FewAreDue (port_at ports k)
+few_at ports k all = by (port_at ports k) refl (found_all _ ports k all)
+  where
+    by : (o : Option Port) → port_at ports k ≡ o → IfSome o (λ (p : Port). FewAreDue (Some p)) → FewAreDue (port_at ports k)
+    by None q few = rw q tt
+    by (Some p) q few = rw q few
+
+pub few_at_all : (ports : List Port) (hosts : List ℕ) → AreFewDue ports → AllByRecursion (λ (k : ℕ). FewAreDue (port_at ports k)) hosts
+few_at_all ports [] all = tt
+few_at_all ports (h ∷ hosts) all = (few_at ports h all, few_at_all ports hosts all)
+
+differ_behind : (pool : PoolState) (n : ℕ) (seats : List Seat) (ports : List Port) → AllByRecursion (λ (t : Seat). t.desk.host ≢ n) seats
+    → SeatsStandFor pool seats ports → AllByRecursion (λ (g : ℕ). g ≢ n) (map host_at ports)
+differ_behind pool n [] [] differ g = tt
+differ_behind pool n [] (p ∷ ports) differ g = absurd g
+differ_behind pool n (s ∷ seats) [] differ g = absurd g
+differ_behind pool n (s ∷ seats) (p ∷ ports) differ g = (λ e. differ.0 (host_is g.0 ∙ e), differ_behind pool n seats ports differ.1 g.1)
+
+pub hosts_differ : (pool : PoolState) (seats : List Seat) (ports : List Port) → HaveOwnHosts seats → SeatsStandFor pool seats ports
+    → AreAllDifferent (map host_at ports)
+hosts_differ pool [] [] own g = tt
+hosts_differ pool [] (p ∷ ports) own g = absurd g
+hosts_differ pool (s ∷ seats) [] own g = absurd g
+hosts_differ pool (s ∷ seats) (p ∷ ports) own g =
+    let P : ℕ → Type 0 = λ n. AllByRecursion (λ (k : ℕ). k ≢ n) (map host_at ports) in
+    (subst P (host_is g.0) (differ_behind pool s.desk.host seats ports own.0 g.1), hosts_differ pool seats ports own.1 g.1)
+
+pub different_left : (i : ℕ) (hosts : List ℕ) → AreAllDifferent hosts → AreAllDifferent (drop i hosts)
+different_left zero hosts d = d
+different_left (suc i) [] d = tt
+different_left (suc i) (h ∷ hosts) d = different_left i hosts d.1
+
+-- the host of the end at a place is the next one
+pub next_host : (i : ℕ) (ports : List Port) (h : ℕ) → Some h ≡ option_map host_at (slice_get ports i)
+    → drop i (map host_at ports) ≡ h ∷ drop (suc i) (map host_at ports)
+next_host i [] h is = cc
+next_host zero (p ∷ ports) h is = let e : h ≡ p.desk.host = cc in ap (λ n. n ∷ map host_at ports) (sym e)
+next_host (suc i) (p ∷ ports) h is = next_host i ports h is
+
+-- behind the last one there is none
+pub no_host : (i : ℕ) (ports : List Port) → None ≡ option_map host_at (slice_get ports i) → drop i (map host_at ports) ≡ []
+no_host zero [] is = refl
+no_host (suc i) [] is = refl
+no_host zero (p ∷ ports) is = cc
+no_host (suc i) (p ∷ ports) is = no_host i ports is
+
+pub as_many_hosts : (pool : PoolState) (seats : List Seat) (ports : List Port) → SeatsStandFor pool seats ports
+    → length (map host_at ports) ≡ length seats
+as_many_hosts pool [] [] g = refl
+as_many_hosts pool [] (p ∷ ports) g = absurd g
+as_many_hosts pool (s ∷ seats) [] g = absurd g
+as_many_hosts pool (s ∷ seats) (p ∷ ports) g = ap suc (as_many_hosts pool seats ports g.1)
+
+-- each of them is a host
+pub is_host_at : (i : ℕ) (ports : List Port) (h : ℕ) → AreOfHosts ports → Some h ≡ option_map host_at (slice_get ports i) → (1 ≤ h) × (h ≤ 7)
+is_host_at i [] h all is = cc
+is_host_at zero (p ∷ ports) h all is =
+    let e : h ≡ p.desk.host = cc in
+    let P : ℕ → Type 0 = λ n. (1 ≤ n) × (n ≤ 7) in
+    subst P (sym e) all.0
+is_host_at (suc i) (p ∷ ports) h all is = is_host_at i ports h all.1 is

@@ -1,0 +1,38 @@
+-- A message that waits at an end of a node may be sent.
+use Rattle.std.proofs.Common.{◌≡◌, ℕ, ◌≤◌, Bool, true, false, cond, List, [], ◌∷◌, refl}
+use Rattle.std.specs.Prelude.{Option, Some, None, ◌==◌, IfSome}
+use Rattle.std.specs.List.{AllByRecursion}
+use Rattle.hcp_packet.specs.Packets.{AreSendable}
+use Rattle.block_pool.specs.Pool.{PoolState}
+use Rattle.node_machine.specs.Parts.{Port}
+use Rattle.node_machine.specs.Carrying.{port_at}
+use Rattle.node_ends.specs.declared.seat.Seat.{Seat}
+use Rattle.node_ends.specs.Ends.{SeatsStandFor, AreOfHosts, got_at}
+use Rattle.node_ends.proofs.Sendable.{got_sendable}
+
+-- the end of the link with a host is one of them
+pub found_all : (P : Port → Type 0) (ports : List Port) (h : ℕ) → AllByRecursion P ports → IfSome (port_at ports h) P
+found_all P [] h all = tt
+found_all P (p ∷ ports) h all = one (p.desk.host == h) (found_all P ports h all.1)
+  where
+    one : (b : Bool) → IfSome (port_at ports h) P → IfSome (cond b (Some p) (port_at ports h)) P
+    one true later = all.0
+    one false later = later
+
+each_sendable : (pool : PoolState) (seats : List Seat) (ports : List Port) → SeatsStandFor pool seats ports
+    → AllByRecursion (λ (p : Port). AreSendable p.side.got) ports
+each_sendable pool [] [] g = tt
+each_sendable pool [] (p ∷ ports) g = absurd g
+each_sendable pool (s ∷ seats) [] g = absurd g
+each_sendable pool (s ∷ seats) (p ∷ ports) g = (got_sendable p.side g.0.reached, each_sendable pool seats ports g.1)
+
+pub got_at_sendable : (pool : PoolState) (seats : List Seat) (ports : List Port) (h : ℕ) → SeatsStandFor pool seats ports → AreSendable (got_at ports h)
+got_at_sendable pool seats ports h g = by (port_at ports h) refl (found_all _ ports h (each_sendable pool seats ports g))
+  where
+    by : (o : Option Port) → port_at ports h ≡ o → IfSome o (λ (p : Port). AreSendable p.side.got) → AreSendable (got_at ports h)
+    by None q all = rw q tt
+    by (Some p) q all = rw q all
+
+pub hosts_low : (ports : List Port) → AreOfHosts ports → AllByRecursion (λ (p : Port). p.desk.host ≤ 7) ports
+hosts_low [] all = tt
+hosts_low (p ∷ ports) all = (all.0.1, hosts_low ports all.1)

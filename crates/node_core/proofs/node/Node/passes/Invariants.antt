@@ -1,0 +1,22 @@
+use Rattle.std.proofs.Common.{◌≡◌, true, List, length}
+use Rattle.trace_model.specs.declared.entry.Entry.{Entry}
+use Rattle.node_machine.specs.Parts.{Work}
+use Rattle.node_ends.specs.Ends.{AreOfHosts}
+use Rattle.node_core.specs.Nodes.{IsInStep, IsSoundNode}
+use Rattle.node_core.specs.Turning.{AreFewDue}
+use Rattle.node_core.proofs.Passing.{PassesOn}
+use Rattle.node_core.proofs.node.Node.passes.Given as goal
+
+-- the messages at the ends so far had their turns, and what those of the ends that are left bring, all bring
+abbrev pub invariant-loop-i : goal.invariant-loop-i
+invariant-loop-i g l =
+    let noted = g.W.Watch.noted in
+    let short = g.W.Watch.is_short in
+    record {
+      runs : IsSoundNode l.self;
+      live : l.self.store.journal.live ≡ true;
+      number : l.self.number ≡ l.fn.self.number;
+      buffer : length l.buffer ≡ 4096;
+      goes : (start : List Entry) (w : Work) → IsInStep l.fn.self (noted l.fn.watch) (short l.fn.watch) start w → AreOfHosts w.ports → AreFewDue w.ports
+          → PassesOn g.N.Nv.writes l.fn.self l.self (noted l.watch) (short l.watch) start l.i w;
+    }

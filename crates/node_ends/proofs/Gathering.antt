@@ -1,0 +1,112 @@
+-- What a node looks at of its ends before it decides is what is kept of them.
+use Rattle.std.proofs.Common.{◌≡◌, ◌≢◌, ℕ, zero, suc, ◌+◌, ◌*◌, ◌/◌, ◌%◌, ◌≤◌, ◌<◌, Bool, true, false, cond, eqb, List, [], ◌∷◌, ◌++◌, map, length, take, get_or, refl, sym, ap, ap₂, ◌∙◌, subst, arith}
+use Rattle.std.specs.Prelude.{Option, Some, ◌==◌}
+use Rattle.std.specs.List.{AllByRecursion}
+use Rattle.std.specs.Option.{option_map_or}
+use Rattle.std.proofs.lemmas.Bool.{eqb-true, eq-eqb}
+use Rattle.shdlc_core.specs.declared.answers.LinkState.TheVariants.{Down, Up}
+use Rattle.link_laws.specs.sessions.Sessions.{is_up}
+use Rattle.gate_admin.specs.View.{has}
+use Rattle.block_pool.specs.Pool.{PoolState}
+use Rattle.node_machine.specs.Parts.{Port, Desk as DeskOf}
+use Rattle.node_machine.specs.Carrying.{port_at}
+use Rattle.node_machine.specs.Controller.{has_link}
+use Rattle.node_deeds.specs.declared.desks.Desk.{Desk}
+use Rattle.node_deeds.specs.Shown.{desk_shown, seen_at, ports_shown, AreSeen}
+use Rattle.node_deeds.specs.Cores.{IsSoundDesk, AreSoundDesks}
+use Rattle.node_ends.specs.declared.seat.Seat.{Seat}
+use Rattle.node_ends.specs.Ends.{SeatsStandFor, HaveOwnHosts, AreEnds, AreOfHosts}
+use Rattle.node_ends.proofs.Changing.{host_is}
+
+-- ## Masks
+
+pub bit_is : (b : Bool) (n : ℕ) → n ≡ cond b 1 0 → eqb n 1 ≡ b
+bit_is true n q = ap (λ m. eqb m 1) q
+bit_is false n q = ap (λ m. eqb m 1) q
+
+-- a mask with these bits, each at most 1
+pub bits : (m a b c d e f g : ℕ) → m ≡ 2 * a + 4 * b + 8 * c + 16 * d + 32 * e + 64 * f + 128 * g → a ≤ 1 → b ≤ 1 → c ≤ 1 → d ≤ 1 → e ≤ 1 → f ≤ 1 → g ≤ 1
+    → (m / 2 % 2 ≡ a) × (m / 4 % 2 ≡ b) × (m / 8 % 2 ≡ c) × (m / 16 % 2 ≡ d) × (m / 32 % 2 ≡ e) × (m / 64 % 2 ≡ f) × (m / 128 % 2 ≡ g)
+bits m a b c d e f g is p q r s t u v = (
+  omega (arith, is, p, q, r, s, t, u, v),
+  omega (arith, is, p, q, r, s, t, u, v),
+  omega (arith, is, p, q, r, s, t, u, v),
+  omega (arith, is, p, q, r, s, t, u, v),
+  omega (arith, is, p, q, r, s, t, u, v),
+  omega (arith, is, p, q, r, s, t, u, v),
+  omega (arith, is, p, q, r, s, t, u, v),
+)
+
+pub has_bit : (test : ℕ → Bool) (m : ℕ) (h : ℕ) → 1 ≤ h → h ≤ 7 → eqb (m / 2 % 2) 1 ≡ test 1 → eqb (m / 4 % 2) 1 ≡ test 2 → eqb (m / 8 % 2) 1 ≡ test 3
+    → eqb (m / 16 % 2) 1 ≡ test 4 → eqb (m / 32 % 2) 1 ≡ test 5 → eqb (m / 64 % 2) 1 ≡ test 6 → eqb (m / 128 % 2) 1 ≡ test 7 → has m h ≡ test h
+has_bit test m zero some most a b c d e f g = absurd (omega (arith, some))
+has_bit test m (suc zero) some most a b c d e f g = a
+has_bit test m (suc (suc zero)) some most a b c d e f g = b
+has_bit test m (suc (suc (suc zero))) some most a b c d e f g = c
+has_bit test m (suc (suc (suc (suc zero)))) some most a b c d e f g = d
+has_bit test m (suc (suc (suc (suc (suc zero))))) some most a b c d e f g = e
+has_bit test m (suc (suc (suc (suc (suc (suc zero)))))) some most a b c d e f g = f
+has_bit test m (suc (suc (suc (suc (suc (suc (suc zero))))))) some most a b c d e f g = g
+has_bit test m (suc (suc (suc (suc (suc (suc (suc (suc n)))))))) some most a b c d e f g = absurd (omega (arith, most))
+
+-- ## Each end is found by its host
+
+abbrev IsFound : List Port → Port → Type 0
+IsFound all q = port_at all q.desk.host ≡ Some q
+
+found_behind : (pool : PoolState) (s : Seat) (p : Port) (all : List Port) (seats : List Seat) (ports : List Port) → s.desk.host ≡ p.desk.host
+    → AllByRecursion (λ (t : Seat). t.desk.host ≢ s.desk.host) seats → SeatsStandFor pool seats ports → AllByRecursion (IsFound all) ports
+    → AllByRecursion (IsFound (p ∷ all)) ports
+found_behind pool s p all [] [] same differ g found = tt
+found_behind pool s p all [] (q ∷ ports) same differ g found = absurd g
+found_behind pool s p all (t ∷ seats) [] same differ g found = absurd g
+found_behind pool s p all (t ∷ seats) (q ∷ ports) same differ g found =
+    (by (p.desk.host == q.desk.host) refl, found_behind pool s p all seats ports same differ.1 g.1 found.1)
+  where
+    by : (b : Bool) → (p.desk.host == q.desk.host) ≡ b → IsFound (p ∷ all) q
+    by true e = absurd (differ.0 (host_is g.0 ∙ (sym (eqb-true p.desk.host q.desk.host e) ∙ sym same)))
+    by false e = rw e found.0
+
+all_found : (pool : PoolState) (seats : List Seat) (ports : List Port) → HaveOwnHosts seats → SeatsStandFor pool seats ports
+    → AllByRecursion (IsFound ports) ports
+all_found pool [] [] own g = tt
+all_found pool [] (p ∷ ports) own g = absurd g
+all_found pool (s ∷ seats) [] own g = absurd g
+all_found pool (s ∷ seats) (p ∷ ports) own g =
+    let here : (p.desk.host == p.desk.host) ≡ true = eq-eqb p.desk.host p.desk.host refl in
+    (rw here refl, found_behind pool s p ports seats ports (host_is g.0) own.0 g.1 (all_found pool seats ports own.1 g.1))
+
+-- ## What is seen
+
+up_is : (b : Bool) → is_up (cond b Up Down) ≡ b
+up_is true = refl
+up_is false = refl
+
+each_seen : (pool : PoolState) (up : ℕ) (all : List Port) (seats : List Seat) (ports : List Port)
+    → ((h : ℕ) → 1 ≤ h → h ≤ 7 → has up h ≡ has_link all h) → AreOfHosts ports → AllByRecursion (IsFound all) ports → SeatsStandFor pool seats ports
+    → map seen_at ports ≡ map seen_at (ports_shown up (map (λ (s : Seat). s.desk) seats))
+each_seen pool up all [] [] mask hosts found g = refl
+each_seen pool up all [] (p ∷ ports) mask hosts found g = absurd g
+each_seen pool up all (s ∷ seats) [] mask hosts found g = absurd g
+each_seen pool up all (s ∷ seats) (p ∷ ports) mask hosts found g =
+    let linked : has_link all p.desk.host ≡ is_up p.side.shdlc.phase =
+    ap (λ (o : Option Port). option_map_or (λ (q : Port). is_up q.side.shdlc.phase) o false) found.0 in
+    let same : has up s.desk.host ≡ is_up p.side.shdlc.phase =
+    ap (has up) (host_is g.0) ∙ (mask p.desk.host hosts.0.0 hosts.0.1 ∙ linked) in
+    let one : seen_at p ≡ (desk_shown s.desk, is_up (cond (has up s.desk.host) Up Down)) =
+    ap₂ (λ (d : DeskOf) (b : Bool). (d, b)) (sym g.0.desk) (sym (up_is (has up s.desk.host) ∙ same)) in
+    ap₂ (λ (x : DeskOf × Bool) xs. x ∷ xs) one (each_seen pool up all seats ports mask hosts.1 found.1 g.1)
+
+pub are_seen : (pool : PoolState) (up : ℕ) (desks : List Desk) (seats : List Seat) (ports : List Port) → desks ≡ map (λ (s : Seat). s.desk) seats
+    → ((h : ℕ) → 1 ≤ h → h ≤ 7 → has up h ≡ has_link ports h) → AreOfHosts ports → AreEnds pool seats ports → AreSeen up desks ports
+are_seen pool up desks seats ports is mask hosts e = record {
+  same = each_seen pool up ports seats ports mask hosts (all_found pool seats ports e.hosts e.each) e.each
+      ∙ ap (λ ds. map seen_at (ports_shown up ds)) (sym is);
+}
+
+pub are_sound : (pool : PoolState) (seats : List Seat) (ports : List Port) → SeatsStandFor pool seats ports
+    → AreSoundDesks (map (λ (s : Seat). s.desk) seats)
+are_sound pool [] [] g = tt
+are_sound pool [] (p ∷ ports) g = absurd g
+are_sound pool (s ∷ seats) [] g = absurd g
+are_sound pool (s ∷ seats) (p ∷ ports) g = (g.0.sound, are_sound pool seats ports g.1)
