@@ -16,4 +16,8 @@ pub mod Orders
 pub mod Ascending
 pub mod Turns
 pub mod Lifting
+pub mod Resting
+pub mod AtRest
+pub mod Events
+pub mod Done
 pub mod Schedules

@@ -57,7 +57,7 @@ pub record WaitsRead (t : List Entry) (w : NodeWorld) : Type 0 where
   pub all : AllWait t w
   pub holds : HoldsRead t w
 
-reads_last : (t : List Entry) (w : NodeWorld) (c : Happening) → WaitsRead t w → MayBoot w c → WaitsRead (t ++ (world_step w c).1) (world_step w c).0
+pub reads_last : (t : List Entry) (w : NodeWorld) (c : Happening) → WaitsRead t w → MayBoot w c → WaitsRead (t ++ (world_step w c).1) (world_step w c).0
 reads_last t w c a may = record {
   all = record {
     orderly = step_orderly w c a.all.orderly;
@@ -96,7 +96,7 @@ none_wait hosts false h = go (site_at (new_world hosts).sites h) refl where
   go None q = tt
   go (Some s) q = (site_is IsNew (new_world hosts).sites h s (are_new (replicate 65536 255) hosts) q).near
 
-new_reads : (hosts : List ℕ) → AreHosts hosts → WaitsRead [] (new_world hosts)
+pub new_reads : (hosts : List ℕ) → AreHosts hosts → WaitsRead [] (new_world hosts)
 new_reads hosts are = record {
   all = record {
     orderly = new_orderly hosts are.different (numbers hosts are.all);

@@ -43,7 +43,7 @@ all_near (p ∷ ports) = (refl, all_near ports)
 far_end : (h : ℕ) → (h == 0) ≡ false → IsEndOf h h
 far_end h other = rw other refl
 
-near_runs : (r : Running) (plan : Option Plan) (near_ends : ℕ → NumberedEnd) (es : List Entry) → r.core.node ≡ 0 → AreOwn 0 es → AreUncut es
+pub near_runs : (r : Running) (plan : Option Plan) (near_ends : ℕ → NumberedEnd) (es : List Entry) → r.core.node ≡ 0 → AreOwn 0 es → AreUncut es
     → Runs 0 (work_of r plan near_ends es)
 near_runs r plan near_ends es number own uncut = record {
   on = refl;
@@ -59,7 +59,7 @@ one_end h [] other e = absurd (cc e)
 one_end h (p ∷ []) other e = let is : p.desk.host ≡ h = cc in (subst (IsEndOf h) (sym is) (far_end h other), tt)
 one_end h (p ∷ q ∷ ports) other e = let none : q.desk.host ∷ hosts_of_ends ports ≡ [] = cc in absurd (cc none)
 
-far_runs : (h : ℕ) (r : Running) (plan : Option Plan) (near_ends : ℕ → NumberedEnd) (es : List Entry) → (h == 0) ≡ false → HasEnds h (h ∷ []) r
+pub far_runs : (h : ℕ) (r : Running) (plan : Option Plan) (near_ends : ℕ → NumberedEnd) (es : List Entry) → (h == 0) ≡ false → HasEnds h (h ∷ []) r
     → AreOwn h es → AreUncut es → Runs h (work_of r plan near_ends es)
 far_runs h r plan near_ends es other has own uncut = record {
   on = refl;
@@ -92,7 +92,7 @@ far_part : (h : ℕ) (v : Work) (l : Link) → Fine h v → IsPart h (v.entries 
 far_part h v l fine =
     work_part h v (frames_noted Host h l v) fine (frames_none Host h l v) (frames_own h Host h l v refl) (frames_uncut Host h l v)
 
-controller_part : (w : NodeWorld) (k : ℕ) (comes : Comes) (f : Work → Work) → ((v : Work) → Runs 0 v → Fine 0 (f v)) → IsOrderly w
+pub controller_part : (w : NodeWorld) (k : ℕ) (comes : Comes) (f : Work → Work) → ((v : Work) → Runs 0 v → Fine 0 (f v)) → IsOrderly w
     → IsPart 0 (controller_does w k comes f).1
 controller_part w k comes f does a =
     by_controller (λ p. IsPart 0 p.1) w k comes f (nothing_part 0)
@@ -106,7 +106,7 @@ controller_part w k comes f does a =
     (does begun (near_runs r w.memory.plan near_ends es n.number
     (links_own 0 k Controller refl (arrival Controller l comes) (arrival_of_side Controller l comes)) (entries_uncut k (arrival Controller l comes)))))
 
-host_part : (w : NodeWorld) (h : ℕ) (comes : Comes) (f : Work → Work) → ((v : Work) → Runs h v → Fine h (f v)) → IsOrderly w
+pub host_part : (w : NodeWorld) (h : ℕ) (comes : Comes) (f : Work → Work) → ((v : Work) → Runs h v → Fine h (f v)) → IsOrderly w
     → IsPart h (host_does w h comes f).1
 host_part w h comes f does a =
     by_host (λ p. IsPart h p.1) w h comes f (nothing_part h)
@@ -131,11 +131,11 @@ comes_part w e comes a =
     (λ i q seen. rw q (host_part w e.link comes (steps (AtEnd e.link i)) (λ v r. steps_fine e.link (AtEnd e.link i) v r) a))
     (λ i q seen. rw q (controller_part w e.link comes (steps (AtEnd e.link i)) (λ v r. steps_fine 0 (AtEnd e.link i) v r) a))
 
-begins_part : (w : NodeWorld) (h : ℕ) (deeds : List Deed) → AllByRecursion (IsMine h h) deeds → IsOrderly w
+pub begins_part : (w : NodeWorld) (h : ℕ) (deeds : List Deed) → AllByRecursion (IsMine h h) deeds → IsOrderly w
     → IsPart h (host_does w h NoInput (begins_with h deeds)).1
 begins_part w h deeds mine a = host_part w h NoInput (begins_with h deeds) (λ v r. deeds_fine h h deeds v mine r) a
 
-sending_mine : (h : ℕ) (m : Message) → AllByRecursion (IsMine h h) (sending h m)
+pub sending_mine : (h : ℕ) (m : Message) → AllByRecursion (IsMine h h) (sending h m)
 sending_mine h m = go (m.0 == 1 && is_command_message m.1)
   where
     go : (b : Bool) → AllByRecursion (IsMine h h) (cond b (Orders m.1 ∷ []) (Sends h m ∷ []))

@@ -33,6 +33,7 @@ use Rattle.answer_laws.specs.answers.Headline.PlayedHistory.{OfLink, OfNodes}
 use Rattle.answer_laws.specs.answers.SoFar.{AnsweredSoFar}
 use Rattle.answer_laws.proofs.schedules.Ranges.{hosts_few}
 use Rattle.answer_laws.proofs.passes.Events.{front_long}
+use Rattle.answer_laws.proofs.worlds.Done.{histories_done}
 use Rattle.answer_laws.proofs.worlds.Lifting.{controller_answers}
 
 begun_one : (l : Line) → IsInitOfHost l → IsBegunByHost l
@@ -77,6 +78,7 @@ pub schedule_answers : (header : Header) (lines : List Line) (t : NodeHistory) �
     → AreNodeLinesOf header lines → length lines ≤ 20000 → AnsweredSoFar t
 schedule_answers header lines t follows nodes are most = record {
   in_turn = in_turn header lines t follows (hosts_are header nodes).different (none_zero header.hosts.items (hosts_are header nodes).all);
+  done = histories_done header lines t follows (hosts_are header nodes) (playable header lines are);
   near = controller_answers header lines t follows (hosts_are header nodes) (hosts_few header nodes) (sent_by_hosts header lines nodes are)
       (are_few header lines t follows nodes are most) (playable header lines are) (front_long header lines t follows are (playable header lines are) most);
   reset = schedule_resets header lines t follows nodes are most;

@@ -76,7 +76,7 @@ given_turnless core m (Some p) = go (give_refusal p.side m) where
   go (Some why) = tt
 
 -- what a deed notes has no turn
-abbrev NotesNoTurn : Deed → Type 0
+abbrev pub NotesNoTurn : Deed → Type 0
 NotesNoTurn d = (h : ℕ) (w : Work) → AreNoTurns (noted_by_deed h d w)
 
 pub sending_turnless : (h : ℕ) (m : Message) → AllByRecursion NotesNoTurn (sending h m)

@@ -5,7 +5,7 @@ use Rattle.node_machine.specs.world.NodeHistories.{NodeHistory, node_entries}
 use Rattle.node_machine.specs.world.NodeLegal.{AreInTurn}
 use Rattle.answer_laws.specs.answers.Moments.{AtEachEntry, AtEachOccurrence, Moment}
 use Rattle.answer_laws.specs.answers.Order.{NodesHearFirst, TurnsAscend, turn_link}
-use Rattle.answer_laws.specs.answers.Answered.{AreReset, IsHeldFor, IsReplied}
+use Rattle.answer_laws.specs.answers.Answered.{AreDone, AreReset, IsHeldFor, IsReplied}
 
 -- Where a message has its turn at an end of the controller, or is held there, it is replied to, and held, as is read.
 abbrev pub IsAnsweredNear : List ℕ → Moment → Entry → List Entry → Type 0
@@ -13,6 +13,7 @@ IsAnsweredNear hosts m x behind = (k : ℕ) → turn_link 0 x ≡ Some k → IsR
 
 pub record AnsweredSoFar (t : NodeHistory) : Type 0 where
   pub in_turn : AreInTurn (node_entries t)
+  pub done : AtEachOccurrence t (AreDone t.header.hosts.items)
   pub near : AtEachEntry t (IsAnsweredNear t.header.hosts.items)
   pub reset : AtEachOccurrence t (AreReset t.header.hosts.items)
   pub ascending : TurnsAscend t
