@@ -94,11 +94,11 @@ abbrev pub drawn_lines : ℕ → List Line
 drawn_lines n = first_lines ++ (so_many_steps n 2000).lines ++ line.Tables 0 ∷ []
 
 -- a line with its end
-abbrev pub whole_line : Line → List ℕ
-whole_line l = line_text l ++ 10 ∷ []
+abbrev pub drawn_line : Line → List ℕ
+drawn_line l = line_text l ++ 10 ∷ []
 
 abbrev pub lines_text : List Line → List ℕ
-lines_text lines = flat_map whole_line lines
+lines_text lines = flat_map drawn_line lines
 
 -- the text of a schedule
 abbrev pub text_of_schedule : Header → List Line → List ℕ

@@ -17,7 +17,7 @@ use Rattle.swp_decode.specs.declared.line.Wire.TheVariants.{S1, S2}
 use Rattle.swp_decode.specs.Readings.{ReadSymbol, symbol_on, readings_on, AreBits, signal, symbols, start_of}
 use Rattle.swp_decode.specs.Texts.{verdict_line}
 use Rattle.swp_decode.specs.Decoded.{line_with, line_at, lines_with}
-use Rattle.swp_decode.specs.Frames.{frame_in, frame_with, frame_at, frames_heard, frames_with, record_frames}
+use Rattle.swp_decode.specs.Frames.{frame_in, frame_with, frame_at, frames_told, frames_with, record_frames}
 use Rattle.swp_decode.proofs.Gathering.{AreBits-at}
 use Rattle.swp_decode.proofs.FurtherLines.{reverse_onto, no_parts, signal_at, AreQuietBetween, no_lines_between}
 
@@ -45,18 +45,18 @@ silent_frames (byte ∷ bytes) older e =
 -- ---- further bytes
 
 -- the frames of older bytes and of further ones
-pub frames_heard-append : (older bytes : List ℕ) → frames_heard (reverse bytes ++ older) ≡ frames_heard older ++ frames_with older bytes
-frames_heard-append older [] = sym (append-nil (frames_heard older))
-frames_heard-append older (byte ∷ bytes) =
-    ap frames_heard (reverse_onto byte bytes older) ∙ frames_heard-append (byte ∷ older) bytes
-    ∙ regrouped (frames_heard older) (frame_at S1 (byte ∷ older)) (frame_at S2 (byte ∷ older)) (frames_with (byte ∷ older) bytes)
+pub frames_told-append : (older bytes : List ℕ) → frames_told (reverse bytes ++ older) ≡ frames_told older ++ frames_with older bytes
+frames_told-append older [] = sym (append-nil (frames_told older))
+frames_told-append older (byte ∷ bytes) =
+    ap frames_told (reverse_onto byte bytes older) ∙ frames_told-append (byte ∷ older) bytes
+    ∙ regrouped (frames_told older) (frame_at S1 (byte ∷ older)) (frame_at S2 (byte ∷ older)) (frames_with (byte ∷ older) bytes)
   where
     regrouped : (a b c d : List (Bool × List ℕ)) → ((a ++ b) ++ c) ++ d ≡ a ++ ((b ++ c) ++ d)
     regrouped a b c d = simp append_assoc
 
 -- the frames of a record and of what follows it
 pub record_frames-append : (bytes more : List ℕ) → record_frames (bytes ++ more) ≡ record_frames bytes ++ frames_with (reverse bytes) more
-record_frames-append bytes more = ap frames_heard (reverse-append bytes more) ∙ frames_heard-append (reverse bytes) more
+record_frames-append bytes more = ap frames_told (reverse-append bytes more) ∙ frames_told-append (reverse bytes) more
 
 -- the frames of further bytes and of those behind them
 frames_behind-append : (older bytes more : List ℕ) → frames_with older (bytes ++ more) ≡ frames_with older bytes ++ frames_with (reverse bytes ++ older) more

@@ -30,9 +30,9 @@ frame_at wire [] = []
 frame_at wire (byte ∷ older) = frame_with wire (symbol_on wire (period_at byte)) (signal wire older)
 
 -- the frames of a record, the newest byte first: in the order of the byte that ended them, S1 before S2
-abbrev pub frames_heard : List ℕ → List (Bool × List ℕ)
-frames_heard [] = []
-frames_heard (byte ∷ older) = frames_heard older ++ frame_at S1 (byte ∷ older) ++ frame_at S2 (byte ∷ older)
+abbrev pub frames_told : List ℕ → List (Bool × List ℕ)
+frames_told [] = []
+frames_told (byte ∷ older) = frames_told older ++ frame_at S1 (byte ∷ older) ++ frame_at S2 (byte ∷ older)
 
 -- the frames that come with further bytes, the oldest first, after the older ones, the newest first
 abbrev pub frames_with : List ℕ → List ℕ → List (Bool × List ℕ)
@@ -41,4 +41,4 @@ frames_with older (byte ∷ bytes) = frame_at S1 (byte ∷ older) ++ frame_at S2
 
 -- the frames of a record, its oldest byte first
 abbrev pub record_frames : List ℕ → List (Bool × List ℕ)
-record_frames bytes = frames_heard (reverse bytes)
+record_frames bytes = frames_told (reverse bytes)
