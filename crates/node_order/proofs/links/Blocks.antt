@@ -12,7 +12,7 @@ use Rattle.swp_act.specs.declared.ActEvent.{ActEvent}
 use Rattle.swp_act.specs.declared.ActEvent.TheVariants.{Start as ActStart, Take as ActTake, Tick as ActTick, Stop as ActStop}
 use Rattle.shdlc_core.specs.declared.answers.LinkState.{LinkState}
 use Rattle.shdlc_core.specs.declared.answers.LinkState.TheVariants.{Down, Waiting, Up}
-use Rattle.shdlc_core.specs.Machine.{EndState, taken, take_answer, ticked, tick_answer, reset_with, stopped, with_ready, fetched, after_frames, most_frames}
+use Rattle.shdlc_core.specs.Machine.{EndState, taken, take_answer, ticked, tick_answer, reset_with, stopped, with_ready, fetched, most_frames}
 use Rattle.link_laws.proofs.sessions.Ties.{fetched-phase, after_frames-phase}
 use Rattle.hcp_packet.specs.Packets.{packet_count}
 use Rattle.link_machine.specs.Machine.{Message, LinkEnd, LinkInput, ActDue, Role, Turn, Refused, is_faulty, is_open, act_answer, role_after, with_act, moved}
