@@ -10,7 +10,6 @@ pub mod Growing
 pub mod Aging
 pub mod Histories
 pub mod Hearing
-pub mod Owning
 pub mod Order
 pub mod Orders
 pub mod Ascending

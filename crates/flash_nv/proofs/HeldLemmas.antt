@@ -104,4 +104,5 @@ content_only cells content is =
         let s : i / 256 < 256 = omega arith in
         let j : i % 256 < 256 = omega arith in
         ap (slice_index content) (sym place)
-        ∙ (by_page (i / 256) (i % 256) s j (page_of cells (i / 256)) refl ∙ (sym (byte_in cells (i / 256) (i % 256) s j) ∙ ap (slice_index (flash_content cells)) place))
+        ∙ (by_page (i / 256) (i % 256) s j (page_of cells (i / 256)) refl
+        ∙ (sym (byte_in cells (i / 256) (i % 256) s j) ∙ ap (slice_index (flash_content cells)) place))

@@ -1,7 +1,7 @@
 -- What a controller decides may be done: a command finds room.
-use Rattle.std.proofs.Common.{◌≡◌, ℕ, Bool, true, false, cond, ◌&&◌, List, [], ◌∷◌, map, refl, sym, ap, ap₂, ◌∙◌, subst}
-use Rattle.std.specs.Prelude.{Option, Some, None, Result, Ok, Err, ◌==◌, ◌<◌, option_map, IfSome}
-use Rattle.std.specs.List.{AllByRecursion, find}
+use Rattle.std.proofs.Common.{◌≡◌, ℕ, Bool, true, false, cond, ◌&&◌, List, [], ◌∷◌, map, refl, sym}
+use Rattle.std.specs.Prelude.{Option, Some, None, Result, Ok, Err, ◌==◌}
+use Rattle.std.specs.List.{AllByRecursion}
 use Rattle.std.proofs.lemmas.Bool.{true≢false}
 use Rattle.hcp_packet.specs.declared.MessageKind.{MessageKind}
 use Rattle.hcp_packet.specs.declared.MessageKind.TheVariants.{Command as IsCommand, Event as IsEvent, Response as IsResponse}
@@ -19,15 +19,13 @@ use Rattle.gate_admin.specs.declared.decision.Decision.TheVariants.{Answer, Comm
 use Rattle.gate_admin.specs.View.{has, hosts_where}
 use Rattle.gate_admin.specs.Decide.{decided}
 use Rattle.link_machine.specs.Machine.{Message}
-use Rattle.link_machine.specs.Machine.Turn.{FetchMessage}
 use Rattle.node_machine.specs.Parts.{Creation, Notice, Port, Work, Deed}
 use Rattle.node_machine.specs.Parts.Deed.{Commits, Sends, SaysOk, Asks, Releases, Tells, IsAnswered, Drops, SetsErrors, Orders, Hears, GoesOn, Ends}
-use Rattle.node_machine.specs.Carrying.{port_at, changed_if, with_port, after_turn, finds_room, done}
-use Rattle.node_machine.specs.Controller.{asked_at, creation_in, commit_deeds, decision_deeds, link_deeds, gate_deeds, served_at, agreed, creation_deeds}
+use Rattle.node_machine.specs.Carrying.{port_at, finds_room, done}
+use Rattle.node_machine.specs.Controller.{creation_in, commit_deeds, decision_deeds, link_deeds, gate_deeds, served_at, agreed, creation_deeds}
 use Rattle.node_machine.specs.Controller.{notice_deeds, response_at, relayed_to, unrelayed, event_deeds, unless_asking, if_notice, kind_deeds}
 use Rattle.node_machine.specs.Controller.{own_deeds, relay_deeds}
 use Rattle.node_machine.specs.Controller.{deeds_by_relay, controller_deeds, has_link, own_gate, view_for, goes_through, is_command_message, answers_on}
-use Rattle.node_deeds.proofs.Ports.{find-map}
 use Rattle.node_core.specs.Deeds.{IsGranted, AreGranted}
 use Rattle.node_core.specs.Handling.{has_turn}
 

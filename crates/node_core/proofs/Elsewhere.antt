@@ -1,5 +1,5 @@
 -- What the turns of the messages at one end leave of the other ends.
-use Rattle.std.proofs.Common.{◌≡◌, ◌≢◌, ℕ, zero, suc, ◌≤◌, Bool, true, false, cond, List, [], ◌∷◌, map, drop, length, refl, sym, ap, ap₂, ◌∙◌, subst, arith}
+use Rattle.std.proofs.Common.{◌≡◌, ◌≢◌, ℕ, zero, suc, ◌≤◌, Bool, true, false, List, [], ◌∷◌, map, drop, length, refl, sym, ap, ap₂, ◌∙◌, subst}
 use Rattle.std.specs.Prelude.{Option, Some, None, ◌==◌, option_map, slice_get, IfSome}
 use Rattle.std.specs.List.{AllByRecursion}
 use Rattle.std.specs.Option.{option_map_or}
@@ -7,11 +7,11 @@ use Rattle.std.proofs.lemmas.Bool.{eqb-true}
 use Rattle.block_pool.specs.Pool.{PoolState}
 use Rattle.link_machine.specs.Machine.{Message}
 use Rattle.link_machine.specs.Machine.Turn.{Hold}
-use Rattle.node_machine.specs.Parts.{Port, Work, Deed as DeedOf, Desk as DeskOf}
+use Rattle.node_machine.specs.Parts.{Port, Work, Deed as DeedOf}
 use Rattle.node_machine.specs.Carrying.{port_at, changed_if, with_port, after_turn, lack, needs}
 use Rattle.node_machine.specs.Turns.{deeds_of, handles, holds_back, lets_go, have_turns}
 use Rattle.node_ends.specs.declared.seat.Seat.{Seat}
-use Rattle.node_ends.specs.Ends.{SeatsStandFor, HaveOwnHosts, AreEnds, AreOfHosts, FewAreDue, held_at}
+use Rattle.node_ends.specs.Ends.{SeatsStandFor, HaveOwnHosts, AreOfHosts, FewAreDue, held_at}
 use Rattle.node_ends.specs.Making.{AreAllDifferent}
 use Rattle.node_ends.proofs.Changing.{host_is}
 use Rattle.node_core.specs.Turning.{AreFewDue}

@@ -11,3 +11,5 @@ pub mod Passing
 pub mod Spares
 mod Sendables
 mod Elsewhere
+pub mod Notes
+mod Arriving

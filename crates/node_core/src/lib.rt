@@ -3,8 +3,10 @@
 #![tactic(auto)]
 
 mod carrying;
+mod coming;
 mod node;
 mod noting;
+mod reporting;
 mod seeing;
 mod turns;
 

@@ -6,3 +6,4 @@ pub mod Allowing
 pub mod Rounds
 pub mod WorldLaw
 pub mod WorldRounds
+pub mod NotedFragments

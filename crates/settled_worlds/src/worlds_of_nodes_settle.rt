@@ -8,10 +8,12 @@ ghost use Rattle.trace_model.specs.declared.line.End.{End};
 ghost use Rattle.trace_model.specs.declared.line.Header.{Header};
 ghost use Rattle.trace_model.specs.declared.line.Line.{Line};
 ghost use Rattle.node_machine.specs.world.Lines.{Occurrence};
-ghost use Rattle.node_machine.specs.world.NodeHistories.{FollowsNodes, NodeHistory, occurrences_in};
+ghost use Rattle.node_machine.specs.world.NodeHistories.{FollowsNodes, NodeHistory, entries_in, occurrences_in};
 ghost use Rattle.node_laws.specs.kept.Hosts.{AreHosts};
 ghost use Rattle.node_laws.specs.telling.Telling.{world_behind};
 ghost use Rattle.node_order.specs.links.Runs.{ArePlayable};
+ghost use Rattle.node_order.specs.order.Told.{AreUpWith};
+ghost use Rattle.settled_worlds.specs.worlds.NotedFragments.{fragments_noted};
 ghost use Rattle.node_machine.specs.world.World.{NodeWorld, Site, new_world, site_at, world_step};
 ghost use Rattle.node_machine.specs.world.World.Happening.{Takes, Ticks};
 ghost use Rattle.settled_worlds.specs.worlds.LinkEvents.{GoesOnLink, link_events_in};
@@ -43,14 +45,22 @@ pub fn rounds_of_a_world_are_events_on_each_link()
 /// Where a world of hosts from 01 to 07 that are all different, as it is at the end of an event of a history, settles with 24 (F + 1)
 /// rounds at least, F being the fragments of the messages sent both ways on the link of a host that aren't acknowledged, and in these
 /// rounds, while they last, both ends of the link are up and ready and no frame of it is lost but of activation, all good messages that
-/// were sent on it before are got, and all that were sent on it before are acknowledged.
+/// were sent on it before are got, and all that were sent on it before are acknowledged. F may be read off the entries (`noted`): the
+/// fragments of the messages that both ends sent in the session in which they are up, behind those that count as acknowledged.
 pub fn links_of_settled_worlds_have_brought_all()
-    ensures { (header : Header) (lines : List Line) (t : NodeHistory) → FollowsNodes header lines t → AreHosts header.hosts.items →
+    ensures links { (header : Header) (lines : List Line) (t : NodeHistory) → FollowsNodes header lines t → AreHosts header.hosts.items →
         ArePlayable lines → (front back : List Occurrence) → occurrences_in t ≡ front ++ back → (h : ℕ) (s : Site) →
         site_at (world_behind (new_world header.hosts.items) front).sites h ≡ Some s → (n : ℕ) →
         IsLinkUndisturbed s.link (rounds_events h (world_rounds_to_settle n (world_behind (new_world header.hosts.items) front))
         (world_behind (new_world header.hosts.items) front)) →
         24 * (fragments_left s.link + 1) ≤ n → LinkSettled (world_settling n (world_behind (new_world header.hosts.items) front)).0 h s }
+    ensures noted { (header : Header) (lines : List Line) (t : NodeHistory) → FollowsNodes header lines t → AreHosts header.hosts.items →
+        ArePlayable lines → (front back : List Occurrence) → occurrences_in t ≡ front ++ back → (h : ℕ) (s : Site) →
+        site_at (world_behind (new_world header.hosts.items) front).sites h ≡ Some s → (n k : ℕ) →
+        IsLinkUndisturbed s.link (rounds_events h (world_rounds_to_settle n (world_behind (new_world header.hosts.items) front))
+        (world_behind (new_world header.hosts.items) front)) → AreUpWith (entries_in front) h k →
+        24 * (fragments_noted (entries_in front) h k + 1) ≤ n →
+        LinkSettled (world_settling n (world_behind (new_world header.hosts.items) front)).0 h s }
 {}
 
 /// In such a world rounds of it are rounds of the link of each host on which they are undisturbed so, and all that happens in them may

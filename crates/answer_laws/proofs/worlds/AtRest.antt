@@ -1,16 +1,15 @@
 -- Whatever happens to a world, all messages at the ends of nodes that run have had their turns, or all before one that is held.
-use Rattle.std.proofs.Common.{◌≡◌, ◌⊎◌, inl, inr, ℕ, Bool, true, false, cond, eqb, List, [], ◌∷◌, ◌++◌, map, refl, sym, ap, subst, ◌∙◌, append_assoc, append-nil}
-use Rattle.std.specs.Prelude.{◌==◌, is_some, Option, Some, None}
+use Rattle.std.proofs.Common.{◌≡◌, ℕ, Bool, true, false, cond, eqb, List, [], ◌∷◌, ◌++◌, map, refl, sym, ap, subst, ◌∙◌, append_assoc}
+use Rattle.std.specs.Prelude.{Option, Some, None}
 use Rattle.std.specs.Option.{option_map_or}
-use Rattle.std.specs.List.{AllByRecursion, flat_map}
-use Rattle.std.proofs.lemmas.Bool.{true≢false, eqb-true}
+use Rattle.std.specs.List.{flat_map}
 use Rattle.registry.proofs.ValueLemmas.{AllByRecursion-append as all_append}
 use Rattle.swp_base.specs.InMemory.{Plan}
 use Rattle.trace_model.specs.declared.entry.Entry.{Entry}
 use Rattle.trace_model.specs.declared.entry.Entry.TheVariants as entry
 use Rattle.trace_model.specs.declared.line.End.{End}
-use Rattle.link_machine.specs.Machine.{LinkEnd, LinkInput, Message}
-use Rattle.link_entries.specs.messages.Links.{Comes, Link, NumberedEnd, exchanged}
+use Rattle.link_machine.specs.Machine.{LinkEnd}
+use Rattle.link_entries.specs.messages.Links.{Link, NumberedEnd}
 use Rattle.link_entries.specs.entries.Entries.{ending_entries}
 use Rattle.link_entries.specs.entries.Entries.End.{Controller, Host}
 use Rattle.link_entries.specs.entries.Entries.{End as Side}
@@ -19,17 +18,15 @@ use Rattle.history.specs.Steps.{entries_for}
 use Rattle.node_machine.specs.Parts.{Port, Running, Work}
 use Rattle.node_machine.specs.Carrying.{own_side, port_at}
 use Rattle.node_machine.specs.Node.{NodeInput, steps}
-use Rattle.node_machine.specs.Node.NodeInput.{AtEnd, TimePasses}
-use Rattle.node_machine.specs.world.World.{NodeWorld, Site, site_at, link_to, runs_on, end_c, end_h, ending_of, frames_noted, work_of, node_of, port_for}
+use Rattle.node_machine.specs.world.World.{Site, site_at, link_to, runs_on, end_c, end_h, ending_of, frames_noted, work_of}
 use Rattle.node_laws.specs.kept.Books.{hosts_of_ends}
 use Rattle.node_laws.specs.kept.Hosts.{AreDifferent}
 use Rattle.node_laws.specs.telling.Telling.{HasEnds, hosts_in}
-use Rattle.node_laws.proofs.telling.Nodes.{hosts_same, link_is, ports_for}
+use Rattle.node_laws.proofs.telling.Nodes.{hosts_same, link_is}
 use Rattle.node_laws.proofs.telling.Walks.{AreUncut}
 use Rattle.node_order.specs.links.Notices.{IsOutside}
 use Rattle.node_order.specs.passes.Passing.{AreNoTurns, is_held_at}
 use Rattle.node_order.specs.power.Powers.{AreNotOf}
-use Rattle.node_order.proofs.power.Doing.{Runs}
 use Rattle.node_order.proofs.power.Parts.{AreOwn}
 use Rattle.node_order.proofs.turns.Queues.Doing.{Adds, Takes, Clears, Nothing}
 use Rattle.node_order.proofs.turns.Queues.{AreStill, Goes, doing, goes-append, still_goes}
@@ -37,12 +34,11 @@ use Rattle.node_order.proofs.turns.Works.{frames_still}
 use Rattle.answer_laws.specs.answers.Moments.{holds_in}
 use Rattle.answer_laws.specs.answers.Answered.{is_done}
 use Rattle.answer_laws.proofs.passes.Begins.{port_begins}
-use Rattle.answer_laws.proofs.passes.Came.{one_at}
 use Rattle.answer_laws.proofs.passes.Held.{desks_held, host_side, is_held_among, ports_held}
 use Rattle.answer_laws.proofs.passes.Holding.{ended_read_at}
 use Rattle.answer_laws.proofs.passes.Sides.{AreNoBoots, notes_unbooted}
 use Rattle.answer_laws.proofs.worlds.Ascending.{frames_turnless}
-use Rattle.answer_laws.proofs.worlds.Owning.{far_runs, near_runs}
+use Rattle.node_order.proofs.power.Events.{far_runs, near_runs}
 use Rattle.answer_laws.proofs.worlds.Resting.{AreIdle, IsIdle, ended_done, idle_done, idle_held, others_idle, quiet_idle}
 
 -- ## Frames

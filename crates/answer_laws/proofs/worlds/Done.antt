@@ -1,21 +1,16 @@
 -- Behind each event of a history all messages at the ends of nodes that run have had their turns, or all before one that is held.
-use Rattle.std.proofs.Common.{◌≡◌, ℕ, Bool, true, false, List, [], ◌∷◌, ◌++◌, map, refl, sym, ap, subst, ◌∙◌, append_assoc, append-nil}
-use Rattle.std.specs.Prelude.{◌==◌, ◌&&◌, not, is_some, Option, Some, None}
+use Rattle.std.proofs.Common.{◌≡◌, ℕ, Bool, true, false, List, [], ◌∷◌, ◌++◌, refl, sym, ap, subst, ◌∙◌, append_assoc, append-nil}
+use Rattle.std.specs.Prelude.{◌==◌, ◌&&◌, not, Some, None}
 use Rattle.std.specs.List.{AllByRecursion, flat_map}
 use Rattle.std.proofs.lemmas.Bool.{true≢false}
 use Rattle.std.proofs.lemmas.List.Concat.{flat_map-append}
-use Rattle.registry.proofs.ValueLemmas.{AllByRecursion-append as all_append}
-use Rattle.swp_base.specs.InMemory.{Memory}
 use Rattle.trace_model.specs.declared.entry.Entry.{Entry}
 use Rattle.trace_model.specs.declared.line.End.{End}
 use Rattle.trace_model.specs.declared.line.Header.{Header}
 use Rattle.trace_model.specs.declared.line.Line.{Line}
 use Rattle.shdlc_core.specs.Machine.{is_waiting}
-use Rattle.link_machine.specs.Machine.{LinkEnd, LinkInput, Message}
-use Rattle.link_machine.specs.Machine.Turn.{Give}
-use Rattle.link_machine.specs.Machine.LinkInput.{Reset}
-use Rattle.link_entries.specs.messages.Links.{Comes, Link, NumberedEnd, aged, exchanged, has_input, ticks_at_controller}
-use Rattle.link_entries.specs.messages.Links.Comes.{AsksReset, NextFrame, NoInput, Starts}
+use Rattle.link_entries.specs.messages.Links.{Comes, NumberedEnd, aged, exchanged, ticks_at_controller}
+use Rattle.link_entries.specs.messages.Links.Comes.{AsksReset, NextFrame, Starts}
 use Rattle.link_entries.specs.messages.Links.Ending.{GoesOut}
 use Rattle.link_entries.specs.messages.Links.EndEvent.{Step}
 use Rattle.link_entries.specs.entries.Entries.{aged_entries}
@@ -23,12 +18,11 @@ use Rattle.link_entries.specs.entries.Entries.End.{Controller, Host}
 use Rattle.link_entries.proofs.entries.Together.{ticks_host}
 use Rattle.history.specs.Steps.{entries_for}
 use Rattle.node_machine.specs.Parts.{Running, Work}
-use Rattle.node_machine.specs.Node.{steps}
-use Rattle.node_machine.specs.Node.NodeInput.{AtEnd, TimePasses}
+use Rattle.node_machine.specs.Node.NodeInput.{TimePasses}
 use Rattle.node_machine.specs.world.World.{NodeWorld, Site, Happening, site_at, link_to, turns_at, ending_of, is_late_at, frames_noted, all_aged}
 use Rattle.journal_laws.specs.Planned.{after_planned}
 use Rattle.node_machine.specs.world.World.{runs_on}
-use Rattle.node_machine.specs.world.World.{controller_ticks, host_ticks, hosts_tick, world_ticks, comes_at, activates, boots, frame_lost, memory_at, with_memory}
+use Rattle.node_machine.specs.world.World.{controller_ticks, host_ticks, hosts_tick, world_ticks, comes_at, memory_at}
 use Rattle.node_machine.specs.world.World.{end_c, end_h, sending, beginning, world_step, new_world}
 use Rattle.node_machine.specs.world.World.Happening.{Boots, IsCut, Gives, Inits, Takes, Loses, Ticks, Resets, Activates, Arms}
 use Rattle.node_machine.specs.world.Lines.{Occurrence}
@@ -41,26 +35,24 @@ use Rattle.node_laws.proofs.telling.Events.{comes_goes, orderly_map, sending_mut
 use Rattle.node_laws.proofs.telling.Lasting.{AllHold, AnyLine, all_lines, boots_may, events_of_steps, front_holds, lines_hold}
 use Rattle.node_laws.proofs.telling.WorldTicks.{near_orderly}
 use Rattle.node_laws.proofs.telling.Worlds.{node_is}
-use Rattle.node_order.specs.power.Powers.{AreNotOf}
 use Rattle.node_order.specs.links.Runs.{ArePlayable}
 use Rattle.node_order.proofs.links.Ends.{here_host}
 use Rattle.node_order.proofs.order.Lines.{IsSo, history_so}
 use Rattle.node_order.proofs.power.Parts.{IsPart, own_not, part_own}
-use Rattle.node_order.proofs.turns.Coming.{notes_still}
 use Rattle.node_order.proofs.turns.Queues.{Goes, goes-append, still_goes}
 use Rattle.node_order.proofs.turns.Works.{aged_none, sites_is}
 use Rattle.answer_laws.specs.answers.Answered.{AreDone, ends_in, is_done, through}
-use Rattle.answer_laws.specs.answers.Moments.{AtEachOccurrence, holds_in}
-use Rattle.answer_laws.specs.steps.Worlds.{as_it_ticks}
+use Rattle.answer_laws.specs.answers.Moments.{AtEachOccurrence}
 use Rattle.answer_laws.proofs.passes.Begins.{WaitsRead, new_reads, reads_last}
-use Rattle.answer_laws.proofs.passes.Held.{aged_leave, is_held_among}
+use Rattle.answer_laws.proofs.passes.Held.{aged_leave}
 use Rattle.answer_laws.proofs.passes.Whole.{near_goes}
 use Rattle.answer_laws.proofs.worlds.AtRest.{SiteRests, SiteWaits, far_site, flat_idle, frames_idle, idle_still, near_rests, site_on}
 use Rattle.answer_laws.proofs.worlds.Events.{AllAtRest, AllWaiting, after_near, all_rests, each_done, far_begins, far_coming, far_idle, idle_all, near_comes}
 use Rattle.answer_laws.proofs.worlds.Events.{boot_rests, cut_rests, lost_rests, quiet_links, rest_on, same_sym, waiting_from, written}
-use Rattle.answer_laws.proofs.worlds.Owning.{far_tick, near_ticks_part, sending_mine}
+use Rattle.node_order.proofs.power.Events.{far_tick, near_ticks_part, sending_mine}
 use Rattle.answer_laws.proofs.worlds.Resting.{AreIdle, idle_done, others_idle}
-use Rattle.answer_laws.proofs.worlds.Turns.{AreNodes, beginning_turnless, both_nodes, none_zero, others_tick, sending_turnless}
+use Rattle.node_order.proofs.power.Events.{AreNodes, both_nodes, others_tick}
+use Rattle.answer_laws.proofs.worlds.Turns.{beginning_turnless, sending_turnless}
 
 -- ## Time
 

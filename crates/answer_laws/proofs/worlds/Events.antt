@@ -1,6 +1,6 @@
 -- In each event all messages at the ends of nodes that run have had their turns, or all before one that is held.
-use Rattle.std.proofs.Common.{◌≡◌, ◌⊎◌, inl, inr, ℕ, Bool, true, false, cond, eqb, List, [], ◌∷◌, ◌++◌, map, refl, sym, ap, subst, ◌∙◌, append_assoc, append-nil}
-use Rattle.std.specs.Prelude.{◌==◌, ◌&&◌, is_some, not, Option, Some, None}
+use Rattle.std.proofs.Common.{◌≡◌, ℕ, Bool, true, false, cond, eqb, List, [], ◌∷◌, ◌++◌, map, refl, sym, ap, subst, ◌∙◌, append_assoc, append-nil}
+use Rattle.std.specs.Prelude.{◌==◌, is_some, Option, Some, None}
 use Rattle.std.specs.List.{AllByRecursion, flat_map}
 use Rattle.std.proofs.lemmas.Bool.{true≢false, eqb-true}
 use Rattle.std.proofs.lemmas.List.Sums.{fold-append}
@@ -10,43 +10,36 @@ use Rattle.trace_model.specs.declared.entry.Entry.{Entry}
 use Rattle.trace_model.specs.declared.entry.Entry.TheVariants as entry
 use Rattle.trace_model.specs.declared.line.End.{End}
 use Rattle.journal_laws.specs.Journal.{count_of}
-use Rattle.shdlc_core.specs.Machine.{is_waiting}
-use Rattle.link_machine.specs.Machine.{LinkInput, Message}
-use Rattle.link_machine.specs.Machine.LinkInput.{Start}
-use Rattle.link_entries.specs.messages.Links.{Comes, Link, Loss, NumberedEnd, aged, exchanged, happens}
-use Rattle.link_entries.specs.messages.Links.Comes.{AsksReset, NextFrame, NoInput, Starts}
-use Rattle.link_entries.specs.messages.Links.Ending.{CutOff, GoesOut}
+use Rattle.link_machine.specs.Machine.{LinkInput}
+use Rattle.link_entries.specs.messages.Links.{Comes, Loss, NumberedEnd, exchanged, happens}
+use Rattle.link_entries.specs.messages.Links.Comes.{NoInput}
+use Rattle.link_entries.specs.messages.Links.Ending.{CutOff}
 use Rattle.link_entries.specs.messages.Links.EndEvent.{Step}
 use Rattle.link_entries.specs.messages.Links.LinkEvent.{AtController}
 use Rattle.link_entries.specs.messages.Links.Loss.{OnDemand, Broken, Unread, TooOld, TooMany}
-use Rattle.link_entries.specs.entries.Entries.{Entry as Noted, aged_entries, first_lost}
+use Rattle.link_entries.specs.entries.Entries.{Entry as Noted, first_lost}
 use Rattle.link_entries.specs.entries.Entries.End.{Controller, Host}
 use Rattle.link_entries.proofs.entries.Lasting.{same_number}
-use Rattle.link_entries.proofs.entries.Together.{ticks_host}
 use Rattle.history.specs.Steps.{entries_for}
 use Rattle.journal_laws.specs.Planned.{after_planned}
 use Rattle.link_machine.specs.Machine.{LinkEnd}
 use Rattle.node_machine.specs.Parts.{Deed, Port, Running, Work}
-use Rattle.node_machine.specs.Carrying.{changed_if, own_side, port_at}
+use Rattle.node_machine.specs.Carrying.{changed_if, own_side}
 use Rattle.node_machine.specs.Node.{begins_with, boot_writes, steps, with_error}
-use Rattle.node_machine.specs.Node.NodeInput.{AtEnd, TimePasses}
-use Rattle.node_machine.specs.world.World.{NodeWorld, Site, Happening, site_at, with_site, link_to, input_of, near_end_in, arrival, wires_for, node_of, comes_to}
+use Rattle.node_machine.specs.Node.NodeInput.{AtEnd}
+use Rattle.node_machine.specs.world.World.{NodeWorld, Site, site_at, with_site, link_to, input_of, near_end_in, arrival, wires_for, node_of, comes_to}
 use Rattle.node_machine.specs.world.World.{frames_noted, controller_work, controller_does, host_work, host_does, link_after_controller, after_host, counts}
-use Rattle.node_machine.specs.world.World.{all_aged, controller_ticks, host_ticks, hosts_tick, world_ticks, comes_at, activates, boots, frame_lost, memory_at}
-use Rattle.node_machine.specs.world.World.{end_c, end_h, with_memory, loses_power_at, with_node, controller_cut, host_cut, is_late_at, turns_at, ending_of}
-use Rattle.node_machine.specs.world.World.{links_of, runs_on, sending, beginning, world_step, work_of}
-use Rattle.node_machine.specs.world.World.Happening.{Boots, IsCut, Gives, Inits, Takes, Loses, Ticks, Resets, Activates, Arms}
-use Rattle.node_machine.proofs.world.Cases.{after_host_step, by_controller, by_host, by_coming, by_boot, by_loss, by_controller_tick, by_host_tick, by_power}
-use Rattle.node_machine.proofs.world.Cases.{by_memory, by_running, boot_found, boot_written, host_tick, near_tick, site_lost, site_ticked, site_unticked}
+use Rattle.node_machine.specs.world.World.{comes_at, boots, frame_lost, memory_at}
+use Rattle.node_machine.specs.world.World.{end_c, end_h, with_memory, loses_power_at, controller_cut, host_cut, turns_at, ending_of}
+use Rattle.node_machine.specs.world.World.{links_of, runs_on}
+use Rattle.node_machine.proofs.world.Cases.{by_controller, by_host, by_coming, by_boot, by_loss, by_power}
+use Rattle.node_machine.proofs.world.Cases.{by_memory, by_running, boot_found, boot_written, site_lost}
 use Rattle.node_laws.specs.kept.Hosts.{AreDifferent}
-use Rattle.node_laws.specs.telling.Telling.{HasEnds, IfItRuns, IsOrderly, MayBoot, hosts_in}
-use Rattle.node_laws.proofs.telling.Events.{comes_goes, orderly_map}
+use Rattle.node_laws.specs.telling.Telling.{HasEnds, IsOrderly, hosts_in}
 use Rattle.node_laws.proofs.telling.Mute.{AreMute}
 use Rattle.node_laws.proofs.telling.Nodes.{link_is, site_host}
 use Rattle.node_laws.proofs.telling.Powers.{entries_uncut}
-use Rattle.node_laws.proofs.telling.WorldTicks.{near_orderly}
-use Rattle.node_laws.proofs.telling.Worlds.{node_is, site_is}
-use Rattle.node_laws.proofs.kept.Sites.{hosts_same as sites_same}
+use Rattle.node_laws.proofs.telling.Worlds.{node_is}
 use Rattle.node_order.specs.power.Powers.{AreNotOf}
 use Rattle.node_order.proofs.passes.Before.{links_none}
 use Rattle.node_order.specs.passes.Noting.{noted_by_deeds}
@@ -62,19 +55,18 @@ use Rattle.node_order.proofs.power.Steps.{steps_fine}
 use Rattle.node_order.proofs.readings.Sites.{comes_outside, near_end_side}
 use Rattle.node_order.proofs.turns.Lines.{AllWait, Waiting}
 use Rattle.node_order.proofs.turns.Coming.{AreNoGots, notes_still}
-use Rattle.node_order.proofs.turns.Queues.{AreStill, Goes, goes-append}
-use Rattle.node_order.proofs.turns.Works.{ByPower, FarWaits, aged_none, arrival_still, lost_none}
+use Rattle.node_order.proofs.turns.Queues.{AreStill, Goes}
+use Rattle.node_order.proofs.turns.Works.{ByPower, FarWaits, arrival_still, lost_none}
 use Rattle.node_readings.proofs.views.Worlds.{orderly_fine}
 use Rattle.answer_laws.specs.answers.Moments.{holds_in, unhandled_after, unhandled_in}
 use Rattle.answer_laws.specs.answers.Answered.{is_done}
-use Rattle.answer_laws.specs.steps.Worlds.{as_it_ticks}
 use Rattle.answer_laws.proofs.passes.Begins.{WaitsRead}
 use Rattle.answer_laws.proofs.passes.Held.{desks_held, error_held, is_held_among, new_held, ports_held, site_fine}
 use Rattle.answer_laws.proofs.passes.Ordered.{deeds_still}
 use Rattle.answer_laws.proofs.passes.Sides.{AreNoBoots, begins_unbooted, notes_unbooted}
 use Rattle.answer_laws.proofs.passes.Whole.{near_goes}
 use Rattle.answer_laws.proofs.worlds.AtRest.{SiteRests, SiteWaits, far_site, flat_idle, frames_idle, near_rests, site_on}
-use Rattle.answer_laws.proofs.worlds.Owning.{begins_part, comes_part, controller_part, host_part, near_ticks_part}
+use Rattle.node_order.proofs.power.Events.{begins_part, controller_part, host_part}
 use Rattle.answer_laws.proofs.worlds.Steps.{host_begins}
 use Rattle.answer_laws.proofs.worlds.Turns.{NotesNoTurn}
 use Rattle.answer_laws.proofs.worlds.Resting.{AreIdle, IsIdle, done_empty, idle_done, idle_held, others_idle, quiet_idle}

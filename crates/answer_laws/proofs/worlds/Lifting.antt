@@ -11,16 +11,14 @@ use Rattle.trace_model.specs.declared.line.Header.{Header}
 use Rattle.trace_model.specs.declared.line.Line.{Line}
 use Rattle.link_machine.specs.Machine.{LinkInput}
 use Rattle.link_entries.specs.messages.Links.{Comes, Link, aged}
-use Rattle.link_entries.specs.messages.Links.Comes.{NextFrame, AsksReset, Starts, NoInput}
+use Rattle.link_entries.specs.messages.Links.Comes.{NextFrame, AsksReset, Starts}
 use Rattle.link_entries.specs.entries.Entries.End.{Controller}
-use Rattle.history.specs.Steps.{entries_for}
 use Rattle.node_machine.specs.Parts.{Running, Work}
-use Rattle.node_machine.specs.Carrying.{unless_cut}
 use Rattle.node_machine.specs.Turns.{passes}
 use Rattle.node_machine.specs.Node.{NodeInput, steps}
 use Rattle.node_machine.specs.Node.NodeInput.{AtEnd, TimePasses}
-use Rattle.node_machine.specs.world.World.{Site, NodeWorld, Happening, site_at, link_to, input_of, node_of, wires_for, frames_noted, comes_to, controller_work}
-use Rattle.node_machine.specs.world.World.{arrival, controller_does, host_does, all_aged, controller_ticks, hosts_tick, world_ticks, comes_at, activates}
+use Rattle.node_machine.specs.world.World.{Site, NodeWorld, Happening, link_to, input_of, node_of, wires_for, frames_noted, comes_to, controller_work}
+use Rattle.node_machine.specs.world.World.{arrival, controller_does, all_aged, controller_ticks, hosts_tick, world_ticks, comes_at}
 use Rattle.node_machine.specs.world.World.{end_c, end_h, sending, beginning, boots, frame_lost, world_step, new_world}
 use Rattle.node_machine.specs.world.World.Happening.{Boots, IsCut, Gives, Inits, Takes, Loses, Ticks, Resets, Activates, Arms}
 use Rattle.node_machine.specs.world.Lines.{Occurrence}
@@ -56,9 +54,10 @@ use Rattle.answer_laws.proofs.passes.Whole.{comes_are_replied, ticks_are_replied
 use Rattle.answer_laws.proofs.worlds.Ascending.{frames_turnless}
 use Rattle.answer_laws.proofs.worlds.Hearing.{out_unanswered}
 use Rattle.answer_laws.proofs.worlds.Order.{other_answers, unanswered_all}
-use Rattle.answer_laws.proofs.worlds.Owning.{comes_part}
+use Rattle.node_order.proofs.power.Events.{comes_part}
 use Rattle.answer_laws.proofs.worlds.Steps.{far_number}
-use Rattle.answer_laws.proofs.worlds.Turns.{AreNodes, both_nodes, none_zero, others_tick, flat_turnless, turnless_there, other_turns, aged_turnless}
+use Rattle.node_order.proofs.power.Events.{both_nodes, none_zero, others_tick}
+use Rattle.answer_laws.proofs.worlds.Turns.{flat_turnless, turnless_there, other_turns, aged_turnless}
 use Rattle.answer_laws.proofs.worlds.Turns.{begun_turnless, lost_turnless, boots_turnless, sending_turnless, beginning_turnless}
 
 -- ## Where an entry stands

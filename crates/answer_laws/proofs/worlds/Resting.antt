@@ -1,5 +1,5 @@
 -- Behind a step of a node all messages at its ends have had their turns, or all before one that is held, as it is read.
-use Rattle.std.proofs.Common.{◌≡◌, ◌⊎◌, inl, inr, ℕ, Bool, true, false, cond, eqb, List, [], ◌∷◌, ◌++◌, refl, sym, ap, subst, ◌∙◌, append_assoc, append-nil}
+use Rattle.std.proofs.Common.{◌≡◌, inl, inr, ℕ, Bool, true, false, cond, eqb, List, [], ◌∷◌, ◌++◌, refl, sym, ap, subst, ◌∙◌, append_assoc, append-nil}
 use Rattle.std.specs.Prelude.{◌==◌, ◌&&◌, ◌||◌, not, is_none, Option, Some, None}
 use Rattle.std.specs.List.{AllByRecursion}
 use Rattle.std.proofs.lemmas.Bool.{true≢false, eqb-true}
@@ -19,7 +19,7 @@ use Rattle.node_machine.specs.world.World.{node_of}
 use Rattle.node_laws.specs.kept.Books.{hosts_of_ends}
 use Rattle.node_laws.specs.kept.Hosts.{AreDifferent}
 use Rattle.node_order.specs.links.Notices.{IsOutside}
-use Rattle.node_order.specs.passes.Passing.{AreNoTurns, IsNoTurn, ArePassed, ComesTo, IsBehind, Stays, is_held_at, waiting_at}
+use Rattle.node_order.specs.passes.Passing.{AreNoTurns, IsNoTurn, ComesTo, IsBehind, Stays, is_held_at, waiting_at}
 use Rattle.node_order.specs.passes.Passing.ComesTo.{Begins}
 use Rattle.node_order.specs.passes.Steps.{comes_to_pass}
 use Rattle.node_order.specs.power.Powers.{AreNotOf, is_of_node}

@@ -29,7 +29,7 @@ use Rattle.history.proofs.legal.Complete.{complete}
 use Rattle.history.proofs.legal.Settled.{settled}
 use Rattle.node_order.proofs.turns.Lines.{in_turn}
 use Rattle.answer_laws.specs.answers.Headline.{IsLegal, IsPlayed}
-use Rattle.answer_laws.specs.answers.Headline.PlayedHistory.{OfLink, OfNodes}
+use Rattle.answer_laws.specs.answers.Headline.PlayedHistory.{OfLink}
 use Rattle.answer_laws.specs.answers.SoFar.{AnsweredSoFar}
 use Rattle.answer_laws.proofs.schedules.Ranges.{hosts_few}
 use Rattle.answer_laws.proofs.passes.Events.{front_long}

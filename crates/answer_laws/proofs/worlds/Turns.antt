@@ -2,7 +2,7 @@
 use Rattle.std.proofs.Common.{◌≡◌, ℕ, ◌&&◌, cond, Bool, true, false, List, [], ◌∷◌, ◌++◌, Option, Some, None, refl, sym, ap, subst, ◌∙◌, eqb}
 use Rattle.std.specs.Prelude.{◌==◌}
 use Rattle.std.specs.List.{AllByRecursion, flat_map}
-use Rattle.std.proofs.lemmas.Bool.{true≢false, eqb-true}
+use Rattle.std.proofs.lemmas.Bool.{eqb-true}
 use Rattle.registry.proofs.ValueLemmas.{AllByRecursion-append as all_append}
 use Rattle.trace_model.specs.declared.entry.Entry.{Entry}
 use Rattle.trace_model.specs.declared.line.End.{End}
@@ -34,7 +34,7 @@ use Rattle.node_order.specs.power.Powers.{AreNotOf}
 use Rattle.node_order.proofs.power.Parts.{own_not, part_own}
 use Rattle.answer_laws.specs.answers.Order.{TurnsAscend, turn_link, IsAscending}
 use Rattle.answer_laws.proofs.worlds.Steps.{host_begins}
-use Rattle.answer_laws.proofs.worlds.Owning.{comes_part, near_ticks_part, far_tick}
+use Rattle.node_order.proofs.power.Events.{AreNodes, both_nodes, comes_part, far_tick, near_ticks_part, no_site, none_zero, others_tick}
 use Rattle.std.specs.List.{filter_map}
 use Rattle.std.proofs.Common.{append-nil}
 use Rattle.trace_model.specs.declared.entry.Entry.TheVariants as entry
@@ -167,14 +167,6 @@ module _ (n : ℕ) where
 
 -- ## Activation
 
-pub no_site : (sites : List Site) (h : ℕ) → (h == 0) ≡ true → AllByRecursion (λ (s : Site). (s.host == 0) ≡ false) sites → site_at sites h ≡ None
-no_site [] h zero a = refl
-no_site (s ∷ sites) h zero a = go (s.host == h) refl (no_site sites h zero a.1)
-  where
-    go : (b : Bool) → (s.host == h) ≡ b → site_at sites h ≡ None → site_at (s ∷ sites) h ≡ None
-    go true e later = absurd (true≢false (sym (ap (λ n. n == 0) (eqb-true s.host h e) ∙ zero) ∙ a.0))
-    go false e later = rw e later
-
 activates_own : (n : ℕ) (w : NodeWorld) → IsOrderly w → IsAscending (hosts_in w.sites) → (h sync power : ℕ) → Own n (activates w h sync power).1
 activates_own n w a up h sync power = go (0 == n) refl where
   near : NodeWorld × List Entry
@@ -212,20 +204,6 @@ host_ascends s runs =
     (subst IsAscending (sym (hosts_same (λ h. s.link.host) r.desks ∙ node.ends)) (tt, tt))
     (frames_turnless Host s.host (exchanged s.link) (host_tick s r)))
 
-abbrev pub AreNodes : List Site → Type 0
-AreNodes sites = AllByRecursion (λ (s : Site). ((s.host == 0) ≡ false) × IfItRuns s.host (s.host ∷ []) s.node) sites
-
-pub both_nodes : (sites : List Site) → AllByRecursion (λ (s : Site). (s.host == 0) ≡ false) sites
-    → AllByRecursion (λ (s : Site). IfItRuns s.host (s.host ∷ []) s.node) sites → AreNodes sites
-both_nodes [] a b = tt
-both_nodes (s ∷ sites) a b = ((a.0, b.0), both_nodes sites a.1 b.1)
-
-pub others_tick : (n : ℕ) (sites : List Site) → AllByRecursion (λ h. (h == n) ≡ false) (hosts_in sites) → AreNodes sites → AreNotOf n (hosts_tick sites).1
-others_tick n [] off a = tt
-others_tick n (s ∷ sites) off a =
-    all_append _ (host_ticks s).1 (hosts_tick sites).1 (own_not s.host n (host_ticks s).1 off.0 (part_own s.host (host_ticks s).1 (far_tick s a.0.0 a.0.1)))
-    (others_tick n sites off.1 a.1)
-
 hosts_own : (n : ℕ) (sites : List Site) → AreDifferent (hosts_in sites) → AreNodes sites → Own n (hosts_tick sites).1
 hosts_own n [] d a = tt
 hosts_own n (s ∷ sites) d a = go (s.host == n) refl (hosts_own n sites d.1 a.1) where
@@ -236,10 +214,6 @@ hosts_own n (s ∷ sites) d a = go (s.host == n) refl (hosts_own n sites d.1 a.1
   go true q later =
       own_behind n (host_ticks s).1 (hosts_tick sites).1 (ascends_part n (host_ticks s).1 (host_ascends s a.0.1))
       (subst (λ m. AreNotOf m (hosts_tick sites).1) (eqb-true s.host n q) (others_tick s.host sites d.0 a.1))
-
-pub none_zero : (sites : List Site) → AllByRecursion (λ (s : Site). (s.host == 0) ≡ false) sites → AllByRecursion (λ h. (h == 0) ≡ false) (hosts_in sites)
-none_zero [] a = tt
-none_zero (s ∷ sites) a = (a.0, none_zero sites a.1)
 
 pub aged_turnless : (sites : List Site)
     → AreNoTurns (flat_map (λ (s : Site). entries_for s.host

@@ -251,7 +251,7 @@ module _ (rest : Core) (number h : ℕ) (some : 1 ≤ h) (most : h ≤ 7) (its :
       × ((r : Running) → x.0.node ≡ Some r → is_at_rest (lone_end x.0) (t ++ x.1) ≡ true)
       × (x.0.number ≡ m) × (x.0.link ≡ k)
 
-  each_step : (t : List Entry) (l : Lone) (c : LoneCause) → is_some l.node ≡ true → Between rest number h t l
+  pub each_step : (t : List Entry) (l : Lone) (c : LoneCause) → is_some l.node ≡ true → Between rest number h t l
       → EventFacts F h t (record { cause = c; entries = (lone_step l c).1 }) × Between rest number h (t ++ (lone_step l c).1) (lone_step l c).0
   each_step t l c runs b = by_node l.node refl where
     its_l : eqb l.number 0 ≡ false → l.number ≡ l.link
@@ -345,7 +345,7 @@ module _ (number h : ℕ) (some : 1 ≤ h) (most : h ≤ 7) (its : eqb number 0 
           errs = refl;
         })
 
-  begin_between : Between booted_core number h [] l
+  pub begin_between : Between booted_core number h [] l
   begin_between = record { number_is = refl; link_is = refl; all = begin_all; rests = λ n on. refl }
 
   pub lone_facts : (causes : List LoneCause) (past back : List LoneEvent) (o : LoneEvent) → lone_events l causes ≡ past ++ (o ∷ back)

@@ -132,7 +132,8 @@ module _ (h : ℕ) (host : IsHost h) where
     go : (o : Option Rattle.node_machine.specs.Parts.Port) → AllByRecursion (LeavesInit h) (Rattle.std.specs.Option.option_map_or (λ
         (p : Rattle.node_machine.specs.Parts.Port). entries_for k (Rattle.link_entries.specs.entries.Entries.ending_entries who l p.side (ending_of w))) o [])
     go None = tt
-    go (Some p) = quiet_leaves h k (Rattle.link_entries.specs.entries.Entries.ending_entries who l p.side (ending_of w)) (ending_quiet who l p.side (ending_of w))
+    go (Some p) = quiet_leaves h k (Rattle.link_entries.specs.entries.Entries.ending_entries who l p.side (ending_of w))
+        (ending_quiet who l p.side (ending_of w))
 
   arrival_leave : (who : Side) (k : ℕ) (l : Link) (comes : Comes) → AllByRecursion (LeavesInit h) (entries_for k (arrival who l comes))
   arrival_leave who k l comes = quiet_leaves h k (arrival who l comes) (arrival_quiet who l comes)

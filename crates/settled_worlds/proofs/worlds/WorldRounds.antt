@@ -257,7 +257,7 @@ rounds_are hosts h (suc r) w s a q u =
 -- ## A world that settles
 
 -- the world behind any first events of a history is reached
-pub reached_behind : (header : Header) (lines : List Line) (t : NodeHistory) → FollowsNodes header lines t → AreHosts header.hosts.items
+abbrev pub reached_behind : (header : Header) (lines : List Line) (t : NodeHistory) → FollowsNodes header lines t → AreHosts header.hosts.items
     → ArePlayable lines → (front back : List Occurrence) → occurrences_in t ≡ front ++ back
     → IsReached header.hosts.items (world_behind (new_world header.hosts.items) front)
 reached_behind header lines t follows are p front back q = record { events = front; so = history_so header lines t follows are p front back q }

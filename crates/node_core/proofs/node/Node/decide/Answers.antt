@@ -2,7 +2,6 @@ use Rattle.std.proofs.Common.{◌≡◌, List, map, false, not, refl, sym, ap, �
 use Rattle.std.specs.Prelude.{option_map}
 use Rattle.hci_store.specs.Stored.{Stored}
 use Rattle.link_machine.specs.Machine.{Message}
-use Rattle.node_machine.specs.Parts.{Work}
 use Rattle.node_machine.specs.Carrying.{lack, needs}
 use Rattle.node_machine.specs.Controller.{controller_deeds}
 use Rattle.node_deeds.specs.declared.desks.Desk.{Desk}
@@ -10,7 +9,6 @@ use Rattle.node_deeds.specs.declared.deeds.Deed.{Deed}
 use Rattle.node_deeds.specs.Cores.{handled}
 use Rattle.node_deeds.specs.Shown.{AreSeen}
 use Rattle.node_deeds.specs.Room.{lack_shown}
-use Rattle.node_core.specs.declared.node.Node.{Node}
 use Rattle.node_core.specs.Deeds.{deed_of}
 use Rattle.node_core.proofs.HavingTurns.{decided}
 use Rattle.node_core.proofs.Sendables.{hosts_low}

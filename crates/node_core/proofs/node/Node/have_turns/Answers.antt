@@ -1,11 +1,11 @@
-use Rattle.std.proofs.Common.{◌≡◌, ℕ, Bool, List, [], ◌∷◌, take, length, sym, ap, ◌∙◌, subst, arith, length-take}
+use Rattle.std.proofs.Common.{◌≡◌, ℕ, Bool, List, [], ◌∷◌, take, sym, ap, ◌∙◌, subst}
 use Rattle.std.specs.Prelude.{Option}
-use Rattle.hcp_packet.specs.Packets.{IsSendable, AreSendable}
+use Rattle.hcp_packet.specs.Packets.{AreSendable}
 use Rattle.link_machine.specs.Machine.{Message}
 use Rattle.node_machine.specs.Parts.{Work}
 use Rattle.node_machine.specs.Turns.{lets_go, have_turns}
 use Rattle.node_deeds.specs.declared.deeds.Deed.{Deed}
-use Rattle.node_ends.specs.Ends.{got_at, held_at, message_read}
+use Rattle.node_ends.specs.Ends.{got_at, message_read}
 use Rattle.node_core.specs.declared.node.Node.{Node}
 use Rattle.node_core.specs.Nodes.{IsInStep}
 use Rattle.node_core.specs.Bringing.{Brings}

@@ -1,12 +1,10 @@
-use Rattle.std.proofs.Common.{◌≡◌, ℕ, ◌+◌, Bool, true, false, not, List, [], ◌∷◌, sym, ap, ◌∙◌, subst, refl, add-one}
-use Rattle.std.specs.Prelude.{Some, None, option_map, slice_get}
-use Rattle.node_machine.specs.Parts.{Port, Work}
+use Rattle.std.proofs.Common.{◌≡◌, ℕ, true, not, sym, ap, ◌∙◌, subst, refl, add-one}
 use Rattle.node_ends.specs.Ends.{got_at}
 use Rattle.node_machine.specs.Turns.{have_turns}
 use Rattle.node_core.specs.Nodes.{IsInStep}
 use Rattle.node_core.specs.Bringing.{Brings}
 use Rattle.node_core.proofs.HavingTurns.{no_some}
-use Rattle.node_core.proofs.Elsewhere.{host_at, of_hosts, is_host_at}
+use Rattle.node_core.proofs.Elsewhere.{of_hosts, is_host_at}
 use Rattle.node_core.proofs.Passing.{PassesOn, pass_begins, next_few, pass_goes_on, pass_stops, pass_ends, pass_over, pass_full}
 use Rattle.node_core.proofs.node.Node.passes.Goals as goal
 

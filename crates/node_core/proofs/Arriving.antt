@@ -1,0 +1,196 @@
+-- What comes to an end of a node, and what is noted of it.
+use Rattle.std.proofs.Common.{◌≡◌, ◌≢◌, ℕ, ◌≤◌, Bool, true, false, List, [], ◌∷◌, ◌++◌, map, length, refl, sym, ap, ap₂, ◌∙◌, subst, arith, length-append, append-nil}
+use Rattle.std.specs.Prelude.{Option, Some, None, Result, Ok, Err, option_map, is_some, if◌then◌else◌, ◌==◌, IfSome}
+use Rattle.std.specs.List.{AllByRecursion, flat_map}
+use Rattle.std.specs.Option.{option_map_or}
+use Rattle.std.proofs.lemmas.Bool.{eqb-true}
+use Rattle.std.proofs.lemmas.List.Concat.{flat_map-cons}
+use Rattle.swp_base.specs.declared.control_frames.Control.{Control}
+use Rattle.swp_lpdu.specs.declared.LpduFault.{LpduFault}
+use Rattle.swp_lpdu.specs.Controls.{control_of}
+use Rattle.block_pool.specs.Pool.{PoolState}
+use Rattle.trace_model.specs.declared.entry.Entry.{Entry}
+use Rattle.link_machine.specs.Machine.{LinkEnd as Machine, Message, LinkInput, Report, oldest, report, after_input, got_by, whole_acked, lpdu_input}
+use Rattle.link_end.specs.declared.report.LinkReport.{LinkReport}
+use Rattle.link_end.specs.Reports.{report_told}
+use Rattle.node_machine.specs.Parts.{Core, Port, Work}
+use Rattle.node_machine.specs.Carrying.{port_at, changed_if, with_port, noting}
+use Rattle.node_machine.specs.Node.{NodeInput, has_come, told_at, input_at, all_come}
+use Rattle.node_machine.specs.Node.NodeInput.{AtEnd}
+use Rattle.node_ends.specs.declared.ends.Ends.{Ends}
+use Rattle.node_ends.specs.declared.seat.Seat.{Seat}
+use Rattle.node_ends.specs.declared.seat.Waiting.{Waiting}
+use Rattle.node_ends.specs.Holding.{messages_waiting, kept_number}
+use Rattle.node_ends.specs.Ends.{SeatsStandFor, EndsStandFor, got_at}
+use Rattle.node_ends.specs.Making.{AreAllDifferent}
+use Rattle.node_ends.proofs.Apart.{is_outside, input_apart}
+use Rattle.node_core.specs.declared.node.Node.{Node}
+use Rattle.node_core.specs.Nodes.{IsInStep}
+use Rattle.node_core.specs.Noting.{AreNotes, unnumbered}
+use Rattle.node_core.proofs.Notes.{comes_noted}
+use Rattle.node_core.proofs.Sendables.{found_all}
+use Rattle.node_core.proofs.Elsewhere.{host_at, hosts_differ}
+
+-- ## The ends
+
+one_comes : (i : LinkInput) (b : Bool) (p : Port) → has_come p (if b then Some i else None) ≡ changed_if b (λ q. has_come q (Some i)) p
+one_comes i true p = refl
+one_comes i false p = refl
+
+come_ports : (h : ℕ) (i : LinkInput) (ports : List Port)
+    → map (λ (p : Port). has_come p (input_at (AtEnd h i) p)) ports ≡ with_port h (λ p. has_come p (Some i)) ports
+come_ports h i [] = refl
+come_ports h i (p ∷ ports) = ap₂ (λ (q : Port) qs. q ∷ qs) (one_comes i (p.desk.host == h) p) (come_ports h i ports)
+
+-- ## What is noted
+
+none_told : (core : Core) (h : ℕ) (i : LinkInput) (ports : List Port) → AllByRecursion (λ (g : ℕ). g ≢ h) (map host_at ports)
+    → flat_map (λ (p : Port). told_at core p (input_at (AtEnd h i) p)) ports ≡ []
+none_told core h i [] differ = refl
+none_told core h i (p ∷ ports) differ =
+    flat_map-cons (λ (q : Port). told_at core q (input_at (AtEnd h i) q)) p ports
+    ∙ by (p.desk.host == h) refl (none_told core h i ports differ.1)
+  where
+    by : (b : Bool) → (p.desk.host == h) ≡ b → flat_map (λ (q : Port). told_at core q (input_at (AtEnd h i) q)) ports ≡ []
+        → told_at core p (input_at (AtEnd h i) p) ++ flat_map (λ (q : Port). told_at core q (input_at (AtEnd h i) q)) ports ≡ []
+    by true q later = absurd (differ.0 (eqb-true p.desk.host h q))
+    by false q later = rw q later
+
+come_entries : (core : Core) (h : ℕ) (i : LinkInput) (ports : List Port) → AreAllDifferent (map host_at ports)
+    → flat_map (λ (p : Port). told_at core p (input_at (AtEnd h i) p)) ports
+    ≡ option_map_or (λ (p : Port). told_at core p (Some i)) (port_at ports h) []
+come_entries core h i [] differ = refl
+come_entries core h i (p ∷ ports) differ =
+    flat_map-cons (λ (q : Port). told_at core q (input_at (AtEnd h i) q)) p ports
+    ∙ by (p.desk.host == h) refl (come_entries core h i ports differ.1)
+  where
+    others : (p.desk.host == h) ≡ true → flat_map (λ (q : Port). told_at core q (input_at (AtEnd h i) q)) ports ≡ []
+    others q =
+        let P : ℕ → Type 0 = λ n. AllByRecursion (λ (g : ℕ). g ≢ n) (map host_at ports) in
+        none_told core h i ports (subst P (eqb-true p.desk.host h q) differ.0)
+
+    by : (b : Bool) → (p.desk.host == h) ≡ b
+        → flat_map (λ (q : Port). told_at core q (input_at (AtEnd h i) q)) ports ≡ option_map_or (λ (q : Port). told_at core q (Some i)) (port_at ports h) []
+        → told_at core p (input_at (AtEnd h i) p) ++ flat_map (λ (q : Port). told_at core q (input_at (AtEnd h i) q)) ports
+        ≡ option_map_or (λ (q : Port). told_at core q (Some i)) (port_at (p ∷ ports) h) []
+    by true q later = rw q (ap (λ es. told_at core p (Some i) ++ es) (others q) ∙ append-nil (told_at core p (Some i)))
+    by false q later = rw q later
+
+-- something comes to one end: it changes, and what it tells is noted
+pub come_is : (h : ℕ) (i : LinkInput) (w : Work) → AreAllDifferent (map host_at w.ports)
+    → noting (option_map_or (λ (p : Port). told_at w.core p (Some i)) (port_at w.ports h) [])
+    (record w { ports = with_port h (λ p. has_come p (Some i)) w.ports }) ≡ all_come (AtEnd h i) w
+come_is h i w differ =
+    ap₂ (λ (es : List Entry) (ports : List Port). noting es (record w { ports = ports })) (sym (come_entries w.core h i w.ports differ))
+    (sym (come_ports h i w.ports))
+
+pub changed_here : (h : ℕ) (f : Port → Port) (ports : List Port) (p : Port) → ((q : Port) → (f q).desk.host ≡ q.desk.host)
+    → port_at ports h ≡ Some p → port_at (with_port h f ports) h ≡ Some (f p)
+changed_here h f [] p same is = cc
+changed_here h f (q ∷ ports) p same is = by (q.desk.host == h) refl (changed_here h f ports p same)
+  where
+    by : (b : Bool) → (q.desk.host == h) ≡ b → (port_at ports h ≡ Some p → port_at (with_port h f ports) h ≡ Some (f p))
+        → port_at (with_port h f (q ∷ ports)) h ≡ Some (f p)
+    by true e later =
+        let first : Some q ≡ Some p = rw e at is in
+        let one : q ≡ p = cc in
+        let here : ((f q).desk.host == h) ≡ true = ap (λ n. n == h) (same q) ∙ e in
+        rw (e, here) (ap (λ (x : Port). Some (f x)) one)
+    by false e later = rw (e, e) (later (rw e at is))
+
+pub comes_to : {N : Type 0} {n : Node N} {ends : Ends} {before now start : List Entry} {was short : Bool} {w : Work} (h : ℕ) (i : LinkInput)
+    (told : LinkReport) → IsInStep n before was start w → EndsStandFor ends (with_port h (λ p. has_come p (Some i)) w.ports)
+    → Some told ≡ option_map (λ (p : Port). report_told (report p.side i)) (port_at w.ports h)
+    → ((p : Port) → port_at w.ports h ≡ Some p → told ≡ report_told (report p.side i)
+    → AreNotes was short before now (map unnumbered (told_at w.core p (Some i))))
+    → IsInStep (record n { ends = ends }) now short start (all_come (AtEnd h i) w)
+comes_to {N} {n} {ends} {before} {now} {start} {was} {short} {w} h i told u stands is notes = by (port_at w.ports h) refl
+  where
+    differ : AreAllDifferent (map host_at w.ports)
+    differ = hosts_differ n.ends.pool n.ends.seats.items w.ports u.ends.hosts u.ends.each
+
+    by : (o : Option Port) → port_at w.ports h ≡ o → IsInStep (record n { ends = ends }) now short start (all_come (AtEnd h i) w)
+    by None q = absurd (let z : Some told ≡ None = is ∙ ap (option_map (λ (p : Port). report_told (report p.side i))) q in cc)
+    by (Some p) q =
+        let z : Some told ≡ Some (report_told (report p.side i)) = is ∙ ap (option_map (λ (p : Port). report_told (report p.side i))) q in
+        let one : told ≡ report_told (report p.side i) = cc in
+        let es : List Entry = told_at w.core p (Some i) in
+        let P : Work → Type 0 = λ v. IsInStep (record n { ends = ends }) now short start v in
+        let f : Port → List Entry = λ p. told_at w.core p (Some i) in
+        let ports : List Port = with_port h (λ p. has_come p (Some i)) w.ports in
+        subst P (ap (λ (o : Option Port). noting (option_map_or f o []) (record w { ports = ports })) (sym q) ∙ come_is h i w differ)
+        (comes_noted es ports u stands (notes p q one))
+
+-- where there is no such end nothing comes
+pub comes_nowhere : {N : Type 0} {n : Node N} {ends : Ends} {before start : List Entry} {was : Bool} {w : Work} (h : ℕ) (i : LinkInput)
+    → IsInStep n before was start w → EndsStandFor ends (with_port h (λ p. has_come p (Some i)) w.ports) → port_at w.ports h ≡ None
+    → AreNotes was was before before []
+    → IsInStep (record n { ends = ends }) before was start (all_come (AtEnd h i) w)
+comes_nowhere {N} {n} {ends} {before} {start} {was} {w} h i u stands none notes =
+    let P : Work → Type 0 = λ v. IsInStep (record n { ends = ends }) before was start v in
+    let f : Port → List Entry = λ p. told_at w.core p (Some i) in
+    let ports : List Port = with_port h (λ p. has_come p (Some i)) w.ports in
+    subst P (ap (λ (o : Option Port). noting (option_map_or f o []) (record w { ports = ports })) (sym none)
+    ∙ come_is h i w (hosts_differ n.ends.pool n.ends.seats.items w.ports u.ends.hosts u.ends.each)) (comes_noted [] ports u stands notes)
+
+pub no_port : {X : Type 0} (f : Port → X) (o : Option Port) → None ≡ option_map f o → o ≡ None
+no_port f None is = refl
+no_port f (Some p) is = cc
+
+-- ## The message that an input brought
+
+got_so : (before brought : List Message) → length (before ++ brought) ≤ 1
+    → brought ≡ (if is_some (oldest brought) then before ++ brought else [])
+got_so before [] few = refl
+got_so [] (m ∷ ms) few = refl
+got_so (b ∷ before) (m ∷ ms) few = absurd (let l = length-append (b ∷ before) (m ∷ ms) in omega (arith, l, few))
+
+waiting_few : (pool : PoolState) (o : Option Waiting) → length (messages_waiting pool o) ≤ 1
+waiting_few pool None = omega arith
+waiting_few pool (Some w) = omega arith
+
+each_few : (pool : PoolState) (seats : List Seat) (ports : List Port) → SeatsStandFor pool seats ports
+    → AllByRecursion (λ (p : Port). length p.side.got ≤ 1) ports
+each_few pool [] [] g = tt
+each_few pool [] (p ∷ ports) g = absurd g
+each_few pool (s ∷ seats) [] g = absurd g
+each_few pool (s ∷ seats) (p ∷ ports) g =
+    let same = ap (λ (ms : List Message). length ms) g.0.holds.waits in
+    let few = waiting_few pool s.waiting in
+    (omega (arith, same, few), each_few pool seats ports g.1)
+
+got_few : (ends : Ends) (ports : List Port) (h : ℕ) (p : Port) → EndsStandFor ends ports → port_at ports h ≡ Some p → length p.side.got ≤ 1
+got_few ends ports h p e is =
+    let P : Option Port → Type 0 = λ o. IfSome o (λ (q : Port). length q.side.got ≤ 1) in
+    subst P is (found_all _ ports h (each_few ends.pool ends.seats.items ports e.each))
+
+got_after : (m : Machine) (i : LinkInput) → is_outside i ≡ true → (after_input m i).got ≡ m.got ++ got_by m i
+got_after m i out = ap (λ (x : Machine). x.got) (input_apart m m.got i out)
+
+-- the message that waits at an end after an input is the one that it brought, where it brought one
+pub brought_is : (ends : Ends) (ports : List Port) (h : ℕ) (i : LinkInput) (p : Port) → is_outside i ≡ true
+    → EndsStandFor ends (with_port h (λ q. has_come q (Some i)) ports) → port_at ports h ≡ Some p
+    → (report p.side i).got ≡ (if (report_told (report p.side i)).got then got_at (with_port h (λ q. has_come q (Some i)) ports) h else [])
+brought_is ends ports h i p out e is =
+    let after = changed_here h (λ q. has_come q (Some i)) ports p (λ q. refl) is in
+    let got = got_after p.side i out in
+    let few = got_few ends (with_port h (λ q. has_come q (Some i)) ports) h (has_come p (Some i)) e after in
+    let P : List Message → Type 0 = λ l. length l ≤ 1 in
+    got_so p.side.got (got_by p.side i) (subst P got few)
+    ∙ ap (λ (l : List Message). if is_some (oldest (got_by p.side i)) then l else [])
+    (sym got ∙ ap (λ (o : Option Port). option_map_or (λ (q : Port). q.side.got) o []) (sym after))
+
+-- so many messages are acknowledged there
+pub acked_is : (ports : List Port) (h : ℕ) (i : LinkInput) (p : Port) → port_at ports h ≡ Some p
+    → option_map_or (λ (q : Port). kept_number (whole_acked q.side)) (port_at (with_port h (λ q. has_come q (Some i)) ports) h) 0
+    ≡ kept_number (whole_acked (after_input p.side i))
+acked_is ports h i p is =
+    ap (λ (o : Option Port). option_map_or (λ (q : Port). kept_number (whole_acked q.side)) o 0)
+    (changed_here h (λ q. has_come q (Some i)) ports p (λ q. refl) is)
+
+pub lpdu_outside : (lpdu : List ℕ) → is_outside (lpdu_input lpdu) ≡ true
+lpdu_outside lpdu = by (control_of lpdu) refl
+  where
+    by : (o : Result Control LpduFault) → control_of lpdu ≡ o → is_outside (lpdu_input lpdu) ≡ true
+    by (Ok c) q = rw q refl
+    by (Err fault) q = rw q refl

@@ -1,0 +1,22 @@
+use Rattle.std.proofs.Common.{ℕ, List, map, sym, ap, ◌∙◌, subst}
+use Rattle.trace_model.specs.declared.entry.Entry.{Entry}
+use Rattle.link_machine.specs.Machine.{Message, Report}
+use Rattle.link_entries.specs.entries.Entries.{told}
+use Rattle.link_entries.specs.entries.Entries.Entry.{Got}
+use Rattle.link_end.specs.declared.report.LinkReport.{LinkReport}
+use Rattle.link_end.specs.Reports.{report_told}
+use Rattle.history.specs.Steps.{entries_for}
+use Rattle.node_machine.specs.Carrying.{own_side}
+use Rattle.node_core.specs.Noting.{AreNotes, without_message}
+use Rattle.node_core.proofs.Notes.{notes_then, notes_are, told_plain}
+use Rattle.node_core.proofs.node.Node.note_input.Goals as goal
+
+pub returns : goal.returns
+returns g c ports core x n acked e node is count got =
+    let h = c.args.host in
+    let who = own_side core in
+    let reported = notes_are (c.note_report.ensures h who (c.end_at-at.ensures core node))
+    (ap (λ (r : LinkReport). entries_for h (told who 0 (without_message r) c.acked.result)) is
+    ∙ ap (λ (m : ℕ). entries_for h (told who 0 (without_message (report_told x)) m)) (c.acked.ensures ports e ∙ count)) in
+    let came = notes_are (c.note_message.ensures ports core e node) (ap (λ (ms : List Message). entries_for h (map (Got who 0) ms)) (sym got)) in
+    notes_are (notes_then reported came) (told_plain h who n x acked)

@@ -1,0 +1,97 @@
+//! What comes to an end of a node.
+ghost use Rattle.std.specs.Prelude.{◌≡◌};
+
+use crate::node::Node;
+use crate::noting::note;
+use crate::reporting::note_report;
+use link_end::LinkReport;
+use swp_base::{Control, Nv};
+use swp_lpdu::LpduFault;
+use trace_model::{Entry, Octets, Watch};
+
+impl<N: Nv + Drop> Node<N> {
+    ghost use Rattle.std.specs.Prelude.{◌≡◌, ℕ, List, [], map, length, if◌then◌else◌, Some, option_map};
+    ghost use Rattle.std.specs.Option.{option_map_or};
+    ghost use Rattle.trace_model.specs.declared.entry.Entry.{Entry as Noted};
+    ghost use Rattle.swp_lpdu.specs.Controls.{control_of};
+    ghost use Rattle.link_machine.specs.Machine.{Report, report, lpdu_input, whole_acked};
+    ghost use Rattle.link_entries.specs.entries.Entries.{told};
+    ghost use Rattle.link_entries.specs.entries.Entries.Entry.{Got};
+    ghost use Rattle.history.specs.Steps.{entries_for};
+    ghost use Rattle.link_end.specs.Reports.{report_told};
+    ghost use Rattle.node_machine.specs.Parts.{Core, Port, Work};
+    ghost use Rattle.node_machine.specs.Carrying.{own_side, port_at};
+    ghost use Rattle.node_machine.specs.Node.{all_come};
+    ghost use Rattle.node_machine.specs.Node.NodeInput.{AtEnd};
+    ghost use Rattle.node_ends.specs.Holding.{kept_number};
+    ghost use Rattle.node_ends.specs.Ends.{EndsStandFor, FewAreDue, IsHeldWhileOneWaits, got_at};
+    ghost use Rattle.node_core.specs.Nodes.{IsInStep, IsSoundNode};
+    ghost use Rattle.node_core.specs.Noting.{AreNotes, unnumbered};
+
+    // The message that came to the end of the link with this host, where one did, is noted. The buffer has 4,096 bytes.
+    fn note_message<W: Watch>(&self, host: u8, came: bool, buffer: &mut [u8], watch: &mut W)
+        requires runs { IsSoundNode self.now }
+        requires buffer { length buffer.old ≡ 4096 }
+        ensures { (ports : List Port) (core : Core) → EndsStandFor self.now.ends ports → core.node ≡ self.now.number
+            → AreNotes (W.is_short watch.old) (W.is_short watch.new) (W.noted watch.old) (W.noted watch.new)
+            (entries_for host (map (Got (own_side core) 0) (if came then got_at ports host else []))) }
+    {
+        if !came {
+            return;
+        }
+        let Some((pipe, len)) = self.ends.read(host, buffer) else {
+            return;
+        };
+        let got = Entry::Got {
+            at: self.end_at(host),
+            session: 0,
+            pid: pipe,
+            message: Octets::new(self.alloc),
+        };
+        note(watch, got, &buffer[..len]);
+    }
+
+    // What an input at the end of the link with this host did is noted, with the message that it brought. The buffer has 4,096 bytes.
+    fn note_input<W: Watch>(&self, host: u8, report: &LinkReport, buffer: &mut [u8], watch: &mut W)
+        requires runs { IsSoundNode self.now }
+        requires buffer { length buffer.old ≡ 4096 }
+        ensures { (ports : List Port) (core : Core) (x : Report) (n acked : ℕ) → EndsStandFor self.now.ends ports → core.node ≡ self.now.number
+            → report.now ≡ report_told x → option_map_or (λ (p : Port). kept_number (whole_acked p.side)) (port_at ports host) 0 ≡ kept_number acked
+            → x.got ≡ (if report.now.got then got_at ports host else [])
+            → AreNotes (W.is_short watch.old) (W.is_short watch.new) (W.noted watch.old) (W.noted watch.new)
+            (map unnumbered (entries_for host (told (own_side core) n x acked))) }
+    {
+        let at = self.end_at(host);
+        note_report(watch, at, report, self.ends.acked(host));
+        self.note_message(host, report.got, buffer, watch);
+    }
+
+    /// What an LPDU says comes to the end of the link with this host, and is noted. At most six control frames wait there to be sent, and
+    /// while a message waits there the end is held. The buffer has 4,096 bytes. What is told of it; `None` where there is no such end.
+    pub(crate) fn take<W: Watch>(
+        &mut self,
+        host: u8,
+        read: &Result<Control, LpduFault>,
+        buffer: &mut [u8],
+        watch: &mut W,
+    ) -> Option<LinkReport>
+        requires runs { IsSoundNode self.old }
+        requires buffer { length buffer.old ≡ 4096 }
+        requires may { (start : List Noted) × (w : Work) × IsInStep self.old (W.noted watch.old) (W.is_short watch.old) start w
+            × FewAreDue (port_at w.ports host) × IsHeldWhileOneWaits (port_at w.ports host) }
+        requires read { (lpdu : List ℕ) × (read.now ≡ control_of lpdu) }
+        ensures carried { (start : List Noted) (w : Work) (lpdu : List ℕ) → IsInStep self.old (W.noted watch.old) (W.is_short watch.old) start w
+            → read.now ≡ control_of lpdu → IsInStep self.new (W.noted watch.new) (W.is_short watch.new) start (all_come (AtEnd host (lpdu_input lpdu)) w) }
+        ensures answer { (start : List Noted) (w : Work) (lpdu : List ℕ) → IsInStep self.old (W.noted watch.old) (W.is_short watch.old) start w
+            → read.now ≡ control_of lpdu → result ≡ option_map (λ (p : Port). report_told (report p.side (lpdu_input lpdu))) (port_at w.ports host) }
+        ensures store { self.new.store ≡ self.old.store }
+        ensures number { self.new.number ≡ self.old.number }
+        ensures runs { IsSoundNode self.new }
+    {
+        let Some(report) = self.ends.take(host, read) else {
+            return None;
+        };
+        self.note_input(host, &report, buffer, watch);
+        Some(report)
+    }
+}
