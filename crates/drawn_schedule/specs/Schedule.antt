@@ -105,5 +105,5 @@ abbrev pub text_of_schedule : Header → List Line → List ℕ
 text_of_schedule header lines = spaced (header_words header) ++ (10 ∷ lines_text lines)
 
 -- what is written of a line is read as it
-abbrev pub IsRead : Line → Type 0
-IsRead l = line_of (Some the_header) (line_text l) ≡ Ok (read.Line l)
+abbrev pub IsReadAsWritten : Line → Type 0
+IsReadAsWritten l = line_of (Some the_header) (line_text l) ≡ Ok (read.Line l)

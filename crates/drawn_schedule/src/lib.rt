@@ -8,7 +8,7 @@ ghost use Rattle.schedule_text.specs.Words.{spaced};
 ghost use Rattle.schedule_text.specs.Lines.{line_of};
 ghost use Rattle.schedule_text.specs.Entries.{header_words};
 ghost use Rattle.drawn_schedule.specs.Schedule.{the_header, first_lines, step_line, so_many_steps, drawn_lines, drawn_line, lines_text, text_of_schedule};
-ghost use Rattle.drawn_schedule.specs.Schedule.{next_number, drawn_of, IsRead};
+ghost use Rattle.drawn_schedule.specs.Schedule.{next_number, drawn_of, IsReadAsWritten};
 
 use std::alloc::{AllocError, Global};
 use swp_base::NoMemory;
@@ -178,6 +178,6 @@ fn append_text(piece: &[u8], text: &mut Vec<u8>) -> Result<(), AllocError>
 /// The lines of such a schedule are read as what they say: the header, and 2,060 lines that may stand below it.
 pub fn drawn_lines_are_read()
     ensures header { line_of None (spaced (header_words the_header)) ≡ Ok (read.Header the_header) }
-    ensures lines { (n : ℕ) → AllByRecursion IsRead (drawn_lines n) }
+    ensures lines { (n : ℕ) → AllByRecursion IsReadAsWritten (drawn_lines n) }
     ensures count { (n : ℕ) → length (drawn_lines n) ≡ 2060 }
 {}

@@ -17,7 +17,7 @@ use Rattle.swp_decode.specs.declared.line.Wire.TheVariants.{S1, S2}
 use Rattle.swp_decode.specs.Readings.{ReadSymbol, symbol_on, readings_on, AreBits, signal, symbols, start_of}
 use Rattle.swp_decode.specs.Texts.{verdict_line}
 use Rattle.swp_decode.specs.Decoded.{line_with, line_at, lines_with}
-use Rattle.swp_decode.specs.Frames.{frame_in, frame_with, frame_at, frames_told, frames_with, record_frames}
+use Rattle.swp_decode.specs.Frames.{frame_in, frame_with, frame_given, frames_told, frames_with, record_frames}
 use Rattle.swp_decode.proofs.Gathering.{AreBits-at}
 use Rattle.swp_decode.proofs.FurtherLines.{reverse_onto, no_parts, signal_at, AreQuietBetween, no_lines_between}
 
@@ -49,7 +49,7 @@ pub frames_told-append : (older bytes : List ℕ) → frames_told (reverse bytes
 frames_told-append older [] = sym (append-nil (frames_told older))
 frames_told-append older (byte ∷ bytes) =
     ap frames_told (reverse_onto byte bytes older) ∙ frames_told-append (byte ∷ older) bytes
-    ∙ regrouped (frames_told older) (frame_at S1 (byte ∷ older)) (frame_at S2 (byte ∷ older)) (frames_with (byte ∷ older) bytes)
+    ∙ regrouped (frames_told older) (frame_given S1 (byte ∷ older)) (frame_given S2 (byte ∷ older)) (frames_with (byte ∷ older) bytes)
   where
     regrouped : (a b c d : List (Bool × List ℕ)) → ((a ++ b) ++ c) ++ d ≡ a ++ ((b ++ c) ++ d)
     regrouped a b c d = simp append_assoc
@@ -62,7 +62,7 @@ record_frames-append bytes more = ap frames_told (reverse-append bytes more) ∙
 frames_behind-append : (older bytes more : List ℕ) → frames_with older (bytes ++ more) ≡ frames_with older bytes ++ frames_with (reverse bytes ++ older) more
 frames_behind-append older [] more = refl
 frames_behind-append older (byte ∷ bytes) more =
-    let new = frame_at S1 (byte ∷ older) ++ frame_at S2 (byte ∷ older) in
+    let new = frame_given S1 (byte ∷ older) ++ frame_given S2 (byte ∷ older) in
     ap (λ frames. new ++ frames) (frames_behind-append (byte ∷ older) bytes more)
     ∙ sym (append_assoc new (frames_with (byte ∷ older) bytes) (frames_with (reverse bytes ++ (byte ∷ older)) more))
     ∙ ap (λ seen. (new ++ frames_with (byte ∷ older) bytes) ++ frames_with seen more) (sym (reverse_onto byte bytes older))
@@ -70,12 +70,12 @@ frames_behind-append older (byte ∷ bytes) more =
 -- one more of the further bytes
 pub frames_behind-more : (older bytes : List ℕ) (i : ℕ) → i < length bytes
     → let seen = get_or bytes i 0 ∷ (reverse (take i bytes) ++ older) in
-    (frames_with older (take i bytes) ++ frame_at S1 seen) ++ frame_at S2 seen ≡ frames_with older (take (i + 1) bytes)
+    (frames_with older (take i bytes) ++ frame_given S1 seen) ++ frame_given S2 seen ≡ frames_with older (take (i + 1) bytes)
 frames_behind-more older bytes i h =
     let before = take i bytes in
     let byte = get_or bytes i 0 in
     let seen = byte ∷ (reverse before ++ older) in
-    regrouped (frames_with older before) (frame_at S1 seen) (frame_at S2 seen)
+    regrouped (frames_with older before) (frame_given S1 seen) (frame_given S2 seen)
     ∙ sym (frames_behind-append older before (byte ∷ [])) ∙ ap (frames_with older) (sym (take_more bytes i 0 h))
   where
     regrouped : (b c d : List (Bool × List ℕ)) → (b ++ c) ++ d ≡ b ++ ((c ++ d) ++ [])
@@ -100,7 +100,7 @@ frame_of_word wire word place last older = frame_with wire (Some (symbol_of (bit
 
 frame_there : (wire : Wire) (word : Word) (bytes older : List ℕ) (place last : ℕ) → AreBits wire bytes (word_bits word) → last < length bytes → last < 64
     → place ≡ length older
-    → frame_at wire (get_or bytes last 0 ∷ (reverse (take last bytes) ++ older)) ≡ frame_of_word wire word place last (signal wire older)
+    → frame_given wire (get_or bytes last 0 ∷ (reverse (take last bytes) ++ older)) ≡ frame_of_word wire word place last (signal wire older)
 frame_there wire word bytes older place last are within h is =
     ap₂ (frame_with wire) (AreBits-at wire last bytes (word_bits word) are within ∙ ap (λ b. Some (symbol_of b)) same)
     (signal_at wire bytes older (word_bits word) last are ∙ ap (λ n. readings_on n (take last (word_bits word)) (signal wire older)) (sym is))
@@ -117,7 +117,7 @@ frames_through {bytes} {older} word1 word2 {place} {from} {last} quiet l h is =
     let within : last < length bytes = omega (arith, l, h) in
     ap₂ (λ a b. (frames_with older (take from bytes) ++ a) ++ b) (sym (frame_there S1 word1 bytes older place last quiet.s1 within h is))
     (sym (frame_there S2 word2 bytes older place last quiet.s2 within h is))
-    ∙ ap (λ frames. (frames ++ frame_at S1 (get_or bytes last 0 ∷ (reverse (take last bytes) ++ older)))
-    ++ frame_at S2 (get_or bytes last 0 ∷ (reverse (take last bytes) ++ older)))
+    ∙ ap (λ frames. (frames ++ frame_given S1 (get_or bytes last 0 ∷ (reverse (take last bytes) ++ older)))
+    ++ frame_given S2 (get_or bytes last 0 ∷ (reverse (take last bytes) ++ older)))
     (sym (frames_between quiet))
     ∙ frames_behind-more older bytes last within

@@ -25,19 +25,19 @@ frame_with wire None older = []
 frame_with wire (Some symbol) older = frame_in wire (verdict (symbol ∷ symbols older))
 
 -- the frame that the newest byte of a record, the newest first, gives on a wire, if it gives one
-abbrev pub frame_at : Wire → List ℕ → List (Bool × List ℕ)
-frame_at wire [] = []
-frame_at wire (byte ∷ older) = frame_with wire (symbol_on wire (period_at byte)) (signal wire older)
+abbrev pub frame_given : Wire → List ℕ → List (Bool × List ℕ)
+frame_given wire [] = []
+frame_given wire (byte ∷ older) = frame_with wire (symbol_on wire (period_at byte)) (signal wire older)
 
 -- the frames of a record, the newest byte first: in the order of the byte that ended them, S1 before S2
 abbrev pub frames_told : List ℕ → List (Bool × List ℕ)
 frames_told [] = []
-frames_told (byte ∷ older) = frames_told older ++ frame_at S1 (byte ∷ older) ++ frame_at S2 (byte ∷ older)
+frames_told (byte ∷ older) = frames_told older ++ frame_given S1 (byte ∷ older) ++ frame_given S2 (byte ∷ older)
 
 -- the frames that come with further bytes, the oldest first, after the older ones, the newest first
 abbrev pub frames_with : List ℕ → List ℕ → List (Bool × List ℕ)
 frames_with older [] = []
-frames_with older (byte ∷ bytes) = frame_at S1 (byte ∷ older) ++ frame_at S2 (byte ∷ older) ++ frames_with (byte ∷ older) bytes
+frames_with older (byte ∷ bytes) = frame_given S1 (byte ∷ older) ++ frame_given S2 (byte ∷ older) ++ frames_with (byte ∷ older) bytes
 
 -- the frames of a record, its oldest byte first
 abbrev pub record_frames : List ℕ → List (Bool × List ℕ)

@@ -22,7 +22,7 @@ impl Decoder {
     ghost use Rattle.swp_frame.specs.Signal.{break};
     ghost use Rattle.swp_decode.specs.Readings.{ReadSymbol, with_reading, AreBits};
     ghost use Rattle.swp_decode.specs.Decoded.{line_at, line_with, lines_with, last_line};
-    ghost use Rattle.swp_decode.specs.Frames.{frame_at, frame_with, frames_with};
+    ghost use Rattle.swp_decode.specs.Frames.{frame_given, frame_with, frames_with};
     ghost use Rattle.swp_decode.specs.Kept.{ReadsSignal, DecoderStandsFor};
 
     /// The most bytes of a record.
@@ -187,7 +187,7 @@ impl Decoder {
         ensures count { self.new.count ≡ self.old.count + 1 }
         ensures stands { (bytes : List ℕ) → DecoderStandsFor self.old bytes → DecoderStandsFor self.new (byte ∷ bytes) }
         ensures heard { (bytes : List ℕ) → DecoderStandsFor self.old bytes
-            → frames.new.items ≡ frames.old.items ++ frame_at Wire.S1 (byte ∷ bytes) ++ frame_at Wire.S2 (byte ∷ bytes) }
+            → frames.new.items ≡ frames.old.items ++ frame_given Wire.S1 (byte ∷ bytes) ++ frame_given Wire.S2 (byte ∷ bytes) }
         ensures sized { length frames.new.items ≤ length frames.old.items + 2 }
     {
         let place = self.count;

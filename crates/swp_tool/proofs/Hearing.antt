@@ -6,7 +6,7 @@ use Rattle.std.proofs.lemmas.List.{append-nil, length-reverse}
 use Rattle.std.proofs.lemmas.List.Concat.{flat_map-append}
 use Rattle.swp_lpdu.specs.Controls.{control_of}
 use Rattle.swp_decode.specs.declared.line.Wire.TheVariants.{S1, S2}
-use Rattle.swp_decode.specs.Frames.{record_frames, frames_told, frame_at}
+use Rattle.swp_decode.specs.Frames.{record_frames, frames_told, frame_given}
 use Rattle.swp_decode.specs.Kept.{DecoderStandsFor}
 use Rattle.tap_reading.specs.Tap.{TapReport, new_tap, tap_after, tapped_from, tapped}
 use Rattle.tap_reading.specs.Lpdus.{frame_read, frames_read, tapped_lpdus}
@@ -89,7 +89,7 @@ nothing_heard bare tells t before stands none is heard = record {
 
 -- the frames of a record with one byte more
 pub byte_frames : (read : List ℕ) (byte : ℕ)
-    → record_frames (read ++ byte ∷ []) ≡ record_frames read ++ (frame_at S1 (byte ∷ reverse read) ++ frame_at S2 (byte ∷ reverse read))
+    → record_frames (read ++ byte ∷ []) ≡ record_frames read ++ (frame_given S1 (byte ∷ reverse read) ++ frame_given S2 (byte ∷ reverse read))
 byte_frames read byte =
     ap frames_told (newest read byte)
-    ∙ append_assoc (record_frames read) (frame_at S1 (byte ∷ reverse read)) (frame_at S2 (byte ∷ reverse read))
+    ∙ append_assoc (record_frames read) (frame_given S1 (byte ∷ reverse read)) (frame_given S2 (byte ∷ reverse read))

@@ -1,7 +1,7 @@
 use Rattle.std.proofs.Common.{◌++◌, ◌∷◌, [], length, ap, ◌∙◌, sym, subst, append_assoc}
 use Rattle.std.specs.Prelude.{reverse}
 use Rattle.swp_decode.specs.declared.line.Wire.TheVariants.{S1, S2}
-use Rattle.swp_decode.specs.Frames.{record_frames, frame_at}
+use Rattle.swp_decode.specs.Frames.{record_frames, frame_given}
 use Rattle.swp_decode.specs.Kept.{DecoderStandsFor}
 use Rattle.swp_tool.specs.Records.{IsFront}
 use Rattle.swp_tool.specs.Taps.{report_lines, tap_lines, HasHeard}
@@ -13,8 +13,8 @@ pub returns-in_err-hear_frames-clause-ends : goal.returns-in_err-hear_frames-cla
 returns-in_err-hear_frames-clause-ends g c =
     on_err _ c.from_residual.result (λ bare earlier read rest before h.
     let byte = c.args.byte in
-    let first = frame_at S1 (byte ∷ reverse read) in
-    let second = frame_at S2 (byte ∷ reverse read) in
+    let first = frame_given S1 (byte ∷ reverse read) in
+    let second = frame_given S2 (byte ∷ reverse read) in
     let all = ap (λ l. record_frames read ++ l)
     (c.hear.ensures.heard (reverse read) h.decoder ∙ ap (λ l. (l ++ first) ++ second) c.new-frames.ensures) ∙ sym (byte_frames read byte) in
     record {
@@ -28,8 +28,8 @@ returns-in_err-hear_frames-clause-ends g c =
 pub returns-clause-goes : goal.returns-clause-goes
 returns-clause-goes g c bare earlier read before h =
     let byte = c.args.byte in
-    let first = frame_at S1 (byte ∷ reverse read) in
-    let second = frame_at S2 (byte ∷ reverse read) in
+    let first = frame_given S1 (byte ∷ reverse read) in
+    let second = frame_given S2 (byte ∷ reverse read) in
     let all = ap (λ l. record_frames read ++ l)
     (c.hear.ensures.heard (reverse read) h.decoder ∙ ap (λ l. (l ++ first) ++ second) c.new-frames.ensures) ∙ sym (byte_frames read byte) in
     record {

@@ -1,6 +1,6 @@
 use Rattle.std.proofs.Common.{◌∙◌, ◌++◌, ◌∷◌, ◌<◌, length, get_or, reverse, take, ap, subst, arith}
 use Rattle.swp_decode.specs.declared.line.Wire.TheVariants.{S1, S2}
-use Rattle.swp_decode.specs.Frames.{frame_at}
+use Rattle.swp_decode.specs.Frames.{frame_given}
 use Rattle.swp_decode.specs.Kept.{DecoderStandsFor}
 use Rattle.swp_decode.proofs.FurtherLines.{reverse-more}
 use Rattle.swp_decode.proofs.FurtherFrames.{frames_behind-more}
@@ -19,7 +19,7 @@ loop-byte-preserved c =
       heard = λ older old.
           let seen = get_or bytes i 0 ∷ (reverse (take i bytes) ++ older) in
           c.hear.ensures.heard (reverse (take i bytes) ++ older) (kept.stands older old)
-          ∙ ap (λ frames. (frames ++ frame_at S1 seen) ++ frame_at S2 seen) (kept.heard older old)
+          ∙ ap (λ frames. (frames ++ frame_given S1 seen) ++ frame_given S2 seen) (kept.heard older old)
           ∙ frames_behind-more older bytes i within;
       sized = omega arith;
     }
