@@ -15,6 +15,7 @@ impl<N: Nv + Drop> Node<N> {
     ghost use Rattle.trace_model.specs.declared.entry.Entry.{Entry as Noted};
     ghost use Rattle.swp_lpdu.specs.Controls.{control_of};
     ghost use Rattle.link_machine.specs.Machine.{Report, report, lpdu_input, whole_acked};
+    ghost use Rattle.link_machine.specs.Machine.LinkInput.{Start, Stop};
     ghost use Rattle.link_entries.specs.entries.Entries.{told};
     ghost use Rattle.link_entries.specs.entries.Entries.Entry.{Got};
     ghost use Rattle.history.specs.Steps.{entries_for};
@@ -24,7 +25,7 @@ impl<N: Nv + Drop> Node<N> {
     ghost use Rattle.node_machine.specs.Node.{all_come};
     ghost use Rattle.node_machine.specs.Node.NodeInput.{AtEnd};
     ghost use Rattle.node_ends.specs.Holding.{kept_number};
-    ghost use Rattle.node_ends.specs.Ends.{EndsStandFor, FewAreDue, IsHeldWhileOneWaits, got_at};
+    ghost use Rattle.node_ends.specs.Ends.{EndsStandFor, FewAreDue, IsHeldWhileOneWaits, MayStartAt, got_at};
     ghost use Rattle.node_core.specs.Nodes.{IsInStep, IsSoundNode};
     ghost use Rattle.node_core.specs.Noting.{AreNotes, unnumbered};
 
@@ -89,6 +90,62 @@ impl<N: Nv + Drop> Node<N> {
         ensures runs { IsSoundNode self.new }
     {
         let Some(report) = self.ends.take(host, read) else {
+            return None;
+        };
+        self.note_input(host, &report, buffer, watch);
+        Some(report)
+    }
+
+    /// Activation begins anew at the end of the link with this host, with the power mode of a CLF or the sync identifier of a UICC, and
+    /// what that did is noted. At most six control frames wait there to be sent. The buffer has 4,096 bytes. What is told of it; `None`
+    /// where there is no such end.
+    pub(crate) fn activate<W: Watch>(
+        &mut self,
+        host: u8,
+        value: u16,
+        buffer: &mut [u8],
+        watch: &mut W,
+    ) -> Option<LinkReport>
+        requires runs { IsSoundNode self.old }
+        requires buffer { length buffer.old ≡ 4096 }
+        requires may { (start : List Noted) × (w : Work) × IsInStep self.old (W.noted watch.old) (W.is_short watch.old) start w
+            × FewAreDue (port_at w.ports host) × MayStartAt value (port_at w.ports host) }
+        ensures carried { (start : List Noted) (w : Work) → IsInStep self.old (W.noted watch.old) (W.is_short watch.old) start w
+            → IsInStep self.new (W.noted watch.new) (W.is_short watch.new) start (all_come (AtEnd host (Start value)) w) }
+        ensures answer { (start : List Noted) (w : Work) → IsInStep self.old (W.noted watch.old) (W.is_short watch.old) start w
+            → result ≡ option_map (λ (p : Port). report_told (report p.side (Start value))) (port_at w.ports host) }
+        ensures store { self.new.store ≡ self.old.store }
+        ensures number { self.new.number ≡ self.old.number }
+        ensures runs { IsSoundNode self.new }
+    {
+        let Some(report) = self.ends.activate(host, value) else {
+            return None;
+        };
+        self.note_input(host, &report, buffer, watch);
+        Some(report)
+    }
+
+    /// Activation ends at the end of the link with this host, and the link with it, and what that did is noted. At most six control
+    /// frames wait there to be sent. The buffer has 4,096 bytes. What is told of it; `None` where there is no such end.
+    pub(crate) fn deactivate<W: Watch>(
+        &mut self,
+        host: u8,
+        buffer: &mut [u8],
+        watch: &mut W,
+    ) -> Option<LinkReport>
+        requires runs { IsSoundNode self.old }
+        requires buffer { length buffer.old ≡ 4096 }
+        requires may { (start : List Noted) × (w : Work) × IsInStep self.old (W.noted watch.old) (W.is_short watch.old) start w
+            × FewAreDue (port_at w.ports host) }
+        ensures carried { (start : List Noted) (w : Work) → IsInStep self.old (W.noted watch.old) (W.is_short watch.old) start w
+            → IsInStep self.new (W.noted watch.new) (W.is_short watch.new) start (all_come (AtEnd host Stop) w) }
+        ensures answer { (start : List Noted) (w : Work) → IsInStep self.old (W.noted watch.old) (W.is_short watch.old) start w
+            → result ≡ option_map (λ (p : Port). report_told (report p.side Stop)) (port_at w.ports host) }
+        ensures store { self.new.store ≡ self.old.store }
+        ensures number { self.new.number ≡ self.old.number }
+        ensures runs { IsSoundNode self.new }
+    {
+        let Some(report) = self.ends.deactivate(host) else {
             return None;
         };
         self.note_input(host, &report, buffer, watch);
