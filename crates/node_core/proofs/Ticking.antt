@@ -12,9 +12,10 @@ use Rattle.node_machine.specs.Parts.{Core, Port, Work}
 use Rattle.node_machine.specs.Carrying.{port_at, changed_if, with_port, noting}
 use Rattle.node_machine.specs.Node.{has_come, told_at, all_come}
 use Rattle.node_machine.specs.Node.NodeInput.{AtEnd, TimePasses}
-use Rattle.node_ends.specs.Ends.{FewAreDue, at_place}
+use Rattle.node_ends.specs.declared.ends.Ends.{Ends}
+use Rattle.node_ends.specs.Ends.{EndsStandFor, FewAreDue, at_place}
 use Rattle.node_ends.specs.Making.{AreAllDifferent}
-use Rattle.node_ends.proofs.Seated.{first_changed, none_changed, next_changed, next_there, all_changed}
+use Rattle.node_ends.proofs.Seated.{first_changed, none_changed, next_changed, next_there, all_changed, as_many}
 use Rattle.node_core.specs.Turning.{AreFewDue}
 use Rattle.node_core.proofs.Elsewhere.{host_at}
 use Rattle.node_core.proofs.Arriving.{come_is}
@@ -129,3 +130,36 @@ pub all_ticked : (i : ℕ) (w : Work) → length w.ports ≤ i → ticks_so_far 
 all_ticked i w past =
     ap₂ (λ (es : List Entry) (ports : List Port). noting es (record w { ports = ports }))
     (all_told (λ (p : Port). told_at w.core p (Some Tick)) i w.ports past) (all_changed i (λ p. has_come p (Some Tick)) w.ports past)
+
+pub same_host : (h : ℕ) (ports : List Port) (i : ℕ) (p : Port) → Some h ≡ option_map host_at (slice_get ports i) → slice_get ports i ≡ Some p
+    → h ≡ p.desk.host
+same_host h ports i p is at = let z : Some h ≡ Some p.desk.host = is ∙ ap (option_map host_at) at in cc
+
+pub is_some_there : {X P : Type 0} (f : Port → X) (o : Option Port) (p : Port) → None ≡ option_map f o → o ≡ Some p → P
+is_some_there f o p none is = absurd (let z : None ≡ Some (f p) = none ∙ ap (option_map f) is in cc)
+
+pub is_none_there : {X P : Type 0} (f : Port → X) (o : Option Port) (x : X) → Some x ≡ option_map f o → o ≡ None → P
+is_none_there f o x some is = absurd (let z : Some x ≡ None = some ∙ ap (option_map f) is in cc)
+
+-- where there is no end at a place, all have come
+pub ticks_past : (i : ℕ) (w : Work) → length w.ports ≤ i → ticks_so_far i w ≡ ticks_so_far (suc i) w
+ticks_past i w past = all_ticked i w past ∙ sym (all_ticked (suc i) w (omega (arith, past)))
+
+pub none_past : (i : ℕ) (ports : List Port) → slice_get ports i ≡ None → length ports ≤ i
+none_past i [] none = omega arith
+none_past zero (p ∷ ports) none = cc
+none_past (suc i) (p ∷ ports) none = let l = none_past i ports none in omega (arith, l)
+
+pub tick_there : (i : ℕ) (w : Work) → slice_get (ticks_so_far i w).ports i ≡ slice_get w.ports i
+tick_there i w = next_there i (λ p. has_come p (Some Tick)) w.ports
+
+pub either_there : {P : Type 0} (o : Option Port) {x : Option Port} → x ≡ o → ((p : Port) → x ≡ Some p → P) → (x ≡ None → P) → P
+either_there None is some none = none is
+either_there (Some p) is some none = some p is
+
+-- there are at most seven ends
+pub many_ports : (ends : Ends) (ports : List Port) → EndsStandFor ends ports → length ports ≤ 7
+many_ports ends ports e =
+    let many = as_many ends.pool ends.seats.items ports e.each in
+    let few = e.few in
+    omega (arith, many, few)
