@@ -13,3 +13,4 @@ mod Sendables
 mod Elsewhere
 pub mod Notes
 mod Arriving
+mod Ticking

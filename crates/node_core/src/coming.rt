@@ -10,11 +10,12 @@ use swp_lpdu::LpduFault;
 use trace_model::{Entry, Octets, Watch};
 
 impl<N: Nv + Drop> Node<N> {
-    ghost use Rattle.std.specs.Prelude.{◌≡◌, ℕ, List, [], map, length, if◌then◌else◌, Some, option_map};
+    ghost use Rattle.std.specs.Prelude.{◌≡◌, ℕ, List, [], map, length, if◌then◌else◌, Some, None, option_map, slice_get};
     ghost use Rattle.std.specs.Option.{option_map_or};
     ghost use Rattle.trace_model.specs.declared.entry.Entry.{Entry as Noted};
     ghost use Rattle.swp_lpdu.specs.Controls.{control_of};
     ghost use Rattle.link_machine.specs.Machine.{Report, report, lpdu_input, whole_acked};
+    ghost use Rattle.link_machine.specs.Machine.LinkInput.{Start, Stop, Tick};
     ghost use Rattle.link_entries.specs.entries.Entries.{told};
     ghost use Rattle.link_entries.specs.entries.Entries.Entry.{Got};
     ghost use Rattle.history.specs.Steps.{entries_for};
@@ -22,10 +23,11 @@ impl<N: Nv + Drop> Node<N> {
     ghost use Rattle.node_machine.specs.Parts.{Core, Port, Work};
     ghost use Rattle.node_machine.specs.Carrying.{own_side, port_at};
     ghost use Rattle.node_machine.specs.Node.{all_come};
-    ghost use Rattle.node_machine.specs.Node.NodeInput.{AtEnd};
+    ghost use Rattle.node_machine.specs.Node.NodeInput.{AtEnd, TimePasses};
     ghost use Rattle.node_ends.specs.Holding.{kept_number};
-    ghost use Rattle.node_ends.specs.Ends.{EndsStandFor, FewAreDue, IsHeldWhileOneWaits, got_at};
+    ghost use Rattle.node_ends.specs.Ends.{EndsStandFor, FewAreDue, IsHeldWhileOneWaits, MayStartAt, got_at};
     ghost use Rattle.node_core.specs.Nodes.{IsInStep, IsSoundNode};
+    ghost use Rattle.node_core.specs.Turning.{AreFewDue};
     ghost use Rattle.node_core.specs.Noting.{AreNotes, unnumbered};
 
     // The message that came to the end of the link with this host, where one did, is noted. The buffer has 4,096 bytes.
@@ -93,5 +95,103 @@ impl<N: Nv + Drop> Node<N> {
         };
         self.note_input(host, &report, buffer, watch);
         Some(report)
+    }
+
+    /// Activation begins anew at the end of the link with this host, with the power mode of a CLF or the sync identifier of a UICC, and
+    /// what that did is noted. At most six control frames wait there to be sent. The buffer has 4,096 bytes. What is told of it; `None`
+    /// where there is no such end.
+    pub(crate) fn activate<W: Watch>(
+        &mut self,
+        host: u8,
+        value: u16,
+        buffer: &mut [u8],
+        watch: &mut W,
+    ) -> Option<LinkReport>
+        requires runs { IsSoundNode self.old }
+        requires buffer { length buffer.old ≡ 4096 }
+        requires may { (start : List Noted) × (w : Work) × IsInStep self.old (W.noted watch.old) (W.is_short watch.old) start w
+            × FewAreDue (port_at w.ports host) × MayStartAt value (port_at w.ports host) }
+        ensures carried { (start : List Noted) (w : Work) → IsInStep self.old (W.noted watch.old) (W.is_short watch.old) start w
+            → IsInStep self.new (W.noted watch.new) (W.is_short watch.new) start (all_come (AtEnd host (Start value)) w) }
+        ensures answer { (start : List Noted) (w : Work) → IsInStep self.old (W.noted watch.old) (W.is_short watch.old) start w
+            → result ≡ option_map (λ (p : Port). report_told (report p.side (Start value))) (port_at w.ports host) }
+        ensures store { self.new.store ≡ self.old.store }
+        ensures number { self.new.number ≡ self.old.number }
+        ensures runs { IsSoundNode self.new }
+    {
+        let Some(report) = self.ends.activate(host, value) else {
+            return None;
+        };
+        self.note_input(host, &report, buffer, watch);
+        Some(report)
+    }
+
+    /// Activation ends at the end of the link with this host, and the link with it, and what that did is noted. At most six control
+    /// frames wait there to be sent. The buffer has 4,096 bytes. What is told of it; `None` where there is no such end.
+    pub(crate) fn deactivate<W: Watch>(
+        &mut self,
+        host: u8,
+        buffer: &mut [u8],
+        watch: &mut W,
+    ) -> Option<LinkReport>
+        requires runs { IsSoundNode self.old }
+        requires buffer { length buffer.old ≡ 4096 }
+        requires may { (start : List Noted) × (w : Work) × IsInStep self.old (W.noted watch.old) (W.is_short watch.old) start w
+            × FewAreDue (port_at w.ports host) }
+        ensures carried { (start : List Noted) (w : Work) → IsInStep self.old (W.noted watch.old) (W.is_short watch.old) start w
+            → IsInStep self.new (W.noted watch.new) (W.is_short watch.new) start (all_come (AtEnd host Stop) w) }
+        ensures answer { (start : List Noted) (w : Work) → IsInStep self.old (W.noted watch.old) (W.is_short watch.old) start w
+            → result ≡ option_map (λ (p : Port). report_told (report p.side Stop)) (port_at w.ports host) }
+        ensures store { self.new.store ≡ self.old.store }
+        ensures number { self.new.number ≡ self.old.number }
+        ensures runs { IsSoundNode self.new }
+    {
+        let Some(report) = self.ends.deactivate(host) else {
+            return None;
+        };
+        self.note_input(host, &report, buffer, watch);
+        Some(report)
+    }
+
+    // A tick comes to the end at this place, where there is one, and what it did is noted. At most six control frames wait there to be
+    // sent. The buffer has 4,096 bytes.
+    fn tick_at<W: Watch>(&mut self, i: usize, buffer: &mut [u8], watch: &mut W)
+        requires runs { IsSoundNode self.old }
+        requires buffer { length buffer.old ≡ 4096 }
+        requires may { (start : List Noted) × (w : Work) × IsInStep self.old (W.noted watch.old) (W.is_short watch.old) start w
+            × FewAreDue (slice_get w.ports i) }
+        ensures carried { (start : List Noted) (w : Work) (p : Port) → IsInStep self.old (W.noted watch.old) (W.is_short watch.old) start w
+            → slice_get w.ports i ≡ Some p → IsInStep self.new (W.noted watch.new) (W.is_short watch.new) start (all_come (AtEnd p.desk.host Tick) w) }
+        ensures none { (start : List Noted) (w : Work) → IsInStep self.old (W.noted watch.old) (W.is_short watch.old) start w
+            → slice_get w.ports i ≡ None → IsInStep self.new (W.noted watch.new) (W.is_short watch.new) start w }
+        ensures store { self.new.store ≡ self.old.store }
+        ensures number { self.new.number ≡ self.old.number }
+        ensures runs { IsSoundNode self.new }
+    {
+        let Some(host) = self.ends.host(i) else {
+            return;
+        };
+        let Some(report) = self.ends.tick(i) else {
+            return;
+        };
+        self.note_input(host, &report, buffer, watch);
+    }
+
+    /// Time passes at all ends, one after another, and what it did there is noted. At most six control frames wait at each to be sent.
+    /// The buffer has 4,096 bytes.
+    pub(crate) fn time_passes<W: Watch>(&mut self, buffer: &mut [u8], watch: &mut W)
+        requires runs { IsSoundNode self.old }
+        requires buffer { length buffer.old ≡ 4096 }
+        requires may { (start : List Noted) × (w : Work) × IsInStep self.old (W.noted watch.old) (W.is_short watch.old) start w
+            × AreFewDue w.ports }
+        ensures carried { (start : List Noted) (w : Work) → IsInStep self.old (W.noted watch.old) (W.is_short watch.old) start w
+            → AreFewDue w.ports → IsInStep self.new (W.noted watch.new) (W.is_short watch.new) start (all_come TimePasses w) }
+        ensures store { self.new.store ≡ self.old.store }
+        ensures number { self.new.number ≡ self.old.number }
+        ensures runs { IsSoundNode self.new }
+    {
+        for i in 0..7 {
+            self.tick_at(i, buffer, watch);
+        }
     }
 }

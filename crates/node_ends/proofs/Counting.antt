@@ -196,7 +196,7 @@ reset_sent m w h = by m.shdlc.phase refl
     by Waiting p = rw p (h.is.forgot (λ u. let z = sym p ∙ u in cc))
     by Down p = rw p (h.is.forgot (λ u. let z = sym p ∙ u in cc))
 
-reset_report : (m : Machine) (window : Option ℕ) → Sound m → reset_refusal m ≡ None
+pub reset_report : (m : Machine) (window : Option ℕ) → Sound m → reset_refusal m ≡ None
     → record nothing_told { ended = if_up m.shdlc Asked } ≡ report_told (report m (Reset window))
 reset_report m window h q =
     let w : ℕ = window_of m window in

@@ -1,0 +1,81 @@
+use Rattle.std.proofs.Common.{◌≡◌, ℕ, List, [], map, refl, sym, ap, ◌∙◌, subst}
+use Rattle.std.specs.Prelude.{Option, Some, None, option_map, slice_get, if◌then◌else◌}
+use Rattle.link_machine.specs.Machine.{report, after_input, whole_acked}
+use Rattle.link_machine.specs.Machine.LinkInput.{Tick}
+use Rattle.link_end.specs.declared.report.LinkReport.{LinkReport}
+use Rattle.link_end.specs.Reports.{report_told}
+use Rattle.link_entries.specs.entries.Entries.{told}
+use Rattle.history.specs.Steps.{entries_for}
+use Rattle.node_machine.specs.Parts.{Port, Work}
+use Rattle.node_machine.specs.Carrying.{own_side, port_at, with_port}
+use Rattle.node_machine.specs.Node.{has_come, all_come}
+use Rattle.node_machine.specs.Node.NodeInput.{AtEnd}
+use Rattle.node_ends.specs.Ends.{EndsStandFor, got_at}
+use Rattle.node_core.specs.Nodes.{IsInStep}
+use Rattle.node_core.specs.Noting.{AreNotes, unnumbered}
+use Rattle.node_core.proofs.Doing.{host_at}
+use Rattle.node_core.proofs.HavingTurns.{no_some}
+use Rattle.node_core.proofs.Elsewhere.{hosts_differ}
+use Rattle.node_core.proofs.Arriving.{comes_to, brought_is, acked_is}
+use Rattle.node_core.proofs.Ticking.{at_is_with, found_there, same_host, is_some_there, is_none_there}
+use Rattle.node_core.proofs.node.Node.tick_at.Goals as goal
+
+pub returns-in_default-clause-carried : goal.returns-in_default-clause-carried
+returns-in_default-clause-carried g c start w p u is =
+    is_some_there (λ (q : Port). q.desk.host) (slice_get w.ports c.args.i) p
+    (sym (no_some c.host.result c.in_default.not-Some) ∙ c.host.ensures w.ports u.ends) is
+
+pub returns-in_default-tick-clause-carried : goal.returns-in_default-tick-clause-carried
+returns-in_default-tick-clause-carried g c start w p u is =
+    is_some_there (λ (q : Port). report_told (report q.side Tick)) (slice_get w.ports c.args.i) p
+    (sym (no_some c.tick.result c.in_default-tick.not-Some) ∙ c.tick.ensures.answer w.ports u.ends) is
+
+pub returns-in_default-tick-clause-none : goal.returns-in_default-tick-clause-none
+returns-in_default-tick-clause-none g c start w u none =
+    is_none_there (λ (q : Port). q.desk.host) (slice_get w.ports c.args.i) c.in-Some.host (sym c.in-Some.is ∙ c.host.ensures w.ports u.ends) none
+
+pub returns-in_default-tick-clause-runs : goal.returns-in_default-tick-clause-runs
+returns-in_default-tick-clause-runs g c =
+    let r = c.requires.runs in
+    record { ports = _; ends = c.tick.ensures.stands r.ports r.ends; started = r.started; version = r.version }
+
+pub note_input-requires-clause-runs : goal.note_input-requires-clause-runs
+note_input-requires-clause-runs g c =
+    let r = c.requires.runs in
+    record { ports = _; ends = c.tick.ensures.stands r.ports r.ends; started = r.started; version = r.version }
+
+pub returns-clause-runs : goal.returns-clause-runs
+returns-clause-runs g c =
+    let r = c.requires.runs in
+    record { ports = _; ends = c.tick.ensures.stands r.ports r.ends; started = r.started; version = r.version }
+
+pub returns-clause-carried : goal.returns-clause-carried
+returns-clause-carried g c start w p u is =
+    let i = c.args.i in
+    let h = c.in-Some.host in
+    let differ = hosts_differ c.args.self.now.ends.pool c.args.self.now.ends.seats.items w.ports u.ends.hosts u.ends.each in
+    let same = same_host h w.ports i p (sym c.in-Some.is ∙ c.host.ensures w.ports u.ends) is in
+    let E : List Port → Type 0 = λ ports. EndsStandFor c.tick.new.self ports in
+    let H : ℕ → Type 0 = λ m. EndsStandFor c.tick.new.self (with_port m (λ q. has_come q (Some Tick)) w.ports) in
+    let stands = subst H (sym same)
+    (subst E (at_is_with i (λ q. has_come q (Some Tick)) w.ports p differ is) (c.tick.ensures.stands w.ports u.ends)) in
+    let found : port_at w.ports h ≡ Some p = ap (port_at w.ports) same ∙ found_there i w.ports p differ is in
+    let told_is = sym c.in-Some-tick.is ∙ (c.tick.ensures.answer w.ports u.ends ∙ (ap (option_map (λ (q : Port). report_told (report q.side Tick))) is
+    ∙ sym (ap (option_map (λ (q : Port). report_told (report q.side Tick))) found))) in
+    let R : ℕ → Type 0 = λ m. IsInStep (record c.args.self.now { ends = c.tick.new.self }) (g.W.Watch.noted c.note_input.new.watch)
+    (g.W.Watch.is_short c.note_input.new.watch) start (all_come (AtEnd m Tick) w) in
+    subst R same (comes_to h Tick c.in-Some-tick.report u stands told_is
+    (λ q at told_so.
+    let P : ℕ → Type 0 = λ n. AreNotes (g.W.Watch.is_short c.args.watch.now) (g.W.Watch.is_short c.note_input.new.watch)
+    (g.W.Watch.noted c.args.watch.now) (g.W.Watch.noted c.note_input.new.watch)
+    (map unnumbered (entries_for n (told (own_side w.core) q.session (report q.side Tick) (whole_acked (after_input q.side Tick))))) in
+    let G : LinkReport → Type 0 = λ r. (report q.side Tick).got
+    ≡ (if r.got then got_at (with_port h (λ x. has_come x (Some Tick)) w.ports) h else []) in
+    subst P (sym (host_at h w.ports q at))
+    (c.note_input.ensures (with_port h (λ x. has_come x (Some Tick)) w.ports) w.core (report q.side Tick) q.session
+    (whole_acked (after_input q.side Tick)) stands u.node told_so (acked_is w.ports h Tick q at)
+    (subst G (sym told_so) (brought_is c.tick.new.self w.ports h Tick q refl stands at)))))
+
+pub returns-clause-none : goal.returns-clause-none
+returns-clause-none g c start w u none =
+    is_none_there (λ (q : Port). q.desk.host) (slice_get w.ports c.args.i) c.in-Some.host (sym c.in-Some.is ∙ c.host.ensures w.ports u.ends) none
