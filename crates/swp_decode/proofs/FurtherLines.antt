@@ -138,7 +138,8 @@ pub record AreQuietBetween (bytes older : List ℕ) (first second : List Bool) (
 pub no_lines_between : {bytes older : List ℕ} {first second : List Bool} {from to : ℕ} → AreQuietBetween bytes older first second from to
     → lines_with (reverse (take from bytes) ++ older) (take (to - from) (drop from bytes)) ≡ []
 no_lines_between {bytes} {older} {first} {second} {from} {to} h =
-    no_lines (take (to - from) (drop from bytes)) (reverse (take from bytes) ++ older) (take (to - from) (drop from first)) (take (to - from) (drop from second))
+    no_lines (take (to - from) (drop from bytes)) (reverse (take from bytes) ++ older)
+    (take (to - from) (drop from first)) (take (to - from) (drop from second))
     (AreBits-take S1 (to - from) (drop from bytes) (drop from first) (AreBits-drop S1 from bytes first h.s1))
     (AreBits-take S2 (to - from) (drop from bytes) (drop from second) (AreBits-drop S2 from bytes second h.s2))
     (subst (λ readings. HasNoMark (symbols readings) (take (to - from) (drop from first))) (sym (signal_at S1 bytes older first from h.s1)) h.quiet_s1)

@@ -134,7 +134,8 @@ header_of_world None = None
 header_of_world (Some w) = Some w.header
 
 -- a line that was read below the header of a world is one of its lines, unless it lets the links settle
-pub line_of_world : (world : Option World) (header : Option Header) (line : Line) (most : ℕ) → header ≡ header_of_world world → IsInGrammar header (read.Line line)
+pub line_of_world : (world : Option World) (header : Option Header) (line : Line) (most : ℕ) → header ≡ header_of_world world
+    → IsInGrammar header (read.Line line)
     → is_settling line ≡ false → ForSome world (λ w. WasStepped w most) → IsSomeAnd world (λ w. IsLineOf (world_header w) line)
 line_of_world None header line most is fits still steps = absurd (subst (λ h. IsInGrammar h (read.Line line)) is fits)
 line_of_world (Some w) header line most is fits still steps =

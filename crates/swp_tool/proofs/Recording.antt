@@ -37,7 +37,8 @@ cut_text {tells} {gathered} {least} {text} {before} {was} {after} h front = reco
 }
 
 -- all that was gathered was written, and nothing is gathered
-pub written_out : {tells : Bool} {gathered : List ℕ} (none : List ℕ) {least : ℕ} {text before was after : List ℕ} → IsGathered tells gathered least text before was
+pub written_out : {tells : Bool} {gathered : List ℕ} (none : List ℕ) {least : ℕ} {text before was after : List ℕ}
+    → IsGathered tells gathered least text before was
     → none ≡ [] → (IsTrue tells → after ≡ was ++ gathered) → IsGathered tells none (length text) text before after
 written_out {tells} {gathered} none {least} {text} {before} {was} {after} h is wrote = record {
   written = h.written ++ gathered;
@@ -47,7 +48,8 @@ written_out {tells} {gathered} none {least} {text} {before} {was} {after} h is w
 }
 
 -- less had to be written
-pub lessened : {tells : Bool} {gathered : List ℕ} {most least : ℕ} {text before after : List ℕ} → IsGathered tells gathered most text before after → least ≤ most
+pub lessened : {tells : Bool} {gathered : List ℕ} {most least : ℕ} {text before after : List ℕ} → IsGathered tells gathered most text before after
+    → least ≤ most
     → IsGathered tells gathered least text before after
 lessened h few = record { written = h.written; after_is = h.after_is; text_is = h.text_is; enough = omega (arith, h.enough, few) }
 
@@ -78,7 +80,8 @@ front_further {least} {text} {before} more enough h =
     }
 
 -- where nothing is gathered, all of the text was written
-pub none_gathered : {tells : Bool} {gathered : List ℕ} {least : ℕ} {text before after : List ℕ} → IsGathered tells gathered least text before after → gathered ≡ []
+pub none_gathered : {tells : Bool} {gathered : List ℕ} {least : ℕ} {text before after : List ℕ} → IsGathered tells gathered least text before after
+    → gathered ≡ []
     → IsTrue tells → after ≡ before ++ text
 none_gathered {before} h none told =
     h.after_is told ∙ ap (λ l. before ++ l) (sym (append-nil h.written) ∙ (ap (λ l. h.written ++ l) (sym none) ∙ h.text_is))
@@ -151,7 +154,8 @@ broken_off_at_end lines tells input before after few front = record {
 }
 
 -- before the first byte
-pub nothing_recorded : (tells : Bool) (lines : List ℕ → List ℕ) (reads : List ℕ → Type 0) (count : ℕ) (input before : List ℕ) → reads [] → count ≡ 0 → lines [] ≡ []
+pub nothing_recorded : (tells : Bool) (lines : List ℕ → List ℕ) (reads : List ℕ → Type 0) (count : ℕ) (input before : List ℕ) → reads []
+    → count ≡ 0 → lines [] ≡ []
     → HasRecorded tells lines reads count input input before before
 nothing_recorded tells lines reads count input before none zero no_lines = record {
   bytes = [];
@@ -164,7 +168,8 @@ nothing_recorded tells lines reads count input before none zero no_lines = recor
 -- ## Decodings
 
 -- before the first byte
-pub nothing_decoded : (tells : Bool) (d : Decoding) (before : List ℕ) → DecoderStandsFor d.decoder [] → d.text.items ≡ [] → IsDecoding tells d [] [] before before
+pub nothing_decoded : (tells : Bool) (d : Decoding) (before : List ℕ) → DecoderStandsFor d.decoder [] → d.text.items ≡ []
+    → IsDecoding tells d [] [] before before
 nothing_decoded tells d before stands none =
     record { stands = stands; lines = subst (λ l. IsGathered tells l 0 [] before before) (sym none) (nothing_gathered tells before) }
 

@@ -1,5 +1,5 @@
 //! Commands that read a line record.
-ghost use Rattle.std.specs.Prelude.{◌≡◌, ◌≢◌, ◌≤◌, ◌<◌, ◌+◌, ◌*◌, ◌++◌, [], ◌∷◌, List, ℕ, Bool, length, take, IsTrue, OnOk, OnErr, IfOk, IfErr, Ok, Err, true, false};
+ghost use Rattle.std.specs.Prelude.{◌≡◌, ◌≢◌, ◌≤◌, ◌<◌, ◌+◌, ◌++◌, [], ◌∷◌, List, ℕ, Bool, length, take, IsTrue, OnOk, OnErr, IfOk, IfErr, Ok, Err, false};
 ghost use Rattle.swp_base.specs.Outside.{Rose};
 ghost use Rattle.swp_tool.specs.Records.{most_bytes, piece_of, whole_record, IsFront, IsFrontOfSome, EndedIn, RecordedBy, IsOfRecord};
 

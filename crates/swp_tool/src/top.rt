@@ -1,6 +1,6 @@
 //! The top call.
-ghost use Rattle.std.specs.Prelude.{◌≡◌, ◌≢◌, ◌≤◌, ◌<◌, ◌+◌, ◌++◌, ◌∷◌, ◌↔◌, ◌⊎◌, [], List, ℕ, Bool, length, map, string_bytes, codes, Some, None, IsTrue, OnOk};
-ghost use Rattle.std.specs.Prelude.{OnErr, IfErr, Ok, Err, take, true, false};
+ghost use Rattle.std.specs.Prelude.{◌≡◌, ◌≢◌, ◌≤◌, ◌<◌, ◌+◌, ◌++◌, ◌∷◌, ◌↔◌, ◌⊎◌, [], List, ℕ, Bool, length, map, string_bytes, codes, Some, None};
+ghost use Rattle.std.specs.Prelude.{IsTrue, OnOk, OnErr, IfErr, Ok, Err, take, true, false};
 ghost use Rattle.swp_base.specs.Outside.{Rose};
 ghost use Rattle.swp_tool.specs.Schedules.{Stop, schedule_of};
 ghost use Rattle.swp_tool.specs.Runs.{status_of, status_at, AppendsText, Replayed, IsUnderWay, IsReplay, IsDecode, IsTap, IsTables, AskForSomething};
