@@ -78,7 +78,7 @@ first_hosts (suc i) f [] same = refl
 first_hosts zero f (p ∷ ports) same = refl
 first_hosts (suc i) f (p ∷ ports) same = ap₂ (λ (n : ℕ) ns. n ∷ ns) (same p) (first_hosts i f ports same)
 
-next_told : (t : Port → List Entry) (i : ℕ) (ports : List Port) (p : Port) → slice_get ports i ≡ Some p
+pub next_told : (t : Port → List Entry) (i : ℕ) (ports : List Port) (p : Port) → slice_get ports i ≡ Some p
     → flat_map t (take (suc i) ports) ≡ flat_map t (take i ports) ++ t p
 next_told t i [] p is = cc
 next_told t zero (q ∷ ports) p is =
@@ -89,7 +89,7 @@ next_told t (suc i) (q ∷ ports) p is =
     ∙ (ap (λ l. t q ++ l) (next_told t i ports p is)
     ∙ (sym (append_assoc (t q) (flat_map t (take i ports)) (t p)) ∙ ap (λ l. l ++ t p) (sym (flat_map-cons t q (take i ports)))))
 
-all_told : (t : Port → List Entry) (i : ℕ) (ports : List Port) → length ports ≤ i → flat_map t (take i ports) ≡ flat_map t ports
+pub all_told : (t : Port → List Entry) (i : ℕ) (ports : List Port) → length ports ≤ i → flat_map t (take i ports) ≡ flat_map t ports
 all_told t zero [] past = refl
 all_told t (suc i) [] past = refl
 all_told t zero (p ∷ ports) past = absurd (omega (arith, past))
