@@ -1,7 +1,7 @@
 -- Notices grow older at all ends of a node, and links of late ones are reset.
 use Rattle.std.proofs.Common.{◌≡◌, ℕ, zero, suc, ◌-◌, ◌≤◌, Bool, true, false, List, [], ◌∷◌, ◌++◌, map, take, length, refl, sym, ap, ap₂, ◌∙◌, subst, arith}
 use Rattle.std.proofs.Common.{append_assoc, append-nil}
-use Rattle.std.specs.Prelude.{Option, Some, None, slice_get, nat_lt, if◌then◌else◌}
+use Rattle.std.specs.Prelude.{Option, Some, None, slice_get}
 use Rattle.std.specs.List.{flat_map}
 use Rattle.std.specs.Option.{option_map_or}
 use Rattle.trace_model.specs.declared.entry.Entry.{Entry}
@@ -11,14 +11,14 @@ use Rattle.link_entries.specs.entries.Entries.{End as Side, told}
 use Rattle.history.specs.Steps.{entries_for}
 use Rattle.swp_base.specs.declared.link_terms.Cause.TheVariants.{Asked}
 use Rattle.link_end.specs.declared.report.LinkReport.{LinkReport}
-use Rattle.link_end.specs.Reports.{report_told, reset_told, nothing_told}
+use Rattle.link_end.specs.Reports.{report_told, nothing_told}
 use Rattle.node_machine.specs.Parts.{Core, Port, Work}
 use Rattle.node_machine.specs.Carrying.{own_side, port_at, noting}
 use Rattle.node_machine.specs.Node.{with_older, is_late, reset_late, told_late}
-use Rattle.node_ends.specs.Holding.{IsReached, where_done, kept_number}
+use Rattle.node_ends.specs.Holding.{IsReached, kept_number}
 use Rattle.node_ends.specs.declared.ends.Ends.{Ends}
 use Rattle.node_ends.specs.Desks.{IsYoung}
-use Rattle.node_ends.specs.Ends.{EndsStandFor, SeatsStandFor, FewAreDue, at_place, late_told}
+use Rattle.node_ends.specs.Ends.{EndsStandFor, SeatsStandFor, at_place, late_told}
 use Rattle.node_ends.specs.declared.seat.Seat.{Seat}
 use Rattle.block_pool.specs.Pool.{PoolState}
 use Rattle.node_ends.proofs.Counting.{is_sound, reset_report}

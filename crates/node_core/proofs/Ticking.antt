@@ -1,5 +1,5 @@
 -- Something comes to all ends of a node, one after another.
-use Rattle.std.proofs.Common.{◌≡◌, ◌≢◌, ℕ, zero, suc, ◌≤◌, ◌<◌, Bool, true, false, List, [], ◌∷◌, ◌++◌, map, take, drop, length, refl, sym, ap, ap₂, ◌∙◌, subst, arith}
+use Rattle.std.proofs.Common.{◌≡◌, ◌≢◌, ℕ, zero, suc, ◌≤◌, Bool, true, false, List, [], ◌∷◌, ◌++◌, map, take, length, refl, sym, ap, ap₂, ◌∙◌, subst, arith}
 use Rattle.std.proofs.Common.{append_assoc, append-nil}
 use Rattle.std.specs.Prelude.{Option, Some, None, option_map, ◌==◌, slice_get}
 use Rattle.std.specs.List.{AllByRecursion, flat_map}
@@ -8,8 +8,8 @@ use Rattle.std.proofs.lemmas.Bool.{eqb-true, eq-eqb}
 use Rattle.std.proofs.lemmas.List.Concat.{flat_map-cons}
 use Rattle.trace_model.specs.declared.entry.Entry.{Entry}
 use Rattle.link_machine.specs.Machine.LinkInput.{Tick}
-use Rattle.node_machine.specs.Parts.{Core, Port, Work}
-use Rattle.node_machine.specs.Carrying.{port_at, changed_if, with_port, noting}
+use Rattle.node_machine.specs.Parts.{Port, Work}
+use Rattle.node_machine.specs.Carrying.{port_at, with_port, noting}
 use Rattle.node_machine.specs.Node.{has_come, told_at, all_come}
 use Rattle.node_machine.specs.Node.NodeInput.{AtEnd, TimePasses}
 use Rattle.node_ends.specs.declared.ends.Ends.{Ends}

@@ -1,5 +1,5 @@
-use Rattle.std.proofs.Common.{◌≡◌, ℕ, ◌+◌, List, refl, sym, ap, ◌∙◌, subst, add-one, arith}
-use Rattle.node_machine.specs.Parts.{Port, Work}
+use Rattle.std.proofs.Common.{ℕ, ◌+◌, List, refl, sym, subst, add-one, arith}
+use Rattle.node_machine.specs.Parts.{Port}
 use Rattle.node_machine.specs.Node.{with_older}
 use Rattle.node_ends.specs.Ends.{EndsStandFor}
 use Rattle.node_ends.proofs.Seated.{first_changed, none_changed, next_changed, all_changed}
