@@ -1,5 +1,6 @@
 -- What comes to an end of a node, and what is noted of it.
-use Rattle.std.proofs.Common.{◌≡◌, ◌≢◌, ℕ, ◌≤◌, Bool, true, false, List, [], ◌∷◌, ◌++◌, map, length, refl, sym, ap, ap₂, ◌∙◌, subst, arith, length-append, append-nil}
+use Rattle.std.proofs.Common.{◌≡◌, ◌≢◌, ℕ, ◌≤◌, Bool, true, false, List, [], ◌∷◌, ◌++◌, map, length, refl, sym, ap, ap₂, ◌∙◌, subst, arith}
+use Rattle.std.proofs.Common.{length-append, append-nil}
 use Rattle.std.specs.Prelude.{Option, Some, None, Result, Ok, Err, option_map, is_some, if◌then◌else◌, ◌==◌, IfSome}
 use Rattle.std.specs.List.{AllByRecursion, flat_map}
 use Rattle.std.specs.Option.{option_map_or}
@@ -10,12 +11,12 @@ use Rattle.swp_lpdu.specs.declared.LpduFault.{LpduFault}
 use Rattle.swp_lpdu.specs.Controls.{control_of}
 use Rattle.block_pool.specs.Pool.{PoolState}
 use Rattle.trace_model.specs.declared.entry.Entry.{Entry}
-use Rattle.link_machine.specs.Machine.{LinkEnd as Machine, Message, LinkInput, Report, oldest, report, after_input, got_by, whole_acked, lpdu_input}
+use Rattle.link_machine.specs.Machine.{LinkEnd as Machine, Message, LinkInput, oldest, report, after_input, got_by, whole_acked, lpdu_input}
 use Rattle.link_end.specs.declared.report.LinkReport.{LinkReport}
 use Rattle.link_end.specs.Reports.{report_told}
 use Rattle.node_machine.specs.Parts.{Core, Port, Work}
 use Rattle.node_machine.specs.Carrying.{port_at, changed_if, with_port, noting}
-use Rattle.node_machine.specs.Node.{NodeInput, has_come, told_at, input_at, all_come}
+use Rattle.node_machine.specs.Node.{has_come, told_at, input_at, all_come}
 use Rattle.node_machine.specs.Node.NodeInput.{AtEnd}
 use Rattle.node_ends.specs.declared.ends.Ends.{Ends}
 use Rattle.node_ends.specs.declared.seat.Seat.{Seat}

@@ -14,3 +14,4 @@ mod Elsewhere
 pub mod Notes
 mod Arriving
 mod Ticking
+mod Lateness

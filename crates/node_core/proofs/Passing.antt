@@ -82,7 +82,8 @@ next_few k h is =
 
 -- the ends after turns that went through
 after_turns : {N : Type 0} {writes : N → ℕ → List ℕ → Bool → N → Type 0} {old new : N} {S : Work → Type 0} {w : Work} (h : ℕ) (ms : List Message)
-    (b : Brings writes old new S (have_turns h ms) w) → b.after.cut ≡ false → have_turns h ms (record w { plan = None }) ≡ record b.after { plan = plan_left b.after.cut b.sure None }
+    (b : Brings writes old new S (have_turns h ms) w) → b.after.cut ≡ false → have_turns h ms (record w { plan = None })
+    ≡ record b.after { plan = plan_left b.after.cut b.sure None }
 after_turns h ms b live =
     let F : Bool → Type 0 = λ t. Foretells None b.sure b.torn t in
     b.is None (subst F (sym live) refl)

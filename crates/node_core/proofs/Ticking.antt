@@ -1,5 +1,5 @@
 -- Something comes to all ends of a node, one after another.
-use Rattle.std.proofs.Common.{◌≡◌, ◌≢◌, ℕ, zero, suc, ◌≤◌, ◌<◌, Bool, true, false, List, [], ◌∷◌, ◌++◌, map, take, drop, length, refl, sym, ap, ap₂, ◌∙◌, subst, arith}
+use Rattle.std.proofs.Common.{◌≡◌, ◌≢◌, ℕ, zero, suc, ◌≤◌, Bool, true, false, List, [], ◌∷◌, ◌++◌, map, take, length, refl, sym, ap, ap₂, ◌∙◌, subst, arith}
 use Rattle.std.proofs.Common.{append_assoc, append-nil}
 use Rattle.std.specs.Prelude.{Option, Some, None, option_map, ◌==◌, slice_get}
 use Rattle.std.specs.List.{AllByRecursion, flat_map}
@@ -8,8 +8,8 @@ use Rattle.std.proofs.lemmas.Bool.{eqb-true, eq-eqb}
 use Rattle.std.proofs.lemmas.List.Concat.{flat_map-cons}
 use Rattle.trace_model.specs.declared.entry.Entry.{Entry}
 use Rattle.link_machine.specs.Machine.LinkInput.{Tick}
-use Rattle.node_machine.specs.Parts.{Core, Port, Work}
-use Rattle.node_machine.specs.Carrying.{port_at, changed_if, with_port, noting}
+use Rattle.node_machine.specs.Parts.{Port, Work}
+use Rattle.node_machine.specs.Carrying.{port_at, with_port, noting}
 use Rattle.node_machine.specs.Node.{has_come, told_at, all_come}
 use Rattle.node_machine.specs.Node.NodeInput.{AtEnd, TimePasses}
 use Rattle.node_ends.specs.declared.ends.Ends.{Ends}
@@ -78,7 +78,7 @@ first_hosts (suc i) f [] same = refl
 first_hosts zero f (p ∷ ports) same = refl
 first_hosts (suc i) f (p ∷ ports) same = ap₂ (λ (n : ℕ) ns. n ∷ ns) (same p) (first_hosts i f ports same)
 
-next_told : (t : Port → List Entry) (i : ℕ) (ports : List Port) (p : Port) → slice_get ports i ≡ Some p
+pub next_told : (t : Port → List Entry) (i : ℕ) (ports : List Port) (p : Port) → slice_get ports i ≡ Some p
     → flat_map t (take (suc i) ports) ≡ flat_map t (take i ports) ++ t p
 next_told t i [] p is = cc
 next_told t zero (q ∷ ports) p is =
@@ -89,7 +89,7 @@ next_told t (suc i) (q ∷ ports) p is =
     ∙ (ap (λ l. t q ++ l) (next_told t i ports p is)
     ∙ (sym (append_assoc (t q) (flat_map t (take i ports)) (t p)) ∙ ap (λ l. l ++ t p) (sym (flat_map-cons t q (take i ports)))))
 
-all_told : (t : Port → List Entry) (i : ℕ) (ports : List Port) → length ports ≤ i → flat_map t (take i ports) ≡ flat_map t ports
+pub all_told : (t : Port → List Entry) (i : ℕ) (ports : List Port) → length ports ≤ i → flat_map t (take i ports) ≡ flat_map t ports
 all_told t zero [] past = refl
 all_told t (suc i) [] past = refl
 all_told t zero (p ∷ ports) past = absurd (omega (arith, past))

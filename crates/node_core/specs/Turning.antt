@@ -9,6 +9,7 @@ use Rattle.node_deeds.specs.declared.deeds.Deed.{Deed}
 use Rattle.node_deeds.specs.declared.room.Shortfall.{Shortfall}
 use Rattle.node_deeds.specs.Room.{lack_shown}
 use Rattle.node_ends.specs.Ends.{FewAreDue, held_at}
+use Rattle.node_ends.specs.Desks.{IsYoung}
 use Rattle.node_core.specs.Deeds.{deed_of, AreDoableInTurn}
 use Rattle.node_core.specs.Handling.{has_turn}
 
@@ -24,3 +25,7 @@ pub record IsDecided (h : ℕ) (m : Message) (deeds : List Deed) (short : Option
 -- at most six control frames wait to be sent at each end
 abbrev pub AreFewDue : List Port → Type 0
 AreFewDue ports = AllByRecursion (λ (p : Port). FewAreDue (Some p)) ports
+
+-- the notice at each end has fewer than 255 ticks
+abbrev pub AreYoung : List Port → Type 0
+AreYoung ports = AllByRecursion (λ (p : Port). IsYoung (Some p)) ports

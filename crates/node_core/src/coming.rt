@@ -54,7 +54,13 @@ impl<N: Nv + Drop> Node<N> {
     }
 
     // What an input at the end of the link with this host did is noted, with the message that it brought. The buffer has 4,096 bytes.
-    fn note_input<W: Watch>(&self, host: u8, report: &LinkReport, buffer: &mut [u8], watch: &mut W)
+    pub(crate) fn note_input<W: Watch>(
+        &self,
+        host: u8,
+        report: &LinkReport,
+        buffer: &mut [u8],
+        watch: &mut W,
+    )
         requires runs { IsSoundNode self.now }
         requires buffer { length buffer.old ≡ 4096 }
         ensures { (ports : List Port) (core : Core) (x : Report) (n acked : ℕ) → EndsStandFor self.now.ends ports → core.node ≡ self.now.number

@@ -8,6 +8,7 @@ mod node;
 mod noting;
 mod reporting;
 mod seeing;
+mod timeouts;
 mod turns;
 
 pub use node::Node;

@@ -1,5 +1,5 @@
 -- How many blocks are set aside at an end, from input to input: only what its node does to it changes that.
-use Rattle.std.proofs.Common.{◌≡◌, ℕ, Bool, true, false, cond, List, [], ◌∷◌, refl, ap, ◌∙◌}
+use Rattle.std.proofs.Common.{◌≡◌, ℕ, Bool, true, false, cond, List, [], ◌∷◌, refl, ◌∙◌}
 use Rattle.std.specs.Prelude.{Option, Some, None, Result, Ok, Err, is_some, ◌==◌}
 use Rattle.shdlc_core.specs.declared.answers.LinkState.{LinkState}
 use Rattle.shdlc_core.specs.declared.answers.LinkState.TheVariants.{Down, Waiting, Up}
@@ -13,7 +13,7 @@ use Rattle.swp_lpdu.specs.declared.LpduFault.{LpduFault}
 use Rattle.swp_act.specs.declared.ActEvent.{ActEvent}
 use Rattle.swp_act.specs.declared.ActEvent.TheVariants.{Start as ActStart, Take as ActTake, Tick as ActTick, Stop as ActStop}
 use Rattle.link_machine.specs.Machine.{LinkEnd as Machine, Message, ActDue, Refused, is_open, is_faulty, moved, put_down, with_act, activated, act_answer}
-use Rattle.link_machine.specs.Machine.{role_after, started, deactivated, heard, took, had_tick, after_input, lpdu_input, reset_refusal, reset_by, window_of}
+use Rattle.link_machine.specs.Machine.{role_after, heard, took, after_input, lpdu_input, reset_refusal, window_of}
 use Rattle.link_machine.specs.Machine.{if_up, turn, give_refusal, frame_fetched}
 use Rattle.link_machine.specs.Machine.LinkInput.{Tick, Reset, Start, Stop}
 use Rattle.link_machine.specs.Machine.Turn.{Give}

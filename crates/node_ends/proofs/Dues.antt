@@ -1,5 +1,5 @@
 -- How many control frames wait to be sent at an end: an input makes at most one more.
-use Rattle.std.proofs.Common.{◌≡◌, ℕ, ◌+◌, ◌≤◌, Bool, true, false, cond, List, [], ◌∷◌, ◌++◌, length, refl, ap, subst, arith, length-append}
+use Rattle.std.proofs.Common.{◌≡◌, ℕ, ◌+◌, ◌≤◌, Bool, true, false, cond, List, [], ◌∷◌, ◌++◌, length, refl, ap, arith, length-append}
 use Rattle.std.specs.Prelude.{Option, Some, None, Result, Ok, Err, map, is_some, ◌==◌, nat_lt}
 use Rattle.std.proofs.lemmas.List.{length-map}
 use Rattle.shdlc_core.specs.declared.answers.Due.{Due}
@@ -7,7 +7,7 @@ use Rattle.shdlc_core.specs.declared.answers.Due.TheVariants.{Rr as Rr_due, Rej 
 use Rattle.shdlc_core.specs.declared.answers.LinkState.{LinkState}
 use Rattle.shdlc_core.specs.declared.answers.LinkState.TheVariants.{Down, Waiting, Up}
 use Rattle.shdlc_core.specs.Machine.{EndState, Fragment, taken, take_answer, ticked, tick_answer, stopped, reset_with, received, ahead, acknowledged, place_of}
-use Rattle.shdlc_core.specs.Machine.{runs_timer, is_waiting}
+use Rattle.shdlc_core.specs.Machine.{runs_timer}
 use Rattle.swp_base.specs.declared.control_frames.Kind.{Kind}
 use Rattle.swp_base.specs.declared.control_frames.Kind.TheVariants.{Rr, Rej, Rnr, Srej}
 use Rattle.swp_base.specs.declared.control_frames.Control.{Control}
@@ -19,7 +19,7 @@ use Rattle.swp_lpdu.specs.declared.LpduFault.{LpduFault}
 use Rattle.swp_act.specs.declared.ActEvent.{ActEvent}
 use Rattle.swp_act.specs.declared.ActEvent.TheVariants.{Start as ActStart, Take as ActTake, Tick as ActTick, Stop as ActStop}
 use Rattle.link_machine.specs.Machine.{LinkEnd as Machine, ActDue, Refused, is_open, is_faulty, moved, put_down, with_act, activated, act_answer, in_front}
-use Rattle.link_machine.specs.Machine.{role_after, started, deactivated, heard, took, had_tick, after_input, lpdu_input, reset_refusal, reset_by, window_of}
+use Rattle.link_machine.specs.Machine.{role_after, heard, took, after_input, lpdu_input, reset_refusal, window_of}
 use Rattle.link_machine.specs.Machine.{if_up}
 use Rattle.link_machine.specs.Machine.LinkInput.{Tick, Reset, Start, Stop}
 

@@ -1,5 +1,5 @@
 -- What a node looks at of its ends before it decides is what is kept of them.
-use Rattle.std.proofs.Common.{◌≡◌, ◌≢◌, ℕ, zero, suc, ◌+◌, ◌*◌, ◌/◌, ◌%◌, ◌≤◌, ◌<◌, Bool, true, false, cond, eqb, List, [], ◌∷◌, ◌++◌, map, length, take, get_or, refl, sym, ap, ap₂, ◌∙◌, subst, arith}
+use Rattle.std.proofs.Common.{◌≡◌, ◌≢◌, ℕ, zero, suc, ◌+◌, ◌*◌, ◌/◌, ◌%◌, ◌≤◌, Bool, true, false, cond, eqb, List, [], ◌∷◌, map, refl, sym, ap, ap₂, ◌∙◌, arith}
 use Rattle.std.specs.Prelude.{Option, Some, ◌==◌}
 use Rattle.std.specs.List.{AllByRecursion}
 use Rattle.std.specs.Option.{option_map_or}
@@ -13,7 +13,7 @@ use Rattle.node_machine.specs.Carrying.{port_at}
 use Rattle.node_machine.specs.Controller.{has_link}
 use Rattle.node_deeds.specs.declared.desks.Desk.{Desk}
 use Rattle.node_deeds.specs.Shown.{desk_shown, seen_at, ports_shown, AreSeen}
-use Rattle.node_deeds.specs.Cores.{IsSoundDesk, AreSoundDesks}
+use Rattle.node_deeds.specs.Cores.{AreSoundDesks}
 use Rattle.node_ends.specs.declared.seat.Seat.{Seat}
 use Rattle.node_ends.specs.Ends.{SeatsStandFor, HaveOwnHosts, AreEnds, AreOfHosts}
 use Rattle.node_ends.proofs.Changing.{host_is}

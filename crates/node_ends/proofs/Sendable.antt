@@ -1,21 +1,22 @@
 -- The messages that came to an end may be sent: they aren't empty, and they came on pipes that aren't reserved.
-use Rattle.std.proofs.Common.{◌≡◌, ℕ, suc, zero, ◌<◌, Bool, true, false, cond, ◌&&◌, List, [], ◌∷◌, ◌++◌, drop, length, refl, sym, ap, ◌∙◌, subst, arith}
-use Rattle.std.specs.Prelude.{Option, Some, None, Result, Ok, Err, is_some, ◌==◌, nat_lt, nat_le, not, ◌%◌}
-use Rattle.std.specs.List.{AllByRecursion, filter, filter_map, cons_option}
+use Rattle.std.proofs.Common.{◌≡◌, ℕ, suc, zero, ◌<◌, Bool, true, false, cond, List, [], ◌∷◌, ◌++◌, drop, length, refl, sym, subst, arith}
+use Rattle.std.specs.Prelude.{Option, Some, None, is_some, ◌==◌, nat_lt, ◌%◌}
+use Rattle.std.specs.List.{AllByRecursion}
 use Rattle.std.proofs.lemmas.Bool.{ltb-true, true≢false}
 use Rattle.hcp_packet.specs.declared.Packet.{Packet}
-use Rattle.hcp_packet.specs.Packets.{IsSendable, AreSendable, packet, packet_of, packets_in, is_good, good_of}
+use Rattle.hcp_packet.specs.Packets.{IsSendable, AreSendable, packets_in, is_good, good_of}
 use Rattle.hcp_chain.specs.Joining.{is_fifth, grown, join_step, message_in, given_by}
 use Rattle.shdlc_core.specs.declared.answers.LinkState.{LinkState}
 use Rattle.shdlc_core.specs.declared.answers.LinkState.TheVariants.{Down, Waiting, Up}
-use Rattle.shdlc_core.specs.Machine.{EndState, Session, taken, take_answer, ticked, tick_answer, stopped, reset_with}
+use Rattle.shdlc_core.specs.Machine.{EndState, Session, taken, ticked, tick_answer, stopped, reset_with}
 use Rattle.swp_base.specs.declared.control_frames.Control.{Control}
 use Rattle.swp_base.specs.declared.control_frames.Control.TheVariants.{I, S, Rset, Ua, Act as ActFrame, Clt}
 use Rattle.swp_base.specs.declared.control_frames.Act.{Act}
 use Rattle.swp_base.specs.declared.link_terms.Cause.TheVariants.{Asked}
 use Rattle.swp_act.specs.declared.ActEvent.{ActEvent}
 use Rattle.swp_act.specs.declared.ActEvent.TheVariants.{Start as ActStart, Take as ActTake, Tick as ActTick, Stop as ActStop}
-use Rattle.link_machine.specs.Machine.{LinkEnd as Machine, LinkInput, Message, Refused, Turn, is_open, is_faulty, moved, put_down, with_act, activated, act_answer}
+use Rattle.link_machine.specs.Machine.{LinkEnd as Machine, LinkInput, Message, Refused, Turn, is_open, is_faulty, moved, put_down, with_act}
+use Rattle.link_machine.specs.Machine.{activated, act_answer}
 use Rattle.link_machine.specs.Machine.{role_after, heard, took, after_input, after_inputs, reset_refusal, window_of, news, new_link_end, Role}
 use Rattle.link_machine.specs.Machine.{ActDue, if_up, turn, give_refusal, aside_refusal, frame_fetched}
 use Rattle.link_machine.specs.Machine.Role.{Bare, Clf, Uicc}

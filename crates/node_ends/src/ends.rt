@@ -67,7 +67,8 @@ impl Ends {
     ghost use Rattle.link_machine.specs.Machine.{spare};
     ghost use Rattle.node_machine.specs.Controller.{has_link};
     ghost use Rattle.node_machine.specs.Carrying.{port_at, with_port, after_turn};
-    ghost use Rattle.node_ends.specs.Ends.{EndsStandFor, FewAreDue, IsHeldWhileOneWaits, MayStartAt, held_at, takes_at, at_place, late_told, has_sent, frame_at};
+    ghost use Rattle.node_ends.specs.Ends.{EndsStandFor, FewAreDue, IsHeldWhileOneWaits, MayStartAt, held_at, takes_at, at_place, late_told};
+    ghost use Rattle.node_ends.specs.Ends.{has_sent, frame_at};
 
     /// New ends of the links with these hosts, at most seven, in a pool with 128 blocks of each end for what it sends, and 512 for what
     /// comes there.

@@ -1,13 +1,12 @@
-use Rattle.std.proofs.Common.{◌≡◌, ℕ, List, [], map, refl, sym, ap, ◌∙◌, subst}
-use Rattle.std.specs.Prelude.{Option, Some, None, option_map, if◌then◌else◌}
-use Rattle.trace_model.specs.declared.entry.Entry.{Entry}
+use Rattle.std.proofs.Common.{◌≡◌, ℕ, [], map, refl, sym, ◌∙◌, subst}
+use Rattle.std.specs.Prelude.{Some, if◌then◌else◌}
 use Rattle.link_machine.specs.Machine.{report, after_input, whole_acked}
 use Rattle.link_machine.specs.Machine.LinkInput.{Stop}
 use Rattle.link_end.specs.declared.report.LinkReport.{LinkReport}
 use Rattle.link_end.specs.Reports.{report_told}
 use Rattle.link_entries.specs.entries.Entries.{told}
 use Rattle.history.specs.Steps.{entries_for}
-use Rattle.node_machine.specs.Parts.{Port, Work}
+use Rattle.node_machine.specs.Parts.{Port}
 use Rattle.node_machine.specs.Carrying.{own_side, port_at, with_port}
 use Rattle.node_machine.specs.Node.{has_come}
 use Rattle.node_ends.specs.Ends.{got_at}

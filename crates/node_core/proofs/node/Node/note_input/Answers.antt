@@ -1,13 +1,12 @@
-use Rattle.std.proofs.Common.{ℕ, List, map, sym, ap, ◌∙◌, subst}
-use Rattle.trace_model.specs.declared.entry.Entry.{Entry}
-use Rattle.link_machine.specs.Machine.{Message, Report}
+use Rattle.std.proofs.Common.{ℕ, List, map, sym, ap, ◌∙◌}
+use Rattle.link_machine.specs.Machine.{Message}
 use Rattle.link_entries.specs.entries.Entries.{told}
 use Rattle.link_entries.specs.entries.Entries.Entry.{Got}
 use Rattle.link_end.specs.declared.report.LinkReport.{LinkReport}
 use Rattle.link_end.specs.Reports.{report_told}
 use Rattle.history.specs.Steps.{entries_for}
 use Rattle.node_machine.specs.Carrying.{own_side}
-use Rattle.node_core.specs.Noting.{AreNotes, without_message}
+use Rattle.node_core.specs.Noting.{without_message}
 use Rattle.node_core.proofs.Notes.{notes_then, notes_are, told_plain}
 use Rattle.node_core.proofs.node.Node.note_input.Goals as goal
 

@@ -1,12 +1,11 @@
-use Rattle.std.proofs.Common.{◌≡◌, ℕ, List, [], map, refl, sym, ap, ◌∙◌, subst}
-use Rattle.std.specs.Prelude.{Option, Some, None, option_map, if◌then◌else◌}
-use Rattle.trace_model.specs.declared.entry.Entry.{Entry}
+use Rattle.std.proofs.Common.{◌≡◌, ℕ, [], map, sym, ◌∙◌, subst}
+use Rattle.std.specs.Prelude.{Some, if◌then◌else◌}
 use Rattle.link_machine.specs.Machine.{report, after_input, whole_acked, lpdu_input}
 use Rattle.link_end.specs.declared.report.LinkReport.{LinkReport}
 use Rattle.link_end.specs.Reports.{report_told}
 use Rattle.link_entries.specs.entries.Entries.{told}
 use Rattle.history.specs.Steps.{entries_for}
-use Rattle.node_machine.specs.Parts.{Port, Work}
+use Rattle.node_machine.specs.Parts.{Port}
 use Rattle.node_machine.specs.Carrying.{own_side, port_at, with_port}
 use Rattle.node_machine.specs.Node.{has_come}
 use Rattle.node_ends.specs.Ends.{got_at}
@@ -41,7 +40,8 @@ returns-clause-carried g c start w lpdu u is =
     (λ p at told_is.
     let P : ℕ → Type 0 = λ n. AreNotes (g.W.Watch.is_short c.args.watch.now) (g.W.Watch.is_short c.note_input.new.watch)
     (g.W.Watch.noted c.args.watch.now) (g.W.Watch.noted c.note_input.new.watch)
-    (map unnumbered (entries_for n (told (own_side w.core) p.session (report p.side (lpdu_input lpdu)) (whole_acked (after_input p.side (lpdu_input lpdu)))))) in
+    (map unnumbered (entries_for n
+    (told (own_side w.core) p.session (report p.side (lpdu_input lpdu)) (whole_acked (after_input p.side (lpdu_input lpdu)))))) in
     let G : LinkReport → Type 0 = λ r. (report p.side (lpdu_input lpdu)).got
     ≡ (if r.got then got_at (with_port h (λ q. has_come q (Some (lpdu_input lpdu))) w.ports) h else []) in
     subst P (sym (host_at h w.ports p at))

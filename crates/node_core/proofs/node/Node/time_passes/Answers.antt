@@ -1,4 +1,4 @@
-use Rattle.std.proofs.Common.{◌≡◌, ℕ, suc, List, refl, sym, ap, ◌∙◌, subst, add-one, arith}
+use Rattle.std.proofs.Common.{◌≡◌, ℕ, suc, refl, sym, ◌∙◌, subst, add-one, arith}
 use Rattle.std.specs.Prelude.{Option, Some, None, slice_get}
 use Rattle.node_machine.specs.Parts.{Port, Work}
 use Rattle.node_ends.specs.Ends.{FewAreDue}

@@ -1,4 +1,4 @@
-use Rattle.std.proofs.Common.{refl, ◌≡◌, ap, ◌∙◌}
+use Rattle.std.proofs.Common.{refl, ◌∙◌}
 use Rattle.node_machine.specs.Controller.{has_link}
 use Rattle.node_ends.proofs.Gathering.{bits, bit_is, has_bit}
 use Rattle.node_ends.proofs.ends.Ends.up.Goals as goal

@@ -1,0 +1,160 @@
+-- Notices grow older at all ends of a node, and links of late ones are reset.
+use Rattle.std.proofs.Common.{◌≡◌, ℕ, zero, suc, ◌-◌, ◌≤◌, Bool, true, false, List, [], ◌∷◌, ◌++◌, map, take, length, refl, sym, ap, ap₂, ◌∙◌, subst, arith}
+use Rattle.std.proofs.Common.{append_assoc, append-nil}
+use Rattle.std.specs.Prelude.{Option, Some, None, slice_get}
+use Rattle.std.specs.List.{flat_map}
+use Rattle.std.specs.Option.{option_map_or}
+use Rattle.trace_model.specs.declared.entry.Entry.{Entry}
+use Rattle.link_machine.specs.Machine.{LinkEnd as Machine, Refused, report, after_input, whole_acked, reset_refusal, if_up}
+use Rattle.link_machine.specs.Machine.LinkInput.{Reset}
+use Rattle.link_entries.specs.entries.Entries.{End as Side, told}
+use Rattle.history.specs.Steps.{entries_for}
+use Rattle.swp_base.specs.declared.link_terms.Cause.TheVariants.{Asked}
+use Rattle.link_end.specs.declared.report.LinkReport.{LinkReport}
+use Rattle.link_end.specs.Reports.{report_told, nothing_told}
+use Rattle.node_machine.specs.Parts.{Core, Port, Work}
+use Rattle.node_machine.specs.Carrying.{own_side, port_at, noting}
+use Rattle.node_machine.specs.Node.{with_older, is_late, reset_late, told_late}
+use Rattle.node_ends.specs.Holding.{IsReached, kept_number}
+use Rattle.node_ends.specs.declared.ends.Ends.{Ends}
+use Rattle.node_ends.specs.Desks.{IsYoung}
+use Rattle.node_ends.specs.Ends.{EndsStandFor, SeatsStandFor, at_place, late_told}
+use Rattle.node_ends.specs.declared.seat.Seat.{Seat}
+use Rattle.block_pool.specs.Pool.{PoolState}
+use Rattle.node_ends.proofs.Counting.{is_sound, reset_report}
+use Rattle.node_ends.proofs.Seated.{first_changed, none_changed, next_changed, next_there, all_changed}
+use Rattle.node_core.proofs.Elsewhere.{hosts_differ}
+use Rattle.node_core.specs.declared.node.Node.{Node}
+use Rattle.node_core.specs.Nodes.{IsInStep}
+use Rattle.node_core.specs.Turning.{AreFewDue, AreYoung}
+use Rattle.node_core.proofs.Ticking.{next_told, all_told, found_there}
+
+-- the ends of a node in a step have changed
+pub ends_changed : {N : Type 0} {n : Node N} {ends : Ends} {noted start : List Entry} {short : Bool} {w : Work} (ports : List Port)
+    → IsInStep n noted short start w → EndsStandFor ends ports → IsInStep (record n { ends = ends }) noted short start (record w { ports = ports })
+ends_changed ports u stands = record {
+  node = u.node;
+  core = λ live. (let k = u.core live in record { journal = k.journal; tables = k.tables });
+  ends = stands;
+  noted_are = u.noted_are;
+  power = u.power;
+}
+
+-- ## Older notices
+
+pub young_there : (i : ℕ) (ports : List Port) → AreYoung ports → IsYoung (slice_get ports i)
+young_there i [] young = omega arith
+young_there zero (p ∷ ports) young = young.0
+young_there (suc i) (p ∷ ports) young = young_there i ports young.1
+
+pub young_next : (i : ℕ) (ports : List Port) → AreYoung ports → IsYoung (slice_get (first_changed i with_older ports) i)
+young_next i ports young =
+    let P : Option Port → Type 0 = λ o. IsYoung o in subst P (sym (next_there i with_older ports)) (young_there i ports young)
+
+pub few_older : (ports : List Port) → AreFewDue ports → AreFewDue (map with_older ports)
+few_older [] few = tt
+few_older (p ∷ ports) few = (few.0, few_older ports few.1)
+
+-- ## Late notices
+
+-- those at the first places are reset
+abbrev pub late_so_far : ℕ → Work → Work
+late_so_far i w = noting (flat_map (told_late w.core) (take i w.ports)) (record w { ports = first_changed i reset_late w.ports })
+
+pub no_reset_yet : (w : Work) → late_so_far 0 w ≡ w
+no_reset_yet w =
+    ap₂ (λ (es : List Entry) (ports : List Port). record w { ports = ports; entries = es }) (append-nil w.entries) (none_changed reset_late w.ports)
+
+pub next_reset : (i : ℕ) (w : Work) (p : Port) → slice_get w.ports i ≡ Some p
+    → noting (told_late w.core p) (record (late_so_far i w) { ports = at_place i reset_late (late_so_far i w).ports }) ≡ late_so_far (suc i) w
+next_reset i w p is =
+    let es : List Entry = flat_map (told_late w.core) (take i w.ports) in
+    ap₂ (λ (l : List Entry) (ports : List Port). record w { ports = ports; entries = l })
+    (append_assoc w.entries es (told_late w.core p) ∙ ap (λ l. w.entries ++ l) (sym (next_told (told_late w.core) i w.ports p is)))
+    (next_changed i reset_late w.ports)
+
+pub all_reset : (i : ℕ) (w : Work) → length w.ports ≤ i
+    → late_so_far i w ≡ noting (flat_map (told_late w.core) w.ports) (record w { ports = map reset_late w.ports })
+all_reset i w past =
+    ap₂ (λ (es : List Entry) (ports : List Port). noting es (record w { ports = ports })) (all_told (told_late w.core) i w.ports past)
+    (all_changed i reset_late w.ports past)
+
+pub reset_past : (i : ℕ) (w : Work) → length w.ports ≤ i → late_so_far i w ≡ late_so_far (suc i) w
+reset_past i w past = all_reset i w past ∙ sym (all_reset (suc i) w (omega (arith, past)))
+
+pub reset_there : (i : ℕ) (w : Work) → slice_get (late_so_far i w).ports i ≡ slice_get w.ports i
+reset_there i w = next_there i reset_late w.ports
+
+-- ## One of them
+
+-- a reset that is refused tells nothing
+refused_tells : (who : Side) (n : ℕ) (m : Machine) (why : Refused) → reset_refusal m ≡ Some why
+    → told who n (report m (Reset None)) (whole_acked (after_input m (Reset None))) ≡ []
+refused_tells who n m why q =
+    let none : (whole_acked m - whole_acked m) ≡ 0 = omega arith in
+    rw (q, none) refl
+
+pub silent_late : (core : Core) (p : Port) → late_told (Some p) ≡ None → told_late core p ≡ []
+silent_late core p none = by (is_late p) refl
+  where
+    refused : is_late p ≡ true → (o : Option Refused) → reset_refusal p.side ≡ o → told_late core p ≡ []
+    refused late None q = absurd (let z : Some (record nothing_told { ended = if_up p.side.shdlc Asked }) ≡ None = rw (late, q) at none in cc)
+    refused late (Some why) q = rw late (ap (entries_for p.desk.host) (refused_tells (own_side core) p.session p.side why q))
+
+    by : (b : Bool) → is_late p ≡ b → told_late core p ≡ []
+    by true late = refused late (reset_refusal p.side) refl
+    by false late = rw late refl
+
+-- what is told of one that isn't refused is the report of the reset
+pub late_report : (p : Port) (r : LinkReport) → IsReached p.side → late_told (Some p) ≡ Some r
+    → (is_late p ≡ true) × (r ≡ report_told (report p.side (Reset None)))
+late_report p r reached some = by (is_late p) (reset_refusal p.side) refl refl
+  where
+    by : (b : Bool) (o : Option Refused) → is_late p ≡ b → reset_refusal p.side ≡ o
+        → (is_late p ≡ true) × (r ≡ report_told (report p.side (Reset None)))
+    by false o late q = absurd (let z : None ≡ Some r = rw late at some in cc)
+    by true (Some why) late q = absurd (let z : None ≡ Some r = rw (late, q) at some in cc)
+    by true None late q =
+        let z : Some (record nothing_told { ended = if_up p.side.shdlc Asked }) ≡ Some r = rw (late, q) at some in
+        let e : record nothing_told { ended = if_up p.side.shdlc Asked } ≡ r = cc in
+        (late, sym e ∙ reset_report p.side None (is_sound p.side reached) q)
+
+each_reached : (pool : PoolState) (seats : List Seat) (ports : List Port) (i : ℕ) (p : Port) → SeatsStandFor pool seats ports
+    → slice_get ports i ≡ Some p → IsReached p.side
+each_reached pool [] [] i p g is = cc
+each_reached pool [] (q ∷ ports) i p g is = absurd g
+each_reached pool (s ∷ seats) [] i p g is = absurd g
+each_reached pool (s ∷ seats) (q ∷ ports) zero p g is = let e : q ≡ p = cc in subst (λ (x : Port). IsReached x.side) e g.0.reached
+each_reached pool (s ∷ seats) (q ∷ ports) (suc i) p g is = each_reached pool seats ports i p g.1 is
+
+pub reached_there : (ends : Ends) (ports : List Port) (i : ℕ) (p : Port) → EndsStandFor ends ports → slice_get ports i ≡ Some p → IsReached p.side
+reached_there ends ports i p e is = each_reached ends.pool ends.seats.items ports i p e.each is
+
+placed_there : (i : ℕ) (f : Port → Port) (ports : List Port) (p : Port) → slice_get ports i ≡ Some p → slice_get (at_place i f ports) i ≡ Some (f p)
+placed_there i f [] p is = cc
+placed_there zero f (q ∷ ports) p is = let e : q ≡ p = cc in ap (λ (x : Port). Some (f x)) e
+placed_there (suc i) f (q ∷ ports) p is = placed_there i f ports p is
+
+late_side : (p : Port) → is_late p ≡ true → (reset_late p).side ≡ after_input p.side (Reset None)
+late_side p late = rw late refl
+
+late_host : (p : Port) → is_late p ≡ true → (reset_late p).desk.host ≡ p.desk.host
+late_host p late = rw late refl
+
+pub late_tells : (core : Core) (p : Port) → is_late p ≡ true
+    → entries_for p.desk.host (told (own_side core) p.session (report p.side (Reset None)) (whole_acked (after_input p.side (Reset None))))
+    ≡ told_late core p
+late_tells core p late = rw late refl
+
+-- so many messages are acknowledged there
+pub late_acked : (ends : Ends) (ports : List Port) (i h : ℕ) (p : Port) → EndsStandFor ends (at_place i reset_late ports) → slice_get ports i ≡ Some p
+    → is_late p ≡ true → h ≡ p.desk.host
+    → option_map_or (λ (q : Port). kept_number (whole_acked q.side)) (port_at (at_place i reset_late ports) h) 0
+    ≡ kept_number (whole_acked (after_input p.side (Reset None)))
+late_acked ends ports i h p e is late same =
+    let all : List Port = at_place i reset_late ports in
+    let differ = hosts_differ ends.pool ends.seats.items all e.hosts e.each in
+    let found = found_there i all (reset_late p) differ (placed_there i reset_late ports p is) in
+    ap (λ (n : ℕ). option_map_or (λ (q : Port). kept_number (whole_acked q.side)) (port_at all n) 0) (same ∙ sym (late_host p late))
+    ∙ (ap (λ (o : Option Port). option_map_or (λ (q : Port). kept_number (whole_acked q.side)) o 0) found
+    ∙ ap (λ (m : Machine). kept_number (whole_acked m)) (late_side p late))

@@ -1,0 +1,92 @@
+//! Notices that aren't answered in time.
+use crate::node::Node;
+use swp_base::Nv;
+use trace_model::Watch;
+
+impl<N: Nv + Drop> Node<N> {
+    ghost use Rattle.std.specs.Prelude.{◌≡◌, Bool, List, map, length, Some, None, slice_get};
+    ghost use Rattle.std.specs.List.{flat_map};
+    ghost use Rattle.trace_model.specs.declared.entry.Entry.{Entry as Noted};
+    ghost use Rattle.node_machine.specs.Parts.{Port, Work};
+    ghost use Rattle.node_machine.specs.Carrying.{noting};
+    ghost use Rattle.node_machine.specs.Node.{with_older, reset_late, told_late, times_out};
+    ghost use Rattle.node_machine.specs.Node.NodeInput.{TimePasses};
+    ghost use Rattle.node_ends.specs.Ends.{EndsStandFor, FewAreDue, at_place};
+    ghost use Rattle.node_core.specs.Nodes.{IsInStep, IsSoundNode};
+    ghost use Rattle.node_core.specs.Turning.{AreFewDue, AreYoung};
+
+    // The notices of all ends are a tick older; each has fewer than 255 ticks.
+    fn grow_older(&mut self)
+        requires runs { IsSoundNode self.old }
+        requires young { (ports : List Port) × EndsStandFor self.old.ends ports × AreYoung ports }
+        ensures carried { (noted : List Noted) (short : Bool) (start : List Noted) (w : Work) → IsInStep self.old noted short start w
+            → IsInStep self.new noted short start (record w { ports = map with_older w.ports }) }
+        ensures store { self.new.store ≡ self.old.store }
+        ensures number { self.new.number ≡ self.old.number }
+        ensures runs { IsSoundNode self.new }
+    {
+        for i in 0..7 {
+            self.ends.grow_older(i);
+        }
+    }
+
+    // The link of the end at this place is reset, where its notice is late, and what that did is noted. At most six control frames wait
+    // there to be sent. The buffer has 4,096 bytes.
+    fn reset_late_at<W: Watch>(&mut self, i: usize, buffer: &mut [u8], watch: &mut W)
+        requires runs { IsSoundNode self.old }
+        requires buffer { length buffer.old ≡ 4096 }
+        requires may { (start : List Noted) × (w : Work) × IsInStep self.old (W.noted watch.old) (W.is_short watch.old) start w
+            × FewAreDue (slice_get w.ports i) }
+        ensures carried { (start : List Noted) (w : Work) (p : Port) → IsInStep self.old (W.noted watch.old) (W.is_short watch.old) start w
+            → slice_get w.ports i ≡ Some p → IsInStep self.new (W.noted watch.new) (W.is_short watch.new) start
+            (noting (told_late w.core p) (record w { ports = at_place i reset_late w.ports })) }
+        ensures none { (start : List Noted) (w : Work) → IsInStep self.old (W.noted watch.old) (W.is_short watch.old) start w
+            → slice_get w.ports i ≡ None → IsInStep self.new (W.noted watch.new) (W.is_short watch.new) start w }
+        ensures store { self.new.store ≡ self.old.store }
+        ensures number { self.new.number ≡ self.old.number }
+        ensures runs { IsSoundNode self.new }
+    {
+        let Some(host) = self.ends.host(i) else {
+            return;
+        };
+        let Some(report) = self.ends.reset_late(i) else {
+            return;
+        };
+        self.note_input(host, &report, buffer, watch);
+    }
+
+    // The links of late notices are reset, one after another, and what that did is noted.
+    fn reset_late<W: Watch>(&mut self, buffer: &mut [u8], watch: &mut W)
+        requires runs { IsSoundNode self.old }
+        requires buffer { length buffer.old ≡ 4096 }
+        requires may { (start : List Noted) × (w : Work) × IsInStep self.old (W.noted watch.old) (W.is_short watch.old) start w
+            × AreFewDue w.ports }
+        ensures carried { (start : List Noted) (w : Work) → IsInStep self.old (W.noted watch.old) (W.is_short watch.old) start w
+            → AreFewDue w.ports → IsInStep self.new (W.noted watch.new) (W.is_short watch.new) start
+            (noting (flat_map (told_late w.core) w.ports) (record w { ports = map reset_late w.ports })) }
+        ensures store { self.new.store ≡ self.old.store }
+        ensures number { self.new.number ≡ self.old.number }
+        ensures runs { IsSoundNode self.new }
+    {
+        for i in 0..7 {
+            self.reset_late_at(i, buffer, watch);
+        }
+    }
+
+    /// Time has passed: notices are a tick older, and the links of those that are late are reset, which is noted. At most six control
+    /// frames wait at each end to be sent, and notices have fewer than 255 ticks. The buffer has 4,096 bytes.
+    pub(crate) fn times_out<W: Watch>(&mut self, buffer: &mut [u8], watch: &mut W)
+        requires runs { IsSoundNode self.old }
+        requires buffer { length buffer.old ≡ 4096 }
+        requires may { (start : List Noted) × (w : Work) × IsInStep self.old (W.noted watch.old) (W.is_short watch.old) start w
+            × AreFewDue w.ports × AreYoung w.ports }
+        ensures carried { (start : List Noted) (w : Work) → IsInStep self.old (W.noted watch.old) (W.is_short watch.old) start w
+            → AreFewDue w.ports → IsInStep self.new (W.noted watch.new) (W.is_short watch.new) start (times_out TimePasses w) }
+        ensures store { self.new.store ≡ self.old.store }
+        ensures number { self.new.number ≡ self.old.number }
+        ensures runs { IsSoundNode self.new }
+    {
+        self.grow_older();
+        self.reset_late(buffer, watch);
+    }
+}
