@@ -8,9 +8,10 @@ use flash_nv::{FlashNv, MemFlash};
 use hci_store::Store;
 use hci_tables::Command;
 use nv_journal::StartRefused;
-use std::alloc::Global;
+use std::alloc::{AllocError, Global};
 use std::process::Abort;
-use swp_base::Nv;
+use swp_base::{MemSink, MemSource, Nv};
+use swp_tool::{Ended, Status, run};
 
 /// The memory that a store is started on.
 #[derive(Drop)]
@@ -97,6 +98,26 @@ fn started(nv: FlashNv<MemFlash>) -> (Option<u32>, FlashNv<MemFlash>) {
     }
 }
 
+/// The words of the program that asks for the tables.
+fn tables_word(alloc: Global) -> Result<Vec<String>, AllocError> {
+    let mut words = Vec::new(alloc);
+    words.push(String::from_str(alloc, "tables")?)?;
+    Ok(words)
+}
+
+/// How a run with the word `tables` over the memory ended, and what it wrote.
+fn told(
+    rt: &impl Abort,
+    alloc: Global,
+    nv: FlashNv<MemFlash>,
+) -> (Status, MemSink, FlashNv<MemFlash>) {
+    let words = tables_word(alloc).expect(rt, "there is memory");
+    let mut source = MemSource::new(Vec::new(alloc), Vec::new(alloc), 4096);
+    let mut sink = MemSink::new(Vec::new(alloc), Vec::new(alloc), 4096);
+    let Ended { status, nv } = run(alloc, words.as_slice(), &mut source, &mut sink, nv);
+    (status, sink, nv)
+}
+
 /// In this memory so many commands were kept, and they made these tables.
 fn keeps(
     rt: &impl Abort,
@@ -107,6 +128,9 @@ fn keeps(
     let (seen, nv) = peeked(nv);
     let (found, nv) = started(nv);
     same(rt, &(seen, found), &(Some(kept.0), Some(kept.0)));
+    let (status, sink, nv) = told(rt, alloc, nv);
+    same(rt, &status, &Status::Done);
+    same_bytes(rt, sink.bytes(), kept.1.as_bytes());
     nv
 }
 
