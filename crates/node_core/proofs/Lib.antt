@@ -15,3 +15,4 @@ pub mod Notes
 mod Arriving
 mod Ticking
 mod Lateness
+mod Forgetting

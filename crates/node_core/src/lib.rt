@@ -4,6 +4,7 @@
 
 mod carrying;
 mod coming;
+mod endings;
 mod node;
 mod noting;
 mod reporting;

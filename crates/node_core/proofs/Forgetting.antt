@@ -1,0 +1,46 @@
+-- Creations are forgotten at all ends of a node, one after another.
+use Rattle.std.proofs.Common.{◌≡◌, ℕ, zero, suc, Bool, true, false, cond, ◌&&◌, ◌||◌, List, [], ◌∷◌, map, refl, sym, ap, ap₂, ◌∙◌}
+use Rattle.std.specs.Prelude.{Option, Some, None, ◌==◌, if◌then◌else◌}
+use Rattle.node_machine.specs.Parts.{Creation, Port}
+use Rattle.node_machine.specs.Controller.{asked_at}
+use Rattle.node_machine.specs.Node.{forgets, is_forgotten, is_over, is_over_at}
+use Rattle.node_ends.specs.Ends.{at_place}
+use Rattle.node_ends.proofs.Seated.{first_changed, next_changed, at_place_as}
+
+-- what of an end says that its session is over
+abbrev Over : Type 0
+Over = ℕ × Bool
+
+abbrev over_of : Port → Over
+over_of p = (p.desk.host, is_over p)
+
+forgets_over : (ports : List Port) (p : Port) → over_of (forgets ports p) ≡ over_of p
+forgets_over ports p = by (is_forgotten ports (asked_at p)) refl
+  where
+    by : (b : Bool) → is_forgotten ports (asked_at p) ≡ b → over_of (forgets ports p) ≡ over_of p
+    by true q = rw q refl
+    by false q = rw q refl
+
+over_same : (f : Port → Port) → ((p : Port) → over_of (f p) ≡ over_of p) → (i : ℕ) (ports : List Port) (h : ℕ)
+    → is_over_at (first_changed i f ports) h ≡ is_over_at ports h
+over_same f same zero [] h = refl
+over_same f same (suc i) [] h = refl
+over_same f same zero (p ∷ ports) h = refl
+over_same f same (suc i) (p ∷ ports) h =
+    ap₂ (λ (o : Over) b. ((o.0 == h) && o.1) || b) (same p) (over_same f same i ports h)
+
+forgets_same : (a b : List Port) → ((h : ℕ) → is_over_at a h ≡ is_over_at b h) → (p : Port) → forgets a p ≡ forgets b p
+forgets_same a b same p = by (asked_at p) refl
+  where
+    by : (o : Option Creation) → asked_at p ≡ o → forgets a p ≡ forgets b p
+    by None q = rw q refl
+    by (Some c) q = rw (q, same c.asker) refl
+
+-- the next one forgets as it would have at first
+pub next_forgets : (i : ℕ) (ports : List Port)
+    → at_place i (forgets (first_changed i (forgets ports) ports)) (first_changed i (forgets ports) ports)
+    ≡ first_changed (suc i) (forgets ports) ports
+next_forgets i ports =
+    at_place_as i (forgets (first_changed i (forgets ports) ports)) (forgets ports) (first_changed i (forgets ports) ports)
+    (λ p at. forgets_same (first_changed i (forgets ports) ports) ports (over_same (forgets ports) (forgets_over ports) i ports) p)
+    ∙ next_changed i (forgets ports) ports

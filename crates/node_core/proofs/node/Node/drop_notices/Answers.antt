@@ -1,0 +1,52 @@
+use Rattle.std.proofs.Common.{ℕ, ◌+◌, List, refl, sym, subst, add-one, arith}
+use Rattle.node_machine.specs.Parts.{Port}
+use Rattle.node_machine.specs.Node.{without_notice}
+use Rattle.node_ends.specs.Ends.{EndsStandFor}
+use Rattle.node_ends.proofs.Seated.{first_changed, none_changed, next_changed, all_changed}
+use Rattle.node_core.specs.Nodes.{IsInStep}
+use Rattle.node_core.proofs.Ticking.{many_ports}
+use Rattle.node_core.proofs.Lateness.{ends_changed}
+use Rattle.node_core.proofs.node.Node.drop_notices.Goals as goal
+
+pub loop-i-init : goal.loop-i-init
+loop-i-init g c = record {
+  runs = c.requires.runs;
+  store = refl;
+  number = refl;
+  ends = λ ports e. (let P : List Port → Type 0 = λ l. EndsStandFor c.args.self.now.ends l in subst P (sym (none_changed without_notice ports)) e);
+  goes = λ noted short start w u.
+      let P : List Port → Type 0 = λ l. IsInStep c.args.self.now noted short start (record w { ports = l }) in
+      subst P (sym (none_changed without_notice w.ports)) u;
+}
+
+pub drop_notice-requires : goal.drop_notice-requires
+drop_notice-requires g c =
+    let r = c.requires.runs in
+    (first_changed c.loop-i.i without_notice r.ports, c.loop-i.invariant.ends r.ports r.ends)
+
+pub loop-i-preserved : goal.loop-i-preserved
+loop-i-preserved g c =
+    let i = c.loop-i.i in
+    let t = c.drop_notice in
+    let next : (ports : List Port) → EndsStandFor c.args.self.now.ends ports → EndsStandFor t.new.self (first_changed (i + 1) without_notice ports) =
+    λ ports e.
+    let P : ℕ → Type 0 = λ m. EndsStandFor t.new.self (first_changed m without_notice ports) in
+    let Q : List Port → Type 0 = λ l. EndsStandFor t.new.self l in
+    subst P (sym (add-one i)) (subst Q (next_changed i without_notice ports) (t.ensures (first_changed i without_notice ports) (c.loop-i.invariant.ends ports e))) in
+    let r = c.requires.runs in
+    let now = c.loop-i.invariant.runs in
+    record {
+      runs = record { ports = _; ends = next r.ports r.ends; started = now.started; version = now.version };
+      store = c.loop-i.invariant.store;
+      number = c.loop-i.invariant.number;
+      ends = next;
+      goes = λ noted short start w u. ends_changed (first_changed (i + 1) without_notice w.ports) (c.loop-i.invariant.goes noted short start w u)
+          (next w.ports u.ends);
+    }
+
+pub returns-clause-carried : goal.returns-clause-carried
+returns-clause-carried g c noted short start w u =
+    let many = many_ports c.args.self.now.ends w.ports u.ends in
+    let past = c.loop-i-test.false in
+    let P : List Port → Type 0 = λ l. IsInStep c.loop-i.self noted short start (record w { ports = l }) in
+    subst P (all_changed c.loop-i.i without_notice w.ports (omega (arith, many, past))) (c.loop-i.invariant.goes noted short start w u)

@@ -1,0 +1,19 @@
+use Rattle.std.proofs.Common.{◌≡◌, Bool, List}
+use Rattle.trace_model.specs.declared.entry.Entry.{Entry}
+use Rattle.node_machine.specs.Parts.{Port, Work}
+use Rattle.node_machine.specs.Node.{without_notice}
+use Rattle.node_ends.specs.Ends.{EndsStandFor}
+use Rattle.node_ends.proofs.Seated.{first_changed}
+use Rattle.node_core.specs.Nodes.{IsInStep, IsSoundNode}
+use Rattle.node_core.proofs.node.Node.drop_notices.Given as goal
+
+-- so it is at the ends so far
+abbrev pub invariant-loop-i : goal.invariant-loop-i
+invariant-loop-i g l = record {
+  runs : IsSoundNode l.self;
+  store : l.self.store ≡ l.fn.self.store;
+  number : l.self.number ≡ l.fn.self.number;
+  ends : (ports : List Port) → EndsStandFor l.fn.self.ends ports → EndsStandFor l.self.ends (first_changed l.i without_notice ports);
+  goes : (noted : List Entry) (short : Bool) (start : List Entry) (w : Work) → IsInStep l.fn.self noted short start w
+      → IsInStep l.self noted short start (record w { ports = first_changed l.i without_notice w.ports });
+}
