@@ -10,6 +10,7 @@ pub mod Growing
 pub mod Aging
 pub mod Histories
 pub mod Hearing
+pub mod Uiccs
 pub mod Order
 pub mod Orders
 pub mod Ascending
@@ -18,5 +19,7 @@ pub mod Lifting
 pub mod Resting
 pub mod AtRest
 pub mod Events
+pub mod Late
 pub mod Done
+pub mod Due
 pub mod Schedules

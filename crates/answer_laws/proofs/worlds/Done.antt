@@ -1,6 +1,6 @@
 -- Behind each event of a history all messages at the ends of nodes that run have had their turns, or all before one that is held.
 use Rattle.std.proofs.Common.{◌≡◌, ℕ, Bool, true, false, List, [], ◌∷◌, ◌++◌, refl, sym, ap, subst, ◌∙◌, append_assoc, append-nil}
-use Rattle.std.specs.Prelude.{◌==◌, ◌&&◌, not, Some, None}
+use Rattle.std.specs.Prelude.{◌==◌, Some, None}
 use Rattle.std.specs.List.{AllByRecursion, flat_map}
 use Rattle.std.proofs.lemmas.Bool.{true≢false}
 use Rattle.std.proofs.lemmas.List.Concat.{flat_map-append}
@@ -8,18 +8,16 @@ use Rattle.trace_model.specs.declared.entry.Entry.{Entry}
 use Rattle.trace_model.specs.declared.line.End.{End}
 use Rattle.trace_model.specs.declared.line.Header.{Header}
 use Rattle.trace_model.specs.declared.line.Line.{Line}
-use Rattle.shdlc_core.specs.Machine.{is_waiting}
 use Rattle.link_entries.specs.messages.Links.{Comes, NumberedEnd, aged, exchanged, ticks_at_controller}
 use Rattle.link_entries.specs.messages.Links.Comes.{AsksReset, NextFrame, Starts}
 use Rattle.link_entries.specs.messages.Links.Ending.{GoesOut}
-use Rattle.link_entries.specs.messages.Links.EndEvent.{Step}
 use Rattle.link_entries.specs.entries.Entries.{aged_entries}
 use Rattle.link_entries.specs.entries.Entries.End.{Controller, Host}
 use Rattle.link_entries.proofs.entries.Together.{ticks_host}
 use Rattle.history.specs.Steps.{entries_for}
 use Rattle.node_machine.specs.Parts.{Running, Work}
 use Rattle.node_machine.specs.Node.NodeInput.{TimePasses}
-use Rattle.node_machine.specs.world.World.{NodeWorld, Site, Happening, site_at, link_to, turns_at, ending_of, is_late_at, frames_noted, all_aged}
+use Rattle.node_machine.specs.world.World.{NodeWorld, Site, Happening, site_at, link_to, turns_at, ending_of, frames_noted, all_aged}
 use Rattle.journal_laws.specs.Planned.{after_planned}
 use Rattle.node_machine.specs.world.World.{runs_on}
 use Rattle.node_machine.specs.world.World.{controller_ticks, host_ticks, hosts_tick, world_ticks, comes_at, memory_at}
@@ -36,7 +34,6 @@ use Rattle.node_laws.proofs.telling.Lasting.{AllHold, AnyLine, all_lines, boots_
 use Rattle.node_laws.proofs.telling.WorldTicks.{near_orderly}
 use Rattle.node_laws.proofs.telling.Worlds.{node_is}
 use Rattle.node_order.specs.links.Runs.{ArePlayable}
-use Rattle.node_order.proofs.links.Ends.{here_host}
 use Rattle.node_order.proofs.order.Lines.{IsSo, history_so}
 use Rattle.node_order.proofs.power.Parts.{IsPart, own_not, part_own}
 use Rattle.node_order.proofs.turns.Queues.{Goes, goes-append, still_goes}
@@ -52,6 +49,7 @@ use Rattle.answer_laws.proofs.worlds.Events.{boot_rests, cut_rests, lost_rests, 
 use Rattle.node_order.proofs.power.Events.{far_tick, near_ticks_part, sending_mine}
 use Rattle.answer_laws.proofs.worlds.Resting.{AreIdle, idle_done, others_idle}
 use Rattle.node_order.proofs.power.Events.{AreNodes, both_nodes, others_tick}
+use Rattle.answer_laws.proofs.worlds.Late.{ticked_host}
 use Rattle.answer_laws.proofs.worlds.Turns.{beginning_turnless, sending_turnless}
 
 -- ## Time
@@ -61,12 +59,6 @@ aged_idle e w =
     flat_idle e (λ (s : Site). entries_for s.host (aged_entries Controller s.link.to_controller ++ aged_entries Host s.link.to_host))
     (λ s. quiet_links e s.host (aged_entries Controller s.link.to_controller ++ aged_entries Host s.link.to_host)
     (aged_none Controller Host s.link.to_controller s.link.to_host)) w.sites
-
-ticked_host : (v : Work) (s : Site) → (site_ticked v s).link.host.side.got ≡ s.link.host.side.got
-ticked_host v s = go (is_late_at v s.host && not (is_waiting s.link.controller.side.shdlc)) refl where
-  go : (b : Bool) → (is_late_at v s.host && not (is_waiting s.link.controller.side.shdlc)) ≡ b → (site_ticked v s).link.host.side.got ≡ s.link.host.side.got
-  go true q = rw q (ap (λ (x : NumberedEnd). x.side.got) (here_host s.link (Step (AsksReset None) (turns_at v s.host) (ending_of v))))
-  go false q = rw q (ap (λ (x : NumberedEnd). x.side.got) (ticks_host s.link (turns_at v s.host) (ending_of v)))
 
 module _ (t : List Entry) (w : NodeWorld) (reads : WaitsRead t w) (before : AllWaiting t w.sites) where
   abbrev a : IsOrderly w
@@ -112,7 +104,8 @@ module _ (t : List Entry) (w : NodeWorld) (reads : WaitsRead t w) (before : AllW
       let has : HasEnds 0 (hosts_in old.sites) r = node_is 0 (hosts_in old.sites) old.controller r old_orderly.controller q in
       let v : Work = near_tick old r in
       let f : Site → List Entry = λ s. frames_noted Controller s.host s.link v in
-      after_near since old.sites (site_ticked v) (λ s. refl) (λ s. refl) (ticked_host v) v.entries (flat_map f old.sites) part
+      after_near since old.sites (site_ticked v) (λ s. refl) (λ s. refl)
+      (λ s. ap (λ (x : NumberedEnd). x.side.got) (ticked_host v s)) v.entries (flat_map f old.sites) part
       (λ e. flat_idle e f (λ s. frames_idle e Controller s.host s.link v) old.sites) old_orderly.hosts
       (each_done since v.entries old.sites old_orderly.different
       (near_rests since old.sites w.memory.plan r has old_orderly.different (λ h. (link_to old.sites h).controller) [] (λ k. refl) (old_goes r q)

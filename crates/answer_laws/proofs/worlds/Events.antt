@@ -94,7 +94,7 @@ each_there (x ∷ sites) d = (rw (same_number x.host) refl, later sites d.0 (eac
   later [] off all = tt
   later (y ∷ ys) off all = let other : eqb x.host y.host ≡ false = same_sym y.host x.host off.0 in (rw other all.0, later ys off.1 all.1)
 
-all_two : (P Q R : Site → Type 0) → ((s : Site) → P s → Q s → R s) → (sites : List Site) → AllByRecursion P sites → AllByRecursion Q sites
+pub all_two : (P Q R : Site → Type 0) → ((s : Site) → P s → Q s → R s) → (sites : List Site) → AllByRecursion P sites → AllByRecursion Q sites
     → AllByRecursion R sites
 all_two P Q R one [] a b = tt
 all_two P Q R one (s ∷ sites) a b = (one s a.0 b.0, all_two P Q R one sites a.1 b.1)

@@ -185,7 +185,7 @@ flat_unanswered : (f : Port → List Entry) → ((p : Port) → AreUnanswered (f
 flat_unanswered f one [] = tt
 flat_unanswered f one (p ∷ ports) = all_append IsUnanswered (f p) (flat_map f ports) (one p) (flat_unanswered f one ports)
 
-coming_unanswered : (input : NodeInput) (w : Work) → AreUnanswered (told_of_coming input w)
+pub coming_unanswered : (input : NodeInput) (w : Work) → AreUnanswered (told_of_coming input w)
 coming_unanswered input w =
     all_append IsUnanswered (flat_map (λ p. told_at w.core p (input_at input p)) w.ports) (told_of_late input (all_come input w))
     (flat_unanswered (λ p. told_at w.core p (input_at input p)) (λ p. at_unanswered w.core p (input_at input p)) w.ports) (late input) where

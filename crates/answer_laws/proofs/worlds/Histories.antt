@@ -128,7 +128,7 @@ module _ (header : Header) (lines : List Line) (t : NodeHistory) (follows : Foll
     notices : KeepsNotices (entries_in past) w
     notices = (history_keeps header lines t follows are sent few past back parts).notices
 
-    quiet : NoNotices w.sites
+    pub quiet : NoNotices w.sites
     quiet = all_found (λ (s : Site). IfNoNotices s.node) w.sites so.well.orderly.different one where
       same : events_of_steps (Rattle.node_machine.specs.world.NodeHistories.steps_from (new_world hosts) lines) ≡ past ++ back
       same = sym (ap events_of_steps follows.steps_are) ∙ parts

@@ -75,7 +75,7 @@ module _ (n : ℕ) where
   others_hear [] a = tt
   others_hear (x ∷ es) a = (other_hears x a.0, others_hear es a.1)
 
-  others_answer : (es : List Entry) → AreNotOf n es → AllByRecursion NoAnswer es
+  pub others_answer : (es : List Entry) → AreNotOf n es → AllByRecursion NoAnswer es
   others_answer [] a = tt
   others_answer (x ∷ es) a = (other_answers x a.0, others_answer es a.1)
 

@@ -144,7 +144,7 @@ hosts_parted n (s ∷ sites) d a = go (s.host == n) refl (hosts_parted n sites d
       others_behind n (host_ticks s).1 (hosts_tick sites).1 (parted_for n (host_ticks s).1 (host_parted s))
       (subst (λ m. AreNotOf m (hosts_tick sites).1) (eqb-true s.host n q) (others_tick s.host sites d.0 a.1))
 
-aged_unanswered : (sites : List Site)
+pub aged_unanswered : (sites : List Site)
     → AreUnanswered (flat_map (λ (s : Site). entries_for s.host (aged_entries Controller s.link.to_controller ++ aged_entries Host s.link.to_host)) sites)
 aged_unanswered [] = tt
 aged_unanswered (s ∷ sites) =

@@ -34,7 +34,7 @@ waiting_none true e = cc e
 waiting_none false e = cc e
 
 -- an end that takes a message is up
-taken_up : (waits : Bool) (e : LinkEnd) (m : Message) → if_waiting waits (give_refusal e m) ≡ None → e.shdlc.phase ≡ Up
+pub taken_up : (waits : Bool) (e : LinkEnd) (m : Message) → if_waiting waits (give_refusal e m) ≡ None → e.shdlc.phase ≡ Up
 taken_up waits e m none = by e.shdlc.phase refl where
   by : (p : LinkState) → e.shdlc.phase ≡ p → e.shdlc.phase ≡ Up
   by Up q = q

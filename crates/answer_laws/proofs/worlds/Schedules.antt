@@ -34,6 +34,7 @@ use Rattle.answer_laws.specs.answers.SoFar.{AnsweredSoFar}
 use Rattle.answer_laws.proofs.schedules.Ranges.{hosts_few}
 use Rattle.answer_laws.proofs.passes.Events.{front_long}
 use Rattle.answer_laws.proofs.worlds.Done.{histories_done}
+use Rattle.answer_laws.proofs.worlds.Due.{hosts_due}
 use Rattle.answer_laws.proofs.worlds.Lifting.{controller_answers}
 
 begun_one : (l : Line) → IsInitOfHost l → IsBegunByHost l
@@ -81,6 +82,8 @@ schedule_answers header lines t follows nodes are most = record {
   done = histories_done header lines t follows (hosts_are header nodes) (playable header lines are);
   near = controller_answers header lines t follows (hosts_are header nodes) (hosts_few header nodes) (sent_by_hosts header lines nodes are)
       (are_few header lines t follows nodes are most) (playable header lines are) (front_long header lines t follows are (playable header lines are) most);
+  due = hosts_due header lines t follows (hosts_are header nodes) (playable header lines are) (sent_by_hosts header lines nodes are)
+      (begun_all lines (inits_of_hosts header lines are)) (are_few header lines t follows nodes are most);
   reset = schedule_resets header lines t follows nodes are most;
   ascending = schedule_ascends header lines t follows nodes are;
   heard = schedule_hears header lines t follows nodes;

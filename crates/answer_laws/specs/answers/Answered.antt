@@ -106,10 +106,12 @@ AreLeftShort hosts past o = AllByRecursion (λ e. is_left_short hosts past o e �
 
 -- ## Outside turns
 
--- The answers of each node before its first turn in an event are exactly those that are due.
+-- The answers of a node before its first turn in an event are exactly those that are due.
+abbrev pub IsDueAt : List ℕ → List Occurrence → Occurrence → ℕ → Type 0
+IsDueAt hosts past o n = AnswersSo n o.entries (noted_of_deeds (entries_in past ++ down_in o) n n (due hosts past o n))
+
 abbrev pub AreDue : List ℕ → List Occurrence → Occurrence → Type 0
-AreDue hosts past o =
-    AllByRecursion (λ n. AnswersSo n o.entries (noted_of_deeds (entries_in past ++ down_in o) n n (due hosts past o n))) (0 ∷ hosts)
+AreDue hosts past o = AllByRecursion (IsDueAt hosts past o) (0 ∷ hosts)
 
 -- The session of each end ends by a reset of its own exactly where that is due.
 abbrev pub AreReset : List ℕ → List Occurrence → Occurrence → Type 0
