@@ -1,57 +1,23 @@
 -- Blocks of askers whose creations are forgotten are free.
 use Rattle.std.proofs.Common.{◌≡◌, ℕ, zero, suc, ◌≤◌, Bool, true, false, not, List, [], ◌∷◌, ◌++◌, map, take, length, refl, sym, ap, ◌∙◌, arith}
+use Rattle.std.proofs.Common.{add-one, append_assoc, ◌+◌}
 use Rattle.std.proofs.Common.{append_assoc, append-nil}
-use Rattle.std.specs.Prelude.{Option, Some, None, option_map, slice_get}
+use Rattle.std.specs.Prelude.{Option, Some, None, slice_get}
 use Rattle.std.specs.List.{flat_map, filter, filter_map}
 use Rattle.std.specs.Option.{option_map_or}
 use Rattle.std.proofs.lemmas.List.Concat.{flat_map-cons}
+use Rattle.std.proofs.lemmas.Grind.{flat_map-append}
+use Rattle.gate_answers.specs.declared.response.Response.{Response}
 use Rattle.trace_model.specs.declared.entry.Entry.{Entry}
 use Rattle.link_machine.specs.Machine.Turn.{Release}
-use Rattle.pipe_table.specs.declared.row.PipeRow.{PipeRow}
-use Rattle.node_machine.specs.Parts.{Creation, Port, Work, Deed, Desk as DeskOf}
+use Rattle.node_machine.specs.Parts.{Creation, Port, Work, Deed}
 use Rattle.node_machine.specs.Parts.Deed.{Releases}
 use Rattle.node_machine.specs.Carrying.{turn_at, all_done}
-use Rattle.node_machine.specs.Controller.{asked_at, creation_in}
-use Rattle.node_machine.specs.Node.{forgotten, is_over_at}
-use Rattle.node_deeds.specs.declared.desks.About.{About}
-use Rattle.node_deeds.specs.declared.desks.About.TheVariants as about
-use Rattle.node_deeds.specs.declared.desks.Desk.{Desk}
-use Rattle.node_deeds.specs.declared.desks.Unanswered.{Unanswered}
-use Rattle.node_deeds.specs.Shown.{about_shown, notice_shown, desk_shown, creation_of_row, row_about, row_noticed, awaited_row}
+use Rattle.node_machine.specs.Controller.{asked_at}
+use Rattle.node_machine.specs.Node.{forgotten, is_over_at, owed}
 use Rattle.node_core.specs.declared.node.Node.{Node}
 use Rattle.node_core.specs.Nodes.{IsInStep}
-use Rattle.node_core.specs.Owing.{freed_for, freed_at}
-
--- ## The creation at an end
-
-row_creation : (o : Option Unanswered) → creation_in (option_map notice_shown o) ≡ option_map creation_of_row (row_noticed o)
-row_creation None = refl
-row_creation (Some n) = by n.age n.about
-  where
-    by : (age : ℕ) (a : About)
-        → creation_in (Some (record { about = about_shown a; age = age })) ≡ option_map creation_of_row (row_about a)
-    by age (about.Waits row) = refl
-    by age about.Forgotten = refl
-    by age about.Removed = refl
-
--- what is kept at a desk says which creation waits at its end
-pub freed_by : (ports : List Port) (d : Desk) (o : Option Port) → Some (desk_shown d) ≡ option_map (λ (p : Port). p.desk) o
-    → option_map_or (freed_at ports) o [] ≡ option_map_or (λ (row : PipeRow). freed_for ports (creation_of_row row)) (awaited_row d) []
-freed_by ports d None is = cc
-freed_by ports d (Some p) is =
-    let e : desk_shown d ≡ p.desk = cc in
-    ap (λ (x : DeskOf). option_map_or (freed_for ports) (creation_in x.notice) []) (sym e)
-    ∙ (ap (λ (o : Option Creation). option_map_or (freed_for ports) o []) (row_creation d.notice) ∙ by (row_noticed d.notice))
-  where
-    by : (o : Option PipeRow)
-        → option_map_or (freed_for ports) (option_map creation_of_row o) []
-        ≡ option_map_or (λ (row : PipeRow). freed_for ports (creation_of_row row)) o []
-    by None = refl
-    by (Some row) = refl
-
-pub no_desk_there : (ports : List Port) (o : Option Port) → None ≡ option_map (λ (p : Port). p.desk) o → [] ≡ option_map_or (freed_at ports) o []
-no_desk_there ports None is = refl
-no_desk_there ports (Some p) is = cc
+use Rattle.node_core.specs.Owing.{freed_at, answers_to, has_ended_so, owed_at}
 
 -- ## All ends
 
@@ -97,6 +63,37 @@ past_freed t (suc i) (p ∷ ports) past =
 
 pub freed_all : (i : ℕ) (ports : List Port) → length ports ≤ i → flat_map (freed_at ports) (take i ports) ≡ forgotten ports
 freed_all i ports past = past_freed (freed_at ports) i ports past ∙ sym (all_freed ports ports)
+
+pub one_gathered : (t : Port → List Deed) (ports : List Port) (i : ℕ) (old fs : List Deed) → old ≡ flat_map t (take i ports)
+    → fs ≡ option_map_or t (slice_get ports i) [] → old ++ fs ≡ flat_map t (take (i + 1) ports)
+one_gathered t ports i old fs before next =
+    ap (λ l. l ++ fs) before ∙ (ap (λ l. flat_map t (take i ports) ++ l) next ∙ (sym (next_freed t i ports)
+    ∙ ap (λ n. flat_map t (take n ports)) (sym (add-one i))))
+
+-- ## What is owed
+
+owed_each : (late : Bool) (r : Response) (ports : List Port)
+    → flat_map (owed_at late r) ports ≡ flat_map (λ (p : Port). owed r (asked_at p)) (filter (has_ended_so late) ports)
+owed_each late r [] = refl
+owed_each late r (p ∷ ports) = flat_map-cons (owed_at late r) p ports ∙ by (has_ended_so late p) refl (owed_each late r ports)
+  where
+    by : (b : Bool) → has_ended_so late p ≡ b
+        → flat_map (owed_at late r) ports ≡ flat_map (λ (q : Port). owed r (asked_at q)) (filter (has_ended_so late) ports)
+        → owed_at late r p ++ flat_map (owed_at late r) ports
+        ≡ flat_map (λ (q : Port). owed r (asked_at q)) (filter (has_ended_so late) (p ∷ ports))
+    by true q later =
+        rw q (ap (λ l. owed r (asked_at p) ++ l) later
+        ∙ sym (flat_map-cons (λ (x : Port). owed r (asked_at x)) p (filter (has_ended_so late) ports)))
+    by false q later = rw q later
+
+pub owed_all : (late : Bool) (r : Response) (i : ℕ) (ports : List Port) → length ports ≤ i
+    → flat_map (owed_at late r) (take i ports) ≡ flat_map (λ (p : Port). owed r (asked_at p)) (filter (has_ended_so late) ports)
+owed_all late r i ports past = past_freed (owed_at late r) i ports past ∙ owed_each late r ports
+
+pub one_answered : (r : Response) (askers : List ℕ) (a : ℕ) → flat_map (answers_to r) (askers ++ a ∷ []) ≡ flat_map (answers_to r) askers ++ answers_to r a
+one_answered r askers a =
+    flat_map-append (answers_to r) askers (a ∷ [])
+    ∙ ap (λ l. flat_map (answers_to r) askers ++ l) (flat_map-cons (answers_to r) a [] ∙ append-nil (answers_to r a))
 
 -- ## Releases, one after another
 

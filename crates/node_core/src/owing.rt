@@ -14,7 +14,12 @@ impl<N: Nv + Drop> Node<N> {
     ghost use Rattle.node_machine.specs.Node.{forgotten};
     ghost use Rattle.node_ends.specs.Ends.{EndsStandFor};
     ghost use Rattle.node_core.specs.Nodes.{IsInStep, IsSoundNode};
-    ghost use Rattle.node_core.specs.Owing.{freed_at};
+    ghost use Rattle.std.specs.Prelude.{Bool, false};
+    ghost use Rattle.std.specs.List.{flat_map, filter};
+    ghost use Rattle.gate_answers.specs.declared.response.Response.{Response};
+    ghost use Rattle.node_machine.specs.Controller.{asked_at};
+    ghost use Rattle.node_machine.specs.Node.{owed};
+    ghost use Rattle.node_core.specs.Owing.{freed_at, answers_to, has_ended_so, owed_at};
 
     // The asker of the creation that waits at the end at this place, where it is forgotten since the asker's session ended in this step.
     fn forgotten_at(&self, i: usize) -> Option<u8>
@@ -62,5 +67,52 @@ impl<N: Nv + Drop> Node<N> {
         for asker in askers {
             self.release(*asker, watch);
         }
+    }
+
+    // Whether the session of the end at this place ended in this step, as its notice was late or otherwise.
+    fn has_ended_so(&self, i: usize, late: bool) -> bool
+        requires runs { IsSoundNode self.now }
+        ensures { (ports : List Port) → EndsStandFor self.now.ends ports
+            → result ≡ option_map_or (has_ended_so late) (slice_get ports i) false }
+    {
+        if late {
+            self.ends.was_late(i)
+        } else {
+            self.ends.has_ended(i)
+        }
+    }
+
+    // The asker of the creation that waits at the end at this place, where the session of that end ended so in this step.
+    fn owed_at(&self, i: usize, late: bool) -> Option<u8>
+        requires runs { IsSoundNode self.now }
+        ensures { (ports : List Port) (r : Response) → EndsStandFor self.now.ends ports
+            → option_map_or (answers_to r) result [] ≡ option_map_or (owed_at late r) (slice_get ports i) [] }
+    {
+        if !self.has_ended_so(i, late) {
+            return None;
+        }
+        let Some(desk) = self.ends.desk(i) else {
+            return None;
+        };
+        match desk.awaited() {
+            Some(row) => Some(row.creator),
+            None => None,
+        }
+    }
+
+    /// The askers to whom an answer is owed, since the session of the host that is asked ended in this step, as its notice was late or
+    /// otherwise.
+    pub(crate) fn owed(&self, late: bool) -> ArrayVec<u8, 7>
+        requires runs { IsSoundNode self.now }
+        ensures { (ports : List Port) (r : Response) → EndsStandFor self.now.ends ports
+            → flat_map (answers_to r) result.items ≡ flat_map (λ p. owed r (asked_at p)) (filter (has_ended_so late) ports) }
+    {
+        let mut askers = ArrayVec::new();
+        for i in 0..7 {
+            if let Some(asker) = self.owed_at(i, late) {
+                askers.push(asker);
+            }
+        }
+        askers
     }
 }
