@@ -28,7 +28,7 @@ use Rattle.node_ends.proofs.Apart.{is_outside, input_apart}
 use Rattle.node_core.specs.declared.node.Node.{Node}
 use Rattle.node_core.specs.Nodes.{IsInStep}
 use Rattle.node_core.specs.Noting.{AreNotes, unnumbered}
-use Rattle.node_core.proofs.Notes.{comes_noted}
+use Rattle.node_core.proofs.Notes.{comes_noted, no_notes}
 use Rattle.node_core.proofs.Sendables.{found_all}
 use Rattle.node_core.proofs.Elsewhere.{host_at, hosts_differ}
 
@@ -121,6 +121,17 @@ comes_to {N} {n} {ends} {before} {now} {start} {was} {short} {w} h i told u stan
         let ports : List Port = with_port h (λ p. has_come p (Some i)) w.ports in
         subst P (ap (λ (o : Option Port). noting (option_map_or f o []) (record w { ports = ports })) (sym q) ∙ come_is h i w differ)
         (comes_noted es ports u stands (notes p q one))
+
+-- where it tells nothing, nothing is noted
+pub comes_silently : {N : Type 0} {n : Node N} {ends : Ends} {before start : List Entry} {was : Bool} {w : Work} (h : ℕ) (i : LinkInput)
+    → IsInStep n before was start w → EndsStandFor ends (with_port h (λ p. has_come p (Some i)) w.ports)
+    → option_map_or (λ (p : Port). told_at w.core p (Some i)) (port_at w.ports h) [] ≡ []
+    → IsInStep (record n { ends = ends }) before was start (all_come (AtEnd h i) w)
+comes_silently {N} {n} {ends} {before} {start} {was} {w} h i u stands none =
+    let P : Work → Type 0 = λ v. IsInStep (record n { ends = ends }) before was start v in
+    let ports : List Port = with_port h (λ p. has_come p (Some i)) w.ports in
+    subst P (ap (λ (es : List Entry). noting es (record w { ports = ports })) (sym none)
+    ∙ come_is h i w (hosts_differ n.ends.pool n.ends.seats.items w.ports u.ends.hosts u.ends.each)) (comes_noted [] ports u stands (no_notes was before))
 
 -- where there is no such end nothing comes
 pub comes_nowhere : {N : Type 0} {n : Node N} {ends : Ends} {before start : List Entry} {was : Bool} {w : Work} (h : ℕ) (i : LinkInput)

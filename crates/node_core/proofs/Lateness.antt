@@ -2,7 +2,12 @@
 use Rattle.std.proofs.Common.{◌≡◌, ℕ, zero, suc, ◌-◌, ◌≤◌, Bool, true, false, List, [], ◌∷◌, ◌++◌, map, take, length, refl, sym, ap, ap₂, ◌∙◌, subst, arith}
 use Rattle.std.proofs.Common.{append_assoc, append-nil}
 use Rattle.std.specs.Prelude.{Option, Some, None, slice_get}
-use Rattle.std.specs.List.{flat_map}
+use Rattle.std.specs.List.{AllByRecursion, flat_map}
+use Rattle.std.specs.Prelude.{Ok, Err, IfSome, option_map}
+use Rattle.link_end.specs.declared.report.ResetRefused.{ResetRefused}
+use Rattle.link_end.specs.Reports.{reset_refused, reset_told}
+use Rattle.node_machine.specs.Node.{told_at}
+use Rattle.node_core.proofs.Sendables.{found_all}
 use Rattle.std.specs.Option.{option_map_or}
 use Rattle.trace_model.specs.declared.entry.Entry.{Entry}
 use Rattle.link_machine.specs.Machine.{LinkEnd as Machine, Refused, report, after_input, whole_acked, reset_refusal, if_up}
@@ -88,9 +93,9 @@ reset_there i w = next_there i reset_late w.ports
 -- ## One of them
 
 -- a reset that is refused tells nothing
-refused_tells : (who : Side) (n : ℕ) (m : Machine) (why : Refused) → reset_refusal m ≡ Some why
-    → told who n (report m (Reset None)) (whole_acked (after_input m (Reset None))) ≡ []
-refused_tells who n m why q =
+pub refused_tells : (who : Side) (n : ℕ) (m : Machine) (window : Option ℕ) (why : Refused) → reset_refusal m ≡ Some why
+    → told who n (report m (Reset window)) (whole_acked (after_input m (Reset window))) ≡ []
+refused_tells who n m window why q =
     let none : (whole_acked m - whole_acked m) ≡ 0 = omega arith in
     rw (q, none) refl
 
@@ -99,7 +104,7 @@ silent_late core p none = by (is_late p) refl
   where
     refused : is_late p ≡ true → (o : Option Refused) → reset_refusal p.side ≡ o → told_late core p ≡ []
     refused late None q = absurd (let z : Some (record nothing_told { ended = if_up p.side.shdlc Asked }) ≡ None = rw (late, q) at none in cc)
-    refused late (Some why) q = rw late (ap (entries_for p.desk.host) (refused_tells (own_side core) p.session p.side why q))
+    refused late (Some why) q = rw late (ap (entries_for p.desk.host) (refused_tells (own_side core) p.session p.side None why q))
 
     by : (b : Bool) → is_late p ≡ b → told_late core p ≡ []
     by true late = refused late (reset_refusal p.side) refl
@@ -158,3 +163,51 @@ late_acked ends ports i h p e is late same =
     ap (λ (n : ℕ). option_map_or (λ (q : Port). kept_number (whole_acked q.side)) (port_at all n) 0) (same ∙ sym (late_host p late))
     ∙ (ap (λ (o : Option Port). option_map_or (λ (q : Port). kept_number (whole_acked q.side)) o 0) found
     ∙ ap (λ (m : Machine). kept_number (whole_acked m)) (late_side p late))
+
+-- ## A reset that is asked for
+
+reached_each : (pool : PoolState) (seats : List Seat) (ports : List Port) → SeatsStandFor pool seats ports
+    → AllByRecursion (λ (p : Port). IsReached p.side) ports
+reached_each pool [] [] g = tt
+reached_each pool [] (p ∷ ports) g = absurd g
+reached_each pool (s ∷ seats) [] g = absurd g
+reached_each pool (s ∷ seats) (p ∷ ports) g = (g.0.reached, reached_each pool seats ports g.1)
+
+reset_done : (m : Machine) (window : Option ℕ) (r : LinkReport) → IsReached m → Ok r ≡ reset_told m window → r ≡ report_told (report m (Reset window))
+reset_done m window r reached is = by (reset_refusal m) refl
+  where
+    by : (o : Option Refused) → reset_refusal m ≡ o → r ≡ report_told (report m (Reset window))
+    by None q =
+        let z : Ok r ≡ Ok (record nothing_told { ended = if_up m.shdlc Asked }) = rw q at is in
+        let e : r ≡ record nothing_told { ended = if_up m.shdlc Asked } = cc in
+        e ∙ reset_report m window (is_sound m reached) q
+    by (Some why) q = absurd (let z : Ok r ≡ Err (reset_refused why) = rw q at is in cc)
+
+-- what is told of one that is done is its report
+pub reset_answer : (ends : Ends) (ports : List Port) (h : ℕ) (window : Option ℕ) (r : LinkReport) → EndsStandFor ends ports
+    → Some (Ok r) ≡ option_map (λ (p : Port). reset_told p.side window) (port_at ports h)
+    → Some r ≡ option_map (λ (p : Port). report_told (report p.side (Reset window))) (port_at ports h)
+reset_answer ends ports h window r e is =
+    by (port_at ports h) is (found_all _ ports h (reached_each ends.pool ends.seats.items ports e.each))
+  where
+    by : (o : Option Port) → Some (Ok r) ≡ option_map (λ (p : Port). reset_told p.side window) o → IfSome o (λ (p : Port). IsReached p.side)
+        → Some r ≡ option_map (λ (p : Port). report_told (report p.side (Reset window))) o
+    by None some reached = cc
+    by (Some p) some reached =
+        let z : Ok r ≡ reset_told p.side window = cc in
+        ap (λ (x : LinkReport). Some x) (reset_done p.side window r reached z)
+
+-- one that is refused tells nothing
+pub reset_silent : (core : Core) (ports : List Port) (h : ℕ) (window : Option ℕ) (why : ResetRefused)
+    → Some (Err why) ≡ option_map (λ (p : Port). reset_told p.side window) (port_at ports h)
+    → option_map_or (λ (p : Port). told_at core p (Some (Reset window))) (port_at ports h) [] ≡ []
+reset_silent core ports h window why is = by (port_at ports h) is
+  where
+    one : (p : Port) (o : Option Refused) → reset_refusal p.side ≡ o → Err why ≡ reset_told p.side window → told_at core p (Some (Reset window)) ≡ []
+    one p None q z = absurd (let y : Err why ≡ Ok (record nothing_told { ended = if_up p.side.shdlc Asked }) = rw q at z in cc)
+    one p (Some refused) q z = ap (entries_for p.desk.host) (refused_tells (own_side core) p.session p.side window refused q)
+
+    by : (o : Option Port) → Some (Err why) ≡ option_map (λ (p : Port). reset_told p.side window) o
+        → option_map_or (λ (p : Port). told_at core p (Some (Reset window))) o [] ≡ []
+    by None some = refl
+    by (Some p) some = let z : Err why ≡ reset_told p.side window = cc in one p (reset_refusal p.side) refl z

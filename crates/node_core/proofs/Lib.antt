@@ -16,3 +16,4 @@ mod Arriving
 mod Ticking
 mod Lateness
 mod Forgetting
+mod Freeing

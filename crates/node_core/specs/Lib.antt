@@ -4,3 +4,4 @@ pub mod Bringing
 pub mod Deeds
 pub mod Handling
 pub mod Turning
+pub mod Owing

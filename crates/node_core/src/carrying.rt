@@ -132,7 +132,7 @@ impl<N: Nv + Drop> Node<N> {
     }
 
     // The block that was set aside for an asker, where one was, is free.
-    fn release<W: Watch>(&mut self, asker: u8, watch: &mut W)
+    pub(crate) fn release<W: Watch>(&mut self, asker: u8, watch: &mut W)
         requires runs { IsSoundNode self.old }
         ensures carried { (start : List Noted) (w : Work) → IsInStep self.old (W.noted watch.old) (W.is_short watch.old) start w
             → IsInStep self.new (W.noted watch.new) (W.is_short watch.new) start (turn_at asker Release w) }

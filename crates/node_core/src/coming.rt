@@ -4,22 +4,22 @@ ghost use Rattle.std.specs.Prelude.{◌≡◌};
 use crate::node::Node;
 use crate::noting::note;
 use crate::reporting::note_report;
-use link_end::LinkReport;
+use link_end::{LinkReport, ResetRefused};
 use swp_base::{Control, Nv};
 use swp_lpdu::LpduFault;
 use trace_model::{Entry, Octets, Watch};
 
 impl<N: Nv + Drop> Node<N> {
-    ghost use Rattle.std.specs.Prelude.{◌≡◌, ℕ, List, [], map, length, if◌then◌else◌, Some, None, option_map, slice_get};
+    ghost use Rattle.std.specs.Prelude.{◌≡◌, ◌≤◌, ℕ, IfSome, List, [], map, length, if◌then◌else◌, Some, None, option_map, slice_get};
     ghost use Rattle.std.specs.Option.{option_map_or};
     ghost use Rattle.trace_model.specs.declared.entry.Entry.{Entry as Noted};
     ghost use Rattle.swp_lpdu.specs.Controls.{control_of};
     ghost use Rattle.link_machine.specs.Machine.{Report, report, lpdu_input, whole_acked};
-    ghost use Rattle.link_machine.specs.Machine.LinkInput.{Start, Stop, Tick};
+    ghost use Rattle.link_machine.specs.Machine.LinkInput.{Reset, Start, Stop, Tick};
     ghost use Rattle.link_entries.specs.entries.Entries.{told};
     ghost use Rattle.link_entries.specs.entries.Entries.Entry.{Got};
     ghost use Rattle.history.specs.Steps.{entries_for};
-    ghost use Rattle.link_end.specs.Reports.{report_told};
+    ghost use Rattle.link_end.specs.Reports.{report_told, reset_told};
     ghost use Rattle.node_machine.specs.Parts.{Core, Port, Work};
     ghost use Rattle.node_machine.specs.Carrying.{own_side, port_at};
     ghost use Rattle.node_machine.specs.Node.{all_come};
@@ -157,6 +157,41 @@ impl<N: Nv + Drop> Node<N> {
         };
         self.note_input(host, &report, buffer, watch);
         Some(report)
+    }
+
+    /// A reset of the link with this host is asked for, with this window, which is 1 to 4, or with the end's own one, and what that did is
+    /// noted. At most six control frames wait there to be sent. The buffer has 4,096 bytes. What is told of it; `None` where there is no
+    /// such end.
+    pub(crate) fn reset<W: Watch>(
+        &mut self,
+        host: u8,
+        window: Option<u8>,
+        buffer: &mut [u8],
+        watch: &mut W,
+    ) -> Option<Result<LinkReport, ResetRefused>>
+        requires runs { IsSoundNode self.old }
+        requires buffer { length buffer.old ≡ 4096 }
+        requires window { IfSome window (λ w. (1 ≤ w) × (w ≤ 4)) }
+        requires may { (start : List Noted) × (w : Work) × IsInStep self.old (W.noted watch.old) (W.is_short watch.old) start w
+            × FewAreDue (port_at w.ports host) }
+        ensures carried { (start : List Noted) (w : Work) → IsInStep self.old (W.noted watch.old) (W.is_short watch.old) start w
+            → IsInStep self.new (W.noted watch.new) (W.is_short watch.new) start (all_come (AtEnd host (Reset window)) w) }
+        ensures answer { (start : List Noted) (w : Work) → IsInStep self.old (W.noted watch.old) (W.is_short watch.old) start w
+            → result ≡ option_map (λ (p : Port). reset_told p.side window) (port_at w.ports host) }
+        ensures store { self.new.store ≡ self.old.store }
+        ensures number { self.new.number ≡ self.old.number }
+        ensures runs { IsSoundNode self.new }
+    {
+        let Some(told) = self.ends.reset(host, window) else {
+            return None;
+        };
+        match told {
+            Ok(report) => {
+                self.note_input(host, &report, buffer, watch);
+                Some(Ok(report))
+            }
+            Err(why) => Some(Err(why)),
+        }
     }
 
     // A tick comes to the end at this place, where there is one, and what it did is noted. At most six control frames wait there to be

@@ -7,6 +7,7 @@ mod coming;
 mod endings;
 mod node;
 mod noting;
+mod owing;
 mod reporting;
 mod seeing;
 mod timeouts;

@@ -1,0 +1,111 @@
+-- Blocks of askers whose creations are forgotten are free.
+use Rattle.std.proofs.Common.{◌≡◌, ℕ, zero, suc, ◌≤◌, Bool, true, false, not, List, [], ◌∷◌, ◌++◌, map, take, length, refl, sym, ap, ◌∙◌, arith}
+use Rattle.std.proofs.Common.{add-one, append_assoc, ◌+◌}
+use Rattle.std.proofs.Common.{append_assoc, append-nil}
+use Rattle.std.specs.Prelude.{Option, Some, None, slice_get}
+use Rattle.std.specs.List.{flat_map, filter, filter_map}
+use Rattle.std.specs.Option.{option_map_or}
+use Rattle.std.proofs.lemmas.List.Concat.{flat_map-cons}
+use Rattle.std.proofs.lemmas.Grind.{flat_map-append}
+use Rattle.gate_answers.specs.declared.response.Response.{Response}
+use Rattle.trace_model.specs.declared.entry.Entry.{Entry}
+use Rattle.link_machine.specs.Machine.Turn.{Release}
+use Rattle.node_machine.specs.Parts.{Creation, Port, Work, Deed}
+use Rattle.node_machine.specs.Parts.Deed.{Releases}
+use Rattle.node_machine.specs.Carrying.{turn_at, all_done}
+use Rattle.node_machine.specs.Controller.{asked_at}
+use Rattle.node_machine.specs.Node.{forgotten, is_over_at, owed}
+use Rattle.node_core.specs.declared.node.Node.{Node}
+use Rattle.node_core.specs.Nodes.{IsInStep}
+use Rattle.node_core.specs.Owing.{freed_at, answers_to, has_ended_so, owed_at}
+
+-- ## All ends
+
+all_freed : (all ports : List Port)
+    → map (λ (c : Creation). Releases c.asker) (filter (λ (c : Creation). is_over_at all c.asker) (filter_map asked_at ports))
+    ≡ flat_map (freed_at all) ports
+all_freed all [] = refl
+all_freed all (p ∷ ports) = by (asked_at p) refl (all_freed all ports) ∙ sym (flat_map-cons (freed_at all) p ports)
+  where
+    one : (c : Creation) (b : Bool) → is_over_at all c.asker ≡ b → asked_at p ≡ Some c
+        → map (λ (c : Creation). Releases c.asker) (filter (λ (c : Creation). is_over_at all c.asker) (filter_map asked_at ports))
+        ≡ flat_map (freed_at all) ports
+        → map (λ (c : Creation). Releases c.asker) (filter (λ (c : Creation). is_over_at all c.asker) (filter_map asked_at (p ∷ ports)))
+        ≡ freed_at all p ++ flat_map (freed_at all) ports
+    one c true over q later = rw (q, over) (ap (λ l. Releases c.asker ∷ l) later)
+    one c false over q later = rw (q, over) later
+
+    by : (o : Option Creation) → asked_at p ≡ o
+        → map (λ (c : Creation). Releases c.asker) (filter (λ (c : Creation). is_over_at all c.asker) (filter_map asked_at ports))
+        ≡ flat_map (freed_at all) ports
+        → map (λ (c : Creation). Releases c.asker) (filter (λ (c : Creation). is_over_at all c.asker) (filter_map asked_at (p ∷ ports)))
+        ≡ freed_at all p ++ flat_map (freed_at all) ports
+    by None q later = rw q later
+    by (Some c) q later = one c (is_over_at all c.asker) refl q later
+
+pub next_freed : (t : Port → List Deed) (i : ℕ) (ports : List Port)
+    → flat_map t (take (suc i) ports) ≡ flat_map t (take i ports) ++ option_map_or t (slice_get ports i) []
+next_freed t zero [] = refl
+next_freed t (suc i) [] = refl
+next_freed t zero (q ∷ ports) = flat_map-cons t q [] ∙ append-nil (t q)
+next_freed t (suc i) (q ∷ ports) =
+    flat_map-cons t q (take (suc i) ports)
+    ∙ (ap (λ l. t q ++ l) (next_freed t i ports)
+    ∙ (sym (append_assoc (t q) (flat_map t (take i ports)) (option_map_or t (slice_get ports i) []))
+    ∙ ap (λ l. l ++ option_map_or t (slice_get ports i) []) (sym (flat_map-cons t q (take i ports)))))
+
+past_freed : (t : Port → List Deed) (i : ℕ) (ports : List Port) → length ports ≤ i → flat_map t (take i ports) ≡ flat_map t ports
+past_freed t zero [] past = refl
+past_freed t (suc i) [] past = refl
+past_freed t zero (p ∷ ports) past = absurd (omega (arith, past))
+past_freed t (suc i) (p ∷ ports) past =
+    flat_map-cons t p (take i ports) ∙ (ap (λ l. t p ++ l) (past_freed t i ports (omega (arith, past))) ∙ sym (flat_map-cons t p ports))
+
+pub freed_all : (i : ℕ) (ports : List Port) → length ports ≤ i → flat_map (freed_at ports) (take i ports) ≡ forgotten ports
+freed_all i ports past = past_freed (freed_at ports) i ports past ∙ sym (all_freed ports ports)
+
+pub one_gathered : (t : Port → List Deed) (ports : List Port) (i : ℕ) (old fs : List Deed) → old ≡ flat_map t (take i ports)
+    → fs ≡ option_map_or t (slice_get ports i) [] → old ++ fs ≡ flat_map t (take (i + 1) ports)
+one_gathered t ports i old fs before next =
+    ap (λ l. l ++ fs) before ∙ (ap (λ l. flat_map t (take i ports) ++ l) next ∙ (sym (next_freed t i ports)
+    ∙ ap (λ n. flat_map t (take n ports)) (sym (add-one i))))
+
+-- ## What is owed
+
+owed_each : (late : Bool) (r : Response) (ports : List Port)
+    → flat_map (owed_at late r) ports ≡ flat_map (λ (p : Port). owed r (asked_at p)) (filter (has_ended_so late) ports)
+owed_each late r [] = refl
+owed_each late r (p ∷ ports) = flat_map-cons (owed_at late r) p ports ∙ by (has_ended_so late p) refl (owed_each late r ports)
+  where
+    by : (b : Bool) → has_ended_so late p ≡ b
+        → flat_map (owed_at late r) ports ≡ flat_map (λ (q : Port). owed r (asked_at q)) (filter (has_ended_so late) ports)
+        → owed_at late r p ++ flat_map (owed_at late r) ports
+        ≡ flat_map (λ (q : Port). owed r (asked_at q)) (filter (has_ended_so late) (p ∷ ports))
+    by true q later =
+        rw q (ap (λ l. owed r (asked_at p) ++ l) later
+        ∙ sym (flat_map-cons (λ (x : Port). owed r (asked_at x)) p (filter (has_ended_so late) ports)))
+    by false q later = rw q later
+
+pub owed_all : (late : Bool) (r : Response) (i : ℕ) (ports : List Port) → length ports ≤ i
+    → flat_map (owed_at late r) (take i ports) ≡ flat_map (λ (p : Port). owed r (asked_at p)) (filter (has_ended_so late) ports)
+owed_all late r i ports past = past_freed (owed_at late r) i ports past ∙ owed_each late r ports
+
+pub one_answered : (r : Response) (askers : List ℕ) (a : ℕ) → flat_map (answers_to r) (askers ++ a ∷ []) ≡ flat_map (answers_to r) askers ++ answers_to r a
+one_answered r askers a =
+    flat_map-append (answers_to r) askers (a ∷ [])
+    ∙ ap (λ l. flat_map (answers_to r) askers ++ l) (flat_map-cons (answers_to r) a [] ∙ append-nil (answers_to r a))
+
+-- ## Releases, one after another
+
+pub record ReleasesOn {N : Type 0} (n : Node N) (noted : List Entry) (short : Bool) (start : List Entry) (left all : List ℕ) (w : Work) : Type 0 where
+  pub now : Work
+  pub under : IsInStep n noted short start now
+  pub onto : all_done 0 (map Releases left) now ≡ all_done 0 (map Releases all) w
+
+pub release_goes_on : {N : Type 0} {n n2 : Node N} {noted noted2 start : List Entry} {short short2 : Bool} {a : ℕ} {left all : List ℕ} {w : Work}
+    (k : ReleasesOn n noted short start (a ∷ left) all w) → n.store.journal.live ≡ true → IsInStep n2 noted2 short2 start (turn_at a Release k.now)
+    → ReleasesOn n2 noted2 short2 start left all w
+release_goes_on {a = a} {left = left} k live under =
+    let power : k.now.cut ≡ false = k.under.power ∙ ap not live in
+    let goes : all_done 0 (map Releases (a ∷ left)) k.now ≡ all_done 0 (map Releases left) (turn_at a Release k.now) = rw power refl in
+    record { now = turn_at a Release k.now; under = under; onto = sym goes ∙ k.onto }

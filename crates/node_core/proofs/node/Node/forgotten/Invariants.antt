@@ -1,0 +1,14 @@
+use Rattle.std.proofs.Common.{◌≡◌, ◌≤◌, List, map, take, length}
+use Rattle.std.specs.List.{flat_map}
+use Rattle.node_machine.specs.Parts.{Port}
+use Rattle.node_machine.specs.Parts.Deed.{Releases}
+use Rattle.node_ends.specs.Ends.{EndsStandFor}
+use Rattle.node_core.specs.Owing.{freed_at}
+use Rattle.node_core.proofs.node.Node.forgotten.Given as goal
+
+-- those of the ends so far
+abbrev pub invariant-loop-i : goal.invariant-loop-i
+invariant-loop-i g l = record {
+  items : (ports : List Port) → EndsStandFor l.fn.self.ends ports → map Releases l.askers.items ≡ flat_map (freed_at ports) (take l.i ports);
+  few : length l.askers.items ≤ l.i;
+}

@@ -1,0 +1,49 @@
+use Rattle.std.proofs.Common.{ℕ, List, [], length, sym, ap, ◌∙◌, arith, append-nil}
+use Rattle.std.specs.Prelude.{Option}
+use Rattle.std.specs.List.{flat_map}
+use Rattle.std.specs.Option.{option_map_or}
+use Rattle.node_machine.specs.Parts.{Deed}
+use Rattle.gate_answers.specs.declared.response.Response.{Response}
+use Rattle.node_core.specs.Owing.{answers_to, owed_at}
+use Rattle.node_core.proofs.Ticking.{many_ports}
+use Rattle.node_core.proofs.Freeing.{one_gathered, owed_all, one_answered}
+use Rattle.node_core.proofs.node.Node.owed.Goals as goal
+use Rattle.node_core.proofs.node.Node.owed.Goals.{in-Some, in_default}
+
+pub push-requires : goal.push-requires
+push-requires g c = let few = c.loop-i.invariant.few in let low = c.loop-i-test.true in omega (arith, few, low)
+
+pub loop-i-preserved : goal.loop-i-preserved
+loop-i-preserved g c =
+    let i = c.loop-i.i in
+    let so_far = c.loop-i.invariant in
+    let few = so_far.few in
+    let t : Response → Option ℕ → List Deed = λ r o. option_map_or (answers_to r) o [] in
+    elim c.match-owed_at.branch [
+      | in-Some w ↦
+          let len = w.push.ensures.len in
+          let same = ap (λ v. length v.items) w.askers-is in
+          record {
+            items = λ ports r e.
+                ap (λ v. flat_map (answers_to r) v.items) w.askers-is
+                ∙ (ap (flat_map (answers_to r)) w.push.ensures.items ∙ (one_answered r c.loop-i.askers.items w.in-Some.asker
+                ∙ one_gathered (owed_at c.args.late r) ports i (flat_map (answers_to r) c.loop-i.askers.items) (answers_to r w.in-Some.asker) (so_far.items ports r e)
+                (sym (ap (t r) w.in-Some.is) ∙ c.owed_at.ensures ports r e)));
+            few = omega (arith, len, same, few);
+          }
+      | in_default w ↦
+          let same = ap (λ v. length v.items) w.askers-is in
+          record {
+            items = λ ports r e.
+                ap (λ v. flat_map (answers_to r) v.items) w.askers-is
+                ∙ (sym (append-nil (flat_map (answers_to r) c.loop-i.askers.items))
+                ∙ one_gathered (owed_at c.args.late r) ports i (flat_map (answers_to r) c.loop-i.askers.items) [] (so_far.items ports r e) (sym (ap (t r) w.in_default.is) ∙ c.owed_at.ensures ports r e));
+            few = omega (arith, same, few);
+          }
+    ]
+
+pub returns : goal.returns
+returns g c ports r e =
+    let many = many_ports c.args.self.now.ends ports e in
+    let past = c.loop-i-test.false in
+    c.loop-i.invariant.items ports r e ∙ owed_all c.args.late r c.loop-i.i ports (omega (arith, many, past))

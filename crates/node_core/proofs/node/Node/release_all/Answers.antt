@@ -1,0 +1,46 @@
+use Rattle.std.proofs.Common.{◌≡◌, ℕ, ◌+◌, List, [], ◌∷◌, get_or, drop, map, refl, sym, ap, ◌∙◌, subst, add-one, drop-cons}
+use Rattle.std.proofs.lemmas.List.{drop_all}
+use Rattle.hci_store.specs.Stored.{Stored}
+use Rattle.node_machine.specs.Parts.{Work}
+use Rattle.node_machine.specs.Parts.Deed.{Releases}
+use Rattle.node_machine.specs.Carrying.{all_done}
+use Rattle.node_core.specs.Nodes.{IsInStep}
+use Rattle.node_core.proofs.Freeing.{ReleasesOn, release_goes_on}
+use Rattle.node_core.proofs.node.Node.release_all.Goals as goal
+
+pub loop-asker-init : goal.loop-asker-init
+loop-asker-init g c = record {
+  runs = c.requires.runs;
+  live = c.requires.live;
+  store = refl;
+  number = refl;
+  goes = λ start w u. record { now = w; under = u; onto = refl };
+}
+
+pub loop-asker-preserved : goal.loop-asker-preserved
+loop-asker-preserved g c =
+    let t = c.release in
+    let askers = c.args.askers.now in
+    let i = c.loop-asker.asker-index in
+    let a : ℕ = get_or askers i 0 in
+    let split : drop i askers ≡ a ∷ drop (i + 1) askers = drop-cons askers i 0 c.loop-asker-test.true ∙ ap (λ n. a ∷ drop n askers) (sym (add-one i)) in
+    record {
+      runs = t.ensures.runs;
+      live = ap (λ (s : Stored g.row.N.Denot). s.journal.live) t.ensures.store ∙ c.loop-asker.invariant.live;
+      store = t.ensures.store ∙ c.loop-asker.invariant.store;
+      number = t.ensures.number ∙ c.loop-asker.invariant.number;
+      goes = λ start w u.
+          let P : List ℕ → Type 0 = λ l. ReleasesOn c.loop-asker.self (g.W.Watch.noted c.loop-asker.watch) (g.W.Watch.is_short c.loop-asker.watch)
+          start l askers w in
+          let k : P (a ∷ drop (i + 1) askers) = subst P split (c.loop-asker.invariant.goes start w u) in
+          release_goes_on k c.loop-asker.invariant.live (t.ensures.carried start k.now k.under);
+    }
+
+pub returns-clause-carried : goal.returns-clause-carried
+returns-clause-carried g c start w u =
+    let askers = c.args.askers.now in
+    let i = c.loop-asker.asker-index in
+    let k = c.loop-asker.invariant.goes start w u in
+    let none : drop i askers ≡ [] = drop_all i askers c.loop-asker-test.false in
+    let P : Work → Type 0 = λ v. IsInStep c.loop-asker.self (g.W.Watch.noted c.loop-asker.watch) (g.W.Watch.is_short c.loop-asker.watch) start v in
+    subst P (ap (λ (l : List ℕ). all_done 0 (map Releases l) k.now) (sym none) ∙ k.onto) k.under

@@ -1,0 +1,118 @@
+//! What a node owes where sessions ended.
+use crate::node::Node;
+use arrayvec::ArrayVec;
+use swp_base::Nv;
+use trace_model::Watch;
+
+impl<N: Nv + Drop> Node<N> {
+    ghost use Rattle.std.specs.Prelude.{◌≡◌, List, [], ◌∷◌, map, IsTrue, slice_get};
+    ghost use Rattle.std.specs.Option.{option_map_or};
+    ghost use Rattle.trace_model.specs.declared.entry.Entry.{Entry as Noted};
+    ghost use Rattle.node_machine.specs.Parts.{Port, Work, Deed};
+    ghost use Rattle.node_machine.specs.Parts.Deed.{Releases};
+    ghost use Rattle.node_machine.specs.Carrying.{all_done};
+    ghost use Rattle.node_machine.specs.Node.{forgotten};
+    ghost use Rattle.node_ends.specs.Ends.{EndsStandFor};
+    ghost use Rattle.node_core.specs.Nodes.{IsInStep, IsSoundNode};
+    ghost use Rattle.std.specs.Prelude.{Bool, false};
+    ghost use Rattle.std.specs.List.{flat_map, filter};
+    ghost use Rattle.gate_answers.specs.declared.response.Response.{Response};
+    ghost use Rattle.node_machine.specs.Controller.{asked_at};
+    ghost use Rattle.node_machine.specs.Node.{owed};
+    ghost use Rattle.node_core.specs.Owing.{freed_at, answers_to, has_ended_so, owed_at};
+
+    // The asker of the creation that waits at the end at this place, where it is forgotten since the asker's session ended in this step.
+    fn forgotten_at(&self, i: usize) -> Option<u8>
+        requires runs { IsSoundNode self.now }
+        ensures { (ports : List Port) → EndsStandFor self.now.ends ports
+            → option_map_or (λ asker. Releases asker ∷ []) result [] ≡ option_map_or (freed_at ports) (slice_get ports i) [] }
+    {
+        let Some(desk) = self.ends.desk(i) else {
+            return None;
+        };
+        let Some(row) = desk.awaited() else {
+            return None;
+        };
+        if self.ends.is_over(row.creator) {
+            Some(row.creator)
+        } else {
+            None
+        }
+    }
+
+    /// The askers whose creations are forgotten, since their sessions ended in this step.
+    pub(crate) fn forgotten(&self) -> ArrayVec<u8, 7>
+        requires runs { IsSoundNode self.now }
+        ensures { (ports : List Port) → EndsStandFor self.now.ends ports → map Releases result.items ≡ forgotten ports }
+    {
+        let mut askers = ArrayVec::new();
+        for i in 0..7 {
+            if let Some(asker) = self.forgotten_at(i) {
+                askers.push(asker);
+            }
+        }
+        askers
+    }
+
+    /// The blocks that were set aside for these askers, where they were, are free.
+    pub(crate) fn release_all<W: Watch>(&mut self, askers: &[u8], watch: &mut W)
+        requires runs { IsSoundNode self.old }
+        requires live { IsTrue self.old.store.journal.live }
+        ensures carried { (start : List Noted) (w : Work) → IsInStep self.old (W.noted watch.old) (W.is_short watch.old) start w
+            → IsInStep self.new (W.noted watch.new) (W.is_short watch.new) start (all_done 0 (map Releases askers.now) w) }
+        ensures store { self.new.store ≡ self.old.store }
+        ensures number { self.new.number ≡ self.old.number }
+        ensures runs { IsSoundNode self.new }
+    {
+        for asker in askers {
+            self.release(*asker, watch);
+        }
+    }
+
+    // Whether the session of the end at this place ended in this step, as its notice was late or otherwise.
+    fn has_ended_so(&self, i: usize, late: bool) -> bool
+        requires runs { IsSoundNode self.now }
+        ensures { (ports : List Port) → EndsStandFor self.now.ends ports
+            → result ≡ option_map_or (has_ended_so late) (slice_get ports i) false }
+    {
+        if late {
+            self.ends.was_late(i)
+        } else {
+            self.ends.has_ended(i)
+        }
+    }
+
+    // The asker of the creation that waits at the end at this place, where the session of that end ended so in this step.
+    fn owed_at(&self, i: usize, late: bool) -> Option<u8>
+        requires runs { IsSoundNode self.now }
+        ensures { (ports : List Port) (r : Response) → EndsStandFor self.now.ends ports
+            → option_map_or (answers_to r) result [] ≡ option_map_or (owed_at late r) (slice_get ports i) [] }
+    {
+        if !self.has_ended_so(i, late) {
+            return None;
+        }
+        let Some(desk) = self.ends.desk(i) else {
+            return None;
+        };
+        match desk.awaited() {
+            Some(row) => Some(row.creator),
+            None => None,
+        }
+    }
+
+    /// The askers to whom an answer is owed, since the session of the host that is asked ended in this step, as its notice was late or
+    /// otherwise.
+    pub(crate) fn owed(&self, late: bool) -> ArrayVec<u8, 7>
+        requires runs { IsSoundNode self.now }
+        ensures { (ports : List Port) (r : Response) → EndsStandFor self.now.ends ports
+            → flat_map (answers_to r) result.items ≡ flat_map (λ p. owed r (asked_at p)) (filter (has_ended_so late) ports) }
+    {
+        let mut askers = ArrayVec::new();
+        for i in 0..7 {
+            if let Some(asker) = self.owed_at(i, late) {
+                askers.push(asker);
+            }
+        }
+        askers
+    }
+}
