@@ -38,6 +38,7 @@ use Rattle.link_entries.proofs.entries.Together.{ticks_host as tick_host}
 use Rattle.node_order.proofs.links.Obeying.{obey}
 use Rattle.link_machine.proofs.Reports.{shdlc_is as moved_shdlc, moved_sent as sent_moved}
 use Rattle.link_entries.proofs.entries.Stepping.{fetched_acked as frames_acked, one_fetched_acked}
+use Rattle.link_entries.specs.messages.Links.{Ending}
 
 -- ## Messages
 
@@ -290,7 +291,7 @@ all_within l (x ∷ xs) a = all_within (happens_at_controller l x) xs (here_with
 over : (l : Link) → AreWithin l → AreWithin (exchanged l)
 over l a = record { near = a.far; far = a.near }
 
-ticks_within : (l : Link) (ts : List Turn) (ending : Rattle.link_entries.specs.messages.Links.Ending) → AreWithin l → AreWithin (ticks_at_controller l ts ending)
+ticks_within : (l : Link) (ts : List Turn) (ending : Ending) → AreWithin l → AreWithin (ticks_at_controller l ts ending)
 ticks_within l ts ending a = record {
   near = tick_is IsWithin input_within turns_within sent_within new_within l ts ending a.near;
   far = subst (λ (h : Rattle.link_entries.specs.messages.Links.NumberedEnd). IsWithin h.side) (sym (tick_host l ts ending)) a.far;

@@ -10,13 +10,14 @@ use Rattle.link_machine.specs.Machine.{LinkEnd, LinkInput, Message}
 use Rattle.link_entries.specs.messages.Links.{NumberedEnd, Link, Comes, exchanged}
 use Rattle.link_entries.specs.messages.Links.Comes.{NoInput, Starts}
 use Rattle.link_entries.specs.messages.Links.EndEvent.{Step}
-use Rattle.link_entries.specs.entries.Entries.{End as Side}
+use Rattle.link_entries.specs.entries.Entries.{End as Side, ending_entries}
 use Rattle.link_entries.specs.entries.Entries.End.{Controller, Host}
 use Rattle.history.specs.Filters.{same_end}
 use Rattle.history.specs.Steps.{entries_for, end_of}
 use Rattle.history.specs.Follows.{seen_from}
 use Rattle.trace_model.specs.declared.line.End.{End}
-use Rattle.node_machine.specs.Parts.{Init, Running, Work, Deed}
+use Rattle.node_machine.specs.Parts.{Init, Port, Running, Work, Deed}
+use Rattle.std.specs.Option.{option_map_or}
 use Rattle.node_machine.specs.Parts.Deed.{Orders, Sends}
 use Rattle.node_machine.specs.Controller.{is_command_message}
 use Rattle.node_machine.specs.Carrying.{changed_if, port_at}
@@ -129,10 +130,10 @@ module _ (h : ℕ) (host : IsHost h) where
 
   pub frames_leave : (who : Side) (k : ℕ) (l : Link) (w : Work) → AllByRecursion (LeavesInit h) (frames_noted who k l w)
   frames_leave who k l w = go (port_at w.ports k) where
-    go : (o : Option Rattle.node_machine.specs.Parts.Port) → AllByRecursion (LeavesInit h) (Rattle.std.specs.Option.option_map_or (λ
-        (p : Rattle.node_machine.specs.Parts.Port). entries_for k (Rattle.link_entries.specs.entries.Entries.ending_entries who l p.side (ending_of w))) o [])
+    go : (o : Option Port) → AllByRecursion (LeavesInit h) (option_map_or
+        (λ (p : Port). entries_for k (ending_entries who l p.side (ending_of w))) o [])
     go None = tt
-    go (Some p) = quiet_leaves h k (Rattle.link_entries.specs.entries.Entries.ending_entries who l p.side (ending_of w)) (ending_quiet who l p.side (ending_of w))
+    go (Some p) = quiet_leaves h k (ending_entries who l p.side (ending_of w)) (ending_quiet who l p.side (ending_of w))
 
   arrival_leave : (who : Side) (k : ℕ) (l : Link) (comes : Comes) → AllByRecursion (LeavesInit h) (entries_for k (arrival who l comes))
   arrival_leave who k l comes = quiet_leaves h k (arrival who l comes) (arrival_quiet who l comes)
