@@ -115,8 +115,9 @@ site_one (p ∷ ports) (x ∷ sites) k s same here = by (eqb x.host k) refl (sit
       let passed : eqb p.desk.host k ≡ false = ap (λ n. eqb n k) one ∙ q in
       let rest = later others (rw q at here) in (rest.0, rw passed rest.1)
 
-module _ (t : List Entry) (sites : List Site) (plan : Option Plan) (r : Running) (has : HasEnds 0 (hosts_in sites) r) (different : AreDifferent (hosts_in sites))
-    (near_ends : ℕ → NumberedEnd) (es : List Entry) (same : (k : ℕ) → (near_ends k).side ≡ (link_to sites k).controller.side)
+module _ (t : List Entry) (sites : List Site) (plan : Option Plan) (r : Running) (has : HasEnds 0 (hosts_in sites) r)
+    (different : AreDifferent (hosts_in sites)) (near_ends : ℕ → NumberedEnd) (es : List Entry)
+    (same : (k : ℕ) → (near_ends k).side ≡ (link_to sites k).controller.side)
     (waits : (k : ℕ) (s : Site) → site_at sites k ≡ Some s → Goes (end_c k) [] t s.link.controller.side.got)
     (holds : (k : ℕ) → holds_in t (end_c k) ≡ is_held_among r.desks k)
     (none : AreNoTurns es) (unbooted : AreNoBoots es) (own : AreOwn 0 es) (uncut : AreUncut es) (still : (k : ℕ) → AreStill (end_c k) es)

@@ -67,7 +67,7 @@ use Rattle.answer_laws.proofs.worlds.Histories.{quiet}
 use Rattle.answer_laws.proofs.worlds.Late.{AreHostSites, IsHostSite, IsLate, NoAnswer, activates_late, answer_is, boots_late, coming_late, late_all, lost_late}
 use Rattle.answer_laws.proofs.worlds.Late.{ticks_late}
 use Rattle.answer_laws.proofs.worlds.Order.{others_answer, unanswered_all}
-use Rattle.answer_laws.proofs.worlds.Quiet.{taken_up}
+use Rattle.node_readings.proofs.views.InitLines.{taken_up}
 use Rattle.answer_laws.proofs.worlds.Steps.{far_node, far_number, host_begins}
 use Rattle.answer_laws.proofs.worlds.Ticking.{IfNoNotices}
 

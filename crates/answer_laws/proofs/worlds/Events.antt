@@ -297,7 +297,8 @@ module _ (t : List Entry) (w : NodeWorld) (a : IsOrderly w) (before : AllWaiting
           let es : List Entry = noted_by_deeds h deeds from in
           let none : AreNoTurns es = noted_none h deeds from turnless in
           let noted : v.entries ≡ es = ap (λ (u : Work). u.entries) (sym is) ∙ deeds_note h deeds from in
-          let unbooted : AreNoBoots v.entries = subst (λ (u : Work). AreNoBoots u.entries) is (begins_unbooted r.core.node (own_side r.core) h deeds from mute refl refl tt) in
+          let unbooted : AreNoBoots v.entries =
+          subst (λ (u : Work). AreNoBoots u.entries) is (begins_unbooted r.core.node (own_side r.core) h deeds from mute refl refl tt) in
           let own : AreIdle (end_h s.host) v.entries =
           quiet_idle (end_h s.host) v.entries (subst (AreStill (end_h s.host)) (sym noted) (deeds_still (end_h s.host) h deeds from mute))
           (subst AreNoTurns (sym noted) none) unbooted in
@@ -344,7 +345,8 @@ module _ (t : List Entry) (sites : List Site) (a : AllAtRest t sites) where
   -- at one site
   with_kept : (k : ℕ) (g : Site → Site) → Kept g → Kept (λ (s : Site). changed_if (s.host == k) g s)
   with_kept k g kept s = by (s.host == k) where
-    by : (b : Bool) (r : Running) → (changed_if b g s).node ≡ Some r → (x : Running) × (s.node ≡ Some x) × (is_held_among x.desks s.host ≡ is_held_among r.desks s.host)
+    by : (b : Bool) (r : Running) → (changed_if b g s).node ≡ Some r
+        → (x : Running) × (s.node ≡ Some x) × (is_held_among x.desks s.host ≡ is_held_among r.desks s.host)
     by true r q = kept s r q
     by false r q = same_node s r q
 
@@ -369,7 +371,8 @@ module _ (t : List Entry) (w : NodeWorld) (a : AllAtRest t w.sites) where
   cut_rests n v same =
       by_power (λ u. AllAtRest (t ++ entry.Cut n ∷ []) u.sites) n v
       (λ z. subst (λ l. AllAtRest (t ++ entry.Cut n ∷ []) (controller_cut (record v { sites = l })).sites) (sym same)
-      (all_on t (entry.Cut n ∷ []) (λ (s : Site). record s { link = happens s.link (AtController (Step NoInput [] CutOff)) }) (λ s. refl) same_node (λ e. (tt, tt))
+      (all_on t (entry.Cut n ∷ []) (λ (s : Site). record s { link = happens s.link (AtController (Step NoInput [] CutOff)) }) (λ s. refl)
+      same_node (λ e. (tt, tt))
       w.sites a))
       (λ z. subst (λ l. AllAtRest (t ++ entry.Cut n ∷ []) (with_site n host_cut l)) (sym same)
       (with_on t w.sites a (entry.Cut n ∷ []) n host_cut (λ s. refl) (λ s r q. let no : None ≡ Some r = q in absurd (cc no)) (λ e. (tt, tt))))

@@ -38,7 +38,8 @@ use Rattle.node_laws.specs.telling.Telling.{MayBoot}
 use Rattle.node_laws.proofs.telling.Lasting.{AnyLine, EachHolds, all_lines, boots_may, front_each, lines_each, occurs}
 use Rattle.node_readings.proofs.notices.Events.{begins_read, event_read}
 use Rattle.answer_laws.proofs.worlds.Aging.{aged_read}
-use Rattle.answer_laws.proofs.worlds.Quiet.{front_keeps, new_keeps, keeps_none, line_may}
+use Rattle.answer_laws.proofs.worlds.Quiet.{front_keeps, new_keeps, keeps_none}
+use Rattle.node_readings.proofs.views.InitLines.{line_may}
 use Rattle.answer_laws.proofs.worlds.Ticking.{NoNotices, IfNoNotices}
 use Rattle.answer_laws.proofs.worlds.Resetting.{AgesAreRead, IsReadBefore, near_is, far_is}
 

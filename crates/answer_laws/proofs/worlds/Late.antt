@@ -24,7 +24,8 @@ use Rattle.node_machine.specs.Node.{NodeInput, steps}
 use Rattle.node_machine.specs.Node.NodeInput.{AtEnd, TimePasses}
 use Rattle.node_machine.specs.Turns.{passes}
 use Rattle.node_machine.specs.world.World.{NodeWorld, Site, all_aged, boots, comes_at, comes_to, controller_does, controller_ticks, controller_work, end_c}
-use Rattle.node_machine.specs.world.World.{end_h, ending_of, is_late_at, frame_lost, frames_noted, host_does, host_ticks, host_work, hosts_tick, link_after_controller}
+use Rattle.node_machine.specs.world.World.{end_h, ending_of, is_late_at, frame_lost, frames_noted, host_does, host_ticks, host_work, hosts_tick}
+use Rattle.node_machine.specs.world.World.{link_after_controller}
 use Rattle.node_machine.specs.world.World.{link_to, near_end_in, turns_at, wires_for, work_of, world_ticks}
 use Rattle.node_machine.proofs.world.Cases.{by_boot, by_coming, by_controller, by_controller_tick, by_host, by_host_tick, by_loss, host_tick, near_tick}
 use Rattle.node_machine.proofs.world.Cases.{site_ticked, site_unticked}
@@ -217,7 +218,8 @@ module _ (n : ℕ) where
         let site : IsHostSite s = site_is IsHostSite w.sites h s sites found in
         let side : (near_end_in (exchanged s.link) comes).side ≡ s.link.host.side = near_end_side (exchanged s.link) comes in
         step_late (AtEnd h i) (host_begins s r comes) frames
-        (ports_of (λ k. near_end_in (exchanged s.link) comes) (λ k. subst (λ (e : LinkEnd). IsUicc e.role) (sym side) site.0) r.desks (subst IfNoNotices runs site.1))
+        (ports_of (λ k. near_end_in (exchanged s.link) comes) (λ k. subst (λ (e : LinkEnd). IsUicc e.role) (sym side) site.0) r.desks
+        (subst IfNoNotices runs site.1))
         (arrival_unanswered Host s.host (exchanged s.link) comes)
         (unanswered_all n frames (out_unanswered Host h (wires_for (exchanged s.link) comes) v))
         (subst (λ k. AreOwn k (v.entries ++ frames)) (eqb-true h n q) (part_own h (v.entries ++ frames) same))) part

@@ -223,7 +223,8 @@ module _ (hosts : List ℕ) (t : List Entry) (w : NodeWorld) (a : IsOrderly w)
       (step_so hosts t [] (frames ++ rest) (AtEnd h i) (controller_begins w r h comes) tt (links_none h (arrival Controller (link_to w.sites h) comes))
       (all_append _ frames rest (frames_none wires v w.sites) (other_turns 0 rest other))
       (all_append IsNoAnswer frames rest (frames_quiet wires v w.sites) (no_answer rest other))
-      (λ on. subst (λ l. AreRepliedIn hosts l (comes_to_pass (AtEnd h i) (controller_begins w r h comes))) (sym (append-nil t)) (comes_so r q h comes i input on))))
+      (λ on. subst (λ l. AreRepliedIn hosts l (comes_to_pass (AtEnd h i) (controller_begins w r h comes))) (sym (append-nil t))
+      (comes_so r q h comes i input on))))
 
   coming_so : (e : End) (comes : Comes) (rest : List Entry) → AreNotOf 0 rest → PassesSo hosts t ((comes_at w e comes).1 ++ rest)
   coming_so e comes rest other = go e.at_host refl where
@@ -301,8 +302,8 @@ controller_answers header lines t follows are seven sent few playable short past
     subst (λ (h : Header). IsReplied h.hosts.items (record { past = past; cause = o.cause; so_far = front }) x behind
     × IsHeldFor h.hosts.items (record { past = past; cause = o.cause; so_far = front }) x behind) (sym follows.header_is)
     (event_so header.hosts.items (entries_in past) w so.well.orderly
-    (λ r q h comes i input on. comes_are_replied header lines t follows are seven sent few past (o ∷ back) parts (short past (o ∷ back) parts) playable w refl r q
-    h comes i input on)
+    (λ r q h comes i input on. comes_are_replied header lines t follows are seven sent few past (o ∷ back) parts (short past (o ∷ back) parts) playable w refl
+    r q h comes i input on)
     (λ r q on. ticks_are_replied header lines t follows are seven sent few past (o ∷ back) parts (short past (o ∷ back) parts) playable w refl r q on)
     o.cause front behind x (record { past = past; cause = o.cause; so_far = front }) k (sym done.0.0 ∙ split) refl turn)
   where

@@ -12,7 +12,8 @@ use Rattle.node_machine.specs.world.Lines.{Occurrence}
 use Rattle.node_machine.specs.world.NodeHistories.{NodeHistory, entries_in, node_entries}
 use Rattle.node_machine.specs.world.NodeLegal.{AreInTurn}
 use Rattle.node_laws.specs.kept.Reckonings.{is_cut_of}
-use Rattle.answer_laws.specs.answers.Moments.{AtEachEntry, AtEachOccurrence, Moment, until, unhandled_in, holds_in, runs_in, reply, lack_of, lack_at, noted_of_deeds}
+use Rattle.answer_laws.specs.answers.Moments.{AtEachEntry, AtEachOccurrence, Moment, until, unhandled_in, holds_in, runs_in, reply, lack_of, lack_at}
+use Rattle.answer_laws.specs.answers.Moments.{noted_of_deeds}
 use Rattle.answer_laws.specs.answers.Order.{NodesHearFirst, TurnsAscend, is_answer_of}
 use Rattle.answer_laws.specs.answers.Unasked.{down_in, due, is_reset_due, is_reset_down}
 

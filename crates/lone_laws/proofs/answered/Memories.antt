@@ -89,7 +89,8 @@ module _ (tables : HciTables) (many : ℕ) (before : List Command) (old : Memory
   plainly_holds w v p h =
       let same : before ++ commands_of_entries v.entries ≡ before ++ commands_of_entries w.entries =
       ap (λ l. before ++ l) (ap commands_of_entries p.entries
-      ∙ (commands_more w.entries p.more ∙ (ap (λ l. commands_of_entries w.entries ++ l) (plain_none p.more p.plain) ∙ append-nil (commands_of_entries w.entries)))) in
+      ∙ (commands_more w.entries p.more
+      ∙ (ap (λ l. commands_of_entries w.entries ++ l) (plain_none p.more p.plain) ∙ append-nil (commands_of_entries w.entries)))) in
       record {
         on = p.cut ∙ h.on;
         memory = h.memory;

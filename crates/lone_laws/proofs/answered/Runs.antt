@@ -1,5 +1,6 @@
 -- Over a whole run of a node alone its memory holds its commands, or all but the last one where its power went in that one's writes.
-use Rattle.std.proofs.Common.{◌≡◌, ◌⊎◌, inl, inr, ℕ, ◌+◌, ◌-◌, ◌^◌, ◌≤◌, Bool, true, false, cond, eqb, List, [], ◌∷◌, ◌++◌, length, map, refl, sym, ap, subst, ◌∙◌, arith}
+use Rattle.std.proofs.Common.{◌≡◌, ◌⊎◌, inl, inr, ℕ, ◌+◌, ◌-◌, ◌^◌, ◌≤◌, Bool, true, false, cond, eqb, List, [], ◌∷◌, ◌++◌, length, map, refl, sym, ap}
+use Rattle.std.proofs.Common.{subst, ◌∙◌, arith}
 use Rattle.std.proofs.Common.{append_assoc, append-nil}
 use Rattle.std.specs.Prelude.{min, Option, Some, None, is_some, IsSome}
 use Rattle.std.specs.List.{AllByRecursion}
@@ -176,7 +177,8 @@ module _ (rest : Core) (number h : ℕ) (some : 1 ≤ h) (most : h ≤ 7) (its :
   pass_holds : (w : Work) → Has w → Of w → Fine (passes w)
   pass_holds w g a =
       subst (λ hs. Fine (goes_through_ends hs w)) (sym hosts)
-      (then_hold tables many before old (goes_through_ends []) (have_turns h (waiting_at w.ports h) w) (turns_hold h (waiting_at w.ports h) w g a refl) (λ z. inl z))
+      (then_hold tables many before old (goes_through_ends []) (have_turns h (waiting_at w.ports h) w)
+      (turns_hold h (waiting_at w.ports h) w g a refl) (λ z. inl z))
     where
       hosts : hosts_of_ends w.ports ≡ h ∷ []
       hosts = ap hosts_of_ends a.ports_are ∙ ap (λ n. n ∷ []) a.host
@@ -342,7 +344,8 @@ module _ (tables : HciTables) (many : ℕ) where
     step_remembers : (t : List Entry) (l : Lone) (c : LoneCause) → is_some l.node ≡ true → Between rest number h t l → AllRemembered tables many t l
         → AllRemembered tables many (t ++ (lone_step l c).1) (lone_step l c).0
     step_remembers t l c runs k b = by_node l.node refl where
-      by_input : (n : Running) → l.node ≡ Some n → (o : Option LinkInput) → lone_input c ≡ o → AllRemembered tables many (t ++ (lone_step l c).1) (lone_step l c).0
+      by_input : (n : Running) → l.node ≡ Some n → (o : Option LinkInput) → lone_input c ≡ o
+          → AllRemembered tables many (t ++ (lone_step l c).1) (lone_step l c).0
       by_input n on (Some i) q =
           input_remembers rest t l (subst (λ x. 1 ≤ x) (sym k.link_is) some) (subst (λ x. x ≤ 7) (sym k.link_is) most)
           (λ z. k.number_is ∙ (its (ap (λ x. eqb x 0) (sym k.number_is) ∙ z) ∙ sym k.link_is)) n on (k.all n on).keep c i q

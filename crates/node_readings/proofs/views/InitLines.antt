@@ -38,7 +38,7 @@ waiting_none true e = cc e
 waiting_none false e = cc e
 
 -- an end that takes a message is up
-taken_up : (waits : Bool) (e : LinkEnd) (m : Message) → if_waiting waits (give_refusal e m) ≡ None → e.shdlc.phase ≡ Up
+pub taken_up : (waits : Bool) (e : LinkEnd) (m : Message) → if_waiting waits (give_refusal e m) ≡ None → e.shdlc.phase ≡ Up
 taken_up waits e m none = by e.shdlc.phase refl where
   by : (p : LinkState) → e.shdlc.phase ≡ p → e.shdlc.phase ≡ Up
   by Up q = q
@@ -61,7 +61,7 @@ init_may w e side none =
       end_is : machine_in w e ≡ (link_to w.sites e.link).host.side
       end_is = rw side refl
 
-line_may : (w : NodeWorld) (l : Line) → IsBegunByHost l → refusal_in w l ≡ None → AllMay MayKeep w (happenings w l)
+pub line_may : (w : NodeWorld) (l : Line) → IsBegunByHost l → refusal_in w l ≡ None → AllMay MayKeep w (happenings w l)
 line_may w (line.Send e pid message) side none = (tt, tt)
 line_may w (line.Deliver e count) side none = repeated_may MayKeep (Takes e) (λ v. tt) (taken_of count (frames_at w e)) w
 line_may w (line.Lose e) side none = (tt, tt)
