@@ -9,10 +9,9 @@ use Rattle.std.proofs.lemmas.List.Concat.{flat_map-cons}
 use Rattle.std.proofs.lemmas.Grind.{flat_map-append}
 use Rattle.gate_answers.specs.declared.response.Response.{Response}
 use Rattle.trace_model.specs.declared.entry.Entry.{Entry}
-use Rattle.link_machine.specs.Machine.Turn.{Release}
 use Rattle.node_machine.specs.Parts.{Creation, Port, Work, Deed}
 use Rattle.node_machine.specs.Parts.Deed.{Releases}
-use Rattle.node_machine.specs.Carrying.{turn_at, all_done}
+use Rattle.node_machine.specs.Carrying.{done, all_done}
 use Rattle.node_machine.specs.Controller.{asked_at}
 use Rattle.node_machine.specs.Node.{forgotten, is_over_at, owed}
 use Rattle.node_core.specs.declared.node.Node.{Node}
@@ -95,17 +94,19 @@ one_answered r askers a =
     flat_map-append (answers_to r) askers (a ∷ [])
     ∙ ap (λ l. flat_map (answers_to r) askers ++ l) (flat_map-cons (answers_to r) a [] ∙ append-nil (answers_to r a))
 
--- ## Releases, one after another
+-- ## Deeds without a write, one after another
 
-pub record ReleasesOn {N : Type 0} (n : Node N) (noted : List Entry) (short : Bool) (start : List Entry) (left all : List ℕ) (w : Work) : Type 0 where
+-- The node has come to this state in its deeds; these are left.
+pub record DoesOn {N : Type 0} (n : Node N) (noted : List Entry) (short : Bool) (start : List Entry) (left all : List Deed) (w : Work) : Type 0 where
   pub now : Work
   pub under : IsInStep n noted short start now
-  pub onto : all_done 0 (map Releases left) now ≡ all_done 0 (map Releases all) w
+  pub onto : all_done 0 left now ≡ all_done 0 all w
 
-pub release_goes_on : {N : Type 0} {n n2 : Node N} {noted noted2 start : List Entry} {short short2 : Bool} {a : ℕ} {left all : List ℕ} {w : Work}
-    (k : ReleasesOn n noted short start (a ∷ left) all w) → n.store.journal.live ≡ true → IsInStep n2 noted2 short2 start (turn_at a Release k.now)
-    → ReleasesOn n2 noted2 short2 start left all w
-release_goes_on {a = a} {left = left} k live under =
-    let power : k.now.cut ≡ false = k.under.power ∙ ap not live in
-    let goes : all_done 0 (map Releases (a ∷ left)) k.now ≡ all_done 0 (map Releases left) (turn_at a Release k.now) = rw power refl in
-    record { now = turn_at a Release k.now; under = under; onto = sym goes ∙ k.onto }
+-- one more is done
+pub one_done : {N : Type 0} {n n2 : Node N} {noted noted2 start : List Entry} {short short2 : Bool} {d : Deed} {left all : List Deed} {w : Work}
+    (k : DoesOn n noted short start (d ∷ left) all w) → n.store.journal.live ≡ true → (done 0 d k.now).cut ≡ k.now.cut
+    → IsInStep n2 noted2 short2 start (done 0 d k.now) → DoesOn n2 noted2 short2 start left all w
+one_done {d = d} {left = left} k live same under =
+    let power : (done 0 d k.now).cut ≡ false = same ∙ (k.under.power ∙ ap not live) in
+    let goes : all_done 0 (d ∷ left) k.now ≡ all_done 0 left (done 0 d k.now) = rw power refl in
+    record { now = done 0 d k.now; under = under; onto = sym goes ∙ k.onto }

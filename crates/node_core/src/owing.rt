@@ -1,6 +1,7 @@
 //! What a node owes where sessions ended.
 use crate::node::Node;
 use arrayvec::ArrayVec;
+use gate_answers::{Response, refused};
 use swp_base::Nv;
 use trace_model::Watch;
 
@@ -16,7 +17,7 @@ impl<N: Nv + Drop> Node<N> {
     ghost use Rattle.node_core.specs.Nodes.{IsInStep, IsSoundNode};
     ghost use Rattle.std.specs.Prelude.{Bool, false};
     ghost use Rattle.std.specs.List.{flat_map, filter};
-    ghost use Rattle.gate_answers.specs.declared.response.Response.{Response};
+    ghost use Rattle.gate_answers.specs.declared.response.Response.{Response as Code};
     ghost use Rattle.node_machine.specs.Controller.{asked_at};
     ghost use Rattle.node_machine.specs.Node.{owed};
     ghost use Rattle.node_core.specs.Owing.{freed_at, answers_to, has_ended_so, owed_at};
@@ -85,7 +86,7 @@ impl<N: Nv + Drop> Node<N> {
     // The asker of the creation that waits at the end at this place, where the session of that end ended so in this step.
     fn owed_at(&self, i: usize, late: bool) -> Option<u8>
         requires runs { IsSoundNode self.now }
-        ensures { (ports : List Port) (r : Response) → EndsStandFor self.now.ends ports
+        ensures { (ports : List Port) (r : Code) → EndsStandFor self.now.ends ports
             → option_map_or (answers_to r) result [] ≡ option_map_or (owed_at late r) (slice_get ports i) [] }
     {
         if !self.has_ended_so(i, late) {
@@ -104,7 +105,7 @@ impl<N: Nv + Drop> Node<N> {
     /// otherwise.
     pub(crate) fn owed(&self, late: bool) -> ArrayVec<u8, 7>
         requires runs { IsSoundNode self.now }
-        ensures { (ports : List Port) (r : Response) → EndsStandFor self.now.ends ports
+        ensures { (ports : List Port) (r : Code) → EndsStandFor self.now.ends ports
             → flat_map (answers_to r) result.items ≡ flat_map (λ p. owed r (asked_at p)) (filter (has_ended_so late) ports) }
     {
         let mut askers = ArrayVec::new();
@@ -114,5 +115,21 @@ impl<N: Nv + Drop> Node<N> {
             }
         }
         askers
+    }
+
+    /// These askers get this answer, and the blocks that were set aside for it are free.
+    pub(crate) fn answer_all<W: Watch>(&mut self, askers: &[u8], response: Response, watch: &mut W)
+        requires runs { IsSoundNode self.old }
+        requires live { IsTrue self.old.store.journal.live }
+        ensures carried { (start : List Noted) (w : Work) → IsInStep self.old (W.noted watch.old) (W.is_short watch.old) start w
+            → IsInStep self.new (W.noted watch.new) (W.is_short watch.new) start (all_done 0 (flat_map (answers_to response) askers.now) w) }
+        ensures store { self.new.store ≡ self.old.store }
+        ensures number { self.new.number ≡ self.old.number }
+        ensures runs { IsSoundNode self.new }
+    {
+        for asker in askers {
+            self.release(*asker, watch);
+            self.send(*asker, 1, refused(response).as_slice(), watch);
+        }
     }
 }
