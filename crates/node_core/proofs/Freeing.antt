@@ -3,6 +3,9 @@ use Rattle.std.proofs.Common.{◌≡◌, ℕ, zero, suc, ◌≤◌, Bool, true, 
 use Rattle.std.proofs.Common.{add-one, append_assoc, ◌+◌}
 use Rattle.std.proofs.Common.{append_assoc, append-nil}
 use Rattle.std.specs.Prelude.{Option, Some, None, slice_get}
+use Rattle.std.proofs.Common.{inl, inr}
+use Rattle.std.specs.Prelude.{◌⊎◌}
+use Rattle.std.proofs.lemmas.Bool.{true≢false}
 use Rattle.std.specs.List.{flat_map, filter, filter_map}
 use Rattle.std.specs.Option.{option_map_or}
 use Rattle.std.proofs.lemmas.List.Concat.{flat_map-cons}
@@ -11,7 +14,7 @@ use Rattle.gate_answers.specs.declared.response.Response.{Response}
 use Rattle.trace_model.specs.declared.entry.Entry.{Entry}
 use Rattle.node_machine.specs.Parts.{Creation, Port, Work, Deed}
 use Rattle.node_machine.specs.Parts.Deed.{Releases}
-use Rattle.node_machine.specs.Carrying.{done, all_done}
+use Rattle.node_machine.specs.Carrying.{done, all_done, unless_cut}
 use Rattle.node_machine.specs.Controller.{asked_at}
 use Rattle.node_machine.specs.Node.{forgotten, is_over_at, owed}
 use Rattle.node_core.specs.declared.node.Node.{Node}
@@ -110,3 +113,32 @@ one_done {d = d} {left = left} k live same under =
     let power : (done 0 d k.now).cut ≡ false = same ∙ (k.under.power ∙ ap not live) in
     let goes : all_done 0 (d ∷ left) k.now ≡ all_done 0 left (done 0 d k.now) = rw power refl in
     record { now = done 0 d k.now; under = under; onto = sym goes ∙ k.onto }
+
+-- deeds, and those behind them
+pub all_then : (xs ys : List Deed) (w : Work) → (all_done 0 (xs ++ ys) w ≡ unless_cut (all_done 0 ys) (all_done 0 xs w)) ⊎ (w.cut ≡ true)
+all_then [] ys w = by w.cut refl
+  where
+    by : (b : Bool) → w.cut ≡ b → (all_done 0 ys w ≡ unless_cut (all_done 0 ys) w) ⊎ (w.cut ≡ true)
+    by true q = inr q
+    by false q = inl (rw q refl)
+all_then (d ∷ xs) ys w = by (done 0 d w).cut refl (all_then xs ys (done 0 d w))
+  where
+    by : (b : Bool) → (done 0 d w).cut ≡ b
+        → (all_done 0 (xs ++ ys) (done 0 d w) ≡ unless_cut (all_done 0 ys) (all_done 0 xs (done 0 d w))) ⊎ ((done 0 d w).cut ≡ true)
+        → (all_done 0 (d ∷ xs ++ ys) w ≡ unless_cut (all_done 0 ys) (all_done 0 (d ∷ xs) w)) ⊎ (w.cut ≡ true)
+    by true q later = inl (rw (q, q) refl)
+    by false q (inr cut) = absurd (true≢false (sym cut ∙ q))
+    by false q (inl same) = inl (rw q same)
+
+-- where no write fails
+pub all_joined : (xs ys : List Deed) (w : Work) → w.cut ≡ false → (all_done 0 xs w).cut ≡ false
+    → all_done 0 ys (all_done 0 xs w) ≡ all_done 0 (xs ++ ys) w
+all_joined xs ys w live on = by (all_then xs ys w)
+  where
+    goes : all_done 0 ys (all_done 0 xs w) ≡ unless_cut (all_done 0 ys) (all_done 0 xs w)
+    goes = rw on refl
+
+    by : (all_done 0 (xs ++ ys) w ≡ unless_cut (all_done 0 ys) (all_done 0 xs w)) ⊎ (w.cut ≡ true)
+        → all_done 0 ys (all_done 0 xs w) ≡ all_done 0 (xs ++ ys) w
+    by (inl same) = goes ∙ sym same
+    by (inr cut) = absurd (true≢false (sym cut ∙ live))

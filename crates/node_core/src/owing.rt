@@ -12,7 +12,7 @@ impl<N: Nv + Drop> Node<N> {
     ghost use Rattle.node_machine.specs.Parts.{Port, Work, Deed};
     ghost use Rattle.node_machine.specs.Parts.Deed.{Releases};
     ghost use Rattle.node_machine.specs.Carrying.{all_done};
-    ghost use Rattle.node_machine.specs.Node.{forgotten};
+    ghost use Rattle.node_machine.specs.Node.{forgotten, forgets, all_owed, without_notice};
     ghost use Rattle.node_ends.specs.Ends.{EndsStandFor};
     ghost use Rattle.node_core.specs.Nodes.{IsInStep, IsSoundNode};
     ghost use Rattle.std.specs.Prelude.{Bool, false};
@@ -131,5 +131,28 @@ impl<N: Nv + Drop> Node<N> {
             self.release(*asker, watch);
             self.send(*asker, 1, refused(response).as_slice(), watch);
         }
+    }
+
+    /// What sessions that ended in this step leave: the creations of their askers are forgotten and their blocks free, no notice to their
+    /// hosts is answered any more, and those who asked for creations there get their answers.
+    pub(crate) fn settle_sessions<W: Watch>(&mut self, watch: &mut W)
+        requires runs { IsSoundNode self.old }
+        requires live { IsTrue self.old.store.journal.live }
+        ensures carried { (start : List Noted) (w : Work) → IsInStep self.old (W.noted watch.old) (W.is_short watch.old) start w
+            → let left : List Port = map (forgets w.ports) w.ports in
+            IsInStep self.new (W.noted watch.new) (W.is_short watch.new) start
+            (all_done 0 (all_owed left) (all_done 0 (forgotten w.ports) (record w { ports = map without_notice left }))) }
+        ensures store { self.new.store ≡ self.old.store }
+        ensures number { self.new.number ≡ self.old.number }
+        ensures runs { IsSoundNode self.new }
+    {
+        let freed = self.forgotten();
+        self.forget();
+        let ended = self.owed(false);
+        let late = self.owed(true);
+        self.drop_notices();
+        self.release_all(freed.as_slice(), watch);
+        self.answer_all(ended.as_slice(), Response::NotConnected, watch);
+        self.answer_all(late.as_slice(), Response::Timeout, watch);
     }
 }
