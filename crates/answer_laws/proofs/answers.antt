@@ -1,4 +1,5 @@
 pub mod Splits
+pub mod Rising
 pub mod Walks
 pub mod Schedules
 pub mod Unhandled

@@ -10,9 +10,16 @@ pub mod Growing
 pub mod Aging
 pub mod Histories
 pub mod Hearing
-pub mod Owning
+pub mod Uiccs
 pub mod Order
 pub mod Orders
 pub mod Ascending
 pub mod Turns
+pub mod Lifting
+pub mod Resting
+pub mod AtRest
+pub mod Events
+pub mod Late
+pub mod Done
+pub mod Due
 pub mod Schedules

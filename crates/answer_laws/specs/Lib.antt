@@ -3,5 +3,4 @@ pub mod steps
 pub mod rooms
 pub mod replies
 pub mod schedules
-pub mod worlds
 pub mod passes

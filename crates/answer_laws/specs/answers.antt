@@ -1,4 +1,7 @@
 pub mod Moments
+pub mod Order
 pub mod Unasked
 pub mod Answered
 pub mod Alike
+pub mod Headline
+pub mod SoFar

@@ -11,9 +11,11 @@ ghost use Rattle.node_order.specs.links.Runs.{ArePlayable};
 ghost use Rattle.node_laws.specs.kept.Hosts.{AreHosts, IsFew, IsSentByHost};
 ghost use Rattle.node_readings.specs.views.Inits.{IsBegunByHost};
 ghost use Rattle.node_order.specs.power.Powers.{CutsEndParts};
-ghost use Rattle.answer_laws.specs.answers.Answered.{AreReset, AtEachOccurrence};
-ghost use Rattle.answer_laws.specs.schedules.Ranges.{AreNodeLinesOf, IsNodeHeader};
-ghost use Rattle.answer_laws.specs.worlds.Order.{NodesHearFirst, TurnsAscend};
+ghost use Rattle.answer_laws.specs.answers.Answered.{AreReset};
+ghost use Rattle.answer_laws.specs.answers.Moments.{AtEachOccurrence};
+ghost use Rattle.trace_model.specs.Lines.{IsNodeHeader};
+ghost use Rattle.answer_laws.specs.schedules.Ranges.{AreNodeLinesOf};
+ghost use Rattle.answer_laws.specs.answers.Order.{NodesHearFirst, TurnsAscend};
 
 /// In each event of a history that follows a schedule the session of each end ends by a reset of its own exactly where that is due: a line
 /// resets that end while it is up, or the event is the hundredth tick of the unanswered notice to the host of a controller's end, whose

@@ -3,7 +3,7 @@ use Rattle.std.proofs.Common.{◌≡◌, ℕ, ◌+◌, ◌-◌, ◌*◌, ◌/◌
 use Rattle.std.proofs.Common.{refl, sym, ap, ◌∙◌, arith, length-append, length-take, length-drop}
 use Rattle.std.proofs.lemmas.List.{get_or_append_left, get_or-append_right, get_or-take, get_or-drop}
 use Rattle.std.proofs.lemmas.Bool.{cases_lt}
-use Rattle.block_pool.specs.Links.{block_at, linked_byte, overwritten}
+use Rattle.block_pool.specs.Links.{block_at, linked_byte, region_behind}
 
 module _ (region next out : List ℕ) (first from done count n block : ℕ) (at : block ≡ block_at next first ((from + done) / 32))
     (one_block : (from + done) % 32 + count ≤ 32) (fits : done + count ≤ length out) (within : 32 * block + (from + done) % 32 + count ≤ length region)
@@ -25,7 +25,7 @@ module _ (region next out : List ℕ) (first from done count n block : ℕ) (at 
   length-front : length (take done out) ≡ done
   length-front = omega (arith, length-take done out, fits)
 
-  pub copied-length : length (overwritten out done piece) ≡ length out
+  pub copied-length : length (region_behind out done piece) ≡ length out
   copied-length =
       length-append (take done out) (piece ++ drop (done + length piece) out)
       ∙ omega (
@@ -48,7 +48,7 @@ module _ (region next out : List ℕ) (first from done count n block : ℕ) (at 
       ∙ ap (λ b. get_or region (32 * b + (from + (done + j)) % 32) 0) (at ∙ ap (block_at next first) block_is)))
 
   pub copied-bytes : ((k : ℕ) → k < done → get_or out k 0 ≡ linked_byte region next first (from + k))
-      → (k : ℕ) → k < done + count → get_or (overwritten out done piece) k 0 ≡ linked_byte region next first (from + k)
+      → (k : ℕ) → k < done + count → get_or (region_behind out done piece) k 0 ≡ linked_byte region next first (from + k)
   copied-bytes before k low = elim (cases_lt k done) [
     | inl front ↦ get_or_append_left (take done out) (piece ++ drop (done + length piece) out) 0 k (omega (arith, length-front))
         ∙ (get_or-take done out k 0 front ∙ before k front)

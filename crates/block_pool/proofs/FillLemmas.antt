@@ -5,7 +5,7 @@ use Rattle.std.specs.Prelude.{Option, Some, None}
 use Rattle.std.proofs.lemmas.List.{set-set, take_more_set, drop-set-lt, take-append-drop}
 use Rattle.block_pool.specs.declared.blocks.Head.{Head}
 use Rattle.block_pool.specs.Slots.{with_chain}
-use Rattle.block_pool.specs.Links.{overwritten}
+use Rattle.block_pool.specs.Links.{region_behind}
 use Rattle.block_pool.specs.Layout.{laid_bytes, slots_of, AreSoundBlocks}
 use Rattle.block_pool.proofs.SlotLemmas.{put-put}
 use Rattle.block_pool.proofs.LinkLemmas.{in_pool}
@@ -31,7 +31,7 @@ take-join (x ∷ xs) (suc i) r =
     ap (λ ys. x ∷ ys) (take-join xs i r) ∙ ap (λ n. take n (x ∷ xs)) e
 
 -- bytes written at once
-pub at_once : (bytes region : List ℕ) (place : ℕ) → place + length bytes ≤ length region → overwritten region place bytes ≡ written region place bytes
+pub at_once : (bytes region : List ℕ) (place : ℕ) → place + length bytes ≤ length region → region_behind region place bytes ≡ written region place bytes
 at_once [] region place fits =
     let e : place + 0 ≡ place = omega arith in
     ap (λ n. take place region ++ drop n region) e ∙ take-append-drop place region

@@ -11,5 +11,5 @@ abbrev pub linked_byte : List ℕ → List ℕ → ℕ → ℕ → ℕ
 linked_byte region next first i = slice_index region (32 * block_at next first (i / 32) + i % 32)
 
 -- a region after bytes are written from a place on
-abbrev pub overwritten : List ℕ → ℕ → List ℕ → List ℕ
-overwritten region place bytes = take place region ++ (bytes ++ drop (place + length bytes) region)
+abbrev pub region_behind : List ℕ → ℕ → List ℕ → List ℕ
+region_behind region place bytes = take place region ++ (bytes ++ drop (place + length bytes) region)

@@ -1,7 +1,7 @@
 //! Blocks of memory in one region, linked into chains and a list of free blocks.
 ghost use Rattle.std.specs.Prelude.{◌≡◌, ℕ, ◌+◌, ◌*◌, ◌/◌, ◌^◌, ◌<◌, ◌≤◌, length, map, replicate, None, Some, IsSome, IfOk, slice_index_or};
 ghost use Rattle.std.specs.List.{range_with_len};
-ghost use Rattle.block_pool.specs.Links.{block_at, linked_byte, overwritten};
+ghost use Rattle.block_pool.specs.Links.{block_at, linked_byte, region_behind};
 
 use std::alloc::{AllocError, Global};
 use std::marker::Model;
@@ -96,7 +96,7 @@ fn copy_from(
 /// Writes bytes over a slice from a place on.
 fn overwrite(region: &mut [u8], place: usize, bytes: &[u8])
     requires { place + length bytes.now ≤ length region.old }
-    ensures { region.new ≡ overwritten region.old place bytes.now }
+    ensures { region.new ≡ region_behind region.old place bytes.now }
 {
     region[place..place + bytes.len()].copy_from_slice(bytes);
 }

@@ -19,7 +19,7 @@ use Rattle.schedule_text.specs.Lines.{line_of}
 use Rattle.schedule_text.proofs.AgainLemmas.{length-hex}
 use Rattle.schedule_text.proofs.ReadAgainLemmas.{header_again, line_again}
 use Rattle.drawn_schedule.specs.Schedule.{at_controller, at_host_of, takes, sends_on, the_header, answered, joins, makes_a_pipe, first_lines, step_line}
-use Rattle.drawn_schedule.specs.Schedule.{Drawn, one_step_more, so_many_steps, drawn_lines, next_number, drawn_of, IsRead}
+use Rattle.drawn_schedule.specs.Schedule.{Drawn, one_step_more, so_many_steps, drawn_lines, next_number, drawn_of, IsReadAsWritten}
 use Rattle.drawn_schedule.proofs.StepLemmas.{no_steps}
 
 -- ## Lines
@@ -207,11 +207,11 @@ may_begin = inr (record {
 pub header_is_read : line_of None (spaced (header_words the_header)) ≡ Ok (read.Header the_header)
 header_is_read = header_again the_header may_begin
 
-read_all : (lines : List Line) → AreGood lines → AllByRecursion IsRead lines
+read_all : (lines : List Line) → AreGood lines → AllByRecursion IsReadAsWritten lines
 read_all [] a = tt
 read_all (l ∷ lines) a = (line_again the_header l may_begin a.0.0 a.0.1, read_all lines a.1)
 
-pub lines_are_read : (n : ℕ) → AllByRecursion IsRead (drawn_lines n)
+pub lines_are_read : (n : ℕ) → AllByRecursion IsReadAsWritten (drawn_lines n)
 lines_are_read n = read_all (drawn_lines n) (good_lines n)
 
 -- ## How many there are

@@ -12,11 +12,11 @@ use Rattle.trace_model.specs.declared.line.Line.TheVariants as line
 use Rattle.schedule_text.specs.Words.{spaced}
 use Rattle.schedule_text.specs.Entries.{header_words, line_text}
 use Rattle.drawn_schedule.specs.Schedule.{at_controller, at_host_of, takes, sends_on, the_header, first_lines, step_line, Drawn, one_step_more, so_many_steps}
-use Rattle.drawn_schedule.specs.Schedule.{drawn_lines, whole_line, lines_text, text_of_schedule, next_number, drawn_of}
+use Rattle.drawn_schedule.specs.Schedule.{drawn_lines, drawn_line, lines_text, text_of_schedule, next_number, drawn_of}
 
 -- ## The lines of steps
 
-pub deliver_c : (h : ℕ) → 1 ≤ h → h ≤ 3 → codes "deliver 0" ++ ((48 + h) ∷ codes "c\n") ≡ whole_line (takes (at_controller h))
+pub deliver_c : (h : ℕ) → 1 ≤ h → h ≤ 3 → codes "deliver 0" ++ ((48 + h) ∷ codes "c\n") ≡ drawn_line (takes (at_controller h))
 unfolding encode_with
 deliver_c zero low high = absurd (omega arith)
 deliver_c (suc zero) low high = refl
@@ -24,7 +24,7 @@ deliver_c (suc (suc zero)) low high = refl
 deliver_c (suc (suc (suc zero))) low high = refl
 deliver_c (suc (suc (suc (suc h)))) low high = absurd (omega arith)
 
-pub deliver_h : (h : ℕ) → 1 ≤ h → h ≤ 3 → codes "deliver 0" ++ ((48 + h) ∷ codes "h\n") ≡ whole_line (takes (at_host_of h))
+pub deliver_h : (h : ℕ) → 1 ≤ h → h ≤ 3 → codes "deliver 0" ++ ((48 + h) ∷ codes "h\n") ≡ drawn_line (takes (at_host_of h))
 unfolding encode_with
 deliver_h zero low high = absurd (omega arith)
 deliver_h (suc zero) low high = refl
@@ -32,7 +32,7 @@ deliver_h (suc (suc zero)) low high = refl
 deliver_h (suc (suc (suc zero))) low high = refl
 deliver_h (suc (suc (suc (suc h)))) low high = absurd (omega arith)
 
-pub asks_h : (h : ℕ) → 1 ≤ h → h ≤ 3 → codes "send 0" ++ ((48 + h) ∷ codes "h 01 0201\n") ≡ whole_line (sends_on (at_host_of h) 1 (2 ∷ 1 ∷ []))
+pub asks_h : (h : ℕ) → 1 ≤ h → h ≤ 3 → codes "send 0" ++ ((48 + h) ∷ codes "h 01 0201\n") ≡ drawn_line (sends_on (at_host_of h) 1 (2 ∷ 1 ∷ []))
 unfolding encode_with
 asks_h zero low high = absurd (omega arith)
 asks_h (suc zero) low high = refl
@@ -40,7 +40,7 @@ asks_h (suc (suc zero)) low high = refl
 asks_h (suc (suc (suc zero))) low high = refl
 asks_h (suc (suc (suc (suc h)))) low high = absurd (omega arith)
 
-pub posts_h : (h : ℕ) → 1 ≤ h → h ≤ 3 → codes "send 0" ++ ((48 + h) ∷ codes "h 02 42AA\n") ≡ whole_line (sends_on (at_host_of h) 2 (66 ∷ 170 ∷ []))
+pub posts_h : (h : ℕ) → 1 ≤ h → h ≤ 3 → codes "send 0" ++ ((48 + h) ∷ codes "h 02 42AA\n") ≡ drawn_line (sends_on (at_host_of h) 2 (66 ∷ 170 ∷ []))
 unfolding encode_with
 posts_h zero low high = absurd (omega arith)
 posts_h (suc zero) low high = refl
@@ -48,7 +48,7 @@ posts_h (suc (suc zero)) low high = refl
 posts_h (suc (suc (suc zero))) low high = refl
 posts_h (suc (suc (suc (suc h)))) low high = absurd (omega arith)
 
-pub loses_c : (h : ℕ) → 1 ≤ h → h ≤ 3 → codes "lose 0" ++ ((48 + h) ∷ codes "c\n") ≡ whole_line (line.Lose (at_controller h))
+pub loses_c : (h : ℕ) → 1 ≤ h → h ≤ 3 → codes "lose 0" ++ ((48 + h) ∷ codes "c\n") ≡ drawn_line (line.Lose (at_controller h))
 unfolding encode_with
 loses_c zero low high = absurd (omega arith)
 loses_c (suc zero) low high = refl
@@ -56,7 +56,7 @@ loses_c (suc (suc zero)) low high = refl
 loses_c (suc (suc (suc zero))) low high = refl
 loses_c (suc (suc (suc (suc h)))) low high = absurd (omega arith)
 
-pub resets_h : (h : ℕ) → 1 ≤ h → h ≤ 3 → codes "reset 0" ++ ((48 + h) ∷ codes "h\n") ≡ whole_line (line.Reset (at_host_of h) None)
+pub resets_h : (h : ℕ) → 1 ≤ h → h ≤ 3 → codes "reset 0" ++ ((48 + h) ∷ codes "h\n") ≡ drawn_line (line.Reset (at_host_of h) None)
 unfolding encode_with
 resets_h zero low high = absurd (omega arith)
 resets_h (suc zero) low high = refl
@@ -64,7 +64,7 @@ resets_h (suc (suc zero)) low high = refl
 resets_h (suc (suc (suc zero))) low high = refl
 resets_h (suc (suc (suc (suc h)))) low high = absurd (omega arith)
 
-pub ticks : codes "tick 3\n" ≡ whole_line (line.Tick (Some 3))
+pub ticks : codes "tick 3\n" ≡ drawn_line (line.Tick (Some 3))
 ticks = sym (ap (λ t. (codes "tick " ++ t) ++ 10 ∷ []) (decimal_digit 3 (omega arith)))
 
 -- ## Which line a step is
@@ -103,14 +103,14 @@ resets_it d h low =
     rw (four, nine, eleven, twelve, thirteen, fourteen) refl
 
 -- a piece of text that is such a line
-pub as_step : (d h : ℕ) (before piece now : List ℕ) (l : Line) → step_line d h ≡ l → piece ≡ whole_line l → now ≡ before ++ piece
-    → now ≡ before ++ whole_line (step_line d h)
-as_step d h before piece now l is text e = e ∙ ap (λ t. before ++ t) (text ∙ ap whole_line (sym is))
+pub as_step : (d h : ℕ) (before piece now : List ℕ) (l : Line) → step_line d h ≡ l → piece ≡ drawn_line l → now ≡ before ++ piece
+    → now ≡ before ++ drawn_line (step_line d h)
+as_step d h before piece now l is text e = e ∙ ap (λ t. before ++ t) (text ∙ ap drawn_line (sym is))
 
 -- ## Steps
 
-lines_more : (xs : List Line) (l : Line) → lines_text (xs ++ l ∷ []) ≡ lines_text xs ++ whole_line l
-lines_more xs l = flat_map-append whole_line xs (l ∷ []) ∙ ap (λ t. lines_text xs ++ t) (append-nil (whole_line l))
+lines_more : (xs : List Line) (l : Line) → lines_text (xs ++ l ∷ []) ≡ lines_text xs ++ drawn_line l
+lines_more xs l = flat_map-append drawn_line xs (l ∷ []) ∙ ap (λ t. lines_text xs ++ t) (append-nil (drawn_line l))
 
 pub no_steps : (n : ℕ) → so_many_steps n 0 ≡ record { x = n; lines = [] }
 unfolding so_many_steps
@@ -134,13 +134,13 @@ one_step n k =
 
 -- the text of one step more
 pub step_text : (n k x : ℕ) (before text : List ℕ) → x ≡ (so_many_steps n k).x → text ≡ before ++ lines_text (so_many_steps n k).lines
-    → text ++ whole_line (step_line (drawn_of (next_number x) % 16) (1 + drawn_of (next_number (next_number x)) % 3))
+    → text ++ drawn_line (step_line (drawn_of (next_number x) % 16) (1 + drawn_of (next_number (next_number x)) % 3))
     ≡ before ++ lines_text (so_many_steps n (k + 1)).lines
 step_text n k x before text ex et =
     let steps = so_many_steps n k in
     let said = step_line (drawn_of (next_number steps.x) % 16) (1 + drawn_of (next_number (next_number steps.x)) % 3) in
-    ap (λ y. text ++ whole_line (step_line (drawn_of (next_number y) % 16) (1 + drawn_of (next_number (next_number y)) % 3))) ex
-    ∙ ap (λ t. t ++ whole_line said) et ∙ append_assoc before (lines_text steps.lines) (whole_line said)
+    ap (λ y. text ++ drawn_line (step_line (drawn_of (next_number y) % 16) (1 + drawn_of (next_number (next_number y)) % 3))) ex
+    ∙ ap (λ t. t ++ drawn_line said) et ∙ append_assoc before (lines_text steps.lines) (drawn_line said)
     ∙ ap (λ t. before ++ t) (sym (lines_more steps.lines said)) ∙ ap (λ (d : Drawn). before ++ lines_text d.lines) (sym (one_step n k))
 
 pub step_number : (n k x : ℕ) → x ≡ (so_many_steps n k).x → next_number (next_number x) ≡ (so_many_steps n (k + 1)).x
@@ -163,5 +163,5 @@ whole_is n =
     append_assoc (front ++ (10 ∷ lines_text first_lines)) (lines_text steps) (codes "tables 00\n")
     ∙ append_assoc front (10 ∷ lines_text first_lines) (lines_text steps ++ codes "tables 00\n")
     ∙ ap (λ t. front ++ (10 ∷ lines_text first_lines ++ (lines_text steps ++ t))) tables_is
-    ∙ ap (λ t. front ++ (10 ∷ lines_text first_lines ++ t)) (sym (flat_map-append whole_line steps last))
-    ∙ ap (λ t. front ++ (10 ∷ t)) (sym (flat_map-append whole_line first_lines (steps ++ last)))
+    ∙ ap (λ t. front ++ (10 ∷ lines_text first_lines ++ t)) (sym (flat_map-append drawn_line steps last))
+    ∙ ap (λ t. front ++ (10 ∷ t)) (sym (flat_map-append drawn_line first_lines (steps ++ last)))

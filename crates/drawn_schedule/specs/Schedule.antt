@@ -94,16 +94,16 @@ abbrev pub drawn_lines : ℕ → List Line
 drawn_lines n = first_lines ++ (so_many_steps n 2000).lines ++ line.Tables 0 ∷ []
 
 -- a line with its end
-abbrev pub whole_line : Line → List ℕ
-whole_line l = line_text l ++ 10 ∷ []
+abbrev pub drawn_line : Line → List ℕ
+drawn_line l = line_text l ++ 10 ∷ []
 
 abbrev pub lines_text : List Line → List ℕ
-lines_text lines = flat_map whole_line lines
+lines_text lines = flat_map drawn_line lines
 
 -- the text of a schedule
 abbrev pub text_of_schedule : Header → List Line → List ℕ
 text_of_schedule header lines = spaced (header_words header) ++ (10 ∷ lines_text lines)
 
 -- what is written of a line is read as it
-abbrev pub IsRead : Line → Type 0
-IsRead l = line_of (Some the_header) (line_text l) ≡ Ok (read.Line l)
+abbrev pub IsReadAsWritten : Line → Type 0
+IsReadAsWritten l = line_of (Some the_header) (line_text l) ≡ Ok (read.Line l)

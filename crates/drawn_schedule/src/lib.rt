@@ -7,8 +7,8 @@ ghost use Rattle.schedule_text.specs.declared.read.Read.TheVariants as read;
 ghost use Rattle.schedule_text.specs.Words.{spaced};
 ghost use Rattle.schedule_text.specs.Lines.{line_of};
 ghost use Rattle.schedule_text.specs.Entries.{header_words};
-ghost use Rattle.drawn_schedule.specs.Schedule.{the_header, first_lines, step_line, so_many_steps, drawn_lines, whole_line, lines_text, text_of_schedule};
-ghost use Rattle.drawn_schedule.specs.Schedule.{next_number, drawn_of, IsRead};
+ghost use Rattle.drawn_schedule.specs.Schedule.{the_header, first_lines, step_line, so_many_steps, drawn_lines, drawn_line, lines_text, text_of_schedule};
+ghost use Rattle.drawn_schedule.specs.Schedule.{next_number, drawn_of, IsReadAsWritten};
 
 use std::alloc::{AllocError, Global};
 use swp_base::NoMemory;
@@ -146,7 +146,7 @@ fn drawn(x: u64, below: u8) -> u8
 
 fn append_step(d: u8, host: u8, text: &mut Vec<u8>) -> Result<(), AllocError>
     requires { (1 ≤ host) × (host ≤ 3) }
-    ensures { OnOk result (text.new.items ≡ text.old.items ++ whole_line (step_line d host)) }
+    ensures { OnOk result (text.new.items ≡ text.old.items ++ drawn_line (step_line d host)) }
 {
     match d {
         0..=4 => append(b"deliver 0", host, b"c\n", text),
@@ -178,6 +178,6 @@ fn append_text(piece: &[u8], text: &mut Vec<u8>) -> Result<(), AllocError>
 /// The lines of such a schedule are read as what they say: the header, and 2,060 lines that may stand below it.
 pub fn drawn_lines_are_read()
     ensures header { line_of None (spaced (header_words the_header)) ≡ Ok (read.Header the_header) }
-    ensures lines { (n : ℕ) → AllByRecursion IsRead (drawn_lines n) }
+    ensures lines { (n : ℕ) → AllByRecursion IsReadAsWritten (drawn_lines n) }
     ensures count { (n : ℕ) → length (drawn_lines n) ≡ 2060 }
 {}

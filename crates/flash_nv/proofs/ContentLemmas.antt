@@ -12,7 +12,7 @@ use Rattle.flash_nv.proofs.PageLemmas.{of_header, of_is_valid, page_below-best, 
 use Rattle.flash_nv.proofs.HeaderLemmas.{same_header, made_sector, made_version, made_valid}
 use Rattle.flash_nv.proofs.PutLemmas.{OthersStay, apart}
 
-and_second : (a b : Bool) → a && b ≡ true → b ≡ true
+pub and_second : (a b : Bool) → a && b ≡ true → b ≡ true
 and_second true b e = e
 and_second false b e = absurd (false≢true e)
 

@@ -7,4 +7,5 @@ pub mod PageLemmas
 pub mod PutLemmas
 pub mod ScanLemmas
 pub mod WriteLemmas
+pub mod HeldLemmas
 pub mod StepLemmas

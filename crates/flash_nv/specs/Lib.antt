@@ -9,3 +9,4 @@ pub mod Content
 pub mod Memory
 pub mod Steps
 pub mod Calls
+pub mod Held

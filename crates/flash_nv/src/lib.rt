@@ -4,6 +4,7 @@
 
 mod flash;
 mod header;
+mod held_pages;
 mod mem_flash;
 mod memory;
 mod page_map;
@@ -12,5 +13,6 @@ mod scan;
 mod sector;
 
 pub use flash::Flash;
+pub use held_pages::each_sector_stands_on_its_page_of_the_greatest_version;
 pub use mem_flash::MemFlash;
 pub use memory::FlashNv;

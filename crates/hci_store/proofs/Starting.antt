@@ -1,15 +1,17 @@
 -- What a start finds in the bank in use.
-use Rattle.std.proofs.Common.{◌≡◌, ◌≢◌, ℕ, Bool, true, false, ◌==◌, ◌||◌, List, [], Option, Some, None, IsTrue, sym, refl, ap, ◌∙◌, subst, arith}
+use Rattle.std.proofs.Common.{◌≡◌, ◌≢◌, ℕ, Bool, true, false, ◌==◌, ◌||◌, List, [], ◌++◌, Option, Some, None, IsTrue, sym, refl, ap, ◌∙◌, subst, arith}
 use Rattle.std.specs.Option.{option_map_or}
 use Rattle.std.proofs.lemmas.Bool.Decides.{nat_tests}
 use Rattle.journal_laws.specs.declared.banks.Side.{Side}
 use Rattle.journal_laws.specs.declared.state.State.{State}
 use Rattle.journal_laws.specs.Writes.{AreMade}
 use Rattle.journal_laws.specs.Banks.{other, is_opened_gate, head, current}
-use Rattle.journal_laws.specs.Journal.{unformatted, journal_at, journal, records, state_by, count_of, count}
+use Rattle.journal_laws.specs.Journal.{unformatted, journal_at, journal, records, state_by, state_of, count_of, count}
 use Rattle.journal_laws.specs.Operations.{format_writes, formatted, start_writes, started_state}
 use Rattle.nv_journal.specs.Kept.{Says}
-use Rattle.hci_store.specs.Image.{are_commands}
+use Rattle.hci_tables.specs.Tables.{HciTables, close}
+use Rattle.hci_store.specs.Image.{are_commands, tables_of}
+use Rattle.hci_store.specs.Starting.{migration_writes, migrated, ready_writes, ready_state}
 use Rattle.hci_store.specs.Refusals.{IsSpent}
 use Rattle.hci_store.proofs.Applying.{sound_has_no_fault}
 
@@ -64,3 +66,15 @@ module _ (content : List ℕ) (s j : State) (says : Says content s) (is : j ≡ 
       by_bank : (o : Option Side) → (state_in content o).version ≡ 1 → started_state (state_in content o) ≡ state_in content o
       by_bank None e = absurd (omega (arith, e))
       by_bank (Some side) e = refl
+
+  now_is : j ≡ started_state (state_of content)
+  now_is = is ∙ ap started_state (sym says.state_is)
+
+  pub ready_written : (t : HciTables) → t ≡ close (tables_of content) → start_writes s ++ migration_writes j t ≡ ready_writes content
+  ready_written t same =
+      ap (λ r. start_writes r ++ migration_writes j t) (sym says.state_is)
+      ∙ (ap (λ r. start_writes (state_of content) ++ migration_writes r t) now_is
+      ∙ ap (λ r. start_writes (state_of content) ++ migration_writes (started_state (state_of content)) r) same)
+
+  pub ready_stands : (t : HciTables) → t ≡ close (tables_of content) → migrated j t ≡ ready_state content
+  ready_stands t same = ap (λ r. migrated r t) now_is ∙ ap (migrated (started_state (state_of content))) same

@@ -4,3 +4,4 @@ pub mod Refusals
 pub mod Snapshots
 pub mod Recordable
 pub mod Committing
+pub mod Starting

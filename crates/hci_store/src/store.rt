@@ -11,6 +11,7 @@ ghost use Rattle.hci_tables.specs.Commands.{IsCommand};
 ghost use Rattle.hci_tables.specs.Bodies.{body_of};
 ghost use Rattle.hci_store.specs.Committing.{record_fits, snapshot_bodies, room_writes, with_room, commit_writes, committed};
 ghost use Rattle.hci_store.specs.Image.{tables_of, are_commands, image_fault};
+ghost use Rattle.hci_store.specs.Starting.{migration_writes, migrated, ready_writes, ready_state, HasWritten};
 ghost use Rattle.nv_journal.specs.Refusals.{IsImageFault};
 
 use crate::records::apply_all;
@@ -86,6 +87,7 @@ impl<N: Nv + Drop> Store<N> {
         ensures version { IfOk result (λ s. s.journal.state.version ≡ 2) }
         ensures tables { IsTrue N.tells → IfOk result (λ s. s.tables ≡ close (tables_of (N.content nv))) }
         ensures commands { IsTrue N.tells → OnOk result (are_commands (records (N.content nv)) ≡ true) }
+        ensures sound { IsTrue N.tells → OnOk result (image_fault (N.content nv) ≡ None) }
         ensures count { IsTrue N.tells → IfOk result (λ s. count_of s.journal.state ≡ count (N.content nv)) }
         ensures holds { IsTrue N.tells → IfOk result (λ s. HoldsTables (N.content s.journal.nv) s.tables) }
         ensures fault { IfErr result (λ e. (e.fault ≡ JournalFault.NvFault) ⊎ (e.fault ≡ JournalFault.GenerationsSpent)
@@ -98,6 +100,10 @@ impl<N: Nv + Drop> Store<N> {
         ensures rose { IfErr result (λ e. e.fault ≡ JournalFault.NvFault → Rose (N.faults nv) (N.faults e.nv)) }
         ensures image { IsTrue N.tells → IfErr result (λ e. IsImageFault e.fault → image_fault (N.content nv) ≡ Some e.fault) }
         ensures left { IsTrue N.tells → IfErr result (λ e. FindsSame (N.content nv) (N.content e.nv)) }
+        ensures state { IsTrue N.tells → IfOk result (λ s. s.journal.state ≡ ready_state (N.content nv)) }
+        ensures made { IsTrue N.tells → IfOk result (λ s. HasWritten N.writes N.content (ready_writes (N.content nv)) nv true s.journal.nv) }
+        ensures torn { IsTrue N.tells → IfErr result (λ e. e.fault ≡ JournalFault.NvFault → (N.content e.nv ≡ N.content nv)
+            ⊎ HasWritten N.writes N.content (ready_writes (N.content nv)) nv false e.nv) }
     {
         let mut scan = match Scan::open(nv) {
             Ok(scan) => scan,
@@ -131,6 +137,11 @@ impl<N: Nv + Drop> Store<N> {
         ensures used { IfOk result (λ s. IsSome s.journal.state.in_use) }
         ensures version { IfOk result (λ s. s.journal.state.version ≡ 2) }
         ensures tables { IfOk result (λ s. s.tables ≡ self.tables) }
+        ensures state { IfOk result (λ s. s.journal.state ≡ migrated self.journal.state self.tables) }
+        ensures made { MatchResult result
+            (λ s. AreMade N.writes (migration_writes self.journal.state self.tables) self.journal.nv true s.journal.nv)
+            (λ e. e.fault ≡ JournalFault.NvFault
+            → AreMade N.writes (migration_writes self.journal.state self.tables) self.journal.nv false e.nv) }
         ensures kept { IfOk result (λ s. count_of s.journal.state ≡ count_of self.journal.state) }
         ensures holds { IsTrue N.tells → IfOk result (λ s. HoldsTables (N.content s.journal.nv) s.tables) }
         ensures spent { IfErr result (λ e. e.fault ≡ JournalFault.GenerationsSpent
@@ -160,6 +171,9 @@ impl<N: Nv + Drop> Store<N> {
         ensures used { OnOk result (IsSome self.new.journal.state.in_use) }
         ensures version { OnOk result (self.new.journal.state.version ≡ 2) }
         ensures tables { self.new.tables ≡ self.old.tables }
+        ensures state { OnOk result (self.new.journal.state ≡ migrated self.old.journal.state self.old.tables) }
+        ensures made { result ≢ Err JournalFault.GenerationsSpent → AreMade N.writes
+            (migration_writes self.old.journal.state self.old.tables) self.old.journal.nv (is_ok result) self.new.journal.nv }
         ensures kept { OnOk result (count_of self.new.journal.state ≡ count_of self.old.journal.state) }
         ensures holds { IsTrue N.tells → OnOk result (HoldsTables (N.content self.new.journal.nv) self.new.tables) }
         ensures spent { (result ≡ Err JournalFault.GenerationsSpent)

@@ -22,3 +22,5 @@ pub mod Queued
 pub mod Resets
 pub mod Dues
 pub mod Whole
+pub mod Memories
+pub mod Runs

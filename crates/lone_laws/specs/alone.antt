@@ -2,3 +2,4 @@ pub mod Lone
 pub mod Known
 pub mod Answers
 pub mod Ends
+pub mod Memories

@@ -1,12 +1,18 @@
-//! A node with one link, alone, answers every message that comes to it, whatever comes: so does a node of `end` over any bytes. Nothing
-//! here runs.
+//! A node with one link, alone, answers every message that comes to it, whatever comes, and keeps its commands: so does a node of `end`
+//! over any bytes. Nothing here runs.
 
 ghost use Rattle.std.specs.Prelude.{◌≡◌, ◌==◌, ◌≤◌, ℕ, Bool, false, List, [], ◌∷◌, if◌then◌else◌};
 ghost use Rattle.swp_base.specs.InMemory.{Memory};
 ghost use Rattle.node_machine.specs.Node.{found};
 ghost use Rattle.lone_laws.specs.alone.Lone.{LoneCause, lone_events, lone_booted};
 ghost use Rattle.lone_laws.specs.alone.Answers.{AnsweredAlone};
-ghost use Rattle.lone_laws.specs.alone.Ends.{EndForm, end_history, end_node};
+ghost use Rattle.lone_laws.specs.alone.Ends.{EndForm, end_causes, end_history, end_node};
+ghost use Rattle.hci_tables.specs.Tables.{HciTables, close};
+ghost use Rattle.hci_store.specs.Image.{tables_of};
+ghost use Rattle.node_laws.specs.kept.Finds.{BootFinds};
+ghost use Rattle.lone_laws.specs.alone.Answers.{entries_of_events_alone};
+ghost use Rattle.lone_laws.specs.alone.Lone.{lone_after};
+ghost use Rattle.lone_laws.specs.alone.Memories.{IsHeldBehind, commands_of_entries};
 
 /// A node boots over a memory that may hold anything, with one link: it is the controller with a host of 01 to 07, or such a host.
 /// Whatever comes to its end then, frames of any bytes, frames that are refused, ticks, resets, starts and stops: messages have their turns
@@ -18,4 +24,20 @@ pub fn a_node_alone_answers_every_message()
         AnsweredAlone (found number (link ∷ []) m.content).core link (lone_events (lone_booted number link m) causes) }
     ensures ends { (form : EndForm) (is_clf : Bool) (m : Memory) (bytes : List ℕ) →
         AnsweredAlone (found (if is_clf then 0 else 2) (2 ∷ []) m.content).core 2 (end_history form (end_node is_clf m) bytes) }
+{}
+
+/// Over such a run the memory keeps the commands that are noted. At its end a boot finds the tables of the records at its beginning with
+/// these commands carried out in their order, all pipes closed, and counts so many more, up to 4,294,967,295; where the power went in a
+/// write, all but the last one may be found. That is said of a memory in which a boot finds something of version 02, or nothing at all, whose
+/// head names no more records of a snapshot than its base and its records make. A count at its last value stays there; where no generation
+/// is left, a command whose record doesn't fit is refused, and isn't noted. Of a memory of version 01 nothing is said here: a store writes
+/// one anew, as version 02 with the same tables and count, before its node runs.
+pub fn a_node_alone_keeps_its_commands()
+    ensures held { (number link : ℕ) (m : Memory) → 1 ≤ link → link ≤ 7 → ((number == 0) ≡ false → number ≡ link) → (tables : HciTables) (many : ℕ) →
+        BootFinds m.content tables many → (causes : List LoneCause) →
+        IsHeldBehind (close (tables_of m.content)) many (commands_of_entries (entries_of_events_alone (lone_events (lone_booted number link m) causes)))
+        (lone_after (lone_booted number link m) causes) }
+    ensures ends { (form : EndForm) (is_clf : Bool) (m : Memory) (tables : HciTables) (many : ℕ) → BootFinds m.content tables many → (bytes : List ℕ) →
+        IsHeldBehind (close (tables_of m.content)) many (commands_of_entries (entries_of_events_alone (end_history form (end_node is_clf m) bytes)))
+        (lone_after (end_node is_clf m) (end_causes form (end_node is_clf m) bytes)) }
 {}

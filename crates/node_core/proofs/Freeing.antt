@@ -19,7 +19,7 @@ use Rattle.node_machine.specs.Controller.{asked_at}
 use Rattle.node_machine.specs.Node.{forgotten, is_over_at, owed}
 use Rattle.node_core.specs.declared.node.Node.{Node}
 use Rattle.node_core.specs.Nodes.{IsInStep}
-use Rattle.node_core.specs.Owing.{freed_at, answers_to, has_ended_so, owed_at}
+use Rattle.node_core.specs.Owing.{freed_at, answers_owed, has_ended_so, owed_at}
 
 -- ## All ends
 
@@ -92,10 +92,10 @@ pub owed_all : (late : Bool) (r : Response) (i : ℕ) (ports : List Port) → le
     → flat_map (owed_at late r) (take i ports) ≡ flat_map (λ (p : Port). owed r (asked_at p)) (filter (has_ended_so late) ports)
 owed_all late r i ports past = past_freed (owed_at late r) i ports past ∙ owed_each late r ports
 
-pub one_answered : (r : Response) (askers : List ℕ) (a : ℕ) → flat_map (answers_to r) (askers ++ a ∷ []) ≡ flat_map (answers_to r) askers ++ answers_to r a
+pub one_answered : (r : Response) (askers : List ℕ) (a : ℕ) → flat_map (answers_owed r) (askers ++ a ∷ []) ≡ flat_map (answers_owed r) askers ++ answers_owed r a
 one_answered r askers a =
-    flat_map-append (answers_to r) askers (a ∷ [])
-    ∙ ap (λ l. flat_map (answers_to r) askers ++ l) (flat_map-cons (answers_to r) a [] ∙ append-nil (answers_to r a))
+    flat_map-append (answers_owed r) askers (a ∷ [])
+    ∙ ap (λ l. flat_map (answers_owed r) askers ++ l) (flat_map-cons (answers_owed r) a [] ∙ append-nil (answers_owed r a))
 
 -- ## Deeds without a write, one after another
 

@@ -20,7 +20,7 @@ impl<N: Nv + Drop> Node<N> {
     ghost use Rattle.gate_answers.specs.declared.response.Response.{Response as Code};
     ghost use Rattle.node_machine.specs.Controller.{asked_at};
     ghost use Rattle.node_machine.specs.Node.{owed};
-    ghost use Rattle.node_core.specs.Owing.{freed_at, answers_to, has_ended_so, owed_at};
+    ghost use Rattle.node_core.specs.Owing.{freed_at, answers_owed, has_ended_so, owed_at};
 
     // The asker of the creation that waits at the end at this place, where it is forgotten since the asker's session ended in this step.
     fn forgotten_at(&self, i: usize) -> Option<u8>
@@ -87,7 +87,7 @@ impl<N: Nv + Drop> Node<N> {
     fn owed_at(&self, i: usize, late: bool) -> Option<u8>
         requires runs { IsSoundNode self.now }
         ensures { (ports : List Port) (r : Code) → EndsStandFor self.now.ends ports
-            → option_map_or (answers_to r) result [] ≡ option_map_or (owed_at late r) (slice_get ports i) [] }
+            → option_map_or (answers_owed r) result [] ≡ option_map_or (owed_at late r) (slice_get ports i) [] }
     {
         if !self.has_ended_so(i, late) {
             return None;
@@ -106,7 +106,7 @@ impl<N: Nv + Drop> Node<N> {
     pub(crate) fn owed(&self, late: bool) -> ArrayVec<u8, 7>
         requires runs { IsSoundNode self.now }
         ensures { (ports : List Port) (r : Code) → EndsStandFor self.now.ends ports
-            → flat_map (answers_to r) result.items ≡ flat_map (λ p. owed r (asked_at p)) (filter (has_ended_so late) ports) }
+            → flat_map (answers_owed r) result.items ≡ flat_map (λ p. owed r (asked_at p)) (filter (has_ended_so late) ports) }
     {
         let mut askers = ArrayVec::new();
         for i in 0..7 {
@@ -122,7 +122,7 @@ impl<N: Nv + Drop> Node<N> {
         requires runs { IsSoundNode self.old }
         requires live { IsTrue self.old.store.journal.live }
         ensures carried { (start : List Noted) (w : Work) → IsInStep self.old (W.noted watch.old) (W.is_short watch.old) start w
-            → IsInStep self.new (W.noted watch.new) (W.is_short watch.new) start (all_done 0 (flat_map (answers_to response) askers.now) w) }
+            → IsInStep self.new (W.noted watch.new) (W.is_short watch.new) start (all_done 0 (flat_map (answers_owed response) askers.now) w) }
         ensures store { self.new.store ≡ self.old.store }
         ensures number { self.new.number ≡ self.old.number }
         ensures runs { IsSoundNode self.new }

@@ -23,7 +23,7 @@ ghost use Rattle.node_machine.specs.Node.NodeInput.{AtEnd};
 ghost use Rattle.node_order.specs.links.Notices.{IsOutside};
 ghost use Rattle.node_order.specs.readings.Orders.{IsFresh};
 ghost use Rattle.node_order.specs.readings.Worlds.{host_does_so, init_of};
-ghost use Rattle.node_readings.specs.views.Inits.{IsBegunByHost, IsNoEndOf, KeepsInit, LeavesInit, SiteKeepsInit, init_after, init_in, init_kept};
+ghost use Rattle.node_readings.specs.views.Inits.{IsBegunByHost, IsNoEndOf, KeepsInit, LeavesInit, SiteKeepsInit, init_after, init_in, init_of_running};
 ghost use Rattle.node_machine.specs.Controller.{view_for};
 ghost use Rattle.node_machine.specs.world.World.{Site, beginning, host_cut, host_ticks, input_of, new_world, node_at, sending, work_of};
 ghost use Rattle.node_machine.specs.world.Lines.{Occurrence};
@@ -122,8 +122,8 @@ pub fn steps_of_others_tell_nothing_of_an_init()
 pub fn running_inits_are_read_off_histories()
     ensures events { (header : Header) (lines : List Line) (t : NodeHistory) → FollowsNodes header lines t → AreHosts header.hosts.items →
         AllByRecursion IsBegunByHost lines → (front back : List Occurrence) → occurrences_in t ≡ front ++ back → (h : ℕ) → IsHost h →
-        init_in front h ≡ init_kept (node_at (world_behind (new_world header.hosts.items) front) h) }
+        init_in front h ≡ init_of_running (node_at (world_behind (new_world header.hosts.items) front) h) }
     ensures lines { (header : Header) (lines : List Line) (t : NodeHistory) → FollowsNodes header lines t → AreHosts header.hosts.items →
         AllByRecursion IsBegunByHost lines → (h : ℕ) → IsHost h →
-        init_in (occurrences_in t) h ≡ init_kept (node_at (world_after (new_world header.hosts.items) lines) h) }
+        init_in (occurrences_in t) h ≡ init_of_running (node_at (world_after (new_world header.hosts.items) lines) h) }
 {}

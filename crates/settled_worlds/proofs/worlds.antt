@@ -2,4 +2,8 @@ pub mod WorldRest
 pub mod LinkEvents
 pub mod Endings
 pub mod RoundEvents
+pub mod Allowing
+pub mod Rounds
 pub mod WorldLaw
+pub mod WorldRounds
+pub mod NotedFragments

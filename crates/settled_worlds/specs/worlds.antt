@@ -1,3 +1,4 @@
 pub mod WorldRest
 pub mod LinkEvents
 pub mod RoundEvents
+pub mod NotedFragments

@@ -1,11 +1,20 @@
 //! A world of nodes that settles. There is no code here that runs.
 
-ghost use Rattle.std.specs.Prelude.{◌≡◌, ◌+◌, ◌*◌, ◌≤◌, ℕ, List, Some};
-ghost use Rattle.link_entries.specs.messages.Links.{AllAllowed, IsStart, Link, LinkEvent, after_link_events};
+ghost use Rattle.std.specs.Prelude.{◌≡◌, ◌+◌, ◌*◌, ◌≤◌, ◌++◌, ℕ, List, Some};
+ghost use Rattle.link_entries.specs.messages.Links.{AllAllowed};
 ghost use Rattle.settling_laws.specs.messages.Recovery.{AreLinkRounds, IsLinkUndisturbed, fragments_left};
 ghost use Rattle.settled_worlds.specs.worlds.RoundEvents.{LinkSettled, rounds_events};
 ghost use Rattle.trace_model.specs.declared.line.End.{End};
-ghost use Rattle.node_machine.specs.world.World.{NodeWorld, Site, site_at, world_step};
+ghost use Rattle.trace_model.specs.declared.line.Header.{Header};
+ghost use Rattle.trace_model.specs.declared.line.Line.{Line};
+ghost use Rattle.node_machine.specs.world.Lines.{Occurrence};
+ghost use Rattle.node_machine.specs.world.NodeHistories.{FollowsNodes, NodeHistory, entries_in, occurrences_in};
+ghost use Rattle.node_laws.specs.kept.Hosts.{AreHosts};
+ghost use Rattle.node_laws.specs.telling.Telling.{world_behind};
+ghost use Rattle.node_order.specs.links.Runs.{ArePlayable};
+ghost use Rattle.node_order.specs.order.Told.{AreUpWith};
+ghost use Rattle.settled_worlds.specs.worlds.NotedFragments.{fragments_noted};
+ghost use Rattle.node_machine.specs.world.World.{NodeWorld, Site, new_world, site_at, world_step};
 ghost use Rattle.node_machine.specs.world.World.Happening.{Takes, Ticks};
 ghost use Rattle.settled_worlds.specs.worlds.LinkEvents.{GoesOnLink, link_events_in};
 ghost use Rattle.settling_laws.specs.messages.Rest.{IsFirstRest, after_steps};
@@ -33,14 +42,37 @@ pub fn rounds_of_a_world_are_events_on_each_link()
         GoesOnLink (rounds_of_world r w).0 h s (rounds_events h r w) }
 {}
 
-/// Where a world settles, with 24 (F + 1) rounds at least, F being the fragments of the messages sent both ways on the link of a host that
-/// aren't acknowledged, and the events of these rounds on that link are rounds of it that may happen and are undisturbed, all good messages
-/// that were sent on it before are got, and all that were sent before are acknowledged.
+/// Where a world of hosts from 01 to 07 that are all different, as it is at the end of an event of a history, settles with 24 (F + 1)
+/// rounds at least, F being the fragments of the messages sent both ways on the link of a host that aren't acknowledged, and in these
+/// rounds, while they last, both ends of the link are up and ready and no frame of it is lost but of activation, all good messages that
+/// were sent on it before are got, and all that were sent on it before are acknowledged. F may be read off the entries (`noted`): the
+/// fragments of the messages that both ends sent in the session in which they are up, behind those that count as acknowledged.
 pub fn links_of_settled_worlds_have_brought_all()
-    ensures { (l : Link) → IsStart l → (before : List LinkEvent) → AllAllowed l before → (w : NodeWorld) → (h : ℕ) → (s : Site) →
-        site_at w.sites h ≡ Some s → after_link_events l before ≡ s.link → (n : ℕ) →
-        AllAllowed s.link (rounds_events h (world_rounds_to_settle n w) w) →
-        AreLinkRounds (world_rounds_to_settle n w) s.link (rounds_events h (world_rounds_to_settle n w) w) →
-        IsLinkUndisturbed s.link (rounds_events h (world_rounds_to_settle n w) w) → 24 * (fragments_left s.link + 1) ≤ n →
-        LinkSettled (world_settling n w).0 h s }
+    ensures links { (header : Header) (lines : List Line) (t : NodeHistory) → FollowsNodes header lines t → AreHosts header.hosts.items →
+        ArePlayable lines → (front back : List Occurrence) → occurrences_in t ≡ front ++ back → (h : ℕ) (s : Site) →
+        site_at (world_behind (new_world header.hosts.items) front).sites h ≡ Some s → (n : ℕ) →
+        IsLinkUndisturbed s.link (rounds_events h (world_rounds_to_settle n (world_behind (new_world header.hosts.items) front))
+        (world_behind (new_world header.hosts.items) front)) →
+        24 * (fragments_left s.link + 1) ≤ n → LinkSettled (world_settling n (world_behind (new_world header.hosts.items) front)).0 h s }
+    ensures noted { (header : Header) (lines : List Line) (t : NodeHistory) → FollowsNodes header lines t → AreHosts header.hosts.items →
+        ArePlayable lines → (front back : List Occurrence) → occurrences_in t ≡ front ++ back → (h : ℕ) (s : Site) →
+        site_at (world_behind (new_world header.hosts.items) front).sites h ≡ Some s → (n k : ℕ) →
+        IsLinkUndisturbed s.link (rounds_events h (world_rounds_to_settle n (world_behind (new_world header.hosts.items) front))
+        (world_behind (new_world header.hosts.items) front)) → AreUpWith (entries_in front) h k →
+        24 * (fragments_noted (entries_in front) h k + 1) ≤ n →
+        LinkSettled (world_settling n (world_behind (new_world header.hosts.items) front)).0 h s }
+{}
+
+/// In such a world rounds of it are rounds of the link of each host on which they are undisturbed so, and all that happens in them may
+/// happen there, whatever the nodes do.
+pub fn rounds_of_a_world_are_rounds_of_each_undisturbed_link()
+    ensures allowed { (header : Header) (lines : List Line) (t : NodeHistory) → FollowsNodes header lines t → AreHosts header.hosts.items →
+        ArePlayable lines → (front back : List Occurrence) → occurrences_in t ≡ front ++ back → (h : ℕ) (s : Site) →
+        site_at (world_behind (new_world header.hosts.items) front).sites h ≡ Some s → (r : ℕ) →
+        AllAllowed s.link (rounds_events h r (world_behind (new_world header.hosts.items) front)) }
+    ensures rounds { (header : Header) (lines : List Line) (t : NodeHistory) → FollowsNodes header lines t → AreHosts header.hosts.items →
+        ArePlayable lines → (front back : List Occurrence) → occurrences_in t ≡ front ++ back → (h : ℕ) (s : Site) →
+        site_at (world_behind (new_world header.hosts.items) front).sites h ≡ Some s → (r : ℕ) →
+        IsLinkUndisturbed s.link (rounds_events h r (world_behind (new_world header.hosts.items) front)) →
+        AreLinkRounds r s.link (rounds_events h r (world_behind (new_world header.hosts.items) front)) }
 {}

@@ -5,6 +5,8 @@ use Rattle.std.proofs.lemmas.List.{reverse-append, take_more, length-reverse}
 use Rattle.swp_frame.specs.Signal.{HasNoMark, symbol_of}
 use Rattle.swp_decode.specs.declared.line.Wire.{Wire}
 use Rattle.swp_decode.specs.declared.line.Wire.TheVariants.{S1, S2}
+use Rattle.swp_frame.specs.Words.{low_bits, word_bits}
+use Rattle.swp_frame.specs.declared.word.Word.{Word}
 use Rattle.swp_decode.specs.Readings.{with_reading, readings_on, AreBits, signal, symbols}
 use Rattle.swp_decode.specs.declared.decoder.Decoder.{Decoder}
 use Rattle.swp_decode.specs.Kept.{ReadsSignal, DecoderStandsFor}
@@ -13,7 +15,7 @@ use Rattle.swp_decode.proofs.Gathering.{AreBits-take, AreBits-drop, AreBits-at}
 use Rattle.swp_decode.specs.Decoded.{line_with, line_at, lines_on, lines_with, transcript, record_lines}
 
 -- older bytes with one more behind them
-reverse_onto : (byte : ℕ) (bytes older : List ℕ) → reverse (byte ∷ bytes) ++ older ≡ reverse bytes ++ (byte ∷ older)
+pub reverse_onto : (byte : ℕ) (bytes older : List ℕ) → reverse (byte ∷ bytes) ++ older ≡ reverse bytes ++ (byte ∷ older)
 reverse_onto byte bytes older = ap (λ xs. xs ++ older) (reverse-append (byte ∷ []) bytes) ∙ append_assoc (reverse bytes) (byte ∷ []) older
 
 -- the lines of older bytes and of further ones
@@ -88,7 +90,7 @@ wire_lines-bits wire (byte ∷ bytes) (bit ∷ bits) older are =
     ∙ ap (λ symbol. line_with wire symbol (signal wire older)
     ++ lines_on wire (length older + 1) bits (with_reading symbol (length older) (signal wire older))) are.0
 
-no_parts : (xs ys : List ℕ) → xs ++ ys ≡ [] → (xs ≡ []) × (ys ≡ [])
+pub no_parts : (xs ys : List ℕ) → xs ++ ys ≡ [] → (xs ≡ []) × (ys ≡ [])
 no_parts [] ys e = (refl, e)
 no_parts (x ∷ xs) ys e = absurd (cc)
 
@@ -132,21 +134,26 @@ pub record AreQuietBetween (bytes older : List ℕ) (first second : List Bool) (
   pub quiet_s1 : HasNoMark (symbols (readings_on (length older) (take from first) (signal S1 older))) (take (to - from) (drop from first))
   pub quiet_s2 : HasNoMark (symbols (readings_on (length older) (take from second) (signal S2 older))) (take (to - from) (drop from second))
 
+-- no line comes with the bytes between these places
+pub no_lines_between : {bytes older : List ℕ} {first second : List Bool} {from to : ℕ} → AreQuietBetween bytes older first second from to
+    → lines_with (reverse (take from bytes) ++ older) (take (to - from) (drop from bytes)) ≡ []
+no_lines_between {bytes} {older} {first} {second} {from} {to} h =
+    no_lines (take (to - from) (drop from bytes)) (reverse (take from bytes) ++ older)
+    (take (to - from) (drop from first)) (take (to - from) (drop from second))
+    (AreBits-take S1 (to - from) (drop from bytes) (drop from first) (AreBits-drop S1 from bytes first h.s1))
+    (AreBits-take S2 (to - from) (drop from bytes) (drop from second) (AreBits-drop S2 from bytes second h.s2))
+    (subst (λ readings. HasNoMark (symbols readings) (take (to - from) (drop from first))) (sym (signal_at S1 bytes older first from h.s1)) h.quiet_s1)
+    (subst (λ readings. HasNoMark (symbols readings) (take (to - from) (drop from second))) (sym (signal_at S2 bytes older second from h.s2)) h.quiet_s2)
+
 pub lines_between : {bytes older : List ℕ} {first second : List Bool} {from to : ℕ} → AreQuietBetween bytes older first second from to
     → lines_with older (take to bytes) ≡ lines_with older (take from bytes)
 lines_between {bytes} {older} {first} {second} {from} {to} h =
     let part = take (to - from) (drop from bytes) in
-    let seen = reverse (take from bytes) ++ older in
     let sum : to ≡ from + (to - from) = omega (arith, h.order) in
     ap (λ k. lines_with older (take k bytes)) sum
     ∙ ap (lines_with older) (take-add from (to - from) bytes)
     ∙ lines_behind-append older (take from bytes) part
-    ∙ ap (λ lines. lines_with older (take from bytes) ++ lines)
-    (no_lines part seen (take (to - from) (drop from first)) (take (to - from) (drop from second))
-    (AreBits-take S1 (to - from) (drop from bytes) (drop from first) (AreBits-drop S1 from bytes first h.s1))
-    (AreBits-take S2 (to - from) (drop from bytes) (drop from second) (AreBits-drop S2 from bytes second h.s2))
-    (subst (λ readings. HasNoMark (symbols readings) (take (to - from) (drop from first))) (sym (signal_at S1 bytes older first from h.s1)) h.quiet_s1)
-    (subst (λ readings. HasNoMark (symbols readings) (take (to - from) (drop from second))) (sym (signal_at S2 bytes older second from h.s2)) h.quiet_s2))
+    ∙ ap (λ lines. lines_with older (take from bytes) ++ lines) (no_lines_between h)
     ∙ append-nil (lines_with older (take from bytes))
 
 line_there : (wire : Wire) (bytes older : List ℕ) (bits : List Bool) (i : ℕ) → AreBits wire bytes bits → i < length bytes
@@ -168,3 +175,8 @@ lines_through text {bytes} {older} {first} {second} {from} {last} h within =
     ++ line_at S2 (get_or bytes last 0 ∷ (reverse (take last bytes) ++ older)))
     (sym (lines_between h))
     ∙ lines_behind-more text older bytes last within
+
+-- a wire whose bits were read up to a place, with the bits of its word
+pub bits_of_word : (wire : Wire) (bytes : List ℕ) (given : ℕ) (word : Word) → word.bits ≡ given → AreBits wire bytes (low_bits 64 given)
+    → AreBits wire bytes (word_bits word)
+bits_of_word wire bytes given word is are = rw is are

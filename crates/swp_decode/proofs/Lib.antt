@@ -6,3 +6,4 @@ pub mod FurtherLines
 pub mod Sixteen
 pub mod Marks
 pub mod StartPlaces
+pub mod FurtherFrames

@@ -1,11 +1,11 @@
 -- The next place at which a mark ends on one of two wires.
-use Rattle.std.proofs.Common.{◌≡◌, ℕ, suc, ◌+◌, ◌-◌, ◌*◌, ◌/◌, ◌%◌, ◌^◌, ◌<◌, ◌≤◌, sym, ap, ap₂, ◌∙◌, subst, arith}
+use Rattle.std.proofs.Common.{◌≡◌, refl, ℕ, suc, ◌+◌, ◌-◌, ◌*◌, ◌/◌, ◌%◌, ◌^◌, ◌<◌, ◌≤◌, sym, ap, ap₂, ◌∙◌, subst, arith}
 use mathlib.Core.Logic.{inl, inr}
 use Rattle.std.specs.Int.RustNames.{bit_or}
 use Rattle.std.proofs.Math.Nat.{pow-suc}
 use Rattle.std.proofs.Math.Pow.{pow_mono}
 use Rattle.std.proofs.lemmas.Bool.{cases_lt}
-use Rattle.std.proofs.lemmas.Nat.{leading_length, or_mod, le_or_l, le_or_r, field_of, shr_below, one_shl}
+use Rattle.std.proofs.lemmas.Nat.{leading_length, or_mod, le_or_l, le_or_r, field_of, shr_below, one_shl, mod_below, pow_pos}
 use lib.Count.{count_leading_zeros}
 use Rattle.swp_frame.proofs.LowBits.{mod-cut}
 
@@ -67,3 +67,11 @@ marks_left u all from last order within is =
     ap₂ (λ n p. n % p) is (one_shl (63 - last) 64 (omega arith))
     ∙ mod-cut (63 - last) (64 - from) all (omega (arith, order, within))
     ∙ ap (λ k. all % 2 ^ k) places
+
+-- what is left of the marks
+pub next_of : (marks all read : ℕ) → read ≤ 64 → marks ≡ all % 2 ^ (64 - read) → IsNext marks read (count_leading_zeros 64 marks)
+next_of marks all read few is = next_place marks read (count_leading_zeros 64 marks) few (rw is (mod_below all (2 ^ (64 - read)) (pow_pos (64 - read)))) refl
+
+-- what was read of a wire ends before the next of the marks
+pub not_past : (marks all read from : ℕ) → read ≤ 64 → marks ≡ all % 2 ^ (64 - read) → from ≤ read → from ≤ count_leading_zeros 64 marks
+not_past marks all read from few is before = omega (arith, (next_of marks all read few is).behind, before)

@@ -3,3 +3,4 @@ pub mod Texts
 pub mod Decoded
 pub mod Kept
 pub mod Starts
+pub mod Frames

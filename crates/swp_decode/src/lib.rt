@@ -5,6 +5,7 @@
 #![tactic(auto)]
 
 mod decoder;
+mod frames;
 pub mod laws;
 mod line;
 mod many;
@@ -12,5 +13,6 @@ mod signal;
 mod words;
 
 pub use decoder::Decoder;
+pub use frames::Frames;
 pub use line::Wire;
-pub use words::Text;
+pub use words::{Text, push_decimal, push_hex, push_text};

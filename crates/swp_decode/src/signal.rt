@@ -2,6 +2,7 @@
 ghost use Rattle.std.specs.Prelude.{ℕ, List, take, [], ◌∷◌, ◌++◌, ◌≡◌, ◌+◌, ◌-◌, ◌^◌, ◌<◌, ◌≤◌, length};
 ghost use Rattle.swp_base.specs.Bits.{bit};
 
+use crate::frames::{Frames, push_frame};
 use crate::line::{Wire, push_line};
 use crate::words::Text;
 use swp_frame::{Deframer, Fed, Part, Word};
@@ -22,6 +23,7 @@ impl SignalReader {
     ghost use Rattle.swp_frame.specs.Verdicts.{verdict};
     ghost use Rattle.swp_decode.specs.Readings.{ReadSymbol, symbols, with_reading, readings_on};
     ghost use Rattle.swp_decode.specs.Decoded.{line_with};
+    ghost use Rattle.swp_decode.specs.Frames.{frame_with};
     ghost use Rattle.swp_decode.specs.Kept.{ReadsSignal, NoMarkEnds};
 
     pub fn new() -> Self
@@ -213,5 +215,68 @@ impl SignalReader {
         let start = self.start;
         let fed = self.read_break();
         push_line(text, wire, start, &fed);
+    }
+
+    /// Where a mark ends with a bit of a word, whose oldest is at this place: reads the bits through it from one on with which no
+    /// mark ends before, and appends the frame that came with it. It answers up to which bit the word is read then.
+    #[inline(always)]
+    pub fn hear_mark_at(
+        &mut self,
+        frames: &mut Frames,
+        wire: Wire,
+        word: &Word,
+        from: u32,
+        last: u32,
+        place: u32,
+    ) -> u32
+        requires order { from ≤ last }
+        requires within { last < 64 }
+        requires place { place + 64 < 2 ^ 32 }
+        requires room { length frames.old.items < 16 }
+        ensures order { from ≤ result }
+        ensures within { result ≤ last + 1 }
+        ensures quiet { NoMarkEnds word.now from last → NoMarkEnds word.now result (last + 1) }
+        ensures reads { (older : List ReadSymbol) → IsWordBehind word.now (run_of (symbols older)) → NoMarkEnds word.now from last
+            → ReadsSignal self.old (readings_on place (take from (word_bits word.now)) older)
+            → ReadsSignal self.new (readings_on place (take result (word_bits word.now)) older) }
+        ensures items { (older : List ReadSymbol) → IsWordBehind word.now (run_of (symbols older)) → NoMarkEnds word.now from last
+            → ReadsSignal self.old (readings_on place (take from (word_bits word.now)) older)
+            → frames.new.items ≡ frames.old.items ++ frame_with wire (Some (symbol_of (bit word.now.bits (63 - last))))
+            (readings_on place (take last (word_bits word.now)) older) }
+        ensures sized { length frames.new.items ≤ length frames.old.items + 1 }
+    {
+        if (word.marks >> (63 - last)) % 2 == 0 {
+            return from;
+        }
+        self.read_between(word, from, last, place);
+        let bit = (word.bits >> (63 - last)) % 2 == 1;
+        self.hear_bit(frames, wire, bit, place + last);
+        last + 1
+    }
+
+    /// Reads a bit at a place, and appends the frame that came with it.
+    #[inline]
+    pub fn hear_bit(&mut self, frames: &mut Frames, wire: Wire, bit: bool, place: u32)
+        requires { length frames.old.items < 16 }
+        ensures reads { (older : List ReadSymbol) → ReadsSignal self.old older → ReadsSignal self.new (with_reading (Some (symbol_of bit)) place older) }
+        ensures items { (older : List ReadSymbol) → ReadsSignal self.old older
+            → frames.new.items ≡ frames.old.items ++ frame_with wire (Some (symbol_of bit)) older }
+        ensures sized { length frames.new.items ≤ length frames.old.items + 1 }
+    {
+        let fed = self.read_bit(bit, place);
+        push_frame(frames, wire, fed);
+    }
+
+    /// Reads a break, and appends the frame that came with it.
+    #[inline]
+    pub fn hear_break(&mut self, frames: &mut Frames, wire: Wire)
+        requires { length frames.old.items < 16 }
+        ensures reads { (place : ℕ) (older : List ReadSymbol) → ReadsSignal self.old older → ReadsSignal self.new (with_reading (Some break) place older) }
+        ensures items { (older : List ReadSymbol) → ReadsSignal self.old older
+            → frames.new.items ≡ frames.old.items ++ frame_with wire (Some break) older }
+        ensures sized { length frames.new.items ≤ length frames.old.items + 1 }
+    {
+        let fed = self.read_break();
+        push_frame(frames, wire, fed);
     }
 }

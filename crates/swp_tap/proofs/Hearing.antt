@@ -13,7 +13,7 @@ use Rattle.tap_reading.specs.keeping.Keeping.{KeptSide, KeptTap, kept_exchanged,
 use Rattle.tap_reading.specs.keeping.Keeping.{kept_in_session, kept_hears}
 use Rattle.tap_reading.specs.keeping.Keeping.{kept_after_frame, StandsForTap}
 use Rattle.tap_reading.proofs.keeping.Acknowledging.{frame_stands}
-use Rattle.swp_tap.specs.Hearing.{TapValue, rsets_with, kept_after_lpdu, kept_reports_lpdu, StandsFor}
+use Rattle.swp_tap.specs.Hearing.{TapValue, rsets_behind, kept_after_lpdu, kept_reports_lpdu, StandsFor}
 
 numbered_rsets : (k : KeptTap) (nr : ℕ) → (kept_numbered k nr).rsets ≡ k.rsets
 numbered_rsets k nr = go (kept_tells_more k.clf k.uicc nr) refl
@@ -22,7 +22,7 @@ numbered_rsets k nr = go (kept_tells_more k.clf k.uicc nr) refl
     go true q = rw q refl
     go false q = rw q refl
 
-hears_rsets : (bare : Bool) (k : KeptTap) (c : Control) → (kept_hears bare k c).rsets ≡ rsets_with k.rsets c
+hears_rsets : (bare : Bool) (k : KeptTap) (c : Control) → (kept_hears bare k c).rsets ≡ rsets_behind k.rsets c
 hears_rsets bare k (I ns nr info) = go (kept_in_session bare k.clf) refl
   where
     go : (b : Bool) → kept_in_session bare k.clf ≡ b → (kept_hears bare k (I ns nr info)).rsets ≡ k.rsets
@@ -47,7 +47,7 @@ after_is bare k clf lpdu c q = rw q refl
 
 -- a frame of the CLF
 pub near_kept : (bare : Bool) (k : KeptTap) (clf : Bool) (lpdu : List ℕ) (c : Control) (n f : KeptSide) (r : ℕ) → clf ≡ true → control_of lpdu ≡ Ok c
-    → n ≡ (kept_hears bare k c).clf → f ≡ (kept_hears bare k c).uicc → r ≡ rsets_with k.rsets c
+    → n ≡ (kept_hears bare k c).clf → f ≡ (kept_hears bare k c).uicc → r ≡ rsets_behind k.rsets c
     → record { clf = n; uicc = f; rsets = r } ≡ kept_after_lpdu bare k clf lpdu
 near_kept bare k clf lpdu c n f r side q a b e =
     made n f r (kept_hears bare k c) a b (e ∙ sym (hears_rsets bare k c))
@@ -55,7 +55,7 @@ near_kept bare k clf lpdu c n f r side q a b e =
 
 -- one of the UICC
 pub far_kept : (bare : Bool) (k : KeptTap) (clf : Bool) (lpdu : List ℕ) (c : Control) (n f : KeptSide) (r : ℕ) → clf ≡ false → control_of lpdu ≡ Ok c
-    → n ≡ (kept_hears bare (kept_exchanged k) c).clf → f ≡ (kept_hears bare (kept_exchanged k) c).uicc → r ≡ rsets_with k.rsets c
+    → n ≡ (kept_hears bare (kept_exchanged k) c).clf → f ≡ (kept_hears bare (kept_exchanged k) c).uicc → r ≡ rsets_behind k.rsets c
     → record { clf = f; uicc = n; rsets = r } ≡ kept_after_lpdu bare k clf lpdu
 far_kept bare k clf lpdu c n f r side q a b e =
     ap kept_exchanged (made n f r (kept_hears bare (kept_exchanged k) c) a b (e ∙ sym (hears_rsets bare (kept_exchanged k) c)))
@@ -73,7 +73,7 @@ after-append : (bare : Bool) (t : TapState) (fs gs : List (Bool × Control)) →
 after-append bare t [] gs = refl
 after-append bare t (f ∷ fs) gs = after-append bare (tap_after_frame bare t f.0 f.1) fs gs
 
-tapped-append : (bare : Bool) (t : TapState) (fs gs : List (Bool × Control))
+pub tapped-append : (bare : Bool) (t : TapState) (fs gs : List (Bool × Control))
     → tapped_from bare t (fs ++ gs) ≡ tapped_from bare t fs ++ tapped_from bare (tap_after bare t fs) gs
 tapped-append bare t [] gs = refl
 tapped-append bare t (f ∷ fs) gs =

@@ -39,9 +39,9 @@ news_by bare near far (Act act again) = []
 news_by bare near far Clt = []
 
 -- how many RSETs were heard after a frame
-abbrev pub rsets_with : ℕ → Control → ℕ
-rsets_with rsets (Rset window caps) = rsets + 1
-rsets_with rsets _ = rsets
+abbrev pub rsets_behind : ℕ → Control → ℕ
+rsets_behind rsets (Rset window caps) = rsets + 1
+rsets_behind rsets _ = rsets
 
 -- what is kept after an LPDU of a side, and what is reported at it: one outside the grammar is passed over
 abbrev pub kept_after_lpdu : Bool → KeptTap → Bool → List ℕ → KeptTap

@@ -2,7 +2,7 @@
 ghost use Rattle.std.specs.Prelude.{◌≡◌, ◌<◌, ◌+◌, Bool};
 ghost use Rattle.tap_reading.specs.keeping.Keeping.{kept_hears, kept_numbered};
 ghost use Rattle.swp_tap.specs.Coming.{news_in};
-ghost use Rattle.swp_tap.specs.Hearing.{kept_pair, news_at, news_by, rsets_with};
+ghost use Rattle.swp_tap.specs.Hearing.{kept_pair, news_at, news_by, rsets_behind};
 
 use crate::side::Side;
 use crate::under_way::Message;
@@ -103,7 +103,7 @@ fn hear(
 // How many RSETs were heard after this frame.
 fn rsets_after(rsets: u32, control: &Control) -> u32
     requires { rsets < 4294967295 }
-    ensures { result ≡ rsets_with rsets control.now }
+    ensures { result ≡ rsets_behind rsets control.now }
 {
     match control {
         Control::Rset { .. } => rsets + 1,

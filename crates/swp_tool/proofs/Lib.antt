@@ -6,3 +6,4 @@ pub mod Ending
 pub mod Playing
 pub mod Recording
 pub mod Knowing
+pub mod Hearing

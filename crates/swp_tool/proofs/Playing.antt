@@ -1,6 +1,7 @@
 -- What a line adds to a replay.
-use Rattle.std.proofs.Common.{◌≡◌, ℕ, ◌+◌, ◌<◌, List, [], ◌∷◌, ◌++◌, refl, sym, ap, ◌∙◌, append_assoc, arith, subst}
-use Rattle.std.specs.Prelude.{Option, Some, None, Ok, IsSome}
+use Rattle.std.proofs.Common.{◌≡◌, ℕ, ◌+◌, ◌<◌, List, [], ◌∷◌, ◌++◌, refl, sym, ap, ◌∙◌, append_assoc, arith, subst, false}
+use Rattle.std.specs.Prelude.{Option, Some, None, Ok, IsSome, IsSomeAnd}
+use Rattle.std.specs.Option.{ForSome}
 use Rattle.trace_model.specs.declared.line.Header.{Header}
 use Rattle.trace_model.specs.declared.line.Line.{Line}
 use Rattle.link_entries.specs.messages.Links.{Link}
@@ -10,13 +11,16 @@ use Rattle.history.proofs.Leading.{lines_lead}
 use Rattle.world.specs.declared.world_steps.World.{World}
 use Rattle.world.specs.declared.world_steps.WorldFault.{WorldFault}
 use Rattle.world.specs.declared.world_steps.WorldFault.TheVariants as fault
-use Rattle.world.specs.Worlds.{WorldStandsFor, HasRoomForLine, IsFaultOf}
+use Rattle.world.specs.Worlds.{WorldStandsFor, HasRoomForLine, IsFaultOf, world_header}
+use Rattle.trace_model.specs.Lines.{IsLineOf}
+use Rattle.schedule_text.specs.Answers.{IsInGrammar}
 use Rattle.schedule_text.specs.declared.read.Read.TheVariants as read
 use Rattle.swp_tool.specs.declared.replay.Replay.{Replay}
 use Rattle.swp_tool.specs.declared.replay.Halt.{Halt}
 use Rattle.swp_tool.specs.declared.replay.Halt.TheVariants as halt
-use Rattle.swp_tool.specs.Schedules.{Schedule, misread_behind, with_played, with_said}
+use Rattle.swp_tool.specs.Schedules.{Schedule, misread_behind, with_played, with_said, is_settling}
 use Rattle.swp_tool.specs.Transcripts.{transcript_of}
+use Rattle.swp_tool.proofs.Knowing.{bare_line}
 use Rattle.swp_tool.specs.Replays.{Runs, IsAt, WasStepped, HasPlayed, halt_of, HaltsOn, HaltsBefore}
 
 -- a world stands for a history under its own header
@@ -121,3 +125,19 @@ halted_there {r} {s} {written} {w} line why h is halts =
     let P : Option (List ℕ) → Type 0 = λ o. HaltsOn why o in
     halts_before why s line (misread_behind s.header s.lines line)
     (subst P (sym (misread_is w s.header s.lines (written ++ r.text.items) line at)) (halts at.of s.lines at.runs.history at.runs.stands))
+
+-- ## What a world is given
+
+-- the header of a world, where there is one
+abbrev pub header_of_world : Option World → Option Header
+header_of_world None = None
+header_of_world (Some w) = Some w.header
+
+-- a line that was read below the header of a world is one of its lines, unless it lets the links settle
+pub line_of_world : (world : Option World) (header : Option Header) (line : Line) (most : ℕ) → header ≡ header_of_world world
+    → IsInGrammar header (read.Line line)
+    → is_settling line ≡ false → ForSome world (λ w. WasStepped w most) → IsSomeAnd world (λ w. IsLineOf (world_header w) line)
+line_of_world None header line most is fits still steps = absurd (subst (λ h. IsInGrammar h (read.Line line)) is fits)
+line_of_world (Some w) header line most is fits still steps =
+    let was : WasStepped w most = steps w refl in
+    bare_line w.header line was.stands.is_header.bare still (subst (λ h. IsInGrammar h (read.Line line)) is fits)

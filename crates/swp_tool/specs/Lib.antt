@@ -4,5 +4,7 @@ pub mod Statuses
 pub mod Replays
 pub mod Pieces
 pub mod Runs
+pub mod Records
 pub mod Decodings
+pub mod Taps
 pub mod Images

@@ -1,5 +1,5 @@
 -- What a run of the program has read and written, by the status with which it ended.
-use Rattle.std.specs.Prelude.{◌≡◌, ℕ, ◌+◌, ◌≤◌, ◌⊎◌, Bool, IsTrue, List, [], ◌∷◌, ◌++◌, length, take, codes}
+use Rattle.std.specs.Prelude.{◌≡◌, ℕ, ◌+◌, ◌≤◌, ◌⊎◌, Bool, true, false, IsTrue, List, [], ◌∷◌, ◌++◌, length, take, codes}
 use Rattle.swp_tool.specs.declared.pieces.Pieces.{Pieces}
 use Rattle.swp_tool.specs.declared.status.Status.{Status}
 use Rattle.swp_tool.specs.declared.status.Status.TheVariants as status
@@ -75,19 +75,6 @@ IsOfReplay status.BadWords = ⊥
 IsOfReplay status.NvFault = ⊥
 IsOfReplay (status.BadImage why) = ⊥
 
--- how a decoding can end, whatever it reads
-abbrev pub IsOfDecode : Status → Type 0
-IsOfDecode status.Done = Unit {0}
-IsOfDecode status.ReadFault = Unit {0}
-IsOfDecode status.WriteFault = Unit {0}
-IsOfDecode (status.TooMany count) = count ≡ 16777217
-IsOfDecode status.BadWords = ⊥
-IsOfDecode (status.BadSchedule line why) = ⊥
-IsOfDecode (status.Undetected line) = ⊥
-IsOfDecode status.NvFault = ⊥
-IsOfDecode status.NoMemory = ⊥
-IsOfDecode (status.BadImage why) = ⊥
-
 -- A replay under way: it has read a front of the input and written the transcript of its whole lines.
 pub record IsUnderWay (tells : Bool) (p : Pieces) (input left before after : List ℕ) : Type 0 where
   pub bytes : List ℕ
@@ -105,10 +92,15 @@ IsReplay words = words ≡ codes "replay" ∷ []
 abbrev pub IsDecode : List (List ℕ) → Type 0
 IsDecode words = words ≡ codes "decode" ∷ []
 
+-- the word `tap`, and whether its link is bare
+abbrev pub IsTap : Bool → List (List ℕ) → Type 0
+IsTap true words = words ≡ codes "tap" ∷ codes "bare" ∷ []
+IsTap false words = words ≡ codes "tap" ∷ codes "hci" ∷ []
+
 -- the one word `tables`
 abbrev pub IsTables : List (List ℕ) → Type 0
 IsTables words = words ≡ codes "tables" ∷ []
 
 -- the words that ask for something
 abbrev pub AskForSomething : List (List ℕ) → Type 0
-AskForSomething words = IsReplay words ⊎ (IsDecode words ⊎ IsTables words)
+AskForSomething words = IsReplay words ⊎ (IsDecode words ⊎ (IsTables words ⊎ (IsTap true words ⊎ IsTap false words)))

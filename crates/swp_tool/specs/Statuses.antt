@@ -44,7 +44,7 @@ at_line line what = codes "line " ++ (decimal line ++ (codes ": " ++ what))
 -- what the program says of a status
 abbrev pub status_line : Status → List ℕ
 status_line status.Done = []
-status_line status.BadWords = codes "usage: swp replay | end ROLE LINK | decode | tables | gen N"
+status_line status.BadWords = codes "usage: swp replay | end ROLE LINK | decode | tables | gen N | tap FORM"
 status_line (status.BadSchedule line why) = at_line line (fault_text why)
 status_line (status.Undetected line) = at_line line (codes "damage not detected")
 status_line status.ReadFault = codes "read failed"

@@ -3,12 +3,15 @@
 
 mod decoding;
 mod driver;
+mod gathering;
 mod output;
 mod pieces;
+mod records;
 mod replay;
 mod replaying;
 mod status;
 mod tables;
+mod tapping;
 mod top;
 
 pub use status::{Status, exit_code, status_text};

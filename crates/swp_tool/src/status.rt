@@ -69,7 +69,7 @@ fn text_of(alloc: Global, status: &Status) -> Result<String, AllocError>
         Status::BadWords => {
             String::from_str(
                 alloc,
-                "usage: swp replay | end ROLE LINK | decode | tables | gen N",
+                "usage: swp replay | end ROLE LINK | decode | tables | gen N | tap FORM",
             )
         }
         Status::BadSchedule { line, fault } => {

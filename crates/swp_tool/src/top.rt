@@ -1,21 +1,24 @@
 //! The top call.
-ghost use Rattle.std.specs.Prelude.{◌≡◌, ◌≢◌, ◌≤◌, ◌<◌, ◌+◌, ◌++◌, ◌∷◌, ◌↔◌, ◌⊎◌, [], List, ℕ, length, map, string_bytes, codes, Some, None, IsTrue, OnOk};
-ghost use Rattle.std.specs.Prelude.{OnErr, IfErr, Ok, Err, take, true, false};
+ghost use Rattle.std.specs.Prelude.{◌≡◌, ◌≢◌, ◌≤◌, ◌<◌, ◌+◌, ◌++◌, ◌∷◌, ◌↔◌, ◌⊎◌, [], List, ℕ, Bool, length, map, string_bytes, codes, Some, None};
+ghost use Rattle.std.specs.Prelude.{IsTrue, OnOk, OnErr, IfErr, Ok, Err, take, true, false};
 ghost use Rattle.swp_base.specs.Outside.{Rose};
 ghost use Rattle.swp_tool.specs.Schedules.{Stop, schedule_of};
-ghost use Rattle.swp_tool.specs.Runs.{status_of, status_at, AppendsText, Replayed, IsUnderWay, IsReplay, IsDecode, IsTables, AskForSomething, IsOfReplay};
-ghost use Rattle.swp_tool.specs.Runs.{IsOfDecode};
+ghost use Rattle.swp_tool.specs.Runs.{status_of, status_at, AppendsText, Replayed, IsUnderWay, IsReplay, IsDecode, IsTap, IsTables, AskForSomething};
+ghost use Rattle.swp_tool.specs.Runs.{IsOfReplay};
 ghost use Rattle.swp_tool.specs.Transcripts.{TellsHistory};
 ghost use Rattle.swp_tool.specs.Images.{Told, IsOfTables};
 ghost use Rattle.hci_store.specs.Image.{image_fault};
 ghost use Rattle.nv_journal.specs.declared.JournalFault.{JournalFault as Bad};
-ghost use Rattle.swp_tool.specs.Decodings.{DecodedBy, most_bytes};
+ghost use Rattle.swp_tool.specs.Records.{most_bytes, IsOfRecord};
+ghost use Rattle.swp_tool.specs.Decodings.{DecodedBy};
+ghost use Rattle.swp_tool.specs.Taps.{TappedBy, IsOfTap};
 ghost use Rattle.swp_tool.specs.Pieces.{HasRead, IsReading, IsReadAhead, bytes_left};
 
 use crate::decoding::decode;
 use crate::replaying::replay;
 use crate::status::Status;
 use crate::tables::tables;
+use crate::tapping::tap;
 use std::alloc::Global;
 use swp_base::{Nv, Sink, Source};
 
@@ -27,10 +30,11 @@ pub struct Ended<N> {
     pub nv: N,
 }
 
-/// Runs the program: the words are those behind its name. Of its commands three are built. `replay` reads a schedule to its end,
+/// Runs the program: the words are those behind its name. Of its commands five are built. `replay` reads a schedule to its end,
 /// to its first fault, or to a line that damages a frame so that another one is read, and writes its transcript. `decode` reads
-/// the record of a line and writes a line of text for each frame or fault in it. `tables` writes what the memory keeps, and
-/// reads nothing else. The memory is handed back; its content is as it was.
+/// the record of a line and writes a line of text for each frame or fault in it. `tap bare` and `tap hci` read such a record of a
+/// link, which is bare or not, and write a line of text for each message that one of its ends got. `tables` writes what the
+/// memory keeps, and reads nothing else. The memory is handed back; its content is as it was.
 pub fn run<S: Source, K: Sink, N: Nv + Drop>(
     alloc: Global,
     words: &[String],
@@ -52,6 +56,10 @@ pub fn run<S: Source, K: Sink, N: Nv + Drop>(
     ensures decoded { IsDecode (map string_bytes words.now) → IsTrue S.tells →
         DecodedBy K.tells result.status (S.left source.old) (S.left source.new) (K.written sink.old) (K.written sink.new) }
 
+    // A tap writes what its definition reports of the frames of the bytes read, on a link that is bare or not.
+    ensures tapped { (bare : Bool) → IsTap bare (map string_bytes words.now) → IsTrue S.tells →
+        TappedBy bare K.tells result.status (S.left source.old) (S.left source.new) (K.written sink.old) (K.written sink.new) }
+
     // Other words are refused exactly, and then nothing is read or written.
     ensures bad_words { (result.status ≡ Status.BadWords) ↔ ¬ AskForSomething (map string_bytes words.now) }
     ensures untouched { result.status ≡ Status.BadWords → (source.new ≡ source.old) × (sink.new ≡ sink.old) }
@@ -70,7 +78,8 @@ pub fn run<S: Source, K: Sink, N: Nv + Drop>(
 
     // Whatever is read, each word ends in these ways alone.
     ensures replay_status { IsReplay (map string_bytes words.now) → IsOfReplay result.status }
-    ensures decode_status { IsDecode (map string_bytes words.now) → IsOfDecode result.status }
+    ensures decode_status { IsDecode (map string_bytes words.now) → IsOfRecord result.status }
+    ensures tap_status { (bare : Bool) → IsTap bare (map string_bytes words.now) → IsOfTap result.status }
     ensures tables_status { IsTables (map string_bytes words.now) → IsOfTables result.status }
 
     // A fault of the outside comes only where its count rose.
@@ -102,6 +111,16 @@ pub fn run<S: Source, K: Sink, N: Nv + Drop>(
         ¬ Rose (S.faults source.old) (S.faults source.new) → ¬ Rose (K.faults sink.old) (K.faults sink.new) →
         result.status ≡ Status.TooMany 16777217 }
 
+    // So it is with a tap, unless there is no memory for it.
+    ensures complete_tap { (bare : Bool) → IsTap bare (map string_bytes words.now) → IsTrue S.tells →
+        length (S.left source.old) ≤ most_bytes →
+        ¬ Rose (S.faults source.old) (S.faults source.new) → ¬ Rose (K.faults sink.old) (K.faults sink.new) →
+        (result.status ≡ Status.Done) ⊎ (result.status ≡ Status.NoMemory) }
+    ensures refused_tap { (bare : Bool) → IsTap bare (map string_bytes words.now) → IsTrue S.tells →
+        most_bytes < length (S.left source.old) →
+        ¬ Rose (S.faults source.old) (S.faults source.new) → ¬ Rose (K.faults sink.old) (K.faults sink.new) →
+        (result.status ≡ Status.TooMany 16777217) ⊎ (result.status ≡ Status.NoMemory) }
+
     // Nothing is read once the source has said that it ended, or a read has failed.
     ensures late { (S.end source.old).ended ≡ false → (S.end source.new).late ≡ (S.end source.old).late }
 
@@ -111,6 +130,8 @@ pub fn run<S: Source, K: Sink, N: Nv + Drop>(
 
     // Of a record at most 4,096 bytes are read behind the last one that it may have.
     ensures record_ahead { IsDecode (map string_bytes words.now) → IsTrue S.tells →
+        length (S.left source.old) ≤ most_bytes + 4096 + length (S.left source.new) }
+    ensures tap_ahead { (bare : Bool) → IsTap bare (map string_bytes words.now) → IsTrue S.tells →
         length (S.left source.old) ≤ most_bytes + 4096 + length (S.left source.new) }
 
     // Only the tables need the memory.
@@ -123,6 +144,10 @@ pub fn run<S: Source, K: Sink, N: Nv + Drop>(
         replay(alloc, source, sink)
     } else if is_word(words, b"decode") {
         decode(alloc, source, sink)
+    } else if are_words(words, b"tap", b"bare") {
+        tap::<S, K, true>(alloc, source, sink)
+    } else if are_words(words, b"tap", b"hci") {
+        tap::<S, K, false>(alloc, source, sink)
     } else {
         Status::BadWords
     };
@@ -135,6 +160,16 @@ fn is_word(words: &[String], word: &[u8]) -> bool
 {
     match words {
         [given] => is_same(given.as_bytes(), word),
+        _ => false,
+    }
+}
+
+/// Whether the words are these two.
+fn are_words(words: &[String], first: &[u8], second: &[u8]) -> bool
+    ensures { IsTrue result ↔ (map string_bytes words.now ≡ first.now ∷ second.now ∷ []) }
+{
+    match words {
+        [one, two] => is_same(one.as_bytes(), first) && is_same(two.as_bytes(), second),
         _ => false,
     }
 }

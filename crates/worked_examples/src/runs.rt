@@ -3,7 +3,7 @@
 ghost use Rattle.std.specs.Prelude.{◌≡◌, ◌≤◌, ◌⊎◌, ◌∷◌, [], ℕ, length, map, string_bytes, codes, Some, None, IfOk};
 ghost use Rattle.swp_tool.specs.Schedules.{Stop, schedule_of};
 ghost use Rattle.swp_tool.specs.Runs.{status_at};
-ghost use Rattle.swp_tool.specs.Decodings.{most_bytes};
+ghost use Rattle.swp_tool.specs.Records.{most_bytes};
 
 use crate::rows::*;
 use crate::shown::{same, same_bytes};
@@ -112,6 +112,8 @@ fn status_over_sure(alloc: Global, word: &str, bytes: &[u8]) -> Result<Status, N
 const REPLAY: [&str; 1] = ["replay"];
 
 const DECODE: [&str; 1] = ["decode"];
+
+const TAP: [&str; 2] = ["tap", "bare"];
 
 const NONE: (&[u64], &[u64]) = (&[], &[]);
 
@@ -248,9 +250,16 @@ fn other_words_are_refused_and_nothing_is_written(rt: HostRuntime) {
         refuses(&rt, alloc, &["replay", "x"]),
         refuses(&rt, alloc, &["Replay"]),
         refuses(&rt, alloc, &["play"]),
+        refuses(&rt, alloc, &["tap"]),
+        refuses(&rt, alloc, &["tap", "bare", "x"]),
         refuses(&rt, alloc, &REPLAY),
+        refuses(&rt, alloc, &TAP),
     ];
-    same(&rt, &refused, &[true, true, true, true, false]);
+    same(
+        &rt,
+        &refused,
+        &[true, true, true, true, true, true, false, false],
+    );
 }
 
 #[test]
@@ -433,6 +442,51 @@ fn a_decoding_that_is_cut_off_leaves_the_lines_before_it(rt: HostRuntime) {
         (&[], &[2]),
         4096,
         Status::WriteFault,
+        line,
+    );
+}
+
+/// The I frame `80 81 03` on S2, which carries the message `03` on pipe 01, and then RR 1 on S1, which acknowledges it.
+const ACKNOWLEDGED: &[u8] =
+    b"@\xC0\xC0\xC0\xC0\xC0\xC0@\xC0@@@@@@@\xC0@@@@@@\xC0@@@@@@\xC0\xC0@@@\xC0@@@@\xC0\xC0\xC0\
+\xC0@@\xC0\xC0@\xC0\xC0\xC0\xC0\xC0\xC0\xC0@@@@@@@@@TTTTTT@TT@@@@@TTT@T@TTT@TT@@@T@@TTTT\
+TTT";
+
+#[test]
+fn a_tap_that_is_cut_off_leaves_the_messages_before_it(rt: HostRuntime) {
+    let alloc = rt.alloc();
+    let all = "got c 0 01 03\ndone 104\n";
+    writes(&rt, alloc, &TAP, ACKNOWLEDGED, NONE, 1, Status::Done, all);
+    let line = "got c 0 01 03\n";
+    let second: (&[u64], &[u64]) = (&[], &[2]);
+    writes(
+        &rt,
+        alloc,
+        &TAP,
+        ACKNOWLEDGED,
+        second,
+        4096,
+        Status::WriteFault,
+        line,
+    );
+    writes(
+        &rt,
+        alloc,
+        &TAP,
+        ACKNOWLEDGED,
+        second,
+        7,
+        Status::WriteFault,
+        "got c 0",
+    );
+    writes(
+        &rt,
+        alloc,
+        &TAP,
+        ACKNOWLEDGED,
+        (&[2], &[]),
+        4096,
+        Status::ReadFault,
         line,
     );
 }

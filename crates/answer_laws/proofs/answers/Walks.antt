@@ -10,14 +10,18 @@ use Rattle.trace_model.specs.declared.line.Line.{Line}
 use Rattle.trace_model.specs.declared.line.Line.TheVariants as line
 use Rattle.node_machine.specs.world.World.{NodeWorld, new_world, node_of}
 use Rattle.node_machine.specs.world.Lines.{Occurrence, line_step, misread_in}
-use Rattle.node_machine.specs.world.NodeHistories.{NodeHistory, NoneIsMisread, entries_in, node_entries, occurrences_in, steps_from}
+use Rattle.node_machine.specs.world.NodeHistories.{NodeHistory, FollowsNodes, NoneIsMisread, entries_in, node_entries, occurrences_in, steps_from}
 use Rattle.node_machine.specs.world.NodeLegal.{AreInTurn}
 use Rattle.node_laws.specs.kept.Reckonings.{is_cut_of}
 use Rattle.node_laws.specs.kept.Hosts.{AreDifferent}
 use Rattle.node_order.proofs.turns.Lines.{in_turn}
+use Rattle.answer_laws.proofs.answers.Rising.{turns_rise, rise_ascends}
+use Rattle.answer_laws.proofs.worlds.Orders.{hear_first}
 use Rattle.answer_laws.specs.answers.Moments.{Moment, until, holds_in, reply, lack_of, lack_at, noted_of_deeds}
+use Rattle.answer_laws.specs.answers.Order.{NodesHearFirst}
 use Rattle.answer_laws.specs.answers.Unasked.{down_in, due, is_reset_due, is_reset_down}
-use Rattle.answer_laws.specs.answers.Answered.{Answered, IsReplied, IsHeldFor, is_answer_of, before_turn, to_command, through, ends_in, is_done, is_left_short}
+use Rattle.answer_laws.specs.answers.Answered.{Answered, IsReplied, IsHeldFor, before_turn, to_command, through, ends_in, is_done, is_left_short}
+use Rattle.answer_laws.specs.answers.Order.{is_answer_of}
 use Rattle.answer_laws.proofs.answers.Splits.{same_at_each, at_events, same_at_events, at_entries, same_at_entries}
 
 -- ## What is found
@@ -57,6 +61,7 @@ pub record Findings : Type 0 where
   pub reset : List Bool
   pub turns : List (Option (Option (ℕ × ℕ) × List Entry))
   pub held : List (Option (Bool × Option (ℕ × ℕ)))
+  pub rise : Bool
 
 abbrev pub found : List ℕ → List Occurrence → Occurrence → Findings
 found hosts past o = record {
@@ -66,6 +71,7 @@ found hosts past o = record {
   reset = map (λ e. list_any (is_reset_down e) o.entries) (ends_in hosts);
   turns = at_entries (turn_found hosts) past o.cause [] o.entries;
   held = at_entries (held_found hosts) past o.cause [] o.entries;
+  rise = turns_rise o.entries;
 }
 
 abbrev pub wanted : List ℕ → List Occurrence → Occurrence → Findings
@@ -76,6 +82,7 @@ wanted hosts past o = record {
   reset = map (λ e. is_reset_due past o e) (ends_in hosts);
   turns = at_entries (turn_wanted hosts) past o.cause [] o.entries;
   held = at_entries (held_wanted hosts) past o.cause [] o.entries;
+  rise = true;
 }
 
 -- ## What follows
@@ -107,7 +114,12 @@ held_so : (hosts : List ℕ) (m : Moment) (x : Entry) (behind : List Entry) → 
 held_so hosts m (entry.Held e need spare) behind same = (ap was_held same, ap held_lack same)
 held_so hosts m _ behind same = tt
 
-module _ (t : NodeHistory) (turns : AreInTurn (node_entries t))
+-- what is known of each history that follows a schedule
+pub record IsOrderly (t : NodeHistory) : Type 0 where
+  pub turns : AreInTurn (node_entries t)
+  pub heard : NodesHearFirst t
+
+module _ (t : NodeHistory) (orderly : IsOrderly t)
     (same : at_events (found t.header.hosts.items) [] (occurrences_in t) ≡ at_events (wanted t.header.hosts.items) [] (occurrences_in t)) where
   here : (past back : List Occurrence) (o : Occurrence) → occurrences_in t ≡ past ++ (o ∷ back)
       → found t.header.hosts.items past o ≡ wanted t.header.hosts.items past o
@@ -117,7 +129,7 @@ module _ (t : NodeHistory) (turns : AreInTurn (node_entries t))
 
   pub answered : Answered t
   answered = record {
-    in_turn = turns;
+    in_turn = orderly.turns;
     done = λ past back o at.
         same_at_each (λ e. is_done (through past o) e) (λ e. true) (ends_in t.header.hosts.items) (ap (λ (f : Findings). f.done) (here past back o at));
     replied = λ past back o front behind x at inside.
@@ -140,6 +152,8 @@ module _ (t : NodeHistory) (turns : AreInTurn (node_entries t))
     reset = λ past back o at.
         same_at_each (λ e. list_any (is_reset_down e) o.entries) (λ e. is_reset_due past o e) (ends_in t.header.hosts.items)
         (ap (λ (f : Findings). f.reset) (here past back o at));
+    ascending = λ past back o at n. rise_ascends n o.entries (ap (λ (f : Findings). f.rise) (here past back o at));
+    heard = orderly.heard;
   }
 
 -- ## Histories of examples
@@ -177,15 +191,21 @@ header_of_hosts hosts = record { hci = true; hosts = record { items = hosts } }
 abbrev pub history_of_lines : List ℕ → List Line → NodeHistory
 history_of_lines hosts lines = record { header = header_of_hosts hosts; steps = steps_from (new_world hosts) lines }
 
+module _ (hosts : List ℕ) (lines : List Line) (different : AreDifferent hosts) (some : AllByRecursion (λ h. (h == 0) ≡ false) hosts) where
+  orderly_if : NoneIsMisread (new_world hosts) lines → IsOrderly (history_of_lines hosts lines)
+  orderly_if is =
+      let follows : FollowsNodes (header_of_hosts hosts) lines (history_of_lines hosts lines) =
+      record { nodes = refl; header_is = refl; steps_are = refl; sure = is }
+      in record {
+        turns = in_turn (header_of_hosts hosts) lines (history_of_lines hosts lines) follows different some;
+        heard = hear_first (header_of_hosts hosts) lines (history_of_lines hosts lines) follows different some;
+      }
+
 pub all_in_turn : (hosts : List ℕ) (lines : List Line) → list_any is_damage lines ≡ false → AreDifferent hosts
-    → AllByRecursion (λ h. (h == 0) ≡ false) hosts → AreInTurn (node_entries (history_of_lines hosts lines))
-all_in_turn hosts lines none different some =
-    in_turn (header_of_hosts hosts) lines (history_of_lines hosts lines)
-    (record { nodes = refl; header_is = refl; steps_are = refl; sure = sure lines none (new_world hosts) }) different some
+    → AllByRecursion (λ h. (h == 0) ≡ false) hosts → IsOrderly (history_of_lines hosts lines)
+all_in_turn hosts lines none different some = orderly_if hosts lines different some (sure lines none (new_world hosts))
 
 -- also where frames are damaged
 pub all_in_turn_still : (hosts : List ℕ) (lines : List Line) → finds_none (new_world hosts) lines ≡ true → AreDifferent hosts
-    → AllByRecursion (λ h. (h == 0) ≡ false) hosts → AreInTurn (node_entries (history_of_lines hosts lines))
-all_in_turn_still hosts lines found different some =
-    in_turn (header_of_hosts hosts) lines (history_of_lines hosts lines)
-    (record { nodes = refl; header_is = refl; steps_are = refl; sure = surely lines (new_world hosts) found }) different some
+    → AllByRecursion (λ h. (h == 0) ≡ false) hosts → IsOrderly (history_of_lines hosts lines)
+all_in_turn_still hosts lines found different some = orderly_if hosts lines different some (surely lines (new_world hosts) found)

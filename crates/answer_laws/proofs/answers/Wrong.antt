@@ -1,9 +1,9 @@
 -- Small wrong histories aren't answered: one for each fact.
-use Rattle.std.proofs.Common.{refl, ap, sym, Bool, true, false, true≢false, List, [], ◌∷◌, ◌++◌, None}
+use Rattle.std.proofs.Common.{◌≤◌, arith, refl, ap, sym, Bool, true, false, true≢false, List, [], ◌∷◌, ◌++◌, None}
 use Rattle.std.specs.Prelude.{is_some}
 use Rattle.swp_base.specs.declared.link_terms.Cause.TheVariants as cause
 use Rattle.trace_model.specs.declared.entry.Entry.{Entry}
-use Rattle.trace_model.specs.declared.entry.Entry.TheVariants.{Up, Down, Sent, Got, Took, Turn, Held, Command, Booted}
+use Rattle.trace_model.specs.declared.entry.Entry.TheVariants.{Up, Down, Emit, Sent, Got, Took, Turn, Held, Command, Booted, Cut}
 use Rattle.trace_model.specs.declared.line.Line.TheVariants as line
 use Rattle.hci_tables.specs.declared.command.Command.TheVariants as command
 use Rattle.journal_laws.specs.Records.{found_from}
@@ -14,6 +14,7 @@ use Rattle.node_machine.specs.world.World.Happening.{Boots, Takes, Ticks}
 use Rattle.node_machine.specs.world.Lines.{Occurrence}
 use Rattle.node_machine.specs.world.Lines.LineOutcome.{Occurred}
 use Rattle.node_machine.specs.world.NodeHistories.{NodeHistory}
+use Rattle.node_order.specs.power.Powers.{CutsEndParts}
 use Rattle.answer_laws.specs.answers.Answered.{Answered}
 use Rattle.answer_laws.proofs.answers.Walks.{header_of_hosts}
 
@@ -106,3 +107,21 @@ sync_not_kept a = true≢false (ap is_empty (a.due begins [] (takes (Took (end_c
 reset_untimely : Answered (told (begins ++ ticks (Down (end_c 2) cause.Asked ∷ []) ∷ [])) → ⊥
 unfolding found_from hosts_where lowest_free
 reset_untimely a = true≢false ((a.reset begins [] (ticks (Down (end_c 2) cause.Asked ∷ [])) refl).0)
+
+-- turns of a later end stand before those of an earlier one
+turns_descend : Answered (told (begins ++ takes (Turn (end_c 3) 1 [] ∷ Turn (end_c 2) 1 [] ∷ []) ∷ [])) → ⊥
+unfolding found_from hosts_where lowest_free
+turns_descend a =
+    let low : 3 ≤ 2 = (a.ascending begins [] (takes (Turn (end_c 3) 1 [] ∷ Turn (end_c 2) 1 [] ∷ [])) refl 0).0.0 in omega (arith, low)
+
+-- a message comes behind an answer
+got_behind_answer : Answered (told (begins ++ takes (Sent (end_c 2) 1 1 (129 ∷ []) ∷ got ∷ []) ∷ [])) → ⊥
+unfolding found_from hosts_where lowest_free
+got_behind_answer a =
+    true≢false ((a.heard begins [] (takes (Sent (end_c 2) 1 1 (129 ∷ []) ∷ got ∷ [])) [] (got ∷ []) (Sent (end_c 2) 1 1 (129 ∷ [])) refl refl 0 refl).0)
+
+-- a node whose power is cut puts a frame on its wire
+emits_behind_cut : CutsEndParts (told (begins ++ takes (Cut 0 ∷ Emit (end_c 2) (193 ∷ []) ∷ []) ∷ [])) → ⊥
+unfolding found_from hosts_where lowest_free
+emits_behind_cut a =
+    true≢false ((a begins [] (takes (Cut 0 ∷ Emit (end_c 2) (193 ∷ []) ∷ [])) [] (Emit (end_c 2) (193 ∷ []) ∷ []) 0 refl refl).0)

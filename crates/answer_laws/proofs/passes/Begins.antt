@@ -1,8 +1,7 @@
 -- In a history, as a pass of the controller begins, the messages that wait at its ends are those that are read.
 use Rattle.std.proofs.Common.{◌≡◌, ℕ, Bool, true, false, cond, eqb, List, [], ◌∷◌, ◌++◌, map, sym, refl, ap, ◌∙◌, subst}
-use Rattle.std.specs.Prelude.{Option, Some, None, is_some, replicate}
+use Rattle.std.specs.Prelude.{Option, Some, None, is_some}
 use Rattle.std.specs.Option.{option_map_or}
-use Rattle.std.specs.List.{AllByRecursion}
 use Rattle.std.proofs.lemmas.Bool.{eqb-true}
 use Rattle.trace_model.specs.declared.entry.Entry.{Entry}
 use Rattle.trace_model.specs.declared.line.Header.{Header}
@@ -16,7 +15,7 @@ use Rattle.node_machine.specs.Parts.{Desk, Running, Port, Work}
 use Rattle.node_machine.specs.Carrying.{own_side, port_at}
 use Rattle.node_machine.specs.Node.{NodeInput}
 use Rattle.node_machine.specs.Node.NodeInput.{AtEnd, TimePasses}
-use Rattle.node_machine.specs.world.World.{NodeWorld, Site, Happening, site_at, link_to, input_of, near_end_in, arrival, comes_to, port_for, work_of, new_site}
+use Rattle.node_machine.specs.world.World.{NodeWorld, Site, Happening, site_at, link_to, input_of, near_end_in, arrival, comes_to, port_for, work_of}
 use Rattle.node_machine.specs.world.World.{new_world, world_step}
 use Rattle.node_machine.specs.world.World.{all_aged, end_c}
 use Rattle.node_machine.specs.world.Lines.{Occurrence}
@@ -27,7 +26,7 @@ use Rattle.node_laws.specs.telling.Telling.{HasEnds, hosts_in, MayBoot, world_be
 use Rattle.node_laws.proofs.telling.Lasting.{AllHold, AnyLine, all_lines, boots_may, events_of_steps, front_holds, lines_hold}
 use Rattle.node_laws.proofs.telling.Nodes.{hosts_same, link_is, ports_for}
 use Rattle.node_laws.proofs.telling.Orderly.{new_orderly, step_orderly}
-use Rattle.node_laws.proofs.telling.Worlds.{node_is, site_is}
+use Rattle.node_laws.proofs.telling.Worlds.{node_is}
 use Rattle.node_order.proofs.readings.NoticedWorlds.{numbers}
 use Rattle.node_order.proofs.readings.Sites.{comes_outside, near_end_side}
 use Rattle.node_order.specs.links.Notices.{IsOutside}
@@ -36,7 +35,7 @@ use Rattle.answer_laws.specs.steps.Worlds.{as_it_ticks}
 use Rattle.answer_laws.proofs.rooms.Beginning.{HasSite, site_for}
 use Rattle.node_order.proofs.turns.Queues.{AreStill, goes-append}
 use Rattle.node_order.proofs.turns.Lines.{AllWait, Waiting}
-use Rattle.node_order.proofs.turns.Works.{ByPower, FarWaits, Leaves, Moves, NearWaits, Waits, aged_none, arrival_still, end_at, flat_leaves, sites_is}
+use Rattle.node_order.proofs.turns.Works.{ByPower, Leaves, Moves, NearWaits, aged_none, arrival_still, end_at, flat_leaves, sites_is}
 use Rattle.node_order.proofs.turns.Works.{still_leaves}
 use Rattle.node_order.proofs.turns.Worlds.{events_move}
 use Rattle.node_order.proofs.turns.Coming.{notes_still}
@@ -49,6 +48,7 @@ use Rattle.answer_laws.proofs.passes.Sides.{AreNoBoots, notes_unbooted}
 use Rattle.answer_laws.proofs.passes.Holding.{begun_read}
 use Rattle.answer_laws.proofs.passes.Held.{HoldsRead, aged_leave, event_holds, is_held_among, ports_held}
 use Rattle.answer_laws.proofs.passes.Came.{came_read, goes_read, was_there}
+use Rattle.node_order.proofs.turns.Lines.{none_wait}
 
 -- ## Worlds
 
@@ -57,7 +57,7 @@ pub record WaitsRead (t : List Entry) (w : NodeWorld) : Type 0 where
   pub all : AllWait t w
   pub holds : HoldsRead t w
 
-reads_last : (t : List Entry) (w : NodeWorld) (c : Happening) → WaitsRead t w → MayBoot w c → WaitsRead (t ++ (world_step w c).1) (world_step w c).0
+pub reads_last : (t : List Entry) (w : NodeWorld) (c : Happening) → WaitsRead t w → MayBoot w c → WaitsRead (t ++ (world_step w c).1) (world_step w c).0
 reads_last t w c a may = record {
   all = record {
     orderly = step_orderly w c a.all.orderly;
@@ -74,29 +74,7 @@ reads_last t w c a may = record {
   holds = event_holds t w c a.holds a.all.orderly;
 }
 
--- the ends of a link are new
-record IsNew (s : Site) : Type 0 where
-  off : s.node ≡ None
-  near : s.link.controller.side.got ≡ []
-  far : s.link.host.side.got ≡ []
-
-are_new : (content : List ℕ) (hosts : List ℕ) → AllByRecursion IsNew (map (new_site content) hosts)
-are_new content [] = tt
-are_new content (h ∷ hosts) = (record { off = refl; near = refl; far = refl }, are_new content hosts)
-
-none_wait : (hosts : List ℕ) (b : Bool) (h : ℕ) → Waits (new_world hosts) b h []
-none_wait hosts true h = go (site_at (new_world hosts).sites h) refl where
-  go : (o : Option Site) → site_at (new_world hosts).sites h ≡ o → FarWaits [] o
-  go None q = tt
-  go (Some s) q =
-      let new : IsNew s = site_is IsNew (new_world hosts).sites h s (are_new (replicate 65536 255) hosts) q in
-      subst (λ (o : Option Running). ByPower (is_some o) [] s.link.host.side.got) (sym new.off) new.far
-none_wait hosts false h = go (site_at (new_world hosts).sites h) refl where
-  go : (o : Option Site) → site_at (new_world hosts).sites h ≡ o → NearWaits None [] o
-  go None q = tt
-  go (Some s) q = (site_is IsNew (new_world hosts).sites h s (are_new (replicate 65536 255) hosts) q).near
-
-new_reads : (hosts : List ℕ) → AreHosts hosts → WaitsRead [] (new_world hosts)
+pub new_reads : (hosts : List ℕ) → AreHosts hosts → WaitsRead [] (new_world hosts)
 new_reads hosts are = record {
   all = record {
     orderly = new_orderly hosts are.different (numbers hosts are.all);

@@ -1,22 +1,21 @@
 -- As the pass of a node begins, the messages that wait at its ends are what is read.
 use Rattle.std.proofs.Common.{◌≡◌, ◌⊎◌, inl, inr, ℕ, Bool, true, false, cond, eqb, List, [], ◌∷◌, ◌++◌, map, sym, refl, ap, ◌∙◌, subst, append_assoc}
 use Rattle.std.proofs.Common.{append-nil}
-use Rattle.std.specs.Prelude.{◌||◌, Option, Some, None, nat_lt, option_to_list, drop}
+use Rattle.std.specs.Prelude.{◌||◌, Option, Some, None, drop}
 use Rattle.std.specs.List.{AllByRecursion, flat_map}
 use Rattle.std.proofs.lemmas.Bool.{cases_Bool, eqb-true, true≢false}
-use Rattle.std.proofs.lemmas.List.Concat.{flat_map-append}
 use Rattle.std.proofs.lemmas.List.Sums.{fold-append}
 use Rattle.trace_model.specs.declared.entry.Entry.{Entry}
 use Rattle.trace_model.specs.declared.entry.Entry.TheVariants as entry
 use Rattle.trace_model.specs.declared.line.End.{End}
-use Rattle.link_machine.specs.Machine.{Message, LinkEnd, LinkInput, Report, after_input, report, whole_acked}
+use Rattle.link_machine.specs.Machine.{Message, LinkEnd, LinkInput, after_input, report, whole_acked}
 use Rattle.link_machine.specs.Machine.LinkInput.{Reset}
 use Rattle.link_machine.proofs.Kept.{reset_got}
-use Rattle.link_entries.specs.entries.Entries.{End as Side, Entry as Noted, if_so, told}
+use Rattle.link_entries.specs.entries.Entries.{End as Side, told}
 use Rattle.link_entries.specs.entries.Entries.End.{Controller, Host}
-use Rattle.link_entries.specs.entries.Entries.Entry.{Up, Down, Active, GaveUp, Acked, Got}
+use Rattle.link_entries.specs.entries.Entries.Entry.{Got}
 use Rattle.history.specs.Filters.{same_end}
-use Rattle.history.specs.Steps.{end_of, entry_of, entries_for}
+use Rattle.history.specs.Steps.{end_of, entries_for}
 use Rattle.node_machine.specs.Parts.{Core, Port, Work, Deed}
 use Rattle.node_machine.specs.Carrying.{own_side, port_at, all_done}
 use Rattle.node_machine.specs.Node.{NodeInput, input_at, has_come, told_at, all_come, with_older, is_late, reset_late, told_late, times_out, forgotten, forgets}
@@ -37,12 +36,12 @@ use Rattle.node_order.proofs.turns.Queues.Doing.{Adds, Nothing, Takes, Clears}
 use Rattle.node_order.proofs.turns.Queues.{Becomes, Goes, goes-append, AreStill, still_goes, doing}
 use Rattle.node_order.proofs.turns.Ends.{left_by, input_got}
 use Rattle.node_order.proofs.turns.Passing.{At, Known, all_do as at_all, has_side, known_map, same_is}
-use Rattle.node_order.proofs.turns.Coming.{AreNoGots, ended_none, notes_still, so_none, tries_none}
 use Rattle.node_order.specs.passes.Steps.{has_come_so, has_freed, has_synced, comes_to_pass, syncs_in, owed_in_step}
 use Rattle.node_order.proofs.passes.Before.{before_hosts}
 use Rattle.answer_laws.proofs.replies.Ends.{one_found}
 use Rattle.answer_laws.specs.answers.Moments.{unhandled_after, unhandled_in}
 use Rattle.answer_laws.proofs.passes.Sides.{is_host_side}
+use Rattle.node_order.proofs.turns.Coming.{gots_go, gots_still, told_goes}
 
 -- ## What is read
 
@@ -71,41 +70,6 @@ module _ (e : End) where
       ap (λ l. unhandled_in l e) (sym (append_assoc s (x ∷ []) es)) ∙ goes_read (s ++ x ∷ []) es g.0 r (one_read s x q g.0 is g.1.0) g.1.1
 
 -- ## Something comes
-
-gots_go : (e : End) (h : ℕ) (who : Side) (n : ℕ) (ms q : List Message) → same_end (end_of h who) e ≡ true
-    → Goes e q (entries_for h (map (Got who n) ms)) (q ++ ms)
-gots_go e h who n [] q on = sym (append-nil q)
-gots_go e h who n (m ∷ ms) q on =
-    let one : doing e (entry.Got (end_of h who) n m.0 m.1) ≡ Adds m = rw on refl in (
-      q ++ m ∷ [],
-      (
-        subst (λ d. Becomes d q (q ++ m ∷ [])) (sym one) refl,
-        subst (λ z. Goes e (q ++ m ∷ []) (entries_for h (map (Got who n) ms)) z) (append_assoc q (m ∷ []) ms) (gots_go e h who n ms (q ++ m ∷ []) on),
-      ),
-    )
-
-pub gots_still : (e : End) (h : ℕ) (who : Side) (n : ℕ) (ms : List Message) → same_end (end_of h who) e ≡ false
-    → AreStill e (entries_for h (map (Got who n) ms))
-gots_still e h who n [] off = tt
-gots_still e h who n (m ∷ ms) off = (rw off refl, gots_still e h who n ms off)
-
-lead : (e : End) (h : ℕ) (xs ys : List Noted) (q r : List Message) → AreNoGots xs → Goes e q (entries_for h ys) r → Goes e q (entries_for h (xs ++ ys)) r
-lead e h xs ys q r a g =
-    subst (λ t. Goes e q t r) (sym (flat_map-append (entry_of h) xs ys))
-    (goes-append e (entries_for h xs) (entries_for h ys) q q r (still_goes e (entries_for h xs) q (notes_still e h xs a)) g)
-
-pub told_goes : (e : End) (h : ℕ) (who : Side) (n acked : ℕ) (r : Report) (q s : List Message) → Goes e q (entries_for h (map (Got who n) r.got)) s
-    → Goes e q (entries_for h (told who n r acked)) s
-told_goes e h who n acked r q s g =
-    let five : List Noted = if_so (nat_lt 0 r.acked) (Acked who n acked) ++ map (Got who n) r.got in
-    let four : List Noted = map (GaveUp who) (option_to_list r.gave_up) ++ five in
-    let three : List Noted = if_so r.became_active (Active who) ++ four in
-    let two : List Noted = if_so r.began (Up who n) ++ three in
-    lead e h (map (Down who) (option_to_list r.ended)) two q s (ended_none who r.ended)
-    (lead e h (if_so r.began (Up who n)) three q s (so_none r.began (Up who n) tt)
-    (lead e h (if_so r.became_active (Active who)) four q s (so_none r.became_active (Active who) tt)
-    (lead e h (map (GaveUp who) (option_to_list r.gave_up)) five q s (tries_none who r.gave_up)
-    (lead e h (if_so (nat_lt 0 r.acked) (Acked who n acked)) (map (Got who n) r.got) q s (so_none (nat_lt 0 r.acked) (Acked who n acked) tt) g))))
 
 abbrev IfComing : Option LinkInput → Type 0
 IfComing None = Unit {0}

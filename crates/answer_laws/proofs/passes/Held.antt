@@ -72,7 +72,7 @@ desks_held (p ∷ ports) k = by (eqb p.desk.host k) refl (desks_held ports k) wh
   by true q later = rw q refl
   by false q later = rw q later
 
-error_held : (h : ℕ) (desks : List Desk) (k : ℕ) → is_held_among (with_error h desks) k ≡ is_held_among desks k
+pub error_held : (h : ℕ) (desks : List Desk) (k : ℕ) → is_held_among (with_error h desks) k ≡ is_held_among desks k
 error_held h [] k = refl
 error_held h (d ∷ desks) k = by (eqb d.host h) refl (eqb d.host k) refl (error_held h desks k) where
   by : (c : Bool) → eqb d.host h ≡ c → (b : Bool) → eqb d.host k ≡ b → is_held_among (with_error h desks) k ≡ is_held_among desks k
@@ -82,7 +82,7 @@ error_held h (d ∷ desks) k = by (eqb d.host h) refl (eqb d.host k) refl (error
   by false z true q later = rw (z, q) refl
   by false z false q later = rw (z, q) later
 
-new_held : (hosts : List ℕ) (k : ℕ) → is_held_among (map new_desk hosts) k ≡ false
+pub new_held : (hosts : List ℕ) (k : ℕ) → is_held_among (map new_desk hosts) k ≡ false
 new_held [] k = refl
 new_held (h ∷ hosts) k = by (eqb h k) refl (new_held hosts k) where
   by : (b : Bool) → eqb h k ≡ b → is_held_among (map new_desk hosts) k ≡ false → is_held_among (map new_desk (h ∷ hosts)) k ≡ false
@@ -127,7 +127,7 @@ aged_leave w =
 
 -- ## Hosts
 
-host_side : (n : ℕ) (core : Core) → core.node ≡ n → eqb n 0 ≡ false → own_side core ≡ Host
+pub host_side : (n : ℕ) (core : Core) → core.node ≡ n → eqb n 0 ≡ false → own_side core ≡ Host
 host_side n core number off = ap (λ m. cond (eqb m 0) Controller Host) number ∙ ap (λ b. cond b Controller Host) off
 
 -- what a host notes in a step
@@ -137,7 +137,7 @@ host_leaves h r plan near_ends es input has off none un =
     far_leaves (steps input (work_of r plan near_ends es)).entries
     (all_sided h Host [] input (work_of r plan near_ends es) has.number (host_side h r.core has.number off) none un)
 
-turn_quiet : (core : Core) (x : Turn) (o : Option Port) → AreNoTurns (option_map_or (noted_of core x) o [])
+pub turn_quiet : (core : Core) (x : Turn) (o : Option Port) → AreNoTurns (option_map_or (noted_of core x) o [])
 turn_quiet core x None = tt
 turn_quiet core x (Some p) = links_none p.desk.host (turn_entry (own_side core) p.session p.side x)
 
@@ -150,7 +150,7 @@ begins_leave h n r plan near_ends deeds number mute none =
     quiet_leaves (begins_with h deeds w).entries (subst AreNoTurns (sym (deeds_note h deeds w)) (noted_none h deeds w none))
     (begins_unbooted n (own_side r.core) h deeds w mute number refl tt)
 
-sending_quiet : (h : ℕ) (m : Message) → AllByRecursion (λ (d : Deed). (k : ℕ) (w : Work) → AreNoTurns (noted_by_deed k d w)) (sending h m)
+pub sending_quiet : (h : ℕ) (m : Message) → AllByRecursion (λ (d : Deed). (k : ℕ) (w : Work) → AreNoTurns (noted_by_deed k d w)) (sending h m)
 sending_quiet h m = by (eqb m.0 1 && is_command_message m.1) where
   by : (b : Bool) → AllByRecursion (λ (d : Deed). (k : ℕ) (w : Work) → AreNoTurns (noted_by_deed k d w)) (cond b (Orders m.1 ∷ []) (Sends h m ∷ []))
   by true = ((λ k w. turn_quiet w.core (Give (1, m.1)) (port_at w.ports k)), tt)
@@ -158,7 +158,7 @@ sending_quiet h m = by (eqb m.0 1 && is_command_message m.1) where
 
 -- ## Sites
 
-site_fine : (h : ℕ) (s : Site) (r : Running) (sites : List Site) → AreFine sites → site_at sites h ≡ Some s → s.node ≡ Some r
+pub site_fine : (h : ℕ) (s : Site) (r : Running) (sites : List Site) → AreFine sites → site_at sites h ≡ Some s → s.node ≡ Some r
     → HasEnds s.host (s.host ∷ []) r × (eqb s.host 0 ≡ false)
 site_fine h s r sites fine here q = (
   subst (IfItRuns s.host (s.host ∷ [])) q (site_is (λ (s : Site). IfItRuns s.host (s.host ∷ []) s.node) sites h s fine.nodes here),

@@ -138,8 +138,11 @@ module _ (n : ℕ) (who : Side) (t : List Entry) (input : NodeInput) (w : Work) 
   begun_quiet = subst AreNoTurns (sym (before_entries input w))
       (AllByRecursion-append IsNoTurn w.entries (noted_before_pass input w) none (before_none input w))
 
+  begun_read_at : (k : ℕ) → holds_in t (at_end k) ≡ is_held_at w.ports k → holds_in (t ++ begun.entries) (at_end k) ≡ is_held_at begun.ports k
+  begun_read_at k read = quiet_all k (is_host_side who) t begun.entries begun_quiet begun_unbooted ∙ (read ∙ sym (begun_held input w k))
+
   pub begun_read : HeldAsRead t w.ports → HeldAsRead (t ++ begun.entries) begun.ports
-  begun_read read k = quiet_all k (is_host_side who) t begun.entries begun_quiet begun_unbooted ∙ (read k ∙ sym (begun_held input w k))
+  begun_read read k = begun_read_at k (read k)
 
   more_unbooted : (on : begun.cut ≡ false) → AreNoBoots (walk on).more
   more_unbooted on =
@@ -160,8 +163,10 @@ module _ (n : ℕ) (who : Side) (t : List Entry) (input : NodeInput) (w : Work) 
         subst (AreOnSide (is_host_side who)) (sym (ap (λ (v : Work). v.entries) (on_is on) ∙ (walk on).entries))
         (AllByRecursion-append (IsOnSide (is_host_side who)) begun.entries (walk on).more first (more_sided on))
 
-  pub ended_read : ended.cut ≡ false → HeldAsRead t w.ports → HeldAsRead (t ++ ended.entries) ended.ports
-  ended_read still read k = by begun.cut refl where
+  -- at one end
+  pub ended_read_at : (k : ℕ) → ended.cut ≡ false → holds_in t (at_end k) ≡ is_held_at w.ports k
+      → holds_in (t ++ ended.entries) (at_end k) ≡ is_held_at ended.ports k
+  ended_read_at k still read = by begun.cut refl where
     by : (b : Bool) → begun.cut ≡ b → holds_in (t ++ ended.entries) (at_end k) ≡ is_held_at ended.ports k
     by true off = absurd (true≢false (sym off ∙ (sym (ap (λ (v : Work). v.cut) (off_is off)) ∙ still)))
     by false on =
@@ -174,9 +179,12 @@ module _ (n : ℕ) (who : Side) (t : List Entry) (input : NodeInput) (w : Work) 
         let shape : t ++ v.entries ≡ now ++ p.more = ap (λ l. t ++ l) p.entries ∙ sym (append_assoc t begun.entries p.more) in
         let told : holds_in (now ++ p.more) (at_end k) ≡ (waits_behind k (waiting_at begun.ports k, holds_in now (at_end k)) p.more).1 =
         told_all k (is_host_side who) now p.more (waiting_at begun.ports k) (more_sided on) in
-        let was : holds_in now (at_end k) ≡ is_held_at begun.ports k = begun_read read k in
+        let was : holds_in now (at_end k) ≡ is_held_at begun.ports k = begun_read_at k read in
         ap (λ (u : Work). holds_in (t ++ u.entries) (at_end k)) (on_is on)
         ∙ (ap (λ l. holds_in l (at_end k)) shape
         ∙ (told ∙ (ap (λ b. (waits_behind k (waiting_at begun.ports k, b) p.more).1) was
         ∙ (ap (λ l. (waits_behind k (waiting_at begun.ports k, is_held_at begun.ports k) l).1) (sym same)
         ∙ (sym a.held ∙ ap (λ (u : Work). is_held_at u.ports k) (sym (on_is on)))))))
+
+  pub ended_read : ended.cut ≡ false → HeldAsRead t w.ports → HeldAsRead (t ++ ended.entries) ended.ports
+  ended_read still read k = ended_read_at k still (read k)

@@ -37,7 +37,7 @@ use Rattle.node_order.proofs.passes.Passing.{comes_so, handles_entries, handles_
 use Rattle.node_order.specs.passes.Passing.{is_held_at}
 use Rattle.node_order.specs.passes.Passing.ComesTo.{Begins, Handles, Holds, LetsGo}
 use Rattle.answer_laws.proofs.passes.Sides.{is_host_side, side_comes}
-use Rattle.answer_laws.proofs.passes.Came.{gots_still, told_goes}
+use Rattle.node_order.proofs.turns.Coming.{gots_still, told_goes}
 
 -- ## Deeds
 

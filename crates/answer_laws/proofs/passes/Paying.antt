@@ -5,22 +5,21 @@ use Rattle.std.specs.List.{flat_map}
 use Rattle.std.specs.Option.{option_map_or}
 use Rattle.trace_model.specs.declared.entry.Entry.{Entry}
 use Rattle.trace_model.specs.declared.entry.Entry.TheVariants as entry
-use Rattle.link_machine.specs.Machine.{Message, LinkInput, report, whole_acked, after_input}
-use Rattle.link_machine.specs.Machine.LinkInput.{Reset}
+use Rattle.link_machine.specs.Machine.{Message}
 use Rattle.link_machine.specs.Machine.Turn.{FetchMessage}
 use Rattle.node_machine.specs.Parts.{Core, Port, Work, Deed}
-use Rattle.node_machine.specs.Carrying.{own_side, port_at, all_done, end_of_node, noting, noted_of, turn_at, with_desk}
+use Rattle.node_machine.specs.Carrying.{port_at, all_done, end_of_node, noting, noted_of, turn_at, with_desk}
 use Rattle.node_machine.specs.Turns.{deeds_of, handles, holds_back, lets_go}
-use Rattle.node_machine.specs.Node.{NodeInput, input_at, told_at, told_late, all_come, with_older, is_late, forgets, forgotten}
+use Rattle.node_machine.specs.Node.{NodeInput, input_at, told_at, told_late, all_come, with_older, forgets, forgotten}
 use Rattle.node_machine.specs.Node.NodeInput.{AtEnd, TimePasses}
 use Rattle.node_laws.proofs.steps.StepWalks.{unless}
 use Rattle.node_order.specs.passes.Passing.{ComesTo}
 use Rattle.node_order.specs.passes.Steps.{has_come_so, has_freed, has_synced, comes_to_pass, syncs_in, owed_in_step}
 use Rattle.node_order.proofs.passes.Passing.{comes_so, holds_notes, lets_notes, own_held}
-use Rattle.answer_laws.proofs.schedules.Costs.{costs, costs-append, pays, pays-append, told_cost}
-use Rattle.answer_laws.proofs.schedules.Coming.{got_once}
+use Rattle.answer_laws.proofs.schedules.Costs.{costs, costs-append, pays, pays-append}
 use Rattle.answer_laws.proofs.schedules.Deeds.{weights, deeds_two, forgotten_free, all_owed_free, all_synced}
 use Rattle.answer_laws.proofs.schedules.Works.{Owes, all_owe, noted}
+use Rattle.answer_laws.proofs.schedules.Works.{lates_free, told_each}
 
 fetch_free : (core : Core) (o : Option Port) → costs (option_map_or (noted_of core FetchMessage) o []) ≡ 0
 fetch_free core None = refl
@@ -69,35 +68,6 @@ comes_owe all w v a c = comes_so (Owes 0 all) (record {
       omega (arith, c, p, b)
 
 -- ## Until a pass begins
-
-told_once : (core : Core) (p : Port) (o : Option LinkInput) → costs (told_at core p o) ≤ 2
-told_once core p None = omega arith
-told_once core p (Some i) =
-    let all = told_cost p.desk.host (own_side core) p.session (report p.side i) (whole_acked (after_input p.side i)) in
-    let one = got_once p.side i in
-    omega (arith, all, one)
-
-told_each : (core : Core) (input : NodeInput) (ports : List Port) → costs (flat_map (λ p. told_at core p (input_at input p)) ports) ≤ 2 * length ports
-told_each core input [] = omega arith
-told_each core input (p ∷ ports) =
-    let first = told_once core p (input_at input p) in
-    let rest = told_each core input ports in
-    let both = costs-append (told_at core p (input_at input p)) (flat_map (λ p. told_at core p (input_at input p)) ports) in
-    omega (arith, first, rest, both)
-
-late_free : (core : Core) (p : Port) → costs (told_late core p) ≡ 0
-late_free core p = by (is_late p) where
-  by : (b : Bool) → costs (cond b (told_at core p (Some (Reset None))) []) ≡ 0
-  by true = told_cost p.desk.host (own_side core) p.session (report p.side (Reset None)) (whole_acked (after_input p.side (Reset None)))
-  by false = refl
-
-lates_free : (core : Core) (ports : List Port) → costs (flat_map (told_late core) ports) ≡ 0
-lates_free core [] = refl
-lates_free core (p ∷ ports) =
-    let first = late_free core p in
-    let rest = lates_free core ports in
-    let both = costs-append (told_late core p) (flat_map (told_late core) ports) in
-    omega (arith, first, rest, both)
 
 come_owes : (input : NodeInput) (w : Work) → costs w.entries ≡ 0 → Owes (length w.ports) (3 * length w.ports) (has_come_so input w)
 come_owes (AtEnd h i) w none =

@@ -41,7 +41,7 @@ use Rattle.answer_laws.proofs.passes.Ready.{comes_room, comes_wait, tick_room, t
 any_goes : (t : List Entry) (w : NodeWorld) → AllWait t w → (e : End) → (q : List Message) × Goes e [] t q
 any_goes t w a e = let all : Waiting t w e.at_host e.link = a.waiting e.at_host e.link in (all.messages, all.goes)
 
-near_goes : (t : List Entry) (w : NodeWorld) → AllWait t w → (r : Running) → w.controller ≡ Some r → (k : ℕ) (s : Site) → site_at w.sites k ≡ Some s
+pub near_goes : (t : List Entry) (w : NodeWorld) → AllWait t w → (r : Running) → w.controller ≡ Some r → (k : ℕ) (s : Site) → site_at w.sites k ≡ Some s
     → Goes (end_c k) [] t s.link.controller.side.got
 near_goes t w a r runs k s here =
     let all : Waiting t w false k = a.waiting false k in

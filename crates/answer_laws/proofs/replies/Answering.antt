@@ -15,7 +15,8 @@ use Rattle.node_machine.specs.world.World.{node_of}
 use Rattle.node_laws.specs.kept.Deeds.{MayBeDone}
 use Rattle.node_laws.specs.kept.Reckonings.{is_cut_of}
 use Rattle.node_order.specs.passes.Noting.{IsReplyNoted, next_count, sent_in_session, entries_of_reply}
-use Rattle.answer_laws.specs.answers.Answered.{AnswersSo, before_turn, is_answer_of, is_turn_of, to_command}
+use Rattle.answer_laws.specs.answers.Answered.{AnswersSo, before_turn, is_turn_of, to_command}
+use Rattle.answer_laws.specs.answers.Order.{is_answer_of}
 use Rattle.answer_laws.specs.replies.Known.{IsNoAnswer}
 use Rattle.answer_laws.proofs.replies.Apart.{SendsOver}
 

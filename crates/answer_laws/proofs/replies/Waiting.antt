@@ -1,9 +1,9 @@
 -- The messages that wait at the ends of a controller stay those that are read, over its turns.
 use Rattle.std.proofs.Common.{◌≡◌, ◌⊎◌, inl, inr, ℕ, Bool, true, false, cond, eqb, List, [], ◌∷◌, ◌++◌, sym, refl, ap, ap₂, ◌∙◌, subst, append_assoc}
 use Rattle.std.proofs.Common.{append-nil}
-use Rattle.std.specs.Prelude.{◌||◌, Some, drop}
+use Rattle.std.specs.Prelude.{Some, drop}
 use Rattle.std.specs.Option.{option_map_or}
-use Rattle.std.proofs.lemmas.Bool.{cases_Bool, eqb-true, eq-eqb, true≢false}
+use Rattle.std.proofs.lemmas.Bool.{cases_Bool, eqb-true, eq-eqb}
 use Rattle.std.proofs.lemmas.List.Sums.{fold-append}
 use Rattle.trace_model.specs.declared.entry.Entry.{Entry}
 use Rattle.trace_model.specs.declared.entry.Entry.TheVariants as entry
@@ -22,6 +22,7 @@ use Rattle.node_order.proofs.passes.Passing.{handles_sees}
 use Rattle.node_order.proofs.passes.Behind.{held_own, other_handles, other_holds}
 use Rattle.answer_laws.specs.answers.Moments.{holds_in, unhandled_after, unhandled_in}
 use Rattle.answer_laws.specs.replies.Known.{MessagesAreRead}
+use Rattle.answer_laws.proofs.passes.Came.{one_at}
 use Rattle.answer_laws.proofs.replies.Ends.{one_found}
 use Rattle.answer_laws.proofs.replies.Answering.{AreReplyEntries, IsReplyEntry}
 
@@ -77,17 +78,6 @@ got_found ports k p e = ap (λ o. option_map_or (λ (p : Port). p.side.got) o []
 
 holds_found : (ports : List Port) (k : ℕ) (p : Port) → port_at ports k ≡ Some p → is_held_at ports k ≡ p.desk.holds
 holds_found ports k p e = ap (λ o. option_map_or (λ (p : Port). p.desk.holds) o false) e
-
--- an end with one of these hosts is there
-one_at : (ports : List Port) (k : ℕ) → is_one_of (hosts_of_ends ports) k ≡ true → (p : Port) × (port_at ports k ≡ Some p)
-one_at [] k one = absurd (true≢false (sym one))
-one_at (p ∷ ports) k one = go (cases_Bool (eqb p.desk.host k)) (one_at ports k) where
-  go : (eqb p.desk.host k ≡ true) ⊎ (eqb p.desk.host k ≡ false) → (is_one_of (hosts_of_ends ports) k ≡ true → (q : Port) × (port_at ports k ≡ Some q))
-      → (q : Port) × (port_at (p ∷ ports) k ≡ Some q)
-  go (inl is) later = (p, ap (λ b. cond b (Some p) (port_at ports k)) is)
-  go (inr off) later =
-      let found = later (sym (ap (λ b. b || is_one_of (hosts_of_ends ports) k) off) ∙ one) in
-      (found.0, ap (λ b. cond b (Some p) (port_at ports k)) off ∙ found.1)
 
 module _ (t : List Entry) (w v : Work) (read : MessagesAreRead (t ++ w.entries) w.ports) (hosts : hosts_of_ends v.ports ≡ hosts_of_ends w.ports) where
   abbrev now : List Entry

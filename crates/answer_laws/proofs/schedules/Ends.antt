@@ -29,7 +29,7 @@ side_true true b e = sym e
 side_true false true e = absurd (cc e)
 side_true false false e = refl
 
-ends_same : (e f : End) → same_end e f ≡ true → e ≡ f
+pub ends_same : (e f : End) → same_end e f ≡ true → e ≡ f
 ends_same e f is =
     let parts = and_parts (e.link == f.link) (same_side e.at_host f.at_host) is in
     ap₂ (λ (n : ℕ) (b : Bool). let made : End = record { link = n; at_host = b } in made) (eqb-true e.link f.link parts.0)

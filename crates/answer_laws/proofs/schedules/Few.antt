@@ -78,10 +78,10 @@ happen_paid (c ∷ causes) w a = go (can_happen w c) (happen_paid causes (world_
 
 -- ## Lines
 
-abbrev AreFewWires : List Site → Type 0
+abbrev pub AreFewWires : List Site → Type 0
 AreFewWires sites = AllByRecursion (λ (s : Site). IsFewWires s.link) sites
 
-fine_few : (sites : List Site) → AreFineSites sites → AreFewWires sites
+pub fine_few : (sites : List Site) → AreFineSites sites → AreFewWires sites
 fine_few [] a = tt
 fine_few (s ∷ sites) a = (run_few s.link a.0.link.run, fine_few sites a.1)
 
@@ -106,7 +106,7 @@ damage_few e (Some (LostFor why)) = omega arith
 damage_few e (Some (Undetected read)) = omega arith
 
 -- a line causes 100 events at most
-causes_few : (header : Header) (w : NodeWorld) (l : Line) → AreFewWires w.sites → IsNodeLineOf header l → length (happenings w l) ≤ 100
+pub causes_few : (header : Header) (w : NodeWorld) (l : Line) → AreFewWires w.sites → IsNodeLineOf header l → length (happenings w l) ≤ 100
 causes_few header w (line.Send e pid message) few is = omega arith
 causes_few header w (line.Deliver e count) few is =
     let most = taken_few count (frames_at w e) (frames_few w e few) in

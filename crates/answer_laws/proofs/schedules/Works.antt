@@ -202,7 +202,7 @@ told_once core p (Some i) =
     let one = got_once p.side i in
     omega (arith, all, one)
 
-told_each : (core : Core) (input : NodeInput) (ports : List Port) → costs (flat_map (λ p. told_at core p (input_at input p)) ports) ≤ 2 * length ports
+pub told_each : (core : Core) (input : NodeInput) (ports : List Port) → costs (flat_map (λ p. told_at core p (input_at input p)) ports) ≤ 2 * length ports
 told_each core input [] = omega arith
 told_each core input (p ∷ ports) =
     let both = costs-append (told_at core p (input_at input p)) (flat_map (λ q. told_at core q (input_at input q)) ports) in
@@ -216,7 +216,7 @@ late_free core p = go (is_late p) where
   go true = told_cost p.desk.host (own_side core) p.session (report p.side (Reset None)) (whole_acked (after_input p.side (Reset None)))
   go false = refl
 
-lates_free : (core : Core) (ports : List Port) → costs (flat_map (told_late core) ports) ≡ 0
+pub lates_free : (core : Core) (ports : List Port) → costs (flat_map (told_late core) ports) ≡ 0
 lates_free core [] = refl
 lates_free core (p ∷ ports) =
     let both = costs-append (told_late core p) (flat_map (told_late core) ports) in

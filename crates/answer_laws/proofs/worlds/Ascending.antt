@@ -26,7 +26,7 @@ use Rattle.node_order.specs.passes.Passing.ComesTo.{Begins}
 use Rattle.node_order.specs.passes.Steps.{comes_to_pass, noted_before_pass}
 use Rattle.node_order.proofs.passes.Passing.{through, comes_lasts}
 use Rattle.node_order.proofs.passes.Before.{before_entries, before_none, before_hosts, steps_are, links_none}
-use Rattle.answer_laws.specs.worlds.Order.{turn_link, IsAscending}
+use Rattle.answer_laws.specs.answers.Order.{turn_link, IsAscending}
 
 -- ## Numbers
 

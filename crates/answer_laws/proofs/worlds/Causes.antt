@@ -27,14 +27,14 @@ asked o = option_map_or is_own_reset o false
 abbrev pub otherwise : EndedBy → Bool
 otherwise cause = not (is_own_reset cause)
 
-up_asked : (s : EndState) (cause : EndedBy) → is_own_reset cause ≡ false → asked (if_up s cause) ≡ false
+pub up_asked : (s : EndState) (cause : EndedBy) → is_own_reset cause ≡ false → asked (if_up s cause) ≡ false
 up_asked s cause other = go s.phase refl where
   go : (p : LinkState) → s.phase ≡ p → asked (if_up s cause) ≡ false
   go IsUpNow q = rw q other
   go IsWaitingNow q = rw q refl
   go IsDown q = rw q refl
 
-take_asked : (s : EndState) (c : Control) → asked (take_answer s c).ended ≡ false
+pub take_asked : (s : EndState) (c : Control) → asked (take_answer s c).ended ≡ false
 take_asked s c = go s.phase refl c where
   go : (p : LinkState) → s.phase ≡ p → (c : Control) → asked (take_answer s c).ended ≡ false
   go IsUpNow q (control.I ns nr info) = rw q refl
@@ -49,7 +49,7 @@ take_asked s c = go s.phase refl c where
   go IsWaitingNow q (control.Ua) = rw q refl
   go IsWaitingNow q _ = rw q refl
 
-tick_asked : (s : EndState) → asked (tick_answer s).ended ≡ false
+pub tick_asked : (s : EndState) → asked (tick_answer s).ended ≡ false
 tick_asked s = go s.phase refl where
   up : (z : Timed) → timed s ≡ z → s.phase ≡ IsUpNow → asked (tick_answer s).ended ≡ false
   up Runs z q = rw (q, z) (cond_both (runs_timer s.session) nothing_ticked nothing_ticked (λ r. asked r.ended ≡ false) (λ _. refl) (λ _. refl))
@@ -68,11 +68,11 @@ tick_asked s = go s.phase refl where
   go IsWaitingNow q = waits (timed s) refl q
   go IsDown q = rw q refl
 
-act_asked : (s : LinkEnd) (event : ActEvent) → asked (ended_by_act s event) ≡ false
+pub act_asked : (s : LinkEnd) (event : ActEvent) → asked (ended_by_act s event) ≡ false
 act_asked s event =
     cond_both (act_answer s.role event).ended_link (if_up s.shdlc ByAct) None (λ o. asked o ≡ false) (λ _. up_asked s.shdlc ByAct refl) (λ _. refl)
 
-heard_asked : (s : LinkEnd) (c : Control)
+pub heard_asked : (s : LinkEnd) (c : Control)
     → asked (cond (is_open s.role) (cond (is_faulty (taken s.shdlc c).session) (Some Chain) (take_answer s.shdlc c).ended) None) ≡ false
 heard_asked s c =
     cond_both (is_open s.role) (cond (is_faulty (taken s.shdlc c).session) (Some Chain) (take_answer s.shdlc c).ended) None (λ o. asked o ≡ false)

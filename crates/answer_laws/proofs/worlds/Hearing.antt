@@ -35,7 +35,7 @@ use Rattle.node_order.specs.passes.Noting.{goes_in, noted_by_deed}
 use Rattle.node_order.specs.passes.Steps.{told_of_coming, told_of_late}
 use Rattle.node_order.proofs.passes.Notes.{deed_notes}
 use Rattle.node_order.proofs.passes.Before.{come_entries}
-use Rattle.answer_laws.specs.answers.Answered.{answerer}
+use Rattle.answer_laws.specs.answers.Order.{answerer}
 
 -- an entry tells of something that comes to an end
 abbrev pub comes_there : Entry → Bool
@@ -129,13 +129,22 @@ frames_unheard h (Lost who frame why ∷ notes) all = let later = frames_unheard
 frames_unheard h (Cut who ∷ notes) all = frames_unheard h notes all.1
 frames_unheard h (_ ∷ notes) all = absurd all.0
 
-pub out_unheard : (who : Side) (h : ℕ) (l : Link) (k : Work) → AreUnheard (frames_noted who h l k)
-out_unheard who h l k = go (port_at k.ports h) where
-  go : (o : Option Port) → AreUnheard (option_map_or (λ (p : Port). entries_for h (ending_entries who l p.side (ending_of k))) o [])
-  go None = tt
+out_frames : (who : Side) (h : ℕ) (l : Link) (k : Work) → AreUnheard (frames_noted who h l k) × AreUnanswered (frames_noted who h l k)
+out_frames who h l k = go (port_at k.ports h) where
+  noted : Option Port → List Entry
+  noted o = option_map_or (λ (p : Port). entries_for h (ending_entries who l p.side (ending_of k))) o []
+
+  go : (o : Option Port) → AreUnheard (noted o) × AreUnanswered (noted o)
+  go None = (tt, tt)
   go (Some p) =
-      (frames_unheard h (ending_entries who l p.side (ending_of k))
-      (ending_all IsFrame (λ w c. tt) (λ w c. tt) (λ w c why. tt) (λ w. tt) who l p.side (ending_of k))).0
+      frames_unheard h (ending_entries who l p.side (ending_of k))
+      (ending_all IsFrame (λ w c. tt) (λ w c. tt) (λ w c why. tt) (λ w. tt) who l p.side (ending_of k))
+
+pub out_unheard : (who : Side) (h : ℕ) (l : Link) (k : Work) → AreUnheard (frames_noted who h l k)
+out_unheard who h l k = (out_frames who h l k).0
+
+pub out_unanswered : (who : Side) (h : ℕ) (l : Link) (k : Work) → AreUnanswered (frames_noted who h l k)
+out_unanswered who h l k = (out_frames who h l k).1
 
 pub arrival_unanswered : (who : Side) (h : ℕ) (l : Link) (comes : Comes) → AreUnanswered (entries_for h (arrival who l comes))
 arrival_unanswered who h l comes =
@@ -176,7 +185,7 @@ flat_unanswered : (f : Port → List Entry) → ((p : Port) → AreUnanswered (f
 flat_unanswered f one [] = tt
 flat_unanswered f one (p ∷ ports) = all_append IsUnanswered (f p) (flat_map f ports) (one p) (flat_unanswered f one ports)
 
-coming_unanswered : (input : NodeInput) (w : Work) → AreUnanswered (told_of_coming input w)
+pub coming_unanswered : (input : NodeInput) (w : Work) → AreUnanswered (told_of_coming input w)
 coming_unanswered input w =
     all_append IsUnanswered (flat_map (λ p. told_at w.core p (input_at input p)) w.ports) (told_of_late input (all_come input w))
     (flat_unanswered (λ p. told_at w.core p (input_at input p)) (λ p. at_unanswered w.core p (input_at input p)) w.ports) (late input) where

@@ -27,7 +27,8 @@ use Rattle.node_readings.specs.views.Inits.{IsBegunByHost, init_behind}
 use Rattle.node_readings.proofs.views.InitWorlds.{AtSite, Keeps}
 use Rattle.node_readings.proofs.views.InitEvents.{MayKeep}
 use Rattle.node_readings.proofs.views.Lines.{none_zero}
-use Rattle.answer_laws.specs.answers.Answered.{AtEachOccurrence, AreReset, ends_in}
+use Rattle.answer_laws.specs.answers.Moments.{AtEachOccurrence}
+use Rattle.answer_laws.specs.answers.Answered.{AreReset, ends_in}
 use Rattle.answer_laws.specs.answers.Unasked.{is_reset_down, is_reset_due}
 use Rattle.std.proofs.Common.{append-nil}
 use Rattle.std.proofs.lemmas.List.Concat.{flat_map-append}
@@ -37,7 +38,8 @@ use Rattle.node_laws.specs.telling.Telling.{MayBoot}
 use Rattle.node_laws.proofs.telling.Lasting.{AnyLine, EachHolds, all_lines, boots_may, front_each, lines_each, occurs}
 use Rattle.node_readings.proofs.notices.Events.{begins_read, event_read}
 use Rattle.answer_laws.proofs.worlds.Aging.{aged_read}
-use Rattle.answer_laws.proofs.worlds.Quiet.{front_keeps, new_keeps, keeps_none, line_may}
+use Rattle.answer_laws.proofs.worlds.Quiet.{front_keeps, new_keeps, keeps_none}
+use Rattle.node_readings.proofs.views.InitLines.{line_may}
 use Rattle.answer_laws.proofs.worlds.Ticking.{NoNotices, IfNoNotices}
 use Rattle.answer_laws.proofs.worlds.Resetting.{AgesAreRead, IsReadBefore, near_is, far_is}
 
@@ -127,7 +129,7 @@ module _ (header : Header) (lines : List Line) (t : NodeHistory) (follows : Foll
     notices : KeepsNotices (entries_in past) w
     notices = (history_keeps header lines t follows are sent few past back parts).notices
 
-    quiet : NoNotices w.sites
+    pub quiet : NoNotices w.sites
     quiet = all_found (λ (s : Site). IfNoNotices s.node) w.sites so.well.orderly.different one where
       same : events_of_steps (Rattle.node_machine.specs.world.NodeHistories.steps_from (new_world hosts) lines) ≡ past ++ back
       same = sym (ap events_of_steps follows.steps_are) ∙ parts

@@ -8,8 +8,8 @@ use Rattle.registry.proofs.ValueLemmas.{AllByRecursion-append as all_append}
 use Rattle.trace_model.specs.declared.entry.Entry.{Entry}
 use Rattle.trace_model.specs.declared.entry.Entry.TheVariants as entry
 use Rattle.node_order.specs.power.Powers.{AreNotOf, is_of_node}
-use Rattle.answer_laws.specs.answers.Answered.{is_answer_of}
-use Rattle.answer_laws.specs.worlds.Order.{hears}
+use Rattle.answer_laws.specs.answers.Order.{is_answer_of}
+use Rattle.answer_laws.specs.answers.Order.{hears}
 use Rattle.answer_laws.proofs.worlds.Hearing.{IsParted, IsUnheard, AreUnheard, AreUnanswered}
 
 module _ (n : ℕ) where
@@ -38,7 +38,7 @@ module _ (n : ℕ) where
   unheard_all [] a = tt
   unheard_all (x ∷ es) a = (unheard_one x a.0, unheard_all es a.1)
 
-  unanswered_all : (es : List Entry) → AreUnanswered es → AllByRecursion NoAnswer es
+  pub unanswered_all : (es : List Entry) → AreUnanswered es → AllByRecursion NoAnswer es
   unanswered_all [] a = tt
   unanswered_all (x ∷ es) a = (ap (λ o. option_map_or (λ k. k == n) o false) a.0, unanswered_all es a.1)
 
@@ -60,7 +60,7 @@ module _ (n : ℕ) where
   other_hears (entry.Got e k pid message) q = q
   other_hears x q = refl
 
-  other_answers : (x : Entry) → is_of_node n x ≡ false → NoAnswer x
+  pub other_answers : (x : Entry) → is_of_node n x ≡ false → NoAnswer x
   other_answers (entry.Command k c) q = q
   other_answers (entry.Sent e k pid message) q = q
   other_answers (entry.AnyOk k count) q = q
@@ -75,7 +75,7 @@ module _ (n : ℕ) where
   others_hear [] a = tt
   others_hear (x ∷ es) a = (other_hears x a.0, others_hear es a.1)
 
-  others_answer : (es : List Entry) → AreNotOf n es → AllByRecursion NoAnswer es
+  pub others_answer : (es : List Entry) → AreNotOf n es → AllByRecursion NoAnswer es
   others_answer [] a = tt
   others_answer (x ∷ es) a = (other_answers x a.0, others_answer es a.1)
 

@@ -1,8 +1,8 @@
 -- In each event of a world what comes to a node is noted before what it answers.
-use Rattle.std.proofs.Common.{◌≡◌, ℕ, Bool, true, false, List, [], ◌∷◌, ◌++◌, None, refl, sym, ap, subst, ◌∙◌}
+use Rattle.std.proofs.Common.{◌≡◌, ℕ, Bool, true, false, List, [], ◌∷◌, ◌++◌, None, refl, sym, subst}
 use Rattle.std.specs.Prelude.{◌==◌}
 use Rattle.std.specs.List.{AllByRecursion, flat_map}
-use Rattle.std.proofs.lemmas.Bool.{true≢false, eqb-true}
+use Rattle.std.proofs.lemmas.Bool.{eqb-true}
 use Rattle.registry.proofs.ValueLemmas.{AllByRecursion-append as all_append}
 use Rattle.trace_model.specs.declared.entry.Entry.{Entry}
 use Rattle.trace_model.specs.declared.line.End.{End}
@@ -27,7 +27,7 @@ use Rattle.node_machine.specs.world.Lines.{Occurrence, happenings}
 use Rattle.node_machine.specs.world.NodeHistories.{LineStep, NodeHistory, FollowsNodes, occurrences_of, occurrences_in}
 use Rattle.node_machine.proofs.world.Cases.{by_controller, by_host, by_coming, by_boot, by_loss, near_tick, by_controller_tick, host_tick, by_host_tick}
 use Rattle.node_laws.specs.kept.Hosts.{AreDifferent}
-use Rattle.node_laws.specs.telling.Telling.{IfItRuns, hosts_in, IsOrderly}
+use Rattle.node_laws.specs.telling.Telling.{hosts_in, IsOrderly}
 use Rattle.node_laws.proofs.telling.Lasting.{Any, AnyLine, all_any, all_lines, AreCaused, lines_caused}
 use Rattle.node_laws.proofs.telling.Orderly.{step_orderly, new_orderly}
 use Rattle.node_laws.proofs.telling.Events.{orderly_map, comes_goes}
@@ -36,12 +36,12 @@ use Rattle.node_laws.proofs.telling.Frames.{lost_all, wires_all}
 use Rattle.node_order.specs.passes.Steps.{controller_begins, controller_tick_begins}
 use Rattle.node_order.specs.power.Powers.{AreNotOf}
 use Rattle.node_order.proofs.power.Parts.{own_not, part_own}
-use Rattle.answer_laws.specs.worlds.Order.{NodesHearFirst}
+use Rattle.answer_laws.specs.answers.Order.{NodesHearFirst}
 use Rattle.answer_laws.proofs.worlds.Steps.{host_begins}
 use Rattle.answer_laws.proofs.worlds.Hearing.{IsFrame, IsParted, IsUnheard, AreUnheard, AreUnanswered, NotesUnheard, frames_unheard, out_unheard}
 use Rattle.answer_laws.proofs.worlds.Hearing.{arrival_unanswered}
 use Rattle.answer_laws.proofs.worlds.Hearing.{step_parted, deeds_parted, sending_unheard, beginning_unheard, IsUnanswered}
-use Rattle.answer_laws.proofs.worlds.Owning.{comes_part, near_ticks_part, far_tick}
+use Rattle.node_order.proofs.power.Events.{AreNodes, both_nodes, comes_part, far_tick, near_ticks_part, no_site, none_zero, others_tick}
 use Rattle.answer_laws.proofs.worlds.Order.{IsPartedFor, parted_for, others_behind, not_of_before, unanswered_before, first_heard}
 
 flat_unheard : (f : Site → List Entry) → ((s : Site) → AreUnheard (f s)) → (sites : List Site) → AreUnheard (flat_map f sites)
@@ -99,14 +99,6 @@ boots_parted w n = by_boot (λ p. IsParted p.1) w n (only_back _ (refl, tt)) (on
 
 -- ## Activation
 
-no_site : (sites : List Site) (h : ℕ) → (h == 0) ≡ true → AllByRecursion (λ (s : Site). (s.host == 0) ≡ false) sites → site_at sites h ≡ None
-no_site [] h zero a = refl
-no_site (s ∷ sites) h zero a = go (s.host == h) refl (no_site sites h zero a.1)
-  where
-    go : (b : Bool) → (s.host == h) ≡ b → site_at sites h ≡ None → site_at (s ∷ sites) h ≡ None
-    go true e later = absurd (true≢false (sym (ap (λ n. n == 0) (eqb-true s.host h e) ∙ zero) ∙ a.0))
-    go false e later = rw e later
-
 activates_parted : (n : ℕ) (w : NodeWorld) → IsOrderly w → (h sync power : ℕ) → IsPartedFor n (activates w h sync power).1
 activates_parted n w a h sync power = go (0 == n) refl where
   near : NodeWorld × List Entry
@@ -141,20 +133,6 @@ host_parted s =
     (λ r q. step_parted TimePasses (work_of r s.memory.plan (λ h. s.link.host) []) (frames_noted Host s.host (exchanged s.link) (host_tick s r)) tt
     (out_unheard Host s.host (exchanged s.link) (host_tick s r)))
 
-abbrev AreNodes : List Site → Type 0
-AreNodes sites = AllByRecursion (λ (s : Site). ((s.host == 0) ≡ false) × IfItRuns s.host (s.host ∷ []) s.node) sites
-
-both_nodes : (sites : List Site) → AllByRecursion (λ (s : Site). (s.host == 0) ≡ false) sites
-    → AllByRecursion (λ (s : Site). IfItRuns s.host (s.host ∷ []) s.node) sites → AreNodes sites
-both_nodes [] a b = tt
-both_nodes (s ∷ sites) a b = ((a.0, b.0), both_nodes sites a.1 b.1)
-
-others_tick : (n : ℕ) (sites : List Site) → AllByRecursion (λ h. (h == n) ≡ false) (hosts_in sites) → AreNodes sites → AreNotOf n (hosts_tick sites).1
-others_tick n [] off a = tt
-others_tick n (s ∷ sites) off a =
-    all_append _ (host_ticks s).1 (hosts_tick sites).1 (own_not s.host n (host_ticks s).1 off.0 (part_own s.host (host_ticks s).1 (far_tick s a.0.0 a.0.1)))
-    (others_tick n sites off.1 a.1)
-
 hosts_parted : (n : ℕ) (sites : List Site) → AreDifferent (hosts_in sites) → AreNodes sites → IsPartedFor n (hosts_tick sites).1
 hosts_parted n [] d a = parted_for n [] (only_back [] tt)
 hosts_parted n (s ∷ sites) d a = go (s.host == n) refl (hosts_parted n sites d.1 a.1) where
@@ -166,11 +144,7 @@ hosts_parted n (s ∷ sites) d a = go (s.host == n) refl (hosts_parted n sites d
       others_behind n (host_ticks s).1 (hosts_tick sites).1 (parted_for n (host_ticks s).1 (host_parted s))
       (subst (λ m. AreNotOf m (hosts_tick sites).1) (eqb-true s.host n q) (others_tick s.host sites d.0 a.1))
 
-none_zero : (sites : List Site) → AllByRecursion (λ (s : Site). (s.host == 0) ≡ false) sites → AllByRecursion (λ h. (h == 0) ≡ false) (hosts_in sites)
-none_zero [] a = tt
-none_zero (s ∷ sites) a = (a.0, none_zero sites a.1)
-
-aged_unanswered : (sites : List Site)
+pub aged_unanswered : (sites : List Site)
     → AreUnanswered (flat_map (λ (s : Site). entries_for s.host (aged_entries Controller s.link.to_controller ++ aged_entries Host s.link.to_host)) sites)
 aged_unanswered [] = tt
 aged_unanswered (s ∷ sites) =

@@ -1,78 +1,20 @@
 -- No host has a notice to answer, in each world of a history.
-use Rattle.std.proofs.Common.{Bool, List, [], ap, eqb, false, refl, subst, sym, true, ℕ, ◌&&◌, ◌++◌, ◌∙◌, ◌∷◌, ◌≡◌}
-use Rattle.std.specs.Prelude.{IsTrue, None, Option, Some, unwrap_or}
+use Rattle.std.proofs.Common.{List, [], eqb, refl, subst, sym, ℕ, ◌++◌, ◌∷◌, ◌≡◌}
+use Rattle.std.specs.Prelude.{None, Option, Some}
 use Rattle.std.specs.List.{AllByRecursion, fold}
 use Rattle.std.proofs.lemmas.Bool.{cond_both}
 use Rattle.trace_model.specs.Lines.{IsHost}
 use Rattle.node_machine.specs.Parts.{Desk, Init, Running}
-use Rattle.node_machine.specs.world.World.{NodeWorld, Site, link_to, new_world, node_at, node_of, world_step}
-use Rattle.node_machine.specs.world.Lines.{Occurrence, frames_at, happenings, has_order, if_not_sent, if_off, if_waiting, machine_in, refusal_in}
+use Rattle.node_machine.specs.world.World.{NodeWorld, Site, new_world, world_step}
+use Rattle.node_machine.specs.world.Lines.{Occurrence}
 use Rattle.node_laws.specs.telling.Telling.{IsOrderly, world_behind}
 use Rattle.node_laws.proofs.telling.Orderly.{step_orderly}
-use Rattle.node_laws.proofs.telling.Lasting.{AllMay, AreCaused, damaged_may, repeated_may, stands_none}
-use Rattle.node_readings.specs.views.Inits.{IfRunsInit, IsBegunByHost, SiteKeepsInit, init_begun, init_behind}
+use Rattle.node_laws.proofs.telling.Lasting.{AreCaused}
+use Rattle.node_readings.specs.views.Inits.{IfRunsInit, SiteKeepsInit, init_begun, init_behind}
 use Rattle.node_readings.proofs.views.Answering.{reads_init}
-use Rattle.node_readings.proofs.views.InitWorlds.{AtSite, Keeps, MayInit}
+use Rattle.node_readings.proofs.views.InitWorlds.{AtSite, Keeps}
 use Rattle.node_readings.proofs.views.InitEvents.{MayKeep, event_keeps}
 use Rattle.answer_laws.proofs.worlds.Ticking.{IfNoNotices}
-use Rattle.trace_model.specs.declared.line.End.{End}
-use Rattle.trace_model.specs.declared.line.Line.{Line}
-use Rattle.trace_model.specs.declared.line.Line.TheVariants as line
-use Rattle.shdlc_core.specs.declared.answers.LinkState.{LinkState}
-use Rattle.shdlc_core.specs.declared.answers.LinkState.TheVariants.{Down, Up, Waiting}
-use Rattle.history.specs.Follows.{first_verdict, taken_of}
-use Rattle.link_machine.specs.Machine.{LinkEnd, Message, give_refusal}
-use Rattle.link_machine.specs.Machine.Refused.{NotUp}
-use Rattle.node_machine.specs.Controller.{is_command_message}
-use Rattle.node_machine.specs.world.World.Happening.{Takes, Ticks}
-use Rattle.node_laws.proofs.kept.Lines.{first_none, off_none}
-
--- ## Lines
-
-waiting_none : (waits : Bool) → if_waiting waits (Some NotUp) ≡ None → ⊥
-waiting_none true e = cc e
-waiting_none false e = cc e
-
--- an end that takes a message is up
-taken_up : (waits : Bool) (e : LinkEnd) (m : Message) → if_waiting waits (give_refusal e m) ≡ None → e.shdlc.phase ≡ Up
-taken_up waits e m none = by e.shdlc.phase refl where
-  by : (p : LinkState) → e.shdlc.phase ≡ p → e.shdlc.phase ≡ Up
-  by Up q = q
-  by Waiting q = let z : if_waiting waits (Some NotUp) ≡ None = rw q at none in absurd (waiting_none waits z)
-  by Down q = let z : if_waiting waits (Some NotUp) ≡ None = rw q at none in absurd (waiting_none waits z)
-
--- a line that isn't refused begins an init at a host that runs and whose end is up
-init_may : (w : NodeWorld) (e : End) → IsTrue e.at_host → (if_off w (node_of e) ≡ None) × (if_not_sent w e (1, 3 ∷ []) ≡ None) → MayInit w e
-init_may w e side none =
-    let runs = off_none (node_at w (node_of e)) none.0 in record {
-      node = runs.0;
-      runs = ap (node_at w) (sym link_is) ∙ runs.1;
-      up = ap (λ (x : LinkEnd). x.shdlc.phase) (sym end_is)
-          ∙ taken_up (eqb 1 1 && is_command_message (3 ∷ []) && has_order (node_at w (node_of e))) (machine_in w e)
-          (1, 3 ∷ []) none.1;
-    } where
-      link_is : node_of e ≡ e.link
-      link_is = rw side refl
-
-      end_is : machine_in w e ≡ (link_to w.sites e.link).host.side
-      end_is = rw side refl
-
-pub line_may : (w : NodeWorld) (l : Line) → IsBegunByHost l → refusal_in w l ≡ None → AllMay MayKeep w (happenings w l)
-line_may w (line.Send e pid message) side none = (tt, tt)
-line_may w (line.Deliver e count) side none = repeated_may MayKeep (Takes e) (λ v. tt) (taken_of count (frames_at w e)) w
-line_may w (line.Lose e) side none = (tt, tt)
-line_may w (line.Damage e places) side none = damaged_may MayKeep w e tt (λ why. tt) (first_verdict (frames_at w e) places.items)
-line_may w (line.Tick times) side none = repeated_may MayKeep Ticks (λ v. tt) (unwrap_or times 1) w
-line_may w (line.Reset e window) side none = (tt, tt)
-line_may w (line.Busy e) side none = tt
-line_may w (line.Ready e) side none = tt
-line_may w (line.Boot n) side none = (stands_none (node_at w n) none, tt)
-line_may w (line.Cut n) side none = (tt, tt)
-line_may w (line.Activate host sync power) side none = (tt, tt)
-line_may w (line.Arm n nth fill) side none = (tt, tt)
-line_may w (line.Init e identity pipes) side none =
-    (init_may w e side (first_none (if_off w (node_of e)) (if_not_sent w e (1, 3 ∷ [])) none), tt)
-line_may w (line.Tables n) side none = tt
 
 module _ (h : ℕ) (host : IsHost h) where
   pub front_keeps : (front back : List Occurrence) (w : NodeWorld) (i : Option Init) → IsOrderly w → Keeps h host w i → AreCaused MayKeep w (front ++ back)

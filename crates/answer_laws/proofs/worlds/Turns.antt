@@ -2,7 +2,7 @@
 use Rattle.std.proofs.Common.{◌≡◌, ℕ, ◌&&◌, cond, Bool, true, false, List, [], ◌∷◌, ◌++◌, Option, Some, None, refl, sym, ap, subst, ◌∙◌, eqb}
 use Rattle.std.specs.Prelude.{◌==◌}
 use Rattle.std.specs.List.{AllByRecursion, flat_map}
-use Rattle.std.proofs.lemmas.Bool.{true≢false, eqb-true}
+use Rattle.std.proofs.lemmas.Bool.{eqb-true}
 use Rattle.registry.proofs.ValueLemmas.{AllByRecursion-append as all_append}
 use Rattle.trace_model.specs.declared.entry.Entry.{Entry}
 use Rattle.trace_model.specs.declared.line.End.{End}
@@ -32,9 +32,9 @@ use Rattle.node_laws.proofs.telling.WorldTicks.{near_orderly}
 use Rattle.node_order.specs.passes.Steps.{controller_begins, controller_tick_begins}
 use Rattle.node_order.specs.power.Powers.{AreNotOf}
 use Rattle.node_order.proofs.power.Parts.{own_not, part_own}
-use Rattle.answer_laws.specs.worlds.Order.{TurnsAscend, turn_link, IsAscending}
+use Rattle.answer_laws.specs.answers.Order.{TurnsAscend, turn_link, IsAscending}
 use Rattle.answer_laws.proofs.worlds.Steps.{host_begins}
-use Rattle.answer_laws.proofs.worlds.Owning.{comes_part, near_ticks_part, far_tick}
+use Rattle.node_order.proofs.power.Events.{AreNodes, both_nodes, comes_part, far_tick, near_ticks_part, no_site, none_zero, others_tick}
 use Rattle.std.specs.List.{filter_map}
 use Rattle.std.proofs.Common.{append-nil}
 use Rattle.trace_model.specs.declared.entry.Entry.TheVariants as entry
@@ -62,7 +62,7 @@ use Rattle.node_order.proofs.order.Asked.{AreDone, done_back, history_done}
 use Rattle.answer_laws.proofs.worlds.Steps.{near_node, far_node}
 use Rattle.answer_laws.proofs.worlds.Ascending.{AllAscend, ascends_part, turnless_ascend, frames_turnless, step_ascends, links_append, none_there}
 
-flat_turnless : (f : Site → List Entry) → ((s : Site) → AreNoTurns (f s)) → (sites : List Site) → AreNoTurns (flat_map f sites)
+pub flat_turnless : (f : Site → List Entry) → ((s : Site) → AreNoTurns (f s)) → (sites : List Site) → AreNoTurns (flat_map f sites)
 flat_turnless f one [] = tt
 flat_turnless f one (s ∷ sites) = all_append IsNoTurn (f s) (flat_map f sites) (one s) (flat_turnless f one sites)
 
@@ -76,16 +76,16 @@ given_turnless core m (Some p) = go (give_refusal p.side m) where
   go (Some why) = tt
 
 -- what a deed notes has no turn
-abbrev NotesNoTurn : Deed → Type 0
+abbrev pub NotesNoTurn : Deed → Type 0
 NotesNoTurn d = (h : ℕ) (w : Work) → AreNoTurns (noted_by_deed h d w)
 
-sending_turnless : (h : ℕ) (m : Message) → AllByRecursion NotesNoTurn (sending h m)
+pub sending_turnless : (h : ℕ) (m : Message) → AllByRecursion NotesNoTurn (sending h m)
 sending_turnless h m = go (eqb m.0 1 && is_command_message m.1) where
   go : (b : Bool) → AllByRecursion NotesNoTurn (cond b (Orders m.1 ∷ []) (Sends h m ∷ []))
   go true = ((λ k w. given_turnless w.core (1, m.1) (port_at w.ports k)), tt)
   go false = ((λ k w. given_turnless w.core m (port_at w.ports h)), tt)
 
-beginning_turnless : (identity : List ℕ) (pipes : List (List ℕ)) → AllByRecursion NotesNoTurn (beginning identity pipes)
+pub beginning_turnless : (identity : List ℕ) (pipes : List (List ℕ)) → AllByRecursion NotesNoTurn (beginning identity pipes)
 beginning_turnless identity pipes = ((λ k w. tt), ((λ k w. given_turnless w.core (1, 3 ∷ []) (port_at w.ports k)), tt))
 
 -- ## Steps
@@ -116,27 +116,29 @@ comes_ascends : (w : NodeWorld) → IsOrderly w → IsAscending (hosts_in w.site
 comes_ascends w a up e comes =
     by_coming (λ p. AllAscend p.1) w e comes tt (λ i at q. far_ascends w a e.link comes i) (λ i at q. near_ascends w a up e.link comes i)
 
-begins_ascends : (w : NodeWorld) (h : ℕ) (deeds : List Deed) → AllByRecursion NotesNoTurn deeds → AllAscend (host_does w h NoInput (begins_with h deeds)).1
-begins_ascends w h deeds may =
-    by_host (λ p. AllAscend p.1) w h NoInput (begins_with h deeds) tt
+pub begun_turnless : (w : NodeWorld) (h : ℕ) (deeds : List Deed) → AllByRecursion NotesNoTurn deeds
+    → AreNoTurns (host_does w h NoInput (begins_with h deeds)).1
+begun_turnless w h deeds may =
+    by_host (λ p. AreNoTurns p.1) w h NoInput (begins_with h deeds) tt
     (λ s r found q.
     let begun : Work = host_begins s r NoInput in
-    turnless_ascend ((all_done h deeds begun).entries ++ frames_noted Host h (wires_for (exchanged s.link) NoInput) (host_work s r NoInput
-    (begins_with h deeds)))
-    (all_append IsNoTurn (all_done h deeds begun).entries _
+    all_append IsNoTurn (all_done h deeds begun).entries _
     (subst AreNoTurns (sym (deeds_note h deeds begun))
     (all_append IsNoTurn begun.entries (noted_by_deeds h deeds begun) (links_none s.host (arrival Host (exchanged s.link) NoInput))
     (noted_none h deeds begun may)))
-    (frames_turnless Host h (wires_for (exchanged s.link) NoInput) (host_work s r NoInput (begins_with h deeds)))))
+    (frames_turnless Host h (wires_for (exchanged s.link) NoInput) (host_work s r NoInput (begins_with h deeds))))
 
-lost_ascends : (w : NodeWorld) (e : End) (why : Loss) → AllAscend (frame_lost w e why).1
-lost_ascends w e why =
-    by_loss (λ p. AllAscend p.1) w e why
-    (λ z. turnless_ascend _ (links_none e.link (first_lost Host why (link_to w.sites e.link).to_host)))
-    (λ z. turnless_ascend _ (links_none e.link (first_lost Controller why (link_to w.sites e.link).to_controller)))
+begins_ascends : (w : NodeWorld) (h : ℕ) (deeds : List Deed) → AllByRecursion NotesNoTurn deeds → AllAscend (host_does w h NoInput (begins_with h deeds)).1
+begins_ascends w h deeds may = turnless_ascend _ (begun_turnless w h deeds may)
 
-boots_ascends : (w : NodeWorld) (n : ℕ) → AllAscend (boots w n).1
-boots_ascends w n = by_boot (λ p. AllAscend p.1) w n tt tt
+pub lost_turnless : (w : NodeWorld) (e : End) (why : Loss) → AreNoTurns (frame_lost w e why).1
+lost_turnless w e why =
+    by_loss (λ p. AreNoTurns p.1) w e why
+    (λ z. links_none e.link (first_lost Host why (link_to w.sites e.link).to_host))
+    (λ z. links_none e.link (first_lost Controller why (link_to w.sites e.link).to_controller))
+
+pub boots_turnless : (w : NodeWorld) (n : ℕ) → AreNoTurns (boots w n).1
+boots_turnless w n = by_boot (λ p. AreNoTurns p.1) w n (refl, tt) (refl, tt)
 
 -- ## One node's turns
 
@@ -144,12 +146,12 @@ module _ (n : ℕ) where
   abbrev Own : List Entry → Type 0
   Own es = IsAscending (filter_map (turn_link n) es)
 
-  other_turn : (x : Entry) → is_of_node n x ≡ false → turn_link n x ≡ None
+  pub other_turn : (x : Entry) → is_of_node n x ≡ false → turn_link n x ≡ None
   other_turn (entry.Turn e pid message) q = ap (λ b. cond b (Some e.link) None) q
   other_turn (entry.Held e need spare) q = ap (λ b. cond b (Some e.link) None) q
   other_turn x q = refl
 
-  other_turns : (es : List Entry) → AreNotOf n es → AllByRecursion (λ x. turn_link n x ≡ None) es
+  pub other_turns : (es : List Entry) → AreNotOf n es → AllByRecursion (λ x. turn_link n x ≡ None) es
   other_turns [] a = tt
   other_turns (x ∷ es) a = (other_turn x a.0, other_turns es a.1)
 
@@ -164,14 +166,6 @@ module _ (n : ℕ) where
   own_before es fs a p = subst IsAscending (sym (links_append (turn_link n) fs es ∙ ap (λ l. l ++ filter_map (turn_link n) es) (no_turns fs a))) p
 
 -- ## Activation
-
-no_site : (sites : List Site) (h : ℕ) → (h == 0) ≡ true → AllByRecursion (λ (s : Site). (s.host == 0) ≡ false) sites → site_at sites h ≡ None
-no_site [] h zero a = refl
-no_site (s ∷ sites) h zero a = go (s.host == h) refl (no_site sites h zero a.1)
-  where
-    go : (b : Bool) → (s.host == h) ≡ b → site_at sites h ≡ None → site_at (s ∷ sites) h ≡ None
-    go true e later = absurd (true≢false (sym (ap (λ n. n == 0) (eqb-true s.host h e) ∙ zero) ∙ a.0))
-    go false e later = rw e later
 
 activates_own : (n : ℕ) (w : NodeWorld) → IsOrderly w → IsAscending (hosts_in w.sites) → (h sync power : ℕ) → Own n (activates w h sync power).1
 activates_own n w a up h sync power = go (0 == n) refl where
@@ -210,20 +204,6 @@ host_ascends s runs =
     (subst IsAscending (sym (hosts_same (λ h. s.link.host) r.desks ∙ node.ends)) (tt, tt))
     (frames_turnless Host s.host (exchanged s.link) (host_tick s r)))
 
-abbrev AreNodes : List Site → Type 0
-AreNodes sites = AllByRecursion (λ (s : Site). ((s.host == 0) ≡ false) × IfItRuns s.host (s.host ∷ []) s.node) sites
-
-both_nodes : (sites : List Site) → AllByRecursion (λ (s : Site). (s.host == 0) ≡ false) sites
-    → AllByRecursion (λ (s : Site). IfItRuns s.host (s.host ∷ []) s.node) sites → AreNodes sites
-both_nodes [] a b = tt
-both_nodes (s ∷ sites) a b = ((a.0, b.0), both_nodes sites a.1 b.1)
-
-others_tick : (n : ℕ) (sites : List Site) → AllByRecursion (λ h. (h == n) ≡ false) (hosts_in sites) → AreNodes sites → AreNotOf n (hosts_tick sites).1
-others_tick n [] off a = tt
-others_tick n (s ∷ sites) off a =
-    all_append _ (host_ticks s).1 (hosts_tick sites).1 (own_not s.host n (host_ticks s).1 off.0 (part_own s.host (host_ticks s).1 (far_tick s a.0.0 a.0.1)))
-    (others_tick n sites off.1 a.1)
-
 hosts_own : (n : ℕ) (sites : List Site) → AreDifferent (hosts_in sites) → AreNodes sites → Own n (hosts_tick sites).1
 hosts_own n [] d a = tt
 hosts_own n (s ∷ sites) d a = go (s.host == n) refl (hosts_own n sites d.1 a.1) where
@@ -235,30 +215,28 @@ hosts_own n (s ∷ sites) d a = go (s.host == n) refl (hosts_own n sites d.1 a.1
       own_behind n (host_ticks s).1 (hosts_tick sites).1 (ascends_part n (host_ticks s).1 (host_ascends s a.0.1))
       (subst (λ m. AreNotOf m (hosts_tick sites).1) (eqb-true s.host n q) (others_tick s.host sites d.0 a.1))
 
-none_zero : (sites : List Site) → AllByRecursion (λ (s : Site). (s.host == 0) ≡ false) sites → AllByRecursion (λ h. (h == 0) ≡ false) (hosts_in sites)
-none_zero [] a = tt
-none_zero (s ∷ sites) a = (a.0, none_zero sites a.1)
-
-aged_turnless : (n : ℕ) (sites : List Site)
-    → filter_map (turn_link n) (flat_map (λ (s : Site). entries_for s.host
+pub aged_turnless : (sites : List Site)
+    → AreNoTurns (flat_map (λ (s : Site). entries_for s.host
     (aged_entries Controller s.link.to_controller ++ aged_entries Host s.link.to_host)) sites)
-    ≡ []
-aged_turnless n sites = none_there (turn_link n) _ (turnless_own _ (flat_turnless
-    (λ (s : Site). entries_for s.host (aged_entries Controller s.link.to_controller ++ aged_entries Host s.link.to_host))
-    (λ s. links_none s.host (aged_entries Controller s.link.to_controller ++ aged_entries Host s.link.to_host)) sites)) where
-      one : (x : Entry) → IsNoTurn x → turn_link n x ≡ None
-      one (entry.Turn e pid message) q = absurd (cc q)
-      one (entry.Held e need spare) q = absurd (cc q)
-      one x q = refl
+aged_turnless =
+    flat_turnless (λ (s : Site). entries_for s.host (aged_entries Controller s.link.to_controller ++ aged_entries Host s.link.to_host))
+    (λ s. links_none s.host (aged_entries Controller s.link.to_controller ++ aged_entries Host s.link.to_host))
 
-      turnless_own : (es : List Entry) → AreNoTurns es → AllByRecursion (λ x. turn_link n x ≡ None) es
-      turnless_own [] a = tt
-      turnless_own (x ∷ es) a = (one x a.0, turnless_own es a.1)
+turnless_one : (n : ℕ) (x : Entry) → IsNoTurn x → turn_link n x ≡ None
+turnless_one n (entry.Turn e pid message) q = absurd (cc q)
+turnless_one n (entry.Held e need spare) q = absurd (cc q)
+turnless_one n x q = refl
+
+-- where no message has its turn or is held, none is at this node
+pub turnless_there : (n : ℕ) (es : List Entry) → AreNoTurns es → AllByRecursion (λ x. turn_link n x ≡ None) es
+turnless_there n [] a = tt
+turnless_there n (x ∷ es) a = (turnless_one n x a.0, turnless_there n es a.1)
 
 ticks_own : (n : ℕ) (w : NodeWorld) → IsOrderly w → IsAscending (hosts_in w.sites) → Own n (world_ticks w).1
 ticks_own n w a up =
     subst IsAscending (sym (links_append (turn_link n) (all_aged w).1 (near.1 ++ (hosts_tick near.0.sites).1)
-    ∙ ap (λ l. l ++ filter_map (turn_link n) (near.1 ++ (hosts_tick near.0.sites).1)) (aged_turnless n w.sites))) (go (0 == n) refl) where
+    ∙ ap (λ l. l ++ filter_map (turn_link n) (near.1 ++ (hosts_tick near.0.sites).1))
+    (none_there (turn_link n) (all_aged w).1 (turnless_there n (all_aged w).1 (aged_turnless w.sites))))) (go (0 == n) refl) where
       old : NodeWorld
       old = (all_aged w).0
 
@@ -295,14 +273,14 @@ ticks_own n w a up =
 -- ## Events
 
 event_own : (n : ℕ) (w : NodeWorld) (c : Happening) → IsOrderly w → IsAscending (hosts_in w.sites) → Own n (world_step w c).1
-event_own n w (Boots k) a up = ascends_part n (boots w k).1 (boots_ascends w k)
+event_own n w (Boots k) a up = ascends_part n (boots w k).1 (turnless_ascend _ (boots_turnless w k))
 event_own n w (IsCut k) a up = tt
 event_own n w (Gives e m) a up =
     ascends_part n (world_step w (Gives e m)).1 (begins_ascends w e.link (sending e.link m) (sending_turnless e.link m))
 event_own n w (Inits e identity pipes) a up =
     ascends_part n (world_step w (Inits e identity pipes)).1 (begins_ascends w e.link (beginning identity pipes) (beginning_turnless identity pipes))
 event_own n w (Takes e) a up = ascends_part n (comes_at w e NextFrame).1 (comes_ascends w a up e NextFrame)
-event_own n w (Loses e why) a up = ascends_part n (frame_lost w e why).1 (lost_ascends w e why)
+event_own n w (Loses e why) a up = ascends_part n (frame_lost w e why).1 (turnless_ascend _ (lost_turnless w e why))
 event_own n w Ticks a up = ticks_own n w a up
 event_own n w (Resets e window) a up = ascends_part n (comes_at w e (AsksReset window)).1 (comes_ascends w a up e (AsksReset window))
 event_own n w (Activates h sync power) a up = activates_own n w a up h sync power

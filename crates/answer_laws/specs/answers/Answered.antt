@@ -1,8 +1,7 @@
 -- What a history of a world of nodes must be as to its answers. These facts speak of what was noted and of what is read off that.
-use Rattle.std.specs.Prelude.{◌≡◌, ℕ, ◌==◌, ◌&&◌, ◌||◌, nat_lt, Bool, true, false, not, if◌then◌else◌, List, [], ◌∷◌, ◌++◌, is_some, is_none, Option, Some}
+use Rattle.std.specs.Prelude.{◌≡◌, ℕ, ◌==◌, ◌&&◌, ◌||◌, nat_lt, Bool, true, false, not, if◌then◌else◌, List, [], ◌∷◌, ◌++◌, is_some, is_none, Some}
 use Rattle.std.specs.Prelude.{None}
 use Rattle.std.specs.List.{AllByRecursion, flat_map, filter, list_any, take_while}
-use Rattle.std.specs.Option.{option_map_or}
 use Rattle.trace_model.specs.declared.entry.Entry.{Entry}
 use Rattle.trace_model.specs.declared.entry.Entry.TheVariants as entry
 use Rattle.trace_model.specs.declared.line.End.{End}
@@ -10,25 +9,13 @@ use Rattle.link_machine.specs.Machine.{oldest}
 use Rattle.node_machine.specs.world.World.{Happening, node_of, end_c, end_h}
 use Rattle.node_machine.specs.world.World.Happening.{Takes, Ticks, Resets, Activates}
 use Rattle.node_machine.specs.world.Lines.{Occurrence}
-use Rattle.node_machine.specs.world.NodeHistories.{NodeHistory, entries_in, node_entries, occurrences_in}
+use Rattle.node_machine.specs.world.NodeHistories.{NodeHistory, entries_in, node_entries}
 use Rattle.node_machine.specs.world.NodeLegal.{AreInTurn}
 use Rattle.node_laws.specs.kept.Reckonings.{is_cut_of}
-use Rattle.node_order.specs.order.Legal.{LegalNodes}
-use Rattle.answer_laws.specs.answers.Moments.{Moment, until, unhandled_in, holds_in, runs_in, reply, lack_of, lack_at, noted_of_deeds}
+use Rattle.answer_laws.specs.answers.Moments.{AtEachEntry, AtEachOccurrence, Moment, until, unhandled_in, holds_in, runs_in, reply, lack_of, lack_at}
+use Rattle.answer_laws.specs.answers.Moments.{noted_of_deeds}
+use Rattle.answer_laws.specs.answers.Order.{NodesHearFirst, TurnsAscend, is_answer_of}
 use Rattle.answer_laws.specs.answers.Unasked.{down_in, due, is_reset_due, is_reset_down}
-
--- ## Where facts speak
-
--- So it is with each entry, as it is noted, and the entries of its event behind it.
-abbrev pub AtEachEntry : NodeHistory → (Moment → Entry → List Entry → Type 0) → Type 0
-AtEachEntry t P =
-    (past back : List Occurrence) (o : Occurrence) (front behind : List Entry) (x : Entry)
-    → occurrences_in t ≡ past ++ (o ∷ back) → o.entries ≡ front ++ (x ∷ behind)
-    → P (record { past = past; cause = o.cause; so_far = front }) x behind
-
--- So it is with each event and the events before it.
-abbrev pub AtEachOccurrence : NodeHistory → (List Occurrence → Occurrence → Type 0) → Type 0
-AtEachOccurrence t P = (past back : List Occurrence) (o : Occurrence) → occurrences_in t ≡ past ++ (o ∷ back) → P past o
 
 -- all ends of a world with these hosts
 abbrev pub ends_in : List ℕ → List End
@@ -39,21 +26,6 @@ abbrev pub through : List Occurrence → Occurrence → List Entry
 through past o = entries_in past ++ o.entries
 
 -- ## Answers
-
--- the node whose answer an entry is
-abbrev pub answerer : Entry → Option ℕ
-answerer (entry.Command n command) = Some n
-answerer (entry.Sent e n pid message) = Some (node_of e)
-answerer (entry.AnyOk n count) = Some n
-answerer (entry.Ask host message) = Some 0
-answerer (entry.Dropped e pid) = Some (node_of e)
-answerer (entry.InitSame e) = Some (node_of e)
-answerer (entry.InitMade e count) = Some (node_of e)
-answerer (entry.InitFailed e code) = Some (node_of e)
-answerer _ = None
-
-abbrev pub is_answer_of : ℕ → Entry → Bool
-is_answer_of n x = option_map_or (λ k. k == n) (answerer x) false
 
 -- a message has its turn at an end of this node
 abbrev pub is_turn_of : ℕ → Entry → Bool
@@ -135,10 +107,12 @@ AreLeftShort hosts past o = AllByRecursion (λ e. is_left_short hosts past o e �
 
 -- ## Outside turns
 
--- The answers of each node before its first turn in an event are exactly those that are due.
+-- The answers of a node before its first turn in an event are exactly those that are due.
+abbrev pub IsDueAt : List ℕ → List Occurrence → Occurrence → ℕ → Type 0
+IsDueAt hosts past o n = AnswersSo n o.entries (noted_of_deeds (entries_in past ++ down_in o) n n (due hosts past o n))
+
 abbrev pub AreDue : List ℕ → List Occurrence → Occurrence → Type 0
-AreDue hosts past o =
-    AllByRecursion (λ n. AnswersSo n o.entries (noted_of_deeds (entries_in past ++ down_in o) n n (due hosts past o n))) (0 ∷ hosts)
+AreDue hosts past o = AllByRecursion (IsDueAt hosts past o) (0 ∷ hosts)
 
 -- The session of each end ends by a reset of its own exactly where that is due.
 abbrev pub AreReset : List ℕ → List Occurrence → Occurrence → Type 0
@@ -147,7 +121,8 @@ AreReset hosts past o = AllByRecursion (λ e. list_any (is_reset_down e) o.entri
 -- ## Answered
 
 -- Every message is answered, and nothing else is: messages have their turns in the order in which they came, all but those behind one
--- that is held for room; each gets its reply at its turn; and what a node does outside turns is what is due.
+-- that is held for room; each gets its reply at its turn; and what a node does outside turns is what is due. In each event a node goes
+-- through its ends in the order of their links, and what comes to it stands before what it answers.
 pub record Answered (t : NodeHistory) : Type 0 where
   pub in_turn : AreInTurn (node_entries t)
   pub done : AtEachOccurrence t (AreDone t.header.hosts.items)
@@ -156,9 +131,5 @@ pub record Answered (t : NodeHistory) : Type 0 where
   pub short : AtEachOccurrence t (AreLeftShort t.header.hosts.items)
   pub due : AtEachOccurrence t (AreDue t.header.hosts.items)
   pub reset : AtEachOccurrence t (AreReset t.header.hosts.items)
-
--- What a history of nodes must be in all: messages come in order, links are complete, pipes are allowed, commands are kept, and every
--- message is answered.
-pub record IsWhollyLegal (t : NodeHistory) : Type 0 where
-  pub legal : LegalNodes t
-  pub answered : Answered t
+  pub ascending : TurnsAscend t
+  pub heard : NodesHearFirst t

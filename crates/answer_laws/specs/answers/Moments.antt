@@ -1,5 +1,5 @@
 -- What is read of a node at a moment of a history, off events and entries, and its reply to a message there.
-use Rattle.std.specs.Prelude.{ℕ, ◌-◌, ◌^◌, ◌==◌, min, Bool, true, false, if◌then◌else◌, List, [], ◌∷◌, ◌++◌, map, drop, length, is_some, unwrap_or, Option}
+use Rattle.std.specs.Prelude.{◌≡◌, ℕ, ◌-◌, ◌^◌, ◌==◌, min, Bool, true, false, if◌then◌else◌, List, [], ◌∷◌, ◌++◌, map, drop, length, is_some, unwrap_or, Option}
 use Rattle.std.specs.Prelude.{Some, None}
 use Rattle.std.specs.List.{fold}
 use Rattle.std.specs.Option.{option_map, option_map_or, option_and_then}
@@ -24,7 +24,7 @@ use Rattle.node_machine.specs.HostReplies.{pipe_named_in}
 use Rattle.node_machine.specs.Turns.{deeds_of}
 use Rattle.node_machine.specs.world.World.{Happening, node_of}
 use Rattle.node_machine.specs.world.Lines.{Occurrence}
-use Rattle.node_machine.specs.world.NodeHistories.{entries_in}
+use Rattle.node_machine.specs.world.NodeHistories.{NodeHistory, entries_in, occurrences_in}
 use Rattle.node_machine.specs.world.NodeFilters.{commands_in, tables_in, notice_in, order_in, asking_in, session_now, spare_at}
 use Rattle.node_order.specs.passes.Noting.{end_of_number, entries_of_reply}
 use Rattle.node_readings.specs.views.Errors.{errors_in}
@@ -39,6 +39,17 @@ pub record Moment : Type 0 where
 -- all entries until a moment
 abbrev pub until : Moment → List Entry
 until m = entries_in m.past ++ m.so_far
+
+-- So it is with each entry, as it is noted, and the entries of its event behind it.
+abbrev pub AtEachEntry : NodeHistory → (Moment → Entry → List Entry → Type 0) → Type 0
+AtEachEntry t P =
+    (past back : List Occurrence) (o : Occurrence) (front behind : List Entry) (x : Entry)
+    → occurrences_in t ≡ past ++ (o ∷ back) → o.entries ≡ front ++ (x ∷ behind)
+    → P (record { past = past; cause = o.cause; so_far = front }) x behind
+
+-- So it is with each event and the events before it.
+abbrev pub AtEachOccurrence : NodeHistory → (List Occurrence → Occurrence → Type 0) → Type 0
+AtEachOccurrence t P = (past back : List Occurrence) (o : Occurrence) → occurrences_in t ≡ past ++ (o ∷ back) → P past o
 
 -- ## What came
 

@@ -11,7 +11,7 @@ use Rattle.node_machine.specs.world.NodeFilters.{session_now, spare_at}
 use Rattle.node_laws.specs.kept.Reckonings.{is_cut_of}
 use Rattle.answer_laws.specs.steps.Works.{ReadsInStep}
 use Rattle.answer_laws.specs.answers.Moments.{holds_in, unhandled_in}
-use Rattle.answer_laws.specs.answers.Answered.{is_answer_of}
+use Rattle.answer_laws.specs.answers.Order.{is_answer_of}
 
 -- every command finds room in the journal of a node
 abbrev pub HasRoomForAll : Work → Type 0

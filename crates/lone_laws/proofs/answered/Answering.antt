@@ -25,6 +25,7 @@ use Rattle.lone_laws.proofs.answered.Turning.{IsHere, alone_here}
 use Rattle.lone_laws.proofs.answered.Lasting.{LoneKeeps}
 use Rattle.lone_laws.proofs.answered.Ordered.{begin_read, OrderAt, pass_noted, begun, ended, noted, entries_are, in_order}
 use Rattle.lone_laws.proofs.answered.Knowing.{KnowsAlone, knows_lasts}
+use Rattle.answer_laws.proofs.worlds.Late.{BeginsBehind}
 use Rattle.lone_laws.proofs.answered.Replying.{session_of_end, IsMuteEntry, AreUntil, mute_then, mutes_then, turn_then, deeds_answer, noted_answers}
 use Rattle.lone_laws.proofs.answered.Errors.{errs_all, errs-append, IsSettled, settled_errs, desk_errors, errors_with}
 use Rattle.lone_laws.proofs.answered.Replied.{begin_errs, found, KnowsAll, lack_read, deeds_read, core_read, session_read, same_link, own_port}
@@ -33,11 +34,6 @@ use Rattle.lone_laws.proofs.answered.Replied.{noted_so, errs_handled}
 pub emits_mute : (f : End) (frames : List Control) → AllByRecursion IsMuteEntry (map (λ c. entry.Emit f (lpdu_of c)) frames)
 emits_mute f [] = tt
 emits_mute f (c ∷ frames) = ((refl, refl, refl), emits_mute f frames)
-
--- behind one that is noted as held comes a turn, or nothing
-abbrev pub BeginsBehind : Entry → List Entry → Type 0
-BeginsBehind (entry.Held f need spare) back = BeginWithTurn back
-BeginsBehind _ back = Unit {0}
 
 -- nothing is answered before the next turn
 pub none_until : (later emits : List Entry) → AllByRecursion IsMuteEntry emits → BeginWithTurn later

@@ -1,12 +1,11 @@
 -- Before the first turn in an event a node alone answers what is due.
 use Rattle.std.proofs.Common.{◌≡◌, ℕ, ◌≤◌, Bool, true, false, cond, eqb, ◌&&◌, ◌||◌, List, [], ◌∷◌, ◌++◌, refl, sym, ap, subst, ◌∙◌, append_assoc, append-nil}
-use Rattle.std.specs.Prelude.{◌+◌, Option, Some, None, not, Result, Ok, Err, nat_le}
+use Rattle.std.specs.Prelude.{Option, Some, None, not, Result, Ok, Err}
 use Rattle.std.specs.List.{AllByRecursion, filter, list_any, flat_map}
 use Rattle.std.proofs.lemmas.Bool.{cond_both}
 use Rattle.registry.proofs.ValueLemmas.{AllByRecursion-append}
 use Rattle.swp_base.specs.declared.control_frames.Control.{Control}
 use Rattle.swp_base.specs.declared.control_frames.Control.TheVariants as control
-use Rattle.swp_base.specs.declared.control_frames.Act.{Act}
 use Rattle.swp_base.specs.declared.control_frames.Act.TheVariants.{SyncId, Ready, PowerMode}
 use Rattle.swp_lpdu.specs.declared.LpduFault.{LpduFault}
 use Rattle.swp_lpdu.specs.Controls.{control_of}
@@ -15,8 +14,7 @@ use Rattle.swp_act.specs.declared.ActEvent.TheVariants.{Start as ActStart, Take 
 use Rattle.swp_act.specs.declared.Phase.{Phase}
 use Rattle.swp_act.specs.declared.Phase.TheVariants.{Inactive, Awaiting, Active as ActiveNow}
 use Rattle.swp_act.specs.declared.clf.ClfAct.{ClfAct}
-use Rattle.swp_act.specs.declared.uicc.UiccAct.{UiccAct}
-use Rattle.swp_act.specs.Activation.{clf_step, uicc_step, out_ticked, sends, no_act_out}
+use Rattle.swp_act.specs.Activation.{clf_step}
 use Rattle.trace_model.specs.declared.entry.Entry.{Entry}
 use Rattle.trace_model.specs.declared.entry.Entry.TheVariants as entry
 use Rattle.trace_model.specs.declared.line.End.{End}
@@ -35,6 +33,8 @@ use Rattle.node_order.specs.passes.Noting.{noted_by_deeds, goes_in}
 use Rattle.node_order.specs.passes.Passing.{ComesTo, IsTurnSo}
 use Rattle.node_order.specs.passes.Steps.{syncs_in}
 use Rattle.node_order.proofs.passes.Notes.{deeds_note}
+use Rattle.answer_laws.proofs.worlds.Late.{BeginsBehind}
+use Rattle.answer_laws.proofs.worlds.Uiccs.{tick_none, uicc_sync}
 use Rattle.lone_laws.specs.alone.Lone.{Lone, LoneCause, lone_end, lone_input, node_input, lone_arrival, emits_behind, frames_behind, session_with}
 use Rattle.lone_laws.specs.alone.Lone.LoneCause.{FrameComes, FrameIsRefused, TickComes, ResetComes, StartComes, StopComes}
 use Rattle.lone_laws.specs.alone.Known.{core_since, talk_since}
@@ -48,7 +48,7 @@ use Rattle.lone_laws.proofs.answered.Ordered.{begin_read, start, begun, ended, s
 use Rattle.lone_laws.proofs.answered.Roles.{kind_of}
 use Rattle.lone_laws.proofs.answered.Replying.{IsMuteEntry, AreUntil, IsNotedSo, deeds_answer, noted_answers}
 use Rattle.lone_laws.proofs.answered.Errors.{IsToldNote, told_of_it}
-use Rattle.lone_laws.proofs.answered.Answering.{none_until, BeginsBehind, emits_mute}
+use Rattle.lone_laws.proofs.answered.Answering.{none_until, emits_mute}
 use Rattle.lone_laws.proofs.answered.Keeping.{core_of, KeepsAll}
 
 -- ## What a frame says of an identifier
@@ -57,16 +57,6 @@ use Rattle.lone_laws.proofs.answered.Keeping.{core_of, KeepsAll}
 abbrev wanted : ActEvent → Option ℕ
 wanted (ActTake (SyncId id) false) = Some id
 wanted _ = None
-
-tick_none : (p : Phase) (last : Option Act) → (out_ticked p last).sync ≡ None
-tick_none Inactive last = refl
-tick_none (Awaiting tries ticks) last =
-    cond_both (nat_le 10 (ticks + 1))
-    (cond (nat_le 3 tries) (record { send = None; became_active = false; ended_link = false; sync = None; gave_up = Some 3 }) (sends last)) no_act_out
-    (λ o. o.sync ≡ None)
-    (λ _. cond_both (nat_le 3 tries) (record { send = None; became_active = false; ended_link = false; sync = None; gave_up = Some 3 }) (sends last)
-    (λ o. o.sync ≡ None) (λ _. refl) (λ _. refl)) (λ _. refl)
-tick_none ActiveNow last = refl
 
 clf_sync : (s : ClfAct) (event : ActEvent) → (clf_step s event).1.sync ≡ wanted event
 clf_sync s (ActStart value) = refl
@@ -86,20 +76,6 @@ clf_sync s (ActTake Ready false) = go s.phase refl where
 clf_sync s (ActTake (PowerMode code) false) = refl
 clf_sync s ActTick = tick_none s.phase s.last
 clf_sync s ActStop = refl
-
-uicc_sync : (s : UiccAct) (event : ActEvent) → (uicc_step s event).1.sync ≡ None
-uicc_sync s (ActStart value) = refl
-uicc_sync s (ActTake act true) = refl
-uicc_sync s (ActTake (SyncId id) false) = refl
-uicc_sync s (ActTake Ready false) = refl
-uicc_sync s (ActTake (PowerMode code) false) = go (nat_le code 1) refl s.phase refl where
-  go : (b : Bool) → nat_le code 1 ≡ b → (p : Phase) → s.phase ≡ p → (uicc_step s (ActTake (PowerMode code) false)).1.sync ≡ None
-  go true z Inactive q = rw (z, q) refl
-  go true z (Awaiting tries ticks) q = rw (z, q) refl
-  go true z ActiveNow q = rw (z, q) refl
-  go false z p q = rw z refl
-uicc_sync s ActTick = tick_none s.phase s.last
-uicc_sync s ActStop = refl
 
 out_none : (r : Role) (o : Option ActEvent) → kind_of r ≡ Some false → (act_out r o).sync ≡ None
 out_none Bare o q = absurd (cc q)

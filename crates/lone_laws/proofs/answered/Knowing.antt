@@ -22,7 +22,7 @@ use Rattle.node_order.proofs.links.Works.{IsFinePort, IsFineWork, fine_at, deeds
 use Rattle.node_order.specs.passes.Passing.{LastsOverTurns, ComesTo, waiting_at, takes_up}
 use Rattle.node_order.specs.passes.Steps.{syncs_in}
 use Rattle.node_order.proofs.passes.Passing.{comes_so}
-use Rattle.lone_laws.specs.alone.Lone.{Lone, LoneCause, end_of_node_alone, lone_end, lone_input, node_input, lone_arrival, lone_port, lone_work, rsets_with}
+use Rattle.lone_laws.specs.alone.Lone.{Lone, LoneCause, end_of_node_alone, lone_end, lone_input, node_input, lone_arrival, lone_port, lone_work, rsets_since}
 use Rattle.lone_laws.specs.alone.Lone.{session_with, side_behind, emits_behind}
 use Rattle.lone_laws.specs.alone.Known.{LoneTalk, no_session_now}
 use Rattle.lone_laws.proofs.answered.Own.{IsOwnDeed}
@@ -199,7 +199,7 @@ module _ (found : Core) (t : List Entry) (l : Lone) (some : 1 ≤ l.link) (most 
             ∙ still_talk e l.number first (arrival_still l c) X))
             ∙ (told_talk e l.number keeps.desk.host (own_side begins.core) (own_side_end l.number l.link R t i may begins a) (session_with l i)
             (whole_acked (after_input l.side i)) (report l.side i) X
-            ∙ input_talk l.side i may talk.sound (session_with l i) l.session (λ q. ap (λ b. cond b (rsets_with i l.rsets) l.session) q)))));
+            ∙ input_talk l.side i may talk.sound (session_with l i) l.session (λ q. ap (λ b. cond b (rsets_since i l.rsets) l.session) q)))));
       }
 
   syncs_fine : AllByRecursion IsFine (syncs_in (node_input l.link i) begins)

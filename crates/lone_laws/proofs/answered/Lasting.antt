@@ -15,7 +15,7 @@ use Rattle.node_machine.specs.Parts.{Desk, Running, Port, Work}
 use Rattle.node_machine.specs.Carrying.{changed_if, port_at}
 use Rattle.node_machine.specs.Node.{steps}
 use Rattle.lone_laws.specs.alone.Lone.{Lone, LoneCause, lone_end, lone_input, node_input, lone_arrival, lone_port, lone_work, side_behind, emits_behind}
-use Rattle.lone_laws.specs.alone.Lone.{session_with, lone_behind_step, does_with_input, does_by_power, lone_step, counted_at, noted_of_refused}
+use Rattle.lone_laws.specs.alone.Lone.{session_with, lone_behind_step, does_with_input, does_by_power, lone_step, with_refusal, noted_of_refused}
 use Rattle.lone_laws.specs.alone.Lone.LoneCause.{FrameComes, FrameIsRefused, TickComes, ResetComes, StartComes, StopComes}
 use Rattle.lone_laws.proofs.answered.Reading.{eqb_same, Read, read_all, read-append, reads_of, AreNothing, nothing_read, Alone}
 use Rattle.lone_laws.proofs.answered.Stepping.{lone_comes, alone_steps}
@@ -117,7 +117,7 @@ keeps_work r t l i w all = go w.cut refl where
 
 -- a frame that is refused
 counted_keeps : (r : Read) (t : List Entry) (l : Lone) (n : Running) (es : List Entry) → AreNothing (lone_end l) es → LoneKeeps r t l n
-    → LoneKeeps r (t ++ es) (record l { node = Some (counted_at l.link n) }) (counted_at l.link n)
+    → LoneKeeps r (t ++ es) (record l { node = Some (with_refusal l.link n) }) (with_refusal l.link n)
 counted_keeps r t l n es nothing k = go (eqb k.desk.host l.link) refl where
   f : Desk → Desk
   f d = record d { errors = min 65535 (d.errors + 1) }
@@ -127,7 +127,7 @@ counted_keeps r t l n es nothing k = go (eqb k.desk.host l.link) refl where
   same true = (refl, refl, refl)
   same false = (refl, refl, refl)
 
-  go : (b : Bool) → eqb k.desk.host l.link ≡ b → LoneKeeps r (t ++ es) (record l { node = Some (counted_at l.link n) }) (counted_at l.link n)
+  go : (b : Bool) → eqb k.desk.host l.link ≡ b → LoneKeeps r (t ++ es) (record l { node = Some (with_refusal l.link n) }) (with_refusal l.link n)
   go b q = record {
     desk = changed_if b f k.desk;
     desks_are = ap (Rattle.node_machine.specs.Node.with_error l.link) k.desks_are ∙ ap (λ c. changed_if c f k.desk ∷ []) q;
@@ -159,9 +159,9 @@ module _ (r : Read) where
       refused (FrameIsRefused fault) q =
           subst (λ (x : Lone × List Entry). IfKeeps r (t ++ x.1) x.0) (sym (ap (does_by_power l (FrameIsRefused fault)) on))
           (λ m is.
-          let same : counted_at l.link n ≡ m = cc in
+          let same : with_refusal l.link n ≡ m = cc in
           let es : List Entry = noted_of_refused l (FrameIsRefused fault) in
-          subst (LoneKeeps r (t ++ es) (record l { node = Some (counted_at l.link n) })) same (counted_keeps r t l n es ((λ z. refl), tt) (keeps n on)))
+          subst (LoneKeeps r (t ++ es) (record l { node = Some (with_refusal l.link n) })) same (counted_keeps r t l n es ((λ z. refl), tt) (keeps n on)))
       refused (FrameComes bytes) q = absurd (cc q)
       refused TickComes q = absurd (cc q)
       refused (ResetComes window) q = absurd (cc q)

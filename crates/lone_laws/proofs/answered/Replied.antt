@@ -167,7 +167,7 @@ module _ (rest : Core) (number h : ℕ) (some : 1 ≤ h) (most : h ≤ 7) (s : �
 
   -- ## A message that has its turn
 
-  deeds_shape : (k : ℕ) (m : Message) (w : Work) (a : Alone number h (begin_read found) t w) → eqb a.port.desk.host k ≡ true
+  pub deeds_shape : (k : ℕ) (m : Message) (w : Work) (a : Alone number h (begin_read found) t w) → eqb a.port.desk.host k ≡ true
       → IsLoneReply (deeds_of w.core w.ports k m)
   deeds_shape k m w a own =
       subst (λ ps. IsLoneReply (deeds_of w.core ps k m)) (sym a.ports_are) (go (eqb w.core.node 0) refl) where

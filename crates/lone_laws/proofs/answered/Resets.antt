@@ -22,7 +22,6 @@ use Rattle.std.proofs.lemmas.Bool.{cond_both}
 use Rattle.std.specs.Prelude.{is_some, option_to_list, nat_lt}
 use Rattle.std.specs.List.{list_any}
 use Rattle.swp_base.specs.declared.control_frames.Control.{Control}
-use Rattle.swp_base.specs.declared.control_frames.Control.TheVariants as control
 use Rattle.swp_base.specs.declared.link_terms.Cause.{Cause as EndedBy}
 use Rattle.swp_base.specs.declared.link_terms.Cause.TheVariants.{Asked, NoAnswer, Peer, Act as ByAct, Chain}
 use Rattle.swp_lpdu.specs.declared.LpduFault.{LpduFault}
@@ -31,8 +30,7 @@ use Rattle.trace_model.specs.declared.entry.Entry.{Entry}
 use Rattle.trace_model.specs.declared.line.End.{End}
 use Rattle.shdlc_core.specs.declared.answers.LinkState.{LinkState}
 use Rattle.shdlc_core.specs.declared.answers.LinkState.TheVariants.{Up as IsUpNow, Waiting as IsWaitingNow, Down as IsDown}
-use Rattle.shdlc_core.specs.Machine.{EndState, take_answer, tick_answer, timed, Timed}
-use Rattle.shdlc_core.specs.Machine.Timed.{Runs, Over, Spent}
+use Rattle.shdlc_core.specs.Machine.{tick_answer}
 use Rattle.link_laws.specs.sessions.Sessions.{is_up}
 use Rattle.link_machine.specs.Machine.{LinkEnd, LinkInput, Report, after_input, report, ended_by, ended_by_frame, ended_by_reset, reset_refusal, if_up}
 use Rattle.link_machine.specs.Machine.{whole_acked, lpdu_input, is_open}
@@ -48,9 +46,7 @@ use Rattle.lone_laws.specs.alone.Lone.{Lone, LoneCause, lone_end, lone_input, no
 use Rattle.lone_laws.specs.alone.Lone.LoneCause.{FrameComes, FrameIsRefused, TickComes, ResetComes, StartComes, StopComes}
 use Rattle.lone_laws.specs.alone.Known.{LoneTalk, talk_since}
 use Rattle.lone_laws.specs.alone.Answers.{is_asked_down, is_reset_alone, IsResetAlone}
-use Rattle.swp_act.specs.declared.ActEvent.{ActEvent}
-use Rattle.swp_act.specs.declared.ActEvent.TheVariants.{Take as ActTake, Tick as ActTick}
-use Rattle.shdlc_core.specs.Machine.{taken, runs_timer, nothing_taken, nothing_ticked}
+use Rattle.swp_act.specs.declared.ActEvent.TheVariants.{Tick as ActTick}
 use Rattle.link_machine.specs.Machine.{ended_by_act, act_answer, is_faulty}
 use Rattle.link_machine.proofs.Runs.{Sound}
 use Rattle.std.specs.Prelude.{Result, Ok, Err}
@@ -62,6 +58,7 @@ use Rattle.lone_laws.proofs.answered.Stepping.{lone_comes}
 use Rattle.lone_laws.proofs.answered.Lasting.{begins_alone, arrival_nothing}
 use Rattle.lone_laws.proofs.answered.Ordered.{begin_read, start, ended}
 use Rattle.lone_laws.proofs.answered.Keeping.{core_of, KeepsAll}
+use Rattle.answer_laws.proofs.worlds.Causes.{act_asked, asked, frame_asked, tick_asked, up_asked}
 
 -- an entry tells of no reset that was asked for
 abbrev pub IsQuietEntry : Entry → Type 0
@@ -153,11 +150,6 @@ module _ (b : Bool) where
 
 -- ## What an input tells
 
--- it is a reset on demand
-abbrev pub asked : Option EndedBy → Bool
-asked (Some Asked) = true
-asked _ = false
-
 -- this tells of no end of a session
 abbrev EndsNothing : Noted → Type 0
 EndsNothing (Up who n) = Unit {0}
@@ -215,67 +207,6 @@ told_asked h who n acked rep = go rep.ended where
   go (Some Chain) = quiet
 
 -- ## Why a session ends
-
-up_asked : (s : EndState) (cause : EndedBy) → asked (Some cause) ≡ false → asked (if_up s cause) ≡ false
-up_asked s cause other = go s.phase refl where
-  go : (p : LinkState) → s.phase ≡ p → asked (if_up s cause) ≡ false
-  go IsUpNow q = rw q other
-  go IsWaitingNow q = rw q refl
-  go IsDown q = rw q refl
-
-take_asked : (s : EndState) (c : Control) → asked (take_answer s c).ended ≡ false
-take_asked s c = go s.phase refl c where
-  go : (p : LinkState) → s.phase ≡ p → (c : Control) → asked (take_answer s c).ended ≡ false
-  go IsUpNow q (control.I ns nr info) = rw q refl
-  go IsUpNow q (control.S kind nr) = rw q refl
-  go IsUpNow q (control.Rset window caps) =
-      rw q (cond_both (eqb window 0) nothing_taken (record nothing_taken { ended = Some Peer; began = true }) (λ r. asked r.ended ≡ false) (λ _. refl)
-      (λ _. refl))
-  go IsUpNow q _ = rw q refl
-  go IsDown q (control.Rset window caps) =
-      rw q (cond_both (eqb window 0) nothing_taken (record nothing_taken { began = true }) (λ r. asked r.ended ≡ false) (λ _. refl) (λ _. refl))
-  go IsDown q _ = rw q refl
-  go IsWaitingNow q (control.Ua) = rw q refl
-  go IsWaitingNow q _ = rw q refl
-
-tick_asked : (s : EndState) → asked (tick_answer s).ended ≡ false
-tick_asked s = go s.phase refl where
-  up : (z : Timed) → timed s ≡ z → s.phase ≡ IsUpNow → asked (tick_answer s).ended ≡ false
-  up Runs z q = rw (q, z) (cond_both (runs_timer s.session) nothing_ticked nothing_ticked (λ r. asked r.ended ≡ false) (λ _. refl) (λ _. refl))
-  up Over z q = rw (q, z) (cond_both (runs_timer s.session) nothing_ticked nothing_ticked (λ r. asked r.ended ≡ false) (λ _. refl) (λ _. refl))
-  up Spent z q =
-      rw (q, z) (cond_both (runs_timer s.session) (record nothing_ticked { ended = Some NoAnswer }) nothing_ticked (λ r. asked r.ended ≡ false)
-      (λ _. refl) (λ _. refl))
-
-  waits : (z : Timed) → timed s ≡ z → s.phase ≡ IsWaitingNow → asked (tick_answer s).ended ≡ false
-  waits Runs z q = rw (q, z) refl
-  waits Over z q = rw (q, z) refl
-  waits Spent z q = rw (q, z) refl
-
-  go : (p : LinkState) → s.phase ≡ p → asked (tick_answer s).ended ≡ false
-  go IsUpNow q = up (timed s) refl q
-  go IsWaitingNow q = waits (timed s) refl q
-  go IsDown q = rw q refl
-
-act_asked : (s : LinkEnd) (event : ActEvent) → asked (ended_by_act s event) ≡ false
-act_asked s event =
-    cond_both (act_answer s.role event).ended_link (if_up s.shdlc ByAct) None (λ o. asked o ≡ false) (λ _. up_asked s.shdlc ByAct refl) (λ _. refl)
-
-heard_asked : (s : LinkEnd) (c : Control)
-    → asked (cond (is_open s.role) (cond (is_faulty (taken s.shdlc c).session) (Some Chain) (take_answer s.shdlc c).ended) None) ≡ false
-heard_asked s c =
-    cond_both (is_open s.role) (cond (is_faulty (taken s.shdlc c).session) (Some Chain) (take_answer s.shdlc c).ended) None (λ o. asked o ≡ false)
-    (λ _. cond_both (is_faulty (taken s.shdlc c).session) (Some Chain) (take_answer s.shdlc c).ended (λ o. asked o ≡ false) (λ _. refl)
-    (λ _. take_asked s.shdlc c))
-    (λ _. refl)
-
-frame_asked : (s : LinkEnd) (c : Control) → asked (ended_by_frame s c) ≡ false
-frame_asked s (control.Act act again) = act_asked s (ActTake act again)
-frame_asked s control.Clt = refl
-frame_asked s (control.I ns nr info) = heard_asked s (control.I ns nr info)
-frame_asked s (control.S kind nr) = heard_asked s (control.S kind nr)
-frame_asked s (control.Rset window caps) = heard_asked s (control.Rset window caps)
-frame_asked s control.Ua = heard_asked s control.Ua
 
 lpdu_asked : (s : LinkEnd) (bytes : List ℕ) → asked (ended_by s (lpdu_input bytes)) ≡ false
 lpdu_asked s bytes = go (control_of bytes) refl where

@@ -33,8 +33,8 @@ use Rattle.node_machine.specs.Carrying.{changed_if}
 use Rattle.node_machine.specs.Node.{boot_writes, found, new_desk, with_error}
 use Rattle.node_machine.specs.world.NodeFilters.{was_refused}
 use Rattle.node_order.specs.passes.Passing.{link_of_turn, AreNoTurns}
-use Rattle.lone_laws.specs.alone.Lone.{Lone, LoneCause, LoneEvent, lone_end, lone_input, node_input, lone_arrival, lone_work, emits_behind, counted_at}
-use Rattle.lone_laws.specs.alone.Lone.{noted_of_refused, lone_behind_step, does_by_power, lone_step, lone_events, lone_booted, new_role}
+use Rattle.lone_laws.specs.alone.Lone.{Lone, LoneCause, LoneEvent, lone_end, lone_input, node_input, lone_arrival, lone_work, emits_behind, with_refusal}
+use Rattle.lone_laws.specs.alone.Lone.{noted_of_refused, lone_behind_step, does_by_power, lone_step, lone_events, lone_booted, role_alone}
 use Rattle.lone_laws.specs.alone.Lone.LoneCause.{FrameComes, FrameIsRefused, TickComes, ResetComes, StartComes, StopComes}
 use Rattle.lone_laws.specs.alone.Known.{RecErrors, left_noted, hold_noted, no_session_now}
 use Rattle.lone_laws.specs.alone.Answers.{AtEachNoted, AtEachLoneEvent, entries_of_events_alone, is_own_cut, runs_behind, is_at_rest, is_left_lacking}
@@ -175,7 +175,7 @@ module _ (rest : Core) (t : List Entry) (l : Lone) (n : Running) (on : l.node �
   lost = noted_of_refused l (FrameIsRefused f)
 
   abbrev counted : Lone
-  counted = record l { node = Some (counted_at l.link n) }
+  counted = record l { node = Some (with_refusal l.link n) }
 
   counted_errors : (errs_all e (begin_errs J) (t ++ lost)).errors ≡ errors_of (with_error l.link n.desks)
   counted_errors =
@@ -187,7 +187,7 @@ module _ (rest : Core) (t : List Entry) (l : Lone) (n : Running) (on : l.node �
       ∙ sym (ap (λ ds. errors_of (with_error l.link ds)) k.keep.desks_are
       ∙ ap (λ b. (changed_if b g k.keep.desk).errors) (ap (λ z. eqb z l.link) k.keep.host ∙ eqb_same l.link))))
 
-  counted_all : LoneKeeps (begin_read J) (t ++ lost) counted (counted_at l.link n) → KeepsAll rest (t ++ lost) counted (counted_at l.link n)
+  counted_all : LoneKeeps (begin_read J) (t ++ lost) counted (with_refusal l.link n) → KeepsAll rest (t ++ lost) counted (with_refusal l.link n)
   counted_all keep = record {
     keep = keep;
     talks = record {
@@ -233,7 +233,7 @@ module _ (rest : Core) (t : List Entry) (l : Lone) (n : Running) (on : l.node �
       × ((m : Running) → x.0.node ≡ Some m → is_at_rest (lone_end x.0) (t ++ x.1) ≡ true)
       × (x.0.number ≡ l.number) × (x.0.link ≡ l.link)) (sym is) (
         refused_facts rests,
-        (λ m q. let same : counted_at l.link n ≡ m = cc in subst (KeepsAll rest (t ++ lost) counted) same (counted_all (keeps (counted_at l.link n) refl))),
+        (λ m q. let same : with_refusal l.link n ≡ m = cc in subst (KeepsAll rest (t ++ lost) counted) same (counted_all (keeps (with_refusal l.link n) refl))),
         (λ m q. rests_still rests),
         refl,
         refl,
@@ -251,7 +251,7 @@ module _ (rest : Core) (number h : ℕ) (some : 1 ≤ h) (most : h ≤ 7) (its :
       × ((r : Running) → x.0.node ≡ Some r → is_at_rest (lone_end x.0) (t ++ x.1) ≡ true)
       × (x.0.number ≡ m) × (x.0.link ≡ k)
 
-  each_step : (t : List Entry) (l : Lone) (c : LoneCause) → is_some l.node ≡ true → Between rest number h t l
+  pub each_step : (t : List Entry) (l : Lone) (c : LoneCause) → is_some l.node ≡ true → Between rest number h t l
       → EventFacts F h t (record { cause = c; entries = (lone_step l c).1 }) × Between rest number h (t ++ (lone_step l c).1) (lone_step l c).0
   each_step t l c runs b = by_node l.node refl where
     its_l : eqb l.number 0 ≡ false → l.number ≡ l.link
@@ -341,11 +341,11 @@ module _ (number h : ℕ) (some : 1 ≤ h) (most : h ≤ 7) (its : eqb number 0 
             good = λ z. fine_tables m.content;
             read = refl;
           };
-          talks = record { talk = no_talk (eqb number 0); sound = new_sound (new_role number); aside = refl; role = new_kind (eqb number 0); clean = tt };
+          talks = record { talk = no_talk (eqb number 0); sound = new_sound (role_alone number); aside = refl; role = new_kind (eqb number 0); clean = tt };
           errs = refl;
         })
 
-  begin_between : Between booted_core number h [] l
+  pub begin_between : Between booted_core number h [] l
   begin_between = record { number_is = refl; link_is = refl; all = begin_all; rests = λ n on. refl }
 
   pub lone_facts : (causes : List LoneCause) (past back : List LoneEvent) (o : LoneEvent) → lone_events l causes ≡ past ++ (o ∷ back)

@@ -77,13 +77,13 @@ node_input link Tick = TimePasses
 node_input link i = AtEnd link i
 
 -- an RSET that is taken is counted, whatever the end does with it
-abbrev pub rsets_with : LinkInput → ℕ → ℕ
-rsets_with (Take c) n = if is_rset c then n + 1 else n
-rsets_with _ n = n
+abbrev pub rsets_since : LinkInput → ℕ → ℕ
+rsets_since (Take c) n = if is_rset c then n + 1 else n
+rsets_since _ n = n
 
 -- the number of the session in a step in which this comes: where one begins, that of all RSETs so far
 abbrev pub session_with : Lone → LinkInput → ℕ
-session_with l i = if began_by l.side i then rsets_with i l.rsets else l.session
+session_with l i = if began_by l.side i then rsets_since i l.rsets else l.session
 
 -- that a frame is taken is noted first
 abbrev pub lone_arrival : Lone → LoneCause → List Entry
@@ -106,13 +106,13 @@ lone_work l r i noted = record {
 }
 
 -- the end of a node behind a step; a node that loses power has a new one
-abbrev pub new_role : ℕ → Role
-new_role number = if number == 0 then Clf new_clf else Uicc new_uicc
+abbrev pub role_alone : ℕ → Role
+role_alone number = if number == 0 then Clf new_clf else Uicc new_uicc
 
 abbrev pub side_behind : Lone → Work → LinkEnd
 side_behind l w = by_power w.cut where
   by_power : Bool → LinkEnd
-  by_power true = new_link_end (new_role l.number)
+  by_power true = new_link_end (role_alone l.number)
   by_power false = option_map_or (λ (p : Port). p.side) (port_at w.ports l.link) l.side
 
 -- the frames that go out
@@ -128,7 +128,7 @@ lone_behind_step l i w = record l {
   node = runs_on w;
   memory = after_planned w.writes l.memory;
   side = sent_all (side_behind l w);
-  rsets = rsets_with i l.rsets + length (filter is_rset (frames_behind l w));
+  rsets = rsets_since i l.rsets + length (filter is_rset (frames_behind l w));
   session = session_with l i;
 }
 
@@ -138,12 +138,12 @@ noted_of_refused l (FrameIsRefused fault) = entry.Lost (lone_end l) [] (lost_as 
 noted_of_refused l _ = []
 
 -- it counts for REC_ERROR
-abbrev pub counted_at : ℕ → Running → Running
-counted_at link r = record r { desks = with_error link r.desks }
+abbrev pub with_refusal : ℕ → Running → Running
+with_refusal link r = record r { desks = with_error link r.desks }
 
 -- what a node that runs does where this comes to its end
 abbrev pub does_with_input : Lone → LoneCause → Running → Option LinkInput → Lone × List Entry
-does_with_input l cause r None = (record l { node = Some (counted_at l.link r) }, noted_of_refused l cause)
+does_with_input l cause r None = (record l { node = Some (with_refusal l.link r) }, noted_of_refused l cause)
 does_with_input l cause r (Some i) = after_work (steps (node_input l.link i) (lone_work l r i (lone_arrival l cause))) where
   after_work : Work → Lone × List Entry
   after_work w = (lone_behind_step l i w, w.entries ++ emits_behind l w)
@@ -185,7 +185,7 @@ lone_booted number link m = record {
   link = link;
   node = if fails_within (length (boot_writes m.content)) m.plan then None else Some (found number (link ∷ []) m.content);
   memory = after_planned (boot_writes m.content) m;
-  side = new_link_end (new_role number);
+  side = new_link_end (role_alone number);
   rsets = 0;
   session = 0;
 }

@@ -55,7 +55,7 @@ command_read (Some d) c e = by_test (cases_Bool (is_command d)) where
   by_test (inr not) = let e2 : None ≡ Some c = sym (ap (λ b. cond b (Some d) None) not) ∙ e in absurd (cc e2)
 
 -- tables as they are kept
-abbrev Good : HciTables → Type 0
+abbrev pub Good : HciTables → Type 0
 Good t = AreTables t × IsRecordable t
 
 good_one : (t : HciTables) (o : Option Command) → ((c : Command) → o ≡ Some c → IsCommand c) → Good t → Good (option_map_or (apply t) o t)
@@ -67,7 +67,7 @@ good_fold t [] good = good
 good_fold t (body ∷ bodies) good =
     good_fold (applied t body) bodies (good_one t (command_of body) (λ c e. command_read (spelled_by body) c e) good)
 
-good_found : (content : List ℕ) → Good (close (tables_of content))
+pub good_found : (content : List ℕ) → Good (close (tables_of content))
 good_found content =
     let good = good_fold no_tables (records content) (AreTables-none, recordable-none) in
     (AreTables-close (tables_of content) good.0, recordable-close (tables_of content) good.1)
@@ -82,7 +82,7 @@ module _ (content : List ℕ) (t : HciTables) (many : ℕ) (f : BootFinds conten
   same_tables = sym f.keeps.holds.tables_are ∙ sym (close-close (tables_of content))
 
   -- a bank is in use
-  knows_used : IsSome (current content) → Knows content (state_of content) (close (tables_of content))
+  pub knows_used : IsSome (current content) → Knows content (state_of content) (close (tables_of content))
   knows_used some = record {
     state_is = refl;
     in_use = some;
@@ -90,17 +90,17 @@ module _ (content : List ℕ) (t : HciTables) (many : ℕ) (f : BootFinds conten
   }
 
   module _ (none : current content ≡ None) where
-    knows_formatted : Knows (after_writes format_writes content) formatted (close (tables_of content))
+    pub knows_formatted : Knows (after_writes format_writes content) formatted (close (tables_of content))
     knows_formatted =
         knows_from (after_writes format_writes content) formatted (close (tables_of content)) (says_formatted content (state_of content) says none) refl refl
         (omega arith)
         (let h = holds_still content (after_writes format_writes content) t f.keeps.holds (no_records_then content (state_of content) says none) in
         record { commands = h.commands; tables_are = h.tables_are ∙ same_tables })
 
-    started_is : formatted ≡ started_state (state_of content)
+    pub started_is : formatted ≡ started_state (state_of content)
     started_is = ap (λ o. option_map_or (λ _. state_of content) o formatted) (sym none)
 
-    count_formatted : count_of formatted ≡ many
+    pub count_formatted : count_of formatted ≡ many
     count_formatted = counted content (state_of content) formatted says started_is ∙ f.keeps.count_is
 
     pub left_formatted : (j : ℕ) (left : List ℕ) → IsCut j format_writes content left → BootFinds left t many

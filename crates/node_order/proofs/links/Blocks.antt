@@ -12,7 +12,7 @@ use Rattle.swp_act.specs.declared.ActEvent.{ActEvent}
 use Rattle.swp_act.specs.declared.ActEvent.TheVariants.{Start as ActStart, Take as ActTake, Tick as ActTick, Stop as ActStop}
 use Rattle.shdlc_core.specs.declared.answers.LinkState.{LinkState}
 use Rattle.shdlc_core.specs.declared.answers.LinkState.TheVariants.{Down, Waiting, Up}
-use Rattle.shdlc_core.specs.Machine.{EndState, taken, take_answer, ticked, tick_answer, reset_with, stopped, with_ready, fetched, after_frames, most_frames}
+use Rattle.shdlc_core.specs.Machine.{EndState, taken, take_answer, ticked, tick_answer, reset_with, stopped, with_ready, fetched, most_frames}
 use Rattle.link_laws.proofs.sessions.Ties.{fetched-phase, after_frames-phase}
 use Rattle.hcp_packet.specs.Packets.{packet_count}
 use Rattle.link_machine.specs.Machine.{Message, LinkEnd, LinkInput, ActDue, Role, Turn, Refused, is_faulty, is_open, act_answer, role_after, with_act, moved}
@@ -290,7 +290,8 @@ all_within l (x ∷ xs) a = all_within (happens_at_controller l x) xs (here_with
 over : (l : Link) → AreWithin l → AreWithin (exchanged l)
 over l a = record { near = a.far; far = a.near }
 
-ticks_within : (l : Link) (ts : List Turn) (ending : Rattle.link_entries.specs.messages.Links.Ending) → AreWithin l → AreWithin (ticks_at_controller l ts ending)
+ticks_within : (l : Link) (ts : List Turn) (ending : Rattle.link_entries.specs.messages.Links.Ending) → AreWithin l
+    → AreWithin (ticks_at_controller l ts ending)
 ticks_within l ts ending a = record {
   near = tick_is IsWithin input_within turns_within sent_within new_within l ts ending a.near;
   far = subst (λ (h : Rattle.link_entries.specs.messages.Links.NumberedEnd). IsWithin h.side) (sym (tick_host l ts ending)) a.far;

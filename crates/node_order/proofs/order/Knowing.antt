@@ -45,7 +45,15 @@ told_more h l e t u n a =
     let es : List LinkEvent = a.events in
     let last : entries (after_link_events new_line es) (e ∷ []) ≡ event_entries l e =
     append-nil (event_entries (after_link_events new_line es) e) ∙ ap (λ k. event_entries k e) a.run.is in
-    let x : Standing = standing_by_law h new_standing (entries new_line es) in
+    let from : (x : Standing) → standing h x (t ++ u) ≡ standing_by_law h x (entries new_line (es ++ e ∷ [])) =
+    λ x.
+    let y : Standing = standing_by_law h x (entries new_line es) in
+    fold-append (stands_noted h) x t u
+    ∙ (ap (λ z. standing h z u) (a.stands_from x)
+    ∙ (n.stands y
+    ∙ (ap (standing_by_law h y) (sym last)
+    ∙ sym (ap (standing_by_law h x) (entries-append es (e ∷ []) new_line)
+    ∙ fold-append (law_noted h) x (entries new_line es) (entries (after_link_events new_line es) (e ∷ [])))))) in
     record {
       events = es ++ e ∷ [];
       run = run_of_more es l e n.can a.run;
@@ -55,13 +63,8 @@ told_more h l e t u n a =
           ∙ (ap (λ z. O (entries_for h (entries new_line es)) ++ z) (n.tells ∙ ap (λ z. O (entries_for h z)) (sym last))
           ∙ sym (ap (λ z. O (entries_for h z)) (entries-append es (e ∷ []) new_line)
           ∙ notes-append h (entries new_line es) (entries (after_link_events new_line es) (e ∷ [])))));
-      stands =
-          fold-append (stands_noted h) new_standing t u
-          ∙ (ap (λ z. standing h z u) a.stands
-          ∙ (n.stands x
-          ∙ (ap (standing_by_law h x) (sym last)
-          ∙ sym (ap (standing_by_law h new_standing) (entries-append es (e ∷ []) new_line)
-          ∙ fold-append (law_noted h) new_standing (entries new_line es) (entries (after_link_events new_line es) (e ∷ []))))));
+      stands = from new_standing;
+      stands_from = from;
     }
 
 -- these entries tell nothing of a link
@@ -71,11 +74,14 @@ pub record LeaveLink (h : ℕ) (u : List Entry) : Type 0 where
 
 pub told_same : (h : ℕ) (l : Link) (t u : List Entry) → LeaveLink h u → IsLinkTold h l t → IsLinkTold h l (t ++ u)
 told_same h l t u q a =
+    let from : (x : Standing) → standing h x (t ++ u) ≡ standing_by_law h x (entries new_line a.events) =
+    λ x. fold-append (stands_noted h) x t u ∙ (q.stands (standing h x t) ∙ a.stands_from x) in
     record {
       events = a.events;
       run = a.run;
       told = of-append h t u ∙ (ap (λ z. of_link h t ++ z) q.none ∙ (append-nil (of_link h t) ∙ a.told));
-      stands = fold-append (stands_noted h) new_standing t u ∙ (q.stands (standing h new_standing t) ∙ a.stands);
+      stands = from new_standing;
+      stands_from = from;
     }
 
 -- ## Ends whose nodes lose power

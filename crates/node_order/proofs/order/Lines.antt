@@ -165,7 +165,7 @@ new_each content (k ∷ hosts) h s q = go (k == h) refl (new_each content hosts 
         let one : new_site content k ≡ s = cc in
         let P : Site → Type 0 = λ z. Knows [] new_watch None h z in
         subst P one (record {
-          told = record { events = []; run = record { allowed = tt; is = refl }; told = refl; stands = refl };
+          told = record { events = []; run = record { allowed = tt; is = refl }; told = refl; stands = refl; stands_from = λ x. refl };
           shown = record { wires = record { to_controller = refl; to_host = refl }; since = λ z. absurd (true≢false (sym z)) };
           near = refl;
           far = refl;

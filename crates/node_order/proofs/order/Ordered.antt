@@ -19,11 +19,11 @@ use Rattle.node_order.proofs.order.Lines.{IsSo, all_so_behind}
 use Rattle.node_order.proofs.order.Prefix.{at_moment, at_none, told_chains, no_faults}
 
 -- a link of the world, or none with this number
-data Whether (w : NodeWorld) (h : ℕ) : Type 0 where
+pub data Whether (w : NodeWorld) (h : ℕ) : Type 0 where
   Stands : (s : Site) → site_at w.sites h ≡ Some s → Whether w h
   IsNone : IsStrange h (hosts_in w.sites) → Whether w h
 
-whether : (w : NodeWorld) (h : ℕ) → Whether w h
+pub whether : (w : NodeWorld) (h : ℕ) → Whether w h
 whether w h = go (site_at w.sites h) refl
   where
     none : (sites : List Site) → site_at sites h ≡ None → IsStrange h (hosts_in sites)

@@ -66,12 +66,12 @@ module _ (h : ℕ) (l : Link) (t : List Entry) (a : IsLinkTold h l t) where
       subst P a.run.is (one_number new_line IsLine a.events a.run.allowed)
 
   -- both ends have this of the session that goes on
-  near_now : l.controller.side.shdlc.phase ≡ Up → IsReadOff t (end_c h) (number_of l.controller) (talk_now l.controller.side)
+  pub near_now : l.controller.side.shdlc.phase ≡ Up → IsReadOff t (end_c h) (number_of l.controller) (talk_now l.controller.side)
   near_now up =
       let P : Talk
       → Type 0 = λ k. IsReadOff t (end_c h) (number_of l.controller) k in subst P (talk_up l.controller up) (read_controller (number_of l.controller))
 
-  far_now : l.controller.side.shdlc.phase ≡ Up → l.host.side.shdlc.phase ≡ Up → IsReadOff t (end_h h) (number_of l.controller) (talk_now l.host.side)
+  pub far_now : l.controller.side.shdlc.phase ≡ Up → l.host.side.shdlc.phase ≡ Up → IsReadOff t (end_h h) (number_of l.controller) (talk_now l.host.side)
   far_now near up =
       let P : Talk → Type 0 = λ k. IsReadOff t (end_h h) (number_of l.host) k in
       let Q : ℕ → Type 0 = λ n. IsReadOff t (end_h h) n (talk_now l.host.side) in
@@ -79,10 +79,10 @@ module _ (h : ℕ) (l : Link) (t : List Entry) (a : IsLinkTold h l t) where
 
   module _ (host : (h == 0) ≡ false) where
     -- what is read of both ends says that they are up, and the number
-    up_near : (n : ℕ) → AreUpWith t h n → (l.controller.side.shdlc.phase ≡ Up) × (number_of l.controller ≡ n)
+    pub up_near : (n : ℕ) → AreUpWith t h n → (l.controller.side.shdlc.phase ≡ Up) × (number_of l.controller ≡ n)
     up_near n u = session_up l.controller n (sym (are_read h l t host a).controller ∙ u.controller)
 
-    up_far : (n : ℕ) → AreUpWith t h n → l.host.side.shdlc.phase ≡ Up
+    pub up_far : (n : ℕ) → AreUpWith t h n → l.host.side.shdlc.phase ≡ Up
     up_far n u = (session_up l.host n (sym (are_read h l t host a).host ∙ u.host)).0
 
     quiet : (n : ℕ) (m : Losses) → AreUpWith t h n → IsUntroubled l m → IsQuiet l m

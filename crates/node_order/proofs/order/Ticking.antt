@@ -122,7 +122,7 @@ near_sends w h (Some r) clean a =
     turns_fine (near_tick w r) h
     (steps_fine TimePasses (work_of r w.memory.plan near_ends []) (ports_fine near_ends (λ j. near_clean w.sites j clean) r.desks a))
 
-far_sends : (x : Site) (o : Option Running) → Clean x.link.host.side → IsFineNode o → AreSendableTurns (host_turns x o)
+pub far_sends : (x : Site) (o : Option Running) → Clean x.link.host.side → IsFineNode o → AreSendableTurns (host_turns x o)
 far_sends x None clean a = tt
 far_sends x (Some n) clean a =
     turns_fine (host_tick x n) x.host

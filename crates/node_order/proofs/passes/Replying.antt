@@ -1,6 +1,5 @@
 -- What deeds note where each message that they send is taken.
 use Rattle.std.proofs.Common.{◌≡◌, ℕ, ◌==◌, Bool, true, false, cond, List, [], ◌∷◌, ◌++◌, Option, Some, None, map, refl, ap, sym, subst, ◌∙◌, append_assoc}
-use Rattle.std.specs.Prelude.{◌+◌}
 use Rattle.std.specs.Option.{option_map_or, option_and_then}
 use Rattle.std.proofs.lemmas.Bool.{eqb-true}
 use Rattle.trace_model.specs.declared.entry.Entry.{Entry}
@@ -13,7 +12,7 @@ use Rattle.hci_tables.specs.Bodies.{body_of}
 use Rattle.journal_laws.specs.Writes.{Write}
 use Rattle.hci_store.specs.Committing.{commit_writes}
 use Rattle.link_laws.specs.sessions.Sessions.{is_up}
-use Rattle.link_machine.specs.Machine.{Message, LinkEnd, Refused, Turn, turn, unless, give_refusal}
+use Rattle.link_machine.specs.Machine.{Message, LinkEnd, Refused, Turn, unless, give_refusal}
 use Rattle.link_machine.specs.Machine.Turn.{Give, SetAside, Release}
 use Rattle.node_machine.specs.Parts.{About, Desk, Core, Port, Work, Deed}
 use Rattle.node_machine.specs.Parts.About.{Waits, Removed}

@@ -51,7 +51,7 @@ all_near (p ∷ ports) = (refl, all_near ports)
 far_end : (h : ℕ) → (h == 0) ≡ false → IsEndOf h h
 far_end h other = rw other refl
 
-near_runs : (r : Running) (plan : Option Plan) (near_ends : ℕ → NumberedEnd) (es : List Entry) → r.core.node ≡ 0 → AreOwn 0 es → AreUncut es
+pub near_runs : (r : Running) (plan : Option Plan) (near_ends : ℕ → NumberedEnd) (es : List Entry) → r.core.node ≡ 0 → AreOwn 0 es → AreUncut es
     → Runs 0 (work_of r plan near_ends es)
 near_runs r plan near_ends es number own uncut = record {
   on = refl;
@@ -67,7 +67,7 @@ one_end h [] other e = absurd (cc e)
 one_end h (p ∷ []) other e = let is : p.desk.host ≡ h = cc in (subst (IsEndOf h) (sym is) (far_end h other), tt)
 one_end h (p ∷ q ∷ ports) other e = let none : q.desk.host ∷ hosts_of_ends ports ≡ [] = cc in absurd (cc none)
 
-far_runs : (h : ℕ) (r : Running) (plan : Option Plan) (near_ends : ℕ → NumberedEnd) (es : List Entry) → (h == 0) ≡ false → HasEnds h (h ∷ []) r
+pub far_runs : (h : ℕ) (r : Running) (plan : Option Plan) (near_ends : ℕ → NumberedEnd) (es : List Entry) → (h == 0) ≡ false → HasEnds h (h ∷ []) r
     → AreOwn h es → AreUncut es → Runs h (work_of r plan near_ends es)
 far_runs h r plan near_ends es other has own uncut = record {
   on = refl;
@@ -100,7 +100,7 @@ far_part : (h : ℕ) (v : Work) (l : Link) → Fine h v → IsPart h (v.entries 
 far_part h v l fine =
     work_part h v (frames_noted Host h l v) fine (frames_none Host h l v) (frames_own h Host h l v refl) (frames_uncut Host h l v)
 
-controller_part : (w : NodeWorld) (k : ℕ) (comes : Comes) (f : Work → Work) → ((v : Work) → Runs 0 v → Fine 0 (f v)) → IsOrderly w
+pub controller_part : (w : NodeWorld) (k : ℕ) (comes : Comes) (f : Work → Work) → ((v : Work) → Runs 0 v → Fine 0 (f v)) → IsOrderly w
     → IsPart 0 (controller_does w k comes f).1
 controller_part w k comes f does a =
     by_controller (λ p. IsPart 0 p.1) w k comes f (nothing_part 0)
@@ -114,7 +114,7 @@ controller_part w k comes f does a =
     (does begun (near_runs r w.memory.plan near_ends es n.number
     (links_own 0 k Controller refl (arrival Controller l comes) (arrival_of_side Controller l comes)) (entries_uncut k (arrival Controller l comes)))))
 
-host_part : (w : NodeWorld) (h : ℕ) (comes : Comes) (f : Work → Work) → ((v : Work) → Runs h v → Fine h (f v)) → IsOrderly w
+pub host_part : (w : NodeWorld) (h : ℕ) (comes : Comes) (f : Work → Work) → ((v : Work) → Runs h v → Fine h (f v)) → IsOrderly w
     → IsPart h (host_does w h comes f).1
 host_part w h comes f does a =
     by_host (λ p. IsPart h p.1) w h comes f (nothing_part h)
@@ -133,17 +133,17 @@ host_part w h comes f does a =
     (far_runs h r s.memory.plan (λ j. near_end_in l comes) es off (subst P is node)
     (subst Q (sym is) (links_own h h Host refl (arrival Host l comes) (arrival_of_side Host l comes))) (entries_uncut s.host (arrival Host l comes)))))
 
-comes_part : (w : NodeWorld) (e : End) (comes : Comes) → IsOrderly w → IsPart (node_of e) (comes_at w e comes).1
+pub comes_part : (w : NodeWorld) (e : End) (comes : Comes) → IsOrderly w → IsPart (node_of e) (comes_at w e comes).1
 comes_part w e comes a =
     by_coming (λ p. IsPart (node_of e) p.1) w e comes (nothing_part (node_of e))
     (λ i q seen. rw q (host_part w e.link comes (steps (AtEnd e.link i)) (λ v r. steps_fine e.link (AtEnd e.link i) v r) a))
     (λ i q seen. rw q (controller_part w e.link comes (steps (AtEnd e.link i)) (λ v r. steps_fine 0 (AtEnd e.link i) v r) a))
 
-begins_part : (w : NodeWorld) (h : ℕ) (deeds : List Deed) → AllByRecursion (IsMine h h) deeds → IsOrderly w
+pub begins_part : (w : NodeWorld) (h : ℕ) (deeds : List Deed) → AllByRecursion (IsMine h h) deeds → IsOrderly w
     → IsPart h (host_does w h NoInput (begins_with h deeds)).1
 begins_part w h deeds mine a = host_part w h NoInput (begins_with h deeds) (λ v r. deeds_fine h h deeds v mine r) a
 
-sending_mine : (h : ℕ) (m : Message) → AllByRecursion (IsMine h h) (sending h m)
+pub sending_mine : (h : ℕ) (m : Message) → AllByRecursion (IsMine h h) (sending h m)
 sending_mine h m = go (m.0 == 1 && is_command_message m.1)
   where
     go : (b : Bool) → AllByRecursion (IsMine h h) (cond b (Orders m.1 ∷ []) (Sends h m ∷ []))
@@ -152,7 +152,7 @@ sending_mine h m = go (m.0 == 1 && is_command_message m.1)
 
 -- ## Ticks
 
-near_ticks_part : (w : NodeWorld) → IsOrderly w → IsPart 0 (controller_ticks w).1
+pub near_ticks_part : (w : NodeWorld) → IsOrderly w → IsPart 0 (controller_ticks w).1
 near_ticks_part w a =
     by_controller_tick (λ p. IsPart 0 p.1) w (λ q. nothing_part 0)
     (λ r q.
@@ -161,7 +161,7 @@ near_ticks_part w a =
     near_part (near_tick w r) (λ s. s.link) w.sites
     (steps_fine 0 TimePasses (work_of r w.memory.plan near_ends []) (near_runs r w.memory.plan near_ends [] n.number tt tt)))
 
-far_tick : (s : Site) → (s.host == 0) ≡ false → IfItRuns s.host (s.host ∷ []) s.node → IsPart s.host (host_ticks s).1
+pub far_tick : (s : Site) → (s.host == 0) ≡ false → IfItRuns s.host (s.host ∷ []) s.node → IsPart s.host (host_ticks s).1
 far_tick s other runs =
     by_host_tick (λ p. IsPart s.host p.1) s (λ q. nothing_part s.host)
     (λ r q.
@@ -170,16 +170,16 @@ far_tick s other runs =
     (steps_fine s.host TimePasses (work_of r s.memory.plan (λ h. s.link.host) [])
     (far_runs s.host r s.memory.plan (λ h. s.link.host) [] other n tt tt)))
 
-abbrev AreNodes : List Site → Type 0
+abbrev pub AreNodes : List Site → Type 0
 AreNodes sites = AllByRecursion (λ (s : Site). ((s.host == 0) ≡ false) × IfItRuns s.host (s.host ∷ []) s.node) sites
 
-both_nodes : (sites : List Site) → AllByRecursion (λ (s : Site). (s.host == 0) ≡ false) sites
+pub both_nodes : (sites : List Site) → AllByRecursion (λ (s : Site). (s.host == 0) ≡ false) sites
     → AllByRecursion (λ (s : Site). IfItRuns s.host (s.host ∷ []) s.node) sites → AreNodes sites
 both_nodes [] a b = tt
 both_nodes (s ∷ sites) a b = ((a.0, b.0), both_nodes sites a.1 b.1)
 
 -- hosts with other numbers note nothing of a node
-others_tick : (n : ℕ) (sites : List Site) → AllByRecursion (λ h. (h == n) ≡ false) (hosts_in sites) → AreNodes sites → AreNotOf n (hosts_tick sites).1
+pub others_tick : (n : ℕ) (sites : List Site) → AllByRecursion (λ h. (h == n) ≡ false) (hosts_in sites) → AreNodes sites → AreNotOf n (hosts_tick sites).1
 others_tick n [] off a = tt
 others_tick n (s ∷ sites) off a =
     all_append _ (host_ticks s).1 (hosts_tick sites).1
@@ -191,7 +191,7 @@ hosts_over [] d a = tt
 hosts_over (s ∷ sites) d a =
     over_part s.host (host_ticks s).1 (hosts_tick sites).1 (far_tick s a.0.0 a.0.1) (others_tick s.host sites d.0 a.1) (hosts_over sites d.1 a.1)
 
-none_zero : (sites : List Site) → AllByRecursion (λ (s : Site). (s.host == 0) ≡ false) sites → AllByRecursion (λ h. (h == 0) ≡ false) (hosts_in sites)
+pub none_zero : (sites : List Site) → AllByRecursion (λ (s : Site). (s.host == 0) ≡ false) sites → AllByRecursion (λ h. (h == 0) ≡ false) (hosts_in sites)
 none_zero [] a = tt
 none_zero (s ∷ sites) a = (a.0, none_zero sites a.1)
 
@@ -240,7 +240,7 @@ lost_over w e why =
     notes es = uncut_over (entries_for e.link es) (entries_uncut e.link es)
 
 -- no host has the number of the controller
-no_site : (sites : List Site) (h : ℕ) → (h == 0) ≡ true → AllByRecursion (λ (s : Site). (s.host == 0) ≡ false) sites → site_at sites h ≡ None
+pub no_site : (sites : List Site) (h : ℕ) → (h == 0) ≡ true → AllByRecursion (λ (s : Site). (s.host == 0) ≡ false) sites → site_at sites h ≡ None
 no_site [] h zero a = refl
 no_site (s ∷ sites) h zero a = go (s.host == h) refl (no_site sites h zero a.1)
   where

@@ -17,7 +17,6 @@ use Rattle.link_entries.specs.entries.Entries.{puts_entries, ending_entries}
 use Rattle.link_entries.specs.entries.Entries.Entry.{Up, Down, Active, GaveUp, Acked, Got, Sent, Emit, Took, Lost, Tick, Restarted, Cut}
 use Rattle.history.specs.Steps.{end_of, entry_of, entries_for}
 use Rattle.node_machine.specs.world.World.{node_of, arrival}
-use Rattle.node_laws.proofs.telling.Powers.{entry_uncut}
 use Rattle.node_order.proofs.power.Parts.{IsOwn, AreOwn}
 
 -- ## No power

@@ -43,7 +43,7 @@ taken_none true _ e = absurd (cc e)
 host_end : (w : NodeWorld) (e : End) → IsTrue e.at_host → machine_in w e ≡ (link_to w.sites e.link).host.side
 host_end w e side = rw side refl
 
-is_taken : (w : NodeWorld) (e : End) (m : Message) → IsTrue e.at_host → first_cause (if_off w (node_of e)) (if_not_sent w e m) ≡ None
+pub is_taken : (w : NodeWorld) (e : End) (m : Message) → IsTrue e.at_host → first_cause (if_off w (node_of e)) (if_not_sent w e m) ≡ None
     → give_refusal (link_to w.sites e.link).host.side m ≡ None
 is_taken w e m side none =
     ap (λ k. give_refusal k m) (sym (host_end w e side))

@@ -121,7 +121,8 @@ module _ (h : ℕ) (host : IsHost h) (before : List Entry) (now : LinkState) whe
         its = record { host = r.its.host; no_notice = r.its.no_notice; up = λ some. absurd (true≢false (sym some)) };
         phase = r.phase;
         short = r.short;
-        order = Rattle.node_order.proofs.readings.Doing.read_more h host before now w (entry.Turn (end_of_node w.core h) m.0 m.1 ∷ []) w.core.command None r.order
+        order = Rattle.node_order.proofs.readings.Doing.read_more h host before now w (entry.Turn (end_of_node w.core h) m.0 m.1 ∷ [])
+            w.core.command None r.order
             (turn_read w m r w.core.command ∙ ap (λ b. cond b None w.core.command) is);
       } in
       desk_runs h host before now h (λ d. record d { holds = false }) (turn_at h FetchMessage v) (λ d. refl) (λ d. refl)

@@ -62,7 +62,7 @@ notes_still e h (Restarted who ∷ notes) a = notes_still e h notes a.1
 notes_still e h (Cut who ∷ notes) a = notes_still e h notes a.1
 
 -- messages that came wait behind the others
-gots_go : (e : End) (h : ℕ) (who : Side) (n : ℕ) (ms q : List Message) → same_end (end_of h who) e ≡ true
+pub gots_go : (e : End) (h : ℕ) (who : Side) (n : ℕ) (ms q : List Message) → same_end (end_of h who) e ≡ true
     → Goes e q (entries_for h (map (Got who n) ms)) (q ++ ms)
 gots_go e h who n [] q on = sym (append-nil q)
 gots_go e h who n (m ∷ ms) q on =
@@ -74,7 +74,7 @@ gots_go e h who n (m ∷ ms) q on =
       ),
     )
 
-gots_still : (e : End) (h : ℕ) (who : Side) (n : ℕ) (ms : List Message) → same_end (end_of h who) e ≡ false
+pub gots_still : (e : End) (h : ℕ) (who : Side) (n : ℕ) (ms : List Message) → same_end (end_of h who) e ≡ false
     → AreStill e (entries_for h (map (Got who n) ms))
 gots_still e h who n [] off = tt
 gots_still e h who n (m ∷ ms) off = (rw off refl, gots_still e h who n ms off)
@@ -96,7 +96,7 @@ pub tries_none : (who : Side) (o : Option ℕ) → AreNoGots (map (GaveUp who) (
 tries_none who None = tt
 tries_none who (Some n) = (tt, tt)
 
-told_goes : (e : End) (h : ℕ) (who : Side) (n acked : ℕ) (r : Report) (q s : List Message) → Goes e q (entries_for h (map (Got who n) r.got)) s
+pub told_goes : (e : End) (h : ℕ) (who : Side) (n acked : ℕ) (r : Report) (q s : List Message) → Goes e q (entries_for h (map (Got who n) r.got)) s
     → Goes e q (entries_for h (told who n r acked)) s
 told_goes e h who n acked r q s g =
     let five : List Noted = if_so (nat_lt 0 r.acked) (Acked who n acked) ++ map (Got who n) r.got in

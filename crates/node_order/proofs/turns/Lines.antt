@@ -58,7 +58,7 @@ are_new : (content : List ℕ) (hosts : List ℕ) → AllByRecursion IsNew (map 
 are_new content [] = tt
 are_new content (h ∷ hosts) = (record { off = refl; near = refl; far = refl }, are_new content hosts)
 
-none_wait : (hosts : List ℕ) (b : Bool) (h : ℕ) → Waits (new_world hosts) b h []
+pub none_wait : (hosts : List ℕ) (b : Bool) (h : ℕ) → Waits (new_world hosts) b h []
 none_wait hosts true h = go (site_at (new_world hosts).sites h) refl
   where
     go : (o : Option Site) → site_at (new_world hosts).sites h ≡ o → FarWaits [] o

@@ -8,7 +8,6 @@ use Rattle.node_machine.specs.world.Lines.{Occurrence}
 use Rattle.node_machine.specs.world.NodeHistories.{NodeHistory, entries_in, node_entries, occurrences_in}
 use Rattle.node_machine.specs.world.NodeLegal.{Allowed, AreInTurn}
 use Rattle.node_laws.specs.cuts.Histories.{KeptExactly}
-use Rattle.node_order.specs.links.Runs.{IsRunOf, new_line}
 use Rattle.node_laws.specs.telling.Telling.{world_behind}
 use Rattle.node_order.specs.order.Told.{HasDeliveredAll, HasSettled}
 use Rattle.node_order.specs.order.Resets.{ResetNodes}

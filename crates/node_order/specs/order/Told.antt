@@ -20,15 +20,17 @@ use Rattle.node_machine.specs.world.NodeHistories.{entries_in}
 use Rattle.node_machine.specs.world.NodeFilters.{session_now}
 use Rattle.node_order.specs.links.Runs.{IsRunOf, new_line}
 use Rattle.node_laws.specs.telling.Telling.{of_link}
-use Rattle.node_laws.specs.telling.Standing.{new_standing, standing, standing_behind, standing_by_law}
+use Rattle.node_laws.specs.telling.Standing.{Standing, new_standing, standing, standing_behind, standing_by_law}
 
 -- Some events of the law of one link, each of which may happen, make the link with this host of a new one, what these entries tell
--- of it is what that law notes of them, and so they tell how it stands, with all cuts of the power of its nodes.
+-- of it is what that law notes of them, and so they tell how it stands, with all cuts of the power of its nodes: from the beginning on, and
+-- in the same way from any other standing on, so that the law notes no cut where these entries tell of none.
 pub record IsLinkTold (h : ℕ) (l : Link) (t : List Entry) : Type 0 where
   pub events : List LinkEvent
   pub run : IsRunOf events l
   pub told : of_link h t ≡ of_link h (entries_for h (entries new_line events))
   pub stands : standing h new_standing t ≡ standing_by_law h new_standing (entries new_line events)
+  pub stands_from : (x : Standing) → standing h x t ≡ standing_by_law h x (entries new_line events)
 
 -- The session of each end of the link with this host is the one that is read off these entries: the number of it where the end is up,
 -- and none where it isn't, as while its node doesn't run.

@@ -8,7 +8,7 @@ use Rattle.swp_act.specs.declared.ActEvent.{ActEvent}
 use Rattle.swp_act.specs.declared.ActEvent.TheVariants.{Start as ActStart, Take as ActTake, Tick as ActTick, Stop as ActStop}
 use Rattle.shdlc_core.specs.declared.answers.LinkState.{LinkState}
 use Rattle.shdlc_core.specs.declared.answers.LinkState.TheVariants.{Down, Waiting, Up}
-use Rattle.shdlc_core.specs.Machine.{EndState, taken, take_answer, ticked, tick_answer, stopped}
+use Rattle.shdlc_core.specs.Machine.{taken, take_answer, ticked, tick_answer, stopped}
 use Rattle.link_machine.specs.Machine.{LinkEnd, LinkInput, Refused, is_faulty, is_open, act_answer, role_after, with_act, moved, put_down, activated, heard}
 use Rattle.link_machine.specs.Machine.{had_tick, took, reset_refusal, after_input}
 use Rattle.link_machine.specs.Machine.LinkInput.{Take, TakeUnknown, TakeBroken, Tick, Reset, Start, Stop, FromNode, Fetch}

@@ -12,7 +12,7 @@ use Rattle.node_machine.specs.world.NodeFilters.{notice_in, asking_in}
 use Rattle.node_laws.specs.kept.Hosts.{AreHosts}
 use Rattle.node_laws.specs.telling.Telling.{MayBoot}
 use Rattle.node_laws.proofs.telling.Lasting.{AnyLine, boots_may, all_lines, lines_last}
-use Rattle.node_readings.specs.notices.Notices.{IsKeptNotice, notice_of, NoticesAreRead}
+use Rattle.node_readings.specs.notices.Notices.{IsKeptNotice, notice_of_running, NoticesAreRead}
 use Rattle.node_readings.proofs.notices.Events.{event_read, begins_read}
 use Rattle.node_readings.specs.notices.Worlds.{IfReads, KeepsNotices}
 
@@ -21,7 +21,7 @@ use Rattle.node_readings.specs.notices.Worlds.{IfReads, KeepsNotices}
 -- the notices of a controller are those that are read
 pub notices_of : (t : List Entry) (w : NodeWorld) → KeepsNotices t w → NoticesAreRead t w
 notices_of t w a = go w.controller a.controller where
-  go : (o : Option Running) → IfReads t o → (h : ℕ) → IsKeptNotice (notice_in t h) (notice_of o h)
+  go : (o : Option Running) → IfReads t o → (h : ℕ) → IsKeptNotice (notice_in t h) (notice_of_running o h)
   go None none h = subst (λ m. IsKeptNotice m None) (sym (none h).0) tt
   go (Some r) some h = some.kept h
 

@@ -23,7 +23,7 @@ use Rattle.node_order.proofs.links.Staying.{stays_up}
 use Rattle.node_order.specs.readings.Orders.{IsFresh}
 use Rattle.node_order.specs.readings.Worlds.{init_of}
 use Rattle.node_order.proofs.readings.Silent.{host_side}
-use Rattle.node_readings.specs.views.Inits.{init_kept, KeepsInit}
+use Rattle.node_readings.specs.views.Inits.{init_of_running, KeepsInit}
 use Rattle.node_laws.proofs.steps.Walks.{all_synced_hold}
 use Rattle.node_readings.proofs.views.Answering.{reads_init, init_append, IsNeutral, AreNeutral, MayGo, neutral_stays}
 use Rattle.node_readings.proofs.views.Going.{Base, Stands, then, all_go, passes_stand, told_init}
@@ -168,10 +168,10 @@ module _ (h : ℕ) (host : IsHost h) (i0 : Option Init) where
 
   -- ## What a host keeps
 
-  kept_on : (w : Work) → w.cut ≡ false → init_kept (runs_on w) ≡ w.core.init
+  kept_on : (w : Work) → w.cut ≡ false → init_of_running (runs_on w) ≡ w.core.init
   kept_on w e = rw e refl
 
-  kept_off : (w : Work) → w.cut ≡ true → init_kept (runs_on w) ≡ None
+  kept_off : (w : Work) → w.cut ≡ true → init_of_running (runs_on w) ≡ None
   kept_off w e = rw e refl
 
   pub keeps_stand : (w : Work) → w.cut ≡ false → (k : KeepsInit h i0 w) → Stands h host i0 k.port.side.shdlc.phase w
@@ -191,7 +191,7 @@ module _ (h : ℕ) (host : IsHost h) (i0 : Option Init) where
     waits = λ e some. (((s.on e).1 some).0, s.base.phase ∙ ((s.on e).1 some).1);
     read = by (cases_Bool w.cut);
   } where
-    by : (w.cut ≡ true) ⊎ (w.cut ≡ false) → reads_init h w.entries i0 ≡ init_kept (runs_on w)
+    by : (w.cut ≡ true) ⊎ (w.cut ≡ false) → reads_init h w.entries i0 ≡ init_of_running (runs_on w)
     by (inl e) = s.off e ∙ sym (kept_off w e)
     by (inr e) = (s.on e).0 ∙ sym (kept_on w e)
 

@@ -29,7 +29,7 @@ use Rattle.node_machine.specs.world.World.{frames_noted, host_work}
 use Rattle.node_machine.specs.world.World.{after_host, host_cut, host_ticks, sending, beginning}
 use Rattle.node_order.specs.readings.Worlds.{host_does_so, init_of}
 use Rattle.node_order.proofs.readings.Sites.{ending_quiet, arrival_quiet, sent_phase, stepped_phase, comes_outside, near_end_side}
-use Rattle.node_readings.specs.views.Inits.{init_kept, RunsInit, IfRunsInit, SiteKeepsInit}
+use Rattle.node_readings.specs.views.Inits.{init_of_running, RunsInit, IfRunsInit, SiteKeepsInit}
 use Rattle.node_readings.proofs.views.Answering.{reads_init, init_append, MayGo}
 use Rattle.node_readings.proofs.views.Going.{Base, Stands, all_go, quiet_init}
 use Rattle.node_readings.proofs.views.Beginning.{steps_stand}
@@ -62,11 +62,11 @@ done_keeps s host i now k l link memory phase st = by (cases_Bool k.cut) where
 
   by : (k.cut ≡ true) ⊎ (k.cut ≡ false) → SiteKeepsInit (reads_init s.host (k.entries ++ frames_noted Host s.host l k) i) v
   by (inl e) = record {
-    read = read ∙ (st.off e ∙ sym (ap init_kept (off_is e)));
+    read = read ∙ (st.off e ∙ sym (ap init_of_running (off_is e)));
     runs = subst (IfRunsInit s.host link) (sym (off_is e)) tt;
   }
   by (inr e) = record {
-    read = read ∙ ((st.on e).0 ∙ sym (ap init_kept (on_is e)));
+    read = read ∙ ((st.on e).0 ∙ sym (ap init_of_running (on_is e)));
     runs = subst (IfRunsInit s.host link) (sym (on_is e)) (record {
       number = st.base.number;
       desk = st.base.port.desk;
@@ -82,7 +82,7 @@ module _ (s : Site) (host : IsHost s.host) (i : Option Init) (r : Running) (node
   so = subst (IfRunsInit s.host s.link) node k.runs
 
   kept : i ≡ r.core.init
-  kept = k.read ∙ ap init_kept node
+  kept = k.read ∙ ap init_of_running node
 
   -- its step begins, over what is noted first
   base_of : (near_end : NumberedEnd) (es : List Entry) (b : Option Init)
@@ -220,7 +220,7 @@ cut_keeps s i = record { read = ap (λ b. cond b None i) (eq-eqb s.host s.host r
 pub boot_keeps : (s : Site) (i : Option Init) (m : Memory) (content : List ℕ) (n : ℕ) → SiteKeepsInit i s → s.node ≡ None
     → SiteKeepsInit (reads_init s.host (entry.Booted s.host n ∷ []) i) (record s { memory = m; node = Some (found s.host (s.host ∷ []) content) })
 boot_keeps s i m content n k off = record {
-  read = k.read ∙ ap init_kept off;
+  read = k.read ∙ ap init_of_running off;
   runs = record {
     number = refl;
     desk = new_desk s.host;

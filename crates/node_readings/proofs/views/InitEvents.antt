@@ -36,7 +36,7 @@ use Rattle.node_laws.proofs.telling.Frames.{wires_all}
 use Rattle.node_order.proofs.readings.Silent.{IsQuiet}
 use Rattle.node_order.proofs.readings.Sites.{lost_quiet}
 use Rattle.node_machine.proofs.world.Cases.{by_power, by_memory, by_running, boot_written, boot_found, by_boot}
-use Rattle.node_readings.specs.views.Inits.{init_begun, init_kept, IfRunsInit, LeavesInit, SiteKeepsInit}
+use Rattle.node_readings.specs.views.Inits.{init_begun, init_of_running, IfRunsInit, LeavesInit, SiteKeepsInit}
 use Rattle.node_order.proofs.readings.Noting.{all_flat}
 use Rattle.node_readings.proofs.views.Answering.{reads_init, init_append}
 use Rattle.node_readings.proofs.views.Elsewhere.{quiet_leaves, others_step}
@@ -57,7 +57,7 @@ tick_same s = by_node s.node refl where
 
 -- ## A frame that was refused leaves the init of a node
 
-counts_init : (why : Loss) (k : ℕ) (o : Option Running) → init_kept (counts why k o) ≡ init_kept o
+counts_init : (why : Loss) (k : ℕ) (o : Option Running) → init_of_running (counts why k o) ≡ init_of_running o
 counts_init (Broken fault) k None = refl
 counts_init (Broken fault) k (Some r) = refl
 counts_init OnDemand k o = refl

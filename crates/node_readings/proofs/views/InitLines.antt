@@ -23,7 +23,7 @@ use Rattle.node_laws.specs.kept.Hosts.{AreHosts}
 use Rattle.node_laws.specs.telling.Telling.{IsOrderly, world_behind}
 use Rattle.node_laws.proofs.telling.Orderly.{step_orderly, new_orderly}
 use Rattle.node_laws.proofs.telling.Lasting.{AllMay, repeated_may, damaged_may, stands_none, events_of_steps, behind_lines}
-use Rattle.node_readings.specs.views.Inits.{init_begun, init_behind, init_in, init_kept, IsBegunByHost}
+use Rattle.node_readings.specs.views.Inits.{init_begun, init_behind, init_in, init_of_running, IsBegunByHost}
 use Rattle.node_readings.proofs.views.Answering.{reads_init}
 use Rattle.node_laws.proofs.kept.Lines.{first_none, off_none}
 use Rattle.node_readings.proofs.views.Lines.{none_zero}
@@ -38,7 +38,7 @@ waiting_none true e = cc e
 waiting_none false e = cc e
 
 -- an end that takes a message is up
-taken_up : (waits : Bool) (e : LinkEnd) (m : Message) → if_waiting waits (give_refusal e m) ≡ None → e.shdlc.phase ≡ Up
+pub taken_up : (waits : Bool) (e : LinkEnd) (m : Message) → if_waiting waits (give_refusal e m) ≡ None → e.shdlc.phase ≡ Up
 taken_up waits e m none = by e.shdlc.phase refl where
   by : (p : LinkState) → e.shdlc.phase ≡ p → e.shdlc.phase ≡ Up
   by Up q = q
@@ -61,7 +61,7 @@ init_may w e side none =
       end_is : machine_in w e ≡ (link_to w.sites e.link).host.side
       end_is = rw side refl
 
-line_may : (w : NodeWorld) (l : Line) → IsBegunByHost l → refusal_in w l ≡ None → AllMay MayKeep w (happenings w l)
+pub line_may : (w : NodeWorld) (l : Line) → IsBegunByHost l → refusal_in w l ≡ None → AllMay MayKeep w (happenings w l)
 line_may w (line.Send e pid message) side none = (tt, tt)
 line_may w (line.Deliver e count) side none = repeated_may MayKeep (Takes e) (λ v. tt) (taken_of count (frames_at w e)) w
 line_may w (line.Lose e) side none = (tt, tt)
@@ -91,11 +91,11 @@ module _ (h : ℕ) (host : IsHost h) where
       (event_keeps h host w o.cause i orderly caused.1 keeps)) caused.2
 
   -- what is kept there is what runs
-  kept_is : (w : NodeWorld) (i : Option Init) → Keeps h host w i → i ≡ init_kept (node_at w h)
+  kept_is : (w : NodeWorld) (i : Option Init) → Keeps h host w i → i ≡ init_of_running (node_at w h)
   kept_is w i keeps = by (site_at w.sites h) refl where
-    by : (o : Option Site) → site_at w.sites h ≡ o → i ≡ init_kept (node_at w h)
-    by None z = let none : i ≡ None = subst (AtSite i) z keeps in none ∙ ap init_kept (sym (absent w h (zero h host) z))
-    by (Some s) z = (subst (AtSite i) z keeps).read ∙ ap init_kept (sym (present w h (zero h host) s z))
+    by : (o : Option Site) → site_at w.sites h ≡ o → i ≡ init_of_running (node_at w h)
+    by None z = let none : i ≡ None = subst (AtSite i) z keeps in none ∙ ap init_of_running (sym (absent w h (zero h host) z))
+    by (Some s) z = (subst (AtSite i) z keeps).read ∙ ap init_of_running (sym (present w h (zero h host) s z))
 
   -- none runs at the beginning
   new_keeps : (hosts : List ℕ) → Keeps h host (new_world hosts) None
@@ -106,7 +106,7 @@ module _ (h : ℕ) (host : IsHost h) where
 
   pub inits_read_events : (header : Header) (lines : List Line) (t : NodeHistory) → FollowsNodes header lines t → AreHosts header.hosts.items
       → AllByRecursion IsBegunByHost lines → (front back : List Occurrence) → occurrences_in t ≡ front ++ back
-      → init_in front h ≡ init_kept (node_at (world_behind (new_world header.hosts.items) front) h)
+      → init_in front h ≡ init_of_running (node_at (world_behind (new_world header.hosts.items) front) h)
   inits_read_events header lines t follows are sides front back parts =
       let hosts : List ℕ = header.hosts.items in
       let same : events_of_steps (steps_from (new_world hosts) lines) ≡ front ++ back = sym (ap events_of_steps follows.steps_are) ∙ parts in
@@ -115,10 +115,10 @@ module _ (h : ℕ) (host : IsHost h) where
       (subst (AreCaused MayKeep (new_world hosts)) same (lines_caused MayKeep IsBegunByHost line_may lines (new_world hosts) sides)))
 
   pub inits_read : (header : Header) (lines : List Line) (t : NodeHistory) → FollowsNodes header lines t → AreHosts header.hosts.items
-      → AllByRecursion IsBegunByHost lines → init_in (occurrences_in t) h ≡ init_kept (node_at (world_after (new_world header.hosts.items) lines) h)
+      → AllByRecursion IsBegunByHost lines → init_in (occurrences_in t) h ≡ init_of_running (node_at (world_after (new_world header.hosts.items) lines) h)
   inits_read header lines t follows are sides =
       let hosts : List ℕ = header.hosts.items in
       let behind : world_behind (new_world hosts) (occurrences_in t) ≡ world_after (new_world hosts) lines =
       ap (λ steps. world_behind (new_world hosts) (events_of_steps steps)) follows.steps_are ∙ behind_lines lines (new_world hosts) in
       inits_read_events header lines t follows are sides (occurrences_in t) [] (sym (append-nil (occurrences_in t)))
-      ∙ ap (λ w. init_kept (node_at w h)) behind
+      ∙ ap (λ w. init_of_running (node_at w h)) behind

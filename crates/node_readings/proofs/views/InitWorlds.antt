@@ -34,7 +34,7 @@ use Rattle.node_laws.proofs.telling.Nodes.{site_host}
 use Rattle.node_laws.proofs.telling.Events.{comes_goes}
 use Rattle.node_order.specs.readings.Worlds.{host_does_so, init_of}
 use Rattle.node_order.proofs.readings.Sites.{ending_quiet, arrival_quiet}
-use Rattle.node_readings.specs.views.Inits.{init_begun, init_kept, IfRunsInit, LeavesInit, SiteKeepsInit}
+use Rattle.node_readings.specs.views.Inits.{init_begun, init_of_running, IfRunsInit, LeavesInit, SiteKeepsInit}
 use Rattle.node_order.proofs.readings.Noting.{NotesSo, all_flat}
 use Rattle.node_readings.proofs.views.Answering.{reads_init, init_append}
 use Rattle.node_readings.proofs.views.Elsewhere.{quiet_leaves, others_step, others_begin}
@@ -51,7 +51,7 @@ leaves_all h (x ∷ es) i all = ap (reads_init h es) (all.0 i) ∙ leaves_all h 
 -- a host that stays as it is keeps its init
 pub keep_same : (i : Option Init) (s v : Site) → v.host ≡ s.host → v.node ≡ s.node → v.link.host.side ≡ s.link.host.side → SiteKeepsInit i s → SiteKeepsInit i v
 keep_same i s v host node side k = record {
-  read = k.read ∙ ap init_kept (sym node);
+  read = k.read ∙ ap init_of_running (sym node);
   runs = subst (λ n. IfRunsInit n v.link v.node) (sym host) (subst (IfRunsInit s.host v.link) (sym node) (moved s.node k.runs));
 } where
   moved : (o : Option Running) → IfRunsInit s.host s.link o → IfRunsInit s.host v.link o
@@ -132,7 +132,8 @@ module _ (h : ℕ) (host : IsHost h) where
     go : (o : Option Rattle.node_machine.specs.Parts.Port) → AllByRecursion (LeavesInit h) (Rattle.std.specs.Option.option_map_or (λ
         (p : Rattle.node_machine.specs.Parts.Port). entries_for k (Rattle.link_entries.specs.entries.Entries.ending_entries who l p.side (ending_of w))) o [])
     go None = tt
-    go (Some p) = quiet_leaves h k (Rattle.link_entries.specs.entries.Entries.ending_entries who l p.side (ending_of w)) (ending_quiet who l p.side (ending_of w))
+    go (Some p) = quiet_leaves h k (Rattle.link_entries.specs.entries.Entries.ending_entries who l p.side (ending_of w))
+        (ending_quiet who l p.side (ending_of w))
 
   arrival_leave : (who : Side) (k : ℕ) (l : Link) (comes : Comes) → AllByRecursion (LeavesInit h) (entries_for k (arrival who l comes))
   arrival_leave who k l comes = quiet_leaves h k (arrival who l comes) (arrival_quiet who l comes)

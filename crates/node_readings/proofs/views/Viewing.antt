@@ -23,7 +23,7 @@ use Rattle.node_machine.specs.world.World.{NodeWorld, Site, site_at, link_to, po
 use Rattle.node_machine.specs.world.NodeFilters.{asking_in, is_connected_in, notice_in, session_now, tables_in}
 use Rattle.node_laws.specs.telling.Telling.{HasEnds, hosts_in}
 use Rattle.node_order.specs.readings.Noticed.{ends_between}
-use Rattle.node_readings.specs.notices.Notices.{IsKeptNotice, NoticesAreRead, is_of_creation, notice_at, notice_of}
+use Rattle.node_readings.specs.notices.Notices.{IsKeptNotice, NoticesAreRead, is_of_creation, notice_at, notice_of_running}
 use Rattle.node_readings.proofs.notices.Knowing.{noticed_is, asked_is}
 use Rattle.node_readings.specs.views.Errors.{ErrorsAreRead, errors_in, errors_of}
 use Rattle.node_laws.specs.cuts.Histories.{is_one_of}
@@ -140,7 +140,7 @@ module _ (t : List Entry) (w : NodeWorld) (r : Running) (runs : w.controller ≡
   tested test h = ap (λ o. option_map_or test o false) (at_is h)
 
   kept : (h : ℕ) → IsKeptNotice (notice_in t h) (notice_at r.desks h)
-  kept h = subst (λ o. IsKeptNotice (notice_in t h) (notice_of o h)) runs (notices h)
+  kept h = subst (λ o. IsKeptNotice (notice_in t h) (notice_of_running o h)) runs (notices h)
 
   kept_at : (h : ℕ) (o : Option Desk) → desk_of h ≡ o → IsKeptNotice (notice_in t h) (option_and_then (λ (d : Desk). d.notice) o)
   kept_at h o q = subst (λ o. IsKeptNotice (notice_in t h) (option_and_then (λ (d : Desk). d.notice) o)) q (kept h)

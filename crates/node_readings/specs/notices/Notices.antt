@@ -38,13 +38,13 @@ abbrev pub notice_at : List Desk → ℕ → Option Notice
 notice_at desks h = option_and_then (λ (d : Desk). d.notice) (find (λ (d : Desk). d.host == h) desks)
 
 -- a controller has none while it doesn't run
-abbrev pub notice_of : Option Running → ℕ → Option Notice
-notice_of None h = None
-notice_of (Some r) h = notice_at r.desks h
+abbrev pub notice_of_running : Option Running → ℕ → Option Notice
+notice_of_running None h = None
+notice_of_running (Some r) h = notice_at r.desks h
 
 -- the unanswered notice to each host is the one that is read
 abbrev pub NoticesAreRead : List Entry → NodeWorld → Type 0
-NoticesAreRead t w = (h : ℕ) → IsKeptNotice (notice_in t h) (notice_of w.controller h)
+NoticesAreRead t w = (h : ℕ) → IsKeptNotice (notice_in t h) (notice_of_running w.controller h)
 
 -- this host has a notice that isn't answered
 abbrev pub has_notice : List Port → ℕ → Bool

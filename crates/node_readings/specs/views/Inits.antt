@@ -46,9 +46,9 @@ abbrev pub init_in : List Occurrence → ℕ → Option Init
 init_in events h = fold (init_behind h) None events
 
 -- as the host keeps it, while it runs
-abbrev pub init_kept : Option Running → Option Init
-init_kept None = None
-init_kept (Some r) = r.core.init
+abbrev pub init_of_running : Option Running → Option Init
+init_of_running None = None
+init_of_running (Some r) = r.core.init
 
 -- A host in a step, which began with this init: it has one end, the init that runs is what is read of it behind the entries of the step,
 -- and while one runs a command of it waits for its answer and the end is up.
@@ -59,7 +59,7 @@ pub record KeepsInit (h : ℕ) (begun : Option Init) (w : Work) : Type 0 where
   pub host : port.desk.host ≡ h
   pub no_notice : port.desk.notice ≡ None
   pub waits : w.cut ≡ false → is_some w.core.init ≡ true → (is_some w.core.command ≡ true) × (port.side.shdlc.phase ≡ Up)
-  pub read : fold (init_after h) begun w.entries ≡ init_kept (runs_on w)
+  pub read : fold (init_after h) begun w.entries ≡ init_of_running (runs_on w)
 
 -- ## Between events
 
@@ -79,7 +79,7 @@ IfRunsInit h link (Some r) = RunsInit h link r
 
 -- The init that runs at a host is this one, which is read: none while it doesn't run.
 pub record SiteKeepsInit (i : Option Init) (s : Site) : Type 0 where
-  pub read : i ≡ init_kept s.node
+  pub read : i ≡ init_of_running s.node
   pub runs : IfRunsInit s.host s.link s.node
 
 -- ## Histories

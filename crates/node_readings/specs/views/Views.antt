@@ -1,5 +1,5 @@
 -- The view that a controller has of its links as a command of a host comes, as it is read off entries.
-use Rattle.std.specs.Prelude.{◌≡◌, ℕ, ◌==◌, ◌&&◌, Bool, List, is_some}
+use Rattle.std.specs.Prelude.{◌≡◌, ℕ, ◌==◌, ◌&&◌, List, is_some}
 use Rattle.std.specs.List.{list_any}
 use Rattle.trace_model.specs.declared.entry.Entry.{Entry}
 use Rattle.gate_admin.specs.declared.view.LinkView.{LinkView}

@@ -6,7 +6,7 @@ use Rattle.std.proofs.lemmas.Bool.{cases_lt}
 use Rattle.std.proofs.lemmas.List.{map-append}
 use Rattle.link_laws.specs.sessions.Sessions.{OnWire, took_with}
 use Rattle.link_machine.specs.Machine.Turn.{FetchMessage}
-use Rattle.link_machine.specs.Machine.{LinkEnd, turned, after_input, ended_by, frames_out}
+use Rattle.link_machine.specs.Machine.{LinkEnd, Turn, turned, after_input, ended_by, frames_out}
 use Rattle.link_machine.specs.Machine.LinkInput.{Take}
 use Rattle.link_entries.specs.messages.Links.{Link, EndEvent, LinkEvent, IsStart, exchanged, with_ended, happens, happens_at_controller}
 use Rattle.link_entries.specs.messages.Links.{after_link_events, talk_now}
@@ -39,12 +39,13 @@ abbrev take_one : EndEvent
 take_one = Step NextFrame (FetchMessage ∷ []) GoesOut
 
 -- the first frame is gone from its wire
-wire_after : (l : Link) (x : OnWire) (xs : List OnWire) → (happens_at_controller (record l { to_controller = x ∷ xs }) take_one).to_controller ≡ xs
-wire_after l x xs =
+pub wire_after : (l : Link) (x : OnWire) (xs : List OnWire) (ts : List Turn)
+    → (happens_at_controller (record l { to_controller = x ∷ xs }) (Step NextFrame ts GoesOut)).to_controller ≡ xs
+wire_after l x xs ts =
     let full : Link = record l { to_controller = x ∷ xs } in
     let b : Bool = is_some (ended_by l.controller.side (Take x.frame)) in
     let k : Link = with_ended (record full { to_controller = xs }) b in
-    let e : LinkEnd = turned (after_input l.controller.side (Take x.frame)) (FetchMessage ∷ []) in
+    let e : LinkEnd = turned (after_input l.controller.side (Take x.frame)) ts in
     (beside-put_all (frames_out e) (record k { controller = record k.controller { took = took_with l.controller.took x } })).to_controller ∙ ended b
   where
     ended : (b : Bool) → (with_ended (record l { to_controller = xs }) b).to_controller ≡ xs
@@ -69,7 +70,7 @@ taken_near (suc k) l i = go l.to_controller i (taken_near k)
     go [] j later = absurd (omega (arith, j))
     go (x ∷ xs) j later =
         let m : Link = happens (record l { to_controller = x ∷ xs }) (AtController take_one) in
-        let less : length m.to_controller ≡ length xs = ap (length {A = OnWire}) (wire_after l x xs) in
+        let less : length m.to_controller ≡ length xs = ap (length {A = OnWire}) (wire_after l x xs (FetchMessage ∷ [])) in
         let t = later m (omega (arith, j, less)) in
         record {
           ordinary = (tt, t.ordinary);
@@ -89,7 +90,7 @@ taken_far (suc k) l i = go l.to_host i (taken_far k)
     go [] j later = absurd (omega (arith, j))
     go (x ∷ xs) j later =
         let m : Link = happens (record l { to_host = x ∷ xs }) (AtHost take_one) in
-        let less : length m.to_host ≡ length xs = ap (length {A = OnWire}) (wire_after (exchanged l) x xs) in
+        let less : length m.to_host ≡ length xs = ap (length {A = OnWire}) (wire_after (exchanged l) x xs (FetchMessage ∷ [])) in
         let t = later m (omega (arith, j, less)) in
         record {
           ordinary = (tt, t.ordinary);
@@ -105,7 +106,7 @@ map-replicate : (k : ℕ) (c : Cause) → map event_of (replicate k c) ≡ repli
 map-replicate zero c = refl
 map-replicate (suc k) c = ap (λ es. event_of c ∷ es) (map-replicate k c)
 
-allowed-append : (es fs : List LinkEvent) (l : Link) → AllAllowed l es → AllAllowed (after_link_events l es) fs → AllAllowed l (es ++ fs)
+pub allowed-append : (es fs : List LinkEvent) (l : Link) → AllAllowed l es → AllAllowed (after_link_events l es) fs → AllAllowed l (es ++ fs)
 allowed-append [] fs l a b = b
 allowed-append (e ∷ es) fs l a b = (a.0, allowed-append es fs (happens l e) a.1 b)
 

@@ -4,7 +4,7 @@ use Rattle.std.proofs.lemmas.Bool.{eqb-true, eq-eqb}
 use Rattle.trace_model.specs.declared.line.End.{End}
 use Rattle.link_machine.specs.Machine.{LinkInput}
 use Rattle.shdlc_core.specs.Machine.{is_waiting}
-use Rattle.link_entries.specs.messages.Links.{Link, LinkEvent, Node, exchanged, aged, ticks_at_controller, happens, after_link_events}
+use Rattle.link_entries.specs.messages.Links.{NumberedEnd, Link, LinkEvent, Node, exchanged, aged, ticks_at_controller, happens, after_link_events}
 use Rattle.link_entries.specs.messages.Links.Ending.{GoesOut}
 use Rattle.link_entries.specs.messages.Links.Comes.{NextFrame}
 use Rattle.link_entries.specs.messages.Links.EndEvent.{Step}
@@ -17,6 +17,7 @@ use Rattle.node_machine.specs.world.World.{Site, NodeWorld, site_at, link_to, in
 use Rattle.node_machine.specs.world.World.{comes_to, turns_at, ending_of, after_host, with_site, world_step, end_c, end_h}
 use Rattle.node_machine.specs.world.World.Happening.{Takes, Ticks}
 use Rattle.node_machine.specs.world.World.{all_aged, controller_ticks, host_ticks, hosts_tick, ticked_so, is_late_at, work_of}
+use Rattle.node_order.proofs.links.Worlds.{so_host}
 use Rattle.settled_worlds.specs.worlds.LinkEvents.{GoesOnLink, link_events_in, controller_takes, site_takes, takes_on, site_ticks, tick_so, controller_tick_on}
 use Rattle.settled_worlds.specs.worlds.LinkEvents.{ticks_on}
 
@@ -179,23 +180,23 @@ near_ticked l c = ticked_so l c.1 c.0.turns c.0.ending
 -- what the tick of the controller leaves of a host
 controller_ticked : (w : NodeWorld) (h : ℕ) (s : Site) → site_at w.sites h ≡ Some s
     → (later : Site) × (site_at (controller_ticks w).0.sites h ≡ Some later) × (later.host ≡ s.host)
-    × (later.link ≡ near_ticked s.link (controller_tick_on s.host w))
+    × (later.link ≡ near_ticked s.link (controller_tick_on s.host w)) × (later.node ≡ s.node)
 controller_ticked w h s q = go w.controller refl
   where
     go : (c : Option Running) → w.controller ≡ c
         → (later : Site) × (site_at (controller_ticks w).0.sites h ≡ Some later) × (later.host ≡ s.host)
-        × (later.link ≡ near_ticked s.link (controller_tick_on s.host w))
+        × (later.link ≡ near_ticked s.link (controller_tick_on s.host w)) × (later.node ≡ s.node)
     go None p =
         let F : Site → Site = λ x. record x { link = ticks_at_controller x.link [] GoesOut } in
         let m = site_map F (λ x. refl) w.sites h s q in
         let world : (controller_ticks w).0.sites ≡ map F w.sites = rw p refl in
-        (F s, ap (λ ss. site_at ss h) world ∙ m.0, refl, rw p refl)
+        (F s, ap (λ ss. site_at ss h) world ∙ m.0, refl, rw p refl, refl)
     go (Some r) p =
         let work : Work = steps TimePasses (work_of r w.memory.plan (λ k. (link_to w.sites k).controller) []) in
         let F : Site → Site = λ x. record x { link = ticked_so x.link (is_late_at work x.host) (turns_at work x.host) (ending_of work) } in
         let m = site_map F (λ x. refl) w.sites h s q in
         let world : (controller_ticks w).0.sites ≡ map F w.sites = rw p refl in
-        (F s, ap (λ ss. site_at ss h) world ∙ m.0, refl, rw p refl)
+        (F s, ap (λ ss. site_at ss h) world ∙ m.0, refl, rw p refl, refl)
 
 -- the link after both
 tick_is : (l : Link) (late : Bool) (c h : Node)
@@ -208,12 +209,14 @@ tick_is l late c h = go (late && not (is_waiting l.controller.side.shdlc)) refl
     go false q = rw q refl
 
 -- a tick of the world
-record Ticked (w v : NodeWorld) (h : ℕ) (s : Site) : Type 0 where
-  between : Site
-  near : site_at (controller_ticks (all_aged w).0).0.sites h ≡ Some between
-  goes : GoesOnLink v h s (ticks_on s w between)
+pub record Ticked (w v : NodeWorld) (h : ℕ) (s : Site) : Type 0 where
+  pub between : Site
+  pub near : site_at (controller_ticks (all_aged w).0).0.sites h ≡ Some between
+  pub node : between.node ≡ s.node
+  pub far : between.link.host.side ≡ s.link.host.side
+  pub goes : GoesOnLink v h s (ticks_on s w between)
 
-world_ticked : (w : NodeWorld) (h : ℕ) (s : Site) → site_at w.sites h ≡ Some s → Ticked w (world_step w Ticks).0 h s
+pub world_ticked : (w : NodeWorld) (h : ℕ) (s : Site) → site_at w.sites h ≡ Some s → Ticked w (world_step w Ticks).0 h s
 world_ticked w h s q =
     let G : Site → Site = λ x. record x { link = aged x.link } in
     let old : NodeWorld = (all_aged w).0 in
@@ -228,6 +231,8 @@ world_ticked w h s q =
     record {
       between = between;
       near = near.1;
+      node = near.4;
+      far = ap (λ (l : Link). l.host.side) near.3 ∙ ap (λ (e : NumberedEnd). e.side) (so_host (aged s.link) c.1 c.0.turns c.0.ending);
       goes = record {
         later = H between;
         is = ap (λ ss. site_at ss h) all ∙ far.0;

@@ -26,14 +26,14 @@ rests_so : (w : NodeWorld) (h : ℕ) (s : Site) → site_at w.sites h ≡ Some s
 rests_so w h s q = record { later = s; is = q; host = refl; link = refl }
 
 -- frames are taken, or time passes
-abbrev ArePassing : List Happening → Type 0
+abbrev pub ArePassing : List Happening → Type 0
 ArePassing [] = Unit {0}
 ArePassing (Takes e ∷ causes) = ArePassing causes
 ArePassing (Ticks ∷ causes) = ArePassing causes
 ArePassing (_ ∷ causes) = ⊥
 
 -- these happen, until one can't
-all_go : (causes : List Happening) (w : NodeWorld) (h : ℕ) (s : Site) → ArePassing causes → site_at w.sites h ≡ Some s
+pub all_go : (causes : List Happening) (w : NodeWorld) (h : ℕ) (s : Site) → ArePassing causes → site_at w.sites h ≡ Some s
     → GoesOnLink (all_happen w causes).0 h s (events_on h w causes)
 all_go [] w h s p q = rests_so w h s q
 all_go (Takes e ∷ causes) w h s p q = go (can_happen w (Takes e)) refl (takes_go w e h s q) (λ t r. all_go causes (world_step w (Takes e)).0 h t p r)
@@ -56,11 +56,11 @@ all_go (Ticks ∷ causes) w h s p q =
     go_then v (all_happen v causes).0 h s (link_events_in h w Ticks) (events_on h v causes) one (all_go causes v h one.later p one.is)
 all_go (_ ∷ causes) w h s p q = absurd p
 
-takes_pass : (k : ℕ) (e : End) → ArePassing (replicate k (Takes e))
+pub takes_pass : (k : ℕ) (e : End) → ArePassing (replicate k (Takes e))
 takes_pass zero e = tt
 takes_pass (suc k) e = takes_pass k e
 
-ends_go : (ends : List End) (w : NodeWorld) (h : ℕ) (s : Site) → site_at w.sites h ≡ Some s → GoesOnLink (ends_take_all w ends).0 h s (ends_events h w ends)
+pub ends_go : (ends : List End) (w : NodeWorld) (h : ℕ) (s : Site) → site_at w.sites h ≡ Some s → GoesOnLink (ends_take_all w ends).0 h s (ends_events h w ends)
 ends_go [] w h s q = rests_so w h s q
 ends_go (e ∷ ends) w h s q =
     let causes : List Happening = happenings w (line.Deliver e None) in
@@ -68,7 +68,7 @@ ends_go (e ∷ ends) w h s q =
     let one = all_go causes w h s (takes_pass (length (frames_at w e)) e) q in
     go_then v (ends_take_all v ends).0 h s (events_on h w causes) (ends_events h v ends) one (ends_go ends v h one.later one.is)
 
-round_goes : (w : NodeWorld) (h : ℕ) (s : Site) → site_at w.sites h ≡ Some s → GoesOnLink (world_after_round w) h s (round_events h w)
+pub round_goes : (w : NodeWorld) (h : ℕ) (s : Site) → site_at w.sites h ≡ Some s → GoesOnLink (world_after_round w) h s (round_events h w)
 round_goes w h s q =
     let v : NodeWorld = (ends_take_all w (ends_in_order w)).0 in
     let one = ends_go (ends_in_order w) w h s q in

@@ -1,15 +1,15 @@
 -- Each event of a round, and so each stretch of them, brings the places of both ends on their way.
-use Rattle.std.proofs.Common.{◌≡◌, ℕ, ◌<◌, true, false, ◌||◌, List, [], ◌∷◌, ◌⊎◌, inl, inr, Some, refl, ap, sym, ◌∙◌, arith, map}
+use Rattle.std.proofs.Common.{◌≡◌, ℕ, true, false, ◌||◌, List, [], ◌∷◌, Some, refl, ap, sym, ◌∙◌, arith, map}
 use Rattle.std.proofs.lemmas.Bool.{or_parts}
 use Rattle.shdlc_core.specs.declared.answers.LinkState.TheVariants.{Up}
 use Rattle.shdlc_core.specs.Machine.{EndState, ticked, tick_answer, frames_of}
 use Rattle.std.specs.Prelude.{is_some}
-use Rattle.link_laws.specs.places.Wire.{sans, loses_aged}
+use Rattle.link_laws.specs.places.Wire.{OnWire, aged_wire, sans, loses_aged}
 use Rattle.link_laws.specs.sessions.Sessions.{NumberedShdlc, ShdlcLink, shdlc_exchanged, shdlc_put_all, shdlc_turned, act_frame, with_shdlc_ended, ShdlcTurn}
 use Rattle.link_laws.specs.sessions.Sessions.{ShdlcEndEvent}
 use Rattle.link_laws.specs.sessions.Sessions.{IsShdlcAllowed, shdlc_happens_at_controller, shdlc_ticks_at_controller, shdlc_aged, AreTurns}
 use Rattle.link_laws.specs.sessions.Sessions.{shdlc_all_at_controller, shdlc_happens}
-use Rattle.link_laws.specs.sessions.Sessions.ShdlcEndEvent.{Turns, Deliver, Ignore, Acts, Lose, Reset, Cut, Stop}
+use Rattle.link_laws.specs.sessions.Sessions.ShdlcEndEvent.{Turns, Deliver, Acts, Lose}
 use Rattle.link_laws.specs.sessions.Sessions.ShdlcLinkEvent.{Tick}
 use Rattle.link_laws.specs.sessions.Losses.{Losses, noted_all, noted_here, noted_turns, noted_tick, noted_aged, noted_event}
 use Rattle.link_laws.proofs.sessions.Sending.{SafeLink}
@@ -18,39 +18,14 @@ use Rattle.link_laws.proofs.sessions.Ties.{turned-phase}
 use Rattle.settling_laws.specs.fragments.Rounds.{IsOrdinary, AreOrdinaryTurns, taken_here}
 use Rattle.settling_laws.proofs.fragments.Wires.{in_more, in_aged, behind_more, behind_aged}
 use Rattle.settling_laws.proofs.fragments.Sends.{sent_same, put_all_same, out_lost}
-use Rattle.settling_laws.proofs.fragments.Takes.{Answers, Brings, answers_no_act, brings_no_act}
-use Rattle.settling_laws.proofs.fragments.Advances.{prefix_of, IsIdle}
-use Rattle.settling_laws.proofs.fragments.Near.{Sound, Did, did_then, did_exchanged, sound_exchanged}
+use Rattle.settling_laws.proofs.fragments.Near.{Sound, Did, Leaves, did_then, did_exchanged, did_wires, leaves_same, sound_exchanged}
 use Rattle.settling_laws.proofs.fragments.NearSteps.{did_turns, did_acts, did_loses, did_delivers, did_ticks, ended_wires}
 
 -- ## All frames grow older
 
 did_aged : (n : Losses) (m : ShdlcLink) → (noted_aged n m).lost ≡ false → Did 0 0 0 0 m (shdlc_aged m)
 did_aged n m none =
-    record {
-      own = λ a. record {
-        acked = omega arith;
-        out = omega arith;
-        front = prefix_of refl;
-        rnr = λ j k i r. behind_aged k m.to_controller (behind_more j k m.to_controller (omega arith) r);
-        idle = λ i. still i;
-        answered = λ j k i low s. inl (in_aged (Answers a) (answers_no_act a) k m.to_controller here (in_more (Answers a) j k m.to_controller (omega arith) s));
-        sent = λ j k i low s. inl (in_aged (Brings a) (brings_no_act a) k m.to_host there (in_more (Brings a) j k m.to_host (omega arith) s));
-        waits = λ low more r idle. inl (record { timer = omega arith; below = λ i. absurd (omega (arith, i)) });
-      };
-      other = λ a. record {
-        acked = omega arith;
-        out = omega arith;
-        front = prefix_of refl;
-        rnr = λ j k i r. behind_aged k m.to_host (behind_more j k m.to_host (omega arith) r);
-        idle = λ i. far_still i;
-        answered = λ j k i low s. inl (in_aged (Answers a) (answers_no_act a) k m.to_host there (in_more (Answers a) j k m.to_host (omega arith) s));
-        sent = λ j k i low s. inl (in_aged (Brings a) (brings_no_act a) k m.to_controller here (in_more (Brings a) j k m.to_controller (omega arith) s));
-        waits = λ low more r idle. inl (record { timer = omega arith; below = λ i. absurd (omega (arith, i)) });
-      };
-      near_window = refl;
-      far_window = refl;
-    }
+    did_wires 0 0 m (aged_wire m.to_controller) (aged_wire m.to_host) (leaves_aged m.to_controller here) (leaves_aged m.to_host there)
   where
     there : loses_aged (sans m.to_host) ≡ false
     there = (or_parts (n.lost || loses_aged (sans m.to_controller)) (loses_aged (sans m.to_host)) none).1
@@ -58,49 +33,15 @@ did_aged n m none =
     here : loses_aged (sans m.to_controller) ≡ false
     here = (or_parts n.lost (loses_aged (sans m.to_controller)) (or_parts (n.lost || loses_aged (sans m.to_controller)) (loses_aged (sans m.to_host)) none).0).1
 
-    still : IsIdle m ⊎ (0 < 0) → IsIdle m
-    still (inl i) = i
-    still (inr i) = absurd (omega (arith, i))
-
-    far_still : IsIdle (shdlc_exchanged m) ⊎ (0 < 0) → IsIdle (shdlc_exchanged m)
-    far_still (inl i) = i
-    far_still (inr i) = absurd (omega (arith, i))
+    leaves_aged : (w : List OnWire) → loses_aged (sans w) ≡ false → Leaves 0 w (aged_wire w)
+    leaves_aged w kept = record {
+      rnr = λ j k i r. behind_aged k w (behind_more j k w (omega arith) r);
+      stands = λ P plain j k i s. in_aged P plain k w kept (in_more P j k w (omega arith) s);
+    }
 
 -- nothing happens
 pub did_nothing : (m : ShdlcLink) → Did 0 0 0 0 m m
-did_nothing m =
-    record {
-      own = λ a. record {
-        acked = omega arith;
-        out = omega arith;
-        front = prefix_of refl;
-        rnr = λ j k i r. behind_more j k m.to_controller (omega arith) r;
-        idle = λ i. still i;
-        answered = λ j k i low s. inl (in_more (Answers a) j k m.to_controller (omega arith) s);
-        sent = λ j k i low s. inl (in_more (Brings a) j k m.to_host (omega arith) s);
-        waits = λ low more r idle. inl (record { timer = omega arith; below = λ i. absurd (omega (arith, i)) });
-      };
-      other = λ a. record {
-        acked = omega arith;
-        out = omega arith;
-        front = prefix_of refl;
-        rnr = λ j k i r. behind_more j k m.to_host (omega arith) r;
-        idle = λ i. far_still i;
-        answered = λ j k i low s. inl (in_more (Answers a) j k m.to_host (omega arith) s);
-        sent = λ j k i low s. inl (in_more (Brings a) j k m.to_controller (omega arith) s);
-        waits = λ low more r idle. inl (record { timer = omega arith; below = λ i. absurd (omega (arith, i)) });
-      };
-      near_window = refl;
-      far_window = refl;
-    }
-  where
-    still : IsIdle m ⊎ (0 < 0) → IsIdle m
-    still (inl i) = i
-    still (inr i) = absurd (omega (arith, i))
-
-    far_still : IsIdle (shdlc_exchanged m) ⊎ (0 < 0) → IsIdle (shdlc_exchanged m)
-    far_still (inl i) = i
-    far_still (inr i) = absurd (omega (arith, i))
+did_nothing m = did_wires 0 0 m m.to_controller m.to_host (leaves_same m.to_controller) (leaves_same m.to_host)
 
 -- ## At one end
 
@@ -121,22 +62,16 @@ pub did_here : {m : ShdlcLink} → Sound 0 0 m → m.controller.side.ready ≡ t
     → Did (taken_here e) 0 0 0 m (shdlc_happens_at_controller m e)
 did_here h ready (Turns ts) o n none = did_turns h ts n none
 did_here h ready (Deliver ts) o n none = did_delivers h ready ts n none
-did_here h ready (Ignore ts) o n none = absurd o
 did_here h ready (Acts acts ts) o n none = did_acts h acts ts n none
 did_here h ready Lose o n none = did_loses n none
-did_here h ready (Reset w ts) o n none = absurd o
-did_here h ready Cut o n none = absurd o
-did_here h ready Stop o n none = absurd o
+did_here h ready _ o n none = absurd o
 
 pub allowed : (e : ShdlcEndEvent) → IsOrdinary e → IsShdlcAllowed e
 allowed (Turns ts) o = tt
 allowed (Deliver ts) o = tt
-allowed (Ignore ts) o = absurd o
 allowed (Acts acts ts) o = tt
 allowed Lose o = tt
-allowed (Reset w ts) o = absurd o
-allowed Cut o = absurd o
-allowed Stop o = absurd o
+allowed _ o = absurd o
 
 -- ## The turns of a tick
 
@@ -147,12 +82,7 @@ turns_phase (Turns ts ∷ es) m o =
 turns_phase (Acts acts ts ∷ es) m o =
     turns_phase es (shdlc_happens_at_controller m (Acts acts ts)) o ∙ ((sent_same 12
     (shdlc_turned m.controller.side ts)).phase ∙ turned-phase ts m.controller.side)
-turns_phase (Deliver ts ∷ es) m o = absurd o
-turns_phase (Ignore ts ∷ es) m o = absurd o
-turns_phase (Lose ∷ es) m o = absurd o
-turns_phase (Reset w ts ∷ es) m o = absurd o
-turns_phase (Cut ∷ es) m o = absurd o
-turns_phase (Stop ∷ es) m o = absurd o
+turns_phase (_ ∷ es) m o = absurd o
 
 -- what was lost stays lost
 here_lost : (m : ShdlcLink) (e : ShdlcEndEvent) (es : List ShdlcEndEvent) (n : Losses) → AreOrdinaryTurns (e ∷ es) → (noted_here n m e).lost ≡ false
@@ -161,22 +91,12 @@ here_lost m (Turns ts) es n o none = out_lost (frames_of 12 (shdlc_turned m.cont
 here_lost m (Acts acts ts) es n o none =
     out_lost (map act_frame acts) n m
     (out_lost (frames_of 12 (shdlc_turned m.controller.side ts)) (noted_all n m (map act_frame acts)) (shdlc_put_all m (map act_frame acts)) none)
-here_lost m (Deliver ts) es n o none = absurd o
-here_lost m (Ignore ts) es n o none = absurd o
-here_lost m Lose es n o none = absurd o
-here_lost m (Reset w ts) es n o none = absurd o
-here_lost m Cut es n o none = absurd o
-here_lost m Stop es n o none = absurd o
+here_lost m _ es n o none = absurd o
 
 rest_ordinary : (e : ShdlcEndEvent) (es : List ShdlcEndEvent) → AreOrdinaryTurns (e ∷ es) → AreOrdinaryTurns es
 rest_ordinary (Turns ts) es o = o
 rest_ordinary (Acts acts ts) es o = o
-rest_ordinary (Deliver ts) es o = absurd o
-rest_ordinary (Ignore ts) es o = absurd o
-rest_ordinary Lose es o = absurd o
-rest_ordinary (Reset w ts) es o = absurd o
-rest_ordinary Cut es o = absurd o
-rest_ordinary Stop es o = absurd o
+rest_ordinary _ es o = absurd o
 
 turns_lost : (es : List ShdlcEndEvent) (m : ShdlcLink) (n : Losses) → AreOrdinaryTurns es → (noted_turns n m es).lost ≡ false → n.lost ≡ false
 turns_lost [] m n o none = none
@@ -201,12 +121,7 @@ one_turned {kf} {m} (Acts acts ts) es o h n none =
       sound_from h did (safe_turn kf m (Acts acts ts) tt h.safe) ((sent_same 12 e).phase ∙ (turned-phase ts m.controller.side ∙ h.near_up))
           (ap (λ (x : NumberedShdlc). x.side.phase) ((put_all_same (frames_of 12 e) l).1 ∙ (put_all_same (map act_frame acts) m).1) ∙ h.far_up),
     )
-one_turned (Deliver ts) es o h n none = absurd o
-one_turned (Ignore ts) es o h n none = absurd o
-one_turned Lose es o h n none = absurd o
-one_turned (Reset w ts) es o h n none = absurd o
-one_turned Cut es o h n none = absurd o
-one_turned Stop es o h n none = absurd o
+one_turned _ es o h n none = absurd o
 
 all_turned : {kf : ℕ} (es : List ShdlcEndEvent) {m : ShdlcLink} → AreOrdinaryTurns es → Sound 0 kf m → (n : Losses) → (noted_turns n m es).lost ≡ false
     → Did 0 0 0 0 m (shdlc_all_at_controller m es) × Sound 0 kf (shdlc_all_at_controller m es)
@@ -232,12 +147,7 @@ pub turns_allowed : (es : List ShdlcEndEvent) → AreOrdinaryTurns es → AreTur
 turns_allowed [] o = tt
 turns_allowed (Turns ts ∷ es) o = (tt, turns_allowed es o)
 turns_allowed (Acts acts ts ∷ es) o = (tt, turns_allowed es o)
-turns_allowed (Deliver ts ∷ es) o = absurd o
-turns_allowed (Ignore ts ∷ es) o = absurd o
-turns_allowed (Lose ∷ es) o = absurd o
-turns_allowed (Reset w ts ∷ es) o = absurd o
-turns_allowed (Cut ∷ es) o = absurd o
-turns_allowed (Stop ∷ es) o = absurd o
+turns_allowed (_ ∷ es) o = absurd o
 
 pub did_tick : {l : ShdlcLink} (ts us : List ShdlcTurn) (es : List ShdlcEndEvent) → Sound 0 0 l → AreOrdinaryTurns es → (n : Losses)
     → (noted_event n l (Tick (Some ts) es (Some us))).lost ≡ false → (shdlc_happens l (Tick (Some ts) es (Some us))).controller.side.phase ≡ Up

@@ -1,18 +1,21 @@
 -- What the near end of a link does, where both ends are up in one session: how far this brings the places of both ends.
-use Rattle.std.proofs.Common.{◌≡◌, ℕ, ◌+◌, ◌<◌, ◌≤◌, Bool, true, false, ◌&&◌, Some, None, ◌⊎◌, inl, inr}
+use Rattle.std.proofs.Common.{◌≡◌, ℕ, ◌+◌, ◌<◌, ◌≤◌, Bool, true, false, ◌&&◌, List, Some, None, ◌⊎◌, inl, inr}
 use Rattle.std.proofs.Common.{refl, ap, sym, subst, ◌∙◌, arith, length}
 use Rattle.std.specs.Prelude.{nat_lt, slice_get}
 use Rattle.std.proofs.lemmas.Bool.{cases_lt, lt-ltb, or_right}
 use Rattle.shdlc_core.specs.declared.answers.LinkState.TheVariants.{Up}
 use Rattle.shdlc_core.specs.Machine.{EndState, Session, frame_due, fragment_due, runs_timer}
-use Rattle.link_laws.specs.places.Wire.{sans}
+use Rattle.swp_base.specs.declared.control_frames.Control.{Control}
+use Rattle.link_laws.specs.places.Wire.{OnWire, is_act, sans}
 use Rattle.link_laws.proofs.places.Joined.{fetch_cases}
 use Rattle.link_laws.specs.sessions.Sessions.{ShdlcLink, shdlc_exchanged, shdlc_number_of, shdlc_session_of}
 use Rattle.link_laws.proofs.sessions.Wire.{live}
 use Rattle.link_laws.proofs.sessions.Data.{Pair, of_up}
 use Rattle.link_laws.proofs.sessions.Safe.{agreed, pair_from, safe_swap}
 use Rattle.link_laws.proofs.sessions.Sending.{SafeLink}
-use Rattle.settling_laws.proofs.fragments.Advances.{Advances, advances_then}
+use Rattle.settling_laws.proofs.fragments.Wires.{StandsIn, NoRnrBehind, in_more, behind_more}
+use Rattle.settling_laws.proofs.fragments.Takes.{Answers, Brings, answers_no_act, brings_no_act}
+use Rattle.settling_laws.proofs.fragments.Advances.{Advances, IsIdle, advances_then, prefix_of}
 use Rattle.settling_laws.proofs.fragments.Becomes.{get_some}
 
 -- both ends are up, and all that is true of a link holds
@@ -46,6 +49,45 @@ did_exchanged h = record { own = h.other; other = h.own; near_window = h.far_win
 pub sound_exchanged : {kn kf : ℕ} {l : ShdlcLink} → Sound kn kf l → Sound kf kn (shdlc_exchanged l)
 sound_exchanged h =
     record { safe = safe_swap h.safe; near_up = h.far_up; far_up = h.near_up; near_wide = h.far_wide; far_wide = h.near_wide }
+
+-- of a wire this is left behind so many frames: what stood among the first stands there still, if it is no frame of activation, and
+-- where no RNR stood behind the first, none does
+pub record Leaves (c : ℕ) (v w : List OnWire) : Type 1 where
+  pub rnr : (j k : ℕ) → j ≤ k + c → NoRnrBehind j v → NoRnrBehind k w
+  pub stands : (P : Control → Type 0) → ((x : Control) → is_act x ≡ true → P x → ⊥) → (j k : ℕ) → j ≤ k + c → StandsIn P j v → StandsIn P k w
+
+pub leaves_same : (w : List OnWire) → Leaves 0 w w
+leaves_same w = record { rnr = λ j k i r. behind_more j k w (omega arith) r; stands = λ P plain j k i s. in_more P j k w (omega arith) s }
+
+-- only the wire to the sender and the one from it change
+wires_advance : (a c d : ℕ) (m : ShdlcLink) (v w : List OnWire) → Leaves c m.to_controller v → Leaves d m.to_host w
+    → Advances a c d 0 m (record m { to_controller = v; to_host = w })
+wires_advance a c d m v w near far =
+    record {
+      acked = omega arith;
+      out = omega arith;
+      front = prefix_of refl;
+      rnr = near.rnr;
+      idle = still;
+      answered = λ j k i low s. inl (near.stands (Answers a) (answers_no_act a) j k i s);
+      sent = λ j k i low s. inl (far.stands (Brings a) (brings_no_act a) j k i s);
+      waits = λ low more r idle. inl (record { timer = omega arith; below = λ i. absurd (omega (arith, i)) });
+    }
+  where
+    still : IsIdle m ⊎ (0 < 0) → IsIdle m
+    still (inl i) = i
+    still (inr i) = absurd (omega (arith, i))
+
+-- only both wires change
+pub did_wires : (c d : ℕ) (m : ShdlcLink) (v w : List OnWire) → Leaves c m.to_controller v → Leaves d m.to_host w
+    → Did c d 0 0 m (record m { to_controller = v; to_host = w })
+did_wires c d m v w near far =
+    record {
+      own = λ a. wires_advance a c d m v w near far;
+      other = λ a. wires_advance a d c (shdlc_exchanged m) w v far near;
+      near_window = refl;
+      far_window = refl;
+    }
 
 module _ {kn kf : ℕ} {m : ShdlcLink} (h : Sound kn kf m) where
   abbrev near : EndState

@@ -11,7 +11,7 @@ use Rattle.shdlc_core.specs.declared.answers.Due.{Due}
 use Rattle.shdlc_core.specs.declared.answers.Due.TheVariants.{Rr as Rr_due}
 use Rattle.shdlc_core.specs.Machine.{EndState, taken, take_answer, ticked, tick_answer, runs_timer, sent_again, waiting_from, frames_of}
 use Rattle.link_laws.specs.places.Wire.{OnWire, is_act, sans, counts_first, with_frame}
-use Rattle.link_laws.specs.sessions.Sessions.{NumberedShdlc, ShdlcLink, shdlc_exchanged, shdlc_put, shdlc_put_all, shdlc_becomes}
+use Rattle.link_laws.specs.sessions.Sessions.{NumberedShdlc, ShdlcLink, shdlc_put, shdlc_put_all, shdlc_becomes}
 use Rattle.link_laws.specs.sessions.Sessions.{with_shdlc_ended, took_with, act_frame, ShdlcTurn, shdlc_turned, shdlc_happens_at_controller}
 use Rattle.link_laws.specs.sessions.Sessions.{shdlc_ticks_at_controller}
 use Rattle.link_laws.specs.sessions.Sessions.ShdlcEndEvent.{Turns, Deliver, Acts, Lose}
@@ -26,9 +26,8 @@ use Rattle.settling_laws.proofs.fragments.Wires.{StandsIn, NoRnrBehind, in_rest,
 use Rattle.settling_laws.proofs.fragments.Sends.{sent_same, put_all_same, out_lost, put_stands}
 use Rattle.settling_laws.proofs.fragments.Turns.{turned_up}
 use Rattle.settling_laws.proofs.fragments.Takes.{Answers, Brings, Differs, answers_no_act, brings_no_act, Took, took}
-use Rattle.settling_laws.proofs.fragments.Advances.{prefix_of, IsIdle}
 use Rattle.settling_laws.proofs.fragments.Becomes.{StartsAgain, CountedAt, Sends, Receives, advances_own, advances_other}
-use Rattle.settling_laws.proofs.fragments.Near.{Sound, Did, pair_up, runs_of_idle}
+use Rattle.settling_laws.proofs.fragments.Near.{Sound, Did, did_wires, leaves_same, pair_up, runs_of_idle}
 
 -- the near end has become e, with the wires of l, has its turns and sends all that is due
 did_becomes : {c t : ℕ} {m l : ShdlcLink} {e : EndState} (ts : List ShdlcTurn) (n : Losses) → (noted_out n l (shdlc_turned e ts)).lost ≡ false
@@ -150,38 +149,8 @@ did_loses {m = m} n none = go m.to_controller (or_parts n.lost (counts_first m.t
 
     go : (w : List OnWire) → counts_first w ≡ false → Did 1 0 0 0 (record m { to_controller = w }) (record m { to_controller = drop 1 w })
     go w e =
-        record {
-          own = λ a. record {
-            acked = omega arith;
-            out = omega arith;
-            front = prefix_of refl;
-            rnr = λ j k i r. rnr j k i w r;
-            idle = λ i. still i;
-            answered = λ j k i low s. inl (rest (Answers a) (answers_no_act a) j k i w e s);
-            sent = λ j k i low s. inl (in_more (Brings a) j k m.to_host (omega arith) s);
-            waits = λ low more r idle. inl (record { timer = omega arith; below = λ i. absurd (omega (arith, i)) });
-          };
-          other = λ a. record {
-            acked = omega arith;
-            out = omega arith;
-            front = prefix_of refl;
-            rnr = λ j k i r. behind_more j k m.to_host (omega arith) r;
-            idle = λ i. far_still i;
-            answered = λ j k i low s. inl (in_more (Answers a) j k m.to_host (omega arith) s);
-            sent = λ j k i low s. inl (rest (Brings a) (brings_no_act a) j k i w e s);
-            waits = λ low more r idle. inl (record { timer = omega arith; below = λ i. absurd (omega (arith, i)) });
-          };
-          near_window = refl;
-          far_window = refl;
-        }
-      where
-        still : IsIdle m ⊎ (0 < 0) → IsIdle m
-        still (inl i) = i
-        still (inr i) = absurd (omega (arith, i))
-
-        far_still : IsIdle (shdlc_exchanged m) ⊎ (0 < 0) → IsIdle (shdlc_exchanged m)
-        far_still (inl i) = i
-        far_still (inr i) = absurd (omega (arith, i))
+        did_wires 1 0 (record m { to_controller = w }) (drop 1 w) m.to_host
+        (record { rnr = λ j k i r. rnr j k i w r; stands = λ P plain j k i s. rest P plain j k i w e s }) (leaves_same m.to_host)
 
 -- the link as the first frame is gone, whether a session ended or not
 abbrev gone : ShdlcLink → List OnWire → Bool → ℕ → ShdlcLink
@@ -199,44 +168,14 @@ pub did_delivers : {m : ShdlcLink} → Sound 0 0 m → m.controller.side.ready �
     → (noted_here n m (Deliver ts)).lost ≡ false → Did 1 0 0 0 m (shdlc_happens_at_controller m (Deliver ts))
 did_delivers {m} h ready ts n none = go m.to_controller h none
   where
-    nothing : Sound 0 0 (record m { to_controller = [] }) → Did 1 0 0 0 (record m { to_controller = [] }) (record m { to_controller = [] })
-    nothing g =
-        record {
-          own = λ a. record {
-            acked = omega arith;
-            out = omega arith;
-            front = prefix_of refl;
-            rnr = λ j k i r. tt;
-            idle = λ i. still i;
-            answered = λ j k i low s. absurd s;
-            sent = λ j k i low s. inl (in_more (Brings a) j k m.to_host (omega arith) s);
-            waits = λ low more r idle. inl (record { timer = omega arith; below = λ i. absurd (omega (arith, i)) });
-          };
-          other = λ a. record {
-            acked = omega arith;
-            out = omega arith;
-            front = prefix_of refl;
-            rnr = λ j k i r. behind_more j k m.to_host (omega arith) r;
-            idle = λ i. far_still i;
-            answered = λ j k i low s. inl (in_more (Answers a) j k m.to_host (omega arith) s);
-            sent = λ j k i low s. absurd s;
-            waits = λ low more r idle. inl (record { timer = omega arith; below = λ i. absurd (omega (arith, i)) });
-          };
-          near_window = refl;
-          far_window = refl;
-        }
-      where
-        still : IsIdle m ⊎ (0 < 0) → IsIdle m
-        still (inl i) = i
-        still (inr i) = absurd (omega (arith, i))
-
-        far_still : IsIdle (shdlc_exchanged m) ⊎ (0 < 0) → IsIdle (shdlc_exchanged m)
-        far_still (inl i) = i
-        far_still (inr i) = absurd (omega (arith, i))
+    nothing : Did 1 0 0 0 (record m { to_controller = [] }) (record m { to_controller = [] })
+    nothing =
+        did_wires 1 0 (record m { to_controller = [] }) [] m.to_host (record { rnr = λ j k i r. tt; stands = λ P plain j k i s. absurd s })
+        (leaves_same m.to_host)
 
     go : (w : List OnWire) → Sound 0 0 (record m { to_controller = w }) → (noted_here n (record m { to_controller = w }) (Deliver ts)).lost ≡ false
         → Did 1 0 0 0 (record m { to_controller = w }) (shdlc_happens_at_controller (record m { to_controller = w }) (Deliver ts))
-    go [] g lost = nothing g
+    go [] g lost = nothing
     go (x ∷ xs) g lost = by_kind (is_act x.frame) refl
       where
         full : ShdlcLink

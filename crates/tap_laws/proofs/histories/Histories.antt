@@ -21,7 +21,7 @@ use Rattle.tap_laws.specs.entries.Hearing.{lpdus_heard, gots_noted, is_cut}
 use Rattle.tap_laws.proofs.entries.Events.{tap_reports_lpdus}
 use Rattle.tap_laws.specs.histories.Tapping.{lpdus_on, gots_on}
 
-lpdus_same : (h : ℕ) (t : List Noted) → lpdus_on h (entries_for h t) ≡ lpdus_heard t
+pub lpdus_same : (h : ℕ) (t : List Noted) → lpdus_on h (entries_for h t) ≡ lpdus_heard t
 lpdus_same h [] = refl
 lpdus_same h (Emit Controller c ∷ t) = let q : (h == h) ≡ true = eq-eqb h h refl in rw q (ap (λ z. (true, lpdu_of c) ∷ z) (lpdus_same h t))
 lpdus_same h (Emit Host c ∷ t) = let q : (h == h) ≡ true = eq-eqb h h refl in rw q (ap (λ z. (false, lpdu_of c) ∷ z) (lpdus_same h t))
@@ -38,7 +38,7 @@ lpdus_same h (Tick ∷ t) = lpdus_same h t
 lpdus_same h (Restarted _ ∷ t) = lpdus_same h t
 lpdus_same h (Cut _ ∷ t) = lpdus_same h t
 
-gots_same : (h : ℕ) (t : List Noted) → gots_on h (entries_for h t) ≡ gots_noted t
+pub gots_same : (h : ℕ) (t : List Noted) → gots_on h (entries_for h t) ≡ gots_noted t
 gots_same h [] = refl
 gots_same h (Got Controller n m ∷ t) =
     let q : (h == h) ≡ true = eq-eqb h h refl in

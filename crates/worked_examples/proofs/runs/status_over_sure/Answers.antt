@@ -5,7 +5,7 @@ use Rattle.swp_base.specs.Outside.{Rose}
 use Rattle.swp_base.specs.declared.in_memory.SureSource.{SureSource}
 use Rattle.swp_tool.specs.declared.status.Status.TheVariants as status
 use Rattle.swp_tool.specs.Schedules.{schedule_of}
-use Rattle.swp_tool.specs.Decodings.{most_bytes}
+use Rattle.swp_tool.specs.Records.{most_bytes}
 use Rattle.swp_tool.specs.Runs.{status_at}
 use Rattle.worked_examples.proofs.runs.status_over_sure.Goals as goal
 

@@ -1,7 +1,7 @@
 use Rattle.std.proofs.Common.{◌≡◌, ℕ, List, ◌<◌, ◌≤◌, ◌+◌, ◌*◌, ◌%◌, sym, ap, ◌∙◌, subst, arith, length, get_or, set, take, drop, refl}
 use Rattle.std.specs.Prelude.{◌∷◌, [], ◌++◌, None, Some, IsSome}
 use Rattle.std.proofs.lemmas.List.{take_at}
-use Rattle.block_pool.specs.Links.{overwritten}
+use Rattle.block_pool.specs.Links.{region_behind}
 use Rattle.block_pool.specs.Slots.{BlocksState, with_chain, held_bytes}
 use Rattle.block_pool.specs.Layout.{slots_of, laid_bytes, AreSoundBlocks}
 use Rattle.block_pool.proofs.LayoutLemmas.{bytes_say, owner_says, len_says, has_head, last_in, head_fits}
@@ -56,7 +56,7 @@ invariant_of-self c =
     let value : c.deref_mut.result.now ≡ s.region.items = c.deref_mut.ensures.value in
     let now = c.overwrite.new.region in
     let written_is : now ≡ written s.region.items place bytes =
-    c.overwrite.ensures ∙ (ap (λ r. overwritten r place bytes) value ∙ at_once bytes s.region.items place fits) in
+    c.overwrite.ensures ∙ (ap (λ r. region_behind r place bytes) value ∙ at_once bytes s.region.items place fits) in
     let region_is : take s.region.len (now ++ drop (length now) s.region.items) ≡ written s.region.items place bytes =
     take_at now (drop (length now) s.region.items) s.region.len (omega (arith, c.overwrite.auto.region, c.deref_mut.ensures.len)) ∙ written_is in
     let heads = set s.heads.items c.args.first (Some (grown head (head.len + length bytes))) in
@@ -86,7 +86,7 @@ returns-clause-slots c =
     let value : c.deref_mut.result.now ≡ s.region.items = c.deref_mut.ensures.value in
     let now = c.overwrite.new.region in
     let written_is : now ≡ written s.region.items place bytes =
-    c.overwrite.ensures ∙ (ap (λ r. overwritten r place bytes) value ∙ at_once bytes s.region.items place fits) in
+    c.overwrite.ensures ∙ (ap (λ r. region_behind r place bytes) value ∙ at_once bytes s.region.items place fits) in
     let region_is : take s.region.len (now ++ drop (length now) s.region.items) ≡ written s.region.items place bytes =
     take_at now (drop (length now) s.region.items) s.region.len (omega (arith, c.overwrite.auto.region, c.deref_mut.ensures.len)) ∙ written_is in
     let heads = set s.heads.items c.args.first (Some (grown head (head.len + length bytes))) in

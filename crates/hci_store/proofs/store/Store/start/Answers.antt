@@ -1,13 +1,18 @@
-use Rattle.std.proofs.Common.{◌≡◌, true, sym, ap, ◌∙◌, subst, fold, arith, Err}
+use Rattle.std.proofs.Common.{◌≡◌, true, false, refl, inr, sym, ap, ◌∙◌, subst, fold, arith, Err}
 use Rattle.journal_laws.specs.Journal.{records, count_of}
 use Rattle.hci_tables.specs.Tables.{no_tables, close}
 use Rattle.hci_store.specs.Image.{applied, tables_of, are_commands}
 use Rattle.hci_store.specs.Stored.{FindsSame}
 use Rattle.hci_store.proofs.LeftBehind.{same_content, keeps_same, format_same, refused_same}
+use Rattle.hci_store.proofs.Applying.{sound_has_no_fault}
 use Rattle.hci_store.proofs.Closing.{close-close}
 use Rattle.hci_store.proofs.Recorded.{recordable-close}
 use Rattle.hci_store.proofs.Refusing.{heads_refused, records_refused, rose_of, image_of, memory_is_no_image, start_is_no_image}
-use Rattle.hci_store.proofs.Starting.{counted, spent, unspent, not_written}
+use Rattle.journal_laws.specs.Writes.{AreMade}
+use Rattle.journal_laws.specs.Operations.{start_writes, started_state}
+use Rattle.hci_store.specs.Starting.{migration_writes}
+use Rattle.hci_store.proofs.Committed.{made-append, made-cut}
+use Rattle.hci_store.proofs.Starting.{counted, spent, unspent, not_written, ready_written, ready_stands}
 use Rattle.nv_journal.specs.Kept.{Says}
 use Rattle.nv_journal.proofs.Refusing.{not_of_memory, read_all}
 use Rattle.hci_store.proofs.store.Store.start.Goals as goal
@@ -134,3 +139,81 @@ returns-in-Err-ready-clause-left g c tells =
     (ap (λ l. are_commands (records l)) (sym (opened.kept tells)) ∙ passed.commands tells) tables
     (counted (content c.args.nv) scan.state c.in-Ok-start.journal.state says made.state.0) (c.in-Err-ready.ensures.cut tells memory))
     (λ spent_is. (returns-in-Err-ready-clause-spent g c tells spent_is).kept)
+
+pub returns-in-Ok-ready-clause-state : goal.returns-in-Ok-ready-clause-state
+returns-in-Ok-ready-clause-state g c tells =
+    let scan = c.apply_all.new.scan in
+    let made = c.in-Ok-start.ensures in
+    let passed = c.in-Ok-apply_all.ensures in
+    let opened = c.in-Ok.ensures in
+    let says = subst (λ l. Says l scan.state) (passed.kept tells ∙ opened.kept tells) (made.said tells) in
+    let tables = c.close.ensures ∙ ap close (passed.tables tells ∙ ap tables_of (opened.kept tells)) in
+    c.in-Ok-ready.ensures.state
+    ∙ ready_stands (g.N.Nv.content c.args.nv) scan.state c.in-Ok-start.journal.state says made.state.0 c.close.new.self tables
+
+pub returns-in-Ok-ready-clause-made : goal.returns-in-Ok-ready-clause-made
+returns-in-Ok-ready-clause-made g c tells =
+    let scan = c.apply_all.new.scan in
+    let j = c.in-Ok-start.journal in
+    let made = c.in-Ok-start.ensures in
+    let passed = c.in-Ok-apply_all.ensures in
+    let opened = c.in-Ok.ensures in
+    let same = passed.kept tells ∙ opened.kept tells in
+    let says = subst (λ l. Says l scan.state) same (made.said tells) in
+    let tables = c.close.ensures ∙ ap close (passed.tables tells ∙ ap tables_of (opened.kept tells)) in
+    let last = c.in-Ok-ready.store.journal.nv in
+    record {
+      read = scan.nv;
+      unchanged = same;
+      made = subst (λ l. AreMade g.N.Nv.writes l scan.nv true last)
+          (ready_written (g.N.Nv.content c.args.nv) scan.state j.state says made.state.0 c.close.new.self tables)
+          (made-append g.N.Nv.writes (start_writes scan.state) (migration_writes j.state c.close.new.self) scan.nv j.nv true last
+          made.made c.in-Ok-ready.ensures.made);
+    }
+
+pub returns-in-Err-ready-clause-torn : goal.returns-in-Err-ready-clause-torn
+returns-in-Err-ready-clause-torn g c tells = λ memory.
+    let scan = c.apply_all.new.scan in
+    let j = c.in-Ok-start.journal in
+    let made = c.in-Ok-start.ensures in
+    let passed = c.in-Ok-apply_all.ensures in
+    let opened = c.in-Ok.ensures in
+    let same = passed.kept tells ∙ opened.kept tells in
+    let says = subst (λ l. Says l scan.state) same (made.said tells) in
+    let tables = c.close.ensures ∙ ap close (passed.tables tells ∙ ap tables_of (opened.kept tells)) in
+    let last = c.in-Err-ready.refused.nv in
+    inr (record {
+      read = scan.nv;
+      unchanged = same;
+      made = subst (λ l. AreMade g.N.Nv.writes l scan.nv false last)
+          (ready_written (g.N.Nv.content c.args.nv) scan.state j.state says made.state.0 c.close.new.self tables)
+          (made-append g.N.Nv.writes (start_writes scan.state) (migration_writes j.state c.close.new.self) scan.nv j.nv false last
+          made.made (c.in-Err-ready.ensures.made memory));
+    })
+
+pub returns-in-Err-start-clause-torn : goal.returns-in-Err-start-clause-torn
+returns-in-Err-start-clause-torn g c tells = λ memory.
+    let scan = c.apply_all.new.scan in
+    let failed = c.in-Err-start.ensures in
+    let passed = c.in-Ok-apply_all.ensures in
+    let opened = c.in-Ok.ensures in
+    let same = passed.kept tells ∙ opened.kept tells in
+    let says = subst (λ l. Says l scan.state) same (failed.said tells) in
+    let tables = c.close.ensures ∙ ap close (passed.tables tells ∙ ap tables_of (opened.kept tells)) in
+    let last = c.in-Err-start.refused.nv in
+    let later = migration_writes (started_state scan.state) c.close.new.self in
+    inr (record {
+      read = scan.nv;
+      unchanged = same;
+      made = subst (λ l. AreMade g.N.Nv.writes l scan.nv false last)
+          (ready_written (g.N.Nv.content c.args.nv) scan.state (started_state scan.state) says refl c.close.new.self tables)
+          (made-cut g.N.Nv.writes (start_writes scan.state) later scan.nv last failed.made);
+    })
+
+pub returns-in-Ok-ready-clause-sound : goal.returns-in-Ok-ready-clause-sound
+returns-in-Ok-ready-clause-sound g c tells =
+    let scan = c.apply_all.new.scan in
+    let passed = c.in-Ok-apply_all.ensures in
+    let opened = c.in-Ok.ensures in
+    let says = subst (λ l. Says l scan.state) (passed.kept tells ∙ opened.kept tells) (c.in-Ok-start.ensures.said tells) in
+    sound_has_no_fault (g.N.Nv.content c.args.nv) (ap (λ l. are_commands (records l)) (sym (opened.kept tells)) ∙ passed.commands tells) says.sound

@@ -5,7 +5,7 @@ use Rattle.gate_answers.specs.Answers.{answer_of}
 use Rattle.link_machine.specs.Machine.Turn.{Give}
 use Rattle.std.specs.List.{flat_map}
 use Rattle.std.proofs.lemmas.List.Concat.{flat_map-cons}
-use Rattle.node_core.specs.Owing.{answers_to}
+use Rattle.node_core.specs.Owing.{answers_owed}
 use Rattle.node_machine.specs.Parts.{Work, Deed}
 use Rattle.node_machine.specs.Parts.Deed.{Releases, Sends}
 use Rattle.node_machine.specs.Carrying.{all_done, turn_at}
@@ -37,11 +37,11 @@ loop-asker-preserved g c =
       number = t.ensures.number ∙ (c.release.ensures.number ∙ c.loop-asker.invariant.number);
       goes = λ start w u.
           let P : List ℕ → Type 0 = λ l. DoesOn c.loop-asker.self (g.W.Watch.noted c.loop-asker.watch) (g.W.Watch.is_short c.loop-asker.watch)
-          start (flat_map (answers_to r) l) (flat_map (answers_to r) askers) w in
+          start (flat_map (answers_owed r) l) (flat_map (answers_owed r) askers) w in
           let Q : List Deed → Type 0 = λ l. DoesOn c.loop-asker.self (g.W.Watch.noted c.loop-asker.watch) (g.W.Watch.is_short c.loop-asker.watch)
-          start l (flat_map (answers_to r) askers) w in
-          let k : Q (Releases a ∷ Sends a (1, answer_of r []) ∷ flat_map (answers_to r) (drop (i + 1) askers)) =
-          subst Q (flat_map-cons (answers_to r) a (drop (i + 1) askers)) (subst P split (c.loop-asker.invariant.goes start w u)) in
+          start l (flat_map (answers_owed r) askers) w in
+          let k : Q (Releases a ∷ Sends a (1, answer_of r []) ∷ flat_map (answers_owed r) (drop (i + 1) askers)) =
+          subst Q (flat_map-cons (answers_owed r) a (drop (i + 1) askers)) (subst P split (c.loop-asker.invariant.goes start w u)) in
           let freed = one_done k c.loop-asker.invariant.live refl (c.release.ensures.carried start k.now k.under) in
           let on = ap (λ (s : Stored g.row.N.Denot). s.journal.live) c.release.ensures.store ∙ c.loop-asker.invariant.live in
           let S : List ℕ → Type 0 = λ bytes. IsInStep t.new.self (g.W.Watch.noted t.new.watch) (g.W.Watch.is_short t.new.watch) start
@@ -56,4 +56,4 @@ returns-clause-carried g c start w u =
     let k = c.loop-asker.invariant.goes start w u in
     let none : drop i askers ≡ [] = drop_all i askers c.loop-asker-test.false in
     let P : Work → Type 0 = λ v. IsInStep c.loop-asker.self (g.W.Watch.noted c.loop-asker.watch) (g.W.Watch.is_short c.loop-asker.watch) start v in
-    subst P (ap (λ (l : List ℕ). all_done 0 (flat_map (answers_to c.args.response) l) k.now) (sym none) ∙ k.onto) k.under
+    subst P (ap (λ (l : List ℕ). all_done 0 (flat_map (answers_owed c.args.response) l) k.now) (sym none) ∙ k.onto) k.under

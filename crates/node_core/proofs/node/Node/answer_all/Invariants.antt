@@ -3,7 +3,7 @@ use Rattle.std.specs.List.{flat_map}
 use Rattle.trace_model.specs.declared.entry.Entry.{Entry}
 use Rattle.node_machine.specs.Parts.{Work}
 use Rattle.node_core.specs.Nodes.{IsInStep, IsSoundNode}
-use Rattle.node_core.specs.Owing.{answers_to}
+use Rattle.node_core.specs.Owing.{answers_owed}
 use Rattle.node_core.proofs.Freeing.{DoesOn}
 use Rattle.node_core.proofs.node.Node.answer_all.Given as goal
 
@@ -18,5 +18,5 @@ invariant-loop-asker g l =
       store : l.self.store ≡ l.fn.self.store;
       number : l.self.number ≡ l.fn.self.number;
       goes : (start : List Entry) (w : Work) → IsInStep l.fn.self (noted l.fn.watch) (short l.fn.watch) start w
-          → DoesOn l.self (noted l.watch) (short l.watch) start (flat_map (answers_to l.response) (drop l.asker-index l.askers)) (flat_map (answers_to l.response) l.askers) w;
+          → DoesOn l.self (noted l.watch) (short l.watch) start (flat_map (answers_owed l.response) (drop l.asker-index l.askers)) (flat_map (answers_owed l.response) l.askers) w;
     }

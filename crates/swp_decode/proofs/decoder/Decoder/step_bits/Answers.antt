@@ -1,29 +1,25 @@
-use Rattle.std.proofs.Common.{◌≡◌, ◌≤◌, ◌<◌, ◌∙◌, ◌+◌, ◌-◌, ◌%◌, ◌^◌, ◌++◌, ℕ, List, false, length, take, drop, get_or, Some, refl, sym, ap, ap₂, arith}
+use Rattle.std.proofs.Common.{◌≡◌, ◌<◌, ◌∙◌, ◌+◌, ◌-◌, ◌++◌, ℕ, List, false, length, take, get_or, Some, sym, ap, ap₂, arith}
 use Rattle.std.proofs.Common.{append-nil, rules}
 use Rattle.std.specs.Int.RustNames.{bit_or}
 use lib.Count.{count_leading_zeros}
 use Rattle.std.proofs.Math.Nat.{mod-eq_of_lt}
 use Rattle.std.proofs.lemmas.List.{length-take-le}
-use Rattle.std.proofs.lemmas.Nat.{or_lt, mod_below, pow_pos}
+use Rattle.std.proofs.lemmas.Nat.{or_lt}
 use Rattle.swp_base.specs.Bits.{bit}
-use Rattle.swp_frame.specs.Signal.{symbol_of, HasNoMark}
-use Rattle.swp_frame.specs.Words.{low_bits, word_bits}
+use Rattle.swp_frame.specs.Signal.{symbol_of}
+use Rattle.swp_frame.specs.Words.{word_bits}
 use Rattle.swp_frame.specs.declared.word.Word.{Word}
 use Rattle.swp_frame.proofs.LowBits.{low_bits-at}
 use Rattle.swp_decode.specs.declared.line.Wire.{Wire}
 use Rattle.swp_decode.specs.declared.line.Wire.TheVariants.{S1, S2}
-use Rattle.swp_decode.specs.Readings.{ReadSymbol, signal, symbols, readings_on, AreBits}
+use Rattle.swp_decode.specs.Readings.{ReadSymbol, signal, readings_on}
 use Rattle.swp_decode.specs.Decoded.{line_with, lines_with}
 use Rattle.swp_decode.proofs.FurtherBits.{quiet_between, quiet_further, quiet_none}
 use Rattle.swp_decode.proofs.Gathering.{AreBits-take}
-use Rattle.swp_decode.proofs.FurtherLines.{AreQuietBetween, lines_between, lines_through, stands_behind}
-use Rattle.swp_decode.proofs.Marks.{IsNext, next_place, none_before, marks_left}
+use Rattle.swp_decode.proofs.FurtherLines.{AreQuietBetween, bits_of_word, lines_between, lines_through, stands_behind}
+use Rattle.swp_decode.proofs.Marks.{next_of, not_past, none_before, marks_left}
 use Rattle.swp_decode.proofs.decoder.Decoder.step_bits.Goals as goal
 use Rattle.swp_decode.proofs.decoder.Decoder.step_bits.Goals.{then-marks-test+else-passed-lt-MOST_PLACES, else-marks-test}
-
--- what is left of the marks
-next_of : (marks all read : ℕ) → read ≤ 64 → marks ≡ all % 2 ^ (64 - read) → IsNext marks read (count_leading_zeros 64 marks)
-next_of marks all read few is = next_place marks read (count_leading_zeros 64 marks) few (rw is (mod_below all (2 ^ (64 - read)) (pow_pos (64 - read)))) refl
 
 pub marks-init : goal.marks-init
 marks-init c = (
@@ -44,10 +40,6 @@ marks-init c = (
   },
 )
 
--- what was read of a wire ends before the next of the marks
-not_past : (marks all read from : ℕ) → read ≤ 64 → marks ≡ all % 2 ^ (64 - read) → from ≤ read → from ≤ count_leading_zeros 64 marks
-not_past marks all read from few is before = omega (arith, (next_of marks all read few is).behind, before)
-
 pub decode_mark_at-read_s1-requires-clause-order : goal.decode_mark_at-read_s1-requires-clause-order
 decode_mark_at-read_s1-requires-clause-order c =
     let kept = c.marks.invariant.1 in
@@ -67,11 +59,6 @@ pub read_between-requires-2-clause-order : goal.read_between-requires-2-clause-o
 read_between-requires-2-clause-order c =
     let kept = c.marks.invariant.1 in
     not_past c.marks.marks (bit_or c.word-s1.result.marks c.word-s2.result.marks) c.marks.invariant.0 c.marks.read_s2 kept.within kept.marks kept.before_s2
-
--- a wire whose bits were read up to a place, with the bits of its word
-bits_of_word : (wire : Wire) (bytes : List ℕ) (given : ℕ) (word : Word) → word.bits ≡ given → AreBits wire bytes (low_bits 64 given)
-    → AreBits wire bytes (word_bits word)
-bits_of_word wire bytes given word is are = rw is are
 
 -- the line that comes with a bit of a word
 abbrev line_of_word : Wire → Word → ℕ → ℕ → List ReadSymbol → List ℕ

@@ -1,0 +1,242 @@
+-- The memory of a node alone holds its commands, or all but the last one where its power went in that one's writes.
+use Rattle.std.proofs.Common.{◌≡◌, ◌⊎◌, inl, inr, ℕ, ◌+◌, ◌-◌, ◌^◌, true, false, List, [], ◌∷◌, ◌++◌, length, refl, sym, ap, subst, ◌∙◌, arith}
+use Rattle.std.proofs.Common.{append_assoc, append-nil, length-append}
+use Rattle.std.specs.Prelude.{min, Option, Some, None}
+use Rattle.std.specs.List.{AllByRecursion}
+use Rattle.std.proofs.lemmas.Bool.{cases_Bool}
+use Rattle.std.proofs.lemmas.List.Sums.{fold-append}
+use Rattle.swp_base.specs.InMemory.{Memory}
+use Rattle.trace_model.specs.declared.entry.Entry.{Entry}
+use Rattle.trace_model.specs.declared.entry.Entry.TheVariants as entry
+use Rattle.journal_laws.specs.declared.state.State.{State}
+use Rattle.journal_laws.specs.Journal.{count_of}
+use Rattle.journal_laws.specs.Planned.{fails_within, after_planned}
+use Rattle.journal_laws.specs.Writes.{Write}
+use Rattle.hci_tables.specs.declared.command.Command.{Command}
+use Rattle.hci_tables.specs.Commands.{IsCommand}
+use Rattle.hci_tables.specs.Bodies.{body_of}
+use Rattle.hci_tables.specs.Tables.{HciTables, AreTables, after_commands, apply}
+use Rattle.tables_laws.proofs.SortedTables.{AreTables-apply}
+use Rattle.hci_store.proofs.Recorded.{recordable-apply}
+use Rattle.hci_store.specs.Committing.{commit_writes, committed}
+use Rattle.hci_store.specs.Recordable.{IsRecordable}
+use Rattle.node_machine.specs.Parts.{Init, Work, Deed}
+use Rattle.node_machine.specs.Parts.Deed.{Commits, Sends, SaysOk, IsAnswered, Drops, SetsErrors}
+use Rattle.node_machine.specs.Carrying.{all_done, commit, done, end_of_node, keeps, loses_power, noting, plan_behind, unless_cut}
+use Rattle.node_laws.specs.kept.Books.{IsPlain}
+use Rattle.node_laws.specs.kept.Deeds.{MayBeDone}
+use Rattle.node_laws.specs.kept.Finds.{BootFinds, FindsRoom, Knows}
+use Rattle.node_laws.proofs.kept.Commits.{commit_count, planned_knows, planned_left}
+use Rattle.node_laws.proofs.kept.Doing.{stays_cut, uncut}
+use Rattle.node_laws.proofs.kept.Plainly.{Plainly, plainly_desk, plainly_noting, plainly_turn}
+use Rattle.node_laws.proofs.kept.Planned.{after_planned-append, planned_whole}
+use Rattle.lone_laws.specs.alone.Memories.{commands_of_entries, FindsAllButLast, FindsBehind}
+
+-- ## Commands
+
+pub commands_more : (xs ys : List Entry) → commands_of_entries (xs ++ ys) ≡ commands_of_entries xs ++ commands_of_entries ys
+commands_more [] ys = refl
+commands_more (entry.Command n c ∷ xs) ys = ap (λ l. c ∷ l) (commands_more xs ys)
+commands_more (x ∷ xs) ys = commands_more xs ys
+
+pub plain_none : (es : List Entry) → AllByRecursion IsPlain es → commands_of_entries es ≡ []
+plain_none [] all = refl
+plain_none (entry.Command n c ∷ es) all = absurd all.0
+plain_none (x ∷ es) all = plain_none es all.1
+
+-- ## Deeds
+
+-- of a node with one link
+abbrev pub IsLoneDeed : Deed → Type 0
+IsLoneDeed (Commits c) = Unit {0}
+IsLoneDeed (Sends to m) = Unit {0}
+IsLoneDeed SaysOk = Unit {0}
+IsLoneDeed IsAnswered = Unit {0}
+IsLoneDeed (Drops pid) = Unit {0}
+IsLoneDeed (SetsErrors errors) = Unit {0}
+IsLoneDeed _ = ⊥
+
+module _ (tables : HciTables) (many : ℕ) (before : List Command) (old : Memory) where
+  abbrev noted : Work → List Command
+  noted w = before ++ commands_of_entries w.entries
+
+  -- the node runs in a step, and its memory holds what was noted
+  pub record Holds (w : Work) : Type 0 where
+    pub on : w.cut ≡ false
+    pub memory : Memory
+    pub written : (more : List Write) → after_planned (w.writes ++ more) old ≡ after_planned more memory
+    pub plan_is : w.plan ≡ memory.plan
+    pub knows : Knows memory.content w.core.journal w.core.tables
+    pub sorted : AreTables w.core.tables
+    pub recordable : IsRecordable w.core.tables
+    pub tables_are : w.core.tables ≡ after_commands tables (before ++ commands_of_entries w.entries)
+    pub count_is : count_of w.core.journal ≡ min (many + length (before ++ commands_of_entries w.entries)) (2 ^ 32 - 1)
+
+  -- its power went in the writes of the last command
+  pub record Loses (w : Work) : Type 0 where
+    pub off : w.cut ≡ true
+    pub left : FindsBehind tables many (before ++ commands_of_entries w.entries) (after_planned w.writes old).content
+        ⊎ FindsAllButLast tables many (before ++ commands_of_entries w.entries) (after_planned w.writes old).content
+
+  abbrev pub HoldsOrLoses : Work → Type 0
+  HoldsOrLoses w = Holds w ⊎ Loses w
+
+  pub then_hold : (f : Work → Work) (w : Work) → HoldsOrLoses w → (Holds w → HoldsOrLoses (f w)) → HoldsOrLoses (unless_cut f w)
+  then_hold f w (inl h) later = subst HoldsOrLoses (sym (uncut f w h.on)) (later h)
+  then_hold f w (inr l) later = subst HoldsOrLoses (sym (stays_cut f w l.off)) (inr l)
+
+  pub plainly_holds : (w v : Work) → Plainly w v → Holds w → Holds v
+  plainly_holds w v p h =
+      let same : before ++ commands_of_entries v.entries ≡ before ++ commands_of_entries w.entries =
+      ap (λ l. before ++ l) (ap commands_of_entries p.entries
+      ∙ (commands_more w.entries p.more
+      ∙ (ap (λ l. commands_of_entries w.entries ++ l) (plain_none p.more p.plain) ∙ append-nil (commands_of_entries w.entries)))) in
+      record {
+        on = p.cut ∙ h.on;
+        memory = h.memory;
+        written = λ more. ap (λ l. after_planned (l ++ more) old) p.writes ∙ h.written more;
+        plan_is = p.plan ∙ h.plan_is;
+        knows = subst (λ s. Knows h.memory.content s v.core.tables) (sym p.journal) (subst (Knows h.memory.content w.core.journal) (sym p.tables) h.knows);
+        sorted = subst AreTables (sym p.tables) h.sorted;
+        recordable = subst IsRecordable (sym p.tables) h.recordable;
+        tables_are = p.tables ∙ (h.tables_are ∙ ap (after_commands tables) (sym same));
+        count_is = ap count_of p.journal ∙ (h.count_is ∙ ap (λ (l : List Command). min (many + length l) (2 ^ 32 - 1)) (sym same));
+      }
+
+  -- it is noted that a command is answered
+  counted_holds : (w : Work) (n k : ℕ) → Holds w → Holds (noting (entry.AnyOk n k ∷ []) w)
+  counted_holds w n k h =
+      let same : before ++ commands_of_entries (w.entries ++ entry.AnyOk n k ∷ []) ≡ before ++ commands_of_entries w.entries =
+      ap (λ l. before ++ l) (commands_more w.entries (entry.AnyOk n k ∷ []) ∙ append-nil (commands_of_entries w.entries)) in
+      record {
+        on = h.on;
+        memory = h.memory;
+        written = h.written;
+        plan_is = h.plan_is;
+        knows = h.knows;
+        sorted = h.sorted;
+        recordable = h.recordable;
+        tables_are = h.tables_are ∙ ap (after_commands tables) (sym same);
+        count_is = h.count_is ∙ ap (λ (l : List Command). min (many + length l) (2 ^ 32 - 1)) (sym same);
+      }
+
+  -- ## A commit
+
+  module _ (c : Command) (w : Work) (h : Holds w) (may : IsCommand c) (room : FindsRoom w.core.journal c) where
+    abbrev writes : List Write
+    writes = commit_writes w.core.journal w.core.tables (body_of c)
+
+    abbrev begun : Work
+    begun = noting (entry.Command w.core.node c ∷ []) w
+
+    all_are : before ++ commands_of_entries begun.entries ≡ noted w ++ c ∷ []
+    all_are =
+        ap (λ l. before ++ l) (commands_more w.entries (entry.Command w.core.node c ∷ []))
+        ∙ sym (append_assoc before (commands_of_entries w.entries) (c ∷ []))
+
+    tables_then : apply w.core.tables c ≡ after_commands tables (noted w ++ c ∷ [])
+    tables_then = ap (λ t. apply t c) h.tables_are ∙ sym (fold-append apply tables (noted w) (c ∷ []))
+
+    count_then : count_of (committed w.core.journal w.core.tables (body_of c)) ≡ min (many + length (noted w ++ c ∷ [])) (2 ^ 32 - 1)
+    count_then =
+        commit_count h.memory.content w.core.journal w.core.tables c h.knows h.sorted h.recordable may room
+        ∙ more (count_of w.core.journal) (length (noted w)) (length (noted w ++ c ∷ [])) h.count_is (length-append (noted w) (c ∷ []))
+      where
+        more : (x l k : ℕ) → x ≡ min (many + l) (2 ^ 32 - 1) → k ≡ l + 1 → min (x + 1) (2 ^ 32 - 1) ≡ min (many + k) (2 ^ 32 - 1)
+        more x l k a b = omega arith
+
+    kept_then : fails_within (length writes) w.plan ≡ false → Holds (keeps c writes begun)
+    kept_then none =
+        let now : fails_within (length writes) h.memory.plan ≡ false = ap (fails_within (length writes)) (sym h.plan_is) ∙ none in
+        record {
+          on = h.on;
+          memory = after_planned writes h.memory;
+          written = λ more. ap (λ l. after_planned l old) (append_assoc w.writes writes more)
+              ∙ (h.written (writes ++ more) ∙ after_planned-append writes more h.memory now);
+          plan_is = ap (plan_behind writes) h.plan_is ∙ sym (planned_whole writes h.memory now).1;
+          knows = planned_knows h.memory w.core.journal w.core.tables c h.knows h.sorted h.recordable may room now;
+          sorted = AreTables-apply w.core.tables c may h.sorted;
+          recordable = recordable-apply w.core.tables c h.recordable may;
+          tables_are = tables_then ∙ ap (after_commands tables) (sym all_are);
+          count_is = count_then ∙ ap (λ (l : List Command). min (many + length l) (2 ^ 32 - 1)) (sym all_are);
+        }
+
+    lost_then : fails_within (length writes) w.plan ≡ true → Loses (loses_power writes begun)
+    lost_then fails = record {
+      off = refl;
+      left =
+          subst (λ l. FindsBehind tables many l left ⊎ FindsAllButLast tables many l left) (sym (behind ∙ all_are))
+          (either (subst (λ x. BootFinds x w.core.tables (count_of w.core.journal)
+          ⊎ BootFinds x (apply w.core.tables c) (count_of (committed w.core.journal w.core.tables (body_of c)))) (sym memory_is)
+          (planned_left h.memory w.core.journal w.core.tables c h.knows h.sorted h.recordable may room now)));
+    } where
+      now : fails_within (length writes) h.memory.plan ≡ true
+      now = ap (fails_within (length writes)) (sym h.plan_is) ∙ fails
+
+      left : List ℕ
+      left = (after_planned (w.writes ++ writes) old).content
+
+      memory_is : left ≡ (after_planned writes h.memory).content
+      memory_is = ap (λ (m : Memory). m.content) (h.written writes)
+
+      behind : before ++ commands_of_entries (begun.entries ++ entry.Cut w.core.node ∷ []) ≡ before ++ commands_of_entries begun.entries
+      behind = ap (λ l. before ++ l) (commands_more begun.entries (entry.Cut w.core.node ∷ []) ∙ append-nil (commands_of_entries begun.entries))
+
+      either : BootFinds left w.core.tables (count_of w.core.journal)
+          ⊎ BootFinds left (apply w.core.tables c) (count_of (committed w.core.journal w.core.tables (body_of c)))
+          → FindsBehind tables many (noted w ++ c ∷ []) left ⊎ FindsAllButLast tables many (noted w ++ c ∷ []) left
+      either (inl found) = inr (record {
+        front = noted w;
+        last = c;
+        are = refl;
+        finds = subst (λ t. BootFinds left t (min (many + length (noted w)) (2 ^ 32 - 1))) h.tables_are
+            (subst (BootFinds left w.core.tables) h.count_is found);
+      })
+      either (inr found) = inl (subst (λ t. BootFinds left t (min (many + length (noted w ++ c ∷ [])) (2 ^ 32 - 1))) tables_then
+          (subst (BootFinds left (apply w.core.tables c)) count_then found))
+
+    pub commit_holds : HoldsOrLoses (commit c w)
+    commit_holds = by_plan (cases_Bool (fails_within (length writes) w.plan)) where
+      by_plan : (fails_within (length writes) w.plan ≡ true) ⊎ (fails_within (length writes) w.plan ≡ false) → HoldsOrLoses (commit c w)
+      by_plan (inl fails) =
+          let is : commit c w ≡ loses_power writes begun = rw fails refl in subst HoldsOrLoses (sym is) (inr (lost_then fails))
+      by_plan (inr none) =
+          let is : commit c w ≡ keeps c writes begun = rw none refl in subst HoldsOrLoses (sym is) (inl (kept_then none))
+
+  -- ## Deeds
+
+  abbrev Allows : Option State → State → Type 0
+  Allows None s = Unit {0}
+  Allows (Some x) s = x ≡ s
+
+  on_hold : (f : Work → Work) (w : Work) → Holds w → HoldsOrLoses (f w) → HoldsOrLoses (unless_cut f w)
+  on_hold f w h later = subst HoldsOrLoses (sym (uncut f w h.on)) later
+
+  pub all_hold : (k : ℕ) (deeds : List Deed) (s : Option State) (command : Option (List ℕ)) (init : Option Init) (w : Work) → Holds w
+      → Allows s w.core.journal → AllByRecursion IsLoneDeed deeds → MayBeDone s command init deeds → HoldsOrLoses (all_done k deeds w)
+  all_hold k [] s command init w h same lone may = inl h
+  all_hold k (Commits c ∷ deeds) None command init w h same lone may = absurd may.0
+  all_hold k (Commits c ∷ deeds) (Some x) command init w h same lone may =
+      then_hold (all_done k deeds) (commit c w) (commit_holds c w h may.0.0 (subst (λ s. FindsRoom s c) same may.0.1))
+      (λ g. all_hold k deeds None command init (commit c w) g tt lone.1 may.1)
+  all_hold k (Sends to m ∷ deeds) s command init w h same lone may =
+      let v : Work = done k (Sends to m) w in
+      let g : Holds v = plainly_holds w v (plainly_turn to (Rattle.link_machine.specs.Machine.Turn.Give m) w) h in
+      on_hold (all_done k deeds) v g (all_hold k deeds s command init v g same lone.1 may)
+  all_hold k (SaysOk ∷ deeds) s command init w h same lone may =
+      let v : Work = done k SaysOk w in
+      let g : Holds v = counted_holds w w.core.node (count_of w.core.journal) h in
+      on_hold (all_done k deeds) v g (all_hold k deeds s command init v g same lone.1 may)
+  all_hold k (IsAnswered ∷ deeds) s command init w h same lone may =
+      let v : Work = done k IsAnswered w in
+      let g : Holds v = plainly_holds w v (plainly_desk k (λ d. record d { notice = None }) w (λ d. refl) (λ d x. tt) (λ d c e. absurd (cc e))) h in
+      on_hold (all_done k deeds) v g (all_hold k deeds s command init v g same lone.1 may)
+  all_hold k (Drops pid ∷ deeds) s command init w h same lone may =
+      let v : Work = done k (Drops pid) w in
+      let g : Holds v = plainly_holds w v (plainly_noting w (entry.Dropped (end_of_node w.core k) pid ∷ []) (tt, tt)) h in
+      on_hold (all_done k deeds) v g (all_hold k deeds s command init v g same lone.1 may)
+  all_hold k (SetsErrors errors ∷ deeds) s command init w h same lone may =
+      let v : Work = done k (SetsErrors errors) w in
+      let g : Holds v = plainly_holds w v (plainly_desk k (λ d. record d { errors = errors }) w (λ d. refl) (λ d x. x) (λ d c e. e)) h in
+      on_hold (all_done k deeds) v g (all_hold k deeds s command init v g same lone.1 may)
+  all_hold k (_ ∷ deeds) s command init w h same lone may = absurd lone.0

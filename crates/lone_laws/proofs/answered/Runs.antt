@@ -1,0 +1,473 @@
+-- Over a whole run of a node alone its memory holds its commands, or all but the last one where its power went in that one's writes.
+use Rattle.std.proofs.Common.{◌≡◌, ◌⊎◌, inl, inr, ℕ, ◌+◌, ◌-◌, ◌^◌, ◌≤◌, Bool, true, false, cond, eqb, List, [], ◌∷◌, ◌++◌, length, map, refl, sym, ap}
+use Rattle.std.proofs.Common.{subst, ◌∙◌, arith}
+use Rattle.std.proofs.Common.{append_assoc, append-nil}
+use Rattle.std.specs.Prelude.{min, Option, Some, None, is_some, IsSome}
+use Rattle.std.specs.List.{AllByRecursion}
+use Rattle.std.specs.Option.{option_map_or}
+use Rattle.std.proofs.lemmas.Bool.{cases_Bool, true≢false, eq-eqb}
+use Rattle.swp_base.specs.InMemory.{Memory}
+use Rattle.swp_base.specs.declared.control_frames.Control.{Control}
+use Rattle.swp_lpdu.specs.Controls.{lpdu_of}
+use Rattle.trace_model.specs.declared.entry.Entry.{Entry}
+use Rattle.trace_model.specs.declared.line.End.{End}
+use Rattle.trace_model.specs.declared.entry.Entry.TheVariants as entry
+use Rattle.journal_laws.specs.declared.banks.Side.{Side}
+use Rattle.journal_laws.specs.Banks.{current}
+use Rattle.journal_laws.specs.Journal.{count_of, state_of}
+use Rattle.journal_laws.specs.Operations.{format_writes, formatted, started_state}
+use Rattle.journal_laws.specs.Planned.{after_planned, fails_within}
+use Rattle.journal_laws.specs.Writes.{after_writes}
+use Rattle.hci_tables.specs.declared.command.Command.{Command}
+use Rattle.hci_store.specs.Image.{tables_of}
+use Rattle.hci_tables.specs.Tables.{HciTables, AreTables, after_commands, close}
+use Rattle.hci_store.specs.Recordable.{IsRecordable}
+use Rattle.hci_store.proofs.Closing.{close-close}
+use Rattle.hci_store.proofs.Starting.{counted}
+use Rattle.link_machine.specs.Machine.{LinkInput, Message, is_held}
+use Rattle.link_machine.specs.Machine.Turn.{FetchMessage, Hold}
+use Rattle.node_machine.specs.Parts.{Core, Port, Running, Work, Deed}
+use Rattle.node_machine.specs.Carrying.{all_done, end_of_node, lack, needs, noting, port_at, turn_at, unless_cut, with_desk}
+use Rattle.node_machine.specs.Turns.{deeds_of, goes_through_ends, handles, have_turns, holds_back, lets_go, passes}
+use Rattle.node_machine.specs.HostReplies.{host_deeds}
+use Rattle.node_machine.specs.Node.{all_come, boot_writes, found, steps}
+use Rattle.node_machine.specs.world.World.{runs_on}
+use Rattle.node_laws.specs.kept.Books.{WaitsAt, hosts_of_ends}
+use Rattle.node_laws.specs.kept.Deeds.{IsOnOrder, MayBeDone}
+use Rattle.node_laws.specs.kept.Finds.{BootFinds, Knows}
+use Rattle.node_laws.proofs.kept.Booting.{good_found, knows_formatted, knows_used, left_formatted, says}
+use Rattle.node_laws.proofs.kept.Commits.{finds_closed}
+use Rattle.node_laws.proofs.kept.HostsReply.{OneOrNone, host_may}
+use Rattle.node_laws.proofs.kept.Plainly.{plainly_desk, plainly_noting, plainly_then, plainly_turn}
+use Rattle.node_laws.proofs.kept.Planned.{planned_cut, planned_whole}
+use Rattle.node_laws.proofs.kept.Replies.{controller_may}
+use Rattle.node_laws.proofs.kept.Stepping.{one_may, plainly_come, syncs_one}
+use Rattle.node_order.specs.passes.Passing.{waiting_at}
+use Rattle.node_order.specs.passes.Steps.{comes_to_pass, syncs_in}
+use Rattle.node_order.proofs.passes.Before.{steps_are}
+use Rattle.node_order.proofs.passes.Passing.{handles_sees}
+use Rattle.lone_laws.specs.alone.Lone.{Lone, LoneCause, LoneEvent, lone_after, lone_arrival, lone_behind_step, lone_booted, lone_end, lone_events, lone_input}
+use Rattle.lone_laws.specs.alone.Lone.{does_by_power, emits_behind, lone_step, lone_work, node_input, session_with, with_refusal}
+use Rattle.lone_laws.specs.alone.Lone.{frames_behind, noted_of_refused}
+use Rattle.lone_laws.specs.alone.Lone.LoneCause.{FrameComes, FrameIsRefused, TickComes, ResetComes, StartComes, StopComes}
+use Rattle.lone_laws.specs.alone.Answers.{entries_of_events_alone}
+use Rattle.lone_laws.specs.alone.Memories.{FindsAllButLast, FindsBehind, IsHeldBehind, commands_of_entries}
+use Rattle.lone_laws.proofs.answered.Coming.{IsLoneInput, pass_is}
+use Rattle.lone_laws.proofs.answered.Lasting.{LoneKeeps, arrival_nothing, begins_alone, step_is}
+use Rattle.lone_laws.proofs.answered.Memories.{Holds, HoldsOrLoses, IsLoneDeed, all_hold, commands_more, plainly_holds, then_hold}
+use Rattle.lone_laws.proofs.answered.Ordered.{begin_read}
+use Rattle.lone_laws.proofs.answered.Reading.{Alone, Read}
+use Rattle.lone_laws.proofs.answered.Replied.{deeds_shape}
+use Rattle.lone_laws.proofs.answered.Shapes.{IsLoneReply}
+use Rattle.lone_laws.proofs.answered.Shapes.IsLoneReply.{IsNone, IsDrop, IsSend, IsCommit, IsSet, IsHeard}
+use Rattle.lone_laws.proofs.answered.Stepping.{alone_begins, lone_comes}
+use Rattle.lone_laws.proofs.answered.Whole.{Between, begin_between, booted_core, each_step}
+use Rattle.lone_laws.proofs.answered.Turning.{alone_handled, alone_here, link_is}
+
+lone_deeds : (deeds : List Deed) → IsLoneReply deeds → AllByRecursion IsLoneDeed deeds
+lone_deeds _ IsNone = tt
+lone_deeds _ (IsDrop pid) = (tt, tt)
+lone_deeds _ (IsSend to m) = (tt, tt)
+lone_deeds _ (IsCommit c to m) = (tt, (tt, (tt, tt)))
+lone_deeds _ (IsSet v to m) = (tt, (tt, tt))
+lone_deeds _ IsHeard = (tt, tt)
+
+-- ## Turns
+
+module _ (rest : Core) (number h : ℕ) (some : 1 ≤ h) (most : h ≤ 7) (its : eqb number 0 ≡ false → number ≡ h) (s : ℕ) (t : List Entry)
+    (tables : HciTables) (many : ℕ) (before : List Command) (old : Memory) where
+  abbrev r : Read
+  r = begin_read (record rest { node = number })
+
+  abbrev Of : Work → Type 0
+  Of w = Alone number h r t w
+
+  abbrev Has : Work → Type 0
+  Has w = Holds tables many before old w
+
+  abbrev Fine : Work → Type 0
+  Fine w = HoldsOrLoses tables many before old w
+
+  waits_none : (w : Work) → Of w → AllByRecursion WaitsAt w.ports
+  waits_none w a =
+      subst (AllByRecursion WaitsAt) (sym a.ports_are) (subst (λ o. Rattle.node_laws.specs.kept.Books.WaitsFor o) (sym a.none) tt, tt)
+
+  on_none : (w : Work) → Of w → IsOnOrder w.core.command w.core.init
+  on_none w a = subst (IsOnOrder w.core.command) (sym a.init) tt
+
+  small : (w : Work) → Of w → w.core.node ≤ 7
+  small w a = by (eqb number 0) refl where
+    by : (b : Bool) → eqb number 0 ≡ b → w.core.node ≤ 7
+    by true q = let zero : number ≡ 0 = Rattle.std.proofs.lemmas.Bool.eqb-true number 0 q in let n = a.node in omega (arith, zero, n)
+    by false q = let same = its q in let n = a.node in omega (arith, same, n, most)
+
+  turn_may : (k : ℕ) (m : Message) (w : Work) → Has w → Of w → k ≡ h
+      → MayBeDone (Some w.core.journal) w.core.command w.core.init (deeds_of w.core w.ports k m)
+  turn_may k m w g a same = by (eqb w.core.node 0) refl where
+    by : (b : Bool) → eqb w.core.node 0 ≡ b → MayBeDone (Some w.core.journal) w.core.command w.core.init (deeds_of w.core w.ports k m)
+    by true q =
+        rw q (controller_may w.core (on_none w a) g.sorted w.ports (waits_none w a) k (subst (λ n. 1 ≤ n) (sym same) some)
+        (subst (λ n. n ≤ 7) (sym same) most) m)
+    by false q = rw q (go (port_at w.ports k)) where
+      go : (o : Option Port) → MayBeDone (Some w.core.journal) w.core.command w.core.init (option_map_or (λ p. host_deeds w.core p m) o [])
+      go None = on_none w a
+      go (Some p) = host_may w.core (on_none w a) g.sorted (small w a) p m
+
+  handled_holds : (k : ℕ) (m : Message) (messages : List Message) (w : Work) → Has w → Of w → waiting_at w.ports k ≡ m ∷ messages
+      → Fine (handles k m (deeds_of w.core w.ports k m) w)
+  handled_holds k m messages w g a waits =
+      let here = alone_here number h some most r t k m messages w a waits in
+      let same : k ≡ h = link_is number h some most r t k a.port a.host here.own in
+      let x : Work = noting (entry.Turn (end_of_node w.core k) m.0 m.1 ∷ []) w in
+      let y : Work = turn_at k FetchMessage x in
+      let v : Work = with_desk k (λ d. record d { holds = false }) y in
+      let taken : Has v = plainly_holds tables many before old w v
+      (plainly_then w x v (plainly_noting w (entry.Turn (end_of_node w.core k) m.0 m.1 ∷ []) (tt, tt))
+      (plainly_then x y v (plainly_turn k FetchMessage x) (plainly_desk k (λ d. record d { holds = false }) y (λ d. refl) (λ d z. z) (λ d c e. e)))) g in
+      all_hold tables many before old k (deeds_of w.core w.ports k m) (Some v.core.journal) w.core.command w.core.init v taken refl
+      (lone_deeds (deeds_of w.core w.ports k m) (deeds_shape rest number h some most s t k m w a here.own)) (turn_may k m w g a same)
+
+  held_holds : (k : ℕ) (short : ℕ × ℕ) (w : Work) → Has w → Has (holds_back k short w)
+  held_holds k short w g = go (option_map_or (λ (p : Port). p.desk.holds) (port_at w.ports k) false) where
+    x : Work
+    x = noting (entry.Held (end_of_node w.core k) short.0 short.1 ∷ []) w
+
+    y : Work
+    y = with_desk k (λ d. record d { holds = true }) x
+
+    by : Bool → Work
+    by true = turn_at k (Hold true) w
+    by false = turn_at k (Hold true) y
+
+    go : (b : Bool) → Has (by b)
+    go true = plainly_holds tables many before old w (turn_at k (Hold true) w) (plainly_turn k (Hold true) w) g
+    go false =
+        plainly_holds tables many before old w (turn_at k (Hold true) y)
+        (plainly_then w x (turn_at k (Hold true) y) (plainly_noting w (entry.Held (end_of_node w.core k) short.0 short.1 ∷ []) (tt, tt))
+        (plainly_then x y (turn_at k (Hold true) y) (plainly_desk k (λ d. record d { holds = true }) x (λ d. refl) (λ d z. z) (λ d c e. e))
+        (plainly_turn k (Hold true) y))) g
+
+  left_holds : (k : ℕ) (w : Work) → Has w → Has (lets_go k w)
+  left_holds k w g = go (option_map_or (λ (p : Port). is_held p.side) (port_at w.ports k) false) where
+    by : Bool → Work
+    by true = turn_at k (Hold false) w
+    by false = w
+
+    go : (b : Bool) → Has (by b)
+    go true = plainly_holds tables many before old w (turn_at k (Hold false) w) (plainly_turn k (Hold false) w) g
+    go false = g
+
+  turns_hold : (k : ℕ) (messages : List Message) (w : Work) → Has w → Of w → waiting_at w.ports k ≡ messages → Fine (have_turns k messages w)
+  turns_hold k [] w g a waits = inl (left_holds k w g)
+  turns_hold k (m ∷ messages) w g a waits = go (lack w.ports (needs k deeds)) (turns_hold k messages) where
+    deeds : List Deed
+    deeds = deeds_of w.core w.ports k m
+
+    by : Option (ℕ × ℕ) → Work
+    by None = unless_cut (have_turns k messages) (handles k m deeds w)
+    by (Some short) = holds_back k short w
+
+    go : (o : Option (ℕ × ℕ)) → ((v : Work) → Has v → Of v → waiting_at v.ports k ≡ messages → Fine (have_turns k messages v)) → Fine (by o)
+    go None later =
+        then_hold tables many before old (have_turns k messages) (handles k m deeds w) (handled_holds k m messages w g a waits)
+        (λ z. later (handles k m deeds w) z (alone_handled number h some most r t k m messages w a waits z.on)
+        (handles_sees k m messages deeds w waits).0)
+    go (Some short) later = inl (held_holds k short w g)
+
+  pass_holds : (w : Work) → Has w → Of w → Fine (passes w)
+  pass_holds w g a =
+      subst (λ hs. Fine (goes_through_ends hs w)) (sym hosts)
+      (then_hold tables many before old (goes_through_ends []) (have_turns h (waiting_at w.ports h) w)
+      (turns_hold h (waiting_at w.ports h) w g a refl) (λ z. inl z))
+    where
+      hosts : hosts_of_ends w.ports ≡ h ∷ []
+      hosts = ap hosts_of_ends a.ports_are ∙ ap (λ n. n ∷ []) a.host
+
+  -- a step
+  pub step_holds : (i : LinkInput) → IsLoneInput i → (w : Work) → Has w → Of w → Fine (steps (node_input h i) w)
+  step_holds i may w g a =
+      subst Fine (sym (steps_are input w))
+      (then_hold tables many before old passes (comes_to_pass input w) (subst Fine (sym is) first) (λ z. pass_holds (comes_to_pass input w) z (begun z.on)))
+    where
+      input : Rattle.node_machine.specs.Node.NodeInput
+      input = node_input h i
+
+      is : comes_to_pass input w ≡ all_done 0 (syncs_in input w) (all_come input w)
+      is = pass_is number h r t i may w a
+
+      begun : (comes_to_pass input w).cut ≡ false → Of (comes_to_pass input w)
+      begun on = alone_begins number h some most r t i may w a on
+
+      hosts : hosts_of_ends w.ports ≡ h ∷ []
+      hosts = ap hosts_of_ends a.ports_are ∙ ap (λ n. n ∷ []) a.host
+
+      one : OneOrNone w.core (syncs_in input w)
+      one = syncs_one w.core input w.ports (subst Rattle.node_laws.specs.kept.Hosts.AreDifferent (sym hosts) (tt, tt))
+          (subst (AllByRecursion Rattle.trace_model.specs.Lines.IsHost) (sym hosts) ((some, most), tt))
+
+      lone : AllByRecursion IsLoneDeed (syncs_in input w)
+      lone = by one where
+        by : OneOrNone w.core (syncs_in input w) → AllByRecursion IsLoneDeed (syncs_in input w)
+        by (inl none) = subst (AllByRecursion IsLoneDeed) (sym none) tt
+        by (inr c) = subst (AllByRecursion IsLoneDeed) (sym c.1) (tt, tt)
+
+      come : Has (all_come input w)
+      come = plainly_holds tables many before old w (all_come input w) (plainly_come input w) g
+
+      first : Fine (all_done 0 (syncs_in input w) (all_come input w))
+      first =
+          all_hold tables many before old 0 (syncs_in input w) (Some w.core.journal) w.core.command w.core.init (all_come input w) come refl lone
+          (one_may w.core (syncs_in input w) w.core.command w.core.init one (on_none w a))
+
+-- ## Events
+
+arrival_none : (l : Lone) (c : LoneCause) → commands_of_entries (lone_arrival l c) ≡ []
+arrival_none l (FrameComes bytes) = refl
+arrival_none l (FrameIsRefused fault) = refl
+arrival_none l TickComes = refl
+arrival_none l (ResetComes window) = refl
+arrival_none l (StartComes value) = refl
+arrival_none l StopComes = refl
+
+emits_none : (e : End) (frames : List Control) → commands_of_entries (map (λ c. entry.Emit e (lpdu_of c)) frames) ≡ []
+emits_none e [] = refl
+emits_none e (c ∷ frames) = emits_none e frames
+
+-- what a node that runs has between events
+pub record Remembers (tables : HciTables) (many : ℕ) (t : List Entry) (m : Memory) (n : Running) : Type 0 where
+  pub knows : Knows m.content n.core.journal n.core.tables
+  pub sorted : AreTables n.core.tables
+  pub recordable : IsRecordable n.core.tables
+  pub tables_are : n.core.tables ≡ after_commands tables (commands_of_entries t)
+  pub count_is : count_of n.core.journal ≡ min (many + length (commands_of_entries t)) (2 ^ 32 - 1)
+
+abbrev pub RemembersBy : HciTables → ℕ → List Entry → Memory → Option Running → Type 0
+RemembersBy tables many t m (Some n) = Remembers tables many t m n
+RemembersBy tables many t m None =
+    FindsBehind tables many (commands_of_entries t) m.content ⊎ FindsAllButLast tables many (commands_of_entries t) m.content
+
+abbrev pub AllRemembered : HciTables → ℕ → List Entry → Lone → Type 0
+AllRemembered tables many t l = RemembersBy tables many t l.memory l.node
+
+module _ (tables : HciTables) (many : ℕ) where
+  -- entries without commands
+  remembers_on : (t es : List Entry) (m : Memory) (n v : Running) → commands_of_entries es ≡ [] → v.core ≡ n.core → Remembers tables many t m n
+      → Remembers tables many (t ++ es) m v
+  remembers_on t es m n v none same a =
+      let told : commands_of_entries (t ++ es) ≡ commands_of_entries t =
+      commands_more t es ∙ (ap (λ l. commands_of_entries t ++ l) none ∙ append-nil (commands_of_entries t)) in
+      record {
+        knows = subst (λ (c : Core). Knows m.content c.journal c.tables) (sym same) a.knows;
+        sorted = subst (λ (c : Core). AreTables c.tables) (sym same) a.sorted;
+        recordable = subst (λ (c : Core). IsRecordable c.tables) (sym same) a.recordable;
+        tables_are = ap (λ (c : Core). c.tables) same ∙ (a.tables_are ∙ ap (after_commands tables) (sym told));
+        count_is = ap (λ (c : Core). count_of c.journal) same ∙ (a.count_is ∙ ap (λ (l : List Command). min (many + length l) (2 ^ 32 - 1)) (sym told));
+      }
+
+  input_remembers : (rest : Core) (t : List Entry) (l : Lone) → 1 ≤ l.link → l.link ≤ 7 → (eqb l.number 0 ≡ false → l.number ≡ l.link) → (n : Running)
+      → l.node ≡ Some n → LoneKeeps (begin_read (record rest { node = l.number })) t l n → (c : LoneCause) (i : LinkInput) → lone_input c ≡ Some i
+      → Remembers tables many t l.memory n → AllRemembered tables many (t ++ (lone_step l c).1) (lone_step l c).0
+  input_remembers rest t l some most its n on keep c i comes b =
+      subst (λ (x : Lone × List Entry). AllRemembered tables many (t ++ x.1) x.0) (sym (step_is l n c i on comes))
+      (by (step_holds rest l.number l.link some most its (session_with l i) t tables many before l.memory i (lone_comes c i comes) first holds
+      (begins_alone (begin_read (record rest { node = l.number })) t l n i (lone_arrival l c) (arrival_nothing l c) keep)))
+    where
+      before : List Command
+      before = commands_of_entries t
+
+      first : Work
+      first = lone_work l n i (lone_arrival l c)
+
+      last : Work
+      last = steps (node_input l.link i) first
+
+      es : List Entry
+      es = last.entries ++ emits_behind l last
+
+      none : before ++ commands_of_entries (lone_arrival l c) ≡ before
+      none = ap (λ x. before ++ x) (arrival_none l c) ∙ append-nil before
+
+      told : commands_of_entries (t ++ es) ≡ before ++ commands_of_entries last.entries
+      told =
+          commands_more t es
+          ∙ ap (λ x. before ++ x) (commands_more last.entries (emits_behind l last)
+          ∙ (ap (λ x. commands_of_entries last.entries ++ x) (emits_none (lone_end l) (frames_behind l last)) ∙ append-nil (commands_of_entries last.entries)))
+
+      holds : Holds tables many before l.memory first
+      holds = record {
+        on = refl;
+        memory = l.memory;
+        written = λ more. refl;
+        plan_is = refl;
+        knows = b.knows;
+        sorted = b.sorted;
+        recordable = b.recordable;
+        tables_are = b.tables_are ∙ ap (after_commands tables) (sym none);
+        count_is = b.count_is ∙ ap (λ (x : List Command). min (many + length x) (2 ^ 32 - 1)) (sym none);
+      }
+
+      now : Running
+      now = record { core = last.core; desks = map (λ (p : Port). p.desk) last.ports }
+
+      by : HoldsOrLoses tables many before l.memory last → AllRemembered tables many (t ++ es) (lone_behind_step l i last)
+      by (inl g) =
+          let is : runs_on last ≡ Some now = ap (λ b. cond b None (Some now)) g.on in
+          let memory : after_planned last.writes l.memory ≡ g.memory =
+          ap (λ x. after_planned x l.memory) (sym (append-nil last.writes)) ∙ g.written [] in
+          subst (RemembersBy tables many (t ++ es) (after_planned last.writes l.memory)) (sym is)
+          (subst (λ (m : Memory). Remembers tables many (t ++ es) m now) (sym memory) (record {
+            knows = g.knows;
+            sorted = g.sorted;
+            recordable = g.recordable;
+            tables_are = g.tables_are ∙ ap (after_commands tables) (sym told);
+            count_is = g.count_is ∙ ap (λ (x : List Command). min (many + length x) (2 ^ 32 - 1)) (sym told);
+          }))
+      by (inr x) =
+          let is : runs_on last ≡ None = ap (λ b. cond b None (Some now)) x.off in
+          subst (RemembersBy tables many (t ++ es) (after_planned last.writes l.memory)) (sym is)
+          (subst (λ z. FindsBehind tables many z (after_planned last.writes l.memory).content
+          ⊎ FindsAllButLast tables many z (after_planned last.writes l.memory).content) (sym told) x.left)
+
+  -- nothing comes of a frame that is refused
+  refused_remembers : (t : List Entry) (l : Lone) (n : Running) → l.node ≡ Some n → (c : LoneCause) → lone_input c ≡ None
+      → Remembers tables many t l.memory n → AllRemembered tables many (t ++ (lone_step l c).1) (lone_step l c).0
+  refused_remembers t l n on (FrameIsRefused fault) q b =
+      subst (λ (x : Lone × List Entry). AllRemembered tables many (t ++ x.1) x.0) (sym (ap (does_by_power l (FrameIsRefused fault)) on))
+      (remembers_on t (noted_of_refused l (FrameIsRefused fault)) l.memory n (with_refusal l.link n) refl refl b)
+  refused_remembers t l n on (FrameComes bytes) q b = absurd (cc q)
+  refused_remembers t l n on TickComes q b = absurd (cc q)
+  refused_remembers t l n on (ResetComes window) q b = absurd (cc q)
+  refused_remembers t l n on (StartComes value) q b = absurd (cc q)
+  refused_remembers t l n on StopComes q b = absurd (cc q)
+
+  module _ (rest : Core) (number h : ℕ) (some : 1 ≤ h) (most : h ≤ 7) (its : eqb number 0 ≡ false → number ≡ h) where
+    step_remembers : (t : List Entry) (l : Lone) (c : LoneCause) → is_some l.node ≡ true → Between rest number h t l → AllRemembered tables many t l
+        → AllRemembered tables many (t ++ (lone_step l c).1) (lone_step l c).0
+    step_remembers t l c runs k b = by_node l.node refl where
+      by_input : (n : Running) → l.node ≡ Some n → (o : Option LinkInput) → lone_input c ≡ o
+          → AllRemembered tables many (t ++ (lone_step l c).1) (lone_step l c).0
+      by_input n on (Some i) q =
+          input_remembers rest t l (subst (λ x. 1 ≤ x) (sym k.link_is) some) (subst (λ x. x ≤ 7) (sym k.link_is) most)
+          (λ z. k.number_is ∙ (its (ap (λ x. eqb x 0) (sym k.number_is) ∙ z) ∙ sym k.link_is)) n on (k.all n on).keep c i q
+          (subst (RemembersBy tables many t l.memory) on b)
+      by_input n on None q = refused_remembers t l n on c q (subst (RemembersBy tables many t l.memory) on b)
+
+      by_node : (o : Option Running) → l.node ≡ o → AllRemembered tables many (t ++ (lone_step l c).1) (lone_step l c).0
+      by_node None off = absurd (true≢false (sym runs ∙ ap is_some off))
+      by_node (Some n) on = by_input n on (lone_input c) refl
+
+    off_stays : (causes : List LoneCause) (l : Lone) → l.node ≡ None → lone_after l causes ≡ l
+    off_stays [] l off = refl
+    off_stays (c ∷ causes) l off =
+        let same : (lone_step l c).0 ≡ l = ap (λ (x : Lone × List Entry). x.0) (ap (does_by_power l c) off) in
+        ap (λ (x : Lone). lone_after x causes) same ∙ off_stays causes l off
+
+    pub run_remembers : (causes : List LoneCause) (t : List Entry) (l : Lone) → Between rest number h t l → AllRemembered tables many t l
+        → AllRemembered tables many (t ++ entries_of_events_alone (lone_events l causes)) (lone_after l causes)
+    run_remembers [] t l k b = subst (λ x. AllRemembered tables many x l) (sym (append-nil t)) b
+    run_remembers (c ∷ causes) t l k b = by (is_some l.node) refl (run_remembers causes) where
+      Later : Type 0
+      Later =
+          (u : List Entry) (v : Lone) → Between rest number h u v → AllRemembered tables many u v
+          → AllRemembered tables many (u ++ entries_of_events_alone (lone_events v causes)) (lone_after v causes)
+
+      none_of : (o : Option Running) → is_some o ≡ false → o ≡ None
+      none_of None q = refl
+      none_of (Some n) q = absurd (true≢false q)
+
+      by : (x : Bool) → is_some l.node ≡ x → Later
+          → AllRemembered tables many (t ++ entries_of_events_alone (lone_events l (c ∷ causes))) (lone_after l (c ∷ causes))
+      by true q later =
+          let event : LoneEvent = record { cause = c; entries = (lone_step l c).1 } in
+          let is : lone_events l (c ∷ causes) ≡ event ∷ lone_events (lone_step l c).0 causes =
+          ap (λ b. cond b (event ∷ lone_events (lone_step l c).0 causes) []) q in
+          subst (λ x. AllRemembered tables many (t ++ entries_of_events_alone x) (lone_after l (c ∷ causes))) (sym is)
+          (subst (λ x. AllRemembered tables many x (lone_after l (c ∷ causes)))
+          (append_assoc t (lone_step l c).1 (entries_of_events_alone (lone_events (lone_step l c).0 causes)))
+          (later (t ++ (lone_step l c).1) (lone_step l c).0 (each_step rest number h some most its t l c q k).1 (step_remembers t l c q k b)))
+      by false q later =
+          let event : LoneEvent = record { cause = c; entries = (lone_step l c).1 } in
+          let is : lone_events l (c ∷ causes) ≡ [] = ap (λ b. cond b (event ∷ lone_events (lone_step l c).0 causes) []) q in
+          let same : lone_after l (c ∷ causes) ≡ l = off_stays (c ∷ causes) l (none_of l.node q) in
+          subst (λ x. AllRemembered tables many (t ++ entries_of_events_alone x) (lone_after l (c ∷ causes))) (sym is)
+          (subst (λ (x : Lone). AllRemembered tables many (t ++ []) x) (sym same) (subst (λ x. AllRemembered tables many x l) (sym (append-nil t)) b))
+
+-- ## Its beginning
+
+module _ (number h : ℕ) (m : Memory) (found_tables : HciTables) (many : ℕ) (f : BootFinds m.content found_tables many) where
+  abbrev content : List ℕ
+  content = m.content
+
+  abbrev start : HciTables
+  start = close (tables_of content)
+
+  few : many ≤ 2 ^ 32 - 1
+  few = let is = f.keeps.count_is in omega (arith, is)
+
+  pub boot_remembers : AllRemembered start many [] (lone_booted number h m)
+  boot_remembers = by_plan (fails_within (length (boot_writes content)) m.plan) refl where
+    knows : (o : Option Side) → current content ≡ o → Knows (after_writes (boot_writes content) content) (started_state (state_of content)) start
+    knows (Some side) is =
+        subst (λ w. Knows (after_writes w content) (started_state (state_of content)) start) (sym (ap (λ p. option_map_or (λ _. []) p format_writes) is))
+        (subst (λ s. Knows content s start) (sym (ap (λ p. option_map_or (λ _. state_of content) p formatted) is))
+        (knows_used content found_tables many f (subst IsSome (sym is) refl)))
+    knows None is =
+        subst (λ w. Knows (after_writes w content) (started_state (state_of content)) start) (sym (ap (λ p. option_map_or (λ _. []) p format_writes) is))
+        (subst (λ s. Knows (after_writes format_writes content) s start) (sym (ap (λ p. option_map_or (λ _. state_of content) p formatted) is))
+        (knows_formatted content found_tables many f is))
+
+    count_now : count_of (started_state (state_of content)) ≡ min (many + 0) (2 ^ 32 - 1)
+    count_now = let c = counted content (state_of content) (started_state (state_of content)) (says content found_tables many f) refl in
+        let is = f.keeps.count_is in omega (arith, c, is, few)
+
+    left_closed : (left : List ℕ) → BootFinds left found_tables many → FindsBehind start many [] left
+    left_closed left g =
+        let same : close found_tables ≡ close start = sym f.keeps.holds.tables_are ∙ sym (close-close (tables_of content)) in
+        let most : many ≡ min (many + 0) (2 ^ 32 - 1) = omega (arith, few) in
+        subst (BootFinds left start) most (finds_closed left found_tables start many g same)
+
+    lost : (o : Option Side) → current content ≡ o → fails_within (length (boot_writes content)) m.plan ≡ true
+        → FindsBehind start many [] (after_planned (boot_writes content) m).content
+    lost (Some side) is fails =
+        let none : boot_writes content ≡ [] = ap (λ p. option_map_or (λ _. []) p format_writes) is in
+        subst (λ w. FindsBehind start many [] (after_planned w m).content) (sym none) (left_closed content f)
+    lost None is fails =
+        let formats : boot_writes content ≡ format_writes = ap (λ p. option_map_or (λ _. []) p format_writes) is in
+        let cut = planned_cut format_writes m (ap (λ w. fails_within (length w) m.plan) (sym formats) ∙ fails) in
+        subst (λ w. FindsBehind start many [] (after_planned w m).content) (sym formats)
+        (left_closed (after_planned format_writes m).content
+        (left_formatted content found_tables many f is cut.0 (after_planned format_writes m).content cut.1))
+
+    by_plan : (b : Bool) → fails_within (length (boot_writes content)) m.plan ≡ b
+        → RemembersBy start many [] (after_planned (boot_writes content) m) (cond b None (Some (found number (h ∷ []) content)))
+    by_plan true fails = inl (lost (current content) refl fails)
+    by_plan false none = record {
+      knows = subst (λ x. Knows x (started_state (state_of content)) start) (sym (planned_whole (boot_writes content) m none).0) (knows (current content) refl);
+      sorted = (good_found content).0;
+      recordable = (good_found content).1;
+      tables_are = refl;
+      count_is = count_now;
+    }
+
+-- what is remembered is held
+held_behind : (tables : HciTables) (many : ℕ) (t : List Entry) (l : Lone) → AllRemembered tables many t l
+    → IsHeldBehind tables many (commands_of_entries t) l
+held_behind tables many t l a = by l.node refl where
+  holds : (n : Running) → Remembers tables many t l.memory n → FindsBehind tables many (commands_of_entries t) l.memory.content
+  holds n b =
+      subst (λ x. BootFinds l.memory.content x (min (many + length (commands_of_entries t)) (2 ^ 32 - 1))) b.tables_are
+      (subst (BootFinds l.memory.content n.core.tables) b.count_is b.knows.finds)
+
+  by : (o : Option Running) → l.node ≡ o → IsHeldBehind tables many (commands_of_entries t) l
+  by None q = rw q (subst (RemembersBy tables many t l.memory) q a)
+  by (Some n) q = rw q (holds n (subst (RemembersBy tables many t l.memory) q a))
+
+pub run_held : (number h : ℕ) → 1 ≤ h → h ≤ 7 → (eqb number 0 ≡ false → number ≡ h) → (m : Memory) (found_tables : HciTables) (many : ℕ)
+    → BootFinds m.content found_tables many → (causes : List LoneCause)
+    → IsHeldBehind (close (tables_of m.content)) many (commands_of_entries (entries_of_events_alone (lone_events (lone_booted number h m) causes)))
+    (lone_after (lone_booted number h m) causes)
+run_held number h some most its m found_tables many f causes =
+    held_behind (close (tables_of m.content)) many (entries_of_events_alone (lone_events (lone_booted number h m) causes))
+    (lone_after (lone_booted number h m) causes)
+    (run_remembers (close (tables_of m.content)) many (booted_core number h some most its m) number h some most its causes [] (lone_booted number h m)
+    (begin_between number h some most its m) (boot_remembers number h m found_tables many f))

@@ -1,0 +1,31 @@
+use Rattle.std.proofs.Common.{◌≡◌, ◌∙◌, Some, None, length, ap, subst, sym, arith}
+use Rattle.swp_line.specs.declared.period.Period.TheVariants.{Deactivated}
+use Rattle.swp_line.specs.Periods.{period_at}
+use Rattle.swp_decode.specs.declared.line.Wire.TheVariants.{S1, S2}
+use Rattle.swp_decode.specs.Readings.{symbol_on, signal, with_reading}
+use Rattle.swp_decode.specs.Kept.{ReadsSignal}
+use Rattle.swp_decode.proofs.decoder.Decoder.hear.Goals as goal
+
+pub returns-in-Some-Deactivated-clause-stands : goal.returns-in-Some-Deactivated-clause-stands
+returns-in-Some-Deactivated-clause-stands c = λ bytes stands.
+    let period : Some Deactivated ≡ period_at c.args.byte = ap (λ p. Some p) (sym c.in-Some-Deactivated.field-0-is) ∙ c.in-Some-Deactivated.ensures.value in
+    let new = c.hear_breaks.new.self in
+    record {
+      count = omega (arith, stands.count, c.hear_breaks.ensures.count);
+      s1 = subst (λ p. ReadsSignal new.s1 (with_reading (symbol_on S1 p) (length bytes) (signal S1 bytes))) period
+          (c.hear_breaks.ensures.reads_s1 (length bytes) (signal S1 bytes) stands.s1);
+      s2 = subst (λ p. ReadsSignal new.s2 (with_reading (symbol_on S2 p) (length bytes) (signal S2 bytes))) period
+          (c.hear_breaks.ensures.reads_s2 (length bytes) (signal S2 bytes) stands.s2);
+    }
+
+pub returns-in-None-clause-stands : goal.returns-in-None-clause-stands
+returns-in-None-clause-stands c = λ bytes stands.
+    let period : None ≡ period_at c.args.byte = c.in-None.ensures.value in
+    let new = c.hear_breaks-in-None.new.self in
+    record {
+      count = omega (arith, stands.count, c.hear_breaks-in-None.ensures.count);
+      s1 = subst (λ p. ReadsSignal new.s1 (with_reading (symbol_on S1 p) (length bytes) (signal S1 bytes))) period
+          (c.hear_breaks-in-None.ensures.reads_s1 (length bytes) (signal S1 bytes) stands.s1);
+      s2 = subst (λ p. ReadsSignal new.s2 (with_reading (symbol_on S2 p) (length bytes) (signal S2 bytes))) period
+          (c.hear_breaks-in-None.ensures.reads_s2 (length bytes) (signal S2 bytes) stands.s2);
+    }

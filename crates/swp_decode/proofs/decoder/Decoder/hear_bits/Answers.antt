@@ -1,0 +1,167 @@
+use Rattle.std.proofs.Common.{◌≡◌, ◌<◌, ◌∙◌, ◌+◌, ◌++◌, ℕ, length, take, sym, ap, arith}
+use Rattle.std.proofs.Common.{rules}
+use Rattle.std.specs.Int.RustNames.{bit_or}
+use lib.Count.{count_leading_zeros}
+use Rattle.std.proofs.Math.Nat.{mod-eq_of_lt}
+use Rattle.std.proofs.lemmas.List.{length-take-le}
+use Rattle.std.proofs.lemmas.Nat.{or_lt}
+use Rattle.swp_frame.specs.Words.{word_bits}
+use Rattle.swp_decode.specs.declared.line.Wire.TheVariants.{S1, S2}
+use Rattle.swp_decode.specs.Readings.{signal}
+use Rattle.swp_decode.proofs.FurtherBits.{quiet_between, quiet_further, quiet_none}
+use Rattle.swp_decode.proofs.Gathering.{AreBits-take}
+use Rattle.swp_decode.proofs.FurtherLines.{bits_of_word, stands_behind}
+use Rattle.swp_decode.proofs.FurtherFrames.{frame_of_word, frames_between, frames_through}
+use Rattle.swp_decode.proofs.Marks.{next_of, not_past, none_before, marks_left}
+use Rattle.swp_decode.proofs.decoder.Decoder.hear_bits.Goals as goal
+use Rattle.swp_decode.proofs.decoder.Decoder.hear_bits.Goals.{then-marks-test+else-passed-lt-MOST_PLACES, else-marks-test}
+
+pub marks-init : goal.marks-init
+marks-init c = (
+  0,
+  record {
+    within = omega arith;
+    few = omega arith;
+    progress = omega arith;
+    marks = sym (mod-eq_of_lt (or_lt 64 c.word-s1.result.marks c.word-s2.result.marks (search rules) (search rules)));
+    before_s1 = omega arith;
+    before_s2 = omega arith;
+    quiet_s1 = quiet_none c.word-s1.result 0;
+    quiet_s2 = quiet_none c.word-s2.result 0;
+    s1 = λ older reads. reads;
+    s2 = λ older reads. reads;
+    heard = λ older stands. c.requires.room;
+    sized = omega (arith, ap length c.requires.room);
+  },
+)
+
+pub hear_mark_at-read_s1-requires-clause-order : goal.hear_mark_at-read_s1-requires-clause-order
+hear_mark_at-read_s1-requires-clause-order c =
+    let kept = c.marks.invariant.1 in
+    not_past c.marks.marks (bit_or c.word-s1.result.marks c.word-s2.result.marks) c.marks.invariant.0 c.marks.read_s1 kept.within kept.marks kept.before_s1
+
+pub hear_mark_at-read_s2-requires-clause-order : goal.hear_mark_at-read_s2-requires-clause-order
+hear_mark_at-read_s2-requires-clause-order c =
+    let kept = c.marks.invariant.1 in
+    not_past c.marks.marks (bit_or c.word-s1.result.marks c.word-s2.result.marks) c.marks.invariant.0 c.marks.read_s2 kept.within kept.marks kept.before_s2
+
+pub read_between-requires-clause-order : goal.read_between-requires-clause-order
+read_between-requires-clause-order c =
+    let kept = c.marks.invariant.1 in
+    not_past c.marks.marks (bit_or c.word-s1.result.marks c.word-s2.result.marks) c.marks.invariant.0 c.marks.read_s1 kept.within kept.marks kept.before_s1
+
+pub read_between-requires-2-clause-order : goal.read_between-requires-2-clause-order
+read_between-requires-2-clause-order c =
+    let kept = c.marks.invariant.1 in
+    not_past c.marks.marks (bit_or c.word-s1.result.marks c.word-s2.result.marks) c.marks.invariant.0 c.marks.read_s2 kept.within kept.marks kept.before_s2
+
+pub marks-preserved : goal.marks-preserved
+marks-preserved c =
+    let bytes = c.args.bytes.now in
+    let place : ℕ = c.args.self.now.count in
+    let word1 = c.word-s1.result in
+    let word2 = c.word-s2.result in
+    let read : ℕ = c.marks.invariant.0 in
+    let kept = c.marks.invariant.1 in
+    let last : ℕ = count_leading_zeros 64 c.marks.marks in
+    let all : ℕ = bit_or word1.marks word2.marks in
+    let next = next_of c.marks.marks all read kept.within kept.marks in
+    let inside : last < 64 = next.there (omega (arith, c.marks-test.true)) in
+    let quiet = none_before word1.marks word2.marks c.marks.marks read last next.behind next.within kept.marks next.below in
+    let quiet1 = quiet_further word1 c.marks.read_s1 read last kept.before_s1 next.behind next.within kept.quiet_s1 quiet.0 in
+    let quiet2 = quiet_further word2 c.marks.read_s2 read last kept.before_s2 next.behind next.within kept.quiet_s2 quiet.1 in
+    let s1 = bits_of_word S1 bytes c.args.bits.s1 word1 c.word-s1.ensures.bits c.requires.s1 in
+    let s2 = bits_of_word S2 bytes c.args.bits.s2 word2 c.word-s2.ensures.bits c.requires.s2 in (
+      last + 1,
+      record {
+        within = omega (arith, inside);
+        few = omega (arith, c.if-passed-lt-MOST_PLACES.true);
+        progress = omega (arith, kept.progress, next.behind);
+        marks = marks_left c.marks.marks all read last next.behind inside kept.marks;
+        before_s1 = c.hear_mark_at-read_s1.ensures.within;
+        before_s2 = c.hear_mark_at-read_s2.ensures.within;
+        quiet_s1 = c.hear_mark_at-read_s1.ensures.quiet quiet1;
+        quiet_s2 = c.hear_mark_at-read_s2.ensures.quiet quiet2;
+        s1 = λ older reads. c.hear_mark_at-read_s1.ensures.reads older (c.word-s1.ensures.behind older reads) quiet1 (kept.s1 older reads);
+        s2 = λ older reads. c.hear_mark_at-read_s2.ensures.reads older (c.word-s2.ensures.behind older reads) quiet2 (kept.s2 older reads);
+        heard = λ older stands.
+            let behind1 = c.word-s1.ensures.behind (signal S1 older) stands.s1 in
+            let behind2 = c.word-s2.ensures.behind (signal S2 older) stands.s2 in
+            c.hear_mark_at-read_s2.ensures.items (signal S2 older) behind2 quiet2 (kept.s2 (signal S2 older) stands.s2)
+            ∙ ap (λ frames. frames ++ frame_of_word S2 word2 place last (signal S2 older))
+            (c.hear_mark_at-read_s1.ensures.items (signal S1 older) behind1 quiet1 (kept.s1 (signal S1 older) stands.s1)
+            ∙ ap (λ frames. frames ++ frame_of_word S1 word1 place last (signal S1 older)) (kept.heard older stands))
+            ∙ frames_through word1 word2
+            (record {
+              order = next.behind;
+              s1 = s1;
+              s2 = s2;
+              quiet_s1 = quiet_between word1 (length older) read last (signal S1 older) next.behind next.within behind1 quiet.0;
+              quiet_s2 = quiet_between word2 (length older) read last (signal S2 older) next.behind next.within behind2 quiet.1;
+            })
+            c.told-bytes inside stands.count;
+        sized = omega (arith, kept.sized, c.hear_mark_at-read_s1.ensures.sized, c.hear_mark_at-read_s2.ensures.sized);
+      },
+    )
+
+pub returns-clause-some : goal.returns-clause-some
+unfolding count_leading_zeros
+returns-clause-some c =
+    let next =
+    next_of c.marks.marks (bit_or c.word-s1.result.marks c.word-s2.result.marks) c.marks.invariant.0 c.marks.invariant.1.within c.marks.invariant.1.marks in
+    elim c.marks-test.branch [
+      | then-marks-test+else-passed-lt-MOST_PLACES w ↦ omega (arith, w.if-passed-lt-MOST_PLACES.false, c.marks.invariant.1.progress, next.behind)
+      | else-marks-test w ↦
+          let none : c.marks.marks ≡ 0 = omega (arith, w.marks-test.false) in
+          let all : count_leading_zeros 64 c.marks.marks ≡ 64 = ap (count_leading_zeros 64) none in
+          omega (arith, all)
+    ]
+
+pub returns-clause-stands : goal.returns-clause-stands
+returns-clause-stands c = λ older stands.
+    let bytes = c.args.bytes.now in
+    let word1 = c.word-s1.result in
+    let word2 = c.word-s2.result in
+    let read : ℕ = c.marks.invariant.0 in
+    let kept = c.marks.invariant.1 in
+    let to : ℕ = count_leading_zeros 64 c.marks.marks in
+    let next = next_of c.marks.marks (bit_or word1.marks word2.marks) read kept.within kept.marks in
+    let quiet = none_before word1.marks word2.marks c.marks.marks read to next.behind next.within kept.marks next.below in
+    let quiet1 = quiet_further word1 c.marks.read_s1 read to kept.before_s1 next.behind next.within kept.quiet_s1 quiet.0 in
+    let quiet2 = quiet_further word2 c.marks.read_s2 read to kept.before_s2 next.behind next.within kept.quiet_s2 quiet.1 in
+    let s1 = bits_of_word S1 bytes c.args.bits.s1 word1 c.word-s1.ensures.bits c.requires.s1 in
+    let s2 = bits_of_word S2 bytes c.args.bits.s2 word2 c.word-s2.ensures.bits c.requires.s2 in
+    stands_behind (take to bytes) (take to (word_bits word1)) (take to (word_bits word2))
+    (AreBits-take S1 to bytes (word_bits word1) s1) (AreBits-take S2 to bytes (word_bits word2) s2) stands
+    (omega (arith, length-take-le to bytes (omega (arith, next.within, c.told-bytes))))
+    (c.read_between.ensures (signal S1 older) (c.word-s1.ensures.behind (signal S1 older) stands.s1) quiet1 (kept.s1 (signal S1 older) stands.s1))
+    (c.read_between-2.ensures (signal S2 older) (c.word-s2.ensures.behind (signal S2 older) stands.s2) quiet2 (kept.s2 (signal S2 older) stands.s2))
+
+pub returns-clause-heard : goal.returns-clause-heard
+returns-clause-heard c = λ older stands.
+    let bytes = c.args.bytes.now in
+    let word1 = c.word-s1.result in
+    let word2 = c.word-s2.result in
+    let read : ℕ = c.marks.invariant.0 in
+    let kept = c.marks.invariant.1 in
+    let to : ℕ = count_leading_zeros 64 c.marks.marks in
+    let next = next_of c.marks.marks (bit_or word1.marks word2.marks) read kept.within kept.marks in
+    let quiet = none_before word1.marks word2.marks c.marks.marks read to next.behind next.within kept.marks next.below in
+    let s1 = bits_of_word S1 bytes c.args.bits.s1 word1 c.word-s1.ensures.bits c.requires.s1 in
+    let s2 = bits_of_word S2 bytes c.args.bits.s2 word2 c.word-s2.ensures.bits c.requires.s2 in
+    kept.heard older stands
+    ∙ sym (frames_between (record {
+      order = next.behind;
+      s1 = s1;
+      s2 = s2;
+      quiet_s1 = quiet_between word1 (length older) read to (signal S1 older) next.behind next.within (c.word-s1.ensures.behind (signal S1 older) stands.s1)
+          quiet.0;
+      quiet_s2 = quiet_between word2 (length older) read to (signal S2 older) next.behind next.within (c.word-s2.ensures.behind (signal S2 older) stands.s2)
+          quiet.1;
+    }))
+
+pub returns-clause-sized : goal.returns-clause-sized
+returns-clause-sized c =
+    let next =
+    next_of c.marks.marks (bit_or c.word-s1.result.marks c.word-s2.result.marks) c.marks.invariant.0 c.marks.invariant.1.within c.marks.invariant.1.marks in
+    omega (arith, c.marks.invariant.1.sized, c.marks.invariant.1.progress, next.behind)

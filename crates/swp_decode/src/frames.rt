@@ -1,0 +1,34 @@
+//! The frames of a record.
+ghost use Rattle.std.specs.Prelude.{◌≡◌, ◌+◌, ◌≤◌, ◌<◌, ◌++◌, length};
+ghost use Rattle.swp_decode.specs.Frames.{is_of_clf, frame_in};
+
+use crate::line::Wire;
+use arrayvec::ArrayVec;
+use swp_base::Lpdu;
+use swp_frame::Fed;
+
+/// The frames that a step gives, at most sixteen, each with whether it is the CLF's.
+pub type Frames = ArrayVec<(bool, Lpdu), 16>;
+
+/// Appends the frame that came on a wire; nothing where none came, or one that was refused.
+#[inline(always)]
+pub fn push_frame(frames: &mut Frames, wire: Wire, fed: Fed)
+    requires { length frames.old.items < 16 }
+    ensures items { frames.new.items ≡ frames.old.items ++ frame_in wire fed }
+    ensures sized { length frames.new.items ≤ length frames.old.items + 1 }
+{
+    match fed {
+        Fed::Nothing | Fed::Refused(_) => {}
+        Fed::Frame(lpdu) => frames.push((is_from_clf(wire), lpdu)),
+    }
+}
+
+#[inline(always)]
+fn is_from_clf(wire: Wire) -> bool
+    ensures { result ≡ is_of_clf wire }
+{
+    match wire {
+        Wire::S1 => true,
+        Wire::S2 => false,
+    }
+}

@@ -1,0 +1,64 @@
+//! The program `swp_flash`: what `swp` does, with the same words, but with the memory on flash pages, which a file stands for. It
+//! makes the adapters to the operating system, runs the top call, says on standard error how the run ended unless all is done,
+//! and ends with the exit status.
+#![tactic(auto)]
+
+mod adapters;
+mod file_flash;
+
+use adapters::{StdinSource, StdoutSink};
+use file_flash::FileFlash;
+use flash_nv::FlashNv;
+use std::env::{self, Env};
+use std::fs::{File, Files};
+use std::io;
+use std::process::ExitCode;
+use std::rt::Runtime;
+use swp_tool::{Ended, Status, exit_code, run, status_text};
+
+/// The file that stands for the flash, in the folder that the program runs in.
+const FLASH: &str = "swp.flash";
+
+fn main(rt: HostRuntime) -> ExitCode {
+    let status = status_of_run(&rt);
+    if status != Status::Done {
+        // Where even this can't be said, the exit status still tells.
+        let _ = tell(&rt, &status);
+    }
+    ExitCode::from(exit_code(&status))
+}
+
+/// Runs the program over standard input and output.
+fn status_of_run<R: Runtime + Input + Print + AllocGlobal + Files<File = File>>(rt: &R) -> Status {
+    let nv = FlashNv::new(FileFlash::new(rt, FLASH));
+    let words = match words_of(rt) {
+        Ok(words) => words,
+        Err(error) if error.kind() == io::ErrorKind::OutOfMemory => return Status::NoMemory,
+        Err(_) => return Status::BadWords,
+    };
+    let mut source = StdinSource::new(rt.reader());
+    let mut sink = StdoutSink::new(io::writer(rt));
+    let Ended { status, nv: _ } = run(rt.alloc(), words.as_slice(), &mut source, &mut sink, nv);
+    status
+}
+
+/// The words behind the program's name.
+fn words_of<R: Env + AllocGlobal>(rt: &R) -> io::Result<Vec<String>> {
+    let mut words = Vec::new(rt.alloc());
+    for word in env::args(rt)?.skip(1) {
+        words.push(word)?;
+    }
+    Ok(words)
+}
+
+/// Says on standard error how the run ended.
+fn tell<R: Eprint + AllocGlobal>(rt: &R, status: &Status) -> io::Result<()> {
+    let mut text = Vec::new(rt.alloc());
+    if status_text(rt.alloc(), status, &mut text).is_err() {
+        return Ok(());
+    }
+    match String::from_utf8(text) {
+        Ok(text) => rt.eprintln(text),
+        Err(_) => Ok(()),
+    }
+}
