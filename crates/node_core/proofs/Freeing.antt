@@ -3,21 +3,23 @@ use Rattle.std.proofs.Common.{◌≡◌, ℕ, zero, suc, ◌≤◌, Bool, true, 
 use Rattle.std.proofs.Common.{add-one, append_assoc, ◌+◌}
 use Rattle.std.proofs.Common.{append_assoc, append-nil}
 use Rattle.std.specs.Prelude.{Option, Some, None, slice_get}
+use Rattle.std.proofs.Common.{inl, inr}
+use Rattle.std.specs.Prelude.{◌⊎◌}
+use Rattle.std.proofs.lemmas.Bool.{true≢false}
 use Rattle.std.specs.List.{flat_map, filter, filter_map}
 use Rattle.std.specs.Option.{option_map_or}
 use Rattle.std.proofs.lemmas.List.Concat.{flat_map-cons}
 use Rattle.std.proofs.lemmas.Grind.{flat_map-append}
 use Rattle.gate_answers.specs.declared.response.Response.{Response}
 use Rattle.trace_model.specs.declared.entry.Entry.{Entry}
-use Rattle.link_machine.specs.Machine.Turn.{Release}
 use Rattle.node_machine.specs.Parts.{Creation, Port, Work, Deed}
 use Rattle.node_machine.specs.Parts.Deed.{Releases}
-use Rattle.node_machine.specs.Carrying.{turn_at, all_done}
+use Rattle.node_machine.specs.Carrying.{done, all_done, unless_cut}
 use Rattle.node_machine.specs.Controller.{asked_at}
 use Rattle.node_machine.specs.Node.{forgotten, is_over_at, owed}
 use Rattle.node_core.specs.declared.node.Node.{Node}
 use Rattle.node_core.specs.Nodes.{IsInStep}
-use Rattle.node_core.specs.Owing.{freed_at, answers_to, has_ended_so, owed_at}
+use Rattle.node_core.specs.Owing.{freed_at, answers_owed, has_ended_so, owed_at}
 
 -- ## All ends
 
@@ -90,22 +92,53 @@ pub owed_all : (late : Bool) (r : Response) (i : ℕ) (ports : List Port) → le
     → flat_map (owed_at late r) (take i ports) ≡ flat_map (λ (p : Port). owed r (asked_at p)) (filter (has_ended_so late) ports)
 owed_all late r i ports past = past_freed (owed_at late r) i ports past ∙ owed_each late r ports
 
-pub one_answered : (r : Response) (askers : List ℕ) (a : ℕ) → flat_map (answers_to r) (askers ++ a ∷ []) ≡ flat_map (answers_to r) askers ++ answers_to r a
+pub one_answered : (r : Response) (askers : List ℕ) (a : ℕ) → flat_map (answers_owed r) (askers ++ a ∷ []) ≡ flat_map (answers_owed r) askers ++ answers_owed r a
 one_answered r askers a =
-    flat_map-append (answers_to r) askers (a ∷ [])
-    ∙ ap (λ l. flat_map (answers_to r) askers ++ l) (flat_map-cons (answers_to r) a [] ∙ append-nil (answers_to r a))
+    flat_map-append (answers_owed r) askers (a ∷ [])
+    ∙ ap (λ l. flat_map (answers_owed r) askers ++ l) (flat_map-cons (answers_owed r) a [] ∙ append-nil (answers_owed r a))
 
--- ## Releases, one after another
+-- ## Deeds without a write, one after another
 
-pub record ReleasesOn {N : Type 0} (n : Node N) (noted : List Entry) (short : Bool) (start : List Entry) (left all : List ℕ) (w : Work) : Type 0 where
+-- The node has come to this state in its deeds; these are left.
+pub record DoesOn {N : Type 0} (n : Node N) (noted : List Entry) (short : Bool) (start : List Entry) (left all : List Deed) (w : Work) : Type 0 where
   pub now : Work
   pub under : IsInStep n noted short start now
-  pub onto : all_done 0 (map Releases left) now ≡ all_done 0 (map Releases all) w
+  pub onto : all_done 0 left now ≡ all_done 0 all w
 
-pub release_goes_on : {N : Type 0} {n n2 : Node N} {noted noted2 start : List Entry} {short short2 : Bool} {a : ℕ} {left all : List ℕ} {w : Work}
-    (k : ReleasesOn n noted short start (a ∷ left) all w) → n.store.journal.live ≡ true → IsInStep n2 noted2 short2 start (turn_at a Release k.now)
-    → ReleasesOn n2 noted2 short2 start left all w
-release_goes_on {a = a} {left = left} k live under =
-    let power : k.now.cut ≡ false = k.under.power ∙ ap not live in
-    let goes : all_done 0 (map Releases (a ∷ left)) k.now ≡ all_done 0 (map Releases left) (turn_at a Release k.now) = rw power refl in
-    record { now = turn_at a Release k.now; under = under; onto = sym goes ∙ k.onto }
+-- one more is done
+pub one_done : {N : Type 0} {n n2 : Node N} {noted noted2 start : List Entry} {short short2 : Bool} {d : Deed} {left all : List Deed} {w : Work}
+    (k : DoesOn n noted short start (d ∷ left) all w) → n.store.journal.live ≡ true → (done 0 d k.now).cut ≡ k.now.cut
+    → IsInStep n2 noted2 short2 start (done 0 d k.now) → DoesOn n2 noted2 short2 start left all w
+one_done {d = d} {left = left} k live same under =
+    let power : (done 0 d k.now).cut ≡ false = same ∙ (k.under.power ∙ ap not live) in
+    let goes : all_done 0 (d ∷ left) k.now ≡ all_done 0 left (done 0 d k.now) = rw power refl in
+    record { now = done 0 d k.now; under = under; onto = sym goes ∙ k.onto }
+
+-- deeds, and those behind them
+pub all_then : (xs ys : List Deed) (w : Work) → (all_done 0 (xs ++ ys) w ≡ unless_cut (all_done 0 ys) (all_done 0 xs w)) ⊎ (w.cut ≡ true)
+all_then [] ys w = by w.cut refl
+  where
+    by : (b : Bool) → w.cut ≡ b → (all_done 0 ys w ≡ unless_cut (all_done 0 ys) w) ⊎ (w.cut ≡ true)
+    by true q = inr q
+    by false q = inl (rw q refl)
+all_then (d ∷ xs) ys w = by (done 0 d w).cut refl (all_then xs ys (done 0 d w))
+  where
+    by : (b : Bool) → (done 0 d w).cut ≡ b
+        → (all_done 0 (xs ++ ys) (done 0 d w) ≡ unless_cut (all_done 0 ys) (all_done 0 xs (done 0 d w))) ⊎ ((done 0 d w).cut ≡ true)
+        → (all_done 0 (d ∷ xs ++ ys) w ≡ unless_cut (all_done 0 ys) (all_done 0 (d ∷ xs) w)) ⊎ (w.cut ≡ true)
+    by true q later = inl (rw (q, q) refl)
+    by false q (inr cut) = absurd (true≢false (sym cut ∙ q))
+    by false q (inl same) = inl (rw q same)
+
+-- where no write fails
+pub all_joined : (xs ys : List Deed) (w : Work) → w.cut ≡ false → (all_done 0 xs w).cut ≡ false
+    → all_done 0 ys (all_done 0 xs w) ≡ all_done 0 (xs ++ ys) w
+all_joined xs ys w live on = by (all_then xs ys w)
+  where
+    goes : all_done 0 ys (all_done 0 xs w) ≡ unless_cut (all_done 0 ys) (all_done 0 xs w)
+    goes = rw on refl
+
+    by : (all_done 0 (xs ++ ys) w ≡ unless_cut (all_done 0 ys) (all_done 0 xs w)) ⊎ (w.cut ≡ true)
+        → all_done 0 ys (all_done 0 xs w) ≡ all_done 0 (xs ++ ys) w
+    by (inl same) = goes ∙ sym same
+    by (inr cut) = absurd (true≢false (sym cut ∙ live))

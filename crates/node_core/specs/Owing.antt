@@ -17,8 +17,8 @@ abbrev pub freed_at : List Port → Port → List Deed
 freed_at ports p = option_map_or (freed_for ports) (asked_at p) []
 
 -- this answer is owed to an asker, whose block is free then
-abbrev pub answers_to : Response → ℕ → List Deed
-answers_to r asker = Releases asker ∷ Sends asker (1, answer_of r []) ∷ []
+abbrev pub answers_owed : Response → ℕ → List Deed
+answers_owed r asker = Releases asker ∷ Sends asker (1, answer_of r []) ∷ []
 
 -- the session of an end ended in this step, as its notice was late or otherwise
 abbrev pub has_ended_so : Bool → Port → Bool

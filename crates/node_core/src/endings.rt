@@ -10,7 +10,7 @@ impl<N: Nv + Drop> Node<N> {
     ghost use Rattle.node_core.specs.Nodes.{IsInStep, IsSoundNode};
 
     // The creations whose askers have lost their sessions in this step are forgotten.
-    fn forget(&mut self)
+    pub(crate) fn forget(&mut self)
         requires runs { IsSoundNode self.old }
         ensures carried { (noted : List Noted) (short : Bool) (start : List Noted) (w : Work) → IsInStep self.old noted short start w
             → IsInStep self.new noted short start (record w { ports = map (forgets w.ports) w.ports }) }
@@ -24,7 +24,7 @@ impl<N: Nv + Drop> Node<N> {
     }
 
     // Where the session of an end has ended in this step, its notice is answered no more.
-    fn drop_notices(&mut self)
+    pub(crate) fn drop_notices(&mut self)
         requires runs { IsSoundNode self.old }
         ensures carried { (noted : List Noted) (short : Bool) (start : List Noted) (w : Work) → IsInStep self.old noted short start w
             → IsInStep self.new noted short start (record w { ports = map without_notice w.ports }) }
@@ -35,19 +35,5 @@ impl<N: Nv + Drop> Node<N> {
         for i in 0..7 {
             self.ends.drop_notice(i);
         }
-    }
-
-    /// What ends with the sessions that ended in this step: the creations of askers whose session ended are forgotten, and the notice to a
-    /// host whose session ended is answered no more.
-    pub(crate) fn end_with_sessions(&mut self)
-        requires runs { IsSoundNode self.old }
-        ensures carried { (noted : List Noted) (short : Bool) (start : List Noted) (w : Work) → IsInStep self.old noted short start w
-            → IsInStep self.new noted short start (record w { ports = map without_notice (map (forgets w.ports) w.ports) }) }
-        ensures store { self.new.store ≡ self.old.store }
-        ensures number { self.new.number ≡ self.old.number }
-        ensures runs { IsSoundNode self.new }
-    {
-        self.forget();
-        self.drop_notices();
     }
 }

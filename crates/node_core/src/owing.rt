@@ -1,6 +1,7 @@
 //! What a node owes where sessions ended.
 use crate::node::Node;
 use arrayvec::ArrayVec;
+use gate_answers::{Response, refused};
 use swp_base::Nv;
 use trace_model::Watch;
 
@@ -11,15 +12,15 @@ impl<N: Nv + Drop> Node<N> {
     ghost use Rattle.node_machine.specs.Parts.{Port, Work, Deed};
     ghost use Rattle.node_machine.specs.Parts.Deed.{Releases};
     ghost use Rattle.node_machine.specs.Carrying.{all_done};
-    ghost use Rattle.node_machine.specs.Node.{forgotten};
+    ghost use Rattle.node_machine.specs.Node.{forgotten, forgets, all_owed, without_notice};
     ghost use Rattle.node_ends.specs.Ends.{EndsStandFor};
     ghost use Rattle.node_core.specs.Nodes.{IsInStep, IsSoundNode};
     ghost use Rattle.std.specs.Prelude.{Bool, false};
     ghost use Rattle.std.specs.List.{flat_map, filter};
-    ghost use Rattle.gate_answers.specs.declared.response.Response.{Response};
+    ghost use Rattle.gate_answers.specs.declared.response.Response.{Response as Code};
     ghost use Rattle.node_machine.specs.Controller.{asked_at};
     ghost use Rattle.node_machine.specs.Node.{owed};
-    ghost use Rattle.node_core.specs.Owing.{freed_at, answers_to, has_ended_so, owed_at};
+    ghost use Rattle.node_core.specs.Owing.{freed_at, answers_owed, has_ended_so, owed_at};
 
     // The asker of the creation that waits at the end at this place, where it is forgotten since the asker's session ended in this step.
     fn forgotten_at(&self, i: usize) -> Option<u8>
@@ -85,8 +86,8 @@ impl<N: Nv + Drop> Node<N> {
     // The asker of the creation that waits at the end at this place, where the session of that end ended so in this step.
     fn owed_at(&self, i: usize, late: bool) -> Option<u8>
         requires runs { IsSoundNode self.now }
-        ensures { (ports : List Port) (r : Response) → EndsStandFor self.now.ends ports
-            → option_map_or (answers_to r) result [] ≡ option_map_or (owed_at late r) (slice_get ports i) [] }
+        ensures { (ports : List Port) (r : Code) → EndsStandFor self.now.ends ports
+            → option_map_or (answers_owed r) result [] ≡ option_map_or (owed_at late r) (slice_get ports i) [] }
     {
         if !self.has_ended_so(i, late) {
             return None;
@@ -104,8 +105,8 @@ impl<N: Nv + Drop> Node<N> {
     /// otherwise.
     pub(crate) fn owed(&self, late: bool) -> ArrayVec<u8, 7>
         requires runs { IsSoundNode self.now }
-        ensures { (ports : List Port) (r : Response) → EndsStandFor self.now.ends ports
-            → flat_map (answers_to r) result.items ≡ flat_map (λ p. owed r (asked_at p)) (filter (has_ended_so late) ports) }
+        ensures { (ports : List Port) (r : Code) → EndsStandFor self.now.ends ports
+            → flat_map (answers_owed r) result.items ≡ flat_map (λ p. owed r (asked_at p)) (filter (has_ended_so late) ports) }
     {
         let mut askers = ArrayVec::new();
         for i in 0..7 {
@@ -114,5 +115,44 @@ impl<N: Nv + Drop> Node<N> {
             }
         }
         askers
+    }
+
+    /// These askers get this answer, and the blocks that were set aside for it are free.
+    pub(crate) fn answer_all<W: Watch>(&mut self, askers: &[u8], response: Response, watch: &mut W)
+        requires runs { IsSoundNode self.old }
+        requires live { IsTrue self.old.store.journal.live }
+        ensures carried { (start : List Noted) (w : Work) → IsInStep self.old (W.noted watch.old) (W.is_short watch.old) start w
+            → IsInStep self.new (W.noted watch.new) (W.is_short watch.new) start (all_done 0 (flat_map (answers_owed response) askers.now) w) }
+        ensures store { self.new.store ≡ self.old.store }
+        ensures number { self.new.number ≡ self.old.number }
+        ensures runs { IsSoundNode self.new }
+    {
+        for asker in askers {
+            self.release(*asker, watch);
+            self.send(*asker, 1, refused(response).as_slice(), watch);
+        }
+    }
+
+    /// What sessions that ended in this step leave: the creations of their askers are forgotten and their blocks free, no notice to their
+    /// hosts is answered any more, and those who asked for creations there get their answers.
+    pub(crate) fn settle_sessions<W: Watch>(&mut self, watch: &mut W)
+        requires runs { IsSoundNode self.old }
+        requires live { IsTrue self.old.store.journal.live }
+        ensures carried { (start : List Noted) (w : Work) → IsInStep self.old (W.noted watch.old) (W.is_short watch.old) start w
+            → let left : List Port = map (forgets w.ports) w.ports in
+            IsInStep self.new (W.noted watch.new) (W.is_short watch.new) start
+            (all_done 0 (all_owed left) (all_done 0 (forgotten w.ports) (record w { ports = map without_notice left }))) }
+        ensures store { self.new.store ≡ self.old.store }
+        ensures number { self.new.number ≡ self.old.number }
+        ensures runs { IsSoundNode self.new }
+    {
+        let freed = self.forgotten();
+        self.forget();
+        let ended = self.owed(false);
+        let late = self.owed(true);
+        self.drop_notices();
+        self.release_all(freed.as_slice(), watch);
+        self.answer_all(ended.as_slice(), Response::NotConnected, watch);
+        self.answer_all(late.as_slice(), Response::Timeout, watch);
     }
 }

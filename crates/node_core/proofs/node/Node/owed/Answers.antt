@@ -4,7 +4,7 @@ use Rattle.std.specs.List.{flat_map}
 use Rattle.std.specs.Option.{option_map_or}
 use Rattle.node_machine.specs.Parts.{Deed}
 use Rattle.gate_answers.specs.declared.response.Response.{Response}
-use Rattle.node_core.specs.Owing.{answers_to, owed_at}
+use Rattle.node_core.specs.Owing.{answers_owed, owed_at}
 use Rattle.node_core.proofs.Ticking.{many_ports}
 use Rattle.node_core.proofs.Freeing.{one_gathered, owed_all, one_answered}
 use Rattle.node_core.proofs.node.Node.owed.Goals as goal
@@ -18,16 +18,16 @@ loop-i-preserved g c =
     let i = c.loop-i.i in
     let so_far = c.loop-i.invariant in
     let few = so_far.few in
-    let t : Response → Option ℕ → List Deed = λ r o. option_map_or (answers_to r) o [] in
+    let t : Response → Option ℕ → List Deed = λ r o. option_map_or (answers_owed r) o [] in
     elim c.match-owed_at.branch [
       | in-Some w ↦
           let len = w.push.ensures.len in
           let same = ap (λ v. length v.items) w.askers-is in
           record {
             items = λ ports r e.
-                ap (λ v. flat_map (answers_to r) v.items) w.askers-is
-                ∙ (ap (flat_map (answers_to r)) w.push.ensures.items ∙ (one_answered r c.loop-i.askers.items w.in-Some.asker
-                ∙ one_gathered (owed_at c.args.late r) ports i (flat_map (answers_to r) c.loop-i.askers.items) (answers_to r w.in-Some.asker) (so_far.items ports r e)
+                ap (λ v. flat_map (answers_owed r) v.items) w.askers-is
+                ∙ (ap (flat_map (answers_owed r)) w.push.ensures.items ∙ (one_answered r c.loop-i.askers.items w.in-Some.asker
+                ∙ one_gathered (owed_at c.args.late r) ports i (flat_map (answers_owed r) c.loop-i.askers.items) (answers_owed r w.in-Some.asker) (so_far.items ports r e)
                 (sym (ap (t r) w.in-Some.is) ∙ c.owed_at.ensures ports r e)));
             few = omega (arith, len, same, few);
           }
@@ -35,9 +35,9 @@ loop-i-preserved g c =
           let same = ap (λ v. length v.items) w.askers-is in
           record {
             items = λ ports r e.
-                ap (λ v. flat_map (answers_to r) v.items) w.askers-is
-                ∙ (sym (append-nil (flat_map (answers_to r) c.loop-i.askers.items))
-                ∙ one_gathered (owed_at c.args.late r) ports i (flat_map (answers_to r) c.loop-i.askers.items) [] (so_far.items ports r e) (sym (ap (t r) w.in_default.is) ∙ c.owed_at.ensures ports r e));
+                ap (λ v. flat_map (answers_owed r) v.items) w.askers-is
+                ∙ (sym (append-nil (flat_map (answers_owed r) c.loop-i.askers.items))
+                ∙ one_gathered (owed_at c.args.late r) ports i (flat_map (answers_owed r) c.loop-i.askers.items) [] (so_far.items ports r e) (sym (ap (t r) w.in_default.is) ∙ c.owed_at.ensures ports r e));
             few = omega (arith, same, few);
           }
     ]

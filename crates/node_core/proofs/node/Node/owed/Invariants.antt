@@ -3,13 +3,13 @@ use Rattle.std.specs.List.{flat_map}
 use Rattle.node_machine.specs.Parts.{Port}
 use Rattle.gate_answers.specs.declared.response.Response.{Response}
 use Rattle.node_ends.specs.Ends.{EndsStandFor}
-use Rattle.node_core.specs.Owing.{answers_to, owed_at}
+use Rattle.node_core.specs.Owing.{answers_owed, owed_at}
 use Rattle.node_core.proofs.node.Node.owed.Given as goal
 
 -- those of the ends so far
 abbrev pub invariant-loop-i : goal.invariant-loop-i
 invariant-loop-i g l = record {
   items : (ports : List Port) (r : Response) → EndsStandFor l.fn.self.ends ports
-      → flat_map (answers_to r) l.askers.items ≡ flat_map (owed_at l.late r) (take l.i ports);
+      → flat_map (answers_owed r) l.askers.items ≡ flat_map (owed_at l.late r) (take l.i ports);
   few : length l.askers.items ≤ l.i;
 }

@@ -5,7 +5,7 @@ use Rattle.node_machine.specs.Parts.{Work}
 use Rattle.node_machine.specs.Parts.Deed.{Releases}
 use Rattle.node_machine.specs.Carrying.{all_done}
 use Rattle.node_core.specs.Nodes.{IsInStep}
-use Rattle.node_core.proofs.Freeing.{ReleasesOn, release_goes_on}
+use Rattle.node_core.proofs.Freeing.{DoesOn, one_done}
 use Rattle.node_core.proofs.node.Node.release_all.Goals as goal
 
 pub loop-asker-init : goal.loop-asker-init
@@ -30,10 +30,10 @@ loop-asker-preserved g c =
       store = t.ensures.store ∙ c.loop-asker.invariant.store;
       number = t.ensures.number ∙ c.loop-asker.invariant.number;
       goes = λ start w u.
-          let P : List ℕ → Type 0 = λ l. ReleasesOn c.loop-asker.self (g.W.Watch.noted c.loop-asker.watch) (g.W.Watch.is_short c.loop-asker.watch)
-          start l askers w in
+          let P : List ℕ → Type 0 = λ l. DoesOn c.loop-asker.self (g.W.Watch.noted c.loop-asker.watch) (g.W.Watch.is_short c.loop-asker.watch)
+          start (map Releases l) (map Releases askers) w in
           let k : P (a ∷ drop (i + 1) askers) = subst P split (c.loop-asker.invariant.goes start w u) in
-          release_goes_on k c.loop-asker.invariant.live (t.ensures.carried start k.now k.under);
+          one_done k c.loop-asker.invariant.live refl (t.ensures.carried start k.now k.under);
     }
 
 pub returns-clause-carried : goal.returns-clause-carried

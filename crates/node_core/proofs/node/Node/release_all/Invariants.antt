@@ -1,8 +1,9 @@
-use Rattle.std.proofs.Common.{◌≡◌, true, List, drop}
+use Rattle.std.proofs.Common.{◌≡◌, true, List, map, drop}
 use Rattle.trace_model.specs.declared.entry.Entry.{Entry}
 use Rattle.node_machine.specs.Parts.{Work}
+use Rattle.node_machine.specs.Parts.Deed.{Releases}
 use Rattle.node_core.specs.Nodes.{IsInStep, IsSoundNode}
-use Rattle.node_core.proofs.Freeing.{ReleasesOn}
+use Rattle.node_core.proofs.Freeing.{DoesOn}
 use Rattle.node_core.proofs.node.Node.release_all.Given as goal
 
 -- the blocks of the askers so far are free
@@ -16,5 +17,5 @@ invariant-loop-asker g l =
       store : l.self.store ≡ l.fn.self.store;
       number : l.self.number ≡ l.fn.self.number;
       goes : (start : List Entry) (w : Work) → IsInStep l.fn.self (noted l.fn.watch) (short l.fn.watch) start w
-          → ReleasesOn l.self (noted l.watch) (short l.watch) start (drop l.asker-index l.askers) l.askers w;
+          → DoesOn l.self (noted l.watch) (short l.watch) start (map Releases (drop l.asker-index l.askers)) (map Releases l.askers) w;
     }

@@ -1,0 +1,59 @@
+use Rattle.std.proofs.Common.{◌≡◌, ℕ, ◌+◌, List, [], ◌∷◌, get_or, drop, refl, sym, ap, ◌∙◌, subst, add-one, drop-cons}
+use Rattle.std.proofs.lemmas.List.{drop_all}
+use Rattle.hci_store.specs.Stored.{Stored}
+use Rattle.gate_answers.specs.Answers.{answer_of}
+use Rattle.link_machine.specs.Machine.Turn.{Give}
+use Rattle.std.specs.List.{flat_map}
+use Rattle.std.proofs.lemmas.List.Concat.{flat_map-cons}
+use Rattle.node_core.specs.Owing.{answers_owed}
+use Rattle.node_machine.specs.Parts.{Work, Deed}
+use Rattle.node_machine.specs.Parts.Deed.{Releases, Sends}
+use Rattle.node_machine.specs.Carrying.{all_done, turn_at}
+use Rattle.node_core.specs.Nodes.{IsInStep}
+use Rattle.node_core.proofs.Freeing.{DoesOn, one_done}
+use Rattle.node_core.proofs.node.Node.answer_all.Goals as goal
+
+pub loop-asker-init : goal.loop-asker-init
+loop-asker-init g c = record {
+  runs = c.requires.runs;
+  live = c.requires.live;
+  store = refl;
+  number = refl;
+  goes = λ start w u. record { now = w; under = u; onto = refl };
+}
+
+pub loop-asker-preserved : goal.loop-asker-preserved
+loop-asker-preserved g c =
+    let t = c.send in
+    let r = c.args.response in
+    let askers = c.args.askers.now in
+    let i = c.loop-asker.asker-index in
+    let a : ℕ = get_or askers i 0 in
+    let split : drop i askers ≡ a ∷ drop (i + 1) askers = drop-cons askers i 0 c.loop-asker-test.true ∙ ap (λ n. a ∷ drop n askers) (sym (add-one i)) in
+    record {
+      runs = t.ensures.runs;
+      live = ap (λ (s : Stored g.row.N.Denot). s.journal.live) (t.ensures.store ∙ c.release.ensures.store) ∙ c.loop-asker.invariant.live;
+      store = t.ensures.store ∙ (c.release.ensures.store ∙ c.loop-asker.invariant.store);
+      number = t.ensures.number ∙ (c.release.ensures.number ∙ c.loop-asker.invariant.number);
+      goes = λ start w u.
+          let P : List ℕ → Type 0 = λ l. DoesOn c.loop-asker.self (g.W.Watch.noted c.loop-asker.watch) (g.W.Watch.is_short c.loop-asker.watch)
+          start (flat_map (answers_owed r) l) (flat_map (answers_owed r) askers) w in
+          let Q : List Deed → Type 0 = λ l. DoesOn c.loop-asker.self (g.W.Watch.noted c.loop-asker.watch) (g.W.Watch.is_short c.loop-asker.watch)
+          start l (flat_map (answers_owed r) askers) w in
+          let k : Q (Releases a ∷ Sends a (1, answer_of r []) ∷ flat_map (answers_owed r) (drop (i + 1) askers)) =
+          subst Q (flat_map-cons (answers_owed r) a (drop (i + 1) askers)) (subst P split (c.loop-asker.invariant.goes start w u)) in
+          let freed = one_done k c.loop-asker.invariant.live refl (c.release.ensures.carried start k.now k.under) in
+          let on = ap (λ (s : Stored g.row.N.Denot). s.journal.live) c.release.ensures.store ∙ c.loop-asker.invariant.live in
+          let S : List ℕ → Type 0 = λ bytes. IsInStep t.new.self (g.W.Watch.noted t.new.watch) (g.W.Watch.is_short t.new.watch) start
+          (turn_at a (Give (1, bytes)) freed.now) in
+          one_done freed on refl (subst S (c.as_slice.ensures.value ∙ c.refused.ensures) (t.ensures.carried start freed.now freed.under));
+    }
+
+pub returns-clause-carried : goal.returns-clause-carried
+returns-clause-carried g c start w u =
+    let askers = c.args.askers.now in
+    let i = c.loop-asker.asker-index in
+    let k = c.loop-asker.invariant.goes start w u in
+    let none : drop i askers ≡ [] = drop_all i askers c.loop-asker-test.false in
+    let P : Work → Type 0 = λ v. IsInStep c.loop-asker.self (g.W.Watch.noted c.loop-asker.watch) (g.W.Watch.is_short c.loop-asker.watch) start v in
+    subst P (ap (λ (l : List ℕ). all_done 0 (flat_map (answers_owed c.args.response) l) k.now) (sym none) ∙ k.onto) k.under
