@@ -11,6 +11,7 @@ use Rattle.tap_reading.specs.keeping.Keeping.{KeptSide, KeptTap, new_kept_tap, k
 use Rattle.tap_reading.specs.keeping.Keeping.{kept_reports}
 use Rattle.tap_reading.specs.keeping.Keeping.{StandsForTap}
 use Rattle.swp_tap.specs.declared.tap.TapHead.{TapHead}
+use Rattle.swp_tap.specs.declared.tap.TapMessage.{TapMessage}
 
 -- a tap: whether its link is bare, what it keeps, how many frames it has taken, and the bytes of the message that it told last
 pub record TapValue : Type 0 where
@@ -65,6 +66,11 @@ report_of h body = record { to_clf = h.to_clf; session = h.session; pipe = h.pip
 abbrev pub reports_in : Option TapHead → List ℕ → List TapReport
 reports_in None body = []
 reports_in (Some h) body = report_of h body ∷ []
+
+-- what a message that is told whole reports
+abbrev pub messages_in : Option TapMessage → List TapReport
+messages_in None = []
+messages_in (Some m) = record { to_clf = m.to_clf; session = m.session; pipe = m.pipe; body = m.body.items } ∷ []
 
 -- A tap stands for a list of LPDUs, each with whether it is the CLF's: it has taken so many, and what it keeps stands for what a new tap
 -- has heard over them.

@@ -37,7 +37,8 @@ impl Body {
 
     /// Its bytes.
     pub fn as_slice(&self) -> &[u8]
-        ensures { result.now ≡ self.now }
+        ensures value { result.now ≡ self.now }
+        ensures short { length result.now ≤ 4096 }
     {
         &self.bytes[..self.len]
     }

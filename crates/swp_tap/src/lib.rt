@@ -7,4 +7,4 @@ mod side;
 mod tap;
 mod under_way;
 
-pub use tap::{Tap, TapHead};
+pub use tap::{Tap, TapHead, TapMessage};

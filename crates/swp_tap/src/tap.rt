@@ -1,11 +1,12 @@
 //! The tap.
-ghost use Rattle.std.specs.Prelude.{◌≡◌, ◌<◌, ◌+◌, Bool, IfNone};
+ghost use Rattle.std.specs.Prelude.{◌≡◌, ◌<◌, ◌≤◌, ◌+◌, Bool, length, IfNone};
 ghost use Rattle.tap_reading.specs.keeping.Keeping.{kept_hears, kept_numbered};
 ghost use Rattle.swp_tap.specs.Coming.{news_in};
 ghost use Rattle.swp_tap.specs.Hearing.{kept_pair, news_at, news_by, rsets_behind};
 
 use crate::body::Body;
 use crate::side::Side;
+use arrayvec::ArrayVec;
 use std::alloc::Global;
 use std::marker::Model;
 use swp_base::{Control, Lpdu, NoMemory};
@@ -20,6 +21,19 @@ pub struct TapHead {
     pub session: u32,
     /// 0 to 6F.
     pub pipe: u8,
+}
+
+/// A message that an end has got.
+#[derive(Drop)]
+pub struct TapMessage {
+    /// The end is the CLF.
+    pub to_clf: bool,
+    /// The number of the session: that of the RSET that began it, and 0 on a bare link before any.
+    pub session: u32,
+    /// 0 to 6F.
+    pub pipe: u8,
+    /// With its header.
+    pub body: ArrayVec<u8, 4096>,
 }
 
 /// A passive tap on one link. It hears the frames that both ends put on the link, and tells a message once the end that it was sent to
@@ -102,6 +116,16 @@ fn hear(
     }
 }
 
+// These bytes, in room of their own.
+fn copied(bytes: &[u8]) -> ArrayVec<u8, 4096>
+    requires { length bytes.now ≤ 4096 }
+    ensures { result.items ≡ bytes.now }
+{
+    let mut body = ArrayVec::new();
+    let _all = body.try_extend_from_slice(bytes);
+    body
+}
+
 // How many RSETs were heard after this frame.
 fn rsets_after(rsets: u32, control: &Control) -> u32
     requires { rsets < 4294967295 }
@@ -114,9 +138,9 @@ fn rsets_after(rsets: u32, control: &Control) -> u32
 }
 
 impl Tap {
-    ghost use Rattle.std.specs.Prelude.{◌≡◌, ◌+◌, ◌<◌, List, ℕ, Bool, ◌++◌, ◌∷◌, [], IfOk};
+    ghost use Rattle.std.specs.Prelude.{◌≡◌, ◌+◌, ◌<◌, ◌≤◌, List, ℕ, Bool, ◌++◌, ◌∷◌, [], length, IfOk};
     ghost use Rattle.tap_reading.specs.Lpdus.{tapped_lpdus};
-    ghost use Rattle.swp_tap.specs.Hearing.{StandsFor, new_tap_value, kept_after_lpdu, kept_reports_lpdu, reports_in};
+    ghost use Rattle.swp_tap.specs.Hearing.{StandsFor, new_tap_value, kept_after_lpdu, kept_reports_lpdu, reports_in, messages_in};
 
     /// A tap on a link that is bare or not. It has heard nothing.
     pub fn new(alloc: Global, bare: bool) -> Result<Tap, NoMemory>
@@ -144,15 +168,42 @@ impl Tap {
 
     /// The bytes of the message that it told last, with its header, and none before any.
     pub fn body(&self) -> &[u8]
-        ensures { result.now ≡ self.now.body }
+        ensures value { result.now ≡ self.now.body }
+        ensures short { length result.now ≤ 4096 }
     {
         self.body.as_slice()
+    }
+
+    /// Takes a frame that a side put on the link, and tells the message that it brings, if any: as `tell` does, with its bytes.
+    pub fn take(&mut self, from_clf: bool, lpdu: &Lpdu) -> Option<TapMessage>
+        requires { self.old.taken < 4294967295 }
+        ensures bare { self.new.bare ≡ self.old.bare }
+        ensures taken { self.new.taken ≡ self.old.taken + 1 }
+        ensures stands { (lpdus : List (Bool × List ℕ)) → StandsFor self.old lpdus → StandsFor self.new (lpdus ++ (from_clf, lpdu.now) ∷ []) }
+        ensures reports { (lpdus : List (Bool × List ℕ)) → StandsFor self.old lpdus →
+            tapped_lpdus self.old.bare (lpdus ++ (from_clf, lpdu.now) ∷ []) ≡ tapped_lpdus self.old.bare lpdus ++ messages_in result }
+    {
+        match self.tell(from_clf, lpdu) {
+            None => None,
+            Some(
+                TapHead {
+                    to_clf,
+                    session,
+                    pipe,
+                },
+            ) => Some(TapMessage {
+                to_clf,
+                session,
+                pipe,
+                body: copied(self.body()),
+            }),
+        }
     }
 
     /// Takes a frame that a side put on the link. The head of the message that it tells comes, if any: at most one. Its bytes are then those of
     /// `body`, which stay as they are where nothing is told. One that is outside the grammar of LPDUs, and frames of activation and of
     /// contactless tunnelling, tell nothing. It takes no memory. It asks that fewer than 4,294,967,295 frames were taken.
-    pub fn take(&mut self, from_clf: bool, lpdu: &Lpdu) -> Option<TapHead>
+    pub fn tell(&mut self, from_clf: bool, lpdu: &Lpdu) -> Option<TapHead>
         requires { self.old.taken < 4294967295 }
         ensures bare { self.new.bare ≡ self.old.bare }
         ensures taken { self.new.taken ≡ self.old.taken + 1 }

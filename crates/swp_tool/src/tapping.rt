@@ -98,7 +98,7 @@ fn hear_frame<K: Sink>(
         → HasHeard bare K.tells tap.old text.old.items least frames before (K.written sink.old)
         → IsFront K.tells least (report_lines bare (frames ++ (from_clf, lpdu.now) ∷ [])) before (K.written sink.new)) }
 {
-    match tap.take(from_clf, lpdu) {
+    match tap.tell(from_clf, lpdu) {
         None => Ok(()),
         Some(head) => gather_report(sink, text, head, tap.body()),
     }

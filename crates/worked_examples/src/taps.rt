@@ -5,7 +5,7 @@ use crate::shown::{same, same_bytes};
 use std::alloc::Global;
 use std::process::Abort;
 use swp_base::Lpdu;
-use swp_tap::{Tap, TapHead};
+use swp_tap::{Tap, TapMessage};
 
 /// A tap on a bare link that has heard nothing.
 fn tap(rt: &impl Abort, alloc: Global) -> Tap
@@ -15,7 +15,7 @@ fn tap(rt: &impl Abort, alloc: Global) -> Tap
 }
 
 /// What the tap tells at this frame.
-fn hears(rt: &impl Abort, tap: &mut Tap, from_clf: bool, bytes: &[u8]) -> Option<TapHead>
+fn hears(rt: &impl Abort, tap: &mut Tap, from_clf: bool, bytes: &[u8]) -> Option<TapMessage>
     requires { tap.old.taken ≤ 100 }
     ensures { tap.new.taken ≡ tap.old.taken + 1 }
 {
@@ -41,7 +41,7 @@ fn got(rt: &impl Abort, tap: &mut Tap, bytes: &[u8], session: u32, body: &[u8])
     same(rt, &told.to_clf, &true);
     same(rt, &told.session, &session);
     same(rt, &told.pipe, &1);
-    same_bytes(rt, tap.body(), body);
+    same_bytes(rt, &told.body, body);
 }
 
 #[test]
