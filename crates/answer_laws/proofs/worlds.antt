@@ -17,9 +17,13 @@ pub mod Ascending
 pub mod Turns
 pub mod Lifting
 pub mod Resting
+pub mod Leaving
+pub mod Powered
+pub mod Taking
 pub mod AtRest
 pub mod Events
 pub mod Late
 pub mod Done
 pub mod Due
+pub mod Short
 pub mod Schedules

@@ -59,9 +59,10 @@ pub fn every_history_of_a_schedule_is_legal()
 /// answered: messages are in order, quiet links have delivered all, pipes are allowed, commands are kept and a cut ends its node's part of an
 /// event; messages have their turns in the order in which they came, at the ends of their node in order, behind all that comes to it; at the
 /// end of each event all that came to a node that runs have had them, or all before one that is held; each that has its turn at the
-/// controller is replied to as is read, and each that is held there is held for what it lacks; what a host answers before its first turn in
+/// controller is replied to as is read, and each that is held there is held for what it lacks; where the controller has made a step and runs
+/// on, the first message that is left at each of its ends lacks room as it leaves that end; what a host answers before its first turn in
 /// an event is exactly what is due; and sessions end by resets exactly where they are due. Open are the replies and holds of hosts, that a
-/// message that is left lacks room still, and that what the controller answers before its first turn is what is due.
+/// message that is left at a host lacks room, and that what the controller answers before its first turn is what is due.
 pub fn every_played_history_is_legal()
     ensures links { (header : Header) (lines : List Line) (t : History) → IsPlayed header lines (OfLink t) → IsLegal (OfLink t) }
     ensures legal { (header : Header) (lines : List Line) (t : NodeHistory) → IsPlayed header lines (OfNodes t) → LegalNodes t }

@@ -81,23 +81,39 @@ module _ (header : Header) (lines : List Line) (t : NodeHistory) (follows : Foll
     between : ReadsBetween hosts (entries_in front) w
     between = subst (ReadsBetween hosts (entries_in front)) is (history_reads header lines t follows are sent few front back parts)
 
+    -- what is known as the pass begins
+    pub comes_known : (h : ℕ) (comes : Comes) (i : LinkInput) → input_of (link_to w.sites h) comes ≡ Some i
+        → (comes_to_pass (AtEnd h i) (controller_begins w r h comes)).cut ≡ false
+        → ReadsInStep hosts (entries_in front) (comes_to_pass (AtEnd h i) (controller_begins w r h comes))
+        × IsCarried (entries_in front) Controller (comes_to_pass (AtEnd h i) (controller_begins w r h comes))
+    comes_known h comes i input on = (
+      comes_reads hosts are (entries_in front) w between r runs h comes i input on,
+      comes_carried w (entries_in front) so.well.orderly so.well.fine (λ h s found. (so.each h s found).told) r runs h comes i input,
+    )
+
     pub comes_replied : (h : ℕ) (comes : Comes) (i : LinkInput) → input_of (link_to w.sites h) comes ≡ Some i
         → (comes_to_pass (AtEnd h i) (controller_begins w r h comes)).cut ≡ false
         → BeginsPass (entries_in front) (comes_to_pass (AtEnd h i) (controller_begins w r h comes))
         → AreRepliedIn hosts (entries_in front) (comes_to_pass (AtEnd h i) (controller_begins w r h comes))
     comes_replied h comes i input on begins =
-        pass_replies hosts are (entries_in front) (comes_to_pass (AtEnd h i) (controller_begins w r h comes))
-        (comes_reads hosts are (entries_in front) w between r runs h comes i input on)
-        (comes_carried w (entries_in front) so.well.orderly so.well.fine (λ h s found. (so.each h s found).told) r runs h comes i input) begins
+        let known = comes_known h comes i input on in
+        pass_replies hosts are (entries_in front) (comes_to_pass (AtEnd h i) (controller_begins w r h comes)) known.0 known.1 begins
+
+    pub tick_known : (comes_to_pass TimePasses (as_it_ticks w r)).cut ≡ false
+        → ReadsInStep hosts (entries_in front ++ (all_aged w).1) (comes_to_pass TimePasses (as_it_ticks w r))
+        × IsCarried (entries_in front ++ (all_aged w).1) Controller (comes_to_pass TimePasses (as_it_ticks w r))
+    tick_known on =
+        let node : HasEnds 0 (hosts_in w.sites) r = node_is 0 (hosts_in w.sites) w.controller r so.well.orderly.controller runs in
+        let ends : map (λ (d : Desk). d.host) r.desks ≡ hosts_in (all_aged w).0.sites =
+        node.ends ∙ sym (hosts_same (λ (s : Site). record s { link = aged s.link }) (λ s. refl) w.sites) in (
+          tick_reads hosts are (entries_in front) w between r runs on,
+          tick_carried w (entries_in front) so.well.orderly so.well.fine (λ h s found. (so.each h s found).told)
+              (λ h s found. timely w (entries_in front) _ h s so.up found (so.each h s found)) r runs ends,
+        )
 
     pub tick_replied : (comes_to_pass TimePasses (as_it_ticks w r)).cut ≡ false
         → BeginsPass (entries_in front ++ (all_aged w).1) (comes_to_pass TimePasses (as_it_ticks w r))
         → AreRepliedIn hosts (entries_in front ++ (all_aged w).1) (comes_to_pass TimePasses (as_it_ticks w r))
     tick_replied on begins =
-        let node : HasEnds 0 (hosts_in w.sites) r = node_is 0 (hosts_in w.sites) w.controller r so.well.orderly.controller runs in
-        let ends : map (λ (d : Desk). d.host) r.desks ≡ hosts_in (all_aged w).0.sites =
-        node.ends ∙ sym (hosts_same (λ (s : Site). record s { link = aged s.link }) (λ s. refl) w.sites) in
-        pass_replies hosts are (entries_in front ++ (all_aged w).1) (comes_to_pass TimePasses (as_it_ticks w r))
-        (tick_reads hosts are (entries_in front) w between r runs on)
-        (tick_carried w (entries_in front) so.well.orderly so.well.fine (λ h s found. (so.each h s found).told)
-        (λ h s found. timely w (entries_in front) _ h s so.up found (so.each h s found)) r runs ends) begins
+        let known = tick_known on in
+        pass_replies hosts are (entries_in front ++ (all_aged w).1) (comes_to_pass TimePasses (as_it_ticks w r)) known.0 known.1 begins

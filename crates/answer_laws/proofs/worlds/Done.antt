@@ -54,7 +54,7 @@ use Rattle.answer_laws.proofs.worlds.Turns.{beginning_turnless, sending_turnless
 
 -- ## Time
 
-aged_idle : (e : End) (w : NodeWorld) → AreIdle e (all_aged w).1
+pub aged_idle : (e : End) (w : NodeWorld) → AreIdle e (all_aged w).1
 aged_idle e w =
     flat_idle e (λ (s : Site). entries_for s.host (aged_entries Controller s.link.to_controller ++ aged_entries Host s.link.to_host))
     (λ s. quiet_links e s.host (aged_entries Controller s.link.to_controller ++ aged_entries Host s.link.to_host)

@@ -62,7 +62,7 @@ use Rattle.answer_laws.proofs.worlds.Turns.{begun_turnless, lost_turnless, boots
 
 -- ## Where an entry stands
 
-abbrev NoneThere : List Entry → Type 0
+abbrev pub NoneThere : List Entry → Type 0
 NoneThere es = AllByRecursion (λ x. turn_link 0 x ≡ None) es
 
 -- an entry behind entries that aren't it stands in what follows them
@@ -183,14 +183,14 @@ frames_quiet f v (s ∷ sites) =
     (frames_uncut Controller s.host (f s) v))
     (frames_quiet f v sites)
 
-frames_none : (f : Site → Link) (v : Work) (sites : List Site) → NoneThere (flat_map (λ (s : Site). frames_noted Controller s.host (f s) v) sites)
+pub frames_none : (f : Site → Link) (v : Work) (sites : List Site) → NoneThere (flat_map (λ (s : Site). frames_noted Controller s.host (f s) v) sites)
 frames_none f v sites =
     turnless_there 0 (flat_map (λ (s : Site). frames_noted Controller s.host (f s) v) sites)
     (flat_turnless (λ (s : Site). frames_noted Controller s.host (f s) v) (λ s. frames_turnless Controller s.host (f s) v) sites)
 
 -- ## Events
 
-far_not : (w : NodeWorld) (e : End) (comes : Comes) → IsOrderly w → e.at_host ≡ true → AreNotOf 0 (comes_at w e comes).1
+pub far_not : (w : NodeWorld) (e : End) (comes : Comes) → IsOrderly w → e.at_host ≡ true → AreNotOf 0 (comes_at w e comes).1
 far_not w e comes a far = go (e.link == 0) refl where
   number : node_of e ≡ e.link
   number = rw far refl

@@ -71,7 +71,7 @@ abbrev pub AreIdle : End → List Entry → Type 0
 AreIdle e es = AllByRecursion (IsIdle e) es
 
 module _ (e : End) where
-  other_end : (f : End) → (node_of f == node_of e) ≡ false → same_end f e ≡ false
+  pub other_end : (f : End) → (node_of f == node_of e) ≡ false → same_end f e ≡ false
   other_end f off = by (same_end f e) refl where
     by : (b : Bool) → same_end f e ≡ b → same_end f e ≡ false
     by true q =
@@ -104,7 +104,7 @@ module _ (e : End) where
   quiet_idle [] a b c = tt
   quiet_idle (x ∷ es) a b c = (idle_quiet x a.0 b.0 c.0, quiet_idle es a.1 b.1 c.1)
 
-  idle_unhandled : (s : List Entry) (x : Entry) → IsIdle e x → unhandled_in (s ++ x ∷ []) e ≡ unhandled_in s e
+  pub idle_unhandled : (s : List Entry) (x : Entry) → IsIdle e x → unhandled_in (s ++ x ∷ []) e ≡ unhandled_in s e
   idle_unhandled s (entry.Got f n pid message) idle =
       fold-append (unhandled_after e) [] s (entry.Got f n pid message ∷ [])
       ∙ ap (λ b. cond b (unhandled_in s e ++ (pid, message) ∷ []) (unhandled_in s e)) idle
@@ -125,7 +125,7 @@ module _ (e : End) where
   idle_holds s x idle = fold-append _ false s (x ∷ [])
 
   -- an end that runs behind it ran before
-  idle_runs : (s : List Entry) (x : Entry) → IsIdle e x → runs_in (s ++ x ∷ []) (node_of e) ≡ true → runs_in s (node_of e) ≡ true
+  pub idle_runs : (s : List Entry) (x : Entry) → IsIdle e x → runs_in (s ++ x ∷ []) (node_of e) ≡ true → runs_in s (node_of e) ≡ true
   idle_runs s (entry.Booted n k) idle on =
       sym (ap (λ b. cond b true (runs_in s (node_of e))) idle) ∙ (sym (fold-append _ false s (entry.Booted n k ∷ [])) ∙ on)
   idle_runs s (entry.Cut n) idle on = by (n == node_of e) (sym (fold-append _ false s (entry.Cut n ∷ [])) ∙ on) where
@@ -158,13 +158,13 @@ cut_off n s = fold-append _ false s (entry.Cut n ∷ []) ∙ ap (λ b. cond b fa
 
 -- ## Where an end stands among the others
 
-record SplitAt (hosts : List ℕ) (k : ℕ) : Type 0 where
-  earlier : List ℕ
-  later : List ℕ
-  is : hosts ≡ earlier ++ k ∷ later
-  off : AllByRecursion (λ j. (j == k) ≡ false) later
+pub record SplitAt (hosts : List ℕ) (k : ℕ) : Type 0 where
+  pub earlier : List ℕ
+  pub later : List ℕ
+  pub is : hosts ≡ earlier ++ k ∷ later
+  pub off : AllByRecursion (λ j. (j == k) ≡ false) later
 
-split_at : (ports : List Port) (k : ℕ) (p : Port) → AreDifferent (hosts_of_ends ports) → port_at ports k ≡ Some p → SplitAt (hosts_of_ends ports) k
+pub split_at : (ports : List Port) (k : ℕ) (p : Port) → AreDifferent (hosts_of_ends ports) → port_at ports k ≡ Some p → SplitAt (hosts_of_ends ports) k
 split_at [] k p d here = absurd (cc here)
 split_at (x ∷ ports) k p d here = by (eqb x.desk.host k) refl (split_at ports k p d.1) where
   by : (b : Bool) → eqb x.desk.host k ≡ b → (port_at ports k ≡ Some p → SplitAt (hosts_of_ends ports) k) → SplitAt (hosts_of_ends (x ∷ ports)) k

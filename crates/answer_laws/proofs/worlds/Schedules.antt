@@ -36,6 +36,7 @@ use Rattle.answer_laws.proofs.passes.Events.{front_long}
 use Rattle.answer_laws.proofs.worlds.Done.{histories_done}
 use Rattle.answer_laws.proofs.worlds.Due.{hosts_due}
 use Rattle.answer_laws.proofs.worlds.Lifting.{controller_answers}
+use Rattle.answer_laws.proofs.worlds.Short.{near_left_short}
 
 begun_one : (l : Line) → IsInitOfHost l → IsBegunByHost l
 begun_one (line.Init e identity pipes) a = a.0
@@ -82,6 +83,10 @@ schedule_answers header lines t follows nodes are most = record {
   done = histories_done header lines t follows (hosts_are header nodes) (playable header lines are);
   near = controller_answers header lines t follows (hosts_are header nodes) (hosts_few header nodes) (sent_by_hosts header lines nodes are)
       (are_few header lines t follows nodes are most) (playable header lines are) (front_long header lines t follows are (playable header lines are) most);
+  short = near_left_short header lines t follows nodes (hosts_are header nodes) are (hosts_few header nodes) (sent_by_hosts header lines nodes are)
+      (are_few header lines t follows nodes are most) (playable header lines are)
+      (rising header.hosts.items (sorted_from_strictly_increasing header.hosts.items nodes.rising))
+      (front_long header lines t follows are (playable header lines are) most);
   due = hosts_due header lines t follows (hosts_are header nodes) (playable header lines are) (sent_by_hosts header lines nodes are)
       (begun_all lines (inits_of_hosts header lines are)) (are_few header lines t follows nodes are most);
   reset = schedule_resets header lines t follows nodes are most;

@@ -242,7 +242,7 @@ module _ (header : Header) (lines : List Line) (t : NodeHistory) (follows : Foll
       (lines_caused MayHappen IsSentByHost
       (λ w l side none. may_all (happenings w l) w (line_may header.hosts.items are w l side none)) lines w0 sides)
 
-  known : (n : ℕ) → IsNodeOf t.header.hosts.items n → (front back : List Occurrence) → occurrences_in t ≡ front ++ back
+  pub known : (n : ℕ) → IsNodeOf t.header.hosts.items n → (front back : List Occurrence) → occurrences_in t ≡ front ++ back
       → IsKnown header.hosts.items are n front (world_behind w0 front) back
   known n node front back is =
       let b : Begins n w0 = node_begins header.hosts.items n (subst (λ l. IsNodeOf l n) hosts_are node) in

@@ -47,7 +47,7 @@ far_one b (entry.Command n c) a = rw a refl
 far_one b (entry.Booted n k) a = rw a refl
 far_one b _ a = refl
 
-far_fold : (b : Book) (es : List Entry) → AreFar es → fold (book_after 0) b es ≡ b
+pub far_fold : (b : Book) (es : List Entry) → AreFar es → fold (book_after 0) b es ≡ b
 far_fold b [] a = refl
 far_fold b (e ∷ es) a = ap (λ z. fold (book_after 0) z es) (far_one b e a.0) ∙ far_fold b es a.1
 

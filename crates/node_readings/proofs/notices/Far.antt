@@ -50,7 +50,7 @@ far_flat f one (x ∷ xs) = far-append (f x) (flat_map f xs) (one x) (far_flat f
 -- ## What is read of them
 
 -- an end of a host is no end of the controller
-not_near : (e : End) (x : ℕ) → e.at_host ≡ true → same_end e (end_c x) ≡ false
+pub not_near : (e : End) (x : ℕ) → e.at_host ≡ true → same_end e (end_c x) ≡ false
 not_near e x far = ap (λ b. eqb e.link x && same_side b false) far ∙ off (eqb e.link x) where
   off : (b : Bool) → (b && false) ≡ false
   off true = refl

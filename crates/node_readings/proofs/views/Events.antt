@@ -186,7 +186,7 @@ module _ (e : End) (real : e.at_host ≡ true → eqb e.link 0 ≡ false) where
           on_is = rw q refl
 
   -- the ticks of hosts that aren't that of the end
-  ticks_leave : (sites : List Site) → AreFine sites → (e.at_host ≡ true → AllByRecursion (λ k. eqb k e.link ≡ false) (hosts_in sites))
+  pub ticks_leave : (sites : List Site) → AreFine sites → (e.at_host ≡ true → AllByRecursion (λ k. eqb k e.link ≡ false) (hosts_in sites))
       → AllByRecursion (Leaves e) (hosts_tick sites).1
   ticks_leave [] fine off = tt
   ticks_leave (s ∷ sites) fine off =
