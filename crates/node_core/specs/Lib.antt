@@ -5,3 +5,4 @@ pub mod Deeds
 pub mod Handling
 pub mod Turning
 pub mod Owing
+pub mod Booting
