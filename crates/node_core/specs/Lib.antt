@@ -6,3 +6,4 @@ pub mod Handling
 pub mod Turning
 pub mod Owing
 pub mod Booting
+pub mod Syncing

@@ -46,7 +46,13 @@ impl<N: Nv + Drop> Node<N> {
     /// `NoMemory` without memory for its ends: nothing is read or written then. `Journal` where its store doesn't start: for a read or
     /// a write that failed, since no generation is left for the snapshot, or for what is wrong with the memory. It is handed back,
     /// and the next boot finds what this one found.
-    pub fn boot(alloc: Global, number: u8, role: Role, hosts: &[u8], nv: N) -> Result<Self, BootRefused<N>>
+    pub fn boot(
+        alloc: Global,
+        number: u8,
+        role: Role,
+        hosts: &[u8],
+        nv: N,
+    ) -> Result<Self, BootRefused<N>>
         requires size { N.capacity nv ≡ 65536 }
         requires few { length hosts.now ≤ 7 }
         requires different { AreAllDifferent hosts.now }

@@ -6,11 +6,13 @@ mod booting;
 mod carrying;
 mod coming;
 mod endings;
+mod finishing;
 mod node;
 mod noting;
 mod owing;
 mod reporting;
 mod seeing;
+mod syncing;
 mod timeouts;
 mod turns;
 
