@@ -138,10 +138,13 @@ frames_near w e near = rw near refl
 takes_may : (n : ℕ) (w : NodeWorld) (e : End) → (e.link == 0) ≡ false → e.at_host ≡ false → Stand w e.link n → AllMay MayStep w (replicate n (Takes e))
 takes_may zero w e off near many = tt
 takes_may (suc n) w e off near many = (
-  (off, λ at on none.
-      let some = many on in
-      let empty = ap (λ (xs : List OnWire). length xs) (sym (frames_near w e near) ∙ none) in
-      absurd (omega (arith, some, empty))),
+  (
+    off,
+    λ at on none.
+        let some = many on in
+        let empty = ap (λ (xs : List OnWire). length xs) (sym (frames_near w e near) ∙ none) in
+        absurd (omega (arith, some, empty)),
+  ),
   takes_may n (world_step w (Takes e)).0 e off near (take_stands w e n near many),
 )
 
