@@ -19,12 +19,12 @@ use Rattle.node_core.specs.declared.booting.BootFault.TheVariants.{NoMemory, Jou
 
 -- What a node with links to these hosts finds in a memory as it boots: what its store knows of the journal once it has started, and
 -- the tables, every pipe closed.
-abbrev pub found_in : ℕ → List ℕ → List ℕ → Running
-found_in node hosts content =
+abbrev pub found_in_memory : ℕ → List ℕ → List ℕ → Running
+found_in_memory node hosts content =
     let r : Running = found node hosts content in record r { core = record r.core { journal = ready_state content } }
 
 -- a node as it begins, with new ends of the links with these hosts
-pub record Begins {N : Type 0} (number : ℕ) (role : Named) (hosts : List ℕ) (n : Node N) : Type 0 where
+pub record BeginsAs {N : Type 0} (number : ℕ) (role : Named) (hosts : List ℕ) (n : Node N) : Type 0 where
   pub number_is : n.number ≡ number
   pub ends : EndsStandFor n.ends (map (new_port role) hosts)
   pub live : IsTrue n.store.journal.live

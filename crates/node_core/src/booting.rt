@@ -4,7 +4,7 @@ ghost use Rattle.journal_laws.specs.Journal.{state_of};
 ghost use Rattle.journal_laws.specs.Operations.{started_state};
 ghost use Rattle.hci_store.specs.Starting.{ready_writes};
 ghost use Rattle.node_machine.specs.Node.{found, boot_writes};
-ghost use Rattle.node_core.specs.Booting.{found_in};
+ghost use Rattle.node_core.specs.Booting.{found_in_memory};
 
 use crate::node::Node;
 use hci_store::Store;
@@ -35,7 +35,7 @@ impl<N: Nv + Drop> Node<N> {
     ghost use Rattle.hci_store.specs.Starting.{ready_writes, HasWritten};
     ghost use Rattle.node_ends.specs.Making.{AreAllDifferent};
     ghost use Rattle.node_core.specs.Nodes.{IsSoundNode, CoreStandsFor};
-    ghost use Rattle.node_core.specs.Booting.{Begins, found_in, IsBootRefused};
+    ghost use Rattle.node_core.specs.Booting.{BeginsAs, found_in_memory, IsBootRefused};
 
     /// A node boots from a memory of 65,536 bytes, with new ends of this role of the links with these hosts, at most seven. It takes
     /// all its memory here. A memory that says nothing is formatted; one of version 01 is written anew as a snapshot of version 02
@@ -56,9 +56,9 @@ impl<N: Nv + Drop> Node<N> {
         requires size { N.capacity nv ≡ 65536 }
         requires few { length hosts.now ≤ 7 }
         requires different { AreAllDifferent hosts.now }
-        ensures begins { IfOk result (λ n. Begins number role hosts.now n) }
+        ensures begins { IfOk result (λ n. BeginsAs number role hosts.now n) }
         ensures sound { IfOk result (λ n. IsSoundNode n) }
-        ensures found { IsTrue N.tells → IfOk result (λ n. CoreStandsFor n (found_in number hosts.now (N.content nv)).core) }
+        ensures found { IsTrue N.tells → IfOk result (λ n. CoreStandsFor n (found_in_memory number hosts.now (N.content nv)).core) }
         ensures image { IsTrue N.tells → OnOk result (image_fault (N.content nv) ≡ None) }
         ensures made { IsTrue N.tells
             → IfOk result (λ n. HasWritten N.writes N.content (ready_writes (N.content nv)) nv true n.store.journal.nv) }
@@ -92,6 +92,6 @@ impl<N: Nv + Drop> Node<N> {
 /// of a world meets no other one.
 pub fn a_boot_of_version_02_is_that_of_a_world()
     ensures found { (node : ℕ) (hosts content : List ℕ) → (started_state (state_of content)).version ≡ 2
-        → found_in node hosts content ≡ found node hosts content }
+        → found_in_memory node hosts content ≡ found node hosts content }
     ensures written { (content : List ℕ) → (started_state (state_of content)).version ≡ 2 → ready_writes content ≡ boot_writes content }
 {}

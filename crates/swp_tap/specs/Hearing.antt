@@ -68,9 +68,9 @@ reports_in None body = []
 reports_in (Some h) body = report_of h body ∷ []
 
 -- what a message that is told whole reports
-abbrev pub messages_in : Option TapMessage → List TapReport
-messages_in None = []
-messages_in (Some m) = record { to_clf = m.to_clf; session = m.session; pipe = m.pipe; body = m.body.items } ∷ []
+abbrev pub reports_told : Option TapMessage → List TapReport
+reports_told None = []
+reports_told (Some m) = record { to_clf = m.to_clf; session = m.session; pipe = m.pipe; body = m.body.items } ∷ []
 
 -- A tap stands for a list of LPDUs, each with whether it is the CLF's: it has taken so many, and what it keeps stands for what a new tap
 -- has heard over them.

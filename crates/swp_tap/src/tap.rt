@@ -140,7 +140,7 @@ fn rsets_after(rsets: u32, control: &Control) -> u32
 impl Tap {
     ghost use Rattle.std.specs.Prelude.{◌≡◌, ◌+◌, ◌<◌, ◌≤◌, List, ℕ, Bool, ◌++◌, ◌∷◌, [], length, IfOk};
     ghost use Rattle.tap_reading.specs.Lpdus.{tapped_lpdus};
-    ghost use Rattle.swp_tap.specs.Hearing.{StandsFor, new_tap_value, kept_after_lpdu, kept_reports_lpdu, reports_in, messages_in};
+    ghost use Rattle.swp_tap.specs.Hearing.{StandsFor, new_tap_value, kept_after_lpdu, kept_reports_lpdu, reports_in, reports_told};
 
     /// A tap on a link that is bare or not. It has heard nothing.
     pub fn new(alloc: Global, bare: bool) -> Result<Tap, NoMemory>
@@ -181,7 +181,7 @@ impl Tap {
         ensures taken { self.new.taken ≡ self.old.taken + 1 }
         ensures stands { (lpdus : List (Bool × List ℕ)) → StandsFor self.old lpdus → StandsFor self.new (lpdus ++ (from_clf, lpdu.now) ∷ []) }
         ensures reports { (lpdus : List (Bool × List ℕ)) → StandsFor self.old lpdus →
-            tapped_lpdus self.old.bare (lpdus ++ (from_clf, lpdu.now) ∷ []) ≡ tapped_lpdus self.old.bare lpdus ++ messages_in result }
+            tapped_lpdus self.old.bare (lpdus ++ (from_clf, lpdu.now) ∷ []) ≡ tapped_lpdus self.old.bare lpdus ++ reports_told result }
     {
         match self.tell(from_clf, lpdu) {
             None => None,
