@@ -92,7 +92,8 @@ pub owed_all : (late : Bool) (r : Response) (i : ℕ) (ports : List Port) → le
     → flat_map (owed_at late r) (take i ports) ≡ flat_map (λ (p : Port). owed r (asked_at p)) (filter (has_ended_so late) ports)
 owed_all late r i ports past = past_freed (owed_at late r) i ports past ∙ owed_each late r ports
 
-pub one_answered : (r : Response) (askers : List ℕ) (a : ℕ) → flat_map (answers_owed r) (askers ++ a ∷ []) ≡ flat_map (answers_owed r) askers ++ answers_owed r a
+pub one_answered : (r : Response) (askers : List ℕ) (a : ℕ) → flat_map (answers_owed r) (askers ++ a ∷ [])
+    ≡ flat_map (answers_owed r) askers ++ answers_owed r a
 one_answered r askers a =
     flat_map-append (answers_owed r) askers (a ∷ [])
     ∙ ap (λ l. flat_map (answers_owed r) askers ++ l) (flat_map-cons (answers_owed r) a [] ∙ append-nil (answers_owed r a))

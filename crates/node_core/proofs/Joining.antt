@@ -63,10 +63,10 @@ left_append : (cut : Bool) (a b : List Write) (plan : Option Plan) → plan_left
 left_append false a b plan = sym (behind_append a b plan)
 left_append true a b plan = refl
 
-stays_cut : (g : Work → Work) (w : Work) → w.cut ≡ true → unless_cut g w ≡ w
+pub stays_cut : (g : Work → Work) (w : Work) → w.cut ≡ true → unless_cut g w ≡ w
 stays_cut g w q = rw q refl
 
-goes_on : (g : Work → Work) (w : Work) → w.cut ≡ false → unless_cut g w ≡ g w
+pub goes_on : (g : Work → Work) (w : Work) → w.cut ≡ false → unless_cut g w ≡ g w
 goes_on g w q = rw q refl
 
 -- ## Writes

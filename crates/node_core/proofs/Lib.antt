@@ -17,3 +17,4 @@ mod Ticking
 mod Lateness
 mod Forgetting
 mod Freeing
+mod Settling

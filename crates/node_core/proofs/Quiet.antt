@@ -69,7 +69,7 @@ commit_ports c w = by (fails_within (length (commit_writes w.core.journal w.core
     by true q = rw q refl
     by false q = rw q refl
 
-done_quiet : (h : ℕ) (d : Deed) (w : Work) → map quiet_at (done h d w).ports ≡ map quiet_at w.ports
+pub done_quiet : (h : ℕ) (d : Deed) (w : Work) → map quiet_at (done h d w).ports ≡ map quiet_at w.ports
 done_quiet h (Commits c) w = ap (map quiet_at) (commit_ports c w)
 done_quiet h (Sends to m) w = gives to m w.ports
 done_quiet h SaysOk w = refl
@@ -88,7 +88,7 @@ done_quiet h Hears w = refl
 done_quiet h (GoesOn i) w = refl
 done_quiet h (Ends e) w = refl
 
-all_quiet : (h : ℕ) (deeds : List Deed) (w : Work) → map quiet_at (all_done h deeds w).ports ≡ map quiet_at w.ports
+pub all_quiet : (h : ℕ) (deeds : List Deed) (w : Work) → map quiet_at (all_done h deeds w).ports ≡ map quiet_at w.ports
 all_quiet h [] w = refl
 all_quiet h (d ∷ deeds) w = by (all_quiet h deeds (done h d w)) (done h d w).cut refl
   where

@@ -5,3 +5,5 @@ pub mod Deeds
 pub mod Handling
 pub mod Turning
 pub mod Owing
+pub mod Booting
+pub mod Syncing

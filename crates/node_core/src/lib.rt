@@ -2,15 +2,19 @@
 //! another, until its memory fails. It stands for the machine of a node. All of it is this project's own.
 #![tactic(auto)]
 
+mod booting;
 mod carrying;
 mod coming;
 mod endings;
+mod finishing;
 mod node;
 mod noting;
 mod owing;
 mod reporting;
 mod seeing;
+mod syncing;
 mod timeouts;
 mod turns;
 
+pub use booting::{BootFault, BootRefused, a_boot_of_version_02_is_that_of_a_world};
 pub use node::Node;

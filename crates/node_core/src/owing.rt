@@ -6,13 +6,13 @@ use swp_base::Nv;
 use trace_model::Watch;
 
 impl<N: Nv + Drop> Node<N> {
-    ghost use Rattle.std.specs.Prelude.{◌≡◌, List, [], ◌∷◌, map, IsTrue, slice_get};
+    ghost use Rattle.std.specs.Prelude.{◌≡◌, ◌≤◌, List, [], ◌∷◌, map, IfSome, IsTrue, slice_get};
     ghost use Rattle.std.specs.Option.{option_map_or};
     ghost use Rattle.trace_model.specs.declared.entry.Entry.{Entry as Noted};
     ghost use Rattle.node_machine.specs.Parts.{Port, Work, Deed};
     ghost use Rattle.node_machine.specs.Parts.Deed.{Releases};
     ghost use Rattle.node_machine.specs.Carrying.{all_done};
-    ghost use Rattle.node_machine.specs.Node.{forgotten, forgets, all_owed, without_notice};
+    ghost use Rattle.node_machine.specs.Node.{forgotten};
     ghost use Rattle.node_ends.specs.Ends.{EndsStandFor};
     ghost use Rattle.node_core.specs.Nodes.{IsInStep, IsSoundNode};
     ghost use Rattle.std.specs.Prelude.{Bool, false};
@@ -20,6 +20,8 @@ impl<N: Nv + Drop> Node<N> {
     ghost use Rattle.gate_answers.specs.declared.response.Response.{Response as Code};
     ghost use Rattle.node_machine.specs.Controller.{asked_at};
     ghost use Rattle.node_machine.specs.Node.{owed};
+    ghost use Rattle.node_core.specs.Bringing.{Brings};
+    ghost use Rattle.node_core.specs.Syncing.{sync_kept, settles};
     ghost use Rattle.node_core.specs.Owing.{freed_at, answers_owed, has_ended_so, owed_at};
 
     // The asker of the creation that waits at the end at this place, where it is forgotten since the asker's session ended in this step.
@@ -134,15 +136,21 @@ impl<N: Nv + Drop> Node<N> {
     }
 
     /// What sessions that ended in this step leave: the creations of their askers are forgotten and their blocks free, no notice to their
-    /// hosts is answered any more, and those who asked for creations there get their answers.
-    pub(crate) fn settle_sessions<W: Watch>(&mut self, watch: &mut W)
+    /// hosts is answered any more, the identifier that came with its host, where one did, is kept, and those who asked for creations there
+    /// get their answers. Whether the node has its power still.
+    pub(crate) fn settle_sessions<W: Watch>(
+        &mut self,
+        came: Option<(u8, u16)>,
+        watch: &mut W,
+    ) -> bool
         requires runs { IsSoundNode self.old }
         requires live { IsTrue self.old.store.journal.live }
+        requires host { IfSome came (λ pair. (1 ≤ pair.0) × (pair.0 ≤ 7)) }
         ensures carried { (start : List Noted) (w : Work) → IsInStep self.old (W.noted watch.old) (W.is_short watch.old) start w
-            → let left : List Port = map (forgets w.ports) w.ports in
-            IsInStep self.new (W.noted watch.new) (W.is_short watch.new) start
-            (all_done 0 (all_owed left) (all_done 0 (forgotten w.ports) (record w { ports = map without_notice left }))) }
-        ensures store { self.new.store ≡ self.old.store }
+            → Brings N.writes self.old.store.journal.nv self.new.store.journal.nv
+            (IsInStep self.new (W.noted watch.new) (W.is_short watch.new) start)
+            (settles (sync_kept self.old.store.journal.state self.old.store.tables came)) w }
+        ensures live { result ≡ self.new.store.journal.live }
         ensures number { self.new.number ≡ self.old.number }
         ensures runs { IsSoundNode self.new }
     {
@@ -152,7 +160,11 @@ impl<N: Nv + Drop> Node<N> {
         let late = self.owed(true);
         self.drop_notices();
         self.release_all(freed.as_slice(), watch);
+        if !self.keep_sync(came, watch) {
+            return false;
+        }
         self.answer_all(ended.as_slice(), Response::NotConnected, watch);
         self.answer_all(late.as_slice(), Response::Timeout, watch);
+        true
     }
 }

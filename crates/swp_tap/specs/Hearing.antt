@@ -10,16 +10,18 @@ use Rattle.tap_reading.specs.Lpdus.{frames_read}
 use Rattle.tap_reading.specs.keeping.Keeping.{KeptSide, KeptTap, new_kept_tap, kept_tells_more, kept_news, first_packet, kept_in_session, kept_after_frame}
 use Rattle.tap_reading.specs.keeping.Keeping.{kept_reports}
 use Rattle.tap_reading.specs.keeping.Keeping.{StandsForTap}
+use Rattle.swp_tap.specs.declared.tap.TapHead.{TapHead}
 use Rattle.swp_tap.specs.declared.tap.TapMessage.{TapMessage}
 
--- a tap: whether its link is bare, what it keeps, and how many frames it has taken
+-- a tap: whether its link is bare, what it keeps, how many frames it has taken, and the bytes of the message that it told last
 pub record TapValue : Type 0 where
   pub bare : Bool
   pub kept : KeptTap
   pub taken : ℕ
+  pub body : List ℕ
 
 abbrev pub new_tap_value : Bool → TapValue
-new_tap_value bare = record { bare = bare; kept = new_kept_tap; taken = 0 }
+new_tap_value bare = record { bare = bare; kept = new_kept_tap; taken = 0; body = [] }
 
 -- two sides, the one whose frame is heard first
 abbrev pub kept_pair : KeptSide → KeptSide → ℕ → KeptTap
@@ -56,10 +58,19 @@ kept_reports_lpdu bare k clf lpdu = by_reading (control_of lpdu) where
   by_reading (Ok c) = kept_reports bare k clf c
   by_reading (Err fault) = []
 
--- what a call reports
-abbrev pub reports_in : Option TapMessage → List TapReport
-reports_in None = []
-reports_in (Some m) = record { to_clf = m.to_clf; session = m.session; pipe = m.pipe; body = m.body.items } ∷ []
+-- what a message with this head and these bytes reports
+abbrev pub report_of : TapHead → List ℕ → TapReport
+report_of h body = record { to_clf = h.to_clf; session = h.session; pipe = h.pipe; body = body }
+
+-- what a call reports, after which the tap has these bytes
+abbrev pub reports_in : Option TapHead → List ℕ → List TapReport
+reports_in None body = []
+reports_in (Some h) body = report_of h body ∷ []
+
+-- what a message that is told whole reports
+abbrev pub messages_in : Option TapMessage → List TapReport
+messages_in None = []
+messages_in (Some m) = record { to_clf = m.to_clf; session = m.session; pipe = m.pipe; body = m.body.items } ∷ []
 
 -- A tap stands for a list of LPDUs, each with whether it is the CLF's: it has taken so many, and what it keeps stands for what a new tap
 -- has heard over them.

@@ -2,8 +2,9 @@
 //! This project's own.
 #![tactic(auto)]
 
+mod body;
 mod side;
 mod tap;
 mod under_way;
 
-pub use tap::{Tap, TapMessage};
+pub use tap::{Tap, TapHead, TapMessage};

@@ -1,7 +1,8 @@
 //! What is kept of one side.
-use crate::under_way::{Came, Message, UnderWay};
+use crate::body::Body;
+use crate::under_way::{Came, UnderWay};
 use arrayvec::ArrayVec;
-use hcp_packet::{Packet, read_header, read_packet};
+use hcp_packet::{Packet, read_packet};
 use std::alloc::{AllocError, Global};
 use std::marker::Model;
 use swp_base::Info;
@@ -40,7 +41,7 @@ impl Model for Side {
 }
 
 impl Side {
-    ghost use Rattle.std.specs.Prelude.{◌≡◌, ◌==◌, ◌+◌, ◌%◌, ◌<◌, ◌≤◌, ◌∷◌, drop, length, nat_lt, IfOk, Some};
+    ghost use Rattle.std.specs.Prelude.{◌≡◌, ◌==◌, ◌+◌, ◌%◌, ◌<◌, ◌≤◌, ◌∷◌, drop, length, nat_lt, IfOk, IfNone, Some};
     ghost use Rattle.swp_base.specs.DataUnits.{IsInfo};
     ghost use Rattle.hcp_packet.specs.Packets.{packet_of};
     ghost use Rattle.tap_reading.specs.keeping.Keeping.{new_kept_side, kept_renumbered, kept_listed, kept_added, kept_tells_more, kept_joined, kept_news};
@@ -134,32 +135,29 @@ impl Side {
         self.waiting.remove(0)
     }
 
-    /// It has acknowledged this fragment. The good message that the fragment completes comes, where all could be joined so far.
-    pub fn acknowledge(&mut self, info: &Info) -> Option<Message>
+    /// It has acknowledged this fragment. The pipe of the good message that the fragment completes comes, where all could be joined so far,
+    /// and the body has its bytes. Else the body stays.
+    pub fn acknowledge(&mut self, info: &Info, body: &mut Body) -> Option<u8>
         ensures kept { self.new ≡ record (kept_joined self.old (packet_of info.now)) { count = (self.old.count + 1) % 8 } }
-        ensures news { news_in result ≡ kept_news self.old (packet_of info.now) }
+        ensures news { news_in result body.new ≡ kept_news self.old (packet_of info.now) }
+        ensures stays { IfNone result (body.new ≡ body.old) }
     {
         self.count = (self.count + 1) % 8;
         let Ok(packet) = read_packet(info.bytes()) else {
             return None;
         };
-        self.join(&packet)
+        self.join(&packet, body)
     }
 
     // It takes this packet.
-    fn join(&mut self, packet: &Packet) -> Option<Message>
+    fn join(&mut self, packet: &Packet, body: &mut Body) -> Option<u8>
         ensures kept { self.new ≡ kept_joined self.old (Some packet.now) }
-        ensures news { news_in result ≡ kept_news self.old (Some packet.now) }
+        ensures news { news_in result body.new ≡ kept_news self.old (Some packet.now) }
+        ensures stays { IfNone result (body.new ≡ body.old) }
     {
-        match self.under_way.take(packet) {
-            Came::More => None,
-            Came::Whole(message) => {
-                if self.joins && read_header(message.body.as_slice()).is_ok() {
-                    Some(message)
-                } else {
-                    None
-                }
-            }
+        match self.under_way.take(packet, self.joins, body) {
+            Came::Nothing => None,
+            Came::Told(pipe) => Some(pipe),
             Came::Fault => {
                 self.joins = false;
                 None

@@ -1,28 +1,20 @@
 //! The messages that are under way to one side, in blocks of its own.
-ghost use Rattle.std.specs.Prelude.{◌≡◌, ◌≤◌, length};
-ghost use Rattle.block_pool.specs.Pool.{IsLive, chain_bytes};
+ghost use Rattle.std.specs.Prelude.{◌≡◌, if◌then◌else◌};
 
-use arrayvec::ArrayVec;
-use block_pool::{Chain, Pool};
+use crate::body::Body;
+use block_pool::Pool;
 use hcp_chain::{Joined, Joiner};
 use hcp_packet::Packet;
 use std::alloc::{AllocError, Global};
 use std::marker::Model;
 
-/// A message that has come whole, with its pipe.
-#[derive(Drop)]
-pub struct Message {
-    pub pipe: u8,
-    pub body: ArrayVec<u8, 4096>,
-}
-
 /// What a packet gives.
-#[derive(Drop)]
+#[derive(Clone, Copy)]
 pub enum Came {
-    /// Its message isn't whole yet.
-    More,
-    /// It is the last packet of a message, which has come whole.
-    Whole(Message),
+    /// No message is told: its message isn't whole yet, isn't wanted or isn't good.
+    Nothing,
+    /// A message that is wanted and good has come whole on this pipe. The body has its bytes.
+    Told(u8),
     /// It can't be joined. Nothing is kept.
     Fault,
 }
@@ -68,32 +60,30 @@ impl UnderWay {
         self.joiner.clear(&mut self.pool);
     }
 
-    /// Takes a packet. After a fault nothing is kept.
-    pub fn take(&mut self, packet: &Packet) -> Came
+    /// Takes a packet. After a fault nothing is kept. The body changes only where a message is told.
+    pub fn take(&mut self, packet: &Packet, is_wanted: bool, body: &mut Body) -> Came
         ensures open { self.new ≡ (join_step self.old packet.now).1 }
-        ensures says { SaysOutcome result (join_step self.old packet.now).0 }
+        ensures says { SaysOutcome result is_wanted body.old body.new (join_step self.old packet.now).0 }
     {
         match self.joiner.take(&mut self.pool, packet) {
-            Joined::More => Came::More,
+            Joined::More => Came::Nothing,
             Joined::Whole { pipe, chain } => {
-                let body = body_of(&self.pool, &chain);
+                let is_told = body.fill(&self.pool, &chain, is_wanted);
                 self.pool.give(chain);
-                Came::Whole(Message { pipe, body })
+                told(pipe, is_told)
             }
             Joined::Fault(_) => Came::Fault,
         }
     }
 }
 
-// The bytes of a message that came whole.
-fn body_of(pool: &Pool, chain: &Chain) -> ArrayVec<u8, 4096>
-    requires live { IsLive pool.now chain.now }
-    requires short { length (chain_bytes pool.now chain.now) ≤ 4096 }
-    ensures { result.items ≡ chain_bytes pool.now chain.now }
+// What a message that came whole gives.
+fn told(pipe: u8, is_told: bool) -> Came
+    ensures { result ≡ (if is_told then Came.Told pipe else Came.Nothing) }
 {
-    let mut bytes = [0; 4096];
-    let count = pool.copy_out(chain, 0, &mut bytes);
-    let mut body = ArrayVec::new();
-    let _ = body.try_extend_from_slice(&bytes[..count]);
-    body
+    if is_told {
+        Came::Told(pipe)
+    } else {
+        Came::Nothing
+    }
 }

@@ -6,7 +6,7 @@ use Rattle.swp_decode.specs.Frames.{record_frames}
 use Rattle.swp_decode.specs.Kept.{DecoderStandsFor}
 use Rattle.tap_reading.specs.Tap.{TapReport}
 use Rattle.tap_reading.specs.Lpdus.{tapped_lpdus}
-use Rattle.swp_tap.specs.declared.tap.TapMessage.{TapMessage}
+use Rattle.swp_tap.specs.declared.tap.TapHead.{TapHead}
 use Rattle.swp_tap.specs.Hearing.{TapValue, StandsFor}
 use Rattle.swp_tool.specs.declared.tapping.Tapping.{Tapping}
 use Rattle.swp_tool.specs.declared.status.Status.{Status}
@@ -18,15 +18,15 @@ end_word true = codes "c "
 end_word false = codes "h "
 
 -- what stands before the bytes of a message that an end got: the end, the number of its session, and the pipe
-abbrev pub report_head : TapReport → List ℕ
-report_head r = codes "got " ++ end_word r.to_clf ++ decimal r.session ++ codes " " ++ hex_of (r.pipe ∷ []) ++ codes " "
+abbrev pub report_head : TapHead → List ℕ
+report_head h = codes "got " ++ end_word h.to_clf ++ decimal h.session ++ codes " " ++ hex_of (h.pipe ∷ []) ++ codes " "
+
+-- the head of what is reported
+abbrev pub tap_head_of : TapReport → TapHead
+tap_head_of r = record { to_clf = r.to_clf; session = r.session; pipe = r.pipe }
 
 abbrev pub report_line : TapReport → List ℕ
-report_line r = report_head r ++ hex_of r.body ++ line_feed
-
--- what a message that was told reports
-abbrev pub report_of : TapMessage → TapReport
-report_of m = record { to_clf = m.to_clf; session = m.session; pipe = m.pipe; body = m.body.items }
+report_line r = report_head (tap_head_of r) ++ hex_of r.body ++ line_feed
 
 -- what a tap on a link, bare or not, reports of these frames, each with whether it is the CLF's
 abbrev pub report_lines : Bool → List (Bool × List ℕ) → List ℕ

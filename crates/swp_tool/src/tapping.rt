@@ -2,9 +2,9 @@
 ghost use Rattle.std.specs.Prelude.{◌≡◌, ◌≢◌, ◌≤◌, ◌<◌, ◌+◌, ◌*◌, ◌++◌, [], ◌∷◌, List, ℕ, Bool, length, take, IsTrue, OnOk, OnErr, IfOk, false};
 ghost use Rattle.swp_base.specs.Outside.{Rose};
 ghost use Rattle.tap_reading.specs.Tap.{TapReport};
-ghost use Rattle.swp_tap.specs.Hearing.{reports_in};
+ghost use Rattle.swp_tap.specs.Hearing.{report_of, reports_in};
 ghost use Rattle.swp_tool.specs.Records.{most_bytes, whole_record, IsGathered, IsFront, IsFrontOfSome};
-ghost use Rattle.swp_tool.specs.Taps.{end_word, report_head, report_line, report_of, report_lines, tap_lines, HasHeard, HasHeardFew, IsTapping, TappedBy};
+ghost use Rattle.swp_tool.specs.Taps.{end_word, report_head, report_line, report_lines, tap_lines, HasHeard, HasHeardFew, IsTapping, TappedBy};
 ghost use Rattle.swp_tool.specs.Taps.{IsOfTap};
 
 use crate::gathering::{flush, gather, gather_hex, make_room};
@@ -13,7 +13,7 @@ use crate::status::Status;
 use std::alloc::Global;
 use swp_base::{Failed, Lpdu, Sink, Source};
 use swp_decode::{Decoder, Frames, Text, push_decimal, push_hex, push_text};
-use swp_tap::{Tap, TapMessage};
+use swp_tap::{Tap, TapHead};
 
 /// A tap under way: what is kept of the record and of both ends, and the lines that aren't written yet.
 #[derive(Drop)]
@@ -30,20 +30,20 @@ struct TapOn<const BARE: bool> {
 }
 
 /// Gathers what stands before the bytes of a message that an end got.
-fn gather_head<K: Sink>(sink: &mut K, text: &mut Text, message: &TapMessage) -> Result<(), Failed>
+fn gather_head<K: Sink>(sink: &mut K, text: &mut Text, head: TapHead) -> Result<(), Failed>
     ensures count { K.faults sink.old ≤ K.faults sink.new }
     ensures fault { OnErr result (Rose (K.faults sink.old) (K.faults sink.new)) }
     ensures goes { OnOk result ((least : ℕ) (lines before : List ℕ) → IsGathered K.tells text.old.items least lines before (K.written sink.old)
-        → IsGathered K.tells text.new.items least (lines ++ report_head (report_of message.now)) before (K.written sink.new)) }
+        → IsGathered K.tells text.new.items least (lines ++ report_head head) before (K.written sink.new)) }
     ensures ends { OnErr result ((least : ℕ) (lines before : List ℕ) → IsGathered K.tells text.old.items least lines before (K.written sink.old)
         → IsFront K.tells least lines before (K.written sink.new)) }
 {
     make_room(sink, text)?;
     push_text(text, b"got ");
-    push_end(text, message.to_clf);
-    push_decimal(text, message.session);
+    push_end(text, head.to_clf);
+    push_decimal(text, head.session);
     push_text(text, b" ");
-    push_hex(text, &[message.pipe]);
+    push_hex(text, &[head.pipe]);
     push_text(text, b" ");
     Ok(())
 }
@@ -60,17 +60,22 @@ fn push_end(text: &mut Text, is_clf: bool)
     }
 }
 
-/// Gathers the line of a message that an end got.
-fn gather_report<K: Sink>(sink: &mut K, text: &mut Text, message: &TapMessage) -> Result<(), Failed>
+/// Gathers the line of a message that an end got, with this head and these bytes.
+fn gather_report<K: Sink>(
+    sink: &mut K,
+    text: &mut Text,
+    head: TapHead,
+    body: &[u8],
+) -> Result<(), Failed>
     ensures count { K.faults sink.old ≤ K.faults sink.new }
     ensures fault { OnErr result (Rose (K.faults sink.old) (K.faults sink.new)) }
     ensures goes { OnOk result ((least : ℕ) (lines before : List ℕ) → IsGathered K.tells text.old.items least lines before (K.written sink.old)
-        → IsGathered K.tells text.new.items least (lines ++ report_line (report_of message.now)) before (K.written sink.new)) }
+        → IsGathered K.tells text.new.items least (lines ++ report_line (report_of head body.now)) before (K.written sink.new)) }
     ensures ends { OnErr result ((least : ℕ) (lines before : List ℕ) → IsGathered K.tells text.old.items least lines before (K.written sink.old)
-        → IsFront K.tells least (lines ++ report_line (report_of message.now)) before (K.written sink.new)) }
+        → IsFront K.tells least (lines ++ report_line (report_of head body.now)) before (K.written sink.new)) }
 {
-    gather_head(sink, text, message)?;
-    gather_hex(sink, text, message.body.as_slice())?;
+    gather_head(sink, text, head)?;
+    gather_hex(sink, text, body)?;
     gather(sink, text, b"\n")
 }
 
@@ -93,9 +98,9 @@ fn hear_frame<K: Sink>(
         → HasHeard bare K.tells tap.old text.old.items least frames before (K.written sink.old)
         → IsFront K.tells least (report_lines bare (frames ++ (from_clf, lpdu.now) ∷ [])) before (K.written sink.new)) }
 {
-    match tap.take(from_clf, lpdu) {
+    match tap.tell(from_clf, lpdu) {
         None => Ok(()),
-        Some(message) => gather_report(sink, text, &message),
+        Some(head) => gather_report(sink, text, head, tap.body()),
     }
 }
 

@@ -1,6 +1,7 @@
-use Rattle.std.proofs.Common.{◌∷◌, [], ◌∙◌, sym, subst}
+use Rattle.std.proofs.Common.{◌∷◌, [], ◌++◌, ◌∙◌, ap, sym, subst}
+use Rattle.swp_tap.specs.Hearing.{report_of}
 use Rattle.swp_tool.specs.Records.{IsGathered, IsFront}
-use Rattle.swp_tool.specs.Taps.{report_of, report_lines}
+use Rattle.swp_tool.specs.Taps.{report_line, report_lines}
 use Rattle.swp_tool.proofs.Recording.{map_err, map_ok}
 use Rattle.swp_tool.proofs.Hearing.{one_line}
 use Rattle.swp_tool.proofs.tapping.hear_frame.Goals as goal
@@ -10,10 +11,11 @@ returns-in-Some-clause-goes g c =
     map_ok _ _ c.gather_report.result (λ goes bare least frames before h.
     let more = (c.args.from_clf, c.args.lpdu.now) ∷ [] in
     record {
-      bare_is = c.take.ensures.bare ∙ h.bare_is;
-      stands = c.take.ensures.stands frames h.stands;
+      bare_is = c.tell.ensures.bare ∙ h.bare_is;
+      stands = c.tell.ensures.stands frames h.stands;
       lines = subst (λ l. IsGathered g.K.Sink.tells c.gather_report.new.text.items least l before (g.K.Sink.written c.gather_report.new.sink))
-          (sym (one_line bare c.args.tap.now frames more (report_of c.in-Some.message) h.bare_is (c.in-Some.ensures.reports frames h.stands)))
+          (sym (one_line bare c.args.tap.now frames more (report_of c.in-Some.head c.tell.new.self.body) h.bare_is (c.in-Some.ensures.reports frames h.stands)
+          ∙ ap (λ body. report_lines bare frames ++ report_line (report_of c.in-Some.head body)) (sym c.body.ensures)))
           (goes least (report_lines bare frames) before h.lines);
     }) c.gather_report.ensures.goes
 
@@ -22,5 +24,6 @@ returns-in-Some-clause-ends g c =
     map_err _ _ c.gather_report.result (λ ends bare least frames before h.
     let more = (c.args.from_clf, c.args.lpdu.now) ∷ [] in
     subst (λ l. IsFront g.K.Sink.tells least l before (g.K.Sink.written c.gather_report.new.sink))
-    (sym (one_line bare c.args.tap.now frames more (report_of c.in-Some.message) h.bare_is (c.in-Some.ensures.reports frames h.stands)))
+    (sym (one_line bare c.args.tap.now frames more (report_of c.in-Some.head c.tell.new.self.body) h.bare_is (c.in-Some.ensures.reports frames h.stands)
+    ∙ ap (λ body. report_lines bare frames ++ report_line (report_of c.in-Some.head body)) (sym c.body.ensures)))
     (ends least (report_lines bare frames) before h.lines)) c.gather_report.ensures.ends

@@ -18,5 +18,6 @@ invariant-loop-asker g l =
       store : l.self.store ≡ l.fn.self.store;
       number : l.self.number ≡ l.fn.self.number;
       goes : (start : List Entry) (w : Work) → IsInStep l.fn.self (noted l.fn.watch) (short l.fn.watch) start w
-          → DoesOn l.self (noted l.watch) (short l.watch) start (flat_map (answers_owed l.response) (drop l.asker-index l.askers)) (flat_map (answers_owed l.response) l.askers) w;
+          → DoesOn l.self (noted l.watch) (short l.watch) start (flat_map (answers_owed l.response) (drop l.asker-index l.askers))
+          (flat_map (answers_owed l.response) l.askers) w;
     }

@@ -32,7 +32,8 @@ loop-i-preserved g c =
     λ ports e.
     let P : ℕ → Type 0 = λ m. EndsStandFor t.new.self (first_changed m without_notice ports) in
     let Q : List Port → Type 0 = λ l. EndsStandFor t.new.self l in
-    subst P (sym (add-one i)) (subst Q (next_changed i without_notice ports) (t.ensures (first_changed i without_notice ports) (c.loop-i.invariant.ends ports e))) in
+    subst P (sym (add-one i))
+    (subst Q (next_changed i without_notice ports) (t.ensures (first_changed i without_notice ports) (c.loop-i.invariant.ends ports e))) in
     let r = c.requires.runs in
     let now = c.loop-i.invariant.runs in
     record {

@@ -37,7 +37,8 @@ loop-i-preserved g c =
             items = λ ports e.
                 ap (λ v. map Releases v.items) w.askers-is
                 ∙ (sym (append-nil (map Releases c.loop-i.askers.items))
-                ∙ one_gathered (freed_at ports) ports i (map Releases c.loop-i.askers.items) [] (so_far.items ports e) (sym (ap t w.in_default.is) ∙ c.forgotten_at.ensures ports e));
+                ∙ one_gathered (freed_at ports) ports i (map Releases c.loop-i.askers.items) [] (so_far.items ports e)
+                (sym (ap t w.in_default.is) ∙ c.forgotten_at.ensures ports e));
             few = omega (arith, same, few);
           }
     ]

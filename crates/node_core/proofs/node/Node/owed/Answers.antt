@@ -27,7 +27,8 @@ loop-i-preserved g c =
             items = λ ports r e.
                 ap (λ v. flat_map (answers_owed r) v.items) w.askers-is
                 ∙ (ap (flat_map (answers_owed r)) w.push.ensures.items ∙ (one_answered r c.loop-i.askers.items w.in-Some.asker
-                ∙ one_gathered (owed_at c.args.late r) ports i (flat_map (answers_owed r) c.loop-i.askers.items) (answers_owed r w.in-Some.asker) (so_far.items ports r e)
+                ∙ one_gathered (owed_at c.args.late r) ports i (flat_map (answers_owed r) c.loop-i.askers.items) (answers_owed r w.in-Some.asker)
+                (so_far.items ports r e)
                 (sym (ap (t r) w.in-Some.is) ∙ c.owed_at.ensures ports r e)));
             few = omega (arith, len, same, few);
           }
@@ -37,7 +38,8 @@ loop-i-preserved g c =
             items = λ ports r e.
                 ap (λ v. flat_map (answers_owed r) v.items) w.askers-is
                 ∙ (sym (append-nil (flat_map (answers_owed r) c.loop-i.askers.items))
-                ∙ one_gathered (owed_at c.args.late r) ports i (flat_map (answers_owed r) c.loop-i.askers.items) [] (so_far.items ports r e) (sym (ap (t r) w.in_default.is) ∙ c.owed_at.ensures ports r e));
+                ∙ one_gathered (owed_at c.args.late r) ports i (flat_map (answers_owed r) c.loop-i.askers.items) [] (so_far.items ports r e)
+                (sym (ap (t r) w.in_default.is) ∙ c.owed_at.ensures ports r e));
             few = omega (arith, same, few);
           }
     ]

@@ -45,7 +45,8 @@ returns-in-Ok-clause-carried g c start w u =
     (λ p at told_is.
     let P : ℕ → Type 0 = λ n. AreNotes (g.W.Watch.is_short c.args.watch.now) (g.W.Watch.is_short c.note_input.new.watch)
     (g.W.Watch.noted c.args.watch.now) (g.W.Watch.noted c.note_input.new.watch)
-    (map unnumbered (entries_for n (told (own_side w.core) p.session (report p.side (Reset c.args.window)) (whole_acked (after_input p.side (Reset c.args.window)))))) in
+    (map unnumbered (entries_for n
+    (told (own_side w.core) p.session (report p.side (Reset c.args.window)) (whole_acked (after_input p.side (Reset c.args.window)))))) in
     let G : LinkReport → Type 0 = λ r. (report p.side (Reset c.args.window)).got
     ≡ (if r.got then got_at (with_port h (λ q. has_come q (Some (Reset c.args.window))) w.ports) h else []) in
     subst P (sym (host_at h w.ports p at))

@@ -1,7 +1,7 @@
 use Rattle.std.proofs.Common.{ap, sym, ◌∙◌, ◌++◌}
 use Rattle.tap_reading.specs.Lpdus.{tapped_lpdus}
 use Rattle.swp_tap.proofs.Hearing.{stands_on, reports_on}
-use Rattle.swp_tap.proofs.tap.Tap.take.Goals as goal
+use Rattle.swp_tap.proofs.tap.Tap.tell.Goals as goal
 
 pub returns-clause-stands : goal.returns-clause-stands
 returns-clause-stands c lpdus h =

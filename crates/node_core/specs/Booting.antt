@@ -1,0 +1,47 @@
+-- A boot of a node: what it finds in its memory, whatever stands there, and what a boot that is refused leaves.
+use Rattle.std.specs.Prelude.{◌≡◌, ◌⊎◌, ℕ, Bool, List, map, false, Some, IsTrue}
+use Rattle.swp_base.specs.Outside.{Rose}
+use Rattle.swp_base.specs.declared.link_terms.Role.{Role as Named}
+use Rattle.nv_journal.specs.declared.JournalFault.{JournalFault}
+use Rattle.nv_journal.specs.declared.JournalFault.TheVariants.{NvFault, GenerationsSpent}
+use Rattle.nv_journal.specs.Refusals.{IsImageFault}
+use Rattle.hci_store.specs.Image.{image_fault}
+use Rattle.hci_store.specs.Refusals.{IsSpent}
+use Rattle.hci_store.specs.Stored.{FindsSame}
+use Rattle.hci_store.specs.Starting.{ready_state, ready_writes, HasWritten}
+use Rattle.node_machine.specs.Parts.{Core, Running}
+use Rattle.node_machine.specs.Node.{found}
+use Rattle.node_ends.specs.Ends.{EndsStandFor}
+use Rattle.node_ends.specs.Making.{new_port}
+use Rattle.node_core.specs.declared.node.Node.{Node}
+use Rattle.node_core.specs.declared.booting.BootFault.{BootFault}
+use Rattle.node_core.specs.declared.booting.BootFault.TheVariants.{NoMemory, Journal}
+
+-- What a node with links to these hosts finds in a memory as it boots: what its store knows of the journal once it has started, and
+-- the tables, every pipe closed.
+abbrev pub found_in : ℕ → List ℕ → List ℕ → Running
+found_in node hosts content =
+    let r : Running = found node hosts content in record r { core = record r.core { journal = ready_state content } }
+
+-- a node as it begins, with new ends of the links with these hosts
+pub record Begins {N : Type 0} (number : ℕ) (role : Named) (hosts : List ℕ) (n : Node N) : Type 0 where
+  pub number_is : n.number ≡ number
+  pub ends : EndsStandFor n.ends (map (new_port role) hosts)
+  pub live : IsTrue n.store.journal.live
+
+-- A store didn't start on this memory: for a read or a write that failed, since no generation is left for the snapshot of a memory of
+-- version 01, or for what is wrong with the memory. The next start finds what this one found.
+pub record IsStartRefused {N : Type 0} (writes : N → ℕ → List ℕ → Bool → N → Type 0) (faults : N → ℕ) (tells : Bool) (content : N → List ℕ)
+    (old new : N) (f : JournalFault) : Type 0 where
+  pub known : (f ≡ NvFault) ⊎ (f ≡ GenerationsSpent) ⊎ IsImageFault f
+  pub rose : f ≡ NvFault → Rose (faults old) (faults new)
+  pub spent : IsTrue tells → f ≡ GenerationsSpent → IsSpent (content old) (content new)
+  pub image : IsTrue tells → IsImageFault f → image_fault (content old) ≡ Some f
+  pub left : IsTrue tells → FindsSame (content old) (content new)
+  pub torn : IsTrue tells → f ≡ NvFault
+      → (content new ≡ content old) ⊎ HasWritten writes content (ready_writes (content old)) old false new
+
+-- without memory for its ends a node doesn't touch what it would boot from
+abbrev pub IsBootRefused : {N : Type 0} → (N → ℕ → List ℕ → Bool → N → Type 0) → (N → ℕ) → Bool → (N → List ℕ) → N → N → BootFault → Type 0
+IsBootRefused writes faults tells content old new NoMemory = new ≡ old
+IsBootRefused writes faults tells content old new (Journal f) = IsStartRefused writes faults tells content old new f

@@ -1,0 +1,76 @@
+//! The identifiers of UICCs that a node keeps.
+ghost use Rattle.std.specs.Prelude.{◌≡◌};
+ghost use Rattle.sorted_rows.specs.Rows.{row_of};
+ghost use Rattle.hci_tables.specs.Tables.{sync_host, is_kept_sync};
+
+use crate::node::Node;
+use hci_tables::Command;
+use swp_base::Nv;
+use trace_model::Watch;
+
+// The pair of a host and the identifier that is kept of it, where one is.
+fn find(syncs: &[(u8, u16)], host: u8) -> Option<(u8, u16)>
+    ensures { result ≡ row_of sync_host host syncs.now }
+{
+    syncs.iter().copied().find(|pair| pair.0 == host)
+}
+
+// Whether this is the identifier that is kept of a host.
+fn is_kept(syncs: &[(u8, u16)], host: u8, id: u16) -> bool
+    ensures { result ≡ is_kept_sync syncs.now host id }
+{
+    match find(syncs, host) {
+        Some(pair) => pair.1 == id,
+        None => false,
+    }
+}
+
+impl<N: Nv + Drop> Node<N> {
+    ghost use Rattle.std.specs.Prelude.{◌≡◌, ◌≤◌, ◌&&◌, not, List, IfSome, IsTrue};
+    ghost use Rattle.trace_model.specs.declared.entry.Entry.{Entry as Noted};
+    ghost use Rattle.hci_tables.specs.declared.command.Command.TheVariants.{Sync};
+    ghost use Rattle.hci_tables.specs.Tables.{is_kept_sync};
+    ghost use Rattle.node_machine.specs.Parts.{Work};
+    ghost use Rattle.node_machine.specs.Carrying.{all_done, has_room_for};
+    ghost use Rattle.node_core.specs.Nodes.{IsInStep, IsSoundNode};
+    ghost use Rattle.node_core.specs.Bringing.{Brings};
+    ghost use Rattle.node_core.specs.Syncing.{sync_kept};
+
+    // Whether this identifier of a host is to be kept: it isn't the one that is kept, and there is room for it.
+    fn keeps_sync(&mut self, host: u8, id: u16) -> bool
+        requires runs { IsSoundNode self.old }
+        requires live { IsTrue self.old.store.journal.live }
+        requires some { 1 ≤ host }
+        requires host { host ≤ 7 }
+        ensures answer { result ≡ (not (is_kept_sync self.old.store.tables.syncs host id) && has_room_for self.old.store.journal.state (Sync host id)) }
+        ensures same { self.new ≡ self.old }
+    {
+        if is_kept(self.store.tables().syncs(), host, id) {
+            return false;
+        }
+        self.store.room(&Command::Sync { host, id })
+    }
+
+    /// The identifier that came from the UICC of a host, 01 to 07, where one did, is kept, unless it is the one that is kept or there is no
+    /// room for it. Whether the node has its power still.
+    pub(crate) fn keep_sync<W: Watch>(&mut self, came: Option<(u8, u16)>, watch: &mut W) -> bool
+        requires runs { IsSoundNode self.old }
+        requires live { IsTrue self.old.store.journal.live }
+        requires host { IfSome came (λ pair. (1 ≤ pair.0) × (pair.0 ≤ 7)) }
+        ensures carried { (start : List Noted) (w : Work) → IsInStep self.old (W.noted watch.old) (W.is_short watch.old) start w
+            → Brings N.writes self.old.store.journal.nv self.new.store.journal.nv
+            (IsInStep self.new (W.noted watch.new) (W.is_short watch.new) start)
+            (all_done 0 (sync_kept self.old.store.journal.state self.old.store.tables came)) w }
+        ensures live { result ≡ self.new.store.journal.live }
+        ensures number { self.new.number ≡ self.old.number }
+        ensures runs { IsSoundNode self.new }
+    {
+        let Some((host, id)) = came else {
+            return true;
+        };
+        if !self.keeps_sync(host, id) {
+            return true;
+        }
+        self.commit(&Command::Sync { host, id }, watch)
+    }
+}
