@@ -1,7 +1,7 @@
 -- As a pass of a controller leaves an end, all messages there have had their turns, or the first one that is left lacks room, as it is read.
 use Rattle.std.proofs.Common.{◌≡◌, ◌⊎◌, inl, inr, ℕ, Bool, true, false, cond, eqb, List, [], ◌∷◌, ◌++◌, sym, refl, ap, ◌∙◌, subst, append_assoc}
 use Rattle.std.proofs.Common.{append-nil, arith}
-use Rattle.std.specs.Prelude.{◌==◌, Option, Some, None, is_some, nat_lt}
+use Rattle.std.specs.Prelude.{◌==◌, Some, is_some, nat_lt}
 use Rattle.std.specs.List.{AllByRecursion}
 use Rattle.std.specs.Option.{option_map_or, option_and_then}
 use Rattle.std.proofs.lemmas.Bool.{le-ltb}
