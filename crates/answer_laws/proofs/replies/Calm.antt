@@ -12,7 +12,7 @@ use Rattle.link_machine.specs.Machine.{Message, need_of_all}
 use Rattle.history.specs.Filters.{Saying, acked_after, acked_in, said_of, same_end, sent_by, sent_in}
 use Rattle.history.specs.Filters.Saying.{Begins, Counts, Ends, Gets, Loses, Puts, Sends, Takes}
 use Rattle.node_machine.specs.Parts.{Work, Port}
-use Rattle.node_machine.specs.Carrying.{noting, port_at}
+use Rattle.node_machine.specs.Carrying.{noting}
 use Rattle.node_machine.specs.world.World.{end_c}
 use Rattle.node_machine.specs.world.NodeFilters.{Book, asking_in, book_in, notice_in, session_now, spare_at, unacknowledged_in}
 use Rattle.node_laws.specs.kept.Hosts.{AreHosts}
@@ -21,13 +21,13 @@ use Rattle.node_readings.specs.creations.Creations.{creations_at, IsReadSo}
 use Rattle.node_readings.specs.creations.Worlds.{IsProperBook}
 use Rattle.node_readings.specs.notices.Notices.{IsKeptNotice, notice_at}
 use Rattle.node_readings.specs.views.Errors.{ErrorCount, errors_after, no_errors}
-use Rattle.node_readings.proofs.creations.Near.{far_book, far_fold, far_reading}
+use Rattle.node_readings.proofs.creations.Near.{far_fold, far_reading}
 use Rattle.node_readings.proofs.notices.Far.{AreFar, far-append, far_reads, not_near}
 use Rattle.node_readings.proofs.notices.Own.{IsFar}
 use Rattle.node_readings.proofs.views.Leaving.{IsRead, Leaves, leaves_all, reads_append}
 use Rattle.node_order.specs.passes.Passing.{lacking}
-use Rattle.answer_laws.specs.answers.Moments.{Moment, lack_of, unhandled_in, until}
-use Rattle.answer_laws.specs.replies.Known.{EndsAreRead, HasRoomForAll, KeepsBeside}
+use Rattle.answer_laws.specs.answers.Moments.{Moment, lack_of, until}
+use Rattle.answer_laws.specs.replies.Known.{EndsAreRead, KeepsBeside}
 use Rattle.answer_laws.specs.steps.Names.{AreNamed, IsNamed}
 use Rattle.answer_laws.specs.steps.Works.{HasErrorsRead, KeepsInStep, desks_of}
 use Rattle.answer_laws.proofs.replies.Turns.{lack_so}

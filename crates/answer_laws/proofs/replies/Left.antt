@@ -1,10 +1,10 @@
 -- As a pass of a controller leaves an end, all messages there have had their turns, or the first one that is left lacks room, as it is read.
 use Rattle.std.proofs.Common.{◌≡◌, ◌⊎◌, inl, inr, ℕ, Bool, true, false, cond, eqb, List, [], ◌∷◌, ◌++◌, sym, refl, ap, ◌∙◌, subst, append_assoc}
 use Rattle.std.proofs.Common.{append-nil, arith}
-use Rattle.std.specs.Prelude.{◌==◌, Option, Some, None, is_some, nat_lt}
+use Rattle.std.specs.Prelude.{◌==◌, Some, is_some, nat_lt}
 use Rattle.std.specs.List.{AllByRecursion}
 use Rattle.std.specs.Option.{option_map_or, option_and_then}
-use Rattle.std.proofs.lemmas.Bool.{le-ltb, eqb-true, true≢false}
+use Rattle.std.proofs.lemmas.Bool.{le-ltb}
 use Rattle.std.proofs.lemmas.List.Sums.{fold-append}
 use Rattle.trace_model.specs.declared.entry.Entry.{Entry}
 use Rattle.trace_model.specs.declared.entry.Entry.TheVariants as entry
@@ -18,8 +18,8 @@ use Rattle.node_machine.specs.Turns.{goes_through_ends, passes}
 use Rattle.node_machine.specs.world.World.{end_c}
 use Rattle.node_laws.specs.kept.Books.{hosts_of_ends}
 use Rattle.node_laws.specs.kept.Hosts.{AreHosts}
-use Rattle.node_order.specs.passes.Passing.{AreAlong, ArePassed, BeginWithTurn, HadTurn, IsBehind, IsTurnSo, LastsOverTurns, Stays as StaysThere, WasHeld}
-use Rattle.node_order.specs.passes.Passing.{is_held_at, lacking, links_of_turns, waiting_at}
+use Rattle.node_order.specs.passes.Passing.{AreAlong, ArePassed, BeginWithTurn, IsBehind, IsTurnSo, LastsOverTurns, Stays as StaysThere}
+use Rattle.node_order.specs.passes.Passing.{is_held_at, links_of_turns, waiting_at}
 use Rattle.node_order.specs.passes.Passing.ComesTo.{Begins}
 use Rattle.node_order.proofs.passes.Behind.{leaves_behind}
 use Rattle.node_order.proofs.passes.Ends.{HasFirst, has_first}

@@ -1,9 +1,9 @@
 -- Behind a step of the controller that runs on, the first message that is left at an end of it lacks room, as it leaves that end.
-use Rattle.std.proofs.Common.{◌≡◌, ◌⊎◌, inl, inr, ℕ, ◌≤◌, ◌<◌, Bool, true, false, cond, eqb, ◌&&◌, ◌||◌, List, [], ◌∷◌, ◌++◌, sym, refl, ap, ◌∙◌, subst}
+use Rattle.std.proofs.Common.{◌≡◌, ◌⊎◌, inl, inr, ℕ, ◌≤◌, ◌<◌, Bool, true, false, cond, ◌&&◌, ◌||◌, List, [], ◌∷◌, ◌++◌, sym, refl, ap, ◌∙◌, subst}
 use Rattle.std.proofs.Common.{append_assoc, append-nil, arith}
-use Rattle.std.specs.Prelude.{◌==◌, Option, Some, None, is_some, is_none, nat_lt, not}
+use Rattle.std.specs.Prelude.{◌==◌, Some, None, is_some, is_none, nat_lt, not}
 use Rattle.std.specs.List.{AllByRecursion, take_while}
-use Rattle.std.proofs.lemmas.Bool.{le-ltb, lt-ltb, ne_eqb, eq-eqb, true≢false}
+use Rattle.std.proofs.lemmas.Bool.{le-ltb, lt-ltb, eq-eqb, true≢false}
 use Rattle.std.proofs.lemmas.List.Sums.{take_while-cons}
 use Rattle.registry.proofs.ValueLemmas.{AllByRecursion-append as all_append}
 use Rattle.trace_model.specs.declared.entry.Entry.{Entry}
@@ -17,7 +17,6 @@ use Rattle.node_machine.specs.Node.{NodeInput, steps}
 use Rattle.node_machine.specs.world.World.{Happening, end_c, node_of}
 use Rattle.node_machine.specs.world.Lines.{Occurrence}
 use Rattle.node_machine.specs.world.NodeHistories.{entries_in}
-use Rattle.node_laws.specs.kept.Books.{hosts_of_ends}
 use Rattle.node_laws.specs.kept.Hosts.{AreHosts}
 use Rattle.node_order.specs.passes.Passing.{AreAlong, AreNoTurns, BeginWithTurn, IsNoTurn, link_of_turn, links_of_turns}
 use Rattle.node_order.specs.passes.Steps.{comes_to_pass, noted_before_pass}
@@ -25,7 +24,7 @@ use Rattle.node_order.proofs.passes.Before.{before_entries, before_none, steps_a
 use Rattle.node_order.proofs.power.Doing.{Fine, Lost, Runs}
 use Rattle.node_order.proofs.power.Steps.{steps_fine}
 use Rattle.answer_laws.specs.answers.Answered.{as_left, is_later, is_left_short, makes_step, through}
-use Rattle.answer_laws.specs.answers.Moments.{lack_at, runs_in, unhandled_in, until}
+use Rattle.answer_laws.specs.answers.Moments.{lack_at, runs_in, unhandled_in}
 use Rattle.answer_laws.specs.answers.Order.{IsAscending, turn_link}
 use Rattle.answer_laws.specs.replies.Passes.{BeginsPass}
 use Rattle.answer_laws.specs.steps.Works.{ReadsInStep}

@@ -1,5 +1,5 @@
 -- Whether the controller runs is read off a history.
-use Rattle.std.proofs.Common.{◌≡◌, ℕ, Bool, true, false, cond, List, [], ◌∷◌, ◌++◌, sym, refl, ap, ◌∙◌, append_assoc, append-nil}
+use Rattle.std.proofs.Common.{◌≡◌, Bool, true, false, cond, List, [], ◌∷◌, ◌++◌, sym, refl, ap, ◌∙◌, append_assoc, append-nil}
 use Rattle.std.specs.Prelude.{◌==◌, None, Some, is_some, replicate}
 use Rattle.std.specs.List.{AllByRecursion, fold}
 use Rattle.std.proofs.lemmas.List.Sums.{fold-append}
@@ -7,7 +7,6 @@ use Rattle.trace_model.specs.declared.entry.Entry.{Entry}
 use Rattle.trace_model.specs.declared.entry.Entry.TheVariants as entry
 use Rattle.trace_model.specs.declared.line.Header.{Header}
 use Rattle.trace_model.specs.declared.line.Line.{Line}
-use Rattle.hci_tables.specs.declared.command.Command.{Command}
 use Rattle.journal_laws.specs.Planned.{after_planned}
 use Rattle.node_machine.specs.Node.{boot_writes}
 use Rattle.node_machine.specs.world.World.{Happening, new_memory, new_world}
@@ -15,7 +14,7 @@ use Rattle.node_machine.specs.world.World.Happening.{Arms, Boots}
 use Rattle.node_machine.specs.world.Lines.{Occurrence}
 use Rattle.node_machine.specs.world.NodeFilters.{new_book, with_found}
 use Rattle.node_machine.specs.world.NodeHistories.{FollowsNodes, NodeHistory, entries_in, node_entries, occurrences_in}
-use Rattle.node_laws.specs.cuts.Histories.{begun_by, reckoning_in, with_event}
+use Rattle.node_laws.specs.cuts.Histories.{begun_by, with_event}
 use Rattle.node_laws.specs.kept.Hosts.{AreHosts, IsFew, IsSentByHost}
 use Rattle.node_laws.specs.kept.Reckonings.{Reckoning, reckoned, reckoning_of, with_written}
 use Rattle.node_laws.specs.telling.Telling.{world_behind}

@@ -1,5 +1,5 @@
 -- At the end of each event in which the controller made a step and runs on, the first message that is left at an end of it lacked room.
-use Rattle.std.proofs.Common.{◌≡◌, ℕ, ◌≤◌, Bool, true, false, cond, eqb, List, [], ◌∷◌, ◌++◌, length, sym, refl, ap, ◌∙◌, subst, append_assoc, append-nil}
+use Rattle.std.proofs.Common.{◌≡◌, ℕ, ◌≤◌, Bool, true, false, cond, List, [], ◌∷◌, ◌++◌, length, sym, refl, ap, ◌∙◌, subst, append_assoc, append-nil}
 use Rattle.std.specs.Prelude.{◌==◌, Option, Some, None, is_some}
 use Rattle.std.specs.List.{AllByRecursion, flat_map}
 use Rattle.std.specs.Option.{option_map_or}
@@ -31,7 +31,7 @@ use Rattle.node_machine.specs.world.World.{near_end_in, new_world}
 use Rattle.node_machine.specs.world.World.{node_of, wires_for, world_step}
 use Rattle.node_machine.specs.world.World.Happening.{Activates, Arms, Boots, Gives, Inits, IsCut, Loses, Resets, Takes, Ticks}
 use Rattle.node_machine.specs.world.Lines.{Occurrence, frames_at}
-use Rattle.node_machine.specs.world.NodeHistories.{FollowsNodes, NodeHistory, entries_in, node_entries, occurrences_in, steps_from}
+use Rattle.node_machine.specs.world.NodeHistories.{FollowsNodes, NodeHistory, entries_in, node_entries, occurrences_in}
 use Rattle.node_machine.proofs.world.Cases.{after_near_tick, by_coming, by_host, near_tick}
 use Rattle.node_laws.specs.kept.Hosts.{AreDifferent, AreHosts, IsFew, IsSentByHost}
 use Rattle.node_laws.specs.telling.Telling.{HasEnds, IsOrderly, world_behind}
@@ -50,14 +50,14 @@ use Rattle.node_order.proofs.power.Links.{arrival_of_side, links_own}
 use Rattle.node_order.proofs.readings.Noting.{all_flat}
 use Rattle.node_readings.proofs.creations.Events.{far_beside}
 use Rattle.node_readings.proofs.creations.Worlds.{aged_good, near_good}
-use Rattle.node_readings.proofs.notices.Far.{AreFar, far_flat, not_near}
+use Rattle.node_readings.proofs.notices.Far.{far_flat, not_near}
 use Rattle.node_readings.proofs.notices.Near.{comes_reads}
 use Rattle.node_readings.proofs.notices.Sites.{AreGood, Reads, all_tick, frames_quiet}
 use Rattle.node_readings.proofs.views.Events.{ticks_leave}
 use Rattle.node_readings.proofs.views.Leaving.{IsStill, Leaves, still_leaves}
 use Rattle.node_readings.proofs.views.Nodes.{arrival_still, frames_still, others_step}
 use Rattle.node_readings.proofs.views.Worlds.{orderly_fine}
-use Rattle.answer_laws.specs.answers.Answered.{is_left_short, makes_step, through}
+use Rattle.answer_laws.specs.answers.Answered.{is_left_short, makes_step}
 use Rattle.answer_laws.specs.answers.Moments.{AtEachOccurrence, runs_in}
 use Rattle.answer_laws.specs.answers.Order.{IsAscending}
 use Rattle.answer_laws.specs.answers.SoFar.{AreLeftShortNear}

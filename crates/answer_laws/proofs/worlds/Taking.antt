@@ -1,33 +1,30 @@
 -- Lines let the controller take no more frames than stand on its wire, and name ends of hosts of the world.
 use Rattle.std.proofs.Common.{◌≡◌, ℕ, zero, suc, ◌+◌, ◌≤◌, Bool, true, false, cond, List, [], ◌∷◌, ◌++◌, length, map, sym, refl, ap, ◌∙◌, subst, arith, eqb}
-use Rattle.std.specs.Prelude.{◌==◌, Option, Some, None, is_some, unwrap_or, replicate, Contains, All}
-use Rattle.std.specs.List.{AllByRecursion}
+use Rattle.std.specs.Prelude.{◌==◌, Option, Some, None, is_some, unwrap_or, replicate, Contains}
 use Rattle.std.specs.Option.{option_map_or}
 use Rattle.std.proofs.lemmas.Bool.{ne_eqb, true≢false}
-use Rattle.swp_base.specs.InMemory.{Memory}
 use Rattle.swp_base.specs.declared.control_frames.Control.{Control}
 use Rattle.swp_lpdu.specs.Controls.{lpdu_of}
 use Rattle.trace_model.specs.Lines.{IsHost, IsNodeHeader}
-use Rattle.trace_model.specs.declared.entry.Entry.{Entry}
 use Rattle.trace_model.specs.declared.line.End.{End}
 use Rattle.trace_model.specs.declared.line.Header.{Header}
 use Rattle.trace_model.specs.declared.line.Line.{Line}
 use Rattle.trace_model.specs.declared.line.Line.TheVariants as line
 use Rattle.link_laws.specs.sessions.Sessions.{OnWire, fits, is_rset}
-use Rattle.link_machine.specs.Machine.{LinkEnd, LinkInput, Turn, after_input, ended_by, frames_out, turned}
+use Rattle.link_machine.specs.Machine.{LinkInput, Turn, after_input, ended_by, frames_out, turned}
 use Rattle.link_machine.specs.Machine.LinkInput.{Take}
-use Rattle.link_entries.specs.messages.Links.{Comes, Ending, Link, has_taken, put, put_all, steps_at_controller, with_ended}
+use Rattle.link_entries.specs.messages.Links.{Link, has_taken, put, put_all, steps_at_controller, with_ended}
 use Rattle.link_entries.specs.messages.Links.Comes.{NextFrame, NoInput}
 use Rattle.link_entries.specs.messages.Links.Ending.{GoesOut}
 use Rattle.history.specs.Damage.{Verdict, verdict_on}
 use Rattle.history.specs.Damage.Verdict.{LostFor, Same, Undetected}
 use Rattle.history.specs.Follows.{first_verdict, taken_of}
-use Rattle.node_machine.specs.Parts.{Running, Work}
+use Rattle.node_machine.specs.Parts.{Work}
 use Rattle.node_machine.specs.Node.{steps}
 use Rattle.node_machine.specs.Node.NodeInput.{AtEnd}
-use Rattle.node_machine.specs.world.World.{Happening, NodeWorld, Site, comes_at, comes_to, controller_does, controller_work, ending_of, link_after_controller}
-use Rattle.node_machine.specs.world.World.{link_to, node_of, runs_on, site_at, turns_at, world_step}
-use Rattle.node_machine.specs.world.World.Happening.{Loses, Resets, Takes, Ticks}
+use Rattle.node_machine.specs.world.World.{Happening, NodeWorld, Site, controller_does, controller_work, ending_of, link_after_controller}
+use Rattle.node_machine.specs.world.World.{link_to, runs_on, site_at, turns_at, world_step}
+use Rattle.node_machine.specs.world.World.Happening.{Resets, Takes, Ticks}
 use Rattle.node_machine.specs.world.Lines.{frames_at, happenings, happens_by, refusal_in}
 use Rattle.node_machine.proofs.world.Cases.{by_coming, by_controller}
 use Rattle.node_laws.proofs.telling.Lasting.{AllMay, repeated_may}
