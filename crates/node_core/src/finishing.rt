@@ -156,12 +156,7 @@ impl<N: Nv + Drop> Node<N> {
     /// A step of a controller, whose ends are those of links with hosts 01 to 07: activation ends at the end of the link with this host,
     /// and the link with it. At most
     /// five control frames wait at each end to be sent. The buffer has 4,096 bytes. Whether the node has its power still.
-    pub fn deactivate_step<W: Watch>(
-        &mut self,
-        host: u8,
-        buffer: &mut [u8],
-        watch: &mut W,
-    ) -> bool
+    pub fn deactivate_step<W: Watch>(&mut self, host: u8, buffer: &mut [u8], watch: &mut W) -> bool
         requires runs { IsSoundNode self.old }
         requires live { IsTrue self.old.store.journal.live }
         requires controller { self.old.number ≡ 0 }

@@ -28,8 +28,7 @@ finish-requires-clause-host g c =
 pub finish-requires-clause-may : goal.finish-requires-clause-may
 finish-requires-clause-may g c =
     let r = c.requires.may in
-    let l = c.requires.read in
-    (
+    let l = c.requires.read in (
       r.0,
       all_come (AtEnd c.args.host (lpdu_input l.0)) r.1,
       c.take-told.ensures.carried r.0 r.1 l.0 r.2 l.1,
