@@ -18,3 +18,4 @@ mod Lateness
 mod Forgetting
 mod Freeing
 mod Settling
+mod Stepping

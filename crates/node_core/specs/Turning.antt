@@ -1,5 +1,5 @@
 -- A turn of a message, as a node decides on it.
-use Rattle.std.specs.Prelude.{◌≡◌, ℕ, Bool, List, map, Option, Some, option_map}
+use Rattle.std.specs.Prelude.{◌≡◌, ℕ, ◌+◌, ◌≤◌, Bool, List, map, length, Option, Some, option_map}
 use Rattle.std.specs.List.{AllByRecursion}
 use Rattle.link_machine.specs.Machine.{Message}
 use Rattle.node_machine.specs.Parts.{Port, Work}
@@ -21,6 +21,10 @@ pub record IsDecided (h : ℕ) (m : Message) (deeds : List Deed) (short : Option
   pub doable : AreDoableInTurn h m deeds (has_turn h m w)
   pub held_is : held ≡ held_at w.ports h
   pub few : FewAreDue (port_at w.ports h)
+
+-- at most so many control frames wait to be sent at each end
+abbrev pub AreAtMostDue : ℕ → List Port → Type 0
+AreAtMostDue n ports = AllByRecursion (λ (p : Port). length p.side.acts + length p.side.shdlc.due ≤ n) ports
 
 -- at most six control frames wait to be sent at each end
 abbrev pub AreFewDue : List Port → Type 0

@@ -1,0 +1,202 @@
+-- A whole step of a controller.
+use Rattle.std.proofs.Common.{◌≡◌, ◌≢◌, ℕ, ◌+◌, ◌≤◌, Bool, true, false, not, List, [], ◌∷◌, ◌++◌, map, length, refl, sym, ap, ap₂, ◌∙◌, subst, arith}
+use Rattle.std.proofs.Common.{append-nil}
+use Rattle.std.specs.Prelude.{Option, Some, None, ◌==◌, option_map, IfSome, nat_le, ◌&&◌}
+use Rattle.std.specs.List.{AllByRecursion, flat_map}
+use Rattle.std.proofs.lemmas.Bool.{eqb-true}
+use Rattle.std.proofs.lemmas.List.Concat.{flat_map-cons}
+use Rattle.swp_base.specs.InMemory.{Plan}
+use Rattle.trace_model.specs.declared.entry.Entry.{Entry}
+use Rattle.hci_store.specs.Stored.{Stored}
+use Rattle.link_machine.specs.Machine.{LinkEnd as Machine, LinkInput, Role, report, after_input, act_answer, lpdu_input}
+use Rattle.link_machine.specs.Machine.LinkInput.{Reset, Start, Stop, Tick}
+use Rattle.link_machine.specs.Machine.Role.{Bare, Clf, Uicc}
+use Rattle.swp_act.specs.declared.ActEvent.TheVariants.{Start as ActStart, Stop as ActStop}
+use Rattle.link_end.specs.declared.report.LinkReport.{LinkReport}
+use Rattle.link_end.specs.Reports.{report_told}
+use Rattle.node_machine.specs.Parts.{Core, Port, Work, Deed}
+use Rattle.node_machine.specs.Carrying.{port_at}
+use Rattle.node_machine.specs.Node.{NodeInput, has_come, input_at, all_come, times_out, synced, steps}
+use Rattle.node_machine.specs.Node.NodeInput.{AtEnd}
+use Rattle.node_ends.specs.Ends.{AreOfHosts, FewAreDue}
+use Rattle.node_ends.specs.Making.{AreAllDifferent}
+use Rattle.node_ends.proofs.Dues.{due_count}
+use Rattle.node_core.specs.declared.node.Node.{Node}
+use Rattle.node_core.specs.Nodes.{IsInStep}
+use Rattle.node_core.specs.Bringing.{Brings}
+use Rattle.node_core.specs.Turning.{AreFewDue, AreAtMostDue}
+use Rattle.node_core.specs.Syncing.{id_kept, sync_kept, sync_told, finishes}
+use Rattle.node_core.proofs.Steps.{brings_after}
+use Rattle.node_core.proofs.HavingTurns.{brings_same}
+use Rattle.node_core.proofs.Elsewhere.{host_at, hosts_differ}
+use Rattle.node_core.proofs.Sendables.{found_all}
+use Rattle.node_core.proofs.Doing as doing
+
+-- ## Identifiers
+
+-- what comes to one end brings no identifier at the others
+none_synced : (core : Core) (h : ℕ) (i : LinkInput) (ports : List Port) → AllByRecursion (λ (g : ℕ). g ≢ h) (map host_at ports)
+    → flat_map (synced core (AtEnd h i)) ports ≡ []
+none_synced core h i [] differ = refl
+none_synced core h i (p ∷ ports) differ =
+    flat_map-cons (synced core (AtEnd h i)) p ports ∙ by (p.desk.host == h) refl (none_synced core h i ports differ.1)
+  where
+    by : (b : Bool) → (p.desk.host == h) ≡ b → flat_map (synced core (AtEnd h i)) ports ≡ []
+        → synced core (AtEnd h i) p ++ flat_map (synced core (AtEnd h i)) ports ≡ []
+    by true q later = absurd (differ.0 (eqb-true p.desk.host h q))
+    by false q later = rw q later
+
+told_at_end : (h : ℕ) (i : LinkInput) → Option Port → Option (ℕ × ℕ)
+told_at_end h i o = sync_told h (option_map (λ (p : Port). report_told (report p.side i)) o)
+
+one_synced : (core : Core) (h : ℕ) (i : LinkInput) (p : Port) → (p.desk.host == h) ≡ true
+    → synced core (AtEnd h i) p ≡ sync_kept core.journal core.tables (sync_told h (Some (report_told (report p.side i))))
+one_synced core h i p q = by (report p.side i).sync refl
+  where
+    by : (o : Option ℕ) → (report p.side i).sync ≡ o
+        → synced core (AtEnd h i) p ≡ sync_kept core.journal core.tables (sync_told h (Some (report_told (report p.side i))))
+    by None s = rw (q, s) refl
+    by (Some id) s = rw (q, s) (ap (λ (n : ℕ). id_kept core.journal core.tables (n, id)) (eqb-true p.desk.host h q))
+
+pub synced_is : (core : Core) (h : ℕ) (i : LinkInput) (ports : List Port) → AreAllDifferent (map host_at ports)
+    → flat_map (synced core (AtEnd h i)) ports
+    ≡ sync_kept core.journal core.tables (sync_told h (option_map (λ (p : Port). report_told (report p.side i)) (port_at ports h)))
+synced_is core h i [] differ = refl
+synced_is core h i (p ∷ ports) differ =
+    flat_map-cons (synced core (AtEnd h i)) p ports ∙ by (p.desk.host == h) refl (synced_is core h i ports differ.1)
+  where
+    K : Option Port → List Deed
+    K o = sync_kept core.journal core.tables (sync_told h (option_map (λ (p : Port). report_told (report p.side i)) o))
+
+    others : (p.desk.host == h) ≡ true → flat_map (synced core (AtEnd h i)) ports ≡ []
+    others q =
+        let P : ℕ → Type 0 = λ n. AllByRecursion (λ (g : ℕ). g ≢ n) (map host_at ports) in
+        none_synced core h i ports (subst P (eqb-true p.desk.host h q) differ.0)
+
+    first : (p.desk.host == h) ≡ true → port_at (p ∷ ports) h ≡ Some p
+    first q = rw q refl
+
+    behind : (p.desk.host == h) ≡ false → port_at (p ∷ ports) h ≡ port_at ports h
+    behind q = rw q refl
+
+    nothing : (p.desk.host == h) ≡ false → synced core (AtEnd h i) p ≡ []
+    nothing q = rw q refl
+
+    by : (b : Bool) → (p.desk.host == h) ≡ b → flat_map (synced core (AtEnd h i)) ports ≡ K (port_at ports h)
+        → synced core (AtEnd h i) p ++ flat_map (synced core (AtEnd h i)) ports ≡ K (port_at (p ∷ ports) h)
+    by true q later =
+        ap (λ l. synced core (AtEnd h i) p ++ l) (others q)
+        ∙ (append-nil (synced core (AtEnd h i) p) ∙ (one_synced core h i p q ∙ ap K (sym (first q))))
+    by false q later =
+        ap (λ l. l ++ flat_map (synced core (AtEnd h i)) ports) (nothing q) ∙ (later ∙ ap K (sym (behind q)))
+
+-- where an input never brings one
+silent_synced : (core : Core) (input : NodeInput) → ((p : Port) → synced core input p ≡ []) → (ports : List Port)
+    → flat_map (synced core input) ports ≡ []
+silent_synced core input silent [] = refl
+silent_synced core input silent (p ∷ ports) =
+    flat_map-cons (synced core input) p ports
+    ∙ (ap (λ l. l ++ flat_map (synced core input) ports) (silent p) ∙ silent_synced core input silent ports)
+
+silent_at : (core : Core) (h : ℕ) (i : LinkInput) → ((e : Machine) → (report e i).sync ≡ None) → (p : Port) → synced core (AtEnd h i) p ≡ []
+silent_at core h i none p = by (p.desk.host == h) refl
+  where
+    by : (b : Bool) → (p.desk.host == h) ≡ b → synced core (AtEnd h i) p ≡ []
+    by true q = let s = none p.side in rw (q, s) refl
+    by false q = rw q refl
+
+start_silent : (r : Role) (value : ℕ) → (act_answer r (ActStart value)).sync ≡ None
+start_silent Bare value = refl
+start_silent (Clf s) value = refl
+start_silent (Uicc s) value = refl
+
+stop_silent : (r : Role) → (act_answer r ActStop).sync ≡ None
+stop_silent Bare = refl
+stop_silent (Clf s) = refl
+stop_silent (Uicc s) = refl
+
+pub reset_synced : (core : Core) (h : ℕ) (window : Option ℕ) (ports : List Port) → flat_map (synced core (AtEnd h (Reset window))) ports ≡ []
+reset_synced core h window ports =
+    silent_synced core (AtEnd h (Reset window)) (silent_at core h (Reset window) (λ e. refl)) ports
+
+pub start_synced : (core : Core) (h value : ℕ) (ports : List Port) → flat_map (synced core (AtEnd h (Start value))) ports ≡ []
+start_synced core h value ports =
+    silent_synced core (AtEnd h (Start value)) (silent_at core h (Start value) (λ e. start_silent e.role value)) ports
+
+pub stop_synced : (core : Core) (h : ℕ) (ports : List Port) → flat_map (synced core (AtEnd h Stop)) ports ≡ []
+stop_synced core h ports = silent_synced core (AtEnd h Stop) (silent_at core h Stop (λ e. stop_silent e.role)) ports
+
+-- ## Hosts
+
+-- an identifier comes from a host that there is
+pub sync_of_host : (h : ℕ) (i : LinkInput) (ports : List Port) (told : Option LinkReport) → AreOfHosts ports
+    → told ≡ option_map (λ (p : Port). report_told (report p.side i)) (port_at ports h)
+    → IfSome (sync_told h told) (λ (pair : ℕ × ℕ). (1 ≤ pair.0) × (pair.0 ≤ 7))
+sync_of_host h i ports told hosts is = at (port_at ports h) refl (found_all _ ports h hosts)
+  where
+    P : Option (ℕ × ℕ) → Type 0
+    P o = IfSome o (λ (pair : ℕ × ℕ). (1 ≤ pair.0) × (pair.0 ≤ 7))
+
+    of : (o : Option ℕ) (r : LinkReport) → r.sync ≡ o → (1 ≤ h) × (h ≤ 7) → P (sync_told h (Some r))
+    of None r q host = rw q tt
+    of (Some id) r q host = rw q host
+
+    at : (o : Option Port) → port_at ports h ≡ o → IfSome o (λ (p : Port). (1 ≤ p.desk.host) × (p.desk.host ≤ 7)) → P (sync_told h told)
+    at None q host =
+        let none : told ≡ None = is ∙ ap (option_map (λ (p : Port). report_told (report p.side i))) q in
+        subst (λ (t : Option LinkReport). P (sync_told h t)) (sym none) tt
+    at (Some p) q host =
+        let some : told ≡ Some (report_told (report p.side i)) = is ∙ ap (option_map (λ (p : Port). report_told (report p.side i))) q in
+        let H : ℕ → Type 0 = λ n. (1 ≤ n) × (n ≤ 7) in
+        subst (λ (t : Option LinkReport). P (sync_told h t)) (sym some)
+        (of (report_told (report p.side i)).sync (report_told (report p.side i)) refl (subst H (doing.host_at h ports p q) host))
+
+pub come_hosts : (h : ℕ) (i : LinkInput) (w : Work) → AreOfHosts w.ports → AreOfHosts (all_come (AtEnd h i) w).ports
+come_hosts h i w hosts = all w.ports hosts
+  where
+    one : (b : Bool) (p : Port) → (p.desk.host == h) ≡ b → (has_come p (input_at (AtEnd h i) p)).desk.host ≡ p.desk.host
+    one true p q = rw q refl
+    one false p q = rw q refl
+
+    all : (ports : List Port) → AreOfHosts ports → AreOfHosts (map (λ (p : Port). has_come p (input_at (AtEnd h i) p)) ports)
+    all [] hosts = tt
+    all (p ∷ ports) hosts =
+        let H : ℕ → Type 0 = λ n. (1 ≤ n) × (n ≤ 7) in
+        (subst H (sym (one (p.desk.host == h) p refl)) hosts.0, all ports hosts.1)
+
+-- ## Control frames
+
+pub five_few : (ports : List Port) → AreAtMostDue 5 ports → AreFewDue ports
+five_few [] few = tt
+five_few (p ∷ ports) few = let f = few.0 in (omega (arith, f), five_few ports few.1)
+
+pub come_few : (h : ℕ) (i : LinkInput) → ((e : Machine) → due_count (after_input e i) ≤ due_count e + 1) → (w : Work) → AreAtMostDue 5 w.ports
+    → AreFewDue (all_come (AtEnd h i) w).ports
+come_few h i more w few = all w.ports few
+  where
+    one : (b : Bool) (p : Port) → (p.desk.host == h) ≡ b → due_count p.side ≤ 5 → due_count (has_come p (input_at (AtEnd h i) p)).side ≤ 6
+    one true p q few = let m = more p.side in rw q (omega (arith, few, m))
+    one false p q few = rw q (omega (arith, few))
+
+    all : (ports : List Port) → AreAtMostDue 5 ports → AreFewDue (map (λ (p : Port). has_come p (input_at (AtEnd h i) p)) ports)
+    all [] few = tt
+    all (p ∷ ports) few = (one (p.desk.host == h) p refl few.0, all ports few.1)
+
+-- ## Steps
+
+module _ {N : Type 0} (writes : N → ℕ → List ℕ → Bool → N → Type 0) where
+  -- what comes, and what a step does behind it
+  pub whole_step : {n : Node N} {m : Stored N} {noted start : List Entry} {short : Bool} {new : N} {S : Work → Type 0} {w : Work} (input : NodeInput)
+      (came : Option (ℕ × ℕ)) → IsInStep n noted short start w → n.store.journal.live ≡ true → m ≡ n.store
+      → ((plan : Option Plan) → times_out input (all_come input (record w { plan = plan })) ≡ record (times_out input (all_come input w)) { plan = plan })
+      → (times_out input (all_come input w)).writes ≡ w.writes
+      → flat_map (synced w.core input) w.ports ≡ sync_kept w.core.journal w.core.tables came
+      → Brings writes m.journal.nv new S (finishes (sync_kept m.journal.state m.tables came)) (times_out input (all_come input w))
+      → Brings writes n.store.journal.nv new S (steps input) w
+  whole_step {n} {m} {w = w} input came u live same planned written syncs b =
+      let k = u.core (u.power ∙ ap not live) in
+      let K : Stored N → List Deed = λ s. sync_kept s.journal.state s.tables came in
+      let is : K m ≡ flat_map (synced w.core input) w.ports =
+      ap K same ∙ (sym (ap (λ s. sync_kept s w.core.tables came) k.journal ∙ ap (λ t. sync_kept n.store.journal.state t came) k.tables) ∙ sym syncs) in
+      brings_same (brings_after (λ v. times_out input (all_come input v)) (ap (λ (s : Stored N). s.journal.nv) same) planned written b)
+      (λ plan. ap (λ ds. finishes ds (times_out input (all_come input (record w { plan = plan })))) (sym is))

@@ -1,0 +1,24 @@
+use Rattle.std.proofs.Common.{◌≡◌, refl, sym, ap, ◌∙◌}
+use Rattle.node_machine.specs.Node.NodeInput.{AtEnd}
+use Rattle.std.specs.Prelude.{None}
+use Rattle.link_machine.specs.Machine.{lpdu_input}
+use Rattle.link_machine.specs.Machine.LinkInput.{Reset, Start, Stop}
+use Rattle.node_ends.proofs.Dues.{reset_few_due}
+use Rattle.node_core.proofs.Elsewhere.{few_at, hosts_differ}
+use Rattle.node_core.proofs.Stepping.{synced_is, sync_of_host, come_hosts, five_few, come_few, whole_step, reset_synced, start_synced, stop_synced}
+use Rattle.node_core.proofs.node.Node.reset_step.Goals as goal
+
+pub reset-requires-clause-may : goal.reset-requires-clause-may
+reset-requires-clause-may g c =
+    let r = c.requires.may in (r.0, r.1, r.2, few_at r.1.ports c.args.host (five_few r.1.ports r.4))
+
+pub finish-requires-clause-may : goal.finish-requires-clause-may
+finish-requires-clause-may g c =
+    let r = c.requires.may in
+    (r.0, _, c.reset.ensures.carried r.0 r.1 r.2, come_hosts c.args.host (Reset c.args.window) r.1 r.3, come_few c.args.host (Reset c.args.window) (λ e. reset_few_due e c.args.window) r.1 r.4)
+
+pub returns-clause-carried : goal.returns-clause-carried
+returns-clause-carried g c start w u hosts few =
+    whole_step g.N.Nv.writes (AtEnd c.args.host (Reset c.args.window)) None u c.requires.live c.reset.ensures.store (λ plan. refl) refl (reset_synced w.core c.args.host c.args.window w.ports)
+    (c.finish.ensures.carried start _ (c.reset.ensures.carried start w u) (come_hosts c.args.host (Reset c.args.window) w hosts)
+    (come_few c.args.host (Reset c.args.window) (λ e. reset_few_due e c.args.window) w few))
