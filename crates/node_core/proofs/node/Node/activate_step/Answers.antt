@@ -14,11 +14,17 @@ activate-requires-clause-may g c =
 
 pub finish-requires-clause-may : goal.finish-requires-clause-may
 finish-requires-clause-may g c =
-    let r = c.requires.may in
-    (r.0, _, c.activate.ensures.carried r.0 r.1 r.2, come_hosts c.args.host (Start c.args.value) r.1 r.3, come_few c.args.host (Start c.args.value) (λ e. start_few e c.args.value) r.1 r.4)
+    let r = c.requires.may in (
+      r.0,
+      _,
+      c.activate.ensures.carried r.0 r.1 r.2,
+      come_hosts c.args.host (Start c.args.value) r.1 r.3,
+      come_few c.args.host (Start c.args.value) (λ e. start_few e c.args.value) r.1 r.4,
+    )
 
 pub returns-clause-carried : goal.returns-clause-carried
 returns-clause-carried g c start w u hosts few =
-    whole_step g.N.Nv.writes (AtEnd c.args.host (Start c.args.value)) None u c.requires.live c.activate.ensures.store (λ plan. refl) refl (start_synced w.core c.args.host c.args.value w.ports)
+    whole_step g.N.Nv.writes (AtEnd c.args.host (Start c.args.value)) None u c.requires.live c.activate.ensures.store (λ plan. refl) refl
+    (start_synced w.core c.args.host c.args.value w.ports)
     (c.finish.ensures.carried start _ (c.activate.ensures.carried start w u) (come_hosts c.args.host (Start c.args.value) w hosts)
     (come_few c.args.host (Start c.args.value) (λ e. start_few e c.args.value) w few))

@@ -19,6 +19,7 @@ finish-requires-clause-may g c =
 
 pub returns-clause-carried : goal.returns-clause-carried
 returns-clause-carried g c start w u hosts few =
-    whole_step g.N.Nv.writes (AtEnd c.args.host (Stop)) None u c.requires.live c.deactivate.ensures.store (λ plan. refl) refl (stop_synced w.core c.args.host w.ports)
+    whole_step g.N.Nv.writes (AtEnd c.args.host (Stop)) None u c.requires.live c.deactivate.ensures.store (λ plan. refl) refl
+    (stop_synced w.core c.args.host w.ports)
     (c.finish.ensures.carried start _ (c.deactivate.ensures.carried start w u) (come_hosts c.args.host (Stop) w hosts)
     (come_few c.args.host (Stop) stop_few w few))

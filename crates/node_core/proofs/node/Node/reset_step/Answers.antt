@@ -14,11 +14,17 @@ reset-requires-clause-may g c =
 
 pub finish-requires-clause-may : goal.finish-requires-clause-may
 finish-requires-clause-may g c =
-    let r = c.requires.may in
-    (r.0, _, c.reset.ensures.carried r.0 r.1 r.2, come_hosts c.args.host (Reset c.args.window) r.1 r.3, come_few c.args.host (Reset c.args.window) (λ e. reset_few_due e c.args.window) r.1 r.4)
+    let r = c.requires.may in (
+      r.0,
+      _,
+      c.reset.ensures.carried r.0 r.1 r.2,
+      come_hosts c.args.host (Reset c.args.window) r.1 r.3,
+      come_few c.args.host (Reset c.args.window) (λ e. reset_few_due e c.args.window) r.1 r.4,
+    )
 
 pub returns-clause-carried : goal.returns-clause-carried
 returns-clause-carried g c start w u hosts few =
-    whole_step g.N.Nv.writes (AtEnd c.args.host (Reset c.args.window)) None u c.requires.live c.reset.ensures.store (λ plan. refl) refl (reset_synced w.core c.args.host c.args.window w.ports)
+    whole_step g.N.Nv.writes (AtEnd c.args.host (Reset c.args.window)) None u c.requires.live c.reset.ensures.store (λ plan. refl) refl
+    (reset_synced w.core c.args.host c.args.window w.ports)
     (c.finish.ensures.carried start _ (c.reset.ensures.carried start w u) (come_hosts c.args.host (Reset c.args.window) w hosts)
     (come_few c.args.host (Reset c.args.window) (λ e. reset_few_due e c.args.window) w few))
