@@ -15,7 +15,7 @@ returns-in-Some-clause-goes g c =
       stands = c.tell.ensures.stands frames h.stands;
       lines = subst (λ l. IsGathered g.K.Sink.tells c.gather_report.new.text.items least l before (g.K.Sink.written c.gather_report.new.sink))
           (sym (one_line bare c.args.tap.now frames more (report_of c.in-Some.head c.tell.new.self.body) h.bare_is (c.in-Some.ensures.reports frames h.stands)
-          ∙ ap (λ body. report_lines bare frames ++ report_line (report_of c.in-Some.head body)) (sym c.body.ensures)))
+          ∙ ap (λ body. report_lines bare frames ++ report_line (report_of c.in-Some.head body)) (sym c.body.ensures.value)))
           (goes least (report_lines bare frames) before h.lines);
     }) c.gather_report.ensures.goes
 
@@ -25,5 +25,5 @@ returns-in-Some-clause-ends g c =
     let more = (c.args.from_clf, c.args.lpdu.now) ∷ [] in
     subst (λ l. IsFront g.K.Sink.tells least l before (g.K.Sink.written c.gather_report.new.sink))
     (sym (one_line bare c.args.tap.now frames more (report_of c.in-Some.head c.tell.new.self.body) h.bare_is (c.in-Some.ensures.reports frames h.stands)
-    ∙ ap (λ body. report_lines bare frames ++ report_line (report_of c.in-Some.head body)) (sym c.body.ensures)))
+    ∙ ap (λ body. report_lines bare frames ++ report_line (report_of c.in-Some.head body)) (sym c.body.ensures.value)))
     (ends least (report_lines bare frames) before h.lines)) c.gather_report.ensures.ends
