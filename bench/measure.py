@@ -34,13 +34,25 @@ def jobs(folder):
 
 
 def run(program, words, path):
-    """The processor time of one run in seconds, its most memory in bytes, and its page faults."""
+    """The processor time of one run in seconds, and its page faults."""
     with open(path, "rb") as source, open(os.devnull, "wb") as sink:
         child = subprocess.Popen([program, *words], stdin=source, stdout=sink)
         _pid, status, usage = os.wait4(child.pid, 0)
     if status != 0:
         sys.exit(f"{program} {words} ended with {status} on {path}")
-    return usage.ru_utime + usage.ru_stime, usage.ru_maxrss * 1024, usage.ru_minflt + usage.ru_majflt
+    return usage.ru_utime + usage.ru_stime, usage.ru_minflt + usage.ru_majflt
+
+
+def most_memory(program, words, path):
+    """The most memory that it had, in kilobytes, where the command `time` is there: a child of this script begins with the script's own."""
+    if not os.path.exists("/usr/bin/time"):
+        return None
+    with open(path, "rb") as source:
+        told = subprocess.run(
+            ["/usr/bin/time", "-f", "%M", program, *words],
+            stdin=source, stdout=subprocess.DEVNULL, stderr=subprocess.PIPE, text=True, check=True,
+        ).stderr
+    return int(told)
 
 
 def instructions(program, words, path, unit, units, folder):
@@ -76,8 +88,10 @@ def main():
         for job, words, path, unit, units in rows:
             count = instructions(program, words, path, unit, units, folder)
             best = min(runs[job])
+            memory = most_memory(program, words, path)
             shown = "-" if count is None else f"{count:,.1f}" if count < 100 else f"{count:,.0f}"
-            print(f"| {job} | {unit} | {shown} | {best[0] / units * 1e9:,.1f} | {best[1] / 1024:,.0f} | {best[2]} |")
+            kept = "-" if memory is None else f"{memory:,}"
+            print(f"| {job} | {unit} | {shown} | {best[0] / units * 1e9:,.1f} | {kept} | {best[1]} |")
 
 
 if __name__ == "__main__":
