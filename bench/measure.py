@@ -26,11 +26,10 @@ def jobs(folder):
     for name in ("short10000", "short20000", "lossy", "long"):
         path = folder / f"{name}.schedule"
         yield f"replay {name}", ["replay"], path, "line", path.read_bytes().count(b"\n")
-    for name in ("frames", "noise", "bytes"):
-        path = folder / f"{name}.rec"
-        yield f"decode {name}", ["decode"], path, "byte", path.stat().st_size
-    path = folder / "frames.rec"
-    yield "tap frames", ["tap", "hci"], path, "byte", path.stat().st_size
+    for job, words in (("decode", ["decode"]), ("tap", ["tap", "hci"])):
+        for name in ("frames", "noise", "bytes"):
+            path = folder / f"{name}.rec"
+            yield f"{job} {name}", words, path, "byte", path.stat().st_size
 
 
 def run(program, words, path):

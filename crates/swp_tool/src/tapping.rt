@@ -19,6 +19,8 @@ use swp_tap::{Tap, TapHead};
 #[derive(Drop)]
 struct Tapping {
     decoder: Decoder,
+    /// Room for the frames of a step; it is kept, since new room is filled before it is used.
+    frames: Frames,
     tap: Tap,
     text: Text,
 }
@@ -105,6 +107,7 @@ fn hear_frame<K: Sink>(
 }
 
 /// Hears frames one after another.
+#[inline(always)]
 fn hear_frames<K: Sink>(
     sink: &mut K,
     tap: &mut Tap,
@@ -129,6 +132,7 @@ fn hear_frames<K: Sink>(
 }
 
 /// Reads the first of some bytes of the record, at least one, and hears the frames that they give. It answers how many were read.
+#[inline(always)]
 fn hear_first<K: Sink>(
     sink: &mut K,
     tapping: &mut Tapping,
@@ -149,9 +153,9 @@ fn hear_first<K: Sink>(
         → IsTapping bare K.tells tapping.old earlier read before (K.written sink.old)
         → IsFrontOfSome (tap_lines bare) K.tells earlier (read ++ bytes.now ++ rest) before (K.written sink.new)) }
 {
-    let mut frames = Frames::new();
-    let read = tapping.decoder.hear_many(bytes, &mut frames);
-    hear_frames(sink, &mut tapping.tap, &mut tapping.text, &frames)?;
+    tapping.frames.clear();
+    let read = tapping.decoder.hear_many(bytes, &mut tapping.frames);
+    hear_frames(sink, &mut tapping.tap, &mut tapping.text, &tapping.frames)?;
     Ok(read)
 }
 
@@ -170,9 +174,9 @@ fn hear_byte<K: Sink>(sink: &mut K, tapping: &mut Tapping, byte: u8) -> Result<(
         → IsTapping bare K.tells tapping.old earlier read before (K.written sink.old)
         → IsFrontOfSome (tap_lines bare) K.tells earlier (read ++ byte ∷ rest) before (K.written sink.new)) }
 {
-    let mut frames = Frames::new();
-    tapping.decoder.hear(byte, &mut frames);
-    hear_frames(sink, &mut tapping.tap, &mut tapping.text, &frames)?;
+    tapping.frames.clear();
+    tapping.decoder.hear(byte, &mut tapping.frames);
+    hear_frames(sink, &mut tapping.tap, &mut tapping.text, &tapping.frames)?;
     Ok(())
 }
 
@@ -245,6 +249,7 @@ pub fn tap<S: Source, K: Sink, const BARE: bool>(
         Ok(tap) => {
             let tapping = Tapping {
                 decoder: Decoder::new(),
+                frames: Frames::new(),
                 tap,
                 text: Text::new(),
             };

@@ -16,7 +16,7 @@ returns-in_err-hear_frames-clause-ends g c =
     let first = frame_given S1 (byte ∷ reverse read) in
     let second = frame_given S2 (byte ∷ reverse read) in
     let all = ap (λ l. record_frames read ++ l)
-    (c.hear.ensures.heard (reverse read) h.decoder ∙ ap (λ l. (l ++ first) ++ second) c.new-frames.ensures) ∙ sym (byte_frames read byte) in
+    (c.hear.ensures.heard (reverse read) h.decoder ∙ ap (λ l. (l ++ first) ++ second) c.clear.ensures) ∙ sym (byte_frames read byte) in
     record {
       bytes = read ++ byte ∷ [];
       rest = rest;
@@ -31,7 +31,7 @@ returns-clause-goes g c bare earlier read before h =
     let first = frame_given S1 (byte ∷ reverse read) in
     let second = frame_given S2 (byte ∷ reverse read) in
     let all = ap (λ l. record_frames read ++ l)
-    (c.hear.ensures.heard (reverse read) h.decoder ∙ ap (λ l. (l ++ first) ++ second) c.new-frames.ensures) ∙ sym (byte_frames read byte) in
+    (c.hear.ensures.heard (reverse read) h.decoder ∙ ap (λ l. (l ++ first) ++ second) c.clear.ensures) ∙ sym (byte_frames read byte) in
     record {
       decoder = subst (λ l. DecoderStandsFor c.hear.new.self l) (sym (newest read byte)) (c.hear.ensures.stands (reverse read) h.decoder);
       heard = subst (λ l. HasHeard bare g.K.Sink.tells c.hear_frames.new.tap c.hear_frames.new.text.items (length (tap_lines bare earlier)) l before
