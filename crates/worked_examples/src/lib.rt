@@ -1,4 +1,5 @@
-//! Worked examples of the public calls of all crates, as tests: what no contract says, and examples from outside.
+//! Worked examples of the public calls of the layers below the program, as tests: what no contract says, and examples from outside. Those of
+//! the program's `run` and of memories stand in `worked_runs`.
 #![tactic(auto)]
 
 #[cfg(test)]
@@ -10,8 +11,6 @@ mod chains;
 #[cfg(test)]
 mod checksums;
 #[cfg(test)]
-mod cuts;
-#[cfg(test)]
 mod decisions;
 #[cfg(test)]
 mod decodings;
@@ -20,10 +19,6 @@ mod frames;
 #[cfg(test)]
 mod gates;
 #[cfg(test)]
-mod images;
-#[cfg(test)]
-mod journals;
-#[cfg(test)]
 mod library;
 #[cfg(test)]
 mod line_states;
@@ -31,8 +26,6 @@ mod line_states;
 mod link_ends;
 #[cfg(test)]
 mod lpdus;
-#[cfg(test)]
-mod memories;
 #[cfg(test)]
 mod nodes;
 #[cfg(test)]
@@ -47,10 +40,6 @@ mod pipes;
 mod registries;
 #[cfg(test)]
 mod relays;
-#[cfg(test)]
-mod rows;
-#[cfg(test)]
-mod runs;
 #[cfg(test)]
 mod shdlc_ends;
 #[cfg(test)]

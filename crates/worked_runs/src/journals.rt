@@ -3,7 +3,7 @@ ghost use Rattle.std.specs.Prelude.{◌≡◌, length, IsTrue};
 ghost use Rattle.nv_journal.specs.Kept.{IsGate};
 
 use crate::memories::{IMAGE, memory};
-use crate::shown::{same, same_bytes};
+use crate::shown::same;
 use nv_journal::{Journal, JournalFault};
 use std::process::Abort;
 use swp_base::MemNv;
@@ -35,7 +35,7 @@ fn reads(rt: &impl Abort, journal: &mut Journal<MemNv>, at: u32, wanted: &[u8]) 
     let Ok(Some((body, next))) = journal.body(at) else {
         panic!(rt; "no record is there");
     };
-    same_bytes(rt, body.as_slice(), wanted);
+    same(rt, &body.as_slice(), &wanted);
     next
 }
 

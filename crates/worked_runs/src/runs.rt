@@ -6,7 +6,7 @@ ghost use Rattle.swp_tool.specs.Runs.{status_at};
 ghost use Rattle.swp_tool.specs.Records.{most_bytes};
 
 use crate::rows::*;
-use crate::shown::{same, same_bytes};
+use crate::shown::same;
 use schedule_text::LineFault;
 use std::alloc::Global;
 use std::process::Abort;

@@ -1,5 +1,5 @@
 use Rattle.std.proofs.Common.{◌≡◌, IsSome, IsTrue}
-use Rattle.worked_examples.proofs.cuts.commit_all.Given as goal
+use Rattle.worked_runs.proofs.cuts.commit_all.Given as goal
 
 abbrev pub invariant-loop-turn : goal.invariant-loop-turn
 invariant-loop-turn l = record {

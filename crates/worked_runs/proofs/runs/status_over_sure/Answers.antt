@@ -7,7 +7,7 @@ use Rattle.swp_tool.specs.declared.status.Status.TheVariants as status
 use Rattle.swp_tool.specs.Schedules.{schedule_of}
 use Rattle.swp_tool.specs.Records.{most_bytes}
 use Rattle.swp_tool.specs.Runs.{status_at}
-use Rattle.worked_examples.proofs.runs.status_over_sure.Goals as goal
+use Rattle.worked_runs.proofs.runs.status_over_sure.Goals as goal
 
 -- a count that stands at 0 didn't rise
 stands : Rose 0 0 → ⊥

@@ -1,0 +1,18 @@
+//! Worked examples of the program's `run` and of the memories that it tells, as tests: faults of the outside, pieces of the input,
+//! journals and stores whose writes are cut. Those of the layers below stand in `worked_examples`.
+#![tactic(auto)]
+
+#[cfg(test)]
+mod cuts;
+#[cfg(test)]
+mod images;
+#[cfg(test)]
+mod journals;
+#[cfg(test)]
+mod memories;
+#[cfg(test)]
+mod rows;
+#[cfg(test)]
+mod runs;
+#[cfg(test)]
+mod shown;
