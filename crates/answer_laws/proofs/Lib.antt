@@ -5,3 +5,6 @@ pub mod replies
 pub mod schedules
 pub mod worlds
 pub mod passes
+pub mod dues
+pub mod hosts
+pub mod shorts

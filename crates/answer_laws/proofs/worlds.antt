@@ -15,6 +15,7 @@ pub mod Order
 pub mod Orders
 pub mod Ascending
 pub mod Turns
+pub mod Everywhere
 pub mod Lifting
 pub mod Resting
 pub mod Leaving

@@ -4,4 +4,3 @@ pub mod Unasked
 pub mod Answered
 pub mod Alike
 pub mod Headline
-pub mod SoFar

@@ -14,11 +14,7 @@ ghost use Rattle.node_order.specs.links.Runs.{ArePlayable};
 ghost use Rattle.node_laws.specs.kept.Hosts.{AreHosts, IsFew, IsSentByHost};
 ghost use Rattle.node_order.specs.readings.Worlds.{IsInitOfHost};
 ghost use Rattle.node_order.specs.order.Legal.{LegalNodes};
-ghost use Rattle.history.specs.Histories.{History};
-ghost use Rattle.node_order.specs.power.Powers.{CutsEndParts};
-ghost use Rattle.answer_laws.specs.answers.Headline.{IsLegal, IsPlayed};
-ghost use Rattle.answer_laws.specs.answers.Headline.PlayedHistory.{OfLink, OfNodes};
-ghost use Rattle.answer_laws.specs.answers.SoFar.{AnsweredSoFar};
+ghost use Rattle.answer_laws.specs.answers.Headline.{IsLegal, IsPlayed, PlayedHistory};
 ghost use Rattle.answer_laws.specs.schedules.Ranges.{AreNodeLinesOf, IsNodeLineOf};
 
 /// A line that may stand below a header, as a reader of schedules takes it, is in its range, but for settling, which no world of nodes
@@ -54,18 +50,14 @@ pub fn every_history_of_a_schedule_is_legal()
         AreNodeLinesOf header lines → length lines ≤ 20000 → LegalNodes t }
 {}
 
-/// The headline, as far as it is proved: every history that is played from a schedule whose header and lines are in their ranges is legal
-/// (`IsLegal`). Below the header of one bare link that is all of it. Below a header of nodes it is all but three facts of how messages are
-/// answered: messages are in order, quiet links have delivered all, pipes are allowed, commands are kept and a cut ends its node's part of an
-/// event; messages have their turns in the order in which they came, at the ends of their node in order, behind all that comes to it; at the
-/// end of each event all that came to a node that runs have had them, or all before one that is held; each that has its turn at the
-/// controller is replied to as is read, and each that is held there is held for what it lacks; where the controller has made a step and runs
-/// on, the first message that is left at each of its ends lacks room as it leaves that end; what a host answers before its first turn in
-/// an event is exactly what is due; and sessions end by resets exactly where they are due. Open are the replies and holds of hosts, that a
-/// message that is left at a host lacks room, and that what the controller answers before its first turn is what is due.
+/// The headline: every history that is played from a schedule whose header and lines are in their ranges is legal (`IsLegal`), with nothing
+/// else asked for. Below the header of one bare link: messages are in order, quiet links have delivered all, and settled links are quiet.
+/// Below a header of nodes: messages are in order, quiet links have delivered all, pipes are allowed, commands are kept and a cut ends its
+/// node's part of an event; and every message is answered. Messages have their turns in the order in which they came, at the ends of their
+/// node in order, behind all that comes to it; at the end of each event all that came to a node that runs have had them, or all before one
+/// that is held; each that has its turn is replied to as is read, and each that is held is held for what it lacks; where a node has made a
+/// step and runs on, the first message that is left at an end lacks room as the node leaves that end; what a node answers before its first
+/// turn in an event is exactly what is due; and sessions end by resets exactly where they are due.
 pub fn every_played_history_is_legal()
-    ensures links { (header : Header) (lines : List Line) (t : History) → IsPlayed header lines (OfLink t) → IsLegal (OfLink t) }
-    ensures legal { (header : Header) (lines : List Line) (t : NodeHistory) → IsPlayed header lines (OfNodes t) → LegalNodes t }
-    ensures ended { (header : Header) (lines : List Line) (t : NodeHistory) → IsPlayed header lines (OfNodes t) → CutsEndParts t }
-    ensures answered { (header : Header) (lines : List Line) (t : NodeHistory) → IsPlayed header lines (OfNodes t) → AnsweredSoFar t }
+    ensures { (header : Header) (lines : List Line) (t : PlayedHistory) → IsPlayed header lines t → IsLegal t }
 {}

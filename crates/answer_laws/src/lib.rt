@@ -3,9 +3,11 @@
 #![tactic(auto)]
 
 pub mod answers_of_worlds;
+pub mod dues_of_worlds;
 pub mod histories_of_schedules;
 pub mod passes_of_worlds;
 pub mod readings_in_steps;
 pub mod replies_as_read;
 pub mod replies_of_histories;
+pub mod replies_of_hosts;
 pub mod rooms_in_steps;

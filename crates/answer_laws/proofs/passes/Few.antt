@@ -47,7 +47,7 @@ use Rattle.answer_laws.proofs.passes.Sides.{begun_side}
 use Rattle.answer_laws.proofs.passes.Ordered.{apart_comes, in_turn_of, others_before, runs_comes}
 use Rattle.answer_laws.proofs.passes.Paying.{begun_owes, comes_owe}
 
-same_count : (t : List Entry) → commits t ≡ commands_noted t
+pub same_count : (t : List Entry) → commits t ≡ commands_noted t
 same_count [] = refl
 same_count (entry.Command node c ∷ t) = ap (λ n. 1 + n) (same_count t)
 same_count (x ∷ t) = same_count t

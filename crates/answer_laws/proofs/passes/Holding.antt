@@ -138,7 +138,7 @@ module _ (n : ℕ) (who : Side) (t : List Entry) (input : NodeInput) (w : Work) 
   begun_quiet = subst AreNoTurns (sym (before_entries input w))
       (AllByRecursion-append IsNoTurn w.entries (noted_before_pass input w) none (before_none input w))
 
-  begun_read_at : (k : ℕ) → holds_in t (at_end k) ≡ is_held_at w.ports k → holds_in (t ++ begun.entries) (at_end k) ≡ is_held_at begun.ports k
+  pub begun_read_at : (k : ℕ) → holds_in t (at_end k) ≡ is_held_at w.ports k → holds_in (t ++ begun.entries) (at_end k) ≡ is_held_at begun.ports k
   begun_read_at k read = quiet_all k (is_host_side who) t begun.entries begun_quiet begun_unbooted ∙ (read ∙ sym (begun_held input w k))
 
   pub begun_read : HeldAsRead t w.ports → HeldAsRead (t ++ begun.entries) begun.ports

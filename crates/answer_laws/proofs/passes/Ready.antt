@@ -1,5 +1,5 @@
 -- In a history the controller finds room for any command in the turns of each of its passes, while few commands were noted.
-use Rattle.std.proofs.Common.{◌≡◌, ℕ, ◌≤◌, List, [], ◌++◌, subst, arith}
+use Rattle.std.proofs.Common.{◌≡◌, ℕ, ◌≤◌, List, [], ◌++◌, ap, subst, arith}
 use Rattle.std.specs.Prelude.{Some}
 use Rattle.std.specs.List.{AllByRecursion}
 use Rattle.trace_model.specs.declared.line.Header.{Header}
@@ -21,7 +21,8 @@ use Rattle.node_laws.proofs.kept.Ticking.{aged_goes}
 use Rattle.node_readings.proofs.views.Lines.{events_so}
 use Rattle.answer_laws.specs.steps.Worlds.{as_it_ticks}
 use Rattle.node_order.specs.passes.Passing.{ComesTo}
-use Rattle.node_order.specs.passes.Steps.{comes_to_pass, controller_begins}
+use Rattle.node_order.specs.passes.Steps.{comes_to_pass, controller_begins, noted_before_pass}
+use Rattle.node_order.proofs.passes.Before.{before_entries}
 use Rattle.answer_laws.specs.passes.Counts.{commands_noted as commits}
 use Rattle.answer_laws.specs.replies.Known.{HasRoomForAll, MessagesAreRead}
 use Rattle.answer_laws.proofs.passes.Begins.{comes_messages, history_waits, tick_messages, WaitsRead}
@@ -52,6 +53,22 @@ module _ (header : Header) (lines : List Line) (t : NodeHistory) (follows : Foll
 
     grown : IsGrown (entries_in front) w
     grown = subst (IsGrown (entries_in front)) is (history_grown header lines t follows are sent few front back parts)
+
+    -- and as a step begins
+    pub starts_room : (h : ℕ) (comes : Comes) (i : LinkInput)
+        → commits (entries_in front ++ (comes_to_pass (AtEnd h i) (controller_begins w r h comes)).entries) ≤ 4000000000
+        → HasRoomForAll (controller_begins w r h comes)
+    starts_room h comes i most =
+        let begun : Work = controller_begins w r h comes in
+        let so : RunsSo 0 hosts w.memory.content (entries_in front) r = subst (IfRuns 0 hosts w.memory.content (entries_in front)) runs keep.controller.runs in
+        let first : Grows (entries_in front) begun =
+        begins_grown hosts are (entries_in front) w.memory r so grown (λ k. near_end_in (link_to w.sites k) (comes_to h comes k))
+        (entries_for h (arrival Controller (link_to w.sites h) comes)) (plain_entries h (arrival Controller (link_to w.sites h) comes)) in
+        let whole = ap (λ l. commits (entries_in front ++ l)) (before_entries (AtEnd h i) begun) in
+        let one = commits-append (entries_in front) (begun.entries ++ noted_before_pass (AtEnd h i) begun) in
+        let two = commits-append begun.entries (noted_before_pass (AtEnd h i) begun) in
+        let three = commits-append (entries_in front) begun.entries in
+        few_find_room (entries_in front) begun first (omega (arith, whole, one, two, three, most))
 
     pub comes_room : (h : ℕ) (comes : Comes) (i : LinkInput) (v : Work) → ComesTo (comes_to_pass (AtEnd h i) (controller_begins w r h comes)) v
         → commits (entries_in front ++ v.entries) ≤ 4000000000 → HasRoomForAll v

@@ -47,7 +47,7 @@ use Rattle.node_laws.specs.telling.Telling.{world_behind}
 use Rattle.node_laws.proofs.telling.Lasting.{Any, AnyLine, AreCaused, all_any, all_lines, events_of_steps, lines_caused}
 use Rattle.node_order.proofs.order.Asked.{behind_push}
 use Rattle.node_laws.specs.kept.Books.{IsPlain, StillRuns}
-use Rattle.node_laws.specs.kept.Hosts.{AreHosts, IsFew, IsSentByHost}
+use Rattle.node_laws.specs.kept.Hosts.{AreHosts, IsFew, IsNodeNumber, IsSentByHost}
 use Rattle.node_laws.specs.kept.Worlds.{AllKeep, IfRuns, RunsSo}
 use Rattle.node_laws.proofs.kept.Doing.{GoesOn_or_lost}
 use Rattle.node_laws.proofs.kept.Plainly.{plain_entries}
@@ -60,32 +60,34 @@ use Rattle.answer_laws.specs.passes.Counts.{commands_noted as commits}
 use Rattle.answer_laws.proofs.passes.Growing.{Grows, commits-append, spent, steps_grow}
 use Rattle.answer_laws.proofs.passes.Memories.{cut_grows, generation_in, known_generation}
 
--- ## A step of the controller
+-- ## A step of a node
 
-module _ (hosts : List ℕ) (are : AreHosts hosts) (t : List Entry) (m : Memory) (r : Running) (runs : RunsSo 0 hosts m.content t r)
+module _ (n : ℕ) (node : IsNodeNumber n) (hosts : List ℕ) (are : AreHosts hosts) (t : List Entry) (m : Memory) (r : Running)
+    (runs : RunsSo n hosts m.content t r)
     (few : generation_in m.content ≤ 1 + commits t) (near_ends : ℕ → NumberedEnd) (es : List Entry) (plain : AllByRecursion IsPlain es) where
-  abbrev pub begun : Work
-  begun = work_of r m.plan near_ends es
+  abbrev pub node_begun : Work
+  node_begun = work_of r m.plan near_ends es
 
-  pub begins_grown : Grows t begun
-  begins_grown =
+  pub node_begins_grown : Grows t node_begun
+  node_begins_grown =
       let k = known_generation m.content r.core.journal r.core.tables runs.knows in
       let more = commits-append t es in
       omega (arith, k, more, few)
 
-  still : StillRuns 0 hosts m t begun
-  still = runs_begun 0 hosts t m r near_ends es plain runs
+  still : StillRuns n hosts m t node_begun
+  still = runs_begun n hosts t m r near_ends es plain runs
 
   -- what a step leaves in the memory
-  pub step_grown : (input : NodeInput) → generation_in (after_planned (steps input begun).writes m).content ≤ 1 + commits (t ++ (steps input begun).entries)
-  step_grown input = by (steps_fine 0 hosts m t (inl refl) are input begun still runs.on) where
+  pub node_step_grown : (input : NodeInput)
+      → generation_in (after_planned (steps input node_begun).writes m).content ≤ 1 + commits (t ++ (steps input node_begun).entries)
+  node_step_grown input = by (steps_fine n hosts m t node are input node_begun still runs.on) where
     k : Work
-    k = steps input begun
+    k = steps input node_begun
 
     grown : Grows t k
-    grown = steps_grow t input begun begins_grown
+    grown = steps_grow t input node_begun node_begins_grown
 
-    by : GoesOn_or_lost 0 hosts m t k → generation_in (after_planned k.writes m).content ≤ 1 + commits (t ++ k.entries)
+    by : GoesOn_or_lost n hosts m t k → generation_in (after_planned k.writes m).content ≤ 1 + commits (t ++ k.entries)
     by (inl (on, order)) =
         let is : after_planned k.writes m ≡ on.memory = ap (λ l. after_planned l m) (sym (append-nil k.writes)) ∙ on.written [] in
         let a = ap (λ (x : Memory). generation_in x.content) is in
@@ -93,7 +95,7 @@ module _ (hosts : List ℕ) (are : AreHosts hosts) (t : List Entry) (m : Memory)
         omega (arith, a, b, grown)
     by (inr lost) =
         let u : Work = lost.lost.work in
-        let ran : StillRuns 0 lost.lost.hosts m t u = lost.lost.ran in
+        let ran : StillRuns n lost.lost.hosts m t u = lost.lost.ran in
         let writes : List Write = commit_writes u.core.journal u.core.tables (body_of lost.command) in
         let fails : fails_within (length writes) ran.memory.plan ≡ true = ap (fails_within (length writes)) (sym ran.plan_is) ∙ lost.lost.fails in
         let made : k.writes ≡ u.writes ++ writes = ap (λ (x : Work). x.writes) lost.lost.is in
@@ -105,9 +107,23 @@ module _ (hosts : List ℕ) (are : AreHosts hosts) (t : List Entry) (m : Memory)
         let d = ap spent lost.off in
         omega (arith, a, b, c, d, grown)
 
+-- ## A step of the controller
+
+module _ (hosts : List ℕ) (are : AreHosts hosts) (t : List Entry) (m : Memory) (r : Running) (runs : RunsSo 0 hosts m.content t r)
+    (few : generation_in m.content ≤ 1 + commits t) (near_ends : ℕ → NumberedEnd) (es : List Entry) (plain : AllByRecursion IsPlain es) where
+  abbrev pub begun : Work
+  begun = work_of r m.plan near_ends es
+
+  pub begins_grown : Grows t begun
+  begins_grown = node_begins_grown 0 (inl refl) hosts are t m r runs few near_ends es plain
+
+  -- what a step leaves in the memory
+  pub step_grown : (input : NodeInput) → generation_in (after_planned (steps input begun).writes m).content ≤ 1 + commits (t ++ (steps input begun).entries)
+  step_grown input = node_step_grown 0 (inl refl) hosts are t m r runs few near_ends es plain input
+
 -- ## A boot
 
-boot_grown : (m : Memory) (most : ℕ) → 65536 ≤ length m.content → generation_in m.content ≤ 1 + most
+pub boot_grown : (m : Memory) (most : ℕ) → 65536 ≤ length m.content → generation_in m.content ≤ 1 + most
     → generation_in (after_planned (boot_writes m.content) m).content ≤ 1 + most
 boot_grown m most size few = by_bank (current m.content) refl where
   by_bank : (o : Option Side) → current m.content ≡ o → generation_in (after_planned (boot_writes m.content) m).content ≤ 1 + most
@@ -271,35 +287,46 @@ module _ (hosts : List ℕ) (are : AreHosts hosts) where
 entries_one : (xs : List Occurrence) (o : Occurrence) → entries_in (xs ++ o ∷ []) ≡ entries_in xs ++ o.entries
 entries_one xs o = flat_map-append (λ (o : Occurrence). o.entries) xs (o ∷ []) ∙ ap (λ l. entries_in xs ++ l) (append-nil o.entries)
 
-module _ (hosts : List ℕ) (are : AreHosts hosts) (events : List Occurrence)
+-- what lasts over each event, where all nodes keep what is read, holds behind any first ones
+module _ (P : List Entry → NodeWorld → Type 0) (hosts : List ℕ)
+    (lasts : (t : List Entry) (w : NodeWorld) (c : Happening) → P t w → AllKeep hosts t w → P (t ++ (world_step w c).1) (world_step w c).0)
+    (events : List Occurrence)
     (keeps : (front back : List Occurrence) → events ≡ front ++ back → AllKeep hosts (entries_in front) (world_behind (new_world hosts) front)) where
-  fronts_grown : (done front back : List Occurrence) → events ≡ done ++ (front ++ back) → AreCaused Any (world_behind (new_world hosts) done) (front ++ back)
-      → IsGrown (entries_in done) (world_behind (new_world hosts) done) → IsGrown (entries_in (done ++ front)) (world_behind (new_world hosts) (done ++ front))
-  fronts_grown done [] back is caused grown =
-      subst (λ l. IsGrown (entries_in l) (world_behind (new_world hosts) l)) (sym (append-nil done)) grown
-  fronts_grown done (o ∷ front) back is caused grown =
+  fronts_last : (done front back : List Occurrence) → events ≡ done ++ (front ++ back) → AreCaused Any (world_behind (new_world hosts) done) (front ++ back)
+      → P (entries_in done) (world_behind (new_world hosts) done) → P (entries_in (done ++ front)) (world_behind (new_world hosts) (done ++ front))
+  fronts_last done [] back is caused grown =
+      subst (λ l. P (entries_in l) (world_behind (new_world hosts) l)) (sym (append-nil done)) grown
+  fronts_last done (o ∷ front) back is caused grown =
       let w : NodeWorld = world_behind (new_world hosts) done in
       let next : NodeWorld = (world_step w o.cause).0 in
-      let now : IsGrown (entries_in done ++ o.entries) next =
-      subst (λ l. IsGrown (entries_in done ++ l) next) (sym caused.0)
-      (event_grown hosts are (entries_in done) w o.cause grown (keeps done (o ∷ (front ++ back)) is)) in
-      subst (λ l. IsGrown (entries_in l) (world_behind (new_world hosts) l)) (append_assoc done (o ∷ []) front)
-      (fronts_grown (done ++ o ∷ []) front back (is ∙ sym (append_assoc done (o ∷ []) (front ++ back)))
+      let now : P (entries_in done ++ o.entries) next =
+      subst (λ l. P (entries_in done ++ l) next) (sym caused.0)
+      (lasts (entries_in done) w o.cause grown (keeps done (o ∷ (front ++ back)) is)) in
+      subst (λ l. P (entries_in l) (world_behind (new_world hosts) l)) (append_assoc done (o ∷ []) front)
+      (fronts_last (done ++ o ∷ []) front back (is ∙ sym (append_assoc done (o ∷ []) (front ++ back)))
       (subst (λ v. AreCaused Any v (front ++ back)) (sym (behind_push done o (new_world hosts))) caused.2)
-      (subst (IsGrown (entries_in (done ++ o ∷ []))) (sym (behind_push done o (new_world hosts)))
-      (subst (λ l. IsGrown l next) (sym (entries_one done o)) now)))
+      (subst (P (entries_in (done ++ o ∷ []))) (sym (behind_push done o (new_world hosts)))
+      (subst (λ l. P l next) (sym (entries_one done o)) now)))
 
-pub history_grown : (header : Header) (lines : List Line) (t : NodeHistory) → FollowsNodes header lines t → AreHosts header.hosts.items
-    → AllByRecursion IsSentByHost lines → IsFew (node_entries t) → (front back : List Occurrence) → occurrences_in t ≡ front ++ back
-    → IsGrown (entries_in front) (world_behind (new_world header.hosts.items) front)
-history_grown header lines t follows are sent few front back parts =
+pub history_lasts : (P : List Entry → NodeWorld → Type 0) (header : Header) (lines : List Line) (t : NodeHistory) → FollowsNodes header lines t
+    → AreHosts header.hosts.items → AllByRecursion IsSentByHost lines → IsFew (node_entries t)
+    → ((t : List Entry) (w : NodeWorld) (c : Happening) → P t w → AllKeep header.hosts.items t w → P (t ++ (world_step w c).1) (world_step w c).0)
+    → P [] (new_world header.hosts.items) → (front back : List Occurrence) → occurrences_in t ≡ front ++ back
+    → P (entries_in front) (world_behind (new_world header.hosts.items) front)
+history_lasts P header lines t follows are sent few lasts begins front back parts =
     let hosts : List ℕ = header.hosts.items in
     let events : List Occurrence = events_of_steps (steps_from (new_world hosts) lines) in
     let is : occurrences_in t ≡ events = ap events_of_steps follows.steps_are in
     let caused : AreCaused Any (new_world hosts) (front ++ back) =
     subst (AreCaused Any (new_world hosts)) (sym is ∙ parts)
     (lines_caused Any AnyLine (λ w l any none. all_any w _) lines (new_world hosts) (all_lines lines)) in
-    fronts_grown hosts are (occurrences_in t) (λ f b p. (events_so header lines t follows are sent few f b p).keep) [] front back parts caused blank_grown
+    fronts_last P hosts lasts (occurrences_in t) (λ f b p. (events_so header lines t follows are sent few f b p).keep) [] front back parts caused begins
+
+pub history_grown : (header : Header) (lines : List Line) (t : NodeHistory) → FollowsNodes header lines t → AreHosts header.hosts.items
+    → AllByRecursion IsSentByHost lines → IsFew (node_entries t) → (front back : List Occurrence) → occurrences_in t ≡ front ++ back
+    → IsGrown (entries_in front) (world_behind (new_world header.hosts.items) front)
+history_grown header lines t follows are sent few front back parts =
+    history_lasts IsGrown header lines t follows are sent few (event_grown header.hosts.items are) blank_grown front back parts
   where
     blank_grown : IsGrown [] (new_world header.hosts.items)
     blank_grown =

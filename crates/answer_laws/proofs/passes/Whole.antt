@@ -11,7 +11,7 @@ use Rattle.link_entries.specs.messages.Links.{Comes, aged}
 use Rattle.link_entries.specs.entries.Entries.{aged_entries}
 use Rattle.link_entries.specs.entries.Entries.End.{Controller, Host}
 use Rattle.history.specs.Steps.{entries_for}
-use Rattle.node_machine.specs.Parts.{Running}
+use Rattle.node_machine.specs.Parts.{Running, Work}
 use Rattle.node_machine.specs.Node.NodeInput.{AtEnd, TimePasses}
 use Rattle.node_machine.specs.world.World.{NodeWorld, Site, all_aged, arrival, comes_to, end_c, input_of, link_to, near_end_in, new_world, site_at}
 use Rattle.node_machine.specs.world.Lines.{Occurrence}
@@ -36,7 +36,11 @@ use Rattle.answer_laws.specs.replies.Passes.{AreRepliedIn, BeginsPass}
 use Rattle.answer_laws.proofs.replies.Histories.{comes_replied, tick_replied}
 use Rattle.answer_laws.proofs.passes.Begins.{WaitsRead, history_waits}
 use Rattle.answer_laws.proofs.passes.Few.{few_noted, front_paid}
-use Rattle.answer_laws.proofs.passes.Ready.{comes_room, comes_wait, tick_room, tick_waits}
+use Rattle.answer_laws.specs.passes.Counts.{commands_noted as commits}
+use Rattle.answer_laws.specs.replies.Known.{HasRoomForAll}
+use Rattle.answer_laws.proofs.passes.Ready.{comes_room, comes_wait, starts_room, tick_room, tick_waits}
+use Rattle.node_order.specs.passes.Passing.{ComesTo}
+use Rattle.node_order.specs.passes.Passing.ComesTo.{Begins}
 
 any_goes : (t : List Entry) (w : NodeWorld) → AllWait t w → (e : End) → (q : List Message) × Goes e [] t q
 any_goes t w a e = let all : Waiting t w e.at_host e.link = a.waiting e.at_host e.link in (all.messages, all.goes)
@@ -73,18 +77,26 @@ module _ (header : Header) (lines : List Line) (t : NodeHistory) (follows : Foll
     long (s ∷ sites) = let rest = long sites in omega (arith, rest)
 
   module _ (h : ℕ) (comes : Comes) (i : LinkInput) (input : input_of (link_to w.sites h) comes ≡ Some i) where
+    comes_few : (v : Work) → ComesTo (comes_to_pass (AtEnd h i) (controller_begins w r h comes)) v → commits (entries_in front ++ v.entries) ≤ 4000000000
+    comes_few v reached =
+        let most = few_noted (entries_in front) w r has.number has.ends waits.all.orderly.different
+        (λ k. near_end_in (link_to w.sites k) (comes_to h comes k)) (entries_for h (arrival Controller (link_to w.sites h) comes))
+        (λ k. near_end_side (link_to w.sites k) (comes_to h comes k)) (near_goes (entries_in front) w waits.all r runs)
+        (any_goes (entries_in front) w waits.all) (AtEnd h i) (comes_outside (link_to w.sites h) comes i input)
+        (λ e. arrival_still e Controller h (link_to w.sites h) comes) (42 * length front)
+        (notes_free h (arrival Controller (link_to w.sites h) comes)
+        (arrival_all IsNoGot (λ w c. tt) (λ w c. tt) (λ w c why. tt) (λ w. tt) Controller (link_to w.sites h) comes)) (sites_few w.sites hosts_kept)
+        paid v reached in
+        omega (arith, most, events)
+
+    pub comes_roomy : HasRoomForAll (controller_begins w r h comes)
+    comes_roomy =
+        starts_room header lines t follows are front back parts w is r runs sent few h comes i
+        (comes_few (comes_to_pass (AtEnd h i) (controller_begins w r h comes)) Begins)
+
     pub comes_begins : BeginsPass (entries_in front) (comes_to_pass (AtEnd h i) (controller_begins w r h comes))
     comes_begins = record {
-      room = λ v reached. comes_room header lines t follows are front back parts w is r runs sent few h comes i v reached
-          (let most = few_noted (entries_in front) w r has.number has.ends waits.all.orderly.different
-          (λ k. near_end_in (link_to w.sites k) (comes_to h comes k)) (entries_for h (arrival Controller (link_to w.sites h) comes))
-          (λ k. near_end_side (link_to w.sites k) (comes_to h comes k)) (near_goes (entries_in front) w waits.all r runs)
-          (any_goes (entries_in front) w waits.all) (AtEnd h i) (comes_outside (link_to w.sites h) comes i input)
-          (λ e. arrival_still e Controller h (link_to w.sites h) comes) (42 * length front)
-          (notes_free h (arrival Controller (link_to w.sites h) comes)
-          (arrival_all IsNoGot (λ w c. tt) (λ w c. tt) (λ w c why. tt) (λ w. tt) Controller (link_to w.sites h) comes)) (sites_few w.sites hosts_kept)
-          paid v reached in
-          omega (arith, most, events));
+      room = λ v reached. comes_room header lines t follows are front back parts w is r runs sent few h comes i v reached (comes_few v reached);
       messages = comes_wait header lines t follows are front back parts w is r runs h comes i input;
     }
 

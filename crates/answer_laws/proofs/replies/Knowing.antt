@@ -54,7 +54,7 @@ asked_joined p = go p.desk.notice refl where
   go None e = rw e refl
   go (Some n) e = rw e refl
 
-asked_same : (p q : Port) → awaited_in p.desk.notice ≡ awaited_in q.desk.notice → asked_at p ≡ asked_at q
+pub asked_same : (p q : Port) → awaited_in p.desk.notice ≡ awaited_in q.desk.notice → asked_at p ≡ asked_at q
 asked_same p q e = asked_joined p ∙ (ap joined e ∙ sym (asked_joined q))
 
 -- the same creations wait at these ends as at those that are read
@@ -113,7 +113,7 @@ asked_read t k = go (notice_in t k) refl where
         by_same false s = rw (e, i, q, s) refl
 
 -- a memory that a boot formats has room
-room_read : (c : Command) → has_room_for formatted c ≡ true
+pub room_read : (c : Command) → has_room_for formatted c ≡ true
 room_read c = go (record_fits formatted (body_of c)) where
   go : (b : Bool) → cond b true true ≡ true
   go true = refl

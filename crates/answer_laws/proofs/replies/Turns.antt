@@ -44,14 +44,14 @@ use Rattle.answer_laws.proofs.answers.Alike.{spare_read}
 
 -- ## Ends that are read
 
-some_if : (b : Bool) (n : ℕ) → is_some (cond b (Some n) None) ≡ b
+pub some_if : (b : Bool) (n : ℕ) → is_some (cond b (Some n) None) ≡ b
 some_if true n = refl
 some_if false n = refl
 
 pub up_by_ends : (t : List Entry) (ports : List Port) → EndsAreRead t ports → AreUpAsRead t ports
 up_by_ends t ports ends k p e = sym (some_if (is_up p.side.shdlc.phase) p.session) ∙ ap is_some (sym (ends.sessions k p e))
 
-lack_alike : (a b : List Port)
+pub lack_alike : (a b : List Port)
     → ((k : ℕ) → option_map_or (λ (p : Port). spare p.side) (port_at a k) 0 ≡ option_map_or (λ (p : Port). spare p.side) (port_at b k) 0)
     → (ns : List (ℕ × ℕ)) → lack a ns ≡ lack b ns
 lack_alike a b same [] = refl

@@ -39,6 +39,7 @@ use Rattle.node_readings.proofs.notices.Sites.{Reads as NoticeReads, arrival_qui
 use Rattle.node_readings.specs.creations.Creations.{IsReadSo, creations_of}
 use Rattle.node_readings.specs.creations.Worlds.{AreProper}
 use Rattle.node_readings.proofs.creations.Asks.{asked_of}
+use Rattle.node_readings.proofs.creations.Doing.{Good}
 use Rattle.node_readings.proofs.creations.Deeds.{Still, Fine}
 use Rattle.node_readings.proofs.creations.Near.{Reads, far_book, far_reading, begins as begins_made, up_at}
 use Rattle.node_readings.specs.views.Errors.{ErrorCount, no_errors}
@@ -56,6 +57,13 @@ use Rattle.answer_laws.proofs.steps.Running.{with_kept}
 use Rattle.node_laws.proofs.kept.Stepping.{ready_fine}
 use Rattle.answer_laws.proofs.steps.Readying.{notices_ready, creations_ready, errors_ready}
 use Rattle.node_order.specs.passes.Steps.{comes_to_pass, controller_begins}
+
+-- A step of a controller begins, which keeps what is read: none of its sessions has ended in it, and its ends are Down unless they are active.
+pub record IsBegun (hosts : List ℕ) (t : List Entry) (input : NodeInput) (w : Work) : Type 0 where
+  pub keeps : KeepsInStep hosts t w
+  pub fresh : AllByRecursion IsFresh w.ports
+  pub shut : AllByRecursion (λ (p : Port). IsShut p.side) w.ports
+  pub outside : IsOutside input
 
 module _ (hosts : List ℕ) (are : AreHosts hosts) (t : List Entry) (w : NodeWorld) (k : KeepsBetween hosts t w) (r : Running)
     (runs : w.controller ≡ Some r) where
@@ -162,6 +170,24 @@ module _ (hosts : List ℕ) (are : AreHosts hosts) (t : List Entry) (w : NodeWor
           (subst (λ hs. HasEnds 0 hs r) sites_are has) (es_still h)
           (λ near. kept.tables_are ∙ sym (ap (λ (b : Book). b.tables) (errors_old h host).1)) (errors_kept h host))
 
+      -- so it is as the step begins
+      pub begun_so : IsBegun hosts before input begun
+      begun_so = record {
+        keeps = from_parts hosts before begun refl
+            (λ x. begins_noticed before w r has different ups k.creations.notices.sites notices_old w.memory.plan near_ends same es quiet input outside x)
+            (λ x. record {
+              asked = asked_of begun.ports;
+              good = subst (λ hs. Good x before hs (asked_of begun.ports) [] begun) sites_are
+                  (begins_made before w r runs has different all_hosts ups shut_at rows creations_old w.memory.plan near_ends same es quiet x);
+            })
+            (λ h host. begun_right (end_c h) (real h) hosts (single h) (errors_before before h) r w.memory.plan near_ends es
+            (subst (λ hs. HasEnds 0 hs r) sites_are has) (es_still h)
+            (λ near. kept.tables_are ∙ sym (ap (λ (b : Book). b.tables) (errors_old h host).1)) (errors_kept h host));
+        fresh = fresh;
+        shut = shut;
+        outside = outside;
+      }
+
       pub step_begins : (comes_to_pass input begun).cut ≡ false → KeepsInStep hosts before (comes_to_pass input begun)
       step_begins on = from_parts hosts before (comes_to_pass input begun) on (λ x. by_notice x (noticed x)) (λ x. by_creation x (made x)) errors where
         by_notice : (x : ℕ) → Stands x before (comes_to_pass input begun) → Holds x before IsKeptNotice (comes_to_pass input begun)
@@ -202,19 +228,34 @@ module _ (hosts : List ℕ) (are : AreHosts hosts) (t : List Entry) (w : NodeWor
       (arrival_quiet Controller h (link_to w.sites h) comes) (λ n. arrival_still (end_c n) Controller h (link_to w.sites h) comes) (AtEnd h i)
       (comes_outside (link_to w.sites h) comes i input) on)
 
+  pub comes_starts : (h : ℕ) (comes : Comes) (i : LinkInput) → input_of (link_to w.sites h) comes ≡ Some i
+      → IsBegun hosts t (AtEnd h i) (controller_begins w r h comes)
+  comes_starts h comes i input =
+      subst (λ l. IsBegun hosts l (AtEnd h i) (controller_begins w r h comes)) (append-nil t)
+      (begun_so [] tt tt (λ n. tt) (λ n. near_end_in (link_to w.sites n) (comes_to h comes n)) (λ n. near_end_side (link_to w.sites n) (comes_to h comes n))
+      (entries_for h (arrival Controller (link_to w.sites h) comes)) (plain_entries h (arrival Controller (link_to w.sites h) comes))
+      (arrival_quiet Controller h (link_to w.sites h) comes) (λ n. arrival_still (end_c n) Controller h (link_to w.sites h) comes) (AtEnd h i)
+      (comes_outside (link_to w.sites h) comes i input))
+
+  aged_plain : AllByRecursion IsPlain (all_aged w).1
+  aged_plain = plain_flat (λ (s : Site). entries_for s.host (aged_entries Controller s.link.to_controller ++ aged_entries Host s.link.to_host))
+      (λ s. plain_entries s.host (aged_entries Controller s.link.to_controller ++ aged_entries Host s.link.to_host)) w.sites
+
+  reads_so : NoticeReads t w
+  reads_so = record { sites = k.creations.notices.sites; reads_so = k.creations.notices.controller }
+
+  pub tick_starts : IsBegun hosts (t ++ (all_aged w).1) TimePasses (as_it_ticks w r)
+  tick_starts =
+      begun_so (all_aged w).1 aged_plain (aged_far t w k.creations.notices.orderly k.creations.notices.up reads_so)
+      (λ n. aged_entries_still (end_c n) (real n) w) (λ n. (link_to (all_aged w).0.sites n).controller)
+      (aged_side t w k.creations.notices.orderly k.creations.notices.up reads_so w.sites) [] tt tt (λ n. tt) TimePasses tt
+
   pub tick_begins : (comes_to_pass TimePasses (as_it_ticks w r)).cut ≡ false
       → RunsInStep hosts (t ++ (all_aged w).1) (comes_to_pass TimePasses (as_it_ticks w r))
   tick_begins on =
       runs_begin (all_aged w).1 aged_plain (aged_far t w k.creations.notices.orderly k.creations.notices.up reads_so)
       (λ n. aged_entries_still (end_c n) (real n) w) (λ n. (link_to (all_aged w).0.sites n).controller)
       (aged_side t w k.creations.notices.orderly k.creations.notices.up reads_so w.sites) [] tt tt (λ n. tt) TimePasses tt on
-    where
-      aged_plain : AllByRecursion IsPlain (all_aged w).1
-      aged_plain = plain_flat (λ (s : Site). entries_for s.host (aged_entries Controller s.link.to_controller ++ aged_entries Host s.link.to_host))
-          (λ s. plain_entries s.host (aged_entries Controller s.link.to_controller ++ aged_entries Host s.link.to_host)) w.sites
-
-      reads_so : NoticeReads t w
-      reads_so = record { sites = k.creations.notices.sites; reads_so = k.creations.notices.controller }
 
   pub comes_pass_named : (h : ℕ) (comes : Comes) (i : LinkInput) → input_of (link_to w.sites h) comes ≡ Some i
       → AreNamed (comes_to_pass (AtEnd h i) (controller_begins w r h comes)).entries

@@ -57,7 +57,6 @@ use Rattle.node_readings.proofs.views.Lines.{none_zero}
 use Rattle.answer_laws.specs.answers.Answered.{AnswersSo, IsDueAt, before_turn, is_turn_of, to_command}
 use Rattle.answer_laws.specs.answers.Moments.{AtEachOccurrence, noted_of_deeds}
 use Rattle.answer_laws.specs.answers.Order.{is_answer_of}
-use Rattle.answer_laws.specs.answers.SoFar.{AreDueAtHosts}
 use Rattle.answer_laws.specs.answers.Unasked.{begun_at, due, is_down}
 use Rattle.answer_laws.proofs.passes.Begins.{port_begins}
 use Rattle.answer_laws.proofs.worlds.Downs.{AreDownless, frames_downless}
@@ -70,6 +69,10 @@ use Rattle.answer_laws.proofs.worlds.Order.{others_answer, unanswered_all}
 use Rattle.node_readings.proofs.views.InitLines.{taken_up}
 use Rattle.answer_laws.proofs.worlds.Steps.{far_node, far_number, host_begins}
 use Rattle.answer_laws.proofs.worlds.Ticking.{IfNoNotices}
+
+-- what each host answers before its first turn in an event is exactly what is due
+abbrev pub AreDueAtHosts : List ℕ → List Occurrence → Occurrence → Type 0
+AreDueAtHosts hosts past o = AllByRecursion (IsDueAt hosts past o) hosts
 
 -- ## Answers
 

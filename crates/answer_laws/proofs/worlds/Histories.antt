@@ -45,7 +45,7 @@ use Rattle.answer_laws.proofs.worlds.Resetting.{AgesAreRead, IsReadBefore, near_
 
 -- ## Sites
 
-of_hosts : (Q : ℕ → Type 0) (sites : List Site) → AllByRecursion Q (hosts_in sites) → AllByRecursion (λ (s : Site). Q s.host) sites
+pub of_hosts : (Q : ℕ → Type 0) (sites : List Site) → AllByRecursion Q (hosts_in sites) → AllByRecursion (λ (s : Site). Q s.host) sites
 of_hosts Q [] a = tt
 of_hosts Q (s ∷ sites) a = (a.0, of_hosts Q sites a.1)
 

@@ -37,14 +37,11 @@ use Rattle.answer_laws.proofs.worlds.Turns.{turnless_there}
 
 -- ## What is said of an end
 
-module _ (hosts : List ℕ) (past : List Occurrence) (o : Occurrence) (k : ℕ) where
-  abbrev e : End
-  e = end_c k
-
+module _ (hosts : List ℕ) (past : List Occurrence) (o : Occurrence) (e : End) where
   abbrev steps_there : Bool
-  steps_there = makes_step 0 o.cause
+  steps_there = makes_step (node_of e) o.cause
 
-  pub short_off : runs_in (through past o) 0 ≡ false → is_left_short hosts past o e ≡ true
+  pub short_off : runs_in (through past o) (node_of e) ≡ false → is_left_short hosts past o e ≡ true
   short_off off =
       ap (λ b. (not (steps_there && b) || is_none (oldest (unhandled_in (through past o) e))) || is_some (lack_at hosts (as_left past o e) e)) off
       ∙ by steps_there (is_none (oldest (unhandled_in (through past o) e))) (is_some (lack_at hosts (as_left past o e) e)) where
@@ -54,21 +51,22 @@ module _ (hosts : List ℕ) (past : List Occurrence) (o : Occurrence) (k : ℕ) 
 
   pub short_still : steps_there ≡ false → is_left_short hosts past o e ≡ true
   short_still still =
-      ap (λ b. (not (b && runs_in (through past o) 0) || is_none (oldest (unhandled_in (through past o) e))) || is_some (lack_at hosts (as_left past o e) e))
+      ap (λ b. (not (b && runs_in (through past o) (node_of e)) || is_none (oldest (unhandled_in (through past o) e)))
+      || is_some (lack_at hosts (as_left past o e) e))
       still
 
   pub short_none : unhandled_in (through past o) e ≡ [] → is_left_short hosts past o e ≡ true
   short_none none =
-      ap (λ l. (not (steps_there && runs_in (through past o) 0) || is_none (oldest l)) || is_some (lack_at hosts (as_left past o e) e)) none
-      ∙ by (not (steps_there && runs_in (through past o) 0)) (is_some (lack_at hosts (as_left past o e) e)) where
+      ap (λ l. (not (steps_there && runs_in (through past o) (node_of e)) || is_none (oldest l)) || is_some (lack_at hosts (as_left past o e) e)) none
+      ∙ by (not (steps_there && runs_in (through past o) (node_of e))) (is_some (lack_at hosts (as_left past o e) e)) where
         by : (a d : Bool) → ((a || true) || d) ≡ true
         by true d = refl
         by false d = refl
 
   pub short_lacks : is_some (lack_at hosts (as_left past o e) e) ≡ true → is_left_short hosts past o e ≡ true
   short_lacks lacks =
-      ap (λ b. (not (steps_there && runs_in (through past o) 0) || is_none (oldest (unhandled_in (through past o) e))) || b) lacks
-      ∙ by (not (steps_there && runs_in (through past o) 0) || is_none (oldest (unhandled_in (through past o) e))) where
+      ap (λ b. (not (steps_there && runs_in (through past o) (node_of e)) || is_none (oldest (unhandled_in (through past o) e))) || b) lacks
+      ∙ by (not (steps_there && runs_in (through past o) (node_of e)) || is_none (oldest (unhandled_in (through past o) e))) where
         by : (a : Bool) → (a || true) ≡ true
         by true = refl
         by false = refl
@@ -226,7 +224,7 @@ module _ (hosts : List ℕ) (are : AreHosts hosts) (up : IsAscending hosts) (pas
     by_back lacks [] q =
         let taken : take_while (before_it k) (lead ++ (P ++ rest)) ≡ (lead ++ A) ++ rest =
         ap (take_while (before_it k)) (shape [] q) ∙ take_all k ((lead ++ A) ++ rest) (all_append _ (lead ++ A) rest first (none_later k rest after)) in
-        short_lacks hosts past (seen P) k
+        short_lacks hosts past (seen P) (end_c k)
         (lacks (as_left past (seen P) (end_c k)) rest calm idle (ap (λ x. entries_in past ++ x) taken ∙ told rest))
     by_back lacks (x ∷ back) q =
         let next = subst BeginWithTurn q l.next in
@@ -236,13 +234,13 @@ module _ (hosts : List ℕ) (are : AreHosts hosts) (up : IsAscending hosts) (pas
         let late : is_later (end_c k) x ≡ true = head_later k x back next (l.near x back q) links in
         let taken : take_while (before_it k) (lead ++ (P ++ rest)) ≡ lead ++ A =
         ap (take_while (before_it k)) (shape (x ∷ back) q) ∙ take_to k (lead ++ A) x (back ++ rest) first late in
-        short_lacks hosts past (seen P) k
+        short_lacks hosts past (seen P) (end_c k)
         (lacks (as_left past (seen P) (end_c k)) [] calm_none tt
         (ap (λ y. entries_in past ++ y) (taken ∙ sym (append-nil (lead ++ A))) ∙ told []))
 
     by : (unhandled_in (t ++ P) (end_c k) ≡ []) ⊎ LacksBehind hosts (t ++ (v.entries ++ l.front)) l.own k → IsShort P
     by (inl empty) =
-        short_none hosts past (seen P) k
+        short_none hosts past (seen P) (end_c k)
         (ap (λ x. unhandled_in x (end_c k)) (all_of P) ∙ (idle_left (end_c k) (t ++ P) rest idle ∙ empty))
     by (inr lacks) = by_back lacks l.back refl
 
@@ -271,4 +269,4 @@ module _ (hosts : List ℕ) (are : AreHosts hosts) (up : IsAscending hosts) (pas
 
     by_fine : Fine 0 last → IsShort last.entries
     by_fine (inl r) = by_begun v.cut refl r.on
-    by_fine (inr l) = short_off hosts past (seen last.entries) k (gone l)
+    by_fine (inr l) = short_off hosts past (seen last.entries) (end_c k) (gone l)

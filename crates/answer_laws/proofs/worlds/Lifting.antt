@@ -46,7 +46,7 @@ use Rattle.node_laws.specs.kept.Books.{hosts_of_ends}
 use Rattle.answer_laws.specs.answers.Moments.{Moment, until, AtEachEntry}
 use Rattle.answer_laws.specs.answers.Order.{is_answer_of, turn_link}
 use Rattle.answer_laws.specs.answers.Answered.{IsReplied, IsHeldFor}
-use Rattle.answer_laws.specs.answers.SoFar.{IsAnsweredNear}
+use Rattle.answer_laws.proofs.worlds.Everywhere.{IsAnsweredNear}
 use Rattle.answer_laws.specs.replies.Known.{IsNoAnswer}
 use Rattle.answer_laws.specs.replies.Passes.{AreRepliedIn}
 use Rattle.answer_laws.specs.steps.Worlds.{as_it_ticks}
@@ -120,7 +120,7 @@ none_so : (hosts : List ℕ) (t es : List Entry) → NoneThere es → PassesSo h
 none_so hosts t es none front behind x m k is at turn =
     let no : None ≡ Some k = sym (suffix front x behind (subst NoneThere is none)) ∙ turn in absurd (cc no)
 
-no_answer : (es : List Entry) → AreNotOf 0 es → AllByRecursion IsNoAnswer es
+pub no_answer : (es : List Entry) → AreNotOf 0 es → AllByRecursion IsNoAnswer es
 no_answer [] a = tt
 no_answer (x ∷ es) a = ((other_answers 0 x a.0, no_cut x a.0), no_answer es a.1) where
   no_cut : (x : Entry) → is_of_node 0 x ≡ false → is_cut_of 0 x ≡ false
@@ -174,7 +174,7 @@ quiet_if : (es : List Entry) → AllByRecursion (λ x. is_answer_of 0 x ≡ fals
 quiet_if [] a u = tt
 quiet_if (x ∷ es) a u = ((a.0, uncut_one x u.0), quiet_if es a.1 u.1)
 
-frames_quiet : (f : Site → Link) (v : Work) (sites : List Site)
+pub frames_quiet : (f : Site → Link) (v : Work) (sites : List Site)
     → AllByRecursion IsNoAnswer (flat_map (λ (s : Site). frames_noted Controller s.host (f s) v) sites)
 frames_quiet f v [] = tt
 frames_quiet f v (s ∷ sites) =

@@ -60,7 +60,6 @@ use Rattle.node_readings.proofs.views.Worlds.{orderly_fine}
 use Rattle.answer_laws.specs.answers.Answered.{is_left_short, makes_step}
 use Rattle.answer_laws.specs.answers.Moments.{AtEachOccurrence, runs_in}
 use Rattle.answer_laws.specs.answers.Order.{IsAscending}
-use Rattle.answer_laws.specs.answers.SoFar.{AreLeftShortNear}
 use Rattle.answer_laws.specs.replies.Passes.{BeginsPass}
 use Rattle.answer_laws.specs.schedules.Ranges.{AreNodeLinesOf}
 use Rattle.answer_laws.specs.steps.Works.{ReadsInStep}
@@ -171,11 +170,11 @@ module _ (header : Header) (lines : List Line) (t : NodeHistory) (follows : Foll
 
   -- the controller doesn't run, and nothing is noted of it
   stands_off : (c : Happening) (es : List Entry) → w.controller ≡ None → AreIdle (end_c k) es → Short c es
-  stands_off c es none idle = short_off hosts past (record { cause = c; entries = es }) k (by (runs_in (entries_in past ++ es) 0) refl) where
+  stands_off c es none idle = short_off hosts past (record { cause = c; entries = es }) (end_c k) (by (runs_in (entries_in past ++ es) 0) refl) where
     by : (b : Bool) → runs_in (entries_in past ++ es) 0 ≡ b → runs_in (entries_in past ++ es) 0 ≡ false
     by false q = q
     by true q =
-        absurd (true≢false (sym (idle_on k (entries_in past) es idle q) ∙ off_read header lines t follows are sent few past back parts none))
+        absurd (true≢false (sym (idle_on k (entries_in past) es idle q) ∙ off_read 0 header lines t follows are sent few refl past back parts none))
 
   -- something comes to an end of it, and behind it other nodes go on
   near_short : (c : Happening) (h : ℕ) (comes : Comes) (i : LinkInput) → input_of (link_to w.sites h) comes ≡ Some i → (rest : List Entry)
@@ -229,7 +228,7 @@ module _ (header : Header) (lines : List Line) (t : NodeHistory) (follows : Foll
       (near_short c e.link comes i input [] tt (record { far = tt; unheard = tt; leave = λ j. tt })))
 
   still : (c : Happening) (es : List Entry) → makes_step 0 c ≡ false → Short c es
-  still c es q = short_still hosts past (record { cause = c; entries = es }) k q
+  still c es q = short_still hosts past (record { cause = c; entries = es }) (end_c k) q
 
   elsewhere : (e : End) → (e.link == 0) ≡ false → e.at_host ≡ true → (node_of e == 0) ≡ false
   elsewhere e zero far = let is : node_of e ≡ e.link = rw far refl in ap (λ n. n == 0) is ∙ zero
@@ -352,10 +351,14 @@ module _ (header : Header) (lines : List Line) (t : NodeHistory) (follows : Foll
 
 -- ## Histories
 
-each_steps : (past back : List Occurrence) (o : Occurrence) (w : NodeWorld) → AreCaused MayStep w (past ++ (o ∷ back))
-    → (o.entries ≡ (world_step (world_behind w past) o.cause).1) × MayStep (world_behind w past) o.cause
-each_steps [] back o w caused = (caused.0, caused.1)
-each_steps (x ∷ past) back o w caused = each_steps past back o (world_step w x.cause).0 caused.2
+-- At each end of the controller the first message that is left lacks room, as the controller leaves that end.
+abbrev pub AreLeftShortNear : List ℕ → List Occurrence → Occurrence → Type 0
+AreLeftShortNear hosts past o = AllByRecursion (λ h. is_left_short hosts past o (end_c h) ≡ true) hosts
+
+pub each_steps : (May : NodeWorld → Happening → Type 0) (past back : List Occurrence) (o : Occurrence) (w : NodeWorld)
+    → AreCaused May w (past ++ (o ∷ back)) → (o.entries ≡ (world_step (world_behind w past) o.cause).1) × May (world_behind w past) o.cause
+each_steps May [] back o w caused = (caused.0, caused.1)
+each_steps May (x ∷ past) back o w caused = each_steps May past back o (world_step w x.cause).0 caused.2
 
 module _ (header : Header) (lines : List Line) (t : NodeHistory) (follows : FollowsNodes header lines t) (nodes : IsNodeHeader header)
     (are : AreHosts header.hosts.items) (in_range : AreNodeLinesOf header lines) (seven : length header.hosts.items ≤ 7)
@@ -373,7 +376,7 @@ module _ (header : Header) (lines : List Line) (t : NodeHistory) (follows : Foll
             (lines_caused MayStep _ (line_steps header nodes) lines (new_world header.hosts.items) in_range)
 
         may : (o.entries ≡ (world_step w o.cause).1) × MayStep w o.cause
-        may = each_steps past back o (new_world header.hosts.items) caused
+        may = each_steps MayStep past back o (new_world header.hosts.items) caused
 
         one : (earlier : List ℕ) (k : ℕ) (later : List ℕ) → header.hosts.items ≡ earlier ++ k ∷ later → AllByRecursion (λ j. (j == k) ≡ false) later
             → is_left_short header.hosts.items past o (end_c k) ≡ true

@@ -67,7 +67,7 @@ taken_near l x xs ts =
     let b : Bool = is_some (ended_by l.controller.side (Take x.frame)) in
     puts_near _ (frames_out (turned (after_input l.controller.side (Take x.frame)) ts)) ∙ ended_near (record l { to_controller = xs }) b
 
-step_near : (l : Link) (ts : List Turn) (n : ℕ) → suc n ≤ length l.to_controller → n ≤ length (steps_at_controller l NextFrame ts GoesOut).to_controller
+pub step_near : (l : Link) (ts : List Turn) (n : ℕ) → suc n ≤ length l.to_controller → n ≤ length (steps_at_controller l NextFrame ts GoesOut).to_controller
 step_near l ts n many = go l.to_controller many where
   by : List OnWire → Link
   by [] = l
@@ -147,13 +147,13 @@ takes_may (suc n) w e off near many = (
 
 -- ## Lines
 
-off_zero : (header : Header) → IsNodeHeader header → (h : ℕ) → Contains header.hosts.items h → (h == 0) ≡ false
+pub off_zero : (header : Header) → IsNodeHeader header → (h : ℕ) → Contains header.hosts.items h → (h == 0) ≡ false
 off_zero header nodes h (k, below, is) =
     let host : IsHost h = subst IsHost is (nodes.hosts k h below) in
     let some : 1 ≤ h = host.0 in
     ne_eqb h 0 (λ (zero_it : h ≡ 0). omega (arith, some, zero_it))
 
-taken_most : (count : Option ℕ) (wire : List OnWire) → taken_of count wire ≤ length wire
+pub taken_most : (count : Option ℕ) (wire : List OnWire) → taken_of count wire ≤ length wire
 taken_most None wire = omega arith
 taken_most (Some n) wire = omega arith
 

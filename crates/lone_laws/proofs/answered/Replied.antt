@@ -1,13 +1,9 @@
 -- At each turn of a step a node alone replies to its message as is read.
 use Rattle.std.proofs.Common.{◌≡◌, ℕ, ◌≤◌, Bool, true, false, cond, eqb, ◌&&◌, List, [], ◌∷◌, ◌++◌, refl, sym, ap, ap₂, subst, ◌∙◌, append_assoc, arith}
-use Rattle.std.specs.Prelude.{Some, None, is_some, nat_lt, Result, Ok, Err}
+use Rattle.std.specs.Prelude.{Some, None, is_some, nat_lt}
 use Rattle.std.specs.List.{AllByRecursion, fold}
 use Rattle.std.specs.Option.{option_map_or}
 use Rattle.std.proofs.lemmas.Bool.{eqb-true}
-use Rattle.hcp_packet.specs.declared.MessageKind.{MessageKind}
-use Rattle.hcp_packet.specs.declared.MessageKind.TheVariants.{Command as IsCommandKind, Event as IsEventKind, Response as IsResponseKind}
-use Rattle.hcp_packet.specs.declared.MessageFault.{MessageFault}
-use Rattle.hcp_packet.specs.MessageHeader.{header_of}
 use Rattle.trace_model.specs.declared.entry.Entry.{Entry}
 use Rattle.trace_model.specs.declared.entry.Entry.TheVariants as entry
 use Rattle.trace_model.specs.declared.line.End.{End}
@@ -16,15 +12,14 @@ use Rattle.link_laws.specs.sessions.Sessions.{is_up}
 use Rattle.history.specs.Filters.{same_end}
 use Rattle.hci_tables.specs.Tables.{AreTables}
 use Rattle.tables_laws.specs.Changes.{JoinTwo}
-use Rattle.gate_answers.specs.Answers.{body_in}
 use Rattle.link_machine.specs.Machine.{Message, spare}
 use Rattle.link_machine.specs.Machine.Turn.{FetchMessage}
 use Rattle.node_machine.specs.Parts.{Desk, Core, Port, Work, Deed}
 use Rattle.node_machine.specs.Parts.Deed.{Sends}
 use Rattle.node_machine.specs.Carrying.{end_of_node, port_at, changed_if, with_port, after_turn, all_done, needs, lack}
-use Rattle.node_machine.specs.HostReplies.{ordered_deeds, host_deeds}
 use Rattle.node_machine.specs.Turns.{deeds_of, handles}
 use Rattle.answer_laws.proofs.answers.Alike.{replies_alike, up_read, spare_read}
+use Rattle.answer_laws.proofs.hosts.Alike.{host_same}
 use Rattle.node_order.specs.passes.Passing.{waiting_at, lacking, takes_up}
 use Rattle.node_order.specs.passes.Noting.{noted_by_deeds}
 use Rattle.node_order.proofs.passes.Notes.{deeds_note}
@@ -48,18 +43,6 @@ use Rattle.lone_laws.proofs.answered.Errors.{errs_all, errs-append, errs_core, d
 -- nothing was refused yet at a node whose boot found this
 abbrev pub begin_errs : Core → RecErrors
 begin_errs found = record { core = found; sets = None; errors = 0 }
-
--- what a host does with a message is decided by REC_ERROR and whether its end is up
-pub host_same : (core : Core) (p q : Port) (m : Message) → is_up p.side.shdlc.phase ≡ is_up q.side.shdlc.phase → p.desk.errors ≡ q.desk.errors
-    → host_deeds core p m ≡ host_deeds core q m
-host_same core p q m ups errors = go (is_up p.side.shdlc.phase) (header_of m.1) refl refl where
-  go : (b : Bool) (x : Result (MessageKind × ℕ) MessageFault) → is_up p.side.shdlc.phase ≡ b → header_of m.1 ≡ x → host_deeds core p m ≡ host_deeds core q m
-  go false x up is = let other : is_up q.side.shdlc.phase ≡ false = sym ups ∙ up in rw (up, other) refl
-  go true (Ok (IsCommandKind, n)) up is =
-      let other : is_up q.side.shdlc.phase ≡ true = sym ups ∙ up in rw (up, other, is) (ap (λ k. ordered_deeds core k m.0 n (body_in m.1)) errors)
-  go true (Ok (IsEventKind, n)) up is = let other : is_up q.side.shdlc.phase ≡ true = sym ups ∙ up in rw (up, other, is) refl
-  go true (Ok (IsResponseKind, n)) up is = let other : is_up q.side.shdlc.phase ≡ true = sym ups ∙ up in rw (up, other, is) refl
-  go true (Err fault) up is = let other : is_up q.side.shdlc.phase ≡ true = sym ups ∙ up in rw (up, other, is) refl
 
 -- what lacks is decided by what is spare
 pub lack_same : (p q : Port) → p.desk.host ≡ q.desk.host → spare p.side ≡ spare q.side → (ns : List (ℕ × ℕ)) → lack (p ∷ []) ns ≡ lack (q ∷ []) ns

@@ -16,6 +16,7 @@ use Rattle.node_machine.specs.Parts.{Core, Running, Port, Work}
 use Rattle.node_machine.specs.Carrying.{end_of_node, port_at, needs, lack}
 use Rattle.node_machine.specs.Turns.{deeds_of}
 use Rattle.answer_laws.proofs.answers.Alike.{replies_alike}
+use Rattle.answer_laws.proofs.hosts.Alike.{host_same}
 use Rattle.node_order.specs.passes.Passing.{BeginWithTurn, AreAlong, links_of_turns, ComesTo, IsBehind, Stays, waiting_at, is_held_at}
 use Rattle.lone_laws.specs.alone.Lone.{Lone, LoneCause, end_of_node_alone, lone_input, emits_behind, frames_behind, session_with}
 use Rattle.lone_laws.specs.alone.Known.{RecErrors, LoneTalk, core_noted, left_noted, talk_noted, no_session_now, spare_in_talk, side_told, core_since}
@@ -25,7 +26,7 @@ use Rattle.lone_laws.specs.alone.Answers.{is_left_lacking}
 use Rattle.lone_laws.proofs.answered.Reading.{eqb_same, Read, Alone, left_is}
 use Rattle.lone_laws.proofs.answered.Ordered.{begin_read, begun, ended, was_on, left_so}
 use Rattle.lone_laws.proofs.answered.Errors.{errs_all, errs-append, IsSettled, settled_errs}
-use Rattle.lone_laws.proofs.answered.Replied.{begin_errs, lack_same, host_same, KnowsAll}
+use Rattle.lone_laws.proofs.answered.Replied.{begin_errs, lack_same, KnowsAll}
 use Rattle.lone_laws.proofs.answered.Answering.{all_at, its_lack}
 use Rattle.lone_laws.proofs.answered.Keeping.{core_of, KeepsAll, all_passing}
 

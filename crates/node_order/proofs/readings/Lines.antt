@@ -16,9 +16,12 @@ use Rattle.node_machine.specs.Controller.{is_command_message}
 use Rattle.node_machine.specs.world.World.{NodeWorld, Happening, node_at, node_of, link_to, memory_at, new_world, world_step}
 use Rattle.node_machine.specs.world.World.Happening.{Boots, IsCut, Gives, Inits, Takes, Loses, Ticks, Resets, Activates, Arms}
 use Rattle.node_machine.specs.world.Lines.{first_cause, if_off, machine_in, frames_at, has_order, if_waiting, if_not_sent, refusal_in, happenings}
-use Rattle.node_machine.specs.world.NodeHistories.{NodeHistory, FollowsNodes, node_entries, world_after}
+use Rattle.node_machine.specs.world.Lines.{Occurrence}
+use Rattle.node_machine.specs.world.NodeHistories.{FollowsNodes, NodeHistory, entries_in, node_entries, occurrences_in, steps_from, world_after}
+use Rattle.node_laws.specs.telling.Telling.{world_behind}
 use Rattle.node_laws.specs.kept.Hosts.{AreHosts, IsSentByHost}
-use Rattle.node_laws.proofs.telling.Lasting.{AllMay, repeated_may, damaged_may, stands_none, entries_of_steps, lines_last}
+use Rattle.node_laws.proofs.telling.Lasting.{AllHold, AllMay, damaged_may, entries_of_steps, events_of_steps, front_holds, lines_hold, lines_last}
+use Rattle.node_laws.proofs.telling.Lasting.{repeated_may, stands_none}
 use Rattle.node_order.specs.readings.Worlds.{AllRead, MayBeRead, IsInitOfHost}
 use Rattle.node_order.proofs.readings.Worlds.{comes_read, activates_read}
 use Rattle.node_order.proofs.readings.Events.{all_begin, gives_read, inits_read, ticks_read_all}
@@ -101,3 +104,17 @@ schedule_read header lines t follows are sides inits =
     subst (λ l. AllRead hosts l (world_after (new_world hosts) lines)) (ap entries_of_steps (sym follows.steps_are))
     (lines_last (AllRead hosts) MayBeRead IsPlain (event_read hosts are) (λ w l is none. line_may w l is.0 is.1 none) lines [] (new_world hosts)
     (all_begin hosts) (both lines sides inits))
+
+-- so it is behind any first events
+pub events_read : (header : Header) (lines : List Line) (t : NodeHistory) → FollowsNodes header lines t → AreHosts header.hosts.items
+    → AllByRecursion IsSentByHost lines → AllByRecursion IsInitOfHost lines → (front back : List Occurrence) → occurrences_in t ≡ front ++ back
+    → AllRead header.hosts.items (entries_in front) (world_behind (new_world header.hosts.items) front)
+events_read header lines t follows are sides inits front back parts =
+    let hosts : List ℕ = header.hosts.items in
+    let may : (w : NodeWorld) (l : Line) → IsPlain l → refusal_in w l ≡ None → AllMay MayBeRead w (happenings w l) =
+    λ w l is none. line_may w l is.0 is.1 none in
+    let all : AllHold (AllRead hosts) MayBeRead IsPlain (event_read hosts are) may [] (new_world hosts) (events_of_steps (steps_from (new_world hosts) lines)) =
+    lines_hold (AllRead hosts) MayBeRead IsPlain (event_read hosts are) may lines [] (new_world hosts) (all_begin hosts) (both lines sides inits) in
+    let same : events_of_steps (steps_from (new_world hosts) lines) ≡ front ++ back = sym (ap events_of_steps follows.steps_are) ∙ parts in
+    front_holds (AllRead hosts) MayBeRead IsPlain (event_read hosts are) may front back [] (new_world hosts)
+    (subst (AllHold (AllRead hosts) MayBeRead IsPlain (event_read hosts are) may [] (new_world hosts)) same all)

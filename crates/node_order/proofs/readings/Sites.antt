@@ -126,7 +126,8 @@ near_end_side l NoInput = refl
 
 module _ (t : List Entry) (s : Site) (host : IsHost s.host) (r : Running) (so : HostRuns s.host s.link r) (read : order_in t s.host ≡ r.core.command) where
   -- its step begins, over what is noted first
-  begun_stands : (comes : Comes) (near_end : NumberedEnd) (es : List Entry) → near_end.side ≡ s.link.host.side → ((c : Option (List ℕ)) → reads s.host es c ≡ c)
+  pub begun_stands : (comes : Comes) (near_end : NumberedEnd) (es : List Entry) → near_end.side ≡ s.link.host.side
+      → ((c : Option (List ℕ)) → reads s.host es c ≡ c)
       → Runs s.host host t near_end.side.shdlc.phase (work_of r s.memory.plan (λ k. near_end) es)
   begun_stands comes near_end es side silent = record {
     on = refl;

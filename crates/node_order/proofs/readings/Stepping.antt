@@ -14,10 +14,11 @@ use Rattle.node_machine.specs.Parts.Deed.{Commits}
 use Rattle.node_machine.specs.Carrying.{noting, unless_cut, all_done}
 use Rattle.node_machine.specs.Turns.{passes}
 use Rattle.node_machine.specs.Node.{NodeInput, input_at, has_come, told_at, all_come, with_older, reset_late, told_late, times_out, forgotten, forgets}
-use Rattle.node_machine.specs.Node.{all_owed, without_notice, after_sessions, synced, answers_and_passes, steps, begins_with}
+use Rattle.node_machine.specs.Node.{all_owed, without_notice, after_sessions, synced, steps, begins_with}
 use Rattle.node_machine.specs.Node.NodeInput.{AtEnd, TimePasses}
 use Rattle.node_order.specs.links.Notices.{IsComing, IsOutside}
 use Rattle.node_order.proofs.links.Staying.{stays_up}
+use Rattle.node_order.specs.passes.Steps.{comes_to_pass}
 use Rattle.node_order.specs.readings.Orders.{IsItsEnd, KeepsOrder, IsFresh, Fits, MayDo}
 use Rattle.node_order.proofs.readings.Silent.{reads, host_side, told_reads}
 use Rattle.node_order.proofs.readings.Doing.{Runs, Stands, stands_keep, keeps_stand, then, read_more, all_stand}
@@ -55,11 +56,12 @@ none_owed q e = go q.ended q.late refl refl where
   go false true x y = rw (x, y, e) refl
   go false false x y = rw (x, y) refl
 
--- what stands behind what came
+-- what stands behind what came, before the node passes its ends
 abbrev behind : List Deed → Work → Work
 behind syncs came =
-    answers_and_passes (forgotten came.ports) syncs (all_owed (map (forgets came.ports) came.ports))
-    (record came { core = after_sessions came.core came.ports; ports = map without_notice (map (forgets came.ports) came.ports) })
+    unless_cut (all_done 0 (all_owed (map (forgets came.ports) came.ports)))
+    (all_done 0 syncs (all_done 0 (forgotten came.ports)
+    (record came { core = after_sessions came.core came.ports; ports = map without_notice (map (forgets came.ports) came.ports) })))
 
 synced_may : (h : ℕ) (F : List ℕ → Type 0) (core : Core) (input : NodeInput) (p : Port) → MayDo h F (synced core input p)
 synced_may h F core input p = go (input_at input p) refl where
@@ -146,14 +148,12 @@ module _ (h : ℕ) (host : IsHost h) (before : List Entry) where
       order = read_more h host before now w more w.core.command w.core.command r.order (came.told w.core.command ∙ ap (λ b. cond b None w.core.command) e);
     })
 
-  -- and what it does then
+  -- and what it does then, before its turns
   rest_stands : (now : LinkState) (syncs : List Deed) (v : Work) → MayDo h (λ o. ⊥) syncs → Runs h host before now v → Stands h host before now
-      (answers_and_passes [] syncs [] v)
+      (unless_cut (all_done 0 []) (all_done 0 syncs v))
   rest_stands now syncs v may r =
       let kept : Stands h host before now (all_done 0 syncs v) = all_stand h host before now 0 (λ o. ⊥) syncs v (λ o x. absurd x) may r in
-      then h host before now passes (unless_cut (all_done 0 []) (all_done 0 syncs v)) (then h host before now (all_done 0 [])
-      (all_done 0 syncs v) kept (λ s. inl s))
-      (λ s. passes_stand h host before now (unless_cut (all_done 0 []) (all_done 0 syncs v)) s)
+      then h host before now (all_done 0 []) (all_done 0 syncs v) kept (λ s. inl s)
 
   behind_stands : (now : LinkState) (syncs : List Deed) (w : Work) (p q : Port) (more : List Entry) → MayDo h (λ o. ⊥) syncs
       → Runs h host before now w → HasCome w p q more
@@ -167,17 +167,21 @@ module _ (h : ℕ) (host : IsHost h) (before : List Entry) where
         left : map (forgets (q ∷ [])) (q ∷ []) ≡ q ∷ []
         left = ap (λ x. x ∷ []) (forgets_same (q ∷ []) q came.quiet)
 
-        is : behind syncs (record w { ports = q ∷ []; entries = w.entries ++ more }) ≡ answers_and_passes [] syncs [] (begun (q ∷ []))
-        is =
-            ap (λ l. answers_and_passes (forgotten (q ∷ [])) syncs (all_owed l) (begun (map without_notice l))) left
-            ∙ (ap (λ d. answers_and_passes d syncs (all_owed (q ∷ [])) (begun (map without_notice (q ∷ [])))) (none_forgotten q came.quiet)
-            ∙ (ap (λ d. answers_and_passes [] syncs d (begun (map without_notice (q ∷ [])))) (none_owed q came.quiet)
-            ∙ ap (λ x. answers_and_passes [] syncs [] (begun (x ∷ []))) (without_same q came.quiet)))
+        then_owed : List Deed → List Deed → Work → Work
+        then_owed freed owing v = unless_cut (all_done 0 owing) (all_done 0 syncs (all_done 0 freed v))
 
-  pub steps_stand : (now : LinkState) (input : NodeInput) (w : Work) → IsOutside input → (r : Runs h host before now w) → IsFresh r.port
-      → Stands h host before (has_come r.port (input_at input r.port)).side.shdlc.phase (steps input w)
-  steps_stand now input w out r fresh =
-      subst (λ v. Stands h host before q.side.shdlc.phase (steps input v)) (sym w_is)
+        is : behind syncs (record w { ports = q ∷ []; entries = w.entries ++ more }) ≡ then_owed [] [] (begun (q ∷ []))
+        is =
+            ap (λ l. then_owed (forgotten (q ∷ [])) (all_owed l) (begun (map without_notice l))) left
+            ∙ (ap (λ d. then_owed d (all_owed (q ∷ [])) (begun (map without_notice (q ∷ [])))) (none_forgotten q came.quiet)
+            ∙ (ap (λ d. then_owed [] d (begun (map without_notice (q ∷ [])))) (none_owed q came.quiet)
+            ∙ ap (λ x. then_owed [] [] (begun (x ∷ []))) (without_same q came.quiet)))
+
+  -- as its pass begins
+  pub ready_stand : (now : LinkState) (input : NodeInput) (w : Work) → IsOutside input → (r : Runs h host before now w) → IsFresh r.port
+      → Stands h host before (has_come r.port (input_at input r.port)).side.shdlc.phase (comes_to_pass input w)
+  ready_stand now input w out r fresh =
+      subst (λ v. Stands h host before q.side.shdlc.phase (comes_to_pass input v)) (sym w_is)
       (subst (λ u. Stands h host before q.side.shdlc.phase (behind syncs u)) (sym came_is) (behind_stands now syncs w p q more may r came)) where
         p : Port
         p = r.port
@@ -207,6 +211,13 @@ module _ (h : ℕ) (host : IsHost h) (before : List Entry) where
         came_is =
             times_same input (all_come input v) q refl came.quiet
             ∙ ap (λ es. record w { ports = q ∷ []; entries = w.entries ++ es }) (append-nil more)
+
+  pub steps_stand : (now : LinkState) (input : NodeInput) (w : Work) → IsOutside input → (r : Runs h host before now w) → IsFresh r.port
+      → Stands h host before (has_come r.port (input_at input r.port)).side.shdlc.phase (steps input w)
+  steps_stand now input w out r fresh =
+      let later : LinkState = (has_come r.port (input_at input r.port)).side.shdlc.phase in
+      then h host before later passes (comes_to_pass input w) (ready_stand now input w out r fresh)
+      (λ s. passes_stand h host before later (comes_to_pass input w) s)
 
 pub steps_keep : (h : ℕ) (before : List Entry) (input : NodeInput) (w : Work) → IsHost h → IsOutside input → KeepsOrder h before w → w.cut ≡ false
     → AllByRecursion IsFresh w.ports → KeepsOrder h before (steps input w)

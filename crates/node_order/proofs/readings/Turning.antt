@@ -276,12 +276,12 @@ module _ (h : ℕ) (host : IsHost h) (before : List Entry) (now : LinkState) whe
       let off : eqb w.core.node 0 ≡ false = ne_eqb w.core.node 0 (λ z. omega (arith, z, r.node, host.0)) in
       rw off (ap (λ o. option_map_or (λ p. host_deeds w.core p m) o []) (port_is w r))
 
-  deeds_stand : (w : Work) (m : Message) → Runs_so w → Handled m w (deeds_of w.core w.ports h m)
+  pub deeds_stand : (w : Work) (m : Message) → Runs_so w → Handled m w (deeds_of w.core w.ports h m)
   deeds_stand w m r = subst (Handled m w) (sym (deeds_are w m r)) (host_stand w m r)
 
   -- ## Turns
 
-  holds_stand : (k : ℕ) (short : ℕ × ℕ) (w : Work) → Runs_so w → Stands_so (holds_back k short w)
+  pub holds_stand : (k : ℕ) (short : ℕ × ℕ) (w : Work) → Runs_so w → Stands_so (holds_back k short w)
   holds_stand k short w r = inl (go (option_map_or (λ (p : Port). p.desk.holds) (port_at w.ports k) false)) where
     told : Work
     told = noting (entry.Held (end_of_node w.core k) short.0 short.1 ∷ []) w
@@ -297,7 +297,7 @@ module _ (h : ℕ) (host : IsHost h) (before : List Entry) (now : LinkState) whe
         (desk_runs h host before now k (λ d. record d { holds = true }) told (λ d. refl) (λ d. refl)
         (noting_runs h host before now w (entry.Held (end_of_node w.core k) short.0 short.1 ∷ []) refl r))
 
-  lets_stand : (k : ℕ) (w : Work) → Runs_so w → Stands_so (lets_go k w)
+  pub lets_stand : (k : ℕ) (w : Work) → Runs_so w → Stands_so (lets_go k w)
   lets_stand k w r = inl (go (option_map_or (λ (p : Port). is_held p.side) (port_at w.ports k) false)) where
     by : Bool → Work
     by true = turn_at k (Hold false) w

@@ -42,7 +42,7 @@ SetsNone _ = Unit {0}
 abbrev pub SetNone : List Turn → Type 0
 SetNone ts = AllByRecursion SetsNone ts
 
-turn_none : (e : LinkEnd) (t : Turn) → SetsNone t → e.aside ≡ 0 → (turn e t).aside ≡ 0
+pub turn_none : (e : LinkEnd) (t : Turn) → SetsNone t → e.aside ≡ 0 → (turn e t).aside ≡ 0
 turn_none e (Give m) is a = give_aside e m ∙ a
 turn_none e (Hold held) is a = a
 turn_none e FetchMessage is a = a

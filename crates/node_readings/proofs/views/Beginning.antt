@@ -14,12 +14,13 @@ use Rattle.node_machine.specs.Controller.{is_command_message}
 use Rattle.node_machine.specs.Carrying.{noting, unless_cut, all_done}
 use Rattle.node_machine.specs.Turns.{passes}
 use Rattle.node_machine.specs.Node.{NodeInput, input_at, has_come, told_at, all_come, reset_late, told_late, times_out, forgotten, forgets, all_owed}
-use Rattle.node_machine.specs.Node.{without_notice, after_sessions, synced, answers_and_passes, steps, begins_with}
+use Rattle.node_machine.specs.Node.{without_notice, after_sessions, synced, steps, begins_with}
 use Rattle.node_machine.specs.Node.NodeInput.{AtEnd, TimePasses}
 use Rattle.node_machine.specs.world.World.{runs_on, sending, beginning}
 use Rattle.node_order.specs.links.Notices.{IsComing, IsOutside}
 use Rattle.node_order.proofs.links.Noticing.{outside}
 use Rattle.node_order.proofs.links.Staying.{stays_up}
+use Rattle.node_order.specs.passes.Steps.{comes_to_pass}
 use Rattle.node_order.specs.readings.Orders.{IsFresh}
 use Rattle.node_order.specs.readings.Worlds.{init_of}
 use Rattle.node_order.proofs.readings.Silent.{host_side}
@@ -41,11 +42,12 @@ times_same TimePasses w q is quiet =
     ∙ (ap (λ es. record w { entries = es; ports = q ∷ [] }) (append-nil w.entries)
     ∙ ap (λ ps. record w { ports = ps }) (sym is)))))
 
--- what stands behind what came
+-- what stands behind what came, before the node passes its ends
 abbrev behind : List Deed → Work → Work
 behind syncs came =
-    answers_and_passes (forgotten came.ports) syncs (all_owed (map (forgets came.ports) came.ports))
-    (record came { core = after_sessions came.core came.ports; ports = map without_notice (map (forgets came.ports) came.ports) })
+    unless_cut (all_done 0 (all_owed (map (forgets came.ports) came.ports)))
+    (all_done 0 syncs (all_done 0 (forgotten came.ports)
+    (record came { core = after_sessions came.core came.ports; ports = map without_notice (map (forgets came.ports) came.ports) })))
 
 module _ (h : ℕ) (host : IsHost h) (i0 : Option Init) where
   -- what came to the end of a host
@@ -104,14 +106,13 @@ module _ (h : ℕ) (host : IsHost h) (i0 : Option Init) where
       off = λ z. absurd (true≢false (sym z ∙ on));
     })
 
-  -- and what it does then
+  -- and what it does then, before its turns
   rest_stands : (now : LinkState) (syncs : List Deed) (v : Work) → AreNeutral syncs → v.cut ≡ false → Stands h host i0 now v
-      → Stands h host i0 now (answers_and_passes [] syncs [] v)
+      → Stands h host i0 now (unless_cut (all_done 0 []) (all_done 0 syncs v))
   rest_stands now syncs v neutral on s =
       let kept : Stands h host i0 now (all_done 0 syncs v) = all_go h host i0 now 0 syncs v v.core.init on s.base (s.on on).0
       (neutral_stays h now v.core.init v.core.command v.core.init syncs refl (s.on on).1 neutral) in
-      then h host i0 now passes (unless_cut (all_done 0 []) (all_done 0 syncs v)) (λ still z. passes_stand h host i0 now (unless_cut (all_done 0 [])
-      (all_done 0 syncs v)) still z) (then h host i0 now (all_done 0 []) (all_done 0 syncs v) (λ still z. z) kept)
+      then h host i0 now (all_done 0 []) (all_done 0 syncs v) (λ still z. z) kept
 
   behind_stands : (now : LinkState) (syncs : List Deed) (w : Work) (q : Port) (more : List Entry) → AreNeutral syncs → w.cut ≡ false
       → Stands h host i0 now w → HasCome now w q more
@@ -125,17 +126,21 @@ module _ (h : ℕ) (host : IsHost h) (i0 : Option Init) where
         left : map (forgets (q ∷ [])) (q ∷ []) ≡ q ∷ []
         left = ap (λ x. x ∷ []) (forgets_same (q ∷ []) q came.quiet)
 
-        is : behind syncs (record w { ports = q ∷ []; entries = w.entries ++ more }) ≡ answers_and_passes [] syncs [] (begun (q ∷ []))
-        is =
-            ap (λ l. answers_and_passes (forgotten (q ∷ [])) syncs (all_owed l) (begun (map without_notice l))) left
-            ∙ (ap (λ d. answers_and_passes d syncs (all_owed (q ∷ [])) (begun (map without_notice (q ∷ [])))) (none_forgotten q came.quiet)
-            ∙ (ap (λ d. answers_and_passes [] syncs d (begun (map without_notice (q ∷ [])))) (none_owed q came.quiet)
-            ∙ ap (λ x. answers_and_passes [] syncs [] (begun (x ∷ []))) (without_same q came.quiet)))
+        then_owed : List Deed → List Deed → Work → Work
+        then_owed freed owing v = unless_cut (all_done 0 owing) (all_done 0 syncs (all_done 0 freed v))
 
-  pub steps_stand : (now : LinkState) (input : NodeInput) (w : Work) → IsOutside input → w.cut ≡ false → (s : Stands h host i0 now w) → IsFresh s.base.port
-      → Stands h host i0 (has_come s.base.port (input_at input s.base.port)).side.shdlc.phase (steps input w)
-  steps_stand now input w out on s fresh =
-      subst (λ v. Stands h host i0 q.side.shdlc.phase (steps input v)) (sym w_is)
+        is : behind syncs (record w { ports = q ∷ []; entries = w.entries ++ more }) ≡ then_owed [] [] (begun (q ∷ []))
+        is =
+            ap (λ l. then_owed (forgotten (q ∷ [])) (all_owed l) (begun (map without_notice l))) left
+            ∙ (ap (λ d. then_owed d (all_owed (q ∷ [])) (begun (map without_notice (q ∷ [])))) (none_forgotten q came.quiet)
+            ∙ (ap (λ d. then_owed [] d (begun (map without_notice (q ∷ [])))) (none_owed q came.quiet)
+            ∙ ap (λ x. then_owed [] [] (begun (x ∷ []))) (without_same q came.quiet)))
+
+  -- as its pass begins
+  pub ready_stand : (now : LinkState) (input : NodeInput) (w : Work) → IsOutside input → w.cut ≡ false → (s : Stands h host i0 now w) → IsFresh s.base.port
+      → Stands h host i0 (has_come s.base.port (input_at input s.base.port)).side.shdlc.phase (comes_to_pass input w)
+  ready_stand now input w out on s fresh =
+      subst (λ v. Stands h host i0 q.side.shdlc.phase (comes_to_pass input v)) (sym w_is)
       (subst (λ u. Stands h host i0 q.side.shdlc.phase (behind syncs u)) (sym came_is) (behind_stands now syncs w q more neutral on s came)) where
         p : Port
         p = s.base.port
@@ -165,6 +170,13 @@ module _ (h : ℕ) (host : IsHost h) (i0 : Option Init) where
         came_is =
             times_same input (all_come input v) q refl came.quiet
             ∙ ap (λ es. record w { ports = q ∷ []; entries = w.entries ++ es }) (append-nil more)
+
+  pub steps_stand : (now : LinkState) (input : NodeInput) (w : Work) → IsOutside input → w.cut ≡ false → (s : Stands h host i0 now w) → IsFresh s.base.port
+      → Stands h host i0 (has_come s.base.port (input_at input s.base.port)).side.shdlc.phase (steps input w)
+  steps_stand now input w out on s fresh =
+      let later : LinkState = (has_come s.base.port (input_at input s.base.port)).side.shdlc.phase in
+      then h host i0 later passes (comes_to_pass input w) (λ still z. passes_stand h host i0 later (comes_to_pass input w) still z)
+      (ready_stand now input w out on s fresh)
 
   -- ## What a host keeps
 

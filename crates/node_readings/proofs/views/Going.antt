@@ -235,7 +235,7 @@ module _ (h : ℕ) (host : IsHost h) (i0 : Option Init) where
     side_of_host : (w : Work) → Base now w → own_side w.core ≡ Host
     side_of_host w b = host_side w.core h host b.number
 
-    handled : (m : Message) (w : Work) → w.cut ≡ false → Stands now w → (b : Base now w) → Stands now (handles h m (host_deeds w.core b.port m) w)
+    pub handled : (m : Message) (w : Work) → w.cut ≡ false → Stands now w → (b : Base now w) → Stands now (handles h m (host_deeds w.core b.port m) w)
     handled m w on s b = all_go h (host_deeds w.core b.port m) fetched (answered_by h now w.core b.number (side_of_host w b) m w.core.init) on
         (desked h (λ d. record d { holds = false }) (turn_at h FetchMessage said) (λ d. refl) (λ d is. is) (turned h FetchMessage said said refl refl
         (same_base w said refl refl b))) (turn_seen h FetchMessage said (answered_by h now w.core b.number (side_of_host w b) m w.core.init) read)
@@ -273,7 +273,7 @@ module _ (h : ℕ) (host : IsHost h) (i0 : Option Init) where
         → Stands now w → Stands now (with_desk k f w)
     desk_stands k f w same quiet s = record { base = desked k f w same quiet s.base; on = s.on; off = s.off }
 
-    holds : (k : ℕ) (short : ℕ × ℕ) (w : Work) → Stands now w → Stands now (holds_back k short w)
+    pub holds : (k : ℕ) (short : ℕ × ℕ) (w : Work) → Stands now w → Stands now (holds_back k short w)
     holds k short w s = go (option_map_or (λ (p : Port). p.desk.holds) (port_at w.ports k) false) where
       said : Work
       said = noting (entry.Held (end_of_node w.core k) short.0 short.1 ∷ []) w
@@ -287,7 +287,7 @@ module _ (h : ℕ) (host : IsHost h) (i0 : Option Init) where
       go false = turn_stands k (Hold true) (with_desk k (λ d. record d { holds = true }) said) (desk_stands k (λ d. record d { holds = true }) said (λ d. refl)
           (λ d is. is) (noting_stands (entry.Held (end_of_node w.core k) short.0 short.1 ∷ []) w (λ y. refl) s))
 
-    lets : (k : ℕ) (w : Work) → Stands now w → Stands now (lets_go k w)
+    pub lets : (k : ℕ) (w : Work) → Stands now w → Stands now (lets_go k w)
     lets k w s = go (option_map_or (λ (p : Port). is_held p.side) (port_at w.ports k) false) where
       by : Bool → Work
       by true = turn_at k (Hold false) w
@@ -305,7 +305,7 @@ module _ (h : ℕ) (host : IsHost h) (i0 : Option Init) where
           sym (ap (λ c. cond c Rattle.link_entries.specs.entries.Entries.End.Controller Host) q)
           ∙ side_of_host w b in absurd (cc no)
 
-    deeds_is : (m : Message) (w : Work) (b : Base now w) → deeds_of w.core w.ports h m ≡ host_deeds w.core b.port m
+    pub deeds_is : (m : Message) (w : Work) (b : Base now w) → deeds_of w.core w.ports h m ≡ host_deeds w.core b.port m
     deeds_is m w b =
         let here : port_at w.ports h ≡ Some b.port = ap (λ ps. port_at ps h) b.is ∙ cond-true (eqb b.port.desk.host h) (Some b.port) None
         (eq-eqb b.port.desk.host h b.at) in rw (node_off w b, here) refl

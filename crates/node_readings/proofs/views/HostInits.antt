@@ -96,7 +96,7 @@ module _ (s : Site) (host : IsHost s.host) (i : Option Init) (r : Running) (node
     phase = refl;
   }
 
-  begun_stands : (near_end : NumberedEnd) (es : List Entry) → near_end.side ≡ s.link.host.side → ((y : Option Init) → reads_init s.host es y ≡ y)
+  pub begun_stands : (near_end : NumberedEnd) (es : List Entry) → near_end.side ≡ s.link.host.side → ((y : Option Init) → reads_init s.host es y ≡ y)
       → Stands s.host host i near_end.side.shdlc.phase (work_of r s.memory.plan (λ n. near_end) es)
   begun_stands near_end es side silent = record {
     base = base_of near_end es i;

@@ -1,0 +1,14 @@
+pub mod Until
+pub mod Owed
+pub mod Ended
+pub mod Taken
+pub mod Own
+pub mod Freed
+pub mod Noted
+pub mod Steps
+pub mod Deeds
+pub mod Near
+pub mod Syncs
+pub mod Comes
+pub mod Ticks
+pub mod Events

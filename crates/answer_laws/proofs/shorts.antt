@@ -1,0 +1,4 @@
+pub mod Calm
+pub mod Left
+pub mod Taking
+pub mod Histories
