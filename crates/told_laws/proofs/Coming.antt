@@ -33,11 +33,11 @@ use Rattle.history.proofs.Filters.{same_end_itself}
 
 -- ## Parts of lists
 
-front_each : {X : Type 0} (P : X → Type 0) (xs ys : List X) → AllByRecursion P (xs ++ ys) → AllByRecursion P xs
+pub front_each : {X : Type 0} (P : X → Type 0) (xs ys : List X) → AllByRecursion P (xs ++ ys) → AllByRecursion P xs
 front_each P [] ys h = tt
 front_each P (x ∷ xs) ys h = (h.0, front_each P xs ys h.1)
 
-back_each : {X : Type 0} (P : X → Type 0) (xs ys : List X) → AllByRecursion P (xs ++ ys) → AllByRecursion P ys
+pub back_each : {X : Type 0} (P : X → Type 0) (xs ys : List X) → AllByRecursion P (xs ++ ys) → AllByRecursion P ys
 back_each P [] ys h = h
 back_each P (x ∷ xs) ys h = back_each P xs ys h.1
 

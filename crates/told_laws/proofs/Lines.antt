@@ -45,7 +45,8 @@ use Rattle.text_laws.proofs.ReadLemmas.{bare_said_in}
 use Rattle.told_laws.specs.Told.{step_told}
 use Rattle.told_laws.proofs.Ends.{IsFrame}
 use Rattle.registry.proofs.ValueLemmas.{AllByRecursion-append as each-append}
-use Rattle.told_laws.proofs.Links.{WireIs, LinkIs, CanTell, link_more, link_caused}
+use Rattle.told_laws.proofs.Links.{LinkIs, CanTell, link_more, link_caused}
+use Rattle.told_laws.proofs.Wires.{WireIs}
 use Rattle.told_laws.proofs.Notes.{IsNoted, AreNoted, noted_event}
 
 -- ## Bytes
@@ -58,7 +59,7 @@ each_all P (x ∷ xs) h = go (each_all P xs h.1)
     go later zero d within = h.0
     go later (suc k) d within = later k d (omega arith)
 
-all_each : {X : Type 0} (P : X → Type 0) (xs : List X) → All P xs → AllByRecursion P xs
+pub all_each : {X : Type 0} (P : X → Type 0) (xs : List X) → All P xs → AllByRecursion P xs
 all_each P [] h = tt
 all_each P (x ∷ xs) h = (h 0 x (omega arith), all_each P xs (λ k d within. h (suc k) d (omega arith)))
 
@@ -67,7 +68,7 @@ pub record IsLpdu (bytes : List ℕ) : Type 0 where
   pub bytes_are : AreOctets bytes
   pub few : length bytes ≤ 30
 
-lpdu_by : (first : ℕ) (rest : List ℕ) → first < 256 → AllByRecursion IsByte rest → length rest ≤ 29 → IsLpdu (first ∷ rest)
+pub lpdu_by : (first : ℕ) (rest : List ℕ) → first < 256 → AllByRecursion IsByte rest → length rest ≤ 29 → IsLpdu (first ∷ rest)
 lpdu_by first rest low h few = record { bytes_are = (omega arith, each_all IsByte (first ∷ rest) (low, h)); few = omega (arith, few) }
 
 pub lpdu_in : (c : Control) → IsFrame c → IsLpdu (lpdu_of c)
@@ -91,7 +92,7 @@ IsApart x = IsEntry x
 abbrev pub AreApart : List Entry → Type 0
 AreApart t = AllByRecursion IsApart t
 
-end_in : (h : ℕ) (who : Side) → h < 256 → IsEnd (end_of h who)
+pub end_in : (h : ℕ) (who : Side) → h < 256 → IsEnd (end_of h who)
 end_in h Controller low = low
 end_in h Host low = low
 
@@ -139,10 +140,10 @@ causes_told h (c ∷ cs) n l low can is small =
 
 -- ## Causes of a line
 
-wire_in : (n : ℕ) (l : Link) (e : End) → LinkIs n l → WireIs n (frames_to l e)
+wire_in : (n : ℕ) (l : Link) (e : End) → LinkIs n l → WireIs IsFrame n (frames_to l e)
 wire_in n l e h = go e.at_host
   where
-    go : (b : Bool) → WireIs n (frames_to l (record { link = e.link; at_host = b }))
+    go : (b : Bool) → WireIs IsFrame n (frames_to l (record { link = e.link; at_host = b }))
     go true = h.to_far
     go false = h.to_near
 
@@ -206,11 +207,11 @@ few_causes header n l (line.Settle rounds) is h = omega arith
 
 -- ## Refusals
 
-abbrev IfCause : Option NoCause → Type 0
+abbrev pub IfCause : Option NoCause → Type 0
 IfCause None = Unit {0}
 IfCause (Some cause) = IsCause cause
 
-give_in : (e : LinkEnd) (m : Message) → IfCause (as_noted (give_refusal e m))
+pub give_in : (e : LinkEnd) (m : Message) → IfCause (as_noted (give_refusal e m))
 give_in e m = go e.shdlc.phase refl
   where
     by_tests : (a b : Bool) → nat_lt 4096 (length m.1) ≡ a
@@ -224,7 +225,7 @@ give_in e m = go e.shdlc.phase refl
     go Waiting q = rw q tt
     go Up q = rw q (let z = by_tests (nat_lt 4096 (length m.1)) (nat_lt (spare e) (need m.1)) refl in z)
 
-reset_in : (e : LinkEnd) → IfCause (as_noted (reset_refusal e))
+pub reset_in : (e : LinkEnd) → IfCause (as_noted (reset_refusal e))
 reset_in e = go (is_open e.role) (is_waiting e.shdlc)
   where
     go : (a b : Bool) → IfCause (as_noted (cond a (cond b (Some IsWaiting) None) (Some Inactive)))
@@ -232,11 +233,11 @@ reset_in e = go (is_open e.role) (is_waiting e.shdlc)
     go true false = tt
     go false b = tt
 
-empty_in : (w : List OnWire) → IfCause (if_empty w)
+pub empty_in : (w : List OnWire) → IfCause (if_empty w)
 empty_in [] = tt
 empty_in (x ∷ xs) = tt
 
-beyond_in : (bits : ℕ) (places : List ℕ) → IsNumber bits → IfCause (if_beyond bits places)
+pub beyond_in : (bits : ℕ) (places : List ℕ) → IsNumber bits → IfCause (if_beyond bits places)
 beyond_in bits [] small = tt
 beyond_in bits (place ∷ places) small = go (nat_lt place bits) (beyond_in bits places small)
   where
@@ -254,7 +255,7 @@ stuffed_few ones (true ∷ bits) = go (ones == 4) refl (stuffed_few 0 bits) (stu
     go true q one two = rw q (omega (arith, one))
     go false q one two = rw q (omega (arith, two))
 
-frame_few : (lpdu : List ℕ) → length lpdu ≤ 30 → IsNumber (length (frame_of lpdu))
+pub frame_few : (lpdu : List ℕ) → length lpdu ≤ 30 → IsNumber (length (frame_of lpdu))
 frame_few lpdu few =
     let content : List Bool = bits_of (with_crc lpdu) in
     let a = length-append (start_of_frame ++ stuffed content) end_of_frame in
@@ -264,7 +265,7 @@ frame_few lpdu few =
     let e = length-append lpdu (crc_of lpdu / 256 ∷ crc_of lpdu % 256 ∷ []) in
     omega (arith, a, b, c, d, e, few)
 
-reach_in : (n : ℕ) (w : List OnWire) (places : List ℕ) → WireIs n w → IfCause (if_out_of_reach w places)
+reach_in : (n : ℕ) (w : List OnWire) (places : List ℕ) → WireIs IsFrame n w → IfCause (if_out_of_reach w places)
 reach_in n [] places h = tt
 reach_in n (x ∷ xs) places h =
     beyond_in (length (frame_of (lpdu_of x.frame))) places (frame_few (lpdu_of x.frame) (lpdu_in x.frame h.frames.0.frame).few)

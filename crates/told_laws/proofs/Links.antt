@@ -1,10 +1,8 @@
 -- The ends of a bare link, and what is on its wires, are in their ranges.
-use Rattle.std.proofs.Common.{◌≡◌, ℕ, zero, suc, ◌+◌, ◌≤◌, ◌<◌, Bool, true, false, cond, nat_lt, List, [], ◌∷◌, ◌++◌, length, take, drop, map, refl, sym, ap}
+use Rattle.std.proofs.Common.{◌≡◌, ℕ, zero, suc, ◌+◌, ◌≤◌, ◌<◌, Bool, true, false, cond, List, [], ◌∷◌, ◌++◌, length, take, drop, map, refl, sym, ap}
 use Rattle.std.proofs.Common.{subst, arith, max, Option, Some, None, length-append}
 use Rattle.std.specs.Prelude.{is_some, if◌then◌else◌, ◌==◌, not}
 use Rattle.std.specs.List.{AllByRecursion}
-use Rattle.std.proofs.lemmas.Bool.{ltb-true, ltb-false}
-use Rattle.block_pool.proofs.HoldingLemmas.{all_mapped}
 use Rattle.swp_base.specs.declared.control_frames.Control.{Control}
 use Rattle.swp_base.specs.declared.control_frames.Control.TheVariants.{I, S, Rset, Ua, Act, Clt}
 use Rattle.shdlc_core.specs.declared.answers.LinkState.{LinkState}
@@ -12,7 +10,7 @@ use Rattle.shdlc_core.specs.declared.answers.LinkState.TheVariants.{Down, Waitin
 use Rattle.shdlc_core.specs.Machine.{EndState, taken, take_answer, ticked, tick_answer, reset_with, stopped, all_frames}
 use Rattle.hcp_packet.specs.Packets.{packets_of, parts_of, packet_count, packet_bytes}
 use Rattle.trace_model.specs.declared.line.End.{End}
-use Rattle.link_laws.specs.sessions.Sessions.{OnWire, is_rset, fits, aged_wire, took_with}
+use Rattle.link_laws.specs.sessions.Sessions.{OnWire, is_rset, took_with}
 use Rattle.link_machine.specs.Machine.{LinkEnd, LinkInput, Refused, Message, after_input, turn, moved, put_down, activated, heard, took, is_open, is_faulty}
 use Rattle.link_machine.specs.Machine.{news, if_up, reset_by, reset_refusal, ended_by, window_of, give_refusal, given, unless, among, frames_out, sent_all}
 use Rattle.link_machine.specs.Machine.{had_tick, in_front}
@@ -33,6 +31,7 @@ use Rattle.swp_base.specs.Bits.{IsByte}
 use Rattle.told_laws.proofs.Ends.{IsFragment, IsFrame, Ranged, ranged_taken, ranged_ticked, ranged_reset, ranged_stopped, ranged_ready, ranged_out}
 use Rattle.told_laws.proofs.Ends.{ranged_after, frames_in, frames_few}
 use Rattle.registry.proofs.ValueLemmas.{AllByRecursion-take}
+use Rattle.told_laws.proofs.Wires.{drop_each, FrameIs, WireIs, wire_more, wire_dropped, wire_put, wire_aged}
 
 -- ## Messages
 
@@ -41,11 +40,6 @@ pub record IsTellable (m : Message) : Type 0 where
   pub pipe : m.0 < 112
   pub some : 0 < length m.1
   pub bytes : AllByRecursion IsByte m.1
-
-drop_each : {X : Type 0} (P : X → Type 0) (n : ℕ) (xs : List X) → AllByRecursion P xs → AllByRecursion P (drop n xs)
-drop_each P zero xs h = h
-drop_each P (suc n) [] h = tt
-drop_each P (suc n) (x ∷ xs) h = drop_each P n xs h.1
 
 take_few : {X : Type 0} (n : ℕ) (xs : List X) → length (take n xs) ≤ n
 take_few zero xs = omega arith
@@ -63,7 +57,7 @@ parts_in pipe (suc n) left low h = (
   parts_in pipe n (drop 28 left) low (drop_each IsByte 28 left h),
 )
 
-fragments_in : (m : Message) → IsTellable m → AllByRecursion IsFragment (map packet_bytes (packets_of m.0 m.1))
+pub fragments_in : (m : Message) → IsTellable m → AllByRecursion IsFragment (map packet_bytes (packets_of m.0 m.1))
 fragments_in m h = parts_in m.0 (packet_count (length m.1)) m.1 h.pipe h.bytes
 
 -- ## An end
@@ -155,77 +149,6 @@ end_held n e held h = record { bare = h.bare; acts = h.acts; few = h.few; ranged
 pub end_fetched : (n : ℕ) (e : LinkEnd) → EndIs n e → EndIs n (turn e FetchMessage)
 end_fetched n e h = record { bare = h.bare; acts = h.acts; few = h.few; ranged = h.ranged }
 
--- ## Wires
-
-pub record FrameIs (n : ℕ) (x : OnWire) : Type 0 where
-  pub frame : IsFrame x.frame
-  pub number : x.number ≤ n
-
-pub record WireIs (n : ℕ) (w : List OnWire) : Type 0 where
-  pub frames : AllByRecursion (FrameIs n) w
-  pub few : length w ≤ 64
-
-frame_more : (n k : ℕ) → n ≤ k → (x : OnWire) → FrameIs n x → FrameIs k x
-frame_more n k more x h = let l = h.number in record { frame = h.frame; number = omega (arith, l, more) }
-
-wire_more : (n k : ℕ) (w : List OnWire) → n ≤ k → WireIs n w → WireIs k w
-wire_more n k w more h = record { frames = all_mapped OnWire (FrameIs n) (FrameIs k) w (frame_more n k more) h.frames; few = h.few }
-
-fewer : {X : Type 0} (xs : List X) → length (drop 1 xs) ≤ length xs
-fewer [] = omega arith
-fewer (x ∷ xs) = omega arith
-
-one_less : {X : Type 0} (xs : List X) (n : ℕ) → n < length xs → length xs ≤ n + 1 → length (drop 1 xs) ≤ n
-one_less [] n a b = omega (arith, a)
-one_less (x ∷ xs) n a b = omega (arith, b)
-
-wire_dropped : (n : ℕ) (w : List OnWire) → WireIs n w → WireIs n (drop 1 w)
-wire_dropped n w h =
-    record { frames = drop_each (FrameIs n) 1 w h.frames; few = let l = fewer w in let f = h.few in omega (arith, l, f) }
-
-each_pushed : (n : ℕ) (w : List OnWire) (x : OnWire) → AllByRecursion (FrameIs n) w → FrameIs n x → AllByRecursion (FrameIs n) (w ++ x ∷ [])
-each_pushed n [] x h is = (is, tt)
-each_pushed n (y ∷ w) x h is = (h.0, each_pushed n w x h.1 is)
-
--- the frames on a wire with one more
-pub pushed_is : (n : ℕ) (w : List OnWire) (x : OnWire) → WireIs n w → FrameIs n x → AllByRecursion (FrameIs n) (w ++ x ∷ [])
-pushed_is n w x h is = each_pushed n w x h.frames is
-
-wire_put : (n : ℕ) (w : List OnWire) (x : OnWire) → WireIs n w → FrameIs n x → WireIs n (fits (w ++ x ∷ []))
-wire_put n w x h is = go (nat_lt 64 (length (w ++ x ∷ []))) refl
-  where
-    long : length (w ++ x ∷ []) ≡ length w + 1
-    long = length-append w (x ∷ [])
-
-    go : (b : Bool) → nat_lt 64 (length (w ++ x ∷ [])) ≡ b → WireIs n (fits (w ++ x ∷ []))
-    go true q =
-        let more = ltb-true 64 (length (w ++ x ∷ [])) q in
-        let few = h.few in
-        rw q (record {
-          frames = drop_each (FrameIs n) 1 (w ++ x ∷ []) (pushed_is n w x h is);
-          few = one_less (w ++ x ∷ []) 64 more (omega (arith, long, few));
-        })
-    go false q = let less = ltb-false 64 (length (w ++ x ∷ [])) q in rw q (record { frames = pushed_is n w x h is; few = less })
-
-each_aged : (n : ℕ) (w : List OnWire) → AllByRecursion (FrameIs n) w → AllByRecursion (FrameIs n) (aged_wire w)
-each_aged n [] h = tt
-each_aged n (x ∷ w) h = go (nat_lt x.age 4) refl (each_aged n w h.1)
-  where
-    go : (b : Bool) → nat_lt x.age 4 ≡ b → AllByRecursion (FrameIs n) (aged_wire w) → AllByRecursion (FrameIs n) (aged_wire (x ∷ w))
-    go true q later = rw q (record { frame = h.0.frame; number = h.0.number }, later)
-    go false q later = rw q later
-
-aged_few : (w : List OnWire) → length (aged_wire w) ≤ length w
-aged_few [] = omega arith
-aged_few (x ∷ w) = go (nat_lt x.age 4) refl (aged_few w)
-  where
-    go : (b : Bool) → nat_lt x.age 4 ≡ b → length (aged_wire w) ≤ length w → length (aged_wire (x ∷ w)) ≤ length (x ∷ w)
-    go true q later = rw q (omega (arith, later))
-    go false q later = rw q (omega (arith, later))
-
-wire_aged : (n : ℕ) (w : List OnWire) → WireIs n w → WireIs n (aged_wire w)
-wire_aged n w h = record { frames = each_aged n w h.frames; few = let l = aged_few w in let f = h.few in omega (arith, l, f) }
-
 -- ## The link
 
 pub record NumberedIs (n : ℕ) (h : NumberedEnd) : Type 0 where
@@ -237,8 +160,8 @@ pub record NumberedIs (n : ℕ) (h : NumberedEnd) : Type 0 where
 pub record LinkIs (n : ℕ) (l : Link) : Type 0 where
   pub near : NumberedIs n l.controller
   pub far : NumberedIs n l.host
-  pub to_near : WireIs n l.to_controller
-  pub to_far : WireIs n l.to_host
+  pub to_near : WireIs IsFrame n l.to_controller
+  pub to_far : WireIs IsFrame n l.to_host
   pub resets : l.resets ≤ n
 
 numbered_more : (n k : ℕ) (h : NumberedEnd) → n ≤ k → NumberedIs n h → NumberedIs k h
@@ -253,8 +176,8 @@ link_more n k l more h =
     record {
       near = numbered_more n k l.controller more h.near;
       far = numbered_more n k l.host more h.far;
-      to_near = wire_more n k l.to_controller more h.to_near;
-      to_far = wire_more n k l.to_host more h.to_far;
+      to_near = wire_more IsFrame n k l.to_controller more h.to_near;
+      to_far = wire_more IsFrame n k l.to_host more h.to_far;
       resets = omega (arith, r, more);
     }
 
@@ -263,13 +186,19 @@ link_swapped n l h = record { near = h.far; far = h.near; to_near = h.to_far; to
 
 pub link_aged : (n : ℕ) (l : Link) → LinkIs n l → LinkIs n (aged l)
 link_aged n l h =
-    record { near = h.near; far = h.far; to_near = wire_aged n l.to_controller h.to_near; to_far = wire_aged n l.to_host h.to_far; resets = h.resets }
+    record {
+      near = h.near;
+      far = h.far;
+      to_near = wire_aged IsFrame n l.to_controller h.to_near;
+      to_far = wire_aged IsFrame n l.to_host h.to_far;
+      resets = h.resets;
+    }
 
 -- the frame that is put on the wire to the host
 abbrev pub put_frame : Link → Control → OnWire
 put_frame l c = record { frame = c; age = 0; number = if is_rset c then l.resets + 1 else 0 }
 
-pub put_frame_is : (n : ℕ) (l : Link) (c : Control) → IsFrame c → LinkIs n l → FrameIs (n + 1) (put_frame l c)
+pub put_frame_is : (n : ℕ) (l : Link) (c : Control) → IsFrame c → LinkIs n l → FrameIs IsFrame (n + 1) (put_frame l c)
 put_frame_is n l c is h = record { frame = is; number = go (is_rset c) }
   where
     go : (b : Bool) → cond b (l.resets + 1) 0 ≤ n + 1
@@ -290,7 +219,7 @@ link_put n l c is h = go (is_rset c) refl
           near = record { side = up.near.side; emitted = omega (arith, r); took = up.near.took };
           far = up.far;
           to_near = up.to_near;
-          to_far = wire_put (n + 1) l.to_host x up.to_far (record { frame = is; number = omega (arith, r) });
+          to_far = wire_put IsFrame (n + 1) l.to_host x up.to_far (record { frame = is; number = omega (arith, r) });
           resets = omega (arith, r);
         })
     go false q =
@@ -299,7 +228,7 @@ link_put n l c is h = go (is_rset c) refl
           near = up.near;
           far = up.far;
           to_near = up.to_near;
-          to_far = wire_put (n + 1) l.to_host x up.to_far (record { frame = is; number = omega arith });
+          to_far = wire_put IsFrame (n + 1) l.to_host x up.to_far (record { frame = is; number = omega arith });
           resets = up.resets;
         })
 
@@ -350,11 +279,11 @@ link_input : (n : ℕ) (l : Link) (i : LinkInput) → EndIs n (after_input l.con
 link_input n l i is h =
     let b : Bool = is_some (ended_by l.controller.side i) in link_becomes n (with_ended l b) (after_input l.controller.side i) is (link_ended n l b h)
 
-pub took_low : (n t : ℕ) (x : OnWire) → t ≤ n → FrameIs n x → took_with t x ≤ n
+pub took_low : (n t : ℕ) (x : OnWire) → t ≤ n → x.number ≤ n → took_with t x ≤ n
 took_low n t x low is = go (is_rset x.frame)
   where
     go : (b : Bool) → cond b (max t x.number) t ≤ n
-    go true = let k = is.number in omega (arith, low, k)
+    go true = omega (arith, low, is)
     go false = low
 
 -- the link where the controller's end has taken a frame, and these are left
@@ -365,14 +294,14 @@ left_with l x xs =
 
 pub link_left : (n : ℕ) (l : Link) (x : OnWire) (xs : List OnWire) → l.to_controller ≡ x ∷ xs → LinkIs n l → LinkIs n (left_with l x xs)
 link_left n l x xs q h =
-    let wire : WireIs n (x ∷ xs) = subst (WireIs n) q h.to_near in
+    let wire : WireIs IsFrame n (x ∷ xs) = subst (WireIs IsFrame n) q h.to_near in
     let few = wire.few in
     let one : LinkIs n (record l { to_controller = xs }) =
     record { near = h.near; far = h.far; to_near = record { frames = wire.frames.1; few = omega (arith, few) }; to_far = h.to_far; resets = h.resets } in
     let b : Bool = is_some (ended_by l.controller.side (Take x.frame)) in
     let two : LinkIs n (with_ended (record l { to_controller = xs }) b) = link_ended n (record l { to_controller = xs }) b one in
     record {
-      near = record { side = two.near.side; emitted = two.near.emitted; took = took_low n l.controller.took x h.near.took wire.frames.0 };
+      near = record { side = two.near.side; emitted = two.near.emitted; took = took_low n l.controller.took x h.near.took wire.frames.0.number };
       far = two.far;
       to_near = two.to_near;
       to_far = two.to_far;
@@ -390,7 +319,7 @@ link_taken n l h = by l.to_controller refl
         (link_more n (n + 12) (record l { to_controller = [] }) (omega arith)
         (record { near = h.near; far = h.far; to_near = record { frames = tt; few = omega arith }; to_far = h.to_far; resets = h.resets }))
     by (x ∷ xs) q =
-        let wire : WireIs n (x ∷ xs) = subst (WireIs n) q h.to_near in
+        let wire : WireIs IsFrame n (x ∷ xs) = subst (WireIs IsFrame n) q h.to_near in
         let e : LinkEnd = after_input l.controller.side (Take x.frame) in
         rw q (link_becomes n (left_with l x xs) (turn e FetchMessage)
         (end_fetched n e (end_took n l.controller.side x.frame wire.frames.0.frame h.near.side)) (link_left n l x xs q h))
@@ -411,7 +340,7 @@ link_given n m l is h =
     (link_becomes (n + 1) l (turn l.controller.side (Give m)) (end_given n l.controller.side m is h.near.side) (link_more n (n + 1) l (omega arith) h))
 
 link_lost : (n : ℕ) (l : Link) (why : Loss) → LinkIs n l → LinkIs n (happens_at_controller l (Lose why))
-link_lost n l why h = record { near = h.near; far = h.far; to_near = wire_dropped n l.to_controller h.to_near; to_far = h.to_far; resets = h.resets }
+link_lost n l why h = record { near = h.near; far = h.far; to_near = wire_dropped IsFrame n l.to_controller h.to_near; to_far = h.to_far; resets = h.resets }
 
 -- it happens at either end
 link_either : (n k : ℕ) (l : Link) (e : End) (x : EndEvent) → ((m : Link) → LinkIs n m → LinkIs k (happens_at_controller m x)) → LinkIs n l

@@ -27,9 +27,10 @@ use Rattle.history.specs.Histories.Cause.{Given, Taken, WasLost, Ticked, WasRese
 use Rattle.history.specs.Steps.{at, idle, event_of}
 use Rattle.told_laws.proofs.Ends.{IsFrame, IfTries, few_tries}
 use Rattle.registry.proofs.ValueLemmas.{AllByRecursion-append as each-append}
-use Rattle.told_laws.proofs.Links.{IsTellable, EndIs, FrameIs, WireIs, LinkIs, CanTell, IsLowWindow, opens, end_took, end_ticked, end_reset, end_given}
+use Rattle.told_laws.proofs.Links.{IsTellable, EndIs, LinkIs, CanTell, IsLowWindow, opens, end_took, end_ticked, end_reset, end_given}
 use Rattle.told_laws.proofs.Links.{end_held, end_fetched, link_more, link_swapped, link_aged, link_ended, link_left, left_with, link_put, link_ticked}
-use Rattle.told_laws.proofs.Links.{put_frame, put_frame_is, pushed_is, took_low, out_is}
+use Rattle.told_laws.proofs.Links.{put_frame, put_frame_is, took_low, out_is}
+use Rattle.told_laws.proofs.Wires.{FrameIs, WireIs, pushed_is}
 
 -- no number in it is above n
 abbrev pub IsNoted : ℕ → Entry → Type 0
@@ -112,11 +113,12 @@ noted_input n who h i a b is tries =
 
 -- ## Of the frames that go out
 
-noted_first : (n k : ℕ) (who : End) (why : Loss) (xs : List OnWire) → AllByRecursion (FrameIs k) xs → AreNoted n (first_lost who why xs)
+noted_first : (n k : ℕ) (who : End) (why : Loss) (xs : List OnWire) → AllByRecursion (FrameIs IsFrame k) xs → AreNoted n (first_lost who why xs)
 noted_first n k who why [] h = tt
 noted_first n k who why (x ∷ xs) h = (h.0.frame, tt)
 
-noted_pushed : (n k : ℕ) (who : End) (b : Bool) (xs : List OnWire) → AllByRecursion (FrameIs k) xs → AreNoted n (if b then first_lost who TooMany xs else [])
+noted_pushed : (n k : ℕ) (who : End) (b : Bool) (xs : List OnWire) → AllByRecursion (FrameIs IsFrame k) xs
+    → AreNoted n (if b then first_lost who TooMany xs else [])
 noted_pushed n k who true xs h = noted_first n k who TooMany xs h
 noted_pushed n k who false xs h = tt
 
@@ -127,11 +129,11 @@ noted_puts n who (c ∷ cs) k l is h =
     join n (put_entries who l c) (puts_entries who (put l c) cs) (
       is.0,
       noted_pushed n (k + 1) (far who) (nat_lt 64 (length (wire_with l c))) (wire_with l c)
-          (pushed_is (k + 1) l.to_host (put_frame l c) up.to_far (put_frame_is k l c is.0 h)),
+          (pushed_is IsFrame (k + 1) l.to_host (put_frame l c) up.to_far (put_frame_is k l c is.0 h)),
     )
     (noted_puts n who cs (k + 1) (put l c) is.1 (link_put k l c is.0 h))
 
-noted_aged : (n k : ℕ) (who : End) (xs : List OnWire) → AllByRecursion (FrameIs k) xs → AreNoted n (aged_entries who xs)
+noted_aged : (n k : ℕ) (who : End) (xs : List OnWire) → AllByRecursion (FrameIs IsFrame k) xs → AreNoted n (aged_entries who xs)
 noted_aged n k who [] h = tt
 noted_aged n k who (x ∷ xs) h = go (nat_lt x.age 4) refl (noted_aged n k who xs h.1)
   where
@@ -190,14 +192,14 @@ noted_taken n who l h = go l.to_controller refl
     go [] q = let none : u ≡ [] = rw q refl in subst (AreNoted n) (sym none) tt
     go (x ∷ xs) q =
         let some : u ≡ taken_entries who l x xs (FetchMessage ∷ []) GoesOut = rw q refl in
-        let wire : WireIs n (x ∷ xs) = subst (WireIs n) q h.to_near in
+        let wire : WireIs IsFrame n (x ∷ xs) = subst (WireIs IsFrame n) q h.to_near in
         let e : LinkEnd = after_input l.controller.side (Take x.frame) in
         let is : EndIs n e = end_took n l.controller.side x.frame wire.frames.0.frame h.near.side in
         let near_end : NumberedEnd = record l.controller { took = took_with l.controller.took x } in
         subst (AreNoted n) (sym some) (
           wire.frames.0.frame,
           join n (told_of who near_end (Take x.frame)) (rest_entries who (left_with l x xs) e (FetchMessage ∷ []) GoesOut)
-              (noted_input n who near_end (Take x.frame) h.near.emitted (took_low n l.controller.took x h.near.took wire.frames.0) is tt)
+              (noted_input n who near_end (Take x.frame) h.near.emitted (took_low n l.controller.took x h.near.took wire.frames.0.number) is tt)
               (noted_puts n who (frames_out (turn e FetchMessage)) n (left_with l x xs) (out_is n (turn e FetchMessage) (end_fetched n e is))
               (link_left n l x xs q h)),
         )

@@ -1,0 +1,436 @@
+-- What nodes do with a message is in its range: what they send and tell are bytes, and what they commit can be told.
+use Rattle.std.proofs.Common.{◌≡◌, ℕ, ◌≤◌, ◌<◌, Bool, true, false, cond, eqb, List, [], ◌∷◌, length, refl, ap}
+use Rattle.std.proofs.Common.{subst, arith, Option, Some, None, drop}
+use Rattle.std.specs.Prelude.{◌==◌, ◌&&◌, nat_lt, not, Result, Ok, Err}
+use Rattle.std.specs.List.{AllByRecursion, filter}
+use Rattle.std.specs.Option.{option_map_or}
+use Rattle.std.proofs.lemmas.Bool.{cond_both}
+use Rattle.std.proofs.lemmas.List.Sums.{count_by-le-length}
+use Rattle.swp_base.specs.Bits.{IsByte}
+use Rattle.sorted_rows.proofs.RowLemmas.{length-rows}
+use Rattle.pipe_table.specs.declared.row.PipeRow.{PipeRow}
+use Rattle.pipe_table.specs.PipeRows.{ArePipeRows, pid_of, opened_on, ends_at}
+use Rattle.hcp_packet.specs.declared.MessageKind.{MessageKind}
+use Rattle.hcp_packet.specs.declared.MessageKind.TheVariants.{Command as IsCommand, Event as IsEvent, Response as IsResponse}
+use Rattle.hcp_packet.specs.declared.MessageFault.{MessageFault}
+use Rattle.hcp_packet.specs.MessageHeader.{header_of}
+use Rattle.registry.specs.Values.{value_at}
+use Rattle.registry.proofs.ValueLemmas.{AllByRecursion-filter}
+use Rattle.hci_tables.specs.declared.command.Command.{Command}
+use Rattle.hci_tables.specs.declared.command.Command.TheVariants.{Create, Delete, Clear, SetOpened, Set}
+use Rattle.hci_tables.specs.Tables.{HciTables, is_opened}
+use Rattle.gate_answers.specs.declared.response.Response.{Response}
+use Rattle.gate_answers.specs.declared.response.Response.TheVariants as response
+use Rattle.gate_answers.specs.Answers.{answer_of, code_of, first_of, tests_to_set, tests_to_get, param_in, value_in as value_behind, body_in}
+use Rattle.gate_admin.specs.declared.view.LinkView.{LinkView}
+use Rattle.gate_admin.specs.declared.decision.Decision.{Decision}
+use Rattle.gate_admin.specs.declared.decision.Decision.TheVariants.{Answer, Commit, Ask}
+use Rattle.gate_admin.specs.View.{has, hosts_where, mask_of, is_configured}
+use Rattle.gate_admin.specs.Decide.{answers, commits, tests_of_pipe, tests_to_open, tests_to_set_it, tests_to_create, tests_to_delete, creation}
+use Rattle.gate_admin.specs.Decide.{tests_to_clear, opening, closing, setting, getting, creating, deleting, clearing, carried_out, decided, value_of, dest_in}
+use Rattle.gate_admin.specs.Decide.{others_opened, ends_of, commits_and_tells, told_of_deletion, told_of_clearing, far_end}
+use Rattle.gate_admin.proofs.CreationLemmas.{creation-recordable}
+use Rattle.gate_laws.proofs.Decisions.{unless, new_row}
+use Rattle.gate_link.specs.Link.{count_bytes, count_in, tests_to_set_errors, link_served, link_unless_refused as link_unless}
+use Rattle.gate_identity.specs.Identity.{identity_value, identity_served, identity_unless_refused as identity_unless}
+use Rattle.link_machine.specs.Machine.{Message}
+use Rattle.node_machine.specs.Parts.{Init, Creation, Notice, Desk, Core, Port, Deed}
+use Rattle.node_machine.specs.Parts.Deed.{Commits, Sends, SaysOk, Asks, Releases, Tells, IsAnswered, Drops, SetsErrors, Orders, Hears, GoesOn, Ends}
+use Rattle.node_machine.specs.Carrying.{finds_room, port_at}
+use Rattle.node_machine.specs.Controller.{creation_in, view_for, answers_on, commit_deeds, decision_deeds, link_deeds, gates, agreed, controller_deeds}
+use Rattle.node_machine.specs.Controller.{has_link, is_command_message, relayed_to, served_at, response_at, notice_deeds, creation_deeds, kind_deeds}
+use Rattle.node_machine.specs.Controller.{unless_asking, goes_through, own_gate, asks_for, if_notice, own_deeds, relay_deeds, deeds_by_relay}
+use Rattle.node_laws.proofs.steps.Ports.{at_port}
+use Rattle.node_laws.proofs.steps.Walks.{told_hold}
+use Rattle.node_order.proofs.links.Masking.{nobody}
+use Rattle.text_laws.specs.Ranges.{IsSaidCommand}
+use Rattle.told_laws.proofs.Lines.{each_all}
+use Rattle.told_laws.proofs.Wires.{drop_each}
+use Rattle.told_laws.proofs.nodes.Sides.{AreBytes, IsMail}
+use Rattle.told_laws.proofs.nodes.Ranges.{IsIn, IsShortCommand}
+use Rattle.told_laws.proofs.nodes.Commands.{IfMade, IsCommandIn, AreTablesIn, index_in, value_read_in, recordable_made}
+
+-- ## Messages
+
+-- the bytes of a message
+pub record IsSaying (message : List ℕ) : Type 0 where
+  pub some : 0 < length message
+  pub bytes : AreBytes message
+  pub short : length message ≤ 4096
+
+pub saying : (pipe : ℕ) (message : List ℕ) → pipe < 112 → IsSaying message → IsMail (pipe, message)
+saying pipe message low h = record { pipe = low; some = h.some; bytes = h.bytes; short = h.short }
+
+code_low : (r : Response) → code_of r < 64
+code_low response.Ok = omega arith
+code_low response.NotConnected = omega arith
+code_low response.CommandParameterUnknown = omega arith
+code_low response.NotOk = omega arith
+code_low response.NoPipesAvailable = omega arith
+code_low response.RegistryParameterUnknown = omega arith
+code_low response.PipeNotOpened = omega arith
+code_low response.CommandNotSupported = omega arith
+code_low response.Inhibited = omega arith
+code_low response.Timeout = omega arith
+code_low response.RegistryAccessDenied = omega arith
+code_low response.PipeAccessDenied = omega arith
+
+pub answer_in : (r : Response) (value : List ℕ) → AreBytes value → length value ≤ 4095 → IsSaying (answer_of r value)
+answer_in r value h few = let low = code_low r in record { some = omega arith; bytes = (omega (arith, low), h); short = omega (arith, few) }
+
+pub body_bytes : (message : List ℕ) → AreBytes message → AreBytes (body_in message)
+body_bytes message h = drop_each IsByte 1 message h
+
+-- ## Creations and inits
+
+pub record IsCreationIn (c : Creation) : Type 0 where
+  pub command : IsCommandIn c.command
+  pub answer : IsSaying c.answer
+
+abbrev pub IfCreation : Option Creation → Type 0
+IfCreation None = Unit {0}
+IfCreation (Some c) = IsCreationIn c
+
+pub record IsInitIn (i : Init) : Type 0 where
+  pub identity : AreBytes i.identity × (length i.identity ≤ 4000)
+  pub pipes : AllByRecursion (λ (pipe : List ℕ). AreBytes pipe × (length pipe ≤ 4000)) i.pipes
+  pub few : length i.pipes ≤ 8
+
+-- what is kept of an end
+pub record IsDeskIn (d : Desk) : Type 0 where
+  pub host : d.host ≤ 7
+  pub creation : IfCreation (creation_in d.notice)
+  pub errors : d.errors < 65536
+
+-- ## Deeds
+
+-- a deed is in its range
+abbrev pub IsDeedIn : Deed → Type 0
+IsDeedIn (Commits c) = IsCommandIn c
+IsDeedIn (Sends to m) = IsMail m
+IsDeedIn SaysOk = Unit {0}
+IsDeedIn (Asks to message c) = (to < 256) × IsSaying message × IsCreationIn c
+IsDeedIn (Releases asker) = Unit {0}
+IsDeedIn (Tells to message) = IsSaying message
+IsDeedIn IsAnswered = Unit {0}
+IsDeedIn (Drops pid) = pid < 256
+IsDeedIn (SetsErrors errors) = errors < 65536
+IsDeedIn (Orders message) = IsSaying message
+IsDeedIn Hears = Unit {0}
+IsDeedIn (GoesOn i) = IsInitIn i
+IsDeedIn (Ends e) = (n : ℕ) → IsIn n e
+
+abbrev pub AreDeedsIn : List Deed → Type 0
+AreDeedsIn deeds = AllByRecursion IsDeedIn deeds
+
+pub low : 1 < 112
+low = omega arith
+
+pub answers_in : (h pipe : ℕ) (message : List ℕ) → pipe < 112 → IsSaying message → AreDeedsIn (answers_on h pipe message)
+answers_in h pipe message p a = (saying pipe message p a, tt)
+
+pub commits_in : (room : Bool) (h pipe : ℕ) (c : Command) (answer : List ℕ) (behind : List Deed) → pipe < 112 → IsCommandIn c → IsSaying answer
+    → AreDeedsIn behind → AreDeedsIn (commit_deeds room h pipe c answer behind)
+commits_in true h pipe c answer behind p is a h2 = (is, (saying pipe answer p a, (tt, h2)))
+commits_in false h pipe c answer behind p is a h2 = answers_in h pipe (answer_of response.NotOk []) p (answer_in response.NotOk [] tt (omega arith))
+
+-- ## What the administration gate decides
+
+abbrev IsDecisionIn : Decision → Type 0
+IsDecisionIn (Answer answer) = IsSaying answer.items
+IsDecisionIn (Commit c answer tell notice) =
+    IsCommandIn c × IsSaying answer.items × AllByRecursion (λ (x : ℕ). IsSaying notice.items) (hosts_where (has tell))
+IsDecisionIn (Ask dest notice c answer) = (dest < 256) × IsSaying notice.items × IsCommandIn c × IsSaying answer.items
+
+none_told : (message : List ℕ) → AllByRecursion (λ (x : ℕ). IsSaying message) (hosts_where (has 0))
+none_told message = rw nobody tt
+
+all_told : (message : List ℕ) → IsSaying message → (hosts : List ℕ) → AllByRecursion (λ (x : ℕ). IsSaying message) hosts
+all_told message a [] = tt
+all_told message a (x ∷ hosts) = (a, all_told message a hosts)
+
+tells_in : (c : Command) (told notice : List ℕ) → IsCommandIn c → IsSaying notice → IsDecisionIn (commits_and_tells c told notice)
+tells_in c [] notice is a = (is, answer_in response.Ok [] tt (omega arith), none_told [])
+tells_in c (x ∷ told) notice is a = (is, answer_in response.Ok [] tt (omega arith), all_told notice a (hosts_where (has (mask_of (x ∷ told)))))
+
+-- at most 110 pipes are opened
+others_low : (t : HciTables) (host pipe : ℕ) → ArePipeRows t.rows → others_opened t host pipe < 256
+others_low t host pipe rows =
+    cond_both (nat_lt pipe 2) 0 (option_map_or (λ (end : ℕ × ℕ). opened_on t.rows end.0 end.1 pipe) (far_end t host pipe) 0) (λ k. k < 256)
+    (λ _. omega arith) (λ _. by (far_end t host pipe))
+  where
+    by : (o : Option (ℕ × ℕ)) → option_map_or (λ (end : ℕ × ℕ). opened_on t.rows end.0 end.1 pipe) o 0 < 256
+    by None = omega arith
+    by (Some end) =
+        let long = length-rows pid_of 2 112 t.rows rows in
+        let few = count_by-le-length (λ (row : PipeRow). row.opened && ends_at row end.0 end.1 && not (row.pid == pipe)) t.rows in
+        omega (arith, long, few)
+
+host_bytes : (test : ℕ → Bool) → AreBytes (hosts_where test)
+unfolding hosts_where
+host_bytes test = AllByRecursion-filter IsByte test (1 ∷ 2 ∷ 3 ∷ 4 ∷ 5 ∷ 6 ∷ 7 ∷ [])
+    (omega arith, (omega arith, (omega arith, (omega arith, (omega arith, (omega arith, (omega arith, tt)))))))
+
+-- the bytes of a value, which is short
+abbrev IsValue : List ℕ → Type 0
+IsValue value = AreBytes value × (length value ≤ 4095)
+
+host_few : (test : ℕ → Bool) → length (hosts_where test) ≤ 7
+unfolding hosts_where
+host_few test = short test (1 ∷ 2 ∷ 3 ∷ 4 ∷ 5 ∷ 6 ∷ 7 ∷ [])
+  where
+    short : (p : ℕ → Bool) (xs : List ℕ) → length (filter p xs) ≤ length xs
+    short p [] = omega arith
+    short p (x ∷ xs) =
+        let rest = short p xs in
+        cond_both (p x) (x ∷ filter p xs) (filter p xs) (λ (ys : List ℕ). length ys ≤ length (x ∷ xs)) (λ _. omega (arith, rest)) (λ _. omega (arith, rest))
+
+value_in : (t : HciTables) (v : LinkView) (host param : ℕ) → AreTablesIn t → IsValue (value_of t v host param)
+value_in t v host param h =
+    cond_both (param == 2) (110 ∷ []) _ IsValue (λ _. ((omega arith, tt), omega arith))
+    (λ _. cond_both (param == 4) (0 ∷ hosts_where (is_configured v)) _ IsValue
+    (λ _. let few = host_few (is_configured v) in ((omega arith, host_bytes (is_configured v)), omega (arith, few)))
+    (λ _. cond_both _ (value_at t.values host 0 param) [] IsValue (λ _. value_read_in t.values host 0 param h.values) (λ _. (tt, omega arith))))
+
+row_in : (t : HciTables) (v : LinkView) (host : ℕ) (body : List ℕ) → host ≤ 7 → AreBytes body → first_of (tests_to_create t v host body) ≡ None
+    → IsCommandIn (Create (new_row t v host body)) × AreBytes (ends_of (new_row t v host body))
+row_in t v host body small bytes passed =
+    let made = recordable_made (Create (new_row t v host body)) (creation-recordable t v host body small passed) in
+    let upto = made.1 in
+    let a = index_in body 0 bytes in
+    let b = index_in body 1 bytes in
+    let c = index_in body 2 bytes in
+    let pid : (new_row t v host body).pid < 256 = omega (arith, upto) in (
+      record {
+        said = (refl, record { pid = pid; creator = omega (arith, small); creator_gate = a; dest = b; dest_gate = c });
+        short = tt;
+        made = made;
+      },
+      (omega (arith, small), (a, (b, (c, (pid, tt))))),
+    )
+
+plain_command : (c : Command) → IsSaidCommand c → IsShortCommand c → IfMade c → IsCommandIn c
+plain_command c said short made = record { said = said; short = short; made = made }
+
+pub few_behind : (bytes : List ℕ) → length bytes ≤ 4095 → length (drop 1 bytes) ≤ 4095
+few_behind [] few = few
+few_behind (x ∷ bytes) few = omega (arith, few)
+
+pub body_few : (message : List ℕ) → length message ≤ 4096 → length (body_in message) ≤ 4095
+body_few [] few = omega arith
+body_few (x ∷ message) few = omega (arith, few)
+
+module _ (t : HciTables) (v : LinkView) (host pipe : ℕ) (body : List ℕ) (tables : AreTablesIn t) (rows : ArePipeRows t.rows) (small : host ≤ 7)
+    (upto : pipe < 112) (bytes : AreBytes body) (few : length body ≤ 4095) where
+  host_byte : host < 256
+  host_byte = omega (arith, small)
+
+  refused : (r : Response) → IsDecisionIn (answers r [])
+  refused r = answer_in r [] tt (omega arith)
+
+  creates_in : first_of (tests_to_create t v host body) ≡ None → IsDecisionIn (creation (new_row t v host body))
+  creates_in passed =
+      let row = row_in t v host body small bytes passed in
+      cond_both (eqb (dest_in body) 0) (commits (Create (new_row t v host body)) _) _ IsDecisionIn
+      (λ _. (row.0, answer_in response.Ok (ends_of (new_row t v host body)) row.1 (omega arith), none_told []))
+      (λ _. (
+        index_in body 1 bytes,
+        record { some = omega arith; bytes = (omega arith, row.1); short = omega arith },
+        row.0,
+        answer_in response.Ok (ends_of (new_row t v host body)) row.1 (omega arith),
+      ))
+
+  carried_in : (instruction : ℕ) → IsDecisionIn (carried_out t v host pipe instruction body)
+  carried_in instruction =
+      cond_both (eqb instruction 3) (opening t host pipe body) _ IsDecisionIn
+      (λ _. unless IsDecisionIn (first_of (tests_to_open body)) _ refused
+      (λ _. cond_both (is_opened t host pipe) _ _ IsDecisionIn
+      (λ _. answer_in response.Ok (others_opened t host pipe ∷ []) (others_low t host pipe rows, tt) (omega arith))
+      (λ _. (
+        plain_command (SetOpened host pipe true) (host_byte, omega (arith, upto)) tt tt,
+        answer_in response.Ok (others_opened t host pipe ∷ []) (others_low t host pipe rows, tt) (omega arith),
+        none_told [],
+      ))))
+      (λ _. cond_both (eqb instruction 4) (closing host pipe body) _ IsDecisionIn
+      (λ _. unless IsDecisionIn (first_of (tests_to_open body)) _ refused
+      (λ _. (plain_command (SetOpened host pipe false) (host_byte, omega (arith, upto)) tt tt, answer_in response.Ok [] tt (omega arith), none_told [])))
+      (λ _. cond_both (eqb instruction 1) (setting v host body) _ IsDecisionIn
+      (λ _. unless IsDecisionIn (first_of (tests_to_set_it v host body)) _ refused
+      (λ _. (
+        plain_command (Set host 0 (param_in body) (record { items = value_behind body }))
+            (host_byte, omega arith, index_in body 0 bytes, each_all IsByte (value_behind body) (drop_each IsByte 1 body bytes)) (few_behind body few) tt,
+        answer_in response.Ok [] tt (omega arith),
+        none_told [],
+      )))
+      (λ _. cond_both (eqb instruction 2) (getting t v host body) _ IsDecisionIn
+      (λ _. unless IsDecisionIn (first_of (tests_to_get 0 body)) _ refused
+      (λ _. (let value = value_in t v host (param_in body) tables in answer_in response.Ok (value_of t v host (param_in body)) value.0 value.1)))
+      (λ _. cond_both (eqb instruction 16) (creating t v host body) _ IsDecisionIn
+      (λ _. unless IsDecisionIn (first_of (tests_to_create t v host body)) (creation (new_row t v host body)) refused creates_in)
+      (λ _. cond_both (eqb instruction 17) (deleting t v host body) _ IsDecisionIn
+      (λ _. unless IsDecisionIn (first_of (tests_to_delete t v host body)) _ refused
+      (λ _. tells_in (Delete (param_in body)) (told_of_deletion t v host (param_in body)) (19 ∷ param_in body ∷ [])
+      (plain_command (Delete (param_in body)) (index_in body 0 bytes) tt tt)
+      (record { some = omega arith; bytes = (omega arith, (index_in body 0 bytes, tt)); short = omega arith })))
+      (λ _. cond_both (eqb instruction 20) (clearing t v host body) _ IsDecisionIn
+      (λ _. unless IsDecisionIn (first_of (tests_to_clear t v host body)) _ refused
+      (λ _. tells_in (Clear host) (told_of_clearing t v host) (21 ∷ host ∷ []) (plain_command (Clear host) host_byte tt tt)
+      (record { some = omega arith; bytes = (omega arith, (host_byte, tt)); short = omega arith })))
+      (λ _. refused response.CommandNotSupported)))))))
+
+  decided_in : (instruction : ℕ) → IsDecisionIn (decided t v host pipe instruction body)
+  decided_in instruction =
+      unless IsDecisionIn (first_of (tests_of_pipe t host pipe instruction)) (carried_out t v host pipe instruction body) refused
+      (λ _. carried_in instruction)
+
+-- ## Other gates
+
+pub record IsServedIn (served : List ℕ × Option ℕ) : Type 0 where
+  pub message : IsSaying served.0
+  pub value : (errors : ℕ) → served.1 ≡ Some errors → errors < 65536
+
+plain_served : (message : List ℕ) → IsSaying message → IsServedIn (message, None)
+plain_served message a = record { message = a; value = λ errors is. absurd (cc is) }
+
+link_one : (o : Option Response) (otherwise : List ℕ × Option ℕ) → IsServedIn otherwise → IsServedIn (link_unless o otherwise)
+link_one (Some r) otherwise a = plain_served (answer_of r []) (answer_in r [] tt (omega arith))
+link_one None otherwise a = a
+
+pub link_in : (errors instruction : ℕ) (body : List ℕ) → errors < 65536 → AreBytes body → IsServedIn (link_served errors instruction body)
+link_in errors instruction body few bytes =
+    cond_both (eqb instruction 1) _ _ IsServedIn
+    (λ _. link_one (first_of (tests_to_set_errors body)) (answer_of response.Ok [], Some (count_in (value_behind body)))
+    (record { message = answer_in response.Ok [] tt (omega arith); value = λ k is. set_low k is }))
+    (λ _. cond_both (eqb instruction 2) _ _ IsServedIn
+    (λ _. link_one (first_of (tests_to_get 6 body)) (answer_of response.Ok (count_bytes errors), None)
+    (plain_served (answer_of response.Ok (count_bytes errors))
+    (answer_in response.Ok (count_bytes errors) (omega (arith, few), (omega arith, tt)) (omega arith))))
+    (λ _. plain_served (answer_of response.CommandNotSupported []) (answer_in response.CommandNotSupported [] tt (omega arith))))
+  where
+    rest : AreBytes (value_behind body)
+    rest = drop_each IsByte 1 body bytes
+
+    set_low : (k : ℕ) → Some (count_in (value_behind body)) ≡ Some k → k < 65536
+    set_low k is =
+        let same : count_in (value_behind body) ≡ k = cc in
+        let a = index_in (value_behind body) 0 rest in
+        let b = index_in (value_behind body) 1 rest in
+        omega (arith, same, a, b)
+
+identity_bytes : (param : ℕ) → IsValue (identity_value gates param)
+identity_bytes param =
+    cond_both (param == 1) (1 ∷ 0 ∷ 0 ∷ []) _ IsValue (λ _. ((omega arith, (omega arith, (omega arith, tt))), omega arith))
+    (λ _. cond_both (param == 2) (2 ∷ []) _ IsValue (λ _. ((omega arith, tt), omega arith))
+    (λ _. cond_both (param == 3) (1 ∷ 0 ∷ 0 ∷ []) _ IsValue (λ _. ((omega arith, (omega arith, (omega arith, tt))), omega arith))
+    (λ _. cond_both (param == 4) (83 ∷ 87 ∷ 80 ∷ 32 ∷ 72 ∷ 67 ∷ 73 ∷ []) _ IsValue
+    (λ _. ((omega arith, (omega arith, (omega arith, (omega arith, (omega arith, (omega arith, (omega arith, tt))))))), omega arith))
+    (λ _. cond_both (param == 5) (1 ∷ []) gates IsValue (λ _. ((omega arith, tt), omega arith)) (λ _. ((omega arith, (omega arith, tt)), omega arith))))))
+
+identity_one : (o : Option Response) (otherwise : List ℕ) → IsSaying otherwise → IsSaying (identity_unless o otherwise)
+identity_one (Some r) otherwise a = answer_in r [] tt (omega arith)
+identity_one None otherwise a = a
+
+pub identity_in : (instruction : ℕ) (body : List ℕ) → IsSaying (identity_served gates instruction body)
+identity_in instruction body =
+    cond_both (eqb instruction 1) _ _ IsSaying
+    (λ _. identity_one (first_of (tests_to_set 5 body)) (answer_of response.RegistryAccessDenied [])
+    (answer_in response.RegistryAccessDenied [] tt (omega arith)))
+    (λ _. cond_both (eqb instruction 2) _ _ IsSaying
+    (λ _. identity_one (first_of (tests_to_get 5 body)) (answer_of response.Ok (identity_value gates (param_in body)))
+    (let value = identity_bytes (param_in body) in answer_in response.Ok (identity_value gates (param_in body)) value.0 value.1))
+    (λ _. answer_in response.CommandNotSupported [] tt (omega arith)))
+
+pub link_deeds_in : (h pipe : ℕ) (served : List ℕ × Option ℕ) → pipe < 112 → IsServedIn served → AreDeedsIn (link_deeds h pipe served)
+link_deeds_in h pipe served p a = by served.1 refl
+  where
+    by : (o : Option ℕ) → served.1 ≡ o → AreDeedsIn (link_deeds h pipe (served.0, o))
+    by None q = (saying pipe served.0 p a.message, tt)
+    by (Some errors) q = (a.value errors q, (saying pipe served.0 p a.message, tt))
+
+-- ## A controller
+
+agreed_in : (flag : Bool) (c : Creation) → IsCreationIn c → AreDeedsIn (agreed flag c)
+agreed_in true c a = (tt, (a.command, (tt, (saying 1 c.answer low a.answer, (tt, tt)))))
+agreed_in false c a = (tt, (tt, (saying 1 (answer_of response.NotOk []) low (answer_in response.NotOk [] tt (omega arith)), tt)))
+
+decision_in : (core : Core) (h pipe : ℕ) (d : Decision) → pipe < 112 → IsDecisionIn d → AreDeedsIn (decision_deeds core h pipe d)
+decision_in core h pipe (Answer answer) p a = answers_in h pipe answer.items p a
+decision_in core h pipe (Commit c answer tell notice) p a =
+    commits_in (finds_room core c) h pipe c answer.items _ p a.0 a.1 (told_hold IsDeedIn notice.items (hosts_where (has tell)) a.2)
+decision_in core h pipe (Ask dest notice c answer) p a = ((a.0, a.1, record { command = a.2; answer = a.3 }), tt)
+
+abbrev pub AreDesksIn : List Port → Type 0
+AreDesksIn ports = AllByRecursion (λ (p : Port). IsDeskIn p.desk) ports
+
+errors_at : (ports : List Port) (h : ℕ) → AreDesksIn ports → option_map_or (λ (p : Port). p.desk.errors) (port_at ports h) 0 < 65536
+errors_at ports h a = go (port_at ports h) refl
+  where
+    go : (o : Option Port) → port_at ports h ≡ o → option_map_or (λ (p : Port). p.desk.errors) o 0 < 65536
+    go None q = omega arith
+    go (Some p) q = (at_port (λ (p : Port). IsDeskIn p.desk) ports h p a q).errors
+
+pub plain_in : (h : ℕ) (r : Response) (pipe : ℕ) → pipe < 112 → AreDeedsIn (answers_on h pipe (answer_of r []))
+plain_in h r pipe p = answers_in h pipe (answer_of r []) p (answer_in r [] tt (omega arith))
+
+module _ (core : Core) (ports : List Port) (h : ℕ) (m : Message) (tables : AreTablesIn core.tables) (rows : ArePipeRows core.tables.rows)
+    (a : AreDesksIn ports) (small : h ≤ 7) (s : IsMail m) where
+  p : m.0 < 112
+  p = s.pipe
+
+  drops_in : AreDeedsIn (Drops m.0 ∷ [])
+  drops_in = (omega (arith, p), tt)
+
+  served_in : (instruction : ℕ) (o : Option ℕ) → AreDeedsIn (served_at core (view_for core.tables ports h) h m.0 instruction (body_in m.1) o)
+  served_in n None =
+      decision_in core h m.0 (decided core.tables (view_for core.tables ports h) h m.0 n (body_in m.1)) p
+      (decided_in core.tables (view_for core.tables ports h) h m.0 (body_in m.1) tables rows small p (body_bytes m.1 s.bytes) (body_few m.1 s.short) n)
+  served_in n (Some gate) =
+      cond_both (eqb gate 6) (link_deeds h m.0 (link_served (view_for core.tables ports h).errors n (body_in m.1))) _ AreDeedsIn
+      (λ _. link_deeds_in h m.0 (link_served (view_for core.tables ports h).errors n (body_in m.1)) p
+      (link_in (view_for core.tables ports h).errors n (body_in m.1) (errors_at ports h a) (body_bytes m.1 s.bytes)))
+      (λ _. cond_both (eqb gate 5) (answers_on h m.0 (identity_served gates n (body_in m.1))) _ AreDeedsIn
+      (λ _. answers_in h m.0 (identity_served gates n (body_in m.1)) p (identity_in n (body_in m.1)))
+      (λ _. plain_in h response.CommandNotSupported m.0 p))
+
+  noticed_in : (code : ℕ) (o : Option Port) → port_at ports h ≡ o → AreDeedsIn (response_at core code o)
+  noticed_in code None here = (omega arith, tt)
+  noticed_in code (Some q) here = by q.desk.notice refl
+    where
+      by_creation : (o : Option Creation) → creation_in q.desk.notice ≡ o → AreDeedsIn (creation_deeds core code o)
+      by_creation None is = (tt, tt)
+      by_creation (Some c) is =
+          agreed_in _ c (subst IfCreation is (at_port (λ (x : Port). IsDeskIn x.desk) ports h q a here).creation)
+
+      by : (o : Option Notice) → q.desk.notice ≡ o → AreDeedsIn (notice_deeds core code o)
+      by None is = (omega arith, tt)
+      by (Some n) is = by_creation (creation_in (Some n)) (ap creation_in is)
+
+  kind_in : (x : Result (MessageKind × ℕ) MessageFault) → AreDeedsIn (kind_deeds core ports h m x)
+  kind_in (Ok (IsCommand, n)) = by (m.0 == 1 && asks_for ports h)
+    where
+      by : (asks : Bool) → AreDeedsIn (unless_asking core ports h m n asks)
+      by true = drops_in
+      by false = served_in n (cond (goes_through core.tables h m.0 n) (own_gate core.tables h m.0) None)
+  kind_in (Ok (IsEvent, n)) = cond_both _ (Sends h m ∷ []) (Drops m.0 ∷ []) AreDeedsIn (λ _. (s, tt)) (λ _. drops_in)
+  kind_in (Ok (IsResponse, code)) = by (m.0 == 1)
+    where
+      by : (b : Bool) → AreDeedsIn (if_notice core ports h m code b)
+      by true = noticed_in code (port_at ports h) refl
+      by false = drops_in
+  kind_in (Err fault) = drops_in
+
+  own_in : (b : Bool) → AreDeedsIn (own_deeds core ports h m b)
+  own_in true = kind_in (header_of m.1)
+  own_in false = drops_in
+
+  relayed_in : (other : ℕ) (up : Bool) → AreDeedsIn (relay_deeds ports h m other up)
+  relayed_in other true = (s, tt)
+  relayed_in other false =
+      cond_both (has_link ports h && is_command_message m.1) _ (Drops m.0 ∷ []) AreDeedsIn (λ _. plain_in h response.NotConnected m.0 p) (λ _. drops_in)
+
+  by_relay : (o : Option ℕ) → AreDeedsIn (deeds_by_relay core ports h m o)
+  by_relay (Some other) = relayed_in other (has_link ports other)
+  by_relay None = own_in (has_link ports h)
+
+  pub controller_in : AreDeedsIn (controller_deeds core ports h m)
+  controller_in = by_relay (relayed_to core.tables h m)

@@ -1,0 +1,180 @@
+-- All that is told of a history of nodes is in its range.
+use Rattle.std.proofs.Common.{◌≡◌, inl, inr, ℕ, ◌+◌, ◌-◌, ◌*◌, ◌^◌, ◌≤◌, ◌<◌, Bool, true, false, List, [], ◌∷◌, ◌++◌, length, refl, sym}
+use Rattle.std.proofs.Common.{subst, arith, append_assoc, append-nil, Option, Some, None}
+use Rattle.std.specs.List.{AllByRecursion}
+use Rattle.hci_tables.specs.Tables.{AreTables}
+use Rattle.trace_model.specs.declared.entry.Entry.{Entry}
+use Rattle.trace_model.specs.declared.entry.Entry.TheVariants as entry
+use Rattle.registry.proofs.ValueLemmas.{AllByRecursion-append as each-append}
+use Rattle.node_machine.specs.Parts.{Running}
+use Rattle.node_machine.specs.world.World.{NodeWorld, Site, Happening, world_step}
+use Rattle.node_machine.specs.world.Lines.{Occurrence, can_happen, all_happen}
+use Rattle.node_machine.specs.world.NodeHistories.{entries_in}
+use Rattle.node_machine.specs.world.NodeFilters.{commands_in}
+use Rattle.node_machine.specs.world.NodeLegal.{FindsCommands}
+use Rattle.node_laws.specs.kept.Hosts.{AreHosts, IsFew}
+use Rattle.node_laws.specs.kept.Books.{IsTold, AreToldBehind}
+use Rattle.node_laws.specs.kept.Worlds.{IfRuns, SiteKeeps, AllKeep, MayHappen}
+use Rattle.node_laws.proofs.kept.Lines.{MayAllHappen, world_goes, few_front}
+use Rattle.told_laws.proofs.nodes.Ranges.{AreIn, in-append, all_in_more}
+use Rattle.told_laws.proofs.nodes.Commands.{AreTablesIn, tables_read_in}
+use Rattle.told_laws.proofs.nodes.Worlds.{IsWorldIn, IfTables, SitesHave, world_more}
+use Rattle.told_laws.proofs.nodes.Happenings.{WorldHas, HappensIn, happens_in}
+
+-- ## Counts
+
+-- what a boot found and what ANY_OK counts is a number of a text
+abbrev pub IsCounted : Entry → Type 0
+IsCounted (entry.AnyOk node count) = count < 2 ^ 32
+IsCounted (entry.Booted node count) = count < 2 ^ 32
+IsCounted x = Unit {0}
+
+finds_few : (t : List Entry) (node k : ℕ) → length (commands_in t node) ≤ 2 ^ 32 - 1 → FindsCommands t node k → k < 2 ^ 32
+finds_few t node k few (inl all) = omega (arith, few, all)
+finds_few t node k few (inr but) = let one = but.0 in omega (arith, few, one)
+
+one_counted : (t : List Entry) (x : Entry) → ((n : ℕ) → length (commands_in t n) ≤ 2 ^ 32 - 1) → IsTold t x → IsCounted x
+one_counted t (entry.AnyOk node k) few told = omega (arith, told)
+one_counted t (entry.Booted node k) few told = finds_few t node k (few node) told
+one_counted t (entry.Head header) few told = tt
+one_counted t (entry.Echo said) few told = tt
+one_counted t (entry.Up at session) few told = tt
+one_counted t (entry.Down at cause) few told = tt
+one_counted t (entry.Active at) few told = tt
+one_counted t (entry.GaveUp at tries) few told = tt
+one_counted t (entry.Sent at session pid message) few told = tt
+one_counted t (entry.Got at session pid message) few told = tt
+one_counted t (entry.Acked at session count) few told = tt
+one_counted t (entry.Emit at lpdu) few told = tt
+one_counted t (entry.Took at lpdu) few told = tt
+one_counted t (entry.Lost at lpdu cause) few told = tt
+one_counted t (entry.Turn at pid message) few told = tt
+one_counted t (entry.Held at need spare) few told = tt
+one_counted t (entry.Ask host message) few told = tt
+one_counted t (entry.Dropped at pid) few told = tt
+one_counted t (entry.Command node command) few told = tt
+one_counted t (entry.InitSame at) few told = tt
+one_counted t (entry.InitMade at count) few told = tt
+one_counted t (entry.InitFailed at code) few told = tt
+one_counted t (entry.Cut node) few told = tt
+one_counted t (entry.Tables node tables) few told = tt
+one_counted t (entry.Settled rounds) few told = tt
+one_counted t (entry.No cause) few told = tt
+
+all_counted : (es t : List Entry) → AreToldBehind t es → IsFew (t ++ es) → AllByRecursion IsCounted es
+all_counted [] t told few = tt
+all_counted (x ∷ es) t told few = (
+  one_counted t x (λ n. few t (x ∷ es) n refl) told.0,
+  all_counted es (t ++ x ∷ []) told.1 (subst IsFew (sym (append_assoc t (x ∷ []) es)) few),
+)
+
+-- ## Worlds
+
+-- the tables of a node that runs are sorted, and in their ranges
+pub record IsFull (r : Running) : Type 0 where
+  pub sorted : AreTables r.core.tables
+  pub tables : AreTablesIn r.core.tables
+
+abbrev pub IfFull : Option Running → Type 0
+IfFull None = Unit {0}
+IfFull (Some r) = IsFull r
+
+has_tables : (o : Option Running) → IfFull o → IfTables o
+has_tables None h = tt
+has_tables (Some r) h = record { tables = h.tables; rows = h.sorted.rows }
+
+module _ (hosts : List ℕ) (are : AreHosts hosts) where
+  pub record Stands (n : ℕ) (t : List Entry) (w : NodeWorld) : Type 0 where
+    pub world : IsWorldIn n w
+    pub noted : AreIn n t
+    pub counted : AllByRecursion IsCounted t
+    pub keep : AllKeep hosts t w
+
+  full : (k n : ℕ) (hs content : List ℕ) (t : List Entry) (o : Option Running) → AreIn n t → IfRuns k hs content t o → IfFull o
+  full k n hs content t None noted runs = tt
+  full k n hs content t (Some r) noted runs =
+      record { sorted = runs.sorted; tables = subst AreTablesIn (sym runs.tables_are) (tables_read_in n k t noted) }
+
+  sites_full : (n : ℕ) (t : List Entry) (sites : List Site) → AreIn n t → AllByRecursion (SiteKeeps t) sites
+      → AllByRecursion (λ (s : Site). IfFull s.node) sites
+  sites_full n t [] noted h = tt
+  sites_full n t (s ∷ sites) noted h =
+      (full s.host n (s.host ∷ []) s.memory.content t s.node noted h.0.runs, sites_full n t sites noted h.1)
+
+  pub record AllFull (w : NodeWorld) : Type 0 where
+    pub controller : IfFull w.controller
+    pub sites : AllByRecursion (λ (s : Site). IfFull s.node) w.sites
+
+  pub all_full : (n : ℕ) (t : List Entry) (w : NodeWorld) → Stands n t w → AllFull w
+  all_full n t w s = record {
+    controller = full 0 n hosts w.memory.content t w.controller s.noted s.keep.controller.runs;
+    sites = sites_full n t w.sites s.noted s.keep.sites;
+  }
+
+  sites_have : (sites : List Site) → AllByRecursion (λ (s : Site). IfFull s.node) sites → SitesHave sites
+  sites_have [] h = tt
+  sites_have (s ∷ sites) h = (has_tables s.node h.0, sites_have sites h.1)
+
+  world_has : (w : NodeWorld) → AllFull w → WorldHas w
+  world_has w h = record { controller = has_tables w.controller h.controller; sites = sites_have w.sites h.sites }
+
+  -- ## Events
+
+  event_in : (n : ℕ) (t : List Entry) (w : NodeWorld) (c : Happening) → HappensIn c → MayHappen w c → Stands n t w → IsFew (t ++ (world_step w c).1)
+      → Stands (n + 26) (t ++ (world_step w c).1) (world_step w c).0
+  event_in n t w c is may s few =
+      let step = happens_in n w c is s.world (world_has w (all_full n t w s)) in
+      let goes = world_goes hosts are t w c s.keep may (λ k. few t (world_step w c).1 k refl) in
+      record {
+        world = step.world;
+        noted = in-append (n + 26) t (world_step w c).1 (all_in_more n (n + 26) t (omega arith) s.noted) step.noted;
+        counted = each-append IsCounted t (world_step w c).1 s.counted (all_counted (world_step w c).1 t goes.told few);
+        keep = goes.keep;
+      }
+
+  pub stands_more : (n k : ℕ) (t : List Entry) (w : NodeWorld) → n ≤ k → Stands n t w → Stands k t w
+  stands_more n k t w more s =
+      record { world = world_more n k w more s.world; noted = all_in_more n k t more s.noted; counted = s.counted; keep = s.keep }
+
+  pub events_in : (causes : List Happening) (n : ℕ) (t : List Entry) (w : NodeWorld) → AllByRecursion HappensIn causes → MayAllHappen w causes → Stands n t w
+      → IsFew (t ++ entries_in (all_happen w causes).1)
+      → Stands (n + 26 * length causes) (t ++ entries_in (all_happen w causes).1) (all_happen w causes).0
+  events_in [] n t w is may s few =
+      let nil = append-nil t in
+      subst (λ u. Stands (n + 26 * 0) u w) (sym nil) (stands_more n (n + 26 * 0) t w (omega arith) s)
+  events_in (c ∷ causes) n t w is may s few =
+      go (can_happen w c) refl (λ u m k g f. events_in causes m u k is.1 g f)
+    where
+      next : NodeWorld × List Entry
+      next = world_step w c
+
+      later : NodeWorld × List Occurrence
+      later = all_happen next.0 causes
+
+      on_is : can_happen w c ≡ true → all_happen w (c ∷ causes) ≡ (later.0, record { cause = c; entries = next.1 } ∷ later.1)
+      on_is e = rw e refl
+
+      off_is : can_happen w c ≡ false → all_happen w (c ∷ causes) ≡ (w, [])
+      off_is e = rw e refl
+
+      k : ℕ
+      k = n + 26 * length (c ∷ causes)
+
+      Fine : NodeWorld × List Occurrence → Type 0
+      Fine p = Stands k (t ++ entries_in p.1) p.0
+
+      go : (b : Bool) → can_happen w c ≡ b
+          → ((u : List Entry) (m : ℕ) (v : NodeWorld) → MayAllHappen v causes → Stands m u v → IsFew (u ++ entries_in (all_happen v causes).1)
+          → Stands (m + 26 * length causes) (u ++ entries_in (all_happen v causes).1) (all_happen v causes).0)
+          → Fine (all_happen w (c ∷ causes))
+      go true e rest =
+          let all_few : IsFew (t ++ (next.1 ++ entries_in later.1)) = subst (λ (p : NodeWorld × List Occurrence). IsFew (t ++ entries_in p.1)) (on_is e) few in
+          let apart : IsFew ((t ++ next.1) ++ entries_in later.1) = subst IsFew (sym (append_assoc t next.1 (entries_in later.1))) all_few in
+          let first = event_in n t w c is.0 may.0 s (few_front (t ++ next.1) (entries_in later.1) apart) in
+          let all = rest (t ++ next.1) (n + 26) next.0 may.1 first apart in
+          subst Fine (sym (on_is e))
+          (stands_more ((n + 26) + 26 * length causes) k (t ++ (next.1 ++ entries_in later.1)) later.0 (omega arith)
+          (subst (λ u. Stands ((n + 26) + 26 * length causes) u later.0) (append_assoc t next.1 (entries_in later.1)) all))
+      go false e rest =
+          let nil = append-nil t in
+          subst Fine (sym (off_is e)) (subst (λ u. Stands k u w) (sym nil) (stands_more n k t w (omega arith) s))

@@ -1,0 +1,187 @@
+-- The entries of a world of nodes are in their ranges, where no number of a session in them is above a bound. What a boot finds and what ANY_OK
+-- counts isn't spoken of.
+use Rattle.std.proofs.Common.{ℕ, ◌+◌, ◌/◌, ◌%◌, ◌≤◌, ◌<◌, Bool, true, false, nat_lt, List, [], ◌∷◌, ◌++◌, length, arith, Option, Some, None, map}
+use Rattle.std.specs.Prelude.{if◌then◌else◌}
+use Rattle.std.specs.List.{AllByRecursion}
+use Rattle.std.specs.Option.{option_to_list}
+use Rattle.block_pool.proofs.HoldingLemmas.{all_mapped}
+use Rattle.swp_base.specs.Bits.{IsByte}
+use Rattle.swp_base.specs.declared.control_frames.Control.{Control}
+use Rattle.swp_base.specs.declared.control_frames.Control.TheVariants.{I, S, Rset, Ua, Act as ActFrame, Clt}
+use Rattle.swp_base.specs.declared.control_frames.Act.TheVariants.{Ready, SyncId, PowerMode}
+use Rattle.swp_lpdu.specs.Controls.{lpdu_of}
+use Rattle.trace_model.specs.declared.entry.Entry.{Entry}
+use Rattle.trace_model.specs.declared.entry.Entry.TheVariants as entry
+use Rattle.link_laws.specs.sessions.Sessions.{OnWire}
+use Rattle.link_machine.specs.Machine.{Report}
+use Rattle.link_entries.specs.messages.Links.{Loss}
+use Rattle.link_entries.specs.messages.Links.Loss.{TooOld}
+use Rattle.link_entries.specs.entries.Entries.{End as Side, Entry as Noted, if_so, told, first_lost, aged_entries}
+use Rattle.link_entries.specs.entries.Entries.Entry.{Up, Down, Active, GaveUp, Acked, Got, Sent, Emit, Took, Lost, Tick, Restarted, Cut}
+use Rattle.history.specs.Steps.{entry_of, entries_for}
+use Rattle.hci_tables.specs.declared.command.Command.{Command}
+use Rattle.hci_tables.specs.declared.command.Command.TheVariants.{Set}
+use Rattle.text_laws.specs.Ranges.{IsEnd, IsEntry, IsSaidCommand}
+use Rattle.registry.proofs.ValueLemmas.{AllByRecursion-append as each-append}
+use Rattle.told_laws.proofs.Lines.{IsLpdu, lpdu_by, lpdu_in, end_in}
+use Rattle.swp_base.specs.declared.link_terms.Cause.{Cause}
+use Rattle.told_laws.proofs.Ends.{IfTries}
+use Rattle.told_laws.proofs.nodes.Sides.{IsLineFrame, IsMail}
+use Rattle.told_laws.proofs.nodes.Machines.{ReportIn}
+
+-- ## Entries
+
+-- a value that is set is short
+abbrev pub IsShortCommand : Command → Type 0
+IsShortCommand (Set host gate param value) = length value.items ≤ 4095
+IsShortCommand c = Unit {0}
+
+-- an entry is in its range, and no number of a session in it is above n
+abbrev pub IsIn : ℕ → Entry → Type 0
+IsIn n (entry.Up at session) = IsEnd at × (session ≤ n)
+IsIn n (entry.GaveUp at tries) = IsEnd at × (tries ≤ 5)
+IsIn n (entry.Acked at session count) = IsEnd at × (session ≤ n) × (count ≤ n)
+IsIn n (entry.Sent at session pid message) = IsEnd at × (session ≤ n) × IsMail (pid, message)
+IsIn n (entry.Got at session pid message) = IsEnd at × (session ≤ n) × IsMail (pid, message)
+IsIn n (entry.Command node c) = IsByte node × IsSaidCommand c × IsShortCommand c
+IsIn n (entry.AnyOk node count) = IsByte node
+IsIn n (entry.Booted node count) = IsByte node
+IsIn n x = IsEntry x
+
+abbrev pub AreIn : ℕ → List Entry → Type 0
+AreIn n t = AllByRecursion (IsIn n) t
+
+in_more : (n k : ℕ) → n ≤ k → (x : Entry) → IsIn n x → IsIn k x
+in_more n k more (entry.Up at session) h = let a = h.1 in (h.0, omega (arith, more, a))
+in_more n k more (entry.Acked at session count) h = let a = h.1 in let b = h.2 in (h.0, omega (arith, more, a), omega (arith, more, b))
+in_more n k more (entry.Sent at session pid message) h = let a = h.1 in (h.0, omega (arith, more, a), h.2)
+in_more n k more (entry.Got at session pid message) h = let a = h.1 in (h.0, omega (arith, more, a), h.2)
+in_more n k more (entry.GaveUp at tries) h = h
+in_more n k more (entry.AnyOk node count) h = h
+in_more n k more (entry.Booted node count) h = h
+in_more n k more (entry.Head header) h = h
+in_more n k more (entry.Echo said) h = h
+in_more n k more (entry.Down at cause) h = h
+in_more n k more (entry.Active at) h = h
+in_more n k more (entry.Emit at lpdu) h = h
+in_more n k more (entry.Took at lpdu) h = h
+in_more n k more (entry.Lost at lpdu cause) h = h
+in_more n k more (entry.Turn at pid message) h = h
+in_more n k more (entry.Held at need spare) h = h
+in_more n k more (entry.Ask host message) h = h
+in_more n k more (entry.Dropped at pid) h = h
+in_more n k more (entry.Command node command) h = h
+in_more n k more (entry.InitSame at) h = h
+in_more n k more (entry.InitMade at count) h = h
+in_more n k more (entry.InitFailed at code) h = h
+in_more n k more (entry.Cut node) h = h
+in_more n k more (entry.Tables node tables) h = h
+in_more n k more (entry.Settled rounds) h = h
+in_more n k more (entry.No cause) h = h
+
+pub all_in_more : (n k : ℕ) (t : List Entry) → n ≤ k → AreIn n t → AreIn k t
+all_in_more n k t more h = all_mapped Entry (IsIn n) (IsIn k) t (in_more n k more) h
+
+pub in-append : (n : ℕ) (t u : List Entry) → AreIn n t → AreIn n u → AreIn n (t ++ u)
+in-append n t u h k = each-append (IsIn n) t u h k
+
+-- ## What is noted of one link
+
+-- the bytes of a frame
+pub line_lpdu : (c : Control) → IsLineFrame c → IsLpdu (lpdu_of c)
+line_lpdu (I ns nr info) h = lpdu_in (I ns nr info) h
+line_lpdu (S kind nr) h = lpdu_in (S kind nr) h
+line_lpdu (Rset window caps) h = lpdu_in (Rset window caps) h
+line_lpdu Ua h = lpdu_in Ua h
+line_lpdu Clt h = lpdu_by 0x40 [] (omega arith) tt (omega arith)
+line_lpdu (ActFrame Ready true) h = lpdu_by (0x60 + 8) [] (omega arith) tt (omega arith)
+line_lpdu (ActFrame Ready false) h = lpdu_by (0x60 + 0) [] (omega arith) tt (omega arith)
+line_lpdu (ActFrame (SyncId id) true) h = lpdu_by (0x61 + 8) (id / 256 ∷ id % 256 ∷ []) (omega arith) (omega (arith, h), (omega arith, tt)) (omega arith)
+line_lpdu (ActFrame (SyncId id) false) h = lpdu_by (0x61 + 0) (id / 256 ∷ id % 256 ∷ []) (omega arith) (omega (arith, h), (omega arith, tt)) (omega arith)
+line_lpdu (ActFrame (PowerMode power) true) h = lpdu_by (0x62 + 8) (power ∷ []) (omega arith) (h, tt) (omega arith)
+line_lpdu (ActFrame (PowerMode power) false) h = lpdu_by (0x62 + 0) (power ∷ []) (omega arith) (h, tt) (omega arith)
+
+abbrev pub IsNotedIn : ℕ → Noted → Type 0
+IsNotedIn n (Up who k) = k ≤ n
+IsNotedIn n (GaveUp who tries) = tries ≤ 5
+IsNotedIn n (Acked who k count) = (k ≤ n) × (count ≤ n)
+IsNotedIn n (Got who k m) = (k ≤ n) × IsMail m
+IsNotedIn n (Sent who k m) = (k ≤ n) × IsMail m
+IsNotedIn n (Emit who c) = IsLineFrame c
+IsNotedIn n (Took who c) = IsLineFrame c
+IsNotedIn n (Lost who c why) = IsLineFrame c
+IsNotedIn n (Down who cause) = Unit {0}
+IsNotedIn n (Active who) = Unit {0}
+IsNotedIn n Tick = Unit {0}
+IsNotedIn n (Restarted who) = Unit {0}
+IsNotedIn n (Cut who) = Unit {0}
+
+abbrev pub AreNotedIn : ℕ → List Noted → Type 0
+AreNotedIn n t = AllByRecursion (IsNotedIn n) t
+
+module _ (h n : ℕ) (low : h < 256) where
+  one_entry : (x : Noted) → IsNotedIn n x → AreIn n (entry_of h x)
+  one_entry (Up who k) p = ((end_in h who low, p), tt)
+  one_entry (Down who cause) p = (end_in h who low, tt)
+  one_entry (Active who) p = (end_in h who low, tt)
+  one_entry (GaveUp who tries) p = ((end_in h who low, p), tt)
+  one_entry (Acked who k count) p = ((end_in h who low, p.0, p.1), tt)
+  one_entry (Got who k m) p = ((end_in h who low, p.0, p.1), tt)
+  one_entry (Sent who k m) p = ((end_in h who low, p.0, p.1), tt)
+  one_entry (Emit who c) p = ((end_in h who low, (line_lpdu c p).bytes_are), tt)
+  one_entry (Took who c) p = ((end_in h who low, (line_lpdu c p).bytes_are), tt)
+  one_entry (Lost who c why) p = ((end_in h who low, (line_lpdu c p).bytes_are), tt)
+  one_entry Tick p = tt
+  one_entry (Restarted who) p = tt
+  one_entry (Cut who) p = tt
+
+  pub all_entries_in : (t : List Noted) → AreNotedIn n t → AreIn n (entries_for h t)
+  all_entries_in [] p = tt
+  all_entries_in (x ∷ t) p = in-append n (entry_of h x) (entries_for h t) (one_entry x p.0) (all_entries_in t p.1)
+
+-- ## What is told of an input
+
+so_noted : (n : ℕ) (b : Bool) (e : Noted) → IsNotedIn n e → AreNotedIn n (if_so b e)
+so_noted n false e p = tt
+so_noted n true e p = (p, tt)
+
+each_noted : {A : Type 0} (n : ℕ) (P : A → Type 0) (f : A → Noted) (xs : List A) → ((x : A) → P x → IsNotedIn n (f x)) → AllByRecursion P xs
+    → AreNotedIn n (map f xs)
+each_noted n P f [] p h = tt
+each_noted n P f (x ∷ xs) p h = (p x h.0, each_noted n P f xs p h.1)
+
+join : (n : ℕ) (t u : List Noted) → AreNotedIn n t → AreNotedIn n u → AreNotedIn n (t ++ u)
+join n t u h k = each-append (IsNotedIn n) t u h k
+
+pub told_in_range : (n : ℕ) (who : Side) (k : ℕ) (r : Report) (acked : ℕ) → k ≤ n → acked ≤ n → ReportIn r → AreNotedIn n (told who k r acked)
+told_in_range n who k r acked low few is =
+    let a = join n (if_so (nat_lt 0 r.acked) (Acked who k acked)) (map (Got who k) r.got)
+    (so_noted n (nat_lt 0 r.acked) (Acked who k acked) (low, few)) (each_noted n IsMail (Got who k) r.got (λ m t. (low, t)) is.got) in
+    let b = join n (map (GaveUp who) (option_to_list r.gave_up)) _ (tries r.gave_up is.tries) a in
+    let c = join n (if_so r.became_active (Active who)) _ (so_noted n r.became_active (Active who) tt) b in
+    let d = join n (if_so r.began (Up who k)) _ (so_noted n r.began (Up who k) low) c in
+    join n (map (Down who) (option_to_list r.ended)) _ (ended r.ended) d
+  where
+    tries : (o : Option ℕ) → IfTries o → AreNotedIn n (map (GaveUp who) (option_to_list o))
+    tries None h = tt
+    tries (Some t) h = (h, tt)
+
+    ended : (o : Option Cause) → AreNotedIn n (map (Down who) (option_to_list o))
+    ended None = tt
+    ended (Some t) = (tt, tt)
+
+-- ## Frames
+
+pub first_lost_in : (n : ℕ) (who : Side) (why : Loss) (w : List OnWire) → AllByRecursion (λ (x : OnWire). IsLineFrame x.frame) w
+    → AreNotedIn n (first_lost who why w)
+first_lost_in n who why [] h = tt
+first_lost_in n who why (x ∷ xs) h = (h.0, tt)
+
+pub aged_in : (n : ℕ) (who : Side) (w : List OnWire) → AllByRecursion (λ (x : OnWire). IsLineFrame x.frame) w → AreNotedIn n (aged_entries who w)
+aged_in n who [] h = tt
+aged_in n who (x ∷ xs) h = go (nat_lt x.age 4) (aged_in n who xs h.1)
+  where
+    go : (b : Bool) → AreNotedIn n (aged_entries who xs)
+        → AreNotedIn n (if b then aged_entries who xs else Lost who x.frame TooOld ∷ aged_entries who xs)
+    go true later = later
+    go false later = (h.0, later)

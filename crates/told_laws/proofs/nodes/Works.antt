@@ -1,0 +1,536 @@
+-- A node in a step, whatever comes to it: its ends, what it keeps and what it notes are in their ranges.
+use Rattle.std.proofs.Common.{◌≡◌, ℕ, ◌+◌, ◌≤◌, ◌<◌, ◌==◌, Bool, true, false, eqb, nat_lt, List, [], ◌∷◌, ◌++◌, length, map, refl, subst, arith}
+use Rattle.std.proofs.Common.{Option, Some, None}
+use Rattle.std.specs.List.{AllByRecursion, flat_map, list_any}
+use Rattle.std.specs.Option.{option_map_or}
+use Rattle.std.proofs.lemmas.Bool.{cond_both, eqb-true}
+use Rattle.trace_model.specs.declared.entry.Entry.{Entry}
+use Rattle.trace_model.specs.declared.entry.Entry.TheVariants as entry
+use Rattle.journal_laws.specs.Planned.{fails_within}
+use Rattle.hci_tables.specs.declared.command.Command.{Command}
+use Rattle.hci_tables.specs.declared.command.Command.TheVariants.{Sync}
+use Rattle.hci_tables.specs.Bodies.{body_of}
+use Rattle.hci_store.specs.Committing.{commit_writes}
+use Rattle.gate_answers.specs.Answers.{answer_of}
+use Rattle.link_machine.specs.Machine.{Message, Refused, LinkEnd, LinkInput, Turn, give_refusal, after_input, report, whole_acked, need, spare}
+use Rattle.link_machine.specs.Machine.LinkInput.{Reset}
+use Rattle.link_machine.specs.Machine.Turn.{Give, Hold, FetchMessage, SetAside, Release}
+use Rattle.link_entries.specs.entries.Entries.{End as Side, turn_entry, sent_unless, told}
+use Rattle.registry.proofs.ValueLemmas.{AllByRecursion-append as each-append}
+use Rattle.node_machine.specs.Parts.{About, Notice, Desk, Core, Port, Work, Deed}
+use Rattle.node_machine.specs.Parts.About.{Waits, Forgotten, Removed}
+use Rattle.node_machine.specs.Parts.Deed.{Commits, Sends, SaysOk, Asks, Releases, Tells, IsAnswered, Drops, SetsErrors, Orders, Hears, GoesOn, Ends}
+use Rattle.node_machine.specs.Carrying.{own_side, end_of_node, noting, port_at, changed_if, with_port, with_desk, after_turn, noted_of, turn_at}
+use Rattle.node_machine.specs.Carrying.{notified, commit}
+use Rattle.node_machine.specs.Carrying.{done, all_done, unless_cut, needs, lack}
+use Rattle.node_machine.specs.Controller.{creation_in, asked_at}
+use Rattle.node_machine.specs.Turns.{deeds_of, handles, holds_back, lets_go, have_turns, goes_through_ends, passes}
+use Rattle.node_machine.specs.Node.{NodeInput, input_at, has_come, told_at, all_come, older_notice, with_older, is_late, reset_late, told_late}
+use Rattle.node_machine.specs.Node.{times_out, is_over}
+use Rattle.node_machine.specs.Node.{is_forgotten, forgotten, forgets, all_owed, without_notice, after_sessions, synced, steps, answers_and_passes}
+use Rattle.node_machine.specs.Node.NodeInput.{AtEnd, TimePasses}
+use Rattle.node_laws.proofs.steps.StepWalks.{got_at, unless, lets}
+use Rattle.node_laws.proofs.steps.Walks.{forgotten_hold, all_owed_hold}
+use Rattle.told_laws.proofs.Lines.{each_all}
+use Rattle.swp_base.specs.Bits.{IsByte}
+use Rattle.told_laws.proofs.nodes.Sides.{IsMail, AreMail}
+use Rattle.told_laws.proofs.nodes.Machines.{SideIn, side_more, side_turn, side_input, side_reset_at, IsTurnIn, AreTurnsIn, IsInputIn, IfSync}
+use Rattle.told_laws.proofs.nodes.Machines.{report_in, acked_in}
+use Rattle.told_laws.proofs.nodes.Ranges.{AreIn, in-append, all_in_more, AreNotedIn, all_entries_in, told_in_range}
+use Rattle.told_laws.proofs.nodes.Commands.{IsCommandIn, applied_in, rows_applied}
+use Rattle.told_laws.proofs.nodes.Deeds.{IsSaying, saying, answer_in, IfCreation, IsDeskIn, IsDeedIn, AreDeedsIn, AreDesksIn, low, controller_in}
+use Rattle.told_laws.proofs.nodes.Hosts.{IsCoreIn, own_end, host_in}
+
+-- ## A node at work
+
+-- an end of a controller, or of a host
+pub record IsPortIn (b : Bool) (n : ℕ) (p : Port) : Type 0 where
+  pub desk : IsDeskIn p.desk
+  pub side : SideIn b n p.side
+  pub session : p.session ≤ n
+  pub turns : AreTurnsIn p.turns
+
+abbrev pub ArePortsIn : Bool → ℕ → List Port → Type 0
+ArePortsIn b n ports = AllByRecursion (IsPortIn b n) ports
+
+pub record IsWorkIn (b : Bool) (n : ℕ) (w : Work) : Type 0 where
+  pub core : IsCoreIn w.core
+  pub ports : ArePortsIn b n w.ports
+  pub entries : AreIn n w.entries
+
+pub port_more : (b : Bool) (n k : ℕ) → n ≤ k → (p : Port) → IsPortIn b n p → IsPortIn b k p
+port_more b n k more p h =
+    let s = h.session in record { desk = h.desk; side = side_more b n k p.side more h.side; session = omega (arith, s, more); turns = h.turns }
+
+module _ (b : Bool) (n : ℕ) where
+  map_in : (f : Port → Port) → ((p : Port) → IsPortIn b n p → IsPortIn b n (f p)) → (ports : List Port) → ArePortsIn b n ports → ArePortsIn b n (map f ports)
+  map_in f one [] a = tt
+  map_in f one (p ∷ ports) a = (one p a.0, map_in f one ports a.1)
+
+  changed_in : (c : Bool) (f : Port → Port) (p : Port) → ((q : Port) → IsPortIn b n q → IsPortIn b n (f q)) → IsPortIn b n p
+      → IsPortIn b n (changed_if c f p)
+  changed_in true f p one a = one p a
+  changed_in false f p one a = a
+
+  port_in : (h : ℕ) (f : Port → Port) → ((q : Port) → IsPortIn b n q → IsPortIn b n (f q)) → (ports : List Port) → ArePortsIn b n ports
+      → ArePortsIn b n (with_port h f ports)
+  port_in h f one ports a = map_in (λ (p : Port). changed_if (p.desk.host == h) f p) (λ p is. changed_in (p.desk.host == h) f p one is) ports a
+
+  -- the end of the link with a host is one of them
+  record IsAt (h : ℕ) (p : Port) : Type 0 where
+    is : IsPortIn b n p
+    host : p.desk.host ≡ h
+
+  at_in : (ports : List Port) (h : ℕ) (p : Port) → ArePortsIn b n ports → port_at ports h ≡ Some p → IsAt h p
+  at_in [] h p a q = absurd (cc q)
+  at_in (x ∷ ports) h p a q =
+      cond_both (eqb x.desk.host h) (Some x) (port_at ports h) (λ o. o ≡ Some p → IsAt h p)
+      (λ e z. let same : x ≡ p = cc in subst (IsAt h) same (record { is = a.0; host = eqb-true x.desk.host h e })) (λ _ z. at_in ports h p a.1 z) q
+
+  desks_in : (ports : List Port) → ArePortsIn b n ports → AreDesksIn ports
+  desks_in [] a = tt
+  desks_in (p ∷ ports) a = (a.0.desk, desks_in ports a.1)
+
+  -- ## Turns
+
+  noting_in : (es : List Entry) (w : Work) → AreIn n es → IsWorkIn b n w → IsWorkIn b n (noting es w)
+  noting_in es w is a = record { core = a.core; ports = a.ports; entries = in-append n w.entries es a.entries is }
+
+  desk_in : (h : ℕ) (f : Desk → Desk) (w : Work) → ((d : Desk) → IsDeskIn d → IsDeskIn (f d)) → IsWorkIn b n w → IsWorkIn b n (with_desk h f w)
+  desk_in h f w one a = record {
+    core = a.core;
+    ports = port_in h (λ p. record p { desk = f p.desk })
+        (λ p is. record { desk = one p.desk is.desk; side = is.side; session = is.session; turns = is.turns }) w.ports a.ports;
+    entries = a.entries;
+  }
+
+  given_noted : (who : Side) (session : ℕ) (e : LinkEnd) (m : Message) → session ≤ n → IsMail m → AreNotedIn n (sent_unless (give_refusal e m) who session m)
+  given_noted who session e m few is = go (give_refusal e m)
+    where
+      go : (o : Option Refused) → AreNotedIn n (sent_unless o who session m)
+      go None = ((few, is), tt)
+      go (Some why) = tt
+
+  turn_noted : (who : Side) (session : ℕ) (e : LinkEnd) (t : Turn) → session ≤ n → IsTurnIn t → AreNotedIn n (turn_entry who session e t)
+  turn_noted who session e (Give m) few is = given_noted who session e m few is
+  turn_noted who session e (Hold held) few is = tt
+  turn_noted who session e FetchMessage few is = tt
+  turn_noted who session e SetAside few is = tt
+  turn_noted who session e Release few is = tt
+
+  turn_in : (h : ℕ) (t : Turn) (w : Work) → IsTurnIn t → IsWorkIn b n w → IsWorkIn b n (turn_at h t w)
+  turn_in h t w is a =
+      noting_in (option_map_or (noted_of w.core t) (port_at w.ports h) []) (record w { ports = with_port h (after_turn t) w.ports })
+      (go (port_at w.ports h) refl)
+      (record {
+        core = a.core;
+        ports = port_in h (after_turn t)
+            (λ p q. record {
+              desk = q.desk;
+              side = side_turn b n p.side t is q.side;
+              session = q.session;
+              turns = each-append IsTurnIn p.turns (t ∷ []) q.turns (is, tt);
+            }) w.ports a.ports;
+        entries = a.entries;
+      })
+    where
+      go : (o : Option Port) → port_at w.ports h ≡ o → AreIn n (option_map_or (noted_of w.core t) o [])
+      go None q = tt
+      go (Some p) q =
+          let there = at_in w.ports h p a.ports q in
+          let small = there.is.desk.host in
+          all_entries_in p.desk.host n (omega (arith, small)) (turn_entry (own_side w.core) p.session p.side t)
+          (turn_noted (own_side w.core) p.session p.side t there.is.session is)
+
+  notified_in : (h : ℕ) (about : About) (message : List ℕ) (w : Work) → IsSaying message
+      → IfCreation (creation_in (Some (record { about = about; age = 0 }))) → IsWorkIn b n w → IsWorkIn b n (notified h about message w)
+  notified_in h about message w spoken creation a =
+      desk_in h (λ d. record d { notice = Some (record { about = about; age = 0 }) }) (turn_at h (Give (1, message)) w)
+      (λ d is. record { host = is.host; creation = creation; errors = is.errors }) (turn_in h (Give (1, message)) w (saying 1 message low spoken) a)
+
+  -- ## Deeds
+
+  node_byte : (w : Work) → IsWorkIn b n w → w.core.node < 256
+  node_byte w a = let small = a.core.node in omega (arith, small)
+
+  commit_in : (c : Command) (w : Work) → IsCommandIn c → IsWorkIn b n w → IsWorkIn b n (commit c w)
+  commit_in c w is a = go (fails_within (length (commit_writes w.core.journal w.core.tables (body_of c))) w.plan) refl
+    where
+      begun : AreIn n (w.entries ++ entry.Command w.core.node c ∷ [])
+      begun = in-append n w.entries (entry.Command w.core.node c ∷ []) a.entries ((node_byte w a, is.said, is.short), tt)
+
+      go : (x : Bool) → fails_within (length (commit_writes w.core.journal w.core.tables (body_of c))) w.plan ≡ x → IsWorkIn b n (commit c w)
+      go true q =
+          rw q (record {
+            core = a.core;
+            ports = a.ports;
+            entries = in-append n (w.entries ++ entry.Command w.core.node c ∷ []) (entry.Cut w.core.node ∷ []) begun (node_byte w a, tt);
+          })
+      go false q =
+          rw q (record {
+            core = record {
+              node = a.core.node;
+              tables = applied_in c w.core.tables is.said is.short a.core.tables;
+              rows = rows_applied c w.core.tables is.made a.core.rows;
+              command = a.core.command;
+              init = a.core.init;
+            };
+            ports = a.ports;
+            entries = begun;
+          })
+
+  -- deeds are done at an end of the node
+  abbrev IsHostNumber : ℕ → Type 0
+  IsHostNumber h = h ≤ 7
+
+  done_in : (h : ℕ) (d : Deed) (w : Work) → IsHostNumber h × IsDeedIn d → IsWorkIn b n w → IsWorkIn b n (done h d w)
+  done_in h (Commits c) w f a = commit_in c w f.1 a
+  done_in h (Sends to m) w f a = turn_in to (Give m) w f.1 a
+  done_in h SaysOk w f a = noting_in _ w (node_byte w a, tt) a
+  done_in h (Asks to message c) w f a =
+      let aside : IsWorkIn b n (turn_at c.asker SetAside w) = turn_in c.asker SetAside w tt a in
+      let octets = each_all IsByte message f.1.1.bytes in
+      notified_in to (Waits c) message (noting (entry.Ask to message ∷ []) (turn_at c.asker SetAside w)) f.1.1 f.1.2
+      (noting_in (entry.Ask to message ∷ []) (turn_at c.asker SetAside w) ((f.1.0, (f.1.1.some, octets)), tt) aside)
+  done_in h (Releases asker) w f a = turn_in asker Release w tt a
+  done_in h (Tells to message) w f a = notified_in to Removed message w f.1 tt a
+  done_in h IsAnswered w f a =
+      desk_in h (λ d. record d { notice = None }) w (λ d is. record { host = is.host; creation = tt; errors = is.errors }) a
+  done_in h (Drops pid) w f a = noting_in _ w ((own_end w.core h f.0, f.1), tt) a
+  done_in h (SetsErrors errors) w f a =
+      desk_in h (λ d. record d { errors = errors }) w (λ d is. record { host = is.host; creation = is.creation; errors = f.1 }) a
+  done_in h (Orders message) w f a =
+      turn_in h (Give (1, message)) (record w { core = record w.core { command = Some message } }) (saying 1 message low f.1)
+      (record {
+        core = record { node = a.core.node; tables = a.core.tables; rows = a.core.rows; command = f.1.bytes; init = a.core.init };
+        ports = a.ports;
+        entries = a.entries;
+      })
+  done_in h Hears w f a = record {
+    core = record { node = a.core.node; tables = a.core.tables; rows = a.core.rows; command = tt; init = a.core.init };
+    ports = a.ports;
+    entries = a.entries;
+  }
+  done_in h (GoesOn i) w f a = record {
+    core = record { node = a.core.node; tables = a.core.tables; rows = a.core.rows; command = a.core.command; init = f.1 };
+    ports = a.ports;
+    entries = a.entries;
+  }
+  done_in h (Ends e) w f a =
+      noting_in (e ∷ []) (record w { core = record w.core { init = None } }) (f.1 n, tt)
+      (record {
+        core = record { node = a.core.node; tables = a.core.tables; rows = a.core.rows; command = a.core.command; init = tt };
+        ports = a.ports;
+        entries = a.entries;
+      })
+
+  -- ## Room
+
+  -- a need is at most 200 blocks
+  abbrev AreFewNeeds : List (ℕ × ℕ) → Type 0
+  AreFewNeeds needs = AllByRecursion (λ (x : ℕ × ℕ). x.1 ≤ 200) needs
+
+  need_few : (message : List ℕ) → length message ≤ 4096 → need message ≤ 200
+  need_few message few = omega (arith, few)
+
+  needs_few : (h : ℕ) (deeds : List Deed) → AreDeedsIn deeds → AreFewNeeds (needs h deeds)
+  needs_few h [] is = tt
+  needs_few h (Sends to m ∷ deeds) is = (need_few m.1 is.0.short, needs_few h deeds is.1)
+  needs_few h (Asks to message c ∷ deeds) is = (omega arith, (need_few message is.0.1.short, needs_few h deeds is.1))
+  needs_few h (Tells to message ∷ deeds) is = (need_few message is.0.short, needs_few h deeds is.1)
+  needs_few h (Orders message ∷ deeds) is = (need_few message is.0.short, needs_few h deeds is.1)
+  needs_few h (Commits c ∷ deeds) is = needs_few h deeds is.1
+  needs_few h (SaysOk ∷ deeds) is = needs_few h deeds is.1
+  needs_few h (Releases asker ∷ deeds) is = needs_few h deeds is.1
+  needs_few h (IsAnswered ∷ deeds) is = needs_few h deeds is.1
+  needs_few h (Drops pid ∷ deeds) is = needs_few h deeds is.1
+  needs_few h (SetsErrors errors ∷ deeds) is = needs_few h deeds is.1
+  needs_few h (Hears ∷ deeds) is = needs_few h deeds is.1
+  needs_few h (GoesOn i ∷ deeds) is = needs_few h deeds is.1
+  needs_few h (Ends e ∷ deeds) is = needs_few h deeds is.1
+
+  abbrev IfLack : Option (ℕ × ℕ) → Type 0
+  IfLack None = Unit {0}
+  IfLack (Some short) = (short.0 ≤ 200) × (short.1 ≤ 200)
+
+  spare_few : (o : Option Port) → option_map_or (λ (p : Port). spare p.side) o 0 ≤ 200
+  spare_few None = omega arith
+  spare_few (Some p) = omega arith
+
+  lack_few : (ports : List Port) (xs : List (ℕ × ℕ)) → AreFewNeeds xs → IfLack (lack ports xs)
+  lack_few ports [] is = tt
+  lack_few ports (x ∷ xs) is =
+      cond_both (nat_lt (option_map_or (λ (p : Port). spare p.side) (port_at ports x.0) 0) x.1)
+      (Some (x.1, option_map_or (λ (p : Port). spare p.side) (port_at ports x.0) 0)) (lack ports xs) IfLack
+      (λ _. (is.0, spare_few (port_at ports x.0))) (λ _. lack_few ports xs is.1)
+
+  -- ## The pass
+
+  abbrev J : Work → Type 0
+  J w = IsWorkIn b n w
+
+  abbrev May : Deed → Type 0
+  May d = IsDeedIn d
+
+  held_in : (h : ℕ) (flag : Bool) (w : Work) → J w → J (turn_at h (Hold flag) w)
+  held_in h flag w a = turn_in h (Hold flag) w tt a
+
+  marked_in : (h : ℕ) (flag : Bool) (w : Work) → J w → J (with_desk h (λ d. record d { holds = flag }) w)
+  marked_in h flag w a = desk_in h (λ d. record d { holds = flag }) w (λ d is. record { host = is.host; creation = is.creation; errors = is.errors }) a
+
+  all_deeds_in : (h : ℕ) (deeds : List Deed) (w : Work) → IsHostNumber h → AreDeedsIn deeds → J w → J (all_done h deeds w)
+  all_deeds_in h [] w small is a = a
+  all_deeds_in h (d ∷ deeds) w small is a =
+      unless J (all_done h deeds) (done h d w) (λ v c. all_deeds_in h deeds v small is.1 c) (done_in h d w (small, is.0) a)
+
+  handled_in : (h : ℕ) (m : Message) (deeds : List Deed) (w : Work) → IsHostNumber h → IsMail m → AreDeedsIn deeds → J w → J (handles h m deeds w)
+  handled_in h m deeds w small mail is a =
+      let upto = mail.pipe in
+      let octets = each_all IsByte m.1 mail.bytes in
+      let told : Work = noting (entry.Turn (end_of_node w.core h) m.0 m.1 ∷ []) w in
+      let fetched : Work = turn_at h FetchMessage told in
+      all_deeds_in h deeds (with_desk h (λ d. record d { holds = false }) fetched) small is
+      (marked_in h false fetched (turn_in h FetchMessage told tt
+      (noting_in _ w ((own_end w.core h small, omega (arith, upto), (mail.some, octets)), tt) a)))
+
+  held_back_in : (h : ℕ) (short : ℕ × ℕ) (w : Work) → IsHostNumber h → IfLack (Some short) → J w → J (holds_back h short w)
+  held_back_in h short w small few a = go (option_map_or (λ (p : Port). p.desk.holds) (port_at w.ports h) false) where
+    noted : Work
+    noted = noting (entry.Held (end_of_node w.core h) short.0 short.1 ∷ []) w
+
+    by : Bool → Work
+    by true = turn_at h (Hold true) w
+    by false = turn_at h (Hold true) (with_desk h (λ d. record d { holds = true }) noted)
+
+    noted_in : J noted
+    noted_in = let one = few.0 in let two = few.1 in
+        noting_in _ w ((own_end w.core h small, omega (arith, one), omega (arith, two)), tt) a
+
+    go : (c : Bool) → J (by c)
+    go true = held_in h true w a
+    go false = held_in h true (with_desk h (λ d. record d { holds = true }) noted) (marked_in h true noted noted_in)
+
+  deeds_in : (w : Work) (h : ℕ) (m : Message) → IsHostNumber h → IsMail m → J w → AreDeedsIn (deeds_of w.core w.ports h m)
+  deeds_in w h m small mail a = go (eqb w.core.node 0) (port_at w.ports h) refl refl
+    where
+      go : (c : Bool) (o : Option Port) → eqb w.core.node 0 ≡ c → port_at w.ports h ≡ o → AreDeedsIn (deeds_of w.core w.ports h m)
+      go true o q r = rw q (controller_in w.core w.ports h m a.core.tables a.core.rows (desks_in w.ports a.ports) small mail)
+      go false None q r = rw (q, r) tt
+      go false (Some p) q r = rw (q, r) (host_in w.core a.core p m (at_in w.ports h p a.ports r).is.desk mail)
+
+  lets_in : (h : ℕ) (w : Work) → J w → J (lets_go h w)
+  lets_in h w a = lets J held_in h w a
+
+  having_in : (h : ℕ) (messages : List Message) (w : Work) → IsHostNumber h → AreMail messages → J w → J (have_turns h messages w)
+  having_in h [] w small mail a = lets_in h w a
+  having_in h (m ∷ messages) w small mail a = go (lack w.ports (needs h deeds)) (lack_few w.ports (needs h deeds) (needs_few h deeds are))
+      (λ v c. having_in h messages v small mail.1 c) where
+        deeds : List Deed
+        deeds = deeds_of w.core w.ports h m
+
+        are : AreDeedsIn deeds
+        are = deeds_in w h m small mail.0 a
+
+        by : Option (ℕ × ℕ) → Work
+        by None = unless_cut (have_turns h messages) (handles h m deeds w)
+        by (Some short) = holds_back h short w
+
+        go : (o : Option (ℕ × ℕ)) → IfLack o → ((v : Work) → J v → J (have_turns h messages v)) → J (by o)
+        go None few later = unless J (have_turns h messages) (handles h m deeds w) later (handled_in h m deeds w small mail.0 are a)
+        go (Some short) few later = held_back_in h short w small few a
+
+  come_in : (h : ℕ) (w : Work) → J w → AreMail (got_at h w)
+  come_in h w a = go (port_at w.ports h) refl
+    where
+      go : (o : Option Port) → port_at w.ports h ≡ o → AreMail (option_map_or (λ (p : Port). p.side.got) o [])
+      go None q = tt
+      go (Some p) q = (at_in w.ports h p a.ports q).is.side.got
+
+  going_in : (hosts : List ℕ) (w : Work) → AllByRecursion IsHostNumber hosts → J w → J (goes_through_ends hosts w)
+  going_in [] w small a = a
+  going_in (h ∷ hosts) w small a =
+      unless J (goes_through_ends hosts) (have_turns h (got_at h w) w) (λ v c. going_in hosts v small.1 c)
+      (having_in h (got_at h w) w small.0 (come_in h w a) a)
+
+  hosts_of : (ports : List Port) → ArePortsIn b n ports → AllByRecursion IsHostNumber (map (λ (p : Port). p.desk.host) ports)
+  hosts_of [] a = tt
+  hosts_of (p ∷ ports) a = (a.0.desk.host, hosts_of ports a.1)
+
+  passes_in : (w : Work) → J w → J (passes w)
+  passes_in w a = going_in (map (λ (p : Port). p.desk.host) w.ports) w (hosts_of w.ports a.ports) a
+
+  rest_in : (freed syncs owing : List Deed) (w : Work) → AreDeedsIn freed → AreDeedsIn syncs → AreDeedsIn owing → J w
+      → J (answers_and_passes freed syncs owing w)
+  rest_in freed syncs owing w f s o a =
+      let none : IsHostNumber 0 = omega arith in
+      unless J passes (unless_cut (all_done 0 owing) (all_done 0 syncs (all_done 0 freed w))) (λ v c. passes_in v c)
+      (unless J (all_done 0 owing) (all_done 0 syncs (all_done 0 freed w)) (λ v c. all_deeds_in 0 owing v none o c)
+      (all_deeds_in 0 syncs (all_done 0 freed w) none s (all_deeds_in 0 freed w none f a)))
+
+  -- ## What comes
+
+  older_in : (p : Port) → IsPortIn b n p → IsPortIn b n (with_older p)
+  older_in p a = record { desk = go p.desk.notice refl; side = a.side; session = a.session; turns = a.turns }
+    where
+      aged : (x : Notice) → IfCreation (creation_in (Some x)) → IfCreation (creation_in (Some (older_notice x)))
+      aged x h = by x.about refl
+        where
+          by : (about : About) → x.about ≡ about → IfCreation (creation_in (Some (older_notice x)))
+          by (Waits c) q = rw q (rw q at h)
+          by Forgotten q = rw q tt
+          by Removed q = rw q tt
+
+      go : (o : Option Notice) → p.desk.notice ≡ o → IsDeskIn (with_older p).desk
+      go None q = record { host = a.desk.host; creation = rw q tt; errors = a.desk.errors }
+      go (Some x) q = let d = a.desk.creation in record { host = a.desk.host; creation = rw q (aged x (rw q at d)); errors = a.desk.errors }
+
+  late_in : (p : Port) → IsPortIn b n p → IsPortIn b n (reset_late p)
+  late_in p a =
+      cond_both (is_late p) _ p (IsPortIn b n)
+      (λ _. record { desk = a.desk; side = side_reset_at b n p.side a.side; session = a.session; turns = a.turns }) (λ _. a)
+
+  -- a reset is told
+  told_late_in : (core : Core) (p : Port) → IsPortIn b n p → AreIn n (told_late core p)
+  told_late_in core p a =
+      cond_both (is_late p) (told_at core p (Some (Reset None))) [] (AreIn n)
+      (λ _. let small = a.desk.host in
+      all_entries_in p.desk.host n (omega (arith, small))
+      (told (own_side core) p.session (report p.side (Reset None)) (whole_acked (after_input p.side (Reset None))))
+      (told_in_range n (own_side core) p.session (report p.side (Reset None)) (whole_acked (after_input p.side (Reset None))) a.session
+      (acked_in b n (after_input p.side (Reset None)) (side_reset_at b n p.side a.side)) (report_in b n p.side (Reset None) tt a.side)))
+      (λ _. tt)
+
+  all_late_in : (core : Core) (ports : List Port) → ArePortsIn b n ports → AreIn n (flat_map (told_late core) ports)
+  all_late_in core [] a = tt
+  all_late_in core (p ∷ ports) a = in-append n (told_late core p) (flat_map (told_late core) ports) (told_late_in core p a.0) (all_late_in core ports a.1)
+
+  time_in : (input : NodeInput) (w : Work) → J w → J (times_out input w)
+  time_in (AtEnd h i) w a = a
+  time_in TimePasses w a =
+      let ports : List Port = map with_older w.ports in
+      let old : ArePortsIn b n ports = map_in with_older older_in w.ports a.ports in
+      noting_in (flat_map (told_late w.core) ports) (record w { ports = map reset_late ports }) (all_late_in w.core ports old)
+      (record { core = a.core; ports = map_in reset_late late_in ports old; entries = a.entries })
+
+  without_in : (p : Port) → IsPortIn b n p → IsPortIn b n (without_notice p)
+  without_in p a =
+      cond_both (is_over p) _ p (IsPortIn b n)
+      (λ _. record {
+        desk = record { host = a.desk.host; creation = tt; errors = a.desk.errors };
+        side = a.side;
+        session = a.session;
+        turns = a.turns;
+      }) (λ _. a)
+
+  forgets_in : (ports : List Port) (p : Port) → IsPortIn b n p → IsPortIn b n (forgets ports p)
+  forgets_in ports p a = go (is_forgotten ports (asked_at p)) p.desk.notice refl refl
+    where
+      go : (c : Bool) (o : Option Notice) → is_forgotten ports (asked_at p) ≡ c → p.desk.notice ≡ o → IsPortIn b n (forgets ports p)
+      go true None q r =
+          rw (q, r) (record {
+            desk = record { host = a.desk.host; creation = tt; errors = a.desk.errors };
+            side = a.side;
+            session = a.session;
+            turns = a.turns;
+          })
+      go true (Some x) q r =
+          rw (q, r) (record {
+            desk = record { host = a.desk.host; creation = tt; errors = a.desk.errors };
+            side = a.side;
+            session = a.session;
+            turns = a.turns;
+          })
+      go false o q r = rw q a
+
+  after_in : (core : Core) (ports : List Port) → IsCoreIn core → IsCoreIn (after_sessions core ports)
+  after_in core ports a =
+      cond_both (list_any is_over ports) _ core IsCoreIn
+      (λ _. record { node = a.node; tables = a.tables; rows = a.rows; command = tt; init = tt }) (λ _. a)
+
+-- ## Steps
+
+abbrev pub IsNodeInputIn : Bool → NodeInput → Type 0
+IsNodeInputIn b (AtEnd h i) = IsInputIn b i
+IsNodeInputIn b TimePasses = Unit {0}
+
+abbrev IfInput : Bool → Option LinkInput → Type 0
+IfInput b None = Unit {0}
+IfInput b (Some i) = IsInputIn b i
+
+if_input : (b : Bool) (input : NodeInput) (p : Port) → IsNodeInputIn b input → IfInput b (input_at input p)
+if_input b (AtEnd h i) p is = cond_both (p.desk.host == h) (Some i) None (IfInput b) (λ _. is) (λ _. tt)
+if_input b TimePasses p is = tt
+
+module _ (b : Bool) (n : ℕ) where
+  come_port : (p : Port) (o : Option LinkInput) → IfInput b o → IsPortIn b n p → IsPortIn b (n + 8) (has_come p o)
+  come_port p None is a = port_more b n (n + 8) (omega arith) p a
+  come_port p (Some i) is a =
+      let s = a.session in
+      record { desk = a.desk; side = side_input b n p.side i is a.side; session = omega (arith, s); turns = a.turns }
+
+  told_port : (core : Core) (p : Port) (o : Option LinkInput) → IfInput b o → IsPortIn b n p → AreIn (n + 8) (told_at core p o)
+  told_port core p None is a = tt
+  told_port core p (Some i) is a =
+      let small = a.desk.host in
+      let s = a.session in
+      all_entries_in p.desk.host (n + 8) (omega (arith, small)) (told (own_side core) p.session (report p.side i) (whole_acked (after_input p.side i)))
+      (told_in_range (n + 8) (own_side core) p.session (report p.side i) (whole_acked (after_input p.side i)) (omega (arith, s))
+      (acked_in b (n + 8) (after_input p.side i) (side_input b n p.side i is a.side)) (report_in b n p.side i is a.side))
+
+  come_ports : (input : NodeInput) (ports : List Port) → IsNodeInputIn b input → ArePortsIn b n ports
+      → ArePortsIn b (n + 8) (map (λ p. has_come p (input_at input p)) ports)
+  come_ports input [] is a = tt
+  come_ports input (p ∷ ports) is a = (come_port p (input_at input p) (if_input b input p is) a.0, come_ports input ports is a.1)
+
+  told_ports : (input : NodeInput) (core : Core) (ports : List Port) → IsNodeInputIn b input → ArePortsIn b n ports
+      → AreIn (n + 8) (flat_map (λ p. told_at core p (input_at input p)) ports)
+  told_ports input core [] is a = tt
+  told_ports input core (p ∷ ports) is a =
+      in-append (n + 8) (told_at core p (input_at input p)) (flat_map (λ p. told_at core p (input_at input p)) ports)
+      (told_port core p (input_at input p) (if_input b input p is) a.0) (told_ports input core ports is a.1)
+
+  all_come_in : (input : NodeInput) (w : Work) → IsNodeInputIn b input → IsWorkIn b n w → IsWorkIn b (n + 8) (all_come input w)
+  all_come_in input w is a =
+      noting_in b (n + 8) (flat_map (λ p. told_at w.core p (input_at input p)) w.ports)
+      (record w { ports = map (λ p. has_come p (input_at input p)) w.ports }) (told_ports input w.core w.ports is a.ports)
+      (record { core = a.core; ports = come_ports input w.ports is a.ports; entries = all_in_more n (n + 8) w.entries (omega arith) a.entries })
+
+  sync_in : (core : Core) (input : NodeInput) (p : Port) → IsNodeInputIn b input → IsPortIn b n p → AreDeedsIn (synced core input p)
+  sync_in core input p is a = go (input_at input p) (if_input b input p is) refl
+    where
+      go : (o : Option LinkInput) → IfInput b o → input_at input p ≡ o → AreDeedsIn (synced core input p)
+      go None may q = rw q tt
+      go (Some i) may q = by (report p.side i).sync (report_in b n p.side i may a.side).sync refl where
+        by : (o : Option ℕ) → IfSync o → (report p.side i).sync ≡ o → AreDeedsIn (synced core input p)
+        by None id_in e = rw (q, e) tt
+        by (Some id) id_in e =
+            let small = a.desk.host in
+            rw (q, e) (cond_both _ (Commits (Sync p.desk.host id) ∷ []) [] AreDeedsIn
+            (λ _. (record { said = (omega (arith, small), id_in); short = tt; made = tt }, tt)) (λ _. tt))
+
+  syncs_in : (core : Core) (input : NodeInput) (ports : List Port) → IsNodeInputIn b input → ArePortsIn b n ports
+      → AreDeedsIn (flat_map (synced core input) ports)
+  syncs_in core input [] is a = tt
+  syncs_in core input (p ∷ ports) is a =
+      each-append IsDeedIn (synced core input p) (flat_map (synced core input) ports) (sync_in core input p is a.0) (syncs_in core input ports is a.1)
+
+  -- a step of a node keeps all in its range
+  pub steps_in : (input : NodeInput) (w : Work) → IsNodeInputIn b input → IsWorkIn b n w → IsWorkIn b (n + 8) (steps input w)
+  steps_in input w is a =
+      let came : Work = times_out input (all_come input w) in
+      let now : IsWorkIn b (n + 8) came = time_in b (n + 8) input (all_come input w) (all_come_in input w is a) in
+      let left : List Port = map (forgets came.ports) came.ports in
+      let begun : Work = record came { core = after_sessions came.core came.ports; ports = map without_notice left } in
+      rest_in b (n + 8) (forgotten came.ports) (flat_map (synced w.core input) w.ports) (all_owed left) begun (forgotten_hold IsDeedIn (λ asker. tt) came.ports)
+      (syncs_in w.core input w.ports is a.ports)
+      (all_owed_hold IsDeedIn (λ asker. tt) (λ to r. saying 1 (answer_of r []) low (answer_in r [] tt (omega arith))) left)
+      (record {
+        core = after_in b (n + 8) came.core came.ports now.core;
+        ports = map_in b (n + 8) without_notice (without_in b (n + 8)) left
+            (map_in b (n + 8) (forgets came.ports) (forgets_in b (n + 8) came.ports) came.ports now.ports);
+        entries = now.entries;
+      })
+
+  -- deeds that begin a step
+  pub begins_in : (h : ℕ) (deeds : List Deed) (w : Work) → h ≤ 7 → AreDeedsIn deeds → IsWorkIn b n w → IsWorkIn b n (all_done h deeds w)
+  begins_in h deeds w small is a = all_deeds_in b n h deeds w small is a

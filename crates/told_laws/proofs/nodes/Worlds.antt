@@ -1,0 +1,375 @@
+-- A world of nodes, whatever happens to it: its links and nodes, and what is noted, are in their ranges.
+use Rattle.std.proofs.Common.{◌≡◌, ℕ, ◌+◌, ◌≤◌, ◌==◌, Bool, true, false, eqb, nat_lt, List, [], ◌∷◌, ◌++◌, length, map, refl, subst, arith}
+use Rattle.std.proofs.Common.{Option, Some, None, drop}
+use Rattle.std.specs.List.{AllByRecursion, flat_map}
+use Rattle.std.specs.Option.{option_map_or}
+use Rattle.std.proofs.lemmas.Bool.{cond_both, eqb-true}
+use Rattle.swp_base.specs.InMemory.{Plan}
+use Rattle.swp_base.specs.declared.control_frames.Control.{Control}
+use Rattle.trace_model.specs.declared.entry.Entry.{Entry}
+use Rattle.pipe_table.specs.PipeRows.{ArePipeRows}
+use Rattle.link_laws.specs.sessions.Sessions.{OnWire, is_rset, fits, took_with}
+use Rattle.link_machine.specs.Machine.{LinkEnd, LinkInput, frames_out}
+use Rattle.link_machine.specs.Machine.LinkInput.{Take, Reset, Start, Stop}
+use Rattle.link_machine.specs.Machine.Role.{Bare}
+use Rattle.link_entries.specs.messages.Links.{NumberedEnd, Link, Ending, Comes, new_link, number_of, exchanged}
+use Rattle.link_entries.specs.messages.Links.{happens_at_controller, put}
+use Rattle.link_entries.specs.messages.Links.Ending.{GoesOut, CutOff}
+use Rattle.link_entries.specs.messages.Links.Comes.{NextFrame, AsksReset, Starts, Stops, NoInput}
+use Rattle.link_entries.specs.messages.Links.Loss.{TooMany}
+use Rattle.link_entries.specs.messages.Links.EndEvent.{Step}
+use Rattle.link_entries.specs.entries.Entries.{End as Side, Entry as Noted, ending_entries, puts_entries, pushed_out, put_entries, wire_with, far, first_lost}
+use Rattle.link_entries.specs.entries.Entries.End.{Controller, Host}
+use Rattle.link_entries.specs.entries.Entries.Entry.{Took}
+use Rattle.history.specs.Steps.{entries_for}
+use Rattle.registry.proofs.ValueLemmas.{AllByRecursion-append as each-append}
+use Rattle.node_machine.specs.Parts.{Desk, Running, Port, Work}
+use Rattle.node_machine.specs.Carrying.{changed_if, port_at}
+use Rattle.node_machine.specs.world.World.{Site, NodeWorld, site_at, with_site, link_to, ending_of, runs_on, turns_at, input_of, near_end_in, arrival}
+use Rattle.node_machine.specs.world.World.{wires_for, port_for, work_of, frames_noted, comes_to, controller_work, link_after_controller, after_controller}
+use Rattle.node_machine.specs.world.World.{controller_does, host_work, after_host, host_does}
+use Rattle.node_machine.proofs.world.Cases.{by_controller, by_host}
+use Rattle.told_laws.proofs.Links.{took_low}
+use Rattle.told_laws.proofs.Wires.{FrameIs, WireIs, drop_each}
+use Rattle.told_laws.proofs.nodes.Sides.{IsLineFrame}
+use Rattle.told_laws.proofs.nodes.Machines.{SideIn, AreTurnsIn, IsInputIn, AreFramesIn, out_in}
+use Rattle.told_laws.proofs.nodes.Ranges.{IsNotedIn, AreIn, in-append, all_in_more, AreNotedIn, all_entries_in, first_lost_in}
+use Rattle.told_laws.proofs.nodes.Linking.{NumberedIn, LinkIn, ComesIn, link_in_more, link_exchanged, link_steps}
+use Rattle.told_laws.proofs.nodes.Linking.{no_link_in}
+use Rattle.told_laws.proofs.nodes.Commands.{AreTablesIn}
+use Rattle.told_laws.proofs.nodes.Deeds.{IsDeskIn}
+use Rattle.told_laws.proofs.nodes.Hosts.{IfBytes, IfInit}
+use Rattle.told_laws.proofs.nodes.Works.{port_more, IsPortIn, ArePortsIn, IsWorkIn}
+
+-- ## What is kept
+
+-- a node that runs, but for its tables
+pub record IsNodeIn (r : Running) : Type 0 where
+  pub number : r.core.node ≤ 7
+  pub command : IfBytes r.core.command
+  pub init : IfInit r.core.init
+  pub desks : AllByRecursion IsDeskIn r.desks
+
+abbrev pub IfNodeIn : Option Running → Type 0
+IfNodeIn None = Unit {0}
+IfNodeIn (Some r) = IsNodeIn r
+
+pub record IsSiteIn (n : ℕ) (s : Site) : Type 0 where
+  pub host : s.host ≤ 7
+  pub link : LinkIn false true n s.link
+  pub node : IfNodeIn s.node
+
+pub record IsWorldIn (n : ℕ) (w : NodeWorld) : Type 0 where
+  pub sites : AllByRecursion (IsSiteIn n) w.sites
+  pub controller : IfNodeIn w.controller
+
+-- the tables of a node that runs
+pub record HasTables (r : Running) : Type 0 where
+  pub tables : AreTablesIn r.core.tables
+  pub rows : ArePipeRows r.core.tables.rows
+
+abbrev pub IfTables : Option Running → Type 0
+IfTables None = Unit {0}
+IfTables (Some r) = HasTables r
+
+abbrev pub SitesHave : List Site → Type 0
+SitesHave sites = AllByRecursion (λ (s : Site). IfTables s.node) sites
+
+-- ## Bounds
+
+pub work_more : (b : Bool) (n k : ℕ) → n ≤ k → (w : Work) → IsWorkIn b n w → IsWorkIn b k w
+work_more b n k more w a = record { core = a.core; ports = ports_more w.ports a.ports; entries = all_in_more n k w.entries more a.entries }
+  where
+    ports_more : (ports : List Port) → ArePortsIn b n ports → ArePortsIn b k ports
+    ports_more [] h = tt
+    ports_more (p ∷ ports) h = (port_more b n k more p h.0, ports_more ports h.1)
+
+-- ## Lists
+
+site_in_more : (n k : ℕ) → n ≤ k → (s : Site) → IsSiteIn n s → IsSiteIn k s
+site_in_more n k more s h = record { host = h.host; link = link_in_more false true n k s.link more h.link; node = h.node }
+
+pub sites_more : (n k : ℕ) → n ≤ k → (sites : List Site) → AllByRecursion (IsSiteIn n) sites → AllByRecursion (IsSiteIn k) sites
+sites_more n k more [] h = tt
+sites_more n k more (s ∷ sites) h = (site_in_more n k more s h.0, sites_more n k more sites h.1)
+
+pub world_more : (n k : ℕ) (w : NodeWorld) → n ≤ k → IsWorldIn n w → IsWorldIn k w
+world_more n k w more h = record { sites = sites_more n k more w.sites h.sites; controller = h.controller }
+
+pub sites_map : (n k : ℕ) (f : Site → Site) → ((s : Site) → IsSiteIn n s → IsSiteIn k (f s)) → (sites : List Site) → AllByRecursion (IsSiteIn n) sites
+    → AllByRecursion (IsSiteIn k) (map f sites)
+sites_map n k f one [] a = tt
+sites_map n k f one (s ∷ sites) a = (one s a.0, sites_map n k f one sites a.1)
+
+pub site_changed : (n k : ℕ) → n ≤ k → (h : ℕ) (f : Site → Site) → ((s : Site) → IsSiteIn n s → IsSiteIn k (f s)) → (sites : List Site)
+    → AllByRecursion (IsSiteIn n) sites → AllByRecursion (IsSiteIn k) (with_site h f sites)
+site_changed n k more h f one sites a =
+    sites_map n k (λ (s : Site). changed_if (s.host == h) f s) (λ s is. go (s.host == h) s is) sites a
+  where
+    go : (b : Bool) (s : Site) → IsSiteIn n s → IsSiteIn k (changed_if b f s)
+    go true s is = one s is
+    go false s is = site_in_more n k more s is
+
+site_found : (P : Site → Type 0) (sites : List Site) (h : ℕ) (s : Site) → AllByRecursion P sites → site_at sites h ≡ Some s → P s
+site_found P [] h s a q = absurd (cc q)
+site_found P (x ∷ sites) h s a q =
+    cond_both (eqb x.host h) (Some x) (site_at sites h) (λ o. o ≡ Some s → P s) (λ _ z. let same : x ≡ s = cc in subst P same a.0)
+    (λ _ z. site_found P sites h s a.1 z) q
+
+pub link_there : (n : ℕ) (sites : List Site) (h : ℕ) → AllByRecursion (IsSiteIn n) sites → LinkIn false true n (link_to sites h)
+link_there n sites h a = go (site_at sites h) refl
+  where
+    go : (o : Option Site) → site_at sites h ≡ o → LinkIn false true n (option_map_or (λ (s : Site). s.link) o (new_link Bare Bare))
+    go None q = link_in_more false true 0 n (new_link Bare Bare) (omega arith) (no_link_in false true)
+    go (Some s) q = (site_found (IsSiteIn n) sites h s a q).link
+
+-- ## Frames
+
+abbrev pub AreOnWire : List OnWire → Type 0
+AreOnWire w = AllByRecursion (λ (x : OnWire). IsLineFrame x.frame) w
+
+pub on_wire : (n : ℕ) (w : List OnWire) → AllByRecursion (FrameIs IsLineFrame n) w → AreOnWire w
+on_wire n [] h = tt
+on_wire n (x ∷ w) h = (h.0.frame, on_wire n w h.1)
+
+fits_on : (w : List OnWire) → AreOnWire w → AreOnWire (fits w)
+fits_on w h = cond_both (nat_lt 64 (length w)) (drop 1 w) w AreOnWire (λ _. drop_each (λ (x : OnWire). IsLineFrame x.frame) 1 w h) (λ _. h)
+
+module _ (n : ℕ) (who : Side) where
+  pushed_in : (w : List OnWire) → AreOnWire w → AreNotedIn n (pushed_out who w)
+  pushed_in w h = cond_both (nat_lt 64 (length w)) (first_lost who TooMany w) [] (AreNotedIn n) (λ _. first_lost_in n who TooMany w h) (λ _. tt)
+
+wire_after : (l : Link) (c : Control) → AreOnWire (wire_with l c) → AreOnWire (put l c).to_host
+wire_after l c h = go (is_rset c) refl
+  where
+    go : (b : Bool) → is_rset c ≡ b → AreOnWire (put l c).to_host
+    go true q = let z : AreOnWire (l.to_host ++ record { frame = c; age = 0; number = l.resets + 1 } ∷ []) = rw q at h in rw q (fits_on _ z)
+    go false q = let z : AreOnWire (l.to_host ++ record { frame = c; age = 0; number = 0 } ∷ []) = rw q at h in rw q (fits_on _ z)
+
+puts_noted : (n : ℕ) (who : Side) (cs : List Control) (l : Link) → AreFramesIn cs → AreOnWire l.to_host → AreNotedIn n (puts_entries who l cs)
+puts_noted n who [] l is h = tt
+puts_noted n who (c ∷ cs) l is h =
+    let more : AreOnWire (wire_with l c) = each-append (λ (x : OnWire). IsLineFrame x.frame) l.to_host _ h (is.0, tt) in
+    each-append (IsNotedIn n) (put_entries who l c) (puts_entries who (put l c) cs)
+    (is.0, pushed_in n (far who) (wire_with l c) more) (puts_noted n who cs (put l c) is.1 (wire_after l c more))
+
+ending_noted : (b : Bool) (n : ℕ) (who : Side) (l : Link) (e : LinkEnd) (ending : Ending) → SideIn b n e → AreOnWire l.to_host
+    → AreNotedIn n (ending_entries who l e ending)
+ending_noted b n who l e GoesOut is h = puts_noted n who (frames_out e) l (out_in b n e is) h
+ending_noted b n who l e CutOff is h = (tt, tt)
+
+-- the end of the link with a host is one of them
+port_found : (b : Bool) (n : ℕ) (ports : List Port) (h : ℕ) (p : Port) → ArePortsIn b n ports → port_at ports h ≡ Some p → IsPortIn b n p
+port_found b n [] h p a q = absurd (cc q)
+port_found b n (x ∷ ports) h p a q =
+    cond_both (eqb x.desk.host h) (Some x) (port_at ports h) (λ o. o ≡ Some p → IsPortIn b n p)
+    (λ _ z. let same : x ≡ p = cc in subst (IsPortIn b n) same a.0) (λ _ z. port_found b n ports h p a.1 z) q
+
+module _ (b : Bool) (n : ℕ) (k : Work) (a : IsWorkIn b n k) where
+  pub noted_frames : (who : Side) (h : ℕ) (l : Link) → h ≤ 7 → AreOnWire l.to_host → AreIn n (frames_noted who h l k)
+  noted_frames who h l small wire = go (port_at k.ports h) refl
+    where
+      go : (o : Option Port) → port_at k.ports h ≡ o
+          → AreIn n (option_map_or (λ (p : Port). entries_for h (ending_entries who l p.side (ending_of k))) o [])
+      go None q = tt
+      go (Some p) q =
+          all_entries_in h n (omega (arith, small)) (ending_entries who l p.side (ending_of k))
+          (ending_noted b n who l p.side (ending_of k) (port_found b n k.ports h p a.ports q).side wire)
+
+  pub turns_of : (h : ℕ) → AreTurnsIn (turns_at k h)
+  turns_of h = go (port_at k.ports h) refl
+    where
+      go : (o : Option Port) → port_at k.ports h ≡ o → AreTurnsIn (option_map_or (λ (p : Port). p.turns) o [])
+      go None q = tt
+      go (Some p) q = (port_found b n k.ports h p a.ports q).turns
+
+  desks_of : (ports : List Port) → ArePortsIn b n ports → AllByRecursion IsDeskIn (map (λ (p : Port). p.desk) ports)
+  desks_of [] h = tt
+  desks_of (p ∷ ports) h = (h.0.desk, desks_of ports h.1)
+
+  pub still_runs : IfNodeIn (runs_on k)
+  still_runs = cond_both k.cut None (Some (record { core = k.core; desks = map (λ (p : Port). p.desk) k.ports })) IfNodeIn (λ _. tt)
+      (λ _. record { number = a.core.node; command = a.core.command; init = a.core.init; desks = desks_of k.ports a.ports })
+
+-- ## Steps of a node
+
+-- what is known of the near ends of links
+number_low : (b : Bool) (n : ℕ) (h : NumberedEnd) → NumberedIn b n h → number_of h ≤ n
+number_low b n h is = let e = is.emitted in let t = is.took in omega (arith, e, t)
+
+near_in : (b c : Bool) (n : ℕ) (l : Link) (comes : Comes) → LinkIn b c n l → NumberedIn b n (near_end_in l comes)
+near_in b c n l NextFrame h = go l.to_controller refl
+  where
+    by : List OnWire → NumberedEnd
+    by [] = l.controller
+    by (x ∷ xs) = record l.controller { took = took_with l.controller.took x }
+
+    go : (w : List OnWire) → l.to_controller ≡ w → NumberedIn b n (by w)
+    go [] q = h.near
+    go (x ∷ xs) q =
+        let wire : WireIs IsLineFrame n (x ∷ xs) = subst (WireIs IsLineFrame n) q h.to_near in
+        record {
+          side = h.near.side;
+          calm = h.near.calm;
+          emitted = h.near.emitted;
+          took = took_low n l.controller.took x h.near.took wire.frames.0.number;
+        }
+near_in b c n l (AsksReset window) h = h.near
+near_in b c n l (Starts value) h = h.near
+near_in b c n l Stops h = h.near
+near_in b c n l NoInput h = h.near
+
+arrives_in : (b c : Bool) (n : ℕ) (who : Side) (l : Link) (comes : Comes) → LinkIn b c n l → AreNotedIn n (arrival who l comes)
+arrives_in b c n who l NextFrame h = go l.to_controller refl
+  where
+    by : List OnWire → List Noted
+    by [] = []
+    by (x ∷ xs) = Took who x.frame ∷ []
+
+    go : (w : List OnWire) → l.to_controller ≡ w → AreNotedIn n (by w)
+    go [] q = tt
+    go (x ∷ xs) q = let wire : WireIs IsLineFrame n (x ∷ xs) = subst (WireIs IsLineFrame n) q h.to_near in (wire.frames.0.frame, tt)
+arrives_in b c n who l (AsksReset window) h = tt
+arrives_in b c n who l (Starts value) h = tt
+arrives_in b c n who l Stops h = tt
+arrives_in b c n who l NoInput h = tt
+
+ports_begin : (b : Bool) (n : ℕ) (near_ends : ℕ → NumberedEnd) → ((h : ℕ) → NumberedIn b n (near_ends h)) → (desks : List Desk)
+    → AllByRecursion IsDeskIn desks → ArePortsIn b n (map (λ (d : Desk). port_for (near_ends d.host) d) desks)
+ports_begin b n near_ends are [] h = tt
+ports_begin b n near_ends are (d ∷ desks) h = (
+  record { desk = h.0; side = (are d.host).side; session = number_low b n (near_ends d.host) (are d.host); turns = tt },
+  ports_begin b n near_ends are desks h.1,
+)
+
+pub work_begins : (b : Bool) (n : ℕ) (r : Running) (plan : Option Plan) (near_ends : ℕ → NumberedEnd) (t : List Entry) → IsNodeIn r → HasTables r
+    → ((h : ℕ) → NumberedIn b n (near_ends h)) → AreIn n t → IsWorkIn b n (work_of r plan near_ends t)
+work_begins b n r plan near_ends t is has are noted = record {
+  core = record { node = is.number; tables = has.tables; rows = has.rows; command = is.command; init = is.init };
+  ports = ports_begin b n near_ends are r.desks is.desks;
+  entries = noted;
+}
+
+wires_on : (b c : Bool) (n : ℕ) (l : Link) (comes : Comes) → LinkIn b c n l → AreOnWire (wires_for l comes).to_host
+wires_on b c n l (Starts value) h = tt
+wires_on b c n l Stops h = tt
+wires_on b c n l NextFrame h = on_wire n l.to_host h.to_far.frames
+wires_on b c n l (AsksReset window) h = on_wire n l.to_host h.to_far.frames
+wires_on b c n l NoInput h = on_wire n l.to_host h.to_far.frames
+
+-- what comes to an end is in its range
+pub comes_input : (b c : Bool) (n : ℕ) (l : Link) (comes : Comes) (i : LinkInput) → ComesIn b comes → LinkIn b c n l → input_of l comes ≡ Some i → IsInputIn b i
+comes_input b c n l NextFrame i may h q = go l.to_controller refl q
+  where
+    by : List OnWire → Option LinkInput
+    by [] = None
+    by (x ∷ xs) = Some (Take x.frame)
+
+    go : (w : List OnWire) → l.to_controller ≡ w → by w ≡ Some i → IsInputIn b i
+    go [] p z = absurd (cc z)
+    go (x ∷ xs) p z =
+        let wire : WireIs IsLineFrame n (x ∷ xs) = subst (WireIs IsLineFrame n) p h.to_near in
+        let same : Take x.frame ≡ i = cc in
+        subst (IsInputIn b) same wire.frames.0.frame
+comes_input b c n l (AsksReset window) i may h q = let same : Reset window ≡ i = cc in subst (IsInputIn b) same may
+comes_input b c n l (Starts value) i may h q = let same : Start value ≡ i = cc in subst (IsInputIn b) same may
+comes_input b c n l Stops i may h q = let same : Stop ≡ i = cc in subst (IsInputIn b) same tt
+comes_input b c n l NoInput i may h q = absurd (cc q)
+
+-- ## A step
+
+-- the world behind a step and what is noted of it
+pub record IsStepIn (n : ℕ) (p : NodeWorld × List Entry) : Type 0 where
+  pub world : IsWorldIn n p.0
+  pub noted : AreIn n p.1
+
+-- what a node does in a step keeps its range
+abbrev KeepsIn : Bool → ℕ → (Work → Work) → Type 0
+KeepsIn b n f = (v : Work) → IsWorkIn b n v → IsWorkIn b (n + 8) (f v)
+
+here_comes : (h : ℕ) (comes : Comes) (k : ℕ) → ComesIn false comes → ComesIn false (comes_to h comes k)
+here_comes h comes k may = cond_both (k == h) comes NoInput (ComesIn false) (λ _. may) (λ _. tt)
+
+module _ (n : ℕ) (w : NodeWorld) (is : IsWorldIn n w) where
+  frames_of_sites : (wire : Site → Link) → ((s : Site) → IsSiteIn n s → AreOnWire (wire s).to_host) → (k : Work) → IsWorkIn false (n + 8) k
+      → (sites : List Site) → AllByRecursion (IsSiteIn n) sites → AreIn (n + 8) (flat_map (λ (s : Site). frames_noted Controller s.host (wire s) k) sites)
+  frames_of_sites wire are k a [] h = tt
+  frames_of_sites wire are k a (s ∷ sites) h =
+      in-append (n + 8) (frames_noted Controller s.host (wire s) k) (flat_map (λ (s : Site). frames_noted Controller s.host (wire s) k) sites)
+      (noted_frames false (n + 8) k a Controller s.host (wire s) h.0.host (are s h.0)) (frames_of_sites wire are k a sites h.1)
+
+  after_step : (h : ℕ) (comes : Comes) (k : Work) → ComesIn false comes → IsWorkIn false (n + 8) k → IsStepIn (n + 13) (after_controller w h comes k)
+  after_step h comes k may a = record {
+    world = record {
+      sites = sites_map n (n + 13) (link_after_controller h comes k)
+          (λ s x. record {
+            host = x.host;
+            link = link_steps false true n s.link (comes_to h comes s.host) (turns_at k s.host) (ending_of k) (here_comes h comes s.host may)
+                (turns_of false (n + 8) k a s.host) x.link;
+            node = x.node;
+          }) w.sites is.sites;
+      controller = still_runs false (n + 8) k a;
+    };
+    noted = all_in_more (n + 8) (n + 13) _ (omega arith)
+        (in-append (n + 8) k.entries _ a.entries
+        (frames_of_sites (λ s. wires_for s.link (comes_to h comes s.host))
+        (λ s x. wires_on false true n s.link (comes_to h comes s.host) x.link) k a w.sites is.sites));
+  }
+
+  pub nothing_done : IsStepIn (n + 13) (w, [])
+  nothing_done = record { world = world_more n (n + 13) w (omega arith) is; noted = tt }
+
+  pub controller_step : (h : ℕ) (comes : Comes) (f : Work → Work) → h ≤ 7 → ComesIn false comes → KeepsIn false n f → IfTables w.controller
+      → IsStepIn (n + 13) (controller_does w h comes f)
+  controller_step h comes f small may keeps has =
+      by_controller (IsStepIn (n + 13)) w h comes f nothing_done
+      (λ r q.
+      let near_ends : ℕ → NumberedEnd = λ k. near_end_in (link_to w.sites k) (comes_to h comes k) in
+      after_step h comes (controller_work w r h comes f) may
+      (keeps (work_of r w.memory.plan near_ends _)
+      (work_begins false n r w.memory.plan near_ends _ (subst IfNodeIn q is.controller) (subst IfTables q has)
+      (λ k. near_in false true n (link_to w.sites k) (comes_to h comes k) (link_there n w.sites k is.sites))
+      (all_entries_in h n (omega (arith, small)) (arrival Controller (link_to w.sites h) comes)
+      (arrives_in false true n Controller (link_to w.sites h) comes (link_there n w.sites h is.sites))))))
+
+  pub host_step : (h : ℕ) (comes : Comes) (f : Work → Work) → ComesIn true comes → KeepsIn true n f → SitesHave w.sites
+      → IsStepIn (n + 13) (host_does w h comes f)
+  host_step h comes f may keeps has =
+      by_host (IsStepIn (n + 13)) w h comes f nothing_done
+      (λ s r there q.
+      let here : IsSiteIn n s = site_found (IsSiteIn n) w.sites h s is.sites there in
+      let far : LinkIn true false n (exchanged s.link) = link_exchanged false true n s.link here.link in
+      let small = here.host in
+      let k : Work = host_work s r comes f in
+      let a : IsWorkIn true (n + 8) k =
+      keeps (work_of r s.memory.plan (λ j. near_end_in (exchanged s.link) comes) _)
+      (work_begins true n r s.memory.plan (λ j. near_end_in (exchanged s.link) comes) _ (subst IfNodeIn q here.node)
+      (subst IfTables q (site_found (λ (x : Site). IfTables x.node) w.sites h s has there))
+      (λ j. near_in true false n (exchanged s.link) comes far)
+      (all_entries_in s.host n (omega (arith, small)) (arrival Host (exchanged s.link) comes) (arrives_in true false n Host (exchanged s.link) comes far))) in
+      record {
+        world = record {
+          sites = site_changed n (n + 13) (omega arith) h (after_host comes k)
+              (λ x y. record {
+                host = y.host;
+                link = link_exchanged true false (n + 13) (happens_at_controller (exchanged x.link) (Step comes (turns_at k x.host) (ending_of k)))
+                    (link_steps true false n (exchanged x.link) comes (turns_at k x.host) (ending_of k) may (turns_of true (n + 8) k a x.host)
+                    (link_exchanged false true n x.link y.link));
+                node = still_runs true (n + 8) k a;
+              }) w.sites is.sites;
+          controller = is.controller;
+        };
+        noted = all_in_more (n + 8) (n + 13) _ (omega arith)
+            (in-append (n + 8) k.entries _ a.entries
+            (noted_frames true (n + 8) k a Host h (wires_for (exchanged s.link) comes) (host_low h s small there)
+            (wires_on true false n (exchanged s.link) comes far)));
+      })
+    where
+      host_is : (sites : List Site) (k : ℕ) (s : Site) → site_at sites k ≡ Some s → s.host ≡ k
+      host_is [] k s q = absurd (cc q)
+      host_is (x ∷ sites) k s q =
+          cond_both (eqb x.host k) (Some x) (site_at sites k) (λ o. o ≡ Some s → s.host ≡ k)
+          (λ e z. let same : x ≡ s = cc in subst (λ (y : Site). y.host ≡ k) same (eqb-true x.host k e)) (λ _ z. host_is sites k s z) q
+
+      host_low : (k : ℕ) (s : Site) → s.host ≤ 7 → site_at w.sites k ≡ Some s → k ≤ 7
+      host_low k s small q = let same = host_is w.sites k s q in omega (arith, small, same)
