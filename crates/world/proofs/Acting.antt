@@ -11,10 +11,11 @@ use Rattle.link_entries.specs.entries.Entries.{told, told_of, puts_entries, inpu
 use Rattle.world.specs.declared.node.Node.{Node}
 use Rattle.world.specs.declared.node.Place.{Place}
 use Rattle.world.specs.declared.side.Side.{Side}
-use Rattle.world.specs.Noting.{side_of}
+use Rattle.link_wires.specs.Notes.{side_of}
 use Rattle.world.specs.Nodes.{NodeStandsFor, HasFewDue}
-use Rattle.world.specs.Sides.{LinkStandsFor, IsMidway, AreNoted}
-use Rattle.world.proofs.Noting.{more_noted}
+use Rattle.world.specs.Sides.{LinkStandsFor, IsMidway}
+use Rattle.link_wires.specs.Notes.{AreNoted}
+use Rattle.link_wires.proofs.Notes.{more_noted}
 use Rattle.world.proofs.Bare.{IsBare, is_bare}
 
 -- an end that has sent all its frames has room

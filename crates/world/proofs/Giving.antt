@@ -16,10 +16,11 @@ use Rattle.link_entries.specs.entries.Entries.Entry.{Sent}
 use Rattle.history.specs.Follows.{as_noted}
 use Rattle.world.specs.declared.node.Node.{Node}
 use Rattle.world.specs.declared.side.Side.{Side}
-use Rattle.world.specs.Noting.{side_of}
+use Rattle.link_wires.specs.Notes.{side_of}
 use Rattle.world.specs.Nodes.{NodeStandsFor}
-use Rattle.world.specs.Sides.{LinkStandsFor, AreNoted, HasHappened}
-use Rattle.world.proofs.Noting.{end_is, more_noted}
+use Rattle.world.specs.Sides.{LinkStandsFor, HasHappened}
+use Rattle.link_wires.specs.Notes.{AreNoted}
+use Rattle.link_wires.proofs.Notes.{end_is, more_noted}
 
 -- ## A step that is refused
 

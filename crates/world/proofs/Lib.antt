@@ -1,16 +1,12 @@
-pub mod Results
 pub mod Noting
 pub mod Nodes
-pub mod Wires
 pub mod Bare
 pub mod Stepping
 pub mod Sending
 pub mod Acting
 pub mod Taking
 pub mod Giving
-pub mod Damages
 pub mod LineLemmas
-pub mod FirstFrames
 pub mod Given
 pub mod Repeating
 pub mod Worlds

@@ -17,10 +17,10 @@ use Rattle.history.specs.Histories.{Cause, Outcome, noted}
 use Rattle.history.specs.Histories.Outcome.{Refused, Caused}
 use Rattle.history.specs.Steps.{at as happens_at, event_of, events_at, entries_for}
 use Rattle.history.specs.Follows.{seen_from, refusal, causes_in, outcome_of, link_after_line, if_empty}
-use Rattle.world.specs.declared.wire.Flying.{Flying}
+use Rattle.link_wires.specs.declared.wire.Flying.{Flying}
 use Rattle.world.specs.declared.side.Side.{Side}
-use Rattle.world.specs.Noting.{side_of}
-use Rattle.world.specs.Wires.{WireStandsFor}
+use Rattle.link_wires.specs.Notes.{side_of}
+use Rattle.link_wires.specs.Wires.{WireStandsFor}
 use Rattle.world.specs.Sides.{LinkStandsFor, HasHappened}
 use Rattle.world.specs.Lines.{SidesStandFor, Does}
 

@@ -39,10 +39,12 @@ use Rattle.link_entries.specs.entries.Entries.Entry.{Got}
 use Rattle.history.specs.Steps.{entries_for}
 use Rattle.world.specs.declared.node.Node.{Node}
 use Rattle.world.specs.declared.node.Place.{Place}
-use Rattle.world.specs.Noting.{side_of, acked_on, reported}
+use Rattle.link_wires.specs.Notes.{side_of}
+use Rattle.world.specs.Noting.{acked_on, reported}
 use Rattle.world.specs.Nodes.{Reached, CanFetch, HasInput, NodeStandsFor}
-use Rattle.world.specs.Sides.{AreNoted}
-use Rattle.world.proofs.Noting.{end_is, told_at, acked_told}
+use Rattle.link_wires.specs.Notes.{AreNoted}
+use Rattle.link_wires.proofs.Notes.{end_is}
+use Rattle.world.proofs.Noting.{told_at, acked_told}
 use Rattle.link_machine.proofs.Kept.{took_got, moved_got, activated_got}
 use Rattle.link_entries.proofs.entries.Stepping.{one_fetched_acked}
 

@@ -2,7 +2,6 @@
 use Rattle.std.proofs.Common.{◌≡◌, ℕ, ◌+◌, ◌-◌, ◌<◌, ◌≤◌, ◌^◌, Bool, true, false, cond, List, [], ◌∷◌, ◌++◌, length, map, refl, ap, sym, subst, ◌∙◌, arith}
 use Rattle.std.proofs.Common.{append_assoc}
 use Rattle.std.proofs.lemmas.Bool.{true≢false}
-use Rattle.std.proofs.lemmas.List.Concat.{flat_map-append}
 use Rattle.std.specs.Prelude.{Option, Some, None, is_some, min, nat_lt, option_to_list}
 use Rattle.swp_base.specs.declared.link_terms.Cause.{Cause}
 use Rattle.trace_model.specs.declared.entry.Entry.{Entry}
@@ -18,26 +17,9 @@ use Rattle.link_end.specs.Reports.{report_told as told_of}
 use Rattle.link_entries.specs.entries.Entries.{End as Which, Entry as Noted, told, if_so}
 use Rattle.link_entries.specs.entries.Entries.Entry.{Up, Down, Active, GaveUp, Acked, Got}
 use Rattle.history.specs.Steps.{end_of, entry_of, entries_for}
-use Rattle.world.specs.Noting.{side_of, acked_on, reported}
-use Rattle.world.specs.Sides.{AreNoted}
-
--- an end is the one on its side of its link
-pub end_is : (at : End) → end_of at.link (side_of at) ≡ at
-end_is at = by at.at_host refl
-  where
-    by : (b : Bool) → at.at_host ≡ b → end_of at.link (side_of at) ≡ at
-    by true q = rw q refl
-    by false q = rw q refl
-
-pub entries-append : (h : ℕ) (a b : List Noted) → entries_for h (a ++ b) ≡ entries_for h a ++ entries_for h b
-entries-append h a b = flat_map-append (entry_of h) a b
-
--- what is noted behind what was noted
-pub more_noted : {mid now : List Entry} (at : End) (before : List Entry) (a b : List Noted) → AreNoted at before mid a → AreNoted at mid now b
-    → AreNoted at before now (a ++ b)
-more_noted at before a b p q =
-    q ∙ (ap (λ es. es ++ entries_for at.link b) p ∙ (append_assoc before (entries_for at.link a) (entries_for at.link b)
-    ∙ ap (λ es. before ++ es) (sym (entries-append at.link a b))))
+use Rattle.link_wires.specs.Notes.{side_of}
+use Rattle.link_wires.proofs.Notes.{end_is, entries-append}
+use Rattle.world.specs.Noting.{acked_on, reported}
 
 down_entries : (h : ℕ) (who : Which) (o : Option Cause) → entries_for h (map (Down who) (option_to_list o)) ≡ map (entry.Down (end_of h who)) (option_to_list o)
 down_entries h who None = refl

@@ -16,17 +16,18 @@ use Rattle.history.specs.Histories.Outcome.{Caused}
 use Rattle.history.specs.Steps.{at as happens_at, idle, event_of, event_at, events_at, entries_for, link_after, link_after_all}
 use Rattle.history.specs.Follows.{seen_from, taken_of, refusal, causes_in}
 use Rattle.world.specs.declared.side.Side.{Side}
-use Rattle.world.specs.Noting.{side_of}
-use Rattle.world.specs.Sides.{LinkStandsFor, HasHappened, AreNoted}
-use Rattle.world.specs.Wires.{WireStandsFor, kept_of}
+use Rattle.link_wires.specs.Notes.{side_of}
+use Rattle.world.specs.Sides.{LinkStandsFor, HasHappened}
+use Rattle.link_wires.specs.Notes.{AreNoted}
+use Rattle.link_wires.specs.Wires.{WireStandsFor, kept_of}
 use Rattle.world.specs.Lines.{SidesStandFor, HasCaused, HaveSent, Does}
-use Rattle.world.specs.declared.wire.Flying.{Flying}
+use Rattle.link_wires.specs.declared.wire.Flying.{Flying}
 use Rattle.circular_buffer.specs.Buffer.{Buffer}
 use Rattle.link_laws.specs.sessions.Sessions.{OnWire}
 use Rattle.std.proofs.lemmas.List.{length-map}
 use Rattle.world.proofs.LineLemmas.{seen_happens, seen_noted, caused, does}
 use Rattle.world.proofs.Given.{causes_of-events}
-use Rattle.world.proofs.Noting.{more_noted}
+use Rattle.link_wires.proofs.Notes.{more_noted}
 
 -- what happened at an end is what its cause does
 pub happened_caused : {near far : Side} {resets : ℕ} {at : End} {l : Link} {cause : Cause} {event : EndEvent} {before now : List Entry}

@@ -15,10 +15,11 @@ use Rattle.link_entries.specs.entries.Entries.{Entry as Noted, put_entries, puts
 use Rattle.history.specs.Steps.{entries_for}
 use Rattle.world.specs.declared.node.Node.{Node}
 use Rattle.world.specs.declared.side.Side.{Side}
-use Rattle.world.specs.Noting.{side_of}
+use Rattle.link_wires.specs.Notes.{side_of}
 use Rattle.world.specs.Nodes.{NodeStandsFor}
-use Rattle.world.specs.Sides.{LinkStandsFor, IsMidway, AreNoted}
-use Rattle.world.proofs.Noting.{more_noted}
+use Rattle.world.specs.Sides.{LinkStandsFor, IsMidway}
+use Rattle.link_wires.specs.Notes.{AreNoted}
+use Rattle.link_wires.proofs.Notes.{more_noted}
 use Rattle.world.proofs.Bare.{is_bare, plain_fetched}
 use Rattle.link_machine.proofs.Places.{fetched_due}
 use Rattle.link_laws.proofs.sessions.Ties.{nothing_sent}

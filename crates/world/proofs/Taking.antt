@@ -18,16 +18,17 @@ use Rattle.link_entries.specs.messages.Links.EndEvent.{Step}
 use Rattle.link_entries.specs.entries.Entries.{Entry as Noted, told, told_of, puts_entries, left_after, taken_entries, here_entries}
 use Rattle.link_entries.specs.entries.Entries.Entry.{Took}
 use Rattle.history.specs.Steps.{entries_for}
-use Rattle.world.specs.declared.wire.Flying.{Flying}
+use Rattle.link_wires.specs.declared.wire.Flying.{Flying}
 use Rattle.world.specs.declared.node.Node.{Node}
 use Rattle.world.specs.declared.node.Place.{Place}
 use Rattle.world.specs.declared.side.Side.{Side}
-use Rattle.world.specs.Noting.{side_of}
+use Rattle.link_wires.specs.Notes.{side_of}
 use Rattle.world.specs.Nodes.{NodeStandsFor}
-use Rattle.world.specs.Wires.{WireStandsFor, IsMade, kept_of}
-use Rattle.world.specs.Sides.{LinkStandsFor, IsMidway, AreNoted, HasHappened}
-use Rattle.world.proofs.Noting.{end_is, more_noted}
-use Rattle.world.proofs.Wires.{IsTakenOff, first_is, there_is_one, there_is_none, taken_off}
+use Rattle.link_wires.specs.Wires.{WireStandsFor, IsMade, kept_of}
+use Rattle.world.specs.Sides.{LinkStandsFor, IsMidway, HasHappened}
+use Rattle.link_wires.specs.Notes.{AreNoted}
+use Rattle.link_wires.proofs.Notes.{end_is, more_noted}
+use Rattle.link_wires.proofs.Wires.{IsTakenOff, first_is, there_is_one, there_is_none, taken_off}
 
 -- ## The first frame
 

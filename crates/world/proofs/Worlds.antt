@@ -21,7 +21,7 @@ use Rattle.history.proofs.Leading.{events_in, after_events}
 use Rattle.history.specs.Legal.{Legal, Complete, Prefix, Settled, is_chain_fault}
 use Rattle.history.proofs.legal.Asked.{only_one}
 use Rattle.world.specs.declared.side.Side.{Side}
-use Rattle.world.specs.declared.damage_line.Misread.{Misread}
+use Rattle.link_wires.specs.declared.finding.Misread.{Misread}
 use Rattle.world.specs.declared.world_steps.World.{World}
 use Rattle.world.specs.Sides.{SideStandsFor, LinkStandsFor}
 use Rattle.world.specs.Lines.{SidesStandFor, Does, HaveSent, IsMisread, damaged_by, end_for}

@@ -1,7 +1,5 @@
 pub mod Noting
 pub mod Nodes
-pub mod Wires
 pub mod Sides
-pub mod Damages
 pub mod Lines
 pub mod Worlds

@@ -1,19 +1,15 @@
 -- What a line does on a link, seen from the end that it speaks of.
-use Rattle.std.specs.Prelude.{◌≡◌, ℕ, ◌≤◌, List, [], ◌∷◌, ◌++◌, length, Option, Some, None}
-use Rattle.swp_lpdu.specs.Controls.{lpdu_of}
-use Rattle.link_laws.specs.sessions.Sessions.{OnWire}
+use Rattle.std.specs.Prelude.{◌≡◌, ℕ, ◌≤◌, List, ◌++◌, length, Option, Some, None}
 use Rattle.trace_model.specs.declared.entry.Entry.{Entry}
 use Rattle.trace_model.specs.declared.line.End.{End}
 use Rattle.trace_model.specs.declared.line.Line.{Line}
 use Rattle.trace_model.specs.declared.line.Line.TheVariants as line
-use Rattle.link_entries.specs.messages.Links.{Link, Loss}
+use Rattle.link_entries.specs.messages.Links.{Link}
 use Rattle.history.specs.Histories.{Cause, noted}
-use Rattle.history.specs.Damage.Verdict.{Same as ReadSame, LostFor, Undetected as ReadOther}
-use Rattle.history.specs.Steps.{lost_as, link_after, event_at}
-use Rattle.history.specs.Follows.{seen_from, frames_to, outcome_of, link_after_line, if_out_of_reach, first_verdict, misread}
-use Rattle.world.specs.declared.damage_line.Misread.{Misread}
-use Rattle.world.specs.declared.damage_line.Damaged.{Damaged}
-use Rattle.world.specs.declared.damage_line.Damaged.TheVariants.{Refused, Same, Lost, Undetected}
+use Rattle.history.specs.Steps.{link_after, event_at}
+use Rattle.history.specs.Follows.{seen_from, frames_to, outcome_of, link_after_line, misread}
+use Rattle.link_wires.specs.declared.finding.Misread.{Misread}
+use Rattle.link_wires.specs.Damages.{first_lpdu}
 use Rattle.world.specs.declared.side.Side.{Side}
 use Rattle.world.specs.Sides.{LinkStandsFor}
 
@@ -25,20 +21,6 @@ SidesStandFor near far resets at l = LinkStandsFor near far resets (seen_from at
 pub record Does (near far : Side) (resets : ℕ) (at : End) (l : Link) (line : Line) (now : List Entry) : Type 0 where
   pub stands : SidesStandFor near far resets at (link_after_line l (outcome_of at.link l line))
   pub noted_are : now ≡ noted (outcome_of at.link l line)
-
--- the bytes of the first frame on a wire
-abbrev pub first_lpdu : List OnWire → Option (List ℕ)
-first_lpdu [] = None
-first_lpdu (x ∷ xs) = Some (lpdu_of x.frame)
-
--- what a line that damages the first frame of a wire at these places finds there
-abbrev pub Finds : List OnWire → List ℕ → Damaged → Type 0
-Finds wire places (Refused why) = if_out_of_reach wire places ≡ Some why
-Finds wire places Same = (if_out_of_reach wire places ≡ None) × (first_verdict wire places ≡ Some ReadSame)
-Finds wire places (Lost cause) =
-    (if_out_of_reach wire places ≡ None) × ((why : Loss) × (first_verdict wire places ≡ Some (LostFor why)) × (cause ≡ lost_as why))
-Finds wire places (Undetected other) =
-    (if_out_of_reach wire places ≡ None) × (first_verdict wire places ≡ Some (ReadOther other.read)) × (first_lpdu wire ≡ Some other.sent)
 
 -- the first frame on its way to the end that a line speaks of, where the line damages it
 abbrev pub damaged_by : Link → Line → Option (List ℕ)

@@ -3,13 +3,8 @@ use Rattle.std.specs.Prelude.{ℕ, ◌+◌, min, nat_lt, if◌then◌else◌, Li
 use Rattle.trace_model.specs.declared.entry.Entry.{Entry}
 use Rattle.trace_model.specs.declared.entry.Entry.TheVariants as entry
 use Rattle.trace_model.specs.declared.line.End.{End}
-use Rattle.link_entries.specs.entries.Entries.{End as Which, if_so}
-use Rattle.link_entries.specs.entries.Entries.End.{Controller, Host}
+use Rattle.link_entries.specs.entries.Entries.{if_so}
 use Rattle.link_end.specs.declared.report.LinkReport.{LinkReport}
-
--- which of the two ends of its link an end is
-abbrev pub side_of : End → Which
-side_of at = if at.at_host then Host else Controller
 
 -- how many messages of the session are acknowledged after an input, where so many were before; 4,294,967,295 stands for any
 -- greater number

@@ -1,16 +1,15 @@
 -- What is kept of the two sides of a link, and for which links it stands: seen from one side, whose end stands as the controller's.
-use Rattle.std.specs.Prelude.{◌≡◌, ℕ, ◌≤◌, List, [], ◌++◌, length}
+use Rattle.std.specs.Prelude.{◌≡◌, ℕ, ◌≤◌, List, [], length}
 use Rattle.trace_model.specs.declared.entry.Entry.{Entry}
 use Rattle.trace_model.specs.declared.line.End.{End}
 use Rattle.link_laws.specs.sessions.Sessions.{OnWire}
 use Rattle.link_machine.specs.Machine.{LinkEnd as Machine}
 use Rattle.link_entries.specs.messages.Links.{NumberedEnd, Link, EndEvent, happens_at_controller}
-use Rattle.link_entries.specs.entries.Entries.{Entry as Noted, here_entries}
-use Rattle.history.specs.Steps.{entries_for}
+use Rattle.link_entries.specs.entries.Entries.{here_entries}
 use Rattle.world.specs.declared.side.Side.{Side}
-use Rattle.world.specs.Noting.{side_of}
+use Rattle.link_wires.specs.Notes.{side_of, AreNoted}
 use Rattle.world.specs.Nodes.{NodeStandsFor}
-use Rattle.world.specs.Wires.{WireStandsFor}
+use Rattle.link_wires.specs.Wires.{WireStandsFor}
 
 -- one side, whose end may have frames to send
 pub record SideHas (s : Side) (m : Machine) (emitted took : ℕ) (wire : List OnWire) : Type 0 where
@@ -37,10 +36,6 @@ pub record IsMidway (near far : Side) (resets : ℕ) (l : Link) (m : Machine) : 
   pub few : length m.shdlc.due ≤ 12
   pub there : SideStandsFor far l.host l.to_host
   pub count : resets ≡ l.resets
-
--- these are noted behind those before
-abbrev pub AreNoted : End → List Entry → List Entry → List Noted → Type 0
-AreNoted at before now notes = now ≡ before ++ entries_for at.link notes
 
 -- the two sides stand for the link after this happened at the end of the near one, and it is noted
 pub record HasHappened (near far : Side) (resets : ℕ) (l : Link) (event : EndEvent) (at : End) (before now : List Entry) : Type 0 where

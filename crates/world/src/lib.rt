@@ -2,7 +2,6 @@
 //! and says what each of them causes. All of it is this project's own.
 #![tactic(auto)]
 
-mod damage;
 mod damage_line;
 mod line_steps;
 mod lines;
@@ -10,7 +9,6 @@ mod node;
 mod repeats;
 mod side;
 mod steps;
-mod wire;
 mod world_steps;
 
 pub use world_steps::{World, WorldFault};

@@ -8,11 +8,12 @@ ghost use Rattle.link_entries.specs.messages.Links.{Link};
 ghost use Rattle.history.specs.Follows.{machine_of, misread};
 ghost use Rattle.world.specs.Lines.{SidesStandFor, Does, HaveSent, IsMisread, end_for};
 
-use crate::damage_line::{Misread, damage_line};
+use crate::damage_line::damage_line;
 use crate::lines::{busy_line, lose_line, ready_line, reset_line, send_line};
 use crate::repeats::{deliver_line, tick_line};
 use crate::side::Side;
 use arrayvec::ArrayVec;
+use link_wires::Misread;
 use std::alloc::{AllocError, Global};
 use trace_model::{End, Entry, Line};
 

@@ -48,9 +48,10 @@ impl Node {
     ghost use Rattle.link_entries.specs.entries.Entries.{told};
     ghost use Rattle.link_entries.specs.entries.Entries.Entry.{Got};
     ghost use Rattle.history.specs.Follows.{as_noted};
-    ghost use Rattle.world.specs.Noting.{acked_on, reported, side_of};
+    ghost use Rattle.world.specs.Noting.{acked_on, reported};
+    ghost use Rattle.link_wires.specs.Notes.{side_of};
     ghost use Rattle.world.specs.Nodes.{NodeStandsFor, HasInput, CanFetch, HasFewDue};
-    ghost use Rattle.world.specs.Sides.{AreNoted};
+    ghost use Rattle.link_wires.specs.Notes.{AreNoted};
 
     /// A new end, which is Up.
     pub(crate) fn make(alloc: Global) -> Result<Node, NoMemory>

@@ -5,8 +5,8 @@ ghost use Rattle.link_entries.specs.messages.Links.{new_numbered_end};
 ghost use Rattle.world.specs.Sides.{SideStandsFor};
 
 use crate::node::{Node, Place};
-use crate::wire::{Flying, empty_wire};
 use circular_buffer::HeapCircularBuffer;
+use link_wires::{Flying, empty_wire};
 use std::alloc::Global;
 use swp_base::NoMemory;
 use trace_model::End;

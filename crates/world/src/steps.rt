@@ -15,12 +15,13 @@ ghost use Rattle.link_entries.specs.messages.Links.EndEvent.{Step, Lose};
 ghost use Rattle.link_entries.specs.entries.Entries.{puts_entries, put_entries, tick_entries, aged_entries};
 ghost use Rattle.history.specs.Steps.{idle, lost_as};
 ghost use Rattle.history.specs.Follows.{as_noted};
-ghost use Rattle.world.specs.Noting.{side_of};
-ghost use Rattle.world.specs.Wires.{WireStandsFor};
-ghost use Rattle.world.specs.Sides.{SideStandsFor, LinkStandsFor, IsMidway, AreNoted, HasHappened};
+ghost use Rattle.link_wires.specs.Notes.{side_of};
+ghost use Rattle.link_wires.specs.Wires.{WireStandsFor};
+ghost use Rattle.world.specs.Sides.{SideStandsFor, LinkStandsFor, IsMidway, HasHappened};
+ghost use Rattle.link_wires.specs.Notes.{AreNoted};
 
 use crate::side::Side;
-use crate::wire::{Flying, grow_older, is_reset, put_last};
+use link_wires::{grow_older, lose_first, put_frame};
 use std::alloc::{AllocError, Global};
 use swp_base::Lpdu;
 use swp_lpdu::read_lpdu;
@@ -28,22 +29,6 @@ use trace_model::{End, Entry, LostCause, NoCause, Octets};
 
 /// The most frames that a bare end sends at one moment: 8 control frames and 4 fragments.
 const MOST_FRAMES: u8 = 12;
-
-// The number of a frame that an end puts on its link: RSETs are numbered from 1 as they are put there.
-fn number_of(lpdu: &Lpdu, emitted: &mut u32, resets: &mut u32) -> u32
-    requires { resets.old + 1 < 2 ^ 32 }
-    ensures number { (c : Frame) → control_of lpdu.now ≡ Ok c → result ≡ (if is_rset c then resets.old + 1 else 0) }
-    ensures resets { (c : Frame) → control_of lpdu.now ≡ Ok c → resets.new ≡ (if is_rset c then resets.old + 1 else resets.old) }
-    ensures emitted { (c : Frame) → control_of lpdu.now ≡ Ok c → emitted.new ≡ (if is_rset c then resets.old + 1 else emitted.old) }
-    ensures grows { resets.new ≤ resets.old + 1 }
-{
-    if !is_reset(lpdu) {
-        return 0;
-    }
-    *resets += 1;
-    *emitted = *resets;
-    *resets
-}
 
 // The end of the near side puts a frame on the wire to the other end.
 fn put(
@@ -61,17 +46,7 @@ fn put(
     ensures grows { resets.new ≤ resets.old + 1 }
     ensures node { near.new.node ≡ near.old.node }
 {
-    let number = number_of(&lpdu, &mut near.emitted, resets);
-    entries.push(Entry::Emit {
-        at,
-        lpdu: lpdu.copied(),
-    })?;
-    let flying = Flying {
-        lpdu,
-        age: 0,
-        number,
-    };
-    put_last(at.other(), flying, &mut far.wire, entries)
+    put_frame(at, lpdu, &mut near.emitted, &mut far.wire, resets, entries)
 }
 
 // The end of the near side sends all that is due.
@@ -270,14 +245,7 @@ pub(crate) fn lose_frame(
     ensures stands { (l : Link) (why : Loss) → LinkStandsFor near.old far.now resets l → cause ≡ lost_as why
         → OnOk result (HasHappened near.new far.now resets l (Lose why) at entries.old.items entries.new.items) }
 {
-    if let Some(flying) = near.wire.pop_front() {
-        entries.push(Entry::Lost {
-            at,
-            lpdu: flying.lpdu,
-            cause,
-        })?;
-    }
-    Ok(())
+    lose_first(at, cause, &mut near.wire, entries)
 }
 
 /// All frames on the wire to the end grow older by one tick, and those that are too old are lost.

@@ -7,10 +7,10 @@ ghost use Rattle.history.specs.Histories.{History, noted};
 ghost use Rattle.history.specs.Follows.{opening_of, host_of, outcome_of, misread, link_at, opened, with_step};
 ghost use Rattle.history.specs.Steps.{end_of};
 
-use crate::damage_line::Misread;
 use crate::line_steps::{end_of, play_line};
 use crate::side::Side;
 use history::bare_histories::every_history_is_legal;
+use link_wires::Misread;
 use std::alloc::{AllocError, Global};
 use swp_base::{Lpdu, NoMemory};
 use trace_model::{End, Entry, Header, Line};

@@ -2,7 +2,7 @@ use Rattle.std.proofs.Common.{refl}
 use Rattle.std.specs.Prelude.{false}
 use Rattle.history.specs.Histories.Cause.{Readied}
 use Rattle.history.specs.Follows.{seen_from}
-use Rattle.world.proofs.Results.{on_ok}
+use Rattle.link_wires.proofs.Results.{on_ok}
 use Rattle.world.proofs.LineLemmas.{happened_does}
 use Rattle.world.proofs.lines.busy_line.Goals as goal
 

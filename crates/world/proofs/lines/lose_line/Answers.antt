@@ -4,7 +4,7 @@ use Rattle.trace_model.specs.declared.entry.NoCause.TheVariants.{Empty}
 use Rattle.link_entries.specs.messages.Links.Loss.{OnDemand}
 use Rattle.history.specs.Histories.Cause.{WasLost}
 use Rattle.history.specs.Follows.{seen_from}
-use Rattle.world.proofs.Results.{on_ok}
+use Rattle.link_wires.proofs.Results.{on_ok}
 use Rattle.world.proofs.LineLemmas.{refused_does, happened_does, none_there, some_there}
 use Rattle.world.proofs.lines.lose_line.Goals as goal
 

@@ -5,10 +5,10 @@ use Rattle.link_laws.specs.sessions.Sessions.{aged_wire}
 use Rattle.link_entries.specs.messages.Links.{Link, aged, exchanged, ticks_at_controller}
 use Rattle.link_entries.specs.messages.Links.Ending.{GoesOut}
 use Rattle.history.specs.Steps.{idle}
-use Rattle.world.specs.Noting.{side_of}
-use Rattle.world.specs.Sides.{AreNoted}
+use Rattle.link_wires.specs.Notes.{side_of}
+use Rattle.link_wires.specs.Notes.{AreNoted}
 use Rattle.world.specs.Lines.{HaveSent}
-use Rattle.world.proofs.Results.{on_ok}
+use Rattle.link_wires.proofs.Results.{on_ok}
 use Rattle.world.proofs.LineLemmas.{seen_here, seen_at_controller}
 use Rattle.world.proofs.Given.{sent_ticked}
 use Rattle.world.proofs.Repeating.{tick_noted, turned_round, few_short}

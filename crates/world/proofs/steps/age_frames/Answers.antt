@@ -1,4 +1,4 @@
-use Rattle.world.proofs.Results.{on_ok}
+use Rattle.link_wires.proofs.Results.{on_ok}
 use Rattle.world.proofs.steps.age_frames.Goals as goal
 
 pub returns : goal.returns

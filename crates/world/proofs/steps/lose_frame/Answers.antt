@@ -1,15 +1,7 @@
-use Rattle.std.proofs.Common.{sym, ◌∙◌}
-use Rattle.std.specs.Prelude.{Some}
-use Rattle.world.proofs.Wires.{IsTakenOff}
-use Rattle.world.proofs.Stepping.{lost_first}
+use Rattle.link_wires.proofs.Results.{on_ok}
+use Rattle.world.proofs.Stepping.{lost_is}
 use Rattle.world.proofs.steps.lose_frame.Goals as goal
 
-pub returns-in_ok-push : goal.returns-in_ok-push
-returns-in_ok-push c =
-    record {
-      stands = λ l why h is.
-          (let p = c.pop_front in
-          let off : IsTakenOff c.args.near.now.wire p.new.self (Some c.in-Some.flying) =
-          record { first_is = sym c.in-Some.is ∙ p.ensures.value; new_is = p.ensures.items } in
-          lost_first h is off c.in_ok-push.ensures.items);
-    }
+pub returns : goal.returns
+returns c =
+    record { stands = λ l why h is. on_ok c.lose_first.result (c.lose_first.ensures l.to_controller why h.here.has.wire_is is) (λ r. lost_is h r) }

@@ -1,29 +1,7 @@
-use Rattle.std.proofs.Common.{ℕ, ◌+◌, List, ◌∷◌, [], ◌++◌, ap, ◌∙◌, subst}
-use Rattle.trace_model.specs.declared.entry.Entry.TheVariants as entry
-use Rattle.trace_model.specs.declared.line.End.{End}
-use Rattle.link_laws.specs.sessions.Sessions.{fits}
-use Rattle.link_entries.specs.entries.Entries.{pushed_out}
-use Rattle.world.specs.Noting.{side_of}
-use Rattle.world.specs.Wires.{WireStandsFor}
-use Rattle.world.specs.Sides.{AreNoted}
-use Rattle.world.proofs.Results.{on_ok}
-use Rattle.world.proofs.Stepping.{put_is, flying_is, made_is}
+use Rattle.link_wires.proofs.Results.{on_ok}
+use Rattle.world.proofs.Stepping.{put_is, goes_out}
 use Rattle.world.proofs.steps.put.Goals as goal
 
 pub returns-clause-stands : goal.returns-clause-stands
 returns-clause-stands c l m frame h is read =
-    let k = c.number_of-number in
-    let P : End → Type 0 = λ z. WireStandsFor c.put_last.new.wire (fits (l.to_host ++ record { frame = frame; age = 0; number = k.result } ∷ []))
-    × AreNoted z c.push.new.self.items c.put_last.new.entries.items
-    (pushed_out (side_of z) (l.to_host ++ record { frame = frame; age = 0; number = k.result } ∷ [])) in
-    on_ok c.put_last.result
-    (c.put_last.ensures l.to_host (record { frame = frame; age = 0; number = k.result }) h.there.has.wire_is (flying_is c.args.lpdu frame k.result is)
-    (made_is c.args.lpdu frame k.result (c.args.resets.now + 1) is read (k.ensures.number frame read)))
-    (λ put. put_is c.args.at c.args.entries.now.items h
-    (record {
-      number_is = k.ensures.number frame read;
-      resets_is = k.ensures.resets frame read;
-      emitted_is = k.ensures.emitted frame read;
-    })
-    (c.in_ok-push.ensures.items ∙ ap (λ (b : List ℕ). c.args.entries.now.items ++ entry.Emit c.args.at b ∷ []) (c.copied.ensures ∙ is))
-    (subst P c.other.ensures put))
+    on_ok c.put_frame.result (c.put_frame.ensures.stands l frame (goes_out h) is read) (λ r. (put_is frame h r.0, r.1))

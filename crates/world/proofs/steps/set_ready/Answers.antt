@@ -1,7 +1,7 @@
 use Rattle.std.proofs.Common.{not, false}
 use Rattle.link_machine.specs.Machine.{LinkEnd, turn}
 use Rattle.link_machine.specs.Machine.Turn.{Hold}
-use Rattle.world.proofs.Results.{on_ok}
+use Rattle.link_wires.proofs.Results.{on_ok}
 use Rattle.world.proofs.Bare.{hold_most}
 use Rattle.world.proofs.Acting.{room_here, midway}
 use Rattle.world.proofs.steps.set_ready.Goals as goal

@@ -4,10 +4,10 @@ use Rattle.link_machine.specs.Machine.{LinkEnd, after_input, turn}
 use Rattle.link_machine.specs.Machine.LinkInput.{Take}
 use Rattle.link_machine.specs.Machine.Turn.{FetchMessage}
 use Rattle.link_entries.specs.entries.Entries.{left_after}
-use Rattle.world.proofs.Results.{on_ok}
+use Rattle.link_wires.proofs.Results.{on_ok}
 use Rattle.world.proofs.Bare.{took_most}
 use Rattle.world.proofs.Acting.{bare_here, room_here}
-use Rattle.world.proofs.Wires.{IsTakenOff}
+use Rattle.link_wires.proofs.Wires.{IsTakenOff}
 use Rattle.world.proofs.Taking.{takes_first, takes_none, taken_midway, reads_first, taken}
 use Rattle.world.proofs.steps.take_frame.Goals as goal
 

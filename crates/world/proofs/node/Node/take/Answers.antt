@@ -5,7 +5,7 @@ use Rattle.link_machine.proofs.Reports.{take_so}
 use Rattle.link_end.specs.Ends.{EndStandsFor}
 use Rattle.link_end.specs.Reports.{report_told as told_of}
 use Rattle.link_end.proofs.AccountLemmas.{rests, rests_may_take}
-use Rattle.world.proofs.Results.{on_ok}
+use Rattle.link_wires.proofs.Results.{on_ok}
 use Rattle.world.proofs.Nodes.{IsLeft, HasTakenInput, IsReported, is_sound, input_done, with_message, taken_input, can_fetch}
 use Rattle.world.proofs.node.Node.take.Goals as goal
 

@@ -1,0 +1,4 @@
+pub mod Notes
+pub mod Wires
+pub mod Damages
+pub mod Putting

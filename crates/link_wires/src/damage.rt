@@ -1,0 +1,118 @@
+//! What becomes of a frame whose bits are changed on its way.
+ghost use Rattle.std.specs.Prelude.{◌≡◌, ℕ, ◌++◌, List, false, map, length, replicate};
+ghost use Rattle.swp_frame.specs.Signal.{symbol_of};
+ghost use Rattle.swp_frame.specs.Stuffing.{frame_of};
+ghost use Rattle.swp_frame.specs.Verdicts.{verdicts};
+ghost use Rattle.link_entries.specs.messages.Links.Loss.{Broken};
+ghost use Rattle.history.specs.Damage.{flipped, flipped_at, judged_by_first, verdict_on};
+ghost use Rattle.history.specs.Steps.{lost_as};
+ghost use Rattle.history.specs.Follows.{if_beyond};
+ghost use Rattle.link_wires.specs.Damages.{told_as, told_verdict};
+
+use swp_base::{FrameFault, Lpdu};
+use swp_frame::{Deframer, Fed, FrameBits, write_frame};
+use trace_model::{LostCause, NoCause};
+
+/// What a reader makes of a damaged frame.
+#[derive(Drop)]
+pub enum Verdict {
+    /// The frame is read as it was.
+    Same,
+    /// None is read, and this is why it is lost.
+    Lost(LostCause),
+    /// Another frame is read.
+    Undetected(Lpdu),
+}
+
+// The bit at this place is changed, where there is one.
+fn flip(bits: &mut [bool], place: u16)
+    ensures { bits.new ≡ flipped place bits.old }
+{
+    let place = usize::from(place);
+    if place < bits.len() {
+        bits[place] = !bits[place];
+    }
+}
+
+// The bits at these places are changed.
+fn flip_all(bits: &mut [bool], places: &[u16])
+    ensures { bits.new ≡ flipped_at places.now bits.old }
+{
+    for place in places {
+        flip(bits, *place);
+    }
+}
+
+// Why a frame that is refused is lost.
+fn lost_for(fault: FrameFault) -> LostCause
+    ensures { result ≡ lost_as (Broken fault) }
+{
+    match fault {
+        FrameFault::Length { .. } => LostCause::Length,
+        FrameFault::Alignment { .. } => LostCause::Alignment,
+        FrameFault::Crc { .. } => LostCause::Crc,
+        FrameFault::Broken => LostCause::Broken,
+    }
+}
+
+// The first frame that is read of these bits, or why none is: the first refusal, where there is one.
+fn first_read(bits: &[bool]) -> Result<Lpdu, LostCause>
+    ensures { (lpdu : List ℕ) → told_verdict lpdu result ≡ told_as (judged_by_first lpdu (verdicts (map symbol_of bits.now))) }
+{
+    let mut deframer = Deframer::new();
+    let mut refused = None;
+    for bit in bits {
+        match deframer.feed(*bit) {
+            Fed::Nothing => {}
+            Fed::Frame(read) => return Ok(read),
+            Fed::Refused(fault) => refused = refused.or(Some(lost_for(fault))),
+        }
+    }
+    Err(refused.unwrap_or(LostCause::Nothing))
+}
+
+// The frame of an LPDU with the bits at these places changed, and eight 0 bits behind it.
+fn damaged(lpdu: &Lpdu, places: &[u16]) -> FrameBits
+    ensures { result.bits.items ≡ flipped_at places.now (frame_of lpdu.now) ++ replicate 8 false }
+{
+    let FrameBits { mut bits } = write_frame(lpdu);
+    flip_all(&mut bits, places);
+    let _fits = bits.try_extend_from_slice(&[false; 8]);
+    FrameBits { bits }
+}
+
+// The verdict on a frame where this one was read in its place, or none for this cause.
+fn verdict_of(lpdu: &Lpdu, read: Result<Lpdu, LostCause>) -> Verdict
+    ensures { result ≡ told_verdict lpdu.now read }
+{
+    match read {
+        Ok(read) => {
+            if read == *lpdu {
+                Verdict::Same
+            } else {
+                Verdict::Undetected(read)
+            }
+        }
+        Err(cause) => Verdict::Lost(cause),
+    }
+}
+
+/// What is read of a frame whose bits at these places are changed, with eight 0 bits behind it.
+pub fn verdict_on(lpdu: &Lpdu, places: &[u16]) -> Verdict
+    ensures { result ≡ told_as (verdict_on lpdu.now places.now) }
+{
+    verdict_of(lpdu, first_read(damaged(lpdu, places).bits.as_slice()))
+}
+
+/// Where one of these places is past the frame of an LPDU, which has so many bits.
+pub fn beyond(lpdu: &Lpdu, places: &[u16]) -> Option<NoCause>
+    ensures { result ≡ if_beyond (length (frame_of lpdu.now)) places.now }
+{
+    let bits = write_frame(lpdu).bits.len() as u16;
+    for place in places {
+        if *place >= bits {
+            return Some(NoCause::Beyond { bits });
+        }
+    }
+    None
+}
