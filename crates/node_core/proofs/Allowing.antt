@@ -1,5 +1,5 @@
--- What a controller decides may be done: a command finds room.
-use Rattle.std.proofs.Common.{◌≡◌, ℕ, Bool, true, false, cond, ◌&&◌, List, [], ◌∷◌, map, refl, sym}
+-- What a node decides may be done: a command finds room.
+use Rattle.std.proofs.Common.{◌≡◌, ℕ, Bool, true, false, cond, ◌&&◌, List, [], ◌∷◌, map, refl, sym, subst}
 use Rattle.std.specs.Prelude.{Option, Some, None, Result, Ok, Err, ◌==◌}
 use Rattle.std.specs.List.{AllByRecursion}
 use Rattle.std.proofs.lemmas.Bool.{true≢false}
@@ -19,14 +19,14 @@ use Rattle.gate_admin.specs.declared.decision.Decision.TheVariants.{Answer, Comm
 use Rattle.gate_admin.specs.View.{has, hosts_where}
 use Rattle.gate_admin.specs.Decide.{decided}
 use Rattle.link_machine.specs.Machine.{Message}
-use Rattle.node_machine.specs.Parts.{Creation, Notice, Port, Work, Deed}
+use Rattle.node_machine.specs.Parts.{Creation, Notice, Init, Core, Port, Work, Deed}
 use Rattle.node_machine.specs.Parts.Deed.{Commits, Sends, SaysOk, Asks, Releases, Tells, IsAnswered, Drops, SetsErrors, Orders, Hears, GoesOn, Ends}
 use Rattle.node_machine.specs.Carrying.{port_at, finds_room, done}
 use Rattle.node_machine.specs.Controller.{creation_in, commit_deeds, decision_deeds, link_deeds, gate_deeds, served_at, agreed, creation_deeds}
 use Rattle.node_machine.specs.Controller.{notice_deeds, response_at, relayed_to, unrelayed, event_deeds, unless_asking, if_notice, kind_deeds}
 use Rattle.node_machine.specs.Controller.{own_deeds, relay_deeds}
 use Rattle.node_machine.specs.Controller.{deeds_by_relay, controller_deeds, has_link, own_gate, view_for, goes_through, is_command_message, answers_on}
-use Rattle.node_core.specs.Deeds.{IsGranted, AreGranted}
+use Rattle.node_core.specs.Deeds.{IsOnTask, IsGranted, AreGranted}
 use Rattle.node_core.specs.Handling.{has_turn}
 
 -- ## Deeds that may always be done
@@ -49,24 +49,43 @@ IsPlain (Ends e) = ⊥
 abbrev ArePlain : List Deed → Type 0
 ArePlain deeds = AllByRecursion IsPlain deeds
 
-one_plain : (d : Deed) (w : Work) → IsPlain d → IsGranted d w
-one_plain (Commits c) w plain = absurd plain
-one_plain (Sends to m) w plain = tt
-one_plain SaysOk w plain = tt
-one_plain (Asks to message c) w plain = tt
-one_plain (Releases asker) w plain = tt
-one_plain (Tells to message) w plain = tt
-one_plain IsAnswered w plain = tt
-one_plain (Drops pid) w plain = tt
-one_plain (SetsErrors errors) w plain = tt
-one_plain (Orders message) w plain = plain
-one_plain Hears w plain = plain
-one_plain (GoesOn i) w plain = plain
-one_plain (Ends e) w plain = plain
+one_plain : (init : Option Init) (d : Deed) (w : Work) → IsPlain d → IsGranted init d w
+one_plain init (Commits c) w plain = absurd plain
+one_plain init (Sends to m) w plain = tt
+one_plain init SaysOk w plain = tt
+one_plain init (Asks to message c) w plain = tt
+one_plain init (Releases asker) w plain = tt
+one_plain init (Tells to message) w plain = tt
+one_plain init IsAnswered w plain = tt
+one_plain init (Drops pid) w plain = tt
+one_plain init (SetsErrors errors) w plain = tt
+one_plain init (Orders message) w plain = absurd plain
+one_plain init Hears w plain = absurd plain
+one_plain init (GoesOn i) w plain = absurd plain
+one_plain init (Ends e) w plain = absurd plain
 
-all_plain : (h : ℕ) (deeds : List Deed) (w : Work) → ArePlain deeds → AreGranted h deeds w
-all_plain h [] w plain = tt
-all_plain h (d ∷ deeds) w plain = (one_plain d w plain.0, all_plain h deeds (done h d (record w { plan = None })) plain.1)
+plain_core : (h : ℕ) (d : Deed) (w : Work) → IsPlain d → (done h d w).core ≡ w.core
+plain_core h (Commits c) w plain = absurd plain
+plain_core h (Sends to m) w plain = refl
+plain_core h SaysOk w plain = refl
+plain_core h (Asks to message c) w plain = refl
+plain_core h (Releases asker) w plain = absurd plain
+plain_core h (Tells to message) w plain = refl
+plain_core h IsAnswered w plain = refl
+plain_core h (Drops pid) w plain = refl
+plain_core h (SetsErrors errors) w plain = refl
+plain_core h (Orders message) w plain = absurd plain
+plain_core h Hears w plain = absurd plain
+plain_core h (GoesOn i) w plain = absurd plain
+plain_core h (Ends e) w plain = absurd plain
+
+all_plain : (h : ℕ) (init : Option Init) (deeds : List Deed) (w : Work) → ArePlain deeds → IsOnTask w.core → AreGranted h init deeds w
+all_plain h init [] w plain on = on
+all_plain h init (d ∷ deeds) w plain on =
+    let same = plain_core h d (record w { plan = None }) plain.0 in (
+      one_plain init d w plain.0,
+      all_plain h init deeds (done h d (record w { plan = None })) plain.1 (subst (λ (c : Core). IsOnTask c) (sym same) on),
+    )
 
 either : {X : Type 0} (P : X → Type 0) (b : Bool) (x y : X) → P x → P y → P (cond b x y)
 either P true x y one other = one
@@ -86,83 +105,83 @@ both_true false b q = absurd (true≢false (sym q))
 
 -- ## Decisions
 
-module _ (h : ℕ) (m : Message) (w : Work) where
+module _ (h : ℕ) (m : Message) (init : Option Init) (w : Work) (on : IsOnTask w.core) where
   commit_allowed : (b : Bool) (pipe : ℕ) (c : Command) (answer : List ℕ) (told : List Deed) → (b ≡ true → finds_room w.core c ≡ true) → ArePlain told
-      → AreGranted h (commit_deeds b h pipe c answer told) (has_turn h m w)
+      → AreGranted h init (commit_deeds b h pipe c answer told) (has_turn h m w)
   commit_allowed true pipe c answer told room plain =
-      (room refl, all_plain h (Sends h (pipe, answer) ∷ SaysOk ∷ told) (done h (Commits c) (record (has_turn h m w) { plan = None })) (tt, (tt, plain)))
-  commit_allowed false pipe c answer told room plain = (tt, tt)
+      (room refl, all_plain h init (Sends h (pipe, answer) ∷ SaysOk ∷ told) (done h (Commits c) (record (has_turn h m w) { plan = None })) (tt, (tt, plain)) on)
+  commit_allowed false pipe c answer told room plain = (tt, on)
 
-  decision_allowed : (pipe : ℕ) (d : Decision) → AreGranted h (decision_deeds w.core h pipe d) (has_turn h m w)
-  decision_allowed pipe (Answer answer) = (tt, tt)
+  decision_allowed : (pipe : ℕ) (d : Decision) → AreGranted h init (decision_deeds w.core h pipe d) (has_turn h m w)
+  decision_allowed pipe (Answer answer) = (tt, on)
   decision_allowed pipe (Commit c answer tell notice) =
       commit_allowed (finds_room w.core c) pipe c answer.items (map (λ told. Tells told notice.items) (hosts_where (has tell))) (λ q. q)
       (tells_plain notice.items (hosts_where (has tell)))
-  decision_allowed pipe (Ask asked notice c answer) = (tt, tt)
+  decision_allowed pipe (Ask asked notice c answer) = (tt, on)
 
-  gate_allowed : (gate errors pipe instruction : ℕ) (body : List ℕ) → AreGranted h (gate_deeds gate errors h pipe instruction body) (has_turn h m w)
+  gate_allowed : (gate errors pipe instruction : ℕ) (body : List ℕ) → AreGranted h init (gate_deeds gate errors h pipe instruction body) (has_turn h m w)
   gate_allowed gate errors pipe instruction body =
-      all_plain h (gate_deeds gate errors h pipe instruction body) (has_turn h m w)
-      (either ArePlain (gate == 6) _ _ (link_plain h pipe _ _) (either ArePlain (gate == 5) _ _ (tt, tt) (tt, tt)))
+      all_plain h init (gate_deeds gate errors h pipe instruction body) (has_turn h m w)
+      (either ArePlain (gate == 6) _ _ (link_plain h pipe _ _) (either ArePlain (gate == 5) _ _ (tt, tt) (tt, tt))) on
 
   served_allowed : (view : LinkView) (pipe instruction : ℕ) (body : List ℕ) (o : Option ℕ)
-      → AreGranted h (served_at w.core view h pipe instruction body o) (has_turn h m w)
+      → AreGranted h init (served_at w.core view h pipe instruction body o) (has_turn h m w)
   served_allowed view pipe instruction body None = decision_allowed pipe (decided w.core.tables view h pipe instruction body)
   served_allowed view pipe instruction body (Some gate) = gate_allowed gate view.errors pipe instruction body
 
-  agreed_allowed : (b : Bool) (c : Creation) → (b ≡ true → finds_room w.core c.command ≡ true) → AreGranted h (agreed b c) (has_turn h m w)
-  agreed_allowed true c room = (tt, (room refl, (tt, (tt, (tt, tt)))))
-  agreed_allowed false c room = (tt, (tt, (tt, tt)))
+  agreed_allowed : (b : Bool) (c : Creation) → (b ≡ true → finds_room w.core c.command ≡ true) → AreGranted h init (agreed b c) (has_turn h m w)
+  agreed_allowed true c room = (tt, (room refl, (tt, (tt, (tt, on)))))
+  agreed_allowed false c room = (tt, (tt, (tt, on)))
 
-  creation_allowed : (code : ℕ) (o : Option Creation) → AreGranted h (creation_deeds w.core code o) (has_turn h m w)
-  creation_allowed code None = (tt, tt)
+  creation_allowed : (code : ℕ) (o : Option Creation) → AreGranted h init (creation_deeds w.core code o) (has_turn h m w)
+  creation_allowed code None = (tt, on)
   creation_allowed code (Some c) =
       agreed_allowed ((code == 0) && finds_room w.core c.command) c (both_true (code == 0) (finds_room w.core c.command))
 
-  notice_allowed : (code : ℕ) (o : Option Notice) → AreGranted h (notice_deeds w.core code o) (has_turn h m w)
-  notice_allowed code None = (tt, tt)
+  notice_allowed : (code : ℕ) (o : Option Notice) → AreGranted h init (notice_deeds w.core code o) (has_turn h m w)
+  notice_allowed code None = (tt, on)
   notice_allowed code (Some n) = creation_allowed code (creation_in (Some n))
 
-  response_allowed : (code : ℕ) (o : Option Port) → AreGranted h (response_at w.core code o) (has_turn h m w)
-  response_allowed code None = (tt, tt)
+  response_allowed : (code : ℕ) (o : Option Port) → AreGranted h init (response_at w.core code o) (has_turn h m w)
+  response_allowed code None = (tt, on)
   response_allowed code (Some p) = notice_allowed code p.desk.notice
 
-  plain_allowed : (deeds : List Deed) → ArePlain deeds → AreGranted h deeds (has_turn h m w)
-  plain_allowed deeds plain = all_plain h deeds (has_turn h m w) plain
+  plain_allowed : (deeds : List Deed) → ArePlain deeds → AreGranted h init deeds (has_turn h m w)
+  plain_allowed deeds plain = all_plain h init deeds (has_turn h m w) plain on
 
-  asking_allowed : (instruction : ℕ) (b : Bool) → AreGranted h (unless_asking w.core w.ports h m instruction b) (has_turn h m w)
-  asking_allowed instruction true = (tt, tt)
+  asking_allowed : (instruction : ℕ) (b : Bool) → AreGranted h init (unless_asking w.core w.ports h m instruction b) (has_turn h m w)
+  asking_allowed instruction true = (tt, on)
   asking_allowed instruction false =
       served_allowed (view_for w.core.tables w.ports h) m.0 instruction (body_in m.1)
       (cond (goes_through w.core.tables h m.0 instruction) (own_gate w.core.tables h m.0) None)
 
-  kind_allowed : (r : Result (MessageKind × ℕ) MessageFault) → AreGranted h (kind_deeds w.core w.ports h m r) (has_turn h m w)
+  kind_allowed : (r : Result (MessageKind × ℕ) MessageFault) → AreGranted h init (kind_deeds w.core w.ports h m r) (has_turn h m w)
   kind_allowed (Ok (IsCommand, instruction)) = asking_allowed instruction _
   kind_allowed (Ok (IsEvent, instruction)) = plain_allowed (event_deeds w.core.tables h m)
       (either ArePlain (is_opened w.core.tables h m.0 && option_map_or (λ gate. gate == 4) (own_gate w.core.tables h m.0) false && posts_back m.1)
       (Sends h m ∷ []) (Drops m.0 ∷ []) (tt, tt) (tt, tt))
   kind_allowed (Ok (IsResponse, code)) = by (m.0 == 1)
     where
-      by : (b : Bool) → AreGranted h (if_notice w.core w.ports h m code b) (has_turn h m w)
+      by : (b : Bool) → AreGranted h init (if_notice w.core w.ports h m code b) (has_turn h m w)
       by true = response_allowed code (port_at w.ports h)
-      by false = (tt, tt)
-  kind_allowed (Err fault) = (tt, tt)
+      by false = (tt, on)
+  kind_allowed (Err fault) = (tt, on)
 
-  own_allowed : (b : Bool) → AreGranted h (own_deeds w.core w.ports h m b) (has_turn h m w)
+  own_allowed : (b : Bool) → AreGranted h init (own_deeds w.core w.ports h m b) (has_turn h m w)
   own_allowed true = kind_allowed (header_of m.1)
-  own_allowed false = (tt, tt)
+  own_allowed false = (tt, on)
 
-  relay_allowed : (other : ℕ) (b : Bool) → AreGranted h (relay_deeds w.ports h m other b) (has_turn h m w)
-  relay_allowed other true = (tt, tt)
+  relay_allowed : (other : ℕ) (b : Bool) → AreGranted h init (relay_deeds w.ports h m other b) (has_turn h m w)
+  relay_allowed other true = (tt, on)
   relay_allowed other false =
       plain_allowed (unrelayed (has_link w.ports h) h m)
       (either ArePlain (has_link w.ports h && is_command_message m.1) (answers_on h m.0 (answer_of response.NotConnected [])) (Drops m.0 ∷ [])
       (tt, tt) (tt, tt))
 
-  by_relay_allowed : (o : Option ℕ) → AreGranted h (deeds_by_relay w.core w.ports h m o) (has_turn h m w)
+  by_relay_allowed : (o : Option ℕ) → AreGranted h init (deeds_by_relay w.core w.ports h m o) (has_turn h m w)
   by_relay_allowed (Some other) = relay_allowed other (has_link w.ports other)
   by_relay_allowed None = own_allowed (has_link w.ports h)
 
   -- what a controller decides may be done, once the message has its turn
-  pub controller_allowed : AreGranted h (controller_deeds w.core w.ports h m) (has_turn h m w)
+  pub controller_allowed : AreGranted h init (controller_deeds w.core w.ports h m) (has_turn h m w)
   controller_allowed = by_relay_allowed (relayed_to w.core.tables h m)

@@ -92,7 +92,7 @@ sent_under_way {n = n} {noted = noted} {now = now} {start = start} {w = w} {at =
     ap (λ (e : End). noted ++ entry.Sent e 0 m.0 m.1 ∷ []) is in
     record {
       node = u.node;
-      core = λ live. (let k = u.core live in record { journal = k.journal; tables = k.tables });
+      core = λ live. (let k = u.core live in record { journal = k.journal; tables = k.tables; command = k.command; init = k.init });
       ends = stands;
       noted_are = λ kept.
           more_noted start w.entries (entry.Sent (end_of_node w.core h) s.session m.0 m.1) stays (λ k. more k ∙ at_is) u.noted_are kept
@@ -161,6 +161,8 @@ kept_brings {N} {writes} {n} {s} {now = now} {start = start} {short = short} {w 
           journal = ap (λ x. committed x w.core.tables (body_of c)) k.journal
               ∙ (ap (λ t. committed n.store.journal.state t (body_of c)) k.tables ∙ sym h.state);
           tables = ap (λ t. apply t c) k.tables ∙ sym h.tables;
+          command = k.command;
+          init = k.init;
         };
         ends = u.ends;
         noted_are = notes;

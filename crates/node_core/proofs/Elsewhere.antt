@@ -27,7 +27,7 @@ quiet_hosts : (ports : List Port) → map (λ (q : Quiet). q.0) (map quiet_at po
 quiet_hosts [] = refl
 quiet_hosts (p ∷ ports) = ap (λ ns. p.desk.host ∷ ns) (quiet_hosts ports)
 
-same_hosts : (a b : List Port) → map quiet_at a ≡ map quiet_at b → map host_at a ≡ map host_at b
+pub same_hosts : (a b : List Port) → map quiet_at a ≡ map quiet_at b → map host_at a ≡ map host_at b
 same_hosts a b same = sym (quiet_hosts a) ∙ (ap (map (λ (q : Quiet). q.0)) same ∙ quiet_hosts b)
 
 pub port_hosts : (h : ℕ) (f : Port → Port) → ((p : Port) → (f p).desk.host ≡ p.desk.host) → (ports : List Port)
@@ -135,6 +135,15 @@ keeps_turns h (m ∷ ms) w =
       where
         held : lack w.ports (needs h (deeds_of w.core w.ports h m)) ≡ Some short → have_turns h (m ∷ ms) w ≡ holds_back h short w
         held q = rw q refl
+
+pub let_hosts : (h : ℕ) (w : Work) → map host_at (lets_go h w).ports ≡ map host_at w.ports
+let_hosts h w = (keeps_let h w).hosts
+
+pub held_hosts : (h : ℕ) (short : ℕ × ℕ) (w : Work) → map host_at (holds_back h short w).ports ≡ map host_at w.ports
+held_hosts h short w = (keeps_held h short w).hosts
+
+pub handled_hosts : (h : ℕ) (m : Message) (deeds : List DeedOf) (w : Work) → map host_at (handles h m deeds w).ports ≡ map host_at w.ports
+handled_hosts h m deeds w = (keeps_handled h m deeds w).hosts
 
 pub turns_hosts : (h : ℕ) (ms : List Message) (w : Work) → map host_at (have_turns h ms w).ports ≡ map host_at w.ports
 turns_hosts h ms w = (keeps_turns h ms w).hosts

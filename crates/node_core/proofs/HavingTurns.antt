@@ -1,5 +1,5 @@
 -- A message that has its turn.
-use Rattle.std.proofs.Common.{◌≡◌, ℕ, Bool, true, false, List, [], ◌∷◌, map, refl, sym, ap, ◌∙◌, subst}
+use Rattle.std.proofs.Common.{◌≡◌, ◌≢◌, ℕ, Bool, true, false, List, [], ◌∷◌, map, refl, sym, ap, ◌∙◌, subst}
 use Rattle.std.specs.Prelude.{Option, Some, None, option_map}
 use Rattle.swp_base.specs.InMemory.{Plan}
 use Rattle.link_machine.specs.Machine.{Message}
@@ -10,17 +10,20 @@ use Rattle.node_machine.specs.Carrying.{port_at, turn_at, unless_cut, lack, need
 use Rattle.node_machine.specs.Turns.{deeds_of, handles, holds_back, lets_go, have_turns}
 use Rattle.std.specs.Prelude.{◌==◌}
 use Rattle.hcp_packet.specs.Packets.{IsSendable}
-use Rattle.node_machine.specs.Parts.{Core}
+use Rattle.node_machine.specs.Parts.{Init, Core}
 use Rattle.node_machine.specs.Controller.{controller_deeds}
+use Rattle.node_machine.specs.HostReplies.{host_deeds}
+use Rattle.std.proofs.lemmas.Bool.{ne_eqb}
 use Rattle.node_deeds.specs.declared.deeds.Deed.{Deed}
 use Rattle.node_deeds.specs.declared.room.Shortfall.{Shortfall}
 use Rattle.node_deeds.specs.Room.{lack_shown}
 use Rattle.node_deeds.specs.Cores.{AreDoable as AreDecided}
 use Rattle.node_ends.specs.Ends.{FewAreDue, held_at}
-use Rattle.node_core.specs.Deeds.{deed_of, AreGranted}
+use Rattle.node_deeds.specs.Shown.{Handling, deeds_shown}
+use Rattle.node_core.specs.Deeds.{IsOnTask, AreGranted}
 use Rattle.node_core.specs.Handling.{has_turn}
 use Rattle.node_core.specs.Turning.{IsDecided}
-use Rattle.node_core.proofs.Allowing.{controller_allowed}
+use Rattle.node_core.proofs.Ordering.{node_allowed}
 use Rattle.node_core.proofs.Deciding.{all_doable}
 use Rattle.node_core.specs.Bringing.{Foretells, Brings}
 use Rattle.node_core.proofs.Quiet.{quiet_at, handles_quiet}
@@ -115,24 +118,29 @@ quiet_after {w = w} h m deeds b live =
     let F : Bool → Type 0 = λ t. Foretells None b.sure b.torn t in
     ap (λ (v : Work). map quiet_at v.ports) (sym (b.is None (subst F (sym live) refl))) ∙ handles_quiet h m deeds (record w { plan = None })
 
--- ## What a controller decides
+-- ## What a node decides
 
-at_controller : (core : Core) (ports : List Port) (h : ℕ) (m : Message) → core.node ≡ 0 → deeds_of core ports h m ≡ controller_deeds core ports h m
+pub at_controller : (core : Core) (ports : List Port) (h : ℕ) (m : Message) → core.node ≡ 0 → deeds_of core ports h m ≡ controller_deeds core ports h m
 at_controller core ports h m q = let e : (core.node == 0) ≡ true = ap (λ n. n == 0) q in rw e refl
 
--- what a controller decided of the message that waits
-pub decided : (h pipe : ℕ) (message : List ℕ) (deeds : List Deed) (short : Option Shortfall) (w : Work) → w.core.node ≡ 0
-    → FewAreDue (port_at w.ports h) → IsSendable (pipe, message)
-    → map (deed_of (pipe, message)) deeds ≡ controller_deeds w.core w.ports h (pipe, message) → AreDecided deeds
-    → option_map lack_shown short ≡ lack w.ports (needs h (map (deed_of (pipe, message)) deeds))
-    → IsDecided h (pipe, message) deeds short (held_at w.ports h) w
-decided h pipe message deeds short w node few sendable told made lacks =
-    let m : Message = (pipe, message) in
-    let A : List DeedOf → Type 0 = λ ds. AreGranted h ds (has_turn h m w) in
+pub at_host : (core : Core) (ports : List Port) (h : ℕ) (m : Message) (p : Port) → core.node ≢ 0 → port_at ports h ≡ Some p
+    → deeds_of core ports h m ≡ host_deeds core p m
+at_host core ports h m p some at = let e : (core.node == 0) ≡ false = ne_eqb core.node 0 some in rw (e, at) refl
+
+pub no_host : (core : Core) (ports : List Port) (h : ℕ) (m : Message) → core.node ≢ 0 → port_at ports h ≡ None → deeds_of core ports h m ≡ []
+no_host core ports h m some none = let e : (core.node == 0) ≡ false = ne_eqb core.node 0 some in rw (e, none) refl
+
+-- what a node decided of the message that waits
+pub decided : (h : ℕ) (a : Handling) (deeds : List Deed) (short : Option Shortfall) (w : Work) → a.init ≡ w.core.init → IsOnTask w.core
+    → FewAreDue (port_at w.ports h) → IsSendable a.message → deeds_of w.core w.ports h a.message ≡ deeds_shown a deeds → AreDecided deeds
+    → option_map lack_shown short ≡ lack w.ports (needs h (deeds_shown a deeds)) → IsDecided h a deeds short (held_at w.ports h) w
+decided h a deeds short w runs on few sendable told made lacks =
+    let A : List DeedOf → Type 0 = λ ds. AreGranted h w.core.init ds (has_turn h a.message w) in
+    let B : Option Init → Type 0 = λ o. AreGranted h o (deeds_shown a deeds) (has_turn h a.message w) in
     record {
-      deeds_are = at_controller w.core w.ports h m node ∙ sym told;
+      deeds_are = told;
       lacks = sym lacks;
-      doable = all_doable h m deeds (has_turn h m w) sendable made (subst A (sym told) (controller_allowed h m w));
+      doable = all_doable h a deeds (has_turn h a.message w) sendable made (subst B (sym runs) (subst A told (node_allowed h a.message w on)));
       held_is = refl;
       few = few;
     }

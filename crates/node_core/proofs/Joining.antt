@@ -28,7 +28,7 @@ fails_step n (Some p) none = by (p.nth == 1) refl
     by true q = rw q refl
     by false q = rw q (number_step p.nth n none q)
 
-fewer_fail : (n : ℕ) (plan : Option Plan) → fails_within 0 plan ≡ false
+pub fewer_fail : (n : ℕ) (plan : Option Plan) → fails_within 0 plan ≡ false
 fewer_fail n None = refl
 fewer_fail n (Some p) = grind (arith, nat_tests)
 
@@ -52,7 +52,7 @@ pub behind_append : (a b : List Write) (plan : Option Plan) → plan_behind (a +
 behind_append [] b plan = refl
 behind_append (w ∷ a) b plan = behind_append a b (plan_after plan)
 
-foretold_parts : (cut : Bool) (a b torn : List Write) (plan : Option Plan) → Foretells plan (a ++ b) torn cut
+pub foretold_parts : (cut : Bool) (a b torn : List Write) (plan : Option Plan) → Foretells plan (a ++ b) torn cut
     → (fails_within (length a) plan ≡ false) × Foretells (plan_behind a plan) b torn cut
 foretold_parts false a b torn plan f = fails_parts a b plan f
 foretold_parts true a b torn plan f =
@@ -78,7 +78,7 @@ module _ {N : Type 0} (writes : N → ℕ → List ℕ → Bool → N → Type 0
   made_append (w ∷ a) b old mid new ok (inl fails) later = absurd (true≢false fails.0)
   made_append (w ∷ a) b old mid new ok (inr goes) later = inr (goes.0, goes.1, made_append a b goes.0 mid new ok goes.2 later)
 
-  made_on : (cut : Bool) (a b torn : List Write) (old mid new : N) → AreMade writes a old true mid → WereMade writes b torn mid cut new
+  pub made_on : (cut : Bool) (a b torn : List Write) (old mid new : N) → AreMade writes a old true mid → WereMade writes b torn mid cut new
       → WereMade writes (a ++ b) torn old cut new
   made_on false a b torn old mid new first later = (later.0, made_append a b old mid new true first later.1)
   made_on true a b torn old mid new first later = (later.0, made_append a b old mid later.0 true first later.1, later.2)

@@ -39,7 +39,7 @@ pub ends_changed : {N : Type 0} {n : Node N} {ends : Ends} {noted start : List E
     → IsInStep n noted short start w → EndsStandFor ends ports → IsInStep (record n { ends = ends }) noted short start (record w { ports = ports })
 ends_changed ports u stands = record {
   node = u.node;
-  core = λ live. (let k = u.core live in record { journal = k.journal; tables = k.tables });
+  core = λ live. (let k = u.core live in record { journal = k.journal; tables = k.tables; command = k.command; init = k.init });
   ends = stands;
   noted_are = u.noted_are;
   power = u.power;
@@ -166,7 +166,7 @@ late_acked ends ports i h p e is late same =
 
 -- ## A reset that is asked for
 
-reached_each : (pool : PoolState) (seats : List Seat) (ports : List Port) → SeatsStandFor pool seats ports
+pub reached_each : (pool : PoolState) (seats : List Seat) (ports : List Port) → SeatsStandFor pool seats ports
     → AllByRecursion (λ (p : Port). IsReached p.side) ports
 reached_each pool [] [] g = tt
 reached_each pool [] (p ∷ ports) g = absurd g

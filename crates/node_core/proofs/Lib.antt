@@ -18,4 +18,19 @@ mod Lateness
 mod Forgetting
 mod Freeing
 mod Settling
-mod Stepping
+pub mod Stepping
+pub mod Lasting
+pub mod Resting
+mod Refusing
+pub mod Between
+pub mod Behind
+mod Tasks
+mod HostAllowing
+pub mod Ordering
+mod Deciders
+pub mod Staying
+pub mod Sendings
+pub mod Asking
+pub mod Unwritten
+pub mod Beginning
+pub mod Faults

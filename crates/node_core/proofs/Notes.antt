@@ -130,7 +130,7 @@ pub comes_noted : {N : Type 0} {n : Node N} {ends : Ends} {before now start : Li
     → IsInStep (record n { ends = ends }) now short start (noting es (record w { ports = ports }))
 comes_noted {before = before} {start = start} {was = was} {short = short} {w = w} es ports u stands notes = record {
   node = u.node;
-  core = λ live. (let k = u.core live in record { journal = k.journal; tables = k.tables });
+  core = λ live. (let k = u.core live in record { journal = k.journal; tables = k.tables; command = k.command; init = k.init });
   ends = stands;
   noted_are = λ kept.
       notes.noted kept ∙ (ap (λ l. l ++ map unnumbered es) (u.noted_are (still was short notes.stays kept))

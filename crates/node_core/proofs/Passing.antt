@@ -13,9 +13,10 @@ use Rattle.node_ends.specs.Making.{AreAllDifferent}
 use Rattle.node_core.specs.declared.node.Node.{Node}
 use Rattle.node_core.specs.Nodes.{IsInStep}
 use Rattle.node_core.specs.Bringing.{Brings, Foretells, plan_left}
-use Rattle.node_core.specs.Turning.{AreFewDue}
+use Rattle.node_core.specs.Turning.{IsNodeInOrder, AreFewDue}
 use Rattle.node_core.proofs.Joining.{brings_plain, brings_then, brings_cut}
 use Rattle.node_core.proofs.HavingTurns.{brings_same}
+use Rattle.node_core.proofs.Ordering.{turns_fine, stays_in_order}
 use Rattle.node_core.proofs.Elsewhere.{host_at, turns_hosts, turns_few, few_at_all, hosts_differ, different_left, next_host, no_host, as_many_hosts}
 
 module _ {N : Type 0} (writes : N → ℕ → List ℕ → Bool → N → Type 0) where
@@ -46,6 +47,7 @@ pub record PassesOn {N : Type 0} (writes : N → ℕ → List ℕ → Bool → N
     (start : List Entry) (i : ℕ) (w : Work) : Type 0 where
   pub now : Work
   pub under : IsInStep n noted short start now
+  pub order : IsNodeInOrder now.core now.ports
   pub hosts : map host_at now.ports ≡ map host_at w.ports
   pub differ : AreAllDifferent (map host_at w.ports)
   pub few : AllByRecursion (λ (k : ℕ). FewAreDue (port_at now.ports k)) (drop i (map host_at w.ports))
@@ -54,10 +56,11 @@ pub record PassesOn {N : Type 0} (writes : N → ℕ → List ℕ → Bool → N
       → Brings writes first.store.journal.nv last.store.journal.nv (IsInStep last notes full start) passes w
 
 pub pass_begins : {N : Type 0} (writes : N → ℕ → List ℕ → Bool → N → Type 0) {n : Node N} {noted start : List Entry} {short : Bool} {w : Work}
-    → IsInStep n noted short start w → AreFewDue w.ports → PassesOn writes n n noted short start 0 w
-pass_begins writes {n} {w = w} u few = record {
+    → IsInStep n noted short start w → IsNodeInOrder w.core w.ports → AreFewDue w.ports → PassesOn writes n n noted short start 0 w
+pass_begins writes {n} {w = w} u order few = record {
   now = w;
   under = u;
+  order = order;
   hosts = refl;
   differ = hosts_differ n.ends.pool n.ends.seats.items w.ports u.ends.hosts u.ends.each;
   few = few_at_all w.ports (map host_at w.ports) few;
@@ -99,8 +102,8 @@ pub pass_goes_on : {N : Type 0} {writes : N → ℕ → List ℕ → Bool → N 
     {short short2 : Bool} {i : ℕ} {w : Work} (k : PassesOn writes first n noted short start i w) (h : ℕ)
     → Some h ≡ option_map host_at (slice_get k.now.ports i)
     → (b : Brings writes n.store.journal.nv n2.store.journal.nv (IsInStep n2 noted2 short2 start) (have_turns h (got_at k.now.ports h)) k.now)
-    → b.after.cut ≡ false → PassesOn writes first n2 noted2 short2 start (suc i) w
-pass_goes_on {N} {writes} {first} {n} {n2} {start = start} {i = i} {w = w} k h is b live =
+    → b.after.cut ≡ false → n.store.journal.live ≡ true → PassesOn writes first n2 noted2 short2 start (suc i) w
+pass_goes_on {N} {writes} {first} {n} {n2} {start = start} {i = i} {w = w} k h is b live power =
     let split = next_is k h is in
     let left : List ℕ = drop (suc i) (map host_at w.ports) in
     let D : List ℕ → Type 0 = λ hosts. AreAllDifferent hosts in
@@ -114,6 +117,7 @@ pass_goes_on {N} {writes} {first} {n} {n2} {start = start} {i = i} {w = w} k h i
     record {
       now = b.after;
       under = b.stands;
+      order = stays_in_order (turns_fine h ms) b live (k.under.power ∙ ap not power) k.order;
       hosts = ap (map host_at) (sym same) ∙ (turns_hosts h ms (record k.now { plan = None }) ∙ k.hosts);
       differ = k.differ;
       few = few_left left h k.now.ports b.after.ports differ.0 few.1 (subst Q same (turns_few h ms (record k.now { plan = None })));

@@ -1,7 +1,7 @@
 -- What is settled behind what came in a step, and what that leaves at the ends.
 use Rattle.std.proofs.Common.{◌≡◌, ℕ, Bool, true, false, not, ◌≤◌, List, [], ◌∷◌, ◌++◌, map, refl, sym, ap, ap₂, ◌∙◌, subst, append_assoc, append-nil}
 use Rattle.std.specs.Prelude.{Option, Some, None}
-use Rattle.std.specs.List.{flat_map, list_any}
+use Rattle.std.specs.List.{flat_map}
 use Rattle.std.specs.Option.{option_map_or}
 use Rattle.std.proofs.lemmas.List.Concat.{flat_map-cons}
 use Rattle.swp_base.specs.InMemory.{Plan}
@@ -13,7 +13,7 @@ use Rattle.node_machine.specs.Parts.Deed.{Releases, Sends}
 use Rattle.node_machine.specs.Carrying.{done, all_done, unless_cut}
 use Rattle.node_machine.specs.Node.{forgets, is_forgotten, is_over, without_notice, after_sessions, forgotten, all_owed}
 use Rattle.node_machine.specs.Controller.{asked_at}
-use Rattle.node_ends.specs.Ends.{AreOfHosts, FewAreDue}
+use Rattle.node_ends.specs.Ends.{FewAreDue}
 use Rattle.node_core.specs.declared.node.Node.{Node}
 use Rattle.node_core.specs.Nodes.{IsInStep}
 use Rattle.node_core.specs.Bringing.{Brings, Foretells, plan_left}
@@ -96,26 +96,11 @@ plain_owed r s ended late =
 
 -- ## Sessions that ended
 
--- with the session of a host nothing ends at a controller that it keeps of its memory
-pub over_under_way : {N : Type 0} {n : Node N} {noted start : List Entry} {short : Bool} (w : Work) → IsInStep n noted short start
-    (record w { ports = map without_notice (map (forgets w.ports) w.ports) }) → IsInStep n noted short start (left_over w)
-over_under_way {N} {n} {noted} {start} {short} w u = by (list_any is_over w.ports) refl
-  where
-    by : (b : Bool) → list_any is_over w.ports ≡ b → IsInStep n noted short start (left_over w)
-    by true q = rw q (record {
-      node = u.node;
-      core = λ live. (let k = u.core live in record { journal = k.journal; tables = k.tables });
-      ends = u.ends;
-      noted_are = u.noted_are;
-      power = u.power;
-    })
-    by false q = rw q (record {
-      node = u.node;
-      core = λ live. (let k = u.core live in record { journal = k.journal; tables = k.tables });
-      ends = u.ends;
-      noted_are = u.noted_are;
-      power = u.power;
-    })
+-- what a node keeps once sessions have ended
+pub left_under_way : {N : Type 0} {n : Node N} {noted start : List Entry} {short : Bool} (w : Work) → IsInStep n noted short start
+    (record w { core = after_sessions w.core w.ports; ports = map without_notice (map (forgets w.ports) w.ports) })
+    → IsInStep n noted short start (left_over w)
+left_under_way w u = u
 
 -- ## What is left at the ends
 
@@ -137,7 +122,7 @@ map_quiet : (f : Port → Port) → ((p : Port) → quiet_at (f p) ≡ quiet_at 
 map_quiet f same [] = refl
 map_quiet f same (p ∷ ports) = ap₂ (λ (q : Quiet) qs. q ∷ qs) (same p) (map_quiet f same ports)
 
-quiet_left : (w : Work) → map quiet_at (left_over w).ports ≡ map quiet_at w.ports
+pub quiet_left : (w : Work) → map quiet_at (left_over w).ports ≡ map quiet_at w.ports
 quiet_left w =
     map_quiet without_notice quiet_without (map (forgets w.ports) w.ports) ∙ map_quiet (forgets w.ports) (quiet_forgets w.ports) w.ports
 
@@ -148,7 +133,7 @@ quiet_unless deeds w = by w.cut refl
     by true q = ap (λ (v : Work). map quiet_at v.ports) (stays_cut (all_done 0 deeds) w q)
     by false q = ap (λ (v : Work). map quiet_at v.ports) (goes_on (all_done 0 deeds) w q) ∙ all_quiet 0 deeds w
 
-settled_quiet : (syncs : List Deed) (w : Work) → map quiet_at (settles syncs w).ports ≡ map quiet_at w.ports
+pub settled_quiet : (syncs : List Deed) (w : Work) → map quiet_at (settles syncs w).ports ≡ map quiet_at w.ports
 settled_quiet syncs w =
     let freed : Work = all_done 0 (forgotten w.ports) (left_over w) in
     quiet_unless (all_owed (map (forgets w.ports) w.ports)) (all_done 0 syncs freed)
@@ -170,15 +155,6 @@ quiet_few (p ∷ a) (q ∷ b) same few =
     let there : map quiet_at a ≡ map quiet_at b = cc in
     let P : Quiet → Type 0 = λ x. x.1 ≤ 6 in
     (subst P (sym here) few.0, quiet_few a b there few.1)
-
-pub quiet_of_hosts : (a b : List Port) → map quiet_at a ≡ map quiet_at b → AreOfHosts b → AreOfHosts a
-quiet_of_hosts [] b same all = tt
-quiet_of_hosts (p ∷ a) [] same all = cc
-quiet_of_hosts (p ∷ a) (q ∷ b) same all =
-    let here : quiet_at p ≡ quiet_at q = cc in
-    let there : map quiet_at a ≡ map quiet_at b = cc in
-    let P : Quiet → Type 0 = λ x. (1 ≤ x.0) × (x.0 ≤ 7) in
-    (subst P (sym here) all.0, quiet_of_hosts a b there all.1)
 
 -- ## Identifiers
 

@@ -91,7 +91,7 @@ synced_is core h i (p ∷ ports) differ =
         ap (λ l. l ++ flat_map (synced core (AtEnd h i)) ports) (nothing q) ∙ (later ∙ ap K (sym (behind q)))
 
 -- where an input never brings one
-silent_synced : (core : Core) (input : NodeInput) → ((p : Port) → synced core input p ≡ []) → (ports : List Port)
+pub silent_synced : (core : Core) (input : NodeInput) → ((p : Port) → synced core input p ≡ []) → (ports : List Port)
     → flat_map (synced core input) ports ≡ []
 silent_synced core input silent [] = refl
 silent_synced core input silent (p ∷ ports) =
@@ -150,19 +150,6 @@ sync_of_host h i ports told hosts is = at (port_at ports h) refl (found_all _ po
         let H : ℕ → Type 0 = λ n. (1 ≤ n) × (n ≤ 7) in
         subst (λ (t : Option LinkReport). P (sync_told h t)) (sym some)
         (of (report_told (report p.side i)).sync (report_told (report p.side i)) refl (subst H (doing.host_at h ports p q) host))
-
-pub come_hosts : (h : ℕ) (i : LinkInput) (w : Work) → AreOfHosts w.ports → AreOfHosts (all_come (AtEnd h i) w).ports
-come_hosts h i w hosts = all w.ports hosts
-  where
-    one : (b : Bool) (p : Port) → (p.desk.host == h) ≡ b → (has_come p (input_at (AtEnd h i) p)).desk.host ≡ p.desk.host
-    one true p q = rw q refl
-    one false p q = rw q refl
-
-    all : (ports : List Port) → AreOfHosts ports → AreOfHosts (map (λ (p : Port). has_come p (input_at (AtEnd h i) p)) ports)
-    all [] hosts = tt
-    all (p ∷ ports) hosts =
-        let H : ℕ → Type 0 = λ n. (1 ≤ n) × (n ≤ 7) in
-        (subst H (sym (one (p.desk.host == h) p refl)) hosts.0, all ports hosts.1)
 
 -- ## Control frames
 

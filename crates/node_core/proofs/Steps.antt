@@ -17,12 +17,12 @@ use Rattle.node_core.specs.Nodes.{IsInStep}
 use Rattle.swp_base.specs.InMemory.{Plan}
 use Rattle.hci_store.specs.Stored.{Stored}
 use Rattle.node_core.specs.Bringing.{Brings, WereMade, Foretells, plan_left}
-use Rattle.link_machine.specs.Machine.{Message}
 use Rattle.node_machine.specs.Parts.{Deed as DeedOf}
 use Rattle.node_machine.specs.Carrying.{done, all_done}
 use Rattle.node_deeds.specs.declared.deeds.Deed.{Deed}
 use Rattle.node_deeds.specs.declared.deeds.Deed.TheVariants as kept
-use Rattle.node_core.specs.Deeds.{deed_of, IsDoableNow, AreDoableInTurn}
+use Rattle.node_deeds.specs.Shown.{Handling, deed_shown}
+use Rattle.node_core.specs.Deeds.{IsDoableNow, AreDoableInTurn}
 use Rattle.node_core.proofs.Joining.{brings_plain, brings_then, brings_cut}
 use Rattle.node_core.proofs.Doing.{more_noted}
 
@@ -52,7 +52,7 @@ pub silent_turn : {N : Type 0} {n : Node N} {ends : Ends} {noted start : List En
     → IsInStep (record n { ends = ends }) noted was start (turn_at h x w)
 silent_turn {n = n} {noted = noted} {start = start} {w = w} h x silent u stands = record {
   node = u.node;
-  core = λ live. (let k = u.core live in record { journal = k.journal; tables = k.tables });
+  core = λ live. (let k = u.core live in record { journal = k.journal; tables = k.tables; command = k.command; init = k.init });
   ends = stands;
   noted_are = λ kept.
       u.noted_are kept
@@ -67,7 +67,7 @@ pub desk_changed : {N : Type 0} {n : Node N} {ends : Ends} {noted start : List E
     → IsInStep (record n { ends = ends }) noted was start (with_desk h f w)
 desk_changed h f u stands = record {
   node = u.node;
-  core = λ live. (let k = u.core live in record { journal = k.journal; tables = k.tables });
+  core = λ live. (let k = u.core live in record { journal = k.journal; tables = k.tables; command = k.command; init = k.init });
   ends = stands;
   noted_are = u.noted_are;
   power = u.power;
@@ -84,41 +84,41 @@ plainly {N} writes {n} {n2} {noted} {now} {start} {was} {short} {w} f u live sam
     subst P (sym (ap (λ (s : Stored N). s.journal.nv) same)) (brings_plain writes after (cut ∙ power) written is)
 
 -- the deed of an arm
-pub of_deed : {N : Type 0} {writes : N → ℕ → List ℕ → Bool → N → Type 0} {old new : N} {S : Work → Type 0} {w : Work} (h : ℕ) (m : Message) (deed d : Deed)
-    → deed ≡ d → Brings writes old new S (done h (deed_of m d)) w → Brings writes old new S (done h (deed_of m deed)) w
-of_deed {N} {writes} {old} {new} {S} {w} h m deed d is b =
-    let P : Deed → Type 0 = λ x. Brings writes old new S (done h (deed_of m x)) w in subst P (sym is) b
+pub of_deed : {N : Type 0} {writes : N → ℕ → List ℕ → Bool → N → Type 0} {old new : N} {S : Work → Type 0} {w : Work} (h : ℕ) (a : Handling) (deed d : Deed)
+    → deed ≡ d → Brings writes old new S (done h (deed_shown a d)) w → Brings writes old new S (done h (deed_shown a deed)) w
+of_deed {N} {writes} {old} {new} {S} {w} h a deed d is b =
+    let P : Deed → Type 0 = λ x. Brings writes old new S (done h (deed_shown a x)) w in subst P (sym is) b
 
 -- whether deeds may be done has nothing to do with the plan
-deed_anyway : (m : Message) (d : Deed) (w : Work) (plan : Option Plan) → IsDoableNow m d (record w { plan = plan }) → IsDoableNow m d w
-deed_anyway m (kept.Commits c) w plan h = h
-deed_anyway m (kept.PassesOn host) w plan h = h
-deed_anyway m (kept.Sends host pipe message) w plan h = h
-deed_anyway m kept.SaysOk w plan h = h
-deed_anyway m (kept.Asks row) w plan h = h
-deed_anyway m (kept.Releases asker) w plan h = h
-deed_anyway m (kept.Tells host notice) w plan h = h
-deed_anyway m kept.IsAnswered w plan h = h
-deed_anyway m (kept.Drops pipe) w plan h = h
-deed_anyway m (kept.SetsErrors errors) w plan h = h
-deed_anyway m (kept.Orders order) w plan h = h
-deed_anyway m kept.Hears w plan h = h
-deed_anyway m (kept.GoesOn answered) w plan h = h
-deed_anyway m (kept.Ends e) w plan h = h
+deed_anyway : (a : Handling) (d : Deed) (w : Work) (plan : Option Plan) → IsDoableNow a d (record w { plan = plan }) → IsDoableNow a d w
+deed_anyway a (kept.Commits c) w plan h = h
+deed_anyway a (kept.PassesOn host) w plan h = h
+deed_anyway a (kept.Sends host pipe message) w plan h = h
+deed_anyway a kept.SaysOk w plan h = h
+deed_anyway a (kept.Asks row) w plan h = h
+deed_anyway a (kept.Releases asker) w plan h = h
+deed_anyway a (kept.Tells host notice) w plan h = h
+deed_anyway a kept.IsAnswered w plan h = h
+deed_anyway a (kept.Drops pipe) w plan h = h
+deed_anyway a (kept.SetsErrors errors) w plan h = h
+deed_anyway a (kept.Orders order) w plan h = h
+deed_anyway a kept.Hears w plan h = h
+deed_anyway a (kept.GoesOn answered) w plan h = h
+deed_anyway a (kept.Ends e) w plan h = h
 
-deeds_anyway : (h : ℕ) (m : Message) (deeds : List Deed) (w : Work) (plan : Option Plan) → AreDoableInTurn h m deeds (record w { plan = plan })
-    → AreDoableInTurn h m deeds w
-deeds_anyway h m [] w plan a = tt
-deeds_anyway h m (d ∷ deeds) w plan a = (deed_anyway m d w plan a.0, a.1)
+deeds_anyway : (h : ℕ) (a : Handling) (deeds : List Deed) (w : Work) (plan : Option Plan) → AreDoableInTurn h a deeds (record w { plan = plan })
+    → AreDoableInTurn h a deeds w
+deeds_anyway h a [] w plan all = tt
+deeds_anyway h a (d ∷ deeds) w plan all = (deed_anyway a d w plan all.0, all.1)
 
 -- those behind one that went through may be done
-pub doable_then : {N : Type 0} {writes : N → ℕ → List ℕ → Bool → N → Type 0} {old new : N} {S : Work → Type 0} {w : Work} (h : ℕ) (m : Message) (d : Deed)
-    (deeds : List Deed) (b : Brings writes old new S (done h (deed_of m d)) w) → b.after.cut ≡ false
-    → AreDoableInTurn h m deeds (done h (deed_of m d) (record w { plan = None })) → AreDoableInTurn h m deeds b.after
-doable_then {w = w} h m d deeds b live a =
+pub doable_then : {N : Type 0} {writes : N → ℕ → List ℕ → Bool → N → Type 0} {old new : N} {S : Work → Type 0} {w : Work} (h : ℕ) (a : Handling) (d : Deed)
+    (deeds : List Deed) (b : Brings writes old new S (done h (deed_shown a d)) w) → b.after.cut ≡ false
+    → AreDoableInTurn h a deeds (done h (deed_shown a d) (record w { plan = None })) → AreDoableInTurn h a deeds b.after
+doable_then {w = w} h a d deeds b live all =
     let F : Bool → Type 0 = λ t. Foretells None b.sure b.torn t in
-    let P : Work → Type 0 = λ v. AreDoableInTurn h m deeds v in
-    deeds_anyway h m deeds b.after (plan_left b.after.cut b.sure None) (subst P (b.is None (subst F (sym live) refl)) a)
+    let P : Work → Type 0 = λ v. AreDoableInTurn h a deeds v in
+    deeds_anyway h a deeds b.after (plan_left b.after.cut b.sure None) (subst P (b.is None (subst F (sym live) refl)) all)
 
 -- The node has come to this state in its deeds, and whatever these deeds bring from there, all deeds bring.
 pub record GoesOn {N : Type 0} (writes : N → ℕ → List ℕ → Bool → N → Type 0) (first n : Node N) (noted : List Entry) (short : Bool) (start : List Entry)

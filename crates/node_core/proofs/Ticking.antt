@@ -29,7 +29,7 @@ differs a b n = by (a == b) refl
     by true e = absurd (n (eqb-true a b e))
     by false e = e
 
-none_with : (h : ℕ) (f : Port → Port) (ports : List Port) → AllByRecursion (λ (g : ℕ). g ≢ h) (map host_at ports) → with_port h f ports ≡ ports
+pub none_with : (h : ℕ) (f : Port → Port) (ports : List Port) → AllByRecursion (λ (g : ℕ). g ≢ h) (map host_at ports) → with_port h f ports ≡ ports
 none_with h f [] differ = refl
 none_with h f (p ∷ ports) differ =
     let other = differs p.desk.host h (λ e. differ.0 e) in

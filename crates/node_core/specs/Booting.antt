@@ -1,5 +1,5 @@
 -- A boot of a node: what it finds in its memory, whatever stands there, and what a boot that is refused leaves.
-use Rattle.std.specs.Prelude.{◌≡◌, ◌⊎◌, ℕ, Bool, List, map, false, Some, IsTrue}
+use Rattle.std.specs.Prelude.{◌≡◌, ◌⊎◌, ℕ, Bool, List, map, false, Some, None, IsTrue}
 use Rattle.swp_base.specs.Outside.{Rose}
 use Rattle.swp_base.specs.declared.link_terms.Role.{Role as Named}
 use Rattle.nv_journal.specs.declared.JournalFault.{JournalFault}
@@ -28,6 +28,8 @@ pub record BeginsAs {N : Type 0} (number : ℕ) (role : Named) (hosts : List ℕ
   pub number_is : n.number ≡ number
   pub ends : EndsStandFor n.ends (map (new_port role) hosts)
   pub live : IsTrue n.store.journal.live
+  pub command : n.tasks.command ≡ None
+  pub init : n.tasks.init ≡ None
 
 -- A store didn't start on this memory: for a read or a write that failed, since no generation is left for the snapshot of a memory of
 -- version 01, or for what is wrong with the memory. The next start finds what this one found.

@@ -7,3 +7,6 @@ pub mod Turning
 pub mod Owing
 pub mod Booting
 pub mod Syncing
+pub mod Giving
+pub mod Running
+pub mod Faults

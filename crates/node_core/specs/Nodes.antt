@@ -1,7 +1,9 @@
 -- What is kept of a node, and for which states of its machine it stands.
-use Rattle.std.specs.Prelude.{◌≡◌, Bool, false, not, List, ◌++◌, map, IsSome, IsTrue}
+use Rattle.std.specs.Prelude.{◌≡◌, Bool, false, not, List, ◌++◌, map, option_map, IsSome, IsTrue}
 use Rattle.trace_model.specs.declared.entry.Entry.{Entry}
 use Rattle.node_machine.specs.Parts.{Core, Port, Work}
+use Rattle.node_deeds.specs.Shown.{ordered_by}
+use Rattle.node_deeds.specs.Hosts.{init_running}
 use Rattle.node_ends.specs.Ends.{EndsStandFor}
 use Rattle.node_core.specs.declared.node.Node.{Node}
 use Rattle.node_core.specs.Noting.{unnumbered}
@@ -10,6 +12,8 @@ use Rattle.node_core.specs.Noting.{unnumbered}
 pub record CoreStandsFor {N : Type 0} (n : Node N) (c : Core) : Type 0 where
   pub journal : c.journal ≡ n.store.journal.state
   pub tables : c.tables ≡ n.store.tables
+  pub command : option_map ordered_by c.command ≡ n.tasks.command
+  pub init : c.init ≡ init_running n.tasks.init
 
 -- a node is in order: its ends stand for some ports, and its store may be used while it is live
 pub record IsSoundNode {N : Type 0} (n : Node N) : Type 0 where

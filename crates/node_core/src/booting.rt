@@ -8,6 +8,7 @@ ghost use Rattle.node_core.specs.Booting.{found_in_memory};
 
 use crate::node::Node;
 use hci_store::Store;
+use node_deeds::Tasks;
 use node_ends::Ends;
 use nv_journal::{JournalFault, StartRefused};
 use std::alloc::Global;
@@ -79,6 +80,10 @@ impl<N: Nv + Drop> Node<N> {
                 number,
                 store,
                 ends,
+                tasks: Tasks {
+                    command: None,
+                    init: None,
+                },
             }),
             Err(StartRefused { nv, fault }) => Err(BootRefused {
                 nv,

@@ -4,7 +4,7 @@ ghost use Rattle.std.specs.Prelude.{◌≡◌};
 use crate::node::Node;
 use crate::noting::note;
 use hci_tables::Command;
-use node_deeds::{About, Deed, Unanswered};
+use node_deeds::{About, Deed, InitEnd, Unanswered, ordered_by};
 use pipe_table::PipeRow;
 use swp_base::Nv;
 use trace_model::{End, Entry, Octets, Watch};
@@ -25,9 +25,16 @@ impl<N: Nv + Drop> Node<N> {
     ghost use Rattle.node_machine.specs.Carrying.{turn_at, commit, notified, done, all_done, port_at, has_room_for, end_of_node, noting};
     ghost use Rattle.node_core.specs.Nodes.{IsInStep, IsSoundNode};
     ghost use Rattle.node_core.specs.Bringing.{Brings};
+    ghost use Rattle.node_core.specs.Faults.{CountsFaults};
     ghost use Rattle.node_machine.specs.Turns.{handles, holds_back};
     ghost use Rattle.node_core.specs.Handling.{has_turn, is_noted_held};
-    ghost use Rattle.node_core.specs.Deeds.{deed_of, IsDoableNow, AreDoableInTurn};
+    ghost use Rattle.std.specs.Prelude.{Bool};
+    ghost use Rattle.history.specs.Steps.{end_of};
+    ghost use Rattle.link_entries.specs.entries.Entries.End.{Host};
+    ghost use Rattle.node_machine.specs.Parts.Deed.{Orders, Hears, Ends};
+    ghost use Rattle.node_deeds.specs.Shown.{goes_on_with, end_shown};
+    ghost use Rattle.node_deeds.specs.Hosts.{init_running};
+    ghost use Rattle.node_core.specs.Deeds.{handling, deed_of, IsDoableNow, AreDoableInTurn};
 
     // The node's end of the link with this host.
     pub(crate) fn end_at(&self, host: u8) -> End
@@ -47,6 +54,7 @@ impl<N: Nv + Drop> Node<N> {
             → IsInStep self.new (W.noted watch.new) (W.is_short watch.new) start (turn_at host (Give (pipe, message.now)) w) }
         ensures store { self.new.store ≡ self.old.store }
         ensures number { self.new.number ≡ self.old.number }
+        ensures tasks { self.new.tasks ≡ self.old.tasks }
         ensures runs { IsSoundNode self.new }
     {
         if self.ends.send(host, pipe, message) {
@@ -61,6 +69,7 @@ impl<N: Nv + Drop> Node<N> {
     }
 
     // A command for which there is room is committed: it is noted, and then written. Whether its writes went through.
+    #[tactic(auto, using(crate::proofs::Faults::faults_stay, crate::proofs::Faults::faults_then))]
     pub(crate) fn commit<W: Watch>(&mut self, command: &Command, watch: &mut W) -> bool
         requires runs { IsSoundNode self.old }
         requires live { IsTrue self.old.store.journal.live }
@@ -70,7 +79,9 @@ impl<N: Nv + Drop> Node<N> {
             → Brings N.writes self.old.store.journal.nv self.new.store.journal.nv
             (IsInStep self.new (W.noted watch.new) (W.is_short watch.new) start) (commit command.now) w }
         ensures live { result ≡ self.new.store.journal.live }
+        ensures faults { CountsFaults N.faults self.old.store self.new.store }
         ensures number { self.new.number ≡ self.old.number }
+        ensures tasks { self.new.tasks ≡ self.old.tasks }
         ensures runs { IsSoundNode self.new }
     {
         let node = self.number;
@@ -96,6 +107,7 @@ impl<N: Nv + Drop> Node<N> {
             → IsInStep self.new (W.noted watch.new) (W.is_short watch.new) start (notified host (about_shown about) message.now w) }
         ensures store { self.new.store ≡ self.old.store }
         ensures number { self.new.number ≡ self.old.number }
+        ensures tasks { self.new.tasks ≡ self.old.tasks }
         ensures runs { IsSoundNode self.new }
     {
         self.send(host, 1, message, watch);
@@ -112,6 +124,7 @@ impl<N: Nv + Drop> Node<N> {
             (done 0 (Asks row.dest (18 ∷ ends_of row) (creation_of_row row)) w) }
         ensures store { self.new.store ≡ self.old.store }
         ensures number { self.new.number ≡ self.old.number }
+        ensures tasks { self.new.tasks ≡ self.old.tasks }
         ensures runs { IsSoundNode self.new }
     {
         self.ends.set_aside(row.creator);
@@ -138,6 +151,7 @@ impl<N: Nv + Drop> Node<N> {
             → IsInStep self.new (W.noted watch.new) (W.is_short watch.new) start (turn_at asker Release w) }
         ensures store { self.new.store ≡ self.old.store }
         ensures number { self.new.number ≡ self.old.number }
+        ensures tasks { self.new.tasks ≡ self.old.tasks }
         ensures runs { IsSoundNode self.new }
     {
         self.ends.release(asker);
@@ -171,7 +185,71 @@ impl<N: Nv + Drop> Node<N> {
         note(watch, Entry::Dropped { at, pid: pipe }, &[]);
     }
 
+    // A host sends a command, which isn't empty, on pipe 01: it waits for the answer.
+    pub(crate) fn order<W: Watch>(&mut self, host: u8, message: &[u8], watch: &mut W)
+        requires runs { IsSoundNode self.old }
+        requires sendable { IsSendable (1, message.now) }
+        ensures carried { (start : List Noted) (w : Work) → IsInStep self.old (W.noted watch.old) (W.is_short watch.old) start w
+            → IsInStep self.new (W.noted watch.new) (W.is_short watch.new) start (done host (Orders message.now) w) }
+        ensures store { self.new.store ≡ self.old.store }
+        ensures number { self.new.number ≡ self.old.number }
+        ensures runs { IsSoundNode self.new }
+    {
+        self.tasks.command = Some(ordered_by(message));
+        self.send(host, 1, message, watch);
+    }
+
+    // The last command of a host on pipe 01 is answered.
+    fn hear(&mut self)
+        requires runs { IsSoundNode self.old }
+        ensures carried { (host : ℕ) (noted : List Noted) (short : Bool) (start : List Noted) (w : Work) → IsInStep self.old noted short start w
+            → IsInStep self.new noted short start (done host Hears w) }
+        ensures store { self.new.store ≡ self.old.store }
+        ensures number { self.new.number ≡ self.old.number }
+        ensures runs { IsSoundNode self.new }
+    {
+        self.tasks.command = None;
+    }
+
+    // The init that runs has had so many answers. Where none runs, nothing more comes of an answer than that it was heard.
+    fn go_on(&mut self, answered: u8)
+        requires runs { IsSoundNode self.old }
+        ensures carried { (host : ℕ) (noted : List Noted) (short : Bool) (start : List Noted) (w : Work) → IsInStep self.old noted short start w
+            → IsInStep self.new noted short start (done host (goes_on_with (init_running self.old.tasks.init) answered) w) }
+        ensures store { self.new.store ≡ self.old.store }
+        ensures number { self.new.number ≡ self.old.number }
+        ensures runs { IsSoundNode self.new }
+    {
+        match &mut self.tasks.init {
+            Some(init) => init.answered = answered,
+            None => self.tasks.command = None,
+        }
+    }
+
+    // The init of a host ends, which is noted so.
+    fn end_init<W: Watch>(&mut self, end: InitEnd, watch: &mut W)
+        requires runs { IsSoundNode self.old }
+        ensures carried { (host : ℕ) (start : List Noted) (w : Work) → IsInStep self.old (W.noted watch.old) (W.is_short watch.old) start w
+            → IsInStep self.new (W.noted watch.new) (W.is_short watch.new) start
+            (done host (Ends (end_shown (end_of self.old.number Host) end)) w) }
+        ensures store { self.new.store ≡ self.old.store }
+        ensures number { self.new.number ≡ self.old.number }
+        ensures runs { IsSoundNode self.new }
+    {
+        self.tasks.init = None;
+        let at = End {
+            link: self.number,
+            at_host: true,
+        };
+        match end {
+            InitEnd::Same => note(watch, Entry::InitSame { at }, &[]),
+            InitEnd::Made { pipes } => note(watch, Entry::InitMade { at, count: pipes }, &[]),
+            InitEnd::Failed { code } => note(watch, Entry::InitFailed { at, code }, &[]),
+        }
+    }
+
     // One deed, where this message of the end with this host is handled. Whether the node has its power still.
+    #[tactic(auto, using(crate::proofs::Faults::faults_stay, crate::proofs::Faults::faults_then))]
     fn carry_out<W: Watch>(
         &mut self,
         host: u8,
@@ -183,11 +261,12 @@ impl<N: Nv + Drop> Node<N> {
         requires runs { IsSoundNode self.old }
         requires live { IsTrue self.old.store.journal.live }
         requires doable { (start : List Noted) × (w : Work) × IsInStep self.old (W.noted watch.old) (W.is_short watch.old) start w
-            × IsDoableNow (pipe, message.now) deed.now w }
+            × IsDoableNow (handling self.old (pipe, message.now)) deed.now w }
         ensures carried { (start : List Noted) (w : Work) → IsInStep self.old (W.noted watch.old) (W.is_short watch.old) start w
             → Brings N.writes self.old.store.journal.nv self.new.store.journal.nv
-            (IsInStep self.new (W.noted watch.new) (W.is_short watch.new) start) (done host (deed_of (pipe, message.now) deed.now)) w }
+            (IsInStep self.new (W.noted watch.new) (W.is_short watch.new) start) (done host (deed_of self.old (pipe, message.now) deed.now)) w }
         ensures live { result ≡ self.new.store.journal.live }
+        ensures faults { CountsFaults N.faults self.old.store self.new.store }
         ensures number { self.new.number ≡ self.old.number }
         ensures runs { IsSoundNode self.new }
     {
@@ -236,14 +315,27 @@ impl<N: Nv + Drop> Node<N> {
                 self.ends.set_errors(host, *errors);
                 true
             }
-            Deed::Orders(_order) => true,
-            Deed::Hears => true,
-            Deed::GoesOn { answered: _ } => true,
-            Deed::Ends(_end) => true,
+            Deed::Orders(order) => {
+                self.order(host, order.as_slice(), watch);
+                true
+            }
+            Deed::Hears => {
+                self.hear();
+                true
+            }
+            Deed::GoesOn { answered } => {
+                self.go_on(*answered);
+                true
+            }
+            Deed::Ends(end) => {
+                self.end_init(*end, watch);
+                true
+            }
         }
     }
 
     /// Carries out deeds, one after another, until a write fails. Whether the node has its power still.
+    #[tactic(auto, using(crate::proofs::Faults::faults_stay, crate::proofs::Faults::faults_then))]
     pub(crate) fn carry_all<W: Watch>(
         &mut self,
         host: u8,
@@ -255,11 +347,12 @@ impl<N: Nv + Drop> Node<N> {
         requires runs { IsSoundNode self.old }
         requires live { IsTrue self.old.store.journal.live }
         requires doable { (start : List Noted) × (w : Work) × IsInStep self.old (W.noted watch.old) (W.is_short watch.old) start w
-            × AreDoableInTurn host (pipe, message.now) deeds.now w }
+            × AreDoableInTurn host (handling self.old (pipe, message.now)) deeds.now w }
         ensures carried { (start : List Noted) (w : Work) → IsInStep self.old (W.noted watch.old) (W.is_short watch.old) start w
             → Brings N.writes self.old.store.journal.nv self.new.store.journal.nv
-            (IsInStep self.new (W.noted watch.new) (W.is_short watch.new) start) (all_done host (map (deed_of (pipe, message.now)) deeds.now)) w }
+            (IsInStep self.new (W.noted watch.new) (W.is_short watch.new) start) (all_done host (map (deed_of self.old (pipe, message.now)) deeds.now)) w }
         ensures live { result ≡ self.new.store.journal.live }
+        ensures faults { CountsFaults N.faults self.old.store self.new.store }
         ensures number { self.new.number ≡ self.old.number }
         ensures runs { IsSoundNode self.new }
     {
@@ -278,6 +371,7 @@ impl<N: Nv + Drop> Node<N> {
             → IsInStep self.new (W.noted watch.new) (W.is_short watch.new) start (has_turn host (pipe, message.now) w) }
         ensures store { self.new.store ≡ self.old.store }
         ensures number { self.new.number ≡ self.old.number }
+        ensures tasks { self.new.tasks ≡ self.old.tasks }
         ensures runs { IsSoundNode self.new }
     {
         let turn = Entry::Turn {
@@ -292,6 +386,7 @@ impl<N: Nv + Drop> Node<N> {
 
     /// The message that waits at the end of the link with this host is handled: it is the node's from now on, and these deeds are done.
     /// Whether the node has its power still.
+    #[tactic(auto, using(crate::proofs::Faults::faults_stay, crate::proofs::Faults::faults_then))]
     pub(crate) fn handle<W: Watch>(
         &mut self,
         host: u8,
@@ -303,12 +398,13 @@ impl<N: Nv + Drop> Node<N> {
         requires runs { IsSoundNode self.old }
         requires live { IsTrue self.old.store.journal.live }
         requires doable { (start : List Noted) × (w : Work) × IsInStep self.old (W.noted watch.old) (W.is_short watch.old) start w
-            × AreDoableInTurn host (pipe, message.now) deeds.now (has_turn host (pipe, message.now) w) }
+            × AreDoableInTurn host (handling self.old (pipe, message.now)) deeds.now (has_turn host (pipe, message.now) w) }
         ensures carried { (start : List Noted) (w : Work) → IsInStep self.old (W.noted watch.old) (W.is_short watch.old) start w
             → Brings N.writes self.old.store.journal.nv self.new.store.journal.nv
             (IsInStep self.new (W.noted watch.new) (W.is_short watch.new) start)
-            (handles host (pipe, message.now) (map (deed_of (pipe, message.now)) deeds.now)) w }
+            (handles host (pipe, message.now) (map (deed_of self.old (pipe, message.now)) deeds.now)) w }
         ensures live { result ≡ self.new.store.journal.live }
+        ensures faults { CountsFaults N.faults self.old.store self.new.store }
         ensures number { self.new.number ≡ self.old.number }
         ensures runs { IsSoundNode self.new }
     {
@@ -323,6 +419,7 @@ impl<N: Nv + Drop> Node<N> {
             → IsInStep self.new (W.noted watch.new) (W.is_short watch.new) start (is_noted_held host (need, spare) w) }
         ensures store { self.new.store ≡ self.old.store }
         ensures number { self.new.number ≡ self.old.number }
+        ensures tasks { self.new.tasks ≡ self.old.tasks }
         ensures runs { IsSoundNode self.new }
     {
         if self.ends.holds(host) {
@@ -343,6 +440,7 @@ impl<N: Nv + Drop> Node<N> {
             → IsInStep self.new (W.noted watch.new) (W.is_short watch.new) start (holds_back host (need, spare) w) }
         ensures store { self.new.store ≡ self.old.store }
         ensures number { self.new.number ≡ self.old.number }
+        ensures tasks { self.new.tasks ≡ self.old.tasks }
         ensures runs { IsSoundNode self.new }
     {
         self.note_held(host, need, spare, watch);

@@ -10,7 +10,7 @@ use swp_lpdu::LpduFault;
 use trace_model::{Entry, Octets, Watch};
 
 impl<N: Nv + Drop> Node<N> {
-    ghost use Rattle.std.specs.Prelude.{◌≡◌, ◌≤◌, ℕ, IfSome, List, [], map, length, if◌then◌else◌, Some, None, option_map, slice_get};
+    ghost use Rattle.std.specs.Prelude.{◌≡◌, ◌≤◌, ℕ, IfSome, List, [], map, length, if◌then◌else◌, Some, None, Err, option_map, slice_get};
     ghost use Rattle.std.specs.Option.{option_map_or};
     ghost use Rattle.trace_model.specs.declared.entry.Entry.{Entry as Noted};
     ghost use Rattle.swp_lpdu.specs.Controls.{control_of};
@@ -19,6 +19,7 @@ impl<N: Nv + Drop> Node<N> {
     ghost use Rattle.link_entries.specs.entries.Entries.{told};
     ghost use Rattle.link_entries.specs.entries.Entries.Entry.{Got};
     ghost use Rattle.history.specs.Steps.{entries_for};
+    ghost use Rattle.link_end.specs.declared.report.ResetRefused.{ResetRefused as Refusal};
     ghost use Rattle.link_end.specs.Reports.{report_told, reset_told};
     ghost use Rattle.node_machine.specs.Parts.{Core, Port, Work};
     ghost use Rattle.node_machine.specs.Carrying.{own_side, port_at};
@@ -178,6 +179,7 @@ impl<N: Nv + Drop> Node<N> {
             → IsInStep self.new (W.noted watch.new) (W.is_short watch.new) start (all_come (AtEnd host (Reset window)) w) }
         ensures answer { (start : List Noted) (w : Work) → IsInStep self.old (W.noted watch.old) (W.is_short watch.old) start w
             → result ≡ option_map (λ (p : Port). reset_told p.side window) (port_at w.ports host) }
+        ensures quiet { (why : Refusal) → result ≡ Some (Err why) → watch.new ≡ watch.old }
         ensures store { self.new.store ≡ self.old.store }
         ensures number { self.new.number ≡ self.old.number }
         ensures runs { IsSoundNode self.new }

@@ -1,9 +1,10 @@
-//! The steps of a controller.
+//! The steps of a node.
 ghost use Rattle.std.specs.Prelude.{◌≡◌};
 ghost use Rattle.node_core.specs.Syncing.{sync_told};
+ghost use Rattle.node_core.specs.Running.{refused_in};
 
 use crate::node::Node;
-use link_end::LinkReport;
+use link_end::{LinkReport, ResetRefused};
 use swp_base::{Control, Nv};
 use swp_lpdu::LpduFault;
 use trace_model::Watch;
@@ -21,25 +22,39 @@ fn sync_told(host: u8, told: &Option<LinkReport>) -> Option<(u8, u16)>
     }
 }
 
+// Why the reset of which this is told was refused, where it was.
+fn refusal(told: &Option<Result<LinkReport, ResetRefused>>) -> Option<ResetRefused>
+    ensures { result ≡ refused_in told.now }
+{
+    match told {
+        Some(Ok(_report)) => None,
+        Some(Err(why)) => Some(*why),
+        None => None,
+    }
+}
+
 impl<N: Nv + Drop> Node<N> {
-    ghost use Rattle.std.specs.Prelude.{◌≡◌, ◌≤◌, ℕ, List, length, IfSome, IsTrue};
+    ghost use Rattle.std.specs.Prelude.{◌≡◌, ◌≤◌, ℕ, List, length, None, Some, IfSome, IfOk, OnOk, OnErr, MatchResult, IsTrue};
     ghost use Rattle.swp_lpdu.specs.Controls.{control_of};
     ghost use Rattle.link_machine.specs.Machine.{lpdu_input};
     ghost use Rattle.link_machine.specs.Machine.LinkInput.{Reset, Start, Stop};
     ghost use Rattle.node_machine.specs.Carrying.{port_at};
     ghost use Rattle.node_machine.specs.Node.{steps};
-    ghost use Rattle.node_machine.specs.Node.NodeInput.{AtEnd};
+    ghost use Rattle.node_machine.specs.Node.NodeInput.{AtEnd, TimePasses};
     ghost use Rattle.trace_model.specs.declared.entry.Entry.{Entry as Noted};
     ghost use Rattle.node_machine.specs.Parts.{Work};
-    ghost use Rattle.node_ends.specs.Ends.{AreOfHosts, IsHeldWhileOneWaits, MayStartAt};
+    ghost use Rattle.node_ends.specs.Ends.{IsHeldWhileOneWaits, MayStartAt};
     ghost use Rattle.node_core.specs.Nodes.{IsInStep, IsSoundNode};
     ghost use Rattle.node_core.specs.Bringing.{Brings};
-    ghost use Rattle.node_core.specs.Turning.{AreFewDue, AreAtMostDue};
+    ghost use Rattle.node_core.specs.Faults.{CountsFaults};
+    ghost use Rattle.node_core.specs.Turning.{IsNodeInOrder, AreFewDue, AreAtMostDue, AreYoung};
+    ghost use Rattle.node_core.specs.Running.{HasNoneEnded, reset_refusal_at};
     ghost use Rattle.node_core.specs.Syncing.{sync_kept, finishes};
 
     /// Behind what came in a step: what sessions that ended there leave is settled, the identifier that came is kept, and the messages
-    /// that wait have their turns. The ends are those of links with hosts 01 to 07, and at most six control frames wait at each to be
-    /// sent. The buffer has 4,096 bytes. Whether the node has its power still.
+    /// that wait have their turns. The node is in order, and at most six control frames wait at each end to be sent. The buffer has 4,096
+    /// bytes. Whether the node has its power still.
+    #[tactic(auto, using(crate::proofs::Faults::faults_stay, crate::proofs::Faults::faults_then))]
     fn finish<W: Watch>(
         &mut self,
         came: Option<(u8, u16)>,
@@ -48,16 +63,16 @@ impl<N: Nv + Drop> Node<N> {
     ) -> bool
         requires runs { IsSoundNode self.old }
         requires live { IsTrue self.old.store.journal.live }
-        requires controller { self.old.number ≡ 0 }
         requires buffer { length buffer.old ≡ 4096 }
         requires host { IfSome came (λ pair. (1 ≤ pair.0) × (pair.0 ≤ 7)) }
         requires may { (start : List Noted) × (w : Work) × IsInStep self.old (W.noted watch.old) (W.is_short watch.old) start w
-            × AreOfHosts w.ports × AreFewDue w.ports }
+            × IsNodeInOrder w.core w.ports × AreFewDue w.ports }
         ensures carried { (start : List Noted) (w : Work) → IsInStep self.old (W.noted watch.old) (W.is_short watch.old) start w
-            → AreOfHosts w.ports → AreFewDue w.ports → Brings N.writes self.old.store.journal.nv self.new.store.journal.nv
+            → IsNodeInOrder w.core w.ports → AreFewDue w.ports → Brings N.writes self.old.store.journal.nv self.new.store.journal.nv
             (IsInStep self.new (W.noted watch.new) (W.is_short watch.new) start)
             (finishes (sync_kept self.old.store.journal.state self.old.store.tables came)) w }
         ensures live { result ≡ self.new.store.journal.live }
+        ensures faults { CountsFaults N.faults self.old.store self.new.store }
         ensures number { self.new.number ≡ self.old.number }
         ensures runs { IsSoundNode self.new }
     {
@@ -67,9 +82,10 @@ impl<N: Nv + Drop> Node<N> {
         self.passes(buffer, watch)
     }
 
-    /// A step of a controller, whose ends are those of links with hosts 01 to 07: what an LPDU says comes to the end of the link with this
+    /// A step of a node that is in order: what an LPDU says comes to the end of the link with this
     /// host. While a message waits there the end is held. At most
     /// five control frames wait at each end to be sent. The buffer has 4,096 bytes. Whether the node has its power still.
+    #[tactic(auto, using(crate::proofs::Faults::faults_stay, crate::proofs::Faults::faults_then))]
     pub fn take_step<W: Watch>(
         &mut self,
         host: u8,
@@ -79,16 +95,17 @@ impl<N: Nv + Drop> Node<N> {
     ) -> bool
         requires runs { IsSoundNode self.old }
         requires live { IsTrue self.old.store.journal.live }
-        requires controller { self.old.number ≡ 0 }
         requires buffer { length buffer.old ≡ 4096 }
         requires read { (lpdu : List ℕ) × (read.now ≡ control_of lpdu) }
         requires may { (start : List Noted) × (w : Work) × IsInStep self.old (W.noted watch.old) (W.is_short watch.old) start w
-            × AreOfHosts w.ports × AreAtMostDue 5 w.ports
+            × IsNodeInOrder w.core w.ports × AreAtMostDue 5 w.ports
             × IsHeldWhileOneWaits (port_at w.ports host) }
         ensures carried { (start : List Noted) (w : Work) (lpdu : List ℕ) → IsInStep self.old (W.noted watch.old) (W.is_short watch.old) start w
-            → AreOfHosts w.ports → AreAtMostDue 5 w.ports → read.now ≡ control_of lpdu → Brings N.writes self.old.store.journal.nv self.new.store.journal.nv
+            → IsNodeInOrder w.core w.ports → AreAtMostDue 5 w.ports → read.now ≡ control_of lpdu
+            → Brings N.writes self.old.store.journal.nv self.new.store.journal.nv
             (IsInStep self.new (W.noted watch.new) (W.is_short watch.new) start) (steps (AtEnd host (lpdu_input lpdu))) w }
         ensures live { result ≡ self.new.store.journal.live }
+        ensures faults { CountsFaults N.faults self.old.store self.new.store }
         ensures number { self.new.number ≡ self.old.number }
         ensures runs { IsSoundNode self.new }
     {
@@ -97,37 +114,75 @@ impl<N: Nv + Drop> Node<N> {
         self.finish(came, buffer, watch)
     }
 
-    /// A step of a controller, whose ends are those of links with hosts 01 to 07: a reset of the link with this host is asked for, with this
+    /// A step of a node that is in order: time passes at all of them. Notices have fewer than 255
+    /// ticks. At most four control frames wait at each end to be sent. The buffer has 4,096 bytes. Whether the node has its power still.
+    #[tactic(auto, using(crate::proofs::Faults::faults_stay, crate::proofs::Faults::faults_then))]
+    pub fn tick_step<W: Watch>(&mut self, buffer: &mut [u8], watch: &mut W) -> bool
+        requires runs { IsSoundNode self.old }
+        requires live { IsTrue self.old.store.journal.live }
+        requires buffer { length buffer.old ≡ 4096 }
+        requires may { (start : List Noted) × (w : Work) × IsInStep self.old (W.noted watch.old) (W.is_short watch.old) start w
+            × IsNodeInOrder w.core w.ports × AreAtMostDue 4 w.ports × AreYoung w.ports }
+        ensures carried { (start : List Noted) (w : Work) → IsInStep self.old (W.noted watch.old) (W.is_short watch.old) start w
+            → IsNodeInOrder w.core w.ports → AreAtMostDue 4 w.ports → Brings N.writes self.old.store.journal.nv self.new.store.journal.nv
+            (IsInStep self.new (W.noted watch.new) (W.is_short watch.new) start) (steps TimePasses) w }
+        ensures live { result ≡ self.new.store.journal.live }
+        ensures faults { CountsFaults N.faults self.old.store self.new.store }
+        ensures number { self.new.number ≡ self.old.number }
+        ensures runs { IsSoundNode self.new }
+    {
+        self.time_passes(buffer, watch);
+        self.times_out(buffer, watch);
+        self.finish(None, buffer, watch)
+    }
+
+    /// A step of a node that is in order: a reset of the link with this host is asked for, with this
     /// window, which is 1 to 4, or with the end's own one. At most
     /// five control frames wait at each end to be sent. The buffer has 4,096 bytes. Whether the node has its power still.
+    ///
+    /// # Errors
+    ///
+    /// The reset is refused: then nothing is done.
+    #[tactic(auto, using(crate::proofs::Faults::faults_stay, crate::proofs::Faults::faults_then))]
     pub fn reset_step<W: Watch>(
         &mut self,
         host: u8,
         window: Option<u8>,
         buffer: &mut [u8],
         watch: &mut W,
-    ) -> bool
+    ) -> Result<bool, ResetRefused>
         requires runs { IsSoundNode self.old }
         requires live { IsTrue self.old.store.journal.live }
-        requires controller { self.old.number ≡ 0 }
         requires buffer { length buffer.old ≡ 4096 }
         requires window { IfSome window (λ w. (1 ≤ w) × (w ≤ 4)) }
         requires may { (start : List Noted) × (w : Work) × IsInStep self.old (W.noted watch.old) (W.is_short watch.old) start w
-            × AreOfHosts w.ports × AreAtMostDue 5 w.ports }
+            × IsNodeInOrder w.core w.ports × AreAtMostDue 5 w.ports }
+        ensures refusal { (start : List Noted) (w : Work) → IsInStep self.old (W.noted watch.old) (W.is_short watch.old) start w
+            → MatchResult result (λ live. reset_refusal_at (port_at w.ports host) ≡ None)
+            (λ why. reset_refusal_at (port_at w.ports host) ≡ Some why) }
         ensures carried { (start : List Noted) (w : Work) → IsInStep self.old (W.noted watch.old) (W.is_short watch.old) start w
-            → AreOfHosts w.ports → AreAtMostDue 5 w.ports → Brings N.writes self.old.store.journal.nv self.new.store.journal.nv
-            (IsInStep self.new (W.noted watch.new) (W.is_short watch.new) start) (steps (AtEnd host (Reset window))) w }
-        ensures live { result ≡ self.new.store.journal.live }
+            → IsNodeInOrder w.core w.ports → AreAtMostDue 5 w.ports → OnOk result (Brings N.writes self.old.store.journal.nv self.new.store.journal.nv
+            (IsInStep self.new (W.noted watch.new) (W.is_short watch.new) start) (steps (AtEnd host (Reset window))) w) }
+        ensures unchanged { OnErr result ((start : List Noted) (w : Work)
+            → IsInStep self.old (W.noted watch.old) (W.is_short watch.old) start w → HasNoneEnded w.ports
+            → IsInStep self.new (W.noted watch.new) (W.is_short watch.new) start w) }
+        ensures quiet { OnErr result ((watch.new ≡ watch.old) × (self.new.store ≡ self.old.store)) }
+        ensures live { IfOk result (λ live. live ≡ self.new.store.journal.live) }
+        ensures faults { CountsFaults N.faults self.old.store self.new.store }
         ensures number { self.new.number ≡ self.old.number }
         ensures runs { IsSoundNode self.new }
     {
-        self.reset(host, window, buffer, watch);
-        self.finish(None, buffer, watch)
+        let told = self.reset(host, window, buffer, watch);
+        if let Some(why) = refusal(&told) {
+            return Err(why);
+        }
+        Ok(self.finish(None, buffer, watch))
     }
 
-    /// A step of a controller, whose ends are those of links with hosts 01 to 07: activation begins anew at the end of the link with this
+    /// A step of a node that is in order: activation begins anew at the end of the link with this
     /// host, with the power mode of a CLF or the sync identifier of a UICC. At most
     /// five control frames wait at each end to be sent. The buffer has 4,096 bytes. Whether the node has its power still.
+    #[tactic(auto, using(crate::proofs::Faults::faults_stay, crate::proofs::Faults::faults_then))]
     pub fn activate_step<W: Watch>(
         &mut self,
         host: u8,
@@ -137,15 +192,15 @@ impl<N: Nv + Drop> Node<N> {
     ) -> bool
         requires runs { IsSoundNode self.old }
         requires live { IsTrue self.old.store.journal.live }
-        requires controller { self.old.number ≡ 0 }
         requires buffer { length buffer.old ≡ 4096 }
         requires may { (start : List Noted) × (w : Work) × IsInStep self.old (W.noted watch.old) (W.is_short watch.old) start w
-            × AreOfHosts w.ports × AreAtMostDue 5 w.ports
+            × IsNodeInOrder w.core w.ports × AreAtMostDue 5 w.ports
             × MayStartAt value (port_at w.ports host) }
         ensures carried { (start : List Noted) (w : Work) → IsInStep self.old (W.noted watch.old) (W.is_short watch.old) start w
-            → AreOfHosts w.ports → AreAtMostDue 5 w.ports → Brings N.writes self.old.store.journal.nv self.new.store.journal.nv
+            → IsNodeInOrder w.core w.ports → AreAtMostDue 5 w.ports → Brings N.writes self.old.store.journal.nv self.new.store.journal.nv
             (IsInStep self.new (W.noted watch.new) (W.is_short watch.new) start) (steps (AtEnd host (Start value))) w }
         ensures live { result ≡ self.new.store.journal.live }
+        ensures faults { CountsFaults N.faults self.old.store self.new.store }
         ensures number { self.new.number ≡ self.old.number }
         ensures runs { IsSoundNode self.new }
     {
@@ -153,20 +208,21 @@ impl<N: Nv + Drop> Node<N> {
         self.finish(None, buffer, watch)
     }
 
-    /// A step of a controller, whose ends are those of links with hosts 01 to 07: activation ends at the end of the link with this host,
+    /// A step of a node that is in order: activation ends at the end of the link with this host,
     /// and the link with it. At most
     /// five control frames wait at each end to be sent. The buffer has 4,096 bytes. Whether the node has its power still.
+    #[tactic(auto, using(crate::proofs::Faults::faults_stay, crate::proofs::Faults::faults_then))]
     pub fn deactivate_step<W: Watch>(&mut self, host: u8, buffer: &mut [u8], watch: &mut W) -> bool
         requires runs { IsSoundNode self.old }
         requires live { IsTrue self.old.store.journal.live }
-        requires controller { self.old.number ≡ 0 }
         requires buffer { length buffer.old ≡ 4096 }
         requires may { (start : List Noted) × (w : Work) × IsInStep self.old (W.noted watch.old) (W.is_short watch.old) start w
-            × AreOfHosts w.ports × AreAtMostDue 5 w.ports }
+            × IsNodeInOrder w.core w.ports × AreAtMostDue 5 w.ports }
         ensures carried { (start : List Noted) (w : Work) → IsInStep self.old (W.noted watch.old) (W.is_short watch.old) start w
-            → AreOfHosts w.ports → AreAtMostDue 5 w.ports → Brings N.writes self.old.store.journal.nv self.new.store.journal.nv
+            → IsNodeInOrder w.core w.ports → AreAtMostDue 5 w.ports → Brings N.writes self.old.store.journal.nv self.new.store.journal.nv
             (IsInStep self.new (W.noted watch.new) (W.is_short watch.new) start) (steps (AtEnd host Stop)) w }
         ensures live { result ≡ self.new.store.journal.live }
+        ensures faults { CountsFaults N.faults self.old.store self.new.store }
         ensures number { self.new.number ≡ self.old.number }
         ensures runs { IsSoundNode self.new }
     {

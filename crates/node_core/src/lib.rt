@@ -7,14 +7,21 @@ mod carrying;
 mod coming;
 mod endings;
 mod finishing;
+mod giving;
 mod node;
 mod noting;
 mod owing;
 mod reporting;
+mod running;
 mod seeing;
 mod syncing;
 mod timeouts;
 mod turns;
 
 pub use booting::{BootFault, BootRefused, a_boot_of_version_02_is_that_of_a_world};
+pub use giving::HostRefused;
 pub use node::Node;
+pub use running::{
+    Ran, a_refused_frame_counts_at_its_desk, frames_of_a_node_go_out, how_it_ran,
+    numbers_of_sessions_are_not_kept,
+};

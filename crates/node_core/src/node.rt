@@ -1,5 +1,6 @@
 //! A node that runs.
 use hci_store::Store;
+use node_deeds::Tasks;
 use node_ends::Ends;
 use std::alloc::Global;
 use swp_base::Nv;
@@ -11,4 +12,17 @@ pub struct Node<N: Nv + Drop> {
     pub(crate) number: u8,
     pub(crate) store: Store<N>,
     pub(crate) ends: Ends,
+    /// What a host has under way; nothing at a controller.
+    pub(crate) tasks: Tasks,
+}
+
+impl<N: Nv + Drop> Node<N> {
+    ghost use Rattle.std.specs.Prelude.{◌≡◌};
+
+    /// Its number.
+    pub fn number(&self) -> u8
+        ensures { result ≡ self.now.number }
+    {
+        self.number
+    }
 }

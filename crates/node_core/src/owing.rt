@@ -21,6 +21,7 @@ impl<N: Nv + Drop> Node<N> {
     ghost use Rattle.node_machine.specs.Controller.{asked_at};
     ghost use Rattle.node_machine.specs.Node.{owed};
     ghost use Rattle.node_core.specs.Bringing.{Brings};
+    ghost use Rattle.node_core.specs.Faults.{CountsFaults};
     ghost use Rattle.node_core.specs.Syncing.{sync_kept, settles};
     ghost use Rattle.node_core.specs.Owing.{freed_at, answers_owed, has_ended_so, owed_at};
 
@@ -138,6 +139,7 @@ impl<N: Nv + Drop> Node<N> {
     /// What sessions that ended in this step leave: the creations of their askers are forgotten and their blocks free, no notice to their
     /// hosts is answered any more, the identifier that came with its host, where one did, is kept, and those who asked for creations there
     /// get their answers. Whether the node has its power still.
+    #[tactic(auto, using(crate::proofs::Faults::faults_stay, crate::proofs::Faults::faults_then))]
     pub(crate) fn settle_sessions<W: Watch>(
         &mut self,
         came: Option<(u8, u16)>,
@@ -151,10 +153,12 @@ impl<N: Nv + Drop> Node<N> {
             (IsInStep self.new (W.noted watch.new) (W.is_short watch.new) start)
             (settles (sync_kept self.old.store.journal.state self.old.store.tables came)) w }
         ensures live { result ≡ self.new.store.journal.live }
+        ensures faults { CountsFaults N.faults self.old.store self.new.store }
         ensures number { self.new.number ≡ self.old.number }
         ensures runs { IsSoundNode self.new }
     {
         let freed = self.forgotten();
+        self.drop_tasks();
         self.forget();
         let ended = self.owed(false);
         let late = self.owed(true);

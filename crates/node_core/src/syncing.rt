@@ -34,6 +34,7 @@ impl<N: Nv + Drop> Node<N> {
     ghost use Rattle.node_machine.specs.Carrying.{all_done, has_room_for};
     ghost use Rattle.node_core.specs.Nodes.{IsInStep, IsSoundNode};
     ghost use Rattle.node_core.specs.Bringing.{Brings};
+    ghost use Rattle.node_core.specs.Faults.{CountsFaults};
     ghost use Rattle.node_core.specs.Syncing.{sync_kept};
 
     // Whether this identifier of a host is to be kept: it isn't the one that is kept, and there is room for it.
@@ -53,6 +54,7 @@ impl<N: Nv + Drop> Node<N> {
 
     /// The identifier that came from the UICC of a host, 01 to 07, where one did, is kept, unless it is the one that is kept or there is no
     /// room for it. Whether the node has its power still.
+    #[tactic(auto, using(crate::proofs::Faults::faults_stay, crate::proofs::Faults::faults_then))]
     pub(crate) fn keep_sync<W: Watch>(&mut self, came: Option<(u8, u16)>, watch: &mut W) -> bool
         requires runs { IsSoundNode self.old }
         requires live { IsTrue self.old.store.journal.live }
@@ -62,6 +64,7 @@ impl<N: Nv + Drop> Node<N> {
             (IsInStep self.new (W.noted watch.new) (W.is_short watch.new) start)
             (all_done 0 (sync_kept self.old.store.journal.state self.old.store.tables came)) w }
         ensures live { result ≡ self.new.store.journal.live }
+        ensures faults { CountsFaults N.faults self.old.store self.new.store }
         ensures number { self.new.number ≡ self.old.number }
         ensures runs { IsSoundNode self.new }
     {

@@ -2,7 +2,7 @@
 ghost use Rattle.std.specs.Prelude.{◌≡◌};
 
 use crate::node::Node;
-use node_deeds::{Deed, Deeds, Shortfall, controller_deeds, lack};
+use node_deeds::{Deed, Deeds, Shortfall, controller_deeds, host_deeds, lack};
 use swp_base::Nv;
 use trace_model::Watch;
 
@@ -22,10 +22,18 @@ impl<N: Nv + Drop> Node<N> {
     ghost use Rattle.node_machine.specs.Carrying.{port_at};
     ghost use Rattle.node_machine.specs.Turns.{lets_go, have_turns, passes};
     ghost use Rattle.hcp_packet.specs.Packets.{IsSendable};
-    ghost use Rattle.node_ends.specs.Ends.{EndsStandFor, AreOfHosts, FewAreDue, held_at, got_at};
+    ghost use Rattle.std.specs.Prelude.{◌≢◌};
+    ghost use Rattle.std.specs.Option.{option_map_or};
+    ghost use Rattle.node_machine.specs.Turns.{deeds_of};
+    ghost use Rattle.node_machine.specs.HostReplies.{host_deeds};
+    ghost use Rattle.node_deeds.specs.Shown.{deeds_shown};
+    ghost use Rattle.node_deeds.specs.Cores.{AreDoable};
+    ghost use Rattle.node_core.specs.Deeds.{handling};
+    ghost use Rattle.node_ends.specs.Ends.{EndsStandFor, FewAreDue, held_at, got_at};
     ghost use Rattle.node_core.specs.Nodes.{IsInStep, IsSoundNode};
     ghost use Rattle.node_core.specs.Bringing.{Brings};
-    ghost use Rattle.node_core.specs.Turning.{IsDecided, AreFewDue};
+    ghost use Rattle.node_core.specs.Faults.{CountsFaults};
+    ghost use Rattle.node_core.specs.Turning.{IsDecided, IsNodeInOrder, AreFewDue};
 
     // No message is held at an end: it takes fragments again, if it was held.
     fn let_go(&mut self, host: u8, held: bool)
@@ -44,6 +52,7 @@ impl<N: Nv + Drop> Node<N> {
 
     // The message that waits at the end of the link with this host has its turn, as it was decided: it is held back where these deeds
     // lack room, and handled otherwise. Whether the node has its power still.
+    #[tactic(auto, using(crate::proofs::Faults::faults_stay, crate::proofs::Faults::faults_then))]
     fn take_turn<W: Watch>(
         &mut self,
         host: u8,
@@ -57,11 +66,13 @@ impl<N: Nv + Drop> Node<N> {
         requires runs { IsSoundNode self.old }
         requires live { IsTrue self.old.store.journal.live }
         requires decided { (start : List Noted) × (w : Work) × IsInStep self.old (W.noted watch.old) (W.is_short watch.old) start w
-            × IsDecided host (pipe, message.now) deeds.now short held w }
+            × IsDecided host (handling self.old (pipe, message.now)) deeds.now short held w }
         ensures carried { (start : List Noted) (w : Work) → IsInStep self.old (W.noted watch.old) (W.is_short watch.old) start w
-            → IsDecided host (pipe, message.now) deeds.now short held w → Brings N.writes self.old.store.journal.nv self.new.store.journal.nv
+            → IsDecided host (handling self.old (pipe, message.now)) deeds.now short held w
+            → Brings N.writes self.old.store.journal.nv self.new.store.journal.nv
             (IsInStep self.new (W.noted watch.new) (W.is_short watch.new) start) (have_turns host ((pipe, message.now) ∷ [])) w }
         ensures live { result ≡ self.new.store.journal.live }
+        ensures faults { CountsFaults N.faults self.old.store self.new.store }
         ensures number { self.new.number ≡ self.old.number }
         ensures runs { IsSoundNode self.new }
     {
@@ -76,37 +87,100 @@ impl<N: Nv + Drop> Node<N> {
         true
     }
 
-    // What a controller does with this message, which waits at its end with this host, and the room that this lacks.
-    fn decide(&mut self, host: u8, pipe: u8, message: &[u8]) -> Decided
+    // What a controller does with this message, which waits at its end with this host.
+    fn deeds_of_controller(&mut self, host: u8, pipe: u8, message: &[u8]) -> Deeds
         requires runs { IsSoundNode self.old }
         requires live { IsTrue self.old.store.journal.live }
         requires controller { self.old.number ≡ 0 }
         requires some { 1 ≤ host }
         requires host { host ≤ 7 }
         requires sendable { IsSendable (pipe, message.now) }
-        requires short { length message.now ≤ 4096 }
-        ensures decided { (noted : List Noted) (full : Bool) (start : List Noted) (w : Work) → IsInStep self.old noted full start w
-            → AreOfHosts w.ports → FewAreDue (port_at w.ports host) → IsDecided host (pipe, message.now) result.deeds.items result.short
-            (held_at w.ports host) w }
+        ensures deeds { (noted : List Noted) (full : Bool) (start : List Noted) (w : Work) → IsInStep self.old noted full start w → IsNodeInOrder w.core w.ports
+            → deeds_of w.core w.ports host (pipe, message.now) ≡ deeds_shown (handling self.old (pipe, message.now)) result.items }
+        ensures doable { AreDoable result.items }
         ensures same { self.new ≡ self.old }
     {
-        let spares = self.spares();
         let seen = self.ends.seen();
-        let deeds = controller_deeds(
+        controller_deeds(
             &mut self.store,
             seen.desks.as_slice(),
             seen.up,
             host,
             pipe,
             message,
-        );
+        )
+    }
+
+    // What a host does with this message, which waits at its end, the one of the link with its own number.
+    fn deeds_of_host(&mut self, pipe: u8, message: &[u8]) -> Deeds
+        requires runs { IsSoundNode self.old }
+        requires live { IsTrue self.old.store.journal.live }
+        requires host { self.old.number ≢ 0 }
+        requires sendable { IsSendable (pipe, message.now) }
+        requires may { (noted : List Noted) × (full : Bool) × (start : List Noted) × (w : Work) × IsInStep self.old noted full start w
+            × IsNodeInOrder w.core w.ports }
+        ensures deeds { (noted : List Noted) (full : Bool) (start : List Noted) (w : Work) → IsInStep self.old noted full start w → IsNodeInOrder w.core w.ports
+            → deeds_of w.core w.ports self.old.number (pipe, message.now) ≡ deeds_shown (handling self.old (pipe, message.now)) result.items }
+        ensures doable { AreDoable result.items }
+        ensures same { self.new ≡ self.old }
+    {
+        let Some(desk) = self.ends.desk(0) else {
+            return Deeds::new();
+        };
+        let is_up = self.ends.has_link(desk.host);
+        host_deeds(&mut self.store, &desk, is_up, &self.tasks, pipe, message)
+    }
+
+    // What a node does with this message, which waits at its end with this host. The link of a host is the one with its own number.
+    fn deeds_for(&mut self, host: u8, pipe: u8, message: &[u8]) -> Deeds
+        requires runs { IsSoundNode self.old }
+        requires live { IsTrue self.old.store.journal.live }
+        requires own { self.old.number ≢ 0 → host ≡ self.old.number }
+        requires some { 1 ≤ host }
+        requires host { host ≤ 7 }
+        requires sendable { IsSendable (pipe, message.now) }
+        requires may { (noted : List Noted) × (full : Bool) × (start : List Noted) × (w : Work) × IsInStep self.old noted full start w
+            × IsNodeInOrder w.core w.ports }
+        ensures deeds { (noted : List Noted) (full : Bool) (start : List Noted) (w : Work) → IsInStep self.old noted full start w
+            → IsNodeInOrder w.core w.ports
+            → deeds_of w.core w.ports host (pipe, message.now) ≡ deeds_shown (handling self.old (pipe, message.now)) result.items }
+        ensures doable { AreDoable result.items }
+        ensures same { self.new ≡ self.old }
+    {
+        if self.number == 0 {
+            self.deeds_of_controller(host, pipe, message)
+        } else {
+            self.deeds_of_host(pipe, message)
+        }
+    }
+
+    // What is decided of this message, which waits at the end with this host, and the room that this lacks. The link of a host is the one
+    // with its own number.
+    fn decide(&mut self, host: u8, pipe: u8, message: &[u8]) -> Decided
+        requires runs { IsSoundNode self.old }
+        requires live { IsTrue self.old.store.journal.live }
+        requires own { self.old.number ≢ 0 → host ≡ self.old.number }
+        requires some { 1 ≤ host }
+        requires host { host ≤ 7 }
+        requires sendable { IsSendable (pipe, message.now) }
+        requires short { length message.now ≤ 4096 }
+        requires may { (noted : List Noted) × (full : Bool) × (start : List Noted) × (w : Work) × IsInStep self.old noted full start w
+            × IsNodeInOrder w.core w.ports }
+        ensures decided { (noted : List Noted) (full : Bool) (start : List Noted) (w : Work) → IsInStep self.old noted full start w
+            → IsNodeInOrder w.core w.ports → FewAreDue (port_at w.ports host)
+            → IsDecided host (handling self.old (pipe, message.now)) result.deeds.items result.short (held_at w.ports host) w }
+        ensures same { self.new ≡ self.old }
+    {
+        let spares = self.spares();
+        let deeds = self.deeds_for(host, pipe, message);
         let short = lack(deeds.as_slice(), host, message.len(), &spares);
         Decided { deeds, short }
     }
 
-    /// The message that waits at the end of the link with this host has its turn at a controller, where one does; then the end takes
-    /// fragments again, unless the message is held back. The ends are those of links with hosts 01 to 07, and at most six control
-    /// frames wait at this one to be sent. The buffer has 4,096 bytes. Whether the node has its power still.
+    /// The message that waits at the end of the link with this host has its turn, where one does; then the end takes fragments again, unless
+    /// the message is held back. The node is in order, and at most six control frames wait at this end to be sent. The buffer has 4,096
+    /// bytes. Whether the node has its power still.
+    #[tactic(auto, using(crate::proofs::Faults::faults_stay, crate::proofs::Faults::faults_then))]
     pub(crate) fn have_turns<W: Watch>(
         &mut self,
         host: u8,
@@ -115,16 +189,16 @@ impl<N: Nv + Drop> Node<N> {
     ) -> bool
         requires runs { IsSoundNode self.old }
         requires live { IsTrue self.old.store.journal.live }
-        requires controller { self.old.number ≡ 0 }
         requires some { 1 ≤ host }
         requires host { host ≤ 7 }
         requires buffer { length buffer.old ≡ 4096 }
         requires may { (start : List Noted) × (w : Work) × IsInStep self.old (W.noted watch.old) (W.is_short watch.old) start w
-            × AreOfHosts w.ports × FewAreDue (port_at w.ports host) }
+            × IsNodeInOrder w.core w.ports × FewAreDue (port_at w.ports host) }
         ensures carried { (start : List Noted) (w : Work) → IsInStep self.old (W.noted watch.old) (W.is_short watch.old) start w
-            → AreOfHosts w.ports → FewAreDue (port_at w.ports host) → Brings N.writes self.old.store.journal.nv self.new.store.journal.nv
+            → IsNodeInOrder w.core w.ports → FewAreDue (port_at w.ports host) → Brings N.writes self.old.store.journal.nv self.new.store.journal.nv
             (IsInStep self.new (W.noted watch.new) (W.is_short watch.new) start) (have_turns host (got_at w.ports host)) w }
         ensures live { result ≡ self.new.store.journal.live }
+        ensures faults { CountsFaults N.faults self.old.store self.new.store }
         ensures number { self.new.number ≡ self.old.number }
         ensures runs { IsSoundNode self.new }
     {
@@ -146,20 +220,20 @@ impl<N: Nv + Drop> Node<N> {
         )
     }
 
-    /// A controller goes once through its ends, ascending, and the messages that wait there have their turns. The ends are those of
-    /// links with hosts 01 to 07, and at most six control frames wait at each to be sent. The buffer has 4,096 bytes. Whether the
-    /// node has its power still.
+    /// A node goes once through its ends, ascending, and the messages that wait there have their turns. It is in order, and at most six
+    /// control frames wait at each end to be sent. The buffer has 4,096 bytes. Whether the node has its power still.
+    #[tactic(auto, using(crate::proofs::Faults::faults_stay, crate::proofs::Faults::faults_then))]
     pub(crate) fn passes<W: Watch>(&mut self, buffer: &mut [u8], watch: &mut W) -> bool
         requires runs { IsSoundNode self.old }
         requires live { IsTrue self.old.store.journal.live }
-        requires controller { self.old.number ≡ 0 }
         requires buffer { length buffer.old ≡ 4096 }
         requires may { (start : List Noted) × (w : Work) × IsInStep self.old (W.noted watch.old) (W.is_short watch.old) start w
-            × AreOfHosts w.ports × AreFewDue w.ports }
+            × IsNodeInOrder w.core w.ports × AreFewDue w.ports }
         ensures carried { (start : List Noted) (w : Work) → IsInStep self.old (W.noted watch.old) (W.is_short watch.old) start w
-            → AreOfHosts w.ports → AreFewDue w.ports → Brings N.writes self.old.store.journal.nv self.new.store.journal.nv
+            → IsNodeInOrder w.core w.ports → AreFewDue w.ports → Brings N.writes self.old.store.journal.nv self.new.store.journal.nv
             (IsInStep self.new (W.noted watch.new) (W.is_short watch.new) start) passes w }
         ensures live { result ≡ self.new.store.journal.live }
+        ensures faults { CountsFaults N.faults self.old.store self.new.store }
         ensures number { self.new.number ≡ self.old.number }
         ensures runs { IsSoundNode self.new }
     {

@@ -5,7 +5,8 @@ use Rattle.link_machine.specs.Machine.{lpdu_input}
 use Rattle.link_machine.specs.Machine.LinkInput.{Reset, Start, Stop}
 use Rattle.node_ends.proofs.Dues.{start_few}
 use Rattle.node_core.proofs.Elsewhere.{few_at, hosts_differ}
-use Rattle.node_core.proofs.Stepping.{synced_is, sync_of_host, come_hosts, five_few, come_few, whole_step, reset_synced, start_synced, stop_synced}
+use Rattle.node_core.proofs.Staying.{come_order}
+use Rattle.node_core.proofs.Stepping.{synced_is, sync_of_host, five_few, come_few, whole_step, reset_synced, start_synced, stop_synced}
 use Rattle.node_core.proofs.node.Node.activate_step.Goals as goal
 
 pub activate-requires-clause-may : goal.activate-requires-clause-may
@@ -18,7 +19,7 @@ finish-requires-clause-may g c =
       r.0,
       _,
       c.activate.ensures.carried r.0 r.1 r.2,
-      come_hosts c.args.host (Start c.args.value) r.1 r.3,
+      come_order (AtEnd c.args.host (Start c.args.value)) r.1 r.3,
       come_few c.args.host (Start c.args.value) (λ e. start_few e c.args.value) r.1 r.4,
     )
 
@@ -26,5 +27,5 @@ pub returns-clause-carried : goal.returns-clause-carried
 returns-clause-carried g c start w u hosts few =
     whole_step g.N.Nv.writes (AtEnd c.args.host (Start c.args.value)) None u c.requires.live c.activate.ensures.store (λ plan. refl) refl
     (start_synced w.core c.args.host c.args.value w.ports)
-    (c.finish.ensures.carried start _ (c.activate.ensures.carried start w u) (come_hosts c.args.host (Start c.args.value) w hosts)
+    (c.finish.ensures.carried start _ (c.activate.ensures.carried start w u) (come_order (AtEnd c.args.host (Start c.args.value)) w hosts)
     (come_few c.args.host (Start c.args.value) (λ e. start_few e c.args.value) w few))

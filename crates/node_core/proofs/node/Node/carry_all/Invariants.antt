@@ -2,7 +2,8 @@ use Rattle.std.proofs.Common.{◌≡◌, true, List, map, drop}
 use Rattle.trace_model.specs.declared.entry.Entry.{Entry}
 use Rattle.node_machine.specs.Parts.{Work}
 use Rattle.node_core.specs.Nodes.{IsInStep, IsSoundNode}
-use Rattle.node_core.specs.Deeds.{deed_of, AreDoableInTurn}
+use Rattle.node_core.specs.Faults.{CountsFaults}
+use Rattle.node_core.specs.Deeds.{handling, deed_of, AreDoableInTurn}
 use Rattle.node_core.proofs.Steps.{GoesOn}
 use Rattle.node_core.proofs.node.Node.carry_all.Given as goal
 
@@ -15,9 +16,11 @@ invariant-loop-deed g l =
       runs : IsSoundNode l.self;
       live : l.self.store.journal.live ≡ true;
       number : l.self.number ≡ l.fn.self.number;
+      faults : CountsFaults g.N.Nv.faults l.fn.self.store l.self.store;
       doable : (start : List Entry) × (w : Work) × IsInStep l.self (noted l.watch) (short l.watch) start w
-          × AreDoableInTurn l.host (l.pipe, l.message) (drop l.deed-index l.deeds) w;
+          × AreDoableInTurn l.host (handling l.fn.self (l.pipe, l.message)) (drop l.deed-index l.deeds) w;
       goes : (start : List Entry) (w : Work) → IsInStep l.fn.self (noted l.fn.watch) (short l.fn.watch) start w
-          → GoesOn g.N.Nv.writes l.fn.self l.self (noted l.watch) (short l.watch) start (map (deed_of (l.pipe, l.message)) (drop l.deed-index l.deeds))
-          (map (deed_of (l.pipe, l.message)) l.deeds) l.host w;
+          → GoesOn g.N.Nv.writes l.fn.self l.self (noted l.watch) (short l.watch) start
+          (map (deed_of l.fn.self (l.pipe, l.message)) (drop l.deed-index l.deeds))
+          (map (deed_of l.fn.self (l.pipe, l.message)) l.deeds) l.host w;
     }

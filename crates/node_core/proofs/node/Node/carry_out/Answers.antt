@@ -3,22 +3,24 @@ use Rattle.std.specs.Prelude.{None}
 use Rattle.gate_admin.specs.Decide.{ends_of}
 use Rattle.link_machine.specs.Machine.Turn.{Give}
 use Rattle.node_machine.specs.Parts.About.{Removed}
-use Rattle.node_machine.specs.Parts.Deed.{Sends, SaysOk, Asks, Releases, Tells, IsAnswered, Drops, SetsErrors}
+use Rattle.node_machine.specs.Parts.Deed.{Sends, SaysOk, Asks, Releases, Tells, IsAnswered, Drops, SetsErrors, Orders, Hears, Ends}
 use Rattle.node_machine.specs.Carrying.{done, turn_at, notified}
 use Rattle.node_deeds.specs.Shown.{creation_of_row}
 use Rattle.node_core.specs.declared.node.Node.{Node}
 use Rattle.node_core.specs.Nodes.{IsInStep}
 use Rattle.node_deeds.specs.declared.deeds.Deed.TheVariants as kept
-use Rattle.link_machine.specs.Machine.{Message}
-use Rattle.node_machine.specs.Parts.{Work}
-use Rattle.node_deeds.specs.declared.deeds.Deed.{Deed}
-use Rattle.node_core.specs.Deeds.{IsDoableNow}
+use Rattle.history.specs.Steps.{end_of}
+use Rattle.link_entries.specs.entries.Entries.End.{Host}
+use Rattle.node_deeds.specs.Shown.{goes_on_with, end_shown}
+use Rattle.node_deeds.specs.Hosts.{init_running}
+use Rattle.node_core.specs.Deeds.{handling}
 use Rattle.node_core.proofs.Steps.{plainly, desk_changed, of_deed}
+use Rattle.node_core.proofs.Tasks.{going_cut, going_writes, going_anyway}
 use Rattle.node_core.proofs.node.Node.carry_out.Goals as goal
 
 pub returns-in-PassesOn-clause-carried : goal.returns-in-PassesOn-clause-carried
 returns-in-PassesOn-clause-carried g c start w u =
-    of_deed c.args.host (c.args.pipe, c.args.message.now) c.args.deed.now (kept.PassesOn c.in-PassesOn.to) c.in-PassesOn.is
+    of_deed c.args.host (handling c.args.self.now (c.args.pipe, c.args.message.now)) c.args.deed.now (kept.PassesOn c.in-PassesOn.to) c.in-PassesOn.is
     (plainly g.N.Nv.writes (done c.args.host (Sends c.in-PassesOn.to (c.args.pipe, c.args.message.now))) u c.requires.live c.send.ensures.store
     (c.send.ensures.carried start w u) refl refl (λ plan. refl))
 
@@ -27,26 +29,27 @@ returns-in-Sends-clause-carried g c start w u =
     let s = c.send-in-Sends in
     let P : List ℕ → Type 0 = λ bytes. IsInStep s.new.self (g.W.Watch.noted s.new.watch) (g.W.Watch.is_short s.new.watch) start
     (turn_at c.in-Sends.to (Give (c.in-Sends.on, bytes)) w) in
-    of_deed c.args.host (c.args.pipe, c.args.message.now) c.args.deed.now (kept.Sends c.in-Sends.to c.in-Sends.on c.in-Sends.answer) c.in-Sends.is
+    of_deed c.args.host (handling c.args.self.now (c.args.pipe, c.args.message.now)) c.args.deed.now
+    (kept.Sends c.in-Sends.to c.in-Sends.on c.in-Sends.answer) c.in-Sends.is
     (plainly g.N.Nv.writes (done c.args.host (Sends c.in-Sends.to (c.in-Sends.on, c.in-Sends.answer.items))) u c.requires.live s.ensures.store
     (subst P c.as_slice.ensures.value (s.ensures.carried start w u)) refl refl (λ plan. refl))
 
 pub returns-in-SaysOk-clause-carried : goal.returns-in-SaysOk-clause-carried
 returns-in-SaysOk-clause-carried g c start w u =
-    of_deed c.args.host (c.args.pipe, c.args.message.now) c.args.deed.now kept.SaysOk c.in-SaysOk.is
+    of_deed c.args.host (handling c.args.self.now (c.args.pipe, c.args.message.now)) c.args.deed.now kept.SaysOk c.in-SaysOk.is
     (plainly g.N.Nv.writes (done c.args.host (SaysOk)) u c.requires.live (ap (λ (n : Node g.row.N.Denot). n.store) c.say_ok.ensures.same)
     (c.say_ok.ensures.carried start w u) refl refl (λ plan. refl))
 
 pub returns-in-Asks-clause-carried : goal.returns-in-Asks-clause-carried
 returns-in-Asks-clause-carried g c start w u =
-    of_deed c.args.host (c.args.pipe, c.args.message.now) c.args.deed.now (kept.Asks c.in-Asks.row) c.in-Asks.is
+    of_deed c.args.host (handling c.args.self.now (c.args.pipe, c.args.message.now)) c.args.deed.now (kept.Asks c.in-Asks.row) c.in-Asks.is
     (plainly g.N.Nv.writes (done c.args.host (Asks c.in-Asks.row.dest (18 ∷ ends_of c.in-Asks.row) (creation_of_row c.in-Asks.row)))
     u c.requires.live c.ask.ensures.store
     (c.ask.ensures.carried start w u) refl refl (λ plan. refl))
 
 pub returns-in-Releases-clause-carried : goal.returns-in-Releases-clause-carried
 returns-in-Releases-clause-carried g c start w u =
-    of_deed c.args.host (c.args.pipe, c.args.message.now) c.args.deed.now (kept.Releases c.in-Releases.asker) c.in-Releases.is
+    of_deed c.args.host (handling c.args.self.now (c.args.pipe, c.args.message.now)) c.args.deed.now (kept.Releases c.in-Releases.asker) c.in-Releases.is
     (plainly g.N.Nv.writes (done c.args.host (Releases c.in-Releases.asker)) u c.requires.live c.release.ensures.store
     (c.release.ensures.carried start w u) refl refl (λ plan. refl))
 
@@ -55,43 +58,55 @@ returns-in-Tells-clause-carried g c start w u =
     let s = c.notify in
     let P : List ℕ → Type 0 = λ bytes. IsInStep s.new.self (g.W.Watch.noted s.new.watch) (g.W.Watch.is_short s.new.watch) start
     (notified c.in-Tells.to Removed bytes w) in
-    of_deed c.args.host (c.args.pipe, c.args.message.now) c.args.deed.now (kept.Tells c.in-Tells.to c.in-Tells.told) c.in-Tells.is
+    of_deed c.args.host (handling c.args.self.now (c.args.pipe, c.args.message.now)) c.args.deed.now (kept.Tells c.in-Tells.to c.in-Tells.told) c.in-Tells.is
     (plainly g.N.Nv.writes (done c.args.host (Tells c.in-Tells.to c.in-Tells.told.items)) u c.requires.live s.ensures.store
     (subst P c.as_slice-in-Tells.ensures.value (s.ensures.carried start w u)) refl refl (λ plan. refl))
 
 pub returns-in-IsAnswered-clause-carried : goal.returns-in-IsAnswered-clause-carried
 returns-in-IsAnswered-clause-carried g c start w u =
-    of_deed c.args.host (c.args.pipe, c.args.message.now) c.args.deed.now kept.IsAnswered c.in-IsAnswered.is
+    of_deed c.args.host (handling c.args.self.now (c.args.pipe, c.args.message.now)) c.args.deed.now kept.IsAnswered c.in-IsAnswered.is
     (plainly g.N.Nv.writes (done c.args.host IsAnswered) u c.requires.live refl
     (desk_changed c.args.host (λ d. record d { notice = None }) u (c.set_notice.ensures w.ports u.ends)) refl refl (λ plan. refl))
 
 pub returns-in-Drops-clause-carried : goal.returns-in-Drops-clause-carried
 returns-in-Drops-clause-carried g c start w u =
-    of_deed c.args.host (c.args.pipe, c.args.message.now) c.args.deed.now (kept.Drops c.in-Drops.on) c.in-Drops.is
+    of_deed c.args.host (handling c.args.self.now (c.args.pipe, c.args.message.now)) c.args.deed.now (kept.Drops c.in-Drops.on) c.in-Drops.is
     (plainly g.N.Nv.writes (done c.args.host (Drops c.in-Drops.on)) u c.requires.live (ap (λ (n : Node g.row.N.Denot). n.store) c.drop_message.ensures.same)
     (c.drop_message.ensures.carried start w u) refl refl (λ plan. refl))
 
 pub returns-in-SetsErrors-clause-carried : goal.returns-in-SetsErrors-clause-carried
 returns-in-SetsErrors-clause-carried g c start w u =
-    of_deed c.args.host (c.args.pipe, c.args.message.now) c.args.deed.now (kept.SetsErrors c.in-SetsErrors.errors) c.in-SetsErrors.is
+    of_deed c.args.host (handling c.args.self.now (c.args.pipe, c.args.message.now)) c.args.deed.now (kept.SetsErrors c.in-SetsErrors.errors) c.in-SetsErrors.is
     (plainly g.N.Nv.writes (done c.args.host (SetsErrors c.in-SetsErrors.errors)) u c.requires.live refl
     (desk_changed c.args.host (λ d. record d { errors = c.in-SetsErrors.errors }) u (c.set_errors.ensures w.ports u.ends)) refl refl (λ plan. refl))
 
-no_deed : {P : Type 0} (m : Message) (d other : Deed) (w : Work) → d ≡ other → IsDoableNow m d w → (IsDoableNow m other w → ⊥) → P
-no_deed m d other w is may none = let D : Deed → Type 0 = λ x. IsDoableNow m x w in absurd (none (subst D is may))
-
 pub returns-in-Orders-clause-carried : goal.returns-in-Orders-clause-carried
 returns-in-Orders-clause-carried g c start w u =
-    let r = c.requires.doable in no_deed (c.args.pipe, c.args.message.now) c.args.deed.now (kept.Orders _) r.1 c.in-Orders.is r.3 (λ x. x)
+    let s = c.order in
+    let P : List ℕ → Type 0 = λ bytes. IsInStep s.new.self (g.W.Watch.noted s.new.watch) (g.W.Watch.is_short s.new.watch) start
+    (done c.args.host (Orders bytes) w) in
+    of_deed c.args.host (handling c.args.self.now (c.args.pipe, c.args.message.now)) c.args.deed.now (kept.Orders c.in-Orders.order) c.in-Orders.is
+    (plainly g.N.Nv.writes (done c.args.host (Orders c.in-Orders.order.items)) u c.requires.live s.ensures.store
+    (subst P c.as_slice-in-Orders.ensures.value (s.ensures.carried start w u)) refl refl (λ plan. refl))
 
 pub returns-in-Hears-clause-carried : goal.returns-in-Hears-clause-carried
 returns-in-Hears-clause-carried g c start w u =
-    let r = c.requires.doable in no_deed (c.args.pipe, c.args.message.now) c.args.deed.now kept.Hears r.1 c.in-Hears.is r.3 (λ x. x)
+    of_deed c.args.host (handling c.args.self.now (c.args.pipe, c.args.message.now)) c.args.deed.now kept.Hears c.in-Hears.is
+    (plainly g.N.Nv.writes (done c.args.host Hears) u c.requires.live c.hear.ensures.store
+    (c.hear.ensures.carried c.args.host (g.W.Watch.noted c.args.watch.now) (g.W.Watch.is_short c.args.watch.now) start w u) refl refl (λ plan. refl))
 
 pub returns-in-GoesOn-clause-carried : goal.returns-in-GoesOn-clause-carried
 returns-in-GoesOn-clause-carried g c start w u =
-    let r = c.requires.doable in no_deed (c.args.pipe, c.args.message.now) c.args.deed.now (kept.GoesOn _) r.1 c.in-GoesOn.is r.3 (λ x. x)
+    let init = init_running c.args.self.now.tasks.init in
+    let answered = c.in-GoesOn.answered in
+    of_deed c.args.host (handling c.args.self.now (c.args.pipe, c.args.message.now)) c.args.deed.now (kept.GoesOn answered) c.in-GoesOn.is
+    (plainly g.N.Nv.writes (done c.args.host (goes_on_with init answered)) u c.requires.live c.go_on.ensures.store
+    (c.go_on.ensures.carried c.args.host (g.W.Watch.noted c.args.watch.now) (g.W.Watch.is_short c.args.watch.now) start w u)
+    (going_cut c.args.host init answered w) (going_writes c.args.host init answered w) (going_anyway c.args.host init answered w))
 
 pub returns-in-Ends-clause-carried : goal.returns-in-Ends-clause-carried
 returns-in-Ends-clause-carried g c start w u =
-    let r = c.requires.doable in no_deed (c.args.pipe, c.args.message.now) c.args.deed.now (kept.Ends _) r.1 c.in-Ends.is r.3 (λ x. x)
+    let end = c.in-Ends.end in
+    of_deed c.args.host (handling c.args.self.now (c.args.pipe, c.args.message.now)) c.args.deed.now (kept.Ends end) c.in-Ends.is
+    (plainly g.N.Nv.writes (done c.args.host (Ends (end_shown (end_of c.args.self.now.number Host) end))) u c.requires.live c.end_init.ensures.store
+    (c.end_init.ensures.carried c.args.host start w u) refl refl (λ plan. refl))

@@ -6,6 +6,7 @@ use Rattle.hci_tables.specs.declared.command.Command.{Command}
 use Rattle.trace_model.specs.declared.entry.Entry.{Entry}
 use Rattle.trace_model.specs.declared.entry.Entry.TheVariants as entry
 use Rattle.node_core.proofs.Doing.{more_noted, kept_brings, lost_brings, made_ok, made_err, nv_fault, no_room}
+use Rattle.node_core.proofs.Faults.{faults_kept, faults_rose}
 use Rattle.node_core.proofs.node.Node.commit.Goals as goal
 
 pub returns-in-Ok-clause-carried : goal.returns-in-Ok-clause-carried
@@ -46,3 +47,13 @@ returns-clause-carried g c start w u =
     }) u
     (more_noted start (w.entries ++ entry.Command w.core.node c.args.command.now ∷ []) (entry.Cut w.core.node) c.note-2.ensures.stays
     (λ kept. c.note-2.ensures.noted kept ∙ ap (λ (n : ℕ). g.W.Watch.noted c.note.new.watch ++ entry.Cut n ∷ []) (sym u.node)) one)
+
+pub returns-in-Ok-clause-faults : goal.returns-in-Ok-clause-faults
+returns-in-Ok-clause-faults g c = faults_kept g.N.Nv.faults c.commit.ensures.count c.in-Ok.ensures.live
+
+pub returns-clause-faults : goal.returns-clause-faults
+returns-clause-faults g c =
+    let e = c.commit.ensures in
+    let fault = nv_fault c.commit.result c.in-Err._fault c.in-Err.is c.in-Err.ensures.fault
+    (λ s. (let t = e.spent.0 s in no_room c.args.self.now.store.journal.state c.args.command.now c.requires.room t.0 t.1)) in
+    faults_rose g.N.Nv.faults e.count (e.rose fault)

@@ -1,11 +1,13 @@
-use Rattle.std.proofs.Common.{◌≡◌, true, not, sym, ap, ◌∙◌, subst, refl}
+use Rattle.std.proofs.Common.{◌≡◌, true, not, sym, ap, ◌∙◌, refl}
 use Rattle.node_machine.specs.Turns.{passes}
 use Rattle.node_core.specs.Nodes.{IsInStep}
 use Rattle.node_core.specs.Bringing.{Brings}
 use Rattle.node_core.specs.Syncing.{settles, sync_kept}
 use Rattle.node_core.proofs.Joining.{brings_cut, brings_then}
 use Rattle.node_core.proofs.HavingTurns.{brings_same}
-use Rattle.node_core.proofs.Settling.{settled_ports, quiet_few, quiet_of_hosts}
+use Rattle.node_core.proofs.Settling.{settled_ports, quiet_few}
+use Rattle.node_core.proofs.Ordering.{stays_in_order}
+use Rattle.node_core.proofs.Staying.{settles_fine}
 use Rattle.node_core.proofs.node.Node.finish.Goals as goal
 
 pub passes-requires-clause-may : goal.passes-requires-clause-may
@@ -18,7 +20,8 @@ passes-requires-clause-may g c =
     t.ensures.carried r.0 r.1 r.2 in
     let live = b.stands.power ∙ ap not (sym t.ensures.live ∙ c.if-not-settle_sessions.false) in
     let same = settled_ports (sync_kept s.journal.state s.tables c.args.came) b live in
-    (r.0, b.after, b.stands, quiet_of_hosts b.after.ports r.1.ports same r.3, quiet_few b.after.ports r.1.ports same r.4)
+    let order = stays_in_order (settles_fine s.journal.state s.tables c.args.came) b live (r.2.power ∙ ap not c.requires.live) r.3 in
+    (r.0, b.after, b.stands, order, quiet_few b.after.ports r.1.ports same r.4)
 
 pub returns-then-not-settle_sessions-clause-carried : goal.returns-then-not-settle_sessions-clause-carried
 returns-then-not-settle_sessions-clause-carried g c start w u hosts few =
@@ -38,5 +41,6 @@ returns-clause-carried g c start w u hosts few =
     t.ensures.carried start w u in
     let live = b.stands.power ∙ ap not (sym t.ensures.live ∙ c.if-not-settle_sessions.false) in
     let same = settled_ports (sync_kept s.journal.state s.tables c.args.came) b live in
-    brings_same (brings_then g.N.Nv.writes b live (c.passes.ensures.carried start b.after b.stands (quiet_of_hosts b.after.ports w.ports same hosts)
+    let order = stays_in_order (settles_fine s.journal.state s.tables c.args.came) b live (u.power ∙ ap not c.requires.live) hosts in
+    brings_same (brings_then g.N.Nv.writes b live (c.passes.ensures.carried start b.after b.stands order
     (quiet_few b.after.ports w.ports same few))) (λ plan. refl)

@@ -9,10 +9,12 @@ use Rattle.node_ends.specs.Ends.{got_at, message_read}
 use Rattle.node_core.specs.declared.node.Node.{Node}
 use Rattle.node_core.specs.Nodes.{IsInStep}
 use Rattle.node_core.specs.Bringing.{Brings}
+use Rattle.node_core.specs.Deeds.{handling}
 use Rattle.node_core.specs.Turning.{IsDecided}
 use Rattle.node_core.proofs.Steps.{plainly}
 use Rattle.node_core.proofs.HavingTurns.{no_some, let_cut, let_writes, let_anyway}
 use Rattle.node_core.proofs.Sendables.{got_at_sendable}
+use Rattle.node_core.proofs.Deciders.{own_host}
 use Rattle.node_core.proofs.node.Node.have_turns.Goals as goal
 
 pub returns-in_default-clause-carried : goal.returns-in_default-clause-carried
@@ -35,6 +37,17 @@ decide-decided-requires-clause-sendable g c =
     let sendable = subst AreSendable got (got_at_sendable c.args.self.now.ends.pool c.args.self.now.ends.seats.items w.ports c.args.host u.ends.each) in
     sendable.0
 
+pub decide-decided-requires-clause-own : goal.decide-decided-requires-clause-own
+decide-decided-requires-clause-own g c =
+    let r = c.requires.may in
+    let w : Work = r.1 in
+    let u = r.2 in
+    let got = c.read.ensures.waits w.ports u.ends ∙ ap (λ (o : Option (ℕ × ℕ)). message_read o c.read.new.buffer) c.in-Some.is in
+    λ some. own_host w c.args.host (λ none. some (sym u.node ∙ none)) r.3.own got ∙ u.node
+
+pub decide-decided-requires-clause-may : goal.decide-decided-requires-clause-may
+decide-decided-requires-clause-may g c = let r = c.requires.may in (_, _, r.0, r.1, r.2, r.3)
+
 pub take_turn-requires-clause-decided : goal.take_turn-requires-clause-decided
 take_turn-requires-clause-decided g c =
     let r = c.requires.may in
@@ -44,13 +57,15 @@ take_turn-requires-clause-decided g c =
     let h = c.args.host in
     let m : Message = (c.in-Some.pipe, take c.in-Some.len c.read.new.buffer) in
     let d = c.decide-decided.ensures.decided _ _ start w u r.3 r.4 in
-    let H : Bool → Type 0 = λ b. IsDecided h m c.decide-decided.result.deeds.items c.decide-decided.result.short b w in
-    let D : List Deed → Type 0 = λ ds. IsDecided h m ds c.decide-decided.result.short c.is_held-held.result w in
+    let H : Bool → Type 0 = λ b. IsDecided h (handling c.args.self.now m) c.decide-decided.result.deeds.items c.decide-decided.result.short b w in
+    let D : List Deed → Type 0 = λ ds. IsDecided h (handling c.args.self.now m) ds c.decide-decided.result.short c.is_held-held.result w in
+    let A : Node g.row.N.Denot → Type 0 = λ n. IsDecided h (handling n m) c.as_slice.result.now c.decide-decided.result.short c.is_held-held.result w in
     let U : Node g.row.N.Denot → Type 0 = λ n. IsInStep n (g.W.Watch.noted c.args.watch.now) (g.W.Watch.is_short c.args.watch.now) start w in (
       start,
       w,
       subst U (sym c.decide-decided.ensures.same) u,
-      subst D (sym c.as_slice.ensures.value) (subst H (sym (c.is_held-held.ensures w.ports u.ends)) d),
+      subst A (sym c.decide-decided.ensures.same)
+          (subst D (sym c.as_slice.ensures.value) (subst H (sym (c.is_held-held.ensures w.ports u.ends)) d)),
     )
 
 pub returns-clause-carried : goal.returns-clause-carried
@@ -59,11 +74,13 @@ returns-clause-carried g c start w u hosts few =
     let m : Message = (c.in-Some.pipe, take c.in-Some.len c.read.new.buffer) in
     let got : got_at w.ports h ≡ m ∷ [] = c.read.ensures.waits w.ports u.ends ∙ ap (λ (o : Option (ℕ × ℕ)). message_read o c.read.new.buffer) c.in-Some.is in
     let d = c.decide-decided.ensures.decided _ _ start w u hosts few in
-    let H : Bool → Type 0 = λ b. IsDecided h m c.decide-decided.result.deeds.items c.decide-decided.result.short b w in
-    let D : List Deed → Type 0 = λ ds. IsDecided h m ds c.decide-decided.result.short c.is_held-held.result w in
+    let H : Bool → Type 0 = λ b. IsDecided h (handling c.args.self.now m) c.decide-decided.result.deeds.items c.decide-decided.result.short b w in
+    let D : List Deed → Type 0 = λ ds. IsDecided h (handling c.args.self.now m) ds c.decide-decided.result.short c.is_held-held.result w in
+    let A : Node g.row.N.Denot → Type 0 = λ n. IsDecided h (handling n m) c.as_slice.result.now c.decide-decided.result.short c.is_held-held.result w in
     let U : Node g.row.N.Denot → Type 0 = λ n. IsInStep n (g.W.Watch.noted c.args.watch.now) (g.W.Watch.is_short c.args.watch.now) start w in
     let v = subst U (sym c.decide-decided.ensures.same) u in
-    let decided = subst D (sym c.as_slice.ensures.value) (subst H (sym (c.is_held-held.ensures w.ports u.ends)) d) in
+    let decided = subst A (sym c.decide-decided.ensures.same)
+    (subst D (sym c.as_slice.ensures.value) (subst H (sym (c.is_held-held.ensures w.ports u.ends)) d)) in
     let t = c.take_turn in
     let P : List Message → Type 0 = λ ms. Brings g.N.Nv.writes c.args.self.now.store.journal.nv t.new.self.store.journal.nv
     (IsInStep t.new.self (g.W.Watch.noted t.new.watch) (g.W.Watch.is_short t.new.watch) start) (have_turns h ms) w in

@@ -4,8 +4,9 @@ use Rattle.node_machine.specs.Turns.{have_turns}
 use Rattle.node_core.specs.Nodes.{IsInStep}
 use Rattle.node_core.specs.Bringing.{Brings}
 use Rattle.node_core.proofs.HavingTurns.{no_some}
-use Rattle.node_core.proofs.Elsewhere.{of_hosts, is_host_at}
+use Rattle.node_core.proofs.Elsewhere.{is_host_at}
 use Rattle.node_core.proofs.Passing.{PassesOn, pass_begins, next_few, pass_goes_on, pass_stops, pass_ends, pass_over, pass_full}
+use Rattle.node_core.proofs.Faults.{faults_stay, faults_then}
 use Rattle.node_core.proofs.node.Node.passes.Goals as goal
 
 pub loop-i-init : goal.loop-i-init
@@ -13,13 +14,14 @@ loop-i-init g c = record {
   runs = c.requires.runs;
   live = c.requires.live;
   number = refl;
+  faults = faults_stay g.N.Nv.faults c.requires.live refl;
   buffer = c.requires.buffer;
-  goes = λ start w u hosts few. pass_begins g.N.Nv.writes u few;
+  goes = λ start w u order few. pass_begins g.N.Nv.writes u order few;
 }
 
 pub returns-in_default-clause-carried : goal.returns-in_default-clause-carried
-returns-in_default-clause-carried g c start w u hosts few =
-    let k = c.loop-i.invariant.goes start w u hosts few in
+returns-in_default-clause-carried g c start w u order few =
+    let k = c.loop-i.invariant.goes start w u order few in
     let none = sym (no_some c.host.result c.in_default.not-Some) ∙ c.host.ensures k.now.ports k.under.ends in
     pass_ends k (pass_over k none) c.loop-i.invariant.live
 
@@ -28,31 +30,31 @@ have_turns-requires-clause-some g c =
     let r = c.requires.may in
     let k = c.loop-i.invariant.goes r.0 r.1 r.2 r.3 r.4 in
     let is = sym c.in-Some.is ∙ c.host.ensures k.now.ports k.under.ends in
-    (is_host_at c.loop-i.i k.now.ports c.in-Some.host (of_hosts k.now.ports r.1.ports k.hosts r.3) is).0
+    (is_host_at c.loop-i.i k.now.ports c.in-Some.host k.order.hosts is).0
 
 pub have_turns-requires-clause-host : goal.have_turns-requires-clause-host
 have_turns-requires-clause-host g c =
     let r = c.requires.may in
     let k = c.loop-i.invariant.goes r.0 r.1 r.2 r.3 r.4 in
     let is = sym c.in-Some.is ∙ c.host.ensures k.now.ports k.under.ends in
-    (is_host_at c.loop-i.i k.now.ports c.in-Some.host (of_hosts k.now.ports r.1.ports k.hosts r.3) is).1
+    (is_host_at c.loop-i.i k.now.ports c.in-Some.host k.order.hosts is).1
 
 pub have_turns-requires-clause-may : goal.have_turns-requires-clause-may
 have_turns-requires-clause-may g c =
     let r = c.requires.may in
     let k = c.loop-i.invariant.goes r.0 r.1 r.2 r.3 r.4 in
     let is = sym c.in-Some.is ∙ c.host.ensures k.now.ports k.under.ends in
-    (r.0, k.now, k.under, of_hosts k.now.ports r.1.ports k.hosts r.3, next_few k c.in-Some.host is)
+    (r.0, k.now, k.under, k.order, next_few k c.in-Some.host is)
 
 pub returns-then-not-have_turns-clause-carried : goal.returns-then-not-have_turns-clause-carried
-returns-then-not-have_turns-clause-carried g c start w u hosts few =
+returns-then-not-have_turns-clause-carried g c start w u order few =
     let h = c.in-Some.host in
-    let k = c.loop-i.invariant.goes start w u hosts few in
+    let k = c.loop-i.invariant.goes start w u order few in
     let is = sym c.in-Some.is ∙ c.host.ensures k.now.ports k.under.ends in
     let t = c.have_turns in
     let b : Brings g.N.Nv.writes c.loop-i.self.store.journal.nv t.new.self.store.journal.nv
     (IsInStep t.new.self (g.W.Watch.noted t.new.watch) (g.W.Watch.is_short t.new.watch) start) (have_turns h (got_at k.now.ports h)) k.now =
-    t.ensures.carried start k.now k.under (of_hosts k.now.ports w.ports k.hosts hosts) (next_few k h is) in
+    t.ensures.carried start k.now k.under k.order (next_few k h is) in
     pass_stops k h is b (b.stands.power ∙ ap not (sym t.ensures.live ∙ c.if-not-have_turns.true))
 
 pub loop-i-preserved : goal.loop-i-preserved
@@ -63,20 +65,21 @@ loop-i-preserved g c =
       runs = t.ensures.runs;
       live = on;
       number = t.ensures.number ∙ c.loop-i.invariant.number;
+      faults = faults_then g.N.Nv.faults c.loop-i.invariant.faults t.ensures.faults;
       buffer = t.auto.buffer ∙ c.loop-i.invariant.buffer;
-      goes = λ start w u hosts few.
+      goes = λ start w u order few.
           let h = c.in-Some.host in
-          let k = c.loop-i.invariant.goes start w u hosts few in
+          let k = c.loop-i.invariant.goes start w u order few in
           let is = sym c.in-Some.is ∙ c.host.ensures k.now.ports k.under.ends in
           let b : Brings g.N.Nv.writes c.loop-i.self.store.journal.nv t.new.self.store.journal.nv
           (IsInStep t.new.self (g.W.Watch.noted t.new.watch) (g.W.Watch.is_short t.new.watch) start) (have_turns h (got_at k.now.ports h)) k.now =
-          t.ensures.carried start k.now k.under (of_hosts k.now.ports w.ports k.hosts hosts) (next_few k h is) in
+          t.ensures.carried start k.now k.under k.order (next_few k h is) in
           let P : ℕ → Type 0 = λ m. PassesOn g.N.Nv.writes c.args.self.now t.new.self (g.W.Watch.noted t.new.watch) (g.W.Watch.is_short t.new.watch)
           start m w in
-          subst P (sym (add-one c.loop-i.i)) (pass_goes_on k h is b (b.stands.power ∙ ap not on));
+          subst P (sym (add-one c.loop-i.i)) (pass_goes_on k h is b (b.stands.power ∙ ap not on) c.loop-i.invariant.live);
     }
 
 pub returns-clause-carried : goal.returns-clause-carried
-returns-clause-carried g c start w u hosts few =
-    let k = c.loop-i.invariant.goes start w u hosts few in
+returns-clause-carried g c start w u order few =
+    let k = c.loop-i.invariant.goes start w u order few in
     pass_ends k (pass_full k c.loop-i-test.false) c.loop-i.invariant.live

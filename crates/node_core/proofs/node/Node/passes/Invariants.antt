@@ -1,9 +1,9 @@
 use Rattle.std.proofs.Common.{◌≡◌, true, List, length}
 use Rattle.trace_model.specs.declared.entry.Entry.{Entry}
 use Rattle.node_machine.specs.Parts.{Work}
-use Rattle.node_ends.specs.Ends.{AreOfHosts}
 use Rattle.node_core.specs.Nodes.{IsInStep, IsSoundNode}
-use Rattle.node_core.specs.Turning.{AreFewDue}
+use Rattle.node_core.specs.Faults.{CountsFaults}
+use Rattle.node_core.specs.Turning.{IsNodeInOrder, AreFewDue}
 use Rattle.node_core.proofs.Passing.{PassesOn}
 use Rattle.node_core.proofs.node.Node.passes.Given as goal
 
@@ -16,7 +16,9 @@ invariant-loop-i g l =
       runs : IsSoundNode l.self;
       live : l.self.store.journal.live ≡ true;
       number : l.self.number ≡ l.fn.self.number;
+      faults : CountsFaults g.N.Nv.faults l.fn.self.store l.self.store;
       buffer : length l.buffer ≡ 4096;
-      goes : (start : List Entry) (w : Work) → IsInStep l.fn.self (noted l.fn.watch) (short l.fn.watch) start w → AreOfHosts w.ports → AreFewDue w.ports
+      goes : (start : List Entry) (w : Work) → IsInStep l.fn.self (noted l.fn.watch) (short l.fn.watch) start w
+          → IsNodeInOrder w.core w.ports → AreFewDue w.ports
           → PassesOn g.N.Nv.writes l.fn.self l.self (noted l.watch) (short l.watch) start l.i w;
     }

@@ -5,31 +5,33 @@ use Rattle.gate_answers.specs.declared.response.Response.TheVariants as response
 use Rattle.node_machine.specs.Parts.{Port, Work, Deed}
 use Rattle.node_machine.specs.Parts.Deed.{Releases}
 use Rattle.node_machine.specs.Carrying.{all_done}
-use Rattle.node_machine.specs.Node.{forgets, forgotten, all_owed}
+use Rattle.node_machine.specs.Node.{forgets, forgotten, after_sessions, all_owed}
 use Rattle.node_core.specs.Nodes.{IsInStep}
 use Rattle.node_core.specs.Bringing.{Brings}
 use Rattle.node_core.specs.Owing.{answers_owed}
 use Rattle.node_core.specs.Syncing.{left_over, settles, sync_kept}
 use Rattle.node_core.proofs.Freeing.{all_joined}
-use Rattle.node_core.proofs.Settling.{plain_freed, plain_owed, over_under_way, settle_stops, settle_goes}
+use Rattle.node_core.proofs.Settling.{plain_freed, plain_owed, left_under_way, settle_stops, settle_goes}
 use Rattle.node_core.proofs.node.Node.settle_sessions.Goals as goal
 
 pub keep_sync-requires-clause-live : goal.keep_sync-requires-clause-live
 keep_sync-requires-clause-live g c =
     ap (λ (s : Stored g.row.N.Denot). s.journal.live)
-    (c.release_all.ensures.store ∙ (c.drop_notices.ensures.store ∙ c.forget.ensures.store)) ∙ c.requires.live
+    (c.release_all.ensures.store ∙ (c.drop_notices.ensures.store ∙ (c.forget.ensures.store ∙ c.drop_tasks.ensures.store))) ∙ c.requires.live
 
 pub returns-then-not-keep_sync-clause-carried : goal.returns-then-not-keep_sync-clause-carried
 returns-then-not-keep_sync-clause-carried g c start w u =
     let left : List Port = map (forgets w.ports) w.ports in
     let freed : map Releases c.as_slice.result.now ≡ forgotten w.ports =
     ap (map Releases) c.as_slice.ensures.value ∙ c.forgotten-freed.ensures w.ports u.ends in
-    let u1 = c.forget.ensures.carried _ _ start w u in
-    let u2 = over_under_way w (c.drop_notices.ensures.carried _ _ start (record w { ports = left }) u1) in
+    let begun : Work = record w { core = after_sessions w.core w.ports } in
+    let u0 = c.drop_tasks.ensures.carried _ _ start w u in
+    let u1 = c.forget.ensures.carried _ _ start begun u0 in
+    let u2 = left_under_way w (c.drop_notices.ensures.carried _ _ start (record begun { ports = left }) u1) in
     let u3 = c.release_all.ensures.carried start (left_over w) u2 in
     let fs : List Deed = map Releases c.as_slice.result.now in
     let kept : c.release_all.new.self.store ≡ c.args.self.now.store =
-    c.release_all.ensures.store ∙ (c.drop_notices.ensures.store ∙ c.forget.ensures.store) in
+    c.release_all.ensures.store ∙ (c.drop_notices.ensures.store ∙ (c.forget.ensures.store ∙ c.drop_tasks.ensures.store)) in
     let t = c.keep_sync in
     let K : Stored g.row.N.Denot → List Deed = λ s. sync_kept s.journal.state s.tables c.args.came in
     let b : Brings g.N.Nv.writes c.release_all.new.self.store.journal.nv t.new.self.store.journal.nv
@@ -45,14 +47,16 @@ returns-clause-carried g c start w u =
     let left : List Port = map (forgets w.ports) w.ports in
     let freed : map Releases c.as_slice.result.now ≡ forgotten w.ports =
     ap (map Releases) c.as_slice.ensures.value ∙ c.forgotten-freed.ensures w.ports u.ends in
-    let u1 = c.forget.ensures.carried _ _ start w u in
+    let begun : Work = record w { core = after_sessions w.core w.ports } in
+    let u0 = c.drop_tasks.ensures.carried _ _ start w u in
+    let u1 = c.forget.ensures.carried _ _ start begun u0 in
     let ended = ap (flat_map (answers_owed response.NotConnected)) c.as_slice-2.ensures.value ∙ c.owed-ended.ensures left response.NotConnected u1.ends in
     let late = ap (flat_map (answers_owed response.Timeout)) c.as_slice-3.ensures.value ∙ c.owed-late.ensures left response.Timeout u1.ends in
-    let u2 = over_under_way w (c.drop_notices.ensures.carried _ _ start (record w { ports = left }) u1) in
+    let u2 = left_under_way w (c.drop_notices.ensures.carried _ _ start (record begun { ports = left }) u1) in
     let u3 = c.release_all.ensures.carried start (left_over w) u2 in
     let fs : List Deed = map Releases c.as_slice.result.now in
     let kept : c.release_all.new.self.store ≡ c.args.self.now.store =
-    c.release_all.ensures.store ∙ (c.drop_notices.ensures.store ∙ c.forget.ensures.store) in
+    c.release_all.ensures.store ∙ (c.drop_notices.ensures.store ∙ (c.forget.ensures.store ∙ c.drop_tasks.ensures.store)) in
     let t = c.keep_sync in
     let K : Stored g.row.N.Denot → List Deed = λ s. sync_kept s.journal.state s.tables c.args.came in
     let b : Brings g.N.Nv.writes c.release_all.new.self.store.journal.nv t.new.self.store.journal.nv

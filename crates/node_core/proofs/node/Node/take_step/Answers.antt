@@ -10,7 +10,8 @@ use Rattle.node_machine.specs.Node.NodeInput.{AtEnd}
 use Rattle.link_machine.specs.Machine.{lpdu_input}
 use Rattle.node_ends.proofs.Dues.{lpdu_few}
 use Rattle.node_core.proofs.Elsewhere.{few_at, hosts_differ}
-use Rattle.node_core.proofs.Stepping.{synced_is, sync_of_host, come_hosts, five_few, come_few, whole_step}
+use Rattle.node_core.proofs.Staying.{come_order}
+use Rattle.node_core.proofs.Stepping.{synced_is, sync_of_host, five_few, come_few, whole_step}
 use Rattle.node_core.proofs.node.Node.take_step.Goals as goal
 
 pub take-told-requires-clause-may : goal.take-told-requires-clause-may
@@ -22,7 +23,7 @@ finish-requires-clause-host g c =
     let r = c.requires.may in
     let l = c.requires.read in
     let P : Option (ℕ × ℕ) → Type 0 = λ o. IfSome o (λ (pair : ℕ × ℕ). (1 ≤ pair.0) × (pair.0 ≤ 7)) in
-    subst P (sym c.sync_told-came.ensures) (sync_of_host c.args.host (lpdu_input l.0) r.1.ports c.take-told.result r.3
+    subst P (sym c.sync_told-came.ensures) (sync_of_host c.args.host (lpdu_input l.0) r.1.ports c.take-told.result r.3.hosts
     (c.take-told.ensures.answer r.0 r.1 l.0 r.2 l.1))
 
 pub finish-requires-clause-may : goal.finish-requires-clause-may
@@ -32,7 +33,7 @@ finish-requires-clause-may g c =
       r.0,
       all_come (AtEnd c.args.host (lpdu_input l.0)) r.1,
       c.take-told.ensures.carried r.0 r.1 l.0 r.2 l.1,
-      come_hosts c.args.host (lpdu_input l.0) r.1 r.3,
+      come_order (AtEnd c.args.host (lpdu_input l.0)) r.1 r.3,
       come_few c.args.host (lpdu_input l.0) (λ e. lpdu_few e l.0) r.1 r.4,
     )
 
@@ -46,5 +47,5 @@ returns-clause-carried g c start w lpdu u hosts few read =
     ap (sync_told h) (sym told) ∙ sym c.sync_told-came.ensures in
     whole_step g.N.Nv.writes (AtEnd h i) c.sync_told-came.result u c.requires.live c.take-told.ensures.store (λ plan. refl) refl
     (synced_is w.core h i w.ports (hosts_differ e.pool e.seats.items w.ports u.ends.hosts u.ends.each) ∙ ap (sync_kept w.core.journal w.core.tables) came)
-    (c.finish.ensures.carried start (all_come (AtEnd h i) w) (c.take-told.ensures.carried start w lpdu u read) (come_hosts h i w hosts)
+    (c.finish.ensures.carried start (all_come (AtEnd h i) w) (c.take-told.ensures.carried start w lpdu u read) (come_order (AtEnd h i) w hosts)
     (come_few h i (λ e. lpdu_few e lpdu) w few))

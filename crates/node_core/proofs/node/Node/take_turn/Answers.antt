@@ -5,7 +5,8 @@ use Rattle.node_core.specs.Bringing.{Brings}
 use Rattle.node_machine.specs.Turns.{handles, holds_back, lets_go}
 use Rattle.link_machine.specs.Machine.{Message}
 use Rattle.node_core.specs.Nodes.{IsInStep}
-use Rattle.node_core.specs.Deeds.{deed_of}
+use Rattle.node_deeds.specs.Shown.{deeds_shown}
+use Rattle.node_core.specs.Deeds.{handling}
 use Rattle.node_core.proofs.Joining.{brings_then}
 use Rattle.node_core.proofs.Steps.{plainly}
 use Rattle.node_core.proofs.Quiet.{few_kept, held_kept}
@@ -22,7 +23,7 @@ returns-in-Some-clause-carried g c start w u d =
     brings_same
     (plainly g.N.Nv.writes {n2 = c.hold_back.new.self} (holds_back h short) u c.requires.live c.hold_back.ensures.store (c.hold_back.ensures.carried start w u)
     (held_cut h short w) (held_writes h short w) (held_anyway h short w))
-    (λ plan. has_none h m (map (deed_of m) c.args.deeds.now) short w d.deeds_are none plan)
+    (λ plan. has_none h m (deeds_shown (handling c.args.self.now m) c.args.deeds.now) short w d.deeds_are none plan)
 
 pub let_go-requires-clause-few : goal.let_go-requires-clause-few
 let_go-requires-clause-few g c =
@@ -31,19 +32,19 @@ let_go-requires-clause-few g c =
     let m : Message = (c.args.pipe, c.args.message.now) in
     let b : Brings g.N.Nv.writes c.args.self.now.store.journal.nv c.handle.new.self.store.journal.nv
     (IsInStep c.handle.new.self (g.W.Watch.noted c.handle.new.watch) (g.W.Watch.is_short c.handle.new.watch) r.0)
-    (handles h m (map (deed_of m) c.args.deeds.now)) r.1 = c.handle.ensures.carried r.0 r.1 r.2 in
+    (handles h m (deeds_shown (handling c.args.self.now m) c.args.deeds.now)) r.1 = c.handle.ensures.carried r.0 r.1 r.2 in
     let on : c.handle.new.self.store.journal.live ≡ true = sym c.handle.ensures.live ∙ c.if-not-handle.false in (
       b.after.ports,
       b.stands.ends,
       few_kept r.1.ports b.after.ports h
-          (sym (quiet_after h m (map (deed_of m) c.args.deeds.now) b (b.stands.power ∙ ap not on))) r.3.few,
+          (sym (quiet_after h m (deeds_shown (handling c.args.self.now m) c.args.deeds.now) b (b.stands.power ∙ ap not on))) r.3.few,
     )
 
 pub returns-clause-carried : goal.returns-clause-carried
 returns-clause-carried g c start w u d =
     let h = c.args.host in
     let m : Message = (c.args.pipe, c.args.message.now) in
-    let deeds = map (deed_of m) c.args.deeds.now in
+    let deeds = deeds_shown (handling c.args.self.now m) c.args.deeds.now in
     let b : Brings g.N.Nv.writes c.args.self.now.store.journal.nv c.handle.new.self.store.journal.nv
     (IsInStep c.handle.new.self (g.W.Watch.noted c.handle.new.watch) (g.W.Watch.is_short c.handle.new.watch) start)
     (handles h m deeds) w = c.handle.ensures.carried start w u in

@@ -1,0 +1,110 @@
+-- A step of a node that runs: what it may begin with, and that the node runs behind it.
+use Rattle.std.proofs.Common.{◌≡◌, ℕ, ◌+◌, ◌≤◌, Bool, true, false, List, [], ◌∷◌, map, length, refl, sym, ap, ◌∙◌, subst, arith}
+use Rattle.std.specs.Prelude.{Option, Some, None, ◌==◌, nat_le, IsTrue}
+use Rattle.std.specs.List.{AllByRecursion}
+use Rattle.std.proofs.lemmas.Bool.Decides.{nat_tests}
+use Rattle.swp_act.specs.declared.ActEvent.TheVariants.{Start as ActStart}
+use Rattle.trace_model.specs.declared.entry.Entry.{Entry}
+use Rattle.hci_store.specs.Stored.{Stored}
+use Rattle.link_machine.specs.Machine.{Role}
+use Rattle.link_machine.specs.Machine.Role.{Bare, Clf, Uicc}
+use Rattle.link_end.specs.Roles.{MayStart}
+use Rattle.node_machine.specs.Parts.{Core, Port, Work}
+use Rattle.node_machine.specs.Carrying.{port_at}
+use Rattle.node_machine.specs.Node.{NodeInput, steps}
+use Rattle.node_ends.specs.Ends.{EndsStandFor, IsHeldWhileOneWaits, MayStartAt}
+use Rattle.node_core.specs.declared.node.Node.{Node}
+use Rattle.node_core.specs.Nodes.{IsSoundNode, IsInStep}
+use Rattle.node_core.specs.Bringing.{Brings, WereMade, Foretells, plan_left}
+use Rattle.node_core.specs.Turning.{IsNodeInOrder, AreAtMostDue, AreYoung}
+use Rattle.node_core.specs.Running.{RunsAs, BeginsStep, HasStepped, AreInTime, AreHeldWhileOneWaits, IsAllSent, between}
+use Rattle.node_core.proofs.Elsewhere.{host_at, hosts_differ}
+use Rattle.node_core.proofs.Ordering.{in_order_at}
+use Rattle.node_core.proofs.Staying.{steps_fine}
+use Rattle.node_core.proofs.Lasting.{OfAll, Ready, Rests}
+use Rattle.node_core.proofs.Resting.{MakeOneMore, step_rests}
+use Rattle.node_core.proofs.Between.{begins_in_step, has_stepped, runs_ready}
+
+-- ## What a step asks for
+
+pub kept_order : (core : Core) (ports : List Port) → IsNodeInOrder core ports → IsNodeInOrder core (map between ports)
+kept_order core ports order = in_order_at core ports (map between ports) (go ports) order
+  where
+    go : (ps : List Port) → map host_at (map between ps) ≡ map host_at ps
+    go [] = refl
+    go (p ∷ ps) = ap (λ ns. p.desk.host ∷ ns) (go ps)
+
+pub kept_few : (n : ℕ) (ports : List Port) → AreAtMostDue n ports → AreAtMostDue n (map between ports)
+kept_few n [] few = tt
+kept_few n (p ∷ ports) few = (few.0, kept_few n ports few.1)
+
+pub ready_few : (ports : List Port) → OfAll (Ready 0) ports → AreAtMostDue 4 ports
+ready_few [] all = tt
+ready_few (p ∷ ports) all = let none = all.0.0 in (omega (arith, none), ready_few ports all.1)
+
+pub in_time_young : (ports : List Port) → AreInTime ports → AreYoung ports
+in_time_young [] time = tt
+in_time_young (p ∷ ports) time = let t = time.0 in (omega (arith, t), in_time_young ports time.1)
+
+pub kept_young : (ports : List Port) → AreYoung ports → AreYoung (map between ports)
+kept_young [] young = tt
+kept_young (p ∷ ports) young = (young.0, kept_young ports young.1)
+
+pub kept_held : (h : ℕ) (ports : List Port) → AreHeldWhileOneWaits ports → IsHeldWhileOneWaits (port_at (map between ports) h)
+kept_held h [] held = tt
+kept_held h (p ∷ ports) held = by (kept_held h ports held.1) (p.desk.host == h) refl
+  where
+    by : IsHeldWhileOneWaits (port_at (map between ports) h) → (b : Bool) → (p.desk.host == h) ≡ b
+        → IsHeldWhileOneWaits (port_at (map between (p ∷ ports)) h)
+    by later true q = rw q held.0
+    by later false q = rw q later
+
+-- low or full power
+power_starts : (r : Role) (value : ℕ) → value ≤ 1 → MayStart r (ActStart value)
+power_starts Bare value low = tt
+power_starts (Clf s) value low = grind (arith, nat_tests)
+power_starts (Uicc s) value low = tt
+
+pub power_may_start : (value : ℕ) (o : Option Port) → value ≤ 1 → MayStartAt value o
+power_may_start value None low = tt
+power_may_start value (Some p) low = power_starts p.side.role value low
+
+-- ## What it brings
+
+-- A step that began with ends at rest, behind which what was done to them isn't kept.
+pub stepped : {N : Type 0} (writes : N → ℕ → List ℕ → Bool → N → Type 0) {n n1 n2 : Node N} {noted noted2 start : List Entry} {short short2 : Bool}
+    {w : Work} (input : NodeInput) → MakeOneMore input → BeginsStep n noted short start w
+    → Brings writes n.store.journal.nv n1.store.journal.nv (IsInStep n1 noted2 short2 start) (steps input) w
+    → ((ports : List Port) → EndsStandFor n1.ends ports → EndsStandFor n2.ends (map between ports)) → n2.store ≡ n1.store
+    → n2.number ≡ n1.number → n2.tasks ≡ n1.tasks → IsSoundNode n2
+    → Brings writes n.store.journal.nv n2.store.journal.nv (HasStepped n2 noted2 short2 start) (steps input) w
+stepped {N} writes {n} {n1} {n2} {noted} {noted2} {start} {short} {short2} {w} input more begins b ended store number tasks sound =
+    let M : Stored N → Type 0 = λ s. WereMade writes b.sure b.torn n.store.journal.nv b.after.cut s.journal.nv in
+    record {
+      after = b.after;
+      stands = has_stepped b.stands (ended b.after.ports b.stands.ends) store number tasks sound order rest;
+      sure = b.sure;
+      torn = b.torn;
+      written = b.written;
+      made = subst M (sym store) b.made;
+      is = b.is;
+    }
+  where
+    first : Work
+    first = record w { plan = None }
+
+    is : b.after.cut ≡ false → steps input first ≡ record b.after { plan = plan_left b.after.cut b.sure None }
+    is live = let F : Bool → Type 0 = λ t. Foretells None b.sure b.torn t in b.is None (subst F (sym live) refl)
+
+    order : b.after.cut ≡ false → IsNodeInOrder b.after.core b.after.ports
+    order live =
+        let P : Work → Type 0 = λ v. IsNodeInOrder v.core v.ports in
+        subst P (is live) (steps_fine input first (record { sure = record { power = begins.power; plan = refl }; order = begins.runs.order })).order
+
+    rest : b.after.cut ≡ false → OfAll (Rests 2) b.after.ports
+    rest live =
+        let P : Work → Type 0 = λ v. OfAll (Rests 2) v.ports in
+        let u = begins_in_step begins in
+        subst P (is live) (step_rests input more first
+        (hosts_differ n.ends.pool n.ends.seats.items w.ports u.ends.hosts u.ends.each) (runs_ready begins.runs begins.sent)
+        (ap (λ (v : Work). v.cut) (is live) ∙ live))

@@ -1,0 +1,121 @@
+-- What a node looks at as it decides.
+use Rattle.std.proofs.Common.{◌≡◌, ◌≢◌, ℕ, zero, suc, ◌≤◌, Bool, true, false, not, List, [], ◌∷◌, map, refl, sym, ap, ap₂, ◌∙◌, subst}
+use Rattle.std.specs.Prelude.{Option, Some, None, option_map, slice_get, ◌==◌}
+use Rattle.std.specs.Option.{option_map_or}
+use Rattle.std.proofs.lemmas.Bool.{eqb-true, eq-eqb}
+use Rattle.trace_model.specs.declared.entry.Entry.{Entry}
+use Rattle.link_laws.specs.sessions.Sessions.{is_up}
+use Rattle.link_machine.specs.Machine.{Message}
+use Rattle.node_machine.specs.Parts.{Init, Desk as DeskOf, Port, Work}
+use Rattle.node_machine.specs.Carrying.{port_at}
+use Rattle.node_deeds.specs.declared.desks.Desk.{Desk}
+use Rattle.node_deeds.specs.Shown.{Handling, desk_shown}
+use Rattle.node_deeds.specs.Cores.{handled}
+use Rattle.node_deeds.specs.Hosts.{init_running, IsHostAt}
+use Rattle.node_machine.specs.Controller.{has_link}
+use Rattle.node_ends.specs.Ends.{AreOfHosts, got_at}
+use Rattle.node_core.specs.declared.node.Node.{Node}
+use Rattle.node_core.specs.Deeds.{handling}
+use Rattle.node_core.specs.Nodes.{IsInStep}
+use Rattle.node_core.specs.Turning.{HasOwnLink, IsNodeInOrder}
+use Rattle.node_core.proofs.Doing.{host_at}
+
+-- ## Controllers
+
+-- a controller handles a message while no init runs
+pub handled_idle : {N : Type 0} (n : Node N) (m : Message) → n.number ≡ 0 → init_running n.tasks.init ≡ None → handling n m ≡ handled m.0 m.1
+handled_idle n m number none = ap₂ (λ (k : ℕ) (o : Option Init). as_handled k o) number none
+  where
+    as_handled : ℕ → Option Init → Handling
+    as_handled k o = record { node = k; init = o; message = m }
+
+-- ## Hosts
+
+-- the only end of a host
+one_port : (node : ℕ) (ports : List Port) (h : ℕ) (p : Port) → map (λ (q : Port). q.desk.host) ports ≡ node ∷ [] → port_at ports h ≡ Some p → h ≡ node
+one_port node [] h p own at = cc
+one_port node (q ∷ r ∷ ports) h p own at = cc
+one_port node (q ∷ []) h p own at =
+    let first : q.desk.host ≡ node = cc in by (q.desk.host == h) refl first
+  where
+    by : (b : Bool) → (q.desk.host == h) ≡ b → q.desk.host ≡ node → h ≡ node
+    by true e first = sym (eqb-true q.desk.host h e) ∙ first
+    by false e first = (let none : None ≡ Some p = rw e at at in cc)
+
+-- where a message waits, the end is that of a host's own link
+pub own_host : (w : Work) (h : ℕ) {m : Message} {ms : List Message} → w.core.node ≢ 0 → HasOwnLink w.core.node w.ports → got_at w.ports h ≡ m ∷ ms
+    → h ≡ w.core.node
+own_host w h some own got = by (port_at w.ports h) refl
+  where
+    by : (o : Option Port) → port_at w.ports h ≡ o → h ≡ w.core.node
+    by None q = (let none : [] ≡ _ = sym (ap (λ (o : Option Port). option_map_or (λ (p : Port). p.side.got) o []) q) ∙ got in cc)
+    by (Some p) q = one_port w.core.node w.ports h p (own some) q
+
+-- the only end of a node
+pub record IsOnly (node : ℕ) (ports : List Port) : Type 0 where
+  pub port : Port
+  pub ports_are : ports ≡ port ∷ []
+  pub host : port.desk.host ≡ node
+
+pub only : (node : ℕ) (ports : List Port) → map (λ (q : Port). q.desk.host) ports ≡ node ∷ [] → IsOnly node ports
+only node [] own = cc
+only node (q ∷ r ∷ ports) own = cc
+only node (q ∷ []) own = record { port = q; ports_are = refl; host = cc }
+
+-- what a host looks at is that of its end
+pub record LooksAt {N : Type 0} (n : Node N) (d : Desk) (up : Bool) (w : Work) : Type 0 where
+  pub port : Port
+  pub at : port_at w.ports n.number ≡ Some port
+  pub is : IsHostAt n.store d up n.tasks w.core port
+  pub host : d.host ≡ n.number
+
+desk_is : (p : Port) (d : Desk) (ports : List Port) → ports ≡ p ∷ [] → Some (desk_shown d) ≡ option_map (λ (q : Port). q.desk) (slice_get ports 0)
+    → p.desk ≡ desk_shown d
+desk_is p d ports is shown =
+    let one : Some (desk_shown d) ≡ Some p.desk = shown ∙ ap (λ (l : List Port). option_map (λ (q : Port). q.desk) (slice_get l 0)) is in
+    let same : desk_shown d ≡ p.desk = cc in
+    sym same
+
+pub found_one : (node : ℕ) (p : Port) → p.desk.host ≡ node → port_at (p ∷ []) node ≡ Some p
+found_one node p host = let e : (p.desk.host == node) ≡ true = eq-eqb p.desk.host node host in rw e refl
+
+pub looks_at : {N : Type 0} {n : Node N} {noted start : List Entry} {short : Bool} {w : Work} (d : Desk) (up : Bool) → IsInStep n noted short start w
+    → n.store.journal.live ≡ true → n.number ≢ 0 → IsNodeInOrder w.core w.ports
+    → Some (desk_shown d) ≡ option_map (λ (q : Port). q.desk) (slice_get w.ports 0) → up ≡ has_link w.ports d.host → LooksAt n d up w
+looks_at {n = n} {w = w} d up u live some order shown linked =
+    let k = u.core (u.power ∙ ap not live) in
+    let o = only w.core.node w.ports (order.own (λ none. some (sym u.node ∙ none))) in
+    let desk = desk_is o.port d w.ports o.ports_are shown in
+    let host : o.port.desk.host ≡ n.number = o.host ∙ u.node in
+    let own : d.host ≡ n.number = ap (λ (x : DeskOf). x.host) (sym desk) ∙ host in
+    let at : port_at w.ports n.number ≡ Some o.port = ap (λ (l : List Port). port_at l n.number) o.ports_are ∙ found_one n.number o.port host in
+    let is_up : up ≡ is_up o.port.side.shdlc.phase = linked ∙ (ap (has_link w.ports) own
+    ∙ ap (λ (q : Option Port). option_map_or (λ (p : Port). is_up p.side.shdlc.phase) q false) at) in
+    record {
+      port = o.port;
+      at = at;
+      is = record {
+        node = u.node ∙ sym own;
+        kept = record { journal = k.journal; tables = k.tables };
+        command = k.command;
+        init = k.init;
+        seen = ap₂ (λ (x : DeskOf) (b : Bool). (x, b)) desk (sym is_up);
+      };
+      host = own;
+    }
+
+-- there is an end of it
+pub some_desk : {N : Type 0} {n : Node N} {noted start : List Entry} {short : Bool} {w : Work} → IsInStep n noted short start w
+    → n.number ≢ 0 → IsNodeInOrder w.core w.ports → None ≡ option_map (λ (q : Port). q.desk) (slice_get w.ports 0) → ⊥
+some_desk {w = w} u some order none =
+    let o = only w.core.node w.ports (order.own (λ zero. some (sym u.node ∙ zero))) in
+    let one : None ≡ Some o.port.desk = none ∙ ap (λ (l : List Port). option_map (λ (q : Port). q.desk) (slice_get l 0)) o.ports_are in cc
+
+-- its number is that of a host
+pub own_number : (d : Desk) (ports : List Port) → AreOfHosts ports → Some (desk_shown d) ≡ option_map (λ (q : Port). q.desk) (slice_get ports 0)
+    → (1 ≤ d.host) × (d.host ≤ 7)
+own_number d [] hosts shown = cc
+own_number d (p ∷ ports) hosts shown =
+    let same : desk_shown d ≡ p.desk = cc in
+    let P : ℕ → Type 0 = λ n. (1 ≤ n) × (n ≤ 7) in
+    subst P (sym (ap (λ (x : DeskOf). x.host) same)) hosts.0

@@ -1,0 +1,32 @@
+-- The faults of the memory of a node, one thing after another.
+use Rattle.std.proofs.Common.{◌≡◌, ℕ, ◌≤◌, Bool, true, false, refl, sym, ap, ◌∙◌, subst, arith}
+use Rattle.std.proofs.lemmas.Bool.{true≢false}
+use Rattle.swp_base.specs.Outside.{one_more, Rose}
+use Rattle.hci_store.specs.Stored.{Stored}
+use Rattle.node_core.specs.Faults.{CountsFaults}
+
+-- nothing is done to a store that may be used
+pub faults_stay : {N : Type 0} (faults : N → ℕ) {s t : Stored N} → s.journal.live ≡ true → t ≡ s → CountsFaults faults s t
+faults_stay {N} faults {s} {t} live same =
+    let P : Stored N → Type 0 = λ u. CountsFaults faults s u in
+    subst P (sym same) (record { count = omega arith; rose = λ dead. absurd (true≢false (sym live ∙ dead)) })
+
+-- one thing after another is done to it
+pub faults_then : {N : Type 0} (faults : N → ℕ) {a b c : Stored N} → CountsFaults faults a b → CountsFaults faults b c → CountsFaults faults a c
+faults_then faults one more =
+    let first = one.count in
+    let second = more.count in
+    record {
+      count = omega (arith, first, second);
+      rose = λ dead. (let r = more.rose dead in omega (arith, first, r));
+    }
+
+-- a command was kept
+pub faults_kept : {N : Type 0} (faults : N → ℕ) {s t : Stored N} → faults s.journal.nv ≤ faults t.journal.nv → t.journal.live ≡ true
+    → CountsFaults faults s t
+faults_kept faults count live = record { count = count; rose = λ dead. absurd (true≢false (sym live ∙ dead)) }
+
+-- a write of it failed
+pub faults_rose : {N : Type 0} (faults : N → ℕ) {s t : Stored N} → faults s.journal.nv ≤ faults t.journal.nv
+    → Rose (faults s.journal.nv) (faults t.journal.nv) → CountsFaults faults s t
+faults_rose faults count rose = record { count = count; rose = λ dead. rose }

@@ -1,0 +1,241 @@
+-- A node stays in order: its turns leave its links and their hosts, and an init that runs waits for the answer to its command.
+use Rattle.std.proofs.Common.{◌≡◌, ◌≢◌, ℕ, Bool, true, false, List, [], ◌∷◌, ◌++◌, map, length, refl, sym, ap, ◌∙◌, subst}
+use Rattle.std.specs.Prelude.{Option, Some, None, ◌==◌}
+use Rattle.std.specs.Option.{option_map_or}
+use Rattle.swp_base.specs.InMemory.{Plan}
+use Rattle.journal_laws.specs.Writes.{Write}
+use Rattle.journal_laws.specs.Planned.{fails_within}
+use Rattle.hci_tables.specs.Bodies.{body_of}
+use Rattle.hci_store.specs.Committing.{commit_writes}
+use Rattle.link_machine.specs.Machine.{Message}
+use Rattle.node_machine.specs.Parts.{Init, Core, Port, Work, Deed}
+use Rattle.node_machine.specs.Parts.Deed.{Commits, Sends, SaysOk, Asks, Releases, Tells, IsAnswered, Drops, SetsErrors, Orders, Hears, GoesOn, Ends}
+use Rattle.node_machine.specs.Carrying.{port_at, plan_behind, unless_cut, done, all_done, lack, needs}
+use Rattle.node_machine.specs.Turns.{deeds_of, handles, holds_back, lets_go, have_turns, goes_through_ends, passes}
+use Rattle.node_machine.specs.HostReplies.{host_deeds}
+use Rattle.node_machine.specs.Controller.{controller_deeds}
+use Rattle.node_ends.specs.Ends.{AreOfHosts, held_at, got_at}
+use Rattle.node_core.specs.Bringing.{Brings, Foretells, plan_left}
+use Rattle.node_core.specs.Deeds.{IsOnTask, AreGranted}
+use Rattle.node_core.specs.Handling.{has_turn}
+use Rattle.node_core.specs.Turning.{HasOwnLink, IsNodeInOrder}
+use Rattle.node_core.proofs.Joining.{stays_cut, goes_on}
+use Rattle.node_core.proofs.Allowing.{controller_allowed}
+use Rattle.node_core.proofs.HostAllowing.{host_allowed}
+use Rattle.node_core.proofs.Elsewhere.{host_at, let_hosts, held_hosts, handled_hosts, of_hosts}
+
+-- ## Hosts and tasks
+
+pub in_order_at : (core : Core) (a b : List Port) → map host_at b ≡ map host_at a → IsNodeInOrder core a → IsNodeInOrder core b
+in_order_at core a b same order = record {
+  hosts = of_hosts b a same order.hosts;
+  own = λ some. same ∙ order.own some;
+  task = order.task;
+}
+
+pub with_task : (core other : Core) (ports : List Port) → other.node ≡ core.node → IsOnTask other → IsNodeInOrder core ports → IsNodeInOrder other ports
+with_task core other ports node task order = record {
+  hosts = order.hosts;
+  own = λ some. order.own (λ none. some (node ∙ none)) ∙ ap (λ (n : ℕ). n ∷ []) (sym node);
+  task = task;
+}
+
+-- ## Without a write that fails
+
+none_behind : (writes : List Write) → plan_behind writes None ≡ None
+none_behind [] = refl
+none_behind (x ∷ writes) = none_behind writes
+
+done_plan : (h : ℕ) (d : Deed) (w : Work) → w.plan ≡ None → (done h d w).plan ≡ None
+done_plan h (Commits c) w none = rw none (none_behind (commit_writes w.core.journal w.core.tables (body_of c)))
+done_plan h (Sends to m) w none = none
+done_plan h SaysOk w none = none
+done_plan h (Asks to message c) w none = none
+done_plan h (Releases asker) w none = none
+done_plan h (Tells to message) w none = none
+done_plan h IsAnswered w none = none
+done_plan h (Drops pid) w none = none
+done_plan h (SetsErrors errors) w none = none
+done_plan h (Orders message) w none = none
+done_plan h Hears w none = none
+done_plan h (GoesOn i) w none = none
+done_plan h (Ends e) w none = none
+
+done_cut : (h : ℕ) (d : Deed) (w : Work) → w.plan ≡ None → (done h d w).cut ≡ w.cut
+done_cut h (Commits c) w none = rw none refl
+done_cut h (Sends to m) w none = refl
+done_cut h SaysOk w none = refl
+done_cut h (Asks to message c) w none = refl
+done_cut h (Releases asker) w none = refl
+done_cut h (Tells to message) w none = refl
+done_cut h IsAnswered w none = refl
+done_cut h (Drops pid) w none = refl
+done_cut h (SetsErrors errors) w none = refl
+done_cut h (Orders message) w none = refl
+done_cut h Hears w none = refl
+done_cut h (GoesOn i) w none = refl
+done_cut h (Ends e) w none = refl
+
+pub done_node : (h : ℕ) (d : Deed) (w : Work) → w.plan ≡ None → (done h d w).core.node ≡ w.core.node
+done_node h (Commits c) w none = rw none refl
+done_node h (Sends to m) w none = refl
+done_node h SaysOk w none = refl
+done_node h (Asks to message c) w none = refl
+done_node h (Releases asker) w none = refl
+done_node h (Tells to message) w none = refl
+done_node h IsAnswered w none = refl
+done_node h (Drops pid) w none = refl
+done_node h (SetsErrors errors) w none = refl
+done_node h (Orders message) w none = refl
+done_node h Hears w none = refl
+done_node h (GoesOn i) w none = refl
+done_node h (Ends e) w none = refl
+
+-- a node that has its power, and in which no write is to fail
+pub record IsSure (w : Work) : Type 0 where
+  pub power : w.cut ≡ false
+  pub plan : w.plan ≡ None
+
+-- it is in order too
+pub record IsFine (w : Work) : Type 0 where
+  pub sure : IsSure w
+  pub order : IsNodeInOrder w.core w.ports
+
+pub done_sure : (h : ℕ) (d : Deed) (w : Work) → IsSure w → IsSure (done h d w)
+done_sure h d w s = record { power = done_cut h d w s.plan ∙ s.power; plan = done_plan h d w s.plan }
+
+pub planless : (w : Work) → w.plan ≡ None → record w { plan = None } ≡ w
+planless w none = ap (λ (p : Option Plan). record w { plan = p }) (sym none)
+
+-- what deeds that may be done leave of a node
+pub record Leaves (h : ℕ) (deeds : List Deed) (w : Work) : Type 0 where
+  pub sure : IsSure (all_done h deeds w)
+  pub node : (all_done h deeds w).core.node ≡ w.core.node
+  pub task : IsOnTask (all_done h deeds w).core
+
+pub granted_leave : (h : ℕ) (init : Option Init) (deeds : List Deed) (w : Work) → IsSure w → AreGranted h init deeds w → Leaves h deeds w
+granted_leave h init [] w s granted = record { sure = s; node = refl; task = granted }
+granted_leave h init (d ∷ deeds) w s granted =
+    let next : Work = done h d w in
+    let power = done_sure h d w s in
+    let same : all_done h (d ∷ deeds) w ≡ all_done h deeds next = goes_on (all_done h deeds) next power.power in
+    let G : Work → Type 0 = λ v. AreGranted h init deeds (done h d v) in
+    let l = granted_leave h init deeds next power (subst G (planless w s.plan) granted.1) in
+    let S : Work → Type 0 = λ v. IsSure v in
+    let T : Work → Type 0 = λ v. IsOnTask v.core in
+    record {
+      sure = subst S (sym same) l.sure;
+      node = ap (λ (v : Work). v.core.node) same ∙ (l.node ∙ done_node h d w s.plan);
+      task = subst T (sym same) l.task;
+    }
+
+-- ## Turns
+
+as_controller : (core : Core) (ports : List Port) (h : ℕ) (m : Message) → (core.node == 0) ≡ true
+    → deeds_of core ports h m ≡ controller_deeds core ports h m
+as_controller core ports h m q = rw q refl
+
+as_host : (core : Core) (ports : List Port) (h : ℕ) (m : Message) → (core.node == 0) ≡ false
+    → deeds_of core ports h m ≡ option_map_or (λ (p : Port). host_deeds core p m) (port_at ports h) []
+as_host core ports h m q = rw q refl
+
+at_node : (h : ℕ) (m : Message) (w : Work) → IsOnTask w.core → (b : Bool) → (w.core.node == 0) ≡ b
+    → AreGranted h w.core.init (deeds_of w.core w.ports h m) (has_turn h m w)
+at_node h m w on true q =
+    let P : List Deed → Type 0 = λ deeds. AreGranted h w.core.init deeds (has_turn h m w) in
+    subst P (sym (as_controller w.core w.ports h m q)) (controller_allowed h m w.core.init w on)
+at_node h m w on false q =
+    let P : List Deed → Type 0 = λ deeds. AreGranted h w.core.init deeds (has_turn h m w) in
+    subst P (sym (as_host w.core w.ports h m q)) (by (port_at w.ports h))
+  where
+    some : w.core.node ≢ 0
+    some none = (let e : true ≡ false = sym (ap (λ (n : ℕ). n == 0) none) ∙ q in cc)
+
+    by : (o : Option Port) → AreGranted h w.core.init (option_map_or (λ (p : Port). host_deeds w.core p m) o []) (has_turn h m w)
+    by None = on
+    by (Some p) = host_allowed h m w on some p
+
+-- what a node decides of a message may be done
+pub node_allowed : (h : ℕ) (m : Message) (w : Work) → IsOnTask w.core → AreGranted h w.core.init (deeds_of w.core w.ports h m) (has_turn h m w)
+node_allowed h m w on = at_node h m w on (w.core.node == 0) refl
+
+handles_fine : (h : ℕ) (m : Message) (w : Work) → IsFine w → IsFine (handles h m (deeds_of w.core w.ports h m) w)
+handles_fine h m w f =
+    let deeds : List Deed = deeds_of w.core w.ports h m in
+    let l = granted_leave h w.core.init deeds (has_turn h m w) (record { power = f.sure.power; plan = f.sure.plan }) (node_allowed h m w f.order.task) in
+    record {
+      sure = l.sure;
+      order = with_task w.core (handles h m deeds w).core (handles h m deeds w).ports l.node l.task
+          (in_order_at w.core w.ports (handles h m deeds w).ports (handled_hosts h m deeds w) f.order);
+    }
+
+held_fine : (h : ℕ) (short : ℕ × ℕ) (w : Work) → IsFine w → IsFine (holds_back h short w)
+held_fine h short w f = by (option_map_or (λ (p : Port). p.desk.holds) (port_at w.ports h) false) refl
+  where
+    order : IsNodeInOrder w.core (holds_back h short w).ports
+    order = in_order_at w.core w.ports (holds_back h short w).ports (held_hosts h short w) f.order
+
+    by : (b : Bool) → option_map_or (λ (p : Port). p.desk.holds) (port_at w.ports h) false ≡ b → IsFine (holds_back h short w)
+    by true q = let o : IsNodeInOrder w.core _ = rw q at order in rw q (record { sure = record { power = f.sure.power; plan = f.sure.plan }; order = o })
+    by false q = let o : IsNodeInOrder w.core _ = rw q at order in rw q (record { sure = record { power = f.sure.power; plan = f.sure.plan }; order = o })
+
+let_fine : (h : ℕ) (w : Work) → IsFine w → IsFine (lets_go h w)
+let_fine h w f = by (held_at w.ports h) refl
+  where
+    order : IsNodeInOrder w.core (lets_go h w).ports
+    order = in_order_at w.core w.ports (lets_go h w).ports (let_hosts h w) f.order
+
+    by : (b : Bool) → held_at w.ports h ≡ b → IsFine (lets_go h w)
+    by true q = let o : IsNodeInOrder w.core _ = rw q at order in rw q (record { sure = record { power = f.sure.power; plan = f.sure.plan }; order = o })
+    by false q = let P : Work → Type 0 = λ v. IsFine v in subst P (sym (same q)) f
+      where
+        same : held_at w.ports h ≡ false → lets_go h w ≡ w
+        same q = rw q refl
+
+pub turns_fine : (h : ℕ) (ms : List Message) (w : Work) → IsFine w → IsFine (have_turns h ms w)
+turns_fine h [] w f = let_fine h w f
+turns_fine h (m ∷ ms) w f =
+    by (lack w.ports (needs h (deeds_of w.core w.ports h m))) refl (turns_fine h ms (handles h m (deeds_of w.core w.ports h m) w))
+  where
+    done : Work
+    done = handles h m (deeds_of w.core w.ports h m) w
+
+    P : Work → Type 0
+    P v = IsFine v
+
+    by : (o : Option (ℕ × ℕ)) → lack w.ports (needs h (deeds_of w.core w.ports h m)) ≡ o → (IsFine done → IsFine (have_turns h ms done))
+        → IsFine (have_turns h (m ∷ ms) w)
+    by None q later =
+        let handled = handles_fine h m w f in
+        subst P (sym (room q ∙ goes_on (have_turns h ms) done handled.sure.power)) (later handled)
+      where
+        room : lack w.ports (needs h (deeds_of w.core w.ports h m)) ≡ None → have_turns h (m ∷ ms) w ≡ unless_cut (have_turns h ms) done
+        room q = rw q refl
+    by (Some short) q later = subst P (sym (none q)) (held_fine h short w f)
+      where
+        none : lack w.ports (needs h (deeds_of w.core w.ports h m)) ≡ Some short → have_turns h (m ∷ ms) w ≡ holds_back h short w
+        none q = rw q refl
+
+ends_fine : (hosts : List ℕ) (w : Work) → IsFine w → IsFine (goes_through_ends hosts w)
+ends_fine [] w f = f
+ends_fine (h ∷ hosts) w f =
+    let next : Work = have_turns h (got_at w.ports h) w in
+    let one = turns_fine h (got_at w.ports h) w f in
+    let P : Work → Type 0 = λ v. IsFine v in
+    subst P (sym (goes_on (goes_through_ends hosts) next one.sure.power)) (ends_fine hosts next one)
+
+pub passes_fine : (w : Work) → IsFine w → IsFine (passes w)
+passes_fine w f = ends_fine (map host_at w.ports) w f
+
+-- ## What a node brings about
+
+-- what keeps a node in order where no write fails does so in each step in which none failed
+pub stays_in_order : {N : Type 0} {writes : N → ℕ → List ℕ → Bool → N → Type 0} {old new : N} {S : Work → Type 0} {f : Work → Work} {w : Work}
+    → ((v : Work) → IsFine v → IsFine (f v)) → (b : Brings writes old new S f w) → b.after.cut ≡ false → w.cut ≡ false → IsNodeInOrder w.core w.ports
+    → IsNodeInOrder b.after.core b.after.ports
+stays_in_order {f = f} {w = w} keeps b live power order =
+    let F : Bool → Type 0 = λ t. Foretells None b.sure b.torn t in
+    let after : f (record w { plan = None }) ≡ record b.after { plan = plan_left b.after.cut b.sure None } = b.is None (subst F (sym live) refl) in
+    let fine = keeps (record w { plan = None }) (record { sure = record { power = power; plan = refl }; order = order }) in
+    let P : Work → Type 0 = λ v. IsFine v in
+    (subst P after fine).order

@@ -1,0 +1,149 @@
+-- A reset that is refused changes nothing, and a tick brings no identifier.
+use Rattle.std.proofs.Common.{◌≡◌, ◌≢◌, ℕ, ◌+◌, ◌≤◌, Bool, true, false, List, [], ◌∷◌, ◌++◌, map, refl, sym, ap, ap₂, ◌∙◌, subst, arith, append-nil}
+use Rattle.std.specs.Prelude.{Option, Some, None, Result, Ok, Err, option_map, ◌==◌, nat_le}
+use Rattle.std.specs.List.{AllByRecursion, flat_map}
+use Rattle.std.specs.Option.{option_map_or}
+use Rattle.std.proofs.lemmas.Bool.{eqb-true}
+use Rattle.swp_act.specs.declared.Phase.{Phase}
+use Rattle.swp_act.specs.declared.Phase.TheVariants.{Inactive, Awaiting, Active}
+use Rattle.swp_base.specs.declared.control_frames.Act.{Act}
+use Rattle.swp_act.specs.declared.ActEvent.TheVariants.{Tick as ActTick}
+use Rattle.swp_act.specs.Activation.{out_ticked}
+use Rattle.trace_model.specs.declared.entry.Entry.{Entry}
+use Rattle.swp_base.specs.declared.link_terms.Cause.TheVariants.{Asked}
+use Rattle.link_machine.specs.Machine.{LinkEnd as Machine, Refused, Role, report, after_input, reset_refusal, is_open, act_answer, if_up}
+use Rattle.link_machine.specs.Machine.LinkInput.{Reset, Tick}
+use Rattle.link_machine.specs.Machine.Role.{Bare, Clf, Uicc}
+use Rattle.link_end.specs.declared.report.LinkReport.{LinkReport}
+use Rattle.link_end.specs.declared.report.ResetRefused.{ResetRefused}
+use Rattle.link_end.specs.Reports.{reset_refused, reset_told, nothing_told}
+use Rattle.node_machine.specs.Parts.{Core, Port, Work, Deed}
+use Rattle.node_machine.specs.Carrying.{port_at, with_port, noting}
+use Rattle.node_machine.specs.Node.{input_at, has_come, told_at, all_come, with_older, is_late, reset_late, synced}
+use Rattle.node_machine.specs.Node.NodeInput.{AtEnd, TimePasses}
+use Rattle.node_ends.specs.Making.{AreAllDifferent}
+use Rattle.node_ends.proofs.Dues.{due_count, tick_few, reset_few_due}
+use Rattle.node_core.specs.Turning.{AreFewDue, AreAtMostDue, AreYoung}
+use Rattle.node_core.specs.Running.{HasNoneEnded, reset_refusal_at, refused_in}
+use Rattle.node_core.proofs.Elsewhere.{host_at}
+use Rattle.node_core.proofs.Arriving.{come_is}
+use Rattle.node_core.proofs.Ticking.{none_with}
+use Rattle.node_core.proofs.Lateness.{reset_silent}
+use Rattle.node_core.proofs.Stepping.{silent_synced}
+
+-- ## Refusals
+
+told_refusal : (m : Machine) (window : Option ℕ) → refused_in (Some (reset_told m window)) ≡ option_map reset_refused (reset_refusal m)
+told_refusal m window = by (reset_refusal m) refl
+  where
+    by : (o : Option Refused) → reset_refusal m ≡ o → refused_in (Some (reset_told m window)) ≡ option_map reset_refused (reset_refusal m)
+    by None q = rw q refl
+    by (Some why) q = rw q refl
+
+-- what is told says whether and why
+pub refusal_told : (window : Option ℕ) (o : Option Port) (t : Option (Result LinkReport ResetRefused))
+    → t ≡ option_map (λ (p : Port). reset_told p.side window) o → refused_in t ≡ reset_refusal_at o
+refusal_told window None t is = ap refused_in is
+refusal_told window (Some p) t is = ap refused_in is ∙ told_refusal p.side window
+
+refused_side : (p : Port) (window : Option ℕ) (why : ResetRefused) → Err why ≡ reset_told p.side window → p.ended ≡ false
+    → has_come p (Some (Reset window)) ≡ p
+refused_side p window why is going = by (reset_refusal p.side) refl
+  where
+    by : (o : Option Refused) → reset_refusal p.side ≡ o → has_come p (Some (Reset window)) ≡ p
+    by None q = absurd (let y : Err why ≡ Ok (record nothing_told { ended = if_up p.side.shdlc Asked }) = rw q at is in cc)
+    by (Some r) q = rw q (ap (λ (b : Bool). record p { ended = b }) (sym going))
+
+refused_ports : (h : ℕ) (window : Option ℕ) (why : ResetRefused) (ports : List Port) → AreAllDifferent (map host_at ports) → HasNoneEnded ports
+    → Some (Err why) ≡ option_map (λ (p : Port). reset_told p.side window) (port_at ports h)
+    → with_port h (λ p. has_come p (Some (Reset window))) ports ≡ ports
+refused_ports h window why [] differ none is = refl
+refused_ports h window why (p ∷ ports) differ none is = by (refused_ports h window why ports differ.1 none.1) (p.desk.host == h) refl
+  where
+    Told : Type 0
+    Told = Some (Err why) ≡ option_map (λ (p : Port). reset_told p.side window) (port_at ports h)
+
+    by : (Told → with_port h (λ p. has_come p (Some (Reset window))) ports ≡ ports) → (b : Bool) → (p.desk.host == h) ≡ b
+        → with_port h (λ p. has_come p (Some (Reset window))) (p ∷ ports) ≡ p ∷ ports
+    by later true q =
+        let first : Some (Err why) ≡ Some (reset_told p.side window) = rw q at is in
+        let told : Err why ≡ reset_told p.side window = cc in
+        let N : ℕ → Type 0 = λ m. AllByRecursion (λ (g : ℕ). g ≢ m) (map host_at ports) in
+        rw q (ap₂ (λ (x : Port) xs. x ∷ xs) (refused_side p window why told none.0.1)
+        (none_with h (λ p. has_come p (Some (Reset window))) ports (subst N (eqb-true p.desk.host h q) differ.0)))
+    by later false q =
+        let told : Told = rw q at is in
+        rw q (ap (λ xs. p ∷ xs) (later told))
+
+-- a reset that is refused leaves a step as it was
+pub refused_stays : (h : ℕ) (window : Option ℕ) (why : ResetRefused) (w : Work) → AreAllDifferent (map host_at w.ports) → HasNoneEnded w.ports
+    → Some (Err why) ≡ option_map (λ (p : Port). reset_told p.side window) (port_at w.ports h) → all_come (AtEnd h (Reset window)) w ≡ w
+refused_stays h window why w differ none is =
+    sym (come_is h (Reset window) w differ)
+    ∙ ap₂ (λ (es : List Entry) (ports : List Port). record w { ports = ports; entries = es })
+    (ap (λ es. w.entries ++ es) (reset_silent w.core w.ports h window why is) ∙ append-nil w.entries)
+    (refused_ports h window why w.ports differ none is)
+
+-- why it was refused
+pub as_refused : (t : Option (Result LinkReport ResetRefused)) (why : ResetRefused) → refused_in t ≡ Some why → t ≡ Some (Err why)
+as_refused None why is = cc
+as_refused (Some (Ok report)) why is = cc
+as_refused (Some (Err other)) why is = let e : other ≡ why = cc in ap (λ (r : ResetRefused). Some (Err r)) e
+
+-- ## Ticks
+
+ticked_silent : (phase : Phase) (last : Option Act) → (out_ticked phase last).sync ≡ None
+ticked_silent Inactive last = refl
+ticked_silent (Awaiting tries ticks) last = by (nat_le 10 (ticks + 1)) (nat_le 3 tries) refl refl
+  where
+    by : (a b : Bool) → nat_le 10 (ticks + 1) ≡ a → nat_le 3 tries ≡ b → (out_ticked (Awaiting tries ticks) last).sync ≡ None
+    by false b p q = rw p refl
+    by true true p q = rw (p, q) refl
+    by true false p q = rw (p, q) refl
+ticked_silent Active last = refl
+
+tick_answer_silent : (r : Role) → (act_answer r ActTick).sync ≡ None
+tick_answer_silent Bare = refl
+tick_answer_silent (Clf s) = ticked_silent s.phase s.last
+tick_answer_silent (Uicc s) = ticked_silent s.phase s.last
+
+tick_silent : (e : Machine) → (report e Tick).sync ≡ None
+tick_silent e = by (is_open e.role) refl
+  where
+    by : (b : Bool) → is_open e.role ≡ b → (report e Tick).sync ≡ None
+    by true q = rw q refl
+    by false q = rw q (tick_answer_silent e.role)
+
+pub tick_synced : (core : Core) (ports : List Port) → flat_map (synced core TimePasses) ports ≡ []
+tick_synced core ports = silent_synced core TimePasses (λ p. (let s = tick_silent p.side in rw s refl)) ports
+
+pub four_few : (ports : List Port) → AreAtMostDue 4 ports → AreFewDue ports
+four_few [] few = tt
+four_few (p ∷ ports) few = let f = few.0 in (omega (arith, f), four_few ports few.1)
+
+pub ticked_few : (ports : List Port) → AreAtMostDue 4 ports → AreFewDue (map (λ (p : Port). has_come p (input_at TimePasses p)) ports)
+ticked_few [] few = tt
+ticked_few (p ∷ ports) few = let f = few.0 in let t = tick_few p.side in (omega (arith, f, t), ticked_few ports few.1)
+
+pub ticked_young : (ports : List Port) → AreYoung ports → AreYoung (map (λ (p : Port). has_come p (input_at TimePasses p)) ports)
+ticked_young [] young = tt
+ticked_young (p ∷ ports) young = (young.0, ticked_young ports young.1)
+
+-- the ends once those with late notices were reset
+abbrev pub timed_out : List Port → List Port
+timed_out ports = map reset_late (map with_older (map (λ (p : Port). has_come p (input_at TimePasses p)) ports))
+
+pub late_few : (ports : List Port) → AreAtMostDue 4 ports → AreFewDue (timed_out ports)
+late_few [] few = tt
+late_few (p ∷ ports) few = (one (is_late (with_older (has_come p (Some Tick)))) refl, late_few ports few.1)
+  where
+    q : Port
+    q = with_older (has_come p (Some Tick))
+
+    one : (b : Bool) → is_late q ≡ b → due_count (reset_late q).side ≤ 6
+    one true z =
+        let f = few.0 in
+        let t = tick_few p.side in
+        let r = reset_few_due (after_input p.side Tick) None in
+        rw z (omega (arith, f, t, r))
+    one false z = let f = few.0 in let t = tick_few p.side in rw z (omega (arith, f, t))

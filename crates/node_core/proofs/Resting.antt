@@ -1,0 +1,241 @@
+-- What a step of a node leaves at its ends for the next one, where no write fails.
+use Rattle.std.proofs.Common.{◌≡◌, ℕ, ◌+◌, ◌≤◌, Bool, true, false, not, List, [], ◌∷◌, ◌++◌, map, length, refl, sym, ap, ap₂, ◌∙◌, subst, arith}
+use Rattle.std.specs.Prelude.{Option, Some, None, ◌||◌, ◌&&◌, ◌==◌, nat_le}
+use Rattle.std.specs.List.{AllByRecursion, flat_map}
+use Rattle.std.specs.Option.{option_map_or}
+use Rattle.std.proofs.lemmas.Bool.{true≢false}
+use Rattle.std.proofs.lemmas.Bool.Decides.{nat_tests}
+use Rattle.link_machine.specs.Machine.{LinkEnd as Machine, LinkInput, after_input}
+use Rattle.link_machine.specs.Machine.LinkInput.{Tick, Reset}
+use Rattle.node_machine.specs.Parts.{Port, Work, Notice, Deed}
+use Rattle.node_machine.specs.Carrying.{all_done, unless_cut}
+use Rattle.node_machine.specs.Controller.{asked_at}
+use Rattle.node_machine.specs.Turns.{passes}
+use Rattle.node_machine.specs.Node.{NodeInput, input_at, has_come, all_come, with_older, is_late, reset_late, times_out, is_over, is_forgotten, forgets}
+use Rattle.node_machine.specs.Node.{without_notice, synced, forgotten, all_owed, steps}
+use Rattle.node_machine.specs.Node.NodeInput.{AtEnd, TimePasses}
+use Rattle.node_ends.specs.Desks.{forgotten_at}
+use Rattle.node_ends.specs.Making.{AreAllDifferent}
+use Rattle.node_ends.proofs.Dues.{due_count, tick_few, reset_few_due}
+use Rattle.node_core.specs.Syncing.{left_over, settles, finishes}
+use Rattle.node_core.proofs.Quiet.{quiet_at}
+use Rattle.node_core.proofs.Joining.{stays_cut, goes_on}
+use Rattle.node_core.proofs.Elsewhere.{host_at, same_hosts}
+use Rattle.node_core.proofs.Settling.{settled_quiet}
+use Rattle.node_core.proofs.Lasting.{notice_age, Of, OfAll, Ready, Rests, StaysYounger, all_done_so, each_so, ready_stays, passes_rest}
+
+-- an input makes at most one more control frame
+abbrev pub MakesOneMore : LinkInput → Type 0
+MakesOneMore i = (e : Machine) → due_count (after_input e i) ≤ due_count e + 1
+
+abbrev pub MakeOneMore : NodeInput → Type 0
+MakeOneMore (AtEnd h i) = MakesOneMore i
+MakeOneMore TimePasses = Unit {0}
+
+-- ## What comes
+
+-- at most n control frames wait at an end, and the notice is in time unless the session ended in this step
+pub record HasCome (n : ℕ) (p : Port) : Type 0 where
+  pub few : due_count p.side ≤ n
+  pub in_time : is_over p ≡ false → notice_age p.desk ≤ 99
+
+-- an input comes to an end that is at rest
+come_one : (o : Option LinkInput) → ((i : LinkInput) → o ≡ Some i → MakesOneMore i) → (p : Port) → Of (Ready 0) p → HasCome 1 (has_come p o)
+come_one None more p r = let few = r.0 in record { few = omega (arith, few); in_time = λ over. r.1 }
+come_one (Some i) more p r =
+    let few = r.0 in
+    let one = more i refl p.side in
+    record { few = omega (arith, few, one); in_time = λ over. r.1 }
+
+input_more : (input : NodeInput) → MakeOneMore input → (p : Port) (i : LinkInput) → input_at input p ≡ Some i → MakesOneMore i
+input_more (AtEnd h j) more p i is = by (p.desk.host == h) refl
+  where
+    by : (b : Bool) → (p.desk.host == h) ≡ b → MakesOneMore i
+    by true q =
+        let same : Some j ≡ Some i = rw q at is in
+        let e : j ≡ i = cc in
+        let P : LinkInput → Type 0 = λ x. MakesOneMore x in
+        subst P e more
+    by false q = absurd (let none : None ≡ Some i = rw q at is in cc)
+input_more TimePasses more p i is =
+    let e : Tick ≡ i = cc in
+    let P : LinkInput → Type 0 = λ x. MakesOneMore x in
+    subst P e tick_few
+
+come_all : (input : NodeInput) → MakeOneMore input → (w : Work) → OfAll (Ready 0) w.ports → AllByRecursion (HasCome 1) (all_come input w).ports
+come_all input more w all =
+    each_so (λ (p : Port). Of (Ready 0) p) (HasCome 1) (λ (p : Port). has_come p (input_at input p))
+    (λ p r. come_one (input_at input p) (λ i is. input_more input more p i is) p r) w.ports all
+
+-- ## Notices that are late
+
+older_age : (p : Port) → notice_age (with_older p).desk ≤ notice_age p.desk + 1
+older_age p = by p.desk.notice refl
+  where
+    by : (o : Option Notice) → p.desk.notice ≡ o → notice_age (with_older p).desk ≤ notice_age p.desk + 1
+    by None q = rw q (omega arith)
+    by (Some n) q = rw q (omega arith)
+
+-- a notice that isn't late, and whose session hasn't ended, is in time
+late_age : (p : Port) → p.ended ≡ false → is_late p ≡ false → notice_age p.desk ≤ 99
+late_age p going late = by p.desk.notice refl
+  where
+    by : (o : Option Notice) → p.desk.notice ≡ o → notice_age p.desk ≤ 99
+    by None q = rw q (omega arith)
+    by (Some n) q =
+        let less : (nat_le 100 n.age && not false) ≡ false = rw (q, going) at late in
+        rw q (grind (arith, nat_tests))
+
+ended_first : (b c : Bool) → (b || c) ≡ false → b ≡ false
+ended_first true c q = q
+ended_first false c q = refl
+
+reset_one : (p : Port) → HasCome 1 p → HasCome 2 (reset_late (with_older p))
+reset_one p has = by (is_late (with_older p)) refl
+  where
+    by : (b : Bool) → is_late (with_older p) ≡ b → HasCome 2 (reset_late (with_older p))
+    by true q =
+        let few = has.few in
+        let one = reset_few_due p.side None in
+        rw q (record {
+          few = omega (arith, few, one);
+          in_time = λ over. absurd (is_over_late over);
+        })
+      where
+        is_over_late : (p.ended || true) ≡ false → ⊥
+        is_over_late over = go p.ended over
+          where
+            go : (c : Bool) → (c || true) ≡ false → ⊥
+            go true e = true≢false e
+            go false e = true≢false e
+    by false q =
+        let few = has.few in
+        rw q (record {
+          few = omega (arith, few);
+          in_time = λ over. late_age (with_older p) (ended_first p.ended p.late over) q;
+        })
+
+more_few : (p : Port) → HasCome 1 p → HasCome 2 p
+more_few p has = let few = has.few in record { few = omega (arith, few); in_time = has.in_time }
+
+out_all : (input : NodeInput) (w : Work) → AllByRecursion (HasCome 1) w.ports → AllByRecursion (HasCome 2) (times_out input w).ports
+out_all (AtEnd h i) w all = each_is_so w.ports all
+  where
+    each_is_so : (ports : List Port) → AllByRecursion (HasCome 1) ports → AllByRecursion (HasCome 2) ports
+    each_is_so [] all = tt
+    each_is_so (p ∷ ports) all = (more_few p all.0, each_is_so ports all.1)
+out_all TimePasses w all = each_twice w.ports all
+  where
+    each_twice : (ports : List Port) → AllByRecursion (HasCome 1) ports → AllByRecursion (HasCome 2) (map reset_late (map with_older ports))
+    each_twice [] all = tt
+    each_twice (p ∷ ports) all = (reset_one p all.0, each_twice ports all.1)
+
+-- ## Sessions that ended
+
+forgets_one : (ports : List Port) (p : Port) → HasCome 2 p → HasCome 2 (forgets ports p)
+forgets_one ports p has = by (is_forgotten ports (asked_at p)) refl
+  where
+    by : (b : Bool) → is_forgotten ports (asked_at p) ≡ b → HasCome 2 (forgets ports p)
+    by true q = rw q (notice p.desk.notice refl)
+      where
+        notice : (o : Option Notice) → p.desk.notice ≡ o → HasCome 2 (forgotten_at p)
+        notice None z = rw z (record { few = has.few; in_time = λ over. omega arith })
+        notice (Some n) z =
+            let old : is_over p ≡ false → n.age ≤ 99 = rw z at has.in_time in
+            rw z (record { few = has.few; in_time = old })
+    by false q = rw q has
+
+without_one : (p : Port) → HasCome 2 p → Of (Ready 2) (without_notice p)
+without_one p has = by (is_over p) refl
+  where
+    by : (b : Bool) → is_over p ≡ b → Of (Ready 2) (without_notice p)
+    by true q = rw q (has.few, omega arith)
+    by false q = rw q (has.few, has.in_time q)
+
+left_all : (w : Work) → AllByRecursion (HasCome 2) w.ports → OfAll (Ready 2) (left_over w).ports
+left_all w all = go w.ports all
+  where
+    go : (ports : List Port) → AllByRecursion (HasCome 2) ports → OfAll (Ready 2) (map without_notice (map (forgets w.ports) ports))
+    go [] all = tt
+    go (p ∷ ports) all = (without_one (forgets w.ports p) (forgets_one w.ports p all.0), go ports all.1)
+
+settled_all : (syncs : List Deed) (w : Work) → AllByRecursion (HasCome 2) w.ports → OfAll (Ready 2) (settles syncs w).ports
+settled_all syncs w all =
+    unless (all_done_so (Ready 2) (ready_stays 2) 0 syncs _ (all_done_so (Ready 2) (ready_stays 2) 0 (forgotten w.ports) (left_over w) (left_all w all)))
+  where
+    owing : List Deed
+    owing = all_owed (map (forgets w.ports) w.ports)
+
+    before : Work
+    before = all_done 0 syncs (all_done 0 (forgotten w.ports) (left_over w))
+
+    P : Work → Type 0
+    P v = OfAll (Ready 2) v.ports
+
+    unless : OfAll (Ready 2) before.ports → OfAll (Ready 2) (unless_cut (all_done 0 owing) before).ports
+    unless ready = by before.cut refl
+      where
+        by : (b : Bool) → before.cut ≡ b → OfAll (Ready 2) (unless_cut (all_done 0 owing) before).ports
+        by true q = subst P (sym (stays_cut (all_done 0 owing) before q)) ready
+        by false q = subst P (sym (goes_on (all_done 0 owing) before q)) (all_done_so (Ready 2) (ready_stays 2) 0 owing before ready)
+
+-- ## Hosts
+
+come_hosts_all : (input : NodeInput) (ports : List Port) → map host_at (map (λ (p : Port). has_come p (input_at input p)) ports) ≡ map host_at ports
+come_hosts_all input [] = refl
+come_hosts_all input (p ∷ ports) = ap₂ (λ (n : ℕ) ns. n ∷ ns) (one (input_at input p)) (come_hosts_all input ports)
+  where
+    one : (o : Option LinkInput) → (has_come p o).desk.host ≡ p.desk.host
+    one None = refl
+    one (Some i) = refl
+
+late_hosts : (ports : List Port) → map host_at (map reset_late (map with_older ports)) ≡ map host_at ports
+late_hosts [] = refl
+late_hosts (p ∷ ports) = ap₂ (λ (n : ℕ) ns. n ∷ ns) (one (is_late (with_older p)) refl) (late_hosts ports)
+  where
+    one : (b : Bool) → is_late (with_older p) ≡ b → (reset_late (with_older p)).desk.host ≡ p.desk.host
+    one true q = rw q refl
+    one false q = rw q refl
+
+out_hosts : (input : NodeInput) (w : Work) → map host_at (times_out input w).ports ≡ map host_at w.ports
+out_hosts (AtEnd h i) w = refl
+out_hosts TimePasses w = late_hosts w.ports
+
+-- ## A whole step
+
+-- What a step leaves at the ends that were at rest before it: few control frames, notices that are in time, and each end is held while a
+-- message waits there.
+pub step_rests : (input : NodeInput) → MakeOneMore input → (w : Work) → AreAllDifferent (map host_at w.ports) → OfAll (Ready 0) w.ports
+    → (steps input w).cut ≡ false → OfAll (Rests 2) (steps input w).ports
+step_rests input more w differ all live =
+    by settled.cut refl
+  where
+    came : Work
+    came = times_out input (all_come input w)
+
+    syncs : List Deed
+    syncs = flat_map (synced w.core input) w.ports
+
+    settled : Work
+    settled = settles syncs came
+
+    whole : steps input w ≡ unless_cut passes settled
+    whole = refl
+
+    hosts : map host_at settled.ports ≡ map host_at w.ports
+    hosts =
+        same_hosts settled.ports came.ports (settled_quiet syncs came)
+        ∙ (out_hosts input (all_come input w) ∙ come_hosts_all input w.ports)
+
+    ready : OfAll (Ready 2) settled.ports
+    ready = settled_all syncs came (out_all input (all_come input w) (come_all input more w all))
+
+    P : Work → Type 0
+    P v = OfAll (Rests 2) v.ports
+
+    by : (b : Bool) → settled.cut ≡ b → OfAll (Rests 2) (steps input w).ports
+    by true q = absurd (true≢false (sym (ap (λ (v : Work). v.cut) (whole ∙ stays_cut passes settled q) ∙ q) ∙ live))
+    by false q =
+        let is = whole ∙ goes_on passes settled q in
+        let D : List ℕ → Type 0 = λ ns. AreAllDifferent ns in
+        subst P (sym is) (passes_rest 2 settled (subst D (sym hosts) differ) ready (sym (ap (λ (v : Work). v.cut) is) ∙ live))

@@ -1,0 +1,140 @@
+-- A step leaves a node in order.
+use Rattle.std.proofs.Common.{◌≡◌, ℕ, Bool, true, false, cond, not, ◌&&◌, List, [], ◌∷◌, map, refl, sym, ap, ap₂, ◌∙◌, subst}
+use Rattle.std.specs.Prelude.{Option, Some, None, ◌==◌}
+use Rattle.std.specs.List.{AllByRecursion, flat_map, list_any}
+use Rattle.std.proofs.lemmas.Bool.{cond_both}
+use Rattle.journal_laws.specs.declared.state.State.{State}
+use Rattle.hci_tables.specs.declared.command.Command.TheVariants.{Sync}
+use Rattle.hci_tables.specs.Tables.{HciTables, is_kept_sync}
+use Rattle.link_machine.specs.Machine.{LinkInput}
+use Rattle.node_machine.specs.Parts.{Core, Port, Work, Deed}
+use Rattle.node_machine.specs.Parts.Deed.{Commits, Sends, Releases}
+use Rattle.node_machine.specs.Carrying.{has_room_for, unless_cut, done, all_done}
+use Rattle.node_machine.specs.Turns.{passes}
+use Rattle.node_machine.specs.Node.{NodeInput, input_at, has_come, all_come, with_older, is_late, reset_late, times_out, forgets, forgotten, all_owed}
+use Rattle.node_machine.specs.Node.{is_over, after_sessions, without_notice, synced, answers_and_passes, steps}
+use Rattle.node_machine.specs.Node.NodeInput.{AtEnd, TimePasses}
+use Rattle.node_laws.proofs.steps.Walks.{forgotten_hold, all_owed_hold, all_synced_hold}
+use Rattle.node_core.specs.Deeds.{IsOnTask}
+use Rattle.node_core.specs.Turning.{IsNodeInOrder}
+use Rattle.node_core.specs.Syncing.{id_kept, sync_kept, left_over, settles}
+use Rattle.node_core.proofs.Joining.{goes_on}
+use Rattle.node_core.proofs.Quiet.{Quiet, quiet_at, done_quiet}
+use Rattle.node_core.proofs.Elsewhere.{host_at, same_hosts}
+use Rattle.node_core.proofs.Ordering.{IsSure, IsFine, in_order_at, with_task, done_sure, done_node, passes_fine}
+use Rattle.node_core.proofs.Settling.{quiet_left}
+
+-- ## Deeds that leave what is under way
+
+-- a command is committed, a message sent, or a block freed
+abbrev IsMild : Deed → Type 0
+IsMild (Commits c) = Unit {0}
+IsMild (Sends to m) = Unit {0}
+IsMild (Releases asker) = Unit {0}
+IsMild _ = ⊥
+
+abbrev AreMild : List Deed → Type 0
+AreMild deeds = AllByRecursion IsMild deeds
+
+mild_task : (h : ℕ) (d : Deed) (w : Work) → IsMild d → IsFine w → IsOnTask (done h d w).core
+mild_task h (Commits c) w mild f = let none = f.sure.plan in rw none f.order.task
+mild_task h (Sends to m) w mild f = f.order.task
+mild_task h (Releases asker) w mild f = f.order.task
+mild_task h _ w mild f = absurd mild
+
+one_fine : (h : ℕ) (d : Deed) (w : Work) → IsMild d → IsFine w → IsFine (done h d w)
+one_fine h d w mild f = record {
+  sure = done_sure h d w f.sure;
+  order = with_task w.core (done h d w).core (done h d w).ports (done_node h d w f.sure.plan) (mild_task h d w mild f)
+      (in_order_at w.core w.ports (done h d w).ports (same_hosts (done h d w).ports w.ports (done_quiet h d w)) f.order);
+}
+
+mild_fine : (h : ℕ) (deeds : List Deed) (w : Work) → AreMild deeds → IsFine w → IsFine (all_done h deeds w)
+mild_fine h [] w mild f = f
+mild_fine h (d ∷ deeds) w mild f =
+    let next = one_fine h d w mild.0 f in
+    let P : Work → Type 0 = λ v. IsFine v in
+    subst P (sym (goes_on (all_done h deeds) (done h d w) next.sure.power)) (mild_fine h deeds (done h d w) mild.1 next)
+
+then_fine : (f : Work → Work) (w : Work) → ((v : Work) → IsFine v → IsFine (f v)) → IsFine w → IsFine (unless_cut f w)
+then_fine f w keeps fine = let P : Work → Type 0 = λ v. IsFine v in subst P (sym (goes_on f w fine.sure.power)) (keeps w fine)
+
+-- ## Behind what came
+
+over_task : (core : Core) (ports : List Port) → IsOnTask core → IsOnTask (after_sessions core ports)
+over_task core ports on =
+    cond_both (list_any is_over ports) (record core { command = None; init = None }) core (λ (c : Core). IsOnTask c) (λ _. (tt, λ zero. refl)) (λ _. on)
+
+pub over_node : (core : Core) (ports : List Port) → (after_sessions core ports).node ≡ core.node
+over_node core ports =
+    cond_both (list_any is_over ports) (record core { command = None; init = None }) core (λ (c : Core). c.node ≡ core.node) (λ _. refl) (λ _. refl)
+
+left_fine : (w : Work) → IsFine w → IsFine (left_over w)
+left_fine w f = record {
+  sure = record { power = f.sure.power; plan = f.sure.plan };
+  order = with_task w.core (left_over w).core (left_over w).ports (over_node w.core w.ports) (over_task w.core w.ports f.order.task)
+      (in_order_at w.core w.ports (left_over w).ports (same_hosts (left_over w).ports w.ports (quiet_left w)) f.order);
+}
+
+freed_mild : (ports : List Port) → AreMild (forgotten ports)
+freed_mild ports = forgotten_hold (λ d. IsMild d) (λ asker. tt) ports
+
+owed_mild : (ports : List Port) → AreMild (all_owed ports)
+owed_mild ports = all_owed_hold (λ d. IsMild d) (λ asker. tt) (λ to r. tt) ports
+
+synced_mild : (core : Core) (input : NodeInput) (ports : List Port) → AreMild (flat_map (synced core input) ports)
+synced_mild core input ports = all_synced_hold (λ d. IsMild d) (λ host id. tt) core input ports
+
+kept_mild : (s : State) (t : HciTables) (came : Option (ℕ × ℕ)) → AreMild (sync_kept s t came)
+kept_mild s t None = tt
+kept_mild s t (Some pair) =
+    cond_both (not (is_kept_sync t.syncs pair.0 pair.1) && has_room_for s (Sync pair.0 pair.1)) (Commits (Sync pair.0 pair.1) ∷ []) [] (λ ds. AreMild ds)
+    (λ _. (tt, tt)) (λ _. tt)
+
+settled_fine : (syncs : List Deed) → AreMild syncs → (w : Work) → IsFine w → IsFine (settles syncs w)
+settled_fine syncs mild w f =
+    let left : List Port = map (forgets w.ports) w.ports in
+    let freed = mild_fine 0 (forgotten w.ports) (left_over w) (freed_mild w.ports) (left_fine w f) in
+    let kept = mild_fine 0 syncs (all_done 0 (forgotten w.ports) (left_over w)) mild freed in
+    then_fine (all_done 0 (all_owed left)) (all_done 0 syncs (all_done 0 (forgotten w.ports) (left_over w)))
+    (λ v fine. mild_fine 0 (all_owed left) v (owed_mild left) fine) kept
+
+-- a node is in order once it is settled what came
+pub settles_fine : (s : State) (t : HciTables) (came : Option (ℕ × ℕ)) (w : Work) → IsFine w → IsFine (settles (sync_kept s t came) w)
+settles_fine s t came w f = settled_fine (sync_kept s t came) (kept_mild s t came) w f
+
+-- ## Whole steps
+
+come_host : (p : Port) (o : Option LinkInput) → (has_come p o).desk.host ≡ p.desk.host
+come_host p None = refl
+come_host p (Some i) = refl
+
+all_host : (f : Port → Port) → ((p : Port) → (f p).desk.host ≡ p.desk.host) → (ports : List Port) → map host_at (map f ports) ≡ map host_at ports
+all_host f same [] = refl
+all_host f same (p ∷ ports) = ap₂ (λ (n : ℕ) ns. n ∷ ns) (same p) (all_host f same ports)
+
+late_host : (p : Port) → (reset_late p).desk.host ≡ p.desk.host
+late_host p = cond_both (is_late p) _ p (λ (q : Port). q.desk.host ≡ p.desk.host) (λ _. refl) (λ _. refl)
+
+pub come_order : (input : NodeInput) (w : Work) → IsNodeInOrder w.core w.ports → IsNodeInOrder (all_come input w).core (all_come input w).ports
+come_order input w order =
+    in_order_at w.core w.ports (all_come input w).ports
+    (all_host (λ (p : Port). has_come p (input_at input p)) (λ p. come_host p (input_at input p)) w.ports) order
+
+pub late_order : (input : NodeInput) (w : Work) → IsNodeInOrder w.core w.ports → IsNodeInOrder (times_out input w).core (times_out input w).ports
+late_order (AtEnd h i) w order = order
+late_order TimePasses w order =
+    in_order_at w.core w.ports (map reset_late (map with_older w.ports))
+    (all_host reset_late late_host (map with_older w.ports) ∙ all_host with_older (λ p. refl) w.ports) order
+
+late_sure : (input : NodeInput) (w : Work) → IsSure w → IsSure (times_out input (all_come input w))
+late_sure (AtEnd h i) w s = record { power = s.power; plan = s.plan }
+late_sure TimePasses w s = record { power = s.power; plan = s.plan }
+
+-- a step keeps a node in order
+pub steps_fine : (input : NodeInput) (w : Work) → IsFine w → IsFine (steps input w)
+steps_fine input w f =
+    let came : Work = times_out input (all_come input w) in
+    let fine : IsFine came = record { sure = late_sure input w f.sure; order = late_order input (all_come input w) (come_order input w f.order) } in
+    let syncs : List Deed = flat_map (synced w.core input) w.ports in
+    then_fine passes (settles syncs came) passes_fine (settled_fine syncs (synced_mild w.core input w.ports) came fine)

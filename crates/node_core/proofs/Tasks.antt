@@ -1,0 +1,189 @@
+-- What a host has under way, as its deeds change it.
+use Rattle.std.proofs.Common.{◌≡◌, ℕ, zero, suc, ◌+◌, ◌≤◌, Bool, true, false, not, ◌||◌, List, [], ◌∷◌, drop, length, add-one, refl, sym, ap, ap₂, ◌∙◌, subst}
+use Rattle.std.specs.Prelude.{Option, Some, None, option_map, slice_get}
+use Rattle.swp_base.specs.InMemory.{Plan}
+use Rattle.trace_model.specs.declared.entry.Entry.{Entry}
+use Rattle.node_machine.specs.Parts.{Init, Core, Port, Work}
+use Rattle.node_machine.specs.Carrying.{done}
+use Rattle.node_machine.specs.Node.{is_over, after_sessions}
+use Rattle.std.specs.List.{list_any}
+use Rattle.std.specs.Option.{option_map_or}
+use Rattle.std.proofs.lemmas.List.{drop_all}
+use Rattle.hcp_packet.specs.Packets.{IsSendable}
+use Rattle.history.specs.Steps.{end_of}
+use Rattle.link_entries.specs.entries.Entries.End.{Host}
+use Rattle.node_machine.specs.Parts.Deed.{Sends, Ends}
+use Rattle.node_deeds.specs.declared.deeds.Deed.{Deed}
+use Rattle.node_deeds.specs.declared.deeds.Deed.TheVariants as kept
+use Rattle.node_deeds.specs.declared.host.Tasks.{Tasks}
+use Rattle.node_deeds.specs.Shown.{Handling, ordered_by, goes_on_with, end_shown, deed_shown}
+use Rattle.node_deeds.specs.Hosts.{init_running}
+use Rattle.node_core.specs.declared.node.Node.{Node}
+use Rattle.node_core.specs.Nodes.{IsInStep}
+use Rattle.node_core.specs.Deeds.{handling, deed_of, IsDoableNow}
+use Rattle.link_machine.specs.Machine.{Message}
+
+-- ## An init that goes on
+
+pub going_cut : (h : ℕ) (o : Option Init) (answered : ℕ) (w : Work) → (done h (goes_on_with o answered) w).cut ≡ w.cut
+going_cut h None answered w = refl
+going_cut h (Some i) answered w = refl
+
+pub going_writes : (h : ℕ) (o : Option Init) (answered : ℕ) (w : Work) → (done h (goes_on_with o answered) w).writes ≡ w.writes
+going_writes h None answered w = refl
+going_writes h (Some i) answered w = refl
+
+pub going_anyway : (h : ℕ) (o : Option Init) (answered : ℕ) (w : Work) (plan : Option Plan)
+    → done h (goes_on_with o answered) (record w { plan = plan }) ≡ record (done h (goes_on_with o answered) w) { plan = plan }
+going_anyway h None answered w plan = refl
+going_anyway h (Some i) answered w plan = refl
+
+-- ## What a node keeps of it
+
+-- another command waits for its response
+pub command_changed : {N : Type 0} {n : Node N} {noted start : List Entry} {short : Bool} {w : Work} (t : Tasks) (command : Option (List ℕ))
+    → IsInStep n noted short start w → option_map ordered_by command ≡ t.command → t.init ≡ n.tasks.init
+    → IsInStep (record n { tasks = t }) noted short start (record w { core = record w.core { command = command } })
+command_changed t command u ordered same = record {
+  node = u.node;
+  core = λ live. (let k = u.core live in record {
+    journal = k.journal;
+    tables = k.tables;
+    command = ordered;
+    init = k.init ∙ ap init_running (sym same);
+  });
+  ends = u.ends;
+  noted_are = u.noted_are;
+  power = u.power;
+}
+
+-- another init runs
+pub init_changed : {N : Type 0} {n : Node N} {noted start : List Entry} {short : Bool} {w : Work} (t : Tasks) (init : Option Init)
+    → IsInStep n noted short start w → init ≡ init_running t.init → t.command ≡ n.tasks.command
+    → IsInStep (record n { tasks = t }) noted short start (record w { core = record w.core { init = init } })
+init_changed t init u running same = record {
+  node = u.node;
+  core = λ live. (let k = u.core live in record {
+    journal = k.journal;
+    tables = k.tables;
+    command = k.command ∙ sym same;
+    init = running;
+  });
+  ends = u.ends;
+  noted_are = u.noted_are;
+  power = u.power;
+}
+
+-- nothing is under way
+pub tasks_dropped : {N : Type 0} {n : Node N} {noted start : List Entry} {short : Bool} {w : Work} (t : Tasks)
+    → IsInStep n noted short start w → t.command ≡ None → t.init ≡ None
+    → IsInStep (record n { tasks = t }) noted short start (record w { core = record w.core { command = None; init = None } })
+tasks_dropped t u command init = record {
+  node = u.node;
+  core = λ live. (let k = u.core live in record {
+    journal = k.journal;
+    tables = k.tables;
+    command = sym command;
+    init = ap init_running (sym init);
+  });
+  ends = u.ends;
+  noted_are = u.noted_are;
+  power = u.power;
+}
+
+-- a message is handled the same where nothing that this goes by has changed
+pub handled_same : {N : Type 0} (n n2 : Node N) (m : Message) → n2.number ≡ n.number → n2.tasks ≡ n.tasks → handling n2 m ≡ handling n m
+handled_same n n2 m number tasks =
+    ap₂ (λ (k : ℕ) (t : Tasks). handled_at k t) number tasks
+  where
+    handled_at : ℕ → Tasks → Handling
+    handled_at k t = record { node = k; init = init_running t.init; message = m }
+
+-- ## One deed after another
+
+shown_same : (a b : Handling) (d : Deed) (w : Work) → b.node ≡ a.node → b.message ≡ a.message → w.core.init ≡ b.init → IsDoableNow a d w
+    → deed_shown b d ≡ deed_shown a d
+shown_same a b (kept.Commits c) w node message runs may = refl
+shown_same a b (kept.PassesOn host) w node message runs may = ap (λ (m : Message). Sends host m) message
+shown_same a b (kept.Sends host pipe answer) w node message runs may = refl
+shown_same a b kept.SaysOk w node message runs may = refl
+shown_same a b (kept.Asks row) w node message runs may = refl
+shown_same a b (kept.Releases asker) w node message runs may = refl
+shown_same a b (kept.Tells host notice) w node message runs may = refl
+shown_same a b kept.IsAnswered w node message runs may = refl
+shown_same a b (kept.Drops pipe) w node message runs may = refl
+shown_same a b (kept.SetsErrors errors) w node message runs may = refl
+shown_same a b (kept.Orders order) w node message runs may = refl
+shown_same a b kept.Hears w node message runs may = refl
+shown_same a b (kept.GoesOn answered) w node message runs may = ap (λ (o : Option Init). goes_on_with o answered) (sym runs ∙ may)
+shown_same a b (kept.Ends e) w node message runs may = ap (λ (n : ℕ). Ends (end_shown (end_of n Host) e)) node
+
+doable_same : (a b : Handling) (d : Deed) (w : Work) → b.message ≡ a.message → w.core.init ≡ b.init → IsDoableNow a d w → IsDoableNow b d w
+doable_same a b (kept.Commits c) w message runs may = may
+doable_same a b (kept.PassesOn host) w message runs may = subst (λ (m : Message). IsSendable m) (sym message) may
+doable_same a b (kept.Sends host pipe answer) w message runs may = may
+doable_same a b kept.SaysOk w message runs may = may
+doable_same a b (kept.Asks row) w message runs may = may
+doable_same a b (kept.Releases asker) w message runs may = may
+doable_same a b (kept.Tells host notice) w message runs may = may
+doable_same a b kept.IsAnswered w message runs may = may
+doable_same a b (kept.Drops pipe) w message runs may = may
+doable_same a b (kept.SetsErrors errors) w message runs may = may
+doable_same a b (kept.Orders order) w message runs may = may
+doable_same a b kept.Hears w message runs may = may
+doable_same a b (kept.GoesOn answered) w message runs may = runs
+doable_same a b (kept.Ends e) w message runs may = may
+
+-- the next deed of a node, as it stands now and as it stood before its deeds
+runs_now : {N : Type 0} {n : Node N} {noted start : List Entry} {short : Bool} {w : Work} → IsInStep n noted short start w → n.store.journal.live ≡ true
+    → w.core.init ≡ init_running n.tasks.init
+runs_now u live = (u.core (u.power ∙ ap not live)).init
+
+pub next_shown : {N : Type 0} {n : Node N} {noted start : List Entry} {short : Bool} {w : Work} (first : Node N) (m : Message) (d : Deed)
+    → IsInStep n noted short start w → n.store.journal.live ≡ true → n.number ≡ first.number → IsDoableNow (handling first m) d w
+    → deed_of n m d ≡ deed_of first m d
+next_shown {N} {n} {w = w} first m d u live number may = shown_same (handling first m) (handling n m) d w number refl (runs_now u live) may
+
+pub next_doable : {N : Type 0} {n : Node N} {noted start : List Entry} {short : Bool} {w : Work} (first : Node N) (m : Message) (d : Deed)
+    → IsInStep n noted short start w → n.store.journal.live ≡ true → n.number ≡ first.number → IsDoableNow (handling first m) d w
+    → IsDoableNow (handling n m) d w
+next_doable {N} {n} {w = w} first m d u live number may = doable_same (handling first m) (handling n m) d w refl (runs_now u live) may
+
+-- ## Sessions that ended
+
+-- a host has nothing under way once a session of it ended
+pub over : (core : Core) (ports : List Port) → list_any is_over ports ≡ true → after_sessions core ports ≡ record core { command = None; init = None }
+over core ports q = rw q refl
+
+pub not_over : (core : Core) (ports : List Port) → list_any is_over ports ≡ false → after_sessions core ports ≡ core
+not_over core ports q = rw q refl
+
+-- ## Ends whose sessions ended
+
+over_next : (i : ℕ) (ports : List Port)
+    → list_any is_over (drop i ports) ≡ (option_map_or is_over (slice_get ports i) false || list_any is_over (drop (suc i) ports))
+over_next zero [] = refl
+over_next (suc i) [] = refl
+over_next zero (p ∷ ports) = refl
+over_next (suc i) (p ∷ ports) = over_next i ports
+
+-- the next one ended
+pub here_over : (i : ℕ) (ports : List Port) → option_map_or is_over (slice_get ports i) false ≡ true → list_any is_over (drop i ports) ≡ true
+here_over i ports over = over_next i ports ∙ ap (λ b. b || list_any is_over (drop (suc i) ports)) over
+
+-- it didn't
+pub next_over : (i : ℕ) (ports : List Port) → option_map_or is_over (slice_get ports i) false ≡ false
+    → list_any is_over (drop (i + 1) ports) ≡ list_any is_over (drop i ports)
+next_over i ports none =
+    ap (λ n. list_any is_over (drop n ports)) (add-one i)
+    ∙ sym (over_next i ports ∙ ap (λ b. b || list_any is_over (drop (suc i) ports)) none)
+
+-- behind the last one none did
+pub none_over : (i : ℕ) (ports : List Port) → length ports ≤ i → list_any is_over (drop i ports) ≡ false
+none_over i ports past = ap (list_any is_over) (drop_all i ports past)
+
+-- a session ended, with a late notice or otherwise
+pub over_parts : (o : Option Port)
+    → (option_map_or (λ (p : Port). p.ended) o false || option_map_or (λ (p : Port). p.late) o false) ≡ option_map_or is_over o false
+over_parts None = refl
+over_parts (Some p) = refl

@@ -1,0 +1,12 @@
+use Rattle.std.proofs.Common.{List, refl, sym, ap}
+use Rattle.std.specs.Prelude.{Some}
+use Rattle.node_machine.specs.Parts.{Work}
+use Rattle.node_deeds.specs.declared.inits.Ordered.{Ordered}
+use Rattle.node_core.proofs.Tasks.{command_changed}
+use Rattle.node_core.proofs.node.Node.order.Goals as goal
+
+pub returns-clause-carried : goal.returns-clause-carried
+returns-clause-carried g c start w u =
+    let message = c.args.message.now in
+    c.send.ensures.carried start (record w { core = record w.core { command = Some message } })
+    (command_changed _ (Some message) u (ap (λ (o : Ordered). Some o) (sym c.ordered_by.ensures)) refl)

@@ -1,0 +1,208 @@
+//! What a host does by itself: it sends a message, or begins an init.
+ghost use Rattle.std.specs.Prelude.{◌≡◌, ◌≤◌, ◌==◌, ◌&&◌, length};
+ghost use Rattle.node_machine.specs.Controller.{is_command_message};
+
+use crate::node::Node;
+use arrayvec::ArrayVec;
+use hcp_packet::{MessageKind, read_header};
+use node_deeds::Init;
+use swp_base::Nv;
+use trace_model::Watch;
+
+/// Why a host doesn't send a message, or doesn't begin an init. Nothing changed.
+#[derive(Clone, Copy, Debug, PartialEq, Eq)]
+pub enum HostRefused {
+    /// Its end isn't up.
+    NotUp,
+    /// It is a command on pipe 01, and an earlier one isn't answered.
+    Waiting,
+    /// The message has `len` bytes, more than 4,096; 4,294,967,295 stands for any greater number.
+    TooLong { len: u32 },
+    /// It needs so many blocks, and so many are spare.
+    Full { need: u16, spare: u16 },
+}
+
+// Whether a message on this pipe is a command to the administration gate.
+fn is_order(pipe: u8, message: &[u8]) -> bool
+    ensures { result ≡ (pipe == 1 && is_command_message message.now) }
+{
+    pipe == 1 && is_command(message)
+}
+
+// Whether a message is a command.
+fn is_command(message: &[u8]) -> bool
+    ensures { result ≡ is_command_message message.now }
+{
+    matches!(read_header(message), Ok((MessageKind::Command, _)))
+}
+
+// The pipes that an init is to make.
+fn pipes_of(pipes: &[[u8; 3]]) -> ArrayVec<[u8; 3], 8>
+    requires { length pipes.now ≤ 8 }
+    ensures { result.items ≡ pipes.now }
+{
+    let mut made = ArrayVec::new();
+    let _ = made.try_extend_from_slice(pipes);
+    made
+}
+
+impl<N: Nv + Drop> Node<N> {
+    ghost use Rattle.std.specs.Prelude.{◌≡◌, ◌≤◌, ◌==◌, ◌&&◌, ℕ, Bool, List, ◌∷◌, [], length, is_some, Some, option_map, IsTrue, OnOk, OnErr, IfErr};
+    ghost use Rattle.trace_model.specs.declared.entry.Entry.{Entry as Noted};
+    ghost use Rattle.hcp_packet.specs.Packets.{IsSendable};
+    ghost use Rattle.link_machine.specs.Machine.{Message, give_refusal};
+    ghost use Rattle.node_machine.specs.Parts.{Port, Work};
+    ghost use Rattle.node_machine.specs.Parts.Deed.{Sends, GoesOn};
+    ghost use Rattle.node_machine.specs.Carrying.{port_at, done, all_done};
+    ghost use Rattle.node_machine.specs.Node.{begins_with};
+    ghost use Rattle.node_machine.specs.Controller.{is_command_message};
+    ghost use Rattle.node_machine.specs.world.World.{sending, beginning};
+    ghost use Rattle.node_machine.specs.world.Lines.{if_waiting};
+    ghost use Rattle.node_core.specs.Nodes.{IsInStep, IsSoundNode};
+    ghost use Rattle.node_core.specs.Giving.{refusal_noted, refused_as, TellsLength};
+
+    // Whether one that has to wait for the last command on pipe 01 does so.
+    fn has_to_wait(&self, waits: bool) -> bool
+        ensures { result ≡ (waits && is_some self.now.tasks.command) }
+    {
+        waits && self.tasks.command.is_some()
+    }
+
+    // Why a message of so many bytes isn't sent, where it isn't: one that has to wait is told of while a command on pipe 01 isn't answered.
+    fn refusal(&self, waits: bool, len: usize) -> Option<HostRefused>
+        requires runs { IsSoundNode self.now }
+        requires live { IsTrue self.now.store.journal.live }
+        ensures why { (noted : List Noted) (short : Bool) (start : List Noted) (w : Work) (p : Port) (m : Message) → IsInStep self.now noted short start w
+            → port_at w.ports self.now.number ≡ Some p → length m.1 ≡ len
+            → option_map refusal_noted result ≡ if_waiting (waits && is_some w.core.command) (give_refusal p.side m) }
+        ensures long { TellsLength len result }
+    {
+        let host = self.number;
+        if !self.ends.has_link(host) {
+            return Some(HostRefused::NotUp);
+        }
+        if self.has_to_wait(waits) {
+            return Some(HostRefused::Waiting);
+        }
+        if len > 4096 {
+            let len = len.min(u32::MAX as usize) as u32;
+            return Some(HostRefused::TooLong { len });
+        }
+        let need = ((len + 31) / 32) as u16;
+        let spare = self.ends.spare(host);
+        if need > spare {
+            return Some(HostRefused::Full { need, spare });
+        }
+        None
+    }
+
+    // A host sends a message, which isn't empty, as a command on pipe 01 or as any other one.
+    fn give<W: Watch>(&mut self, is_order: bool, pipe: u8, message: &[u8], watch: &mut W)
+        requires runs { IsSoundNode self.old }
+        requires live { IsTrue self.old.store.journal.live }
+        requires order { is_order ≡ (pipe == 1 && is_command_message message.now) }
+        requires sendable { IsSendable (pipe, message.now) }
+        ensures given { (start : List Noted) (w : Work) → IsInStep self.old (W.noted watch.old) (W.is_short watch.old) start w
+            → IsInStep self.new (W.noted watch.new) (W.is_short watch.new) start
+            (begins_with self.old.number (sending self.old.number (pipe, message.now)) w) }
+        ensures store { self.new.store ≡ self.old.store }
+        ensures number { self.new.number ≡ self.old.number }
+        ensures runs { IsSoundNode self.new }
+    {
+        let host = self.number;
+        if is_order {
+            self.order(host, message, watch);
+        } else {
+            self.send(host, pipe, message, watch);
+        }
+    }
+
+    /// A host sends a message, which isn't empty, on a pipe that isn't reserved.
+    ///
+    /// # Errors
+    ///
+    /// `NotUp` where its end isn't up, `Waiting` where the message is a command on pipe 01 and an earlier one isn't answered, `TooLong`
+    /// where it has more than 4,096 bytes, and `Full` where its blocks exceed what is spare: the first of these that applies. Nothing
+    /// changed then.
+    pub fn give_step<W: Watch>(
+        &mut self,
+        pipe: u8,
+        message: &[u8],
+        watch: &mut W,
+    ) -> Result<(), HostRefused>
+        requires runs { IsSoundNode self.old }
+        requires live { IsTrue self.old.store.journal.live }
+        requires sendable { IsSendable (pipe, message.now) }
+        ensures refusal { (noted : List Noted) (short : Bool) (start : List Noted) (w : Work) (p : Port) → IsInStep self.old noted short start w
+            → port_at w.ports self.old.number ≡ Some p → refused_as result
+            ≡ if_waiting (pipe == 1 && is_command_message message.now && is_some w.core.command) (give_refusal p.side (pipe, message.now)) }
+        ensures long { IfErr result (λ why. TellsLength (length message.now) (Some why)) }
+        ensures given { OnOk result ((start : List Noted) (w : Work) → IsInStep self.old (W.noted watch.old) (W.is_short watch.old) start w
+            → IsInStep self.new (W.noted watch.new) (W.is_short watch.new) start
+            (begins_with self.old.number (sending self.old.number (pipe, message.now)) w)) }
+        ensures unchanged { OnErr result ((self.new ≡ self.old) × (watch.new ≡ watch.old)) }
+        ensures store { self.new.store ≡ self.old.store }
+        ensures number { self.new.number ≡ self.old.number }
+        ensures runs { IsSoundNode self.new }
+    {
+        let is_order = is_order(pipe, message);
+        if let Some(why) = self.refusal(is_order, message.len()) {
+            return Err(why);
+        }
+        self.give(is_order, pipe, message, watch);
+        Ok(())
+    }
+
+    // An init begins to run, with at most eight pipes.
+    fn run_init(&mut self, identity: &[u8; 8], pipes: &[[u8; 3]])
+        requires runs { IsSoundNode self.old }
+        requires few { length pipes.now ≤ 8 }
+        ensures runs_it { (host : ℕ) (noted : List Noted) (short : Bool) (start : List Noted) (w : Work) → IsInStep self.old noted short start w
+            → IsInStep self.new noted short start
+            (done host (GoesOn (record { identity = identity.now; pipes = pipes.now; answered = 0 })) w) }
+        ensures store { self.new.store ≡ self.old.store }
+        ensures number { self.new.number ≡ self.old.number }
+        ensures runs { IsSoundNode self.new }
+    {
+        self.tasks.init = Some(Init {
+            identity: *identity,
+            pipes: pipes_of(pipes),
+            answered: 0,
+        });
+    }
+
+    /// A host begins an init, with the identity that it is to set and at most eight pipes that it is to make: its first command is sent.
+    ///
+    /// # Errors
+    ///
+    /// `NotUp` where its end isn't up, `Waiting` where a command on pipe 01 isn't answered, and `Full` where the block of the command
+    /// isn't spare: the first of these that applies. Nothing changed then.
+    pub fn init_step<W: Watch>(
+        &mut self,
+        identity: &[u8; 8],
+        pipes: &[[u8; 3]],
+        watch: &mut W,
+    ) -> Result<(), HostRefused>
+        requires runs { IsSoundNode self.old }
+        requires live { IsTrue self.old.store.journal.live }
+        requires few { length pipes.now ≤ 8 }
+        ensures refusal { (noted : List Noted) (short : Bool) (start : List Noted) (w : Work) (p : Port) → IsInStep self.old noted short start w
+            → port_at w.ports self.old.number ≡ Some p
+            → refused_as result ≡ if_waiting (is_some w.core.command) (give_refusal p.side (1, 3 ∷ [])) }
+        ensures begun { OnOk result ((start : List Noted) (w : Work) → IsInStep self.old (W.noted watch.old) (W.is_short watch.old) start w
+            → IsInStep self.new (W.noted watch.new) (W.is_short watch.new) start
+            (begins_with self.old.number (beginning identity.now pipes.now) w)) }
+        ensures unchanged { OnErr result ((self.new ≡ self.old) × (watch.new ≡ watch.old)) }
+        ensures store { self.new.store ≡ self.old.store }
+        ensures number { self.new.number ≡ self.old.number }
+        ensures runs { IsSoundNode self.new }
+    {
+        if let Some(why) = self.refusal(true, 1) {
+            return Err(why);
+        }
+        let host = self.number;
+        self.run_init(identity, pipes);
+        self.order(host, &[3], watch);
+        Ok(())
+    }
+}

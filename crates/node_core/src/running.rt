@@ -1,0 +1,146 @@
+//! What is done with a node between its steps.
+ghost use Rattle.std.specs.Prelude.{◌≡◌, ℕ, List, map};
+ghost use Rattle.node_machine.specs.Parts.{Core, Desk, Port};
+ghost use Rattle.node_machine.specs.Carrying.{with_port};
+ghost use Rattle.node_machine.specs.Node.{with_error};
+ghost use Rattle.std.specs.List.{AllByRecursion};
+ghost use Rattle.node_core.specs.declared.node.Node.{Node as Kept};
+ghost use Rattle.node_core.specs.Running.{RunsAs, SendsOneByOne, between, one_more_error, ran_so};
+
+use crate::node::Node;
+use arrayvec::ArrayVec;
+use hci_store::Store;
+use swp_base::{Lpdu, MemNv, Nv};
+
+/// How a step of a node ends.
+#[derive(Clone, Copy, Debug, PartialEq, Eq)]
+pub enum Ran {
+    /// It is done.
+    Done,
+    /// A write to its memory failed: the node has lost its power, and can only be started again from its memory.
+    Stopped,
+}
+
+/// How a step ends behind which the node has its power still, or hasn't.
+pub fn how_it_ran(live: bool) -> Ran
+    ensures { result ≡ ran_so live }
+{
+    if live { Ran::Done } else { Ran::Stopped }
+}
+
+impl<N: Nv + Drop> Node<N> {
+    ghost use Rattle.std.specs.Prelude.{◌≡◌, List, map, Some, None, IfSome, option_map, slice_get};
+    ghost use Rattle.node_machine.specs.Parts.{Core, Port};
+    ghost use Rattle.node_machine.specs.Carrying.{port_at, with_port};
+    ghost use Rattle.node_ends.specs.Ends.{EndsStandFor, has_sent, frame_at};
+    ghost use Rattle.node_core.specs.Nodes.{IsSoundNode};
+    ghost use Rattle.node_core.specs.Running.{RunsAs, between, one_more_error};
+
+    /// A step ends: what was done to the ends in it isn't kept.
+    pub fn end_step(&mut self)
+        requires runs { IsSoundNode self.old }
+        ensures ended { (ports : List Port) → EndsStandFor self.old.ends ports → EndsStandFor self.new.ends (map between ports) }
+        ensures store { self.new.store ≡ self.old.store }
+        ensures number { self.new.number ≡ self.old.number }
+        ensures tasks { self.new.tasks ≡ self.old.tasks }
+        ensures runs { IsSoundNode self.new }
+    {
+        for i in 0..7 {
+            self.ends.begin_step(i);
+        }
+    }
+
+    /// A frame on its way to the end of the link with this host was refused: one more for REC_ERROR, which stops at FFFF.
+    pub fn refused(&mut self, host: u8)
+        requires runs { (core : Core) × (ports : List Port) × RunsAs self.old core ports }
+        ensures runs { (core : Core) (ports : List Port) → RunsAs self.old core ports → RunsAs self.new core (with_port host one_more_error ports) }
+        ensures store { self.new.store ≡ self.old.store }
+        ensures number { self.new.number ≡ self.old.number }
+    {
+        self.ends.count_error(host);
+    }
+
+    // The place of the end of the link with this host.
+    fn place(&self, host: u8) -> Option<usize>
+        requires runs { IsSoundNode self.now }
+        ensures found { (ports : List Port) → EndsStandFor self.now.ends ports
+            → IfSome result (λ i. option_map (λ (p : Port). p.desk.host) (slice_get ports i) ≡ Some host) }
+        ensures none { (ports : List Port) → EndsStandFor self.now.ends ports → result ≡ None → port_at ports host ≡ None }
+    {
+        for i in 0..7 {
+            if let Some(there) = self.ends.host(i) {
+                if there == host {
+                    return Some(i);
+                }
+            }
+        }
+        None
+    }
+
+    /// Fetches the frame that the end of the link with this host is to send now; `None` where it has none to send.
+    pub fn next_out(&mut self, host: u8) -> Option<Lpdu>
+        requires runs { (core : Core) × (ports : List Port) × RunsAs self.old core ports }
+        ensures answer { (core : Core) (ports : List Port) → RunsAs self.old core ports → result ≡ frame_at (port_at ports host) }
+        ensures runs { (core : Core) (ports : List Port) → RunsAs self.old core ports → RunsAs self.new core (with_port host has_sent ports) }
+        ensures store { self.new.store ≡ self.old.store }
+        ensures number { self.new.number ≡ self.old.number }
+    {
+        let Some(i) = self.place(host) else {
+            return None;
+        };
+        self.ends.next_out(i)
+    }
+
+    /// The tables, and the memory in which they are kept.
+    pub fn store(&self) -> &Store<N>
+        ensures { result.now ≡ self.now.store }
+    {
+        &self.store
+    }
+
+    /// The memory.
+    pub fn into_nv(self) -> N
+        ensures { result ≡ self.store.journal.nv }
+    {
+        let Node { store, .. } = self;
+        store.into_nv()
+    }
+}
+
+impl Node<MemNv> {
+    ghost use Rattle.std.specs.Prelude.{◌≡◌, ◌<◌, Some, List, length};
+    ghost use Rattle.node_machine.specs.Parts.{Core, Port};
+    ghost use Rattle.node_core.specs.Running.{RunsAs};
+
+    /// Plans that the `nth` write of the memory from now fails, where 1 is the next. Byte i of its range becomes byte i of `fill`,
+    /// modulo its length. An earlier plan is given up. Nothing else changes.
+    pub fn arm(&mut self, nth: u32, fill: ArrayVec<u8, 64>)
+        requires nth { 0 < nth }
+        requires fill { 0 < length fill.items }
+        ensures runs { (core : Core) (ports : List Port) → RunsAs self.old core ports → RunsAs self.new core ports }
+        ensures tables { self.new.store.tables ≡ self.old.store.tables }
+        ensures journal { self.new.store.journal ≡ record self.old.store.journal {
+          nv = record self.old.store.journal.nv { plan = Some (record { nth = nth; fill = fill.items }) };
+        } }
+        ensures number { self.new.number ≡ self.old.number }
+    {
+        self.store.arm(nth, fill);
+    }
+}
+
+/// A node between its steps keeps neither the numbers of sessions nor what was done to its ends in a step.
+pub fn numbers_of_sessions_are_not_kept<N: Nv + Drop>()
+    ensures { (n : Kept N) (core : Core) (ports others : List Port) → map between ports ≡ map between others → RunsAs n core ports
+        → RunsAs n core others }
+{}
+
+/// A frame that was refused counts for the desk of its end alone.
+pub fn a_refused_frame_counts_at_its_desk()
+    ensures { (host : ℕ) (ports : List Port) → map (λ (p : Port). p.desk) (with_port host one_more_error ports)
+        ≡ with_error host (map (λ (p : Port). p.desk) ports) }
+{}
+
+/// The frames that a node fetches of an end one after another, until there is none, are all that are due there, and then it has sent all.
+pub fn frames_of_a_node_go_out<N: Nv + Drop>()
+    ensures { (n : Kept N) (core : Core) (ports : List Port) → RunsAs n core ports → AllByRecursion (λ (p : Port). SendsOneByOne p.side) ports }
+{}
