@@ -1,0 +1,55 @@
+//! A boot of a memory whose writes were cut.
+ghost use Rattle.std.specs.Prelude.{◌≡◌, ◌<◌, length};
+
+use crate::library::FrontEnd;
+use crate::sessions::{Seen, front_end, keeps, lpdu, memory, up};
+use crate::shown::same;
+use arrayvec::ArrayVec;
+use router::Ran;
+use std::alloc::Global;
+use std::process::Abort;
+use swp_base::{MemNv, Nv};
+
+/// One byte FF, which a write that fails leaves all over its range.
+fn torn() -> ArrayVec<u8, 64>
+    ensures { 0 < length result.items }
+{
+    let mut fill = ArrayVec::new();
+    fill.push(0xFF);
+    fill
+}
+
+/// A memory that has 65,536 bytes.
+fn whole(rt: &impl Abort, nv: MemNv) -> MemNv
+    ensures { length result.content ≡ 65536 }
+{
+    assert!(rt; nv.size() == 65_536);
+    nv
+}
+
+/// The controller takes this frame of host 02, and loses its power in a write.
+fn stops(rt: &impl Abort, front: &mut FrontEnd<MemNv>, frame: &[u8]) {
+    let mut seen = Seen::new();
+    let ran = front.take(2, &lpdu(rt, frame), &mut seen.count, &mut seen.sent);
+    same(rt, &ran, &Ran::Stopped);
+    seen.shows(rt, 4, &[]);
+}
+
+/// A controller whose write of this number from now fails as host 02 opens its first pipe, and which boots again.
+fn cut(rt: &impl Abort, alloc: Global, nth: u32) -> FrontEnd<MemNv>
+    requires { 0 < nth }
+{
+    let clf = memory(rt, alloc);
+    let uicc = memory(rt, alloc);
+    let (mut front, _card) = up(rt, alloc, clf, uicc);
+    front.arm(nth, torn());
+    stops(rt, &mut front, &[0x80, 0x81, 0x03]);
+    let nv = whole(rt, front.into_nv());
+    front_end(rt, alloc, nv)
+}
+
+#[test]
+fn a_boot_finds_the_commands_before_the_cut(rt: HostRuntime) {
+    let front = cut(&rt, rt.alloc(), 2);
+    keeps(&rt, front.controller().store(), 1, &[(2, 0x1A2B)], &[]);
+}
