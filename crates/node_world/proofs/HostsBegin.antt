@@ -1,0 +1,69 @@
+-- A host of the world as a step of it begins.
+use Rattle.std.proofs.Common.{◌≡◌, false, List, [], ◌∷◌, map, refl, ap, ap₂, sym, subst}
+use Rattle.std.specs.Prelude.{Option, Some, None}
+use Rattle.std.specs.List.{AllByRecursion}
+use Rattle.swp_base.specs.InMemory.{Memory}
+use Rattle.trace_model.specs.declared.entry.Entry.{Entry}
+use Rattle.link_laws.specs.sessions.Sessions.{OnWire}
+use Rattle.link_machine.specs.Machine.{LinkEnd, next_frame}
+use Rattle.link_entries.specs.messages.Links.{Link, NumberedEnd, Comes, exchanged}
+use Rattle.link_entries.specs.messages.Links.Comes.{NextFrame, AsksReset, Starts, Stops, NoInput}
+use Rattle.node_machine.specs.Parts.{Core, Desk, Running, Port}
+use Rattle.node_machine.specs.world.World.{Site, near_end_in, port_for, work_of}
+use Rattle.node_world.specs.declared.places.HostSite.{HostSite}
+use Rattle.node_world.specs.WorldNodes.{as_kept, BeginsOver}
+use Rattle.node_world.specs.Places.{IsPlace, SiteIs}
+
+-- what comes changes no end by itself
+pub near_side : (l : Link) (comes : Comes) → (near_end_in l comes).side ≡ l.controller.side
+near_side l NextFrame = go l.to_controller
+  where
+    go : (w : List OnWire) → (near_end_in (record l { to_controller = w }) NextFrame).side ≡ l.controller.side
+    go [] = refl
+    go (x ∷ xs) = refl
+near_side l (AsksReset window) = refl
+near_side l (Starts value) = refl
+near_side l Stops = refl
+near_side l NoInput = refl
+
+same_ports : (a b : NumberedEnd) (desks : List Desk) → a.side ≡ b.side
+    → map as_kept (map (λ (d : Desk). port_for a d) desks) ≡ map as_kept (map (λ (d : Desk). port_for b d) desks)
+same_ports a b [] q = refl
+same_ports a b (d ∷ desks) q =
+    ap₂ (λ (x : Port) xs. x ∷ xs) (ap (λ (e : LinkEnd). record { desk = d; side = e; session = 0; late = false; ended = false; turns = [] }) q)
+    (same_ports a b desks q)
+
+ports_sent : (a b : NumberedEnd) (desks : List Desk) → a.side ≡ b.side → AllByRecursion (λ (d : Desk). next_frame a.side ≡ None) desks
+    → AllByRecursion (λ (p : Port). next_frame p.side ≡ None) (map (λ (d : Desk). port_for b d) desks)
+ports_sent a b [] q all = tt
+ports_sent a b (d ∷ desks) q all = let P : LinkEnd → Type 0 = λ e. next_frame e ≡ None in (subst P q all.0, ports_sent a b desks q all.1)
+
+ports_fresh : (b : NumberedEnd) (desks : List Desk)
+    → AllByRecursion (λ (p : Port). (p.late ≡ false) × (p.ended ≡ false)) (map (λ (d : Desk). port_for b d) desks)
+ports_fresh b [] = tt
+ports_fresh b (d ∷ desks) = ((refl, refl), ports_fresh b desks)
+
+module _ (P : Type 0) (Runs : P → Core → List Port → Type 0) (memory_of : P → Memory)
+    (kept : (n : P) (core : Core) (ports others : List Port) → map as_kept ports ≡ map as_kept others → Runs n core ports → Runs n core others) where
+  -- a host that runs begins a step in which this comes
+  pub host_begins_so : (k : HostSite P) (s : Site) (n : P) (r : Running) (comes : Comes) (entries : List Entry) → SiteIs Runs memory_of k s → k.on ≡ Some n
+      → s.node ≡ Some r → BeginsOver Runs memory_of n (work_of r s.memory.plan (λ j. near_end_in (exchanged s.link) comes) entries)
+  host_begins_so k s n r comes entries is on runs =
+      let Q : Option P → Option Running → Type 0 = λ a b. IsPlace Runs memory_of a k.off s.memory b (λ h. s.link.host) in
+      go k.off (subst (λ b. Q (Some n) b) runs (subst (λ a. Q a s.node) on is.place))
+    where
+      go : (off : Option Memory) → IsPlace Runs memory_of (Some n) off s.memory (Some r) (λ h. s.link.host)
+          → BeginsOver Runs memory_of n (work_of r s.memory.plan (λ j. near_end_in (exchanged s.link) comes) entries)
+      go (Some m) place = absurd place
+      go None place =
+          let side : s.link.host.side ≡ (near_end_in (exchanged s.link) comes).side = sym (near_side (exchanged s.link) comes) in
+          record {
+            runs = kept n r.core (map (λ (d : Desk). port_for s.link.host d) r.desks)
+                (map (λ (d : Desk). port_for (near_end_in (exchanged s.link) comes) d) r.desks)
+                (same_ports s.link.host (near_end_in (exchanged s.link) comes) r.desks side) place.1;
+            sent = ports_sent s.link.host (near_end_in (exchanged s.link) comes) r.desks side place.2;
+            fresh = ports_fresh (near_end_in (exchanged s.link) comes) r.desks;
+            power = refl;
+            plan = ap (λ (m : Memory). m.plan) (sym place.0);
+            writes = refl;
+          }

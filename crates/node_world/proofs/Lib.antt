@@ -1,0 +1,12 @@
+pub mod Numbered
+pub mod Renumbered
+pub mod Links
+pub mod GoingOn
+pub mod EndsGo
+pub mod Behind
+pub mod TicksGo
+pub mod FramesGoOut
+pub mod HostsGo
+pub mod Plainly
+pub mod HostsBegin
+pub mod Versions

@@ -1,0 +1,33 @@
+-- A frame is lost on the way to an end of the link of a host.
+use Rattle.std.proofs.Common.{◌≡◌, Bool, true, false, List, refl, sym, subst, ◌∙◌}
+use Rattle.std.specs.Prelude.{Option}
+use Rattle.swp_base.specs.InMemory.{Memory}
+use Rattle.trace_model.specs.declared.line.End.{End}
+use Rattle.link_entries.specs.messages.Links.{Link, NumberedEnd, Loss, happens}
+use Rattle.link_entries.specs.messages.Links.EndEvent.{Lose}
+use Rattle.history.specs.Steps.{at}
+use Rattle.node_machine.specs.Parts.{Core, Port}
+use Rattle.node_machine.specs.world.World.{Site}
+use Rattle.node_world.specs.declared.places.HostSite.{HostSite}
+use Rattle.node_world.specs.LinksKept.{WiresStandFor}
+use Rattle.node_world.specs.Places.{IsPlace, SiteIs}
+
+module _ (P : Type 0) (Runs : P → Core → List Port → Type 0) (memory_of : P → Memory) where
+  same_host : (to : End) (l : Link) (why : Loss) → (happens l (at to (Lose why))).host ≡ l.host
+  same_host to l why = go to.at_host refl
+    where
+      go : (b : Bool) → to.at_host ≡ b → (happens l (at to (Lose why))).host ≡ l.host
+      go true q = rw q refl
+      go false q = rw q refl
+
+  pub was_lost : {old new : HostSite P} (s : Site) (to : End) (why : Loss) → SiteIs Runs memory_of old s → new.host ≡ old.host → new.on ≡ old.on
+      → new.off ≡ old.off → WiresStandFor new.wires (happens s.link (at to (Lose why)))
+      → SiteIs Runs memory_of new (record s { link = happens s.link (at to (Lose why)) })
+  was_lost {old} {new} s to why is host on off wires =
+      let Q : NumberedEnd → Type 0 = λ e. IsPlace Runs memory_of new.on new.off s.memory s.node (λ h. e) in
+      let A : Option P → Option Memory → Type 0 = λ a b. IsPlace Runs memory_of a b s.memory s.node (λ h. s.link.host) in
+      record {
+        host = host ∙ is.host;
+        wires = wires;
+        place = subst Q (sym (same_host to s.link why)) (subst (λ a. A a new.off) (sym on) (subst (A old.on) (sym off) is.place));
+      }
