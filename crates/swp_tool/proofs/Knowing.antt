@@ -216,7 +216,7 @@ done_clean : (n : ℕ) → IsNumber n → IsCleanLine (codes "done" ∷ decimal 
 done_clean n is = (((omega arith, refl), refl), (number_clean n is, tt))
 
 -- the whole text of entries in their ranges tells them
-tells_all : (entries : List Entry) (count : ℕ) → All IsEntry entries → IsNumber count → TellsEntries (whole_text entries count) entries
+pub tells_all : (entries : List Entry) (count : ℕ) → All IsEntry entries → IsNumber count → TellsEntries (whole_text entries count) entries
 tells_all entries count in_range few =
     record {
       in_range = in_range;

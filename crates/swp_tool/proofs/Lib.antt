@@ -7,3 +7,5 @@ pub mod Playing
 pub mod Recording
 pub mod Knowing
 pub mod Hearing
+pub mod NodeSchedules
+mod NodeExamples

@@ -22,12 +22,15 @@ pub trait Job {
     // how many bytes it reads at once
     ghost piece_size: { Self → ℕ };
 
+    // what it began with, beside the input and the sink
+    ghost Origin: { Type 0 };
+
     // It has read the input but for what is left, and written what that caused: of the sink, what it held before and what it
     // holds now.
-    ghost under_way: { Bool → Self → List ℕ → List ℕ → List ℕ → List ℕ → Type 0 };
+    ghost under_way: { Bool → Origin → Self → List ℕ → List ℕ → List ℕ → List ℕ → Type 0 };
 
     // it ended in this way, with what is left of the input, and what the sink held before and holds now
-    ghost ended: { Bool → Ending → List ℕ → List ℕ → List ℕ → List ℕ → Type 0 };
+    ghost ended: { Bool → Origin → Self → Ending → List ℕ → List ℕ → List ℕ → List ℕ → Type 0 };
 
     // a way in which it can end
     ghost is_ending: { Ending → Type 0 };
@@ -54,11 +57,13 @@ pub trait Job {
         ensures ending { IfErr result is_ending }
         ensures goes { OnOk result (goes_on self.new) }
         ensures progress { OnOk result (bound self.new < bound self.old) }
-        ensures on { OnOk result ((input rest before : List ℕ) → under_way K.tells self.old input (piece.now ++ rest) before (K.written sink.old)
-            → under_way K.tells self.new input rest before (K.written sink.new)) }
-        ensures ends { IfErr result (λ status. (input rest before : List ℕ) → under_way K.tells self.old input (piece.now ++ rest) before (K.written sink.old)
-            → ended K.tells status input rest before (K.written sink.new)) }
-        ensures ahead { (input rest before : List ℕ) → under_way K.tells self.old input (piece.now ++ rest) before (K.written sink.old)
+        ensures on { OnOk result ((o : Origin) (input rest before : List ℕ)
+            → under_way K.tells o self.old input (piece.now ++ rest) before (K.written sink.old)
+            → under_way K.tells o self.new input rest before (K.written sink.new)) }
+        ensures ends { IfErr result (λ status. (o : Origin) (input rest before : List ℕ)
+            → under_way K.tells o self.old input (piece.now ++ rest) before (K.written sink.old)
+            → ended K.tells o self.new status input rest before (K.written sink.new)) }
+        ensures ahead { (o : Origin) (input rest before : List ℕ) → under_way K.tells o self.old input (piece.now ++ rest) before (K.written sink.old)
             → is_ahead input rest };
 
     /// The input has ended: writes the rest.
@@ -69,18 +74,18 @@ pub trait Job {
         ensures read_fault { result ≢ Ending.ReadFault }
         ensures words { result ≢ Ending.BadWords }
         ensures ending { is_ending result }
-        ensures ends { (input before : List ℕ) → under_way K.tells self.old input [] before (K.written sink.old)
-            → ended K.tells result input [] before (K.written sink.new) }
-        ensures ahead { (input before : List ℕ) → under_way K.tells self.old input [] before (K.written sink.old) → is_ahead input [] };
+        ensures ends { (o : Origin) (input before : List ℕ) → under_way K.tells o self.old input [] before (K.written sink.old)
+            → ended K.tells o self.new result input [] before (K.written sink.new) }
+        ensures ahead { (o : Origin) (input before : List ℕ) → under_way K.tells o self.old input [] before (K.written sink.old) → is_ahead input [] };
 
     /// The input can't be read on.
     fn cut_off(&self) -> Status
         requires goes { goes_on self.now }
         ensures fault { result ≡ Ending.ReadFault }
         ensures ending { is_ending Ending.ReadFault }
-        ensures ends { (tells : Bool) (input left before after : List ℕ) → under_way tells self.now input left before after
-            → ended tells Ending.ReadFault input left before after }
-        ensures ahead { (tells : Bool) (input left before after : List ℕ) → under_way tells self.now input left before after
+        ensures ends { (tells : Bool) (o : Origin) (input left before after : List ℕ) → under_way tells o self.now input left before after
+            → ended tells o self.now Ending.ReadFault input left before after }
+        ensures ahead { (tells : Bool) (o : Origin) (input left before after : List ℕ) → under_way tells o self.now input left before after
             → is_ahead input left };
 }
 
@@ -103,14 +108,14 @@ fn pump<S: Source, K: Sink, J: Job>(
     ensures goes { OnOk result (J.goes_on job.new) }
     ensures progress { result ≡ Ok true → J.bound job.new < J.bound job.old }
     ensures end { IsTrue S.tells → result ≡ Ok false → S.left source.new ≡ [] }
-    ensures on { IsTrue S.tells → OnOk result ((input before : List ℕ) →
-        J.under_way K.tells job.old input (S.left source.old) before (K.written sink.old)
-        → J.under_way K.tells job.new input (S.left source.new) before (K.written sink.new)) }
-    ensures ends { IsTrue S.tells → IfErr result (λ status. (input before : List ℕ) →
-        J.under_way K.tells job.old input (S.left source.old) before (K.written sink.old)
-        → J.ended K.tells status input (S.left source.new) before (K.written sink.new)) }
-    ensures ahead { IsTrue S.tells → OnErr result ((input before : List ℕ) →
-        J.under_way K.tells job.old input (S.left source.old) before (K.written sink.old)
+    ensures on { IsTrue S.tells → OnOk result ((o : J.Origin) (input before : List ℕ) →
+        J.under_way K.tells o job.old input (S.left source.old) before (K.written sink.old)
+        → J.under_way K.tells o job.new input (S.left source.new) before (K.written sink.new)) }
+    ensures ends { IsTrue S.tells → IfErr result (λ status. (o : J.Origin) (input before : List ℕ) →
+        J.under_way K.tells o job.old input (S.left source.old) before (K.written sink.old)
+        → J.ended K.tells o job.new status input (S.left source.new) before (K.written sink.new)) }
+    ensures ahead { IsTrue S.tells → OnErr result ((o : J.Origin) (input before : List ℕ) →
+        J.under_way K.tells o job.old input (S.left source.old) before (K.written sink.old)
         → J.is_ahead input (S.left source.new)) }
     ensures late { (S.end source.old).ended ≡ false → (S.end source.new).late ≡ (S.end source.old).late }
     ensures more { (S.end source.old).ended ≡ false → result ≡ Ok true → (S.end source.new).ended ≡ false }
@@ -138,11 +143,11 @@ pub fn drive<S: Source, K: Sink, J: Job>(
     ensures write_fault { result ≡ Ending.WriteFault → Rose (K.faults sink.old) (K.faults sink.new) }
     ensures words { result ≢ Ending.BadWords }
     ensures ending { J.is_ending result }
-    ensures ends { IsTrue S.tells → (input before : List ℕ) →
-        J.under_way K.tells job.old input (S.left source.old) before (K.written sink.old)
-        → J.ended K.tells result input (S.left source.new) before (K.written sink.new) }
-    ensures ahead { IsTrue S.tells → (input before : List ℕ) →
-        J.under_way K.tells job.old input (S.left source.old) before (K.written sink.old)
+    ensures ends { IsTrue S.tells → (o : J.Origin) (input before : List ℕ) →
+        J.under_way K.tells o job.old input (S.left source.old) before (K.written sink.old)
+        → J.ended K.tells o job.new result input (S.left source.new) before (K.written sink.new) }
+    ensures ahead { IsTrue S.tells → (o : J.Origin) (input before : List ℕ) →
+        J.under_way K.tells o job.old input (S.left source.old) before (K.written sink.old)
         → J.is_ahead input (S.left source.new) }
     ensures late { (S.end source.old).ended ≡ false → (S.end source.new).late ≡ (S.end source.old).late }
 {

@@ -4,8 +4,10 @@
 mod decoding;
 mod driver;
 mod gathering;
+mod lone;
 mod output;
 mod pieces;
+pub mod played;
 mod records;
 mod replay;
 mod replaying;

@@ -207,7 +207,7 @@ fn take_all<K: Sink, R: RecordReader>(
 }
 
 /// How many bytes are read at once behind so many of the record: at most 4,096 behind the last byte that a record may have.
-fn piece_behind(count: u32) -> usize
+pub fn piece_behind(count: u32) -> usize
     ensures { result ≡ piece_of count }
 {
     if count as usize + PIECE > Decoder::MAX_BYTES as usize {
@@ -233,10 +233,12 @@ impl<R: RecordReader + Drop> Job for Recording<R> {
 
     ghost piece_size = { λ r. piece_of (R.count r.reader) };
 
-    ghost under_way = { λ tells r input left before after.
+    ghost Origin = { Unit {0} };
+
+    ghost under_way = { λ tells o r input left before after.
         HasRecorded tells R.lines (λ bytes. R.is_reading tells r.reader bytes bytes before after) (R.count r.reader) input left before after };
 
-    ghost ended = { RecordedBy R.lines };
+    ghost ended = { λ tells o r. RecordedBy R.lines tells };
 
     ghost is_ending = { IsOfRecord };
 

@@ -62,9 +62,11 @@ impl Job for Pieces {
 
     ghost piece_size = { λ p. 4096 };
 
-    ghost under_way = { IsUnderWay };
+    ghost Origin = { Unit {0} };
 
-    ghost ended = { Replayed };
+    ghost under_way = { λ tells o p. IsUnderWay tells p };
+
+    ghost ended = { λ tells o p. Replayed tells };
 
     ghost is_ending = { IsOfReplay };
 

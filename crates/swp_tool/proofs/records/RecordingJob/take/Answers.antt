@@ -4,7 +4,7 @@ use Rattle.swp_tool.proofs.Recording.{ended_in, piece_fits}
 use Rattle.swp_tool.proofs.records.RecordingJob.take.Goals as goal
 
 pub returns-in-Err-clause-ends : goal.returns-in-Err-clause-ends
-returns-in-Err-clause-ends g c input rest before h =
+returns-in-Err-clause-ends g c o input rest before h =
     let piece = c.args.piece.now in
     let lines = g.R.RecordReader.lines in
     let after = g.K.Sink.written c.take_all.new.sink in

@@ -8,7 +8,7 @@ use Rattle.swp_tool.proofs.Ending.{of_err, of_ok, behind, cut_short, finished_fr
 use Rattle.swp_tool.proofs.replaying.PiecesJob.close.Goals as goal
 
 pub returns-then-is_err-clause-ends : goal.returns-then-is_err-clause-ends
-returns-then-is_err-clause-ends g c input before under =
+returns-then-is_err-clause-ends g c o input before under =
     let tells = g.K.Sink.tells in
     let now = c.finish-finished.new.self.replay.text.items in
     let items = c.as_slice.result.now in
@@ -23,7 +23,7 @@ returns-then-is_err-clause-ends g c input before under =
     (front.0, λ told. front.1 told ∙ ap (λ l. g.K.Sink.written c.args.sink.now ++ take front.0 l) c.as_slice.ensures.value)
 
 pub returns-in-Ok-clause-ends : goal.returns-in-Ok-clause-ends
-returns-in-Ok-clause-ends g c input before under =
+returns-in-Ok-clause-ends g c o input before under =
     let tells = g.K.Sink.tells in
     let now = c.finish-finished.new.self.replay.text.items in
     let after = g.K.Sink.written c.write_all.new.sink in
@@ -43,7 +43,7 @@ returns-in-Ok-clause-ends g c input before under =
     )
 
 pub returns-in-Err-clause-ends : goal.returns-in-Err-clause-ends
-returns-in-Err-clause-ends g c input before under =
+returns-in-Err-clause-ends g c o input before under =
     let tells = g.K.Sink.tells in
     let now = c.finish-finished.new.self.replay.text.items in
     let after = g.K.Sink.written c.write_all.new.sink in

@@ -7,7 +7,7 @@ use Rattle.swp_tool.proofs.Ending.{of_err, of_ok, behind, cut_short, fed_front, 
 use Rattle.swp_tool.proofs.replaying.PiecesJob.take.Goals as goal
 
 pub returns-then-is_err-clause-ends : goal.returns-then-is_err-clause-ends
-returns-then-is_err-clause-ends g c input rest before under =
+returns-then-is_err-clause-ends g c o input rest before under =
     let tells = g.K.Sink.tells in
     let items = c.feed-fed.new.self.replay.text.items in
     let piece = c.args.piece.now in
@@ -23,7 +23,7 @@ returns-then-is_err-clause-ends g c input rest before under =
     cut_short piece rest items under c.requires.size (inl some) front
 
 pub returns-in-Ok-clause-on : goal.returns-in-Ok-clause-on
-returns-in-Ok-clause-on g c input rest before under =
+returns-in-Ok-clause-on g c o input rest before under =
     let tells = g.K.Sink.tells in
     let items = c.feed-fed.new.self.replay.text.items in
     let piece = c.args.piece.now in
@@ -44,7 +44,7 @@ returns-in-Ok-clause-on g c input rest before under =
     }
 
 pub returns-in-Err-clause-ends : goal.returns-in-Err-clause-ends
-returns-in-Err-clause-ends g c input rest before under =
+returns-in-Err-clause-ends g c o input rest before under =
     let tells = g.K.Sink.tells in
     let q = c.feed-fed.new.self in
     let items = q.replay.text.items in

@@ -1,0 +1,156 @@
+-- What a node did alone, as it was written.
+use Rattle.std.proofs.Common.{◌≡◌, ℕ, Bool, true, false, cond, List, [], ◌∷◌, ◌++◌, length, map, refl, sym, ap, ◌∙◌, subst, append_assoc, append-nil}
+use Rattle.std.specs.Prelude.{is_none}
+use Rattle.std.proofs.Common.{◌<◌, ◌+◌, take, drop, get_or}
+use Rattle.std.proofs.lemmas.List.{map-append, take_more, take-append-drop}
+use Rattle.swp_base.specs.InMemory.{Memory}
+use Rattle.swp_base.specs.declared.control_frames.Control.{Control}
+use Rattle.node_core.specs.Bringing.{WereMade, Foretells}
+use Rattle.lone_laws.specs.alone.Lone.{Lone, LoneCause}
+use Rattle.lone_laws.specs.alone.Lone.LoneCause.{ResetComes}
+use Rattle.lone_laws.specs.alone.Ends.{EndForm, asks_reset}
+use Rattle.std.specs.Prelude.{None}
+use Rattle.one_end.specs.Running.{does_alone, then_does, answers_alone, all_answered, frames_written, BringsAlone, HasAnswered, RunsYet, StepsAlone}
+use Rattle.one_end.proofs.Composing.{nothing_done, nothing_at_all, all_answered-append, brings_on, brings_stopped, brings_as, brings_nothing}
+
+-- with this memory
+abbrev pub over : Lone → Memory → Lone
+over l m = record l { memory = m }
+
+one_answered : (form : EndForm) (c : LoneCause) (l : Lone) → all_answered form l (c ∷ []) ≡ answers_alone form l c
+one_answered form c l = ap (λ bytes. ((answers_alone form l c).0, bytes)) (append-nil (answers_alone form l c).1)
+
+-- one more of a list
+pub next_of : {X Y : Type 0} (f : X → Y) (xs : List X) (i : ℕ) (x : X) → i < length xs → x ≡ get_or xs i x
+    → map f (take (i + 1) xs) ≡ map f (take i xs) ++ f x ∷ []
+next_of f xs i x within is =
+    ap (map f) (take_more xs i x within) ∙ (map-append f (take i xs) (get_or xs i x ∷ []) ∙ ap (λ y. map f (take i xs) ++ f y ∷ []) (sym is))
+
+-- all of it
+pub parts_of : {X Y : Type 0} (f : X → Y) (xs : List X) (n : ℕ) → map f (take n xs) ++ map f (drop n xs) ≡ map f xs
+parts_of f xs n = sym (map-append f (take n xs) (drop n xs)) ∙ ap (map f) (take-append-drop n xs)
+
+module _ {N : Type 0} (writes : N → ℕ → List ℕ → Bool → N → Type 0) (form : EndForm) where
+  -- a step was made, and its frames were written
+  pub stepped : (Runs Later : Lone → List Control → Type 0) {old new : N} {stopped : Bool} {number : ℕ} (c : LoneCause) (l : Lone)
+      {before now : List ℕ} (s : StepsAlone writes old new Runs stopped number c l) → now ≡ before ++ frames_written form number s.frames
+      → (stopped ≡ false → Later s.after []) → HasAnswered writes old new (RunsYet Later stopped) (λ m. does_alone form (over l m) c) before now
+  stepped Runs Later {old} {new} {stopped} {number} c l s is later = record {
+    given = frames_written form number s.frames;
+    appended = is;
+    brings = record {
+      after = s.after;
+      stands = (s.stopped_is, later);
+      sure = s.sure;
+      torn = s.torn;
+      made = let P : Bool → Type 0 = λ t. WereMade writes s.sure s.torn old t new in subst P s.stopped_is s.made;
+      is = λ m foretold.
+          let P : Bool → Type 0 = λ t. Foretells m.plan s.sure s.torn t in
+          s.is form m (subst P (sym s.stopped_is) foretold);
+    };
+  }
+
+  module _ (Runs : Lone → List Control → Type 0) where
+    -- it has stopped: no reset comes
+    pub stopped_then : {old new : N} (c : LoneCause) (l : Lone) {before now : List ℕ}
+        → HasAnswered writes old new (RunsYet Runs true) (λ m. does_alone form (over l m) c) before now
+        → HasAnswered writes old new (RunsYet Runs true) (λ m. answers_alone form (over l m) c) before now
+    stopped_then {old} {new} c l {before} {now} h = record { given = h.given; appended = h.appended; brings = go (asks_reset l c) refl } where
+      R : Lone → Lone × List ℕ
+      R after = does_alone form after (ResetComes None)
+
+      F : Memory → Lone × List ℕ
+      F m = does_alone form (over l m) c
+
+      go : (b : Bool) → asks_reset l c ≡ b → BringsAlone writes old new (RunsYet Runs true) (λ m. answers_alone form (over l m) c) h.given
+      go true q =
+          brings_as writes (λ m. answers_alone form (over l m) c)
+          (brings_stopped writes R h.brings (sym h.brings.stands.0) (λ k gone. nothing_done form k (ResetComes None) gone))
+          (λ m. ap (λ b. cond b (then_does R (F m)) (F m)) q)
+      go false q = brings_as writes (λ m. answers_alone form (over l m) c) h.brings (λ m. ap (λ b. cond b (then_does R (F m)) (F m)) q)
+
+    -- no reset is asked for
+    pub without_reset : {old new : N} {stopped : Bool} (c : LoneCause) (l : Lone) {before now : List ℕ}
+        → HasAnswered writes old new (RunsYet Runs stopped) (λ m. does_alone form (over l m) c) before now → asks_reset l c ≡ false
+        → HasAnswered writes old new (RunsYet Runs stopped) (λ m. answers_alone form (over l m) c) before now
+    without_reset c l h none = record {
+      given = h.given;
+      appended = h.appended;
+      brings = brings_as writes (λ m. answers_alone form (over l m) c) h.brings
+          (λ m. ap (λ b. cond b (then_does (λ after. does_alone form after (ResetComes None)) (does_alone form (over l m) c))
+          (does_alone form (over l m) c)) none);
+    }
+
+    -- a reset is asked for, and comes
+    pub with_reset : (Later : Lone → List Control → Type 0) {old mid new : N} {stopped : Bool} (c : LoneCause) (l : Lone) {before then_is now : List ℕ}
+        → HasAnswered writes old mid (RunsYet Runs false) (λ m. does_alone form (over l m) c) before then_is → asks_reset l c ≡ true
+        → ((k : Lone) → Runs k [] → HasAnswered writes mid new (RunsYet Later stopped) (λ m. does_alone form (over k m) (ResetComes None)) then_is now)
+        → HasAnswered writes old new (RunsYet Later stopped) (λ m. answers_alone form (over l m) c) before now
+    with_reset Later c l {before = before} h asks reset =
+        let b = h.brings in
+        let r = reset b.after (b.stands.1 refl) in
+        let R : Lone → Lone × List ℕ = λ after. does_alone form after (ResetComes None) in
+        record {
+          given = h.given ++ r.given;
+          appended = r.appended ∙ (ap (λ bytes. bytes ++ r.given) h.appended ∙ append_assoc before h.given r.given);
+          brings = brings_as writes (λ m. answers_alone form (over l m) c) (brings_on writes R b (sym b.stands.0) r.brings)
+              (λ m. ap (λ b. cond b (then_does R (does_alone form (over l m) c)) (does_alone form (over l m) c)) asks);
+        }
+
+    -- nothing came yet
+    pub none_came : {old : N} (l : Lone) (before : List ℕ) → Runs l [] → is_none l.node ≡ false
+        → HasAnswered writes old old (RunsYet Runs false) (λ m. all_answered form (over l m) []) before before
+    none_came l before runs live = record {
+      given = [];
+      appended = sym (append-nil before);
+      brings = brings_nothing writes (RunsYet Runs false) l (sym live, λ _. runs) live;
+    }
+
+    -- one more comes
+    pub one_more : (Later : Lone → List Control → Type 0) {old mid new : N} {stopped : Bool} (first : List LoneCause) (c : LoneCause) (l : Lone)
+        {before then_is now : List ℕ} → HasAnswered writes old mid (RunsYet Runs false) (λ m. all_answered form (over l m) first) before then_is
+        → ((k : Lone) → Runs k [] → HasAnswered writes mid new (RunsYet Later stopped) (λ m. answers_alone form (over k m) c) then_is now)
+        → HasAnswered writes old new (RunsYet Later stopped) (λ m. all_answered form (over l m) (first ++ c ∷ [])) before now
+    one_more Later first c l {before = before} h next =
+        let b = h.brings in
+        let r = next b.after (b.stands.1 refl) in
+        let R : Lone → Lone × List ℕ = λ after. all_answered form after (c ∷ []) in
+        record {
+          given = h.given ++ r.given;
+          appended = r.appended ∙ (ap (λ bytes. bytes ++ r.given) h.appended ∙ append_assoc before h.given r.given);
+          brings = brings_as writes (λ m. all_answered form (over l m) (first ++ c ∷ []))
+              (brings_on writes R b (sym b.stands.0)
+              (brings_as writes (λ m. R (record b.after { memory = m })) r.brings (λ m. one_answered form c (record b.after { memory = m }))))
+              (λ m. all_answered-append form first (c ∷ []) (over l m));
+        }
+
+    -- it has stopped: nothing more is done
+    pub stopped_with : {old new : N} (first later : List LoneCause) (l : Lone) {before now : List ℕ}
+        → HasAnswered writes old new (RunsYet Runs true) (λ m. all_answered form (over l m) first) before now
+        → HasAnswered writes old new (RunsYet Runs true) (λ m. all_answered form (over l m) (first ++ later)) before now
+    stopped_with first later l h = record {
+      given = h.given;
+      appended = h.appended;
+      brings = brings_as writes (λ m. all_answered form (over l m) (first ++ later))
+          (brings_stopped writes (λ after. all_answered form after later) h.brings (sym h.brings.stands.0) (λ k gone. nothing_at_all form later k gone))
+          (λ m. all_answered-append form first later (over l m));
+    }
+
+  -- said of other causes that are the same
+  pub same_causes : {old new : N} {S : Lone → Type 0} (others : List LoneCause) {causes : List LoneCause} (l : Lone) → causes ≡ others
+      → {before now : List ℕ} → HasAnswered writes old new S (λ m. all_answered form (over l m) causes) before now
+      → HasAnswered writes old new S (λ m. all_answered form (over l m) others) before now
+  same_causes {old} {new} {S} others l is {before} {now} h =
+      subst (λ z. HasAnswered writes old new S (λ m. all_answered form (over l m) z) before now) is h
+
+  -- and with more that is known behind it
+  pub stands_as : {old new : N} (S T : Lone → Type 0) (causes : List LoneCause) (l : Lone) → ((k : Lone) → S k → T k)
+      → {before now : List ℕ} → HasAnswered writes old new S (λ m. all_answered form (over l m) causes) before now
+      → HasAnswered writes old new T (λ m. all_answered form (over l m) causes) before now
+  stands_as S T causes l more h =
+      let b = h.brings in
+      record {
+        given = h.given;
+        appended = h.appended;
+        brings = record { after = b.after; stands = more b.after b.stands; sure = b.sure; torn = b.torn; made = b.made; is = b.is };
+      }

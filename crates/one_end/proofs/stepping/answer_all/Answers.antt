@@ -1,0 +1,80 @@
+-- One after another comes.
+use Rattle.std.proofs.Common.{◌≡◌, ◌≤◌, ◌+◌, ◌∙◌, ◌++◌, ◌∷◌, Bool, true, false, [], ℕ, length, map, take, drop, refl, sym, ap, subst, arith}
+use Rattle.std.proofs.Common.{take_all}
+use Rattle.lone_laws.specs.alone.Lone.{Lone}
+use Rattle.one_end.specs.Running.{cause_of, answers_alone, all_answered, HasAnswered, RunsYet}
+use Rattle.one_end.specs.Writing.{form_named}
+use Rattle.one_end.proofs.Answering.{over, none_came, one_more, stopped_with, next_of, parts_of}
+use Rattle.one_end.proofs.stepping.answer_all.Goals as goal
+
+pub loop-coming-init : goal.loop-coming-init
+loop-coming-init g c = record {
+  some = c.requires.may;
+  done = λ k on. none_came g.N.Nv.writes (form_named c.args.form) (g.T.LoneNode.runs c.args.node.now) k c.args.out.now.items on
+      (g.T.LoneNode.live c.args.node.now k [] on);
+  sized = omega (arith, c.requires.room);
+}
+
+pub answer-requires : goal.answer-requires
+answer-requires g c =
+    let few : length c.args.comings.now ≤ 4 = c.requires.few in
+    record {
+      may = c.loop-coming.invariant.some;
+      role = c.requires.role;
+      room = omega (arith, few, c.loop-coming.invariant.sized, c.loop-coming-test.true);
+    }
+
+pub returns-then-answer : goal.returns-then-answer
+returns-then-answer g c = record {
+  done = λ l runs.
+      let i : ℕ = c.loop-coming.coming-index in
+      let cs = c.args.comings.now in
+      let x = c.coming-item.result in
+      let F : Bool → Lone → Type 0 = RunsYet (g.T.LoneNode.runs c.answer.new.node) in
+      let one = one_more g.N.Nv.writes (form_named c.args.form) (g.T.LoneNode.runs c.loop-coming.node) (g.T.LoneNode.runs c.answer.new.node)
+      (map cause_of (take i cs)) (cause_of x) l (c.loop-coming.invariant.done l runs)
+      (λ k on. subst (λ s. HasAnswered g.N.Nv.writes (g.T.LoneNode.nv c.loop-coming.node) (g.T.LoneNode.nv c.answer.new.node) (F s)
+      (λ m. answers_alone (form_named c.args.form) (over k m) (cause_of x)) c.loop-coming.out.items c.answer.new.out.items) c.if-answer.true
+      (c.answer.ensures.done k on)) in
+      let all = stopped_with g.N.Nv.writes (form_named c.args.form) (g.T.LoneNode.runs c.answer.new.node)
+      (map cause_of (take i cs) ++ cause_of x ∷ []) (map cause_of (drop (i + 1) cs)) l one in
+      subst (λ causes. HasAnswered g.N.Nv.writes (g.T.LoneNode.nv c.args.node.now) (g.T.LoneNode.nv c.answer.new.node) (F true)
+      (λ m. all_answered (form_named c.args.form) (over l m) causes) c.args.out.now.items c.answer.new.out.items)
+      (ap (λ first. first ++ map cause_of (drop (i + 1) cs)) (sym (next_of cause_of cs i x c.loop-coming-test.true c.coming-item.is))
+      ∙ parts_of cause_of cs (i + 1)) all;
+}
+
+pub loop-coming-preserved : goal.loop-coming-preserved
+loop-coming-preserved g c =
+    let i : ℕ = c.loop-coming.coming-index in
+    let cs = c.args.comings.now in
+    let x = c.coming-item.result in
+    let F : Bool → Lone → Type 0 = RunsYet (g.T.LoneNode.runs c.answer.new.node) in
+    let goes : (k : Lone) → g.T.LoneNode.runs c.loop-coming.node k []
+    → HasAnswered g.N.Nv.writes (g.T.LoneNode.nv c.loop-coming.node) (g.T.LoneNode.nv c.answer.new.node) (F false)
+    (λ m. answers_alone (form_named c.args.form) (over k m) (cause_of x)) c.loop-coming.out.items c.answer.new.out.items =
+    λ k on. subst (λ s. HasAnswered g.N.Nv.writes (g.T.LoneNode.nv c.loop-coming.node) (g.T.LoneNode.nv c.answer.new.node) (F s)
+    (λ m. answers_alone (form_named c.args.form) (over k m) (cause_of x)) c.loop-coming.out.items c.answer.new.out.items) c.if-answer.false
+    (c.answer.ensures.done k on) in
+    let some = c.loop-coming.invariant.some in
+    let b = (goes some.0 some.1).brings in
+    record {
+      some = (b.after, b.stands.1 refl);
+      done = λ l runs.
+          let one = one_more g.N.Nv.writes (form_named c.args.form) (g.T.LoneNode.runs c.loop-coming.node) (g.T.LoneNode.runs c.answer.new.node)
+          (map cause_of (take i cs)) (cause_of x) l (c.loop-coming.invariant.done l runs) goes in
+          subst (λ causes. HasAnswered g.N.Nv.writes (g.T.LoneNode.nv c.args.node.now) (g.T.LoneNode.nv c.answer.new.node) (F false)
+          (λ m. all_answered (form_named c.args.form) (over l m) causes) c.args.out.now.items c.answer.new.out.items)
+          (sym (next_of cause_of cs i x c.loop-coming-test.true c.coming-item.is)) one;
+      sized = omega (arith, c.loop-coming.invariant.sized, c.answer.ensures.sized);
+    }
+
+pub returns : goal.returns
+returns g c = record {
+  done = λ l runs.
+      let cs = c.args.comings.now in
+      let most : c.loop-coming.coming-index ≡ length cs = omega (arith, c.loop-coming-test.false, c.loop-coming.auto.coming-index-end) in
+      subst (λ causes. HasAnswered g.N.Nv.writes (g.T.LoneNode.nv c.args.node.now) (g.T.LoneNode.nv c.loop-coming.node)
+      (RunsYet (g.T.LoneNode.runs c.loop-coming.node) false) (λ m. all_answered (form_named c.args.form) (over l m) causes) c.args.out.now.items
+      c.loop-coming.out.items) (ap (map cause_of) (take_all c.loop-coming.coming-index cs c.loop-coming-test.false)) (c.loop-coming.invariant.done l runs);
+}

@@ -1,0 +1,120 @@
+//! A node alone at the end of a link.
+ghost use Rattle.std.specs.Prelude.{◌≡◌, ◌==◌, ◌∷◌, ◌++◌, [], List, ℕ, map, false};
+ghost use Rattle.lone_laws.specs.alone.Lone.{Lone};
+ghost use Rattle.lone_laws.specs.alone.Ends.{byte_brings, first_comes};
+ghost use Rattle.one_end.specs.Reading.{causes_brought};
+ghost use Rattle.one_end.specs.Running.{cause_of, all_answered, HasAnswered};
+ghost use Rattle.one_end.specs.Standing.{StandsAlone, IsAlone, HasBooted, HasRun};
+ghost use Rattle.one_end.specs.Writing.{form_named};
+
+use crate::node::{Coming, LoneNode};
+use crate::reading::{Brought, Reader};
+use crate::stepping::answer_all;
+use crate::writing::{Form, Output};
+use arrayvec::ArrayVec;
+use swp_base::Nv;
+use swp_frame::Fed;
+
+/// A node alone at the end of a link whose other end is live: it has its power.
+#[derive(Drop)]
+pub struct OneEnd<T> {
+    pub(crate) form: Form,
+    /// Whether it is the CLF's end.
+    pub(crate) is_clf: bool,
+    pub(crate) reader: Reader,
+    pub(crate) node: T,
+}
+
+/// What a byte brings, one after another.
+fn comings_of(brought: Brought) -> ArrayVec<Coming, 4>
+    ensures causes { map cause_of result.items ≡ causes_brought brought }
+{
+    let Brought {
+        starts,
+        fed,
+        stops,
+        ticks,
+    } = brought;
+    let mut comings = ArrayVec::new();
+    if starts {
+        comings.push(Coming::Start);
+    }
+    match fed {
+        Fed::Nothing => {}
+        Fed::Frame(lpdu) => comings.push(Coming::Frame(lpdu)),
+        Fed::Refused(fault) => comings.push(Coming::Refused(fault)),
+    }
+    if stops {
+        comings.push(Coming::Stop);
+    }
+    if ticks {
+        comings.push(Coming::Tick);
+    }
+    comings
+}
+
+/// What comes first to the node: a UICC on a byte link is activated.
+fn first_comings(form: Form, is_clf: bool) -> ArrayVec<Coming, 4>
+    ensures causes { (number : ℕ) → (number == 0) ≡ is_clf → map cause_of result.items ≡ first_comes (form_named form) number }
+{
+    let mut comings = ArrayVec::new();
+    if form == Form::Bytes && !is_clf {
+        comings.push(Coming::Start);
+    }
+    comings
+}
+
+/// A node that has booted begins at the end of a link: what it writes before any byte comes is put out. Whether it has lost its power.
+pub fn begin<N: Nv, T: LoneNode<N>>(
+    node: T,
+    form: Form,
+    is_clf: bool,
+    out: &mut Output,
+) -> (OneEnd<T>, bool)
+    requires may { (l : Lone) × T.runs node l [] }
+    requires role { (T.number == 0) ≡ is_clf }
+    requires empty { out.old.items ≡ [] }
+    ensures form { result.0.form ≡ form }
+    ensures may { result.1 ≡ false → (l : Lone) × (older : List ℕ) × StandsAlone T.runs T.number result.0 l older }
+    ensures run { (content : List ℕ) (first : N) → HasBooted N.writes T.nv T.runs T.number content first node
+        → HasRun N.writes T.nv T.runs T.number content first result.0 result.1 [] out.new.items }
+    ensures begun { (l : Lone) → T.runs node l [] → HasAnswered N.writes (T.nv node) (T.nv result.0.node) (IsAlone T.runs T.number result.0 [] result.1)
+        (λ m. all_answered (form_named form) (record l { memory = m }) (first_comes (form_named form) T.number)) out.old.items out.new.items }
+{
+    let mut node = node;
+    let comings = first_comings(form, is_clf);
+    let stopped = answer_all(&mut node, form, is_clf, comings.as_slice(), out);
+    let end = OneEnd {
+        form,
+        is_clf,
+        reader: Reader::new(form, is_clf),
+        node,
+    };
+    (end, stopped)
+}
+
+/// A byte comes on the link: what the node writes for it is put out. Whether it has lost its power: it does nothing more then.
+pub fn hear<N: Nv, T: LoneNode<N>>(end: &mut OneEnd<T>, byte: u8, out: &mut Output) -> bool
+    requires may { (l : Lone) × (older : List ℕ) × StandsAlone T.runs T.number end.old l older }
+    requires empty { out.old.items ≡ [] }
+    ensures form { end.new.form ≡ end.old.form }
+    ensures may { result ≡ false → (l : Lone) × (older : List ℕ) × StandsAlone T.runs T.number end.new l older }
+    ensures run { (content bytes written : List ℕ) (first : N) → HasRun N.writes T.nv T.runs T.number content first end.old false bytes written
+        → HasRun N.writes T.nv T.runs T.number content first end.new result (bytes ++ byte ∷ []) (written ++ out.new.items) }
+{
+    hear_byte(end, byte, out)
+}
+
+/// A byte comes on the link.
+fn hear_byte<N: Nv, T: LoneNode<N>>(end: &mut OneEnd<T>, byte: u8, out: &mut Output) -> bool
+    requires may { (l : Lone) × (older : List ℕ) × StandsAlone T.runs T.number end.old l older }
+    requires empty { out.old.items ≡ [] }
+    ensures form { end.new.form ≡ end.old.form }
+    ensures heard { (l : Lone) (older : List ℕ) → StandsAlone T.runs T.number end.old l older
+        → HasAnswered N.writes (T.nv end.old.node) (T.nv end.new.node) (IsAlone T.runs T.number end.new (byte ∷ older) result)
+        (λ m. all_answered (form_named end.old.form) (record l { memory = m }) (byte_brings (form_named end.old.form) T.number byte older))
+        out.old.items out.new.items }
+{
+    let comings = comings_of(end.reader.hear(byte));
+    answer_all(&mut end.node, end.form, end.is_clf, comings.as_slice(), out)
+}

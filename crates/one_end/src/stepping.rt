@@ -1,0 +1,113 @@
+//! A node alone does what comes to it.
+ghost use Rattle.std.specs.Prelude.{◌≡◌, ◌==◌, ◌≤◌, ◌+◌, ◌*◌, ◌++◌, [], List, ℕ, length, map};
+ghost use Rattle.swp_base.specs.declared.control_frames.Control.{Control};
+ghost use Rattle.lone_laws.specs.alone.Lone.{Lone};
+ghost use Rattle.one_end.specs.Writing.{form_named};
+ghost use Rattle.lone_laws.specs.alone.Ends.{asks_reset};
+ghost use Rattle.one_end.specs.Running.{frames_written, cause_of, does_alone, answers_alone, all_answered, RunsYet, HasAnswered};
+
+use crate::node::{Came, Coming, LoneNode};
+use crate::writing::{Form, Output, write_out};
+use swp_base::Nv;
+
+/// The most frames of a step.
+const MOST_FRAMES: u8 = 17;
+
+/// Appends the frames that are to go out, in their order.
+pub(crate) fn send_out<N: Nv, T: LoneNode<N>>(
+    node: &mut T,
+    form: Form,
+    is_clf: bool,
+    out: &mut Output,
+)
+    requires may { (l : Lone) × (frames : List Control) × T.runs node.old l frames × (length frames ≤ 17) }
+    requires role { (T.number == 0) ≡ is_clf }
+    requires room { length out.old.items + 17 * 323 ≤ 44032 }
+    ensures sent { (l : Lone) (frames : List Control) → T.runs node.old l frames → length frames ≤ 17 → T.runs node.new l [] }
+    ensures written { (l : Lone) (frames : List Control) → T.runs node.old l frames → length frames ≤ 17
+        → out.new.items ≡ out.old.items ++ frames_written (form_named form) T.number frames }
+    ensures sized { length out.new.items ≤ length out.old.items + 17 * 323 }
+    ensures nv { T.nv node.new ≡ T.nv node.old }
+{
+    for _ in 0..MOST_FRAMES {
+        let Some(lpdu) = node.next_out() else {
+            return;
+        };
+        write_out(form, is_clf, &lpdu, out);
+    }
+}
+
+/// This comes to the node, and what it writes then is appended.
+fn step<N: Nv, T: LoneNode<N>>(
+    node: &mut T,
+    form: Form,
+    is_clf: bool,
+    coming: &Coming,
+    out: &mut Output,
+) -> Came
+    requires may { (l : Lone) × T.runs node.old l [] }
+    requires role { (T.number == 0) ≡ is_clf }
+    requires room { length out.old.items + 17 * 323 ≤ 44032 }
+    ensures done { (l : Lone) → T.runs node.old l [] → HasAnswered N.writes (T.nv node.old) (T.nv node.new)
+        (RunsYet (T.runs node.new) result.stopped) (λ m. does_alone (form_named form) (record l { memory = m }) (cause_of coming.now)) out.old.items
+        out.new.items }
+    ensures asks { (l : Lone) → T.runs node.old l [] → result.asks_reset ≡ asks_reset l (cause_of coming.now) }
+    ensures sized { length out.new.items ≤ length out.old.items + 17 * 323 }
+{
+    let came = node.comes(coming);
+    if !came.stopped {
+        send_out(node, form, is_clf, out);
+    }
+    came
+}
+
+/// This comes to the node, and then the reset that it asks for, if it does; what it writes then is appended. Whether it has lost its
+/// power.
+pub(crate) fn answer<N: Nv, T: LoneNode<N>>(
+    node: &mut T,
+    form: Form,
+    is_clf: bool,
+    coming: &Coming,
+    out: &mut Output,
+) -> bool
+    requires may { (l : Lone) × T.runs node.old l [] }
+    requires role { (T.number == 0) ≡ is_clf }
+    requires room { length out.old.items + 34 * 323 ≤ 44032 }
+    ensures done { (l : Lone) → T.runs node.old l [] → HasAnswered N.writes (T.nv node.old) (T.nv node.new)
+        (RunsYet (T.runs node.new) result) (λ m. answers_alone (form_named form) (record l { memory = m }) (cause_of coming.now)) out.old.items
+        out.new.items }
+    ensures sized { length out.new.items ≤ length out.old.items + 34 * 323 }
+{
+    let came = step(node, form, is_clf, coming, out);
+    if came.stopped {
+        return true;
+    }
+    if !came.asks_reset {
+        return false;
+    }
+    step(node, form, is_clf, &Coming::Reset, out).stopped
+}
+
+/// These come to the node, one after another, until it loses its power; what it writes then is appended. Whether it has lost its power.
+pub(crate) fn answer_all<N: Nv, T: LoneNode<N>>(
+    node: &mut T,
+    form: Form,
+    is_clf: bool,
+    comings: &[Coming],
+    out: &mut Output,
+) -> bool
+    requires may { (l : Lone) × T.runs node.old l [] }
+    requires role { (T.number == 0) ≡ is_clf }
+    requires few { length comings.now ≤ 4 }
+    requires room { length out.old.items ≡ 0 }
+    ensures done { (l : Lone) → T.runs node.old l [] → HasAnswered N.writes (T.nv node.old) (T.nv node.new)
+        (RunsYet (T.runs node.new) result) (λ m. all_answered (form_named form) (record l { memory = m }) (map cause_of comings.now)) out.old.items
+        out.new.items }
+{
+    for coming in comings {
+        if answer(node, form, is_clf, coming, out) {
+            return true;
+        }
+    }
+    false
+}

@@ -1,0 +1,61 @@
+//! What a node alone writes.
+ghost use Rattle.std.specs.Prelude.{◌≡◌, ◌==◌, ◌++◌, ◌≤◌, ◌+◌, ℕ, length};
+ghost use Rattle.lone_laws.specs.alone.Ends.{frame_written, bit_written};
+ghost use Rattle.lone_laws.specs.alone.Ends.EndForm.{OnLine};
+ghost use Rattle.one_end.specs.Writing.{form_named};
+
+use arrayvec::ArrayVec;
+use byte_link::write_unit;
+use swp_base::Lpdu;
+use swp_frame::write_frame;
+use swp_line::{Period, byte_of};
+
+/// What the bytes are that a node alone reads and writes.
+#[derive(Clone, Copy, Debug, PartialEq, Eq)]
+pub enum Form {
+    /// The record of a line.
+    Line,
+    /// A byte link.
+    Bytes,
+}
+
+/// What a node alone writes for a byte: at most so much.
+pub type Output = ArrayVec<u8, 44_032>;
+
+/// Appends a frame as its end writes it: a unit of a byte link, or a period of a line for each bit, which the CLF writes as S1 and the
+/// UICC as S2.
+pub fn write_out(form: Form, is_clf: bool, lpdu: &Lpdu, out: &mut Output)
+    requires room { length out.old.items + 323 ≤ 44032 }
+    ensures written { (number : ℕ) → (number == 0) ≡ is_clf
+        → out.new.items ≡ out.old.items ++ frame_written (form_named form) number lpdu.now }
+    ensures sized { length out.new.items ≤ length out.old.items + 323 }
+{
+    let _fits = match form {
+        Form::Line => out.try_extend_from_slice(periods_of(is_clf, lpdu).as_slice()),
+        Form::Bytes => out.try_extend_from_slice(write_unit(lpdu).as_slice()),
+    };
+}
+
+/// The periods of a frame.
+fn periods_of(is_clf: bool, lpdu: &Lpdu) -> ArrayVec<u8, 336>
+    ensures written { (number : ℕ) → (number == 0) ≡ is_clf → result.items ≡ frame_written OnLine number lpdu.now }
+    ensures sized { length result.items ≤ 323 }
+{
+    let frame = write_frame(lpdu);
+    let mut periods = ArrayVec::new();
+    for bit in frame.bits.as_slice() {
+        periods.push(period_of_bit(is_clf, *bit));
+    }
+    periods
+}
+
+/// The period that carries a bit of one end, while the other end sends nothing.
+fn period_of_bit(is_clf: bool, bit: bool) -> u8
+    ensures { (number : ℕ) → (number == 0) ≡ is_clf → result ≡ bit_written number bit }
+{
+    if is_clf {
+        byte_of(&Period::Bits { s1: bit, s2: false })
+    } else {
+        byte_of(&Period::Bits { s1: false, s2: bit })
+    }
+}
