@@ -38,7 +38,7 @@ impl<N: Nv + Drop> Card<N> {
     ghost use Rattle.hcp_packet.specs.Packets.{IsSendable};
 
     /// A host with this number boots from its memory, and begins activation with this sync identifier.
-    pub fn boot<W: Watch, S: Wires>(
+    pub(crate) fn boot<W: Watch, S: Wires>(
         alloc: Global,
         number: u8,
         nv: N,
@@ -64,7 +64,12 @@ impl<N: Nv + Drop> Card<N> {
     }
 
     /// A frame comes from the controller, and what it brings about goes out.
-    pub fn take<W: Watch, S: Wires>(&mut self, lpdu: &Lpdu, watch: &mut W, wires: &mut S) -> Ran {
+    pub(crate) fn take<W: Watch, S: Wires>(
+        &mut self,
+        lpdu: &Lpdu,
+        watch: &mut W,
+        wires: &mut S,
+    ) -> Ran {
         if !self.host.store().live() {
             return Ran::Stopped;
         }
@@ -76,7 +81,7 @@ impl<N: Nv + Drop> Card<N> {
     }
 
     /// The link is reset, where that isn't refused. A host without power resets nothing.
-    pub fn reset<W: Watch, S: Wires>(
+    pub(crate) fn reset<W: Watch, S: Wires>(
         &mut self,
         watch: &mut W,
         wires: &mut S,
@@ -96,7 +101,7 @@ impl<N: Nv + Drop> Card<N> {
     }
 
     /// A message goes out, where it isn't refused. A host without power sends nothing.
-    pub fn send<W: Watch, S: Wires>(
+    pub(crate) fn send<W: Watch, S: Wires>(
         &mut self,
         pipe: u8,
         message: &[u8],
@@ -118,7 +123,7 @@ impl<N: Nv + Drop> Card<N> {
     }
 
     /// An init begins, where it isn't refused. A host without power begins none.
-    pub fn init<W: Watch, S: Wires>(
+    pub(crate) fn init<W: Watch, S: Wires>(
         &mut self,
         identity: &[u8; 8],
         pipes: &[[u8; 3]],
@@ -140,7 +145,7 @@ impl<N: Nv + Drop> Card<N> {
     }
 
     /// The host, to look at.
-    pub fn host(&self) -> &Host<N> {
+    pub(crate) fn host(&self) -> &Host<N> {
         &self.host
     }
 }

@@ -1,5 +1,5 @@
 //! A controller with its memory: a frame comes from a host, and the frames that it brings about go out.
-ghost use Rattle.std.specs.Prelude.{List};
+ghost use Rattle.std.specs.Prelude.{◌≡◌, List};
 ghost use Rattle.node_machine.specs.Parts.{Core, Port};
 ghost use Rattle.node_core.specs.Running.{RunsAs, MayStep};
 ghost use Rattle.worked_nodes.specs.FramesOut.{HasSentTo};
@@ -62,6 +62,7 @@ impl<N: Nv + Drop> Model for FrontEnd<N> {
 
 impl<N: Nv + Drop> FrontEnd<N> {
     ghost use Rattle.std.specs.Prelude.{◌≡◌, ◌≤◌};
+    ghost use Rattle.node_core.specs.Running.{ran_so};
 
     /// A controller of these hosts boots from its memory.
     pub fn boot(alloc: Global, hosts: u8, nv: N) -> Result<Self, BootRefused<N>>
@@ -80,7 +81,9 @@ impl<N: Nv + Drop> FrontEnd<N> {
         lpdu: &Lpdu,
         watch: &mut W,
         wires: &mut S,
-    ) -> Ran {
+    ) -> Ran
+        ensures { result ≡ ran_so self.new.store.journal.live }
+    {
         if !self.controller.store().live() {
             return Ran::Stopped;
         }
@@ -92,7 +95,9 @@ impl<N: Nv + Drop> FrontEnd<N> {
     }
 
     /// A tick passes.
-    pub fn tick<W: Watch, S: Wires>(&mut self, watch: &mut W, wires: &mut S) -> Ran {
+    pub fn tick<W: Watch, S: Wires>(&mut self, watch: &mut W, wires: &mut S) -> Ran
+        ensures { result ≡ ran_so self.new.store.journal.live }
+    {
         if !self.controller.store().live() {
             return Ran::Stopped;
         }
@@ -111,7 +116,8 @@ impl<N: Nv + Drop> FrontEnd<N> {
         watch: &mut W,
         wires: &mut S,
     ) -> Ran
-        requires { power ≤ 1 }
+        requires power { power ≤ 1 }
+        ensures ran { result ≡ ran_so self.new.store.journal.live }
     {
         if !self.controller.store().live() {
             return Ran::Stopped;
@@ -172,6 +178,7 @@ impl FrontEnd<MemNv> {
 fn send_to<N: Nv + Drop, S: Wires>(controller: &mut Controller<N>, host: u8, wires: &mut S)
     requires runs { (core : Core) × (ports : List Port) × RunsAs controller.old core ports }
     ensures sent { (core : Core) (ports : List Port) → RunsAs controller.old core ports → HasSentTo controller.new core host ports }
+    ensures store { controller.new.store ≡ controller.old.store }
 {
     for _ in 0..MOST_FRAMES {
         let Some(lpdu) = controller.next_out(host) else {
@@ -185,6 +192,7 @@ fn send_to<N: Nv + Drop, S: Wires>(controller: &mut Controller<N>, host: u8, wir
 fn send_all<N: Nv + Drop, S: Wires>(controller: &mut Controller<N>, wires: &mut S)
     requires runs { (core : Core) × (ports : List Port) × RunsAs controller.old core ports }
     ensures may { MayStep controller.new }
+    ensures store { controller.new.store ≡ controller.old.store }
 {
     for host in 1..8 {
         send_to(controller, host, wires);

@@ -1,4 +1,4 @@
-use Rattle.std.specs.Prelude.{List}
+use Rattle.std.specs.Prelude.{◌≡◌, List}
 use Rattle.node_machine.specs.Parts.{Core, Port}
 use Rattle.node_core.specs.Running.{RunsAs}
 use Rattle.worked_nodes.proofs.Fetching.{IsSendingTo}
@@ -6,4 +6,5 @@ use Rattle.worked_nodes.proofs.library.send_to.Given as goal
 
 abbrev pub invariant-loop : goal.invariant-loop
 invariant-loop g l =
-    (core : Core) (ports : List Port) → RunsAs l.initial.controller core ports → IsSendingTo l.controller core l.host ports l.counter
+    ((core : Core) (ports : List Port) → RunsAs l.initial.controller core ports → IsSendingTo l.controller core l.host ports l.counter)
+    × (l.controller.store ≡ l.initial.controller.store)
