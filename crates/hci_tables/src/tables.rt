@@ -48,7 +48,7 @@ impl Tables {
     ghost use Rattle.std.specs.Prelude.{◌≡◌, ◌≤◌, ◌<◌};
     ghost use Rattle.hci_tables.specs.Commands.{IsCommand};
     ghost use Rattle.sorted_rows.specs.Rows.{AreRows};
-    ghost use Rattle.hci_tables.specs.Tables.{no_tables, static_place, sync_host, apply, close};
+    ghost use Rattle.hci_tables.specs.Tables.{no_tables, static_place, sync_host, is_kept_sync, apply, close};
 
     /// No pipes, no static pipe opened, all parameters at their defaults, no identifier kept.
     pub fn new() -> Tables
@@ -90,6 +90,13 @@ impl Tables {
         ensures sorted { AreRows sync_host 1 8 self.now.syncs }
     {
         self.syncs.as_slice()
+    }
+
+    /// Whether this is the sync identifier that is kept of a host. This project's own.
+    pub fn is_kept(&self, host: u8, id: u16) -> bool
+        ensures { result ≡ is_kept_sync self.now.syncs host id }
+    {
+        syncs::is_kept(self.syncs.as_slice(), host, id)
     }
 
     /// Does what a command says. It asks for a command that may be recorded.

@@ -1,29 +1,10 @@
 //! The identifiers of UICCs that a node keeps.
 ghost use Rattle.std.specs.Prelude.{◌≡◌};
-ghost use Rattle.sorted_rows.specs.Rows.{row_of};
-ghost use Rattle.hci_tables.specs.Tables.{sync_host, is_kept_sync};
 
 use crate::node::Node;
 use hci_tables::Command;
 use swp_base::Nv;
 use trace_model::Watch;
-
-// The pair of a host and the identifier that is kept of it, where one is.
-fn find(syncs: &[(u8, u16)], host: u8) -> Option<(u8, u16)>
-    ensures { result ≡ row_of sync_host host syncs.now }
-{
-    syncs.iter().copied().find(|pair| pair.0 == host)
-}
-
-// Whether this is the identifier that is kept of a host.
-fn is_kept(syncs: &[(u8, u16)], host: u8, id: u16) -> bool
-    ensures { result ≡ is_kept_sync syncs.now host id }
-{
-    match find(syncs, host) {
-        Some(pair) => pair.1 == id,
-        None => false,
-    }
-}
 
 impl<N: Nv + Drop> Node<N> {
     ghost use Rattle.std.specs.Prelude.{◌≡◌, ◌≤◌, ◌&&◌, not, List, IfSome, IsTrue};
@@ -46,7 +27,7 @@ impl<N: Nv + Drop> Node<N> {
         ensures answer { result ≡ (not (is_kept_sync self.old.store.tables.syncs host id) && has_room_for self.old.store.journal.state (Sync host id)) }
         ensures same { self.new ≡ self.old }
     {
-        if is_kept(self.store.tables().syncs(), host, id) {
+        if self.store.tables().is_kept(host, id) {
             return false;
         }
         self.store.room(&Command::Sync { host, id })
