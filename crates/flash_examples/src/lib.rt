@@ -6,7 +6,5 @@ mod journals;
 mod pages;
 #[cfg(test)]
 mod shown;
-#[cfg(test)]
-mod stores;
 
 pub use journals::{append_over_flash, start_over_flash};

@@ -10,7 +10,7 @@ use std::process::Abort;
 use swp_base::{Failed, Nv};
 
 /// A memory over a new flash.
-pub(crate) fn new_memory(rt: &impl Abort, alloc: Global) -> FlashNv<MemFlash> {
+fn new_memory(rt: &impl Abort, alloc: Global) -> FlashNv<MemFlash> {
     let flash = MemFlash::new(alloc).expect(rt, "there is memory");
     FlashNv::new(flash)
 }

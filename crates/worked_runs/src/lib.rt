@@ -5,6 +5,8 @@
 #[cfg(test)]
 mod cuts;
 #[cfg(test)]
+mod flash_stores;
+#[cfg(test)]
 mod images;
 #[cfg(test)]
 mod journals;

@@ -1,17 +1,23 @@
 //! Stores over flash whose changes are torn, one after another.
 ghost use Rattle.std.specs.Prelude.{◌≤◌, ◌+◌};
 
-use crate::pages::new_memory;
+use crate::runs::one_word;
 use crate::shown::{same, same_bytes};
 use arrayvec::ArrayVec;
 use flash_nv::{FlashNv, MemFlash};
 use hci_store::Store;
 use hci_tables::Command;
 use nv_journal::StartRefused;
-use std::alloc::{AllocError, Global};
+use std::alloc::Global;
 use std::process::Abort;
 use swp_base::{MemSink, MemSource, Nv};
 use swp_tool::{Ended, Status, run};
+
+/// A memory over a new flash.
+fn new_memory(rt: &impl Abort, alloc: Global) -> FlashNv<MemFlash> {
+    let flash = MemFlash::new(alloc).expect(rt, "there is memory");
+    FlashNv::new(flash)
+}
 
 /// The memory that a store is started on.
 #[derive(Drop)]
@@ -98,20 +104,13 @@ fn started(nv: FlashNv<MemFlash>) -> (Option<u32>, FlashNv<MemFlash>) {
     }
 }
 
-/// The words of the program that asks for the tables.
-fn tables_word(alloc: Global) -> Result<Vec<String>, AllocError> {
-    let mut words = Vec::new(alloc);
-    words.push(String::from_str(alloc, "tables")?)?;
-    Ok(words)
-}
-
 /// How a run with the word `tables` over the memory ended, and what it wrote.
 fn told(
     rt: &impl Abort,
     alloc: Global,
     nv: FlashNv<MemFlash>,
 ) -> (Status, MemSink, FlashNv<MemFlash>) {
-    let words = tables_word(alloc).expect(rt, "there is memory");
+    let words = one_word(alloc, "tables").expect(rt, "there is memory");
     let mut source = MemSource::new(Vec::new(alloc), Vec::new(alloc), 4096);
     let mut sink = MemSink::new(Vec::new(alloc), Vec::new(alloc), 4096);
     let Ended { status, nv } = run(alloc, words.as_slice(), &mut source, &mut sink, nv);
