@@ -63,6 +63,12 @@ module _ {N : Type 0} (reads : N → Bool → N → Type 0) (faults : N → ℕ)
   image_of f (inl unread, kept) t image = absurd (subst journal_refusals.IsImageFault unread.fault image)
   image_of f (inr unsound, kept) t image = unsound.told t
 
+  -- no more was done than reads, the last of which failed
+  pub unread_of : (f : JournalFault) → AreRecordsRefused reads faults tells content first new f → f ≡ NvFault → IsTrue tells
+      → AreRead reads 37 first false new × (content new ≡ content first)
+  unread_of f (inl unread, kept) memory t = (unread.read, kept t)
+  unread_of f (inr unsound, kept) memory t = absurd (subst journal_refusals.IsImageFault memory unsound.fault_is)
+
   pub fault_of : (f : JournalFault) → AreRecordsRefused reads faults tells content first new f
       → (f ≡ NvFault) ⊎ (f ≡ GenerationsSpent) ⊎ journal_refusals.IsImageFault f
   fault_of f (inl unread, kept) = inl unread.fault

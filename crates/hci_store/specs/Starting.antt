@@ -1,7 +1,7 @@
 -- A start: the writes that it makes, and what is known of the memory then.
-use Rattle.std.specs.Prelude.{◌≡◌, ℕ, ◌==◌, Bool, if◌then◌else◌, List, [], ◌++◌}
+use Rattle.std.specs.Prelude.{◌≡◌, ℕ, ◌==◌, Bool, true, if◌then◌else◌, List, [], ◌++◌}
 use Rattle.journal_laws.specs.declared.state.State.{State}
-use Rattle.journal_laws.specs.Writes.{Write, AreMade}
+use Rattle.journal_laws.specs.Writes.{Write, AreRead, AreMade}
 use Rattle.journal_laws.specs.Journal.{state_of}
 use Rattle.journal_laws.specs.Operations.{start_writes, started_state, compact_writes, compacted}
 use Rattle.hci_tables.specs.Tables.{HciTables, close}
@@ -23,9 +23,10 @@ ready_writes content =
 abbrev pub ready_state : List ℕ → State
 ready_state content = migrated (started_state (state_of content)) (close (tables_of content))
 
--- These writes were made behind reads that changed nothing in the memory: all of them, or until one failed.
-pub record HasWritten {N : Type 0} (writes : N → ℕ → List ℕ → Bool → N → Type 0) (content : N → List ℕ) (planned : List Write) (old : N)
-    (ok : Bool) (new : N) : Type 0 where
+-- These writes were made behind at most 37 reads, which changed no byte of the memory: all of them, or until one failed.
+pub record HasWritten {N : Type 0} (reads : N → Bool → N → Type 0) (writes : N → ℕ → List ℕ → Bool → N → Type 0) (content : N → List ℕ)
+    (planned : List Write) (old : N) (ok : Bool) (new : N) : Type 0 where
   pub read : N
+  pub behind : AreRead reads 37 old true read
   pub unchanged : content read ≡ content old
   pub made : AreMade writes planned read ok new

@@ -101,9 +101,11 @@ impl<N: Nv + Drop> Store<N> {
         ensures image { IsTrue N.tells → IfErr result (λ e. IsImageFault e.fault → image_fault (N.content nv) ≡ Some e.fault) }
         ensures left { IsTrue N.tells → IfErr result (λ e. FindsSame (N.content nv) (N.content e.nv)) }
         ensures state { IsTrue N.tells → IfOk result (λ s. s.journal.state ≡ ready_state (N.content nv)) }
-        ensures made { IsTrue N.tells → IfOk result (λ s. HasWritten N.writes N.content (ready_writes (N.content nv)) nv true s.journal.nv) }
-        ensures torn { IsTrue N.tells → IfErr result (λ e. e.fault ≡ JournalFault.NvFault → (N.content e.nv ≡ N.content nv)
-            ⊎ HasWritten N.writes N.content (ready_writes (N.content nv)) nv false e.nv) }
+        ensures made { IsTrue N.tells
+            → IfOk result (λ s. HasWritten N.reads N.writes N.content (ready_writes (N.content nv)) nv true s.journal.nv) }
+        ensures torn { IsTrue N.tells → IfErr result (λ e. e.fault ≡ JournalFault.NvFault
+            → (AreRead N.reads 37 nv false e.nv × (N.content e.nv ≡ N.content nv))
+            ⊎ HasWritten N.reads N.writes N.content (ready_writes (N.content nv)) nv false e.nv) }
     {
         let mut scan = match Scan::open(nv) {
             Ok(scan) => scan,

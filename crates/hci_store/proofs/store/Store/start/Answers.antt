@@ -1,4 +1,7 @@
-use Rattle.std.proofs.Common.{◌≡◌, true, false, refl, inr, sym, ap, ◌∙◌, subst, fold, arith, Err}
+use Rattle.std.proofs.Common.{◌≡◌, true, false, refl, inl, inr, sym, ap, ◌∙◌, subst, fold, arith, Err}
+use Rattle.std.specs.Prelude.{Result, Ok}
+use Rattle.nv_journal.specs.declared.JournalFault.{JournalFault}
+use Rattle.nv_journal.specs.declared.JournalFault.TheVariants.{NvFault}
 use Rattle.journal_laws.specs.Journal.{records, count_of}
 use Rattle.hci_tables.specs.Tables.{no_tables, close}
 use Rattle.hci_store.specs.Image.{applied, tables_of, are_commands}
@@ -7,7 +10,7 @@ use Rattle.hci_store.proofs.LeftBehind.{same_content, keeps_same, format_same, r
 use Rattle.hci_store.proofs.Applying.{sound_has_no_fault}
 use Rattle.hci_store.proofs.Closing.{close-close}
 use Rattle.hci_store.proofs.Recorded.{recordable-close}
-use Rattle.hci_store.proofs.Refusing.{heads_refused, records_refused, rose_of, image_of, memory_is_no_image, start_is_no_image}
+use Rattle.hci_store.proofs.Refusing.{heads_refused, records_refused, rose_of, image_of, unread_of, memory_is_no_image, start_is_no_image}
 use Rattle.journal_laws.specs.Writes.{AreMade}
 use Rattle.journal_laws.specs.Operations.{start_writes, started_state}
 use Rattle.hci_store.specs.Starting.{migration_writes}
@@ -16,6 +19,13 @@ use Rattle.hci_store.proofs.Starting.{counted, spent, unspent, not_written, read
 use Rattle.nv_journal.specs.Kept.{Says}
 use Rattle.nv_journal.proofs.Refusing.{not_of_memory, read_all}
 use Rattle.hci_store.proofs.store.Store.start.Goals as goal
+
+-- what went through isn't refused
+abbrev went : Unit {0} → Result (Unit {0}) JournalFault
+went x = Ok x
+
+not_refused : (x : Unit {0}) → went x ≡ Err NvFault → ⊥
+not_refused x is = cc
 
 pub invariant_of-ready : goal.invariant_of-ready
 invariant_of-ready g c =
@@ -164,6 +174,7 @@ returns-in-Ok-ready-clause-made g c tells =
     let last = c.in-Ok-ready.store.journal.nv in
     record {
       read = scan.nv;
+      behind = read_all g.N.Nv.reads c.args.nv scan (passed.read c.args.nv opened.read (not_refused tt));
       unchanged = same;
       made = subst (λ l. AreMade g.N.Nv.writes l scan.nv true last)
           (ready_written (g.N.Nv.content c.args.nv) scan.state j.state says made.state.0 c.close.new.self tables)
@@ -184,6 +195,7 @@ returns-in-Err-ready-clause-torn g c tells = λ memory.
     let last = c.in-Err-ready.refused.nv in
     inr (record {
       read = scan.nv;
+      behind = read_all g.N.Nv.reads c.args.nv scan (passed.read c.args.nv opened.read (not_refused tt));
       unchanged = same;
       made = subst (λ l. AreMade g.N.Nv.writes l scan.nv false last)
           (ready_written (g.N.Nv.content c.args.nv) scan.state j.state says made.state.0 c.close.new.self tables)
@@ -204,6 +216,7 @@ returns-in-Err-start-clause-torn g c tells = λ memory.
     let later = migration_writes (started_state scan.state) c.close.new.self in
     inr (record {
       read = scan.nv;
+      behind = read_all g.N.Nv.reads c.args.nv scan (passed.read c.args.nv opened.read (not_refused tt));
       unchanged = same;
       made = subst (λ l. AreMade g.N.Nv.writes l scan.nv false last)
           (ready_written (g.N.Nv.content c.args.nv) scan.state (started_state scan.state) says refl c.close.new.self tables)
@@ -217,3 +230,16 @@ returns-in-Ok-ready-clause-sound g c tells =
     let opened = c.in-Ok.ensures in
     let says = subst (λ l. Says l scan.state) (passed.kept tells ∙ opened.kept tells) (c.in-Ok-start.ensures.said tells) in
     sound_has_no_fault (g.N.Nv.content c.args.nv) (ap (λ l. are_commands (records l)) (sym (opened.kept tells)) ∙ passed.commands tells) says.sound
+
+pub returns-in-Err-clause-torn : goal.returns-in-Err-clause-torn
+returns-in-Err-clause-torn g c tells = λ memory.
+    let opened = c.in-Err.ensures in
+    inl (unread_of g.N.Nv.reads g.N.Nv.faults g.N.Nv.tells g.N.Nv.content c.args.nv c.in-Err.refused.nv c.in-Err.refused.fault
+    (heads_refused g.N.Nv.reads g.N.Nv.faults g.N.Nv.tells g.N.Nv.content c.args.nv c.in-Err.refused.nv c.in-Err.refused.fault opened.refused opened.unknown)
+    memory tells)
+
+pub returns-in-Err-apply_all-clause-torn : goal.returns-in-Err-apply_all-clause-torn
+returns-in-Err-apply_all-clause-torn g c tells = λ memory.
+    let opened = c.in-Ok.ensures in
+    let passed = c.in-Err-apply_all.ensures in
+    rw c.into_nv.ensures (inl (passed.unread c.args.nv opened.read (ap Err memory), passed.kept tells ∙ opened.kept tells))
