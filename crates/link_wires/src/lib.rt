@@ -10,4 +10,4 @@ mod wire;
 pub use damage::{Verdict, beyond, verdict_on};
 pub use finding::{Damaged, Misread, damaged_first};
 pub use putting::{lose_first, put_frame};
-pub use wire::{Flying, empty_wire, grow_older, put_last};
+pub use wire::{Flying, empty_wire, grow_older, put_last, taken};

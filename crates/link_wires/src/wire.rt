@@ -1,8 +1,9 @@
 //! The frames on the way to an end.
-ghost use Rattle.std.specs.Prelude.{◌≡◌, ℕ, ◌+◌, ◌<◌, ◌≤◌, ◌^◌, [], ◌∷◌, ◌++◌, List, OnOk, OnSome, IfOk, IfSome, IfNone, Ok, IsTrue, ◌↔◌};
+ghost use Rattle.std.specs.Prelude.{◌≡◌, ℕ, ◌+◌, ◌<◌, ◌≤◌, ◌^◌, [], ◌∷◌, ◌++◌, List, length, OnOk, OnSome, IfOk, IfSome, IfNone, Ok, IsTrue, ◌↔◌};
 ghost use Rattle.swp_base.specs.declared.control_frames.Control.{Control as Frame};
 ghost use Rattle.swp_lpdu.specs.Controls.{lpdu_of, control_of};
 ghost use Rattle.link_laws.specs.sessions.Sessions.{OnWire, is_rset, aged_wire, fits};
+ghost use Rattle.history.specs.Follows.{taken_of};
 ghost use Rattle.link_entries.specs.entries.Entries.{aged_entries, pushed_out, far};
 ghost use Rattle.link_wires.specs.Notes.{side_of};
 ghost use Rattle.link_wires.specs.Wires.{WireStandsFor, IsMade, kept_of};
@@ -111,4 +112,14 @@ pub fn grow_older(
         age_first(to, wire, entries)?;
     }
     Ok(())
+}
+
+/// How many frames a line takes of so many on a wire: that many, or all.
+pub fn taken(count: Option<u8>, on_wire: usize) -> usize
+    ensures { (wire : List OnWire) → length wire ≡ on_wire → result ≡ taken_of count wire }
+{
+    match count {
+        None => on_wire,
+        Some(most) => usize::from(most).min(on_wire),
+    }
 }

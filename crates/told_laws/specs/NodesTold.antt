@@ -1,16 +1,11 @@
 -- What is told of a history of a world of nodes.
-use Rattle.std.specs.Prelude.{List, [], ◌∷◌}
+use Rattle.std.specs.Prelude.{List, ◌∷◌}
 use Rattle.std.specs.List.{flat_map}
 use Rattle.trace_model.specs.declared.entry.Entry.{Entry}
-use Rattle.trace_model.specs.declared.entry.Entry.TheVariants.{Head, Echo, Tables}
-use Rattle.node_machine.specs.world.Lines.{NotedBelow, noted_below}
-use Rattle.node_machine.specs.world.Lines.NotedBelow.{Entries, TablesOf}
+use Rattle.trace_model.specs.declared.entry.Entry.TheVariants.{Head, Echo}
+use Rattle.node_machine.specs.world.Lines.{noted_below}
 use Rattle.node_machine.specs.world.NodeHistories.{LineStep, NodeHistory}
-
--- what is noted below a line: the entries of its events, its refusal, or the tables that it told
-abbrev pub entries_below : NotedBelow → List Entry
-entries_below (Entries entries) = entries
-entries_below (TablesOf node tables) = Tables node tables ∷ []
+use Rattle.lines_told.specs.Below.{entries_below}
 
 -- a line, and what is noted below it
 abbrev pub line_told : LineStep → List Entry

@@ -29,7 +29,8 @@ use Rattle.node_laws.proofs.kept.Kept.{all_begin}
 use Rattle.answer_laws.specs.schedules.Ranges.{IsNodeLineOf, AreNodeLinesOf}
 use Rattle.answer_laws.proofs.schedules.Ranges.{hosts_are, sent_by_hosts}
 use Rattle.answer_laws.proofs.schedules.Few.{are_few}
-use Rattle.told_laws.specs.NodesTold.{entries_below, line_told, nodes_told}
+use Rattle.lines_told.specs.Below.{entries_below}
+use Rattle.told_laws.specs.NodesTold.{line_told, nodes_told}
 use Rattle.told_laws.proofs.Lines.{each_all, IfCause}
 use Rattle.told_laws.proofs.Coming.{back_each}
 use Rattle.told_laws.proofs.nodes.Ranges.{IsIn, all_in_more}
