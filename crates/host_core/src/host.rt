@@ -32,14 +32,15 @@ impl<N: Nv + Drop> Model for Host<N> {
 
 impl<N: Nv + Drop> Host<N> {
     ghost use Rattle.std.specs.Prelude.{◌≡◌, ◌≤◌, ◌==◌, ◌&&◌, List, map, [], ◌∷◌, length, is_some, None, Some, IfOk, IfErr, IfSome, OnOk, OnErr, IsTrue};
-    ghost use Rattle.std.specs.Prelude.{MatchResult, true};
+    ghost use Rattle.std.specs.Prelude.{MatchResult, Ok, true};
     ghost use Rattle.swp_base.specs.Outside.{Rose};
     ghost use Rattle.swp_base.specs.declared.link_terms.Role.TheVariants.{Uicc};
     ghost use Rattle.trace_model.specs.declared.entry.Entry.{Entry as Noted};
     ghost use Rattle.hci_store.specs.Image.{image_fault};
     ghost use Rattle.hci_store.specs.Starting.{ready_writes, HasWritten};
     ghost use Rattle.hcp_packet.specs.Packets.{IsSendable};
-    ghost use Rattle.link_machine.specs.Machine.{lpdu_input, give_refusal};
+    ghost use Rattle.swp_lpdu.specs.Controls.{lpdu_of, control_of};
+    ghost use Rattle.link_machine.specs.Machine.{lpdu_input, give_refusal, next_frame};
     ghost use Rattle.link_machine.specs.Machine.LinkInput.{Reset, Start, Stop};
     ghost use Rattle.node_machine.specs.Parts.{Core, Port, Work};
     ghost use Rattle.node_machine.specs.Carrying.{port_at, with_port};
@@ -52,7 +53,7 @@ impl<N: Nv + Drop> Host<N> {
     ghost use Rattle.node_ends.specs.Making.{new_port};
     ghost use Rattle.node_core.specs.Booting.{found_in_memory, IsBootRefused};
     ghost use Rattle.node_core.specs.Bringing.{Brings};
-    ghost use Rattle.node_core.specs.Giving.{refused_as, TellsLength, IsAsked, MayStepAsUicc};
+    ghost use Rattle.node_core.specs.Giving.{refused_as, TellsLength, IsAsked};
     ghost use Rattle.node_core.specs.Running.{RunsAs, BeginsStep, HasStepped, MayStep, ran_so, one_more_error, core_kept, reset_refusal_at};
 
     /// A host with this number, 01 to 07, boots from a memory of 65,536 bytes, with the link that has its number. It takes all its memory
@@ -72,8 +73,9 @@ impl<N: Nv + Drop> Host<N> {
         ensures found { IsTrue N.tells → IfOk result (λ h. core_kept h ≡ (found_in_memory host (host ∷ []) (N.content nv)).core) }
         ensures image { IsTrue N.tells → OnOk result (image_fault (N.content nv) ≡ None) }
         ensures made { IsTrue N.tells
-            → IfOk result (λ h. HasWritten N.writes N.content (ready_writes (N.content nv)) nv true h.store.journal.nv) }
-        ensures refused { IfErr result (λ e. IsBootRefused N.writes N.faults N.tells N.content nv e.nv e.fault) }
+            → IfOk result (λ h. HasWritten N.reads N.writes N.content (ready_writes (N.content nv)) nv true h.store.journal.nv) }
+        ensures count { IfOk result (λ h. N.faults nv ≤ N.faults h.store.journal.nv) }
+        ensures refused { IfErr result (λ e. IsBootRefused N.reads N.writes N.faults N.tells N.content nv e.nv e.fault) }
     {
         let Ok(buffer) = vec![in alloc; 0; MESSAGE] else {
             return Err(BootRefused {
@@ -136,10 +138,14 @@ impl<N: Nv + Drop> Host<N> {
             (λ done. reset_refusal_at (port_at ports self.old.number) ≡ None)
             (λ why. reset_refusal_at (port_at ports self.old.number) ≡ Some why) }
         ensures stepped { OnOk result ((start : List Noted) (w : Work) → BeginsStep self.old (W.noted watch.old) (W.is_short watch.old) start w
+            → Brings N.writes self.old.store.journal.nv self.new.store.journal.nv
+            (HasStepped self.new (W.noted watch.new) (W.is_short watch.new) start) (steps (AtEnd self.old.number (Reset window))) w) }
+        ensures quietly { OnOk result ((start : List Noted) (w : Work) → BeginsStep self.old (W.noted watch.old) (W.is_short watch.old) start w
             → HasStepped self.new (W.noted watch.new) (W.is_short watch.new) start (steps (AtEnd self.old.number (Reset window)) w)) }
         ensures unchanged { OnErr result ((core : Core) (ports : List Port) → RunsAs self.old core ports → RunsAs self.new core ports) }
         ensures quiet { OnErr result ((watch.new ≡ watch.old) × (self.new.store ≡ self.old.store)) }
         ensures memory { self.new.store.journal.nv ≡ self.old.store.journal.nv }
+        ensures live { IsTrue self.new.store.journal.live }
         ensures number { self.new.number ≡ self.old.number }
     {
         let host = self.node.number();
@@ -157,10 +163,14 @@ impl<N: Nv + Drop> Host<N> {
 
     /// Activation begins anew at the link, with this sync identifier. Nothing is committed. Every frame of the step before was fetched.
     pub fn activate<W: Watch>(&mut self, sync: u16, watch: &mut W)
-        requires may { MayStepAsUicc self.old }
+        requires may { MayStep self.old }
         ensures stepped { (start : List Noted) (w : Work) → BeginsStep self.old (W.noted watch.old) (W.is_short watch.old) start w
+            → Brings N.writes self.old.store.journal.nv self.new.store.journal.nv
+            (HasStepped self.new (W.noted watch.new) (W.is_short watch.new) start) (steps (AtEnd self.old.number (Start sync))) w }
+        ensures quietly { (start : List Noted) (w : Work) → BeginsStep self.old (W.noted watch.old) (W.is_short watch.old) start w
             → HasStepped self.new (W.noted watch.new) (W.is_short watch.new) start (steps (AtEnd self.old.number (Start sync)) w) }
         ensures memory { self.new.store.journal.nv ≡ self.old.store.journal.nv }
+        ensures live { IsTrue self.new.store.journal.live }
         ensures number { self.new.number ≡ self.old.number }
     {
         let host = self.node.number();
@@ -173,8 +183,12 @@ impl<N: Nv + Drop> Host<N> {
     pub fn deactivate<W: Watch>(&mut self, watch: &mut W)
         requires may { MayStep self.old }
         ensures stepped { (start : List Noted) (w : Work) → BeginsStep self.old (W.noted watch.old) (W.is_short watch.old) start w
+            → Brings N.writes self.old.store.journal.nv self.new.store.journal.nv
+            (HasStepped self.new (W.noted watch.new) (W.is_short watch.new) start) (steps (AtEnd self.old.number Stop)) w }
+        ensures quietly { (start : List Noted) (w : Work) → BeginsStep self.old (W.noted watch.old) (W.is_short watch.old) start w
             → HasStepped self.new (W.noted watch.new) (W.is_short watch.new) start (steps (AtEnd self.old.number Stop) w) }
         ensures memory { self.new.store.journal.nv ≡ self.old.store.journal.nv }
+        ensures live { IsTrue self.new.store.journal.live }
         ensures number { self.new.number ≡ self.old.number }
     {
         let host = self.node.number();
@@ -199,6 +213,8 @@ impl<N: Nv + Drop> Host<N> {
     pub fn next_out(&mut self) -> Option<Lpdu>
         requires runs { (core : Core) × (ports : List Port) × RunsAs self.old core ports }
         ensures answer { (core : Core) (ports : List Port) → RunsAs self.old core ports → result ≡ frame_at (port_at ports self.old.number) }
+        ensures read { (core : Core) (ports : List Port) (p : Port) → RunsAs self.old core ports → port_at ports self.old.number ≡ Some p
+            → IfSome (next_frame p.side) (λ c. control_of (lpdu_of c) ≡ Ok c) }
         ensures runs { (core : Core) (ports : List Port) → RunsAs self.old core ports → RunsAs self.new core (with_port self.old.number has_sent ports) }
         ensures store { self.new.store ≡ self.old.store }
         ensures number { self.new.number ≡ self.old.number }

@@ -1,6 +1,6 @@
 -- What a host does by itself leaves it running.
 use Rattle.std.proofs.Common.{◌≡◌, ◌≢◌, ℕ, Bool, true, false, not, cond, ◌&&◌, ◌≤◌, List, [], ◌∷◌, map, refl, sym, ap, ◌∙◌, subst, arith, append-nil}
-use Rattle.std.specs.Prelude.{Option, Some, None, is_some, option_map, ◌==◌}
+use Rattle.std.specs.Prelude.{Option, Some, None, IfSome, is_some, option_map, ◌==◌}
 use Rattle.std.proofs.lemmas.Bool.{true≢false, and_parts, and_right}
 use Rattle.trace_model.specs.declared.entry.Entry.{Entry}
 use Rattle.trace_model.specs.declared.entry.NoCause.{NoCause}
@@ -24,14 +24,16 @@ use Rattle.node_core.specs.Deeds.{IsOnTask}
 use Rattle.node_core.specs.Turning.{IsNodeInOrder}
 use Rattle.node_core.specs.Running.{RunsAs, BeginsStep, HasStepped, IsAllSent, between}
 use Rattle.link_entries.specs.messages.Links.{IsUicc}
-use Rattle.node_core.specs.Giving.{IsAsked, IsUiccAt}
+use Rattle.node_core.specs.Giving.{IsAsked}
 use Rattle.node_core.proofs.Quiet.{done_quiet}
-use Rattle.node_core.proofs.Elsewhere.{same_hosts}
+use Rattle.node_core.proofs.Elsewhere.{same_links}
+use Rattle.node_core.proofs.EndKinds.{same_kinds}
 use Rattle.node_core.proofs.Lasting.{OfAll, Rests, rests_stays, all_done_so}
 use Rattle.node_core.proofs.Between.{ends_back, runs_rest, runs_so, core_with, kept_at, at_rest, kept_alike, kept_twice, kept_none_ended}
 use Rattle.node_core.proofs.Ordering.{in_order_at, with_task}
 use Rattle.node_core.proofs.Deciders.{only, found_one}
 use Rattle.node_core.proofs.Sendings.{given_order, given_other, given_both}
+use Rattle.node_core.proofs.Sendables.{found_all}
 
 -- ## As it begins
 
@@ -83,7 +85,7 @@ one_order : (h : ℕ) (d : Deed) (w : Work) → (done h d w).core.node ≡ w.cor
     → IsNodeInOrder (done h d w).core (done h d w).ports
 one_order h d w node task order =
     with_task w.core (done h d w).core (done h d w).ports node task
-    (in_order_at w.core w.ports (done h d w).ports (same_hosts (done h d w).ports w.ports (done_quiet h d w)) order)
+    (in_order_at w.core w.ports (done h d w).ports (same_kinds (done h d w).ports w.ports (same_links (done h d w).ports w.ports (done_quiet h d w))) order)
 
 -- a host that sends a message stays in order
 pub sending_order : (h pipe : ℕ) (message : List ℕ) (w : Work)
@@ -108,10 +110,11 @@ beginning_order h identity pipes w live some order =
     let i : Init = record { identity = identity; pipes = pipes; answered = 0 } in
     let first : Work = done h (GoesOn i) w in
     let P : Work → Type 0 = λ v. IsNodeInOrder v.core v.ports in
-    let ports = in_order_at w.core w.ports (done h (Orders (3 ∷ [])) first).ports
-    (same_hosts (done h (Orders (3 ∷ [])) first).ports w.ports (done_quiet h (Orders (3 ∷ [])) first)) order in
+    let second : Work = done h (Orders (3 ∷ [])) first in
+    let ports = in_order_at w.core w.ports second.ports
+    (same_kinds second.ports w.ports (same_links second.ports w.ports (done_quiet h (Orders (3 ∷ [])) first))) order in
     subst P (given_both h (GoesOn i) (Orders (3 ∷ [])) w live)
-    (with_task w.core (done h (Orders (3 ∷ [])) first).core (done h (Orders (3 ∷ [])) first).ports refl (refl, λ none. absurd (some none)) ports)
+    (with_task w.core second.core second.ports refl (refl, λ none. absurd (some none)) ports)
 
 -- ## As it ends
 
@@ -142,12 +145,14 @@ uicc_starts Bare value is = absurd is
 uicc_starts (Clf s) value is = absurd is
 uicc_starts (Uicc s) value is = tt
 
--- the end of a UICC is activated with any identifier
-pub uicc_may_start : (value host : ℕ) (ports : List Port) → IsUiccAt (port_at ports host) → MayStartAt value (port_at (map between ports) host)
-uicc_may_start value host ports is =
-    let P : Option Port → Type 0 = λ o. MayStartAt value o in subst P (sym (kept_at host ports)) (by (port_at ports host) is)
+-- the end of a host is activated with any identifier
+pub uicc_may_start : (value host : ℕ) (core : Core) (ports : List Port) → core.node ≢ 0 → IsNodeInOrder core ports
+    → MayStartAt value (port_at (map between ports) host)
+uicc_may_start value host core ports some order =
+    let P : Option Port → Type 0 = λ o. MayStartAt value o in
+    subst P (sym (kept_at host ports)) (by (port_at ports host) (found_all (λ (p : Port). IsUicc p.side.role) ports host (order.roles.uicc some)))
   where
-    by : (o : Option Port) → IsUiccAt o → MayStartAt value (option_map between o)
+    by : (o : Option Port) → IfSome o (λ (p : Port). IsUicc p.side.role) → MayStartAt value (option_map between o)
     by None is = tt
     by (Some p) is = uicc_starts p.side.role value is
 

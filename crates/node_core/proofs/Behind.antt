@@ -1,7 +1,6 @@
 -- A step of a node that runs: what it may begin with, and that the node runs behind it.
-use Rattle.std.proofs.Common.{◌≡◌, ℕ, ◌+◌, ◌≤◌, Bool, true, false, List, [], ◌∷◌, map, length, refl, sym, ap, ◌∙◌, subst, arith}
-use Rattle.std.specs.Prelude.{Option, Some, None, ◌==◌, nat_le, IsTrue}
-use Rattle.std.specs.List.{AllByRecursion}
+use Rattle.std.proofs.Common.{◌≡◌, ℕ, ◌≤◌, Bool, true, false, List, [], ◌∷◌, map, refl, sym, ap, ◌∙◌, subst, arith}
+use Rattle.std.specs.Prelude.{Option, Some, None, ◌==◌}
 use Rattle.std.proofs.lemmas.Bool.Decides.{nat_tests}
 use Rattle.swp_act.specs.declared.ActEvent.TheVariants.{Start as ActStart}
 use Rattle.trace_model.specs.declared.entry.Entry.{Entry}
@@ -17,8 +16,9 @@ use Rattle.node_core.specs.declared.node.Node.{Node}
 use Rattle.node_core.specs.Nodes.{IsSoundNode, IsInStep}
 use Rattle.node_core.specs.Bringing.{Brings, WereMade, Foretells, plan_left}
 use Rattle.node_core.specs.Turning.{IsNodeInOrder, AreAtMostDue, AreYoung}
-use Rattle.node_core.specs.Running.{RunsAs, BeginsStep, HasStepped, AreInTime, AreHeldWhileOneWaits, IsAllSent, between}
-use Rattle.node_core.proofs.Elsewhere.{host_at, hosts_differ}
+use Rattle.node_core.specs.Running.{BeginsStep, HasStepped, AreInTime, AreHeldWhileOneWaits, between}
+use Rattle.node_core.proofs.Elsewhere.{hosts_differ}
+use Rattle.node_core.proofs.EndKinds.{kept_kinds}
 use Rattle.node_core.proofs.Ordering.{in_order_at}
 use Rattle.node_core.proofs.Staying.{steps_fine}
 use Rattle.node_core.proofs.Lasting.{OfAll, Ready, Rests}
@@ -28,11 +28,7 @@ use Rattle.node_core.proofs.Between.{begins_in_step, has_stepped, runs_ready}
 -- ## What a step asks for
 
 pub kept_order : (core : Core) (ports : List Port) → IsNodeInOrder core ports → IsNodeInOrder core (map between ports)
-kept_order core ports order = in_order_at core ports (map between ports) (go ports) order
-  where
-    go : (ps : List Port) → map host_at (map between ps) ≡ map host_at ps
-    go [] = refl
-    go (p ∷ ps) = ap (λ ns. p.desk.host ∷ ns) (go ps)
+kept_order core ports order = in_order_at core ports (map between ports) (kept_kinds ports) order
 
 pub kept_few : (n : ℕ) (ports : List Port) → AreAtMostDue n ports → AreAtMostDue n (map between ports)
 kept_few n [] few = tt

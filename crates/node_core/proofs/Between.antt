@@ -10,9 +10,10 @@ use Rattle.trace_model.specs.declared.entry.Entry.{Entry}
 use Rattle.hci_store.specs.Stored.{Stored}
 use Rattle.shdlc_core.specs.declared.answers.Due.{Due}
 use Rattle.shdlc_core.specs.Machine.{all_frames, fetched, fragment_due, Fragment}
-use Rattle.link_machine.specs.Machine.{LinkEnd as Machine, LinkInput, Role, ActDue, among, next_frame, frame_fetched, frames_out, sent_all, nearer}
-use Rattle.link_machine.specs.Laws.{fetches, after_fetches, most_fetches, end_after}
+use Rattle.link_machine.specs.Machine.{LinkEnd as Machine, ActDue, among, next_frame, frame_fetched, frames_out, sent_all, nearer}
+use Rattle.link_machine.specs.Laws.{fetches, after_fetches, most_fetches}
 use Rattle.link_machine.proofs.Places.{fetched_all, left_all}
+use Rattle.link_laws.proofs.places.Idle.{left, idle_after}
 use Rattle.node_machine.specs.Parts.{Core, Port, Work, Desk as DeskOf}
 use Rattle.node_deeds.specs.declared.host.Tasks.{Tasks}
 use Rattle.node_deeds.specs.Hosts.{init_running}
@@ -28,15 +29,15 @@ use Rattle.node_ends.proofs.Dues.{due_count}
 use Rattle.node_ends.proofs.Sending.{sent_same}
 use Rattle.node_core.specs.declared.node.Node.{Node}
 use Rattle.node_core.specs.Nodes.{CoreStandsFor, IsSoundNode, IsInStep}
-use Rattle.node_core.specs.Noting.{unnumbered}
-use Rattle.node_core.specs.Turning.{IsNodeInOrder, AreAtMostDue, AreYoung}
-use Rattle.node_core.specs.Running.{RunsAs, BeginsStep, HasStepped, MayStep, HasNoneEnded}
+use Rattle.node_core.specs.Turning.{IsNodeInOrder, AreAtMostDue}
+use Rattle.node_core.specs.Running.{RunsAs, BeginsStep, HasStepped, HasNoneEnded}
 use Rattle.node_core.specs.Running.{IsAllSent, AreInTime, AreHeldWhileOneWaits, SendsOneByOne, between, one_more_error}
-use Rattle.node_core.proofs.Elsewhere.{host_at, port_hosts}
+use Rattle.node_core.proofs.Elsewhere.{host_at}
+use Rattle.node_core.proofs.EndKinds.{kind_at, port_kinds, sent_kind, kept_kinds}
 use Rattle.node_core.proofs.Ordering.{in_order_at}
 use Rattle.node_core.proofs.Ticking.{at_is_with, found_there}
 use Rattle.node_core.proofs.Lateness.{reached_each}
-use Rattle.node_core.proofs.Lasting.{Of, OfAll, Ready, Rests, each_so, port_so}
+use Rattle.node_core.proofs.Lasting.{Of, OfAll, Ready, Rests, port_so}
 
 -- ## Ends
 
@@ -174,11 +175,16 @@ never_none : (xs : List Control) (y : Control) (ys : List Control) → xs ++ y �
 never_none [] y ys is = cc
 never_none (x ∷ xs) y ys is = cc
 
-one_by_one : (e : Machine) → IsReached e → length e.shdlc.due ≤ 12 → SendsOneByOne e
-one_by_one e reached few =
+-- the frames that are fetched one after another are all that are due, and behind them all are sent
+record GoOut (e : Machine) : Type 0 where
+  frames : fetches (most_fetches e) e ≡ frames_out e
+  rest : after_fetches (most_fetches e) e ≡ sent_all e
+
+go_out : (e : Machine) → IsReached e → length e.shdlc.due ≤ 12 → GoOut e
+go_out e reached few =
     let F : Machine → Type 0 = λ m. length m.shdlc.due ≤ 12 in
     let few_there = subst F reached.is few in
-    let S : Machine → Type 0 = λ m. SendsOneByOne m in
+    let S : Machine → Type 0 = λ m. GoOut m in
     subst S (sym reached.is) (record {
       frames = fetched_all reached.role reached.inputs few_there;
       rest = left_all reached.role reached.inputs few_there;
@@ -189,7 +195,7 @@ pub none_due : (e : Machine) → IsReached e → length e.shdlc.due ≤ 12 → n
 none_due e reached few none = by e.acts refl e.shdlc.due refl
   where
     out : among 0 e.acts (all_frames e.shdlc) ≡ []
-    out = sym (one_by_one e reached few).frames ∙ no_frames (most_fetches e) e none
+    out = sym (go_out e reached few).frames ∙ no_frames (most_fetches e) e none
 
     by : (acts : List ActDue) → e.acts ≡ acts → (due : List Due) → e.shdlc.due ≡ due → due_count e ≡ 0
     by [] p [] q = rw (p, q) refl
@@ -201,21 +207,45 @@ kept_reached : (ports : List Port) → AllByRecursion (λ (p : Port). IsReached 
 kept_reached [] all = tt
 kept_reached (p ∷ ports) all = (all.0, kept_reached ports all.1)
 
-runs_reached : {N : Type 0} {n : Node N} {core : Core} {ports : List Port} → RunsAs n core ports → AllByRecursion (λ (p : Port). IsReached p.side) ports
+pub runs_reached : {N : Type 0} {n : Node N} {core : Core} {ports : List Port} → RunsAs n core ports → AllByRecursion (λ (p : Port). IsReached p.side) ports
 runs_reached {n = n} {ports = ports} r =
     kept_reached ports (reached_each n.ends.pool n.ends.seats.items (map between ports) r.ends.each)
 
 few_due : (p : Port) → length p.side.acts + length p.side.shdlc.due ≤ 5 → length p.side.shdlc.due ≤ 12
 few_due p few = omega (arith, few)
 
+-- at most nine frames wait at an end of a node that runs
+few_of_seat : {pool : PoolState} {s : Seat} (p : Port) → SeatStandsFor pool s (between p) → length p.side.acts + length p.side.shdlc.due ≤ 5
+    → length p.side.acts + left p.side.shdlc ≤ 9
+few_of_seat p k few =
+    let link = k.holds.stands.halfway.link in
+    let next = link.kept.sender.next in
+    let narrow = link.narrow.session in
+    omega (arith, few, next, narrow)
+
+pub few_wait : {N : Type 0} {n : Node N} {core : Core} {ports : List Port} → RunsAs n core ports
+    → AllByRecursion (λ (p : Port). length p.side.acts + left p.side.shdlc ≤ 9) ports
+few_wait {n = n} r = go n.ends.seats.items _ r.ends.each r.few
+  where
+    go : (seats : List Seat) (ports : List Port) → SeatsStandFor n.ends.pool seats (map between ports) → AreAtMostDue 5 ports
+        → AllByRecursion (λ (p : Port). length p.side.acts + left p.side.shdlc ≤ 9) ports
+    go seats [] g few = tt
+    go [] (p ∷ ports) g few = absurd g
+    go (s ∷ seats) (p ∷ ports) g few = (few_of_seat p g.0 few.0, go seats ports g.1 few.1)
+
+one_by_one : (e : Machine) → IsReached e → length e.acts + length e.shdlc.due ≤ 5 → length e.acts + left e.shdlc ≤ 9 → SendsOneByOne e
+one_by_one e reached few wait =
+    let goes = go_out e reached (omega (arith, few)) in
+    record { frames = goes.frames; rest = goes.rest; none = idle_after 12 e.shdlc (omega (arith, wait)); few = omega (arith, few) }
+
 pub all_one_by_one : {N : Type 0} {n : Node N} {core : Core} {ports : List Port} → RunsAs n core ports
     → AllByRecursion (λ (p : Port). SendsOneByOne p.side) ports
-all_one_by_one r = go _ (runs_reached r) r.few
+all_one_by_one r = go _ (runs_reached r) r.few (few_wait r)
   where
     go : (ports : List Port) → AllByRecursion (λ (p : Port). IsReached p.side) ports → AreAtMostDue 5 ports
-        → AllByRecursion (λ (p : Port). SendsOneByOne p.side) ports
-    go [] reached few = tt
-    go (p ∷ ports) reached few = (one_by_one p.side reached.0 (few_due p few.0), go ports reached.1 few.1)
+        → AllByRecursion (λ (p : Port). length p.side.acts + left p.side.shdlc ≤ 9) ports → AllByRecursion (λ (p : Port). SendsOneByOne p.side) ports
+    go [] reached few wait = tt
+    go (p ∷ ports) reached few wait = (one_by_one p.side reached.0 few.0 wait.0, go ports reached.1 few.1 wait.1)
 
 -- no control frame waits as a step begins
 pub runs_ready : {N : Type 0} {n : Node N} {core : Core} {ports : List Port} → RunsAs n core ports → IsAllSent ports → OfAll (Ready 0) ports
@@ -335,16 +365,16 @@ error_seen k p is = is
 
 -- one end is changed, which still rests
 pub runs_with : {N : Type 0} {n n2 : Node N} {core : Core} {ports : List Port} (h : ℕ) (f : Port → Port) → RunsAs n core ports
-    → ((p : Port) → (f p).desk.host ≡ p.desk.host) → ((p : Port) → between (f p) ≡ f (between p)) → ((p : Port) → Of (Rests 4) p → Of (Rests 4) (f p))
+    → ((p : Port) → kind_at (f p) ≡ kind_at p) → ((p : Port) → between (f p) ≡ f (between p)) → ((p : Port) → Of (Rests 4) p → Of (Rests 4) (f p))
     → EndsStandFor n2.ends (with_port h f (map between ports)) → n2.store ≡ n.store → n2.number ≡ n.number → n2.tasks ≡ n.tasks
     → RunsAs n2 core (with_port h f ports)
-runs_with {N} {n} {n2} {core} {ports} h f r host same rests ends store number tasks =
+runs_with {N} {n} {n2} {core} {ports} h f r kind same rests ends store number tasks =
     let E : List Port → Type 0 = λ qs. EndsStandFor n2.ends qs in
     let L : Stored N → Type 0 = λ s. IsTrue s.journal.live in
     let kept = subst E (sym (kept_with h f same ports)) ends in
     runs_so 4 (with_port h f ports) (omega arith) (sound_with store r.sound ends) (subst L (sym store) r.live) (r.node ∙ sym number)
     (core_with store tasks r.stands) kept
-    (in_order_at core ports (with_port h f ports) (port_hosts h f host ports) r.order)
+    (in_order_at core ports (with_port h f ports) (port_kinds h f kind ports) r.order)
     (port_so (Rests 4) h f rests ports (runs_rest ports r.few r.in_time r.held))
 
 pub refused_runs : {N : Type 0} {n n2 : Node N} {core : Core} {ports : List Port} (h : ℕ) → RunsAs n core ports
@@ -355,7 +385,7 @@ refused_runs h r ends store number tasks = runs_with h one_more_error r (λ p. r
 pub sent_runs : {N : Type 0} {n n2 : Node N} {core : Core} {ports : List Port} (h : ℕ) → RunsAs n core ports
     → EndsStandFor n2.ends (with_port h has_sent (map between ports)) → n2.store ≡ n.store → n2.number ≡ n.number → n2.tasks ≡ n.tasks
     → RunsAs n2 core (with_port h has_sent ports)
-sent_runs h r ends store number tasks = runs_with h has_sent r (λ p. refl) (λ p. refl) (sent_rests 4) ends store number tasks
+sent_runs h r ends store number tasks = runs_with h has_sent r sent_kind (λ p. refl) (sent_rests 4) ends store number tasks
 
 -- ## The end with a host, by its place
 
@@ -417,10 +447,6 @@ kept_facts F to from (p ∷ a) (q ∷ b) same all =
     let there : map between a ≡ map between b = cc in
     (from q (subst F here (to p all.0)), kept_facts F to from a b there all.1)
 
-kept_hosts : (ports : List Port) → map host_at (map between ports) ≡ map host_at ports
-kept_hosts [] = refl
-kept_hosts (p ∷ ports) = ap (λ ns. p.desk.host ∷ ns) (kept_hosts ports)
-
 pub kept_alike : {N : Type 0} {n : Node N} {core : Core} (a b : List Port) → map between a ≡ map between b → RunsAs n core a → RunsAs n core b
 kept_alike {n = n} {core = core} a b same r =
     let E : List Port → Type 0 = λ qs. EndsStandFor n.ends qs in
@@ -430,7 +456,7 @@ kept_alike {n = n} {core = core} a b same r =
       node = r.node;
       stands = r.stands;
       ends = subst E same r.ends;
-      order = in_order_at core a b (sym (kept_hosts b) ∙ (ap (map host_at) (sym same) ∙ kept_hosts a)) r.order;
+      order = in_order_at core a b (sym (kept_kinds b) ∙ (ap (map kind_at) (sym same) ∙ kept_kinds a)) r.order;
       few = kept_facts (λ p. length p.side.acts + length p.side.shdlc.due ≤ 5) (λ p is. is) (λ p is. is) a b same r.few;
       in_time = kept_facts (λ p. age_at (Some p) ≤ 99) (λ p is. is) (λ p is. is) a b same r.in_time;
       held = kept_facts (λ p. IsHeldWhileOneWaits (Some p)) (λ p is. is) (λ p is. is) a b same r.held;

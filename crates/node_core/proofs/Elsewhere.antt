@@ -1,10 +1,12 @@
 -- What the turns of the messages at one end leave of the other ends.
-use Rattle.std.proofs.Common.{◌≡◌, ◌≢◌, ℕ, zero, suc, ◌≤◌, Bool, true, false, List, [], ◌∷◌, map, drop, length, refl, sym, ap, ap₂, ◌∙◌, subst}
+use Rattle.std.proofs.Common.{◌≡◌, ◌≢◌, ℕ, zero, suc, ◌≤◌, Bool, true, false, not, List, [], ◌∷◌, map, drop, length, refl, sym, ap, ap₂, ◌∙◌, subst}
 use Rattle.std.specs.Prelude.{Option, Some, None, ◌==◌, option_map, slice_get, IfSome}
 use Rattle.std.specs.List.{AllByRecursion}
 use Rattle.std.specs.Option.{option_map_or}
 use Rattle.std.proofs.lemmas.Bool.{eqb-true}
 use Rattle.block_pool.specs.Pool.{PoolState}
+use Rattle.shdlc_core.specs.declared.answers.LinkState.{LinkState}
+use Rattle.shdlc_core.specs.Machine.{EndState, with_ready}
 use Rattle.link_machine.specs.Machine.{Message}
 use Rattle.link_machine.specs.Machine.Turn.{Hold}
 use Rattle.node_machine.specs.Parts.{Port, Work, Deed as DeedOf}
@@ -15,7 +17,7 @@ use Rattle.node_ends.specs.Ends.{SeatsStandFor, HaveOwnHosts, AreOfHosts, FewAre
 use Rattle.node_ends.specs.Making.{AreAllDifferent}
 use Rattle.node_ends.proofs.Changing.{host_is}
 use Rattle.node_core.specs.Turning.{AreFewDue}
-use Rattle.node_core.proofs.Quiet.{Quiet, quiet_at, handles_quiet, few_kept}
+use Rattle.node_core.proofs.Quiet.{Quiet, LinkSeen, quiet_at, link_at, handles_quiet, few_kept}
 use Rattle.node_core.proofs.Sendables.{found_all}
 
 -- ## Hosts
@@ -29,6 +31,47 @@ quiet_hosts (p ∷ ports) = ap (λ ns. p.desk.host ∷ ns) (quiet_hosts ports)
 
 pub same_hosts : (a b : List Port) → map quiet_at a ≡ map quiet_at b → map host_at a ≡ map host_at b
 same_hosts a b same = sym (quiet_hosts a) ∙ (ap (map (λ (q : Quiet). q.0)) same ∙ quiet_hosts b)
+
+quiet_links : (ports : List Port) → map (λ (q : Quiet). (q.0, q.3, q.4)) (map quiet_at ports) ≡ map link_at ports
+quiet_links [] = refl
+quiet_links (p ∷ ports) = ap (λ (ls : List LinkSeen). link_at p ∷ ls) (quiet_links ports)
+
+pub same_links : (a b : List Port) → map quiet_at a ≡ map quiet_at b → map link_at a ≡ map link_at b
+same_links a b same = sym (quiet_links a) ∙ (ap (map (λ (q : Quiet). (q.0, q.3, q.4))) same ∙ quiet_links b)
+
+link_hosts : (ports : List Port) → map (λ (l : LinkSeen). l.0) (map link_at ports) ≡ map host_at ports
+link_hosts [] = refl
+link_hosts (p ∷ ports) = ap (λ ns. p.desk.host ∷ ns) (link_hosts ports)
+
+hosts_there : (a b : List Port) → map link_at a ≡ map link_at b → map host_at a ≡ map host_at b
+hosts_there a b same = sym (link_hosts a) ∙ (ap (map (λ (l : LinkSeen). l.0)) same ∙ link_hosts b)
+
+-- a change of one end that leaves what is seen of its link
+port_links : (h : ℕ) (f : Port → Port) → ((p : Port) → link_at (f p) ≡ link_at p) → (ports : List Port)
+    → map link_at (with_port h f ports) ≡ map link_at ports
+port_links h f same [] = refl
+port_links h f same (p ∷ ports) = ap₂ (λ (l : LinkSeen) ls. l ∷ ls) (one (p.desk.host == h)) (port_links h f same ports)
+  where
+    one : (b : Bool) → link_at (changed_if b f p) ≡ link_at p
+    one true = same p
+    one false = refl
+
+held_phase : (e : EndState) (r : Bool) → (with_ready e r).phase ≡ e.phase
+held_phase e r = go e.ready r refl
+  where
+    go : (a b : Bool) → e.ready ≡ a → (with_ready e b).phase ≡ e.phase
+    go true true q = rw q refl
+    go false false q = rw q refl
+    go true false q = rw q refl
+    go false true q = by e.session.answered_rnr refl
+      where
+        by : (c : Bool) → e.session.answered_rnr ≡ c → (with_ready e true).phase ≡ e.phase
+        by true x = rw (q, x) refl
+        by false x = rw (q, x) refl
+
+-- an end that is held, or let go
+hold_link : (held : Bool) (p : Port) → link_at (after_turn (Hold held) p) ≡ link_at p
+hold_link held p = ap (λ (s : LinkState). (p.desk.host, p.side.role, s)) (held_phase p.side.shdlc (not held))
 
 pub port_hosts : (h : ℕ) (f : Port → Port) → ((p : Port) → (f p).desk.host ≡ p.desk.host) → (ports : List Port)
     → map host_at (with_port h f ports) ≡ map host_at ports
@@ -56,36 +99,36 @@ elsewhere h k f other same (p ∷ ports) = by (p.desk.host == h) (p.desk.host ==
 
 -- what the turns at the end of one host keep of the ends
 record Keeps (h : ℕ) (v w : Work) : Type 0 where
-  hosts : map host_at v.ports ≡ map host_at w.ports
+  links : map link_at v.ports ≡ map link_at w.ports
   few : (k : ℕ) → k ≢ h → FewAreDue (port_at w.ports k) → FewAreDue (port_at v.ports k)
 
 keeps_none : (h : ℕ) (w : Work) → Keeps h w w
-keeps_none h w = record { hosts = refl; few = λ k other few. few }
+keeps_none h w = record { links = refl; few = λ k other few. few }
 
 keeps_on : (h : ℕ) (u v w : Work) → Keeps h u v → Keeps h v w → Keeps h u w
-keeps_on h u v w a b = record { hosts = a.hosts ∙ b.hosts; few = λ k other few. a.few k other (b.few k other few) }
+keeps_on h u v w a b = record { links = a.links ∙ b.links; few = λ k other few. a.few k other (b.few k other few) }
 
-keeps_port : (h : ℕ) (f : Port → Port) → ((p : Port) → (f p).desk.host ≡ p.desk.host) → (v w : Work) → v.ports ≡ with_port h f w.ports → Keeps h v w
+keeps_port : (h : ℕ) (f : Port → Port) → ((p : Port) → link_at (f p) ≡ link_at p) → (v w : Work) → v.ports ≡ with_port h f w.ports → Keeps h v w
 keeps_port h f same v w is = record {
-  hosts = ap (map host_at) is ∙ port_hosts h f same w.ports;
+  links = ap (map link_at) is ∙ port_links h f same w.ports;
   few = λ k other few.
       let P : Option Port → Type 0 = λ o. FewAreDue o in
-      subst P (sym (ap (λ ports. port_at ports k) is ∙ elsewhere h k f other same w.ports)) few;
+      subst P (sym (ap (λ ports. port_at ports k) is ∙ elsewhere h k f other (λ p. ap (λ (l : LinkSeen). l.0) (same p)) w.ports)) few;
 }
 
 keeps_let : (h : ℕ) (w : Work) → Keeps h (lets_go h w) w
 keeps_let h w = by (held_at w.ports h) refl
   where
     by : (b : Bool) → held_at w.ports h ≡ b → Keeps h (lets_go h w) w
-    by true q = keeps_port h (after_turn (Hold false)) (λ p. refl) (lets_go h w) w (rw q refl)
+    by true q = keeps_port h (after_turn (Hold false)) (hold_link false) (lets_go h w) w (rw q refl)
     by false q = let P : Work → Type 0 = λ v. Keeps h v w in subst P (sym (same q)) (keeps_none h w)
       where
         same : held_at w.ports h ≡ false → lets_go h w ≡ w
         same q = rw q refl
 
-twice_hosts : (h : ℕ) (f g : Port → Port) → ((p : Port) → (f p).desk.host ≡ p.desk.host) → ((p : Port) → (g p).desk.host ≡ p.desk.host)
+twice_links : (h : ℕ) (f g : Port → Port) → ((p : Port) → link_at (f p) ≡ link_at p) → ((p : Port) → link_at (g p) ≡ link_at p)
     → (v w : Work) → v.ports ≡ with_port h f (with_port h g w.ports) → Keeps h v w
-twice_hosts h f g same other v w is =
+twice_links h f g same other v w is =
     let mid : Work = record w { ports = with_port h g w.ports } in
     keeps_on h v mid w (keeps_port h f same v mid is) (keeps_port h g other mid w refl)
 
@@ -93,15 +136,15 @@ keeps_held : (h : ℕ) (short : ℕ × ℕ) (w : Work) → Keeps h (holds_back h
 keeps_held h short w = by (option_map_or (λ (p : Port). p.desk.holds) (port_at w.ports h) false) refl
   where
     by : (b : Bool) → option_map_or (λ (p : Port). p.desk.holds) (port_at w.ports h) false ≡ b → Keeps h (holds_back h short w) w
-    by true q = keeps_port h (after_turn (Hold true)) (λ p. refl) (holds_back h short w) w (rw q refl)
-    by false q = twice_hosts h (after_turn (Hold true)) (λ p. record p { desk = record p.desk { holds = true } }) (λ p. refl) (λ p. refl)
+    by true q = keeps_port h (after_turn (Hold true)) (hold_link true) (holds_back h short w) w (rw q refl)
+    by false q = twice_links h (after_turn (Hold true)) (λ p. record p { desk = record p.desk { holds = true } }) (hold_link true) (λ p. refl)
         (holds_back h short w) w (rw q refl)
 
 keeps_handled : (h : ℕ) (m : Message) (deeds : List DeedOf) (w : Work) → Keeps h (handles h m deeds w) w
 keeps_handled h m deeds w =
     let same = handles_quiet h m deeds w in
     record {
-      hosts = same_hosts (handles h m deeds w).ports w.ports same;
+      links = same_links (handles h m deeds w).ports w.ports same;
       few = λ k other few. few_kept w.ports (handles h m deeds w).ports k (sym same) few;
     }
 
@@ -136,17 +179,20 @@ keeps_turns h (m ∷ ms) w =
         held : lack w.ports (needs h (deeds_of w.core w.ports h m)) ≡ Some short → have_turns h (m ∷ ms) w ≡ holds_back h short w
         held q = rw q refl
 
-pub let_hosts : (h : ℕ) (w : Work) → map host_at (lets_go h w).ports ≡ map host_at w.ports
-let_hosts h w = (keeps_let h w).hosts
+pub let_links : (h : ℕ) (w : Work) → map link_at (lets_go h w).ports ≡ map link_at w.ports
+let_links h w = (keeps_let h w).links
 
-pub held_hosts : (h : ℕ) (short : ℕ × ℕ) (w : Work) → map host_at (holds_back h short w).ports ≡ map host_at w.ports
-held_hosts h short w = (keeps_held h short w).hosts
+pub held_links : (h : ℕ) (short : ℕ × ℕ) (w : Work) → map link_at (holds_back h short w).ports ≡ map link_at w.ports
+held_links h short w = (keeps_held h short w).links
 
-pub handled_hosts : (h : ℕ) (m : Message) (deeds : List DeedOf) (w : Work) → map host_at (handles h m deeds w).ports ≡ map host_at w.ports
-handled_hosts h m deeds w = (keeps_handled h m deeds w).hosts
+pub handled_links : (h : ℕ) (m : Message) (deeds : List DeedOf) (w : Work) → map link_at (handles h m deeds w).ports ≡ map link_at w.ports
+handled_links h m deeds w = (keeps_handled h m deeds w).links
+
+pub turns_links : (h : ℕ) (ms : List Message) (w : Work) → map link_at (have_turns h ms w).ports ≡ map link_at w.ports
+turns_links h ms w = (keeps_turns h ms w).links
 
 pub turns_hosts : (h : ℕ) (ms : List Message) (w : Work) → map host_at (have_turns h ms w).ports ≡ map host_at w.ports
-turns_hosts h ms w = (keeps_turns h ms w).hosts
+turns_hosts h ms w = hosts_there (have_turns h ms w).ports w.ports (turns_links h ms w)
 
 pub turns_few : (h : ℕ) (ms : List Message) (w : Work) (k : ℕ) → k ≢ h → FewAreDue (port_at w.ports k)
     → FewAreDue (port_at (have_turns h ms w).ports k)

@@ -1,7 +1,7 @@
 -- What lasts at the ends of a node while it carries out deeds and has its turns: how many control frames wait there, the age of the
 -- notice, and that an end is held while a message waits there.
 use Rattle.std.proofs.Common.{◌≡◌, ◌≢◌, ℕ, ◌+◌, ◌≤◌, Bool, true, false, not, List, []}
-use Rattle.std.proofs.Common.{◌∷◌, ◌++◌, map, drop, length, refl, sym, ap, ◌∙◌, subst, arith, length-append}
+use Rattle.std.proofs.Common.{◌∷◌, map, drop, length, refl, sym, ap, ◌∙◌, subst, arith, length-append}
 use Rattle.std.specs.Prelude.{Option, Some, None, ◌==◌, ◌||◌}
 use Rattle.std.specs.List.{AllByRecursion}
 use Rattle.std.specs.Option.{option_map_or}
@@ -12,7 +12,7 @@ use Rattle.link_machine.specs.Machine.{LinkEnd as Machine, Message, Turn, Refuse
 use Rattle.link_machine.specs.Machine.Turn.{Give, Hold, FetchMessage, SetAside, Release}
 use Rattle.node_machine.specs.Parts.{Port, Work, Notice, Desk as DeskOf, Deed}
 use Rattle.node_machine.specs.Parts.Deed.{Commits, Sends, SaysOk, Asks, Releases, Tells, IsAnswered, Drops, SetsErrors, Orders, Hears, GoesOn, Ends}
-use Rattle.node_machine.specs.Carrying.{port_at, changed_if, with_port, after_turn, done, all_done, needs, lack, unless_cut}
+use Rattle.node_machine.specs.Carrying.{port_at, changed_if, with_port, after_turn, done, all_done, needs, lack}
 use Rattle.node_machine.specs.Turns.{deeds_of, handles, holds_back, lets_go, have_turns, goes_through_ends, passes}
 use Rattle.node_ends.specs.Ends.{held_at, got_at}
 use Rattle.node_ends.specs.Making.{AreAllDifferent}

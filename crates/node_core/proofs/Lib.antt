@@ -11,6 +11,7 @@ pub mod Passing
 pub mod Spares
 mod Sendables
 mod Elsewhere
+pub mod EndKinds
 pub mod Notes
 mod Arriving
 mod Ticking
@@ -32,5 +33,6 @@ pub mod Staying
 pub mod Sendings
 pub mod Asking
 pub mod Unwritten
+mod Becoming
 pub mod Beginning
 pub mod Faults

@@ -1,10 +1,9 @@
 -- A node stays in order: its turns leave its links and their hosts, and an init that runs waits for the answer to its command.
-use Rattle.std.proofs.Common.{◌≡◌, ◌≢◌, ℕ, Bool, true, false, List, [], ◌∷◌, ◌++◌, map, length, refl, sym, ap, ◌∙◌, subst}
+use Rattle.std.proofs.Common.{◌≡◌, ◌≢◌, ℕ, Bool, true, false, List, [], ◌∷◌, map, refl, sym, ap, ◌∙◌, subst}
 use Rattle.std.specs.Prelude.{Option, Some, None, ◌==◌}
 use Rattle.std.specs.Option.{option_map_or}
 use Rattle.swp_base.specs.InMemory.{Plan}
 use Rattle.journal_laws.specs.Writes.{Write}
-use Rattle.journal_laws.specs.Planned.{fails_within}
 use Rattle.hci_tables.specs.Bodies.{body_of}
 use Rattle.hci_store.specs.Committing.{commit_writes}
 use Rattle.link_machine.specs.Machine.{Message}
@@ -14,22 +13,24 @@ use Rattle.node_machine.specs.Carrying.{port_at, plan_behind, unless_cut, done, 
 use Rattle.node_machine.specs.Turns.{deeds_of, handles, holds_back, lets_go, have_turns, goes_through_ends, passes}
 use Rattle.node_machine.specs.HostReplies.{host_deeds}
 use Rattle.node_machine.specs.Controller.{controller_deeds}
-use Rattle.node_ends.specs.Ends.{AreOfHosts, held_at, got_at}
+use Rattle.node_ends.specs.Ends.{held_at, got_at}
 use Rattle.node_core.specs.Bringing.{Brings, Foretells, plan_left}
 use Rattle.node_core.specs.Deeds.{IsOnTask, AreGranted}
 use Rattle.node_core.specs.Handling.{has_turn}
-use Rattle.node_core.specs.Turning.{HasOwnLink, IsNodeInOrder}
-use Rattle.node_core.proofs.Joining.{stays_cut, goes_on}
+use Rattle.node_core.specs.Turning.{IsNodeInOrder}
+use Rattle.node_core.proofs.Joining.{goes_on}
 use Rattle.node_core.proofs.Allowing.{controller_allowed}
 use Rattle.node_core.proofs.HostAllowing.{host_allowed}
-use Rattle.node_core.proofs.Elsewhere.{host_at, let_hosts, held_hosts, handled_hosts, of_hosts}
+use Rattle.node_core.proofs.Elsewhere.{host_at, let_links, held_links, handled_links, of_hosts}
+use Rattle.node_core.proofs.EndKinds.{kind_at, same_kinds, hosts_alike, roles_alike, roles_of}
 
 -- ## Hosts and tasks
 
-pub in_order_at : (core : Core) (a b : List Port) → map host_at b ≡ map host_at a → IsNodeInOrder core a → IsNodeInOrder core b
+pub in_order_at : (core : Core) (a b : List Port) → map kind_at b ≡ map kind_at a → IsNodeInOrder core a → IsNodeInOrder core b
 in_order_at core a b same order = record {
-  hosts = of_hosts b a same order.hosts;
-  own = λ some. same ∙ order.own some;
+  hosts = of_hosts b a (hosts_alike b a same) order.hosts;
+  own = λ some. hosts_alike b a same ∙ order.own some;
+  roles = roles_alike core.node a b same order.roles;
   task = order.task;
 }
 
@@ -37,6 +38,7 @@ pub with_task : (core other : Core) (ports : List Port) → other.node ≡ core.
 with_task core other ports node task order = record {
   hosts = order.hosts;
   own = λ some. order.own (λ none. some (node ∙ none)) ∙ ap (λ (n : ℕ). n ∷ []) (sym node);
+  roles = roles_of core.node other.node ports node order.roles;
   task = task;
 }
 
@@ -166,14 +168,14 @@ handles_fine h m w f =
     record {
       sure = l.sure;
       order = with_task w.core (handles h m deeds w).core (handles h m deeds w).ports l.node l.task
-          (in_order_at w.core w.ports (handles h m deeds w).ports (handled_hosts h m deeds w) f.order);
+          (in_order_at w.core w.ports (handles h m deeds w).ports (same_kinds (handles h m deeds w).ports w.ports (handled_links h m deeds w)) f.order);
     }
 
 held_fine : (h : ℕ) (short : ℕ × ℕ) (w : Work) → IsFine w → IsFine (holds_back h short w)
 held_fine h short w f = by (option_map_or (λ (p : Port). p.desk.holds) (port_at w.ports h) false) refl
   where
     order : IsNodeInOrder w.core (holds_back h short w).ports
-    order = in_order_at w.core w.ports (holds_back h short w).ports (held_hosts h short w) f.order
+    order = in_order_at w.core w.ports (holds_back h short w).ports (same_kinds (holds_back h short w).ports w.ports (held_links h short w)) f.order
 
     by : (b : Bool) → option_map_or (λ (p : Port). p.desk.holds) (port_at w.ports h) false ≡ b → IsFine (holds_back h short w)
     by true q = let o : IsNodeInOrder w.core _ = rw q at order in rw q (record { sure = record { power = f.sure.power; plan = f.sure.plan }; order = o })
@@ -183,7 +185,7 @@ let_fine : (h : ℕ) (w : Work) → IsFine w → IsFine (lets_go h w)
 let_fine h w f = by (held_at w.ports h) refl
   where
     order : IsNodeInOrder w.core (lets_go h w).ports
-    order = in_order_at w.core w.ports (lets_go h w).ports (let_hosts h w) f.order
+    order = in_order_at w.core w.ports (lets_go h w).ports (same_kinds (lets_go h w).ports w.ports (let_links h w)) f.order
 
     by : (b : Bool) → held_at w.ports h ≡ b → IsFine (lets_go h w)
     by true q = let o : IsNodeInOrder w.core _ = rw q at order in rw q (record { sure = record { power = f.sure.power; plan = f.sure.plan }; order = o })

@@ -1,4 +1,5 @@
--- What deeds leave at the ends of a node as it was: how many control frames wait there to be sent, and whether they are held.
+-- What deeds leave at the ends of a node as it was: how many control frames wait there to be sent, whether they are held, what goes before
+-- their links, and the states of these.
 use Rattle.std.proofs.Common.{◌≡◌, ℕ, ◌+◌, ◌≤◌, Bool, true, false, not, List, [], ◌∷◌, ◌++◌, map, length, refl, sym, ap, ap₂, ◌∙◌, subst}
 use Rattle.std.specs.Prelude.{Option, Some, None, ◌==◌, option_map}
 use Rattle.std.specs.List.{find}
@@ -7,7 +8,8 @@ use Rattle.journal_laws.specs.Planned.{fails_within}
 use Rattle.hci_tables.specs.declared.command.Command.{Command}
 use Rattle.hci_tables.specs.Bodies.{body_of}
 use Rattle.hci_store.specs.Committing.{commit_writes}
-use Rattle.link_machine.specs.Machine.{Message, Refused, given, unless, give_refusal, aside_refusal}
+use Rattle.shdlc_core.specs.declared.answers.LinkState.{LinkState}
+use Rattle.link_machine.specs.Machine.{Message, Role, Refused, given, unless, give_refusal, aside_refusal}
 use Rattle.link_machine.specs.Machine.Turn.{Give, FetchMessage, SetAside, Release}
 use Rattle.node_machine.specs.Parts.{Port, Work, Deed, Desk as DeskOf}
 use Rattle.node_machine.specs.Parts.Deed.{Commits, Sends, SaysOk, Asks, Releases, Tells, IsAnswered, Drops, SetsErrors, Orders, Hears, GoesOn, Ends}
@@ -16,12 +18,19 @@ use Rattle.node_machine.specs.Turns.{handles}
 use Rattle.node_deeds.proofs.Ports.{find-map}
 use Rattle.node_ends.specs.Ends.{FewAreDue, held_at}
 
--- the host of an end, how many control frames wait there, and whether it takes fragments
+-- the host of an end, how many control frames wait there, whether it takes fragments, what goes before its link, and the state of that
 abbrev pub Quiet : Type 0
-Quiet = ℕ × ℕ × Bool
+Quiet = ℕ × ℕ × Bool × Role × LinkState
 
 abbrev pub quiet_at : Port → Quiet
-quiet_at p = (p.desk.host, length p.side.acts + length p.side.shdlc.due, p.side.shdlc.ready)
+quiet_at p = (p.desk.host, length p.side.acts + length p.side.shdlc.due, p.side.shdlc.ready, p.side.role, p.side.shdlc.phase)
+
+-- the host of an end, what goes before its link, and the state of that
+abbrev pub LinkSeen : Type 0
+LinkSeen = ℕ × Role × LinkState
+
+abbrev pub link_at : Port → LinkSeen
+link_at p = (p.desk.host, p.side.role, p.side.shdlc.phase)
 
 -- ## What is done to one end
 
@@ -60,7 +69,7 @@ keeps_desk : (h : ℕ) (f : DeskOf → DeskOf) → ((d : DeskOf) → (f d).host 
     → map quiet_at (with_port h (λ p. record p { desk = f p.desk }) ports) ≡ map quiet_at ports
 keeps_desk h f same ports =
     with_port_quiet h (λ p. record p { desk = f p.desk })
-    (λ p. ap (λ (n : ℕ). (n, length p.side.acts + length p.side.shdlc.due, p.side.shdlc.ready)) (same p.desk)) ports
+    (λ p. ap (λ (n : ℕ). (n, length p.side.acts + length p.side.shdlc.due, p.side.shdlc.ready, p.side.role, p.side.shdlc.phase)) (same p.desk)) ports
 
 pub commit_ports : (c : Command) (w : Work) → (commit c w).ports ≡ w.ports
 commit_ports c w = by (fails_within (length (commit_writes w.core.journal w.core.tables (body_of c))) w.plan) refl

@@ -1,12 +1,11 @@
 -- What a step of a node leaves at its ends for the next one, where no write fails.
-use Rattle.std.proofs.Common.{◌≡◌, ℕ, ◌+◌, ◌≤◌, Bool, true, false, not, List, [], ◌∷◌, ◌++◌, map, length, refl, sym, ap, ap₂, ◌∙◌, subst, arith}
+use Rattle.std.proofs.Common.{◌≡◌, ℕ, ◌+◌, ◌≤◌, Bool, true, false, not, List, [], ◌∷◌, map, refl, sym, ap, ap₂, ◌∙◌, subst, arith}
 use Rattle.std.specs.Prelude.{Option, Some, None, ◌||◌, ◌&&◌, ◌==◌, nat_le}
 use Rattle.std.specs.List.{AllByRecursion, flat_map}
-use Rattle.std.specs.Option.{option_map_or}
 use Rattle.std.proofs.lemmas.Bool.{true≢false}
 use Rattle.std.proofs.lemmas.Bool.Decides.{nat_tests}
 use Rattle.link_machine.specs.Machine.{LinkEnd as Machine, LinkInput, after_input}
-use Rattle.link_machine.specs.Machine.LinkInput.{Tick, Reset}
+use Rattle.link_machine.specs.Machine.LinkInput.{Tick}
 use Rattle.node_machine.specs.Parts.{Port, Work, Notice, Deed}
 use Rattle.node_machine.specs.Carrying.{all_done, unless_cut}
 use Rattle.node_machine.specs.Controller.{asked_at}
@@ -17,12 +16,11 @@ use Rattle.node_machine.specs.Node.NodeInput.{AtEnd, TimePasses}
 use Rattle.node_ends.specs.Desks.{forgotten_at}
 use Rattle.node_ends.specs.Making.{AreAllDifferent}
 use Rattle.node_ends.proofs.Dues.{due_count, tick_few, reset_few_due}
-use Rattle.node_core.specs.Syncing.{left_over, settles, finishes}
-use Rattle.node_core.proofs.Quiet.{quiet_at}
+use Rattle.node_core.specs.Syncing.{left_over, settles}
 use Rattle.node_core.proofs.Joining.{stays_cut, goes_on}
 use Rattle.node_core.proofs.Elsewhere.{host_at, same_hosts}
 use Rattle.node_core.proofs.Settling.{settled_quiet}
-use Rattle.node_core.proofs.Lasting.{notice_age, Of, OfAll, Ready, Rests, StaysYounger, all_done_so, each_so, ready_stays, passes_rest}
+use Rattle.node_core.proofs.Lasting.{notice_age, Of, OfAll, Ready, Rests, all_done_so, each_so, ready_stays, passes_rest}
 
 -- an input makes at most one more control frame
 abbrev pub MakesOneMore : LinkInput → Type 0

@@ -1,18 +1,17 @@
 -- A host that sends a message by itself, and why it doesn't.
-use Rattle.std.proofs.Common.{◌≡◌, ◌≢◌, ℕ, Bool, true, false, cond, not, ◌&&◌, List, [], ◌∷◌, length, refl, sym, ap, ◌∙◌, subst}
+use Rattle.std.proofs.Common.{◌≡◌, ℕ, Bool, true, false, cond, not, ◌&&◌, List, [], ◌∷◌, length, refl, sym, ap, ◌∙◌}
 use Rattle.std.specs.Prelude.{Option, Some, None, nat_lt, is_some, option_map, ◌==◌}
 use Rattle.std.specs.Option.{option_map_or}
 use Rattle.trace_model.specs.declared.entry.Entry.{Entry}
-use Rattle.trace_model.specs.declared.entry.NoCause.{NoCause}
 use Rattle.trace_model.specs.declared.entry.NoCause.TheVariants as no
 use Rattle.link_laws.specs.sessions.Sessions.{is_up}
 use Rattle.shdlc_core.specs.declared.answers.LinkState.{LinkState}
 use Rattle.shdlc_core.specs.declared.answers.LinkState.TheVariants.{Down, Waiting as IsWaiting, Up}
 use Rattle.link_machine.specs.Machine.{LinkEnd as Machine, Message, Refused, give_refusal, need, spare}
-use Rattle.link_machine.specs.Machine.Refused.{NotUp, TooLong, Full}
+use Rattle.link_machine.specs.Machine.Refused.{TooLong, Full}
 use Rattle.node_machine.specs.Parts.{Port, Work, Deed}
 use Rattle.node_machine.specs.Parts.Deed.{Sends, Orders}
-use Rattle.node_machine.specs.Carrying.{port_at, done, all_done, unless_cut}
+use Rattle.node_machine.specs.Carrying.{port_at, done, all_done}
 use Rattle.node_machine.specs.Controller.{is_command_message, has_link}
 use Rattle.node_machine.specs.world.World.{sending}
 use Rattle.node_machine.specs.world.Lines.{if_waiting}

@@ -1,8 +1,7 @@
 -- What is settled behind what came in a step, and what that leaves at the ends.
 use Rattle.std.proofs.Common.{◌≡◌, ℕ, Bool, true, false, not, ◌≤◌, List, [], ◌∷◌, ◌++◌, map, refl, sym, ap, ap₂, ◌∙◌, subst, append_assoc, append-nil}
-use Rattle.std.specs.Prelude.{Option, Some, None}
+use Rattle.std.specs.Prelude.{Option, None}
 use Rattle.std.specs.List.{flat_map}
-use Rattle.std.specs.Option.{option_map_or}
 use Rattle.std.proofs.lemmas.List.Concat.{flat_map-cons}
 use Rattle.swp_base.specs.InMemory.{Plan}
 use Rattle.trace_model.specs.declared.entry.Entry.{Entry}
@@ -13,7 +12,6 @@ use Rattle.node_machine.specs.Parts.Deed.{Releases, Sends}
 use Rattle.node_machine.specs.Carrying.{done, all_done, unless_cut}
 use Rattle.node_machine.specs.Node.{forgets, is_forgotten, is_over, without_notice, after_sessions, forgotten, all_owed}
 use Rattle.node_machine.specs.Controller.{asked_at}
-use Rattle.node_ends.specs.Ends.{FewAreDue}
 use Rattle.node_core.specs.declared.node.Node.{Node}
 use Rattle.node_core.specs.Nodes.{IsInStep}
 use Rattle.node_core.specs.Bringing.{Brings, Foretells, plan_left}

@@ -1,26 +1,26 @@
 -- A step leaves a node in order.
-use Rattle.std.proofs.Common.{◌≡◌, ℕ, Bool, true, false, cond, not, ◌&&◌, List, [], ◌∷◌, map, refl, sym, ap, ap₂, ◌∙◌, subst}
-use Rattle.std.specs.Prelude.{Option, Some, None, ◌==◌}
+use Rattle.std.proofs.Common.{◌≡◌, ℕ, not, ◌&&◌, List, [], ◌∷◌, map, refl, sym, ◌∙◌, subst}
+use Rattle.std.specs.Prelude.{Option, Some, None}
 use Rattle.std.specs.List.{AllByRecursion, flat_map, list_any}
 use Rattle.std.proofs.lemmas.Bool.{cond_both}
 use Rattle.journal_laws.specs.declared.state.State.{State}
 use Rattle.hci_tables.specs.declared.command.Command.TheVariants.{Sync}
 use Rattle.hci_tables.specs.Tables.{HciTables, is_kept_sync}
-use Rattle.link_machine.specs.Machine.{LinkInput}
 use Rattle.node_machine.specs.Parts.{Core, Port, Work, Deed}
 use Rattle.node_machine.specs.Parts.Deed.{Commits, Sends, Releases}
 use Rattle.node_machine.specs.Carrying.{has_room_for, unless_cut, done, all_done}
 use Rattle.node_machine.specs.Turns.{passes}
-use Rattle.node_machine.specs.Node.{NodeInput, input_at, has_come, all_come, with_older, is_late, reset_late, times_out, forgets, forgotten, all_owed}
-use Rattle.node_machine.specs.Node.{is_over, after_sessions, without_notice, synced, answers_and_passes, steps}
+use Rattle.node_machine.specs.Node.{NodeInput, input_at, has_come, all_come, with_older, reset_late, times_out, forgets, forgotten, all_owed}
+use Rattle.node_machine.specs.Node.{is_over, after_sessions, synced, steps}
 use Rattle.node_machine.specs.Node.NodeInput.{AtEnd, TimePasses}
 use Rattle.node_laws.proofs.steps.Walks.{forgotten_hold, all_owed_hold, all_synced_hold}
 use Rattle.node_core.specs.Deeds.{IsOnTask}
 use Rattle.node_core.specs.Turning.{IsNodeInOrder}
-use Rattle.node_core.specs.Syncing.{id_kept, sync_kept, left_over, settles}
+use Rattle.node_core.specs.Syncing.{sync_kept, left_over, settles}
 use Rattle.node_core.proofs.Joining.{goes_on}
-use Rattle.node_core.proofs.Quiet.{Quiet, quiet_at, done_quiet}
-use Rattle.node_core.proofs.Elsewhere.{host_at, same_hosts}
+use Rattle.node_core.proofs.Quiet.{done_quiet}
+use Rattle.node_core.proofs.Elsewhere.{same_links}
+use Rattle.node_core.proofs.EndKinds.{same_kinds, all_kinds, come_kind, late_kind}
 use Rattle.node_core.proofs.Ordering.{IsSure, IsFine, in_order_at, with_task, done_sure, done_node, passes_fine}
 use Rattle.node_core.proofs.Settling.{quiet_left}
 
@@ -46,7 +46,8 @@ one_fine : (h : ℕ) (d : Deed) (w : Work) → IsMild d → IsFine w → IsFine 
 one_fine h d w mild f = record {
   sure = done_sure h d w f.sure;
   order = with_task w.core (done h d w).core (done h d w).ports (done_node h d w f.sure.plan) (mild_task h d w mild f)
-      (in_order_at w.core w.ports (done h d w).ports (same_hosts (done h d w).ports w.ports (done_quiet h d w)) f.order);
+      (in_order_at w.core w.ports (done h d w).ports
+      (same_kinds (done h d w).ports w.ports (same_links (done h d w).ports w.ports (done_quiet h d w))) f.order);
 }
 
 mild_fine : (h : ℕ) (deeds : List Deed) (w : Work) → AreMild deeds → IsFine w → IsFine (all_done h deeds w)
@@ -73,7 +74,7 @@ left_fine : (w : Work) → IsFine w → IsFine (left_over w)
 left_fine w f = record {
   sure = record { power = f.sure.power; plan = f.sure.plan };
   order = with_task w.core (left_over w).core (left_over w).ports (over_node w.core w.ports) (over_task w.core w.ports f.order.task)
-      (in_order_at w.core w.ports (left_over w).ports (same_hosts (left_over w).ports w.ports (quiet_left w)) f.order);
+      (in_order_at w.core w.ports (left_over w).ports (same_kinds (left_over w).ports w.ports (same_links (left_over w).ports w.ports (quiet_left w))) f.order);
 }
 
 freed_mild : (ports : List Port) → AreMild (forgotten ports)
@@ -105,27 +106,16 @@ settles_fine s t came w f = settled_fine (sync_kept s t came) (kept_mild s t cam
 
 -- ## Whole steps
 
-come_host : (p : Port) (o : Option LinkInput) → (has_come p o).desk.host ≡ p.desk.host
-come_host p None = refl
-come_host p (Some i) = refl
-
-all_host : (f : Port → Port) → ((p : Port) → (f p).desk.host ≡ p.desk.host) → (ports : List Port) → map host_at (map f ports) ≡ map host_at ports
-all_host f same [] = refl
-all_host f same (p ∷ ports) = ap₂ (λ (n : ℕ) ns. n ∷ ns) (same p) (all_host f same ports)
-
-late_host : (p : Port) → (reset_late p).desk.host ≡ p.desk.host
-late_host p = cond_both (is_late p) _ p (λ (q : Port). q.desk.host ≡ p.desk.host) (λ _. refl) (λ _. refl)
-
 pub come_order : (input : NodeInput) (w : Work) → IsNodeInOrder w.core w.ports → IsNodeInOrder (all_come input w).core (all_come input w).ports
 come_order input w order =
     in_order_at w.core w.ports (all_come input w).ports
-    (all_host (λ (p : Port). has_come p (input_at input p)) (λ p. come_host p (input_at input p)) w.ports) order
+    (all_kinds (λ (p : Port). has_come p (input_at input p)) (λ p. come_kind p (input_at input p)) w.ports) order
 
 pub late_order : (input : NodeInput) (w : Work) → IsNodeInOrder w.core w.ports → IsNodeInOrder (times_out input w).core (times_out input w).ports
 late_order (AtEnd h i) w order = order
 late_order TimePasses w order =
     in_order_at w.core w.ports (map reset_late (map with_older w.ports))
-    (all_host reset_late late_host (map with_older w.ports) ∙ all_host with_older (λ p. refl) w.ports) order
+    (all_kinds reset_late late_kind (map with_older w.ports) ∙ all_kinds with_older (λ p. refl) w.ports) order
 
 late_sure : (input : NodeInput) (w : Work) → IsSure w → IsSure (times_out input (all_come input w))
 late_sure (AtEnd h i) w s = record { power = s.power; plan = s.plan }

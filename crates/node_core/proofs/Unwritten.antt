@@ -1,9 +1,9 @@
 -- A step behind which the link of a host isn't up commits nothing: all that waits there is dropped.
-use Rattle.std.proofs.Common.{◌≡◌, ◌≢◌, ◌⊎◌, ℕ, suc, ◌+◌, ◌-◌, ◌≤◌, Bool, true, false, List, [], ◌∷◌, ◌++◌, map, length, refl, sym, ap, ap₂, ◌∙◌, subst}
+use Rattle.std.proofs.Common.{◌≡◌, ◌≢◌, ◌⊎◌, ℕ, suc, ◌+◌, ◌-◌, Bool, true, false, List, [], ◌∷◌, ◌++◌, map, length, refl, sym, ap, ap₂, ◌∙◌, subst}
 use Rattle.std.proofs.Common.{inl, inr, arith}
-use Rattle.std.specs.Prelude.{Option, Some, None, ◌==◌, IfSome, is_some, option_map, nat_le}
+use Rattle.std.specs.Prelude.{Option, Some, None, ◌==◌, IfSome, IsTrue, is_some, option_map, nat_le}
 use Rattle.std.specs.List.{AllByRecursion, flat_map}
-use Rattle.std.proofs.lemmas.Bool.{true≢false, eq-eqb, ne_eqb, le-leb, lt-leb, and_right, cond_both}
+use Rattle.std.proofs.lemmas.Bool.{true≢false, not-false, eq-eqb, ne_eqb, le-leb, lt-leb, and_right, cond_both}
 use Rattle.swp_base.specs.InMemory.{Plan, plan_after}
 use Rattle.swp_base.specs.declared.link_terms.Cause.TheVariants.{Asked}
 use Rattle.swp_act.specs.declared.ActEvent.{ActEvent}
@@ -265,11 +265,11 @@ reset_down e window none = by (is_open e.role) (is_waiting e.shdlc) refl refl
     by true false p q =
         rw (p, q) (ap is_up (moved_phase e (is_some (if_up e.shdlc Asked)) (waiting_from (record e.shdlc { own_window = window_of e window }))))
 
-put_down_phase : (b : Bool) (e : Machine) → e.shdlc.phase ≡ Down → (put_down b e).shdlc.phase ≡ Down
+pub put_down_phase : (b : Bool) (e : Machine) → e.shdlc.phase ≡ Down → (put_down b e).shdlc.phase ≡ Down
 put_down_phase false e down = down
 put_down_phase true e down = rw down refl
 
-acted_phase : (o : Option Act) (e : Machine) → (with_act o e).shdlc.phase ≡ e.shdlc.phase
+pub acted_phase : (o : Option Act) (e : Machine) → (with_act o e).shdlc.phase ≡ e.shdlc.phase
 acted_phase None e = refl
 acted_phase (Some a) e = refl
 
@@ -376,15 +376,16 @@ module _ {N : Type 0} (writes : N → ℕ → List ℕ → Bool → N → Type 0
           let same = b.is w.plan (subst (F w.plan) (sym live) foretold) in
           (none.1, subst S (sym same) (any b.after (plan_left b.after.cut b.sure w.plan) b.stands))
 
--- A host has stepped so, and left its memory, where something came to its end behind which that isn't up.
+-- A host has stepped so, left its memory, and has its power, where something came to its end behind which that isn't up.
 pub stepped_still : {N : Type 0} (writes : N → ℕ → List ℕ → Bool → N → Type 0) {old new : N} {n : Node N} {noted start : List Entry} {short : Bool}
     {w : Work} (i : LinkInput) → Brings writes old new (HasStepped n noted short start) (steps (AtEnd w.core.node i)) w → w.core.node ≢ 0
     → HasOwnLink w.core.node w.ports → w.cut ≡ false → flat_map (synced w.core (AtEnd w.core.node i)) w.ports ≡ []
     → AllByRecursion (λ (p : Port). is_up (after_input p.side i).shdlc.phase ≡ false) w.ports
-    → (new ≡ old) × HasStepped n noted short start (steps (AtEnd w.core.node i) w)
-stepped_still writes {w = w} i b some own live none goes =
-    brings_nothing writes b (λ plan. step_unwritten (record w { plan = plan }) i some own live none goes)
-    (λ v plan s. record { power = s.power; runs = s.runs; noted_are = s.noted_are })
+    → (new ≡ old) × HasStepped n noted short start (steps (AtEnd w.core.node i) w) × IsTrue n.store.journal.live
+stepped_still writes {n = n} {w = w} i b some own live none goes =
+    let r = brings_nothing writes b (λ plan. step_unwritten (record w { plan = plan }) i some own live none goes)
+    (λ v plan s. record { power = s.power; runs = s.runs; noted_are = s.noted_are }) in
+    (r.0, r.1, not-false n.store.journal.live (sym r.1.power ∙ (step_unwritten w i some own live none goes).1))
 
 -- A whole step of a host in which something came to its end behind which that isn't up: it left the memory, and what was done to its
 -- end isn't kept.
@@ -395,7 +396,7 @@ pub host_still : {N : Type 0} (writes : N → ℕ → List ℕ → Bool → N �
     → n2.number ≡ n1.number → n2.tasks ≡ n1.tasks → IsSoundNode n2
     → flat_map (synced w.core (AtEnd w.core.node i)) w.ports ≡ []
     → AllByRecursion (λ (p : Port). is_up (after_input p.side i).shdlc.phase ≡ false) w.ports
-    → (n2.store.journal.nv ≡ n.store.journal.nv) × HasStepped n2 noted2 short2 start (steps (AtEnd n.number i) w)
+    → (n2.store.journal.nv ≡ n.store.journal.nv) × HasStepped n2 noted2 short2 start (steps (AtEnd n.number i) w) × IsTrue n2.store.journal.live
 host_still writes {n} {n1} {n2} {noted2 = noted2} {start = start} {short2 = short2} {w = w} h i same some more begins b ended store number tasks sound
     none goes =
     let whole = stepped writes {n2 = n2} (AtEnd h i) more begins b ended store number tasks sound in
@@ -403,4 +404,4 @@ host_still writes {n} {n1} {n2} {noted2 = noted2} {start = start} {short2 = shor
     let Q : ℕ → Type 0 = λ k. HasStepped n2 noted2 short2 start (steps (AtEnd k i) w) in
     let r = stepped_still writes i (subst P (same ∙ sym begins.runs.node) whole) (λ zero. some (sym begins.runs.node ∙ zero)) begins.runs.order.own
     begins.power none goes in
-    (r.0, subst Q begins.runs.node r.1)
+    (r.0, subst Q begins.runs.node r.1, r.2)

@@ -8,6 +8,7 @@ use Rattle.nv_journal.specs.Refusals.{IsImageFault}
 use Rattle.hci_store.specs.Image.{image_fault}
 use Rattle.hci_store.specs.Refusals.{IsSpent}
 use Rattle.hci_store.specs.Stored.{FindsSame}
+use Rattle.journal_laws.specs.Writes.{AreRead}
 use Rattle.hci_store.specs.Starting.{ready_state, ready_writes, HasWritten}
 use Rattle.node_machine.specs.Parts.{Core, Running}
 use Rattle.node_machine.specs.Node.{found}
@@ -33,17 +34,18 @@ pub record BeginsAs {N : Type 0} (number : ℕ) (role : Named) (hosts : List ℕ
 
 -- A store didn't start on this memory: for a read or a write that failed, since no generation is left for the snapshot of a memory of
 -- version 01, or for what is wrong with the memory. The next start finds what this one found.
-pub record IsStartRefused {N : Type 0} (writes : N → ℕ → List ℕ → Bool → N → Type 0) (faults : N → ℕ) (tells : Bool) (content : N → List ℕ)
-    (old new : N) (f : JournalFault) : Type 0 where
+pub record IsStartRefused {N : Type 0} (reads : N → Bool → N → Type 0) (writes : N → ℕ → List ℕ → Bool → N → Type 0) (faults : N → ℕ) (tells : Bool)
+    (content : N → List ℕ) (old new : N) (f : JournalFault) : Type 0 where
   pub known : (f ≡ NvFault) ⊎ (f ≡ GenerationsSpent) ⊎ IsImageFault f
   pub rose : f ≡ NvFault → Rose (faults old) (faults new)
   pub spent : IsTrue tells → f ≡ GenerationsSpent → IsSpent (content old) (content new)
   pub image : IsTrue tells → IsImageFault f → image_fault (content old) ≡ Some f
   pub left : IsTrue tells → FindsSame (content old) (content new)
   pub torn : IsTrue tells → f ≡ NvFault
-      → (content new ≡ content old) ⊎ HasWritten writes content (ready_writes (content old)) old false new
+      → (AreRead reads 37 old false new × (content new ≡ content old)) ⊎ HasWritten reads writes content (ready_writes (content old)) old false new
 
 -- without memory for its ends a node doesn't touch what it would boot from
-abbrev pub IsBootRefused : {N : Type 0} → (N → ℕ → List ℕ → Bool → N → Type 0) → (N → ℕ) → Bool → (N → List ℕ) → N → N → BootFault → Type 0
-IsBootRefused writes faults tells content old new NoMemory = new ≡ old
-IsBootRefused writes faults tells content old new (Journal f) = IsStartRefused writes faults tells content old new f
+abbrev pub IsBootRefused : {N : Type 0} → (N → Bool → N → Type 0) → (N → ℕ → List ℕ → Bool → N → Type 0) → (N → ℕ) → Bool → (N → List ℕ) → N → N
+    → BootFault → Type 0
+IsBootRefused reads writes faults tells content old new NoMemory = new ≡ old
+IsBootRefused reads writes faults tells content old new (Journal f) = IsStartRefused reads writes faults tells content old new f

@@ -3,13 +3,11 @@ use Rattle.std.specs.Prelude.{◌≡◌, ℕ, Bool, false, List, ◌++◌, map, 
 use Rattle.trace_model.specs.declared.entry.Entry.{Entry}
 use Rattle.trace_model.specs.declared.entry.NoCause.{NoCause}
 use Rattle.trace_model.specs.declared.entry.NoCause.TheVariants as no
-use Rattle.link_entries.specs.messages.Links.{IsUicc}
-use Rattle.node_machine.specs.Parts.{Core, Port, Work}
-use Rattle.node_machine.specs.Carrying.{port_at}
+use Rattle.node_machine.specs.Parts.{Work}
 use Rattle.node_ends.specs.Holding.{kept_number}
 use Rattle.node_core.specs.declared.node.Node.{Node}
 use Rattle.node_core.specs.Noting.{unnumbered}
-use Rattle.node_core.specs.Running.{RunsAs, IsAllSent, HasNoneEnded}
+use Rattle.node_core.specs.Running.{RunsAs, HasNoneEnded}
 use Rattle.node_core.specs.declared.giving.HostRefused.{HostRefused}
 use Rattle.node_core.specs.declared.giving.HostRefused.TheVariants.{NotUp, Waiting, TooLong, Full}
 
@@ -29,19 +27,6 @@ refused_as (Err why) = Some (refusal_noted why)
 abbrev pub TellsLength : ℕ → Option HostRefused → Type 0
 TellsLength len (Some (TooLong told)) = told ≡ kept_number len
 TellsLength len _ = Unit {0}
-
--- an end, where there is one, is that of a UICC
-abbrev pub IsUiccAt : Option Port → Type 0
-IsUiccAt None = Unit {0}
-IsUiccAt (Some p) = IsUicc p.side.role
-
--- a host whose end is that of a UICC may step
-pub record MayStepAsUicc {N : Type 0} (n : Node N) : Type 0 where
-  pub core : Core
-  pub ports : List Port
-  pub runs : RunsAs n core ports
-  pub sent : IsAllSent ports
-  pub uicc : IsUiccAt (port_at ports n.number)
 
 -- A node that is asked for something between its steps, also while its frames still go out.
 pub record IsAsked {N : Type 0} (n : Node N) (noted : List Entry) (short : Bool) (start : List Entry) (w : Work) : Type 0 where

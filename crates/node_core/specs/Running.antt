@@ -1,5 +1,5 @@
 -- A node between its steps and in them: for which states of its machine it stands, as far as the next step asks for it.
-use Rattle.std.specs.Prelude.{◌≡◌, ◌≤◌, ◌+◌, min, Bool, true, false, not, List, [], ◌++◌, map, Option, Some, None, option_map, Result, Ok, Err, IsTrue}
+use Rattle.std.specs.Prelude.{◌≡◌, ◌≤◌, ◌+◌, min, length, Bool, true, false, not, List, [], ◌++◌, map, Option, Some, None, option_map, Result, Ok, Err, IsTrue}
 use Rattle.std.specs.List.{AllByRecursion}
 use Rattle.trace_model.specs.declared.entry.Entry.{Entry}
 use Rattle.link_machine.specs.Machine.{LinkEnd, next_frame, frames_out, sent_all, reset_refusal}
@@ -95,7 +95,10 @@ refused_in None = None
 refused_in (Some (Ok report)) = None
 refused_in (Some (Err why)) = Some why
 
--- the frames that are fetched of an end one after another are all that are due, and behind them it has sent all
+-- The frames that are fetched of an end one after another are all that are due, at most five of them ACT frames. Behind them it has sent
+-- all, and none is due.
 pub record SendsOneByOne (e : LinkEnd) : Type 0 where
   pub frames : fetches (most_fetches e) e ≡ frames_out e
   pub rest : after_fetches (most_fetches e) e ≡ sent_all e
+  pub none : next_frame (sent_all e) ≡ None
+  pub few : length e.acts ≤ 5

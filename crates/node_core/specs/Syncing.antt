@@ -5,7 +5,7 @@ use Rattle.journal_laws.specs.declared.state.State.{State}
 use Rattle.hci_tables.specs.declared.command.Command.TheVariants.{Sync}
 use Rattle.hci_tables.specs.Tables.{HciTables, is_kept_sync}
 use Rattle.link_end.specs.declared.report.LinkReport.{LinkReport}
-use Rattle.node_machine.specs.Parts.{Port, Work, Deed}
+use Rattle.node_machine.specs.Parts.{Work, Deed}
 use Rattle.node_machine.specs.Parts.Deed.{Commits}
 use Rattle.node_machine.specs.Carrying.{has_room_for, unless_cut, all_done}
 use Rattle.node_machine.specs.Node.{forgets, forgotten, all_owed, without_notice, after_sessions, answers_and_passes}

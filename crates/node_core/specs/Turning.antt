@@ -1,6 +1,7 @@
 -- A turn of a message, as a node decides on it.
 use Rattle.std.specs.Prelude.{◌≡◌, ◌≢◌, ℕ, ◌+◌, ◌≤◌, Bool, List, [], ◌∷◌, map, length, Option, Some, option_map}
 use Rattle.std.specs.List.{AllByRecursion}
+use Rattle.link_entries.specs.messages.Links.{IsClf, IsUicc}
 use Rattle.node_machine.specs.Parts.{Core, Port, Work}
 use Rattle.node_machine.specs.Carrying.{port_at, needs, lack}
 use Rattle.node_machine.specs.Turns.{deeds_of}
@@ -17,11 +18,17 @@ use Rattle.node_core.specs.Handling.{has_turn}
 abbrev pub HasOwnLink : ℕ → List Port → Type 0
 HasOwnLink node ports = node ≢ 0 → map (λ (p : Port). p.desk.host) ports ≡ node ∷ []
 
--- A node is in order: its links are those with hosts 01 to 07, at a host the one with its own number, and what it has under way
--- is its own.
+-- the ends of a controller are those of CLFs, and those of a host are those of UICCs
+pub record HaveOwnRoles (node : ℕ) (ports : List Port) : Type 0 where
+  pub clf : node ≡ 0 → AllByRecursion (λ (p : Port). IsClf p.side.role) ports
+  pub uicc : node ≢ 0 → AllByRecursion (λ (p : Port). IsUicc p.side.role) ports
+
+-- A node is in order: its links are those with hosts 01 to 07, at a host the one with its own number, it is the CLF or the UICC there, and
+-- what it has under way is its own.
 pub record IsNodeInOrder (core : Core) (ports : List Port) : Type 0 where
   pub hosts : AreOfHosts ports
   pub own : HasOwnLink core.node ports
+  pub roles : HaveOwnRoles core.node ports
   pub task : IsOnTask core
 
 -- What was decided of this message, which waits at the end with this host: these deeds, which lack this room or may be done. The end is

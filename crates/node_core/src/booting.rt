@@ -62,8 +62,9 @@ impl<N: Nv + Drop> Node<N> {
         ensures found { IsTrue N.tells → IfOk result (λ n. CoreStandsFor n (found_in_memory number hosts.now (N.content nv)).core) }
         ensures image { IsTrue N.tells → OnOk result (image_fault (N.content nv) ≡ None) }
         ensures made { IsTrue N.tells
-            → IfOk result (λ n. HasWritten N.writes N.content (ready_writes (N.content nv)) nv true n.store.journal.nv) }
-        ensures refused { IfErr result (λ e. IsBootRefused N.writes N.faults N.tells N.content nv e.nv e.fault) }
+            → IfOk result (λ n. HasWritten N.reads N.writes N.content (ready_writes (N.content nv)) nv true n.store.journal.nv) }
+        ensures count { IfOk result (λ n. N.faults nv ≤ N.faults n.store.journal.nv) }
+        ensures refused { IfErr result (λ e. IsBootRefused N.reads N.writes N.faults N.tells N.content nv e.nv e.fault) }
     {
         let ends = match Ends::make(alloc, role, hosts) {
             Ok(ends) => ends,

@@ -22,6 +22,6 @@ pub use booting::{BootFault, BootRefused, a_boot_of_version_02_is_that_of_a_worl
 pub use giving::HostRefused;
 pub use node::Node;
 pub use running::{
-    Ran, a_refused_frame_counts_at_its_desk, frames_of_a_node_go_out, how_it_ran,
-    numbers_of_sessions_are_not_kept,
+    Ran, a_refused_frame_counts_at_its_desk, a_reset_of_an_end_that_became_active_is_not_refused,
+    frames_of_a_node_go_out, how_it_ran, numbers_of_sessions_are_not_kept,
 };

@@ -1,11 +1,14 @@
 //! What is done with a node between its steps.
-ghost use Rattle.std.specs.Prelude.{◌≡◌, ℕ, List, map};
-ghost use Rattle.node_machine.specs.Parts.{Core, Desk, Port};
-ghost use Rattle.node_machine.specs.Carrying.{with_port};
-ghost use Rattle.node_machine.specs.Node.{with_error};
+ghost use Rattle.std.specs.Prelude.{◌≡◌, ℕ, Bool, true, List, map, Some, None};
+ghost use Rattle.trace_model.specs.declared.entry.Entry.{Entry as Noted};
+ghost use Rattle.link_machine.specs.Machine.{LinkInput, report, reset_refusal, sent_all};
+ghost use Rattle.node_machine.specs.Parts.{Core, Desk, Port, Work};
+ghost use Rattle.node_machine.specs.Carrying.{port_at, with_port};
+ghost use Rattle.node_machine.specs.Node.{steps, with_error};
+ghost use Rattle.node_machine.specs.Node.NodeInput.{AtEnd};
 ghost use Rattle.std.specs.List.{AllByRecursion};
 ghost use Rattle.node_core.specs.declared.node.Node.{Node as Kept};
-ghost use Rattle.node_core.specs.Running.{RunsAs, SendsOneByOne, between, one_more_error, ran_so};
+ghost use Rattle.node_core.specs.Running.{RunsAs, BeginsStep, SendsOneByOne, between, one_more_error, ran_so};
 
 use crate::node::Node;
 use arrayvec::ArrayVec;
@@ -29,7 +32,9 @@ pub fn how_it_ran(live: bool) -> Ran
 }
 
 impl<N: Nv + Drop> Node<N> {
-    ghost use Rattle.std.specs.Prelude.{◌≡◌, List, map, Some, None, IfSome, option_map, slice_get};
+    ghost use Rattle.std.specs.Prelude.{◌≡◌, List, map, Some, None, IfSome, Ok, option_map, slice_get};
+    ghost use Rattle.swp_lpdu.specs.Controls.{lpdu_of, control_of};
+    ghost use Rattle.link_machine.specs.Machine.{next_frame};
     ghost use Rattle.node_machine.specs.Parts.{Core, Port};
     ghost use Rattle.node_machine.specs.Carrying.{port_at, with_port};
     ghost use Rattle.node_ends.specs.Ends.{EndsStandFor, has_sent, frame_at};
@@ -81,6 +86,8 @@ impl<N: Nv + Drop> Node<N> {
     pub fn next_out(&mut self, host: u8) -> Option<Lpdu>
         requires runs { (core : Core) × (ports : List Port) × RunsAs self.old core ports }
         ensures answer { (core : Core) (ports : List Port) → RunsAs self.old core ports → result ≡ frame_at (port_at ports host) }
+        ensures read { (core : Core) (ports : List Port) (p : Port) → RunsAs self.old core ports → port_at ports host ≡ Some p
+            → IfSome (next_frame p.side) (λ c. control_of (lpdu_of c) ≡ Ok c) }
         ensures runs { (core : Core) (ports : List Port) → RunsAs self.old core ports → RunsAs self.new core (with_port host has_sent ports) }
         ensures store { self.new.store ≡ self.old.store }
         ensures number { self.new.number ≡ self.old.number }
@@ -140,7 +147,15 @@ pub fn a_refused_frame_counts_at_its_desk()
         ≡ with_error host (map (λ (p : Port). p.desk) ports) }
 {}
 
-/// The frames that a node fetches of an end one after another, until there is none, are all that are due there, and then it has sent all.
+/// The frames that a node fetches of an end one after another, until there is none, are all that are due there, at most five of them ACT
+/// frames. Then it has sent all, and none is due.
 pub fn frames_of_a_node_go_out<N: Nv + Drop>()
     ensures { (n : Kept N) (core : Core) (ports : List Port) → RunsAs n core ports → AllByRecursion (λ (p : Port). SendsOneByOne p.side) ports }
+{}
+
+/// An end of a node that becomes active in a step takes a reset behind it, once its frames went out: it doesn't wait.
+pub fn a_reset_of_an_end_that_became_active_is_not_refused<N: Nv + Drop>()
+    ensures { (n : Kept N) (noted : List Noted) (short : Bool) (start : List Noted) (w : Work) (h : ℕ) (i : LinkInput) (p : Port)
+        → BeginsStep n noted short start w → port_at w.ports h ≡ Some p → (report p.side i).became_active ≡ true
+        → (q : Port) × (port_at (steps (AtEnd h i) w).ports h ≡ Some q) × (reset_refusal (sent_all q.side) ≡ None) }
 {}

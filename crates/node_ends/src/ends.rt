@@ -2,11 +2,11 @@
 ghost use Rattle.link_machine.specs.Machine.{whole_acked};
 ghost use Rattle.std.specs.Prelude.{IfNone, take, ◌∷◌, []};
 ghost use Rattle.node_ends.specs.Holding.{kept_number};
-ghost use Rattle.std.specs.Prelude.{◌≡◌, ◌<◌, ◌≤◌, ◌+◌, min, ℕ, List, Some, IfSome, false, length, option_map, slice_get};
+ghost use Rattle.std.specs.Prelude.{◌≡◌, ◌<◌, ◌≤◌, ◌+◌, min, ℕ, List, Some, IfSome, Ok, false, length, option_map, slice_get};
 ghost use Rattle.link_machine.specs.Machine.LinkInput.{Tick, Reset, Start, Stop};
 ghost use Rattle.link_end.specs.Reports.{reset_told};
-ghost use Rattle.swp_lpdu.specs.Controls.{control_of};
-ghost use Rattle.link_machine.specs.Machine.{lpdu_input, report};
+ghost use Rattle.swp_lpdu.specs.Controls.{lpdu_of, control_of};
+ghost use Rattle.link_machine.specs.Machine.{lpdu_input, next_frame, report};
 ghost use Rattle.link_end.specs.Reports.{report_told};
 ghost use Rattle.node_machine.specs.Node.{has_come};
 ghost use Rattle.hcp_packet.specs.Packets.{IsSendable};
@@ -52,9 +52,9 @@ impl Ends {
     ghost use Rattle.node_machine.specs.Node.{with_older, without_notice, reset_late, is_over_at, forgets};
     ghost use Rattle.node_ends.specs.Holding.{kept_number};
     ghost use Rattle.node_ends.specs.Desks.{IsYoung};
-    ghost use Rattle.std.specs.Prelude.{◌≡◌, ◌≤◌, ◌+◌, min, [], ℕ, List, Some, IfSome, false, length, option_map, slice_get};
-    ghost use Rattle.swp_lpdu.specs.Controls.{control_of};
-    ghost use Rattle.link_machine.specs.Machine.{lpdu_input, report};
+    ghost use Rattle.std.specs.Prelude.{◌≡◌, ◌≤◌, ◌+◌, min, [], ℕ, List, Some, IfSome, Ok, false, length, option_map, slice_get};
+    ghost use Rattle.swp_lpdu.specs.Controls.{lpdu_of, control_of};
+    ghost use Rattle.link_machine.specs.Machine.{lpdu_input, next_frame, report};
     ghost use Rattle.link_machine.specs.Machine.LinkInput.{Tick, Reset, Start, Stop};
     ghost use Rattle.link_end.specs.Reports.{report_told, reset_told};
     ghost use Rattle.node_machine.specs.Node.{has_come};
@@ -338,6 +338,8 @@ impl Ends {
         requires { (ports : List Port) × EndsStandFor self.old ports }
         ensures stands { (ports : List Port) → EndsStandFor self.old ports → EndsStandFor self.new (at_place i has_sent ports) }
         ensures answer { (ports : List Port) → EndsStandFor self.old ports → result ≡ frame_at (slice_get ports i) }
+        ensures read { (ports : List Port) (p : Port) → EndsStandFor self.old ports → slice_get ports i ≡ Some p
+            → IfSome (next_frame p.side) (λ c. control_of (lpdu_of c) ≡ Ok c) }
     {
         if i >= self.seats.len() {
             return None;
@@ -617,6 +619,8 @@ fn send_place(seats: &mut [Seat], i: usize, pool: &Pool) -> Option<Lpdu>
     requires stands { (ports : List Port) × AreEnds pool.now seats.old ports }
     ensures stands { (ports : List Port) → AreEnds pool.now seats.old ports → AreEnds pool.now seats.new (at_place i has_sent ports) }
     ensures answer { (ports : List Port) → AreEnds pool.now seats.old ports → result ≡ frame_at (slice_get ports i) }
+    ensures read { (ports : List Port) (p : Port) → AreEnds pool.now seats.old ports → slice_get ports i ≡ Some p
+        → IfSome (next_frame p.side) (λ c. control_of (lpdu_of c) ≡ Ok c) }
 {
     seats[i].next_out(pool)
 }

@@ -43,7 +43,7 @@ impl Seat {
     ghost use Rattle.link_machine.specs.Machine.LinkInput.{Tick, Reset, Start, Stop};
     ghost use Rattle.link_machine.specs.Machine.{next_frame, frame_fetched};
     ghost use Rattle.swp_lpdu.specs.Controls.{lpdu_of};
-    ghost use Rattle.std.specs.Prelude.{option_map};
+    ghost use Rattle.std.specs.Prelude.{Ok, option_map};
     ghost use Rattle.link_end.specs.Roles.{MayStart};
     ghost use Rattle.link_end.specs.Reports.{reset_told};
     ghost use Rattle.swp_act.specs.declared.ActEvent.TheVariants.{Start as ActStart};
@@ -327,6 +327,7 @@ impl Seat {
         requires { (m : Machine) × HoldsSeat pool.now self.old m }
         ensures stands { (m : Machine) → HoldsSeat pool.now self.old m → HoldsSeat pool.now self.new (frame_fetched m) }
         ensures answer { (m : Machine) → HoldsSeat pool.now self.old m → result ≡ option_map lpdu_of (next_frame m) }
+        ensures read { (m : Machine) → HoldsSeat pool.now self.old m → IfSome (next_frame m) (λ c. control_of (lpdu_of c) ≡ Ok c) }
         ensures moves { Moves pool.now pool.now self.old.side.link self.new.side.link }
         ensures rest { self.new ≡ record self.old { side = self.new.side } }
     {

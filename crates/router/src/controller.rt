@@ -39,7 +39,8 @@ impl<N: Nv + Drop> Controller<N> {
     ghost use Rattle.hci_store.specs.Image.{image_fault};
     ghost use Rattle.hci_store.specs.Starting.{ready_writes, HasWritten};
     ghost use Rattle.gate_admin.specs.View.{has, hosts_where};
-    ghost use Rattle.link_machine.specs.Machine.{lpdu_input};
+    ghost use Rattle.swp_lpdu.specs.Controls.{lpdu_of, control_of};
+    ghost use Rattle.link_machine.specs.Machine.{lpdu_input, next_frame};
     ghost use Rattle.link_machine.specs.Machine.LinkInput.{Reset, Start, Stop};
     ghost use Rattle.node_machine.specs.Parts.{Core, Port, Work};
     ghost use Rattle.node_machine.specs.Carrying.{port_at, with_port};
@@ -65,8 +66,9 @@ impl<N: Nv + Drop> Controller<N> {
         ensures found { IsTrue N.tells → IfOk result (λ c. core_kept c ≡ (found_in_memory 0 (hosts_where (has hosts)) (N.content nv)).core) }
         ensures image { IsTrue N.tells → OnOk result (image_fault (N.content nv) ≡ None) }
         ensures made { IsTrue N.tells
-            → IfOk result (λ c. HasWritten N.writes N.content (ready_writes (N.content nv)) nv true c.store.journal.nv) }
-        ensures refused { IfErr result (λ e. IsBootRefused N.writes N.faults N.tells N.content nv e.nv e.fault) }
+            → IfOk result (λ c. HasWritten N.reads N.writes N.content (ready_writes (N.content nv)) nv true c.store.journal.nv) }
+        ensures count { IfOk result (λ c. N.faults nv ≤ N.faults c.store.journal.nv) }
+        ensures refused { IfErr result (λ e. IsBootRefused N.reads N.writes N.faults N.tells N.content nv e.nv e.fault) }
     {
         let Ok(buffer) = vec![in alloc; 0; MESSAGE] else {
             return Err(BootRefused {
@@ -200,6 +202,8 @@ impl<N: Nv + Drop> Controller<N> {
     pub fn next_out(&mut self, host: u8) -> Option<Lpdu>
         requires runs { (core : Core) × (ports : List Port) × RunsAs self.old core ports }
         ensures answer { (core : Core) (ports : List Port) → RunsAs self.old core ports → result ≡ frame_at (port_at ports host) }
+        ensures read { (core : Core) (ports : List Port) (p : Port) → RunsAs self.old core ports → port_at ports host ≡ Some p
+            → IfSome (next_frame p.side) (λ c. control_of (lpdu_of c) ≡ Ok c) }
         ensures runs { (core : Core) (ports : List Port) → RunsAs self.old core ports → RunsAs self.new core (with_port host has_sent ports) }
         ensures store { self.new.store ≡ self.old.store }
     {

@@ -1,4 +1,8 @@
-use Rattle.std.proofs.Common.{subst, sym, ap, ◌∙◌}
+use Rattle.std.proofs.Common.{◌≡◌, subst, sym, ap, ◌∙◌}
+use Rattle.std.specs.Prelude.{Some, IfSome, Ok}
+use Rattle.swp_lpdu.specs.Controls.{lpdu_of, control_of}
+use Rattle.link_machine.specs.Machine.{next_frame}
+use Rattle.node_machine.specs.Parts.{Port}
 use Rattle.link_machine.specs.Machine.LinkInput.{Fetch}
 use Rattle.node_ends.specs.declared.seat.Seat.{Seat}
 use Rattle.node_deeds.specs.Cores.{IsSoundDesk}
@@ -39,3 +43,10 @@ pub returns-clause-answer : goal.returns-clause-answer
 returns-clause-answer c ports e =
     let r = reads_here c.args.i c.index-seats-i.result c.requires.inside e in
     c.next_out.ensures.answer r.port.side r.stands.holds ∙ ap frame_at (sym r.port_is)
+
+pub returns-clause-read : goal.returns-clause-read
+returns-clause-read c ports p e is =
+    let r = reads_here c.args.i c.index-seats-i.result c.requires.inside e in
+    let same : r.port ≡ p = (let both : Some r.port ≡ Some p = sym r.port_is ∙ is in cc) in
+    let P : Port → Type 0 = λ q. IfSome (next_frame q.side) (λ x. control_of (lpdu_of x) ≡ Ok x) in
+    subst P same (c.next_out.ensures.read r.port.side r.stands.holds)

@@ -15,7 +15,7 @@ use Rattle.node_core.specs.Bringing.{Brings}
 use Rattle.node_core.specs.Running.{RunsAs, MayStep, BeginsStep, HasStepped, HasNoneEnded, between, reset_refusal_at}
 use Rattle.node_core.proofs.Stepping.{reset_synced}
 use Rattle.node_core.proofs.Between.{begins_in_step, at_rest, rests_in_step, kept_at, kept_none_ended}
-use Rattle.node_core.proofs.Behind.{kept_order, kept_few}
+use Rattle.node_core.proofs.Behind.{kept_order, kept_few, stepped}
 use Rattle.node_core.proofs.Asking.{begins_at_rest}
 use Rattle.node_core.proofs.Unwritten.{host_still, resets_down}
 use Rattle.host_core.proofs.host.Host.reset.Goals as goal
@@ -82,6 +82,23 @@ pub returns-in-Ok-clause-stepped : goal.returns-in-Ok-clause-stepped
 returns-in-Ok-clause-stepped g c start w begins =
     let t = c.reset_step in
     let e = c.end_step.ensures in
+    let window = c.args.window in
+    let B : ℕ → Node g.row.N.Denot → Type 0 = λ h n. Brings g.N.Nv.writes n.store.journal.nv c.end_step.new.self.store.journal.nv
+    (HasStepped c.end_step.new.self (g.W.Watch.noted t.new.watch) (g.W.Watch.is_short t.new.watch) start) (steps (AtEnd h (Reset window))) w in
+    let P : ℕ → Type 0 = λ h. B h c.self.inside.node in
+    let F : Node g.row.N.Denot → Type 0 = λ n. BeginsStep n (g.W.Watch.noted c.args.watch.now) (g.W.Watch.is_short c.args.watch.now) start w → B n.number n in
+    let whole : F c.self.inside.node = λ b. (
+    let O : Result Bool ResetRefused → Type 0 = λ x. OnOk x (Brings g.N.Nv.writes c.self.inside.node.store.journal.nv t.new.self.store.journal.nv
+    (IsInStep t.new.self (g.W.Watch.noted t.new.watch) (g.W.Watch.is_short t.new.watch) start) (steps (AtEnd c.number-host.result (Reset window))) w) in
+    let brought = subst O c.in-Ok.is (t.ensures.carried start w (begins_in_step b) b.runs.order b.runs.few) in
+    subst P c.number-host.ensures (stepped g.N.Nv.writes (AtEnd c.number-host.result (Reset window)) (λ m. reset_few_due m window) b brought e.ended e.store
+    e.number e.tasks e.runs)) in
+    subst F c.self.view_is whole begins
+
+pub returns-in-Ok-clause-quietly : goal.returns-in-Ok-clause-quietly
+returns-in-Ok-clause-quietly g c start w begins =
+    let t = c.reset_step in
+    let e = c.end_step.ensures in
     let h = c.number-host.result in
     let window = c.args.window in
     let F : Node g.row.N.Denot → Type 0 = λ n. BeginsStep n (g.W.Watch.noted c.args.watch.now) (g.W.Watch.is_short c.args.watch.now) start w
@@ -125,6 +142,40 @@ returns-in-Ok-clause-memory g c =
     e.runs (reset_synced w.core w.core.node window w.ports)
     (resets_down w.core.node window w.ports (b.runs.order.own (λ zero. nonzero (sym b.runs.node ∙ zero))) told) in
     r.0 ∙ ap (λ (n : Node g.row.N.Denot). n.store.journal.nv) c.self.view_is
+
+pub returns-in-Ok-clause-live : goal.returns-in-Ok-clause-live
+returns-in-Ok-clause-live g c =
+    let M : Node g.row.N.Denot → Type 0 = λ n. MayStep n in
+    let m : MayStep c.self.inside.node = subst M (sym c.self.view_is) c.requires.may in
+    let t = c.reset_step in
+    let e = c.end_step.ensures in
+    let h = c.number-host.result in
+    let window = c.args.window in
+    let start = g.W.Watch.noted c.args.watch.now in
+    let b = begins_at_rest start (g.W.Watch.is_short c.args.watch.now) m.runs m.sent in
+    let w : Work = at_rest m.core m.ports in
+    let u = begins_in_step b in
+    let O : Result Bool ResetRefused → Type 0 = λ x. OnOk x (Brings g.N.Nv.writes c.self.inside.node.store.journal.nv t.new.self.store.journal.nv
+    (IsInStep t.new.self (g.W.Watch.noted t.new.watch) (g.W.Watch.is_short t.new.watch) start) (steps (AtEnd h (Reset window))) w) in
+    let R : Result Bool ResetRefused → Type 0 = λ x. MatchResult x (λ live. reset_refusal_at (port_at w.ports h) ≡ None)
+    (λ why. reset_refusal_at (port_at w.ports h) ≡ Some why) in
+    let Q : ℕ → Type 0 = λ k. reset_refusal_at (port_at w.ports k) ≡ None in
+    let told = subst Q (c.number-host.ensures ∙ sym b.runs.node) (subst R c.in-Ok.is (t.ensures.refusal start w u)) in
+    let brought = subst O c.in-Ok.is (t.ensures.carried start w u b.runs.order b.runs.few) in
+    let nonzero = some c.self.inside.node.number c.self.invariant.1 in
+    let r = host_still g.N.Nv.writes h (Reset window) c.number-host.ensures nonzero (λ x. reset_few_due x window) b brought e.ended e.store e.number e.tasks
+    e.runs (reset_synced w.core w.core.node window w.ports)
+    (resets_down w.core.node window w.ports (b.runs.order.own (λ zero. nonzero (sym b.runs.node ∙ zero))) told) in
+    r.2
+
+pub returns-in-Err-clause-live : goal.returns-in-Err-clause-live
+returns-in-Err-clause-live g c =
+    let M : Node g.row.N.Denot → Type 0 = λ n. MayStep n in
+    let m : MayStep c.self.inside.node = subst M (sym c.self.view_is) c.requires.may in
+    let t = c.reset_step in
+    let Q : Result Bool ResetRefused → Type 0 = λ x. OnErr x ((t.new.watch ≡ c.args.watch.now) × (t.new.self.store ≡ c.self.inside.node.store)) in
+    let quiet = subst Q c.in-Err.is t.ensures.quiet in
+    ap (λ (s : Stored g.row.N.Denot). s.journal.live) quiet.1 ∙ m.runs.live
 
 -- a node whose reset was refused runs on
 again : {N : Type 0} (n n2 : Node N) (core : Core) (ports : List Port) {noted start : List Entry} {short : Bool} → RunsAs n core ports

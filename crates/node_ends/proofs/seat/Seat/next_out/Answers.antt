@@ -1,6 +1,7 @@
-use Rattle.std.proofs.Common.{ap, ◌∙◌, subst}
-use Rattle.std.specs.Prelude.{option_map}
-use Rattle.swp_lpdu.specs.Controls.{lpdu_of}
+use Rattle.std.proofs.Common.{◌≡◌, ap, ◌∙◌, subst}
+use Rattle.std.specs.Prelude.{Option, IfSome, Ok, option_map}
+use Rattle.swp_base.specs.declared.control_frames.Control.{Control}
+use Rattle.swp_lpdu.specs.Controls.{lpdu_of, control_of}
 use Rattle.link_machine.specs.Machine.{frame_fetched}
 use Rattle.link_end.specs.Ends.{EndStandsFor}
 use Rattle.node_ends.specs.Holding.{without_got}
@@ -20,3 +21,8 @@ returns-clause-answer c m h = c.next_out.ensures.answer (without_got m) h.stands
 pub returns-clause-moves : goal.returns-clause-moves
 returns-clause-moves c =
     stays_beside c.args.pool.now c.args.self.now.side.link c.next_out.new.self.link c.next_out.ensures.boxes.0 c.next_out.ensures.boxes.1
+
+pub returns-clause-read : goal.returns-clause-read
+returns-clause-read c m h =
+    let P : Option Control → Type 0 = λ o. IfSome o (λ x. control_of (lpdu_of x) ≡ Ok x) in
+    subst P (next_without m) (c.next_out.ensures.read (without_got m) h.stands)

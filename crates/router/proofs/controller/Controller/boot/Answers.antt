@@ -3,7 +3,7 @@ use Rattle.swp_base.specs.declared.link_terms.Role.TheVariants.{Clf}
 use Rattle.gate_admin.specs.View.{has, hosts_where}
 use Rattle.node_ends.specs.Making.{AreAllDifferent}
 use Rattle.node_core.specs.Booting.{BeginsAs}
-use Rattle.node_core.proofs.Beginning.{new_runs}
+use Rattle.node_core.proofs.Beginning.{new_runs, clf_roles}
 use Rattle.router.proofs.Masks.{hosts_differ, hosts_within, links_within}
 use Rattle.router.proofs.controller.Controller.boot.Goals as goal
 
@@ -19,4 +19,4 @@ returns-in-Ok-boot-clause-runs g c =
     let b = c.in-Ok-boot.ensures.begins in
     let B : List ℕ → Type 0 = λ hs. BeginsAs 0 Clf hs n in
     new_runs n 0 Clf hosts (subst B (c.as_slice.ensures.value ∙ c.hosts_of-hosts.ensures) b) c.in-Ok-boot.ensures.sound
-    (links_within Clf hosts (hosts_within (has c.args.hosts))) (λ some. absurd (some b.number_is))
+    (links_within Clf hosts (hosts_within (has c.args.hosts))) (λ some. absurd (some b.number_is)) (clf_roles n.number hosts b.number_is)

@@ -1,0 +1,227 @@
+-- An end of a node that becomes active in a step doesn't wait behind it, so that it takes a reset.
+use Rattle.std.proofs.Common.{◌≡◌, ℕ, zero, suc, ◌+◌, Bool, true, false, List, [], ◌∷◌, map, refl, sym, ap, ◌∙◌, subst}
+use Rattle.std.specs.Prelude.{Option, Some, None, IfSome, option_map, ◌==◌, nat_le}
+use Rattle.std.specs.List.{find, flat_map}
+use Rattle.std.proofs.lemmas.Bool.{true≢false}
+use Rattle.swp_base.specs.declared.control_frames.Act.{Act}
+use Rattle.swp_base.specs.declared.control_frames.Act.TheVariants.{Ready, SyncId, PowerMode}
+use Rattle.swp_base.specs.declared.control_frames.Control.TheVariants.{I, S, Rset, Ua, Act as ActFrame, Clt}
+use Rattle.swp_act.specs.declared.ActEvent.{ActEvent}
+use Rattle.swp_act.specs.declared.ActEvent.TheVariants.{Start as ActStart, Take as ActTake, Tick as ActTick, Stop as ActStop}
+use Rattle.swp_act.specs.declared.Phase.{Phase}
+use Rattle.swp_act.specs.declared.Phase.TheVariants.{Inactive, Awaiting, Active}
+use Rattle.swp_act.specs.Activation.{out_ticked}
+use Rattle.shdlc_core.specs.declared.answers.LinkState.TheVariants.{Down}
+use Rattle.shdlc_core.specs.Machine.{EndState, after_frames}
+use Rattle.link_laws.proofs.sessions.Ties.{fetched-phase}
+use Rattle.trace_model.specs.declared.entry.Entry.{Entry}
+use Rattle.link_machine.specs.Machine.{LinkEnd as Machine, LinkInput, Role, is_open, act_answer, role_after, put_down, activated}
+use Rattle.link_machine.specs.Machine.{report, reset_refusal, sent_all, after_input}
+use Rattle.link_machine.specs.Machine.Role.{Bare, Clf, Uicc}
+use Rattle.link_machine.specs.Machine.LinkInput.{Take, TakeUnknown, TakeBroken, Tick, Reset, Start, Stop, FromNode, Fetch}
+use Rattle.link_machine.proofs.Runs.{Sound, sound}
+use Rattle.node_deeds.proofs.Ports.{find-map}
+use Rattle.node_machine.specs.Parts.{Port, Work, Deed}
+use Rattle.node_machine.specs.Carrying.{port_at, unless_cut}
+use Rattle.node_machine.specs.Turns.{goes_through_ends, have_turns, passes}
+use Rattle.node_machine.specs.Node.{input_at, has_come, all_come, synced, steps}
+use Rattle.node_machine.specs.Node.NodeInput.{AtEnd}
+use Rattle.node_ends.specs.Ends.{got_at}
+use Rattle.node_ends.specs.Holding.{IsReached}
+use Rattle.node_core.specs.declared.node.Node.{Node}
+use Rattle.node_core.specs.Running.{BeginsStep}
+use Rattle.node_core.specs.Syncing.{settles}
+use Rattle.node_core.proofs.Joining.{stays_cut, goes_on}
+use Rattle.node_core.proofs.Quiet.{LinkSeen, link_at}
+use Rattle.node_core.proofs.Elsewhere.{host_at, same_links, turns_links}
+use Rattle.node_core.proofs.EndKinds.{acted_role}
+use Rattle.node_core.proofs.Settling.{settled_quiet}
+use Rattle.node_core.proofs.Sendables.{found_all}
+use Rattle.node_core.proofs.Between.{runs_reached}
+use Rattle.node_core.proofs.Unwritten.{acted_phase, put_down_phase}
+
+-- ## One end
+
+-- by what an end becomes active: it was closed, it is open then, and its link doesn't go down
+record Opens (r : Role) (event : ActEvent) : Type 0 where
+  closed : is_open r ≡ false
+  opened : is_open (role_after r event) ≡ true
+  stays : (act_answer r event).ended_link ≡ false
+
+ticked_never : (p : Phase) (last : Option Act) → (out_ticked p last).became_active ≡ true → ⊥
+ticked_never Inactive last is = true≢false (sym is)
+ticked_never Active last is = true≢false (sym is)
+ticked_never (Awaiting tries ticks) last is = by (nat_le 10 (ticks + 1)) (nat_le 3 tries) refl refl
+  where
+    by : (a b : Bool) → nat_le 10 (ticks + 1) ≡ a → nat_le 3 tries ≡ b → ⊥
+    by false b p q = let z : false ≡ true = rw p at is in true≢false (sym z)
+    by true false p q = let z : false ≡ true = rw (p, q) at is in true≢false (sym z)
+    by true true p q = let z : false ≡ true = rw (p, q) at is in true≢false (sym z)
+
+opens : (r : Role) (event : ActEvent) → (act_answer r event).became_active ≡ true → Opens r event
+opens Bare event is = absurd (true≢false (sym is))
+opens (Clf s) (ActStart value) is = absurd (true≢false (sym is))
+opens (Clf s) ActStop is = absurd (true≢false (sym is))
+opens (Clf s) ActTick is = absurd (ticked_never s.phase s.last is)
+opens (Clf s) (ActTake act true) is = absurd (true≢false (sym is))
+opens (Clf s) (ActTake (PowerMode code) false) is = absurd (true≢false (sym is))
+opens (Clf s) (ActTake (SyncId id) false) is = go s.phase refl
+  where
+    go : (p : Phase) → s.phase ≡ p → Opens (Clf s) (ActTake (SyncId id) false)
+    go Inactive q = absurd (let z : false ≡ true = rw q at is in true≢false (sym z))
+    go (Awaiting tries ticks) q = absurd (let z : false ≡ true = rw q at is in true≢false (sym z))
+    go Active q = absurd (let z : false ≡ true = rw q at is in true≢false (sym z))
+opens (Clf s) (ActTake Ready false) is = go s.phase refl
+  where
+    go : (p : Phase) → s.phase ≡ p → Opens (Clf s) (ActTake Ready false)
+    go Inactive q = absurd (let z : false ≡ true = rw q at is in true≢false (sym z))
+    go (Awaiting tries ticks) q = record { closed = rw q refl; opened = rw q refl; stays = rw q refl }
+    go Active q = absurd (let z : false ≡ true = rw q at is in true≢false (sym z))
+opens (Uicc s) (ActStart value) is = absurd (true≢false (sym is))
+opens (Uicc s) ActStop is = absurd (true≢false (sym is))
+opens (Uicc s) ActTick is = absurd (ticked_never s.phase s.last is)
+opens (Uicc s) (ActTake act true) is = absurd (true≢false (sym is))
+opens (Uicc s) (ActTake (SyncId id) false) is = absurd (true≢false (sym is))
+opens (Uicc s) (ActTake Ready false) is = absurd (true≢false (sym is))
+opens (Uicc s) (ActTake (PowerMode code) false) is = go (nat_le code 1) s.phase refl refl
+  where
+    go : (b : Bool) (p : Phase) → nat_le code 1 ≡ b → s.phase ≡ p → Opens (Uicc s) (ActTake (PowerMode code) false)
+    go false p z q = absurd (let x : false ≡ true = rw (z, act_answer) at is in true≢false (sym x))
+    go true Inactive z q = absurd (let x : false ≡ true = rw (z, q, act_answer) at is in true≢false (sym x))
+    go true (Awaiting tries ticks) z q = record { closed = rw q refl; opened = rw (z, q) refl; stays = rw (z, q, act_answer) refl }
+    go true Active z q = absurd (let x : false ≡ true = rw (z, q, act_answer) at is in true≢false (sym x))
+
+-- it is active, and its link is Down
+record IsReady (e : Machine) : Type 0 where
+  active : is_open e.role ≡ true
+  phase : e.shdlc.phase ≡ Down
+
+ready_by : (e : Machine) (event : ActEvent) → Sound e → (act_answer e.role event).became_active ≡ true → IsReady (activated e event)
+ready_by e event is became =
+    let o = opens e.role event became in
+    let out = act_answer e.role event in
+    let f : Machine = record (put_down out.ended_link e) { role = role_after e.role event } in
+    record {
+      active = ap is_open (acted_role out.send f) ∙ o.opened;
+      phase = acted_phase out.send f ∙ put_down_phase out.ended_link e (is.closed o.closed).phase;
+    }
+
+none_became : {P : Type 0} → false ≡ true → P
+none_became is = absurd (true≢false (sym is))
+
+ready_behind : (e : Machine) (i : LinkInput) → Sound e → (report e i).became_active ≡ true → IsReady (after_input e i)
+ready_behind e (Take (ActFrame act again)) is became = ready_by e (ActTake act again) is became
+ready_behind e (Take (I ns nr info)) is became = none_became became
+ready_behind e (Take (S kind nr)) is became = none_became became
+ready_behind e (Take (Rset window caps)) is became = none_became became
+ready_behind e (Take Ua) is became = none_became became
+ready_behind e (Take Clt) is became = none_became became
+ready_behind e TakeUnknown is became = none_became became
+ready_behind e (TakeBroken fault) is became = none_became became
+ready_behind e Tick is became = by (is_open e.role) refl
+  where
+    by : (b : Bool) → is_open e.role ≡ b → IsReady (after_input e Tick)
+    by true q = none_became (rw q at became)
+    by false q = let ticks : (act_answer e.role ActTick).became_active ≡ true = rw q at became in rw q (ready_by e ActTick is ticks)
+ready_behind e (Reset window) is became = none_became became
+ready_behind e (Start value) is became = never e.role became
+  where
+    never : (r : Role) → (act_answer r (ActStart value)).became_active ≡ true → IsReady (after_input e (Start value))
+    never Bare z = none_became z
+    never (Clf s) z = none_became z
+    never (Uicc s) z = none_became z
+ready_behind e Stop is became = never e.role became
+  where
+    never : (r : Role) → (act_answer r ActStop).became_active ≡ true → IsReady (after_input e Stop)
+    never Bare z = none_became z
+    never (Clf s) z = none_became z
+    never (Uicc s) z = none_became z
+ready_behind e (FromNode t) is became = none_became became
+ready_behind e Fetch is became = none_became became
+
+frames_phase : (n : ℕ) (s : EndState) → (after_frames n s).phase ≡ s.phase
+frames_phase zero s = refl
+frames_phase (suc n) s = frames_phase n _ ∙ fetched-phase s
+
+-- once its frames went out, it takes a reset
+ready_resets : (e : Machine) → is_open e.role ≡ true → e.shdlc.phase ≡ Down → reset_refusal (sent_all e) ≡ None
+ready_resets e active phase = let p = frames_phase 12 e.shdlc ∙ phase in rw (active, p) refl
+
+reached_sound : (e : Machine) → IsReached e → Sound e
+reached_sound e r = let P : Machine → Type 0 = λ m. Sound m in subst P (sym r.is) (sound r.role r.inputs r.sendable)
+
+-- ## A step
+
+ends_links : (hosts : List ℕ) (w : Work) → map link_at (goes_through_ends hosts w).ports ≡ map link_at w.ports
+ends_links [] w = refl
+ends_links (h ∷ hosts) w = by (have_turns h (got_at w.ports h) w).cut refl (ends_links hosts (have_turns h (got_at w.ports h) w))
+  where
+    v : Work
+    v = have_turns h (got_at w.ports h) w
+
+    by : (b : Bool) → v.cut ≡ b → map link_at (goes_through_ends hosts v).ports ≡ map link_at v.ports
+        → map link_at (goes_through_ends (h ∷ hosts) w).ports ≡ map link_at w.ports
+    by true q later = ap (λ (u : Work). map link_at u.ports) (stays_cut (goes_through_ends hosts) v q) ∙ turns_links h (got_at w.ports h) w
+    by false q later =
+        ap (λ (u : Work). map link_at u.ports) (goes_on (goes_through_ends hosts) v q) ∙ (later ∙ turns_links h (got_at w.ports h) w)
+
+-- what a step leaves of the links as they are behind what came
+step_links : (h : ℕ) (i : LinkInput) (w : Work) → map link_at (steps (AtEnd h i) w).ports ≡ map link_at (all_come (AtEnd h i) w).ports
+step_links h i w = by settled.cut refl
+  where
+    syncs : List Deed
+    syncs = flat_map (synced w.core (AtEnd h i)) w.ports
+
+    came : Work
+    came = all_come (AtEnd h i) w
+
+    settled : Work
+    settled = settles syncs came
+
+    whole : steps (AtEnd h i) w ≡ unless_cut passes settled
+    whole = refl
+
+    still : map link_at settled.ports ≡ map link_at came.ports
+    still = same_links settled.ports came.ports (settled_quiet syncs came)
+
+    by : (b : Bool) → settled.cut ≡ b → map link_at (steps (AtEnd h i) w).ports ≡ map link_at came.ports
+    by true q = ap (λ (u : Work). map link_at u.ports) (whole ∙ stays_cut passes settled q) ∙ still
+    by false q =
+        ap (λ (u : Work). map link_at u.ports) (whole ∙ goes_on passes settled q) ∙ (ends_links (map host_at settled.ports) settled ∙ still)
+
+-- the end to which it came
+come_there : (h : ℕ) (i : LinkInput) (ports : List Port) (p : Port) → port_at ports h ≡ Some p
+    → port_at (map (λ (q : Port). has_come q (input_at (AtEnd h i) q)) ports) h ≡ Some (has_come p (Some i))
+come_there h i [] p is = cc
+come_there h i (q ∷ ports) p is = by (q.desk.host == h) refl (come_there h i ports p)
+  where
+    by : (b : Bool) → (q.desk.host == h) ≡ b
+        → (port_at ports h ≡ Some p → port_at (map (λ (x : Port). has_come x (input_at (AtEnd h i) x)) ports) h ≡ Some (has_come p (Some i)))
+        → port_at (map (λ (x : Port). has_come x (input_at (AtEnd h i) x)) (q ∷ ports)) h ≡ Some (has_come p (Some i))
+    by true z later = let same : q ≡ p = (let there : Some q ≡ Some p = rw z at is in cc) in rw (z, z) (ap (λ (x : Port). Some (has_come x (Some i))) same)
+    by false z later = rw (z, z) (later (rw z at is))
+
+links_at : (a b : List Port) (h : ℕ) → map link_at a ≡ map link_at b → option_map link_at (port_at a h) ≡ option_map link_at (port_at b h)
+links_at a b h same =
+    sym (find-map (λ (l : LinkSeen). l.0 == h) link_at a)
+    ∙ (ap (find (λ (l : LinkSeen). l.0 == h)) same ∙ find-map (λ (l : LinkSeen). l.0 == h) link_at b)
+
+-- it is there behind the step, and takes a reset
+abbrev Resets : Option Port → Type 0
+Resets o = (q : Port) × (o ≡ Some q) × (reset_refusal (sent_all q.side) ≡ None)
+
+as_seen : (e : Machine) (k : ℕ) (o : Option Port) → IsReady e → option_map link_at o ≡ Some (k, e.role, e.shdlc.phase) → Resets o
+as_seen e k None ready is = cc
+as_seen e k (Some q) ready is =
+    let same : link_at q ≡ (k, e.role, e.shdlc.phase) = cc in
+    (q, refl, ready_resets q.side (ap (λ (l : LinkSeen). is_open l.1) same ∙ ready.active) (ap (λ (l : LinkSeen). l.2) same ∙ ready.phase))
+
+pub becomes_ready : {N : Type 0} {n : Node N} {noted start : List Entry} {short : Bool} {w : Work} (h : ℕ) (i : LinkInput) (p : Port)
+    → BeginsStep n noted short start w → port_at w.ports h ≡ Some p → (report p.side i).became_active ≡ true
+    → (q : Port) × (port_at (steps (AtEnd h i) w).ports h ≡ Some q) × (reset_refusal (sent_all q.side) ≡ None)
+becomes_ready {w = w} h i p b at became =
+    let R : Option Port → Type 0 = λ o. IfSome o (λ (q : Port). IsReached q.side) in
+    let reached : IsReached p.side = subst R at (found_all (λ (q : Port). IsReached q.side) w.ports h (runs_reached b.runs)) in
+    let ready = ready_behind p.side i (reached_sound p.side reached) became in
+    as_seen (after_input p.side i) p.desk.host (port_at (steps (AtEnd h i) w).ports h) ready
+    (links_at (steps (AtEnd h i) w).ports (all_come (AtEnd h i) w).ports h (step_links h i w) ∙ ap (option_map link_at) (come_there h i w.ports p at))
