@@ -2,6 +2,7 @@
 ghost use Rattle.std.specs.Prelude.{◌≡◌, ◌≤◌, List};
 ghost use Rattle.node_machine.specs.Parts.{Core, Port};
 ghost use Rattle.node_core.specs.Running.{RunsAs, MayStep};
+ghost use Rattle.worked_nodes.specs.FramesOut.{due_to, AreHandedOn};
 
 use crate::library::Wires;
 use host_core::{BootRefused, Host, HostRefused, Ran};
@@ -156,6 +157,8 @@ fn send_own<N: Nv + Drop, S: Wires>(host: &mut Host<N>, number: u8, wires: &mut 
     requires number { host.old.number ≡ number }
     requires low { 1 ≤ number }
     ensures may { MayStep host.new }
+    ensures handed { (core : Core) (ports : List Port) → RunsAs host.old core ports
+        → AreHandedOn (S.is_full wires.old) (S.is_full wires.new) (S.carried wires.old) (S.carried wires.new) (due_to number ports) }
     ensures number { host.new.number ≡ host.old.number }
 {
     for _ in 0..MOST_FRAMES {

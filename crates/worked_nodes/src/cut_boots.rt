@@ -2,7 +2,7 @@
 ghost use Rattle.std.specs.Prelude.{◌≡◌, ◌<◌, length};
 
 use crate::library::FrontEnd;
-use crate::sessions::{Seen, front_end, keeps, lpdu, memory, up};
+use crate::sessions::{Seen, front_end, keeps, lpdu, memory, opens, says, takes, up, up_from};
 use crate::shown::same;
 use arrayvec::ArrayVec;
 use router::Ran;
@@ -10,17 +10,17 @@ use std::alloc::Global;
 use std::process::Abort;
 use swp_base::{MemNv, Nv};
 
-/// One byte FF, which a write that fails leaves all over its range.
-fn torn() -> ArrayVec<u8, 64>
+/// One byte, which a write that fails leaves all over its range.
+pub(crate) fn torn(byte: u8) -> ArrayVec<u8, 64>
     ensures { 0 < length result.items }
 {
     let mut fill = ArrayVec::new();
-    fill.push(0xFF);
+    fill.push(byte);
     fill
 }
 
 /// A memory that has 65,536 bytes.
-fn whole(rt: &impl Abort, nv: MemNv) -> MemNv
+pub(crate) fn whole(rt: &impl Abort, nv: MemNv) -> MemNv
     ensures { length result.content ≡ 65536 }
 {
     assert!(rt; nv.size() == 65_536);
@@ -42,7 +42,7 @@ fn cut(rt: &impl Abort, alloc: Global, nth: u32) -> FrontEnd<MemNv>
     let clf = memory(rt, alloc);
     let uicc = memory(rt, alloc);
     let (mut front, _card) = up(rt, alloc, clf, uicc);
-    front.arm(nth, torn());
+    front.arm(nth, torn(0xFF));
     stops(rt, &mut front, &[0x80, 0x81, 0x03]);
     let nv = whole(rt, front.into_nv());
     front_end(rt, alloc, nv)
@@ -52,4 +52,36 @@ fn cut(rt: &impl Abort, alloc: Global, nth: u32) -> FrontEnd<MemNv>
 fn a_boot_finds_the_commands_before_the_cut(rt: HostRuntime) {
     let front = cut(&rt, rt.alloc(), 2);
     keeps(&rt, front.controller().store(), 1, &[(2, 0x1A2B)], &[]);
+}
+
+/// A controller that was cut behind the opening of pipe 01, which is closed again. The identifier is the kept one.
+fn asks_behind_a_cut(rt: &impl Abort, alloc: Global, nv: MemNv)
+    requires { length nv.content ≡ 65536 }
+{
+    let uicc = memory(rt, alloc);
+    let (mut front, mut card) = up_from(rt, alloc, nv, uicc, 0);
+    says(
+        rt,
+        &mut card,
+        &[0x02, 0x01],
+        &[2, 4, 0x80, 0x81, 0x02, 0x01],
+    );
+    takes(
+        rt,
+        &mut front,
+        &[0x80, 0x81, 0x02, 0x01],
+        3,
+        &[2, 1, 0xC1, 2, 3, 0x81, 0x81, 0x86],
+    );
+    keeps(rt, front.controller().store(), 2, &[(2, 0x1A2B)], &[]);
+}
+
+#[test]
+fn a_boot_finds_every_pipe_closed(rt: HostRuntime) {
+    let clf = memory(&rt, rt.alloc());
+    let uicc = memory(&rt, rt.alloc());
+    let (mut front, mut card) = up(&rt, rt.alloc(), clf, uicc);
+    opens(&rt, &mut front, &mut card);
+    let nv = whole(&rt, front.into_nv());
+    asks_behind_a_cut(&rt, rt.alloc(), nv);
 }

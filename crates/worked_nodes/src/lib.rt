@@ -2,6 +2,8 @@
 #![tactic(auto)]
 
 #[cfg(test)]
+mod boots;
+#[cfg(test)]
 mod card;
 #[cfg(test)]
 mod cut_boots;

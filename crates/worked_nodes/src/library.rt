@@ -2,7 +2,7 @@
 ghost use Rattle.std.specs.Prelude.{◌≡◌, List};
 ghost use Rattle.node_machine.specs.Parts.{Core, Port};
 ghost use Rattle.node_core.specs.Running.{RunsAs, MayStep};
-ghost use Rattle.worked_nodes.specs.FramesOut.{HasSentTo};
+ghost use Rattle.worked_nodes.specs.FramesOut.{due_to, due_as_far_as, AreHandedOn, HasSentTo, HasSentToAll};
 
 use arrayvec::ArrayVec;
 use router::{BootRefused, Controller, Ran, ResetRefused};
@@ -16,8 +16,18 @@ const MOST_FRAMES: u8 = 9;
 
 /// What carries frames to the hosts.
 pub trait Wires {
-    /// A frame goes out to this host.
-    fn send(&mut self, host: u8, lpdu: &Lpdu);
+    ghost use Rattle.std.specs.Prelude.{ℕ, Bool, List, [], ◌∷◌};
+    ghost use Rattle.worked_nodes.specs.FramesOut.{AreHandedOn};
+
+    // the frames that were handed on, each with its host
+    ghost carried: { Self → List (ℕ × List ℕ) };
+
+    // there was no room for a frame
+    ghost is_full: { Self → Bool };
+
+    /// A frame goes out to this host, behind the others.
+    fn send(&mut self, host: u8, lpdu: &Lpdu)
+        ensures { AreHandedOn (is_full self.old) (is_full self.new) (carried self.old) (carried self.new) ((host, lpdu.now) ∷ []) };
 }
 
 /// Counts what a node notes, and keeps none of it.
@@ -61,12 +71,31 @@ impl<N: Nv + Drop> Model for FrontEnd<N> {
 }
 
 impl<N: Nv + Drop> FrontEnd<N> {
-    ghost use Rattle.std.specs.Prelude.{◌≡◌, ◌≤◌};
-    ghost use Rattle.node_core.specs.Running.{ran_so};
+    ghost use Rattle.std.specs.Prelude.{◌≡◌, ◌≤◌, List, map, true, None, Some, IsTrue, IfOk, IfErr, OnOk, OnErr, MatchResult};
+    ghost use Rattle.swp_base.specs.declared.link_terms.Role.TheVariants.{Clf};
+    ghost use Rattle.trace_model.specs.declared.entry.Entry.{Entry as Noted};
+    ghost use Rattle.hci_store.specs.Starting.{ready_writes, HasWritten};
+    ghost use Rattle.gate_admin.specs.View.{has, hosts_where};
+    ghost use Rattle.link_machine.specs.Machine.{lpdu_input};
+    ghost use Rattle.link_machine.specs.Machine.LinkInput.{Reset, Start};
+    ghost use Rattle.node_machine.specs.Parts.{Work};
+    ghost use Rattle.node_machine.specs.Carrying.{port_at};
+    ghost use Rattle.node_machine.specs.Node.{steps};
+    ghost use Rattle.node_machine.specs.Node.NodeInput.{AtEnd, TimePasses};
+    ghost use Rattle.node_ends.specs.Making.{new_port};
+    ghost use Rattle.node_core.specs.Booting.{found_in_memory, IsBootRefused};
+    ghost use Rattle.node_core.specs.Bringing.{Brings};
+    ghost use Rattle.node_core.specs.Running.{BeginsStep, ran_so, core_kept, reset_refusal_at};
+    ghost use Rattle.worked_nodes.specs.FramesOut.{HasHandedOn};
 
     /// A controller of these hosts boots from its memory.
     pub fn boot(alloc: Global, hosts: u8, nv: N) -> Result<Self, BootRefused<N>>
         requires size { N.capacity nv ≡ 65536 }
+        ensures runs { IfOk result (λ f. RunsAs f (core_kept f) (map (new_port Clf) (hosts_where (has hosts)))) }
+        ensures found { IsTrue N.tells → IfOk result (λ f. core_kept f ≡ (found_in_memory 0 (hosts_where (has hosts)) (N.content nv)).core) }
+        ensures made { IsTrue N.tells
+            → IfOk result (λ f. HasWritten N.reads N.writes N.content (ready_writes (N.content nv)) nv true f.store.journal.nv) }
+        ensures refused { IfErr result (λ e. IsBootRefused N.reads N.writes N.faults N.tells N.content nv e.nv e.fault) }
     {
         match Controller::boot(alloc, hosts, nv) {
             Ok(controller) => Ok(FrontEnd { controller }),
@@ -82,7 +111,11 @@ impl<N: Nv + Drop> FrontEnd<N> {
         watch: &mut W,
         wires: &mut S,
     ) -> Ran
-        ensures { result ≡ ran_so self.new.store.journal.live }
+        ensures stepped { (start : List Noted) (w : Work) → BeginsStep self.old (W.noted watch.old) (W.is_short watch.old) start w
+            → Brings N.writes self.old.store.journal.nv self.new.store.journal.nv
+            (HasHandedOn self.new (W.noted watch.new) (W.is_short watch.new) start (S.is_full wires.old) (S.is_full wires.new) (S.carried wires.old)
+            (S.carried wires.new)) (steps (AtEnd host (lpdu_input lpdu.now))) w }
+        ensures ran { result ≡ ran_so self.new.store.journal.live }
     {
         if !self.controller.store().live() {
             return Ran::Stopped;
@@ -96,7 +129,11 @@ impl<N: Nv + Drop> FrontEnd<N> {
 
     /// A tick passes.
     pub fn tick<W: Watch, S: Wires>(&mut self, watch: &mut W, wires: &mut S) -> Ran
-        ensures { result ≡ ran_so self.new.store.journal.live }
+        ensures stepped { (start : List Noted) (w : Work) → BeginsStep self.old (W.noted watch.old) (W.is_short watch.old) start w
+            → Brings N.writes self.old.store.journal.nv self.new.store.journal.nv
+            (HasHandedOn self.new (W.noted watch.new) (W.is_short watch.new) start (S.is_full wires.old) (S.is_full wires.new) (S.carried wires.old)
+            (S.carried wires.new)) (steps TimePasses) w }
+        ensures ran { result ≡ ran_so self.new.store.journal.live }
     {
         if !self.controller.store().live() {
             return Ran::Stopped;
@@ -117,6 +154,10 @@ impl<N: Nv + Drop> FrontEnd<N> {
         wires: &mut S,
     ) -> Ran
         requires power { power ≤ 1 }
+        ensures stepped { (start : List Noted) (w : Work) → BeginsStep self.old (W.noted watch.old) (W.is_short watch.old) start w
+            → Brings N.writes self.old.store.journal.nv self.new.store.journal.nv
+            (HasHandedOn self.new (W.noted watch.new) (W.is_short watch.new) start (S.is_full wires.old) (S.is_full wires.new) (S.carried wires.old)
+            (S.carried wires.new)) (steps (AtEnd host (Start power))) w }
         ensures ran { result ≡ ran_so self.new.store.journal.live }
     {
         if !self.controller.store().live() {
@@ -130,12 +171,26 @@ impl<N: Nv + Drop> FrontEnd<N> {
     }
 
     /// The link with a host is reset, where that isn't refused.
+    ///
+    /// # Errors
+    ///
+    /// Activation isn't done, or the end waits for the acceptance of a reset already. Nothing changed, and nothing went out.
     pub fn reset<W: Watch, S: Wires>(
         &mut self,
         host: u8,
         watch: &mut W,
         wires: &mut S,
-    ) -> Result<Ran, ResetRefused> {
+    ) -> Result<Ran, ResetRefused>
+        ensures refusal { (core : Core) (ports : List Port) → RunsAs self.old core ports → MatchResult result
+            (λ ran. reset_refusal_at (port_at ports host) ≡ None) (λ why. reset_refusal_at (port_at ports host) ≡ Some why) }
+        ensures stepped { OnOk result ((start : List Noted) (w : Work) → BeginsStep self.old (W.noted watch.old) (W.is_short watch.old) start w
+            → Brings N.writes self.old.store.journal.nv self.new.store.journal.nv
+            (HasHandedOn self.new (W.noted watch.new) (W.is_short watch.new) start (S.is_full wires.old) (S.is_full wires.new) (S.carried wires.old)
+            (S.carried wires.new)) (steps (AtEnd host (Reset None))) w) }
+        ensures unchanged { OnErr result ((core : Core) (ports : List Port) → RunsAs self.old core ports → RunsAs self.new core ports) }
+        ensures quiet { OnErr result ((watch.new ≡ watch.old) × (wires.new ≡ wires.old)) }
+        ensures ran { IfOk result (λ ran. ran ≡ ran_so self.new.store.journal.live) }
+    {
         if !self.controller.store().live() {
             return Ok(Ran::Stopped);
         }
@@ -151,24 +206,33 @@ impl<N: Nv + Drop> FrontEnd<N> {
     }
 
     /// The controller, to look at.
-    pub fn controller(&self) -> &Controller<N> {
+    pub fn controller(&self) -> &Controller<N>
+        ensures { result.now ≡ self.now }
+    {
         &self.controller
     }
 
     /// The memory, from which the controller boots again.
-    pub fn into_nv(self) -> N {
+    pub fn into_nv(self) -> N
+        ensures { result ≡ self.store.journal.nv }
+    {
         let FrontEnd { controller } = self;
         controller.into_nv()
     }
 }
 
 impl FrontEnd<MemNv> {
-    ghost use Rattle.std.specs.Prelude.{◌<◌, length};
+    ghost use Rattle.std.specs.Prelude.{◌≡◌, ◌<◌, Some, List, length};
 
-    /// Plans that the `nth` write of the memory from now fails, and what it leaves.
+    /// Plans that the `nth` write of the memory from now fails, and what it leaves. Nothing else changes.
     pub fn arm(&mut self, nth: u32, fill: ArrayVec<u8, 64>)
         requires nth { 0 < nth }
         requires fill { 0 < length fill.items }
+        ensures runs { (core : Core) (ports : List Port) → RunsAs self.old core ports → RunsAs self.new core ports }
+        ensures tables { self.new.store.tables ≡ self.old.store.tables }
+        ensures journal { self.new.store.journal ≡ record self.old.store.journal {
+          nv = record self.old.store.journal.nv { plan = Some (record { nth = nth; fill = fill.items }) };
+        } }
     {
         self.controller.arm(nth, fill);
     }
@@ -178,6 +242,8 @@ impl FrontEnd<MemNv> {
 fn send_to<N: Nv + Drop, S: Wires>(controller: &mut Controller<N>, host: u8, wires: &mut S)
     requires runs { (core : Core) × (ports : List Port) × RunsAs controller.old core ports }
     ensures sent { (core : Core) (ports : List Port) → RunsAs controller.old core ports → HasSentTo controller.new core host ports }
+    ensures handed { (core : Core) (ports : List Port) → RunsAs controller.old core ports
+        → AreHandedOn (S.is_full wires.old) (S.is_full wires.new) (S.carried wires.old) (S.carried wires.new) (due_to host ports) }
     ensures store { controller.new.store ≡ controller.old.store }
 {
     for _ in 0..MOST_FRAMES {
@@ -191,7 +257,9 @@ fn send_to<N: Nv + Drop, S: Wires>(controller: &mut Controller<N>, host: u8, wir
 /// The frames that wait for any host go out, so that the next step may begin.
 fn send_all<N: Nv + Drop, S: Wires>(controller: &mut Controller<N>, wires: &mut S)
     requires runs { (core : Core) × (ports : List Port) × RunsAs controller.old core ports }
-    ensures may { MayStep controller.new }
+    ensures sent { (core : Core) (ports : List Port) → RunsAs controller.old core ports → HasSentToAll controller.new core ports }
+    ensures handed { (core : Core) (ports : List Port) → RunsAs controller.old core ports
+        → AreHandedOn (S.is_full wires.old) (S.is_full wires.new) (S.carried wires.old) (S.carried wires.new) (due_as_far_as 7 ports) }
     ensures store { controller.new.store ≡ controller.old.store }
 {
     for host in 1..8 {

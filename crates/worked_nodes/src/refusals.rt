@@ -79,6 +79,24 @@ fn a_message_waits_for_room(rt: HostRuntime) {
     );
 }
 
+#[test]
+fn a_long_message_waits_for_a_short_one(rt: HostRuntime) {
+    let clf = memory(&rt, rt.alloc());
+    let uicc = memory(&rt, rt.alloc());
+    let (_front, mut card) = up(&rt, rt.alloc(), clf, uicc);
+    sends(&rt, &mut card, 0x21, &[0x42]);
+    refuses(
+        &rt,
+        &mut card,
+        0x21,
+        &[0x42; 4_096],
+        HostRefused::Full {
+            need: 128,
+            spare: 127,
+        },
+    );
+}
+
 /// No block is left for another message.
 fn full(rt: &impl Abort, card: &mut Card<MemNv>) {
     refuses(

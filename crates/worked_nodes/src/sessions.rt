@@ -11,7 +11,7 @@ use std::process::Abort;
 use swp_base::{Lpdu, MemNv, Nv, SureNv};
 
 /// The hosts of the controller: 02 alone.
-const HOSTS: u8 = 0b100;
+pub(crate) const HOSTS: u8 = 0b100;
 
 /// What went out, and how much was noted.
 #[derive(Drop)]
@@ -32,7 +32,7 @@ impl Seen {
     /// So many entries were noted, and these frames went out, each behind its host and the count of its bytes.
     pub(crate) fn shows(&self, rt: &impl Abort, entries: u64, frames: &[u8]) {
         same(rt, &self.count.entries, &entries);
-        same_bytes(rt, self.sent.as_slice(), frames);
+        same_bytes(rt, self.sent.bytes().as_slice(), frames);
     }
 }
 
@@ -90,7 +90,7 @@ pub(crate) fn hears<N: Nv + Drop>(
 }
 
 /// The host sends this message on pipe 01, in these frames.
-fn says<N: Nv + Drop>(rt: &impl Abort, card: &mut Card<N>, message: &[u8], frames: &[u8])
+pub(crate) fn says<N: Nv + Drop>(rt: &impl Abort, card: &mut Card<N>, message: &[u8], frames: &[u8])
     requires { 0 < length message.now }
 {
     let mut seen = Seen::new();
@@ -99,9 +99,20 @@ fn says<N: Nv + Drop>(rt: &impl Abort, card: &mut Card<N>, message: &[u8], frame
     seen.shows(rt, 1, frames);
 }
 
-/// Activation of host 02 is done. The controller keeps the identifier.
-fn activated<N: Nv + Drop>(rt: &impl Abort, front: &mut FrontEnd<N>, card: &mut Card<N>) {
-    takes(rt, front, &[0x61, 0x1A, 0x2B], 1, &[2, 2, 0x62, 0x01]);
+/// Activation of host 02 is done, and the controller notes so many commands for its identifier.
+fn activated<N: Nv + Drop>(
+    rt: &impl Abort,
+    front: &mut FrontEnd<N>,
+    card: &mut Card<N>,
+    commands: u64,
+) {
+    takes(
+        rt,
+        front,
+        &[0x61, 0x1A, 0x2B],
+        commands,
+        &[2, 2, 0x62, 0x01],
+    );
     hears(rt, card, &[0x62, 0x01], 1, &[2, 1, 0x60]);
     takes(rt, front, &[0x60], 1, &[]);
 }
@@ -116,12 +127,26 @@ fn reset<N: Nv + Drop>(rt: &impl Abort, front: &mut FrontEnd<N>, card: &mut Card
     takes(rt, front, &[0xE6], 1, &[]);
 }
 
-/// The controller's and the host's ends are in a session.
+/// The controller's and the host's ends are in a session. The controller keeps the host's identifier.
 pub(crate) fn up<N: Nv + Drop>(
     rt: &impl Abort,
     alloc: Global,
     clf: N,
     uicc: N,
+) -> (FrontEnd<N>, Card<N>)
+    requires clf { N.capacity clf ≡ 65536 }
+    requires uicc { N.capacity uicc ≡ 65536 }
+{
+    up_from(rt, alloc, clf, uicc, 1)
+}
+
+/// The controller's and the host's ends are in a session, and the controller notes so many commands for the host's identifier.
+pub(crate) fn up_from<N: Nv + Drop>(
+    rt: &impl Abort,
+    alloc: Global,
+    clf: N,
+    uicc: N,
+    commands: u64,
 ) -> (FrontEnd<N>, Card<N>)
     requires clf { N.capacity clf ≡ 65536 }
     requires uicc { N.capacity uicc ≡ 65536 }
@@ -132,7 +157,7 @@ pub(crate) fn up<N: Nv + Drop>(
     seen.shows(rt, 0, &[2, 3, 0x61, 0x1A, 0x2B]);
     let ran = front.activate(2, 1, &mut Count { entries: 0 }, &mut Sent::new());
     same(rt, &ran, &Ran::Done);
-    activated(rt, &mut front, &mut card);
+    activated(rt, &mut front, &mut card, commands);
     reset(rt, &mut front, &mut card);
     (front, card)
 }
@@ -151,22 +176,27 @@ pub(crate) fn keeps<N: Nv + Drop>(
     same(rt, &store.tables().pipes().rows().len(), &0);
 }
 
+/// The host opens its pipe 01.
+pub(crate) fn opens<N: Nv + Drop>(rt: &impl Abort, front: &mut FrontEnd<N>, card: &mut Card<N>) {
+    says(rt, card, &[0x03], &[2, 3, 0x80, 0x81, 0x03]);
+    takes(
+        rt,
+        front,
+        &[0x80, 0x81, 0x03],
+        5,
+        &[2, 1, 0xC1, 2, 4, 0x81, 0x81, 0x80, 0x00],
+    );
+    hears(rt, card, &[0xC1], 1, &[]);
+    hears(rt, card, &[0x81, 0x81, 0x80, 0x00], 2, &[2, 1, 0xC1]);
+}
+
 /// The session over these memories.
 fn play<N: Nv + Drop>(rt: &impl Abort, alloc: Global, clf: N, uicc: N)
     requires clf { N.capacity clf ≡ 65536 }
     requires uicc { N.capacity uicc ≡ 65536 }
 {
     let (mut front, mut card) = up(rt, alloc, clf, uicc);
-    says(rt, &mut card, &[0x03], &[2, 3, 0x80, 0x81, 0x03]);
-    takes(
-        rt,
-        &mut front,
-        &[0x80, 0x81, 0x03],
-        5,
-        &[2, 1, 0xC1, 2, 4, 0x81, 0x81, 0x80, 0x00],
-    );
-    hears(rt, &mut card, &[0xC1], 1, &[]);
-    hears(rt, &mut card, &[0x81, 0x81, 0x80, 0x00], 2, &[2, 1, 0xC1]);
+    opens(rt, &mut front, &mut card);
     keeps(rt, front.controller().store(), 2, &[(2, 0x1A2B)], &[(2, 1)]);
     keeps(rt, card.host().store(), 0, &[], &[]);
     says(

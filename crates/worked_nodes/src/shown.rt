@@ -15,30 +15,44 @@ pub(crate) fn same_bytes(rt: &impl Abort, told: &[u8], wanted: &[u8]) {
     assert_eq!(rt; told, wanted);
 }
 
-/// The frames that went out, each behind the number of its host and the count of its bytes.
+/// The frames that went out, each with its host, as far as there was room.
 #[derive(Drop)]
 pub(crate) struct Sent {
-    bytes: ArrayVec<u8, 128>,
+    frames: ArrayVec<(u8, Lpdu), 16>,
+    full: bool,
 }
 
 impl Sent {
     /// None yet.
     pub(crate) fn new() -> Sent {
         Sent {
-            bytes: ArrayVec::new(),
+            frames: ArrayVec::new(),
+            full: false,
         }
     }
 
-    /// The frames that went out.
-    pub(crate) fn as_slice(&self) -> &[u8] {
-        self.bytes.as_slice()
+    /// The frames that went out, each behind the number of its host and the count of its bytes.
+    pub(crate) fn bytes(&self) -> ArrayVec<u8, 128> {
+        let mut bytes = ArrayVec::new();
+        for (host, lpdu) in self.frames.iter() {
+            let frame = lpdu.bytes();
+            let _fits = bytes.try_extend_from_slice(&[*host, frame.len() as u8]);
+            let _fits = bytes.try_extend_from_slice(frame);
+        }
+        bytes
     }
 }
 
 impl Wires for Sent {
+    ghost carried = { λ s. s.frames.items };
+
+    ghost is_full = { λ s. s.full };
+
     fn send(&mut self, host: u8, lpdu: &Lpdu) {
-        let bytes = lpdu.bytes();
-        let _fits = self.bytes.try_extend_from_slice(&[host, bytes.len() as u8]);
-        let _fits = self.bytes.try_extend_from_slice(bytes);
+        if self.full || self.frames.is_full() {
+            self.full = true;
+            return;
+        }
+        self.frames.push((host, lpdu.copied()));
     }
 }

@@ -1,40 +1,65 @@
-use Rattle.std.proofs.Common.{◌≡◌, ℕ, ◌+◌, sym, ◌∙◌, subst, arith, refl}
-use Rattle.worked_nodes.proofs.Fetching.{IsSendingTo, sending_begins, sending_goes_on, sending_ends, sending_done, may_step_alone}
+use Rattle.std.proofs.Common.{◌≡◌, ℕ, List, [], ◌∷◌, ◌++◌, ◌+◌, refl, sym, ap, ◌∙◌, subst, arith}
+use Rattle.node_machine.specs.Carrying.{port_at, with_port}
+use Rattle.node_ends.specs.Ends.{has_sent, frame_at}
+use Rattle.node_core.specs.Running.{RunsAs}
+use Rattle.worked_nodes.proofs.Fetching.{IsSendingTo, sending_begins, sending_goes_on, sending_ends, sending_done, may_step_alone, none_is_left, all_went}
+use Rattle.worked_nodes.proofs.Fetching.{handed_none, handed_then, handed_as}
 use Rattle.worked_nodes.proofs.card.send_own.Goals as goal
 
 pub loop-init : goal.loop-init
-loop-init g c = (λ core ports r. sending_begins c.args.host.now.number r, refl)
+loop-init g c = ((λ core ports r. ([], sending_begins c.args.number r, handed_none _ _)), refl)
 
 pub next_out-requires : goal.next_out-requires
 next_out-requires g c =
-    let s = c.loop.invariant.0 c.requires.runs.0 c.requires.runs.1 c.requires.runs.2 in record { runs = (c.requires.runs.0, s.there, s.runs) }
+    let s = (c.loop.invariant.0 c.requires.runs.0 c.requires.runs.1 c.requires.runs.2).1 in record { runs = (c.requires.runs.0, s.there, s.runs) }
 
 pub loop-preserved : goal.loop-preserved
 loop-preserved g c =
-    let e = c.next_out.ensures in (
+    let e = c.next_out.ensures in
+    let own = c.loop.invariant.1 ∙ c.requires.number in (
       λ core ports r.
-          let s = c.loop.invariant.0 core ports r in
-          let P : ℕ → Type 0 = λ k. IsSendingTo c.next_out.new.self core k ports (c.loop.counter + 1) in
-          subst P (sym e.number) (sending_goes_on s (sym c.in-Some.is ∙ e.answer core s.there s.runs) (e.runs core s.there s.runs)),
+          let i = c.loop.invariant.0 core ports r in
+          let s = i.1 in (
+            i.0 ++ (c.args.number, c.in-Some.lpdu) ∷ [],
+            sending_goes_on s (sym c.in-Some.is ∙ (e.answer core s.there s.runs ∙ ap (λ h. frame_at (port_at s.there h)) own))
+                (let P : ℕ → Type 0 = λ h. RunsAs c.next_out.new.self core (with_port h has_sent s.there) in subst P own (e.runs core s.there s.runs))
+                (omega (arith, c.loop-test.true)),
+            handed_then i.0 _ i.2 c.send.ensures,
+          ),
       e.number ∙ c.loop.invariant.1,
     )
 
 pub returns-in_default : goal.returns-in_default
 returns-in_default g c =
-    let s = c.loop.invariant.0 c.requires.runs.0 c.requires.runs.1 c.requires.runs.2 in
     let e = c.next_out.ensures in
-    let number = c.loop.invariant.1 ∙ c.requires.number in
-    let low = c.requires.low in
+    let own = c.loop.invariant.1 ∙ c.requires.number in
+    let i = c.loop.invariant.0 c.requires.runs.0 c.requires.runs.1 c.requires.runs.2 in
+    let s = i.1 in
+    let P : ℕ → Type 0 = λ h. RunsAs c.next_out.new.self c.requires.runs.0 (with_port h has_sent s.there) in
     record {
-      may = may_step_alone (sending_ends s (sym c.in_default.is ∙ e.answer _ s.there s.runs) (e.runs _ s.there s.runs)) e.number (omega (arith, number, low));
+      may = may_step_alone
+          (sending_ends s (sym c.in_default.is ∙ (e.answer _ s.there s.runs ∙ ap (λ h. frame_at (port_at s.there h)) own))
+          (subst P own (e.runs _ s.there s.runs)))
+          (e.number ∙ own) c.requires.low;
+      handed = λ core ports r.
+          let j = c.loop.invariant.0 core ports r in
+          let t = j.1 in
+          handed_as (all_went t (sym (sym c.in_default.is ∙ (e.answer core t.there t.runs ∙ ap (λ h. frame_at (port_at t.there h)) own)))) j.2;
       number = e.number ∙ c.loop.invariant.1;
     }
 
 pub returns : goal.returns
 returns g c =
     let nine : c.loop.counter ≡ 9 = omega (arith, c.loop-test.false, c.loop.auto.counter-end) in
-    let P : ℕ → Type 0 = λ k. IsSendingTo c.loop.host c.requires.runs.0 c.loop.host.number c.requires.runs.1 k in
-    let s = subst P nine (c.loop.invariant.0 c.requires.runs.0 c.requires.runs.1 c.requires.runs.2) in
-    let number = c.loop.invariant.1 ∙ c.requires.number in
-    let low = c.requires.low in
-    record { may = may_step_alone (sending_done s) refl (omega (arith, number, low)); number = c.loop.invariant.1 }
+    let own = c.loop.invariant.1 ∙ c.requires.number in
+    let i = c.loop.invariant.0 c.requires.runs.0 c.requires.runs.1 c.requires.runs.2 in
+    let P : ℕ → Type 0 = λ k. IsSendingTo c.loop.host c.requires.runs.0 c.args.number c.requires.runs.1 k i.0 in
+    record {
+      may = may_step_alone (sending_done (subst P nine i.1)) own c.requires.low;
+      handed = λ core ports r.
+          let j = c.loop.invariant.0 core ports r in
+          let Q : ℕ → Type 0 = λ k. IsSendingTo c.loop.host core c.args.number ports k j.0 in
+          let t = subst Q nine j.1 in
+          handed_as (all_went t (none_is_left t)) j.2;
+      number = c.loop.invariant.1;
+    }
