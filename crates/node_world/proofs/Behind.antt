@@ -31,7 +31,7 @@ use Rattle.node_world.proofs.EndsGo.{EndGoes, controller_ends}
 
 -- ## One link
 
-all_far : (l : Link) (cs : List Control) → (put_all l cs).host ≡ l.host
+pub all_far : (l : Link) (cs : List Control) → (put_all l cs).host ≡ l.host
 all_far l [] = refl
 all_far l (c ∷ cs) = all_far (put l c) cs ∙ (put_stays l c).host
 
@@ -146,7 +146,7 @@ module _ (w : NodeWorld) (r : Running) (k : ℕ) (comes : Comes) (i : LinkInput)
   abbrev Start : Work
   Start = work_of r w.memory.plan near (entries_for k (arrival Controller (link_to w.sites k) comes))
 
-  hosts_kept : hosts_of_ends After.ports ≡ hosts_in w.sites
+  pub hosts_kept : hosts_of_ends After.ports ≡ hosts_in w.sites
   hosts_kept = (steps_keep 0 (hosts_in w.sites) k i Start (record { number = node.number; ends = first r.desks ∙ node.ends })).ends
     where
       first : (desks : List Desk) → hosts_of_ends (map (λ (d : Desk). port_for (near d.host) d) desks) ≡ map (λ (d : Desk). d.host) desks

@@ -1,5 +1,5 @@
 -- A host of the world as a step of it begins.
-use Rattle.std.proofs.Common.{◌≡◌, false, List, [], ◌∷◌, map, refl, ap, ap₂, sym, subst}
+use Rattle.std.proofs.Common.{◌≡◌, ℕ, false, List, [], ◌∷◌, map, refl, ap, ap₂, sym, subst}
 use Rattle.std.specs.Prelude.{Option, Some, None}
 use Rattle.std.specs.List.{AllByRecursion}
 use Rattle.swp_base.specs.InMemory.{Memory}
@@ -8,11 +8,17 @@ use Rattle.link_laws.specs.sessions.Sessions.{OnWire}
 use Rattle.link_machine.specs.Machine.{LinkEnd, next_frame}
 use Rattle.link_entries.specs.messages.Links.{Link, NumberedEnd, Comes, exchanged}
 use Rattle.link_entries.specs.messages.Links.Comes.{NextFrame, AsksReset, Starts, Stops, NoInput}
-use Rattle.node_machine.specs.Parts.{Core, Desk, Running, Port}
-use Rattle.node_machine.specs.world.World.{Site, near_end_in, port_for, work_of}
+use Rattle.link_entries.specs.entries.Entries.End.{Host}
+use Rattle.history.specs.Steps.{entries_for}
+use Rattle.node_machine.specs.Parts.{Core, Desk, Running, Port, Work}
+use Rattle.node_machine.specs.Carrying.{port_at}
+use Rattle.node_machine.specs.world.World.{Site, near_end_in, arrival, port_for, work_of}
+use Rattle.node_laws.specs.telling.Telling.{HasEnds, IfItRuns}
+use Rattle.node_laws.proofs.telling.Nodes.{host_opened}
 use Rattle.node_world.specs.declared.places.HostSite.{HostSite}
-use Rattle.node_world.specs.WorldNodes.{as_kept, BeginsOver}
+use Rattle.node_world.specs.WorldNodes.{as_kept, BeginsOver, BeginsAt, HasEndOf, MayBeginAt, MayBeginStep}
 use Rattle.node_world.specs.Places.{IsPlace, SiteIs}
+use Rattle.node_world.specs.HostSteps.{IsHostOf}
 
 -- what comes changes no end by itself
 pub near_side : (l : Link) (comes : Comes) → (near_end_in l comes).side ≡ l.controller.side
@@ -67,3 +73,31 @@ module _ (P : Type 0) (Runs : P → Core → List Port → Type 0) (memory_of : 
             plan = ap (λ (m : Memory). m.plan) (sym place.0);
             writes = refl;
           }
+
+-- It has the end of its own link.
+module _ (P : Type 0) (Runs : P → Core → List Port → Type 0) (memory_of : P → Memory)
+    (kept : (n : P) (core : Core) (ports others : List Port) → map as_kept ports ≡ map as_kept others → Runs n core ports → Runs n core others) where
+  pub begins_at_end : (k : HostSite P) (s : Site) (n : P) (r : Running) (comes : Comes) → SiteIs Runs memory_of k s → IsHostOf s → k.on ≡ Some n
+      → s.node ≡ Some r
+      → BeginsAt Runs memory_of n k.host
+      (work_of r s.memory.plan (λ j. near_end_in (exchanged s.link) comes) (entries_for s.host (arrival Host (exchanged s.link) comes)))
+  begins_at_end k s n r comes is host on runs =
+      let ends : HasEnds s.host (s.host ∷ []) r = subst (IfItRuns s.host (s.host ∷ [])) runs host.ends in
+      let first = host_opened s r comes host.number ends in
+      let w : Work = work_of r s.memory.plan (λ j. near_end_in (exchanged s.link) comes) (entries_for s.host (arrival Host (exchanged s.link) comes)) in
+      let H : ℕ → Type 0 = λ h. port_at w.ports h ≡ Some first.port in
+      record {
+        begins = host_begins_so P Runs memory_of kept k s n r comes (entries_for s.host (arrival Host (exchanged s.link) comes)) is on runs;
+        port = first.port;
+        here = subst H (sym is.host) first.here;
+      }
+
+  pub has_end : {n : P} {h : ℕ} {w : Work} → BeginsAt Runs memory_of n h w → HasEndOf Runs n h
+  has_end {w = w} b = record { core = w.core; ports = w.ports; runs = b.begins.runs; port = b.port; here = b.here }
+
+  pub may_begin : {n : P} {h : ℕ} {w : Work} → BeginsAt Runs memory_of n h w → MayBeginAt Runs n h
+  may_begin {w = w} b =
+      record { has = record { core = w.core; ports = w.ports; runs = b.begins.runs; port = b.port; here = b.here }; sent = b.begins.sent }
+
+  pub may_begin_step : {n : P} {h : ℕ} {w : Work} → BeginsAt Runs memory_of n h w → MayBeginStep Runs n
+  may_begin_step {w = w} b = record { core = w.core; ports = w.ports; runs = b.begins.runs; sent = b.begins.sent }

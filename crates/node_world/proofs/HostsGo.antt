@@ -6,13 +6,12 @@ use Rattle.swp_base.specs.InMemory.{Memory}
 use Rattle.trace_model.specs.declared.entry.Entry.{Entry}
 use Rattle.journal_laws.specs.Planned.{after_planned}
 use Rattle.link_entries.proofs.entries.Lasting.{same_number}
-use Rattle.link_machine.specs.Machine.{LinkEnd, next_frame, sent_all, new_link_end, renewed}
-use Rattle.link_entries.specs.messages.Links.{Link, NumberedEnd, Comes, exchanged, happens_at_controller, becomes, with_controller}
+use Rattle.link_machine.specs.Machine.{LinkEnd, Turn, next_frame, sent_all, new_link_end, renewed}
+use Rattle.link_entries.specs.messages.Links.{Link, NumberedEnd, Ending, exchanged, becomes, with_controller}
 use Rattle.link_entries.specs.messages.Links.Ending.{GoesOut, CutOff}
-use Rattle.link_entries.specs.messages.Links.EndEvent.{Step}
 use Rattle.node_machine.specs.Parts.{Core, Desk, Running, Port, Work}
 use Rattle.node_machine.specs.Carrying.{port_at, with_port, changed_if}
-use Rattle.node_machine.specs.world.World.{Site, turns_at, after_host, port_for}
+use Rattle.node_machine.specs.world.World.{Site, turns_at, port_for}
 use Rattle.node_laws.specs.kept.Books.{hosts_of_ends}
 use Rattle.node_laws.proofs.telling.Accounts.{at_host}
 use Rattle.node_world.specs.declared.places.HostSite.{HostSite}
@@ -20,12 +19,12 @@ use Rattle.node_world.specs.LinksKept.{SameWires, with_bare_wires}
 use Rattle.node_world.specs.WorldNodes.{as_kept}
 use Rattle.node_world.specs.FramesOut.{sent_port}
 use Rattle.node_world.specs.Places.{IsPlace, SiteIs, RunsOn, WentOff}
+use Rattle.node_world.specs.HostSteps.{EndDoes, host_behind}
 use Rattle.node_world.proofs.GoingOn.{same_stand, same_exchanged, silent_same}
-use Rattle.node_world.proofs.EndsGo.{EndGoes}
 
 -- ## Its one end
 
-one_port : (h : ℕ) (p : Port) (ports : List Port) → hosts_of_ends ports ≡ h ∷ [] → port_at ports h ≡ Some p → ports ≡ p ∷ []
+pub one_port : (h : ℕ) (p : Port) (ports : List Port) → hosts_of_ends ports ≡ h ∷ [] → port_at ports h ≡ Some p → ports ≡ p ∷ []
 one_port h p [] q f = absurd (cc q)
 one_port h p (x ∷ y ∷ ports) q f = absurd (cc q)
 one_port h p (x ∷ []) q f =
@@ -53,14 +52,14 @@ ends_next h p near_end ports q f side =
 
 module _ (P : Type 0) (Runs : P → Core → List Port → Type 0) (memory_of : P → Memory)
     (kept : (n : P) (core : Core) (ports others : List Port) → map as_kept ports ≡ map as_kept others → Runs n core ports → Runs n core others)
-    (s : Site) (comes : Comes) (k : Work) (e : EndGoes s.host (exchanged s.link) comes k) (old new : HostSite P) (n : P)
+    (s : Site) (step : List Turn → Ending → Link) (k : Work) (e : EndDoes s.host step k) (old new : HostSite P) (n : P)
     (memory : memory_of n ≡ after_planned k.writes s.memory) (host : new.host ≡ s.host) where
   -- the host, where its link has become this one and it runs so
   abbrev goes_to : Link → Option Running → Site
   goes_to l node = record s { link = exchanged l; memory = after_planned k.writes s.memory; node = node }
 
   abbrev step_so : Bool → Link
-  step_so b = happens_at_controller (exchanged s.link) (Step comes (turns_at k s.host) (cond b CutOff GoesOut))
+  step_so b = step (turns_at k s.host) (cond b CutOff GoesOut)
 
   abbrev left : Running
   left = record { core = k.core; desks = map (λ (p : Port). p.desk) k.ports }
@@ -70,13 +69,13 @@ module _ (P : Type 0) (Runs : P → Core → List Port → Type 0) (memory_of : 
   all_sent (d ∷ desks) end q = (q, all_sent desks end q)
 
   pub host_runs_on : {before now : List Entry} → k.cut ≡ false → old.host ≡ s.host → hosts_of_ends k.ports ≡ s.host ∷ []
-      → next_frame (sent_all e.port.side) ≡ None → RunsOn Runs memory_of old new n k e.port e.goes.link before now
-      → SiteIs Runs memory_of new (after_host comes k s)
+      → next_frame (sent_all e.port.side) ≡ None → RunsOn Runs memory_of old new n k e.port e.link before now
+      → SiteIs Runs memory_of new (host_behind s step k)
   host_runs_on on was hosts none r =
-      let m : Link = e.goes.link in
+      let m : Link = e.link in
       let l : Link = becomes m e.port.side in
-      let is : after_host comes k s ≡ goes_to l (Some left) =
-      ap (λ (b : Bool). goes_to (step_so b) (cond b None (Some left))) on ∙ ap (λ (x : Link). goes_to x (Some left)) e.goes.out in
+      let is : host_behind s step k ≡ goes_to l (Some left) =
+      ap (λ (b : Bool). goes_to (step_so b) (cond b None (Some left))) on ∙ ap (λ (x : Link). goes_to x (Some left)) e.out in
       let near_end : NumberedEnd = l.controller in
       let ports : Runs r.node k.core (map (λ (d : Desk). port_for near_end d) left.desks) =
       kept r.node k.core (with_port old.host sent_port k.ports) (map (λ (d : Desk). port_for near_end d) left.desks)
@@ -99,14 +98,14 @@ module _ (P : Type 0) (Runs : P → Core → List Port → Type 0) (memory_of : 
       })
 
   -- its link where it has lost its power
-  cut_so : SameWires (with_bare_wires e.goes.link) (step_so true)
+  cut_so : SameWires (with_bare_wires e.link) (step_so true)
   cut_so =
-      let m : Link = with_controller e.goes.link (sent_all e.port.side) in
-      let C : Link → Type 0 = λ x. SameWires (with_bare_wires e.goes.link) x in
-      let same : SameWires (with_bare_wires m) (with_bare_wires e.goes.link) =
+      let m : Link = with_controller e.link (sent_all e.port.side) in
+      let C : Link → Type 0 = λ x. SameWires (with_bare_wires e.link) x in
+      let same : SameWires (with_bare_wires m) (with_bare_wires e.link) =
       record { to_controller = refl; to_host = refl; resets = refl; controller = (refl, refl); host = (refl, refl) } in
       let silent = silent_same m (new_link_end (renewed m.controller.side.role)) in
-      subst C (sym e.goes.cut)
+      subst C (sym e.cut)
       (record {
         to_controller = silent.to_controller;
         to_host = silent.to_host;
@@ -115,10 +114,10 @@ module _ (P : Type 0) (Runs : P → Core → List Port → Type 0) (memory_of : 
         host = silent.host;
       })
 
-  pub host_went_off : {before now : List Entry} → k.cut ≡ true → WentOff memory_of new n k e.goes.link before now
-      → SiteIs Runs memory_of new (after_host comes k s)
+  pub host_went_off : {before now : List Entry} → k.cut ≡ true → WentOff memory_of new n k e.link before now
+      → SiteIs Runs memory_of new (host_behind s step k)
   host_went_off off r =
-      let is : after_host comes k s ≡ goes_to (step_so true) None = ap (λ (b : Bool). goes_to (step_so b) (cond b None (Some left))) off in
+      let is : host_behind s step k ≡ goes_to (step_so true) None = ap (λ (b : Bool). goes_to (step_so b) (cond b None (Some left))) off in
       let Place : Option P → Option Memory → Type 0 = λ a b.
       IsPlace Runs memory_of a b (after_planned k.writes s.memory) None (λ h. (step_so true).controller) in
       let place : Place None (Some (memory_of n)) = memory in

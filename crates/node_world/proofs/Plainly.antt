@@ -13,7 +13,7 @@ use Rattle.node_world.specs.LinksKept.{WiresStandFor}
 use Rattle.node_world.specs.Places.{IsPlace, SiteIs}
 
 module _ (P : Type 0) (Runs : P → Core → List Port → Type 0) (memory_of : P → Memory) where
-  same_host : (to : End) (l : Link) (why : Loss) → (happens l (at to (Lose why))).host ≡ l.host
+  pub same_host : (to : End) (l : Link) (why : Loss) → (happens l (at to (Lose why))).host ≡ l.host
   same_host to l why = go to.at_host refl
     where
       go : (b : Bool) → to.at_host ≡ b → (happens l (at to (Lose why))).host ≡ l.host

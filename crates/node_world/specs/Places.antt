@@ -15,7 +15,8 @@ use Rattle.node_world.specs.declared.places.HostSite.{HostSite}
 use Rattle.node_world.specs.LinksKept.{WiresStandFor, with_bare_wires}
 use Rattle.node_world.specs.FramesOut.{IsOnly, sent_port}
 
--- A node of the world runs over its memory, all its frames went out, and its ends are these; or its power is off, and its memory lies there.
+-- A node of the world runs over its memory, all its frames went out, and its ends are these; or its power is off, and its memory
+-- lies there.
 abbrev pub IsPlace : {P : Type 0} → (P → Core → List Port → Type 0) → (P → Memory) → Option P → Option Memory → Memory → Option Running
     → (ℕ → NumberedEnd) → Type 0
 IsPlace Runs memory_of (Some n) None m (Some r) near_ends =

@@ -1,24 +1,23 @@
 -- What the world knows of a node that runs, by what stands for its machine.
-use Rattle.std.specs.Prelude.{◌≡◌, ◌≤◌, Bool, true, false, not, List, [], ◌++◌, map, length, None}
+use Rattle.std.specs.Prelude.{◌≡◌, ◌≢◌, ℕ, Bool, true, false, not, List, [], ◌++◌, map, Some, None}
 use Rattle.std.specs.List.{AllByRecursion}
 use Rattle.swp_base.specs.InMemory.{Memory}
 use Rattle.journal_laws.specs.Planned.{after_planned}
 use Rattle.trace_model.specs.declared.entry.Entry.{Entry}
-use Rattle.link_machine.specs.Machine.{LinkEnd, next_frame, frames_out, sent_all}
-use Rattle.link_machine.specs.Laws.{fetches, after_fetches, most_fetches}
+use Rattle.link_machine.specs.Machine.{LinkEnd, next_frame}
 use Rattle.node_machine.specs.Parts.{Core, Port, Work}
+use Rattle.node_machine.specs.Carrying.{port_at}
 use Rattle.node_core.specs.Noting.{unnumbered}
+use Rattle.node_core.specs.Running.{RunsAs, SendsOneByOne, between}
+use Rattle.node_core.specs.declared.node.Node.{Node}
 
 -- the frames that are fetched of an end one after another are all that are due, and behind them none is
-pub record GoesOutWhole (e : LinkEnd) : Type 0 where
-  pub frames : fetches (most_fetches e) e ≡ frames_out e
-  pub rest : after_fetches (most_fetches e) e ≡ sent_all e
-  pub none : next_frame (sent_all e) ≡ None
-  pub few : length e.acts ≤ 5
+abbrev pub GoesOutWhole : LinkEnd → Type 0
+GoesOutWhole e = SendsOneByOne e
 
 -- what a node keeps of an end between steps: neither the number of its session nor what was done to it in a step
 abbrev pub as_kept : Port → Port
-as_kept p = record p { session = 0; late = false; ended = false; turns = [] }
+as_kept p = between p
 
 -- a node as a step of it begins, all of whose frames went out: over its memory, in which nothing was written yet
 pub record BeginsOver {P : Type 0} (Runs : P → Core → List Port → Type 0) (memory_of : P → Memory) (n : P) (w : Work) : Type 0 where
@@ -29,6 +28,12 @@ pub record BeginsOver {P : Type 0} (Runs : P → Core → List Port → Type 0) 
   pub plan : w.plan ≡ (memory_of n).plan
   pub writes : w.writes ≡ []
 
+-- It has an end of the link with this host.
+pub record BeginsAt {P : Type 0} (Runs : P → Core → List Port → Type 0) (memory_of : P → Memory) (n : P) (host : ℕ) (w : Work) : Type 0 where
+  pub begins : BeginsOver Runs memory_of n w
+  pub port : Port
+  pub here : port_at w.ports host ≡ Some port
+
 -- a step may begin
 pub record MayBeginStep {P : Type 0} (Runs : P → Core → List Port → Type 0) (n : P) : Type 0 where
   pub core : Core
@@ -36,12 +41,30 @@ pub record MayBeginStep {P : Type 0} (Runs : P → Core → List Port → Type 0
   pub runs : Runs n core ports
   pub sent : AllByRecursion (λ (p : Port). next_frame p.side ≡ None) ports
 
+-- a node has an end of the link with this host, of which these ports tell
+pub record HasEndOf {P : Type 0} (Runs : P → Core → List Port → Type 0) (n : P) (host : ℕ) : Type 0 where
+  pub core : Core
+  pub ports : List Port
+  pub runs : Runs n core ports
+  pub port : Port
+  pub here : port_at ports host ≡ Some port
+
+-- a step may begin in which something comes to that end
+pub record MayBeginAt {P : Type 0} (Runs : P → Core → List Port → Type 0) (n : P) (host : ℕ) : Type 0 where
+  pub has : HasEndOf Runs n host
+  pub sent : AllByRecursion (λ (p : Port). next_frame p.side ≡ None) has.ports
+
 -- A node that was old has become new in a step behind which it is k: it runs on, or has lost its power, over a memory in which the step's
 -- writes were made. These were noted, while there was memory for them, and nothing is said of them where there wasn't.
 pub record HasGone {P : Type 0} (Runs : P → Core → List Port → Type 0) (memory_of : P → Memory) (old new : P) (k : Work) (live : Bool) : Type 0 where
   pub power : k.cut ≡ not live
   pub memory : memory_of new ≡ after_planned k.writes (memory_of old)
   pub runs : live ≡ true → Runs new k.core k.ports
+
+-- a host runs so, whose number isn't that of a controller
+pub record RunsAsHost (n : Node Memory) (core : Core) (ports : List Port) : Type 0 where
+  pub runs : RunsAs n core ports
+  pub number : n.number ≢ 0
 
 -- these are noted, while there was memory
 abbrev pub IsNotedSo : List Entry → Bool → List Entry → List Entry → Type 0

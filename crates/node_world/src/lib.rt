@@ -2,7 +2,18 @@
 //! a schedule one by one, over power cuts, and says what each of them causes. All of it is this project's own.
 #![tactic(auto)]
 
+mod controller;
+mod controller_power;
+mod controller_sites;
+mod controller_steps;
 mod copying;
+mod host_boots;
+mod host_ends;
+mod host_gives;
+mod host_losses;
+mod host_steps;
+mod hosts_do;
+mod looking;
 mod nodes;
 mod noted;
 mod numbering;
@@ -10,3 +21,5 @@ mod places;
 mod plain_steps;
 mod sending;
 mod wires;
+mod world_controller;
+mod world_host;

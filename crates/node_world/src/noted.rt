@@ -1,8 +1,10 @@
 //! What a line causes, as it is noted.
-ghost use Rattle.std.specs.Prelude.{◌≡◌};
+ghost use Rattle.std.specs.Prelude.{◌≡◌, [], ◌∷◌, ◌++◌, OnOk};
+ghost use Rattle.trace_model.specs.declared.entry.Entry.TheVariants as note;
 
 use crate::copying::copied;
-use trace_model::{Entry, Watch};
+use swp_base::NoMemory;
+use trace_model::{Entry, NoCause, Watch};
 
 /// What was noted of a line so far, while there was memory for it.
 #[derive(Drop)]
@@ -32,5 +34,20 @@ impl Watch for Noted {
 
     fn short(&self) -> bool {
         self.short
+    }
+}
+
+/// A line is refused for this cause, which is noted.
+///
+/// # Errors
+///
+/// No memory is left.
+pub(crate) fn refuse(noted: &mut Noted, cause: NoCause) -> Result<(), NoMemory>
+    ensures noted { OnOk result (noted.new.entries.items ≡ noted.old.entries.items ++ note.No cause ∷ []) }
+    ensures short { noted.new.short ≡ noted.old.short }
+{
+    match noted.entries.push(Entry::No { cause }) {
+        Ok(()) => Ok(()),
+        Err(_) => Err(NoMemory),
     }
 }

@@ -1,13 +1,6 @@
-//! What happens at a host of the world without a step of its node: its power is cut, a write to its memory is to fail, a frame is lost.
+//! What happens at a host of the world without a step of its node: its power is cut, a write to its memory is to fail.
 ghost use Rattle.std.specs.Prelude.{◌≡◌, ◌<◌, ◌++◌, ◌∷◌, [], length, Some, OnOk};
 ghost use Rattle.trace_model.specs.declared.entry.Entry.TheVariants as note;
-ghost use Rattle.link_entries.specs.messages.Links.{happens};
-ghost use Rattle.link_entries.specs.messages.Links.Loss.{OnDemand};
-ghost use Rattle.link_entries.specs.messages.Links.EndEvent.{Lose};
-ghost use Rattle.link_entries.specs.entries.Entries.{first_lost};
-ghost use Rattle.history.specs.Follows.{frames_to};
-ghost use Rattle.history.specs.Steps.{at as at_end};
-ghost use Rattle.link_wires.specs.Notes.{side_of, AreNoted};
 ghost use Rattle.node_machine.specs.Parts.{Running};
 ghost use Rattle.node_machine.specs.world.World.{Site, host_cut};
 ghost use Rattle.node_world.specs.Places.{SiteIs};
@@ -17,7 +10,7 @@ use crate::noted::Noted;
 use crate::places::{HostSite, lose_power};
 use arrayvec::ArrayVec;
 use swp_base::NoMemory;
-use trace_model::{End, Entry, LostCause};
+use trace_model::Entry;
 
 /// The power of a host that runs is cut.
 ///
@@ -28,9 +21,10 @@ pub(crate) fn cut_host<P: WorldNode + Drop>(
     site: &mut HostSite<P>,
     noted: &mut Noted,
 ) -> Result<(), NoMemory>
-    ensures { (s : Site) (r : Running) → SiteIs P.runs P.memory site.old s → s.node ≡ Some r
+    ensures stands { (s : Site) (r : Running) → SiteIs P.runs P.memory site.old s → s.node ≡ Some r
         → OnOk result (SiteIs P.runs P.memory site.new (host_cut s)
         × (noted.new.entries.items ≡ noted.old.entries.items ++ note.Cut s.host ∷ [])) }
+    ensures short { noted.new.short ≡ noted.old.short }
 {
     lose_power(site);
     match noted.entries.push(Entry::Cut { node: site.host }) {
@@ -55,22 +49,4 @@ pub(crate) fn arm_host<P: WorldNode + Drop>(
     } else if let Some(memory) = &mut site.off {
         memory.arm(nth, fill);
     }
-}
-
-/// The first frame on the way to an end of the link of a host is lost, as was asked. Where there is none, nothing happens.
-///
-/// # Errors
-///
-/// No memory is left; what the host stands for then isn't said.
-pub(crate) fn lose_frame<P: WorldNode + Drop>(
-    site: &mut HostSite<P>,
-    to: End,
-    noted: &mut Noted,
-) -> Result<(), NoMemory>
-    ensures { (s : Site) → SiteIs P.runs P.memory site.old s
-        → OnOk result (SiteIs P.runs P.memory site.new (record s { link = happens s.link (at_end to (Lose OnDemand)) })
-        × AreNoted to noted.old.entries.items noted.new.entries.items (first_lost (side_of to) OnDemand (frames_to s.link to))) }
-{
-    site.wires.lose(to, LostCause::Asked, &mut noted.entries)?;
-    Ok(())
 }

@@ -76,7 +76,7 @@ impl WireEnd {
 }
 
 impl Wires {
-    ghost use Rattle.std.specs.Prelude.{◌≡◌, ◌+◌, ◌<◌, ◌^◌, ◌≤◌, ◌++◌, List, ℕ, Ok, IfOk, OnOk};
+    ghost use Rattle.std.specs.Prelude.{◌≡◌, ◌+◌, ◌<◌, ◌^◌, ◌≤◌, ◌++◌, List, ℕ, length, Ok, IfOk, OnOk};
     ghost use Rattle.swp_base.specs.declared.control_frames.Control.{Control as Frame};
     ghost use Rattle.swp_lpdu.specs.Controls.{lpdu_of, control_of};
     ghost use Rattle.link_machine.specs.Machine.{Role};
@@ -154,6 +154,17 @@ impl Wires {
     {
         self.controller.wire.clear();
         self.host.wire.clear();
+    }
+
+    /// How many frames stand on the wire to an end.
+    pub(crate) fn standing(&self, to: End) -> usize
+        ensures { (l : Link) → WiresStandFor self.now l → result ≡ length (frames_to l to) }
+    {
+        if to.at_host {
+            self.host.wire.len()
+        } else {
+            self.controller.wire.len()
+        }
     }
 
     /// What a line that damages the first frame on the way to an end at these places finds there.

@@ -5,7 +5,6 @@ use Rattle.link_machine.specs.Machine.{next_frame}
 use Rattle.link_machine.specs.Laws.{most_fetches}
 use Rattle.node_machine.specs.Parts.{Core, Port}
 use Rattle.node_machine.specs.Carrying.{with_port}
-use Rattle.node_ends.specs.Ends.{frame_at}
 use Rattle.node_world.specs.WorldNodes.{GoesOutWhole}
 use Rattle.node_world.proofs.FramesGoOut.{Sending, sending_starts, sending_next, sending_stops, sending_over, at_found, found_with, with_side}
 use Rattle.node_world.proofs.FramesGoOut.{fetched_is, none_fetched, read_of}
@@ -30,7 +29,15 @@ next_out-requires g c =
     let ports : List Port = r.1 in
     let p : Port = r.2 in
     let s = c.loop.invariant.goes core ports p r.3 r.4 r.5 in
-    (core, with_port c.args.at.link (with_side s.e) ports, s.runs)
+    record {
+      has = record {
+        core = core;
+        ports = with_port c.args.at.link (with_side s.e) ports;
+        runs = s.runs;
+        port = with_side s.e p;
+        here = found_with c.args.at.link s.e p ports r.4.here;
+      };
+    }
 
 pub returns-in_default-clause-stands : goal.returns-in_default-clause-stands
 returns-in_default-clause-stands g c core ports p l is w =
@@ -39,10 +46,10 @@ returns-in_default-clause-stands g c core ports p l is w =
     let s = c.loop.invariant.goes core ports p l is w in
     let now : List Port = with_port h (with_side s.e) ports in
     let found = found_with h s.e p ports is.here in
-    let none : None ≡ option_map lpdu_of (next_frame s.e) = sym c.in_default.is ∙ (n.ensures.answer core now s.runs ∙ ap frame_at found) in
+    let none : None ≡ option_map lpdu_of (next_frame s.e) = sym c.in_default.is ∙ n.ensures.answer core now (with_side s.e p) s.runs found in
     let whole = at_found (λ (q : Port). GoesOutWhole q.side) h (with_side s.e p) now (g.met.P.WorldNode.whole c.loop.node core now s.runs) found in
     sending_stops (g.P.WorldNode.runs n.new.self core) c.args.entries.now.items s is.only whole (none_fetched (next_frame s.e) none)
-    (n.ensures.runs core now s.runs)
+    (n.ensures.runs core now (with_side s.e p) s.runs found)
 
 pub loop-preserved : goal.loop-preserved
 loop-preserved g c =
@@ -53,11 +60,12 @@ loop-preserved g c =
           let s = c.loop.invariant.goes core ports p l is w in
           let now : List Port = with_port h (with_side s.e) ports in
           let found = found_with h s.e p ports is.here in
-          let one = fetched_is s.e c.in-Some.lpdu (sym c.in-Some.is ∙ (n.ensures.answer core now s.runs ∙ ap frame_at found)) in
+          let one = fetched_is s.e c.in-Some.lpdu (sym c.in-Some.is ∙ n.ensures.answer core now (with_side s.e p) s.runs found) in
           let read = read_of (next_frame s.e) one.frame one.next (n.ensures.read core now (with_side s.e p) s.runs found) in
           let whole = at_found (λ (q : Port). GoesOutWhole q.side) h p ports (g.met.P.WorldNode.whole c.args.node.now core ports is.runs) is.here in
           sending_next c.args.entries.now.items (most_fetches p.side) c.loop.counter (most_fetches p.side - c.loop.counter) one.frame refl s whole one.next
-          (n.ensures.runs core now s.runs) (c.in_ok-put.ensures.stands s.link one.frame s.wires one.bytes (ap control_of one.bytes ∙ read));
+          (n.ensures.runs core now (with_side s.e p) s.runs found)
+          (c.in_ok-put.ensures.stands s.link one.frame s.wires one.bytes (ap control_of one.bytes ∙ read));
       memory = n.ensures.memory ∙ c.loop.invariant.memory;
       grows = let i = c.loop.invariant.grows in let j = c.put.ensures.grows in omega (arith, i, j);
     }

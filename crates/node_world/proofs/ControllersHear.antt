@@ -1,0 +1,265 @@
+-- What is known of the controller by what is kept of it, and what comes to its ends.
+use Rattle.std.proofs.Common.{◌≡◌, ℕ, ◌+◌, ◌<◌, ◌^◌, ◌==◌, Bool, true, false, cond, List, [], ◌∷◌, ◌++◌, length, get_or, map, refl, ap, ap₂, sym, subst, ◌∙◌}
+use Rattle.std.proofs.Common.{◌≤◌, arith}
+use Rattle.std.specs.Prelude.{Option, Some, None, slice_set}
+use Rattle.std.specs.List.{AllByRecursion}
+use Rattle.std.proofs.lemmas.List.{length-append}
+use Rattle.swp_base.specs.InMemory.{Memory}
+use Rattle.swp_lpdu.specs.Controls.{lpdu_of}
+use Rattle.trace_model.specs.declared.entry.Entry.{Entry}
+use Rattle.trace_model.specs.declared.entry.Entry.TheVariants as note
+use Rattle.link_laws.specs.sessions.Sessions.{OnWire}
+use Rattle.link_entries.proofs.entries.Lasting.{same_number}
+use Rattle.link_machine.specs.Machine.{LinkInput}
+use Rattle.link_entries.specs.messages.Links.{Link, NumberedEnd, Comes}
+use Rattle.link_entries.specs.messages.Links.Comes.{NextFrame, AsksReset, Starts, Stops, NoInput}
+use Rattle.link_entries.specs.entries.Entries.End.{Controller}
+use Rattle.history.specs.Steps.{entries_for}
+use Rattle.node_machine.specs.Parts.{Core, Running, Port}
+use Rattle.node_machine.specs.world.World.{NodeWorld, Site, site_at, with_site, link_to, input_of, arrival, comes_to, comes_at, end_c}
+use Rattle.node_machine.specs.Carrying.{changed_if}
+use Rattle.node_laws.specs.kept.Hosts.{AreDifferent}
+use Rattle.node_laws.specs.telling.Telling.{hosts_in}
+use Rattle.node_core.specs.Noting.{unnumbered}
+use Rattle.node_world.specs.declared.places.HostSite.{HostSite}
+use Rattle.node_world.specs.declared.wires.WireEnd.{WireEnd}
+use Rattle.node_world.specs.declared.wires.Wires.{Wires}
+use Rattle.node_world.specs.LinksKept.{WiresStandFor, WireEndIs, without_first, as_it_comes, IsFirst}
+use Rattle.node_world.specs.WorldNodes.{IsNotedSo}
+use Rattle.node_world.specs.Places.{IsPlace, SiteIs}
+use Rattle.node_world.specs.Controllers.{SitesAre, HaveRoom, StandsAt, as_it_comes_to}
+use Rattle.node_world.proofs.Behind.{each_found}
+use Rattle.node_world.proofs.FramesToAll.{of_these, others_before}
+use Rattle.node_world.proofs.SitesKept.{read_there, written_there}
+
+-- ## Its place
+
+module _ (C : Type 0) (Runs : C → Core → List Port → Type 0) (memory_of : C → Memory) where
+  -- the controller runs
+  pub record PlaceIsOn (off : Option Memory) (m : Memory) (node : Option Running) (near : ℕ → NumberedEnd) (n : C) : Type 0 where
+    pub running : Running
+    pub runs : node ≡ Some running
+    pub off_is : off ≡ None
+    pub place : IsPlace Runs memory_of (Some n) None m (Some running) near
+
+  pub place_is_on : (on : Option C) (off : Option Memory) (m : Memory) (node : Option Running) (near : ℕ → NumberedEnd) (n : C) → on ≡ Some n
+      → IsPlace Runs memory_of on off m node near → PlaceIsOn off m node near n
+  place_is_on on off m node near n q place =
+      let Q : Option C → Type 0 = λ a. IsPlace Runs memory_of a off m node near in
+      go off node refl refl (subst Q q place)
+    where
+      go : (b : Option Memory) (o : Option Running) → off ≡ b → node ≡ o → IsPlace Runs memory_of (Some n) b m o near → PlaceIsOn off m node near n
+      go None (Some r) e runs p = record { running = r; runs = runs; off_is = e; place = p }
+      go None None e runs p = absurd p
+      go (Some x) o e runs p = absurd p
+
+  -- or it doesn't
+  pub place_is_off : (on : Option C) (off : Option Memory) (m : Memory) (node : Option Running) (near : ℕ → NumberedEnd) → on ≡ None
+      → IsPlace Runs memory_of on off m node near → node ≡ None
+  place_is_off on off m node near q place =
+      let Q : Option C → Type 0 = λ a. IsPlace Runs memory_of a off m node near in
+      go off node refl (subst Q q place)
+    where
+      go : (b : Option Memory) (o : Option Running) → node ≡ o → IsPlace Runs memory_of None b m o near → node ≡ None
+      go (Some x) None runs p = runs
+      go (Some x) (Some r) runs p = absurd p
+      go None o runs p = absurd p
+
+-- where it doesn't run, nothing comes
+pub comes_off : (w : NodeWorld) (h : ℕ) (comes : Comes) → w.controller ≡ None → comes_at w (end_c h) comes ≡ (w, [])
+comes_off w h comes off = go (input_of (link_to w.sites h) comes) refl
+  where
+    go : (o : Option LinkInput) → input_of (link_to w.sites h) comes ≡ o → comes_at w (end_c h) comes ≡ (w, [])
+    go None q = rw q refl
+    go (Some i) q = rw (q, off) refl
+
+pub comes_none : (w : NodeWorld) (h : ℕ) (comes : Comes) → input_of (link_to w.sites h) comes ≡ None → comes_at w (end_c h) comes ≡ (w, [])
+comes_none w h comes none = rw none refl
+
+-- ## The host of an end
+
+-- the host that stands at the place of a number is the one that is found by it
+pub found_there : (i h : ℕ) (sites : List Site) (s : Site) (p : StandsAt i h sites) → AreDifferent (hosts_in sites) → site_at sites h ≡ Some s → p.site ≡ s
+found_there i h sites s p different found =
+    let P : List Site → Type 0 = λ xs. AllByRecursion (λ (x : Site). site_at sites x.host ≡ Some x) xs in
+    let own : site_at sites p.site.host ≡ Some p.site =
+    of_these (λ (x : Site). site_at sites x.host ≡ Some x) p.front p.site p.back (subst P p.is (each_found (λ (x : Site). x.host) sites different)) in
+    let same : Some p.site ≡ Some s = sym own ∙ (ap (site_at sites) p.host ∙ found) in
+    cc
+
+pub hosts_as_it_comes : (h : ℕ) (comes : Comes) (sites : List Site) → hosts_in (as_it_comes_to h comes sites) ≡ hosts_in sites
+hosts_as_it_comes h comes [] = refl
+hosts_as_it_comes h comes (s ∷ sites) = ap (λ hs. s.host ∷ hs) (hosts_as_it_comes h comes sites)
+
+-- what comes to another end leaves a link
+others_left : (h : ℕ) (comes : Comes) (sites : List Site) → AllByRecursion (λ k. (k == h) ≡ false) (hosts_in sites) → as_it_comes_to h comes sites ≡ sites
+others_left h comes [] a = refl
+others_left h comes (s ∷ sites) a =
+    let q : (s.host == h) ≡ false = a.0 in
+    let one : as_it_comes s.link (comes_to h comes s.host) ≡ s.link = rw q refl in
+    ap₂ (λ (l : Link) xs. record s { link = l } ∷ xs) one (others_left h comes sites a.1)
+
+-- where a reset is asked for, all links are left
+pub asked_there : (h : ℕ) (window : Option ℕ) (sites : List Site) → as_it_comes_to h (AsksReset window) sites ≡ sites
+asked_there h window [] = refl
+asked_there h window (s ∷ sites) = ap₂ (λ (l : Link) xs. record s { link = l } ∷ xs) (go (s.host == h)) (asked_there h window sites)
+  where
+    go : (b : Bool) → as_it_comes s.link (cond b (AsksReset window) NoInput) ≡ s.link
+    go true = refl
+    go false = refl
+
+map-parts : (f : Site → Site) (front : List Site) (s : Site) (back : List Site) → map f (front ++ s ∷ back) ≡ map f front ++ f s ∷ map f back
+map-parts f [] s back = refl
+map-parts f (x ∷ front) s back = ap (λ xs. f x ∷ xs) (map-parts f front s back)
+
+others_behind : (front : List ℕ) (h : ℕ) (back : List ℕ) → AreDifferent (front ++ h ∷ back) → AllByRecursion (λ k. (k == h) ≡ false) back
+others_behind [] h back d = d.0
+others_behind (x ∷ front) h back d = others_behind front h back d.1
+
+pub hosts-parts : (front : List Site) (s : Site) (back : List Site) → hosts_in (front ++ s ∷ back) ≡ hosts_in front ++ s.host ∷ hosts_in back
+hosts-parts [] s back = refl
+hosts-parts (x ∷ front) s back = ap (λ hs. x.host ∷ hs) (hosts-parts front s back)
+
+others_kept : (h : ℕ) (f : Site → Site) (sites : List Site) → AllByRecursion (λ k. (k == h) ≡ false) (hosts_in sites) → with_site h f sites ≡ sites
+others_kept h f [] a = refl
+others_kept h f (s ∷ sites) a =
+    let q : (s.host == h) ≡ false = a.0 in
+    let one : changed_if (s.host == h) f s ≡ s = rw q refl in
+    ap₂ (λ (x : Site) xs. x ∷ xs) one (others_kept h f sites a.1)
+
+module _ (P : Type 0) (PRuns : P → Core → List Port → Type 0) (p_memory : P → Memory) where
+  -- what is kept of the host to whose link something comes
+  pub comes_there : (i h : ℕ) (comes : Comes) (ks : List (HostSite P)) (sites : List Site) (s : Site) (new : HostSite P) (p : StandsAt i h sites)
+      → AreDifferent (hosts_in sites) → p.site ≡ s → SitesAre PRuns p_memory ks sites → SiteIs PRuns p_memory new (record s { link = as_it_comes s.link comes })
+      → SitesAre PRuns p_memory (slice_set ks i new) (as_it_comes_to h comes sites)
+  comes_there i h comes ks sites s new p different is a now =
+      let f : Site → Site = λ x. record x { link = as_it_comes x.link (comes_to h comes x.host) } in
+      let host : s.host ≡ h = ap (λ (x : Site). x.host) (sym is) ∙ p.host in
+      let parts : sites ≡ p.front ++ s ∷ p.back = p.is ∙ ap (λ x. p.front ++ x ∷ p.back) is in
+      let names : AreDifferent (hosts_in p.front ++ h ∷ hosts_in p.back) =
+      subst AreDifferent (ap hosts_in parts ∙ (hosts-parts p.front s p.back ∙ ap (λ n. hosts_in p.front ++ n ∷ hosts_in p.back) host)) different in
+      let front : as_it_comes_to h comes p.front ≡ p.front = others_left h comes p.front (others_before (hosts_in p.front) h (hosts_in p.back) names) in
+      let back : as_it_comes_to h comes p.back ≡ p.back = others_left h comes p.back (others_behind (hosts_in p.front) h (hosts_in p.back) names) in
+      let there : (s.host == h) ≡ true = ap (λ n. n == h) host ∙ same_number h in
+      let one : f s ≡ record s { link = as_it_comes s.link comes } = rw there refl in
+      let all : as_it_comes_to h comes sites ≡ p.front ++ record s { link = as_it_comes s.link comes } ∷ p.back =
+      ap (as_it_comes_to h comes) parts ∙ (map-parts f p.front s p.back ∙ (ap (λ xs. xs ++ f s ∷ map f p.back) front
+      ∙ (ap (λ x. p.front ++ x ∷ map f p.back) one ∙ ap (λ xs. p.front ++ record s { link = as_it_comes s.link comes } ∷ xs) back))) in
+      let S : List Site → Type 0 = λ xs. SitesAre PRuns p_memory (slice_set ks i new) xs in
+      let before : SitesAre PRuns p_memory ks (p.front ++ s ∷ p.back) = subst (SitesAre PRuns p_memory ks) parts a in
+      subst S (sym all) (written_there P PRuns p_memory ks p.front s (record s { link = as_it_comes s.link comes }) p.back i new p.place before now)
+
+  -- what is kept of the one that is changed
+  pub changed_there : (i h : ℕ) (f : Site → Site) (ks : List (HostSite P)) (sites : List Site) (s : Site) (new : HostSite P) (p : StandsAt i h sites)
+      → AreDifferent (hosts_in sites) → p.site ≡ s → SitesAre PRuns p_memory ks sites → SiteIs PRuns p_memory new (f s)
+      → SitesAre PRuns p_memory (slice_set ks i new) (with_site h f sites)
+  changed_there i h f ks sites s new p different is a now =
+      let g : Site → Site = λ (x : Site). changed_if (x.host == h) f x in
+      let host : s.host ≡ h = ap (λ (x : Site). x.host) (sym is) ∙ p.host in
+      let parts : sites ≡ p.front ++ s ∷ p.back = p.is ∙ ap (λ x. p.front ++ x ∷ p.back) is in
+      let names : AreDifferent (hosts_in p.front ++ h ∷ hosts_in p.back) =
+      subst AreDifferent (ap hosts_in parts ∙ (hosts-parts p.front s p.back ∙ ap (λ n. hosts_in p.front ++ n ∷ hosts_in p.back) host)) different in
+      let front : with_site h f p.front ≡ p.front = others_kept h f p.front (others_before (hosts_in p.front) h (hosts_in p.back) names) in
+      let back : with_site h f p.back ≡ p.back = others_kept h f p.back (others_behind (hosts_in p.front) h (hosts_in p.back) names) in
+      let there : (s.host == h) ≡ true = ap (λ n. n == h) host ∙ same_number h in
+      let one : g s ≡ f s = rw there refl in
+      let all : with_site h f sites ≡ p.front ++ f s ∷ p.back =
+      ap (with_site h f) parts ∙ (map-parts g p.front s p.back ∙ (ap (λ xs. xs ++ g s ∷ map g p.back) front
+      ∙ (ap (λ x. p.front ++ x ∷ map g p.back) one ∙ ap (λ xs. p.front ++ f s ∷ xs) back))) in
+      let S : List Site → Type 0 = λ xs. SitesAre PRuns p_memory (slice_set ks i new) xs in
+      let before : SitesAre PRuns p_memory ks (p.front ++ s ∷ p.back) = subst (SitesAre PRuns p_memory ks) parts a in
+      subst S (sym all) (written_there P PRuns p_memory ks p.front s (f s) p.back i new p.place before now)
+
+  -- what is kept of it while nothing comes
+  pub stays_there : (i h : ℕ) (ks : List (HostSite P)) (sites : List Site) (s : Site) (new : HostSite P) (p : StandsAt i h sites) → p.site ≡ s
+      → SitesAre PRuns p_memory ks sites → SiteIs PRuns p_memory new s → SitesAre PRuns p_memory (slice_set ks i new) sites
+  stays_there i h ks sites s new p is a now =
+      let parts : sites ≡ p.front ++ s ∷ p.back = p.is ∙ ap (λ x. p.front ++ x ∷ p.back) is in
+      let S : List Site → Type 0 = λ xs. SitesAre PRuns p_memory (slice_set ks i new) xs in
+      subst S (sym parts) (written_there P PRuns p_memory ks p.front s s p.back i new p.place (subst (SitesAre PRuns p_memory ks) parts a) now)
+
+  -- what is kept of the host at a place
+  pub site_read : (i h : ℕ) (ks : List (HostSite P)) (sites : List Site) (s : Site) (k : HostSite P) (p : StandsAt i h sites) → p.site ≡ s
+      → SitesAre PRuns p_memory ks sites → k ≡ get_or ks i k → SiteIs PRuns p_memory k s
+  site_read i h ks sites s k p is a read =
+      subst (SiteIs PRuns p_memory k) is
+      (read_there P PRuns p_memory ks p.front p.site p.back i k p.place (subst (SitesAre PRuns p_memory ks) p.is a) read)
+
+  -- it has these wires now
+  pub site_with : (k : HostSite P) (wires : Wires) (s : Site) (l : Link) → l.host ≡ s.link.host → WiresStandFor wires l → SiteIs PRuns p_memory k s
+      → SiteIs PRuns p_memory (record k { wires = wires }) (record s { link = l })
+  site_with k wires s l same w a =
+      let Q : NumberedEnd → Type 0 = λ e. IsPlace PRuns p_memory k.on k.off s.memory s.node (λ h. e) in
+      record { host = a.host; wires = w; place = subst Q (sym same) a.place }
+
+  -- where all links have as many RSETs, there is as much room
+  pub room_kept : (ks news : List (HostSite P)) (sites after : List Site) → SitesAre PRuns p_memory ks sites → SitesAre PRuns p_memory news after
+      → map (λ (s : Site). s.link.resets) after ≡ map (λ (s : Site). s.link.resets) sites → HaveRoom ks → HaveRoom news
+  room_kept [] [] [] [] a b q r = tt
+  room_kept (k ∷ ks) (n ∷ news) (s ∷ sites) (t ∷ after) a b q r =
+      let N : ℕ → Type 0 = λ m. m + 17 < 2 ^ 32 in
+      let one : t.link.resets ≡ s.link.resets = cc in
+      let rest : map (λ (s : Site). s.link.resets) after ≡ map (λ (s : Site). s.link.resets) sites = cc in
+      (subst N (a.0.wires.count ∙ (sym one ∙ sym b.0.wires.count)) r.0, room_kept ks news sites after a.1 b.1 rest r.1)
+  room_kept ks (n ∷ news) sites [] a b q r = absurd b
+  room_kept ks [] sites (t ∷ after) a b q r = absurd b
+  room_kept (k ∷ ks) news [] after a b q r = absurd a
+  room_kept [] news (s ∷ sites) after a b q r = absurd a
+  room_kept [] (n ∷ news) [] (t ∷ after) a b q r = absurd (cc q)
+  room_kept (k ∷ ks) [] (s ∷ sites) [] a b q r = absurd (cc q)
+
+come_resets : (l : Link) (comes : Comes) → (as_it_comes l comes).resets ≡ l.resets
+come_resets l NextFrame = go l.to_controller
+  where
+    go : (w : List OnWire) → (as_it_comes (record l { to_controller = w }) NextFrame).resets ≡ l.resets
+    go [] = refl
+    go (x ∷ xs) = refl
+come_resets l (AsksReset window) = refl
+come_resets l (Starts value) = refl
+come_resets l Stops = refl
+come_resets l NoInput = refl
+
+pub resets_as_it_comes : (h : ℕ) (comes : Comes) (sites : List Site)
+    → map (λ (s : Site). s.link.resets) (as_it_comes_to h comes sites) ≡ map (λ (s : Site). s.link.resets) sites
+resets_as_it_comes h comes [] = refl
+resets_as_it_comes h comes (s ∷ sites) =
+    ap₂ (λ n ns. n ∷ ns) (come_resets s.link (comes_to h comes s.host)) (resets_as_it_comes h comes sites)
+
+-- ## The first frame
+
+-- the wires where it was taken off
+pub first_off : (k : Wires) (end : WireEnd) (l : Link) → WiresStandFor k l
+    → WireEndIs end (without_first l).controller (without_first l).to_controller → WiresStandFor (record k { controller = end }) (without_first l)
+first_off k end l w = go l.to_controller w
+  where
+    go : (ws : List OnWire) → WiresStandFor k (record l { to_controller = ws })
+        → WireEndIs end (without_first (record l { to_controller = ws })).controller (without_first (record l { to_controller = ws })).to_controller
+        → WiresStandFor (record k { controller = end }) (without_first (record l { to_controller = ws }))
+    go [] w e = record { here = e; there = w.there; count = w.count }
+    go (x ∷ xs) w e = record { here = e; there = w.there; count = w.count }
+
+-- what a node noted stands behind what was noted before
+pub from_there : (now before es : List Entry) (short : Bool) (from : ℕ) → IsNotedSo now short before es → length before ≡ from → short ≡ false
+    → from ≤ length now
+from_there now before es short from noted long off =
+    let all : length now ≡ length before + length (map unnumbered es) = ap length (noted off) ∙ length-append before (map unnumbered es) in
+    omega (arith, all, long)
+
+-- where no frame is on its way, nothing happened
+pub none_there_yet : (l : Link) → IsFirst l.to_controller None → without_first l ≡ l
+none_there_yet l = go l.to_controller
+  where
+    go : (ws : List OnWire) → IsFirst ws None → without_first (record l { to_controller = ws }) ≡ record l { to_controller = ws }
+    go [] q = refl
+    go (x ∷ xs) q = absurd (cc q.0)
+
+-- what is noted of a frame that is taken
+pub taken_noted : (h : ℕ) (l : Link) (lpdu : List ℕ) → IsFirst l.to_controller (Some lpdu)
+    → map unnumbered (entries_for h (arrival Controller l NextFrame)) ≡ note.Took (record { link = h; at_host = false }) lpdu ∷ []
+taken_noted h l lpdu = go l.to_controller
+  where
+    go : (w : List OnWire) → IsFirst w (Some lpdu)
+        → map unnumbered (entries_for h (arrival Controller (record l { to_controller = w }) NextFrame))
+        ≡ note.Took (record { link = h; at_host = false }) lpdu ∷ []
+    go [] q = absurd (cc q)
+    go (x ∷ xs) q = let bytes : lpdu ≡ lpdu_of x.frame = cc in ap (λ b. note.Took (record { link = h; at_host = false }) b ∷ []) (sym bytes)

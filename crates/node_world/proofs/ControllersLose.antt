@@ -1,0 +1,145 @@
+-- A frame is lost on its way to the controller's end of a link.
+use Rattle.std.proofs.Common.{◌≡◌, ℕ, ◌==◌, Bool, true, false, List, [], ◌∷◌, ◌++◌, map, refl, ap, ap₂, sym, subst, ◌∙◌}
+use Rattle.std.specs.Prelude.{min, ◌+◌, Option, Some, None}
+use Rattle.std.specs.List.{AllByRecursion}
+use Rattle.swp_base.specs.InMemory.{Memory}
+use Rattle.trace_model.specs.Lines.{IsHost}
+use Rattle.trace_model.specs.declared.entry.Entry.{Entry}
+use Rattle.link_machine.specs.Machine.{next_frame}
+use Rattle.link_entries.specs.messages.Links.{Link, NumberedEnd, Loss, happens}
+use Rattle.link_entries.specs.messages.Links.EndEvent.{Lose}
+use Rattle.link_entries.specs.messages.Links.LinkEvent.{AtController}
+use Rattle.link_entries.specs.entries.Entries.{first_lost}
+use Rattle.link_entries.specs.entries.Entries.End.{Controller}
+use Rattle.history.specs.Steps.{entries_for}
+use Rattle.node_machine.specs.Parts.{Core, Desk, Running, Port}
+use Rattle.node_machine.specs.Carrying.{with_port, changed_if}
+use Rattle.node_machine.specs.Node.{with_error}
+use Rattle.node_machine.specs.world.World.{NodeWorld, Site, site_at, with_site, link_to, port_for, counts, frame_lost, end_c}
+use Rattle.node_core.specs.Running.{one_more_error}
+use Rattle.node_laws.specs.telling.Telling.{HasEnds, IfItRuns, hosts_in}
+use Rattle.node_laws.proofs.telling.Nodes.{link_is, stands, Stands}
+use Rattle.node_world.specs.declared.places.HostSite.{HostSite}
+use Rattle.node_world.specs.WorldNodes.{HasEndOf}
+use Rattle.node_world.specs.Places.{IsPlace}
+use Rattle.node_world.specs.HostSteps.{IsHostOf, is_broken}
+use Rattle.node_world.specs.Controllers.{SitesAre, WorldBecomes, MayGoOn, StandsAt}
+use Rattle.node_world.proofs.HostsLose.{counts_plain, counts_none, counts_one}
+use Rattle.node_world.proofs.FramesToAll.{of_these}
+use Rattle.node_world.proofs.ControllersHear.{hosts-parts}
+
+-- a link on which it was lost
+abbrev pub lost_on : Loss → Site → Site
+lost_on why s = record s { link = happens s.link (AtController (Lose why)) }
+
+abbrev near_ends : List Site → ℕ → NumberedEnd
+near_ends sites h = (link_to sites h).controller
+
+near_kept : (h : ℕ) (why : Loss) (sites : List Site) (k : ℕ) → (link_to (with_site h (lost_on why) sites) k).controller ≡ (link_to sites k).controller
+near_kept h why [] k = refl
+near_kept h why (s ∷ sites) k = go (s.host == h) (s.host == k) refl refl (near_kept h why sites k)
+  where
+    go : (b c : Bool) → (s.host == h) ≡ b → (s.host == k) ≡ c
+        → (link_to (with_site h (lost_on why) sites) k).controller ≡ (link_to sites k).controller
+        → (link_to (with_site h (lost_on why) (s ∷ sites)) k).controller ≡ (link_to (s ∷ sites) k).controller
+    go true true p q later = rw p (rw q refl)
+    go true false p q later = rw p (rw q later)
+    go false true p q later = rw p (rw q refl)
+    go false false p q later = rw p (rw q later)
+
+all_near : (h : ℕ) (why : Loss) (sites : List Site) → near_ends (with_site h (lost_on why) sites) ≡ near_ends sites
+all_near h why sites = λ i k. near_kept h why sites k i
+
+-- a host of the world, as what happens to it asks
+pub a_host_of : (w : NodeWorld) (i h : ℕ) (s : Site) (p : StandsAt i h w.sites) → MayGoOn w → p.site ≡ s → IsHostOf s
+a_host_of w i h s p may is =
+    let parts : w.sites ≡ p.front ++ s ∷ p.back = p.is ∙ ap (λ x. p.front ++ x ∷ p.back) is in
+    let N : Site → Type 0 = λ x. (x.host == 0) ≡ false in
+    let R : Site → Type 0 = λ x. IfItRuns x.host (x.host ∷ []) x.node in
+    let host : IsHost s.host = of_these IsHost (hosts_in p.front) s.host (hosts_in p.back)
+    (subst (AllByRecursion IsHost) (ap hosts_in parts ∙ hosts-parts p.front s p.back) may.hosts) in
+    record {
+      number = of_these N p.front s p.back (subst (AllByRecursion N) parts may.orderly.hosts);
+      low = host.1;
+      ends = of_these R p.front s p.back (subst (AllByRecursion R) parts may.orderly.nodes);
+    }
+
+-- the ends of a node with one more error
+error_ends : (h : ℕ) (near : ℕ → NumberedEnd) (desks : List Desk)
+    → with_port h one_more_error (map (λ (d : Desk). port_for (near d.host) d) desks) ≡ map (λ (d : Desk). port_for (near d.host) d) (with_error h desks)
+error_ends h near [] = refl
+error_ends h near (d ∷ desks) = ap₂ (λ (x : Port) xs. x ∷ xs) (one (d.host == h)) (error_ends h near desks)
+  where
+    one : (b : Bool) → changed_if b one_more_error (port_for (near d.host) d)
+        ≡ (let e : Desk = changed_if b (λ (x : Desk). record x { errors = min 65535 (x.errors + 1) }) d in port_for (near e.host) e)
+    one true = refl
+    one false = refl
+
+still_sent : (h : ℕ) (near : ℕ → NumberedEnd) (desks : List Desk) → AllByRecursion (λ (d : Desk). next_frame (near d.host).side ≡ None) desks
+    → AllByRecursion (λ (d : Desk). next_frame (near d.host).side ≡ None) (with_error h desks)
+still_sent h near [] a = tt
+still_sent h near (d ∷ desks) a = (one (d.host == h), still_sent h near desks a.1)
+  where
+    one : (b : Bool)
+        → next_frame (near (changed_if b (λ (x : Desk). record x { errors = min 65535 (x.errors + 1) }) d).host).side ≡ None
+    one true = a.0
+    one false = a.0
+
+module _ (C P : Type 0) (CRuns : C → Core → List Port → Type 0) (c_memory : C → Memory) (PRuns : P → Core → List Port → Type 0) (p_memory : P → Memory)
+  where
+    -- the controller has an end of the link
+    pub end_there : (w : NodeWorld) (h : ℕ) (s : Site) (r : Running) → MayGoOn w → w.controller ≡ Some r → site_at w.sites h ≡ Some s
+        → Stands (near_ends w.sites) r.desks h
+    end_there w h s r may runs found =
+        let node : HasEnds 0 (hosts_in w.sites) r = subst (IfItRuns 0 (hosts_in w.sites)) runs may.orderly.controller in
+        stands (near_ends w.sites) r.desks w.sites h s node.ends found
+
+    pub has_end_there : (w : NodeWorld) (h : ℕ) (s : Site) (r : Running) (n : C) → MayGoOn w → w.controller ≡ Some r → site_at w.sites h ≡ Some s
+        → IsPlace CRuns c_memory (Some n) None w.memory (Some r) (near_ends w.sites) → HasEndOf CRuns n h
+    has_end_there w h s r n may runs found place =
+        let one = end_there w h s r may runs found in
+        record {
+          core = r.core;
+          ports = map (λ (d : Desk). port_for (near_ends w.sites d.host) d) r.desks;
+          runs = place.1;
+          port = port_for (near_ends w.sites h) one.desk;
+          here = one.here;
+        }
+
+    -- it counts the frame that was refused
+    pub counted_there : (w : NodeWorld) (h : ℕ) (r : Running) (n m : C) (why : Loss) → w.controller ≡ Some r → is_broken why ≡ true
+        → IsPlace CRuns c_memory (Some n) None w.memory (Some r) (near_ends w.sites) → c_memory m ≡ c_memory n
+        → CRuns m r.core (with_port h one_more_error (map (λ (d : Desk). port_for (near_ends w.sites d.host) d) r.desks))
+        → IsPlace CRuns c_memory (Some m) None w.memory (counts why h w.controller) (near_ends w.sites)
+    counted_there w h r n m why runs broken place memory now =
+        let O : Option Running → Type 0 = λ o. IsPlace CRuns c_memory (Some m) None w.memory o (near_ends w.sites) in
+        let R : List Port → Type 0 = λ ps. CRuns m r.core ps in
+        subst O (sym (ap (counts why h) runs ∙ counts_one why h r broken))
+        (memory ∙ place.0, subst R (error_ends h (near_ends w.sites) r.desks) now, still_sent h (near_ends w.sites) r.desks place.2)
+
+    -- what is kept stands for the world behind the loss
+    pub lost_there : (on : Option C) (off : Option Memory) (ks : List (HostSite P)) (w : NodeWorld) (h : ℕ) (s : Site) (why : Loss) (before now : List Entry)
+        → site_at w.sites h ≡ Some s → IsPlace CRuns c_memory on off w.memory (counts why h w.controller) (near_ends w.sites)
+        → SitesAre PRuns p_memory ks (with_site h (lost_on why) w.sites) → now ≡ before ++ entries_for h (first_lost Controller why s.link.to_controller)
+        → WorldBecomes CRuns c_memory PRuns p_memory (record { on = on; off = off }) ks before now (frame_lost w (end_c h) why)
+    lost_there on off ks w h s why before now found place sites noted =
+        let Q : (ℕ → NumberedEnd) → Type 0 = λ near. IsPlace CRuns c_memory on off w.memory (counts why h w.controller) near in
+        record {
+          world = record { controller = subst Q (sym (all_near h why w.sites)) place; sites = sites };
+          noted = noted ∙ ap (λ (l : Link). before ++ entries_for h (first_lost Controller why l.to_controller)) (sym (link_is w.sites h s found));
+        }
+
+    -- nothing counts: it wasn't refused, or the controller doesn't run
+    pub plain_there : (on : Option C) (off : Option Memory) (w : NodeWorld) (h : ℕ) (why : Loss) → is_broken why ≡ false
+        → IsPlace CRuns c_memory on off w.memory w.controller (near_ends w.sites)
+        → IsPlace CRuns c_memory on off w.memory (counts why h w.controller) (near_ends w.sites)
+    plain_there on off w h why q place =
+        let O : Option Running → Type 0 = λ o. IsPlace CRuns c_memory on off w.memory o (near_ends w.sites) in
+        subst O (sym (counts_plain why h w.controller q)) place
+
+    pub off_there : (on : Option C) (off : Option Memory) (w : NodeWorld) (h : ℕ) (why : Loss) → w.controller ≡ None
+        → IsPlace CRuns c_memory on off w.memory w.controller (near_ends w.sites)
+        → IsPlace CRuns c_memory on off w.memory (counts why h w.controller) (near_ends w.sites)
+    off_there on off w h why q place =
+        let O : Option Running → Type 0 = λ o. IsPlace CRuns c_memory on off w.memory o (near_ends w.sites) in
+        subst O (q ∙ (sym (counts_none why h) ∙ ap (counts why h) (sym q))) place

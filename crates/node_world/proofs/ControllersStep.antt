@@ -1,0 +1,316 @@
+-- A step of the controller in which something comes to one of its ends: how it begins, how what it notes is numbered, and what is behind it.
+use Rattle.std.proofs.Common.{◌≡◌, ℕ, ◌==◌, Bool, true, false, not, List, [], ◌∷◌, get_or, map, refl, ap, ap₂, sym, subst, ◌∙◌}
+use Rattle.std.specs.Prelude.{if◌then◌else◌, Option, Some, None, Result, OnOk, option_map}
+use Rattle.std.specs.List.{AllByRecursion}
+use Rattle.swp_base.specs.InMemory.{Memory}
+use Rattle.trace_model.specs.declared.entry.Entry.{Entry}
+use Rattle.link_laws.specs.sessions.Sessions.{OnWire}
+use Rattle.journal_laws.specs.Planned.{after_planned}
+use Rattle.link_machine.specs.Machine.{LinkEnd, LinkInput, next_frame, after_input, reset_refusal}
+use Rattle.link_machine.specs.Machine.LinkInput.{Tick, Reset}
+use Rattle.link_entries.specs.messages.Links.{Link, NumberedEnd, Comes, Ending, number_of, happens_at_controller}
+use Rattle.link_entries.specs.messages.Links.Comes.{NextFrame, AsksReset, Starts, Stops, NoInput}
+use Rattle.link_entries.specs.messages.Links.EndEvent.{Step}
+use Rattle.link_entries.specs.entries.Entries.End.{Controller}
+use Rattle.history.specs.Steps.{entries_for}
+use Rattle.link_wires.proofs.Results.{on_ok}
+use Rattle.link_end.specs.declared.report.ResetRefused.{ResetRefused}
+use Rattle.link_end.specs.Reports.{reset_refused}
+use Rattle.trace_model.specs.declared.entry.NoCause.{NoCause}
+use Rattle.trace_model.specs.declared.line.Line.TheVariants as line
+use Rattle.history.specs.Follows.{as_noted}
+use Rattle.node_machine.specs.Carrying.{port_at}
+use Rattle.node_machine.specs.world.Lines.{refusal_in}
+use Rattle.node_core.specs.Running.{reset_refusal_at}
+use Rattle.node_world.specs.HostSteps.{reset_noted}
+use Rattle.node_world.proofs.HostsRefuse.{told_so}
+use Rattle.node_machine.specs.Parts.{Core, Desk, Running, Port, Work}
+use Rattle.node_machine.specs.Node.{NodeInput, steps, input_at, has_come}
+use Rattle.node_machine.specs.Node.NodeInput.{AtEnd, TimePasses}
+use Rattle.node_machine.specs.world.World.{NodeWorld, Site, site_at, link_to, turns_at, comes_to, controller_work, after_controller, port_for, work_of}
+use Rattle.node_machine.specs.world.World.{input_of, near_end_in, arrival, wires_for, comes_at, end_c}
+use Rattle.node_laws.specs.kept.Books.{hosts_of_ends}
+use Rattle.node_laws.specs.telling.Telling.{HasEnds, IfItRuns, hosts_in}
+use Rattle.node_laws.proofs.telling.Nodes.{link_is, stands, Stands}
+use Rattle.node_laws.proofs.telling.Parts.{AreAlike}
+use Rattle.node_world.specs.declared.controller.ControllerPlace.{ControllerPlace}
+use Rattle.node_world.specs.declared.places.HostSite.{HostSite}
+use Rattle.node_world.specs.LinksKept.{SameWires, as_it_comes}
+use Rattle.node_world.specs.WorldNodes.{as_kept, BeginsAt, GoesOutWhole, HasGone}
+use Rattle.node_world.specs.Numbers.{AreNumbered, CountsFew, StaysCounted}
+use Rattle.node_world.specs.Places.{IsPlace}
+use Rattle.node_world.specs.Controllers.{SitesAre, WorldBecomes, MayGoOn, FewAreCounted, AreSessions, as_it_comes_to, SendsTo, EndsStep}
+use Rattle.node_world.specs.Controllers.{GoesOnWith, WentOffWith}
+use Rattle.node_world.proofs.HostsBegin.{near_side}
+use Rattle.node_world.proofs.HostsHear.{number_coming}
+use Rattle.node_world.proofs.EndsGo.{EndGoes, controller_ends}
+use Rattle.node_world.proofs.Behind.{each_found, hosts_kept}
+use Rattle.node_world.proofs.Numbered.{stepped}
+use Rattle.node_world.proofs.Renumbered.{work_numbers, arrival_numbered}
+use Rattle.node_world.proofs.ControllersGo.{EndSteps}
+use Rattle.node_world.proofs.ControllersStand.{mid_hosts, sends_them, went_on, went_off}
+
+-- ## As a step begins
+
+-- what comes leaves the far end of a link, and the frames that note what goes out
+pub come_far : (l : Link) (comes : Comes) → (as_it_comes l comes).host ≡ l.host
+come_far l NextFrame = go l.to_controller
+  where
+    go : (w : List OnWire) → (as_it_comes (record l { to_controller = w }) NextFrame).host ≡ l.host
+    go [] = refl
+    go (x ∷ xs) = refl
+come_far l (AsksReset window) = refl
+come_far l (Starts value) = refl
+come_far l Stops = refl
+come_far l NoInput = refl
+
+pub come_alike : (l : Link) (comes : Comes) → AreAlike (as_it_comes l comes) (wires_for l comes)
+come_alike l NextFrame = go l.to_controller
+  where
+    go : (w : List OnWire) → AreAlike (as_it_comes (record l { to_controller = w }) NextFrame) (record l { to_controller = w })
+    go [] = record { to_host = refl; resets = refl }
+    go (x ∷ xs) = record { to_host = refl; resets = refl }
+come_alike l (AsksReset window) = record { to_host = refl; resets = refl }
+come_alike l (Starts value) = record { to_host = refl; resets = refl }
+come_alike l Stops = record { to_host = refl; resets = refl }
+come_alike l NoInput = record { to_host = refl; resets = refl }
+
+alike_then : {l m n : Link} → SameWires l m → AreAlike l n → AreAlike m n
+alike_then s a = record { to_host = s.to_host ∙ a.to_host; resets = s.resets ∙ a.resets }
+
+-- ends with the same machines
+pub same_ends : (near far : ℕ → NumberedEnd) (desks : List Desk) → ((h : ℕ) → (near h).side ≡ (far h).side)
+    → map as_kept (map (λ (d : Desk). port_for (near d.host) d) desks) ≡ map as_kept (map (λ (d : Desk). port_for (far d.host) d) desks)
+same_ends near far [] q = refl
+same_ends near far (d ∷ desks) q =
+    ap₂ (λ (x : Port) xs. x ∷ xs) (ap (λ (e : LinkEnd). record { desk = d; side = e; session = 0; late = false; ended = false; turns = [] }) (q d.host))
+    (same_ends near far desks q)
+
+pub ends_sent : (near far : ℕ → NumberedEnd) (desks : List Desk) → ((h : ℕ) → (near h).side ≡ (far h).side)
+    → AllByRecursion (λ (d : Desk). next_frame (near d.host).side ≡ None) desks
+    → AllByRecursion (λ (p : Port). next_frame p.side ≡ None) (map (λ (d : Desk). port_for (far d.host) d) desks)
+ends_sent near far [] q a = tt
+ends_sent near far (d ∷ desks) q a =
+    let P : LinkEnd → Type 0 = λ e. next_frame e ≡ None in (subst P (q d.host) a.0, ends_sent near far desks q a.1)
+
+pub ends_fresh : (near : ℕ → NumberedEnd) (desks : List Desk)
+    → AllByRecursion (λ (p : Port). (p.late ≡ false) × (p.ended ≡ false)) (map (λ (d : Desk). port_for (near d.host) d) desks)
+ends_fresh near [] = tt
+ends_fresh near (d ∷ desks) = ((refl, refl), ends_fresh near desks)
+
+-- no more messages are counted behind what comes to them
+few_one : (input : NodeInput) (d : Desk) (a b : NumberedEnd) → a.side ≡ b.side → StaysCounted a.side (input_at input (port_for a d))
+    → StaysCounted b.side (input_at input (port_for b d))
+few_one (AtEnd h i) d a b q few = let Q : LinkEnd → Type 0 = λ e. StaysCounted e (if d.host == h then Some i else None) in subst Q q few
+few_one TimePasses d a b q few = let Q : LinkEnd → Type 0 = λ e. StaysCounted e (Some Tick) in subst Q q few
+
+late_of : (o : Option LinkInput) (d : Desk) (a b : NumberedEnd) → a.side ≡ b.side → StaysCounted (has_come (port_for a d) o).side (Some (Reset None))
+    → StaysCounted (has_come (port_for b d) o).side (Some (Reset None))
+late_of None d a b q few = let Q : LinkEnd → Type 0 = λ e. StaysCounted e (Some (Reset None)) in subst Q q few
+late_of (Some i) d a b q few = let Q : LinkEnd → Type 0 = λ e. StaysCounted (after_input e i) (Some (Reset None)) in subst Q q few
+
+late_one : (input : NodeInput) (d : Desk) (a b : NumberedEnd) → a.side ≡ b.side
+    → StaysCounted (has_come (port_for a d) (input_at input (port_for a d))).side (Some (Reset None))
+    → StaysCounted (has_come (port_for b d) (input_at input (port_for b d))).side (Some (Reset None))
+late_one (AtEnd h i) d a b q few = late_of (if d.host == h then Some i else None) d a b q few
+late_one TimePasses d a b q few = late_of (Some Tick) d a b q few
+
+abbrev FewCome : NodeInput → (ℕ → NumberedEnd) → List Desk → Type 0
+FewCome input ends ds = AllByRecursion (λ (p : Port). StaysCounted p.side (input_at input p)) (map (λ (d : Desk). port_for (ends d.host) d) ds)
+
+abbrev FewLate : NodeInput → (ℕ → NumberedEnd) → List Desk → Type 0
+FewLate input ends ds =
+    AllByRecursion (λ (p : Port). StaysCounted (has_come p (input_at input p)).side (Some (Reset None))) (map (λ (d : Desk). port_for (ends d.host) d) ds)
+
+pub few_ends : (input : NodeInput) (near far : ℕ → NumberedEnd) (desks : List Desk) → ((h : ℕ) → (near h).side ≡ (far h).side)
+    → CountsFew input (map (λ (d : Desk). port_for (near d.host) d) desks) → CountsFew input (map (λ (d : Desk). port_for (far d.host) d) desks)
+few_ends input near far desks q few = record { come = come desks few.come; late = late desks few.late }
+  where
+    come : (ds : List Desk) → FewCome input near ds → FewCome input far ds
+    come [] a = tt
+    come (d ∷ ds) a = (few_one input d (near d.host) (far d.host) (q d.host) a.0, come ds a.1)
+
+    late : (ds : List Desk) → FewLate input near ds → FewLate input far ds
+    late [] a = tt
+    late (d ∷ ds) a = (late_one input d (near d.host) (far d.host) (q d.host) a.0, late ds a.1)
+
+-- ## One step
+
+module _ (w : NodeWorld) (r : Running) (h : ℕ) (comes : Comes) (i : LinkInput) (s : Site) (may : MayGoOn w) (runs : w.controller ≡ Some r)
+    (found : site_at w.sites h ≡ Some s) (input : input_of (link_to w.sites h) comes ≡ Some i) where
+  node : HasEnds 0 (hosts_in w.sites) r
+  node = subst (IfItRuns 0 (hosts_in w.sites)) runs may.orderly.controller
+
+  abbrev plain : ℕ → NumberedEnd
+  plain k = (link_to w.sites k).controller
+
+  abbrev near : ℕ → NumberedEnd
+  near k = near_end_in (link_to w.sites k) (comes_to h comes k)
+
+  abbrev pub Start : Work
+  Start = work_of r w.memory.plan near (entries_for h (arrival Controller (link_to w.sites h) comes))
+
+  abbrev pub Then : Work
+  Then = controller_work w r h comes (steps (AtEnd h i))
+
+  same_near : (k : ℕ) → (plain k).side ≡ (near k).side
+  same_near k = sym (near_side (link_to w.sites k) (comes_to h comes k))
+
+  abbrev starts : Site → Link
+  starts x = as_it_comes x.link (comes_to h comes x.host)
+
+  abbrev out : Site → Link
+  out x = wires_for x.link (comes_to h comes x.host)
+
+  abbrev so : Site → Ending → Link
+  so x e = happens_at_controller x.link (Step (comes_to h comes x.host) (turns_at Then x.host) e)
+
+  pub each : (x : Site) → site_at w.sites x.host ≡ Some x → EndSteps Then x (starts x) (out x) (so x)
+  each x there =
+      let g : EndGoes x.host x.link (comes_to h comes x.host) Then = controller_ends w r h comes i x.host x may.orderly node there input in
+      record {
+        port = g.port;
+        here = g.here;
+        link = g.goes.link;
+        wires = g.goes.wires;
+        alike = alike_then g.goes.wires (come_alike x.link (comes_to h comes x.host));
+        goes_out = g.goes.out;
+        goes_off = g.goes.cut;
+        far = g.goes.far ∙ sym (come_far x.link (comes_to h comes x.host));
+      }
+
+  pub hosts_then : hosts_of_ends Then.ports ≡ hosts_in w.sites
+  hosts_then = hosts_kept w r h comes i may.orderly node input
+
+  abbrev pub mid_sites : List Site
+  mid_sites = mid_hosts w Then starts out so may.orderly.different hosts_then each
+
+  -- the numbers of sessions are those that stand where it came
+  each_number : (sessions : List ℕ) (sites : List Site) → AreSessions sessions (as_it_comes_to h comes sites)
+      → AllByRecursion (λ (x : Site). number_of (near_end_in x.link (comes_to h comes x.host)) ≡ get_or sessions x.host 0) sites
+  each_number sessions [] a = tt
+  each_number sessions (x ∷ sites) a = (number_coming x.link (comes_to h comes x.host) ∙ sym a.0, each_number sessions sites a.1)
+
+  numbers_of : (sessions : List ℕ) (desks : List Desk) (sites : List Site) → map (λ (d : Desk). d.host) desks ≡ hosts_in sites
+      → AllByRecursion (λ (x : Site). site_at w.sites x.host ≡ Some x) sites
+      → AllByRecursion (λ (x : Site). number_of (near_end_in x.link (comes_to h comes x.host)) ≡ get_or sessions x.host 0) sites
+      → AllByRecursion (λ (d : Desk). number_of (near d.host) ≡ get_or sessions d.host 0) desks
+  numbers_of sessions [] sites q a b = tt
+  numbers_of sessions (d ∷ desks) [] q a b = absurd (cc q)
+  numbers_of sessions (d ∷ desks) (x ∷ sites) q a b =
+      let host : d.host ≡ x.host = cc in
+      let rest : map (λ (d : Desk). d.host) desks ≡ hosts_in sites = cc in
+      let N : ℕ → Type 0 = λ k. number_of (near k) ≡ get_or sessions k 0 in
+      let L : Link → Type 0 = λ l. number_of (near_end_in l (comes_to h comes x.host)) ≡ get_or sessions x.host 0 in
+      (subst N (sym host) (subst L (sym (link_is w.sites x.host x a.0)) b.0), numbers_of sessions desks sites rest a.1 b.1)
+
+  pub numbered : (sessions : List ℕ) → AreSessions sessions (as_it_comes_to h comes w.sites) → FewAreCounted (AtEnd h i) w
+      → AreNumbered (λ k. get_or sessions k 0) Then.entries
+  numbered sessions a few =
+      let session : ℕ → ℕ = λ k. get_or sessions k 0 in
+      let counted : CountsFew (AtEnd h i) (map (λ (d : Desk). port_for (plain d.host) d) r.desks) = rw runs at few in
+      let all = each_found (λ (x : Site). x.host) w.sites may.orderly.different in
+      (stepped session (AtEnd h i) Start (few_ends (AtEnd h i) plain near r.desks same_near counted)
+      (work_numbers session r w.memory.plan near (entries_for h (arrival Controller (link_to w.sites h) comes))
+      (arrival_numbered session h Controller (link_to w.sites h) comes)
+      (numbers_of sessions r.desks w.sites node.ends all (each_number sessions w.sites a)))).entries
+
+  -- ## A reset
+
+  -- the end as its node has it
+  own_end : (p : Port) → port_at (map (λ (d : Desk). port_for (plain d.host) d) r.desks) h ≡ Some p → p.side ≡ s.link.controller.side
+  own_end p here =
+      let one : Stands plain r.desks h = stands plain r.desks w.sites h s node.ends found in
+      let same : Some p ≡ Some (port_for (plain h) one.desk) = sym here ∙ one.here in
+      let is : p ≡ port_for (plain h) one.desk = cc in
+      ap (λ (x : Port). x.side) is ∙ ap (λ (l : Link). l.controller.side) (link_is w.sites h s found)
+
+  refusal_is : (window : Option ℕ) → refusal_in w (line.Reset (end_c h) window) ≡ as_noted (reset_refusal s.link.controller.side)
+  refusal_is window = rw runs (ap (λ (l : Link). as_noted (reset_refusal l.controller.side)) (link_is w.sites h s found))
+
+  abbrev AtEndIs : Option ResetRefused → Type 0
+  AtEndIs o = (p : Port) → port_at (map (λ (d : Desk). port_for (plain d.host) d) r.desks) h ≡ Some p
+      → reset_refusal_at (port_at (map (λ (d : Desk). port_for (plain d.host) d) r.desks) h) ≡ o
+
+  answered : (o : Option ResetRefused) → AtEndIs o → option_map reset_refused (reset_refusal s.link.controller.side) ≡ o
+  answered o f =
+      let one : Stands plain r.desks h = stands plain r.desks w.sites h s node.ends found in
+      let p : Port = port_for (plain h) one.desk in
+      ap (λ e. option_map reset_refused (reset_refusal e)) (sym (own_end p one.here)) ∙ (ap reset_refusal_at (sym one.here) ∙ f p one.here)
+
+  pub reset_goes_on : (window : Option ℕ) → AtEndIs None → None ≡ refusal_in w (line.Reset (end_c h) window)
+  reset_goes_on window f =
+      sym (refusal_is window ∙ (told_so s.link.controller.side ∙ ap (option_map reset_noted) (answered None f)))
+
+  pub reset_stops_there : (window : Option ℕ) (why : ResetRefused) (cause : NoCause) → cause ≡ reset_noted why → AtEndIs (Some why)
+      → Some cause ≡ refusal_in w (line.Reset (end_c h) window)
+  reset_stops_there window why cause is f =
+      ap (λ x. Some x) is
+      ∙ sym (refusal_is window ∙ (told_so s.link.controller.side ∙ ap (option_map reset_noted) (answered (Some why) f)))
+
+  -- ## Both ways
+
+  module _ (C P : Type 0) (CRuns : C → Core → List Port → Type 0) (c_memory : C → Memory) (PRuns : P → Core → List Port → Type 0) (p_memory : P → Memory)
+      (kept : (n : C) (core : Core) (ports others : List Port) → map as_kept ports ≡ map as_kept others → CRuns n core ports → CRuns n core others)
+      (whole : (n : C) (core : Core) (ports : List Port) → CRuns n core ports → AllByRecursion (λ (p : Port). GoesOutWhole p.side) ports) where
+    pub begins_there : (n : C) → IsPlace CRuns c_memory (Some n) None w.memory (Some r) plain → BeginsAt CRuns c_memory n h Start
+    begins_there n place =
+        let one : Stands near r.desks h = stands near r.desks w.sites h s node.ends found in
+        record {
+          begins = record {
+            runs = kept n r.core (map (λ (d : Desk). port_for (plain d.host) d) r.desks) (map (λ (d : Desk). port_for (near d.host) d) r.desks)
+                (same_ends plain near r.desks same_near) place.1;
+            sent = ends_sent plain near r.desks same_near place.2;
+            fresh = ends_fresh near r.desks;
+            power = refl;
+            plan = ap (λ (m : Memory). m.plan) (sym place.0);
+            writes = refl;
+          };
+          port = port_for (near h) one.desk;
+          here = one.here;
+        }
+
+    pub sends_all : {Runs : Type 0} (ks : List (HostSite P)) → Runs → SitesAre PRuns p_memory ks (as_it_comes_to h comes w.sites)
+        → SendsTo PRuns p_memory Runs Then.ports ks mid_sites
+    sends_all ks runs a =
+        sends_them w Then starts out so may.orderly.different hosts_then each C P CRuns c_memory PRuns p_memory kept whole ks runs a
+
+    pub step_midway : (old n : C) (off : Option Memory) (ks : List (HostSite P)) (live : Bool) → HasGone CRuns c_memory old n Then live → off ≡ None
+        → SitesAre PRuns p_memory ks (as_it_comes_to h comes w.sites)
+        → EndsStep CRuns PRuns p_memory (record { on = Some n; off = off }) ks n live Then mid_sites
+    step_midway old n off ks live gone none a = record { on = refl; off = none; sends = sends_all ks gone.runs a }
+
+    abbrev Becomes : ControllerPlace C → List (HostSite P) → List Entry → List Entry → Type 0
+    Becomes k ks before now = WorldBecomes CRuns c_memory PRuns p_memory k ks before now (comes_at w (end_c h) comes)
+
+    step_is : comes_at w (end_c h) comes ≡ after_controller w h comes Then
+    step_is = rw (input, runs) refl
+
+    pub step_went_on : (k : ControllerPlace C) (ks : List (HostSite P)) (n : C) (before now : List Entry) → Then.cut ≡ false
+        → c_memory n ≡ after_planned Then.writes w.memory → CRuns n Then.core Then.ports
+        → GoesOnWith CRuns c_memory PRuns p_memory k ks n Then mid_sites before now → Becomes k ks before now
+    step_went_on k ks n before now on memory run g =
+        let B : NodeWorld × List Entry → Type 0 = λ x. WorldBecomes CRuns c_memory PRuns p_memory k ks before now x in
+        subst B (sym step_is)
+        (went_on w Then starts out so may.orderly.different hosts_then each C P CRuns c_memory PRuns p_memory kept whole k ks n before now on memory run g)
+
+    pub step_went_off : (k : ControllerPlace C) (ks : List (HostSite P)) (n : C) (before now : List Entry) → Then.cut ≡ true
+        → c_memory n ≡ after_planned Then.writes w.memory → WentOffWith c_memory PRuns p_memory k ks n Then mid_sites before now → Becomes k ks before now
+    step_went_off k ks n before now off memory g =
+        let B : NodeWorld × List Entry → Type 0 = λ x. WorldBecomes CRuns c_memory PRuns p_memory k ks before now x in
+        subst B (sym step_is)
+        (went_off w Then starts out so may.orderly.different hosts_then each C P CRuns c_memory PRuns p_memory kept whole k ks n before now off memory g)
+
+    -- the step ends in either way
+    pub step_ends : {T F : Type 0} (result : Result T F) (live : Bool) (k : ControllerPlace C) (ks : List (HostSite P)) (old n : C) (before now : List Entry)
+        → IsPlace CRuns c_memory (Some old) None w.memory (Some r) plain → HasGone CRuns c_memory old n Then live
+        → (live ≡ true → OnOk result (GoesOnWith CRuns c_memory PRuns p_memory k ks n Then mid_sites before now))
+        → (live ≡ false → OnOk result (WentOffWith c_memory PRuns p_memory k ks n Then mid_sites before now)) → OnOk result (Becomes k ks before now)
+    step_ends result live k ks old n before now place gone goes_on goes_off = go live refl
+      where
+        memory : c_memory n ≡ after_planned Then.writes w.memory
+        memory = gone.memory ∙ ap (after_planned Then.writes) place.0
+
+        go : (b : Bool) → live ≡ b → OnOk result (Becomes k ks before now)
+        go true q = on_ok result (goes_on q) (λ g. step_went_on k ks n before now (gone.power ∙ ap not q) memory (gone.runs q) g)
+        go false q = on_ok result (goes_off q) (λ g. step_went_off k ks n before now (gone.power ∙ ap not q) memory g)

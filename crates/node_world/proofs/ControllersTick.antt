@@ -1,0 +1,225 @@
+-- A tick of the controller: how it begins, how what it notes is numbered, and what is behind it.
+use Rattle.std.proofs.Common.{◌≡◌, ℕ, Bool, true, false, not, List, [], ◌∷◌, get_or, map, refl, ap, sym, subst, ◌∙◌, append-nil}
+use Rattle.std.specs.Prelude.{Option, Some, None, Result, OnOk}
+use Rattle.std.specs.List.{AllByRecursion}
+use Rattle.swp_base.specs.InMemory.{Memory}
+use Rattle.swp_act.specs.Activation.{new_clf}
+use Rattle.trace_model.specs.declared.entry.Entry.{Entry}
+use Rattle.journal_laws.specs.Planned.{after_planned}
+use Rattle.link_machine.specs.Machine.{after_input, frames_out, new_link_end}
+use Rattle.link_machine.specs.Machine.LinkInput.{Tick}
+use Rattle.link_machine.specs.Machine.Role.{Clf}
+use Rattle.link_entries.specs.messages.Links.{Link, NumberedEnd, Ending, ticks_at_controller, number_of}
+use Rattle.link_entries.specs.messages.Links.Ending.{GoesOut, CutOff}
+use Rattle.link_wires.proofs.Results.{on_ok}
+use Rattle.node_machine.specs.Parts.{Core, Desk, Running, Port, Work}
+use Rattle.node_machine.specs.Node.NodeInput.{TimePasses}
+use Rattle.node_machine.specs.world.World.{NodeWorld, Site, site_at, link_to, turns_at, is_late_at, ticked_so, port_for, work_of, controller_ticks}
+use Rattle.node_machine.proofs.world.Cases.{near_tick, after_near_tick, site_unticked}
+use Rattle.node_laws.specs.kept.Books.{hosts_of_ends}
+use Rattle.node_laws.specs.telling.Telling.{HasEnds, IfItRuns, IfOff, IfDue, hosts_in}
+use Rattle.node_laws.proofs.telling.Keeping.{tick_keeps}
+use Rattle.node_laws.proofs.telling.Nodes.{link_is, hosts_same}
+use Rattle.node_world.specs.declared.controller.ControllerPlace.{ControllerPlace}
+use Rattle.node_world.specs.declared.places.HostSite.{HostSite}
+use Rattle.node_world.specs.LinksKept.{SameWires}
+use Rattle.node_world.specs.WorldNodes.{as_kept, BeginsOver, GoesOutWhole, HasGone, MayBeginStep}
+use Rattle.node_world.specs.Numbers.{AreNumbered, CountsFew}
+use Rattle.node_world.specs.Places.{IsPlace, SiteIs}
+use Rattle.node_world.specs.Controllers.{SitesAre, WorldIs, WorldBecomes, MayGoOn, AreTimely, FewAreCounted, AreSessions, EndsStep, GoesOnWith, WentOffWith}
+use Rattle.node_world.proofs.GoingOn.{same_stand, same_twice}
+use Rattle.node_world.proofs.Behind.{each_found, all_far}
+use Rattle.node_world.proofs.HostsStay.{becomes_same}
+use Rattle.node_world.proofs.TicksGo.{ticks_on, NearTicks, controller_end_ticks}
+use Rattle.node_world.proofs.Numbered.{stepped}
+use Rattle.node_world.proofs.Renumbered.{work_numbers}
+use Rattle.node_world.proofs.ControllersGo.{EndSteps}
+use Rattle.node_world.proofs.ControllersStand.{mid_hosts, sends_them, went_on, went_off}
+use Rattle.node_world.proofs.ControllersStep.{ends_sent, ends_fresh}
+
+-- ## While it doesn't run
+
+-- an end that wasn't activated sends nothing at a tick
+still_wires : (l : Link) → l.controller.side ≡ new_link_end (Clf new_clf) → SameWires l (ticks_at_controller l [] GoesOut)
+still_wires l q =
+    let g = ticks_on l false [] (λ late. absurd (cc late)) in
+    let W : Link → Type 0 = λ m. SameWires l m in
+    let none : frames_out (after_input l.controller.side Tick) ≡ [] = ap (λ x. frames_out (after_input x Tick)) q in
+    subst W (sym g.out) (same_twice g.wires (becomes_same g.link (after_input l.controller.side Tick) none))
+
+still_far : (l : Link) → (ticks_at_controller l [] GoesOut).host ≡ l.host
+still_far l =
+    let g = ticks_on l false [] (λ late. absurd (cc late)) in
+    ap (λ (m : Link). m.host) g.out ∙ (all_far g.link (frames_out (after_input l.controller.side Tick)) ∙ g.far)
+
+module _ (P : Type 0) (PRuns : P → Core → List Port → Type 0) (p_memory : P → Memory) where
+  all_still : (ks : List (HostSite P)) (sites : List Site)
+      → AllByRecursion (λ (s : Site). s.link.controller.side ≡ new_link_end (Clf new_clf)) sites → SitesAre PRuns p_memory ks sites
+      → SitesAre PRuns p_memory ks (map site_unticked sites)
+  all_still [] [] q a = tt
+  all_still [] (s ∷ sites) q a = absurd a
+  all_still (k ∷ ks) [] q a = absurd a
+  all_still (k ∷ ks) (s ∷ sites) q a = (one, all_still ks sites q.1 a.1)
+    where
+      one : SiteIs PRuns p_memory k (site_unticked s)
+      one =
+          let Q : NumberedEnd → Type 0 = λ e. IsPlace PRuns p_memory k.on k.off s.memory s.node (λ h. e) in
+          record { host = a.0.host; wires = same_stand (still_wires s.link q.0) a.0.wires; place = subst Q (sym (still_far s.link)) a.0.place }
+
+  module _ (C : Type 0) (CRuns : C → Core → List Port → Type 0) (c_memory : C → Memory) where
+    off_place : (on : Option C) (off : Option Memory) (m : Memory) (near far : ℕ → NumberedEnd) → IsPlace CRuns c_memory on off m None near
+        → IsPlace CRuns c_memory on off m None far
+    off_place None (Some x) m near far p = p
+    off_place None None m near far p = p
+    off_place (Some n) (Some x) m near far p = p
+    off_place (Some n) None m near far p = p
+
+    pub ticks_off : (k : ControllerPlace C) (ks : List (HostSite P)) (w : NodeWorld) (entries : List Entry) → w.controller ≡ None → AreTimely w → MayGoOn w
+        → WorldIs CRuns c_memory PRuns p_memory k ks w → WorldBecomes CRuns c_memory PRuns p_memory k ks entries entries (controller_ticks w)
+    ticks_off k ks w entries off timely may world =
+        let none : controller_ticks w ≡ (record w { sites = map site_unticked w.sites }, []) = rw off refl in
+        let all = each_found (λ (x : Site). x.host) w.sites may.orderly.different in
+        let B : NodeWorld × List Entry → Type 0 = λ x. WorldBecomes CRuns c_memory PRuns p_memory k ks entries entries x in
+        let Here : Option Running → Type 0 = λ o. IsPlace CRuns c_memory k.on k.off w.memory o (λ h. (link_to w.sites h).controller) in
+        let There : Option Running → Type 0 = λ o. IsPlace CRuns c_memory k.on k.off w.memory o (λ h. (link_to (map site_unticked w.sites) h).controller) in
+        subst B (sym none)
+        (record {
+          world = record {
+            controller = subst There (sym off) (off_place k.on k.off w.memory _ _ (subst Here off world.controller));
+            sites = all_still ks w.sites (new_ends w.sites all) world.sites;
+          };
+          noted = sym (append-nil entries);
+        })
+      where
+        new_ends : (left : List Site) → AllByRecursion (λ (x : Site). site_at w.sites x.host ≡ Some x) left
+            → AllByRecursion (λ (s : Site). s.link.controller.side ≡ new_link_end (Clf new_clf)) left
+        new_ends [] a = tt
+        new_ends (x ∷ left) a =
+            let Off : Option Running → Type 0 = λ o. IfOff o (new_link_end (Clf new_clf)) x.link.controller.side in
+            (subst Off off (timely x.host x a.0).controller, new_ends left a.1)
+
+-- ## Its tick
+
+module _ (w : NodeWorld) (r : Running) (may : MayGoOn w) (timely : AreTimely w) (runs : w.controller ≡ Some r) where
+  node : HasEnds 0 (hosts_in w.sites) r
+  node = subst (IfItRuns 0 (hosts_in w.sites)) runs may.orderly.controller
+
+  abbrev plain : ℕ → NumberedEnd
+  plain k = (link_to w.sites k).controller
+
+  abbrev pub Begun : Work
+  Begun = work_of r w.memory.plan plain []
+
+  abbrev pub Ticked : Work
+  Ticked = near_tick w r
+
+  abbrev starts : Site → Link
+  starts x = x.link
+
+  abbrev so : Site → Ending → Link
+  so x e = ticked_so x.link (is_late_at Ticked x.host) (turns_at Ticked x.host) e
+
+  pub each : (x : Site) → site_at w.sites x.host ≡ Some x → EndSteps Ticked x (starts x) (starts x) (so x)
+  each x there =
+      let Due : Option Running → Type 0 = λ o. IfDue o x.host x.link.controller.side in
+      let n : NearTicks w r x = controller_end_ticks w x may.orderly there r runs node (subst Due runs (timely x.host x there).up) in
+      let g = n.ticks in
+      record {
+        port = g.port;
+        here = g.here;
+        link = g.goes.link;
+        wires = g.goes.wires;
+        alike = record { to_host = g.goes.wires.to_host; resets = g.goes.wires.resets };
+        goes_out = ap (λ b. ticked_so x.link b (turns_at Ticked x.host) GoesOut) g.late_is ∙ g.goes.out;
+        goes_off = ap (λ b. ticked_so x.link b (turns_at Ticked x.host) CutOff) g.late_is ∙ g.goes.cut;
+        far = g.goes.far;
+      }
+
+  pub hosts_then : hosts_of_ends Ticked.ports ≡ hosts_in w.sites
+  hosts_then = (tick_keeps 0 (hosts_in w.sites) Begun (record { number = node.number; ends = hosts_same plain r.desks ∙ node.ends })).ends
+
+  abbrev pub mid_sites : List Site
+  mid_sites = mid_hosts w Ticked starts starts so may.orderly.different hosts_then each
+
+  numbers_of : (sessions : List ℕ) (desks : List Desk) (sites : List Site) → map (λ (d : Desk). d.host) desks ≡ hosts_in sites
+      → AllByRecursion (λ (x : Site). site_at w.sites x.host ≡ Some x) sites → AreSessions sessions sites
+      → AllByRecursion (λ (d : Desk). number_of (plain d.host) ≡ get_or sessions d.host 0) desks
+  numbers_of sessions [] sites q a b = tt
+  numbers_of sessions (d ∷ desks) [] q a b = absurd (cc q)
+  numbers_of sessions (d ∷ desks) (x ∷ sites) q a b =
+      let host : d.host ≡ x.host = cc in
+      let rest : map (λ (d : Desk). d.host) desks ≡ hosts_in sites = cc in
+      let N : ℕ → Type 0 = λ k. number_of (plain k) ≡ get_or sessions k 0 in
+      let L : Link → Type 0 = λ l. number_of l.controller ≡ get_or sessions x.host 0 in
+      (subst N (sym host) (subst L (sym (link_is w.sites x.host x a.0)) (sym b.0)), numbers_of sessions desks sites rest a.1 b.1)
+
+  pub numbered : (sessions : List ℕ) → AreSessions sessions w.sites → FewAreCounted TimePasses w → AreNumbered (λ k. get_or sessions k 0) Ticked.entries
+  numbered sessions a few =
+      let session : ℕ → ℕ = λ k. get_or sessions k 0 in
+      let counted : CountsFew TimePasses (map (λ (d : Desk). port_for (plain d.host) d) r.desks) = rw runs at few in
+      let all = each_found (λ (x : Site). x.host) w.sites may.orderly.different in
+      (stepped session TimePasses Begun counted
+      (work_numbers session r w.memory.plan plain [] tt (numbers_of sessions r.desks w.sites node.ends all a))).entries
+
+  module _ (C P : Type 0) (CRuns : C → Core → List Port → Type 0) (c_memory : C → Memory) (PRuns : P → Core → List Port → Type 0) (p_memory : P → Memory)
+      (kept : (n : C) (core : Core) (ports others : List Port) → map as_kept ports ≡ map as_kept others → CRuns n core ports → CRuns n core others)
+      (whole : (n : C) (core : Core) (ports : List Port) → CRuns n core ports → AllByRecursion (λ (p : Port). GoesOutWhole p.side) ports) where
+    pub tick_begins : (n : C) → IsPlace CRuns c_memory (Some n) None w.memory (Some r) plain → BeginsOver CRuns c_memory n Begun
+    tick_begins n place = record {
+      runs = place.1;
+      sent = ends_sent plain plain r.desks (λ h. refl) place.2;
+      fresh = ends_fresh plain r.desks;
+      power = refl;
+      plan = ap (λ (m : Memory). m.plan) (sym place.0);
+      writes = refl;
+    }
+
+    pub tick_may : (n : C) → IsPlace CRuns c_memory (Some n) None w.memory (Some r) plain → MayBeginStep CRuns n
+    tick_may n place =
+        let b = tick_begins n place in record { core = r.core; ports = Begun.ports; runs = b.runs; sent = b.sent }
+
+    pub tick_midway : (old n : C) (off : Option Memory) (ks : List (HostSite P)) (live : Bool) → HasGone CRuns c_memory old n Ticked live → off ≡ None
+        → SitesAre PRuns p_memory ks w.sites → EndsStep CRuns PRuns p_memory (record { on = Some n; off = off }) ks n live Ticked mid_sites
+    tick_midway old n off ks live gone none a =
+        let S : List Site → Type 0 = λ xs. SitesAre PRuns p_memory ks xs in
+        record {
+          on = refl;
+          off = none;
+          sends =
+              sends_them w Ticked starts starts so may.orderly.different hosts_then each C P CRuns c_memory PRuns p_memory kept whole ks gone.runs
+              (subst S (sym (same_sites w.sites)) a);
+        }
+      where
+        same_sites : (sites : List Site) → map (λ (s : Site). record s { link = s.link }) sites ≡ sites
+        same_sites [] = refl
+        same_sites (s ∷ sites) = ap (λ xs. s ∷ xs) (same_sites sites)
+
+    abbrev Becomes : ControllerPlace C → List (HostSite P) → List Entry → List Entry → Type 0
+    Becomes k ks before now = WorldBecomes CRuns c_memory PRuns p_memory k ks before now (controller_ticks w)
+
+    -- the tick ends in either way
+    pub tick_ends : {T F : Type 0} (result : Result T F) (live : Bool) (k : ControllerPlace C) (ks : List (HostSite P)) (old n : C) (before now : List Entry)
+        → IsPlace CRuns c_memory (Some old) None w.memory (Some r) plain → HasGone CRuns c_memory old n Ticked live
+        → (live ≡ true → OnOk result (GoesOnWith CRuns c_memory PRuns p_memory k ks n Ticked mid_sites before now))
+        → (live ≡ false → OnOk result (WentOffWith c_memory PRuns p_memory k ks n Ticked mid_sites before now)) → OnOk result (Becomes k ks before now)
+    tick_ends result live k ks old n before now place gone goes_on goes_off = go live refl
+      where
+        memory : c_memory n ≡ after_planned Ticked.writes w.memory
+        memory = gone.memory ∙ ap (after_planned Ticked.writes) place.0
+
+        tick_is : controller_ticks w ≡ after_near_tick w Ticked
+        tick_is = rw runs refl
+
+        go : (b : Bool) → live ≡ b → OnOk result (Becomes k ks before now)
+        go true q =
+            let B : NodeWorld × List Entry → Type 0 = λ x. WorldBecomes CRuns c_memory PRuns p_memory k ks before now x in
+            on_ok result (goes_on q)
+            (λ g. subst B (sym tick_is)
+            (went_on w Ticked starts starts so may.orderly.different hosts_then each C P CRuns c_memory PRuns p_memory kept whole k ks n before now
+            (gone.power ∙ ap not q) memory (gone.runs q) g))
+        go false q =
+            let B : NodeWorld × List Entry → Type 0 = λ x. WorldBecomes CRuns c_memory PRuns p_memory k ks before now x in
+            on_ok result (goes_off q)
+            (λ g. subst B (sym tick_is)
+            (went_off w Ticked starts starts so may.orderly.different hosts_then each C P CRuns c_memory PRuns p_memory kept whole k ks n before now
+            (gone.power ∙ ap not q) memory g))

@@ -1,0 +1,122 @@
+-- What is known of a host of the world by what is kept of it, and what happens at it, case by case.
+use Rattle.std.proofs.Common.{◌≡◌, ℕ, List, [], ◌∷◌, ◌++◌, refl, sym, subst, append-nil}
+use Rattle.std.specs.Prelude.{Option, Some, None, Ok}
+use Rattle.swp_base.specs.InMemory.{Memory}
+use Rattle.swp_base.specs.declared.control_frames.Control.{Control}
+use Rattle.swp_lpdu.specs.Controls.{lpdu_of, control_of}
+use Rattle.trace_model.specs.declared.entry.Entry.{Entry}
+use Rattle.link_laws.specs.sessions.Sessions.{OnWire}
+use Rattle.link_machine.specs.Machine.{LinkInput, Turn}
+use Rattle.link_machine.specs.Machine.LinkInput.{Take}
+use Rattle.link_entries.specs.messages.Links.{Link, Comes, Ending, exchanged, happens_at_controller}
+use Rattle.link_entries.specs.messages.Links.Comes.{NextFrame}
+use Rattle.link_entries.specs.messages.Links.EndEvent.{Step}
+use Rattle.link_entries.specs.entries.Entries.End.{Host}
+use Rattle.node_machine.specs.Parts.{Core, Running, Port, Work}
+use Rattle.node_machine.specs.Node.{steps}
+use Rattle.node_machine.specs.Node.NodeInput.{AtEnd}
+use Rattle.node_machine.specs.world.World.{Site, input_of, wires_for, frames_noted, host_work, host_ticks}
+use Rattle.node_machine.proofs.world.Cases.{host_tick, after_tick}
+use Rattle.node_world.specs.declared.places.HostSite.{HostSite}
+use Rattle.node_world.specs.LinksKept.{IsFirst}
+use Rattle.node_world.specs.Places.{IsPlace, SiteIs}
+use Rattle.node_world.specs.HostSteps.{host_stepped, host_hears, host_behind, HasBecome}
+
+-- ## What is kept
+
+module _ (P : Type 0) (Runs : P → Core → List Port → Type 0) (memory_of : P → Memory) where
+  -- a host runs
+  pub record IsOn (k : HostSite P) (s : Site) (n : P) : Type 0 where
+    pub running : Running
+    pub runs : s.node ≡ Some running
+    pub off : k.off ≡ None
+    pub memory : memory_of n ≡ s.memory
+
+  pub is_on : {k : HostSite P} {s : Site} {n : P} → SiteIs Runs memory_of k s → k.on ≡ Some n → IsOn k s n
+  is_on {k} {s} {n} is on =
+      let Q : Option P → Type 0 = λ a. IsPlace Runs memory_of a k.off s.memory s.node (λ h. s.link.host) in
+      go k.off s.node refl refl (subst Q on is.place)
+    where
+      go : (off : Option Memory) (o : Option Running) → k.off ≡ off → s.node ≡ o → IsPlace Runs memory_of (Some n) off s.memory o (λ h. s.link.host)
+          → IsOn k s n
+      go None (Some r) q runs place = record { running = r; runs = runs; off = q; memory = place.0 }
+      go None None q runs place = absurd place
+      go (Some m) o q runs place = absurd place
+
+  -- it doesn't
+  pub is_off : {k : HostSite P} {s : Site} → SiteIs Runs memory_of k s → k.on ≡ None → s.node ≡ None
+  is_off {k} {s} is on =
+      let Q : Option P → Type 0 = λ a. IsPlace Runs memory_of a k.off s.memory s.node (λ h. s.link.host) in
+      go k.off s.node refl (subst Q on is.place)
+    where
+      go : (off : Option Memory) (o : Option Running) → s.node ≡ o → IsPlace Runs memory_of None off s.memory o (λ h. s.link.host) → s.node ≡ None
+      go (Some m) None runs place = runs
+      go (Some m) (Some r) runs place = absurd place
+      go None o runs place = absurd place
+
+  -- nothing happened
+  pub unchanged : {k : HostSite P} {s : Site} (entries : List Entry) → SiteIs Runs memory_of k s → HasBecome Runs memory_of k entries entries (s, [])
+  unchanged entries is = record { site = is; noted = sym (append-nil entries) }
+
+  pub unchanged_as : {k : HostSite P} {s : Site} {after : Site × List Entry} (entries : List Entry) → SiteIs Runs memory_of k s → after ≡ (s, [])
+      → HasBecome Runs memory_of k entries entries after
+  unchanged_as {k} entries is q =
+      let B : Site × List Entry → Type 0 = λ x. HasBecome Runs memory_of k entries entries x in subst B (sym q) (unchanged entries is)
+
+-- ## What happens
+
+pub stepped_off : (s : Site) (comes : Comes) (f : Work → Work) → s.node ≡ None → host_stepped s comes f ≡ (s, [])
+stepped_off s comes f off = rw off refl
+
+-- the link of a host behind a step in which this comes to its end
+abbrev pub goes_by : Site → Comes → List Turn → Ending → Link
+goes_by s comes turns ending = happens_at_controller (exchanged s.link) (Step comes turns ending)
+
+-- a host behind its work
+abbrev pub worked : Site → Comes → Work → Site × List Entry
+worked s comes k = (host_behind s (goes_by s comes) k, k.entries ++ frames_noted Host s.host (wires_for (exchanged s.link) comes) k)
+
+pub stepped_on : (s : Site) (r : Running) (comes : Comes) (f : Work → Work) → s.node ≡ Some r
+    → host_stepped s comes f ≡ worked s comes (host_work s r comes f)
+stepped_on s r comes f on = rw on refl
+
+pub hears_off : (s : Site) (comes : Comes) → s.node ≡ None → host_hears s comes ≡ (s, [])
+hears_off s comes off = go (input_of (exchanged s.link) comes) refl
+  where
+    go : (o : Option LinkInput) → input_of (exchanged s.link) comes ≡ o → host_hears s comes ≡ (s, [])
+    go None q = rw q refl
+    go (Some i) q = rw (q, off) refl
+
+pub hears_none : (s : Site) (comes : Comes) → input_of (exchanged s.link) comes ≡ None → host_hears s comes ≡ (s, [])
+hears_none s comes none = rw none refl
+
+pub hears_on : (s : Site) (r : Running) (comes : Comes) (i : LinkInput) → s.node ≡ Some r → input_of (exchanged s.link) comes ≡ Some i
+    → host_hears s comes ≡ worked s comes (host_work s r comes (steps (AtEnd s.host i)))
+hears_on s r comes i on is = rw (is, on) refl
+
+pub ticks_on : (s : Site) (r : Running) → s.node ≡ Some r → host_ticks s ≡ after_tick s (host_tick s r)
+ticks_on s r on = rw on refl
+
+-- ## The first frame
+
+pub none_first : (l : Link) → IsFirst l.to_controller None → input_of l NextFrame ≡ None
+none_first l = go l.to_controller
+  where
+    go : (w : List OnWire) → IsFirst w None → input_of (record l { to_controller = w }) NextFrame ≡ None
+    go [] q = refl
+    go (x ∷ xs) q = cc q.0
+
+-- the frame that is taken, as its bytes are read
+pub record IsTaken (l : Link) (lpdu : List ℕ) : Type 0 where
+  pub frame : Control
+  pub input : input_of l NextFrame ≡ Some (Take frame)
+  pub read : control_of lpdu ≡ Ok frame
+
+pub first_taken : (l : Link) (lpdu : List ℕ) → IsFirst l.to_controller (Some lpdu) → IsTaken l lpdu
+first_taken l lpdu = go l.to_controller refl
+  where
+    go : (w : List OnWire) → l.to_controller ≡ w → IsFirst w (Some lpdu) → IsTaken l lpdu
+    go [] is q = absurd (cc q)
+    go (x ∷ xs) is q =
+        let bytes : lpdu ≡ lpdu_of x.frame = cc in
+        record { frame = x.frame; input = rw is refl; read = rw bytes q.1 }

@@ -1,0 +1,118 @@
+-- A host of the world boots.
+use Rattle.std.proofs.Common.{◌≡◌, ℕ, true, false, List, [], ◌∷◌, ◌++◌, length, map, refl, ap, ap₂, sym, subst, ◌∙◌}
+use Rattle.std.specs.Prelude.{Option, Some, None}
+use Rattle.swp_base.specs.InMemory.{Memory}
+use Rattle.swp_base.specs.declared.link_terms.Role.TheVariants as named
+use Rattle.swp_act.specs.Activation.{new_uicc}
+use Rattle.trace_model.specs.declared.entry.Entry.{Entry}
+use Rattle.trace_model.specs.declared.entry.Entry.TheVariants as note
+use Rattle.journal_laws.specs.Journal.{count_of}
+use Rattle.journal_laws.specs.Planned.{fails_within, after_planned}
+use Rattle.link_machine.specs.Machine.{LinkEnd, next_frame, new_link_end}
+use Rattle.link_machine.specs.Machine.Role.{Uicc}
+use Rattle.link_entries.specs.messages.Links.{exchanged}
+use Rattle.link_entries.specs.messages.Links.Comes.{NoInput}
+use Rattle.node_machine.specs.Parts.{Core, Running, Port}
+use Rattle.node_machine.specs.Node.{found, boot_writes, new_desk}
+use Rattle.node_machine.specs.world.World.{Site, host_cut, port_for}
+use Rattle.node_ends.specs.Making.{new_port}
+use Rattle.node_world.specs.declared.places.HostSite.{HostSite}
+use Rattle.node_world.specs.declared.wires.Wires.{Wires}
+use Rattle.node_world.specs.LinksKept.{WiresStandFor, with_bare_wires}
+use Rattle.node_world.specs.WorldNodes.{as_kept}
+use Rattle.node_world.specs.Places.{IsPlace, SiteIs}
+use Rattle.node_world.specs.Memories.{IsSoundMemory}
+use Rattle.node_world.specs.HostSteps.{host_boots, HasBecome}
+use Rattle.node_world.proofs.GoingOn.{goes_on, cut_same, same_stand, same_exchanged}
+
+pub boot_goes : (s : Site) → fails_within (length (boot_writes s.memory.content)) s.memory.plan ≡ false
+    → host_boots s ≡ (
+      record s { memory = after_planned (boot_writes s.memory.content) s.memory; node = Some (found s.host (s.host ∷ []) s.memory.content) },
+      note.Booted s.host (count_of (found s.host (s.host ∷ []) s.memory.content).core.journal) ∷ [],
+    )
+boot_goes s q = rw q refl
+
+pub boot_stops : (s : Site) → fails_within (length (boot_writes s.memory.content)) s.memory.plan ≡ true
+    → host_boots s ≡ (host_cut (record s { memory = after_planned (boot_writes s.memory.content) s.memory }), note.Cut s.host ∷ [])
+boot_stops s q = rw q refl
+
+module _ (P : Type 0) (Runs : P → Core → List Port → Type 0) (memory_of : P → Memory) where
+  -- a host that doesn't run has its memory at hand
+  pub record LiesThere (k : HostSite P) (s : Site) (m : Memory) : Type 0 where
+    pub on : k.on ≡ None
+    pub memory : m ≡ s.memory
+
+  lies_there : (k : HostSite P) (s : Site) (m : Memory) → SiteIs Runs memory_of k s → s.node ≡ None → k.off ≡ Some m → LiesThere k s m
+  lies_there k s m is off q =
+      let Q : Option Memory → Option Running → Type 0 = λ b o. IsPlace Runs memory_of k.on b s.memory o (λ h. s.link.host) in
+      go k.on refl (subst (λ o. Q (Some m) o) off (subst (λ b. Q b s.node) q is.place))
+    where
+      go : (on : Option P) → k.on ≡ on → IsPlace Runs memory_of on (Some m) s.memory None (λ h. s.link.host) → LiesThere k s m
+      go None here place = record { on = here; memory = place }
+      go (Some n) here place = absurd place
+
+  pub bootable : (k : HostSite P) (s : Site) (m : Memory) → SiteIs Runs memory_of k s → s.node ≡ None → IsSoundMemory s.memory → k.off ≡ Some m
+      → IsSoundMemory m
+  bootable k s m is off order q =
+      let place : LiesThere k s m = lies_there k s m is off q in subst IsSoundMemory (sym place.memory) order
+
+  module _
+      (kept : (n : P) (core : Core) (ports others : List Port) → map as_kept ports ≡ map as_kept others → Runs n core ports → Runs n core others) where
+    new_ports : (n : P) (core : Core) (s : Site) → s.link.host.side ≡ new_link_end (Uicc new_uicc)
+        → Runs n core (map (new_port named.Uicc) (s.host ∷ []))
+        → Runs n core (map (λ d. port_for s.link.host d) (map new_desk (s.host ∷ [])))
+    new_ports n core s side runs =
+        kept n core (map (new_port named.Uicc) (s.host ∷ [])) (map (λ d. port_for s.link.host d) (map new_desk (s.host ∷ [])))
+        (ap (λ (e : LinkEnd). record { desk = new_desk s.host; side = e; session = 0; late = false; ended = false; turns = [] } ∷ []) (sym side)) runs
+
+    pub runs_now : (k : HostSite P) (s : Site) (n : P) (m : Memory) (off : Option Memory) (count : ℕ) (before : List Entry) {now : List Entry}
+        → SiteIs Runs memory_of k s → s.node ≡ None → s.link.host.side ≡ new_link_end (Uicc new_uicc) → k.off ≡ Some m → off ≡ None
+        → (fails_within (length (boot_writes m.content)) m.plan ≡ false) × (memory_of n ≡ after_planned (boot_writes m.content) m)
+        × Runs n (found k.host (k.host ∷ []) m.content).core (map (new_port named.Uicc) (k.host ∷ []))
+        → ((core : Core) (ports : List Port) → Runs n core ports → count ≡ count_of core.journal) → now ≡ before ++ note.Booted k.host count ∷ []
+        → HasBecome Runs memory_of (record { host = k.host; wires = k.wires; on = Some n; off = off }) before now (host_boots s)
+    runs_now k s n m off count before {now} is not_on side there none booted counts noted =
+        let place : LiesThere k s m = lies_there k s m is not_on there in
+        let B : ℕ → Memory → Type 0 = λ h x.
+        (fails_within (length (boot_writes x.content)) x.plan ≡ false) × (memory_of n ≡ after_planned (boot_writes x.content) x)
+        × Runs n (found h (h ∷ []) x.content).core (map (new_port named.Uicc) (h ∷ [])) in
+        let b : B s.host s.memory = subst (B s.host) place.memory (subst (λ h. B h m) is.host booted) in
+        let r : Running = found s.host (s.host ∷ []) s.memory.content in
+        let C : Site × List Entry → Type 0 = λ x.
+        HasBecome Runs memory_of (record { host = k.host; wires = k.wires; on = Some n; off = off }) before now x in
+        let N : Option Memory → Type 0 = λ o.
+        IsPlace Runs memory_of (Some n) o (after_planned (boot_writes s.memory.content) s.memory) (Some r) (λ h. s.link.host) in
+        subst C (sym (boot_goes s b.0))
+        (record {
+          site = record {
+            host = is.host;
+            wires = is.wires;
+            place = subst N (sym none) (b.1, new_ports n r.core s side b.2, (ap next_frame side, tt));
+          };
+          noted = noted ∙ ap₂ (λ h x. before ++ note.Booted h x ∷ []) is.host
+              (counts r.core (map (new_port named.Uicc) (s.host ∷ [])) b.2);
+        })
+
+  pub lost_power : (k : HostSite P) (s : Site) (m left : Memory) (wires : Wires) (before : List Entry) {now : List Entry}
+      → SiteIs Runs memory_of k s → s.node ≡ None → k.off ≡ Some m
+      → (fails_within (length (boot_writes m.content)) m.plan ≡ true) × (left ≡ after_planned (boot_writes m.content) m)
+      → WiresStandFor wires (with_bare_wires s.link) → now ≡ before ++ note.Cut k.host ∷ []
+      → HasBecome Runs memory_of (record { host = k.host; wires = wires; on = k.on; off = Some left }) before now (host_boots s)
+  lost_power k s m left wires before {now} is not_on there booted empty noted =
+      let place : LiesThere k s m = lies_there k s m is not_on there in
+      let B : Memory → Type 0 = λ x. (fails_within (length (boot_writes x.content)) x.plan ≡ true) × (left ≡ after_planned (boot_writes x.content) x) in
+      let b : B s.memory = subst B place.memory booted in
+      let C : Site × List Entry → Type 0 = λ x.
+      HasBecome Runs memory_of (record { host = k.host; wires = wires; on = k.on; off = Some left }) before now x in
+      let gone : Site = host_cut (record s { memory = after_planned (boot_writes s.memory.content) s.memory }) in
+      let N : Option P → Type 0 = λ a. IsPlace Runs memory_of a (Some left) gone.memory None (λ h. gone.link.host) in
+      let g = goes_on (exchanged s.link) NoInput None [] refl tt in
+      subst C (sym (boot_stops s b.0))
+      (record {
+        site = record {
+          host = is.host;
+          wires = same_stand (same_exchanged (cut_same g)) empty;
+          place = subst N (sym place.on) b.1;
+        };
+        noted = noted ∙ ap (λ h. before ++ note.Cut h ∷ []) is.host;
+      })

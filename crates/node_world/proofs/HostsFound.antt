@@ -1,0 +1,51 @@
+-- What a host of the world that was found by its number refuses, and how the world stays as it is then.
+use Rattle.std.proofs.Common.{◌≡◌, ℕ, ◌==◌, Bool, true, false, List, [], ◌∷◌, ◌++◌, refl, ap, sym, subst, ◌∙◌}
+use Rattle.std.specs.Prelude.{slice_set, Option, Some, None}
+use Rattle.swp_base.specs.InMemory.{Memory}
+use Rattle.trace_model.specs.declared.entry.Entry.{Entry}
+use Rattle.trace_model.specs.declared.entry.NoCause.{NoCause}
+use Rattle.trace_model.specs.declared.line.End.{End}
+use Rattle.trace_model.specs.declared.line.Line.TheVariants as line
+use Rattle.node_machine.specs.Parts.{Core, Port, Work}
+use Rattle.link_entries.specs.messages.Links.{Comes}
+use Rattle.node_machine.specs.world.World.{NodeWorld, Site, site_at, end_h, host_does}
+use Rattle.node_machine.specs.world.Lines.{refusal_in}
+use Rattle.node_laws.specs.telling.Telling.{IsOrderly}
+use Rattle.node_world.specs.declared.places.HostSite.{HostSite}
+use Rattle.node_world.specs.Controllers.{SitesAre, StandsAt}
+use Rattle.node_world.specs.HostSteps.{host_stepped, reset_refused_at, sending_refused, BecomesUnless}
+use Rattle.node_world.specs.Whole.{SitesBecome, if_accepted}
+use Rattle.node_world.proofs.AtHosts.{becomes, end_is, site_changes}
+use Rattle.node_world.proofs.HostsInWorlds.{ChangesSite, does_in_world}
+
+module _ (w : NodeWorld) (h : ℕ) (s : Site) (off : (h == 0) ≡ false) (found : site_at w.sites h ≡ Some s) where
+  pub reset_there : (window : Option ℕ) → refusal_in w (line.Reset (end_h h) window) ≡ reset_refused_at s
+  reset_there window = rw (off, found) refl
+
+  pub send_there : (pid : ℕ) (message : List ℕ) → refusal_in w (line.Send (end_h h) pid message) ≡ sending_refused s (pid, message)
+  send_there pid message = rw (off, found) refl
+
+-- a step that a host's own number names
+pub steps_there : (w : NodeWorld) (h : ℕ) (s : Site) → site_at w.sites h ≡ Some s → s.host ≡ h → (comes : Comes) (f : ℕ → Work → Work)
+    → ChangesSite w h s (host_stepped s comes (f s.host)) (host_does w h comes (f h))
+steps_there w h s found host comes f =
+    let C : ℕ → Type 0 = λ n. ChangesSite w h s (host_stepped s comes (f s.host)) (host_does w h comes (f n)) in
+    subst C host (does_in_world w h s found comes (f s.host))
+
+module _ (P : Type 0) (Runs : P → Core → List Port → Type 0) (memory_of : P → Memory) where
+  stays_so : (w : NodeWorld) (i h : ℕ) (a : StandsAt i h w.sites) → IsOrderly w → ChangesSite w h a.site (a.site, []) (w, [])
+  stays_so w i h a o =
+      record {
+        change = λ x. x;
+        world = ap (λ xs. record w { sites = xs }) (sym (site_changes w i h a (λ x. x) o ∙ sym a.is));
+        site = refl;
+        entries = refl;
+      }
+
+  pub becomes_unless : (ks : List (HostSite P)) (w : NodeWorld) (i h : ℕ) (a : StandsAt i h w.sites) (new : HostSite P) (before later : List Entry)
+      (after : Site × List Entry) (now : NodeWorld × List Entry) (cause : Option NoCause) → IsOrderly w → SitesAre Runs memory_of ks w.sites
+      → ChangesSite w h a.site after now → BecomesUnless Runs memory_of new before later a.site after cause
+      → SitesBecome Runs memory_of (slice_set ks i new) before later (if_accepted cause w now)
+  becomes_unless ks w i h a new before later after now None o all c b = becomes P Runs memory_of ks w i h a new before later after now o all c b
+  becomes_unless ks w i h a new before later after now (Some cause) o all c b =
+      becomes P Runs memory_of ks w i h a new before later (a.site, []) (w, []) o all (stays_so w i h a o) b

@@ -1,0 +1,202 @@
+-- A host of the world in its steps: what its node did, as it is to be finished.
+use Rattle.std.proofs.Common.{◌≡◌, ℕ, Bool, List, [], ◌∷◌, ◌++◌, map, refl, ap, ap₂, sym, subst, ◌∙◌, append-nil}
+use Rattle.std.specs.Prelude.{Option, Some, None, Result, Ok, OnOk, option_to_list}
+use Rattle.swp_base.specs.InMemory.{Memory}
+use Rattle.swp_base.specs.declared.outside.NoMemory.{NoMemory}
+use Rattle.trace_model.specs.declared.entry.Entry.{Entry}
+use Rattle.trace_model.specs.declared.entry.Entry.TheVariants as note
+use Rattle.trace_model.specs.declared.line.End.{End}
+use Rattle.swp_lpdu.specs.Controls.{lpdu_of, control_of}
+use Rattle.link_laws.specs.sessions.Sessions.{OnWire}
+use Rattle.link_machine.specs.Machine.{LinkInput, Turn, lpdu_input}
+use Rattle.link_machine.specs.Machine.LinkInput.{Take}
+use Rattle.link_entries.specs.messages.Links.{Link, Comes, Ending, exchanged}
+use Rattle.link_entries.specs.messages.Links.Comes.{NextFrame, NoInput}
+use Rattle.link_entries.specs.entries.Entries.End.{Host}
+use Rattle.history.specs.Steps.{end_of, entries_for}
+use Rattle.node_machine.specs.Parts.{Core, Port, Work, Deed}
+use Rattle.node_machine.specs.Node.{steps, begins_with}
+use Rattle.node_machine.specs.Node.NodeInput.{AtEnd, TimePasses}
+use Rattle.node_machine.specs.world.World.{Site, input_of, near_end_in, arrival, wires_for, frames_noted, work_of, host_work, host_ticks}
+use Rattle.node_machine.proofs.world.Cases.{host_tick}
+use Rattle.node_laws.specs.telling.Telling.{NoneDue}
+use Rattle.node_laws.proofs.telling.Mute.{AreMute}
+use Rattle.node_core.specs.Noting.{unnumbered}
+use Rattle.node_world.specs.declared.places.HostSite.{HostSite}
+use Rattle.node_world.specs.declared.wires.WireEnd.{WireEnd}
+use Rattle.node_world.specs.declared.wires.Wires.{Wires}
+use Rattle.node_world.specs.LinksKept.{WireEndIs, WiresStandFor, as_it_comes, without_first, IsFirst}
+use Rattle.node_world.specs.WorldNodes.{as_kept, BeginsOver, BeginsAt, HasGone, IsNotedSo}
+use Rattle.node_world.specs.Places.{IsPlace, SiteIs}
+use Rattle.node_world.specs.HostSteps.{host_stepped, host_hears, host_behind, IsHostOf, CountsComing, MayTick, IsToSend, HasBecome}
+use Rattle.node_world.proofs.HostsBegin.{begins_at_end}
+use Rattle.node_world.proofs.HostsAre.{IsOn, is_on, goes_by, stepped_on, hears_on, ticks_on, hears_none, none_first, first_taken}
+use Rattle.node_world.proofs.HostsHear.{HostDoes, hears, begins, ticks, tick_at_end, midway}
+
+-- ## A frame that is taken
+
+-- the wires without the frame that was taken
+pub taken_stands : {k : Wires} {e : WireEnd} (l : Link) → WiresStandFor k (exchanged l)
+    → WireEndIs e (without_first l).controller (without_first l).to_controller
+    → WiresStandFor (record k { host = e }) (exchanged (without_first l))
+taken_stands {k} {e} l w = go l.to_controller refl
+  where
+    go : (xs : List OnWire) → l.to_controller ≡ xs
+        → WireEndIs e (without_first (record l { to_controller = xs })).controller (without_first (record l { to_controller = xs })).to_controller
+        → WiresStandFor (record k { host = e }) (exchanged (without_first (record l { to_controller = xs })))
+    go [] is f = record { here = w.here; there = f; count = w.count }
+    go (x ∷ xs) is f = record { here = w.here; there = f; count = w.count }
+
+pub taken_input : (l : Link) (lpdu : List ℕ) → IsFirst l.to_controller (Some lpdu) → input_of l NextFrame ≡ Some (lpdu_input lpdu)
+taken_input l lpdu first =
+    let t = first_taken l lpdu first in
+    let is : lpdu_input lpdu ≡ Take t.frame = let q : control_of lpdu ≡ Ok t.frame = t.read in rw q refl in
+    t.input ∙ ap Some (sym is)
+
+-- it was noted as it arrived
+pub arrival_noted : {now : List Entry} (before : List Entry) (h : ℕ) (at : End) (l : Link) (lpdu : List ℕ) → at ≡ end_of h Host
+    → IsFirst l.to_controller (Some lpdu)
+    → now ≡ before ++ note.Took at lpdu ∷ [] → now ≡ before ++ map unnumbered (entries_for h (arrival Host l NextFrame))
+arrival_noted {now} before h at l lpdu end = go l.to_controller
+  where
+    go : (xs : List OnWire) → IsFirst xs (Some lpdu) → now ≡ before ++ note.Took at lpdu ∷ []
+        → now ≡ before ++ map unnumbered (entries_for h (arrival Host (record l { to_controller = xs }) NextFrame))
+    go [] first q = absurd (cc first)
+    go (x ∷ xs) first q =
+        let bytes : Some lpdu ≡ Some (lpdu_of x.frame) = first.0 in
+        let same : lpdu ≡ lpdu_of x.frame = cc in
+        q ∙ ap (λ e. before ++ e ∷ []) (ap₂ note.Took end same)
+
+-- ## What its node did
+
+-- A host's node has done its work, behind which the host is so and these were noted.
+pub record HasDone {P : Type 0} (Runs : P → Core → List Port → Type 0) (memory_of : P → Memory) (mid : HostSite P) (live : Bool) (now : List Entry)
+    (still : Bool) (before : List Entry) (s : Site) (after : Site × List Entry) : Type 0 where
+  pub step : List Turn → Ending → Link
+  pub l : Link
+  pub w : Work
+  pub midway : IsToSend Runs memory_of mid live now still before s step l w
+  pub is : after ≡ (host_behind s step w, w.entries ++ frames_noted Host s.host l w)
+
+pub is_done : {P : Type 0} {Runs : P → Core → List Port → Type 0} {memory_of : P → Memory} {mid : HostSite P} {live : Bool} {now : List Entry}
+    {still : Bool} {before : List Entry} {s : Site} {after : Site × List Entry} (result : Result (Unit {0}) NoMemory) (new : HostSite P) (noted : List Entry)
+    (d : HasDone Runs memory_of mid live now still before s after)
+    → OnOk result (HasBecome Runs memory_of new before noted (host_behind s d.step d.w, d.w.entries ++ frames_noted Host s.host d.l d.w))
+    → OnOk result (HasBecome Runs memory_of new before noted after)
+is_done {P} {Runs} {memory_of} {before = before} result new noted d r =
+    let B : Site × List Entry → Type 0 = λ x. OnOk result (HasBecome Runs memory_of new before noted x) in subst B (sym d.is) r
+
+pub not_more : (entries : List Entry) (short : Bool) → IsNotedSo entries short entries []
+not_more entries short off = sym (append-nil entries)
+
+module _ (P : Type 0) (Runs : P → Core → List Port → Type 0) (memory_of : P → Memory)
+    (kept : (n : P) (core : Core) (ports others : List Port) → map as_kept ports ≡ map as_kept others → Runs n core ports → Runs n core others)
+    (k mid : HostSite P) (s : Site) (was n : P) (live : Bool) (before begun now : List Entry) (short still : Bool) (is : SiteIs Runs memory_of k s)
+    (host : IsHostOf s) (on : k.on ≡ Some was) (mid_on : mid.on ≡ Some n) (mid_off : mid.off ≡ k.off) (mid_host : mid.host ≡ k.host) where
+  abbrev here : IsOn P Runs memory_of k s was
+  here = is_on P Runs memory_of is on
+
+  abbrev start : Comes → Work
+  start comes = work_of here.running s.memory.plan (λ j. near_end_in (exchanged s.link) comes) (entries_for s.host (arrival Host (exchanged s.link) comes))
+
+  begins_so : (comes : Comes) → BeginsAt Runs memory_of was k.host (start comes)
+  begins_so comes = begins_at_end P Runs memory_of kept k s was here.running comes is host on here.runs
+
+  middle : {step : List Turn → Ending → Link} {bare l : Link} {w : Work} → HostDoes s step bare l w → HasGone Runs memory_of was n w live
+      → WiresStandFor mid.wires (exchanged bare) → IsNotedSo now still before w.entries
+      → IsToSend Runs memory_of mid live now still before s step l w
+  middle d gone wires noted =
+      midway P Runs memory_of mid was n live s d here.memory gone mid_on (mid_off ∙ here.off) (mid_host ∙ is.host) wires noted
+
+  -- something came to its end
+  pub heard : (comes : Comes) (i : LinkInput) → CountsComing s comes → input_of (exchanged s.link) comes ≡ Some i
+      → ((w : Work) → BeginsAt Runs memory_of was k.host w → HasGone Runs memory_of was n (steps (AtEnd k.host i) w) live)
+      → ((w : Work) → BeginsAt Runs memory_of was k.host w → IsNotedSo begun short before w.entries
+      → IsNotedSo now still before (steps (AtEnd k.host i) w).entries)
+      → IsNotedSo begun short before (entries_for s.host (arrival Host (exchanged s.link) comes))
+      → WiresStandFor mid.wires (exchanged (as_it_comes (exchanged s.link) comes))
+      → HasDone Runs memory_of mid live now still before s (host_hears s comes)
+  heard comes i counts q gone noted first wires =
+      let b : BeginsAt Runs memory_of was k.host (start comes) = begins_so comes in
+      let G : ℕ → Type 0 = λ h. HasGone Runs memory_of was n (steps (AtEnd h i) (start comes)) live in
+      let N : ℕ → Type 0 = λ h. IsNotedSo now still before (steps (AtEnd h i) (start comes)).entries in
+      record {
+        step = goes_by s comes;
+        l = wires_for (exchanged s.link) comes;
+        w = host_work s here.running comes (steps (AtEnd s.host i));
+        midway = middle (hears s here.running host here.runs comes i q (counts here.running i here.runs q)) (subst G is.host (gone (start comes) b)) wires
+            (subst N is.host (noted (start comes) b first));
+        is = hears_on s here.running comes i here.runs q;
+      }
+
+  -- it did something by itself
+  pub began : (deeds : ℕ → List Deed) → AreMute (deeds s.host)
+      → ((w : Work) → BeginsAt Runs memory_of was k.host w → HasGone Runs memory_of was n (begins_with k.host (deeds k.host) w) live)
+      → ((w : Work) → BeginsAt Runs memory_of was k.host w → IsNotedSo begun short before w.entries
+      → IsNotedSo now still before (begins_with k.host (deeds k.host) w).entries)
+      → IsNotedSo begun short before [] → WiresStandFor mid.wires s.link
+      → HasDone Runs memory_of mid live now still before s (host_stepped s NoInput (begins_with s.host (deeds s.host)))
+  began deeds mute gone noted first wires =
+      let b : BeginsAt Runs memory_of was k.host (start NoInput) = begins_so NoInput in
+      let G : ℕ → Type 0 = λ h. HasGone Runs memory_of was n (begins_with h (deeds h) (start NoInput)) live in
+      let N : ℕ → Type 0 = λ h. IsNotedSo now still before (begins_with h (deeds h) (start NoInput)).entries in
+      record {
+        step = goes_by s NoInput;
+        l = exchanged s.link;
+        w = host_work s here.running NoInput (begins_with s.host (deeds s.host));
+        midway = middle (begins s here.running host here.runs (deeds s.host) mute) (subst G is.host (gone (start NoInput) b)) wires
+            (subst N is.host (noted (start NoInput) b first));
+        is = stepped_on s here.running NoInput (begins_with s.host (deeds s.host)) here.runs;
+      }
+
+  -- a tick passed
+  pub ticked : MayTick s → ((w : Work) → BeginsOver Runs memory_of was w → HasGone Runs memory_of was n (steps TimePasses w) live)
+      → ((w : Work) → BeginsOver Runs memory_of was w → IsNotedSo begun short before w.entries → IsNotedSo now still before (steps TimePasses w).entries)
+      → IsNotedSo begun short before [] → WiresStandFor mid.wires s.link → HasDone Runs memory_of mid live now still before s (host_ticks s)
+  ticked may gone noted first wires =
+      let b : BeginsOver Runs memory_of was (start NoInput) = (begins_so NoInput).begins in
+      let young : NoneDue (Some here.running) = subst NoneDue here.runs may.young in
+      record {
+        step = tick_at_end s here.running host here.runs;
+        l = exchanged s.link;
+        w = host_tick s here.running;
+        midway = middle (ticks s here.running host here.runs young (may.counts here.running here.runs)) (gone (start NoInput) b) wires
+            (noted (start NoInput) b first);
+        is = ticks_on s here.running here.runs;
+      }
+
+-- ## None is taken
+
+module _ (P : Type 0) (Runs : P → Core → List Port → Type 0) (memory_of : P → Memory) where
+  pub none_taken : (k : HostSite P) (s : Site) (e : WireEnd) (lpdu : Option (List ℕ)) (at : End) {n : P} {now : List Entry} (before : List Entry)
+      → SiteIs Runs memory_of k s → k.on ≡ Some n → lpdu ≡ None → IsFirst (exchanged s.link).to_controller lpdu
+      → WireEndIs e (without_first (exchanged s.link)).controller (without_first (exchanged s.link)).to_controller
+      → now ≡ before ++ map (note.Took at) (option_to_list lpdu)
+      → HasBecome Runs memory_of
+      (record { host = k.host; wires = record { controller = k.wires.controller; host = e; resets = k.wires.resets }; on = Some n; off = k.off }) before now
+      (host_hears s NextFrame)
+  none_taken k s e lpdu at {n} {now} before is on none first wire q =
+      let l : Link = exchanged s.link in
+      let nothing : IsFirst l.to_controller None = subst (IsFirst l.to_controller) none first in
+      let input : input_of l NextFrame ≡ None = none_first l nothing in
+      let new : HostSite P =
+      record { host = k.host; wires = record { controller = k.wires.controller; host = e; resets = k.wires.resets }; on = Some n; off = k.off } in
+      let B : Site × List Entry → Type 0 = λ x. HasBecome Runs memory_of new before now x in
+      let Q : Option P → Type 0 = λ a. IsPlace Runs memory_of a k.off s.memory s.node (λ h. s.link.host) in
+      subst B (sym (hears_none s NextFrame input))
+      (record {
+        site = record {
+          host = is.host;
+          wires = let W : Link → Type 0 = λ m. WiresStandFor (record k.wires { host = e }) (exchanged m) in
+              subst W (same l nothing) (taken_stands l is.wires wire);
+          place = subst Q on is.place;
+        };
+        noted = q ∙ ap (λ o. before ++ map (note.Took at) (option_to_list o)) none;
+      })
+    where
+      same : (l : Link) → IsFirst l.to_controller None → without_first l ≡ l
+      same l = go l.to_controller
+        where
+          go : (xs : List OnWire) → IsFirst xs None → without_first (record l { to_controller = xs }) ≡ record l { to_controller = xs }
+          go [] q = refl
+          go (x ∷ xs) q = absurd (cc q.0)

@@ -1,0 +1,65 @@
+-- A tick at a host that doesn't run: nothing is sent, and nothing is noted.
+use Rattle.std.proofs.Common.{◌≡◌, false, List, [], refl, ap, sym, subst, append-nil}
+use Rattle.std.specs.Prelude.{Option, Some, None}
+use Rattle.swp_base.specs.InMemory.{Memory}
+use Rattle.swp_base.specs.declared.control_frames.Control.{Control}
+use Rattle.swp_act.specs.Activation.{new_uicc}
+use Rattle.trace_model.specs.declared.entry.Entry.{Entry}
+use Rattle.link_machine.specs.Machine.{LinkEnd, after_input, frames_out, new_link_end, sent_all}
+use Rattle.link_machine.specs.Machine.LinkInput.{Tick}
+use Rattle.link_machine.specs.Machine.Role.{Uicc}
+use Rattle.link_entries.specs.messages.Links.{Link, exchanged, becomes, put_all, ticks_at_controller}
+use Rattle.link_entries.specs.messages.Links.Ending.{GoesOut}
+use Rattle.node_machine.specs.Parts.{Core, Running, Port}
+use Rattle.node_machine.specs.world.World.{Site, host_ticks}
+use Rattle.node_laws.specs.telling.Telling.{IfOff}
+use Rattle.node_world.specs.declared.places.HostSite.{HostSite}
+use Rattle.node_world.specs.LinksKept.{SameWires}
+use Rattle.node_world.specs.Places.{IsPlace, SiteIs}
+use Rattle.node_world.specs.HostSteps.{MayTick, HasBecome}
+use Rattle.node_world.proofs.GoingOn.{same_stand, same_exchanged, same_twice}
+use Rattle.node_world.proofs.TicksGo.{ticks_on}
+
+pub becomes_same : (m : Link) (e : LinkEnd) → frames_out e ≡ [] → SameWires m (becomes m e)
+becomes_same m e q =
+    let put : List Control → Link = λ cs. let k : Link = put_all m cs in record k { controller = record k.controller { side = sent_all e } } in
+    let P : List Control → Type 0 = λ cs. SameWires m (put cs) in
+    subst P (sym q) (record { to_controller = refl; to_host = refl; resets = refl; controller = (refl, refl); host = (refl, refl) })
+
+-- an end that wasn't activated sends nothing at a tick
+quiet : (e : LinkEnd) → e ≡ new_link_end (Uicc new_uicc) → frames_out (after_input e Tick) ≡ []
+quiet e q = ap (λ x. frames_out (after_input x Tick)) q
+
+pub still_wires : (l : Link) → l.controller.side ≡ new_link_end (Uicc new_uicc) → SameWires l (ticks_at_controller l [] GoesOut)
+still_wires l q =
+    let g = ticks_on l false [] (λ late. absurd (cc late)) in
+    let W : Link → Type 0 = λ m. SameWires l m in
+    subst W (sym g.out) (same_twice g.wires (becomes_same g.link (after_input l.controller.side Tick) (quiet l.controller.side q)))
+
+module _ (P : Type 0) (Runs : P → Core → List Port → Type 0) (memory_of : P → Memory) where
+  pub tick_off : (k : HostSite P) (s : Site) (entries : List Entry) → SiteIs Runs memory_of k s → s.node ≡ None → MayTick s
+      → HasBecome Runs memory_of k entries entries (host_ticks s)
+  tick_off k s entries is off may =
+      let New : Option Running → Type 0 = λ o. IfOff o (new_link_end (Uicc new_uicc)) s.link.host.side in
+      let side : s.link.host.side ≡ new_link_end (Uicc new_uicc) = subst New off may.off in
+      let after : Link = exchanged (ticks_at_controller (exchanged s.link) [] GoesOut) in
+      let none : host_ticks s ≡ (record s { link = after }, []) = rw off refl in
+      let B : Site × List Entry → Type 0 = λ x. HasBecome Runs memory_of k entries entries x in
+      let Here : Option Running → Type 0 = λ o. IsPlace Runs memory_of k.on k.off s.memory o (λ h. s.link.host) in
+      let There : Option Running → Type 0 = λ o. IsPlace Runs memory_of k.on k.off s.memory o (λ h. after.host) in
+      subst B (sym none)
+      (record {
+        site = record {
+          host = is.host;
+          wires = same_stand (same_exchanged (still_wires (exchanged s.link) side)) is.wires;
+          place = subst There (sym off) (same_place k.on k.off (subst Here off is.place));
+        };
+        noted = sym (append-nil entries);
+      })
+    where
+      same_place : (on : Option P) (kept : Option Memory) → IsPlace Runs memory_of on kept s.memory None (λ h. s.link.host)
+          → IsPlace Runs memory_of on kept s.memory None (λ h. (exchanged (ticks_at_controller (exchanged s.link) [] GoesOut)).host)
+      same_place None (Some m) p = p
+      same_place None None p = p
+      same_place (Some n) (Some m) p = p
+      same_place (Some n) None p = p

@@ -1,0 +1,175 @@
+-- What happens at a host leaves the controller as it is, and its ends of all links.
+use Rattle.std.proofs.Common.{◌≡◌, ℕ, ◌==◌, ◌≤◌, ◌<◌, ◌+◌, ◌^◌, Bool, true, false, List, [], ◌∷◌, ◌++◌, length, map, refl, ap, sym, subst, ◌∙◌, arith}
+use Rattle.std.specs.Prelude.{Option, Some, None}
+use Rattle.std.specs.List.{AllByRecursion}
+use Rattle.swp_base.specs.InMemory.{Memory}
+use Rattle.trace_model.specs.declared.entry.Entry.{Entry}
+use Rattle.trace_model.specs.declared.entry.NoCause.{NoCause}
+use Rattle.trace_model.specs.declared.line.End.{End}
+use Rattle.hcp_packet.specs.Packets.{AreSendable}
+use Rattle.link_machine.specs.Machine.{LinkInput}
+use Rattle.link_machine.specs.Machine.Role.{Bare}
+use Rattle.link_entries.specs.messages.Links.{NumberedEnd, Link, Comes, Loss, exchanged, happens, new_link}
+use Rattle.link_entries.specs.messages.Links.EndEvent.{Lose}
+use Rattle.link_entries.specs.messages.Links.Comes.{NoInput}
+use Rattle.link_entries.specs.messages.Links.Ending.{CutOff}
+use Rattle.history.specs.Steps.{at}
+use Rattle.node_machine.specs.Parts.{Core, Desk, Running, Port, Work}
+use Rattle.node_machine.specs.Node.{steps}
+use Rattle.node_machine.specs.Node.NodeInput.{AtEnd}
+use Rattle.node_machine.specs.world.World.{NodeWorld, Site, site_at, with_site, link_to, port_for, turns_at, ending_of, host_work, input_of, host_cut}
+use Rattle.node_laws.specs.telling.Telling.{IsOrderly}
+use Rattle.node_laws.proofs.telling.Nodes.{site_host}
+use Rattle.node_world.specs.declared.controller.ControllerPlace.{ControllerPlace}
+use Rattle.node_world.specs.declared.places.HostSite.{HostSite}
+use Rattle.node_world.specs.Bounds.{FewOnEach, FewBehind}
+use Rattle.node_world.specs.Controllers.{SitesAre, StandsAt, WorldIs, WorldBecomes, HaveRoom, FewAreCounted, FewAreCountedAt}
+use Rattle.node_world.specs.HostSteps.{host_stepped, host_hears, site_loses}
+use Rattle.node_world.specs.Places.{IsPlace}
+use Rattle.node_world.specs.Whole.{SitesBecome, if_accepted}
+use Rattle.node_world.proofs.AtHosts.{GivesSendable, from_outside, room_there, site_changes}
+use Rattle.node_world.proofs.CountsStay.{acks_of_ports, counts_few_at_end, few_to}
+use Rattle.node_world.proofs.FewOnLinks.{far_stays}
+use Rattle.node_world.proofs.HostsInWorlds.{ChangesSite}
+
+-- a host became another one, with the same number and the same end of the controller
+pub record LeavesNear (s t : Site) : Type 0 where
+  pub host : t.host ≡ s.host
+  pub near : t.link.controller ≡ s.link.controller
+
+pub stepped_leaves : (s : Site) (comes : Comes) (f : Work → Work) → LeavesNear s (host_stepped s comes f).0
+stepped_leaves s comes f = go s.node refl
+  where
+    go : (o : Option Running) → s.node ≡ o → LeavesNear s (host_stepped s comes f).0
+    go None q = rw q (record { host = refl; near = refl })
+    go (Some r) q =
+        let k : Work = host_work s r comes f in
+        rw q (record { host = refl; near = far_stays (exchanged s.link) comes (turns_at k s.host) (ending_of k) })
+
+pub hears_leaves : (s : Site) (comes : Comes) → LeavesNear s (host_hears s comes).0
+hears_leaves s comes = go (input_of (exchanged s.link) comes) refl
+  where
+    go : (o : Option LinkInput) → input_of (exchanged s.link) comes ≡ o → LeavesNear s (host_hears s comes).0
+    go None q = rw q (record { host = refl; near = refl })
+    go (Some i) q = rw q (stepped_leaves s comes (steps (AtEnd s.host i)))
+
+-- ## In a world
+
+record Split (sites : List Site) (s : Site) : Type 0 where
+  front : List Site
+  back : List Site
+  is : sites ≡ front ++ s ∷ back
+
+split_at : (sites : List Site) (h : ℕ) (s : Site) → site_at sites h ≡ Some s → Split sites s
+split_at [] h s q = absurd (cc q)
+split_at (x ∷ xs) h s q = go (x.host == h) refl (split_at xs h s)
+  where
+    go : (b : Bool) → (x.host == h) ≡ b → (site_at xs h ≡ Some s → Split xs s) → Split (x ∷ xs) s
+    go true e later =
+        let z : Some x ≡ Some s = rw e at q in
+        let one : x ≡ s = cc in
+        record { front = []; back = xs; is = ap (λ y. y ∷ xs) one }
+    go false e later = let r = later (rw e at q) in record { front = x ∷ r.front; back = r.back; is = ap (λ ys. x ∷ ys) r.is }
+
+near_in : (front : List Site) (s t : Site) (back : List Site) (h : ℕ) → LeavesNear s t
+    → (link_to (front ++ t ∷ back) h).controller ≡ (link_to (front ++ s ∷ back) h).controller
+near_in [] s t back h a = go (s.host == h) refl
+  where
+    go : (b : Bool) → (s.host == h) ≡ b → (link_to (t ∷ back) h).controller ≡ (link_to (s ∷ back) h).controller
+    go true e = let z : (t.host == h) ≡ true = ap (λ n. n == h) a.host ∙ e in rw (e, z) a.near
+    go false e = let z : (t.host == h) ≡ false = ap (λ n. n == h) a.host ∙ e in rw (e, z) refl
+near_in (x ∷ front) s t back h a = go (x.host == h) refl (near_in front s t back h a)
+  where
+    go : (b : Bool) → (x.host == h) ≡ b → (link_to (front ++ t ∷ back) h).controller ≡ (link_to (front ++ s ∷ back) h).controller
+        → (link_to (x ∷ (front ++ t ∷ back)) h).controller ≡ (link_to (x ∷ (front ++ s ∷ back)) h).controller
+    go true e later = rw e refl
+    go false e later = rw e later
+
+abbrev near_of : List Site → ℕ → NumberedEnd
+near_of sites h = (link_to sites h).controller
+
+module _ (w : NodeWorld) (h : ℕ) (s : Site) (found : site_at w.sites h ≡ Some s) (o : IsOrderly w) (after : Site × List Entry)
+    (now : NodeWorld × List Entry) (c : ChangesSite w h s after now) (leaves : LeavesNear s after.0) where
+  sites_are : (p : Split w.sites s) → now.0.sites ≡ p.front ++ after.0 ∷ p.back
+  sites_are p =
+      let a : StandsAt (length p.front) h w.sites =
+      record { front = p.front; site = s; back = p.back; is = p.is; place = refl; host = site_host w.sites h s found } in
+      ap (λ (v : NodeWorld). v.sites) c.world
+      ∙ (site_changes w (length p.front) h a c.change o ∙ ap (λ t. p.front ++ t ∷ p.back) c.site)
+
+  near_left : (p : Split w.sites s) (k : ℕ) → near_of now.0.sites k ≡ near_of w.sites k
+  near_left p k =
+      ap (λ sites. near_of sites k) (sites_are p)
+      ∙ (near_in p.front s after.0 p.back k leaves ∙ ap (λ sites. near_of sites k) (sym p.is))
+
+  all_left : near_of now.0.sites ≡ near_of w.sites
+  all_left = λ i k. near_left (split_at w.sites h s found) k i
+
+  module _ (C P : Type 0) (CRuns : C → Core → List Port → Type 0) (c_memory : C → Memory) (PRuns : P → Core → List Port → Type 0)
+      (p_memory : P → Memory) where
+    pub host_becomes : (k : ControllerPlace C) (ks new : List (HostSite P)) (before later : List Entry)
+        → WorldIs CRuns c_memory PRuns p_memory k ks w → SitesBecome PRuns p_memory new before later now
+        → WorldBecomes CRuns c_memory PRuns p_memory k new before later now
+    host_becomes k ks new before later world b =
+        let Q : Memory → Option Running → (ℕ → NumberedEnd) → Type 0 = λ m node near. IsPlace CRuns c_memory k.on k.off m node near in
+        let memory : now.0.memory ≡ w.memory = ap (λ (v : NodeWorld). v.memory) c.world in
+        let node : now.0.controller ≡ w.controller = ap (λ (v : NodeWorld). v.controller) c.world in
+        let one = subst (λ near. Q w.memory w.controller near) (sym all_left) world.controller in
+        let two = subst (λ n. Q w.memory n (near_of now.0.sites)) (sym node) one in
+        record {
+          world = record { controller = subst (λ m. Q m now.0.controller (near_of now.0.sites)) (sym memory) two; sites = b.sites };
+          noted = b.noted;
+        }
+
+    pub host_becomes_unless : (k : ControllerPlace C) (ks new : List (HostSite P)) (before later : List Entry) (cause : Option NoCause)
+        → WorldIs CRuns c_memory PRuns p_memory k ks w → SitesBecome PRuns p_memory new before later (if_accepted cause w now)
+        → WorldBecomes CRuns c_memory PRuns p_memory k new before later (if_accepted cause w now)
+    host_becomes_unless k ks new before later None world b = host_becomes k ks new before later world b
+    host_becomes_unless k ks new before later (Some cause) world b =
+        record { world = record { controller = world.controller; sites = b.sites }; noted = b.noted }
+
+pub loses_leaves : (e : End) (why : Loss) (s : Site) → e.at_host ≡ true → LeavesNear s (site_loses e why s)
+loses_leaves e why s q = record { host = refl; near = rw q refl }
+
+-- ## What the controller asks for
+
+have_room : (P : Type 0) (Runs : P → Core → List Port → Type 0) (memory_of : P → Memory) (ks : List (HostSite P)) (sites : List Site)
+    → SitesAre Runs memory_of ks sites → FewOnEach 300000000 sites → HaveRoom ks
+have_room P Runs memory_of [] [] a f = tt
+have_room P Runs memory_of (k ∷ ks) (s ∷ sites) a f = (room_there P Runs memory_of k s a.0 f.0, have_room P Runs memory_of ks sites a.1 f.1)
+have_room P Runs memory_of [] (s ∷ sites) a f = absurd a
+have_room P Runs memory_of (k ∷ ks) [] a f = absurd a
+
+pub room_for_all : (P : Type 0) (Runs : P → Core → List Port → Type 0) (memory_of : P → Memory) (ks : List (HostSite P)) (w : NodeWorld)
+    → SitesAre Runs memory_of ks w.sites → FewBehind 300000000 w → HaveRoom ks
+room_for_all P Runs memory_of ks w a f = have_room P Runs memory_of ks w.sites a f
+
+module _ (C : Type 0) (Runs : C → Core → List Port → Type 0) (memory_of : C → Memory) (given : GivesSendable C Runs memory_of) where
+  on_sendable : (on : Option C) (off : Option Memory) (m : Memory) (node : Option Running) (near : ℕ → NumberedEnd) (r : Running)
+      → IsPlace Runs memory_of on off m node near → node ≡ Some r
+      → AllByRecursion (λ (p : Port). AreSendable p.side.sent) (map (λ (d : Desk). port_for (near d.host) d) r.desks)
+  on_sendable (Some n) None m (Some q) near r place e =
+      let one : q ≡ r = cc in
+      let S : Running → Type 0 = λ x. AllByRecursion (λ (p : Port). AreSendable p.side.sent) (map (λ (d : Desk). port_for (near d.host) d) x.desks) in
+      subst S one (given n q.core (map (λ (d : Desk). port_for (near d.host) d) q.desks) place.1)
+  on_sendable (Some n) None m None near r place e = absurd (cc e)
+  on_sendable (Some n) (Some k) m o near r place e = absurd place
+  on_sendable None (Some k) m None near r place e = absurd (cc e)
+  on_sendable None (Some k) m (Some q) near r place e = absurd place
+  on_sendable None None m o near r place e = absurd place
+
+  pub counted_at : (k : ControllerPlace C) (w : NodeWorld) (h : ℕ) (comes : Comes)
+      → IsPlace Runs memory_of k.on k.off w.memory w.controller (near_of w.sites) → FewBehind 300000000 w → FewAreCountedAt h comes w
+  counted_at k w h comes place few i q = go w.controller refl
+    where
+      go : (o : Option Running) → w.controller ≡ o → FewAreCounted (AtEnd h i) w
+      go None e = rw e tt
+      go (Some r) e =
+          rw e
+          (counts_few_at_end 300000000 h i (map (λ (d : Desk). port_for (near_of w.sites d.host) d) r.desks) (omega arith)
+          (from_outside (link_to w.sites h) comes i q)
+          (acks_of_ports 300000000 (near_of w.sites) (λ j. (few_to 300000000 j w.sites few).controller) r.desks)
+          (on_sendable k.on k.off w.memory w.controller (near_of w.sites) r place e))
+
+pub cut_leaves : (s : Site) → LeavesNear s (host_cut s)
+cut_leaves s = record { host = refl; near = far_stays (exchanged s.link) NoInput [] CutOff }

@@ -1,0 +1,126 @@
+-- A boot of a controller or a host over a memory that keeps its bytes, none of whose reads is to fail.
+use Rattle.std.proofs.Common.{◌≡◌, ◌⊎◌, inl, inr, ℕ, zero, suc, Bool, true, false, not, cond, List, [], ◌++◌, length, refl, sym, ap, ◌∙◌, subst}
+use Rattle.std.proofs.Common.{arith, append-nil}
+use Rattle.std.specs.Prelude.{Option, Some, None, ◌==◌}
+use Rattle.std.specs.Option.{option_map_or}
+use Rattle.std.proofs.lemmas.Bool.{true≢false, not-false, not-true, eq-eqb}
+use Rattle.swp_base.specs.InMemory.{Memory, ReadsAsPlanned, WritesAsPlanned, is_next_read, memory_read}
+use Rattle.journal_laws.specs.declared.banks.Side.{Side}
+use Rattle.journal_laws.specs.declared.state.State.{State}
+use Rattle.journal_laws.specs.Banks.{other, is_opened_gate, head, current}
+use Rattle.journal_laws.specs.Journal.{unformatted, journal_at, journal, state_by, state_of}
+use Rattle.journal_laws.specs.Operations.{started_state, start_writes, compact_writes, compacted}
+use Rattle.journal_laws.specs.Planned.{fails_within, after_planned}
+use Rattle.journal_laws.specs.Writes.{Write, AreRead, AreMade}
+use Rattle.journal_laws.proofs.Planned.{planned_answer, planned_memory}
+use Rattle.nv_journal.specs.declared.JournalFault.{JournalFault}
+use Rattle.nv_journal.specs.declared.JournalFault.TheVariants.{NvFault, GenerationsSpent}
+use Rattle.nv_journal.specs.Refusals.{IsImageFault}
+use Rattle.hci_tables.specs.Tables.{close}
+use Rattle.hci_store.specs.Committing.{snapshot_bodies}
+use Rattle.hci_store.specs.Image.{tables_of}
+use Rattle.hci_store.specs.Starting.{ready_writes, ready_state, HasWritten}
+use Rattle.node_machine.specs.Node.{found, boot_writes}
+use Rattle.node_core.specs.Booting.{found_in_memory, IsStartRefused}
+use Rattle.node_world.specs.Memories.{IsSoundMemory}
+
+-- ## Reads
+
+one_read : (m n : Memory) (ok : Bool) → m.failing_read ≡ None → ReadsAsPlanned m ok n → (ok ≡ true) × (n ≡ m)
+one_read m n ok none r = (
+  r.answer ∙ ap (λ o. not (is_next_read o)) none,
+  r.memory ∙ still,
+)
+  where
+    still : memory_read m ≡ m
+    still = rw none refl
+
+-- reads go through, and change nothing
+pub all_read : (most : ℕ) (m n : Memory) (ok : Bool) → m.failing_read ≡ None → AreRead ReadsAsPlanned most m ok n → (ok ≡ true) × (n ≡ m)
+unfolding AreRead
+all_read zero m n ok none r = r
+all_read (suc most) m n ok none (inl done) = done
+all_read (suc most) m n ok none (inr (inl failed)) = absurd (true≢false (sym (one_read m n false none failed.1).0))
+all_read (suc most) m n ok none (inr (inr rest)) =
+    let first = (one_read m rest.0 true none rest.1).1 in
+    let N : Memory → Type 0 = λ x. x.failing_read ≡ None in
+    let later = all_read most rest.0 n ok (subst N (sym first) none) rest.2 in
+    (later.0, later.1 ∙ first)
+
+-- ## What stands in the memory
+
+-- the state of a memory, by the bank in use
+abbrev state_at : List ℕ → Option Side → State
+state_at content o =
+    state_by o (option_map_or (journal_at content) o unformatted) (option_map_or (λ side. is_opened_gate (head content (other side)).gate) o false)
+
+-- one of version 02 isn't of version 01
+not_first : (content : List ℕ) → (started_state (state_of content)).version ≡ 2 → (journal content).head.version ≡ 1 → ⊥
+not_first content two one = by (current content) two one
+  where
+    by : (o : Option Side) → (started_state (state_at content o)).version ≡ 2 → (state_at content o).version ≡ 1 → ⊥
+    by None two one = omega (arith, one)
+    by (Some side) two one = omega (arith, two, one)
+
+module _ (content : List ℕ) (two : (started_state (state_of content)).version ≡ 2) where
+  abbrev started : State
+  started = started_state (state_of content)
+
+  is_two : (started.version == 2) ≡ true
+  is_two = eq-eqb started.version 2 two
+
+  pub ready_as_boot : ready_writes content ≡ boot_writes content
+  ready_as_boot =
+      ap (λ b. start_writes (state_of content) ++ cond b [] (compact_writes started (snapshot_bodies (close (tables_of content))))) is_two
+      ∙ append-nil (start_writes (state_of content))
+
+  ready_as_started : ready_state content ≡ started_state (state_of content)
+  ready_as_started = ap (λ b. cond b started (compacted started (snapshot_bodies (close (tables_of content))))) is_two
+
+  pub found_as_booted : (node : ℕ) (hosts : List ℕ) → (found_in_memory node hosts content).core ≡ (found node hosts content).core
+  found_as_booted node hosts = ap (λ (s : State). record (found node hosts content).core { journal = s }) ready_as_started
+
+-- ## How a boot ends
+
+module _ (m : Memory) (may : IsSoundMemory m) where
+  written_as : (ok : Bool) (n : Memory) → HasWritten ReadsAsPlanned WritesAsPlanned (λ (x : Memory). x.content) (ready_writes m.content) m ok n
+      → AreMade WritesAsPlanned (boot_writes m.content) m ok n
+  written_as ok n h =
+      let A : Memory → List Write → Type 0 = λ x ws. AreMade WritesAsPlanned ws x ok n in
+      let B : Memory → Type 0 = λ x. A x (ready_writes m.content) in
+      subst (A m) (ready_as_boot m.content may.version) (subst B (all_read 37 m h.read true may.reads h.behind).1 h.made)
+
+  -- all writes went through, or one of them failed
+  pub boots_so : (n : Memory) → HasWritten ReadsAsPlanned WritesAsPlanned (λ (x : Memory). x.content) (ready_writes m.content) m true n
+      → (fails_within (length (boot_writes m.content)) m.plan ≡ false) × (n ≡ after_planned (boot_writes m.content) m)
+  boots_so n h =
+      let made = written_as true n h in (
+        not-true (fails_within (length (boot_writes m.content)) m.plan) (sym (planned_answer (boot_writes m.content) m true n made)),
+        planned_memory (boot_writes m.content) m true n made,
+      )
+
+  cut_so : (n : Memory) → HasWritten ReadsAsPlanned WritesAsPlanned (λ (x : Memory). x.content) (ready_writes m.content) m false n
+      → (fails_within (length (boot_writes m.content)) m.plan ≡ true) × (n ≡ after_planned (boot_writes m.content) m)
+  cut_so n h =
+      let made = written_as false n h in (
+        not-false (fails_within (length (boot_writes m.content)) m.plan) (sym (planned_answer (boot_writes m.content) m false n made)),
+        planned_memory (boot_writes m.content) m false n made,
+      )
+
+  -- a start that is refused has lost its power in a write
+  pub refused_so : (faults : Memory → ℕ) (n : Memory) (f : JournalFault)
+      → IsStartRefused ReadsAsPlanned WritesAsPlanned faults true (λ (x : Memory). x.content) m n f
+      → (fails_within (length (boot_writes m.content)) m.plan ≡ true) × (n ≡ after_planned (boot_writes m.content) m)
+  refused_so faults n f r = by r.known
+    where
+      torn : f ≡ NvFault → (AreRead ReadsAsPlanned 37 m false n × (n.content ≡ m.content))
+          ⊎ HasWritten ReadsAsPlanned WritesAsPlanned (λ (x : Memory). x.content) (ready_writes m.content) m false n
+          → (fails_within (length (boot_writes m.content)) m.plan ≡ true) × (n ≡ after_planned (boot_writes m.content) m)
+      torn is (inl unread) = absurd (true≢false (sym (all_read 37 m n false may.reads unread.0).0))
+      torn is (inr written) = cut_so n written
+
+      by : (f ≡ NvFault) ⊎ (f ≡ GenerationsSpent) ⊎ IsImageFault f
+          → (fails_within (length (boot_writes m.content)) m.plan ≡ true) × (n ≡ after_planned (boot_writes m.content) m)
+      by (inl is) = torn is (r.torn refl is)
+      by (inr (inl spent)) = absurd (not_first m.content may.version (r.spent refl spent).version)
+      by (inr (inr image)) = absurd (let z : None ≡ Some f = sym may.image ∙ r.image refl image in cc)

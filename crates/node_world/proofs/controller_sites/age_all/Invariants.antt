@@ -1,0 +1,17 @@
+use Rattle.std.proofs.Common.{◌≡◌, List}
+use Rattle.node_machine.specs.world.World.{Site}
+use Rattle.node_world.specs.Controllers.{SitesAre}
+use Rattle.node_world.specs.HostSteps.{site_ages}
+use Rattle.node_world.proofs.SitesKept.{Walked}
+use Rattle.node_world.proofs.controller_sites.age_all.Given as goal
+
+-- the frames on the wires of so many hosts have grown older
+abbrev pub invariant-loop-i : goal.invariant-loop-i
+invariant-loop-i g l =
+    let Runs = g.P.WorldNode.runs in
+    let memory = g.P.WorldNode.memory in
+    record {
+      goes : (hosts : List Site) → SitesAre Runs memory l.initial.sites hosts
+          → Walked _ Runs memory (λ s. (site_ages s).0) (λ s. (site_ages s).1) l.sites hosts l.initial.noted.entries.items l.noted.entries.items l.i;
+      short : l.noted.short ≡ l.initial.noted.short;
+    }

@@ -1,0 +1,10 @@
+use Rattle.std.proofs.Common.{List}
+use Rattle.node_machine.specs.world.World.{Site}
+use Rattle.node_world.specs.Controllers.{SitesAre}
+use Rattle.node_world.proofs.PlacesFound.{PassedBy}
+use Rattle.node_world.proofs.controller_sites.place_of.Given as goal
+
+-- so many hosts are others
+abbrev pub invariant-loop-i : goal.invariant-loop-i
+invariant-loop-i g l =
+    (hosts : List Site) → SitesAre g.P.WorldNode.runs g.P.WorldNode.memory l.sites hosts → PassedBy l.i l.host hosts

@@ -1,0 +1,13 @@
+use Rattle.std.proofs.Common.{◌≡◌, List, length}
+use Rattle.node_machine.specs.world.World.{Site}
+use Rattle.node_world.specs.Controllers.{SitesAre}
+use Rattle.node_world.proofs.PlacesFound.{NumbersFound}
+use Rattle.node_world.proofs.controller_sites.sessions_of.Given as goal
+
+-- the numbers of so many are put there
+abbrev pub invariant-loop-i : goal.invariant-loop-i
+invariant-loop-i g l =
+    record {
+      eight : length l.sessions ≡ 8;
+      goes : (hosts : List Site) → SitesAre g.P.WorldNode.runs g.P.WorldNode.memory l.sites hosts → NumbersFound l.i l.sessions hosts;
+    }

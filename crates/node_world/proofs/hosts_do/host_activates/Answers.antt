@@ -1,0 +1,55 @@
+use Rattle.std.proofs.Common.{ℕ, ◌==◌, List, [], ◌∷◌, sym, subst, ◌≡◌, ap, ◌∙◌}
+use Rattle.std.specs.Prelude.{Option, Some, None}
+use Rattle.std.proofs.lemmas.Result.{on_ok_weaker, IfOk-weaker}
+use Rattle.trace_model.specs.declared.entry.NoCause.{NoCause}
+use Rattle.trace_model.specs.declared.line.End.{End}
+use Rattle.trace_model.specs.declared.line.Line.TheVariants as line
+use Rattle.link_entries.specs.messages.Links.Comes.{AsksReset, Starts, NoInput}
+use Rattle.node_machine.specs.Node.{begins_with}
+use Rattle.node_machine.specs.world.World.{NodeWorld, Site, comes_at, end_h, site_at, sending, beginning, host_does, world_step}
+use Rattle.node_machine.specs.world.World.Happening.{Resets, Gives, Inits}
+use Rattle.node_machine.specs.world.Lines.{refusal_in}
+use Rattle.node_world.specs.Controllers.{StandsAt}
+use Rattle.node_world.specs.HostSteps.{host_hears, host_stepped, reset_refused_at, sending_refused, BecomesUnless}
+use Rattle.node_world.specs.Whole.{SitesBecome, if_accepted}
+use Rattle.node_world.proofs.AtHosts.{at_place, counts_coming, room_there, becomes, site_stands, end_is, nowhere}
+use Rattle.node_world.proofs.HostsInWorlds.{hears_in_world}
+use Rattle.node_world.proofs.HostsFound.{reset_there, send_there, steps_there, becomes_unless}
+use Rattle.node_world.proofs.hosts_do.host_activates.Goals as goal
+
+pub activate_host-requires-clause-state : goal.activate_host-requires-clause-state
+activate_host-requires-clause-state g c =
+    let w = c.requires.state.0 in
+    let a : StandsAt c.in-Some.place c.args.host w.sites = c.in-Some.ensures.place w.sites c.requires.state.1 in
+    let t = at_place g.row.P.Denot g.P.WorldNode.runs g.P.WorldNode.memory c.args.sites.now w c.in-Some.place c.args.host a c.index-sites-place.result
+    c.requires.state.1 c.index-sites-place.is c.requires.state.2 in (
+      a.site,
+      t.is,
+      t.host,
+      counts_coming g.row.P.Denot g.P.WorldNode.runs g.P.WorldNode.memory _ a.site (Starts c.args.sync) g.met.P.WorldNode.given t.is t.host t.few,
+    )
+
+pub activate_host-requires-clause-room : goal.activate_host-requires-clause-room
+activate_host-requires-clause-room g c =
+    let w = c.requires.state.0 in
+    let a : StandsAt c.in-Some.place c.args.host w.sites = c.in-Some.ensures.place w.sites c.requires.state.1 in
+    let t = at_place g.row.P.Denot g.P.WorldNode.runs g.P.WorldNode.memory c.args.sites.now w c.in-Some.place c.args.host a c.index-sites-place.result
+    c.requires.state.1 c.index-sites-place.is c.requires.state.2 in
+    room_there g.row.P.Denot g.P.WorldNode.runs g.P.WorldNode.memory _ a.site t.is t.few
+
+pub returns-in-Some-clause-stands : goal.returns-in-Some-clause-stands
+returns-in-Some-clause-stands g c w all ready there =
+    let a : StandsAt c.in-Some.place c.args.host w.sites = c.in-Some.ensures.place w.sites all in
+    let t = at_place g.row.P.Denot g.P.WorldNode.runs g.P.WorldNode.memory c.args.sites.now w c.in-Some.place c.args.host a c.index-sites-place.result
+    all c.index-sites-place.is ready in
+    let counts = counts_coming g.row.P.Denot g.P.WorldNode.runs g.P.WorldNode.memory _ a.site (Starts c.args.sync) g.met.P.WorldNode.given t.is
+    t.host t.few in
+    let found : site_at w.sites c.args.host ≡ Some a.site = site_stands w c.in-Some.place c.args.host a ready.goes_on.orderly in
+    on_ok_weaker c.activate_host.result
+    (becomes g.row.P.Denot g.P.WorldNode.runs g.P.WorldNode.memory c.args.sites.now w c.in-Some.place c.args.host a c.activate_host.new.site
+    c.args.noted.now.entries.items c.activate_host.new.noted.entries.items (host_hears a.site (Starts c.args.sync)) (comes_at w (end_h c.args.host)
+    (Starts c.args.sync)) ready.goes_on.orderly all (hears_in_world w c.args.host a.site found (Starts c.args.sync)))
+    (c.activate_host.ensures.stands a.site t.is t.host counts)
+
+pub returns-in-None-clause-stands : goal.returns-in-None-clause-stands
+returns-in-None-clause-stands g c w all ready there = nowhere w.sites c.args.host there (c.in-None.ensures.place w.sites all)

@@ -1,0 +1,22 @@
+use Rattle.std.proofs.Common.{rules, ◌≡◌, ◌==◌, false, length, get_or, sym, subst, ap, ◌∙◌}
+use Rattle.std.specs.Prelude.{is_some, Some}
+use Rattle.std.proofs.lemmas.Bool.{ne_eqb}
+use Rattle.link_entries.specs.messages.Links.{Link}
+use Rattle.history.specs.Follows.{frames_to}
+use Rattle.link_wires.specs.Damages.{Finds}
+use Rattle.node_laws.proofs.telling.Nodes.{link_is}
+use Rattle.node_world.specs.declared.places.HostSite.{HostSite}
+use Rattle.node_world.specs.Controllers.{StandsAt}
+use Rattle.node_world.specs.Places.{SiteIs}
+use Rattle.node_world.proofs.AtHosts.{reads, runs_alike, site_stands}
+use Rattle.node_world.proofs.HostsPower.{node_there}
+use Rattle.node_world.proofs.looking.on_the_way.Goals as goal
+
+pub returns-in-Some : goal.returns-in-Some
+returns-in-Some g c w all may =
+    let a : StandsAt c.in-Some.place c.args.to.link w.sites = c.in-Some.ensures.place w.sites all in
+    let S : HostSite g.row.P.Denot → Type 0 = λ k. SiteIs g.P.WorldNode.runs g.P.WorldNode.memory k a.site in
+    let is = subst S c.index-sites-place.is (reads g.row.P.Denot g.P.WorldNode.runs g.P.WorldNode.memory c.args.sites.now w c.in-Some.place
+    c.args.to.link a c.index-sites-place.result all c.index-sites-place.is) in
+    let found = site_stands w c.in-Some.place c.args.to.link a may.orderly in
+    c.standing.ensures a.site.link is.wires ∙ ap (λ (l : Link). length (frames_to l c.args.to)) (sym (link_is w.sites c.args.to.link a.site found))

@@ -1,0 +1,24 @@
+use Rattle.std.proofs.Common.{rules, ◌≡◌, ◌==◌, false, length, get_or, sym, subst, ap, ◌∙◌}
+use Rattle.std.specs.Prelude.{is_some, Some}
+use Rattle.std.proofs.lemmas.Bool.{ne_eqb}
+use Rattle.link_entries.specs.messages.Links.{Link}
+use Rattle.history.specs.Follows.{frames_to}
+use Rattle.link_wires.specs.Damages.{Finds}
+use Rattle.node_laws.proofs.telling.Nodes.{link_is}
+use Rattle.node_world.specs.declared.places.HostSite.{HostSite}
+use Rattle.node_world.specs.Controllers.{StandsAt}
+use Rattle.node_world.specs.Places.{SiteIs}
+use Rattle.node_world.proofs.AtHosts.{reads, runs_alike, site_stands}
+use Rattle.node_world.proofs.HostsPower.{node_there}
+use Rattle.node_world.proofs.looking.runs.Goals as goal
+
+pub returns-in-Some : goal.returns-in-Some
+returns-in-Some g c w world may =
+    let a : StandsAt c.in-Some.place c.args.node w.sites = c.in-Some.ensures.place w.sites world.sites in
+    let S : HostSite g.row.P.Denot → Type 0 = λ k. SiteIs g.P.WorldNode.runs g.P.WorldNode.memory k a.site in
+    let is = subst S c.index-sites-place.is (reads g.row.P.Denot g.P.WorldNode.runs g.P.WorldNode.memory c.args.sites.now w c.in-Some.place
+    c.args.node a c.index-sites-place.result world.sites c.index-sites-place.is) in
+    let found = site_stands w c.in-Some.place c.args.node a may.orderly in
+    let off : (c.args.node == 0) ≡ false = search (rules, ne_eqb) in
+    let e : c.is_some-in-Some.result ≡ is_some (get_or c.args.sites.now c.in-Some.place c.index-sites-place.result).on = search rules in
+    e ∙ (runs_alike g.row.P.Denot g.P.WorldNode.runs g.P.WorldNode.memory _ a.site is ∙ ap (λ o. is_some o) (sym (node_there w c.args.node off a.site found)))

@@ -1,0 +1,118 @@
+-- A world of nodes as a whole: what is kept of it as something happens, and what is asked then.
+use Rattle.std.specs.Prelude.{◌≡◌, ◌≢◌, ℕ, ◌+◌, ◌<◌, ◌≤◌, ◌^◌, ◌==◌, Bool, true, false, List, [], ◌++◌, replicate, unwrap_or, Option, Some, None}
+use Rattle.std.specs.List.{AllByRecursion}
+use Rattle.swp_base.specs.InMemory.{Memory}
+use Rattle.trace_model.specs.Lines.{IsNodeHeader, IsNodeOf}
+use Rattle.trace_model.specs.declared.entry.Entry.{Entry}
+use Rattle.trace_model.specs.declared.entry.NoCause.{NoCause}
+use Rattle.trace_model.specs.declared.line.Header.{Header}
+use Rattle.trace_model.specs.declared.line.Line.{Line}
+use Rattle.trace_model.specs.declared.line.Line.TheVariants as line
+use Rattle.link_wires.specs.declared.finding.Misread.{Misread}
+use Rattle.link_wires.specs.Damages.{first_lpdu}
+use Rattle.node_machine.specs.Parts.{Core, Port}
+use Rattle.node_machine.specs.world.World.{NodeWorld, Site, node_at, memory_at}
+use Rattle.node_machine.specs.world.World.Happening.{Ticks}
+use Rattle.node_machine.specs.world.Lines.{LineOutcome, all_happen, frames_at, misread_in, noted_below}
+use Rattle.node_laws.specs.telling.Telling.{hosts_in, IsOrderly}
+use Rattle.lines_told.specs.Below.{IsPlayedLine, entries_below}
+use Rattle.node_world.specs.declared.controller.ControllerPlace.{ControllerPlace}
+use Rattle.node_world.specs.declared.places.HostSite.{HostSite}
+use Rattle.node_world.specs.Bounds.{FewBehind}
+use Rattle.node_world.specs.Controllers.{SitesAre, WorldIs, MayGoOn, AreTimely, IsThere}
+use Rattle.node_world.specs.HostSteps.{IsHostOf, MayTick}
+use Rattle.node_world.specs.Memories.{IsSoundMemory}
+
+-- ## Something happens
+
+-- a world in order, in which the numbers of RSETs and the counts are far from their ends
+pub record IsWithinBounds (w : NodeWorld) : Type 0 where
+  pub goes_on : MayGoOn w
+  pub few : FewBehind 300000000 w
+
+-- what is kept of the hosts stands for those of a world that something has made of it, and this was noted behind what was noted before
+pub record SitesBecome {P : Type 0} (Runs : P → Core → List Port → Type 0) (memory_of : P → Memory) (ks : List (HostSite P)) (before now : List Entry)
+    (after : NodeWorld × List Entry) : Type 0 where
+  pub sites : SitesAre Runs memory_of ks after.0.sites
+  pub noted : now ≡ before ++ after.1
+
+-- all hosts may have their ticks
+pub record IsToTick (s : Site) : Type 0 where
+  pub host : IsHostOf s
+  pub may : MayTick s
+  pub room : s.link.resets + 17 < 2 ^ 32
+
+abbrev pub AreToTick : List Site → Type 0
+AreToTick sites = AllByRecursion IsToTick sites
+
+-- what is kept of the hosts stands for these behind their ticks, and that was noted
+pub record SitesTick {P : Type 0} (Runs : P → Core → List Port → Type 0) (memory_of : P → Memory) (ks : List (HostSite P)) (before now : List Entry)
+    (after : List Site × List Entry) : Type 0 where
+  pub sites : SitesAre Runs memory_of ks after.0
+  pub noted : now ≡ before ++ after.1
+
+-- a world, and what is noted, where this happens unless it is refused for a cause
+abbrev pub if_accepted : Option NoCause → NodeWorld → NodeWorld × List Entry → NodeWorld × List Entry
+if_accepted None w after = after
+if_accepted (Some cause) w after = (w, [])
+
+-- a node that doesn't run may boot: its ends are new, and its memory is one from which it may
+pub record MayBootAt (n : ℕ) (w : NodeWorld) : Type 0 where
+  pub goes_on : MayGoOn w
+  pub timely : AreTimely w
+  pub off : node_at w n ≡ None
+  pub there : (n == 0) ≡ false → IsThere n w
+  pub memory : IsSoundMemory (memory_at w n)
+
+-- a node that runs
+pub record MayStop (n : ℕ) (w : NodeWorld) : Type 0 where
+  pub orderly : IsOrderly w
+  pub on : node_at w n ≢ None
+
+-- ## A line
+
+-- the world behind so many ticks
+abbrev pub after_ticks : ℕ → NodeWorld → NodeWorld
+after_ticks n w = (all_happen w (replicate n Ticks)).0
+
+-- A node that doesn't run may boot from its memory.
+abbrev pub AreBootable : List ℕ → NodeWorld → Type 0
+AreBootable hosts w = (n : ℕ) → IsNodeOf hosts n → node_at w n ≡ None → IsSoundMemory (memory_at w n)
+
+-- What is asked of a world with the hosts of this header, in which this line is played.
+pub record MayPlay (header : Header) (said : Line) (w : NodeWorld) : Type 0 where
+  pub is_header : IsNodeHeader header
+  pub hosts_are : hosts_in w.sites ≡ header.hosts.items
+  pub is_line : IsPlayedLine header said
+  pub goes_on : MayGoOn w
+  pub few : FewBehind 200000000 w
+  pub timely : AreTimely w
+  pub ticks : (times : Option ℕ) → said ≡ line.Tick times → (n : ℕ) → n ≤ unwrap_or times 1 → AreTimely (after_ticks n w)
+  pub boots : AreBootable header.hosts.items w
+
+-- what is kept stands for the world behind a line, and what the line tells is noted
+pub record LinePlayed {C P : Type 0} (CRuns : C → Core → List Port → Type 0) (c_memory : C → Memory) (PRuns : P → Core → List Port → Type 0)
+    (p_memory : P → Memory) (k : ControllerPlace C) (ks : List (HostSite P)) (noted : List Entry) (after : NodeWorld × LineOutcome) : Type 0 where
+  pub world : WorldIs CRuns c_memory PRuns p_memory k ks after.0
+  pub told : noted ≡ entries_below (noted_below after.1)
+
+-- what is kept of the hosts alone stands so
+pub record HostsPlayed {P : Type 0} (Runs : P → Core → List Port → Type 0) (memory_of : P → Memory) (ks : List (HostSite P)) (noted : List Entry)
+    (after : NodeWorld × LineOutcome) : Type 0 where
+  pub sites : SitesAre Runs memory_of ks after.0.sites
+  pub told : noted ≡ entries_below (noted_below after.1)
+
+-- a line that damages a frame
+abbrev pub is_damaging : Line → Bool
+is_damaging (line.Damage e places) = true
+is_damaging said = false
+
+-- the first frame on its way to the end that a line speaks of, where the line damages it
+abbrev pub damaged_in : NodeWorld → Line → Option (List ℕ)
+damaged_in w (line.Damage e places) = first_lpdu (frames_at w e)
+damaged_in w _ = None
+
+-- this is told of a line: which other frame is read in place of the first one on the wire, where one is
+abbrev pub IsMisreadIn : NodeWorld → Line → Option Misread → Type 0
+IsMisreadIn w said None = misread_in w said ≡ None
+IsMisreadIn w said (Some other) = (misread_in w said ≡ Some other.read) × (damaged_in w said ≡ Some other.sent)

@@ -1,0 +1,78 @@
+//! The controller of the world: its node or its memory, and its ends of the links to all hosts. In a step of it frames may go out at every
+//! link, and a stop of its node cuts all of them.
+ghost use Rattle.std.specs.Prelude.{◌≡◌, ◌≤◌, List, true, false, get_or, length, map, Some, None, OnOk};
+ghost use Rattle.trace_model.specs.declared.entry.Entry.{Entry as Told};
+ghost use Rattle.node_machine.specs.Parts.{Work};
+ghost use Rattle.node_machine.specs.world.World.{Site};
+ghost use Rattle.node_world.specs.Numbers.{AreNumbered};
+ghost use Rattle.node_world.specs.WorldNodes.{IsNotedSo};
+ghost use Rattle.node_world.specs.Controllers.{SitesAre, with_bare_link, HaveRoom, EndsStep, GoesOnWith, WentOffWith};
+
+use crate::controller_sites::{empty_all, send_to_all};
+use crate::nodes::WorldNode;
+use crate::noted::Noted;
+use crate::numbering::{Sessions, number_from};
+use crate::places::HostSite;
+use swp_base::{MemNv, NoMemory};
+
+/// The controller of the world: its node while that runs, its memory while it doesn't.
+#[derive(Drop)]
+pub(crate) struct ControllerPlace<C: Drop> {
+    pub(crate) on: Option<C>,
+    pub(crate) off: Option<MemNv>,
+}
+
+// The power of the controller goes: the wires of all links are empty, and its memory stays.
+pub(crate) fn lose_controller<C: WorldNode + Drop, P: WorldNode + Drop>(
+    controller: &mut ControllerPlace<C>,
+    sites: &mut [HostSite<P>],
+)
+    ensures off { (n : C) → controller.old.on ≡ Some n → (controller.new.on ≡ None) × (controller.new.off ≡ Some (C.memory n)) }
+    ensures wires { (hosts : List Site) → SitesAre P.runs P.memory sites.old hosts → SitesAre P.runs P.memory sites.new (map with_bare_link hosts) }
+{
+    empty_all(sites);
+    if let Some(node) = controller.on.take() {
+        controller.off = Some(node.into_memory());
+    }
+}
+
+/// A step of the controller ends: the numbers of its sessions are put into what it noted from this place on, and its frames go out at all
+/// its links, those of the first host first, unless it has lost its power.
+///
+/// # Errors
+///
+/// No memory is left; what the controller and the hosts stand for then isn't said.
+pub(crate) fn finish_controller<C: WorldNode + Drop, P: WorldNode + Drop>(
+    controller: &mut ControllerPlace<C>,
+    sites: &mut [HostSite<P>],
+    from: usize,
+    sessions: Sessions,
+    live: bool,
+    noted: &mut Noted,
+) -> Result<(), NoMemory>
+    requires state { (n : C) × (v : Work) × (hosts : List Site) × EndsStep C.runs P.runs P.memory controller.old sites.old n live v hosts }
+    requires from { noted.old.short ≡ false → from ≤ length noted.old.entries.items }
+    requires room { HaveRoom sites.old }
+    ensures goes_on { (n : C) (v : Work) (hosts : List Site) (before : List Told) → EndsStep C.runs P.runs P.memory controller.old sites.old n live v hosts
+        → IsNotedSo noted.old.entries.items noted.old.short before v.entries → length before ≡ from
+        → AreNumbered (λ h. get_or sessions h 0) v.entries → live ≡ true
+        → OnOk result (GoesOnWith C.runs C.memory P.runs P.memory controller.new sites.new n v hosts before noted.new.entries.items) }
+    ensures cut { (n : C) (v : Work) (hosts : List Site) (before : List Told) → EndsStep C.runs P.runs P.memory controller.old sites.old n live v hosts
+        → IsNotedSo noted.old.entries.items noted.old.short before v.entries → length before ≡ from
+        → AreNumbered (λ h. get_or sessions h 0) v.entries → live ≡ false
+        → OnOk result (WentOffWith C.memory P.runs P.memory controller.new sites.new n v hosts before noted.new.entries.items) }
+    ensures short { OnOk result ((noted.old.short ≡ false) × (noted.new.short ≡ false)) }
+{
+    if noted.short {
+        return Err(NoMemory);
+    }
+    number_from(&mut noted.entries, from, sessions);
+    if !live {
+        lose_controller(controller, sites);
+        return Ok(());
+    }
+    if let Some(node) = &mut controller.on {
+        send_to_all(node, sites, &mut noted.entries)?;
+    }
+    Ok(())
+}

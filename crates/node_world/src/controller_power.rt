@@ -1,0 +1,135 @@
+//! The controller boots, its power is cut, or a write to its memory is to fail; and frames on their way to its ends are lost.
+ghost use Rattle.std.specs.Prelude.{◌≡◌, ◌<◌, length, None, Some, OnOk};
+ghost use Rattle.gate_admin.specs.View.{has, hosts_where};
+ghost use Rattle.link_entries.specs.messages.Links.{Loss};
+ghost use Rattle.history.specs.Steps.{lost_as};
+ghost use Rattle.node_machine.specs.Parts.{Running};
+ghost use Rattle.node_machine.specs.world.World.{NodeWorld, boots, frame_lost, end_c, world_step};
+ghost use Rattle.node_machine.specs.world.World.Happening.{IsCut, Arms};
+ghost use Rattle.node_laws.specs.telling.Telling.{hosts_in};
+ghost use Rattle.node_world.specs.Memories.{IsSoundMemory};
+ghost use Rattle.node_world.specs.Controllers.{WorldIs, WorldBecomes, MayGoOn, IsThere, AreTimely};
+
+use crate::controller::{ControllerPlace, lose_controller};
+use crate::controller_sites::{empty_all, place_of};
+use crate::host_boots::note_last;
+use crate::host_losses::{is_refusal, lose_for};
+use crate::nodes::{Booted, WorldController, WorldNode};
+use crate::noted::Noted;
+use crate::places::HostSite;
+use arrayvec::ArrayVec;
+use std::alloc::Global;
+use swp_base::NoMemory;
+use trace_model::{End, Entry, LostCause};
+
+/// The controller, which doesn't run, boots from its memory, with ends of the links with the hosts of this mask, in which bit h stands for
+/// host h.
+///
+/// # Errors
+///
+/// No memory is left; what the controller and the hosts stand for then isn't said.
+pub(crate) fn boot_controller<C: WorldController + Drop, P: WorldNode + Drop>(
+    alloc: Global,
+    controller: &mut ControllerPlace<C>,
+    sites: &mut [HostSite<P>],
+    mask: u8,
+    noted: &mut Noted,
+) -> Result<(), NoMemory>
+    requires state { (w : NodeWorld) × WorldIs C.runs C.memory P.runs P.memory controller.old sites.old w × (w.controller ≡ None) × IsSoundMemory w.memory }
+    ensures stands { (w : NodeWorld) → WorldIs C.runs C.memory P.runs P.memory controller.old sites.old w → MayGoOn w → AreTimely w
+        → w.controller ≡ None → hosts_where (has mask) ≡ hosts_in w.sites
+        → OnOk result (WorldBecomes C.runs C.memory P.runs P.memory controller.new sites.new noted.old.entries.items noted.new.entries.items
+        (boots w 0)) }
+    ensures short { noted.new.short ≡ noted.old.short }
+{
+    let Some(memory) = controller.off.take() else {
+        return Err(NoMemory);
+    };
+    match C::boot(alloc, mask, memory) {
+        Booted::Runs(node) => {
+            let count = node.count();
+            controller.on = Some(node);
+            note_last(noted, Entry::Booted { node: 0, count })
+        }
+        Booted::LostPower(memory) => {
+            controller.off = Some(memory);
+            empty_all(sites);
+            note_last(noted, Entry::Cut { node: 0 })
+        }
+        Booted::NoMemory => Err(NoMemory),
+    }
+}
+
+/// The power of the controller, which runs, is cut.
+///
+/// # Errors
+///
+/// No memory is left; what the controller and the hosts stand for then isn't said.
+pub(crate) fn cut_controller<C: WorldNode + Drop, P: WorldNode + Drop>(
+    controller: &mut ControllerPlace<C>,
+    sites: &mut [HostSite<P>],
+    noted: &mut Noted,
+) -> Result<(), NoMemory>
+    ensures stands { (w : NodeWorld) (r : Running) → WorldIs C.runs C.memory P.runs P.memory controller.old sites.old w → w.controller ≡ Some r
+        → OnOk result (WorldBecomes C.runs C.memory P.runs P.memory controller.new sites.new noted.old.entries.items noted.new.entries.items
+        (world_step w (IsCut 0))) }
+    ensures short { noted.new.short ≡ noted.old.short }
+{
+    lose_controller(controller, sites);
+    note_last(noted, Entry::Cut { node: 0 })
+}
+
+/// One of the next writes to the memory of the controller will fail, whether it runs or not.
+pub(crate) fn arm_controller<C: WorldNode + Drop, P: WorldNode + Drop>(
+    controller: &mut ControllerPlace<C>,
+    sites: &[HostSite<P>],
+    nth: u32,
+    fill: ArrayVec<u8, 64>,
+)
+    requires nth { 0 < nth }
+    requires fill { 0 < length fill.items }
+    ensures { (w : NodeWorld) → WorldIs C.runs C.memory P.runs P.memory controller.old sites.now w
+        → WorldIs C.runs C.memory P.runs P.memory controller.new sites.now (world_step w (Arms 0 (record { nth = nth; fill = fill.items }))).0 }
+{
+    if let Some(node) = &mut controller.on {
+        node.arm(nth, fill);
+    } else if let Some(memory) = &mut controller.off {
+        memory.arm(nth, fill);
+    }
+}
+
+/// The first frame on the way to the controller's end of the link with this host is lost for this cause. A frame that was refused on its way
+/// counts for REC_ERROR of that end, while the controller runs.
+///
+/// # Errors
+///
+/// No memory is left; what the controller and the hosts stand for then isn't said.
+pub(crate) fn lose_at_controller<C: WorldNode + Drop, P: WorldNode + Drop>(
+    controller: &mut ControllerPlace<C>,
+    sites: &mut [HostSite<P>],
+    host: u8,
+    cause: LostCause,
+    noted: &mut Noted,
+) -> Result<(), NoMemory>
+    requires state { (w : NodeWorld) × WorldIs C.runs C.memory P.runs P.memory controller.old sites.old w × MayGoOn w × IsThere host w }
+    ensures stands { (w : NodeWorld) (why : Loss) → WorldIs C.runs C.memory P.runs P.memory controller.old sites.old w → MayGoOn w → IsThere host w
+        → cause ≡ lost_as why
+        → OnOk result (WorldBecomes C.runs C.memory P.runs P.memory controller.new sites.new noted.old.entries.items noted.new.entries.items
+        (frame_lost w (end_c host) why)) }
+    ensures short { noted.new.short ≡ noted.old.short }
+{
+    let to = End {
+        link: host,
+        at_host: false,
+    };
+    let Some(place) = place_of(sites, host) else {
+        return Ok(());
+    };
+    lose_for(&mut sites[place], to, cause, noted)?;
+    if is_refusal(cause) {
+        if let Some(node) = &mut controller.on {
+            node.refused(host);
+        }
+    }
+    Ok(())
+}

@@ -1,0 +1,107 @@
+//! What happens at all links of the controller, one after another.
+ghost use Rattle.std.specs.Prelude.{◌≡◌, ◌<◌, ◌++◌, List, length, map, IfSome, OnOk};
+ghost use Rattle.std.specs.List.{AllByRecursion, flat_map};
+ghost use Rattle.trace_model.specs.Lines.{IsHost};
+ghost use Rattle.node_machine.specs.Parts.{Core, Port};
+ghost use Rattle.node_machine.specs.world.World.{Site, NodeWorld, all_aged};
+ghost use Rattle.node_laws.specs.kept.Hosts.{AreDifferent};
+ghost use Rattle.node_laws.specs.telling.Telling.{hosts_in};
+ghost use Rattle.node_world.specs.Controllers.{SitesAre, HaveRoom, SendsTo, sent_to, has_frames, frames_emitted, with_bare_link};
+ghost use Rattle.node_world.specs.Controllers.{IsPlaceOf, AreSessions};
+
+use crate::host_losses::age_host;
+use crate::nodes::WorldNode;
+use crate::noted::Noted;
+use crate::numbering::Sessions;
+use crate::places::HostSite;
+use crate::sending::send_frames;
+use std::alloc::AllocError;
+use swp_base::NoMemory;
+use trace_model::{End, Entry};
+
+/// Nothing stands on the wires of any link any more.
+pub(crate) fn empty_all<P: WorldNode + Drop>(sites: &mut [HostSite<P>])
+    ensures { (hosts : List Site) → SitesAre P.runs P.memory sites.old hosts → SitesAre P.runs P.memory sites.new (map with_bare_link hosts) }
+{
+    for i in 0..sites.len() {
+        let site = &mut sites[i];
+        site.wires.empty();
+    }
+}
+
+/// All frames go out that are due at a node's ends of the links to all hosts.
+///
+/// # Errors
+///
+/// No memory is left; what the wires stand for then isn't said.
+pub(crate) fn send_to_all<C: WorldNode, P: WorldNode + Drop>(
+    node: &mut C,
+    sites: &mut [HostSite<P>],
+    entries: &mut Vec<Entry>,
+) -> Result<(), AllocError>
+    requires state { (core : Core) × (ports : List Port) × (hosts : List Site)
+        × SendsTo P.runs P.memory (C.runs node.old core ports) ports sites.old hosts }
+    requires room { HaveRoom sites.old }
+    ensures stands { (core : Core) (ports : List Port) (hosts : List Site) → SendsTo P.runs P.memory (C.runs node.old core ports) ports sites.old hosts
+        → OnOk result (C.runs node.new core (sent_to (hosts_in hosts) ports) × SitesAre P.runs P.memory sites.new (map (has_frames ports) hosts)
+        × (entries.new.items ≡ entries.old.items ++ flat_map (frames_emitted ports) hosts)) }
+    ensures memory { C.memory node.new ≡ C.memory node.old }
+{
+    for i in 0..sites.len() {
+        let site = &mut sites[i];
+        let at = End {
+            link: site.host,
+            at_host: false,
+        };
+        send_frames(node, at, &mut site.wires, entries)?;
+    }
+    Ok(())
+}
+
+/// The place of the host with this number.
+pub(crate) fn place_of<P: WorldNode + Drop>(sites: &[HostSite<P>], host: u8) -> Option<usize>
+    ensures range { IfSome result (λ i. i < length sites.now) }
+    ensures place { (hosts : List Site) → SitesAre P.runs P.memory sites.now hosts → IsPlaceOf result host hosts }
+{
+    for i in 0..sites.len() {
+        if sites[i].host == host {
+            return Some(i);
+        }
+    }
+    None
+}
+
+/// The numbers of the sessions of the controller's ends of all links.
+pub(crate) fn sessions_of<P: WorldNode + Drop>(sites: &[HostSite<P>]) -> Sessions
+    ensures { (hosts : List Site) → SitesAre P.runs P.memory sites.now hosts → AreDifferent (hosts_in hosts)
+        → AllByRecursion IsHost (hosts_in hosts) → AreSessions result hosts }
+{
+    let mut sessions = [0; 8];
+    for i in 0..sites.len() {
+        let site = &sites[i];
+        let host = usize::from(site.host);
+        if host < 8 {
+            sessions[host] = site.wires.controller.session();
+        }
+    }
+    sessions
+}
+
+/// The frames on all wires grow older by one tick, and those that are too old are lost.
+///
+/// # Errors
+///
+/// No memory is left; what the hosts stand for then isn't said.
+pub(crate) fn age_all<P: WorldNode + Drop>(
+    sites: &mut [HostSite<P>],
+    noted: &mut Noted,
+) -> Result<(), NoMemory>
+    ensures stands { (w : NodeWorld) → SitesAre P.runs P.memory sites.old w.sites → OnOk result (SitesAre P.runs P.memory sites.new (all_aged w).0.sites
+        × (noted.new.entries.items ≡ noted.old.entries.items ++ (all_aged w).1)) }
+    ensures short { noted.new.short ≡ noted.old.short }
+{
+    for i in 0..sites.len() {
+        age_host(&mut sites[i], noted)?;
+    }
+    Ok(())
+}

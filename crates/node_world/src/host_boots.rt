@@ -1,0 +1,62 @@
+//! A host of the world boots.
+ghost use Rattle.std.specs.Prelude.{◌≡◌, [], ◌∷◌, ◌++◌, None, Some, OnOk};
+ghost use Rattle.swp_act.specs.Activation.{new_uicc};
+ghost use Rattle.link_machine.specs.Machine.{new_link_end};
+ghost use Rattle.link_machine.specs.Machine.Role.{Uicc};
+ghost use Rattle.node_machine.specs.world.World.{Site};
+ghost use Rattle.node_world.specs.Places.{SiteIs};
+ghost use Rattle.node_world.specs.Memories.{IsSoundMemory};
+ghost use Rattle.node_world.specs.HostSteps.{host_boots, IsHostOf, HasBecome};
+
+use crate::nodes::{Booted, WorldHost};
+use crate::noted::Noted;
+use crate::places::HostSite;
+use std::alloc::Global;
+use swp_base::NoMemory;
+use trace_model::Entry;
+
+// This is noted behind the others.
+pub(crate) fn note_last(noted: &mut Noted, entry: Entry) -> Result<(), NoMemory>
+    ensures items { OnOk result (noted.new.entries.items ≡ noted.old.entries.items ++ entry ∷ []) }
+    ensures short { noted.new.short ≡ noted.old.short }
+{
+    match noted.entries.push(entry) {
+        Ok(()) => Ok(()),
+        Err(_) => Err(NoMemory),
+    }
+}
+
+/// A host that doesn't run boots from its memory.
+///
+/// # Errors
+///
+/// No memory is left; what the host stands for then isn't said.
+pub(crate) fn boot_host<P: WorldHost + Drop>(
+    alloc: Global,
+    site: &mut HostSite<P>,
+    noted: &mut Noted,
+) -> Result<(), NoMemory>
+    requires state { (s : Site) × SiteIs P.runs P.memory site.old s × IsHostOf s × (s.node ≡ None) × IsSoundMemory s.memory }
+    ensures stands { (s : Site) → SiteIs P.runs P.memory site.old s → IsHostOf s → s.node ≡ None
+        → s.link.host.side ≡ new_link_end (Uicc new_uicc)
+        → OnOk result (HasBecome P.runs P.memory site.new noted.old.entries.items noted.new.entries.items (host_boots s)) }
+    ensures short { noted.new.short ≡ noted.old.short }
+{
+    let Some(memory) = site.off.take() else {
+        return Err(NoMemory);
+    };
+    match P::boot(alloc, site.host, memory) {
+        Booted::Runs(node) => {
+            let count = node.count();
+            site.on = Some(node);
+            let node = site.host;
+            note_last(noted, Entry::Booted { node, count })
+        }
+        Booted::LostPower(memory) => {
+            site.off = Some(memory);
+            site.wires.empty();
+            note_last(noted, Entry::Cut { node: site.host })
+        }
+        Booted::NoMemory => Err(NoMemory),
+    }
+}

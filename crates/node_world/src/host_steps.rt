@@ -1,0 +1,138 @@
+//! The steps of a host of the world: something comes to its end, or a tick passes.
+ghost use Rattle.std.specs.Prelude.{◌≡◌, ℕ, ◌+◌, ◌<◌, ◌≤◌, ◌^◌, false, IfOk, IfSome, OnOk, Some};
+ghost use Rattle.link_entries.specs.messages.Links.Comes.{NextFrame, AsksReset, Starts};
+ghost use Rattle.node_machine.specs.world.World.{Site, host_ticks};
+ghost use Rattle.node_world.specs.Places.{SiteIs};
+ghost use Rattle.node_world.specs.HostSteps.{host_hears, reset_noted, reset_refused_at, IsHostOf, CountsComing, MayTick, HasBecome, BecomesUnless};
+
+use crate::host_ends::finish_host;
+use crate::nodes::{WorldHost, WorldNode};
+use crate::noted::Noted;
+use crate::places::HostSite;
+use link_end::ResetRefused;
+use swp_base::NoMemory;
+use trace_model::{End, NoCause};
+
+/// The first frame on the way to a host's end is taken. Where the host doesn't run, or none is on the way, nothing happens.
+///
+/// # Errors
+///
+/// No memory is left; what the host stands for then isn't said.
+pub(crate) fn take_at_host<P: WorldNode + Drop>(
+    site: &mut HostSite<P>,
+    noted: &mut Noted,
+) -> Result<(), NoMemory>
+    requires state { (s : Site) × SiteIs P.runs P.memory site.old s × IsHostOf s × CountsComing s NextFrame }
+    requires room { site.old.wires.resets + 17 < 2 ^ 32 }
+    requires memory { noted.old.short ≡ false }
+    ensures stands { (s : Site) → SiteIs P.runs P.memory site.old s → IsHostOf s → CountsComing s NextFrame
+        → OnOk result (HasBecome P.runs P.memory site.new noted.old.entries.items noted.new.entries.items (host_hears s NextFrame)) }
+    ensures memory { OnOk result (noted.new.short ≡ false) }
+{
+    let from = noted.entries.len();
+    let at = End {
+        link: site.host,
+        at_host: true,
+    };
+    let Some(node) = &mut site.on else {
+        return Ok(());
+    };
+    let Some(lpdu) = site.wires.host.take_first(at, &mut noted.entries)? else {
+        return Ok(());
+    };
+    let live = node.take(site.host, &lpdu, noted);
+    finish_host(site, from, live, noted)
+}
+
+/// A tick passes at a host, whether it runs or not.
+///
+/// # Errors
+///
+/// No memory is left; what the host stands for then isn't said.
+pub(crate) fn tick_host<P: WorldNode + Drop>(
+    site: &mut HostSite<P>,
+    noted: &mut Noted,
+) -> Result<(), NoMemory>
+    requires state { (s : Site) × SiteIs P.runs P.memory site.old s × IsHostOf s × MayTick s }
+    requires room { site.old.wires.resets + 17 < 2 ^ 32 }
+    requires memory { noted.old.short ≡ false }
+    ensures stands { (s : Site) → SiteIs P.runs P.memory site.old s → IsHostOf s → MayTick s
+        → OnOk result (HasBecome P.runs P.memory site.new noted.old.entries.items noted.new.entries.items (host_ticks s)) }
+    ensures memory { OnOk result (noted.new.short ≡ false) }
+{
+    let from = noted.entries.len();
+    let Some(node) = &mut site.on else {
+        return Ok(());
+    };
+    let live = node.tick(noted);
+    finish_host(site, from, live, noted)
+}
+
+/// Why a reset is refused, as the line that asks for it tells.
+pub(crate) fn reset_cause(why: ResetRefused) -> NoCause
+    ensures { result ≡ reset_noted why }
+{
+    match why {
+        ResetRefused::Inactive => NoCause::Inactive,
+        ResetRefused::Waiting => NoCause::Waiting,
+    }
+}
+
+/// A host's end is reset, with this window, which is 1 to 4, or with its own one. The cause, where that is refused: nothing happens then.
+///
+/// # Errors
+///
+/// No memory is left; what the host stands for then isn't said.
+pub(crate) fn reset_host<P: WorldNode + Drop>(
+    site: &mut HostSite<P>,
+    window: Option<u8>,
+    noted: &mut Noted,
+) -> Result<Option<NoCause>, NoMemory>
+    requires state { (s : Site) × SiteIs P.runs P.memory site.old s × IsHostOf s × CountsComing s (AsksReset window) }
+    requires window { IfSome window (λ w. (1 ≤ w) × (w ≤ 4)) }
+    requires room { site.old.wires.resets + 17 < 2 ^ 32 }
+    requires memory { noted.old.short ≡ false }
+    ensures refusal { (s : Site) → SiteIs P.runs P.memory site.old s → IsHostOf s → CountsComing s (AsksReset window)
+        → IfOk result (λ cause. cause ≡ reset_refused_at s) }
+    ensures stands { (s : Site) → SiteIs P.runs P.memory site.old s → IsHostOf s → CountsComing s (AsksReset window)
+        → IfOk result (BecomesUnless P.runs P.memory site.new noted.old.entries.items noted.new.entries.items s (host_hears s (AsksReset window))) }
+    ensures memory { OnOk result (noted.new.short ≡ false) }
+{
+    let from = noted.entries.len();
+    let Some(node) = &mut site.on else {
+        return Ok(Some(NoCause::Off));
+    };
+    match node.reset(site.host, window, noted) {
+        Ok(live) => {
+            finish_host(site, from, live, noted)?;
+            Ok(None)
+        }
+        Err(why) => Ok(Some(reset_cause(why))),
+    }
+}
+
+/// Activation begins anew at a host's end, with this sync identifier. Where the host doesn't run, nothing happens.
+///
+/// # Errors
+///
+/// No memory is left; what the host stands for then isn't said.
+pub(crate) fn activate_host<P: WorldHost + Drop>(
+    site: &mut HostSite<P>,
+    sync: u16,
+    noted: &mut Noted,
+) -> Result<(), NoMemory>
+    requires state { (s : Site) × SiteIs P.runs P.memory site.old s × IsHostOf s × CountsComing s (Starts sync) }
+    requires room { site.old.wires.resets + 17 < 2 ^ 32 }
+    requires memory { noted.old.short ≡ false }
+    ensures stands { (s : Site) → SiteIs P.runs P.memory site.old s → IsHostOf s → CountsComing s (Starts sync)
+        → OnOk result (HasBecome P.runs P.memory site.new noted.old.entries.items noted.new.entries.items (host_hears s (Starts sync))) }
+    ensures memory { OnOk result (noted.new.short ≡ false) }
+{
+    let from = noted.entries.len();
+    let Some(node) = &mut site.on else {
+        return Ok(());
+    };
+    let live = node.activate(site.host, sync, noted);
+    site.wires.empty();
+    finish_host(site, from, live, noted)
+}

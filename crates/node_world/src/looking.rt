@@ -1,0 +1,79 @@
+//! What is looked up of the world: which nodes run, and what stands on the wires.
+ghost use Rattle.std.specs.Prelude.{◌≡◌, List, length};
+ghost use Rattle.trace_model.specs.declared.line.Line.TheVariants as line;
+ghost use Rattle.node_machine.specs.world.World.{NodeWorld, node_of};
+ghost use Rattle.node_machine.specs.world.Lines.{frames_at, is_running, refusal_in};
+ghost use Rattle.link_wires.specs.Damages.{Finds};
+ghost use Rattle.node_world.specs.Controllers.{SitesAre, WorldIs, MayGoOn};
+
+use crate::controller::ControllerPlace;
+use crate::controller_sites::place_of;
+use crate::nodes::WorldNode;
+use crate::places::HostSite;
+use link_wires::Damaged;
+use trace_model::{End, NoCause};
+
+/// The number of the node of an end.
+pub(crate) fn node_of(at: End) -> u8
+    ensures { result ≡ node_of at }
+{
+    if at.at_host { at.link } else { 0 }
+}
+
+/// Whether the node with this number runs.
+pub(crate) fn runs<C: WorldNode + Drop, P: WorldNode + Drop>(
+    controller: &ControllerPlace<C>,
+    sites: &[HostSite<P>],
+    node: u8,
+) -> bool
+    ensures { (w : NodeWorld) → WorldIs C.runs C.memory P.runs P.memory controller.now sites.now w → MayGoOn w → result ≡ is_running w node }
+{
+    if node == 0 {
+        return controller.on.is_some();
+    }
+    match place_of(sites, node) {
+        Some(place) => sites[place].on.is_some(),
+        None => false,
+    }
+}
+
+/// How many frames stand on the wire to an end.
+pub(crate) fn on_the_way<P: WorldNode + Drop>(sites: &[HostSite<P>], to: End) -> usize
+    ensures { (w : NodeWorld) → SitesAre P.runs P.memory sites.now w.sites → MayGoOn w → result ≡ length (frames_at w to) }
+{
+    match place_of(sites, to.link) {
+        Some(place) => sites[place].wires.standing(to),
+        None => 0,
+    }
+}
+
+/// Why a line is refused that takes or loses the first frame on the way to an end: its node doesn't run, or there is no such frame.
+pub(crate) fn no_frame<C: WorldNode + Drop, P: WorldNode + Drop>(
+    controller: &ControllerPlace<C>,
+    sites: &[HostSite<P>],
+    to: End,
+) -> Option<NoCause>
+    ensures { (w : NodeWorld) → WorldIs C.runs C.memory P.runs P.memory controller.now sites.now w → MayGoOn w → result ≡ refusal_in w (line.Lose to) }
+{
+    if !runs(controller, sites, node_of(to)) {
+        return Some(NoCause::Off);
+    }
+    if on_the_way(sites, to) == 0 {
+        return Some(NoCause::Empty);
+    }
+    None
+}
+
+/// What a line that damages the first frame on the way to an end at these places finds there.
+pub(crate) fn damaged_at<P: WorldNode + Drop>(
+    sites: &[HostSite<P>],
+    to: End,
+    places: &[u16],
+) -> Damaged
+    ensures { (w : NodeWorld) → SitesAre P.runs P.memory sites.now w.sites → MayGoOn w → Finds (frames_at w to) places.now result }
+{
+    match place_of(sites, to.link) {
+        Some(place) => sites[place].wires.damaged(to, places),
+        None => Damaged::Refused(NoCause::Empty),
+    }
+}
