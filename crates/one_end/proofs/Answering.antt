@@ -10,7 +10,9 @@ use Rattle.lone_laws.specs.alone.Lone.{Lone, LoneCause}
 use Rattle.lone_laws.specs.alone.Lone.LoneCause.{ResetComes}
 use Rattle.lone_laws.specs.alone.Ends.{EndForm, asks_reset}
 use Rattle.std.specs.Prelude.{None}
-use Rattle.one_end.specs.Running.{does_alone, then_does, answers_alone, all_answered, frames_written, BringsAlone, HasAnswered, RunsYet, StepsAlone}
+use Rattle.link_machine.specs.Machine.{reset_refusal}
+use Rattle.one_end.specs.Running.{does_alone, then_does, answers_alone, all_answered, frames_written, BringsAlone, HasAnswered, RunsYet, RunsReady}
+use Rattle.one_end.specs.Running.{StepsAlone}
 use Rattle.one_end.proofs.Composing.{nothing_done, nothing_at_all, all_answered-append, brings_on, brings_stopped, brings_as, brings_nothing}
 
 -- with this memory
@@ -32,15 +34,15 @@ parts_of f xs n = sym (map-append f (take n xs) (drop n xs)) ∙ ap (map f) (tak
 
 module _ {N : Type 0} (writes : N → ℕ → List ℕ → Bool → N → Type 0) (form : EndForm) where
   -- a step was made, and its frames were written
-  pub stepped : (Runs Later : Lone → List Control → Type 0) {old new : N} {stopped : Bool} {number : ℕ} (c : LoneCause) (l : Lone)
-      {before now : List ℕ} (s : StepsAlone writes old new Runs stopped number c l) → now ≡ before ++ frames_written form number s.frames
-      → (stopped ≡ false → Later s.after []) → HasAnswered writes old new (RunsYet Later stopped) (λ m. does_alone form (over l m) c) before now
-  stepped Runs Later {old} {new} {stopped} {number} c l s is later = record {
+  stepped_so : (Runs : Lone → List Control → Type 0) (S : Lone → Type 0) {old new : N} {stopped : Bool} {number : ℕ} (c : LoneCause) (l : Lone)
+      {before now : List ℕ} (s : StepsAlone writes old new Runs stopped number c l) → now ≡ before ++ frames_written form number s.frames → S s.after
+      → HasAnswered writes old new S (λ m. does_alone form (over l m) c) before now
+  stepped_so Runs S {old} {new} {stopped} {number} c l s is stands = record {
     given = frames_written form number s.frames;
     appended = is;
     brings = record {
       after = s.after;
-      stands = (s.stopped_is, later);
+      stands = stands;
       sure = s.sure;
       torn = s.torn;
       made = let P : Bool → Type 0 = λ t. WereMade writes s.sure s.torn old t new in subst P s.stopped_is s.made;
@@ -50,7 +52,31 @@ module _ {N : Type 0} (writes : N → ℕ → List ℕ → Bool → N → Type 0
     };
   }
 
+  pub stepped : (Runs Later : Lone → List Control → Type 0) {old new : N} {stopped : Bool} {number : ℕ} (c : LoneCause) (l : Lone)
+      {before now : List ℕ} (s : StepsAlone writes old new Runs stopped number c l) → now ≡ before ++ frames_written form number s.frames
+      → (stopped ≡ false → Later s.after []) → HasAnswered writes old new (RunsYet Later stopped) (λ m. does_alone form (over l m) c) before now
+  stepped Runs Later {old} {new} {stopped} c l s is later = stepped_so Runs (RunsYet Later stopped) c l s is (s.stopped_is, later)
+
+  -- it was, and its end takes the reset that it asks for
+  pub stepped_ready : (Runs Later : Lone → List Control → Type 0) {old new : N} {stopped asks : Bool} {number : ℕ} (c : LoneCause) (l : Lone)
+      {before now : List ℕ} (s : StepsAlone writes old new Runs stopped number c l) → now ≡ before ++ frames_written form number s.frames
+      → (stopped ≡ false → Later s.after []) → asks ≡ asks_reset l c
+      → HasAnswered writes old new (RunsReady Later stopped asks) (λ m. does_alone form (over l m) c) before now
+  stepped_ready Runs Later {old} {new} {stopped} {asks} c l s is later same =
+      stepped_so Runs (RunsReady Later stopped asks) c l s is ((s.stopped_is, later), λ asked live. s.ready (sym same ∙ asked) live)
+
   module _ (Runs : Lone → List Control → Type 0) where
+    -- what is known beside is left out
+    pub as_yet : {old new : N} {stopped asks : Bool} {f : Memory → Lone × List ℕ} {before now : List ℕ}
+        → HasAnswered writes old new (RunsReady Runs stopped asks) f before now → HasAnswered writes old new (RunsYet Runs stopped) f before now
+    as_yet h =
+        let b = h.brings in
+        record {
+          given = h.given;
+          appended = h.appended;
+          brings = record { after = b.after; stands = b.stands.0; sure = b.sure; torn = b.torn; made = b.made; is = b.is };
+        }
+
     -- it has stopped: no reset comes
     pub stopped_then : {old new : N} (c : LoneCause) (l : Lone) {before now : List ℕ}
         → HasAnswered writes old new (RunsYet Runs true) (λ m. does_alone form (over l m) c) before now
@@ -83,17 +109,18 @@ module _ {N : Type 0} (writes : N → ℕ → List ℕ → Bool → N → Type 0
 
     -- a reset is asked for, and comes
     pub with_reset : (Later : Lone → List Control → Type 0) {old mid new : N} {stopped : Bool} (c : LoneCause) (l : Lone) {before then_is now : List ℕ}
-        → HasAnswered writes old mid (RunsYet Runs false) (λ m. does_alone form (over l m) c) before then_is → asks_reset l c ≡ true
-        → ((k : Lone) → Runs k [] → HasAnswered writes mid new (RunsYet Later stopped) (λ m. does_alone form (over k m) (ResetComes None)) then_is now)
+        → HasAnswered writes old mid (RunsReady Runs false true) (λ m. does_alone form (over l m) c) before then_is → asks_reset l c ≡ true
+        → ((k : Lone) → Runs k [] → reset_refusal k.side ≡ None
+        → HasAnswered writes mid new (RunsYet Later stopped) (λ m. does_alone form (over k m) (ResetComes None)) then_is now)
         → HasAnswered writes old new (RunsYet Later stopped) (λ m. answers_alone form (over l m) c) before now
     with_reset Later c l {before = before} h asks reset =
         let b = h.brings in
-        let r = reset b.after (b.stands.1 refl) in
+        let r = reset b.after (b.stands.0.1 refl) (b.stands.1 refl refl) in
         let R : Lone → Lone × List ℕ = λ after. does_alone form after (ResetComes None) in
         record {
           given = h.given ++ r.given;
           appended = r.appended ∙ (ap (λ bytes. bytes ++ r.given) h.appended ∙ append_assoc before h.given r.given);
-          brings = brings_as writes (λ m. answers_alone form (over l m) c) (brings_on writes R b (sym b.stands.0) r.brings)
+          brings = brings_as writes (λ m. answers_alone form (over l m) c) (brings_on writes R b (sym b.stands.0.0) r.brings)
               (λ m. ap (λ b. cond b (then_does R (does_alone form (over l m) c)) (does_alone form (over l m) c)) asks);
         }
 

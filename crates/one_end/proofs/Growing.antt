@@ -6,11 +6,11 @@ use Rattle.swp_base.specs.InMemory.{Memory}
 use Rattle.swp_base.specs.declared.control_frames.Control.{Control}
 use Rattle.node_core.specs.Bringing.{Foretells, WereMade}
 use Rattle.journal_laws.specs.Planned.{after_planned}
-use Rattle.lone_laws.specs.alone.Lone.{Lone, LoneCause, lone_booted, lone_after}
-use Rattle.lone_laws.specs.alone.Ends.{EndForm, byte_brings, bytes_bring, first_comes, end_causes, end_written, end_node}
+use Rattle.lone_laws.specs.alone.Lone.{Lone, LoneCause, lone_after}
+use Rattle.lone_laws.specs.alone.Ends.{EndForm, byte_brings, bytes_bring, first_comes, end_causes, end_written}
 use Rattle.one_end.specs.declared.one_end.OneEnd.{OneEnd}
 use Rattle.one_end.specs.Running.{all_answered, BringsAlone, HasAnswered}
-use Rattle.one_end.specs.Standing.{StandsAlone, IsAlone, booted_from, run_brings, HasBooted, HasRun, IsRunOfBytes}
+use Rattle.one_end.specs.Standing.{StandsAlone, IsAlone, booted_from, end_booted, run_brings, HasBooted, HasRun, IsRunOfBytes}
 use Rattle.one_end.specs.Writing.{form_named}
 use Rattle.one_end.proofs.Composing.{brings_on, brings_as, all_answered-append}
 use Rattle.one_end.proofs.Answering.{over}
@@ -71,18 +71,17 @@ pub is_run_of : {N T : Type 0} (writes : N → ℕ → List ℕ → Bool → N �
 is_run_of {N} writes nv Runs is_clf content first e stopped bytes written b =
     let form : EndForm = form_named e.form in
     let number : ℕ = cond is_clf 0 2 in
-    let total : (m : Memory) → m.content ≡ content → Foretells m.plan b.sure b.torn stopped
-    → (lone_after (end_node is_clf m) (end_causes form (end_node is_clf m) bytes), end_written form (end_node is_clf m) bytes)
+    let total : (m : Memory) → Foretells m.plan b.sure b.torn stopped
+    → (lone_after (end_booted is_clf content m) (end_causes form (end_booted is_clf content m) bytes), end_written form (end_booted is_clf content m) bytes)
     ≡ (record b.after { memory = after_planned (b.sure ++ b.torn) m }, written) =
-    λ m q f.
-    sym (run_is form (run_brings form number bytes) (end_node is_clf m))
-    ∙ (ap (λ z. all_answered form (lone_booted number 2 (record m { content = z })) (run_brings form number bytes)) q
-    ∙ b.is m (subst (λ t. Foretells m.plan b.sure b.torn t) b.stands.0 f)) in
+    λ m f.
+    sym (run_is form (run_brings form number bytes) (end_booted is_clf content m))
+    ∙ b.is m (subst (λ t. Foretells m.plan b.sure b.torn t) b.stands.0 f) in
     record {
       sure = b.sure;
       torn = b.torn;
       made = let P : Bool → Type 0 = λ t. WereMade writes b.sure b.torn first t (nv e.node) in subst P (sym b.stands.0) b.made;
-      wrote = λ m q f. ap (λ (z : Lone × List ℕ). z.1) (total m q f);
-      behind = λ m q f. ap (λ (z : Lone × List ℕ). z.0.memory) (total m q f);
-      runs = λ m q f. ap (λ (z : Lone × List ℕ). is_none z.0.node) (total m q f) ∙ sym b.stands.0;
+      wrote = λ m f. ap (λ (z : Lone × List ℕ). z.1) (total m f);
+      behind = λ m f. ap (λ (z : Lone × List ℕ). z.0.memory) (total m f);
+      runs = λ m f. ap (λ (z : Lone × List ℕ). is_none z.0.node) (total m f) ∙ sym b.stands.0;
     }

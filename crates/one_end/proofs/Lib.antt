@@ -5,3 +5,8 @@ pub mod Whole
 pub mod Growing
 pub mod Muting
 pub mod Steps
+pub mod Fetching
+pub mod Roles
+pub mod Alone
+pub mod Activating
+pub mod Booted

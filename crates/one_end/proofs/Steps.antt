@@ -6,15 +6,15 @@ use Rattle.std.proofs.lemmas.Grind.{flat_map-append}
 use Rattle.swp_base.specs.declared.control_frames.Control.{Control}
 use Rattle.trace_model.specs.declared.entry.Entry.{Entry}
 use Rattle.journal_laws.specs.Planned.{after_planned}
-use Rattle.link_machine.specs.Machine.{LinkInput, frames_out, new_link_end}
+use Rattle.link_machine.specs.Machine.{LinkInput, frames_out, new_link_end, reset_refusal}
 use Rattle.node_machine.specs.Parts.{Running, Port, Work}
-use Rattle.node_machine.specs.Node.{steps}
+use Rattle.node_machine.specs.Node.{NodeInput, steps}
 use Rattle.node_machine.specs.world.World.{runs_on}
 use Rattle.node_core.specs.Bringing.{Brings, Foretells, WereMade, plan_left}
 use Rattle.lone_laws.specs.alone.Lone.{Lone, LoneCause, lone_end, lone_input, node_input, lone_arrival, lone_work, frames_behind, emits_behind}
 use Rattle.lone_laws.specs.alone.Lone.{lone_behind_step, role_alone}
 use Rattle.lone_laws.specs.alone.Lone.LoneCause.{FrameComes, FrameIsRefused, TickComes, ResetComes, StartComes, StopComes}
-use Rattle.lone_laws.specs.alone.Ends.{EndForm, entry_written}
+use Rattle.lone_laws.specs.alone.Ends.{EndForm, entry_written, asks_reset}
 use Rattle.lone_laws.proofs.answered.Lasting.{step_is}
 use Rattle.one_end.specs.Running.{does_alone, frames_written, StepsAlone}
 use Rattle.one_end.proofs.Answering.{over}
@@ -52,16 +52,17 @@ new_silent number = go (number == 0) where
   go true = refl
   go false = refl
 
-gone_silent : (l : Lone) (w : Work) → w.cut ≡ true → frames_behind l w ≡ []
+pub gone_silent : (l : Lone) (w : Work) → w.cut ≡ true → frames_behind l w ≡ []
 gone_silent l w cut = rw cut (new_silent l.number)
 
 module _ {N : Type 0} (writes : N → ℕ → List ℕ → Bool → N → Type 0) where
   pub steps_so : {old new : N} {S : Work → Type 0} (Runs : Lone → List Control → Type 0) (l : Lone) (n : Running) (c : LoneCause) (i : LinkInput)
-      → l.node ≡ Some n → lone_input c ≡ Some i
-      → (b : Brings writes old new S (steps (node_input l.link i)) (lone_work l n i (lone_arrival l c))) → length (frames_behind l b.after) ≤ 17
+      (x : NodeInput) → l.node ≡ Some n → lone_input c ≡ Some i → x ≡ node_input l.link i
+      → (b : Brings writes old new S (steps x) (lone_work l n i (lone_arrival l c))) → length (frames_behind l b.after) ≤ 17
       → (stopped : Bool) → b.after.cut ≡ stopped → (stopped ≡ false → Runs (lone_behind_step l i b.after) (frames_behind l b.after))
+      → (asks_reset l c ≡ true → stopped ≡ false → reset_refusal (lone_behind_step l i b.after).side ≡ None)
       → StepsAlone writes old new Runs stopped l.number c l
-  steps_so {old} {new} Runs l n c i is_on comes b few stopped cut later = record {
+  steps_so {old} {new} Runs l n c i x is_on comes x_is b few stopped cut later ready = record {
     after = lone_behind_step l i b.after;
     frames = frames_behind l b.after;
     few = few;
@@ -69,6 +70,7 @@ module _ {N : Type 0} (writes : N → ℕ → List ℕ → Bool → N → Type 0
     stopped_is = sym cut ∙ runs_none b.after;
     runs = later;
     none = λ gone. gone_silent l b.after (cut ∙ gone);
+    ready = ready;
     sure = b.sure;
     torn = b.torn;
     made = let P : Bool → Type 0 = λ t. WereMade writes b.sure b.torn old t new in subst P cut b.made;
@@ -76,7 +78,8 @@ module _ {N : Type 0} (writes : N → ℕ → List ℕ → Bool → N → Type 0
         let k : Lone = over l m in
         let v : Work = record b.after { plan = plan_left b.after.cut b.sure m.plan } in
         let q : steps (node_input l.link i) (lone_work k n i (lone_arrival l c)) ≡ v =
-        b.is m.plan (let P : Bool → Type 0 = λ t. Foretells m.plan b.sure b.torn t in subst P (sym cut) foretold) in
+        ap (λ y. steps y (lone_work k n i (lone_arrival l c))) (sym x_is)
+        ∙ b.is m.plan (let P : Bool → Type 0 = λ t. Foretells m.plan b.sure b.torn t in subst P (sym cut) foretold) in
         does_step form k n c i is_on comes
         ∙ (ap (λ w. (lone_behind_step k i w, frames_written form l.number (frames_behind k w))) q
         ∙ ap (λ ws. (record (lone_behind_step l i b.after) { memory = after_planned ws m }, frames_written form l.number (frames_behind l b.after))) b.written);

@@ -1,4 +1,5 @@
 pub mod Reading
 pub mod Writing
 pub mod Running
+pub mod Alone
 pub mod Standing

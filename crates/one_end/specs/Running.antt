@@ -6,6 +6,7 @@ use Rattle.swp_base.specs.declared.control_frames.Control.{Control}
 use Rattle.swp_lpdu.specs.Controls.{lpdu_of}
 use Rattle.journal_laws.specs.Writes.{Write}
 use Rattle.journal_laws.specs.Planned.{after_planned}
+use Rattle.link_machine.specs.Machine.{reset_refusal}
 use Rattle.node_core.specs.Bringing.{WereMade, Foretells}
 use Rattle.lone_laws.specs.alone.Lone.{Lone, LoneCause, lone_step}
 use Rattle.lone_laws.specs.alone.Lone.LoneCause.{FrameComes, FrameIsRefused, TickComes, ResetComes, StartComes, StopComes}
@@ -18,7 +19,6 @@ abbrev pub cause_of : Coming → LoneCause
 cause_of (coming.Frame lpdu) = FrameComes lpdu
 cause_of (coming.Refused fault) = FrameIsRefused fault
 cause_of coming.Tick = TickComes
-cause_of coming.Reset = ResetComes None
 cause_of coming.Start = StartComes 1
 cause_of coming.Stop = StopComes
 
@@ -60,6 +60,10 @@ pub record BringsAlone {N : Type 0} (writes : N → ℕ → List ℕ → Bool �
 abbrev pub RunsYet : (Lone → List Control → Type 0) → Bool → Lone → Type 0
 RunsYet Runs stopped l = (stopped ≡ is_none l.node) × (stopped ≡ false → Runs l [])
 
+-- so it stands, and where it asks for a reset and has its power, its end takes one
+abbrev pub RunsReady : (Lone → List Control → Type 0) → Bool → Bool → Lone → Type 0
+RunsReady Runs stopped asks l = RunsYet Runs stopped l × (asks ≡ true → stopped ≡ false → reset_refusal l.side ≡ None)
+
 -- So a node did, and what it wrote was appended.
 pub record HasAnswered {N : Type 0} (writes : N → ℕ → List ℕ → Bool → N → Type 0) (old new : N) (Stands : Lone → Type 0)
     (f : Memory → Lone × List ℕ) (before now : List ℕ) : Type 0 where
@@ -72,7 +76,8 @@ abbrev pub HasSentFirst : (Lone → List Control → Type 0) → Lone → Option
 HasSentFirst Runs l sent [] = (sent ≡ None) × Runs l []
 HasSentFirst Runs l sent (c ∷ frames) = (sent ≡ Some (lpdu_of c)) × Runs l frames
 
--- A node made a step: so says the definition for each plan that foretells what became of its writes. These frames are to go out then.
+-- A node made a step: so says the definition for each plan that foretells what became of its writes. These frames are to go out then. Where
+-- the step asks for a reset, the end takes one behind it.
 pub record StepsAlone {N : Type 0} (writes : N → ℕ → List ℕ → Bool → N → Type 0) (old new : N) (Runs : Lone → List Control → Type 0)
     (stopped : Bool) (number : ℕ) (cause : LoneCause) (l : Lone) : Type 0 where
   pub after : Lone
@@ -82,6 +87,7 @@ pub record StepsAlone {N : Type 0} (writes : N → ℕ → List ℕ → Bool →
   pub stopped_is : stopped ≡ is_none after.node
   pub runs : stopped ≡ false → Runs after frames
   pub none : stopped ≡ true → frames ≡ []
+  pub ready : asks_reset l cause ≡ true → stopped ≡ false → reset_refusal after.side ≡ None
   pub sure : List Write
   pub torn : List Write
   pub made : WereMade writes sure torn old stopped new

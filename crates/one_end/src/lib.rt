@@ -2,16 +2,21 @@
 //! line or a byte link. All of it is this project's own.
 #![tactic(auto)]
 
+mod activity;
+mod booting;
 pub mod laws;
 mod line;
 mod node;
+mod nodes;
 mod one_end;
 mod reading;
 mod stepping;
 mod writing;
 
+pub use booting::{NotBooted, boot_controller, boot_host};
 pub use line::LineReader;
 pub use node::{Came, Coming, LoneNode};
-pub use one_end::{OneEnd, begin, hear};
+pub use nodes::{LoneController, LoneHost};
+pub use one_end::{OneEnd, begin, hear, memory_of};
 pub use reading::{Brought, Reader};
 pub use writing::{Form, Output, write_out};

@@ -1,5 +1,5 @@
 //! A node with one link, alone.
-ghost use Rattle.std.specs.Prelude.{◌≡◌, [], List, ℕ, IsTrue, is_none, false};
+ghost use Rattle.std.specs.Prelude.{◌≡◌, ◌≤◌, [], List, ℕ, IsTrue, is_none, false};
 ghost use Rattle.swp_base.specs.Outside.{Rose};
 
 use swp_base::{FrameFault, Lpdu, Nv};
@@ -14,8 +14,6 @@ pub enum Coming {
     /// Time passes.
     #[default]
     Tick,
-    /// A reset of its link is asked for, with its own window.
-    Reset,
     /// Activation begins: a UICC has the identifier 0001.
     Start,
     /// Activation ends.
@@ -33,8 +31,11 @@ pub struct Came {
 
 /// A node with one link.
 pub trait LoneNode<N: Nv> {
+    ghost use Rattle.std.specs.Prelude.{None};
     ghost use Rattle.swp_base.specs.declared.control_frames.Control.{Control};
+    ghost use Rattle.link_machine.specs.Machine.{reset_refusal};
     ghost use Rattle.lone_laws.specs.alone.Lone.{Lone};
+    ghost use Rattle.lone_laws.specs.alone.Lone.LoneCause.{ResetComes};
     ghost use Rattle.lone_laws.specs.alone.Ends.{asks_reset};
     ghost use Rattle.one_end.specs.Running.{StepsAlone, HasSentFirst, cause_of};
 
@@ -55,12 +56,26 @@ pub trait LoneNode<N: Nv> {
         requires may { (l : Lone) × runs self.old l [] }
         ensures stepped { (l : Lone) → runs self.old l [] → StepsAlone N.writes (nv self.old) (nv self.new) (runs self.new)
             result.stopped number (cause_of coming.now) l }
+        ensures count { N.faults (nv self.old) ≤ N.faults (nv self.new) }
         ensures stopped { IsTrue result.stopped → Rose (N.faults (nv self.old)) (N.faults (nv self.new)) }
         ensures asks { (l : Lone) → runs self.old l [] → result.asks_reset ≡ asks_reset l (cause_of coming.now) };
+
+    /// Its link is reset, with its own window: its end is active, and doesn't wait. Every frame of what came before was fetched. Whether it
+    /// has lost its power.
+    fn reset(&mut self) -> bool
+        requires may { (l : Lone) × runs self.old l [] × (reset_refusal l.side ≡ None) }
+        ensures stepped { (l : Lone) → runs self.old l [] → reset_refusal l.side ≡ None → StepsAlone N.writes (nv self.old) (nv self.new)
+            (runs self.new) result number (ResetComes None) l }
+        ensures count { N.faults (nv self.old) ≤ N.faults (nv self.new) }
+        ensures stopped { IsTrue result → Rose (N.faults (nv self.old)) (N.faults (nv self.new)) };
 
     /// Fetches the next frame of its end; `None` where none is to go out.
     fn next_out(&mut self) -> Option<Lpdu>
         requires may { (l : Lone) × (frames : List Control) × runs self.old l frames }
         ensures sent { (l : Lone) (frames : List Control) → runs self.old l frames → HasSentFirst (runs self.new) l result frames }
         ensures nv { nv self.new ≡ nv self.old };
+
+    /// Its memory.
+    fn into_nv(self) -> N
+        ensures memory { result ≡ nv self };
 }

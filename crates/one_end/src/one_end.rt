@@ -1,5 +1,6 @@
 //! A node alone at the end of a link.
-ghost use Rattle.std.specs.Prelude.{◌≡◌, ◌==◌, ◌∷◌, ◌++◌, [], List, ℕ, map, false};
+ghost use Rattle.std.specs.Prelude.{◌≡◌, ◌==◌, ◌∷◌, ◌++◌, ◌≤◌, [], List, ℕ, map, false, IsTrue};
+ghost use Rattle.swp_base.specs.Outside.{Rose};
 ghost use Rattle.lone_laws.specs.alone.Lone.{Lone};
 ghost use Rattle.lone_laws.specs.alone.Ends.{byte_brings, first_comes};
 ghost use Rattle.one_end.specs.Reading.{causes_brought};
@@ -80,6 +81,8 @@ pub fn begin<N: Nv, T: LoneNode<N>>(
         → HasRun N.writes T.nv T.runs T.number content first result.0 result.1 [] out.new.items }
     ensures begun { (l : Lone) → T.runs node l [] → HasAnswered N.writes (T.nv node) (T.nv result.0.node) (IsAlone T.runs T.number result.0 [] result.1)
         (λ m. all_answered (form_named form) (record l { memory = m }) (first_comes (form_named form) T.number)) out.old.items out.new.items }
+    ensures count { N.faults (T.nv node) ≤ N.faults (T.nv result.0.node) }
+    ensures rose { IsTrue result.1 → Rose (N.faults (T.nv node)) (N.faults (T.nv result.0.node)) }
 {
     let mut node = node;
     let comings = first_comings(form, is_clf);
@@ -101,6 +104,8 @@ pub fn hear<N: Nv, T: LoneNode<N>>(end: &mut OneEnd<T>, byte: u8, out: &mut Outp
     ensures may { result ≡ false → (l : Lone) × (older : List ℕ) × StandsAlone T.runs T.number end.new l older }
     ensures run { (content bytes written : List ℕ) (first : N) → HasRun N.writes T.nv T.runs T.number content first end.old false bytes written
         → HasRun N.writes T.nv T.runs T.number content first end.new result (bytes ++ byte ∷ []) (written ++ out.new.items) }
+    ensures count { N.faults (T.nv end.old.node) ≤ N.faults (T.nv end.new.node) }
+    ensures rose { IsTrue result → Rose (N.faults (T.nv end.old.node)) (N.faults (T.nv end.new.node)) }
 {
     hear_byte(end, byte, out)
 }
@@ -114,7 +119,16 @@ fn hear_byte<N: Nv, T: LoneNode<N>>(end: &mut OneEnd<T>, byte: u8, out: &mut Out
         → HasAnswered N.writes (T.nv end.old.node) (T.nv end.new.node) (IsAlone T.runs T.number end.new (byte ∷ older) result)
         (λ m. all_answered (form_named end.old.form) (record l { memory = m }) (byte_brings (form_named end.old.form) T.number byte older))
         out.old.items out.new.items }
+    ensures count { N.faults (T.nv end.old.node) ≤ N.faults (T.nv end.new.node) }
+    ensures rose { IsTrue result → Rose (N.faults (T.nv end.old.node)) (N.faults (T.nv end.new.node)) }
 {
     let comings = comings_of(end.reader.hear(byte));
     answer_all(&mut end.node, end.form, end.is_clf, comings.as_slice(), out)
+}
+
+/// The memory of a node that has run.
+pub fn memory_of<N: Nv, T: LoneNode<N>>(end: OneEnd<T>) -> N
+    ensures { result ≡ T.nv end.node }
+{
+    end.node.into_nv()
 }

@@ -1,10 +1,13 @@
 //! A node alone does what comes to it.
-ghost use Rattle.std.specs.Prelude.{◌≡◌, ◌==◌, ◌≤◌, ◌+◌, ◌*◌, ◌++◌, [], List, ℕ, length, map};
+ghost use Rattle.std.specs.Prelude.{◌≡◌, ◌==◌, ◌≤◌, ◌+◌, ◌*◌, ◌++◌, [], List, ℕ, length, map, None, IsTrue};
+ghost use Rattle.swp_base.specs.Outside.{Rose};
 ghost use Rattle.swp_base.specs.declared.control_frames.Control.{Control};
+ghost use Rattle.link_machine.specs.Machine.{reset_refusal};
 ghost use Rattle.lone_laws.specs.alone.Lone.{Lone};
+ghost use Rattle.lone_laws.specs.alone.Lone.LoneCause.{ResetComes};
 ghost use Rattle.one_end.specs.Writing.{form_named};
 ghost use Rattle.lone_laws.specs.alone.Ends.{asks_reset};
-ghost use Rattle.one_end.specs.Running.{frames_written, cause_of, does_alone, answers_alone, all_answered, RunsYet, HasAnswered};
+ghost use Rattle.one_end.specs.Running.{frames_written, cause_of, does_alone, answers_alone, all_answered, RunsYet, RunsReady, HasAnswered};
 
 use crate::node::{Came, Coming, LoneNode};
 use crate::writing::{Form, Output, write_out};
@@ -49,16 +52,36 @@ fn step<N: Nv, T: LoneNode<N>>(
     requires role { (T.number == 0) ≡ is_clf }
     requires room { length out.old.items + 17 * 323 ≤ 44032 }
     ensures done { (l : Lone) → T.runs node.old l [] → HasAnswered N.writes (T.nv node.old) (T.nv node.new)
-        (RunsYet (T.runs node.new) result.stopped) (λ m. does_alone (form_named form) (record l { memory = m }) (cause_of coming.now)) out.old.items
-        out.new.items }
+        (RunsReady (T.runs node.new) result.stopped result.asks_reset)
+        (λ m. does_alone (form_named form) (record l { memory = m }) (cause_of coming.now)) out.old.items out.new.items }
     ensures asks { (l : Lone) → T.runs node.old l [] → result.asks_reset ≡ asks_reset l (cause_of coming.now) }
     ensures sized { length out.new.items ≤ length out.old.items + 17 * 323 }
+    ensures count { N.faults (T.nv node.old) ≤ N.faults (T.nv node.new) }
+    ensures rose { IsTrue result.stopped → Rose (N.faults (T.nv node.old)) (N.faults (T.nv node.new)) }
 {
     let came = node.comes(coming);
     if !came.stopped {
         send_out(node, form, is_clf, out);
     }
     came
+}
+
+/// The node's link is reset, and what it writes then is appended. Whether it has lost its power.
+fn reset<N: Nv, T: LoneNode<N>>(node: &mut T, form: Form, is_clf: bool, out: &mut Output) -> bool
+    requires may { (l : Lone) × T.runs node.old l [] × (reset_refusal l.side ≡ None) }
+    requires role { (T.number == 0) ≡ is_clf }
+    requires room { length out.old.items + 17 * 323 ≤ 44032 }
+    ensures done { (l : Lone) → T.runs node.old l [] → reset_refusal l.side ≡ None → HasAnswered N.writes (T.nv node.old) (T.nv node.new)
+        (RunsYet (T.runs node.new) result) (λ m. does_alone (form_named form) (record l { memory = m }) (ResetComes None)) out.old.items out.new.items }
+    ensures sized { length out.new.items ≤ length out.old.items + 17 * 323 }
+    ensures count { N.faults (T.nv node.old) ≤ N.faults (T.nv node.new) }
+    ensures rose { IsTrue result → Rose (N.faults (T.nv node.old)) (N.faults (T.nv node.new)) }
+{
+    let stopped = node.reset();
+    if !stopped {
+        send_out(node, form, is_clf, out);
+    }
+    stopped
 }
 
 /// This comes to the node, and then the reset that it asks for, if it does; what it writes then is appended. Whether it has lost its
@@ -77,6 +100,8 @@ pub(crate) fn answer<N: Nv, T: LoneNode<N>>(
         (RunsYet (T.runs node.new) result) (λ m. answers_alone (form_named form) (record l { memory = m }) (cause_of coming.now)) out.old.items
         out.new.items }
     ensures sized { length out.new.items ≤ length out.old.items + 34 * 323 }
+    ensures count { N.faults (T.nv node.old) ≤ N.faults (T.nv node.new) }
+    ensures rose { IsTrue result → Rose (N.faults (T.nv node.old)) (N.faults (T.nv node.new)) }
 {
     let came = step(node, form, is_clf, coming, out);
     if came.stopped {
@@ -85,7 +110,7 @@ pub(crate) fn answer<N: Nv, T: LoneNode<N>>(
     if !came.asks_reset {
         return false;
     }
-    step(node, form, is_clf, &Coming::Reset, out).stopped
+    reset(node, form, is_clf, out)
 }
 
 /// These come to the node, one after another, until it loses its power; what it writes then is appended. Whether it has lost its power.
@@ -103,6 +128,8 @@ pub(crate) fn answer_all<N: Nv, T: LoneNode<N>>(
     ensures done { (l : Lone) → T.runs node.old l [] → HasAnswered N.writes (T.nv node.old) (T.nv node.new)
         (RunsYet (T.runs node.new) result) (λ m. all_answered (form_named form) (record l { memory = m }) (map cause_of comings.now)) out.old.items
         out.new.items }
+    ensures count { N.faults (T.nv node.old) ≤ N.faults (T.nv node.new) }
+    ensures rose { IsTrue result → Rose (N.faults (T.nv node.old)) (N.faults (T.nv node.new)) }
 {
     for coming in comings {
         if answer(node, form, is_clf, coming, out) {

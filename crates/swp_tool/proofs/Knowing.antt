@@ -31,7 +31,8 @@ use Rattle.told_laws.proofs.Coming.{told_in}
 use Rattle.swp_tool.specs.declared.status.Status.{Status}
 use Rattle.swp_tool.specs.declared.status.Status.TheVariants as status
 use Rattle.swp_tool.specs.Schedules.{Stop, Too_many, Schedule, nothing_read, misread_behind, with_played, with_said, with_line, with_lines, ended, schedule_of}
-use Rattle.swp_tool.specs.Schedules.{is_settling, as_played, played_line}
+use Rattle.lines_told.specs.Below.{is_settling}
+use Rattle.swp_tool.specs.Schedules.{as_played, played_line}
 use Rattle.swp_tool.specs.Transcripts.{step_text, transcript_of, done_line, whole_text, IsTranscriptOf, IsTextOf, TellsEntries, TellsHistory}
 use Rattle.swp_tool.specs.Pieces.{IsCompleteTranscript, schedule_read}
 use Rattle.swp_tool.specs.Runs.{AppendsText, Replayed}

@@ -29,7 +29,8 @@ use Rattle.told_laws.proofs.nodes.Schedules.{nodes_told_in}
 use Rattle.swp_tool.specs.Transcripts.{done_line}
 use Rattle.swp_tool.specs.either.Transcripts.{nodes_history, played_text, TellsPlayed}
 use Rattle.swp_tool.proofs.Knowing.{tells_all}
-use Rattle.swp_tool.specs.Schedules.{Stop, Too_many, Schedule, nothing_read, with_played, is_settling, ended}
+use Rattle.lines_told.specs.Below.{is_settling}
+use Rattle.swp_tool.specs.Schedules.{Stop, Too_many, Schedule, nothing_read, with_played, ended}
 use Rattle.swp_tool.specs.either.Schedules.{misread_there, unless_settling, said_there, and_said, and_line, and_lines, schedule_in}
 
 -- ## What is read of a line

@@ -18,7 +18,8 @@ use Rattle.schedule_text.specs.declared.read.Read.TheVariants as read
 use Rattle.swp_tool.specs.declared.replay.Replay.{Replay}
 use Rattle.swp_tool.specs.declared.replay.Halt.{Halt}
 use Rattle.swp_tool.specs.declared.replay.Halt.TheVariants as halt
-use Rattle.swp_tool.specs.Schedules.{Schedule, misread_behind, with_played, with_said, is_settling}
+use Rattle.lines_told.specs.Below.{is_settling}
+use Rattle.swp_tool.specs.Schedules.{Schedule, misread_behind, with_played, with_said}
 use Rattle.swp_tool.specs.Transcripts.{transcript_of}
 use Rattle.swp_tool.proofs.Knowing.{bare_line}
 use Rattle.swp_tool.specs.Replays.{Runs, IsAt, WasStepped, HasPlayed, halt_of, HaltsOn, HaltsBefore}

@@ -1,10 +1,9 @@
 -- The schedule that bytes are: the lines below its header, or the first line at which they stop being one that is played.
-use Rattle.std.specs.Prelude.{ℕ, ◌+◌, ◌==◌, Bool, true, false, if◌then◌else◌, List, [], ◌∷◌, ◌++◌, Option, Some, None, Result, Ok, Err}
+use Rattle.std.specs.Prelude.{ℕ, ◌+◌, ◌==◌, if◌then◌else◌, List, [], ◌∷◌, ◌++◌, Option, Some, None, Result, Ok, Err}
 use Rattle.std.specs.List.{fold}
 use Rattle.std.specs.Str.Lines.{lines}
 use Rattle.trace_model.specs.declared.line.Header.{Header}
 use Rattle.trace_model.specs.declared.line.Line.{Line}
-use Rattle.trace_model.specs.declared.line.Line.TheVariants as saying
 use Rattle.schedule_text.specs.declared.fault.LineFault.{LineFault}
 use Rattle.schedule_text.specs.declared.fault.LineFault.TheVariants as fault
 use Rattle.schedule_text.specs.declared.read.Read.{Read}
@@ -12,6 +11,7 @@ use Rattle.schedule_text.specs.declared.read.Read.TheVariants as read
 use Rattle.schedule_text.specs.Lines.{line_of}
 use Rattle.history.specs.Steps.{bare_link}
 use Rattle.history.specs.Follows.{host_of, link_after_lines, misread}
+use Rattle.lines_told.specs.Below.{is_settling}
 
 -- why bytes stop being a schedule: a line is outside the forms, it damages a frame so that another one is read in its place, or
 -- one line more begins than a schedule may have
@@ -52,11 +52,6 @@ with_said s (Ok read.Skip) = record s { count = s.count + 1 }
 with_said s (Ok (read.Header header)) = record s { header = Some header; count = s.count + 1 }
 with_said s (Ok (read.Line line)) = with_played s line (misread_behind s.header s.lines line)
 with_said s (Ok read.NoMemory) = s
-
--- a line that lets the links of a world settle
-abbrev pub is_settling : Line → Bool
-is_settling (saying.Settle rounds) = true
-is_settling said = false
 
 -- what is read of a line, where it is played: worlds of nodes aren't yet, nor does a world settle, so these are unknown words
 abbrev pub as_played : Result Read LineFault → Result Read LineFault

@@ -3,7 +3,8 @@ ghost use Rattle.std.specs.Prelude.{◌≡◌, ◌+◌, ◌<◌, ◌++◌, ◌�
 ghost use Rattle.trace_model.specs.declared.line.Header.{Header};
 ghost use Rattle.trace_model.specs.declared.line.Line.{Line};
 ghost use Rattle.trace_model.specs.Lines.{IsHeader, IsLineOf};
-ghost use Rattle.swp_tool.specs.Schedules.{Schedule, with_line, with_said, nothing_read, is_settling};
+ghost use Rattle.lines_told.specs.Below.{is_settling};
+ghost use Rattle.swp_tool.specs.Schedules.{Schedule, with_line, with_said, nothing_read};
 ghost use Rattle.swp_tool.specs.Replays.{Runs, WasStepped, HasPlayed, HasFew, HaltsOn, HaltsBefore, HaltsAt};
 ghost use Rattle.swp_tool.specs.Transcripts.{transcript_of, done_line};
 ghost use Rattle.history.specs.Histories.{History};

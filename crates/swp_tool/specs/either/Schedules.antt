@@ -9,20 +9,8 @@ use Rattle.schedule_text.specs.declared.fault.LineFault.TheVariants as fault
 use Rattle.schedule_text.specs.declared.read.Read.{Read}
 use Rattle.schedule_text.specs.declared.read.Read.TheVariants as read
 use Rattle.schedule_text.specs.Lines.{line_of}
-use Rattle.history.specs.Steps.{bare_link}
-use Rattle.history.specs.Follows.{host_of, link_after_lines, misread}
-use Rattle.node_machine.specs.world.World.{new_world}
-use Rattle.node_machine.specs.world.Lines.{misread_in}
-use Rattle.node_machine.specs.world.NodeHistories.{world_after}
-use Rattle.swp_tool.specs.Schedules.{Stop, AtFault, Too_many, Schedule, nothing_read, most_lines, with_played, is_settling, ended}
-
--- The frame that is read in place of another, where a line behind these damages that one so that its CRC doesn't show it: on the link of a
--- bare world, or in a world of nodes.
-abbrev pub misread_below : Header → List Line → Line → Option (List ℕ)
-misread_below header before line =
-    if header.hci
-    then misread_in (world_after (new_world header.hosts.items) before) line
-    else misread (link_after_lines (host_of header) bare_link before) line
+use Rattle.lines_told.specs.Below.{is_settling, misread_below}
+use Rattle.swp_tool.specs.Schedules.{Stop, AtFault, Too_many, Schedule, nothing_read, most_lines, with_played, ended}
 
 -- before a header no line is played
 abbrev pub misread_there : Option Header → List Line → Line → Option (List ℕ)

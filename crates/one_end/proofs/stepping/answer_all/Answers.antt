@@ -12,6 +12,7 @@ loop-coming-init g c = record {
   some = c.requires.may;
   done = λ k on. none_came g.N.Nv.writes (form_named c.args.form) (g.T.LoneNode.runs c.args.node.now) k c.args.out.now.items on
       (g.T.LoneNode.live c.args.node.now k [] on);
+  counted = omega arith;
   sized = omega (arith, c.requires.room);
 }
 
@@ -24,25 +25,23 @@ answer-requires g c =
       room = omega (arith, few, c.loop-coming.invariant.sized, c.loop-coming-test.true);
     }
 
-pub returns-then-answer : goal.returns-then-answer
-returns-then-answer g c = record {
-  done = λ l runs.
-      let i : ℕ = c.loop-coming.coming-index in
-      let cs = c.args.comings.now in
-      let x = c.coming-item.result in
-      let F : Bool → Lone → Type 0 = RunsYet (g.T.LoneNode.runs c.answer.new.node) in
-      let one = one_more g.N.Nv.writes (form_named c.args.form) (g.T.LoneNode.runs c.loop-coming.node) (g.T.LoneNode.runs c.answer.new.node)
-      (map cause_of (take i cs)) (cause_of x) l (c.loop-coming.invariant.done l runs)
-      (λ k on. subst (λ s. HasAnswered g.N.Nv.writes (g.T.LoneNode.nv c.loop-coming.node) (g.T.LoneNode.nv c.answer.new.node) (F s)
-      (λ m. answers_alone (form_named c.args.form) (over k m) (cause_of x)) c.loop-coming.out.items c.answer.new.out.items) c.if-answer.true
-      (c.answer.ensures.done k on)) in
-      let all = stopped_with g.N.Nv.writes (form_named c.args.form) (g.T.LoneNode.runs c.answer.new.node)
-      (map cause_of (take i cs) ++ cause_of x ∷ []) (map cause_of (drop (i + 1) cs)) l one in
-      subst (λ causes. HasAnswered g.N.Nv.writes (g.T.LoneNode.nv c.args.node.now) (g.T.LoneNode.nv c.answer.new.node) (F true)
-      (λ m. all_answered (form_named c.args.form) (over l m) causes) c.args.out.now.items c.answer.new.out.items)
-      (ap (λ first. first ++ map cause_of (drop (i + 1) cs)) (sym (next_of cause_of cs i x c.loop-coming-test.true c.coming-item.is))
-      ∙ parts_of cause_of cs (i + 1)) all;
-}
+pub returns-then-answer-clause-done : goal.returns-then-answer-clause-done
+returns-then-answer-clause-done g c l runs =
+    let i : ℕ = c.loop-coming.coming-index in
+    let cs = c.args.comings.now in
+    let x = c.coming-item.result in
+    let F : Bool → Lone → Type 0 = RunsYet (g.T.LoneNode.runs c.answer.new.node) in
+    let one = one_more g.N.Nv.writes (form_named c.args.form) (g.T.LoneNode.runs c.loop-coming.node) (g.T.LoneNode.runs c.answer.new.node)
+    (map cause_of (take i cs)) (cause_of x) l (c.loop-coming.invariant.done l runs)
+    (λ k on. subst (λ s. HasAnswered g.N.Nv.writes (g.T.LoneNode.nv c.loop-coming.node) (g.T.LoneNode.nv c.answer.new.node) (F s)
+    (λ m. answers_alone (form_named c.args.form) (over k m) (cause_of x)) c.loop-coming.out.items c.answer.new.out.items) c.if-answer.true
+    (c.answer.ensures.done k on)) in
+    let all = stopped_with g.N.Nv.writes (form_named c.args.form) (g.T.LoneNode.runs c.answer.new.node)
+    (map cause_of (take i cs) ++ cause_of x ∷ []) (map cause_of (drop (i + 1) cs)) l one in
+    subst (λ causes. HasAnswered g.N.Nv.writes (g.T.LoneNode.nv c.args.node.now) (g.T.LoneNode.nv c.answer.new.node) (F true)
+    (λ m. all_answered (form_named c.args.form) (over l m) causes) c.args.out.now.items c.answer.new.out.items)
+    (ap (λ first. first ++ map cause_of (drop (i + 1) cs)) (sym (next_of cause_of cs i x c.loop-coming-test.true c.coming-item.is))
+    ∙ parts_of cause_of cs (i + 1)) all
 
 pub loop-coming-preserved : goal.loop-coming-preserved
 loop-coming-preserved g c =
@@ -66,15 +65,14 @@ loop-coming-preserved g c =
           subst (λ causes. HasAnswered g.N.Nv.writes (g.T.LoneNode.nv c.args.node.now) (g.T.LoneNode.nv c.answer.new.node) (F false)
           (λ m. all_answered (form_named c.args.form) (over l m) causes) c.args.out.now.items c.answer.new.out.items)
           (sym (next_of cause_of cs i x c.loop-coming-test.true c.coming-item.is)) one;
+      counted = omega (arith, c.loop-coming.invariant.counted, c.answer.ensures.count);
       sized = omega (arith, c.loop-coming.invariant.sized, c.answer.ensures.sized);
     }
 
-pub returns : goal.returns
-returns g c = record {
-  done = λ l runs.
-      let cs = c.args.comings.now in
-      let most : c.loop-coming.coming-index ≡ length cs = omega (arith, c.loop-coming-test.false, c.loop-coming.auto.coming-index-end) in
-      subst (λ causes. HasAnswered g.N.Nv.writes (g.T.LoneNode.nv c.args.node.now) (g.T.LoneNode.nv c.loop-coming.node)
-      (RunsYet (g.T.LoneNode.runs c.loop-coming.node) false) (λ m. all_answered (form_named c.args.form) (over l m) causes) c.args.out.now.items
-      c.loop-coming.out.items) (ap (map cause_of) (take_all c.loop-coming.coming-index cs c.loop-coming-test.false)) (c.loop-coming.invariant.done l runs);
-}
+pub returns-clause-done : goal.returns-clause-done
+returns-clause-done g c l runs =
+    let cs = c.args.comings.now in
+    let most : c.loop-coming.coming-index ≡ length cs = omega (arith, c.loop-coming-test.false, c.loop-coming.auto.coming-index-end) in
+    subst (λ causes. HasAnswered g.N.Nv.writes (g.T.LoneNode.nv c.args.node.now) (g.T.LoneNode.nv c.loop-coming.node)
+    (RunsYet (g.T.LoneNode.runs c.loop-coming.node) false) (λ m. all_answered (form_named c.args.form) (over l m) causes) c.args.out.now.items
+    c.loop-coming.out.items) (ap (map cause_of) (take_all c.loop-coming.coming-index cs c.loop-coming-test.false)) (c.loop-coming.invariant.done l runs)

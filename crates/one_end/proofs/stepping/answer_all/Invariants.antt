@@ -12,5 +12,6 @@ invariant-loop-coming g l = record {
   done : (k : Lone) → g.T.LoneNode.runs l.fn.node k [] → HasAnswered g.N.Nv.writes (g.T.LoneNode.nv l.fn.node) (g.T.LoneNode.nv l.node)
       (RunsYet (g.T.LoneNode.runs l.node) false) (λ m. all_answered (form_named l.fn.form) (over k m) (map cause_of (take l.coming-index l.fn.comings)))
       l.fn.out.items l.out.items;
+  counted : g.N.Nv.faults (g.T.LoneNode.nv l.fn.node) ≤ g.N.Nv.faults (g.T.LoneNode.nv l.node);
   sized : length l.out.items ≤ l.coming-index * 10982;
 }
