@@ -24,10 +24,10 @@ use Rattle.drawn_schedule.proofs.StepLemmas.{no_steps}
 
 -- ## Lines
 
-abbrev IsGood : Line → Type 0
+abbrev pub IsGood : Line → Type 0
 IsGood l = MayFollow the_header l × (length (line_text l) ≤ 9000)
 
-abbrev AreGood : List Line → Type 0
+abbrev pub AreGood : List Line → Type 0
 AreGood lines = AllByRecursion IsGood lines
 
 known : (h : ℕ) → 1 ≤ h → h ≤ 3 → Contains (1 ∷ 2 ∷ 3 ∷ []) h
@@ -186,7 +186,7 @@ good_steps n (suc k) =
       tt,
     )
 
-good_lines : (n : ℕ) → AreGood (drawn_lines n)
+pub good_lines : (n : ℕ) → AreGood (drawn_lines n)
 good_lines n = both first_lines _ good_first (both (so_many_steps n 2000).lines (line.Tables 0 ∷ []) (good_steps n 2000) (good_tables, tt))
 
 -- ## They are read

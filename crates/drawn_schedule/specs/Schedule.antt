@@ -1,10 +1,11 @@
 -- A schedule of a world of nodes that is drawn from a number, line by line.
-use Rattle.std.specs.Prelude.{◌≡◌, Ok, ℕ, zero, suc, ◌+◌, ◌*◌, ◌/◌, ◌%◌, ◌^◌, ◌==◌, nat_le, true, false, if◌then◌else◌, List, [], ◌∷◌, ◌++◌, None, Some}
+use Rattle.std.specs.Prelude.{◌≡◌, Ok, ℕ, zero, suc, ◌+◌, ◌*◌, ◌/◌, ◌%◌, ◌^◌, ◌==◌, nat_le, Bool, true, false, if◌then◌else◌, List, [], ◌∷◌, ◌++◌, None, Some}
 use Rattle.std.specs.List.{flat_map}
 use Rattle.trace_model.specs.declared.line.End.{End}
 use Rattle.trace_model.specs.declared.line.Header.{Header}
 use Rattle.trace_model.specs.declared.line.Line.{Line}
 use Rattle.trace_model.specs.declared.line.Line.TheVariants as line
+use Rattle.trace_model.specs.Lines.{MayFollow}
 use Rattle.schedule_text.specs.declared.read.Read.TheVariants as read
 use Rattle.schedule_text.specs.Words.{spaced}
 use Rattle.schedule_text.specs.Entries.{header_words, line_text}
@@ -107,3 +108,15 @@ text_of_schedule header lines = spaced (header_words header) ++ (10 ∷ lines_te
 -- what is written of a line is read as it
 abbrev pub IsReadAsWritten : Line → Type 0
 IsReadAsWritten l = line_of (Some the_header) (line_text l) ≡ Ok (read.Line l)
+
+-- ## How it is played
+
+-- it damages no frame, and lets no world settle
+abbrev pub is_harmless : Line → Bool
+is_harmless (line.Damage at places) = false
+is_harmless (line.Settle rounds) = false
+is_harmless _ = true
+
+-- a line that may stand below the header, and is harmless
+abbrev pub IsHarmless : Line → Type 0
+IsHarmless l = MayFollow the_header l × (is_harmless l ≡ true)

@@ -8,8 +8,12 @@ ghost use Rattle.schedule_text.specs.Words.{spaced};
 ghost use Rattle.schedule_text.specs.Lines.{line_of};
 ghost use Rattle.schedule_text.specs.Entries.{header_words};
 ghost use Rattle.drawn_schedule.specs.Schedule.{the_header, first_lines, step_line, so_many_steps, drawn_lines, drawn_line, lines_text, text_of_schedule};
-ghost use Rattle.drawn_schedule.specs.Schedule.{next_number, drawn_of, IsReadAsWritten};
+ghost use Rattle.drawn_schedule.specs.Schedule.{next_number, drawn_of, IsReadAsWritten, IsHarmless};
+ghost use Rattle.trace_model.specs.Lines.{IsNodeHeader};
 
+mod lines;
+
+pub use lines::draw_lines;
 use std::alloc::{AllocError, Global};
 use swp_base::NoMemory;
 
@@ -76,7 +80,7 @@ const OPENING: &[u8] = b"swp 1 hci 01 02 03\n\
     deliver 02c\n";
 
 /// How many steps there are (this project's own).
-const STEPS: u32 = 2000;
+pub(crate) const STEPS: u32 = 2000;
 
 /// Appends the text of a schedule of 2,061 lines, each with its LF: three hosts come up, a pipe is made between two of them, 2,000
 /// steps are drawn from `n`, and the tables of the controller are told. Where there is no memory for all of it, `out` stays as it
@@ -128,7 +132,7 @@ fn append_steps(n: u32, text: &mut Vec<u8>) -> Result<(), AllocError>
 }
 
 /// The number behind this one in the row of draws.
-fn next(x: u64) -> u64
+pub(crate) fn next(x: u64) -> u64
     ensures { result ≡ next_number x }
 {
     let product = u128::from(x) * 6_364_136_223_846_793_005 + 1_442_695_040_888_963_407;
@@ -136,7 +140,7 @@ fn next(x: u64) -> u64
 }
 
 /// What is drawn of a number, below `below`.
-fn drawn(x: u64, below: u8) -> u8
+pub(crate) fn drawn(x: u64, below: u8) -> u8
     requires { 0 < below }
     ensures value { result ≡ drawn_of x % below }
     ensures low { result < below }
@@ -174,6 +178,12 @@ fn append_text(piece: &[u8], text: &mut Vec<u8>) -> Result<(), AllocError>
 {
     text.extend_from_slice(piece)
 }
+
+/// The lines of such a schedule may stand below its header, which is one of nodes, and none of them damages a frame or lets a world settle.
+pub fn drawn_lines_may_be_played()
+    ensures header { IsNodeHeader the_header }
+    ensures lines { (n : ℕ) → AllByRecursion IsHarmless (drawn_lines n) }
+{}
 
 /// The lines of such a schedule are read as what they say: the header, and 2,060 lines that may stand below it.
 pub fn drawn_lines_are_read()
