@@ -1,0 +1,101 @@
+#!/usr/bin/env python3
+"""Runs `replay` while the outside fails, and says what each run answered: bench/hostile.py [--allocations N] [NAME ..].
+
+For each schedule examples/NAME.schedule with its transcript: each read in turn fails, each write in turn fails, and the schedule comes a byte a
+read. With --allocations each of the first N allocations of the program is refused in turn, which takes half a minute each. It wants the program that
+the gate built, or one of ./swp-build, `strace`, and for allocations the toolchain. It fails where an answer isn't one of those that may come:
+a read that fails leaves the text of whole lines, and so does an allocation that is refused; a write that fails leaves a front of the transcript."""
+
+import os
+import subprocess
+import sys
+
+ROOT = os.path.dirname(os.path.dirname(os.path.abspath(__file__)))
+PROGRAM = os.path.join(ROOT, "crates", "swp", "out", "swp")
+MOST_CALLS = 10_000
+DONE, READ_FAULT, WRITE_FAULT, NO_MEMORY = 0, 5, 6, 8
+
+
+def example(name, ending):
+    with open(os.path.join(ROOT, "examples", f"{name}.{ending}"), "rb") as file:
+        return file.read()
+
+
+def fronts_of_whole_lines(transcript):
+    """The texts of the lines of a schedule up to each of them: the transcript up to each line that repeats one, or to its last one."""
+    fronts, text = {b""}, b""
+    for line in transcript.splitlines(keepends=True):
+        if line.startswith((b"> ", b"done ")):
+            fronts.add(text)
+        text += line
+    return fronts | {text}
+
+
+def failing(call, nth, schedule):
+    """A replay of which the nth read or write fails."""
+    inject = f"inject={call}:error=EIO:when={nth}"
+    words = ["strace", "-o", "/dev/null", "-e", f"trace={call}", "-e", inject, PROGRAM, "replay"]
+    return subprocess.run(words, input=schedule, capture_output=True)
+
+
+def each_call_fails(call, wanted, schedule, transcript, may_come):
+    for nth in range(1, MOST_CALLS):
+        run = failing(call, nth, schedule)
+        if run.returncode == DONE and run.stdout == transcript:
+            print(f"  {nth - 1} calls of {call}: status {wanted}, each time")
+            return
+        # the fault that stops a run is told on standard error, by a write of its own
+        if run.returncode != wanted or not may_come(run.stdout):
+            sys.exit(f"{call} {nth}: status {run.returncode}, {len(run.stdout)} bytes")
+    sys.exit(f"{call}: no end of the calls")
+
+
+def byte_by_byte(schedule, transcript):
+    """A schedule of which each read gives one byte: a pipe of packets keeps them apart."""
+    back, front = os.pipe2(os.O_DIRECT)
+    with subprocess.Popen([PROGRAM, "replay"], stdin=back, stdout=subprocess.PIPE) as run:
+        os.close(back)
+        if os.fork() == 0:
+            for byte in schedule:
+                os.write(front, bytes([byte]))
+            os._exit(0)
+        os.close(front)
+        told = run.stdout.read()
+    if told != transcript:
+        sys.exit("a byte a read: another transcript")
+    print(f"  {len(schedule)} reads of a byte: the transcript")
+
+
+def refused_allocations(most, schedule, transcript):
+    fronts = fronts_of_whole_lines(transcript)
+    for nth in range(1, most + 1):
+        words = ["rt", "try", "--fail-alloc", str(nth), "--", "replay"]
+        run = subprocess.run(words, input=schedule, capture_output=True, cwd=os.path.join(ROOT, "crates", "swp"))
+        # the toolchain's own lines stand behind the program's
+        told = b"".join(x for x in run.stdout.splitlines(keepends=True) if not x.startswith((b"allocations: ", b"checked: ", b"run=")))
+        print(f"  allocation {nth}: status {run.returncode}, {len(told)} bytes", flush=True)
+        if not (
+            (run.returncode == DONE and told == transcript)
+            or (run.returncode == NO_MEMORY and told in fronts)
+            or (run.returncode == WRITE_FAULT and transcript.startswith(told))
+        ):
+            sys.exit(f"allocation {nth}: an answer that may not come")
+
+
+def main():
+    words = sys.argv[1:]
+    allocations = 0
+    if words[:1] == ["--allocations"]:
+        allocations = int(words[1])
+        words = words[2:]
+    for name in words or ["one_message"]:
+        schedule, transcript = example(name, "schedule"), example(name, "transcript")
+        print(name)
+        each_call_fails("read", READ_FAULT, schedule, transcript, lambda told: told in fronts_of_whole_lines(transcript))
+        each_call_fails("write", WRITE_FAULT, schedule, transcript, transcript.startswith)
+        byte_by_byte(schedule, transcript)
+        refused_allocations(allocations, schedule, transcript)
+
+
+if __name__ == "__main__":
+    main()
