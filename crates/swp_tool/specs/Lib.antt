@@ -8,5 +8,4 @@ pub mod Records
 pub mod Decodings
 pub mod Taps
 pub mod Images
-pub mod either
 pub mod Ends

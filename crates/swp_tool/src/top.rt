@@ -2,10 +2,10 @@
 ghost use Rattle.std.specs.Prelude.{◌≡◌, ◌≢◌, ◌≤◌, ◌<◌, ◌+◌, ◌++◌, ◌∷◌, ◌↔◌, ◌⊎◌, [], List, ℕ, Bool, length, map, string_bytes, codes, Some, None};
 ghost use Rattle.std.specs.Prelude.{IsTrue, OnOk, OnErr, IfErr, Ok, Err, take, true, false};
 ghost use Rattle.swp_base.specs.Outside.{Rose};
-ghost use Rattle.swp_tool.specs.Schedules.{Stop, schedule_of};
+ghost use Rattle.swp_tool.specs.Schedules.{Stop, schedule_in};
 ghost use Rattle.swp_tool.specs.Runs.{status_of, status_at, AppendsText, Replayed, IsUnderWay, IsReplay, IsDecode, IsTap, IsTables, AskForSomething};
 ghost use Rattle.swp_tool.specs.Runs.{IsOfReplay};
-ghost use Rattle.swp_tool.specs.Transcripts.{TellsHistory};
+ghost use Rattle.swp_tool.specs.Transcripts.{TellsPlayed};
 ghost use Rattle.swp_tool.specs.Images.{Told, IsOfTables};
 ghost use Rattle.hci_store.specs.Image.{image_fault};
 ghost use Rattle.nv_journal.specs.declared.JournalFault.{JournalFault as Bad};
@@ -45,13 +45,15 @@ pub fn run<S: Source, K: Sink, N: Nv + Drop>(
     requires { N.capacity nv ≡ 65536 }
 
     // Why the run ended and what was read and written, for a source that tells what it has left. Only the equation about the
-    // bytes written asks for a sink that tells what it holds.
+    // bytes written asks for a sink that tells what it holds. What a replay that is done has written is the transcript of a
+    // legal history (`IsLegal`), of one link or of nodes, that follows the whole schedule; a replay that ends before has
+    // written that of one that follows lines before, or a front of such a text where a write failed.
     ensures replayed { IsReplay (map string_bytes words.now) → IsTrue S.tells →
         Replayed K.tells result.status (S.left source.old) (S.left source.new) (K.written sink.old) (K.written sink.new) }
 
     // The text of a replay that is done tells what became of its schedule: from the text its entries are known.
     ensures known { IsReplay (map string_bytes words.now) → IsTrue S.tells → result.status ≡ Status.Done →
-        AppendsText K.tells (TellsHistory (schedule_of (S.left source.old))) (K.written sink.old) (K.written sink.new) }
+        AppendsText K.tells (TellsPlayed (schedule_in (S.left source.old))) (K.written sink.old) (K.written sink.new) }
 
     ensures decoded { IsDecode (map string_bytes words.now) → IsTrue S.tells →
         DecodedBy K.tells result.status (S.left source.old) (S.left source.new) (K.written sink.old) (K.written sink.new) }
@@ -89,15 +91,15 @@ pub fn run<S: Source, K: Sink, N: Nv + Drop>(
 
     // With a whole schedule and no fault of the outside, a replay is done, unless there is no memory.
     ensures complete { IsReplay (map string_bytes words.now) → IsTrue S.tells →
-        (schedule_of (S.left source.old)).stop ≡ None →
+        (schedule_in (S.left source.old)).stop ≡ None →
         ¬ Rose (S.faults source.old) (S.faults source.new) → ¬ Rose (K.faults sink.old) (K.faults sink.new) →
         (result.status ≡ Status.Done) ⊎ (result.status ≡ Status.NoMemory) }
 
     // A schedule that stops is refused at the line where it does, unless there is no memory or the outside failed before.
     ensures refused { IsReplay (map string_bytes words.now) → IsTrue S.tells →
-        (why : Stop) → (schedule_of (S.left source.old)).stop ≡ Some why →
+        (why : Stop) → (schedule_in (S.left source.old)).stop ≡ Some why →
         ¬ Rose (S.faults source.old) (S.faults source.new) → ¬ Rose (K.faults sink.old) (K.faults sink.new) →
-        (result.status ≡ status_at why (schedule_of (S.left source.old)).count) ⊎ (result.status ≡ Status.NoMemory) }
+        (result.status ≡ status_at why (schedule_in (S.left source.old)).count) ⊎ (result.status ≡ Status.NoMemory) }
 
     // With a record that isn't too long and no fault of the outside, a decoding is done.
     ensures complete_record { IsDecode (map string_bytes words.now) → IsTrue S.tells →
