@@ -8,4 +8,6 @@ pub mod Playing
 pub mod Recording
 pub mod Knowing
 pub mod Hearing
+pub mod Alone
+pub mod Asking
 mod NodeExamples

@@ -6,6 +6,7 @@ use Rattle.swp_tool.specs.declared.status.Status.TheVariants as status
 use Rattle.swp_tool.specs.declared.replay.Halt.{Halt}
 use Rattle.swp_tool.specs.declared.replay.Halt.TheVariants as halt
 use Rattle.swp_tool.specs.Schedules.{Stop, AtFault, AtMisread, Too_many}
+use Rattle.swp_tool.specs.Ends.{AskForAnEnd}
 use Rattle.swp_tool.specs.Transcripts.{IsDoneText, StopsWithText}
 use Rattle.swp_tool.specs.Pieces.{HasRead, IsFrontTranscript, IsWholeTranscript, IsRunning}
 
@@ -104,4 +105,4 @@ IsTables words = words ≡ codes "tables" ∷ []
 
 -- the words that ask for something
 abbrev pub AskForSomething : List (List ℕ) → Type 0
-AskForSomething words = IsReplay words ⊎ (IsDecode words ⊎ (IsTables words ⊎ (IsTap true words ⊎ IsTap false words)))
+AskForSomething words = IsReplay words ⊎ (IsDecode words ⊎ (IsTables words ⊎ (IsTap true words ⊎ (IsTap false words ⊎ AskForAnEnd words))))

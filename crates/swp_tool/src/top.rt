@@ -11,14 +11,19 @@ ghost use Rattle.hci_store.specs.Image.{image_fault};
 ghost use Rattle.nv_journal.specs.declared.JournalFault.{JournalFault as Bad};
 ghost use Rattle.swp_tool.specs.Records.{most_bytes, IsOfRecord};
 ghost use Rattle.swp_tool.specs.Decodings.{DecodedBy};
+ghost use Rattle.lone_laws.specs.alone.Ends.{EndForm};
+ghost use Rattle.one_end.specs.Writing.{form_named};
+ghost use Rattle.swp_tool.specs.Ends.{EndedSo, IsOfEndWord, IsEndCommand, AskForAnEnd};
 ghost use Rattle.swp_tool.specs.Taps.{TappedBy, IsOfTap};
 ghost use Rattle.swp_tool.specs.Pieces.{HasRead, IsReading, IsReadAhead, bytes_left};
 
 use crate::decoding::decode;
+use crate::lone::{EndAsked, run_end};
 use crate::replaying::replay;
 use crate::status::Status;
 use crate::tables::tables;
 use crate::tapping::tap;
+use one_end::Form;
 use std::alloc::Global;
 use swp_base::{Nv, Sink, Source};
 
@@ -30,11 +35,13 @@ pub struct Ended<N> {
     pub nv: N,
 }
 
-/// Runs the program: the words are those behind its name. Of its commands five are built. `replay` reads a schedule to its end,
+/// Runs the program: the words are those behind its name. Of its commands six are built. `replay` reads a schedule to its end,
 /// to its first fault, or to a line that damages a frame so that another one is read, and writes its transcript. `decode` reads
 /// the record of a line and writes a line of text for each frame or fault in it. `tap bare` and `tap hci` read such a record of a
 /// link, which is bare or not, and write a line of text for each message that one of its ends got. `tables` writes what the
-/// memory keeps, and reads nothing else. The memory is handed back; its content is as it was.
+/// memory keeps, and reads nothing else. `end` runs one node over the memory, the controller or host 02, at its end of a link whose
+/// other end is live: it takes what comes on the link, the record of a line or a byte link, and writes what goes out. The memory is
+/// handed back; but for `end` its content is as it was.
 pub fn run<S: Source, K: Sink, N: Nv + Drop>(
     alloc: Global,
     words: &[String],
@@ -62,6 +69,12 @@ pub fn run<S: Source, K: Sink, N: Nv + Drop>(
     ensures tapped { (bare : Bool) → IsTap bare (map string_bytes words.now) → IsTrue S.tells →
         TappedBy bare K.tells result.status (S.left source.old) (S.left source.new) (K.written sink.old) (K.written sink.new) }
 
+    // An end takes the bytes read as what comes on its link, and writes what a node does that boots from the memory handed in, by the
+    // rules of a node alone. The memory is then so as that node left it.
+    ensures ended { (is_clf : Bool) (form : EndForm) → IsEndCommand is_clf form (map string_bytes words.now) → IsTrue S.tells → IsTrue N.tells →
+        EndedSo N.writes N.content K.tells form is_clf nv result.nv result.status (S.left source.old) (S.left source.new)
+        (K.written sink.old) (K.written sink.new) }
+
     // Other words are refused exactly, and then nothing is read or written.
     ensures bad_words { (result.status ≡ Status.BadWords) ↔ ¬ AskForSomething (map string_bytes words.now) }
     ensures untouched { result.status ≡ Status.BadWords → (source.new ≡ source.old) × (sink.new ≡ sink.old) }
@@ -83,6 +96,8 @@ pub fn run<S: Source, K: Sink, N: Nv + Drop>(
     ensures decode_status { IsDecode (map string_bytes words.now) → IsOfRecord result.status }
     ensures tap_status { (bare : Bool) → IsTap bare (map string_bytes words.now) → IsOfTap result.status }
     ensures tables_status { IsTables (map string_bytes words.now) → IsOfTables result.status }
+
+    ensures end_status { AskForAnEnd (map string_bytes words.now) → IsOfEndWord result.status }
 
     // A fault of the outside comes only where its count rose.
     ensures read_fault { result.status ≡ Status.ReadFault → Rose (S.faults source.old) (S.faults source.new) }
@@ -136,9 +151,12 @@ pub fn run<S: Source, K: Sink, N: Nv + Drop>(
     ensures tap_ahead { (bare : Bool) → IsTap bare (map string_bytes words.now) → IsTrue S.tells →
         length (S.left source.old) ≤ most_bytes + 4096 + length (S.left source.new) }
 
-    // Only the tables need the memory.
-    ensures nv { ¬ IsTables (map string_bytes words.now) → result.nv ≡ nv }
+    // Only the tables and an end need the memory.
+    ensures nv { ¬ IsTables (map string_bytes words.now) → ¬ AskForAnEnd (map string_bytes words.now) → result.nv ≡ nv }
 {
+    if let Some(asked) = end_asked(words) {
+        return run_end(alloc, source, sink, nv, asked);
+    }
     if is_word(words, b"tables") {
         return tables(alloc, sink, nv);
     }
@@ -174,6 +192,39 @@ fn are_words(words: &[String], first: &[u8], second: &[u8]) -> bool
         [one, two] => is_same(one.as_bytes(), first) && is_same(two.as_bytes(), second),
         _ => false,
     }
+}
+
+/// Whether the words are these three.
+fn are_three(words: &[String], first: &[u8], second: &[u8], third: &[u8]) -> bool
+    ensures { IsTrue result ↔ (map string_bytes words.now ≡ first.now ∷ second.now ∷ third.now ∷ []) }
+{
+    match words {
+        [one, two, three] => {
+            is_same(one.as_bytes(), first)
+                && is_same(two.as_bytes(), second)
+                && is_same(three.as_bytes(), third)
+        }
+        _ => false,
+    }
+}
+
+/// Which end the words ask for, and on what form of link; `None` where they ask for none.
+fn end_asked(words: &[String]) -> Option<EndAsked>
+    ensures found { (asked : EndAsked) → result ≡ Some asked → IsEndCommand asked.is_clf (form_named asked.form) (map string_bytes words.now) }
+    ensures missed { result ≡ None → ¬ AskForAnEnd (map string_bytes words.now) }
+{
+    let (is_clf, form) = if are_three(words, b"end", b"clf", b"line") {
+        (true, Form::Line)
+    } else if are_three(words, b"end", b"clf", b"bytes") {
+        (true, Form::Bytes)
+    } else if are_three(words, b"end", b"uicc", b"line") {
+        (false, Form::Line)
+    } else if are_three(words, b"end", b"uicc", b"bytes") {
+        (false, Form::Bytes)
+    } else {
+        return None;
+    };
+    Some(EndAsked { is_clf, form })
 }
 
 fn is_same(given: &[u8], word: &[u8]) -> bool
