@@ -11,3 +11,5 @@ pub mod Hearing
 pub mod Alone
 pub mod Asking
 mod NodeExamples
+pub mod Summing
+pub mod Numerals

@@ -54,7 +54,7 @@ link_told-push header lines line =
     ap (λ l. entry.Head header ∷ (opening_of h ++ l)) (ap (flat_map step_told) (link_steps-push h bare_link lines line) ∙ told-push step_told steps step)
     ∙ ap (λ l. entry.Head header ∷ l) (sym (append_assoc (opening_of h) (flat_map step_told steps) (step_told step)))
 
-nodes_told-push : (header : Header) (lines : List Line) (line : Line)
+pub nodes_told-push : (header : Header) (lines : List Line) (line : Line)
     → nodes_told (nodes_history header (lines ++ line ∷ []))
     ≡ nodes_told (nodes_history header lines) ++ line_told (record { line = line; outcome = (line_step (nodes_behind header lines) line).1 })
 nodes_told-push header lines line =

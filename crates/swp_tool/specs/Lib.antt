@@ -9,3 +9,4 @@ pub mod Decodings
 pub mod Taps
 pub mod Images
 pub mod Ends
+pub mod Generated

@@ -8,6 +8,7 @@ use Rattle.swp_tool.specs.declared.replay.Halt.TheVariants as halt
 use Rattle.swp_tool.specs.Schedules.{Stop, AtFault, AtMisread, Too_many}
 use Rattle.swp_tool.specs.Ends.{AskForAnEnd}
 use Rattle.swp_tool.specs.Transcripts.{IsDoneText, StopsWithText}
+use Rattle.swp_tool.specs.Generated.{IsGen}
 use Rattle.swp_tool.specs.Pieces.{HasRead, IsFrontTranscript, IsWholeTranscript, IsRunning}
 
 -- the status of a replay that halts behind so many whole lines
@@ -105,4 +106,5 @@ IsTables words = words ≡ codes "tables" ∷ []
 
 -- the words that ask for something
 abbrev pub AskForSomething : List (List ℕ) → Type 0
-AskForSomething words = IsReplay words ⊎ (IsDecode words ⊎ (IsTables words ⊎ (IsTap true words ⊎ (IsTap false words ⊎ AskForAnEnd words))))
+AskForSomething words =
+    IsReplay words ⊎ (IsDecode words ⊎ (IsTables words ⊎ (IsTap true words ⊎ (IsTap false words ⊎ (AskForAnEnd words ⊎ ((n : ℕ) × IsGen n words))))))

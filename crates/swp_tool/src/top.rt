@@ -15,10 +15,13 @@ ghost use Rattle.lone_laws.specs.alone.Ends.{EndForm};
 ghost use Rattle.one_end.specs.Writing.{form_named};
 ghost use Rattle.swp_tool.specs.Ends.{EndedSo, IsOfEndWord, IsEndCommand, AskForAnEnd};
 ghost use Rattle.swp_tool.specs.Taps.{TappedBy, IsOfTap};
+ghost use Rattle.swp_tool.specs.Generated.{Generated, IsGen, IsOfGen};
 ghost use Rattle.swp_tool.specs.Pieces.{HasRead, IsReading, IsReadAhead, bytes_left};
 
 use crate::decoding::decode;
 use crate::lone::{EndAsked, run_end};
+use crate::generating::generate;
+use crate::number::number_given;
 use crate::replaying::replay;
 use crate::status::Status;
 use crate::tables::tables;
@@ -42,6 +45,8 @@ pub struct Ended<N> {
 /// memory keeps, and reads nothing else. `end` runs one node over the memory, the controller or host 02, at its end of a link whose
 /// other end is live: it takes what comes on the link, the record of a line or a byte link, and writes what goes out. The memory is
 /// handed back; but for `end` its content is as it was.
+/// memory keeps, and reads nothing else. `gen N` reads nothing, runs the schedule that is drawn from the number N, and writes a line with
+/// the counts of what was noted. The memory is handed back; its content is as it was.
 pub fn run<S: Source, K: Sink, N: Nv + Drop>(
     alloc: Global,
     words: &[String],
@@ -90,6 +95,14 @@ pub fn run<S: Source, K: Sink, N: Nv + Drop>(
     ensures bad_image { IsTables (map string_bytes words.now) → IsTrue N.tells →
         (f : Bad) → image_fault (N.content nv) ≡ Some f → ¬ Rose (N.faults nv) (N.faults result.nv) →
         result.status ≡ Status.BadImage f }
+
+    // A generated run reads nothing, and writes the summary of the legal history that is played from the schedule drawn from its number.
+    ensures generated { (n : ℕ) → IsGen n (map string_bytes words.now) →
+        Generated K.tells result.status n (K.written sink.old) (K.written sink.new) }
+    ensures gen_unread { (n : ℕ) → IsGen n (map string_bytes words.now) → source.new ≡ source.old }
+    ensures gen_status { (n : ℕ) → IsGen n (map string_bytes words.now) → IsOfGen result.status }
+    ensures complete_gen { (n : ℕ) → IsGen n (map string_bytes words.now) → ¬ Rose (K.faults sink.old) (K.faults sink.new) →
+        (result.status ≡ Status.Done) ⊎ (result.status ≡ Status.NoMemory) }
 
     // Whatever is read, each word ends in these ways alone.
     ensures replay_status { IsReplay (map string_bytes words.now) → IsOfReplay result.status }
@@ -159,6 +172,10 @@ pub fn run<S: Source, K: Sink, N: Nv + Drop>(
     }
     if is_word(words, b"tables") {
         return tables(alloc, sink, nv);
+    }
+    if let Some(n) = number_given(words) {
+        let status = generate(alloc, n, sink);
+        return Ended { status, nv };
     }
     let status = if is_word(words, b"replay") {
         replay(alloc, source, sink)
