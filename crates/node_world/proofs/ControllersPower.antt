@@ -176,7 +176,8 @@ module _ (P : Type 0) (PRuns : P → Core → List Port → Type 0) (p_memory : 
           let sides = new_sides w w.sites not_on timely (each_found (λ (x : Site). x.host) w.sites may.orderly.different) in
           let D : NodeWorld × List Entry → Type 0 = λ x. WorldBecomes CRuns c_memory PRuns p_memory (record { on = Some n; off = off }) ks before now x in
           let N : Option Memory → Type 0 = λ o. IsPlace CRuns c_memory (Some n) o (after_planned (boot_writes w.memory.content) w.memory) (Some r) near in
-          let ports = kept n r.core (map (new_port named.Clf) (hosts_in w.sites)) (map (λ (d : Desk). port_for (near d.host) d) (map new_desk (hosts_in w.sites)))
+          let ports = kept n r.core (map (new_port named.Clf) (hosts_in w.sites))
+          (map (λ (d : Desk). port_for (near d.host) d) (map new_desk (hosts_in w.sites)))
           (new_ends near (hosts_in w.sites) sides) b.2 in
           subst D (sym (boot_goes w b.0))
           (record {

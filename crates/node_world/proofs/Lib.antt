@@ -18,14 +18,6 @@ pub mod Plainly
 pub mod HostsBegin
 pub mod HostsAre
 pub mod Versions
-mod Regardless
-pub mod NodesRun
-pub mod HostsGive
-pub mod FewAtEnds
-pub mod FewOnLinks
-pub mod FewInWorlds
-pub mod CountsStay
-pub mod GivenMessages
 pub mod SitesKept
 pub mod FramesToAll
 pub mod ControllersGo
@@ -48,19 +40,9 @@ pub mod CountsStay
 pub mod Booting
 pub mod MemoriesKeep
 pub mod MemoryReads
-pub mod MemorySizes
 pub mod AtHosts
 pub mod HostsPower
 pub mod HostsFound
 pub mod NearKept
 pub mod LinesGo
 pub mod ControllersLose
-pub mod LinesFit
-pub mod WorldsBehind
-pub mod Masked
-pub mod PlayedByHosts
-pub mod WorldsStepped
-pub mod Peeked
-pub mod LinesEnd
-pub mod LinesAgain
-pub mod LinesDamage

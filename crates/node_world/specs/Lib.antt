@@ -6,9 +6,7 @@ pub mod FramesOut
 pub mod Places
 pub mod Bounds
 pub mod HostSteps
-pub mod Memories
-pub mod GivenMessages
 pub mod Whole
 pub mod Controllers
-pub mod Worlds
+pub mod Memories
 pub mod GivenMessages

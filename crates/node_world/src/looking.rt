@@ -65,7 +65,11 @@ pub(crate) fn no_frame<C: WorldNode + Drop, P: WorldNode + Drop>(
 }
 
 /// What a line that damages the first frame on the way to an end at these places finds there.
-pub(crate) fn damaged_at<P: WorldNode + Drop>(sites: &[HostSite<P>], to: End, places: &[u16]) -> Damaged
+pub(crate) fn damaged_at<P: WorldNode + Drop>(
+    sites: &[HostSite<P>],
+    to: End,
+    places: &[u16],
+) -> Damaged
     ensures { (w : NodeWorld) → SitesAre P.runs P.memory sites.now w.sites → MayGoOn w → Finds (frames_at w to) places.now result }
 {
     match place_of(sites, to.link) {

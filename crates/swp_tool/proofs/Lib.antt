@@ -1,15 +1,11 @@
 pub mod Finding
 pub mod Cutting
 pub mod Texts
-pub mod Fitting
 pub mod Reading
 pub mod Ending
 pub mod Playing
 pub mod Recording
 pub mod Knowing
 pub mod Hearing
-pub mod Alone
-pub mod Asking
+pub mod NodeSchedules
 mod NodeExamples
-pub mod Summing
-pub mod Numerals

@@ -9,5 +9,4 @@ pub mod Giving
 pub mod LineLemmas
 pub mod Given
 pub mod Repeating
-pub mod BareWorlds
-pub mod Below
+pub mod Worlds

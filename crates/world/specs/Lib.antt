@@ -2,5 +2,4 @@ pub mod Noting
 pub mod Nodes
 pub mod Sides
 pub mod Lines
-pub mod BareWorlds
 pub mod Worlds

@@ -74,8 +74,10 @@ returns-in-Some-clause-stands g c w all ready there =
     (becomes_unless g.row.P.Denot g.P.WorldNode.runs g.P.WorldNode.memory c.args.sites.now w c.in-Some.place c.args.at.link a c.send_at_host.new.site
     c.args.noted.now.entries.items c.send_at_host.new.noted.entries.items (host_stepped a.site NoInput (begins_with a.site.host (sending a.site.host
     (c.args.pid, c.as_slice.result.now)))) (world_step w (Gives (end_h c.args.at.link) (c.args.pid, c.as_slice.result.now))) cause
-    ready.goes_on.orderly all (steps_there w c.args.at.link a.site found a.host NoInput (λ n. begins_with n (sending n (c.args.pid,
-    c.as_slice.result.now)))) b))
+    ready.goes_on.orderly all (steps_there w c.args.at.link a.site found a.host NoInput (λ n. begins_with n (sending n (
+      c.args.pid,
+      c.as_slice.result.now,
+    )))) b))
     (c.send_at_host.ensures.stands a.site t.is t.host))
 
 pub returns-in-None-clause-refusal : goal.returns-in-None-clause-refusal
