@@ -9,6 +9,7 @@ a read that fails leaves the text of whole lines, and so does an allocation that
 import os
 import subprocess
 import sys
+import tempfile
 
 ROOT = os.path.dirname(os.path.dirname(os.path.abspath(__file__)))
 PROGRAM = os.path.join(ROOT, "crates", "swp", "out", "swp")
@@ -32,21 +33,26 @@ def fronts_of_whole_lines(transcript):
 
 
 def failing(call, nth, schedule):
-    """A replay of which the nth read or write fails."""
-    inject = f"inject={call}:error=EIO:when={nth}"
-    words = ["strace", "-o", "/dev/null", "-e", f"trace={call}", "-e", inject, PROGRAM, "replay"]
-    return subprocess.run(words, input=schedule, capture_output=True)
+    """A replay of which the nth read or write fails: its status, and what was written."""
+    with tempfile.TemporaryDirectory() as folder:
+        files = {"read": os.path.join(folder, "in"), "write": os.path.join(folder, "out")}
+        with open(files["read"], "wb") as file:
+            file.write(schedule)
+        words = ["strace", "-o", "/dev/null", "-P", files[call], "-e", f"trace={call}", "-e", f"inject={call}:error=EIO:when={nth}"]
+        with open(files["read"], "rb") as source, open(files["write"], "wb") as sink:
+            run = subprocess.run([*words, PROGRAM, "replay"], stdin=source, stdout=sink, stderr=subprocess.DEVNULL)
+        with open(files["write"], "rb") as file:
+            return run.returncode, file.read()
 
 
 def each_call_fails(call, wanted, schedule, transcript, may_come):
     for nth in range(1, MOST_CALLS):
-        run = failing(call, nth, schedule)
-        if run.returncode == DONE and run.stdout == transcript:
+        status, told = failing(call, nth, schedule)
+        if status == DONE and told == transcript:
             print(f"  {nth - 1} calls of {call}: status {wanted}, each time")
             return
-        # the fault that stops a run is told on standard error, by a write of its own
-        if run.returncode != wanted or not may_come(run.stdout):
-            sys.exit(f"{call} {nth}: status {run.returncode}, {len(run.stdout)} bytes")
+        if status != wanted or not may_come(told):
+            sys.exit(f"{call} {nth}: status {status}, {len(told)} bytes")
     sys.exit(f"{call}: no end of the calls")
 
 
