@@ -114,7 +114,7 @@ module _ (P : Type 0) (Runs : P → Core → List Port → Type 0) (memory_of : 
   first_sendable e h [] q a = absurd (cc q)
   first_sendable e h (d ∷ desks) q a = a.0
 
-  sendable_on : (k : HostSite P) (s : Site) (r : Running) → GivesSendable → SiteIs Runs memory_of k s → IsHostOf s → s.node ≡ Some r
+  pub sendable_on : (k : HostSite P) (s : Site) (r : Running) → GivesSendable → SiteIs Runs memory_of k s → IsHostOf s → s.node ≡ Some r
       → AreSendable s.link.host.side.sent
   sendable_on k s r given is host runs = go k.on k.off s.node refl is.place host.ends runs
     where

@@ -36,11 +36,11 @@ repeats : (n : ℕ) (c : Happening) → length (replicate n c) ≡ n
 repeats zero c = refl
 repeats (suc n) c = let z = repeats n c in omega (arith, z)
 
-taken_within : (count : Option ℕ) (wire : List OnWire) → length wire ≤ 64 → taken_of count wire ≤ 64
+pub taken_within : (count : Option ℕ) (wire : List OnWire) → length wire ≤ 64 → taken_of count wire ≤ 64
 taken_within None wire few = few
 taken_within (Some n) wire few = omega (arith, few)
 
-ticks_within : (times : Option ℕ) → IfSome times (λ n. (1 ≤ n) × (n ≤ 100)) → unwrap_or times 1 ≤ 100
+pub ticks_within : (times : Option ℕ) → IfSome times (λ n. (1 ≤ n) × (n ≤ 100)) → unwrap_or times 1 ≤ 100
 ticks_within None q = omega arith
 ticks_within (Some n) q = q.1
 

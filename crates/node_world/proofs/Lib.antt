@@ -46,3 +46,13 @@ pub mod HostsFound
 pub mod NearKept
 pub mod LinesGo
 pub mod ControllersLose
+pub mod LinesFit
+pub mod WorldsBehind
+pub mod Masked
+pub mod PlayedByHosts
+pub mod WorldsStepped
+pub mod Peeked
+pub mod LinesEnd
+pub mod LinesAgain
+pub mod LinesDamage
+pub mod WorldsTick

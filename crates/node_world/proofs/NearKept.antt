@@ -16,7 +16,7 @@ use Rattle.link_entries.specs.messages.Links.Ending.{CutOff}
 use Rattle.history.specs.Steps.{at}
 use Rattle.node_machine.specs.Parts.{Core, Desk, Running, Port, Work}
 use Rattle.node_machine.specs.Node.{steps}
-use Rattle.node_machine.specs.Node.NodeInput.{AtEnd}
+use Rattle.node_machine.specs.Node.NodeInput.{AtEnd, TimePasses}
 use Rattle.node_machine.specs.world.World.{NodeWorld, Site, site_at, with_site, link_to, port_for, turns_at, ending_of, host_work, input_of, host_cut}
 use Rattle.node_laws.specs.telling.Telling.{IsOrderly}
 use Rattle.node_laws.proofs.telling.Nodes.{site_host}
@@ -28,7 +28,7 @@ use Rattle.node_world.specs.HostSteps.{host_stepped, host_hears, site_loses}
 use Rattle.node_world.specs.Places.{IsPlace}
 use Rattle.node_world.specs.Whole.{SitesBecome, if_accepted}
 use Rattle.node_world.proofs.AtHosts.{GivesSendable, from_outside, room_there, site_changes}
-use Rattle.node_world.proofs.CountsStay.{acks_of_ports, counts_few_at_end, few_to}
+use Rattle.node_world.proofs.CountsStay.{acks_of_ports, counts_few_at_end, counts_few_in_tick, few_to}
 use Rattle.node_world.proofs.FewOnLinks.{far_stays}
 use Rattle.node_world.proofs.HostsInWorlds.{ChangesSite}
 
@@ -168,6 +168,19 @@ module _ (C : Type 0) (Runs : C → Core → List Port → Type 0) (memory_of : 
           rw e
           (counts_few_at_end 300000000 h i (map (λ (d : Desk). port_for (near_of w.sites d.host) d) r.desks) (omega arith)
           (from_outside (link_to w.sites h) comes i q)
+          (acks_of_ports 300000000 (near_of w.sites) (λ j. (few_to 300000000 j w.sites few).controller) r.desks)
+          (on_sendable k.on k.off w.memory w.controller (near_of w.sites) r place e))
+
+  -- and in a tick
+  pub counted_in_tick : (k : ControllerPlace C) (w : NodeWorld)
+      → IsPlace Runs memory_of k.on k.off w.memory w.controller (near_of w.sites) → FewBehind 300000000 w → FewAreCounted TimePasses w
+  counted_in_tick k w place few = go w.controller refl
+    where
+      go : (o : Option Running) → w.controller ≡ o → FewAreCounted TimePasses w
+      go None e = rw e tt
+      go (Some r) e =
+          rw e
+          (counts_few_in_tick 300000000 (map (λ (d : Desk). port_for (near_of w.sites d.host) d) r.desks) (omega arith)
           (acks_of_ports 300000000 (near_of w.sites) (λ j. (few_to 300000000 j w.sites few).controller) r.desks)
           (on_sendable k.on k.off w.memory w.controller (near_of w.sites) r place e))
 

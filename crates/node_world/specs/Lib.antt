@@ -6,7 +6,8 @@ pub mod FramesOut
 pub mod Places
 pub mod Bounds
 pub mod HostSteps
+pub mod Memories
 pub mod Whole
 pub mod Controllers
-pub mod Memories
+pub mod Worlds
 pub mod GivenMessages

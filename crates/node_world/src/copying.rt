@@ -122,8 +122,18 @@ fn copied_of_init(entry: &Entry) -> Option<Entry>
 pub(crate) fn copied(alloc: Global, entry: &Entry, body: &[u8]) -> Option<Entry>
     ensures { IfSome result (λ copy. copy ≡ with_body body.now entry.now) }
 {
-    with_message(alloc, entry, body)
-        .or(copied_of_session(entry))
-        .or(copied_of_turn(entry))
-        .or(copied_of_init(entry))
+    match entry {
+        Entry::Sent { .. } | Entry::Got { .. } | Entry::Turn { .. } | Entry::Ask { .. } => {
+            with_message(alloc, entry, body)
+        }
+        Entry::Up { .. }
+        | Entry::Down { .. }
+        | Entry::Active { .. }
+        | Entry::GaveUp { .. }
+        | Entry::Acked { .. } => copied_of_session(entry),
+        Entry::InitSame { .. } | Entry::InitMade { .. } | Entry::InitFailed { .. } => {
+            copied_of_init(entry)
+        }
+        _ => copied_of_turn(entry),
+    }
 }

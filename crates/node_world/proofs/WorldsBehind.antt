@@ -1,0 +1,199 @@
+-- What is asked of a world behind lines holds there, and one line more goes on with it.
+use Rattle.std.proofs.Common.{◌≡◌, ◌≢◌, ◌⊎◌, inl, inr, ℕ, ◌+◌, ◌*◌, ◌<◌, ◌≤◌, ◌==◌, Bool, true, false, List, [], ◌∷◌, ◌++◌, length, map, refl, ap}
+use Rattle.std.proofs.Common.{sym, subst, ◌∙◌, arith, length-append}
+use Rattle.std.specs.Prelude.{Option, Some, None, IsTrue, ◌||◌, unwrap_or, cond}
+use Rattle.std.specs.List.{AllByRecursion, list_any}
+use Rattle.std.proofs.lemmas.Bool.{true≢false}
+use Rattle.swp_base.specs.InMemory.{Memory}
+use Rattle.trace_model.specs.declared.line.End.{End}
+use Rattle.trace_model.specs.declared.line.Header.{Header}
+use Rattle.trace_model.specs.declared.line.Line.{Line}
+use Rattle.trace_model.specs.declared.line.Line.TheVariants as line
+use Rattle.trace_model.specs.Lines.{IsHost, IsNodeHeader, IsNodeOf}
+use Rattle.link_entries.specs.messages.Links.{Link, new_link}
+use Rattle.link_machine.specs.Machine.Role.{Bare}
+use Rattle.history.specs.Follows.{frames_to}
+use Rattle.node_machine.specs.Parts.{Core, Port}
+use Rattle.node_machine.specs.world.World.{Site, NodeWorld, new_world, site_at, link_to, memory_at, node_at}
+use Rattle.node_machine.specs.world.Lines.{frames_at, happenings, line_step, misread_in}
+use Rattle.node_machine.specs.world.NodeHistories.{NodeHistory, FollowsNodes, NoneIsMisread, occurrences_in, steps_from, world_after}
+use Rattle.node_laws.specs.kept.Hosts.{AreHosts, IsSentByHost}
+use Rattle.node_laws.specs.telling.Telling.{hosts_in}
+use Rattle.node_order.specs.links.Runs.{IsPlayable, ArePlayable}
+use Rattle.node_order.proofs.order.Lines.{watches, of_none, IsSo, all_so_behind, behind_history}
+use Rattle.node_order.proofs.order.Ticking.{timely}
+use Rattle.lines_told.specs.Below.{IsPlayedLine, nodes_behind}
+use Rattle.node_world.specs.declared.places.HostSite.{HostSite}
+use Rattle.node_world.specs.declared.controller.ControllerPlace.{ControllerPlace}
+use Rattle.node_world.specs.Bounds.{FewBehind}
+use Rattle.node_world.specs.LinksKept.{WiresStandFor}
+use Rattle.node_world.specs.Controllers.{SitesAre, WorldIs, MayGoOn, AreTimely}
+use Rattle.node_world.specs.Memories.{KeepsSome, IsSoundMemory}
+use Rattle.node_world.specs.Whole.{MayPlay, AreBootable, after_ticks}
+use Rattle.node_world.proofs.CountsStay.{happenings_few, few_behind_line}
+use Rattle.node_world.proofs.FewInWorlds.{longer}
+use Rattle.node_world.proofs.MemoriesKeep.{keeps_at_first, keeps_behind_lines, controller_in_order, hosts_in_order}
+use Rattle.node_world.proofs.LinesFit.{are_hosts, each_line, one_more, playable, sent_by_host}
+
+-- ## One line more
+
+pub after_more : (lines : List Line) (l : Line) (w : NodeWorld) → world_after w (lines ++ l ∷ []) ≡ (line_step (world_after w lines) l).0
+after_more [] l w = refl
+after_more (x ∷ lines) l w = after_more lines l (line_step w x).0
+
+pub sure_more : (lines : List Line) (l : Line) (w : NodeWorld) → NoneIsMisread w lines → misread_in (world_after w lines) l ≡ None
+    → NoneIsMisread w (lines ++ l ∷ [])
+sure_more [] l w sure none = (none, tt)
+sure_more (x ∷ lines) l w sure none = (sure.0, sure_more lines l (line_step w x).0 sure.1 none)
+
+-- ## Behind lines
+
+module _ (header : Header) (is : IsNodeHeader header) (lines : List Line) (play : ArePlayable lines)
+    (sure : NoneIsMisread (new_world header.hosts.items) lines) where
+  abbrev hosts : List ℕ
+  hosts = header.hosts.items
+
+  abbrev told : NodeHistory
+  told = record { header = header; steps = steps_from (new_world hosts) lines }
+
+  follows : FollowsNodes header lines told
+  follows = record { nodes = is.nodes; header_is = refl; steps_are = refl; sure = sure }
+
+  so : IsSo hosts (occurrences_in told) (nodes_behind header lines)
+  so =
+      subst (IsSo hosts (occurrences_in told)) (behind_history header lines told follows)
+      (all_so_behind header lines told follows (are_hosts header is) play)
+
+  pub timely_behind : AreTimely (nodes_behind header lines)
+  timely_behind h s found =
+      timely (nodes_behind header lines) _ (watches of_none (occurrences_in told) h) h s so.up found (so.each h s found)
+
+  pub hosts_behind : hosts_in (nodes_behind header lines).sites ≡ hosts
+  hosts_behind = so.hosts_are
+
+  pub goes_on_behind : MayGoOn (nodes_behind header lines)
+  goes_on_behind = record { orderly = so.well.orderly; hosts = subst (AllByRecursion IsHost) (sym so.hosts_are) (are_hosts header is).all }
+
+-- so it is also behind some ticks
+pub timely_ticking : (header : Header) → IsNodeHeader header → (lines : List Line) → ArePlayable lines
+    → NoneIsMisread (new_world header.hosts.items) lines → (n : ℕ) → AreTimely (after_ticks n (nodes_behind header lines))
+timely_ticking header is lines play sure n =
+    let more : List Line = lines ++ line.Tick (Some n) ∷ [] in
+    subst AreTimely (after_more lines (line.Tick (Some n)) (new_world header.hosts.items))
+    (timely_behind header is more (one_more IsPlayable lines (line.Tick (Some n)) play tt)
+    (sure_more lines (line.Tick (Some n)) (new_world header.hosts.items) sure refl))
+
+-- ## Memories
+
+site_there : (n : ℕ) (sites : List Site) → list_any (λ k. k == n) (hosts_in sites) ≡ true → AllByRecursion (λ (s : Site). IsSoundMemory s.memory) sites
+    → (s : Site) × (site_at sites n ≡ Some s) × IsSoundMemory s.memory
+site_there n [] here a = absurd (true≢false (sym here))
+site_there n (s ∷ sites) here a = go (s.host == n) refl (site_there n sites)
+  where
+    go : (b : Bool) → (s.host == n) ≡ b
+        → (list_any (λ k. k == n) (hosts_in sites) ≡ true → AllByRecursion (λ (s : Site). IsSoundMemory s.memory) sites
+        → (x : Site) × (site_at sites n ≡ Some x) × IsSoundMemory x.memory) → (x : Site) × (site_at (s ∷ sites) n ≡ Some x) × IsSoundMemory x.memory
+    go true q later = (s, rw q refl, a.0)
+    go false q later = let found = later (rw q at here) a.1 in (found.0, rw q found.1, found.2)
+
+sound_memory : (hosts : List ℕ) (w : NodeWorld) → hosts_in w.sites ≡ hosts → IsSoundMemory w.memory
+    → AllByRecursion (λ (s : Site). IsSoundMemory s.memory) w.sites → (n : ℕ) → IsNodeOf hosts n → IsSoundMemory (memory_at w n)
+sound_memory hosts w are near far n node = go (n == 0) refl
+  where
+    go : (b : Bool) → (n == 0) ≡ b → IsSoundMemory (memory_at w n)
+    go true q = rw q near
+    go false q =
+        let either : (n == 0 || list_any (λ k. k == n) hosts) ≡ true = node in
+        let among : list_any (λ k. k == n) hosts ≡ true = rw q at either in
+        let found = site_there n w.sites (subst (λ hs. list_any (λ k. k == n) hs ≡ true) (sym are) among) far in
+        rw (q, found.1) found.2
+
+sent_line : (header : Header) → IsNodeHeader header → (l : Line) → IsPlayedLine header l → IsSentByHost l
+sent_line header is l a = sent_by_host header is l a.may_follow
+
+play_line : (header : Header) (l : Line) → IsPlayedLine header l → IsPlayable l
+play_line header l a = playable header l a.may_follow
+
+pub are_playable : (header : Header) (lines : List Line) → AllByRecursion (IsPlayedLine header) lines → ArePlayable lines
+are_playable header lines a = each_line (IsPlayedLine header) IsPlayable (play_line header) lines a
+
+keeps_behind : (header : Header) → IsNodeHeader header → (lines : List Line) → AllByRecursion (IsPlayedLine header) lines
+    → KeepsSome header.hosts.items (nodes_behind header lines)
+keeps_behind header is lines a =
+    keeps_behind_lines header.hosts.items (are_hosts header is) lines (new_world header.hosts.items)
+    (each_line (IsPlayedLine header) IsSentByHost (sent_line header is) lines a) (keeps_at_first header.hosts.items (are_hosts header is))
+
+-- a node's memory is in order
+pub sound_behind : (header : Header) → IsNodeHeader header → (lines : List Line) → AllByRecursion (IsPlayedLine header) lines
+    → NoneIsMisread (new_world header.hosts.items) lines → (n : ℕ) → IsNodeOf header.hosts.items n → IsSoundMemory (memory_at (nodes_behind header lines) n)
+sound_behind header is lines a sure n node =
+    let w : NodeWorld = nodes_behind header lines in
+    let k : KeepsSome header.hosts.items w = keeps_behind header is lines a in
+    sound_memory header.hosts.items w (hosts_behind header is lines (are_playable header lines a) sure)
+    (controller_in_order header.hosts.items (are_hosts header is) w k) (hosts_in_order header.hosts.items (are_hosts header is) w k) n node
+
+-- a node other than the controller is there
+pub node_there : (header : Header) → IsNodeHeader header → (lines : List Line) → AllByRecursion (IsPlayedLine header) lines
+    → NoneIsMisread (new_world header.hosts.items) lines → (n : ℕ) → IsNodeOf header.hosts.items n → (n == 0) ≡ false
+    → (s : Site) × (site_at (nodes_behind header lines).sites n ≡ Some s)
+node_there header is lines a sure n node q =
+    let w : NodeWorld = nodes_behind header lines in
+    let k : KeepsSome header.hosts.items w = keeps_behind header is lines a in
+    let either : (n == 0 || list_any (λ k. k == n) header.hosts.items) ≡ true = node in
+    let among : list_any (λ k. k == n) header.hosts.items ≡ true = rw q at either in
+    let here = subst (λ hs. list_any (λ k. k == n) hs ≡ true) (sym (hosts_behind header is lines (are_playable header lines a) sure)) among in
+    let found = site_there n w.sites here (hosts_in_order header.hosts.items (are_hosts header is) w k) in
+    (found.0, found.1)
+
+-- ## A line
+
+pub may_play : (header : Header) (lines : List Line) (said : Line) → IsNodeHeader header → AllByRecursion (IsPlayedLine header) lines
+    → NoneIsMisread (new_world header.hosts.items) lines → FewBehind (200 * length lines) (nodes_behind header lines) → length lines < 20000
+    → IsPlayedLine header said → MayPlay header said (nodes_behind header lines)
+may_play header lines said is a sure few short may =
+    let w : NodeWorld = nodes_behind header lines in
+    let play : ArePlayable lines = are_playable header lines a in
+    record {
+      is_header = is;
+      hosts_are = hosts_behind header is lines play sure;
+      is_line = may;
+      goes_on = goes_on_behind header is lines play sure;
+      few = longer (200 * length lines) 200000000 w (omega (arith, short)) few;
+      timely = timely_behind header is lines play sure;
+      ticks = λ times q n m. timely_ticking header is lines play sure n;
+      boots = λ n node off. sound_behind header is lines a sure n node;
+    }
+
+-- ## The frames on the wires
+
+module _ (P : Type 0) (Runs : P → Core → List Port → Type 0) (memory_of : P → Memory) where
+  wires_few : (ks : List (HostSite P)) (sites : List Site) (e : End) → SitesAre Runs memory_of ks sites → length (frames_to (link_to sites e.link) e) ≤ 64
+  wires_few [] [] e a = go e.at_host
+    where
+      go : (b : Bool) → length (frames_to (new_link Bare Bare) (record { link = e.link; at_host = b })) ≤ 64
+      go true = omega arith
+      go false = omega arith
+  wires_few (k ∷ ks) (s ∷ sites) e a = go (s.host == e.link) refl (wires_few ks sites e a.1)
+    where
+      at : (b : Bool) → length (frames_to s.link (record { link = e.link; at_host = b })) ≤ 64
+      at true = a.0.wires.there.wire_is.few
+      at false = a.0.wires.here.wire_is.few
+
+      go : (b : Bool) → (s.host == e.link) ≡ b → length (frames_to (link_to sites e.link) e) ≤ 64 → length (frames_to (link_to (s ∷ sites) e.link) e) ≤ 64
+      go true q later = rw q (at e.at_host)
+      go false q later = rw q later
+  wires_few [] (s ∷ sites) e a = absurd a
+  wires_few (k ∷ ks) [] e a = absurd a
+
+  -- behind one line more
+  pub few_behind_more : (header : Header) (lines : List Line) (said : Line) (ks : List (HostSite P))
+      → SitesAre Runs memory_of ks (nodes_behind header lines).sites → FewBehind (200 * length lines) (nodes_behind header lines)
+      → IsPlayedLine header said → FewBehind (200 * length (lines ++ said ∷ [])) (nodes_behind header (lines ++ said ∷ []))
+  few_behind_more header lines said ks a few may =
+      let w : NodeWorld = nodes_behind header lines in
+      let now : FewBehind (200 * length lines + 2 * 100) (line_step w said).0 =
+      few_behind_line 100 (200 * length lines) w said
+      (happenings_few header w said may.may_follow (λ e. wires_few ks w.sites e a)) few in
+      let long : length (lines ++ said ∷ []) ≡ length lines + 1 = length-append lines (said ∷ []) in
+      subst (FewBehind (200 * length (lines ++ said ∷ []))) (sym (after_more lines said (new_world header.hosts.items)))
+      (longer (200 * length lines + 2 * 100) (200 * length (lines ++ said ∷ [])) (line_step w said).0 (omega (arith, long)) now)

@@ -1,0 +1,21 @@
+use Rattle.std.proofs.Common.{◌≡◌, false}
+use Rattle.trace_model.specs.declared.line.Header.{Header}
+use Rattle.trace_model.specs.declared.line.Line.TheVariants as line
+use Rattle.node_machine.specs.world.World.{NodeWorld}
+use Rattle.node_machine.specs.world.World.Happening.{Takes}
+use Rattle.node_world.specs.Controllers.{WorldIs}
+use Rattle.node_world.specs.Whole.{MayPlay}
+use Rattle.node_world.proofs.LinesAgain.{Again}
+use Rattle.node_world.proofs.frame_lines.deliver_line.Given as goal
+
+-- the end has taken so many frames
+abbrev pub invariant-loop : goal.invariant-loop
+invariant-loop g l =
+    record {
+      goes : (header : Header) (w : NodeWorld)
+          → WorldIs g.C.WorldNode.runs g.C.WorldNode.memory g.P.WorldNode.runs g.P.WorldNode.memory l.initial.controller l.initial.sites w
+          → MayPlay header (line.Deliver l.fn.at l.fn.count) w
+          → Again g.C.WorldNode.runs g.C.WorldNode.memory g.P.WorldNode.runs g.P.WorldNode.memory l.controller l.sites l.noted.entries.items w
+          (Takes l.fn.at) l.counter;
+      short : l.noted.short ≡ false;
+    }

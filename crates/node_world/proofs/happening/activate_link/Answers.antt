@@ -1,0 +1,93 @@
+use Rattle.std.proofs.Common.{◌+◌, ℕ, List, ◌++◌, ap, sym, subst, ◌∙◌, append_assoc, arith}
+use Rattle.std.specs.List.{AllByRecursion}
+use Rattle.std.proofs.lemmas.Result.{on_ok_weaker}
+use Rattle.swp_base.specs.InMemory.{Memory}
+use Rattle.trace_model.specs.Lines.{IsHost}
+use Rattle.trace_model.specs.declared.entry.Entry.{Entry}
+use Rattle.link_entries.specs.messages.Links.Comes.{Starts}
+use Rattle.node_machine.specs.Parts.{Core, Port}
+use Rattle.node_machine.specs.world.World.{NodeWorld, activates, comes_at, end_c, end_h}
+use Rattle.node_laws.proofs.telling.Events.{comes_goes}
+use Rattle.node_world.specs.declared.controller.ControllerPlace.{ControllerPlace}
+use Rattle.node_world.specs.declared.places.HostSite.{HostSite}
+use Rattle.node_world.specs.Bounds.{FewBehind}
+use Rattle.node_world.specs.Controllers.{WorldBecomes, MayGoOn, IsThere}
+use Rattle.node_world.specs.HostSteps.{host_hears}
+use Rattle.node_world.specs.Whole.{IsWithinBounds, SitesBecome}
+use Rattle.node_world.proofs.FewInWorlds.{few_behind_coming, longer}
+use Rattle.node_world.proofs.HostsInWorlds.{hears_in_world}
+use Rattle.node_world.proofs.LinesAgain.{hosts_come, there_still}
+use Rattle.node_world.proofs.NearKept.{counted_at, hears_leaves, host_becomes, room_for_all}
+use Rattle.node_world.proofs.happening.activate_link.Goals as goal
+
+-- the world behind the first step, which is as ready for the second one
+abbrev near : NodeWorld → ℕ → ℕ → NodeWorld × List Entry
+near w h power = comes_at w (end_c h) (Starts power)
+
+near_within : (w : NodeWorld) (h power : ℕ) → MayGoOn w → FewBehind 200000000 w → IsWithinBounds (near w h power).0
+near_within w h power may few = record {
+  goes_on = record {
+    orderly = (comes_goes w (end_c h) (Starts power) may.orderly).orderly;
+    hosts = subst (AllByRecursion IsHost) (sym (hosts_come w (end_c h) (Starts power))) may.hosts;
+  };
+  few = longer (200000000 + 1) 300000000 (near w h power).0 (omega arith) (few_behind_coming 200000000 w (end_c h) (Starts power) few);
+}
+
+near_there : (w : NodeWorld) (h power : ℕ) → IsThere h w → IsThere h (near w h power).0
+near_there w h power there = there_still h (near w h power).0 w (hosts_come w (end_c h) (Starts power)) there
+
+few_so : (w : NodeWorld) → FewBehind 200000000 w → FewBehind 300000000 w
+few_so w few = longer 200000000 300000000 w (omega arith) few
+
+-- both steps, one behind the other
+module _ (C P : Type 0) (CRuns : C → Core → List Port → Type 0) (c_memory : C → Memory) (PRuns : P → Core → List Port → Type 0)
+    (p_memory : P → Memory) where
+  both_steps : (k : ControllerPlace C) (ks new : List (HostSite P)) (w : NodeWorld) (h sync power : ℕ) (before mid now : List Entry)
+      → IsWithinBounds (near w h power).0 → IsThere h (near w h power).0
+      → WorldBecomes CRuns c_memory PRuns p_memory k ks before mid (near w h power)
+      → SitesBecome PRuns p_memory new mid now (comes_at (near w h power).0 (end_h h) (Starts sync))
+      → WorldBecomes CRuns c_memory PRuns p_memory k new before now (activates w h sync power)
+  both_steps k ks new w h sync power before mid now ready there first second =
+      let v : NodeWorld = (near w h power).0 in
+      let far : NodeWorld × List Entry = comes_at v (end_h h) (Starts sync) in
+      let b = host_becomes v h there.0 there.1 ready.goes_on.orderly (host_hears there.0 (Starts sync)) far
+      (hears_in_world v h there.0 there.1 (Starts sync)) (hears_leaves there.0 (Starts sync)) C P CRuns c_memory PRuns p_memory k ks new mid now
+      first.world second in
+      record {
+        world = b.world;
+        noted = b.noted ∙ (ap (λ es. es ++ far.1) first.noted ∙ append_assoc before (near w h power).1 far.1);
+      }
+
+pub activate_controller-requires-clause-state : goal.activate_controller-requires-clause-state
+activate_controller-requires-clause-state g c = let q = c.requires.state in (q.0, q.1, q.2, q.4)
+
+pub activate_controller-requires-clause-room : goal.activate_controller-requires-clause-room
+activate_controller-requires-clause-room g c =
+    let q = c.requires.state in
+    room_for_all g.row.P.Denot g.P.WorldNode.runs g.P.WorldNode.memory c.args.sites.now q.0 q.1.sites (few_so q.0 q.3)
+
+pub host_activates-requires-clause-state : goal.host_activates-requires-clause-state
+host_activates-requires-clause-state g c =
+    let q = c.requires.state in
+    let h : ℕ = c.args.host in
+    let power : ℕ = c.args.power in
+    let first = c.in_ok-activate_controller.ensures.stands q.0 q.1 q.2 q.4
+    (counted_at g.row.C.Denot g.C.WorldNode.runs g.C.WorldNode.memory g.met.C.WorldNode.given c.args.controller.now q.0 h (Starts power)
+    q.1.controller (few_so q.0 q.3)) in
+    ((near q.0 h power).0, first.world.sites, near_within q.0 h power q.2 q.3, near_there q.0 h power q.4)
+
+pub returns-clause-stands : goal.returns-clause-stands
+returns-clause-stands g c w world may few there =
+    let h : ℕ = c.args.host in
+    let sync : ℕ = c.args.sync in
+    let power : ℕ = c.args.power in
+    let ready = near_within w h power may few in
+    let still = near_there w h power there in
+    let first = c.in_ok-activate_controller.ensures.stands w world may there
+    (counted_at g.row.C.Denot g.C.WorldNode.runs g.C.WorldNode.memory g.met.C.WorldNode.given c.args.controller.now w h (Starts power)
+    world.controller (few_so w few)) in
+    on_ok_weaker c.host_activates.result
+    (both_steps _ _ g.C.WorldNode.runs g.C.WorldNode.memory g.P.WorldNode.runs g.P.WorldNode.memory c.activate_controller.new.controller
+    c.activate_controller.new.sites c.host_activates.new.sites w h sync power c.args.noted.now.entries.items
+    c.activate_controller.new.noted.entries.items c.host_activates.new.noted.entries.items ready still first)
+    (c.host_activates.ensures.stands (near w h power).0 first.world.sites ready still)

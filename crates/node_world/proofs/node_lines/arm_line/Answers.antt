@@ -1,0 +1,32 @@
+use Rattle.std.proofs.Common.{◌<◌, ℕ, List, length, refl, sym, subst, append-nil}
+use Rattle.std.specs.List.{each_same}
+use Rattle.trace_model.specs.declared.line.Line.TheVariants as line
+use Rattle.node_machine.specs.world.World.{world_step}
+use Rattle.node_machine.specs.world.World.Happening.{Arms}
+use Rattle.node_world.specs.Controllers.{WorldIs}
+use Rattle.node_world.proofs.LinesEnd.{line_goes}
+use Rattle.node_world.proofs.LinesGo.{within}
+use Rattle.node_world.proofs.node_lines.arm_line.Goals as goal
+
+pub arm_node-requires-clause-nth : goal.arm_node-requires-clause-nth
+arm_node-requires-clause-nth g c = c.requires.state.3.is_line.may_follow.1.which.0
+
+pub arm_node-requires-clause-fill : goal.arm_node-requires-clause-fill
+arm_node-requires-clause-fill g c =
+    let Some : List ℕ → Type 0 = λ xs. 0 < length xs in
+    subst Some (sym (each_same _ _ c.in_ok-clone.ensures.cases)) c.requires.state.3.is_line.may_follow.1.long.0
+
+pub returns : goal.returns
+returns g c = record {
+  stands = λ header w world may.
+      let W : List ℕ → Type 0 = λ xs. WorldIs g.C.WorldNode.runs g.C.WorldNode.memory g.P.WorldNode.runs g.P.WorldNode.memory
+      c.arm_node.new.controller c.arm_node.new.sites (world_step w (Arms c.args.node (record { nth = c.args.nth; fill = xs }))).0 in
+      let entries = c.args.noted.now.entries.items in
+      line_goes w (line.Arm c.args.node c.args.nth c.args.fill.now) g.row.C.Denot g.row.P.Denot g.C.WorldNode.runs g.C.WorldNode.memory
+      g.P.WorldNode.runs g.P.WorldNode.memory c.arm_node.new.controller c.arm_node.new.sites entries entries c.requires.nothing
+      (Arms c.args.node (record { nth = c.args.nth; fill = c.args.fill.now.items })) refl refl
+      (record {
+        world = subst W (each_same _ _ c.in_ok-clone.ensures.cases) (c.arm_node.ensures w world (within may));
+        noted = sym (append-nil entries);
+      });
+}

@@ -1,0 +1,74 @@
+-- The world of nodes, behind which lines of a schedule it stands.
+use Rattle.std.specs.Prelude.{◌≡◌, ◌<◌, ℕ, ◌*◌, ◌⊎◌, ◌≢◌, false, List, [], ◌∷◌, length, Option, Some, None}
+use Rattle.std.specs.List.{AllByRecursion}
+use Rattle.std.specs.Option.{option_map, option_map_or}
+use Rattle.swp_base.specs.InMemory.{Memory}
+use Rattle.gate_admin.specs.View.{has, hosts_where}
+use Rattle.trace_model.specs.declared.entry.Entry.{Entry}
+use Rattle.trace_model.specs.declared.entry.Entry.TheVariants as entry
+use Rattle.trace_model.specs.declared.line.Header.{Header}
+use Rattle.trace_model.specs.declared.line.Line.{Line}
+use Rattle.trace_model.specs.Lines.{IsNodeHeader}
+use Rattle.hci_tables.specs.Tables.{close}
+use Rattle.hci_store.specs.Image.{image_fault, tables_of}
+use Rattle.journal_laws.specs.Journal.{count}
+use Rattle.node_machine.specs.Parts.{Running}
+use Rattle.node_machine.specs.world.World.{NodeWorld as Machine, node_at, memory_at, with_memory, loses_power_at, boots, new_world}
+use Rattle.node_machine.specs.world.NodeHistories.{NoneIsMisread}
+use Rattle.lines_told.specs.Below.{IsPlayedLine, nodes_behind}
+use Rattle.node_core.specs.declared.node.Node.{Node}
+use Rattle.node_core.specs.Running.{RunsAs}
+use Rattle.node_world.specs.WorldNodes.{RunsAsHost}
+use Rattle.node_world.specs.declared.worlds.NodeWorld.{NodeWorld}
+use Rattle.node_world.specs.Bounds.{FewBehind}
+use Rattle.node_world.specs.Controllers.{WorldIs}
+
+-- what the last line caused
+abbrev pub nodes_entries : NodeWorld → List Entry
+nodes_entries k = k.noted.entries.items
+
+-- the memory over which a node runs
+abbrev pub node_memory : Node Memory → Memory
+node_memory n = n.store.journal.nv
+
+-- It stands for the world that these lines leave below this header; each of them is one that is played, and none damages a frame so that
+-- another one is read.
+pub record IsNodeWorldBehind (k : NodeWorld) (header : Header) (lines : List Line) : Type 0 where
+  pub is_header : IsNodeHeader header
+  pub lines_are : AllByRecursion (IsPlayedLine header) lines
+  pub sure : NoneIsMisread (new_world header.hosts.items) lines
+  pub stands : WorldIs RunsAs node_memory RunsAsHost node_memory k.controller k.sites.items (nodes_behind header lines)
+  pub few : FewBehind (200 * length lines) (nodes_behind header lines)
+  pub mask_is : hosts_where (has k.mask) ≡ header.hosts.items
+  pub stepped : k.stepped ≡ length lines
+  pub quiet : k.noted.short ≡ false
+
+-- fewer than 20,000 lines left it so, and this one may follow them
+pub record HasRoomForNodeLine (k : NodeWorld) (said : Line) : Type 0 where
+  pub header : Header
+  pub lines : List Line
+  pub stands : IsNodeWorldBehind k header lines
+  pub few : length lines < 20000
+  pub may : IsPlayedLine header said
+
+-- ## Memories
+
+-- a node runs, or left its memory
+abbrev pub IsOneOf : {P M : Type 0} → Option P → Option M → Type 0
+IsOneOf on off = (on ≢ None) ⊎ (off ≢ None)
+
+-- the memory of a node that runs, or that which it left
+abbrev pub memory_kept : {P : Type 0} → (P → Memory) → Option P → Option Memory → Option Memory
+memory_kept memory_of (Some n) off = Some (memory_of n)
+memory_kept memory_of None off = off
+
+-- the world in which the power of this node was cut, and no write to its memory is to fail
+abbrev pub at_rest : ℕ → Machine → Machine
+at_rest n w = with_memory n (record (memory_at w n) { plan = None }) (loses_power_at n w)
+
+-- What a store reads of this memory that is opened without a write: the tables and the count of a boot of this node that is put next, behind
+-- a cut of its power.
+pub record IsPeekedSo (w : Machine) (node : ℕ) (content : List ℕ) : Type 0 where
+  pub sound : image_fault content ≡ None
+  pub booted : (boots (at_rest node w) node).1 ≡ entry.Booted node (count content) ∷ []
+  pub tables : option_map (λ (r : Running). r.core.tables) (node_at (boots (at_rest node w) node).0 node) ≡ Some (close (tables_of content))

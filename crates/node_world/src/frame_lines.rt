@@ -1,0 +1,156 @@
+//! Lines of a schedule that take, lose or damage frames, or let time pass.
+ghost use Rattle.std.specs.Prelude.{◌≡◌, [], false, None, IfOk, OnErr, OnOk};
+ghost use Rattle.trace_model.specs.declared.line.Header.{Header};
+ghost use Rattle.trace_model.specs.declared.line.Line.TheVariants as line;
+ghost use Rattle.node_machine.specs.world.World.{NodeWorld};
+ghost use Rattle.node_machine.specs.world.Lines.{line_step, misread_in};
+ghost use Rattle.node_world.specs.Controllers.{WorldIs, MayGoOn};
+ghost use Rattle.node_world.specs.Whole.{IsMisreadIn, LinePlayed, MayPlay};
+
+use crate::controller::ControllerPlace;
+use crate::happening::lose_frame;
+use crate::looking::{damaged_at, no_frame, node_of, on_the_way, runs};
+use crate::nodes::WorldNode;
+use crate::noted::{Noted, refuse};
+use crate::places::HostSite;
+use crate::world_ticks::{take_frame, tick_world};
+use arrayvec::ArrayVec;
+use link_wires::{Damaged, Misread, taken};
+use swp_base::NoMemory;
+use trace_model::{End, LostCause, NoCause};
+
+/// A line `deliver`: the end takes so many of the frames that stand on the wire to it, or all of them, until its node loses its power; or
+/// the line is refused.
+///
+/// # Errors
+///
+/// No memory is left; what the world stands for then isn't said.
+pub(crate) fn deliver_line<C: WorldNode + Drop, P: WorldNode + Drop>(
+    controller: &mut ControllerPlace<C>,
+    sites: &mut [HostSite<P>],
+    at: End,
+    count: Option<u8>,
+    noted: &mut Noted,
+) -> Result<(), NoMemory>
+    requires state { (header : Header) × (w : NodeWorld) × WorldIs C.runs C.memory P.runs P.memory controller.old sites.old w
+        × MayPlay header (line.Deliver at count) w }
+    requires nothing { noted.old.entries.items ≡ [] }
+    requires memory { noted.old.short ≡ false }
+    ensures stands { (header : Header) (w : NodeWorld) → WorldIs C.runs C.memory P.runs P.memory controller.old sites.old w
+        → MayPlay header (line.Deliver at count) w
+        → OnOk result (LinePlayed C.runs C.memory P.runs P.memory controller.new sites.new noted.new.entries.items
+        (line_step w (line.Deliver at count))) }
+    ensures memory { OnOk result (noted.new.short ≡ false) }
+{
+    if let Some(cause) = no_frame(controller, sites, at) {
+        return refuse(noted, cause);
+    }
+    let times = taken(count, on_the_way(sites, at));
+    for _ in 0..times {
+        if !runs(controller, sites, node_of(at)) {
+            return Ok(());
+        }
+        take_frame(controller, sites, at, noted)?;
+    }
+    Ok(())
+}
+
+/// A line `lose`: the first frame on the way to the end is lost, or the line is refused.
+///
+/// # Errors
+///
+/// No memory is left; what the world stands for then isn't said.
+pub(crate) fn lose_line<C: WorldNode + Drop, P: WorldNode + Drop>(
+    controller: &mut ControllerPlace<C>,
+    sites: &mut [HostSite<P>],
+    at: End,
+    noted: &mut Noted,
+) -> Result<(), NoMemory>
+    requires state { (header : Header) × (w : NodeWorld) × WorldIs C.runs C.memory P.runs P.memory controller.old sites.old w
+        × MayPlay header (line.Lose at) w }
+    requires nothing { noted.old.entries.items ≡ [] }
+    requires memory { noted.old.short ≡ false }
+    ensures stands { (header : Header) (w : NodeWorld) → WorldIs C.runs C.memory P.runs P.memory controller.old sites.old w
+        → MayPlay header (line.Lose at) w
+        → OnOk result (LinePlayed C.runs C.memory P.runs P.memory controller.new sites.new noted.new.entries.items (line_step w (line.Lose at))) }
+    ensures memory { OnOk result (noted.new.short ≡ false) }
+{
+    match no_frame(controller, sites, at) {
+        Some(cause) => refuse(noted, cause),
+        None => lose_frame(controller, sites, at, LostCause::Asked, noted),
+    }
+}
+
+/// A line `damage`: the first frame on the way to the end is taken as it was, or lost, or the line is refused. Where another frame is read
+/// in its place, that is answered, and nothing happens.
+///
+/// # Errors
+///
+/// No memory is left; what the world stands for then isn't said.
+pub(crate) fn damage_line<C: WorldNode + Drop, P: WorldNode + Drop>(
+    controller: &mut ControllerPlace<C>,
+    sites: &mut [HostSite<P>],
+    at: End,
+    places: &ArrayVec<u16, 16>,
+    noted: &mut Noted,
+) -> Result<Option<Misread>, NoMemory>
+    requires state { (header : Header) × (w : NodeWorld) × WorldIs C.runs C.memory P.runs P.memory controller.old sites.old w
+        × MayPlay header (line.Damage at places.now) w }
+    requires nothing { noted.old.entries.items ≡ [] }
+    requires memory { noted.old.short ≡ false }
+    ensures stands { (header : Header) (w : NodeWorld) → WorldIs C.runs C.memory P.runs P.memory controller.old sites.old w
+        → MayPlay header (line.Damage at places.now) w
+        → IfOk result (λ other. other ≡ None → LinePlayed C.runs C.memory P.runs P.memory controller.new sites.new noted.new.entries.items
+        (line_step w (line.Damage at places.now))) }
+    ensures misread { (w : NodeWorld) → WorldIs C.runs C.memory P.runs P.memory controller.old sites.old w → MayGoOn w
+        → IfOk result (IsMisreadIn w (line.Damage at places.now)) }
+    ensures told { (w : NodeWorld) → WorldIs C.runs C.memory P.runs P.memory controller.old sites.old w → MayGoOn w
+        → OnErr result (misread_in w (line.Damage at places.now) ≡ None) }
+    ensures memory { OnOk result (noted.new.short ≡ false) }
+{
+    if !runs(controller, sites, node_of(at)) {
+        refuse(noted, NoCause::Off)?;
+        return Ok(None);
+    }
+    match damaged_at(sites, at, places.as_slice()) {
+        Damaged::Refused(cause) => {
+            refuse(noted, cause)?;
+            Ok(None)
+        }
+        Damaged::Same => {
+            take_frame(controller, sites, at, noted)?;
+            Ok(None)
+        }
+        Damaged::Lost(cause) => {
+            lose_frame(controller, sites, at, cause, noted)?;
+            Ok(None)
+        }
+        Damaged::Undetected(misread) => Ok(Some(misread)),
+    }
+}
+
+/// A line `tick`: time passes, one tick or as many as the line says.
+///
+/// # Errors
+///
+/// No memory is left; what the world stands for then isn't said.
+pub(crate) fn tick_line<C: WorldNode + Drop, P: WorldNode + Drop>(
+    controller: &mut ControllerPlace<C>,
+    sites: &mut [HostSite<P>],
+    times: Option<u8>,
+    noted: &mut Noted,
+) -> Result<(), NoMemory>
+    requires state { (header : Header) × (w : NodeWorld) × WorldIs C.runs C.memory P.runs P.memory controller.old sites.old w
+        × MayPlay header (line.Tick times) w }
+    requires nothing { noted.old.entries.items ≡ [] }
+    requires memory { noted.old.short ≡ false }
+    ensures stands { (header : Header) (w : NodeWorld) → WorldIs C.runs C.memory P.runs P.memory controller.old sites.old w
+        → MayPlay header (line.Tick times) w
+        → OnOk result (LinePlayed C.runs C.memory P.runs P.memory controller.new sites.new noted.new.entries.items (line_step w (line.Tick times))) }
+    ensures memory { OnOk result (noted.new.short ≡ false) }
+{
+    for _ in 0..times.unwrap_or(1) {
+        tick_world(controller, sites, noted)?;
+    }
+    Ok(())
+}

@@ -1,0 +1,183 @@
+//! One thing happens in the world: at the controller or at a host.
+ghost use Rattle.std.specs.Prelude.{◌≡◌, ◌<◌, ◌≤◌, length, false, IfOk, IfSome, OnOk};
+ghost use Rattle.trace_model.specs.declared.line.Line.TheVariants as line;
+ghost use Rattle.gate_admin.specs.View.{has, hosts_where};
+ghost use Rattle.history.specs.Steps.{lost_as};
+ghost use Rattle.link_entries.specs.messages.Links.{Loss};
+ghost use Rattle.node_machine.specs.world.World.{NodeWorld, world_step};
+ghost use Rattle.node_machine.specs.world.World.Happening.{Boots, IsCut, Loses, Resets, Activates, Arms};
+ghost use Rattle.node_machine.specs.world.Lines.{refusal_in};
+ghost use Rattle.node_laws.specs.telling.Telling.{hosts_in};
+ghost use Rattle.node_world.specs.Bounds.{FewBehind};
+ghost use Rattle.node_world.specs.Controllers.{WorldIs, WorldBecomes, MayGoOn, IsThere};
+ghost use Rattle.node_world.specs.Whole.{IsWithinBounds, MayBootAt, MayStop, if_accepted};
+
+use crate::controller::ControllerPlace;
+use crate::controller_power::{
+    arm_controller, boot_controller, cut_controller, lose_at_controller,
+};
+use crate::controller_steps::{activate_controller, reset_controller};
+use crate::hosts_do::{
+    host_activates, host_arms, host_loses, host_resets, host_starts, host_stops,
+};
+use crate::nodes::{WorldController, WorldHost, WorldNode};
+use crate::noted::Noted;
+use crate::places::HostSite;
+use arrayvec::ArrayVec;
+use std::alloc::Global;
+use swp_base::NoMemory;
+use trace_model::{End, LostCause, NoCause};
+
+/// An end is reset, with this window, which is 1 to 4, or with its own one. The cause, where that is refused: nothing happens then.
+///
+/// # Errors
+///
+/// No memory is left; what the world stands for then isn't said.
+pub(crate) fn reset_end<C: WorldNode + Drop, P: WorldNode + Drop>(
+    controller: &mut ControllerPlace<C>,
+    sites: &mut [HostSite<P>],
+    at: End,
+    window: Option<u8>,
+    noted: &mut Noted,
+) -> Result<Option<NoCause>, NoMemory>
+    requires state { (w : NodeWorld) × WorldIs C.runs C.memory P.runs P.memory controller.old sites.old w × IsWithinBounds w × IsThere at.link w }
+    requires window { IfSome window (λ w. (1 ≤ w) × (w ≤ 4)) }
+    requires memory { noted.old.short ≡ false }
+    ensures refusal { (w : NodeWorld) → WorldIs C.runs C.memory P.runs P.memory controller.old sites.old w → IsWithinBounds w → IsThere at.link w
+        → IfOk result (λ cause. cause ≡ refusal_in w (line.Reset at window)) }
+    ensures stands { (w : NodeWorld) → WorldIs C.runs C.memory P.runs P.memory controller.old sites.old w → IsWithinBounds w → IsThere at.link w
+        → IfOk result (λ cause. WorldBecomes C.runs C.memory P.runs P.memory controller.new sites.new noted.old.entries.items noted.new.entries.items
+        (if_accepted cause w (world_step w (Resets at window)))) }
+    ensures memory { OnOk result (noted.new.short ≡ false) }
+{
+    if at.at_host {
+        host_resets(sites, at, window, noted)
+    } else {
+        reset_controller(controller, sites, at.link, window, noted)
+    }
+}
+
+/// The first frame on the way to an end is lost for this cause. A frame that was refused on its way counts for REC_ERROR of that end, while
+/// its node runs.
+///
+/// # Errors
+///
+/// No memory is left; what the world stands for then isn't said.
+pub(crate) fn lose_frame<C: WorldNode + Drop, P: WorldNode + Drop>(
+    controller: &mut ControllerPlace<C>,
+    sites: &mut [HostSite<P>],
+    at: End,
+    cause: LostCause,
+    noted: &mut Noted,
+) -> Result<(), NoMemory>
+    requires state { (w : NodeWorld) × WorldIs C.runs C.memory P.runs P.memory controller.old sites.old w × IsWithinBounds w × IsThere at.link w }
+    ensures stands { (w : NodeWorld) (why : Loss) → WorldIs C.runs C.memory P.runs P.memory controller.old sites.old w → IsWithinBounds w
+        → IsThere at.link w → cause ≡ lost_as why
+        → OnOk result (WorldBecomes C.runs C.memory P.runs P.memory controller.new sites.new noted.old.entries.items noted.new.entries.items
+        (world_step w (Loses at why))) }
+    ensures short { noted.new.short ≡ noted.old.short }
+{
+    if at.at_host {
+        host_loses(sites, at, cause, noted)
+    } else {
+        lose_at_controller(controller, sites, at.link, cause, noted)
+    }
+}
+
+/// A node that doesn't run boots from its memory: the controller with ends of the links with the hosts of this mask, in which bit h stands
+/// for host h.
+///
+/// # Errors
+///
+/// No memory is left; what the world stands for then isn't said.
+pub(crate) fn boot_node<C: WorldController + Drop, P: WorldHost + Drop>(
+    alloc: Global,
+    controller: &mut ControllerPlace<C>,
+    sites: &mut [HostSite<P>],
+    node: u8,
+    mask: u8,
+    noted: &mut Noted,
+) -> Result<(), NoMemory>
+    requires state { (w : NodeWorld) × WorldIs C.runs C.memory P.runs P.memory controller.old sites.old w × MayBootAt node w }
+    ensures stands { (w : NodeWorld) → WorldIs C.runs C.memory P.runs P.memory controller.old sites.old w → MayBootAt node w
+        → hosts_where (has mask) ≡ hosts_in w.sites
+        → OnOk result (WorldBecomes C.runs C.memory P.runs P.memory controller.new sites.new noted.old.entries.items noted.new.entries.items
+        (world_step w (Boots node))) }
+    ensures short { noted.new.short ≡ noted.old.short }
+{
+    if node == 0 {
+        boot_controller(alloc, controller, sites, mask, noted)
+    } else {
+        host_starts(alloc, sites, node, noted)
+    }
+}
+
+/// The power of a node that runs is cut.
+///
+/// # Errors
+///
+/// No memory is left; what the world stands for then isn't said.
+pub(crate) fn cut_node<C: WorldNode + Drop, P: WorldNode + Drop>(
+    controller: &mut ControllerPlace<C>,
+    sites: &mut [HostSite<P>],
+    node: u8,
+    noted: &mut Noted,
+) -> Result<(), NoMemory>
+    ensures stands { (w : NodeWorld) → WorldIs C.runs C.memory P.runs P.memory controller.old sites.old w → MayStop node w
+        → OnOk result (WorldBecomes C.runs C.memory P.runs P.memory controller.new sites.new noted.old.entries.items noted.new.entries.items
+        (world_step w (IsCut node))) }
+    ensures short { noted.new.short ≡ noted.old.short }
+{
+    if node == 0 {
+        cut_controller(controller, sites, noted)
+    } else {
+        host_stops(sites, node, noted)
+    }
+}
+
+/// One of the next writes to the memory of a node will fail, whether the node runs or not.
+pub(crate) fn arm_node<C: WorldNode + Drop, P: WorldNode + Drop>(
+    controller: &mut ControllerPlace<C>,
+    sites: &mut [HostSite<P>],
+    node: u8,
+    nth: u32,
+    fill: ArrayVec<u8, 64>,
+)
+    requires nth { 0 < nth }
+    requires fill { 0 < length fill.items }
+    ensures { (w : NodeWorld) → WorldIs C.runs C.memory P.runs P.memory controller.old sites.old w → IsWithinBounds w
+        → WorldIs C.runs C.memory P.runs P.memory controller.new sites.new (world_step w (Arms node (record { nth = nth; fill = fill.items }))).0 }
+{
+    if node == 0 {
+        arm_controller(controller, sites, nth, fill);
+    } else {
+        host_arms(sites, node, nth, fill);
+    }
+}
+
+/// Activation begins on the link of a host: first at the controller's end, with a power mode of 00 or 01, and then at the host's, with this
+/// sync identifier.
+///
+/// # Errors
+///
+/// No memory is left; what the world stands for then isn't said.
+pub(crate) fn activate_link<C: WorldController + Drop, P: WorldHost + Drop>(
+    controller: &mut ControllerPlace<C>,
+    sites: &mut [HostSite<P>],
+    host: u8,
+    sync: u16,
+    power: u8,
+    noted: &mut Noted,
+) -> Result<(), NoMemory>
+    requires state { (w : NodeWorld) × WorldIs C.runs C.memory P.runs P.memory controller.old sites.old w × MayGoOn w × FewBehind 200000000 w
+        × IsThere host w }
+    requires power { power ≤ 1 }
+    requires memory { noted.old.short ≡ false }
+    ensures stands { (w : NodeWorld) → WorldIs C.runs C.memory P.runs P.memory controller.old sites.old w → MayGoOn w → FewBehind 200000000 w
+        → IsThere host w → OnOk result (WorldBecomes C.runs C.memory P.runs P.memory controller.new sites.new noted.old.entries.items noted.new.entries.items
+        (world_step w (Activates host sync power))) }
+    ensures memory { OnOk result (noted.new.short ≡ false) }
+{
+    activate_controller(controller, sites, host, power, noted)?;
+    host_activates(sites, host, sync, noted)
+}

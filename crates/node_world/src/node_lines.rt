@@ -1,0 +1,214 @@
+//! Lines of a schedule that power a node up and down, have a write to its memory fail, tell its tables, or reset an end.
+ghost use Rattle.std.specs.Prelude.{◌≡◌, [], false, option_map, IfOk, OnOk};
+ghost use Rattle.trace_model.specs.declared.line.Header.{Header};
+ghost use Rattle.trace_model.specs.declared.line.Line.TheVariants as line;
+ghost use Rattle.gate_admin.specs.View.{has, hosts_where};
+ghost use Rattle.node_machine.specs.Parts.{Running};
+ghost use Rattle.node_machine.specs.world.World.{NodeWorld, node_at};
+ghost use Rattle.node_machine.specs.world.Lines.{line_step};
+ghost use Rattle.node_world.specs.Controllers.{WorldIs, MayGoOn};
+ghost use Rattle.node_world.specs.Whole.{LinePlayed, MayPlay};
+
+use crate::controller::ControllerPlace;
+use crate::controller_sites::place_of;
+use crate::happening::{activate_link, arm_node, boot_node, cut_node, reset_end};
+use crate::looking::runs;
+use crate::nodes::{WorldController, WorldHost, WorldNode};
+use crate::noted::{Noted, refuse};
+use crate::places::HostSite;
+use arrayvec::ArrayVec;
+use hci_tables::Tables;
+use std::alloc::Global;
+use swp_base::NoMemory;
+use trace_model::{End, Entry, NoCause, NodeTables};
+
+/// A line `boot`: the node starts from its memory, the controller with links to the hosts of this mask, or the line is refused where it
+/// runs.
+///
+/// # Errors
+///
+/// No memory is left; what the world stands for then isn't said.
+pub(crate) fn boot_line<C: WorldController + Drop, P: WorldHost + Drop>(
+    alloc: Global,
+    controller: &mut ControllerPlace<C>,
+    sites: &mut [HostSite<P>],
+    node: u8,
+    mask: u8,
+    noted: &mut Noted,
+) -> Result<(), NoMemory>
+    requires state { (header : Header) × (w : NodeWorld) × WorldIs C.runs C.memory P.runs P.memory controller.old sites.old w
+        × MayPlay header (line.Boot node) w }
+    requires nothing { noted.old.entries.items ≡ [] }
+    requires memory { noted.old.short ≡ false }
+    ensures stands { (header : Header) (w : NodeWorld) → WorldIs C.runs C.memory P.runs P.memory controller.old sites.old w
+        → MayPlay header (line.Boot node) w → hosts_where (has mask) ≡ header.hosts.items
+        → OnOk result (LinePlayed C.runs C.memory P.runs P.memory controller.new sites.new noted.new.entries.items (line_step w (line.Boot node))) }
+    ensures memory { OnOk result (noted.new.short ≡ false) }
+{
+    if runs(controller, sites, node) {
+        return refuse(noted, NoCause::Running);
+    }
+    boot_node(alloc, controller, sites, node, mask, noted)
+}
+
+/// A line `cut`: the power of the node is cut, or the line is refused where it doesn't run.
+///
+/// # Errors
+///
+/// No memory is left; what the world stands for then isn't said.
+pub(crate) fn cut_line<C: WorldNode + Drop, P: WorldNode + Drop>(
+    controller: &mut ControllerPlace<C>,
+    sites: &mut [HostSite<P>],
+    node: u8,
+    noted: &mut Noted,
+) -> Result<(), NoMemory>
+    requires nothing { noted.old.entries.items ≡ [] }
+    requires memory { noted.old.short ≡ false }
+    ensures stands { (header : Header) (w : NodeWorld) → WorldIs C.runs C.memory P.runs P.memory controller.old sites.old w
+        → MayPlay header (line.Cut node) w
+        → OnOk result (LinePlayed C.runs C.memory P.runs P.memory controller.new sites.new noted.new.entries.items (line_step w (line.Cut node))) }
+    ensures memory { OnOk result (noted.new.short ≡ false) }
+{
+    if !runs(controller, sites, node) {
+        return refuse(noted, NoCause::Off);
+    }
+    cut_node(controller, sites, node, noted)
+}
+
+/// A line `activate`: activation begins on the link of the host, or the line is refused where the controller or the host doesn't run.
+///
+/// # Errors
+///
+/// No memory is left; what the world stands for then isn't said.
+pub(crate) fn activate_line<C: WorldController + Drop, P: WorldHost + Drop>(
+    controller: &mut ControllerPlace<C>,
+    sites: &mut [HostSite<P>],
+    host: u8,
+    sync: u16,
+    power: u8,
+    noted: &mut Noted,
+) -> Result<(), NoMemory>
+    requires state { (header : Header) × (w : NodeWorld) × WorldIs C.runs C.memory P.runs P.memory controller.old sites.old w
+        × MayPlay header (line.Activate host sync power) w }
+    requires nothing { noted.old.entries.items ≡ [] }
+    requires memory { noted.old.short ≡ false }
+    ensures stands { (header : Header) (w : NodeWorld) → WorldIs C.runs C.memory P.runs P.memory controller.old sites.old w
+        → MayPlay header (line.Activate host sync power) w
+        → OnOk result (LinePlayed C.runs C.memory P.runs P.memory controller.new sites.new noted.new.entries.items
+        (line_step w (line.Activate host sync power))) }
+    ensures memory { OnOk result (noted.new.short ≡ false) }
+{
+    if !runs(controller, sites, 0) {
+        return refuse(noted, NoCause::Off);
+    }
+    if !runs(controller, sites, host) {
+        return refuse(noted, NoCause::Off);
+    }
+    activate_link(controller, sites, host, sync, power, noted)
+}
+
+/// A line `arm`: a write to the memory of the node is to fail.
+///
+/// # Errors
+///
+/// No memory is left; what the world stands for then isn't said.
+pub(crate) fn arm_line<C: WorldNode + Drop, P: WorldNode + Drop>(
+    controller: &mut ControllerPlace<C>,
+    sites: &mut [HostSite<P>],
+    node: u8,
+    nth: u32,
+    fill: &ArrayVec<u8, 64>,
+    noted: &Noted,
+) -> Result<(), NoMemory>
+    requires state { (header : Header) × (w : NodeWorld) × WorldIs C.runs C.memory P.runs P.memory controller.old sites.old w
+        × MayPlay header (line.Arm node nth fill.now) w }
+    requires nothing { noted.now.entries.items ≡ [] }
+    ensures stands { (header : Header) (w : NodeWorld) → WorldIs C.runs C.memory P.runs P.memory controller.old sites.old w
+        → MayPlay header (line.Arm node nth fill.now) w
+        → OnOk result (LinePlayed C.runs C.memory P.runs P.memory controller.new sites.new noted.now.entries.items
+        (line_step w (line.Arm node nth fill.now))) }
+{
+    arm_node(controller, sites, node, nth, fill.clone()?);
+    Ok(())
+}
+
+/// A line `reset`: the end is reset, or the line is refused.
+///
+/// # Errors
+///
+/// No memory is left; what the world stands for then isn't said.
+pub(crate) fn reset_line<C: WorldNode + Drop, P: WorldNode + Drop>(
+    controller: &mut ControllerPlace<C>,
+    sites: &mut [HostSite<P>],
+    at: End,
+    window: Option<u8>,
+    noted: &mut Noted,
+) -> Result<(), NoMemory>
+    requires state { (header : Header) × (w : NodeWorld) × WorldIs C.runs C.memory P.runs P.memory controller.old sites.old w
+        × MayPlay header (line.Reset at window) w }
+    requires nothing { noted.old.entries.items ≡ [] }
+    requires memory { noted.old.short ≡ false }
+    ensures stands { (header : Header) (w : NodeWorld) → WorldIs C.runs C.memory P.runs P.memory controller.old sites.old w
+        → MayPlay header (line.Reset at window) w
+        → OnOk result (LinePlayed C.runs C.memory P.runs P.memory controller.new sites.new noted.new.entries.items
+        (line_step w (line.Reset at window))) }
+    ensures memory { OnOk result (noted.new.short ≡ false) }
+{
+    let cause = reset_end(controller, sites, at, window, noted)?;
+    match cause {
+        Some(cause) => refuse(noted, cause),
+        None => Ok(()),
+    }
+}
+
+// A copy of the tables of a node that runs. `None` where it doesn't.
+fn copied_tables<C: WorldNode + Drop, P: WorldNode + Drop>(
+    controller: &ControllerPlace<C>,
+    sites: &[HostSite<P>],
+    node: u8,
+) -> Result<Option<Tables>, NoMemory>
+    ensures { (w : NodeWorld) → WorldIs C.runs C.memory P.runs P.memory controller.now sites.now w → MayGoOn w
+        → IfOk result (λ tables. tables ≡ option_map (λ (r : Running). r.core.tables) (node_at w node)) }
+{
+    if node == 0 {
+        return match &controller.on {
+            Some(node) => Ok(Some(node.tables().clone()?)),
+            None => Ok(None),
+        };
+    }
+    let Some(place) = place_of(sites, node) else {
+        return Ok(None);
+    };
+    match &sites[place].on {
+        Some(node) => Ok(Some(node.tables().clone()?)),
+        None => Ok(None),
+    }
+}
+
+/// A line `tables`: the tables of the node are told, or the line is refused where it doesn't run.
+///
+/// # Errors
+///
+/// No memory is left; what the world stands for then isn't said.
+pub(crate) fn tables_line<C: WorldNode + Drop, P: WorldNode + Drop>(
+    alloc: Global,
+    controller: &ControllerPlace<C>,
+    sites: &[HostSite<P>],
+    node: u8,
+    noted: &mut Noted,
+) -> Result<(), NoMemory>
+    requires nothing { noted.old.entries.items ≡ [] }
+    requires memory { noted.old.short ≡ false }
+    ensures stands { (w : NodeWorld) → WorldIs C.runs C.memory P.runs P.memory controller.now sites.now w → MayGoOn w
+        → OnOk result (LinePlayed C.runs C.memory P.runs P.memory controller.now sites.now noted.new.entries.items (line_step w (line.Tables node))) }
+    ensures memory { OnOk result (noted.new.short ≡ false) }
+{
+    let Some(tables) = copied_tables(controller, sites, node)? else {
+        return refuse(noted, NoCause::Off);
+    };
+    let tables = NodeTables::new(alloc, tables)?;
+    match noted.entries.push(Entry::Tables { node, tables }) {
+        Ok(()) => Ok(()),
+        Err(_) => Err(NoMemory),
+    }
+}
