@@ -9,4 +9,5 @@ pub mod Giving
 pub mod LineLemmas
 pub mod Given
 pub mod Repeating
-pub mod Worlds
+pub mod BareWorlds
+pub mod Below

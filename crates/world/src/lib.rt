@@ -1,8 +1,10 @@
-//! The world of a run: a bare link with its two ends and the frames between them. It takes the lines of a schedule one by one,
-//! and says what each of them causes. All of it is this project's own.
+//! The world of a run: a bare link with its two ends, or a controller and its hosts, and the frames between them. It takes the lines of a
+//! schedule one by one, and says what each of them causes. All of it is this project's own.
 #![tactic(auto)]
 
+mod bare_world;
 mod damage_line;
+mod fault;
 mod line_steps;
 mod lines;
 mod node;
@@ -11,4 +13,5 @@ mod side;
 mod steps;
 mod world_steps;
 
-pub use world_steps::{World, WorldFault};
+pub use fault::WorldFault;
+pub use world_steps::World;

@@ -2,25 +2,14 @@
 ghost use Rattle.std.specs.Prelude.{◌≡◌, ℕ, ◌+◌, ◌*◌, ◌<◌, ◌≤◌, ◌^◌, [], List, length, false, OnOk, IfSome};
 ghost use Rattle.trace_model.specs.declared.line.Line.TheVariants as line;
 ghost use Rattle.link_entries.specs.messages.Links.{Link};
-ghost use Rattle.link_laws.specs.sessions.Sessions.{OnWire};
 ghost use Rattle.history.specs.Histories.Cause.{Ticked};
-ghost use Rattle.history.specs.Follows.{taken_of};
 ghost use Rattle.world.specs.Lines.{SidesStandFor, Does, HasCaused, HaveSent};
 
 use crate::side::Side;
 use crate::steps::{age_frames, take_frame, tick_end};
+use link_wires::taken;
 use std::alloc::{AllocError, Global};
 use trace_model::{End, Entry, NoCause};
-
-// How many frames a line takes of so many on a wire: that many, or all.
-fn taken(count: Option<u8>, on_wire: usize) -> usize
-    ensures { (wire : List OnWire) → length wire ≡ on_wire → result ≡ taken_of count wire }
-{
-    match count {
-        None => on_wire,
-        Some(most) => usize::from(most).min(on_wire),
-    }
-}
 
 /// A line `deliver`: the end takes so many of the frames that stand on the wire to it, or all of them, or the line is refused
 /// where there is none.

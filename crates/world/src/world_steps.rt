@@ -1,79 +1,51 @@
-//! The world, line by line.
-ghost use Rattle.std.specs.Prelude.{◌≡◌, [], ◌∷◌, ◌++◌, List, IfOk, OnOk, IfErr, None};
+//! The world of a run, line by line, below either header.
+ghost use Rattle.std.specs.Prelude.{◌≡◌, [], ◌∷◌, ◌++◌, List, IfOk, OnOk, IfErr, None, true};
 ghost use Rattle.trace_model.specs.declared.line.Line.{Line};
-ghost use Rattle.trace_model.specs.Lines.{IsHeader, IsLineOf};
-ghost use Rattle.link_entries.specs.entries.Entries.End.{Controller};
-ghost use Rattle.history.specs.Histories.{History, noted};
-ghost use Rattle.history.specs.Follows.{opening_of, host_of, outcome_of, misread, link_at, opened, with_step};
-ghost use Rattle.history.specs.Steps.{end_of};
+ghost use Rattle.trace_model.specs.Lines.{IsNodeOf, MayBegin};
+ghost use Rattle.lines_told.specs.Below.{IsPlayedLine, memory_behind, nodes_behind, opening_told, told_below, misread_below};
+ghost use Rattle.node_world.specs.Worlds.{IsPeekedSo};
+ghost use Rattle.world.specs.Worlds.{StandsBelow, last_noted};
 
-use crate::line_steps::{end_of, play_line};
-use crate::side::Side;
-use history::bare_histories::every_history_is_legal;
+use crate::bare_world::BareWorld;
+use crate::fault::WorldFault;
 use link_wires::Misread;
-use std::alloc::{AllocError, Global};
-use swp_base::{Lpdu, NoMemory};
-use trace_model::{End, Entry, Header, Line};
+use node_world::NodeWorld;
+use std::alloc::Global;
+use swp_base::{MemNv, NoMemory};
+use trace_model::{Entry, Header, Line};
 
-/// Why the world can't go on. It can only be dropped then.
-#[derive(Debug, Drop)]
-pub enum WorldFault {
-    /// A line damages a frame so that another one is read in its place: the CRC doesn't show it.
-    Undetected {
-        /// The frame on the wire.
-        sent: Lpdu,
-        /// The one that is read.
-        read: Lpdu,
-    },
-    /// There was no memory for what a line causes.
-    NoMemory,
+/// What a header names: one bare link, or a controller and its hosts.
+#[derive(Drop)]
+pub(crate) enum Below {
+    Bare(BareWorld),
+    Nodes(NodeWorld),
 }
 
-impl From<AllocError> for WorldFault {
-    ghost use Rattle.std.specs.Prelude.{◌≡◌};
-    ghost use Rattle.world.specs.declared.world_steps.WorldFault.TheVariants as fault;
-
-    ghost from_gives = { λ _ f. f ≡ fault.NoMemory };
-
-    fn from(_: AllocError) -> Self {
-        WorldFault::NoMemory
-    }
-}
-
-/// The world of a run: both ends of a bare link, the frames between them, and what the last line caused (this project's own).
+/// The world of a run (this project's own).
 #[derive(Drop)]
 pub struct World {
     header: Header,
-    controller: Side,
-    host: Side,
-    // How many RSETs were put on the link.
-    resets: u32,
-    // How many lines were stepped.
-    stepped: u32,
-    entries: Vec<Entry>,
+    below: Below,
 }
 
 impl World {
-    ghost use Rattle.world.specs.Worlds.{WorldStandsFor, HasRoomForLine, IsFaultOf, world_header, world_entries};
+    ghost use Rattle.world.specs.Worlds.{IsWorldAt, HasRoomForLine, IsFaultThere, world_header, world_entries};
 
-    /// The world that a header names: both ends of its link are Up in session 0, and no frame is on its way.
+    /// The world that a header names. Below a bare one both ends of its link are Up in session 0, and no frame is on its way; below that
+    /// of nodes no node runs yet, and all memories are blank.
     ///
     /// # Errors
     ///
     /// `NoMemory` where memory runs out.
     pub fn new(alloc: Global, header: &Header) -> Result<World, NoMemory>
-        requires { IsHeader header.now }
-        ensures stands { IfOk result (λ w. WorldStandsFor w header.now [] (opened header.now)) }
-        ensures entries { IfOk result (λ w. world_entries w ≡ opening_of (host_of header.now)) }
+        requires { MayBegin header.now }
+        ensures stands { IfOk result (λ w. IsWorldAt w header.now []) }
+        ensures header { IfOk result (λ w. world_header w ≡ header.now) }
+        ensures entries { IfOk result (λ w. world_entries w ≡ opening_told header.now) }
     {
-        every_history_is_legal();
         Ok(World {
             header: header.clone()?,
-            controller: Side::make(alloc)?,
-            host: Side::make(alloc)?,
-            resets: 0,
-            stepped: 0,
-            entries: opening(alloc, controller_end(header).link)?,
+            below: named_by(alloc, header)?,
         })
     }
 
@@ -85,47 +57,24 @@ impl World {
     /// runs out. The world is of no use then.
     pub fn step(&mut self, alloc: Global, line: &Line) -> Result<(), WorldFault>
         requires room { HasRoomForLine self.old }
-        requires line { IsLineOf (world_header self.old) line.now }
-        ensures stands { (lines : List Line) (t : History) → WorldStandsFor self.old (world_header self.old) lines t
-            → OnOk result (WorldStandsFor self.new (world_header self.old) (lines ++ line.now ∷ []) (with_step t line.now)) }
-        ensures entries { (lines : List Line) (t : History) → WorldStandsFor self.old (world_header self.old) lines t
-            → OnOk result (world_entries self.new ≡ noted (outcome_of (host_of (world_header self.old)) (link_at t) line.now)) }
-        ensures fault { (lines : List Line) (t : History) → WorldStandsFor self.old (world_header self.old) lines t
-            → IfErr result (IsFaultOf (link_at t) line.now) }
-        ensures told { (lines : List Line) (t : History) → WorldStandsFor self.old (world_header self.old) lines t
-            → OnOk result (misread (link_at t) line.now ≡ None) }
+        requires line { IsPlayedLine (world_header self.old) line.now }
+        ensures stands { (lines : List Line) → IsWorldAt self.old (world_header self.old) lines
+            → OnOk result (IsWorldAt self.new (world_header self.old) (lines ++ line.now ∷ [])) }
+        ensures entries { (lines : List Line) → IsWorldAt self.old (world_header self.old) lines
+            → OnOk result (world_entries self.new ≡ told_below (world_header self.old) lines line.now) }
+        ensures fault { (lines : List Line) → IsWorldAt self.old (world_header self.old) lines
+            → IfErr result (IsFaultThere (world_header self.old) lines line.now) }
+        ensures told { (lines : List Line) → IsWorldAt self.old (world_header self.old) lines
+            → OnOk result (misread_below (world_header self.old) lines line.now ≡ None) }
+        ensures header { world_header self.new ≡ world_header self.old }
     {
-        every_history_is_legal();
-        self.entries.clear();
-        self.stepped += 1;
-        let at = end_of(line, controller_end(&self.header));
-        let mut other = None;
-        if at.at_host {
-            play_line(
-                alloc,
-                line,
-                at,
-                &mut self.host,
-                &mut self.controller,
-                &mut self.resets,
-                &mut self.entries,
-                &mut other,
-            )?;
-        } else {
-            play_line(
-                alloc,
-                line,
-                at,
-                &mut self.controller,
-                &mut self.host,
-                &mut self.resets,
-                &mut self.entries,
-                &mut other,
-            )?;
-        }
-        match other {
-            Some(Misread { sent, read }) => Err(WorldFault::Undetected { sent, read }),
-            None => Ok(()),
+        match &mut self.below {
+            Below::Bare(world) => world.step(alloc, line),
+            Below::Nodes(world) => match world.step(alloc, line) {
+                Ok(None) => Ok(()),
+                Ok(Some(Misread { sent, read })) => Err(WorldFault::Undetected { sent, read }),
+                Err(_) => Err(WorldFault::NoMemory),
+            },
         }
     }
 
@@ -140,37 +89,38 @@ impl World {
     pub fn entries(&self) -> &[Entry]
         ensures { result.now ≡ world_entries self.now }
     {
-        self.entries.as_slice()
+        match &self.below {
+            Below::Bare(world) => world.entries(),
+            Below::Nodes(world) => world.entries(),
+        }
+    }
+
+    /// The memory of a node as it is now, whether the node runs or not.
+    pub fn into_memory(self, node: u8) -> MemNv
+        requires state { (lines : List Line) × IsWorldAt self (world_header self) lines }
+        requires nodes { (world_header self).hci ≡ true }
+        requires node { IsNodeOf (world_header self).hosts.items node }
+        ensures memory { (lines : List Line) → IsWorldAt self (world_header self) lines
+            → result ≡ memory_behind (world_header self) lines node }
+        ensures found { (lines : List Line) → IsWorldAt self (world_header self) lines
+            → IsPeekedSo (nodes_behind (world_header self) lines) node result.content }
+    {
+        match self.below {
+            Below::Bare(_) => unreachable!(),
+            Below::Nodes(world) => world.into_memory(node),
+        }
     }
 }
 
-// The controller's end of the link of a header.
-fn controller_end(header: &Header) -> End
-    requires { IsHeader header.now }
-    ensures { result ≡ end_of (host_of header.now) Controller }
+// What a header names, before the first line.
+fn named_by(alloc: Global, header: &Header) -> Result<Below, NoMemory>
+    requires { MayBegin header.now }
+    ensures stands { IfOk result (λ b. StandsBelow b header.now []) }
+    ensures entries { IfOk result (λ b. last_noted b ≡ opening_told header.now) }
 {
-    End {
-        link: header.hosts.as_slice()[0],
-        at_host: false,
+    if header.hci {
+        Ok(Below::Nodes(NodeWorld::new(alloc, header)?))
+    } else {
+        Ok(Below::Bare(BareWorld::new(alloc, header)?))
     }
-}
-
-// Both ends of a link are Up from the start on.
-fn opening(alloc: Global, link: u8) -> Result<Vec<Entry>, AllocError>
-    ensures { IfOk result (λ entries. entries.items ≡ opening_of link) }
-{
-    let mut entries = Vec::new(alloc);
-    let controller = End {
-        link,
-        at_host: false,
-    };
-    entries.push(Entry::Up {
-        at: controller,
-        session: 0,
-    })?;
-    entries.push(Entry::Up {
-        at: controller.other(),
-        session: 0,
-    })?;
-    Ok(entries)
 }

@@ -1,102 +1,58 @@
-use Rattle.std.proofs.Common.{List, ◌≡◌, ◌+◌, true, false, refl, sym, ap, subst, ◌∙◌}
+use Rattle.std.proofs.Common.{◌≡◌, List, [], ◌∷◌, ◌++◌, refl, sym, ap, subst, ◌∙◌}
 use Rattle.std.specs.Prelude.{None}
-use Rattle.trace_model.specs.declared.line.End.{End}
+use Rattle.std.proofs.lemmas.Result.{on_ok_weaker, IfErr-weaker}
+use Rattle.trace_model.specs.declared.line.Header.{Header}
 use Rattle.trace_model.specs.declared.line.Line.{Line}
-use Rattle.link_entries.specs.messages.Links.{Link}
-use Rattle.history.specs.Histories.{History}
-use Rattle.history.specs.Follows.{link_at}
-use Rattle.world.specs.declared.world_steps.World.{World}
-use Rattle.world.specs.Lines.{end_for}
-use Rattle.world.specs.Worlds.{WorldStandsFor}
-use Rattle.world.proofs.LineLemmas.{seen_at_host, seen_at_controller}
-use Rattle.world.proofs.Worlds.{Law, WasStepped, Grows, controller_of, host_grows, controller_grows, few_sent, none_misread, one_misread}
+use Rattle.history.specs.Histories.{History, noted}
+use Rattle.history.specs.Follows.{host_of, link_at, misread, outcome_of, with_step}
+use Rattle.world.specs.declared.bare_world.BareWorld.{BareWorld}
+use Rattle.world.specs.BareWorlds.{WorldStandsFor, IsFaultOf}
+use Rattle.world.specs.Worlds.{IsWorldAt, IsFaultThere}
+use Rattle.world.proofs.Below.{stands_bare, of_its_header, told_bare, misread_bare, fault_bare}
 use Rattle.world.proofs.world_steps.World.step.Goals as goal
-use Rattle.world.proofs.world_steps.World.step.Goals.{then-at+in_ok-play_line, else-at+in_ok-play_line-2}
+use Rattle.world.proofs.world_steps.World.step.Goals.{After-step}
 
--- what the line adds, on whichever side the end is from which it is seen
-grown : (c : goal.In-None) (lines : List Line) (t : History) → WorldStandsFor c.args.self.now c.args.self.now.header lines t
-    → Grows c.if-at.self c.args.self.now.header lines t c.args.line.now
-grown c lines t h =
-    let e = c.every_history_is_legal.ensures in
-    let law : Law = record { in_order = e.in_order; joined = e.joined; complete = e.complete; settled = e.settled } in
-    let seen : c.end_of-at.result ≡ end_for (controller_of c.args.self.now.header) c.args.line.now =
-    c.end_of-at.ensures ∙ ap (λ x. end_for x c.args.line.now) c.controller_end.ensures in
-    elim c.if-at.branch [
-      | then-at+in_ok-play_line w ↦
-          (let l : Link = link_at t in
-          let old : World = c.args.self.now in
-          let at : End = c.end_of-at.result in
-          let now : World = record {
-            header = old.header;
-            controller = w.play_line.new.far;
-            host = w.play_line.new.near;
-            resets = w.play_line.new.resets;
-            stepped = old.stepped + 1;
-            entries = w.play_line.new.entries;
-          } in
-          let side : at.at_host ≡ true = w.if-at.true in
-          let stands = seen_at_host at side h.link in
-          let o = w.play_line.new.other in
-          let none : o ≡ None = sym w.other-is ∙ c.in-None.is in
-          let stepped : WasStepped old now old.header lines t c.args.line.now =
-          record {
-            before = h;
-            is_line = c.requires.line;
-            header_is = refl;
-            none_misread = none_misread l c.args.line.now o none (w.in_ok-play_line.ensures.misread l stands);
-            resets = w.in_ok-play_line.ensures.grows;
-            counted = refl;
-          } in
-          let P : World → Type 0 = λ x. Grows x old.header lines t c.args.line.now in
-          subst P (sym w.self-is)
-          (host_grows law stepped seen side (w.in_ok-play_line.ensures.stands l stands (few_sent c.requires.room h) none)))
-      | else-at+in_ok-play_line-2 w ↦
-          (let l : Link = link_at t in
-          let old : World = c.args.self.now in
-          let at : End = c.end_of-at.result in
-          let now : World = record {
-            header = old.header;
-            controller = w.play_line-else-at.new.near;
-            host = w.play_line-else-at.new.far;
-            resets = w.play_line-else-at.new.resets;
-            stepped = old.stepped + 1;
-            entries = w.play_line-else-at.new.entries;
-          } in
-          let side : at.at_host ≡ false = w.if-at.false in
-          let stands = seen_at_controller at side h.link in
-          let o = w.play_line-else-at.new.other in
-          let none : o ≡ None = sym w.other-is ∙ c.in-None.is in
-          let stepped : WasStepped old now old.header lines t c.args.line.now =
-          record {
-            before = h;
-            is_line = c.requires.line;
-            header_is = refl;
-            none_misread = none_misread l c.args.line.now o none (w.in_ok-play_line-2.ensures.misread l stands);
-            resets = w.in_ok-play_line-2.ensures.grows;
-            counted = refl;
-          } in
-          let P : World → Type 0 = λ x. Grows x old.header lines t c.args.line.now in
-          subst P (sym w.self-is)
-          (controller_grows law stepped seen side (w.in_ok-play_line-2.ensures.stands l stands (few_sent c.requires.room h) none)))
-    ]
+-- what the bare world below the header stood for
+stood : (c : After-step) (lines : List Line) → IsWorldAt c.args.self.now c.args.self.now.header lines
+    → (t : History) × WorldStandsFor c.in-Bare.world c.args.self.now.header lines t
+stood c lines at = stands_bare c.args.self.now.below c.in-Bare.world c.args.self.now.header lines c.in-Bare.is at.stands
 
-pub returns-in-None-clause-stands : goal.returns-in-None-clause-stands
-returns-in-None-clause-stands c lines t h = (grown c lines t h).stands
+pub returns-in-Bare-clause-stands : goal.returns-in-Bare-clause-stands
+returns-in-Bare-clause-stands c lines at =
+    let w : BareWorld = c.in-Bare.world in
+    let header : Header = c.args.self.now.header in
+    let said : Line = c.args.line.now in
+    let z = stood c lines at in
+    let P : Header → Type 0 = λ x. WorldStandsFor c.step.new.self x (lines ++ said ∷ []) (with_step z.0 said) in
+    on_ok_weaker c.step.result
+    (λ (s : P w.header). record { header_is = refl; stands = (with_step z.0 said, subst P z.1.header_is s) })
+    (c.step.ensures.stands lines z.0 (of_its_header w header lines z.0 z.1))
 
-pub returns-in-None-clause-entries : goal.returns-in-None-clause-entries
-returns-in-None-clause-entries c lines t h = (grown c lines t h).entries_are
+pub returns-in-Bare-clause-entries : goal.returns-in-Bare-clause-entries
+returns-in-Bare-clause-entries c lines at =
+    let w : BareWorld = c.in-Bare.world in
+    let header : Header = c.args.self.now.header in
+    let said : Line = c.args.line.now in
+    let z = stood c lines at in
+    on_ok_weaker c.step.result
+    (λ (e : c.step.new.self.entries.items ≡ noted (outcome_of (host_of w.header) (link_at z.0) said)).
+    e ∙ ap (λ x. noted (outcome_of (host_of x) (link_at z.0) said)) z.1.header_is ∙ sym (told_bare w header lines z.0 z.1 said))
+    (c.step.ensures.entries lines z.0 (of_its_header w header lines z.0 z.1))
 
-pub returns-in-Some-clause-fault : goal.returns-in-Some-clause-fault
-returns-in-Some-clause-fault c lines t h =
-    elim c.if-at.branch [
-      | then-at+in_ok-play_line w ↦
-          (let old : World = c.args.self.now in
-          let stands = seen_at_host c.end_of-at.result w.if-at.true h.link in
-          one_misread (link_at t) c.args.line.now w.play_line.new.other c.in-Some.field-0 (sym w.other-is ∙ c.in-Some.is)
-          (w.in_ok-play_line.ensures.misread (link_at t) stands))
-      | else-at+in_ok-play_line-2 w ↦
-          (let old : World = c.args.self.now in
-          let stands = seen_at_controller c.end_of-at.result w.if-at.false h.link in
-          one_misread (link_at t) c.args.line.now w.play_line-else-at.new.other c.in-Some.field-0 (sym w.other-is ∙ c.in-Some.is)
-          (w.in_ok-play_line-2.ensures.misread (link_at t) stands))
-    ]
+pub returns-in-Bare-clause-fault : goal.returns-in-Bare-clause-fault
+returns-in-Bare-clause-fault c lines at =
+    let w : BareWorld = c.in-Bare.world in
+    let header : Header = c.args.self.now.header in
+    let said : Line = c.args.line.now in
+    let z = stood c lines at in
+    IfErr-weaker c.step.result (IsFaultOf (link_at z.0) said) (IsFaultThere header lines said) (fault_bare w header lines z.0 z.1 said)
+    (c.step.ensures.fault lines z.0 (of_its_header w header lines z.0 z.1))
+
+pub returns-in-Bare-clause-told : goal.returns-in-Bare-clause-told
+returns-in-Bare-clause-told c lines at =
+    let w : BareWorld = c.in-Bare.world in
+    let header : Header = c.args.self.now.header in
+    let said : Line = c.args.line.now in
+    let z = stood c lines at in
+    on_ok_weaker c.step.result (λ (e : misread (link_at z.0) said ≡ None). misread_bare w header lines z.0 z.1 said ∙ e)
+    (c.step.ensures.told lines z.0 (of_its_header w header lines z.0 z.1))

@@ -1,13 +1,13 @@
 use Rattle.std.proofs.Common.{refl}
-use Rattle.world.specs.declared.world_steps.World.{World}
-use Rattle.world.proofs.Worlds.{Law, new_stands}
-use Rattle.world.proofs.world_steps.World.new.Goals as goal
+use Rattle.world.specs.declared.bare_world.BareWorld.{BareWorld}
+use Rattle.world.proofs.BareWorlds.{Law, new_stands}
+use Rattle.world.proofs.bare_world.BareWorld.new.Goals as goal
 
 pub returns-clause-stands : goal.returns-clause-stands
 returns-clause-stands c =
     let e = c.every_history_is_legal.ensures in
     let law : Law = record { in_order = e.in_order; joined = e.joined; complete = e.complete; settled = e.settled } in
-    let w : World = record {
+    let w : BareWorld = record {
       header = c.in_ok-clone.field-0;
       controller = c.in_ok-make.field-0;
       host = c.in_ok-make-2.field-0;

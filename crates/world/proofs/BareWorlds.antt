@@ -22,10 +22,10 @@ use Rattle.history.specs.Legal.{Legal, Complete, Prefix, Settled, is_chain_fault
 use Rattle.history.proofs.legal.Asked.{only_one}
 use Rattle.world.specs.declared.side.Side.{Side}
 use Rattle.link_wires.specs.declared.finding.Misread.{Misread}
-use Rattle.world.specs.declared.world_steps.World.{World}
+use Rattle.world.specs.declared.bare_world.BareWorld.{BareWorld}
 use Rattle.world.specs.Sides.{SideStandsFor, LinkStandsFor}
 use Rattle.world.specs.Lines.{SidesStandFor, Does, HaveSent, IsMisread, damaged_by, end_for}
-use Rattle.world.specs.Worlds.{WorldStandsFor, HasRoomForLine, world_entries}
+use Rattle.world.specs.BareWorlds.{WorldStandsFor, HasBareRoom, bare_entries}
 use Rattle.world.proofs.Given.{sent_line}
 use Rattle.world.proofs.LineLemmas.{seen_back, seen_here}
 
@@ -102,7 +102,7 @@ legal law header lines t are is follows =
 
 -- ## The header
 
-pub new_stands : Law → (w : World) (header : Header) → IsHeader header → w.header ≡ header
+pub new_stands : Law → (w : BareWorld) (header : Header) → IsHeader header → w.header ≡ header
     → SideStandsFor w.controller (new_numbered_end (new_link_end Bare)) [] → SideStandsFor w.host (new_numbered_end (new_link_end Bare)) [] → w.resets ≡ 0
     → w.stepped ≡ 0 → WorldStandsFor w header [] (opened header)
 new_stands law w header is header_is here there none first =
@@ -147,12 +147,12 @@ link_is header (Tables node) h is = absurd is
 link_is header (Settle rounds) h is = absurd is
 
 -- what a line adds to what the world stands for
-pub record Grows (now : World) (header : Header) (lines : List Line) (t : History) (line : Line) : Type 0 where
+pub record Grows (now : BareWorld) (header : Header) (lines : List Line) (t : History) (line : Line) : Type 0 where
   pub stands : WorldStandsFor now header (lines ++ line ∷ []) (with_step t line)
-  pub entries_are : world_entries now ≡ noted (outcome_of (host_of header) (link_at t) line)
+  pub entries_are : bare_entries now ≡ noted (outcome_of (host_of header) (link_at t) line)
 
 -- a world that stood for a history was stepped by a line, by which no frame is misread
-pub record WasStepped (w now : World) (header : Header) (lines : List Line) (t : History) (line : Line) : Type 0 where
+pub record WasStepped (w now : BareWorld) (header : Header) (lines : List Line) (t : History) (line : Line) : Type 0 where
   pub before : WorldStandsFor w header lines t
   pub is_line : IsLineOf header line
   pub header_is : now.header ≡ w.header
@@ -161,7 +161,7 @@ pub record WasStepped (w now : World) (header : Header) (lines : List Line) (t :
   pub counted : now.stepped ≡ w.stepped + 1
 
 -- both sides stand for the link after the line
-step_stands : {w now : World} {header : Header} {lines : List Line} {t : History} {line : Line} → Law → WasStepped w now header lines t line
+step_stands : {w now : BareWorld} {header : Header} {lines : List Line} {t : History} {line : Line} → Law → WasStepped w now header lines t line
     → LinkStandsFor now.controller now.host now.resets (link_after_line (link_at t) (outcome_of (host_of header) (link_at t) line))
     → WorldStandsFor now header (lines ++ line ∷ []) (with_step t line)
 step_stands {now} {header} {lines} {t} {line} law s link =
@@ -207,22 +207,22 @@ at_link : (header : Header) (line : Line) (at : End) → IsHeader header → IsL
     → at.link ≡ host_of header
 at_link header line at h is q = ap (λ (e : End). e.link) q ∙ link_is header line h is
 
-pub host_grows : {w now : World} {header : Header} {lines : List Line} {t : History} {line : Line} {at : End} → Law
+pub host_grows : {w now : BareWorld} {header : Header} {lines : List Line} {t : History} {line : Line} {at : End} → Law
     → WasStepped w now header lines t line → at ≡ end_for (controller_of header) line → at.at_host ≡ true
-    → Does now.host now.controller now.resets at (link_at t) line (world_entries now) → Grows now header lines t line
+    → Does now.host now.controller now.resets at (link_at t) line (bare_entries now) → Grows now header lines t line
 host_grows {header} {t} {line} {at} law s seen q does =
     let z = on_link (host_of header) (link_at t) (at_link header line at s.before.is_header s.is_line seen) does in
     record { stands = step_stands law s (seen_back at q z.0); entries_are = z.1 }
 
-pub controller_grows : {w now : World} {header : Header} {lines : List Line} {t : History} {line : Line} {at : End} → Law
+pub controller_grows : {w now : BareWorld} {header : Header} {lines : List Line} {t : History} {line : Line} {at : End} → Law
     → WasStepped w now header lines t line → at ≡ end_for (controller_of header) line → at.at_host ≡ false
-    → Does now.controller now.host now.resets at (link_at t) line (world_entries now) → Grows now header lines t line
+    → Does now.controller now.host now.resets at (link_at t) line (bare_entries now) → Grows now header lines t line
 controller_grows {header} {t} {line} {at} law s seen q does =
     let z = on_link (host_of header) (link_at t) (at_link header line at s.before.is_header s.is_line seen) does in
     record { stands = step_stands law s (seen_here at q z.0); entries_are = z.1 }
 
 -- a world that can be stepped was stepped by few lines, and its ends were given few messages
-pub few_sent : {w : World} {lines : List Line} {t : History} → HasRoomForLine w → WorldStandsFor w w.header lines t → HaveSent (link_at t) 20000
+pub few_sent : {w : BareWorld} {lines : List Line} {t : History} → HasBareRoom w → WorldStandsFor w w.header lines t → HaveSent (link_at t) 20000
 few_sent room h =
     let a = h.sent.here in
     let b = h.sent.there in
@@ -241,7 +241,7 @@ pub one_misread : (l : Link) (line : Line) (o : Option Misread) (other : Misread
 one_misread l line o other q h = let P : Option Misread → Type 0 = λ x. IsMisread l line x in subst P q h
 
 -- a world that stands for a history of few enough lines can be stepped
-pub has_room : (w : World) (header : Header) (lines : List Line) (t : History) → WorldStandsFor w header lines t → length lines < 20000 → HasRoomForLine w
+pub has_room : (w : BareWorld) (header : Header) (lines : List Line) (t : History) → WorldStandsFor w header lines t → length lines < 20000 → HasBareRoom w
 has_room w header lines t h few =
     let P : Header → Type 0 = λ x. WorldStandsFor w x lines t in
     record { lines = lines; history = t; stands = subst P (sym h.header_is) h; few = few }

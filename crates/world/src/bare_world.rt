@@ -1,0 +1,145 @@
+//! A bare world, line by line.
+ghost use Rattle.std.specs.Prelude.{◌≡◌, [], ◌∷◌, ◌++◌, List, IfOk, OnOk, IfErr, None};
+ghost use Rattle.trace_model.specs.declared.line.Line.{Line};
+ghost use Rattle.trace_model.specs.Lines.{IsHeader, IsLineOf};
+ghost use Rattle.link_entries.specs.entries.Entries.End.{Controller};
+ghost use Rattle.history.specs.Histories.{History, noted};
+ghost use Rattle.history.specs.Follows.{opening_of, host_of, outcome_of, misread, link_at, opened, with_step};
+ghost use Rattle.history.specs.Steps.{end_of};
+
+use crate::fault::WorldFault;
+use crate::line_steps::{end_of, play_line};
+use crate::side::Side;
+use history::bare_histories::every_history_is_legal;
+use link_wires::Misread;
+use std::alloc::{AllocError, Global};
+use swp_base::NoMemory;
+use trace_model::{End, Entry, Header, Line};
+
+/// The world below a bare header: both ends of its link, the frames between them, and what the last line caused (this project's own).
+#[derive(Drop)]
+pub(crate) struct BareWorld {
+    header: Header,
+    controller: Side,
+    host: Side,
+    // How many RSETs were put on the link.
+    resets: u32,
+    // How many lines were stepped.
+    stepped: u32,
+    entries: Vec<Entry>,
+}
+
+impl BareWorld {
+    ghost use Rattle.world.specs.BareWorlds.{WorldStandsFor, HasBareRoom, IsFaultOf, bare_header, bare_entries};
+
+    /// The world that a header names: both ends of its link are Up in session 0, and no frame is on its way.
+    ///
+    /// # Errors
+    ///
+    /// `NoMemory` where memory runs out.
+    pub(crate) fn new(alloc: Global, header: &Header) -> Result<BareWorld, NoMemory>
+        requires { IsHeader header.now }
+        ensures stands { IfOk result (λ w. WorldStandsFor w header.now [] (opened header.now)) }
+        ensures entries { IfOk result (λ w. bare_entries w ≡ opening_of (host_of header.now)) }
+    {
+        every_history_is_legal();
+        Ok(BareWorld {
+            header: header.clone()?,
+            controller: Side::make(alloc)?,
+            host: Side::make(alloc)?,
+            resets: 0,
+            stepped: 0,
+            entries: opening(alloc, controller_end(header).link)?,
+        })
+    }
+
+    /// Does what a line asks for, or refuses it. Fewer than 20,000 lines were stepped before.
+    ///
+    /// # Errors
+    ///
+    /// `Undetected` exactly where the line damages a frame so that another one is read in its place; `NoMemory` where memory
+    /// runs out. The world is of no use then.
+    pub(crate) fn step(&mut self, alloc: Global, line: &Line) -> Result<(), WorldFault>
+        requires room { HasBareRoom self.old }
+        requires line { IsLineOf (bare_header self.old) line.now }
+        ensures stands { (lines : List Line) (t : History) → WorldStandsFor self.old (bare_header self.old) lines t
+            → OnOk result (WorldStandsFor self.new (bare_header self.old) (lines ++ line.now ∷ []) (with_step t line.now)) }
+        ensures entries { (lines : List Line) (t : History) → WorldStandsFor self.old (bare_header self.old) lines t
+            → OnOk result (bare_entries self.new ≡ noted (outcome_of (host_of (bare_header self.old)) (link_at t) line.now)) }
+        ensures fault { (lines : List Line) (t : History) → WorldStandsFor self.old (bare_header self.old) lines t
+            → IfErr result (IsFaultOf (link_at t) line.now) }
+        ensures told { (lines : List Line) (t : History) → WorldStandsFor self.old (bare_header self.old) lines t
+            → OnOk result (misread (link_at t) line.now ≡ None) }
+    {
+        every_history_is_legal();
+        self.entries.clear();
+        self.stepped += 1;
+        let at = end_of(line, controller_end(&self.header));
+        let mut other = None;
+        if at.at_host {
+            play_line(
+                alloc,
+                line,
+                at,
+                &mut self.host,
+                &mut self.controller,
+                &mut self.resets,
+                &mut self.entries,
+                &mut other,
+            )?;
+        } else {
+            play_line(
+                alloc,
+                line,
+                at,
+                &mut self.controller,
+                &mut self.host,
+                &mut self.resets,
+                &mut self.entries,
+                &mut other,
+            )?;
+        }
+        match other {
+            Some(Misread { sent, read }) => Err(WorldFault::Undetected { sent, read }),
+            None => Ok(()),
+        }
+    }
+
+    /// What the last line caused, in order; before the first line, what the header did. The lines themselves aren't in it.
+    pub(crate) fn entries(&self) -> &[Entry]
+        ensures { result.now ≡ bare_entries self.now }
+    {
+        self.entries.as_slice()
+    }
+}
+
+// The controller's end of the link of a header.
+fn controller_end(header: &Header) -> End
+    requires { IsHeader header.now }
+    ensures { result ≡ end_of (host_of header.now) Controller }
+{
+    End {
+        link: header.hosts.as_slice()[0],
+        at_host: false,
+    }
+}
+
+// Both ends of a link are Up from the start on.
+fn opening(alloc: Global, link: u8) -> Result<Vec<Entry>, AllocError>
+    ensures { IfOk result (λ entries. entries.items ≡ opening_of link) }
+{
+    let mut entries = Vec::new(alloc);
+    let controller = End {
+        link,
+        at_host: false,
+    };
+    entries.push(Entry::Up {
+        at: controller,
+        session: 0,
+    })?;
+    entries.push(Entry::Up {
+        at: controller.other(),
+        session: 0,
+    })?;
+    Ok(entries)
+}
