@@ -10,3 +10,4 @@ pub mod Roles
 pub mod Alone
 pub mod Activating
 pub mod Booted
+pub mod Ran

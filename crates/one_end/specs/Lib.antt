@@ -3,3 +3,4 @@ pub mod Writing
 pub mod Running
 pub mod Alone
 pub mod Standing
+pub mod WholeRuns
