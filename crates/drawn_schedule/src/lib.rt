@@ -13,7 +13,7 @@ ghost use Rattle.trace_model.specs.Lines.{IsNodeHeader};
 
 mod lines;
 
-pub use lines::draw_lines;
+pub use lines::{draw_lines, drawn_header};
 use std::alloc::{AllocError, Global};
 use swp_base::NoMemory;
 

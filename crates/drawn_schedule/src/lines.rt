@@ -2,12 +2,24 @@
 ghost use Rattle.std.specs.Prelude.{◌≡◌, ◌++◌, ◌≤◌, [], ◌∷◌, IfOk, OnOk, None, Some};
 ghost use Rattle.trace_model.specs.declared.line.Line.TheVariants as line;
 ghost use Rattle.drawn_schedule.specs.Schedule.{at_controller, at_host_of, takes, sends_on, answered, joins, makes_a_pipe, first_lines, step_line};
-ghost use Rattle.drawn_schedule.specs.Schedule.{so_many_steps, drawn_lines};
+ghost use Rattle.drawn_schedule.specs.Schedule.{so_many_steps, drawn_lines, the_header};
 
 use crate::{STEPS, drawn, next};
+use arrayvec::ArrayVec;
 use std::alloc::{AllocError, Global};
 use swp_base::NoMemory;
-use trace_model::{End, Line, Octets};
+use trace_model::{End, Header, Line, Octets};
+
+/// The header of the schedule: hosts 01, 02 and 03.
+pub fn drawn_header() -> Header
+    ensures { result ≡ the_header }
+{
+    let mut hosts = ArrayVec::new();
+    hosts.push(1);
+    hosts.push(2);
+    hosts.push(3);
+    Header { hci: true, hosts }
+}
 
 /// The 2,060 lines below the header of the schedule whose text `gen_schedule` writes for `n`.
 ///
