@@ -1,8 +1,8 @@
 -- What a replay that ends has written.
-use Rattle.std.proofs.Common.{◌≡◌, ℕ, ◌+◌, ◌<◌, ◌≤◌, Bool, true, false, IsTrue, List, [], ◌++◌, length, take, refl, sym, ap, ◌∙◌, append_assoc, subst}
+use Rattle.std.proofs.Common.{◌≡◌, ℕ, ◌+◌, ◌<◌, ◌≤◌, Bool, true, false, IsTrue, List, [], ◌++◌, length, take, map, refl, sym, ap, ◌∙◌, append_assoc, subst}
 use Rattle.std.proofs.Common.{inl, inr}
 use Rattle.std.specs.Prelude.{Option, Some, None, Result, Ok, Err, OnOk, OnErr, IfErr, is_err}
-use Rattle.std.specs.Str.Lines.{lines}
+use Rattle.std.specs.Str.Lines.{lines, strip_carriage_return}
 use Rattle.std.proofs.lemmas.List.{append-nil}
 use Rattle.trace_model.specs.declared.line.Header.{Header}
 use Rattle.trace_model.specs.declared.line.Line.{Line}
@@ -10,8 +10,8 @@ use Rattle.swp_tool.specs.declared.replay.Halt.{Halt}
 use Rattle.swp_tool.specs.declared.replay.Halt.TheVariants as halt
 use Rattle.swp_tool.specs.declared.pieces.Pieces.{Pieces}
 use Rattle.swp_tool.specs.Schedules.{Stop, AtFault, AtMisread, Too_many, Schedule, ended}
-use Rattle.swp_tool.specs.Transcripts.{IsTextOf, IsTranscript}
-use Rattle.swp_tool.specs.Pieces.{IsReading, IsRunning, HasRead, IsFrontTranscript, IsWholeTranscript, IsCompleteTranscript, StopsAt, Halts, HaltsAtEnd}
+use Rattle.swp_tool.specs.Transcripts.{IsTextBelow, IsTranscript, IsDoneText, StopsWithText}
+use Rattle.swp_tool.specs.Pieces.{IsReading, IsRunning, HasRead, IsFrontTranscript, IsWholeTranscript, Halts, HaltsAtEnd}
 use Rattle.swp_tool.specs.Pieces.{schedule_read, schedule_so_far}
 use Rattle.swp_tool.specs.Runs.{status_of, AppendsText, IsSomeTranscript, IsCutShort, Replayed, IsUnderWay}
 use Rattle.swp_tool.proofs.Reading.{front_so_far, played_transcript}
@@ -27,12 +27,12 @@ ended_same s = go s.stop s.header
     go (Some x) h = (refl, refl)
 
 -- the transcript of a schedule that stops is that of all its lines
-stops_front : (bytes : List ℕ) (why : Stop) (count : ℕ) (text : List ℕ) → StopsAt bytes why count text → IsFrontTranscript bytes text
+stops_front : (bytes : List ℕ) (why : Stop) (count : ℕ) (text : List ℕ) → StopsWithText bytes why count text → IsFrontTranscript bytes text
 stops_front bytes why count text h =
     let s = schedule_read bytes in
     let same = ended_same s in
-    let P : Option Header → Type 0 = λ x. IsTextOf x s.lines text in
-    let Q : List Line → Type 0 = λ x. IsTextOf (ended s).header x text in
+    let P : Option Header → Type 0 = λ x. IsTextBelow x s.lines text in
+    let Q : List Line → Type 0 = λ x. IsTextBelow (ended s).header x text in
     record { front = lines bytes; back = []; lines_are = sym (append-nil (lines bytes)); transcript = subst P same.0 (subst Q same.1 h.transcript) }
 
 halts_front : (why : Halt) (count : ℕ) (bytes text rest : List ℕ) → Halts why count bytes text → IsFrontTranscript (bytes ++ rest) text
@@ -115,7 +115,7 @@ whole_transcript p bytes text h gathered =
       cut = h.cut;
       lack = h.lack;
       rest_lacks = h.partial_lacks;
-      transcript = subst P (ap (λ l. text ++ l) gathered ∙ append-nil text) (played_transcript p.replay (schedule_so_far h.whole) text h.played);
+      transcript = subst P (ap (λ l. text ++ l) gathered ∙ append-nil text) (played_transcript p.replay (map strip_carriage_return h.whole) text h.played);
     }
 
 -- a front of what was gathered of a piece stands behind what was written before it
@@ -146,13 +146,13 @@ pub fed_front : (p q : Pieces) (r : Result (Unit {0}) Halt) (piece rest bytes te
     → HasRead p bytes text → IsFrontTranscript ((bytes ++ piece) ++ rest) (text ++ q.replay.text.items)
 fed_front p q (Ok x) piece rest bytes text read halts h =
     let k = read bytes text h in
-    front_so_far q (bytes ++ piece) text rest (text ++ q.replay.text.items) k (played_transcript q.replay (schedule_so_far k.whole) text k.played)
+    front_so_far q (bytes ++ piece) text rest (text ++ q.replay.text.items) k (played_transcript q.replay (map strip_carriage_return k.whole) text k.played)
 fed_front p q (Err why) piece rest bytes text read halts h =
     halts_front why q.replay.count (bytes ++ piece) (text ++ q.replay.text.items) rest (halts bytes text h)
 
 -- the same at the end
 pub finished_front : (p q : Pieces) (r : Result (Unit {0}) Halt) (bytes text : List ℕ)
-    → OnOk r ((b w : List ℕ) → HasRead p b w → IsCompleteTranscript b (w ++ q.replay.text.items))
+    → OnOk r ((b w : List ℕ) → HasRead p b w → IsDoneText b (w ++ q.replay.text.items))
     → IfErr r (λ why. (b w : List ℕ) → HasRead p b w → HaltsAtEnd why q.replay.count b (w ++ q.replay.text.items))
     → HasRead p bytes text → IsSomeTranscript bytes (text ++ q.replay.text.items)
 finished_front p q (Ok x) bytes text done halts h = inr (done bytes text h)

@@ -1,11 +1,15 @@
 pub mod Finding
 pub mod Cutting
 pub mod Texts
+pub mod Fitting
 pub mod Reading
 pub mod Ending
 pub mod Playing
 pub mod Recording
 pub mod Knowing
 pub mod Hearing
-pub mod NodeSchedules
+pub mod Alone
+pub mod Outcomes
 mod NodeExamples
+pub mod Summing
+pub mod Numerals

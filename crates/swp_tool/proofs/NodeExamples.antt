@@ -8,12 +8,9 @@ use Rattle.hex.specs.Hex.{decode_pairs, encode_with}
 use Rattle.std.specs.Fmt.{digits}
 use Rattle.swp_base.specs.Bits.{bits_of_byte}
 use Rattle.pipe_table.specs.PipeRows.{lowest_free}
-use Rattle.answer_laws.specs.answers.Headline.PlayedHistory.{OfNodes}
 use Rattle.schedule_text.specs.declared.fault.LineFault.TheVariants as fault
-use Rattle.swp_tool.specs.Schedules.{Schedule, AtFault, AtMisread}
-use Rattle.swp_tool.specs.Transcripts.{done_line}
-use Rattle.swp_tool.specs.either.Schedules.{schedule_in}
-use Rattle.swp_tool.specs.either.Transcripts.{nodes_history, played_text}
+use Rattle.swp_tool.specs.Schedules.{Schedule, AtFault, AtMisread, schedule_in}
+use Rattle.swp_tool.specs.Transcripts.{history_below, played_text, done_line}
 
 -- lines, each with its end
 abbrev ended : List (List ℕ) → List ℕ
@@ -24,7 +21,7 @@ abbrev text_of : Schedule → List ℕ
 text_of s = by s.header where
   by : Option Header → List ℕ
   by None = []
-  by (Some header) = played_text (OfNodes (nodes_history header s.lines)) ++ done_line s.count
+  by (Some header) = played_text (history_below header s.lines) ++ done_line s.count
 
 abbrev boot_cut_at_first_write_lines : List (List ℕ)
 boot_cut_at_first_write_lines =

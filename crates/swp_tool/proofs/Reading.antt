@@ -19,31 +19,32 @@ use Rattle.swp_tool.specs.declared.replay.Replay.{Replay}
 use Rattle.swp_tool.specs.declared.replay.Halt.{Halt}
 use Rattle.swp_tool.specs.declared.replay.Halt.TheVariants as halt
 use Rattle.swp_tool.specs.declared.pieces.Pieces.{Pieces}
-use Rattle.swp_tool.specs.Schedules.{Stop, AtFault, AtMisread, Too_many, Schedule, nothing_read, misread_behind, with_played, with_said, with_line, with_lines}
-use Rattle.swp_tool.specs.Schedules.{as_played, played_line}
-use Rattle.swp_tool.specs.Schedules.{ended, schedule_of}
-use Rattle.swp_tool.specs.Transcripts.{IsTextOf, IsTranscript, done_line}
+use Rattle.swp_tool.specs.Schedules.{Stop, AtFault, AtMisread, Too_many, Schedule, nothing_read, misread_there, with_played, and_said, and_line, and_lines}
+use Rattle.swp_tool.specs.Schedules.{unless_settling, said_there}
+use Rattle.swp_tool.specs.Schedules.{ended, schedule_in}
+use Rattle.swp_tool.specs.Transcripts.{IsTextBelow, IsTranscript, IsDoneText, StopsWithText, done_line}
 use Rattle.swp_tool.specs.Replays.{IsAt, HasPlayed, HaltsAt}
-use Rattle.swp_tool.specs.Pieces.{LacksLineFeed, ended_line, AllLackLineFeed, schedule_so_far, HasRead, IsReading, IsFrontTranscript, StopsAt, Halts}
-use Rattle.swp_tool.specs.Pieces.{HaltsAtEnd, schedule_read, IsCompleteTranscript}
+use Rattle.swp_tool.specs.Pieces.{LacksLineFeed, ended_line, AllLackLineFeed, schedule_so_far, HasRead, IsReading, IsFrontTranscript, Halts}
+use Rattle.swp_tool.specs.Pieces.{HaltsAtEnd, schedule_read}
+use Rattle.swp_tool.proofs.Fitting.{read_fits, text_played}
 use Rattle.swp_tool.proofs.Cutting.{lines-ended, lines-all_ended, long_line, some_line, lacks_append, lines-lacks}
 
 -- ## Schedules
 
-with_lines-append : (s : Schedule) (a b : List (List ℕ)) → with_lines s (a ++ b) ≡ with_lines (with_lines s a) b
-with_lines-append s a b = fold-append with_line s a b
+and_lines-append : (s : Schedule) (a b : List (List ℕ)) → and_lines s (a ++ b) ≡ and_lines (and_lines s a) b
+and_lines-append s a b = fold-append and_line s a b
 
 -- behind a line at which it stopped nothing is read
-with_line-stopped : (s : Schedule) (why : Stop) (bytes : List ℕ) → s.stop ≡ Some why → with_line s bytes ≡ s
-with_line-stopped s why bytes stop = go s.stop stop
+and_line-stopped : (s : Schedule) (why : Stop) (bytes : List ℕ) → s.stop ≡ Some why → and_line s bytes ≡ s
+and_line-stopped s why bytes stop = go s.stop stop
   where
-    go : (o : Option Stop) → o ≡ Some why → with_line (record s { stop = o }) bytes ≡ record s { stop = o }
+    go : (o : Option Stop) → o ≡ Some why → and_line (record s { stop = o }) bytes ≡ record s { stop = o }
     go (Some x) is = refl
     go None is = absurd (cc)
 
-pub with_lines-stopped : (s : Schedule) (why : Stop) (ls : List (List ℕ)) → s.stop ≡ Some why → with_lines s ls ≡ s
-with_lines-stopped s why [] stop = refl
-with_lines-stopped s why (l ∷ ls) stop = ap (λ x. with_lines x ls) (with_line-stopped s why l stop) ∙ with_lines-stopped s why ls stop
+pub and_lines-stopped : (s : Schedule) (why : Stop) (ls : List (List ℕ)) → s.stop ≡ Some why → and_lines s ls ≡ s
+and_lines-stopped s why [] stop = refl
+and_lines-stopped s why (l ∷ ls) stop = ap (λ x. and_lines x ls) (and_line-stopped s why l stop) ∙ and_lines-stopped s why ls stop
 
 ended-stopped : (s : Schedule) (why : Stop) → s.stop ≡ Some why → ended s ≡ s
 ended-stopped s why stop = go s.stop stop
@@ -58,10 +59,10 @@ pub record StopsThere (s s' : Schedule) : Type 0 where
   pub lines_are : s'.lines ≡ s.lines
   pub count_is : s'.count ≡ s.count + 1
 
-pub stops_there : (s : Schedule) (why : Stop) (bytes : List ℕ) → s.stop ≡ None → (with_line s bytes).stop ≡ Some why → StopsThere s (with_line s bytes)
+pub stops_there : (s : Schedule) (why : Stop) (bytes : List ℕ) → s.stop ≡ None → (and_line s bytes).stop ≡ Some why → StopsThere s (and_line s bytes)
 stops_there s why bytes running stop =
-    (let P : Option Stop → Type 0 = λ o. (with_line (record s { stop = o }) bytes).stop ≡ Some why → StopsThere s (with_line (record s { stop = o }) bytes) in
-    subst P (sym running) (go (eqb s.count 20000) (played_line s.header bytes))) stop
+    (let P : Option Stop → Type 0 = λ o. (and_line (record s { stop = o }) bytes).stop ≡ Some why → StopsThere s (and_line (record s { stop = o }) bytes) in
+    subst P (sym running) (go (eqb s.count 20000) (said_there s.header bytes))) stop
   where
     played : (line : Line) (other : Option (List ℕ)) → (with_played (record s { stop = None }) line other).stop ≡ Some why
         → StopsThere s (with_played (record s { stop = None }) line other)
@@ -69,31 +70,38 @@ stops_there s why bytes running stop =
     played line (Some x) is = record { header_is = refl; lines_are = refl; count_is = refl }
 
     go : (b : Bool) (r : Result Read LineFault)
-        → (cond b (record s { count = s.count + 1; stop = Some Too_many }) (with_said (record s { stop = None }) r)).stop ≡ Some why
-        → StopsThere s (cond b (record s { count = s.count + 1; stop = Some Too_many }) (with_said (record s { stop = None }) r))
+        → (cond b (record s { count = s.count + 1; stop = Some Too_many }) (and_said (record s { stop = None }) r)).stop ≡ Some why
+        → StopsThere s (cond b (record s { count = s.count + 1; stop = Some Too_many }) (and_said (record s { stop = None }) r))
     go true r is = record { header_is = refl; lines_are = refl; count_is = refl }
     go false (Err f) is = record { header_is = refl; lines_are = refl; count_is = refl }
     go false (Ok read.Skip) is = absurd (cc)
     go false (Ok (read.Header header)) is = absurd (cc)
-    go false (Ok (read.Line line)) is = played line (misread_behind s.header s.lines line) is
+    go false (Ok (read.Line line)) is = played line (misread_there s.header s.lines line) is
     go false (Ok read.NoMemory) is = absurd (cc)
 
 -- a text stays the transcript where nothing is added
 transcript_same : (s s' : Schedule) (text : List ℕ) → StopsThere s s' → IsTranscript s text → IsTranscript s' text
 transcript_same s s' text there h =
-    let P : Option Header → Type 0 = λ o. IsTextOf o s'.lines text in
-    let Q : List Line → Type 0 = λ l. IsTextOf s.header l text in
+    let P : Option Header → Type 0 = λ o. IsTextBelow o s'.lines text in
+    let Q : List Line → Type 0 = λ l. IsTextBelow s.header l text in
     subst P (sym there.header_is) (subst Q (sym there.lines_are) h)
 
--- what a replay has gathered is the transcript of what it read
-pub played_transcript : (r : Replay) (s : Schedule) (written : List ℕ) → HasPlayed r s written → IsTranscript s (written ++ r.text.items)
-played_transcript r s written h = go r.world s.header h.at
+-- what a replay has gathered is the transcript of the lines that it read
+pub played_transcript : (r : Replay) (ls : List (List ℕ)) (written : List ℕ) → HasPlayed r (and_lines nothing_read ls) written
+    → IsTranscript (and_lines nothing_read ls) (written ++ r.text.items)
+played_transcript r ls written h = go r.world s.header refl h.at
   where
-    go : (w : Option World) (o : Option Header) → IsAt w o s.lines (written ++ r.text.items) → IsTextOf o s.lines (written ++ r.text.items)
-    go None None at = at.1
-    go (Some w) (Some header) at = record { history = at.history; follows = at.stands.follows; legal = at.stands.legal; text_is = at.text_is }
-    go None (Some header) at = absurd at
-    go (Some w) None at = absurd at
+    s : Schedule
+    s = and_lines nothing_read ls
+
+    text : List ℕ
+    text = written ++ r.text.items
+
+    go : (w : Option World) (o : Option Header) → s.header ≡ o → IsAt w o s.lines text → IsTextBelow o s.lines text
+    go None None is at = at.1
+    go (Some w) (Some header) is at = text_played s header text is (read_fits ls) at.text_is
+    go None (Some header) is at = absurd at
+    go (Some w) None is at = absurd at
 
 -- ## Pieces
 
@@ -106,20 +114,20 @@ lines_on p bytes written rest h =
 
 -- However the bytes go on, their schedule stops at the next line.
 pub stops_next : {p : Pieces} {bytes written : List ℕ} (rest : List ℕ) {why : Stop} {text line : List ℕ} {more : List (List ℕ)} (h : HasRead p bytes written)
-    → lines (p.partial.items ++ rest) ≡ line ∷ more → (with_line (schedule_so_far h.whole) line).stop ≡ Some why
-    → IsTranscript (schedule_so_far h.whole) text → StopsAt (bytes ++ rest) why (p.replay.count + 1) text
+    → lines (p.partial.items ++ rest) ≡ line ∷ more → (and_line (schedule_so_far h.whole) line).stop ≡ Some why
+    → IsTranscript (schedule_so_far h.whole) text → StopsWithText (bytes ++ rest) why (p.replay.count + 1) text
 stops_next {p} {bytes} {written} rest {why} {text} {line} {more} h next stop transcript =
     let s = schedule_so_far h.whole in
-    let s' = with_line s line in
-    let is : schedule_of (bytes ++ rest) ≡ s' =
-    ap (λ l. ended (with_lines nothing_read l)) (lines_on p bytes written rest h ∙ ap (λ l. map strip_carriage_return h.whole ++ l) next)
-    ∙ (ap ended (with_lines-append nothing_read (map strip_carriage_return h.whole) (line ∷ more) ∙ with_lines-stopped s' why more stop)
+    let s' = and_line s line in
+    let is : schedule_in (bytes ++ rest) ≡ s' =
+    ap (λ l. ended (and_lines nothing_read l)) (lines_on p bytes written rest h ∙ ap (λ l. map strip_carriage_return h.whole ++ l) next)
+    ∙ (ap ended (and_lines-append nothing_read (map strip_carriage_return h.whole) (line ∷ more) ∙ and_lines-stopped s' why more stop)
     ∙ ended-stopped s' why stop) in
     let there = stops_there s why line h.played.running stop in
     let P : Schedule → Type 0 = λ x. IsTranscript x text in
     record {
       stop = ap (λ x. x.stop) is ∙ stop;
-      count_is = ap (λ x. x.count) is ∙ (there.count_is ∙ ap (λ n. n + 1) (sym h.played.count_is));
+      line_is = ap (λ x. x.count) is ∙ (there.count_is ∙ ap (λ n. n + 1) (sym h.played.count_is));
       transcript = subst P (sym is) (transcript_same s s' text there transcript);
     }
 
@@ -138,11 +146,11 @@ front_so_far p bytes written rest text h transcript =
 -- what holds however the bytes go on holds behind more of them
 pub halts_more : (why : Halt) (count : ℕ) (bytes more text : List ℕ) → Halts why count bytes text → Halts why count (bytes ++ more) text
 halts_more (halt.Fault f) count bytes more text h =
-    λ rest. (let P : List ℕ → Type 0 = λ b. StopsAt b (AtFault f) (count + 1) text in subst P (sym (append_assoc bytes more rest)) (h (more ++ rest)))
+    λ rest. (let P : List ℕ → Type 0 = λ b. StopsWithText b (AtFault f) (count + 1) text in subst P (sym (append_assoc bytes more rest)) (h (more ++ rest)))
 halts_more halt.Undetected count bytes more text h =
-    λ rest. (let P : List ℕ → Type 0 = λ b. StopsAt b AtMisread (count + 1) text in subst P (sym (append_assoc bytes more rest)) (h (more ++ rest)))
+    λ rest. (let P : List ℕ → Type 0 = λ b. StopsWithText b AtMisread (count + 1) text in subst P (sym (append_assoc bytes more rest)) (h (more ++ rest)))
 halts_more halt.TooMany count bytes more text h =
-    λ rest. (let P : List ℕ → Type 0 = λ b. StopsAt b Too_many (count + 1) text in subst P (sym (append_assoc bytes more rest)) (h (more ++ rest)))
+    λ rest. (let P : List ℕ → Type 0 = λ b. StopsWithText b Too_many (count + 1) text in subst P (sym (append_assoc bytes more rest)) (h (more ++ rest)))
 halts_more halt.NoMemory count bytes more text h =
     λ rest. (let P : List ℕ → Type 0 = λ b. IsFrontTranscript b text in subst P (sym (append_assoc bytes more rest)) (h (more ++ rest)))
 
@@ -155,20 +163,20 @@ halts_too_many p bytes written byte reading full h = λ rest.
     let none : p.partial.items ≡ [] = no_partial p.partial.items (λ some. reading.begun some) in
     let next : lines (p.partial.items ++ byte ∷ rest) ≡ line.line ∷ line.more = ap (λ l. lines (l ++ byte ∷ rest)) none ∙ line.lines_are in
     let s = schedule_so_far h.whole in
-    let stop : (with_line s line.line).stop ≡ Some Too_many = at_limit s line.line h.played.running (sym h.played.count_is ∙ full) in
-    let P : List ℕ → Type 0 = λ b. StopsAt b Too_many (p.replay.count + 1) (written ++ p.replay.text.items) in
+    let stop : (and_line s line.line).stop ≡ Some Too_many = at_limit s line.line h.played.running (sym h.played.count_is ∙ full) in
+    let P : List ℕ → Type 0 = λ b. StopsWithText b Too_many (p.replay.count + 1) (written ++ p.replay.text.items) in
     subst P (sym (append_assoc bytes (byte ∷ []) rest))
-    (stops_next (byte ∷ rest) h next stop (played_transcript p.replay s written h.played))
+    (stops_next (byte ∷ rest) h next stop (played_transcript p.replay (map strip_carriage_return h.whole) written h.played))
   where
     no_partial : (l : List ℕ) → (0 < length l → p.replay.count < 20000) → l ≡ []
     no_partial [] begun = refl
     no_partial (x ∷ l) begun = absurd (let low = begun (omega arith) in omega arith)
 
-    at_limit : (s : Schedule) (line : List ℕ) → s.stop ≡ None → s.count ≡ 20000 → (with_line s line).stop ≡ Some Too_many
+    at_limit : (s : Schedule) (line : List ℕ) → s.stop ≡ None → s.count ≡ 20000 → (and_line s line).stop ≡ Some Too_many
     at_limit s line running count =
-        let P : Option Stop → Type 0 = λ o. (with_line (record s { stop = o }) line).stop ≡ Some Too_many in
+        let P : Option Stop → Type 0 = λ o. (and_line (record s { stop = o }) line).stop ≡ Some Too_many in
         subst P (sym running)
-        (ap (λ b. (cond b (record s { count = s.count + 1; stop = Some Too_many }) (with_said (record s { stop = None }) (played_line s.header line))).stop)
+        (ap (λ b. (cond b (record s { count = s.count + 1; stop = Some Too_many }) (and_said (record s { stop = None }) (said_there s.header line))).stop)
         (ap (λ n. eqb n 20000) count))
 
 -- the same where more bytes than one come
@@ -190,22 +198,22 @@ halts_too_long p before written bytes room long lacks h = λ rest.
     (let e : length x ≡ length p.partial.items + length bytes = Rattle.std.proofs.Common.length-append p.partial.items bytes in omega arith) in
     let next : lines (p.partial.items ++ (bytes ++ rest)) ≡ line.line ∷ line.more = ap lines (sym (append_assoc p.partial.items bytes rest)) ∙ line.lines_are in
     let s = schedule_so_far h.whole in
-    let stop : (with_line s line.line).stop ≡ Some (AtFault fault.TooLong) =
+    let stop : (and_line s line.line).stop ≡ Some (AtFault fault.TooLong) =
     too_long s line.line h.played.running (omega (arith, h.played.count_is)) line.holds in
-    let P : List ℕ → Type 0 = λ b. StopsAt b (AtFault fault.TooLong) (p.replay.count + 1) (written ++ p.replay.text.items) in
+    let P : List ℕ → Type 0 = λ b. StopsWithText b (AtFault fault.TooLong) (p.replay.count + 1) (written ++ p.replay.text.items) in
     subst P (sym (append_assoc before bytes rest))
-    (stops_next (bytes ++ rest) h next stop (played_transcript p.replay s written h.played))
+    (stops_next (bytes ++ rest) h next stop (played_transcript p.replay (map strip_carriage_return h.whole) written h.played))
   where
-    too_long : (s : Schedule) (line : List ℕ) → s.stop ≡ None → s.count < 20000 → 9000 < length line → (with_line s line).stop ≡ Some (AtFault fault.TooLong)
+    too_long : (s : Schedule) (line : List ℕ) → s.stop ≡ None → s.count < 20000 → 9000 < length line → (and_line s line).stop ≡ Some (AtFault fault.TooLong)
     too_long s line running room' long' =
-        let P : Option Stop → Type 0 = λ o. (with_line (record s { stop = o }) line).stop ≡ Some (AtFault fault.TooLong) in
+        let P : Option Stop → Type 0 = λ o. (and_line (record s { stop = o }) line).stop ≡ Some (AtFault fault.TooLong) in
         let below : eqb s.count 20000 ≡ false = grind (arith, common_steps) in
         let fault_is : line_of s.header line ≡ Err fault.TooLong =
         ap (λ b. cond b (Err fault.TooLong) (by_words s.header (words line))) (let l : ltb 9000 (length line) ≡ true = grind (arith, common_steps) in l) in
         subst P (sym running)
-        (ap (λ b. (cond b (record s { count = s.count + 1; stop = Some Too_many }) (with_said (record s { stop = None }) (played_line s.header line))).stop)
+        (ap (λ b. (cond b (record s { count = s.count + 1; stop = Some Too_many }) (and_said (record s { stop = None }) (said_there s.header line))).stop)
         below
-        ∙ ap (λ r. (with_said (record s { stop = None }) (as_played r)).stop) fault_is)
+        ∙ ap (λ r. (and_said (record s { stop = None }) (unless_settling r)).stop) fault_is)
 
 -- ## Bytes of a line that has not ended
 
@@ -240,15 +248,15 @@ strip-push : (whole : List (List ℕ)) (line : List ℕ)
 strip-push [] line = refl
 strip-push (x ∷ whole) line = ap (λ l. strip_carriage_return x ∷ l) (strip-push whole line)
 
-so_far-push : (whole : List (List ℕ)) (line : List ℕ) → schedule_so_far (whole ++ line ∷ []) ≡ with_line (schedule_so_far whole) (strip_carriage_return line)
+so_far-push : (whole : List (List ℕ)) (line : List ℕ) → schedule_so_far (whole ++ line ∷ []) ≡ and_line (schedule_so_far whole) (strip_carriage_return line)
 so_far-push whole line =
-    ap (λ l. with_lines nothing_read l) (strip-push whole line)
-    ∙ with_lines-append nothing_read (map strip_carriage_return whole) (strip_carriage_return line ∷ [])
+    ap (λ l. and_lines nothing_read l) (strip-push whole line)
+    ∙ and_lines-append nothing_read (map strip_carriage_return whole) (strip_carriage_return line ∷ [])
 
 -- the line was played: with these bytes the one under way has ended
 pub read_when : {p q : Pieces} {bytes written : List ℕ} (line tail : List ℕ) → HasRead p bytes written → p.partial.items ++ tail ≡ ended_line line
     → LacksLineFeed line → q.partial.items ≡ []
-    → ((s : Schedule) (w : List ℕ) → HasPlayed p.replay s w → HasPlayed q.replay (with_line s (strip_carriage_return line)) w)
+    → ((s : Schedule) (w : List ℕ) → HasPlayed p.replay s w → HasPlayed q.replay (and_line s (strip_carriage_return line)) w)
     → HasRead q (bytes ++ tail) written
 read_when {p} {q} {bytes} {written} line tail h ends lacks none played =
     let whole = h.whole ++ line ∷ [] in
@@ -265,14 +273,14 @@ read_when {p} {q} {bytes} {written} line tail h ends lacks none played =
     }
 
 pub read_line_ended : {p q : Pieces} {bytes written : List ℕ} → HasRead p bytes written → q.partial.items ≡ []
-    → ((s : Schedule) (w : List ℕ) → HasPlayed p.replay s w → HasPlayed q.replay (with_line s (strip_carriage_return p.partial.items)) w)
+    → ((s : Schedule) (w : List ℕ) → HasPlayed p.replay s w → HasPlayed q.replay (and_line s (strip_carriage_return p.partial.items)) w)
     → HasRead q (bytes ++ 10 ∷ []) written
 read_line_ended {p} h none played = read_when p.partial.items (10 ∷ []) h refl h.partial_lacks none played
 
 -- the same of a line that lies whole in a piece
 pub read_whole_line : {p q : Pieces} {bytes written : List ℕ} (line : List ℕ) → HasRead p bytes written → p.partial.items ≡ []
     → LacksLineFeed line → q.partial.items ≡ []
-    → ((s : Schedule) (w : List ℕ) → HasPlayed p.replay s w → HasPlayed q.replay (with_line s (strip_carriage_return line)) w)
+    → ((s : Schedule) (w : List ℕ) → HasPlayed p.replay s w → HasPlayed q.replay (and_line s (strip_carriage_return line)) w)
     → HasRead q (bytes ++ ended_line line) written
 read_whole_line line h nothing lacks none played =
     read_when line (ended_line line) h (ap (λ l. l ++ ended_line line) nothing) lacks none played
@@ -292,15 +300,15 @@ halts_when {p} why {count} {now} {bytes} {written} line tail h count_is now_is n
     text = written ++ p.replay.text.items
 
     transcript : IsTranscript (schedule_so_far h.whole) text
-    transcript = played_transcript p.replay (schedule_so_far h.whole) written h.played
+    transcript = played_transcript p.replay (map strip_carriage_return h.whole) written h.played
 
     go : (w : Halt) → HaltsAt w (schedule_so_far h.whole) (strip_carriage_return line) → Halts w p.replay.count (bytes ++ tail) text
     go (halt.Fault f) stop = λ rest.
-        let R : List ℕ → Type 0 = λ b. StopsAt b (AtFault f) (p.replay.count + 1) text in
+        let R : List ℕ → Type 0 = λ b. StopsWithText b (AtFault f) (p.replay.count + 1) text in
         subst R (sym (append_assoc bytes tail rest))
         (stops_next (tail ++ rest) h (next rest) stop transcript)
     go halt.Undetected stop = λ rest.
-        let R : List ℕ → Type 0 = λ b. StopsAt b AtMisread (p.replay.count + 1) text in
+        let R : List ℕ → Type 0 = λ b. StopsWithText b AtMisread (p.replay.count + 1) text in
         subst R (sym (append_assoc bytes tail rest))
         (stops_next (tail ++ rest) h (next rest) stop transcript)
     go halt.TooMany never = absurd never
@@ -335,7 +343,7 @@ played_all p bytes written h none =
     let is : lines bytes ≡ map strip_carriage_return h.whole =
     end_of bytes (λ b. lines b ≡ map strip_carriage_return h.whole ++ lines (p.partial.items ++ [])) (lines_on p bytes written [] h)
     ∙ (ap (λ l. map strip_carriage_return h.whole ++ lines (l ++ [])) none ∙ append-nil (map strip_carriage_return h.whole)) in
-    subst P (ap (λ l. with_lines nothing_read l) (sym is)) h.played
+    subst P (ap (λ l. and_lines nothing_read l) (sym is)) h.played
 
 rest_is : (p : Pieces) (bytes written : List ℕ) (h : HasRead p bytes written) → 0 < length p.partial.items
     → lines (p.partial.items ++ []) ≡ p.partial.items ∷ []
@@ -343,13 +351,13 @@ rest_is p bytes written h some = ap lines (append-nil p.partial.items) ∙ lines
 
 -- the line under way was played
 pub played_rest : (p : Pieces) (r : Replay) (bytes written : List ℕ) → HasRead p bytes written → 0 < length p.partial.items
-    → ((s : Schedule) (w : List ℕ) → HasPlayed p.replay s w → HasPlayed r (with_line s p.partial.items) w) → HasPlayed r (schedule_read bytes) written
+    → ((s : Schedule) (w : List ℕ) → HasPlayed p.replay s w → HasPlayed r (and_line s p.partial.items) w) → HasPlayed r (schedule_read bytes) written
 played_rest p r bytes written h some played =
     let P : Schedule → Type 0 = λ s. HasPlayed r s written in
     let is : lines bytes ≡ map strip_carriage_return h.whole ++ p.partial.items ∷ [] =
     end_of bytes (λ b. lines b ≡ map strip_carriage_return h.whole ++ lines (p.partial.items ++ [])) (lines_on p bytes written [] h)
     ∙ ap (λ l. map strip_carriage_return h.whole ++ l) (rest_is p bytes written h some) in
-    subst P (sym (ap (λ l. with_lines nothing_read l) is ∙ with_lines-append nothing_read (map strip_carriage_return h.whole) (p.partial.items ∷ [])))
+    subst P (sym (ap (λ l. and_lines nothing_read l) is ∙ and_lines-append nothing_read (map strip_carriage_return h.whole) (p.partial.items ∷ [])))
     (played (schedule_so_far h.whole) written h.played)
 
 -- the line under way was not played
@@ -366,14 +374,14 @@ halts_at_rest {p} why {count} {now} {bytes} {written} h some count_is now_is hal
     text = written ++ p.replay.text.items
 
     transcript : IsTranscript (schedule_so_far h.whole) text
-    transcript = played_transcript p.replay (schedule_so_far h.whole) written h.played
+    transcript = played_transcript p.replay (map strip_carriage_return h.whole) written h.played
 
     go : (w : Halt) → HaltsAt w (schedule_so_far h.whole) p.partial.items → HaltsAtEnd w p.replay.count bytes text
     go (halt.Fault f) stop =
-        end_of bytes (λ b. StopsAt b (AtFault f) (p.replay.count + 1) text)
+        end_of bytes (λ b. StopsWithText b (AtFault f) (p.replay.count + 1) text)
         (stops_next [] h (rest_is p bytes written h some) stop transcript)
     go halt.Undetected stop =
-        end_of bytes (λ b. StopsAt b AtMisread (p.replay.count + 1) text)
+        end_of bytes (λ b. StopsWithText b AtMisread (p.replay.count + 1) text)
         (stops_next [] h (rest_is p bytes written h some) stop transcript)
     go halt.TooMany never = never
     go halt.NoMemory any = end_of bytes (λ b. IsFrontTranscript b text) (front_so_far p bytes written [] text h transcript)
@@ -381,15 +389,15 @@ halts_at_rest {p} why {count} {now} {bytes} {written} h some count_is now_is hal
 -- the last line was gathered
 pub closed : (r : Replay) (bytes written text : List ℕ) → HasPlayed r (schedule_read bytes) written → (r.world ≡ None → ⊥)
     → text ≡ r.text.items ++ done_line r.count
-    → IsCompleteTranscript bytes (written ++ text)
+    → IsDoneText bytes (written ++ text)
 closed r bytes written text h up is =
     let s = schedule_read bytes in
-    let same : schedule_of bytes ≡ s = go s.stop h.running s.header r.world h.at up in
+    let same : schedule_in bytes ≡ s = go s.stop h.running s.header r.world h.at up in
     let P : Schedule → Type 0 = λ x. IsTranscript x (written ++ r.text.items) in
     record {
       running = ap (λ x. x.stop) same ∙ h.running;
       lines_text = written ++ r.text.items;
-      transcript = subst P (sym same) (played_transcript r s written h);
+      transcript = subst P (sym same) (played_transcript r (lines bytes) written h);
       text_is = ap (λ l. written ++ l) is ∙ (sym (append_assoc written r.text.items (done_line r.count))
           ∙ ap (λ n. (written ++ r.text.items) ++ done_line n) (h.count_is ∙ ap (λ x. x.count) (sym same)));
     }
@@ -415,25 +423,25 @@ ended_no_header s running none =
 
 -- without a header the line after the last is out of order
 pub no_header : (r : Replay) (bytes written : List ℕ) → HasPlayed r (schedule_read bytes) written → r.world ≡ None
-    → StopsAt bytes (AtFault fault.Order) (r.count + 1) (written ++ r.text.items)
+    → StopsWithText bytes (AtFault fault.Order) (r.count + 1) (written ++ r.text.items)
 no_header r bytes written h none =
     let s = schedule_read bytes in
     let text = written ++ r.text.items in
     let P : Option World → Type 0 = λ w. IsAt w s.header s.lines text in
     let nothing = no_world s.header s.lines text (subst P none h.at) in
-    let is : schedule_of bytes ≡ record s { count = s.count + 1; stop = Some (AtFault fault.Order) } = ended_no_header s h.running nothing.0 in
+    let is : schedule_in bytes ≡ record s { count = s.count + 1; stop = Some (AtFault fault.Order) } = ended_no_header s h.running nothing.0 in
     let Q : Schedule → Type 0 = λ x. IsTranscript x text in
-    let R : Option Header → Type 0 = λ x. IsTextOf x s.lines text in
+    let R : Option Header → Type 0 = λ x. IsTextBelow x s.lines text in
     record {
       stop = ap (λ x. x.stop) is;
-      count_is = ap (λ x. x.count) is ∙ ap (λ n. n + 1) (sym h.count_is);
+      line_is = ap (λ x. x.count) is ∙ ap (λ n. n + 1) (sym h.count_is);
       transcript = subst Q (sym is) (subst R (sym nothing.0) nothing.1);
     }
 
 -- without memory the transcript of all lines stands
 pub no_memory_at_end : (r : Replay) (bytes written : List ℕ) → HasPlayed r (schedule_read bytes) written → IsFrontTranscript bytes (written ++ r.text.items)
 no_memory_at_end r bytes written h =
-    record { front = lines bytes; back = []; lines_are = sym (append-nil (lines bytes)); transcript = played_transcript r (schedule_read bytes) written h }
+    record { front = lines bytes; back = []; lines_are = sym (append-nil (lines bytes)); transcript = played_transcript r (lines bytes) written h }
 
 pub halts_closing : (r : Replay) (why : Halt) (count : ℕ) (now bytes written : List ℕ) → HasPlayed r (schedule_read bytes) written → count ≡ r.count
     → now ≡ r.text.items

@@ -1,30 +1,98 @@
 -- Text that is gathered behind text.
 use Rattle.std.proofs.lemmas.Grind.{common_steps}
-use Rattle.std.proofs.Common.{◌≡◌, ◌<◌, Bool, true, false, eqb, length, arith, List, [], ◌∷◌, ◌++◌, refl, sym, ap, ◌∙◌, append_assoc}
+use Rattle.std.proofs.Common.{◌≡◌, ◌<◌, ℕ, Bool, true, false, cond, eqb, length, arith, List, [], ◌∷◌, ◌++◌, refl, sym, ap, ◌∙◌, append_assoc}
 use Rattle.std.specs.Prelude.{Result, Ok, Err, OnOk, OnErr}
 use Rattle.std.specs.List.{flat_map}
 use Rattle.std.proofs.lemmas.List.{append-nil}
-use Rattle.trace_model.specs.declared.line.Line.{Line}
+use Rattle.std.proofs.lemmas.List.Concat.{flat_map-append}
+use Rattle.trace_model.specs.declared.entry.Entry.{Entry}
 use Rattle.trace_model.specs.declared.entry.Entry.TheVariants as entry
+use Rattle.trace_model.specs.declared.line.Header.{Header}
+use Rattle.trace_model.specs.declared.line.Line.{Line}
 use Rattle.schedule_text.specs.Entries.{entry_line, entry_lines}
-use Rattle.history.specs.Histories.{Step, History, noted}
-use Rattle.history.specs.Follows.{host_of, link_at, with_step, outcome_of}
-use Rattle.swp_tool.specs.Transcripts.{step_text, transcript_of}
+use Rattle.link_entries.specs.messages.Links.{Link}
+use Rattle.history.specs.Histories.{Step, noted}
+use Rattle.history.specs.Steps.{bare_link}
+use Rattle.history.specs.Follows.{host_of, opening_of, link_after_line, link_after_lines, outcome_of}
+use Rattle.node_machine.specs.world.World.{NodeWorld, new_world}
+use Rattle.node_machine.specs.world.Lines.{line_step}
+use Rattle.node_machine.specs.world.NodeHistories.{LineStep, steps_from, world_after}
+use Rattle.answer_laws.specs.answers.Headline.PlayedHistory.{OfLink, OfNodes}
+use Rattle.told_laws.specs.Told.{step_told, entries_told}
+use Rattle.told_laws.specs.NodesTold.{line_told, nodes_told}
+use Rattle.lines_told.specs.Below.{bare_link_behind, nodes_behind, opening_told, told_below}
+use Rattle.swp_tool.specs.Transcripts.{link_steps_from, link_history, nodes_history, history_below, played_told, played_text}
 
-step_texts-append : (a b : List Step) → flat_map step_text (a ++ b) ≡ flat_map step_text a ++ flat_map step_text b
-step_texts-append [] b = refl
-step_texts-append (x ∷ a) b =
-    ap (λ l. step_text x ++ l) (step_texts-append a b) ∙ sym (append_assoc (step_text x) (flat_map step_text a) (flat_map step_text b))
+-- ## What a line adds to a history
+
+link_steps-push : (h : ℕ) (l : Link) (lines : List Line) (line : Line)
+    → link_steps_from h l (lines ++ line ∷ [])
+    ≡ link_steps_from h l lines ++ record { line = line; outcome = outcome_of h (link_after_lines h l lines) line } ∷ []
+link_steps-push h l [] line = refl
+link_steps-push h l (x ∷ lines) line =
+    let step : Step = record { line = x; outcome = outcome_of h l x } in
+    ap (λ (steps : List Step). step ∷ steps) (link_steps-push h (link_after_line l step.outcome) lines line)
+
+node_steps-push : (w : NodeWorld) (lines : List Line) (line : Line)
+    → steps_from w (lines ++ line ∷ []) ≡ steps_from w lines ++ record { line = line; outcome = (line_step (world_after w lines) line).1 } ∷ []
+node_steps-push w [] line = refl
+node_steps-push w (x ∷ lines) line =
+    let step : LineStep = record { line = x; outcome = (line_step w x).1 } in
+    ap (λ (steps : List LineStep). step ∷ steps) (node_steps-push (line_step w x).0 lines line)
+
+-- what is told of steps, and of one more
+told-push : {X : Type 0} (told : X → List Entry) (steps : List X) (step : X) → flat_map told (steps ++ step ∷ []) ≡ flat_map told steps ++ told step
+told-push told steps step = flat_map-append told steps (step ∷ []) ∙ ap (λ l. flat_map told steps ++ l) (append-nil (told step))
+
+link_told-push : (header : Header) (lines : List Line) (line : Line)
+    → entries_told (link_history header (lines ++ line ∷ []))
+    ≡ entries_told (link_history header lines) ++ (entry.Echo line ∷ noted (outcome_of (host_of header) (bare_link_behind header lines) line))
+link_told-push header lines line =
+    let h = host_of header in
+    let steps = link_steps_from h bare_link lines in
+    let step : Step = record { line = line; outcome = outcome_of h (bare_link_behind header lines) line } in
+    ap (λ l. entry.Head header ∷ (opening_of h ++ l)) (ap (flat_map step_told) (link_steps-push h bare_link lines line) ∙ told-push step_told steps step)
+    ∙ ap (λ l. entry.Head header ∷ l) (sym (append_assoc (opening_of h) (flat_map step_told steps) (step_told step)))
+
+pub nodes_told-push : (header : Header) (lines : List Line) (line : Line)
+    → nodes_told (nodes_history header (lines ++ line ∷ []))
+    ≡ nodes_told (nodes_history header lines) ++ line_told (record { line = line; outcome = (line_step (nodes_behind header lines) line).1 })
+nodes_told-push header lines line =
+    let w = new_world header.hosts.items in
+    let step : LineStep = record { line = line; outcome = (line_step (nodes_behind header lines) line).1 } in
+    ap (λ l. entry.Head header ∷ l) (ap (flat_map line_told) (node_steps-push w lines line) ∙ told-push line_told (steps_from w lines) step)
+
+told_more : (header : Header) (lines : List Line) (line : Line)
+    → played_told (history_below header (lines ++ line ∷ [])) ≡ played_told (history_below header lines) ++ (entry.Echo line ∷ told_below header lines line)
+told_more header lines line = go header.hci
+  where
+    more : List Line
+    more = lines ++ line ∷ []
+
+    go : (nodes : Bool) → played_told (cond nodes (OfNodes (nodes_history header more)) (OfLink (link_history header more)))
+        ≡ played_told (cond nodes (OfNodes (nodes_history header lines)) (OfLink (link_history header lines)))
+        ++ (entry.Echo line ∷ told_below (record header { hci = nodes }) lines line)
+    go true = nodes_told-push header lines line
+    go false = link_told-push header lines line
 
 -- the transcript of a history with one line more
-pub text_of-step : (t : History) (line : Line)
-    → transcript_of (with_step t line)
-    ≡ transcript_of t ++ (entry_line (entry.Echo line) ++ entry_lines (noted (outcome_of (host_of t.header) (link_at t) line)))
-text_of-step t line =
-    let front = entry_line (entry.Head t.header) ++ entry_lines t.opening in
-    let step : Step = record { line = line; outcome = outcome_of (host_of t.header) (link_at t) line } in
-    ap (λ l. front ++ l) (step_texts-append t.steps (step ∷ []) ∙ ap (λ l. flat_map step_text t.steps ++ l) (append-nil (step_text step)))
-    ∙ sym (append_assoc front (flat_map step_text t.steps) (step_text step))
+pub text_more : (header : Header) (lines : List Line) (line : Line)
+    → played_text (history_below header (lines ++ line ∷ []))
+    ≡ played_text (history_below header lines) ++ (entry_line (entry.Echo line) ++ entry_lines (told_below header lines line))
+text_more header lines line =
+    ap entry_lines (told_more header lines line)
+    ∙ flat_map-append entry_line (played_told (history_below header lines)) (entry.Echo line ∷ told_below header lines line)
+
+-- the transcript of a header alone
+pub text_first : (header : Header) → entry_line (entry.Head header) ++ entry_lines (opening_told header) ≡ played_text (history_below header [])
+text_first header = go header.hci
+  where
+    go : (nodes : Bool) → entry_line (entry.Head header) ++ entry_lines (opening_told (record header { hci = nodes }))
+        ≡ played_text (cond nodes (OfNodes (nodes_history header [])) (OfLink (link_history header [])))
+    go true = refl
+    go false = ap (λ l. entry_line (entry.Head header) ++ entry_lines l) (sym (append-nil (opening_of (host_of header))))
+
+-- ## Answers
 
 -- what an error leaves, said otherwise
 pub on_err : {T E : Type 0} (P Q : Type 0) (r : Result T E) → (P → Q) → OnErr r P → OnErr r Q

@@ -1,15 +1,28 @@
 -- What a node alone has read and written, by the status with which it ended.
-use Rattle.std.specs.Prelude.{◌≡◌, ℕ, ◌≤◌, Bool, true, false, IsTrue, List, [], ◌∷◌, ◌++◌, length, take}
+use Rattle.std.specs.Prelude.{◌≡◌, ◌≢◌, ◌⊎◌, ℕ, ◌≤◌, Bool, true, false, IsTrue, List, [], ◌∷◌, ◌++◌, length, take, codes, Option, Some, None, option_to_list}
 use Rattle.swp_base.specs.declared.control_frames.Control.{Control}
 use Rattle.lone_laws.specs.alone.Lone.{Lone}
+use Rattle.lone_laws.specs.alone.Ends.{EndForm}
+use Rattle.lone_laws.specs.alone.Ends.EndForm.{OnLine, OnBytes}
+use Rattle.journal_laws.specs.Writes.{AreRead}
+use Rattle.journal_laws.specs.Journal.{journal}
+use Rattle.hci_store.specs.Image.{image_fault}
+use Rattle.hci_store.specs.Refusals.{IsSpent}
+use Rattle.hci_store.specs.Stored.{FindsSame}
+use Rattle.hci_store.specs.Starting.{ready_writes, HasWritten}
+use Rattle.nv_journal.specs.declared.JournalFault.{JournalFault}
+use Rattle.nv_journal.specs.declared.JournalFault.TheVariants.{GenerationsSpent}
 use Rattle.one_end.specs.declared.one_end.OneEnd.{OneEnd}
-use Rattle.one_end.specs.Standing.{HasRun, StandsAlone}
+use Rattle.one_end.specs.declared.writing.Form.{Form}
+use Rattle.one_end.specs.Standing.{HasRun, StandsAlone, IsRunOfBytes}
 use Rattle.swp_tool.specs.declared.status.Status.{Status}
 use Rattle.swp_tool.specs.declared.status.Status.TheVariants as status
+use Rattle.swp_tool.specs.Images.{status_of_fault}
 use Rattle.swp_tool.specs.Records.{most_bytes}
 
--- the memory that a node booted from: the first one is it behind the reads of the boot
+-- how a node began: on this form of link, where its boot found this content in its memory and left this memory
 pub record Began (N : Type 0) : Type 0 where
+  pub form : Form
   pub content : List ℕ
   pub first : N
 
@@ -17,29 +30,43 @@ pub record Began (N : Type 0) : Type 0 where
 -- is; what it held before and holds now comes last.
 pub record HasHeardAlone {N T : Type 0} (writes : N → ℕ → List ℕ → Bool → N → Type 0) (nv : T → N) (Runs : T → Lone → List Control → Type 0)
     (number : ℕ) (tells : Bool) (o : Began N) (e : OneEnd T) (stopped : Bool) (bytes before after : List ℕ) : Type 0 where
+  pub form_is : e.form ≡ o.form
   pub written : List ℕ
   pub run : HasRun writes nv Runs number o.content o.first e stopped bytes written
   pub after_is : IsTrue tells → after ≡ before ++ written
 
--- A write failed: a front of what the node wrote for the bytes that came went out, all that it wrote for the earlier ones among it.
+-- This was written before what the last of these bytes caused: for all bytes before it. Where none came yet, nothing was.
+abbrev pub IsWrittenBefore : {N T : Type 0} → (N → ℕ → List ℕ → Bool → N → Type 0) → (T → N) → (T → Lone → List Control → Type 0) → ℕ → Began N
+    → List ℕ → Option ℕ → List ℕ → Type 0
+IsWrittenBefore writes nv Runs number o front None earlier = (front ≡ []) × (earlier ≡ [])
+IsWrittenBefore {N} {T} writes nv Runs number o front (Some byte) earlier =
+    (d : OneEnd T) × (d.form ≡ o.form) × HasRun writes nv Runs number o.content o.first d false front earlier
+
+-- A write failed: all that the node wrote for the bytes before the last one went out, and a front of what it wrote for that. Behind that byte no
+-- more was read than comes in one call.
 pub record IsBrokenAlone {N T : Type 0} (writes : N → ℕ → List ℕ → Bool → N → Type 0) (nv : T → N) (Runs : T → Lone → List Control → Type 0)
-    (number : ℕ) (tells : Bool) (o : Began N) (e : OneEnd T) (input before after : List ℕ) : Type 0 where
-  pub bytes : List ℕ
-  pub rest : List ℕ
-  pub input_is : input ≡ bytes ++ rest
+    (number : ℕ) (tells : Bool) (o : Began N) (e : OneEnd T) (input left before after : List ℕ) : Type 0 where
+  pub form_is : e.form ≡ o.form
+  pub front : List ℕ
+  pub byte : Option ℕ
+  pub ahead : List ℕ
+  pub input_is : input ≡ (front ++ option_to_list byte) ++ (ahead ++ left)
+  pub near : length ahead ≤ 8192
   pub stopped : Bool
   pub earlier : List ℕ
   pub last : List ℕ
-  pub run : HasRun writes nv Runs number o.content o.first e stopped bytes (earlier ++ last)
+  pub before_it : IsWrittenBefore writes nv Runs number o front byte earlier
+  pub run : HasRun writes nv Runs number o.content o.first e stopped (front ++ option_to_list byte) (earlier ++ last)
   pub n : ℕ
   pub after_is : IsTrue tells → after ≡ before ++ (earlier ++ take n last)
 
--- the node lost its power with the last of these bytes
+-- The node lost its power with the last of these bytes. Behind it no more was read than comes in one call.
 pub record IsStoppedAlone {N T : Type 0} (writes : N → ℕ → List ℕ → Bool → N → Type 0) (nv : T → N) (Runs : T → Lone → List Control → Type 0)
-    (number : ℕ) (tells : Bool) (o : Began N) (e : OneEnd T) (input before after : List ℕ) : Type 0 where
+    (number : ℕ) (tells : Bool) (o : Began N) (e : OneEnd T) (input left before after : List ℕ) : Type 0 where
   pub bytes : List ℕ
-  pub rest : List ℕ
-  pub input_is : input ≡ bytes ++ rest
+  pub ahead : List ℕ
+  pub input_is : input ≡ bytes ++ (ahead ++ left)
+  pub near : length ahead ≤ 8192
   pub heard : HasHeardAlone writes nv Runs number tells o e true bytes before after
 
 -- one byte came more than may come
@@ -54,12 +81,13 @@ pub record IsTooLongAlone {N T : Type 0} (writes : N → ℕ → List ℕ → Bo
 
 -- how a run ended while bytes of this input came
 abbrev pub EndedInBytes : {N T : Type 0} → (N → ℕ → List ℕ → Bool → N → Type 0) → (T → N) → (T → Lone → List Control → Type 0) → ℕ → Bool → Began N
-    → OneEnd T → Status → List ℕ → List ℕ → List ℕ → Type 0
-EndedInBytes writes nv Runs number tells o e status.WriteFault input before after = IsBrokenAlone writes nv Runs number tells o e input before after
-EndedInBytes writes nv Runs number tells o e status.NvFault input before after = IsStoppedAlone writes nv Runs number tells o e input before after
-EndedInBytes writes nv Runs number tells o e (status.TooMany count) input before after =
+    → OneEnd T → Status → List ℕ → List ℕ → List ℕ → List ℕ → Type 0
+EndedInBytes writes nv Runs number tells o e status.WriteFault input left before after =
+    IsBrokenAlone writes nv Runs number tells o e input left before after
+EndedInBytes writes nv Runs number tells o e status.NvFault input left before after = IsStoppedAlone writes nv Runs number tells o e input left before after
+EndedInBytes writes nv Runs number tells o e (status.TooMany count) input left before after =
     (count ≡ 16777217) × IsTooLongAlone writes nv Runs number tells o e input before after
-EndedInBytes writes nv Runs number tells o e _ input before after = ⊥
+EndedInBytes writes nv Runs number tells o e _ input left before after = ⊥
 
 -- how a run with the word `end` can end while bytes come
 abbrev pub IsOfEnd : Status → Type 0
@@ -88,13 +116,13 @@ abbrev pub EndedAlone : {N T : Type 0} → (N → ℕ → List ℕ → Bool → 
 EndedAlone writes nv Runs number tells o e count status.Done input left before after =
     (left ≡ []) × (length input ≤ most_bytes) × HasHeardAlone writes nv Runs number tells o e false input before after
 EndedAlone writes nv Runs number tells o e count status.ReadFault input left before after =
-    IsHearing writes nv Runs number tells o e count input left before after
+    (count ≤ most_bytes) × IsHearing writes nv Runs number tells o e count input left before after
 EndedAlone writes nv Runs number tells o e count status.WriteFault input left before after =
-    EndedInBytes writes nv Runs number tells o e status.WriteFault input before after
+    EndedInBytes writes nv Runs number tells o e status.WriteFault input left before after
 EndedAlone writes nv Runs number tells o e count status.NvFault input left before after =
-    EndedInBytes writes nv Runs number tells o e status.NvFault input before after
+    EndedInBytes writes nv Runs number tells o e status.NvFault input left before after
 EndedAlone writes nv Runs number tells o e count (status.TooMany n) input left before after =
-    EndedInBytes writes nv Runs number tells o e (status.TooMany n) input before after
+    EndedInBytes writes nv Runs number tells o e (status.TooMany n) input left before after
 EndedAlone writes nv Runs number tells o e count _ input left before after = ⊥
 
 -- how such a run can end
@@ -105,3 +133,161 @@ IsOfLone status.WriteFault = Unit {0}
 IsOfLone status.NvFault = Unit {0}
 IsOfLone (status.TooMany count) = count ≡ 16777217
 IsOfLone _ = ⊥
+
+-- ## What is known of a whole run
+
+-- These bytes came to a node whose boot found this content and left the first memory here, and all that it wrote for them went out. The
+-- memory is now so.
+pub record HasRunAlone {N : Type 0} (writes : N → ℕ → List ℕ → Bool → N → Type 0) (tells : Bool) (form : EndForm) (is_clf : Bool) (content : List ℕ)
+    (first now : N) (stopped : Bool) (bytes before after : List ℕ) : Type 0 where
+  pub written : List ℕ
+  pub run : IsRunOfBytes writes first now stopped form is_clf content bytes written
+  pub after_is : IsTrue tells → after ≡ before ++ written
+
+-- this was written before what the last of these bytes caused: for all bytes before it
+abbrev pub IsRunBefore : {N : Type 0} → (N → ℕ → List ℕ → Bool → N → Type 0) → EndForm → Bool → List ℕ → N → List ℕ → Option ℕ → List ℕ → Type 0
+IsRunBefore writes form is_clf content first front None earlier = (front ≡ []) × (earlier ≡ [])
+IsRunBefore {N} writes form is_clf content first front (Some byte) earlier =
+    (mid : N) × IsRunOfBytes writes first mid false form is_clf content front earlier
+
+-- A write of the output failed: all that was written for the bytes before the last one went out, and a front of what was for that. Behind that
+-- byte no more was read than comes in one call.
+pub record IsRunBrokenOff {N : Type 0} (writes : N → ℕ → List ℕ → Bool → N → Type 0) (tells : Bool) (form : EndForm) (is_clf : Bool) (content : List ℕ)
+    (first now : N) (input left before after : List ℕ) : Type 0 where
+  pub front : List ℕ
+  pub byte : Option ℕ
+  pub ahead : List ℕ
+  pub input_is : input ≡ (front ++ option_to_list byte) ++ (ahead ++ left)
+  pub near : length ahead ≤ 8192
+  pub stopped : Bool
+  pub earlier : List ℕ
+  pub last : List ℕ
+  pub before_it : IsRunBefore writes form is_clf content first front byte earlier
+  pub run : IsRunOfBytes writes first now stopped form is_clf content (front ++ option_to_list byte) (earlier ++ last)
+  pub n : ℕ
+  pub after_is : IsTrue tells → after ≡ before ++ (earlier ++ take n last)
+
+-- one byte came more than may come
+pub record IsOneTooMany {N : Type 0} (writes : N → ℕ → List ℕ → Bool → N → Type 0) (tells : Bool) (form : EndForm) (is_clf : Bool) (content : List ℕ)
+    (first now : N) (input before after : List ℕ) : Type 0 where
+  pub bytes : List ℕ
+  pub byte : ℕ
+  pub rest : List ℕ
+  pub input_is : input ≡ bytes ++ byte ∷ rest
+  pub most : length bytes ≡ most_bytes
+  pub run : HasRunAlone writes tells form is_clf content first now false bytes before after
+
+-- A write to the memory failed in what the last of these bytes caused: what was written up to there went out. Behind that byte no more was read
+-- than comes in one call.
+pub record IsRunStopped {N : Type 0} (writes : N → ℕ → List ℕ → Bool → N → Type 0) (tells : Bool) (form : EndForm) (is_clf : Bool) (content : List ℕ)
+    (first now : N) (input left before after : List ℕ) : Type 0 where
+  pub bytes : List ℕ
+  pub ahead : List ℕ
+  pub input_is : input ≡ bytes ++ (ahead ++ left)
+  pub near : length ahead ≤ 8192
+  pub run : HasRunAlone writes tells form is_clf content first now true bytes before after
+
+-- a read of the input failed behind these bytes, and these weren't too many: all that was written for them went out
+pub record IsRunCutOff {N : Type 0} (writes : N → ℕ → List ℕ → Bool → N → Type 0) (tells : Bool) (form : EndForm) (is_clf : Bool) (content : List ℕ)
+    (first now : N) (input left before after : List ℕ) : Type 0 where
+  pub bytes : List ℕ
+  pub input_is : input ≡ bytes ++ left
+  pub few : length bytes ≤ most_bytes
+  pub run : HasRunAlone writes tells form is_clf content first now false bytes before after
+
+-- How a run of this input ended, of which this is left, by its status. On Done all of it came, and all that the node wrote for it went out;
+-- where reading failed, a front came; where a write to the memory failed or one byte too many came, what was written up to there went out;
+-- where writing failed, a front of that.
+abbrev pub RanSo : {N : Type 0} → (N → ℕ → List ℕ → Bool → N → Type 0) → Bool → EndForm → Bool → List ℕ → N → N → Status → List ℕ → List ℕ → List ℕ
+    → List ℕ → Type 0
+RanSo writes tells form is_clf content first now status.Done input left before after =
+    (left ≡ []) × (length input ≤ most_bytes) × HasRunAlone writes tells form is_clf content first now false input before after
+RanSo writes tells form is_clf content first now status.ReadFault input left before after =
+    IsRunCutOff writes tells form is_clf content first now input left before after
+RanSo writes tells form is_clf content first now status.WriteFault input left before after =
+    IsRunBrokenOff writes tells form is_clf content first now input left before after
+RanSo writes tells form is_clf content first now status.NvFault input left before after =
+    IsRunStopped writes tells form is_clf content first now input left before after
+RanSo writes tells form is_clf content first now (status.TooMany count) input left before after =
+    (count ≡ 16777217) × IsOneTooMany writes tells form is_clf content first now input before after
+RanSo writes tells form is_clf content first now _ input left before after = ⊥
+
+-- nothing was read or written
+abbrev pub IsNothingDone : Bool → List ℕ → List ℕ → List ℕ → List ℕ → Type 0
+IsNothingDone tells input left before after = (left ≡ input) × (IsTrue tells → after ≡ before)
+
+-- The boot went through, with the writes that it makes of what it found, and the node ran so.
+pub record BootedAndRan {N : Type 0} (reads : N → Bool → N → Type 0) (writes : N → ℕ → List ℕ → Bool → N → Type 0) (content : N → List ℕ) (tells : Bool)
+    (form : EndForm) (is_clf : Bool) (old new : N) (s : Status) (input left before after : List ℕ) : Type 0 where
+  pub first : N
+  pub sound : image_fault (content old) ≡ None
+  pub booted : HasWritten reads writes content (ready_writes (content old)) old true first
+  pub ran : RanSo writes tells form is_clf (content old) first new s input left before after
+
+-- The boot was refused, for what is wrong with the memory, or since it is of version 01 and has no generation left: nothing was read or
+-- written, and the next boot finds what this one found.
+pub record IsImageRefused {N : Type 0} (content : N → List ℕ) (tells : Bool) (old new : N) (fault : JournalFault)
+    (input left before after : List ℕ) : Type 0 where
+  pub nothing : IsNothingDone tells input left before after
+  pub why : (image_fault (content old) ≡ Some fault) ⊎ ((fault ≡ GenerationsSpent) × IsSpent (content old) (content new))
+  pub same : FindsSame (content old) (content new)
+
+-- A read of the boot failed, and the memory is as it was, or a write of it, and those before it were made: nothing was read or written of the
+-- link, and the next boot finds what this one found.
+pub record IsBootCut {N : Type 0} (reads : N → Bool → N → Type 0) (writes : N → ℕ → List ℕ → Bool → N → Type 0) (content : N → List ℕ) (tells : Bool)
+    (old new : N) (input left before after : List ℕ) : Type 0 where
+  pub nothing : IsNothingDone tells input left before after
+  pub where_cut : (AreRead reads 37 old false new × (content new ≡ content old))
+      ⊎ HasWritten reads writes content (ready_writes (content old)) old false new
+  pub same : FindsSame (content old) (content new)
+
+-- How a run with the word `end` over this memory ended: its last words say whether it is the CLF's end, and the form of its link.
+abbrev pub EndedSo : {N : Type 0} → (N → Bool → N → Type 0) → (N → ℕ → List ℕ → Bool → N → Type 0) → (N → List ℕ) → Bool → EndForm → Bool → N → N
+    → Status → List ℕ → List ℕ → List ℕ → List ℕ → Type 0
+EndedSo reads writes content tells form is_clf old new status.NoMemory input left before after =
+    (new ≡ old) × IsNothingDone tells input left before after
+EndedSo reads writes content tells form is_clf old new (status.BadImage fault) input left before after =
+    IsImageRefused content tells old new fault input left before after
+EndedSo reads writes content tells form is_clf old new status.NvFault input left before after =
+    IsBootCut reads writes content tells old new input left before after
+    ⊎ BootedAndRan reads writes content tells form is_clf old new status.NvFault input left before after
+EndedSo reads writes content tells form is_clf old new s input left before after =
+    BootedAndRan reads writes content tells form is_clf old new s input left before after
+
+-- how a run ends whose boot was refused, for this fault or without memory
+abbrev pub status_of_boot : Option JournalFault → Status
+status_of_boot None = status.NoMemory
+status_of_boot (Some fault) = status_of_fault fault
+
+-- how such a run can end
+abbrev pub IsOfEndWord : Status → Type 0
+IsOfEndWord status.Done = Unit {0}
+IsOfEndWord status.ReadFault = Unit {0}
+IsOfEndWord status.WriteFault = Unit {0}
+IsOfEndWord status.NvFault = Unit {0}
+IsOfEndWord status.NoMemory = Unit {0}
+IsOfEndWord (status.BadImage fault) = Unit {0}
+IsOfEndWord (status.TooMany count) = count ≡ 16777217
+IsOfEndWord _ = ⊥
+
+-- a boot has the generation that it needs: a memory of version 01 is written anew with the next one
+abbrev pub HasNextGeneration : List ℕ → Type 0
+HasNextGeneration content = (journal content).head.version ≡ 1 → (journal content).head.generation ≢ 4294967295
+
+-- the word for an end: the CLF's, or the UICC's
+abbrev pub role_word : Bool → List ℕ
+role_word true = codes "clf"
+role_word false = codes "uicc"
+
+-- the word for a form of the link
+abbrev pub form_word : EndForm → List ℕ
+form_word OnLine = codes "line"
+form_word OnBytes = codes "bytes"
+
+-- the words `end`, which end it is, and the form of its link
+abbrev pub IsEndCommand : Bool → EndForm → List (List ℕ) → Type 0
+IsEndCommand is_clf form words = words ≡ codes "end" ∷ role_word is_clf ∷ form_word form ∷ []
+
+-- such words, of either end and either form
+abbrev pub AskForAnEnd : List (List ℕ) → Type 0
+AskForAnEnd words = (is_clf : Bool) × (form : EndForm) × IsEndCommand is_clf form words

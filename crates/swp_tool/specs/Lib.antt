@@ -8,5 +8,5 @@ pub mod Records
 pub mod Decodings
 pub mod Taps
 pub mod Images
-pub mod either
 pub mod Ends
+pub mod Generated

@@ -1,12 +1,12 @@
 -- What is read of a schedule that comes in pieces.
-use Rattle.std.specs.Prelude.{◌≡◌, ℕ, ◌+◌, ◌-◌, ◌*◌, ◌<◌, ◌≤◌, nat_eq, false, List, [], ◌∷◌, ◌++◌, length, map, Some, None}
+use Rattle.std.specs.Prelude.{◌≡◌, ℕ, ◌+◌, ◌-◌, ◌*◌, ◌<◌, ◌≤◌, nat_eq, false, List, [], ◌∷◌, ◌++◌, length, map, None}
 use Rattle.std.specs.List.{flat_map, All}
 use Rattle.std.specs.Str.Lines.{lines, strip_carriage_return}
 use Rattle.swp_tool.specs.declared.replay.Halt.{Halt}
 use Rattle.swp_tool.specs.declared.replay.Halt.TheVariants as halt
 use Rattle.swp_tool.specs.declared.pieces.Pieces.{Pieces}
-use Rattle.swp_tool.specs.Schedules.{Stop, AtFault, AtMisread, Too_many, Schedule, nothing_read, with_lines, schedule_of}
-use Rattle.swp_tool.specs.Transcripts.{IsTranscript, done_line}
+use Rattle.swp_tool.specs.Schedules.{AtFault, AtMisread, Too_many, Schedule, nothing_read, and_lines}
+use Rattle.swp_tool.specs.Transcripts.{IsTranscript, StopsWithText}
 use Rattle.swp_tool.specs.Replays.{HasPlayed, HasFew}
 
 -- the bytes have no LF
@@ -24,11 +24,11 @@ AllLackLineFeed (line ∷ more) = LacksLineFeed line × AllLackLineFeed more
 
 -- the schedule of these lines, each without a carriage return at its end
 abbrev pub schedule_so_far : List (List ℕ) → Schedule
-schedule_so_far whole = with_lines nothing_read (map strip_carriage_return whole)
+schedule_so_far whole = and_lines nothing_read (map strip_carriage_return whole)
 
 -- the schedule of all lines of the bytes, without a word on whether it may end there
 abbrev pub schedule_read : List ℕ → Schedule
-schedule_read bytes = with_lines nothing_read (lines bytes)
+schedule_read bytes = and_lines nothing_read (lines bytes)
 
 -- The bytes are whole lines and the front of one that is kept; the whole lines are played.
 pub record HasRead (p : Pieces) (bytes written : List ℕ) : Type 0 where
@@ -74,7 +74,7 @@ pub record IsFrontTranscript (bytes text : List ℕ) : Type 0 where
   pub front : List (List ℕ)
   pub back : List (List ℕ)
   pub lines_are : lines bytes ≡ front ++ back
-  pub transcript : IsTranscript (with_lines nothing_read front) text
+  pub transcript : IsTranscript (and_lines nothing_read front) text
 
 -- a text is the transcript of all lines of the bytes that their LF ends
 pub record IsWholeTranscript (bytes text : List ℕ) : Type 0 where
@@ -85,29 +85,16 @@ pub record IsWholeTranscript (bytes text : List ℕ) : Type 0 where
   pub rest_lacks : LacksLineFeed rest
   pub transcript : IsTranscript (schedule_so_far whole) text
 
--- a text is the transcript of the schedule that the bytes are, with its last line
-pub record IsCompleteTranscript (bytes text : List ℕ) : Type 0 where
-  pub running : (schedule_of bytes).stop ≡ None
-  pub lines_text : List ℕ
-  pub transcript : IsTranscript (schedule_of bytes) lines_text
-  pub text_is : text ≡ lines_text ++ done_line (schedule_of bytes).count
-
--- the schedule of bytes stops here, and this text is its transcript
-pub record StopsAt (bytes : List ℕ) (why : Stop) (count : ℕ) (text : List ℕ) : Type 0 where
-  pub stop : (schedule_of bytes).stop ≡ Some why
-  pub count_is : (schedule_of bytes).count ≡ count
-  pub transcript : IsTranscript (schedule_of bytes) text
-
 -- However the bytes go on, their schedule stops here, with this text as its transcript.
 abbrev pub Halts : Halt → ℕ → List ℕ → List ℕ → Type 0
-Halts (halt.Fault why) count bytes text = (rest : List ℕ) → StopsAt (bytes ++ rest) (AtFault why) (count + 1) text
-Halts halt.Undetected count bytes text = (rest : List ℕ) → StopsAt (bytes ++ rest) AtMisread (count + 1) text
-Halts halt.TooMany count bytes text = (rest : List ℕ) → StopsAt (bytes ++ rest) Too_many (count + 1) text
+Halts (halt.Fault why) count bytes text = (rest : List ℕ) → StopsWithText (bytes ++ rest) (AtFault why) (count + 1) text
+Halts halt.Undetected count bytes text = (rest : List ℕ) → StopsWithText (bytes ++ rest) AtMisread (count + 1) text
+Halts halt.TooMany count bytes text = (rest : List ℕ) → StopsWithText (bytes ++ rest) Too_many (count + 1) text
 Halts halt.NoMemory count bytes text = (rest : List ℕ) → IsFrontTranscript (bytes ++ rest) text
 
 -- The same where the bytes have ended.
 abbrev pub HaltsAtEnd : Halt → ℕ → List ℕ → List ℕ → Type 0
-HaltsAtEnd (halt.Fault why) count bytes text = StopsAt bytes (AtFault why) (count + 1) text
-HaltsAtEnd halt.Undetected count bytes text = StopsAt bytes AtMisread (count + 1) text
+HaltsAtEnd (halt.Fault why) count bytes text = StopsWithText bytes (AtFault why) (count + 1) text
+HaltsAtEnd halt.Undetected count bytes text = StopsWithText bytes AtMisread (count + 1) text
 HaltsAtEnd halt.TooMany count bytes text = ⊥
 HaltsAtEnd halt.NoMemory count bytes text = IsFrontTranscript bytes text

@@ -3,22 +3,20 @@ use Rattle.std.specs.Prelude.{◌≡◌, ℕ, ◌≤◌, List, [], ◌++◌, len
 use Rattle.std.specs.Option.{ForSome}
 use Rattle.trace_model.specs.declared.line.Header.{Header}
 use Rattle.trace_model.specs.declared.line.Line.{Line}
-use Rattle.history.specs.Histories.{History}
 use Rattle.world.specs.declared.world_steps.World.{World}
-use Rattle.world.specs.declared.world_steps.WorldFault.{WorldFault}
-use Rattle.world.specs.declared.world_steps.WorldFault.TheVariants as fault
-use Rattle.world.specs.Worlds.{WorldStandsFor, world_header}
+use Rattle.world.specs.declared.fault.WorldFault.{WorldFault}
+use Rattle.world.specs.declared.fault.WorldFault.TheVariants as fault
+use Rattle.world.specs.Worlds.{IsWorldAt, world_header}
 use Rattle.swp_tool.specs.declared.replay.Replay.{Replay}
 use Rattle.swp_tool.specs.declared.replay.Halt.{Halt}
 use Rattle.swp_tool.specs.declared.replay.Halt.TheVariants as halt
-use Rattle.swp_tool.specs.Schedules.{Schedule, AtFault, AtMisread, with_line}
-use Rattle.swp_tool.specs.Transcripts.{transcript_of}
+use Rattle.swp_tool.specs.Schedules.{Schedule, AtFault, AtMisread, and_line}
+use Rattle.swp_tool.specs.Transcripts.{history_below, played_text}
 
--- A world stands for a legal history of these lines, whose transcript is this text.
+-- A world stands behind these lines below this header, and this text is the transcript of what became of them.
 pub record Runs (w : World) (header : Header) (lines : List Line) (text : List ℕ) : Type 0 where
-  pub history : History
-  pub stands : WorldStandsFor w header lines history
-  pub text_is : text ≡ transcript_of history
+  pub stands : IsWorldAt w header lines
+  pub text_is : text ≡ played_text (history_below header lines)
 
 -- there is a world where there is a header
 abbrev pub IsAt : Option World → Option Header → List Line → List ℕ → Type 0
@@ -36,8 +34,7 @@ pub record HasPlayed (r : Replay) (s : Schedule) (written : List ℕ) : Type 0 w
 -- a world was stepped by at most this many lines
 pub record WasStepped (w : World) (most : ℕ) : Type 0 where
   pub lines : List Line
-  pub history : History
-  pub stands : WorldStandsFor w (world_header w) lines history
+  pub stands : IsWorldAt w (world_header w) lines
   pub few : length lines ≤ most
 
 -- a replay has read at most 20,000 lines, and its world was stepped by no more than it has read
@@ -68,4 +65,4 @@ HaltsBefore halt.NoMemory s = Unit {0}
 
 -- a replay halted at a line
 abbrev pub HaltsAt : Halt → Schedule → List ℕ → Type 0
-HaltsAt why s bytes = HaltsBefore why (with_line s bytes)
+HaltsAt why s bytes = HaltsBefore why (and_line s bytes)

@@ -6,7 +6,10 @@ use Rattle.swp_tool.specs.declared.status.Status.TheVariants as status
 use Rattle.swp_tool.specs.declared.replay.Halt.{Halt}
 use Rattle.swp_tool.specs.declared.replay.Halt.TheVariants as halt
 use Rattle.swp_tool.specs.Schedules.{Stop, AtFault, AtMisread, Too_many}
-use Rattle.swp_tool.specs.Pieces.{HasRead, IsFrontTranscript, IsWholeTranscript, IsCompleteTranscript, IsRunning, StopsAt}
+use Rattle.swp_tool.specs.Transcripts.{IsDoneText, StopsWithText}
+use Rattle.swp_tool.specs.Generated.{IsGen}
+use Rattle.swp_tool.specs.Pieces.{HasRead, IsFrontTranscript, IsWholeTranscript, IsRunning}
+use Rattle.swp_tool.specs.Ends.{AskForAnEnd}
 
 -- the status of a replay that halts behind so many whole lines
 abbrev pub status_of : Halt → ℕ → Status
@@ -27,7 +30,7 @@ AppendsText tells P before after = (text : List ℕ) × P text × (IsTrue tells 
 
 -- a text that the program may write on the way: the transcript of some of the first lines, or the whole one
 abbrev pub IsSomeTranscript : List ℕ → List ℕ → Type 0
-IsSomeTranscript input text = IsFrontTranscript input text ⊎ IsCompleteTranscript input text
+IsSomeTranscript input text = IsFrontTranscript input text ⊎ IsDoneText input text
 
 -- A write failed: a front of such a text was written. Of what was read, where this is left, all but the piece in hand, of at most so many
 -- bytes, had been played and its transcript written before; so nothing was read behind the write that failed.
@@ -51,10 +54,10 @@ IsTranscriptOfRead input left text = (bytes : List ℕ) × (input ≡ bytes ++ l
 -- a front of it, all of the pieces before the last among it. Whether the sink tells what was written comes first: without it there is
 -- such a text, and nothing is said of where it went.
 abbrev pub Replayed : Bool → Status → List ℕ → List ℕ → List ℕ → List ℕ → Type 0
-Replayed tells status.Done input left before after = (left ≡ []) × AppendsText tells (IsCompleteTranscript input) before after
-Replayed tells (status.BadSchedule line why) input left before after = AppendsText tells (StopsAt input (AtFault why) line) before after
-Replayed tells (status.Undetected line) input left before after = AppendsText tells (StopsAt input AtMisread line) before after
-Replayed tells (status.TooMany count) input left before after = AppendsText tells (StopsAt input Too_many count) before after
+Replayed tells status.Done input left before after = (left ≡ []) × AppendsText tells (IsDoneText input) before after
+Replayed tells (status.BadSchedule line why) input left before after = AppendsText tells (StopsWithText input (AtFault why) line) before after
+Replayed tells (status.Undetected line) input left before after = AppendsText tells (StopsWithText input AtMisread line) before after
+Replayed tells (status.TooMany count) input left before after = AppendsText tells (StopsWithText input Too_many count) before after
 Replayed tells status.ReadFault input left before after = AppendsText tells (IsTranscriptOfRead input left) before after
 Replayed tells status.WriteFault input left before after = AppendsText tells (IsCutShort 4096 input left) before after
 Replayed tells status.NoMemory input left before after = AppendsText tells (IsFrontTranscript input) before after
@@ -103,4 +106,5 @@ IsTables words = words ≡ codes "tables" ∷ []
 
 -- the words that ask for something
 abbrev pub AskForSomething : List (List ℕ) → Type 0
-AskForSomething words = IsReplay words ⊎ (IsDecode words ⊎ (IsTables words ⊎ (IsTap true words ⊎ IsTap false words)))
+AskForSomething words =
+    IsReplay words ⊎ (IsDecode words ⊎ (IsTables words ⊎ (IsTap true words ⊎ (IsTap false words ⊎ (AskForAnEnd words ⊎ ((n : ℕ) × IsGen n words))))))

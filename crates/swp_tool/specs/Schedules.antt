@@ -1,4 +1,4 @@
--- The schedule that bytes are: the lines below its header, or the first line at which they stop being one that is played.
+-- The schedule that bytes are, below either header: the lines below it, or the first line at which they stop being one that is played.
 use Rattle.std.specs.Prelude.{ℕ, ◌+◌, ◌==◌, if◌then◌else◌, List, [], ◌∷◌, ◌++◌, Option, Some, None, Result, Ok, Err}
 use Rattle.std.specs.List.{fold}
 use Rattle.std.specs.Str.Lines.{lines}
@@ -9,9 +9,7 @@ use Rattle.schedule_text.specs.declared.fault.LineFault.TheVariants as fault
 use Rattle.schedule_text.specs.declared.read.Read.{Read}
 use Rattle.schedule_text.specs.declared.read.Read.TheVariants as read
 use Rattle.schedule_text.specs.Lines.{line_of}
-use Rattle.history.specs.Steps.{bare_link}
-use Rattle.history.specs.Follows.{host_of, link_after_lines, misread}
-use Rattle.lines_told.specs.Below.{is_settling}
+use Rattle.lines_told.specs.Below.{is_settling, misread_below}
 
 -- why bytes stop being a schedule: a line is outside the forms, it damages a frame so that another one is read in its place, or
 -- one line more begins than a schedule may have
@@ -35,47 +33,49 @@ nothing_read = record { header = None; lines = []; count = 0; stop = None }
 abbrev pub most_lines : ℕ
 most_lines = 20000
 
--- the frame that is read in place of another, where a line behind these damages that one so that its CRC doesn't show it
-abbrev pub misread_behind : Option Header → List Line → Line → Option (List ℕ)
-misread_behind None before line = None
-misread_behind (Some header) before line = misread (link_after_lines (host_of header) bare_link before) line
+-- The frame that is read in place of another, where a line behind these damages that one so that its CRC doesn't show it; before a header
+-- no line is played.
+abbrev pub misread_there : Option Header → List Line → Line → Option (List ℕ)
+misread_there None before line = None
+misread_there (Some header) before line = misread_below header before line
 
 -- a schedule with one line more, unless that line damages a frame so that another one is read
 abbrev pub with_played : Schedule → Line → Option (List ℕ) → Schedule
 with_played s line None = record s { lines = s.lines ++ line ∷ []; count = s.count + 1 }
 with_played s line (Some other) = record s { count = s.count + 1; stop = Some AtMisread }
 
+-- no world settles yet: a line that asks for it has an unknown word
+abbrev pub unless_settling : Result Read LineFault → Result Read LineFault
+unless_settling (Err f) = Err f
+unless_settling (Ok read.Skip) = Ok read.Skip
+unless_settling (Ok (read.Header header)) = Ok (read.Header header)
+unless_settling (Ok (read.Line said)) = if is_settling said then Err fault.Word else Ok (read.Line said)
+unless_settling (Ok read.NoMemory) = Ok read.NoMemory
+
+-- what a line says below either header, or the first one where there is none yet
+abbrev pub said_there : Option Header → List ℕ → Result Read LineFault
+said_there header bytes = unless_settling (line_of header bytes)
+
 -- a schedule with one line more, that says this
-abbrev pub with_said : Schedule → Result Read LineFault → Schedule
-with_said s (Err f) = record s { count = s.count + 1; stop = Some (AtFault f) }
-with_said s (Ok read.Skip) = record s { count = s.count + 1 }
-with_said s (Ok (read.Header header)) = record s { header = Some header; count = s.count + 1 }
-with_said s (Ok (read.Line line)) = with_played s line (misread_behind s.header s.lines line)
-with_said s (Ok read.NoMemory) = s
-
--- what is read of a line, where it is played: worlds of nodes aren't yet, nor does a world settle, so these are unknown words
-abbrev pub as_played : Result Read LineFault → Result Read LineFault
-as_played (Err f) = Err f
-as_played (Ok read.Skip) = Ok read.Skip
-as_played (Ok (read.Header header)) = if header.hci then Err fault.Word else Ok (read.Header header)
-as_played (Ok (read.Line said)) = if is_settling said then Err fault.Word else Ok (read.Line said)
-as_played (Ok read.NoMemory) = Ok read.NoMemory
-
-abbrev pub played_line : Option Header → List ℕ → Result Read LineFault
-played_line header bytes = as_played (line_of header bytes)
+abbrev pub and_said : Schedule → Result Read LineFault → Schedule
+and_said s (Err f) = record s { count = s.count + 1; stop = Some (AtFault f) }
+and_said s (Ok read.Skip) = record s { count = s.count + 1 }
+and_said s (Ok (read.Header header)) = record s { header = Some header; count = s.count + 1 }
+and_said s (Ok (read.Line line)) = with_played s line (misread_there s.header s.lines line)
+and_said s (Ok read.NoMemory) = s
 
 -- a schedule with one line more; behind a line at which it stopped nothing is read
-abbrev pub with_line : Schedule → List ℕ → Schedule
-with_line s bytes = unless s.stop where
+abbrev pub and_line : Schedule → List ℕ → Schedule
+and_line s bytes = unless s.stop where
   unless : Option Stop → Schedule
   unless (Some _) = s
   unless None =
       if s.count == most_lines
       then record s { count = s.count + 1; stop = Some Too_many }
-      else with_said s (played_line s.header bytes)
+      else and_said s (said_there s.header bytes)
 
-abbrev pub with_lines : Schedule → List (List ℕ) → Schedule
-with_lines s bytes = fold with_line s bytes
+abbrev pub and_lines : Schedule → List (List ℕ) → Schedule
+and_lines s bytes = fold and_line s bytes
 
 -- where the bytes end without a header, the line after the last is out of order
 abbrev pub ended : Schedule → Schedule
@@ -86,5 +86,5 @@ ended s = if_running s.stop s.header where
   if_running (Some _) _ = s
 
 -- the schedule of bytes
-abbrev pub schedule_of : List ℕ → Schedule
-schedule_of bytes = ended (with_lines nothing_read (lines bytes))
+abbrev pub schedule_in : List ℕ → Schedule
+schedule_in bytes = ended (and_lines nothing_read (lines bytes))

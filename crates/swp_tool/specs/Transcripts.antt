@@ -1,45 +1,91 @@
--- The transcript of a history.
-use Rattle.std.specs.Prelude.{◌≡◌, ℕ, List, [], ◌∷◌, ◌++◌, Option, Some, None, codes}
-use Rattle.std.specs.List.{flat_map, All}
+-- The transcript of a history, below either header.
+use Rattle.std.specs.Prelude.{◌≡◌, ℕ, if◌then◌else◌, List, [], ◌∷◌, ◌++◌, Option, Some, None, codes}
+use Rattle.std.specs.List.{All}
 use Rattle.std.specs.Fmt.{decimal}
 use Rattle.trace_model.specs.declared.entry.Entry.{Entry}
-use Rattle.trace_model.specs.declared.entry.Entry.TheVariants as entry
 use Rattle.trace_model.specs.declared.line.Header.{Header}
 use Rattle.trace_model.specs.declared.line.Line.{Line}
-use Rattle.schedule_text.specs.Entries.{entry_line, entry_lines}
-use Rattle.history.specs.Histories.{Step, History, noted}
-use Rattle.history.specs.Follows.{Follows}
-use Rattle.history.specs.Legal.{Legal}
+use Rattle.schedule_text.specs.Entries.{entry_lines}
+use Rattle.link_entries.specs.messages.Links.{Link}
+use Rattle.history.specs.Histories.{Step, History, Outcome}
+use Rattle.history.specs.Steps.{bare_link}
+use Rattle.history.specs.Follows.{host_of, opening_of, outcome_of, link_after_line}
+use Rattle.node_machine.specs.world.World.{new_world}
+use Rattle.node_machine.specs.world.NodeHistories.{NodeHistory, steps_from}
+use Rattle.answer_laws.specs.answers.Headline.{PlayedHistory, IsPlayed, IsLegal}
+use Rattle.answer_laws.specs.answers.Headline.PlayedHistory.{OfLink, OfNodes}
 use Rattle.text_laws.specs.Ranges.{IsNumber, IsEntry}
 use Rattle.told_laws.specs.Told.{entries_told}
-use Rattle.swp_tool.specs.Schedules.{Schedule}
+use Rattle.told_laws.specs.NodesTold.{nodes_told}
+use Rattle.swp_tool.specs.Schedules.{Stop, Schedule, schedule_in}
 
--- a line of the schedule and what is noted below it
-abbrev pub step_text : Step → List ℕ
-step_text step = entry_line (entry.Echo step.line) ++ entry_lines (noted step.outcome)
+-- ## The history of a schedule
+
+-- what becomes of lines on the link with this host, one after another
+abbrev pub link_steps_from : ℕ → Link → List Line → List Step
+link_steps_from h l [] = []
+link_steps_from h l (line ∷ lines) =
+    let o : Outcome = outcome_of h l line in record { line = line; outcome = o } ∷ link_steps_from h (link_after_line l o) lines
+
+-- the one history of a bare link that follows these lines below this header
+abbrev pub link_history : Header → List Line → History
+link_history header lines =
+    record { header = header; opening = opening_of (host_of header); steps = link_steps_from (host_of header) bare_link lines }
+
+-- the one history of nodes that follows these lines below this header: what becomes of each line in turn
+abbrev pub nodes_history : Header → List Line → NodeHistory
+nodes_history header lines = record { header = header; steps = steps_from (new_world header.hosts.items) lines }
+
+-- the one history that is played from these lines below this header
+abbrev pub history_below : Header → List Line → PlayedHistory
+history_below header lines = if header.hci then OfNodes (nodes_history header lines) else OfLink (link_history header lines)
+
+-- ## Its text
+
+-- all that is told of a history, below either header
+abbrev pub played_told : PlayedHistory → List Entry
+played_told (OfLink t) = entries_told t
+played_told (OfNodes t) = nodes_told t
 
 -- the transcript of a history: its header, its lines, and below each what is noted
-abbrev pub transcript_of : History → List ℕ
-transcript_of t = (entry_line (entry.Head t.header) ++ entry_lines t.opening) ++ flat_map step_text t.steps
+abbrev pub played_text : PlayedHistory → List ℕ
+played_text t = entry_lines (played_told t)
 
 -- the last line, with the number of lines of the schedule
 abbrev pub done_line : ℕ → List ℕ
 done_line count = codes "done " ++ decimal count ++ 10 ∷ []
 
--- a text is the transcript of a legal history that follows this header and these lines
-pub record IsTranscriptOf (header : Header) (lines : List Line) (text : List ℕ) : Type 0 where
-  pub history : History
-  pub follows : Follows header lines history
-  pub legal : Legal history
-  pub text_is : text ≡ transcript_of history
+-- A text is the transcript of a legal history that is played from this header and these lines.
+pub record IsPlayedText (header : Header) (lines : List Line) (text : List ℕ) : Type 0 where
+  pub history : PlayedHistory
+  pub played : IsPlayed header lines history
+  pub legal : IsLegal history
+  pub text_is : text ≡ played_text history
 
--- A text is the transcript of the lines of a schedule: nothing before its header.
-abbrev pub IsTextOf : Option Header → List Line → List ℕ → Type 0
-IsTextOf None lines text = text ≡ []
-IsTextOf (Some header) lines text = IsTranscriptOf header lines text
+-- A text is the transcript of these lines below this header: nothing before a header.
+abbrev pub IsTextBelow : Option Header → List Line → List ℕ → Type 0
+IsTextBelow None lines text = text ≡ []
+IsTextBelow (Some header) lines text = IsPlayedText header lines text
 
+-- it is that of the lines of a schedule
 abbrev pub IsTranscript : Schedule → List ℕ → Type 0
-IsTranscript s text = IsTextOf s.header s.lines text
+IsTranscript s text = IsTextBelow s.header s.lines text
+
+-- A text is the transcript of the whole schedule that the bytes are, with its last line: what a replay writes that is done.
+pub record IsDoneText (bytes text : List ℕ) : Type 0 where
+  pub running : (schedule_in bytes).stop ≡ None
+  pub lines_text : List ℕ
+  pub transcript : IsTranscript (schedule_in bytes) lines_text
+  pub text_is : text ≡ lines_text ++ done_line (schedule_in bytes).count
+
+-- The schedule of the bytes stops at this line, for this reason, and the text is the transcript of the lines before it: what a replay
+-- writes that is refused there, or that damage ends that the CRC doesn't show.
+pub record StopsWithText (bytes : List ℕ) (why : Stop) (line : ℕ) (text : List ℕ) : Type 0 where
+  pub stop : (schedule_in bytes).stop ≡ Some why
+  pub line_is : (schedule_in bytes).count ≡ line
+  pub transcript : IsTranscript (schedule_in bytes) text
+
+-- ## What a text tells
 
 -- the text of entries and the line that ends it, with this number of lines
 abbrev pub whole_text : List Entry → ℕ → List ℕ
@@ -53,10 +99,10 @@ pub record TellsEntries (text : List ℕ) (entries : List Entry) : Type 0 where
   pub text_is : text ≡ whole_text entries count
   pub alone : (others : List Entry) (n : ℕ) → All IsEntry others → IsNumber n → text ≡ whole_text others n → others ≡ entries
 
--- a text tells what became of the lines of a schedule: the entries of the history that follows them
-pub record TellsHistory (s : Schedule) (text : List ℕ) : Type 0 where
+-- a text tells what became of the lines of a schedule: the entries of the history that is played from them
+pub record TellsPlayed (s : Schedule) (text : List ℕ) : Type 0 where
   pub header : Header
   pub header_is : s.header ≡ Some header
-  pub history : History
-  pub follows : Follows header s.lines history
-  pub told : TellsEntries text (entries_told history)
+  pub history : PlayedHistory
+  pub played : IsPlayed header s.lines history
+  pub told : TellsEntries text (played_told history)

@@ -32,6 +32,9 @@ pub trait Job {
     // it ended in this way, with what is left of the input, and what the sink held before and holds now
     ghost ended: { Bool → Origin → Self → Ending → List ℕ → List ℕ → List ℕ → List ℕ → Type 0 };
 
+    // how many faults its memory has counted; always the same of one without a memory
+    ghost memory_faults: { Self → ℕ };
+
     // a way in which it can end
     ghost is_ending: { Ending → Type 0 };
 
@@ -52,6 +55,8 @@ pub trait Job {
         requires size { length piece.now ≤ piece_size self.old }
         ensures count { K.faults sink.old ≤ K.faults sink.new }
         ensures write_fault { result ≡ Err Ending.WriteFault → Rose (K.faults sink.old) (K.faults sink.new) }
+        ensures memory { memory_faults self.old ≤ memory_faults self.new }
+        ensures nv_fault { result ≡ Err Ending.NvFault → Rose (memory_faults self.old) (memory_faults self.new) }
         ensures read_fault { result ≢ Err Ending.ReadFault }
         ensures words { result ≢ Err Ending.BadWords }
         ensures ending { IfErr result is_ending }
@@ -71,6 +76,7 @@ pub trait Job {
         requires goes { goes_on self.old }
         ensures count { K.faults sink.old ≤ K.faults sink.new }
         ensures write_fault { result ≡ Ending.WriteFault → Rose (K.faults sink.old) (K.faults sink.new) }
+        ensures nv_fault { result ≡ Ending.NvFault → Rose (memory_faults self.old) (memory_faults self.new) }
         ensures read_fault { result ≢ Ending.ReadFault }
         ensures words { result ≢ Ending.BadWords }
         ensures ending { is_ending result }
@@ -103,6 +109,8 @@ fn pump<S: Source, K: Sink, J: Job>(
     ensures writes { K.faults sink.old ≤ K.faults sink.new }
     ensures read_fault { result ≡ Err Ending.ReadFault → Rose (S.faults source.old) (S.faults source.new) }
     ensures write_fault { result ≡ Err Ending.WriteFault → Rose (K.faults sink.old) (K.faults sink.new) }
+    ensures memory { J.memory_faults job.old ≤ J.memory_faults job.new }
+    ensures nv_fault { result ≡ Err Ending.NvFault → Rose (J.memory_faults job.old) (J.memory_faults job.new) }
     ensures words { result ≢ Err Ending.BadWords }
     ensures ending { IfErr result J.is_ending }
     ensures goes { OnOk result (J.goes_on job.new) }
@@ -141,6 +149,7 @@ pub fn drive<S: Source, K: Sink, J: Job>(
     requires goes { J.goes_on job.old }
     ensures read_fault { result ≡ Ending.ReadFault → Rose (S.faults source.old) (S.faults source.new) }
     ensures write_fault { result ≡ Ending.WriteFault → Rose (K.faults sink.old) (K.faults sink.new) }
+    ensures nv_fault { result ≡ Ending.NvFault → Rose (J.memory_faults job.old) (J.memory_faults job.new) }
     ensures words { result ≢ Ending.BadWords }
     ensures ending { J.is_ending result }
     ensures ends { IsTrue S.tells → (o : J.Origin) (input before : List ℕ) →

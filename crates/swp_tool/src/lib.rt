@@ -1,10 +1,13 @@
 //! The top call of the program `swp`: words, input and output in, a status out.
 #![tactic(auto)]
 
+mod counts;
 mod decoding;
 mod driver;
 mod gathering;
+mod generating;
 mod lone;
+mod number;
 mod output;
 mod pieces;
 pub mod played;

@@ -1,15 +1,24 @@
 //! The command `end`: one node alone at the end of a link whose other end is live.
-ghost use Rattle.std.specs.Prelude.{◌≡◌, ◌≢◌, ◌≤◌, ◌<◌, ◌+◌, ◌++◌, ◌∷◌, [], List, ℕ, IsTrue, OnOk, IfErr, Err, false, length};
+ghost use Rattle.std.specs.Prelude.{◌≡◌, ◌≢◌, ◌≤◌, ◌<◌, ◌+◌, ◌++◌, ◌∷◌, [], List, ℕ, IsTrue, OnOk, IfErr, Err, false, length, if◌then◌else◌, Bool, true, ◌⊎◌};
+ghost use Rattle.std.specs.Prelude.{None, Some};
 ghost use Rattle.swp_base.specs.Outside.{Rose};
+ghost use Rattle.hci_store.specs.Image.{image_fault};
+ghost use Rattle.nv_journal.specs.declared.JournalFault.{JournalFault as Bad};
+ghost use Rattle.swp_tool.specs.Records.{most_bytes};
 ghost use Rattle.lone_laws.specs.alone.Lone.{Lone};
-ghost use Rattle.one_end.specs.Standing.{StandsAlone};
-ghost use Rattle.swp_tool.specs.Ends.{Began, HasHeardAlone, EndedInBytes, IsOfEnd};
+ghost use Rattle.one_end.specs.Standing.{StandsAlone, HasRun, HasBooted};
+ghost use Rattle.swp_tool.specs.Ends.{Began, HasHeardAlone, EndedInBytes, IsOfEnd, IsOfLone, RanSo, EndedSo, IsOfEndWord, status_of_boot, HasNextGeneration};
+ghost use Rattle.one_end.specs.Writing.{form_named};
 
 use crate::driver::{Job, drive};
 use crate::output::write_all;
 use crate::records::piece_behind;
 use crate::status::Status;
-use one_end::{LoneNode, OneEnd, Output, hear};
+use crate::tables::refused;
+use crate::top::Ended;
+use one_end::{
+    Form, LoneNode, NotBooted, OneEnd, Output, begin, boot_controller, boot_host, hear, memory_of,
+};
 use std::alloc::Global;
 use std::marker::PhantomData;
 use swp_base::{Failed, Nv, Sink, Source};
@@ -34,6 +43,8 @@ fn take_byte<K: Sink, N: Nv, T: LoneNode<N> + Drop>(
     requires may { (l : Lone) × (older : List ℕ) × StandsAlone T.runs T.number ending.old.end l older }
     ensures count { K.faults sink.old ≤ K.faults sink.new }
     ensures write_fault { result ≡ Err Status.WriteFault → Rose (K.faults sink.old) (K.faults sink.new) }
+    ensures nv_count { N.faults (T.nv ending.old.end.node) ≤ N.faults (T.nv ending.new.end.node) }
+    ensures nv_fault { result ≡ Err Status.NvFault → Rose (N.faults (T.nv ending.old.end.node)) (N.faults (T.nv ending.new.end.node)) }
     ensures kind { IfErr result IsOfEnd }
     ensures few { OnOk result (ending.new.count ≤ 16777216) }
     ensures counted { OnOk result (ending.new.count ≡ ending.old.count + 1) }
@@ -41,9 +52,9 @@ fn take_byte<K: Sink, N: Nv, T: LoneNode<N> + Drop>(
     ensures goes { OnOk result ((o : Began N) (bytes before : List ℕ)
         → HasHeardAlone N.writes T.nv T.runs T.number K.tells o ending.old.end false bytes before (K.written sink.old)
         → HasHeardAlone N.writes T.nv T.runs T.number K.tells o ending.new.end false (bytes ++ byte ∷ []) before (K.written sink.new)) }
-    ensures ends { IfErr result (λ status. (o : Began N) (bytes rest before : List ℕ) → ending.old.count ≡ length bytes
+    ensures ends { IfErr result (λ status. (o : Began N) (bytes ahead left before : List ℕ) → ending.old.count ≡ length bytes → length ahead ≤ 8192
         → HasHeardAlone N.writes T.nv T.runs T.number K.tells o ending.old.end false bytes before (K.written sink.old)
-        → EndedInBytes N.writes T.nv T.runs T.number K.tells o ending.new.end status (bytes ++ byte ∷ rest) before (K.written sink.new)) }
+        → EndedInBytes N.writes T.nv T.runs T.number K.tells o ending.new.end status (bytes ++ byte ∷ (ahead ++ left)) left before (K.written sink.new)) }
 {
     if ending.count == Decoder::MAX_BYTES {
         return Err(Status::TooMany { count: 16_777_217 });
@@ -70,9 +81,12 @@ fn take_bytes<K: Sink, N: Nv, T: LoneNode<N> + Drop>(
     piece: &[u8],
 ) -> Result<(), Status>
     requires few { ending.old.count ≤ 16777216 }
+    requires size { length piece.now ≤ 8192 }
     requires may { (l : Lone) × (older : List ℕ) × StandsAlone T.runs T.number ending.old.end l older }
     ensures count { K.faults sink.old ≤ K.faults sink.new }
     ensures write_fault { result ≡ Err Status.WriteFault → Rose (K.faults sink.old) (K.faults sink.new) }
+    ensures nv_count { N.faults (T.nv ending.old.end.node) ≤ N.faults (T.nv ending.new.end.node) }
+    ensures nv_fault { result ≡ Err Status.NvFault → Rose (N.faults (T.nv ending.old.end.node)) (N.faults (T.nv ending.new.end.node)) }
     ensures kind { IfErr result IsOfEnd }
     ensures few { OnOk result (ending.new.count ≤ 16777216) }
     ensures counted { OnOk result (ending.new.count ≡ ending.old.count + length piece.now) }
@@ -80,9 +94,9 @@ fn take_bytes<K: Sink, N: Nv, T: LoneNode<N> + Drop>(
     ensures goes { OnOk result ((o : Began N) (bytes before : List ℕ)
         → HasHeardAlone N.writes T.nv T.runs T.number K.tells o ending.old.end false bytes before (K.written sink.old)
         → HasHeardAlone N.writes T.nv T.runs T.number K.tells o ending.new.end false (bytes ++ piece.now) before (K.written sink.new)) }
-    ensures ends { IfErr result (λ status. (o : Began N) (bytes rest before : List ℕ) → ending.old.count ≡ length bytes
+    ensures ends { IfErr result (λ status. (o : Began N) (bytes left before : List ℕ) → ending.old.count ≡ length bytes
         → HasHeardAlone N.writes T.nv T.runs T.number K.tells o ending.old.end false bytes before (K.written sink.old)
-        → EndedInBytes N.writes T.nv T.runs T.number K.tells o ending.new.end status (bytes ++ piece.now ++ rest) before (K.written sink.new)) }
+        → EndedInBytes N.writes T.nv T.runs T.number K.tells o ending.new.end status (bytes ++ piece.now ++ left) left before (K.written sink.new)) }
 {
     for byte in piece {
         if let Err(status) = take_byte(sink, ending, *byte) {
@@ -111,6 +125,8 @@ impl<N: Nv, T: LoneNode<N> + Drop> Job for Ending<N, T> {
     ghost ended = { λ tells o e status input left before after.
         EndedAlone N.writes T.nv T.runs T.number tells o e.end e.count status input left before after };
 
+    ghost memory_faults = { λ e. N.faults (T.nv e.end.node) };
+
     ghost is_ending = { IsOfLone };
 
     ghost is_ahead = { λ input left. length input ≤ most_bytes + 4096 + length left };
@@ -132,5 +148,188 @@ impl<N: Nv, T: LoneNode<N> + Drop> Job for Ending<N, T> {
 
     fn cut_off(&self) -> Status {
         Status::ReadFault
+    }
+}
+
+/// What a node wrote as it began goes out, and then the bytes come that the source has left, unless it has lost its power. What a byte causes
+/// is written before more is read than the source hands over in one call.
+fn hear_all<S: Source, K: Sink, N: Nv, T: LoneNode<N> + Drop>(
+    alloc: Global,
+    source: &mut S,
+    sink: &mut K,
+    ending: &mut Ending<N, T>,
+    stopped: bool,
+) -> Status
+    requires none { ending.old.count ≡ 0 }
+    requires may { stopped ≡ false → (l : Lone) × (older : List ℕ) × StandsAlone T.runs T.number ending.old.end l older }
+    ensures kind { IsOfLone result }
+    ensures nv_fault { result ≡ Status.NvFault → (stopped ≡ true) ⊎ Rose (N.faults (T.nv ending.old.end.node)) (N.faults (T.nv ending.new.end.node)) }
+    ensures nv_kept { stopped ≡ true → ending.new.end ≡ ending.old.end }
+    ensures ran { IsTrue S.tells → (o : Began N) (is_clf : Bool) → ending.old.end.form ≡ o.form → T.number ≡ (if is_clf then 0 else 2)
+        → HasRun N.writes T.nv T.runs T.number o.content o.first ending.old.end stopped [] ending.old.out.items
+        → RanSo N.writes K.tells (form_named o.form) is_clf o.content o.first (T.nv ending.new.end.node) result (S.left source.old) (S.left source.new)
+        (K.written sink.old) (K.written sink.new) }
+    ensures ahead { IsTrue S.tells → (o : Began N) → ending.old.end.form ≡ o.form
+        → HasRun N.writes T.nv T.runs T.number o.content o.first ending.old.end stopped [] ending.old.out.items
+        → length (S.left source.old) ≤ most_bytes + 4096 + length (S.left source.new) }
+    ensures read_fault { result ≡ Status.ReadFault → Rose (S.faults source.old) (S.faults source.new) }
+    ensures write_fault { result ≡ Status.WriteFault → Rose (K.faults sink.old) (K.faults sink.new) }
+    ensures late { (S.end source.old).ended ≡ false → (S.end source.new).late ≡ (S.end source.old).late }
+{
+    match write_all(sink, ending.out.as_slice()) {
+        Err(Failed) => Status::WriteFault,
+        Ok(()) => {
+            if stopped {
+                Status::NvFault
+            } else {
+                drive(alloc, source, sink, ending)
+            }
+        }
+    }
+}
+
+/// A node that has booted runs at the end of a link.
+fn run_alone<S: Source, K: Sink, N: Nv, T: LoneNode<N> + Drop>(
+    alloc: Global,
+    source: &mut S,
+    sink: &mut K,
+    node: T,
+    form: Form,
+    is_clf: bool,
+) -> Ended<N>
+    requires may { (l : Lone) × T.runs node l [] }
+    requires role { T.number ≡ (if is_clf then 0 else 2) }
+    ensures kind { IsOfLone result.status }
+    ensures nv_fault { result.status ≡ Status.NvFault → Rose (N.faults (T.nv node)) (N.faults result.nv) }
+    ensures ran { IsTrue S.tells → (content : List ℕ) → HasBooted N.writes T.nv T.runs T.number content (T.nv node) node
+        → RanSo N.writes K.tells (form_named form) is_clf content (T.nv node) result.nv result.status (S.left source.old) (S.left source.new)
+        (K.written sink.old) (K.written sink.new) }
+    ensures ahead { IsTrue S.tells → (content : List ℕ) → HasBooted N.writes T.nv T.runs T.number content (T.nv node) node
+        → length (S.left source.old) ≤ most_bytes + 4096 + length (S.left source.new) }
+    ensures read_fault { result.status ≡ Status.ReadFault → Rose (S.faults source.old) (S.faults source.new) }
+    ensures write_fault { result.status ≡ Status.WriteFault → Rose (K.faults sink.old) (K.faults sink.new) }
+    ensures late { (S.end source.old).ended ≡ false → (S.end source.new).late ≡ (S.end source.old).late }
+{
+    let mut out = Output::new();
+    let (end, stopped) = begin(node, form, is_clf, &mut out);
+    let mut ending = Ending {
+        end,
+        out,
+        count: 0,
+        of: PhantomData,
+    };
+    let status = hear_all(alloc, source, sink, &mut ending, stopped);
+    Ended {
+        status,
+        nv: memory_of(ending.end),
+    }
+}
+
+/// How a run ends whose boot was refused.
+fn refused_boot<N>(unbooted: NotBooted<N>) -> Ended<N>
+    ensures memory { result.nv ≡ unbooted.nv }
+    ensures status { result.status ≡ status_of_boot unbooted.fault }
+{
+    let NotBooted { nv, fault } = unbooted;
+    let status = match fault {
+        None => Status::NoMemory,
+        Some(fault) => refused(fault),
+    };
+    Ended { status, nv }
+}
+
+/// What the words `end ROLE LINK` ask for.
+#[derive(Clone, Copy, Debug, PartialEq, Eq)]
+pub struct EndAsked {
+    /// Whether the node is the controller, at the CLF's end. Else it is host 02, at the UICC's.
+    pub is_clf: bool,
+    pub form: Form,
+}
+
+/// One node runs alone over a memory: the controller or host 02, on a link of this form.
+pub fn run_end<S: Source, K: Sink, N: Nv + Drop>(
+    alloc: Global,
+    source: &mut S,
+    sink: &mut K,
+    nv: N,
+    asked: EndAsked,
+) -> Ended<N>
+    requires { N.capacity nv ≡ 65536 }
+    ensures ended { IsTrue S.tells → IsTrue N.tells → EndedSo N.reads N.writes N.content K.tells (form_named asked.form) asked.is_clf nv result.nv
+        result.status (S.left source.old) (S.left source.new) (K.written sink.old) (K.written sink.new) }
+    ensures ahead { IsTrue S.tells → IsTrue N.tells → length (S.left source.old) ≤ most_bytes + 4096 + length (S.left source.new) }
+    ensures image { IsTrue N.tells → (f : Bad) → image_fault (N.content nv) ≡ Some f → ¬ Rose (N.faults nv) (N.faults result.nv)
+        → (result.status ≡ Status.BadImage f) ⊎ (result.status ≡ Status.NoMemory) }
+    ensures untouched { (f : Bad) → result.status ≡ Status.BadImage f → (source.new ≡ source.old) × (sink.new ≡ sink.old) }
+    ensures kind { IsOfEndWord result.status }
+    ensures nv_fault { result.status ≡ Status.NvFault → Rose (N.faults nv) (N.faults result.nv) }
+    ensures read_fault { result.status ≡ Status.ReadFault → Rose (S.faults source.old) (S.faults source.new) }
+    ensures write_fault { result.status ≡ Status.WriteFault → Rose (K.faults sink.old) (K.faults sink.new) }
+    ensures late { (S.end source.old).ended ≡ false → (S.end source.new).late ≡ (S.end source.old).late }
+    ensures complete { IsTrue S.tells → IsTrue N.tells → image_fault (N.content nv) ≡ None → HasNextGeneration (N.content nv)
+        → length (S.left source.old) ≤ most_bytes → ¬ Rose (S.faults source.old) (S.faults source.new) → ¬ Rose (K.faults sink.old) (K.faults sink.new)
+        → ¬ Rose (N.faults nv) (N.faults result.nv) → (result.status ≡ Status.Done) ⊎ (result.status ≡ Status.NoMemory) }
+    ensures too_many { IsTrue S.tells → IsTrue N.tells → image_fault (N.content nv) ≡ None → HasNextGeneration (N.content nv)
+        → most_bytes < length (S.left source.old) → ¬ Rose (S.faults source.old) (S.faults source.new) → ¬ Rose (K.faults sink.old) (K.faults sink.new)
+        → ¬ Rose (N.faults nv) (N.faults result.nv) → (result.status ≡ Status.TooMany 16777217) ⊎ (result.status ≡ Status.NoMemory) }
+{
+    if asked.is_clf {
+        run_controller(alloc, source, sink, nv, asked.form)
+    } else {
+        run_host(alloc, source, sink, nv, asked.form)
+    }
+}
+
+/// Host 02 runs alone at the end of the UICC, over a memory.
+fn run_host<S: Source, K: Sink, N: Nv + Drop>(
+    alloc: Global,
+    source: &mut S,
+    sink: &mut K,
+    nv: N,
+    form: Form,
+) -> Ended<N>
+    requires { N.capacity nv ≡ 65536 }
+    ensures ended { IsTrue S.tells → IsTrue N.tells → EndedSo N.reads N.writes N.content K.tells (form_named form) false nv result.nv result.status
+        (S.left source.old) (S.left source.new) (K.written sink.old) (K.written sink.new) }
+    ensures ahead { IsTrue S.tells → IsTrue N.tells → length (S.left source.old) ≤ most_bytes + 4096 + length (S.left source.new) }
+    ensures image { IsTrue N.tells → (f : Bad) → image_fault (N.content nv) ≡ Some f → ¬ Rose (N.faults nv) (N.faults result.nv)
+        → (result.status ≡ Status.BadImage f) ⊎ (result.status ≡ Status.NoMemory) }
+    ensures untouched { (f : Bad) → result.status ≡ Status.BadImage f → (source.new ≡ source.old) × (sink.new ≡ sink.old) }
+    ensures kind { IsOfEndWord result.status }
+    ensures nv_fault { result.status ≡ Status.NvFault → Rose (N.faults nv) (N.faults result.nv) }
+    ensures read_fault { result.status ≡ Status.ReadFault → Rose (S.faults source.old) (S.faults source.new) }
+    ensures write_fault { result.status ≡ Status.WriteFault → Rose (K.faults sink.old) (K.faults sink.new) }
+    ensures late { (S.end source.old).ended ≡ false → (S.end source.new).late ≡ (S.end source.old).late }
+{
+    match boot_host(alloc, nv) {
+        Ok(node) => run_alone(alloc, source, sink, node, form, false),
+        Err(unbooted) => refused_boot(unbooted),
+    }
+}
+
+/// The controller runs alone at the end of the CLF, over a memory.
+fn run_controller<S: Source, K: Sink, N: Nv + Drop>(
+    alloc: Global,
+    source: &mut S,
+    sink: &mut K,
+    nv: N,
+    form: Form,
+) -> Ended<N>
+    requires { N.capacity nv ≡ 65536 }
+    ensures ended { IsTrue S.tells → IsTrue N.tells → EndedSo N.reads N.writes N.content K.tells (form_named form) true nv result.nv result.status
+        (S.left source.old) (S.left source.new) (K.written sink.old) (K.written sink.new) }
+    ensures ahead { IsTrue S.tells → IsTrue N.tells → length (S.left source.old) ≤ most_bytes + 4096 + length (S.left source.new) }
+    ensures image { IsTrue N.tells → (f : Bad) → image_fault (N.content nv) ≡ Some f → ¬ Rose (N.faults nv) (N.faults result.nv)
+        → (result.status ≡ Status.BadImage f) ⊎ (result.status ≡ Status.NoMemory) }
+    ensures untouched { (f : Bad) → result.status ≡ Status.BadImage f → (source.new ≡ source.old) × (sink.new ≡ sink.old) }
+    ensures kind { IsOfEndWord result.status }
+    ensures nv_fault { result.status ≡ Status.NvFault → Rose (N.faults nv) (N.faults result.nv) }
+    ensures read_fault { result.status ≡ Status.ReadFault → Rose (S.faults source.old) (S.faults source.new) }
+    ensures write_fault { result.status ≡ Status.WriteFault → Rose (K.faults sink.old) (K.faults sink.new) }
+    ensures late { (S.end source.old).ended ≡ false → (S.end source.new).late ≡ (S.end source.old).late }
+{
+    match boot_controller(alloc, nv) {
+        Ok(node) => run_alone(alloc, source, sink, node, form, true),
+        Err(unbooted) => refused_boot(unbooted),
     }
 }

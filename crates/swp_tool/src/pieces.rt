@@ -2,7 +2,8 @@
 ghost use Rattle.std.specs.Prelude.{◌≡◌, ◌==◌, ◌+◌, ◌<◌, ◌≤◌, ◌++◌, ◌∷◌, [], List, ℕ, length, position, OnOk, IfErr, IfSome, IfNone};
 ghost use Rattle.std.specs.Str.Lines.{strip_carriage_return};
 ghost use Rattle.swp_tool.specs.Replays.{HasPlayed};
-ghost use Rattle.swp_tool.specs.Pieces.{schedule_read, LacksLineFeed, ended_line, HasRead, IsReading, IsCompleteTranscript, Halts, HaltsAtEnd, bytes_left};
+ghost use Rattle.swp_tool.specs.Transcripts.{IsDoneText};
+ghost use Rattle.swp_tool.specs.Pieces.{schedule_read, LacksLineFeed, ended_line, HasRead, IsReading, Halts, HaltsAtEnd, bytes_left};
 
 use crate::replay::{Halt, Replay};
 use memchr::memchr;
@@ -64,7 +65,7 @@ impl Pieces {
         requires { IsReading self.old }
         ensures counted { self.new.replay.count ≤ 20000 }
         ensures done { OnOk result ((bytes written : List ℕ) → HasRead self.old bytes written
-            → IsCompleteTranscript bytes (written ++ self.new.replay.text.items)) }
+            → IsDoneText bytes (written ++ self.new.replay.text.items)) }
         ensures halts { IfErr result (λ why. (bytes written : List ℕ) → HasRead self.old bytes written
             → HaltsAtEnd why self.new.replay.count bytes (written ++ self.new.replay.text.items)) }
     {
@@ -78,7 +79,7 @@ impl Pieces {
     fn close(&mut self, alloc: Global) -> Result<(), Halt>
         ensures counted { self.new.replay.count ≡ self.old.replay.count }
         ensures done { OnOk result ((bytes written : List ℕ) → HasPlayed self.old.replay (schedule_read bytes) written
-            → IsCompleteTranscript bytes (written ++ self.new.replay.text.items)) }
+            → IsDoneText bytes (written ++ self.new.replay.text.items)) }
         ensures halts { IfErr result (λ why. (bytes written : List ℕ) → HasPlayed self.old.replay (schedule_read bytes) written
             → HaltsAtEnd why self.new.replay.count bytes (written ++ self.new.replay.text.items)) }
     {

@@ -240,6 +240,8 @@ impl<R: RecordReader + Drop> Job for Recording<R> {
 
     ghost ended = { λ tells o r. RecordedBy R.lines tells };
 
+    ghost memory_faults = { λ r. 0 };
+
     ghost is_ending = { IsOfRecord };
 
     ghost is_ahead = { λ input left. length input ≤ most_bytes + 4096 + length left };

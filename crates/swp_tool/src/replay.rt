@@ -1,15 +1,13 @@
 //! The lines of a schedule are played one by one, and the transcript is gathered.
-ghost use Rattle.std.specs.Prelude.{◌≡◌, ◌+◌, ◌<◌, ◌++◌, ◌∷◌, [], List, ℕ, Ok, None, OnOk, OnErr, IfOk, IfErr, IsSomeAnd, IsTrue, ◌⊎◌, ◌≢◌};
+ghost use Rattle.std.specs.Prelude.{◌≡◌, ◌+◌, ◌<◌, ◌++◌, ◌∷◌, [], List, ℕ, Ok, None, OnOk, OnErr, IfOk, IfErr, IsSomeAnd, ◌⊎◌, ◌≢◌};
 ghost use Rattle.trace_model.specs.declared.line.Header.{Header};
 ghost use Rattle.trace_model.specs.declared.line.Line.{Line};
-ghost use Rattle.trace_model.specs.Lines.{IsHeader, IsLineOf};
-ghost use Rattle.lines_told.specs.Below.{is_settling};
-ghost use Rattle.swp_tool.specs.Schedules.{Schedule, with_line, with_said, nothing_read};
+ghost use Rattle.trace_model.specs.Lines.{MayBegin};
+ghost use Rattle.lines_told.specs.Below.{IsPlayedLine, is_settling, misread_below};
+ghost use Rattle.world.specs.Worlds.{IsWorldAt, HasRoomForLine, world_header};
+ghost use Rattle.swp_tool.specs.Schedules.{Schedule, and_line, and_said, nothing_read};
 ghost use Rattle.swp_tool.specs.Replays.{Runs, WasStepped, HasPlayed, HasFew, HaltsOn, HaltsBefore, HaltsAt};
-ghost use Rattle.swp_tool.specs.Transcripts.{transcript_of, done_line};
-ghost use Rattle.history.specs.Histories.{History};
-ghost use Rattle.history.specs.Follows.{link_at, misread, opened};
-ghost use Rattle.world.specs.Worlds.{WorldStandsFor, HasRoomForLine, world_header};
+ghost use Rattle.swp_tool.specs.Transcripts.{done_line, history_below, played_text};
 
 use schedule_text::{LineFault, Read, read_line, write_opening, write_step};
 use std::alloc::{AllocError, Global};
@@ -85,7 +83,7 @@ impl Replay {
     pub fn play(&mut self, alloc: Global, bytes: &[u8]) -> Result<(), Halt>
         requires few { HasFew self.old }
         requires next { self.old.count < 20000 }
-        ensures played { OnOk result ((s : Schedule) (written : List ℕ) → HasPlayed self.old s written → HasPlayed self.new (with_line s bytes.now) written) }
+        ensures played { OnOk result ((s : Schedule) (written : List ℕ) → HasPlayed self.old s written → HasPlayed self.new (and_line s bytes.now) written) }
         ensures halts { IfErr result (λ why. (s : Schedule) (written : List ℕ) → HasPlayed self.old s written → HaltsAt why s bytes.now) }
         ensures few { OnOk result (HasFew self.new) }
         ensures count { OnOk result (self.new.count ≡ self.old.count + 1) }
@@ -103,12 +101,7 @@ impl Replay {
                 self.count += 1;
                 Ok(())
             }
-            Ok(Read::Header(header)) => {
-                if header.hci {
-                    return Err(Halt::Fault(LineFault::Word));
-                }
-                self.begin(alloc, &header)
-            }
+            Ok(Read::Header(header)) => self.begin(alloc, &header),
             Ok(Read::Line(line)) => {
                 if settles(&line) {
                     return Err(Halt::Fault(LineFault::Word));
@@ -122,10 +115,10 @@ impl Replay {
     #[cold]
     #[inline(never)]
     fn begin(&mut self, alloc: Global, header: &Header) -> Result<(), Halt>
-        requires valid { IsHeader header.now }
+        requires valid { MayBegin header.now }
         requires next { self.old.count < 20000 }
         ensures played { OnOk result ((s : Schedule) (written : List ℕ) → HasPlayed self.old s written → s.header ≡ None
-            → HasPlayed self.new (with_said s (Ok (Read.Header header.now))) written) }
+            → HasPlayed self.new (and_said s (Ok (Read.Header header.now))) written) }
         ensures halts { IfErr result (λ why. why ≡ Halt.NoMemory) }
         ensures few { OnOk result (HasFew self.new) }
         ensures count { OnOk result (self.new.count ≡ self.old.count + 1) }
@@ -140,13 +133,13 @@ impl Replay {
 
     /// Steps the world by the next line, which is one below the header.
     fn go_on(&mut self, alloc: Global, line: &Line) -> Result<(), Halt>
-        requires world { IsSomeAnd self.old.world (λ w. IsLineOf (world_header w) line.now) }
+        requires world { IsSomeAnd self.old.world (λ w. IsPlayedLine (world_header w) line.now) }
         requires few { HasFew self.old }
         requires next { self.old.count < 20000 }
         ensures played { OnOk result ((s : Schedule) (written : List ℕ) → HasPlayed self.old s written
-            → HasPlayed self.new (with_said s (Ok (Read.Line line.now))) written) }
+            → HasPlayed self.new (and_said s (Ok (Read.Line line.now))) written) }
         ensures halts { IfErr result (λ why. (s : Schedule) (written : List ℕ) → HasPlayed self.old s written
-            → HaltsBefore why (with_said s (Ok (Read.Line line.now)))) }
+            → HaltsBefore why (and_said s (Ok (Read.Line line.now)))) }
         ensures few { OnOk result (HasFew self.new) }
         ensures count { OnOk result (self.new.count ≡ self.old.count + 1) }
         ensures same { OnErr result (self.new.text.items ≡ self.old.text.items) }
@@ -199,10 +192,10 @@ fn append_done(alloc: Global, count: u64, text: &mut Vec<u8>) -> Result<(), Allo
 
 /// The world of a header, and the text of its opening behind what was gathered.
 fn open(alloc: Global, header: &Header, text: &mut Vec<u8>) -> Result<World, Halt>
-    requires { IsHeader header.now }
-    ensures stands { IfOk result (λ w. WorldStandsFor w header.now [] (opened header.now)) }
+    requires { MayBegin header.now }
+    ensures stands { IfOk result (λ w. IsWorldAt w header.now []) }
     ensures stepped { IfOk result (λ w. WasStepped w 0) }
-    ensures text { OnOk result (text.new.items ≡ text.old.items ++ transcript_of (opened header.now)) }
+    ensures text { OnOk result (text.new.items ≡ text.old.items ++ played_text (history_below header.now [])) }
     ensures halts { IfErr result (λ why. why ≡ Halt.NoMemory) }
     ensures same { OnErr result (text.new.items ≡ text.old.items) }
 {
@@ -213,15 +206,14 @@ fn open(alloc: Global, header: &Header, text: &mut Vec<u8>) -> Result<World, Hal
 
 /// Steps a world by a line, and gathers the text of the line and of what it caused.
 fn step(alloc: Global, world: &mut World, line: &Line, text: &mut Vec<u8>) -> Result<(), Halt>
-    requires line { IsLineOf (world_header world.old) line.now }
+    requires line { IsPlayedLine (world_header world.old) line.now }
     requires room { HasRoomForLine world.old }
     ensures runs { OnOk result ((header : Header) (lines : List Line) (before : List ℕ) → Runs world.old header lines (before ++ text.old.items)
         → Runs world.new header (lines ++ line.now ∷ []) (before ++ text.new.items)) }
-    ensures told { OnOk result ((header : Header) (lines : List Line) (t : History) → WorldStandsFor world.old header lines t
-        → misread (link_at t) line.now ≡ None) }
+    ensures told { OnOk result ((header : Header) (lines : List Line) → IsWorldAt world.old header lines → misread_below header lines line.now ≡ None) }
     ensures stepped { OnOk result ((most : ℕ) → WasStepped world.old most → WasStepped world.new (most + 1)) }
-    ensures halts { IfErr result (λ why. (header : Header) (lines : List Line) (t : History) → WorldStandsFor world.old header lines t
-        → HaltsOn why (misread (link_at t) line.now)) }
+    ensures halts { IfErr result (λ why. (header : Header) (lines : List Line) → IsWorldAt world.old header lines
+        → HaltsOn why (misread_below header lines line.now)) }
     ensures same { OnErr result (text.new.items ≡ text.old.items) }
 {
     world.step(alloc, line)?;

@@ -2,8 +2,8 @@
 ghost use Rattle.std.specs.Prelude.{◌≡◌, ◌≢◌, ◌≤◌, ◌++◌, [], List, ℕ, take, false, IsTrue, OnOk, OnErr};
 ghost use Rattle.swp_base.specs.Outside.{Rose};
 ghost use Rattle.swp_tool.specs.Runs.{status_of, AppendsText, Replayed, IsOfReplay};
-ghost use Rattle.swp_tool.specs.Schedules.{schedule_of};
-ghost use Rattle.swp_tool.specs.Transcripts.{TellsHistory};
+ghost use Rattle.swp_tool.specs.Schedules.{schedule_in};
+ghost use Rattle.swp_tool.specs.Transcripts.{TellsPlayed};
 ghost use Rattle.swp_tool.specs.Pieces.{HasRead, IsReading, IsReadAhead, bytes_left};
 
 use crate::driver::{Job, drive};
@@ -68,6 +68,8 @@ impl Job for Pieces {
 
     ghost ended = { λ tells o p. Replayed tells };
 
+    ghost memory_faults = { λ p. 0 };
+
     ghost is_ending = { IsOfReplay };
 
     ghost is_ahead = { IsReadAhead 4096 };
@@ -110,7 +112,7 @@ pub fn replay<S: Source, K: Sink>(alloc: Global, source: &mut S, sink: &mut K) -
     ensures replayed { IsTrue S.tells →
         Replayed K.tells result (S.left source.old) (S.left source.new) (K.written sink.old) (K.written sink.new) }
     ensures known { IsTrue S.tells → result ≡ Status.Done →
-        AppendsText K.tells (TellsHistory (schedule_of (S.left source.old))) (K.written sink.old) (K.written sink.new) }
+        AppendsText K.tells (TellsPlayed (schedule_in (S.left source.old))) (K.written sink.old) (K.written sink.new) }
     ensures ahead { IsTrue S.tells → IsReadAhead 4096 (S.left source.old) (S.left source.new) }
     ensures late { (S.end source.old).ended ≡ false → (S.end source.new).late ≡ (S.end source.old).late }
     ensures words { result ≢ Status.BadWords }

@@ -42,7 +42,7 @@ pub fn tables<K: Sink, N: Nv + Drop>(alloc: Global, sink: &mut K, nv: N) -> Ende
 }
 
 /// How a run ends whose memory was refused.
-fn refused(fault: JournalFault) -> Status
+pub fn refused(fault: JournalFault) -> Status
     ensures { result ≡ status_of_fault fault }
 {
     match fault {

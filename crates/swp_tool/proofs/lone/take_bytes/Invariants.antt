@@ -10,6 +10,7 @@ invariant-loop-byte g l = record {
   few : l.ending.count ≤ 16777216;
   counted : l.ending.count ≡ l.fn.ending.count + l.byte-index;
   writes : g.K.Sink.faults l.fn.sink ≤ g.K.Sink.faults l.sink;
+  memory : g.N.Nv.faults (g.T.LoneNode.nv l.fn.ending.end.node) ≤ g.N.Nv.faults (g.T.LoneNode.nv l.ending.end.node);
   may : (k : Lone) × (older : List ℕ) × StandsAlone g.T.LoneNode.runs g.T.LoneNode.number l.ending.end k older;
   heard : (o : Began g.row.N.Denot) (bytes before : List ℕ)
       → HasHeardAlone g.N.Nv.writes g.T.LoneNode.nv g.T.LoneNode.runs g.T.LoneNode.number g.K.Sink.tells o l.fn.ending.end false bytes before

@@ -1,16 +1,17 @@
 -- A piece comes to a node alone.
-use Rattle.std.proofs.Common.{◌++◌, ◌∙◌, Bool, List, ℕ, sym, subst, append_assoc, length-append, arith}
+use Rattle.std.proofs.Common.{◌++◌, ◌∙◌, Bool, List, ℕ, length, sym, subst, append_assoc, length-append, arith}
 use Rattle.swp_base.specs.declared.control_frames.Control.{Control}
 use Rattle.lone_laws.specs.alone.Lone.{Lone}
 use Rattle.one_end.specs.declared.one_end.OneEnd.{OneEnd}
 use Rattle.swp_tool.specs.declared.status.Status.{Status}
 use Rattle.swp_tool.specs.declared.status.Status.TheVariants as status
 use Rattle.swp_tool.specs.Ends.{Began, EndedInBytes, EndedAlone}
+use Rattle.swp_tool.proofs.Recording.{piece_fits}
 use Rattle.swp_tool.proofs.lone.EndingJob.take.Goals as goal
 
 ended : {N T : Type 0} (writes : N → ℕ → List ℕ → Bool → N → Type 0) (nv : T → N) (Runs : T → Lone → List Control → Type 0) (number : ℕ) (tells : Bool)
     (o : Began N) (e : OneEnd T) (count : ℕ) (s : Status) (input left before after : List ℕ)
-    → EndedInBytes writes nv Runs number tells o e s input before after → EndedAlone writes nv Runs number tells o e count s input left before after
+    → EndedInBytes writes nv Runs number tells o e s input left before after → EndedAlone writes nv Runs number tells o e count s input left before after
 ended writes nv Runs number tells o e count status.WriteFault input left before after x = x
 ended writes nv Runs number tells o e count status.NvFault input left before after x = x
 ended writes nv Runs number tells o e count (status.TooMany n) input left before after x = x
@@ -21,6 +22,9 @@ ended writes nv Runs number tells o e count (status.Undetected line) input left 
 ended writes nv Runs number tells o e count status.ReadFault input left before after x = absurd x
 ended writes nv Runs number tells o e count status.NoMemory input left before after x = absurd x
 ended writes nv Runs number tells o e count (status.BadImage why) input left before after x = absurd x
+
+pub take_bytes-requires-clause-size : goal.take_bytes-requires-clause-size
+take_bytes-requires-clause-size g c = piece_fits c.args.self.now.count (length c.args.piece.now) c.requires.size
 
 pub returns-in-Ok-clause-on : goal.returns-in-Ok-clause-on
 returns-in-Ok-clause-on g c o input rest before h =
@@ -39,5 +43,5 @@ returns-in-Err-clause-ends g c o input rest before h =
     let after = g.K.Sink.written c.take_bytes.new.sink in
     ended g.N.Nv.writes g.T.LoneNode.nv g.T.LoneNode.runs g.T.LoneNode.number g.K.Sink.tells o e c.take_bytes.new.ending.count c.in-Err.status input rest
     before after
-    (subst (λ l. EndedInBytes g.N.Nv.writes g.T.LoneNode.nv g.T.LoneNode.runs g.T.LoneNode.number g.K.Sink.tells o e c.in-Err.status l before after)
+    (subst (λ l. EndedInBytes g.N.Nv.writes g.T.LoneNode.nv g.T.LoneNode.runs g.T.LoneNode.number g.K.Sink.tells o e c.in-Err.status l rest before after)
     (append_assoc h.bytes piece rest ∙ sym h.input_is) (c.in-Err.ensures.ends o h.bytes rest before h.counted h.heard))

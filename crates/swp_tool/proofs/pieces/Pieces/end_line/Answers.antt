@@ -1,7 +1,7 @@
 -- The line that has ended was played, or the replay halts at it however the bytes go on.
 use Rattle.std.proofs.Common.{◌≡◌, List, ℕ, ◌∙◌, ap, subst}
 use Rattle.std.specs.Str.Lines.{strip_carriage_return}
-use Rattle.swp_tool.specs.Schedules.{Schedule, with_line}
+use Rattle.swp_tool.specs.Schedules.{Schedule, and_line}
 use Rattle.swp_tool.specs.Replays.{HasPlayed, HaltsAt}
 use Rattle.swp_tool.proofs.Reading.{halts_at_line, read_line_ended}
 use Rattle.swp_tool.proofs.pieces.Pieces.end_line.Goals as goal
@@ -22,4 +22,4 @@ returns-in-Ok-clause-read c bytes written h =
     c.without_carriage_return-line.ensures ∙ ap strip_carriage_return c.as_slice.ensures.value in
     read_line_ended h c.clear.ensures.items
     (λ (s : Schedule) (w : List ℕ) (k : HasPlayed p.replay s w).
-    (let P : List ℕ → Type 0 = λ l. HasPlayed c.play.new.self (with_line s l) w in subst P line (c.in-Ok.ensures.played s w k)))
+    (let P : List ℕ → Type 0 = λ l. HasPlayed c.play.new.self (and_line s l) w in subst P line (c.in-Ok.ensures.played s w k)))

@@ -1,5 +1,6 @@
 -- The bytes are kept, or the replay halts however they go on.
-use Rattle.std.proofs.Common.{◌++◌, subst, List, ℕ, arith, sym, append_assoc}
+use Rattle.std.proofs.Common.{◌++◌, subst, List, ℕ, arith, sym, append_assoc, map}
+use Rattle.std.specs.Str.Lines.{strip_carriage_return}
 use Rattle.swp_tool.specs.Pieces.{IsFrontTranscript}
 use Rattle.swp_tool.proofs.Texts.{tests_some}
 use Rattle.swp_tool.proofs.Reading.{halts_too_many_in, halts_too_long, front_so_far, played_transcript}
@@ -25,4 +26,4 @@ returns-in-Err-clause-halts c before written h rest =
     let text = written ++ p.replay.text.items in
     let P : List ℕ → Type 0 = λ b. IsFrontTranscript b text in
     subst P (sym (append_assoc before c.args.bytes.now rest))
-    (front_so_far p before written (c.args.bytes.now ++ rest) text h (played_transcript p.replay _ written h.played))
+    (front_so_far p before written (c.args.bytes.now ++ rest) text h (played_transcript p.replay (map strip_carriage_return h.whole) written h.played))

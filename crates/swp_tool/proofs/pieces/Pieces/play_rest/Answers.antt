@@ -1,6 +1,6 @@
 -- The line that no LF has ended was played, or the replay halts at it.
 use Rattle.std.proofs.Common.{◌≡◌, ◌<◌, List, ℕ, [], length, ◌∙◌, subst, sym}
-use Rattle.swp_tool.specs.Schedules.{Schedule, with_line}
+use Rattle.swp_tool.specs.Schedules.{Schedule, and_line}
 use Rattle.swp_tool.specs.Replays.{HasPlayed, HaltsAt}
 use Rattle.swp_tool.proofs.Texts.{tests_empty, tests_some}
 use Rattle.swp_tool.proofs.Reading.{played_all, played_rest, halts_at_rest}
@@ -20,7 +20,7 @@ returns-in-Ok-clause-played c bytes written h =
     subst P c.as_slice-rest.ensures.value (tests_some c.as_slice-rest.result.now c.is_empty.result c.is_empty.ensures c.if-is_empty.false) in
     played_rest p c.play.new.self bytes written h some
     (λ (s : Schedule) (w : List ℕ) (k : HasPlayed p.replay s w).
-    (let P : List ℕ → Type 0 = λ l. HasPlayed c.play.new.self (with_line s l) w in subst P c.as_slice-rest.ensures.value (c.in-Ok.ensures.played s w k)))
+    (let P : List ℕ → Type 0 = λ l. HasPlayed c.play.new.self (and_line s l) w in subst P c.as_slice-rest.ensures.value (c.in-Ok.ensures.played s w k)))
 
 pub returns-in-Err-clause-halts : goal.returns-in-Err-clause-halts
 returns-in-Err-clause-halts c bytes written h =

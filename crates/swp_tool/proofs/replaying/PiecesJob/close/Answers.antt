@@ -2,7 +2,7 @@
 use Rattle.std.proofs.Common.{◌≡◌, ◌++◌, List, ℕ, IsTrue, [], sym, ap, ◌∙◌, subst, take, refl, arith}
 use Rattle.std.proofs.lemmas.List.{append-nil}
 use Rattle.swp_tool.specs.declared.status.Status.{Status}
-use Rattle.swp_tool.specs.Pieces.{IsCompleteTranscript}
+use Rattle.swp_tool.specs.Transcripts.{IsDoneText}
 use Rattle.swp_tool.specs.Runs.{IsSomeTranscript, Replayed}
 use Rattle.swp_tool.proofs.Ending.{of_err, of_ok, behind, cut_short, finished_front, halted_at_end}
 use Rattle.swp_tool.proofs.replaying.PiecesJob.close.Goals as goal
@@ -32,7 +32,7 @@ returns-in-Ok-clause-ends g c o input before under =
     (after ≡ g.K.Sink.written c.args.sink.now ++ c.as_slice.result.now) c.write_all.result c.is_err.result c.is_err.ensures.value c.if-is_err.false
     (c.write_all.ensures.wrote told) in
     let input_is : input ≡ under.bytes = under.input_is ∙ append-nil under.bytes in
-    let P : List ℕ → Type 0 = λ i. IsCompleteTranscript i (under.text ++ now) in (
+    let P : List ℕ → Type 0 = λ i. IsDoneText i (under.text ++ now) in (
       refl,
       (
         under.text ++ now,

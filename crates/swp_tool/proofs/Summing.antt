@@ -1,0 +1,249 @@
+-- The schedule that is drawn from a number has a legal history, and what is told of it is counted line by line.
+use Rattle.std.proofs.Common.{◌≡◌, ℕ, zero, suc, ◌+◌, ◌-◌, ◌^◌, ◌<◌, ◌≤◌, Bool}
+use Rattle.std.proofs.Common.{true, false, cond, List, [], ◌∷◌, ◌++◌, take, refl, ap, sym, subst, ◌∙◌}
+use Rattle.std.proofs.Common.{arith, length-append, length-take, take_all, get_or, None}
+use Rattle.std.specs.List.Sorted.{IsStrictlyIncreasing}
+use Rattle.std.proofs.lemmas.List.Elements.{All-from_recursion}
+use Rattle.std.specs.Prelude.{length, min}
+use Rattle.std.specs.List.{AllByRecursion, filter}
+use Rattle.trace_model.specs.declared.entry.Entry.{Entry}
+use Rattle.trace_model.specs.declared.entry.Entry.TheVariants as entry
+use Rattle.trace_model.specs.declared.line.Line.{Line}
+use Rattle.trace_model.specs.declared.line.Line.TheVariants as saying
+use Rattle.trace_model.specs.Lines.{IsHost, IsNodeHeader}
+use Rattle.node_machine.specs.world.World.{NodeWorld, new_world}
+use Rattle.node_machine.specs.world.Lines.{misread_in, line_step}
+use Rattle.node_machine.specs.world.NodeHistories.{NoneIsMisread}
+use Rattle.answer_laws.specs.schedules.Ranges.{AreNodeLinesOf}
+use Rattle.answer_laws.proofs.schedules.Ranges.{in_range}
+use Rattle.answer_laws.proofs.worlds.Schedules.{played_legal}
+use Rattle.answer_laws.specs.answers.Headline.{IsPlayed}
+use Rattle.answer_laws.specs.answers.Headline.PlayedHistory.{OfNodes}
+use Rattle.drawn_schedule.specs.Schedule.{the_header, drawn_lines, is_harmless, IsHarmless}
+use Rattle.drawn_schedule.proofs.HarmlessLemmas.{lines_may_be_played}
+use Rattle.drawn_schedule.proofs.ReadLemmas.{lines_count}
+use Rattle.told_laws.specs.NodesTold.{nodes_told}
+use Rattle.lines_told.specs.Below.{IsPlayedLine, is_settling, told_below}
+use Rattle.swp_tool.specs.declared.counts.Counts.{Counts}
+use Rattle.swp_tool.specs.Transcripts.{nodes_history}
+use Rattle.swp_tool.specs.Generated.{count_of_kind, AreCountsOf, is_noted_sent, is_noted_got, is_noted_acked, is_noted_up, is_noted_command}
+use Rattle.swp_tool.specs.declared.generating.Generating.{Generating}
+use Rattle.swp_tool.specs.Generated.{HasCounted, told_line, summary_line, IsSummary, Generated, WroteText}
+use Rattle.swp_tool.specs.declared.status.Status.{Status}
+use Rattle.swp_tool.specs.declared.status.Status.TheVariants as status
+use Rattle.swp_tool.proofs.Texts.{nodes_told-push}
+
+-- ## Counts
+
+filter_append : (kind : Entry → Bool) (xs ys : List Entry) → filter kind (xs ++ ys) ≡ filter kind xs ++ filter kind ys
+filter_append kind [] ys = refl
+filter_append kind (x ∷ xs) ys = go (kind x) refl (filter_append kind xs ys)
+  where
+    go : (b : Bool) → kind x ≡ b → filter kind (xs ++ ys) ≡ filter kind xs ++ filter kind ys
+        → filter kind (x ∷ (xs ++ ys)) ≡ filter kind (x ∷ xs) ++ filter kind ys
+    go true q later = rw q (ap (λ l. x ∷ l) later)
+    go false q later = rw q later
+
+-- one entry more, by whether it is of the kind
+kind_more : (kind : Entry → Bool) (es : List Entry) (e : Entry)
+    → count_of_kind kind (es ++ e ∷ []) ≡ cond (kind e) (min (count_of_kind kind es + 1) (2 ^ 64 - 1)) (count_of_kind kind es)
+kind_more kind es e = go (kind e) refl
+  where
+    long : length (filter kind (es ++ e ∷ [])) ≡ length (filter kind es) + length (filter kind (e ∷ []))
+    long = ap length (filter_append kind es (e ∷ [])) ∙ length-append (filter kind es) (filter kind (e ∷ []))
+
+    go : (b : Bool) → kind e ≡ b → count_of_kind kind (es ++ e ∷ []) ≡ cond b (min (count_of_kind kind es + 1) (2 ^ 64 - 1)) (count_of_kind kind es)
+    go true q = let one : length (filter kind (e ∷ [])) ≡ 1 = rw q refl in let z = long in omega (arith, z, one)
+    go false q = let none : length (filter kind (e ∷ [])) ≡ 0 = rw q refl in let z = long in omega (arith, z, none)
+
+-- a count that is one more where an entry is of its kind
+abbrev pub IsOneMoreIf : ℕ → ℕ → Bool → Type 0
+IsOneMoreIf old new is_one = new ≡ cond is_one (min (old + 1) (2 ^ 64 - 1)) old
+
+more_of : (kind : Entry → Bool) (es : List Entry) (e : Entry) (old new : ℕ) (is_one : Bool) → IsOneMoreIf old new is_one → is_one ≡ kind e
+    → old ≡ count_of_kind kind es → new ≡ count_of_kind kind (es ++ e ∷ [])
+more_of kind es e old new is_one new_is kind_is old_is =
+    new_is ∙ ap (λ b. cond b (min (old + 1) (2 ^ 64 - 1)) old) kind_is ∙ ap (λ n. cond (kind e) (min (n + 1) (2 ^ 64 - 1)) n) old_is
+    ∙ sym (kind_more kind es e)
+
+-- five counts, each one more where an entry is of its kind
+pub counts_more : (a b : Counts) (e : Entry) (sent got acked up commands : Bool) → IsOneMoreIf a.sent b.sent sent → IsOneMoreIf a.got b.got got
+    → IsOneMoreIf a.acked b.acked acked → IsOneMoreIf a.up b.up up → IsOneMoreIf a.commands b.commands commands
+    → sent ≡ is_noted_sent e → got ≡ is_noted_got e → acked ≡ is_noted_acked e → up ≡ is_noted_up e → commands ≡ is_noted_command e
+    → (es : List Entry) → AreCountsOf a es → AreCountsOf b (es ++ e ∷ [])
+counts_more a b e sent got acked up commands s g k u c is_s is_g is_k is_u is_c es old =
+    record {
+      sent = more_of is_noted_sent es e a.sent b.sent sent s is_s old.sent;
+      got = more_of is_noted_got es e a.got b.got got g is_g old.got;
+      acked = more_of is_noted_acked es e a.acked b.acked acked k is_k old.acked;
+      up = more_of is_noted_up es e a.up b.up up u is_u old.up;
+      commands = more_of is_noted_command es e a.commands b.commands commands c is_c old.commands;
+    }
+
+-- an entry of no kind between others isn't counted
+skipped : (kind : Entry → Bool) (es : List Entry) (x : Entry) (more : List Entry) → kind x ≡ false
+    → count_of_kind kind (es ++ more) ≡ count_of_kind kind (es ++ x ∷ more)
+skipped kind es x more q =
+    let one : filter kind (x ∷ more) ≡ filter kind more = rw q refl in
+    ap (λ l. min (length l) (2 ^ 64 - 1)) (filter_append kind es more ∙ ap (λ l. filter kind es ++ l) (sym one) ∙ sym (filter_append kind es (x ∷ more)))
+
+echo_skipped : (c : Counts) (es : List Entry) (line : Line) (more : List Entry) → AreCountsOf c (es ++ more) → AreCountsOf c (es ++ entry.Echo line ∷ more)
+echo_skipped c es line more a =
+    record {
+      sent = a.sent ∙ skipped is_noted_sent es (entry.Echo line) more refl;
+      got = a.got ∙ skipped is_noted_got es (entry.Echo line) more refl;
+      acked = a.acked ∙ skipped is_noted_acked es (entry.Echo line) more refl;
+      up = a.up ∙ skipped is_noted_up es (entry.Echo line) more refl;
+      commands = a.commands ∙ skipped is_noted_command es (entry.Echo line) more refl;
+    }
+
+-- what is told of one line more is counted
+pub line_counted : (c : Counts) (lines : List Line) (line : Line)
+    → AreCountsOf c (nodes_told (nodes_history the_header lines) ++ told_below the_header lines line)
+    → AreCountsOf c (nodes_told (nodes_history the_header (lines ++ line ∷ [])))
+line_counted c lines line a =
+    subst (AreCountsOf c) (sym (nodes_told-push the_header lines line))
+    (echo_skipped c (nodes_told (nodes_history the_header lines)) line (told_below the_header lines line) a)
+
+-- before the first line only the header is told
+pub nothing_counted : (c : Counts) → AreCountsOf c [] → AreCountsOf c (nodes_told (nodes_history the_header []))
+nothing_counted c a = record { sent = a.sent; got = a.got; acked = a.acked; up = a.up; commands = a.commands }
+
+-- ## Lines
+
+settles_not : (l : Line) → is_harmless l ≡ true → is_settling l ≡ false
+settles_not (saying.Settle rounds) q = absurd (cc q)
+settles_not (saying.Damage at places) q = refl
+settles_not (saying.Send at pid message) q = refl
+settles_not (saying.Deliver at count) q = refl
+settles_not (saying.Lose at) q = refl
+settles_not (saying.Tick times) q = refl
+settles_not (saying.Reset at window) q = refl
+settles_not (saying.Busy at) q = refl
+settles_not (saying.Ready at) q = refl
+settles_not (saying.Boot node) q = refl
+settles_not (saying.Cut node) q = refl
+settles_not (saying.Activate host sync power) q = refl
+settles_not (saying.Arm node nth fill) q = refl
+settles_not (saying.Init at identity pipes) q = refl
+settles_not (saying.Tables node) q = refl
+
+pub line_is_played : (l : Line) → IsHarmless l → IsPlayedLine the_header l
+line_is_played l a = record { may_follow = a.0; settles_not = settles_not l a.1 }
+
+read_right : (w : NodeWorld) (l : Line) → is_harmless l ≡ true → misread_in w l ≡ None
+read_right w (saying.Damage at places) q = absurd (cc q)
+read_right w (saying.Settle rounds) q = refl
+read_right w (saying.Send at pid message) q = refl
+read_right w (saying.Deliver at count) q = refl
+read_right w (saying.Lose at) q = refl
+read_right w (saying.Tick times) q = refl
+read_right w (saying.Reset at window) q = refl
+read_right w (saying.Busy at) q = refl
+read_right w (saying.Ready at) q = refl
+read_right w (saying.Boot node) q = refl
+read_right w (saying.Cut node) q = refl
+read_right w (saying.Activate host sync power) q = refl
+read_right w (saying.Arm node nth fill) q = refl
+read_right w (saying.Init at identity pipes) q = refl
+read_right w (saying.Tables node) q = refl
+
+none_misread : (lines : List Line) (w : NodeWorld) → AllByRecursion IsHarmless lines → NoneIsMisread w lines
+none_misread [] w a = tt
+none_misread (l ∷ lines) w a = (read_right w l a.0.1, none_misread lines (line_step w l).0 a.1)
+
+never_settles : (l : Line) → is_settling l ≡ false → (rounds : ℕ) → l ≡ saying.Settle rounds → ⊥
+never_settles l still rounds same =
+    let settles : is_settling l ≡ true = ap is_settling same in let both : true ≡ false = sym settles ∙ still in absurd (cc both)
+
+in_ranges : (lines : List Line) → AllByRecursion IsHarmless lines → AreNodeLinesOf the_header lines
+in_ranges [] a = tt
+in_ranges (l ∷ lines) a = (in_range the_header l a.0.0 (never_settles l (settles_not l a.0.1)), in_ranges lines a.1)
+
+-- ## Its history
+
+pub drawn_is_played : (n : ℕ) → IsNodeHeader the_header → IsPlayed the_header (drawn_lines n) (OfNodes (nodes_history the_header (drawn_lines n)))
+drawn_is_played n header =
+    let are = lines_may_be_played n in (
+      header,
+      in_ranges (drawn_lines n) are,
+      (let count = lines_count n in omega (arith, count)),
+      record {
+        nodes = refl;
+        header_is = refl;
+        steps_are = refl;
+        sure = none_misread (drawn_lines n) (new_world the_header.hosts.items) are;
+      },
+    )
+
+-- a text with the counts of what is told of it is its summary
+pub drawn_summary : (n : ℕ) (text : List ℕ) → IsNodeHeader the_header
+    → text ≡ summary_line n (nodes_told (nodes_history the_header (drawn_lines n))) → IsSummary n text
+drawn_summary n text header is =
+    let t = nodes_history the_header (drawn_lines n) in
+    let played = drawn_is_played n header in
+    record { history = t; played = played; legal = played_legal the_header (drawn_lines n) (OfNodes t) played; text_is = is }
+
+-- ## Its text
+
+pub told_as_counted : (n : ℕ) (c : Counts) (t : List Entry) → AreCountsOf c t → told_line n c.sent c.got c.acked c.up c.commands ≡ summary_line n t
+told_as_counted n c t a =
+    ap (λ x. told_line n x c.got c.acked c.up c.commands) a.sent ∙ ap (λ x. told_line n (count_of_kind is_noted_sent t) x c.acked c.up c.commands) a.got
+    ∙ ap (λ x. told_line n (count_of_kind is_noted_sent t) (count_of_kind is_noted_got t) x c.up c.commands) a.acked
+    ∙ ap (λ x. told_line n (count_of_kind is_noted_sent t) (count_of_kind is_noted_got t) (count_of_kind is_noted_acked t) x c.commands) a.up
+    ∙ ap (told_line n (count_of_kind is_noted_sent t) (count_of_kind is_noted_got t) (count_of_kind is_noted_acked t) (count_of_kind is_noted_up t)) a.commands
+
+-- ## The lines that were run
+
+pub few_run : (n i : ℕ) (items : List Line) → items ≡ drawn_lines n → length (take i items) < 20000
+few_run n i items is =
+    let all = lines_count n in let same = ap length is in let some = length-take i items in omega (arith, all, same, some)
+
+all_at : (lines : List Line) (i : ℕ) (d : Line) → AllByRecursion IsHarmless lines → i < length lines → IsHarmless (get_or lines i d)
+all_at [] i d a q = absurd (omega (arith, q))
+all_at (l ∷ lines) zero d a q = a.0
+all_at (l ∷ lines) (suc i) d a q = all_at lines i d a.1 (omega (arith, q))
+
+pub harmless_at : (n i : ℕ) (items : List Line) (l : Line) → items ≡ drawn_lines n → i < length items → l ≡ get_or items i l → IsHarmless l
+harmless_at n i items l is within at =
+    subst IsHarmless (sym at) (all_at items i l (subst (AllByRecursion IsHarmless) (sym is) (lines_may_be_played n)) within)
+
+pub all_run : (g : Generating) (n i : ℕ) (items : List Line) → items ≡ drawn_lines n → length items ≤ i → HasCounted g (take i items)
+    → AreCountsOf g.counts (nodes_told (nodes_history the_header (drawn_lines n)))
+all_run g n i items is all run =
+    let P : List Line → Type 0 = λ l. AreCountsOf g.counts (nodes_told (nodes_history the_header l)) in
+    subst P (take_all i items all ∙ is) run.counts
+
+pub drawn_header_is : IsNodeHeader the_header
+drawn_header_is = record {
+  nodes = refl;
+  some = omega arith;
+  hosts = All-from_recursion IsHost (1 ∷ 2 ∷ 3 ∷ []) ((omega arith, omega arith), ((omega arith, omega arith), ((omega arith, omega arith), tt)));
+  rising = rise;
+}
+  where
+    rise : IsStrictlyIncreasing (1 ∷ 2 ∷ 3 ∷ [])
+    rise zero within = omega arith
+    rise (suc zero) within = omega arith
+    rise (suc (suc k)) within = absurd (omega arith)
+
+-- a line that tells these counts is the summary of a legal history
+pub counts_are_summary : (n : ℕ) (c : Counts) (text : List ℕ) → AreCountsOf c (nodes_told (nodes_history the_header (drawn_lines n)))
+    → text ≡ told_line n c.sent c.got c.acked c.up c.commands → IsSummary n text
+counts_are_summary n c text a is =
+    drawn_summary n text drawn_header_is (is ∙ told_as_counted n c (nodes_told (nodes_history the_header (drawn_lines n))) a)
+
+-- a run that wrote a summary ended so
+pub generated_by : (tells : Bool) (st : Status) (n : ℕ) (text before after : List ℕ) → IsSummary n text → WroteText tells st text before after
+    → Generated tells st n before after
+generated_by tells status.Done n text before after s w = (text, s, w)
+generated_by tells status.WriteFault n text before after s w =
+    (take w.0 text, record { whole = text; summary = s; long = w.0; front = refl }, w.1)
+generated_by tells status.NoMemory n text before after s w = absurd w
+generated_by tells status.BadWords n text before after s w = absurd w
+generated_by tells (status.BadSchedule line why) n text before after s w = absurd w
+generated_by tells (status.Undetected line) n text before after s w = absurd w
+generated_by tells status.ReadFault n text before after s w = absurd w
+generated_by tells status.NvFault n text before after s w = absurd w
+generated_by tells (status.TooMany count) n text before after s w = absurd w
+generated_by tells (status.BadImage why) n text before after s w = absurd w

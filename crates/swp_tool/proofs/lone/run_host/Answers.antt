@@ -1,0 +1,55 @@
+-- A host runs alone over a memory.
+use Rattle.std.proofs.Common.{false, sym, subst}
+use Rattle.one_end.specs.Writing.{form_named}
+use Rattle.swp_base.specs.Outside.{Rose}
+use Rattle.swp_tool.specs.Ends.{EndedSo}
+use Rattle.swp_tool.proofs.Alone.{booted_ended, refused_ended, lone_kind, boot_kind, refused_rose}
+use Rattle.swp_tool.proofs.Outcomes.{image_refused, runs_on_image}
+use Rattle.swp_tool.proofs.lone.run_host.Goals as goal
+
+pub returns-in-Ok-clause-ended : goal.returns-in-Ok-clause-ended
+returns-in-Ok-clause-ended g c told tells =
+    booted_ended g.N.Nv.reads g.N.Nv.writes g.N.Nv.content g.K.Sink.tells (form_named c.args.form) false c.args.nv _ c.run_alone.result.nv
+    c.run_alone.result.status _ _ _ _ c.run_alone.ensures.kind (c.in-Ok.ensures.image tells) (c.in-Ok.ensures.made tells)
+    (c.run_alone.ensures.ran told (g.N.Nv.content c.args.nv) (c.in-Ok.ensures.booted tells))
+
+pub returns-in-Err-clause-ended : goal.returns-in-Err-clause-ended
+returns-in-Err-clause-ended g c told tells =
+    let input = g.S.Source.left c.args.source.now in
+    let before = g.K.Sink.written c.args.sink.now in
+    let old = c.args.nv in
+    subst (λ n. EndedSo g.N.Nv.reads g.N.Nv.writes g.N.Nv.content g.K.Sink.tells (form_named c.args.form) false old n c.refused_boot.result.status
+    input input before before) (sym c.refused_boot.ensures.memory)
+    (subst (λ s. EndedSo g.N.Nv.reads g.N.Nv.writes g.N.Nv.content g.K.Sink.tells (form_named c.args.form) false old c.in-Err.unbooted.nv s
+    input input before before) (sym c.refused_boot.ensures.status)
+    (refused_ended g.N.Nv.reads g.N.Nv.writes g.N.Nv.faults g.N.Nv.tells g.N.Nv.content g.K.Sink.tells (form_named c.args.form) false old
+    c.in-Err.unbooted.nv c.in-Err.unbooted.fault input before tells c.in-Err.ensures.refused))
+
+pub returns-in-Ok-clause-kind : goal.returns-in-Ok-clause-kind
+returns-in-Ok-clause-kind g c = lone_kind c.run_alone.result.status c.run_alone.ensures.kind
+
+pub returns-in-Err-clause-kind : goal.returns-in-Err-clause-kind
+returns-in-Err-clause-kind g c = boot_kind c.in-Err.unbooted.fault c.refused_boot.result.status c.refused_boot.ensures.status
+
+pub returns-in-Err-clause-nv_fault : goal.returns-in-Err-clause-nv_fault
+returns-in-Err-clause-nv_fault g c failed =
+    subst (λ n. Rose (g.N.Nv.faults c.args.nv) (g.N.Nv.faults n)) (sym c.refused_boot.ensures.memory)
+    (refused_rose g.N.Nv.reads g.N.Nv.writes g.N.Nv.faults g.N.Nv.tells g.N.Nv.content c.args.nv c.in-Err.unbooted.nv c.in-Err.unbooted.fault
+    c.refused_boot.result.status c.in-Err.ensures.refused c.refused_boot.ensures.status failed)
+
+pub returns-in-Ok-clause-ahead : goal.returns-in-Ok-clause-ahead
+returns-in-Ok-clause-ahead g c told tells = c.run_alone.ensures.ahead told (g.N.Nv.content c.args.nv) (c.in-Ok.ensures.booted tells)
+
+pub returns-in-Ok-clause-image : goal.returns-in-Ok-clause-image
+returns-in-Ok-clause-image g c tells f bad still = let sound = c.in-Ok.ensures.image tells in absurd (cc)
+
+pub returns-in-Err-clause-image : goal.returns-in-Err-clause-image
+returns-in-Err-clause-image g c tells f bad still =
+    image_refused g.N.Nv.reads g.N.Nv.writes g.N.Nv.faults g.N.Nv.tells g.N.Nv.content c.args.nv c.in-Err.unbooted.nv c.in-Err.unbooted.fault
+    c.refused_boot.result.status f c.in-Err.ensures.refused c.refused_boot.ensures.status tells bad
+    (λ failed. still (subst (λ n. Rose (g.N.Nv.faults c.args.nv) (g.N.Nv.faults n)) (sym c.refused_boot.ensures.memory)
+    (refused_rose g.N.Nv.reads g.N.Nv.writes g.N.Nv.faults g.N.Nv.tells g.N.Nv.content c.args.nv c.in-Err.unbooted.nv c.in-Err.unbooted.fault
+    c.refused_boot.result.status c.in-Err.ensures.refused c.refused_boot.ensures.status failed)))
+
+pub returns-in-Ok-clause-untouched : goal.returns-in-Ok-clause-untouched
+returns-in-Ok-clause-untouched g c f is = absurd (runs_on_image c.run_alone.result.status f c.run_alone.ensures.kind is)
