@@ -83,7 +83,7 @@ fn kept_in(nv: MemNv) -> (Option<u32>, MemNv)
 }
 
 /// In this memory so many commands were kept, and they made these tables.
-fn keeps(rt: &impl Abort, alloc: Global, nv: MemNv, kept: u32, tables: &str) {
+pub(crate) fn keeps(rt: &impl Abort, alloc: Global, nv: MemNv, kept: u32, tables: &str) {
     let (found, nv) = kept_in(whole(rt, nv));
     same(rt, &found, &Some(kept));
     let _nv = tells(rt, alloc, nv, Status::Done, tables);

@@ -21,7 +21,7 @@ fn new_memory(rt: &impl Abort, alloc: Global) -> FlashNv<MemFlash> {
 
 /// The memory that a store is started on.
 #[derive(Drop)]
-enum Before {
+pub(crate) enum Before {
     /// All FF.
     New,
     /// The identifier 0002 of host 02 is kept.
@@ -69,7 +69,7 @@ fn keep(nv: FlashNv<MemFlash>, id: u16) -> FlashNv<MemFlash> {
 }
 
 /// The memory before.
-fn memory_before(rt: &impl Abort, alloc: Global, before: &Before) -> FlashNv<MemFlash> {
+pub(crate) fn memory_before(rt: &impl Abort, alloc: Global, before: &Before) -> FlashNv<MemFlash> {
     match before {
         Before::New => new_memory(rt, alloc),
         Before::One => keep(new_memory(rt, alloc), 2),
@@ -78,7 +78,7 @@ fn memory_before(rt: &impl Abort, alloc: Global, before: &Before) -> FlashNv<Mem
 }
 
 /// The memory, whose flash tears the change of this number from now by this mask.
-fn torn(nv: FlashNv<MemFlash>, nth: u32, mask: u8) -> FlashNv<MemFlash>
+pub(crate) fn torn(nv: FlashNv<MemFlash>, nth: u32, mask: u8) -> FlashNv<MemFlash>
     requires { 1 ≤ nth }
 {
     let mut flash = nv.into_flash();
@@ -89,7 +89,7 @@ fn torn(nv: FlashNv<MemFlash>, nth: u32, mask: u8) -> FlashNv<MemFlash>
 }
 
 /// How many commands a look at the memory says were kept.
-fn peeked(nv: FlashNv<MemFlash>) -> (Option<u32>, FlashNv<MemFlash>) {
+pub(crate) fn peeked(nv: FlashNv<MemFlash>) -> (Option<u32>, FlashNv<MemFlash>) {
     match Store::peek(nv) {
         Ok(store) => (Some(store.kept()), store.into_nv()),
         Err(StartRefused { nv, .. }) => (None, nv),
@@ -105,7 +105,7 @@ fn started(nv: FlashNv<MemFlash>) -> (Option<u32>, FlashNv<MemFlash>) {
 }
 
 /// How a run with the word `tables` over the memory ended, and what it wrote.
-fn told(
+pub(crate) fn told(
     rt: &impl Abort,
     alloc: Global,
     nv: FlashNv<MemFlash>,

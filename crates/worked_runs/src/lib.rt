@@ -5,6 +5,8 @@
 #[cfg(test)]
 mod cuts;
 #[cfg(test)]
+mod flash_ends;
+#[cfg(test)]
 mod flash_stores;
 #[cfg(test)]
 mod images;
@@ -18,3 +20,5 @@ mod rows;
 mod runs;
 #[cfg(test)]
 mod shown;
+#[cfg(test)]
+mod world_memories;

@@ -1,7 +1,7 @@
 //! The worked examples of the program, over sources and sinks in memory. What it prints for a whole schedule or record is shown by
 //! the table of cases, `examples/cases.txt`; here are faults of the outside, pieces, and what is left unread.
 ghost use Rattle.std.specs.Prelude.{◌≡◌, ◌≤◌, ◌⊎◌, ◌∷◌, [], ℕ, length, map, string_bytes, codes, Some, None, IfOk};
-ghost use Rattle.swp_tool.specs.Schedules.{Stop, schedule_of};
+ghost use Rattle.swp_tool.specs.Schedules.{Stop, schedule_in};
 ghost use Rattle.swp_tool.specs.Runs.{status_at};
 ghost use Rattle.swp_tool.specs.Records.{most_bytes};
 
@@ -37,7 +37,7 @@ fn text_of(rt: &impl Abort, alloc: Global, word: &str) -> String {
 }
 
 /// A copy of these words.
-fn words_of(rt: &impl Abort, alloc: Global, words: &[&str]) -> Vec<String> {
+pub(crate) fn words_of(rt: &impl Abort, alloc: Global, words: &[&str]) -> Vec<String> {
     let mut given = Vec::new(alloc);
     for word in words {
         let _ = given.push(text_of(rt, alloc, word));
@@ -94,10 +94,10 @@ pub(crate) fn one_word(alloc: Global, word: &str) -> Result<Vec<String>, NoMemor
 /// What a run over this word and these bytes ended with, where nothing outside ever fails. The sink tells nothing, so the
 /// clauses follow from what `run` says of any sink.
 fn status_over_sure(alloc: Global, word: &str, bytes: &[u8]) -> Result<Status, NoMemory>
-    ensures done { word.now ≡ codes "replay" → (schedule_of bytes.now).stop ≡ None →
+    ensures done { word.now ≡ codes "replay" → (schedule_in bytes.now).stop ≡ None →
         IfOk result (λ status. (status ≡ Status.Done) ⊎ (status ≡ Status.NoMemory)) }
-    ensures refused { word.now ≡ codes "replay" → (why : Stop) → (schedule_of bytes.now).stop ≡ Some why →
-        IfOk result (λ status. (status ≡ status_at why (schedule_of bytes.now).count) ⊎ (status ≡ Status.NoMemory)) }
+    ensures refused { word.now ≡ codes "replay" → (why : Stop) → (schedule_in bytes.now).stop ≡ Some why →
+        IfOk result (λ status. (status ≡ status_at why (schedule_in bytes.now).count) ⊎ (status ≡ Status.NoMemory)) }
     ensures decoded { word.now ≡ codes "decode" → length bytes.now ≤ most_bytes →
         IfOk result (λ status. status ≡ Status.Done) }
 {
