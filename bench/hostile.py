@@ -1,10 +1,10 @@
 #!/usr/bin/env python3
-"""Runs `replay` while the outside fails, and says what each run answered: bench/hostile.py [--allocations N] [NAME ..].
+"""Runs `replay` while the outside fails, and says what each run answered: bench/hostile.py [NAME ..].
 
-For each schedule examples/NAME.schedule with its transcript: each read in turn fails, each write in turn fails, and the schedule comes a byte a
-read. With --allocations each of the first N allocations of the program is refused in turn, which takes half a minute each. It wants the program that
-the gate built, or one of ./swp-build, `strace`, and for allocations the toolchain. It fails where an answer isn't one of those that may come:
-a read that fails leaves the text of whole lines, and so does an allocation that is refused; a write that fails leaves a front of the transcript."""
+For each schedule examples/NAME.schedule with its transcript: each read in turn fails, each write in turn fails, the schedule comes a byte a
+read, and each allocation of the program is refused in turn. It wants the program that the gate built, or one of ./swp-build, `strace` and a C
+compiler. It fails where an answer isn't one of those that may come: a read that fails leaves the text of whole lines, and so does an allocation
+that is refused; a write that fails leaves a front of the transcript."""
 
 import os
 import subprocess
@@ -15,6 +15,27 @@ ROOT = os.path.dirname(os.path.dirname(os.path.abspath(__file__)))
 PROGRAM = os.path.join(ROOT, "crates", "swp", "out", "swp")
 MOST_CALLS = 10_000
 DONE, READ_FAULT, WRITE_FAULT, NO_MEMORY = 0, 5, 6, 8
+# the calls by which the program asks for memory, of which the one that REFUSE counts to is refused
+REFUSING = r"""
+#define _GNU_SOURCE
+#include <dlfcn.h>
+#include <stdlib.h>
+static int refused(void) {
+    static long left = -1;
+    if (left < 0) { const char *nth = getenv("REFUSE"); left = nth ? atol(nth) : 0; }
+    return left > 0 && --left == 0;
+}
+void *malloc(size_t size) {
+    static void *(*real)(size_t);
+    if (!real) real = (void *(*)(size_t))dlsym(RTLD_NEXT, "malloc");
+    return refused() ? NULL : real(size);
+}
+void *realloc(void *old, size_t size) {
+    static void *(*real)(void *, size_t);
+    if (!real) real = (void *(*)(void *, size_t))dlsym(RTLD_NEXT, "realloc");
+    return refused() ? NULL : real(old, size);
+}
+"""
 
 
 def example(name, ending):
@@ -72,35 +93,33 @@ def byte_by_byte(schedule, transcript):
     print(f"  {len(schedule)} reads of a byte: the transcript")
 
 
-def refused_allocations(most, schedule, transcript):
+def refused_allocations(schedule, transcript):
+    """Each allocation of a replay is refused in turn, until one is asked for that it doesn't make."""
     fronts = fronts_of_whole_lines(transcript)
-    for nth in range(1, most + 1):
-        words = ["rt", "try", "--fail-alloc", str(nth), "--", "replay"]
-        run = subprocess.run(words, input=schedule, capture_output=True, cwd=os.path.join(ROOT, "crates", "swp"))
-        # the toolchain's own lines stand behind the program's
-        told = b"".join(x for x in run.stdout.splitlines(keepends=True) if not x.startswith((b"allocations: ", b"checked: ", b"run=")))
-        print(f"  allocation {nth}: status {run.returncode}, {len(told)} bytes", flush=True)
-        if not (
-            (run.returncode == DONE and told == transcript)
-            or (run.returncode == NO_MEMORY and told in fronts)
-            or (run.returncode == WRITE_FAULT and transcript.startswith(told))
-        ):
-            sys.exit(f"allocation {nth}: an answer that may not come")
+    with tempfile.TemporaryDirectory() as folder:
+        source, refusing = os.path.join(folder, "refusing.c"), os.path.join(folder, "refusing.so")
+        with open(source, "w") as file:
+            file.write(REFUSING)
+        subprocess.run(["cc", "-shared", "-fPIC", "-O1", "-o", refusing, source, "-ldl"], check=True)
+        for nth in range(1, MOST_CALLS):
+            around = {**os.environ, "LD_PRELOAD": refusing, "REFUSE": str(nth)}
+            run = subprocess.run([PROGRAM, "replay"], input=schedule, capture_output=True, env=around)
+            if run.returncode == DONE and run.stdout == transcript:
+                print(f"  {nth - 1} allocations: status {NO_MEMORY}, each time")
+                return
+            if run.returncode != NO_MEMORY or run.stdout not in fronts:
+                sys.exit(f"allocation {nth}: status {run.returncode}, {len(run.stdout)} bytes")
+    sys.exit("no end of the allocations")
 
 
 def main():
-    words = sys.argv[1:]
-    allocations = 0
-    if words[:1] == ["--allocations"]:
-        allocations = int(words[1])
-        words = words[2:]
-    for name in words or ["one_message"]:
+    for name in sys.argv[1:] or ["one_message", "nodes/activation_and_first_pipe"]:
         schedule, transcript = example(name, "schedule"), example(name, "transcript")
         print(name)
         each_call_fails("read", READ_FAULT, schedule, transcript, lambda told: told in fronts_of_whole_lines(transcript))
         each_call_fails("write", WRITE_FAULT, schedule, transcript, transcript.startswith)
         byte_by_byte(schedule, transcript)
-        refused_allocations(allocations, schedule, transcript)
+        refused_allocations(schedule, transcript)
 
 
 if __name__ == "__main__":

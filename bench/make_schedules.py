@@ -1,7 +1,9 @@
 #!/usr/bin/env python3
 """Writes schedules for `swp replay`: of one-byte messages, each sent, delivered and acknowledged, of 10,000 and of 20,000 lines;
-of messages of 4,096 bytes both ways; and of a link that loses and damages frames and is reset."""
+of messages of 4,096 bytes both ways; of a link that loses and damages frames and is reset; the one of a controller with three hosts that is
+drawn from 0; and one of 20,000 lines of a controller with seven hosts, drawn alike."""
 
+import re
 import sys
 from pathlib import Path
 
@@ -23,12 +25,64 @@ def schedule(lines: int, part: str) -> str:
     return HEADER + part * times + "\n" * left
 
 
+class Draws:
+    """The numbers that are drawn one after another, as `gen_schedule` draws them."""
+
+    def __init__(self, number: int):
+        self.state = number
+
+    def next(self) -> int:
+        self.state = (self.state * 6364136223846793005 + 1442695040888963407) % 2**64
+        return self.state // 2**33
+
+    def line(self, hosts: int, more: str) -> str:
+        """One line over so many hosts; `more` is what is sent now and then."""
+        drawn = self.next() % 16
+        host = f"0{1 + self.next() % hosts}"
+        if drawn <= 4:
+            return f"deliver {host}c\n"
+        if drawn <= 9:
+            return f"deliver {host}h\n"
+        if drawn <= 11:
+            return f"send {host}h 01 0201\n"
+        return {12: f"send {host}h {more}\n", 13: f"lose {host}c\n", 14: "tick 3\n"}.get(drawn, f"reset {host}h\n")
+
+
+def drawn_schedule() -> str:
+    """What `gen_schedule` draws from 0. Its opening is read where it stands."""
+    source = (Path(__file__).resolve().parent.parent / "crates/drawn_schedule/src/lib.rt").read_text()
+    opening = re.search(r'const OPENING: &\[u8\] = b"(.*?)";', source, re.DOTALL)[1]
+    opening = re.sub(r"\\n\\\n\s*", "\n", opening).replace("\\n", "\n")
+    draws = Draws(0)
+    return opening + "".join(draws.line(3, "02 42AA") for _ in range(2000)) + "tables 00\n"
+
+
+def nodes_schedule(lines: int) -> str:
+    """A controller with seven hosts, each of which has opened pipe 01 and let the others in."""
+    hosts = [f"0{host}" for host in range(1, 8)]
+    text = "swp 1 hci " + " ".join(hosts) + "\nboot 00\n" + "".join(f"boot {host}\n" for host in hosts)
+    for host in hosts:
+        others = "".join(other for other in hosts if other != host)
+        text += (
+            f"activate {host} 00{host} 01\ndeliver {host}c\ndeliver {host}h\ndeliver {host}c\n"
+            f"reset {host}c\ndeliver {host}h\ndeliver {host}c\n"
+            f"send {host}h 01 03\ndeliver {host}c\ndeliver {host}h\ndeliver {host}c\n"
+            f"send {host}h 01 0103{others}\ndeliver {host}c\ndeliver {host}h\ndeliver {host}c\n"
+        )
+    draws = Draws(0)
+    while text.count("\n") < lines - 1:
+        text += draws.line(7, "01 0201")
+    return text + "tables 00\n"
+
+
 def main() -> None:
     folder = Path(sys.argv[1] if len(sys.argv) > 1 else ".")
     for lines in (10_000, 20_000):
         (folder / f"short{lines}.schedule").write_text(schedule(lines, SHORT))
     (folder / "long.schedule").write_text(schedule(20_000, LONG))
     (folder / "lossy.schedule").write_text(schedule(20_000, LOSSY))
+    (folder / "drawn.schedule").write_text(drawn_schedule())
+    (folder / "nodes20000.schedule").write_text(nodes_schedule(20_000))
 
 
 if __name__ == "__main__":

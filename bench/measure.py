@@ -23,7 +23,7 @@ def jobs(folder):
     """Each job: its name, the program's words, its input, what a unit is, and how many there are."""
     subprocess.run([sys.executable, HERE / "make_records.py", folder], check=True)
     subprocess.run([sys.executable, HERE / "make_schedules.py", folder], check=True)
-    for name in ("short10000", "short20000", "lossy", "long"):
+    for name in ("short10000", "short20000", "lossy", "long", "drawn", "nodes20000"):
         path = folder / f"{name}.schedule"
         yield f"replay {name}", ["replay"], path, "line", path.read_bytes().count(b"\n")
     for job, words in (("decode", ["decode"]), ("tap", ["tap", "hci"])):
