@@ -1,4 +1,4 @@
-//! Lines of the two forms that most lines have are read at once where they have no fault. Each other line is left to the table of
+//! Lines of the few forms that most lines have are read at once where they have no fault. Each other line is left to the table of
 //! the forms.
 ghost use Rattle.std.specs.Prelude.{◌≡◌, ◌==◌, ◌||◌, not, codes, Some, None, Ok, IfSome};
 ghost use Rattle.std.specs.List.{list_any};
@@ -8,6 +8,7 @@ ghost use Rattle.schedule_text.specs.Words.{words};
 ghost use Rattle.schedule_text.specs.Forms.{row_for};
 ghost use Rattle.schedule_text.specs.Lines.{by_row};
 
+use crate::read::number_at;
 use crate::values::{byte_of, end_of};
 use crate::words::next_word;
 use std::alloc::Global;
@@ -49,11 +50,15 @@ fn may_send(header: &Header, at: End) -> bool
     !header.hci || at.at_host
 }
 
-/// The end of a line `deliver E`, if it has no fault.
+/// The end of a line `deliver E`, `lose E` or `reset E`, if it has no fault.
 #[inline]
-pub(crate) fn deliver_at_once(header: &Header, rest: &[u8]) -> Option<End>
-    ensures { IfSome result (λ at. Ok (read.Line (line.Deliver at None))
+pub(crate) fn end_at_once(header: &Header, rest: &[u8]) -> Option<End>
+    ensures deliver { IfSome result (λ at. Ok (read.Line (line.Deliver at None))
         ≡ by_row (Some header.now) (row_for (codes "deliver") (words rest.now)) (words rest.now)) }
+    ensures lose { IfSome result (λ at. Ok (read.Line (line.Lose at))
+        ≡ by_row (Some header.now) (row_for (codes "lose") (words rest.now)) (words rest.now)) }
+    ensures reset { IfSome result (λ at. Ok (read.Line (line.Reset at None))
+        ≡ by_row (Some header.now) (row_for (codes "reset") (words rest.now)) (words rest.now)) }
 {
     let (first, more) = next_word(rest)?;
     if next_word(more).is_some() {
@@ -64,6 +69,19 @@ pub(crate) fn deliver_at_once(header: &Header, rest: &[u8]) -> Option<End>
         return None;
     }
     Some(at)
+}
+
+/// How many ticks a line `tick N` lets pass, if it has no fault.
+#[inline]
+pub(crate) fn tick_at_once(header: &Header, rest: &[u8]) -> Option<u8>
+    ensures { IfSome result (λ times. Ok (read.Line (line.Tick (Some times)))
+        ≡ by_row (Some header.now) (row_for (codes "tick") (words rest.now)) (words rest.now)) }
+{
+    let (_, more) = next_word(rest)?;
+    if next_word(more).is_some() {
+        return None;
+    }
+    number_at(rest, 0, 100)
 }
 
 /// Whether the header names a host.

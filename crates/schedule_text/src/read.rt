@@ -11,7 +11,7 @@ ghost use Rattle.schedule_text.specs.Forms.{row_for};
 ghost use Rattle.schedule_text.specs.Answers.{IsSaidOrNoMemory, IsReadOrNoMemory, CanBeRead, IsInGrammar, IsSkipped, IsOutOfOrder};
 
 use crate::LineFault;
-use crate::at_once::{deliver_at_once, send_at_once};
+use crate::at_once::{end_at_once, send_at_once, tick_at_once};
 use crate::forms::{Name, Place, form_of};
 use crate::rules::fault_in;
 use crate::values::{byte_of, eight_of, end_of, fill_of, number_of, three_of, two_of};
@@ -87,8 +87,23 @@ fn read_words(
                 }
             }
             b"deliver" => {
-                if let Some(at) = deliver_at_once(below, rest) {
+                if let Some(at) = end_at_once(below, rest) {
                     return Ok(Read::Line(Line::Deliver { at, count: None }));
+                }
+            }
+            b"lose" => {
+                if let Some(at) = end_at_once(below, rest) {
+                    return Ok(Read::Line(Line::Lose { at }));
+                }
+            }
+            b"reset" => {
+                if let Some(at) = end_at_once(below, rest) {
+                    return Ok(Read::Line(Line::Reset { at, window: None }));
+                }
+            }
+            b"tick" => {
+                if let Some(times) = tick_at_once(below, rest) {
+                    return Ok(Read::Line(Line::Tick { times: Some(times) }));
                 }
             }
             _ => {}
@@ -216,7 +231,7 @@ fn byte_at(rest: &[u8], k: usize) -> Option<u8>
     byte_of(word_at(rest, k)?)
 }
 
-fn number_at(rest: &[u8], k: usize, high: u8) -> Option<u8>
+pub(crate) fn number_at(rest: &[u8], k: usize, high: u8) -> Option<u8>
     ensures { result ≡ number_at high (words rest.now) k }
 {
     let number = number_of(word_at(rest, k)?, 1, u16::from(high))?;

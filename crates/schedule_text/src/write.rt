@@ -194,6 +194,10 @@ fn write_frequent(text: &mut Text, entry: &Entry)
         Entry::Acked { at, session, count } => write_at_numbers(
             text, b"acked", *at, *session, *count,
         ),
+        Entry::Turn { at, pid, message } => write_turn(text, *at, *pid, message.as_slice()),
+        Entry::No {
+            cause: NoCause::Empty,
+        } => write_empty(text),
         _ => write_words(text, entry),
     }
 }
@@ -357,12 +361,24 @@ fn write_loss(text: &mut Text, at: At, bytes: &[u8], cause: LostCause)
     );
 }
 
-#[inline(never)]
+#[inline(always)]
 fn write_turn(text: &mut Text, at: At, pid: u8, message: &[u8])
     ensures { (start : Start) → HoldsText start [] text.old
         → HoldsWords start (codes "turn" ∷ end_text at ∷ byte_text pid ∷ encode_upper message.now ∷ []) text.new }
 {
-    text.entry(b"turn", &[End(at), Byte(pid), Bytes(message)]);
+    text.push(b"turn");
+    text.end(at);
+    text.byte(pid);
+    text.hex(message);
+}
+
+#[inline(always)]
+fn write_empty(text: &mut Text)
+    ensures { (start : Start) → HoldsText start [] text.old
+        → HoldsWords start (codes "no" ∷ codes "empty" ∷ []) text.new }
+{
+    text.push(b"no");
+    text.word(b"empty");
 }
 
 #[inline(never)]
@@ -452,7 +468,7 @@ fn world_of(hci: bool) -> &'static [u8]
     if hci { b"hci" } else { b"bare" }
 }
 
-/// Appends the words of a line; the two forms that most lines have stand first.
+/// Appends the words of a line; the forms that most lines have stand first.
 #[inline(always)]
 fn write_line(text: &mut Text, line: &Line)
     ensures { (start : Start) (first : List ℕ) (more : List (List ℕ)) → HoldsWords start (first ∷ more) text.old
@@ -461,6 +477,9 @@ fn write_line(text: &mut Text, line: &Line)
     match line {
         Line::Send { at, pid, message } => write_send(text, *at, *pid, message.as_slice()),
         Line::Deliver { at, count } => write_deliver(text, *at, *count),
+        Line::Lose { at } => write_lose(text, *at),
+        Line::Tick { times } => write_tick(text, *times),
+        Line::Reset { at, window } => write_reset(text, *at, *window),
         _ => write_by_parts(text, line),
     }
 }
@@ -538,6 +557,34 @@ fn write_deliver(text: &mut Text, at: At, count: Option<u8>)
     text.word(b"deliver");
     text.end(at);
     text.maybe(count);
+}
+
+#[inline(always)]
+fn write_lose(text: &mut Text, at: At)
+    ensures { (start : Start) (first : List ℕ) (more : List (List ℕ)) → HoldsWords start (first ∷ more) text.old
+        → HoldsWords start (first ∷ (more ++ codes "lose" ∷ end_text at ∷ [])) text.new }
+{
+    text.word(b"lose");
+    text.end(at);
+}
+
+#[inline(always)]
+fn write_tick(text: &mut Text, times: Option<u8>)
+    ensures { (start : Start) (first : List ℕ) (more : List (List ℕ)) → HoldsWords start (first ∷ more) text.old
+        → HoldsWords start (first ∷ (more ++ codes "tick" ∷ number_words times)) text.new }
+{
+    text.word(b"tick");
+    text.maybe(times);
+}
+
+#[inline(always)]
+fn write_reset(text: &mut Text, at: At, window: Option<u8>)
+    ensures { (start : Start) (first : List ℕ) (more : List (List ℕ)) → HoldsWords start (first ∷ more) text.old
+        → HoldsWords start (first ∷ (more ++ codes "reset" ∷ end_text at ∷ number_words window)) text.new }
+{
+    text.word(b"reset");
+    text.end(at);
+    text.maybe(window);
 }
 
 #[inline(never)]
