@@ -57,39 +57,34 @@ fn waits_for(desk: &Desk, host: u8) -> bool
     }
 }
 
-fn is_configured(desks: &[Desk], host: u8) -> bool
-    ensures { result ≡ configured_by desks.now host }
-{
-    match desk_at(desks, host) {
-        Some(_desk) => true,
-        None => false,
-    }
+// What a controller knows of one host.
+#[derive(Clone, Copy)]
+struct HostView {
+    configured: bool,
+    connected: bool,
+    noticed: bool,
+    asked: bool,
 }
 
-fn is_connected(tables: &Tables, desks: &[Desk], up: u8, host: u8) -> bool
-    ensures { result ≡ connected_by tables.now up desks.now host }
+fn host_view(tables: &Tables, desks: &[Desk], up: u8, host: u8) -> HostView
+    ensures configured { result.configured ≡ configured_by desks.now host }
+    ensures connected { result.connected ≡ connected_by tables.now up desks.now host }
+    ensures noticed { result.noticed ≡ noticed_by desks.now host }
+    ensures asked { result.asked ≡ asked_by desks.now host }
 {
     match desk_at(desks, host) {
-        Some(desk) => is_in(up, desk.host) && is_opened(tables, desk.host, ADMINISTRATION_PIPE),
-        None => false,
-    }
-}
-
-fn is_noticed(desks: &[Desk], host: u8) -> bool
-    ensures { result ≡ noticed_by desks.now host }
-{
-    match desk_at(desks, host) {
-        Some(desk) => desk.notice.is_some(),
-        None => false,
-    }
-}
-
-fn is_asked(desks: &[Desk], host: u8) -> bool
-    ensures { result ≡ asked_by desks.now host }
-{
-    match desk_at(desks, host) {
-        Some(desk) => is_asked_for(desk.notice),
-        None => false,
+        Some(desk) => HostView {
+            configured: true,
+            connected: is_in(up, desk.host) && is_opened(tables, desk.host, ADMINISTRATION_PIPE),
+            noticed: desk.notice.is_some(),
+            asked: is_asked_for(desk.notice),
+        },
+        None => HostView {
+            configured: false,
+            connected: false,
+            noticed: false,
+            asked: false,
+        },
     }
 }
 
@@ -141,10 +136,11 @@ pub(crate) fn view_for(tables: &Tables, desks: &[Desk], up: u8, host: u8) -> Lin
     let mut noticed = 0;
     let mut asked = 0;
     for other in 1..8 {
-        hosts += place_if(is_configured(desks, other), other);
-        connected += place_if(is_connected(tables, desks, up, other), other);
-        noticed += place_if(is_noticed(desks, other), other);
-        asked += place_if(is_asked(desks, other), other);
+        let seen = host_view(tables, desks, up, other);
+        hosts += place_if(seen.configured, other);
+        connected += place_if(seen.connected, other);
+        noticed += place_if(seen.noticed, other);
+        asked += place_if(seen.asked, other);
     }
     LinkView {
         hosts,

@@ -10,14 +10,14 @@ loop-other-preserved c =
     let from = c.loop-other.auto.other in
     let so_far = c.loop-other.invariant in
     record {
-      hosts = mask_grows (configured_by desks) host c.loop-other.hosts _ c.place_if-hosts.result c.is_configured.result from so_far.hosts
-          c.is_configured.ensures c.place_if-hosts.ensures.place refl;
+      hosts = mask_grows (configured_by desks) host c.loop-other.hosts _ c.place_if-hosts.result c.host_view-seen.result.configured from so_far.hosts
+          c.host_view-seen.ensures.configured c.place_if-hosts.ensures.place refl;
       connected = mask_grows (connected_by c.args.tables.now c.args.up desks) host c.loop-other.connected _ c.place_if-connected.result
-          c.is_connected.result from so_far.connected c.is_connected.ensures c.place_if-connected.ensures.place refl;
-      noticed = mask_grows (noticed_by desks) host c.loop-other.noticed _ c.place_if-noticed.result c.is_noticed.result from so_far.noticed
-          c.is_noticed.ensures c.place_if-noticed.ensures.place refl;
-      asked = mask_grows (asked_by desks) host c.loop-other.asked _ c.place_if-asked.result c.is_asked.result from so_far.asked
-          c.is_asked.ensures c.place_if-asked.ensures.place refl;
+          c.host_view-seen.result.connected from so_far.connected c.host_view-seen.ensures.connected c.place_if-connected.ensures.place refl;
+      noticed = mask_grows (noticed_by desks) host c.loop-other.noticed _ c.place_if-noticed.result c.host_view-seen.result.noticed from so_far.noticed
+          c.host_view-seen.ensures.noticed c.place_if-noticed.ensures.place refl;
+      asked = mask_grows (asked_by desks) host c.loop-other.asked _ c.place_if-asked.result c.host_view-seen.result.asked from so_far.asked
+          c.host_view-seen.ensures.asked c.place_if-asked.ensures.place refl;
     }
 
 pub returns : goal.returns
