@@ -243,6 +243,14 @@ impl Ends {
         Some(tick_place(&mut self.seats, i, &mut self.pool))
     }
 
+    /// How many ends there are.
+    pub fn count(&self) -> usize
+        requires { (ports : List Port) × EndsStandFor self.now ports }
+        ensures { (ports : List Port) → EndsStandFor self.now ports → result ≡ length ports }
+    {
+        self.seats.len()
+    }
+
     /// The host of the link whose end is at this place; `None` behind the last end.
     pub fn host(&self, i: usize) -> Option<u8>
         requires { (ports : List Port) × EndsStandFor self.now ports }
