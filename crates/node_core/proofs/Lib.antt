@@ -19,6 +19,7 @@ mod Lateness
 mod Forgetting
 mod Freeing
 mod Settling
+mod Undisturbed
 pub mod Stepping
 pub mod Lasting
 pub mod Resting

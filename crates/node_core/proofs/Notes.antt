@@ -1,6 +1,6 @@
 -- Entries that are noted one after another.
 use Rattle.std.proofs.Common.{◌≡◌, ℕ, Bool, true, false, List, [], ◌∷◌, ◌++◌, map, refl, sym, ap, ◌∙◌, subst, append_assoc, append-nil}
-use Rattle.std.specs.Prelude.{Option, Some, None, option_to_list}
+use Rattle.std.specs.Prelude.{Option, Some, None, option_to_list, if◌then◌else◌}
 use Rattle.std.proofs.lemmas.Bool.{true≢false}
 use Rattle.std.proofs.lemmas.Grind.{flat_map-append}
 use Rattle.std.proofs.lemmas.List.{map-append}
@@ -14,6 +14,7 @@ use Rattle.link_machine.specs.Machine.{Message, Report}
 use Rattle.link_entries.specs.entries.Entries.{End as Side, if_so, told}
 use Rattle.link_entries.specs.entries.Entries.Entry.{Up, Down, Active, GaveUp, Acked, Got}
 use Rattle.history.specs.Steps.{end_of}
+use Rattle.link_end.specs.declared.report.LinkReport.{LinkReport}
 use Rattle.link_end.specs.Reports.{report_told}
 use Rattle.node_machine.specs.Parts.{Port, Work}
 use Rattle.node_machine.specs.Carrying.{noting}
@@ -99,6 +100,16 @@ got_plain : (h : ℕ) (who : Side) (n : ℕ) (ms : List Message)
     → map unnumbered (entries_for h (map (Got who n) ms)) ≡ entries_for h (map (Got who 0) ms)
 got_plain h who n [] = refl
 got_plain h who n (m ∷ ms) = ap (λ l. entry.Got (end_of h who) 0 m.0 m.1 ∷ l) (got_plain h who n ms)
+
+-- how many are acknowledged is told where there are more of them alone
+pub told_counted : (h : ℕ) (who : Side) (r : LinkReport) (m : ℕ)
+    → entries_for h (told who 0 (without_message r) (if nat_lt 0 r.acked then m else 0)) ≡ entries_for h (told who 0 (without_message r) m)
+told_counted h who r m = by (nat_lt 0 r.acked) refl
+  where
+    by : (b : Bool) → nat_lt 0 r.acked ≡ b
+        → entries_for h (told who 0 (without_message r) (if nat_lt 0 r.acked then m else 0)) ≡ entries_for h (told who 0 (without_message r) m)
+    by true q = rw q refl
+    by false q = rw q refl
 
 -- what is told of an input, and then the message that it brought
 pub told_plain : (h : ℕ) (who : Side) (n : ℕ) (x : Report) (acked : ℕ)

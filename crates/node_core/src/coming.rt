@@ -54,6 +54,19 @@ impl<N: Nv + Drop> Node<N> {
         note(watch, got, &buffer[..len]);
     }
 
+    // How many messages of the session of the end of the link with this host are acknowledged, where there are more of them; else 0, which
+    // isn't noted.
+    fn acked(&self, host: u8, more: bool) -> u32
+        requires runs { IsSoundNode self.now }
+        ensures { (ports : List Port) → EndsStandFor self.now.ends ports
+            → result ≡ (if more then option_map_or (λ (p : Port). kept_number (whole_acked p.side)) (port_at ports host) 0 else 0) }
+    {
+        if !more {
+            return 0;
+        }
+        self.ends.acked(host)
+    }
+
     // What an input at the end of the link with this host did is noted, with the message that it brought. The buffer has 4,096 bytes.
     pub(crate) fn note_input<W: Watch>(
         &self,
@@ -71,7 +84,7 @@ impl<N: Nv + Drop> Node<N> {
             (map unnumbered (entries_for host (told (own_side core) n x acked))) }
     {
         let at = self.end_at(host);
-        note_report(watch, at, report, self.ends.acked(host));
+        note_report(watch, at, report, self.acked(host, report.acked > 0));
         self.note_message(host, report.got, buffer, watch);
     }
 
@@ -233,7 +246,7 @@ impl<N: Nv + Drop> Node<N> {
         ensures number { self.new.number ≡ self.old.number }
         ensures runs { IsSoundNode self.new }
     {
-        for i in 0..7 {
+        for i in 0..self.ends.count() {
             self.tick_at(i, buffer, watch);
         }
     }

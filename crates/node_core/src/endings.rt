@@ -22,11 +22,11 @@ impl<N: Nv + Drop> Node<N> {
     }
 
     // Whether the session of an end has ended in this step.
-    fn is_over(&self) -> bool
+    pub(crate) fn is_over(&self) -> bool
         requires runs { IsSoundNode self.now }
         ensures { (ports : List Port) → EndsStandFor self.now.ends ports → result ≡ list_any is_over ports }
     {
-        for i in 0..7 {
+        for i in 0..self.ends.count() {
             if self.is_over_at(i) {
                 return true;
             }

@@ -136,15 +136,13 @@ impl<N: Nv + Drop> Node<N> {
         }
     }
 
-    /// What sessions that ended in this step leave: the creations of their askers are forgotten and their blocks free, no notice to their
-    /// hosts is answered any more, the identifier that came with its host, where one did, is kept, and those who asked for creations there
-    /// get their answers. Whether the node has its power still.
+    // What sessions that ended in this step leave: the creations of their askers are forgotten and their blocks free, no notice to their
+    // hosts is answered any more, the identifier that came with its host, where one did, is kept, and those who asked for creations there
+    // get their answers. Whether the node has its power still.
+    #[cold]
+    #[inline(never)]
     #[tactic(auto, using(crate::proofs::Faults::faults_stay, crate::proofs::Faults::faults_then))]
-    pub(crate) fn settle_sessions<W: Watch>(
-        &mut self,
-        came: Option<(u8, u16)>,
-        watch: &mut W,
-    ) -> bool
+    fn settle_ended<W: Watch>(&mut self, came: Option<(u8, u16)>, watch: &mut W) -> bool
         requires runs { IsSoundNode self.old }
         requires live { IsTrue self.old.store.journal.live }
         requires host { IfSome came (λ pair. (1 ≤ pair.0) × (pair.0 ≤ 7)) }
@@ -170,5 +168,32 @@ impl<N: Nv + Drop> Node<N> {
         self.answer_all(ended.as_slice(), Response::NotConnected, watch);
         self.answer_all(late.as_slice(), Response::Timeout, watch);
         true
+    }
+
+    /// What is left to settle behind what came in a step: what sessions that ended in it leave, and the identifier that came with its host,
+    /// where one did, is kept. Where no session ended, that is all. Whether the node has its power still.
+    #[tactic(auto, using(crate::proofs::Faults::faults_stay, crate::proofs::Faults::faults_then))]
+    pub(crate) fn settle_sessions<W: Watch>(
+        &mut self,
+        came: Option<(u8, u16)>,
+        watch: &mut W,
+    ) -> bool
+        requires runs { IsSoundNode self.old }
+        requires live { IsTrue self.old.store.journal.live }
+        requires host { IfSome came (λ pair. (1 ≤ pair.0) × (pair.0 ≤ 7)) }
+        ensures carried { (start : List Noted) (w : Work) → IsInStep self.old (W.noted watch.old) (W.is_short watch.old) start w
+            → Brings N.writes self.old.store.journal.nv self.new.store.journal.nv
+            (IsInStep self.new (W.noted watch.new) (W.is_short watch.new) start)
+            (settles (sync_kept self.old.store.journal.state self.old.store.tables came)) w }
+        ensures live { result ≡ self.new.store.journal.live }
+        ensures faults { CountsFaults N.faults self.old.store self.new.store }
+        ensures number { self.new.number ≡ self.old.number }
+        ensures runs { IsSoundNode self.new }
+    {
+        if self.is_over() {
+            self.settle_ended(came, watch)
+        } else {
+            self.keep_sync(came, watch)
+        }
     }
 }

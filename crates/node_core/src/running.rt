@@ -50,7 +50,7 @@ impl<N: Nv + Drop> Node<N> {
         ensures tasks { self.new.tasks ≡ self.old.tasks }
         ensures runs { IsSoundNode self.new }
     {
-        for i in 0..7 {
+        for i in 0..self.ends.count() {
             self.ends.begin_step(i);
         }
     }

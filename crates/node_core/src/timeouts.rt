@@ -25,7 +25,7 @@ impl<N: Nv + Drop> Node<N> {
         ensures number { self.new.number ≡ self.old.number }
         ensures runs { IsSoundNode self.new }
     {
-        for i in 0..7 {
+        for i in 0..self.ends.count() {
             self.ends.grow_older(i);
         }
     }
@@ -68,7 +68,7 @@ impl<N: Nv + Drop> Node<N> {
         ensures number { self.new.number ≡ self.old.number }
         ensures runs { IsSoundNode self.new }
     {
-        for i in 0..7 {
+        for i in 0..self.ends.count() {
             self.reset_late_at(i, buffer, watch);
         }
     }

@@ -2,7 +2,6 @@ use Rattle.std.proofs.Common.{ℕ, ◌+◌, List, refl, sym, subst, add-one, ari
 use Rattle.node_machine.specs.Parts.{Port}
 use Rattle.node_ends.specs.Ends.{EndsStandFor}
 use Rattle.node_ends.proofs.Seated.{first_changed, none_changed, next_changed, all_changed}
-use Rattle.node_core.proofs.Ticking.{many_ports}
 use Rattle.node_core.proofs.Between.{begun, ends_kept}
 use Rattle.node_core.proofs.node.Node.end_step.Goals as goal
 
@@ -42,7 +41,7 @@ loop-i-preserved g c =
 
 pub returns-clause-ended : goal.returns-clause-ended
 returns-clause-ended g c ports e =
-    let many = many_ports c.args.self.now.ends ports e in
+    let many = c.count-i-end.ensures ports e in
     let past = c.loop-i-test.false in
     let Q : List Port → Type 0 = λ l. EndsStandFor c.loop-i.self.ends l in
     ends_kept c.loop-i.self.ends ports (subst Q (all_changed c.loop-i.i begun ports (omega (arith, many, past))) (c.loop-i.invariant.ends ports e))

@@ -4,7 +4,6 @@ use Rattle.node_machine.specs.Node.{with_older}
 use Rattle.node_ends.specs.Ends.{EndsStandFor}
 use Rattle.node_ends.proofs.Seated.{first_changed, none_changed, next_changed, all_changed}
 use Rattle.node_core.specs.Nodes.{IsInStep}
-use Rattle.node_core.proofs.Ticking.{many_ports}
 use Rattle.node_core.proofs.Lateness.{ends_changed, young_next}
 use Rattle.node_core.proofs.node.Node.grow_older.Goals as goal
 
@@ -46,7 +45,7 @@ loop-i-preserved g c =
 
 pub returns-clause-carried : goal.returns-clause-carried
 returns-clause-carried g c noted short start w u =
-    let many = many_ports c.args.self.now.ends w.ports u.ends in
+    let many = c.count-i-end.ensures w.ports u.ends in
     let past = c.loop-i-test.false in
     let P : List Port → Type 0 = λ l. IsInStep c.loop-i.self noted short start (record w { ports = l }) in
     subst P (all_changed c.loop-i.i with_older w.ports (omega (arith, many, past))) (c.loop-i.invariant.goes noted short start w u)

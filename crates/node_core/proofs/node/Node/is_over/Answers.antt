@@ -2,7 +2,6 @@ use Rattle.std.proofs.Common.{◌≡◌, ◌+◌, true, false, refl, sym, ap, �
 use Rattle.std.specs.List.{list_any}
 use Rattle.node_machine.specs.Node.{is_over}
 use Rattle.node_core.proofs.Tasks.{here_over, next_over, none_over}
-use Rattle.node_core.proofs.Ticking.{many_ports}
 use Rattle.node_core.proofs.node.Node.is_over.Goals as goal
 
 pub loop-i-init : goal.loop-i-init
@@ -20,6 +19,6 @@ loop-i-preserved g c = record {
 
 pub returns : goal.returns
 returns g c ports e =
-    let many = many_ports c.args.self.now.ends ports e in
+    let many = c.count-i-end.ensures ports e in
     let past = c.loop-i-test.false in
     sym (none_over c.loop-i.i ports (omega (arith, many, past))) ∙ c.loop-i.invariant.none ports e

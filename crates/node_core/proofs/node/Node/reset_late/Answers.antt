@@ -3,7 +3,7 @@ use Rattle.std.specs.Prelude.{Option, Some, None, slice_get}
 use Rattle.node_machine.specs.Parts.{Port, Work}
 use Rattle.node_ends.specs.Ends.{FewAreDue}
 use Rattle.node_core.specs.Nodes.{IsInStep}
-use Rattle.node_core.proofs.Ticking.{few_there, none_past, many_ports, either_there}
+use Rattle.node_core.proofs.Ticking.{few_there, none_past, either_there}
 use Rattle.node_core.proofs.Lateness.{late_so_far, no_reset_yet, next_reset, all_reset, reset_past, reset_there}
 use Rattle.node_core.proofs.node.Node.reset_late.Goals as goal
 
@@ -52,6 +52,6 @@ pub returns-clause-carried : goal.returns-clause-carried
 returns-clause-carried g c start w u few =
     let i = c.loop-i.i in
     let P : Work → Type 0 = λ v. IsInStep c.loop-i.self (g.W.Watch.noted c.loop-i.watch) (g.W.Watch.is_short c.loop-i.watch) start v in
-    let many = many_ports c.args.self.now.ends w.ports u.ends in
+    let many = c.count-i-end.ensures w.ports u.ends in
     let past = c.loop-i-test.false in
     subst P (all_reset i w (omega (arith, many, past))) (c.loop-i.invariant.goes start w u few)

@@ -4,7 +4,7 @@ use Rattle.node_machine.specs.Parts.{Port, Work}
 use Rattle.node_ends.specs.Ends.{FewAreDue}
 use Rattle.node_core.specs.Nodes.{IsInStep}
 use Rattle.node_core.proofs.Elsewhere.{hosts_differ}
-use Rattle.node_core.proofs.Ticking.{ticks_so_far, no_tick_yet, next_tick, all_ticked, few_there, ticks_past, none_past, tick_there, many_ports, either_there}
+use Rattle.node_core.proofs.Ticking.{ticks_so_far, no_tick_yet, next_tick, all_ticked, few_there, ticks_past, none_past, tick_there, either_there}
 use Rattle.node_core.proofs.node.Node.time_passes.Goals as goal
 
 pub loop-i-init : goal.loop-i-init
@@ -53,6 +53,6 @@ pub returns-clause-carried : goal.returns-clause-carried
 returns-clause-carried g c start w u few =
     let i = c.loop-i.i in
     let P : Work → Type 0 = λ v. IsInStep c.loop-i.self (g.W.Watch.noted c.loop-i.watch) (g.W.Watch.is_short c.loop-i.watch) start v in
-    let many = many_ports c.args.self.now.ends w.ports u.ends in
+    let many = c.count-i-end.ensures w.ports u.ends in
     let past = c.loop-i-test.false in
     subst P (all_ticked i w (omega (arith, many, past))) (c.loop-i.invariant.goes start w u few)
