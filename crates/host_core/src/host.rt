@@ -31,11 +31,12 @@ impl<N: Nv + Drop> Model for Host<N> {
 }
 
 impl<N: Nv + Drop> Host<N> {
-    ghost use Rattle.std.specs.Prelude.{◌≡◌, ◌≤◌, ◌==◌, ◌&&◌, List, map, [], ◌∷◌, length, is_some, None, Some, IfOk, IfErr, IfSome, OnOk, OnErr, IsTrue};
+    ghost use Rattle.std.specs.Prelude.{◌≡◌, ◌≢◌, ◌≤◌, ◌==◌, ◌&&◌, List, map, [], ◌∷◌, length, is_some, None, Some, IfOk, IfErr, IfSome, OnOk, OnErr, IsTrue};
     ghost use Rattle.std.specs.Prelude.{MatchResult, Ok, true};
     ghost use Rattle.swp_base.specs.Outside.{Rose};
     ghost use Rattle.swp_base.specs.declared.link_terms.Role.TheVariants.{Uicc};
     ghost use Rattle.trace_model.specs.declared.entry.Entry.{Entry as Noted};
+    ghost use Rattle.journal_laws.specs.Journal.{journal};
     ghost use Rattle.hci_store.specs.Image.{image_fault};
     ghost use Rattle.hci_store.specs.Starting.{ready_writes, HasWritten};
     ghost use Rattle.hcp_packet.specs.Packets.{IsSendable};
@@ -72,6 +73,8 @@ impl<N: Nv + Drop> Host<N> {
         ensures number { IfOk result (λ h. h.number ≡ host) }
         ensures found { IsTrue N.tells → IfOk result (λ h. core_kept h ≡ (found_in_memory host (host ∷ []) (N.content nv)).core) }
         ensures image { IsTrue N.tells → OnOk result (image_fault (N.content nv) ≡ None) }
+        ensures unspent { IsTrue N.tells → OnOk result ((journal (N.content nv)).head.version ≡ 1
+            → (journal (N.content nv)).head.generation ≢ 4294967295) }
         ensures made { IsTrue N.tells
             → IfOk result (λ h. HasWritten N.reads N.writes N.content (ready_writes (N.content nv)) nv true h.store.journal.nv) }
         ensures count { IfOk result (λ h. N.faults nv ≤ N.faults h.store.journal.nv) }

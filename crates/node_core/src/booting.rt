@@ -31,7 +31,8 @@ pub struct BootRefused<N> {
 }
 
 impl<N: Nv + Drop> Node<N> {
-    ghost use Rattle.std.specs.Prelude.{◌≡◌, ◌≤◌, None, true, length, IfOk, IfErr, OnOk, IsTrue};
+    ghost use Rattle.std.specs.Prelude.{◌≡◌, ◌≢◌, ◌≤◌, None, true, length, IfOk, IfErr, OnOk, IsTrue};
+    ghost use Rattle.journal_laws.specs.Journal.{journal};
     ghost use Rattle.hci_store.specs.Image.{image_fault};
     ghost use Rattle.hci_store.specs.Starting.{ready_writes, HasWritten};
     ghost use Rattle.node_ends.specs.Making.{AreAllDifferent};
@@ -61,6 +62,8 @@ impl<N: Nv + Drop> Node<N> {
         ensures sound { IfOk result (λ n. IsSoundNode n) }
         ensures found { IsTrue N.tells → IfOk result (λ n. CoreStandsFor n (found_in_memory number hosts.now (N.content nv)).core) }
         ensures image { IsTrue N.tells → OnOk result (image_fault (N.content nv) ≡ None) }
+        ensures unspent { IsTrue N.tells → OnOk result ((journal (N.content nv)).head.version ≡ 1
+            → (journal (N.content nv)).head.generation ≢ 4294967295) }
         ensures made { IsTrue N.tells
             → IfOk result (λ n. HasWritten N.reads N.writes N.content (ready_writes (N.content nv)) nv true n.store.journal.nv) }
         ensures count { IfOk result (λ n. N.faults nv ≤ N.faults n.store.journal.nv) }

@@ -1,5 +1,6 @@
 //! How a node that runs alone boots.
-ghost use Rattle.std.specs.Prelude.{◌≡◌, ◌≤◌, ℕ, List, [], None, true, IfOk, IfErr, OnOk, IsTrue};
+ghost use Rattle.std.specs.Prelude.{◌≡◌, ◌≢◌, ◌≤◌, ℕ, List, [], None, true, IfOk, IfErr, OnOk, IsTrue};
+ghost use Rattle.journal_laws.specs.Journal.{journal};
 ghost use Rattle.hci_store.specs.Image.{image_fault};
 ghost use Rattle.hci_store.specs.Starting.{ready_writes, HasWritten};
 ghost use Rattle.lone_laws.specs.alone.Lone.{Lone};
@@ -55,6 +56,8 @@ pub fn boot_controller<N: Nv + Drop>(
     ensures booted { IsTrue N.tells → IfOk result (λ c. HasBooted N.writes ⟦<LoneController<N> as LoneNode<N>>⟧.nv
         ⟦<LoneController<N> as LoneNode<N>>⟧.runs 0 (N.content nv) (⟦<LoneController<N> as LoneNode<N>>⟧.nv c) c) }
     ensures image { IsTrue N.tells → OnOk result (image_fault (N.content nv) ≡ None) }
+    ensures unspent { IsTrue N.tells → OnOk result ((journal (N.content nv)).head.version ≡ 1
+        → (journal (N.content nv)).head.generation ≢ 4294967295) }
     ensures count { IfOk result (λ c. N.faults nv ≤ N.faults (⟦<LoneController<N> as LoneNode<N>>⟧.nv c)) }
     ensures made { IsTrue N.tells → IfOk result (λ c. HasWritten N.reads N.writes N.content (ready_writes (N.content nv)) nv true
         (⟦<LoneController<N> as LoneNode<N>>⟧.nv c)) }
@@ -81,6 +84,8 @@ pub fn boot_host<N: Nv + Drop>(alloc: Global, nv: N) -> Result<LoneHost<N>, NotB
     ensures booted { IsTrue N.tells → IfOk result (λ h. HasBooted N.writes ⟦<LoneHost<N> as LoneNode<N>>⟧.nv
         ⟦<LoneHost<N> as LoneNode<N>>⟧.runs 2 (N.content nv) (⟦<LoneHost<N> as LoneNode<N>>⟧.nv h) h) }
     ensures image { IsTrue N.tells → OnOk result (image_fault (N.content nv) ≡ None) }
+    ensures unspent { IsTrue N.tells → OnOk result ((journal (N.content nv)).head.version ≡ 1
+        → (journal (N.content nv)).head.generation ≢ 4294967295) }
     ensures count { IfOk result (λ h. N.faults nv ≤ N.faults (⟦<LoneHost<N> as LoneNode<N>>⟧.nv h)) }
     ensures made { IsTrue N.tells → IfOk result (λ h. HasWritten N.reads N.writes N.content (ready_writes (N.content nv)) nv true
         (⟦<LoneHost<N> as LoneNode<N>>⟧.nv h)) }

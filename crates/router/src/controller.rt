@@ -32,10 +32,11 @@ impl<N: Nv + Drop> Model for Controller<N> {
 }
 
 impl<N: Nv + Drop> Controller<N> {
-    ghost use Rattle.std.specs.Prelude.{◌≡◌, ◌≤◌, true, List, map, None, Some, IfOk, IfErr, IfSome, OnOk, OnErr, IsTrue, MatchResult, Ok, Err};
+    ghost use Rattle.std.specs.Prelude.{◌≡◌, ◌≢◌, ◌≤◌, true, List, map, None, Some, IfOk, IfErr, IfSome, OnOk, OnErr, IsTrue, MatchResult, Ok, Err};
     ghost use Rattle.swp_base.specs.Outside.{Rose};
     ghost use Rattle.swp_base.specs.declared.link_terms.Role.TheVariants.{Clf};
     ghost use Rattle.trace_model.specs.declared.entry.Entry.{Entry as Noted};
+    ghost use Rattle.journal_laws.specs.Journal.{journal};
     ghost use Rattle.hci_store.specs.Image.{image_fault};
     ghost use Rattle.hci_store.specs.Starting.{ready_writes, HasWritten};
     ghost use Rattle.gate_admin.specs.View.{has, hosts_where};
@@ -65,6 +66,8 @@ impl<N: Nv + Drop> Controller<N> {
         ensures runs { IfOk result (λ c. RunsAs c (core_kept c) (map (new_port Clf) (hosts_where (has hosts)))) }
         ensures found { IsTrue N.tells → IfOk result (λ c. core_kept c ≡ (found_in_memory 0 (hosts_where (has hosts)) (N.content nv)).core) }
         ensures image { IsTrue N.tells → OnOk result (image_fault (N.content nv) ≡ None) }
+        ensures unspent { IsTrue N.tells → OnOk result ((journal (N.content nv)).head.version ≡ 1
+            → (journal (N.content nv)).head.generation ≢ 4294967295) }
         ensures made { IsTrue N.tells
             → IfOk result (λ c. HasWritten N.reads N.writes N.content (ready_writes (N.content nv)) nv true c.store.journal.nv) }
         ensures count { IfOk result (λ c. N.faults nv ≤ N.faults c.store.journal.nv) }

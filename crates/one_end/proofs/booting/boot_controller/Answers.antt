@@ -23,3 +23,6 @@ returns-in-Ok-clause-booted g c told =
 
 pub returns-in-Err-clause-refused : goal.returns-in-Err-clause-refused
 returns-in-Err-clause-refused g c = c.not_booted.ensures c.args.nv c.in-Err.ensures.refused
+
+pub returns-in-Ok-clause-unspent : goal.returns-in-Ok-clause-unspent
+returns-in-Ok-clause-unspent g c = c.in-Ok.ensures.unspent

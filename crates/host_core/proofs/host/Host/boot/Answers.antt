@@ -10,3 +10,6 @@ returns-in-Ok-boot-clause-runs g c =
     new_runs c.in-Ok-boot.node h Uicc (h ∷ []) b.begins b.sound ((c.requires.some, c.requires.host), tt)
     (λ some. ap (λ (n : ℕ). n ∷ []) (sym b.begins.number_is))
     (uicc_roles c.in-Ok-boot.node.number (h ∷ []) (λ none. (let low = c.requires.some in let same = b.begins.number_is in omega (arith, low, same, none))))
+
+pub returns-in-Ok-boot-clause-unspent : goal.returns-in-Ok-boot-clause-unspent
+returns-in-Ok-boot-clause-unspent g c = c.in-Ok-boot.ensures.unspent
