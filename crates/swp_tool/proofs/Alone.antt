@@ -13,7 +13,7 @@ use Rattle.one_end.proofs.Growing.{is_run_of}
 use Rattle.swp_tool.specs.declared.status.Status.{Status}
 use Rattle.swp_tool.specs.declared.status.Status.TheVariants as status
 use Rattle.swp_tool.specs.Ends.{Began, HasHeardAlone, IsWrittenBefore, IsBrokenAlone, IsStoppedAlone, IsHearing, EndedAlone, HasRunAlone, IsRunBefore}
-use Rattle.swp_tool.specs.Ends.{IsRunBrokenOff, IsRunStopped, IsRunCutOff, RanSo, EndedSo}
+use Rattle.swp_tool.specs.Ends.{IsRunBrokenOff, IsRunStopped, IsRunCutOff, RanSo, EndedSo, HasNextGeneration}
 use Rattle.swp_tool.specs.Ends.{status_of_boot, IsOfLone, IsOfEndWord}
 use Rattle.swp_tool.specs.Records.{most_bytes}
 use Rattle.hci_store.specs.Image.{image_fault}
@@ -178,24 +178,24 @@ role_is false q = ap (λ n. n == 0) q
 
 pub booted_ended : {N : Type 0} (reads : N → Bool → N → Type 0) (writes : N → ℕ → List ℕ → Bool → N → Type 0) (content : N → List ℕ) (tells : Bool)
     (form : EndForm) (is_clf : Bool) (old first new : N) (s : Status) (input left before after : List ℕ) → IsOfLone s → image_fault (content old) ≡ None
-    → HasWritten reads writes content (ready_writes (content old)) old true first
+    → HasNextGeneration (content old) → HasWritten reads writes content (ready_writes (content old)) old true first
     → RanSo writes tells form is_clf (content old) first new s input left before after
     → EndedSo reads writes content tells form is_clf old new s input left before after
-booted_ended reads writes content tells form is_clf old first new status.Done input left before after kind sound made ran =
-    record { first = first; sound = sound; booted = made; ran = ran }
-booted_ended reads writes content tells form is_clf old first new status.ReadFault input left before after kind sound made ran =
-    record { first = first; sound = sound; booted = made; ran = ran }
-booted_ended reads writes content tells form is_clf old first new status.WriteFault input left before after kind sound made ran =
-    record { first = first; sound = sound; booted = made; ran = ran }
-booted_ended reads writes content tells form is_clf old first new status.NvFault input left before after kind sound made ran =
-    inr (record { first = first; sound = sound; booted = made; ran = ran })
-booted_ended reads writes content tells form is_clf old first new (status.TooMany n) input left before after kind sound made ran =
-    record { first = first; sound = sound; booted = made; ran = ran }
-booted_ended reads writes content tells form is_clf old first new status.BadWords input left before after kind sound made ran = absurd kind
-booted_ended reads writes content tells form is_clf old first new (status.BadSchedule line why) input left before after kind sound made ran = absurd kind
-booted_ended reads writes content tells form is_clf old first new (status.Undetected line) input left before after kind sound made ran = absurd kind
-booted_ended reads writes content tells form is_clf old first new status.NoMemory input left before after kind sound made ran = absurd kind
-booted_ended reads writes content tells form is_clf old first new (status.BadImage why) input left before after kind sound made ran = absurd kind
+booted_ended reads writes content tells form is_clf old first new status.Done input left before after kind sound next made ran =
+    record { first = first; sound = sound; next = next; booted = made; ran = ran }
+booted_ended reads writes content tells form is_clf old first new status.ReadFault input left before after kind sound next made ran =
+    record { first = first; sound = sound; next = next; booted = made; ran = ran }
+booted_ended reads writes content tells form is_clf old first new status.WriteFault input left before after kind sound next made ran =
+    record { first = first; sound = sound; next = next; booted = made; ran = ran }
+booted_ended reads writes content tells form is_clf old first new status.NvFault input left before after kind sound next made ran =
+    inr (record { first = first; sound = sound; next = next; booted = made; ran = ran })
+booted_ended reads writes content tells form is_clf old first new (status.TooMany n) input left before after kind sound next made ran =
+    record { first = first; sound = sound; next = next; booted = made; ran = ran }
+booted_ended reads writes content tells form is_clf old first new status.BadWords input left before after kind sound next made ran = absurd kind
+booted_ended reads writes content tells form is_clf old first new (status.BadSchedule line why) input left before after kind sound next made ran = absurd kind
+booted_ended reads writes content tells form is_clf old first new (status.Undetected line) input left before after kind sound next made ran = absurd kind
+booted_ended reads writes content tells form is_clf old first new status.NoMemory input left before after kind sound next made ran = absurd kind
+booted_ended reads writes content tells form is_clf old first new (status.BadImage why) input left before after kind sound next made ran = absurd kind
 
 -- ## How it can end
 

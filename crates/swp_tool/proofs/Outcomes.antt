@@ -1,6 +1,6 @@
 -- What a run of one node comes to, if nothing outside fails.
-use Rattle.std.proofs.Common.{◌≡◌, ◌⊎◌, ◌+◌, ◌∷◌, ◌++◌, ◌<◌, ◌≤◌, ℕ, Bool, IsTrue, List, length, length-append, refl, ap, subst, inl, inr, arith}
-use Rattle.std.specs.Prelude.{Option, Some, None}
+use Rattle.std.proofs.Common.{◌≡◌, ◌⊎◌, ◌+◌, ◌∷◌, ◌++◌, ◌<◌, ◌≤◌, ℕ, Bool, IsTrue, List, length, length-append, refl, sym, ap, ◌∙◌, subst, inl, inr, arith}
+use Rattle.std.specs.Prelude.{◌≢◌, ◌↔◌, Option, Some, None}
 use Rattle.nv_journal.specs.declared.JournalFault.{JournalFault}
 use Rattle.nv_journal.specs.declared.JournalFault.TheVariants as image
 use Rattle.lone_laws.specs.alone.Ends.{EndForm}
@@ -10,7 +10,7 @@ use Rattle.hci_store.specs.Refusals.{IsSpent}
 use Rattle.swp_tool.specs.declared.status.Status.{Status}
 use Rattle.swp_tool.specs.declared.status.Status.TheVariants as status
 use Rattle.swp_tool.specs.Records.{most_bytes}
-use Rattle.swp_tool.specs.Ends.{IsImageRefused, EndedSo, IsOfLone, IsOfEndWord, HasNextGeneration, status_of_boot}
+use Rattle.swp_tool.specs.Ends.{IsImageRefused, EndedSo, IsOfLone, IsOfEndWord, HasNextGeneration, IsRefusedFor, status_of_boot}
 
 -- a run is not refused for its memory, where nothing is wrong with it and no generation is needed that isn't there
 not_refused : {N : Type 0} (content : N → List ℕ) (tells : Bool) (old new : N) (fault : JournalFault) (input left before after : List ℕ)
@@ -80,3 +80,68 @@ image_refused reads writes faults nv_tells content old new (Some image.Generatio
 -- a node that runs isn't refused for its memory
 pub runs_on_image : (s : Status) (f : JournalFault) → IsOfLone s → s ≡ status.BadImage f → ⊥
 runs_on_image s f kind is = subst IsOfLone is kind
+
+-- ## Memories that a boot refuses
+
+-- a memory that boots isn't refused
+pub boots_unrefused : (f : JournalFault) (content : List ℕ) → image_fault content ≡ None → HasNextGeneration content → IsRefusedFor f content → ⊥
+boots_unrefused f content sound next (inl bad) = cc
+boots_unrefused f content sound next (inr (is, spent)) = next spent.version spent.generation
+
+-- a memory is refused for one fault
+one_fault : (f g : JournalFault) (content : List ℕ) → IsRefusedFor f content → IsRefusedFor g content → f ≡ g
+one_fault f g content (inl p) (inl q) = cc
+one_fault f g content (inl p) (inr (is, spent)) = let sound = spent.sound in absurd (cc)
+one_fault f g content (inr (is, spent)) (inl q) = let sound = spent.sound in absurd (cc)
+one_fault f g content (inr (is, spent)) (inr (too, again)) = is ∙ sym too
+
+same_fault : (s : Status) (f g : JournalFault) → s ≡ status.BadImage f → s ≡ status.BadImage g → f ≡ g
+same_fault s f g is too = cc
+
+-- a run that was refused for what its memory is refused for
+refused_as : (s : Status) (f g : JournalFault) (content : List ℕ) → s ≡ status.BadImage g → IsRefusedFor g content
+    → (s ≡ status.BadImage f) ↔ (IsRefusedFor f content × (s ≢ status.NoMemory) × (s ≢ status.NvFault))
+refused_as s f g content is why = (
+  λ bad. (subst (λ (x : JournalFault). IsRefusedFor x content) (same_fault s g f is bad) why, no_want, no_failure),
+  λ h. is ∙ ap status.BadImage (one_fault g f content why h.0),
+)
+  where
+    no_want : s ≢ status.NoMemory
+    no_want none = cc
+
+    no_failure : s ≢ status.NvFault
+    no_failure failed = cc
+
+-- a run that ended otherwise
+not_as : (s : Status) (f : JournalFault) (content : List ℕ) → (s ≡ status.NoMemory) ⊎ (s ≡ status.NvFault)
+    → (s ≡ status.BadImage f) ↔ (IsRefusedFor f content × (s ≢ status.NoMemory) × (s ≢ status.NvFault))
+not_as s f content (inl is) = (λ bad. absurd (both bad), λ h. absurd (h.1 is))
+  where
+    both : s ≡ status.BadImage f → ⊥
+    both bad = cc
+not_as s f content (inr is) = (λ bad. absurd (both bad), λ h. absurd (h.2 is))
+  where
+    both : s ≡ status.BadImage f → ⊥
+    both bad = cc
+
+-- a boot that was refused was so for its memory, exactly, but where there was no memory for the node or the one that it boots from failed
+pub refused_exactly : {N : Type 0} (reads : N → Bool → N → Type 0) (writes : N → ℕ → List ℕ → Bool → N → Type 0) (faults : N → ℕ) (nv_tells : Bool)
+    (content : N → List ℕ) (old new : N) (fault : Option JournalFault) (s : Status) (f : JournalFault)
+    → IsNotBooted reads writes faults nv_tells content old new fault → s ≡ status_of_boot fault → IsTrue nv_tells
+    → (s ≡ status.BadImage f) ↔ (IsRefusedFor f (content old) × (s ≢ status.NoMemory) × (s ≢ status.NvFault))
+refused_exactly reads writes faults nv_tells content old new None s f k is told = not_as s f (content old) (inl is)
+refused_exactly reads writes faults nv_tells content old new (Some image.NvFault) s f k is told = not_as s f (content old) (inr is)
+refused_exactly reads writes faults nv_tells content old new (Some (image.UnknownFormat version)) s f k is told =
+    refused_as s f (image.UnknownFormat version) (content old) is (inl (k.image told tt))
+refused_exactly reads writes faults nv_tells content old new (Some (image.BadRecord at)) s f k is told =
+    refused_as s f (image.BadRecord at) (content old) is (inl (k.image told tt))
+refused_exactly reads writes faults nv_tells content old new (Some image.GenerationsSpent) s f k is told =
+    let spent = k.spent told refl in
+    refused_as s f image.GenerationsSpent (content old) is
+    (inr (refl, record { version = spent.version; generation = spent.generation; sound = spent.sound; kept = refl }))
+
+-- a run behind a boot wasn't refused, and nor is its memory
+pub unrefused_exactly : (s : Status) (f : JournalFault) (content : List ℕ) → IsOfLone s → image_fault content ≡ None → HasNextGeneration content
+    → (s ≡ status.BadImage f) ↔ (IsRefusedFor f content × (s ≢ status.NoMemory) × (s ≢ status.NvFault))
+unrefused_exactly s f content kind sound next =
+    (λ bad. absurd (runs_on_image s f kind bad), λ h. absurd (boots_unrefused f content sound next h.0))

@@ -216,11 +216,20 @@ RanSo writes tells form is_clf content first now _ input left before after = ⊥
 abbrev pub IsNothingDone : Bool → List ℕ → List ℕ → List ℕ → List ℕ → Type 0
 IsNothingDone tells input left before after = (left ≡ input) × (IsTrue tells → after ≡ before)
 
+-- a boot has the generation that it needs: a memory of version 01 is written anew with the next one
+abbrev pub HasNextGeneration : List ℕ → Type 0
+HasNextGeneration content = (journal content).head.version ≡ 1 → (journal content).head.generation ≢ 4294967295
+
+-- A boot refuses a memory for this: for what is wrong with it or, where nothing is, since it is of version 01 and has no generation left.
+abbrev pub IsRefusedFor : JournalFault → List ℕ → Type 0
+IsRefusedFor f content = (image_fault content ≡ Some f) ⊎ ((f ≡ GenerationsSpent) × IsSpent content content)
+
 -- The boot went through, with the writes that it makes of what it found, and the node ran so.
 pub record BootedAndRan {N : Type 0} (reads : N → Bool → N → Type 0) (writes : N → ℕ → List ℕ → Bool → N → Type 0) (content : N → List ℕ) (tells : Bool)
     (form : EndForm) (is_clf : Bool) (old new : N) (s : Status) (input left before after : List ℕ) : Type 0 where
   pub first : N
   pub sound : image_fault (content old) ≡ None
+  pub next : HasNextGeneration (content old)
   pub booted : HasWritten reads writes content (ready_writes (content old)) old true first
   pub ran : RanSo writes tells form is_clf (content old) first new s input left before after
 
@@ -269,10 +278,6 @@ IsOfEndWord status.NoMemory = Unit {0}
 IsOfEndWord (status.BadImage fault) = Unit {0}
 IsOfEndWord (status.TooMany count) = count ≡ 16777217
 IsOfEndWord _ = ⊥
-
--- a boot has the generation that it needs: a memory of version 01 is written anew with the next one
-abbrev pub HasNextGeneration : List ℕ → Type 0
-HasNextGeneration content = (journal content).head.version ≡ 1 → (journal content).head.generation ≢ 4294967295
 
 -- the word for an end: the CLF's, or the UICC's
 abbrev pub role_word : Bool → List ℕ

@@ -1,13 +1,14 @@
 //! The command `end`: one node alone at the end of a link whose other end is live.
 ghost use Rattle.std.specs.Prelude.{◌≡◌, ◌≢◌, ◌≤◌, ◌<◌, ◌+◌, ◌++◌, ◌∷◌, [], List, ℕ, IsTrue, OnOk, IfErr, Err, false, length, if◌then◌else◌, Bool, true, ◌⊎◌};
-ghost use Rattle.std.specs.Prelude.{None, Some};
+ghost use Rattle.std.specs.Prelude.{◌↔◌, None, Some};
 ghost use Rattle.swp_base.specs.Outside.{Rose};
 ghost use Rattle.hci_store.specs.Image.{image_fault};
 ghost use Rattle.nv_journal.specs.declared.JournalFault.{JournalFault as Bad};
 ghost use Rattle.swp_tool.specs.Records.{most_bytes};
 ghost use Rattle.lone_laws.specs.alone.Lone.{Lone};
 ghost use Rattle.one_end.specs.Standing.{StandsAlone, HasRun, HasBooted};
-ghost use Rattle.swp_tool.specs.Ends.{Began, HasHeardAlone, EndedInBytes, IsOfEnd, IsOfLone, RanSo, EndedSo, IsOfEndWord, status_of_boot, HasNextGeneration};
+ghost use Rattle.swp_tool.specs.Ends.{Began, HasHeardAlone, EndedInBytes, IsOfEnd, IsOfLone, RanSo, EndedSo, IsOfEndWord, status_of_boot};
+ghost use Rattle.swp_tool.specs.Ends.{HasNextGeneration, IsRefusedFor};
 ghost use Rattle.one_end.specs.Writing.{form_named};
 
 use crate::driver::{Job, drive};
@@ -260,7 +261,10 @@ pub fn run_end<S: Source, K: Sink, N: Nv + Drop>(
     ensures ahead { IsTrue S.tells → IsTrue N.tells → length (S.left source.old) ≤ most_bytes + 4096 + length (S.left source.new) }
     ensures image { IsTrue N.tells → (f : Bad) → image_fault (N.content nv) ≡ Some f → ¬ Rose (N.faults nv) (N.faults result.nv)
         → (result.status ≡ Status.BadImage f) ⊎ (result.status ≡ Status.NoMemory) }
+    ensures refuses { IsTrue N.tells → (f : Bad) → (result.status ≡ Status.BadImage f)
+        ↔ (IsRefusedFor f (N.content nv) × (result.status ≢ Status.NoMemory) × (result.status ≢ Status.NvFault)) }
     ensures untouched { (f : Bad) → result.status ≡ Status.BadImage f → (source.new ≡ source.old) × (sink.new ≡ sink.old) }
+    ensures never_begins { IsTrue N.tells → (f : Bad) → IsRefusedFor f (N.content nv) → (source.new ≡ source.old) × (sink.new ≡ sink.old) }
     ensures kind { IsOfEndWord result.status }
     ensures nv_fault { result.status ≡ Status.NvFault → Rose (N.faults nv) (N.faults result.nv) }
     ensures read_fault { result.status ≡ Status.ReadFault → Rose (S.faults source.old) (S.faults source.new) }
@@ -294,7 +298,10 @@ fn run_host<S: Source, K: Sink, N: Nv + Drop>(
     ensures ahead { IsTrue S.tells → IsTrue N.tells → length (S.left source.old) ≤ most_bytes + 4096 + length (S.left source.new) }
     ensures image { IsTrue N.tells → (f : Bad) → image_fault (N.content nv) ≡ Some f → ¬ Rose (N.faults nv) (N.faults result.nv)
         → (result.status ≡ Status.BadImage f) ⊎ (result.status ≡ Status.NoMemory) }
+    ensures refuses { IsTrue N.tells → (f : Bad) → (result.status ≡ Status.BadImage f)
+        ↔ (IsRefusedFor f (N.content nv) × (result.status ≢ Status.NoMemory) × (result.status ≢ Status.NvFault)) }
     ensures untouched { (f : Bad) → result.status ≡ Status.BadImage f → (source.new ≡ source.old) × (sink.new ≡ sink.old) }
+    ensures never_begins { IsTrue N.tells → (f : Bad) → IsRefusedFor f (N.content nv) → (source.new ≡ source.old) × (sink.new ≡ sink.old) }
     ensures kind { IsOfEndWord result.status }
     ensures nv_fault { result.status ≡ Status.NvFault → Rose (N.faults nv) (N.faults result.nv) }
     ensures read_fault { result.status ≡ Status.ReadFault → Rose (S.faults source.old) (S.faults source.new) }
@@ -321,7 +328,10 @@ fn run_controller<S: Source, K: Sink, N: Nv + Drop>(
     ensures ahead { IsTrue S.tells → IsTrue N.tells → length (S.left source.old) ≤ most_bytes + 4096 + length (S.left source.new) }
     ensures image { IsTrue N.tells → (f : Bad) → image_fault (N.content nv) ≡ Some f → ¬ Rose (N.faults nv) (N.faults result.nv)
         → (result.status ≡ Status.BadImage f) ⊎ (result.status ≡ Status.NoMemory) }
+    ensures refuses { IsTrue N.tells → (f : Bad) → (result.status ≡ Status.BadImage f)
+        ↔ (IsRefusedFor f (N.content nv) × (result.status ≢ Status.NoMemory) × (result.status ≢ Status.NvFault)) }
     ensures untouched { (f : Bad) → result.status ≡ Status.BadImage f → (source.new ≡ source.old) × (sink.new ≡ sink.old) }
+    ensures never_begins { IsTrue N.tells → (f : Bad) → IsRefusedFor f (N.content nv) → (source.new ≡ source.old) × (sink.new ≡ sink.old) }
     ensures kind { IsOfEndWord result.status }
     ensures nv_fault { result.status ≡ Status.NvFault → Rose (N.faults nv) (N.faults result.nv) }
     ensures read_fault { result.status ≡ Status.ReadFault → Rose (S.faults source.old) (S.faults source.new) }

@@ -13,7 +13,7 @@ ghost use Rattle.swp_tool.specs.Records.{most_bytes, IsOfRecord};
 ghost use Rattle.swp_tool.specs.Decodings.{DecodedBy};
 ghost use Rattle.lone_laws.specs.alone.Ends.{EndForm};
 ghost use Rattle.one_end.specs.Writing.{form_named};
-ghost use Rattle.swp_tool.specs.Ends.{EndedSo, IsOfEndWord, IsEndCommand, AskForAnEnd, HasNextGeneration};
+ghost use Rattle.swp_tool.specs.Ends.{EndedSo, IsOfEndWord, IsEndCommand, AskForAnEnd, HasNextGeneration, IsRefusedFor};
 ghost use Rattle.swp_tool.specs.Taps.{TappedBy, IsOfTap};
 ghost use Rattle.swp_tool.specs.Generated.{Generated, IsGen, IsOfGen};
 ghost use Rattle.swp_tool.specs.Pieces.{HasRead, IsReading, IsReadAhead, bytes_left};
@@ -79,13 +79,21 @@ pub fn run<S: Source, K: Sink, N: Nv + Drop>(
         EndedSo N.reads N.writes N.content K.tells form is_clf nv result.nv result.status (S.left source.old) (S.left source.new)
         (K.written sink.old) (K.written sink.new) }
 
-    // A memory with a fault is refused for that fault, unless there is no memory for the node, or a read of the boot failed before. Where a
-    // memory is refused, nothing is read or written.
+    // A memory with a fault is refused for that fault, unless there is no memory for the node, or a read of the boot failed before.
     ensures end_bad_image { AskForAnEnd (map string_bytes words.now) → IsTrue N.tells →
         (f : Bad) → image_fault (N.content nv) ≡ Some f → ¬ Rose (N.faults nv) (N.faults result.nv) →
         (result.status ≡ Status.BadImage f) ⊎ (result.status ≡ Status.NoMemory) }
+
+    // A memory is refused exactly for its fault or, where it has none, since it is of version 01 and has the last generation: a boot would
+    // write it anew with the next one. Where one is refused, nothing is read or written; nor is it where one is to be refused, however the
+    // run ends.
+    ensures end_refuses { AskForAnEnd (map string_bytes words.now) → IsTrue N.tells → (f : Bad) →
+        (result.status ≡ Status.BadImage f)
+        ↔ (IsRefusedFor f (N.content nv) × (result.status ≢ Status.NoMemory) × (result.status ≢ Status.NvFault)) }
     ensures end_untouched { AskForAnEnd (map string_bytes words.now) →
         (f : Bad) → result.status ≡ Status.BadImage f → (source.new ≡ source.old) × (sink.new ≡ sink.old) }
+    ensures end_never_begins { AskForAnEnd (map string_bytes words.now) → IsTrue N.tells →
+        (f : Bad) → IsRefusedFor f (N.content nv) → (source.new ≡ source.old) × (sink.new ≡ sink.old) }
 
     // Other words are refused exactly, and then nothing is read or written.
     ensures bad_words { (result.status ≡ Status.BadWords) ↔ ¬ AskForSomething (map string_bytes words.now) }
@@ -158,8 +166,8 @@ pub fn run<S: Source, K: Sink, N: Nv + Drop>(
         ¬ Rose (S.faults source.old) (S.faults source.new) → ¬ Rose (K.faults sink.old) (K.faults sink.new) →
         (result.status ≡ Status.TooMany 16777217) ⊎ (result.status ≡ Status.NoMemory) }
 
-    // With a sound memory, bytes that aren't too many and no fault of the outside, an end is done, unless there is no memory; with more bytes
-    // it is refused at the first one too many.
+    // With a sound memory that has the generation it needs, bytes that aren't too many and no fault of the outside, an end is done, unless
+    // there is no memory; with more bytes it is refused at the first one too many.
     ensures complete_end { AskForAnEnd (map string_bytes words.now) → IsTrue S.tells → IsTrue N.tells →
         image_fault (N.content nv) ≡ None → HasNextGeneration (N.content nv) → length (S.left source.old) ≤ most_bytes →
         ¬ Rose (S.faults source.old) (S.faults source.new) → ¬ Rose (K.faults sink.old) (K.faults sink.new) →

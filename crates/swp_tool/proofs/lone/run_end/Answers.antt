@@ -35,3 +35,15 @@ returns-else-asked-clause-too_many g c told tells sound next many read write nv 
     (g.K.Sink.written c.run_host.new.sink) sound next c.run_host.result.status
     (c.run_host.ensures.ended told tells) c.run_host.ensures.kind many
     (λ q. read (c.run_host.ensures.read_fault q)) (λ q. write (c.run_host.ensures.write_fault q)) (λ q. nv (c.run_host.ensures.nv_fault q))
+
+pub returns-then-asked-clause-refuses : goal.returns-then-asked-clause-refuses
+returns-then-asked-clause-refuses g c = c.run_controller.ensures.refuses
+
+pub returns-then-asked-clause-never_begins : goal.returns-then-asked-clause-never_begins
+returns-then-asked-clause-never_begins g c = c.run_controller.ensures.never_begins
+
+pub returns-else-asked-clause-refuses : goal.returns-else-asked-clause-refuses
+returns-else-asked-clause-refuses g c = c.run_host.ensures.refuses
+
+pub returns-else-asked-clause-never_begins : goal.returns-else-asked-clause-never_begins
+returns-else-asked-clause-never_begins g c = c.run_host.ensures.never_begins

@@ -1,16 +1,17 @@
 -- A host runs alone over a memory.
-use Rattle.std.proofs.Common.{false, sym, subst}
+use Rattle.std.proofs.Common.{false, refl, sym, subst}
 use Rattle.one_end.specs.Writing.{form_named}
 use Rattle.swp_base.specs.Outside.{Rose}
 use Rattle.swp_tool.specs.Ends.{EndedSo}
 use Rattle.swp_tool.proofs.Alone.{booted_ended, refused_ended, lone_kind, boot_kind, refused_rose}
-use Rattle.swp_tool.proofs.Outcomes.{image_refused, runs_on_image}
+use Rattle.swp_tool.proofs.Outcomes.{image_refused, runs_on_image, refused_exactly, unrefused_exactly, boots_unrefused}
 use Rattle.swp_tool.proofs.lone.run_host.Goals as goal
 
 pub returns-in-Ok-clause-ended : goal.returns-in-Ok-clause-ended
 returns-in-Ok-clause-ended g c told tells =
     booted_ended g.N.Nv.reads g.N.Nv.writes g.N.Nv.content g.K.Sink.tells (form_named c.args.form) false c.args.nv _ c.run_alone.result.nv
-    c.run_alone.result.status _ _ _ _ c.run_alone.ensures.kind (c.in-Ok.ensures.image tells) (c.in-Ok.ensures.made tells)
+    c.run_alone.result.status _ _ _ _ c.run_alone.ensures.kind (c.in-Ok.ensures.image tells) (c.in-Ok.ensures.unspent tells)
+    (c.in-Ok.ensures.made tells)
     (c.run_alone.ensures.ran told (g.N.Nv.content c.args.nv) (c.in-Ok.ensures.booted tells))
 
 pub returns-in-Err-clause-ended : goal.returns-in-Err-clause-ended
@@ -53,3 +54,20 @@ returns-in-Err-clause-image g c tells f bad still =
 
 pub returns-in-Ok-clause-untouched : goal.returns-in-Ok-clause-untouched
 returns-in-Ok-clause-untouched g c f is = absurd (runs_on_image c.run_alone.result.status f c.run_alone.ensures.kind is)
+
+pub returns-in-Ok-clause-refuses : goal.returns-in-Ok-clause-refuses
+returns-in-Ok-clause-refuses g c tells f =
+    unrefused_exactly c.run_alone.result.status f (g.N.Nv.content c.args.nv) c.run_alone.ensures.kind (c.in-Ok.ensures.image tells)
+    (c.in-Ok.ensures.unspent tells)
+
+pub returns-in-Err-clause-refuses : goal.returns-in-Err-clause-refuses
+returns-in-Err-clause-refuses g c tells f =
+    refused_exactly g.N.Nv.reads g.N.Nv.writes g.N.Nv.faults g.N.Nv.tells g.N.Nv.content c.args.nv c.in-Err.unbooted.nv c.in-Err.unbooted.fault
+    c.refused_boot.result.status f c.in-Err.ensures.refused c.refused_boot.ensures.status tells
+
+pub returns-in-Ok-clause-never_begins : goal.returns-in-Ok-clause-never_begins
+returns-in-Ok-clause-never_begins g c tells f why =
+    absurd (boots_unrefused f (g.N.Nv.content c.args.nv) (c.in-Ok.ensures.image tells) (c.in-Ok.ensures.unspent tells) why)
+
+pub returns-in-Err-clause-never_begins : goal.returns-in-Err-clause-never_begins
+returns-in-Err-clause-never_begins g c tells f why = (refl, refl)
