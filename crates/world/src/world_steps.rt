@@ -55,6 +55,7 @@ impl World {
     ///
     /// `Undetected` exactly where the line damages a frame so that another one is read in its place; `NoMemory` where memory
     /// runs out. The world is of no use then.
+    #[inline(always)]
     pub fn step(&mut self, alloc: Global, line: &Line) -> Result<(), WorldFault>
         requires room { HasRoomForLine self.old }
         requires line { IsPlayedLine (world_header self.old) line.now }
