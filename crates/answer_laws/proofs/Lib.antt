@@ -8,3 +8,4 @@ pub mod passes
 pub mod dues
 pub mod hosts
 pub mod shorts
+pub mod bounds

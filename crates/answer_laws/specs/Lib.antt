@@ -4,3 +4,4 @@ pub mod rooms
 pub mod replies
 pub mod schedules
 pub mod passes
+pub mod bounds

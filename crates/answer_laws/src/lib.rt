@@ -3,6 +3,8 @@
 #![tactic(auto)]
 
 pub mod answers_of_worlds;
+pub mod bounds_of_commands;
+pub mod bounds_of_resets;
 pub mod dues_of_worlds;
 pub mod histories_of_schedules;
 pub mod passes_of_worlds;

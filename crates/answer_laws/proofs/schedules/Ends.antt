@@ -15,12 +15,12 @@ use Rattle.history.proofs.Filters.{same_end_itself}
 
 -- ## Ends in lists
 
-abbrev one_at : Bool → ℕ
+abbrev pub one_at : Bool → ℕ
 one_at true = 1
 one_at false = 0
 
 -- how often an end stands in a list
-abbrev count : End → List End → ℕ
+abbrev pub count : End → List End → ℕ
 count e [] = 0
 count e (f ∷ fs) = one_at (same_end f e) + count e fs
 
@@ -60,7 +60,7 @@ take_one x (y ∷ ys) some = go (same_end y x) refl (take_one x ys) where
         counts = λ e. let rest = r.counts e in omega (arith, rest);
       }
 
-fewer : (xs ys : List End) → ((e : End) → count e xs ≤ count e ys) → length xs ≤ length ys
+pub fewer : (xs ys : List End) → ((e : End) → count e xs ≤ count e ys) → length xs ≤ length ys
 fewer [] ys each = omega arith
 fewer (x ∷ xs) ys each =
     let own : one_at (same_end x x) ≡ 1 = ap one_at (same_end_itself x) in
