@@ -6,4 +6,13 @@ pub mod Allowing
 pub mod Rounds
 pub mod WorldLaw
 pub mod WorldRounds
+pub mod Replayed
+pub mod TakenInRounds
+pub mod CausesOfRounds
+pub mod FewOnWires
+pub mod FewCauses
+pub mod Examples
 pub mod NotedFragments
+pub mod RoundsInTurn
+pub mod AckedRounds
+pub mod AckedSteps

@@ -29,7 +29,7 @@ use Rattle.settling_laws.proofs.messages.Law.{got_by_host, got_by_controller, re
 use Rattle.settled_worlds.specs.links.Settling.{causes_of_round, link_after_round, causes_of_rounds, rounds_to_settle, settling_events}
 
 -- what causes do to the link
-after_causes : (cs : List Cause) (l : Link) → link_after_all l cs ≡ after_link_events l (map event_of cs)
+pub after_causes : (cs : List Cause) (l : Link) → link_after_all l cs ≡ after_link_events l (map event_of cs)
 after_causes [] l = refl
 after_causes (c ∷ cs) l = after_causes cs (happens l (event_of c))
 
@@ -102,7 +102,7 @@ taken_far (suc k) l i = go l.to_host i (taken_far k)
 
 -- ## A round
 
-map-replicate : (k : ℕ) (c : Cause) → map event_of (replicate k c) ≡ replicate k (event_of c)
+pub map-replicate : (k : ℕ) (c : Cause) → map event_of (replicate k c) ≡ replicate k (event_of c)
 map-replicate zero c = refl
 map-replicate (suc k) c = ap (λ es. event_of c ∷ es) (map-replicate k c)
 
@@ -117,12 +117,12 @@ abbrev far_causes : ℕ → Link → List Cause
 far_causes h l = replicate (length (link_after_all l (near_causes h l)).to_host) (Taken (end_of h Host))
 
 -- a round is one of the law, and may happen
-record Round (h : ℕ) (l : Link) : Type 0 where
-  is : IsLinkRound l (map event_of (causes_of_round h l))
-  allowed : AllAllowed l (map event_of (causes_of_round h l))
-  end : after_link_events l (map event_of (causes_of_round h l)) ≡ link_after_round h l
+pub record Round (h : ℕ) (l : Link) : Type 0 where
+  pub is : IsLinkRound l (map event_of (causes_of_round h l))
+  pub allowed : AllAllowed l (map event_of (causes_of_round h l))
+  pub end : after_link_events l (map event_of (causes_of_round h l)) ≡ link_after_round h l
 
-round : (h : ℕ) (l : Link) → Round h l
+pub round : (h : ℕ) (l : Link) → Round h l
 round h l =
     let near : List LinkEvent = replicate (length l.to_controller) (AtController take_one) in
     let m : Link = after_link_events l near in
@@ -160,12 +160,12 @@ round h l =
 -- ## Rounds
 
 -- so many rounds are those of the law, may happen, and lead as far
-record Settles (r h : ℕ) (l : Link) : Type 0 where
+pub record Settles (r h : ℕ) (l : Link) : Type 0 where
   are : AreLinkRounds r l (map event_of (causes_of_rounds r h l))
   allowed : AllAllowed l (map event_of (causes_of_rounds r h l))
-  end : after_link_events l (map event_of (causes_of_rounds r h l)) ≡ after_steps (link_after_round h) r l
+  pub end : after_link_events l (map event_of (causes_of_rounds r h l)) ≡ after_steps (link_after_round h) r l
 
-rounds : (r h : ℕ) (l : Link) → Settles r h l
+pub rounds : (r h : ℕ) (l : Link) → Settles r h l
 rounds zero h l = record { are = refl; allowed = tt; end = refl }
 rounds (suc r) h l =
     let one = round h l in

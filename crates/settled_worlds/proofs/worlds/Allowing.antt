@@ -95,7 +95,7 @@ module _ (w : NodeWorld) (h : ℕ) (s : Site) (fine : IsFineWorld w) (q : site_a
           let events : site_takes s ≡ one ∷ [] = rw (p, t) refl in
           subst (AllAllowed s.link) (sym events) (far_step i r t, tt)
 
-  takes_allowed : (e : End) → AllAllowed s.link (link_events_in h w (Takes e))
+  pub takes_allowed : (e : End) → AllAllowed s.link (link_events_in h w (Takes e))
   takes_allowed e = subst (AllAllowed s.link) (sym (let z : link_events_in h w (Takes e) ≡ takes_on s w e = rw q refl in z)) (go e.at_host (s.host == e.link))
     where
       go : (a b : Bool) → AllAllowed s.link (cond a (cond b (site_takes s) []) (controller_takes s.host w e.link))
@@ -147,7 +147,7 @@ module _ (w : NodeWorld) (h : ℕ) (s : Site) (fine : IsFineWorld w) (q : site_a
           let is : tick_so s.link late c d ≡ Ticks c [] d = rw r refl in
           subst (IsEvent s.link) (sym is) (tick_allowed s.link c d sends here.link.line)
 
-  ticks_allowed : AllAllowed s.link (link_events_in h w TimePassing)
+  pub ticks_allowed : AllAllowed s.link (link_events_in h w TimePassing)
   ticks_allowed =
       let t : Ticked w (world_step w TimePassing).0 h s = world_ticked w h s q in
       let c : Node × Bool = controller_tick_on s.host (all_aged w).0 in

@@ -23,7 +23,7 @@ use Rattle.settled_worlds.specs.worlds.LinkEvents.{ticks_on}
 
 -- ## Sites that change and keep their hosts
 
-site_map : (f : Site → Site) → ((s : Site) → (f s).host ≡ s.host) → (sites : List Site) (h : ℕ) (s : Site) → site_at sites h ≡ Some s
+pub site_map : (f : Site → Site) → ((s : Site) → (f s).host ≡ s.host) → (sites : List Site) (h : ℕ) (s : Site) → site_at sites h ≡ Some s
     → (site_at (map f sites) h ≡ Some (f s)) × (s.host ≡ h)
 site_map f keeps [] h s q = cc
 site_map f keeps (x ∷ sites) h s q = go (x.host == h) refl (site_map f keeps sites h s)
@@ -78,7 +78,7 @@ changed-host : (b : Bool) (f : Site → Site) (s : Site) → ((x : Site) → (f 
 changed-host true f s keeps = keeps s
 changed-host false f s keeps = refl
 
-changed_site : (k : ℕ) (f : Site → Site) → ((x : Site) → (f x).host ≡ x.host) → (sites : List Site) (h : ℕ) (s : Site) → site_at sites h ≡ Some s
+pub changed_site : (k : ℕ) (f : Site → Site) → ((x : Site) → (f x).host ≡ x.host) → (sites : List Site) (h : ℕ) (s : Site) → site_at sites h ≡ Some s
     → site_at (with_site k f sites) h ≡ Some (changed_if (s.host == k) f s)
 changed_site k f keeps sites h s q =
     (site_map (λ x. changed_if (x.host == k) f x) (λ x. changed-host (x.host == k) f x keeps) sites h s q).0

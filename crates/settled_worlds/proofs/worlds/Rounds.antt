@@ -83,7 +83,7 @@ module _ (hosts : List ℕ) where
 
 -- ## What is known of an undisturbed link
 
-known_start : Known new_line
+pub known_start : Known new_line
 known_start = record { good = start_good new_line IsLine; reached = start_reached new_line IsLine }
 
 pub known_there : (hosts : List ℕ) (w : NodeWorld) (h : ℕ) (s : Site) → IsReached hosts w → site_at w.sites h ≡ Some s → Known s.link

@@ -35,35 +35,35 @@ use Rattle.settled_worlds.proofs.worlds.WorldLaw.{settled}
 -- ## The ends of a round
 
 -- the ends of the links with these hosts
-abbrev ends_of : List ℕ → List End
+abbrev pub ends_of : List ℕ → List End
 ends_of [] = []
 ends_of (k ∷ hosts) = end_c k ∷ end_h k ∷ ends_of hosts
 
-order_is : (sites : List Site) → flat_map (λ (s : Site). end_c s.host ∷ end_h s.host ∷ []) sites ≡ ends_of (hosts_in sites)
+pub order_is : (sites : List Site) → flat_map (λ (s : Site). end_c s.host ∷ end_h s.host ∷ []) sites ≡ ends_of (hosts_in sites)
 order_is [] = refl
 order_is (s ∷ sites) = ap (λ es. end_c s.host ∷ end_h s.host ∷ es) (order_is sites)
 
-ends-append : (xs ys : List ℕ) → ends_of (xs ++ ys) ≡ ends_of xs ++ ends_of ys
+pub ends-append : (xs ys : List ℕ) → ends_of (xs ++ ys) ≡ ends_of xs ++ ends_of ys
 ends-append [] ys = refl
 ends-append (x ∷ xs) ys = ap (λ es. end_c x ∷ end_h x ∷ es) (ends-append xs ys)
 
 -- none of these is this host
-abbrev AreOthers : ℕ → List ℕ → Type 0
+abbrev pub AreOthers : ℕ → List ℕ → Type 0
 AreOthers h hosts = AllByRecursion (λ k. (h == k) ≡ false) hosts
 
 -- the hosts before this one and behind it
-record Split (h : ℕ) (hosts : List ℕ) : Type 0 where
-  before : List ℕ
-  behind : List ℕ
-  parts : hosts ≡ before ++ h ∷ behind
-  first : AreOthers h before
-  last : AreOthers h behind
+pub record Split (h : ℕ) (hosts : List ℕ) : Type 0 where
+  pub before : List ℕ
+  pub behind : List ℕ
+  pub parts : hosts ≡ before ++ h ∷ behind
+  pub first : AreOthers h before
+  pub last : AreOthers h behind
 
 turned_round : (h : ℕ) (hosts : List ℕ) → AllByRecursion (λ k. (k == h) ≡ false) hosts → AreOthers h hosts
 turned_round h [] a = tt
 turned_round h (k ∷ hosts) a = (swapped k h a.0, turned_round h hosts a.1)
 
-split : (sites : List Site) (h : ℕ) (s : Site) → AreDifferent (hosts_in sites) → site_at sites h ≡ Some s → Split h (hosts_in sites)
+pub split : (sites : List Site) (h : ℕ) (s : Site) → AreDifferent (hosts_in sites) → site_at sites h ≡ Some s → Split h (hosts_in sites)
 split [] h s d q = absurd (cc q)
 split (x ∷ sites) h s d q = go (x.host == h) refl (split sites h s d.1)
   where
@@ -87,7 +87,7 @@ split (x ∷ sites) h s d q = go (x.host == h) refl (split sites h s d.1)
           last = rest.last;
         }
 
-events-append : (h : ℕ) (xs ys : List End) (w : NodeWorld)
+pub events-append : (h : ℕ) (xs ys : List End) (w : NodeWorld)
     → ends_events h w (xs ++ ys) ≡ ends_events h w xs ++ ends_events h (ends_take_all w xs).0 ys
 events-append h [] ys w = refl
 events-append h (x ∷ xs) ys w =

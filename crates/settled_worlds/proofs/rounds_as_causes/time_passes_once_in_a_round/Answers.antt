@@ -1,0 +1,17 @@
+use Rattle.std.proofs.Common.{arith}
+use Rattle.settling_laws.proofs.messages.Rest.{first_rest}
+use Rattle.settled_worlds.specs.worlds.WorldRest.{world_after_round, world_rests, world_rounds_to_settle}
+use Rattle.settled_worlds.proofs.worlds.CausesOfRounds.{ticks_are}
+use Rattle.settled_worlds.proofs.rounds_as_causes.time_passes_once_in_a_round.Goals as goal
+
+pub returns-clause-rounds : goal.returns-clause-rounds
+returns-clause-rounds c = ticks_are
+
+pub returns-clause-settling : goal.returns-clause-settling
+returns-clause-settling c = λ n w. ticks_are (world_rounds_to_settle n w) w
+
+pub returns-clause-most : goal.returns-clause-most
+returns-clause-most c = λ n w.
+    let ticks = ticks_are (world_rounds_to_settle n w) w in
+    let most = (first_rest world_rests world_after_round n w).most in
+    omega (arith, ticks, most)
