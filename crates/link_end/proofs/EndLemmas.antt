@@ -1,5 +1,6 @@
 -- What parts of a step leave of a link end.
-use Rattle.std.proofs.Common.{◌≡◌, ◌≢◌, ℕ, ◌+◌, ◌<◌, ◌⊎◌, inl, inr, Bool, true, false, List, [], ◌∷◌, ◌++◌, length, map, drop, min, refl, sym, ap, ◌∙◌, subst}
+use Rattle.std.proofs.Common.{◌≡◌, ◌≢◌, ℕ, zero, suc, ◌+◌, ◌<◌, ◌⊎◌, inl, inr, Bool, true, false, List, [], ◌∷◌, ◌++◌, length, map, drop, min, refl}
+use Rattle.std.proofs.Common.{sym, ap, ◌∙◌, subst}
 use Rattle.std.specs.Prelude.{Option, Some, None, if◌then◌else◌}
 use Rattle.arrayvec.specs.ArrayVec.{ArrayVec}
 use Rattle.block_pool.specs.Owners.{owner_at}
@@ -102,6 +103,16 @@ refilled pool k m (inr four) h = record { halfway = h; full = inr (h.link.kept.s
 -- nothing waits
 pub none_waits : (pool : PoolState) (k : End) (m : Machine) → waiting_in pool k.outbox ≡ [] → Halfway k pool m → EndStandsFor k pool m
 none_waits pool k m none h = record { halfway = h; full = inl none }
+
+drop_of_none : (n : ℕ) → drop n (let l : List Fragment = [] in l) ≡ []
+drop_of_none zero = refl
+drop_of_none (suc n) = refl
+
+-- there is no message
+pub nothing_queued : (pool : PoolState) (k : End) (m : Machine) → k.outbox.queue.items ≡ [] → Halfway k pool m → EndStandsFor k pool m
+nothing_queued pool k m none h =
+    let cut = k.outbox.cut in
+    none_waits pool k m (ap (λ q. drop cut (fragments_of (messages_of_all pool q))) none ∙ drop_of_none cut) h
 
 -- ---- forgetting
 

@@ -1,7 +1,9 @@
 -- What the inputs of a link end do.
-use Rattle.std.proofs.Common.{◌≡◌, ℕ, ◌+◌, ◌-◌, Bool, true, false, [], drop, min, refl, sym, ap, ◌∙◌, subst, arith}
+use Rattle.std.proofs.Common.{◌≡◌, ℕ, ◌+◌, ◌-◌, ◌⊎◌, inl, inr, Bool, true, false, [], length, drop, min, refl, sym, ap, ◌∙◌, subst, arith}
+use Rattle.std.proofs.Common.{length-append}
 use Rattle.std.proofs.Math.Bool.{and-false}
 use Rattle.std.specs.Prelude.{Option, Some, None, is_some, ◌&&◌, if◌then◌else◌, nat_le}
+use Rattle.std.specs.Bool.{OnTrue, OnFalse}
 use Rattle.block_pool.specs.Pool.{PoolState}
 use Rattle.swp_base.specs.declared.control_frames.Control.{Control}
 use Rattle.swp_base.specs.declared.control_frames.Control.TheVariants.{I, S, Rset, Ua, Act as ActFrame, Clt}
@@ -83,6 +85,27 @@ same_session {m = m} before link out acked acc = record {
   differ = before.differ;
 }
 
+-- as many fragments are offered as before, where as many wait
+full_still : {W : Type 0} (before after acked now : ℕ) → W ⊎ (before ≡ acked + 4) → after ≡ before → now ≡ acked → W ⊎ (after ≡ now + 4)
+full_still before after acked now (inl none) same count = inl none
+full_still before after acked now (inr four) same count = inr (omega (arith, four, same, count))
+
+-- the same where what waits had no room before
+pub stays_full : {pool : PoolState} {k : End} {s : KeptEnd} {m : Machine} {e : EndState} → EndStandsFor k pool m
+    → StandsBefore s (waiting_in pool k.outbox) e → e.session.out ≡ m.shdlc.session.out → e.session.acked ≡ m.shdlc.session.acked
+    → e.session.acc ≡ m.shdlc.session.acc → EndStandsFor (record k { shdlc = s }) pool (moved m false e)
+unfolding same_session
+stays_full {pool} {k} {s} {m} {e} h link out acked acc =
+    let waiting = waiting_in pool k.outbox in
+    let was = h.halfway.link in
+    let all : length e.session.out ≡ length link.offered + length waiting = ap length link.out ∙ length-append link.offered waiting in
+    let all_before : length m.shdlc.session.out ≡ length was.offered + length waiting = ap length was.out ∙ length-append was.offered waiting in
+    let same : length link.offered ≡ length was.offered = omega (arith, all, all_before, ap length out) in
+    record {
+      halfway = same_session h.halfway link out acked acc;
+      full = full_still (length was.offered) (length link.offered) m.shdlc.session.acked e.session.acked h.full same acked;
+    }
+
 acc_in : (e : EndState) (old new answered : Bool)
     → (with_ready (record e { ready = old; session = record e.session { answered_rnr = answered } }) new).session.acc ≡ e.session.acc
 acc_in e true true a = refl
@@ -133,7 +156,7 @@ module _ {k : End} {pool : PoolState} {m : Machine} {s : KeptEnd} {t : Ticked} (
       subst P (ended_by_tick ended) (stands_ticked k.shdlc s waiting m.shdlc (record { stands = link; full = h.before.full })
       (h.stands (with_out m.shdlc link.offered) link.kept))
 
-  pub tick_ends : {new : PoolState} {k1 : End} → is_some t.ended ≡ true → ForgetsMessages pool new (record k { shdlc = s }) k1
+  tick_ends : {new : PoolState} {k1 : End} → is_some t.ended ≡ true → ForgetsMessages pool new (record k { shdlc = s }) k1
       → EndStandsFor k1 new (moved m (is_some (tick_answer m.shdlc).ended) (ticked m.shdlc))
   tick_ends {new} {k1} ended f =
       let a = alike pool k m h.before in
@@ -146,16 +169,24 @@ module _ {k : End} {pool : PoolState} {m : Machine} {s : KeptEnd} {t : Ticked} (
         acc = a.acc ∙ ap (λ b. left_waiting b m.shdlc.session.acc) over;
       }))
 
-  pub tick_goes_on : is_some t.ended ≡ false → Halfway (record k { shdlc = s }) pool (moved m (is_some (tick_answer m.shdlc).ended) (ticked m.shdlc))
+  tick_goes_on : is_some t.ended ≡ false → EndStandsFor (record k { shdlc = s }) pool (moved m (is_some (tick_answer m.shdlc).ended) (ticked m.shdlc))
   tick_goes_on going =
       let a = alike pool k m h.before in
       let over = ended_by_tick going in
-      let P : Bool → Type 0 = λ b. Halfway (record k { shdlc = s }) pool (moved m b (ticked m.shdlc)) in
+      let P : Bool → Type 0 = λ b. EndStandsFor (record k { shdlc = s }) pool (moved m b (ticked m.shdlc)) in
       subst P (sym over)
-      (same_session h.before.halfway (ticked_link going)
+      (stays_full h.before (ticked_link going)
       (a.out ∙ ap (λ b. left_waiting b m.shdlc.session.out) over)
       (a.acked ∙ ap (λ b. if b then 0 else m.shdlc.session.acked) over)
       (a.acc ∙ ap (λ b. left_waiting b m.shdlc.session.acc) over))
+
+  pub tick_stands : {new : PoolState} {k1 : End} (b : Bool) → is_some t.ended ≡ b → OnTrue b (ForgetsMessages pool new (record k { shdlc = s }) k1)
+      → OnFalse b ((k1 ≡ record k { shdlc = s }) × (new ≡ pool)) → EndStandsFor k1 new (moved m (is_some (tick_answer m.shdlc).ended) (ticked m.shdlc))
+  tick_stands true ended f g = tick_ends ended f
+  tick_stands {new} {k1} false ended f g =
+      let P : End → Type 0 = λ x. EndStandsFor x pool (moved m (is_some (tick_answer m.shdlc).ended) (ticked m.shdlc)) in
+      let Q : PoolState → Type 0 = λ p. EndStandsFor k1 p (moved m (is_some (tick_answer m.shdlc).ended) (ticked m.shdlc)) in
+      subst Q (sym g.1) (subst P (sym g.0) (tick_goes_on ended))
 
   pub tick_told : {n : LinkReport} → n ≡ nothing_told
       → record n { ended = t.ended; gave_up = t.gave_up } ≡ record nothing_told { ended = (tick_answer m.shdlc).ended; gave_up = (tick_answer m.shdlc).gave_up }

@@ -1,5 +1,5 @@
 //! ACT frames that wait to be fetched, in their places among the control frames of SHDLC.
-ghost use Rattle.std.specs.Prelude.{◌≡◌, ◌-◌, map, length};
+ghost use Rattle.std.specs.Prelude.{◌≡◌, ◌-◌, map, length, IfSome, IfNone};
 ghost use Rattle.link_end.specs.Dues.{kept_in_front, kept_nearer, front_act, behind_front};
 
 use arrayvec::ArrayVec;
@@ -38,8 +38,8 @@ pub fn bring_to_front(acts: &mut ArrayVec<ActDue, 8>)
     *acts = moved;
 }
 
-/// One SHDLC control frame fewer stands before each.
-pub fn bring_nearer(acts: &mut ArrayVec<ActDue, 8>)
+// One SHDLC control frame fewer stands before each.
+fn bring_nearer(acts: &mut ArrayVec<ActDue, 8>)
     ensures { acts.new.items ≡ map kept_nearer acts.old.items }
 {
     if acts.is_empty() {
@@ -55,8 +55,8 @@ pub fn bring_nearer(acts: &mut ArrayVec<ActDue, 8>)
     *acts = moved;
 }
 
-/// Takes the first one out, where no SHDLC control frame stands before it.
-pub fn take_front(acts: &mut ArrayVec<ActDue, 8>) -> Option<Act>
+// Takes the first one out, where no SHDLC control frame stands before it.
+fn take_front(acts: &mut ArrayVec<ActDue, 8>) -> Option<Act>
     ensures act { result ≡ front_act acts.old.items }
     ensures rest { acts.new.items ≡ behind_front acts.old.items }
 {
@@ -68,4 +68,33 @@ pub fn take_front(acts: &mut ArrayVec<ActDue, 8>) -> Option<Act>
     }
     acts.remove(0);
     Some(due.frame)
+}
+
+/// Takes the first one out where no SHDLC control frame stands before it, and it is the next frame to be sent. Where there is none,
+/// one SHDLC control frame fewer stands before each.
+pub fn next_act(acts: &mut ArrayVec<ActDue, 8>) -> Option<Act>
+    ensures act { result ≡ front_act acts.old.items }
+    ensures sent { IfSome result (λ _. acts.new.items ≡ behind_front acts.old.items) }
+    ensures nearer { IfNone result (acts.new.items ≡ map kept_nearer (behind_front acts.old.items)) }
+{
+    if acts.is_empty() {
+        return None;
+    }
+    next_of_some(acts)
+}
+
+// The same where some wait, which they seldom do.
+#[inline(never)]
+fn next_of_some(acts: &mut ArrayVec<ActDue, 8>) -> Option<Act>
+    ensures act { result ≡ front_act acts.old.items }
+    ensures sent { IfSome result (λ _. acts.new.items ≡ behind_front acts.old.items) }
+    ensures nearer { IfNone result (acts.new.items ≡ map kept_nearer (behind_front acts.old.items)) }
+{
+    match take_front(acts) {
+        Some(act) => Some(act),
+        None => {
+            bring_nearer(acts);
+            None
+        }
+    }
 }

@@ -4,7 +4,7 @@ ghost use Rattle.shdlc_core.specs.Kept.{ShdlcStandsFor};
 ghost use Rattle.shdlc_core.specs.Machine.{EndState, reset_with};
 
 use crate::activation::Activation;
-use crate::acts::{ActDue, bring_nearer, bring_to_front, take_front};
+use crate::acts::{ActDue, bring_to_front, next_act};
 use crate::parts::receive;
 use crate::report::{LinkReport, ResetRefused, SendRefused};
 use arrayvec::ArrayVec;
@@ -31,13 +31,14 @@ pub struct End {
 impl End {
     ghost use Rattle.std.specs.Prelude.{◌≡◌, ◌≢◌, ℕ, ◌+◌, ◌-◌, ◌<◌, ◌≤◌, [], map, length, true, false, None, Some, IfOk, IfErr, IfSome, OnOk, OnErr, is_some};
     ghost use Rattle.std.specs.Prelude.{option_map, if◌then◌else◌};
+    ghost use Rattle.std.specs.Bool.{OnTrue, OnFalse};
     ghost use Rattle.shdlc_core.specs.Offering.{StandsBefore};
     ghost use Rattle.shdlc_core.specs.Machine.{stopped, ticked, tick_answer};
     ghost use Rattle.block_pool.specs.Pool.{PoolState, used_of, chain_bytes};
     ghost use Rattle.hcp_packet.specs.Packets.{IsSendable};
     ghost use Rattle.link_machine.specs.Machine.{LinkEnd as Machine, moved, put_down, if_up, with_act, activated, heard, report, after_input, next_frame};
-    ghost use Rattle.link_machine.specs.Machine.{is_held, oldest, new_link_end, in_front as due_in_front};
-    ghost use Rattle.link_machine.specs.Machine.LinkInput.{Take, TakeUnknown, Tick, Reset, Start, Stop, FromNode, Fetch};
+    ghost use Rattle.link_machine.specs.Machine.{is_held, is_open, oldest, new_link_end, in_front as due_in_front};
+    ghost use Rattle.link_machine.specs.Machine.LinkInput.{Take, TakeUnknown, Reset, Start, Stop, FromNode, Fetch};
     ghost use Rattle.link_machine.specs.Machine.Turn.{Give, Hold, FetchMessage};
     ghost use Rattle.link_end.specs.Roles.{role_of, new_role, MayStart};
     ghost use Rattle.link_end.specs.Reports.{report_told, nothing_told, act_told, heard_told, give_told, pass_told, reset_told, IsShdlc};
@@ -92,6 +93,21 @@ impl End {
         ensures acts { self.new.acts ≡ self.old.acts }
         ensures pool { pool.new ≡ pool.old }
     {
+        if self.outbox.is_empty() {
+            return;
+        }
+        self.offer_more(pool);
+    }
+
+    // The same where messages wait.
+    fn offer_more(&mut self, pool: &mut Pool)
+        requires { OutboxLiesIn pool.old self.old.outbox }
+        ensures stands { (m : Machine) → Halfway self.old pool.old m → EndStandsFor self.new pool.new m }
+        ensures boxes { (self.new.outbox.queue ≡ self.old.outbox.queue) × (self.new.outbox.owner ≡ self.old.outbox.owner)
+            × (self.new.inbox ≡ self.old.inbox) }
+        ensures acts { self.new.acts ≡ self.old.acts }
+        ensures pool { pool.new ≡ pool.old }
+    {
         while self.shdlc.takes_fragment() {
             let Some(info) = self.outbox.next_fragment(pool) else {
                 return;
@@ -110,6 +126,20 @@ impl End {
         self.outbox.clear(pool);
         self.inbox.clear(pool);
         bring_to_front(&mut self.acts);
+    }
+
+    // The same where the session is over.
+    fn forget_if(&mut self, pool: &mut Pool, over: bool)
+        requires outbox { OutboxLiesIn pool.old self.old.outbox }
+        requires inbox { InboxLiesIn pool.old self.old.inbox }
+        requires differ { self.old.outbox.owner ≢ self.old.inbox.joiner.owner }
+        ensures over { OnTrue over (ForgetsMessages pool.old pool.new self.old self.new) }
+        ensures going { OnFalse over ((self.new ≡ self.old) × (pool.new ≡ pool.old)) }
+        ensures elsewhere { EndLeavesOthers pool.old pool.new self.old self.new }
+    {
+        if over {
+            self.forget(pool);
+        }
     }
 
     // The session is over, and the link is Down.
@@ -265,11 +295,10 @@ impl End {
         ensures answer { (m : Machine) → EndStandsFor self.old pool.old m → result ≡ report_told (report m (Take control.now)) }
         ensures elsewhere { EndLeavesOthers pool.old pool.new self.old self.new }
     {
-        if self.activation.is_open() {
-            self.hear(pool, control)
-        } else {
-            LinkReport::nothing()
+        if !self.activation.is_open() {
+            return LinkReport::nothing();
         }
+        self.hear(pool, control)
     }
 
     /// Takes a frame. It asks that the last message was fetched, and that no fetched one is still in the blocks for what comes, or
@@ -288,13 +317,14 @@ impl End {
                     act: *act,
                     again: *again,
                 };
-                self.event(pool, &event)
+                // A place of its own for this rare report: the common ones are then written only where they are read.
+                let report = self.event(pool, &event);
+                report
             }
             Control::Clt => self.pass_over(),
-            Control::I { .. } => self.hear_if_open(pool, control),
-            Control::S { .. } => self.hear_if_open(pool, control),
-            Control::Rset { .. } => self.hear_if_open(pool, control),
-            Control::Ua => self.hear_if_open(pool, control),
+            Control::I { .. } | Control::S { .. } | Control::Rset { .. } | Control::Ua => {
+                self.hear_if_open(pool, control)
+            }
         }
     }
 
@@ -307,23 +337,26 @@ impl End {
         self.pass_over()
     }
 
-    /// One tick of time. At most six control frames wait to be fetched before.
-    pub fn tick(&mut self, pool: &mut Pool) -> LinkReport
-        requires stands { (m : Machine) × EndStandsFor self.old pool.old m }
-        requires room { controls_in self.old ≤ 6 }
-        ensures stands { (m : Machine) → EndStandsFor self.old pool.old m → EndStandsFor self.new pool.new (after_input m Tick) }
-        ensures answer { (m : Machine) → EndStandsFor self.old pool.old m → result ≡ report_told (report m Tick) }
-        ensures elsewhere { EndLeavesOthers pool.old pool.new self.old self.new }
+    /// Whether frames of SHDLC are taken and sent.
+    pub fn is_open(&self) -> bool
+        ensures { result ≡ is_open (role_of self.now.activation) }
     {
-        if self.activation.is_open() {
-            self.tick_link(pool)
-        } else {
-            self.event(pool, &ActEvent::Tick)
-        }
+        self.activation.is_open()
     }
 
-    // One tick of an end that is open.
-    fn tick_link(&mut self, pool: &mut Pool) -> LinkReport
+    /// One tick of an end that isn't open. At most six control frames wait to be fetched before.
+    pub fn tick_activation(&mut self, pool: &mut Pool) -> LinkReport
+        requires stands { (m : Machine) × EndStandsFor self.old pool.old m }
+        requires room { controls_in self.old ≤ 6 }
+        ensures stands { (m : Machine) → EndStandsFor self.old pool.old m → EndStandsFor self.new pool.new (activated m ActEvent.Tick) }
+        ensures answer { (m : Machine) → EndStandsFor self.old pool.old m → result ≡ act_told m ActEvent.Tick }
+        ensures elsewhere { EndLeavesOthers pool.old pool.new self.old self.new }
+    {
+        self.event(pool, &ActEvent::Tick)
+    }
+
+    /// One tick of an end that is open.
+    pub fn tick_link(&mut self, pool: &mut Pool) -> LinkReport
         requires stands { (m : Machine) × EndStandsFor self.old pool.old m }
         requires room { length self.old.shdlc.due < 8 }
         ensures stands { (m : Machine) → EndStandsFor self.old pool.old m
@@ -333,17 +366,12 @@ impl End {
         ensures elsewhere { EndLeavesOthers pool.old pool.new self.old self.new }
     {
         let ticked = self.shdlc.tick();
-        let report = LinkReport {
+        self.forget_if(pool, ticked.ended.is_some());
+        LinkReport {
             ended: ticked.ended,
             gave_up: ticked.gave_up,
             ..LinkReport::nothing()
-        };
-        if ticked.ended.is_some() {
-            self.forget(pool);
-            return report;
         }
-        self.refill(pool);
-        report
     }
 
     /// Activation begins, with the sync identifier of a UICC or the power code of a CLF, which is 00 or 01. The link goes Down. It asks
@@ -480,12 +508,9 @@ impl End {
         ensures answer { (pool : PoolState) (m : Machine) → EndStandsFor self.old pool m → result ≡ next_frame m }
         ensures boxes { (self.new.outbox ≡ self.old.outbox) × (self.new.inbox ≡ self.old.inbox) }
     {
-        match take_front(&mut self.acts) {
+        match next_act(&mut self.acts) {
             Some(act) => Some(Control::Act { act, again: false }),
-            None => {
-                bring_nearer(&mut self.acts);
-                self.shdlc.next_out()
-            }
+            None => self.shdlc.next_out(),
         }
     }
 

@@ -220,7 +220,7 @@ impl LinkEnd {
     {
         match self.byte_link.feed(byte) {
             Unit::Nothing => LinkReport::nothing(),
-            Unit::Tick => self.link.tick(pool),
+            Unit::Tick => self.tick(pool),
             Unit::Frame(lpdu) => self.take_lpdu(pool, &lpdu),
             Unit::Refused(fault) => Self::take_broken(fault),
         }
@@ -235,7 +235,12 @@ impl LinkEnd {
         ensures elsewhere { EndLeavesOthers pool.old pool.new self.old.link self.new.link }
         ensures inputs { (self.new.deframer ≡ self.old.deframer) × (self.new.byte_link ≡ self.old.byte_link) }
     {
-        self.link.tick(pool)
+        if !self.link.is_open() {
+            // A place of its own for this rare report: the common one is then written only where it is read.
+            let report = self.link.tick_activation(pool);
+            return report;
+        }
+        self.link.tick_link(pool)
     }
 
     /// A reset of the link is asked for, with this window, which is 1 to 4, or with the end's own one. At most six control frames wait
@@ -292,10 +297,10 @@ impl LinkEnd {
         ensures boxes { (self.new.link.outbox ≡ self.old.link.outbox) × (self.new.link.inbox ≡ self.old.link.inbox) }
         ensures inputs { (self.new.deframer ≡ self.old.deframer) × (self.new.byte_link ≡ self.old.byte_link) }
     {
-        match self.link.next_out() {
-            Some(control) => Some(write_lpdu(&control)),
-            None => None,
-        }
+        let Some(control) = self.link.next_out() else {
+            return None;
+        };
+        Some(write_lpdu(&control))
     }
 
     /// The oldest message that came and wasn't fetched, with its pipe, in a chain that is the caller's from now on.

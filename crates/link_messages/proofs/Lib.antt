@@ -1,3 +1,4 @@
 pub mod Among
 pub mod OutgoingLemmas
 pub mod IncomingLemmas
+pub mod Fragments

@@ -1,12 +1,10 @@
 //! The messages that wait until they are acknowledged whole.
-ghost use Rattle.std.specs.Prelude.{◌≡◌, ◌^◌, ◌<◌, length, map, slice_get, Some};
+ghost use Rattle.std.specs.Prelude.{◌≡◌, ◌+◌, ◌^◌, ◌<◌, if◌then◌else◌, length, map, slice_get, Some};
 ghost use Rattle.block_pool.specs.Pool.{IsLive, chain_bytes};
 ghost use Rattle.hcp_packet.specs.Packets.{packet_count, packets_of, packet_bytes};
 
 use block_pool::{Chain, NoRoom, Pool};
 use circular_buffer::HeapCircularBuffer;
-use hcp_chain::cut;
-use hcp_packet::write_packet;
 use std::alloc::{AllocError, Global};
 use swp_base::Info;
 
@@ -56,6 +54,13 @@ impl Outbox {
             acked: 0,
             cut: 0,
         })
+    }
+
+    /// Whether no message waits.
+    pub fn is_empty(&self) -> bool
+        ensures { IsTrue result ↔ (self.now.queue.items ≡ []) }
+    {
+        self.queue.is_empty()
     }
 
     /// Takes a message of at most 4,096 bytes, which is copied into a chain of its own. `Err` comes where its blocks exceed what the
@@ -250,13 +255,18 @@ fn fragment_of(pool: &mut Pool, queued: &Queued, place: u32) -> Info
     ensures fragment { slice_get (map packet_bytes (packets_of queued.now.pipe (chain_bytes pool.old queued.now.chain))) place ≡ Some result }
     ensures unchanged { pool.new ≡ pool.old }
 {
-    let packet = cut(
-        pool,
-        &queued.chain,
-        queued.pipe,
-        place * hcp_packet::MAX_DATA as u32,
-    );
-    Info {
-        bytes: write_packet(&packet),
-    }
+    let from = place * hcp_packet::MAX_DATA as u32;
+    let last = pool.len(&queued.chain) - from <= hcp_packet::MAX_DATA as u32;
+    let mut bytes = [0; Info::MAX_LEN];
+    bytes[0] = first_byte(last, queued.pipe);
+    let count = pool.copy_on(&queued.chain, from, &mut bytes[1..]);
+    Info::new(&bytes[..1 + count])
+}
+
+/// The first byte of a packet.
+fn first_byte(last: bool, pipe: u8) -> u8
+    requires { pipe < 112 }
+    ensures { result ≡ (if last then 128 else 0) + pipe }
+{
+    if last { 0x80 + pipe } else { pipe }
 }

@@ -4,14 +4,14 @@ use Rattle.link_end.specs.Ends.{EndStandsFor}
 use Rattle.link_end.proofs.StepLemmas.{heard_after, unheard_after}
 use Rattle.link_end.proofs.«end».End.hear_if_open.Goals as goal
 
-pub returns-then-is_open-clause-stands : goal.returns-then-is_open-clause-stands
-returns-then-is_open-clause-stands c m h =
-    let o : is_open m.role ≡ true = sym (ap is_open h.halfway.role) ∙ (sym c.is_open.ensures ∙ c.if-is_open.true) in
+pub returns-clause-stands : goal.returns-clause-stands
+returns-clause-stands c m h =
+    let o : is_open m.role ≡ true = sym (ap is_open h.halfway.role) ∙ (sym c.is_open.ensures ∙ c.if-not-is_open.false) in
     let P : LinkEnd → Type 0 = λ x. EndStandsFor c.hear.new.self c.hear.new.pool x in
     subst P (sym (heard_after m c.args.control.now c.requires.frame o)) (c.hear.ensures.stands m h)
 
-pub returns-else-is_open-clause-stands : goal.returns-else-is_open-clause-stands
-returns-else-is_open-clause-stands c m h =
-    let o : is_open m.role ≡ false = sym (ap is_open h.halfway.role) ∙ (sym c.is_open.ensures ∙ c.if-is_open.false) in
+pub returns-then-not-is_open-clause-stands : goal.returns-then-not-is_open-clause-stands
+returns-then-not-is_open-clause-stands c m h =
+    let o : is_open m.role ≡ false = sym (ap is_open h.halfway.role) ∙ (sym c.is_open.ensures ∙ c.if-not-is_open.true) in
     let P : LinkEnd → Type 0 = λ x. EndStandsFor c.args.self.now c.args.pool.now x in
     subst P (sym (unheard_after m c.args.control.now c.requires.frame o)) h

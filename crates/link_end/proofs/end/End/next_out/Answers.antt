@@ -1,24 +1,22 @@
-use Rattle.std.proofs.Common.{map, ap, ◌∙◌}
-use Rattle.link_end.specs.Dues.{kept_nearer}
 use Rattle.link_end.proofs.NodeLemmas.{act_sent, link_sent}
 use Rattle.link_end.proofs.«end».End.next_out.Goals as goal
 
 pub returns-in-Some-clause-stands : goal.returns-in-Some-clause-stands
 returns-in-Some-clause-stands c pool m h =
-    (act_sent pool c.args.self.now c.take_front.new.acts m c.in-Some.act h c.in-Some.ensures.act c.in-Some.ensures.rest).1
+    (act_sent pool c.args.self.now c.next_act.new.acts m c.in-Some.act h c.in-Some.ensures.act c.in-Some.ensures.sent).1
 
 pub returns-in-Some-clause-answer : goal.returns-in-Some-clause-answer
 returns-in-Some-clause-answer c pool m h =
-    (act_sent pool c.args.self.now c.take_front.new.acts m c.in-Some.act h c.in-Some.ensures.act c.in-Some.ensures.rest).0
+    (act_sent pool c.args.self.now c.next_act.new.acts m c.in-Some.act h c.in-Some.ensures.act c.in-Some.ensures.sent).0
 
 pub returns-in-None-clause-stands : goal.returns-in-None-clause-stands
 returns-in-None-clause-stands c pool m h =
+    let a = c.in-None.ensures in
     let e = c.next_out.ensures in
-    let nearer = c.bring_nearer.ensures ∙ ap (map kept_nearer) c.in-None.ensures.rest in
-    (link_sent h (record { front = c.in-None.ensures.act; nearer = nearer; frame_is = e.frame; stands = e.stands })).1
+    (link_sent h (record { front = a.act; nearer = a.nearer; frame_is = e.frame; stands = e.stands })).1
 
 pub returns-in-None-clause-answer : goal.returns-in-None-clause-answer
 returns-in-None-clause-answer c pool m h =
+    let a = c.in-None.ensures in
     let e = c.next_out.ensures in
-    let nearer = c.bring_nearer.ensures ∙ ap (map kept_nearer) c.in-None.ensures.rest in
-    (link_sent h (record { front = c.in-None.ensures.act; nearer = nearer; frame_is = e.frame; stands = e.stands })).0
+    (link_sent h (record { front = a.act; nearer = a.nearer; frame_is = e.frame; stands = e.stands })).0

@@ -9,12 +9,12 @@ use Rattle.link_end.proofs.«end».End.take.Goals as goal
 
 pub returns-in-Act-clause-stands : goal.returns-in-Act-clause-stands
 returns-in-Act-clause-stands c m h =
-    let P : Control → Type 0 = λ x. EndStandsFor c.event.new.self c.event.new.pool (after_input m (Take x)) in
-    subst P (sym c.in-Act.is) (c.event.ensures.stands m h)
+    let P : Control → Type 0 = λ x. EndStandsFor c.event-report.new.self c.event-report.new.pool (after_input m (Take x)) in
+    subst P (sym c.in-Act.is) (c.event-report.ensures.stands m h)
 
 pub returns-in-Act-clause-answer : goal.returns-in-Act-clause-answer
 returns-in-Act-clause-answer c m h =
-    c.event.ensures.answer m h ∙ (act_is_told m c.in-Act.act c.in-Act.again ∙ ap (λ (x : Control). report_told (report m (Take x))) (sym c.in-Act.is))
+    c.event-report.ensures.answer m h ∙ (act_is_told m c.in-Act.act c.in-Act.again ∙ ap (λ (x : Control). report_told (report m (Take x))) (sym c.in-Act.is))
 
 pub returns-in-Clt-clause-stands : goal.returns-in-Clt-clause-stands
 returns-in-Clt-clause-stands c m h =

@@ -14,7 +14,7 @@ returns-in-Nothing-clause-answer c m seen h hs = c.nothing.ensures ∙ ap (λ (u
 
 pub returns-in-Tick-clause-stands : goal.returns-in-Tick-clause-stands
 returns-in-Tick-clause-stands c m seen h hs =
-    let P : Given → Type 0 = λ u. EndStandsFor c.tick.new.self c.tick.new.pool (after_some m (unit_input u)) in
+    let P : Given → Type 0 = λ u. EndStandsFor c.tick.new.self.link c.tick.new.pool (after_some m (unit_input u)) in
     subst P (c.in-Tick.ensures.answer seen hs) (c.tick.ensures.stands m h)
 
 pub returns-in-Tick-clause-answer : goal.returns-in-Tick-clause-answer

@@ -1,7 +1,7 @@
 use Rattle.std.proofs.Common.{◌≡◌, length}
 use Rattle.link_messages.specs.Outgoing.{waiting_in}
 use Rattle.link_end.proofs.EndLemmas.{Refills}
-use Rattle.link_end.proofs.«end».End.refill.Given as goal
+use Rattle.link_end.proofs.«end».End.offer_more.Given as goal
 
 abbrev pub invariant-loop-self : goal.invariant-loop-self
 invariant-loop-self l = Refills l.pool l.initial.self l.self × (l.pool ≡ l.initial.pool)
