@@ -1,12 +1,24 @@
 -- Lines that are read at once are what their rows say.
-use Rattle.std.proofs.Common.{◌≡◌, ℕ, List, [], ◌∷◌, false, refl, sym, ap, ◌∙◌, subst, arith, Option, Some, None, Ok, codes, is_some, IfNone}
+use Rattle.std.proofs.Common.{◌≡◌, ℕ, List, [], ◌∷◌, false, refl, sym, ap, ◌∙◌, subst, arith, Option, Some, None, Ok, codes, is_some}
+use Rattle.std.proofs.Common.{◌==◌, ◌≤◌, true, Bool, length}
+use Rattle.std.proofs.lemmas.Bool.{eqb-true}
+use Rattle.std.proofs.lemmas.List.Sums.{list_all-from_AllPass}
+use Rattle.std.specs.Option.{option_map, option_and_then}
+use Rattle.hex.specs.Hex.{decode_of, hex_digit_value, is_hex_digit}
+use Rattle.hex.proofs.HexLemmas.{decode_of-ok}
+use Rattle.trace_model.specs.declared.line.End.{End}
 use Rattle.trace_model.specs.declared.line.Header.{Header}
 use Rattle.trace_model.specs.declared.line.Line.TheVariants as line
 use Rattle.schedule_text.specs.declared.forms.Kind.TheVariants as kind
 use Rattle.schedule_text.specs.declared.read.Read.TheVariants as read
-use Rattle.schedule_text.specs.Values.{number_in}
+use Rattle.schedule_text.specs.Values.{number_in, byte_value, bytes_value, side_value, end_value}
 use Rattle.schedule_text.specs.Forms.{row_for, send_row, deliver_row, lose_row, reset_row, tick_row}
 use Rattle.schedule_text.specs.Lines.{by_row, number_at}
+use Rattle.schedule_text.specs.Words.{words, spaced}
+use Rattle.schedule_text.proofs.WordsLemmas.{is_letter}
+use Rattle.schedule_text.proofs.AgainLemmas.{IsWord, words-spaced}
+use Rattle.schedule_text.proofs.HexLemmas.{no_high, no_low, byte_of_others}
+use Rattle.schedule_text.proofs.LinesLemmas.{ok_of}
 use Rattle.schedule_text.proofs.RowsLemmas.{Fits}
 use Rattle.schedule_text.proofs.ReadAgainLemmas.{again}
 
@@ -53,7 +65,67 @@ ticks header ws a is n at =
     (sym (again header.hci header.hosts.items tick_row (a ∷ []) _ (record { least = omega arith; most = omega arith; words = ((n, number), tt) })
     (rw number refl)))
 
--- what holds where there is nothing
-pub where_none : {A : Type 0} (P : Type 0) (o : Option A) → false ≡ is_some o → IfNone o P → P
-where_none P None e h = h
-where_none P (Some x) e h = cc
+-- a hexadecimal digit is a letter
+digit_is_letter : (c : ℕ) → is_hex_digit c ≡ true → is_letter c ≡ true
+digit_is_letter c h = go (c == 32) refl
+  where
+    go : (t : Bool) → (c == 32) ≡ t → is_letter c ≡ true
+    go true e = let no : is_hex_digit 32 ≡ true = subst (λ n. is_hex_digit n ≡ true) (eqb-true c 32 e) h in cc no
+    go false e = rw e refl
+
+-- so are two
+byte_letters : (a b n : ℕ) → byte_value (a ∷ b ∷ []) ≡ Some n → (is_letter a ≡ true) × (is_letter b ≡ true)
+byte_letters a b n h = go (hex_digit_value a) refl (hex_digit_value b) refl
+  where
+    go : (x : Option ℕ) → hex_digit_value a ≡ x → (y : Option ℕ) → hex_digit_value b ≡ y → (is_letter a ≡ true) × (is_letter b ≡ true)
+    go None e y f = cc (no_high a b e ∙ h)
+    go (Some x) e None f = cc (no_low a b x e f ∙ h)
+    go (Some x) e (Some y) f = (digit_is_letter a (ap is_some e), digit_is_letter b (ap is_some f))
+
+-- and the letter of a side
+side_is_letter : (c : ℕ) (at_host : Bool) → side_value c ≡ Some at_host → is_letter c ≡ true
+side_is_letter c at_host h = go (c == 32) refl
+  where
+    go : (t : Bool) → (c == 32) ≡ t → is_letter c ≡ true
+    go true e = let no : side_value 32 ≡ Some at_host = subst (λ n. side_value n ≡ Some at_host) (eqb-true c 32 e) h in cc no
+    go false e = rw e refl
+
+-- an end is one word
+pub end_is_word : (word : List ℕ) (at : End) → end_value word ≡ Some at → IsWord word
+end_is_word [] at h = cc h
+end_is_word (a ∷ []) at h = cc h
+end_is_word (a ∷ b ∷ []) at h = cc h
+end_is_word (a ∷ b ∷ c ∷ d ∷ ds) at h = cc h
+end_is_word (a ∷ b ∷ c ∷ []) at h = go (byte_value (a ∷ b ∷ [])) refl (side_value c) refl h
+  where
+    go : (x : Option ℕ) → byte_value (a ∷ b ∷ []) ≡ x → (y : Option Bool) → side_value c ≡ y
+        → option_and_then (λ link. option_map (λ at_host. let e : End = record { link = link; at_host = at_host } in e) y) x ≡ Some at
+        → IsWord (a ∷ b ∷ c ∷ [])
+    go None e y f h = cc h
+    go (Some x) e None f h = cc h
+    go (Some x) e (Some y) f h =
+        let digits = byte_letters a b x e in
+        (omega arith, rw (digits.0, digits.1, side_is_letter c y f) refl)
+
+-- so is a message
+pub message_is_word : (word bytes : List ℕ) → bytes_value word ≡ Some bytes → 1 ≤ length bytes → IsWord word
+message_is_word word bytes h some =
+    let read = decode_of-ok word bytes (ok_of (decode_of word) bytes h) in
+    (omega (arith, read.2, some), list_all-from_AllPass is_letter word (λ k d within. digit_is_letter _ (read.1 k d within)))
+
+-- a space and one word
+pub one_word : (word : List ℕ) → IsWord word → words (32 ∷ word) ≡ word ∷ []
+one_word word h = words-spaced (word ∷ []) (h, tt)
+
+-- a byte is one word
+pub byte_is_word : (word : List ℕ) (n : ℕ) → byte_value word ≡ Some n → IsWord word
+byte_is_word [] n h = cc (sym (byte_of_others [] (λ e. omega arith)) ∙ h)
+byte_is_word (a ∷ []) n h = cc (sym (byte_of_others (a ∷ []) (λ e. omega arith)) ∙ h)
+byte_is_word (a ∷ b ∷ []) n h = let digits = byte_letters a b n h in (omega arith, rw (digits.0, digits.1) refl)
+byte_is_word (a ∷ b ∷ c ∷ ws) n h = cc (sym (byte_of_others (a ∷ b ∷ c ∷ ws) (λ e. omega arith)) ∙ h)
+
+-- three words, a space before each
+pub send_words : (a b c : List ℕ) (at : End) (pid : ℕ) (bytes : List ℕ) → end_value a ≡ Some at → byte_value b ≡ Some pid → bytes_value c ≡ Some bytes
+    → 1 ≤ length bytes → words (32 ∷ spaced (a ∷ b ∷ c ∷ [])) ≡ a ∷ b ∷ c ∷ []
+send_words a b c at pid bytes is_end is_byte is_message some =
+    words-spaced (a ∷ b ∷ c ∷ []) (end_is_word a at is_end, (byte_is_word b pid is_byte, (message_is_word c bytes is_message some, tt)))

@@ -1,10 +1,10 @@
 -- How growing text goes on.
-use Rattle.std.proofs.Common.{◌≡◌, ℕ, ◌+◌, ◌*◌, ◌≤◌, ◌/◌, ◌%◌, ◌<◌, List, [], ◌∷◌, ◌++◌, length, take, refl, sym, ◌∙◌, ap, subst, slice_index}
-use Rattle.std.proofs.Common.{append_assoc, get_or, ◌^◌, append-nil}
+use Rattle.std.proofs.Common.{◌≡◌, ℕ, ◌+◌, ◌*◌, ◌≤◌, ◌/◌, ◌%◌, ◌<◌, List, [], ◌∷◌, ◌++◌, length, take, refl, sym, ◌∙◌, ap, ap₂, subst, slice_index}
+use Rattle.std.proofs.Common.{append_assoc, get_or, ◌^◌, append-nil, arith}
 use Rattle.std.proofs.lemmas.List.{take_at, take_more}
 use Rattle.std.proofs.lemmas.Grind.{flat_map-append}
 use Rattle.std.specs.Fmt.{decimal}
-use Rattle.std.proofs.lemmas.Fmt.{decimal_step}
+use Rattle.std.proofs.lemmas.Fmt.{decimal_step, decimal_digit}
 use Rattle.hex.specs.Hex.{encode_with, encode_upper, upper_digits}
 use Rattle.hex.proofs.HexLemmas.{length-encode_with}
 use Rattle.schedule_text.specs.declared.text.Text.{Text}
@@ -73,6 +73,12 @@ pub encode-nil : encode_upper [] ≡ []
 unfolding encode_with
 encode-nil = refl
 
+-- the two digits of a byte
+pub two_digits_are : (b high low : ℕ) → high ≡ slice_index upper_digits (b / 16) → low ≡ slice_index upper_digits (b % 16)
+    → high ∷ low ∷ [] ≡ encode_upper (b ∷ [])
+unfolding encode_with
+two_digits_are b high low h l = ap₂ (λ x y. x ∷ y ∷ []) h l
+
 -- the digits of more bytes behind those of a front
 pub holds_digits : (start : Start) (text front more digits : List ℕ) (t : Text) → digits ≡ encode_upper more
     → HoldsText start ((text ++ encode_upper front) ++ digits) t → HoldsText start (text ++ encode_upper (front ++ more)) t
@@ -87,11 +93,24 @@ front_digits front more =
     ap (take (2 * length front)) (encode-append front more)
     ∙ take_at (encode_upper front) (encode_upper more) (2 * length front) (length-encode_with upper_digits front)
 
--- the last digit of a number
-pub holds_digit : (start : Start) (text : List ℕ) (n : ℕ) (t : Text) → 10 ≤ n → n < 2 ^ 64
-    → HoldsText start ((text ++ decimal (n / 10)) ++ ((48 + n % 10) ∷ [])) t → HoldsText start (text ++ decimal n) t
-holds_digit start text n t large fits h =
-    subst (λ x. HoldsText start x t) (append_assoc text (decimal (n / 10)) ((48 + n % 10) ∷ []) ∙ ap (λ t. text ++ t) (sym (decimal_step n large fits))) h
+-- a number of two digits
+pub two_decimals : (n : ℕ) → 10 ≤ n → n < 100 → decimal n ≡ (48 + n / 10) ∷ (48 + n % 10) ∷ []
+two_decimals n large small =
+    decimal_step n large (omega arith) ∙ ap (λ ds. ds ++ (48 + n % 10) ∷ []) (decimal_digit (n / 10) (omega arith))
+
+-- the last two digits of a number
+last_decimals : (n : ℕ) → 100 ≤ n → n < 2 ^ 64 → decimal n ≡ decimal (n / 100) ++ (48 + n / 10 % 10) ∷ (48 + n % 10) ∷ []
+last_decimals n large fits =
+    let hundreds : n / 10 / 10 ≡ n / 100 = omega arith in
+    decimal_step n (omega arith) fits ∙ ap (λ ds. ds ++ (48 + n % 10) ∷ []) (decimal_step (n / 10) (omega arith) (omega arith))
+    ∙ append_assoc (decimal (n / 10 / 10)) ((48 + n / 10 % 10) ∷ []) ((48 + n % 10) ∷ [])
+    ∙ ap (λ m. decimal m ++ (48 + n / 10 % 10) ∷ (48 + n % 10) ∷ []) hundreds
+
+pub holds_decimals : (start : Start) (text : List ℕ) (n : ℕ) (t : Text) → 100 ≤ n → n < 2 ^ 64
+    → HoldsText start ((text ++ decimal (n / 100)) ++ ((48 + n / 10 % 10) ∷ (48 + n % 10) ∷ [])) t → HoldsText start (text ++ decimal n) t
+holds_decimals start text n t large fits h =
+    subst (λ x. HoldsText start x t)
+    (append_assoc text (decimal (n / 100)) ((48 + n / 10 % 10) ∷ (48 + n % 10) ∷ []) ∙ ap (λ t. text ++ t) (sym (last_decimals n large fits))) h
 
 -- a line and what stands behind its LF
 pub holds_line : (start : Start) (text behind more : List ℕ) (t : Text) → behind ≡ more → HoldsText start ((text ++ (10 ∷ [])) ++ behind) t

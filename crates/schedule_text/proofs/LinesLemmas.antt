@@ -45,7 +45,7 @@ implied : (a b : Bool) → (not a || b) ≡ true → IsTrue a → IsTrue b
 implied true b h t = h
 implied false b h t = cc
 
-ok_of : (r : Result (List ℕ) FromHexError) (bytes : List ℕ) → result_ok r ≡ Some bytes → r ≡ Ok bytes
+pub ok_of : (r : Result (List ℕ) FromHexError) (bytes : List ℕ) → result_ok r ≡ Some bytes → r ≡ Ok bytes
 ok_of (Ok bs) bytes h = cc
 ok_of (Err e) bytes h = cc
 

@@ -1,10 +1,11 @@
-//! Lines of the few forms that most lines have are read at once where they have no fault. Each other line is left to the table of
-//! the forms.
-ghost use Rattle.std.specs.Prelude.{◌≡◌, ◌==◌, ◌||◌, not, codes, Some, None, Ok, IfSome};
+//! Lines of the few forms that most lines have are read at once where they have no fault and their words stand as they are written.
+//! Each other line is left to the table of the forms.
+ghost use Rattle.std.specs.Prelude.{◌≡◌, ◌==◌, ◌||◌, ◌≤◌, not, [], ◌∷◌, length, codes, Some, None, Ok, IfSome};
 ghost use Rattle.std.specs.List.{list_any};
 ghost use Rattle.trace_model.specs.declared.line.Line.TheVariants as line;
 ghost use Rattle.schedule_text.specs.declared.read.Read.TheVariants as read;
-ghost use Rattle.schedule_text.specs.Words.{words};
+ghost use Rattle.schedule_text.specs.Words.{words, spaced};
+ghost use Rattle.schedule_text.specs.Values.{bytes_value};
 ghost use Rattle.schedule_text.specs.Forms.{row_for};
 ghost use Rattle.schedule_text.specs.Lines.{by_row};
 
@@ -17,28 +18,55 @@ use trace_model::{End, Header, Octets};
 /// The most digits of a message (this project's own).
 const MOST_DIGITS: usize = 9000;
 
-/// The end, the pipe and the message of a line `send E PID HEX`, if it has no fault and there is memory for its message.
-#[inline]
+/// The end, the pipe and the message of a line `send E PID HEX`, if it has no fault, one space stands before each word and there is
+/// memory for its message.
+#[inline(never)]
 pub(crate) fn send_at_once(alloc: Global, header: &Header, rest: &[u8]) -> Option<(End, u8, Octets)>
     ensures { IfSome result (λ sent. Ok (read.Line (line.Send sent.0 sent.1 sent.2))
         ≡ by_row (Some header.now) (row_for (codes "send") (words rest.now)) (words rest.now)) }
 {
-    let (first, more) = next_word(rest)?;
-    let (second, more) = next_word(more)?;
-    let (third, more) = next_word(more)?;
-    if next_word(more).is_some() {
-        return None;
-    }
+    let (first, second, third) = three_words(rest)?;
     let at = end_of(first)?;
     let pid = byte_of(second)?;
     if !knows(header, at.link) || !may_send(header, at) || 0x70 <= pid {
         return None;
     }
-    if third.len() < 2 || MOST_DIGITS < third.len() {
+    let bytes = message_at_once(alloc, third)?;
+    Some((at, pid, Octets { bytes }))
+}
+
+/// Three words, the first of three letters and the second of two, if one space stands before each.
+#[inline(always)]
+fn three_words(rest: &[u8]) -> Option<(&[u8], &[u8], &[u8])>
+    ensures { IfSome result (λ found. rest.now ≡ 32 ∷ spaced (found.0.now ∷ found.1.now ∷ found.2.now ∷ [])) }
+{
+    let behind = behind_space(rest)?;
+    let (first, more) = behind.split_first_chunk::<3>()?;
+    let behind = behind_space(more)?;
+    let (second, more) = behind.split_first_chunk::<2>()?;
+    let third = behind_space(more)?;
+    Some((first, second, third))
+}
+
+/// What stands behind a space.
+#[inline(always)]
+fn behind_space(line: &[u8]) -> Option<&[u8]>
+    ensures { IfSome result (λ more. line.now ≡ 32 ∷ more.now) }
+{
+    let (letter, more) = line.split_first()?;
+    if *letter == b' ' { Some(more) } else { None }
+}
+
+/// The bytes of a message, if its digits are right and there is memory for them.
+#[inline(always)]
+fn message_at_once(alloc: Global, digits: &[u8]) -> Option<Vec<u8>>
+    ensures { IfSome result (λ bytes. (bytes_value digits.now ≡ Some bytes.items) × (1 ≤ length bytes.items) × (length bytes.items ≤ 4500)) }
+{
+    if digits.len() < 2 || MOST_DIGITS < digits.len() {
         return None;
     }
-    match hex::decode(alloc, third) {
-        Ok(bytes) => Some((at, pid, Octets { bytes })),
+    match hex::decode(alloc, digits) {
+        Ok(bytes) => Some(bytes),
         Err(_) => None,
     }
 }
@@ -50,8 +78,8 @@ fn may_send(header: &Header, at: End) -> bool
     !header.hci || at.at_host
 }
 
-/// The end of a line `deliver E`, `lose E` or `reset E`, if it has no fault.
-#[inline]
+/// The end of a line `deliver E`, `lose E` or `reset E`, if it has no fault and one space stands before the end.
+#[inline(always)]
 pub(crate) fn end_at_once(header: &Header, rest: &[u8]) -> Option<End>
     ensures deliver { IfSome result (λ at. Ok (read.Line (line.Deliver at None))
         ≡ by_row (Some header.now) (row_for (codes "deliver") (words rest.now)) (words rest.now)) }
@@ -60,15 +88,12 @@ pub(crate) fn end_at_once(header: &Header, rest: &[u8]) -> Option<End>
     ensures reset { IfSome result (λ at. Ok (read.Line (line.Reset at None))
         ≡ by_row (Some header.now) (row_for (codes "reset") (words rest.now)) (words rest.now)) }
 {
-    let (first, more) = next_word(rest)?;
-    if next_word(more).is_some() {
-        return None;
+    let at = end_of(behind_space(rest)?)?;
+    if knows(header, at.link) {
+        Some(at)
+    } else {
+        None
     }
-    let at = end_of(first)?;
-    if !knows(header, at.link) {
-        return None;
-    }
-    Some(at)
 }
 
 /// How many ticks a line `tick N` lets pass, if it has no fault.

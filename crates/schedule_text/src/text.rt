@@ -1,5 +1,5 @@
 //! Text that grows at the end of a vector until memory runs out.
-ghost use Rattle.std.specs.Prelude.{◌≡◌, ◌<◌, true, false, List, ℕ, [], ◌∷◌, ◌++◌, ◌+◌, ◌*◌, map, take, length, slice_index, if◌then◌else◌};
+ghost use Rattle.std.specs.Prelude.{◌≡◌, ◌<◌, true, false, List, ℕ, [], ◌∷◌, ◌++◌, ◌+◌, ◌*◌, ◌/◌, ◌%◌, map, take, length, slice_index, if◌then◌else◌};
 ghost use Rattle.std.specs.Fmt.{decimal};
 ghost use Rattle.hex.specs.Hex.{encode_upper, upper_digits};
 ghost use Rattle.schedule_text.specs.Entries.{end_text, byte_text, two_bytes_text, number_words};
@@ -219,8 +219,12 @@ impl Text {
         ensures { (start : Start) (first : List ℕ) (more : List (List ℕ)) → HoldsWords start (first ∷ more) self.old
             → HoldsWords start (first ∷ (more ++ end_text at ∷ [])) self.new }
     {
-        self.byte(at.link);
-        self.push(&[side_letter(at.at_host)]);
+        self.push(&[
+            b' ',
+            high_digit(at.link),
+            low_digit(at.link),
+            side_letter(at.at_host),
+        ]);
     }
 
     /// Appends a space and a byte as two hexadecimal digits.
@@ -229,8 +233,7 @@ impl Text {
         ensures { (start : Start) (first : List ℕ) (more : List (List ℕ)) → HoldsWords start (first ∷ more) self.old
             → HoldsWords start (first ∷ (more ++ byte_text byte ∷ [])) self.new }
     {
-        self.push(b" ");
-        self.push(&hex_digits(byte));
+        self.push(&[b' ', high_digit(byte), low_digit(byte)]);
     }
 
     /// Appends a space and bytes as pairs of hexadecimal digits.
@@ -248,8 +251,22 @@ impl Text {
         }
     }
 
-    /// Appends bytes as pairs of hexadecimal digits, 32 bytes at once.
+    /// Appends bytes as pairs of hexadecimal digits.
+    #[inline]
     fn pairs(&mut self, bytes: &[u8])
+        ensures { (start : Start) (text : List ℕ) → HoldsText start text self.old
+            → HoldsText start (text ++ encode_upper bytes.now) self.new }
+    {
+        if bytes.len() < 8 {
+            self.each_pair(bytes);
+        } else {
+            self.many_pairs(bytes);
+        }
+    }
+
+    /// Appends bytes as pairs of hexadecimal digits, 32 bytes at once.
+    #[inline(never)]
+    fn many_pairs(&mut self, bytes: &[u8])
         ensures { (start : Start) (text : List ℕ) → HoldsText start text self.old
             → HoldsText start (text ++ encode_upper bytes.now) self.new }
     {
@@ -258,11 +275,7 @@ impl Text {
             self.push(&all_digits(piece));
             left = more;
         }
-        if left.len() < 8 {
-            self.each_pair(left);
-        } else {
-            self.few_pairs(left);
-        }
+        self.few_pairs(left);
     }
 
     /// Appends bytes as pairs of hexadecimal digits, one by one.
@@ -271,7 +284,7 @@ impl Text {
             → HoldsText start (text ++ encode_upper bytes.now) self.new }
     {
         for byte in bytes {
-            self.push(&hex_digits(*byte));
+            self.push(&[high_digit(*byte), low_digit(*byte)]);
         }
     }
 
@@ -296,6 +309,10 @@ impl Text {
             self.push(&[b' ', b'0' + number as u8]);
             return;
         }
+        if number < 100 {
+            self.push(&[b' ', b'0' + (number / 10) as u8, b'0' + (number % 10) as u8]);
+            return;
+        }
         self.push(b" ");
         self.digits(number);
     }
@@ -317,8 +334,12 @@ impl Text {
             self.push(&[b'0' + number as u8]);
             return;
         }
-        self.digits(number / 10);
-        self.push(&[b'0' + (number % 10) as u8]);
+        if number < 100 {
+            self.push(&[b'0' + (number / 10) as u8, b'0' + (number % 10) as u8]);
+            return;
+        }
+        self.digits(number / 100);
+        self.push(&[b'0' + (number / 10 % 10) as u8, b'0' + (number % 10) as u8]);
     }
 }
 
@@ -346,14 +367,18 @@ fn digit(value: u8) -> u8
     }
 }
 
-#[tactic(auto, unfolding(hex::specs::Hex::encode_with))]
-fn hex_digits(byte: u8) -> [u8; 2]
-    ensures { result ≡ byte_text byte }
+/// The first of a byte's two hexadecimal digits.
+fn high_digit(byte: u8) -> u8
+    ensures { result ≡ slice_index upper_digits (byte / 16) }
 {
-    [
-        DIGITS[usize::from(byte / 16)],
-        DIGITS[usize::from(byte % 16)],
-    ]
+    DIGITS[usize::from(byte / 16)]
+}
+
+/// The second of a byte's two hexadecimal digits.
+fn low_digit(byte: u8) -> u8
+    ensures { result ≡ slice_index upper_digits (byte % 16) }
+{
+    DIGITS[usize::from(byte % 16)]
 }
 
 fn side_letter(at_host: bool) -> u8

@@ -42,7 +42,7 @@ fn digit_of(digit: u8) -> Option<u8>
 }
 
 /// The end that a word names, as `02c` or `02h`.
-#[inline]
+#[inline(always)]
 pub(crate) fn end_of(word: &[u8]) -> Option<End>
     ensures { result ≡ end_value word.now }
 {

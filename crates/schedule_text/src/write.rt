@@ -263,7 +263,7 @@ fn write_words(text: &mut Text, entry: &Entry)
         Entry::Tables { node, tables } => write_counts(text, *node, tables.tables()),
         Entry::Settled { rounds } => text.entry(b"settled", &[Number(*rounds)]),
         Entry::No { cause } => {
-            text.entry(b"no", &[]);
+            text.push(b"no");
             write_cause(text, *cause);
         }
     }
@@ -282,7 +282,9 @@ fn write_at_word(text: &mut Text, word: &[u8], at: At, other: &[u8])
     ensures { (start : Start) → HoldsText start [] text.old
         → HoldsWords start (word.now ∷ end_text at ∷ other.now ∷ []) text.new }
 {
-    text.entry(word, &[End(at), Word(other)]);
+    text.push(word);
+    text.end(at);
+    text.word(other);
 }
 
 #[inline(never)]
@@ -298,7 +300,9 @@ fn write_at_number(text: &mut Text, word: &[u8], at: At, number: u32)
     ensures { (start : Start) → HoldsText start [] text.old
         → HoldsWords start (word.now ∷ end_text at ∷ decimal number ∷ []) text.new }
 {
-    text.entry(word, &[End(at), Number(number)]);
+    text.push(word);
+    text.end(at);
+    text.short_number(number);
 }
 
 #[inline(always)]
@@ -355,10 +359,10 @@ fn write_loss(text: &mut Text, at: At, bytes: &[u8], cause: LostCause)
     ensures { (start : Start) → HoldsText start [] text.old
         → HoldsWords start (codes "lost" ∷ end_text at ∷ encode_upper bytes.now ∷ lost_word cause ∷ []) text.new }
 {
-    text.entry(
-        b"lost",
-        &[End(at), Bytes(bytes), Word(cause_of_loss(cause))],
-    );
+    text.push(b"lost");
+    text.end(at);
+    text.hex(bytes);
+    text.word(cause_of_loss(cause));
 }
 
 #[inline(always)]
@@ -593,18 +597,18 @@ fn write_cause(text: &mut Text, cause: NoCause)
         → HoldsWords start (first ∷ (more ++ cause_words cause)) text.new }
 {
     match cause {
-        NoCause::Off => text.parts(&[Word(b"off")]),
-        NoCause::Running => text.parts(&[Word(b"running")]),
-        NoCause::Inactive => text.parts(&[Word(b"inactive")]),
-        NoCause::NotUp => text.parts(&[Word(b"not-up")]),
-        NoCause::Waiting => text.parts(&[Word(b"waiting")]),
-        NoCause::TooLong => text.parts(&[Word(b"too-long")]),
+        NoCause::Off => text.word(b"off"),
+        NoCause::Running => text.word(b"running"),
+        NoCause::Inactive => text.word(b"inactive"),
+        NoCause::NotUp => text.word(b"not-up"),
+        NoCause::Waiting => text.word(b"waiting"),
+        NoCause::TooLong => text.word(b"too-long"),
         NoCause::Full { need, spare } => text.parts(&[
             Word(b"full"),
             Number(u32::from(need)),
             Number(u32::from(spare)),
         ]),
-        NoCause::Empty => text.parts(&[Word(b"empty")]),
+        NoCause::Empty => text.word(b"empty"),
         NoCause::Beyond { bits } => text.parts(&[Word(b"beyond"), Number(u32::from(bits))]),
     }
 }

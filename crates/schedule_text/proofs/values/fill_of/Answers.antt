@@ -1,4 +1,3 @@
-use Rattle.std.proofs.Common.{◌<◌, ◌/◌, length}
 use Rattle.schedule_text.proofs.HexLemmas.{too_long}
 use Rattle.schedule_text.proofs.values.fill_of.Goals as goal
 

@@ -13,4 +13,4 @@ returns-in-Command c =
     λ start h. rw c.in-Command.is (c.write_command.ensures start (codes "command") (byte_text c.in-Command.node ∷ []) (c.write_node.ensures start h))
 
 pub returns-in-No : goal.returns-in-No
-returns-in-No c = λ start h. rw c.in-No.is (c.write_cause.ensures start (codes "no") [] (c.entry-in-No.ensures start h))
+returns-in-No c = λ start h. rw c.in-No.is (c.write_cause.ensures start (codes "no") [] (c.push.ensures start [] h))

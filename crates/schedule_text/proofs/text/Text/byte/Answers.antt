@@ -1,13 +1,14 @@
-use Rattle.std.proofs.Common.{[], ◌∷◌, ◌++◌, subst}
+use Rattle.std.proofs.Common.{◌∷◌, ◌++◌, subst}
 use Rattle.schedule_text.specs.Words.{spaced}
 use Rattle.schedule_text.specs.Entries.{byte_text}
 use Rattle.schedule_text.specs.Growth.{HoldsText}
-use Rattle.schedule_text.proofs.GrowthLemmas.{holds_word}
+use Rattle.schedule_text.proofs.GrowthLemmas.{holds_spaced, two_digits_are}
 use Rattle.schedule_text.proofs.text.Text.byte.Goals as goal
 
 pub returns : goal.returns
 returns c =
     λ start first more h.
-    holds_word start first (byte_text c.args.byte) more _
-    (subst (λ digits. HoldsText start ((spaced (first ∷ more) ++ (32 ∷ [])) ++ digits) c.push-2.new.self) c.hex_digits.ensures
-    (c.push-2.ensures start (spaced (first ∷ more) ++ (32 ∷ [])) (c.push.ensures start (spaced (first ∷ more)) h)))
+    holds_spaced start first (byte_text c.args.byte) more _
+    (subst (λ digits. HoldsText start (spaced (first ∷ more) ++ (32 ∷ digits)) c.push.new.self)
+    (two_digits_are c.args.byte c.high_digit.result c.low_digit.result c.high_digit.ensures c.low_digit.ensures)
+    (c.push.ensures start (spaced (first ∷ more)) h))

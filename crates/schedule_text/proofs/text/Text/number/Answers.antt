@@ -3,7 +3,7 @@ use Rattle.std.specs.Fmt.{decimal}
 use Rattle.std.proofs.lemmas.Fmt.{decimal_digit}
 use Rattle.schedule_text.specs.Words.{spaced}
 use Rattle.schedule_text.specs.Growth.{HoldsText}
-use Rattle.schedule_text.proofs.GrowthLemmas.{holds_word, holds_spaced}
+use Rattle.schedule_text.proofs.GrowthLemmas.{holds_word, holds_spaced, two_decimals}
 use Rattle.schedule_text.proofs.text.Text.number.Goals as goal
 
 pub returns-then-number-lt10 : goal.returns-then-number-lt10
@@ -12,6 +12,14 @@ returns-then-number-lt10 c =
     holds_spaced start first (decimal c.args.number) more _
     (subst (λ ds. HoldsText start (spaced (first ∷ more) ++ (32 ∷ ds)) c.push.new.self) (sym (decimal_digit c.args.number (omega arith)))
     (c.push.ensures start (spaced (first ∷ more)) h))
+
+pub returns-then-number-lt100 : goal.returns-then-number-lt100
+returns-then-number-lt100 c =
+    λ start first more h.
+    holds_spaced start first (decimal c.args.number) more _
+    (subst (λ ds. HoldsText start (spaced (first ∷ more) ++ (32 ∷ ds)) c.push-then-number-lt100.new.self)
+    (sym (two_decimals c.args.number (omega arith) (omega arith)))
+    (c.push-then-number-lt100.ensures start (spaced (first ∷ more)) h))
 
 pub returns : goal.returns
 returns c =

@@ -3,7 +3,7 @@ use Rattle.std.proofs.Common.{take-append-drop}
 use Rattle.hex.specs.Hex.{encode_upper}
 use Rattle.schedule_text.specs.Growth.{HoldsText}
 use Rattle.schedule_text.proofs.GrowthLemmas.{encode-nil, holds_digits}
-use Rattle.schedule_text.proofs.text.Text.pairs.Goals as goal
+use Rattle.schedule_text.proofs.text.Text.many_pairs.Goals as goal
 
 pub pieces-init : goal.pieces-init
 pieces-init c = (
@@ -30,15 +30,8 @@ pieces-preserved c =
       ),
     )
 
-pub returns-then-left-lt8 : goal.returns-then-left-lt8
-returns-then-left-lt8 c =
-    λ start text h.
-    let front = c.pieces.invariant.0 in
-    subst (λ bs. HoldsText start (text ++ encode_upper bs) c.each_pair.new.self) c.pieces.invariant.1.0
-    (holds_digits start text front c.pieces.left.now _ _ refl (c.each_pair.ensures start _ (c.pieces.invariant.1.1 start text h)))
-
-pub returns-else-left-lt8 : goal.returns-else-left-lt8
-returns-else-left-lt8 c =
+pub returns : goal.returns
+returns c =
     λ start text h.
     let front = c.pieces.invariant.0 in
     subst (λ bs. HoldsText start (text ++ encode_upper bs) c.few_pairs.new.self) c.pieces.invariant.1.0

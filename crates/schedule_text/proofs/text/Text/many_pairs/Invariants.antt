@@ -1,7 +1,7 @@
 use Rattle.std.proofs.Common.{◌≡◌, List, ℕ, ◌++◌, length}
 use Rattle.hex.specs.Hex.{encode_upper}
 use Rattle.schedule_text.specs.Growth.{Start, HoldsText}
-use Rattle.schedule_text.proofs.text.Text.pairs.Given as goal
+use Rattle.schedule_text.proofs.text.Text.many_pairs.Given as goal
 
 -- the digits of a front of the bytes were appended
 abbrev pub invariant-pieces : goal.invariant-pieces
