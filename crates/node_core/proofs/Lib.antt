@@ -10,6 +10,7 @@ pub mod Allowing
 pub mod Passing
 pub mod Spares
 mod Sendables
+mod Relays
 mod Elsewhere
 pub mod EndKinds
 pub mod Notes

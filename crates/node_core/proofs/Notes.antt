@@ -1,7 +1,7 @@
 -- Entries that are noted one after another.
-use Rattle.std.proofs.Common.{◌≡◌, ℕ, Bool, true, false, List, [], ◌∷◌, ◌++◌, map, refl, sym, ap, ◌∙◌, subst, append_assoc, append-nil}
-use Rattle.std.specs.Prelude.{Option, Some, None, option_to_list, if◌then◌else◌}
-use Rattle.std.proofs.lemmas.Bool.{true≢false}
+use Rattle.std.proofs.Common.{◌≡◌, ℕ, zero, suc, Bool, true, false, not, List, [], ◌∷◌, ◌++◌, map, refl, sym, ap, ◌∙◌, subst, append_assoc, append-nil, arith}
+use Rattle.std.specs.Prelude.{Option, Some, None, is_none, is_some, ◌==◌, ◌&&◌, option_to_list, if◌then◌else◌}
+use Rattle.std.proofs.lemmas.Bool.{eqb-true, true≢false}
 use Rattle.std.proofs.lemmas.Grind.{flat_map-append}
 use Rattle.std.proofs.lemmas.List.{map-append}
 use Rattle.trace_model.specs.declared.entry.Entry.{Entry}
@@ -10,7 +10,7 @@ use Rattle.history.specs.Steps.{entry_of, entries_for}
 use Rattle.swp_base.specs.declared.link_terms.Cause.{Cause}
 use Rattle.std.specs.Prelude.{nat_lt}
 use Rattle.trace_model.specs.declared.entry.Entry.TheVariants as entry
-use Rattle.link_machine.specs.Machine.{Message, Report}
+use Rattle.link_machine.specs.Machine.{Message, Report, oldest}
 use Rattle.link_entries.specs.entries.Entries.{End as Side, if_so, told}
 use Rattle.link_entries.specs.entries.Entries.Entry.{Up, Down, Active, GaveUp, Acked, Got}
 use Rattle.history.specs.Steps.{end_of}
@@ -23,7 +23,7 @@ use Rattle.node_ends.specs.declared.ends.Ends.{Ends}
 use Rattle.node_ends.specs.Ends.{EndsStandFor}
 use Rattle.node_core.specs.declared.node.Node.{Node}
 use Rattle.node_core.specs.Nodes.{IsInStep}
-use Rattle.node_core.specs.Noting.{AreNotes, without_message, unnumbered}
+use Rattle.node_core.specs.Noting.{AreNotes, tells_nothing, without_message, unnumbered}
 
 -- nothing is noted
 pub no_notes : (short : Bool) (before : List Entry) → AreNotes short short before before []
@@ -132,6 +132,31 @@ told_plain h who n x acked =
     ∙ ap (λ l. entries_for h u ++ l) (append_assoc (entries_for h a) (entries_for h v ++ entries_for h k) g
     ∙ ap (λ l. entries_for h a ++ l) (append_assoc (entries_for h v) (entries_for h k) g)))
     ∙ sym numbered))
+
+-- ## Nothing is noted
+
+first_true : (a b : Bool) → (a && b) ≡ true → a ≡ true
+first_true true b q = refl
+first_true false b q = absurd (true≢false (sym q))
+
+nothing : (h : ℕ) (who : Side) (n acked : ℕ) (o : Option Cause) (b a : Bool) (v : Option ℕ) (k : ℕ) (ms : List Message)
+    → (is_none o && (not b && (not a && (is_none v && ((k == 0) && not (is_some (oldest ms))))))) ≡ true
+    → map (Down who) (option_to_list o) ++ (if_so b (Up who n) ++ (if_so a (Active who)
+    ++ (map (GaveUp who) (option_to_list v) ++ (if_so (nat_lt 0 k) (Acked who n acked) ++ map (Got who n) ms)))) ≡ []
+nothing h who n acked None false false None zero [] q = refl
+nothing h who n acked None false false None zero (m ∷ ms) q = absurd (true≢false (sym q))
+nothing h who n acked None false false None (suc k) ms q =
+    let e = eqb-true (suc k) 0 (first_true (suc k == 0) (not (is_some (oldest ms))) q) in absurd (omega (arith, e))
+nothing h who n acked None false false (Some v) k ms q = absurd (true≢false (sym q))
+nothing h who n acked None false true v k ms q = absurd (true≢false (sym q))
+nothing h who n acked None true a v k ms q = absurd (true≢false (sym q))
+nothing h who n acked (Some o) b a v k ms q = absurd (true≢false (sym q))
+
+pub told_nothing : (h : ℕ) (who : Side) (n : ℕ) (x : Report) (acked : ℕ) → tells_nothing (report_told x) ≡ true
+    → [] ≡ map unnumbered (entries_for h (told who n x acked))
+told_nothing h who n x acked q =
+    ap (λ (es : List Noted). map unnumbered (entries_for h es))
+    (sym (nothing h who n acked x.ended x.began x.became_active x.gave_up x.acked x.got q))
 
 -- ## A node in a step
 

@@ -1,21 +1,25 @@
 -- A node goes through its ends, one after another.
 use Rattle.std.proofs.Common.{◌≡◌, ◌≢◌, ℕ, suc, ◌≤◌, Bool, true, false, not, List, [], ◌∷◌, map, drop, length, refl, sym, ap, ◌∙◌, subst, arith}
-use Rattle.std.specs.Prelude.{Some, None, option_map, slice_get}
+use Rattle.std.specs.Prelude.{Option, Some, None, option_map, slice_get, ◌==◌, ◌&&◌}
+use Rattle.std.specs.Option.{option_map_or}
+use Rattle.std.proofs.lemmas.Bool.{eqb-true, true≢false}
 use Rattle.std.specs.List.{AllByRecursion}
 use Rattle.std.proofs.lemmas.List.{drop_all}
 use Rattle.trace_model.specs.declared.entry.Entry.{Entry}
-use Rattle.link_machine.specs.Machine.{Message}
+use Rattle.link_machine.specs.Machine.{Message, is_held}
 use Rattle.node_machine.specs.Parts.{Port, Work}
 use Rattle.node_machine.specs.Carrying.{port_at}
-use Rattle.node_machine.specs.Turns.{have_turns, goes_through_ends, passes}
-use Rattle.node_ends.specs.Ends.{FewAreDue, got_at}
+use Rattle.node_machine.specs.Turns.{lets_go, have_turns, goes_through_ends, passes}
+use Rattle.node_ends.specs.Ends.{FewAreDue, got_at, held_at, rests}
 use Rattle.node_ends.specs.Making.{AreAllDifferent}
 use Rattle.node_core.specs.declared.node.Node.{Node}
 use Rattle.node_core.specs.Nodes.{IsInStep}
 use Rattle.node_core.specs.Bringing.{Brings, Foretells, plan_left}
 use Rattle.node_core.specs.Turning.{IsNodeInOrder, AreFewDue}
 use Rattle.node_core.proofs.Joining.{brings_plain, brings_then, brings_cut}
-use Rattle.node_core.proofs.HavingTurns.{brings_same}
+use Rattle.node_core.proofs.HavingTurns.{brings_same, stays, let_cut, let_writes, let_anyway}
+use Rattle.node_core.proofs.Steps.{plainly}
+use Rattle.node_core.proofs.Ticking.{found_there}
 use Rattle.node_core.proofs.Ordering.{turns_fine, stays_in_order}
 use Rattle.node_core.proofs.Elsewhere.{host_at, turns_hosts, turns_few, few_at_all, hosts_differ, different_left, next_host, no_host, as_many_hosts}
 
@@ -39,6 +43,22 @@ module _ {N : Type 0} (writes : N → ℕ → List ℕ → Bool → N → Type 0
   pub all_passed : {old new : N} {S : Work → Type 0} {w : Work} → Brings writes old new S (goes_through_ends (map (λ (p : Port). p.desk.host) w.ports)) w
       → Brings writes old new S passes w
   all_passed b = brings_same b (λ plan. refl)
+
+first_true : (a b : Bool) → (a && b) ≡ true → a ≡ true
+first_true true b q = refl
+first_true false b q = absurd (true≢false (sym q))
+
+-- an end that rests
+none_waits : (ms : List Message) (held : Bool) → ((length ms == 0) && not held) ≡ true → ms ≡ []
+none_waits [] held q = refl
+none_waits (m ∷ ms) held q =
+    let e = eqb-true (length (m ∷ ms)) 0 (first_true (length (m ∷ ms) == 0) (not held) q) in absurd (omega (arith, e))
+
+not_held : (ms : List Message) (held : Bool) → ((length ms == 0) && not held) ≡ true → held ≡ false
+not_held ms false q = refl
+not_held [] true q = absurd (true≢false (sym q))
+not_held (m ∷ ms) true q =
+    let e = eqb-true (length (m ∷ ms)) 0 (first_true (length (m ∷ ms) == 0) false q) in absurd (omega (arith, e))
 
 -- ## One end after another
 
@@ -126,6 +146,29 @@ pass_goes_on {N} {writes} {first} {n} {n2} {start = start} {i = i} {w = w} k h i
           (goes_through_ends hosts) k.now in
           k.onto last notes full (subst G (sym split) (one_more writes h left b live c));
     }
+
+-- nothing is left to do at the next end: its turns do nothing
+pub pass_rests : {N : Type 0} {writes : N → ℕ → List ℕ → Bool → N → Type 0} {first n : Node N} {noted start : List Entry} {short : Bool} {i : ℕ} {w : Work}
+    (k : PassesOn writes first n noted short start i w) → option_map_or rests (slice_get k.now.ports i) false ≡ true → n.store.journal.live ≡ true
+    → PassesOn writes first n noted short start (suc i) w
+pass_rests {N} {writes} {first} {n} {noted} {start} {short} {i} {w} k none live = by (slice_get k.now.ports i) refl
+  where
+    by : (o : Option Port) → slice_get k.now.ports i ≡ o → PassesOn writes first n noted short start (suc i) w
+    by None q = absurd (true≢false (sym none ∙ ap (λ (o : Option Port). option_map_or rests o false) q))
+    by (Some p) q =
+        let h = p.desk.host in
+        let D : List ℕ → Type 0 = λ hosts. AreAllDifferent hosts in
+        let at = found_there i k.now.ports p (subst D (sym k.hosts) k.differ) q in
+        let quiet : rests p ≡ true = ap (λ (o : Option Port). option_map_or rests o false) (sym q) ∙ none in
+        let got : [] ≡ got_at k.now.ports h =
+        sym (none_waits p.side.got (is_held p.side) quiet) ∙ ap (λ (o : Option Port). option_map_or (λ (x : Port). x.side.got) o []) (sym at) in
+        let held : held_at k.now.ports h ≡ false =
+        ap (λ (o : Option Port). option_map_or (λ (x : Port). is_held x.side) o false) at ∙ not_held p.side.got (is_held p.side) quiet in
+        let U : Work → Type 0 = λ v. IsInStep n noted short start v in
+        let T : List Message → Type 0 = λ ms. Brings writes n.store.journal.nv n.store.journal.nv (IsInStep n noted short start) (have_turns h ms) k.now in
+        let b = subst T got (plainly writes {n2 = n} (lets_go h) k.under live refl (subst U (sym (stays h k.now held)) k.under) (let_cut h k.now)
+        (let_writes h k.now) (let_anyway h k.now)) in
+        pass_goes_on k h (ap (option_map host_at) (sym q)) b (b.stands.power ∙ ap not live) live
 
 -- a write failed there
 pub pass_stops : {N : Type 0} {writes : N → ℕ → List ℕ → Bool → N → Type 0} {first n n2 : Node N} {noted noted2 start : List Entry}

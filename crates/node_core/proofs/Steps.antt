@@ -38,7 +38,7 @@ plain_noted {noted = noted} {start = start} {w = w} e same u stays more = record
   power = u.power;
 }
 
-silent_notes : (core : Core) (x : Turn) (ports : List Port) (h : ℕ) → ((p : Port) → noted_of core x p ≡ [])
+pub silent_notes : (core : Core) (x : Turn) (ports : List Port) (h : ℕ) → ((p : Port) → noted_of core x p ≡ [])
     → option_map_or (noted_of core x) (port_at ports h) [] ≡ []
 silent_notes core x ports h silent = by (port_at ports h) refl
   where

@@ -3,7 +3,7 @@ ghost use Rattle.std.specs.Prelude.{◌≡◌};
 
 use crate::node::Node;
 use crate::noting::note;
-use crate::reporting::note_report;
+use crate::reporting::{note_report, tells_nothing};
 use link_end::{LinkReport, ResetRefused};
 use swp_base::{Control, Nv};
 use swp_lpdu::LpduFault;
@@ -68,6 +68,24 @@ impl<N: Nv + Drop> Node<N> {
     }
 
     // What an input at the end of the link with this host did is noted, with the message that it brought. The buffer has 4,096 bytes.
+    #[inline(never)]
+    fn note_news<W: Watch>(&self, host: u8, report: &LinkReport, buffer: &mut [u8], watch: &mut W)
+        requires runs { IsSoundNode self.now }
+        requires buffer { length buffer.old ≡ 4096 }
+        ensures { (ports : List Port) (core : Core) (x : Report) (n acked : ℕ) → EndsStandFor self.now.ends ports → core.node ≡ self.now.number
+            → report.now ≡ report_told x → option_map_or (λ (p : Port). kept_number (whole_acked p.side)) (port_at ports host) 0 ≡ kept_number acked
+            → x.got ≡ (if report.now.got then got_at ports host else [])
+            → AreNotes (W.is_short watch.old) (W.is_short watch.new) (W.noted watch.old) (W.noted watch.new)
+            (map unnumbered (entries_for host (told (own_side core) n x acked))) }
+    {
+        let at = self.end_at(host);
+        note_report(watch, at, report, self.acked(host, report.acked > 0));
+        self.note_message(host, report.got, buffer, watch);
+    }
+
+    // What an input at the end of the link with this host did is noted, where anything of it is, with the message that it brought. The
+    // buffer has 4,096 bytes.
+    #[inline]
     pub(crate) fn note_input<W: Watch>(
         &self,
         host: u8,
@@ -83,9 +101,10 @@ impl<N: Nv + Drop> Node<N> {
             → AreNotes (W.is_short watch.old) (W.is_short watch.new) (W.noted watch.old) (W.noted watch.new)
             (map unnumbered (entries_for host (told (own_side core) n x acked))) }
     {
-        let at = self.end_at(host);
-        note_report(watch, at, report, self.acked(host, report.acked > 0));
-        self.note_message(host, report.got, buffer, watch);
+        if tells_nothing(report) {
+            return;
+        }
+        self.note_news(host, report, buffer, watch);
     }
 
     /// What an LPDU says comes to the end of the link with this host, and is noted. At most six control frames wait there to be sent, and

@@ -11,6 +11,7 @@ mod giving;
 mod node;
 mod noting;
 mod owing;
+mod relaying;
 mod reporting;
 mod running;
 mod seeing;

@@ -3,12 +3,24 @@ ghost use Rattle.std.specs.Prelude.{◌≡◌, ℕ, List, map, option_to_list, n
 ghost use Rattle.link_entries.specs.entries.Entries.{End as Side, if_so, told};
 ghost use Rattle.link_entries.specs.entries.Entries.Entry.{Up, Down, Active, GaveUp, Acked};
 ghost use Rattle.history.specs.Steps.{end_of, entries_for};
-ghost use Rattle.node_core.specs.Noting.{AreNotes, without_message};
+ghost use Rattle.node_core.specs.Noting.{AreNotes, tells_nothing, without_message};
 
 use crate::noting::note;
 use link_end::LinkReport;
 use swp_base::Cause;
 use trace_model::{End, Entry, Watch};
+
+/// Whether nothing of what an input did is noted.
+pub(crate) fn tells_nothing(report: &LinkReport) -> bool
+    ensures { result ≡ tells_nothing report.now }
+{
+    report.ended.is_none()
+        && !report.began
+        && !report.became_active
+        && report.gave_up.is_none()
+        && report.acked == 0
+        && !report.got
+}
 
 // A session that ended, where one did, is noted.
 fn note_down<W: Watch>(watch: &mut W, at: End, ended: Option<Cause>)

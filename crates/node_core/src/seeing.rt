@@ -16,15 +16,16 @@ impl<N: Nv + Drop> Node<N> {
         ensures { (ports : List Port) → EndsStandFor self.now.ends ports → AllByRecursion (λ (p : Port). p.desk.host ≤ 7) ports
             → AreSpares result ports }
     {
-        [
-            self.ends.spare(0),
-            self.ends.spare(1),
-            self.ends.spare(2),
-            self.ends.spare(3),
-            self.ends.spare(4),
-            self.ends.spare(5),
-            self.ends.spare(6),
-            self.ends.spare(7),
-        ]
+        let mut spares = [0; 8];
+        for i in 0..self.ends.count() {
+            let Some(host) = self.ends.host(i) else {
+                continue;
+            };
+            if host >= 8 {
+                continue;
+            }
+            spares[usize::from(host)] = self.ends.spare(host);
+        }
+        spares
     }
 }

@@ -6,15 +6,6 @@ use node_deeds::{Deed, Deeds, Shortfall, controller_deeds, host_deeds, lack};
 use swp_base::Nv;
 use trace_model::Watch;
 
-/// What was decided of a message.
-#[derive(Drop)]
-pub(crate) struct Decided {
-    /// What is done with it.
-    pub(crate) deeds: Deeds,
-    /// The room that this lacks.
-    pub(crate) short: Option<Shortfall>,
-}
-
 impl<N: Nv + Drop> Node<N> {
     ghost use Rattle.std.specs.Prelude.{◌≡◌, ◌≤◌, Bool, List, ◌∷◌, [], length, IsTrue};
     ghost use Rattle.trace_model.specs.declared.entry.Entry.{Entry as Noted};
@@ -36,7 +27,7 @@ impl<N: Nv + Drop> Node<N> {
     ghost use Rattle.node_core.specs.Turning.{IsDecided, IsNodeInOrder, AreFewDue};
 
     // No message is held at an end: it takes fragments again, if it was held.
-    fn let_go(&mut self, host: u8, held: bool)
+    pub(crate) fn let_go(&mut self, host: u8, held: bool)
         requires runs { IsSoundNode self.old }
         requires few { (ports : List Port) × EndsStandFor self.old.ends ports × FewAreDue (port_at ports host) }
         ensures carried { (noted : List Noted) (short : Bool) (start : List Noted) (w : Work) → IsInStep self.old noted short start w
@@ -53,7 +44,7 @@ impl<N: Nv + Drop> Node<N> {
     // The message that waits at the end of the link with this host has its turn, as it was decided: it is held back where these deeds
     // lack room, and handled otherwise. Whether the node has its power still.
     #[tactic(auto, using(crate::proofs::Faults::faults_stay, crate::proofs::Faults::faults_then))]
-    fn take_turn<W: Watch>(
+    pub(crate) fn take_turn<W: Watch>(
         &mut self,
         host: u8,
         deeds: &[Deed],
@@ -132,6 +123,7 @@ impl<N: Nv + Drop> Node<N> {
     }
 
     // What a node does with this message, which waits at its end with this host. The link of a host is the one with its own number.
+    #[inline(never)]
     fn deeds_for(&mut self, host: u8, pipe: u8, message: &[u8]) -> Deeds
         requires runs { IsSoundNode self.old }
         requires live { IsTrue self.old.store.journal.live }
@@ -154,9 +146,18 @@ impl<N: Nv + Drop> Node<N> {
         }
     }
 
-    // What is decided of this message, which waits at the end with this host, and the room that this lacks. The link of a host is the one
-    // with its own number.
-    fn decide(&mut self, host: u8, pipe: u8, message: &[u8]) -> Decided
+    // This message, which waits at the end with this host, has its turn: what is done with it is decided, and done where there is room.
+    // The link of a host is the one with its own number. Whether the node has its power still.
+    #[inline(never)]
+    #[tactic(auto, using(crate::proofs::Faults::faults_stay, crate::proofs::Faults::faults_then))]
+    fn have_turn<W: Watch>(
+        &mut self,
+        host: u8,
+        held: bool,
+        pipe: u8,
+        message: &[u8],
+        watch: &mut W,
+    ) -> bool
         requires runs { IsSoundNode self.old }
         requires live { IsTrue self.old.store.journal.live }
         requires own { self.old.number ≢ 0 → host ≡ self.old.number }
@@ -164,22 +165,28 @@ impl<N: Nv + Drop> Node<N> {
         requires host { host ≤ 7 }
         requires sendable { IsSendable (pipe, message.now) }
         requires short { length message.now ≤ 4096 }
-        requires may { (noted : List Noted) × (full : Bool) × (start : List Noted) × (w : Work) × IsInStep self.old noted full start w
-            × IsNodeInOrder w.core w.ports }
-        ensures decided { (noted : List Noted) (full : Bool) (start : List Noted) (w : Work) → IsInStep self.old noted full start w
-            → IsNodeInOrder w.core w.ports → FewAreDue (port_at w.ports host)
-            → IsDecided host (handling self.old (pipe, message.now)) result.deeds.items result.short (held_at w.ports host) w }
-        ensures same { self.new ≡ self.old }
+        requires may { (start : List Noted) × (w : Work) × IsInStep self.old (W.noted watch.old) (W.is_short watch.old) start w
+            × IsNodeInOrder w.core w.ports × FewAreDue (port_at w.ports host) × (held ≡ held_at w.ports host)
+            × (got_at w.ports host ≡ (pipe, message.now) ∷ []) }
+        ensures carried { (start : List Noted) (w : Work) → IsInStep self.old (W.noted watch.old) (W.is_short watch.old) start w
+            → IsNodeInOrder w.core w.ports → FewAreDue (port_at w.ports host) → held ≡ held_at w.ports host
+            → got_at w.ports host ≡ (pipe, message.now) ∷ [] → Brings N.writes self.old.store.journal.nv self.new.store.journal.nv
+            (IsInStep self.new (W.noted watch.new) (W.is_short watch.new) start) (have_turns host ((pipe, message.now) ∷ [])) w }
+        ensures live { result ≡ self.new.store.journal.live }
+        ensures faults { CountsFaults N.faults self.old.store self.new.store }
+        ensures number { self.new.number ≡ self.old.number }
+        ensures runs { IsSoundNode self.new }
     {
         let spares = self.spares();
         let deeds = self.deeds_for(host, pipe, message);
         let short = lack(deeds.as_slice(), host, message.len(), &spares);
-        Decided { deeds, short }
+        self.turn_decided(host, deeds.as_slice(), short, held, pipe, message, watch)
     }
 
     /// The message that waits at the end of the link with this host has its turn, where one does; then the end takes fragments again, unless
     /// the message is held back. The node is in order, and at most six control frames wait at this end to be sent. The buffer has 4,096
     /// bytes. Whether the node has its power still.
+    #[inline(never)]
     #[tactic(auto, using(crate::proofs::Faults::faults_stay, crate::proofs::Faults::faults_then))]
     pub(crate) fn have_turns<W: Watch>(
         &mut self,
@@ -207,17 +214,7 @@ impl<N: Nv + Drop> Node<N> {
             self.let_go(host, held);
             return true;
         };
-        let message = &buffer[..len];
-        let decided = self.decide(host, pipe, message);
-        self.take_turn(
-            host,
-            decided.deeds.as_slice(),
-            decided.short,
-            held,
-            pipe,
-            message,
-            watch,
-        )
+        self.have_turn(host, held, pipe, &buffer[..len], watch)
     }
 
     /// A node goes once through its ends, ascending, and the messages that wait there have their turns. It is in order, and at most six
@@ -238,6 +235,9 @@ impl<N: Nv + Drop> Node<N> {
         ensures runs { IsSoundNode self.new }
     {
         for i in 0..7 {
+            if self.ends.rests(i) {
+                continue;
+            }
             let Some(host) = self.ends.host(i) else {
                 return true;
             };

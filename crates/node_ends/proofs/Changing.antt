@@ -28,14 +28,14 @@ use Rattle.node_ends.specs.Ends.{SeatStandsFor, SeatsStandFor, HaveOwnersFrom, H
 pub host_is : {pool : PoolState} {s : Seat} {p : Port} → SeatStandsFor pool s p → s.desk.host ≡ p.desk.host
 host_is h = ap (λ (d : DeskOf). d.host) h.desk
 
-differs : (a b : ℕ) → a ≢ b → (a == b) ≡ false
+pub differs : (a b : ℕ) → a ≢ b → (a == b) ≡ false
 differs a b n = by (a == b) refl
   where
     by : (t : Bool) → (a == b) ≡ t → (a == b) ≡ false
     by true e = absurd (n (eqb-true a b e))
     by false e = e
 
-same : (a b : ℕ) → a ≡ b → (a == b) ≡ true
+pub same : (a b : ℕ) → a ≡ b → (a == b) ≡ true
 same a b e = eq-eqb a b e
 
 -- a port of another host stays
@@ -72,7 +72,7 @@ owners_at k (suc i) (t ∷ seats) s is o =
     let r = owners_at (k + 1) i seats s is o.2 in
     (omega (arith, r.0), omega (arith, r.1))
 
-all_at : {X : Type 0} (P : X → Type 0) (xs : List X) (i : ℕ) (x : X) → slice_get xs i ≡ Some x → AllByRecursion P xs → P x
+pub all_at : {X : Type 0} (P : X → Type 0) (xs : List X) (i : ℕ) (x : X) → slice_get xs i ≡ Some x → AllByRecursion P xs → P x
 all_at P [] i x is all = cc
 all_at P (y ∷ xs) zero x is all = let e : y ≡ x = cc in subst P e all.0
 all_at P (y ∷ xs) (suc i) x is all = all_at P xs i x is all.1

@@ -18,3 +18,6 @@ mod Blocks
 pub mod Dues
 pub mod Sendable
 pub mod Gathering
+mod PassingOn
+mod Handing
+mod Relaying

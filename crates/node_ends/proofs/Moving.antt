@@ -23,7 +23,7 @@ use Rattle.node_ends.specs.declared.seat.Waiting.{Waiting}
 use Rattle.node_ends.specs.Holding.{messages_waiting, chain_of, without_got, HoldsEnd, Moves}
 
 -- a message that waits has its bytes still
-waits_on : (old new : PoolState) (k : End) (waiting : Option Waiting) → Accounts k old (chain_of waiting)
+pub waits_on : (old new : PoolState) (k : End) (waiting : Option Waiting) → Accounts k old (chain_of waiting)
     → ((c : Chain) → IsLive old c → c.owner ≡ k.inbox.joiner.owner → chain_bytes new c ≡ chain_bytes old c) → messages_waiting new waiting
     ≡ messages_waiting old waiting
 waits_on old new k None a same = refl
@@ -63,7 +63,7 @@ stays_beside pool before after out into = record {
 
 -- ## The end itself
 
-short_on : (m n : Machine) → n.got ≡ m.got → AllByRecursion (λ (x : Message). length x.1 ≤ 4096) m.got
+pub short_on : (m n : Machine) → n.got ≡ m.got → AllByRecursion (λ (x : Message). length x.1 ≤ 4096) m.got
     → AllByRecursion (λ (x : Message). length x.1 ≤ 4096) n.got
 short_on m n same short = let P : List Message → Type 0 = λ l. AllByRecursion (λ (x : Message). length x.1 ≤ 4096) l in subst P (sym same) short
 

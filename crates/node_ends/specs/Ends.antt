@@ -1,6 +1,6 @@
 -- What is kept of the ends of a node, and for which ports of its machine it stands.
 use Rattle.std.specs.Prelude.{◌≡◌, ◌≢◌, ℕ, zero, suc, ◌+◌, ◌*◌, ◌==◌, Bool, true, false, if◌then◌else◌, List, [], ◌∷◌, length, take, ◌≤◌, is_none, Option}
-use Rattle.std.specs.Prelude.{Some, None, option_map}
+use Rattle.std.specs.Prelude.{◌&&◌, not, Some, None, option_map}
 use Rattle.std.specs.List.{AllByRecursion}
 use Rattle.std.specs.Option.{option_map_or}
 use Rattle.block_pool.specs.Pool.{PoolState}
@@ -94,6 +94,10 @@ message_read (Some x) buffer = (x.0, take x.1 buffer) ∷ []
 -- the end of the link with this host is held
 abbrev pub held_at : List Port → ℕ → Bool
 held_at ports h = option_map_or (λ (p : Port). is_held p.side) (port_at ports h) false
+
+-- nothing is left to do at an end: no message waits there, and it isn't held
+abbrev pub rests : Port → Bool
+rests p = (length p.side.got == 0) && not (is_held p.side)
 
 -- the ends, where the one at this place is changed
 abbrev pub at_place : ℕ → (Port → Port) → List Port → List Port

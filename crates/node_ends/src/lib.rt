@@ -5,6 +5,7 @@
 mod ends;
 mod looking;
 mod new_seats;
+mod passing;
 mod places;
 mod seat;
 mod timing;

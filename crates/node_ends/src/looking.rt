@@ -1,8 +1,9 @@
 //! What is read at the ends of a node.
-ghost use Rattle.std.specs.Prelude.{◌≡◌, ◌≤◌, List, Some, IfSome, length};
+ghost use Rattle.std.specs.Prelude.{◌≡◌, ◌<◌, ◌≤◌, List, Some, IfSome, length, slice_get, false};
 ghost use Rattle.node_machine.specs.Parts.{Port};
 ghost use Rattle.node_machine.specs.Carrying.{port_at, with_port};
-ghost use Rattle.node_ends.specs.Ends.{AreEnds, place_in, got_at, message_read};
+ghost use Rattle.std.specs.Option.{option_map_or};
+ghost use Rattle.node_ends.specs.Ends.{AreEnds, place_in, got_at, message_read, rests};
 ghost use Rattle.std.specs.Prelude.{if◌then◌else◌, map};
 ghost use Rattle.node_ends.specs.declared.seat.Seat.{Seat as Kept};
 
@@ -28,7 +29,7 @@ impl Ends {
     ghost use Rattle.node_machine.specs.Parts.{Port};
     ghost use Rattle.node_machine.specs.Carrying.{port_at, with_port};
     ghost use Rattle.node_deeds.specs.Shown.{desk_shown};
-    ghost use Rattle.node_ends.specs.Ends.{EndsStandFor, AreOfHosts, got_at, message_read};
+    ghost use Rattle.node_ends.specs.Ends.{EndsStandFor, AreOfHosts, got_at, message_read, rests};
     ghost use Rattle.std.specs.Prelude.{ℕ, false};
     ghost use Rattle.std.specs.Option.{option_map_or};
     ghost use Rattle.gate_admin.specs.View.{has};
@@ -86,6 +87,17 @@ impl Ends {
             Some(seat) => seat.ended,
             None => false,
         }
+    }
+
+    /// Whether nothing is left to do at the end at this place: no message waits there, and it isn't held. `false` behind the last end.
+    pub fn rests(&self, i: usize) -> bool
+        requires { (ports : List Port) × EndsStandFor self.now ports }
+        ensures { (ports : List Port) → EndsStandFor self.now ports → result ≡ option_map_or rests (slice_get ports i) false }
+    {
+        if i >= self.seats.len() {
+            return false;
+        }
+        rests_place(self.seats.as_slice(), i, &self.pool)
     }
 
     /// Whether the notice of the end at this place was late in this step; `false` behind the last end.
@@ -147,6 +159,15 @@ fn set_errors_at(seats: &mut [Seat], i: usize, pool: &Pool, host: u8, errors: u1
         → AreEnds pool.now seats.new (with_port host (λ p. record p { desk = record p.desk { errors = errors } }) ports) }
 {
     seats[i].desk.errors = errors;
+}
+
+// Whether nothing is left to do at the end at this place.
+fn rests_place(seats: &[Seat], i: usize, pool: &Pool) -> bool
+    requires inside { i < length seats.now }
+    requires stands { (ports : List Port) × AreEnds pool.now seats.now ports }
+    ensures { (ports : List Port) → AreEnds pool.now seats.now ports → result ≡ option_map_or rests (slice_get ports i) false }
+{
+    seats[i].rests()
 }
 
 // What is kept of each of these ends.

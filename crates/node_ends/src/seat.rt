@@ -43,7 +43,7 @@ impl Seat {
     ghost use Rattle.link_machine.specs.Machine.LinkInput.{Tick, Reset, Start, Stop};
     ghost use Rattle.link_machine.specs.Machine.{next_frame, frame_fetched};
     ghost use Rattle.swp_lpdu.specs.Controls.{lpdu_of};
-    ghost use Rattle.std.specs.Prelude.{Ok, option_map};
+    ghost use Rattle.std.specs.Prelude.{◌==◌, Ok, option_map};
     ghost use Rattle.link_end.specs.Roles.{MayStart};
     ghost use Rattle.link_end.specs.Reports.{reset_told};
     ghost use Rattle.swp_act.specs.declared.ActEvent.TheVariants.{Start as ActStart};
@@ -308,6 +308,8 @@ impl Seat {
 
     /// The link is reset, since its notice is late. At most six control frames wait to be sent. What is told of it; `None` where it is
     /// refused.
+    #[cold]
+    #[inline(never)]
     pub(crate) fn reset_late(&mut self, pool: &mut Pool) -> Option<LinkReport>
         requires stands { (m : Machine) × HoldsSeat pool.old self.old m }
         requires room { controls_in self.old.side.link ≤ 6 }
@@ -371,6 +373,13 @@ impl Seat {
                 age,
             });
         }
+    }
+
+    /// Whether nothing is left to do at the end: no message waits there, and it isn't held.
+    pub(crate) fn rests(&self) -> bool
+        ensures { (pool : PoolState) (m : Machine) → HoldsSeat pool self.now m → result ≡ ((length m.got == 0) && not (is_held m)) }
+    {
+        self.waiting.is_none() && !self.is_held()
     }
 
     /// Whether the end is held.

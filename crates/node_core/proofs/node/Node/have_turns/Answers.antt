@@ -1,16 +1,12 @@
-use Rattle.std.proofs.Common.{◌≡◌, ℕ, Bool, List, [], ◌∷◌, take, sym, ap, ◌∙◌, subst}
+use Rattle.std.proofs.Common.{◌≡◌, ℕ, List, [], ◌∷◌, take, sym, ap, ◌∙◌, subst}
 use Rattle.std.specs.Prelude.{Option}
 use Rattle.hcp_packet.specs.Packets.{AreSendable}
 use Rattle.link_machine.specs.Machine.{Message}
 use Rattle.node_machine.specs.Parts.{Work}
 use Rattle.node_machine.specs.Turns.{lets_go, have_turns}
-use Rattle.node_deeds.specs.declared.deeds.Deed.{Deed}
 use Rattle.node_ends.specs.Ends.{got_at, message_read}
-use Rattle.node_core.specs.declared.node.Node.{Node}
 use Rattle.node_core.specs.Nodes.{IsInStep}
 use Rattle.node_core.specs.Bringing.{Brings}
-use Rattle.node_core.specs.Deeds.{handling}
-use Rattle.node_core.specs.Turning.{IsDecided}
 use Rattle.node_core.proofs.Steps.{plainly}
 use Rattle.node_core.proofs.HavingTurns.{no_some, let_cut, let_writes, let_anyway}
 use Rattle.node_core.proofs.Sendables.{got_at_sendable}
@@ -28,8 +24,8 @@ returns-in_default-clause-carried g c start w u hosts few =
     (plainly g.N.Nv.writes {n2 = c.let_go.new.self} (lets_go h) u c.requires.live c.let_go.ensures.store
     (c.let_go.ensures.carried _ _ start w u (c.is_held-held.ensures w.ports u.ends)) (let_cut h w) (let_writes h w) (let_anyway h w))
 
-pub decide-decided-requires-clause-sendable : goal.decide-decided-requires-clause-sendable
-decide-decided-requires-clause-sendable g c =
+pub have_turn-requires-clause-sendable : goal.have_turn-requires-clause-sendable
+have_turn-requires-clause-sendable g c =
     let r = c.requires.may in
     let w : Work = r.1 in
     let u = r.2 in
@@ -37,53 +33,26 @@ decide-decided-requires-clause-sendable g c =
     let sendable = subst AreSendable got (got_at_sendable c.args.self.now.ends.pool c.args.self.now.ends.seats.items w.ports c.args.host u.ends.each) in
     sendable.0
 
-pub decide-decided-requires-clause-own : goal.decide-decided-requires-clause-own
-decide-decided-requires-clause-own g c =
+pub have_turn-requires-clause-own : goal.have_turn-requires-clause-own
+have_turn-requires-clause-own g c =
     let r = c.requires.may in
     let w : Work = r.1 in
     let u = r.2 in
     let got = c.read.ensures.waits w.ports u.ends ∙ ap (λ (o : Option (ℕ × ℕ)). message_read o c.read.new.buffer) c.in-Some.is in
     λ some. own_host w c.args.host (λ none. some (sym u.node ∙ none)) r.3.own got ∙ u.node
 
-pub decide-decided-requires-clause-may : goal.decide-decided-requires-clause-may
-decide-decided-requires-clause-may g c = let r = c.requires.may in (_, _, r.0, r.1, r.2, r.3)
-
-pub take_turn-requires-clause-decided : goal.take_turn-requires-clause-decided
-take_turn-requires-clause-decided g c =
+pub have_turn-requires-clause-may : goal.have_turn-requires-clause-may
+have_turn-requires-clause-may g c =
     let r = c.requires.may in
-    let start = r.0 in
-    let w : Work = r.1 in
-    let u = r.2 in
-    let h = c.args.host in
-    let m : Message = (c.in-Some.pipe, take c.in-Some.len c.read.new.buffer) in
-    let d = c.decide-decided.ensures.decided _ _ start w u r.3 r.4 in
-    let H : Bool → Type 0 = λ b. IsDecided h (handling c.args.self.now m) c.decide-decided.result.deeds.items c.decide-decided.result.short b w in
-    let D : List Deed → Type 0 = λ ds. IsDecided h (handling c.args.self.now m) ds c.decide-decided.result.short c.is_held-held.result w in
-    let A : Node g.row.N.Denot → Type 0 = λ n. IsDecided h (handling n m) c.as_slice.result.now c.decide-decided.result.short c.is_held-held.result w in
-    let U : Node g.row.N.Denot → Type 0 = λ n. IsInStep n (g.W.Watch.noted c.args.watch.now) (g.W.Watch.is_short c.args.watch.now) start w in (
-      start,
-      w,
-      subst U (sym c.decide-decided.ensures.same) u,
-      subst A (sym c.decide-decided.ensures.same)
-          (subst D (sym c.as_slice.ensures.value) (subst H (sym (c.is_held-held.ensures w.ports u.ends)) d)),
-    )
+    let got = c.read.ensures.waits r.1.ports r.2.ends ∙ ap (λ (o : Option (ℕ × ℕ)). message_read o c.read.new.buffer) c.in-Some.is in
+    (r.0, r.1, r.2, r.3, r.4, c.is_held-held.ensures r.1.ports r.2.ends, got)
 
 pub returns-clause-carried : goal.returns-clause-carried
-returns-clause-carried g c start w u hosts few =
+returns-clause-carried g c start w u order few =
     let h = c.args.host in
     let m : Message = (c.in-Some.pipe, take c.in-Some.len c.read.new.buffer) in
     let got : got_at w.ports h ≡ m ∷ [] = c.read.ensures.waits w.ports u.ends ∙ ap (λ (o : Option (ℕ × ℕ)). message_read o c.read.new.buffer) c.in-Some.is in
-    let d = c.decide-decided.ensures.decided _ _ start w u hosts few in
-    let H : Bool → Type 0 = λ b. IsDecided h (handling c.args.self.now m) c.decide-decided.result.deeds.items c.decide-decided.result.short b w in
-    let D : List Deed → Type 0 = λ ds. IsDecided h (handling c.args.self.now m) ds c.decide-decided.result.short c.is_held-held.result w in
-    let A : Node g.row.N.Denot → Type 0 = λ n. IsDecided h (handling n m) c.as_slice.result.now c.decide-decided.result.short c.is_held-held.result w in
-    let U : Node g.row.N.Denot → Type 0 = λ n. IsInStep n (g.W.Watch.noted c.args.watch.now) (g.W.Watch.is_short c.args.watch.now) start w in
-    let v = subst U (sym c.decide-decided.ensures.same) u in
-    let decided = subst A (sym c.decide-decided.ensures.same)
-    (subst D (sym c.as_slice.ensures.value) (subst H (sym (c.is_held-held.ensures w.ports u.ends)) d)) in
-    let t = c.take_turn in
+    let t = c.have_turn in
     let P : List Message → Type 0 = λ ms. Brings g.N.Nv.writes c.args.self.now.store.journal.nv t.new.self.store.journal.nv
     (IsInStep t.new.self (g.W.Watch.noted t.new.watch) (g.W.Watch.is_short t.new.watch) start) (have_turns h ms) w in
-    let Q : Node g.row.N.Denot → Type 0 = λ n. Brings g.N.Nv.writes n.store.journal.nv t.new.self.store.journal.nv
-    (IsInStep t.new.self (g.W.Watch.noted t.new.watch) (g.W.Watch.is_short t.new.watch) start) (have_turns h (m ∷ [])) w in
-    subst P (sym got) (subst Q c.decide-decided.ensures.same (t.ensures.carried start w v decided))
+    subst P (sym got) (t.ensures.carried start w u order few (c.is_held-held.ensures w.ports u.ends) got)

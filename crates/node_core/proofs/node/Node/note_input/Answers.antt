@@ -1,27 +1,11 @@
-use Rattle.std.proofs.Common.{ℕ, List, map, sym, ap, ◌∙◌}
-use Rattle.std.specs.Option.{option_map_or}
-use Rattle.link_machine.specs.Machine.{Message, whole_acked}
-use Rattle.link_entries.specs.entries.Entries.{told}
-use Rattle.link_entries.specs.entries.Entries.Entry.{Got}
+use Rattle.std.proofs.Common.{◌≡◌, true, sym, ap, ◌∙◌}
 use Rattle.link_end.specs.declared.report.LinkReport.{LinkReport}
-use Rattle.link_end.specs.Reports.{report_told}
-use Rattle.history.specs.Steps.{entries_for}
-use Rattle.node_machine.specs.Parts.{Port}
-use Rattle.node_machine.specs.Carrying.{own_side, port_at}
-use Rattle.node_ends.specs.Holding.{kept_number}
-use Rattle.node_core.specs.Noting.{without_message}
-use Rattle.node_core.proofs.Notes.{notes_then, notes_are, told_plain, told_counted}
+use Rattle.node_machine.specs.Carrying.{own_side}
+use Rattle.node_core.specs.Noting.{tells_nothing}
+use Rattle.node_core.proofs.Notes.{no_notes, notes_are, told_nothing}
 use Rattle.node_core.proofs.node.Node.note_input.Goals as goal
 
-pub returns : goal.returns
-returns g c ports core x n acked e node is count got =
-    let h = c.args.host in
-    let who = own_side core in
-    let reported = notes_are (c.note_report.ensures h who (c.end_at-at.ensures core node))
-    (ap (λ (m : ℕ). entries_for h (told who 0 (without_message c.args.report.now) m)) (c.acked.ensures ports e)
-    ∙ (told_counted h who c.args.report.now (option_map_or (λ (p : Port). kept_number (whole_acked p.side)) (port_at ports h) 0)
-    ∙ (ap (λ (r : LinkReport). entries_for h (told who 0 (without_message r)
-    (option_map_or (λ (p : Port). kept_number (whole_acked p.side)) (port_at ports h) 0))) is
-    ∙ ap (λ (m : ℕ). entries_for h (told who 0 (without_message (report_told x)) m)) count))) in
-    let came = notes_are (c.note_message.ensures ports core e node) (ap (λ (ms : List Message). entries_for h (map (Got who 0) ms)) (sym got)) in
-    notes_are (notes_then reported came) (told_plain h who n x acked)
+pub returns-then-tells_nothing : goal.returns-then-tells_nothing
+returns-then-tells_nothing g c ports core x n acked e node is count got =
+    let quiet = ap (λ (r : LinkReport). tells_nothing r) (sym is) ∙ (sym c.tells_nothing.ensures ∙ c.if-tells_nothing.true) in
+    notes_are (no_notes (g.W.Watch.is_short c.args.watch.now) (g.W.Watch.noted c.args.watch.now)) (told_nothing c.args.host (own_side core) n x acked quiet)

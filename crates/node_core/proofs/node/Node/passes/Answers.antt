@@ -5,7 +5,7 @@ use Rattle.node_core.specs.Nodes.{IsInStep}
 use Rattle.node_core.specs.Bringing.{Brings}
 use Rattle.node_core.proofs.HavingTurns.{no_some}
 use Rattle.node_core.proofs.Elsewhere.{is_host_at}
-use Rattle.node_core.proofs.Passing.{PassesOn, pass_begins, next_few, pass_goes_on, pass_stops, pass_ends, pass_over, pass_full}
+use Rattle.node_core.proofs.Passing.{PassesOn, pass_rests, pass_begins, next_few, pass_goes_on, pass_stops, pass_ends, pass_over, pass_full}
 use Rattle.node_core.proofs.Faults.{faults_stay, faults_then}
 use Rattle.node_core.proofs.node.Node.passes.Goals as goal
 
@@ -56,6 +56,23 @@ returns-then-not-have_turns-clause-carried g c start w u order few =
     (IsInStep t.new.self (g.W.Watch.noted t.new.watch) (g.W.Watch.is_short t.new.watch) start) (have_turns h (got_at k.now.ports h)) k.now =
     t.ensures.carried start k.now k.under k.order (next_few k h is) in
     pass_stops k h is b (b.stands.power ∙ ap not (sym t.ensures.live ∙ c.if-not-have_turns.true))
+
+pub loop-i-preserved-then-rests : goal.loop-i-preserved-then-rests
+loop-i-preserved-then-rests g c =
+    let invariant = c.loop-i.invariant in
+    record {
+      runs = invariant.runs;
+      live = invariant.live;
+      number = invariant.number;
+      faults = invariant.faults;
+      buffer = invariant.buffer;
+      goes = λ start w u order few.
+          let k = invariant.goes start w u order few in
+          let quiet = sym (c.rests.ensures k.now.ports k.under.ends) ∙ c.if-rests.true in
+          let P : ℕ → Type 0 = λ m. PassesOn g.N.Nv.writes c.args.self.now c.loop-i.self (g.W.Watch.noted c.loop-i.watch)
+          (g.W.Watch.is_short c.loop-i.watch) start m w in
+          subst P (sym (add-one c.loop-i.i)) (pass_rests k quiet invariant.live);
+    }
 
 pub loop-i-preserved : goal.loop-i-preserved
 loop-i-preserved g c =

@@ -1,0 +1,127 @@
+-- A message that is relayed: it has its turn and is sent in one.
+use Rattle.std.proofs.Common.{◌≡◌, ℕ, Bool, true, false, List, [], ◌∷◌, ◌++◌, map, refl, sym, ap, ◌∙◌, subst, append-nil}
+use Rattle.std.specs.Prelude.{Option, Some, None, is_none, ◌==◌}
+use Rattle.std.specs.Option.{option_map_or}
+use Rattle.std.proofs.lemmas.Bool.{true≢false}
+use Rattle.swp_base.specs.InMemory.{Plan}
+use Rattle.trace_model.specs.declared.entry.Entry.{Entry}
+use Rattle.trace_model.specs.declared.entry.Entry.TheVariants as entry
+use Rattle.trace_model.specs.declared.line.End.{End}
+use Rattle.link_machine.specs.Machine.{Message, Refused, give_refusal}
+use Rattle.link_machine.specs.Machine.Turn.{Give, FetchMessage}
+use Rattle.node_machine.specs.Parts.{Core, Port, Work, Deed as DeedOf}
+use Rattle.node_machine.specs.Parts.Deed.{Sends}
+use Rattle.node_machine.specs.Carrying.{port_at, noted_of, end_of_node, with_port, after_turn, turn_at, with_desk, done, all_done, noting}
+use Rattle.node_machine.specs.Turns.{handles}
+use Rattle.node_ends.specs.declared.ends.Ends.{Ends}
+use Rattle.node_ends.specs.Ends.{takes_at, EndsStandFor, got_at}
+use Rattle.node_core.specs.declared.node.Node.{Node}
+use Rattle.node_core.specs.Noting.{unnumbered}
+use Rattle.node_core.specs.Nodes.{IsInStep}
+use Rattle.node_core.specs.Bringing.{Brings}
+use Rattle.node_core.specs.Handling.{has_turn}
+use Rattle.node_core.proofs.Doing.{more_noted, sent_noted}
+use Rattle.node_core.proofs.Steps.{silent_notes, plainly}
+
+-- ## Ports
+
+-- the first message of an end isn't held any more
+abbrev pub not_held : Port → Port
+not_held p = record p { desk = record p.desk { holds = false } }
+
+-- that has nothing to do with its turn
+pub either_first : (h : ℕ) (ports : List Port) → with_port h (after_turn FetchMessage) (with_port h not_held ports)
+    ≡ with_port h not_held (with_port h (after_turn FetchMessage) ports)
+either_first h [] = refl
+either_first h (p ∷ ports) = by (p.desk.host == h) refl (either_first h ports)
+  where
+    by : (b : Bool) → (p.desk.host == h) ≡ b → with_port h (after_turn FetchMessage) (with_port h not_held ports)
+        ≡ with_port h not_held (with_port h (after_turn FetchMessage) ports)
+        → with_port h (after_turn FetchMessage) (with_port h not_held (p ∷ ports)) ≡ with_port h not_held (with_port h (after_turn FetchMessage) (p ∷ ports))
+    by true q later = rw (q, q) (ap (λ (l : List Port). not_held (after_turn FetchMessage p) ∷ l) later)
+    by false q later = rw (q, q) (ap (λ (l : List Port). p ∷ l) later)
+
+pub got_still : (h : ℕ) (ports : List Port) → got_at (with_port h not_held ports) h ≡ got_at ports h
+got_still h [] = refl
+got_still h (p ∷ ports) = by (p.desk.host == h) refl (got_still h ports)
+  where
+    by : (b : Bool) → (p.desk.host == h) ≡ b → got_at (with_port h not_held ports) h ≡ got_at ports h
+        → got_at (with_port h not_held (p ∷ ports)) h ≡ got_at (p ∷ ports) h
+    by true q later = rw (q, q) refl
+    by false q later = rw (q, q) later
+
+-- ## Entries
+
+-- nothing is noted of a message that an end doesn't take
+pub none_noted : (core : Core) (h : ℕ) (m : Message) (ports : List Port) → false ≡ takes_at m (port_at ports h)
+    → option_map_or (noted_of core (Give m)) (port_at ports h) [] ≡ []
+none_noted core h m ports refuses = by (port_at ports h) refl
+  where
+    by_refusal : (p : Port) → port_at ports h ≡ Some p → (o : Option Refused) → give_refusal p.side m ≡ o
+        → option_map_or (noted_of core (Give m)) (port_at ports h) [] ≡ []
+    by_refusal p at None q = absurd (true≢false (sym (refuses ∙ (ap (takes_at m) at ∙ ap (λ o. is_none o) q))))
+    by_refusal p at (Some why) q = rw (at, q) refl
+
+    by : (o : Option Port) → port_at ports h ≡ o → option_map_or (noted_of core (Give m)) (port_at ports h) [] ≡ []
+    by None at = rw at refl
+    by (Some p) at = by_refusal p at (give_refusal p.side m) refl
+
+-- the end that had a message, as it has its turn
+abbrev pub turned : ℕ → Work → Work
+turned h w = with_desk h (λ d. record d { holds = false }) (turn_at h FetchMessage w)
+
+-- a message has its turn and goes to another end, of which this is noted
+pub relayed : {N : Type 0} {n : Node N} {ends : Ends} {noted now start notes : List Entry} {was short : Bool} {w : Work} (m : Message) (h to : ℕ)
+    → IsInStep n noted was start w → EndsStandFor ends (turn_at to (Give m) (turned h w)).ports
+    → option_map_or (noted_of w.core (Give m)) (port_at (turned h w).ports to) [] ≡ notes
+    → (short ≡ false → now ≡ start ++ map unnumbered (w.entries ++ notes))
+    → IsInStep (record n { ends = ends }) now short start (turn_at to (Give m) (turned h w))
+relayed {n = n} {start = start} {notes = notes} {w = w} m h to u stands are kept = record {
+  node = u.node;
+  core = λ live. (let k = u.core live in record { journal = k.journal; tables = k.tables; command = k.command; init = k.init });
+  ends = stands;
+  noted_are = λ whole.
+      let silent = silent_notes w.core FetchMessage w.ports h (λ p. refl) in
+      kept whole ∙ ap (λ es. start ++ map unnumbered es)
+      (ap (λ es. es ++ notes) (sym (ap (λ es. w.entries ++ es) silent ∙ append-nil w.entries))
+      ∙ ap (λ es. (w.entries ++ option_map_or (noted_of w.core FetchMessage) (port_at w.ports h) []) ++ es) (sym are));
+  power = u.power;
+}
+
+pub relayed_sent : {N : Type 0} {n : Node N} {ends : Ends} {noted now start : List Entry} {was short : Bool} {w : Work} {at : End} (m : Message) (h to : ℕ)
+    → IsInStep n noted was start w → EndsStandFor ends (turn_at to (Give m) (turned h w)).ports → true ≡ takes_at m (port_at (turned h w).ports to)
+    → (was ≡ true → short ≡ true) → (short ≡ false → now ≡ noted ++ entry.Sent at 0 m.0 m.1 ∷ []) → at ≡ end_of_node w.core to
+    → IsInStep (record n { ends = ends }) now short start (turn_at to (Give m) (turned h w))
+relayed_sent {noted = noted} {start = start} {w = w} {at = at} m h to u stands takes stays more is =
+    let s = sent_noted w.core to m (turned h w).ports takes in
+    let at_is : noted ++ entry.Sent at 0 m.0 m.1 ∷ [] ≡ noted ++ entry.Sent (end_of_node w.core to) 0 m.0 m.1 ∷ [] =
+    ap (λ (e : End). noted ++ entry.Sent e 0 m.0 m.1 ∷ []) is in
+    relayed m h to u stands s.notes_are
+    (λ kept. more_noted start w.entries (entry.Sent (end_of_node w.core to) s.session m.0 m.1) stays (λ k. more k ∙ at_is) u.noted_are kept)
+
+pub relayed_nowhere : {N : Type 0} {n : Node N} {ends : Ends} {noted start : List Entry} {was : Bool} {w : Work} (m : Message) (h to : ℕ)
+    → IsInStep n noted was start w → EndsStandFor ends (turn_at to (Give m) (turned h w)).ports → false ≡ takes_at m (port_at (turned h w).ports to)
+    → IsInStep (record n { ends = ends }) noted was start (turn_at to (Give m) (turned h w))
+relayed_nowhere {start = start} {w = w} m h to u stands refuses =
+    relayed m h to u stands (none_noted w.core to m (turned h w).ports refuses)
+    (λ kept. u.noted_are kept ∙ ap (λ es. start ++ map unnumbered es) (sym (append-nil w.entries)))
+
+-- ## The whole turn
+
+pub one_done : (h : ℕ) (d : DeedOf) (w : Work) → all_done h (d ∷ []) w ≡ done h d w
+one_done h d w = by (done h d w).cut refl
+  where
+    by : (b : Bool) → (done h d w).cut ≡ b → all_done h (d ∷ []) w ≡ done h d w
+    by true q = rw q refl
+    by false q = rw q refl
+
+pub relay_handles : {N : Type 0} (writes : N → ℕ → List ℕ → Bool → N → Type 0) {n n2 : Node N} {noted now start : List Entry} {was short : Bool} {w : Work}
+    (h to : ℕ) (m : Message) → IsInStep n noted was start w → n.store.journal.live ≡ true → n2.store ≡ n.store
+    → IsInStep n2 now short start (done h (Sends to m) (has_turn h m w))
+    → Brings writes n.store.journal.nv n2.store.journal.nv (IsInStep n2 now short start) (handles h m (Sends to m ∷ [])) w
+relay_handles {N} writes {n} {n2} {noted} {now} {start} {was} {short} {w} h to m u live same after =
+    let one : (v : Work) → handles h m (Sends to m ∷ []) v ≡ done h (Sends to m) (has_turn h m v) = λ v. one_done h (Sends to m) (has_turn h m v) in
+    let P : Work → Type 0 = λ v. IsInStep n2 now short start v in
+    plainly writes {n2 = n2} (handles h m (Sends to m ∷ [])) u live same (subst P (sym (one w)) after) (ap (λ (v : Work). v.cut) (one w))
+    (ap (λ (v : Work). v.writes) (one w))
+    (λ plan. one (record w { plan = plan }) ∙ ap (λ (v : Work). record v { plan = plan }) (sym (one w)))

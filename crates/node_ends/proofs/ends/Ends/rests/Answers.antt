@@ -1,0 +1,13 @@
+use Rattle.std.proofs.Common.{false, arith, sym, ap}
+use Rattle.std.specs.Prelude.{Option}
+use Rattle.std.specs.Option.{option_map_or}
+use Rattle.node_machine.specs.Parts.{Port}
+use Rattle.node_ends.specs.Ends.{rests}
+use Rattle.node_ends.proofs.Seated.{beyond}
+use Rattle.node_ends.proofs.ends.Ends.rests.Goals as goal
+
+pub returns-then-i-len : goal.returns-then-i-len
+returns-then-i-len c ports e =
+    ap (λ (o : Option Port). option_map_or rests o false)
+    (sym (beyond c.args.self.now.pool c.args.i (λ (p : Port). p) c.args.self.now.seats.items ports
+    (let l = c.len.ensures in let t = c.if-i-len.true in omega (arith, l, t)) e.each).1)
