@@ -1,15 +1,32 @@
 //! Copies of what nodes note.
-ghost use Rattle.std.specs.Prelude.{◌≡◌, ℕ, List, IfSome};
+ghost use Rattle.std.specs.Prelude.{◌≡◌, ℕ, List, IfOk, IfSome};
 ghost use Rattle.trace_model.specs.Notes.{with_body};
 
-use std::alloc::Global;
+use std::alloc::{AllocError, Global};
 use trace_model::{Entry, Octets};
 
+// A message of these bytes, in memory that was kept, where there is some.
+fn octets_of(alloc: Global, spares: &mut Vec<Octets>, body: &[u8]) -> Result<Octets, AllocError>
+    ensures { IfOk result (λ octets. octets ≡ body.now) }
+{
+    let Some(Octets { mut bytes }) = spares.pop() else {
+        return Octets::from_slice(alloc, body);
+    };
+    bytes.clear();
+    bytes.extend_from_slice(body)?;
+    Ok(Octets { bytes })
+}
+
 // A copy of an entry whose form has a message, with these bytes as its message. `None` for any other form, and without memory.
-fn with_message(alloc: Global, entry: &Entry, body: &[u8]) -> Option<Entry>
+fn with_message(
+    alloc: Global,
+    spares: &mut Vec<Octets>,
+    entry: &Entry,
+    body: &[u8],
+) -> Option<Entry>
     ensures { IfSome result (λ copy. copy ≡ with_body body.now entry.now) }
 {
-    let Ok(message) = Octets::from_slice(alloc, body) else {
+    let Ok(message) = octets_of(alloc, spares, body) else {
         return None;
     };
     match entry {
@@ -119,12 +136,17 @@ fn copied_of_init(entry: &Entry) -> Option<Entry>
 
 /// A copy of an entry, with these bytes as its message where its form has one. `None` without memory, and for a form that no node
 /// notes: a header, an echo, a frame, tables, a boot, what was settled or refused.
-pub(crate) fn copied(alloc: Global, entry: &Entry, body: &[u8]) -> Option<Entry>
+pub(crate) fn copied(
+    alloc: Global,
+    spares: &mut Vec<Octets>,
+    entry: &Entry,
+    body: &[u8],
+) -> Option<Entry>
     ensures { IfSome result (λ copy. copy ≡ with_body body.now entry.now) }
 {
     match entry {
         Entry::Sent { .. } | Entry::Got { .. } | Entry::Turn { .. } | Entry::Ask { .. } => {
-            with_message(alloc, entry, body)
+            with_message(alloc, spares, entry, body)
         }
         Entry::Up { .. }
         | Entry::Down { .. }

@@ -4,13 +4,53 @@ ghost use Rattle.trace_model.specs.declared.entry.Entry.TheVariants as note;
 
 use crate::copying::copied;
 use swp_base::NoMemory;
-use trace_model::{Entry, NoCause, Watch};
+use trace_model::{Entry, NoCause, Octets, Watch};
+
+/// The most messages whose memory is kept. This project's own.
+const MOST_SPARES: usize = 16;
 
 /// What was noted of a line so far, while there was memory for it.
 #[derive(Drop)]
 pub(crate) struct Noted {
     pub(crate) entries: Vec<Entry>,
     pub(crate) short: bool,
+    /// Messages that were noted and are forgotten, whose memory serves those to come.
+    pub(crate) spares: Vec<Octets>,
+}
+
+impl Noted {
+    ghost use Rattle.std.specs.Prelude.{◌≡◌, []};
+
+    /// Nothing is noted any more.
+    pub(crate) fn forget(&mut self)
+        ensures entries { self.new.entries.items ≡ [] }
+        ensures short { self.new.short ≡ self.old.short }
+    {
+        'entries: while let Some(entry) = self.entries.pop() {
+            let_go(entry, &mut self.spares);
+        }
+    }
+}
+
+// An entry is let go; the memory of a message in it is kept.
+fn let_go(entry: Entry, spares: &mut Vec<Octets>) {
+    match entry {
+        Entry::Emit { lpdu, .. } | Entry::Took { lpdu, .. } | Entry::Lost { lpdu, .. } => {
+            drop(lpdu);
+        }
+        Entry::Sent { message, .. }
+        | Entry::Got { message, .. }
+        | Entry::Turn { message, .. }
+        | Entry::Ask { message, .. } => keep(message, spares),
+        other => drop(other),
+    }
+}
+
+// The memory of a message is kept, where there are few others and memory for it.
+fn keep(message: Octets, spares: &mut Vec<Octets>) {
+    if !message.bytes.is_empty() && spares.len() < MOST_SPARES {
+        let _kept = spares.push(message);
+    }
 }
 
 impl Watch for Noted {
@@ -23,7 +63,7 @@ impl Watch for Noted {
             return;
         }
         let alloc = *self.entries.allocator();
-        let Some(copy) = copied(alloc, entry, body) else {
+        let Some(copy) = copied(alloc, &mut self.spares, entry, body) else {
             self.short = true;
             return;
         };

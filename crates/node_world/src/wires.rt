@@ -1,5 +1,9 @@
 //! The wires of a link of the world, with the numbers of RSETs that its ends know.
-ghost use Rattle.std.specs.Prelude.{◌≡◌};
+ghost use Rattle.std.specs.Prelude.{◌≡◌, List, OnOk};
+ghost use Rattle.link_laws.specs.sessions.Sessions.{OnWire, aged_wire};
+ghost use Rattle.link_entries.specs.entries.Entries.{aged_entries};
+ghost use Rattle.link_wires.specs.Notes.{side_of, AreNoted};
+ghost use Rattle.link_wires.specs.Wires.{WireStandsFor};
 
 use circular_buffer::HeapCircularBuffer;
 use link_wires::{Damaged, Flying, damaged_first, empty_wire, grow_older, lose_first, put_frame};
@@ -75,6 +79,21 @@ impl WireEnd {
     }
 }
 
+// All frames on a wire to an end grow older by one tick, and those that are too old are lost. Most wires are empty.
+fn age_wire(
+    to: End,
+    wire: &mut HeapCircularBuffer<Flying>,
+    entries: &mut Vec<Entry>,
+) -> Result<(), AllocError>
+    ensures { (frames : List OnWire) → WireStandsFor wire.old frames
+        → OnOk result (WireStandsFor wire.new (aged_wire frames) × AreNoted to entries.old.items entries.new.items (aged_entries (side_of to) frames)) }
+{
+    if wire.is_empty() {
+        return Ok(());
+    }
+    grow_older(to, wire, entries)
+}
+
 impl Wires {
     ghost use Rattle.std.specs.Prelude.{◌≡◌, ◌+◌, ◌<◌, ◌^◌, ◌≤◌, ◌++◌, List, ℕ, length, Ok, IfOk, OnOk};
     ghost use Rattle.swp_base.specs.declared.control_frames.Control.{Control as Frame};
@@ -122,8 +141,8 @@ impl Wires {
             link: host,
             at_host: false,
         };
-        grow_older(controller, &mut self.controller.wire, entries)?;
-        grow_older(controller.other(), &mut self.host.wire, entries)
+        age_wire(controller, &mut self.controller.wire, entries)?;
+        age_wire(controller.other(), &mut self.host.wire, entries)
     }
 
     /// The first frame on the way to an end is lost. Where there is none, nothing happens.

@@ -61,6 +61,7 @@ impl NodeWorld {
             noted: Noted {
                 entries: Vec::new(alloc),
                 short: false,
+                spares: Vec::new(alloc),
             },
         })
     }
@@ -83,7 +84,7 @@ impl NodeWorld {
             → OnErr result (misread_in (nodes_behind header lines) line.now ≡ None) }
     {
         self.stepped += 1;
-        self.noted.entries.clear();
+        self.noted.forget();
         play_line(
             alloc,
             &mut self.controller,

@@ -8,6 +8,7 @@ ghost use Rattle.history.specs.Follows.{opening_of, host_of, outcome_of, misread
 ghost use Rattle.history.specs.Steps.{end_of};
 
 use crate::fault::WorldFault;
+use crate::forgetting::forget;
 use crate::line_steps::{end_of, play_line};
 use crate::side::Side;
 use history::bare_histories::every_history_is_legal;
@@ -27,6 +28,8 @@ pub(crate) struct BareWorld {
     // How many lines were stepped.
     stepped: u32,
     entries: Vec<Entry>,
+    // The memory of a message that was noted, for the next one.
+    spare: Vec<u8>,
 }
 
 impl BareWorld {
@@ -50,6 +53,7 @@ impl BareWorld {
             resets: 0,
             stepped: 0,
             entries: opening(alloc, controller_end(header).link)?,
+            spare: Vec::new(alloc),
         })
     }
 
@@ -59,7 +63,7 @@ impl BareWorld {
     ///
     /// `Undetected` exactly where the line damages a frame so that another one is read in its place; `NoMemory` where memory
     /// runs out. The world is of no use then.
-    pub(crate) fn step(&mut self, alloc: Global, line: &Line) -> Result<(), WorldFault>
+    pub(crate) fn step(&mut self, line: &Line) -> Result<(), WorldFault>
         requires room { HasBareRoom self.old }
         requires line { IsLineOf (bare_header self.old) line.now }
         ensures stands { (lines : List Line) (t : History) → WorldStandsFor self.old (bare_header self.old) lines t
@@ -72,13 +76,13 @@ impl BareWorld {
             → OnOk result (misread (link_at t) line.now ≡ None) }
     {
         every_history_is_legal();
-        self.entries.clear();
+        forget(&mut self.entries, &mut self.spare);
         self.stepped += 1;
         let at = end_of(line, controller_end(&self.header));
         let mut other = None;
         if at.at_host {
             play_line(
-                alloc,
+                &mut self.spare,
                 line,
                 at,
                 &mut self.host,
@@ -89,7 +93,7 @@ impl BareWorld {
             )?;
         } else {
             play_line(
-                alloc,
+                &mut self.spare,
                 line,
                 at,
                 &mut self.controller,

@@ -9,13 +9,13 @@ use crate::side::Side;
 use crate::steps::{lose_frame, take_frame};
 use arrayvec::ArrayVec;
 use link_wires::{Damaged, Misread, damaged_first};
-use std::alloc::{AllocError, Global};
+use std::alloc::AllocError;
 use trace_model::{End, Entry};
 
 /// A line `damage`: the first frame on the wire to the end is taken as it was, or lost, or the line is refused. Where another
 /// frame is read in its place, that is answered, and nothing happens.
 pub(crate) fn damage_line(
-    alloc: Global,
+    spare: &mut Vec<u8>,
     at: End,
     places: &ArrayVec<u16, 16>,
     near: &mut Side,
@@ -40,7 +40,7 @@ pub(crate) fn damage_line(
             Ok(None)
         }
         Damaged::Same => {
-            take_frame(alloc, at, near, far, resets, entries)?;
+            take_frame(spare, at, near, far, resets, entries)?;
             Ok(None)
         }
         Damaged::Lost(cause) => {

@@ -5,6 +5,7 @@
 mod bare_world;
 mod damage_line;
 mod fault;
+mod forgetting;
 mod line_steps;
 mod lines;
 mod node;

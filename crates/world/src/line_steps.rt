@@ -14,7 +14,7 @@ use crate::repeats::{deliver_line, tick_line};
 use crate::side::Side;
 use arrayvec::ArrayVec;
 use link_wires::Misread;
-use std::alloc::{AllocError, Global};
+use std::alloc::AllocError;
 use trace_model::{End, Entry, Line};
 
 /// The end that a line speaks of; where it speaks of none, the controller's.
@@ -35,7 +35,7 @@ pub(crate) fn end_of(line: &Line, controller: End) -> End
 
 // Plays a line `damage`: where another frame is read in place of the first one on the wire, it is put into `other`.
 fn play_damage(
-    alloc: Global,
+    spare: &mut Vec<u8>,
     at: End,
     places: &ArrayVec<u16, 16>,
     near: &mut Side,
@@ -55,14 +55,14 @@ fn play_damage(
         → OnErr result (misread l (line.Damage at places.now) ≡ None) }
     ensures grows { resets.new ≤ resets.old + 12 }
 {
-    *other = damage_line(alloc, at, places, near, far, resets, entries)?;
+    *other = damage_line(spare, at, places, near, far, resets, entries)?;
     Ok(())
 }
 
 /// Plays a line on a link, seen from the end that it speaks of; the near side is that of this end. Where the line damages a frame
 /// so that another one is read in its place, both are put into `other`, which was none before, and nothing happens.
 pub(crate) fn play_line(
-    alloc: Global,
+    spare: &mut Vec<u8>,
     line: &Line,
     at: End,
     near: &mut Side,
@@ -85,11 +85,11 @@ pub(crate) fn play_line(
 {
     match line {
         Line::Send { pid, message, .. } => {
-            send_line(at, near, far, resets, *pid, message, entries)?;
+            send_line(at, near, far, resets, *pid, message, spare, entries)?;
             Ok(())
         }
         Line::Deliver { count, .. } => {
-            deliver_line(alloc, at, *count, near, far, resets, entries)?;
+            deliver_line(spare, at, *count, near, far, resets, entries)?;
             Ok(())
         }
         Line::Lose { .. } => {
@@ -97,7 +97,7 @@ pub(crate) fn play_line(
             Ok(())
         }
         Line::Damage { places, .. } => {
-            play_damage(alloc, at, places, near, far, resets, entries, other)
+            play_damage(spare, at, places, near, far, resets, entries, other)
         }
         Line::Tick { times } => {
             tick_line(at, *times, near, far, resets, entries)?;

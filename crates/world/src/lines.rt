@@ -19,6 +19,7 @@ pub(crate) fn send_line(
     resets: &mut u32,
     pid: u8,
     message: &Octets,
+    spare: &mut Vec<u8>,
     entries: &mut Vec<Entry>,
 ) -> Result<(), AllocError>
     requires state { (l : Link) × SidesStandFor near.old far.old resets.old at l }
@@ -29,7 +30,7 @@ pub(crate) fn send_line(
         → OnOk result (Does near.new far.new resets.new at l (line.Send at pid message.now) entries.new.items) }
     ensures grows { resets.new ≤ resets.old + 12 }
 {
-    if let Some(cause) = give_message(at, near, far, resets, pid, message, entries)? {
+    if let Some(cause) = give_message(at, near, far, resets, pid, message, spare, entries)? {
         entries.push(Entry::No { cause })?;
     }
     Ok(())

@@ -4,6 +4,7 @@ ghost use Rattle.trace_model.specs.declared.entry.Entry.{Entry};
 ghost use Rattle.link_entries.specs.entries.Entries.{if_so};
 ghost use Rattle.block_pool.specs.Pool.{PoolState, IsLive, chain_bytes};
 
+use crate::forgetting::left_over;
 use block_pool::{Chain, Pool};
 use link_end::{LinkEnd, LinkReport, ResetRefused, SendRefused};
 use std::alloc::{AllocError, Global};
@@ -90,7 +91,7 @@ impl Node {
     // The message that came, where one did, is noted, and its blocks are given back.
     fn note_message(
         &mut self,
-        alloc: Global,
+        spare: &mut Vec<u8>,
         place: Place,
         entries: &mut Vec<Entry>,
     ) -> Result<(), AllocError>
@@ -101,7 +102,7 @@ impl Node {
         let Some((pid, chain)) = self.end.next_message() else {
             return Ok(());
         };
-        let message = copied(alloc, &self.pool, &chain)?;
+        let message = copied(spare, &self.pool, &chain)?;
         let Place { at, session } = place;
         entries.push(Entry::Got {
             at,
@@ -116,7 +117,7 @@ impl Node {
     /// Takes what a frame says, and notes what it did and the message that it brought.
     pub(crate) fn take(
         &mut self,
-        alloc: Global,
+        spare: &mut Vec<u8>,
         place: Place,
         read: &Result<Control, LpduFault>,
         entries: &mut Vec<Entry>,
@@ -130,7 +131,7 @@ impl Node {
     {
         let report = self.end.take_read(&mut self.pool, read);
         self.note(place, &report, entries)?;
-        self.note_message(alloc, place, entries)
+        self.note_message(spare, place, entries)
     }
 
     /// One tick, and what it did is noted.
@@ -263,12 +264,13 @@ fn note_acked(
     Ok(())
 }
 
-// The bytes of a chain.
-fn copied(alloc: Global, pool: &Pool, chain: &Chain) -> Result<Octets, AllocError>
+// The bytes of a chain, in memory that is left over.
+fn copied(spare: &mut Vec<u8>, pool: &Pool, chain: &Chain) -> Result<Octets, AllocError>
     requires { IsLive pool.now chain.now }
     ensures { IfOk result (λ octets. octets ≡ chain_bytes pool.now chain.now) }
 {
-    let mut bytes = vec![in alloc; 0; pool.len(chain) as usize]?;
+    let mut bytes = left_over(spare);
+    bytes.resize(pool.len(chain) as usize, 0)?;
     let _count = pool.copy_out(chain, 0, &mut bytes);
     Ok(Octets { bytes })
 }

@@ -8,13 +8,13 @@ ghost use Rattle.world.specs.Lines.{SidesStandFor, Does, HasCaused, HaveSent};
 use crate::side::Side;
 use crate::steps::{age_frames, take_frame, tick_end};
 use link_wires::taken;
-use std::alloc::{AllocError, Global};
+use std::alloc::AllocError;
 use trace_model::{End, Entry, NoCause};
 
 /// A line `deliver`: the end takes so many of the frames that stand on the wire to it, or all of them, or the line is refused
 /// where there is none.
 pub(crate) fn deliver_line(
-    alloc: Global,
+    spare: &mut Vec<u8>,
     at: End,
     count: Option<u8>,
     near: &mut Side,
@@ -36,7 +36,7 @@ pub(crate) fn deliver_line(
         return Ok(());
     }
     for _ in 0..taken(count, near.wire.len()) {
-        take_frame(alloc, at, near, far, resets, entries)?;
+        take_frame(spare, at, near, far, resets, entries)?;
     }
     Ok(())
 }

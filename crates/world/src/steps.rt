@@ -20,9 +20,10 @@ ghost use Rattle.link_wires.specs.Wires.{WireStandsFor};
 ghost use Rattle.world.specs.Sides.{SideStandsFor, LinkStandsFor, IsMidway, HasHappened};
 ghost use Rattle.link_wires.specs.Notes.{AreNoted};
 
+use crate::forgetting::kept;
 use crate::side::Side;
 use link_wires::{grow_older, lose_first, put_frame};
-use std::alloc::{AllocError, Global};
+use std::alloc::AllocError;
 use swp_base::Lpdu;
 use swp_lpdu::read_lpdu;
 use trace_model::{End, Entry, LostCause, NoCause, Octets};
@@ -80,7 +81,7 @@ fn send_all(
 ///
 /// No memory is left; what the sides stand for then isn't said.
 pub(crate) fn take_frame(
-    alloc: Global,
+    spare: &mut Vec<u8>,
     at: End,
     near: &mut Side,
     far: &mut Side,
@@ -103,7 +104,7 @@ pub(crate) fn take_frame(
     })?;
     near.took = near.took.max(flying.number);
     let place = near.place(at);
-    near.node.take(alloc, place, &read, entries)?;
+    near.node.take(spare, place, &read, entries)?;
     send_all(at, near, far, resets, entries)
 }
 
@@ -177,6 +178,7 @@ pub(crate) fn give_message(
     resets: &mut u32,
     pid: u8,
     message: &Octets,
+    spare: &mut Vec<u8>,
     entries: &mut Vec<Entry>,
 ) -> Result<Option<NoCause>, AllocError>
     requires state { (l : Link) × LinkStandsFor near.old far.old resets.old l }
@@ -200,7 +202,7 @@ pub(crate) fn give_message(
         at,
         session: place.session,
         pid,
-        message: message.clone()?,
+        message: kept(spare, message)?,
     })?;
     send_all(at, near, far, resets, entries)?;
     Ok(None)

@@ -70,7 +70,7 @@ impl World {
         ensures header { world_header self.new ≡ world_header self.old }
     {
         match &mut self.below {
-            Below::Bare(world) => world.step(alloc, line),
+            Below::Bare(world) => world.step(line),
             Below::Nodes(world) => match world.step(alloc, line) {
                 Ok(None) => Ok(()),
                 Ok(Some(Misread { sent, read })) => Err(WorldFault::Undetected { sent, read }),

@@ -40,5 +40,5 @@ returns-clause-stands c l h none =
     (midway false h (subst Q c.as_slice.ensures (g.ensures.stands m h.here.has.node)) (give_most m x h.here.idle)) in
     gives (ap (λ (p : Place). p.session) c.place-place.ensures ∙ session_is h)
     (accepted g.result (give_refusal m x) (subst P c.as_slice.ensures (g.ensures.refused m h.here.has.node))
-    (sym c.if-is_some.ensures)) c.in_ok-clone.ensures.cases
+    (sym c.if-is_some.ensures)) c.in_ok-kept.ensures
     c.in_ok-push.ensures.items r

@@ -4,5 +4,5 @@ use Rattle.node_world.proofs.wires.Wires.grow_older.Goals as goal
 
 pub returns : goal.returns
 returns c l w =
-    on_ok c.grow_older-2.result (c.grow_older-2.ensures l.to_host w.there.wire_is)
-    (λ r. aged_is c.args.host c.args.entries.now.items c.other.result c.other.ensures w (c.in_ok-grow_older.ensures l.to_controller w.here.wire_is) r)
+    on_ok c.age_wire-2.result (c.age_wire-2.ensures l.to_host w.there.wire_is)
+    (λ r. aged_is c.args.host c.args.entries.now.items c.other.result c.other.ensures w (c.in_ok-age_wire.ensures l.to_controller w.here.wire_is) r)

@@ -33,6 +33,7 @@ grown c lines t h =
             resets = w.play_line.new.resets;
             stepped = old.stepped + 1;
             entries = w.play_line.new.entries;
+            spare = w.play_line.new.spare;
           } in
           let side : at.at_host ≡ true = w.if-at.true in
           let stands = seen_at_host at side h.link in
@@ -61,6 +62,7 @@ grown c lines t h =
             resets = w.play_line-else-at.new.resets;
             stepped = old.stepped + 1;
             entries = w.play_line-else-at.new.entries;
+            spare = w.play_line-else-at.new.spare;
           } in
           let side : at.at_host ≡ false = w.if-at.false in
           let stands = seen_at_controller at side h.link in
