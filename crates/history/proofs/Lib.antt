@@ -3,3 +3,4 @@ pub mod MoreExamples
 pub mod Leading
 pub mod Filters
 pub mod legal
+pub mod RsetsInBareWorlds

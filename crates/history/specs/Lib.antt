@@ -4,3 +4,4 @@ pub mod Damage
 pub mod Steps
 pub mod Follows
 pub mod Legal
+pub mod BareRsets

@@ -3,3 +3,4 @@
 #![tactic(auto)]
 
 pub mod bare_histories;
+pub mod resets_of_bare_worlds;

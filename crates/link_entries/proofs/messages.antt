@@ -8,3 +8,6 @@ pub mod Runs
 pub mod Whole
 pub mod Quiet
 pub mod Examples
+pub mod RsetsDue
+pub mod RsetsOnLinks
+pub mod RsetNumbers

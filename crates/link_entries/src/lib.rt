@@ -4,3 +4,4 @@
 
 pub mod entry_order;
 pub mod message_order;
+pub mod resets_of_links;

@@ -3,3 +3,4 @@ pub mod Lines
 pub mod NodeHistories
 pub mod NodeFilters
 pub mod NodeLegal
+pub mod Rounds

@@ -8,6 +8,7 @@ pub mod Knowing
 pub mod Events
 pub mod Ticking
 pub mod Strangers
+pub mod HostsStay
 pub mod Lines
 pub mod Watches
 pub mod Wires

@@ -1,4 +1,4 @@
--- A node notes no frame in a step: its frames go out behind it.
+-- Nothing is written for entries none of which tells of a frame, and so much for those of frames that go out.
 use Rattle.std.proofs.Common.{◌≡◌, ℕ, List, [], ◌∷◌, ◌++◌, refl, ap, ◌∙◌}
 use Rattle.std.specs.Prelude.{map}
 use Rattle.std.specs.List.{AllByRecursion, flat_map}
@@ -7,74 +7,9 @@ use Rattle.swp_lpdu.specs.Controls.{lpdu_of}
 use Rattle.trace_model.specs.declared.entry.Entry.{Entry}
 use Rattle.trace_model.specs.declared.entry.Entry.TheVariants as entry
 use Rattle.trace_model.specs.declared.line.End.{End}
-use Rattle.link_entries.specs.entries.Entries.{End as Side, Entry as Noted}
-use Rattle.link_entries.specs.entries.Entries.Entry.{Up, Down, Active, GaveUp, Acked, Got, Sent, Emit, Took, Lost, Tick, Restarted, Cut}
-use Rattle.history.specs.Steps.{entry_of}
-use Rattle.node_machine.specs.Parts.{Port, Work, Deed}
-use Rattle.node_machine.specs.Parts.Deed.{Commits, Sends, SaysOk, Asks, Releases, Tells, IsAnswered, Drops, SetsErrors, Orders, Hears, GoesOn, Ends}
-use Rattle.node_machine.specs.Carrying.{own_side}
-use Rattle.node_machine.specs.Turns.{deeds_of}
-use Rattle.node_machine.specs.Node.{NodeInput, steps}
-use Rattle.node_order.proofs.readings.Noting.{IsOwnNote, IsBeside, NotesSo, steps_note}
 use Rattle.lone_laws.specs.alone.Ends.{EndForm, entry_written}
+use Rattle.lone_laws.proofs.alone.Unwritten.{IsUnwritten}
 use Rattle.one_end.specs.Running.{frames_written}
-use Rattle.node_laws.proofs.telling.Mute.{IsPlain, IsMute, AreMute, deeds_mute}
-
--- nothing is written for an entry
-abbrev pub IsUnwritten : Entry → Type 0
-IsUnwritten x = (form : EndForm) (number : ℕ) → entry_written form number x ≡ []
-
-own_unwritten : (who : Side) (h : ℕ) (x : Noted) → IsOwnNote who x → AllByRecursion IsUnwritten (entry_of h x)
-own_unwritten who h (Up side n) own = ((λ form number. refl), tt)
-own_unwritten who h (Down side cause) own = ((λ form number. refl), tt)
-own_unwritten who h (Active side) own = ((λ form number. refl), tt)
-own_unwritten who h (GaveUp side tries) own = ((λ form number. refl), tt)
-own_unwritten who h (Acked side n count) own = ((λ form number. refl), tt)
-own_unwritten who h (Got side n m) own = ((λ form number. refl), tt)
-own_unwritten who h (Sent side n m) own = ((λ form number. refl), tt)
-own_unwritten who h (Emit side frame) own = absurd own
-own_unwritten who h (Took side frame) own = absurd own
-own_unwritten who h (Lost side frame why) own = absurd own
-own_unwritten who h Tick own = absurd own
-own_unwritten who h (Restarted side) own = absurd own
-own_unwritten who h (Cut side) own = absurd own
-
-beside_unwritten : (n : ℕ) (x : Entry) → IsBeside n x → IsUnwritten x
-beside_unwritten n (entry.Emit e lpdu) own = absurd own
-beside_unwritten n x own = λ form number. refl
-
-plain_unwritten : (x : Entry) → IsPlain x → IsUnwritten x
-plain_unwritten (entry.Emit e lpdu) own = absurd own
-plain_unwritten x own = λ form number. refl
-
-mute_unwritten : (deeds : List Deed) → AreMute deeds → AllByRecursion (NotesSo IsUnwritten) deeds
-mute_unwritten [] all = tt
-mute_unwritten (d ∷ deeds) all = (one d all.0, mute_unwritten deeds all.1) where
-  one : (d : Deed) → IsMute d → NotesSo IsUnwritten d
-  one (Commits c) m = tt
-  one (Sends to m) i = tt
-  one SaysOk m = tt
-  one (Asks to message c) m = tt
-  one (Releases asker) m = tt
-  one (Tells to message) m = tt
-  one IsAnswered m = tt
-  one (Drops pid) m = tt
-  one (SetsErrors errors) m = tt
-  one (Orders message) m = tt
-  one Hears m = tt
-  one (GoesOn i) m = tt
-  one (Ends y) m = plain_unwritten y m
-
-any_ends : (ports : List Port) → AllByRecursion (λ (p : Port). Unit {0}) ports
-any_ends [] = tt
-any_ends (p ∷ ports) = (tt, any_ends ports)
-
-pub steps_unwritten : (input : NodeInput) (w : Work) → AllByRecursion IsUnwritten w.entries → AllByRecursion IsUnwritten (steps input w).entries
-steps_unwritten input w none =
-    (steps_note IsUnwritten w.core.node (own_side w.core) (λ h. Unit {0}) (λ h x at own. own_unwritten (own_side w.core) h x own)
-    (λ h pid message at form number. refl) (beside_unwritten w.core.node)
-    (λ core ports h m is. mute_unwritten (deeds_of core ports h m) (deeds_mute core ports h m)) input w
-    (record { number = refl; side = refl; ends = any_ends w.ports; so = none })).so
 
 pub none_written : (form : EndForm) (number : ℕ) (es : List Entry) → AllByRecursion IsUnwritten es → flat_map (entry_written form number) es ≡ []
 none_written form number [] all = refl

@@ -18,7 +18,8 @@ use Rattle.lone_laws.specs.alone.Ends.{EndForm, entry_written, asks_reset}
 use Rattle.lone_laws.proofs.answered.Lasting.{step_is}
 use Rattle.one_end.specs.Running.{does_alone, frames_written, StepsAlone}
 use Rattle.one_end.proofs.Answering.{over}
-use Rattle.one_end.proofs.Muting.{IsUnwritten, steps_unwritten, none_written, emits_written}
+use Rattle.lone_laws.proofs.alone.Unwritten.{IsUnwritten, steps_unwritten}
+use Rattle.one_end.proofs.Muting.{none_written, emits_written}
 
 arrival_unwritten : (l : Lone) (c : LoneCause) → AllByRecursion IsUnwritten (lone_arrival l c)
 arrival_unwritten l (FrameComes bytes) = ((λ form number. refl), tt)

@@ -4,7 +4,7 @@
 ghost use Rattle.std.specs.Prelude.{◌≡◌, ◌+◌, ◌*◌, ◌≤◌, ℕ, true, List};
 ghost use Rattle.link_entries.specs.messages.Links.{AllAllowed, IsStart, Link, LinkEvent, after_link_events, talk_now};
 ghost use Rattle.settling_laws.specs.messages.Recovery.{AreLinkRounds, EarlierGot, IsLinkUndisturbed, fragments_left};
-ghost use Rattle.settling_laws.specs.messages.Rest.{IsFirstRest, link_rests, steps_to_rest};
+ghost use Rattle.link_entries.specs.messages.Rest.{IsFirstRest, link_rests, steps_to_rest};
 
 /// Whatever happened on a link before, where F fragments of the messages sent both ways aren't acknowledged: behind 24 (F + 1) rounds in
 /// which no session ends, no frame is lost but of activation and both ends are up and ready, all good messages that were sent before them

@@ -22,7 +22,8 @@ use Rattle.settling_laws.proofs.fragments.Stretches.{ended}
 use Rattle.link_machine.specs.Machine.{Message, LinkEnd, messages_got, whole_among, whole_acked}
 use Rattle.link_machine.proofs.Sound.{whole_acked_before}
 use Rattle.shdlc_core.specs.declared.answers.LinkState.TheVariants.{Up}
-use Rattle.settling_laws.specs.messages.Rest.{is_clear, end_rests, link_rests}
+use Rattle.link_machine.specs.AtRest.{end_rests}
+use Rattle.link_entries.specs.messages.Rest.{is_clear, link_rests}
 use Rattle.std.proofs.lemmas.Bool.{and_parts, eqb-true}
 use Rattle.std.proofs.lemmas.List.{take_all}
 use Rattle.link_entries.specs.messages.Links.{Talk, Link, LinkEvent, IsStart, after_link_events, talk_now, AllAllowed}

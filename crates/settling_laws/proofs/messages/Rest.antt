@@ -1,6 +1,6 @@
 -- The first rest is the first.
 use Rattle.std.proofs.Common.{◌≡◌, ℕ, zero, suc, ◌<◌, Bool, true, false, refl, arith}
-use Rattle.settling_laws.specs.messages.Rest.{steps_to_rest, after_steps, IsFirstRest}
+use Rattle.link_entries.specs.messages.Rest.{steps_to_rest, after_steps, IsFirstRest}
 
 pub first_rest : {W : Type 0} (rests : W → Bool) (next : W → W) (n : ℕ) (w : W) → IsFirstRest rests next n w (steps_to_rest rests next n w)
 first_rest rests next zero w =

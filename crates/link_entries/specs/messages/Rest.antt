@@ -1,23 +1,13 @@
 -- When a link is at rest, and after how many steps something first is.
-use Rattle.std.specs.Prelude.{◌≡◌, ℕ, zero, suc, ◌==◌, ◌<◌, ◌≤◌, ◌&&◌, Bool, true, false, if◌then◌else◌, List, [], ◌∷◌, length}
-use Rattle.shdlc_core.specs.declared.answers.LinkState.{LinkState}
-use Rattle.shdlc_core.specs.declared.answers.LinkState.TheVariants.{Down, Waiting, Up}
+use Rattle.std.specs.Prelude.{◌≡◌, ℕ, zero, suc, ◌<◌, ◌≤◌, ◌&&◌, Bool, true, false, if◌then◌else◌, List, [], ◌∷◌}
 use Rattle.link_laws.specs.places.Wire.{OnWire}
-use Rattle.link_machine.specs.Machine.{LinkEnd, whole_acked}
+use Rattle.link_machine.specs.AtRest.{end_rests}
 use Rattle.link_entries.specs.messages.Links.{Link}
 
 -- no frame stands on a wire
 abbrev pub is_clear : List OnWire → Bool
 is_clear [] = true
 is_clear (x ∷ xs) = false
-
--- an end doesn't wait, and where it is up all messages that were sent in its session are acknowledged
-abbrev pub end_rests : LinkEnd → Bool
-end_rests e = by_phase e.shdlc.phase where
-  by_phase : LinkState → Bool
-  by_phase Up = whole_acked e == length e.sent
-  by_phase Waiting = false
-  by_phase Down = true
 
 -- both wires are empty and both ends at rest
 abbrev pub link_rests : Link → Bool

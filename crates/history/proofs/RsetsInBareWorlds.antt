@@ -1,0 +1,58 @@
+-- Few RSETs are put on the link of a bare world.
+use Rattle.std.proofs.Common.{◌≡◌, ℕ, ◌+◌, Bool, true, false, cond, List, [], ◌∷◌, refl, arith}
+use Rattle.trace_model.specs.declared.line.End.{End}
+use Rattle.link_entries.specs.messages.Links.{Link, EndEvent}
+use Rattle.link_entries.specs.messages.Links.IsStart.{IsBare}
+use Rattle.link_entries.specs.messages.Links.Ending.{GoesOut}
+use Rattle.link_entries.specs.messages.Links.Comes.{AsksReset}
+use Rattle.link_entries.specs.messages.Links.EndEvent.{Step}
+use Rattle.link_entries.specs.messages.Links.LinkEvent.{AtController, AtHost}
+use Rattle.history.specs.Histories.{Cause}
+use Rattle.history.specs.Histories.Cause.{Given, Taken, WasLost, Ticked, WasReset, Readied}
+use Rattle.history.specs.Steps.{at, event_of, bare_link, link_after, link_after_all}
+use Rattle.link_entries.specs.messages.Rsets.{FewRsets, NumbersWithin, rset_causes, resets_in_event}
+use Rattle.history.specs.BareRsets.{rsets_by_bare, rsets_by_all_bare}
+use Rattle.link_entries.proofs.messages.RsetsOnLinks.{made_by_event}
+use Rattle.link_entries.proofs.messages.RsetNumbers.{event_numbered, start_numbered, numbers_within}
+
+at_end : (e : End) (event : EndEvent) → rset_causes (at e event) ≡ resets_in_event event
+at_end e event = go e.at_host
+  where
+    go : (b : Bool) → rset_causes (cond b (AtHost event) (AtController event)) ≡ resets_in_event event
+    go true = refl
+    go false = refl
+
+one_cause : (c : Cause) → rset_causes (event_of c) ≡ rsets_by_bare c
+one_cause (Given e m) = at_end e _
+one_cause (Taken e) = at_end e _
+one_cause (WasLost e why) = at_end e _
+one_cause Ticked = refl
+one_cause (WasReset e window) = at_end e (Step (AsksReset window) [] GoesOut)
+one_cause (Readied e ready) = at_end e _
+
+-- what happens has the link make so many more RSETs at most
+pub few_after : (n : ℕ) (l : Link) (c : Cause) → FewRsets n l → FewRsets (n + rsets_by_bare c) (link_after l c)
+few_after n l c f =
+    record {
+      made = let z = made_by_event l (event_of c) in let o = one_cause c in let a = f.made in omega (arith, z, o, a);
+      numbered = event_numbered l (event_of c) f.numbered;
+    }
+
+by_one_more : (c : Cause) (causes : List Cause) → rsets_by_all_bare (c ∷ causes) ≡ rsets_by_bare c + rsets_by_all_bare causes
+by_one_more (Given e m) causes = omega arith
+by_one_more (Taken e) causes = omega arith
+by_one_more (WasLost e why) causes = omega arith
+by_one_more Ticked causes = omega arith
+by_one_more (WasReset e window) causes = omega arith
+by_one_more (Readied e ready) causes = omega arith
+
+few_after_all : (causes : List Cause) (n : ℕ) (l : Link) → FewRsets n l → FewRsets (n + rsets_by_all_bare causes) (link_after_all l causes)
+few_after_all [] n l f = record { made = let z = f.made in omega (arith, z); numbered = f.numbered }
+few_after_all (c ∷ causes) n l f =
+    let a = few_after_all causes (n + rsets_by_bare c) (link_after l c) (few_after n l c f) in
+    record { made = let z = a.made in let o = by_one_more c causes in omega (arith, z, o); numbered = a.numbered }
+
+pub numbers_in_bare : (causes : List Cause) → NumbersWithin (rsets_by_all_bare causes) (link_after_all bare_link causes)
+numbers_in_bare causes =
+    let a = few_after_all causes 0 bare_link (record { made = omega arith; numbered = start_numbered bare_link IsBare }) in
+    numbers_within (rsets_by_all_bare causes) (link_after_all bare_link causes) (let z = a.made in omega (arith, z)) a.numbered

@@ -1,0 +1,5 @@
+pub mod BareRounds
+pub mod LinkEvents
+pub mod RoundEvents
+pub mod Allowing
+pub mod Ends

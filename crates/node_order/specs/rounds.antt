@@ -1,0 +1,3 @@
+pub mod BareRounds
+pub mod LinkEvents
+pub mod RoundEvents
