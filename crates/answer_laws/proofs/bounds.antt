@@ -1,8 +1,3 @@
-pub mod RsetsDue
-pub mod RsetsOnLinks
-pub mod RsetNumbers
-pub mod RsetsInWorlds
-pub mod RsetsInBareWorlds
 pub mod SessionsNoted
 pub mod SessionsInHistories
 pub mod Costs

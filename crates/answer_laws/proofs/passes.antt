@@ -7,8 +7,7 @@ pub mod Growing
 pub mod Memories
 pub mod Roomy
 pub mod Ready
-pub mod Paying
 pub mod Ordered
-pub mod Few
+pub mod InTurn
 pub mod Whole
 pub mod Events

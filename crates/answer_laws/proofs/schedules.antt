@@ -1,10 +1,5 @@
 pub mod Ranges
 pub mod Examples
-pub mod Costs
-pub mod Coming
-pub mod Deeds
-pub mod Works
-pub mod Worlds
 pub mod Ends
 pub mod Wires
 pub mod Few

@@ -1,7 +1,7 @@
 //! In each event of a history of a world of nodes sessions end by resets exactly where those are due: as a line asks for one at an end
 //! that is up, or as a notice is late. Nothing here runs.
 
-ghost use Rattle.std.specs.Prelude.{◌≡◌, ◌≤◌, length};
+ghost use Rattle.std.specs.Prelude.{◌≤◌};
 ghost use Rattle.std.specs.List.{AllByRecursion};
 ghost use Rattle.trace_model.specs.declared.line.Header.{Header};
 ghost use Rattle.trace_model.specs.declared.line.Line.{Line};
@@ -14,7 +14,7 @@ ghost use Rattle.node_order.specs.power.Powers.{CutsEndParts};
 ghost use Rattle.answer_laws.specs.answers.Answered.{AreReset};
 ghost use Rattle.answer_laws.specs.answers.Moments.{AtEachOccurrence};
 ghost use Rattle.trace_model.specs.Lines.{IsNodeHeader};
-ghost use Rattle.answer_laws.specs.schedules.Ranges.{AreNodeLinesOf};
+ghost use Rattle.answer_laws.specs.schedules.Ranges.{AreNodeLinesOf, lines_asking};
 ghost use Rattle.answer_laws.specs.answers.Order.{NodesHearFirst, TurnsAscend};
 
 /// In each event of a history that follows a schedule the session of each end ends by a reset of its own exactly where that is due: a line
@@ -27,7 +27,7 @@ pub fn sessions_end_by_resets_where_due()
         ArePlayable lines → AllByRecursion IsSentByHost lines → AllByRecursion IsBegunByHost lines → IsFew (node_entries t) →
         AtEachOccurrence t (AreReset t.header.hosts.items) }
     ensures schedules { (header : Header) (lines : List Line) (t : NodeHistory) → FollowsNodes header lines t → IsNodeHeader header →
-        AreNodeLinesOf header lines → length lines ≤ 20000 → AtEachOccurrence t (AreReset t.header.hosts.items) }
+        AreNodeLinesOf header lines → lines_asking lines ≤ 20000 → AtEachOccurrence t (AreReset t.header.hosts.items) }
 {}
 
 /// In a history that follows a schedule whose header is in its ranges a cut of a node's power ends its part of the event.

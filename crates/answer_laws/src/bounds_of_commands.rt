@@ -17,7 +17,7 @@ ghost use Rattle.node_machine.specs.world.Lines.{Occurrence, all_happen};
 ghost use Rattle.node_machine.specs.world.NodeHistories.{FollowsNodes, NodeHistory, entries_in, occurrences_in};
 ghost use Rattle.node_laws.specs.kept.Hosts.{AreHosts};
 ghost use Rattle.answer_laws.specs.passes.Counts.{commands_noted};
-ghost use Rattle.answer_laws.specs.schedules.Ranges.{AreNodeLinesOf};
+ghost use Rattle.answer_laws.specs.schedules.Ranges.{AreNodeLinesOf, lines_asking};
 ghost use Rattle.answer_laws.specs.bounds.Commands.{AllCome, AreCausedSo, commands_by_all, commands_by_events};
 
 /// Whatever happens to a new world of at most seven hosts, from 01 to 07 and all different, where nodes boot only while they don't run, messages
@@ -25,8 +25,9 @@ ghost use Rattle.answer_laws.specs.bounds.Commands.{AllCome, AreCausedSo, comman
 /// for each message that a host sends, as many for each command of an init, and three for each activation (`causes`), as long as what is to
 /// happen can happen. So it is with any events, each caused in the world behind those before it (`events`). Frames that are taken or lost, time
 /// that passes, boots, cuts and resets bring about none beyond these, however many there are; nor do the turns of a pass of the controller behind
-/// these events, in whatever order its ends have them, as something comes to one of its ends (`passes`) or as time passes (`ticks`). And behind
-/// the events of lines in their ranges at most 234 were noted for each line (`lines`).
+/// these events, in whatever order its ends have them, as something comes to one of its ends (`passes`) or as time passes (`ticks`). And of the
+/// events of lines in their ranges at most 234 may come for each line that asks for something (`asked`), so no more were noted behind them
+/// (`lines`).
 pub fn commands_are_bounded_by_what_is_asked_for()
     ensures causes { (hosts : List ℕ) (causes : List Happening) → AreHosts hosts → length hosts ≤ 7 → AllCome (new_world hosts) causes →
         commands_noted (entries_in (all_happen (new_world hosts) causes).1) ≤ commands_by_all causes }
@@ -40,7 +41,9 @@ pub fn commands_are_bounded_by_what_is_asked_for()
         (w : NodeWorld) → world_behind (new_world hosts) events ≡ w → (r : Running) → w.controller ≡ Some r → (v : Work) →
         ComesTo (comes_to_pass TimePasses (as_it_ticks w r)) v →
         commands_noted ((entries_in events ++ (all_aged w).1) ++ v.entries) ≤ commands_by_events events }
+    ensures asked { (header : Header) (lines : List Line) (t : NodeHistory) → FollowsNodes header lines t → AreNodeLinesOf header lines →
+        (front back : List Occurrence) → occurrences_in t ≡ front ++ back → commands_by_events front ≤ 234 * lines_asking lines }
     ensures lines { (header : Header) (lines : List Line) (t : NodeHistory) → FollowsNodes header lines t → IsNodeHeader header →
         AreNodeLinesOf header lines → (front back : List Occurrence) → occurrences_in t ≡ front ++ back →
-        commands_noted (entries_in front) ≤ 234 * length lines }
+        commands_noted (entries_in front) ≤ 234 * lines_asking lines }
 {}

@@ -1,13 +1,13 @@
 //! In each event of a history of a world of nodes what a node does outside turns is what is due. Nothing here runs.
 
-ghost use Rattle.std.specs.Prelude.{◌≤◌, List, length};
+ghost use Rattle.std.specs.Prelude.{◌≤◌, List};
 ghost use Rattle.trace_model.specs.declared.line.Header.{Header};
 ghost use Rattle.trace_model.specs.declared.line.Line.{Line};
 ghost use Rattle.trace_model.specs.Lines.{IsNodeHeader};
 ghost use Rattle.node_machine.specs.world.NodeHistories.{FollowsNodes, NodeHistory};
 ghost use Rattle.answer_laws.specs.answers.Answered.{AreDue};
 ghost use Rattle.answer_laws.specs.answers.Moments.{AtEachOccurrence};
-ghost use Rattle.answer_laws.specs.schedules.Ranges.{AreNodeLinesOf};
+ghost use Rattle.answer_laws.specs.schedules.Ranges.{AreNodeLinesOf, lines_asking};
 
 /// In each event of a history that follows a schedule whose header and lines are in their ranges each node, the controller and each host,
 /// answers before its first turn exactly what is due: at a host the message of a line, or the first command of an init; at the controller
@@ -15,5 +15,5 @@ ghost use Rattle.answer_laws.specs.schedules.Ranges.{AreNodeLinesOf};
 /// then those of askers whose notices are late.
 pub fn answers_outside_turns_are_those_due()
     ensures due { (header : Header) (lines : List Line) (t : NodeHistory) → FollowsNodes header lines t → IsNodeHeader header →
-        AreNodeLinesOf header lines → length lines ≤ 20000 → AtEachOccurrence t (AreDue t.header.hosts.items) }
+        AreNodeLinesOf header lines → lines_asking lines ≤ 20000 → AtEachOccurrence t (AreDue t.header.hosts.items) }
 {}

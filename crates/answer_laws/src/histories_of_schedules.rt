@@ -15,10 +15,10 @@ ghost use Rattle.node_laws.specs.kept.Hosts.{AreHosts, IsFew, IsSentByHost};
 ghost use Rattle.node_order.specs.readings.Worlds.{IsInitOfHost};
 ghost use Rattle.node_order.specs.order.Legal.{LegalNodes};
 ghost use Rattle.answer_laws.specs.answers.Headline.{IsLegal, IsPlayed, PlayedHistory};
-ghost use Rattle.answer_laws.specs.schedules.Ranges.{AreNodeLinesOf, IsNodeLineOf};
+ghost use Rattle.answer_laws.specs.schedules.Ranges.{AreNodeLinesOf, IsNodeLineOf, lines_asking};
 
-/// A line that may stand below a header, as a reader of schedules takes it, is in its range, but for settling, which no world of nodes
-/// does yet.
+/// A line that may stand below a header, as a reader of schedules takes it, is in its range, but for one that lets the links settle, which comes
+/// to other lines.
 pub fn lines_that_may_stand_are_in_their_ranges()
     ensures { (header : Header) (said : Line) → MayFollow header said → ((rounds : ℕ) → said ≡ line.Settle rounds → ⊥) → IsNodeLineOf header said }
 {}
@@ -33,21 +33,23 @@ pub fn lines_in_their_ranges_can_be_played()
     ensures inits { (header : Header) (lines : List Line) → AreNodeLinesOf header lines → AllByRecursion IsInitOfHost lines }
 {}
 
-/// Over a history that follows such a schedule no node ever has more commands than 4,200 for each line. So behind 20,000 lines, as many
-/// as a schedule has at most, none has more than a journal counts.
+/// Over a history that follows such a schedule no node ever has more commands than 234 for each line that asks for something (`bounded`): no line
+/// does by which only frames are taken or time passes, and no more lines do than there are (`lines`). So where 20,000 lines do, no node has more
+/// than a journal counts (`few`).
 pub fn commands_of_a_schedule_are_few()
     ensures bounded { (header : Header) (lines : List Line) (t : NodeHistory) → FollowsNodes header lines t → IsNodeHeader header →
         AreNodeLinesOf header lines → (front back : List Entry) (n : ℕ) → node_entries t ≡ front ++ back →
-        length (commands_in front n) ≤ 4200 * length lines }
+        length (commands_in front n) ≤ 234 * lines_asking lines }
+    ensures lines { (lines : List Line) → lines_asking lines ≤ length lines }
     ensures few { (header : Header) (lines : List Line) (t : NodeHistory) → FollowsNodes header lines t → IsNodeHeader header →
-        AreNodeLinesOf header lines → length lines ≤ 20000 → IsFew (node_entries t) }
+        AreNodeLinesOf header lines → lines_asking lines ≤ 20000 → IsFew (node_entries t) }
 {}
 
 /// Every history that follows a schedule of a world of nodes is legal. It asks for nothing but that the header and the lines are in
-/// their ranges, and that there are 20,000 lines at most.
+/// their ranges, and that 20,000 of them at most ask for something.
 pub fn every_history_of_a_schedule_is_legal()
     ensures { (header : Header) (lines : List Line) (t : NodeHistory) → FollowsNodes header lines t → IsNodeHeader header →
-        AreNodeLinesOf header lines → length lines ≤ 20000 → LegalNodes t }
+        AreNodeLinesOf header lines → lines_asking lines ≤ 20000 → LegalNodes t }
 {}
 
 /// The headline: every history that is played from a schedule whose header and lines are in their ranges is legal (`IsLegal`), with nothing

@@ -1,7 +1,7 @@
 //! Passes of the controller in histories of worlds of nodes: as each begins, the messages that wait are those that are read, and any
 //! command finds room in its turns; so it replies to messages as is read. Nothing here runs.
 
-ghost use Rattle.std.specs.Prelude.{◌≡◌, ◌++◌, ◌+◌, ◌≤◌, ℕ, false, length, List, Some};
+ghost use Rattle.std.specs.Prelude.{◌≡◌, ◌++◌, ◌+◌, ◌*◌, ◌≤◌, ℕ, false, length, List, Some};
 ghost use Rattle.std.specs.List.{AllByRecursion};
 ghost use Rattle.trace_model.specs.declared.line.Header.{Header};
 ghost use Rattle.trace_model.specs.declared.line.Line.{Line};
@@ -22,6 +22,7 @@ ghost use Rattle.node_order.specs.passes.Steps.{comes_to_pass, controller_begins
 ghost use Rattle.answer_laws.specs.replies.Known.{HasRoomForAll, MessagesAreRead};
 ghost use Rattle.answer_laws.specs.replies.Passes.{AreRepliedIn, BeginsPass};
 ghost use Rattle.answer_laws.specs.schedules.Ranges.{AreNodeLinesOf};
+ghost use Rattle.answer_laws.specs.bounds.Commands.{commands_by_events};
 ghost use Rattle.answer_laws.specs.passes.Counts.{commands_noted};
 
 /// In a history that follows a schedule, for hosts from 01 to 07 that are all different: in each step of the controller, where something
@@ -59,36 +60,36 @@ pub fn journals_have_room_while_few_commands_are_noted()
         commands_noted ((entries_in front ++ (all_aged w).1) ++ v.entries) ≤ 4000000000 → HasRoomForAll v }
 {}
 
-/// In such a history, of seven hosts at most, with lines that can be played and at most 90,000,000 events: in each step of the controller its
-/// pass begins so that in its turns, in whatever order the ends have them, any command finds room, and the messages that wait are read. So,
-/// where the power is on then, each message that has its turn in it is replied to as is read, and each that is noted as held is the first
-/// one there, wasn't noted so before, and lacks what is noted.
+/// In such a history, of seven hosts at most, with lines that can be played: in each step of the controller behind events of which at most
+/// 4,000,000,000 commands may come, however many events there are, its pass begins so that in its turns, in whatever order the ends have them,
+/// any command finds room, and the messages that wait are read. So, where the power is on then, each message that has its turn in it is
+/// replied to as is read, and each that is noted as held is the first one there, wasn't noted so before, and lacks what is noted.
 pub fn each_pass_of_the_controller_replies_as_is_read()
     ensures comes { (header : Header) (lines : List Line) (t : NodeHistory) → FollowsNodes header lines t → AreHosts header.hosts.items →
         length header.hosts.items ≤ 7 → AllByRecursion IsSentByHost lines → IsFew (node_entries t) → ArePlayable lines → (front back : List Occurrence) →
-        occurrences_in t ≡ front ++ back → length front ≤ 90000000 → (w : NodeWorld) → world_behind (new_world header.hosts.items) front ≡ w →
+        occurrences_in t ≡ front ++ back → commands_by_events front ≤ 4000000000 → (w : NodeWorld) → world_behind (new_world header.hosts.items) front ≡ w →
         (r : Running) → w.controller ≡ Some r → (h : ℕ) (comes : Comes) (i : LinkInput) → input_of (link_to w.sites h) comes ≡ Some i →
         BeginsPass (entries_in front) (comes_to_pass (AtEnd h i) (controller_begins w r h comes)) }
     ensures ticks { (header : Header) (lines : List Line) (t : NodeHistory) → FollowsNodes header lines t → AreHosts header.hosts.items →
         length header.hosts.items ≤ 7 → AllByRecursion IsSentByHost lines → IsFew (node_entries t) → ArePlayable lines → (front back : List Occurrence) →
-        occurrences_in t ≡ front ++ back → length front ≤ 90000000 → (w : NodeWorld) → world_behind (new_world header.hosts.items) front ≡ w →
+        occurrences_in t ≡ front ++ back → commands_by_events front ≤ 4000000000 → (w : NodeWorld) → world_behind (new_world header.hosts.items) front ≡ w →
         (r : Running) → w.controller ≡ Some r →
         BeginsPass (entries_in front ++ (all_aged w).1) (comes_to_pass TimePasses (as_it_ticks w r)) }
     ensures comes_replied { (header : Header) (lines : List Line) (t : NodeHistory) → FollowsNodes header lines t → AreHosts header.hosts.items →
         length header.hosts.items ≤ 7 → AllByRecursion IsSentByHost lines → IsFew (node_entries t) → ArePlayable lines → (front back : List Occurrence) →
-        occurrences_in t ≡ front ++ back → length front ≤ 90000000 → (w : NodeWorld) → world_behind (new_world header.hosts.items) front ≡ w →
+        occurrences_in t ≡ front ++ back → commands_by_events front ≤ 4000000000 → (w : NodeWorld) → world_behind (new_world header.hosts.items) front ≡ w →
         (r : Running) → w.controller ≡ Some r → (h : ℕ) (comes : Comes) (i : LinkInput) → input_of (link_to w.sites h) comes ≡ Some i →
         (comes_to_pass (AtEnd h i) (controller_begins w r h comes)).cut ≡ false →
         AreRepliedIn header.hosts.items (entries_in front) (comes_to_pass (AtEnd h i) (controller_begins w r h comes)) }
     ensures ticks_replied { (header : Header) (lines : List Line) (t : NodeHistory) → FollowsNodes header lines t → AreHosts header.hosts.items →
         length header.hosts.items ≤ 7 → AllByRecursion IsSentByHost lines → IsFew (node_entries t) → ArePlayable lines → (front back : List Occurrence) →
-        occurrences_in t ≡ front ++ back → length front ≤ 90000000 → (w : NodeWorld) → world_behind (new_world header.hosts.items) front ≡ w →
+        occurrences_in t ≡ front ++ back → commands_by_events front ≤ 4000000000 → (w : NodeWorld) → world_behind (new_world header.hosts.items) front ≡ w →
         (r : Running) → w.controller ≡ Some r → (comes_to_pass TimePasses (as_it_ticks w r)).cut ≡ false →
         AreRepliedIn header.hosts.items (entries_in front ++ (all_aged w).1) (comes_to_pass TimePasses (as_it_ticks w r)) }
 {}
 
-/// A line in its range causes 100 events at most, so the events of 20,000 such lines, as many as a schedule has at most, are few enough.
+/// A line in its range causes 100 events at most.
 pub fn events_of_a_schedule_are_few()
     ensures { (header : Header) (lines : List Line) (t : NodeHistory) → FollowsNodes header lines t → AreNodeLinesOf header lines →
-        ArePlayable lines → length lines ≤ 20000 → (front back : List Occurrence) → occurrences_in t ≡ front ++ back → length front ≤ 90000000 }
+        ArePlayable lines → (front back : List Occurrence) → occurrences_in t ≡ front ++ back → length front ≤ 100 * length lines }
 {}

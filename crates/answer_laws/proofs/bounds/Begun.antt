@@ -59,8 +59,7 @@ use Rattle.node_laws.specs.kept.Books.{hosts_of_ends}
 use Rattle.node_order.proofs.readings.Sites.{comes_outside, near_end_side}
 use Rattle.node_order.proofs.turns.Works.{Leaves, aged_none, arrival_still, flat_leaves, sites_is, still_leaves}
 use Rattle.answer_laws.specs.steps.Worlds.{as_it_ticks}
-use Rattle.answer_laws.proofs.passes.Few.{turns_in_order}
-use Rattle.answer_laws.proofs.passes.Whole.{near_goes}
+use Rattle.answer_laws.proofs.passes.InTurn.{near_goes, turns_in_order}
 use Rattle.answer_laws.proofs.bounds.Costs.{IsNoSent, costs, costs-append, pays-append, notes_free}
 use Rattle.answer_laws.proofs.bounds.Holding.{node_holds}
 use Rattle.answer_laws.proofs.bounds.Deeds.{Owes, less}

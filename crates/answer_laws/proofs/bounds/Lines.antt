@@ -19,10 +19,10 @@ use Rattle.node_machine.specs.world.Lines.{if_true, if_off, first_cause, frames_
 use Rattle.node_machine.specs.world.Lines.{LineOutcome, tables_told, goes_on, line_step}
 use Rattle.node_machine.specs.world.Lines.LineOutcome.{WasRefused}
 use Rattle.node_machine.specs.world.NodeHistories.{FollowsNodes, NodeHistory, steps_from, occurrences_of, occurrences_in, entries_in}
-use Rattle.node_order.specs.links.Runs.{IsPlayable}
+use Rattle.node_order.specs.links.Runs.{ArePlayable, IsPlayable}
 use Rattle.node_laws.proofs.telling.Lasting.{AllMay, AreCaused, events_of_steps, lines_caused, repeated_may, damaged_may}
 use Rattle.answer_laws.specs.passes.Counts.{commands_noted}
-use Rattle.answer_laws.specs.schedules.Ranges.{IsNodeLineOf, AreNodeLinesOf}
+use Rattle.answer_laws.specs.schedules.Ranges.{IsNodeLineOf, AreNodeLinesOf, asking, lines_asking}
 use Rattle.answer_laws.specs.bounds.Commands.{MayBeCaused, AreCausedSo, commands_by, commands_by_all, commands_by_events}
 use Rattle.answer_laws.proofs.schedules.Ranges.{hosts_are, hosts_few, playable}
 use Rattle.answer_laws.proofs.bounds.Causes.{events_bounded}
@@ -64,6 +64,19 @@ front_caused (o ∷ front) back w are = (are.0, are.1, front_caused front back (
 
 -- ## How many commands come of lines
 
+pub asking-append : (xs ys : List Line) → lines_asking (xs ++ ys) ≡ lines_asking xs + lines_asking ys
+asking-append [] ys = omega arith
+asking-append (l ∷ xs) ys = let rest = asking-append xs ys in omega (arith, rest)
+
+-- no more lines ask for something than there are
+pub asking_few : (lines : List Line) → lines_asking lines ≤ length lines
+asking_few [] = omega arith
+asking_few (l ∷ lines) = let one = once l in let rest = asking_few lines in omega (arith, one, rest) where
+  once : (l : Line) → asking l ≤ 1
+  once (line.Deliver e count) = omega arith
+  once (line.Tick times) = omega arith
+  once _ = omega arith
+
 none_by : (n : ℕ) (c : Happening) → commands_by c ≡ 0 → commands_by_all (replicate n c) ≡ 0
 none_by zero c none = refl
 none_by (suc n) c none = let rest = none_by n c none in omega (arith, none, rest)
@@ -74,7 +87,7 @@ damaged_by e (Some Same) = refl
 damaged_by e (Some (LostFor why)) = refl
 damaged_by e (Some (Undetected read)) = refl
 
-line_most : (header : Header) (w : NodeWorld) (l : Line) → IsNodeLineOf header l → commands_by_all (happenings w l) ≤ 234
+line_most : (header : Header) (w : NodeWorld) (l : Line) → IsNodeLineOf header l → commands_by_all (happenings w l) ≤ 234 * asking l
 line_most header w (line.Send e pid message) is = omega arith
 line_most header w (line.Deliver e count) is = let none = none_by (taken_of count (frames_at w e)) (Takes e) refl in omega (arith, none)
 line_most header w (line.Lose e) is = omega arith
@@ -131,18 +144,18 @@ goes_most w (line.Arm n nth fill) = happened_most (happenings w (line.Arm n nth 
 goes_most w (line.Init e identity pipes) = happened_most (happenings w (line.Init e identity pipes)) w
 goes_most w (line.Settle n) = happened_most [] w
 
-step_most : (header : Header) (w : NodeWorld) (l : Line) → IsNodeLineOf header l → commands_by_events (occurrences_of (line_step w l).1) ≤ 234
+step_most : (header : Header) (w : NodeWorld) (l : Line) → IsNodeLineOf header l → commands_by_events (occurrences_of (line_step w l).1) ≤ 234 * asking l
 step_most header w l is = go (refusal_in w l) where
   by : Option NoCause → NodeWorld × LineOutcome
   by (Some why) = (w, WasRefused why)
   by None = goes_on w l
 
-  go : (o : Option NoCause) → commands_by_events (occurrences_of (by o).1) ≤ 234
+  go : (o : Option NoCause) → commands_by_events (occurrences_of (by o).1) ≤ 234 * asking l
   go (Some why) = omega arith
   go None = let one = goes_most w l in let most = line_most header w l is in omega (arith, one, most)
 
 steps_most : (header : Header) (lines : List Line) (w : NodeWorld) → AreNodeLinesOf header lines
-    → commands_by_events (events_of_steps (steps_from w lines)) ≤ 234 * length lines
+    → commands_by_events (events_of_steps (steps_from w lines)) ≤ 234 * lines_asking lines
 steps_most header [] w are = omega arith
 steps_most header (l ∷ lines) w are =
     let v : NodeWorld = (line_step w l).0 in
@@ -153,18 +166,33 @@ steps_most header (l ∷ lines) w are =
 
 -- ## Histories
 
+-- the first events of a history, each caused in the world behind those before it
+pub front_so : (header : Header) (lines : List Line) (t : NodeHistory) → FollowsNodes header lines t → ArePlayable lines → (front back : List Occurrence)
+    → occurrences_in t ≡ front ++ back → AreCausedSo (new_world header.hosts.items) front
+front_so header lines t follows play front back parts =
+    let first : NodeWorld = new_world header.hosts.items in
+    let events : List Occurrence = events_of_steps (steps_from first lines) in
+    let is : events ≡ front ++ back = ap events_of_steps (sym follows.steps_are) ∙ parts in
+    let all : AreCausedSo first events = caused_so events first (lines_caused MayBeCaused IsPlayable line_may lines first play) in
+    front_caused front back first (subst (AreCausedSo first) is all)
+
+-- few commands come of them
+pub front_asked : (header : Header) (lines : List Line) (t : NodeHistory) → FollowsNodes header lines t → AreNodeLinesOf header lines
+    → (front back : List Occurrence) → occurrences_in t ≡ front ++ back → commands_by_events front ≤ 234 * lines_asking lines
+front_asked header lines t follows are front back parts =
+    let first : NodeWorld = new_world header.hosts.items in
+    let is : events_of_steps (steps_from first lines) ≡ front ++ back = ap events_of_steps (sym follows.steps_are) ∙ parts in
+    let most = steps_most header lines first are in
+    let both = by-append front back in
+    let same : commands_by_events (events_of_steps (steps_from first lines)) ≡ commands_by_events (front ++ back) = ap commands_by_events is in
+    omega (arith, most, both, same)
+
+-- and few are noted
 pub lines_bounded : (header : Header) (lines : List Line) (t : NodeHistory) → FollowsNodes header lines t → IsNodeHeader header
     → AreNodeLinesOf header lines → (front back : List Occurrence) → occurrences_in t ≡ front ++ back
-    → commands_noted (entries_in front) ≤ 234 * length lines
+    → commands_noted (entries_in front) ≤ 234 * lines_asking lines
 lines_bounded header lines t follows nodes are front back parts =
-    let hosts : List ℕ = header.hosts.items in
-    let events : List Occurrence = events_of_steps (steps_from (new_world hosts) lines) in
-    let is : events ≡ front ++ back = ap events_of_steps (sym follows.steps_are) ∙ parts in
-    let all : AreCausedSo (new_world hosts) events =
-    caused_so events (new_world hosts) (lines_caused MayBeCaused IsPlayable line_may lines (new_world hosts) (playable header lines are)) in
-    let caused : AreCausedSo (new_world hosts) front = front_caused front back (new_world hosts) (subst (AreCausedSo (new_world hosts)) is all) in
-    let few = events_bounded hosts front (hosts_are header nodes) (hosts_few header nodes) caused in
-    let most = steps_most header lines (new_world hosts) are in
-    let both = by-append front back in
-    let same : commands_by_events events ≡ commands_by_events (front ++ back) = ap commands_by_events is in
-    omega (arith, few, most, both, same)
+    let caused = front_so header lines t follows (playable header lines are) front back parts in
+    let few = events_bounded header.hosts.items front (hosts_are header nodes) (hosts_few header nodes) caused in
+    let most = front_asked header lines t follows are front back parts in
+    omega (arith, few, most)

@@ -23,12 +23,13 @@ use Rattle.node_laws.specs.telling.Telling.{of_link, world_behind}
 use Rattle.node_order.specs.links.Runs.{ArePlayable, new_line}
 use Rattle.node_order.specs.order.Told.{IsLinkTold}
 use Rattle.node_order.proofs.order.Lines.{history_so}
-use Rattle.answer_laws.specs.bounds.Resets.{AreNotedWithin, AreSessionsWithin, NumbersWithin, NumbersWithinOnEach, SessionWithin, causes_of_events}
-use Rattle.answer_laws.specs.bounds.Resets.{rsets_by_all}
-use Rattle.answer_laws.specs.bounds.Resets.{rsets_by_all_bare}
+use Rattle.link_entries.specs.messages.Rsets.{NumbersWithin}
+use Rattle.node_order.specs.rsets.Causes.{NumbersWithinOnEach, happened_in, rsets_by_all}
+use Rattle.answer_laws.specs.bounds.Resets.{AreNotedWithin, AreSessionsWithin, SessionWithin}
+use Rattle.history.specs.BareRsets.{rsets_by_all_bare}
 use Rattle.answer_laws.proofs.bounds.SessionsNoted.{entries_within, more, run_within}
-use Rattle.answer_laws.proofs.bounds.RsetsInWorlds.{numbers_behind}
-use Rattle.answer_laws.proofs.bounds.RsetsInBareWorlds.{numbers_in_bare}
+use Rattle.node_order.proofs.rsets.InWorlds.{numbers_behind}
+use Rattle.history.proofs.RsetsInBareWorlds.{numbers_in_bare}
 
 -- ## Histories of nodes
 
@@ -57,9 +58,9 @@ told_within n h l t few told =
 pub sessions_in_history : (header : Header) (lines : List Line) (t : NodeHistory) → FollowsNodes header lines t → AreHosts header.hosts.items
     → ArePlayable lines → (front back : List Occurrence) → occurrences_in t ≡ front ++ back → (h : ℕ) (s : Site)
     → site_at (world_behind (new_world header.hosts.items) front).sites h ≡ Some s
-    → AreSessionsWithin (rsets_by_all (causes_of_events front)) (of_link h (entries_in front))
+    → AreSessionsWithin (rsets_by_all (happened_in front)) (of_link h (entries_in front))
 sessions_in_history header lines t follows are playable front back q h s there =
-    let n : ℕ = rsets_by_all (causes_of_events front) in
+    let n : ℕ = rsets_by_all (happened_in front) in
     let few = found n h s (world_behind (new_world header.hosts.items) front).sites (numbers_behind header.hosts.items front) there in
     told_within n h s.link (entries_in front) few.resets ((history_so header lines t follows are playable front back q).each h s there).told
 

@@ -25,9 +25,10 @@ use Rattle.link_entries.specs.entries.Entries.{entries, far}
 use Rattle.link_entries.specs.entries.Entries.End.{Controller, Host}
 use Rattle.link_entries.specs.entries.Entries.Entry.{Up, Down, Active, GaveUp, Acked, Got, Sent, Emit, Took, Lost, Tick, Restarted, Cut}
 use Rattle.history.specs.Steps.{entry_of, entries_for}
-use Rattle.answer_laws.specs.bounds.Resets.{NotedWithin, AreNotedWithin, SessionWithin, AreSessionsWithin, HasLowNumbers}
-use Rattle.answer_laws.proofs.bounds.RsetNumbers.{number_low, exchanged_numbered, aged_numbered, silent_numbered, took_low}
-use Rattle.answer_laws.proofs.bounds.RsetNumbers.{steps_numbered, tick_numbered, here_numbered, all_numbered, event_numbered, start_numbered}
+use Rattle.link_entries.specs.messages.Rsets.{HasLowNumbers}
+use Rattle.answer_laws.specs.bounds.Resets.{NotedWithin, AreNotedWithin, SessionWithin, AreSessionsWithin}
+use Rattle.link_entries.proofs.messages.RsetNumbers.{number_low, exchanged_numbered, aged_numbered, silent_numbered, took_low}
+use Rattle.link_entries.proofs.messages.RsetNumbers.{steps_numbered, tick_numbered, here_numbered, all_numbered, event_numbered, start_numbered}
 
 -- ## Lists
 

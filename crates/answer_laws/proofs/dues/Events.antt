@@ -55,6 +55,7 @@ use Rattle.answer_laws.proofs.dues.Comes.{comes_due, nothing_due, others_due, ow
 use Rattle.answer_laws.proofs.dues.Ended.{any_cause, ends_at}
 use Rattle.answer_laws.proofs.dues.Taken.{IsUnread, first_tookless, tookless_all}
 use Rattle.answer_laws.proofs.dues.Ticks.{off_due, on_due}
+use Rattle.answer_laws.specs.bounds.Commands.{commands_by_events}
 use Rattle.answer_laws.proofs.passes.Whole.{comes_roomy}
 use Rattle.answer_laws.proofs.steps.Reading.{history_reads}
 use Rattle.answer_laws.proofs.worlds.Downs.{any_none, notes_downless}
@@ -106,7 +107,7 @@ module _ (header : Header) (nodes : IsNodeHeader header) where
 module _ (header : Header) (lines : List Line) (t : NodeHistory) (follows : FollowsNodes header lines t) (are : AreHosts header.hosts.items)
     (seven : length header.hosts.items ≤ 7) (sent : AllByRecursion IsSentByHost lines) (sides : AllByRecursion IsBegunByHost lines)
     (few : IsFew (node_entries t)) (playable : ArePlayable lines) (past back : List Occurrence) (parts : occurrences_in t ≡ past ++ back)
-    (long : length past ≤ 90000000) where
+    (asked : commands_by_events past ≤ 4000000000) where
   abbrev hosts : List ℕ
   hosts = header.hosts.items
 
@@ -145,7 +146,7 @@ module _ (header : Header) (lines : List Line) (t : NodeHistory) (follows : Foll
       let frames : List Entry = flat_map (λ (s : Site). frames_noted Controller s.host (wires_for s.link (comes_to h comes s.host)) v) w.sites in
       subst (Due c) (sym (append_assoc v.entries frames rest))
       (comes_due hosts are past w a between clfs before.sessions r q h comes i input
-      (comes_roomy header lines t follows are seven sent few past back parts long playable w refl r q h comes i input) rest other c begun still))
+      (comes_roomy header lines t follows are seven sent few past back parts asked playable w refl r q h comes i input) rest other c begun still))
 
   coming : (c : Happening) (e : End) (comes : Comes) → begun_at 0 c ≡ [] → is_tick c ≡ false → (rest : List Entry) → AreNotOf 0 rest
       → Due c ((comes_at w e comes).1 ++ rest)
@@ -251,11 +252,11 @@ each_begins (x ∷ past) back o w caused = each_begins past back o (world_step w
 module _ (header : Header) (lines : List Line) (t : NodeHistory) (follows : FollowsNodes header lines t) (nodes : IsNodeHeader header)
     (are : AreHosts header.hosts.items) (in_range : AreNodeLinesOf header lines) (seven : length header.hosts.items ≤ 7)
     (sent : AllByRecursion IsSentByHost lines) (sides : AllByRecursion IsBegunByHost lines) (few : IsFew (node_entries t)) (playable : ArePlayable lines)
-    (short : (front back : List Occurrence) → occurrences_in t ≡ front ++ back → length front ≤ 90000000) where
+    (asked : (front back : List Occurrence) → occurrences_in t ≡ front ++ back → commands_by_events front ≤ 4000000000) where
   controller_due : (past back : List Occurrence) (o : Occurrence) → occurrences_in t ≡ past ++ (o ∷ back) → IsDueAt header.hosts.items past o 0
   controller_due past back o parts =
       subst (λ es. IsDueAt header.hosts.items past (record { cause = o.cause; entries = es }) 0) (sym may.0)
-      (event_due header lines t follows are seven sent sides few playable past (o ∷ back) parts (short past (o ∷ back) parts) o.cause may.1) where
+      (event_due header lines t follows are seven sent sides few playable past (o ∷ back) parts (asked past (o ∷ back) parts) o.cause may.1) where
         first : NodeWorld
         first = new_world header.hosts.items
 

@@ -1,5 +1,5 @@
 -- Over histories hosts stand as is read, so each message that has its turn at a host, or is noted as held there, is answered as is read.
-use Rattle.std.proofs.Common.{◌≡◌, ℕ, ◌*◌, ◌≤◌, List, [], ◌∷◌, ◌++◌, length, refl, sym, ap, subst, ◌∙◌, append-nil, arith}
+use Rattle.std.proofs.Common.{◌≡◌, ℕ, ◌≤◌, List, ◌∷◌, ◌++◌, refl, sym, ap, subst, ◌∙◌, arith}
 use Rattle.std.specs.Prelude.{None, Some}
 use Rattle.std.specs.List.{AllByRecursion}
 use Rattle.std.proofs.lemmas.List.Concat.{flat_map-append}
@@ -22,7 +22,6 @@ use Rattle.node_order.specs.readings.Worlds.{IsInitOfHost, SiteReads}
 use Rattle.node_order.proofs.order.Asked.{AreDone, done_back, history_done}
 use Rattle.node_order.proofs.order.Lines.{IsSo, history_so}
 use Rattle.node_order.proofs.readings.Lines.{events_read}
-use Rattle.node_order.proofs.turns.Lines.{in_turn}
 use Rattle.node_readings.specs.creations.Worlds.{HasNoneAside}
 use Rattle.node_readings.specs.views.Inits.{IsBegunByHost, init_in}
 use Rattle.node_readings.proofs.creations.Lines.{history_keeps}
@@ -36,9 +35,7 @@ use Rattle.node_readings.proofs.views.Worlds.{far_node, host_node}
 use Rattle.answer_laws.specs.answers.Answered.{IsHeldFor, IsReplied}
 use Rattle.answer_laws.specs.answers.Moments.{AtEachEntry}
 use Rattle.answer_laws.specs.passes.Counts.{commands_noted as commits}
-use Rattle.answer_laws.proofs.passes.Few.{front_paid, same_count}
 use Rattle.answer_laws.proofs.passes.Growing.{commits-append}
-use Rattle.answer_laws.proofs.schedules.Ends.{few_commits}
 use Rattle.answer_laws.proofs.worlds.AtRest.{SiteWaits}
 use Rattle.answer_laws.proofs.worlds.Done.{IsAtRest, history_rests}
 use Rattle.answer_laws.proofs.worlds.Events.{waiting_from}
@@ -103,17 +100,8 @@ module _ (header : Header) (lines : List Line) (t : NodeHistory) (follows : Foll
 
   -- ## Commands
 
-  module _ (seven : length hosts ≤ 7) (short : length (occurrences_in t) ≤ 90000000) where
-    -- few commands are noted in all
-    all_low : commits (node_entries t) ≤ 4000000000
-    all_low =
-        let whole : occurrences_in t ≡ occurrences_in t ++ [] = sym (append-nil (occurrences_in t)) in
-        let paid = front_paid hosts seven header lines t follows refl are (occurrences_in t) [] whole in
-        let turns = in_turn header lines t follows are.different (none_zero hosts are.all) in
-        let all = few_commits (42 * length (occurrences_in t)) (node_entries t) turns paid in
-        let same = same_count (node_entries t) in
-        omega (arith, all, same, short)
-
+  -- where few commands are noted in all
+  module _ (noted : commits (node_entries t) ≤ 4000000000) where
     pub low : (past back : List Occurrence) (o : Occurrence) → occurrences_in t ≡ past ++ (o ∷ back) → commits (entries_in past ++ o.entries) ≤ 4000000000
     low past back o parts =
         let is : node_entries t ≡ entries_in past ++ (o.entries ++ entries_in back) =
@@ -122,8 +110,7 @@ module _ (header : Header) (lines : List Line) (t : NodeHistory) (follows : Foll
         let one = commits-append (entries_in past) (o.entries ++ entries_in back) in
         let two = commits-append o.entries (entries_in back) in
         let three = commits-append (entries_in past) o.entries in
-        let all = all_low in
-        omega (arith, same, one, two, three, all)
+        omega (arith, same, one, two, three, noted)
 
     -- ## Each event
 

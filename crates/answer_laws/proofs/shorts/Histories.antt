@@ -1,5 +1,5 @@
 -- At the end of each event in which a host made a step and runs on, the first message that is left at its end lacks room.
-use Rattle.std.proofs.Common.{◌≡◌, inl, inr, ℕ, ◌≤◌, ◌||◌, Bool, true, false, eqb, List, [], ◌∷◌, ◌++◌, length, refl, sym, ap, ap₂, subst, ◌∙◌}
+use Rattle.std.proofs.Common.{◌≡◌, inl, inr, ℕ, ◌≤◌, ◌||◌, Bool, true, false, eqb, List, [], ◌∷◌, ◌++◌, refl, sym, ap, ap₂, subst, ◌∙◌}
 use Rattle.std.proofs.Common.{append_assoc, arith}
 use Rattle.std.specs.Prelude.{None, Option, Some, is_some}
 use Rattle.std.specs.List.{AllByRecursion, list_any}
@@ -36,8 +36,7 @@ use Rattle.answer_laws.proofs.shorts.Taking.{MayTake, line_takes}
 
 module _ (header : Header) (lines : List Line) (t : NodeHistory) (follows : FollowsNodes header lines t) (are : AreHosts header.hosts.items)
     (playable : ArePlayable lines) (sent : AllByRecursion IsSentByHost lines) (inits : AllByRecursion IsInitOfHost lines)
-    (sides : AllByRecursion IsBegunByHost lines) (few : IsFew (node_entries t)) (seven : length header.hosts.items ≤ 7)
-    (short : length (occurrences_in t) ≤ 90000000) where
+    (sides : AllByRecursion IsBegunByHost lines) (few : IsFew (node_entries t)) (noted : commits (node_entries t) ≤ 4000000000) where
   abbrev hosts : List ℕ
   hosts = header.hosts.items
 
@@ -108,7 +107,7 @@ module _ (header : Header) (lines : List Line) (t : NodeHistory) (follows : Foll
       host_short =
           subst (Short o.cause) (sym may.0)
           (event_short o.cause may.1 (subst (λ l. commits (entries_in past ++ l) ≤ 4000000000) may.0
-          (low header lines t follows are playable sent inits sides few seven short past back o parts)))
+          (low header lines t follows are playable sent inits sides few noted past back o parts)))
 
   pub hosts_left_short : AtEachOccurrence t (λ past o. AllByRecursion (λ h. is_left_short t.header.hosts.items past o (end_h h) ≡ true) t.header.hosts.items)
   hosts_left_short past back o parts =

@@ -42,7 +42,7 @@ use Rattle.answer_laws.specs.answers.Answered.{AreDone, ends_in, is_done, throug
 use Rattle.answer_laws.specs.answers.Moments.{AtEachOccurrence}
 use Rattle.answer_laws.proofs.passes.Begins.{WaitsRead, new_reads, reads_last}
 use Rattle.answer_laws.proofs.passes.Held.{aged_leave}
-use Rattle.answer_laws.proofs.passes.Whole.{near_goes}
+use Rattle.answer_laws.proofs.passes.InTurn.{near_goes}
 use Rattle.answer_laws.proofs.worlds.AtRest.{SiteRests, SiteWaits, far_site, flat_idle, frames_idle, idle_still, near_rests, site_on}
 use Rattle.answer_laws.proofs.worlds.Events.{AllAtRest, AllWaiting, after_near, all_rests, each_done, far_begins, far_coming, far_idle, idle_all, near_comes}
 use Rattle.answer_laws.proofs.worlds.Events.{boot_rests, cut_rests, lost_rests, quiet_links, rest_on, same_sym, waiting_from, written}

@@ -64,7 +64,7 @@ use Rattle.answer_laws.proofs.passes.Begins.{WaitsRead}
 use Rattle.answer_laws.proofs.passes.Held.{desks_held, error_held, is_held_among, new_held, ports_held, site_fine}
 use Rattle.answer_laws.proofs.passes.Ordered.{deeds_still}
 use Rattle.answer_laws.proofs.passes.Sides.{AreNoBoots, begins_unbooted, notes_unbooted}
-use Rattle.answer_laws.proofs.passes.Whole.{near_goes}
+use Rattle.answer_laws.proofs.passes.InTurn.{near_goes}
 use Rattle.answer_laws.proofs.worlds.AtRest.{SiteRests, SiteWaits, far_site, flat_idle, frames_idle, near_rests, site_on}
 use Rattle.node_order.proofs.power.Events.{begins_part, controller_part, host_part}
 use Rattle.answer_laws.proofs.worlds.Steps.{host_begins}

@@ -50,6 +50,7 @@ use Rattle.answer_laws.proofs.worlds.Everywhere.{IsAnsweredNear}
 use Rattle.answer_laws.specs.replies.Known.{IsNoAnswer}
 use Rattle.answer_laws.specs.replies.Passes.{AreRepliedIn}
 use Rattle.answer_laws.specs.steps.Worlds.{as_it_ticks}
+use Rattle.answer_laws.specs.bounds.Commands.{commands_by_events}
 use Rattle.answer_laws.proofs.passes.Whole.{comes_are_replied, ticks_are_replied}
 use Rattle.answer_laws.proofs.worlds.Ascending.{frames_turnless}
 use Rattle.answer_laws.proofs.worlds.Hearing.{out_unanswered}
@@ -296,15 +297,15 @@ module _ (hosts : List ℕ) (t : List Entry) (w : NodeWorld) (a : IsOrderly w)
 
 pub controller_answers : (header : Header) (lines : List Line) (t : NodeHistory) → FollowsNodes header lines t → AreHosts header.hosts.items
     → length header.hosts.items ≤ 7 → AllByRecursion IsSentByHost lines → IsFew (node_entries t) → ArePlayable lines
-    → ((front back : List Occurrence) → occurrences_in t ≡ front ++ back → length front ≤ 90000000)
+    → ((front back : List Occurrence) → occurrences_in t ≡ front ++ back → commands_by_events front ≤ 4000000000)
     → AtEachEntry t (IsAnsweredNear t.header.hosts.items)
-controller_answers header lines t follows are seven sent few playable short past back o front behind x parts split k turn =
+controller_answers header lines t follows are seven sent few playable asked past back o front behind x parts split k turn =
     subst (λ (h : Header). IsReplied h.hosts.items (record { past = past; cause = o.cause; so_far = front }) x behind
     × IsHeldFor h.hosts.items (record { past = past; cause = o.cause; so_far = front }) x behind) (sym follows.header_is)
     (event_so header.hosts.items (entries_in past) w so.well.orderly
-    (λ r q h comes i input on. comes_are_replied header lines t follows are seven sent few past (o ∷ back) parts (short past (o ∷ back) parts) playable w refl
+    (λ r q h comes i input on. comes_are_replied header lines t follows are seven sent few past (o ∷ back) parts (asked past (o ∷ back) parts) playable w refl
     r q h comes i input on)
-    (λ r q on. ticks_are_replied header lines t follows are seven sent few past (o ∷ back) parts (short past (o ∷ back) parts) playable w refl r q on)
+    (λ r q on. ticks_are_replied header lines t follows are seven sent few past (o ∷ back) parts (asked past (o ∷ back) parts) playable w refl r q on)
     o.cause front behind x (record { past = past; cause = o.cause; so_far = front }) k (sym done.0.0 ∙ split) refl turn)
   where
     first : NodeWorld

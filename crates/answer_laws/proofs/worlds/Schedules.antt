@@ -1,13 +1,12 @@
 -- A schedule whose header and lines are in their ranges meets what is asked for.
-use Rattle.std.proofs.Common.{◌≡◌, ℕ, ◌≤◌, true, List, [], ◌∷◌, sym, append-nil}
-use Rattle.std.specs.Prelude.{length}
+use Rattle.std.proofs.Common.{◌≡◌, ℕ, ◌≤◌, true, List, [], ◌∷◌, ◌++◌, sym, append-nil, arith}
 use Rattle.std.specs.List.{AllByRecursion}
 use Rattle.trace_model.specs.declared.line.Header.{Header}
 use Rattle.trace_model.specs.declared.line.Line.{Line}
 use Rattle.trace_model.specs.declared.line.Line.TheVariants as line
 use Rattle.node_machine.specs.world.World.{end_c, end_h}
 use Rattle.node_machine.specs.world.Lines.{Occurrence}
-use Rattle.node_machine.specs.world.NodeHistories.{FollowsNodes, NodeHistory, occurrences_in}
+use Rattle.node_machine.specs.world.NodeHistories.{FollowsNodes, NodeHistory, node_entries, occurrences_in}
 use Rattle.node_order.specs.readings.Worlds.{IsInitOfHost}
 use Rattle.node_readings.specs.views.Inits.{IsBegunByHost}
 use Rattle.node_readings.proofs.views.Lines.{none_zero}
@@ -16,7 +15,7 @@ use Rattle.node_order.proofs.power.Histories.{cuts_end}
 use Rattle.answer_laws.specs.answers.Answered.{Answered, AreDue, AreLeftShort, AreReset, ends_in, is_left_short}
 use Rattle.answer_laws.specs.answers.Moments.{AtEachEntry, AtEachOccurrence}
 use Rattle.trace_model.specs.Lines.{IsNodeHeader}
-use Rattle.answer_laws.specs.schedules.Ranges.{AreNodeLinesOf}
+use Rattle.answer_laws.specs.schedules.Ranges.{AreNodeLinesOf, lines_asking}
 use Rattle.answer_laws.proofs.schedules.Ranges.{hosts_are, playable, sent_by_hosts, inits_of_hosts}
 use Rattle.answer_laws.proofs.schedules.Few.{are_few}
 use Rattle.answer_laws.specs.answers.Order.{NodesHearFirst, TurnsAscend}
@@ -35,7 +34,9 @@ use Rattle.answer_laws.specs.answers.Headline.{IsLegal, IsPlayed}
 use Rattle.answer_laws.specs.answers.Headline.{PlayedHistory}
 use Rattle.answer_laws.specs.answers.Headline.PlayedHistory.{OfLink, OfNodes}
 use Rattle.answer_laws.proofs.schedules.Ranges.{hosts_few}
-use Rattle.answer_laws.proofs.passes.Events.{front_long}
+use Rattle.answer_laws.specs.bounds.Commands.{commands_by_events}
+use Rattle.answer_laws.specs.passes.Counts.{commands_noted}
+use Rattle.answer_laws.proofs.bounds.Lines.{front_asked, lines_bounded}
 use Rattle.answer_laws.proofs.hosts.Histories.{hosts_answer}
 use Rattle.answer_laws.proofs.shorts.Histories.{hosts_left_short}
 use Rattle.answer_laws.proofs.worlds.Done.{histories_done}
@@ -52,8 +53,20 @@ begun_all : (lines : List Line) → AllByRecursion IsInitOfHost lines → AllByR
 begun_all [] a = tt
 begun_all (l ∷ lines) a = (begun_one l a.0, begun_all lines a.1)
 
+-- no more commands come of any first events than journals count
+asked_low : (header : Header) (lines : List Line) (t : NodeHistory) → FollowsNodes header lines t → AreNodeLinesOf header lines
+    → lines_asking lines ≤ 20000 → (front back : List Occurrence) → occurrences_in t ≡ front ++ back → commands_by_events front ≤ 4000000000
+asked_low header lines t follows are most front back parts =
+    let few = front_asked header lines t follows are front back parts in omega (arith, few, most)
+
+-- nor are more noted in all
+noted_low : (header : Header) (lines : List Line) (t : NodeHistory) → FollowsNodes header lines t → IsNodeHeader header → AreNodeLinesOf header lines
+    → lines_asking lines ≤ 20000 → commands_noted (node_entries t) ≤ 4000000000
+noted_low header lines t follows nodes are most =
+    let few = lines_bounded header lines t follows nodes are (occurrences_in t) [] (sym (append-nil (occurrences_in t))) in omega (arith, few, most)
+
 pub schedule_resets : (header : Header) (lines : List Line) (t : NodeHistory) → FollowsNodes header lines t → IsNodeHeader header
-    → AreNodeLinesOf header lines → length lines ≤ 20000 → AtEachOccurrence t (AreReset t.header.hosts.items)
+    → AreNodeLinesOf header lines → lines_asking lines ≤ 20000 → AtEachOccurrence t (AreReset t.header.hosts.items)
 schedule_resets header lines t follows nodes are most =
     resets_due header lines t follows (hosts_are header nodes) (playable header lines are) (sent_by_hosts header lines nodes are)
     (begun_all lines (inits_of_hosts header lines are)) (are_few header lines t follows nodes are most)
@@ -73,11 +86,11 @@ schedule_ascends header lines t follows nodes are =
     (rising header.hosts.items (sorted_from_strictly_increasing header.hosts.items nodes.rising))
 
 pub schedule_dues : (header : Header) (lines : List Line) (t : NodeHistory) → FollowsNodes header lines t → IsNodeHeader header
-    → AreNodeLinesOf header lines → length lines ≤ 20000 → AtEachOccurrence t (AreDue t.header.hosts.items)
+    → AreNodeLinesOf header lines → lines_asking lines ≤ 20000 → AtEachOccurrence t (AreDue t.header.hosts.items)
 schedule_dues header lines t follows nodes are most =
     all_due header lines t follows nodes (hosts_are header nodes) are (hosts_few header nodes) (sent_by_hosts header lines nodes are)
     (begun_all lines (inits_of_hosts header lines are)) (are_few header lines t follows nodes are most) (playable header lines are)
-    (front_long header lines t follows are (playable header lines are) most)
+    (asked_low header lines t follows are most)
 
 -- ## The headline
 
@@ -91,20 +104,19 @@ link_legal header lines t played = record {
 
 -- a host's replies, and what it holds
 pub schedule_replies : (header : Header) (lines : List Line) (t : NodeHistory) → FollowsNodes header lines t → IsNodeHeader header
-    → AreNodeLinesOf header lines → length lines ≤ 20000 → AtEachEntry t (IsAnsweredFar t.header.hosts.items)
+    → AreNodeLinesOf header lines → lines_asking lines ≤ 20000 → AtEachEntry t (IsAnsweredFar t.header.hosts.items)
 schedule_replies header lines t follows nodes are most =
     hosts_answer header lines t follows (hosts_are header nodes) (playable header lines are) (sent_by_hosts header lines nodes are)
     (inits_of_hosts header lines are) (begun_all lines (inits_of_hosts header lines are)) (are_few header lines t follows nodes are most)
-    (hosts_few header nodes)
-    (front_long header lines t follows are (playable header lines are) most (occurrences_in t) [] (sym (append-nil (occurrences_in t))))
+    (noted_low header lines t follows nodes are most)
 
 -- and those of each node
 schedule_answered : (header : Header) (lines : List Line) (t : NodeHistory) → FollowsNodes header lines t → IsNodeHeader header
-    → AreNodeLinesOf header lines → length lines ≤ 20000 → AtEachEntry t (IsAnswered t.header.hosts.items)
+    → AreNodeLinesOf header lines → lines_asking lines ≤ 20000 → AtEachEntry t (IsAnswered t.header.hosts.items)
 schedule_answered header lines t follows nodes are most past back o front behind x parts split =
     everywhere t.header.hosts.items (record { past = past; cause = o.cause; so_far = front }) x behind
     (controller_answers header lines t follows (hosts_are header nodes) (hosts_few header nodes) (sent_by_hosts header lines nodes are)
-    (are_few header lines t follows nodes are most) (playable header lines are) (front_long header lines t follows are (playable header lines are) most)
+    (are_few header lines t follows nodes are most) (playable header lines are) (asked_low header lines t follows are most)
     past back o front behind x parts split)
     (schedule_replies header lines t follows nodes are most past back o front behind x parts split)
 
@@ -116,20 +128,19 @@ both_short hosts past o [] near far = tt
 both_short hosts past o (h ∷ hs) near far = (near.0, (far.0, both_short hosts past o hs near.1 far.1))
 
 schedule_short : (header : Header) (lines : List Line) (t : NodeHistory) → FollowsNodes header lines t → IsNodeHeader header
-    → AreNodeLinesOf header lines → length lines ≤ 20000 → AtEachOccurrence t (AreLeftShort t.header.hosts.items)
+    → AreNodeLinesOf header lines → lines_asking lines ≤ 20000 → AtEachOccurrence t (AreLeftShort t.header.hosts.items)
 schedule_short header lines t follows nodes are most past back o parts =
     both_short t.header.hosts.items past o t.header.hosts.items
     (near_left_short header lines t follows nodes (hosts_are header nodes) are (hosts_few header nodes) (sent_by_hosts header lines nodes are)
     (are_few header lines t follows nodes are most) (playable header lines are)
     (rising header.hosts.items (sorted_from_strictly_increasing header.hosts.items nodes.rising))
-    (front_long header lines t follows are (playable header lines are) most) past back o parts)
+    (asked_low header lines t follows are most) past back o parts)
     (hosts_left_short header lines t follows (hosts_are header nodes) (playable header lines are) (sent_by_hosts header lines nodes are)
     (inits_of_hosts header lines are) (begun_all lines (inits_of_hosts header lines are)) (are_few header lines t follows nodes are most)
-    (hosts_few header nodes)
-    (front_long header lines t follows are (playable header lines are) most (occurrences_in t) [] (sym (append-nil (occurrences_in t)))) past back o parts)
+    (noted_low header lines t follows nodes are most) past back o parts)
 
 schedule_answers : (header : Header) (lines : List Line) (t : NodeHistory) → FollowsNodes header lines t → IsNodeHeader header
-    → AreNodeLinesOf header lines → length lines ≤ 20000 → Answered t
+    → AreNodeLinesOf header lines → lines_asking lines ≤ 20000 → Answered t
 schedule_answers header lines t follows nodes are most = record {
   in_turn = in_turn header lines t follows (hosts_are header nodes).different (none_zero header.hosts.items (hosts_are header nodes).all);
   done = histories_done header lines t follows (hosts_are header nodes) (playable header lines are);

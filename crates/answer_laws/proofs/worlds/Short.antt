@@ -64,6 +64,7 @@ use Rattle.answer_laws.specs.replies.Passes.{BeginsPass}
 use Rattle.answer_laws.specs.schedules.Ranges.{AreNodeLinesOf}
 use Rattle.answer_laws.specs.steps.Works.{ReadsInStep}
 use Rattle.answer_laws.specs.steps.Worlds.{KeepsBetween, as_it_ticks}
+use Rattle.answer_laws.specs.bounds.Commands.{commands_by_events}
 use Rattle.answer_laws.proofs.passes.Whole.{comes_begins, tick_begins}
 use Rattle.answer_laws.proofs.replies.Calm.{AreCalm, IsUnheard, calm_both}
 use Rattle.answer_laws.proofs.replies.Histories.{comes_known, tick_known}
@@ -145,7 +146,7 @@ coming_leaves w a h comes k =
 
 module _ (header : Header) (lines : List Line) (t : NodeHistory) (follows : FollowsNodes header lines t) (are : AreHosts header.hosts.items)
     (seven : length header.hosts.items ≤ 7) (sent : AllByRecursion IsSentByHost lines) (few : IsFew (node_entries t)) (playable : ArePlayable lines)
-    (up : IsAscending header.hosts.items) (past back : List Occurrence) (parts : occurrences_in t ≡ past ++ back) (long : length past ≤ 90000000)
+    (up : IsAscending header.hosts.items) (past back : List Occurrence) (parts : occurrences_in t ≡ past ++ back) (asked : commands_by_events past ≤ 4000000000)
     (earlier : List ℕ) (k : ℕ) (later : List ℕ) (at : header.hosts.items ≡ earlier ++ k ∷ later) (off : AllByRecursion (λ j. (j == k) ≡ false) later) where
   abbrev hosts : List ℕ
   hosts = header.hosts.items
@@ -208,7 +209,7 @@ module _ (header : Header) (lines : List Line) (t : NodeHistory) (follows : Foll
         (calm_both frames rest (frames_calm wires v w.sites) calm)
         (λ on.
         let known = comes_known header lines t follows are playable sent few past back parts w refl r q h comes i input on in
-        let begins = comes_begins header lines t follows are seven sent few past back parts long playable w refl r q h comes i input in
+        let begins = comes_begins header lines t follows are seven sent few past back parts asked playable w refl r q h comes i input in
         subst P (sym (append-nil (entries_in past))) (known.0, known.1, begins))
         earlier k later at off
         (all_append _ frames rest
@@ -330,7 +331,7 @@ module _ (header : Header) (lines : List Line) (t : NodeHistory) (follows : Foll
         (calm_both frames far (frames_calm (λ s. s.link) v old.sites) calm)
         (λ on.
         let known = tick_known header lines t follows are playable sent few past back parts w refl r q on in
-        let begins = tick_begins header lines t follows are seven sent few past back parts long playable w refl r q in
+        let begins = tick_begins header lines t follows are seven sent few past back parts asked playable w refl r q in
         (known.0, known.1, begins))
         earlier k later at off
         (all_append _ frames far
@@ -363,7 +364,7 @@ each_steps May (x ∷ past) back o w caused = each_steps May past back o (world_
 module _ (header : Header) (lines : List Line) (t : NodeHistory) (follows : FollowsNodes header lines t) (nodes : IsNodeHeader header)
     (are : AreHosts header.hosts.items) (in_range : AreNodeLinesOf header lines) (seven : length header.hosts.items ≤ 7)
     (sent : AllByRecursion IsSentByHost lines) (few : IsFew (node_entries t)) (playable : ArePlayable lines) (up : IsAscending header.hosts.items)
-    (short : (front back : List Occurrence) → occurrences_in t ≡ front ++ back → length front ≤ 90000000) where
+    (asked : (front back : List Occurrence) → occurrences_in t ≡ front ++ back → commands_by_events front ≤ 4000000000) where
   pub near_left_short : AtEachOccurrence t (AreLeftShortNear t.header.hosts.items)
   near_left_short past back o parts =
       subst (λ (h : Header). AreLeftShortNear h.hosts.items past o) (sym follows.header_is) (each [] header.hosts.items refl are.different) where
@@ -382,7 +383,7 @@ module _ (header : Header) (lines : List Line) (t : NodeHistory) (follows : Foll
             → is_left_short header.hosts.items past o (end_c k) ≡ true
         one earlier k later at off =
             subst (λ es. is_left_short header.hosts.items past (record { cause = o.cause; entries = es }) (end_c k) ≡ true) (sym may.0)
-            (event_short header lines t follows are seven sent few playable up past (o ∷ back) parts (short past (o ∷ back) parts) earlier k later at off
+            (event_short header lines t follows are seven sent few playable up past (o ∷ back) parts (asked past (o ∷ back) parts) earlier k later at off
             o.cause may.1)
 
         each : (earlier hs : List ℕ) → header.hosts.items ≡ earlier ++ hs → AreDifferent hs

@@ -1,5 +1,5 @@
 -- What every history of a schedule must be, below either header.
-use Rattle.std.specs.Prelude.{◌≤◌, List, length}
+use Rattle.std.specs.Prelude.{◌≤◌, List}
 use Rattle.std.specs.List.{AllByRecursion}
 use Rattle.trace_model.specs.declared.line.Header.{Header}
 use Rattle.trace_model.specs.declared.line.Line.{Line}
@@ -11,7 +11,7 @@ use Rattle.node_machine.specs.world.NodeHistories.{FollowsNodes, NodeHistory}
 use Rattle.node_order.specs.order.Legal.{LegalNodes}
 use Rattle.node_order.specs.power.Powers.{CutsEndParts}
 use Rattle.answer_laws.specs.answers.Answered.{Answered}
-use Rattle.answer_laws.specs.schedules.Ranges.{AreNodeLinesOf}
+use Rattle.answer_laws.specs.schedules.Ranges.{AreNodeLinesOf, lines_asking}
 
 -- What a history of nodes must be: messages come in order, quiet links have delivered all, pipes are allowed, commands are kept, a cut ends
 -- its node's part of an event, and every message is answered. Two things in it are no readings of entries. How the other end stood as a line
@@ -30,10 +30,11 @@ pub data PlayedHistory : Type 0 where
   OfLink : History → PlayedHistory
   OfNodes : NodeHistory → PlayedHistory
 
--- It follows a schedule with this header and these lines, which are in their ranges.
+-- It follows a schedule with this header and these lines, which are in their ranges. Below a header of nodes at most 20,000 of them ask for
+-- something.
 abbrev pub IsPlayed : Header → List Line → PlayedHistory → Type 0
 IsPlayed header lines (OfLink t) = IsHeader header × AllByRecursion (IsLineOf header) lines × Follows header lines t
-IsPlayed header lines (OfNodes t) = IsNodeHeader header × AreNodeLinesOf header lines × (length lines ≤ 20000) × FollowsNodes header lines t
+IsPlayed header lines (OfNodes t) = IsNodeHeader header × AreNodeLinesOf header lines × (lines_asking lines ≤ 20000) × FollowsNodes header lines t
 
 -- It is legal.
 abbrev pub IsLegal : PlayedHistory → Type 0

@@ -1,5 +1,5 @@
 -- What the lines of a schedule of a world of nodes may say, apart from their text.
-use Rattle.std.specs.Prelude.{List}
+use Rattle.std.specs.Prelude.{ℕ, ◌+◌, List, [], ◌∷◌}
 use Rattle.std.specs.List.{AllByRecursion}
 use Rattle.trace_model.specs.declared.line.Header.{Header}
 use Rattle.trace_model.specs.declared.line.Line.{Line}
@@ -19,3 +19,14 @@ IsNodeLineOf header said = IsLineOf header said
 
 abbrev pub AreNodeLinesOf : Header → List Line → Type 0
 AreNodeLinesOf header lines = AllByRecursion (IsNodeLineOf header) lines
+
+-- A line asks for something, unless by it only frames are taken or time passes.
+abbrev pub asking : Line → ℕ
+asking (line.Deliver e count) = 0
+asking (line.Tick times) = 0
+asking _ = 1
+
+-- how many lines do
+abbrev pub lines_asking : List Line → ℕ
+lines_asking [] = 0
+lines_asking (said ∷ lines) = asking said + lines_asking lines

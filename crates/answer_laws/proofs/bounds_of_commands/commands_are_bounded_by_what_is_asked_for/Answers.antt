@@ -1,6 +1,6 @@
 use Rattle.answer_laws.proofs.bounds.Begun.{passes_bounded, ticks_bounded}
 use Rattle.answer_laws.proofs.bounds.Causes.{bounded, events_bounded}
-use Rattle.answer_laws.proofs.bounds.Lines.{lines_bounded}
+use Rattle.answer_laws.proofs.bounds.Lines.{front_asked, lines_bounded}
 use Rattle.answer_laws.proofs.bounds_of_commands.commands_are_bounded_by_what_is_asked_for.Goals as goal
 
 pub returns-clause-causes : goal.returns-clause-causes
@@ -14,6 +14,9 @@ returns-clause-passes c = passes_bounded
 
 pub returns-clause-ticks : goal.returns-clause-ticks
 returns-clause-ticks c = ticks_bounded
+
+pub returns-clause-asked : goal.returns-clause-asked
+returns-clause-asked c = front_asked
 
 pub returns-clause-lines : goal.returns-clause-lines
 returns-clause-lines c = lines_bounded

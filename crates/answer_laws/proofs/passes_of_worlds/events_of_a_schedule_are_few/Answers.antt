@@ -2,4 +2,4 @@ use Rattle.answer_laws.proofs.passes.Events.{front_long}
 use Rattle.answer_laws.proofs.passes_of_worlds.events_of_a_schedule_are_few.Goals as goal
 
 pub returns : goal.returns
-returns c = λ header lines t follows are play most front back parts. front_long header lines t follows are play most front back parts
+returns c = front_long

@@ -1,15 +1,11 @@
--- In the turns of a pass few commands are noted, where few events came before.
-use Rattle.std.proofs.Common.{◌≡◌, ℕ, ◌+◌, ◌*◌, ◌≤◌, ◌&&◌, Bool, true, false, cond, eqb, List, [], ◌∷◌, ◌++◌, length, map, sym, refl, ap, ◌∙◌, subst}
-use Rattle.std.proofs.Common.{append-nil, arith, length-append}
-use Rattle.std.specs.Prelude.{Option, Some, None}
+-- In the turns of a pass of the controller the messages at each end have them in the order in which they came.
+use Rattle.std.proofs.Common.{◌≡◌, ℕ, ◌&&◌, Bool, true, false, cond, eqb, List, [], ◌∷◌, ◌++◌, map, sym, refl, ap, ◌∙◌, subst}
+use Rattle.std.proofs.Common.{append-nil}
+use Rattle.std.specs.Prelude.{Option, Some, None, is_some}
 use Rattle.std.specs.Option.{option_map_or}
 use Rattle.std.specs.List.{AllByRecursion}
-use Rattle.std.proofs.lemmas.List.Concat.{flat_map-append}
 use Rattle.trace_model.specs.declared.entry.Entry.{Entry}
-use Rattle.trace_model.specs.declared.entry.Entry.TheVariants as entry
 use Rattle.trace_model.specs.declared.line.End.{End}
-use Rattle.trace_model.specs.declared.line.Header.{Header}
-use Rattle.trace_model.specs.declared.line.Line.{Line}
 use Rattle.link_machine.specs.Machine.{LinkEnd, Message}
 use Rattle.link_entries.specs.messages.Links.{Link, NumberedEnd}
 use Rattle.link_entries.specs.entries.Entries.End.{Controller, Host}
@@ -18,88 +14,34 @@ use Rattle.history.specs.Steps.{end_of}
 use Rattle.node_machine.specs.Parts.{Desk, Running, Port, Work}
 use Rattle.node_machine.specs.Carrying.{own_side, port_at}
 use Rattle.node_machine.specs.Node.{NodeInput}
-use Rattle.node_machine.specs.world.World.{NodeWorld, Site, Happening, end_c, link_to, site_at, work_of, new_world, world_step}
-use Rattle.node_machine.specs.world.Lines.{Occurrence}
-use Rattle.node_machine.specs.world.NodeHistories.{FollowsNodes, NodeHistory, entries_in, occurrences_in, steps_from}
+use Rattle.node_machine.specs.world.World.{NodeWorld, Site, end_c, link_to, site_at, work_of}
 use Rattle.node_machine.specs.world.NodeLegal.{AreInTurn}
 use Rattle.node_laws.specs.kept.Books.{hosts_of_ends}
-use Rattle.node_laws.specs.kept.Hosts.{AreDifferent, AreHosts}
+use Rattle.node_laws.specs.kept.Hosts.{AreDifferent}
 use Rattle.node_order.specs.links.Notices.{IsOutside}
-use Rattle.node_laws.specs.telling.Telling.{hosts_in, IsOrderly}
-use Rattle.node_laws.proofs.telling.Lasting.{Any, AnyLine, EachHolds, all_any, all_lines, events_of_steps, front_each, lines_each, occurs}
+use Rattle.node_laws.specs.telling.Telling.{hosts_in}
 use Rattle.node_laws.proofs.telling.Nodes.{hosts_same, link_is}
-use Rattle.node_laws.proofs.telling.Orderly.{new_orderly, step_orderly}
-use Rattle.node_order.proofs.readings.NoticedWorlds.{numbers}
-use Rattle.node_order.proofs.order.Strangers.{step_kept}
 use Rattle.answer_laws.proofs.rooms.Beginning.{HasSite, site_for}
+use Rattle.node_order.proofs.turns.Lines.{AllWait, Waiting}
 use Rattle.node_order.proofs.turns.Queues.{AreStill, Goes, goes-append}
 use Rattle.node_order.proofs.turns.Passing.{Known, same_is}
+use Rattle.node_order.proofs.turns.Works.{ByPower, NearWaits}
 use Rattle.node_order.specs.passes.Passing.{ComesTo, waiting_at}
 use Rattle.node_order.specs.passes.Steps.{comes_to_pass}
-use Rattle.answer_laws.proofs.schedules.Costs.{costs, costs-append, pays, pays-append}
-use Rattle.answer_laws.proofs.schedules.Ends.{commits, few_commits}
-use Rattle.answer_laws.proofs.schedules.Worlds.{IsPaid, both_paid, event_paid, more_paid}
-use Rattle.answer_laws.proofs.schedules.Works.{Owes}
-use Rattle.answer_laws.specs.passes.Counts.{commands_noted}
 use Rattle.answer_laws.proofs.passes.Came.{begun_at, mine, ms, there_still, was_there}
 use Rattle.answer_laws.proofs.passes.Begins.{port_begins}
 use Rattle.answer_laws.proofs.passes.Sides.{begun_side}
 use Rattle.answer_laws.proofs.passes.Ordered.{apart_comes, in_turn_of, others_before, runs_comes}
-use Rattle.answer_laws.proofs.passes.Paying.{begun_owes, comes_owe}
 
-pub same_count : (t : List Entry) → commits t ≡ commands_noted t
-same_count [] = refl
-same_count (entry.Command node c ∷ t) = ap (λ n. 1 + n) (same_count t)
-same_count (x ∷ t) = same_count t
-
--- ## What is noted of events is paid for
-
-record PaidSoFar (hosts : List ℕ) (os : List Occurrence) (w : NodeWorld) : Type 0 where
-  orderly : IsOrderly w
-  hosts_are : hosts_in w.sites ≡ hosts
-  paid : IsPaid (42 * length os) (entries_in os)
-
-hosts_long : (sites : List Site) → length (hosts_in sites) ≡ length sites
-hosts_long [] = refl
-hosts_long (s ∷ sites) = let rest = hosts_long sites in omega (arith, rest)
-
-module _ (hosts : List ℕ) (most : length hosts ≤ 7) where
-  paid_lasts : (os : List Occurrence) (w : NodeWorld) (c : Happening) → PaidSoFar hosts os w → Any w c
-      → PaidSoFar hosts (os ++ occurs w c ∷ []) (world_step w c).0
-  paid_lasts os w c a any =
-      let long : length w.sites ≤ 7 = let one = hosts_long w.sites in let two = ap length a.hosts_are in omega (arith, one, two, most) in
-      let es : List Entry = (world_step w c).1 in
-      let shape : entries_in (os ++ occurs w c ∷ []) ≡ entries_in os ++ es =
-      flat_map-append (λ (o : Occurrence). o.entries) os (occurs w c ∷ []) ∙ ap (λ z. entries_in os ++ z) (append-nil es) in
-      let both : IsPaid (42 * length os + 42) (entries_in os ++ es) =
-      both_paid (42 * length os) 42 (entries_in os) es a.paid (event_paid w c a.orderly long) in
-      record {
-        orderly = step_orderly w c a.orderly;
-        hosts_are = step_kept w c ∙ a.hosts_are;
-        paid = subst (IsPaid (42 * length (os ++ occurs w c ∷ []))) (sym shape)
-            (more_paid (42 * length os + 42) (42 * length (os ++ occurs w c ∷ [])) (entries_in os ++ es)
-            (let len = length-append os (occurs w c ∷ []) in omega (arith, len)) both);
-      }
-
-  pub front_paid : (header : Header) (lines : List Line) (t : NodeHistory) → FollowsNodes header lines t → header.hosts.items ≡ hosts → AreHosts hosts
-      → (front back : List Occurrence) → occurrences_in t ≡ front ++ back → IsPaid (42 * length front) (entries_in front)
-  front_paid header lines t follows same are front back parts =
-      let P : List Occurrence → Type 0 =
-      λ events. EachHolds (PaidSoFar hosts) Any AnyLine paid_lasts (λ w l any none. all_any w _) [] (new_world hosts) events in
-      let is : events_of_steps (steps_from (new_world hosts) lines) ≡ front ++ back =
-      ap (λ hs. events_of_steps (steps_from (new_world hs) lines)) (sym same) ∙ (ap events_of_steps (sym follows.steps_are) ∙ parts) in
-      (front_each (PaidSoFar hosts) Any AnyLine paid_lasts (λ w l any none. all_any w _) front back [] (new_world hosts)
-      (subst P is (lines_each (PaidSoFar hosts) Any AnyLine paid_lasts (λ w l any none. all_any w _) lines [] (new_world hosts)
-      (record {
-        orderly = new_orderly hosts are.different (numbers hosts are.all);
-        hosts_are = new_hosts hosts;
-        paid = omega arith;
-      }) (all_lines lines)))).paid where
-        new_hosts : (hosts : List ℕ) → hosts_in (new_world hosts).sites ≡ hosts
-        new_hosts [] = refl
-        new_hosts (h ∷ hosts) = ap (λ l. h ∷ l) (new_hosts hosts)
-
--- ## The controller
+-- what waits at an end of the controller is what came there and had no turn
+pub near_goes : (t : List Entry) (w : NodeWorld) → AllWait t w → (r : Running) → w.controller ≡ Some r → (k : ℕ) (s : Site) → site_at w.sites k ≡ Some s
+    → Goes (end_c k) [] t s.link.controller.side.got
+near_goes t w a r runs k s here =
+    let all : Waiting t w false k = a.waiting false k in
+    let power : ByPower (is_some w.controller) all.messages s.link.controller.side.got = subst (NearWaits w.controller all.messages) here all.waits in
+    let is : all.messages ≡ s.link.controller.side.got =
+    subst (λ (o : Option Running). ByPower (is_some o) all.messages s.link.controller.side.got) runs power in
+    subst (Goes (end_c k) [] t) is all.goes
 
 module _ (t : List Entry) (w : NodeWorld) (r : Running) (number : r.core.node ≡ 0) (ends : map (λ (d : Desk). d.host) r.desks ≡ hosts_in w.sites)
     (different : AreDifferent (hosts_in w.sites)) (near_ends : ℕ → NumberedEnd) (es : List Entry)
@@ -199,22 +141,6 @@ module _ (t : List Entry) (w : NodeWorld) (r : Running) (number : r.core.node �
                 (subst (Goes (end_c k) [] (t ++ begun.entries)) (sym waits) (then_goes (end_c k) p.side.got all z a.goes)) c,
           )
 
+  -- in whatever order the ends have their turns
   pub turns_in_order : (v : Work) → ComesTo begun v → AreInTurn (t ++ v.entries)
   turns_in_order v c = in_turn_of (t ++ v.entries) (λ e. all_goes v c e.at_host e.link)
-
-  ports_long : (ports : List Port) → length (hosts_of_ends ports) ≡ length ports
-  ports_long [] = refl
-  ports_long (p ∷ ports) = let rest = ports_long ports in omega (arith, rest)
-
-  -- so few commands are noted
-  pub few_noted : (most : ℕ) → costs es ≡ 0 → length w.sites ≤ 7 → IsPaid most t → (v : Work) → ComesTo begun v → commands_noted (t ++ v.entries) ≤ most + 21
-  few_noted most none sites paid v c =
-      let ports : length start.ports ≤ 7 =
-      (let a = ports_long start.ports in let b = ap length hosts_are in let d = hosts_long w.sites in omega (arith, a, b, d, sites)) in
-      let owes : Owes 0 (3 * length start.ports) v = comes_owe (3 * length start.ports) begun v (begun_owes input start none) c in
-      let one = costs-append t v.entries in
-      let two = pays-append t v.entries in
-      let all : costs (t ++ v.entries) ≤ pays (t ++ v.entries) + (most + 21) = omega (arith, one, two, owes, paid, ports) in
-      let few = few_commits (most + 21) (t ++ v.entries) (turns_in_order v c) all in
-      let is = same_count (t ++ v.entries) in
-      omega (arith, few, is)
