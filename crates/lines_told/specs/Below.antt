@@ -3,16 +3,18 @@ use Rattle.std.specs.Prelude.{◌≡◌, ℕ, Bool, true, false, if◌then◌els
 use Rattle.swp_base.specs.InMemory.{Memory}
 use Rattle.trace_model.specs.declared.entry.Entry.{Entry}
 use Rattle.trace_model.specs.declared.entry.Entry.TheVariants.{Tables}
+use Rattle.trace_model.specs.declared.line.End.{End}
 use Rattle.trace_model.specs.declared.line.Header.{Header}
 use Rattle.trace_model.specs.declared.line.Line.{Line}
 use Rattle.trace_model.specs.declared.line.Line.TheVariants as saying
 use Rattle.trace_model.specs.Lines.{MayFollow}
+use Rattle.link_laws.specs.sessions.Sessions.{OnWire}
 use Rattle.link_entries.specs.messages.Links.{Link}
 use Rattle.history.specs.Histories.{noted}
 use Rattle.history.specs.Steps.{bare_link}
-use Rattle.history.specs.Follows.{host_of, link_after_lines, misread, opening_of, outcome_of}
+use Rattle.history.specs.Follows.{frames_to, host_of, link_after_lines, misread, opening_of, outcome_of}
 use Rattle.node_machine.specs.world.World.{NodeWorld, memory_at, new_world}
-use Rattle.node_machine.specs.world.Lines.{NotedBelow, misread_in, line_step, noted_below}
+use Rattle.node_machine.specs.world.Lines.{NotedBelow, frames_at, is_running, misread_in, line_step, noted_below}
 use Rattle.node_machine.specs.world.Lines.NotedBelow.{Entries, TablesOf}
 use Rattle.node_machine.specs.world.NodeHistories.{world_after}
 
@@ -21,7 +23,7 @@ abbrev pub is_settling : Line → Bool
 is_settling (saying.Settle rounds) = true
 is_settling said = false
 
--- a line that a world with this header plays; no world settles yet
+-- a line that a world with this header plays by itself: one that lets the links settle comes to rounds
 pub record IsPlayedLine (header : Header) (line : Line) : Type 0 where
   pub may_follow : MayFollow header line
   pub settles_not : is_settling line ≡ false
@@ -60,3 +62,11 @@ misread_below header before line =
     if header.hci
     then misread_in (nodes_behind header before) line
     else misread (bare_link_behind header before) line
+
+-- the frames on their way to an end behind these lines
+abbrev pub frames_below : Header → List Line → End → List OnWire
+frames_below header before e = if header.hci then frames_at (nodes_behind header before) e else frames_to (bare_link_behind header before) e
+
+-- a node runs behind these lines; the ends of a bare world always do
+abbrev pub runs_below : Header → List Line → ℕ → Bool
+runs_below header before node = if header.hci then is_running (nodes_behind header before) node else true

@@ -1,1 +1,3 @@
 pub mod Below
+pub mod Plays
+pub mod RoundLines

@@ -1,3 +1,6 @@
-//! What is told of the lines of a schedule, below either header: that of a bare world, which has one link, and that of a world of nodes.
-//! Definitions alone; nothing here runs.
+//! What is told of the lines of a schedule, below either header: that of a bare world, which has one link, and that of a world of nodes; and
+//! what is played of a schedule with lines that let the links settle. Definitions and laws alone; nothing here runs.
 #![tactic(auto)]
+
+pub mod rounds;
+pub mod schedules_played;

@@ -1,2 +1,4 @@
 pub mod links
 pub mod worlds
+pub mod schedules
+pub mod undisturbed

@@ -1,9 +1,4 @@
 pub mod Settling
-pub mod Alone
-pub mod NoneTaken
-pub mod InTurn
-pub mod BareRounds
 pub mod RoundCauses
-pub mod FourAcked
 pub mod AnyHost
 pub mod Examples

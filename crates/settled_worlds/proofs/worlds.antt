@@ -1,8 +1,5 @@
 pub mod WorldRest
-pub mod LinkEvents
 pub mod Endings
-pub mod RoundEvents
-pub mod Allowing
 pub mod Rounds
 pub mod WorldLaw
 pub mod WorldRounds
@@ -13,6 +10,3 @@ pub mod FewOnWires
 pub mod FewCauses
 pub mod Examples
 pub mod NotedFragments
-pub mod RoundsInTurn
-pub mod AckedRounds
-pub mod AckedSteps

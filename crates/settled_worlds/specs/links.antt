@@ -1,3 +1,3 @@
 pub mod Settling
-pub mod InTurn
 pub mod RoundCauses
+pub mod Resting

@@ -1,6 +1,6 @@
-pub mod WorldRest
-pub mod LinkEvents
-pub mod RoundEvents
+pub mod LinkSettled
 pub mod RoundCauses
 pub mod NotedFragments
-pub mod AckedRounds
+pub mod Brought
+pub mod NotedRest
+pub mod Undisturbed

@@ -4,9 +4,10 @@ ghost use Rattle.std.specs.Prelude.{◌≡◌, ◌+◌, ◌*◌, ◌≤◌, ◌+
 ghost use Rattle.link_entries.specs.messages.Links.{Link};
 ghost use Rattle.history.specs.Histories.{Cause, causes_of};
 ghost use Rattle.history.specs.Steps.{bare_link, events_at, link_after_all};
-ghost use Rattle.settling_laws.specs.messages.Rest.{IsFirstRest, after_steps, link_rests};
+ghost use Rattle.link_entries.specs.messages.Rest.{IsFirstRest, after_steps, link_rests};
 ghost use Rattle.settled_worlds.specs.links.RoundCauses.{AreRoundCauses, times_ticked};
-ghost use Rattle.settled_worlds.specs.links.Settling.{link_after_round, rounds_to_settle, settling_causes, settling_events};
+ghost use Rattle.node_order.specs.rounds.BareRounds.{link_after_round};
+ghost use Rattle.settled_worlds.specs.links.Settling.{rounds_to_settle, settling_causes, settling_events};
 
 /// The events of causes have these causes; and causes behind others do on the link that these left what they do there.
 pub fn events_of_a_bare_link_have_their_causes()

@@ -1,10 +1,10 @@
-//! Worlds that settle have brought all: bare ones and worlds of nodes; and few more fragments count as acknowledged in each round. Laws
-//! alone; nothing here runs.
+//! Worlds that settle have brought all: bare ones and worlds of nodes; and their rounds are causes like those of any line. Laws alone;
+//! nothing here runs.
 #![tactic(auto)]
 
-pub mod acknowledged_in_rounds;
-pub mod acknowledged_in_turn;
 pub mod bare_rounds_as_causes;
 pub mod bare_worlds_settle;
 pub mod rounds_as_causes;
+pub mod schedules_settle;
+pub mod undisturbed_as_noted;
 pub mod worlds_of_nodes_settle;

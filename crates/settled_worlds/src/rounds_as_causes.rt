@@ -12,9 +12,10 @@ ghost use Rattle.node_machine.specs.world.NodeHistories.{FollowsNodes, NodeHisto
 ghost use Rattle.node_machine.specs.world.World.{Happening, NodeWorld, new_world};
 ghost use Rattle.node_order.specs.links.Runs.{ArePlayable};
 ghost use Rattle.node_order.specs.readings.Worlds.{MayBeRead};
-ghost use Rattle.settled_worlds.specs.worlds.RoundCauses.{AllCanHappen, AreFewOnWires, AreOfRounds, IsOfRound, IsTakeOrTick, happened_in};
-ghost use Rattle.settled_worlds.specs.worlds.RoundCauses.{world_round_causes, world_settling_causes, world_ticks_in};
-ghost use Rattle.settled_worlds.specs.worlds.WorldRest.{rounds_of_world, world_round, world_rounds_to_settle, world_settling};
+ghost use Rattle.node_order.specs.rsets.Causes.{happened_in, world_ticks_in};
+ghost use Rattle.settled_worlds.specs.worlds.RoundCauses.{AllCanHappen, AreFewOnWires, AreOfRounds, IsOfRound, IsTakeOrTick};
+ghost use Rattle.settled_worlds.specs.worlds.RoundCauses.{world_round_causes, world_settling_causes};
+ghost use Rattle.node_machine.specs.world.Rounds.{rounds_of_world, world_round, world_rounds_to_settle, world_settling};
 
 /// What caused events does them again, and all of it can happen. Causes that all can happen do what they do also before others, and these
 /// do behind them what they do there.

@@ -3,7 +3,8 @@
 ghost use Rattle.std.specs.Prelude.{◌≡◌, ◌+◌, ◌*◌, ◌≤◌, ◌++◌, ℕ, List, Some};
 ghost use Rattle.link_entries.specs.messages.Links.{AllAllowed};
 ghost use Rattle.settling_laws.specs.messages.Recovery.{AreLinkRounds, IsLinkUndisturbed, fragments_left};
-ghost use Rattle.settled_worlds.specs.worlds.RoundEvents.{LinkSettled, rounds_events};
+ghost use Rattle.settled_worlds.specs.worlds.LinkSettled.{LinkSettled};
+ghost use Rattle.node_order.specs.rounds.RoundEvents.{rounds_events};
 ghost use Rattle.trace_model.specs.declared.line.End.{End};
 ghost use Rattle.trace_model.specs.declared.line.Header.{Header};
 ghost use Rattle.trace_model.specs.declared.line.Line.{Line};
@@ -16,9 +17,9 @@ ghost use Rattle.node_order.specs.order.Told.{AreUpWith};
 ghost use Rattle.settled_worlds.specs.worlds.NotedFragments.{fragments_noted};
 ghost use Rattle.node_machine.specs.world.World.{NodeWorld, Site, new_world, site_at, world_step};
 ghost use Rattle.node_machine.specs.world.World.Happening.{Takes, Ticks};
-ghost use Rattle.settled_worlds.specs.worlds.LinkEvents.{GoesOnLink, link_events_in};
-ghost use Rattle.settling_laws.specs.messages.Rest.{IsFirstRest, after_steps};
-ghost use Rattle.settled_worlds.specs.worlds.WorldRest.{rounds_of_world, world_after_round, world_rests, world_rounds_to_settle, world_settling};
+ghost use Rattle.node_order.specs.rounds.LinkEvents.{GoesOnLink, link_events_in};
+ghost use Rattle.link_entries.specs.messages.Rest.{IsFirstRest, after_steps};
+ghost use Rattle.node_machine.specs.world.Rounds.{rounds_of_world, world_after_round, world_rests, world_rounds_to_settle, world_settling};
 
 /// A world settles in the least number of rounds after which all its links are at rest, or in n where none below n is; and it is then
 /// what these rounds make of it.

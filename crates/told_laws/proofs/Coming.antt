@@ -1,5 +1,5 @@
 -- The messages that came are among those that were sent, so all that is told of a history is in its range.
-use Rattle.std.proofs.Common.{◌≡◌, ℕ, ◌≤◌, ◌<◌, Bool, true, false, cond, List, [], ◌∷◌, ◌++◌, length, refl, sym, ap, subst, arith, inl, Option, Some, None, All}
+use Rattle.std.proofs.Common.{◌≡◌, ℕ, ◌+◌, ◌≤◌, ◌<◌, Bool, true, false, cond, List, [], ◌∷◌, ◌++◌, refl, sym, ap, subst, arith, inl, Option, Some, None}
 use Rattle.std.specs.Prelude.{◌==◌}
 use Rattle.std.specs.List.{AllByRecursion, flat_map, cons_option}
 use Rattle.std.proofs.lemmas.List.Concat.{flat_map-append}
@@ -27,8 +27,7 @@ use Rattle.swp_base.specs.Bits.{IsByte}
 use Rattle.text_laws.specs.Ranges.{AreOctets, IsEntry}
 use Rattle.told_laws.specs.Told.{step_told, entries_told}
 use Rattle.registry.proofs.ValueLemmas.{AllByRecursion-append as each-append}
-use Rattle.told_laws.proofs.Links.{bare_is}
-use Rattle.told_laws.proofs.Lines.{IsApart, AreApart, each_all, host_low, steps_told}
+use Rattle.told_laws.proofs.Lines.{IsApart, AreApart, bare_stands, host_low, lines_cost, steps_told, top}
 use Rattle.history.proofs.Filters.{same_end_itself}
 
 -- ## Parts of lists
@@ -183,8 +182,8 @@ append_nil [] = refl
 append_nil (x ∷ t) = ap (λ u. x ∷ u) (append_nil t)
 
 pub told_in : (header : Header) (lines : List Line) (t : History) → AllByRecursion (IsLineOf header) lines → IsHeader header → Follows header lines t
-    → length lines ≤ 20000 → All IsEntry (entries_told t)
-told_in header lines t valid is follows few = each_all IsEntry (entries_told t) entries
+    → lines_cost lines + 24 ≤ top → AllByRecursion IsEntry (entries_told t)
+told_in header lines t valid is follows few = entries
   where
     low : host_of header < 256
     low = host_low header is
@@ -193,7 +192,7 @@ told_in header lines t valid is follows few = each_all IsEntry (entries_told t) 
     opening = subst AreApart (sym follows.opening_is) ((low, omega arith), ((low, omega arith), tt))
 
     steps : AreApart (flat_map step_told t.steps)
-    steps = steps_told header 0 bare_link lines t.steps is valid follows.steps_follow bare_is (omega (arith, few))
+    steps = steps_told header 0 bare_link lines t.steps is valid follows.steps_follow bare_stands (omega (arith, few))
 
     apart : AreApart (entries_told t)
     apart = (inl (subst IsHeader (sym follows.header_is) is), each-append IsApart t.opening (flat_map step_told t.steps) opening steps)

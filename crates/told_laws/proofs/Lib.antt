@@ -3,5 +3,8 @@ pub mod Wires
 pub mod Links
 pub mod Notes
 pub mod Lines
+pub mod Plays
 pub mod Coming
+pub mod BarePlays
 pub mod nodes
+pub mod Whole

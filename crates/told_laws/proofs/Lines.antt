@@ -4,7 +4,6 @@ use Rattle.std.proofs.Common.{sym, subst, arith, Option, Some, None, All, length
 use Rattle.std.specs.Prelude.{unwrap_or, ◌==◌, ◌%◌}
 use Rattle.std.specs.List.{AllByRecursion, flat_map}
 use Rattle.std.proofs.lemmas.Bool.{ltb-false}
-use Rattle.std.proofs.lemmas.List.{length-replicate}
 use Rattle.swp_base.specs.declared.control_frames.Control.{Control}
 use Rattle.swp_base.specs.declared.control_frames.Control.TheVariants.{I, S, Rset, Ua, Act, Clt}
 use Rattle.swp_base.specs.declared.control_frames.Kind.TheVariants.{Rr, Rej, Rnr, Srej}
@@ -29,15 +28,20 @@ use Rattle.link_laws.specs.sessions.Sessions.{OnWire}
 use Rattle.link_machine.specs.Machine.{LinkEnd, Message, give_refusal, reset_refusal, is_open, need, spare}
 use Rattle.link_machine.specs.Machine.Refused.{TooLong, Full, Inactive, IsWaiting}
 use Rattle.link_entries.specs.messages.Links.{Link}
+use Rattle.link_entries.specs.messages.Rsets.{FewRsets}
+use Rattle.link_entries.specs.messages.Links.IsStart.{IsBare}
+use Rattle.link_entries.proofs.messages.RsetNumbers.{start_numbered}
 use Rattle.link_entries.specs.entries.Entries.{End as Side, Entry as Noted, event_entries}
 use Rattle.link_entries.specs.entries.Entries.End.{Controller, Host}
 use Rattle.link_entries.specs.entries.Entries.Entry.{Up as Begins, Down as Ends, Active, GaveUp, Acked, Got, Sent, Emit, Took, Lost, Tick, Restarted, Cut}
 use Rattle.history.specs.Histories.{Cause, Event, Outcome, Step, noted, entries_of, causes_of}
 use Rattle.history.specs.Histories.Cause.{Taken, Ticked}
 use Rattle.history.specs.Histories.Outcome.{Refused as LineRefused, Caused}
+use Rattle.history.specs.BareRsets.{rsets_by_bare}
+use Rattle.history.proofs.RsetsInBareWorlds.{few_after}
 use Rattle.history.specs.Damage.{Verdict}
 use Rattle.history.specs.Damage.Verdict.{Same, LostFor, Undetected}
-use Rattle.history.specs.Steps.{end_of, entry_of, entries_for, event_of, events_at, link_after, link_after_all}
+use Rattle.history.specs.Steps.{bare_link, end_of, entry_of, entries_for, event_of, events_at, link_after, link_after_all}
 use Rattle.history.specs.Follows.{refusal, as_noted, if_empty, if_beyond, if_out_of_reach, machine_of, frames_to, taken_of, first_verdict, damage_causes}
 use Rattle.history.specs.Follows.{causes_in, outcome_of, host_of, link_after_line, StepsFollow}
 use Rattle.text_laws.specs.Ranges.{IsEnd, AreOctets, IsNumber, IsCause, IsEntry}
@@ -45,7 +49,7 @@ use Rattle.text_laws.proofs.ReadLemmas.{bare_said_in}
 use Rattle.told_laws.specs.Told.{step_told}
 use Rattle.told_laws.proofs.Ends.{IsFrame}
 use Rattle.registry.proofs.ValueLemmas.{AllByRecursion-append as each-append}
-use Rattle.told_laws.proofs.Links.{LinkIs, CanTell, link_more, link_caused}
+use Rattle.told_laws.proofs.Links.{LinkIs, CanTell, bare_is, given_by, link_more, link_within, link_caused}
 use Rattle.told_laws.proofs.Wires.{WireIs}
 use Rattle.told_laws.proofs.Notes.{IsNoted, AreNoted, noted_event}
 
@@ -120,27 +124,61 @@ entries_in h n low small [] p = tt
 entries_in h n low small (x ∷ t) p =
     each-append IsApart (entry_of h x) (entries_for h t) (entry_in h n low small x p.0) (entries_in h n low small t p.1)
 
--- what is told of causes one after another, and the link after them
-record CausesTold (h n : ℕ) (l : Link) (events : List Event) (count : ℕ) : Type 0 where
-  told : AreApart (entries_of events)
-  link : LinkIs (n + 24 * count) (link_after_all l (causes_of events))
+-- the greatest number of a text
+abbrev pub top : ℕ
+top = 4294967295
 
-causes_told : (h : ℕ) (cs : List Cause) (n : ℕ) (l : Link) → h < 256 → AllByRecursion CanTell cs → LinkIs n l → n + 24 * length cs < 2 ^ 32
-    → CausesTold h n l (events_at h l cs) (length cs)
-causes_told h [] n l low can is small = record { told = tt; link = link_more n (n + 24 * 0) l (omega arith) is }
+-- The link where no number is above n, no more messages were given to an end in its session, and no more RSETs were made.
+pub record LinkStands (n : ℕ) (l : Link) : Type 0 where
+  pub link : LinkIs n n l
+  pub rsets : FewRsets n l
+
+pub stands_longer : (n k : ℕ) (l : Link) → n ≤ k → LinkStands n l → LinkStands k l
+stands_longer n k l more h =
+    let made = h.rsets.made in
+    record { link = link_more n k n k l more more h.link; rsets = record { made = omega (arith, made, more); numbered = h.rsets.numbered } }
+
+-- how many messages are given by a cause, or RSETs made
+abbrev pub cost : Cause → ℕ
+cost c = given_by c + rsets_by_bare c
+
+abbrev pub cost_of_all : List Cause → ℕ
+cost_of_all [] = 0
+cost_of_all (c ∷ cs) = cost c + cost_of_all cs
+
+-- over a cause no number grows by more
+link_goes : (n : ℕ) (l : Link) (c : Cause) → CanTell c → LinkStands n l → LinkStands (n + cost c) (link_after l c)
+link_goes n l c can h =
+    let few : FewRsets (n + rsets_by_bare c) (link_after l c) = few_after n l c h.rsets in
+    let made = few.made in
+    let rsets : FewRsets (n + cost c) (link_after l c) = record { made = omega (arith, made); numbered = few.numbered } in
+    record {
+      link = link_more (n + given_by c) (n + cost c) (n + cost c) (n + cost c) (link_after l c) (omega arith) (omega arith)
+          (link_within (n + given_by c) (n + 24) (n + cost c) (link_after l c) rsets (link_caused n n l c can h.link));
+      rsets = rsets;
+    }
+
+-- what is told of causes one after another, and the link after them
+record CausesTold (n : ℕ) (l : Link) (events : List Event) (causes : List Cause) : Type 0 where
+  told : AreApart (entries_of events)
+  stands : LinkStands (n + cost_of_all causes) (link_after_all l (causes_of events))
+
+causes_told : (h : ℕ) (cs : List Cause) (n : ℕ) (l : Link) → h < 256 → AllByRecursion CanTell cs → LinkStands n l → n + cost_of_all cs + 24 ≤ top
+    → CausesTold n l (events_at h l cs) cs
+causes_told h [] n l low can is small = record { told = tt; stands = stands_longer n (n + 0) l (omega arith) is }
 causes_told h (c ∷ cs) n l low can is small =
-    let next : LinkIs (n + 24) (link_after l c) = link_caused n l c can.0 is in
-    let later = causes_told h cs (n + 24) (link_after l c) low can.1 next (omega (arith, small)) in
+    let next : LinkStands (n + cost c) (link_after l c) = link_goes n l c can.0 is in
+    let later = causes_told h cs (n + cost c) (link_after l c) low can.1 next (omega (arith, small)) in
     record {
       told = each-append IsApart (entries_for h (event_entries l (event_of c))) (entries_of (events_at h (link_after l c) cs))
-          (entries_in h (n + 24) low (omega (arith, small)) (event_entries l (event_of c)) (noted_event n l c can.0 is)) later.told;
-      link = link_more ((n + 24) + 24 * length cs) (n + 24 * length (c ∷ cs))
-          (link_after_all (link_after l c) (causes_of (events_at h (link_after l c) cs))) (omega arith) later.link;
+          (entries_in h (n + 24) low (omega (arith, small)) (event_entries l (event_of c)) (noted_event n l c can.0 is.link)) later.told;
+      stands = stands_longer ((n + cost c) + cost_of_all cs) (n + cost_of_all (c ∷ cs))
+          (link_after_all (link_after l c) (causes_of (events_at h (link_after l c) cs))) (omega arith) later.stands;
     }
 
 -- ## Causes of a line
 
-wire_in : (n : ℕ) (l : Link) (e : End) → LinkIs n l → WireIs IsFrame n (frames_to l e)
+wire_in : (n : ℕ) (l : Link) (e : End) → LinkIs n n l → WireIs IsFrame n (frames_to l e)
 wire_in n l e h = go e.at_host
   where
     go : (b : Bool) → WireIs IsFrame n (frames_to l (record { link = e.link; at_host = b }))
@@ -175,35 +213,68 @@ can_tell header l (line.Init e identity pipes) is = tt
 can_tell header l (line.Tables node) is = tt
 can_tell header l (line.Settle rounds) is = tt
 
-few_taken : (count : Option ℕ) (w : List OnWire) → length w ≤ 64 → taken_of count w ≤ 64
-few_taken None w few = few
-few_taken (Some n) w few = omega (arith, few)
+takes_cost : (e : End) (n : ℕ) → cost_of_all (replicate n (Taken e)) ≡ 0
+takes_cost e zero = refl
+takes_cost e (suc n) = let rest = takes_cost e n in omega (arith, rest)
 
-few_damage : (e : End) (v : Option Verdict) → length (damage_causes e v) ≤ 100
-few_damage e None = omega arith
-few_damage e (Some Same) = omega arith
-few_damage e (Some (LostFor why)) = omega arith
-few_damage e (Some (Undetected read)) = omega arith
+ticks_cost : (n : ℕ) → cost_of_all (replicate n Ticked) ≡ 2 * n
+ticks_cost zero = refl
+ticks_cost (suc n) = let rest = ticks_cost n in omega (arith, rest)
 
-few_causes : (header : Header) (n : ℕ) (l : Link) (said : Line) → IsLineOf header said → LinkIs n l → length (causes_in l said) ≤ 100
-few_causes header n l (line.Send e pid message) is h = omega arith
-few_causes header n l (line.Deliver e count) is h =
-    let few = few_taken count (frames_to l e) (wire_in n l e h).few in
-    let long = length-replicate (taken_of count (frames_to l e)) (Taken e) in omega (arith, few, long)
-few_causes header n l (line.Lose e) is h = omega arith
-few_causes header n l (line.Damage e places) is h = few_damage e (first_verdict (frames_to l e) places.items)
-few_causes header n l (line.Tick None) is h = omega arith
-few_causes header n l (line.Tick (Some times)) is h = let long = length-replicate times Ticked in let few = is.1 in omega (arith, few, long)
-few_causes header n l (line.Reset e window) is h = omega arith
-few_causes header n l (line.Busy e) is h = omega arith
-few_causes header n l (line.Ready e) is h = omega arith
-few_causes header n l (line.Boot node) is h = omega arith
-few_causes header n l (line.Cut node) is h = omega arith
-few_causes header n l (line.Activate host sync power) is h = omega arith
-few_causes header n l (line.Arm node nth fill) is h = omega arith
-few_causes header n l (line.Init e identity pipes) is h = omega arith
-few_causes header n l (line.Tables node) is h = omega arith
-few_causes header n l (line.Settle rounds) is h = omega arith
+damage_cost : (e : End) (v : Option Verdict) → cost_of_all (damage_causes e v) ≡ 0
+damage_cost e None = refl
+damage_cost e (Some Same) = refl
+damage_cost e (Some (LostFor why)) = refl
+damage_cost e (Some (Undetected read)) = refl
+
+-- how much a line may cost
+abbrev pub line_cost : Line → ℕ
+line_cost (line.Send e pid message) = 1
+line_cost (line.Reset e window) = 1
+line_cost (line.Tick None) = 2
+line_cost (line.Tick (Some times)) = 2 * times
+line_cost said = 0
+
+few_cost : (l : Link) (said : Line) → cost_of_all (causes_in l said) ≤ line_cost said
+few_cost l (line.Send e pid message) = omega arith
+few_cost l (line.Deliver e count) = let none = takes_cost e (taken_of count (frames_to l e)) in omega (arith, none)
+few_cost l (line.Lose e) = omega arith
+few_cost l (line.Damage e places) = let none = damage_cost e (first_verdict (frames_to l e) places.items) in omega (arith, none)
+few_cost l (line.Tick None) = omega arith
+few_cost l (line.Tick (Some times)) = let all = ticks_cost times in omega (arith, all)
+few_cost l (line.Reset e window) = omega arith
+few_cost l (line.Busy e) = omega arith
+few_cost l (line.Ready e) = omega arith
+few_cost l (line.Boot node) = omega arith
+few_cost l (line.Cut node) = omega arith
+few_cost l (line.Activate host sync power) = omega arith
+few_cost l (line.Arm node nth fill) = omega arith
+few_cost l (line.Init e identity pipes) = omega arith
+few_cost l (line.Tables node) = omega arith
+few_cost l (line.Settle rounds) = omega arith
+
+-- each costs 200 at most
+pub line_cheap : (header : Header) (said : Line) → IsLineOf header said → line_cost said ≤ 200
+line_cheap header (line.Tick None) is = omega arith
+line_cheap header (line.Tick (Some times)) is = let few = is.1 in omega (arith, few)
+line_cheap header (line.Send e pid message) is = omega arith
+line_cheap header (line.Deliver e count) is = omega arith
+line_cheap header (line.Lose e) is = omega arith
+line_cheap header (line.Damage e places) is = omega arith
+line_cheap header (line.Reset e window) is = omega arith
+line_cheap header (line.Busy e) is = omega arith
+line_cheap header (line.Ready e) is = omega arith
+line_cheap header (line.Boot node) is = absurd is
+line_cheap header (line.Cut node) is = absurd is
+line_cheap header (line.Activate host sync power) is = absurd is
+line_cheap header (line.Arm node nth fill) is = absurd is
+line_cheap header (line.Init e identity pipes) is = absurd is
+line_cheap header (line.Tables node) is = absurd is
+line_cheap header (line.Settle rounds) is = absurd is
+
+abbrev pub lines_cost : List Line → ℕ
+lines_cost [] = 0
+lines_cost (said ∷ lines) = line_cost said + lines_cost lines
 
 -- ## Refusals
 
@@ -270,7 +341,7 @@ reach_in n [] places h = tt
 reach_in n (x ∷ xs) places h =
     beyond_in (length (frame_of (lpdu_of x.frame))) places (frame_few (lpdu_of x.frame) (lpdu_in x.frame h.frames.0.frame).few)
 
-refusal_in : (n : ℕ) (l : Link) (said : Line) → LinkIs n l → IfCause (refusal l said)
+refusal_in : (n : ℕ) (l : Link) (said : Line) → LinkIs n n l → IfCause (refusal l said)
 refusal_in n l (line.Send e pid message) h = give_in (machine_of l e) (pid, message)
 refusal_in n l (line.Deliver e count) h = empty_in (frames_to l e)
 refusal_in n l (line.Lose e) h = empty_in (frames_to l e)
@@ -289,43 +360,49 @@ refusal_in n l (line.Settle rounds) h = tt
 
 -- ## Lines
 
-record LineTold (n : ℕ) (l : Link) (outcome : Outcome) : Type 0 where
+record LineTold (n k : ℕ) (l : Link) (outcome : Outcome) : Type 0 where
   told : AreApart (noted outcome)
-  link : LinkIs (n + 2400) (link_after_line l outcome)
+  stands : LinkStands (n + k) (link_after_line l outcome)
 
-line_told : (header : Header) (h n : ℕ) (l : Link) (said : Line) → h < 256 → IsLineOf header said → LinkIs n l → n + 2400 < 2 ^ 32
-    → LineTold n l (outcome_of h l said)
-line_told header h n l said low is link small = go (refusal l said) (refusal_in n l said link)
+line_told : (header : Header) (h n : ℕ) (l : Link) (said : Line) → h < 256 → IsLineOf header said → LinkStands n l → n + line_cost said + 24 ≤ top
+    → LineTold n (line_cost said) l (outcome_of h l said)
+line_told header h n l said low is stands small = go (refusal l said) (refusal_in n l said stands.link)
   where
     decided : Option NoCause → Outcome
     decided (Some cause) = LineRefused cause
     decided None = Caused (events_at h l (causes_in l said))
 
-    go : (o : Option NoCause) → IfCause o → LineTold n l (decided o)
-    go (Some cause) in_range = record { told = (in_range, tt); link = link_more n (n + 2400) l (omega arith) link }
+    go : (o : Option NoCause) → IfCause o → LineTold n (line_cost said) l (decided o)
+    go (Some cause) in_range = record { told = (in_range, tt); stands = stands_longer n (n + line_cost said) l (omega arith) stands }
     go None in_range =
-        let few = few_causes header n l said is link in
-        let causes = causes_told h (causes_in l said) n l low (can_tell header l said is) link (omega (arith, few, small)) in
+        let few = few_cost l said in
+        let causes = causes_told h (causes_in l said) n l low (can_tell header l said is) stands (omega (arith, few, small)) in
         record {
           told = causes.told;
-          link = link_more (n + 24 * length (causes_in l said)) (n + 2400) _ (omega (arith, few)) causes.link;
+          stands = stands_longer (n + cost_of_all (causes_in l said)) (n + line_cost said)
+              (link_after_all l (causes_of (events_at h l (causes_in l said)))) (omega (arith, few)) causes.stands;
         }
 
 -- the host of a world is a byte
 pub host_low : (header : Header) → IsHeader header → host_of header < 256
 host_low header is = let one = is.one in let host = is.hosts 0 0 (omega (arith, one)) in let low = host.1 in omega (arith, low)
 
--- what is told of the steps of a schedule
+-- what is told of the steps of lines
 pub steps_told : (header : Header) (n : ℕ) (l : Link) (lines : List Line) (steps : List Step) → IsHeader header
-    → AllByRecursion (IsLineOf header) lines → StepsFollow (host_of header) l lines steps → LinkIs n l → n + 2400 * length lines < 2 ^ 32
+    → AllByRecursion (IsLineOf header) lines → StepsFollow (host_of header) l lines steps → LinkStands n l → n + lines_cost lines + 24 ≤ top
     → AreApart (flat_map step_told steps)
-steps_told header n l [] [] is valid follows link small = tt
-steps_told header n l [] (step ∷ steps) is valid follows link small = absurd follows
-steps_told header n l (said ∷ lines) [] is valid follows link small = absurd follows
-steps_told header n l (said ∷ lines) (step ∷ steps) is valid follows link small =
-    let here : LineTold n l step.outcome =
-    subst (LineTold n l) (sym follows.1)
-    (line_told header (host_of header) n l said (host_low header is) valid.0 link (omega (arith, small))) in
-    let later = steps_told header (n + 2400) (link_after_line l step.outcome) lines steps is valid.1 follows.3 here.link (omega (arith, small)) in
+steps_told header n l [] [] is valid follows stands small = tt
+steps_told header n l [] (step ∷ steps) is valid follows stands small = absurd follows
+steps_told header n l (said ∷ lines) [] is valid follows stands small = absurd follows
+steps_told header n l (said ∷ lines) (step ∷ steps) is valid follows stands small =
+    let here : LineTold n (line_cost said) l step.outcome =
+    subst (LineTold n (line_cost said) l) (sym follows.1)
+    (line_told header (host_of header) n l said (host_low header is) valid.0 stands (omega (arith, small))) in
+    let later = steps_told header (n + line_cost said) (link_after_line l step.outcome) lines steps is valid.1 follows.3 here.stands
+    (omega (arith, small)) in
     let echo : IsApart (entry.Echo step.line) = subst (λ x. IsApart (entry.Echo x)) (sym follows.0) (bare_said_in header is said valid.0) in
     each-append IsApart (step_told step) (flat_map step_told steps) (echo, here.told) later
+
+-- nothing has happened yet
+pub bare_stands : LinkStands 0 bare_link
+bare_stands = record { link = bare_is; rsets = record { made = omega arith; numbered = start_numbered bare_link IsBare } }

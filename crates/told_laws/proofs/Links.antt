@@ -21,6 +21,7 @@ use Rattle.swp_base.specs.declared.link_terms.Cause.TheVariants.{Asked}
 use Rattle.swp_act.specs.declared.ActEvent.TheVariants.{Tick as ActTick}
 use Rattle.link_entries.specs.messages.Links.{NumberedEnd, Link, EndEvent, Loss, put, put_all, becomes, with_ended, has_input, happens_at_controller}
 use Rattle.link_entries.specs.messages.Links.{ticks_at_controller, aged, exchanged, happens}
+use Rattle.link_entries.specs.messages.Rsets.{EndIsLow, FewRsets}
 use Rattle.link_entries.specs.messages.Links.Ending.{GoesOut}
 use Rattle.link_entries.specs.messages.Links.Comes.{NextFrame, AsksReset, NoInput}
 use Rattle.link_entries.specs.messages.Links.EndEvent.{Step, Lose}
@@ -31,7 +32,7 @@ use Rattle.swp_base.specs.Bits.{IsByte}
 use Rattle.told_laws.proofs.Ends.{IsFragment, IsFrame, Ranged, ranged_taken, ranged_ticked, ranged_reset, ranged_stopped, ranged_ready, ranged_out}
 use Rattle.told_laws.proofs.Ends.{ranged_after, frames_in, frames_few}
 use Rattle.registry.proofs.ValueLemmas.{AllByRecursion-take}
-use Rattle.told_laws.proofs.Wires.{drop_each, FrameIs, WireIs, wire_more, wire_dropped, wire_put, wire_aged}
+use Rattle.told_laws.proofs.Wires.{drop_each, FrameIs, WireIs, wire_more, wire_within, wire_dropped, wire_put, wire_aged}
 
 -- ## Messages
 
@@ -151,41 +152,63 @@ end_fetched n e h = record { bare = h.bare; acts = h.acts; few = h.few; ranged =
 
 -- ## The link
 
-pub record NumberedIs (n : ℕ) (h : NumberedEnd) : Type 0 where
-  pub side : EndIs n h.side
+pub record NumberedIs (most n : ℕ) (h : NumberedEnd) : Type 0 where
+  pub side : EndIs most h.side
   pub emitted : h.emitted ≤ n
   pub took : h.took ≤ n
 
--- the link where no number is above n
-pub record LinkIs (n : ℕ) (l : Link) : Type 0 where
-  pub near : NumberedIs n l.controller
-  pub far : NumberedIs n l.host
+-- the link where no number is above n, and no more than so many messages were given to an end in its session
+pub record LinkIs (most n : ℕ) (l : Link) : Type 0 where
+  pub near : NumberedIs most n l.controller
+  pub far : NumberedIs most n l.host
   pub to_near : WireIs IsFrame n l.to_controller
   pub to_far : WireIs IsFrame n l.to_host
   pub resets : l.resets ≤ n
 
-numbered_more : (n k : ℕ) (h : NumberedEnd) → n ≤ k → NumberedIs n h → NumberedIs k h
-numbered_more n k h more is =
+numbered_more : (most all n k : ℕ) (h : NumberedEnd) → most ≤ all → n ≤ k → NumberedIs most n h → NumberedIs all k h
+numbered_more most all n k h more_given more is =
     let a = is.emitted in
     let b = is.took in
-    record { side = end_more n k h.side more is.side; emitted = omega (arith, a, more); took = omega (arith, b, more) }
+    record { side = end_more most all h.side more_given is.side; emitted = omega (arith, a, more); took = omega (arith, b, more) }
 
-pub link_more : (n k : ℕ) (l : Link) → n ≤ k → LinkIs n l → LinkIs k l
-link_more n k l more h =
+pub link_more : (most all n k : ℕ) (l : Link) → most ≤ all → n ≤ k → LinkIs most n l → LinkIs all k l
+link_more most all n k l more_given more h =
     let r = h.resets in
     record {
-      near = numbered_more n k l.controller more h.near;
-      far = numbered_more n k l.host more h.far;
+      near = numbered_more most all n k l.controller more_given more h.near;
+      far = numbered_more most all n k l.host more_given more h.far;
       to_near = wire_more IsFrame n k l.to_controller more h.to_near;
       to_far = wire_more IsFrame n k l.to_host more h.to_far;
       resets = omega (arith, r, more);
     }
 
-pub link_swapped : (n : ℕ) (l : Link) → LinkIs n l → LinkIs n (exchanged l)
-link_swapped n l h = record { near = h.far; far = h.near; to_near = h.to_far; to_far = h.to_near; resets = h.resets }
+-- no number is above a greater one
+link_up : (most n k : ℕ) (l : Link) → n ≤ k → LinkIs most n l → LinkIs most k l
+link_up most n k l more h = link_more most most n k l (omega arith) more h
 
-pub link_aged : (n : ℕ) (l : Link) → LinkIs n l → LinkIs n (aged l)
-link_aged n l h =
+-- The numbers of a link are bounded by the RSETs that were made on it, whatever it came through.
+pub link_within : (most n k : ℕ) (l : Link) → FewRsets k l → LinkIs most n l → LinkIs most k l
+link_within most n k l few h =
+    let made = few.made in
+    let low : l.resets ≤ k = omega (arith, made) in
+    record {
+      near = numbered_within l.resets l.controller low few.numbered.controller h.near.side;
+      far = numbered_within l.resets l.host low few.numbered.host h.far.side;
+      to_near = wire_within IsFrame n k l.resets l.to_controller low h.to_near few.numbered.to_controller;
+      to_far = wire_within IsFrame n k l.resets l.to_host low h.to_far few.numbered.to_host;
+      resets = low;
+    }
+  where
+    numbered_within : (r : ℕ) (h : NumberedEnd) → r ≤ k → EndIsLow r h → EndIs most h.side → NumberedIs most k h
+    numbered_within r h more low is =
+        let a = low.emitted in
+        let b = low.took in record { side = is; emitted = omega (arith, a, more); took = omega (arith, b, more) }
+
+pub link_swapped : (most n : ℕ) (l : Link) → LinkIs most n l → LinkIs most n (exchanged l)
+link_swapped most n l h = record { near = h.far; far = h.near; to_near = h.to_far; to_far = h.to_near; resets = h.resets }
+
+pub link_aged : (most n : ℕ) (l : Link) → LinkIs most n l → LinkIs most n (aged l)
+link_aged most n l h =
     record {
       near = h.near;
       far = h.far;
@@ -198,20 +221,20 @@ link_aged n l h =
 abbrev pub put_frame : Link → Control → OnWire
 put_frame l c = record { frame = c; age = 0; number = if is_rset c then l.resets + 1 else 0 }
 
-pub put_frame_is : (n : ℕ) (l : Link) (c : Control) → IsFrame c → LinkIs n l → FrameIs IsFrame (n + 1) (put_frame l c)
-put_frame_is n l c is h = record { frame = is; number = go (is_rset c) }
+pub put_frame_is : (most n : ℕ) (l : Link) (c : Control) → IsFrame c → LinkIs most n l → FrameIs IsFrame (n + 1) (put_frame l c)
+put_frame_is most n l c is h = record { frame = is; number = go (is_rset c) }
   where
     go : (b : Bool) → cond b (l.resets + 1) 0 ≤ n + 1
     go true = let r = h.resets in omega (arith, r)
     go false = omega arith
 
-pub link_put : (n : ℕ) (l : Link) (c : Control) → IsFrame c → LinkIs n l → LinkIs (n + 1) (put l c)
-link_put n l c is h = go (is_rset c) refl
+pub link_put : (most n : ℕ) (l : Link) (c : Control) → IsFrame c → LinkIs most n l → LinkIs most (n + 1) (put l c)
+link_put most n l c is h = go (is_rset c) refl
   where
-    up : LinkIs (n + 1) l
-    up = link_more n (n + 1) l (omega arith) h
+    up : LinkIs most (n + 1) l
+    up = link_up most n (n + 1) l (omega arith) h
 
-    go : (b : Bool) → is_rset c ≡ b → LinkIs (n + 1) (put l c)
+    go : (b : Bool) → is_rset c ≡ b → LinkIs most (n + 1) (put l c)
     go true q =
         let r = h.resets in
         let x : OnWire = record { frame = c; age = 0; number = l.resets + 1 } in
@@ -232,11 +255,11 @@ link_put n l c is h = go (is_rset c) refl
           resets = up.resets;
         })
 
-link_puts : (cs : List Control) (n : ℕ) (l : Link) → AllByRecursion IsFrame cs → LinkIs n l → LinkIs (n + length cs) (put_all l cs)
-link_puts [] n l is h = link_more n (n + 0) l (omega arith) h
-link_puts (c ∷ cs) n l is h =
-    link_more ((n + 1) + length cs) (n + length (c ∷ cs)) (put_all (put l c) cs) (omega arith)
-    (link_puts cs (n + 1) (put l c) is.1 (link_put n l c is.0 h))
+link_puts : (cs : List Control) (most n : ℕ) (l : Link) → AllByRecursion IsFrame cs → LinkIs most n l → LinkIs most (n + length cs) (put_all l cs)
+link_puts [] most n l is h = link_up most n (n + 0) l (omega arith) h
+link_puts (c ∷ cs) most n l is h =
+    link_up most ((n + 1) + length cs) (n + length (c ∷ cs)) (put_all (put l c) cs) (omega arith)
+    (link_puts cs most (n + 1) (put l c) is.1 (link_put most n l c is.0 h))
 
 -- all frames that are due at a bare end
 pub out_is : (n : ℕ) (e : LinkEnd) → EndIs n e → AllByRecursion IsFrame (frames_out e)
@@ -250,23 +273,23 @@ end_sent : (n : ℕ) (e : LinkEnd) → EndIs n e → EndIs n (sent_all e)
 end_sent n e h = record { bare = h.bare; acts = refl; few = h.few; ranged = ranged_after 12 e.shdlc h.ranged }
 
 -- the controller's end has become e, and all its frames went out
-link_becomes : (n : ℕ) (l : Link) (e : LinkEnd) → EndIs n e → LinkIs n l → LinkIs (n + 12) (becomes l e)
-link_becomes n l e is h =
-    let few = out_few n e is in
+link_becomes : (most n : ℕ) (l : Link) (e : LinkEnd) → EndIs most e → LinkIs most n l → LinkIs most (n + 12) (becomes l e)
+link_becomes most n l e is h =
+    let few = out_few most e is in
     let m : Link = put_all l (frames_out e) in
-    let p : LinkIs (n + 12) m =
-    link_more (n + length (frames_out e)) (n + 12) m (omega (arith, few)) (link_puts (frames_out e) n l (out_is n e is) h) in
+    let p : LinkIs most (n + 12) m =
+    link_up most (n + length (frames_out e)) (n + 12) m (omega (arith, few)) (link_puts (frames_out e) most n l (out_is most e is) h) in
     record {
-      near = record { side = end_more n (n + 12) (sent_all e) (omega arith) (end_sent n e is); emitted = p.near.emitted; took = p.near.took };
+      near = record { side = end_sent most e is; emitted = p.near.emitted; took = p.near.took };
       far = p.far;
       to_near = p.to_near;
       to_far = p.to_far;
       resets = p.resets;
     }
 
-pub link_ended : (n : ℕ) (l : Link) (b : Bool) → LinkIs n l → LinkIs n (with_ended l b)
-link_ended n l false h = h
-link_ended n l true h =
+pub link_ended : (most n : ℕ) (l : Link) (b : Bool) → LinkIs most n l → LinkIs most n (with_ended l b)
+link_ended most n l false h = h
+link_ended most n l true h =
     record {
       near = record { side = h.near.side; emitted = h.near.emitted; took = h.near.took };
       far = h.far;
@@ -275,9 +298,10 @@ link_ended n l true h =
       resets = h.resets;
     }
 
-link_input : (n : ℕ) (l : Link) (i : LinkInput) → EndIs n (after_input l.controller.side i) → LinkIs n l → LinkIs (n + 12) (has_input l i [] GoesOut)
-link_input n l i is h =
-    let b : Bool = is_some (ended_by l.controller.side i) in link_becomes n (with_ended l b) (after_input l.controller.side i) is (link_ended n l b h)
+link_input : (most n : ℕ) (l : Link) (i : LinkInput) → EndIs most (after_input l.controller.side i) → LinkIs most n l
+    → LinkIs most (n + 12) (has_input l i [] GoesOut)
+link_input most n l i is h =
+    let b : Bool = is_some (ended_by l.controller.side i) in link_becomes most n (with_ended l b) (after_input l.controller.side i) is (link_ended most n l b h)
 
 pub took_low : (n t : ℕ) (x : OnWire) → t ≤ n → x.number ≤ n → took_with t x ≤ n
 took_low n t x low is = go (is_rset x.frame)
@@ -292,14 +316,14 @@ left_with l x xs =
     let m : Link = with_ended (record l { to_controller = xs }) (is_some (ended_by l.controller.side (Take x.frame))) in
     record m { controller = record m.controller { took = took_with l.controller.took x } }
 
-pub link_left : (n : ℕ) (l : Link) (x : OnWire) (xs : List OnWire) → l.to_controller ≡ x ∷ xs → LinkIs n l → LinkIs n (left_with l x xs)
-link_left n l x xs q h =
+pub link_left : (most n : ℕ) (l : Link) (x : OnWire) (xs : List OnWire) → l.to_controller ≡ x ∷ xs → LinkIs most n l → LinkIs most n (left_with l x xs)
+link_left most n l x xs q h =
     let wire : WireIs IsFrame n (x ∷ xs) = subst (WireIs IsFrame n) q h.to_near in
     let few = wire.few in
-    let one : LinkIs n (record l { to_controller = xs }) =
+    let one : LinkIs most n (record l { to_controller = xs }) =
     record { near = h.near; far = h.far; to_near = record { frames = wire.frames.1; few = omega (arith, few) }; to_far = h.to_far; resets = h.resets } in
     let b : Bool = is_some (ended_by l.controller.side (Take x.frame)) in
-    let two : LinkIs n (with_ended (record l { to_controller = xs }) b) = link_ended n (record l { to_controller = xs }) b one in
+    let two : LinkIs most n (with_ended (record l { to_controller = xs }) b) = link_ended most n (record l { to_controller = xs }) b one in
     record {
       near = record { side = two.near.side; emitted = two.near.emitted; took = took_low n l.controller.took x h.near.took wire.frames.0.number };
       far = two.far;
@@ -310,45 +334,47 @@ link_left n l x xs q h =
 
 -- ## What happens at one end
 
-link_taken : (n : ℕ) (l : Link) → LinkIs n l → LinkIs (n + 12) (happens_at_controller l (Step NextFrame (FetchMessage ∷ []) GoesOut))
-link_taken n l h = by l.to_controller refl
+link_taken : (most n : ℕ) (l : Link) → LinkIs most n l → LinkIs most (n + 12) (happens_at_controller l (Step NextFrame (FetchMessage ∷ []) GoesOut))
+link_taken most n l h = by l.to_controller refl
   where
-    by : (w : List OnWire) → l.to_controller ≡ w → LinkIs (n + 12) (happens_at_controller l (Step NextFrame (FetchMessage ∷ []) GoesOut))
+    by : (w : List OnWire) → l.to_controller ≡ w → LinkIs most (n + 12) (happens_at_controller l (Step NextFrame (FetchMessage ∷ []) GoesOut))
     by [] q =
         rw q
-        (link_more n (n + 12) (record l { to_controller = [] }) (omega arith)
+        (link_up most n (n + 12) (record l { to_controller = [] }) (omega arith)
         (record { near = h.near; far = h.far; to_near = record { frames = tt; few = omega arith }; to_far = h.to_far; resets = h.resets }))
     by (x ∷ xs) q =
         let wire : WireIs IsFrame n (x ∷ xs) = subst (WireIs IsFrame n) q h.to_near in
         let e : LinkEnd = after_input l.controller.side (Take x.frame) in
-        rw q (link_becomes n (left_with l x xs) (turn e FetchMessage)
-        (end_fetched n e (end_took n l.controller.side x.frame wire.frames.0.frame h.near.side)) (link_left n l x xs q h))
+        rw q (link_becomes most n (left_with l x xs) (turn e FetchMessage)
+        (end_fetched most e (end_took most l.controller.side x.frame wire.frames.0.frame h.near.side)) (link_left most n l x xs q h))
 
-pub link_ticked : (n : ℕ) (l : Link) → LinkIs n l → LinkIs (n + 12) (ticks_at_controller l [] GoesOut)
-link_ticked n l h = link_input n l Tick (end_ticked n l.controller.side h.near.side) h
+pub link_ticked : (most n : ℕ) (l : Link) → LinkIs most n l → LinkIs most (n + 12) (ticks_at_controller l [] GoesOut)
+link_ticked most n l h = link_input most n l Tick (end_ticked most l.controller.side h.near.side) h
 
-link_reset : (n : ℕ) (window : Option ℕ) (l : Link) → IsLowWindow window → LinkIs n l
-    → LinkIs (n + 12) (happens_at_controller l (Step (AsksReset window) [] GoesOut))
-link_reset n window l low h = link_input n l (Reset window) (end_reset n l.controller.side window low h.near.side) h
+link_reset : (most n : ℕ) (window : Option ℕ) (l : Link) → IsLowWindow window → LinkIs most n l
+    → LinkIs most (n + 12) (happens_at_controller l (Step (AsksReset window) [] GoesOut))
+link_reset most n window l low h = link_input most n l (Reset window) (end_reset most l.controller.side window low h.near.side) h
 
-link_held : (n : ℕ) (held : Bool) (l : Link) → LinkIs n l → LinkIs (n + 12) (happens_at_controller l (Step NoInput (Hold held ∷ []) GoesOut))
-link_held n held l h = link_becomes n l (turn l.controller.side (Hold held)) (end_held n l.controller.side held h.near.side) h
+link_held : (most n : ℕ) (held : Bool) (l : Link) → LinkIs most n l → LinkIs most (n + 12) (happens_at_controller l (Step NoInput (Hold held ∷ []) GoesOut))
+link_held most n held l h = link_becomes most n l (turn l.controller.side (Hold held)) (end_held most l.controller.side held h.near.side) h
 
-link_given : (n : ℕ) (m : Message) (l : Link) → IsTellable m → LinkIs n l → LinkIs (n + 13) (happens_at_controller l (Step NoInput (Give m ∷ []) GoesOut))
-link_given n m l is h =
-    link_more ((n + 1) + 12) (n + 13) _ (omega arith)
-    (link_becomes (n + 1) l (turn l.controller.side (Give m)) (end_given n l.controller.side m is h.near.side) (link_more n (n + 1) l (omega arith) h))
+link_given : (most n : ℕ) (m : Message) (l : Link) → IsTellable m → LinkIs most n l
+    → LinkIs (most + 1) (n + 12) (happens_at_controller l (Step NoInput (Give m ∷ []) GoesOut))
+link_given most n m l is h =
+    link_becomes (most + 1) n l (turn l.controller.side (Give m)) (end_given most l.controller.side m is h.near.side)
+    (link_more most (most + 1) n n l (omega arith) (omega arith) h)
 
-link_lost : (n : ℕ) (l : Link) (why : Loss) → LinkIs n l → LinkIs n (happens_at_controller l (Lose why))
-link_lost n l why h = record { near = h.near; far = h.far; to_near = wire_dropped IsFrame n l.to_controller h.to_near; to_far = h.to_far; resets = h.resets }
+link_lost : (most n : ℕ) (l : Link) (why : Loss) → LinkIs most n l → LinkIs most n (happens_at_controller l (Lose why))
+link_lost most n l why h =
+    record { near = h.near; far = h.far; to_near = wire_dropped IsFrame n l.to_controller h.to_near; to_far = h.to_far; resets = h.resets }
 
 -- it happens at either end
-link_either : (n k : ℕ) (l : Link) (e : End) (x : EndEvent) → ((m : Link) → LinkIs n m → LinkIs k (happens_at_controller m x)) → LinkIs n l
-    → LinkIs k (happens l (at e x))
-link_either n k l e x here h = go e.at_host
+link_either : (most all n k : ℕ) (l : Link) (e : End) (x : EndEvent) → ((m : Link) → LinkIs most n m → LinkIs all k (happens_at_controller m x))
+    → LinkIs most n l → LinkIs all k (happens l (at e x))
+link_either most all n k l e x here h = go e.at_host
   where
-    go : (b : Bool) → LinkIs k (happens l (at (record { link = e.link; at_host = b }) x))
-    go true = link_swapped k (happens_at_controller (exchanged l) x) (here (exchanged l) (link_swapped n l h))
+    go : (b : Bool) → LinkIs all k (happens l (at (record { link = e.link; at_host = b }) x))
+    go true = link_swapped all k (happens_at_controller (exchanged l) x) (here (exchanged l) (link_swapped most n l h))
     go false = here l h
 
 -- ## Causes
@@ -362,28 +388,39 @@ CanTell (WasLost e why) = Unit {0}
 CanTell Ticked = Unit {0}
 CanTell (Readied e ready) = Unit {0}
 
-pub link_caused : (n : ℕ) (l : Link) (c : Cause) → CanTell c → LinkIs n l → LinkIs (n + 24) (link_after l c)
-link_caused n l (Given e m) can h =
-    link_more (n + 13) (n + 24) _ (omega arith)
-    (link_either n (n + 13) l e (Step NoInput (Give m ∷ []) GoesOut) (λ k g. link_given n m k can g) h)
-link_caused n l (Taken e) can h =
-    link_more (n + 12) (n + 24) _ (omega arith) (link_either n (n + 12) l e (Step NextFrame (FetchMessage ∷ []) GoesOut) (link_taken n) h)
-link_caused n l (WasLost e why) can h =
-    link_more n (n + 24) _ (omega arith) (link_either n n l e (Lose why) (λ k g. link_lost n k why g) h)
-link_caused n l (WasReset e window) can h =
-    link_more (n + 12) (n + 24) _ (omega arith)
-    (link_either n (n + 12) l e (Step (AsksReset window) [] GoesOut) (λ k g. link_reset n window k can g) h)
-link_caused n l (Readied e ready) can h =
-    link_more (n + 12) (n + 24) _ (omega arith)
-    (link_either n (n + 12) l e (Step NoInput (Hold (not ready) ∷ []) GoesOut) (link_held n (not ready)) h)
-link_caused n l Ticked can h =
+-- how many messages are given
+abbrev pub given_by : Cause → ℕ
+given_by (Given e m) = 1
+given_by (Taken e) = 0
+given_by (WasLost e why) = 0
+given_by Ticked = 0
+given_by (WasReset e window) = 0
+given_by (Readied e ready) = 0
+
+pub link_caused : (most n : ℕ) (l : Link) (c : Cause) → CanTell c → LinkIs most n l → LinkIs (most + given_by c) (n + 24) (link_after l c)
+link_caused most n l (Given e m) can h =
+    link_up (most + 1) (n + 12) (n + 24) _ (omega arith)
+    (link_either most (most + 1) n (n + 12) l e (Step NoInput (Give m ∷ []) GoesOut) (λ k g. link_given most n m k can g) h)
+link_caused most n l (Taken e) can h =
+    link_more most (most + 0) (n + 12) (n + 24) _ (omega arith) (omega arith)
+    (link_either most most n (n + 12) l e (Step NextFrame (FetchMessage ∷ []) GoesOut) (link_taken most n) h)
+link_caused most n l (WasLost e why) can h =
+    link_more most (most + 0) n (n + 24) _ (omega arith) (omega arith)
+    (link_either most most n n l e (Lose why) (λ k g. link_lost most n k why g) h)
+link_caused most n l (WasReset e window) can h =
+    link_more most (most + 0) (n + 12) (n + 24) _ (omega arith) (omega arith)
+    (link_either most most n (n + 12) l e (Step (AsksReset window) [] GoesOut) (λ k g. link_reset most n window k can g) h)
+link_caused most n l (Readied e ready) can h =
+    link_more most (most + 0) (n + 12) (n + 24) _ (omega arith) (omega arith)
+    (link_either most most n (n + 12) l e (Step NoInput (Hold (not ready) ∷ []) GoesOut) (link_held most n (not ready)) h)
+link_caused most n l Ticked can h =
     let near : Link = ticks_at_controller (aged l) [] GoesOut in
-    link_more ((n + 12) + 12) (n + 24) _ (omega arith)
-    (link_swapped ((n + 12) + 12) (ticks_at_controller (exchanged near) [] GoesOut)
-    (link_ticked (n + 12) (exchanged near) (link_swapped (n + 12) near (link_ticked n (aged l) (link_aged n l h)))))
+    link_more most (most + 0) ((n + 12) + 12) (n + 24) _ (omega arith) (omega arith)
+    (link_swapped most ((n + 12) + 12) (ticks_at_controller (exchanged near) [] GoesOut)
+    (link_ticked most (n + 12) (exchanged near) (link_swapped most (n + 12) near (link_ticked most n (aged l) (link_aged most n l h)))))
 
 -- nothing has happened yet
-pub bare_is : LinkIs 0 bare_link
+pub bare_is : LinkIs 0 0 bare_link
 bare_is =
     let side : EndIs 0 bare_link.controller.side =
     record { bare = refl; acts = refl; few = omega arith; ranged = record { fragments = tt; window = omega arith; few = omega arith } } in

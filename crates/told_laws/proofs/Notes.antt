@@ -122,16 +122,17 @@ noted_pushed : (n k : ℕ) (who : End) (b : Bool) (xs : List OnWire) → AllByRe
 noted_pushed n k who true xs h = noted_first n k who TooMany xs h
 noted_pushed n k who false xs h = tt
 
-noted_puts : (n : ℕ) (who : End) (cs : List Control) (k : ℕ) (l : Link) → AllByRecursion IsFrame cs → LinkIs k l → AreNoted n (puts_entries who l cs)
-noted_puts n who [] k l is h = tt
-noted_puts n who (c ∷ cs) k l is h =
-    let up : LinkIs (k + 1) l = link_more k (k + 1) l (omega arith) h in
+noted_puts : (n : ℕ) (who : End) (cs : List Control) (most k : ℕ) (l : Link) → AllByRecursion IsFrame cs → LinkIs most k l
+    → AreNoted n (puts_entries who l cs)
+noted_puts n who [] most k l is h = tt
+noted_puts n who (c ∷ cs) most k l is h =
+    let up : LinkIs most (k + 1) l = link_more most most k (k + 1) l (omega arith) (omega arith) h in
     join n (put_entries who l c) (puts_entries who (put l c) cs) (
       is.0,
       noted_pushed n (k + 1) (far who) (nat_lt 64 (length (wire_with l c))) (wire_with l c)
-          (pushed_is IsFrame (k + 1) l.to_host (put_frame l c) up.to_far (put_frame_is k l c is.0 h)),
+          (pushed_is IsFrame (k + 1) l.to_host (put_frame l c) up.to_far (put_frame_is most k l c is.0 h)),
     )
-    (noted_puts n who cs (k + 1) (put l c) is.1 (link_put k l c is.0 h))
+    (noted_puts n who cs most (k + 1) (put l c) is.1 (link_put most k l c is.0 h))
 
 noted_aged : (n k : ℕ) (who : End) (xs : List OnWire) → AllByRecursion (FrameIs IsFrame k) xs → AreNoted n (aged_entries who xs)
 noted_aged n k who [] h = tt
@@ -142,29 +143,29 @@ noted_aged n k who (x ∷ xs) h = go (nat_lt x.age 4) refl (noted_aged n k who x
     go false q later = rw q (h.0.frame, later)
 
 -- no turn, and the frames go out
-noted_rest : (n k : ℕ) (who : End) (l : Link) (e : LinkEnd) → EndIs k e → LinkIs k l → AreNoted n (rest_entries who l e [] GoesOut)
-noted_rest n k who l e is h = noted_puts n who (frames_out e) k l (out_is k e is) h
+noted_rest : (n k : ℕ) (who : End) (l : Link) (e : LinkEnd) → EndIs k e → LinkIs k k l → AreNoted n (rest_entries who l e [] GoesOut)
+noted_rest n k who l e is h = noted_puts n who (frames_out e) k k l (out_is k e is) h
 
 -- ## Steps
 
-noted_sent : (n : ℕ) (who : End) (l : Link) (m : Message) → IsTellable m → LinkIs n l → AreNoted (n + 1) (step_entries who l NoInput (Give m ∷ []) GoesOut)
+noted_sent : (n : ℕ) (who : End) (l : Link) (m : Message) → IsTellable m → LinkIs n n l → AreNoted (n + 1) (step_entries who l NoInput (Give m ∷ []) GoesOut)
 noted_sent n who l m is h =
     let a = h.near.emitted in
     let b = h.near.took in
     let e : LinkEnd = turn l.controller.side (Give m) in
     join (n + 1) (turn_entries who (number_of l.controller) l.controller.side (Give m ∷ [])) (puts_entries who l (frames_out e))
     (join (n + 1) (turn_entry who (number_of l.controller) l.controller.side (Give m)) [] (go (give_refusal l.controller.side m)) tt)
-    (noted_puts (n + 1) who (frames_out e) n l (out_is (n + 1) e (end_given n l.controller.side m is h.near.side)) h)
+    (noted_puts (n + 1) who (frames_out e) n n l (out_is (n + 1) e (end_given n l.controller.side m is h.near.side)) h)
   where
     go : (o : Option Refused) → AreNoted (n + 1) (sent_unless o who (number_of l.controller) m)
     go None = let a = h.near.emitted in let b = h.near.took in ((omega (arith, a, b), is), tt)
     go (Some why) = tt
 
-noted_held : (n : ℕ) (who : End) (l : Link) (held : Bool) → LinkIs n l → AreNoted n (step_entries who l NoInput (Hold held ∷ []) GoesOut)
+noted_held : (n : ℕ) (who : End) (l : Link) (held : Bool) → LinkIs n n l → AreNoted n (step_entries who l NoInput (Hold held ∷ []) GoesOut)
 noted_held n who l held h =
-    let e : LinkEnd = turn l.controller.side (Hold held) in noted_puts n who (frames_out e) n l (out_is n e (end_held n l.controller.side held h.near.side)) h
+    let e : LinkEnd = turn l.controller.side (Hold held) in noted_puts n who (frames_out e) n n l (out_is n e (end_held n l.controller.side held h.near.side)) h
 
-noted_reset : (n : ℕ) (who : End) (l : Link) (window : Option ℕ) → IsLowWindow window → LinkIs n l
+noted_reset : (n : ℕ) (who : End) (l : Link) (window : Option ℕ) → IsLowWindow window → LinkIs n n l
     → AreNoted n (step_entries who l (AsksReset window) [] GoesOut)
 noted_reset n who l window low h =
     let i : LinkInput = Reset window in
@@ -172,17 +173,17 @@ noted_reset n who l window low h =
     let m : Link = with_ended l (is_some (ended_by l.controller.side i)) in
     join n (told_of who l.controller i) (rest_entries who m (after_input l.controller.side i) [] GoesOut)
     (noted_input n who l.controller i h.near.emitted h.near.took is tt)
-    (noted_rest n n who m (after_input l.controller.side i) is (link_ended n l (is_some (ended_by l.controller.side i)) h))
+    (noted_rest n n who m (after_input l.controller.side i) is (link_ended n n l (is_some (ended_by l.controller.side i)) h))
 
-noted_tick : (n : ℕ) (who : End) (l : Link) → LinkIs n l → AreNoted n (tick_entries who l idle)
+noted_tick : (n : ℕ) (who : End) (l : Link) → LinkIs n n l → AreNoted n (tick_entries who l idle)
 noted_tick n who l h =
     let is : EndIs n (after_input l.controller.side HasTick) = end_ticked n l.controller.side h.near.side in
     let m : Link = with_ended l (is_some (ended_by l.controller.side HasTick)) in
     join n (told_of who l.controller HasTick) (rest_entries who m (after_input l.controller.side HasTick) [] GoesOut)
     (noted_input n who l.controller HasTick h.near.emitted h.near.took is (tick_tries n l.controller.side h.near.side))
-    (noted_rest n n who m (after_input l.controller.side HasTick) is (link_ended n l (is_some (ended_by l.controller.side HasTick)) h))
+    (noted_rest n n who m (after_input l.controller.side HasTick) is (link_ended n n l (is_some (ended_by l.controller.side HasTick)) h))
 
-noted_taken : (n : ℕ) (who : End) (l : Link) → LinkIs n l → AreNoted n (step_entries who l NextFrame (FetchMessage ∷ []) GoesOut)
+noted_taken : (n : ℕ) (who : End) (l : Link) → LinkIs n n l → AreNoted n (step_entries who l NextFrame (FetchMessage ∷ []) GoesOut)
 noted_taken n who l h = go l.to_controller refl
   where
     u : List Entry
@@ -200,24 +201,24 @@ noted_taken n who l h = go l.to_controller refl
           wire.frames.0.frame,
           join n (told_of who near_end (Take x.frame)) (rest_entries who (left_with l x xs) e (FetchMessage ∷ []) GoesOut)
               (noted_input n who near_end (Take x.frame) h.near.emitted (took_low n l.controller.took x h.near.took wire.frames.0.number) is tt)
-              (noted_puts n who (frames_out (turn e FetchMessage)) n (left_with l x xs) (out_is n (turn e FetchMessage) (end_fetched n e is))
-              (link_left n l x xs q h)),
+              (noted_puts n who (frames_out (turn e FetchMessage)) n n (left_with l x xs) (out_is n (turn e FetchMessage) (end_fetched n e is))
+              (link_left n n l x xs q h)),
         )
 
 -- ## Events
 
-noted_at : (n : ℕ) (l : Link) (e : NamedEnd) (x : EndEvent) → ((who : End) (m : Link) → LinkIs n m → AreNoted (n + 24) (here_entries who m x)) → LinkIs n l
+noted_at : (n : ℕ) (l : Link) (e : NamedEnd) (x : EndEvent) → ((who : End) (m : Link) → LinkIs n n m → AreNoted (n + 24) (here_entries who m x)) → LinkIs n n l
     → AreNoted (n + 24) (event_entries l (at e x))
 noted_at n l e x here h = go e.at_host
   where
     go : (b : Bool) → AreNoted (n + 24) (event_entries l (at (record { link = e.link; at_host = b }) x))
-    go true = here Host (exchanged l) (link_swapped n l h)
+    go true = here Host (exchanged l) (link_swapped n n l h)
     go false = here Controller l h
 
 abbrev ticks : End → Link → List Entry
 ticks who l = tick_entries who l idle
 
-pub noted_event : (n : ℕ) (l : Link) (c : Cause) → CanTell c → LinkIs n l → AreNoted (n + 24) (event_entries l (event_of c))
+pub noted_event : (n : ℕ) (l : Link) (c : Cause) → CanTell c → LinkIs n n l → AreNoted (n + 24) (event_entries l (event_of c))
 noted_event n l (Given e m) can h = noted_at n l e _ (λ who k g. all_more (n + 1) (n + 24) _ (omega arith) (noted_sent n who k m can g)) h
 noted_event n l (Taken e) can h = noted_at n l e _ (λ who k g. all_more n (n + 24) _ (omega arith) (noted_taken n who k g)) h
 noted_event n l (WasLost e why) can h = noted_at n l e (Lose why) (λ who k g. noted_first (n + 24) n who why k.to_controller g.to_near.frames) h
@@ -226,8 +227,10 @@ noted_event n l (Readied e ready) can h = noted_at n l e _ (λ who k g. all_more
 noted_event n l Ticked can h =
     let old : Link = aged l in
     let near : Link = exchanged (ticks_at_controller old [] GoesOut) in
-    let one : LinkIs n old = link_aged n l h in
-    let two : LinkIs (n + 12) near = link_swapped (n + 12) (ticks_at_controller old [] GoesOut) (link_ticked n old one) in (
+    let one : LinkIs n n old = link_aged n n l h in
+    let two : LinkIs (n + 12) (n + 12) near =
+    link_swapped (n + 12) (n + 12) (ticks_at_controller old [] GoesOut)
+    (link_more n (n + 12) (n + 12) (n + 12) (ticks_at_controller old [] GoesOut) (omega arith) (omega arith) (link_ticked n n old one)) in (
       tt,
       join (n + 24) (aged_entries Controller l.to_controller) (aged_entries Host l.to_host ++ (ticks Controller old ++ ticks Host near))
           (noted_aged (n + 24) n Controller l.to_controller h.to_near.frames)

@@ -5,6 +5,7 @@ use Rattle.std.proofs.lemmas.Bool.{ltb-true, ltb-false}
 use Rattle.block_pool.proofs.HoldingLemmas.{all_mapped}
 use Rattle.swp_base.specs.declared.control_frames.Control.{Control}
 use Rattle.link_laws.specs.sessions.Sessions.{OnWire, fits, aged_wire}
+use Rattle.link_entries.specs.messages.Rsets.{WireIsLow}
 
 pub drop_each : {X : Type 0} (P : X → Type 0) (n : ℕ) (xs : List X) → AllByRecursion P xs → AllByRecursion P (drop n xs)
 drop_each P zero xs h = h
@@ -80,3 +81,12 @@ module _ (P : Control → Type 0) where
 
   pub wire_aged : (n : ℕ) (w : List OnWire) → WireIs P n w → WireIs P n (aged_wire w)
   wire_aged n w h = record { frames = each_aged n w h.frames; few = let l = aged_few w in let f = h.few in omega (arith, l, f) }
+
+  -- no number on it is above another bound
+  each_within : (n m k : ℕ) (w : List OnWire) → k ≤ m → AllByRecursion (FrameIs P n) w → WireIsLow k w → AllByRecursion (FrameIs P m) w
+  each_within n m k [] more h low = tt
+  each_within n m k (x ∷ w) more h low =
+      (record { frame = h.0.frame; number = let a = low.0 in omega (arith, a, more) }, each_within n m k w more h.1 low.1)
+
+  pub wire_within : (n m k : ℕ) (w : List OnWire) → k ≤ m → WireIs P n w → WireIsLow k w → WireIs P m w
+  wire_within n m k w more h low = record { frames = each_within n m k w more h.frames low; few = h.few }

@@ -10,4 +10,6 @@ pub mod Worlds
 pub mod Happenings
 pub mod Histories
 pub mod Lines
+pub mod Bounds
+pub mod Rounds
 pub mod Schedules

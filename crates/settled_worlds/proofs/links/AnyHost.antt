@@ -12,9 +12,10 @@ use Rattle.link_entries.specs.entries.Entries.End.{Controller, Host}
 use Rattle.history.specs.Histories.{Cause}
 use Rattle.history.specs.Histories.Cause.{Taken, Ticked}
 use Rattle.history.specs.Steps.{end_of, event_of, link_after_all}
-use Rattle.settling_laws.specs.messages.Rest.{link_rests, steps_to_rest}
-use Rattle.settled_worlds.specs.links.Settling.{causes_of_round, link_after_round, causes_of_rounds, rounds_to_settle, settling_events}
-use Rattle.settled_worlds.proofs.links.Settling.{after_causes, map-replicate}
+use Rattle.link_entries.specs.messages.Rest.{link_rests, steps_to_rest}
+use Rattle.node_order.specs.rounds.BareRounds.{causes_of_round, link_after_round, causes_of_rounds}
+use Rattle.settled_worlds.specs.links.Settling.{rounds_to_settle, settling_events}
+use Rattle.node_order.proofs.rounds.BareRounds.{after_causes, map-replicate}
 use Rattle.settled_worlds.proofs.links.RoundCauses.{near, far}
 
 -- what is the same on the link leads to the same one

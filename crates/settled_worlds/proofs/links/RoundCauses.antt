@@ -10,10 +10,12 @@ use Rattle.link_entries.specs.entries.Entries.End.{Controller, Host}
 use Rattle.history.specs.Histories.{Cause, causes_of}
 use Rattle.history.specs.Histories.Cause.{Given, Taken, WasLost, Ticked, WasReset, Readied}
 use Rattle.history.specs.Steps.{bare_link, end_of, event_of, link_after, link_after_all, event_at, events_at}
-use Rattle.settling_laws.specs.messages.Rest.{after_steps}
-use Rattle.settled_worlds.specs.links.Settling.{causes_of_round, link_after_round, causes_of_rounds, rounds_to_settle, settling_causes}
+use Rattle.link_entries.specs.messages.Rest.{after_steps}
+use Rattle.node_order.specs.rounds.BareRounds.{causes_of_round, link_after_round, causes_of_rounds}
+use Rattle.settled_worlds.specs.links.Settling.{rounds_to_settle, settling_causes}
 use Rattle.settled_worlds.specs.links.RoundCauses.{AreRoundCauses, times_ticked}
-use Rattle.settled_worlds.proofs.links.Settling.{wire_after, after_causes, rounds}
+use Rattle.settled_worlds.proofs.links.Settling.{wire_after, rounds}
+use Rattle.node_order.proofs.rounds.BareRounds.{after_causes}
 use Rattle.settled_worlds.proofs.worlds.FewOnWires.{IsFewWires, after_few}
 
 -- ## One list behind another

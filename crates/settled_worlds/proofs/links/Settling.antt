@@ -8,7 +8,7 @@ use Rattle.link_laws.specs.sessions.Sessions.{OnWire, took_with}
 use Rattle.link_machine.specs.Machine.Turn.{FetchMessage}
 use Rattle.link_machine.specs.Machine.{LinkEnd, Turn, turned, after_input, ended_by, frames_out}
 use Rattle.link_machine.specs.Machine.LinkInput.{Take}
-use Rattle.link_entries.specs.messages.Links.{Link, EndEvent, LinkEvent, IsStart, exchanged, with_ended, happens, happens_at_controller}
+use Rattle.link_entries.specs.messages.Links.{Link, LinkEvent, IsStart, exchanged, with_ended, happens, happens_at_controller}
 use Rattle.link_entries.specs.messages.Links.{after_link_events, talk_now}
 use Rattle.link_entries.specs.messages.Links.{AllAllowed}
 use Rattle.link_entries.specs.messages.Links.Ending.{GoesOut}
@@ -22,21 +22,15 @@ use Rattle.history.specs.Histories.Cause.{Taken, Ticked}
 use Rattle.history.specs.Steps.{end_of, event_of, link_after_all, idle}
 use Rattle.settling_laws.specs.messages.Recovery.{AllOrdinaryOnLink, come_to_controller, come_to_host, times_among, IsLinkRound}
 use Rattle.settling_laws.specs.messages.Recovery.{AreLinkRounds, IsLinkUndisturbed, fragments_left, EarlierGot}
-use Rattle.settling_laws.specs.messages.Rest.{link_rests, after_steps}
+use Rattle.link_entries.specs.messages.Rest.{link_rests, after_steps}
 use Rattle.settling_laws.proofs.messages.Rest.{first_rest}
 use Rattle.settling_laws.proofs.messages.Projected.{after_events-append}
 use Rattle.settling_laws.proofs.messages.Law.{got_by_host, got_by_controller, rest_at_host, rest_at_controller}
-use Rattle.settled_worlds.specs.links.Settling.{causes_of_round, link_after_round, causes_of_rounds, rounds_to_settle, settling_events}
-
--- what causes do to the link
-pub after_causes : (cs : List Cause) (l : Link) → link_after_all l cs ≡ after_link_events l (map event_of cs)
-after_causes [] l = refl
-after_causes (c ∷ cs) l = after_causes cs (happens l (event_of c))
+use Rattle.node_order.specs.rounds.BareRounds.{causes_of_round, link_after_round, causes_of_rounds}
+use Rattle.node_order.proofs.rounds.BareRounds.{after_causes, map-replicate, allowed-append, take_one, bare_round_allowed}
+use Rattle.settled_worlds.specs.links.Settling.{rounds_to_settle, settling_events}
 
 -- ## Frames that are taken
-
-abbrev take_one : EndEvent
-take_one = Step NextFrame (FetchMessage ∷ []) GoesOut
 
 -- the first frame is gone from its wire
 pub wire_after : (l : Link) (x : OnWire) (xs : List OnWire) (ts : List Turn)
@@ -58,10 +52,9 @@ record Takes (l : Link) (es : List LinkEvent) (c h : ℕ) : Type 0 where
   controller : come_to_controller l es ≡ c
   host : come_to_host l es ≡ h
   times : times_among es ≡ 0
-  allowed : AllAllowed l es
 
 taken_near : (k : ℕ) (l : Link) → k ≤ length l.to_controller → Takes l (replicate k (AtController take_one)) k 0
-taken_near zero l i = record { ordinary = tt; controller = refl; host = refl; times = refl; allowed = tt }
+taken_near zero l i = record { ordinary = tt; controller = refl; host = refl; times = refl }
 taken_near (suc k) l i = go l.to_controller i (taken_near k)
   where
     go : (w : List OnWire) → suc k ≤ length w
@@ -77,11 +70,10 @@ taken_near (suc k) l i = go l.to_controller i (taken_near k)
           controller = omega (arith, t.controller);
           host = t.host;
           times = t.times;
-          allowed = ((tt, (tt, tt)), t.allowed);
         }
 
 taken_far : (k : ℕ) (l : Link) → k ≤ length l.to_host → Takes l (replicate k (AtHost take_one)) 0 k
-taken_far zero l i = record { ordinary = tt; controller = refl; host = refl; times = refl; allowed = tt }
+taken_far zero l i = record { ordinary = tt; controller = refl; host = refl; times = refl }
 taken_far (suc k) l i = go l.to_host i (taken_far k)
   where
     go : (w : List OnWire) → suc k ≤ length w
@@ -97,18 +89,9 @@ taken_far (suc k) l i = go l.to_host i (taken_far k)
           controller = t.controller;
           host = omega (arith, t.host);
           times = t.times;
-          allowed = ((tt, (tt, tt)), t.allowed);
         }
 
 -- ## A round
-
-pub map-replicate : (k : ℕ) (c : Cause) → map event_of (replicate k c) ≡ replicate k (event_of c)
-map-replicate zero c = refl
-map-replicate (suc k) c = ap (λ es. event_of c ∷ es) (map-replicate k c)
-
-pub allowed-append : (es fs : List LinkEvent) (l : Link) → AllAllowed l es → AllAllowed (after_link_events l es) fs → AllAllowed l (es ++ fs)
-allowed-append [] fs l a b = b
-allowed-append (e ∷ es) fs l a b = (a.0, allowed-append es fs (happens l e) a.1 b)
 
 abbrev near_causes : ℕ → Link → List Cause
 near_causes h l = replicate (length l.to_controller) (Taken (end_of h Controller))
@@ -140,9 +123,6 @@ round h l =
     map-append event_of (near_causes h l) (far_causes h l ++ Ticked ∷ [])
     ∙ (ap (λ es. es ++ map event_of (far_causes h l ++ Ticked ∷ [])) first
     ∙ ap (λ es. near ++ es) (map-append event_of (far_causes h l) (Ticked ∷ []) ∙ ap (λ es. es ++ time) second)) in
-    let all : AllAllowed l (near ++ (far ++ time)) =
-    allowed-append near (far ++ time) l one.allowed
-    (allowed-append far time m two.allowed (((tt, tt), tt, (tt, tt)), tt)) in
     record {
       is = record {
         first = near;
@@ -153,7 +133,7 @@ round h l =
         to_host = record { ordinary = two.ordinary; at_controller = two.controller; at_host = two.host; passes = two.times };
         time = record { ordinary = ((refl, tt, refl), tt); at_controller = refl; at_host = refl; passes = refl };
       };
-      allowed = subst (AllAllowed l) (sym parts) all;
+      allowed = bare_round_allowed h l;
       end = sym (after_causes (causes_of_round h l) l);
     }
 

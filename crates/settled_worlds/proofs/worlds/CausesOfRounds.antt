@@ -13,9 +13,10 @@ use Rattle.node_laws.proofs.telling.Orderly.{step_orderly}
 use Rattle.node_order.specs.readings.Worlds.{MayBeRead}
 use Rattle.node_laws.specs.kept.Worlds.{MayHappen}
 use Rattle.node_laws.specs.telling.Telling.{MayBoot}
-use Rattle.settled_worlds.specs.worlds.WorldRest.{ends_in_order, end_takes_all, ends_take_all, world_round, world_after_round, rounds_of_world}
-use Rattle.settled_worlds.specs.worlds.RoundCauses.{happened_in, world_round_causes, AllCanHappen, IsTakeOrTick, IsOfRound, AreOfRounds, world_ticks_in}
-use Rattle.settled_worlds.proofs.worlds.RoundEvents.{ArePassing, takes_pass}
+use Rattle.node_machine.specs.world.Rounds.{ends_in_order, end_takes_all, ends_take_all, world_round, world_after_round, rounds_of_world}
+use Rattle.node_order.specs.rsets.Causes.{happened_in, world_ticks_in}
+use Rattle.settled_worlds.specs.worlds.RoundCauses.{world_round_causes, AllCanHappen, IsTakeOrTick, IsOfRound, AreOfRounds}
+use Rattle.node_order.proofs.rounds.RoundEvents.{ArePassing, takes_pass}
 use Rattle.settled_worlds.proofs.worlds.Replayed.{IsWhole, happens_first, none_happens, causes-append, both, whole_all, whole_ends, whole_round}
 use Rattle.settled_worlds.proofs.worlds.TakenInRounds.{takes_of}
 

@@ -20,7 +20,7 @@ use Rattle.settling_laws.proofs.fragments.Stretches.{began, ended}
 use Rattle.link_machine.specs.Machine.{LinkEnd, Turn, is_open, after_input, reset_refusal, reset_by, window_of}
 use Rattle.link_machine.specs.Machine.LinkInput.{Tick as InputTick}
 use Rattle.link_entries.specs.messages.Links.{Link, LinkEvent, Node, Ending, aged}
-use Rattle.settled_worlds.specs.worlds.LinkEvents.{tick_so}
+use Rattle.node_order.specs.rounds.LinkEvents.{tick_so}
 use Rattle.std.proofs.lemmas.Bool.{and_parts, not-true}
 use Rattle.link_entries.specs.messages.Links.Ending.{GoesOut, CutOff}
 use Rattle.link_entries.specs.messages.Links.Comes.{NextFrame, NoInput, AsksReset}

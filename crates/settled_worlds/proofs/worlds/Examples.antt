@@ -12,7 +12,7 @@ use Rattle.node_machine.specs.world.World.{NodeWorld, Happening, new_world, end_
 use Rattle.node_machine.specs.world.World.Happening.{Takes, Ticks}
 use Rattle.node_machine.specs.world.NodeHistories.{entries_in, world_after}
 use Rattle.settled_worlds.specs.worlds.RoundCauses.{world_settling_causes}
-use Rattle.settled_worlds.specs.worlds.WorldRest.{world_rounds_to_settle, world_settling}
+use Rattle.node_machine.specs.world.Rounds.{world_rounds_to_settle, world_settling}
 
 -- how many rounds a world goes through behind these lines where it settles with n at most, their causes, and what is noted of them
 abbrev settled_behind : List ℕ → List Line → ℕ → ℕ × List Happening × List Entry

@@ -9,9 +9,10 @@ use Rattle.node_machine.specs.world.World.{Site, NodeWorld, Happening, end_c, en
 use Rattle.node_machine.specs.world.World.Happening.{Takes, Ticks}
 use Rattle.node_machine.specs.world.Lines.{Occurrence, all_happen, can_happen, frames_at}
 use Rattle.node_order.proofs.order.Strangers.{step_kept}
-use Rattle.settled_worlds.specs.worlds.WorldRest.{ends_in_order, end_takes_all, ends_take_all, world_round, rounds_of_world}
-use Rattle.settled_worlds.specs.worlds.RoundCauses.{happened_in, world_round_causes, AreFewOnWires}
-use Rattle.settled_worlds.proofs.worlds.Allowing.{fine_there}
+use Rattle.node_machine.specs.world.Rounds.{ends_in_order, end_takes_all, ends_take_all, world_round, rounds_of_world}
+use Rattle.node_order.specs.rsets.Causes.{happened_in}
+use Rattle.settled_worlds.specs.worlds.RoundCauses.{world_round_causes, AreFewOnWires}
+use Rattle.node_order.proofs.rounds.Allowing.{fine_there}
 use Rattle.settled_worlds.proofs.worlds.Rounds.{IsReached}
 use Rattle.settled_worlds.proofs.worlds.Replayed.{happens_first, none_happens, causes-append, both}
 use Rattle.settled_worlds.proofs.worlds.CausesOfRounds.{kept_end, kept_round, kept_rounds}

@@ -21,9 +21,9 @@ use Rattle.node_machine.specs.world.Lines.{frames_at}
 use Rattle.node_laws.specs.telling.Telling.{hosts_in}
 use Rattle.node_order.specs.links.Runs.{IsRun, new_line}
 use Rattle.node_order.proofs.order.Strangers.{step_kept}
-use Rattle.settled_worlds.specs.worlds.LinkEvents.{GoesOnLink, link_events_in}
+use Rattle.node_order.specs.rounds.LinkEvents.{GoesOnLink, link_events_in}
 use Rattle.settled_worlds.specs.worlds.RoundCauses.{AreFewOnWires}
-use Rattle.settled_worlds.proofs.worlds.LinkEvents.{takes_go, ticks_go}
+use Rattle.node_order.proofs.rounds.LinkEvents.{takes_go, ticks_go}
 
 -- both wires hold 64 frames at most
 pub record IsFewWires (l : Link) : Type 0 where

@@ -42,7 +42,7 @@ left_behind (m ∷ ms) n = go (nat_le (packet_count (length m.1)) n) refl (left_
         rw q (omega (arith, count, fits, more))
     go false q more = rw q (omega arith)
 
-end_left : (t : List Entry) (e : End) (n : ℕ) (talk : Talk) → Says talk → IsReadOff t e n talk → undelivered talk.session ≤ fragments_unacked t e n
+pub end_left : (t : List Entry) (e : End) (n : ℕ) (talk : Talk) → Says talk → IsReadOff t e n talk → undelivered talk.session ≤ fragments_unacked t e n
 end_left t e n talk says read =
     let out : length talk.session.out ≡ length (fragments_of talk.sent) = ap (λ (fs : List (List ℕ)). length fs) says.out in
     let left = left_behind talk.sent talk.session.acked in

@@ -6,9 +6,10 @@ use Rattle.trace_model.specs.declared.line.Line.TheVariants as line
 use Rattle.node_machine.specs.world.World.{NodeWorld, Happening, world_step}
 use Rattle.node_machine.specs.world.World.Happening.{Ticks}
 use Rattle.node_machine.specs.world.Lines.{Occurrence, all_happen, can_happen, happenings}
-use Rattle.settled_worlds.specs.worlds.WorldRest.{ends_in_order, end_takes_all, ends_take_all, world_round, rounds_of_world, world_rounds_to_settle}
-use Rattle.settled_worlds.specs.worlds.WorldRest.{world_settling}
-use Rattle.settled_worlds.specs.worlds.RoundCauses.{happened_in, AllCanHappen}
+use Rattle.node_machine.specs.world.Rounds.{ends_in_order, end_takes_all, ends_take_all, world_round, rounds_of_world, world_rounds_to_settle}
+use Rattle.node_machine.specs.world.Rounds.{world_settling}
+use Rattle.node_order.specs.rsets.Causes.{happened_in}
+use Rattle.settled_worlds.specs.worlds.RoundCauses.{AllCanHappen}
 
 -- what happens first, and then
 abbrev pub with_first : NodeWorld → Happening → NodeWorld × List Occurrence → NodeWorld × List Occurrence

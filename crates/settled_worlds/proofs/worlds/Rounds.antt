@@ -35,14 +35,14 @@ use Rattle.settling_laws.specs.messages.Recovery.{IsLinkStretch, IsLinkUndisturb
 use Rattle.settling_laws.specs.messages.Recovery.{times_among, AllOrdinaryOnLink}
 use Rattle.settling_laws.proofs.fragments.Stretches.{began}
 use Rattle.settling_laws.proofs.messages.Projected.{Known, known_after, in_parts, after_events-append}
-use Rattle.settled_worlds.specs.worlds.WorldRest.{ends_in_order, end_takes_all, ends_take_all, world_after_round}
-use Rattle.settled_worlds.specs.worlds.LinkEvents.{link_events_in, controller_takes, site_takes}
-use Rattle.settled_worlds.specs.worlds.RoundEvents.{events_on}
+use Rattle.node_machine.specs.world.Rounds.{ends_in_order, end_takes_all, ends_take_all, world_after_round}
+use Rattle.node_order.specs.rounds.LinkEvents.{link_events_in, controller_takes, site_takes}
+use Rattle.node_order.specs.rounds.RoundEvents.{events_on}
 use Rattle.settled_worlds.proofs.links.Settling.{wire_after}
-use Rattle.settled_worlds.proofs.worlds.Allowing.{fine_there, on_allowed}
+use Rattle.node_order.proofs.rounds.Allowing.{fine_there, on_allowed}
 use Rattle.settled_worlds.proofs.worlds.Endings.{idle_goes_out, take_goes_out, host_take_goes_out}
-use Rattle.settled_worlds.proofs.worlds.LinkEvents.{takes_go}
-use Rattle.settled_worlds.proofs.worlds.RoundEvents.{ArePassing, takes_pass}
+use Rattle.node_order.proofs.rounds.LinkEvents.{takes_go}
+use Rattle.node_order.proofs.rounds.RoundEvents.{ArePassing, takes_pass}
 
 -- ## Worlds that a history reaches
 

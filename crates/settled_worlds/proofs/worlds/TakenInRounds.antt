@@ -23,9 +23,10 @@ use Rattle.node_laws.specs.telling.Telling.{IsOrderly}
 use Rattle.node_laws.proofs.telling.Nodes.{site_host}
 use Rattle.node_laws.proofs.telling.Orderly.{step_orderly}
 use Rattle.node_laws.proofs.telling.Worlds.{site_is}
-use Rattle.settled_worlds.specs.worlds.RoundCauses.{happened_in, CanTake, AreOfRounds}
+use Rattle.node_order.specs.rsets.Causes.{happened_in}
+use Rattle.settled_worlds.specs.worlds.RoundCauses.{CanTake, AreOfRounds}
 use Rattle.settled_worlds.proofs.links.Settling.{wire_after}
-use Rattle.settled_worlds.proofs.worlds.LinkEvents.{site_map, changed_site}
+use Rattle.node_order.proofs.rounds.LinkEvents.{site_map, changed_site}
 use Rattle.settled_worlds.proofs.worlds.Replayed.{happens_first, none_happens}
 
 -- ## A frame is gone from its wire

@@ -5,12 +5,13 @@ use Rattle.std.proofs.lemmas.Bool.{cases_lt, and_parts}
 use Rattle.link_entries.specs.messages.Links.{Link, LinkEvent, IsStart, AllAllowed, after_link_events, talk_now}
 use Rattle.node_machine.specs.world.World.{Site, NodeWorld, site_at}
 use Rattle.settling_laws.specs.messages.Recovery.{AreLinkRounds, EarlierGot, IsLinkUndisturbed, fragments_left}
-use Rattle.settling_laws.specs.messages.Rest.{link_rests}
+use Rattle.link_entries.specs.messages.Rest.{link_rests}
 use Rattle.settling_laws.proofs.messages.Rest.{first_rest}
 use Rattle.settling_laws.proofs.messages.Law.{got_by_host, got_by_controller, rest_at_host, rest_at_controller}
-use Rattle.settled_worlds.specs.worlds.WorldRest.{sites_rest, world_rests, world_after_round, world_rounds_to_settle, world_settling}
-use Rattle.settled_worlds.specs.worlds.RoundEvents.{rounds_events, LinkSettled}
-use Rattle.settled_worlds.proofs.worlds.RoundEvents.{rounds_go}
+use Rattle.node_machine.specs.world.Rounds.{sites_rest, world_rests, world_after_round, world_rounds_to_settle, world_settling}
+use Rattle.node_order.specs.rounds.RoundEvents.{rounds_events}
+use Rattle.settled_worlds.specs.worlds.LinkSettled.{LinkSettled}
+use Rattle.node_order.proofs.rounds.RoundEvents.{rounds_go}
 use Rattle.settled_worlds.proofs.worlds.WorldRest.{settling_is}
 
 -- each link of a world at rest is

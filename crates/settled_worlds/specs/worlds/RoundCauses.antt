@@ -1,14 +1,11 @@
 -- The rounds of a world of nodes as causes that happen one after another, like those of any line.
-use Rattle.std.specs.Prelude.{◌≡◌, ℕ, zero, suc, ◌<◌, ◌≤◌, true, List, [], ◌∷◌, map, length, Some}
+use Rattle.std.specs.Prelude.{◌≡◌, ℕ, ◌<◌, ◌≤◌, true, List, [], ◌∷◌, length, Some}
 use Rattle.trace_model.specs.declared.line.End.{End}
 use Rattle.node_machine.specs.world.World.{Site, NodeWorld, Happening, node_of, site_at, world_step}
 use Rattle.node_machine.specs.world.World.Happening.{Takes, Ticks}
-use Rattle.node_machine.specs.world.Lines.{Occurrence, can_happen, is_running, frames_at}
-use Rattle.settled_worlds.specs.worlds.WorldRest.{rounds_of_world, world_settling}
-
--- what caused events
-abbrev pub happened_in : List Occurrence → List Happening
-happened_in events = map (λ (o : Occurrence). o.cause) events
+use Rattle.node_machine.specs.world.Lines.{can_happen, is_running, frames_at}
+use Rattle.node_machine.specs.world.Rounds.{rounds_of_world, world_settling}
+use Rattle.node_order.specs.rsets.Causes.{happened_in}
 
 -- the causes of so many rounds
 abbrev pub world_round_causes : ℕ → NodeWorld → List Happening
@@ -46,12 +43,6 @@ IsOfRound w _ = ⊥
 abbrev pub AreOfRounds : NodeWorld → List Happening → Type 0
 AreOfRounds w [] = Unit {0}
 AreOfRounds w (c ∷ causes) = IsOfRound w c × AreOfRounds (world_step w c).0 causes
-
--- how often time passes among these
-abbrev pub world_ticks_in : List Happening → ℕ
-world_ticks_in [] = zero
-world_ticks_in (Ticks ∷ causes) = suc (world_ticks_in causes)
-world_ticks_in (_ ∷ causes) = world_ticks_in causes
 
 -- no wire holds more than 64 frames
 abbrev pub AreFewOnWires : NodeWorld → Type 0

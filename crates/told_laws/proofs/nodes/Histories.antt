@@ -8,6 +8,7 @@ use Rattle.trace_model.specs.declared.entry.Entry.TheVariants as entry
 use Rattle.registry.proofs.ValueLemmas.{AllByRecursion-append as each-append}
 use Rattle.node_machine.specs.Parts.{Running}
 use Rattle.node_machine.specs.world.World.{NodeWorld, Site, Happening, world_step}
+use Rattle.node_machine.specs.world.World.Happening.{Boots, IsCut, Gives, Inits, Takes, Loses, Ticks, Resets, Activates, Arms}
 use Rattle.node_machine.specs.world.Lines.{Occurrence, can_happen, all_happen}
 use Rattle.node_machine.specs.world.NodeHistories.{entries_in}
 use Rattle.node_machine.specs.world.NodeFilters.{commands_in}
@@ -16,6 +17,9 @@ use Rattle.node_laws.specs.kept.Hosts.{AreHosts, IsFew}
 use Rattle.node_laws.specs.kept.Books.{IsTold, AreToldBehind}
 use Rattle.node_laws.specs.kept.Worlds.{IfRuns, SiteKeeps, AllKeep, MayHappen}
 use Rattle.node_laws.proofs.kept.Lines.{MayAllHappen, world_goes, few_front}
+use Rattle.node_order.specs.rsets.Causes.{FewRsetsOnEach, rsets_by}
+use Rattle.node_order.proofs.rsets.InWorlds.{each_longer, few_behind_step}
+use Rattle.told_laws.proofs.Lines.{top}
 use Rattle.told_laws.proofs.nodes.Ranges.{AreIn, in-append, all_in_more}
 use Rattle.told_laws.proofs.nodes.Commands.{AreTablesIn, tables_read_in}
 use Rattle.told_laws.proofs.nodes.Worlds.{IsWorldIn, IfTables, SitesHave, world_more}
@@ -83,10 +87,21 @@ has_tables : (o : Option Running) → IfFull o → IfTables o
 has_tables None h = tt
 has_tables (Some r) h = record { tables = h.tables; rows = h.sorted.rows }
 
+-- one thing happens and then the others, or none can
+pub first_happens : (c : Happening) (causes : List Happening) (w : NodeWorld) → can_happen w c ≡ true
+    → all_happen w (c ∷ causes)
+    ≡ ((all_happen (world_step w c).0 causes).0, record { cause = c; entries = (world_step w c).1 } ∷ (all_happen (world_step w c).0 causes).1)
+first_happens c causes w q = rw q refl
+
+pub none_happens : (c : Happening) (causes : List Happening) (w : NodeWorld) → can_happen w c ≡ false → all_happen w (c ∷ causes) ≡ (w, [])
+none_happens c causes w q = rw q refl
+
 module _ (hosts : List ℕ) (are : AreHosts hosts) where
+  -- no number in the world is above n, nor are there more RSETs that its links made; what was noted may be greater, and is a number of a text
   pub record Stands (n : ℕ) (t : List Entry) (w : NodeWorld) : Type 0 where
     pub world : IsWorldIn n w
-    pub noted : AreIn n t
+    pub rsets : FewRsetsOnEach n w.sites
+    pub noted : AreIn top t
     pub counted : AllByRecursion IsCounted t
     pub keep : AllKeep hosts t w
 
@@ -107,8 +122,8 @@ module _ (hosts : List ℕ) (are : AreHosts hosts) where
 
   pub all_full : (n : ℕ) (t : List Entry) (w : NodeWorld) → Stands n t w → AllFull w
   all_full n t w s = record {
-    controller = full 0 n hosts w.memory.content t w.controller s.noted s.keep.controller.runs;
-    sites = sites_full n t w.sites s.noted s.keep.sites;
+    controller = full 0 top hosts w.memory.content t w.controller s.noted s.keep.controller.runs;
+    sites = sites_full top t w.sites s.noted s.keep.sites;
   }
 
   sites_have : (sites : List Site) → AllByRecursion (λ (s : Site). IfFull s.node) sites → SitesHave sites
@@ -120,42 +135,56 @@ module _ (hosts : List ℕ) (are : AreHosts hosts) where
 
   -- ## Events
 
-  event_in : (n : ℕ) (t : List Entry) (w : NodeWorld) (c : Happening) → HappensIn c → MayHappen w c → Stands n t w → IsFew (t ++ (world_step w c).1)
-      → Stands (n + 26) (t ++ (world_step w c).1) (world_step w c).0
-  event_in n t w c is may s few =
+  rsets_by_few : (c : Happening) → rsets_by c ≤ 26
+  rsets_by_few (Boots k) = omega arith
+  rsets_by_few (IsCut k) = omega arith
+  rsets_by_few (Gives e m) = omega arith
+  rsets_by_few (Inits e identity pipes) = omega arith
+  rsets_by_few (Takes e) = omega arith
+  rsets_by_few (Loses e why) = omega arith
+  rsets_by_few Ticks = omega arith
+  rsets_by_few (Resets e window) = omega arith
+  rsets_by_few (Activates h sync power) = omega arith
+  rsets_by_few (Arms k plan) = omega arith
+
+  pub event_in : (n : ℕ) (t : List Entry) (w : NodeWorld) (c : Happening) → HappensIn c → MayHappen w c → Stands n t w → n + 26 ≤ top
+      → IsFew (t ++ (world_step w c).1) → Stands (n + 26) (t ++ (world_step w c).1) (world_step w c).0
+  event_in n t w c is may s small few =
       let step = happens_in n w c is s.world (world_has w (all_full n t w s)) in
       let goes = world_goes hosts are t w c s.keep may (λ k. few t (world_step w c).1 k refl) in
       record {
         world = step.world;
-        noted = in-append (n + 26) t (world_step w c).1 (all_in_more n (n + 26) t (omega arith) s.noted) step.noted;
+        rsets = each_longer (n + rsets_by c) (n + 26) (world_step w c).0.sites (let by = rsets_by_few c in omega (arith, by))
+            (few_behind_step n w c s.rsets);
+        noted = in-append top t (world_step w c).1 s.noted (all_in_more (n + 26) top (world_step w c).1 small step.noted);
         counted = each-append IsCounted t (world_step w c).1 s.counted (all_counted (world_step w c).1 t goes.told few);
         keep = goes.keep;
       }
 
   pub stands_more : (n k : ℕ) (t : List Entry) (w : NodeWorld) → n ≤ k → Stands n t w → Stands k t w
   stands_more n k t w more s =
-      record { world = world_more n k w more s.world; noted = all_in_more n k t more s.noted; counted = s.counted; keep = s.keep }
+      record {
+        world = world_more n k w more s.world;
+        rsets = each_longer n k w.sites more s.rsets;
+        noted = s.noted;
+        counted = s.counted;
+        keep = s.keep;
+      }
 
   pub events_in : (causes : List Happening) (n : ℕ) (t : List Entry) (w : NodeWorld) → AllByRecursion HappensIn causes → MayAllHappen w causes → Stands n t w
-      → IsFew (t ++ entries_in (all_happen w causes).1)
+      → n + 26 * length causes ≤ top → IsFew (t ++ entries_in (all_happen w causes).1)
       → Stands (n + 26 * length causes) (t ++ entries_in (all_happen w causes).1) (all_happen w causes).0
-  events_in [] n t w is may s few =
+  events_in [] n t w is may s small few =
       let nil = append-nil t in
       subst (λ u. Stands (n + 26 * 0) u w) (sym nil) (stands_more n (n + 26 * 0) t w (omega arith) s)
-  events_in (c ∷ causes) n t w is may s few =
-      go (can_happen w c) refl (λ u m k g f. events_in causes m u k is.1 g f)
+  events_in (c ∷ causes) n t w is may s small few =
+      go (can_happen w c) refl (λ u m k g f low y. events_in causes m u k is.1 g f low y)
     where
       next : NodeWorld × List Entry
       next = world_step w c
 
       later : NodeWorld × List Occurrence
       later = all_happen next.0 causes
-
-      on_is : can_happen w c ≡ true → all_happen w (c ∷ causes) ≡ (later.0, record { cause = c; entries = next.1 } ∷ later.1)
-      on_is e = rw e refl
-
-      off_is : can_happen w c ≡ false → all_happen w (c ∷ causes) ≡ (w, [])
-      off_is e = rw e refl
 
       k : ℕ
       k = n + 26 * length (c ∷ causes)
@@ -164,17 +193,18 @@ module _ (hosts : List ℕ) (are : AreHosts hosts) where
       Fine p = Stands k (t ++ entries_in p.1) p.0
 
       go : (b : Bool) → can_happen w c ≡ b
-          → ((u : List Entry) (m : ℕ) (v : NodeWorld) → MayAllHappen v causes → Stands m u v → IsFew (u ++ entries_in (all_happen v causes).1)
-          → Stands (m + 26 * length causes) (u ++ entries_in (all_happen v causes).1) (all_happen v causes).0)
+          → ((u : List Entry) (m : ℕ) (v : NodeWorld) → MayAllHappen v causes → Stands m u v → m + 26 * length causes ≤ top
+          → IsFew (u ++ entries_in (all_happen v causes).1) → Stands (m + 26 * length causes) (u ++ entries_in (all_happen v causes).1) (all_happen v causes).0)
           → Fine (all_happen w (c ∷ causes))
       go true e rest =
-          let all_few : IsFew (t ++ (next.1 ++ entries_in later.1)) = subst (λ (p : NodeWorld × List Occurrence). IsFew (t ++ entries_in p.1)) (on_is e) few in
+          let all_few : IsFew (t ++ (next.1 ++ entries_in later.1)) =
+          subst (λ (p : NodeWorld × List Occurrence). IsFew (t ++ entries_in p.1)) (first_happens c causes w e) few in
           let apart : IsFew ((t ++ next.1) ++ entries_in later.1) = subst IsFew (sym (append_assoc t next.1 (entries_in later.1))) all_few in
-          let first = event_in n t w c is.0 may.0 s (few_front (t ++ next.1) (entries_in later.1) apart) in
-          let all = rest (t ++ next.1) (n + 26) next.0 may.1 first apart in
-          subst Fine (sym (on_is e))
+          let first = event_in n t w c is.0 may.0 s (omega (arith, small)) (few_front (t ++ next.1) (entries_in later.1) apart) in
+          let all = rest (t ++ next.1) (n + 26) next.0 may.1 first (omega (arith, small)) apart in
+          subst Fine (sym (first_happens c causes w e))
           (stands_more ((n + 26) + 26 * length causes) k (t ++ (next.1 ++ entries_in later.1)) later.0 (omega arith)
           (subst (λ u. Stands ((n + 26) + 26 * length causes) u later.0) (append_assoc t next.1 (entries_in later.1)) all))
       go false e rest =
           let nil = append-nil t in
-          subst Fine (sym (off_is e)) (subst (λ u. Stands k u w) (sym nil) (stands_more n k t w (omega arith) s))
+          subst Fine (sym (none_happens c causes w e)) (subst (λ u. Stands k u w) (sym nil) (stands_more n k t w (omega arith) s))

@@ -1,9 +1,9 @@
--- All that is told of a history of nodes that follows a schedule is in its range.
-use Rattle.std.proofs.Common.{◌≡◌, inr, ℕ, ◌+◌, ◌*◌, ◌^◌, ◌≤◌, ◌<◌, Bool, true, false, eqb, List, [], ◌∷◌, ◌++◌, length, map, refl, sym}
+-- All that is told of plays in a world of nodes is in its range, and so is all that is told of a history that follows their lines.
+use Rattle.std.proofs.Common.{◌≡◌, inr, ℕ, zero, suc, ◌+◌, ◌*◌, ◌≤◌, Bool, true, false, eqb, List, [], ◌∷◌, ◌++◌, length, map, refl, sym}
 use Rattle.std.proofs.Common.{subst, ap, ◌∙◌, arith, append_assoc, append-nil, Option, Some, None, All}
-use Rattle.std.specs.Prelude.{replicate}
+use Rattle.std.specs.Prelude.{replicate, if◌then◌else◌, not, ◌&&◌}
 use Rattle.std.specs.List.{AllByRecursion, flat_map}
-use Rattle.std.proofs.lemmas.Bool.{cond_both}
+use Rattle.std.proofs.lemmas.Bool.{cond_both, true≢false}
 use Rattle.std.proofs.lemmas.List.Concat.{flat_map-append}
 use Rattle.swp_base.specs.Bits.{IsByte}
 use Rattle.trace_model.specs.declared.entry.Entry.{Entry}
@@ -13,79 +13,94 @@ use Rattle.trace_model.specs.declared.line.Header.{Header}
 use Rattle.trace_model.specs.declared.line.Line.{Line}
 use Rattle.trace_model.specs.declared.line.Line.TheVariants as line
 use Rattle.trace_model.specs.Lines.{IsHost, IsNodeHeader, MayBegin}
+use Rattle.trace_model.specs.declared.line.End.{End}
 use Rattle.text_laws.specs.Ranges.{IsEntry}
 use Rattle.text_laws.proofs.ReadLemmas.{said_in}
 use Rattle.link_machine.specs.Machine.{need, spare}
+use Rattle.link_laws.specs.sessions.Sessions.{OnWire}
+use Rattle.link_entries.specs.messages.Rest.{is_clear}
 use Rattle.registry.proofs.ValueLemmas.{AllByRecursion-append as each-append}
 use Rattle.node_machine.specs.Parts.{Running}
-use Rattle.node_machine.specs.world.World.{NodeWorld, Site, Happening, node_at, site_at, new_world, new_site}
-use Rattle.node_machine.specs.world.Lines.{refusal_in, happenings}
+use Rattle.node_machine.specs.world.World.{NodeWorld, Site, Happening, node_at, node_of, site_at, new_world, new_site}
+use Rattle.node_machine.specs.world.World.Happening.{Takes, Ticks}
+use Rattle.node_machine.specs.world.Lines.{refusal_in, happenings, frames_at, is_running}
 use Rattle.node_machine.specs.world.Lines.{Occurrence, all_happen, LineOutcome, tables_told, goes_on, line_step, noted_below}
 use Rattle.node_machine.specs.world.Lines.LineOutcome.{WasRefused, Occurred}
-use Rattle.node_machine.specs.world.NodeHistories.{LineStep, NodeHistory, FollowsNodes, steps_from, occurrences_of, entries_in}
-use Rattle.node_laws.specs.kept.Hosts.{AreHosts, IsFew, IsSentByHost}
+use Rattle.node_machine.specs.world.NodeHistories.{LineStep, NodeHistory, FollowsNodes, NoneIsMisread, steps_from, occurrences_of, entries_in, world_after}
+use Rattle.node_machine.specs.world.Rounds.{ends_in_order, end_takes_all, ends_take_all, world_round}
+use Rattle.node_laws.specs.kept.Hosts.{AreDifferent, AreHosts, IsFew, IsSentByHost}
 use Rattle.node_laws.proofs.kept.Lines.{MayAllHappen, line_may, few_front}
 use Rattle.node_laws.proofs.kept.Kept.{all_begin}
-use Rattle.answer_laws.specs.schedules.Ranges.{IsNodeLineOf, AreNodeLinesOf}
-use Rattle.answer_laws.proofs.schedules.Ranges.{hosts_are, sent_by_hosts}
+use Rattle.node_order.proofs.acked.AckedRounds.{IsSound, sound_new}
+use Rattle.node_order.proofs.order.HostsStay.{hosts_stay, hosts_stay_behind}
+use Rattle.node_order.proofs.links.Playing.{world_fine}
+use Rattle.node_order.proofs.rsets.InWorlds.{few_in_new_world}
+use Rattle.answer_laws.specs.schedules.Ranges.{IsNodeLineOf, AreNodeLinesOf, lines_asking}
+use Rattle.answer_laws.proofs.bounds.Lines.{asking-append, asking_few}
+use Rattle.answer_laws.proofs.schedules.Ranges.{hosts_are, in_range, playable, sent_by_hosts}
 use Rattle.answer_laws.proofs.schedules.Few.{are_few}
-use Rattle.lines_told.specs.Below.{entries_below}
+use Rattle.lines_told.specs.Below.{IsPlayedLine, entries_below, is_settling, nodes_behind}
+use Rattle.lines_told.specs.Plays.{Play, IsPlayFor, AreFewPlays, lines_of_play, lines_played, lines_said, rounds_played, round_behind, round_in, taking_in}
+use Rattle.lines_told.specs.Plays.Play.{Said, Round}
+use Rattle.lines_told.specs.RoundLines.{IsRoundLine}
+use Rattle.lines_told.proofs.Lines.{lines_may_be_played, round_known}
+use Rattle.lines_told.proofs.NodeRounds.{told_in, after-append, told-append, takes_so, round_is, round_told, round_lines}
+use Rattle.lines_told.proofs.Plays.{played_more, said-append, played-append, for_with}
 use Rattle.told_laws.specs.NodesTold.{line_told, nodes_told}
-use Rattle.told_laws.proofs.Lines.{each_all, IfCause}
-use Rattle.told_laws.proofs.Coming.{back_each}
-use Rattle.told_laws.proofs.nodes.Ranges.{IsIn, all_in_more}
+use Rattle.told_laws.proofs.Lines.{each_all, IfCause, top}
+use Rattle.told_laws.proofs.Coming.{front_each, back_each}
+use Rattle.told_laws.proofs.Plays.{lines_from, played_from}
+use Rattle.told_laws.proofs.nodes.Ranges.{IsIn}
 use Rattle.told_laws.proofs.nodes.Linking.{new_link_in}
 use Rattle.told_laws.proofs.nodes.Worlds.{IsSiteIn}
 use Rattle.told_laws.proofs.nodes.Happenings.{HappensIn}
 use Rattle.told_laws.proofs.nodes.Histories.{IsCounted, IsFull, IfFull, AllFull, Stands, all_full, events_in, stands_more}
+use Rattle.told_laws.proofs.nodes.Rounds.{round_stands}
 use Rattle.block_pool.proofs.HoldingLemmas.{all_mapped, all_joined}
-use Rattle.told_laws.proofs.nodes.Lines.{number_low, may_follow, caused_in, few_caused, refused_in, said_tables}
+use Rattle.told_laws.proofs.nodes.Lines.{number_low, caused_in, few_caused, refused_in, said_tables}
 
 -- an entry is in its range, and what it counts is a number of a text
-abbrev IsToldIn : ℕ → Entry → Type 0
-IsToldIn n x = IsIn n x × IsCounted x
+abbrev IsToldIn : Entry → Type 0
+IsToldIn x = IsIn top x × IsCounted x
 
-abbrev AreToldIn : ℕ → List Entry → Type 0
-AreToldIn n t = AllByRecursion (IsToldIn n) t
-
-told_more : (n k : ℕ) (t : List Entry) → n ≤ k → AreToldIn n t → AreToldIn k t
-told_more n k t more h = all_mapped Entry (IsToldIn n) (IsToldIn k) t (λ x is. ((all_in_more n k (x ∷ []) more (is.0, tt)).0, is.1)) h
+abbrev AreToldIn : List Entry → Type 0
+AreToldIn t = AllByRecursion IsToldIn t
 
 -- such an entry is in the range of the text law
-told_entry : (n : ℕ) → n < 2 ^ 32 → (x : Entry) → IsToldIn n x → IsEntry x
-told_entry n small (entry.Up at session) h = let a = h.0.1 in (h.0.0, omega (arith, small, a))
-told_entry n small (entry.GaveUp at tries) h = let a = h.0.1 in (h.0.0, omega (arith, a))
-told_entry n small (entry.Acked at session count) h =
-    let a = h.0.1 in let b = h.0.2 in (h.0.0, omega (arith, small, a), omega (arith, small, b))
-told_entry n small (entry.Sent at session pid message) h =
+told_entry : (x : Entry) → IsToldIn x → IsEntry x
+told_entry (entry.Up at session) h = let a = h.0.1 in (h.0.0, omega (arith, a))
+told_entry (entry.GaveUp at tries) h = let a = h.0.1 in (h.0.0, omega (arith, a))
+told_entry (entry.Acked at session count) h =
+    let a = h.0.1 in let b = h.0.2 in (h.0.0, omega (arith, a), omega (arith, b))
+told_entry (entry.Sent at session pid message) h =
     let a = h.0.1 in
     let pipe = h.0.2.pipe in
-    (h.0.0, omega (arith, small, a), omega (arith, pipe), (h.0.2.some, each_all IsByte message h.0.2.bytes))
-told_entry n small (entry.Got at session pid message) h =
+    (h.0.0, omega (arith, a), omega (arith, pipe), (h.0.2.some, each_all IsByte message h.0.2.bytes))
+told_entry (entry.Got at session pid message) h =
     let a = h.0.1 in
     let pipe = h.0.2.pipe in
-    (h.0.0, omega (arith, small, a), omega (arith, pipe), (h.0.2.some, each_all IsByte message h.0.2.bytes))
-told_entry n small (entry.AnyOk node count) h = (h.0, h.1)
-told_entry n small (entry.Booted node count) h = (h.0, h.1)
-told_entry n small (entry.Command node command) h = (h.0.0, h.0.1)
-told_entry n small (entry.Head header) h = h.0
-told_entry n small (entry.Echo said) h = h.0
-told_entry n small (entry.Down at cause) h = h.0
-told_entry n small (entry.Active at) h = h.0
-told_entry n small (entry.Emit at lpdu) h = h.0
-told_entry n small (entry.Took at lpdu) h = h.0
-told_entry n small (entry.Lost at lpdu cause) h = h.0
-told_entry n small (entry.Turn at pid message) h = h.0
-told_entry n small (entry.Held at need spare) h = h.0
-told_entry n small (entry.Ask host message) h = h.0
-told_entry n small (entry.Dropped at pid) h = h.0
-told_entry n small (entry.InitSame at) h = h.0
-told_entry n small (entry.InitMade at count) h = h.0
-told_entry n small (entry.InitFailed at code) h = h.0
-told_entry n small (entry.Cut node) h = h.0
-told_entry n small (entry.Tables node tables) h = h.0
-told_entry n small (entry.Settled rounds) h = h.0
-told_entry n small (entry.No cause) h = h.0
+    (h.0.0, omega (arith, a), omega (arith, pipe), (h.0.2.some, each_all IsByte message h.0.2.bytes))
+told_entry (entry.AnyOk node count) h = (h.0, h.1)
+told_entry (entry.Booted node count) h = (h.0, h.1)
+told_entry (entry.Command node command) h = (h.0.0, h.0.1)
+told_entry (entry.Head header) h = h.0
+told_entry (entry.Echo said) h = h.0
+told_entry (entry.Down at cause) h = h.0
+told_entry (entry.Active at) h = h.0
+told_entry (entry.Emit at lpdu) h = h.0
+told_entry (entry.Took at lpdu) h = h.0
+told_entry (entry.Lost at lpdu cause) h = h.0
+told_entry (entry.Turn at pid message) h = h.0
+told_entry (entry.Held at need spare) h = h.0
+told_entry (entry.Ask host message) h = h.0
+told_entry (entry.Dropped at pid) h = h.0
+told_entry (entry.InitSame at) h = h.0
+told_entry (entry.InitMade at count) h = h.0
+told_entry (entry.InitFailed at code) h = h.0
+told_entry (entry.Cut node) h = h.0
+told_entry (entry.Tables node tables) h = h.0
+told_entry (entry.Settled rounds) h = h.0
+told_entry (entry.No cause) h = h.0
 
 module _ (header : Header) (nodes : IsNodeHeader header) where
   abbrev hosts : List ℕ
@@ -101,22 +116,23 @@ module _ (header : Header) (nodes : IsNodeHeader header) where
 
   record LineIn (n : ℕ) (t : List Entry) (p : NodeWorld × LineOutcome) : Type 0 where
     stands : StandsIn n (t ++ entries_in (occurrences_of p.1)) p.0
-    told : AreToldIn n (entries_below (noted_below p.1))
+    told : AreToldIn (entries_below (noted_below p.1))
 
   nothing : (n k : ℕ) (t : List Entry) (w : NodeWorld) → n ≤ k → StandsIn n t w → StandsIn k (t ++ []) w
   nothing n k t w more s = subst (λ u. StandsIn k u w) (sym (append-nil t)) (stands_more hosts (hosts_are header nodes) n k t w more s)
 
   by_events : (n : ℕ) (t : List Entry) (w : NodeWorld) (causes : List Happening) → length causes ≤ 100 → AllByRecursion HappensIn causes → MayAllHappen w causes
-      → StandsIn n t w → IsFew (t ++ entries_in (all_happen w causes).1) → LineIn (n + 2600) t ((all_happen w causes).0, Occurred (all_happen w causes).1)
-  by_events n t w causes short is may s few =
+      → StandsIn n t w → n + 2600 ≤ top → IsFew (t ++ entries_in (all_happen w causes).1)
+      → LineIn (n + 2600) t ((all_happen w causes).0, Occurred (all_happen w causes).1)
+  by_events n t w causes short is may s small few =
       let es : List Entry = entries_in (all_happen w causes).1 in
       let k : ℕ = n + 26 * length causes in
       let after : StandsIn (n + 2600) (t ++ es) (all_happen w causes).0 =
       stands_more hosts (hosts_are header nodes) k (n + 2600) (t ++ es) (all_happen w causes).0 (omega (arith, short))
-      (events_in hosts (hosts_are header nodes) causes n t w is may s few) in
+      (events_in hosts (hosts_are header nodes) causes n t w is may s (omega (arith, short, small)) few) in
       record {
         stands = after;
-        told = all_joined Entry (IsIn (n + 2600)) IsCounted es (back_each (IsIn (n + 2600)) t es after.noted) (back_each IsCounted t es after.counted);
+        told = all_joined Entry (IsIn top) IsCounted es (back_each (IsIn top) t es after.noted) (back_each IsCounted t es after.counted);
       }
 
   -- the node with this number that runs has full tables
@@ -148,33 +164,35 @@ module _ (header : Header) (nodes : IsNodeHeader header) where
       }
 
   caused : (n : ℕ) (t : List Entry) (w : NodeWorld) (l : Line) → IsNodeLineOf header l → IsSentByHost l → refusal_in w l ≡ None → StandsIn n t w
+      → n + 2600 ≤ top
       → IsFew (t ++ entries_in (all_happen w (happenings w l)).1)
       → LineIn (n + 2600) t ((all_happen w (happenings w l)).0, Occurred (all_happen w (happenings w l)).1)
-  caused n t w l is side none s few =
+  caused n t w l is side none s big few =
       by_events n t w (happenings w l) (few_caused header nodes n w l is s.world) (caused_in header nodes w l is none)
-      (line_may hosts (hosts_are header nodes) w l side none) s few
+      (line_may hosts (hosts_are header nodes) w l side none) s big few
 
   goes_in : (n : ℕ) (t : List Entry) (w : NodeWorld) (l : Line) → IsNodeLineOf header l → IsSentByHost l → refusal_in w l ≡ None → StandsIn n t w
+      → n + 2600 ≤ top
       → IsFew (t ++ entries_in (occurrences_of (goes_on w l).1)) → LineIn (n + 2600) t (goes_on w l)
-  goes_in n t w (line.Tables k) is side none s few = tells_in n t w k (number_low header nodes k is) s (node_at w k) refl
-  goes_in n t w (line.Send e pid message) is side none s few = caused n t w (line.Send e pid message) is side none s few
-  goes_in n t w (line.Deliver e count) is side none s few = caused n t w (line.Deliver e count) is side none s few
-  goes_in n t w (line.Lose e) is side none s few = caused n t w (line.Lose e) is side none s few
-  goes_in n t w (line.Damage e places) is side none s few = caused n t w (line.Damage e places) is side none s few
-  goes_in n t w (line.Tick times) is side none s few = caused n t w (line.Tick times) is side none s few
-  goes_in n t w (line.Reset e window) is side none s few = caused n t w (line.Reset e window) is side none s few
-  goes_in n t w (line.Busy e) is side none s few = caused n t w (line.Busy e) is side none s few
-  goes_in n t w (line.Ready e) is side none s few = caused n t w (line.Ready e) is side none s few
-  goes_in n t w (line.Boot node) is side none s few = caused n t w (line.Boot node) is side none s few
-  goes_in n t w (line.Cut node) is side none s few = caused n t w (line.Cut node) is side none s few
-  goes_in n t w (line.Activate host sync power) is side none s few = caused n t w (line.Activate host sync power) is side none s few
-  goes_in n t w (line.Arm node nth fill) is side none s few = caused n t w (line.Arm node nth fill) is side none s few
-  goes_in n t w (line.Init e identity pipes) is side none s few = caused n t w (line.Init e identity pipes) is side none s few
-  goes_in n t w (line.Settle rounds) is side none s few = absurd is
+  goes_in n t w (line.Tables k) is side none s big few = tells_in n t w k (number_low header nodes k is) s (node_at w k) refl
+  goes_in n t w (line.Send e pid message) is side none s big few = caused n t w (line.Send e pid message) is side none s big few
+  goes_in n t w (line.Deliver e count) is side none s big few = caused n t w (line.Deliver e count) is side none s big few
+  goes_in n t w (line.Lose e) is side none s big few = caused n t w (line.Lose e) is side none s big few
+  goes_in n t w (line.Damage e places) is side none s big few = caused n t w (line.Damage e places) is side none s big few
+  goes_in n t w (line.Tick times) is side none s big few = caused n t w (line.Tick times) is side none s big few
+  goes_in n t w (line.Reset e window) is side none s big few = caused n t w (line.Reset e window) is side none s big few
+  goes_in n t w (line.Busy e) is side none s big few = caused n t w (line.Busy e) is side none s big few
+  goes_in n t w (line.Ready e) is side none s big few = caused n t w (line.Ready e) is side none s big few
+  goes_in n t w (line.Boot node) is side none s big few = caused n t w (line.Boot node) is side none s big few
+  goes_in n t w (line.Cut node) is side none s big few = caused n t w (line.Cut node) is side none s big few
+  goes_in n t w (line.Activate host sync power) is side none s big few = caused n t w (line.Activate host sync power) is side none s big few
+  goes_in n t w (line.Arm node nth fill) is side none s big few = caused n t w (line.Arm node nth fill) is side none s big few
+  goes_in n t w (line.Init e identity pipes) is side none s big few = caused n t w (line.Init e identity pipes) is side none s big few
+  goes_in n t w (line.Settle rounds) is side none s big few = absurd is
 
-  line_in : (n : ℕ) (t : List Entry) (w : NodeWorld) (l : Line) → IsNodeLineOf header l → IsSentByHost l → StandsIn n t w
+  line_in : (n : ℕ) (t : List Entry) (w : NodeWorld) (l : Line) → IsNodeLineOf header l → IsSentByHost l → StandsIn n t w → n + 2600 ≤ top
       → IsFew (t ++ entries_in (occurrences_of (line_step w l).1)) → LineIn (n + 2600) t (line_step w l)
-  line_in n t w l is side s few = go (refusal_in w l) refl (refused_in header nodes n w l s.world) few
+  line_in n t w l is side s big few = go (refusal_in w l) refl (refused_in header nodes n w l s.world) few
     where
       by : Option NoCause → NodeWorld × LineOutcome
       by (Some cause) = (w, WasRefused cause)
@@ -182,29 +200,210 @@ module _ (header : Header) (nodes : IsNodeHeader header) where
 
       go : (o : Option NoCause) → refusal_in w l ≡ o → IfCause o → IsFew (t ++ entries_in (occurrences_of (by o).1)) → LineIn (n + 2600) t (by o)
       go (Some cause) q why f = record { stands = nothing n (n + 2600) t w (omega arith) s; told = ((why, tt), tt) }
-      go None q why f = goes_in n t w l is side q s f
+      go None q why f = goes_in n t w l is side q s big f
 
-  -- ## A schedule
+  -- ## Lines of a play
+
+  abbrev w0 : NodeWorld
+  w0 = new_world header.hosts.items
 
   abbrev entries_behind : NodeWorld → List Line → List Entry
   entries_behind w lines = entries_in (flat_map (λ (s : LineStep). occurrences_of s.outcome) (steps_from w lines))
 
-  lines_in : (lines : List Line) (n : ℕ) (t : List Entry) (w : NodeWorld) → AreNodeLinesOf header lines → AllByRecursion IsSentByHost lines → StandsIn n t w
-      → IsFew (t ++ entries_behind w lines) → AreToldIn (n + 2600 * length lines) (flat_map line_told (steps_from w lines))
-  lines_in [] n t w is sides s few = tt
-  lines_in (l ∷ lines) n t w is sides s few =
-      let o : NodeWorld × LineOutcome = line_step w l in
-      let es : List Entry = entries_in (occurrences_of o.1) in
-      let k : ℕ = n + 2600 * length (l ∷ lines) in
-      let parts : entries_behind w (l ∷ lines) ≡ es ++ entries_behind o.0 lines =
-      flat_map-append (λ (x : Occurrence). x.entries) (occurrences_of o.1) (flat_map (λ (x : LineStep). occurrences_of x.outcome) (steps_from o.0 lines)) in
-      let all_few : IsFew ((t ++ es) ++ entries_behind o.0 lines) =
-      subst IsFew (ap (λ x. t ++ x) parts ∙ sym (append_assoc t es (entries_behind o.0 lines))) few in
-      let here : LineIn (n + 2600) t o = line_in n t w l is.0 sides.0 s (few_front (t ++ es) (entries_behind o.0 lines) all_few) in
-      let later = lines_in lines (n + 2600) (t ++ es) o.0 is.1 sides.1 here.stands all_few in
-      each-append (IsToldIn k) (line_told (record { line = l; outcome = o.1 })) (flat_map line_told (steps_from o.0 lines))
-      ((said_in header (inr nodes) l (may_follow header nodes l is.0), tt), told_more (n + 2600) k (entries_below (noted_below o.1)) (omega arith) here.told)
-      (told_more ((n + 2600) + 2600 * length lines) k (flat_map line_told (steps_from o.0 lines)) (omega arith) later)
+  entries-append : (xs ys : List Line) (w : NodeWorld)
+      → entries_behind w (xs ++ ys) ≡ entries_behind w xs ++ entries_behind (world_after w xs) ys
+  entries-append [] ys w = refl
+  entries-append (x ∷ xs) ys w =
+      let o : NodeWorld × LineOutcome = line_step w x in
+      let es : List Occurrence = occurrences_of o.1 in
+      let rest : List Occurrence = flat_map (λ (s : LineStep). occurrences_of s.outcome) (steps_from o.0 (xs ++ ys)) in
+      let near : List Occurrence = flat_map (λ (s : LineStep). occurrences_of s.outcome) (steps_from o.0 xs) in
+      let far : List Entry = entries_behind (world_after o.0 xs) ys in
+      flat_map-append (λ (x : Occurrence). x.entries) es rest
+      ∙ (ap (λ (u : List Entry). entries_in es ++ u) (entries-append xs ys o.0)
+      ∙ (sym (append_assoc (entries_in es) (entries_behind o.0 xs) far)
+      ∙ ap (λ (u : List Entry). u ++ far) (sym (flat_map-append (λ (x : Occurrence). x.entries) es near))))
+
+  one_line : (w : NodeWorld) (l : Line) → entries_behind w (l ∷ []) ≡ entries_in (occurrences_of (line_step w l).1)
+  one_line w l = ap entries_in (append-nil (occurrences_of (line_step w l).1))
+
+  record PlayIn (n : ℕ) (t : List Entry) (w : NodeWorld) (lines : List Line) : Type 0 where
+    stands : StandsIn n (t ++ entries_behind w lines) (world_after w lines)
+    told : AreToldIn (told_in w lines)
+
+  said_play : (n : ℕ) (t : List Entry) (w : NodeWorld) (l : Line) → IsNodeLineOf header l → IsSentByHost l → StandsIn n t w → n + 2600 ≤ top
+      → IsFew (t ++ entries_behind w (l ∷ [])) → PlayIn (n + 2600) t w (l ∷ [])
+  said_play n t w l is side s small few =
+      let same : t ++ entries_behind w (l ∷ []) ≡ t ++ entries_in (occurrences_of (line_step w l).1) =
+      ap (λ (u : List Entry). t ++ u) (one_line w l) in
+      let one : LineIn (n + 2600) t (line_step w l) = line_in n t w l is side s small (subst IsFew same few) in
+      record {
+        stands = subst (λ (u : List Entry). StandsIn (n + 2600) u (line_step w l).0) (sym same) one.stands;
+        told = subst AreToldIn (sym (append-nil (entries_below (noted_below (line_step w l).1)))) one.told;
+      }
+
+  -- ## A round
+
+  taking_happens : (w : NodeWorld) (e : End) → entries_behind w (taking_in w e) ≡ entries_in (end_takes_all w e).1
+  taking_happens w e = go (is_running w (node_of e)) (frames_at w e) refl refl
+    where
+      taken_if : Bool → List OnWire → List Line
+      taken_if runs frames = if runs && not (is_clear frames) then line.Deliver e None ∷ [] else []
+
+      none_taken : (k : ℕ) → is_running w (node_of e) ≡ false → all_happen w (replicate k (Takes e)) ≡ (w, [])
+      none_taken zero q = refl
+      none_taken (suc k) q = rw q refl
+
+      go : (runs : Bool) (frames : List OnWire) → is_running w (node_of e) ≡ runs → frames_at w e ≡ frames
+          → entries_behind w (taking_in w e) ≡ entries_in (end_takes_all w e).1
+      go false frames p q =
+          let line : taking_in w e ≡ [] = ap (λ (b : Bool). taken_if b (frames_at w e)) p in
+          ap (entries_behind w) line ∙ sym (ap (λ (r : NodeWorld × List Occurrence). entries_in r.1) (none_taken (length (frames_at w e)) p))
+      go true [] p q =
+          let line : taking_in w e ≡ [] = ap (λ (b : Bool). taken_if b (frames_at w e)) p ∙ ap (taken_if true) q in
+          let taken : end_takes_all w e ≡ (w, []) = ap (λ (xs : List OnWire). all_happen w (replicate (length xs) (Takes e))) q in
+          ap (entries_behind w) line ∙ sym (ap (λ (r : NodeWorld × List Occurrence). entries_in r.1) taken)
+      go true (x ∷ xs) p q =
+          let said : Line = line.Deliver e None in
+          let some : taking_in w e ≡ said ∷ [] = ap (λ (b : Bool). taken_if b (frames_at w e)) p ∙ ap (taken_if true) q in
+          let none : refusal_in w said ≡ None = rw (p, q) refl in
+          let step : line_step w said ≡ goes_on w said = rw none refl in
+          ap (entries_behind w) some
+          ∙ (one_line w said ∙ ap (λ (o : NodeWorld × LineOutcome). entries_in (occurrences_of o.1)) step)
+
+  round_happens : (ends : List End) (w : NodeWorld) → entries_behind w (round_in w ends)
+      ≡ entries_in (ends_take_all w ends).1 ++ entries_in (all_happen (ends_take_all w ends).0 (Ticks ∷ [])).1
+  round_happens [] w = one_line w (line.Tick None)
+  round_happens (e ∷ ends) w =
+      let v : NodeWorld = world_after w (taking_in w e) in
+      let u : NodeWorld = (end_takes_all w e).0 in
+      let now : List Entry = entries_in (end_takes_all w e).1 in
+      let taken : NodeWorld × List Occurrence = ends_take_all u ends in
+      let last : List Entry = entries_in (all_happen taken.0 (Ticks ∷ [])).1 in
+      entries-append (taking_in w e) (round_in v ends) w
+      ∙ (ap (λ (es : List Entry). es ++ entries_behind v (round_in v ends)) (taking_happens w e)
+      ∙ (ap (λ (es : List Entry). now ++ es) (ap (λ (x : NodeWorld). entries_behind x (round_in x ends)) (takes_so w e).world ∙ round_happens ends u)
+      ∙ (sym (append_assoc now (entries_in taken.1) last)
+      ∙ ap (λ (es : List Entry). es ++ last) (sym (flat_map-append (λ (o : Occurrence). o.entries) (end_takes_all w e).1 taken.1)))))
+
+  round_play : (n : ℕ) (t : List Entry) (w : NodeWorld) (lines : List Line) → lines ≡ round_in w (ends_in_order w) → IsSound w → StandsIn n t w
+      → n + 30 ≤ top → IsFew (t ++ entries_behind w lines) → PlayIn (n + 6) t w lines
+  round_play n t w lines is sound s small few =
+      let taken : NodeWorld × List Occurrence = ends_take_all w (ends_in_order w) in
+      let es : List Entry = entries_in (world_round w).1 in
+      let same : entries_behind w lines ≡ es =
+      ap (entries_behind w) is
+      ∙ (round_happens (ends_in_order w) w
+      ∙ sym (flat_map-append (λ (o : Occurrence). o.entries) taken.1 (all_happen taken.0 (Ticks ∷ [])).1)) in
+      let round : StandsIn (n + 6) (t ++ es) (world_round w).0 =
+      round_stands hosts (hosts_are header nodes) n t w sound small s (subst (λ (u : List Entry). IsFew (t ++ u)) same few) in
+      let world : world_after w lines ≡ (world_round w).0 = ap (world_after w) is ∙ round_is w in
+      record {
+        stands = subst (λ (u : List Entry). StandsIn (n + 6) (t ++ u) (world_after w lines)) (sym same)
+            (subst (StandsIn (n + 6) (t ++ es)) (sym world) round);
+        told = subst AreToldIn (sym (ap (told_in w) is ∙ round_told w))
+            (all_joined Entry (IsIn top) IsCounted es (back_each (IsIn top) t es round.noted) (back_each IsCounted t es round.counted));
+      }
+
+  -- ## Plays
+
+  node_line : (l : Line) → IsPlayedLine header l → IsNodeLineOf header l
+  node_line l may =
+      in_range header l may.may_follow
+      (λ rounds q. absurd (true≢false (let settles : is_settling l ≡ true = ap is_settling q in sym settles ∙ may.settles_not)))
+
+  node_lines : (lines : List Line) → AllByRecursion (IsPlayedLine header) lines → AreNodeLinesOf header lines
+  node_lines [] may = tt
+  node_lines (l ∷ lines) may = (node_line l may.0, node_lines lines may.1)
+
+  plays_lines : (plays : List Play) → AllByRecursion (IsPlayFor header) plays → AreNodeLinesOf header (lines_played header plays)
+  plays_lines plays may = node_lines (lines_played header plays) (lines_may_be_played header (inr nodes) (hosts_stay_behind header) plays may)
+
+  sound_behind : (lines : List Line) → AreNodeLinesOf header lines → IsSound (nodes_behind header lines)
+  sound_behind lines is =
+      let new = sound_new hosts (hosts_are header nodes).different in
+      record {
+        fine = world_fine hosts lines (playable header lines is);
+        different = subst AreDifferent (sym (hosts_stay lines w0)) new.different;
+      }
+
+  play_in : (n : ℕ) (t : List Entry) (before : List Line) (p : Play) → IsPlayFor header p → AreNodeLinesOf header before
+      → StandsIn n t (nodes_behind header before) → n + (2600 * lines_said (p ∷ []) + 6 * rounds_played (p ∷ [])) + 30 ≤ top
+      → IsFew (t ++ entries_behind (nodes_behind header before) (lines_of_play header before p))
+      → PlayIn (n + (2600 * lines_said (p ∷ []) + 6 * rounds_played (p ∷ []))) t (nodes_behind header before) (lines_of_play header before p)
+  play_in n t before (Said l) may is s small few =
+      let line : IsNodeLineOf header l = node_line l may in
+      let one = said_play n t (nodes_behind header before) l line (sent_by_hosts header (l ∷ []) nodes (line, tt)).0 s (omega (arith, small)) few in
+      record {
+        stands = stands_more hosts (hosts_are header nodes) (n + 2600) (n + (2600 * 1 + 6 * 0)) _ (line_step (nodes_behind header before) l).0
+            (omega arith) one.stands;
+        told = one.told;
+      }
+  play_in n t before Round may is s small few =
+      let w : NodeWorld = nodes_behind header before in
+      let one = round_play n t w (round_behind header before) (round_lines header nodes.nodes before) (sound_behind before is) s (omega (arith, small)) few in
+      record {
+        stands = stands_more hosts (hosts_are header nodes) (n + 6) (n + (2600 * 0 + 6 * 1)) _ (world_after w (round_behind header before))
+            (omega arith) one.stands;
+        told = one.told;
+      }
+
+  plays_told : (plays before : List Play) (n : ℕ) → AllByRecursion (IsPlayFor header) before → AllByRecursion (IsPlayFor header) plays
+      → StandsIn n (entries_behind w0 (lines_played header before)) (nodes_behind header (lines_played header before))
+      → n + (2600 * lines_said plays + 6 * rounds_played plays) + 30 ≤ top → IsFew (entries_behind w0 (lines_played header (before ++ plays)))
+      → AreToldIn (told_in (nodes_behind header (lines_played header before)) (lines_from header before plays))
+  plays_told [] before n so may s small few = tt
+  plays_told (p ∷ plays) before n so may s small few =
+      let lb : List Line = lines_played header before in
+      let w : NodeWorld = nodes_behind header lb in
+      let lp : List Line = lines_of_play header lb p in
+      let after : List Play = before ++ p ∷ [] in
+      let t : List Entry = entries_behind w0 lb in
+      let next : lines_played header after ≡ lb ++ lp = played_more header before p in
+      let whole : IsFew (entries_behind w0 (lines_played header (after ++ plays))) =
+      subst (λ (ps : List Play). IsFew (entries_behind w0 (lines_played header ps))) (sym (append_assoc before (p ∷ []) plays)) few in
+      let apart : entries_behind w0 (lines_played header (after ++ plays))
+      ≡ entries_behind w0 (lines_played header after) ++ entries_behind (nodes_behind header (lines_played header after)) (lines_from header after plays) =
+      ap (entries_behind w0) (played_from header plays after) ∙ entries-append (lines_played header after) (lines_from header after plays) w0 in
+      let front : IsFew (entries_behind w0 (lines_played header after)) =
+      few_front (entries_behind w0 (lines_played header after)) _ (subst IsFew apart whole) in
+      let told : entries_behind w0 (lines_played header after) ≡ t ++ entries_behind w lp = ap (entries_behind w0) next ∙ entries-append lb lp w0 in
+      let world : nodes_behind header (lines_played header after) ≡ world_after w lp = ap (nodes_behind header) next ∙ after-append lb lp w0 in
+      let now : ℕ = 2600 * lines_said (p ∷ []) + 6 * rounds_played (p ∷ []) in
+      let said = said-append (p ∷ []) plays in
+      let rounds = played-append (p ∷ []) plays in
+      let one : PlayIn (n + now) t w lp =
+      play_in n t lb p may.0 (plays_lines before so) s (omega (arith, small, said, rounds)) (subst IsFew told front) in
+      let stands : StandsIn (n + now) (entries_behind w0 (lines_played header after)) (nodes_behind header (lines_played header after)) =
+      subst (λ (u : List Entry). StandsIn (n + now) u (nodes_behind header (lines_played header after))) (sym told)
+      (subst (StandsIn (n + now) (t ++ entries_behind w lp)) (sym world) one.stands) in
+      let later : AreToldIn (told_in (nodes_behind header (lines_played header after)) (lines_from header after plays)) =
+      plays_told plays after (n + now) (for_with header before p so may.0) may.1 stands (omega (arith, small, said, rounds)) whole in
+      subst AreToldIn (sym (told-append lp (lines_from header after plays) w))
+      (each-append IsToldIn (told_in w lp) (told_in (world_after w lp) (lines_from header after plays)) one.told
+      (subst (λ (v : NodeWorld). AreToldIn (told_in v (lines_from header after plays))) world later))
+
+  -- ## What is asked for
+
+  round_asks_nothing : (lines : List Line) → AllByRecursion (IsRoundLine header) lines → lines_asking lines ≡ 0
+  round_asks_nothing [] is = refl
+  round_asks_nothing (line.Deliver e None ∷ lines) is = let rest = round_asks_nothing lines is.1 in omega (arith, rest)
+  round_asks_nothing (line.Tick None ∷ lines) is = let rest = round_asks_nothing lines is.1 in omega (arith, rest)
+  round_asks_nothing (l ∷ lines) is = absurd is.0
+
+  play_asks : (before : List Line) (p : Play) → lines_asking (lines_of_play header before p) ≤ lines_said (p ∷ [])
+  play_asks before (Said l) = asking_few (l ∷ [])
+  play_asks before Round =
+      let none = round_asks_nothing (round_behind header before) (round_known header (inr nodes) (hosts_stay_behind header) before) in omega (arith, none)
+
+  plays_ask : (plays before : List Play) → lines_asking (lines_from header before plays) ≤ lines_said plays
+  plays_ask [] before = omega arith
+  plays_ask (p ∷ plays) before =
+      let now = play_asks (lines_played header before) p in
+      let later = plays_ask plays (before ++ p ∷ []) in
+      let both = asking-append (lines_of_play header (lines_played header before) p) (lines_from header (before ++ p ∷ []) plays) in
+      let said = said-append (p ∷ []) plays in
+      omega (arith, now, later, both, said)
 
   sites_begin : (content : List ℕ) (hs : List ℕ) → AllByRecursion IsHost hs → AllByRecursion (IsSiteIn 0) (map (new_site content) hs)
   sites_begin content [] h = tt
@@ -213,27 +412,60 @@ module _ (header : Header) (nodes : IsNodeHeader header) where
   begins : StandsIn 0 [] (new_world hosts)
   begins = record {
     world = record { sites = sites_begin (replicate 65536 255) hosts (hosts_are header nodes).all; controller = tt };
+    rsets = few_in_new_world hosts;
     noted = tt;
     counted = tt;
     keep = all_begin hosts;
   }
 
-  pub nodes_told_in : (lines : List Line) (t : NodeHistory) → AreNodeLinesOf header lines → FollowsNodes header lines t → length lines ≤ 20000
-      → All IsEntry (nodes_told t)
-  nodes_told_in lines t is follows most = each_all IsEntry (nodes_told t) (began, all)
+  -- what is told below the lines of plays
+  pub told_below_plays : (plays : List Play) → AllByRecursion (IsPlayFor header) plays → AreFewPlays plays → NoneIsMisread w0 (lines_played header plays)
+      → AllByRecursion IsEntry (told_in w0 (lines_played header plays))
+  told_below_plays plays may most sure =
+      all_mapped Entry IsToldIn IsEntry (told_in w0 (lines_played header plays)) told_entry
+      (subst (λ (lines : List Line). AreToldIn (told_in w0 lines)) (sym whole) told)
+    where
+      lines : List Line
+      lines = lines_played header plays
+
+      whole : lines_played header plays ≡ lines_from header [] plays
+      whole = played_from header plays []
+
+      t : NodeHistory
+      t = record { header = header; steps = steps_from w0 lines }
+
+      follows : FollowsNodes header lines t
+      follows = record { nodes = nodes.nodes; header_is = refl; steps_are = refl; sure = sure }
+
+      asked : lines_asking lines ≤ 20000
+      asked =
+          let same = ap lines_asking whole in let few = plays_ask plays [] in let said = most.said in omega (arith, same, few, said)
+
+      told : AreToldIn (told_in w0 (lines_from header [] plays))
+      told =
+          plays_told plays [] 0 tt may begins (let a = most.said in let b = most.rounds in omega (arith, a, b))
+          (are_few header lines t follows nodes (plays_lines plays may) asked)
+
+  -- lines, and what is told below them
+  lines_told : (lines : List Line) (w : NodeWorld) → AllByRecursion (IsPlayedLine header) lines → AllByRecursion IsEntry (told_in w lines)
+      → AllByRecursion IsEntry (flat_map line_told (steps_from w lines))
+  lines_told [] w may told = tt
+  lines_told (l ∷ lines) w may told =
+      let o : NodeWorld × LineOutcome = line_step w l in
+      let below : List Entry = entries_below (noted_below o.1) in
+      each-append IsEntry (line_told (record { line = l; outcome = o.1 })) (flat_map line_told (steps_from o.0 lines))
+      (said_in header (inr nodes) l may.0.may_follow, front_each IsEntry below (told_in o.0 lines) told)
+      (lines_told lines o.0 may.1 (back_each IsEntry below (told_in o.0 lines) told))
+
+  pub nodes_told_in : (plays : List Play) (t : NodeHistory) → AllByRecursion (IsPlayFor header) plays → AreFewPlays plays
+      → FollowsNodes header (lines_played header plays) t → All IsEntry (nodes_told t)
+  nodes_told_in plays t may most follows = each_all IsEntry (nodes_told t) (began, all)
     where
       began : MayBegin t.header
       began = inr (subst IsNodeHeader (sym follows.header_is) nodes)
 
-      few : IsFew (entries_behind (new_world hosts) lines)
-      few = subst IsFew (ap (λ (steps : List LineStep). entries_in (flat_map (λ (s : LineStep). occurrences_of s.outcome) steps)) follows.steps_are)
-          (are_few header lines t follows nodes is most)
-
-      told : AreToldIn (0 + 2600 * length lines) (flat_map line_told (steps_from (new_world hosts) lines))
-      told = lines_in lines 0 [] (new_world hosts) is (sent_by_hosts header lines nodes is) begins few
-
       all : AllByRecursion IsEntry (flat_map line_told t.steps)
       all =
           subst (λ (steps : List LineStep). AllByRecursion IsEntry (flat_map line_told steps)) (sym follows.steps_are)
-          (all_mapped Entry (IsToldIn (0 + 2600 * length lines)) IsEntry (flat_map line_told (steps_from (new_world hosts) lines))
-          (told_entry (0 + 2600 * length lines) (omega (arith, most))) told)
+          (lines_told (lines_played header plays) w0
+          (lines_may_be_played header (inr nodes) (hosts_stay_behind header) plays may) (told_below_plays plays may most follows.sure))

@@ -1,7 +1,8 @@
 use Rattle.std.proofs.Common.{arith}
-use Rattle.settling_laws.specs.messages.Rest.{link_rests}
+use Rattle.link_entries.specs.messages.Rest.{link_rests}
 use Rattle.settling_laws.proofs.messages.Rest.{first_rest}
-use Rattle.settled_worlds.specs.links.Settling.{link_after_round, rounds_to_settle}
+use Rattle.node_order.specs.rounds.BareRounds.{link_after_round}
+use Rattle.settled_worlds.specs.links.Settling.{rounds_to_settle}
 use Rattle.settled_worlds.proofs.links.RoundCauses.{settles, rounds_are, ticks_are}
 use Rattle.settled_worlds.proofs.bare_rounds_as_causes.settling_causes_are_those_of_rounds.Goals as goal
 

@@ -1,4 +1,4 @@
-use Rattle.settled_worlds.specs.worlds.WorldRest.{world_rounds_to_settle}
+use Rattle.node_machine.specs.world.Rounds.{world_rounds_to_settle}
 use Rattle.settled_worlds.proofs.worlds.CausesOfRounds.{of_rounds, may_be, rounds_only}
 use Rattle.settled_worlds.proofs.rounds_as_causes.in_rounds_ends_take_frames_that_stand.Goals as goal
 

@@ -1,6 +1,6 @@
 use Rattle.std.proofs.Common.{arith}
 use Rattle.settling_laws.proofs.messages.Rest.{first_rest}
-use Rattle.settled_worlds.specs.worlds.WorldRest.{world_after_round, world_rests, world_rounds_to_settle}
+use Rattle.node_machine.specs.world.Rounds.{world_after_round, world_rests, world_rounds_to_settle}
 use Rattle.settled_worlds.proofs.worlds.CausesOfRounds.{ticks_are}
 use Rattle.settled_worlds.proofs.rounds_as_causes.time_passes_once_in_a_round.Goals as goal
 

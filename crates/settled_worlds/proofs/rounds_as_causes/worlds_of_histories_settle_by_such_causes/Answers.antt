@@ -1,7 +1,7 @@
 use Rattle.std.proofs.Common.{ℕ, List}
 use Rattle.node_machine.specs.world.World.{NodeWorld, new_world}
 use Rattle.node_laws.specs.telling.Telling.{world_behind}
-use Rattle.settled_worlds.specs.worlds.WorldRest.{world_rounds_to_settle}
+use Rattle.node_machine.specs.world.Rounds.{world_rounds_to_settle}
 use Rattle.settled_worlds.proofs.worlds.WorldRounds.{reached_behind}
 use Rattle.settled_worlds.proofs.worlds.CausesOfRounds.{of_rounds}
 use Rattle.settled_worlds.proofs.worlds.FewCauses.{rounds_few, reached_few, reached_small}

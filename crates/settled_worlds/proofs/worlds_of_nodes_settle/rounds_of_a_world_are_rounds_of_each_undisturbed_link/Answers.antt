@@ -1,6 +1,6 @@
 use Rattle.node_machine.specs.world.World.{new_world}
 use Rattle.node_laws.specs.telling.Telling.{world_behind}
-use Rattle.settled_worlds.proofs.worlds.Allowing.{rounds_allowed}
+use Rattle.node_order.proofs.rounds.Allowing.{rounds_allowed}
 use Rattle.settled_worlds.proofs.worlds.WorldRounds.{reached_behind, rounds_are}
 use Rattle.settled_worlds.proofs.worlds_of_nodes_settle.rounds_of_a_world_are_rounds_of_each_undisturbed_link.Goals as goal
 

@@ -1,5 +1,5 @@
 use Rattle.settling_laws.proofs.messages.Rest.{first_rest}
-use Rattle.settled_worlds.specs.worlds.WorldRest.{world_after_round, world_rests}
+use Rattle.node_machine.specs.world.Rounds.{world_after_round, world_rests}
 use Rattle.settled_worlds.proofs.worlds.WorldRest.{settling_is}
 use Rattle.settled_worlds.proofs.worlds_of_nodes_settle.worlds_settle_soonest.Goals as goal
 
