@@ -50,7 +50,7 @@ impl<N: Nv + Drop> Host<N> {
     ghost use Rattle.node_machine.specs.Node.NodeInput.{AtEnd, TimePasses};
     ghost use Rattle.node_machine.specs.world.World.{sending, beginning};
     ghost use Rattle.node_machine.specs.world.Lines.{if_waiting};
-    ghost use Rattle.node_ends.specs.Ends.{has_sent, frame_at};
+    ghost use Rattle.node_ends.specs.Ends.{has_sent, frame_at, are_at_rest};
     ghost use Rattle.node_ends.specs.Making.{new_port};
     ghost use Rattle.node_core.specs.Booting.{found_in_memory, IsBootRefused};
     ghost use Rattle.node_core.specs.Bringing.{Brings};
@@ -288,6 +288,15 @@ impl<N: Nv + Drop> Host<N> {
         }
         self.node.end_step();
         Ok(())
+    }
+
+    /// Whether its end is at rest: it doesn't wait for the acceptance of a reset, and where it is Up all messages that were sent in its
+    /// session are acknowledged. This project's own.
+    pub fn is_at_rest(&self) -> bool
+        requires runs { (core : Core) × (ports : List Port) × RunsAs self.now core ports }
+        ensures { (core : Core) (ports : List Port) → RunsAs self.now core ports → result ≡ are_at_rest ports }
+    {
+        self.node.is_at_rest()
     }
 
     /// The tables, and the memory in which they are kept.

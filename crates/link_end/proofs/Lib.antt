@@ -7,3 +7,4 @@ pub mod NodeLemmas
 pub mod MakeLemmas
 pub mod FormLemmas
 pub mod AccountLemmas
+pub mod RestLemmas

@@ -40,6 +40,7 @@ impl End {
     ghost use Rattle.link_machine.specs.Machine.{is_held, is_open, oldest, new_link_end, in_front as due_in_front};
     ghost use Rattle.link_machine.specs.Machine.LinkInput.{Take, TakeUnknown, Reset, Start, Stop, FromNode, Fetch};
     ghost use Rattle.link_machine.specs.Machine.Turn.{Give, Hold, FetchMessage};
+    ghost use Rattle.link_machine.specs.AtRest.{end_rests};
     ghost use Rattle.link_end.specs.Roles.{role_of, new_role, MayStart};
     ghost use Rattle.link_end.specs.Reports.{report_told, nothing_told, act_told, heard_told, give_told, pass_told, reset_told, IsShdlc};
     ghost use Rattle.link_messages.specs.Outgoing.{OutboxLiesIn, LeavesOthersBut, waiting_in};
@@ -451,6 +452,18 @@ impl End {
         ensures { (pool : PoolState) (m : Machine) → EndStandsFor self.now pool m → result ≡ m.shdlc.phase }
     {
         self.shdlc.state()
+    }
+
+    /// Whether the end is at rest: it doesn't wait for the acceptance of a reset, and where it is Up all messages that were sent in its
+    /// session are acknowledged.
+    pub fn is_at_rest(&self) -> bool
+        ensures { (pool : PoolState) (m : Machine) → EndStandsFor self.now pool m → result ≡ end_rests m }
+    {
+        match self.shdlc.state() {
+            LinkState::Up => self.outbox.is_empty(),
+            LinkState::Waiting => false,
+            LinkState::Down => true,
+        }
     }
 
     /// A reset of the link is asked for, with this window, which is 1 to 4, or with the end's own one. At most six control frames wait

@@ -38,6 +38,7 @@ impl LinkEnd {
     ghost use Rattle.link_machine.specs.Machine.{LinkEnd as Machine, new_link_end, after_input, is_held, report, lpdu_input, next_frame, oldest};
     ghost use Rattle.link_machine.specs.Machine.LinkInput.{TakeBroken, Tick, Reset, Start, Stop, FromNode, Fetch};
     ghost use Rattle.link_machine.specs.Machine.Turn.{Give, Hold, FetchMessage};
+    ghost use Rattle.link_machine.specs.AtRest.{end_rests};
     ghost use Rattle.link_end.specs.Roles.{role_of, new_role, MayStart};
     ghost use Rattle.link_end.specs.Reports.{report_told, give_told, pass_told, reset_told};
     ghost use Rattle.link_end.specs.Inputs.{fed_input, unit_input, after_some, told_some, after_period, told_period, heard_after};
@@ -349,6 +350,14 @@ impl LinkEnd {
         ensures { (pool : PoolState) (m : Machine) → EndStandsFor self.now.link pool m → result ≡ m.shdlc.phase }
     {
         self.link.state()
+    }
+
+    /// Whether the end is at rest: it doesn't wait for the acceptance of a reset, and where it is Up all messages that were sent in its
+    /// session are acknowledged. This project's own.
+    pub fn is_at_rest(&self) -> bool
+        ensures { (pool : PoolState) (m : Machine) → EndStandsFor self.now.link pool m → result ≡ end_rests m }
+    {
+        self.link.is_at_rest()
     }
 }
 

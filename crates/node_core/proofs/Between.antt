@@ -1,7 +1,7 @@
 -- A node between its steps: what is kept of its ends then, and that all its frames go out one by one.
 use Rattle.std.proofs.Common.{◌≡◌, ℕ, zero, suc, ◌+◌, ◌≤◌, Bool, true, false, not, List, []}
 use Rattle.std.proofs.Common.{◌∷◌, ◌++◌, map, length, refl, sym, ap, ap₂, ◌∙◌, subst, arith, append-nil}
-use Rattle.std.specs.Prelude.{Option, Some, None, option_map, slice_get, ◌==◌, IsTrue, IsSome}
+use Rattle.std.specs.Prelude.{Option, Some, None, option_map, slice_get, ◌==◌, ◌&&◌, IsTrue, IsSome}
 use Rattle.std.specs.List.{AllByRecursion}
 use Rattle.std.proofs.lemmas.List.{length-map}
 use Rattle.block_pool.specs.Pool.{PoolState}
@@ -11,6 +11,7 @@ use Rattle.hci_store.specs.Stored.{Stored}
 use Rattle.shdlc_core.specs.declared.answers.Due.{Due}
 use Rattle.shdlc_core.specs.Machine.{all_frames, fetched, fragment_due, Fragment}
 use Rattle.link_machine.specs.Machine.{LinkEnd as Machine, ActDue, among, next_frame, frame_fetched, frames_out, sent_all, nearer}
+use Rattle.link_machine.specs.AtRest.{end_rests}
 use Rattle.link_machine.specs.Laws.{fetches, after_fetches, most_fetches}
 use Rattle.link_machine.proofs.Places.{fetched_all, left_all}
 use Rattle.link_laws.proofs.places.Idle.{left, idle_after}
@@ -21,7 +22,7 @@ use Rattle.node_machine.specs.Carrying.{changed_if, with_port, port_at}
 use Rattle.node_machine.specs.Node.{with_error}
 use Rattle.node_ends.specs.declared.seat.Seat.{Seat}
 use Rattle.node_ends.specs.declared.ends.Ends.{Ends}
-use Rattle.node_ends.specs.Ends.{EndsStandFor, SeatStandsFor, SeatsStandFor, IsHeldWhileOneWaits, at_place, has_sent, frame_at}
+use Rattle.node_ends.specs.Ends.{EndsStandFor, SeatStandsFor, SeatsStandFor, IsHeldWhileOneWaits, at_place, has_sent, frame_at, are_at_rest}
 use Rattle.node_ends.specs.Desks.{age_at}
 use Rattle.node_ends.specs.Making.{AreAllDifferent}
 use Rattle.node_ends.specs.Holding.{IsReached}
@@ -418,6 +419,11 @@ kept_frame (Some p) = refl
 
 pub kept_frame_at : (h : ℕ) (ports : List Port) → frame_at (port_at (map between ports) h) ≡ frame_at (port_at ports h)
 kept_frame_at h ports = ap frame_at (kept_at h ports) ∙ kept_frame (port_at ports h)
+
+-- what isn't kept of an end says nothing of whether it is at rest
+pub kept_at_rest : (ports : List Port) → are_at_rest (map between ports) ≡ are_at_rest ports
+kept_at_rest [] = refl
+kept_at_rest (p ∷ ports) = ap (λ b. end_rests p.side && b) (kept_at_rest ports)
 
 none_kept : (o : Option Port) → option_map between o ≡ None → o ≡ None
 none_kept None is = refl

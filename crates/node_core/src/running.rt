@@ -37,7 +37,7 @@ impl<N: Nv + Drop> Node<N> {
     ghost use Rattle.link_machine.specs.Machine.{next_frame};
     ghost use Rattle.node_machine.specs.Parts.{Core, Port};
     ghost use Rattle.node_machine.specs.Carrying.{port_at, with_port};
-    ghost use Rattle.node_ends.specs.Ends.{EndsStandFor, has_sent, frame_at};
+    ghost use Rattle.node_ends.specs.Ends.{EndsStandFor, has_sent, frame_at, are_at_rest};
     ghost use Rattle.node_core.specs.Nodes.{IsSoundNode};
     ghost use Rattle.node_core.specs.Running.{RunsAs, between, one_more_error};
 
@@ -96,6 +96,15 @@ impl<N: Nv + Drop> Node<N> {
             return None;
         };
         self.ends.next_out(i)
+    }
+
+    /// Whether all its ends are at rest: none waits for the acceptance of a reset, and at each that is Up all messages that were sent in
+    /// its session are acknowledged. This project's own.
+    pub fn is_at_rest(&self) -> bool
+        requires runs { (core : Core) × (ports : List Port) × RunsAs self.now core ports }
+        ensures { (core : Core) (ports : List Port) → RunsAs self.now core ports → result ≡ are_at_rest ports }
+    {
+        self.ends.are_at_rest()
     }
 
     /// The tables, and the memory in which they are kept.

@@ -6,6 +6,7 @@ pub mod Apart
 pub mod Quiet
 pub mod Fetching
 mod Reading
+mod AtRest
 mod Placing
 pub mod Coming
 pub mod Seated

@@ -1,10 +1,11 @@
 -- What is kept of the ends of a node, and for which ports of its machine it stands.
 use Rattle.std.specs.Prelude.{◌≡◌, ◌≢◌, ℕ, zero, suc, ◌+◌, ◌*◌, ◌==◌, Bool, true, false, if◌then◌else◌, List, [], ◌∷◌, length, take, ◌≤◌, is_none, Option}
 use Rattle.std.specs.Prelude.{◌&&◌, not, Some, None, option_map}
-use Rattle.std.specs.List.{AllByRecursion}
+use Rattle.std.specs.List.{AllByRecursion, list_all}
 use Rattle.std.specs.Option.{option_map_or}
 use Rattle.block_pool.specs.Pool.{PoolState}
 use Rattle.link_machine.specs.Machine.{Message, is_held, give_refusal, whole_acked, next_frame, frame_fetched}
+use Rattle.link_machine.specs.AtRest.{end_rests}
 use Rattle.swp_lpdu.specs.Controls.{lpdu_of}
 use Rattle.swp_act.specs.declared.ActEvent.TheVariants.{Start as ActStart}
 use Rattle.link_end.specs.Roles.{MayStart}
@@ -98,6 +99,10 @@ held_at ports h = option_map_or (λ (p : Port). is_held p.side) (port_at ports h
 -- nothing is left to do at an end: no message waits there, and it isn't held
 abbrev pub rests : Port → Bool
 rests p = (length p.side.got == 0) && not (is_held p.side)
+
+-- all ends are at rest
+abbrev pub are_at_rest : List Port → Bool
+are_at_rest ports = list_all (λ (p : Port). end_rests p.side) ports
 
 -- the ends, where the one at this place is changed
 abbrev pub at_place : ℕ → (Port → Port) → List Port → List Port

@@ -3,7 +3,7 @@ ghost use Rattle.std.specs.Prelude.{◌≡◌, ◌<◌, ◌≤◌, List, Some, I
 ghost use Rattle.node_machine.specs.Parts.{Port};
 ghost use Rattle.node_machine.specs.Carrying.{port_at, with_port};
 ghost use Rattle.std.specs.Option.{option_map_or};
-ghost use Rattle.node_ends.specs.Ends.{AreEnds, place_in, got_at, message_read, rests};
+ghost use Rattle.node_ends.specs.Ends.{AreEnds, place_in, got_at, message_read, rests, are_at_rest};
 ghost use Rattle.std.specs.Prelude.{if◌then◌else◌, map};
 ghost use Rattle.node_ends.specs.declared.seat.Seat.{Seat as Kept};
 
@@ -29,7 +29,7 @@ impl Ends {
     ghost use Rattle.node_machine.specs.Parts.{Port};
     ghost use Rattle.node_machine.specs.Carrying.{port_at, with_port};
     ghost use Rattle.node_deeds.specs.Shown.{desk_shown};
-    ghost use Rattle.node_ends.specs.Ends.{EndsStandFor, AreOfHosts, got_at, message_read, rests};
+    ghost use Rattle.node_ends.specs.Ends.{EndsStandFor, AreOfHosts, got_at, message_read, rests, are_at_rest};
     ghost use Rattle.std.specs.Prelude.{ℕ, false};
     ghost use Rattle.std.specs.Option.{option_map_or};
     ghost use Rattle.gate_admin.specs.View.{has};
@@ -100,6 +100,15 @@ impl Ends {
         rests_place(self.seats.as_slice(), i, &self.pool)
     }
 
+    /// Whether all ends are at rest: none waits for the acceptance of a reset, and at each that is Up all messages that were sent in its
+    /// session are acknowledged. This project's own.
+    pub fn are_at_rest(&self) -> bool
+        requires { (ports : List Port) × EndsStandFor self.now ports }
+        ensures { (ports : List Port) → EndsStandFor self.now ports → result ≡ are_at_rest ports }
+    {
+        all_at_rest(self.seats.as_slice(), &self.pool)
+    }
+
     /// Whether the notice of the end at this place was late in this step; `false` behind the last end.
     pub fn was_late(&self, i: usize) -> bool
         requires { (ports : List Port) × EndsStandFor self.now ports }
@@ -168,6 +177,19 @@ fn rests_place(seats: &[Seat], i: usize, pool: &Pool) -> bool
     ensures { (ports : List Port) → AreEnds pool.now seats.now ports → result ≡ option_map_or rests (slice_get ports i) false }
 {
     seats[i].rests()
+}
+
+// Whether all these ends are at rest.
+fn all_at_rest(seats: &[Seat], pool: &Pool) -> bool
+    requires { (ports : List Port) × AreEnds pool.now seats.now ports }
+    ensures { (ports : List Port) → AreEnds pool.now seats.now ports → result ≡ are_at_rest ports }
+{
+    for seat in seats {
+        if !seat.is_at_rest() {
+            return false;
+        }
+    }
+    true
 }
 
 // What is kept of each of these ends.

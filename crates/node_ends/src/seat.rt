@@ -42,6 +42,7 @@ impl Seat {
     ghost use Rattle.link_machine.specs.Machine.Turn.{Give, Hold, SetAside, Release, FetchMessage};
     ghost use Rattle.link_machine.specs.Machine.LinkInput.{Tick, Reset, Start, Stop};
     ghost use Rattle.link_machine.specs.Machine.{next_frame, frame_fetched};
+    ghost use Rattle.link_machine.specs.AtRest.{end_rests};
     ghost use Rattle.swp_lpdu.specs.Controls.{lpdu_of};
     ghost use Rattle.std.specs.Prelude.{◌==◌, Ok, option_map};
     ghost use Rattle.link_end.specs.Roles.{MayStart};
@@ -380,6 +381,14 @@ impl Seat {
         ensures { (pool : PoolState) (m : Machine) → HoldsSeat pool self.now m → result ≡ ((length m.got == 0) && not (is_held m)) }
     {
         self.waiting.is_none() && !self.is_held()
+    }
+
+    /// Whether the end is at rest: it doesn't wait for the acceptance of a reset, and where it is Up all messages that were sent in its
+    /// session are acknowledged.
+    pub(crate) fn is_at_rest(&self) -> bool
+        ensures { (pool : PoolState) (m : Machine) → HoldsSeat pool self.now m → result ≡ end_rests m }
+    {
+        self.side.is_at_rest()
     }
 
     /// Whether the end is held.

@@ -47,7 +47,7 @@ impl<N: Nv + Drop> Controller<N> {
     ghost use Rattle.node_machine.specs.Carrying.{port_at, with_port};
     ghost use Rattle.node_machine.specs.Node.{steps};
     ghost use Rattle.node_machine.specs.Node.NodeInput.{AtEnd, TimePasses};
-    ghost use Rattle.node_ends.specs.Ends.{has_sent, frame_at};
+    ghost use Rattle.node_ends.specs.Ends.{has_sent, frame_at, are_at_rest};
     ghost use Rattle.node_ends.specs.Making.{new_port};
     ghost use Rattle.node_core.specs.Booting.{found_in_memory, IsBootRefused};
     ghost use Rattle.node_core.specs.Bringing.{Brings};
@@ -211,6 +211,15 @@ impl<N: Nv + Drop> Controller<N> {
         ensures store { self.new.store ≡ self.old.store }
     {
         self.node.next_out(host)
+    }
+
+    /// Whether all its ends are at rest: none waits for the acceptance of a reset, and at each that is Up all messages that were sent in
+    /// its session are acknowledged. This project's own.
+    pub fn is_at_rest(&self) -> bool
+        requires runs { (core : Core) × (ports : List Port) × RunsAs self.now core ports }
+        ensures { (core : Core) (ports : List Port) → RunsAs self.now core ports → result ≡ are_at_rest ports }
+    {
+        self.node.is_at_rest()
     }
 
     /// The tables, and the memory in which they are kept.
