@@ -1,17 +1,9 @@
 -- What functions of a world of nodes ask for: its numbers of RSETs and its counts of acknowledged messages stay within 32 bits.
-use Rattle.std.proofs.Common.{◌≡◌, ◌⊎◌, inl, inr, ℕ, zero, suc, ◌+◌, ◌*◌, ◌<◌, ◌≤◌, ◌^◌, ◌==◌, Bool, true, false, List, [], ◌∷◌, map, refl, subst, sym, arith}
+use Rattle.std.proofs.Common.{◌≡◌, ◌⊎◌, inl, inr, ℕ, zero, suc, ◌+◌, ◌<◌, ◌≤◌, ◌^◌, ◌==◌, Bool, true, false, List, [], ◌∷◌, map, refl, subst, sym, arith}
 use Rattle.std.specs.Prelude.{Option, Some, None, length, replicate, unwrap_or, IfSome}
 use Rattle.std.specs.List.{AllByRecursion}
-use Rattle.trace_model.specs.declared.line.End.{End}
-use Rattle.trace_model.specs.declared.line.Header.{Header}
-use Rattle.trace_model.specs.declared.line.Line.{Line}
-use Rattle.trace_model.specs.declared.line.Line.TheVariants as line
-use Rattle.trace_model.specs.declared.entry.NoCause.{NoCause}
-use Rattle.trace_model.specs.Lines.{MayFollow}
 use Rattle.hcp_packet.specs.Packets.{AreSendable}
-use Rattle.history.specs.Damage.{Verdict}
-use Rattle.history.specs.Damage.Verdict.{Same, LostFor, Undetected}
-use Rattle.history.specs.Follows.{taken_of, first_verdict}
+use Rattle.history.specs.Follows.{taken_of}
 use Rattle.link_laws.specs.sessions.Sessions.{OnWire, took_with}
 use Rattle.link_machine.specs.Machine.{LinkEnd, LinkInput, Message, after_input}
 use Rattle.link_machine.specs.Machine.LinkInput.{Tick, Reset}
@@ -21,18 +13,14 @@ use Rattle.link_entries.specs.messages.Links.Comes.{NextFrame, AsksReset, Starts
 use Rattle.node_machine.specs.Parts.{Desk, Port}
 use Rattle.node_machine.specs.Node.{input_at, has_come}
 use Rattle.node_machine.specs.Node.NodeInput.{AtEnd, TimePasses}
-use Rattle.node_machine.specs.world.World.{Site, NodeWorld, Happening, site_at, link_to, near_end_in, port_for}
-use Rattle.node_machine.specs.world.World.Happening.{Takes, Ticks}
-use Rattle.node_machine.specs.world.Lines.{LineOutcome, frames_at, happenings, happens_by, all_happen, goes_on, line_step, refusal_in}
-use Rattle.node_machine.specs.world.Lines.LineOutcome.{WasRefused}
+use Rattle.node_machine.specs.world.World.{Site, Happening, site_at, link_to, near_end_in, port_for}
 use Rattle.node_world.specs.Numbers.{StaysCounted, CountsFew}
-use Rattle.node_world.specs.Bounds.{AcksWithin, FewOn, FewOnEach, FewBehind, AckWithin, IsFromOutside}
+use Rattle.node_world.specs.Bounds.{AcksWithin, FewOn, FewOnEach, AckWithin, IsFromOutside}
 use Rattle.node_world.proofs.FewAtEnds.{Nearly, whole_within, input_nearly, reset_nearly}
-use Rattle.node_world.proofs.FewInWorlds.{longer, few_behind_all}
 
 -- ## Lines
 
-repeats : (n : ℕ) (c : Happening) → length (replicate n c) ≡ n
+pub repeats : (n : ℕ) (c : Happening) → length (replicate n c) ≡ n
 repeats zero c = refl
 repeats (suc n) c = let z = repeats n c in omega (arith, z)
 
@@ -43,75 +31,6 @@ taken_within (Some n) wire few = omega (arith, few)
 pub ticks_within : (times : Option ℕ) → IfSome times (λ n. (1 ≤ n) × (n ≤ 100)) → unwrap_or times 1 ≤ 100
 ticks_within None q = omega arith
 ticks_within (Some n) q = q.1
-
-damage_within : (e : End) (v : Option Verdict) → length (happens_by e v) ≤ 100
-damage_within e None = omega arith
-damage_within e (Some Same) = omega arith
-damage_within e (Some (LostFor why)) = omega arith
-damage_within e (Some (Undetected read)) = omega arith
-
--- at most a hundred things happen at a line
-pub happenings_few : (header : Header) (w : NodeWorld) (l : Line) → MayFollow header l → ((e : End) → length (frames_at w e) ≤ 64)
-    → length (happenings w l) ≤ 100
-happenings_few header w (line.Send e pid message) m wires = omega arith
-happenings_few header w (line.Deliver e count) m wires =
-    let z = repeats (taken_of count (frames_at w e)) (Takes e) in
-    let t = taken_within count (frames_at w e) (wires e) in
-    omega (arith, z, t)
-happenings_few header w (line.Lose e) m wires = omega arith
-happenings_few header w (line.Damage e places) m wires = damage_within e (first_verdict (frames_at w e) places.items)
-happenings_few header w (line.Tick times) m wires =
-    let z = repeats (unwrap_or times 1) Ticks in let t = ticks_within times m in omega (arith, z, t)
-happenings_few header w (line.Reset e window) m wires = omega arith
-happenings_few header w (line.Busy e) m wires = omega arith
-happenings_few header w (line.Ready e) m wires = omega arith
-happenings_few header w (line.Boot node) m wires = omega arith
-happenings_few header w (line.Cut node) m wires = omega arith
-happenings_few header w (line.Activate host sync power) m wires = omega arith
-happenings_few header w (line.Arm node nth fill) m wires = omega arith
-happenings_few header w (line.Init e identity pipes) m wires = omega arith
-happenings_few header w (line.Tables node) m wires = omega arith
-happenings_few header w (line.Settle rounds) m wires = omega arith
-
-goes_few : (k n : ℕ) (w : NodeWorld) (l : Line) → length (happenings w l) ≤ k → FewBehind n w → FewBehind (n + 2 * k) (goes_on w l).0
-goes_few k n w l few a = go l refl
-  where
-    all : FewBehind (n + 2 * k) (all_happen w (happenings w l)).0
-    all = longer (n + 2 * length (happenings w l)) (n + 2 * k) (all_happen w (happenings w l)).0 (omega (arith, few)) (few_behind_all (happenings w l) n w a)
-
-    by : (x : Line) → l ≡ x → (goes_on w x).0 ≡ (all_happen w (happenings w x)).0 → FewBehind (n + 2 * k) (goes_on w x).0
-    by x q is =
-        let P : Line → Type 0 = λ y. FewBehind (n + 2 * k) (all_happen w (happenings w y)).0 in
-        subst (FewBehind (n + 2 * k)) (sym is) (subst P q all)
-
-    go : (x : Line) → l ≡ x → FewBehind (n + 2 * k) (goes_on w x).0
-    go (line.Tables node) q = longer n (n + 2 * k) w (omega arith) a
-    go (line.Send e pid message) q = by (line.Send e pid message) q refl
-    go (line.Deliver e count) q = by (line.Deliver e count) q refl
-    go (line.Lose e) q = by (line.Lose e) q refl
-    go (line.Damage e places) q = by (line.Damage e places) q refl
-    go (line.Tick times) q = by (line.Tick times) q refl
-    go (line.Reset e window) q = by (line.Reset e window) q refl
-    go (line.Busy e) q = by (line.Busy e) q refl
-    go (line.Ready e) q = by (line.Ready e) q refl
-    go (line.Boot node) q = by (line.Boot node) q refl
-    go (line.Cut node) q = by (line.Cut node) q refl
-    go (line.Activate host sync power) q = by (line.Activate host sync power) q refl
-    go (line.Arm node nth fill) q = by (line.Arm node nth fill) q refl
-    go (line.Init e identity pipes) q = by (line.Init e identity pipes) q refl
-    go (line.Settle rounds) q = by (line.Settle rounds) q refl
-
--- behind a line at which so many things happen
-pub few_behind_line : (k n : ℕ) (w : NodeWorld) (l : Line) → length (happenings w l) ≤ k → FewBehind n w → FewBehind (n + 2 * k) (line_step w l).0
-few_behind_line k n w l few a = go (refusal_in w l)
-  where
-    by : Option NoCause → NodeWorld × LineOutcome
-    by (Some cause) = (w, WasRefused cause)
-    by None = goes_on w l
-
-    go : (o : Option NoCause) → FewBehind (n + 2 * k) (by o).0
-    go (Some cause) = longer n (n + 2 * k) w (omega arith) a
-    go None = goes_few k n w l few a
 
 -- ## RSETs
 

@@ -11,7 +11,7 @@ use Rattle.node_machine.specs.Node.{steps}
 use Rattle.node_machine.specs.Node.NodeInput.{AtEnd}
 use Rattle.node_machine.specs.Carrying.{changed_if}
 use Rattle.node_machine.specs.Node.{begins_with}
-use Rattle.node_machine.specs.world.World.{Site, NodeWorld, Happening, new_world, with_site, ending_of, turns_at, is_late_at, comes_to}
+use Rattle.node_machine.specs.world.World.{Site, NodeWorld, Happening, with_site, ending_of, turns_at, is_late_at, comes_to}
 use Rattle.node_machine.specs.world.World.{link_after_controller, controller_does, after_host, host_does}
 use Rattle.node_machine.specs.world.World.{host_cut, loses_power_at, with_memory, with_node, boots}
 use Rattle.node_machine.specs.world.World.{counts, frame_lost, all_aged, controller_ticks, host_ticks}
@@ -47,10 +47,6 @@ longer m n w q a = go w.sites a
     go : (sites : List Site) → FewOnEach m sites → FewOnEach n sites
     go [] a = tt
     go (s ∷ sites) a = (few_longer m n s.link q a.0, go sites a.1)
-
-pub few_at_first : (hosts : List ℕ) → FewBehind 0 (new_world hosts)
-few_at_first [] = tt
-few_at_first (h ∷ hosts) = (record { resets = omega arith; controller = omega arith; host = omega arith }, few_at_first hosts)
 
 -- ## Steps of one node
 

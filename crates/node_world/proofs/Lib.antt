@@ -54,5 +54,9 @@ pub mod WorldsStepped
 pub mod Peeked
 pub mod LinesEnd
 pub mod LinesAgain
+pub mod RoundsGo
+pub mod RoundsBehind
+pub mod PlaysFew
+pub mod LinksRest
 pub mod LinesDamage
 pub mod WorldsTick

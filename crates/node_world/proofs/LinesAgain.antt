@@ -1,27 +1,25 @@
 -- One thing happens again and again at a line: which world stands behind so many of them, and what is kept of it.
-use Rattle.std.proofs.Common.{◌≡◌, ℕ, zero, suc, ◌+◌, ◌*◌, ◌==◌, ◌≤◌, ◌<◌, Bool, true, false, List, [], ◌∷◌, ◌++◌, map, refl, ap, sym, subst, ◌∙◌, append_assoc}
+use Rattle.std.proofs.Common.{◌≡◌, ℕ, zero, suc, ◌+◌, ◌*◌, ◌==◌, ◌≤◌, Bool, true, false, List, [], ◌∷◌, ◌++◌, map, refl, ap, sym, subst, ◌∙◌, append_assoc}
 use Rattle.std.proofs.Common.{append-nil, arith, length}
-use Rattle.std.specs.Prelude.{Option, Some, None, replicate}
-use Rattle.std.specs.List.{AllByRecursion, flat_map}
+use Rattle.std.specs.Prelude.{Some, None, replicate}
+use Rattle.std.specs.List.{AllByRecursion}
 use Rattle.std.proofs.lemmas.Grind.{flat_map-append}
 use Rattle.swp_base.specs.InMemory.{Memory}
 use Rattle.trace_model.specs.Lines.{IsHost}
 use Rattle.trace_model.specs.declared.entry.Entry.{Entry}
 use Rattle.trace_model.specs.declared.line.End.{End}
 use Rattle.trace_model.specs.declared.line.Line.{Line}
-use Rattle.link_laws.specs.sessions.Sessions.{OnWire}
-use Rattle.link_entries.specs.messages.Links.{Comes, Link, aged}
-use Rattle.link_entries.specs.messages.Links.Comes.{NextFrame}
+use Rattle.link_entries.specs.messages.Links.{Comes, aged}
 use Rattle.history.specs.Follows.{frames_to}
-use Rattle.node_machine.specs.Parts.{Core, Port, Running}
+use Rattle.node_machine.specs.Parts.{Core, Port}
 use Rattle.node_machine.specs.Carrying.{changed_if}
 use Rattle.node_machine.specs.Node.{steps}
 use Rattle.node_machine.specs.Node.NodeInput.{AtEnd}
-use Rattle.node_machine.specs.world.World.{NodeWorld, Site, Happening, after_host, all_aged, comes_at, controller_ticks, hosts_tick, link_after_controller}
-use Rattle.node_machine.specs.world.World.{controller_work, host_work, controller_does, host_does, link_to, site_at, with_site, world_step, world_ticks}
-use Rattle.node_machine.specs.world.World.Happening.{Takes, Ticks}
+use Rattle.node_machine.specs.world.World.{NodeWorld, Site, Happening, after_host, all_aged, comes_at, controller_ticks, link_after_controller}
+use Rattle.node_machine.specs.world.World.{controller_work, host_work, link_to, site_at, with_site, world_step, world_ticks}
 use Rattle.node_machine.specs.world.Lines.{LineOutcome, Occurrence, all_happen, can_happen, goes_on, line_step, refusal_in}
 use Rattle.node_machine.specs.world.Lines.LineOutcome.{Occurred}
+use Rattle.node_machine.specs.world.NodeHistories.{entries_in}
 use Rattle.node_machine.proofs.world.Cases.{by_coming, by_controller, by_controller_tick, by_host, near_tick, site_ticked, site_unticked}
 use Rattle.node_laws.specs.telling.Telling.{hosts_in}
 use Rattle.node_laws.proofs.telling.Orderly.{hosts_ticked, step_orderly}
@@ -29,7 +27,7 @@ use Rattle.node_world.specs.declared.controller.ControllerPlace.{ControllerPlace
 use Rattle.node_world.specs.declared.places.HostSite.{HostSite}
 use Rattle.node_world.specs.Bounds.{FewBehind}
 use Rattle.node_world.specs.Controllers.{IsThere, MayGoOn, SitesAre, WorldBecomes, WorldIs}
-use Rattle.node_world.specs.Places.{SiteIs}
+use Rattle.node_world.specs.Rounds.{WorldHasGone}
 use Rattle.node_world.specs.Whole.{IsWithinBounds, LinePlayed}
 use Rattle.node_world.proofs.FewInWorlds.{few_behind_step, longer}
 
@@ -116,27 +114,24 @@ of_all p = (p.0, Occurred p.1)
 abbrev pub so_often : NodeWorld → Happening → ℕ → NodeWorld × LineOutcome
 so_often w c n = of_all (all_happen w (replicate n c))
 
-abbrev entries_so : List Occurrence → List Entry
-entries_so events = flat_map (λ (o : Occurrence). o.entries) events
-
 -- this happened so often, and led to this world by these events
 abbrev LeadsTo : NodeWorld → Happening → ℕ → NodeWorld → List Occurrence → Type 0
 LeadsTo w c i v events =
     (m : ℕ) → all_happen w (replicate (i + m) c)
     ≡ ((all_happen v (replicate m c)).0, events ++ (all_happen v (replicate m c)).1)
 
--- What is kept after so many of them stands for a world that is in order, and what they caused is noted.
+-- What is kept after so many of them stands for a world that is in order, and what they caused is noted behind what was noted before.
 pub record Again {C P : Type 0} (CRuns : C → Core → List Port → Type 0) (c_memory : C → Memory) (PRuns : P → Core → List Port → Type 0)
-    (p_memory : P → Memory) (k : ControllerPlace C) (ks : List (HostSite P)) (noted : List Entry) (w : NodeWorld) (c : Happening) (i : ℕ)
-    : Type 0 where
+    (p_memory : P → Memory) (k : ControllerPlace C) (ks : List (HostSite P)) (most : ℕ) (before noted : List Entry) (w : NodeWorld)
+    (c : Happening) (i : ℕ) : Type 0 where
   pub behind : NodeWorld
   pub events : List Occurrence
   pub leads : LeadsTo w c i behind events
   pub world : WorldIs CRuns c_memory PRuns p_memory k ks behind
-  pub told : noted ≡ entries_so events
+  pub told : noted ≡ before ++ entries_in events
   pub goes_on : MayGoOn behind
   pub hosts : hosts_in behind.sites ≡ hosts_in w.sites
-  pub few : FewBehind (200000000 + 2 * i) behind
+  pub few : FewBehind (most + 2 * i) behind
 
 zero_plus : (m : ℕ) → 0 + m ≡ m
 zero_plus m = omega arith
@@ -144,7 +139,7 @@ zero_plus m = omega arith
 plus_suc : (i m : ℕ) → i + 1 + m ≡ i + suc m
 plus_suc i m = omega arith
 
-happens_first : (v : NodeWorld) (c : Happening) (m : ℕ) → can_happen v c ≡ true
+pub happens_first : (v : NodeWorld) (c : Happening) (m : ℕ) → can_happen v c ≡ true
     → all_happen v (replicate (suc m) c)
     ≡ (
       (all_happen (world_step v c).0 (replicate m c)).0,
@@ -152,35 +147,36 @@ happens_first : (v : NodeWorld) (c : Happening) (m : ℕ) → can_happen v c ≡
     )
 happens_first v c m can = rw can refl
 
-happens_not : (v : NodeWorld) (c : Happening) (m : ℕ) → can_happen v c ≡ false → all_happen v (replicate m c) ≡ (v, [])
+pub happens_not : (v : NodeWorld) (c : Happening) (m : ℕ) → can_happen v c ≡ false → all_happen v (replicate m c) ≡ (v, [])
 happens_not v c zero can = refl
 happens_not v c (suc m) can = rw can refl
 
 module _ (C P : Type 0) (CRuns : C → Core → List Port → Type 0) (c_memory : C → Memory) (PRuns : P → Core → List Port → Type 0)
-    (p_memory : P → Memory) (w : NodeWorld) (c : Happening) where
-  pub again_begins : (k : ControllerPlace C) (ks : List (HostSite P)) (noted : List Entry) → noted ≡ []
-      → WorldIs CRuns c_memory PRuns p_memory k ks w → MayGoOn w → FewBehind 200000000 w → Again CRuns c_memory PRuns p_memory k ks noted w c 0
-  again_begins k ks noted none world may few =
+    (p_memory : P → Memory) (w : NodeWorld) (c : Happening) (most : ℕ) where
+  abbrev IsSo : ControllerPlace C → List (HostSite P) → List Entry → List Entry → ℕ → Type 0
+  IsSo k ks before noted i = Again CRuns c_memory PRuns p_memory k ks most before noted w c i
+
+  pub again_begins : (k : ControllerPlace C) (ks : List (HostSite P)) (before : List Entry) → WorldIs CRuns c_memory PRuns p_memory k ks w → MayGoOn w
+      → FewBehind most w → IsSo k ks before before 0
+  again_begins k ks before world may few =
       record {
         behind = w;
         events = [];
         leads = λ m. ap (λ n. all_happen w (replicate n c)) (zero_plus m);
         world = world;
-        told = none;
+        told = sym (append-nil before);
         goes_on = may;
         hosts = refl;
-        few = longer 200000000 (200000000 + 2 * 0) w (omega arith) few;
+        few = longer most (most + 2 * 0) w (omega arith) few;
       }
 
-  pub bounds_again : (i : ℕ) (v : NodeWorld) → i ≤ 1000 → MayGoOn v → FewBehind (200000000 + 2 * i) v → IsWithinBounds v
-  bounds_again i v most may few = record { goes_on = may; few = longer (200000000 + 2 * i) 300000000 v (omega (arith, most)) few }
+  pub bounds_again : (i : ℕ) (v : NodeWorld) → most ≤ 290000000 → i ≤ 1000 → MayGoOn v → FewBehind (most + 2 * i) v → IsWithinBounds v
+  bounds_again i v low few_times may few = record { goes_on = may; few = longer (most + 2 * i) 300000000 v (omega (arith, low, few_times)) few }
 
-  pub again_next : (k new : ControllerPlace C) (ks news : List (HostSite P)) (noted later : List Entry) (i : ℕ)
-      (a : Again CRuns c_memory PRuns p_memory k ks noted w c i) → can_happen a.behind c ≡ true
-      → hosts_in (world_step a.behind c).0.sites ≡ hosts_in a.behind.sites
-      → WorldBecomes CRuns c_memory PRuns p_memory new news noted later (world_step a.behind c)
-      → Again CRuns c_memory PRuns p_memory new news later w c (i + 1)
-  again_next k new ks news noted later i a can same b =
+  pub again_next : (k new : ControllerPlace C) (ks news : List (HostSite P)) (before noted later : List Entry) (i : ℕ)
+      (a : IsSo k ks before noted i) → can_happen a.behind c ≡ true → hosts_in (world_step a.behind c).0.sites ≡ hosts_in a.behind.sites
+      → WorldBecomes CRuns c_memory PRuns p_memory new news noted later (world_step a.behind c) → IsSo new news before later (i + 1)
+  again_next k new ks news before noted later i a can same b =
       let v : NodeWorld = (world_step a.behind c).0 in
       let o : Occurrence = record { cause = c; entries = (world_step a.behind c).1 } in
       let hosts : hosts_in v.sites ≡ hosts_in w.sites = same ∙ a.hosts in
@@ -194,28 +190,28 @@ module _ (C P : Type 0) (CRuns : C → Core → List Port → Type 0) (c_memory 
             ∙ (ap (λ (p : NodeWorld × List Occurrence). let q : NodeWorld × List Occurrence = (p.0, a.events ++ p.1) in q) (happens_first a.behind c m can)
             ∙ ap (λ es. let q : NodeWorld × List Occurrence = (x.0, es) in q) (sym (append_assoc a.events (o ∷ []) x.1))));
         world = b.world;
-        told = b.noted ∙ (ap (λ es. es ++ o.entries) a.told
-            ∙ sym (flat_map-append (λ (x : Occurrence). x.entries) a.events (o ∷ []) ∙ ap (λ es. entries_so a.events ++ es) (append-nil o.entries)));
+        told = b.noted ∙ (ap (λ es. es ++ o.entries) a.told ∙ (append_assoc before (entries_in a.events) o.entries
+            ∙ ap (λ es. before ++ es)
+            (sym (flat_map-append (λ (x : Occurrence). x.entries) a.events (o ∷ []) ∙ ap (λ es. entries_in a.events ++ es) (append-nil o.entries)))));
         goes_on = record {
           orderly = step_orderly a.behind c a.goes_on.orderly;
           hosts = subst (AllByRecursion IsHost) (sym same) a.goes_on.hosts;
         };
         hosts = hosts;
-        few = longer (200000000 + 2 * i + 2) (200000000 + 2 * (i + 1)) v (omega arith) (few_behind_step (200000000 + 2 * i) a.behind c a.few);
+        few = longer (most + 2 * i + 2) (most + 2 * (i + 1)) v (omega arith) (few_behind_step (most + 2 * i) a.behind c a.few);
       }
 
   -- what it is behind so many, where all of them happened, or where the next can't
-  pub again_ends : (k : ControllerPlace C) (ks : List (HostSite P)) (noted : List Entry) (i : ℕ)
-      (a : Again CRuns c_memory PRuns p_memory k ks noted w c i) → all_happen w (replicate i c) ≡ (a.behind, a.events)
-  again_ends k ks noted i a =
+  pub again_ends : (k : ControllerPlace C) (ks : List (HostSite P)) (before noted : List Entry) (i : ℕ) (a : IsSo k ks before noted i)
+      → all_happen w (replicate i c) ≡ (a.behind, a.events)
+  again_ends k ks before noted i a =
       let zero_more : i + 0 ≡ i = omega arith in
       ap (λ n. all_happen w (replicate n c)) (sym zero_more)
       ∙ (a.leads 0 ∙ ap (λ es. let q : NodeWorld × List Occurrence = (a.behind, es) in q) (append-nil a.events))
 
-  pub again_stops : (k : ControllerPlace C) (ks : List (HostSite P)) (noted : List Entry) (i n : ℕ)
-      (a : Again CRuns c_memory PRuns p_memory k ks noted w c i) → i ≤ n → can_happen a.behind c ≡ false
-      → all_happen w (replicate n c) ≡ (a.behind, a.events)
-  again_stops k ks noted i n a q can = go (more i n q)
+  pub again_stops : (k : ControllerPlace C) (ks : List (HostSite P)) (before noted : List Entry) (i n : ℕ) (a : IsSo k ks before noted i) → i ≤ n
+      → can_happen a.behind c ≡ false → all_happen w (replicate n c) ≡ (a.behind, a.events)
+  again_stops k ks before noted i n a q can = go (more i n q)
     where
       more : (i n : ℕ) → i ≤ n → (m : ℕ) × (i + m ≡ n)
       more zero n q = (n, zero_plus n)
@@ -229,11 +225,19 @@ module _ (C P : Type 0) (CRuns : C → Core → List Port → Type 0) (c_memory 
           ∙ (ap (λ (p : NodeWorld × List Occurrence). let q : NodeWorld × List Occurrence = (p.0, a.events ++ p.1) in q) (happens_not a.behind c r.0 can)
           ∙ ap (λ es. let q : NodeWorld × List Occurrence = (a.behind, es) in q) (append-nil a.events)))
 
+  -- what is kept stands for the world behind so many
+  pub again_goes : (k : ControllerPlace C) (ks : List (HostSite P)) (before noted : List Entry) (i n : ℕ) (a : IsSo k ks before noted i)
+      → all_happen w (replicate n c) ≡ (a.behind, a.events)
+      → WorldHasGone CRuns c_memory PRuns p_memory k ks before noted (all_happen w (replicate n c))
+  again_goes k ks before noted i n a same =
+      let G : NodeWorld × List Occurrence → Type 0 = λ p. WorldHasGone CRuns c_memory PRuns p_memory k ks before noted p in
+      subst G (sym same) (record { world = a.world; noted = a.told })
+
   -- the line at which they happen is played behind them
-  pub again_plays : (said : Line) (k : ControllerPlace C) (ks : List (HostSite P)) (noted : List Entry) (i n : ℕ)
-      (a : Again CRuns c_memory PRuns p_memory k ks noted w c i) → refusal_in w said ≡ None → goes_on w said ≡ of_all (all_happen w (replicate n c))
+  pub again_plays : (said : Line) (k : ControllerPlace C) (ks : List (HostSite P)) (before noted : List Entry) (i n : ℕ)
+      (a : IsSo k ks before noted i) → before ≡ [] → refusal_in w said ≡ None → goes_on w said ≡ of_all (all_happen w (replicate n c))
       → all_happen w (replicate n c) ≡ (a.behind, a.events) → LinePlayed CRuns c_memory PRuns p_memory k ks noted (line_step w said)
-  again_plays said k ks noted i n a e goes same =
+  again_plays said k ks before noted i n a none e goes same =
       let L : NodeWorld × LineOutcome → Type 0 = λ p. LinePlayed CRuns c_memory PRuns p_memory k ks noted p in
       let step : line_step w said ≡ goes_on w said = rw e refl in
-      subst L (sym (step ∙ (goes ∙ ap of_all same))) (record { world = a.world; told = a.told })
+      subst L (sym (step ∙ (goes ∙ ap of_all same))) (record { world = a.world; told = a.told ∙ ap (λ es. es ++ entries_in a.events) none })

@@ -1,6 +1,6 @@
 -- What may stand below a header of nodes is what the laws of worlds of nodes ask for.
-use Rattle.std.proofs.Common.{◌≡◌, ℕ, ◌<◌, ◌==◌, true, false, List, [], ◌∷◌, ◌++◌, refl, sym, arith, ◌∙◌}
-use Rattle.std.specs.Prelude.{Some, None, IsTrue}
+use Rattle.std.proofs.Common.{◌≡◌, ℕ, ◌<◌, ◌==◌, false, List, [], ◌∷◌, sym, arith}
+use Rattle.std.specs.Prelude.{Some, None}
 use Rattle.std.specs.List.{AllByRecursion}
 use Rattle.std.specs.List.Sorted.{IsStrictlySortedBy}
 use Rattle.std.specs.declared.cmp.Ordering.TheVariants.{Less}
@@ -15,7 +15,6 @@ use Rattle.trace_model.specs.declared.line.Line.{Line}
 use Rattle.trace_model.specs.declared.line.Line.TheVariants as line
 use Rattle.node_laws.specs.kept.Hosts.{AreDifferent, AreHosts, IsSentByHost}
 use Rattle.node_order.specs.links.Runs.{IsPlayable}
-use Rattle.lines_told.specs.Below.{IsPlayedLine}
 
 -- ## Hosts
 
@@ -44,10 +43,6 @@ are_hosts header is = record {
 pub each_line : (P Q : Line → Type 0) → ((l : Line) → P l → Q l) → (lines : List Line) → AllByRecursion P lines → AllByRecursion Q lines
 each_line P Q one [] a = tt
 each_line P Q one (l ∷ lines) a = (one l a.0, each_line P Q one lines a.1)
-
-pub one_more : (P : Line → Type 0) (lines : List Line) (l : Line) → AllByRecursion P lines → P l → AllByRecursion P (lines ++ l ∷ [])
-one_more P [] l a p = (p, tt)
-one_more P (x ∷ lines) l a p = (a.0, one_more P lines l a.1 p)
 
 pub playable : (header : Header) (l : Line) → MayFollow header l → IsPlayable l
 playable header (line.Send e pid message) is = (is.pipe, is.some)

@@ -24,7 +24,7 @@ use Rattle.node_world.proofs.FewInWorlds.{longer}
 -- ## What is asked
 
 pub within : {header : Header} {said : Line} {w : NodeWorld} → MayPlay header said w → IsWithinBounds w
-within {header} {said} {w} may = record { goes_on = may.goes_on; few = longer 200000000 300000000 w (omega arith) may.few }
+within {header} {said} {w} may = record { goes_on = may.goes_on; few = longer 250000000 300000000 w (omega arith) may.few }
 
 none_there : (h : ℕ) (sites : List Site) → site_at sites h ≡ None → AllByRecursion (λ k. (k == h) ≡ false) (hosts_in sites)
 none_there h [] q = tt

@@ -1,50 +1,28 @@
--- What is asked of a world behind lines holds there, and one line more goes on with it.
-use Rattle.std.proofs.Common.{◌≡◌, ◌≢◌, ◌⊎◌, inl, inr, ℕ, ◌+◌, ◌*◌, ◌<◌, ◌≤◌, ◌==◌, Bool, true, false, List, [], ◌∷◌, ◌++◌, length, map, refl, ap}
-use Rattle.std.proofs.Common.{sym, subst, ◌∙◌, arith, length-append}
-use Rattle.std.specs.Prelude.{Option, Some, None, IsTrue, ◌||◌, unwrap_or, cond}
+-- What is asked of a world behind lines holds there.
+use Rattle.std.proofs.Common.{◌≡◌, ℕ, ◌==◌, Bool, true, false, List, [], ◌∷◌, ◌++◌, refl, sym, subst}
+use Rattle.std.specs.Prelude.{Some, ◌||◌}
 use Rattle.std.specs.List.{AllByRecursion, list_any}
 use Rattle.std.proofs.lemmas.Bool.{true≢false}
-use Rattle.swp_base.specs.InMemory.{Memory}
-use Rattle.trace_model.specs.declared.line.End.{End}
 use Rattle.trace_model.specs.declared.line.Header.{Header}
 use Rattle.trace_model.specs.declared.line.Line.{Line}
 use Rattle.trace_model.specs.declared.line.Line.TheVariants as line
 use Rattle.trace_model.specs.Lines.{IsHost, IsNodeHeader, IsNodeOf}
-use Rattle.link_entries.specs.messages.Links.{Link, new_link}
-use Rattle.link_machine.specs.Machine.Role.{Bare}
-use Rattle.history.specs.Follows.{frames_to}
-use Rattle.node_machine.specs.Parts.{Core, Port}
-use Rattle.node_machine.specs.world.World.{Site, NodeWorld, new_world, site_at, link_to, memory_at, node_at}
-use Rattle.node_machine.specs.world.Lines.{frames_at, happenings, line_step, misread_in}
-use Rattle.node_machine.specs.world.NodeHistories.{NodeHistory, FollowsNodes, NoneIsMisread, occurrences_in, steps_from, world_after}
-use Rattle.node_laws.specs.kept.Hosts.{AreHosts, IsSentByHost}
+use Rattle.node_machine.specs.world.World.{Site, NodeWorld, new_world, site_at, memory_at}
+use Rattle.node_machine.specs.world.NodeHistories.{NodeHistory, FollowsNodes, NoneIsMisread, occurrences_in, steps_from}
+use Rattle.node_laws.specs.kept.Hosts.{IsSentByHost}
 use Rattle.node_laws.specs.telling.Telling.{hosts_in}
 use Rattle.node_order.specs.links.Runs.{IsPlayable, ArePlayable}
 use Rattle.node_order.proofs.order.Lines.{watches, of_none, IsSo, all_so_behind, behind_history}
 use Rattle.node_order.proofs.order.Ticking.{timely}
 use Rattle.lines_told.specs.Below.{IsPlayedLine, nodes_behind}
-use Rattle.node_world.specs.declared.places.HostSite.{HostSite}
-use Rattle.node_world.specs.declared.controller.ControllerPlace.{ControllerPlace}
+use Rattle.lines_told.proofs.NodeRounds.{after-append, sure-append}
+use Rattle.lines_told.proofs.Plays.{all-append}
 use Rattle.node_world.specs.Bounds.{FewBehind}
-use Rattle.node_world.specs.LinksKept.{WiresStandFor}
-use Rattle.node_world.specs.Controllers.{SitesAre, WorldIs, MayGoOn, AreTimely}
+use Rattle.node_world.specs.Controllers.{MayGoOn, AreTimely}
 use Rattle.node_world.specs.Memories.{KeepsSome, IsSoundMemory}
-use Rattle.node_world.specs.Whole.{MayPlay, AreBootable, after_ticks}
-use Rattle.node_world.proofs.CountsStay.{happenings_few, few_behind_line}
-use Rattle.node_world.proofs.FewInWorlds.{longer}
+use Rattle.node_world.specs.Whole.{MayPlay, after_ticks}
 use Rattle.node_world.proofs.MemoriesKeep.{keeps_at_first, keeps_behind_lines, controller_in_order, hosts_in_order}
-use Rattle.node_world.proofs.LinesFit.{are_hosts, each_line, one_more, playable, sent_by_host}
-
--- ## One line more
-
-pub after_more : (lines : List Line) (l : Line) (w : NodeWorld) → world_after w (lines ++ l ∷ []) ≡ (line_step (world_after w lines) l).0
-after_more [] l w = refl
-after_more (x ∷ lines) l w = after_more lines l (line_step w x).0
-
-pub sure_more : (lines : List Line) (l : Line) (w : NodeWorld) → NoneIsMisread w lines → misread_in (world_after w lines) l ≡ None
-    → NoneIsMisread w (lines ++ l ∷ [])
-sure_more [] l w sure none = (none, tt)
-sure_more (x ∷ lines) l w sure none = (sure.0, sure_more lines l (line_step w x).0 sure.1 none)
+use Rattle.node_world.proofs.LinesFit.{are_hosts, each_line, playable, sent_by_host}
 
 -- ## Behind lines
 
@@ -79,9 +57,9 @@ pub timely_ticking : (header : Header) → IsNodeHeader header → (lines : List
     → NoneIsMisread (new_world header.hosts.items) lines → (n : ℕ) → AreTimely (after_ticks n (nodes_behind header lines))
 timely_ticking header is lines play sure n =
     let more : List Line = lines ++ line.Tick (Some n) ∷ [] in
-    subst AreTimely (after_more lines (line.Tick (Some n)) (new_world header.hosts.items))
-    (timely_behind header is more (one_more IsPlayable lines (line.Tick (Some n)) play tt)
-    (sure_more lines (line.Tick (Some n)) (new_world header.hosts.items) sure refl))
+    subst AreTimely (after-append lines (line.Tick (Some n) ∷ []) (new_world header.hosts.items))
+    (timely_behind header is more (all-append IsPlayable lines (line.Tick (Some n) ∷ []) play (tt, tt))
+    (sure-append lines (line.Tick (Some n) ∷ []) (new_world header.hosts.items) sure (refl, tt)))
 
 -- ## Memories
 
@@ -148,52 +126,17 @@ node_there header is lines a sure n node q =
 -- ## A line
 
 pub may_play : (header : Header) (lines : List Line) (said : Line) → IsNodeHeader header → AllByRecursion (IsPlayedLine header) lines
-    → NoneIsMisread (new_world header.hosts.items) lines → FewBehind (200 * length lines) (nodes_behind header lines) → length lines < 20000
-    → IsPlayedLine header said → MayPlay header said (nodes_behind header lines)
-may_play header lines said is a sure few short may =
-    let w : NodeWorld = nodes_behind header lines in
+    → NoneIsMisread (new_world header.hosts.items) lines → FewBehind 250000000 (nodes_behind header lines) → IsPlayedLine header said
+    → MayPlay header said (nodes_behind header lines)
+may_play header lines said is a sure few may =
     let play : ArePlayable lines = are_playable header lines a in
     record {
       is_header = is;
       hosts_are = hosts_behind header is lines play sure;
       is_line = may;
       goes_on = goes_on_behind header is lines play sure;
-      few = longer (200 * length lines) 200000000 w (omega (arith, short)) few;
+      few = few;
       timely = timely_behind header is lines play sure;
       ticks = λ times q n m. timely_ticking header is lines play sure n;
       boots = λ n node off. sound_behind header is lines a sure n node;
     }
-
--- ## The frames on the wires
-
-module _ (P : Type 0) (Runs : P → Core → List Port → Type 0) (memory_of : P → Memory) where
-  wires_few : (ks : List (HostSite P)) (sites : List Site) (e : End) → SitesAre Runs memory_of ks sites → length (frames_to (link_to sites e.link) e) ≤ 64
-  wires_few [] [] e a = go e.at_host
-    where
-      go : (b : Bool) → length (frames_to (new_link Bare Bare) (record { link = e.link; at_host = b })) ≤ 64
-      go true = omega arith
-      go false = omega arith
-  wires_few (k ∷ ks) (s ∷ sites) e a = go (s.host == e.link) refl (wires_few ks sites e a.1)
-    where
-      at : (b : Bool) → length (frames_to s.link (record { link = e.link; at_host = b })) ≤ 64
-      at true = a.0.wires.there.wire_is.few
-      at false = a.0.wires.here.wire_is.few
-
-      go : (b : Bool) → (s.host == e.link) ≡ b → length (frames_to (link_to sites e.link) e) ≤ 64 → length (frames_to (link_to (s ∷ sites) e.link) e) ≤ 64
-      go true q later = rw q (at e.at_host)
-      go false q later = rw q later
-  wires_few [] (s ∷ sites) e a = absurd a
-  wires_few (k ∷ ks) [] e a = absurd a
-
-  -- behind one line more
-  pub few_behind_more : (header : Header) (lines : List Line) (said : Line) (ks : List (HostSite P))
-      → SitesAre Runs memory_of ks (nodes_behind header lines).sites → FewBehind (200 * length lines) (nodes_behind header lines)
-      → IsPlayedLine header said → FewBehind (200 * length (lines ++ said ∷ [])) (nodes_behind header (lines ++ said ∷ []))
-  few_behind_more header lines said ks a few may =
-      let w : NodeWorld = nodes_behind header lines in
-      let now : FewBehind (200 * length lines + 2 * 100) (line_step w said).0 =
-      few_behind_line 100 (200 * length lines) w said
-      (happenings_few header w said may.may_follow (λ e. wires_few ks w.sites e a)) few in
-      let long : length (lines ++ said ∷ []) ≡ length lines + 1 = length-append lines (said ∷ []) in
-      subst (FewBehind (200 * length (lines ++ said ∷ []))) (sym (after_more lines said (new_world header.hosts.items)))
-      (longer (200 * length lines + 2 * 100) (200 * length (lines ++ said ∷ [])) (line_step w said).0 (omega (arith, long)) now)

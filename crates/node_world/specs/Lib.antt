@@ -9,5 +9,6 @@ pub mod HostSteps
 pub mod Memories
 pub mod Whole
 pub mod Controllers
+pub mod Rounds
 pub mod Worlds
 pub mod GivenMessages

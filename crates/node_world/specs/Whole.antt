@@ -85,7 +85,7 @@ pub record MayPlay (header : Header) (said : Line) (w : NodeWorld) : Type 0 wher
   pub hosts_are : hosts_in w.sites ≡ header.hosts.items
   pub is_line : IsPlayedLine header said
   pub goes_on : MayGoOn w
-  pub few : FewBehind 200000000 w
+  pub few : FewBehind 250000000 w
   pub timely : AreTimely w
   pub ticks : (times : Option ℕ) → said ≡ line.Tick times → (n : ℕ) → n ≤ unwrap_or times 1 → AreTimely (after_ticks n w)
   pub boots : AreBootable header.hosts.items w

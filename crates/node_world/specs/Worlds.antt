@@ -1,7 +1,7 @@
 -- The world of nodes, behind which lines of a schedule it stands.
-use Rattle.std.specs.Prelude.{◌≡◌, ◌<◌, ℕ, ◌*◌, ◌⊎◌, ◌≢◌, false, List, [], ◌∷◌, length, Option, Some, None}
+use Rattle.std.specs.Prelude.{◌≡◌, ◌<◌, ℕ, ◌⊎◌, ◌≢◌, false, List, [], ◌∷◌, Option, Some, None}
 use Rattle.std.specs.List.{AllByRecursion}
-use Rattle.std.specs.Option.{option_map, option_map_or}
+use Rattle.std.specs.Option.{option_map}
 use Rattle.swp_base.specs.InMemory.{Memory}
 use Rattle.gate_admin.specs.View.{has, hosts_where}
 use Rattle.trace_model.specs.declared.entry.Entry.{Entry}
@@ -16,11 +16,11 @@ use Rattle.node_machine.specs.Parts.{Running}
 use Rattle.node_machine.specs.world.World.{NodeWorld as Machine, node_at, memory_at, with_memory, loses_power_at, boots, new_world}
 use Rattle.node_machine.specs.world.NodeHistories.{NoneIsMisread}
 use Rattle.lines_told.specs.Below.{IsPlayedLine, nodes_behind}
+use Rattle.lines_told.specs.Plays.{AreFewPlays, IsPlayFor, Play, lines_played, lines_said, rounds_played}
 use Rattle.node_core.specs.declared.node.Node.{Node}
 use Rattle.node_core.specs.Running.{RunsAs}
 use Rattle.node_world.specs.WorldNodes.{RunsAsHost}
 use Rattle.node_world.specs.declared.worlds.NodeWorld.{NodeWorld}
-use Rattle.node_world.specs.Bounds.{FewBehind}
 use Rattle.node_world.specs.Controllers.{WorldIs}
 
 -- what the last line caused
@@ -31,25 +31,33 @@ nodes_entries k = k.noted.entries.items
 abbrev pub node_memory : Node Memory → Memory
 node_memory n = n.store.journal.nv
 
--- It stands for the world that these lines leave below this header; each of them is one that is played, and none damages a frame so that
--- another one is read.
-pub record IsNodeWorldBehind (k : NodeWorld) (header : Header) (lines : List Line) : Type 0 where
+-- It stands for the world that these plays leave below this header; each of their lines is one that is played, and none damages a frame so
+-- that another one is read.
+pub record IsNodeWorldBehind (k : NodeWorld) (header : Header) (plays : List Play) : Type 0 where
   pub is_header : IsNodeHeader header
-  pub lines_are : AllByRecursion (IsPlayedLine header) lines
-  pub sure : NoneIsMisread (new_world header.hosts.items) lines
-  pub stands : WorldIs RunsAs node_memory RunsAsHost node_memory k.controller k.sites.items (nodes_behind header lines)
-  pub few : FewBehind (200 * length lines) (nodes_behind header lines)
+  pub plays_are : AllByRecursion (IsPlayFor header) plays
+  pub few : AreFewPlays plays
+  pub sure : NoneIsMisread (new_world header.hosts.items) (lines_played header plays)
+  pub stands : WorldIs RunsAs node_memory RunsAsHost node_memory k.controller k.sites.items (nodes_behind header (lines_played header plays))
   pub mask_is : hosts_where (has k.mask) ≡ header.hosts.items
-  pub stepped : k.stepped ≡ length lines
+  pub stepped : k.stepped ≡ lines_said plays
+  pub rounds : k.rounds ≡ rounds_played plays
   pub quiet : k.noted.short ≡ false
 
--- fewer than 20,000 lines left it so, and this one may follow them
+-- plays with fewer than 20,000 lines left it so, and this line may follow them
 pub record HasRoomForNodeLine (k : NodeWorld) (said : Line) : Type 0 where
   pub header : Header
-  pub lines : List Line
-  pub stands : IsNodeWorldBehind k header lines
-  pub few : length lines < 20000
+  pub plays : List Play
+  pub stands : IsNodeWorldBehind k header plays
+  pub few : lines_said plays < 20000
   pub may : IsPlayedLine header said
+
+-- plays with fewer than 400,000,000 rounds left it so
+pub record HasRoomForRound (k : NodeWorld) : Type 0 where
+  pub header : Header
+  pub plays : List Play
+  pub stands : IsNodeWorldBehind k header plays
+  pub few : rounds_played plays < 400000000
 
 -- ## Memories
 

@@ -169,11 +169,11 @@ pub(crate) fn activate_link<C: WorldController + Drop, P: WorldHost + Drop>(
     power: u8,
     noted: &mut Noted,
 ) -> Result<(), NoMemory>
-    requires state { (w : NodeWorld) × WorldIs C.runs C.memory P.runs P.memory controller.old sites.old w × MayGoOn w × FewBehind 200000000 w
+    requires state { (w : NodeWorld) × WorldIs C.runs C.memory P.runs P.memory controller.old sites.old w × MayGoOn w × FewBehind 250000000 w
         × IsThere host w }
     requires power { power ≤ 1 }
     requires memory { noted.old.short ≡ false }
-    ensures stands { (w : NodeWorld) → WorldIs C.runs C.memory P.runs P.memory controller.old sites.old w → MayGoOn w → FewBehind 200000000 w
+    ensures stands { (w : NodeWorld) → WorldIs C.runs C.memory P.runs P.memory controller.old sites.old w → MayGoOn w → FewBehind 250000000 w
         → IsThere host w → OnOk result (WorldBecomes C.runs C.memory P.runs P.memory controller.new sites.new noted.old.entries.items noted.new.entries.items
         (world_step w (Activates host sync power))) }
     ensures memory { OnOk result (noted.new.short ≡ false) }

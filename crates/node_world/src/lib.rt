@@ -1,5 +1,6 @@
 //! The world of a run with nodes: a controller and up to seven hosts with their memories, and a link to each host. It takes the lines of
-//! a schedule one by one, over power cuts, and says what each of them causes. All of it is this project's own.
+//! a schedule one by one, over power cuts, and says what each of them causes; and it goes through rounds and says when all links are at
+//! rest. All of it is this project's own.
 #![tactic(auto)]
 
 mod controller;
@@ -25,6 +26,8 @@ mod numbering;
 mod places;
 mod plain_steps;
 mod playing;
+mod resting;
+mod rounds;
 mod sending;
 mod wires;
 mod world_controller;

@@ -18,7 +18,7 @@ ghost use Rattle.node_machine.specs.Node.{steps, begins_with};
 ghost use Rattle.node_machine.specs.Node.NodeInput.{AtEnd, TimePasses};
 ghost use Rattle.node_machine.specs.world.World.{sending, beginning};
 ghost use Rattle.node_machine.specs.world.Lines.{if_waiting};
-ghost use Rattle.node_ends.specs.Ends.{has_sent, frame_at};
+ghost use Rattle.node_ends.specs.Ends.{are_at_rest, has_sent, frame_at};
 ghost use Rattle.node_core.specs.Giving.{refused_as};
 ghost use Rattle.node_core.specs.Running.{one_more_error, reset_refusal_at};
 ghost use Rattle.node_world.specs.WorldNodes.{GoesOutWhole, as_kept, BeginsOver, BeginsAt, MayBeginStep, MayBeginAt, HasEndOf, HasGone, IsNotedSo};
@@ -120,6 +120,12 @@ pub(crate) trait WorldNode {
         requires fill { 0 < length fill.items }
         ensures runs { (core : Core) (ports : List Port) → runs self.old core ports → runs self.new core ports }
         ensures memory { memory self.new ≡ record (memory self.old) { plan = Some (record { nth = nth; fill = fill.items }) } };
+
+    /// Whether all its ends are at rest: none waits for the acceptance of a reset, and at each that is up all messages that were sent in
+    /// its session are acknowledged.
+    fn is_at_rest(&self) -> bool
+        requires runs { (core : Core) × (ports : List Port) × runs self.now core ports }
+        ensures { (core : Core) (ports : List Port) → runs self.now core ports → result ≡ are_at_rest ports };
 
     /// How many commands were kept, from 0 to 4,294,967,295.
     fn count(&self) -> u32

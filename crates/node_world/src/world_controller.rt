@@ -63,6 +63,10 @@ impl WorldNode for Controller<MemNv> {
         Controller::arm(self, nth, fill);
     }
 
+    fn is_at_rest(&self) -> bool {
+        Controller::is_at_rest(self)
+    }
+
     fn count(&self) -> u32 {
         self.store().kept()
     }

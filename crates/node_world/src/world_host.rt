@@ -50,6 +50,10 @@ impl WorldNode for Host<MemNv> {
         Host::arm(self, nth, fill);
     }
 
+    fn is_at_rest(&self) -> bool {
+        Host::is_at_rest(self)
+    }
+
     fn count(&self) -> u32 {
         self.store().kept()
     }

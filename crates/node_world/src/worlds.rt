@@ -1,29 +1,34 @@
-//! The world of nodes, line by line.
-ghost use Rattle.std.specs.Prelude.{◌≡◌, [], ◌∷◌, ◌++◌, List, None, Some, IfOk, OnErr};
+//! The world of nodes, line by line and round by round.
+ghost use Rattle.std.specs.Prelude.{◌≡◌, [], ◌∷◌, ◌++◌, List, length, None, Some, IfOk, OnErr, OnOk};
 ghost use Rattle.trace_model.specs.declared.line.Header.{Header as Named};
-ghost use Rattle.trace_model.specs.declared.line.Line.{Line as Said};
 ghost use Rattle.trace_model.specs.Lines.{IsNodeHeader, IsNodeOf};
 ghost use Rattle.node_machine.specs.world.World.{memory_at};
-ghost use Rattle.node_machine.specs.world.Lines.{misread_in};
+ghost use Rattle.node_machine.specs.world.Lines.{frames_at, is_running, misread_in};
+ghost use Rattle.node_machine.specs.world.Rounds.{world_rests};
 ghost use Rattle.lines_told.specs.Below.{IsPlayedLine, nodes_behind, told_below};
+ghost use Rattle.lines_told.specs.Plays.{Play, lines_played, told_of_play};
+ghost use Rattle.lines_told.specs.Plays.Play.{Said, Round};
 ghost use Rattle.node_world.specs.Worlds.{IsOneOf, memory_kept};
 
 use crate::controller::ControllerPlace;
 use crate::controller_sites::place_of;
+use crate::looking::{on_the_way, runs};
 use crate::making::{make_sites, mask_of};
 use crate::nodes::{MEMORY_SIZE, WorldNode};
 use crate::noted::Noted;
 use crate::places::HostSite;
 use crate::playing::play_line;
+use crate::resting::all_rest;
+use crate::rounds::go_round;
 use host_core::Host;
 use link_wires::Misread;
 use router::Controller;
 use std::alloc::Global;
 use swp_base::{MemNv, NoMemory};
-use trace_model::{Entry, Header, Line};
+use trace_model::{End, Entry, Header, Line};
 
 /// The world below a header of nodes: a controller and its hosts, each with its memory, running or not, the links between them, and what
-/// the last line caused (this project's own).
+/// the last line or round caused (this project's own).
 #[derive(Drop)]
 pub struct NodeWorld {
     controller: ControllerPlace<Controller<MemNv>>,
@@ -31,13 +36,14 @@ pub struct NodeWorld {
     sites: Vec<HostSite<Host<MemNv>>>,
     // The hosts: bit h stands for host h.
     mask: u8,
-    // How many lines were stepped.
+    // How many lines were stepped, and how many rounds were gone through.
     stepped: u32,
+    rounds: u32,
     noted: Noted,
 }
 
 impl NodeWorld {
-    ghost use Rattle.node_world.specs.Worlds.{IsNodeWorldBehind, HasRoomForNodeLine, IsPeekedSo, nodes_entries};
+    ghost use Rattle.node_world.specs.Worlds.{IsNodeWorldBehind, HasRoomForNodeLine, HasRoomForRound, IsPeekedSo, nodes_entries};
     ghost use Rattle.node_world.specs.Whole.{IsMisreadIn};
 
     /// The world that a header names: no node runs yet, all memories are blank, and no frame is on its way.
@@ -58,6 +64,7 @@ impl NodeWorld {
             sites: make_sites(alloc, header.hosts.as_slice())?,
             mask: mask_of(header.hosts.as_slice()),
             stepped: 0,
+            rounds: 0,
             noted: Noted {
                 entries: Vec::new(alloc),
                 short: false,
@@ -74,14 +81,14 @@ impl NodeWorld {
     /// `NoMemory` where memory runs out. The world is of no use then.
     pub fn step(&mut self, alloc: Global, line: &Line) -> Result<Option<Misread>, NoMemory>
         requires room { HasRoomForNodeLine self.old line.now }
-        ensures stands { (header : Named) (lines : List Said) → IsNodeWorldBehind self.old header lines → IsPlayedLine header line.now
-            → IfOk result (λ other. other ≡ None → IsNodeWorldBehind self.new header (lines ++ line.now ∷ [])) }
-        ensures entries { (header : Named) (lines : List Said) → IsNodeWorldBehind self.old header lines → IsPlayedLine header line.now
-            → IfOk result (λ other. other ≡ None → nodes_entries self.new ≡ told_below header lines line.now) }
-        ensures misread { (header : Named) (lines : List Said) → IsNodeWorldBehind self.old header lines → IsPlayedLine header line.now
-            → IfOk result (IsMisreadIn (nodes_behind header lines) line.now) }
-        ensures told { (header : Named) (lines : List Said) → IsNodeWorldBehind self.old header lines → IsPlayedLine header line.now
-            → OnErr result (misread_in (nodes_behind header lines) line.now ≡ None) }
+        ensures stands { (header : Named) (plays : List Play) → IsNodeWorldBehind self.old header plays → IsPlayedLine header line.now
+            → IfOk result (λ other. other ≡ None → IsNodeWorldBehind self.new header (plays ++ Said line.now ∷ [])) }
+        ensures entries { (header : Named) (plays : List Play) → IsNodeWorldBehind self.old header plays → IsPlayedLine header line.now
+            → IfOk result (λ other. other ≡ None → nodes_entries self.new ≡ told_below header (lines_played header plays) line.now) }
+        ensures misread { (header : Named) (plays : List Play) → IsNodeWorldBehind self.old header plays → IsPlayedLine header line.now
+            → IfOk result (IsMisreadIn (nodes_behind header (lines_played header plays)) line.now) }
+        ensures told { (header : Named) (plays : List Play) → IsNodeWorldBehind self.old header plays → IsPlayedLine header line.now
+            → OnErr result (misread_in (nodes_behind header (lines_played header plays)) line.now ≡ None) }
     {
         self.stepped += 1;
         self.noted.forget();
@@ -95,7 +102,56 @@ impl NodeWorld {
         )
     }
 
-    /// What the last line caused, in order. The lines themselves aren't in it.
+    /// Goes through a round: each end takes all that stands on its wire then, the controller's end of a link before the host's and the links
+    /// ascending, and then time passes once. Fewer than 400,000,000 rounds were gone through before.
+    ///
+    /// # Errors
+    ///
+    /// `NoMemory` where memory runs out. The world is of no use then.
+    pub fn round(&mut self) -> Result<(), NoMemory>
+        requires room { HasRoomForRound self.old }
+        ensures stands { (header : Named) (plays : List Play) → IsNodeWorldBehind self.old header plays
+            → OnOk result (IsNodeWorldBehind self.new header (plays ++ Round ∷ [])) }
+        ensures entries { (header : Named) (plays : List Play) → IsNodeWorldBehind self.old header plays
+            → OnOk result (nodes_entries self.new ≡ told_of_play header (lines_played header plays) Round) }
+    {
+        self.rounds += 1;
+        self.noted.forget();
+        go_round(
+            &mut self.controller,
+            self.sites.as_mut_slice(),
+            &mut self.noted,
+        )
+    }
+
+    /// Whether all links are at rest: both wires of each are empty, no end of it waits for the acceptance of a reset, and where an end is up
+    /// all messages that were sent in its session are acknowledged.
+    pub fn rests(&self) -> bool
+        requires state { (header : Named) × (plays : List Play) × IsNodeWorldBehind self.now header plays }
+        ensures { (header : Named) (plays : List Play) → IsNodeWorldBehind self.now header plays
+            → result ≡ world_rests (nodes_behind header (lines_played header plays)) }
+    {
+        all_rest(&self.controller, self.sites.as_slice())
+    }
+
+    /// How many frames stand on the wire to an end, at most 64.
+    pub fn standing(&self, to: End) -> u16
+        requires state { (header : Named) × (plays : List Play) × IsNodeWorldBehind self.now header plays }
+        ensures { (header : Named) (plays : List Play) → IsNodeWorldBehind self.now header plays
+            → result ≡ length (frames_at (nodes_behind header (lines_played header plays)) to) }
+    {
+        on_the_way(self.sites.as_slice(), to) as u16
+    }
+
+    /// Whether the node with this number runs: 00 is that of the controller.
+    pub fn running(&self, node: u8) -> bool
+        ensures { (header : Named) (plays : List Play) → IsNodeWorldBehind self.now header plays
+            → result ≡ is_running (nodes_behind header (lines_played header plays)) node }
+    {
+        runs(&self.controller, self.sites.as_slice(), node)
+    }
+
+    /// What the last line or round caused, in order. The lines themselves aren't in it.
     pub fn entries(&self) -> &[Entry]
         ensures { result.now ≡ nodes_entries self.now }
     {
@@ -104,11 +160,11 @@ impl NodeWorld {
 
     /// The memory of a node as it is now, whether the node runs or not.
     pub fn into_memory(self, node: u8) -> MemNv
-        requires state { (header : Named) × (lines : List Said) × IsNodeWorldBehind self header lines × IsNodeOf header.hosts.items node }
-        ensures memory { (header : Named) (lines : List Said) → IsNodeWorldBehind self header lines → IsNodeOf header.hosts.items node
-            → result ≡ memory_at (nodes_behind header lines) node }
-        ensures found { (header : Named) (lines : List Said) → IsNodeWorldBehind self header lines → IsNodeOf header.hosts.items node
-            → IsPeekedSo (nodes_behind header lines) node result.content }
+        requires state { (header : Named) × (plays : List Play) × IsNodeWorldBehind self header plays × IsNodeOf header.hosts.items node }
+        ensures memory { (header : Named) (plays : List Play) → IsNodeWorldBehind self header plays → IsNodeOf header.hosts.items node
+            → result ≡ memory_at (nodes_behind header (lines_played header plays)) node }
+        ensures found { (header : Named) (plays : List Play) → IsNodeWorldBehind self header plays → IsNodeOf header.hosts.items node
+            → IsPeekedSo (nodes_behind header (lines_played header plays)) node result.content }
     {
         let NodeWorld {
             controller,

@@ -1,6 +1,7 @@
--- The world stands for the history of its header, and for a history with one line more.
-use Rattle.std.proofs.Common.{◌≡◌, ℕ, ◌+◌, ◌<◌, ◌≤◌, true, false, List, [], ◌∷◌, ◌++◌, length, refl, sym, ap, ◌∙◌, arith, subst, length-append, append-nil}
-use Rattle.std.specs.Prelude.{Option, Some, None}
+-- The world stands for the history of its header, and for a history with one line or one round more.
+use Rattle.std.proofs.Common.{◌≡◌, ℕ, ◌+◌, ◌<◌, Bool, true, false, List, [], ◌∷◌, ◌++◌, refl, sym, ap, ◌∙◌, arith, subst}
+use Rattle.std.proofs.Common.{◌^◌, inl, true≢false, append-nil, append_assoc}
+use Rattle.std.specs.Prelude.{IsTrue, Option, Some, None}
 use Rattle.std.specs.List.{AllByRecursion, list_any}
 use Rattle.std.proofs.lemmas.List.Concat.{flat_map-append}
 use Rattle.trace_model.specs.declared.entry.Entry.{Entry}
@@ -9,25 +10,38 @@ use Rattle.trace_model.specs.declared.line.Header.{Header}
 use Rattle.trace_model.specs.declared.line.Line.{Line}
 use Rattle.trace_model.specs.declared.line.Line.TheVariants.{Send, Deliver, Lose, Damage, Tick, Reset, Busy, Ready, Boot, Cut, Activate, Arm, Init, Tables}
 use Rattle.trace_model.specs.declared.line.Line.TheVariants.{Settle}
+use Rattle.trace_model.specs.Ends.{other_end}
 use Rattle.trace_model.specs.Lines.{IsHeader, IsLineOf}
 use Rattle.link_machine.specs.Machine.{new_link_end}
 use Rattle.link_machine.specs.Machine.Role.{Bare}
 use Rattle.link_entries.specs.messages.Links.{Link, new_numbered_end}
-use Rattle.link_entries.specs.entries.Entries.End.{Controller}
+use Rattle.link_entries.specs.messages.Rsets.{FewRsets}
+use Rattle.link_entries.specs.entries.Entries.End.{Controller, Host}
+use Rattle.link_entries.proofs.messages.RsetNumbers.{start_numbered}
+use Rattle.link_entries.specs.messages.Links.IsStart.{IsBare}
 use Rattle.history.specs.Histories.{Outcome, Step, History, events_of, causes_of, all_events, all_entries, noted}
 use Rattle.history.specs.Steps.{end_of, bare_link, link_after_all}
-use Rattle.history.specs.Follows.{Follows, StepsFollow, host_of, link_at, link_after_line, outcome_of, misread, opened, with_step}
-use Rattle.history.proofs.Leading.{events_in, after_events}
+use Rattle.history.specs.Follows.{Follows, StepsFollow, host_of, link_at, link_after_line, link_after_lines, outcome_of, misread, opened, with_step}
+use Rattle.history.proofs.Leading.{events_in, after_events, lines_lead}
 use Rattle.history.specs.Legal.{Legal, Complete, Prefix, Settled, is_chain_fault}
 use Rattle.history.proofs.legal.Asked.{only_one}
+use Rattle.lines_told.specs.Below.{IsPlayedLine, bare_link_behind, told_below}
+use Rattle.lines_told.specs.Plays.{Play, IsPlayFor, lines_played, lines_said, rounds_played, round_behind, round_on, told_behind, told_of_play}
+use Rattle.lines_told.specs.Plays.Play.{Said, Round}
+use Rattle.lines_told.specs.RoundLines.{IsRoundLine}
+use Rattle.lines_told.proofs.Plays.{played_more, one_said, no_more_rounds, no_more_said, one_round, few_with_said, few_with_round, for_with}
+use Rattle.lines_told.proofs.BareRounds.{bare_round_lines, lines-append}
+use Rattle.lines_told.proofs.Lines.{bare_lines_may_be_played, sure_on, bare_known}
 use Rattle.world.specs.declared.side.Side.{Side}
 use Rattle.link_wires.specs.declared.finding.Misread.{Misread}
 use Rattle.world.specs.declared.bare_world.BareWorld.{BareWorld}
 use Rattle.world.specs.Sides.{SideStandsFor, LinkStandsFor}
-use Rattle.world.specs.Lines.{SidesStandFor, Does, HaveSent, IsMisread, damaged_by, end_for}
-use Rattle.world.specs.BareWorlds.{WorldStandsFor, HasBareRoom, bare_entries}
+use Rattle.world.specs.Lines.{SidesStandFor, Does, DoesAll, HaveSent, IsMisread, damaged_by, end_for, told_on}
+use Rattle.world.specs.BareWorlds.{WorldStandsFor, HasBareRoom, HasBareRoomToSettle, bare_entries, most_rsets, with_steps}
 use Rattle.world.proofs.Given.{sent_line}
 use Rattle.world.proofs.LineLemmas.{seen_back, seen_here}
+use Rattle.world.proofs.RoundLemmas.{sent_round}
+use Rattle.world.proofs.RsetsOfPlays.{fewer, line_few, round_few, most_said, most_round, rsets_short}
 
 -- ## A history with one line more
 
@@ -76,6 +90,33 @@ follows_grow header lines t line h none =
 follows_opened : (header : Header) → Follows header [] (opened header)
 follows_opened header = record { header_is = refl; opening_is = refl; steps_follow = tt }
 
+-- ## A history with lines more
+
+-- none of these lines is misread, wherever they stand
+abbrev AreSure : List Line → Type 0
+AreSure lines = AllByRecursion (λ (line : Line). (l : Link) → misread l line ≡ None) lines
+
+round_sure : (header : Header) (lines : List Line) → AllByRecursion (IsRoundLine header) lines → AreSure lines
+round_sure header [] are = tt
+round_sure header (line ∷ lines) are = (sure_on header line are.0, round_sure header lines are.1)
+
+follows_more : (header : Header) (more lines : List Line) (t : History) → Follows header lines t → AreSure more
+    → Follows header (lines ++ more) (with_steps t more)
+follows_more header [] lines t h sure = let P : List Line → Type 0 = λ ls. Follows header ls t in subst P (sym (append-nil lines)) h
+follows_more header (line ∷ more) lines t h sure =
+    let P : List Line → Type 0 = λ ls. Follows header ls (with_steps (with_step t line) more) in
+    subst P (append_assoc lines (line ∷ []) more)
+    (follows_more header more (lines ++ line ∷ []) (with_step t line) (follows_grow header lines t line h (sure.0 (link_at t))) sure.1)
+
+-- the link behind these steps
+link_at-more : (h : ℕ) (more : List Line) (t : History) → host_of t.header ≡ h
+    → link_at (with_steps t more) ≡ link_after_lines h (link_at t) more
+link_at-more h [] t is = refl
+link_at-more h (line ∷ more) t is =
+    link_at-more h more (with_step t line) is
+    ∙ ap (λ l. link_after_lines h l more)
+    (link_at-step t line ∙ ap (λ x. link_after_line (link_at t) (outcome_of x (link_at t) line)) is)
+
 -- ## The law
 
 -- a fact about each history that follows a schedule
@@ -104,25 +145,75 @@ legal law header lines t are is follows =
 
 pub new_stands : Law → (w : BareWorld) (header : Header) → IsHeader header → w.header ≡ header
     → SideStandsFor w.controller (new_numbered_end (new_link_end Bare)) [] → SideStandsFor w.host (new_numbered_end (new_link_end Bare)) [] → w.resets ≡ 0
-    → w.stepped ≡ 0 → WorldStandsFor w header [] (opened header)
-new_stands law w header is header_is here there none first =
+    → w.stepped ≡ 0 → w.rounds ≡ 0 → WorldStandsFor w header [] (opened header)
+new_stands law w header is header_is here there none first second =
     record {
       header_is = header_is;
       is_header = is;
-      lines_are = tt;
+      plays_are = tt;
+      few = record { said = omega arith; rounds = omega arith };
       follows = follows_opened header;
       legal = legal law header [] (opened header) tt is (follows_opened header);
       link = record { here = here; there = there; count = none };
       sent = record { here = omega arith; there = omega arith };
-      resets = omega (arith, none);
+      resets = record { made = omega arith; numbered = start_numbered bare_link IsBare };
       stepped = first;
+      rounds = second;
     }
 
--- ## A line
+-- ## Which lines there are
 
-all_append : (P : Line → Type 0) (xs : List Line) (x : Line) → AllByRecursion P xs → P x → AllByRecursion P (xs ++ x ∷ [])
-all_append P [] x all p = (p, tt)
-all_append P (y ∷ xs) x all p = (all.0, all_append P xs x all.1 p)
+-- a line that a bare world plays is one that its header allows
+pub played_line : (header : Header) (line : Line) → IsLineOf header line → IsPlayedLine header line
+played_line header (Send e pid message) is = record { may_follow = is; settles_not = refl }
+played_line header (Deliver e count) is = record { may_follow = is; settles_not = refl }
+played_line header (Lose e) is = record { may_follow = is; settles_not = refl }
+played_line header (Damage e places) is = record { may_follow = is; settles_not = refl }
+played_line header (Tick times) is = record { may_follow = is; settles_not = refl }
+played_line header (Reset e window) is = record { may_follow = is; settles_not = refl }
+played_line header (Busy e) is = record { may_follow = is; settles_not = refl }
+played_line header (Ready e) is = record { may_follow = is; settles_not = refl }
+played_line header (Boot node) is = absurd is
+played_line header (Cut node) is = absurd is
+played_line header (Activate host sync power) is = absurd is
+played_line header (Arm node nth fill) is = absurd is
+played_line header (Init e identity pipes) is = absurd is
+played_line header (Tables node) is = absurd is
+played_line header (Settle rounds) is = absurd is
+
+-- no line of nodes is
+never : {X : Type 0} (b : Bool) → b ≡ false → IsTrue b → X
+never b is so = absurd (true≢false (sym so ∙ is))
+
+pub bare_line : (header : Header) (line : Line) → header.hci ≡ false → IsPlayedLine header line → IsLineOf header line
+bare_line header (Send e pid message) off is = is.may_follow
+bare_line header (Deliver e count) off is = is.may_follow
+bare_line header (Lose e) off is = is.may_follow
+bare_line header (Damage e places) off is = is.may_follow
+bare_line header (Tick times) off is = is.may_follow
+bare_line header (Reset e window) off is = is.may_follow
+bare_line header (Busy e) off is = is.may_follow
+bare_line header (Ready e) off is = is.may_follow
+bare_line header (Boot node) off is = never header.hci off is.may_follow.0
+bare_line header (Cut node) off is = never header.hci off is.may_follow.0
+bare_line header (Activate host sync power) off is = never header.hci off is.may_follow.0
+bare_line header (Arm node nth fill) off is = never header.hci off is.may_follow.0
+bare_line header (Init e identity pipes) off is = never header.hci off is.may_follow.0
+bare_line header (Tables node) off is = never header.hci off is.may_follow.0
+bare_line header (Settle rounds) off is = absurd (cc is.settles_not)
+
+bare_lines : (header : Header) (lines : List Line) → header.hci ≡ false → AllByRecursion (IsPlayedLine header) lines
+    → AllByRecursion (IsLineOf header) lines
+bare_lines header [] off are = tt
+bare_lines header (line ∷ lines) off are = (bare_line header line off are.0, bare_lines header lines off are.1)
+
+-- so all lines are that plays come to
+lines_of_plays : (header : Header) (plays : List Play) → IsHeader header → AllByRecursion (IsPlayFor header) plays
+    → AllByRecursion (IsLineOf header) (lines_played header plays)
+lines_of_plays header plays is are =
+    bare_lines header (lines_played header plays) is.bare (bare_lines_may_be_played header is.bare is.one plays are)
+
+-- ## A line
 
 -- the controller's end of the link of a header
 abbrev pub controller_of : Header → End
@@ -147,49 +238,63 @@ link_is header (Tables node) h is = absurd is
 link_is header (Settle rounds) h is = absurd is
 
 -- what a line adds to what the world stands for
-pub record Grows (now : BareWorld) (header : Header) (lines : List Line) (t : History) (line : Line) : Type 0 where
-  pub stands : WorldStandsFor now header (lines ++ line ∷ []) (with_step t line)
+pub record Grows (now : BareWorld) (header : Header) (plays : List Play) (t : History) (line : Line) : Type 0 where
+  pub stands : WorldStandsFor now header (plays ++ Said line ∷ []) (with_step t line)
   pub entries_are : bare_entries now ≡ noted (outcome_of (host_of header) (link_at t) line)
 
 -- a world that stood for a history was stepped by a line, by which no frame is misread
-pub record WasStepped (w now : BareWorld) (header : Header) (lines : List Line) (t : History) (line : Line) : Type 0 where
-  pub before : WorldStandsFor w header lines t
+pub record WasStepped (w now : BareWorld) (header : Header) (plays : List Play) (t : History) (line : Line) : Type 0 where
+  pub before : WorldStandsFor w header plays t
   pub is_line : IsLineOf header line
+  pub room : lines_said plays < 20000
   pub header_is : now.header ≡ w.header
   pub none_misread : misread (link_at t) line ≡ None
-  pub resets : now.resets ≤ w.resets + 2400
   pub counted : now.stepped ≡ w.stepped + 1
+  pub same : now.rounds ≡ w.rounds
+
+-- the link behind a line more
+link_stepped : (header : Header) (t : History) (line : Line) → t.header ≡ header
+    → link_at (with_step t line) ≡ link_after_line (link_at t) (outcome_of (host_of header) (link_at t) line)
+link_stepped header t line is =
+    link_at-step t line ∙ ap (λ x. link_after_line (link_at t) (outcome_of (host_of x) (link_at t) line)) is
 
 -- both sides stand for the link after the line
-step_stands : {w now : BareWorld} {header : Header} {lines : List Line} {t : History} {line : Line} → Law → WasStepped w now header lines t line
+step_stands : {w now : BareWorld} {header : Header} {plays : List Play} {t : History} {line : Line} → Law → WasStepped w now header plays t line
     → LinkStandsFor now.controller now.host now.resets (link_after_line (link_at t) (outcome_of (host_of header) (link_at t) line))
-    → WorldStandsFor now header (lines ++ line ∷ []) (with_step t line)
-step_stands {now} {header} {lines} {t} {line} law s link =
+    → WorldStandsFor now header (plays ++ Said line ∷ []) (with_step t line)
+step_stands {now} {header} {plays} {t} {line} law s link =
     let h = s.before in
-    let follows = follows_grow header lines t line h.follows s.none_misread in
-    let are = all_append (IsLineOf header) lines line h.lines_are s.is_line in
-    let more : length (lines ++ line ∷ []) ≡ length lines + 1 = length-append lines (line ∷ []) in
-    let o : Header → Outcome = λ x. outcome_of (host_of x) (link_at t) line in
-    let last : link_at (with_step t line) ≡ link_after_line (link_at t) (o header) =
-    link_at-step t line ∙ ap (λ x. link_after_line (link_at t) (o x)) h.follows.header_is in
+    let next : List Play = plays ++ Said line ∷ [] in
+    let are = for_with header plays (Said line) h.plays_are (played_line header line s.is_line) in
+    let F : List Line → Type 0 = λ ls. Follows header ls (with_step t line) in
+    let follows : Follows header (lines_played header next) (with_step t line) =
+    subst F (sym (played_more header plays (Said line))) (follows_grow header (lines_played header plays) t line h.follows s.none_misread) in
+    let last = link_stepped header t line h.follows.header_is in
     let P : Link → Type 0 = λ l. LinkStandsFor now.controller now.host now.resets l in
-    let Q : Link → Type 0 = λ l. HaveSent l (length lines + 1) in
-    let sent : HaveSent (link_at (with_step t line)) (length lines + 1) =
-    subst Q (sym last) (sent_line (length lines) (host_of header) (link_at t) line h.sent) in
-    let before = h.resets in
-    let few = s.resets in
+    let Q : Link → Type 0 = λ l. HaveSent l (lines_said plays + 1) in
+    let R : Link → Type 0 = λ l. FewRsets (most_rsets next) l in
+    let more = one_said plays line in
+    let most = most_said plays line in
+    let sent : HaveSent (link_at (with_step t line)) (lines_said plays + 1) =
+    subst Q (sym last) (sent_line (lines_said plays) (host_of header) (link_at t) line h.sent) in
     let a = sent.here in
     let b = sent.there in
+    let few = line_few header (most_rsets plays) (host_of header) (link_at t) line s.is_line h.resets in
+    let after : Link = link_after_line (link_at t) (outcome_of (host_of header) (link_at t) line) in
+    let counted = s.counted in
+    let before = h.stepped in
     record {
       header_is = s.header_is ∙ h.header_is;
       is_header = h.is_header;
-      lines_are = are;
+      plays_are = are;
+      few = few_with_said plays line h.few s.room;
       follows = follows;
-      legal = legal law header (lines ++ line ∷ []) (with_step t line) are h.is_header follows;
+      legal = legal law header (lines_played header next) (with_step t line) (lines_of_plays header next h.is_header are) h.is_header follows;
       link = subst P (sym last) link;
       sent = record { here = omega (arith, a, more); there = omega (arith, b, more) };
-      resets = omega (arith, few, before, more);
-      stepped = s.counted ∙ ap (λ n. n + 1) h.stepped ∙ sym more;
+      resets = subst R (sym last) (fewer (most_rsets plays + 200) (most_rsets next) after (omega (arith, most)) few);
+      stepped = omega (arith, counted, before, more);
+      rounds = s.same ∙ h.rounds ∙ sym (no_more_rounds plays line);
     }
 
 -- ## Seen from either end
@@ -207,29 +312,39 @@ at_link : (header : Header) (line : Line) (at : End) → IsHeader header → IsL
     → at.link ≡ host_of header
 at_link header line at h is q = ap (λ (e : End). e.link) q ∙ link_is header line h is
 
-pub host_grows : {w now : BareWorld} {header : Header} {lines : List Line} {t : History} {line : Line} {at : End} → Law
-    → WasStepped w now header lines t line → at ≡ end_for (controller_of header) line → at.at_host ≡ true
-    → Does now.host now.controller now.resets at (link_at t) line (bare_entries now) → Grows now header lines t line
+pub host_grows : {w now : BareWorld} {header : Header} {plays : List Play} {t : History} {line : Line} {at : End} → Law
+    → WasStepped w now header plays t line → at ≡ end_for (controller_of header) line → at.at_host ≡ true
+    → Does now.host now.controller now.resets at (link_at t) line (bare_entries now) → Grows now header plays t line
 host_grows {header} {t} {line} {at} law s seen q does =
     let z = on_link (host_of header) (link_at t) (at_link header line at s.before.is_header s.is_line seen) does in
     record { stands = step_stands law s (seen_back at q z.0); entries_are = z.1 }
 
-pub controller_grows : {w now : BareWorld} {header : Header} {lines : List Line} {t : History} {line : Line} {at : End} → Law
-    → WasStepped w now header lines t line → at ≡ end_for (controller_of header) line → at.at_host ≡ false
-    → Does now.controller now.host now.resets at (link_at t) line (bare_entries now) → Grows now header lines t line
+pub controller_grows : {w now : BareWorld} {header : Header} {plays : List Play} {t : History} {line : Line} {at : End} → Law
+    → WasStepped w now header plays t line → at ≡ end_for (controller_of header) line → at.at_host ≡ false
+    → Does now.controller now.host now.resets at (link_at t) line (bare_entries now) → Grows now header plays t line
 controller_grows {header} {t} {line} {at} law s seen q does =
     let z = on_link (host_of header) (link_at t) (at_link header line at s.before.is_header s.is_line seen) does in
     record { stands = step_stands law s (seen_here at q z.0); entries_are = z.1 }
 
--- a world that can be stepped was stepped by few lines, and its ends were given few messages
-pub few_sent : {w : BareWorld} {lines : List Line} {t : History} → HasBareRoom w → WorldStandsFor w w.header lines t → HaveSent (link_at t) 20000
-few_sent room h =
+-- the ends of a world were given few messages
+pub few_sent : {w : BareWorld} {header : Header} {plays : List Play} {t : History} → WorldStandsFor w header plays t → HaveSent (link_at t) 20000
+few_sent h =
     let a = h.sent.here in
     let b = h.sent.there in
-    let n = h.stepped in
-    let m = room.stands.stepped in
-    let few = room.few in
-    record { here = omega (arith, a, n, m, few); there = omega (arith, b, n, m, few) }
+    let few = h.few.said in
+    record { here = omega (arith, a, few); there = omega (arith, b, few) }
+
+-- and few RSETs were put on its link
+pub few_resets : {w : BareWorld} {header : Header} {plays : List Play} {t : History} → WorldStandsFor w header plays t → w.resets + 2400 < 2 ^ 32
+few_resets {w} {plays} h = let a = h.link.count in let b = h.resets.made in rsets_short plays w.resets h.few (omega (arith, a, b))
+
+-- behind whichever plays a world stands, they are as many
+pub few_said : {w : BareWorld} {plays : List Play} {t : History} → HasBareRoom w → WorldStandsFor w w.header plays t → lines_said plays < 20000
+few_said room h = let n = h.stepped in let m = room.stands.stepped in let few = room.few in omega (arith, n, m, few)
+
+pub few_rounds : {w : BareWorld} {plays : List Play} {t : History} → HasBareRoomToSettle w → WorldStandsFor w w.header plays t
+    → rounds_played plays < 400000000
+few_rounds room h = let n = h.rounds in let m = room.stands.rounds in let few = room.few in omega (arith, n, m, few)
 
 -- no line is misread where none is told
 pub none_misread : (l : Link) (line : Line) (o : Option Misread) → o ≡ None → IsMisread l line o → misread l line ≡ None
@@ -241,7 +356,114 @@ pub one_misread : (l : Link) (line : Line) (o : Option Misread) (other : Misread
 one_misread l line o other q h = let P : Option Misread → Type 0 = λ x. IsMisread l line x in subst P q h
 
 -- a world that stands for a history of few enough lines can be stepped
-pub has_room : (w : BareWorld) (header : Header) (lines : List Line) (t : History) → WorldStandsFor w header lines t → length lines < 20000 → HasBareRoom w
-has_room w header lines t h few =
-    let P : Header → Type 0 = λ x. WorldStandsFor w x lines t in
-    record { lines = lines; history = t; stands = subst P (sym h.header_is) h; few = few }
+pub has_room : (w : BareWorld) (header : Header) (plays : List Play) (t : History) → WorldStandsFor w header plays t → lines_said plays < 20000
+    → HasBareRoom w
+has_room w header plays t h few =
+    let P : Header → Type 0 = λ x. WorldStandsFor w x plays t in
+    record { plays = plays; history = t; stands = subst P (sym h.header_is) h; few = few }
+
+pub has_room_to_settle : (w : BareWorld) (header : Header) (plays : List Play) (t : History) → WorldStandsFor w header plays t
+    → rounds_played plays < 400000000 → HasBareRoomToSettle w
+has_room_to_settle w header plays t h few =
+    let P : Header → Type 0 = λ x. WorldStandsFor w x plays t in
+    record { plays = plays; history = t; stands = subst P (sym h.header_is) h; few = few }
+
+-- ## A round
+
+-- what a round adds to what the world stands for
+pub record GoesRound (now : BareWorld) (header : Header) (plays : List Play) (t : History) : Type 0 where
+  pub stands : WorldStandsFor now header (plays ++ Round ∷ []) (with_steps t (round_behind header (lines_played header plays)))
+  pub entries_are : bare_entries now ≡ told_of_play header (lines_played header plays) Round
+
+-- a world that stood for a history went through a round
+pub record WentRound (w now : BareWorld) (header : Header) (plays : List Play) (t : History) : Type 0 where
+  pub before : WorldStandsFor w header plays t
+  pub room : rounds_played plays < 400000000
+  pub header_is : now.header ≡ w.header
+  pub counted : now.rounds ≡ w.rounds + 1
+  pub same : now.stepped ≡ w.stepped
+
+-- what is noted of lines behind others is what is noted of them on the link that those leave
+told_bare_lines : (header : Header) (more before : List Line) (l : Link) → header.hci ≡ false → bare_link_behind header before ≡ l
+    → told_behind header before more ≡ told_on (host_of header) l more
+told_bare_lines header [] before l off is = refl
+told_bare_lines header (line ∷ more) before l off is =
+    let h : ℕ = host_of header in
+    let next : Link = link_after_line l (outcome_of h l line) in
+    let now : told_below header before line ≡ noted (outcome_of h l line) = rw off (ap (λ x. noted (outcome_of h x line)) is) in
+    let goes : bare_link_behind header (before ++ line ∷ []) ≡ next =
+    lines-append h before (line ∷ []) bare_link ∙ ap (λ x. link_after_line x (outcome_of h x line)) is in
+    ap (λ es. es ++ told_behind header (before ++ line ∷ []) more) now
+    ∙ ap (λ es. noted (outcome_of h l line) ++ es) (told_bare_lines header more (before ++ line ∷ []) next off goes)
+
+-- the ends in a round
+abbrev ends_of : Header → List End
+ends_of header = end_of (host_of header) Controller ∷ end_of (host_of header) Host ∷ []
+
+-- the lines of a round behind a history
+round_of : (header : Header) (lines : List Line) (t : History) → header.hci ≡ false → Follows header lines t
+    → round_behind header lines ≡ round_on (host_of header) (link_at t) (ends_of header)
+round_of header lines t off follows =
+    bare_round_lines header off lines ∙ ap (λ l. round_on (host_of header) l (ends_of header)) (sym (lines_lead header lines t follows))
+
+pub went_round : {w now : BareWorld} {header : Header} {plays : List Play} {t : History} → Law → WentRound w now header plays t
+    → LinkStandsFor now.controller now.host now.resets
+    (link_after_lines (host_of header) (link_at t) (round_on (host_of header) (link_at t) (ends_of header)))
+    → bare_entries now ≡ told_on (host_of header) (link_at t) (round_on (host_of header) (link_at t) (ends_of header))
+    → GoesRound now header plays t
+went_round {now} {header} {plays} {t} law s link told =
+    let h = s.before in
+    let off = h.is_header.bare in
+    let host : ℕ = host_of header in
+    let l : Link = link_at t in
+    let before : List Line = lines_played header plays in
+    let lines : List Line = round_behind header before in
+    let next : List Play = plays ++ Round ∷ [] in
+    let u : History = with_steps t lines in
+    let are = for_with header plays Round h.plays_are tt in
+    let is : lines ≡ round_on host l (ends_of header) = round_of header before t off h.follows in
+    let F : List Line → Type 0 = λ ls. Follows header ls u in
+    let sure = round_sure header lines (bare_known header h.is_header.bare h.is_header.one before) in
+    let follows : Follows header (lines_played header next) u =
+    subst F (sym (played_more header plays Round)) (follows_more header lines before t h.follows sure) in
+    let last : link_at u ≡ link_after_lines host l (round_on host l (ends_of header)) =
+    link_at-more host lines t (ap host_of h.follows.header_is) ∙ ap (link_after_lines host l) is in
+    let P : Link → Type 0 = λ m. LinkStandsFor now.controller now.host now.resets m in
+    let Q : Link → Type 0 = λ m. HaveSent m (lines_said plays) in
+    let R : Link → Type 0 = λ m. FewRsets (most_rsets next) m in
+    let same = no_more_said plays in
+    let more = one_round plays in
+    let most = most_round plays in
+    let sent : HaveSent (link_at u) (lines_said plays) = subst Q (sym last) (sent_round (lines_said plays) host (ends_of header) l h.sent) in
+    let a = sent.here in
+    let b = sent.there in
+    let after : Link = link_after_lines host l (round_on host l (ends_of header)) in
+    let few = round_few (most_rsets plays) host (ends_of header) l h.resets in
+    let counted = s.counted in
+    let rounds = h.rounds in
+    record {
+      stands = record {
+        header_is = s.header_is ∙ h.header_is;
+        is_header = h.is_header;
+        plays_are = are;
+        few = few_with_round plays h.few s.room;
+        follows = follows;
+        legal = legal law header (lines_played header next) u (lines_of_plays header next h.is_header are) h.is_header follows;
+        link = subst P (sym last) link;
+        sent = record { here = omega (arith, a, same); there = omega (arith, b, same) };
+        resets = subst R (sym last) (fewer (most_rsets plays + 2) (most_rsets next) after (omega (arith, most)) few);
+        stepped = s.same ∙ h.stepped ∙ sym same;
+        rounds = omega (arith, counted, rounds, more);
+      };
+      entries_are = told ∙ sym (told_bare_lines header lines before l off (sym (lines_lead header before t h.follows)) ∙ ap (told_on host l) is);
+    }
+
+-- the same, seen from the controller's end
+pub round_goes : {w now : BareWorld} {header : Header} {plays : List Play} {t : History} (at : End) → Law → WentRound w now header plays t
+    → at ≡ controller_of header
+    → DoesAll now.controller now.host now.resets at (link_at t) (round_on at.link (link_at t) (at ∷ other_end at ∷ [])) [] (bare_entries now)
+    → GoesRound now header plays t
+round_goes {now} {t} at law s is does =
+    let P : End → Type 0 = λ e.
+    DoesAll now.controller now.host now.resets e (link_at t) (round_on e.link (link_at t) (e ∷ other_end e ∷ [])) [] (bare_entries now) in
+    let z = subst P is does in went_round law s z.stands z.noted_are

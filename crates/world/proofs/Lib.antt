@@ -9,5 +9,7 @@ pub mod Giving
 pub mod LineLemmas
 pub mod Given
 pub mod Repeating
+pub mod RoundLemmas
+pub mod RsetsOfPlays
 pub mod BareWorlds
 pub mod Below

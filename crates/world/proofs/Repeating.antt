@@ -20,7 +20,7 @@ use Rattle.link_wires.specs.Notes.{side_of}
 use Rattle.world.specs.Sides.{LinkStandsFor, HasHappened}
 use Rattle.link_wires.specs.Notes.{AreNoted}
 use Rattle.link_wires.specs.Wires.{WireStandsFor, kept_of}
-use Rattle.world.specs.Lines.{SidesStandFor, HasCaused, HaveSent, Does}
+use Rattle.world.specs.Lines.{SidesStandFor, HasCaused, HasRepeated, HaveSent, Does}
 use Rattle.link_wires.specs.declared.wire.Flying.{Flying}
 use Rattle.circular_buffer.specs.Buffer.{Buffer}
 use Rattle.link_laws.specs.sessions.Sessions.{OnWire}
@@ -58,27 +58,29 @@ entries_more h l c (suc k) =
     ∙ sym (append_assoc first (entries_of (events_at h (link_after l c) (replicate k c)))
     (event_at h (link_after_all (link_after l c) (replicate k c)) c).entries)
 
--- both sides stand for the link after so many times the same cause, and that is noted
-pub record HasRepeated (near far : Side) (resets : ℕ) (at : End) (l : Link) (cause : Cause) (k : ℕ) (now : List Entry) : Type 0 where
-  pub stands : SidesStandFor near far resets at (link_after_all l (replicate k cause))
-  pub noted_are : now ≡ entries_of (events_at at.link l (replicate k cause))
+-- nothing was repeated yet
+pub repeats_none : {near far : Side} {resets : ℕ} {at : End} {l : Link} {cause : Cause} {now : List Entry} → SidesStandFor near far resets at l
+    → HasRepeated near far resets at l cause 0 now now
+repeats_none {now} stands = record { stands = stands; noted_are = sym (append-nil now) }
 
-pub repeats_more : {near far nears fars : Side} {resets now_resets : ℕ} {at : End} {l : Link} {cause : Cause} {k : ℕ} {before now : List Entry}
-    → HasRepeated near far resets at l cause k before
+pub repeats_more : {near far nears fars : Side} {resets now_resets : ℕ} {at : End} {l : Link} {cause : Cause} {k : ℕ} {first before now : List Entry}
+    → HasRepeated near far resets at l cause k first before
     → HasCaused nears fars now_resets at (link_after_all l (replicate k cause)) cause before now
-    → HasRepeated nears fars now_resets at l cause (suc k) now
-repeats_more {nears} {fars} {now_resets} {at} {l} {cause} {k} h more =
+    → HasRepeated nears fars now_resets at l cause (suc k) first now
+repeats_more {nears} {fars} {now_resets} {at} {l} {cause} {k} {first} h more =
     let P : Link → Type 0 = λ m. SidesStandFor nears fars now_resets at m in
+    let last : List Entry = (event_at at.link (link_after_all l (replicate k cause)) cause).entries in
     record {
       stands = subst P (sym (after_more l cause k)) more.stands;
       noted_are = more.noted_are
-          ∙ ap (λ es. es ++ (event_at at.link (link_after_all l (replicate k cause)) cause).entries) h.noted_are
-          ∙ sym (entries_more at.link l cause k);
+          ∙ ap (λ es. es ++ last) h.noted_are
+          ∙ append_assoc first (entries_of (events_at at.link l (replicate k cause))) last
+          ∙ ap (λ es. first ++ es) (sym (entries_more at.link l cause k));
     }
 
 -- a line that causes the same so many times
 pub repeats_does : {near far : Side} {resets : ℕ} {at : End} {l : Link} {line : Line} {cause : Cause} {k : ℕ} {now : List Entry}
-    → HasRepeated near far resets at l cause k now → refusal l line ≡ None → causes_in l line ≡ replicate k cause
+    → HasRepeated near far resets at l cause k [] now → refusal l line ≡ None → causes_in l line ≡ replicate k cause
     → Does near far resets at l line now
 repeats_does {near} {far} {resets} {at} {l} {line} {cause} {k} h none causes =
     let P : Link → Type 0 = λ m. SidesStandFor near far resets at m in

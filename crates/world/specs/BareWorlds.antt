@@ -1,14 +1,16 @@
 -- What is kept of the world, and for which histories it stands.
-use Rattle.std.specs.Prelude.{◌≡◌, ◌*◌, ◌<◌, ◌≤◌, List, length, Some, None}
+use Rattle.std.specs.Prelude.{◌≡◌, ℕ, ◌+◌, ◌*◌, ◌<◌, List, [], ◌∷◌, Some, None}
 use Rattle.std.specs.List.{AllByRecursion}
 use Rattle.trace_model.specs.declared.entry.Entry.{Entry}
 use Rattle.trace_model.specs.declared.line.Header.{Header}
 use Rattle.trace_model.specs.declared.line.Line.{Line}
-use Rattle.trace_model.specs.Lines.{IsHeader, IsLineOf}
+use Rattle.trace_model.specs.Lines.{IsHeader}
 use Rattle.link_entries.specs.messages.Links.{Link}
+use Rattle.link_entries.specs.messages.Rsets.{FewRsets}
 use Rattle.history.specs.Histories.{History}
-use Rattle.history.specs.Follows.{Follows, link_at, misread}
+use Rattle.history.specs.Follows.{Follows, link_at, misread, with_step}
 use Rattle.history.specs.Legal.{Legal}
+use Rattle.lines_told.specs.Plays.{Play, IsPlayFor, AreFewPlays, lines_played, lines_said, rounds_played}
 use Rattle.world.specs.declared.bare_world.BareWorld.{BareWorld}
 use Rattle.world.specs.declared.fault.WorldFault.{WorldFault}
 use Rattle.world.specs.declared.fault.WorldFault.TheVariants.{Undetected, NoMemory}
@@ -23,25 +25,43 @@ bare_header w = w.header
 abbrev pub bare_entries : BareWorld → List Entry
 bare_entries w = w.entries.items
 
--- The world stands for a history: it has this header, the history follows these lines and is legal, and both sides are the
--- link as the history leaves it. A line gives at most one message, and puts at most 2,400 RSETs on the link.
-pub record WorldStandsFor (w : BareWorld) (header : Header) (lines : List Line) (t : History) : Type 0 where
+-- a history with these lines more, one after another
+abbrev pub with_steps : History → List Line → History
+with_steps t [] = t
+with_steps t (line ∷ lines) = with_steps (with_step t line) lines
+
+-- how many RSETs plays have the link make at most: two a tick, of which a line that is said has 100 and a round one
+abbrev pub most_rsets : List Play → ℕ
+most_rsets plays = 200 * lines_said plays + 2 * rounds_played plays
+
+-- The world stands for a history: it has this header, the history follows the lines that these plays come to and is legal, and both sides
+-- are the link as the history leaves it. A line that is said gives at most one message, and a round none.
+pub record WorldStandsFor (w : BareWorld) (header : Header) (plays : List Play) (t : History) : Type 0 where
   pub header_is : w.header ≡ header
   pub is_header : IsHeader header
-  pub lines_are : AllByRecursion (IsLineOf header) lines
-  pub follows : Follows header lines t
+  pub plays_are : AllByRecursion (IsPlayFor header) plays
+  pub few : AreFewPlays plays
+  pub follows : Follows header (lines_played header plays) t
   pub legal : Legal t
   pub link : LinkStandsFor w.controller w.host w.resets (link_at t)
-  pub sent : HaveSent (link_at t) (length lines)
-  pub resets : w.resets ≤ 2400 * length lines
-  pub stepped : w.stepped ≡ length lines
+  pub sent : HaveSent (link_at t) (lines_said plays)
+  pub resets : FewRsets (most_rsets plays) (link_at t)
+  pub stepped : w.stepped ≡ lines_said plays
+  pub rounds : w.rounds ≡ rounds_played plays
 
--- the world stands for a history of fewer than 20,000 lines
+-- the world stands for a history in which fewer than 20,000 lines were said
 pub record HasBareRoom (w : BareWorld) : Type 0 where
-  pub lines : List Line
+  pub plays : List Play
   pub history : History
-  pub stands : WorldStandsFor w (bare_header w) lines history
-  pub few : length lines < 20000
+  pub stands : WorldStandsFor w (bare_header w) plays history
+  pub few : lines_said plays < 20000
+
+-- or in which there were fewer rounds than a schedule has at most
+pub record HasBareRoomToSettle (w : BareWorld) : Type 0 where
+  pub plays : List Play
+  pub history : History
+  pub stands : WorldStandsFor w (bare_header w) plays history
+  pub few : rounds_played plays < 400000000
 
 -- This is why a line stops the world: another frame is read in place of the damaged one, or there was no memory for a line
 -- that does no such thing.

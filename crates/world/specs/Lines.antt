@@ -1,13 +1,13 @@
 -- What a line does on a link, seen from the end that it speaks of.
-use Rattle.std.specs.Prelude.{◌≡◌, ℕ, ◌≤◌, List, ◌++◌, length, Option, Some, None}
+use Rattle.std.specs.Prelude.{◌≡◌, ℕ, ◌≤◌, List, [], ◌∷◌, ◌++◌, length, replicate, Option, Some, None}
 use Rattle.trace_model.specs.declared.entry.Entry.{Entry}
 use Rattle.trace_model.specs.declared.line.End.{End}
 use Rattle.trace_model.specs.declared.line.Line.{Line}
 use Rattle.trace_model.specs.declared.line.Line.TheVariants as line
 use Rattle.link_entries.specs.messages.Links.{Link}
-use Rattle.history.specs.Histories.{Cause, noted}
-use Rattle.history.specs.Steps.{link_after, event_at}
-use Rattle.history.specs.Follows.{seen_from, frames_to, outcome_of, link_after_line, misread}
+use Rattle.history.specs.Histories.{Cause, entries_of, noted}
+use Rattle.history.specs.Steps.{link_after, link_after_all, event_at, events_at}
+use Rattle.history.specs.Follows.{seen_from, frames_to, outcome_of, link_after_line, link_after_lines, misread}
 use Rattle.link_wires.specs.declared.finding.Misread.{Misread}
 use Rattle.link_wires.specs.Damages.{first_lpdu}
 use Rattle.world.specs.declared.side.Side.{Side}
@@ -36,6 +36,21 @@ IsMisread l line (Some other) = (misread l line ≡ Some other.read) × (damaged
 pub record HasCaused (near far : Side) (resets : ℕ) (at : End) (l : Link) (cause : Cause) (before now : List Entry) : Type 0 where
   pub stands : SidesStandFor near far resets at (link_after l cause)
   pub noted_are : now ≡ before ++ (event_at at.link l cause).entries
+
+-- both sides stand for the link after so many times the same cause, and that is noted behind what was noted before
+pub record HasRepeated (near far : Side) (resets : ℕ) (at : End) (l : Link) (cause : Cause) (k : ℕ) (before now : List Entry) : Type 0 where
+  pub stands : SidesStandFor near far resets at (link_after_all l (replicate k cause))
+  pub noted_are : now ≡ before ++ entries_of (events_at at.link l (replicate k cause))
+
+-- what is noted of lines on the link with this host, one after another
+abbrev pub told_on : ℕ → Link → List Line → List Entry
+told_on h l [] = []
+told_on h l (line ∷ lines) = noted (outcome_of h l line) ++ told_on h (link_after_line l (outcome_of h l line)) lines
+
+-- both sides stand for the link after these lines, and what became of them is noted behind what was noted before
+pub record DoesAll (near far : Side) (resets : ℕ) (at : End) (l : Link) (lines : List Line) (before now : List Entry) : Type 0 where
+  pub stands : SidesStandFor near far resets at (link_after_lines at.link l lines)
+  pub noted_are : now ≡ before ++ told_on at.link l lines
 
 -- both ends were given at most so many messages in their sessions
 pub record HaveSent (l : Link) (most : ℕ) : Type 0 where

@@ -1,10 +1,11 @@
--- What is kept of the world, and behind which lines of a schedule it stands.
-use Rattle.std.specs.Prelude.{◌≡◌, ◌<◌, ℕ, if◌then◌else◌, List, length, Option, Some, None}
+-- What is kept of the world, and behind which plays of a schedule it stands.
+use Rattle.std.specs.Prelude.{◌≡◌, ◌<◌, ℕ, if◌then◌else◌, List, Option, Some, None}
 use Rattle.trace_model.specs.declared.entry.Entry.{Entry}
 use Rattle.trace_model.specs.declared.line.Header.{Header}
 use Rattle.trace_model.specs.declared.line.Line.{Line}
 use Rattle.history.specs.Histories.{History}
 use Rattle.lines_told.specs.Below.{bare_link_behind, nodes_behind, misread_below}
+use Rattle.lines_told.specs.Plays.{Play, lines_said, rounds_played}
 use Rattle.node_world.specs.Whole.{damaged_in}
 use Rattle.node_world.specs.Worlds.{IsNodeWorldBehind, nodes_entries}
 use Rattle.world.specs.declared.world_steps.World.{World}
@@ -27,22 +28,28 @@ last_noted (Nodes w) = nodes_entries w
 abbrev pub world_entries : World → List Entry
 world_entries w = last_noted w.below
 
--- Below a bare header the world stands for a history that follows these lines and is legal; below that of nodes, for the world of nodes
--- as these lines leave it.
-abbrev pub StandsBelow : Below → Header → List Line → Type 0
-StandsBelow (Bare w) header lines = (t : History) × WorldStandsFor w header lines t
-StandsBelow (Nodes w) header lines = IsNodeWorldBehind w header lines
+-- Below a bare header the world stands for a history that follows the lines that these plays come to and is legal; below that of nodes, for
+-- the world of nodes as those lines leave it.
+abbrev pub StandsBelow : Below → Header → List Play → Type 0
+StandsBelow (Bare w) header plays = (t : History) × WorldStandsFor w header plays t
+StandsBelow (Nodes w) header plays = IsNodeWorldBehind w header plays
 
--- The world stands behind these lines, below this header.
-pub record IsWorldAt (w : World) (header : Header) (lines : List Line) : Type 0 where
+-- The world stands behind these plays, below this header.
+pub record IsWorldAt (w : World) (header : Header) (plays : List Play) : Type 0 where
   pub header_is : w.header ≡ header
-  pub stands : StandsBelow w.below header lines
+  pub stands : StandsBelow w.below header plays
 
--- it stands behind fewer than 20,000 lines
+-- it stands behind fewer than 20,000 lines that were said
 pub record HasRoomForLine (w : World) : Type 0 where
-  pub lines : List Line
-  pub stands : IsWorldAt w (world_header w) lines
-  pub few : length lines < 20000
+  pub plays : List Play
+  pub stands : IsWorldAt w (world_header w) plays
+  pub few : lines_said plays < 20000
+
+-- it stands behind fewer rounds than a schedule has at most
+pub record HasRoomToSettle (w : World) : Type 0 where
+  pub plays : List Play
+  pub stands : IsWorldAt w (world_header w) plays
+  pub few : rounds_played plays < 400000000
 
 -- the first frame on its way to the end that a line behind these speaks of, where the line damages it
 abbrev pub damaged_below : Header → List Line → Line → Option (List ℕ)

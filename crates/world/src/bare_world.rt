@@ -1,15 +1,19 @@
-//! A bare world, line by line.
-ghost use Rattle.std.specs.Prelude.{◌≡◌, [], ◌∷◌, ◌++◌, List, IfOk, OnOk, IfErr, None};
-ghost use Rattle.trace_model.specs.declared.line.Line.{Line};
+//! A bare world, line by line and round by round.
+ghost use Rattle.std.specs.Prelude.{◌≡◌, [], ◌∷◌, ◌++◌, List, IfOk, OnOk, IfErr, None, length};
 ghost use Rattle.trace_model.specs.Lines.{IsHeader, IsLineOf};
 ghost use Rattle.link_entries.specs.entries.Entries.End.{Controller};
 ghost use Rattle.history.specs.Histories.{History, noted};
-ghost use Rattle.history.specs.Follows.{opening_of, host_of, outcome_of, misread, link_at, opened, with_step};
+ghost use Rattle.history.specs.Follows.{opening_of, host_of, outcome_of, misread, link_at, opened, with_step, frames_to};
 ghost use Rattle.history.specs.Steps.{end_of};
+ghost use Rattle.link_entries.specs.messages.Rest.{link_rests};
+ghost use Rattle.lines_told.specs.Plays.{Play, lines_played, round_behind, told_of_play};
+ghost use Rattle.lines_told.specs.Plays.Play.{Said, Round};
+ghost use Rattle.world.specs.declared.fault.WorldFault.TheVariants as fault;
 
 use crate::fault::WorldFault;
 use crate::forgetting::forget;
 use crate::line_steps::{end_of, play_line};
+use crate::rounds::play_round;
 use crate::side::Side;
 use history::bare_histories::every_history_is_legal;
 use link_wires::Misread;
@@ -17,7 +21,8 @@ use std::alloc::{AllocError, Global};
 use swp_base::NoMemory;
 use trace_model::{End, Entry, Header, Line};
 
-/// The world below a bare header: both ends of its link, the frames between them, and what the last line caused (this project's own).
+/// The world below a bare header: both ends of its link, the frames between them, and what the last line or round caused (this project's
+/// own).
 #[derive(Drop)]
 pub(crate) struct BareWorld {
     header: Header,
@@ -25,15 +30,16 @@ pub(crate) struct BareWorld {
     host: Side,
     // How many RSETs were put on the link.
     resets: u32,
-    // How many lines were stepped.
+    // How many lines were stepped, and how many rounds were done.
     stepped: u32,
+    rounds: u32,
     entries: Vec<Entry>,
     // The memory of a message that was noted, for the next one.
     spare: Vec<u8>,
 }
 
 impl BareWorld {
-    ghost use Rattle.world.specs.BareWorlds.{WorldStandsFor, HasBareRoom, IsFaultOf, bare_header, bare_entries};
+    ghost use Rattle.world.specs.BareWorlds.{WorldStandsFor, HasBareRoom, HasBareRoomToSettle, IsFaultOf, bare_header, bare_entries, with_steps};
 
     /// The world that a header names: both ends of its link are Up in session 0, and no frame is on its way.
     ///
@@ -52,6 +58,7 @@ impl BareWorld {
             host: Side::make(alloc)?,
             resets: 0,
             stepped: 0,
+            rounds: 0,
             entries: opening(alloc, controller_end(header).link)?,
             spare: Vec::new(alloc),
         })
@@ -66,13 +73,13 @@ impl BareWorld {
     pub(crate) fn step(&mut self, line: &Line) -> Result<(), WorldFault>
         requires room { HasBareRoom self.old }
         requires line { IsLineOf (bare_header self.old) line.now }
-        ensures stands { (lines : List Line) (t : History) → WorldStandsFor self.old (bare_header self.old) lines t
-            → OnOk result (WorldStandsFor self.new (bare_header self.old) (lines ++ line.now ∷ []) (with_step t line.now)) }
-        ensures entries { (lines : List Line) (t : History) → WorldStandsFor self.old (bare_header self.old) lines t
+        ensures stands { (plays : List Play) (t : History) → WorldStandsFor self.old (bare_header self.old) plays t
+            → OnOk result (WorldStandsFor self.new (bare_header self.old) (plays ++ Said line.now ∷ []) (with_step t line.now)) }
+        ensures entries { (plays : List Play) (t : History) → WorldStandsFor self.old (bare_header self.old) plays t
             → OnOk result (bare_entries self.new ≡ noted (outcome_of (host_of (bare_header self.old)) (link_at t) line.now)) }
-        ensures fault { (lines : List Line) (t : History) → WorldStandsFor self.old (bare_header self.old) lines t
+        ensures fault { (plays : List Play) (t : History) → WorldStandsFor self.old (bare_header self.old) plays t
             → IfErr result (IsFaultOf (link_at t) line.now) }
-        ensures told { (lines : List Line) (t : History) → WorldStandsFor self.old (bare_header self.old) lines t
+        ensures told { (plays : List Play) (t : History) → WorldStandsFor self.old (bare_header self.old) plays t
             → OnOk result (misread (link_at t) line.now ≡ None) }
     {
         every_history_is_legal();
@@ -109,7 +116,57 @@ impl BareWorld {
         }
     }
 
-    /// What the last line caused, in order; before the first line, what the header did. The lines themselves aren't in it.
+    /// A round: the controller's end takes all frames that stand on the wire to it, then the host's end does, and then time passes, one
+    /// tick. Fewer than 400,000,000 rounds were done before.
+    ///
+    /// # Errors
+    ///
+    /// `NoMemory` where memory runs out. The world is of no use then.
+    pub(crate) fn round(&mut self) -> Result<(), WorldFault>
+        requires { HasBareRoomToSettle self.old }
+        ensures stands { (plays : List Play) (t : History) → WorldStandsFor self.old (bare_header self.old) plays t
+            → OnOk result (WorldStandsFor self.new (bare_header self.old) (plays ++ Round ∷ [])
+            (with_steps t (round_behind (bare_header self.old) (lines_played (bare_header self.old) plays)))) }
+        ensures entries { (plays : List Play) (t : History) → WorldStandsFor self.old (bare_header self.old) plays t
+            → OnOk result (bare_entries self.new ≡ told_of_play (bare_header self.old) (lines_played (bare_header self.old) plays) Round) }
+        ensures fault { IfErr result (λ why. why ≡ fault.NoMemory) }
+    {
+        every_history_is_legal();
+        forget(&mut self.entries, &mut self.spare);
+        self.rounds += 1;
+        play_round(
+            &mut self.spare,
+            controller_end(&self.header),
+            &mut self.controller,
+            &mut self.host,
+            &mut self.resets,
+            &mut self.entries,
+        )?;
+        Ok(())
+    }
+
+    /// Whether the link is at rest: no frame stands on a wire, no end waits for the acceptance of a reset, and at each end that is up all
+    /// messages sent in its session are acknowledged.
+    pub(crate) fn rests(&self) -> bool
+        ensures { (plays : List Play) (t : History) → WorldStandsFor self.now (bare_header self.now) plays t → result ≡ link_rests (link_at t) }
+    {
+        self.controller.rests() && self.host.rests()
+    }
+
+    /// How many frames are on their way to an end.
+    pub(crate) fn standing(&self, at_host: bool) -> u16
+        requires { (plays : List Play) × (t : History) × WorldStandsFor self.now (bare_header self.now) plays t }
+        ensures { (plays : List Play) (t : History) → WorldStandsFor self.now (bare_header self.now) plays t
+            → result ≡ length (frames_to (link_at t) (record { link = host_of (bare_header self.now); at_host = at_host })) }
+    {
+        if at_host {
+            self.host.wire.len() as u16
+        } else {
+            self.controller.wire.len() as u16
+        }
+    }
+
+    /// What the last line or round caused, in order; before the first, what the header did. The lines themselves aren't in it.
     pub(crate) fn entries(&self) -> &[Entry]
         ensures { result.now ≡ bare_entries self.now }
     {

@@ -10,6 +10,7 @@ mod line_steps;
 mod lines;
 mod node;
 mod repeats;
+mod rounds;
 mod side;
 mod steps;
 mod world_steps;

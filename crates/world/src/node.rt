@@ -44,6 +44,7 @@ impl Node {
     ghost use Rattle.hcp_packet.specs.Packets.{IsSendable};
     ghost use Rattle.link_machine.specs.Machine.{LinkEnd as Machine, Bare, Message, report, new_link_end, after_input, next_frame, turn, give_refusal};
     ghost use Rattle.link_machine.specs.Machine.{reset_refusal, whole_acked};
+    ghost use Rattle.link_machine.specs.AtRest.{end_rests};
     ghost use Rattle.link_machine.specs.Machine.LinkInput.{Take, Tick, Reset, Fetch};
     ghost use Rattle.link_machine.specs.Machine.Turn.{Give, Hold, FetchMessage};
     ghost use Rattle.link_entries.specs.entries.Entries.{told};
@@ -204,6 +205,13 @@ impl Node {
         ensures read { (m : Machine) → NodeStandsFor self.old m → IfSome (next_frame m) (λ c. control_of (lpdu_of c) ≡ Ok c) }
     {
         self.end.next_out(&self.pool)
+    }
+
+    /// Whether the end doesn't wait for the acceptance of a reset, and where it is up all messages sent in its session are acknowledged.
+    pub(crate) fn is_at_rest(&self) -> bool
+        ensures { (m : Machine) → NodeStandsFor self.now m → result ≡ end_rests m }
+    {
+        self.end.is_at_rest()
     }
 }
 

@@ -2,14 +2,37 @@
 ghost use Rattle.std.specs.Prelude.{◌≡◌, ℕ, ◌+◌, ◌*◌, ◌<◌, ◌≤◌, ◌^◌, [], List, length, false, OnOk, IfSome};
 ghost use Rattle.trace_model.specs.declared.line.Line.TheVariants as line;
 ghost use Rattle.link_entries.specs.messages.Links.{Link};
-ghost use Rattle.history.specs.Histories.Cause.{Ticked};
-ghost use Rattle.world.specs.Lines.{SidesStandFor, Does, HasCaused, HaveSent};
+ghost use Rattle.history.specs.Histories.Cause.{Taken, Ticked};
+ghost use Rattle.world.specs.Lines.{SidesStandFor, Does, HasCaused, HasRepeated, HaveSent};
 
 use crate::side::Side;
 use crate::steps::{age_frames, take_frame, tick_end};
 use link_wires::taken;
 use std::alloc::AllocError;
 use trace_model::{End, Entry, NoCause};
+
+/// The end takes so many of the frames that stand on the wire to it, one after another.
+pub(crate) fn take_frames(
+    spare: &mut Vec<u8>,
+    at: End,
+    times: usize,
+    near: &mut Side,
+    far: &mut Side,
+    resets: &mut u32,
+    entries: &mut Vec<Entry>,
+) -> Result<(), AllocError>
+    requires state { (l : Link) × SidesStandFor near.old far.old resets.old at l × HaveSent l 20000 }
+    requires times { times ≤ 64 }
+    requires room { resets.old + 768 < 2 ^ 32 }
+    ensures stands { (l : Link) → SidesStandFor near.old far.old resets.old at l → HaveSent l 20000
+        → OnOk result (HasRepeated near.new far.new resets.new at l (Taken at) times entries.old.items entries.new.items) }
+    ensures grows { resets.new ≤ resets.old + 768 }
+{
+    for _ in 0..times {
+        take_frame(spare, at, near, far, resets, entries)?;
+    }
+    Ok(())
+}
 
 /// A line `deliver`: the end takes so many of the frames that stand on the wire to it, or all of them, or the line is refused
 /// where there is none.
@@ -35,14 +58,12 @@ pub(crate) fn deliver_line(
         })?;
         return Ok(());
     }
-    for _ in 0..taken(count, near.wire.len()) {
-        take_frame(spare, at, near, far, resets, entries)?;
-    }
-    Ok(())
+    let times = taken(count, near.wire.len());
+    take_frames(spare, at, times, near, far, resets, entries)
 }
 
-// One tick of the link, seen from the controller's end: all frames grow older, and then each end has its tick.
-fn tick(
+/// One tick of the link, seen from the controller's end: all frames grow older, and then each end has its tick.
+pub(crate) fn tick(
     at: End,
     near: &mut Side,
     far: &mut Side,

@@ -1,7 +1,10 @@
 //! One side of a link: the node of an end, the frames on the way to it, and the numbers of RSETs that it knows.
-ghost use Rattle.std.specs.Prelude.{◌≡◌, [], IfOk, max};
+ghost use Rattle.std.specs.Prelude.{◌≡◌, ◌&&◌, [], List, IfOk, max};
+ghost use Rattle.link_laws.specs.sessions.Sessions.{OnWire};
 ghost use Rattle.link_machine.specs.Machine.{Bare, new_link_end};
-ghost use Rattle.link_entries.specs.messages.Links.{new_numbered_end};
+ghost use Rattle.link_machine.specs.AtRest.{end_rests};
+ghost use Rattle.link_entries.specs.messages.Links.{NumberedEnd, new_numbered_end};
+ghost use Rattle.link_entries.specs.messages.Rest.{is_clear};
 ghost use Rattle.world.specs.Sides.{SideStandsFor};
 
 use crate::node::{Node, Place};
@@ -49,5 +52,12 @@ impl Side {
             at,
             session: self.emitted.max(self.took),
         }
+    }
+
+    /// Whether no frame is on its way to the end, and the end is at rest.
+    pub(crate) fn rests(&self) -> bool
+        ensures { (h : NumberedEnd) (wire : List OnWire) → SideStandsFor self.now h wire → result ≡ (is_clear wire && end_rests h.side) }
+    {
+        self.wire.is_empty() && self.node.is_at_rest()
     }
 }

@@ -1,9 +1,11 @@
-//! The world of a run, line by line, below either header.
-ghost use Rattle.std.specs.Prelude.{◌≡◌, [], ◌∷◌, ◌++◌, List, IfOk, OnOk, IfErr, None, true};
-ghost use Rattle.trace_model.specs.declared.line.Line.{Line};
+//! The world of a run, line by line and round by round, below either header.
+ghost use Rattle.std.specs.Prelude.{◌≡◌, [], ◌∷◌, ◌++◌, List, IfOk, OnOk, IfErr, None, true, length};
 ghost use Rattle.trace_model.specs.Lines.{IsNodeOf, MayBegin};
 ghost use Rattle.lines_told.specs.Below.{IsPlayedLine, memory_behind, nodes_behind, opening_told, told_below, misread_below};
+ghost use Rattle.lines_told.specs.Plays.{Play, lines_played, rests_behind, told_of_play};
+ghost use Rattle.lines_told.specs.Plays.Play.{Said, Round};
 ghost use Rattle.node_world.specs.Worlds.{IsPeekedSo};
+ghost use Rattle.world.specs.declared.fault.WorldFault.TheVariants as fault;
 ghost use Rattle.world.specs.Worlds.{StandsBelow, last_noted};
 
 use crate::bare_world::BareWorld;
@@ -12,7 +14,7 @@ use link_wires::Misread;
 use node_world::NodeWorld;
 use std::alloc::Global;
 use swp_base::{MemNv, NoMemory};
-use trace_model::{Entry, Header, Line};
+use trace_model::{End, Entry, Header, Line};
 
 /// What a header names: one bare link, or a controller and its hosts.
 #[derive(Drop)]
@@ -29,7 +31,8 @@ pub struct World {
 }
 
 impl World {
-    ghost use Rattle.world.specs.Worlds.{IsWorldAt, HasRoomForLine, IsFaultThere, world_header, world_entries};
+    ghost use Rattle.world.specs.Worlds.{IsWorldAt, HasRoomForLine, HasRoomToSettle, IsFaultThere, world_header, world_entries};
+    ghost use Rattle.lines_told.specs.Below.{frames_below, runs_below};
 
     /// The world that a header names. Below a bare one both ends of its link are Up in session 0, and no frame is on its way; below that
     /// of nodes no node runs yet, and all memories are blank.
@@ -59,14 +62,14 @@ impl World {
     pub fn step(&mut self, alloc: Global, line: &Line) -> Result<(), WorldFault>
         requires room { HasRoomForLine self.old }
         requires line { IsPlayedLine (world_header self.old) line.now }
-        ensures stands { (lines : List Line) → IsWorldAt self.old (world_header self.old) lines
-            → OnOk result (IsWorldAt self.new (world_header self.old) (lines ++ line.now ∷ [])) }
-        ensures entries { (lines : List Line) → IsWorldAt self.old (world_header self.old) lines
-            → OnOk result (world_entries self.new ≡ told_below (world_header self.old) lines line.now) }
-        ensures fault { (lines : List Line) → IsWorldAt self.old (world_header self.old) lines
-            → IfErr result (IsFaultThere (world_header self.old) lines line.now) }
-        ensures told { (lines : List Line) → IsWorldAt self.old (world_header self.old) lines
-            → OnOk result (misread_below (world_header self.old) lines line.now ≡ None) }
+        ensures stands { (plays : List Play) → IsWorldAt self.old (world_header self.old) plays
+            → OnOk result (IsWorldAt self.new (world_header self.old) (plays ++ Said line.now ∷ [])) }
+        ensures entries { (plays : List Play) → IsWorldAt self.old (world_header self.old) plays
+            → OnOk result (world_entries self.new ≡ told_below (world_header self.old) (lines_played (world_header self.old) plays) line.now) }
+        ensures fault { (plays : List Play) → IsWorldAt self.old (world_header self.old) plays
+            → IfErr result (IsFaultThere (world_header self.old) (lines_played (world_header self.old) plays) line.now) }
+        ensures told { (plays : List Play) → IsWorldAt self.old (world_header self.old) plays
+            → OnOk result (misread_below (world_header self.old) (lines_played (world_header self.old) plays) line.now ≡ None) }
         ensures header { world_header self.new ≡ world_header self.old }
     {
         match &mut self.below {
@@ -79,6 +82,67 @@ impl World {
         }
     }
 
+    /// A round: the controller's end of each link and then the host's, the links ascending, takes all frames that stand on the wire to it
+    /// then, where its node runs; and then time passes, one tick. Fewer than 400,000,000 rounds were done before.
+    ///
+    /// # Errors
+    ///
+    /// `NoMemory` where memory runs out. The world is of no use then.
+    pub fn round(&mut self) -> Result<(), WorldFault>
+        requires { HasRoomToSettle self.old }
+        ensures stands { (plays : List Play) → IsWorldAt self.old (world_header self.old) plays
+            → OnOk result (IsWorldAt self.new (world_header self.old) (plays ++ Round ∷ [])) }
+        ensures entries { (plays : List Play) → IsWorldAt self.old (world_header self.old) plays
+            → OnOk result (world_entries self.new ≡ told_of_play (world_header self.old) (lines_played (world_header self.old) plays) Round) }
+        ensures fault { IfErr result (λ why. why ≡ fault.NoMemory) }
+        ensures header { world_header self.new ≡ world_header self.old }
+    {
+        match &mut self.below {
+            Below::Bare(world) => world.round(),
+            Below::Nodes(world) => match world.round() {
+                Ok(()) => Ok(()),
+                Err(_) => Err(WorldFault::NoMemory),
+            },
+        }
+    }
+
+    /// Whether all links are at rest: no frame stands on a wire, no end waits for the acceptance of a reset, and at each end that is up
+    /// all messages sent in its session are acknowledged.
+    pub fn quiet(&self) -> bool
+        requires { (plays : List Play) × IsWorldAt self.now (world_header self.now) plays }
+        ensures { (plays : List Play) → IsWorldAt self.now (world_header self.now) plays
+            → result ≡ rests_behind (world_header self.now) plays }
+    {
+        match &self.below {
+            Below::Bare(world) => world.rests(),
+            Below::Nodes(world) => world.rests(),
+        }
+    }
+
+    /// How many frames are on their way to an end of a link.
+    pub fn standing(&self, link: u8, at_host: bool) -> u16
+        requires { (plays : List Play) × IsWorldAt self.now (world_header self.now) plays }
+        ensures { (plays : List Play) → IsWorldAt self.now (world_header self.now) plays
+            → result ≡ length (frames_below (world_header self.now) (lines_played (world_header self.now) plays)
+            (record { link = link; at_host = at_host })) }
+    {
+        match &self.below {
+            Below::Bare(world) => world.standing(at_host),
+            Below::Nodes(world) => world.standing(End { link, at_host }),
+        }
+    }
+
+    /// Whether a node runs. The ends of a bare world always do.
+    pub fn running(&self, node: u8) -> bool
+        ensures { (plays : List Play) → IsWorldAt self.now (world_header self.now) plays
+            → result ≡ runs_below (world_header self.now) (lines_played (world_header self.now) plays) node }
+    {
+        match &self.below {
+            Below::Bare(_) => true,
+            Below::Nodes(world) => world.running(node),
+        }
+    }
+
     /// The header that the world was made of.
     pub fn header(&self) -> &Header
         ensures { result.now ≡ world_header self.now }
@@ -86,7 +150,7 @@ impl World {
         &self.header
     }
 
-    /// What the last line caused, in order; before the first line, what the header did. The lines themselves aren't in it.
+    /// What the last line or round caused, in order; before the first, what the header did. The lines themselves aren't in it.
     pub fn entries(&self) -> &[Entry]
         ensures { result.now ≡ world_entries self.now }
     {
@@ -98,13 +162,13 @@ impl World {
 
     /// The memory of a node as it is now, whether the node runs or not.
     pub fn into_memory(self, node: u8) -> MemNv
-        requires state { (lines : List Line) × IsWorldAt self (world_header self) lines }
+        requires state { (plays : List Play) × IsWorldAt self (world_header self) plays }
         requires nodes { (world_header self).hci ≡ true }
         requires node { IsNodeOf (world_header self).hosts.items node }
-        ensures memory { (lines : List Line) → IsWorldAt self (world_header self) lines
-            → result ≡ memory_behind (world_header self) lines node }
-        ensures found { (lines : List Line) → IsWorldAt self (world_header self) lines
-            → IsPeekedSo (nodes_behind (world_header self) lines) node result.content }
+        ensures memory { (plays : List Play) → IsWorldAt self (world_header self) plays
+            → result ≡ memory_behind (world_header self) (lines_played (world_header self) plays) node }
+        ensures found { (plays : List Play) → IsWorldAt self (world_header self) plays
+            → IsPeekedSo (nodes_behind (world_header self) (lines_played (world_header self) plays)) node result.content }
     {
         match self.below {
             Below::Bare(_) => unreachable!(),

@@ -27,7 +27,7 @@ pub loop-init : goal.loop-init
 loop-init g c = record {
   goes = λ header w world may.
       again_begins g.row.C.Denot g.row.P.Denot g.C.WorldNode.runs g.C.WorldNode.memory g.P.WorldNode.runs g.P.WorldNode.memory w
-      (Takes c.args.at) c.args.controller.now c.args.sites.now c.args.noted.now.entries.items c.requires.nothing world may.goes_on may.few;
+      (Takes c.args.at) 250000000 c.args.controller.now c.args.sites.now c.args.noted.now.entries.items world may.goes_on may.few;
   short = c.requires.memory;
 }
 
@@ -41,7 +41,7 @@ take_frame-requires-clause-state g c =
     let below : c.loop.counter < c.taken-times.result = c.loop-test.true in
     let a = c.loop.invariant.goes s.0 s.1 s.2 s.3 in
     let ready = bounds_again g.row.C.Denot g.row.P.Denot g.C.WorldNode.runs g.C.WorldNode.memory g.P.WorldNode.runs g.P.WorldNode.memory s.1 (Takes
-    c.args.at) c.loop.counter a.behind (omega (arith, many, few, below)) a.goes_on a.few in
+    c.args.at) 250000000 c.loop.counter a.behind (omega arith) (omega (arith, many, few, below)) a.goes_on a.few in
     let there = there_still c.args.at.link a.behind s.1 a.hosts (is_there c.args.at.link s.3 s.3.is_line.may_follow.0) in
     (a.behind, a.world, ready, there)
 
@@ -55,13 +55,13 @@ loop-preserved g c = record {
       let below : c.loop.counter < c.taken-times.result = c.loop-test.true in
       let a = c.loop.invariant.goes header w world may in
       let ready = bounds_again g.row.C.Denot g.row.P.Denot g.C.WorldNode.runs g.C.WorldNode.memory g.P.WorldNode.runs g.P.WorldNode.memory w (Takes
-      c.args.at) c.loop.counter a.behind (omega (arith, many, few, below)) a.goes_on a.few in
+      c.args.at) 250000000 c.loop.counter a.behind (omega arith) (omega (arith, many, few, below)) a.goes_on a.few in
       let there = there_still c.args.at.link a.behind w a.hosts (is_there c.args.at.link may may.is_line.may_follow.0) in
       let can : is_running a.behind (node_of c.args.at) ≡ true =
       sym (c.runs.ensures a.behind a.world a.goes_on ∙ ap (λ n. is_running a.behind n) c.node_of.ensures) ∙ c.if-not-runs.false in
       again_next g.row.C.Denot g.row.P.Denot g.C.WorldNode.runs g.C.WorldNode.memory g.P.WorldNode.runs g.P.WorldNode.memory w
-      (Takes c.args.at) c.loop.controller c.take_frame.new.controller c.loop.sites c.take_frame.new.sites c.loop.noted.entries.items
-      c.take_frame.new.noted.entries.items c.loop.counter a can (hosts_come a.behind c.args.at NextFrame)
+      (Takes c.args.at) 250000000 c.loop.controller c.take_frame.new.controller c.loop.sites c.take_frame.new.sites c.args.noted.now.entries.items
+      c.loop.noted.entries.items c.take_frame.new.noted.entries.items c.loop.counter a can (hosts_come a.behind c.args.at NextFrame)
       (c.in_ok-take_frame.ensures.stands a.behind a.world ready there);
   short = c.in_ok-take_frame.ensures.memory;
 }
@@ -71,20 +71,17 @@ returns-then-not-runs-clause-stands g c header w world may =
     let n : ℕ = taken_of c.args.count (frames_at w c.args.at) in
     let many : c.taken-times.result ≡ taken_of c.args.count (frames_at w c.args.at) =
     c.taken-times.ensures (frames_at w c.args.at) (sym (c.on_the_way.ensures w world.sites may.goes_on)) in
-    let few : taken_of c.args.count (frames_at w c.args.at) ≤ 64 = taken_within c.args.count (frames_at w c.args.at)
-    (few_on_way g.row.P.Denot g.P.WorldNode.runs g.P.WorldNode.memory c.args.at c.args.at.link c.args.sites.now w.sites world.sites) in
     let below : c.loop.counter < c.taken-times.result = c.loop-test.true in
     let a = c.loop.invariant.goes header w world may in
-    let ready = bounds_again g.row.C.Denot g.row.P.Denot g.C.WorldNode.runs g.C.WorldNode.memory g.P.WorldNode.runs g.P.WorldNode.memory w (Takes
-    c.args.at) c.loop.counter a.behind (omega (arith, many, few, below)) a.goes_on a.few in
-    let there = there_still c.args.at.link a.behind w a.hosts (is_there c.args.at.link may may.is_line.may_follow.0) in
     let not : is_running a.behind (node_of c.args.at) ≡ false =
     sym (c.runs.ensures a.behind a.world a.goes_on ∙ ap (λ n. is_running a.behind n) c.node_of.ensures) ∙ c.if-not-runs.true in
     again_plays g.row.C.Denot g.row.P.Denot g.C.WorldNode.runs g.C.WorldNode.memory g.P.WorldNode.runs g.P.WorldNode.memory w
-    (Takes c.args.at) (line.Deliver c.args.at c.args.count) c.loop.controller c.loop.sites c.loop.noted.entries.items c.loop.counter n a
+    (Takes c.args.at) 250000000 (line.Deliver c.args.at c.args.count) c.loop.controller c.loop.sites c.args.noted.now.entries.items
+    c.loop.noted.entries.items c.loop.counter n a c.requires.nothing
     (sym (c.no_frame.ensures w world may.goes_on) ∙ no_some c.no_frame.result c.in_default.not-Some) refl
     (again_stops g.row.C.Denot g.row.P.Denot g.C.WorldNode.runs g.C.WorldNode.memory g.P.WorldNode.runs g.P.WorldNode.memory w
-    (Takes c.args.at) c.loop.controller c.loop.sites c.loop.noted.entries.items c.loop.counter n a (omega (arith, many, below)) not)
+    (Takes c.args.at) 250000000 c.loop.controller c.loop.sites c.args.noted.now.entries.items c.loop.noted.entries.items c.loop.counter n a
+    (omega (arith, many, below)) not)
 
 pub returns-clause-stands : goal.returns-clause-stands
 returns-clause-stands g c header w world may =
@@ -94,8 +91,9 @@ returns-clause-stands g c header w world may =
     let last : c.loop.counter ≡ c.taken-times.result = omega (arith, c.loop-test.false, c.loop.auto.counter-end) in
     let a = c.loop.invariant.goes header w world may in
     again_plays g.row.C.Denot g.row.P.Denot g.C.WorldNode.runs g.C.WorldNode.memory g.P.WorldNode.runs g.P.WorldNode.memory w
-    (Takes c.args.at) (line.Deliver c.args.at c.args.count) c.loop.controller c.loop.sites c.loop.noted.entries.items c.loop.counter c.loop.counter a
+    (Takes c.args.at) 250000000 (line.Deliver c.args.at c.args.count) c.loop.controller c.loop.sites c.args.noted.now.entries.items
+    c.loop.noted.entries.items c.loop.counter c.loop.counter a c.requires.nothing
     (sym (c.no_frame.ensures w world may.goes_on) ∙ no_some c.no_frame.result c.in_default.not-Some) (ap (λ k. so_often w (Takes c.args.at) k) (sym
     (last ∙ many)))
     (again_ends g.row.C.Denot g.row.P.Denot g.C.WorldNode.runs g.C.WorldNode.memory g.P.WorldNode.runs g.P.WorldNode.memory w
-    (Takes c.args.at) c.loop.controller c.loop.sites c.loop.noted.entries.items c.loop.counter a)
+    (Takes c.args.at) 250000000 c.loop.controller c.loop.sites c.args.noted.now.entries.items c.loop.noted.entries.items c.loop.counter a)

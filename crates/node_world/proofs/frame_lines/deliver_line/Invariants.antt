@@ -15,7 +15,8 @@ invariant-loop g l =
       goes : (header : Header) (w : NodeWorld)
           → WorldIs g.C.WorldNode.runs g.C.WorldNode.memory g.P.WorldNode.runs g.P.WorldNode.memory l.initial.controller l.initial.sites w
           → MayPlay header (line.Deliver l.fn.at l.fn.count) w
-          → Again g.C.WorldNode.runs g.C.WorldNode.memory g.P.WorldNode.runs g.P.WorldNode.memory l.controller l.sites l.noted.entries.items w
+          → Again g.C.WorldNode.runs g.C.WorldNode.memory g.P.WorldNode.runs g.P.WorldNode.memory l.controller l.sites 250000000
+          l.initial.noted.entries.items l.noted.entries.items w
           (Takes l.fn.at) l.counter;
       short : l.noted.short ≡ false;
     }

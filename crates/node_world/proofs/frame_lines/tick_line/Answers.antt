@@ -11,7 +11,7 @@ pub loop-init : goal.loop-init
 loop-init g c = record {
   goes = λ header w world may.
       again_begins g.row.C.Denot g.row.P.Denot g.C.WorldNode.runs g.C.WorldNode.memory g.P.WorldNode.runs g.P.WorldNode.memory w
-      Ticks c.args.controller.now c.args.sites.now c.args.noted.now.entries.items c.requires.nothing world may.goes_on may.few;
+      Ticks 250000000 c.args.controller.now c.args.sites.now c.args.noted.now.entries.items world may.goes_on may.few;
   short = c.requires.memory;
 }
 
@@ -23,9 +23,9 @@ tick_world-requires-clause-state g c =
     let below : c.loop.counter < c.unwrap_or-end.result = c.loop-test.true in
     let a = c.loop.invariant.goes s.0 s.1 s.2 s.3 in
     let ready = bounds_again g.row.C.Denot g.row.P.Denot g.C.WorldNode.runs g.C.WorldNode.memory g.P.WorldNode.runs g.P.WorldNode.memory s.1 Ticks
-    c.loop.counter a.behind (omega (arith, many, few, below)) a.goes_on a.few in
+    250000000 c.loop.counter a.behind (omega arith) (omega (arith, many, few, below)) a.goes_on a.few in
     let ends = again_ends g.row.C.Denot g.row.P.Denot g.C.WorldNode.runs g.C.WorldNode.memory g.P.WorldNode.runs g.P.WorldNode.memory s.1 Ticks
-    c.loop.controller c.loop.sites c.loop.noted.entries.items c.loop.counter a in
+    250000000 c.loop.controller c.loop.sites c.args.noted.now.entries.items c.loop.noted.entries.items c.loop.counter a in
     let timely : AreTimely a.behind = subst AreTimely (ap (λ p. p.0) ends)
     (s.3.ticks c.args.times refl c.loop.counter (omega (arith, many, below))) in
     (a.behind, a.world, ready, timely)
@@ -38,14 +38,14 @@ loop-preserved g c = record {
       let below : c.loop.counter < c.unwrap_or-end.result = c.loop-test.true in
       let a = c.loop.invariant.goes header w world may in
       let ready = bounds_again g.row.C.Denot g.row.P.Denot g.C.WorldNode.runs g.C.WorldNode.memory g.P.WorldNode.runs g.P.WorldNode.memory w Ticks
-      c.loop.counter a.behind (omega (arith, many, few, below)) a.goes_on a.few in
+      250000000 c.loop.counter a.behind (omega arith) (omega (arith, many, few, below)) a.goes_on a.few in
       let ends = again_ends g.row.C.Denot g.row.P.Denot g.C.WorldNode.runs g.C.WorldNode.memory g.P.WorldNode.runs g.P.WorldNode.memory w Ticks
-      c.loop.controller c.loop.sites c.loop.noted.entries.items c.loop.counter a in
+      250000000 c.loop.controller c.loop.sites c.args.noted.now.entries.items c.loop.noted.entries.items c.loop.counter a in
       let timely : AreTimely a.behind = subst AreTimely (ap (λ p. p.0) ends)
       (may.ticks c.args.times refl c.loop.counter (omega (arith, many, below))) in
       again_next g.row.C.Denot g.row.P.Denot g.C.WorldNode.runs g.C.WorldNode.memory g.P.WorldNode.runs g.P.WorldNode.memory w
-      Ticks c.loop.controller c.tick_world.new.controller c.loop.sites c.tick_world.new.sites c.loop.noted.entries.items
-      c.tick_world.new.noted.entries.items c.loop.counter a refl (hosts_tick_too a.behind)
+      Ticks 250000000 c.loop.controller c.tick_world.new.controller c.loop.sites c.tick_world.new.sites c.args.noted.now.entries.items
+      c.loop.noted.entries.items c.tick_world.new.noted.entries.items c.loop.counter a refl (hosts_tick_too a.behind)
       (c.in_ok-tick_world.ensures.stands a.behind a.world ready timely);
   short = c.in_ok-tick_world.ensures.memory;
 }
@@ -55,7 +55,7 @@ returns-clause-stands g c header w world may =
     let last : c.loop.counter ≡ c.unwrap_or-end.result = omega (arith, c.loop-test.false, c.loop.auto.counter-end) in
     let a = c.loop.invariant.goes header w world may in
     again_plays g.row.C.Denot g.row.P.Denot g.C.WorldNode.runs g.C.WorldNode.memory g.P.WorldNode.runs g.P.WorldNode.memory w
-    Ticks (line.Tick c.args.times) c.loop.controller c.loop.sites c.loop.noted.entries.items c.loop.counter c.loop.counter a
-    refl (ap (λ k. so_often w Ticks k) (sym (last ∙ c.unwrap_or-end.ensures)))
+    Ticks 250000000 (line.Tick c.args.times) c.loop.controller c.loop.sites c.args.noted.now.entries.items c.loop.noted.entries.items
+    c.loop.counter c.loop.counter a c.requires.nothing refl (ap (λ k. so_often w Ticks k) (sym (last ∙ c.unwrap_or-end.ensures)))
     (again_ends g.row.C.Denot g.row.P.Denot g.C.WorldNode.runs g.C.WorldNode.memory g.P.WorldNode.runs g.P.WorldNode.memory w
-    Ticks c.loop.controller c.loop.sites c.loop.noted.entries.items c.loop.counter a)
+    Ticks 250000000 c.loop.controller c.loop.sites c.args.noted.now.entries.items c.loop.noted.entries.items c.loop.counter a)

@@ -24,20 +24,20 @@ use Rattle.node_world.proofs.happening.activate_link.Goals as goal
 abbrev near : NodeWorld → ℕ → ℕ → NodeWorld × List Entry
 near w h power = comes_at w (end_c h) (Starts power)
 
-near_within : (w : NodeWorld) (h power : ℕ) → MayGoOn w → FewBehind 200000000 w → IsWithinBounds (near w h power).0
+near_within : (w : NodeWorld) (h power : ℕ) → MayGoOn w → FewBehind 250000000 w → IsWithinBounds (near w h power).0
 near_within w h power may few = record {
   goes_on = record {
     orderly = (comes_goes w (end_c h) (Starts power) may.orderly).orderly;
     hosts = subst (AllByRecursion IsHost) (sym (hosts_come w (end_c h) (Starts power))) may.hosts;
   };
-  few = longer (200000000 + 1) 300000000 (near w h power).0 (omega arith) (few_behind_coming 200000000 w (end_c h) (Starts power) few);
+  few = longer (250000000 + 1) 300000000 (near w h power).0 (omega arith) (few_behind_coming 250000000 w (end_c h) (Starts power) few);
 }
 
 near_there : (w : NodeWorld) (h power : ℕ) → IsThere h w → IsThere h (near w h power).0
 near_there w h power there = there_still h (near w h power).0 w (hosts_come w (end_c h) (Starts power)) there
 
-few_so : (w : NodeWorld) → FewBehind 200000000 w → FewBehind 300000000 w
-few_so w few = longer 200000000 300000000 w (omega arith) few
+few_so : (w : NodeWorld) → FewBehind 250000000 w → FewBehind 300000000 w
+few_so w few = longer 250000000 300000000 w (omega arith) few
 
 -- both steps, one behind the other
 module _ (C P : Type 0) (CRuns : C → Core → List Port → Type 0) (c_memory : C → Memory) (PRuns : P → Core → List Port → Type 0)

@@ -1,10 +1,15 @@
-use Rattle.std.proofs.Common.{◌≡◌, ℕ, suc, ◌+◌, replicate, refl, sym, ap, subst, ◌∙◌, arith}
+use Rattle.std.proofs.Common.{◌≡◌, ℕ, suc, ◌+◌, List, replicate, refl, sym, ap, subst, ◌∙◌, arith}
+use Rattle.trace_model.specs.declared.entry.Entry.{Entry}
 use Rattle.std.specs.Prelude.{unwrap_or}
 use Rattle.history.specs.Histories.Cause.{Ticked}
 use Rattle.history.specs.Steps.{link_after_all}
 use Rattle.world.proofs.Given.{sent_repeated}
-use Rattle.world.proofs.Repeating.{HasRepeated, repeats_more, repeats_does}
+use Rattle.world.specs.Lines.{HasRepeated}
+use Rattle.world.proofs.Repeating.{repeats_none, repeats_more, repeats_does}
 use Rattle.world.proofs.repeats.tick_line.Goals as goal
+
+pub loop-init : goal.loop-init
+loop-init c = (λ l h sent. repeats_none h, omega arith)
 
 pub tick-requires-clause-state : goal.tick-requires-clause-state
 tick-requires-clause-state c =
@@ -24,7 +29,8 @@ loop-preserved c =
           let r = c.loop.invariant.0 l h sent in
           let more : suc k ≡ k + 1 = omega arith in
           let P : ℕ → Type 0 = λ n.
-          HasRepeated c.tick.new.near c.tick.new.far c.tick.new.resets c.args.at l Ticked n c.tick.new.entries.items in
+          HasRepeated c.tick.new.near c.tick.new.far c.tick.new.resets c.args.at l Ticked n c.args.entries.now.items
+          c.tick.new.entries.items in
           subst P more
           (repeats_more r
           (c.in_ok-tick.ensures.stands (link_after_all l (replicate k Ticked)) r.stands (sent_repeated 20000 k l Ticked tt sent)))),
@@ -35,4 +41,6 @@ pub returns-clause-stands : goal.returns-clause-stands
 returns-clause-stands c l h sent =
     let last : c.loop.counter ≡ c.unwrap_or-end.result = omega (arith, c.loop-test.false, c.loop.auto.counter-end) in
     let same : c.loop.counter ≡ unwrap_or c.args.times 1 = last ∙ c.unwrap_or-end.ensures in
-    repeats_does (c.loop.invariant.0 l h sent) refl (ap (λ n. replicate n Ticked) (sym same))
+    let P : List Entry → Type 0 = λ before.
+    HasRepeated c.loop.near c.loop.far c.loop.resets c.args.at l Ticked c.loop.counter before c.loop.entries.items in
+    repeats_does (subst P c.requires.nothing (c.loop.invariant.0 l h sent)) refl (ap (λ n. replicate n Ticked) (sym same))

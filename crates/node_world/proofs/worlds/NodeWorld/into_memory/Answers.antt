@@ -1,6 +1,7 @@
 use Rattle.std.proofs.Common.{List, sym, subst}
 use Rattle.std.proofs.lemmas.Bool.{eq-eqb, ne_eqb}
 use Rattle.lines_told.specs.Below.{nodes_behind}
+use Rattle.lines_told.specs.Plays.{lines_played}
 use Rattle.node_world.specs.WorldNodes.{RunsAsHost}
 use Rattle.node_world.specs.Controllers.{SitesAre}
 use Rattle.node_world.specs.Worlds.{node_memory}
@@ -11,39 +12,39 @@ pub kept_memory-requires : goal.kept_memory-requires
 kept_memory-requires c = let r = c.requires.state in controller_is_one c.args.self r.0 r.1 r.2
 
 pub returns-then-node-eq0-clause-memory : goal.returns-then-node-eq0-clause-memory
-returns-then-node-eq0-clause-memory c header lines s node =
-    controller_kept c.args.self header lines c.args.node s (eq-eqb c.args.node 0 c.if-node-eq0.true) c.kept_memory.result c.kept_memory.ensures
+returns-then-node-eq0-clause-memory c header plays s node =
+    controller_kept c.args.self header plays c.args.node s (eq-eqb c.args.node 0 c.if-node-eq0.true) c.kept_memory.result c.kept_memory.ensures
 
 pub returns-then-node-eq0-clause-found : goal.returns-then-node-eq0-clause-found
-returns-then-node-eq0-clause-found c header lines s node =
-    found_behind c.args.self header lines c.args.node s node c.kept_memory.result
-    (controller_kept c.args.self header lines c.args.node s (eq-eqb c.args.node 0 c.if-node-eq0.true) c.kept_memory.result c.kept_memory.ensures)
+returns-then-node-eq0-clause-found c header plays s node =
+    found_behind c.args.self header plays c.args.node s node c.kept_memory.result
+    (controller_kept c.args.self header plays c.args.node s (eq-eqb c.args.node 0 c.if-node-eq0.true) c.kept_memory.result c.kept_memory.ensures)
 
 pub kept_memory-requires-in-Some : goal.kept_memory-requires-in-Some
 kept_memory-requires-in-Some c =
     let r = c.requires.state in
-    let S : List _ → Type 0 = λ ks. SitesAre RunsAsHost node_memory ks (nodes_behind r.0 r.1).sites in
-    let a = c.in-Some.ensures.place (nodes_behind r.0 r.1).sites (subst S (sym c.as_slice.ensures.value) r.2.stands.sites) in
+    let S : List _ → Type 0 = λ ks. SitesAre RunsAsHost node_memory ks (nodes_behind r.0 (lines_played r.0 r.1)).sites in
+    let a = c.in-Some.ensures.place (nodes_behind r.0 (lines_played r.0 r.1)).sites (subst S (sym c.as_slice.ensures.value) r.2.stands.sites) in
     host_is_one c.args.self r.0 r.1 c.in-Some.place c.args.node r.2 a c.remove-site.result c.remove-site.ensures.value
 
 pub unreachable-requires : goal.unreachable-requires
 unreachable-requires c =
     let r = c.requires.state in
-    let S : List _ → Type 0 = λ ks. SitesAre RunsAsHost node_memory ks (nodes_behind r.0 r.1).sites in
-    let none = c.in-None.ensures.place (nodes_behind r.0 r.1).sites (subst S (sym c.as_slice.ensures.value) r.2.stands.sites) in
+    let S : List _ → Type 0 = λ ks. SitesAre RunsAsHost node_memory ks (nodes_behind r.0 (lines_played r.0 r.1)).sites in
+    let none = c.in-None.ensures.place (nodes_behind r.0 (lines_played r.0 r.1)).sites (subst S (sym c.as_slice.ensures.value) r.2.stands.sites) in
     host_is_there c.args.self r.0 r.1 c.args.node r.2 r.3 (ne_eqb c.args.node 0 c.if-node-eq0.false) none
 
 pub returns-clause-memory : goal.returns-clause-memory
-returns-clause-memory c header lines s node =
-    let S : List _ → Type 0 = λ ks. SitesAre RunsAsHost node_memory ks (nodes_behind header lines).sites in
-    let a = c.in-Some.ensures.place (nodes_behind header lines).sites (subst S (sym c.as_slice.ensures.value) s.stands.sites) in
-    host_kept c.args.self header lines c.args.node c.in-Some.place s node (ne_eqb c.args.node 0 c.if-node-eq0.false) a c.remove-site.result
+returns-clause-memory c header plays s node =
+    let S : List _ → Type 0 = λ ks. SitesAre RunsAsHost node_memory ks (nodes_behind header (lines_played header plays)).sites in
+    let a = c.in-Some.ensures.place (nodes_behind header (lines_played header plays)).sites (subst S (sym c.as_slice.ensures.value) s.stands.sites) in
+    host_kept c.args.self header plays c.args.node c.in-Some.place s node (ne_eqb c.args.node 0 c.if-node-eq0.false) a c.remove-site.result
     c.remove-site.ensures.value c.kept_memory-in-Some.result c.kept_memory-in-Some.ensures
 
 pub returns-clause-found : goal.returns-clause-found
-returns-clause-found c header lines s node =
-    let S : List _ → Type 0 = λ ks. SitesAre RunsAsHost node_memory ks (nodes_behind header lines).sites in
-    let a = c.in-Some.ensures.place (nodes_behind header lines).sites (subst S (sym c.as_slice.ensures.value) s.stands.sites) in
-    found_behind c.args.self header lines c.args.node s node c.kept_memory-in-Some.result
-    (host_kept c.args.self header lines c.args.node c.in-Some.place s node (ne_eqb c.args.node 0 c.if-node-eq0.false) a c.remove-site.result
+returns-clause-found c header plays s node =
+    let S : List _ → Type 0 = λ ks. SitesAre RunsAsHost node_memory ks (nodes_behind header (lines_played header plays)).sites in
+    let a = c.in-Some.ensures.place (nodes_behind header (lines_played header plays)).sites (subst S (sym c.as_slice.ensures.value) s.stands.sites) in
+    found_behind c.args.self header plays c.args.node s node c.kept_memory-in-Some.result
+    (host_kept c.args.self header plays c.args.node c.in-Some.place s node (ne_eqb c.args.node 0 c.if-node-eq0.false) a c.remove-site.result
     c.remove-site.ensures.value c.kept_memory-in-Some.result c.kept_memory-in-Some.ensures)

@@ -15,4 +15,4 @@ returns-clause-stands c =
     let masked = c.mask_of.ensures
     ∙ ap (λ (hosts : List ℕ). mask_of (hosts_where (λ (host : ℕ). list_any (λ (k : ℕ). k == host) hosts))) c.as_slice-2.ensures.value in
     stands_at_first _ c.args.header.now c.requires refl (ap (λ m. Some m) c.in_ok-new.ensures)
-    (subst S c.as_slice.ensures.value c.in_ok-make_sites.ensures) masked refl refl
+    (subst S c.as_slice.ensures.value c.in_ok-make_sites.ensures) masked refl refl refl

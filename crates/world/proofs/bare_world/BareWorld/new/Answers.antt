@@ -13,7 +13,8 @@ returns-clause-stands c =
       host = c.in_ok-make-2.field-0;
       resets = 0;
       stepped = 0;
+      rounds = 0;
       entries = c.in_ok-opening.field-0;
       spare = c.new.result;
     } in
-    new_stands law w c.args.header.now c.requires c.in_ok-clone.ensures.cases c.in_ok-make.ensures c.in_ok-make-2.ensures refl refl
+    new_stands law w c.args.header.now c.requires c.in_ok-clone.ensures.cases c.in_ok-make.ensures c.in_ok-make-2.ensures refl refl refl

@@ -1,22 +1,22 @@
 use Rattle.std.proofs.Common.{List, ◌≡◌, ◌+◌, true, false, refl, sym, ap, subst, ◌∙◌}
 use Rattle.std.specs.Prelude.{None}
 use Rattle.trace_model.specs.declared.line.End.{End}
-use Rattle.trace_model.specs.declared.line.Line.{Line}
 use Rattle.link_entries.specs.messages.Links.{Link}
 use Rattle.history.specs.Histories.{History}
 use Rattle.history.specs.Follows.{link_at}
 use Rattle.world.specs.declared.bare_world.BareWorld.{BareWorld}
 use Rattle.world.specs.Lines.{end_for}
+use Rattle.lines_told.specs.Plays.{Play}
 use Rattle.world.specs.BareWorlds.{WorldStandsFor}
 use Rattle.world.proofs.LineLemmas.{seen_at_host, seen_at_controller}
-use Rattle.world.proofs.BareWorlds.{Law, WasStepped, Grows, controller_of, host_grows, controller_grows, few_sent, none_misread, one_misread}
+use Rattle.world.proofs.BareWorlds.{Law, WasStepped, Grows, controller_of, host_grows, controller_grows, few_sent, few_said, none_misread, one_misread}
 use Rattle.world.proofs.bare_world.BareWorld.step.Goals as goal
 use Rattle.world.proofs.bare_world.BareWorld.step.Goals.{then-at+in_ok-play_line, else-at+in_ok-play_line-2}
 
 -- what the line adds, on whichever side the end is from which it is seen
-grown : (c : goal.In-None) (lines : List Line) (t : History) → WorldStandsFor c.args.self.now c.args.self.now.header lines t
-    → Grows c.if-at.self c.args.self.now.header lines t c.args.line.now
-grown c lines t h =
+grown : (c : goal.In-None) (plays : List Play) (t : History) → WorldStandsFor c.args.self.now c.args.self.now.header plays t
+    → Grows c.if-at.self c.args.self.now.header plays t c.args.line.now
+grown c plays t h =
     let e = c.every_history_is_legal.ensures in
     let law : Law = record { in_order = e.in_order; joined = e.joined; complete = e.complete; settled = e.settled } in
     let seen : c.end_of-at.result ≡ end_for (controller_of c.args.self.now.header) c.args.line.now =
@@ -32,6 +32,7 @@ grown c lines t h =
             host = w.play_line.new.near;
             resets = w.play_line.new.resets;
             stepped = old.stepped + 1;
+            rounds = old.rounds;
             entries = w.play_line.new.entries;
             spare = w.play_line.new.spare;
           } in
@@ -39,18 +40,19 @@ grown c lines t h =
           let stands = seen_at_host at side h.link in
           let o = w.play_line.new.other in
           let none : o ≡ None = sym w.other-is ∙ c.in-None.is in
-          let stepped : WasStepped old now old.header lines t c.args.line.now =
+          let stepped : WasStepped old now old.header plays t c.args.line.now =
           record {
             before = h;
             is_line = c.requires.line;
+            room = few_said c.requires.room h;
             header_is = refl;
             none_misread = none_misread l c.args.line.now o none (w.in_ok-play_line.ensures.misread l stands);
-            resets = w.in_ok-play_line.ensures.grows;
             counted = refl;
+            same = refl;
           } in
-          let P : BareWorld → Type 0 = λ x. Grows x old.header lines t c.args.line.now in
+          let P : BareWorld → Type 0 = λ x. Grows x old.header plays t c.args.line.now in
           subst P (sym w.self-is)
-          (host_grows law stepped seen side (w.in_ok-play_line.ensures.stands l stands (few_sent c.requires.room h) none)))
+          (host_grows law stepped seen side (w.in_ok-play_line.ensures.stands l stands (few_sent h) none)))
       | else-at+in_ok-play_line-2 w ↦
           (let l : Link = link_at t in
           let old : BareWorld = c.args.self.now in
@@ -61,6 +63,7 @@ grown c lines t h =
             host = w.play_line-else-at.new.far;
             resets = w.play_line-else-at.new.resets;
             stepped = old.stepped + 1;
+            rounds = old.rounds;
             entries = w.play_line-else-at.new.entries;
             spare = w.play_line-else-at.new.spare;
           } in
@@ -68,28 +71,29 @@ grown c lines t h =
           let stands = seen_at_controller at side h.link in
           let o = w.play_line-else-at.new.other in
           let none : o ≡ None = sym w.other-is ∙ c.in-None.is in
-          let stepped : WasStepped old now old.header lines t c.args.line.now =
+          let stepped : WasStepped old now old.header plays t c.args.line.now =
           record {
             before = h;
             is_line = c.requires.line;
+            room = few_said c.requires.room h;
             header_is = refl;
             none_misread = none_misread l c.args.line.now o none (w.in_ok-play_line-2.ensures.misread l stands);
-            resets = w.in_ok-play_line-2.ensures.grows;
             counted = refl;
+            same = refl;
           } in
-          let P : BareWorld → Type 0 = λ x. Grows x old.header lines t c.args.line.now in
+          let P : BareWorld → Type 0 = λ x. Grows x old.header plays t c.args.line.now in
           subst P (sym w.self-is)
-          (controller_grows law stepped seen side (w.in_ok-play_line-2.ensures.stands l stands (few_sent c.requires.room h) none)))
+          (controller_grows law stepped seen side (w.in_ok-play_line-2.ensures.stands l stands (few_sent h) none)))
     ]
 
 pub returns-in-None-clause-stands : goal.returns-in-None-clause-stands
-returns-in-None-clause-stands c lines t h = (grown c lines t h).stands
+returns-in-None-clause-stands c plays t h = (grown c plays t h).stands
 
 pub returns-in-None-clause-entries : goal.returns-in-None-clause-entries
-returns-in-None-clause-entries c lines t h = (grown c lines t h).entries_are
+returns-in-None-clause-entries c plays t h = (grown c plays t h).entries_are
 
 pub returns-in-Some-clause-fault : goal.returns-in-Some-clause-fault
-returns-in-Some-clause-fault c lines t h =
+returns-in-Some-clause-fault c plays t h =
     elim c.if-at.branch [
       | then-at+in_ok-play_line w ↦
           (let old : BareWorld = c.args.self.now in

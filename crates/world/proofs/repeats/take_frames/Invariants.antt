@@ -1,12 +1,11 @@
 use Rattle.std.proofs.Common.{◌+◌, ◌*◌, ◌≤◌}
 use Rattle.link_entries.specs.messages.Links.{Link}
 use Rattle.history.specs.Histories.Cause.{Taken}
-use Rattle.world.specs.Lines.{SidesStandFor, HaveSent}
-use Rattle.world.proofs.Repeating.{HasRepeated}
-use Rattle.world.proofs.repeats.deliver_line.Given as goal
+use Rattle.world.specs.Lines.{SidesStandFor, HasRepeated, HaveSent}
+use Rattle.world.proofs.repeats.take_frames.Given as goal
 
 abbrev pub invariant-loop : goal.invariant-loop
 invariant-loop l =
     ((k : Link) → SidesStandFor l.initial.near l.initial.far l.initial.resets l.at k → HaveSent k 20000
-    → HasRepeated l.near l.far l.resets l.at k (Taken l.at) l.counter l.entries.items)
+    → HasRepeated l.near l.far l.resets l.at k (Taken l.at) l.counter l.initial.entries.items l.entries.items)
     × (l.resets ≤ l.initial.resets + 12 * l.counter)

@@ -1,0 +1,296 @@
+-- The ends of a world take what stands on their wires, one after another: which world stands behind them, and what is kept of it.
+use Rattle.std.proofs.Common.{◌≡◌, ℕ, zero, suc, ◌+◌, ◌*◌, ◌<◌, ◌≤◌, ◌==◌, Bool, true, false, List, [], ◌∷◌, ◌++◌, length, get_or, map, refl, ap, sym, subst}
+use Rattle.std.proofs.Common.{◌∙◌, append_assoc, append-nil, arith, length-append}
+use Rattle.std.specs.Prelude.{Some, replicate}
+use Rattle.std.specs.List.{AllByRecursion}
+use Rattle.std.proofs.lemmas.Bool.{eq-eqb}
+use Rattle.std.proofs.lemmas.Grind.{flat_map-append}
+use Rattle.std.proofs.lemmas.List.{length-map}
+use Rattle.swp_base.specs.InMemory.{Memory}
+use Rattle.trace_model.specs.Lines.{IsHost}
+use Rattle.trace_model.specs.declared.entry.Entry.{Entry}
+use Rattle.trace_model.specs.declared.line.End.{End}
+use Rattle.link_entries.specs.messages.Links.Comes.{NextFrame}
+use Rattle.node_machine.specs.Parts.{Core, Port}
+use Rattle.node_machine.specs.world.World.{NodeWorld, Site, end_c, end_h, site_at, world_step, world_ticks}
+use Rattle.node_machine.specs.world.World.Happening.{Takes}
+use Rattle.node_machine.specs.world.Lines.{Occurrence, all_happen, can_happen, frames_at}
+use Rattle.node_machine.specs.world.NodeHistories.{entries_in}
+use Rattle.node_machine.specs.world.Rounds.{end_takes_all, ends_in_order, ends_take_all, world_round}
+use Rattle.node_laws.specs.telling.Telling.{hosts_in}
+use Rattle.node_laws.proofs.telling.Orderly.{step_orderly}
+use Rattle.node_order.proofs.rounds.Ends.{ends_of, order_is}
+use Rattle.node_world.specs.declared.controller.ControllerPlace.{ControllerPlace}
+use Rattle.node_world.specs.declared.places.HostSite.{HostSite}
+use Rattle.node_world.specs.Bounds.{FewBehind}
+use Rattle.node_world.specs.Controllers.{MayGoOn, SitesAre, WorldBecomes, WorldIs}
+use Rattle.node_world.specs.Rounds.{MayTakeAll, MayTakeInOrder, WorldHasGone}
+use Rattle.node_world.specs.Whole.{IsWithinBounds}
+use Rattle.node_world.proofs.CountsStay.{repeats}
+use Rattle.node_world.proofs.FewInWorlds.{few_behind_all, longer}
+use Rattle.node_world.proofs.LinesAgain.{few_on_way, happens_first, happens_not, hosts_come}
+use Rattle.node_world.proofs.SitesKept.{as_many}
+
+-- ## One end
+
+pub taken_hosts : (n : ℕ) (w : NodeWorld) (e : End) → hosts_in (all_happen w (replicate n (Takes e))).0.sites ≡ hosts_in w.sites
+taken_hosts zero w e = refl
+taken_hosts (suc n) w e = go (can_happen w (Takes e)) refl (taken_hosts n (world_step w (Takes e)).0 e)
+  where
+    go : (b : Bool) → can_happen w (Takes e) ≡ b
+        → hosts_in (all_happen (world_step w (Takes e)).0 (replicate n (Takes e))).0.sites ≡ hosts_in (world_step w (Takes e)).0.sites
+        → hosts_in (all_happen w (replicate (suc n) (Takes e))).0.sites ≡ hosts_in w.sites
+    go true q later =
+        ap (λ (p : NodeWorld × List Occurrence). hosts_in p.0.sites) (happens_first w (Takes e) n q) ∙ (later ∙ hosts_come w e NextFrame)
+    go false q later = ap (λ (p : NodeWorld × List Occurrence). hosts_in p.0.sites) (happens_not w (Takes e) (suc n) q)
+
+taken_may : (n : ℕ) (w : NodeWorld) (e : End) → MayGoOn w → MayGoOn (all_happen w (replicate n (Takes e))).0
+taken_may zero w e may = may
+taken_may (suc n) w e may = go (can_happen w (Takes e)) refl (taken_may n (world_step w (Takes e)).0 e next)
+  where
+    next : MayGoOn (world_step w (Takes e)).0
+    next = record {
+      orderly = step_orderly w (Takes e) may.orderly;
+      hosts = subst (AllByRecursion IsHost) (sym (hosts_come w e NextFrame)) may.hosts;
+    }
+
+    go : (b : Bool) → can_happen w (Takes e) ≡ b → MayGoOn (all_happen (world_step w (Takes e)).0 (replicate n (Takes e))).0
+        → MayGoOn (all_happen w (replicate (suc n) (Takes e))).0
+    go true q later = subst (λ (p : NodeWorld × List Occurrence). MayGoOn p.0) (sym (happens_first w (Takes e) n q)) later
+    go false q later = subst (λ (p : NodeWorld × List Occurrence). MayGoOn p.0) (sym (happens_not w (Takes e) (suc n) q)) may
+
+taken_few : (n m : ℕ) (w : NodeWorld) (e : End) → m ≤ 64 → FewBehind n w → FewBehind (n + 128) (all_happen w (replicate m (Takes e))).0
+taken_few n m w e most few =
+    let many : length (replicate m (Takes e)) ≡ m = repeats m (Takes e) in
+    longer (n + 2 * length (replicate m (Takes e))) (n + 128) (all_happen w (replicate m (Takes e))).0 (omega (arith, many, most))
+    (few_behind_all (replicate m (Takes e)) n w few)
+
+-- ## Ends one after another
+
+-- what was noted before, and these events
+abbrev pub followed_by : List Occurrence → NodeWorld × List Occurrence → NodeWorld × List Occurrence
+followed_by events p = (p.0, events ++ p.1)
+
+-- Of these ends the ones that are left have still to take what stands on their wires; what is kept stands for the world behind the others.
+pub record HaveTaken {C P : Type 0} (CRuns : C → Core → List Port → Type 0) (c_memory : C → Memory) (PRuns : P → Core → List Port → Type 0)
+    (p_memory : P → Memory) (k : ControllerPlace C) (ks : List (HostSite P)) (before noted : List Entry) (w : NodeWorld) (ends left : List End)
+    (n : ℕ) : Type 0 where
+  pub behind : NodeWorld
+  pub events : List Occurrence
+  pub leads : ends_take_all w ends ≡ followed_by events (ends_take_all behind left)
+  pub gone : WorldHasGone CRuns c_memory PRuns p_memory k ks before noted (behind, events)
+  pub goes_on : MayGoOn behind
+  pub hosts : hosts_in behind.sites ≡ hosts_in w.sites
+  pub few : FewBehind n behind
+
+-- the host with a number that is among those of the hosts
+pub found_among : (h : ℕ) (front back : List ℕ) (sites : List Site) → hosts_in sites ≡ front ++ h ∷ back → (s : Site) × (site_at sites h ≡ Some s)
+found_among h [] back [] q = let z : [] ≡ h ∷ back = q in absurd (cc z)
+found_among h [] back (s ∷ sites) q =
+    let z : s.host ∷ hosts_in sites ≡ h ∷ back = q in
+    let same : s.host ≡ h = cc in
+    let here : (s.host == h) ≡ true = eq-eqb s.host h same in
+    (s, rw here refl)
+found_among h (x ∷ front) back [] q = let z : [] ≡ x ∷ (front ++ h ∷ back) = q in absurd (cc z)
+found_among h (x ∷ front) back (s ∷ sites) q =
+    let z : s.host ∷ hosts_in sites ≡ x ∷ (front ++ h ∷ back) = q in
+    let rest : hosts_in sites ≡ front ++ h ∷ back = cc in
+    go (s.host == h) refl (found_among h front back sites rest)
+  where
+    go : (b : Bool) → (s.host == h) ≡ b → (t : Site) × (site_at sites h ≡ Some t) → (t : Site) × (site_at (s ∷ sites) h ≡ Some t)
+    go true e later = (s, rw e refl)
+    go false e later = (later.0, rw e later.1)
+
+module _ (C P : Type 0) (CRuns : C → Core → List Port → Type 0) (c_memory : C → Memory) (PRuns : P → Core → List Port → Type 0)
+    (p_memory : P → Memory) (w : NodeWorld) where
+  abbrev pub Taken : ControllerPlace C → List (HostSite P) → List Entry → List Entry → List End → List End → ℕ → Type 0
+  Taken k ks before noted ends left n = HaveTaken CRuns c_memory PRuns p_memory k ks before noted w ends left n
+
+  -- the next of them takes what stands there
+  pub taken_next : (k new : ControllerPlace C) (ks news : List (HostSite P)) (before noted later : List Entry) (ends : List End) (e : End)
+      (left : List End) (n : ℕ) (a : Taken k ks before noted ends (e ∷ left) n)
+      → WorldHasGone CRuns c_memory PRuns p_memory new news noted later (end_takes_all a.behind e) → Taken new news before later ends left (n + 128)
+  taken_next k new ks news before noted later ends e left n a b =
+      let first : NodeWorld × List Occurrence = end_takes_all a.behind e in
+      let rest : NodeWorld × List Occurrence = ends_take_all first.0 left in
+      let m : ℕ = length (frames_at a.behind e) in
+      let most : m ≤ 64 = few_on_way P PRuns p_memory e e.link ks a.behind.sites a.gone.world.sites in
+      record {
+        behind = first.0;
+        events = a.events ++ first.1;
+        leads = a.leads ∙ ap (λ es. let q : NodeWorld × List Occurrence = (rest.0, es) in q) (sym (append_assoc a.events first.1 rest.1));
+        gone = record {
+          world = b.world;
+          noted = b.noted ∙ (ap (λ es. es ++ entries_in first.1) a.gone.noted
+              ∙ (append_assoc before (entries_in a.events) (entries_in first.1)
+              ∙ ap (λ es. before ++ es) (sym (flat_map-append (λ (x : Occurrence). x.entries) a.events first.1))));
+        };
+        goes_on = taken_may m a.behind e a.goes_on;
+        hosts = taken_hosts m a.behind e ∙ a.hosts;
+        few = taken_few n m a.behind e most a.few;
+      }
+
+  -- it may
+  pub may_take : (k : ControllerPlace C) (ks : List (HostSite P)) (before noted : List Entry) (ends : List End) (e : End) (left : List End) (n : ℕ)
+      (front back : List ℕ) → (a : Taken k ks before noted ends (e ∷ left) n) → n ≤ 290000000 → hosts_in w.sites ≡ front ++ e.link ∷ back
+      → MayTakeAll e a.behind
+  may_take k ks before noted ends e left n front back a most among =
+      record {
+        goes_on = a.goes_on;
+        few = longer n 290000000 a.behind most a.few;
+        there = found_among e.link front back a.behind.sites (a.hosts ∙ among);
+      }
+
+  -- ## Links one after another
+
+  -- the ends of the first links have taken what stood on their wires
+  pub record HaveTakenSo (k : ControllerPlace C) (ks : List (HostSite P)) (before noted : List Entry) (i : ℕ) : Type 0 where
+    pub done : List ℕ
+    pub left : List ℕ
+    pub is : hosts_in w.sites ≡ done ++ left
+    pub place : length done ≡ i
+    pub taken : Taken k ks before noted (ends_in_order w) (ends_of left) (250000000 + 256 * i)
+
+  pub taking_begins : (k : ControllerPlace C) (ks : List (HostSite P)) (before : List Entry) → WorldIs CRuns c_memory PRuns p_memory k ks w
+      → MayTakeInOrder w → HaveTakenSo k ks before before 0
+  taking_begins k ks before world may =
+      record {
+        done = [];
+        left = hosts_in w.sites;
+        is = refl;
+        place = refl;
+        taken = record {
+          behind = w;
+          events = [];
+          leads = ap (ends_take_all w) (order_is w.sites);
+          gone = record { world = world; noted = sym (append-nil before) };
+          goes_on = may.goes_on;
+          hosts = refl;
+          few = longer 250000000 (250000000 + 256 * 0) w (omega arith) may.few;
+        };
+      }
+
+  hosts_kept : (ks : List (HostSite P)) (sites : List Site) → SitesAre PRuns p_memory ks sites → map (λ (x : HostSite P). x.host) ks ≡ hosts_in sites
+  hosts_kept [] [] a = refl
+  hosts_kept (k ∷ ks) (s ∷ sites) a = ap (λ n. n ∷ map (λ (x : HostSite P). x.host) ks) a.0.host ∙ ap (λ ns. s.host ∷ ns) (hosts_kept ks sites a.1)
+  hosts_kept [] (s ∷ sites) a = absurd a
+  hosts_kept (k ∷ ks) [] a = absurd a
+
+  host_read : (ks : List (HostSite P)) (front : List ℕ) (h : ℕ) (back : List ℕ) (i : ℕ) (site : HostSite P)
+      → map (λ (x : HostSite P). x.host) ks ≡ front ++ h ∷ back → length front ≡ i → site ≡ get_or ks i site → site.host ≡ h
+  host_read [] [] h back i site q place read = let z : [] ≡ h ∷ back = q in absurd (cc z)
+  host_read [] (x ∷ front) h back i site q place read = let z : [] ≡ x ∷ (front ++ h ∷ back) = q in absurd (cc z)
+  host_read (k ∷ ks) [] h back i site q place read =
+      let z : k.host ∷ map (λ (x : HostSite P). x.host) ks ≡ h ∷ back = q in
+      let same : k.host ≡ h = cc in
+      let here : site ≡ k = read ∙ ap (λ n. get_or (k ∷ ks) n site) (sym place) in
+      ap (λ (x : HostSite P). x.host) here ∙ same
+  host_read (k ∷ ks) (x ∷ front) h back i site q place read =
+      let z : k.host ∷ map (λ (y : HostSite P). y.host) ks ≡ x ∷ (front ++ h ∷ back) = q in
+      let rest : map (λ (y : HostSite P). y.host) ks ≡ front ++ h ∷ back = cc in
+      host_read ks front h back (length front) site rest refl (read ∙ ap (λ n. get_or (k ∷ ks) n site) (sym place))
+
+  -- the next link, as its number is read
+  pub record NextLink (k : ControllerPlace C) (ks : List (HostSite P)) (before noted : List Entry) (i h : ℕ) : Type 0 where
+    pub done : List ℕ
+    pub back : List ℕ
+    pub is : hosts_in w.sites ≡ done ++ h ∷ back
+    pub place : length done ≡ i
+    pub few : i ≤ 7
+    pub taken : Taken k ks before noted (ends_in_order w) (end_c h ∷ end_h h ∷ ends_of back) (250000000 + 256 * i)
+
+  pub next_link : (k : ControllerPlace C) (ks : List (HostSite P)) (before noted : List Entry) (i : ℕ) (site : HostSite P)
+      → HaveTakenSo k ks before noted i → MayTakeInOrder w → i < length ks → site ≡ get_or ks i site → NextLink k ks before noted i site.host
+  next_link k ks before noted i site a may below read = go a.left refl
+    where
+      many : length ks ≡ length (hosts_in w.sites)
+      many =
+          as_many P PRuns p_memory ks a.taken.behind.sites a.taken.gone.world.sites
+          ∙ (sym (length-map a.taken.behind.sites (λ (s : Site). s.host)) ∙ ap (λ (ns : List ℕ). length ns) a.taken.hosts)
+
+      go : (left : List ℕ) → a.left ≡ left → NextLink k ks before noted i site.host
+      go [] q =
+          let none : length (hosts_in w.sites) ≡ i =
+          ap (λ (ns : List ℕ). length ns) (a.is ∙ (ap (λ ns. a.done ++ ns) q ∙ append-nil a.done)) ∙ a.place in
+          absurd (omega (arith, many, none, below))
+      go (h ∷ back) q =
+          let is : hosts_in w.sites ≡ a.done ++ h ∷ back = a.is ∙ ap (λ ns. a.done ++ ns) q in
+          let kept = hosts_kept ks a.taken.behind.sites a.taken.gone.world.sites ∙ (a.taken.hosts ∙ is) in
+          let same : site.host ≡ h = host_read ks a.done h back i site kept a.place read in
+          let T : List End → Type 0 = λ es. Taken k ks before noted (ends_in_order w) es (250000000 + 256 * i) in
+          let long : length (hosts_in w.sites) ≡ length w.sites = length-map w.sites (λ (s : Site). s.host) in
+          let seven = may.links in
+          record {
+            done = a.done;
+            back = back;
+            is = is ∙ ap (λ n. a.done ++ n ∷ back) (sym same);
+            place = a.place;
+            few = omega (arith, below, many, long, seven);
+            taken = subst T (ap (λ ns. ends_of ns) q ∙ ap (λ n. end_c n ∷ end_h n ∷ ends_of back) (sym same)) a.taken;
+          }
+
+  -- both of its ends have taken what stood on their wires
+  pub link_taken : (k new : ControllerPlace C) (ks news : List (HostSite P)) (before noted later : List Entry) (i h : ℕ)
+      (a : NextLink k ks before noted i h)
+      → Taken new news before later (ends_in_order w) (ends_of a.back) (250000000 + 256 * i + 128 + 128) → HaveTakenSo new news before later (i + 1)
+  link_taken k new ks news before noted later i h a b =
+      let T : ℕ → Type 0 = λ n. Taken new news before later (ends_in_order w) (ends_of a.back) n in
+      let same : 250000000 + 256 * i + 128 + 128 ≡ 250000000 + 256 * (i + 1) = omega arith in
+      record {
+        done = a.done ++ h ∷ [];
+        left = a.back;
+        is = a.is ∙ sym (append_assoc a.done (h ∷ []) a.back);
+        place = length-append a.done (h ∷ []) ∙ ap (λ n. n + 1) a.place;
+        taken = subst T same b;
+      }
+
+  -- all of them have
+  pub record AllTaken (k : ControllerPlace C) (ks : List (HostSite P)) (before noted : List Entry) : Type 0 where
+    pub gone : WorldHasGone CRuns c_memory PRuns p_memory k ks before noted (ends_take_all w (ends_in_order w))
+    pub within : IsWithinBounds (ends_take_all w (ends_in_order w)).0
+
+  pub taking_ends : (k : ControllerPlace C) (ks : List (HostSite P)) (before noted : List Entry) (i : ℕ) → HaveTakenSo k ks before noted i
+      → MayTakeInOrder w → length ks ≤ i → AllTaken k ks before noted
+  taking_ends k ks before noted i a may over = go a.left refl
+    where
+      many : length ks ≡ length (hosts_in w.sites)
+      many =
+          as_many P PRuns p_memory ks a.taken.behind.sites a.taken.gone.world.sites
+          ∙ (sym (length-map a.taken.behind.sites (λ (s : Site). s.host)) ∙ ap (λ (ns : List ℕ). length ns) a.taken.hosts)
+
+      long : length (hosts_in w.sites) ≡ i + length a.left
+      long = ap (λ (ns : List ℕ). length ns) a.is ∙ (length-append a.done a.left ∙ ap (λ n. n + length a.left) a.place)
+
+      go : (left : List ℕ) → a.left ≡ left → AllTaken k ks before noted
+      go (h ∷ back) q =
+          let more : length a.left ≡ length (h ∷ back) = ap (λ (ns : List ℕ). length ns) q in
+          absurd (omega (arith, many, long, more, over))
+      go [] q =
+          let all : ends_take_all w (ends_in_order w) ≡ (a.taken.behind, a.taken.events) =
+          a.taken.leads
+          ∙ (ap (λ ns. followed_by a.taken.events (ends_take_all a.taken.behind (ends_of ns))) q
+          ∙ ap (λ es. let p : NodeWorld × List Occurrence = (a.taken.behind, es) in p) (append-nil a.taken.events)) in
+          let G : NodeWorld × List Occurrence → Type 0 = λ p. WorldHasGone CRuns c_memory PRuns p_memory k ks before noted p in
+          let links : length (hosts_in w.sites) ≡ length w.sites = length-map w.sites (λ (s : Site). s.host) in
+          let seven = may.links in
+          let few = longer (250000000 + 256 * i) 300000000 a.taken.behind (omega (arith, long, links, seven)) a.taken.few in
+          record {
+            gone = subst G (sym all) a.taken.gone;
+            within = subst (λ (p : NodeWorld × List Occurrence). IsWithinBounds p.0) (sym all) (record { goes_on = a.taken.goes_on; few = few });
+          }
+
+  -- ## Time passes behind them
+
+  pub round_gone : (k new : ControllerPlace C) (ks news : List (HostSite P)) (before mid now : List Entry)
+      → WorldHasGone CRuns c_memory PRuns p_memory k ks before mid (ends_take_all w (ends_in_order w))
+      → WorldBecomes CRuns c_memory PRuns p_memory new news mid now (world_ticks (ends_take_all w (ends_in_order w)).0)
+      → WorldHasGone CRuns c_memory PRuns p_memory new news before now (world_round w)
+  round_gone k new ks news before mid now taken ticked =
+      let events : List Occurrence = (ends_take_all w (ends_in_order w)).1 in
+      let told : List Entry = (world_ticks (ends_take_all w (ends_in_order w)).0).1 in
+      record {
+        world = ticked.world;
+        noted = ticked.noted ∙ (ap (λ es. es ++ told) taken.noted ∙ (append_assoc before (entries_in events) told
+            ∙ ap (λ es. before ++ es)
+            (ap (λ es. entries_in events ++ es) (sym (append-nil told)) ∙ sym (flat_map-append (λ (x : Occurrence). x.entries) events _))));
+      }

@@ -1,0 +1,10 @@
+use Rattle.node_machine.specs.world.World.{NodeWorld}
+use Rattle.node_world.specs.Controllers.{AreTimely, MayGoOn, WorldIs}
+use Rattle.node_world.proofs.LinksRest.{RestSoFar}
+use Rattle.node_world.proofs.resting.all_rest.Given as goal
+
+-- the links of so many hosts are at rest there
+abbrev pub invariant-loop-i : goal.invariant-loop-i
+invariant-loop-i g l =
+    (w : NodeWorld) → WorldIs g.C.WorldNode.runs g.C.WorldNode.memory g.P.WorldNode.runs g.P.WorldNode.memory l.controller l.sites w → MayGoOn w
+    → AreTimely w → RestSoFar l.i w.sites

@@ -1,0 +1,30 @@
+use Rattle.std.proofs.Common.{◌≡◌, true, false}
+use Rattle.link_entries.specs.messages.Rest.{is_clear}
+use Rattle.node_world.proofs.LinksRest.{clear, far_is, far_wire_stands, host_is_new, host_says, near_wire_stands, not_clear}
+use Rattle.node_world.proofs.resting.host_rests.Goals as goal
+
+pub returns-then-standing-ne0 : goal.returns-then-standing-ne0
+returns-then-standing-ne0 g c s is may =
+    near_wire_stands s (not_clear s.link.to_controller c.standing.result (c.standing.ensures s.link is.wires) c.if-standing-ne0.true)
+
+pub returns-then-standing-ne0-2 : goal.returns-then-standing-ne0-2
+returns-then-standing-ne0-2 g c s is may =
+    let near : is_clear s.link.to_controller ≡ true =
+    clear s.link.to_controller c.standing.result (c.standing.ensures s.link is.wires) c.if-standing-ne0.false in
+    far_wire_stands s near (not_clear s.link.to_host c.standing-2.result (c.standing-2.ensures s.link is.wires) c.if-standing-ne0-2.true)
+
+pub returns-in-Some : goal.returns-in-Some
+returns-in-Some g c s is may =
+    let near : is_clear s.link.to_controller ≡ true =
+    clear s.link.to_controller c.standing.result (c.standing.ensures s.link is.wires) c.if-standing-ne0.false in
+    let far : is_clear s.link.to_host ≡ true = clear s.link.to_host c.standing-2.result (c.standing-2.ensures s.link is.wires) c.if-standing-ne0-2.false in
+    far_is s c.is_at_rest.result near far
+    (host_says g.row.P.Denot g.P.WorldNode.runs g.P.WorldNode.memory c.args.site.now s c.in-Some.node c.is_at_rest.result is c.in-Some.is may
+    c.is_at_rest.ensures)
+
+pub returns-in-None : goal.returns-in-None
+returns-in-None g c s is may =
+    let near : is_clear s.link.to_controller ≡ true =
+    clear s.link.to_controller c.standing.result (c.standing.ensures s.link is.wires) c.if-standing-ne0.false in
+    let far : is_clear s.link.to_host ≡ true = clear s.link.to_host c.standing-2.result (c.standing-2.ensures s.link is.wires) c.if-standing-ne0-2.false in
+    far_is s true near far (host_is_new g.row.P.Denot g.P.WorldNode.runs g.P.WorldNode.memory c.args.site.now s is c.in-None.is may)

@@ -1,0 +1,19 @@
+use Rattle.std.proofs.Common.{◌≡◌, false}
+use Rattle.node_machine.specs.world.World.{NodeWorld}
+use Rattle.node_machine.specs.world.World.Happening.{Takes}
+use Rattle.node_world.specs.Controllers.{WorldIs}
+use Rattle.node_world.specs.Rounds.{MayTakeAll}
+use Rattle.node_world.proofs.LinesAgain.{Again}
+use Rattle.node_world.proofs.rounds.take_all.Given as goal
+
+-- the end has taken so many frames
+abbrev pub invariant-loop : goal.invariant-loop
+invariant-loop g l =
+    record {
+      goes : (w : NodeWorld)
+          → WorldIs g.C.WorldNode.runs g.C.WorldNode.memory g.P.WorldNode.runs g.P.WorldNode.memory l.initial.controller l.initial.sites w
+          → MayTakeAll l.fn.at w
+          → Again g.C.WorldNode.runs g.C.WorldNode.memory g.P.WorldNode.runs g.P.WorldNode.memory l.controller l.sites 290000000
+          l.initial.noted.entries.items l.noted.entries.items w (Takes l.fn.at) l.counter;
+      short : l.noted.short ≡ false;
+    }

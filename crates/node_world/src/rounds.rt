@@ -1,0 +1,92 @@
+//! Rounds: each end takes all that stands on its wire, and time passes once.
+ghost use Rattle.std.specs.Prelude.{◌≡◌, false, OnOk};
+ghost use Rattle.node_machine.specs.world.World.{NodeWorld};
+ghost use Rattle.node_machine.specs.world.Rounds.{end_takes_all, ends_in_order, ends_take_all, world_round};
+ghost use Rattle.node_world.specs.Controllers.{WorldIs};
+ghost use Rattle.node_world.specs.Rounds.{MayGoRound, MayTakeAll, MayTakeInOrder, WorldHasGone};
+ghost use Rattle.node_world.specs.Whole.{IsWithinBounds};
+
+use crate::controller::ControllerPlace;
+use crate::looking::{node_of, on_the_way, runs};
+use crate::nodes::WorldNode;
+use crate::noted::Noted;
+use crate::places::HostSite;
+use crate::world_ticks::{take_frame, tick_world};
+use swp_base::NoMemory;
+use trace_model::End;
+
+// An end takes all that stands on its wire now, until its node loses its power. Where that doesn't run, nothing happens.
+fn take_all<C: WorldNode + Drop, P: WorldNode + Drop>(
+    controller: &mut ControllerPlace<C>,
+    sites: &mut [HostSite<P>],
+    at: End,
+    noted: &mut Noted,
+) -> Result<(), NoMemory>
+    requires state { (w : NodeWorld) × WorldIs C.runs C.memory P.runs P.memory controller.old sites.old w × MayTakeAll at w }
+    requires memory { noted.old.short ≡ false }
+    ensures stands { (w : NodeWorld) → WorldIs C.runs C.memory P.runs P.memory controller.old sites.old w → MayTakeAll at w
+        → OnOk result (WorldHasGone C.runs C.memory P.runs P.memory controller.new sites.new noted.old.entries.items noted.new.entries.items
+        (end_takes_all w at)) }
+    ensures memory { OnOk result (noted.new.short ≡ false) }
+{
+    let times = on_the_way(sites, at);
+    for _ in 0..times {
+        if !runs(controller, sites, node_of(at)) {
+            return Ok(());
+        }
+        take_frame(controller, sites, at, noted)?;
+    }
+    Ok(())
+}
+
+// All ends do, the controller's end of a link before the host's, and the links ascending.
+fn take_in_order<C: WorldNode + Drop, P: WorldNode + Drop>(
+    controller: &mut ControllerPlace<C>,
+    sites: &mut [HostSite<P>],
+    noted: &mut Noted,
+) -> Result<(), NoMemory>
+    requires state { (w : NodeWorld) × WorldIs C.runs C.memory P.runs P.memory controller.old sites.old w × MayTakeInOrder w }
+    requires memory { noted.old.short ≡ false }
+    ensures stands { (w : NodeWorld) → WorldIs C.runs C.memory P.runs P.memory controller.old sites.old w → MayTakeInOrder w
+        → OnOk result (WorldHasGone C.runs C.memory P.runs P.memory controller.new sites.new noted.old.entries.items noted.new.entries.items
+        (ends_take_all w (ends_in_order w))) }
+    ensures within { (w : NodeWorld) → WorldIs C.runs C.memory P.runs P.memory controller.old sites.old w → MayTakeInOrder w
+        → OnOk result (IsWithinBounds (ends_take_all w (ends_in_order w)).0) }
+    ensures memory { OnOk result (noted.new.short ≡ false) }
+{
+    for i in 0..sites.len() {
+        let link = sites[i].host;
+        let near = End {
+            link,
+            at_host: false,
+        };
+        let far = End {
+            link,
+            at_host: true,
+        };
+        take_all(controller, sites, near, noted)?;
+        take_all(controller, sites, far, noted)?;
+    }
+    Ok(())
+}
+
+/// A round: all ends take what stands on their wires then, and time passes once.
+///
+/// # Errors
+///
+/// No memory is left; what the world stands for then isn't said.
+pub(crate) fn go_round<C: WorldNode + Drop, P: WorldNode + Drop>(
+    controller: &mut ControllerPlace<C>,
+    sites: &mut [HostSite<P>],
+    noted: &mut Noted,
+) -> Result<(), NoMemory>
+    requires state { (w : NodeWorld) × WorldIs C.runs C.memory P.runs P.memory controller.old sites.old w × MayGoRound w }
+    requires memory { noted.old.short ≡ false }
+    ensures stands { (w : NodeWorld) → WorldIs C.runs C.memory P.runs P.memory controller.old sites.old w → MayGoRound w
+        → OnOk result (WorldHasGone C.runs C.memory P.runs P.memory controller.new sites.new noted.old.entries.items noted.new.entries.items
+        (world_round w)) }
+    ensures memory { OnOk result (noted.new.short ≡ false) }
+{
+    take_in_order(controller, sites, noted)?;
+    tick_world(controller, sites, noted)
+}

@@ -1,0 +1,16 @@
+use Rattle.std.proofs.Common.{List, length, sym, ap, ◌∙◌}
+use Rattle.trace_model.specs.declared.line.End.{End}
+use Rattle.trace_model.specs.declared.line.Header.{Header}
+use Rattle.link_laws.specs.sessions.Sessions.{OnWire}
+use Rattle.world.specs.declared.bare_world.BareWorld.{BareWorld}
+use Rattle.world.proofs.Below.{stands_bare, of_its_header, frames_bare}
+use Rattle.world.proofs.world_steps.World.standing.Goals as goal
+
+pub returns-in-Bare : goal.returns-in-Bare
+returns-in-Bare c plays at =
+    let w : BareWorld = c.in-Bare.world in
+    let header : Header = c.args.self.now.header in
+    let e : End = record { link = c.args.link; at_host = c.args.at_host } in
+    let z = stands_bare c.args.self.now.below w header plays c.in-Bare.is at.stands in
+    c.standing.ensures plays z.0 (of_its_header w header plays z.0 z.1)
+    ∙ ap (λ (xs : List OnWire). length xs) (sym (frames_bare w header plays z.0 z.1 e))
