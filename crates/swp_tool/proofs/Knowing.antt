@@ -1,4 +1,4 @@
--- The text of a replay that is done tells the history of its schedule.
+-- The text of a replay that is done tells what became of its schedule.
 use Rattle.std.proofs.Common.{◌≡◌, ℕ, ◌≤◌, ◌++◌, Bool, List, [], ◌∷◌, length, refl, sym, ap, ◌∙◌, arith, subst, codes, All}
 use Rattle.std.specs.Prelude.{Option, Some, None}
 use Rattle.std.specs.Fmt.{decimal}
@@ -9,17 +9,16 @@ use Rattle.trace_model.specs.declared.line.Line.{Line}
 use Rattle.text_laws.specs.Ranges.{IsNumber, IsEntry}
 use Rattle.text_laws.proofs.CleanLemmas.{IsCleanLine, number_clean}
 use Rattle.text_laws.proofs.ShownLemmas.{same_ended}
-use Rattle.answer_laws.specs.answers.Headline.{PlayedHistory, IsPlayed}
-use Rattle.answer_laws.specs.answers.Headline.PlayedHistory.{OfLink, OfNodes}
-use Rattle.told_laws.proofs.Coming.{told_in}
-use Rattle.told_laws.proofs.nodes.Schedules.{nodes_told_in}
+use Rattle.schedule_text.specs.Entries.{entry_lines}
+use Rattle.lines_told.specs.Plays.{schedule_told}
+use Rattle.told_laws.proofs.Whole.{schedule_told_in}
 use Rattle.swp_tool.specs.declared.status.Status.{Status}
 use Rattle.swp_tool.specs.declared.status.Status.TheVariants as status
 use Rattle.swp_tool.specs.Schedules.{Stop, Schedule, nothing_read, and_lines, ended, schedule_in}
-use Rattle.swp_tool.specs.Transcripts.{history_below, played_told, played_text, done_line, whole_text, IsPlayedText, IsTextBelow, IsDoneText}
+use Rattle.swp_tool.specs.Transcripts.{done_line, whole_text, IsPlayedText, IsTextBelow, IsDoneText}
 use Rattle.swp_tool.specs.Transcripts.{TellsEntries, TellsPlayed}
 use Rattle.swp_tool.specs.Runs.{AppendsText, Replayed}
-use Rattle.swp_tool.proofs.Fitting.{Fits, whole_fits, text_played}
+use Rattle.swp_tool.proofs.Fitting.{AreFit, AreRight, Fits, whole_fits, text_played}
 
 -- a schedule that doesn't stop has a header
 has_header : (s : Schedule) → (ended s).stop ≡ None → (header : Header) × ((ended s).header ≡ Some header)
@@ -47,35 +46,33 @@ tells_all entries count in_range few =
           (sym same);
     }
 
--- what is told of a history that is played is in its range
-told_fits : (header : Header) (ls : List Line) (t : PlayedHistory) → IsPlayed header ls t → length ls ≤ 20000 → All IsEntry (played_told t)
-told_fits header ls (OfLink t) played few = told_in header ls t played.1 played.0 played.2 few
-told_fits header ls (OfNodes t) played few = nodes_told_in header played.0 ls t played.1 played.3 few
-
--- the whole transcript of an input tells the history of its schedule
+-- the whole transcript of an input tells what became of its schedule
 tells_whole : (input text : List ℕ) → IsDoneText input text → TellsPlayed (schedule_in input) text
 tells_whole input text h =
     let s = schedule_in input in
     let fits : Fits s = whole_fits input in
     let header = has_header (and_lines nothing_read (lines input)) h.running in
     let is : IsPlayedText header.0 s.lines h.lines_text = subst (λ o. IsTextBelow o s.lines h.lines_text) header.1 h.transcript in
+    let right : AreRight header.0 s.lines = subst (λ o. AreFit o s.lines) header.1 fits.fit in
     let most = fits.most h.running in
-    let text_is : text ≡ whole_text (played_told is.history) s.count = h.text_is ∙ ap (λ t. t ++ done_line s.count) is.text_is in
+    let text_is : text ≡ whole_text (schedule_told header.0 s.lines) s.count = h.text_is ∙ ap (λ t. t ++ done_line s.count) is.text_is in
     record {
       header = header.0;
       header_is = header.1;
       history = is.history;
       played = is.played;
-      told = subst (λ t. TellsEntries t (played_told is.history)) (sym text_is)
-          (tells_all (played_told is.history) s.count (told_fits header.0 s.lines is.history is.played fits.short) (omega (arith, most)));
+      tells = is.tells;
+      told = subst (λ t. TellsEntries t (schedule_told header.0 s.lines)) (sym text_is)
+          (tells_all (schedule_told header.0 s.lines) s.count (schedule_told_in header.0 right.begun s.lines right.lines_are fits.short right.each)
+          (omega (arith, most)));
     }
 
 -- so does the one that is computed
 pub tells_below : (input : List ℕ) (header : Header) → (schedule_in input).header ≡ Some header → (schedule_in input).stop ≡ None
-    → TellsPlayed (schedule_in input) (played_text (history_below header (schedule_in input).lines) ++ done_line (schedule_in input).count)
+    → TellsPlayed (schedule_in input) (entry_lines (schedule_told header (schedule_in input).lines) ++ done_line (schedule_in input).count)
 tells_below input header is running =
     let s = schedule_in input in
-    let text = played_text (history_below header s.lines) in
+    let text = entry_lines (schedule_told header s.lines) in
     tells_whole input (text ++ done_line s.count)
     (record {
       running = running;

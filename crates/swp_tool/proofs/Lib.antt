@@ -4,7 +4,9 @@ pub mod Texts
 pub mod Fitting
 pub mod Reading
 pub mod Ending
+pub mod Happened
 pub mod Playing
+pub mod RoundLemmas
 pub mod Recording
 pub mod Knowing
 pub mod Hearing

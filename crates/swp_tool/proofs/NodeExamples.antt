@@ -8,9 +8,11 @@ use Rattle.hex.specs.Hex.{decode_pairs, encode_with}
 use Rattle.std.specs.Fmt.{digits}
 use Rattle.swp_base.specs.Bits.{bits_of_byte}
 use Rattle.pipe_table.specs.PipeRows.{lowest_free}
+use Rattle.schedule_text.specs.Entries.{entry_lines}
 use Rattle.schedule_text.specs.declared.fault.LineFault.TheVariants as fault
+use Rattle.lines_told.specs.Plays.{schedule_told}
 use Rattle.swp_tool.specs.Schedules.{Schedule, AtFault, AtMisread, schedule_in}
-use Rattle.swp_tool.specs.Transcripts.{history_below, played_text, done_line}
+use Rattle.swp_tool.specs.Transcripts.{done_line}
 
 -- lines, each with its end
 abbrev ended : List (List ℕ) → List ℕ
@@ -21,7 +23,7 @@ abbrev text_of : Schedule → List ℕ
 text_of s = by s.header where
   by : Option Header → List ℕ
   by None = []
-  by (Some header) = played_text (history_below header s.lines) ++ done_line s.count
+  by (Some header) = entry_lines (schedule_told header s.lines) ++ done_line s.count
 
 abbrev boot_cut_at_first_write_lines : List (List ℕ)
 boot_cut_at_first_write_lines =
@@ -126,16 +128,48 @@ activation_and_first_pipe : text_of (schedule_in (ended activation_and_first_pip
 unfolding found_from hosts_where lowest_free decode_pairs encode_with digits
 activation_and_first_pipe = refl
 
+-- a link settles as soon as its power is on
+abbrev activation_settles_lines : List (List ℕ)
+activation_settles_lines =
+    codes "swp 1 hci 02" ∷
+    codes "settle 5" ∷
+    codes "boot 00" ∷
+    codes "boot 02" ∷
+    codes "activate 02 1A2B 01" ∷
+    codes "settle 9" ∷
+    []
+
+activation_settles : text_of (schedule_in (ended activation_settles_lines)) ≡ ended (
+    codes "> swp 1 hci 02" ∷
+    codes "> settle 5" ∷
+    codes "settled 0" ∷
+    codes "> boot 00" ∷
+    codes "booted 00 0" ∷
+    codes "> boot 02" ∷
+    codes "booted 02 0" ∷
+    codes "> activate 02 1A2B 01" ∷
+    codes "emit 02h 611A2B" ∷
+    codes "> settle 9" ∷
+    codes "took 02c 611A2B" ∷
+    codes "command 00 sync 02 1A2B" ∷
+    codes "emit 02c 6201" ∷
+    codes "took 02h 6201" ∷
+    codes "active 02h" ∷
+    codes "emit 02h 60" ∷
+    codes "took 02c 60" ∷
+    codes "active 02c" ∷
+    codes "settled 2" ∷
+    codes "done 6" ∷
+    [])
+unfolding found_from hosts_where lowest_free decode_pairs encode_with digits
+activation_settles = refl
+
 -- ## Where a schedule of nodes stops
 
--- a line of links alone is out of order, and no world settles yet
+-- a line of links alone is out of order
 busy_stops : (schedule_in (ended (codes "swp 1 hci 02" ∷ codes "busy 02c" ∷ []))).stop ≡ Some (AtFault fault.Order)
 unfolding decode_pairs
 busy_stops = refl
-
-settling_stops : (schedule_in (ended (codes "swp 1 hci 02" ∷ codes "settle 5" ∷ []))).stop ≡ Some (AtFault fault.Word)
-unfolding decode_pairs
-settling_stops = refl
 
 -- four damaged bits make another frame of the first one, with the same check
 abbrev misread_lines : List (List ℕ)

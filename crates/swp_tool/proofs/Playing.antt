@@ -1,9 +1,18 @@
 -- What a line adds to a replay.
-use Rattle.std.proofs.Common.{◌≡◌, ℕ, ◌+◌, ◌<◌, List, [], ◌∷◌, ◌++◌, refl, sym, ap, ◌∙◌, append_assoc, arith, subst, false}
+use Rattle.std.proofs.Common.{◌≡◌, ℕ, ◌+◌, ◌≤◌, ◌<◌, Bool, true, false, cond, List, [], ◌∷◌, ◌++◌, refl, sym, ap, ◌∙◌, append_assoc, arith, subst}
 use Rattle.std.specs.Prelude.{Option, Some, None, Ok, IsSome, IsSomeAnd}
+use Rattle.std.specs.Option.{ForSome}
 use Rattle.trace_model.specs.declared.line.Header.{Header}
 use Rattle.trace_model.specs.declared.line.Line.{Line}
-use Rattle.lines_told.specs.Below.{IsPlayedLine, is_settling, misread_below}
+use Rattle.trace_model.specs.declared.line.Line.TheVariants as saying
+use Rattle.trace_model.specs.Lines.{MayFollow}
+use Rattle.history.specs.Follows.{misread}
+use Rattle.node_machine.specs.world.Lines.{misread_in}
+use Rattle.schedule_text.specs.Entries.{entry_lines}
+use Rattle.lines_told.specs.Below.{bare_link_behind, is_settling, misread_below, nodes_behind}
+use Rattle.lines_told.specs.Plays.{Play, lines_played, lines_said, plays_of, plays_of_line, rounds_played, rounds_to_rest, schedule_told}
+use Rattle.lines_told.proofs.Plays.{none_said, played-append, said-append, so_many_rounds}
+use Rattle.lines_told.proofs.Resting.{at_most}
 use Rattle.world.specs.declared.world_steps.World.{World}
 use Rattle.world.specs.declared.fault.WorldFault.{WorldFault}
 use Rattle.world.specs.declared.fault.WorldFault.TheVariants as fault
@@ -14,20 +23,77 @@ use Rattle.swp_tool.specs.declared.replay.Replay.{Replay}
 use Rattle.swp_tool.specs.declared.replay.Halt.{Halt}
 use Rattle.swp_tool.specs.declared.replay.Halt.TheVariants as halt
 use Rattle.swp_tool.specs.Schedules.{Schedule, misread_there, with_played, and_said}
-use Rattle.swp_tool.specs.Transcripts.{history_below, played_text}
-use Rattle.swp_tool.specs.Replays.{Runs, IsAt, WasStepped, HasPlayed, halt_of, HaltsOn, HaltsBefore}
+use Rattle.swp_tool.specs.Replays.{Runs, IsAt, WasStepped, HasRoundsLeft, HasPlayed, halt_of, HaltsOn, HaltsBefore}
 
 -- it stands so below its own header
-pub under_own_header : (w : World) (header : Header) (lines : List Line) → IsWorldAt w header lines → IsWorldAt w (world_header w) lines
-under_own_header w header lines stands =
-    (let P : Header → Type 0 = λ h. IsWorldAt w h lines in subst P (sym stands.header_is) stands)
+pub under_own_header : (w : World) (header : Header) (plays : List Play) → IsWorldAt w header plays → IsWorldAt w (world_header w) plays
+under_own_header w header plays stands =
+    (let P : Header → Type 0 = λ h. IsWorldAt w h plays in subst P (sym stands.header_is) stands)
 
--- a world that was stepped by few lines has room for one more
+-- a world that was stepped by few lines has room for one more, and for its rounds
 pub has_room : (w : World) (most : ℕ) → WasStepped w most → most < 20000 → HasRoomForLine w
-has_room w most was few = record { lines = was.lines; stands = was.stands; few = omega (arith, was.few) }
+has_room w most was few = record { plays = was.plays; stands = was.stands; few = omega (arith, was.few) }
+
+pub has_rounds_left : (w : World) (most rounds : ℕ) → WasStepped w most → most < 20000 → rounds ≤ 20000 → HasRoundsLeft w rounds
+has_rounds_left w most rounds was few long = (was.plays, was.stands, (let played = was.rounds in omega (arith, played, few, long)))
 
 pub stepped_more : (w : World) (most : ℕ) → WasStepped w most → WasStepped w (most + 1)
-stepped_more w most was = record { lines = was.lines; stands = was.stands; few = omega (arith, was.few) }
+stepped_more w most was =
+    let said = was.few in
+    let rounds = was.rounds in
+    record { plays = was.plays; stands = was.stands; few = omega (arith, said); rounds = omega (arith, rounds) }
+
+-- a world that has just begun was stepped by no line
+pub never_stepped : (w : World) (header : Header) → IsWorldAt w header [] → WasStepped w 0
+never_stepped w header stands =
+    record { plays = []; stands = under_own_header w header [] stands; few = omega arith; rounds = omega arith }
+
+pub begun_few : (w : World) (most : ℕ) → WasStepped w 0 → ForSome (Some w) (λ v. WasStepped v most)
+begun_few w most was v is =
+    let same : w ≡ v = cc in
+    let said = was.few in
+    let rounds = was.rounds in
+    let now : WasStepped w most =
+    record { plays = was.plays; stands = was.stands; few = omega (arith, said); rounds = omega (arith, rounds) } in
+    subst (λ (x : World). WasStepped x most) same now
+
+-- it is so behind a line that lets the links settle
+pub stepped_settled : (w v : World) (most count : ℕ) (was : WasStepped w count) → most ≤ 20000
+    → IsWorldAt v (world_header w) (was.plays ++ plays_of_line (world_header w) was.plays (saying.Settle most)) → WasStepped v (count + 1)
+stepped_settled w v most count was long stands =
+    let r : ℕ = rounds_to_rest (world_header w) was.plays most in
+    let more : List Play = plays_of_line (world_header w) was.plays (saying.Settle most) in
+    let said = was.few in
+    let rounds = was.rounds in
+    let said_sum = said-append was.plays more in
+    let rounds_sum = played-append was.plays more in
+    let none = none_said r in
+    let many = so_many_rounds r in
+    let low = at_most (world_header w) was.plays most in
+    record {
+      plays = was.plays ++ more;
+      stands = under_own_header v (world_header w) (was.plays ++ more) stands;
+      few = omega (arith, said, said_sum, none);
+      rounds = omega (arith, rounds, rounds_sum, many, low, long);
+    }
+
+-- there is room for its rounds
+pub settles_few : (header : Header) (line : Line) (rounds : ℕ) → line ≡ saying.Settle rounds → MayFollow header line → rounds ≤ 20000
+settles_few header line rounds is may = let within : MayFollow header (saying.Settle rounds) = subst (MayFollow header) is may in within.1
+
+-- a line that is no such one
+pub settles_not : (line : Line) → ((rounds : ℕ) → line ≡ saying.Settle rounds → ⊥) → is_settling line ≡ false
+settles_not (saying.Settle rounds) other = absurd (other rounds refl)
+settles_not line other = refl
+
+-- such a line damages no frame
+pub settling_is_read : (header : Header) (before : List Line) (rounds : ℕ) → misread_below header before (saying.Settle rounds) ≡ None
+settling_is_read header before rounds = go header.hci
+  where
+    go : (nodes : Bool) → cond nodes (misread_in (nodes_behind header before) (saying.Settle rounds))
+        (misread (bare_link_behind header before) (saying.Settle rounds)) ≡ None
+    go true = refl
+    go false = refl
 
 -- before a header nothing was gathered
 before_header : (w : Option World) (header : Option Header) (lines : List Line) (text : List ℕ) → header ≡ None → IsAt w header lines text
@@ -38,11 +104,11 @@ before_header w (Some h) lines text none at = absurd (cc)
 
 -- a header was read
 pub began : {r r' : Replay} {s : Schedule} {written : List ℕ} {w : World} {header : Header} → HasPlayed r s written → s.header ≡ None
-    → IsWorldAt w header [] → r'.world ≡ Some w → r'.count ≡ r.count + 1 → r'.text.items ≡ r.text.items ++ played_text (history_below header [])
+    → IsWorldAt w header [] → r'.world ≡ Some w → r'.count ≡ r.count + 1 → r'.text.items ≡ r.text.items ++ entry_lines (schedule_told header [])
     → HasPlayed r' (and_said s (Ok (read.Header header))) written
 began {r} {r'} {s} {written} {w} {header} h none stands world_is count_is text_is =
     let before = before_header r.world s.header s.lines (written ++ r.text.items) none h.at in
-    let first = played_text (history_below header []) in
+    let first = entry_lines (schedule_told header []) in
     let text_first : written ++ r'.text.items ≡ first =
     ap (λ l. written ++ l) text_is ∙ (sym (append_assoc written r.text.items first) ∙ ap (λ l. l ++ first) before.1) in
     let P : Option World → Type 0 = λ x. IsAt x (Some header) s.lines (written ++ r'.text.items) in
@@ -75,11 +141,11 @@ pub went_on : {r r' : Replay} {s : Schedule} {written : List ℕ} {w w' : World}
     → r'.world ≡ Some w' → r'.count ≡ r.count + 1
     → ((header : Header) (lines : List Line) (before : List ℕ) → Runs w header lines (before ++ r.text.items)
     → Runs w' header (lines ++ line ∷ []) (before ++ r'.text.items))
-    → ((header : Header) (lines : List Line) → IsWorldAt w header lines → misread_below header lines line ≡ None)
+    → ((header : Header) (plays : List Play) → IsWorldAt w header plays → misread_below header (lines_played header plays) line ≡ None)
     → HasPlayed r' (and_said s (Ok (read.Line line))) written
 went_on {r} {r'} {s} {written} {w} {w'} line h is is' count_is runs told =
     let at = played_at w r.world s.header s.lines (written ++ r.text.items) is h.at in
-    let none : misread_there s.header s.lines line ≡ None = ap (λ o. misread_there o s.lines line) at.is ∙ told at.of s.lines at.runs.stands in
+    let none : misread_there s.header s.lines line ≡ None = ap (λ o. misread_there o s.lines line) at.is ∙ told at.of (plays_of at.of s.lines) at.runs.stands in
     let P : Option (List ℕ) → Type 0 = λ o. HasPlayed r' (with_played s line o) written in
     let Q : Option World → Type 0 = λ x. IsAt x s.header (s.lines ++ line ∷ []) (written ++ r'.text.items) in
     let R : Option Header → Type 0 = λ x. IsAt (Some w') x (s.lines ++ line ∷ []) (written ++ r'.text.items) in
@@ -104,12 +170,12 @@ halts_before halt.NoMemory s line other on = tt
 
 -- the world halted at a line
 pub halted_there : {r : Replay} {s : Schedule} {written : List ℕ} {w : World} (line : Line) (why : Halt) → HasPlayed r s written → r.world ≡ Some w
-    → ((header : Header) (lines : List Line) → IsWorldAt w header lines → HaltsOn why (misread_below header lines line))
+    → ((header : Header) (plays : List Play) → IsWorldAt w header plays → HaltsOn why (misread_below header (lines_played header plays) line))
     → HaltsBefore why (and_said s (Ok (read.Line line)))
 halted_there {r} {s} {written} {w} line why h is halts =
     let at = played_at w r.world s.header s.lines (written ++ r.text.items) is h.at in
     let P : Option Header → Type 0 = λ o. HaltsOn why (misread_there o s.lines line) in
-    halts_before why s line (misread_there s.header s.lines line) (subst P (sym at.is) (halts at.of s.lines at.runs.stands))
+    halts_before why s line (misread_there s.header s.lines line) (subst P (sym at.is) (halts at.of (plays_of at.of s.lines) at.runs.stands))
 
 -- ## What a world is given
 
@@ -118,9 +184,8 @@ abbrev pub header_of_world : Option World → Option Header
 header_of_world None = None
 header_of_world (Some w) = Some (world_header w)
 
--- a line that was read below the header of a world is one of its lines, unless it lets the links settle
+-- a line that was read below the header of a world may follow it
 pub line_of_world : (world : Option World) (header : Option Header) (line : Line) → header ≡ header_of_world world
-    → IsInGrammar header (read.Line line) → is_settling line ≡ false → IsSomeAnd world (λ w. IsPlayedLine (world_header w) line)
-line_of_world None header line is fits still = absurd (subst (λ h. IsInGrammar h (read.Line line)) is fits)
-line_of_world (Some w) header line is fits still =
-    record { may_follow = subst (λ h. IsInGrammar h (read.Line line)) is fits; settles_not = still }
+    → IsInGrammar header (read.Line line) → IsSomeAnd world (λ w. MayFollow (world_header w) line)
+line_of_world None header line is fits = absurd (subst (λ h. IsInGrammar h (read.Line line)) is fits)
+line_of_world (Some w) header line is fits = subst (λ h. IsInGrammar h (read.Line line)) is fits

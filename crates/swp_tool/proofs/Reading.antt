@@ -20,7 +20,6 @@ use Rattle.swp_tool.specs.declared.replay.Halt.{Halt}
 use Rattle.swp_tool.specs.declared.replay.Halt.TheVariants as halt
 use Rattle.swp_tool.specs.declared.pieces.Pieces.{Pieces}
 use Rattle.swp_tool.specs.Schedules.{Stop, AtFault, AtMisread, Too_many, Schedule, nothing_read, misread_there, with_played, and_said, and_line, and_lines}
-use Rattle.swp_tool.specs.Schedules.{unless_settling, said_there}
 use Rattle.swp_tool.specs.Schedules.{ended, schedule_in}
 use Rattle.swp_tool.specs.Transcripts.{IsTextBelow, IsTranscript, IsDoneText, StopsWithText, done_line}
 use Rattle.swp_tool.specs.Replays.{IsAt, HasPlayed, HaltsAt}
@@ -62,7 +61,7 @@ pub record StopsThere (s s' : Schedule) : Type 0 where
 pub stops_there : (s : Schedule) (why : Stop) (bytes : List ℕ) → s.stop ≡ None → (and_line s bytes).stop ≡ Some why → StopsThere s (and_line s bytes)
 stops_there s why bytes running stop =
     (let P : Option Stop → Type 0 = λ o. (and_line (record s { stop = o }) bytes).stop ≡ Some why → StopsThere s (and_line (record s { stop = o }) bytes) in
-    subst P (sym running) (go (eqb s.count 20000) (said_there s.header bytes))) stop
+    subst P (sym running) (go (eqb s.count 20000) (line_of s.header bytes))) stop
   where
     played : (line : Line) (other : Option (List ℕ)) → (with_played (record s { stop = None }) line other).stop ≡ Some why
         → StopsThere s (with_played (record s { stop = None }) line other)
@@ -176,7 +175,7 @@ halts_too_many p bytes written byte reading full h = λ rest.
     at_limit s line running count =
         let P : Option Stop → Type 0 = λ o. (and_line (record s { stop = o }) line).stop ≡ Some Too_many in
         subst P (sym running)
-        (ap (λ b. (cond b (record s { count = s.count + 1; stop = Some Too_many }) (and_said (record s { stop = None }) (said_there s.header line))).stop)
+        (ap (λ b. (cond b (record s { count = s.count + 1; stop = Some Too_many }) (and_said (record s { stop = None }) (line_of s.header line))).stop)
         (ap (λ n. eqb n 20000) count))
 
 -- the same where more bytes than one come
@@ -211,9 +210,9 @@ halts_too_long p before written bytes room long lacks h = λ rest.
         let fault_is : line_of s.header line ≡ Err fault.TooLong =
         ap (λ b. cond b (Err fault.TooLong) (by_words s.header (words line))) (let l : ltb 9000 (length line) ≡ true = grind (arith, common_steps) in l) in
         subst P (sym running)
-        (ap (λ b. (cond b (record s { count = s.count + 1; stop = Some Too_many }) (and_said (record s { stop = None }) (said_there s.header line))).stop)
+        (ap (λ b. (cond b (record s { count = s.count + 1; stop = Some Too_many }) (and_said (record s { stop = None }) (line_of s.header line))).stop)
         below
-        ∙ ap (λ r. (and_said (record s { stop = None }) (unless_settling r)).stop) fault_is)
+        ∙ ap (λ r. (and_said (record s { stop = None }) r).stop) fault_is)
 
 -- ## Bytes of a line that has not ended
 

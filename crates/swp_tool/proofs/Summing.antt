@@ -1,11 +1,11 @@
 -- The schedule that is drawn from a number has a legal history, and what is told of it is counted line by line.
 use Rattle.std.proofs.Common.{◌≡◌, ℕ, zero, suc, ◌+◌, ◌-◌, ◌^◌, ◌<◌, ◌≤◌, Bool}
-use Rattle.std.proofs.Common.{true, false, cond, List, [], ◌∷◌, ◌++◌, take, refl, ap, sym, subst, ◌∙◌}
+use Rattle.std.proofs.Common.{true, false, cond, List, [], ◌∷◌, ◌++◌, append-nil, append_assoc, take, refl, ap, sym, subst, ◌∙◌}
 use Rattle.std.proofs.Common.{arith, length-append, length-take, take_all, get_or, None}
 use Rattle.std.specs.List.Sorted.{IsStrictlyIncreasing}
-use Rattle.std.proofs.lemmas.List.Elements.{All-from_recursion}
-use Rattle.std.specs.Prelude.{length, min}
-use Rattle.std.specs.List.{AllByRecursion, filter}
+use Rattle.std.proofs.lemmas.List.Elements.{All-from_recursion, filter-append}
+use Rattle.std.specs.Prelude.{length, map, min}
+use Rattle.std.specs.List.{AllByRecursion, filter, fold}
 use Rattle.trace_model.specs.declared.entry.Entry.{Entry}
 use Rattle.trace_model.specs.declared.entry.Entry.TheVariants as entry
 use Rattle.trace_model.specs.declared.line.Line.{Line}
@@ -15,6 +15,7 @@ use Rattle.node_machine.specs.world.World.{NodeWorld, new_world}
 use Rattle.node_machine.specs.world.Lines.{misread_in, line_step}
 use Rattle.node_machine.specs.world.NodeHistories.{NoneIsMisread}
 use Rattle.answer_laws.specs.schedules.Ranges.{AreNodeLinesOf}
+use Rattle.answer_laws.proofs.bounds.Lines.{asking_few}
 use Rattle.answer_laws.proofs.schedules.Ranges.{in_range}
 use Rattle.answer_laws.proofs.worlds.Schedules.{played_legal}
 use Rattle.answer_laws.specs.answers.Headline.{IsPlayed}
@@ -24,6 +25,9 @@ use Rattle.drawn_schedule.proofs.HarmlessLemmas.{lines_may_be_played}
 use Rattle.drawn_schedule.proofs.ReadLemmas.{lines_count}
 use Rattle.told_laws.specs.NodesTold.{nodes_told}
 use Rattle.lines_told.specs.Below.{IsPlayedLine, is_settling, told_below}
+use Rattle.lines_told.specs.Plays.{Play, lines_of_play, lines_played, lines_said}
+use Rattle.lines_told.specs.Plays.Play.{Said}
+use Rattle.world.specs.Worlds.{HasRoomForLine}
 use Rattle.swp_tool.specs.declared.counts.Counts.{Counts}
 use Rattle.swp_tool.specs.Transcripts.{nodes_history}
 use Rattle.swp_tool.specs.Generated.{count_of_kind, AreCountsOf, is_noted_sent, is_noted_got, is_noted_acked, is_noted_up, is_noted_command}
@@ -31,18 +35,10 @@ use Rattle.swp_tool.specs.declared.generating.Generating.{Generating}
 use Rattle.swp_tool.specs.Generated.{HasCounted, told_line, summary_line, IsSummary, Generated, WroteText}
 use Rattle.swp_tool.specs.declared.status.Status.{Status}
 use Rattle.swp_tool.specs.declared.status.Status.TheVariants as status
+use Rattle.swp_tool.proofs.Playing.{under_own_header}
 use Rattle.swp_tool.proofs.Texts.{nodes_told-push}
 
 -- ## Counts
-
-filter_append : (kind : Entry → Bool) (xs ys : List Entry) → filter kind (xs ++ ys) ≡ filter kind xs ++ filter kind ys
-filter_append kind [] ys = refl
-filter_append kind (x ∷ xs) ys = go (kind x) refl (filter_append kind xs ys)
-  where
-    go : (b : Bool) → kind x ≡ b → filter kind (xs ++ ys) ≡ filter kind xs ++ filter kind ys
-        → filter kind (x ∷ (xs ++ ys)) ≡ filter kind (x ∷ xs) ++ filter kind ys
-    go true q later = rw q (ap (λ l. x ∷ l) later)
-    go false q later = rw q later
 
 -- one entry more, by whether it is of the kind
 kind_more : (kind : Entry → Bool) (es : List Entry) (e : Entry)
@@ -50,7 +46,7 @@ kind_more : (kind : Entry → Bool) (es : List Entry) (e : Entry)
 kind_more kind es e = go (kind e) refl
   where
     long : length (filter kind (es ++ e ∷ [])) ≡ length (filter kind es) + length (filter kind (e ∷ []))
-    long = ap length (filter_append kind es (e ∷ [])) ∙ length-append (filter kind es) (filter kind (e ∷ []))
+    long = ap length (filter-append kind es (e ∷ [])) ∙ length-append (filter kind es) (filter kind (e ∷ []))
 
     go : (b : Bool) → kind e ≡ b → count_of_kind kind (es ++ e ∷ []) ≡ cond b (min (count_of_kind kind es + 1) (2 ^ 64 - 1)) (count_of_kind kind es)
     go true q = let one : length (filter kind (e ∷ [])) ≡ 1 = rw q refl in let z = long in omega (arith, z, one)
@@ -85,7 +81,7 @@ skipped : (kind : Entry → Bool) (es : List Entry) (x : Entry) (more : List Ent
     → count_of_kind kind (es ++ more) ≡ count_of_kind kind (es ++ x ∷ more)
 skipped kind es x more q =
     let one : filter kind (x ∷ more) ≡ filter kind more = rw q refl in
-    ap (λ l. min (length l) (2 ^ 64 - 1)) (filter_append kind es more ∙ ap (λ l. filter kind es ++ l) (sym one) ∙ sym (filter_append kind es (x ∷ more)))
+    ap (λ l. min (length l) (2 ^ 64 - 1)) (filter-append kind es more ∙ ap (λ l. filter kind es ++ l) (sym one) ∙ sym (filter-append kind es (x ∷ more)))
 
 echo_skipped : (c : Counts) (es : List Entry) (line : Line) (more : List Entry) → AreCountsOf c (es ++ more) → AreCountsOf c (es ++ entry.Echo line ∷ more)
 echo_skipped c es line more a =
@@ -167,7 +163,7 @@ drawn_is_played n header =
     let are = lines_may_be_played n in (
       header,
       in_ranges (drawn_lines n) are,
-      (let count = lines_count n in omega (arith, count)),
+      (let count = lines_count n in let few = asking_few (drawn_lines n) in omega (arith, count, few)),
       record {
         nodes = refl;
         header_is = refl;
@@ -194,6 +190,30 @@ told_as_counted n c t a =
     ∙ ap (told_line n (count_of_kind is_noted_sent t) (count_of_kind is_noted_got t) (count_of_kind is_noted_acked t) (count_of_kind is_noted_up t)) a.commands
 
 -- ## The lines that were run
+
+-- they are what is played of them
+pub run-append : (lines : List Line) (line : Line) → map Said (lines ++ line ∷ []) ≡ map Said lines ++ Said line ∷ []
+run-append [] line = refl
+run-append (l ∷ lines) line = ap (λ ps. Said l ∷ ps) (run-append lines line)
+
+all_said : (lines before : List Line) → fold (λ (ls : List Line) (p : Play). ls ++ lines_of_play the_header ls p) before (map Said lines) ≡ before ++ lines
+all_said [] before = sym (append-nil before)
+all_said (l ∷ lines) before = all_said lines (before ++ l ∷ []) ∙ append_assoc before (l ∷ []) lines
+
+pub lines_run : (lines : List Line) → lines_played the_header (map Said lines) ≡ lines
+lines_run lines = all_said lines []
+
+many_run : (lines : List Line) → lines_said (map Said lines) ≡ length lines
+many_run [] = refl
+many_run (l ∷ lines) = ap suc (many_run lines)
+
+pub run_room : (g : Generating) (lines : List Line) → HasCounted g lines → length lines < 20000 → HasRoomForLine g.world
+run_room g lines counted few =
+    record {
+      plays = map Said lines;
+      stands = under_own_header g.world the_header (map Said lines) counted.stands;
+      few = (let many = many_run lines in omega (arith, many, few));
+    }
 
 pub few_run : (n i : ℕ) (items : List Line) → items ≡ drawn_lines n → length (take i items) < 20000
 few_run n i items is =

@@ -9,7 +9,6 @@ use Rattle.trace_model.specs.declared.entry.Entry.{Entry}
 use Rattle.trace_model.specs.declared.entry.Entry.TheVariants as entry
 use Rattle.trace_model.specs.declared.line.Header.{Header}
 use Rattle.trace_model.specs.declared.line.Line.{Line}
-use Rattle.schedule_text.specs.Entries.{entry_line, entry_lines}
 use Rattle.link_entries.specs.messages.Links.{Link}
 use Rattle.history.specs.Histories.{Step, noted}
 use Rattle.history.specs.Steps.{bare_link}
@@ -20,8 +19,8 @@ use Rattle.node_machine.specs.world.NodeHistories.{LineStep, steps_from, world_a
 use Rattle.answer_laws.specs.answers.Headline.PlayedHistory.{OfLink, OfNodes}
 use Rattle.told_laws.specs.Told.{step_told, entries_told}
 use Rattle.told_laws.specs.NodesTold.{line_told, nodes_told}
-use Rattle.lines_told.specs.Below.{bare_link_behind, nodes_behind, opening_told, told_below}
-use Rattle.swp_tool.specs.Transcripts.{link_steps_from, link_history, nodes_history, history_below, played_told, played_text}
+use Rattle.lines_told.specs.Below.{bare_link_behind, nodes_behind, told_below}
+use Rattle.swp_tool.specs.Transcripts.{link_steps_from, link_history, nodes_history, history_below, played_told}
 
 -- ## What a line adds to a history
 
@@ -62,7 +61,7 @@ nodes_told-push header lines line =
     let step : LineStep = record { line = line; outcome = (line_step (nodes_behind header lines) line).1 } in
     ap (λ l. entry.Head header ∷ l) (ap (flat_map line_told) (node_steps-push w lines line) ∙ told-push line_told (steps_from w lines) step)
 
-told_more : (header : Header) (lines : List Line) (line : Line)
+pub told_more : (header : Header) (lines : List Line) (line : Line)
     → played_told (history_below header (lines ++ line ∷ [])) ≡ played_told (history_below header lines) ++ (entry.Echo line ∷ told_below header lines line)
 told_more header lines line = go header.hci
   where
@@ -74,23 +73,6 @@ told_more header lines line = go header.hci
         ++ (entry.Echo line ∷ told_below (record header { hci = nodes }) lines line)
     go true = nodes_told-push header lines line
     go false = link_told-push header lines line
-
--- the transcript of a history with one line more
-pub text_more : (header : Header) (lines : List Line) (line : Line)
-    → played_text (history_below header (lines ++ line ∷ []))
-    ≡ played_text (history_below header lines) ++ (entry_line (entry.Echo line) ++ entry_lines (told_below header lines line))
-text_more header lines line =
-    ap entry_lines (told_more header lines line)
-    ∙ flat_map-append entry_line (played_told (history_below header lines)) (entry.Echo line ∷ told_below header lines line)
-
--- the transcript of a header alone
-pub text_first : (header : Header) → entry_line (entry.Head header) ++ entry_lines (opening_told header) ≡ played_text (history_below header [])
-text_first header = go header.hci
-  where
-    go : (nodes : Bool) → entry_line (entry.Head header) ++ entry_lines (opening_told (record header { hci = nodes }))
-        ≡ played_text (cond nodes (OfNodes (nodes_history header [])) (OfLink (link_history header [])))
-    go true = refl
-    go false = ap (λ l. entry_line (entry.Head header) ++ entry_lines l) (sym (append-nil (opening_of (host_of header))))
 
 -- ## Answers
 

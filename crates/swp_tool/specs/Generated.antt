@@ -1,5 +1,5 @@
 -- What a run with the words `gen N` has written: one line with the counts of what is noted of the schedule that is drawn from N.
-use Rattle.std.specs.Prelude.{◌≡◌, ℕ, ◌+◌, ◌-◌, ◌^◌, ◌≤◌, min, Bool, true, false, IsTrue, List, [], ◌∷◌, ◌++◌, length, take, codes}
+use Rattle.std.specs.Prelude.{◌≡◌, ℕ, ◌+◌, ◌-◌, ◌^◌, ◌≤◌, min, Bool, true, false, IsTrue, List, [], ◌∷◌, ◌++◌, length, map, take, codes}
 use Rattle.std.specs.List.{filter}
 use Rattle.std.specs.Fmt.{decimal}
 use Rattle.trace_model.specs.declared.entry.Entry.{Entry}
@@ -9,6 +9,7 @@ use Rattle.drawn_schedule.specs.Schedule.{the_header, drawn_lines}
 use Rattle.node_machine.specs.world.NodeHistories.{NodeHistory}
 use Rattle.answer_laws.specs.answers.Headline.{IsPlayed, IsLegal}
 use Rattle.answer_laws.specs.answers.Headline.PlayedHistory.{OfNodes}
+use Rattle.lines_told.specs.Plays.Play.{Said}
 use Rattle.told_laws.specs.NodesTold.{nodes_told}
 use Rattle.world.specs.Worlds.{IsWorldAt}
 use Rattle.swp_tool.specs.declared.status.Status.{Status}
@@ -58,7 +59,7 @@ pub record AreCountsOf (c : Counts) (entries : List Entry) : Type 0 where
 
 -- the world stands behind these lines of the schedule, and all that is told of their history was counted
 pub record HasCounted (g : Generating) (lines : List Line) : Type 0 where
-  pub stands : IsWorldAt g.world the_header lines
+  pub stands : IsWorldAt g.world the_header (map Said lines)
   pub counts : AreCountsOf g.counts (nodes_told (nodes_history the_header lines))
 
 -- ## The line

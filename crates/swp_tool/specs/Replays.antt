@@ -1,8 +1,11 @@
 -- What a replay has of the schedule that it reads.
-use Rattle.std.specs.Prelude.{◌≡◌, ℕ, ◌≤◌, List, [], ◌++◌, length, Option, Some, None, IsSome}
+use Rattle.std.specs.Prelude.{◌≡◌, ℕ, ◌+◌, ◌*◌, ◌≤◌, List, [], ◌++◌, replicate, Option, Some, None, IsSome}
 use Rattle.std.specs.Option.{ForSome}
 use Rattle.trace_model.specs.declared.line.Header.{Header}
 use Rattle.trace_model.specs.declared.line.Line.{Line}
+use Rattle.schedule_text.specs.Entries.{entry_lines}
+use Rattle.lines_told.specs.Plays.{Play, lines_said, plays_of, rounds_played, schedule_told, told_of_rounds}
+use Rattle.lines_told.specs.Plays.Play.{Round}
 use Rattle.world.specs.declared.world_steps.World.{World}
 use Rattle.world.specs.declared.fault.WorldFault.{WorldFault}
 use Rattle.world.specs.declared.fault.WorldFault.TheVariants as fault
@@ -11,12 +14,11 @@ use Rattle.swp_tool.specs.declared.replay.Replay.{Replay}
 use Rattle.swp_tool.specs.declared.replay.Halt.{Halt}
 use Rattle.swp_tool.specs.declared.replay.Halt.TheVariants as halt
 use Rattle.swp_tool.specs.Schedules.{Schedule, AtFault, AtMisread, and_line}
-use Rattle.swp_tool.specs.Transcripts.{history_below, played_text}
 
--- A world stands behind these lines below this header, and this text is the transcript of what became of them.
+-- A world stands behind what was played of these lines below this header, and this text is the transcript of what became of them.
 pub record Runs (w : World) (header : Header) (lines : List Line) (text : List ℕ) : Type 0 where
-  pub stands : IsWorldAt w header lines
-  pub text_is : text ≡ played_text (history_below header lines)
+  pub stands : IsWorldAt w header (plays_of header lines)
+  pub text_is : text ≡ entry_lines (schedule_told header lines)
 
 -- there is a world where there is a header
 abbrev pub IsAt : Option World → Option Header → List Line → List ℕ → Type 0
@@ -31,11 +33,21 @@ pub record HasPlayed (r : Replay) (s : Schedule) (written : List ℕ) : Type 0 w
   pub count_is : r.count ≡ s.count
   pub at : IsAt r.world s.header s.lines (written ++ r.text.items)
 
--- a world was stepped by at most this many lines
+-- a world was stepped by at most this many lines, and had at most 20,000 rounds for each of them
 pub record WasStepped (w : World) (most : ℕ) : Type 0 where
-  pub lines : List Line
-  pub stands : IsWorldAt w (world_header w) lines
-  pub few : length lines ≤ most
+  pub plays : List Play
+  pub stands : IsWorldAt w (world_header w) plays
+  pub few : lines_said plays ≤ most
+  pub rounds : rounds_played plays ≤ 20000 * most
+
+-- so many rounds more are no more than a schedule has
+abbrev pub HasRoundsLeft : World → ℕ → Type 0
+HasRoundsLeft w most = (plays : List Play) × IsWorldAt w (world_header w) plays × (rounds_played plays + most ≤ 400000000)
+
+-- A world stands so many rounds behind these plays, and what they tell was gathered: the text was this before, and is this now.
+pub record HasGoneThrough (w : World) (header : Header) (plays : List Play) (rounds : ℕ) (before text : List ℕ) : Type 0 where
+  pub stands : IsWorldAt w header (plays ++ replicate rounds Round)
+  pub text_is : text ≡ before ++ entry_lines (told_of_rounds header plays rounds)
 
 -- a replay has read at most 20,000 lines, and its world was stepped by no more than it has read
 pub record HasFew (r : Replay) : Type 0 where

@@ -9,7 +9,8 @@ use Rattle.schedule_text.specs.declared.fault.LineFault.TheVariants as fault
 use Rattle.schedule_text.specs.declared.read.Read.{Read}
 use Rattle.schedule_text.specs.declared.read.Read.TheVariants as read
 use Rattle.schedule_text.specs.Lines.{line_of}
-use Rattle.lines_told.specs.Below.{is_settling, misread_below}
+use Rattle.lines_told.specs.Below.{misread_below}
+use Rattle.lines_told.specs.Plays.{lines_played_of}
 
 -- why bytes stop being a schedule: a line is outside the forms, it damages a frame so that another one is read in its place, or
 -- one line more begins than a schedule may have
@@ -33,28 +34,16 @@ nothing_read = record { header = None; lines = []; count = 0; stop = None }
 abbrev pub most_lines : ℕ
 most_lines = 20000
 
--- The frame that is read in place of another, where a line behind these damages that one so that its CRC doesn't show it; before a header
--- no line is played.
+-- The frame that is read in place of another, where a line behind these damages that one so that its CRC doesn't show it: behind what they
+-- come to as they are played. Before a header no line is played.
 abbrev pub misread_there : Option Header → List Line → Line → Option (List ℕ)
 misread_there None before line = None
-misread_there (Some header) before line = misread_below header before line
+misread_there (Some header) before line = misread_below header (lines_played_of header before) line
 
 -- a schedule with one line more, unless that line damages a frame so that another one is read
 abbrev pub with_played : Schedule → Line → Option (List ℕ) → Schedule
 with_played s line None = record s { lines = s.lines ++ line ∷ []; count = s.count + 1 }
 with_played s line (Some other) = record s { count = s.count + 1; stop = Some AtMisread }
-
--- no world settles yet: a line that asks for it has an unknown word
-abbrev pub unless_settling : Result Read LineFault → Result Read LineFault
-unless_settling (Err f) = Err f
-unless_settling (Ok read.Skip) = Ok read.Skip
-unless_settling (Ok (read.Header header)) = Ok (read.Header header)
-unless_settling (Ok (read.Line said)) = if is_settling said then Err fault.Word else Ok (read.Line said)
-unless_settling (Ok read.NoMemory) = Ok read.NoMemory
-
--- what a line says below either header, or the first one where there is none yet
-abbrev pub said_there : Option Header → List ℕ → Result Read LineFault
-said_there header bytes = unless_settling (line_of header bytes)
 
 -- a schedule with one line more, that says this
 abbrev pub and_said : Schedule → Result Read LineFault → Schedule
@@ -72,7 +61,7 @@ and_line s bytes = unless s.stop where
   unless None =
       if s.count == most_lines
       then record s { count = s.count + 1; stop = Some Too_many }
-      else and_said s (said_there s.header bytes)
+      else and_said s (line_of s.header bytes)
 
 abbrev pub and_lines : Schedule → List (List ℕ) → Schedule
 and_lines s bytes = fold and_line s bytes

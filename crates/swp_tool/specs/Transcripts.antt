@@ -1,8 +1,9 @@
 -- The transcript of a history, below either header.
-use Rattle.std.specs.Prelude.{◌≡◌, ℕ, if◌then◌else◌, List, [], ◌∷◌, ◌++◌, Option, Some, None, codes}
-use Rattle.std.specs.List.{All}
+use Rattle.std.specs.Prelude.{◌≡◌, ℕ, Bool, true, false, not, if◌then◌else◌, List, [], ◌∷◌, ◌++◌, Option, Some, None, codes}
+use Rattle.std.specs.List.{All, filter}
 use Rattle.std.specs.Fmt.{decimal}
 use Rattle.trace_model.specs.declared.entry.Entry.{Entry}
+use Rattle.trace_model.specs.declared.entry.Entry.TheVariants as entry
 use Rattle.trace_model.specs.declared.line.Header.{Header}
 use Rattle.trace_model.specs.declared.line.Line.{Line}
 use Rattle.schedule_text.specs.Entries.{entry_lines}
@@ -15,6 +16,7 @@ use Rattle.node_machine.specs.world.NodeHistories.{NodeHistory, steps_from}
 use Rattle.answer_laws.specs.answers.Headline.{PlayedHistory, IsPlayed, IsLegal}
 use Rattle.answer_laws.specs.answers.Headline.PlayedHistory.{OfLink, OfNodes}
 use Rattle.text_laws.specs.Ranges.{IsNumber, IsEntry}
+use Rattle.lines_told.specs.Plays.{lines_played_of, schedule_told}
 use Rattle.told_laws.specs.Told.{entries_told}
 use Rattle.told_laws.specs.NodesTold.{nodes_told}
 use Rattle.swp_tool.specs.Schedules.{Stop, Schedule, schedule_in}
@@ -47,20 +49,30 @@ abbrev pub played_told : PlayedHistory → List Entry
 played_told (OfLink t) = entries_told t
 played_told (OfNodes t) = nodes_told t
 
--- the transcript of a history: its header, its lines, and below each what is noted
-abbrev pub played_text : PlayedHistory → List ℕ
-played_text t = entry_lines (played_told t)
+-- an entry says what the schedule says, or how many rounds a line had, and not what happened
+abbrev pub is_of_schedule : Entry → Bool
+is_of_schedule (entry.Head header) = true
+is_of_schedule (entry.Echo line) = true
+is_of_schedule (entry.Settled rounds) = true
+is_of_schedule _ = false
+
+-- the entries that tell what happened, in order
+abbrev pub what_happened : List Entry → List Entry
+what_happened entries = filter (λ (e : Entry). not (is_of_schedule e)) entries
 
 -- the last line, with the number of lines of the schedule
 abbrev pub done_line : ℕ → List ℕ
 done_line count = codes "done " ++ decimal count ++ 10 ∷ []
 
--- A text is the transcript of a legal history that is played from this header and these lines.
+-- A text is the transcript of these lines below this header: it tells the header, the lines, and below each what is noted of it. What it
+-- tells to have happened is what is noted of one legal history, which is played from the lines that these come to: their own, where none
+-- of them lets the links settle, and else the deliveries and ticks of its rounds in such a line's place.
 pub record IsPlayedText (header : Header) (lines : List Line) (text : List ℕ) : Type 0 where
   pub history : PlayedHistory
-  pub played : IsPlayed header lines history
+  pub played : IsPlayed header (lines_played_of header lines) history
   pub legal : IsLegal history
-  pub text_is : text ≡ played_text history
+  pub tells : what_happened (schedule_told header lines) ≡ what_happened (played_told history)
+  pub text_is : text ≡ entry_lines (schedule_told header lines)
 
 -- A text is the transcript of these lines below this header: nothing before a header.
 abbrev pub IsTextBelow : Option Header → List Line → List ℕ → Type 0
@@ -99,10 +111,12 @@ pub record TellsEntries (text : List ℕ) (entries : List Entry) : Type 0 where
   pub text_is : text ≡ whole_text entries count
   pub alone : (others : List Entry) (n : ℕ) → All IsEntry others → IsNumber n → text ≡ whole_text others n → others ≡ entries
 
--- a text tells what became of the lines of a schedule: the entries of the history that is played from them
+-- A text tells what became of the lines of a schedule: their entries, which tell what happened in the history that is played from what they
+-- come to.
 pub record TellsPlayed (s : Schedule) (text : List ℕ) : Type 0 where
   pub header : Header
   pub header_is : s.header ≡ Some header
   pub history : PlayedHistory
-  pub played : IsPlayed header s.lines history
-  pub told : TellsEntries text (played_told history)
+  pub played : IsPlayed header (lines_played_of header s.lines) history
+  pub tells : what_happened (schedule_told header s.lines) ≡ what_happened (played_told history)
+  pub told : TellsEntries text (schedule_told header s.lines)

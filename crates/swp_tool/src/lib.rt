@@ -14,6 +14,7 @@ pub mod played;
 mod records;
 mod replay;
 mod replaying;
+mod settling;
 mod status;
 mod tables;
 mod tapping;

@@ -2,13 +2,16 @@
 ghost use Rattle.std.specs.Prelude.{◌≡◌, ◌+◌, ◌<◌, ◌++◌, ◌∷◌, [], List, ℕ, Ok, None, OnOk, OnErr, IfOk, IfErr, IsSomeAnd, ◌⊎◌, ◌≢◌};
 ghost use Rattle.trace_model.specs.declared.line.Header.{Header};
 ghost use Rattle.trace_model.specs.declared.line.Line.{Line};
-ghost use Rattle.trace_model.specs.Lines.{MayBegin};
-ghost use Rattle.lines_told.specs.Below.{IsPlayedLine, is_settling, misread_below};
+ghost use Rattle.trace_model.specs.Lines.{MayBegin, MayFollow};
+ghost use Rattle.schedule_text.specs.Entries.{entry_lines};
+ghost use Rattle.lines_told.specs.Below.{IsPlayedLine, misread_below};
+ghost use Rattle.lines_told.specs.Plays.{Play, lines_played, schedule_told};
 ghost use Rattle.world.specs.Worlds.{IsWorldAt, HasRoomForLine, world_header};
 ghost use Rattle.swp_tool.specs.Schedules.{Schedule, and_line, and_said, nothing_read};
 ghost use Rattle.swp_tool.specs.Replays.{Runs, WasStepped, HasPlayed, HasFew, HaltsOn, HaltsBefore, HaltsAt};
-ghost use Rattle.swp_tool.specs.Transcripts.{done_line, history_below, played_text};
+ghost use Rattle.swp_tool.specs.Transcripts.{done_line};
 
+use crate::settling::settle;
 use schedule_text::{LineFault, Read, read_line, write_opening, write_step};
 use std::alloc::{AllocError, Global};
 use swp_base::NoMemory;
@@ -102,12 +105,7 @@ impl Replay {
                 Ok(())
             }
             Ok(Read::Header(header)) => self.begin(alloc, &header),
-            Ok(Read::Line(line)) => {
-                if settles(&line) {
-                    return Err(Halt::Fault(LineFault::Word));
-                }
-                self.go_on(alloc, &line)
-            }
+            Ok(Read::Line(line)) => self.go_on(alloc, &line),
         }
     }
 
@@ -133,7 +131,7 @@ impl Replay {
 
     /// Steps the world by the next line, which is one below the header.
     fn go_on(&mut self, alloc: Global, line: &Line) -> Result<(), Halt>
-        requires world { IsSomeAnd self.old.world (λ w. IsPlayedLine (world_header w) line.now) }
+        requires world { IsSomeAnd self.old.world (λ w. MayFollow (world_header w) line.now) }
         requires few { HasFew self.old }
         requires next { self.old.count < 20000 }
         ensures played { OnOk result ((s : Schedule) (written : List ℕ) → HasPlayed self.old s written
@@ -148,7 +146,7 @@ impl Replay {
         let Some(world) = &mut self.world else {
             return Err(Halt::Fault(LineFault::Order));
         };
-        match step(alloc, world, line, &mut self.text) {
+        match play_line(alloc, world, line, &mut self.text) {
             Ok(()) => {
                 self.count += 1;
                 Ok(())
@@ -174,13 +172,6 @@ impl Replay {
     }
 }
 
-/// Whether a line lets the links settle, which no world does yet.
-fn settles(line: &Line) -> bool
-    ensures { result ≡ is_settling line.now }
-{
-    matches!(line, Line::Settle { .. })
-}
-
 /// Appends the last line of a transcript. Where there is no memory, the text stays as it was.
 fn append_done(alloc: Global, count: u64, text: &mut Vec<u8>) -> Result<(), AllocError>
     ensures ok { OnOk result (text.new.items ≡ text.old.items ++ done_line count) }
@@ -195,7 +186,7 @@ fn open(alloc: Global, header: &Header, text: &mut Vec<u8>) -> Result<World, Hal
     requires { MayBegin header.now }
     ensures stands { IfOk result (λ w. IsWorldAt w header.now []) }
     ensures stepped { IfOk result (λ w. WasStepped w 0) }
-    ensures text { OnOk result (text.new.items ≡ text.old.items ++ played_text (history_below header.now [])) }
+    ensures text { OnOk result (text.new.items ≡ text.old.items ++ entry_lines (schedule_told header.now [])) }
     ensures halts { IfErr result (λ why. why ≡ Halt.NoMemory) }
     ensures same { OnErr result (text.new.items ≡ text.old.items) }
 {
@@ -204,16 +195,36 @@ fn open(alloc: Global, header: &Header, text: &mut Vec<u8>) -> Result<World, Hal
     Ok(world)
 }
 
+/// Has a world play a line, and gathers the text of the line and of what it caused.
+fn play_line(alloc: Global, world: &mut World, line: &Line, text: &mut Vec<u8>) -> Result<(), Halt>
+    requires line { MayFollow (world_header world.old) line.now }
+    requires room { (count : ℕ) × WasStepped world.old count × (count < 20000) }
+    ensures runs { OnOk result ((header : Header) (lines : List Line) (before : List ℕ) → Runs world.old header lines (before ++ text.old.items)
+        → Runs world.new header (lines ++ line.now ∷ []) (before ++ text.new.items)) }
+    ensures told { OnOk result ((header : Header) (plays : List Play) → IsWorldAt world.old header plays
+        → misread_below header (lines_played header plays) line.now ≡ None) }
+    ensures stepped { OnOk result ((count : ℕ) → WasStepped world.old count → WasStepped world.new (count + 1)) }
+    ensures halts { IfErr result (λ why. (header : Header) (plays : List Play) → IsWorldAt world.old header plays
+        → HaltsOn why (misread_below header (lines_played header plays) line.now)) }
+    ensures same { OnErr result (text.new.items ≡ text.old.items) }
+{
+    match line {
+        Line::Settle { rounds } => settle(alloc, world, *rounds, text),
+        _ => step(alloc, world, line, text),
+    }
+}
+
 /// Steps a world by a line, and gathers the text of the line and of what it caused.
 fn step(alloc: Global, world: &mut World, line: &Line, text: &mut Vec<u8>) -> Result<(), Halt>
     requires line { IsPlayedLine (world_header world.old) line.now }
     requires room { HasRoomForLine world.old }
     ensures runs { OnOk result ((header : Header) (lines : List Line) (before : List ℕ) → Runs world.old header lines (before ++ text.old.items)
         → Runs world.new header (lines ++ line.now ∷ []) (before ++ text.new.items)) }
-    ensures told { OnOk result ((header : Header) (lines : List Line) → IsWorldAt world.old header lines → misread_below header lines line.now ≡ None) }
+    ensures told { OnOk result ((header : Header) (plays : List Play) → IsWorldAt world.old header plays
+        → misread_below header (lines_played header plays) line.now ≡ None) }
     ensures stepped { OnOk result ((most : ℕ) → WasStepped world.old most → WasStepped world.new (most + 1)) }
-    ensures halts { IfErr result (λ why. (header : Header) (lines : List Line) → IsWorldAt world.old header lines
-        → HaltsOn why (misread_below header lines line.now)) }
+    ensures halts { IfErr result (λ why. (header : Header) (plays : List Play) → IsWorldAt world.old header plays
+        → HaltsOn why (misread_below header (lines_played header plays) line.now)) }
     ensures same { OnErr result (text.new.items ≡ text.old.items) }
 {
     world.step(alloc, line)?;

@@ -1,8 +1,10 @@
 //! Memories of nodes behind a schedule, as a caller takes them out of the world that played it.
 ghost use Rattle.std.specs.Prelude.{◌≡◌, [], ◌∷◌, ◌++◌, ◌+◌, ◌<◌, List, length};
-ghost use Rattle.trace_model.specs.declared.line.Line.{Line as Said};
+ghost use Rattle.trace_model.specs.declared.line.Line.{Line as Spoken};
 ghost use Rattle.trace_model.specs.Lines.{MayBegin};
 ghost use Rattle.lines_told.specs.Below.{IsPlayedLine, is_settling};
+ghost use Rattle.lines_told.specs.Plays.{Play, lines_said};
+ghost use Rattle.lines_told.specs.Plays.Play.{Said};
 ghost use Rattle.world.specs.Worlds.{HasRoomForLine, IsWorldAt, world_header};
 
 use crate::cuts::keeps;
@@ -61,7 +63,10 @@ fn opened(rt: &impl Abort, alloc: Global) -> World
     ensures { IsWorldAt result (world_header result) [] }
 {
     let header = header_read(rt, alloc);
-    World::new(alloc, &header).expect(rt, "there is memory")
+    match World::new(alloc, &header) {
+        Ok(world) => world,
+        Err(_) => panic!(rt; "there is memory"),
+    }
 }
 
 /// A line that this world may play.
@@ -81,8 +86,8 @@ fn line_for(rt: &impl Abort, alloc: Global, world: &World, text: &str) -> Line
 fn plays(rt: &impl Abort, alloc: Global, world: &mut World, text: &str)
     requires { HasRoomForLine world.old }
     ensures header { world_header world.new ≡ world_header world.old }
-    ensures stands { (lines : List Said) → IsWorldAt world.old (world_header world.old) lines
-        → (said : Said) × IsWorldAt world.new (world_header world.old) (lines ++ said ∷ []) }
+    ensures stands { (before : List Play) → IsWorldAt world.old (world_header world.old) before
+        → (line : Spoken) × IsWorldAt world.new (world_header world.old) (before ++ Said line ∷ []) }
 {
     let line = line_for(rt, alloc, world, text);
     match world.step(alloc, &line) {
@@ -93,9 +98,9 @@ fn plays(rt: &impl Abort, alloc: Global, world: &mut World, text: &str)
 
 /// The world plays these lines.
 fn plays_all(rt: &impl Abort, alloc: Global, world: &mut World, texts: &[&str])
-    requires { (lines : List Said) × IsWorldAt world.old (world_header world.old) lines × (length lines + length texts.now < 20000) }
-    ensures { (lines : List Said) → IsWorldAt world.old (world_header world.old) lines
-        → (more : List Said) × IsWorldAt world.new (world_header world.new) (lines ++ more) × (length more ≡ length texts.now) }
+    requires { (before : List Play) × IsWorldAt world.old (world_header world.old) before × (lines_said before + length texts.now < 20000) }
+    ensures { (before : List Play) → IsWorldAt world.old (world_header world.old) before → (more : List Play) ×
+        IsWorldAt world.new (world_header world.new) (before ++ more) × (lines_said (before ++ more) ≡ lines_said before + length texts.now) }
 {
     for text in texts {
         plays(rt, alloc, world, text);

@@ -1,3 +1,4 @@
+use Rattle.lines_told.proofs.Plays.{played_alone}
 use Rattle.swp_tool.specs.Schedules.{schedule_in}
 use Rattle.swp_tool.proofs.Fitting.{history_played, only_history, whole_fits}
 use Rattle.swp_tool.proofs.played.a_schedule_has_one_history.Goals as goal
@@ -7,3 +8,6 @@ returns-clause-played c bytes header is = history_played (schedule_in bytes) hea
 
 pub returns-clause-alone : goal.returns-clause-alone
 returns-clause-alone c = only_history
+
+pub returns-clause-themselves : goal.returns-clause-themselves
+returns-clause-themselves c = played_alone

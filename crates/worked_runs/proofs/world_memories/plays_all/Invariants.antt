@@ -1,10 +1,10 @@
-use Rattle.std.proofs.Common.{◌≡◌, ◌++◌, List, length}
-use Rattle.trace_model.specs.declared.line.Line.{Line}
+use Rattle.std.proofs.Common.{◌≡◌, ◌+◌, ◌++◌, List}
+use Rattle.lines_told.specs.Plays.{Play, lines_said}
 use Rattle.world.specs.Worlds.{IsWorldAt, world_header}
 use Rattle.worked_runs.proofs.world_memories.plays_all.Given as goal
 
 -- the world stands behind so many lines more
 abbrev pub invariant-loop-text : goal.invariant-loop-text
 invariant-loop-text g l =
-    (lines : List Line) → IsWorldAt l.initial.world (world_header l.initial.world) lines
-    → (more : List Line) × IsWorldAt l.world (world_header l.world) (lines ++ more) × (length more ≡ l.text-index)
+    (before : List Play) → IsWorldAt l.initial.world (world_header l.initial.world) before
+    → (more : List Play) × IsWorldAt l.world (world_header l.world) (before ++ more) × (lines_said (before ++ more) ≡ lines_said before + l.text-index)

@@ -1,11 +1,11 @@
 use Rattle.std.proofs.Common.{refl}
-use Rattle.swp_tool.proofs.Playing.{has_room, went_on, halted_there}
+use Rattle.swp_tool.proofs.Playing.{went_on, halted_there}
 use Rattle.swp_tool.proofs.replay.Replay.go_on.Goals as goal
 
 -- the world was stepped by no more lines than were read
-pub step-requires-clause-room : goal.step-requires-clause-room
-step-requires-clause-room c =
-    has_room c.in-Some.world c.args.self.now.count (c.requires.few.steps c.in-Some.world c.in-Some.is) c.requires.next
+pub play_line-requires-clause-room : goal.play_line-requires-clause-room
+play_line-requires-clause-room c =
+    (c.args.self.now.count, c.requires.few.steps c.in-Some.world c.in-Some.is, c.requires.next)
 
 -- the line was played
 pub returns-in-Ok-clause-played : goal.returns-in-Ok-clause-played

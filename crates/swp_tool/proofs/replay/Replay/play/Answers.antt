@@ -22,4 +22,4 @@ go_on-requires-clause-world c =
       | in-None w ↦ ap option_copied w.header-is ∙ sym (ap header_of_world w.in-None.is)
     ] in
     line_of_world c.args.self.now.world (option_copied c.match-self.header) c.in-Ok-Line.line header_is
-    (rw c.in-Ok-Line.field-0-is at c.in-Ok-Line.ensures.fits) (sym c.settles.ensures ∙ c.if-settles.false)
+    (rw c.in-Ok-Line.field-0-is at c.in-Ok-Line.ensures.fits)

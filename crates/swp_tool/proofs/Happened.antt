@@ -1,0 +1,172 @@
+-- What is told of a schedule with one line more, and that what it tells to have happened is noted of the history of what it comes to.
+use Rattle.std.proofs.Common.{◌≡◌, ℕ, zero, suc, Bool, true, false, cond, not, List, [], ◌∷◌, ◌++◌, refl, sym, ap, ◌∙◌, append_assoc, append-nil}
+use Rattle.std.specs.Prelude.{replicate}
+use Rattle.std.specs.List.{fold}
+use Rattle.std.proofs.lemmas.List.Elements.{filter-append}
+use Rattle.std.proofs.lemmas.List.Concat.{flat_map-append}
+use Rattle.trace_model.specs.declared.entry.Entry.{Entry}
+use Rattle.trace_model.specs.declared.entry.Entry.TheVariants as entry
+use Rattle.trace_model.specs.declared.line.Header.{Header}
+use Rattle.trace_model.specs.declared.line.Line.{Line}
+use Rattle.trace_model.specs.declared.line.Line.TheVariants as saying
+use Rattle.schedule_text.specs.Entries.{entry_line, entry_lines}
+use Rattle.history.specs.Follows.{host_of, opening_of}
+use Rattle.answer_laws.specs.answers.Headline.PlayedHistory.{OfLink, OfNodes}
+use Rattle.lines_told.specs.Below.{is_settling, opening_told, told_below}
+use Rattle.lines_told.specs.Plays.{Play, lines_played, lines_played_of, plays_of, plays_of_line, round_behind, rounds_to_rest, schedule_told, told_behind}
+use Rattle.lines_told.specs.Plays.{told_of_line, told_of_lines, told_of_play, told_of_rounds}
+use Rattle.lines_told.specs.Plays.Play.{Said, Round}
+use Rattle.lines_told.proofs.Plays.{played_more, plays_more, round_first}
+use Rattle.swp_tool.specs.Transcripts.{link_history, nodes_history, history_below, played_told, is_of_schedule, what_happened}
+use Rattle.swp_tool.proofs.Texts.{told_more}
+
+-- ## One line more
+
+-- what is played of lines behind these plays
+abbrev pub plays_behind : Header → List Play → List Line → List Play
+plays_behind header before lines = fold (λ (ps : List Play) (line : Line). ps ++ plays_of_line header ps line) before lines
+
+lines_told-push : (header : Header) (lines : List Line) (line : Line) (before : List Play)
+    → told_of_lines header before (lines ++ line ∷ [])
+    ≡ told_of_lines header before lines ++ (entry.Echo line ∷ told_of_line header (plays_behind header before lines) line)
+lines_told-push header [] line before = append-nil (entry.Echo line ∷ told_of_line header before line)
+lines_told-push header (x ∷ lines) line before =
+    let first : List Entry = entry.Echo x ∷ told_of_line header before x in
+    let later : List Play = before ++ plays_of_line header before x in
+    ap (λ (es : List Entry). first ++ es) (lines_told-push header lines line later)
+    ∙ sym (append_assoc first (told_of_lines header later lines) (entry.Echo line ∷ told_of_line header (plays_behind header later lines) line))
+
+pub schedule_told-push : (header : Header) (lines : List Line) (line : Line)
+    → schedule_told header (lines ++ line ∷ [])
+    ≡ schedule_told header lines ++ (entry.Echo line ∷ told_of_line header (plays_of header lines) line)
+schedule_told-push header lines line =
+    let more : List Entry = entry.Echo line ∷ told_of_line header (plays_of header lines) line in
+    ap (λ (es : List Entry). entry.Head header ∷ (opening_told header ++ es)) (lines_told-push header lines line [])
+    ∙ ap (λ (es : List Entry). entry.Head header ∷ es) (sym (append_assoc (opening_told header) (told_of_lines header [] lines) more))
+
+-- the transcript of one line more, and of a header alone
+pub schedule_text-push : (header : Header) (lines : List Line) (line : Line)
+    → entry_lines (schedule_told header (lines ++ line ∷ []))
+    ≡ entry_lines (schedule_told header lines)
+    ++ (entry_line (entry.Echo line) ++ entry_lines (told_of_line header (plays_of header lines) line))
+schedule_text-push header lines line =
+    ap entry_lines (schedule_told-push header lines line)
+    ∙ flat_map-append entry_line (schedule_told header lines) (entry.Echo line ∷ told_of_line header (plays_of header lines) line)
+
+pub schedule_text-first : (header : Header)
+    → entry_line (entry.Head header) ++ entry_lines (opening_told header) ≡ entry_lines (schedule_told header [])
+schedule_text-first header =
+    ap (λ (es : List Entry). entry_line (entry.Head header) ++ entry_lines es) (sym (append-nil (opening_told header)))
+
+-- ## A line that lets no links settle
+
+said_line : (header : Header) (before : List Play) (line : Line) → is_settling line ≡ false → plays_of_line header before line ≡ Said line ∷ []
+said_line header before (saying.Settle n) still = absurd (cc still)
+said_line header before line still = refl
+
+said_told : (header : Header) (before : List Play) (line : Line) → is_settling line ≡ false
+    → told_of_line header before line ≡ told_below header (lines_played header before) line
+said_told header before (saying.Settle n) still = absurd (cc still)
+said_told header before line still = refl
+
+pub said_plays : (header : Header) (lines : List Line) (line : Line) → is_settling line ≡ false
+    → plays_of header (lines ++ line ∷ []) ≡ plays_of header lines ++ Said line ∷ []
+said_plays header lines line still =
+    plays_more header lines line ∙ ap (λ (ps : List Play). plays_of header lines ++ ps) (said_line header (plays_of header lines) line still)
+
+pub said_text-push : (header : Header) (lines : List Line) (line : Line) → is_settling line ≡ false
+    → entry_lines (schedule_told header (lines ++ line ∷ []))
+    ≡ entry_lines (schedule_told header lines)
+    ++ (entry_line (entry.Echo line) ++ entry_lines (told_below header (lines_played_of header lines) line))
+said_text-push header lines line still =
+    schedule_text-push header lines line
+    ∙ ap (λ (es : List Entry). entry_lines (schedule_told header lines) ++ (entry_line (entry.Echo line) ++ entry_lines es))
+    (said_told header (plays_of header lines) line still)
+
+-- ## What happened
+
+happened-append : (xs ys : List Entry) → what_happened (xs ++ ys) ≡ what_happened xs ++ what_happened ys
+happened-append xs ys = filter-append (λ (e : Entry). not (is_of_schedule e)) xs ys
+
+module _ (header : Header) where
+  -- what happened in the history of lines
+  abbrev happened : List Line → List Entry
+  happened lines = what_happened (played_told (history_below header lines))
+
+  happened_first : happened [] ≡ what_happened (opening_told header)
+  happened_first = go header.hci
+    where
+      go : (nodes : Bool) → what_happened (played_told (cond nodes (OfNodes (nodes_history header [])) (OfLink (link_history header []))))
+          ≡ what_happened (cond nodes [] (opening_of (host_of header)))
+      go true = refl
+      go false = ap what_happened (append-nil (opening_of (host_of header)))
+
+  happened_more : (lines : List Line) (line : Line) → happened (lines ++ line ∷ []) ≡ happened lines ++ what_happened (told_below header lines line)
+  happened_more lines line =
+      ap what_happened (told_more header lines line)
+      ∙ happened-append (played_told (history_below header lines)) (entry.Echo line ∷ told_below header lines line)
+
+  happened_all : (more before : List Line) → happened (before ++ more) ≡ happened before ++ what_happened (told_behind header before more)
+  happened_all [] before = ap happened (append-nil before) ∙ sym (append-nil (happened before))
+  happened_all (line ∷ more) before =
+      let now : List Entry = told_below header before line in
+      let later : List Line = before ++ line ∷ [] in
+      let rest : List Entry = told_behind header later more in
+      ap happened (sym (append_assoc before (line ∷ []) more))
+      ∙ (happened_all more later
+      ∙ (ap (λ (es : List Entry). es ++ what_happened rest) (happened_more before line)
+      ∙ (append_assoc (happened before) (what_happened now) (what_happened rest)
+      ∙ ap (λ (es : List Entry). happened before ++ es) (sym (happened-append now rest)))))
+
+  -- behind one play more, and so many rounds
+  happened_round : (plays : List Play) → happened (lines_played header (plays ++ Round ∷ []))
+      ≡ happened (lines_played header plays) ++ what_happened (told_of_play header (lines_played header plays) Round)
+  happened_round plays =
+      let before : List Line = lines_played header plays in
+      ap happened (played_more header plays Round) ∙ happened_all (round_behind header before) before
+
+  happened_rounds : (n : ℕ) (plays : List Play) → happened (lines_played header (plays ++ replicate n Round))
+      ≡ happened (lines_played header plays) ++ what_happened (told_of_rounds header plays n)
+  happened_rounds zero plays =
+      ap (λ (ps : List Play). happened (lines_played header ps)) (append-nil plays) ∙ sym (append-nil (happened (lines_played header plays)))
+  happened_rounds (suc n) plays =
+      let was : List Entry = happened (lines_played header plays) in
+      let now : List Entry = told_of_play header (lines_played header plays) Round in
+      let rest : List Entry = told_of_rounds header (plays ++ Round ∷ []) n in
+      ap (λ (ps : List Play). happened (lines_played header ps)) (round_first plays n)
+      ∙ (happened_rounds n (plays ++ Round ∷ [])
+      ∙ (ap (λ (es : List Entry). es ++ what_happened rest) (happened_round plays)
+      ∙ (append_assoc was (what_happened now) (what_happened rest)
+      ∙ ap (λ (es : List Entry). was ++ es) (sym (happened-append now rest)))))
+
+  -- behind one line more of a schedule
+  happened_line : (before : List Play) (line : Line) → happened (lines_played header (before ++ plays_of_line header before line))
+      ≡ happened (lines_played header before) ++ what_happened (told_of_line header before line)
+  happened_line before (saying.Settle n) =
+      let r : ℕ = rounds_to_rest header before n in
+      let rounds : List Entry = told_of_rounds header before r in
+      happened_rounds r before
+      ∙ ap (λ (es : List Entry). happened (lines_played header before) ++ es)
+      (sym (happened-append rounds (entry.Settled r ∷ []) ∙ append-nil (what_happened rounds)))
+  happened_line before line =
+      ap happened (played_more header before (Said line)) ∙ happened_more (lines_played header before) line
+
+  happened_lines : (lines : List Line) (before : List Play) → happened (lines_played header (plays_behind header before lines))
+      ≡ happened (lines_played header before) ++ what_happened (told_of_lines header before lines)
+  happened_lines [] before = sym (append-nil (happened (lines_played header before)))
+  happened_lines (line ∷ lines) before =
+      let was : List Entry = happened (lines_played header before) in
+      let now : List Entry = told_of_line header before line in
+      let later : List Play = before ++ plays_of_line header before line in
+      let rest : List Entry = told_of_lines header later lines in
+      happened_lines lines later
+      ∙ (ap (λ (es : List Entry). es ++ what_happened rest) (happened_line before line)
+      ∙ (append_assoc was (what_happened now) (what_happened rest)
+      ∙ ap (λ (es : List Entry). was ++ es) (sym (happened-append now rest))))
+
+  -- what a schedule tells to have happened is noted of its history
+  pub tells_history : (lines : List Line) → what_happened (schedule_told header lines) ≡ happened (lines_played_of header lines)
+  tells_history lines =
+      let told : List Entry = told_of_lines header [] lines in
+      happened-append (opening_told header) told
+      ∙ (ap (λ (es : List Entry). es ++ what_happened told) (sym happened_first) ∙ sym (happened_lines lines []))

@@ -1,0 +1,71 @@
+use Rattle.std.proofs.Common.{◌≡◌, ℕ, ◌≤◌, ◌++◌, List, true, false, arith, subst}
+use Rattle.std.specs.Prelude.{replicate}
+use Rattle.lines_told.specs.Plays.Play.{Round}
+use Rattle.swp_tool.specs.Replays.{HasGoneThrough}
+use Rattle.swp_tool.proofs.RoundLemmas.{all_needed, any_err, first_needed, gone_more, more_again, none_gone, none_needed, one_gone, one_needed}
+use Rattle.swp_tool.proofs.RoundLemmas.{rests_so, room_for_round, stands_then}
+use Rattle.swp_tool.proofs.settling.play_rounds.Goals as goal
+
+pub loop-done-init : goal.loop-done-init
+loop-done-init c = record {
+  few = omega arith;
+  gone = λ header plays stands. none_gone c.args.world.now header plays c.args.text.now.items stands;
+  need = λ header plays stands. first_needed header plays c.args.most;
+}
+
+pub quiet-requires : goal.quiet-requires
+quiet-requires c =
+    stands_then c.args.world.now c.loop-done.world c.args.most c.loop-done.done c.args.text.now.items c.loop-done.text.items c.requires
+    c.loop-done.invariant.gone
+
+pub returns-then-quiet-clause-gone : goal.returns-then-quiet-clause-gone
+returns-then-quiet-clause-gone c = c.loop-done.invariant.gone
+
+pub returns-then-quiet-clause-rests : goal.returns-then-quiet-clause-rests
+returns-then-quiet-clause-rests c header plays stands =
+    let n = c.loop-done.done in
+    none_needed header plays c.args.most n c.loop-done-test.true
+    (rests_so c.loop-done.world header (plays ++ replicate n Round) c.quiet.result true (c.loop-done.invariant.gone header plays stands).stands
+    c.quiet.ensures c.if-quiet.true)
+    (c.loop-done.invariant.need header plays stands)
+
+pub play_round-requires : goal.play_round-requires
+play_round-requires c =
+    room_for_round c.args.world.now c.loop-done.world c.args.most c.loop-done.done c.args.text.now.items c.loop-done.text.items c.requires
+    c.loop-done-test.true c.loop-done.invariant.gone
+
+pub returns-in_err-play_round-clause-more : goal.returns-in_err-play_round-clause-more
+returns-in_err-play_round-clause-more c =
+    let old : List ℕ = c.args.text.now.items in
+    let new : List ℕ = c.play_round.new.text.items in
+    any_err ((more : List ℕ) × (new ≡ old ++ more)) c.from_residual.result
+    (more_again old c.loop-done.text.items new
+    (gone_more c.args.world.now c.loop-done.world c.args.most c.loop-done.done old c.loop-done.text.items c.requires c.loop-done.invariant.gone)
+    c.in_err-play_round.ensures.more)
+
+pub loop-done-preserved : goal.loop-done-preserved
+loop-done-preserved c =
+    let n = c.loop-done.done in record {
+      few = omega (arith, c.loop-done-test.true);
+      gone = λ header plays stands.
+          one_gone c.loop-done.world c.play_round.new.world header plays n c.args.text.now.items c.loop-done.text.items c.play_round.new.text.items
+          (c.loop-done.invariant.gone header plays stands) (c.in_ok-play_round.ensures.stands header) (c.in_ok-play_round.ensures.told header);
+      need = λ header plays stands.
+          one_needed header plays c.args.most n c.loop-done-test.true
+          (rests_so c.loop-done.world header (plays ++ replicate n Round) c.quiet.result false (c.loop-done.invariant.gone header plays stands).stands
+          c.quiet.ensures c.if-quiet.false)
+          (c.loop-done.invariant.need header plays stands);
+    }
+
+pub returns-clause-gone : goal.returns-clause-gone
+returns-clause-gone c header plays stands =
+    let few : c.loop-done.done ≤ c.args.most = c.loop-done.invariant.few in
+    let all : c.loop-done.done ≡ c.args.most = omega (arith, c.loop-done-test.false, few) in
+    subst (λ (n : ℕ). HasGoneThrough c.loop-done.world header plays n c.args.text.now.items c.loop-done.text.items) all
+    (c.loop-done.invariant.gone header plays stands)
+
+pub returns-clause-rests : goal.returns-clause-rests
+returns-clause-rests c header plays stands =
+    let few : c.loop-done.done ≤ c.args.most = c.loop-done.invariant.few in
+    let all : c.loop-done.done ≡ c.args.most = omega (arith, c.loop-done-test.false, few) in
+    all_needed header plays c.args.most c.loop-done.done all (c.loop-done.invariant.need header plays stands)

@@ -1,0 +1,16 @@
+use Rattle.std.proofs.Common.{◌≤◌, List}
+use Rattle.trace_model.specs.declared.line.Header.{Header}
+use Rattle.lines_told.specs.Plays.{Play}
+use Rattle.world.specs.Worlds.{IsWorldAt}
+use Rattle.swp_tool.specs.Replays.{HasGoneThrough}
+use Rattle.swp_tool.proofs.RoundLemmas.{MayNeedMore}
+use Rattle.swp_tool.proofs.settling.play_rounds.Given as goal
+
+-- so many rounds were played, what they tell was gathered, and all of them were needed
+abbrev pub invariant-loop-done : goal.invariant-loop-done
+invariant-loop-done l = record {
+  few : l.done ≤ l.most;
+  gone : (header : Header) (plays : List Play) → IsWorldAt l.initial.world header plays
+      → HasGoneThrough l.world header plays l.done l.initial.text.items l.text.items;
+  need : (header : Header) (plays : List Play) → IsWorldAt l.initial.world header plays → MayNeedMore header plays l.most l.done;
+}

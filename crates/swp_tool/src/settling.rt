@@ -1,0 +1,104 @@
+//! A line that lets the links settle: rounds until all are at rest.
+ghost use Rattle.std.specs.Prelude.{◌≡◌, ℕ, ◌+◌, ◌≤◌, ◌++◌, ◌∷◌, [], List, OnOk, OnErr, IfOk, IfErr};
+ghost use Rattle.trace_model.specs.declared.entry.Entry.TheVariants.{Echo};
+ghost use Rattle.trace_model.specs.declared.line.Header.{Header};
+ghost use Rattle.trace_model.specs.declared.line.Line.{Line as Said};
+ghost use Rattle.trace_model.specs.declared.line.Line.TheVariants as line;
+ghost use Rattle.schedule_text.specs.Entries.{entry_line, entry_lines};
+ghost use Rattle.lines_told.specs.Plays.{Play, lines_played, plays_of_line, rounds_to_rest, told_of_line, told_of_play};
+ghost use Rattle.lines_told.specs.Plays.Play.{Round};
+ghost use Rattle.world.specs.Worlds.{IsWorldAt, HasRoomToSettle};
+ghost use Rattle.swp_tool.specs.Replays.{Runs, WasStepped, HasGoneThrough, HasRoundsLeft};
+
+use crate::replay::Halt;
+use schedule_text::{write_entry, write_step};
+use std::alloc::Global;
+use swp_base::NoMemory;
+use trace_model::{Entry, Line};
+use world::World;
+
+/// Plays rounds until all links are at rest, `most` of them at most, and gathers the text of the line, of what the rounds tell, and of how
+/// many there were.
+pub fn settle(alloc: Global, world: &mut World, most: u32, text: &mut Vec<u8>) -> Result<(), Halt>
+    requires most { most ≤ 20000 }
+    requires room { HasRoundsLeft world.old most }
+    ensures runs { OnOk result ((header : Header) (lines : List Said) (before : List ℕ) → Runs world.old header lines (before ++ text.old.items)
+        → Runs world.new header (lines ++ line.Settle most ∷ []) (before ++ text.new.items)) }
+    ensures stepped { OnOk result ((count : ℕ) → WasStepped world.old count → WasStepped world.new (count + 1)) }
+    ensures halts { IfErr result (λ why. why ≡ Halt.NoMemory) }
+    ensures same { OnErr result (text.new.items ≡ text.old.items) }
+{
+    let gathered = text.len();
+    match gather(alloc, world, most, text) {
+        Ok(()) => Ok(()),
+        Err(_) => {
+            text.truncate(gathered);
+            Err(Halt::NoMemory)
+        }
+    }
+}
+
+// The same, but where there is no memory, more may stand behind the text.
+fn gather(alloc: Global, world: &mut World, most: u32, text: &mut Vec<u8>) -> Result<(), NoMemory>
+    requires { HasRoundsLeft world.old most }
+    ensures stands { OnOk result ((header : Header) (plays : List Play) → IsWorldAt world.old header plays
+        → IsWorldAt world.new header (plays ++ plays_of_line header plays (line.Settle most))) }
+    ensures told { OnOk result ((header : Header) (plays : List Play) → IsWorldAt world.old header plays → text.new.items ≡
+        text.old.items ++ (entry_line (Echo (line.Settle most)) ++ entry_lines (told_of_line header plays (line.Settle most)))) }
+    ensures more { OnErr result ((more : List ℕ) × (text.new.items ≡ text.old.items ++ more)) }
+{
+    write_step(alloc, &Line::Settle { rounds: most }, &[], text)?;
+    match play_rounds(alloc, world, most, text) {
+        Ok(rounds) => write_entry(alloc, &Entry::Settled { rounds }, text),
+        Err(_) => Err(NoMemory),
+    }
+}
+
+// Plays the rounds, and gathers what they tell. How many there were.
+fn play_rounds(
+    alloc: Global,
+    world: &mut World,
+    most: u32,
+    text: &mut Vec<u8>,
+) -> Result<u32, NoMemory>
+    requires { HasRoundsLeft world.old most }
+    ensures gone { IfOk result (λ rounds. (header : Header) (plays : List Play) → IsWorldAt world.old header plays
+        → HasGoneThrough world.new header plays rounds text.old.items text.new.items) }
+    ensures rests { IfOk result (λ rounds. (header : Header) (plays : List Play) → IsWorldAt world.old header plays
+        → rounds ≡ rounds_to_rest header plays most) }
+    ensures more { OnErr result ((more : List ℕ) × (text.new.items ≡ text.old.items ++ more)) }
+{
+    for done in 0..most {
+        if world.quiet() {
+            return Ok(done);
+        }
+        play_round(alloc, world, text)?;
+    }
+    Ok(most)
+}
+
+// Plays one round, and gathers what it tells.
+fn play_round(alloc: Global, world: &mut World, text: &mut Vec<u8>) -> Result<(), NoMemory>
+    requires { HasRoomToSettle world.old }
+    ensures stands { OnOk result ((header : Header) (plays : List Play) → IsWorldAt world.old header plays
+        → IsWorldAt world.new header (plays ++ Round ∷ [])) }
+    ensures told { OnOk result ((header : Header) (plays : List Play) → IsWorldAt world.old header plays
+        → text.new.items ≡ text.old.items ++ entry_lines (told_of_play header (lines_played header plays) Round)) }
+    ensures more { OnErr result ((more : List ℕ) × (text.new.items ≡ text.old.items ++ more)) }
+{
+    match world.round() {
+        Ok(()) => write_all_of(alloc, world.entries(), text),
+        Err(_) => Err(NoMemory),
+    }
+}
+
+// Gathers the lines of entries, one after another.
+fn write_all_of(alloc: Global, entries: &[Entry], text: &mut Vec<u8>) -> Result<(), NoMemory>
+    ensures told { OnOk result (text.new.items ≡ text.old.items ++ entry_lines entries.now) }
+    ensures more { OnErr result ((more : List ℕ) × (text.new.items ≡ text.old.items ++ more)) }
+{
+    for entry in entries {
+        write_entry(alloc, entry, text)?;
+    }
+    Ok(())
+}
