@@ -1,7 +1,8 @@
 #!/usr/bin/env python3
 """Writes schedules for `swp replay`: of one-byte messages, each sent, delivered and acknowledged, of 10,000 and of 20,000 lines;
 of messages of 4,096 bytes both ways; of a link that loses and damages frames and is reset; the one of a controller with three hosts that is
-drawn from 0; and one of 20,000 lines of a controller with seven hosts, drawn alike."""
+drawn from 0; one of 20,000 lines of a controller with seven hosts, drawn alike; one of a bare link whose busy end keeps it from settling in
+20,000 rounds; and one of a controller with seven hosts, each of which sends a message in turn, behind which all links settle."""
 
 import re
 import sys
@@ -57,7 +58,7 @@ def drawn_schedule() -> str:
     return opening + "".join(draws.line(3, "02 42AA") for _ in range(2000)) + "tables 00\n"
 
 
-def nodes_schedule(lines: int) -> str:
+def opened_nodes() -> str:
     """A controller with seven hosts, each of which has opened pipe 01 and let the others in."""
     hosts = [f"0{host}" for host in range(1, 8)]
     text = "swp 1 hci " + " ".join(hosts) + "\nboot 00\n" + "".join(f"boot {host}\n" for host in hosts)
@@ -69,10 +70,21 @@ def nodes_schedule(lines: int) -> str:
             f"send {host}h 01 03\ndeliver {host}c\ndeliver {host}h\ndeliver {host}c\n"
             f"send {host}h 01 0103{others}\ndeliver {host}c\ndeliver {host}h\ndeliver {host}c\n"
         )
+    return text
+
+
+def nodes_schedule(lines: int) -> str:
+    """A controller with seven hosts, over which lines are drawn."""
+    text = opened_nodes()
     draws = Draws(0)
     while text.count("\n") < lines - 1:
         text += draws.line(7, "01 0201")
     return text + "tables 00\n"
+
+
+def settling_schedule(times: int) -> str:
+    """A controller with seven hosts, each of which sends a command in turn; behind each all links settle."""
+    return opened_nodes() + "".join(f"send 0{1 + time % 7}h 01 0201\nsettle 100\n" for time in range(times))
 
 
 def main() -> None:
@@ -83,6 +95,8 @@ def main() -> None:
     (folder / "lossy.schedule").write_text(schedule(20_000, LOSSY))
     (folder / "drawn.schedule").write_text(drawn_schedule())
     (folder / "nodes20000.schedule").write_text(nodes_schedule(20_000))
+    (folder / "busy.schedule").write_text(HEADER + "busy 02c\nsend 02h 01 03\nsettle 20000\n")
+    (folder / "settling.schedule").write_text(settling_schedule(5_000))
 
 
 if __name__ == "__main__":

@@ -3,7 +3,7 @@
 
 Of each job it counts the instructions a unit by callgrind, where valgrind is there, and takes the processor time of the program
 itself, the best of eleven runs, the most memory that it had, and its page faults. The jobs take turns, so that a slow moment of
-the machine meets all of them. A unit is a line of a schedule or a byte of a record."""
+the machine meets all of them. A unit is a line of a schedule, a round of settling, or a byte of a record."""
 
 import os
 import re
@@ -23,9 +23,10 @@ def jobs(folder):
     """Each job: its name, the program's words, its input, what a unit is, and how many there are."""
     subprocess.run([sys.executable, HERE / "make_records.py", folder], check=True)
     subprocess.run([sys.executable, HERE / "make_schedules.py", folder], check=True)
-    for name in ("short10000", "short20000", "lossy", "long", "drawn", "nodes20000"):
+    for name in ("short10000", "short20000", "lossy", "long", "drawn", "nodes20000", "settling"):
         path = folder / f"{name}.schedule"
         yield f"replay {name}", ["replay"], path, "line", path.read_bytes().count(b"\n")
+    yield "replay busy", ["replay"], folder / "busy.schedule", "round", 20_000
     for job, words in (("decode", ["decode"]), ("tap", ["tap", "hci"])):
         for name in ("frames", "noise", "bytes"):
             path = folder / f"{name}.rec"
