@@ -76,7 +76,7 @@ pub record IsInitLine (header : Header) (e : End) (identity : List ℕ) (pipes :
   pub each : All (λ pipe. (length pipe ≡ 3) × All IsByte pipe) pipes
 
 -- A line that a bare world plays: its ends are in the world, and its numbers, lengths and bytes in their ranges. The lines of nodes
--- aren't allowed there, and no world settles yet.
+-- aren't allowed there, nor one that settles: that one is played as the plain lines that it comes to.
 abbrev pub IsLineOf : Header → Line → Type 0
 IsLineOf header (Send e pid message) = IsSend header e pid message
 IsLineOf header (Deliver e count) = IsEndOf header e × IfSome count (λ n. (1 ≤ n) × (n ≤ 64))
