@@ -3,6 +3,7 @@ use Rattle.std.proofs.Common.{◌≡◌, ℕ, suc, ◌+◌, ◌-◌, ◌*◌, �
 use Rattle.std.proofs.Common.{ap₂, ◌∙◌, subst, arith, append_assoc, append-nil, length-append, length-take, length-drop, drop_at, add_assoc, add-zero, zero-add}
 use Rattle.std.proofs.lemmas.Bool.{true≢false}
 use Rattle.swp_base.specs.Outside.{overwritten}
+use Rattle.swp_base.proofs.WriteLemmas.{length-overwritten}
 use Rattle.journal_laws.specs.Writes.{Write, write, after_writes}
 use Rattle.std.specs.Option.{option_map_or}
 use Rattle.journal_laws.specs.declared.banks.Side.TheVariants.{First, Second}
@@ -12,7 +13,7 @@ use Rattle.journal_laws.specs.Banks.{other, bank_place, bank, head, head_of, is_
 use Rattle.journal_laws.specs.Records.{IsBody, Found, nothing_found, behind, found_from, record_bytes}
 use Rattle.journal_laws.specs.Journal.{Journal, found_in, journal_at, journal, state_by, state_of, IsStarted}
 use Rattle.journal_laws.specs.Operations.{record_writes, append_writes, HasRoomForBody, appended, IsAllOrNothing}
-use Rattle.journal_laws.proofs.Places.{length-overwritten, overwritten-split, overwritten-right, length-bank, bank_beside, in_front, keeps_first}
+use Rattle.journal_laws.proofs.Places.{overwritten-split, overwritten-right, length-bank, bank_beside, in_front, keeps_first}
 use Rattle.journal_laws.proofs.Reading.{Parts, parts, found_closed, record_is_read}
 use Rattle.journal_laws.proofs.InUse.{journal_in_use, in_use_is, in_use_then, state_at, journal_inside}
 use Rattle.journal_laws.proofs.Cuts.{two_writes}

@@ -5,11 +5,11 @@ use Rattle.std.proofs.lemmas.List.{get_or_at}
 use Rattle.std.proofs.lemmas.Bool.{cases_Bool}
 use Rattle.std.proofs.lemmas.Bool.Decides.{nat_tests}
 use Rattle.swp_base.specs.Outside.{overwritten}
+use Rattle.swp_base.proofs.WriteLemmas.{length-overwritten}
 use Rattle.journal_laws.specs.Writes.{Write, write, after_writes, IsCut, FitIn, last_place}
 use Rattle.journal_laws.specs.Banks.{is_opened_gate}
 use Rattle.journal_laws.specs.Journal.{journal}
 use Rattle.journal_laws.specs.Operations.{outcome, IsAllOrNothing}
-use Rattle.journal_laws.proofs.Places.{length-overwritten}
 
 pub length-after : (writes : List Write) (c : List ℕ) → FitIn (length c) writes → length (after_writes writes c) ≡ length c
 length-after [] c fit = refl

@@ -8,6 +8,7 @@ use Rattle.std.proofs.lemmas.Nat.{from_be_bytes-to_be_bytes_2, from_be_bytes-to_
 use Rattle.std.proofs.lemmas.List.{length-replicate, take-replicate, drop-replicate}
 use Rattle.std.proofs.lemmas.Bool.{cases_Bool}
 use Rattle.swp_base.specs.Outside.{overwritten}
+use Rattle.swp_base.proofs.WriteLemmas.{length-overwritten}
 use Rattle.journal_laws.specs.Writes.{Write, write, after_writes}
 use Rattle.journal_laws.specs.declared.banks.Side.{Side}
 use Rattle.journal_laws.specs.declared.state.Head.{Head}
@@ -17,7 +18,7 @@ use Rattle.journal_laws.specs.declared.banks.Side.TheVariants.{First, Second}
 use Rattle.journal_laws.specs.Records.{IsBody, behind, found_from, records_bytes, used}
 use Rattle.journal_laws.specs.Journal.{Journal, found_in, journal_at, journal, state_by, state_of, count_of, count}
 use Rattle.journal_laws.specs.Operations.{bank_bytes, open_bank, format_writes, compact_writes, IsUnformatted, formatted, CanCompact, compacted, IsAllOrNothing}
-use Rattle.journal_laws.proofs.Places.{length-overwritten, length-bank, bank_here, bank_beside, in_front, keeps_first}
+use Rattle.journal_laws.proofs.Places.{length-bank, bank_here, bank_beside, in_front, keeps_first}
 use Rattle.journal_laws.proofs.Reading.{found_closed, records_are_read, length-records_bytes, few_records}
 use Rattle.journal_laws.proofs.InUse.{at_bank, closed_first, closed_second, state_at, other_other, in_use_then, gate_is_open, same_current, moves, still_none}
 use Rattle.journal_laws.proofs.InUse.{first_opens, same_journal, journal_in_use, no_journal, bank_across, head_across, journal_across}

@@ -1,32 +1,14 @@
 -- What a write leaves of two lists in a row, and of the two banks of a memory.
 use Rattle.std.proofs.Common.{◌≡◌, ℕ, ◌+◌, ◌<◌, ◌≤◌, List, [], ◌∷◌, ◌++◌, length, take, drop, slice_index, sym, refl, ap, ap₂, ◌∙◌, subst, arith, append_assoc}
-use Rattle.std.proofs.Common.{length-append, length-take, length-drop, take-append-drop, take_at, drop_at, add_assoc, zero-add, add-zero}
+use Rattle.std.proofs.Common.{length-take, length-drop, take-append-drop, take_at, drop_at, add_assoc, zero-add, add-zero}
 use Rattle.std.proofs.Math.Seq.{take-append-add, drop-append-add}
-use Rattle.std.proofs.lemmas.List.{take-append-le, drop-append-le}
 use Rattle.swp_base.specs.Outside.{overwritten}
+use Rattle.swp_base.proofs.WriteLemmas.{length-overwritten, overwritten-left}
 use Rattle.journal_laws.specs.declared.banks.Side.{Side}
 use Rattle.journal_laws.specs.Banks.{other, bank_place, bank}
 use Rattle.journal_laws.specs.declared.banks.Side.TheVariants.{First, Second}
 
-pub length-overwritten : (c : List ℕ) (i : ℕ) (bytes : List ℕ) → i + length bytes ≤ length c → length (overwritten c i bytes) ≡ length c
-length-overwritten c i bytes fits =
-    omega (
-      arith,
-      length-append (take i c ++ bytes) (drop (i + length bytes) c),
-      length-append (take i c) bytes,
-      length-take i c,
-      length-drop
-          (i + length bytes) c,
-    )
-
--- a write into the first of two lists in a row
-pub overwritten-left : (xs ys : List ℕ) (i : ℕ) (bytes : List ℕ) → i + length bytes ≤ length xs → overwritten (xs ++ ys) i bytes ≡ overwritten xs i bytes ++ ys
-overwritten-left xs ys i bytes fits =
-    ap (λ l. l ++ bytes ++ drop (i + length bytes) (xs ++ ys)) (take-append-le i xs ys (omega arith))
-    ∙ ap (λ l. take i xs ++ bytes ++ l) (drop-append-le (i + length bytes) xs ys fits)
-    ∙ sym (append_assoc (take i xs ++ bytes) (drop (i + length bytes) xs) ys)
-
--- a write into the second
+-- a write into the second of two lists in a row
 pub overwritten-right : (xs ys : List ℕ) (n i : ℕ) (bytes : List ℕ) → length xs ≡ n → overwritten (xs ++ ys) (n + i) bytes ≡ xs ++ overwritten ys i bytes
 overwritten-right xs ys n i bytes size =
     subst (λ m. overwritten (xs ++ ys) (m + i) bytes ≡ xs ++ overwritten ys i bytes) size

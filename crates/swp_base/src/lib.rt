@@ -4,6 +4,7 @@
 
 mod control_frames;
 mod data_units;
+mod front;
 mod in_memory;
 mod link_terms;
 mod nv_memory;

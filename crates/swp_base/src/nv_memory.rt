@@ -1,10 +1,11 @@
 //! Memories that keep their bytes over a power cut, themselves kept in memory.
 ghost use Rattle.std.specs.Prelude.{◌≡◌, ◌+◌, ◌^◌, ◌<◌, ◌≤◌, ◌↔◌, length, replicate, slice_index, slice_range, true, refl, is_ok, None, Some, Ok, IsTrue};
 ghost use Rattle.std.specs.Prelude.{IsErr, IsOk, IfOk, OnOk, OnErr};
-ghost use Rattle.swp_base.specs.Outside.{one_more, overwritten};
+ghost use Rattle.swp_base.specs.Outside.{one_more};
 ghost use Rattle.swp_base.specs.Told.{planned_is_told, sure_is_told};
-ghost use Rattle.swp_base.specs.InMemory.{cycled, read_plan_after, ReadsAsPlanned, ReadsSurely, WritesAsPlanned, WritesSurely};
+ghost use Rattle.swp_base.specs.InMemory.{read_plan_after, ReadsAsPlanned, ReadsSurely, WritesAsPlanned, WritesSurely};
 
+use crate::front::Front;
 use crate::{Failed, NoMemory, Nv};
 use arrayvec::ArrayVec;
 use std::alloc::Global;
@@ -33,7 +34,7 @@ impl Model for WritePlan {
 /// are then filled as planned, and a read leaves the memory as it was. No other call fails.
 #[derive(Drop)]
 pub struct MemNv {
-    bytes: Vec<u8>,
+    bytes: Front,
     plan: Option<WritePlan>,
     /// The number of the read that fails, where 1 is the next.
     failing_read: Option<u32>,
@@ -47,13 +48,13 @@ impl Model for MemNv {
     ghost Value = { Memory };
 
     ghost view = { λ m. record {
-      content = m.bytes.items;
+      content = m.bytes;
       plan = m.plan;
       failing_read = m.failing_read;
       faults = m.faults;
     } };
 
-    ghost invariant = { λ m. length m.bytes.items < 2 ^ 32 };
+    ghost invariant = { λ m. length m.bytes < 2 ^ 32 };
 }
 
 impl MemNv {
@@ -67,7 +68,7 @@ impl MemNv {
         }) }
     {
         Ok(Self {
-            bytes: vec![in alloc; 0xFF; size as usize]?,
+            bytes: Front::new(alloc, size)?,
             plan: None,
             failing_read: None,
             faults: 0,
@@ -119,7 +120,7 @@ impl Nv for MemNv {
     ghost told = { λ old at bytes ok new tells made. planned_is_told old at bytes ok new made };
 
     fn size(&self) -> u32 {
-        self.bytes.len() as u32
+        self.bytes.size()
     }
 
     fn read(&mut self, at: u32, buf: &mut [u8]) -> Result<(), Failed>
@@ -134,8 +135,7 @@ impl Nv for MemNv {
         if planned == Some(1) {
             return Err(self.count_fault());
         }
-        let from = at as usize;
-        buf.copy_from_slice(&self.bytes[from..from + buf.len()]);
+        self.bytes.read(at as usize, buf);
         Ok(())
     }
 
@@ -146,15 +146,10 @@ impl Nv for MemNv {
         ensures bounded { length self.old.content < 2 ^ 32 }
         ensures step { WritesAsPlanned self.old at bytes.now (is_ok result) self.new }
     {
-        let from = at as usize;
         match self.plan.take() {
             Some(plan) if plan.nth == 1 => {
-                fill(
-                    self.bytes.as_mut_slice(),
-                    from,
-                    bytes.len(),
-                    plan.fill.as_slice(),
-                );
+                self.bytes
+                    .fill(at as usize, bytes.len(), plan.fill.as_slice());
                 return Err(self.count_fault());
             }
             Some(plan) => {
@@ -165,7 +160,7 @@ impl Nv for MemNv {
             }
             None => {}
         }
-        overwrite(self.bytes.as_mut_slice(), from, bytes);
+        self.bytes.write(at as usize, bytes);
         Ok(())
     }
 }
@@ -173,7 +168,7 @@ impl Nv for MemNv {
 /// A memory that tells its content and never fails.
 #[derive(Drop)]
 pub struct SureNv {
-    bytes: Vec<u8>,
+    bytes: Front,
 }
 
 impl Model for SureNv {
@@ -181,9 +176,9 @@ impl Model for SureNv {
 
     ghost Value = { List ℕ };
 
-    ghost view = { λ m. m.bytes.items };
+    ghost view = { λ m. m.bytes };
 
-    ghost invariant = { λ m. length m.bytes.items < 2 ^ 32 };
+    ghost invariant = { λ m. length m.bytes < 2 ^ 32 };
 }
 
 impl SureNv {
@@ -192,7 +187,7 @@ impl SureNv {
         ensures { IfOk result (λ m. m ≡ replicate size 255) }
     {
         Ok(Self {
-            bytes: vec![in alloc; 0xFF; size as usize]?,
+            bytes: Front::new(alloc, size)?,
         })
     }
 }
@@ -215,7 +210,7 @@ impl Nv for SureNv {
     ghost told = { λ old at bytes ok new tells made. sure_is_told old at bytes ok new made };
 
     fn size(&self) -> u32 {
-        self.bytes.len() as u32
+        self.bytes.size()
     }
 
     fn read(&mut self, at: u32, buf: &mut [u8]) -> Result<(), Failed>
@@ -224,8 +219,7 @@ impl Nv for SureNv {
         ensures read { buf.new ≡ slice_range self.old at (at + length buf.old) }
         ensures step { ReadsSurely self.old (is_ok result) self.new }
     {
-        let from = at as usize;
-        buf.copy_from_slice(&self.bytes[from..from + buf.len()]);
+        self.bytes.read(at as usize, buf);
         Ok(())
     }
 
@@ -235,7 +229,7 @@ impl Nv for SureNv {
         ensures bounded { length self.old < 2 ^ 32 }
         ensures step { WritesSurely self.old at bytes.now (is_ok result) self.new }
     {
-        overwrite(self.bytes.as_mut_slice(), at as usize, bytes);
+        self.bytes.write(at as usize, bytes);
         Ok(())
     }
 }
@@ -247,25 +241,5 @@ fn later(planned: Option<u32>) -> Option<u32>
     match planned {
         Some(1) | None => None,
         Some(nth) => Some(nth.saturating_sub(1)),
-    }
-}
-
-/// Puts the bytes into the memory from place `at` on.
-fn overwrite(memory: &mut [u8], at: usize, bytes: &[u8])
-    requires { at + length bytes.now ≤ length memory.old }
-    ensures { memory.new ≡ overwritten memory.old at bytes.now }
-{
-    memory[at..at + bytes.len()].copy_from_slice(bytes);
-}
-
-/// Fills a range of the memory with these bytes, over and over.
-fn fill(memory: &mut [u8], at: usize, len: usize, bytes: &[u8])
-    requires range { at + len ≤ length memory.old }
-    requires some { 0 < length bytes.now }
-    ensures filled { memory.new ≡ overwritten memory.old at (cycled bytes.now len) }
-    ensures len { length (cycled bytes.now len) ≡ len }
-{
-    for i in 0..len {
-        memory[at + i] = bytes[i % bytes.len()];
     }
 }

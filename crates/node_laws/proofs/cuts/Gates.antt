@@ -3,12 +3,12 @@ use Rattle.std.proofs.Common.{◌≡◌, ◌⊎◌, inl, inr, ℕ, zero, suc, �
 use Rattle.std.proofs.Common.{subst, arith}
 use Rattle.std.proofs.lemmas.Bool.{cases_eq, and_left, and_right, ne_eqb, eqb-true}
 use Rattle.swp_base.specs.Outside.{overwritten}
+use Rattle.swp_base.proofs.WriteLemmas.{length-overwritten}
 use Rattle.swp_base.specs.InMemory.{cycled}
 use Rattle.journal_laws.specs.Banks.{is_opened_gate}
 use Rattle.journal_laws.specs.Writes.{Write, after_writes, FitIn, last_place}
 use Rattle.journal_laws.specs.Journal.{journal}
 use Rattle.journal_laws.specs.Operations.{IsAllOrNothing}
-use Rattle.journal_laws.proofs.Places.{length-overwritten}
 use Rattle.node_laws.proofs.cuts.Filled.{IsFilled, filled_cut, one_filled}
 use Rattle.journal_laws.proofs.Cuts.{at_place as byte_there}
 

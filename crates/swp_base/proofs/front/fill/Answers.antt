@@ -5,7 +5,7 @@ use Rattle.std.proofs.lemmas.List.FromFn.{length-map-range_with_len, map-range_w
 use Rattle.std.proofs.Math.Seq.{set-append_seam}
 use Rattle.swp_base.specs.Outside.{overwritten}
 use Rattle.swp_base.specs.InMemory.{cycled}
-use Rattle.swp_base.proofs.nv_memory.fill.Goals as goal
+use Rattle.swp_base.proofs.front.fill.Goals as goal
 
 -- one more byte of an overwritten range
 set-overwritten : (m xs : List ℕ) (at j y : ℕ) → at + length xs ≡ j → j < length m → set (overwritten m at xs) j y ≡ overwritten m at (xs ++ y ∷ [])
