@@ -1,20 +1,20 @@
 -- Linked blocks: what writes to links, bytes and heads leave of the chains.
-use Rattle.std.proofs.Common.{◌≡◌, ◌≢◌, ℕ, zero, suc, ◌+◌, ◌-◌, ◌*◌, ◌/◌, ◌%◌, ◌^◌, ◌<◌, ◌≤◌, inl, inr, List, [], ◌∷◌, ◌++◌, length, get_or, set, take, drop}
+use Rattle.std.proofs.Common.{◌≡◌, ◌≢◌, ℕ, suc, ◌+◌, ◌-◌, ◌*◌, ◌/◌, ◌%◌, ◌^◌, ◌<◌, ◌≤◌, inl, inr, List, [], ◌∷◌, ◌++◌, length, get_or, set, take, drop}
 use Rattle.std.proofs.Common.{replicate, map, refl, sym, ap, ◌∙◌, subst, arith, rules, Fits, w16, w32, length-set, get_or-set_same, get_or-set_other}
 use Rattle.std.proofs.Common.{length-drop, length-take, get_or-drop, min}
 use Rattle.std.specs.Prelude.{Option, Some, None, IsSome}
-use Rattle.std.specs.List.{range_with_len, sum_by}
+use Rattle.std.specs.List.{range_with_len}
 use Rattle.std.specs.Int.{div_ceil}
-use Rattle.std.proofs.lemmas.List.{same_lists, get_or_past, get_or_default, length-replicate, get_or-replicate}
-use Rattle.std.proofs.lemmas.List.Sums.{sum_by-cons, sum_by-set}
+use Rattle.std.proofs.lemmas.List.{same_lists, get_or_past}
+use Rattle.std.proofs.lemmas.List.Sums.{sum_by-set}
 use Rattle.std.proofs.lemmas.Bool.{cases_lt, cases_eq}
-use Rattle.std.proofs.lemmas.List.FromFn.{length-map-range_with_len, get_or-map-range_with_len, take-map-range_with_len, length-range_with_len}
-use Rattle.std.proofs.lemmas.List.FromFn.{get_or-range_with_len}
+use Rattle.std.proofs.lemmas.List.FromFn.{length-map-range_with_len, get_or-map-range_with_len, take-map-range_with_len}
 use Rattle.std.proofs.lemmas.Grind.{common_steps}
 use Rattle.block_pool.specs.declared.blocks.Head.{Head}
 use Rattle.block_pool.specs.Slots.{Held, blocks_for, slot, with_chain, bytes_in, held_bytes, owner_in, owner_of}
 use Rattle.block_pool.specs.Links.{block_at, linked_byte}
 use Rattle.block_pool.specs.Layout.{laid_bytes, held_by, slots_of, head_blocks, IsMarked, IsChain, AreSoundBlocks}
+use Rattle.block_pool.proofs.FreshLemmas.{get_or-filled}
 use Rattle.block_pool.proofs.LinkLemmas.{unchanged, behind, same_bytes, one_more_byte, one_byte, length-chain_bytes, length-slots_of, slot_is, same_slots}
 use Rattle.block_pool.proofs.LinkLemmas.{slots_set, none_is_some, same_mark, other_block, popped, popped_other, popped_first, popped_rest, freed, freed_chain}
 use Rattle.block_pool.proofs.LinkLemmas.{freed_free, freed_other, in_pool, block_of_byte, other_link, last_link, last_marked, free_link}
@@ -450,6 +450,11 @@ pub last_in : (region next : List ℕ) (heads : List (Option Head)) (free free_l
     (head : Head) → get_or heads b None ≡ Some head → head.last < sound.count
 last_in region next heads free free_len sound b head at = (last_marked (sound.chains b head at)).0
 
+-- and so does its first one
+pub begun_low : (region next : List ℕ) (heads : List (Option Head)) (free free_len : ℕ) (sound : AreSoundBlocks region next heads free free_len) (b : ℕ)
+    (head : Head) → get_or heads b None ≡ Some head → b < length (slots_of region next heads)
+begun_low region next heads free free_len sound b head at = omega (arith, in_pool (sound.chains b head at), sound.counted, length-slots_of region next heads)
+
 -- the length of a chain that isn't too long fits its type
 pub head_fits : (len bytes : ℕ) → bytes ≡ len → bytes < 2 ^ 24 → Fits w32 (len + 1)
 head_fits len bytes same short = grind (arith, common_steps)
@@ -463,9 +468,10 @@ blocks_fit n k len e low = let same = blocks_is n len e in (grind (arith, common
 
 -- ---- what the slots say of a head
 
-module _ (region next : List ℕ) (heads : List (Option Head)) (slots : List (Option Held)) (view : slots_of region next heads ≡ slots) where
+module _ (region next : List ℕ) (heads : List (Option Head)) (fresh : ℕ) (slots : List (Option Held))
+    (view : slots_of region next heads ++ replicate fresh None ≡ slots) where
   slots_say : (b : ℕ) → slot slots b ≡ held_by region next b (get_or heads b None)
-  slots_say b = ap (λ s. slot s b) (sym view) ∙ slot_is region next heads b
+  slots_say b = ap (λ s. slot s b) (sym view) ∙ (get_or-filled (slots_of region next heads) fresh b None ∙ slot_is region next heads b)
 
   pub bytes_say : (b : ℕ) (head : Head) → get_or heads b None ≡ Some head → held_bytes slots b ≡ laid_bytes region next b head.len
   bytes_say b head at = ap bytes_in (slots_say b ∙ ap (held_by region next b) at)
@@ -599,13 +605,14 @@ copied_bytes region next b len from count low few =
 
 -- what the slots say of a chain whose head is known
 module _ (region next : List ℕ) (heads : List (Option Head)) (free free_len : ℕ) (sound : AreSoundBlocks region next heads free free_len)
-    (slots : List (Option Held)) (view : slots_of region next heads ≡ slots) (b : ℕ) (some : 0 < length (held_bytes slots b)) where
+    (fresh : ℕ) (slots : List (Option Held)) (view : slots_of region next heads ++ replicate fresh None ≡ slots) (b : ℕ)
+    (some : 0 < length (held_bytes slots b)) where
   pub blocks_reached : (k : ℕ) → k * 32 < length (held_bytes slots b) → block_at next b k < length next
   blocks_reached k low = by_head (get_or heads b None) refl
     where
       by_head : (h : Option Head) → get_or heads b None ≡ h → block_at next b k < length next
-      by_head None e = absurd (not_none region next heads slots view b some e)
-      by_head (Some head) e = blocks_low region next heads free free_len sound b head e k (omega (arith, len_says region next heads slots view b head e))
+      by_head None e = absurd (not_none region next heads fresh slots view b some e)
+      by_head (Some head) e = blocks_low region next heads free free_len sound b head e k (omega (arith, len_says region next heads fresh slots view b head e))
 
   pub bytes_copied : (from count : ℕ) → from ≤ length (held_bytes slots b) → count ≤ length (held_bytes slots b) - from
       → map (linked_byte region next b) (range_with_len from count) ≡ take count (drop from (held_bytes slots b))
@@ -613,11 +620,11 @@ module _ (region next : List ℕ) (heads : List (Option Head)) (free free_len : 
     where
       by_head : (h : Option Head) → get_or heads b None ≡ h
           → map (linked_byte region next b) (range_with_len from count) ≡ take count (drop from (held_bytes slots b))
-      by_head None e = absurd (not_none region next heads slots view b some e)
+      by_head None e = absurd (not_none region next heads fresh slots view b some e)
       by_head (Some head) e =
-          let len = len_says region next heads slots view b head e in
+          let len = len_says region next heads fresh slots view b head e in
           copied_bytes region next b head.len from count (omega (arith, len)) (omega (arith, len))
-          ∙ ap (λ bs. take count (drop from bs)) (sym (bytes_say region next heads slots view b head e))
+          ∙ ap (λ bs. take count (drop from bs)) (sym (bytes_say region next heads fresh slots view b head e))
 
   pub copied_out : (from count : ℕ) (out new : List ℕ) → from ≤ length (held_bytes slots b) → count ≡ min (length (held_bytes slots b) - from) (length out)
       → new ≡ map (linked_byte region next b) (range_with_len from (length (take count out)))
@@ -629,47 +636,20 @@ module _ (region next : List ℕ) (heads : List (Option Head)) (free free_len : 
 
 -- ---- a new pool
 
--- in a new pool each block leads to the one behind it
-in_order : (count k : ℕ) → k < count → block_at (range_with_len 1 count) 0 k ≡ k
-in_order count zero low = refl
-in_order count (suc k) low =
-    ap (λ b. get_or (range_with_len 1 count) b 0) (in_order count k (omega arith)) ∙ (get_or-range_with_len 1 count k 0 (omega arith) ∙ omega arith)
+-- no block was used yet
+pub make_sound : (region next : List ℕ) (heads : List (Option Head)) → region ≡ [] → next ≡ [] → heads ≡ [] → AreSoundBlocks region next heads 0 0
+make_sound region next heads bytes links none = rw (bytes, links, none) (record {
+  count = 0;
+  counted = refl;
+  links = refl;
+  bytes = refl;
+  few = omega arith;
+  mark = λ x. (0, x);
+  chains = λ b head e. absurd (none_is_some head (sym (get_or_past [] b None (omega arith)) ∙ e));
+  spare = λ k low. absurd (omega arith);
+  all = refl;
+})
 
-no_head_blocks : (n : ℕ) → sum_by head_blocks (replicate n None) ≡ 0
-no_head_blocks zero = refl
-no_head_blocks (suc n) = omega (arith, sum_by-cons head_blocks None (replicate n None), no_head_blocks n)
-
-pub make_sound : (region next : List ℕ) (heads : List (Option Head)) (count : ℕ) → count ≤ 16384 → length region ≡ 32 * count → next ≡ range_with_len 1 count
-    → heads ≡ replicate count None → AreSoundBlocks region next heads 0 count
-make_sound region next heads count few bytes links none = record {
-  count = count;
-  counted = ap length none ∙ length-replicate count None;
-  links = ap length links ∙ length-range_with_len 1 count;
-  bytes = bytes;
-  few = few;
-  mark = λ x. (count, x);
-  chains = λ b head e. absurd (none_is_some head (sym (no_heads b) ∙ e));
-  spare = λ k low. let place : block_at next 0 k ≡ k = ap (λ xs. block_at xs 0 k) links
-      ∙ in_order count k low in (omega (arith, place), ap (λ x. (count, x)) place);
-  all = omega (arith, ap (sum_by head_blocks) none, no_head_blocks count);
-}
-  where
-    no_heads : (b : ℕ) → get_or heads b None ≡ None
-    no_heads b = ap (λ hs. get_or hs b None) none ∙ elim (cases_lt b count) [
-      | inl low ↦ get_or-replicate count b None None low
-      | inr high ↦ get_or_past
-          (replicate count None) b None (omega (arith, length-replicate {A = Option Head} count None))
-    ]
-
-pub make_slots : (region next : List ℕ) (heads : List (Option Head)) (count : ℕ) → heads ≡ replicate count None
-    → slots_of region next heads ≡ replicate count None
-make_slots region next heads count none =
-    same_lists _ _ (length-slots_of region next heads
-    ∙ (ap length none ∙ (length-replicate {A = Option Head} count None ∙ sym (length-replicate {A = Option Held} count None))))
-    (λ k d h.
-    let low : k < count = omega (arith, length-slots_of region next heads, ap length none, length-replicate {A = Option Head} count None) in
-    get_or_default (slots_of region next heads) k d None h
-    ∙ (slot_is region next heads k
-    ∙ (ap (λ hs. held_by region next k (get_or hs k None)) none
-    ∙ (ap (held_by region next k) (get_or-replicate count k None None low)
-    ∙ sym (get_or-replicate count k None d low)))))
+pub make_slots : (region next : List ℕ) (heads : List (Option Head)) → heads ≡ [] → slots_of region next heads ≡ []
+unfolding slots_of
+make_slots region next heads none = rw none refl

@@ -1,19 +1,22 @@
 -- Where chains lie: each block in one of them, once, or free.
-use Rattle.std.proofs.Common.{◌≡◌, ◌≢◌, ℕ, ◌+◌, ◌*◌, ◌/◌, ◌%◌, ◌<◌, inl, inr, List, [], length, get_or, set, map, refl, sym, ap, ◌∙◌, subst, arith, length-set}
-use Rattle.std.proofs.Common.{get_or-set_same, get_or-set_other}
+use Rattle.std.proofs.Common.{◌≡◌, ◌≢◌, ℕ, ◌+◌, ◌-◌, ◌*◌, ◌/◌, ◌%◌, ◌<◌, ◌≤◌, ◌⊎◌, inl, inr, List}
+use Rattle.std.proofs.Common.{[], ◌++◌, length, get_or, set, map, refl, sym, ap, ◌∙◌, subst, arith, length-set}
+use Rattle.std.proofs.Common.{get_or-set_same, get_or-set_other, replicate, length-append}
 use Rattle.std.specs.Prelude.{Option, Some, None}
 use Rattle.std.specs.List.{range_with_len, sum_by, sum}
-use Rattle.std.proofs.lemmas.List.{same_lists, get_or_past, get_or_default, length-map, get_or-map}
+use Rattle.std.proofs.lemmas.List.{same_lists, get_or_past, get_or_default, length-map, get_or-map, get_or_append_left}
+use Rattle.std.proofs.lemmas.List.{get_or-append_right, length-replicate, append-nil}
 use Rattle.std.proofs.lemmas.List.Sums.{sum-map}
 use Rattle.std.proofs.lemmas.Bool.{cases_lt, cases_eq}
-use Rattle.std.proofs.lemmas.List.FromFn.{length-map-range_with_len, get_or-map-range_with_len}
+use Rattle.std.proofs.lemmas.List.FromFn.{length-map-range_with_len, get_or-map-range_with_len, length-range_with_len, get_or-range_with_len}
 use Rattle.block_pool.specs.declared.blocks.Head.{Head}
 use Rattle.block_pool.specs.declared.chain.Chain.{Chain}
-use Rattle.block_pool.specs.Slots.{Held, BlocksState, ShareNoBlock, blocks_for, held_bytes}
+use Rattle.block_pool.specs.Slots.{Held, BlocksState, ShareNoBlock, blocks_for, bytes_in, held_bytes}
 use Rattle.block_pool.specs.Names.{named_bytes, blocks_named}
 use Rattle.block_pool.specs.Pool.{PoolState, chain_bytes, chain_blocks}
 use Rattle.block_pool.specs.Links.{block_at, linked_byte}
 use Rattle.block_pool.specs.Layout.{laid_bytes as bytes_along, slots_of, blocks_by, chains_of, places_of, head_blocks, IsMarked, AreSoundBlocks}
+use Rattle.block_pool.proofs.FreshLemmas.{get_or-filled, sum_by-filled}
 use Rattle.block_pool.proofs.LayoutLemmas.{not_none, bytes_say, len_says}
 use Rattle.block_pool.proofs.LinkLemmas.{same_mark, in_pool, length-slots_of}
 
@@ -60,19 +63,111 @@ read_on_chains next heads b block passed head low at =
     ])
 
 -- what a state says, part by part
-abbrev state : List (Option Held) → List ℕ → List (List ℕ) → List ℕ → ℕ → BlocksState
-state slots memory chains frees n = record { slots = slots; places = record { memory = memory; chains = chains; free = frees }; free = n }
+abbrev state : List (Option Held) → List ℕ → List (List ℕ) → List ℕ → ℕ → ℕ → BlocksState
+state slots memory chains frees n listed =
+    record { slots = slots; places = record { memory = memory; chains = chains; free = frees }; free = n; listed = listed }
 
-pub same_state : (slots slots' : List (Option Held)) (memory : List ℕ) (chains chains' : List (List ℕ)) (frees : List ℕ) (n : ℕ) → slots' ≡ slots
+pub same_state : (slots slots' : List (Option Held)) (memory : List ℕ) (chains chains' : List (List ℕ)) (frees : List ℕ) (n listed : ℕ) → slots' ≡ slots
     → chains' ≡ chains
-    → state slots' memory chains' frees n ≡ state slots memory chains frees n
-same_state slots slots' memory chains chains' frees n same_slots same_places =
-    ap (λ ss. state ss memory chains' frees n) same_slots ∙ ap (λ cs. state slots memory cs frees n) same_places
+    → state slots' memory chains' frees n listed ≡ state slots memory chains frees n listed
+same_state slots slots' memory chains chains' frees n listed same_slots same_places =
+    ap (λ ss. state ss memory chains' frees n listed) same_slots ∙ ap (λ cs. state slots memory cs frees n listed) same_places
 
 -- byte i of a chain lies in its block i / 32
 byte_along : (region next : List ℕ) (first len i : ℕ) → i < len → get_or (bytes_along region next first len) i 0 ≡ linked_byte region next first i
 unfolding bytes_along
 byte_along region next first len i low = get_or-map-range_with_len (linked_byte region next first) 0 len i i 0 low (omega arith)
+
+-- ---- fresh blocks
+
+module _ (slots : List (Option Held)) (memory : List ℕ) (chains : List (List ℕ)) (frees : List ℕ) (fresh : ℕ)
+    (shares : ShareNoBlock slots (record { memory = memory; chains = chains; free = frees })) where
+  abbrev all_slots : List (Option Held)
+  all_slots = slots ++ replicate fresh None
+
+  abbrev all_chains : List (List ℕ)
+  all_chains = chains ++ replicate fresh []
+
+  abbrev all_free : List ℕ
+  all_free = frees ++ range_with_len (length slots) fresh
+
+  bytes_are : (first : ℕ) → held_bytes all_slots first ≡ held_bytes slots first
+  bytes_are first = ap bytes_in (get_or-filled slots fresh first None)
+
+  blocks_are : (first : ℕ) → get_or all_chains first [] ≡ get_or chains first []
+  blocks_are first = get_or-filled chains fresh first []
+
+  low_is : (first k : ℕ) → k < length (get_or all_chains first []) → k < length (get_or chains first [])
+  low_is first k low = subst (λ bs. k < length bs) (blocks_are first) low
+
+  block_is : (first k : ℕ) → get_or (get_or all_chains first []) k 0 ≡ get_or (get_or chains first []) k 0
+  block_is first k = ap (λ bs. get_or bs k 0) (blocks_are first)
+
+  length-all_free : length all_free ≡ length frees + fresh
+  length-all_free = omega (arith, length-append frees (range_with_len (length slots) fresh), length-range_with_len (length slots) fresh)
+
+  length-all_slots : length all_slots ≡ length slots + fresh
+  length-all_slots = omega (arith, length-append slots (replicate fresh None), length-replicate {A = Option Held} fresh None)
+
+  -- a free block is in the list, or fresh
+  free_is : (k : ℕ) → k < length all_free
+      → ((k < length frees) × (get_or all_free k 0 ≡ get_or frees k 0))
+      ⊎ ((length frees ≤ k) × (get_or all_free k 0 ≡ length slots + (k - length frees)))
+  free_is k low = elim (cases_lt k (length frees)) [
+    | inl listed ↦ inl (listed, get_or_append_left frees (range_with_len (length slots) fresh) 0 k listed)
+    | inr behind ↦ inr (
+      behind,
+      get_or-append_right frees (range_with_len (length slots) fresh) (length frees) k 0 refl behind
+          ∙ get_or-range_with_len (length slots) fresh (k - length frees) 0 (omega (arith, length-all_free)),
+    )
+  ]
+
+  apart : (first k j : ℕ) → k < length (get_or all_chains first []) → j < length all_free
+      → get_or (get_or all_chains first []) k 0 ≢ get_or all_free j 0
+  apart first k j k_low j_low same = elim (free_is j j_low) [
+    | inl listed ↦ shares.not_free first k j (low_is first k k_low) listed.0 (sym (block_is first k) ∙ (same ∙ listed.1))
+    | inr behind ↦ absurd (omega (arith, shares.within first k (low_is first k k_low), block_is first k, same, behind.1))
+  ]
+
+  once_free : (k j : ℕ) → k < length all_free → j < length all_free → get_or all_free k 0 ≡ get_or all_free j 0 → k ≡ j
+  once_free k j k_low j_low same = elim (free_is k k_low) [
+    | inl one ↦ elim (free_is j j_low) [
+      | inl two ↦ shares.free_once k j one.0 two.0 (sym one.1 ∙ (same ∙ two.1))
+      | inr two ↦ absurd (omega (arith, shares.free_within k one.0, one.1, same, two.1))
+    ]
+    | inr one ↦ elim (free_is j j_low) [
+      | inl two ↦ absurd (omega (arith, shares.free_within j two.0, two.1, same, one.1))
+      | inr two ↦ omega (arith, one.0, two.0, one.1, two.1, same)
+    ]
+  ]
+
+  free_low : (k : ℕ) → k < length all_free → get_or all_free k 0 < length all_slots
+  free_low k low = elim (free_is k low) [
+    | inl listed ↦ omega (arith, shares.free_within k listed.0, listed.1, length-all_slots)
+    | inr behind ↦ omega (arith, behind.0, behind.1, low, length-all_free, length-all_slots)
+  ]
+
+  -- fresh blocks are free, and no chain lies in them
+  with_fresh : ShareNoBlock (slots ++ replicate fresh None) (record {
+    memory = memory ++ replicate (32 * fresh) 0;
+    chains = chains ++ replicate fresh [];
+    free = frees ++ range_with_len (length slots) fresh;
+  })
+  with_fresh = record {
+    blocks = λ first. ap length (blocks_are first) ∙ (shares.blocks first ∙ sym (ap (λ bs. blocks_for (length bs)) (bytes_are first)));
+    bytes = λ first i low.
+        ap (λ bs. get_or bs i 0) (bytes_are first)
+        ∙ (shares.bytes first i (subst (λ bs. i < length bs) (bytes_are first) low)
+        ∙ sym (get_or-filled memory (32 * fresh) (32 * get_or (get_or all_chains first []) (i / 32) 0 + i % 32) 0
+        ∙ ap (λ b. get_or memory (32 * b + i % 32) 0) (block_is first (i / 32))));
+    once = λ first other k j k_low j_low same.
+        shares.once first other k j (low_is first k k_low) (low_is other j j_low) (sym (block_is first k) ∙ (same ∙ block_is other j));
+    not_free = apart;
+    free_once = once_free;
+    within = λ first k low. omega (arith, shares.within first k (low_is first k low), block_is first k, length-all_slots);
+    free_within = free_low;
+    all = omega (arith, length-all_free, length-all_slots, sum_by-filled length chains fresh [] refl, shares.all);
+  }
 
 -- ---- all chains
 
@@ -123,6 +218,10 @@ module _ (region next : List ℕ) (heads : List (Option Head)) (free free_len : 
       (get_or-map-range_with_len (block_at next free) 0 free_len k k 0 inside (omega arith), sound.spare k inside)
 
   module _ (slots : List (Option Held)) (view : slots_of region next heads ≡ slots) where
+    -- with no fresh blocks
+    used_only : slots_of region next heads ++ replicate 0 None ≡ slots
+    used_only = append-nil (slots_of region next heads) ∙ view
+
     chain_len : (first : ℕ) → length (get_or (chains_of next heads) first []) ≡ blocks_for (length (held_bytes slots first))
     chain_len first = by_head (get_or heads first None) refl
       where
@@ -131,12 +230,12 @@ module _ (region next : List ℕ) (heads : List (Option Head)) (free free_len : 
         by_head None e =
             let none : length (get_or (chains_of next heads) first []) ≡ 0 = ap length (chain_is next heads first ∙ ap (blocks_by next first) e) in
             elim (cases_lt 0 (length (held_bytes slots first))) [
-              | inl some ↦ absurd (not_none region next heads slots view first some e)
+              | inl some ↦ absurd (not_none region next heads 0 slots used_only first some e)
               | inr no_more ↦ omega arith
             ]
         by_head (Some head) e =
             ap length (chain_is next heads first ∙ ap (blocks_by next first) e) ∙ (length-blocks_by next first (Some head) ∙ ap blocks_for (sym
-            (len_says region next heads slots view first head e)))
+            (len_says region next heads 0 slots used_only first head e)))
 
     byte_lies : (first i : ℕ) → i < length (held_bytes slots first)
         → get_or (held_bytes slots first) i 0 ≡ get_or region (32 * get_or (get_or (chains_of next heads) first []) (i / 32) 0 + i % 32) 0
@@ -144,15 +243,16 @@ module _ (region next : List ℕ) (heads : List (Option Head)) (free free_len : 
       where
         by_head : (h : Option Head) → get_or heads first None ≡ h
             → get_or (held_bytes slots first) i 0 ≡ get_or region (32 * get_or (get_or (chains_of next heads) first []) (i / 32) 0 + i % 32) 0
-        by_head None e = absurd (not_none region next heads slots view first (omega arith) e)
+        by_head None e = absurd (not_none region next heads 0 slots used_only first (omega arith) e)
         by_head (Some head) e =
-            let len = len_says region next heads slots view first head e in
+            let len = len_says region next heads 0 slots used_only first head e in
             let block = in_chain first (i / 32) (omega (arith, chain_len first)) in
-            ap (λ bs. get_or bs i 0) (bytes_say region next heads slots view first head e)
+            ap (λ bs. get_or bs i 0) (bytes_say region next heads 0 slots used_only first head e)
             ∙ (byte_along region next first head.len i (omega (arith, len)) ∙ sym (ap (λ b. get_or region (32 * b + i % 32) 0) block.0))
 
-    pub shares_none : ShareNoBlock slots (places_of region next heads free free_len)
-    shares_none = record {
+    used_share_none : ShareNoBlock slots
+        (record { memory = region; chains = chains_of next heads; free = map (block_at next free) (range_with_len 0 free_len) })
+    used_share_none = record {
       blocks = chain_len;
       bytes = byte_lies;
       once = λ first other k j k_low j_low same.
@@ -177,6 +277,19 @@ module _ (region next : List ℕ) (heads : List (Option Head)) (free free_len : 
           omega (arith, one.0, one.1.0, sound.counted, ap length view, length-slots_of region next heads);
       all = omega (arith, length-free, blocks_together next heads, sound.all, sound.counted, ap length view, length-slots_of region next heads);
     }
+
+  pub shares_none : (fresh : ℕ) (slots : List (Option Held)) → slots_of region next heads ++ replicate fresh None ≡ slots
+      → ShareNoBlock slots (places_of region next heads free free_len fresh)
+  shares_none fresh slots view =
+      let used = slots_of region next heads in
+      let links : length next ≡ length used = omega (arith, sound.links, sound.counted, length-slots_of region next heads) in
+      let more = with_fresh used region (chains_of next heads) (map (block_at next free) (range_with_len 0 free_len)) fresh (used_share_none used refl) in
+      subst (λ ss. ShareNoBlock ss (places_of region next heads free free_len fresh)) view
+      (subst (λ n. ShareNoBlock (used ++ replicate fresh None) (record {
+        memory = region ++ replicate (32 * fresh) 0;
+        chains = chains_of next heads ++ replicate fresh [];
+        free = map (block_at next free) (range_with_len 0 free_len) ++ range_with_len n fresh;
+      })) (sym links) more)
 
 -- ---- chains by their names
 

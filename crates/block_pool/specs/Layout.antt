@@ -1,5 +1,5 @@
 -- How blocks lie in a region and are linked. No public clause cites this module.
-use Rattle.std.specs.Prelude.{◌≡◌, ℕ, ◌+◌, ◌-◌, ◌*◌, ◌<◌, ◌≤◌, List, [], map, length, Option, None, Some, slice_index_or}
+use Rattle.std.specs.Prelude.{◌≡◌, ℕ, ◌+◌, ◌-◌, ◌*◌, ◌<◌, ◌≤◌, List, [], ◌++◌, map, replicate, length, Option, None, Some, slice_index_or}
 use Rattle.std.specs.List.{range_with_len, sum_by}
 use Rattle.block_pool.specs.Slots.{Held, Places, blocks_for}
 use Rattle.block_pool.specs.Links.{block_at, linked_byte}
@@ -30,10 +30,15 @@ unfoldable pub chains_of : List ℕ → List (Option Head) → List (List ℕ)
 chains_of next heads =
     map (λ block. blocks_by next block (slice_index_or heads block None)) (range_with_len 0 (length heads))
 
--- where the chains lie
-abbrev pub places_of : List ℕ → List ℕ → List (Option Head) → ℕ → ℕ → Places
-places_of region next heads free free_len =
-    record { memory = region; chains = chains_of next heads; free = map (block_at next free) (range_with_len 0 free_len) }
+-- Where the chains lie. Behind the blocks that were used lie so many fresh ones: they are free, no chain begins there, and their
+-- bytes are zero.
+abbrev pub places_of : List ℕ → List ℕ → List (Option Head) → ℕ → ℕ → ℕ → Places
+places_of region next heads free free_len fresh =
+    record {
+      memory = region ++ replicate (32 * fresh) 0;
+      chains = chains_of next heads ++ replicate fresh [];
+      free = map (block_at next free) (range_with_len 0 free_len) ++ range_with_len (length next) fresh;
+    }
 
 -- how many blocks the chain that a head says has
 abbrev pub head_blocks : Option Head → ℕ
@@ -64,3 +69,10 @@ pub record AreSoundBlocks (region next : List ℕ) (heads : List (Option Head)) 
   pub chains : (block : ℕ) (head : Head) → slice_index_or heads block None ≡ Some head → IsChain next mark count block head
   pub spare : (k : ℕ) → k < free_len → IsMarked mark count (block_at next free k) count k
   pub all : free_len + sum_by head_blocks heads ≡ count
+
+-- There is room for the blocks that were used and the fresh ones, which are at most 16,384.
+pub record HasRoom (used fresh region_room next_room heads_room : ℕ) : Type 0 where
+  pub few : used + fresh ≤ 16384
+  pub bytes : 32 * (used + fresh) ≤ region_room
+  pub links : used + fresh ≤ next_room
+  pub heads : used + fresh ≤ heads_room

@@ -61,8 +61,9 @@ pub record ShareNoBlock (slots : List (Option Held)) (places : Places) : Type 0 
   pub free_within : (k : ℕ) → k < length places.free → slice_index places.free k < length slots
   pub all : length places.free + sum_by length places.chains ≡ length slots
 
--- for each block the chain that begins there, where the chains lie, and how many blocks are free
+-- for each block the chain that begins there, where the chains lie, how many blocks are free, and how many of those are in a list
 pub record BlocksState : Type 0 where
   pub slots : List (Option Held)
   pub places : Places
   pub free : ℕ
+  pub listed : ℕ

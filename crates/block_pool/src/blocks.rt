@@ -1,6 +1,7 @@
 //! Blocks of memory in one region, linked into chains and a list of free blocks.
-ghost use Rattle.std.specs.Prelude.{◌≡◌, ℕ, ◌+◌, ◌*◌, ◌/◌, ◌^◌, ◌<◌, ◌≤◌, length, map, replicate, None, Some, IsSome, IfOk, slice_index_or};
+ghost use Rattle.std.specs.Prelude.{◌≡◌, ℕ, ◌+◌, ◌*◌, ◌/◌, ◌^◌, ◌<◌, ◌≤◌, ◌++◌, length, map, replicate, None, Some, IsSome, slice_index_or};
 ghost use Rattle.std.specs.List.{range_with_len};
+ghost use Rattle.std.specs.Vec.{vec_len, vec_capacity};
 ghost use Rattle.block_pool.specs.Links.{block_at, linked_byte, region_behind};
 
 use std::alloc::{AllocError, Global};
@@ -101,42 +102,34 @@ fn overwrite(region: &mut [u8], place: usize, bytes: &[u8])
     region[place..place + bytes.len()].copy_from_slice(bytes);
 }
 
-/// Links from each of so many blocks to the one behind it.
-fn in_a_row(alloc: Global, count: u16) -> Result<Vec<u16>, AllocError>
-    requires { count ≤ 16384 }
-    ensures { IfOk result (λ v. v.items ≡ range_with_len 1 count) }
+/// Lengthens a region by one block of zeros, for which it has room.
+fn add_block(region: &mut Vec<u8>)
+    requires { vec_len region.old + 32 ≤ vec_capacity region.old }
+    ensures items { region.new.items ≡ region.old.items ++ replicate 32 0 }
+    ensures capacity { vec_capacity region.old ≤ vec_capacity region.new }
 {
-    let mut next = Vec::with_capacity(alloc, count as usize)?;
-    for block in 0..count {
-        next.push(block + 1)?;
+    match region.extend_from_slice(&[0; BLOCK_BYTES]) {
+        Ok(()) => (),
+        Err(_) => unreachable!(),
     }
-    Ok(next)
 }
 
-/// So many blocks at which no chain begins.
-fn no_heads(alloc: Global, count: u16) -> Result<Vec<Option<Head>>, AllocError>
-    ensures { IfOk result (λ v. v.items ≡ replicate count None) }
-{
-    let mut heads = Vec::with_capacity(alloc, count as usize)?;
-    for _block in 0..count {
-        heads.push(None)?;
-    }
-    Ok(heads)
-}
-
-/// Blocks of 32 bytes, each in a chain or free.
+/// Blocks of 32 bytes, each in a chain or free. The lists reach up to the last block that was used, and have room for the fresh
+/// ones behind it, which were not used yet.
 #[derive(Drop)]
 pub struct Blocks {
-    /// The bytes of all blocks, one block after another.
+    /// The bytes of the blocks, one block after another.
     region: Vec<u8>,
     /// For each block the next one of its chain, or of the free list.
     next: Vec<u16>,
     /// For each block the chain that begins there.
     heads: Vec<Option<Head>>,
-    /// The first free block.
+    /// The first block of the free list.
     free: u16,
-    /// How many blocks are free.
+    /// How many blocks are in the free list.
     free_len: u16,
+    /// How many blocks are fresh.
+    fresh: u16,
 }
 
 impl Model for Blocks {
@@ -144,15 +137,19 @@ impl Model for Blocks {
 
     ghost Value = { BlocksState };
 
-    ghost use Rattle.block_pool.specs.Layout.{slots_of, places_of, AreSoundBlocks};
+    ghost use Rattle.std.specs.Prelude.{◌+◌, ◌++◌, replicate, None};
+    ghost use Rattle.std.specs.Vec.{vec_len, vec_capacity};
+    ghost use Rattle.block_pool.specs.Layout.{slots_of, places_of, AreSoundBlocks, HasRoom};
 
     ghost view = { λ b. record {
-      slots = slots_of b.region.items b.next.items b.heads.items;
-      places = places_of b.region.items b.next.items b.heads.items b.free b.free_len;
-      free = b.free_len;
+      slots = slots_of b.region.items b.next.items b.heads.items ++ replicate b.fresh None;
+      places = places_of b.region.items b.next.items b.heads.items b.free b.free_len b.fresh;
+      free = b.free_len + b.fresh;
+      listed = b.free_len;
     } };
 
-    ghost invariant = { λ b. AreSoundBlocks b.region.items b.next.items b.heads.items b.free b.free_len };
+    ghost invariant = { λ b. AreSoundBlocks b.region.items b.next.items b.heads.items b.free b.free_len
+        × HasRoom (vec_len b.next) b.fresh (vec_capacity b.region) (vec_capacity b.next) (vec_capacity b.heads) };
 }
 
 impl Blocks {
@@ -164,16 +161,46 @@ impl Blocks {
         requires { count ≤ 16384 }
         ensures { IfOk result (λ blocks. (blocks.slots ≡ replicate count None) × (blocks.free ≡ count)) }
     {
-        let region = vec![in alloc; 0; BLOCK_BYTES * count as usize]?;
-        let next = in_a_row(alloc, count)?;
-        let heads = no_heads(alloc, count)?;
+        let region = Vec::with_capacity(alloc, BLOCK_BYTES * count as usize)?;
+        let next = Vec::with_capacity(alloc, count as usize)?;
+        let heads = Vec::with_capacity(alloc, count as usize)?;
         Ok(Blocks {
             region,
             next,
             heads,
             free: 0,
-            free_len: count,
+            free_len: 0,
+            fresh: count,
         })
+    }
+
+    /// Lengthens the lists by the first fresh block, which alone is in the free list then. There is room, so this takes no memory.
+    fn lengthen(&mut self)
+        requires used { self.old.listed ≡ 0 }
+        requires free { 0 < self.old.free }
+        ensures listed { self.new.listed ≡ 1 }
+        ensures slots { self.new.slots ≡ self.old.slots }
+        ensures free { self.new.free ≡ self.old.free }
+    {
+        let block = self.next.len() as u16;
+        add_block(&mut self.region);
+        self.next.push_reserved(0);
+        self.heads.push_reserved(None);
+        self.free = block;
+        self.free_len = 1;
+        self.fresh -= 1;
+    }
+
+    /// Sees to it that the first free block is one that the lists reach.
+    fn reach(&mut self)
+        requires { 0 < self.old.free }
+        ensures listed { 0 < self.new.listed }
+        ensures slots { self.new.slots ≡ self.old.slots }
+        ensures free { self.new.free ≡ self.old.free }
+    {
+        if self.free_len == 0 {
+            self.lengthen();
+        }
     }
 
     /// Each block lies in one chain, once, or is free. Nothing here runs.
@@ -199,6 +226,7 @@ impl Blocks {
         ensures slots { self.new.slots ≡ with_chain self.old.slots result owner (byte ∷ []) }
         ensures free { self.new.free + 1 ≡ self.old.free }
     {
+        self.reach();
         let block = self.free;
         self.free = self.next[block as usize];
         self.free_len -= 1;
@@ -245,6 +273,7 @@ impl Blocks {
             ≡ with_chain self.old.slots first (owner_of self.old.slots first) (held_bytes self.old.slots first ++ byte ∷ []) }
         ensures free { self.new.free + 1 ≡ self.old.free }
     {
+        self.reach();
         let head = head_at(&self.heads, first);
         let block = self.free;
         self.free = self.next[block as usize];

@@ -19,8 +19,9 @@ pub struct NoRoom {
     pub spare: u16,
 }
 
-/// Blocks of 32 bytes, each used by a chain, set aside, or free. After it is made no call takes memory: nothing here pushes onto a
-/// vector but `make`. No clause forces that.
+/// Blocks of 32 bytes, each used by a chain, set aside, or free. `make` asks for room for all of them and fills none: the lists of
+/// blocks lengthen as blocks are first used. After that no call takes memory: nothing here pushes onto a vector that has no room for
+/// it. No clause forces that.
 #[derive(Drop)]
 pub struct Pool {
     blocks: Blocks,

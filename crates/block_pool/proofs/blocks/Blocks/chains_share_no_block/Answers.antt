@@ -7,4 +7,4 @@ pub returns : goal.returns
 returns c =
     let s = c.self.inside in
     subst (λ (v : BlocksState). ShareNoBlock v.slots v.places) c.self.view_is
-    (shares_none s.region.items s.next.items s.heads.items s.free s.free_len c.self.invariant _ refl)
+    (shares_none s.region.items s.next.items s.heads.items s.free s.free_len c.self.invariant.0 s.fresh _ refl)

@@ -1,5 +1,5 @@
 use Rattle.std.proofs.Common.{◌≡◌, ℕ, ◌+◌, ◌*◌, ◌/◌, ◌<◌, sym, ap, ◌∙◌, subst, arith, length, take, get_or, List, length-take}
-use Rattle.std.specs.Prelude.{None, Some, IsSome}
+use Rattle.std.specs.Prelude.{[], ◌++◌, replicate, None, Some, IsSome}
 use Rattle.block_pool.specs.Slots.{BlocksState, blocks_for}
 use Rattle.block_pool.specs.Links.{block_at}
 use Rattle.block_pool.proofs.LayoutLemmas.{blocks_reached, copied_out, has_head, len_says, read_on_sound, read_on_slots}
@@ -10,13 +10,14 @@ pub head_at-head-requires : goal.head_at-head-requires
 head_at-head-requires c =
     let s = c.self.inside in
     subst (λ hs. IsSome (get_or hs c.args.first None)) (sym c.deref.ensures.value)
-    (has_head s.region.items s.next.items s.heads.items c.args.self.now.slots (ap (λ (v : BlocksState). v.slots) c.self.view_is) c.args.first c.requires.some)
+    (has_head s.region.items s.next.items s.heads.items s.fresh c.args.self.now.slots (ap (λ (v : BlocksState). v.slots) c.self.view_is) c.args.first
+    c.requires.some)
 
 pub overflow_sub-left : goal.overflow_sub-left
 overflow_sub-left c =
     let s = c.self.inside in
     let at : get_or s.heads.items c.args.first None ≡ Some c.head_at-head.result = rw c.deref.ensures.value at c.head_at-head.ensures.head in
-    let len_is = len_says s.region.items s.next.items s.heads.items c.args.self.now.slots
+    let len_is = len_says s.region.items s.next.items s.heads.items s.fresh c.args.self.now.slots
     (ap (λ (v : BlocksState). v.slots) c.self.view_is) c.args.first c.head_at-head.result at in
     omega (arith, len_is, c.requires.in_chain)
 
@@ -24,11 +25,11 @@ pub copy_from-read_on-requires-clause-reached : goal.copy_from-read_on-requires-
 copy_from-read_on-requires-clause-reached c =
     let s = c.self.inside in
     let at : get_or s.heads.items c.args.first None ≡ Some c.head_at-head.result = rw c.deref.ensures.value at c.head_at-head.ensures.head in
-    let len_is = len_says s.region.items s.next.items s.heads.items c.args.self.now.slots
+    let len_is = len_says s.region.items s.next.items s.heads.items s.fresh c.args.self.now.slots
     (ap (λ (v : BlocksState). v.slots) c.self.view_is) c.args.first c.head_at-head.result at in
     subst (λ (ns : List ℕ). (k : ℕ) → k * 32 < c.args.from + length (take c.min-count.result c.args.out.now) → block_at ns c.args.first k < length ns)
     (sym c.deref-3.ensures.value)
-    (λ k low. blocks_reached s.region.items s.next.items s.heads.items s.free s.free_len c.self.invariant c.args.self.now.slots
+    (λ k low. blocks_reached s.region.items s.next.items s.heads.items s.free s.free_len c.self.invariant.0 s.fresh c.args.self.now.slots
     (ap (λ (v : BlocksState). v.slots) c.self.view_is) c.args.first c.requires.some k
     (omega (arith, length-take c.min-count.result c.args.out.now, c.min-count.ensures, len_is, c.requires.in_chain)))
 
@@ -41,15 +42,17 @@ invariant_of-self c =
     omega (arith, length-take c.min-count.result c.args.out.now, c.min-count.ensures) in
     let behind : c.copy_from-read_on.result ≡ block_at s.next.items c.args.first ((c.args.from + c.min-count.result) / 32) =
     rw (c.deref-3.ensures.value, copied) at c.copy_from-read_on.ensures.behind in
-    let low : (c.args.from + c.min-count.result) / 32 < blocks_for head.len = omega (arith, c.if-count-left.true) in
-    read_on_sound s.region.items s.next.items s.heads.items s.free s.free_len c.self.invariant c.args.first c.copy_from-read_on.result
-    ((c.args.from + c.min-count.result) / 32) head at low behind
+    let low : (c.args.from + c.min-count.result) / 32 < blocks_for head.len = omega (arith, c.if-count-left.true) in (
+      read_on_sound s.region.items s.next.items s.heads.items s.free s.free_len c.self.invariant.0 c.args.first c.copy_from-read_on.result
+          ((c.args.from + c.min-count.result) / 32) head at low behind,
+      c.self.invariant.1,
+    )
 
 pub returns-then-count-left-clause-count : goal.returns-then-count-left-clause-count
 returns-then-count-left-clause-count c =
     let s = c.self.inside in
     let at : get_or s.heads.items c.args.first None ≡ Some c.head_at-head.result = rw c.deref.ensures.value at c.head_at-head.ensures.head in
-    let len_is = len_says s.region.items s.next.items s.heads.items c.args.self.now.slots
+    let len_is = len_says s.region.items s.next.items s.heads.items s.fresh c.args.self.now.slots
     (ap (λ (v : BlocksState). v.slots) c.self.view_is) c.args.first c.head_at-head.result at in
     omega (arith, c.min-count.ensures, len_is)
 
@@ -57,9 +60,9 @@ pub returns-then-count-left-clause-copied : goal.returns-then-count-left-clause-
 returns-then-count-left-clause-copied c =
     let s = c.self.inside in
     let at : get_or s.heads.items c.args.first None ≡ Some c.head_at-head.result = rw c.deref.ensures.value at c.head_at-head.ensures.head in
-    let len_is = len_says s.region.items s.next.items s.heads.items c.args.self.now.slots
+    let len_is = len_says s.region.items s.next.items s.heads.items s.fresh c.args.self.now.slots
     (ap (λ (v : BlocksState). v.slots) c.self.view_is) c.args.first c.head_at-head.result at in
-    copied_out s.region.items s.next.items s.heads.items s.free s.free_len c.self.invariant c.args.self.now.slots
+    copied_out s.region.items s.next.items s.heads.items s.free s.free_len c.self.invariant.0 s.fresh c.args.self.now.slots
     (ap (λ (v : BlocksState). v.slots) c.self.view_is) c.args.first c.requires.some
     c.args.from c.min-count.result c.args.out.now c.copy_from-read_on.new.out c.requires.in_chain (omega (arith, c.min-count.ensures, len_is))
     (rw (c.deref-2.ensures.value, c.deref-3.ensures.value) at c.copy_from-read_on.ensures.copied)
@@ -72,15 +75,15 @@ returns-then-count-left-clause-unchanged c =
     let passed = (c.args.from + c.min-count.result) / 32 in
     let low : c.args.first < length s.heads.items = rw c.deref.ensures.value at c.head_at-head.ensures.low in
     let slots =
-    read_on_slots s.region.items s.next.items s.heads.items s.free s.free_len c.self.invariant c.args.first c.copy_from-read_on.result passed head at in
+    read_on_slots s.region.items s.next.items s.heads.items s.free s.free_len c.self.invariant.0 c.args.first c.copy_from-read_on.result passed head at in
     let chains = read_on_chains s.next.items s.heads.items c.args.first c.copy_from-read_on.result passed head low at in
-    same_state _ _ _ _ _ _ s.free_len slots chains ∙ c.self.view_is
+    same_state _ _ _ _ _ _ _ s.free_len (ap (λ ss. ss ++ replicate s.fresh None) slots) (ap (λ cs. cs ++ replicate s.fresh []) chains) ∙ c.self.view_is
 
 pub returns-else-count-left-clause-count : goal.returns-else-count-left-clause-count
 returns-else-count-left-clause-count c =
     let s = c.self.inside in
     let at : get_or s.heads.items c.args.first None ≡ Some c.head_at-head.result = rw c.deref.ensures.value at c.head_at-head.ensures.head in
-    let len_is = len_says s.region.items s.next.items s.heads.items c.args.self.now.slots
+    let len_is = len_says s.region.items s.next.items s.heads.items s.fresh c.args.self.now.slots
     (ap (λ (v : BlocksState). v.slots) c.self.view_is) c.args.first c.head_at-head.result at in
     omega (arith, c.min-count.ensures, len_is)
 
@@ -88,9 +91,9 @@ pub returns-else-count-left-clause-copied : goal.returns-else-count-left-clause-
 returns-else-count-left-clause-copied c =
     let s = c.self.inside in
     let at : get_or s.heads.items c.args.first None ≡ Some c.head_at-head.result = rw c.deref.ensures.value at c.head_at-head.ensures.head in
-    let len_is = len_says s.region.items s.next.items s.heads.items c.args.self.now.slots
+    let len_is = len_says s.region.items s.next.items s.heads.items s.fresh c.args.self.now.slots
     (ap (λ (v : BlocksState). v.slots) c.self.view_is) c.args.first c.head_at-head.result at in
-    copied_out s.region.items s.next.items s.heads.items s.free s.free_len c.self.invariant c.args.self.now.slots
+    copied_out s.region.items s.next.items s.heads.items s.free s.free_len c.self.invariant.0 s.fresh c.args.self.now.slots
     (ap (λ (v : BlocksState). v.slots) c.self.view_is) c.args.first c.requires.some
     c.args.from c.min-count.result c.args.out.now c.copy_from-read_on.new.out c.requires.in_chain (omega (arith, c.min-count.ensures, len_is))
     (rw (c.deref-2.ensures.value, c.deref-3.ensures.value) at c.copy_from-read_on.ensures.copied)

@@ -1,10 +1,11 @@
 use Rattle.std.proofs.Common.{◌≡◌, ℕ, List, ◌<◌, ◌≤◌, ◌+◌, ◌*◌, ◌%◌, sym, ap, ◌∙◌, subst, arith, length, get_or, set, take, drop, refl}
-use Rattle.std.specs.Prelude.{◌∷◌, [], ◌++◌, None, Some, IsSome}
+use Rattle.std.specs.Prelude.{replicate, ◌∷◌, [], ◌++◌, None, Some, IsSome}
 use Rattle.std.proofs.lemmas.List.{take_at}
 use Rattle.block_pool.specs.Links.{region_behind}
 use Rattle.block_pool.specs.Slots.{BlocksState, with_chain, held_bytes}
 use Rattle.block_pool.specs.Layout.{slots_of, laid_bytes, AreSoundBlocks}
-use Rattle.block_pool.proofs.LayoutLemmas.{bytes_say, owner_says, len_says, has_head, last_in, head_fits}
+use Rattle.block_pool.proofs.FreshLemmas.{set-filled}
+use Rattle.block_pool.proofs.LayoutLemmas.{begun_low, bytes_say, owner_says, len_says, has_head, last_in, head_fits}
 use Rattle.block_pool.proofs.FillLemmas.{written, grown, fill, at_once}
 use Rattle.block_pool.proofs.blocks.Blocks.fill_block.Goals as goal
 
@@ -12,7 +13,7 @@ pub head_at-head-requires : goal.head_at-head-requires
 head_at-head-requires c =
     let s = c.self.inside in
     subst (λ hs. IsSome (get_or hs c.args.first None)) (sym c.deref.ensures.value)
-    (has_head s.region.items s.next.items s.heads.items c.args.self.now.slots (ap (λ (v : BlocksState). v.slots) c.self.view_is) c.args.first
+    (has_head s.region.items s.next.items s.heads.items s.fresh c.args.self.now.slots (ap (λ (v : BlocksState). v.slots) c.self.view_is) c.args.first
     (let r = c.requires.begun in omega arith))
 
 pub overwrite-requires : goal.overwrite-requires
@@ -21,16 +22,17 @@ overwrite-requires c =
     let head = c.head_at-head.result in
     let bytes = c.args.bytes.now in
     let at : get_or s.heads.items c.args.first None ≡ Some head = rw c.deref.ensures.value at c.head_at-head.ensures.head in
-    let view : slots_of s.region.items s.next.items s.heads.items ≡ c.args.self.now.slots = ap (λ (v : BlocksState). v.slots) c.self.view_is in
-    let len_is = len_says s.region.items s.next.items s.heads.items c.args.self.now.slots view c.args.first head at in
+    let view : slots_of s.region.items s.next.items s.heads.items ++ replicate s.fresh None ≡ c.args.self.now.slots = ap (λ (v : BlocksState). v.slots)
+    c.self.view_is in
+    let len_is = len_says s.region.items s.next.items s.heads.items s.fresh c.args.self.now.slots view c.args.first head at in
     let begun : 0 < head.len % 32 = subst (λ n. 0 < n % 32) len_is c.requires.begun in
     let room : head.len % 32 + length bytes ≤ 32 = subst (λ n. n % 32 + length bytes ≤ 32) len_is c.requires.room in
     let place = 32 * head.last + head.len % 32 in
     let fits : place + length bytes ≤ length s.region.items =
     omega (
       arith,
-      last_in s.region.items s.next.items s.heads.items s.free s.free_len c.self.invariant c.args.first head at,
-      c.self.invariant.bytes,
+      last_in s.region.items s.next.items s.heads.items s.free s.free_len c.self.invariant.0 c.args.first head at,
+      c.self.invariant.0.bytes,
       room,
     ) in
     subst (λ r. place + length bytes ≤ length r) (sym c.deref_mut.ensures.value) fits
@@ -41,16 +43,17 @@ invariant_of-self c =
     let head = c.head_at-head.result in
     let bytes = c.args.bytes.now in
     let at : get_or s.heads.items c.args.first None ≡ Some head = rw c.deref.ensures.value at c.head_at-head.ensures.head in
-    let view : slots_of s.region.items s.next.items s.heads.items ≡ c.args.self.now.slots = ap (λ (v : BlocksState). v.slots) c.self.view_is in
-    let len_is = len_says s.region.items s.next.items s.heads.items c.args.self.now.slots view c.args.first head at in
+    let view : slots_of s.region.items s.next.items s.heads.items ++ replicate s.fresh None ≡ c.args.self.now.slots = ap (λ (v : BlocksState). v.slots)
+    c.self.view_is in
+    let len_is = len_says s.region.items s.next.items s.heads.items s.fresh c.args.self.now.slots view c.args.first head at in
     let begun : 0 < head.len % 32 = subst (λ n. 0 < n % 32) len_is c.requires.begun in
     let room : head.len % 32 + length bytes ≤ 32 = subst (λ n. n % 32 + length bytes ≤ 32) len_is c.requires.room in
     let place = 32 * head.last + head.len % 32 in
     let fits : place + length bytes ≤ length s.region.items =
     omega (
       arith,
-      last_in s.region.items s.next.items s.heads.items s.free s.free_len c.self.invariant c.args.first head at,
-      c.self.invariant.bytes,
+      last_in s.region.items s.next.items s.heads.items s.free s.free_len c.self.invariant.0 c.args.first head at,
+      c.self.invariant.0.bytes,
       room,
     ) in
     let value : c.deref_mut.result.now ≡ s.region.items = c.deref_mut.ensures.value in
@@ -61,9 +64,10 @@ invariant_of-self c =
     take_at now (drop (length now) s.region.items) s.region.len (omega (arith, c.overwrite.auto.region, c.deref_mut.ensures.len)) ∙ written_is in
     let heads = set s.heads.items c.args.first (Some (grown head (head.len + length bytes))) in
     let filled =
-    fill bytes s.region.items s.next.items s.heads.items s.free s.free_len c.self.invariant c.args.first head place (head.len + length bytes) at c.requires.more
+    fill bytes s.region.items s.next.items s.heads.items s.free s.free_len c.self.invariant.0 c.args.first head place (head.len + length bytes) at
+    c.requires.more
     begun room refl refl in
-    subst (λ r. AreSoundBlocks r s.next.items heads s.free s.free_len) (sym region_is) filled.sound
+    (subst (λ r. AreSoundBlocks r s.next.items heads s.free s.free_len) (sym region_is) filled.sound, c.self.invariant.1)
 
 pub returns-clause-slots : goal.returns-clause-slots
 returns-clause-slots c =
@@ -71,16 +75,17 @@ returns-clause-slots c =
     let head = c.head_at-head.result in
     let bytes = c.args.bytes.now in
     let at : get_or s.heads.items c.args.first None ≡ Some head = rw c.deref.ensures.value at c.head_at-head.ensures.head in
-    let view : slots_of s.region.items s.next.items s.heads.items ≡ c.args.self.now.slots = ap (λ (v : BlocksState). v.slots) c.self.view_is in
-    let len_is = len_says s.region.items s.next.items s.heads.items c.args.self.now.slots view c.args.first head at in
+    let view : slots_of s.region.items s.next.items s.heads.items ++ replicate s.fresh None ≡ c.args.self.now.slots = ap (λ (v : BlocksState). v.slots)
+    c.self.view_is in
+    let len_is = len_says s.region.items s.next.items s.heads.items s.fresh c.args.self.now.slots view c.args.first head at in
     let begun : 0 < head.len % 32 = subst (λ n. 0 < n % 32) len_is c.requires.begun in
     let room : head.len % 32 + length bytes ≤ 32 = subst (λ n. n % 32 + length bytes ≤ 32) len_is c.requires.room in
     let place = 32 * head.last + head.len % 32 in
     let fits : place + length bytes ≤ length s.region.items =
     omega (
       arith,
-      last_in s.region.items s.next.items s.heads.items s.free s.free_len c.self.invariant c.args.first head at,
-      c.self.invariant.bytes,
+      last_in s.region.items s.next.items s.heads.items s.free s.free_len c.self.invariant.0 c.args.first head at,
+      c.self.invariant.0.bytes,
       room,
     ) in
     let value : c.deref_mut.result.now ≡ s.region.items = c.deref_mut.ensures.value in
@@ -91,12 +96,14 @@ returns-clause-slots c =
     take_at now (drop (length now) s.region.items) s.region.len (omega (arith, c.overwrite.auto.region, c.deref_mut.ensures.len)) ∙ written_is in
     let heads = set s.heads.items c.args.first (Some (grown head (head.len + length bytes))) in
     let filled =
-    fill bytes s.region.items s.next.items s.heads.items s.free s.free_len c.self.invariant c.args.first head place (head.len + length bytes) at c.requires.more
+    fill bytes s.region.items s.next.items s.heads.items s.free s.free_len c.self.invariant.0 c.args.first head place (head.len + length bytes) at
+    c.requires.more
     begun room refl refl in
-    let bytes_are = bytes_say s.region.items s.next.items s.heads.items c.args.self.now.slots view c.args.first head at in
-    let owner_is = owner_says s.region.items s.next.items s.heads.items c.args.self.now.slots view c.args.first head at in
-    ap (λ r. slots_of r s.next.items heads) region_is
-    ∙ (filled.slots
+    let bytes_are = bytes_say s.region.items s.next.items s.heads.items s.fresh c.args.self.now.slots view c.args.first head at in
+    let owner_is = owner_says s.region.items s.next.items s.heads.items s.fresh c.args.self.now.slots view c.args.first head at in
+    set-filled (slots_of s.region.items s.next.items s.heads.items) _ s.fresh c.args.first None _
+    (ap (λ r. slots_of r s.next.items heads) region_is ∙ filled.slots)
+    (begun_low s.region.items s.next.items s.heads.items s.free s.free_len c.self.invariant.0 c.args.first head at)
     ∙ (ap (λ ss. with_chain ss c.args.first head.owner (laid_bytes s.region.items s.next.items c.args.first head.len ++ bytes)) view
     ∙ (ap (λ bs. with_chain c.args.self.now.slots c.args.first head.owner (bs ++ bytes)) (sym bytes_are)
-    ∙ ap (λ o. with_chain c.args.self.now.slots c.args.first o (held_bytes c.args.self.now.slots c.args.first ++ bytes)) (sym owner_is))))
+    ∙ ap (λ o. with_chain c.args.self.now.slots c.args.first o (held_bytes c.args.self.now.slots c.args.first ++ bytes)) (sym owner_is)))

@@ -1,15 +1,17 @@
 use Rattle.std.proofs.Common.{◌≡◌, ◌<◌, ◌+◌, ◌^◌, sym, ap, ◌∙◌, subst, arith, get_or}
-use Rattle.std.specs.Prelude.{None, Some, IsSome, slice_set}
+use Rattle.std.specs.Prelude.{replicate, ◌++◌, None, Some, IsSome, slice_set}
 use Rattle.block_pool.specs.Slots.{BlocksState, blocks_for}
 use Rattle.block_pool.specs.Layout.{slots_of, AreSoundBlocks}
-use Rattle.block_pool.proofs.LayoutLemmas.{len_says, has_head, last_in, blocks_is, blocks_fit, free_chain_sound, free_chain_slots}
+use Rattle.block_pool.proofs.FreshLemmas.{set-filled}
+use Rattle.block_pool.proofs.LayoutLemmas.{begun_low, len_says, has_head, last_in, blocks_is, blocks_fit, free_chain_sound, free_chain_slots}
 use Rattle.block_pool.proofs.blocks.Blocks.free_chain.Goals as goal
 
 pub head_at-head-requires : goal.head_at-head-requires
 head_at-head-requires c =
     let s = c.self.inside in
     subst (λ hs. IsSome (get_or hs c.args.first None)) (sym c.deref.ensures.value)
-    (has_head s.region.items s.next.items s.heads.items c.args.self.now.slots (ap (λ (v : BlocksState). v.slots) c.self.view_is) c.args.first c.requires.some)
+    (has_head s.region.items s.next.items s.heads.items s.fresh c.args.self.now.slots (ap (λ (v : BlocksState). v.slots) c.self.view_is) c.args.first
+    c.requires.some)
 
 pub index_mut-requires : goal.index_mut-requires
 index_mut-requires c =
@@ -17,17 +19,19 @@ index_mut-requires c =
     let head = c.head_at-head.result in
     let at : get_or s.heads.items c.args.first None ≡ Some head = rw c.deref.ensures.value at c.head_at-head.ensures.head in
     omega
-    (arith, last_in s.region.items s.next.items s.heads.items s.free s.free_len c.self.invariant c.args.first head at, c.self.invariant.links, s.next.ok.0)
+    (arith, last_in s.region.items s.next.items s.heads.items s.free s.free_len c.self.invariant.0 c.args.first head at, c.self.invariant.0.links, s.next.ok.0)
 
 pub overflow_cast-self : goal.overflow_cast-self
 overflow_cast-self c =
     let s = c.self.inside in
     let head = c.head_at-head.result in
     let at : get_or s.heads.items c.args.first None ≡ Some head = rw c.deref.ensures.value at c.head_at-head.ensures.head in
-    let view : slots_of s.region.items s.next.items s.heads.items ≡ c.args.self.now.slots = ap (λ (v : BlocksState). v.slots) c.self.view_is in
-    let len_is = len_says s.region.items s.next.items s.heads.items c.args.self.now.slots view c.args.first head at in
-    let free_is : s.free_len ≡ c.args.self.now.free = ap (λ (v : BlocksState). v.free) c.self.view_is in
-    let fits : s.free_len + blocks_for head.len < 2 ^ 16 = rw (free_is, ← len_is) c.requires.fits in
+    let view : slots_of s.region.items s.next.items s.heads.items ++ replicate s.fresh None ≡ c.args.self.now.slots = ap (λ (v : BlocksState). v.slots)
+    c.self.view_is in
+    let len_is = len_says s.region.items s.next.items s.heads.items s.fresh c.args.self.now.slots view c.args.first head at in
+    let free_is : s.free_len + s.fresh ≡ c.args.self.now.free = ap (λ (v : BlocksState). v.free) c.self.view_is in
+    let all : c.args.self.now.free + blocks_for head.len < 2 ^ 16 = rw (← len_is) c.requires.fits in
+    let fits : s.free_len + blocks_for head.len < 2 ^ 16 = omega (arith, all, free_is) in
     (blocks_fit c.div_ceil.result s.free_len head.len c.div_ceil.ensures fits).0
 
 pub overflow_add-self : goal.overflow_add-self
@@ -35,10 +39,12 @@ overflow_add-self c =
     let s = c.self.inside in
     let head = c.head_at-head.result in
     let at : get_or s.heads.items c.args.first None ≡ Some head = rw c.deref.ensures.value at c.head_at-head.ensures.head in
-    let view : slots_of s.region.items s.next.items s.heads.items ≡ c.args.self.now.slots = ap (λ (v : BlocksState). v.slots) c.self.view_is in
-    let len_is = len_says s.region.items s.next.items s.heads.items c.args.self.now.slots view c.args.first head at in
-    let free_is : s.free_len ≡ c.args.self.now.free = ap (λ (v : BlocksState). v.free) c.self.view_is in
-    let fits : s.free_len + blocks_for head.len < 2 ^ 16 = rw (free_is, ← len_is) c.requires.fits in
+    let view : slots_of s.region.items s.next.items s.heads.items ++ replicate s.fresh None ≡ c.args.self.now.slots = ap (λ (v : BlocksState). v.slots)
+    c.self.view_is in
+    let len_is = len_says s.region.items s.next.items s.heads.items s.fresh c.args.self.now.slots view c.args.first head at in
+    let free_is : s.free_len + s.fresh ≡ c.args.self.now.free = ap (λ (v : BlocksState). v.free) c.self.view_is in
+    let all : c.args.self.now.free + blocks_for head.len < 2 ^ 16 = rw (← len_is) c.requires.fits in
+    let fits : s.free_len + blocks_for head.len < 2 ^ 16 = omega (arith, all, free_is) in
     (blocks_fit c.div_ceil.result s.free_len head.len c.div_ceil.ensures fits).1
 
 pub invariant_of-self : goal.invariant_of-self
@@ -46,18 +52,23 @@ invariant_of-self c =
     let s = c.self.inside in
     let head = c.head_at-head.result in
     let at : get_or s.heads.items c.args.first None ≡ Some head = rw c.deref.ensures.value at c.head_at-head.ensures.head in
-    let blocks : c.div_ceil.result ≡ blocks_for head.len = blocks_is c.div_ceil.result head.len c.div_ceil.ensures in
-    subst
-    (λ n. AreSoundBlocks s.region.items (slice_set s.next.items head.last s.free) (slice_set s.heads.items c.args.first None) c.args.first (s.free_len + n))
-    (sym blocks)
-    (free_chain_sound s.region.items s.next.items s.heads.items s.free s.free_len c.self.invariant c.args.first head at)
+    let blocks : c.div_ceil.result ≡ blocks_for head.len = blocks_is c.div_ceil.result head.len c.div_ceil.ensures in (
+      subst
+          (λ n. AreSoundBlocks s.region.items (slice_set s.next.items head.last s.free) (slice_set s.heads.items c.args.first None) c.args.first
+          (s.free_len + n))
+          (sym blocks)
+          (free_chain_sound s.region.items s.next.items s.heads.items s.free s.free_len c.self.invariant.0 c.args.first head at),
+      c.self.invariant.1,
+    )
 
 pub returns-clause-slots : goal.returns-clause-slots
 returns-clause-slots c =
     let s = c.self.inside in
     let head = c.head_at-head.result in
     let at : get_or s.heads.items c.args.first None ≡ Some head = rw c.deref.ensures.value at c.head_at-head.ensures.head in
-    free_chain_slots s.region.items s.next.items s.heads.items s.free s.free_len c.self.invariant c.args.first head at
+    set-filled (slots_of s.region.items s.next.items s.heads.items) _ s.fresh c.args.first None _
+    (free_chain_slots s.region.items s.next.items s.heads.items s.free s.free_len c.self.invariant.0 c.args.first head at)
+    (begun_low s.region.items s.next.items s.heads.items s.free s.free_len c.self.invariant.0 c.args.first head at)
     ∙ ap (λ (v : BlocksState). slice_set v.slots c.args.first None) c.self.view_is
 
 pub returns-clause-free : goal.returns-clause-free
@@ -65,8 +76,10 @@ returns-clause-free c =
     let s = c.self.inside in
     let head = c.head_at-head.result in
     let at : get_or s.heads.items c.args.first None ≡ Some head = rw c.deref.ensures.value at c.head_at-head.ensures.head in
-    let view : slots_of s.region.items s.next.items s.heads.items ≡ c.args.self.now.slots = ap (λ (v : BlocksState). v.slots) c.self.view_is in
-    let len_is = len_says s.region.items s.next.items s.heads.items c.args.self.now.slots view c.args.first head at in
-    let free_is : s.free_len ≡ c.args.self.now.free = ap (λ (v : BlocksState). v.free) c.self.view_is in
+    let view : slots_of s.region.items s.next.items s.heads.items ++ replicate s.fresh None ≡ c.args.self.now.slots = ap (λ (v : BlocksState). v.slots)
+    c.self.view_is in
+    let len_is = len_says s.region.items s.next.items s.heads.items s.fresh c.args.self.now.slots view c.args.first head at in
+    let free_is : s.free_len + s.fresh ≡ c.args.self.now.free = ap (λ (v : BlocksState). v.free) c.self.view_is in
     let blocks : c.div_ceil.result ≡ blocks_for head.len = blocks_is c.div_ceil.result head.len c.div_ceil.ensures in
-    ap (λ n. s.free_len + n) blocks ∙ (ap (λ k. k + blocks_for head.len) free_is ∙ ap (λ n. c.args.self.now.free + blocks_for n) (sym len_is))
+    let more : (s.free_len + c.div_ceil.result) + s.fresh ≡ c.args.self.now.free + blocks_for head.len = omega (arith, blocks, free_is) in
+    more ∙ ap (λ n. c.args.self.now.free + blocks_for n) (sym len_is)

@@ -8,11 +8,12 @@ pub head_at-requires : goal.head_at-requires
 head_at-requires c =
     let s = c.self.inside in
     subst (λ hs. IsSome (get_or hs c.args.first None)) (sym c.deref.ensures.value)
-    (has_head s.region.items s.next.items s.heads.items c.args.self.now.slots (ap (λ (v : BlocksState). v.slots) c.self.view_is) c.args.first c.requires)
+    (has_head s.region.items s.next.items s.heads.items s.fresh c.args.self.now.slots (ap (λ (v : BlocksState). v.slots) c.self.view_is) c.args.first
+    c.requires)
 
 pub returns : goal.returns
 returns c =
     let s = c.self.inside in
     let at : get_or s.heads.items c.args.first None ≡ Some c.head_at.result = rw c.deref.ensures.value at c.head_at.ensures.head in
-    sym (len_says s.region.items s.next.items s.heads.items c.args.self.now.slots
+    sym (len_says s.region.items s.next.items s.heads.items s.fresh c.args.self.now.slots
     (ap (λ (v : BlocksState). v.slots) c.self.view_is) c.args.first c.head_at.result at)

@@ -1,11 +1,25 @@
-use Rattle.std.proofs.Common.{arith, refl}
+use Rattle.std.proofs.Common.{arith, ap, ◌++◌, replicate}
+use Rattle.std.specs.Prelude.{None}
 use Rattle.block_pool.proofs.LayoutLemmas.{make_sound, make_slots}
 use Rattle.block_pool.proofs.blocks.Blocks.make.Goals as goal
 
 pub invariant_of-result : goal.invariant_of-result
 invariant_of-result c =
-    make_sound c.in_ok-region.region.items c.in_ok-next.next.items c.in_ok-heads.heads.items c.args.count c.requires
-    (omega (arith, c.in_ok-region.ensures.len, c.in_ok-region.region.ok.0)) c.in_ok-next.ensures c.in_ok-heads.ensures
+    let region = c.in_ok-region in
+    let next = c.in_ok-next in
+    let heads = c.in_ok-heads in (
+      make_sound region.region.items next.next.items heads.heads.items region.ensures.items next.ensures.items heads.ensures.items,
+      record {
+        few = omega (arith, c.requires, next.ensures.len);
+        bytes = omega (arith, region.ensures.exact, next.ensures.len);
+        links = omega (arith, next.ensures.exact, next.ensures.len);
+        heads = omega (arith, heads.ensures.exact, next.ensures.len);
+      },
+    )
 
 pub returns : goal.returns
-returns c = (make_slots c.in_ok-region.region.items c.in_ok-next.next.items c.in_ok-heads.heads.items c.args.count c.in_ok-heads.ensures, refl)
+returns c = (
+  ap (λ slots. slots ++ replicate c.args.count None)
+      (make_slots c.in_ok-region.region.items c.in_ok-next.next.items c.in_ok-heads.heads.items c.in_ok-heads.ensures.items),
+  omega arith,
+)

@@ -1,30 +1,35 @@
 use Rattle.std.proofs.Common.{◌≡◌, sym, ap, ◌∙◌, subst, get_or}
-use Rattle.std.specs.Prelude.{None, Some, IsSome}
+use Rattle.std.specs.Prelude.{replicate, ◌++◌, None, Some, IsSome}
 use Rattle.block_pool.specs.Slots.{BlocksState, with_chain}
 use Rattle.block_pool.specs.Layout.{slots_of, laid_bytes}
-use Rattle.block_pool.proofs.LayoutLemmas.{has_head, bytes_say, set_owner_sound, set_owner_slots}
+use Rattle.block_pool.proofs.FreshLemmas.{set-filled}
+use Rattle.block_pool.proofs.LayoutLemmas.{begun_low, has_head, bytes_say, set_owner_sound, set_owner_slots}
 use Rattle.block_pool.proofs.blocks.Blocks.set_owner.Goals as goal
 
 pub head_at-head-requires : goal.head_at-head-requires
 head_at-head-requires c =
     let s = c.self.inside in
     subst (λ hs. IsSome (get_or hs c.args.first None)) (sym c.deref.ensures.value)
-    (has_head s.region.items s.next.items s.heads.items c.args.self.now.slots (ap (λ (v : BlocksState). v.slots) c.self.view_is) c.args.first c.requires)
+    (has_head s.region.items s.next.items s.heads.items s.fresh c.args.self.now.slots (ap (λ (v : BlocksState). v.slots) c.self.view_is) c.args.first
+    c.requires)
 
 pub invariant_of-self : goal.invariant_of-self
 invariant_of-self c =
     let s = c.self.inside in
     let head = c.head_at-head.result in
     let at : get_or s.heads.items c.args.first None ≡ Some head = rw c.deref.ensures.value at c.head_at-head.ensures.head in
-    set_owner_sound s.region.items s.next.items s.heads.items s.free s.free_len c.self.invariant c.args.first c.args.owner head at
+    (set_owner_sound s.region.items s.next.items s.heads.items s.free s.free_len c.self.invariant.0 c.args.first c.args.owner head at, c.self.invariant.1)
 
 pub returns-clause-slots : goal.returns-clause-slots
 returns-clause-slots c =
     let s = c.self.inside in
     let head = c.head_at-head.result in
     let at : get_or s.heads.items c.args.first None ≡ Some head = rw c.deref.ensures.value at c.head_at-head.ensures.head in
-    let view : slots_of s.region.items s.next.items s.heads.items ≡ c.args.self.now.slots = ap (λ (v : BlocksState). v.slots) c.self.view_is in
-    let bytes_are = bytes_say s.region.items s.next.items s.heads.items c.args.self.now.slots view c.args.first head at in
-    set_owner_slots s.region.items s.next.items s.heads.items s.free s.free_len c.self.invariant c.args.first c.args.owner head at
+    let view : slots_of s.region.items s.next.items s.heads.items ++ replicate s.fresh None ≡ c.args.self.now.slots = ap (λ (v : BlocksState). v.slots)
+    c.self.view_is in
+    let bytes_are = bytes_say s.region.items s.next.items s.heads.items s.fresh c.args.self.now.slots view c.args.first head at in
+    set-filled (slots_of s.region.items s.next.items s.heads.items) _ s.fresh c.args.first None _
+    (set_owner_slots s.region.items s.next.items s.heads.items s.free s.free_len c.self.invariant.0 c.args.first c.args.owner head at)
+    (begun_low s.region.items s.next.items s.heads.items s.free s.free_len c.self.invariant.0 c.args.first head at)
     ∙ (ap (λ ss. with_chain ss c.args.first c.args.owner (laid_bytes s.region.items s.next.items c.args.first head.len)) view
     ∙ ap (with_chain c.args.self.now.slots c.args.first c.args.owner) (sym bytes_are))
