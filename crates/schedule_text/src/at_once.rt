@@ -4,24 +4,70 @@ ghost use Rattle.std.specs.Prelude.{◌≡◌, ◌==◌, ◌||◌, ◌≤◌, no
 ghost use Rattle.std.specs.List.{list_any};
 ghost use Rattle.trace_model.specs.declared.line.Line.TheVariants as line;
 ghost use Rattle.schedule_text.specs.declared.read.Read.TheVariants as read;
+ghost use Rattle.trace_model.specs.Lines.{MayFollow};
 ghost use Rattle.schedule_text.specs.Words.{words, spaced};
 ghost use Rattle.schedule_text.specs.Values.{bytes_value};
 ghost use Rattle.schedule_text.specs.Forms.{row_for};
-ghost use Rattle.schedule_text.specs.Lines.{by_row};
+ghost use Rattle.schedule_text.specs.Lines.{by_row, line_of};
 
-use crate::read::number_at;
+use crate::read::{MAX_LINE, number_at};
 use crate::values::{byte_of, end_of};
-use crate::words::next_word;
+use crate::words::{behind_deliver, behind_send, next_word};
 use std::alloc::Global;
-use trace_model::{End, Header, Octets};
+use trace_model::{End, Header, Line, Octets};
 
 /// The most digits of a message (this project's own).
 const MOST_DIGITS: usize = 9000;
 
+/// The line below a header that has one of the forms `send`, `deliver`, `lose`, `reset` and `tick`, if it has no fault, its words stand
+/// as they are written and there is memory for its message. `None` says nothing of a line: `read_line` reads each.
+pub fn read_at_once(alloc: Global, header: &Header, bytes: &[u8]) -> Option<Line>
+    ensures said { IfSome result (λ said. line_of (Some header.now) bytes.now ≡ Ok (read.Line said)) }
+    ensures follows { IfSome result (λ said. MayFollow header.now said) }
+{
+    if bytes.len() > MAX_LINE {
+        return None;
+    }
+    if let Some(rest) = behind_deliver(bytes) {
+        let at = end_at_once(header, rest)?;
+        return Some(Line::Deliver { at, count: None });
+    }
+    if let Some(rest) = behind_send(bytes) {
+        let (at, pid, message) = send_at_once(alloc, header, rest)?;
+        return Some(Line::Send { at, pid, message });
+    }
+    other_at_once(header, bytes)
+}
+
+/// The line, if it begins with another word.
+#[inline(never)]
+fn other_at_once(header: &Header, bytes: &[u8]) -> Option<Line>
+    requires { length bytes.now ≤ 9000 }
+    ensures said { IfSome result (λ said. line_of (Some header.now) bytes.now ≡ Ok (read.Line said)) }
+    ensures follows { IfSome result (λ said. MayFollow header.now said) }
+{
+    let (first, rest) = next_word(bytes)?;
+    match first {
+        b"lose" => {
+            let at = end_at_once(header, rest)?;
+            Some(Line::Lose { at })
+        }
+        b"reset" => {
+            let at = end_at_once(header, rest)?;
+            Some(Line::Reset { at, window: None })
+        }
+        b"tick" => {
+            let times = tick_at_once(header, rest)?;
+            Some(Line::Tick { times: Some(times) })
+        }
+        _ => None,
+    }
+}
+
 /// The end, the pipe and the message of a line `send E PID HEX`, if it has no fault, one space stands before each word and there is
 /// memory for its message.
 #[inline(never)]
-pub(crate) fn send_at_once(alloc: Global, header: &Header, rest: &[u8]) -> Option<(End, u8, Octets)>
+fn send_at_once(alloc: Global, header: &Header, rest: &[u8]) -> Option<(End, u8, Octets)>
     ensures { IfSome result (λ sent. Ok (read.Line (line.Send sent.0 sent.1 sent.2))
         ≡ by_row (Some header.now) (row_for (codes "send") (words rest.now)) (words rest.now)) }
 {
@@ -80,7 +126,7 @@ fn may_send(header: &Header, at: End) -> bool
 
 /// The end of a line `deliver E`, `lose E` or `reset E`, if it has no fault and one space stands before the end.
 #[inline(always)]
-pub(crate) fn end_at_once(header: &Header, rest: &[u8]) -> Option<End>
+fn end_at_once(header: &Header, rest: &[u8]) -> Option<End>
     ensures deliver { IfSome result (λ at. Ok (read.Line (line.Deliver at None))
         ≡ by_row (Some header.now) (row_for (codes "deliver") (words rest.now)) (words rest.now)) }
     ensures lose { IfSome result (λ at. Ok (read.Line (line.Lose at))
@@ -98,7 +144,7 @@ pub(crate) fn end_at_once(header: &Header, rest: &[u8]) -> Option<End>
 
 /// How many ticks a line `tick N` lets pass, if it has no fault.
 #[inline]
-pub(crate) fn tick_at_once(header: &Header, rest: &[u8]) -> Option<u8>
+fn tick_at_once(header: &Header, rest: &[u8]) -> Option<u8>
     ensures { IfSome result (λ times. Ok (read.Line (line.Tick (Some times)))
         ≡ by_row (Some header.now) (row_for (codes "tick") (words rest.now)) (words rest.now)) }
 {

@@ -12,6 +12,7 @@ mod values;
 mod words;
 mod write;
 
+pub use at_once::read_at_once;
 pub use fault::LineFault;
 pub use laws::texts_are_read_again;
 pub use read::{Read, read_line};

@@ -11,18 +11,17 @@ ghost use Rattle.schedule_text.specs.Forms.{row_for};
 ghost use Rattle.schedule_text.specs.Answers.{IsSaidOrNoMemory, IsReadOrNoMemory, CanBeRead, IsInGrammar, IsSkipped, IsOutOfOrder};
 
 use crate::LineFault;
-use crate::at_once::{end_at_once, send_at_once, tick_at_once};
 use crate::forms::{Name, Place, form_of};
 use crate::rules::fault_in;
 use crate::values::{byte_of, eight_of, end_of, fill_of, number_of, three_of, two_of};
-use crate::words::{first_word, next_word, word_at};
+use crate::words::{next_word, word_at};
 use arrayvec::ArrayVec;
 use hex::FromHexError;
 use std::alloc::Global;
 use trace_model::{End, Header, Line, Octets};
 
 /// The most bytes of a line, without the end of the line (this project's own).
-const MAX_LINE: usize = 9000;
+pub(crate) const MAX_LINE: usize = 9000;
 
 /// What a line of a schedule is.
 #[derive(Debug, Drop, PartialEq, Eq)]
@@ -52,13 +51,13 @@ pub fn read_line(alloc: Global, header: Option<&Header>, bytes: &[u8]) -> Result
     if bytes.len() > MAX_LINE {
         return Err(LineFault::TooLong);
     }
-    let Some((first, rest)) = first_word(bytes) else {
+    let Some((first, rest)) = next_word(bytes) else {
         return Ok(Read::Skip);
     };
     if comment(first) {
         return Ok(Read::Skip);
     }
-    read_words(alloc, header, first, rest)
+    read_by_form(alloc, header, first, rest)
 }
 
 fn comment(word: &[u8]) -> bool
@@ -70,51 +69,7 @@ fn comment(word: &[u8]) -> bool
     }
 }
 
-fn read_words(
-    alloc: Global,
-    header: Option<&Header>,
-    first: &[u8],
-    rest: &[u8],
-) -> Result<Read, LineFault>
-    requires { length rest.now ≤ 9000 }
-    ensures { IsReadOrNoMemory result (by_row (option_copied header.entry) (row_for first.now (words rest.now)) (words rest.now)) }
-{
-    if let Some(below) = header {
-        match first {
-            b"send" => {
-                if let Some((at, pid, message)) = send_at_once(alloc, below, rest) {
-                    return Ok(Read::Line(Line::Send { at, pid, message }));
-                }
-            }
-            b"deliver" => {
-                if let Some(at) = end_at_once(below, rest) {
-                    return Ok(Read::Line(Line::Deliver { at, count: None }));
-                }
-            }
-            b"lose" => {
-                if let Some(at) = end_at_once(below, rest) {
-                    return Ok(Read::Line(Line::Lose { at }));
-                }
-            }
-            b"reset" => {
-                if let Some(at) = end_at_once(below, rest) {
-                    return Ok(Read::Line(Line::Reset { at, window: None }));
-                }
-            }
-            b"tick" => {
-                if let Some(times) = tick_at_once(below, rest) {
-                    return Ok(Read::Line(Line::Tick { times: Some(times) }));
-                }
-            }
-            _ => {}
-        }
-    }
-    read_by_form(alloc, header, first, rest)
-}
-
 /// Reads the words of a line by the table of the forms.
-#[cold]
-#[inline(never)]
 fn read_by_form(
     alloc: Global,
     header: Option<&Header>,

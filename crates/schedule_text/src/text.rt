@@ -1,5 +1,5 @@
 //! Text that grows at the end of a vector until memory runs out.
-ghost use Rattle.std.specs.Prelude.{◌≡◌, ◌<◌, true, false, List, ℕ, [], ◌∷◌, ◌++◌, ◌+◌, ◌*◌, ◌/◌, ◌%◌, map, take, length, slice_index, if◌then◌else◌};
+ghost use Rattle.std.specs.Prelude.{◌≡◌, ◌<◌, ◌≤◌, true, false, List, ℕ, [], ◌∷◌, ◌++◌, ◌+◌, ◌*◌, ◌/◌, ◌%◌, map, take, length, slice_index, if◌then◌else◌};
 ghost use Rattle.std.specs.Fmt.{decimal};
 ghost use Rattle.hex.specs.Hex.{encode_upper, upper_digits};
 ghost use Rattle.schedule_text.specs.Entries.{end_text, byte_text, two_bytes_text, number_words};
@@ -72,7 +72,7 @@ impl Text {
         ensures { (start : Start) (text : List ℕ) → HoldsText start text self.old
             → HoldsText start (text ++ bytes.now) self.new }
     {
-        self.flush();
+        self.make_room();
         if self.short {
             return;
         }
@@ -82,18 +82,35 @@ impl Text {
         }
     }
 
-    /// Appends what waits to the vector.
-    fn flush(&mut self)
-        ensures same { (start : Start) (text : List ℕ) → HoldsText start text self.old → HoldsText start text self.new }
-        ensures none { self.new.short ≡ false → self.new.waiting.items ≡ [] }
+    /// Appends a few bytes.
+    #[inline(always)]
+    pub(crate) fn push_few(&mut self, bytes: &[u8])
+        requires { length bytes.now ≤ 64 }
+        ensures { (start : Start) (text : List ℕ) → HoldsText start text self.old
+            → HoldsText start (text ++ bytes.now) self.new }
     {
-        if self.short {
-            return;
+        if self.waiting.remaining_capacity() < bytes.len() {
+            self.make_room();
         }
-        match self.bytes.extend_from_slice(self.waiting.as_slice()) {
-            Ok(()) => self.waiting.clear(),
-            Err(_) => self.short = true,
+        if self.waiting.try_extend_from_slice(bytes).is_err() {
+            self.give_up();
         }
+    }
+
+    /// Appends what waits to the vector, so that nothing waits.
+    #[cold]
+    #[inline(never)]
+    fn make_room(&mut self)
+        ensures same { (start : Start) (text : List ℕ) → HoldsText start text self.old → HoldsText start text self.new }
+        ensures none { self.new.waiting.items ≡ [] }
+    {
+        if !self.short {
+            match self.bytes.extend_from_slice(self.waiting.as_slice()) {
+                Ok(()) => {}
+                Err(_) => self.short = true,
+            }
+        }
+        self.waiting.clear();
     }
 
     /// Appends nothing more, since there is no memory for what comes next.
@@ -167,6 +184,7 @@ impl Text {
         self.hex(&[high, low]);
     }
 
+    #[inline(always)]
     pub(crate) fn maybe(&mut self, number: Option<u8>)
         ensures { (start : Start) (first : List ℕ) (more : List (List ℕ)) → HoldsWords start (first ∷ more) self.old
             → HoldsWords start (first ∷ (more ++ number_words number)) self.new }
@@ -209,7 +227,7 @@ impl Text {
         ensures { (start : Start) (first : List ℕ) (more : List (List ℕ)) → HoldsWords start (first ∷ more) self.old
             → HoldsWords start (first ∷ (more ++ word.now ∷ [])) self.new }
     {
-        self.push(b" ");
+        self.push_few(b" ");
         self.push(word);
     }
 
@@ -219,7 +237,7 @@ impl Text {
         ensures { (start : Start) (first : List ℕ) (more : List (List ℕ)) → HoldsWords start (first ∷ more) self.old
             → HoldsWords start (first ∷ (more ++ end_text at ∷ [])) self.new }
     {
-        self.push(&[
+        self.push_few(&[
             b' ',
             high_digit(at.link),
             low_digit(at.link),
@@ -233,7 +251,7 @@ impl Text {
         ensures { (start : Start) (first : List ℕ) (more : List (List ℕ)) → HoldsWords start (first ∷ more) self.old
             → HoldsWords start (first ∷ (more ++ byte_text byte ∷ [])) self.new }
     {
-        self.push(&[b' ', high_digit(byte), low_digit(byte)]);
+        self.push_few(&[b' ', high_digit(byte), low_digit(byte)]);
     }
 
     /// Appends a space and bytes as pairs of hexadecimal digits.
@@ -247,7 +265,7 @@ impl Text {
                 self.byte(*first);
                 self.pairs(rest);
             }
-            None => self.push(b" "),
+            None => self.push_few(b" "),
         }
     }
 
@@ -272,7 +290,7 @@ impl Text {
     {
         let mut left = bytes;
         'pieces: while let Some((piece, more)) = left.split_first_chunk::<AT_ONCE>() {
-            self.push(&all_digits(piece));
+            self.push_few(&all_digits(piece));
             left = more;
         }
         self.few_pairs(left);
@@ -284,7 +302,7 @@ impl Text {
             → HoldsText start (text ++ encode_upper bytes.now) self.new }
     {
         for byte in bytes {
-            self.push(&[high_digit(*byte), low_digit(*byte)]);
+            self.push_few(&[high_digit(*byte), low_digit(*byte)]);
         }
     }
 
@@ -296,29 +314,29 @@ impl Text {
     {
         let mut piece = [0; AT_ONCE];
         piece[..bytes.len()].copy_from_slice(bytes);
-        self.push(&all_digits(&piece)[..2 * bytes.len()]);
+        self.push_few(&all_digits(&piece)[..2 * bytes.len()]);
     }
 
     /// Appends a space and a decimal number.
-    #[inline]
+    #[inline(always)]
     pub(crate) fn number(&mut self, number: u64)
         ensures { (start : Start) (first : List ℕ) (more : List (List ℕ)) → HoldsWords start (first ∷ more) self.old
             → HoldsWords start (first ∷ (more ++ decimal number ∷ [])) self.new }
     {
         if number < 10 {
-            self.push(&[b' ', b'0' + number as u8]);
+            self.push_few(&[b' ', b'0' + number as u8]);
             return;
         }
         if number < 100 {
-            self.push(&[b' ', b'0' + (number / 10) as u8, b'0' + (number % 10) as u8]);
+            self.push_few(&[b' ', b'0' + (number / 10) as u8, b'0' + (number % 10) as u8]);
             return;
         }
-        self.push(b" ");
+        self.push_few(b" ");
         self.digits(number);
     }
 
     /// Appends a space and a decimal number.
-    #[inline]
+    #[inline(always)]
     pub(crate) fn short_number(&mut self, number: u32)
         ensures { (start : Start) (first : List ℕ) (more : List (List ℕ)) → HoldsWords start (first ∷ more) self.old
             → HoldsWords start (first ∷ (more ++ decimal number ∷ [])) self.new }
@@ -331,15 +349,15 @@ impl Text {
             → HoldsText start (text ++ decimal number) self.new }
     {
         if number < 10 {
-            self.push(&[b'0' + number as u8]);
+            self.push_few(&[b'0' + number as u8]);
             return;
         }
         if number < 100 {
-            self.push(&[b'0' + (number / 10) as u8, b'0' + (number % 10) as u8]);
+            self.push_few(&[b'0' + (number / 10) as u8, b'0' + (number % 10) as u8]);
             return;
         }
         self.digits(number / 100);
-        self.push(&[b'0' + (number / 10 % 10) as u8, b'0' + (number % 10) as u8]);
+        self.push_few(&[b'0' + (number / 10 % 10) as u8, b'0' + (number % 10) as u8]);
     }
 }
 

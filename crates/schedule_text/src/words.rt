@@ -1,5 +1,5 @@
 //! The words of a line, which stand apart by spaces.
-ghost use Rattle.std.specs.Prelude.{◌≡◌, ℕ, ◌<◌, ◌==◌, not, [], ◌∷◌, length, take, drop, position, unwrap_or, slice_get, IfSome, IfNone};
+ghost use Rattle.std.specs.Prelude.{◌≡◌, ℕ, ◌<◌, ◌==◌, not, [], ◌∷◌, codes, length, take, drop, position, unwrap_or, slice_get, IfSome, IfNone};
 ghost use Rattle.std.specs.List.{position_or_len};
 ghost use Rattle.std.specs.Option.{option_copied};
 ghost use Rattle.schedule_text.specs.Words.{words};
@@ -21,17 +21,25 @@ pub(crate) fn next_word(line: &[u8]) -> Option<(&[u8], &[u8])>
     Some(rest.split_at(end))
 }
 
-/// The first word of a line, and what stands behind it. The words that most lines begin with are looked for first.
+/// What stands behind the word `send` at the front of a line, if a space does.
 #[inline(always)]
-pub(crate) fn first_word(line: &[u8]) -> Option<(&[u8], &[u8])>
-    ensures some { IfSome result (λ r. words line.now ≡ r.0.now ∷ words r.1.now) }
-    ensures none { IfNone result (words line.now ≡ []) }
-    ensures shorter { IfSome result (λ r. length r.1.now < length line.now) }
+pub(crate) fn behind_send(line: &[u8]) -> Option<&[u8]>
+    ensures { IfSome result (λ rest. words line.now ≡ codes "send" ∷ words rest.now) }
 {
     match line {
-        [b's', b'e', b'n', b'd', b' ', ..] => Some(line.split_at(4)),
-        [b'd', b'e', b'l', b'i', b'v', b'e', b'r', b' ', ..] => Some(line.split_at(7)),
-        _ => next_word(line),
+        [b's', b'e', b'n', b'd', b' ', ..] => Some(line.split_at(4).1),
+        _ => None,
+    }
+}
+
+/// What stands behind the word `deliver` at the front of a line, if a space does.
+#[inline(always)]
+pub(crate) fn behind_deliver(line: &[u8]) -> Option<&[u8]>
+    ensures { IfSome result (λ rest. words line.now ≡ codes "deliver" ∷ words rest.now) }
+{
+    match line {
+        [b'd', b'e', b'l', b'i', b'v', b'e', b'r', b' ', ..] => Some(line.split_at(7).1),
+        _ => None,
     }
 }
 

@@ -151,7 +151,7 @@ fn lines_behind(alloc: Global, entry: &Entry) -> Result<Vec<u8>, AllocError>
 fn end_line(text: &mut Text)
     ensures { (start : Start) (line : List ℕ) → HoldsText start line text.old → HoldsText start (line ++ 10 ∷ []) text.new }
 {
-    text.push(b"\n");
+    text.push_few(b"\n");
 }
 
 fn write_head(text: &mut Text, header: &Header)

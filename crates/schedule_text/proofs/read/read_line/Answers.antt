@@ -10,26 +10,26 @@ use Rattle.schedule_text.proofs.read.read_line.Goals as goal
 
 pub returns-clause-fits : goal.returns-clause-fits
 returns-clause-fits c =
-    answer_fits (IsInGrammar (option_copied c.args.header)) c.read_words.result _ c.read_words.ensures
+    answer_fits (IsInGrammar (option_copied c.args.header)) c.read_by_form.result _ c.read_by_form.ensures
     (row_fits (option_copied c.args.header) c.in-Some.first.now (words c.in-Some.rest.now)) (memory_fits (option_copied c.args.header))
 
 pub returns-clause-too_long : goal.returns-clause-too_long
 returns-clause-too_long c = (
   λ h. absurd (not_too_long (option_copied c.args.header) (row_for c.in-Some.first.now (words c.in-Some.rest.now)) (words c.in-Some.rest.now)
-      ((same_fault c.read_words.result _ fault.TooLong c.read_words.ensures).0 h)),
+      ((same_fault c.read_by_form.result _ fault.TooLong c.read_by_form.ensures).0 h)),
   λ long. absurd (omega arith),
 )
 
 pub returns-clause-skip : goal.returns-clause-skip
 returns-clause-skip c = (
   λ h. absurd
-      (never_skipped (option_copied c.args.header) c.in-Some.first.now (words c.in-Some.rest.now) (same_skip c.read_words.result _ c.read_words.ensures h)),
+      (never_skipped (option_copied c.args.header) c.in-Some.first.now (words c.in-Some.rest.now) (same_skip c.read_by_form.result _ c.read_by_form.ensures h)),
   λ h. absurd (let comment = subst IsSkipped c.in-Some.ensures.some h.1 in let other = c.if-comment.ensures in cc),
 )
 
 pub returns-clause-order : goal.returns-clause-order
 returns-clause-order c =
-    let same = same_fault c.read_words.result _ fault.Order c.read_words.ensures in
+    let same = same_fault c.read_by_form.result _ fault.Order c.read_by_form.ensures in
     let ordered = order_iff (option_copied c.args.header) c.in-Some.first.now (words c.in-Some.rest.now) (sym c.if-comment.ensures) in (
       λ h. (omega arith, subst (IsOutOfOrder (option_copied c.args.header)) (sym c.in-Some.ensures.some) (ordered.0 (same.0 h))),
       λ h. same.1 (ordered.1 (subst (IsOutOfOrder (option_copied c.args.header)) c.in-Some.ensures.some h.1)),

@@ -9,6 +9,6 @@ pub returns : goal.returns
 returns c =
     λ start first more h.
     holds_spaced start first (byte_text c.args.byte) more _
-    (subst (λ digits. HoldsText start (spaced (first ∷ more) ++ (32 ∷ digits)) c.push.new.self)
+    (subst (λ digits. HoldsText start (spaced (first ∷ more) ++ (32 ∷ digits)) c.push_few.new.self)
     (two_digits_are c.args.byte c.high_digit.result c.low_digit.result c.high_digit.ensures c.low_digit.ensures)
-    (c.push.ensures start (spaced (first ∷ more)) h))
+    (c.push_few.ensures start (spaced (first ∷ more)) h))

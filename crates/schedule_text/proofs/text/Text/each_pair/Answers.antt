@@ -13,7 +13,7 @@ loop-byte-preserved c =
     λ start text h.
     let k = c.loop-byte.byte-index in
     let bytes = c.args.bytes.now in
-    subst (λ bs. HoldsText start (text ++ encode_upper bs) c.push.new.self) (sym (take_more bytes k 0 c.loop-byte-test.true))
-    (holds_digits start text (take k bytes) (get_or bytes k 0 ∷ []) _ c.push.new.self
+    subst (λ bs. HoldsText start (text ++ encode_upper bs) c.push_few.new.self) (sym (take_more bytes k 0 c.loop-byte-test.true))
+    (holds_digits start text (take k bytes) (get_or bytes k 0 ∷ []) _ c.push_few.new.self
     (two_digits_are (get_or bytes k 0) c.high_digit.result c.low_digit.result c.high_digit.ensures c.low_digit.ensures)
-    (c.push.ensures start (text ++ encode_upper (take k bytes)) (c.loop-byte.invariant start text h)))
+    (c.push_few.ensures start (text ++ encode_upper (take k bytes)) (c.loop-byte.invariant start text h)))

@@ -9,7 +9,7 @@ pub returns : goal.returns
 returns c =
     λ start first more h.
     holds_spaced start first (end_text c.args.at) more _
-    (subst (λ letter. HoldsText start (spaced (first ∷ more) ++ (32 ∷ (byte_text c.args.at.link ++ letter ∷ []))) c.push.new.self) c.side_letter.ensures
-    (subst (λ digits. HoldsText start (spaced (first ∷ more) ++ (32 ∷ (digits ++ c.side_letter.result ∷ []))) c.push.new.self)
+    (subst (λ letter. HoldsText start (spaced (first ∷ more) ++ (32 ∷ (byte_text c.args.at.link ++ letter ∷ []))) c.push_few.new.self) c.side_letter.ensures
+    (subst (λ digits. HoldsText start (spaced (first ∷ more) ++ (32 ∷ (digits ++ c.side_letter.result ∷ []))) c.push_few.new.self)
     (two_digits_are c.args.at.link c.high_digit.result c.low_digit.result c.high_digit.ensures c.low_digit.ensures)
-    (c.push.ensures start (spaced (first ∷ more)) h)))
+    (c.push_few.ensures start (spaced (first ∷ more)) h)))

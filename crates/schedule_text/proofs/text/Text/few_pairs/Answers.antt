@@ -10,4 +10,4 @@ returns c =
     let bytes = c.args.bytes.now in
     let e : take (2 * length bytes) c.all_digits.result ≡ encode_upper bytes =
     ap (take (2 * length bytes)) c.all_digits.ensures ∙ rw c.copy_from_slice.ensures.after (front_digits bytes _) in
-    subst (λ ds. HoldsText start (text ++ ds) c.push.new.self) e (c.push.ensures start text h)
+    subst (λ ds. HoldsText start (text ++ ds) c.push_few.new.self) e (c.push_few.ensures start text h)

@@ -23,6 +23,6 @@ pub returns-in-None : goal.returns-in-None
 returns-in-None c =
     λ start first more h.
     holds_spaced start first (encode_upper c.args.bytes.now) more _
-    (subst (λ word. HoldsText start (spaced (first ∷ more) ++ (32 ∷ word)) c.push.new.self)
+    (subst (λ word. HoldsText start (spaced (first ∷ more) ++ (32 ∷ word)) c.push_few.new.self)
     (sym (ap encode_upper (none_left c.args.bytes.now c.in-None.ensures.cases) ∙ encode-nil))
-    (c.push.ensures start (spaced (first ∷ more)) h))
+    (c.push_few.ensures start (spaced (first ∷ more)) h))

@@ -10,19 +10,19 @@ pub returns-then-number-lt10 : goal.returns-then-number-lt10
 returns-then-number-lt10 c =
     λ start first more h.
     holds_spaced start first (decimal c.args.number) more _
-    (subst (λ ds. HoldsText start (spaced (first ∷ more) ++ (32 ∷ ds)) c.push.new.self) (sym (decimal_digit c.args.number (omega arith)))
-    (c.push.ensures start (spaced (first ∷ more)) h))
+    (subst (λ ds. HoldsText start (spaced (first ∷ more) ++ (32 ∷ ds)) c.push_few.new.self) (sym (decimal_digit c.args.number (omega arith)))
+    (c.push_few.ensures start (spaced (first ∷ more)) h))
 
 pub returns-then-number-lt100 : goal.returns-then-number-lt100
 returns-then-number-lt100 c =
     λ start first more h.
     holds_spaced start first (decimal c.args.number) more _
-    (subst (λ ds. HoldsText start (spaced (first ∷ more) ++ (32 ∷ ds)) c.push-then-number-lt100.new.self)
+    (subst (λ ds. HoldsText start (spaced (first ∷ more) ++ (32 ∷ ds)) c.push_few-then-number-lt100.new.self)
     (sym (two_decimals c.args.number (omega arith) (omega arith)))
-    (c.push-then-number-lt100.ensures start (spaced (first ∷ more)) h))
+    (c.push_few-then-number-lt100.ensures start (spaced (first ∷ more)) h))
 
 pub returns : goal.returns
 returns c =
     λ start first more h.
     holds_word start first (decimal c.args.number) more _
-    (c.digits.ensures start (spaced (first ∷ more) ++ (32 ∷ [])) (c.push-2.ensures start (spaced (first ∷ more)) h))
+    (c.digits.ensures start (spaced (first ∷ more) ++ (32 ∷ [])) (c.push_few-2.ensures start (spaced (first ∷ more)) h))

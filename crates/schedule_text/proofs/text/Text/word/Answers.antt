@@ -7,4 +7,4 @@ pub returns : goal.returns
 returns c =
     λ start first more h.
     holds_word start first c.args.word.now more _
-    (c.push-2.ensures start (spaced (first ∷ more) ++ (32 ∷ [])) (c.push.ensures start (spaced (first ∷ more)) h))
+    (c.push.ensures start (spaced (first ∷ more) ++ (32 ∷ [])) (c.push_few.ensures start (spaced (first ∷ more)) h))
