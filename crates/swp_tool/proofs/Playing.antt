@@ -1,7 +1,8 @@
 -- What a line adds to a replay.
-use Rattle.std.proofs.Common.{◌≡◌, ℕ, ◌+◌, ◌≤◌, ◌<◌, Bool, true, false, cond, List, [], ◌∷◌, ◌++◌, refl, sym, ap, ◌∙◌, append_assoc, arith, subst}
-use Rattle.std.specs.Prelude.{Option, Some, None, Ok, IsSome, IsSomeAnd}
+use Rattle.std.proofs.Common.{◌≡◌, ◌==◌, ℕ, ◌+◌, ◌≤◌, ◌<◌, Bool, true, false, cond, List, [], ◌∷◌, ◌++◌, refl, sym, ap, ◌∙◌, append_assoc, arith, subst}
+use Rattle.std.specs.Prelude.{Option, Some, None, Ok, Result, IsSome, IsSomeAnd}
 use Rattle.std.specs.Option.{ForSome}
+use Rattle.std.proofs.lemmas.Bool.{eqb-true}
 use Rattle.trace_model.specs.declared.line.Header.{Header}
 use Rattle.trace_model.specs.declared.line.Line.{Line}
 use Rattle.trace_model.specs.declared.line.Line.TheVariants as saying
@@ -18,11 +19,14 @@ use Rattle.world.specs.declared.fault.WorldFault.{WorldFault}
 use Rattle.world.specs.declared.fault.WorldFault.TheVariants as fault
 use Rattle.world.specs.Worlds.{IsWorldAt, HasRoomForLine, IsFaultThere, world_header}
 use Rattle.schedule_text.specs.Answers.{IsInGrammar}
+use Rattle.schedule_text.specs.Lines.{line_of}
+use Rattle.schedule_text.specs.declared.fault.LineFault.{LineFault}
+use Rattle.schedule_text.specs.declared.read.Read.{Read}
 use Rattle.schedule_text.specs.declared.read.Read.TheVariants as read
 use Rattle.swp_tool.specs.declared.replay.Replay.{Replay}
 use Rattle.swp_tool.specs.declared.replay.Halt.{Halt}
 use Rattle.swp_tool.specs.declared.replay.Halt.TheVariants as halt
-use Rattle.swp_tool.specs.Schedules.{Schedule, misread_there, with_played, and_said}
+use Rattle.swp_tool.specs.Schedules.{Schedule, Too_many, most_lines, misread_there, with_played, and_said, and_line}
 use Rattle.swp_tool.specs.Replays.{Runs, IsAt, WasStepped, HasRoundsLeft, HasPlayed, halt_of, HaltsOn, HaltsBefore}
 
 -- it stands so below its own header
@@ -176,6 +180,32 @@ halted_there {r} {s} {written} {w} line why h is halts =
     let at = played_at w r.world s.header s.lines (written ++ r.text.items) is h.at in
     let P : Option Header → Type 0 = λ o. HaltsOn why (misread_there o s.lines line) in
     halts_before why s line (misread_there s.header s.lines line) (subst P (sym at.is) (halts at.of (plays_of at.of s.lines) at.runs.stands))
+
+-- a line that is read below the header of a world is read below that of its schedule
+read_there : (world : Option World) (header : Option Header) (lines : List Line) (text bytes : List ℕ) (line : Line) → IsAt world header lines text
+    → IsSomeAnd world (λ w. line_of (Some (world_header w)) bytes ≡ Ok (read.Line line)) → line_of header bytes ≡ Ok (read.Line line)
+read_there None header lines text bytes line at said = absurd said
+read_there (Some w) None lines text bytes line at said = absurd at
+read_there (Some w) (Some header) lines text bytes line at said =
+    subst (λ (h : Header). line_of (Some h) bytes ≡ Ok (read.Line line)) at.stands.header_is said
+
+-- it is what its bytes add to the schedule
+pub line_said : {r : Replay} {s : Schedule} {written : List ℕ} (bytes : List ℕ) (line : Line) → HasPlayed r s written → r.count < 20000
+    → IsSomeAnd r.world (λ w. line_of (Some (world_header w)) bytes ≡ Ok (read.Line line)) → and_said s (Ok (read.Line line)) ≡ and_line s bytes
+line_said {r} {s} {written} bytes line h few said =
+    let reads = read_there r.world s.header s.lines (written ++ r.text.items) bytes line h.at said in
+    let short : s.count < 20000 = let count = h.count_is in omega (arith, count, few) in
+    rw h.running (go s.header s.lines s.count (s.count == most_lines) refl short reads)
+  where
+    running : Option Header → List Line → ℕ → Schedule
+    running header lines count = record { header = header; lines = lines; count = count; stop = None }
+
+    go : (header : Option Header) (lines : List Line) (count : ℕ) (t : Bool) → (count == most_lines) ≡ t → count < 20000
+        → line_of header bytes ≡ Ok (read.Line line) → and_said (running header lines count) (Ok (read.Line line))
+        ≡ cond t (record { header = header; lines = lines; count = count + 1; stop = Some Too_many })
+        (and_said (running header lines count) (line_of header bytes))
+    go header lines count true e short reads = absurd (let same = eqb-true count most_lines e in omega (arith, same, short))
+    go header lines count false e short reads = ap (and_said (running header lines count)) (sym reads)
 
 -- ## What a world is given
 

@@ -1,9 +1,10 @@
 //! The lines of a schedule are played one by one, and the transcript is gathered.
-ghost use Rattle.std.specs.Prelude.{◌≡◌, ◌+◌, ◌<◌, ◌++◌, ◌∷◌, [], List, ℕ, Ok, None, OnOk, OnErr, IfOk, IfErr, IsSomeAnd, ◌⊎◌, ◌≢◌};
+ghost use Rattle.std.specs.Prelude.{◌≡◌, ◌+◌, ◌<◌, ◌++◌, ◌∷◌, [], List, ℕ, Ok, None, OnOk, OnErr, IfOk, IfErr, IfSome, IsSomeAnd, ◌⊎◌, ◌≢◌};
 ghost use Rattle.trace_model.specs.declared.line.Header.{Header};
 ghost use Rattle.trace_model.specs.declared.line.Line.{Line};
 ghost use Rattle.trace_model.specs.Lines.{MayBegin, MayFollow};
 ghost use Rattle.schedule_text.specs.Entries.{entry_lines};
+ghost use Rattle.schedule_text.specs.Lines.{line_of};
 ghost use Rattle.lines_told.specs.Below.{IsPlayedLine, misread_below};
 ghost use Rattle.lines_told.specs.Plays.{Play, lines_played, schedule_told};
 ghost use Rattle.world.specs.Worlds.{IsWorldAt, HasRoomForLine, world_header};
@@ -12,7 +13,7 @@ ghost use Rattle.swp_tool.specs.Replays.{Runs, WasStepped, HasPlayed, HasFew, Ha
 ghost use Rattle.swp_tool.specs.Transcripts.{done_line};
 
 use crate::settling::settle;
-use schedule_text::{LineFault, Read, read_line, write_opening, write_step};
+use schedule_text::{LineFault, Read, read_at_once, read_line, write_opening, write_step};
 use std::alloc::{AllocError, Global};
 use swp_base::NoMemory;
 use trace_model::{Header, Line};
@@ -93,6 +94,37 @@ impl Replay {
         ensures same { OnErr result (self.new.text.items ≡ self.old.text.items) }
         ensures uncounted { OnErr result (self.new.count ≡ self.old.count) }
     {
+        let read = self.read_at_once(alloc, bytes);
+        match &read {
+            Some(line) => self.go_on(alloc, line),
+            None => self.play_any(alloc, bytes),
+        }
+    }
+
+    /// The next line, if there is a world and the line has one of the forms that most lines have.
+    #[inline(always)]
+    fn read_at_once(&self, alloc: Global, bytes: &[u8]) -> Option<Line>
+        ensures said { IfSome result (λ said. IsSomeAnd self.now.world (λ w. line_of (Some (world_header w)) bytes.now ≡ Ok (Read.Line said))) }
+        ensures follows { IfSome result (λ said. IsSomeAnd self.now.world (λ w. MayFollow (world_header w) said)) }
+    {
+        match &self.world {
+            Some(world) => read_at_once(alloc, world.header(), bytes),
+            None => None,
+        }
+    }
+
+    /// Plays the next line, whatever its form.
+    #[inline(never)]
+    fn play_any(&mut self, alloc: Global, bytes: &[u8]) -> Result<(), Halt>
+        requires few { HasFew self.old }
+        requires next { self.old.count < 20000 }
+        ensures played { OnOk result ((s : Schedule) (written : List ℕ) → HasPlayed self.old s written → HasPlayed self.new (and_line s bytes.now) written) }
+        ensures halts { IfErr result (λ why. (s : Schedule) (written : List ℕ) → HasPlayed self.old s written → HaltsAt why s bytes.now) }
+        ensures few { OnOk result (HasFew self.new) }
+        ensures count { OnOk result (self.new.count ≡ self.old.count + 1) }
+        ensures same { OnErr result (self.new.text.items ≡ self.old.text.items) }
+        ensures uncounted { OnErr result (self.new.count ≡ self.old.count) }
+    {
         let header = match &self.world {
             Some(world) => Some(world.header()),
             None => None,
@@ -130,6 +162,7 @@ impl Replay {
     }
 
     /// Steps the world by the next line, which is one below the header.
+    #[inline(always)]
     fn go_on(&mut self, alloc: Global, line: &Line) -> Result<(), Halt>
         requires world { IsSomeAnd self.old.world (λ w. MayFollow (world_header w) line.now) }
         requires few { HasFew self.old }

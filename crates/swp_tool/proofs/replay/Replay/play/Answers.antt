@@ -1,25 +1,21 @@
-use Rattle.std.proofs.Common.{◌≡◌, ◌∙◌, sym, ap, arith}
-use Rattle.std.specs.Prelude.{Some}
-use Rattle.std.specs.Option.{option_copied}
-use Rattle.world.specs.declared.world_steps.World.{World}
-use Rattle.swp_tool.proofs.Playing.{stepped_more, header_of_world, line_of_world}
+use Rattle.std.proofs.Common.{subst}
+use Rattle.std.proofs.lemmas.Result.{on_ok_weaker, IfErr-weaker}
+use Rattle.swp_tool.specs.Replays.{HasPlayed, HaltsBefore}
+use Rattle.swp_tool.proofs.Playing.{line_said}
 use Rattle.swp_tool.proofs.replay.Replay.play.Goals as goal
-use Rattle.swp_tool.proofs.replay.Replay.play.Goals.{in-Some, in-None}
 
--- a line that is skipped is counted
-pub returns-in-Ok-Skip-clause-few : goal.returns-in-Ok-Skip-clause-few
-returns-in-Ok-Skip-clause-few c =
-    record {
-      count = omega (arith, c.requires.next);
-      steps = λ (w : World) (is : c.args.self.now.world ≡ Some w). stepped_more w c.args.self.now.count (c.requires.few.steps w is);
-    }
+-- what was read is what the bytes say
+pub returns-in-Some-clause-played : goal.returns-in-Some-clause-played
+returns-in-Some-clause-played c =
+    let said = rw c.in-Some.is at c.read_at_once-read.ensures.said in
+    on_ok_weaker c.go_on.result
+    (λ played s written h.
+    subst (λ t. HasPlayed c.go_on.new.self t written) (line_said c.args.bytes.now c.in-Some.line h c.requires.next said) (played s written h))
+    c.go_on.ensures.played
 
--- what was read was read below the header of the world
-pub go_on-requires-clause-world : goal.go_on-requires-clause-world
-go_on-requires-clause-world c =
-    let header_is : option_copied c.match-self.header ≡ header_of_world c.args.self.now.world = elim c.match-self.branch [
-      | in-Some w ↦ ap option_copied w.header-is ∙ (ap (λ h. Some h) w.header.ensures ∙ sym (ap header_of_world w.in-Some.is))
-      | in-None w ↦ ap option_copied w.header-is ∙ sym (ap header_of_world w.in-None.is)
-    ] in
-    line_of_world c.args.self.now.world (option_copied c.match-self.header) c.in-Ok-Line.line header_is
-    (rw c.in-Ok-Line.field-0-is at c.in-Ok-Line.ensures.fits)
+pub returns-in-Some-clause-halts : goal.returns-in-Some-clause-halts
+returns-in-Some-clause-halts c =
+    let said = rw c.in-Some.is at c.read_at_once-read.ensures.said in
+    IfErr-weaker c.go_on.result _ _
+    (λ why halts s written h.
+    subst (HaltsBefore why) (line_said c.args.bytes.now c.in-Some.line h c.requires.next said) (halts s written h)) c.go_on.ensures.halts
