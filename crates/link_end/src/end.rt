@@ -118,6 +118,7 @@ impl End {
     }
 
     // Forgets the messages of the session, to be sent and partly received, and what stands before ACT frames.
+    #[inline(never)]
     fn forget(&mut self, pool: &mut Pool)
         requires outbox { OutboxLiesIn pool.old self.old.outbox }
         requires inbox { InboxLiesIn pool.old self.old.inbox }
@@ -346,6 +347,8 @@ impl End {
     }
 
     /// One tick of an end that isn't open. At most six control frames wait to be fetched before.
+    #[cold]
+    #[inline(never)]
     pub fn tick_activation(&mut self, pool: &mut Pool) -> LinkReport
         requires stands { (m : Machine) × EndStandsFor self.old pool.old m }
         requires room { controls_in self.old ≤ 6 }

@@ -228,6 +228,7 @@ impl LinkEnd {
     }
 
     /// One tick of time. At most six control frames wait to be fetched before.
+    #[inline(always)]
     pub fn tick(&mut self, pool: &mut Pool) -> LinkReport
         requires stands { (m : Machine) × EndStandsFor self.old.link pool.old m }
         requires room { controls_in self.old.link ≤ 6 }

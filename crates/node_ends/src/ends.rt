@@ -330,7 +330,7 @@ impl Ends {
 
     /// The link of the end at this place is reset, where its notice is late. At most six control frames wait there to be sent. What is
     /// told of it; `None` where it isn't late, where the reset is refused, and behind the last end.
-    #[inline]
+    #[inline(always)]
     pub fn reset_late(&mut self, i: usize) -> Option<LinkReport>
         requires { (ports : List Port) × EndsStandFor self.old ports × FewAreDue (slice_get ports i) }
         ensures stands { (ports : List Port) → EndsStandFor self.old ports → EndsStandFor self.new (at_place i reset_late ports) }

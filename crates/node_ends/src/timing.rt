@@ -47,7 +47,7 @@ pub(crate) fn over_at(seats: &[Seat], i: usize, pool: &Pool, host: u8) -> bool
 }
 
 // The link of the end at this place is reset, where its notice is late. What is told of it.
-#[inline]
+#[inline(always)]
 pub(crate) fn late_place(seats: &mut [Seat], i: usize, pool: &mut Pool) -> Option<LinkReport>
     requires inside { i < length seats.old }
     requires stands { (ports : List Port) × AreEnds pool.old seats.old ports × FewAreDue (slice_get ports i) }

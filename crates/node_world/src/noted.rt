@@ -42,6 +42,7 @@ fn let_go(entry: Entry, spares: &mut Vec<Octets>) {
         | Entry::Got { message, .. }
         | Entry::Turn { message, .. }
         | Entry::Ask { message, .. } => keep(message, spares),
+        Entry::No { .. } | Entry::Acked { .. } | Entry::Up { .. } | Entry::Down { .. } => {}
         other => drop(other),
     }
 }

@@ -69,6 +69,7 @@ fn play_sound<C: WorldController + Drop, P: WorldHost + Drop>(
 /// # Errors
 ///
 /// No memory is left; what the world stands for then isn't said.
+#[inline(never)]
 pub(crate) fn play_line<C: WorldController + Drop, P: WorldHost + Drop>(
     alloc: Global,
     controller: &mut ControllerPlace<C>,

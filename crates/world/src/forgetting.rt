@@ -12,6 +12,7 @@ fn let_go(entry: Entry, spare: &mut Vec<u8>) {
             drop(lpdu);
         }
         Entry::Sent { message, .. } | Entry::Got { message, .. } => *spare = message.bytes,
+        Entry::No { .. } | Entry::Acked { .. } | Entry::Up { .. } | Entry::Down { .. } => {}
         other => drop(other),
     }
 }
