@@ -1,6 +1,7 @@
 pub mod Resting
 pub mod Sessions
 pub mod Nodes
+pub mod Occurring
 pub mod Bare
 pub mod BareNoted
 pub mod NotedQuiet

@@ -1,9 +1,8 @@
 -- The link of a bare world is undisturbed while it settles, where nothing that disturbs it is noted behind the line.
-use Rattle.std.proofs.Common.{◌≡◌, ℕ, ◌==◌, Bool, true, false, List, [], ◌∷◌, ◌++◌, map, refl, ap, sym, subst, ◌∙◌, length, Option, Some, None}
+use Rattle.std.proofs.Common.{◌≡◌, ℕ, Bool, true, false, List, [], ◌∷◌, ◌++◌, map, refl, ap, sym, subst, ◌∙◌, length, Option, Some, None}
 use Rattle.std.specs.Prelude.{drop}
-use Rattle.std.specs.List.{AllByRecursion}
+use Rattle.std.specs.List.{AllByRecursion, list_any}
 use Rattle.std.proofs.Math.Seq.{drop-append_seam}
-use Rattle.std.proofs.lemmas.Bool.{true≢false}
 use Rattle.std.proofs.lemmas.List.{map-append}
 use Rattle.std.proofs.lemmas.List.Concat.{flat_map-append}
 use Rattle.trace_model.specs.declared.entry.Entry.{Entry}
@@ -11,25 +10,25 @@ use Rattle.trace_model.specs.declared.line.Header.{Header}
 use Rattle.trace_model.specs.declared.line.Line.{Line}
 use Rattle.trace_model.specs.declared.line.Line.TheVariants as saying
 use Rattle.trace_model.specs.Lines.{IsHeader, IsLineOf, MayFollow}
-use Rattle.link_entries.specs.messages.Links.{Link, LinkEvent, AllAllowed, happens, after_link_events}
+use Rattle.link_entries.specs.messages.Links.{Link, LinkEvent, AllAllowed, after_link_events}
 use Rattle.link_entries.specs.messages.Links.IsStart.{IsBare}
 use Rattle.link_entries.specs.entries.Entries.{End as Side, Entry as Noted, entries, first_entries}
 use Rattle.link_entries.specs.entries.Entries.End.{Controller, Host}
-use Rattle.link_entries.specs.entries.Entries.Entry.{Up, Down, Active, GaveUp, Acked, Got, Sent, Emit, Took, Lost, Tick, Restarted, Cut}
+use Rattle.link_entries.specs.entries.Entries.Entry.{Restarted, Cut}
 use Rattle.link_entries.proofs.entries.Hearing.{heard, heard-append, session_up}
-use Rattle.link_entries.proofs.entries.Running.{IsUnderWay, goes_on, start_under_way}
+use Rattle.link_entries.proofs.entries.Running.{IsUnderWay, start_under_way}
 use Rattle.history.specs.Filters.{session_number}
 use Rattle.history.specs.Follows.{Follows, host_of}
 use Rattle.history.specs.Histories.{Cause, Event, History, all_entries, all_events, causes_of}
 use Rattle.history.specs.Histories.Cause.{Given, Taken, WasLost, Ticked, WasReset, Readied}
-use Rattle.history.specs.Legal.{has_lost}
 use Rattle.history.specs.Steps.{bare_link, end_of, entries_for, entry_of, event_of, link_after}
 use Rattle.history.proofs.legal.Ordered.{IsRun, is_run, notes_of, run_entries}
 use Rattle.history.proofs.legal.Plain.{ArePlain, plain_trace}
-use Rattle.history.proofs.legal.Reading.{session-all, link_same}
+use Rattle.history.proofs.legal.Reading.{session-all}
 use Rattle.history.proofs.legal.Runs.{link_events, of_allowed, of_can}
 use Rattle.history.proofs.legal.Sessions.{controller_heard, host_heard}
 use Rattle.node_order.specs.rounds.BareRounds.{causes_of_rounds}
+use Rattle.node_order.proofs.order.Watches.{AreUnstarted, is_cut}
 use Rattle.settling_laws.specs.messages.Recovery.{IsLinkUndisturbed}
 use Rattle.settling_laws.proofs.messages.Projected.{allowed_parts}
 use Rattle.lines_told.specs.Below.{bare_link_behind}
@@ -37,12 +36,13 @@ use Rattle.lines_told.specs.Plays.{lines_played_of, plays_of, rounds_to_rest}
 use Rattle.settled_worlds.specs.links.RoundCauses.{AreRoundCauses}
 use Rattle.settled_worlds.specs.links.Settling.{rounds_to_settle, settling_causes, settling_events}
 use Rattle.settled_worlds.specs.worlds.Brought.{AreBothUpIn}
-use Rattle.settled_worlds.specs.worlds.Undisturbed.{AreBothReady, AreLeftReady, AreReadyThroughout, AreUndisturbedNotes, entries_since, has_ended}
+use Rattle.settled_worlds.specs.worlds.Undisturbed.{AreBothReady, AreLeftReady, AreReadyThroughout, AreUndisturbedNotes, entries_since}
 use Rattle.settled_worlds.proofs.links.RoundCauses.{rounds_are}
 use Rattle.settled_worlds.proofs.schedules.Bare.{as_many, happened_leads}
 use Rattle.settled_worlds.proofs.schedules.Nodes.{with_settle}
-use Rattle.settled_worlds.proofs.undisturbed.Losing.{Calm, or_calm}
-use Rattle.settled_worlds.proofs.undisturbed.Runs.{AreBothUpNow, AreRoundEvents, trace-append, calm_run, keeps}
+use Rattle.settled_worlds.proofs.undisturbed.Losing.{Calm}
+use Rattle.settled_worlds.proofs.undisturbed.Noted.{noted_calm}
+use Rattle.settled_worlds.proofs.undisturbed.Runs.{AreBothUpNow, AreRoundEvents, trace-append, calm_run, keeps, way_to}
 use Rattle.settled_worlds.proofs.undisturbed.Begun.{Unbegun}
 use Rattle.settled_worlds.proofs.undisturbed.Causes.{causes_along, causes_followed, along_rounds}
 use Rattle.settled_worlds.proofs.undisturbed.Busy.{cause_readies, schedule_ready}
@@ -53,24 +53,16 @@ plain_right : (t u : List Noted) → ArePlain (t ++ u) → ArePlain u
 plain_right [] u p = p
 plain_right (e ∷ t) u p = plain_right t u p.1
 
--- nothing that disturbs a bare link is noted where its sessions go on and no frame of it is lost
-pub calm_noted : (h : ℕ) (t : List Noted) → ArePlain t → has_ended h (entries_for h t) ≡ false → has_lost h (entries_for h t) ≡ false → Calm t
-calm_noted h [] p a b = refl
-calm_noted h (Up w n ∷ t) p a b = calm_noted h t p.1 a b
-calm_noted h (Down w cause ∷ t) p a b =
-    absurd (true≢false (sym (link_same h w) ∙ (or_calm ((end_of h w).link == h) (has_ended h (entries_for h t)) a).0))
-calm_noted h (Active w ∷ t) p a b = calm_noted h t p.1 a b
-calm_noted h (GaveUp w tries ∷ t) p a b = calm_noted h t p.1 a b
-calm_noted h (Acked w n count ∷ t) p a b = calm_noted h t p.1 a b
-calm_noted h (Got w n m ∷ t) p a b = calm_noted h t p.1 a b
-calm_noted h (Sent w n m ∷ t) p a b = calm_noted h t p.1 a b
-calm_noted h (Emit w frame ∷ t) p a b = calm_noted h t p.1 a b
-calm_noted h (Took w frame ∷ t) p a b = calm_noted h t p.1 a b
-calm_noted h (Lost w frame why ∷ t) p a b =
-    absurd (true≢false (sym (link_same h w) ∙ (or_calm ((end_of h w).link == h) (has_lost h (entries_for h t)) b).0))
-calm_noted h (Tick ∷ t) p a b = calm_noted h t p.1 a b
-calm_noted h (Restarted w ∷ t) p a b = absurd p.0
-calm_noted h (Cut w ∷ t) p a b = absurd p.0
+-- no end is started, and no power cut
+plain_unstarted : (t : List Noted) → ArePlain t → AreUnstarted t
+plain_unstarted [] p = tt
+plain_unstarted (Restarted w ∷ t) p = absurd p.0
+plain_unstarted (e ∷ t) p = (tt, plain_unstarted t p.1)
+
+plain_uncut : (t : List Noted) → ArePlain t → list_any is_cut t ≡ false
+plain_uncut [] p = refl
+plain_uncut (Cut w ∷ t) p = absurd p.0
+plain_uncut (e ∷ t) p = plain_uncut t p.1
 
 -- ## Rounds
 
@@ -100,11 +92,6 @@ ready_next h l (Readied e ready) a r = absurd a.0
 ready_throughout : (h : ℕ) (cs : List Cause) (l : Link) → AreRoundCauses h l cs → AreBothReady l → AreReadyThroughout l (map event_of cs)
 ready_throughout h [] l a r = r
 ready_throughout h (c ∷ cs) l a r = (r, ready_throughout h cs (link_after l c) a.1 (ready_next h l c (a.0, tt) r))
-
--- a link that was reached in a run, with what was noted up to it
-reached : (es : List LinkEvent) (l : Link) {t : List Noted} → AllAllowed l es → IsUnderWay t l → (u : List Noted) × IsUnderWay u (after_link_events l es)
-reached [] l {t} a w = (t, w)
-reached (e ∷ es) l a w = reached es (happens l e) a.1 (goes_on l e a.0 w)
 
 -- ## A schedule
 
@@ -198,14 +185,14 @@ module _ (header : Header) (is : IsHeader header) (lines : List Line) (may : All
     calm : Calm (entries l es)
     calm =
         let told : AreUndisturbedNotes (entries_for h (entries l es)) h = subst (λ (z : List Entry). AreUndisturbedNotes z h) since notes in
-        calm_noted h (entries l es) plain told.lasting told.lossless
+        noted_calm h (entries l es) (plain_unstarted (entries l es) plain) (plain_uncut (entries l es) plain) told.lasting told.lossless
 
     both : IsLinkUndisturbed l es × Unbegun (entries l es)
     both =
         let rounds : AreRoundCauses h l cs = rounds_are h (rounds_to_settle n h l) l in
         let ready : AreBothReady l =
         record { controller = schedule_ready header is false lines may left.controller; host = schedule_ready header is true lines may left.host } in
-        let before = reached (link_events xs) bare_link allowed.0 (start_under_way bare_link IsBare) in
+        let before = way_to (link_events xs) bare_link allowed.0 (start_under_way bare_link IsBare) in
         calm_run bare_link IsBare es (link_events xs) l leads allowed.0 allowed.1 (round_events h l cs rounds)
         (subst (IsUnderWay before.0) leads before.1) (up_there k up) (ready_throughout h cs l rounds ready) calm
 

@@ -171,6 +171,7 @@ starts_none l t a =
 pub event_none : (l : Link) (e : LinkEvent) → IsRoundEvent e → Sound l.controller.side → Sound l.host.side → l.controller.side.shdlc.phase ≡ IsUpNow
     → l.host.side.shdlc.phase ≡ IsUpNow → Calm (event_entries l e) → Unbegun (event_entries l e)
 event_none l (AtController (Step NextFrame ts ending)) is near far up there calm = frame_none Controller l ts ending near up calm
+event_none l (AtController (Step NoInput ts ending)) is near far up there calm = rest_none Controller l l.controller.side ts ending
 event_none l (AtHost (Step NextFrame ts ending)) is near far up there calm = frame_none Host (exchanged l) ts ending far there calm
 event_none l (Ticks c [] h) is near far up there calm =
     let m : Link = ticks_at_controller (aged l) c.turns c.ending in
@@ -184,7 +185,6 @@ event_none l (TicksWithout (Step (AsksReset None) ts ending ∷ []) h) is near f
 event_none l (AtController (Step (AsksReset window) ts ending)) is near far up there calm = absurd is
 event_none l (AtController (Step (Starts v) ts ending)) is near far up there calm = absurd is
 event_none l (AtController (Step Stops ts ending)) is near far up there calm = absurd is
-event_none l (AtController (Step NoInput ts ending)) is near far up there calm = absurd is
 event_none l (AtController (Lose why)) is near far up there calm = absurd is
 event_none l (AtHost (Step (AsksReset window) ts ending)) is near far up there calm = absurd is
 event_none l (AtHost (Step (Starts v) ts ending)) is near far up there calm = absurd is

@@ -13,7 +13,7 @@ use Rattle.link_laws.specs.sessions.Sessions.{shdlc_number_of, took_with}
 use Rattle.link_laws.specs.sessions.Sessions.{shdlc_after as core_after, shdlc_exchanged as core_exchanged, shdlc_happens as core_happens}
 use Rattle.link_laws.specs.sessions.Sessions.{shdlc_happens_at_controller as core_happens_here, shdlc_aged as core_aged, ticks_or_cut as core_ticks_or_cut}
 use Rattle.link_laws.specs.sessions.Sessions.{shdlc_all_at_controller as core_all_here}
-use Rattle.link_laws.specs.sessions.Sessions.ShdlcEndEvent.{Deliver as CoreDeliver, Acts as CoreActs, Lose as CoreLose}
+use Rattle.link_laws.specs.sessions.Sessions.ShdlcEndEvent.{Turns as CoreTurns, Deliver as CoreDeliver, Acts as CoreActs, Lose as CoreLose}
 use Rattle.link_laws.specs.sessions.Sessions.ShdlcLinkEvent.{AtController as CoreAtController, AtHost as CoreAtHost, Tick as CoreTick}
 use Rattle.link_laws.specs.sessions.Losses.{Losses, no_losses, is_act, counts_first, came_up, is_up_with, noted_here, noted_turns, noted_aged, noted_tick}
 use Rattle.link_laws.specs.sessions.Losses.{noted_event}
@@ -28,21 +28,25 @@ use Rattle.link_entries.specs.messages.Links.EndEvent.{Step, Lose}
 use Rattle.link_entries.specs.messages.Links.LinkEvent.{AtController, AtHost, Ticks, TicksWithout, Activate}
 use Rattle.link_entries.specs.messages.Projection.{core_of, core_turns, core_take, core_ending, core_step, core_event, core_tick, core_tick_rest}
 use Rattle.link_entries.proofs.messages.Finishing.{step_tick}
+use Rattle.link_entries.proofs.messages.Project.{Tells}
 use Rattle.link_entries.proofs.messages.Runs.{event_step, safe_reached, rests_of, tells_same}
 use Rattle.link_entries.specs.entries.Entries.{End, Entry, left_after, told_of, rest_entries, taken_entries, step_entries, aged_entries}
 use Rattle.link_entries.specs.entries.Entries.{tick_entries, entries_of_events, event_entries}
 use Rattle.link_entries.specs.entries.Entries.End.{Controller, Host}
 use Rattle.link_entries.specs.entries.Entries.{if_so}
 use Rattle.link_entries.specs.entries.Entries.Entry.{Up as NotedUp, Down, Active, GaveUp, Acked, Got}
+use Rattle.link_entries.proofs.entries.Disturbing.{idle_noted}
 use Rattle.link_entries.proofs.entries.Lasting.{taken_noted}
 use Rattle.link_entries.proofs.entries.Running.{Before, IsUnderWay, before_here, before_there}
 use Rattle.settling_laws.specs.fragments.Rounds.{BothTakeFragments, AreUndisturbed}
 use Rattle.settling_laws.proofs.messages.Projected.{open_up}
 use Rattle.settled_worlds.proofs.undisturbed.Losing.{troubles, Calm, calm_parts, rest_calm, cut_troubles, ages_calm, tick_calm}
 
--- an event in a round of a world: an end takes a frame, or time passes, in which the controller's end may be reset
+-- an event in a round of a world: an end takes a frame, the controller's node has turns there, or time passes, in which the controller's end
+-- may be reset
 abbrev pub IsRoundEvent : LinkEvent → Type 0
 IsRoundEvent (AtController (Step NextFrame ts ending)) = Unit {0}
+IsRoundEvent (AtController (Step NoInput ts ending)) = Unit {0}
 IsRoundEvent (AtHost (Step NextFrame ts ending)) = Unit {0}
 IsRoundEvent (Ticks c [] h) = Unit {0}
 IsRoundEvent (TicksWithout (Step (AsksReset None) ts ending ∷ []) h) = Unit {0}
@@ -158,6 +162,15 @@ step_calm who l ts ending a b opened both calm = go l.to_controller refl
             (came_none (core_of k) (began_by l.controller.side (Take x.frame))) rest in
             take_calm l ts x xs q opened both lost
 
+-- its node has turns there
+idle_calm : (who : End) (l : Link) (ts : List Turn) (ending : Ending) → IsNode l ts ending → Tells l.controller → BothTakeFragments (core_of l)
+    → Calm (step_entries who l NoInput ts ending) → AreCalmHere (core_of l) (core_step l NoInput ts ending)
+idle_calm who l ts CutOff a h both calm = absurd (cut_troubles who l l.controller.side ts calm)
+idle_calm who l ts GoesOut a h both calm =
+    let lost : (noted_here no_losses (core_of l) (CoreTurns (core_turns l.controller.side ts))).lost ≡ false =
+    ap (λ (n : Losses). n.lost) (idle_noted no_losses l ts a.0 h) ∙ rest_calm no_losses who l l.controller.side ts refl calm in
+    (both, lost, tt)
+
 -- ## On the link
 
 -- what is noted of a tick, in parts
@@ -167,7 +180,7 @@ pub record TickParts (l : Link) (c h : Node) : Type 0 where
   pub near : Calm (tick_entries Controller (aged l) c)
   pub far : Calm (tick_entries Host (exchanged (ticks_at_controller (aged l) c.turns c.ending)) h)
 
-tick_parts : (l : Link) (c h : Node) → Calm (event_entries l (Ticks c [] h)) → TickParts l c h
+pub tick_parts : (l : Link) (c h : Node) → Calm (event_entries l (Ticks c [] h)) → TickParts l c h
 tick_parts l c h calm =
     let cs : List Entry = tick_entries Controller (aged l) c in
     let hs : List Entry = tick_entries Host (exchanged (ticks_at_controller (aged l) c.turns c.ending)) h in
@@ -177,7 +190,7 @@ tick_parts l c h calm =
     record { near_aged = one.0; far_aged = two.0; near = three.0; far = three.1 }
 
 -- a tick that is cut off is noted
-goes_out : (who : End) (l : Link) (node : Node) → Calm (tick_entries who l node) → node.ending ≡ GoesOut
+pub goes_out : (who : End) (l : Link) (node : Node) → Calm (tick_entries who l node) → node.ending ≡ GoesOut
 goes_out who l node calm = go node.ending refl
   where
     k : Link
@@ -194,6 +207,33 @@ goes_out who l node calm = go node.ending refl
     go CutOff q =
         absurd (cut_troubles who k f node.turns
         (calm_parts (told_of who l.controller HasTick) (rest_entries who k f node.turns CutOff) (subst P q calm)).1)
+
+-- in a tick of a world the controller's end isn't reset, since it would lose its session
+pub reset_ends : (l : Link) → is_open l.controller.side.role ≡ true → l.controller.side.shdlc.phase ≡ Up → (ts : List Turn) (ending : Ending) (h : Node)
+    → Calm (event_entries l (TicksWithout (Step (AsksReset None) ts ending ∷ []) h)) → ⊥
+reset_ends l o up ts ending h calm =
+    let es : List EndEvent = Step (AsksReset None) ts ending ∷ [] in
+    let e : LinkEnd = l.controller.side in
+    let k : Link = aged l in
+    let rest : List Entry = rest_entries Controller (with_ended k (is_some (ended_by e (Reset None)))) (after_input e (Reset None)) ts ending in
+    let hs : List Entry = tick_entries Host (exchanged (all_at_controller k es)) h in
+    let near : List Entry = entries_of_events Controller k es in
+    let one = calm_parts (aged_entries Controller l.to_controller) (aged_entries Host l.to_host ++ (near ++ hs)) calm in
+    let two = calm_parts (aged_entries Host l.to_host) (near ++ hs) one.1 in
+    let three = calm_parts near hs two.1 in
+    let four = calm_parts (told_of Controller l.controller (Reset None) ++ rest) [] three.0 in
+    let five = calm_parts (told_of Controller l.controller (Reset None)) rest four.0 in
+    let ended : (report e (Reset None)).ended ≡ Some Asked = rw (o, up) refl in
+    let six = calm_parts (map (Down Controller) (option_to_list (report e (Reset None)).ended)) (told_rest e) five.0 in
+    true≢false (ap (λ z. list_any troubles (map (Down Controller) (option_to_list z))) (sym ended) ∙ six.0)
+  where
+    told_rest : LinkEnd → List Entry
+    told_rest e =
+        let r = report e (Reset None) in
+        if_so r.began (NotedUp Controller (number_of l.controller)) ++ (if_so r.became_active (Active Controller)
+        ++ (map (GaveUp Controller) (option_to_list r.gave_up)
+        ++ (if_so (nat_lt 0 r.acked) (Acked Controller (number_of l.controller) (whole_acked (after_input e (Reset None))))
+        ++ map (Got Controller (number_of l.controller)) r.got)))
 
 module _ (l : Link) {t : List Entry} (w : IsUnderWay t l) (both : BothTakeFragments (core_of l)) where
   near_open : is_open l.controller.side.role ≡ true
@@ -277,34 +317,6 @@ module _ (l : Link) {t : List Entry} (w : IsUnderWay t l) (both : BothTakeFragme
         let as_host : Q (core_of m) l.host = subst (Q (core_of m)) host_is third in
         subst (λ (d : CoreLink). Q d l.host) ticked as_host
 
-  -- in a tick of a world the controller's end isn't reset, since it would lose its session
-  reset_ends : (ts : List Turn) (ending : Ending) (h : Node) → Calm (event_entries l (TicksWithout (Step (AsksReset None) ts ending ∷ []) h)) → ⊥
-  reset_ends ts ending h calm =
-      let es : List EndEvent = Step (AsksReset None) ts ending ∷ [] in
-      let e : LinkEnd = l.controller.side in
-      let k : Link = aged l in
-      let rest : List Entry = rest_entries Controller (with_ended k (is_some (ended_by e (Reset None)))) (after_input e (Reset None)) ts ending in
-      let hs : List Entry = tick_entries Host (exchanged (all_at_controller k es)) h in
-      let near : List Entry = entries_of_events Controller k es in
-      let one = calm_parts (aged_entries Controller l.to_controller) (aged_entries Host l.to_host ++ (near ++ hs)) calm in
-      let two = calm_parts (aged_entries Host l.to_host) (near ++ hs) one.1 in
-      let three = calm_parts near hs two.1 in
-      let four = calm_parts (told_of Controller l.controller (Reset None) ++ rest) [] three.0 in
-      let five = calm_parts (told_of Controller l.controller (Reset None)) rest four.0 in
-      let o = near_open in
-      let up : e.shdlc.phase ≡ Up = both.controller_up in
-      let ended : (report e (Reset None)).ended ≡ Some Asked = rw (o, up) refl in
-      let six = calm_parts (map (Down Controller) (option_to_list (report e (Reset None)).ended)) (told_rest e) five.0 in
-      true≢false (ap (λ z. list_any troubles (map (Down Controller) (option_to_list z))) (sym ended) ∙ six.0)
-    where
-      told_rest : LinkEnd → List Entry
-      told_rest e =
-          let r = report e (Reset None) in
-          if_so r.began (NotedUp Controller (number_of l.controller)) ++ (if_so r.became_active (Active Controller)
-          ++ (map (GaveUp Controller) (option_to_list r.gave_up)
-          ++ (if_so (nat_lt 0 r.acked) (Acked Controller (number_of l.controller) (whole_acked (after_input e (Reset None))))
-          ++ map (Got Controller (number_of l.controller)) r.got)))
-
   pub calm_event : (e : LinkEvent) → IsRoundEvent e → IsEvent l e → Calm (event_entries l e) → (fs : List CoreLinkEvent)
       → AreUndisturbed (core_of (happens l e)) fs → AreUndisturbed (core_of l) (core_event l e ++ fs)
   calm_event e is a calm fs later =
@@ -315,6 +327,9 @@ module _ (l : Link) {t : List Entry} (w : IsUnderWay t l) (both : BothTakeFragme
       go (AtController (Step NextFrame ts ending)) is a calm later =
           here_calm (core_step l NextFrame ts ending) (core_of l) fs
           (step_calm Controller l ts ending a.1 (before_here l w.good w.reached w.noted.sounds) near_open both calm) later
+      go (AtController (Step NoInput ts ending)) is a calm later =
+          here_calm (core_step l NoInput ts ending) (core_of l) fs
+          (idle_calm Controller l ts ending a.1 w.good.controller both calm) later
       go (AtHost (Step NextFrame ts ending)) is a calm later =
           there_calm (core_step (exchanged l) NextFrame ts ending) (core_of l) fs
           (step_calm Host (exchanged l) ts ending a.1 (before_there l w.good w.reached w.noted.sounds) far_open (other (core_of (exchanged l)) both) calm) later
@@ -323,11 +338,10 @@ module _ (l : Link) {t : List Entry} (w : IsUnderWay t l) (both : BothTakeFragme
           let P : List CoreLinkEvent → Type 0 = λ es. AreUndisturbed (core_after (core_of l) es) fs in
           let Q : List CoreLinkEvent → Type 0 = λ es. AreUndisturbed (core_of l) (es ++ fs) in
           subst Q (sym (tick_is c h a parts)) (both, tick_lost c h a parts, subst P (tick_is c h a parts) later)
-      go (TicksWithout (Step (AsksReset None) ts ending ∷ []) h) is a calm later = absurd (reset_ends ts ending h calm)
+      go (TicksWithout (Step (AsksReset None) ts ending ∷ []) h) is a calm later = absurd (reset_ends l near_open both.controller_up ts ending h calm)
       go (AtController (Step (AsksReset window) ts ending)) is a calm later = absurd is
       go (AtController (Step (Starts v) ts ending)) is a calm later = absurd is
       go (AtController (Step Stops ts ending)) is a calm later = absurd is
-      go (AtController (Step NoInput ts ending)) is a calm later = absurd is
       go (AtController (Lose why)) is a calm later = absurd is
       go (AtHost (Step (AsksReset window) ts ending)) is a calm later = absurd is
       go (AtHost (Step (Starts v) ts ending)) is a calm later = absurd is

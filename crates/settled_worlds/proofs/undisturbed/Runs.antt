@@ -9,6 +9,7 @@ use Rattle.link_entries.specs.entries.Entries.{End, Entry, event_entries, entrie
 use Rattle.link_entries.specs.entries.Entries.End.{Controller, Host}
 use Rattle.link_entries.specs.entries.Entries.Entry.{Up, Down, Active, GaveUp, Acked, Got, Sent, Emit, Took, Lost, Tick, Restarted, Cut}
 use Rattle.link_entries.specs.entries.Filters.{same_link_end}
+use Rattle.link_entries.specs.entries.Sessions.{number_now}
 use Rattle.link_entries.proofs.entries.Hearing.{heard, heard-append, up_session, session_up}
 use Rattle.link_entries.proofs.entries.Heard.{controller_heard, host_heard}
 use Rattle.link_entries.proofs.entries.Running.{IsUnderWay, goes_on}
@@ -59,27 +60,41 @@ module _ (start : Link) (s : IsStart start) where
       ap (λ (t : List Entry). first_entries start.controller.side.role ++ t) (entries-append pre es start)
       ∙ sym (append_assoc (first_entries start.controller.side.role) (entries start pre) (entries (after_link_events start pre) es))
 
+  -- the session of an end behind more events is what is noted of them
+  pub near_session : (pre es : List LinkEvent) → AllAllowed start (pre ++ es)
+      → number_now (after_link_events start (pre ++ es)).controller
+      ≡ heard Controller (number_now (after_link_events start pre).controller) (entries (after_link_events start pre) es)
+  near_session pre es a =
+      let u : List Entry = entries (after_link_events start pre) es in
+      sym (controller_heard start s (pre ++ es) a)
+      ∙ (ap (heard Controller None) (trace-append pre es)
+      ∙ (heard-append Controller None (trace start pre) u
+      ∙ ap (λ n. heard Controller n u) (controller_heard start s pre (allowed_parts pre es start a).0)))
+
+  pub far_session : (pre es : List LinkEvent) → AllAllowed start (pre ++ es)
+      → number_now (after_link_events start (pre ++ es)).host
+      ≡ heard Host (number_now (after_link_events start pre).host) (entries (after_link_events start pre) es)
+  far_session pre es a =
+      let u : List Entry = entries (after_link_events start pre) es in
+      sym (host_heard start s (pre ++ es) a)
+      ∙ (ap (heard Host None) (trace-append pre es)
+      ∙ (heard-append Host None (trace start pre) u
+      ∙ ap (λ n. heard Host n u) (host_heard start s pre (allowed_parts pre es start a).0)))
+
   -- the ends that were up are up behind more events
-  up_after : (pre es : List LinkEvent) → AllAllowed start (pre ++ es) → AreBothUpNow (after_link_events start pre)
+  pub up_after : (pre es : List LinkEvent) → AllAllowed start (pre ++ es) → AreBothUpNow (after_link_events start pre)
       → Calm (entries (after_link_events start pre) es) → AreBothUpNow (after_link_events start (pre ++ es))
   up_after pre es a up calm =
       let l : Link = after_link_events start pre in
       let m : Link = after_link_events start (pre ++ es) in
-      let before = (allowed_parts pre es start a).0 in
       let u : List Entry = entries l es in
       let near = stays Controller (number_of l.controller) u calm in
       let far = stays Host (number_of l.host) u calm in
       record {
         controller = (session_up m.controller near.0
-            (sym (controller_heard start s (pre ++ es) a)
-            ∙ (ap (heard Controller None) (trace-append pre es)
-            ∙ (heard-append Controller None (trace start pre) u
-            ∙ (ap (λ n. heard Controller n u) (controller_heard start s pre before ∙ up_session l.controller up.controller) ∙ near.1))))).0;
+            (near_session pre es a ∙ (ap (λ n. heard Controller n u) (up_session l.controller up.controller) ∙ near.1))).0;
         host = (session_up m.host far.0
-            (sym (host_heard start s (pre ++ es) a)
-            ∙ (ap (heard Host None) (trace-append pre es)
-            ∙ (heard-append Host None (trace start pre) u
-            ∙ (ap (λ n. heard Host n u) (host_heard start s pre before ∙ up_session l.host up.host) ∙ far.1))))).0;
+            (far_session pre es a ∙ (ap (λ n. heard Host n u) (up_session l.host up.host) ∙ far.1))).0;
       }
 
   pub calm_run : (es pre : List LinkEvent) (l : Link) → after_link_events start pre ≡ l → AllAllowed start pre → AllAllowed l es → AreRoundEvents es
@@ -108,6 +123,11 @@ module _ (start : Link) (s : IsStart start) where
         calm_event l w both e rounds.0 a.0 parts.0 (core_events (happens l e) es) more.0,
         both_none (event_entries l e) (entries (happens l e) es) none more.1,
       )
+
+-- a link that was reached in a run, with what was noted up to it
+pub way_to : (es : List LinkEvent) (l : Link) {t : List Entry} → AllAllowed l es → IsUnderWay t l → (u : List Entry) × IsUnderWay u (after_link_events l es)
+way_to [] l {t} a w = (t, w)
+way_to (e ∷ es) l a w = way_to es (happens l e) a.1 (goes_on l e a.0 w)
 
 -- an end that is up stays so in its session
 pub keeps : (who : End) (k : ℕ) (t : List Entry) → Calm t → Unbegun t → heard who (Some k) t ≡ Some k

@@ -147,39 +147,54 @@ reset_waits : (c : CoreLink) (w : ℕ) (ts : List CoreTurn) → is_waiting c.con
 reset_waits c w ts q =
     (sent_same 12 (core_turned (reset_with c.controller.side w) ts)).phase ∙ (turned-phase ts (reset_with c.controller.side w) ∙ rw q refl)
 
--- no notice is late
-not_late : (l : Link) (ts : List Turn) (ending : Ending) (h : Node) → is_open l.controller.side.role ≡ true → is_waiting l.controller.side.shdlc ≡ false
-    → IsLinkUndisturbed l (TicksWithout (Step (AsksReset None) ts ending ∷ []) h ∷ []) → ⊥
-not_late l ts ending h p q u =
-    let a : List CoreEndEvent = core_all (aged l) (Step (AsksReset None) ts ending ∷ []) in
-    let x : CoreLink = core_all_here (core_ticks_if_waiting (core_aged (core_of l))) a in
-    let d : Option (List CoreTurn) = core_tick l.host.side h.turns h.ending in
-    let b = began (map CoreAtHost (core_tick_rest l.host.side h.turns h.ending) ++ []) u.2 in
-    let same : (core_exchanged (core_ticks_or_cut d (core_exchanged x))).controller ≡ x.controller = near_after d x in
-    gone ending (sym (ap (λ (k : CoreEnd). k.side.phase) same) ∙ b.controller_up)
-  where
-    none : reset_refusal l.controller.side ≡ None
-    none = rw (p, q) refl
+-- where an end that doesn't wait is reset it isn't up
+module _ (l : Link) (ts : List Turn) (p : is_open l.controller.side.role ≡ true) (q : is_waiting l.controller.side.shdlc ≡ false) where
+  none : reset_refusal l.controller.side ≡ None
+  none = rw (p, q) refl
 
-    still : core_ticks_if_waiting (core_aged (core_of l)) ≡ core_aged (core_of l)
-    still = rw q refl
+  still : core_ticks_if_waiting (core_aged (core_of l)) ≡ core_aged (core_of l)
+  still = rw q refl
 
-    gone : (ending : Ending)
-        → (core_all_here (core_ticks_if_waiting (core_aged (core_of l))) (core_all (aged l) (Step (AsksReset None) ts ending ∷ []))).controller.side.phase ≡ Up
-        → ⊥
-    gone GoesOut up =
-        let e : LinkEnd = l.controller.side in
-        let r : (core_all_here (core_aged (core_of l)) (core_reset None e (window_of e None) ts GoesOut ++ [])).controller.side.phase ≡ Up =
-        rw (still, none) at up in
-        let w = reset_waits (core_aged (core_of l)) (window_of e None) (core_turns (reset_by e (window_of e None)) ts) q in
-        let z = sym w ∙ r in
-        let y : Waiting ≡ Up = z in
-        cc
-    gone CutOff up =
-        let e : LinkEnd = l.controller.side in
-        let r : (core_all_here (core_aged (core_of l)) (core_reset None e (window_of e None) ts CutOff ++ [])).controller.side.phase ≡ Up =
-        rw (still, none) at up in
-        not_down (silent_down (core_aged (core_of l))) r
+  abbrev reset_there : Ending → CoreLink
+  reset_there ending = core_all_here (core_ticks_if_waiting (core_aged (core_of l))) (core_all (aged l) (Step (AsksReset None) ts ending ∷ []))
+
+  gone : (ending : Ending) → (reset_there ending).controller.side.phase ≡ Up → ⊥
+  gone GoesOut up =
+      let e : LinkEnd = l.controller.side in
+      let is = still in
+      let free = none in
+      let r : (core_all_here (core_aged (core_of l)) (core_reset None e (window_of e None) ts GoesOut ++ [])).controller.side.phase ≡ Up =
+      rw (is, free) at up in
+      let w = reset_waits (core_aged (core_of l)) (window_of e None) (core_turns (reset_by e (window_of e None)) ts) q in
+      let z = sym w ∙ r in
+      let y : Waiting ≡ Up = z in
+      cc
+  gone CutOff up =
+      let e : LinkEnd = l.controller.side in
+      let is = still in
+      let free = none in
+      let r : (core_all_here (core_aged (core_of l)) (core_reset None e (window_of e None) ts CutOff ++ [])).controller.side.phase ≡ Up =
+      rw (is, free) at up in
+      not_down (silent_down (core_aged (core_of l))) r
+
+  -- no notice is late
+  not_late : (ending : Ending) (h : Node) → IsLinkUndisturbed l (TicksWithout (Step (AsksReset None) ts ending ∷ []) h ∷ []) → ⊥
+  not_late ending h u =
+      let d : Option (List CoreTurn) = core_tick l.host.side h.turns h.ending in
+      let b = began (map CoreAtHost (core_tick_rest l.host.side h.turns h.ending) ++ []) u.2 in
+      let same = near_after d (reset_there ending) in
+      gone ending (sym (ap (λ (k : CoreEnd). k.side.phase) same) ∙ b.controller_up)
+
+  -- nor where both ends are up behind a tick that goes out
+  pub late_not_up : (ending : Ending) (h : Node) → is_open l.host.side.role ≡ true → h.ending ≡ GoesOut
+      → (core_after (core_of l) (core_event l (TicksWithout (Step (AsksReset None) ts ending ∷ []) h))).controller.side.phase ≡ Up → ⊥
+  late_not_up ending h o out up =
+      let d : Option (List CoreTurn) = core_tick l.host.side h.turns h.ending in
+      let x : CoreLink = reset_there ending in
+      let rest : core_tick_rest l.host.side h.turns h.ending ≡ [] = rw (out, o) refl in
+      let P : List CoreEndEvent → Type 0 =
+      λ es. (core_after (core_exchanged (core_ticks_or_cut d (core_exchanged x))) (map CoreAtHost es)).controller.side.phase ≡ Up in
+      gone ending (sym (ap (λ (k : CoreEnd). k.side.phase) (near_after d x)) ∙ subst P rest up)
 
 -- a tick of an undisturbed link
 pub record IsCalmTick (l : Link) (late : Bool) (c h : Node) : Type 0 where
@@ -202,4 +217,4 @@ calm_tick l late c h p q u = go (late && not (is_waiting l.controller.side.shdlc
         subst (λ e. IsLinkUndisturbed l (e ∷ [])) is u in
         let waits : is_waiting l.controller.side.shdlc ≡ false =
         not-true (is_waiting l.controller.side.shdlc) (and_parts late (not (is_waiting l.controller.side.shdlc)) r).1 in
-        absurd (not_late l c.turns c.ending h p waits v)
+        absurd (not_late l c.turns p waits c.ending h v)

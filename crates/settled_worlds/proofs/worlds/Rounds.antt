@@ -51,11 +51,11 @@ pub record IsReached (hosts : List ℕ) (w : NodeWorld) : Type 0 where
   pub so : IsSo hosts events w
 
 module _ (hosts : List ℕ) where
-  reached_takes : (w : NodeWorld) (e : End) → IsReached hosts w → IsReached hosts (world_step w (Takes e)).0
+  pub reached_takes : (w : NodeWorld) (e : End) → IsReached hosts w → IsReached hosts (world_step w (Takes e)).0
   reached_takes w e r =
       record { events = _; so = next_so of_none hosts r.events w (Takes e) r.so tt (λ h q. absurd (true≢false (sym q))) }
 
-  reached_ticks : (w : NodeWorld) → IsReached hosts w → IsReached hosts (world_step w TimePassing).0
+  pub reached_ticks : (w : NodeWorld) → IsReached hosts w → IsReached hosts (world_step w TimePassing).0
   reached_ticks w r =
       record { events = _; so = next_so of_none hosts r.events w TimePassing r.so tt (λ h q. absurd (true≢false (sym q))) }
 
@@ -98,7 +98,7 @@ pub far_up : (l : Link) (es : List LinkEvent) → IsLinkUndisturbed l es → l.h
 far_up l es u = (began (core_events l es) u).host_up
 
 -- an end that is up has a node that runs
-runs_where_up : (o : Option Running) (new e : LinkEnd) → IfOff o new e → new.shdlc.phase ≡ Down → e.shdlc.phase ≡ Up → (r : Running) × (o ≡ Some r)
+pub runs_where_up : (o : Option Running) (new e : LinkEnd) → IfOff o new e → new.shdlc.phase ≡ Down → e.shdlc.phase ≡ Up → (r : Running) × (o ≡ Some r)
 runs_where_up (Some r) new e off down up = (r, refl)
 runs_where_up None new e off down up =
     let z : Up ≡ Down = sym up ∙ (ap (λ (x : LinkEnd). x.shdlc.phase) off ∙ down) in absurd (cc z)
@@ -247,7 +247,7 @@ module _ (w : NodeWorld) (h : ℕ) (s : Site) (q : site_at w.sites h ≡ Some s)
 -- ## Many of them
 
 -- what happens first, and what happens then
-on_first : (h : ℕ) (w : NodeWorld) (e : End) (causes : List Happening) → can_happen w (Takes e) ≡ true
+pub on_first : (h : ℕ) (w : NodeWorld) (e : End) (causes : List Happening) → can_happen w (Takes e) ≡ true
     → events_on h w (Takes e ∷ causes) ≡ link_events_in h w (Takes e) ++ events_on h (world_step w (Takes e)).0 causes
 on_first h w e causes can = rw can refl
 

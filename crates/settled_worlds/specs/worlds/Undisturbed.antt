@@ -10,6 +10,7 @@ use Rattle.history.specs.Filters.{Saying, said, same_end}
 use Rattle.history.specs.Filters.Saying.{Ends}
 use Rattle.history.specs.Legal.{has_lost}
 use Rattle.node_machine.specs.world.World.{end_c, end_h}
+use Rattle.node_order.specs.order.Resets.{cuts_on}
 
 -- ## As it is noted
 
@@ -29,6 +30,11 @@ entries_since earlier later = drop (length earlier) later
 pub record AreUndisturbedNotes (t : List Entry) (h : ℕ) : Type 0 where
   pub lasting : has_ended h t ≡ false
   pub lossless : has_lost h t ≡ false
+
+-- so it is with a link of a world of nodes, whose nodes keep their power
+pub record ArePoweredNotes (t : List Entry) (h : ℕ) : Type 0 where
+  pub undisturbed : AreUndisturbedNotes t h
+  pub powered : list_any (cuts_on h) t ≡ false
 
 -- ## As it was said
 
