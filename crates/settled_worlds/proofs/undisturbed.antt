@@ -11,3 +11,9 @@ pub mod Taking
 pub mod Ticking
 pub mod NodeRounds
 pub mod Nodes
+pub mod Steps
+pub mod Holding
+pub mod Keeping
+pub mod Unheld
+pub mod Playable
+pub mod Examples

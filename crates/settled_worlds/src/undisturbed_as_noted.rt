@@ -18,7 +18,8 @@ ghost use Rattle.lines_told.specs.Plays.{lines_played_of, plays_of, rounds_to_re
 ghost use Rattle.settled_worlds.specs.links.Settling.{settling_events};
 ghost use Rattle.settled_worlds.specs.worlds.Brought.{AreBothUpIn, BothBrought};
 ghost use Rattle.settled_worlds.specs.worlds.NotedFragments.{fragments_noted};
-ghost use Rattle.settled_worlds.specs.worlds.Undisturbed.{AreLeftReady, ArePoweredNotes, AreReadyThroughout, AreUndisturbedNotes, entries_since};
+ghost use Rattle.settled_worlds.specs.worlds.Undisturbed.{AreLeftReady, ArePoweredNotes, AreReadyThroughout, AreUndisturbedNotes, AreUnheldNotes};
+ghost use Rattle.settled_worlds.specs.worlds.Undisturbed.{entries_since};
 
 /// The history of a schedule of a bare world before a line that lets its link settle, and behind it: where both ends are up in one session
 /// before it and neither is left busy by the lines before it, and in its rounds no session of the link ends and no frame of it is lost, the
@@ -58,6 +59,35 @@ pub fn links_of_nodes_that_are_noted_undisturbed_have_brought_all()
         site_at (nodes_behind header (lines_played_of header lines)).sites h ≡ Some s → (k : ℕ) → AreUpWith (node_entries t) h k →
         AreReadyThroughout s.link
         (rounds_events h (rounds_to_rest header (plays_of header lines) n) (nodes_behind header (lines_played_of header lines))) →
+        ArePoweredNotes (entries_since (node_entries t) (node_entries later)) h →
+        24 * (fragments_noted (node_entries t) h k + 1) ≤ n → BothBrought (node_entries t) (node_entries later) h k }
+{}
+
+/// So it is by entries alone, where both ends of the link of a host are up in one session before such a line, no message is held at either of
+/// them then, and in what is noted of its rounds none is held there either, no session of the link ends, no frame of it is lost and no power
+/// of its nodes is cut: both ends take fragments throughout these rounds, the link is undisturbed in them, and with 24 (F + 1) rounds at least
+/// it has brought all.
+pub fn links_of_nodes_that_hold_no_message_have_brought_all()
+    ensures ready { (header : Header) → IsNodeHeader header → (lines : List Line) → AllByRecursion (MayFollow header) lines → (n : ℕ) →
+        (t later : NodeHistory) → FollowsNodes header (lines_played_of header lines) t →
+        FollowsNodes header (lines_played_of header (lines ++ Settle n ∷ [])) later → (h : ℕ) (s : Site) →
+        site_at (nodes_behind header (lines_played_of header lines)).sites h ≡ Some s →
+        AreUnheldNotes (node_entries t) (entries_since (node_entries t) (node_entries later)) h →
+        AreReadyThroughout s.link
+        (rounds_events h (rounds_to_rest header (plays_of header lines) n) (nodes_behind header (lines_played_of header lines))) }
+    ensures undisturbed { (header : Header) → IsNodeHeader header → (lines : List Line) → AllByRecursion (MayFollow header) lines → (n : ℕ) →
+        (t later : NodeHistory) → FollowsNodes header (lines_played_of header lines) t →
+        FollowsNodes header (lines_played_of header (lines ++ Settle n ∷ [])) later → (h : ℕ) (s : Site) →
+        site_at (nodes_behind header (lines_played_of header lines)).sites h ≡ Some s → (k : ℕ) → AreUpWith (node_entries t) h k →
+        AreUnheldNotes (node_entries t) (entries_since (node_entries t) (node_entries later)) h →
+        ArePoweredNotes (entries_since (node_entries t) (node_entries later)) h →
+        IsLinkUndisturbed s.link
+        (rounds_events h (rounds_to_rest header (plays_of header lines) n) (nodes_behind header (lines_played_of header lines))) }
+    ensures noted { (header : Header) → IsNodeHeader header → (lines : List Line) → AllByRecursion (MayFollow header) lines → (n : ℕ) →
+        (t later : NodeHistory) → FollowsNodes header (lines_played_of header lines) t →
+        FollowsNodes header (lines_played_of header (lines ++ Settle n ∷ [])) later → (h : ℕ) (s : Site) →
+        site_at (nodes_behind header (lines_played_of header lines)).sites h ≡ Some s → (k : ℕ) → AreUpWith (node_entries t) h k →
+        AreUnheldNotes (node_entries t) (entries_since (node_entries t) (node_entries later)) h →
         ArePoweredNotes (entries_since (node_entries t) (node_entries later)) h →
         24 * (fragments_noted (node_entries t) h k + 1) ≤ n → BothBrought (node_entries t) (node_entries later) h k }
 {}

@@ -110,7 +110,7 @@ module _ (header : Header) (are : AreHosts header.hosts.items) (lines : List Lin
       ∙ (rounds_occur header follows.nodes rounds (plays_of header lines)
       ∙ ap (λ (steps : List LineStep). events_of_steps steps ++ (rounds_of_world rounds w).1) (sym follows.steps_are)))
 
-  since : entries_since (node_entries t) (node_entries later) ≡ entries_in (rounds_of_world rounds w).1
+  pub since : entries_since (node_entries t) (node_entries later) ≡ entries_in (rounds_of_world rounds w).1
   since =
       let a : List Entry = node_entries t in
       let b : List Entry = entries_in (rounds_of_world rounds w).1 in

@@ -109,7 +109,7 @@ down_ready true e = go e.shdlc.phase refl
     go Waiting p = rw p refl
     go Down p = rw p refl
 
-activated_ready : (e : LinkEnd) (event : ActEvent) → (activated e event).shdlc.ready ≡ e.shdlc.ready
+pub activated_ready : (e : LinkEnd) (event : ActEvent) → (activated e event).shdlc.ready ≡ e.shdlc.ready
 activated_ready e event =
     with_ready_of (act_answer e.role event).send _ ∙ down_ready (act_answer e.role event).ended_link e
   where

@@ -2,6 +2,7 @@
 use Rattle.std.specs.Prelude.{◌≡◌, ℕ, ◌==◌, Bool, true, false, if◌then◌else◌, List, [], ◌∷◌, length, drop, Option, Some}
 use Rattle.std.specs.List.{fold, list_any}
 use Rattle.trace_model.specs.declared.entry.Entry.{Entry}
+use Rattle.trace_model.specs.declared.entry.Entry.TheVariants as entry
 use Rattle.trace_model.specs.declared.line.End.{End}
 use Rattle.trace_model.specs.declared.line.Line.{Line}
 use Rattle.trace_model.specs.declared.line.Line.TheVariants as saying
@@ -11,6 +12,7 @@ use Rattle.history.specs.Filters.Saying.{Ends}
 use Rattle.history.specs.Legal.{has_lost}
 use Rattle.node_machine.specs.world.World.{end_c, end_h}
 use Rattle.node_order.specs.order.Resets.{cuts_on}
+use Rattle.answer_laws.specs.answers.Moments.{holds_in}
 
 -- ## As it is noted
 
@@ -35,6 +37,18 @@ pub record AreUndisturbedNotes (t : List Entry) (h : ℕ) : Type 0 where
 pub record ArePoweredNotes (t : List Entry) (h : ℕ) : Type 0 where
   pub undisturbed : AreUndisturbedNotes t h
   pub powered : list_any (cuts_on h) t ≡ false
+
+-- a message at an end of the link with this host is noted as held
+abbrev pub is_held_on : ℕ → Entry → Bool
+is_held_on h (entry.Held e need spare) = e.link == h
+is_held_on h _ = false
+
+-- At neither end of the link with this host a message is held where the first of these entries end, and in those behind them none is noted as
+-- held: each message that came there has had its turn, and each that comes has it at once.
+pub record AreUnheldNotes (t since : List Entry) (h : ℕ) : Type 0 where
+  pub controller : holds_in t (end_c h) ≡ false
+  pub host : holds_in t (end_h h) ≡ false
+  pub none_held : list_any (is_held_on h) since ≡ false
 
 -- ## As it was said
 
