@@ -2,6 +2,10 @@
 #![tactic(auto)]
 
 mod noting;
+#[cfg(test)]
+mod settled_rows;
 mod settling;
+#[cfg(test)]
+mod transcript;
 
 pub use settling::settle;
