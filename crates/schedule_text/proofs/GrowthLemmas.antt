@@ -55,6 +55,14 @@ pub holds_spaced : (start : Start) (first word : List ℕ) (more : List (List �
     → HoldsWords start (first ∷ (more ++ word ∷ [])) t
 holds_spaced start first word more t h = subst (λ x. HoldsText start x t) (sym (spaced-push first word more)) h
 
+-- two words at once, a space before each
+pub holds_two : (start : Start) (first word other : List ℕ) (more : List (List ℕ)) (t : Text)
+    → HoldsText start (spaced (first ∷ more) ++ (32 ∷ (word ++ (32 ∷ other)))) t → HoldsWords start (first ∷ ((more ++ word ∷ []) ++ other ∷ [])) t
+holds_two start first word other more t h =
+    subst (λ x. HoldsText start x t)
+    (sym (spaced-push first other (more ++ word ∷ []) ∙ ap (λ t. t ++ (32 ∷ other)) (spaced-push first word more)
+    ∙ append_assoc (spaced (first ∷ more)) (32 ∷ word) (32 ∷ other))) h
+
 -- behind a word more letters of it
 pub holds_longer : (start : Start) (first word letters : List ℕ) (more : List (List ℕ)) (t : Text)
     → HoldsText start (spaced (first ∷ (more ++ word ∷ [])) ++ letters) t → HoldsWords start (first ∷ (more ++ (word ++ letters) ∷ [])) t
@@ -105,6 +113,20 @@ last_decimals n large fits =
     decimal_step n (omega arith) fits ∙ ap (λ ds. ds ++ (48 + n % 10) ∷ []) (decimal_step (n / 10) (omega arith) (omega arith))
     ∙ append_assoc (decimal (n / 10 / 10)) ((48 + n / 10 % 10) ∷ []) ((48 + n % 10) ∷ [])
     ∙ ap (λ m. decimal m ++ (48 + n / 10 % 10) ∷ (48 + n % 10) ∷ []) hundreds
+
+-- a number of three digits
+pub three_decimals : (n : ℕ) → 100 ≤ n → n < 1000 → decimal n ≡ (48 + n / 100) ∷ (48 + n / 10 % 10) ∷ (48 + n % 10) ∷ []
+three_decimals n large small =
+    last_decimals n large (omega (arith, small))
+    ∙ ap (λ ds. ds ++ (48 + n / 10 % 10) ∷ (48 + n % 10) ∷ []) (decimal_digit (n / 100) (omega (arith, small)))
+
+-- a number of four digits
+pub four_decimals : (n : ℕ) → 1000 ≤ n → n < 10000 → decimal n ≡ (48 + n / 1000) ∷ (48 + n / 100 % 10) ∷ (48 + n / 10 % 10) ∷ (48 + n % 10) ∷ []
+four_decimals n large small =
+    let thousands : n / 100 / 10 ≡ n / 1000 = omega arith in
+    last_decimals n (omega (arith, large)) (omega (arith, small))
+    ∙ ap (λ ds. ds ++ (48 + n / 10 % 10) ∷ (48 + n % 10) ∷ []) (two_decimals (n / 100) (omega (arith, large)) (omega (arith, small)))
+    ∙ ap (λ a. (48 + a) ∷ (48 + n / 100 % 10) ∷ (48 + n / 10 % 10) ∷ (48 + n % 10) ∷ []) thousands
 
 pub holds_decimals : (start : Start) (text : List ℕ) (n : ℕ) (t : Text) → 100 ≤ n → n < 2 ^ 64
     → HoldsText start ((text ++ decimal (n / 100)) ++ ((48 + n / 10 % 10) ∷ (48 + n % 10) ∷ [])) t → HoldsText start (text ++ decimal n) t

@@ -8,6 +8,7 @@ pub mod HexLemmas
 pub mod HostsLemmas
 pub mod LinesLemmas
 pub mod NumbersLemmas
+pub mod PairLemmas
 pub mod PlacesLemmas
 pub mod ReadAgainLemmas
 pub mod RowsLemmas

@@ -311,8 +311,7 @@ fn write_at_numbers(text: &mut Text, word: &[u8], at: At, first: u32, second: u3
         → HoldsWords start (word.now ∷ end_text at ∷ decimal first ∷ decimal second ∷ []) text.new }
 {
     text.push(word);
-    text.end(at);
-    text.short_number(first);
+    text.end_and_number(at, first);
     text.short_number(second);
 }
 
@@ -322,8 +321,7 @@ fn write_frame(text: &mut Text, word: &[u8], at: At, bytes: &[u8])
         → HoldsWords start (word.now ∷ end_text at ∷ encode_upper bytes.now ∷ []) text.new }
 {
     text.push(word);
-    text.end(at);
-    text.hex(bytes);
+    text.end_and_hex(at, bytes);
 }
 
 #[inline(always)]
@@ -332,10 +330,8 @@ fn write_message(text: &mut Text, word: &[u8], at: At, session: u32, pid: u8, me
         → HoldsWords start (word.now ∷ end_text at ∷ decimal session ∷ byte_text pid ∷ encode_upper message.now ∷ []) text.new }
 {
     text.push(word);
-    text.end(at);
-    text.short_number(session);
-    text.byte(pid);
-    text.hex(message);
+    text.end_and_number(at, session);
+    text.byte_and_hex(pid, message);
 }
 
 #[inline(never)]
@@ -371,8 +367,7 @@ fn write_turn(text: &mut Text, at: At, pid: u8, message: &[u8])
         → HoldsWords start (codes "turn" ∷ end_text at ∷ byte_text pid ∷ encode_upper message.now ∷ []) text.new }
 {
     text.push(b"turn");
-    text.end(at);
-    text.byte(pid);
+    text.end_and_byte(at, pid);
     text.hex(message);
 }
 
@@ -547,9 +542,8 @@ fn write_send(text: &mut Text, at: At, pid: u8, message: &[u8])
     ensures { (start : Start) (first : List ℕ) (more : List (List ℕ)) → HoldsWords start (first ∷ more) text.old
         → HoldsWords start (first ∷ (more ++ codes "send" ∷ end_text at ∷ byte_text pid ∷ encode_upper message.now ∷ [])) text.new }
 {
-    text.word(b"send");
-    text.end(at);
-    text.byte(pid);
+    text.push(b" send");
+    text.end_and_byte(at, pid);
     text.hex(message);
 }
 
@@ -558,7 +552,7 @@ fn write_deliver(text: &mut Text, at: At, count: Option<u8>)
     ensures { (start : Start) (first : List ℕ) (more : List (List ℕ)) → HoldsWords start (first ∷ more) text.old
         → HoldsWords start (first ∷ (more ++ codes "deliver" ∷ end_text at ∷ number_words count)) text.new }
 {
-    text.word(b"deliver");
+    text.push(b" deliver");
     text.end(at);
     text.maybe(count);
 }
@@ -568,7 +562,7 @@ fn write_lose(text: &mut Text, at: At)
     ensures { (start : Start) (first : List ℕ) (more : List (List ℕ)) → HoldsWords start (first ∷ more) text.old
         → HoldsWords start (first ∷ (more ++ codes "lose" ∷ end_text at ∷ [])) text.new }
 {
-    text.word(b"lose");
+    text.push(b" lose");
     text.end(at);
 }
 
@@ -577,7 +571,7 @@ fn write_tick(text: &mut Text, times: Option<u8>)
     ensures { (start : Start) (first : List ℕ) (more : List (List ℕ)) → HoldsWords start (first ∷ more) text.old
         → HoldsWords start (first ∷ (more ++ codes "tick" ∷ number_words times)) text.new }
 {
-    text.word(b"tick");
+    text.push(b" tick");
     text.maybe(times);
 }
 
@@ -586,7 +580,7 @@ fn write_reset(text: &mut Text, at: At, window: Option<u8>)
     ensures { (start : Start) (first : List ℕ) (more : List (List ℕ)) → HoldsWords start (first ∷ more) text.old
         → HoldsWords start (first ∷ (more ++ codes "reset" ∷ end_text at ∷ number_words window)) text.new }
 {
-    text.word(b"reset");
+    text.push(b" reset");
     text.end(at);
     text.maybe(window);
 }

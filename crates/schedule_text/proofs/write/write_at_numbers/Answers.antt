@@ -8,5 +8,4 @@ returns c =
     λ start h.
     let word = c.args.word.now in
     let at = end_text c.args.at in
-    c.short_number-2.ensures start word (at ∷ decimal c.args.first ∷ [])
-    (c.short_number.ensures start word (at ∷ []) (c.end.ensures start word [] (c.push.ensures start [] h)))
+    c.short_number.ensures start word (at ∷ decimal c.args.first ∷ []) (c.end_and_number.ensures start word [] (c.push.ensures start [] h))

@@ -1,6 +1,6 @@
 use Rattle.std.proofs.Common.{[], ◌∷◌}
 use Rattle.std.specs.Fmt.{decimal}
-use Rattle.schedule_text.specs.Entries.{end_text, byte_text}
+use Rattle.schedule_text.specs.Entries.{end_text}
 use Rattle.schedule_text.proofs.write.write_message.Goals as goal
 
 pub returns : goal.returns
@@ -9,5 +9,4 @@ returns c =
     let word = c.args.word.now in
     let at = end_text c.args.at in
     let session = decimal c.args.session in
-    c.hex.ensures start word (at ∷ session ∷ byte_text c.args.pid ∷ [])
-    (c.byte.ensures start word (at ∷ session ∷ []) (c.short_number.ensures start word (at ∷ []) (c.end.ensures start word [] (c.push.ensures start [] h))))
+    c.byte_and_hex.ensures start word (at ∷ session ∷ []) (c.end_and_number.ensures start word [] (c.push.ensures start [] h))

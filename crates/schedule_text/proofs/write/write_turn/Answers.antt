@@ -7,4 +7,4 @@ returns c =
     λ start h.
     let turn = codes "turn" in
     let at = end_text c.args.at in
-    c.hex.ensures start turn (at ∷ byte_text c.args.pid ∷ []) (c.byte.ensures start turn (at ∷ []) (c.end.ensures start turn [] (c.push.ensures start [] h)))
+    c.hex.ensures start turn (at ∷ byte_text c.args.pid ∷ []) (c.end_and_byte.ensures start turn [] (c.push.ensures start [] h))

@@ -1,9 +1,9 @@
-use Rattle.std.proofs.Common.{[], ◌∷◌, ◌++◌, arith, sym, subst}
+use Rattle.std.proofs.Common.{◌∷◌, ◌++◌, arith, sym, subst}
 use Rattle.std.specs.Fmt.{decimal}
 use Rattle.std.proofs.lemmas.Fmt.{decimal_digit}
 use Rattle.schedule_text.specs.Words.{spaced}
 use Rattle.schedule_text.specs.Growth.{HoldsText}
-use Rattle.schedule_text.proofs.GrowthLemmas.{holds_word, holds_spaced, two_decimals}
+use Rattle.schedule_text.proofs.GrowthLemmas.{holds_spaced, two_decimals}
 use Rattle.schedule_text.proofs.text.Text.number.Goals as goal
 
 pub returns-then-number-lt10 : goal.returns-then-number-lt10
@@ -20,9 +20,3 @@ returns-then-number-lt100 c =
     (subst (λ ds. HoldsText start (spaced (first ∷ more) ++ (32 ∷ ds)) c.push_few-then-number-lt100.new.self)
     (sym (two_decimals c.args.number (omega arith) (omega arith)))
     (c.push_few-then-number-lt100.ensures start (spaced (first ∷ more)) h))
-
-pub returns : goal.returns
-returns c =
-    λ start first more h.
-    holds_word start first (decimal c.args.number) more _
-    (c.digits.ensures start (spaced (first ∷ more) ++ (32 ∷ [])) (c.push_few-2.ensures start (spaced (first ∷ more)) h))
