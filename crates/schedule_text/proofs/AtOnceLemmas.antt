@@ -65,6 +65,13 @@ ticks header ws a is n at =
     (sym (again header.hci header.hosts.items tick_row (a ∷ []) _ (record { least = omega arith; most = omega arith; words = ((n, number), tt) })
     (rw number refl)))
 
+-- a message is half as long as its digits
+pub message_sizes : (digits bytes : List ℕ) → bytes_value digits ≡ Some bytes → 2 ≤ length digits → length digits ≤ 9000
+    → (bytes_value digits ≡ Some bytes) × (1 ≤ length bytes) × (length bytes ≤ 4500)
+message_sizes digits bytes h some few =
+    let long = (decode_of-ok digits bytes (ok_of (decode_of digits) bytes h)).2 in
+    (h, omega (arith, long, some), omega (arith, long, few))
+
 -- a hexadecimal digit is a letter
 digit_is_letter : (c : ℕ) → is_hex_digit c ≡ true → is_letter c ≡ true
 digit_is_letter c h = go (c == 32) refl

@@ -9,6 +9,7 @@ pub mod HostsLemmas
 pub mod LinesLemmas
 pub mod NumbersLemmas
 pub mod PairLemmas
+pub mod PairsLemmas
 pub mod PlacesLemmas
 pub mod ReadAgainLemmas
 pub mod RowsLemmas

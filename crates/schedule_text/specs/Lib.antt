@@ -3,6 +3,7 @@ pub mod Entries
 pub mod Forms
 pub mod Growth
 pub mod Lines
+pub mod Pairs
 pub mod Parts
 pub mod Rules
 pub mod Values

@@ -10,6 +10,7 @@ ghost use Rattle.schedule_text.specs.Values.{bytes_value};
 ghost use Rattle.schedule_text.specs.Forms.{row_for};
 ghost use Rattle.schedule_text.specs.Lines.{by_row, line_of};
 
+use crate::pairs::bytes_of;
 use crate::read::{MAX_LINE, number_at};
 use crate::values::{byte_of, end_of};
 use crate::words::{behind_deliver, behind_send, next_word};
@@ -111,10 +112,8 @@ fn message_at_once(alloc: Global, digits: &[u8]) -> Option<Vec<u8>>
     if digits.len() < 2 || MOST_DIGITS < digits.len() {
         return None;
     }
-    match hex::decode(alloc, digits) {
-        Ok(bytes) => Some(bytes),
-        Err(_) => None,
-    }
+    let bytes = bytes_of(alloc, digits)?;
+    Some(bytes)
 }
 
 /// Whether an end of this world may send.

@@ -5,6 +5,7 @@ mod at_once;
 mod fault;
 mod forms;
 mod laws;
+mod pairs;
 mod read;
 mod rules;
 mod text;

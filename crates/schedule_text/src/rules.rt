@@ -216,7 +216,7 @@ fn all_hex(word: &[u8]) -> bool
     word.iter().all(|digit| is_hex(*digit))
 }
 
-fn is_hex(digit: u8) -> bool
+pub(crate) fn is_hex(digit: u8) -> bool
     ensures { result ≡ is_hex_digit digit }
 {
     matches!(digit, b'A'..=b'F' | b'a'..=b'f' | b'0'..=b'9')

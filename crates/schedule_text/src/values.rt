@@ -19,7 +19,7 @@ pub(crate) fn byte_of(word: &[u8]) -> Option<u8>
 }
 
 #[inline(always)]
-fn pair_of(high: u8, low: u8) -> Option<u8>
+pub(crate) fn pair_of(high: u8, low: u8) -> Option<u8>
     ensures { result ≡ byte_value (high ∷ low ∷ []) }
 {
     let first = digit_of(high)?;

@@ -1,0 +1,83 @@
+-- What pairs of hexadecimal digits stand for is what the kit reads of them.
+use Rattle.std.proofs.Common.{◌≡◌, ℕ, ◌+◌, ◌*◌, ◌<◌, List, [], ◌∷◌, ◌++◌, length, take, slice_index, refl, sym, ap, ◌∙◌, subst, arith, append_assoc, append-nil}
+use Rattle.std.proofs.Common.{Option, Some, None, Ok, unwrap_or}
+use Rattle.std.specs.Result.{result_ok}
+use Rattle.std.proofs.lemmas.List.{take_more}
+use Rattle.hex.specs.Hex.{decode_pairs, hex_digit_value, pair_value}
+use Rattle.hex.proofs.Pairs.{cons_byte, decode_pairs-ok_pair}
+use Rattle.hex.proofs.HexLemmas.{decode_of-even}
+use Rattle.schedule_text.specs.Values.{byte_value, bytes_value}
+use Rattle.schedule_text.specs.Pairs.{IsPair, IsPairs, IsNextPair}
+use Rattle.schedule_text.proofs.HexLemmas.{no_high, no_low, two_digits}
+
+-- two digits that stand for a byte
+pub pair_of_value : (high low byte : ℕ) → byte_value (high ∷ low ∷ []) ≡ Some byte → IsPair high low byte
+pair_of_value high low byte h = go (hex_digit_value high) refl (hex_digit_value low) refl
+  where
+    go : (x : Option ℕ) → hex_digit_value high ≡ x → (y : Option ℕ) → hex_digit_value low ≡ y → IsPair high low byte
+    go None e y f = cc (no_high high low e ∙ h)
+    go (Some x) e None f = cc (no_low high low x e f ∙ h)
+    go (Some x) e (Some y) f = (x, e, (y, f, ap (λ o. unwrap_or o 0) (two_digits high low x y e f ∙ h)))
+
+-- one behind the other
+pub pairs_append : (a x b y : List ℕ) → IsPairs a x → IsPairs b y → IsPairs (a ++ b) (x ++ y)
+pairs_append [] [] b y h k = k
+pairs_append (c ∷ d ∷ a) (v ∷ x) b y h k = (h.0, pairs_append a x b y h.1 k)
+pairs_append [] (v ∷ x) b y h k = absurd h
+pairs_append (c ∷ []) x b y h k = absurd h
+pairs_append (c ∷ d ∷ a) [] b y h k = absurd h
+
+-- two digits for each byte
+pub pairs_twice : (digits bytes : List ℕ) → IsPairs digits bytes → length digits ≡ 2 * length bytes
+pairs_twice [] [] h = refl
+pairs_twice (c ∷ d ∷ digits) (v ∷ bytes) h = let more = pairs_twice digits bytes h.1 in omega (arith, more)
+pairs_twice [] (v ∷ bytes) h = absurd h
+pairs_twice (c ∷ []) bytes h = absurd h
+pairs_twice (c ∷ d ∷ digits) [] h = absurd h
+
+-- the kit reads them
+pairs_decode : (i : ℕ) (digits bytes : List ℕ) → IsPairs digits bytes → decode_pairs i digits ≡ Ok bytes
+unfolding decode_pairs
+pairs_decode i [] [] h = refl
+pairs_decode i (c ∷ d ∷ digits) (v ∷ bytes) h =
+    let pair : pair_value c d i ≡ Ok (h.0.0 * 16 + h.0.2.0) = rw (h.0.1, h.0.2.1) refl in
+    decode_pairs-ok_pair i c d _ digits pair ∙ ap (cons_byte (h.0.0 * 16 + h.0.2.0)) (pairs_decode (i + 2) digits bytes h.1)
+    ∙ ap (λ (b : ℕ). Ok (b ∷ bytes)) h.0.2.2
+pairs_decode i [] (v ∷ bytes) h = absurd h
+pairs_decode i (c ∷ []) bytes h = absurd h
+pairs_decode i (c ∷ d ∷ digits) [] h = absurd h
+
+pub pairs_read : (digits bytes : List ℕ) → IsPairs digits bytes → bytes_value digits ≡ Some bytes
+pairs_read digits bytes h =
+    let twice = pairs_twice digits bytes h in
+    ap result_ok (decode_of-even digits (omega (arith, twice)) ∙ pairs_decode 0 digits bytes h)
+
+-- two digits more
+pub pairs_more : (digits bytes : List ℕ) (i : ℕ) (byte : ℕ) → 2 * i + 1 < length digits → IsPair (slice_index digits (2 * i)) (slice_index digits (2 * i + 1)) byte
+    → IsPairs (take (2 * i) digits) bytes → IsPairs (take (2 * (i + 1)) digits) (bytes ++ byte ∷ [])
+pairs_more digits bytes i byte fits pair h =
+    let two : 2 * i + 1 + 1 ≡ 2 * (i + 1) = omega arith in
+    let cut : take (2 * i) digits ++ (slice_index digits (2 * i) ∷ slice_index digits (2 * i + 1) ∷ []) ≡ take (2 * (i + 1)) digits =
+    cut_two digits (2 * i) fits ∙ ap (λ n. take n digits) two in
+    subst (λ front. IsPairs front (bytes ++ byte ∷ [])) cut
+    (pairs_append (take (2 * i) digits) bytes _ (byte ∷ []) h (pair, tt))
+  where
+    cut_two : (xs : List ℕ) (k : ℕ) → k + 1 < length xs → take k xs ++ (slice_index xs k ∷ slice_index xs (k + 1) ∷ []) ≡ take (k + 1 + 1) xs
+    cut_two xs k within = rw (take_more xs (k + 1) 0 within, take_more xs k 0 (omega arith), append_assoc) refl
+
+-- nothing is left of the digits
+pub pairs_all : (front left digits bytes : List ℕ) → front ++ left ≡ digits → length left ≡ 0 → IsPairs front bytes → bytes_value digits ≡ Some bytes
+pairs_all front [] digits bytes is none h = pairs_read digits bytes (subst (λ xs. IsPairs xs bytes) (sym (append-nil front) ∙ is) h)
+pairs_all front (d ∷ left) digits bytes is none h = absurd (omega (arith, none))
+
+-- one pair behind a front
+pub pairs_next : (front left digits bytes : List ℕ) (byte : ℕ) (more : List ℕ) → front ++ left ≡ digits → IsPairs front bytes → IsNextPair left byte more
+    → (x : List ℕ) × ((x ++ more ≡ digits) × IsPairs x (bytes ++ byte ∷ []))
+pairs_next front left digits bytes byte more is h next =
+    let two : List ℕ = next.0 ∷ next.1.0 ∷ [] in (
+      front ++ two,
+      (
+        append_assoc front two more ∙ ap (λ xs. front ++ xs) (sym next.1.1.0) ∙ is,
+        pairs_append front bytes two (byte ∷ []) h (next.1.1.1, tt),
+      ),
+    )

@@ -1,0 +1,84 @@
+//! The bytes that pairs of hexadecimal digits stand for, many at once.
+ghost use Rattle.std.specs.Prelude.{◌≡◌, ◌<◌, ◌≤◌, length, Some, true, IfSome};
+ghost use Rattle.std.specs.List.{list_all};
+ghost use Rattle.hex.specs.Hex.{hex_digit_value, is_hex_digit};
+ghost use Rattle.schedule_text.specs.Values.{bytes_value};
+ghost use Rattle.schedule_text.specs.Pairs.{IsNextPair, IsPairs};
+
+use crate::rules::is_hex;
+use crate::values::pair_of;
+use std::alloc::Global;
+
+/// How many digits are read at once.
+const AT_ONCE: usize = 32;
+
+/// The bytes of pairs of hexadecimal digits, of either case, if there is memory for them. It reads a long message in far less time
+/// than the kit's decoder, which reads digit by digit.
+pub(crate) fn bytes_of(alloc: Global, digits: &[u8]) -> Option<Vec<u8>>
+    ensures { IfSome result (λ bytes. bytes_value digits.now ≡ Some bytes.items) }
+{
+    let mut bytes = Vec::with_capacity(alloc, digits.len() / 2).ok()?;
+    let mut left = digits;
+    'pieces: while let Some((piece, more)) = left.split_first_chunk::<AT_ONCE>() {
+        if !all_hex(piece) {
+            return None;
+        }
+        match bytes.extend_from_slice(&many_bytes(piece)) {
+            Ok(()) => {}
+            Err(_) => return None,
+        }
+        left = more;
+    }
+    'pairs: while let Some((byte, more)) = next_pair(left) {
+        match bytes.push(byte) {
+            Ok(()) => {}
+            Err(_) => return None,
+        }
+        left = more;
+    }
+    if left.is_empty() { Some(bytes) } else { None }
+}
+
+/// The byte of the next two digits, and what stands behind them.
+#[inline(always)]
+fn next_pair(digits: &[u8]) -> Option<(u8, &[u8])>
+    ensures { IfSome result (λ found. IsNextPair digits.now found.0 found.1.now) }
+{
+    let (high, behind) = digits.split_first()?;
+    let (low, more) = behind.split_first()?;
+    Some((pair_of(*high, *low)?, more))
+}
+
+/// Whether all digits are hexadecimal. All of them are looked at, so that many are tested at once.
+#[inline(always)]
+fn all_hex(digits: &[u8; AT_ONCE]) -> bool
+    ensures { result ≡ list_all is_hex_digit digits.now }
+{
+    let mut right = true;
+    for digit in digits {
+        right &= is_hex(*digit);
+    }
+    right
+}
+
+/// The bytes of pairs of hexadecimal digits.
+#[inline(always)]
+fn many_bytes(digits: &[u8; AT_ONCE]) -> [u8; 16]
+    requires { list_all is_hex_digit digits.now ≡ true }
+    ensures { IsPairs digits.now result }
+{
+    let mut bytes = [0; 16];
+    'bytes: for i in 0..16 {
+        bytes[i] = value_of(digits[2 * i]) * 16 + value_of(digits[2 * i + 1]);
+    }
+    bytes
+}
+
+/// The value of a hexadecimal digit, without a branch, so that many values are made at once.
+#[inline(always)]
+fn value_of(digit: u8) -> u8
+    ensures value { is_hex_digit digit ≡ true → hex_digit_value digit ≡ Some result }
+    ensures small { result < 16 }
+{
+    (digit % 16 + digit / 64 * 9) % 16
+}
