@@ -12,15 +12,16 @@ use Rattle.trace_model.specs.declared.line.Line.TheVariants as line
 use Rattle.schedule_text.specs.declared.forms.Kind.TheVariants as kind
 use Rattle.schedule_text.specs.declared.read.Read.TheVariants as read
 use Rattle.schedule_text.specs.Values.{number_in, byte_value, bytes_value, side_value, end_value}
-use Rattle.schedule_text.specs.Forms.{row_for, send_row, deliver_row, lose_row, reset_row, tick_row}
-use Rattle.schedule_text.specs.Lines.{by_row, number_at}
+use Rattle.schedule_text.specs.Forms.{row_for, send_row, deliver_row, lose_row, damage_row, tick_row, reset_row, busy_row, ready_row}
+use Rattle.schedule_text.specs.Lines.{by_row}
+use Rattle.schedule_text.specs.AtOnce.{EndAndWord}
 use Rattle.schedule_text.specs.Words.{words, spaced}
 use Rattle.schedule_text.proofs.WordsLemmas.{is_letter}
 use Rattle.schedule_text.proofs.AgainLemmas.{IsWord, words-spaced}
 use Rattle.schedule_text.proofs.HexLemmas.{no_high, no_low, byte_of_others}
 use Rattle.schedule_text.proofs.LinesLemmas.{ok_of}
 use Rattle.schedule_text.proofs.RowsLemmas.{Fits}
-use Rattle.schedule_text.proofs.ReadAgainLemmas.{again}
+use Rattle.schedule_text.proofs.ReadAgainLemmas.{again, again_bare}
 
 -- three words that fit their kinds
 pub sends : (header : Header) (ws : List (List ℕ)) (a b c : List ℕ) → ws ≡ a ∷ b ∷ c ∷ [] → (at : Fits header.hci header.hosts.items 0 kind.Sender a)
@@ -55,12 +56,49 @@ resets header ws a is at =
     subst P (sym is)
     (sym (again header.hci header.hosts.items reset_row (a ∷ []) _ (record { least = omega arith; most = omega arith; words = (at, tt) }) (rw at.1 refl)))
 
+-- the same where there are no nodes
+pub busies : (header : Header) (ws : List (List ℕ)) (a : List ℕ) → ws ≡ a ∷ [] → header.hci ≡ false → (at : Fits header.hci header.hosts.items 0 kind.End a)
+    → Ok (read.Line (line.Busy at.0)) ≡ by_row (Some header) (row_for (codes "busy") ws) ws
+busies header ws a is bare at =
+    let P : List (List ℕ) → Type 0 = λ l. Ok (read.Line (line.Busy at.0)) ≡ by_row (Some header) (row_for (codes "busy") l) l in
+    subst P (sym is)
+    (sym (again_bare header busy_row (a ∷ []) _ bare (record { least = omega arith; most = omega arith; words = (at, tt) }) (rw at.1 refl)))
+
+pub readies : (header : Header) (ws : List (List ℕ)) (a : List ℕ) → ws ≡ a ∷ [] → header.hci ≡ false → (at : Fits header.hci header.hosts.items 0 kind.End a)
+    → Ok (read.Line (line.Ready at.0)) ≡ by_row (Some header) (row_for (codes "ready") ws) ws
+readies header ws a is bare at =
+    let P : List (List ℕ) → Type 0 = λ l. Ok (read.Line (line.Ready at.0)) ≡ by_row (Some header) (row_for (codes "ready") l) l in
+    subst P (sym is)
+    (sym (again_bare header ready_row (a ∷ []) _ bare (record { least = omega arith; most = omega arith; words = (at, tt) }) (rw at.1 refl)))
+
+-- an end and a number from 1 to 4
+pub resets_with : (header : Header) (ws : List (List ℕ)) (at : End) (b : List ℕ) → EndAndWord header.hosts.items ws at b → (n : ℕ) → number_in 1 4 b ≡ Some n
+    → Ok (read.Line (line.Reset at (Some n))) ≡ by_row (Some header) (row_for (codes "reset") ws) ws
+resets_with header ws at b found n number =
+    let P : List (List ℕ) → Type 0 = λ l. Ok (read.Line (line.Reset at (Some n))) ≡ by_row (Some header) (row_for (codes "reset") l) l in
+    let is_end = found.1.1 in
+    subst P (sym found.1.0)
+    (sym (again header.hci header.hosts.items reset_row (found.0 ∷ b ∷ []) _
+    (record { least = omega arith; most = omega arith; words = ((at, is_end.0, is_end.1), ((n, number), tt)) })
+    (rw (is_end.0, number) refl)))
+
+-- an end and one place of a bit
+pub damages : (header : Header) (ws : List (List ℕ)) (at : End) (b : List ℕ) → EndAndWord header.hosts.items ws at b → (p : ℕ) → number_in 0 399 b ≡ Some p
+    → Ok (read.Line (line.Damage at (record { items = p ∷ [] }))) ≡ by_row (Some header) (row_for (codes "damage") ws) ws
+damages header ws at b found p number =
+    let P : List (List ℕ) → Type 0 =
+    λ l. Ok (read.Line (line.Damage at (record { items = p ∷ [] }))) ≡ by_row (Some header) (row_for (codes "damage") l) l in
+    let is_end = found.1.1 in
+    subst P (sym found.1.0)
+    (sym (again header.hci header.hosts.items damage_row (found.0 ∷ b ∷ []) _
+    (record { least = omega arith; most = omega arith; words = ((at, is_end.0, is_end.1), ((p, number), tt)) })
+    (rw (is_end.0, number) refl)))
+
 -- a number from 1 to 100
-pub ticks : (header : Header) (ws : List (List ℕ)) (a : List ℕ) → ws ≡ a ∷ [] → (n : ℕ) → number_at 100 ws 0 ≡ Some n
+pub ticks : (header : Header) (ws : List (List ℕ)) (a : List ℕ) → ws ≡ a ∷ [] → (n : ℕ) → number_in 1 100 a ≡ Some n
     → Ok (read.Line (line.Tick (Some n))) ≡ by_row (Some header) (row_for (codes "tick") ws) ws
-ticks header ws a is n at =
+ticks header ws a is n number =
     let P : List (List ℕ) → Type 0 = λ l. Ok (read.Line (line.Tick (Some n))) ≡ by_row (Some header) (row_for (codes "tick") l) l in
-    let number : number_in 1 100 a ≡ Some n = sym (ap (λ l. number_at 100 l 0) is) ∙ at in
     subst P (sym is)
     (sym (again header.hci header.hosts.items tick_row (a ∷ []) _ (record { least = omega arith; most = omega arith; words = ((n, number), tt) })
     (rw number refl)))

@@ -150,7 +150,7 @@ pub again : (hci : Bool) (hosts : List ℕ) (row : FormRow) (ws : List (List ℕ
     → unless_fault (words_fault hci hosts row ws) (read_of row.name ws) ≡ Ok r
 again hci hosts row ws r right reads = rw (right_words hci hosts row ws right, reads) refl
 
-again_bare : (header : Header) (row : FormRow) (ws : List (List ℕ)) (r : Read) → header.hci ≡ false → Right header.hci header.hosts.items row ws
+pub again_bare : (header : Header) (row : FormRow) (ws : List (List ℕ)) (r : Read) → header.hci ≡ false → Right header.hci header.hosts.items row ws
     → read_of row.name ws ≡ Some r
     → cond (not header.hci) (unless_fault (words_fault header.hci header.hosts.items row ws) (read_of row.name ws)) (Err fault.Order) ≡ Ok r
 again_bare header row ws r bare right reads =

@@ -1,4 +1,5 @@
 pub mod Answers
+pub mod AtOnce
 pub mod Entries
 pub mod Forms
 pub mod Growth

@@ -1,6 +1,6 @@
 //! Lines of the few forms that most lines have are read at once where they have no fault and their words stand as they are written.
 //! Each other line is left to the table of the forms.
-ghost use Rattle.std.specs.Prelude.{◌≡◌, ◌==◌, ◌||◌, ◌≤◌, not, [], ◌∷◌, length, codes, Some, None, Ok, IfSome};
+ghost use Rattle.std.specs.Prelude.{◌≡◌, ◌==◌, ◌||◌, ◌≤◌, not, false, [], ◌∷◌, length, codes, Some, None, Ok, IfSome};
 ghost use Rattle.std.specs.List.{list_any};
 ghost use Rattle.trace_model.specs.declared.line.Line.TheVariants as line;
 ghost use Rattle.schedule_text.specs.declared.read.Read.TheVariants as read;
@@ -9,19 +9,25 @@ ghost use Rattle.schedule_text.specs.Words.{words, spaced};
 ghost use Rattle.schedule_text.specs.Values.{bytes_value};
 ghost use Rattle.schedule_text.specs.Forms.{row_for};
 ghost use Rattle.schedule_text.specs.Lines.{by_row, line_of};
+ghost use Rattle.schedule_text.specs.AtOnce.{EndAndWord};
 
 use crate::pairs::bytes_of;
-use crate::read::{MAX_LINE, number_at};
-use crate::values::{byte_of, end_of};
-use crate::words::{behind_deliver, behind_send, next_word};
+use crate::read::{MAX_LINE, small_number};
+use crate::values::{byte_of, end_of, number_of};
+use crate::words::{
+    behind_busy, behind_damage, behind_deliver, behind_lose, behind_ready, behind_reset,
+    behind_send, behind_tick, next_word,
+};
+use arrayvec::ArrayVec;
 use std::alloc::Global;
 use trace_model::{End, Header, Line, Octets};
 
 /// The most digits of a message (this project's own).
 const MOST_DIGITS: usize = 9000;
 
-/// The line below a header that has one of the forms `send`, `deliver`, `lose`, `reset` and `tick`, if it has no fault, its words stand
-/// as they are written and there is memory for its message. `None` says nothing of a line: `read_line` reads each.
+/// The line below a header that has one of the forms `send`, `deliver`, `lose`, `damage`, `reset`, `tick`, `ready` and `busy`, if it has
+/// no fault, its words stand as they are written and there is memory for its message. `None` says nothing of a line: `read_line` reads
+/// each.
 pub fn read_at_once(alloc: Global, header: &Header, bytes: &[u8]) -> Option<Line>
     ensures said { IfSome result (λ said. line_of (Some header.now) bytes.now ≡ Ok (read.Line said)) }
     ensures follows { IfSome result (λ said. MayFollow header.now said) }
@@ -40,29 +46,93 @@ pub fn read_at_once(alloc: Global, header: &Header, bytes: &[u8]) -> Option<Line
     other_at_once(header, bytes)
 }
 
-/// The line, if it begins with another word.
+/// The line, if it begins with another word that may stand in each world.
 #[inline(never)]
 fn other_at_once(header: &Header, bytes: &[u8]) -> Option<Line>
     requires { length bytes.now ≤ 9000 }
     ensures said { IfSome result (λ said. line_of (Some header.now) bytes.now ≡ Ok (read.Line said)) }
     ensures follows { IfSome result (λ said. MayFollow header.now said) }
 {
-    let (first, rest) = next_word(bytes)?;
-    match first {
-        b"lose" => {
-            let at = end_at_once(header, rest)?;
-            Some(Line::Lose { at })
-        }
-        b"reset" => {
-            let at = end_at_once(header, rest)?;
-            Some(Line::Reset { at, window: None })
-        }
-        b"tick" => {
-            let times = tick_at_once(header, rest)?;
-            Some(Line::Tick { times: Some(times) })
-        }
-        _ => None,
+    if let Some(rest) = behind_lose(bytes) {
+        let at = end_at_once(header, rest)?;
+        return Some(Line::Lose { at });
     }
+    if let Some(rest) = behind_tick(bytes) {
+        let times = tick_at_once(header, rest)?;
+        return Some(Line::Tick { times: Some(times) });
+    }
+    if let Some(rest) = behind_reset(bytes) {
+        return reset_at_once(header, rest);
+    }
+    if let Some(rest) = behind_damage(bytes) {
+        return damage_at_once(header, rest);
+    }
+    bare_at_once(header, bytes)
+}
+
+/// The line, if it begins with a word that may stand in a world without nodes alone.
+#[inline(always)]
+fn bare_at_once(header: &Header, bytes: &[u8]) -> Option<Line>
+    requires { length bytes.now ≤ 9000 }
+    ensures said { IfSome result (λ said. line_of (Some header.now) bytes.now ≡ Ok (read.Line said)) }
+    ensures follows { IfSome result (λ said. MayFollow header.now said) }
+{
+    if header.hci {
+        return None;
+    }
+    if let Some(rest) = behind_ready(bytes) {
+        let at = end_at_once(header, rest)?;
+        return Some(Line::Ready { at });
+    }
+    if let Some(rest) = behind_busy(bytes) {
+        let at = end_at_once(header, rest)?;
+        return Some(Line::Busy { at });
+    }
+    None
+}
+
+/// The line `reset E` or `reset E W`, if it has no fault.
+#[inline(always)]
+fn reset_at_once(header: &Header, rest: &[u8]) -> Option<Line>
+    ensures said { IfSome result (λ said. Ok (read.Line said)
+        ≡ by_row (Some header.now) (row_for (codes "reset") (words rest.now)) (words rest.now)) }
+    ensures follows { IfSome result (λ said. MayFollow header.now said) }
+{
+    if let Some(at) = end_at_once(header, rest) {
+        return Some(Line::Reset { at, window: None });
+    }
+    let (at, second) = end_and_word(header, rest)?;
+    let window = small_number(second, 4)?;
+    Some(Line::Reset {
+        at,
+        window: Some(window),
+    })
+}
+
+/// The line `damage E P` that damages one bit, if it has no fault.
+#[inline(always)]
+fn damage_at_once(header: &Header, rest: &[u8]) -> Option<Line>
+    ensures said { IfSome result (λ said. Ok (read.Line said)
+        ≡ by_row (Some header.now) (row_for (codes "damage") (words rest.now)) (words rest.now)) }
+    ensures follows { IfSome result (λ said. MayFollow header.now said) }
+{
+    let (at, second) = end_and_word(header, rest)?;
+    let mut places = ArrayVec::new();
+    places.push(number_of(second, 0, 399)?);
+    Some(Line::Damage { at, places })
+}
+
+/// The end that the first of two words names, if the world has it, and the second one.
+fn end_and_word<'a>(header: &Header, rest: &'a [u8]) -> Option<(End, &'a [u8])>
+    ensures { IfSome result (λ found. EndAndWord header.now.hosts.items (words rest.now) found.0 found.1.now) }
+{
+    let (first, more) = next_word(rest)?;
+    let (second, more) = next_word(more)?;
+    let at = end_of(first)?;
+    if !knows(header, at.link) || next_word(more).is_some() {
+        return None;
+    }
+    Some((at, second))
 }
 
 /// The end, the pipe and the message of a line `send E PID HEX`, if it has no fault, one space stands before each word and there is
@@ -132,6 +202,10 @@ fn end_at_once(header: &Header, rest: &[u8]) -> Option<End>
         ≡ by_row (Some header.now) (row_for (codes "lose") (words rest.now)) (words rest.now)) }
     ensures reset { IfSome result (λ at. Ok (read.Line (line.Reset at None))
         ≡ by_row (Some header.now) (row_for (codes "reset") (words rest.now)) (words rest.now)) }
+    ensures busy { header.now.hci ≡ false → IfSome result (λ at. Ok (read.Line (line.Busy at))
+        ≡ by_row (Some header.now) (row_for (codes "busy") (words rest.now)) (words rest.now)) }
+    ensures ready { header.now.hci ≡ false → IfSome result (λ at. Ok (read.Line (line.Ready at))
+        ≡ by_row (Some header.now) (row_for (codes "ready") (words rest.now)) (words rest.now)) }
 {
     let at = end_of(behind_space(rest)?)?;
     if knows(header, at.link) {
@@ -147,11 +221,12 @@ fn tick_at_once(header: &Header, rest: &[u8]) -> Option<u8>
     ensures { IfSome result (λ times. Ok (read.Line (line.Tick (Some times)))
         ≡ by_row (Some header.now) (row_for (codes "tick") (words rest.now)) (words rest.now)) }
 {
-    let (_, more) = next_word(rest)?;
+    let (word, more) = next_word(rest)?;
     if next_word(more).is_some() {
         return None;
     }
-    number_at(rest, 0, 100)
+    let times = small_number(word, 100)?;
+    Some(times)
 }
 
 /// Whether the header names a host.

@@ -4,7 +4,7 @@ ghost use Rattle.std.specs.Option.{option_copied, option_map};
 ghost use Rattle.schedule_text.specs.declared.forms.Name.TheVariants as name;
 ghost use Rattle.schedule_text.specs.declared.read.Read.TheVariants as read;
 ghost use Rattle.schedule_text.specs.Words.{words};
-ghost use Rattle.schedule_text.specs.Values.{byte_value, sized_value};
+ghost use Rattle.schedule_text.specs.Values.{byte_value, number_in, sized_value};
 ghost use Rattle.schedule_text.specs.Lines.{is_comment, may_stand, has_nodes, hosts_of, by_row, end_at, byte_in_word, number_at, bit_places};
 ghost use Rattle.schedule_text.specs.Lines.{each_word, read_of, line_of};
 ghost use Rattle.schedule_text.specs.Forms.{row_for};
@@ -186,10 +186,17 @@ fn byte_at(rest: &[u8], k: usize) -> Option<u8>
     byte_of(word_at(rest, k)?)
 }
 
-pub(crate) fn number_at(rest: &[u8], k: usize, high: u8) -> Option<u8>
+fn number_at(rest: &[u8], k: usize, high: u8) -> Option<u8>
     ensures { result ≡ number_at high (words rest.now) k }
 {
-    let number = number_of(word_at(rest, k)?, 1, u16::from(high))?;
+    small_number(word_at(rest, k)?, high)
+}
+
+/// The number of a word, from 1 to `high`.
+pub(crate) fn small_number(word: &[u8], high: u8) -> Option<u8>
+    ensures { result ≡ number_in 1 high word.now }
+{
+    let number = number_of(word, 1, u16::from(high))?;
     u8::try_from(number).ok()
 }
 

@@ -43,6 +43,72 @@ pub(crate) fn behind_deliver(line: &[u8]) -> Option<&[u8]>
     }
 }
 
+/// What stands behind the word `lose` at the front of a line, if a space does.
+#[inline(always)]
+pub(crate) fn behind_lose(line: &[u8]) -> Option<&[u8]>
+    ensures { IfSome result (λ rest. words line.now ≡ codes "lose" ∷ words rest.now) }
+{
+    match line {
+        [b'l', b'o', b's', b'e', b' ', ..] => Some(line.split_at(4).1),
+        _ => None,
+    }
+}
+
+/// What stands behind the word `tick` at the front of a line, if a space does.
+#[inline(always)]
+pub(crate) fn behind_tick(line: &[u8]) -> Option<&[u8]>
+    ensures { IfSome result (λ rest. words line.now ≡ codes "tick" ∷ words rest.now) }
+{
+    match line {
+        [b't', b'i', b'c', b'k', b' ', ..] => Some(line.split_at(4).1),
+        _ => None,
+    }
+}
+
+/// What stands behind the word `reset` at the front of a line, if a space does.
+#[inline(always)]
+pub(crate) fn behind_reset(line: &[u8]) -> Option<&[u8]>
+    ensures { IfSome result (λ rest. words line.now ≡ codes "reset" ∷ words rest.now) }
+{
+    match line {
+        [b'r', b'e', b's', b'e', b't', b' ', ..] => Some(line.split_at(5).1),
+        _ => None,
+    }
+}
+
+/// What stands behind the word `damage` at the front of a line, if a space does.
+#[inline(always)]
+pub(crate) fn behind_damage(line: &[u8]) -> Option<&[u8]>
+    ensures { IfSome result (λ rest. words line.now ≡ codes "damage" ∷ words rest.now) }
+{
+    match line {
+        [b'd', b'a', b'm', b'a', b'g', b'e', b' ', ..] => Some(line.split_at(6).1),
+        _ => None,
+    }
+}
+
+/// What stands behind the word `busy` at the front of a line, if a space does.
+#[inline(always)]
+pub(crate) fn behind_busy(line: &[u8]) -> Option<&[u8]>
+    ensures { IfSome result (λ rest. words line.now ≡ codes "busy" ∷ words rest.now) }
+{
+    match line {
+        [b'b', b'u', b's', b'y', b' ', ..] => Some(line.split_at(4).1),
+        _ => None,
+    }
+}
+
+/// What stands behind the word `ready` at the front of a line, if a space does.
+#[inline(always)]
+pub(crate) fn behind_ready(line: &[u8]) -> Option<&[u8]>
+    ensures { IfSome result (λ rest. words line.now ≡ codes "ready" ∷ words rest.now) }
+{
+    match line {
+        [b'r', b'e', b'a', b'd', b'y', b' ', ..] => Some(line.split_at(5).1),
+        _ => None,
+    }
+}
+
 fn first_letter(line: &[u8]) -> Option<usize>
     ensures { result ≡ position (λ b. not (b == 32)) line.now }
 {
