@@ -26,71 +26,78 @@ pub(crate) fn has_room<N: Nv + Drop>(store: &mut Store<N>, command: &Command) ->
 }
 
 /// The message is dropped.
-pub(crate) fn dropped(pipe: u8) -> Deeds
-    ensures { result.items ≡ kept.Drops pipe ∷ [] }
+pub(crate) fn dropped(deeds: &mut Deeds, pipe: u8)
+    requires none { deeds.old.items ≡ [] }
+    ensures { deeds.new.items ≡ kept.Drops pipe ∷ [] }
 {
-    only(Deed::Drops { pipe })
+    only(deeds, Deed::Drops { pipe });
 }
 
 /// The message goes on to a host.
-pub(crate) fn passed_on(host: u8) -> Deeds
-    ensures { result.items ≡ kept.PassesOn host ∷ [] }
+pub(crate) fn passed_on(deeds: &mut Deeds, host: u8)
+    requires none { deeds.old.items ≡ [] }
+    ensures { deeds.new.items ≡ kept.PassesOn host ∷ [] }
 {
-    only(Deed::PassesOn { host })
+    only(deeds, Deed::PassesOn { host });
 }
 
 /// An answer to a host on the pipe of its command.
-pub(crate) fn answered(host: u8, pipe: u8, message: Answer) -> Deeds
-    ensures { result.items ≡ kept.Sends host pipe message ∷ [] }
+pub(crate) fn answered(deeds: &mut Deeds, host: u8, pipe: u8, message: Answer)
+    requires none { deeds.old.items ≡ [] }
+    ensures { deeds.new.items ≡ kept.Sends host pipe message ∷ [] }
 {
-    only(Deed::Sends {
-        host,
-        pipe,
-        message,
-    })
+    only(
+        deeds,
+        Deed::Sends {
+            host,
+            pipe,
+            message,
+        },
+    );
 }
 
 /// An answer of this code alone.
-pub(crate) fn refused_on(host: u8, pipe: u8, response: Response) -> Deeds
-    ensures { result.items ≡ kept.Sends host pipe (record { items = answer_of response [] }) ∷ [] }
+pub(crate) fn refused_on(deeds: &mut Deeds, host: u8, pipe: u8, response: Response)
+    requires none { deeds.old.items ≡ [] }
+    ensures { deeds.new.items ≡ kept.Sends host pipe (record { items = answer_of response [] }) ∷ [] }
 {
-    answered(host, pipe, refused(response))
+    answered(deeds, host, pipe, refused(response));
 }
 
 /// A command is committed and answered.
-pub(crate) fn committed(host: u8, pipe: u8, command: Command, message: Answer) -> Deeds
-    ensures { result.items ≡ kept.Commits command ∷ kept.Sends host pipe message ∷ kept.SaysOk ∷ [] }
+pub(crate) fn committed(deeds: &mut Deeds, host: u8, pipe: u8, command: Command, message: Answer)
+    requires none { deeds.old.items ≡ [] }
+    ensures { deeds.new.items ≡ kept.Commits command ∷ kept.Sends host pipe message ∷ kept.SaysOk ∷ [] }
 {
-    let mut deeds = only(Deed::Commits(command));
+    only(deeds, Deed::Commits(command));
     deeds.push(Deed::Sends {
         host,
         pipe,
         message,
     });
     deeds.push(Deed::SaysOk);
-    deeds
 }
 
 /// The answer of the link management gate of an end, and REC_ERROR where it is set.
-pub(crate) fn link_answered(errors: u16, host: u8, pipe: u8, message: &[u8]) -> Deeds
+pub(crate) fn link_answered(deeds: &mut Deeds, errors: u16, host: u8, pipe: u8, message: &[u8])
     requires pipe { pipe < 112 }
     requires command { IsCommandMessage message.now }
-    ensures deeds { (a : Handling) → deeds_shown a result.items
+    requires none { deeds.old.items ≡ [] }
+    ensures deeds { (a : Handling) → deeds_shown a deeds.new.items
         ≡ link_deeds host pipe (link_served errors (instruction_in message.now) (body_in message.now)) }
-    ensures doable { AreDoable result.items }
+    ensures doable { AreDoable deeds.new.items }
 {
     let (answer, set) = gate_link::serve(errors, message);
     match set {
         Some(errors) => {
-            let mut deeds = only(Deed::SetsErrors { errors });
+            only(deeds, Deed::SetsErrors { errors });
             deeds.push(Deed::Sends {
                 host,
                 pipe,
                 message: answer,
             });
-            deeds
         }
-        None => answered(host, pipe, answer),
+        None => answered(deeds, host, pipe, answer),
     }
 }
 

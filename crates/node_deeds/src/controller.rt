@@ -1,5 +1,5 @@
 //! What a controller does with a message of a host.
-ghost use Rattle.std.specs.Prelude.{◌≡◌, ℕ, ◌≤◌, ◌<◌, ◌==◌, ◌&&◌, if◌then◌else◌, List, length, None};
+ghost use Rattle.std.specs.Prelude.{◌≡◌, [], ℕ, ◌≤◌, ◌<◌, ◌==◌, ◌&&◌, if◌then◌else◌, List, length, None};
 ghost use Rattle.std.specs.List.{list_any};
 ghost use Rattle.hcp_packet.specs.MessageHeader.{header_of};
 ghost use Rattle.gate_answers.specs.Answers.{IsCommandMessage, instruction_in, body_in};
@@ -49,32 +49,63 @@ pub fn controller_deeds<N: Nv + Drop>(
     ensures doable { AreDoable result.items }
     ensures unchanged { store.new ≡ store.old }
 {
+    let mut deeds = Deeds::new();
+    put_controller_deeds(&mut deeds, store, desks, up, host, pipe, message);
+    deeds
+}
+
+/// What a controller does with a message of a host is put into a list, which is empty, in order. It asks for the same as
+/// `controller_deeds`, and spares its caller a copy of the list.
+pub fn put_controller_deeds<N: Nv + Drop>(
+    deeds: &mut Deeds,
+    store: &mut Store<N>,
+    desks: &[Desk],
+    up: u8,
+    host: u8,
+    pipe: u8,
+    message: &[u8],
+)
+    requires ready { IsReady store.old }
+    requires few { length desks.now ≤ 7 }
+    requires sound { AreSoundDesks desks.now }
+    requires some { 1 ≤ host }
+    requires host { host ≤ 7 }
+    requires pipe { pipe < 112 }
+    requires none { deeds.old.items ≡ [] }
+    ensures deeds { (core : Core) (ports : List Port) → IsCoreOf store.old core → AreSeen up desks.now ports
+        → deeds_shown (handled pipe message.now) deeds.new.items ≡ controller_deeds core ports host (pipe, message.now) }
+    ensures doable { AreDoable deeds.new.items }
+    ensures unchanged { store.new ≡ store.old }
+{
     match relayed_to(store.tables(), host, pipe, message) {
-        Some(other) => relayed(desks, up, host, other, pipe, message),
+        Some(other) => relayed(deeds, desks, up, host, other, pipe, message),
         None => {
             if is_linked(desks, up, host) {
-                own_deeds(store, desks, up, host, pipe, message)
+                own_deeds(deeds, store, desks, up, host, pipe, message)
             } else {
-                dropped(pipe)
+                dropped(deeds, pipe)
             }
         }
     }
 }
 
 // A message that is for another host. A command that can't go there is answered, where its own link is up.
-fn relayed(desks: &[Desk], up: u8, host: u8, other: u8, pipe: u8, message: &[u8]) -> Deeds
+fn relayed(deeds: &mut Deeds, desks: &[Desk], up: u8, host: u8, other: u8, pipe: u8, message: &[u8])
     requires pipe { pipe < 112 }
-    ensures deeds { deeds_shown (handled pipe message.now) result.items
+    requires none { deeds.old.items ≡ [] }
+    ensures deeds { deeds_shown (handled pipe message.now) deeds.new.items
         ≡ relay_deeds (ports_shown up desks.now) host (pipe, message.now) other (has_link (ports_shown up desks.now) other) }
-    ensures doable { AreDoable result.items }
+    ensures doable { AreDoable deeds.new.items }
 {
     if is_linked(desks, up, other) {
-        return passed_on(other);
+        passed_on(deeds, other);
+        return;
     }
     if is_linked(desks, up, host) && is_command(message) {
-        return refused_on(host, pipe, Response::NotConnected);
+        refused_on(deeds, host, pipe, Response::NotConnected);
+        return;
     }
-    dropped(pipe)
+    dropped(deeds, pipe)
 }
 
 fn is_command(message: &[u8]) -> bool
@@ -85,41 +116,49 @@ fn is_command(message: &[u8]) -> bool
 
 // A message that isn't relayed, of a host whose link is up. A command of one whose creation waits is dropped on pipe 01.
 fn own_deeds<N: Nv + Drop>(
+    deeds: &mut Deeds,
     store: &mut Store<N>,
     desks: &[Desk],
     up: u8,
     host: u8,
     pipe: u8,
     message: &[u8],
-) -> Deeds
+)
     requires ready { IsReady store.old }
     requires few { length desks.now ≤ 7 }
     requires sound { AreSoundDesks desks.now }
     requires some { 1 ≤ host }
     requires host { host ≤ 7 }
     requires pipe { pipe < 112 }
-    ensures deeds { deeds_shown (handled pipe message.now) result.items
+    requires none { deeds.old.items ≡ [] }
+    ensures deeds { deeds_shown (handled pipe message.now) deeds.new.items
         ≡ kind_deeds (controller_core store.old.journal.state store.old.tables) (ports_shown up desks.now) host (pipe, message.now) (header_of message.now) }
-    ensures doable { AreDoable result.items }
+    ensures doable { AreDoable deeds.new.items }
     ensures unchanged { store.new ≡ store.old }
 {
     match read_header(message) {
         Ok((MessageKind::Command, _instruction)) => {
             if is_waiting(desks, host, pipe) {
-                dropped(pipe)
+                dropped(deeds, pipe)
             } else {
-                commanded(store, desks, up, host, pipe, message)
+                commanded(deeds, store, desks, up, host, pipe, message)
             }
         }
-        Ok((MessageKind::Event, _instruction)) => posted(store.tables(), host, pipe, message),
+        Ok((MessageKind::Event, _instruction)) => posted(
+            deeds,
+            store.tables(),
+            host,
+            pipe,
+            message,
+        ),
         Ok((MessageKind::Response, code)) => {
             if pipe == ADMINISTRATION_PIPE {
-                replied(store, desks, host, code)
+                replied(deeds, store, desks, host, code)
             } else {
-                dropped(pipe)
+                dropped(deeds, pipe)
             }
         }
-        Err(_fault) => dropped(pipe),
+        Err(_fault) => dropped(deeds, pipe),
     }
 }
 
@@ -132,30 +171,32 @@ fn is_waiting(desks: &[Desk], host: u8, pipe: u8) -> bool
 
 // A command of a host: one of its gates serves it, or the administration gate decides.
 fn commanded<N: Nv + Drop>(
+    deeds: &mut Deeds,
     store: &mut Store<N>,
     desks: &[Desk],
     up: u8,
     host: u8,
     pipe: u8,
     message: &[u8],
-) -> Deeds
+)
     requires ready { IsReady store.old }
     requires few { length desks.now ≤ 7 }
     requires some { 1 ≤ host }
     requires host { host ≤ 7 }
     requires pipe { pipe < 112 }
     requires command { IsCommandMessage message.now }
-    ensures deeds { deeds_shown (handled pipe message.now) result.items
+    requires none { deeds.old.items ≡ [] }
+    ensures deeds { deeds_shown (handled pipe message.now) deeds.new.items
         ≡ command_deeds (controller_core store.old.journal.state store.old.tables) (ports_shown up desks.now) host pipe
         (instruction_in message.now) (body_in message.now) }
-    ensures doable { AreDoable result.items }
+    ensures doable { AreDoable deeds.new.items }
     ensures unchanged { store.new ≡ store.old }
 {
     match gate_for(store.tables(), host, pipe, instruction_of(message)) {
-        Some(gate) => served(errors_at(desks, host), host, pipe, gate, message),
+        Some(gate) => served(deeds, errors_at(desks, host), host, pipe, gate, message),
         None => {
             let view = view_for(store.tables(), desks, up, host);
-            administered(store, &view, host, pipe, message)
+            administered(deeds, store, &view, host, pipe, message)
         }
     }
 }
@@ -172,31 +213,33 @@ fn gate_for(tables: &Tables, host: u8, pipe: u8, instruction: u8) -> Option<u8>
 }
 
 // A command to a gate of the controller but administration, on a pipe that is opened.
-fn served(errors: u16, host: u8, pipe: u8, gate: u8, message: &[u8]) -> Deeds
+fn served(deeds: &mut Deeds, errors: u16, host: u8, pipe: u8, gate: u8, message: &[u8])
     requires pipe { pipe < 112 }
     requires command { IsCommandMessage message.now }
-    ensures deeds { deeds_shown (handled pipe message.now) result.items
+    requires none { deeds.old.items ≡ [] }
+    ensures deeds { deeds_shown (handled pipe message.now) deeds.new.items
         ≡ gate_deeds gate errors host pipe (instruction_in message.now) (body_in message.now) }
-    ensures doable { AreDoable result.items }
+    ensures doable { AreDoable deeds.new.items }
 {
     match gate {
-        LINK_MANAGEMENT_GATE => link_answered(errors, host, pipe, message),
-        IDENTITY_GATE => answered(host, pipe, gate_identity::serve(&GATES, message)),
-        _ => refused_on(host, pipe, Response::CommandNotSupported),
+        LINK_MANAGEMENT_GATE => link_answered(deeds, errors, host, pipe, message),
+        IDENTITY_GATE => answered(deeds, host, pipe, gate_identity::serve(&GATES, message)),
+        _ => refused_on(deeds, host, pipe, Response::CommandNotSupported),
     }
 }
 
 // An event to the loopback gate goes back.
-fn posted(tables: &Tables, host: u8, pipe: u8, message: &[u8]) -> Deeds
-    ensures deeds { deeds_shown (handled pipe message.now) result.items ≡ event_deeds tables.now host (pipe, message.now) }
-    ensures doable { AreDoable result.items }
+fn posted(deeds: &mut Deeds, tables: &Tables, host: u8, pipe: u8, message: &[u8])
+    requires none { deeds.old.items ≡ [] }
+    ensures deeds { deeds_shown (handled pipe message.now) deeds.new.items ≡ event_deeds tables.now host (pipe, message.now) }
+    ensures doable { AreDoable deeds.new.items }
 {
     if is_opened(tables, host, pipe)
         && is_gate(LOOPBACK_GATE, own_gate(tables, host, pipe))
         && posts_back(message)
     {
-        passed_on(host)
+        passed_on(deeds, host)
     } else {
-        dropped(pipe)
+        dropped(deeds, pipe)
     }
 }

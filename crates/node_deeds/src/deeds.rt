@@ -64,13 +64,12 @@ impl Default for Deed {
 /// tells up to six others.
 pub type Deeds = ArrayVec<Deed, 9>;
 
-/// No deed but this one.
-pub(crate) fn only(deed: Deed) -> Deeds
-    ensures { result.items ≡ deed ∷ [] }
+/// No deed but this one is done.
+pub(crate) fn only(deeds: &mut Deeds, deed: Deed)
+    requires none { deeds.old.items ≡ [] }
+    ensures { deeds.new.items ≡ deed ∷ [] }
 {
-    let mut deeds = Deeds::new();
     deeds.push(deed);
-    deeds
 }
 
 /// The two ends of a pipe and its number, as the notice and the answer of its creation carry them.

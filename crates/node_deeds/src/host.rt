@@ -60,91 +60,126 @@ pub fn host_deeds<N: Nv + Drop>(
     ensures doable { AreDoable result.items }
     ensures unchanged { store.new ≡ store.old }
 {
+    let mut deeds = Deeds::new();
+    put_host_deeds(&mut deeds, store, desk, is_up, tasks, pipe, message);
+    deeds
+}
+
+/// What a host does with a message is put into a list, which is empty, in order. It asks for the same as `host_deeds`, and spares its
+/// caller a copy of the list.
+pub fn put_host_deeds<N: Nv + Drop>(
+    deeds: &mut Deeds,
+    store: &mut Store<N>,
+    desk: &Desk,
+    is_up: bool,
+    tasks: &Tasks,
+    pipe: u8,
+    message: &[u8],
+)
+    requires ready { IsReady store.old }
+    requires some { 1 ≤ desk.now.host }
+    requires host { desk.now.host ≤ 7 }
+    requires pipe { pipe < 112 }
+    requires none { deeds.old.items ≡ [] }
+    ensures deeds { (core : Core) (p : Port) → IsHostAt store.old desk.now is_up tasks.now core p
+        → deeds_shown (handled_by desk.now.host (init_running tasks.now.init) pipe message.now) deeds.new.items ≡ host_deeds core p (pipe, message.now) }
+    ensures doable { AreDoable deeds.new.items }
+    ensures unchanged { store.new ≡ store.old }
+{
     if is_up {
-        heard_of(store, desk, tasks, pipe, message)
+        heard_of(deeds, store, desk, tasks, pipe, message)
     } else {
-        dropped(pipe)
+        dropped(deeds, pipe)
     }
 }
 
 // A message of a link that is up.
 fn heard_of<N: Nv + Drop>(
+    deeds: &mut Deeds,
     store: &mut Store<N>,
     desk: &Desk,
     tasks: &Tasks,
     pipe: u8,
     message: &[u8],
-) -> Deeds
+)
     requires ready { IsReady store.old }
     requires some { 1 ≤ desk.now.host }
     requires host { desk.now.host ≤ 7 }
     requires pipe { pipe < 112 }
-    ensures deeds { deeds_shown (handled_by desk.now.host (init_running tasks.now.init) pipe message.now) result.items
+    requires none { deeds.old.items ≡ [] }
+    ensures deeds { deeds_shown (handled_by desk.now.host (init_running tasks.now.init) pipe message.now) deeds.new.items
         ≡ host_kind_deeds (host_core desk.now.host store.old.journal.state store.old.tables (init_running tasks.now.init))
         desk.now.errors tasks.now.command (pipe, message.now) (header_of message.now) }
-    ensures doable { AreDoable result.items }
+    ensures doable { AreDoable deeds.new.items }
     ensures unchanged { store.new ≡ store.old }
 {
     match read_header(message) {
         Ok((MessageKind::Command, _instruction)) => commanded(
+            deeds,
             store,
             desk.host,
             desk.errors,
             pipe,
             message,
         ),
-        Ok((MessageKind::Event, _instruction)) => posted(store.tables(), desk.host, pipe, message),
+        Ok((MessageKind::Event, _instruction)) => posted(
+            deeds,
+            store.tables(),
+            desk.host,
+            pipe,
+            message,
+        ),
         Ok((MessageKind::Response, code)) => {
             if pipe == ADMINISTRATION_PIPE {
-                heard(store, desk.host, tasks, code, body_in(message))
-            } else {
-                Deeds::new()
+                heard(deeds, store, desk.host, tasks, code, body_in(message));
             }
         }
-        Err(_fault) => Deeds::new(),
+        Err(_fault) => {}
     }
 }
 
 // A command: one on a pipe to the loopback gate is only noted.
 fn commanded<N: Nv + Drop>(
+    deeds: &mut Deeds,
     store: &mut Store<N>,
     host: u8,
     errors: u16,
     pipe: u8,
     message: &[u8],
-) -> Deeds
+)
     requires ready { IsReady store.old }
     requires some { 1 ≤ host }
     requires host { host ≤ 7 }
     requires pipe { pipe < 112 }
     requires command { IsCommandMessage message.now }
-    ensures deeds { (init : Option InitOf) → deeds_shown (handled_by host init pipe message.now) result.items
+    requires none { deeds.old.items ≡ [] }
+    ensures deeds { (init : Option InitOf) → deeds_shown (handled_by host init pipe message.now) deeds.new.items
         ≡ ordered_deeds (host_core host store.old.journal.state store.old.tables init) errors pipe
         (instruction_in message.now) (body_in message.now) }
-    ensures doable { AreDoable result.items }
+    ensures doable { AreDoable deeds.new.items }
     ensures unchanged { store.new ≡ store.old }
 {
     if pipe == ADMINISTRATION_PIPE {
-        return notified(store, host, message);
+        notified(deeds, store, host, message);
+        return;
     }
     if pipe == LINK_PIPE {
-        return link_answered(errors, host, pipe, message);
+        link_answered(deeds, errors, host, pipe, message);
+        return;
     }
     if is_gate(IDENTITY_GATE, gate_of_pipe(store.tables(), host, pipe)) {
-        return answered(host, pipe, gate_identity::serve(&GATES, message));
+        answered(deeds, host, pipe, gate_identity::serve(&GATES, message));
     }
-    Deeds::new()
 }
 
 // An event to the loopback gate goes back.
-fn posted(tables: &Tables, host: u8, pipe: u8, message: &[u8]) -> Deeds
-    ensures deeds { (init : Option InitOf) → deeds_shown (handled_by host init pipe message.now) result.items
+fn posted(deeds: &mut Deeds, tables: &Tables, host: u8, pipe: u8, message: &[u8])
+    requires none { deeds.old.items ≡ [] }
+    ensures deeds { (init : Option InitOf) → deeds_shown (handled_by host init pipe message.now) deeds.new.items
         ≡ (if is_gate 4 (gate_in (pipe_at tables.now.rows pipe) host) && posts_back message.now then Sends host (pipe, message.now) ∷ [] else []) }
-    ensures doable { AreDoable result.items }
+    ensures doable { AreDoable deeds.new.items }
 {
     if is_gate(LOOPBACK_GATE, gate_of_pipe(tables, host, pipe)) && posts_back(message) {
-        passed_on(host)
-    } else {
-        Deeds::new()
+        passed_on(deeds, host);
     }
 }

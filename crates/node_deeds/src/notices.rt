@@ -1,5 +1,5 @@
 //! What a host does with a command of its controller on pipe 01.
-ghost use Rattle.std.specs.Prelude.{◌≡◌, ℕ, ◌≤◌, ◌<◌, ◌^◌, ◌==◌, ◌&&◌, Option};
+ghost use Rattle.std.specs.Prelude.{◌≡◌, [], ℕ, ◌≤◌, ◌<◌, ◌^◌, ◌==◌, ◌&&◌, Option};
 ghost use Rattle.hci_tables.specs.Commands.{IsCommand};
 ghost use Rattle.gate_answers.specs.Answers.{IsCommandMessage, instruction_in, body_in};
 ghost use Rattle.node_machine.specs.Parts.{Init as InitOf};
@@ -24,59 +24,78 @@ use swp_base::Nv;
 const FIRST_FREE_GATE: u8 = 0x10;
 
 /// A command of the controller on pipe 01.
-pub(crate) fn notified<N: Nv + Drop>(store: &mut Store<N>, host: u8, message: &[u8]) -> Deeds
+pub(crate) fn notified<N: Nv + Drop>(
+    deeds: &mut Deeds,
+    store: &mut Store<N>,
+    host: u8,
+    message: &[u8],
+)
     requires ready { IsReady store.old }
     requires some { 1 ≤ host }
     requires host { host ≤ 7 }
     requires command { IsCommandMessage message.now }
-    ensures deeds { (a : Handling) (init : Option InitOf) → deeds_shown a result.items
+    requires none { deeds.old.items ≡ [] }
+    ensures deeds { (a : Handling) (init : Option InitOf) → deeds_shown a deeds.new.items
         ≡ notified_deeds (host_core host store.old.journal.state store.old.tables init) (instruction_in message.now) (body_in message.now) }
-    ensures doable { AreDoable result.items }
+    ensures doable { AreDoable deeds.new.items }
     ensures unchanged { store.new ≡ store.old }
 {
     let body = body_in(message);
     match instruction_of(message) {
-        ADM_NOTIFY_PIPE_CREATED => pipe_created(store, host, body),
-        ADM_NOTIFY_PIPE_DELETED => pipe_deleted(store, host, body),
-        ADM_NOTIFY_ALL_PIPE_CLEARED => pipes_cleared(store, host, body),
-        _ => refused_on(host, ADMINISTRATION_PIPE, Response::CommandNotSupported),
+        ADM_NOTIFY_PIPE_CREATED => pipe_created(deeds, store, host, body),
+        ADM_NOTIFY_PIPE_DELETED => pipe_deleted(deeds, store, host, body),
+        ADM_NOTIFY_ALL_PIPE_CLEARED => pipes_cleared(deeds, store, host, body),
+        _ => refused_on(
+            deeds,
+            host,
+            ADMINISTRATION_PIPE,
+            Response::CommandNotSupported,
+        ),
     }
 }
 
 // A command is committed and answered by ANY_OK.
-fn accepts<N: Nv + Drop>(store: &mut Store<N>, host: u8, command: Command) -> Deeds
+fn accepts<N: Nv + Drop>(deeds: &mut Deeds, store: &mut Store<N>, host: u8, command: Command)
     requires ready { IsReady store.old }
     requires command { IsCommand command }
-    ensures deeds { (a : Handling) (init : Option InitOf) → deeds_shown a result.items
+    requires none { deeds.old.items ≡ [] }
+    ensures deeds { (a : Handling) (init : Option InitOf) → deeds_shown a deeds.new.items
         ≡ accepts (host_core host store.old.journal.state store.old.tables init) command }
-    ensures doable { AreDoable result.items }
+    ensures doable { AreDoable deeds.new.items }
     ensures unchanged { store.new ≡ store.old }
 {
     if has_room(store, &command) {
-        committed(host, ADMINISTRATION_PIPE, command, refused(Response::Ok))
+        committed(
+            deeds,
+            host,
+            ADMINISTRATION_PIPE,
+            command,
+            refused(Response::Ok),
+        )
     } else {
-        refused_on(host, ADMINISTRATION_PIPE, Response::NotOk)
+        refused_on(deeds, host, ADMINISTRATION_PIPE, Response::NotOk)
     }
 }
 
 // ADM_NOTIFY_PIPE_CREATED.
-fn pipe_created<N: Nv + Drop>(store: &mut Store<N>, host: u8, body: &[u8]) -> Deeds
+fn pipe_created<N: Nv + Drop>(deeds: &mut Deeds, store: &mut Store<N>, host: u8, body: &[u8])
     requires ready { IsReady store.old }
     requires host { host ≤ 7 }
-    ensures deeds { (a : Handling) (init : Option InitOf) → deeds_shown a result.items
+    requires none { deeds.old.items ≡ [] }
+    ensures deeds { (a : Handling) (init : Option InitOf) → deeds_shown a deeds.new.items
         ≡ pipe_created (host_core host store.old.journal.state store.old.tables init) body.now }
-    ensures doable { AreDoable result.items }
+    ensures doable { AreDoable deeds.new.items }
     ensures unchanged { store.new ≡ store.old }
 {
     match pipe_named_in(body) {
         Some(row) => {
             if is_welcome(host, &row) {
-                accepts(store, host, Command::Create(row))
+                accepts(deeds, store, host, Command::Create(row))
             } else {
-                refused_on(host, ADMINISTRATION_PIPE, Response::NotOk)
+                refused_on(deeds, host, ADMINISTRATION_PIPE, Response::NotOk)
             }
         }
-        None => refused_on(host, ADMINISTRATION_PIPE, Response::NotOk),
+        None => refused_on(deeds, host, ADMINISTRATION_PIPE, Response::NotOk),
     }
 }
 
@@ -112,35 +131,52 @@ fn is_open_gate(gate: u8) -> bool
 }
 
 // ADM_NOTIFY_PIPE_DELETED: a pipe that the host doesn't keep is answered too.
-fn pipe_deleted<N: Nv + Drop>(store: &mut Store<N>, host: u8, body: &[u8]) -> Deeds
+fn pipe_deleted<N: Nv + Drop>(deeds: &mut Deeds, store: &mut Store<N>, host: u8, body: &[u8])
     requires ready { IsReady store.old }
-    ensures deeds { (a : Handling) (init : Option InitOf) → deeds_shown a result.items
+    requires none { deeds.old.items ≡ [] }
+    ensures deeds { (a : Handling) (init : Option InitOf) → deeds_shown a deeds.new.items
         ≡ pipe_deleted (host_core host store.old.journal.state store.old.tables init) body.now }
-    ensures doable { AreDoable result.items }
+    ensures doable { AreDoable deeds.new.items }
     ensures unchanged { store.new ≡ store.old }
 {
     match body {
         [pid] => {
             if store.tables().pipes().find(*pid).is_some() {
-                accepts(store, host, Command::Delete { pid: *pid })
+                accepts(deeds, store, host, Command::Delete { pid: *pid })
             } else {
-                refused_on(host, ADMINISTRATION_PIPE, Response::Ok)
+                refused_on(deeds, host, ADMINISTRATION_PIPE, Response::Ok)
             }
         }
-        _ => refused_on(host, ADMINISTRATION_PIPE, Response::CommandParameterUnknown),
+        _ => refused_on(
+            deeds,
+            host,
+            ADMINISTRATION_PIPE,
+            Response::CommandParameterUnknown,
+        ),
     }
 }
 
 // ADM_NOTIFY_ALL_PIPE_CLEARED.
-fn pipes_cleared<N: Nv + Drop>(store: &mut Store<N>, host: u8, body: &[u8]) -> Deeds
+fn pipes_cleared<N: Nv + Drop>(deeds: &mut Deeds, store: &mut Store<N>, host: u8, body: &[u8])
     requires ready { IsReady store.old }
-    ensures deeds { (a : Handling) (init : Option InitOf) → deeds_shown a result.items
+    requires none { deeds.old.items ≡ [] }
+    ensures deeds { (a : Handling) (init : Option InitOf) → deeds_shown a deeds.new.items
         ≡ pipes_cleared (host_core host store.old.journal.state store.old.tables init) body.now }
-    ensures doable { AreDoable result.items }
+    ensures doable { AreDoable deeds.new.items }
     ensures unchanged { store.new ≡ store.old }
 {
     match body {
-        [cleared] if *cleared <= 7 => accepts(store, host, Command::Clear { host: *cleared }),
-        _ => refused_on(host, ADMINISTRATION_PIPE, Response::CommandParameterUnknown),
+        [cleared] if *cleared <= 7 => accepts(
+            deeds,
+            store,
+            host,
+            Command::Clear { host: *cleared },
+        ),
+        _ => refused_on(
+            deeds,
+            host,
+            ADMINISTRATION_PIPE,
+            Response::CommandParameterUnknown,
+        ),
     }
 }

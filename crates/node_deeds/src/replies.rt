@@ -1,5 +1,5 @@
 //! What a controller does where its administration gate has decided, and where a host has answered a notice.
-ghost use Rattle.std.specs.Prelude.{◌≡◌, ℕ, ◌≤◌, ◌<◌, ◌++◌, true, false, map, length};
+ghost use Rattle.std.specs.Prelude.{◌≡◌, [], ℕ, ◌≤◌, ◌<◌, ◌++◌, true, false, map, length};
 ghost use Rattle.pipe_table.specs.declared.row.PipeRow.{PipeRow};
 ghost use Rattle.hci_tables.specs.Commands.{IsCommand};
 ghost use Rattle.gate_answers.specs.Answers.{IsCommandMessage, instruction_in, body_in};
@@ -25,39 +25,48 @@ use swp_base::Nv;
 
 /// What the administration gate decides of a command is done.
 pub(crate) fn administered<N: Nv + Drop>(
+    deeds: &mut Deeds,
     store: &mut Store<N>,
     view: &LinkView,
     host: u8,
     pipe: u8,
     message: &[u8],
-) -> Deeds
+)
     requires ready { IsReady store.old }
     requires some { 1 ≤ host }
     requires host { host ≤ 7 }
     requires pipe { pipe < 112 }
     requires command { IsCommandMessage message.now }
-    ensures deeds { (a : Handling) → deeds_shown a result.items
+    requires none { deeds.old.items ≡ [] }
+    ensures deeds { (a : Handling) → deeds_shown a deeds.new.items
         ≡ decision_deeds (controller_core store.old.journal.state store.old.tables) host pipe
         (decided store.old.tables view.now host pipe (instruction_in message.now) (body_in message.now)) }
-    ensures doable { AreDoable result.items }
+    ensures doable { AreDoable deeds.new.items }
     ensures unchanged { store.new ≡ store.old }
 {
     let decision = decide(store.tables(), view, host, pipe, message);
-    done(store, host, pipe, decision)
+    done(deeds, store, host, pipe, decision)
 }
 
-fn done<N: Nv + Drop>(store: &mut Store<N>, host: u8, pipe: u8, decision: Decision) -> Deeds
+fn done<N: Nv + Drop>(
+    deeds: &mut Deeds,
+    store: &mut Store<N>,
+    host: u8,
+    pipe: u8,
+    decision: Decision,
+)
     requires ready { IsReady store.old }
     requires pipe { pipe < 112 }
     requires sound { IsSoundDecision host decision }
     requires recordable { IsRecordableDecision decision }
-    ensures deeds { (a : Handling) → deeds_shown a result.items
+    requires none { deeds.old.items ≡ [] }
+    ensures deeds { (a : Handling) → deeds_shown a deeds.new.items
         ≡ decision_deeds (controller_core store.old.journal.state store.old.tables) host pipe decision }
-    ensures doable { AreDoable result.items }
+    ensures doable { AreDoable deeds.new.items }
     ensures unchanged { store.new ≡ store.old }
 {
     match decision {
-        Decision::Answer(message) => answered(host, pipe, message),
+        Decision::Answer(message) => answered(deeds, host, pipe, message),
         Decision::Commit {
             command,
             answer,
@@ -65,14 +74,13 @@ fn done<N: Nv + Drop>(store: &mut Store<N>, host: u8, pipe: u8, decision: Decisi
             notice,
         } => {
             if has_room(store, &command) {
-                let mut deeds = committed(host, pipe, command, answer);
-                tell_hosts(&mut deeds, tell, &notice);
-                deeds
+                committed(deeds, host, pipe, command, answer);
+                tell_hosts(deeds, tell, &notice);
             } else {
-                refused_on(host, pipe, Response::NotOk)
+                refused_on(deeds, host, pipe, Response::NotOk)
             }
         }
-        Decision::Ask { command, .. } => only(Deed::Asks(created_by(command))),
+        Decision::Ask { command, .. } => only(deeds, Deed::Asks(created_by(command))),
     }
 }
 
@@ -117,57 +125,61 @@ fn copy_of(notice: &Notice) -> Notice
 /// A host has answered with this code on pipe 01: its notice is answered, and the creation that it was asked for is done or not,
 /// where it waits.
 pub(crate) fn replied<N: Nv + Drop>(
+    deeds: &mut Deeds,
     store: &mut Store<N>,
     desks: &[Desk],
     host: u8,
     code: u8,
-) -> Deeds
+)
     requires ready { IsReady store.old }
     requires sound { AreSoundDesks desks.now }
-    ensures deeds { (a : Handling) (up : ℕ) → deeds_shown a result.items
+    requires none { deeds.old.items ≡ [] }
+    ensures deeds { (a : Handling) (up : ℕ) → deeds_shown a deeds.new.items
         ≡ response_at (controller_core store.old.journal.state store.old.tables) code (port_at (ports_shown up desks.now) host) }
-    ensures doable { AreDoable result.items }
+    ensures doable { AreDoable deeds.new.items }
     ensures unchanged { store.new ≡ store.old }
 {
     match desk_at(desks, host) {
         Some(desk) => match desk.notice {
-            Some(notice) => settled(store, notice.about, code),
-            None => dropped(ADMINISTRATION_PIPE),
+            Some(notice) => settled(deeds, store, notice.about, code),
+            None => dropped(deeds, ADMINISTRATION_PIPE),
         },
-        None => dropped(ADMINISTRATION_PIPE),
+        None => dropped(deeds, ADMINISTRATION_PIPE),
     }
 }
 
 // The notice is answered by this code.
-fn settled<N: Nv + Drop>(store: &mut Store<N>, about: About, code: u8) -> Deeds
+fn settled<N: Nv + Drop>(deeds: &mut Deeds, store: &mut Store<N>, about: About, code: u8)
     requires ready { IsReady store.old }
     requires sound { IsSoundAbout about }
-    ensures deeds { (a : Handling) → deeds_shown a result.items
+    requires none { deeds.old.items ≡ [] }
+    ensures deeds { (a : Handling) → deeds_shown a deeds.new.items
         ≡ about_deeds (controller_core store.old.journal.state store.old.tables) code about }
-    ensures doable { AreDoable result.items }
+    ensures doable { AreDoable deeds.new.items }
     ensures unchanged { store.new ≡ store.old }
 {
     match about {
         About::Waits(row) => {
             if code == 0 && has_room(store, &Command::Create(row)) {
-                agreed(row)
+                agreed(deeds, row)
             } else {
-                disagreed(&row)
+                disagreed(deeds, &row)
             }
         }
-        About::Forgotten => only(Deed::IsAnswered),
-        About::Removed => only(Deed::IsAnswered),
+        About::Forgotten => only(deeds, Deed::IsAnswered),
+        About::Removed => only(deeds, Deed::IsAnswered),
     }
 }
 
 // A creation is committed, and its asker gets its answer.
-fn agreed(row: PipeRow) -> Deeds
-    requires { IsCommand (Command.Create row) }
-    ensures deeds { (a : Handling) → deeds_shown a result.items ≡ agreed true (creation_of_row row) }
-    ensures doable { AreDoable result.items }
+fn agreed(deeds: &mut Deeds, row: PipeRow)
+    requires command { IsCommand (Command.Create row) }
+    requires none { deeds.old.items ≡ [] }
+    ensures deeds { (a : Handling) → deeds_shown a deeds.new.items ≡ agreed true (creation_of_row row) }
+    ensures doable { AreDoable deeds.new.items }
 {
     let message = answer(Response::Ok, &ends_of(&row));
-    let mut deeds = only(Deed::IsAnswered);
+    only(deeds, Deed::IsAnswered);
     deeds.push(Deed::Commits(Command::Create(row)));
     deeds.push(Deed::Releases { asker: row.creator });
     deeds.push(Deed::Sends {
@@ -176,20 +188,19 @@ fn agreed(row: PipeRow) -> Deeds
         message,
     });
     deeds.push(Deed::SaysOk);
-    deeds
 }
 
 // A creation isn't made, and its asker is told so.
-fn disagreed(row: &PipeRow) -> Deeds
-    ensures deeds { (a : Handling) → deeds_shown a result.items ≡ agreed false (creation_of_row row.now) }
-    ensures doable { AreDoable result.items }
+fn disagreed(deeds: &mut Deeds, row: &PipeRow)
+    requires none { deeds.old.items ≡ [] }
+    ensures deeds { (a : Handling) → deeds_shown a deeds.new.items ≡ agreed false (creation_of_row row.now) }
+    ensures doable { AreDoable deeds.new.items }
 {
-    let mut deeds = only(Deed::IsAnswered);
+    only(deeds, Deed::IsAnswered);
     deeds.push(Deed::Releases { asker: row.creator });
     deeds.push(Deed::Sends {
         host: row.creator,
         pipe: ADMINISTRATION_PIPE,
         message: refused(Response::NotOk),
     });
-    deeds
 }

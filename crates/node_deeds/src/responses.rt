@@ -24,29 +24,30 @@ use swp_base::Nv;
 
 /// A response with this code and value answers the last command that the host sent on pipe 01.
 pub(crate) fn heard<N: Nv + Drop>(
+    deeds: &mut Deeds,
     store: &mut Store<N>,
     host: u8,
     tasks: &Tasks,
     code: u8,
     value: &[u8],
-) -> Deeds
+)
     requires ready { IsReady store.old }
     requires some { 1 ≤ host }
     requires host { host ≤ 7 }
-    ensures deeds { (pipe : ℕ) (message : List ℕ) → deeds_shown (handled_by host (init_running tasks.now.init) pipe message) result.items
+    requires none { deeds.old.items ≡ [] }
+    ensures deeds { (pipe : ℕ) (message : List ℕ) → deeds_shown (handled_by host (init_running tasks.now.init) pipe message) deeds.new.items
         ≡ heard_deeds (host_core host store.old.journal.state store.old.tables (init_running tasks.now.init)) code value.now tasks.now.command }
-    ensures doable { AreDoable result.items }
+    ensures doable { AreDoable deeds.new.items }
     ensures unchanged { store.new ≡ store.old }
 {
     let Some(order) = tasks.command else {
-        return Deeds::new();
+        return;
     };
-    let mut deeds = only(Deed::Hears);
-    learn_if_ok(&mut deeds, store, host, code, order, value);
+    only(deeds, Deed::Hears);
+    learn_if_ok(deeds, store, host, code, order, value);
     if let Some(init) = &tasks.init {
-        go_on(&mut deeds, store, host, init, code, value);
+        go_on(deeds, store, host, init, code, value);
     }
-    deeds
 }
 
 // What a host keeps of its own command, to which this answer came.

@@ -13,6 +13,6 @@ returns-then-has_room-clause-deeds g c =
     let is = c.in-Commit in
     let room = sym c.has_room.ensures.room ∙ c.if-has_room.true in
     λ a. c.tell_hosts.ensures.told a
-    ∙ (ap (λ items. deeds_shown a items ++ map (λ (told : ℕ). Tells told is.notice.items) (hosts_where (has is.tell))) c.committed-deeds.ensures
+    ∙ (ap (λ items. deeds_shown a items ++ map (λ (told : ℕ). Tells told is.notice.items) (hosts_where (has is.tell))) c.committed.ensures
     ∙ decision_commits (controller_core s.journal.state s.tables) c.args.host c.args.pipe c.args.decision is.command is.answer is.tell is.notice
     is.is room)

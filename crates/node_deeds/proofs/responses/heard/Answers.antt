@@ -22,7 +22,7 @@ returns-in-Some-init-clause-deeds g c = λ pipe message.
     ∙ (ap (λ kept. deeds_shown a c.learn_if_ok.new.deeds.items
     ++ init_deeds (host_core host kept.journal.state kept.tables (Some i)) code value (Some i)) c.learn_if_ok.ensures.unchanged
     ∙ (ap (λ ds. ds ++ init_deeds core code value (Some i))
-    (c.learn_if_ok.ensures.deeds a (Some i) ∙ ap (λ items. deeds_shown a items ++ learns) c.only-deeds.ensures)
+    (c.learn_if_ok.ensures.deeds a (Some i) ∙ ap (λ items. deeds_shown a items ++ learns) c.only.ensures)
     ∙ ap (heard_deeds core code value) (sym c.in-Some.is))) in
     subst
     (λ (o : Option KeptInit). deeds_shown (handled_by host (init_running o) pipe message) c.go_on.new.deeds.items
@@ -40,7 +40,7 @@ returns-in_default-init-clause-deeds g c = λ pipe message.
     let learns = cond (eqb code 0) (learned_of core c.in-Some.order value) [] in
     let at : deeds_shown a c.learn_if_ok.new.deeds.items ≡ heard_deeds core code value c.args.tasks.now.command =
     c.learn_if_ok.ensures.deeds a None
-    ∙ (ap (λ items. deeds_shown a items ++ learns) c.only-deeds.ensures
+    ∙ (ap (λ items. deeds_shown a items ++ learns) c.only.ensures
     ∙ (sym (append-nil (Hears ∷ learns)) ∙ ap (heard_deeds core code value) (sym c.in-Some.is))) in
     subst
     (λ (o : Option KeptInit). deeds_shown (handled_by host (init_running o) pipe message) c.learn_if_ok.new.deeds.items

@@ -1,7 +1,7 @@
 use Rattle.std.proofs.Common.{subst, ◌∙◌}
 use Rattle.node_deeds.specs.Hosts.{IsHostAt}
 use Rattle.node_deeds.proofs.HostWalks.{host_of_core}
-use Rattle.node_deeds.proofs.host.host_deeds.Goals as goal
+use Rattle.node_deeds.proofs.host.put_host_deeds.Goals as goal
 
 pub returns-then-is_up-clause-deeds : goal.returns-then-is_up-clause-deeds
 returns-then-is_up-clause-deeds g c = λ core p at.

@@ -3,7 +3,7 @@ use Rattle.node_machine.specs.Controller.{relayed_to, own_deeds, deeds_by_relay}
 use Rattle.node_deeds.specs.Shown.{ports_shown, deeds_shown}
 use Rattle.node_deeds.specs.Cores.{controller_core, handled}
 use Rattle.node_deeds.proofs.Control.{deeds_of_core}
-use Rattle.node_deeds.proofs.controller.controller_deeds.Goals as goal
+use Rattle.node_deeds.proofs.controller.put_controller_deeds.Goals as goal
 
 pub returns-in-Some-clause-deeds : goal.returns-in-Some-clause-deeds
 returns-in-Some-clause-deeds g c = λ core ports kept seen.
