@@ -1,5 +1,5 @@
 -- A frame comes to an end, and the message that it brings is fetched.
-use Rattle.std.proofs.Common.{◌≡◌, ℕ, ◌≤◌, true, false, List, [], ◌∷◌, ◌++◌, length, drop, refl, sym, ap, ◌∙◌, subst, append-nil}
+use Rattle.std.proofs.Common.{◌≡◌, ℕ, ◌≤◌, true, false, List, [], ◌∷◌, ◌++◌, length, drop, refl, sym, ap, ◌∙◌, subst}
 use Rattle.std.specs.Prelude.{Option, Some, None, option_map, option_to_list}
 use Rattle.std.specs.List.{AllByRecursion}
 use Rattle.block_pool.specs.declared.chain.Chain.{Chain}
@@ -7,7 +7,7 @@ use Rattle.block_pool.specs.Pool.{PoolState, chain_bytes}
 use Rattle.hcp_chain.specs.declared.joiner.Open.{Open}
 use Rattle.hcp_chain.specs.Holding.{IsOwnOpen, messages_in as messages_of}
 use Rattle.hcp_chain.proofs.HoldingLemmas.{all_front}
-use Rattle.link_machine.specs.Machine.{LinkEnd as Machine, Message, oldest, after_input, got_by, turn, lpdu_input}
+use Rattle.link_machine.specs.Machine.{LinkEnd as Machine, Message, oldest, got_by, turn, lpdu_input}
 use Rattle.link_machine.specs.Machine.Turn.{FetchMessage}
 use Rattle.link_machine.specs.Machine.{report, whole_acked}
 use Rattle.link_machine.specs.Machine.LinkInput.{Take}
@@ -21,12 +21,12 @@ use Rattle.std.proofs.lemmas.Bool.{true≢false}
 use Rattle.link_messages.specs.declared.inbox.Got.{Got}
 use Rattle.link_messages.specs.Incoming.{got_chains}
 use Rattle.link_end.specs.declared.«end».End.{End}
-use Rattle.link_end.specs.Ends.{EndStandsFor, EndLeavesOthers, Accounts, MayTake}
+use Rattle.link_end.specs.Ends.{EndStandsFor, Accounts, MayTake}
 use Rattle.link_end.proofs.AccountLemmas.{rests, rests_may_take, may_take_held}
 use Rattle.node_ends.specs.declared.seat.Waiting.{Waiting}
 use Rattle.node_ends.specs.Holding.{messages_waiting, chain_of, without_got, as_waiting, HoldsEnd, Moves, WaitsHeld}
-use Rattle.node_ends.proofs.Apart.{with_got, is_outside, took_apart, input_apart}
-use Rattle.node_ends.proofs.Moving.{call_holds}
+use Rattle.node_ends.proofs.Apart.{is_outside, took_apart}
+use Rattle.node_ends.proofs.Quiet.{held_gets_none}
 
 -- at most one message came
 one_in : (pool : PoolState) (g : Option Got) → drop 1 (messages_of pool (got_chains g)) ≡ []
@@ -88,18 +88,18 @@ may_take pool k (Some w) m h held = may_take_held k pool (without_got m) h.stand
 pub none_got : (pool : PoolState) (k : End) (m : Machine) → HoldsEnd pool k None m → without_got m ≡ m
 none_got pool k m h = ap (λ g. record m { got = g }) (sym h.waits)
 
--- where one waits, an input that brings none leaves it
-pub waits_still : (old new : PoolState) (k after : End) (w : Waiting) (m : Machine) (lpdu : List ℕ) → HoldsEnd old k (Some w) m
-    → got_by m (lpdu_input lpdu) ≡ [] → is_outside (lpdu_input lpdu) ≡ true → EndLeavesOthers old new k after
-    → EndStandsFor after new (after_input (without_got m) (lpdu_input lpdu)) → HoldsEnd new after (Some w) (after_input m (lpdu_input lpdu))
-waits_still old new k after w m lpdu h none out leaves stands =
-    let i = lpdu_input lpdu in
-    let before : after_input (without_got m) i ≡ without_got (after_input m i) =
-    input_apart m [] i out ∙ ap (λ l. with_got l (after_input m i)) none in
-    let all : after_input m i ≡ with_got m.got (after_input m i) =
-    input_apart m m.got i out ∙ (ap (λ l. with_got (m.got ++ l) (after_input m i)) none ∙ ap (λ l. with_got l (after_input m i)) (append-nil m.got)) in
-    call_holds old new k after (Some w) m (after_input m i) h leaves (subst (λ n. EndStandsFor after new n) before stands)
-    (ap (λ (x : Machine). x.got) all)
+-- where none is told, none came
+pub none_came : (l : List Message) → is_some (oldest l) ≡ false → l ≡ []
+none_came [] e = refl
+none_came (x ∷ l) e = cc
+
+-- where one came, none waited: an end at which one waits is held
+pub none_waited : {pool : PoolState} (k : End) (waiting : Option Waiting) (m : Machine) (lpdu : List ℕ) → HoldsEnd pool k waiting m
+    → WaitsHeld waiting k → is_some (oldest (got_by m (lpdu_input lpdu))) ≡ true → waiting ≡ None
+none_waited k None m lpdu h held came = refl
+none_waited k (Some w) m lpdu h held came =
+    let none : got_by m (lpdu_input lpdu) ≡ [] = held_gets_none m lpdu (sym h.stands.halfway.link.kept.ready ∙ held) in
+    absurd (true≢false (sym came ∙ ap (λ l. is_some (oldest l)) none))
 
 -- ## What is told
 
@@ -140,7 +140,3 @@ moves_on old new before between after m same = record { sender = same.0 ∙ m.se
 pub none_waits : (o : Option Waiting) → is_some o ≡ false → o ≡ None
 none_waits None e = refl
 none_waits (Some w) e = cc
-
-pub one_waits : (o : Option Waiting) → is_some o ≡ true → (w : Waiting) × (o ≡ Some w)
-one_waits None e = absurd (true≢false (sym e))
-one_waits (Some w) e = (w, refl)

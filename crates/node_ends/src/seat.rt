@@ -153,7 +153,7 @@ impl Seat {
         ensures rest { self.new ≡ record self.old { side = self.new.side; waiting = self.new.waiting } }
     {
         let report = self.side.take_read(pool, read);
-        if self.waiting.is_none() {
+        if report.got {
             self.fetch();
         }
         report
