@@ -2,7 +2,7 @@
 ghost use Rattle.std.specs.Prelude.{◌≡◌};
 
 use crate::node::Node;
-use node_deeds::{Deed, Deeds, Shortfall, controller_deeds, host_deeds, lack};
+use node_deeds::{Deed, Deeds, Shortfall, lack, put_controller_deeds, put_host_deeds};
 use swp_base::Nv;
 use trace_model::Watch;
 
@@ -78,53 +78,66 @@ impl<N: Nv + Drop> Node<N> {
         true
     }
 
-    // What a controller does with this message, which waits at its end with this host.
-    fn deeds_of_controller(&mut self, host: u8, pipe: u8, message: &[u8]) -> Deeds
+    // What a controller does with this message, which waits at its end with this host, is put into a list, which is empty.
+    fn deeds_of_controller(&mut self, host: u8, pipe: u8, message: &[u8], deeds: &mut Deeds)
         requires runs { IsSoundNode self.old }
         requires live { IsTrue self.old.store.journal.live }
         requires controller { self.old.number ≡ 0 }
         requires some { 1 ≤ host }
         requires host { host ≤ 7 }
         requires sendable { IsSendable (pipe, message.now) }
+        requires none { deeds.old.items ≡ [] }
         ensures deeds { (noted : List Noted) (full : Bool) (start : List Noted) (w : Work) → IsInStep self.old noted full start w → IsNodeInOrder w.core w.ports
-            → deeds_of w.core w.ports host (pipe, message.now) ≡ deeds_shown (handling self.old (pipe, message.now)) result.items }
-        ensures doable { AreDoable result.items }
+            → deeds_of w.core w.ports host (pipe, message.now) ≡ deeds_shown (handling self.old (pipe, message.now)) deeds.new.items }
+        ensures doable { AreDoable deeds.new.items }
         ensures same { self.new ≡ self.old }
     {
         let seen = self.ends.seen();
-        controller_deeds(
+        put_controller_deeds(
+            deeds,
             &mut self.store,
             seen.desks.as_slice(),
             seen.up,
             host,
             pipe,
             message,
-        )
+        );
     }
 
-    // What a host does with this message, which waits at its end, the one of the link with its own number.
-    fn deeds_of_host(&mut self, pipe: u8, message: &[u8]) -> Deeds
+    // What a host does with this message, which waits at its end, the one of the link with its own number, is put into a list, which is
+    // empty.
+    fn deeds_of_host(&mut self, pipe: u8, message: &[u8], deeds: &mut Deeds)
         requires runs { IsSoundNode self.old }
         requires live { IsTrue self.old.store.journal.live }
         requires host { self.old.number ≢ 0 }
         requires sendable { IsSendable (pipe, message.now) }
         requires may { (noted : List Noted) × (full : Bool) × (start : List Noted) × (w : Work) × IsInStep self.old noted full start w
             × IsNodeInOrder w.core w.ports }
+        requires none { deeds.old.items ≡ [] }
         ensures deeds { (noted : List Noted) (full : Bool) (start : List Noted) (w : Work) → IsInStep self.old noted full start w → IsNodeInOrder w.core w.ports
-            → deeds_of w.core w.ports self.old.number (pipe, message.now) ≡ deeds_shown (handling self.old (pipe, message.now)) result.items }
-        ensures doable { AreDoable result.items }
+            → deeds_of w.core w.ports self.old.number (pipe, message.now) ≡ deeds_shown (handling self.old (pipe, message.now)) deeds.new.items }
+        ensures doable { AreDoable deeds.new.items }
         ensures same { self.new ≡ self.old }
     {
         let Some(desk) = self.ends.desk(0) else {
-            return Deeds::new();
+            return;
         };
         let is_up = self.ends.has_link(desk.host);
-        host_deeds(&mut self.store, &desk, is_up, &self.tasks, pipe, message)
+        put_host_deeds(
+            deeds,
+            &mut self.store,
+            &desk,
+            is_up,
+            &self.tasks,
+            pipe,
+            message,
+        );
     }
 
-    // What a node does with this message, which waits at its end with this host. The link of a host is the one with its own number.
+    // What a node does with this message, which waits at its end with this host, is put into a list, which is empty. The link of a host
+    // is the one with its own number.
     #[inline(never)]
-    fn deeds_for(&mut self, host: u8, pipe: u8, message: &[u8]) -> Deeds
+    fn deeds_for(&mut self, host: u8, pipe: u8, message: &[u8], deeds: &mut Deeds)
         requires runs { IsSoundNode self.old }
         requires live { IsTrue self.old.store.journal.live }
         requires own { self.old.number ≢ 0 → host ≡ self.old.number }
@@ -133,16 +146,17 @@ impl<N: Nv + Drop> Node<N> {
         requires sendable { IsSendable (pipe, message.now) }
         requires may { (noted : List Noted) × (full : Bool) × (start : List Noted) × (w : Work) × IsInStep self.old noted full start w
             × IsNodeInOrder w.core w.ports }
+        requires none { deeds.old.items ≡ [] }
         ensures deeds { (noted : List Noted) (full : Bool) (start : List Noted) (w : Work) → IsInStep self.old noted full start w
             → IsNodeInOrder w.core w.ports
-            → deeds_of w.core w.ports host (pipe, message.now) ≡ deeds_shown (handling self.old (pipe, message.now)) result.items }
-        ensures doable { AreDoable result.items }
+            → deeds_of w.core w.ports host (pipe, message.now) ≡ deeds_shown (handling self.old (pipe, message.now)) deeds.new.items }
+        ensures doable { AreDoable deeds.new.items }
         ensures same { self.new ≡ self.old }
     {
         if self.number == 0 {
-            self.deeds_of_controller(host, pipe, message)
+            self.deeds_of_controller(host, pipe, message, deeds)
         } else {
-            self.deeds_of_host(pipe, message)
+            self.deeds_of_host(pipe, message, deeds)
         }
     }
 
@@ -178,7 +192,8 @@ impl<N: Nv + Drop> Node<N> {
         ensures runs { IsSoundNode self.new }
     {
         let spares = self.spares();
-        let deeds = self.deeds_for(host, pipe, message);
+        let mut deeds = Deeds::new();
+        self.deeds_for(host, pipe, message, &mut deeds);
         let short = lack(deeds.as_slice(), host, message.len(), &spares);
         self.turn_decided(host, deeds.as_slice(), short, held, pipe, message, watch)
     }

@@ -15,14 +15,14 @@ returns-in_default-clause-deeds g c noted full start w u order =
     let none = no_some c.desk.result c.in_default.not-Some in
     absurd (some_desk u c.requires.host order (ap (option_map (λ (d : Desk). desk_shown d)) (sym none) ∙ c.desk.ensures w.ports u.ends))
 
-pub host_deeds-requires-clause-some : goal.host_deeds-requires-clause-some
-host_deeds-requires-clause-some g c =
+pub put_host_deeds-requires-clause-some : goal.put_host_deeds-requires-clause-some
+put_host_deeds-requires-clause-some g c =
     let r = c.requires.may in
     (own_number c.in-Some.desk r.3.ports r.5.hosts
     (ap (option_map (λ (d : Desk). desk_shown d)) (sym c.in-Some.is) ∙ c.desk.ensures r.3.ports r.4.ends)).0
 
-pub host_deeds-requires-clause-host : goal.host_deeds-requires-clause-host
-host_deeds-requires-clause-host g c =
+pub put_host_deeds-requires-clause-host : goal.put_host_deeds-requires-clause-host
+put_host_deeds-requires-clause-host g c =
     let r = c.requires.may in
     (own_number c.in-Some.desk r.3.ports r.5.hosts
     (ap (option_map (λ (d : Desk). desk_shown d)) (sym c.in-Some.is) ∙ c.desk.ensures r.3.ports r.4.ends)).1
@@ -30,14 +30,14 @@ host_deeds-requires-clause-host g c =
 pub returns-clause-deeds : goal.returns-clause-deeds
 returns-clause-deeds g c noted full start w u order =
     let m : Message = (c.args.pipe, c.args.message.now) in
-    let t = c.host_deeds in
+    let t = c.put_host_deeds in
     let node = c.args.self.now in
     let l = looks_at c.in-Some.desk c.has_link-is_up.result u c.requires.live c.requires.host order
     (ap (option_map (λ (d : Desk). desk_shown d)) (sym c.in-Some.is) ∙ c.desk.ensures w.ports u.ends) (c.has_link-is_up.ensures w.ports u.ends) in
     let H : ℕ → Handling = λ n. record { node = n; init = init_running node.tasks.init; message = m } in
-    let A : ℕ → Type 0 = λ n. deeds_shown (H n) t.result.items ≡ host_deeds w.core l.port m in
+    let A : ℕ → Type 0 = λ n. deeds_shown (H n) t.new.deeds.items ≡ host_deeds w.core l.port m in
     at_host w.core w.ports node.number m l.port (λ none. c.requires.host (sym u.node ∙ none)) l.at
     ∙ sym (subst A l.host (t.ensures.deeds w.core l.port l.is))
 
 pub returns-clause-same : goal.returns-clause-same
-returns-clause-same g c = ap (λ (s : Stored g.row.N.Denot). record c.args.self.now { store = s }) c.host_deeds.ensures.unchanged
+returns-clause-same g c = ap (λ (s : Stored g.row.N.Denot). record c.args.self.now { store = s }) c.put_host_deeds.ensures.unchanged

@@ -16,8 +16,8 @@ use Rattle.node_core.proofs.HavingTurns.{decided}
 use Rattle.node_core.proofs.Sendables.{hosts_low}
 use Rattle.node_core.proofs.node.Node.have_turn.Goals as goal
 
-pub deeds_for-deeds-requires-clause-may : goal.deeds_for-deeds-requires-clause-may
-deeds_for-deeds-requires-clause-may g c = let r = c.requires.may in (_, _, r.0, r.1, r.2, r.3)
+pub deeds_for-requires-clause-may : goal.deeds_for-requires-clause-may
+deeds_for-requires-clause-may g c = let r = c.requires.may in (_, _, r.0, r.1, r.2, r.3)
 
 pub turn_decided-requires-clause-decided : goal.turn_decided-requires-clause-decided
 turn_decided-requires-clause-decided g c =
@@ -28,14 +28,14 @@ turn_decided-requires-clause-decided g c =
     let h = c.args.host in
     let m : Message = (c.args.pipe, c.args.message.now) in
     let a : Handling = handling c.args.self.now m in
-    let d = c.deeds_for-deeds in
+    let d = c.deeds_for in
     let short = c.lack-short.result in
     let k = u.core (u.power ∙ ap not c.requires.live) in
     let L : List Deed → Type 0 = λ ds. option_map lack_shown short ≡ lack w.ports (needs h (deeds_shown a ds)) in
     let spares = c.spares-spares.ensures w.ports u.ends (hosts_low w.ports r.3.hosts) in
-    let lacks : L d.result.items = subst L c.as_slice.ensures.value (c.lack-short.ensures a w.ports refl spares) in
-    let is = decided h a d.result.items short w (sym k.init) r.3.task r.4 c.requires.sendable (d.ensures.deeds _ _ start w u r.3) d.ensures.doable lacks in
-    let H : Bool → Type 0 = λ b. IsDecided h a d.result.items short b w in
+    let lacks : L d.new.deeds.items = subst L c.as_slice.ensures.value (c.lack-short.ensures a w.ports refl spares) in
+    let is = decided h a d.new.deeds.items short w (sym k.init) r.3.task r.4 c.requires.sendable (d.ensures.deeds _ _ start w u r.3) d.ensures.doable lacks in
+    let H : Bool → Type 0 = λ b. IsDecided h a d.new.deeds.items short b w in
     let D : List Deed → Type 0 = λ ds. IsDecided h a ds short c.args.held w in
     let A : Node g.row.N.Denot → Type 0 = λ n. IsDecided h (handling n m) c.as_slice-2.result.now short c.args.held w in
     let U : Node g.row.N.Denot → Type 0 = λ n. IsInStep n (g.W.Watch.noted c.args.watch.now) (g.W.Watch.is_short c.args.watch.now) start w in
@@ -46,14 +46,14 @@ returns-clause-carried g c start w u order few held got =
     let h = c.args.host in
     let m : Message = (c.args.pipe, c.args.message.now) in
     let a : Handling = handling c.args.self.now m in
-    let d = c.deeds_for-deeds in
+    let d = c.deeds_for in
     let short = c.lack-short.result in
     let k = u.core (u.power ∙ ap not c.requires.live) in
     let L : List Deed → Type 0 = λ ds. option_map lack_shown short ≡ lack w.ports (needs h (deeds_shown a ds)) in
     let spares = c.spares-spares.ensures w.ports u.ends (hosts_low w.ports order.hosts) in
-    let lacks : L d.result.items = subst L c.as_slice.ensures.value (c.lack-short.ensures a w.ports refl spares) in
-    let is = decided h a d.result.items short w (sym k.init) order.task few c.requires.sendable (d.ensures.deeds _ _ start w u order) d.ensures.doable lacks in
-    let H : Bool → Type 0 = λ b. IsDecided h a d.result.items short b w in
+    let lacks : L d.new.deeds.items = subst L c.as_slice.ensures.value (c.lack-short.ensures a w.ports refl spares) in
+    let is = decided h a d.new.deeds.items short w (sym k.init) order.task few c.requires.sendable (d.ensures.deeds _ _ start w u order) d.ensures.doable lacks in
+    let H : Bool → Type 0 = λ b. IsDecided h a d.new.deeds.items short b w in
     let D : List Deed → Type 0 = λ ds. IsDecided h a ds short c.args.held w in
     let A : Node g.row.N.Denot → Type 0 = λ n. IsDecided h (handling n m) c.as_slice-2.result.now short c.args.held w in
     let U : Node g.row.N.Denot → Type 0 = λ n. IsInStep n (g.W.Watch.noted c.args.watch.now) (g.W.Watch.is_short c.args.watch.now) start w in
