@@ -520,11 +520,7 @@ fn digit(value: u8) -> u8
     requires { value < 16 }
     ensures { result ≡ slice_index upper_digits value }
 {
-    if value < 10 {
-        b'0' + value
-    } else {
-        b'A' - 10 + value
-    }
+    value + b'0' + if value > 9 { b'A' - b'0' - 10 } else { 0 }
 }
 
 /// The first of a byte's two hexadecimal digits.
