@@ -39,6 +39,15 @@ holds_back start text more t h =
       kept = h.kept ∙ ap (λ x. take start.mark x) e;
     }
 
+-- the four letters of a word
+pub four_are : (ws : List ℕ) → length ws ≡ 4 → get_or ws 0 0 ∷ get_or ws 1 0 ∷ get_or ws 2 0 ∷ get_or ws 3 0 ∷ [] ≡ ws
+four_are [] h = absurd (omega arith)
+four_are (a ∷ []) h = absurd (omega arith)
+four_are (a ∷ b ∷ []) h = absurd (omega arith)
+four_are (a ∷ b ∷ c ∷ []) h = absurd (omega arith)
+four_are (a ∷ b ∷ c ∷ d ∷ []) h = refl
+four_are (a ∷ b ∷ c ∷ d ∷ e ∷ xs) h = absurd (omega arith)
+
 -- one more word
 pub spaced-push : (first word : List ℕ) (more : List (List ℕ)) → spaced (first ∷ (more ++ word ∷ [])) ≡ spaced (first ∷ more) ++ (32 ∷ word)
 spaced-push first word [] = refl

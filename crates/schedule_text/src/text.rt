@@ -277,6 +277,45 @@ impl Text {
         self.push_few(&[b' ', high_digit(byte), low_digit(byte)]);
     }
 
+    /// Appends a word of four letters, an end and bytes as pairs of hexadecimal digits, as the first ones of a line.
+    #[inline(always)]
+    pub(crate) fn frame(&mut self, word: &[u8; 4], at: End, bytes: &[u8])
+        ensures { (start : Start) → HoldsText start [] self.old
+            → HoldsWords start (word.now ∷ end_text at ∷ encode_upper bytes.now ∷ []) self.new }
+    {
+        match bytes.split_first() {
+            Some((first, rest)) => {
+                self.word_end_and_byte(word, at, *first);
+                self.pairs(rest);
+            }
+            None => {
+                self.push(word);
+                self.end_and_hex(at, bytes);
+            }
+        }
+    }
+
+    /// Appends a word of four letters, an end and a byte, as the first ones of a line.
+    #[inline(always)]
+    fn word_end_and_byte(&mut self, word: &[u8; 4], at: End, byte: u8)
+        ensures { (start : Start) → HoldsText start [] self.old
+            → HoldsWords start (word.now ∷ end_text at ∷ byte_text byte ∷ []) self.new }
+    {
+        self.push_few(&[
+            word[0],
+            word[1],
+            word[2],
+            word[3],
+            b' ',
+            high_digit(at.link),
+            low_digit(at.link),
+            side_letter(at.at_host),
+            b' ',
+            high_digit(byte),
+            low_digit(byte),
+        ]);
+    }
+
     /// Appends an end and a byte, a space before each.
     #[inline(always)]
     pub(crate) fn end_and_byte(&mut self, at: End, byte: u8)

@@ -177,8 +177,8 @@ fn write_frequent(text: &mut Text, entry: &Entry)
         → HoldsWords start (entry_words entry.now) text.new }
 {
     match entry {
-        Entry::Emit { at, lpdu } => write_frame(text, b"emit", *at, lpdu.bytes()),
-        Entry::Took { at, lpdu } => write_frame(text, b"took", *at, lpdu.bytes()),
+        Entry::Emit { at, lpdu } => text.frame(b"emit", *at, lpdu.bytes()),
+        Entry::Took { at, lpdu } => text.frame(b"took", *at, lpdu.bytes()),
         Entry::Sent {
             at,
             session,
@@ -237,8 +237,8 @@ fn write_words(text: &mut Text, entry: &Entry)
         Entry::Acked { at, session, count } => write_at_numbers(
             text, b"acked", *at, *session, *count,
         ),
-        Entry::Emit { at, lpdu } => write_frame(text, b"emit", *at, lpdu.bytes()),
-        Entry::Took { at, lpdu } => write_frame(text, b"took", *at, lpdu.bytes()),
+        Entry::Emit { at, lpdu } => text.frame(b"emit", *at, lpdu.bytes()),
+        Entry::Took { at, lpdu } => text.frame(b"took", *at, lpdu.bytes()),
         Entry::Lost { at, lpdu, cause } => write_loss(text, *at, lpdu.bytes(), *cause),
         Entry::Turn { at, pid, message } => write_turn(text, *at, *pid, message.as_slice()),
         Entry::Held { at, need, spare } => write_at_numbers(
@@ -313,15 +313,6 @@ fn write_at_numbers(text: &mut Text, word: &[u8], at: At, first: u32, second: u3
     text.push(word);
     text.end_and_number(at, first);
     text.short_number(second);
-}
-
-#[inline(always)]
-fn write_frame(text: &mut Text, word: &[u8], at: At, bytes: &[u8])
-    ensures { (start : Start) → HoldsText start [] text.old
-        → HoldsWords start (word.now ∷ end_text at ∷ encode_upper bytes.now ∷ []) text.new }
-{
-    text.push(word);
-    text.end_and_hex(at, bytes);
 }
 
 #[inline(always)]
