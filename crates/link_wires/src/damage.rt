@@ -1,5 +1,5 @@
 //! What becomes of a frame whose bits are changed on its way.
-ghost use Rattle.std.specs.Prelude.{◌≡◌, ℕ, ◌++◌, List, false, map, length, replicate};
+ghost use Rattle.std.specs.Prelude.{◌≡◌, ℕ, ◌≤◌, ◌++◌, List, false, map, length, replicate};
 ghost use Rattle.swp_frame.specs.Signal.{symbol_of};
 ghost use Rattle.swp_frame.specs.Stuffing.{frame_of};
 ghost use Rattle.swp_frame.specs.Verdicts.{verdicts};
@@ -71,14 +71,13 @@ fn first_read(bits: &[bool]) -> Result<Lpdu, LostCause>
     Err(refused.unwrap_or(LostCause::Nothing))
 }
 
-// The frame of an LPDU with the bits at these places changed, and eight 0 bits behind it.
-fn damaged(lpdu: &Lpdu, places: &[u16]) -> FrameBits
-    ensures { result.bits.items ≡ flipped_at places.now (frame_of lpdu.now) ++ replicate 8 false }
+// The bits of a frame are changed at these places, and eight 0 bits stand behind it.
+fn damage(frame: &mut FrameBits, places: &[u16])
+    requires { length frame.old.bits.items ≤ 323 }
+    ensures { frame.new.bits.items ≡ flipped_at places.now frame.old.bits.items ++ replicate 8 false }
 {
-    let FrameBits { mut bits } = write_frame(lpdu);
-    flip_all(&mut bits, places);
-    let _fits = bits.try_extend_from_slice(&[false; 8]);
-    FrameBits { bits }
+    flip_all(&mut frame.bits, places);
+    let _fits = frame.bits.try_extend_from_slice(&[false; 8]);
 }
 
 // The verdict on a frame where this one was read in its place, or none for this cause.
@@ -101,14 +100,30 @@ fn verdict_of(lpdu: &Lpdu, read: Result<Lpdu, LostCause>) -> Verdict
 pub fn verdict_on(lpdu: &Lpdu, places: &[u16]) -> Verdict
     ensures { result ≡ told_as (verdict_on lpdu.now places.now) }
 {
-    verdict_of(lpdu, first_read(damaged(lpdu, places).bits.as_slice()))
+    verdict_in(lpdu, &mut write_frame(lpdu), places)
+}
+
+/// The same where the frame is written already.
+pub(crate) fn verdict_in(lpdu: &Lpdu, frame: &mut FrameBits, places: &[u16]) -> Verdict
+    requires frame { frame.old.bits.items ≡ frame_of lpdu.now }
+    requires sized { length frame.old.bits.items ≤ 323 }
+    ensures { result ≡ told_as (verdict_on lpdu.now places.now) }
+{
+    damage(frame, places);
+    verdict_of(lpdu, first_read(frame.bits.as_slice()))
 }
 
 /// Where one of these places is past the frame of an LPDU, which has so many bits.
 pub fn beyond(lpdu: &Lpdu, places: &[u16]) -> Option<NoCause>
     ensures { result ≡ if_beyond (length (frame_of lpdu.now)) places.now }
 {
-    let bits = write_frame(lpdu).bits.len() as u16;
+    past(write_frame(lpdu).bits.len() as u16, places)
+}
+
+/// Where one of these places is past so many bits.
+pub(crate) fn past(bits: u16, places: &[u16]) -> Option<NoCause>
+    ensures { result ≡ if_beyond bits places.now }
+{
     for place in places {
         if *place >= bits {
             return Some(NoCause::Beyond { bits });

@@ -4,10 +4,11 @@ ghost use Rattle.link_laws.specs.sessions.Sessions.{OnWire};
 ghost use Rattle.link_wires.specs.Wires.{WireStandsFor};
 ghost use Rattle.link_wires.specs.Damages.{Finds, first_lpdu};
 
-use crate::damage::{Verdict, beyond, verdict_on};
+use crate::damage::{Verdict, past, verdict_in};
 use crate::wire::Flying;
 use circular_buffer::HeapCircularBuffer;
 use swp_base::Lpdu;
+use swp_frame::write_frame;
 use trace_model::{LostCause, NoCause};
 
 /// A damaged frame, and the other frame that is read in its place.
@@ -47,10 +48,11 @@ pub fn damaged_first(kept: &HeapCircularBuffer<Flying>, places: &[u16]) -> Damag
     let Some(sent) = first_frame(kept) else {
         return Damaged::Refused(NoCause::Empty);
     };
-    if let Some(cause) = beyond(&sent, places) {
+    let mut frame = write_frame(&sent);
+    if let Some(cause) = past(frame.bits.len() as u16, places) {
         return Damaged::Refused(cause);
     }
-    match verdict_on(&sent, places) {
+    match verdict_in(&sent, &mut frame, places) {
         Verdict::Same => Damaged::Same,
         Verdict::Lost(cause) => Damaged::Lost(cause),
         Verdict::Undetected(read) => Damaged::Undetected(Misread { sent, read }),

@@ -1,8 +1,11 @@
-use Rattle.std.proofs.Common.{sym, ◌∙◌}
+use Rattle.std.proofs.Common.{ap, sym, ◌∙◌, length}
+use Rattle.history.specs.Follows.{if_beyond}
 use Rattle.link_wires.proofs.FirstFrames.{finds_lost}
 use Rattle.link_wires.proofs.finding.damaged_first.Goals as goal
 
 pub returns-in-Lost : goal.returns-in-Lost
 returns-in-Lost c wire w =
+    let frame = c.write_frame-frame.ensures.frame in
     finds_lost wire c.args.places.now c.in-Some.sent c.in-Lost.cause (sym (c.first_frame.ensures wire w) ∙ c.in-Some.is)
-    (sym c.beyond.ensures ∙ c.in_default-beyond.is) c.in-Lost.ensures
+    (ap (λ n. if_beyond n c.args.places.now) (ap length (sym frame) ∙ sym c.len.ensures.value) ∙ sym c.past.ensures ∙ c.in_default-past.is)
+    c.in-Lost.ensures

@@ -1,6 +1,6 @@
 use Rattle.std.proofs.Common.{◌≡◌, drop}
 use Rattle.history.specs.Follows.{if_beyond}
-use Rattle.link_wires.proofs.damage.beyond.Given as goal
+use Rattle.link_wires.proofs.damage.past.Given as goal
 
 abbrev pub invariant-loop-place : goal.invariant-loop-place
 invariant-loop-place l = if_beyond l.bits l.places ≡ if_beyond l.bits (drop l.place-index l.places)
