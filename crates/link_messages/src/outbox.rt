@@ -1,5 +1,5 @@
 //! The messages that wait until they are acknowledged whole.
-ghost use Rattle.std.specs.Prelude.{◌≡◌, ◌+◌, ◌^◌, ◌<◌, if◌then◌else◌, length, map, slice_get, Some};
+ghost use Rattle.std.specs.Prelude.{◌≡◌, ◌+◌, ◌^◌, ◌<◌, ◌≤◌, ◌∷◌, if◌then◌else◌, length, map, slice_get, Some};
 ghost use Rattle.block_pool.specs.Pool.{IsLive, chain_bytes};
 ghost use Rattle.hcp_packet.specs.Packets.{packet_count, packets_of, packet_bytes};
 
@@ -257,10 +257,19 @@ fn fragment_of(pool: &mut Pool, queued: &Queued, place: u32) -> Info
 {
     let from = place * hcp_packet::MAX_DATA as u32;
     let last = pool.len(&queued.chain) - from <= hcp_packet::MAX_DATA as u32;
-    let mut bytes = [0; Info::MAX_LEN];
-    bytes[0] = first_byte(last, queued.pipe);
-    let count = pool.copy_on(&queued.chain, from, &mut bytes[1..]);
-    Info::new(&bytes[..1 + count])
+    let mut data = [0; hcp_packet::MAX_DATA];
+    let count = pool.copy_on(&queued.chain, from, &mut data);
+    packet_info(first_byte(last, queued.pipe), &data[..count])
+}
+
+/// The information field of a packet, of its first byte and its data.
+fn packet_info(first: u8, data: &[u8]) -> Info
+    requires { length data.now ≤ 28 }
+    ensures { result ≡ first ∷ data.now }
+{
+    let Info { mut bytes } = Info::new(&[first]);
+    let _fits = bytes.try_extend_from_slice(data);
+    Info { bytes }
 }
 
 /// The first byte of a packet.

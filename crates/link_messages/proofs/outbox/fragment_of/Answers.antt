@@ -22,4 +22,4 @@ returns-clause-fragment c =
     c.copy_on-count.ensures.count c.first_byte.ensures c.copy_on-count.ensures.copied in
     slice_get-map packet_bytes (packets_of pipe bytes) c.args.place
     ∙ (ap (λ n. option_map packet_bytes (slice_get (packets_of pipe bytes) n)) place
-    ∙ (ap (option_map packet_bytes) (packet_stands bytes pipe from whole low) ∙ ap (λ (l : List ℕ). Some l) (sym (c.new.ensures ∙ is))))
+    ∙ (ap (option_map packet_bytes) (packet_stands bytes pipe from whole low) ∙ ap (λ (l : List ℕ). Some l) (sym (c.packet_info.ensures ∙ is))))
