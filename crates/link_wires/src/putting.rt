@@ -10,7 +10,7 @@ ghost use Rattle.link_wires.specs.Notes.{side_of, AreNoted};
 ghost use Rattle.link_wires.specs.Wires.{WireStandsFor};
 ghost use Rattle.link_wires.specs.Putting.{GoesOutOf};
 
-use crate::wire::{Flying, copied, is_reset, put_last};
+use crate::wire::{Flying, is_reset, put_last};
 use circular_buffer::HeapCircularBuffer;
 use std::alloc::AllocError;
 use swp_base::Lpdu;
@@ -54,7 +54,7 @@ pub fn put_frame(
     let number = number_of(&lpdu, emitted, resets);
     entries.push(Entry::Emit {
         at,
-        lpdu: copied(&lpdu),
+        lpdu: lpdu.copied(),
     })?;
     let flying = Flying {
         lpdu,

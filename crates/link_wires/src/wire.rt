@@ -48,18 +48,6 @@ pub fn is_reset(lpdu: &Lpdu) -> bool
     lpdu.bytes()[0] == RSET
 }
 
-/// Another LPDU of the same bytes. Most acknowledgements have a single one.
-pub(crate) fn copied(lpdu: &Lpdu) -> Lpdu
-    ensures { result ≡ lpdu.now }
-{
-    let from = lpdu.bytes();
-    let Lpdu { mut bytes } = Lpdu::new(&[from[0]]);
-    if from.len() > 1 {
-        let _fits = bytes.try_extend_from_slice(&from[1..]);
-    }
-    Lpdu { bytes }
-}
-
 /// A frame stands last on a wire to an end. Where the wire is full, the oldest frame on it is lost.
 pub fn put_last(
     to: End,

@@ -59,11 +59,16 @@ impl Lpdu {
         self.bytes.as_slice()
     }
 
-    /// Another LPDU of the same bytes. It takes no memory.
+    /// Another LPDU of the same bytes. It takes no memory. Most acknowledgements have a single byte.
     pub fn copied(&self) -> Self
         ensures { result ≡ self.now }
     {
-        Self::new(self.bytes())
+        let from = self.bytes();
+        let Self { mut bytes } = Self::new(&[from[0]]);
+        if from.len() > 1 {
+            let _fits = bytes.try_extend_from_slice(&from[1..]);
+        }
+        Self { bytes }
     }
 }
 
