@@ -27,35 +27,9 @@ use swp_base::Nv;
 /// GATES_LIST: the loopback gate and the identity gate.
 pub(crate) const GATES: [u8; 2] = [LOOPBACK_GATE, IDENTITY_GATE];
 
-/// What a controller does with a message of a host, in order. It asks for a store that was started and may be used, at most seven
-/// desks, a host from 01 to 07 and a pipe that isn't reserved. In the mask `up` bit h stands for host h: its link is up. The store
-/// stays as it is.
-pub fn controller_deeds<N: Nv + Drop>(
-    store: &mut Store<N>,
-    desks: &[Desk],
-    up: u8,
-    host: u8,
-    pipe: u8,
-    message: &[u8],
-) -> Deeds
-    requires ready { IsReady store.old }
-    requires few { length desks.now ≤ 7 }
-    requires sound { AreSoundDesks desks.now }
-    requires some { 1 ≤ host }
-    requires host { host ≤ 7 }
-    requires pipe { pipe < 112 }
-    ensures deeds { (core : Core) (ports : List Port) → IsCoreOf store.old core → AreSeen up desks.now ports
-        → deeds_shown (handled pipe message.now) result.items ≡ controller_deeds core ports host (pipe, message.now) }
-    ensures doable { AreDoable result.items }
-    ensures unchanged { store.new ≡ store.old }
-{
-    let mut deeds = Deeds::new();
-    put_controller_deeds(&mut deeds, store, desks, up, host, pipe, message);
-    deeds
-}
-
-/// What a controller does with a message of a host is put into a list, which is empty, in order. It asks for the same as
-/// `controller_deeds`, and spares its caller a copy of the list.
+/// What a controller does with a message of a host is put into a list, which is empty, in order. It asks for a store that was started
+/// and may be used, at most seven desks, a host from 01 to 07 and a pipe that isn't reserved. In the mask `up` bit h stands for host h:
+/// its link is up. The store stays as it is.
 pub fn put_controller_deeds<N: Nv + Drop>(
     deeds: &mut Deeds,
     store: &mut Store<N>,

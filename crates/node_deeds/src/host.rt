@@ -41,32 +41,8 @@ pub struct Tasks {
     pub init: Option<Init>,
 }
 
-/// What a host does with a message, in order. It asks for a store that was started and may be used, a desk of a host from 01 to 07,
-/// which is the host's own number, and a pipe that isn't reserved. The store stays as it is.
-pub fn host_deeds<N: Nv + Drop>(
-    store: &mut Store<N>,
-    desk: &Desk,
-    is_up: bool,
-    tasks: &Tasks,
-    pipe: u8,
-    message: &[u8],
-) -> Deeds
-    requires ready { IsReady store.old }
-    requires some { 1 ≤ desk.now.host }
-    requires host { desk.now.host ≤ 7 }
-    requires pipe { pipe < 112 }
-    ensures deeds { (core : Core) (p : Port) → IsHostAt store.old desk.now is_up tasks.now core p
-        → deeds_shown (handled_by desk.now.host (init_running tasks.now.init) pipe message.now) result.items ≡ host_deeds core p (pipe, message.now) }
-    ensures doable { AreDoable result.items }
-    ensures unchanged { store.new ≡ store.old }
-{
-    let mut deeds = Deeds::new();
-    put_host_deeds(&mut deeds, store, desk, is_up, tasks, pipe, message);
-    deeds
-}
-
-/// What a host does with a message is put into a list, which is empty, in order. It asks for the same as `host_deeds`, and spares its
-/// caller a copy of the list.
+/// What a host does with a message is put into a list, which is empty, in order. It asks for a store that was started and may be used,
+/// a desk of a host from 01 to 07, which is the host's own number, and a pipe that isn't reserved. The store stays as it is.
 pub fn put_host_deeds<N: Nv + Drop>(
     deeds: &mut Deeds,
     store: &mut Store<N>,

@@ -15,9 +15,9 @@ mod responses;
 mod room;
 mod view;
 
-pub use controller::{controller_deeds, put_controller_deeds};
+pub use controller::put_controller_deeds;
 pub use deeds::{Deed, Deeds, InitEnd, Order, asking_notice};
 pub use desks::{About, Desk, Unanswered};
-pub use host::{Tasks, host_deeds, put_host_deeds};
+pub use host::{Tasks, put_host_deeds};
 pub use inits::{Init, Ordered, ordered_by};
 pub use room::{Shortfall, lack};
