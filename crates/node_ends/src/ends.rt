@@ -231,6 +231,7 @@ impl Ends {
 
     /// One tick at the end at this place. At most six control frames wait there to be sent. What is told of it; `None` behind the last
     /// end.
+    #[inline(always)]
     pub fn tick(&mut self, i: usize) -> Option<LinkReport>
         requires { (ports : List Port) × EndsStandFor self.old ports × FewAreDue (slice_get ports i) }
         ensures stands { (ports : List Port) → EndsStandFor self.old ports → EndsStandFor self.new (at_place i (λ p. has_come p (Some Tick)) ports) }

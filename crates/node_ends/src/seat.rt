@@ -171,6 +171,7 @@ impl Seat {
     }
 
     /// One tick of time. At most six control frames wait to be sent.
+    #[inline(always)]
     pub(crate) fn tick(&mut self, pool: &mut Pool) -> LinkReport
         requires stands { (m : Machine) × HoldsSeat pool.old self.old m }
         requires room { controls_in self.old.side.link ≤ 6 }

@@ -53,7 +53,8 @@ pairs_read digits bytes h =
     ap result_ok (decode_of-even digits (omega (arith, twice)) ∙ pairs_decode 0 digits bytes h)
 
 -- two digits more
-pub pairs_more : (digits bytes : List ℕ) (i : ℕ) (byte : ℕ) → 2 * i + 1 < length digits → IsPair (slice_index digits (2 * i)) (slice_index digits (2 * i + 1)) byte
+pub pairs_more : (digits bytes : List ℕ) (i : ℕ) (byte : ℕ) → 2 * i + 1 < length digits
+    → IsPair (slice_index digits (2 * i)) (slice_index digits (2 * i + 1)) byte
     → IsPairs (take (2 * i) digits) bytes → IsPairs (take (2 * (i + 1)) digits) (bytes ++ byte ∷ [])
 pairs_more digits bytes i byte fits pair h =
     let two : 2 * i + 1 + 1 ≡ 2 * (i + 1) = omega arith in

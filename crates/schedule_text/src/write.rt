@@ -89,6 +89,7 @@ fn hand_back(alloc: Global, text: &mut Text, out: &mut Vec<u8>) -> Result<(), No
     if short { Err(NoMemory) } else { Ok(()) }
 }
 
+#[inline(always)]
 fn write_each(alloc: Global, text: &mut Text, entries: &[Entry])
     ensures { (start : Start) (before : List ℕ) → HoldsText start before text.old
         → HoldsText start (before ++ entry_lines entries.now) text.new }

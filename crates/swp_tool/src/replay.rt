@@ -84,6 +84,7 @@ impl Replay {
     }
 
     /// Plays the next line, without the end of the line. Where it halts, the text stays as it was.
+    #[inline(always)]
     pub fn play(&mut self, alloc: Global, bytes: &[u8]) -> Result<(), Halt>
         requires few { HasFew self.old }
         requires next { self.old.count < 20000 }
@@ -229,6 +230,7 @@ fn open(alloc: Global, header: &Header, text: &mut Vec<u8>) -> Result<World, Hal
 }
 
 /// Has a world play a line, and gathers the text of the line and of what it caused.
+#[inline(always)]
 fn play_line(alloc: Global, world: &mut World, line: &Line, text: &mut Vec<u8>) -> Result<(), Halt>
     requires line { MayFollow (world_header world.old) line.now }
     requires room { (count : ℕ) × WasStepped world.old count × (count < 20000) }
@@ -248,6 +250,7 @@ fn play_line(alloc: Global, world: &mut World, line: &Line, text: &mut Vec<u8>) 
 }
 
 /// Steps a world by a line, and gathers the text of the line and of what it caused.
+#[inline(always)]
 fn step(alloc: Global, world: &mut World, line: &Line, text: &mut Vec<u8>) -> Result<(), Halt>
     requires line { IsPlayedLine (world_header world.old) line.now }
     requires room { HasRoomForLine world.old }

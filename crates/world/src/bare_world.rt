@@ -70,6 +70,7 @@ impl BareWorld {
     ///
     /// `Undetected` exactly where the line damages a frame so that another one is read in its place; `NoMemory` where memory
     /// runs out. The world is of no use then.
+    #[inline(always)]
     pub(crate) fn step(&mut self, line: &Line) -> Result<(), WorldFault>
         requires room { HasBareRoom self.old }
         requires line { IsLineOf (bare_header self.old) line.now }

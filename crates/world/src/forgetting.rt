@@ -18,6 +18,7 @@ fn let_go(entry: Entry, spare: &mut Vec<u8>) {
 }
 
 /// Nothing is noted any more.
+#[inline(always)]
 pub(crate) fn forget(entries: &mut Vec<Entry>, spare: &mut Vec<u8>)
     ensures { entries.new.items ≡ [] }
 {

@@ -69,6 +69,7 @@ impl Node {
     }
 
     // What an input did is noted, but for the message that came.
+    #[inline(always)]
     fn note(
         &mut self,
         place: Place,
@@ -257,6 +258,7 @@ fn note_gave_up(at: End, gave_up: Option<u8>, entries: &mut Vec<Entry>) -> Resul
 }
 
 // How many messages of the session are acknowledged is noted, where there are more of them.
+#[inline(always)]
 fn note_acked(
     place: Place,
     more: bool,

@@ -9,4 +9,5 @@ pub returns : goal.returns
 returns c =
     λ start first more h.
     subst (λ ws. HoldsWords start (first ∷ ws) c.maybe.new.self) (two_more more (codes "reset") (end_text c.args.at) (number_words c.args.window))
-    (c.maybe.ensures start first _ (c.end.ensures start first _ (holds_spaced start first (codes "reset") more _ (c.push.ensures start (spaced (first ∷ more)) h))))
+    (c.maybe.ensures start first _ (c.end.ensures start first _
+    (holds_spaced start first (codes "reset") more _ (c.push.ensures start (spaced (first ∷ more)) h))))

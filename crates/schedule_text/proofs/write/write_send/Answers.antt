@@ -13,4 +13,5 @@ returns c =
     let at = end_text c.args.at in
     let pid = byte_text c.args.pid in
     subst (λ ws. HoldsWords start (first ∷ ws) c.hex.new.self) (four_more more send at pid (encode_upper c.args.message.now))
-    (c.hex.ensures start first _ (c.end_and_byte.ensures start first _ (holds_spaced start first (codes "send") more _ (c.push.ensures start (spaced (first ∷ more)) h))))
+    (c.hex.ensures start first _ (c.end_and_byte.ensures start first _
+    (holds_spaced start first (codes "send") more _ (c.push.ensures start (spaced (first ∷ more)) h))))

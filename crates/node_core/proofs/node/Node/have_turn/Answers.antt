@@ -52,7 +52,8 @@ returns-clause-carried g c start w u order few held got =
     let L : List Deed → Type 0 = λ ds. option_map lack_shown short ≡ lack w.ports (needs h (deeds_shown a ds)) in
     let spares = c.spares-spares.ensures w.ports u.ends (hosts_low w.ports order.hosts) in
     let lacks : L d.new.deeds.items = subst L c.as_slice.ensures.value (c.lack-short.ensures a w.ports refl spares) in
-    let is = decided h a d.new.deeds.items short w (sym k.init) order.task few c.requires.sendable (d.ensures.deeds _ _ start w u order) d.ensures.doable lacks in
+    let is = decided h a d.new.deeds.items short w (sym k.init) order.task few c.requires.sendable
+    (d.ensures.deeds _ _ start w u order) d.ensures.doable lacks in
     let H : Bool → Type 0 = λ b. IsDecided h a d.new.deeds.items short b w in
     let D : List Deed → Type 0 = λ ds. IsDecided h a ds short c.args.held w in
     let A : Node g.row.N.Denot → Type 0 = λ n. IsDecided h (handling n m) c.as_slice-2.result.now short c.args.held w in

@@ -11,9 +11,11 @@ pub returns-then-number-lt10 : goal.returns-then-number-lt10
 returns-then-number-lt10 c =
     λ start first more h.
     holds_two start first (end_text c.args.at) (decimal c.args.number) more _
-    (subst (λ letter. HoldsText start (spaced (first ∷ more) ++ (32 ∷ ((byte_text c.args.at.link ++ letter ∷ []) ++ (32 ∷ decimal c.args.number)))) c.push_few.new.self)
+    (subst (λ letter. HoldsText start (spaced (first ∷ more) ++ (32 ∷ ((byte_text c.args.at.link ++ letter ∷ []) ++ (32 ∷ decimal c.args.number))))
+    c.push_few.new.self)
     c.side_letter.ensures
-    (subst (λ digits. HoldsText start (spaced (first ∷ more) ++ (32 ∷ ((digits ++ c.side_letter.result ∷ []) ++ (32 ∷ decimal c.args.number)))) c.push_few.new.self)
+    (subst (λ digits. HoldsText start (spaced (first ∷ more) ++ (32 ∷ ((digits ++ c.side_letter.result ∷ []) ++ (32 ∷ decimal c.args.number))))
+    c.push_few.new.self)
     (two_digits_are c.args.at.link c.high_digit.result c.low_digit.result c.high_digit.ensures c.low_digit.ensures)
     (subst (λ digits. HoldsText start (spaced (first ∷ more) ++ (32 ∷ c.high_digit.result ∷ c.low_digit.result ∷ c.side_letter.result ∷ 32 ∷ digits))
     c.push_few.new.self)
