@@ -1,9 +1,9 @@
 #!/usr/bin/env python3
-"""Builds the program unproved, in some eighty seconds, to count its instructions while one works: bench/build_unproved.py OUT [THRESHOLD].
+"""Builds the program unproved, in a minute and a half, to count its instructions while one works: bench/build_unproved.py OUT [THRESHOLD].
 
 Run it at the top of the repository. `rt try` makes the program's module, with checks that stop it at run time; here they are taken out, each
 function gets the attributes of its source (`#[inline(always)]`, `#[inline(never)]`, `#[cold]`), and the rest is compiled as the toolchain compiles
-what it has proved. THRESHOLD has the compiler build larger functions into their callers than it does by itself (225): so it shows what
+what it has proved. THRESHOLD has the compiler build larger functions into their callers than it does by itself (250): so it shows what
 inlining can give. Nothing is proved of what is built; the figures of bench/README.md are of the proved program."""
 
 import os
