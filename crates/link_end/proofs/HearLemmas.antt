@@ -15,7 +15,7 @@ use Rattle.shdlc_core.specs.declared.answers.LinkState.{LinkState}
 use Rattle.shdlc_core.specs.declared.answers.LinkState.TheVariants.{Up, Down, Waiting}
 use Rattle.shdlc_core.specs.declared.answers.Taken.{Taken}
 use Rattle.shdlc_core.specs.Kept.{KeptEnd, ShdlcStandsFor}
-use Rattle.shdlc_core.specs.Machine.{EndState, Fragment, Session, taken, take_answer, stopped, place_of}
+use Rattle.shdlc_core.specs.Machine.{EndState, Fragment, Session, taken, take_answer, stopped, place_of, ahead}
 use Rattle.shdlc_core.specs.Offering.{StandsBefore, with_out, left_waiting}
 use Rattle.shdlc_core.proofs.Offering.{stands_taken, stands_idle, takes_on, TakesOn, brings_fragment, no_fragment}
 use Rattle.shdlc_core.proofs.Histories.{in_phase}
@@ -36,7 +36,7 @@ use Rattle.link_messages.proofs.OutgoingLemmas.{aside-with_used}
 use Rattle.link_messages.proofs.Among.{whole-more, whole-length}
 use Rattle.link_end.specs.Ends.{OutboxStandsFor, Halfway, EndStandsFor, MayTake, LeavesBoxes}
 use Rattle.link_end.specs.Steps.{ForgetsMessages}
-use Rattle.link_end.specs.Received.{ReceivesOn}
+use Rattle.link_end.specs.Received.{ReceivesOn, fragment_in}
 use Rattle.link_end.specs.Reports.{nothing_told, heard_told}
 use Rattle.link_end.specs.declared.«end».End.{End}
 use Rattle.link_end.specs.declared.report.LinkReport.{LinkReport}
@@ -384,6 +384,37 @@ may_receive {k} {pool} {m} {c} {s} {t} h may = go t.accepted refl
     go : (o : Option Fragment) → t.accepted ≡ o → IfSome o (λ _. InboxIsReady pool k.inbox)
     go None is = tt
     go (Some f) is = record { fetched = may.fetched; used = free f may.free is }
+
+-- ---- a fragment that was accepted is that of its frame
+
+brought_up : (e : EndState) (ns nr : ℕ) (info f : Fragment) (q : Option ℕ) (r : Bool) → place_of e.session nr ≡ q
+    → (e.ready && (ahead e.session ns == 0)) ≡ r → (take_answer (in_phase Up e) (I ns nr info)).accepted ≡ Some f → fragment_in (I ns nr info) ≡ Some f
+brought_up e ns nr info f None r at new is = let h : None ≡ Some f = rw at at is in absurd (no_fragment f h)
+brought_up e ns nr info f (Some x) true at new is = let h : Some info ≡ Some f = rw (at, new) at is in h
+brought_up e ns nr info f (Some x) false at new is = let h : None ≡ Some f = rw (at, new) at is in absurd (no_fragment f h)
+
+brought_in : (p : LinkState) (e : EndState) (c : Control) (f : Fragment) → (take_answer (in_phase p e) c).accepted ≡ Some f → fragment_in c ≡ Some f
+brought_in Up e (I ns nr info) f is =
+    brought_up e ns nr info f (place_of e.session nr) (e.ready && (ahead e.session ns == 0)) refl refl is
+brought_in Up e (S k nr) f is = absurd (no_fragment f is)
+brought_in Up e (Rset w caps) f is = go (w == 0) refl
+  where
+    go : (b : Bool) → (w == 0) ≡ b → fragment_in (Rset w caps) ≡ Some f
+    go true at = let h : None ≡ Some f = rw at at is in absurd (no_fragment f h)
+    go false at = let h : None ≡ Some f = rw at at is in absurd (no_fragment f h)
+brought_in Up e Ua f is = absurd (no_fragment f is)
+brought_in Up e (Act act again) f is = absurd (no_fragment f is)
+brought_in Up e Clt f is = absurd (no_fragment f is)
+brought_in Down e c f is = let up = (brings_fragment (in_phase Down e) c f is).up in cc
+brought_in Waiting e c f is = let up = (brings_fragment (in_phase Waiting e) c f is).up in cc
+
+pub is_of_frame : {k : End} {pool : PoolState} {m : Machine} {c : Control} {s : KeptEnd} {t : Taken} → HasTaken k pool m c s t
+    → IfSome t.accepted (λ f. fragment_in c ≡ Some f)
+is_of_frame {k} {pool} {m} {c} {s} {t} h = go t.accepted refl
+  where
+    go : (o : Option Fragment) → t.accepted ≡ o → IfSome o (λ f. fragment_in c ≡ Some f)
+    go None is = tt
+    go (Some f) is = brought_in m.shdlc.phase m.shdlc c f (sym (ap (λ (x : Taken). x.accepted) (took_answer h)) ∙ is)
 
 -- ---- a packet that can't be joined
 

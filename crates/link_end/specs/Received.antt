@@ -1,5 +1,7 @@
 -- What an end does with fragments that its SHDLC end accepted. No public clause cites this module.
-use Rattle.std.specs.Prelude.{◌≡◌, ◌+◌, List, ◌++◌}
+use Rattle.std.specs.Prelude.{◌≡◌, ◌+◌, List, ◌++◌, Option, Some, None}
+use Rattle.swp_base.specs.declared.control_frames.Control.{Control}
+use Rattle.swp_base.specs.declared.control_frames.Control.TheVariants.{I}
 use Rattle.block_pool.specs.Pool.{PoolState, used_of}
 use Rattle.hcp_packet.specs.Packets.{packets_in, good_of}
 use Rattle.hcp_chain.specs.Joining.{given_by, open_after}
@@ -7,6 +9,11 @@ use Rattle.hcp_chain.specs.Holding.{held_blocks}
 use Rattle.shdlc_core.specs.Machine.{Fragment}
 use Rattle.link_messages.specs.declared.inbox.Inbox.{Inbox}
 use Rattle.link_messages.specs.Incoming.{chains_in, messages_under_way, came_whole, InboxLiesIn, InboxLeavesOthers}
+
+-- the fragment that a frame brings, where it brings one
+abbrev pub fragment_in : Control → Option Fragment
+fragment_in (I ns nr info) = Some info
+fragment_in _ = None
 
 -- the packets of these fragments were joined on, and the good messages that they gave were got
 pub record ReceivesOn (old new : PoolState) (before after : Inbox) (fragments : List Fragment) : Type 0 where

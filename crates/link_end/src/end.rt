@@ -254,7 +254,7 @@ impl End {
                 ..LinkReport::nothing()
             };
         }
-        match receive(&mut self.inbox, pool, &taken.accepted) {
+        match receive(&mut self.inbox, pool, control, &taken) {
             Ok(()) => {
                 let acked = self.outbox.acknowledge(pool, taken.acked);
                 self.refill(pool);

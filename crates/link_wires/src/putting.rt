@@ -17,6 +17,7 @@ use swp_base::Lpdu;
 use trace_model::{End, Entry, LostCause};
 
 // The number of a frame that an end puts on its link: RSETs are numbered from 1 as they are put there.
+#[inline(never)]
 fn number_of(lpdu: &Lpdu, emitted: &mut u32, resets: &mut u32) -> u32
     requires { resets.old + 1 < 2 ^ 32 }
     ensures number { (c : Frame) → control_of lpdu.now ≡ Ok c → result ≡ (if is_rset c then resets.old + 1 else 0) }

@@ -1,7 +1,7 @@
 -- How growing text goes on.
 use Rattle.std.proofs.Common.{◌≡◌, ℕ, ◌+◌, ◌*◌, ◌≤◌, ◌/◌, ◌%◌, ◌<◌, List, [], ◌∷◌, ◌++◌, length, take, refl, sym, ◌∙◌, ap, ap₂, subst, slice_index}
-use Rattle.std.proofs.Common.{append_assoc, get_or, ◌^◌, append-nil, arith}
-use Rattle.std.proofs.lemmas.List.{take_at, take_more}
+use Rattle.std.proofs.Common.{append_assoc, get_or, ◌^◌, append-nil, length-append, arith, false}
+use Rattle.std.proofs.lemmas.List.{take_at, take_more, take-append-le}
 use Rattle.std.proofs.lemmas.Grind.{flat_map-append}
 use Rattle.std.specs.Fmt.{decimal}
 use Rattle.std.proofs.lemmas.Fmt.{decimal_step, decimal_digit}
@@ -11,7 +11,7 @@ use Rattle.schedule_text.specs.declared.text.Text.{Text}
 use Rattle.trace_model.specs.declared.entry.Entry.{Entry}
 use Rattle.schedule_text.specs.Words.{spaced}
 use Rattle.schedule_text.specs.Entries.{entry_line, entry_lines}
-use Rattle.schedule_text.specs.Growth.{Start, HoldsText, HoldsWords}
+use Rattle.schedule_text.specs.Growth.{Start, all_text, HoldsText, HoldsWords}
 
 -- text behind text
 abbrev pub behind : Start → List ℕ → Start
@@ -37,6 +37,30 @@ holds_back start text more t h =
       marked = h.marked;
       within = subst (λ x. start.mark ≤ length x) e h.within;
       kept = h.kept ∙ ap (λ x. take start.mark x) e;
+    }
+
+-- more text behind what is held
+pub holds_more : (start : Start) (text more : List ℕ) (t later : Text) → HoldsText start text t → later.mark ≡ t.mark
+    → all_text later ≡ all_text t ++ more → (later.short ≡ false → t.short ≡ false) → HoldsText start (text ++ more) later
+holds_more start text more t later h mark grown still =
+    let e : start.before ++ (text ++ more) ≡ (start.before ++ text) ++ more = sym (append_assoc start.before text more) in
+    record {
+      whole = λ s. grown ∙ (ap (λ xs. xs ++ more) (h.whole (still s)) ∙ sym e);
+      mark_is = mark ∙ h.mark_is;
+      marked =
+          let long = h.marked in
+          let size = ap length grown in
+          let longer = length-append (all_text t) more in
+          omega (arith, long, size, longer);
+      within =
+          let long = h.within in
+          let size = ap length e in
+          let longer = length-append (start.before ++ text) more in
+          omega (arith, long, size, longer);
+      kept =
+          ap (λ xs. take start.mark xs) grown
+          ∙ (take-append-le start.mark (all_text t) more h.marked
+          ∙ (h.kept ∙ sym (ap (λ xs. take start.mark xs) e ∙ take-append-le start.mark (start.before ++ text) more h.within)));
     }
 
 -- the four letters of a word

@@ -12,14 +12,21 @@ pub record Start : Type 0 where
 abbrev pub start_in : List ℕ → Start
 start_in items = record { mark = length items; before = items }
 
--- Behind what stood there before stands the text, whose end waits, unless memory ran out. What stood in front of the mark stands there
--- in any case.
+-- what is seen of a transcript
+pub record Gathered : Type 0 where
+  pub items : List ℕ
+
+-- all that stands there, what waits too
+abbrev pub all_text : Text → List ℕ
+all_text t = t.bytes.items ++ t.waiting.items
+
+-- Behind what stood there before stands the text, unless memory ran out. What stood in front of the mark stands there in any case.
 pub record HoldsText (start : Start) (text : List ℕ) (t : Text) : Type 0 where
-  pub whole : t.short ≡ false → t.bytes.items ++ t.waiting.items ≡ start.before ++ text
+  pub whole : t.short ≡ false → all_text t ≡ start.before ++ text
   pub mark_is : t.mark ≡ start.mark
-  pub marked : start.mark ≤ length t.bytes.items
+  pub marked : start.mark ≤ length (all_text t)
   pub within : start.mark ≤ length (start.before ++ text)
-  pub kept : take start.mark t.bytes.items ≡ take start.mark (start.before ++ text)
+  pub kept : take start.mark (all_text t) ≡ take start.mark (start.before ++ text)
 
 -- the same of words with one space between them
 abbrev pub HoldsWords : Start → List (List ℕ) → Text → Type 0

@@ -1,6 +1,6 @@
 //! Lines of the few forms that most lines have are read at once where they have no fault and their words stand as they are written.
 //! Each other line is left to the table of the forms.
-ghost use Rattle.std.specs.Prelude.{◌≡◌, ◌==◌, ◌||◌, ◌≤◌, not, false, [], ◌∷◌, length, codes, Some, None, Ok, IfSome};
+ghost use Rattle.std.specs.Prelude.{◌≡◌, ◌==◌, ◌||◌, ◌≤◌, ℕ, not, false, List, [], ◌∷◌, length, codes, Some, None, Ok, IfSome};
 ghost use Rattle.std.specs.List.{list_any};
 ghost use Rattle.trace_model.specs.declared.line.Line.TheVariants as line;
 ghost use Rattle.schedule_text.specs.declared.read.Read.TheVariants as read;
@@ -19,107 +19,143 @@ use crate::words::{
     behind_send, behind_tick, next_word,
 };
 use arrayvec::ArrayVec;
-use std::alloc::Global;
 use trace_model::{End, Header, Line, Octets};
 
 /// The most digits of a message (this project's own).
 const MOST_DIGITS: usize = 9000;
 
-/// The line below a header that has one of the forms `send`, `deliver`, `lose`, `damage`, `reset`, `tick`, `ready` and `busy`, if it has
-/// no fault, its words stand as they are written and there is memory for its message. `None` says nothing of a line: `read_line` reads
-/// each.
-pub fn read_at_once(alloc: Global, header: &Header, bytes: &[u8]) -> Option<Line>
-    ensures said { IfSome result (λ said. line_of (Some header.now) bytes.now ≡ Ok (read.Line said)) }
-    ensures follows { IfSome result (λ said. MayFollow header.now said) }
+/// Reads the line below a header that has one of the forms `send`, `deliver`, `lose`, `damage`, `reset`, `tick`, `ready` and `busy`, if it
+/// has no fault, its words stand as they are written and there is memory for its message, which lies in memory that is left over. It is put
+/// where none was before, since a line that is handed out is moved. None there says nothing of a line: `read_line` reads each.
+pub fn read_at_once(header: &Header, bytes: &[u8], spare: &mut Vec<u8>, line: &mut Option<Line>)
+    requires none { line.old ≡ None }
+    ensures said { IfSome line.new (λ said. line_of (Some header.now) bytes.now ≡ Ok (read.Line said)) }
+    ensures follows { IfSome line.new (λ said. MayFollow header.now said) }
 {
     if bytes.len() > MAX_LINE {
-        return None;
+        return;
     }
+    short_at_once(header, bytes, spare, line);
+}
+
+/// The line, which isn't too long.
+#[inline(always)]
+fn short_at_once(header: &Header, bytes: &[u8], spare: &mut Vec<u8>, line: &mut Option<Line>)
+    requires short { length bytes.now ≤ 9000 }
+    requires none { line.old ≡ None }
+    ensures { IfSome line.new (λ said. line_of (Some header.now) bytes.now ≡ Ok (read.Line said)) }
+{
     if let Some(rest) = behind_deliver(bytes) {
-        let at = end_at_once(header, rest)?;
-        return Some(Line::Deliver { at, count: None });
+        deliver_at_once(header, rest, line);
+        return;
     }
     if let Some(rest) = behind_send(bytes) {
-        let (at, pid, message) = send_at_once(alloc, header, rest)?;
-        return Some(Line::Send { at, pid, message });
+        send_at_once(header, rest, spare, line);
+        return;
     }
-    other_at_once(header, bytes)
+    other_at_once(header, bytes, line);
 }
 
 /// The line, if it begins with another word that may stand in each world.
 #[inline(never)]
-fn other_at_once(header: &Header, bytes: &[u8]) -> Option<Line>
-    requires { length bytes.now ≤ 9000 }
-    ensures said { IfSome result (λ said. line_of (Some header.now) bytes.now ≡ Ok (read.Line said)) }
-    ensures follows { IfSome result (λ said. MayFollow header.now said) }
+fn other_at_once(header: &Header, bytes: &[u8], line: &mut Option<Line>)
+    requires short { length bytes.now ≤ 9000 }
+    requires none { line.old ≡ None }
+    ensures { IfSome line.new (λ said. line_of (Some header.now) bytes.now ≡ Ok (read.Line said)) }
 {
     if let Some(rest) = behind_lose(bytes) {
-        let at = end_at_once(header, rest)?;
-        return Some(Line::Lose { at });
+        if let Some(at) = end_at_once(header, rest) {
+            *line = Some(Line::Lose { at });
+        }
+        return;
     }
     if let Some(rest) = behind_tick(bytes) {
-        let times = tick_at_once(header, rest)?;
-        return Some(Line::Tick { times: Some(times) });
+        if let Some(times) = tick_at_once(header, rest) {
+            *line = Some(Line::Tick { times: Some(times) });
+        }
+        return;
     }
     if let Some(rest) = behind_reset(bytes) {
-        return reset_at_once(header, rest);
+        reset_at_once(header, rest, line);
+        return;
     }
     if let Some(rest) = behind_damage(bytes) {
-        return damage_at_once(header, rest);
+        damage_at_once(header, rest, line);
+        return;
     }
-    bare_at_once(header, bytes)
+    bare_at_once(header, bytes, line);
 }
 
 /// The line, if it begins with a word that may stand in a world without nodes alone.
 #[inline(always)]
-fn bare_at_once(header: &Header, bytes: &[u8]) -> Option<Line>
-    requires { length bytes.now ≤ 9000 }
-    ensures said { IfSome result (λ said. line_of (Some header.now) bytes.now ≡ Ok (read.Line said)) }
-    ensures follows { IfSome result (λ said. MayFollow header.now said) }
+fn bare_at_once(header: &Header, bytes: &[u8], line: &mut Option<Line>)
+    requires short { length bytes.now ≤ 9000 }
+    requires none { line.old ≡ None }
+    ensures { IfSome line.new (λ said. line_of (Some header.now) bytes.now ≡ Ok (read.Line said)) }
 {
     if header.hci {
-        return None;
+        return;
     }
     if let Some(rest) = behind_ready(bytes) {
-        let at = end_at_once(header, rest)?;
-        return Some(Line::Ready { at });
+        if let Some(at) = end_at_once(header, rest) {
+            *line = Some(Line::Ready { at });
+        }
+        return;
     }
     if let Some(rest) = behind_busy(bytes) {
-        let at = end_at_once(header, rest)?;
-        return Some(Line::Busy { at });
+        if let Some(at) = end_at_once(header, rest) {
+            *line = Some(Line::Busy { at });
+        }
     }
-    None
+}
+
+/// The line `deliver E`, if it has no fault.
+#[inline(always)]
+fn deliver_at_once(header: &Header, rest: &[u8], line: &mut Option<Line>)
+    requires none { line.old ≡ None }
+    ensures { IfSome line.new (λ said. Ok (read.Line said)
+        ≡ by_row (Some header.now) (row_for (codes "deliver") (words rest.now)) (words rest.now)) }
+{
+    if let Some(at) = end_at_once(header, rest) {
+        *line = Some(Line::Deliver { at, count: None });
+    }
 }
 
 /// The line `reset E` or `reset E W`, if it has no fault.
 #[inline(always)]
-fn reset_at_once(header: &Header, rest: &[u8]) -> Option<Line>
-    ensures said { IfSome result (λ said. Ok (read.Line said)
+fn reset_at_once(header: &Header, rest: &[u8], line: &mut Option<Line>)
+    requires none { line.old ≡ None }
+    ensures { IfSome line.new (λ said. Ok (read.Line said)
         ≡ by_row (Some header.now) (row_for (codes "reset") (words rest.now)) (words rest.now)) }
-    ensures follows { IfSome result (λ said. MayFollow header.now said) }
 {
     if let Some(at) = end_at_once(header, rest) {
-        return Some(Line::Reset { at, window: None });
+        *line = Some(Line::Reset { at, window: None });
+        return;
     }
-    let (at, second) = end_and_word(header, rest)?;
-    let window = small_number(second, 4)?;
-    Some(Line::Reset {
-        at,
-        window: Some(window),
-    })
+    if let Some((at, second)) = end_and_word(header, rest) {
+        if let Some(window) = small_number(second, 4) {
+            *line = Some(Line::Reset {
+                at,
+                window: Some(window),
+            });
+        }
+    }
 }
 
 /// The line `damage E P` that damages one bit, if it has no fault.
 #[inline(always)]
-fn damage_at_once(header: &Header, rest: &[u8]) -> Option<Line>
-    ensures said { IfSome result (λ said. Ok (read.Line said)
+fn damage_at_once(header: &Header, rest: &[u8], line: &mut Option<Line>)
+    requires none { line.old ≡ None }
+    ensures { IfSome line.new (λ said. Ok (read.Line said)
         ≡ by_row (Some header.now) (row_for (codes "damage") (words rest.now)) (words rest.now)) }
-    ensures follows { IfSome result (λ said. MayFollow header.now said) }
 {
-    let (at, second) = end_and_word(header, rest)?;
-    let mut places = ArrayVec::new();
-    places.push(number_of(second, 0, 399)?);
-    Some(Line::Damage { at, places })
+    if let Some((at, second)) = end_and_word(header, rest) {
+        if let Some(place) = number_of(second, 0, 399) {
+            let mut places = ArrayVec::new();
+            places.push(place);
+            *line = Some(Line::Damage { at, places });
+        }
+    }
 }
 
 /// The end that the first of two words names, if the world has it, and the second one.
@@ -135,12 +171,30 @@ fn end_and_word<'a>(header: &Header, rest: &'a [u8]) -> Option<(End, &'a [u8])>
     Some((at, second))
 }
 
-/// The end, the pipe and the message of a line `send E PID HEX`, if it has no fault, one space stands before each word and there is
-/// memory for its message.
+/// The line `send E PID HEX`, if it has no fault, one space stands before each word and there is memory for its message.
 #[inline(never)]
-fn send_at_once(alloc: Global, header: &Header, rest: &[u8]) -> Option<(End, u8, Octets)>
-    ensures { IfSome result (λ sent. Ok (read.Line (line.Send sent.0 sent.1 sent.2))
+fn send_at_once(header: &Header, rest: &[u8], spare: &mut Vec<u8>, line: &mut Option<Line>)
+    requires none { line.old ≡ None }
+    ensures { IfSome line.new (λ said. Ok (read.Line said)
         ≡ by_row (Some header.now) (row_for (codes "send") (words rest.now)) (words rest.now)) }
+{
+    if let Some((at, pid, digits)) = sending(header, rest) {
+        if let Some(bytes) = message_at_once(digits, spare) {
+            *line = Some(Line::Send {
+                at,
+                pid,
+                message: Octets { bytes },
+            });
+        }
+    }
+}
+
+/// The end, the pipe and the digits of the message of a line `send E PID HEX`, if the first two have no fault and one space stands before
+/// each word.
+#[inline(always)]
+fn sending<'a>(header: &Header, rest: &'a [u8]) -> Option<(End, u8, &'a [u8])>
+    ensures { IfSome result (λ sent. (bytes : List ℕ) → bytes_value sent.2.now ≡ Some bytes → 1 ≤ length bytes → length bytes ≤ 4500
+        → Ok (read.Line (line.Send sent.0 sent.1 bytes)) ≡ by_row (Some header.now) (row_for (codes "send") (words rest.now)) (words rest.now)) }
 {
     let (first, second, third) = three_words(rest)?;
     let at = end_of(first)?;
@@ -148,8 +202,7 @@ fn send_at_once(alloc: Global, header: &Header, rest: &[u8]) -> Option<(End, u8,
     if !knows(header, at.link) || !may_send(header, at) || 0x70 <= pid {
         return None;
     }
-    let bytes = message_at_once(alloc, third)?;
-    Some((at, pid, Octets { bytes }))
+    Some((at, pid, third))
 }
 
 /// Three words, the first of three letters and the second of two, if one space stands before each.
@@ -176,13 +229,13 @@ fn behind_space(line: &[u8]) -> Option<&[u8]>
 
 /// The bytes of a message, if its digits are right and there is memory for them.
 #[inline(always)]
-fn message_at_once(alloc: Global, digits: &[u8]) -> Option<Vec<u8>>
+fn message_at_once(digits: &[u8], spare: &mut Vec<u8>) -> Option<Vec<u8>>
     ensures { IfSome result (λ bytes. (bytes_value digits.now ≡ Some bytes.items) × (1 ≤ length bytes.items) × (length bytes.items ≤ 4500)) }
 {
     if digits.len() < 2 || MOST_DIGITS < digits.len() {
         return None;
     }
-    let bytes = bytes_of(alloc, digits)?;
+    let bytes = bytes_of(spare, digits)?;
     Some(bytes)
 }
 

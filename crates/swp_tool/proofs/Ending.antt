@@ -1,5 +1,5 @@
 -- What a replay that ends has written.
-use Rattle.std.proofs.Common.{◌≡◌, ℕ, ◌+◌, ◌<◌, ◌≤◌, Bool, true, false, IsTrue, List, [], ◌++◌, length, take, map, refl, sym, ap, ◌∙◌, append_assoc, subst}
+use Rattle.std.proofs.Common.{◌≡◌, ℕ, zero, suc, ◌+◌, ◌<◌, ◌≤◌, Bool, true, false, IsTrue, List, [], ◌∷◌, ◌++◌, length, take, map, refl, sym, ap, ◌∙◌, append_assoc, subst}
 use Rattle.std.proofs.Common.{inl, inr}
 use Rattle.std.specs.Prelude.{Option, Some, None, Result, Ok, Err, OnOk, OnErr, IfErr, is_err}
 use Rattle.std.specs.Str.Lines.{lines, strip_carriage_return}
@@ -157,3 +157,16 @@ pub finished_front : (p q : Pieces) (r : Result (Unit {0}) Halt) (bytes text : L
     → HasRead p bytes text → IsSomeTranscript bytes (text ++ q.replay.text.items)
 finished_front p q (Ok x) bytes text done halts h = inr (done bytes text h)
 finished_front p q (Err why) bytes text done halts h = inl (halts_end_front why q.replay.count bytes (text ++ q.replay.text.items) (halts bytes text h))
+
+-- ## A text that is written in two pieces
+
+-- a front of the first one is a front of both
+pub front_of_first : (n : ℕ) (xs ys : List ℕ) → (k : ℕ) × (take k (xs ++ ys) ≡ take n xs)
+front_of_first zero xs ys = (0, refl)
+front_of_first (suc n) [] ys = (0, refl)
+front_of_first (suc n) (x ∷ xs) ys = let rest = front_of_first n xs ys in (suc rest.0, ap (λ l. x ∷ l) rest.1)
+
+-- so is the first one with a front of the second
+pub front_of_both : (n : ℕ) (xs ys : List ℕ) → (k : ℕ) × (take k (xs ++ ys) ≡ xs ++ take n ys)
+front_of_both n [] ys = (n, refl)
+front_of_both n (x ∷ xs) ys = let rest = front_of_both n xs ys in (suc rest.0, ap (λ l. x ∷ l) rest.1)

@@ -1,11 +1,10 @@
 -- The text of a replay that is done tells what became of its schedule.
-use Rattle.std.proofs.Common.{◌≡◌, ℕ, ◌≤◌, ◌++◌, Bool, List, [], ◌∷◌, length, refl, sym, ap, ◌∙◌, arith, subst, codes, All}
+use Rattle.std.proofs.Common.{◌≡◌, ℕ, ◌++◌, Bool, List, [], ◌∷◌, refl, sym, ap, ◌∙◌, arith, subst, codes, All}
 use Rattle.std.specs.Prelude.{Option, Some, None}
 use Rattle.std.specs.Fmt.{decimal}
 use Rattle.std.specs.Str.Lines.{lines}
 use Rattle.trace_model.specs.declared.entry.Entry.{Entry}
 use Rattle.trace_model.specs.declared.line.Header.{Header}
-use Rattle.trace_model.specs.declared.line.Line.{Line}
 use Rattle.text_laws.specs.Ranges.{IsNumber, IsEntry}
 use Rattle.text_laws.proofs.CleanLemmas.{IsCleanLine, number_clean}
 use Rattle.text_laws.proofs.ShownLemmas.{same_ended}

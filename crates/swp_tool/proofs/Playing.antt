@@ -1,6 +1,6 @@
 -- What a line adds to a replay.
 use Rattle.std.proofs.Common.{◌≡◌, ◌==◌, ℕ, ◌+◌, ◌≤◌, ◌<◌, Bool, true, false, cond, List, [], ◌∷◌, ◌++◌, refl, sym, ap, ◌∙◌, append_assoc, arith, subst}
-use Rattle.std.specs.Prelude.{Option, Some, None, Ok, Result, IsSome, IsSomeAnd}
+use Rattle.std.specs.Prelude.{Option, Some, None, Ok, IsSome, IsSomeAnd}
 use Rattle.std.specs.Option.{ForSome}
 use Rattle.std.proofs.lemmas.Bool.{eqb-true}
 use Rattle.trace_model.specs.declared.line.Header.{Header}
@@ -11,7 +11,7 @@ use Rattle.history.specs.Follows.{misread}
 use Rattle.node_machine.specs.world.Lines.{misread_in}
 use Rattle.schedule_text.specs.Entries.{entry_lines}
 use Rattle.lines_told.specs.Below.{bare_link_behind, is_settling, misread_below, nodes_behind}
-use Rattle.lines_told.specs.Plays.{Play, lines_played, lines_said, plays_of, plays_of_line, rounds_played, rounds_to_rest, schedule_told}
+use Rattle.lines_told.specs.Plays.{Play, lines_played, plays_of, plays_of_line, rounds_to_rest, schedule_told}
 use Rattle.lines_told.proofs.Plays.{none_said, played-append, said-append, so_many_rounds}
 use Rattle.lines_told.proofs.Resting.{at_most}
 use Rattle.world.specs.declared.world_steps.World.{World}
@@ -20,8 +20,6 @@ use Rattle.world.specs.declared.fault.WorldFault.TheVariants as fault
 use Rattle.world.specs.Worlds.{IsWorldAt, HasRoomForLine, IsFaultThere, world_header}
 use Rattle.schedule_text.specs.Answers.{IsInGrammar}
 use Rattle.schedule_text.specs.Lines.{line_of}
-use Rattle.schedule_text.specs.declared.fault.LineFault.{LineFault}
-use Rattle.schedule_text.specs.declared.read.Read.{Read}
 use Rattle.schedule_text.specs.declared.read.Read.TheVariants as read
 use Rattle.swp_tool.specs.declared.replay.Replay.{Replay}
 use Rattle.swp_tool.specs.declared.replay.Halt.{Halt}

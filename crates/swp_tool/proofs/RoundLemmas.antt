@@ -1,8 +1,7 @@
 -- Rounds that are played one after another until all links are at rest.
-use Rattle.std.proofs.Common.{◌≡◌, ℕ, zero, suc, ◌+◌, ◌-◌, ◌≤◌, ◌<◌, Bool, true, false, cond, List, [], ◌∷◌, ◌++◌, refl, sym, ap, ◌∙◌, append_assoc, append-nil}
-use Rattle.std.proofs.Common.{arith, subst, length, take, get_or}
+use Rattle.std.proofs.Common.{◌≡◌, ℕ, zero, suc, ◌+◌, ◌-◌, ◌<◌, Bool, true, false, cond, List, [], ◌∷◌, ◌++◌, sym, ap, ◌∙◌, append_assoc, append-nil}
+use Rattle.std.proofs.Common.{arith, subst}
 use Rattle.std.specs.Prelude.{Result, Ok, Err, OnOk, OnErr, replicate}
-use Rattle.std.proofs.lemmas.List.{take_more}
 use Rattle.std.proofs.lemmas.List.Concat.{flat_map-append}
 use Rattle.trace_model.specs.declared.entry.Entry.{Entry}
 use Rattle.trace_model.specs.declared.entry.Entry.TheVariants.{Echo, Settled}
@@ -10,7 +9,7 @@ use Rattle.trace_model.specs.declared.line.Header.{Header}
 use Rattle.trace_model.specs.declared.line.Line.{Line}
 use Rattle.trace_model.specs.declared.line.Line.TheVariants as saying
 use Rattle.schedule_text.specs.Entries.{entry_line, entry_lines}
-use Rattle.lines_told.specs.Plays.{Play, lines_played, plays_of, plays_of_line, rests_behind, rounds_played, rounds_to_rest, schedule_told}
+use Rattle.lines_told.specs.Plays.{Play, lines_played, plays_of, plays_of_line, rests_behind, rounds_to_rest}
 use Rattle.lines_told.specs.Plays.{told_of_line, told_of_play, told_of_rounds}
 use Rattle.lines_told.specs.Plays.Play.{Round}
 use Rattle.lines_told.proofs.Plays.{plays_more, round_first, round_last, played-append, so_many_rounds}
@@ -35,14 +34,6 @@ pub more_again : (old text new : List ℕ) → (more : List ℕ) × (text ≡ ol
     → (more : List ℕ) × (new ≡ old ++ more)
 more_again old text new first later =
     (first.0 ++ later.0, later.1 ∙ (ap (λ l. l ++ later.0) first.1 ∙ append_assoc old first.0 later.0))
-
--- the lines of one entry more
-pub entries_more : (items : List Entry) (i : ℕ) (e : Entry) → i < length items → e ≡ get_or items i e
-    → entry_lines (take i items) ++ entry_line e ≡ entry_lines (take (i + 1) items)
-entries_more items i e less is =
-    let more : take i items ++ e ∷ [] ≡ take (i + 1) items = ap (λ (x : Entry). take i items ++ x ∷ []) is ∙ sym (take_more items i e less) in
-    ap (λ l. entry_lines (take i items) ++ l) (sym (append-nil (entry_line e)))
-    ∙ (sym (flat_map-append entry_line (take i items) (e ∷ [])) ∙ ap entry_lines more)
 
 -- ## What rounds tell
 
@@ -178,13 +169,13 @@ gone_more w v most n before text left gone =
 
 pub settled_text : (header : Header) (plays : List Play) (most r : ℕ) (old first text last : List ℕ) → r ≡ rounds_to_rest header plays most
     → first ≡ old ++ (entry_line (Echo (saying.Settle most)) ++ entry_lines []) → text ≡ first ++ entry_lines (told_of_rounds header plays r)
-    → last ≡ text ++ entry_line (Settled r)
+    → last ≡ text ++ entry_lines (Settled r ∷ [])
     → last ≡ old ++ (entry_line (Echo (saying.Settle most)) ++ entry_lines (told_of_line header plays (saying.Settle most)))
 settled_text header plays most r old first text last r_is first_is text_is last_is =
     let echo : List ℕ = entry_line (Echo (saying.Settle most)) in
     let told : List ℕ = entry_lines (told_of_rounds header plays r) in
     let end : List ℕ = entry_line (Settled r) in
-    last_is
+    (last_is ∙ ap (λ l. text ++ l) (append-nil end))
     ∙ (ap (λ l. l ++ end) (text_is ∙ ap (λ l. l ++ told) first_is)
     ∙ (append_assoc (old ++ (echo ++ [])) told end
     ∙ (append_assoc old (echo ++ []) (told ++ end)

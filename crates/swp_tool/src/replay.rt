@@ -13,8 +13,10 @@ ghost use Rattle.swp_tool.specs.Replays.{Runs, WasStepped, HasPlayed, HasFew, Ha
 ghost use Rattle.swp_tool.specs.Transcripts.{done_line};
 
 use crate::settling::settle;
-use schedule_text::{LineFault, Read, read_at_once, read_line, write_opening, write_step};
-use std::alloc::{AllocError, Global};
+use schedule_text::{
+    LineFault, Read, Transcript, read_at_once, read_line, write_opening, write_step,
+};
+use std::alloc::Global;
 use swp_base::NoMemory;
 use trace_model::{Header, Line};
 use world::{World, WorldFault};
@@ -65,7 +67,9 @@ pub struct Replay {
     /// The lines read so far, at most 20,000.
     pub count: u64,
     /// Text that was gathered and isn't written yet.
-    pub text: Vec<u8>,
+    pub text: Transcript,
+    /// The memory of a message that was read, for the next one.
+    pub spare: Vec<u8>,
 }
 
 impl Replay {
@@ -79,7 +83,8 @@ impl Replay {
         Replay {
             world: None,
             count: 0,
-            text: Vec::new(alloc),
+            text: Transcript::new(alloc),
+            spare: Vec::new(alloc),
         }
     }
 
@@ -95,22 +100,53 @@ impl Replay {
         ensures same { OnErr result (self.new.text.items ≡ self.old.text.items) }
         ensures uncounted { OnErr result (self.new.count ≡ self.old.count) }
     {
-        let read = self.read_at_once(alloc, bytes);
-        match &read {
-            Some(line) => self.go_on(alloc, line),
-            None => self.play_any(alloc, bytes),
+        let mut read = None;
+        self.read_at_once(bytes, &mut read);
+        let done = self.play_read(alloc, bytes, &read);
+        self.keep(read);
+        done
+    }
+
+    /// Reads the next line, if there is a world and the line has one of the forms that most lines have.
+    #[inline(always)]
+    fn read_at_once(&mut self, bytes: &[u8], read: &mut Option<Line>)
+        requires none { read.old ≡ None }
+        ensures said { IfSome read.new (λ said. IsSomeAnd self.new.world (λ w. line_of (Some (world_header w)) bytes.now ≡ Ok (Read.Line said))) }
+        ensures follows { IfSome read.new (λ said. IsSomeAnd self.new.world (λ w. MayFollow (world_header w) said)) }
+        ensures same { self.new ≡ record self.old { spare = self.new.spare } }
+    {
+        if let Some(world) = &self.world {
+            read_at_once(world.header(), bytes, &mut self.spare, read);
         }
     }
 
-    /// The next line, if there is a world and the line has one of the forms that most lines have.
+    /// Keeps the memory of the message of a line that was read, if it has one.
     #[inline(always)]
-    fn read_at_once(&self, alloc: Global, bytes: &[u8]) -> Option<Line>
-        ensures said { IfSome result (λ said. IsSomeAnd self.now.world (λ w. line_of (Some (world_header w)) bytes.now ≡ Ok (Read.Line said))) }
-        ensures follows { IfSome result (λ said. IsSomeAnd self.now.world (λ w. MayFollow (world_header w) said)) }
+    fn keep(&mut self, read: Option<Line>)
+        ensures { self.new ≡ record self.old { spare = self.new.spare } }
     {
-        match &self.world {
-            Some(world) => read_at_once(alloc, world.header(), bytes),
-            None => None,
+        if let Some(Line::Send { message, .. }) = read {
+            self.spare = message.bytes;
+        }
+    }
+
+    /// Plays the next line, which was read where it could be at once.
+    #[inline(always)]
+    fn play_read(&mut self, alloc: Global, bytes: &[u8], read: &Option<Line>) -> Result<(), Halt>
+        requires few { HasFew self.old }
+        requires next { self.old.count < 20000 }
+        requires said { IfSome read.now (λ said. IsSomeAnd self.old.world (λ w. line_of (Some (world_header w)) bytes.now ≡ Ok (Read.Line said))) }
+        requires follows { IfSome read.now (λ said. IsSomeAnd self.old.world (λ w. MayFollow (world_header w) said)) }
+        ensures played { OnOk result ((s : Schedule) (written : List ℕ) → HasPlayed self.old s written → HasPlayed self.new (and_line s bytes.now) written) }
+        ensures halts { IfErr result (λ why. (s : Schedule) (written : List ℕ) → HasPlayed self.old s written → HaltsAt why s bytes.now) }
+        ensures few { OnOk result (HasFew self.new) }
+        ensures count { OnOk result (self.new.count ≡ self.old.count + 1) }
+        ensures same { OnErr result (self.new.text.items ≡ self.old.text.items) }
+        ensures uncounted { OnErr result (self.new.count ≡ self.old.count) }
+    {
+        match read {
+            Some(line) => self.go_on(alloc, line),
+            None => self.play_any(alloc, bytes),
         }
     }
 
@@ -207,16 +243,16 @@ impl Replay {
 }
 
 /// Appends the last line of a transcript. Where there is no memory, the text stays as it was.
-fn append_done(alloc: Global, count: u64, text: &mut Vec<u8>) -> Result<(), AllocError>
+fn append_done(alloc: Global, count: u64, text: &mut Transcript) -> Result<(), NoMemory>
     ensures ok { OnOk result (text.new.items ≡ text.old.items ++ done_line count) }
     ensures err { OnErr result (text.new.items ≡ text.old.items) }
 {
     let line = format!(in alloc; "done {count}\n")?;
-    text.extend_from_slice(line.as_bytes())
+    text.append(line.as_bytes())
 }
 
 /// The world of a header, and the text of its opening behind what was gathered.
-fn open(alloc: Global, header: &Header, text: &mut Vec<u8>) -> Result<World, Halt>
+fn open(alloc: Global, header: &Header, text: &mut Transcript) -> Result<World, Halt>
     requires { MayBegin header.now }
     ensures stands { IfOk result (λ w. IsWorldAt w header.now []) }
     ensures stepped { IfOk result (λ w. WasStepped w 0) }
@@ -231,7 +267,12 @@ fn open(alloc: Global, header: &Header, text: &mut Vec<u8>) -> Result<World, Hal
 
 /// Has a world play a line, and gathers the text of the line and of what it caused.
 #[inline(always)]
-fn play_line(alloc: Global, world: &mut World, line: &Line, text: &mut Vec<u8>) -> Result<(), Halt>
+fn play_line(
+    alloc: Global,
+    world: &mut World,
+    line: &Line,
+    text: &mut Transcript,
+) -> Result<(), Halt>
     requires line { MayFollow (world_header world.old) line.now }
     requires room { (count : ℕ) × WasStepped world.old count × (count < 20000) }
     ensures runs { OnOk result ((header : Header) (lines : List Line) (before : List ℕ) → Runs world.old header lines (before ++ text.old.items)
@@ -251,7 +292,7 @@ fn play_line(alloc: Global, world: &mut World, line: &Line, text: &mut Vec<u8>) 
 
 /// Steps a world by a line, and gathers the text of the line and of what it caused.
 #[inline(always)]
-fn step(alloc: Global, world: &mut World, line: &Line, text: &mut Vec<u8>) -> Result<(), Halt>
+fn step(alloc: Global, world: &mut World, line: &Line, text: &mut Transcript) -> Result<(), Halt>
     requires line { IsPlayedLine (world_header world.old) line.now }
     requires room { HasRoomForLine world.old }
     ensures runs { OnOk result ((header : Header) (lines : List Line) (before : List ℕ) → Runs world.old header lines (before ++ text.old.items)

@@ -11,6 +11,7 @@ use crate::output::write_all;
 use crate::pieces::Pieces;
 use crate::replay::Halt;
 use crate::status::Status;
+use schedule_text::Transcript;
 use std::alloc::Global;
 use swp_base::{Failed, Sink, Source};
 
@@ -34,6 +35,20 @@ fn halted(why: Halt, count: u64) -> Status
     }
 }
 
+/// Writes a text that was gathered, at once where there is memory to join its pieces. Where a call fails, a front of it was written.
+fn write_text<K: Sink>(sink: &mut K, text: &mut Transcript) -> Result<(), Failed>
+    ensures count { K.faults sink.old ≤ K.faults sink.new }
+    ensures fault { OnErr result (Rose (K.faults sink.old) (K.faults sink.new)) }
+    ensures wrote { IsTrue K.tells → OnOk result (K.written sink.new ≡ K.written sink.old ++ text.old.items) }
+    ensures front { OnErr result ((n : ℕ) × (IsTrue K.tells → K.written sink.new ≡ K.written sink.old ++ take n text.old.items)) }
+    ensures same { text.new.items ≡ text.old.items }
+{
+    text.join();
+    let (first, rest) = text.pieces();
+    write_all(sink, first)?;
+    write_all(sink, rest)
+}
+
 /// Writes what a replay has gathered. Where a call fails, a front of it was written.
 fn flush<K: Sink>(sink: &mut K, pieces: &mut Pieces) -> Result<(), Failed>
     ensures count { K.faults sink.old ≤ K.faults sink.new }
@@ -47,7 +62,7 @@ fn flush<K: Sink>(sink: &mut K, pieces: &mut Pieces) -> Result<(), Failed>
     ensures lines { pieces.new.replay.count ≡ pieces.old.replay.count }
     ensures left { bytes_left pieces.new ≡ bytes_left pieces.old }
 {
-    write_all(sink, pieces.replay.text.as_slice())?;
+    write_text(sink, &mut pieces.replay.text)?;
     pieces.replay.text.clear();
     Ok(())
 }
@@ -91,7 +106,7 @@ impl Job for Pieces {
 
     fn close<K: Sink>(&mut self, alloc: Global, sink: &mut K) -> Status {
         let finished = self.finish(alloc);
-        if write_all(sink, self.replay.text.as_slice()).is_err() {
+        if write_text(sink, &mut self.replay.text).is_err() {
             return Status::WriteFault;
         }
         match finished {

@@ -11,7 +11,7 @@ ghost use Rattle.world.specs.Worlds.{IsWorldAt, HasRoomToSettle};
 ghost use Rattle.swp_tool.specs.Replays.{Runs, WasStepped, HasGoneThrough, HasRoundsLeft};
 
 use crate::replay::Halt;
-use schedule_text::{write_entry, write_step};
+use schedule_text::{Transcript, write_entries, write_step};
 use std::alloc::Global;
 use swp_base::NoMemory;
 use trace_model::{Entry, Line};
@@ -19,7 +19,12 @@ use world::World;
 
 /// Plays rounds until all links are at rest, `most` of them at most, and gathers the text of the line, of what the rounds tell, and of how
 /// many there were.
-pub fn settle(alloc: Global, world: &mut World, most: u32, text: &mut Vec<u8>) -> Result<(), Halt>
+pub fn settle(
+    alloc: Global,
+    world: &mut World,
+    most: u32,
+    text: &mut Transcript,
+) -> Result<(), Halt>
     requires most { most ≤ 20000 }
     requires room { HasRoundsLeft world.old most }
     ensures runs { OnOk result ((header : Header) (lines : List Said) (before : List ℕ) → Runs world.old header lines (before ++ text.old.items)
@@ -39,7 +44,12 @@ pub fn settle(alloc: Global, world: &mut World, most: u32, text: &mut Vec<u8>) -
 }
 
 // The same, but where there is no memory, more may stand behind the text.
-fn gather(alloc: Global, world: &mut World, most: u32, text: &mut Vec<u8>) -> Result<(), NoMemory>
+fn gather(
+    alloc: Global,
+    world: &mut World,
+    most: u32,
+    text: &mut Transcript,
+) -> Result<(), NoMemory>
     requires { HasRoundsLeft world.old most }
     ensures stands { OnOk result ((header : Header) (plays : List Play) → IsWorldAt world.old header plays
         → IsWorldAt world.new header (plays ++ plays_of_line header plays (line.Settle most))) }
@@ -49,7 +59,7 @@ fn gather(alloc: Global, world: &mut World, most: u32, text: &mut Vec<u8>) -> Re
 {
     write_step(alloc, &Line::Settle { rounds: most }, &[], text)?;
     match play_rounds(alloc, world, most, text) {
-        Ok(rounds) => write_entry(alloc, &Entry::Settled { rounds }, text),
+        Ok(rounds) => write_entries(alloc, &[Entry::Settled { rounds }], text),
         Err(_) => Err(NoMemory),
     }
 }
@@ -59,7 +69,7 @@ fn play_rounds(
     alloc: Global,
     world: &mut World,
     most: u32,
-    text: &mut Vec<u8>,
+    text: &mut Transcript,
 ) -> Result<u32, NoMemory>
     requires { HasRoundsLeft world.old most }
     ensures gone { IfOk result (λ rounds. (header : Header) (plays : List Play) → IsWorldAt world.old header plays
@@ -78,7 +88,7 @@ fn play_rounds(
 }
 
 // Plays one round, and gathers what it tells.
-fn play_round(alloc: Global, world: &mut World, text: &mut Vec<u8>) -> Result<(), NoMemory>
+fn play_round(alloc: Global, world: &mut World, text: &mut Transcript) -> Result<(), NoMemory>
     requires { HasRoomToSettle world.old }
     ensures stands { OnOk result ((header : Header) (plays : List Play) → IsWorldAt world.old header plays
         → IsWorldAt world.new header (plays ++ Round ∷ [])) }
@@ -87,18 +97,7 @@ fn play_round(alloc: Global, world: &mut World, text: &mut Vec<u8>) -> Result<()
     ensures more { OnErr result ((more : List ℕ) × (text.new.items ≡ text.old.items ++ more)) }
 {
     match world.round() {
-        Ok(()) => write_all_of(alloc, world.entries(), text),
+        Ok(()) => write_entries(alloc, world.entries(), text),
         Err(_) => Err(NoMemory),
     }
-}
-
-// Gathers the lines of entries, one after another.
-fn write_all_of(alloc: Global, entries: &[Entry], text: &mut Vec<u8>) -> Result<(), NoMemory>
-    ensures told { OnOk result (text.new.items ≡ text.old.items ++ entry_lines entries.now) }
-    ensures more { OnErr result ((more : List ℕ) × (text.new.items ≡ text.old.items ++ more)) }
-{
-    for entry in entries {
-        write_entry(alloc, entry, text)?;
-    }
-    Ok(())
 }

@@ -1,19 +1,14 @@
--- The vector has the text behind what it had, or it is as it was.
-use Rattle.std.proofs.Common.{[], ◌∙◌, arith, length}
-use Rattle.std.proofs.lemmas.List.{take-append-le, take_all}
-use Rattle.std.proofs.lemmas.Result.{on_ok_weaker, on_err_weaker}
-use Rattle.schedule_text.specs.Growth.{start_in}
+-- The text of the entry stands behind what there was.
+use Rattle.std.proofs.Common.{◌≡◌, ℕ, List, [], ◌++◌, ◌∙◌, ap, subst}
+use Rattle.std.proofs.lemmas.Result.{on_ok_weaker}
+use Rattle.schedule_text.specs.Entries.{entry_line}
+use Rattle.schedule_text.specs.Growth.{start_in, all_text, HoldsText}
 use Rattle.schedule_text.proofs.write.write_entry.Goals as goal
-
-pub returns-clause-err : goal.returns-clause-err
-returns-clause-err c =
-    let old = c.args.out.now.items in
-    let start = start_in old in
-    on_err_weaker c.hand_back.result
-    (λ back. back start _ (c.write_whole.ensures start [] c.text_behind-text.ensures)
-    ∙ (take-append-le (length old) old _ (omega arith) ∙ take_all (length old) old (omega arith))) c.hand_back.ensures.err
 
 pub returns-clause-ok : goal.returns-clause-ok
 returns-clause-ok c =
-    let start = start_in c.args.out.now.items in
-    on_ok_weaker c.hand_back.result (λ behind. behind start _ (c.write_whole.ensures start [] c.text_behind-text.ensures)) c.hand_back.ensures.ok
+    let old : List ℕ = c.args.out.now.items in
+    let begun : HoldsText (start_in []) [] c.begin.new.self = subst (λ text. HoldsText (start_in text) [] c.begin.new.self) c.new-text.ensures c.begin.ensures in
+    let text_is : all_text c.finish.new.self ≡ entry_line c.args.entry.now =
+    c.in_ok-finish.ensures.ok (start_in []) _ (c.write_whole.ensures (start_in []) [] begun) in
+    on_ok_weaker c.append_text.result (λ written. written ∙ ap (λ text. old ++ text) text_is) c.append_text.ensures.ok

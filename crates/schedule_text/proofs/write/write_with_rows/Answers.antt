@@ -1,6 +1,6 @@
 use Rattle.std.proofs.Common.{◌≡◌, [], ◌∷◌, ◌++◌, ◌∙◌}
 use Rattle.schedule_text.specs.Words.{spaced}
-use Rattle.schedule_text.specs.Entries.{entry_words, lines_behind}
+use Rattle.schedule_text.specs.Entries.{entry_words, entry_line, lines_behind}
 use Rattle.schedule_text.proofs.GrowthLemmas.{behind, holds_from, holds_back, holds_line}
 use Rattle.schedule_text.proofs.write.write_with_rows.Goals as goal
 
@@ -12,3 +12,6 @@ returns-in-Ok c = λ start before h.
     (holds_line (behind start before) words c.as_slice.result.now (lines_behind c.args.entry.now) _ rows
     (c.push_behind.ensures (behind start before) (words ++ 10 ∷ [])
     (c.end_line.ensures (behind start before) words (c.write_words.ensures (behind start before) (holds_from start before c.args.text.now h)))))
+
+pub returns-in-Err : goal.returns-in-Err
+returns-in-Err c start before h = c.give_up.ensures start before (entry_line c.args.entry.now) h

@@ -22,18 +22,18 @@ returns-in-Ok-clause-stands c =
     let w = c.args.world.now in
     let v = c.play_rounds.new.world in
     any_ok ((header : Header) (plays : List Play) → IsWorldAt w header plays
-    → IsWorldAt v header (plays ++ plays_of_line header plays (Settle c.args.most))) c.write_entry.result
+    → IsWorldAt v header (plays ++ plays_of_line header plays (Settle c.args.most))) c.write_entries.result
     (λ header plays stands.
     subst (λ (n : ℕ). IsWorldAt v header (plays ++ replicate n Round)) (c.in-Ok.ensures.rests header plays stands)
     (c.in-Ok.ensures.gone header plays stands).stands)
 
 pub returns-in-Ok-clause-told : goal.returns-in-Ok-clause-told
 returns-in-Ok-clause-told c =
-    on_ok_weaker c.write_entry.result
+    on_ok_weaker c.write_entries.result
     (λ written header plays stands.
     settled_text header plays c.args.most c.in-Ok.rounds c.args.text.now.items c.write_step.new.out.items c.play_rounds.new.text.items
-    c.write_entry.new.out.items (c.in-Ok.ensures.rests header plays stands) c.in_ok-write_step.ensures.ok
-    (c.in-Ok.ensures.gone header plays stands).text_is written) c.write_entry.ensures.ok
+    c.write_entries.new.out.items (c.in-Ok.ensures.rests header plays stands) c.in_ok-write_step.ensures.ok
+    (c.in-Ok.ensures.gone header plays stands).text_is written) c.write_entries.ensures.ok
 
 pub returns-in-Ok-clause-more : goal.returns-in-Ok-clause-more
 returns-in-Ok-clause-more c =
@@ -41,11 +41,11 @@ returns-in-Ok-clause-more c =
     let first : List ℕ = c.write_step.new.out.items in
     let text : List ℕ = c.play_rounds.new.text.items in
     let rounds = gone_more c.args.world.now c.play_rounds.new.world c.args.most c.in-Ok.rounds first text c.requires c.in-Ok.ensures.gone in
-    on_err_weaker c.write_entry.result
+    on_err_weaker c.write_entries.result
     (λ same.
-    more_again old first c.write_entry.new.out.items
+    more_again old first c.write_entries.new.out.items
     (entry_line (Echo (Settle c.args.most)) ++ entry_lines [], c.in_ok-write_step.ensures.ok)
-    (rounds.0, same ∙ rounds.1)) c.write_entry.ensures.err
+    (rounds.0, same ∙ rounds.1)) c.write_entries.ensures.err
 
 pub returns-in-Err-clause-more : goal.returns-in-Err-clause-more
 returns-in-Err-clause-more c =

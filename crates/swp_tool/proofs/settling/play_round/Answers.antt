@@ -14,20 +14,20 @@ pub returns-in-Ok-clause-stands : goal.returns-in-Ok-clause-stands
 returns-in-Ok-clause-stands c =
     let w = c.args.world.now in
     let v = c.round.new.self in
-    any_ok ((header : Header) (plays : List Play) → IsWorldAt w header plays → IsWorldAt v header (plays ++ Round ∷ [])) c.write_all_of.result
+    any_ok ((header : Header) (plays : List Play) → IsWorldAt w header plays → IsWorldAt v header (plays ++ Round ∷ [])) c.write_entries.result
     (λ header plays stands. subst (λ (h : Header). IsWorldAt v h (plays ++ Round ∷ [])) stands.header_is
     (c.in-Ok.ensures.stands plays (under_own_header w header plays stands)))
 
 pub returns-in-Ok-clause-told : goal.returns-in-Ok-clause-told
 returns-in-Ok-clause-told c =
     let w = c.args.world.now in
-    on_ok_weaker c.write_all_of.result
+    on_ok_weaker c.write_entries.result
     (λ written header plays stands.
     written
     ∙ ap (λ (es : List Entry). c.args.text.now.items ++ entry_lines es)
     (c.entries.ensures ∙ (c.in-Ok.ensures.entries plays (under_own_header w header plays stands)
     ∙ ap (λ (h : Header). told_of_play h (lines_played h plays) Round) stands.header_is)))
-    c.write_all_of.ensures.told
+    c.write_entries.ensures.ok
 
 pub returns-in-Err-clause-more : goal.returns-in-Err-clause-more
 returns-in-Err-clause-more c = ([], sym (append-nil c.args.text.now.items))

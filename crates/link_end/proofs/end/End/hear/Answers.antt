@@ -5,7 +5,7 @@ use Rattle.shdlc_core.specs.Machine.{Fragment}
 use Rattle.link_messages.specs.declared.inbox.Inbox.{Inbox}
 use Rattle.link_messages.specs.Incoming.{IsInboxReady, messages_under_way}
 use Rattle.link_end.specs.Ends.{LeavesBoxes}
-use Rattle.link_end.proofs.HearLemmas.{over_stands, over_told, may_receive, cut_enough, goes_on, breaks_off, fault_lies, broken_elsewhere, received_lies}
+use Rattle.link_end.proofs.HearLemmas.{over_stands, over_told, may_receive, is_of_frame, cut_enough, goes_on, breaks_off, fault_lies, broken_elsewhere, received_lies}
 use Rattle.link_end.proofs.HearLemmas.{some_brought}
 use Rattle.link_end.proofs.BoxLemmas.{leaves_more, leaves_same}
 use Rattle.link_end.proofs.«end».End.hear.Goals as goal
@@ -24,6 +24,11 @@ pub receive-requires-clause-ready : goal.receive-requires-clause-ready
 receive-requires-clause-ready c =
     let t = c.take-taken.ensures in
     may_receive (record { before = c.requires.stands.1; stands = t.stands; answer = t.answer }) c.requires.ready
+
+pub receive-requires-clause-brought : goal.receive-requires-clause-brought
+receive-requires-clause-brought c =
+    let t = c.take-taken.ensures in
+    is_of_frame (record { before = c.requires.stands.1; stands = t.stands; answer = t.answer })
 
 pub acknowledge-acked-requires-clause-lies : goal.acknowledge-acked-requires-clause-lies
 acknowledge-acked-requires-clause-lies c = received_lies c.requires.stands.1 c.in-Ok.ensures.ok

@@ -1,5 +1,5 @@
 -- What was gathered at the end stands behind what was written.
-use Rattle.std.proofs.Common.{◌≡◌, ◌++◌, List, ℕ, IsTrue, [], sym, ap, ◌∙◌, subst, take, refl, arith}
+use Rattle.std.proofs.Common.{◌≡◌, ◌++◌, List, ℕ, IsTrue, [], sym, ◌∙◌, subst, take, refl, arith}
 use Rattle.std.proofs.lemmas.List.{append-nil}
 use Rattle.swp_tool.specs.declared.status.Status.{Status}
 use Rattle.swp_tool.specs.Transcripts.{IsDoneText}
@@ -11,34 +11,32 @@ pub returns-then-is_err-clause-ends : goal.returns-then-is_err-clause-ends
 returns-then-is_err-clause-ends g c o input before under =
     let tells = g.K.Sink.tells in
     let now = c.finish-finished.new.self.replay.text.items in
-    let items = c.as_slice.result.now in
-    let front = of_err ((n : ℕ) × (IsTrue tells → g.K.Sink.written c.write_all.new.sink ≡ g.K.Sink.written c.args.sink.now
-    ++ take n items)) c.write_all.result c.is_err.result c.is_err.ensures.value c.if-is_err.true c.write_all.ensures.front in
+    let front = of_err ((n : ℕ) × (IsTrue tells → g.K.Sink.written c.write_text.new.sink ≡ g.K.Sink.written c.args.sink.now
+    ++ take n now)) c.write_text.result c.is_err.result c.is_err.ensures.value c.if-is_err.true c.write_text.ensures.front in
     let input_is : input ≡ under.bytes = under.input_is ∙ append-nil under.bytes in
     let P : List ℕ → Type 0 = λ i. IsSomeTranscript i (under.text ++ now) in
     let some = subst P (sym input_is)
     (finished_front c.args.self.now c.finish-finished.new.self c.finish-finished.result under.bytes under.text c.finish-finished.ensures.done
     c.finish-finished.ensures.halts under.read) in
     cut_short [] [] now under (omega arith) some
-    (front.0, λ told. front.1 told ∙ ap (λ l. g.K.Sink.written c.args.sink.now ++ take front.0 l) c.as_slice.ensures.value)
+    front
 
 pub returns-in-Ok-clause-ends : goal.returns-in-Ok-clause-ends
 returns-in-Ok-clause-ends g c o input before under =
     let tells = g.K.Sink.tells in
     let now = c.finish-finished.new.self.replay.text.items in
-    let after = g.K.Sink.written c.write_all.new.sink in
-    let wrote : IsTrue tells → after ≡ g.K.Sink.written c.args.sink.now ++ c.as_slice.result.now =
+    let after = g.K.Sink.written c.write_text.new.sink in
+    let wrote : IsTrue tells → after ≡ g.K.Sink.written c.args.sink.now ++ now =
     λ told. of_ok
-    (after ≡ g.K.Sink.written c.args.sink.now ++ c.as_slice.result.now) c.write_all.result c.is_err.result c.is_err.ensures.value c.if-is_err.false
-    (c.write_all.ensures.wrote told) in
+    (after ≡ g.K.Sink.written c.args.sink.now ++ now) c.write_text.result c.is_err.result c.is_err.ensures.value c.if-is_err.false
+    (c.write_text.ensures.wrote told) in
     let input_is : input ≡ under.bytes = under.input_is ∙ append-nil under.bytes in
     let P : List ℕ → Type 0 = λ i. IsDoneText i (under.text ++ now) in (
       refl,
       (
         under.text ++ now,
         subst P (sym input_is) (c.in-Ok.ensures.done under.bytes under.text under.read),
-        behind tells before under.text now (g.K.Sink.written c.args.sink.now) after under.after_is
-            (λ told. wrote told ∙ ap (λ l. g.K.Sink.written c.args.sink.now ++ l) c.as_slice.ensures.value),
+        behind tells before under.text now (g.K.Sink.written c.args.sink.now) after under.after_is wrote,
       ),
     )
 
@@ -46,16 +44,15 @@ pub returns-in-Err-clause-ends : goal.returns-in-Err-clause-ends
 returns-in-Err-clause-ends g c o input before under =
     let tells = g.K.Sink.tells in
     let now = c.finish-finished.new.self.replay.text.items in
-    let after = g.K.Sink.written c.write_all.new.sink in
-    let wrote : IsTrue tells → after ≡ g.K.Sink.written c.args.sink.now ++ c.as_slice.result.now =
+    let after = g.K.Sink.written c.write_text.new.sink in
+    let wrote : IsTrue tells → after ≡ g.K.Sink.written c.args.sink.now ++ now =
     λ told. of_ok
-    (after ≡ g.K.Sink.written c.args.sink.now ++ c.as_slice.result.now) c.write_all.result c.is_err.result c.is_err.ensures.value c.if-is_err.false
-    (c.write_all.ensures.wrote told) in
+    (after ≡ g.K.Sink.written c.args.sink.now ++ now) c.write_text.result c.is_err.result c.is_err.ensures.value c.if-is_err.false
+    (c.write_text.ensures.wrote told) in
     let input_is : input ≡ under.bytes = under.input_is ∙ append-nil under.bytes in
     let P : List ℕ → Type 0 = λ i. Replayed tells c.halted.result i [] before after in
     let Q : Status → Type 0 = λ s. Replayed tells s under.bytes [] before after in
     subst P (sym input_is) (subst Q (sym c.halted.ensures.status)
     (halted_at_end tells c.in-Err.why c.finish-finished.new.self.replay.count under.bytes (under.text ++ now) before after
     (c.in-Err.ensures.halts under.bytes under.text under.read)
-    (behind tells before under.text now (g.K.Sink.written c.args.sink.now) after under.after_is
-    (λ told. wrote told ∙ ap (λ l. g.K.Sink.written c.args.sink.now ++ l) c.as_slice.ensures.value))))
+    (behind tells before under.text now (g.K.Sink.written c.args.sink.now) after under.after_is wrote)))
