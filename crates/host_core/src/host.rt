@@ -5,8 +5,8 @@ use link_end::ResetRefused;
 use node_core::{BootFault, BootRefused, HostRefused, Node, Ran, how_it_ran};
 use std::alloc::Global;
 use std::marker::Model;
-use swp_base::{Lpdu, MemNv, Nv, Role};
-use swp_lpdu::read_lpdu;
+use swp_base::{Control, Lpdu, MemNv, Nv, Role};
+use swp_lpdu::{LpduFault, read_lpdu};
 use trace_model::Watch;
 
 /// The most bytes of a message. This project's own.
@@ -31,7 +31,8 @@ impl<N: Nv + Drop> Model for Host<N> {
 }
 
 impl<N: Nv + Drop> Host<N> {
-    ghost use Rattle.std.specs.Prelude.{◌≡◌, ◌≢◌, ◌≤◌, ◌==◌, ◌&&◌, List, map, [], ◌∷◌, length, is_some, None, Some, IfOk, IfErr, IfSome, OnOk, OnErr, IsTrue};
+    ghost use Rattle.std.specs.Prelude.{◌≡◌, ◌≢◌, ◌≤◌, ◌==◌, ◌&&◌, ℕ, List, map, [], ◌∷◌, length, is_some, None, Some, IfOk};
+    ghost use Rattle.std.specs.Prelude.{IfErr, IfSome, OnOk, OnErr, IsTrue};
     ghost use Rattle.std.specs.Prelude.{MatchResult, Ok, true};
     ghost use Rattle.swp_base.specs.Outside.{Rose};
     ghost use Rattle.swp_base.specs.declared.link_terms.Role.TheVariants.{Uicc};
@@ -103,11 +104,25 @@ impl<N: Nv + Drop> Host<N> {
         ensures count { N.faults self.old.store.journal.nv ≤ N.faults self.new.store.journal.nv }
         ensures rose { result ≡ Ran.Stopped → Rose (N.faults self.old.store.journal.nv) (N.faults self.new.store.journal.nv) }
     {
-        let read = read_lpdu(lpdu);
+        self.take_read(&read_lpdu(lpdu), watch)
+    }
+
+    /// What an LPDU says is taken from the link, as `take` takes the LPDU.
+    pub fn take_read<W: Watch>(&mut self, read: &Result<Control, LpduFault>, watch: &mut W) -> Ran
+        requires may { MayStep self.old }
+        requires read { (lpdu : List ℕ) × (read.now ≡ control_of lpdu) }
+        ensures stepped { (start : List Noted) (w : Work) (lpdu : List ℕ) → BeginsStep self.old (W.noted watch.old) (W.is_short watch.old) start w
+            → read.now ≡ control_of lpdu → Brings N.writes self.old.store.journal.nv self.new.store.journal.nv
+            (HasStepped self.new (W.noted watch.new) (W.is_short watch.new) start) (steps (AtEnd self.old.number (lpdu_input lpdu))) w }
+        ensures number { self.new.number ≡ self.old.number }
+        ensures ran { result ≡ ran_so self.new.store.journal.live }
+        ensures count { N.faults self.old.store.journal.nv ≤ N.faults self.new.store.journal.nv }
+        ensures rose { result ≡ Ran.Stopped → Rose (N.faults self.old.store.journal.nv) (N.faults self.new.store.journal.nv) }
+    {
         let host = self.node.number();
         let live = self
             .node
-            .take_step(host, &read, self.buffer.as_mut_slice(), watch);
+            .take_step(host, read, self.buffer.as_mut_slice(), watch);
         self.node.end_step();
         how_it_ran(live)
     }

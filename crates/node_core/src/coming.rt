@@ -108,14 +108,16 @@ impl<N: Nv + Drop> Node<N> {
     }
 
     /// What an LPDU says comes to the end of the link with this host, and is noted. At most six control frames wait there to be sent, and
-    /// while a message waits there the end is held. The buffer has 4,096 bytes. What is told of it; `None` where there is no such end.
+    /// while a message waits there the end is held. The buffer has 4,096 bytes. What is told of it is put into `told`: `None` where there is
+    /// no such end.
     pub(crate) fn take<W: Watch>(
         &mut self,
         host: u8,
         read: &Result<Control, LpduFault>,
         buffer: &mut [u8],
         watch: &mut W,
-    ) -> Option<LinkReport>
+        told: &mut Option<LinkReport>,
+    )
         requires runs { IsSoundNode self.old }
         requires buffer { length buffer.old ≡ 4096 }
         requires may { (start : List Noted) × (w : Work) × IsInStep self.old (W.noted watch.old) (W.is_short watch.old) start w
@@ -124,16 +126,16 @@ impl<N: Nv + Drop> Node<N> {
         ensures carried { (start : List Noted) (w : Work) (lpdu : List ℕ) → IsInStep self.old (W.noted watch.old) (W.is_short watch.old) start w
             → read.now ≡ control_of lpdu → IsInStep self.new (W.noted watch.new) (W.is_short watch.new) start (all_come (AtEnd host (lpdu_input lpdu)) w) }
         ensures answer { (start : List Noted) (w : Work) (lpdu : List ℕ) → IsInStep self.old (W.noted watch.old) (W.is_short watch.old) start w
-            → read.now ≡ control_of lpdu → result ≡ option_map (λ (p : Port). report_told (report p.side (lpdu_input lpdu))) (port_at w.ports host) }
+            → read.now ≡ control_of lpdu → told.new ≡ option_map (λ (p : Port). report_told (report p.side (lpdu_input lpdu))) (port_at w.ports host) }
         ensures store { self.new.store ≡ self.old.store }
         ensures number { self.new.number ≡ self.old.number }
         ensures runs { IsSoundNode self.new }
     {
-        let Some(report) = self.ends.take(host, read) else {
-            return None;
+        self.ends.take(host, read, told);
+        let Some(report) = told else {
+            return;
         };
-        self.note_input(host, &report, buffer, watch);
-        Some(report)
+        self.note_input(host, report, buffer, watch);
     }
 
     /// Activation begins anew at the end of the link with this host, with the power mode of a CLF or the sync identifier of a UICC, and
@@ -246,10 +248,12 @@ impl<N: Nv + Drop> Node<N> {
         let Some(host) = self.ends.host(i) else {
             return;
         };
-        let Some(report) = self.ends.tick(i) else {
+        let mut told = None;
+        self.ends.tick(i, &mut told);
+        let Some(report) = &told else {
             return;
         };
-        self.note_input(host, &report, buffer, watch);
+        self.note_input(host, report, buffer, watch);
     }
 
     /// Time passes at all ends, one after another, and what it did there is noted. At most six control frames wait at each to be sent.

@@ -109,7 +109,8 @@ impl<N: Nv + Drop> Node<N> {
         ensures number { self.new.number ≡ self.old.number }
         ensures runs { IsSoundNode self.new }
     {
-        let told = self.take(host, read, buffer, watch);
+        let mut told = None;
+        self.take(host, read, buffer, watch, &mut told);
         let came = sync_told(host, &told);
         self.finish(came, buffer, watch)
     }

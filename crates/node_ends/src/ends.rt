@@ -163,20 +163,27 @@ impl Ends {
     }
 
     /// What an LPDU says comes to the end of the link with this host. While a message waits at an end, it is held. At most six control
-    /// frames wait there to be sent. What is told of it; `None` where there is no such end.
-    pub fn take(&mut self, host: u8, read: &Result<Control, LpduFault>) -> Option<LinkReport>
+    /// frames wait there to be sent. What is told of it is put into `told`, since a report is long to hand on: `None` where there is no such
+    /// end.
+    pub fn take(
+        &mut self,
+        host: u8,
+        read: &Result<Control, LpduFault>,
+        told: &mut Option<LinkReport>,
+    )
         requires stands { (ports : List Port) × EndsStandFor self.old ports × FewAreDue (port_at ports host)
             × IsHeldWhileOneWaits (port_at ports host) }
         requires read { (lpdu : List ℕ) × (read.now ≡ control_of lpdu) }
         ensures stands { (ports : List Port) (lpdu : List ℕ) → EndsStandFor self.old ports → read.now ≡ control_of lpdu
             → EndsStandFor self.new (with_port host (λ p. has_come p (Some (lpdu_input lpdu))) ports) }
         ensures answer { (ports : List Port) (lpdu : List ℕ) → EndsStandFor self.old ports → read.now ≡ control_of lpdu
-            → result ≡ option_map (λ (p : Port). report_told (report p.side (lpdu_input lpdu))) (port_at ports host) }
+            → told.new ≡ option_map (λ (p : Port). report_told (report p.side (lpdu_input lpdu))) (port_at ports host) }
     {
         let Some(i) = place_of(self.seats.as_slice(), host) else {
-            return None;
+            *told = None;
+            return;
         };
-        Some(take_at(&mut self.seats, i, &mut self.pool, host, read))
+        take_at(&mut self.seats, i, &mut self.pool, host, read, told);
     }
 
     /// A reset of the link with this host is asked for, with this window, which is 1 to 4, or with the end's own one.
@@ -229,19 +236,19 @@ impl Ends {
         Some(deactivate_at(&mut self.seats, i, &mut self.pool, host))
     }
 
-    /// One tick at the end at this place. At most six control frames wait there to be sent. What is told of it; `None` behind the last
-    /// end.
-    #[inline(always)]
-    pub fn tick(&mut self, i: usize) -> Option<LinkReport>
+    /// One tick at the end at this place. At most six control frames wait there to be sent. What is told of it is put into `told`: `None`
+    /// behind the last end.
+    pub fn tick(&mut self, i: usize, told: &mut Option<LinkReport>)
         requires { (ports : List Port) × EndsStandFor self.old ports × FewAreDue (slice_get ports i) }
         ensures stands { (ports : List Port) → EndsStandFor self.old ports → EndsStandFor self.new (at_place i (λ p. has_come p (Some Tick)) ports) }
         ensures answer { (ports : List Port) → EndsStandFor self.old ports
-            → result ≡ option_map (λ (p : Port). report_told (report p.side Tick)) (slice_get ports i) }
+            → told.new ≡ option_map (λ (p : Port). report_told (report p.side Tick)) (slice_get ports i) }
     {
         if i >= self.seats.len() {
-            return None;
+            *told = None;
+            return;
         }
-        Some(tick_place(&mut self.seats, i, &mut self.pool))
+        tick_place(&mut self.seats, i, &mut self.pool, told);
     }
 
     /// How many ends there are.
@@ -514,7 +521,8 @@ fn take_at(
     pool: &mut Pool,
     host: u8,
     read: &Result<Control, LpduFault>,
-) -> LinkReport
+    told: &mut Option<LinkReport>,
+)
     requires place { place_in host seats.old ≡ Some i }
     requires stands { (ports : List Port) × AreEnds pool.old seats.old ports × FewAreDue (port_at ports host)
         × IsHeldWhileOneWaits (port_at ports host) }
@@ -522,12 +530,11 @@ fn take_at(
     ensures stands { (ports : List Port) (lpdu : List ℕ) → AreEnds pool.old seats.old ports → read.now ≡ control_of lpdu
         → AreEnds pool.new seats.new (with_port host (λ p. has_come p (Some (lpdu_input lpdu))) ports) }
     ensures answer { (ports : List Port) (lpdu : List ℕ) → AreEnds pool.old seats.old ports → read.now ≡ control_of lpdu
-        → Some result ≡ option_map (λ (p : Port). report_told (report p.side (lpdu_input lpdu))) (port_at ports host) }
+        → told.new ≡ option_map (λ (p : Port). report_told (report p.side (lpdu_input lpdu))) (port_at ports host) }
 {
     let seat = &mut seats[i];
-    let report = seat.take(pool, read);
-    seat.count(&report);
-    report
+    let report = told.insert(seat.take(pool, read));
+    seat.count(report);
 }
 
 // A reset is asked for at the end at this place.
@@ -583,18 +590,17 @@ fn deactivate_at(seats: &mut [Seat], i: usize, pool: &mut Pool, host: u8) -> Lin
 }
 
 // One tick there.
-fn tick_place(seats: &mut [Seat], i: usize, pool: &mut Pool) -> LinkReport
+fn tick_place(seats: &mut [Seat], i: usize, pool: &mut Pool, told: &mut Option<LinkReport>)
     requires inside { i < length seats.old }
     requires stands { (ports : List Port) × AreEnds pool.old seats.old ports × FewAreDue (slice_get ports i) }
     ensures stands { (ports : List Port) → AreEnds pool.old seats.old ports
         → AreEnds pool.new seats.new (at_place i (λ p. has_come p (Some Tick)) ports) }
     ensures answer { (ports : List Port) → AreEnds pool.old seats.old ports
-        → Some result ≡ option_map (λ (p : Port). report_told (report p.side Tick)) (slice_get ports i) }
+        → told.new ≡ option_map (λ (p : Port). report_told (report p.side Tick)) (slice_get ports i) }
 {
     let seat = &mut seats[i];
-    let report = seat.tick(pool);
-    seat.count(&report);
-    report
+    let report = told.insert(seat.tick(pool));
+    seat.count(report);
 }
 
 fn host_place(seats: &[Seat], i: usize, pool: &Pool) -> u8

@@ -245,14 +245,6 @@ from_there now before es short from noted long off =
     let all : length now ≡ length before + length (map unnumbered es) = ap length (noted off) ∙ length-append before (map unnumbered es) in
     omega (arith, all, long)
 
--- where no frame is on its way, nothing happened
-pub none_there_yet : (l : Link) → IsFirst l.to_controller None → without_first l ≡ l
-none_there_yet l = go l.to_controller
-  where
-    go : (ws : List OnWire) → IsFirst ws None → without_first (record l { to_controller = ws }) ≡ record l { to_controller = ws }
-    go [] q = refl
-    go (x ∷ xs) q = absurd (cc q.0)
-
 -- what is noted of a frame that is taken
 pub taken_noted : (h : ℕ) (l : Link) (lpdu : List ℕ) → IsFirst l.to_controller (Some lpdu)
     → map unnumbered (entries_for h (arrival Controller l NextFrame)) ≡ note.Took (record { link = h; at_host = false }) lpdu ∷ []

@@ -1,8 +1,9 @@
 -- What is known of a host of the world by what is kept of it, and what happens at it, case by case.
-use Rattle.std.proofs.Common.{◌≡◌, ℕ, List, [], ◌∷◌, ◌++◌, refl, sym, subst, append-nil}
-use Rattle.std.specs.Prelude.{Option, Some, None, Ok}
+use Rattle.std.proofs.Common.{◌≡◌, ℕ, List, [], ◌∷◌, ◌++◌, refl, sym, subst, ◌∙◌, append-nil}
+use Rattle.std.specs.Prelude.{Option, Some, None, option_map, Result, Ok}
 use Rattle.swp_base.specs.InMemory.{Memory}
 use Rattle.swp_base.specs.declared.control_frames.Control.{Control}
+use Rattle.swp_lpdu.specs.declared.LpduFault.{LpduFault}
 use Rattle.swp_lpdu.specs.Controls.{lpdu_of, control_of}
 use Rattle.trace_model.specs.declared.entry.Entry.{Entry}
 use Rattle.link_laws.specs.sessions.Sessions.{OnWire}
@@ -18,7 +19,7 @@ use Rattle.node_machine.specs.Node.NodeInput.{AtEnd}
 use Rattle.node_machine.specs.world.World.{Site, input_of, wires_for, frames_noted, host_work, host_ticks}
 use Rattle.node_machine.proofs.world.Cases.{host_tick, after_tick}
 use Rattle.node_world.specs.declared.places.HostSite.{HostSite}
-use Rattle.node_world.specs.LinksKept.{IsFirst}
+use Rattle.node_world.specs.LinksKept.{IsFirst, IsReadFirst}
 use Rattle.node_world.specs.Places.{IsPlace, SiteIs}
 use Rattle.node_world.specs.HostSteps.{host_stepped, host_hears, host_behind, HasBecome}
 
@@ -120,3 +121,24 @@ first_taken l lpdu = go l.to_controller refl
     go (x ∷ xs) is q =
         let bytes : lpdu ≡ lpdu_of x.frame = cc in
         record { frame = x.frame; input = rw is refl; read = rw bytes q.1 }
+
+-- these are the bytes of the first frame, of which this is read
+pub record IsReadOf (wire : List OnWire) (read : Result Control LpduFault) : Type 0 where
+  pub lpdu : List ℕ
+  pub first : IsFirst wire (Some lpdu)
+  pub says : read ≡ control_of lpdu
+
+pub some_read : (wire : List OnWire) (now : Option (Result Control LpduFault)) (read : Result Control LpduFault) → now ≡ Some read → IsReadFirst wire now
+    → IsReadOf wire read
+some_read wire now read is f = go f.lpdu f.first f.says
+  where
+    go : (bytes : Option (List ℕ)) → IsFirst wire bytes → now ≡ option_map control_of bytes → IsReadOf wire read
+    go None first says = let z : None ≡ Some read = sym says ∙ is in absurd (cc z)
+    go (Some lpdu) first says = let z : Some (control_of lpdu) ≡ Some read = sym says ∙ is in record { lpdu = lpdu; first = first; says = cc }
+
+pub none_read : (wire : List OnWire) (now : Option (Result Control LpduFault)) → now ≡ None → IsReadFirst wire now → IsFirst wire None
+none_read wire now is f = go f.lpdu f.first f.says
+  where
+    go : (bytes : Option (List ℕ)) → IsFirst wire bytes → now ≡ option_map control_of bytes → IsFirst wire None
+    go None first says = first
+    go (Some lpdu) first says = let z : Some (control_of lpdu) ≡ None = sym says ∙ is in absurd (cc z)

@@ -1,6 +1,6 @@
 -- A host of the world in its steps: what its node did, as it is to be finished.
 use Rattle.std.proofs.Common.{◌≡◌, ℕ, Bool, List, [], ◌∷◌, ◌++◌, map, refl, ap, ap₂, sym, subst, ◌∙◌, append-nil}
-use Rattle.std.specs.Prelude.{Option, Some, None, Result, Ok, OnOk, option_to_list}
+use Rattle.std.specs.Prelude.{Option, Some, None, Result, Ok, OnOk}
 use Rattle.swp_base.specs.InMemory.{Memory}
 use Rattle.swp_base.specs.declared.outside.NoMemory.{NoMemory}
 use Rattle.trace_model.specs.declared.entry.Entry.{Entry}
@@ -168,35 +168,20 @@ module _ (P : Type 0) (Runs : P → Core → List Port → Type 0) (memory_of : 
 -- ## None is taken
 
 module _ (P : Type 0) (Runs : P → Core → List Port → Type 0) (memory_of : P → Memory) where
-  pub none_taken : (k : HostSite P) (s : Site) (e : WireEnd) (lpdu : Option (List ℕ)) (at : End) {n : P} {now : List Entry} (before : List Entry)
-      → SiteIs Runs memory_of k s → k.on ≡ Some n → lpdu ≡ None → IsFirst (exchanged s.link).to_controller lpdu
-      → WireEndIs e (without_first (exchanged s.link)).controller (without_first (exchanged s.link)).to_controller
-      → now ≡ before ++ map (note.Took at) (option_to_list lpdu)
-      → HasBecome Runs memory_of
-      (record { host = k.host; wires = record { controller = k.wires.controller; host = e; resets = k.wires.resets }; on = Some n; off = k.off }) before now
-      (host_hears s NextFrame)
-  none_taken k s e lpdu at {n} {now} before is on none first wire q =
-      let l : Link = exchanged s.link in
-      let nothing : IsFirst l.to_controller None = subst (IsFirst l.to_controller) none first in
-      let input : input_of l NextFrame ≡ None = none_first l nothing in
-      let new : HostSite P =
-      record { host = k.host; wires = record { controller = k.wires.controller; host = e; resets = k.wires.resets }; on = Some n; off = k.off } in
-      let B : Site × List Entry → Type 0 = λ x. HasBecome Runs memory_of new before now x in
+  pub none_taken : (k : HostSite P) (s : Site) {n : P} (before : List Entry) → SiteIs Runs memory_of k s → k.on ≡ Some n
+      → IsFirst (exchanged s.link).to_controller None
+      → HasBecome Runs memory_of (record { host = k.host; wires = k.wires; on = Some n; off = k.off }) before before (host_hears s NextFrame)
+  none_taken k s {n} before is on nothing =
+      let input : input_of (exchanged s.link) NextFrame ≡ None = none_first (exchanged s.link) nothing in
+      let new : HostSite P = record { host = k.host; wires = k.wires; on = Some n; off = k.off } in
+      let B : Site × List Entry → Type 0 = λ x. HasBecome Runs memory_of new before before x in
       let Q : Option P → Type 0 = λ a. IsPlace Runs memory_of a k.off s.memory s.node (λ h. s.link.host) in
       subst B (sym (hears_none s NextFrame input))
       (record {
         site = record {
           host = is.host;
-          wires = let W : Link → Type 0 = λ m. WiresStandFor (record k.wires { host = e }) (exchanged m) in
-              subst W (same l nothing) (taken_stands l is.wires wire);
+          wires = is.wires;
           place = subst Q on is.place;
         };
-        noted = q ∙ ap (λ o. before ++ map (note.Took at) (option_to_list o)) none;
+        noted = sym (append-nil before);
       })
-    where
-      same : (l : Link) → IsFirst l.to_controller None → without_first l ≡ l
-      same l = go l.to_controller
-        where
-          go : (xs : List OnWire) → IsFirst xs None → without_first (record l { to_controller = xs }) ≡ record l { to_controller = xs }
-          go [] q = refl
-          go (x ∷ xs) q = absurd (cc q.0)

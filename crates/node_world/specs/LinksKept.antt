@@ -1,5 +1,7 @@
 -- What is kept of the wires of a link and of the numbers of RSETs, and for which links it stands.
-use Rattle.std.specs.Prelude.{◌≡◌, ℕ, List, [], ◌∷◌, Option, Some, None, Ok}
+use Rattle.std.specs.Prelude.{◌≡◌, ℕ, List, [], ◌∷◌, Option, Some, None, option_map, Result, Ok}
+use Rattle.swp_base.specs.declared.control_frames.Control.{Control}
+use Rattle.swp_lpdu.specs.declared.LpduFault.{LpduFault}
 use Rattle.swp_lpdu.specs.Controls.{lpdu_of, control_of}
 use Rattle.link_laws.specs.sessions.Sessions.{OnWire, took_with}
 use Rattle.link_entries.specs.messages.Links.{NumberedEnd, Link, Comes}
@@ -35,6 +37,12 @@ without_first l = first l.to_controller where
 abbrev pub IsFirst : List OnWire → Option (List ℕ) → Type 0
 IsFirst [] lpdu = lpdu ≡ None
 IsFirst (x ∷ xs) lpdu = (lpdu ≡ Some (lpdu_of x.frame)) × (control_of (lpdu_of x.frame) ≡ Ok x.frame)
+
+-- this is read of the first frame of a wire
+pub record IsReadFirst (wire : List OnWire) (read : Option (Result Control LpduFault)) : Type 0 where
+  pub lpdu : Option (List ℕ)
+  pub first : IsFirst wire lpdu
+  pub says : read ≡ option_map control_of lpdu
 
 -- the same frames stand on the wires of two links, and the numbers of their RSETs are the same
 pub record SameWires (l m : Link) : Type 0 where

@@ -46,7 +46,7 @@ pub(crate) fn finish_controller<C: WorldNode + Drop, P: WorldNode + Drop>(
     controller: &mut ControllerPlace<C>,
     sites: &mut [HostSite<P>],
     from: usize,
-    sessions: Sessions,
+    sessions: &Sessions,
     live: bool,
     noted: &mut Noted,
 ) -> Result<(), NoMemory>
@@ -55,11 +55,11 @@ pub(crate) fn finish_controller<C: WorldNode + Drop, P: WorldNode + Drop>(
     requires room { HaveRoom sites.old }
     ensures goes_on { (n : C) (v : Work) (hosts : List Site) (before : List Told) → EndsStep C.runs P.runs P.memory controller.old sites.old n live v hosts
         → IsNotedSo noted.old.entries.items noted.old.short before v.entries → length before ≡ from
-        → AreNumbered (λ h. get_or sessions h 0) v.entries → live ≡ true
+        → AreNumbered (λ h. get_or sessions.now h 0) v.entries → live ≡ true
         → OnOk result (GoesOnWith C.runs C.memory P.runs P.memory controller.new sites.new n v hosts before noted.new.entries.items) }
     ensures cut { (n : C) (v : Work) (hosts : List Site) (before : List Told) → EndsStep C.runs P.runs P.memory controller.old sites.old n live v hosts
         → IsNotedSo noted.old.entries.items noted.old.short before v.entries → length before ≡ from
-        → AreNumbered (λ h. get_or sessions h 0) v.entries → live ≡ false
+        → AreNumbered (λ h. get_or sessions.now h 0) v.entries → live ≡ false
         → OnOk result (WentOffWith C.memory P.runs P.memory controller.new sites.new n v hosts before noted.new.entries.items) }
     ensures short { OnOk result ((noted.old.short ≡ false) × (noted.new.short ≡ false)) }
 {

@@ -50,12 +50,13 @@ pub(crate) fn take_at_controller<C: WorldNode + Drop, P: WorldNode + Drop>(
         return Ok(());
     };
     let site = &mut sites[place];
-    let Some(lpdu) = site.wires.controller.take_first(at, &mut noted.entries)? else {
+    let Some(read) = site.wires.controller.reads_first() else {
         return Ok(());
     };
+    site.wires.controller.take_first(at, &mut noted.entries)?;
     let sessions = sessions_of(sites);
-    let live = node.take(host, &lpdu, noted);
-    finish_controller(controller, sites, from, sessions, live, noted)
+    let live = node.take(host, &read, noted);
+    finish_controller(controller, sites, from, &sessions, live, noted)
 }
 
 /// The controller's end of the link with this host is reset, with this window, which is 1 to 4, or with its own one. The cause, where that
@@ -90,7 +91,7 @@ pub(crate) fn reset_controller<C: WorldNode + Drop, P: WorldNode + Drop>(
     let sessions = sessions_of(sites);
     match node.reset(host, window, noted) {
         Ok(live) => {
-            finish_controller(controller, sites, from, sessions, live, noted)?;
+            finish_controller(controller, sites, from, &sessions, live, noted)?;
             Ok(None)
         }
         Err(why) => Ok(Some(reset_cause(why))),
@@ -131,7 +132,7 @@ pub(crate) fn activate_controller<C: WorldController + Drop, P: WorldNode + Drop
     site.wires.empty();
     let sessions = sessions_of(sites);
     let live = node.activate(host, power, noted);
-    finish_controller(controller, sites, from, sessions, live, noted)
+    finish_controller(controller, sites, from, &sessions, live, noted)
 }
 
 /// A tick of the controller passes, where frames grew older already. While it doesn't run, nothing happens.
@@ -159,7 +160,7 @@ pub(crate) fn tick_controller<C: WorldNode + Drop, P: WorldNode + Drop>(
     };
     let sessions = sessions_of(sites);
     let live = node.tick(noted);
-    finish_controller(controller, sites, from, sessions, live, noted)
+    finish_controller(controller, sites, from, &sessions, live, noted)
 }
 
 /// A tick passes for the frames on all wires, which grow older, and then for the controller.

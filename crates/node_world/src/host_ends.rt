@@ -34,5 +34,5 @@ pub(crate) fn finish_host<P: WorldNode + Drop>(
     ensures memory { OnOk result (noted.new.short ≡ false) }
 {
     let sessions = [site.wires.host.session(); 8];
-    finish_step(site, from, sessions, live, noted)
+    finish_step(site, from, &sessions, live, noted)
 }

@@ -37,10 +37,11 @@ pub(crate) fn take_at_host<P: WorldNode + Drop>(
     let Some(node) = &mut site.on else {
         return Ok(());
     };
-    let Some(lpdu) = site.wires.host.take_first(at, &mut noted.entries)? else {
+    let Some(read) = site.wires.host.reads_first() else {
         return Ok(());
     };
-    let live = node.take(site.host, &lpdu, noted);
+    site.wires.host.take_first(at, &mut noted.entries)?;
+    let live = node.take(site.host, &read, noted);
     finish_host(site, from, live, noted)
 }
 

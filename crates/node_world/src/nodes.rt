@@ -1,5 +1,5 @@
 //! What the world asks of a node: of a controller and a host, and of one of them alone.
-ghost use Rattle.std.specs.Prelude.{◌≡◌, ◌<◌, ◌≤◌, ◌==◌, ◌&&◌, Bool, true, [], ◌∷◌, List, length, map, is_some, None, Some, Ok, IfOk, IfSome};
+ghost use Rattle.std.specs.Prelude.{◌≡◌, ◌<◌, ◌≤◌, ◌==◌, ◌&&◌, ℕ, Bool, true, [], ◌∷◌, List, length, map, is_some, None, Some, Ok, IfOk, IfSome};
 ghost use Rattle.std.specs.Prelude.{MatchResult, OnOk, OnErr};
 ghost use Rattle.std.specs.List.{AllByRecursion};
 ghost use Rattle.swp_base.specs.InMemory.{Memory};
@@ -31,7 +31,8 @@ use hci_tables::Tables;
 use link_end::ResetRefused;
 use node_core::HostRefused;
 use std::alloc::Global;
-use swp_base::{Lpdu, MemNv};
+use swp_base::{Control, Lpdu, MemNv};
+use swp_lpdu::LpduFault;
 
 /// The bytes of the memory from which a node boots.
 pub(crate) const MEMORY_SIZE: u32 = 65_536;
@@ -56,14 +57,15 @@ pub(crate) trait WorldNode {
     // its memory
     ghost memory: { Self → Memory };
 
-    /// A frame with this LPDU comes from the link with this host. Whether the node has its power still.
-    fn take(&mut self, host: u8, lpdu: &Lpdu, noted: &mut Noted) -> bool
+    /// What the LPDU of a frame says comes from the link with this host. Whether the node has its power still.
+    fn take(&mut self, host: u8, read: &Result<Control, LpduFault>, noted: &mut Noted) -> bool
         requires may { MayBeginAt runs self.old host }
-        ensures stepped { (w : Work) → BeginsAt runs memory self.old host w
-            → HasGone runs memory self.old self.new (steps (AtEnd host (lpdu_input lpdu.now)) w) result }
-        ensures noted { (start : List Told) (w : Work) → BeginsAt runs memory self.old host w
+        requires read { (lpdu : List ℕ) × (read.now ≡ control_of lpdu) }
+        ensures stepped { (w : Work) (lpdu : List ℕ) → BeginsAt runs memory self.old host w → read.now ≡ control_of lpdu
+            → HasGone runs memory self.old self.new (steps (AtEnd host (lpdu_input lpdu)) w) result }
+        ensures noted { (start : List Told) (w : Work) (lpdu : List ℕ) → BeginsAt runs memory self.old host w → read.now ≡ control_of lpdu
             → IsNotedSo noted.old.entries.items noted.old.short start w.entries
-            → IsNotedSo noted.new.entries.items noted.new.short start (steps (AtEnd host (lpdu_input lpdu.now)) w).entries };
+            → IsNotedSo noted.new.entries.items noted.new.short start (steps (AtEnd host (lpdu_input lpdu)) w).entries };
 
     /// A tick passes. Whether the node has its power still.
     fn tick(&mut self, noted: &mut Noted) -> bool

@@ -8,16 +8,16 @@ use trace_model::Entry;
 pub(crate) type Sessions = [u32; 8];
 
 // The number of the session at the link with this host; 0 where there is no such host.
-fn session_at(sessions: Sessions, link: u8) -> u32
-    ensures { result ≡ get_or sessions link 0 }
+fn session_at(sessions: &Sessions, link: u8) -> u32
+    ensures { result ≡ get_or sessions.now link 0 }
 {
     let link = usize::from(link);
     if link < 8 { sessions[link] } else { 0 }
 }
 
 // The number of the session of its link is put into an entry, where its form has one.
-fn number(entry: &mut Entry, sessions: Sessions)
-    ensures { entry.new ≡ with_session (λ h. get_or sessions h 0) entry.old }
+fn number(entry: &mut Entry, sessions: &Sessions)
+    ensures { entry.new ≡ with_session (λ h. get_or sessions.now h 0) entry.old }
 {
     match entry {
         Entry::Up { at, session } => *session = session_at(sessions, at.link),
@@ -29,8 +29,9 @@ fn number(entry: &mut Entry, sessions: Sessions)
 }
 
 // The numbers of sessions are put into these entries.
-fn number_all(entries: &mut [Entry], sessions: Sessions)
-    ensures { entries.new ≡ map (with_session (λ h. get_or sessions h 0)) entries.old }
+#[inline(never)]
+fn number_all(entries: &mut [Entry], sessions: &Sessions)
+    ensures { entries.new ≡ map (with_session (λ h. get_or sessions.now h 0)) entries.old }
 {
     for i in 0..entries.len() {
         number(&mut entries[i], sessions);
@@ -38,9 +39,11 @@ fn number_all(entries: &mut [Entry], sessions: Sessions)
 }
 
 /// The numbers of sessions are put into the entries from this place on.
-pub(crate) fn number_from(entries: &mut Vec<Entry>, from: usize, sessions: Sessions)
+pub(crate) fn number_from(entries: &mut Vec<Entry>, from: usize, sessions: &Sessions)
     requires { from ≤ length entries.old.items }
-    ensures { entries.new.items ≡ take from entries.old.items ++ map (with_session (λ h. get_or sessions h 0)) (drop from entries.old.items) }
+    ensures { entries.new.items ≡ take from entries.old.items ++ map (with_session (λ h. get_or sessions.now h 0)) (drop from entries.old.items) }
 {
-    number_all(&mut entries.as_mut_slice()[from..], sessions);
+    if from < entries.len() {
+        number_all(&mut entries.as_mut_slice()[from..], sessions);
+    }
 }

@@ -46,7 +46,7 @@ pub(crate) fn lose_power<P: WorldNode + Drop>(site: &mut HostSite<P>)
 pub(crate) fn finish_step<P: WorldNode + Drop>(
     site: &mut HostSite<P>,
     from: usize,
-    sessions: Sessions,
+    sessions: &Sessions,
     live: bool,
     noted: &mut Noted,
 ) -> Result<(), NoMemory>
@@ -55,11 +55,11 @@ pub(crate) fn finish_step<P: WorldNode + Drop>(
     requires room { site.old.wires.resets + 17 < 2 ^ 32 }
     ensures goes_on { (n : P) (w : Work) (p : Port) (l : Link) (before : List Told) → IsFinishing P.runs site.old n live w p l
         → IsNotedSo noted.old.entries.items noted.old.short before w.entries → length before ≡ from
-        → AreNumbered (λ h. get_or sessions h 0) w.entries → live ≡ true
+        → AreNumbered (λ h. get_or sessions.now h 0) w.entries → live ≡ true
         → OnOk result (RunsOn P.runs P.memory site.old site.new n w p l before noted.new.entries.items) }
     ensures cut { (n : P) (w : Work) (p : Port) (l : Link) (before : List Told) → IsFinishing P.runs site.old n live w p l
         → IsNotedSo noted.old.entries.items noted.old.short before w.entries → length before ≡ from
-        → AreNumbered (λ h. get_or sessions h 0) w.entries → live ≡ false
+        → AreNumbered (λ h. get_or sessions.now h 0) w.entries → live ≡ false
         → OnOk result (WentOff P.memory site.new n w l before noted.new.entries.items) }
     ensures host { site.new.host ≡ site.old.host }
     ensures short { OnOk result ((noted.old.short ≡ false) × (noted.new.short ≡ false)) }

@@ -8,7 +8,8 @@ ghost use Rattle.link_wires.specs.Wires.{WireStandsFor};
 use circular_buffer::HeapCircularBuffer;
 use link_wires::{Damaged, Flying, damaged_first, empty_wire, grow_older, lose_first, put_frame};
 use std::alloc::{AllocError, Global};
-use swp_base::Lpdu;
+use swp_base::{Control, Lpdu};
+use swp_lpdu::{LpduFault, read_lpdu};
 use trace_model::{End, Entry, LostCause};
 
 /// What is kept of one end of a link beside its machine.
@@ -32,11 +33,11 @@ pub(crate) struct Wires {
 }
 
 impl WireEnd {
-    ghost use Rattle.std.specs.Prelude.{◌≡◌, [], ◌++◌, IfOk, map, max, option_to_list};
+    ghost use Rattle.std.specs.Prelude.{◌≡◌, ℕ, List, [], ◌++◌, Option, IfOk, OnOk, map, max, option_to_list};
     ghost use Rattle.trace_model.specs.declared.entry.Entry.TheVariants as note;
     ghost use Rattle.link_machine.specs.Machine.{LinkEnd};
     ghost use Rattle.link_entries.specs.messages.Links.{Link, new_numbered_end};
-    ghost use Rattle.node_world.specs.LinksKept.{WireEndIs, without_first, IsFirst};
+    ghost use Rattle.node_world.specs.LinksKept.{WireEndIs, without_first, IsFirst, IsReadFirst};
 
     // An end that put and took no RSET yet, with no frame on the way to it.
     fn make(alloc: Global) -> Result<WireEnd, AllocError>
@@ -56,26 +57,31 @@ impl WireEnd {
         self.emitted.max(self.took)
     }
 
-    /// The first frame on the way to the end, which has this name, is taken, and noted. `None` where there is none.
-    pub(crate) fn take_first(
-        &mut self,
-        at: End,
-        entries: &mut Vec<Entry>,
-    ) -> Result<Option<Lpdu>, AllocError>
-        ensures { (l : Link) → WireEndIs self.old l.controller l.to_controller → IfOk result (λ lpdu. IsFirst l.to_controller lpdu
-            × WireEndIs self.new (without_first l).controller (without_first l).to_controller
+    /// What the first frame on the way to the end says; `None` where there is none.
+    pub(crate) fn reads_first(&self) -> Option<Result<Control, LpduFault>>
+        ensures { (l : Link) → WireEndIs self.now l.controller l.to_controller → IsReadFirst l.to_controller result }
+    {
+        match self.wire.front() {
+            Some(first) => Some(read_lpdu(&first.lpdu)),
+            None => None,
+        }
+    }
+
+    /// The first frame on the way to the end, which has this name, is taken, and noted. Nothing happens where there is none.
+    pub(crate) fn take_first(&mut self, at: End, entries: &mut Vec<Entry>) -> Result<(), AllocError>
+        ensures { (l : Link) (lpdu : Option (List ℕ)) → WireEndIs self.old l.controller l.to_controller → IsFirst l.to_controller lpdu
+            → OnOk result (WireEndIs self.new (without_first l).controller (without_first l).to_controller
             × (entries.new.items ≡ entries.old.items ++ map (note.Took at) (option_to_list lpdu))) }
     {
         let Some(flying) = self.wire.pop_front() else {
-            return Ok(None);
+            return Ok(());
         };
-        let lpdu = flying.lpdu.copied();
         entries.push(Entry::Took {
             at,
             lpdu: flying.lpdu,
         })?;
         self.took = self.took.max(flying.number);
-        Ok(Some(lpdu))
+        Ok(())
     }
 }
 

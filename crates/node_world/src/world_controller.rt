@@ -10,7 +10,8 @@ use link_end::ResetRefused;
 use node_core::Ran;
 use router::{BootFault, BootRefused, Controller};
 use std::alloc::Global;
-use swp_base::{Lpdu, MemNv, Nv};
+use swp_base::{Control, Lpdu, MemNv, Nv};
+use swp_lpdu::LpduFault;
 
 /// Whether a node has its power still behind a step.
 pub(crate) fn has_power(ran: Ran) -> bool
@@ -31,8 +32,8 @@ impl WorldNode for Controller<MemNv> {
 
     ghost memory = { λ c. c.store.journal.nv };
 
-    fn take(&mut self, host: u8, lpdu: &Lpdu, noted: &mut Noted) -> bool {
-        has_power(Controller::take(self, host, lpdu, noted))
+    fn take(&mut self, host: u8, read: &Result<Control, LpduFault>, noted: &mut Noted) -> bool {
+        has_power(Controller::take_read(self, host, read, noted))
     }
 
     fn tick(&mut self, noted: &mut Noted) -> bool {

@@ -7,7 +7,8 @@ use hci_tables::Tables;
 use host_core::{BootFault, BootRefused, Host, HostRefused};
 use link_end::ResetRefused;
 use std::alloc::Global;
-use swp_base::{Lpdu, MemNv, Nv};
+use swp_base::{Control, Lpdu, MemNv, Nv};
+use swp_lpdu::LpduFault;
 
 impl WorldNode for Host<MemNv> {
     ghost use Rattle.node_core.proofs.Between.{kept_alike, all_one_by_one};
@@ -18,8 +19,8 @@ impl WorldNode for Host<MemNv> {
 
     ghost memory = { λ h. h.store.journal.nv };
 
-    fn take(&mut self, _host: u8, lpdu: &Lpdu, noted: &mut Noted) -> bool {
-        has_power(Host::take(self, lpdu, noted))
+    fn take(&mut self, _host: u8, read: &Result<Control, LpduFault>, noted: &mut Noted) -> bool {
+        has_power(Host::take_read(self, read, noted))
     }
 
     fn tick(&mut self, noted: &mut Noted) -> bool {

@@ -6,8 +6,8 @@ use link_end::ResetRefused;
 use node_core::{BootFault, BootRefused, Node, Ran, how_it_ran};
 use std::alloc::Global;
 use std::marker::Model;
-use swp_base::{Lpdu, MemNv, Nv, Role};
-use swp_lpdu::read_lpdu;
+use swp_base::{Control, Lpdu, MemNv, Nv, Role};
+use swp_lpdu::{LpduFault, read_lpdu};
 use trace_model::Watch;
 
 /// The most bytes of a message. This project's own.
@@ -32,7 +32,7 @@ impl<N: Nv + Drop> Model for Controller<N> {
 }
 
 impl<N: Nv + Drop> Controller<N> {
-    ghost use Rattle.std.specs.Prelude.{◌≡◌, ◌≢◌, ◌≤◌, true, List, map, None, Some, IfOk, IfErr, IfSome, OnOk, OnErr, IsTrue, MatchResult, Ok, Err};
+    ghost use Rattle.std.specs.Prelude.{◌≡◌, ◌≢◌, ◌≤◌, ℕ, true, List, map, None, Some, IfOk, IfErr, IfSome, OnOk, OnErr, IsTrue, MatchResult, Ok, Err};
     ghost use Rattle.swp_base.specs.Outside.{Rose};
     ghost use Rattle.swp_base.specs.declared.link_terms.Role.TheVariants.{Clf};
     ghost use Rattle.trace_model.specs.declared.entry.Entry.{Entry as Noted};
@@ -96,10 +96,28 @@ impl<N: Nv + Drop> Controller<N> {
         ensures count { N.faults self.old.store.journal.nv ≤ N.faults self.new.store.journal.nv }
         ensures rose { result ≡ Ran.Stopped → Rose (N.faults self.old.store.journal.nv) (N.faults self.new.store.journal.nv) }
     {
-        let read = read_lpdu(lpdu);
+        self.take_read(host, &read_lpdu(lpdu), watch)
+    }
+
+    /// What an LPDU says is taken from the link with this host, as `take` takes the LPDU.
+    pub fn take_read<W: Watch>(
+        &mut self,
+        host: u8,
+        read: &Result<Control, LpduFault>,
+        watch: &mut W,
+    ) -> Ran
+        requires may { MayStep self.old }
+        requires read { (lpdu : List ℕ) × (read.now ≡ control_of lpdu) }
+        ensures stepped { (start : List Noted) (w : Work) (lpdu : List ℕ) → BeginsStep self.old (W.noted watch.old) (W.is_short watch.old) start w
+            → read.now ≡ control_of lpdu → Brings N.writes self.old.store.journal.nv self.new.store.journal.nv
+            (HasStepped self.new (W.noted watch.new) (W.is_short watch.new) start) (steps (AtEnd host (lpdu_input lpdu))) w }
+        ensures ran { result ≡ ran_so self.new.store.journal.live }
+        ensures count { N.faults self.old.store.journal.nv ≤ N.faults self.new.store.journal.nv }
+        ensures rose { result ≡ Ran.Stopped → Rose (N.faults self.old.store.journal.nv) (N.faults self.new.store.journal.nv) }
+    {
         let live = self
             .node
-            .take_step(host, &read, self.buffer.as_mut_slice(), watch);
+            .take_step(host, read, self.buffer.as_mut_slice(), watch);
         self.node.end_step();
         how_it_ran(live)
     }

@@ -25,28 +25,29 @@ offset_bounds-seats-i c = let w = within c.args.host c.args.i c.requires.place c
 pub bounds-seats-i : goal.bounds-seats-i
 bounds-seats-i c = (within c.args.host c.args.i c.requires.place c.requires.stands.1).0
 
-pub take-report-requires-clause-stands : goal.take-report-requires-clause-stands
-take-report-requires-clause-stands c =
+pub take-requires-clause-stands : goal.take-requires-clause-stands
+take-requires-clause-stands c =
     let r = reads c.args.host c.args.i c.index-seats-i.result c.requires.place c.requires.stands.1 in
     (r.port.side, r.stands.holds)
 
-pub take-report-requires-clause-held : goal.take-report-requires-clause-held
-take-report-requires-clause-held c =
+pub take-requires-clause-held : goal.take-requires-clause-held
+take-requires-clause-held c =
     let r = reads c.args.host c.args.i c.index-seats-i.result c.requires.place c.requires.stands.1 in
     waits_held c.args.pool.now _ r.port r.stands (subst (λ o. IsHeldWhileOneWaits o) r.port_is c.requires.stands.3)
 
-pub take-report-requires-clause-room : goal.take-report-requires-clause-room
-take-report-requires-clause-room c =
+pub take-requires-clause-room : goal.take-requires-clause-room
+take-requires-clause-room c =
     let r = reads c.args.host c.args.i c.index-seats-i.result c.requires.place c.requires.stands.1 in
     few_controls c.args.pool.now _ r.port.side r.stands.holds.stands (subst (λ o. FewAreDue o) r.port_is c.requires.stands.2)
 
 pub returns-clause-stands : goal.returns-clause-stands
 returns-clause-stands c ports lpdu e is =
-    let t = c.take-report in
+    let t = c.take in
     let f : Port → Port = λ p. has_come p (Some (lpdu_input lpdu)) in
     let now : Seat = record t.new.self { ended = is_some t.result.ended; acked = acked_since t.new.self.acked t.result } in
     let P : Seat → Type 0 = λ s. AreEnds t.new.pool (slice_set c.args.seats.now c.args.i s) (with_port c.args.host f ports) in
-    subst P (sym c.count.ensures) (comes {f = f} {d = c.index-seats-i.result} {t = now} ports (record {
+    let S : LinkReport → Type 0 = λ r. P (record t.new.self { ended = is_some r.ended; acked = acked_since t.new.self.acked r }) in
+    subst P (sym c.count.ensures) (subst S (sym c.insert-report.ensures.value) (comes {f = f} {d = c.index-seats-i.result} {t = now} ports (record {
       place = c.requires.place;
       moves = t.ensures.moves;
       host = ap (λ (s : Seat). s.desk.host) t.ensures.rest;
@@ -61,10 +62,10 @@ returns-clause-stands c ports lpdu e is =
         aside = ap (λ (s : Seat). s.aside) t.ensures.rest ∙ (g.aside ∙ sym (lpdu_aside q.side lpdu));
         sound = subst IsSoundDesk (sym (ap (λ (s : Seat). s.desk) t.ensures.rest)) g.sound;
       };
-    }) e)
+    }) e))
 
 pub returns-clause-answer : goal.returns-clause-answer
 returns-clause-answer c ports lpdu e is =
     let r = reads c.args.host c.args.i c.index-seats-i.result c.requires.place e in
-    told_there (λ (p : Port). report_told (report p.side (lpdu_input lpdu))) c.take-report.result _ r.port r.port_is
-    (c.take-report.ensures.answer r.port.side lpdu r.stands.holds is)
+    ap Some c.insert-report.ensures.value ∙ told_there (λ (p : Port). report_told (report p.side (lpdu_input lpdu))) c.take.result _ r.port r.port_is
+    (c.take.ensures.answer r.port.side lpdu r.stands.holds is)

@@ -21,23 +21,24 @@ use Rattle.std.specs.Prelude.{slice_set}
 use Rattle.node_ends.proofs.Blocks.{tick_aside}
 use Rattle.node_ends.proofs.ends.tick_place.Goals as goal
 
-pub tick-report-requires-clause-stands : goal.tick-report-requires-clause-stands
-tick-report-requires-clause-stands c =
+pub tick-requires-clause-stands : goal.tick-requires-clause-stands
+tick-requires-clause-stands c =
     let r = reads_here c.args.i c.index-seats-i.result c.requires.inside c.requires.stands.1 in
     (r.port.side, r.stands.holds)
 
-pub tick-report-requires-clause-room : goal.tick-report-requires-clause-room
-tick-report-requires-clause-room c =
+pub tick-requires-clause-room : goal.tick-requires-clause-room
+tick-requires-clause-room c =
     let r = reads_here c.args.i c.index-seats-i.result c.requires.inside c.requires.stands.1 in
     few_controls c.args.pool.now _ r.port.side r.stands.holds.stands (subst (λ o. FewAreDue o) r.port_is c.requires.stands.2)
 
 pub returns-clause-stands : goal.returns-clause-stands
 returns-clause-stands c ports e =
-    let t = c.tick-report in
+    let t = c.tick in
     let f : Port → Port = λ p. has_come p (Some Tick) in
     let now : Seat = record t.new.self { ended = is_some t.result.ended; acked = acked_since t.new.self.acked t.result } in
     let P : Seat → Type 0 = λ s. AreEnds t.new.pool (slice_set c.args.seats.now c.args.i s) (at_place c.args.i f ports) in
-    subst P (sym c.count.ensures) (comes_here {f = f} {d = c.index-seats-i.result} {t = now} ports (record {
+    let S : LinkReport → Type 0 = λ r. P (record t.new.self { ended = is_some r.ended; acked = acked_since t.new.self.acked r }) in
+    subst P (sym c.count.ensures) (subst S (sym c.insert-report.ensures.value) (comes_here {f = f} {d = c.index-seats-i.result} {t = now} ports (record {
       inside = c.requires.inside;
       moves = t.ensures.moves;
       host = ap (λ (s : Seat). s.desk.host) t.ensures.rest;
@@ -52,10 +53,10 @@ returns-clause-stands c ports e =
         aside = ap (λ (s : Seat). s.aside) t.ensures.rest ∙ (g.aside ∙ sym (tick_aside q.side));
         sound = subst IsSoundDesk (sym (ap (λ (s : Seat). s.desk) t.ensures.rest)) g.sound;
       };
-    }) e)
+    }) e))
 
 pub returns-clause-answer : goal.returns-clause-answer
 returns-clause-answer c ports e =
     let r = reads_here c.args.i c.index-seats-i.result c.requires.inside e in
-    told_there (λ (p : Port). report_told (report p.side Tick)) c.tick-report.result _ r.port r.port_is
-    (c.tick-report.ensures.answer r.port.side r.stands.holds)
+    ap Some c.insert-report.ensures.value ∙ told_there (λ (p : Port). report_told (report p.side Tick)) c.tick.result _ r.port r.port_is
+    (c.tick.ensures.answer r.port.side r.stands.holds)

@@ -9,7 +9,7 @@ use Rattle.node_world.proofs.controller.finish_controller.Goals as goal
 
 pub returns-then-not-live-clause-cut : goal.returns-then-not-live-clause-cut
 returns-then-not-live-clause-cut g c n v hosts before e noted len num off =
-    let session : ℕ → ℕ = λ h. get_or c.args.sessions h 0 in
+    let session : ℕ → ℕ = λ h. get_or c.args.sessions.now h 0 in
     let now : List Entry = c.args.noted.now.entries.items in
     let gone = c.lose_controller.ensures.off n e.on in
     record {
@@ -23,7 +23,7 @@ returns-then-not-live-clause-cut g c n v hosts before e noted len num off =
 
 pub returns-in_ok-send_to_all-clause-goes_on : goal.returns-in_ok-send_to_all-clause-goes_on
 returns-in_ok-send_to_all-clause-goes_on g c n v hosts before e noted len num live =
-    let session : ℕ → ℕ = λ h. get_or c.args.sessions h 0 in
+    let session : ℕ → ℕ = λ h. get_or c.args.sessions.now h 0 in
     let now : List Entry = c.args.noted.now.entries.items in
     let Runs = g.C.WorldNode.runs in
     let some : Some c.in-Some.node ≡ Some n = sym c.in-Some.is ∙ e.on in

@@ -1,9 +1,8 @@
-use Rattle.std.proofs.Common.{ℕ, List, ◌++◌, map, ap, sym, subst, ◌∙◌, false}
-use Rattle.std.specs.Prelude.{slice_index_or, slice_set, option_to_list, Some}
+use Rattle.std.proofs.Common.{ℕ, List, ◌++◌, map, ap, sym, subst, ◌∙◌, false, append-nil}
+use Rattle.std.specs.Prelude.{slice_index_or, slice_set, Some}
 use Rattle.std.specs.List.{AllByRecursion}
 use Rattle.trace_model.specs.Lines.{IsHost}
 use Rattle.trace_model.specs.declared.entry.Entry.{Entry}
-use Rattle.trace_model.specs.declared.entry.Entry.TheVariants as note
 use Rattle.trace_model.specs.declared.line.End.{End}
 use Rattle.link_machine.specs.Machine.{lpdu_input}
 use Rattle.link_entries.specs.messages.Links.{Link}
@@ -14,19 +13,19 @@ use Rattle.node_machine.specs.world.World.{NodeWorld, link_to, input_of, arrival
 use Rattle.node_laws.specs.kept.Hosts.{AreDifferent}
 use Rattle.node_laws.proofs.telling.Nodes.{link_is}
 use Rattle.node_core.specs.Noting.{unnumbered}
-use Rattle.node_world.specs.LinksKept.{IsFirst, without_first}
-use Rattle.node_world.specs.Places.{IsPlace, SiteIs}
+use Rattle.node_world.specs.LinksKept.{without_first}
+use Rattle.node_world.specs.Places.{IsPlace}
 use Rattle.node_world.specs.Controllers.{WorldBecomes, as_it_comes_to}
-use Rattle.node_world.proofs.HostsAre.{none_first}
+use Rattle.node_world.proofs.HostsAre.{none_first, some_read, none_read}
 use Rattle.node_world.proofs.HostsBegin.{may_begin}
 use Rattle.node_world.proofs.HostsGoOn.{taken_input}
 use Rattle.node_world.proofs.ControllersHear.{place_is_on, found_there, comes_there, site_read, site_with, hosts_as_it_comes, from_there, first_off}
-use Rattle.node_world.proofs.ControllersHear.{taken_noted, none_there_yet, stays_there, comes_none}
+use Rattle.node_world.proofs.ControllersHear.{taken_noted, stays_there, comes_none}
 use Rattle.node_world.proofs.ControllersStep.{Then, mid_sites, begins_there, numbered, step_midway, step_ends, come_far}
 use Rattle.node_world.proofs.controller_steps.take_at_controller.Goals as goal
 
-pub returns-in_default-2-clause-stands : goal.returns-in_default-2-clause-stands
-returns-in_default-2-clause-stands g c w world may there few =
+pub returns-in_default-reads_first-clause-stands : goal.returns-in_default-reads_first-clause-stands
+returns-in_default-reads_first-clause-stands g c w world may there few =
     let h : ℕ = c.args.host in
     let i : ℕ = c.in-Some-place_of.place in
     let ks = c.args.sites.now in
@@ -37,22 +36,17 @@ returns-in_default-2-clause-stands g c w world may there few =
     let is = found_there i h w.sites there.0 st may.orderly.different there.1 in
     let site = site_read _ g.P.WorldNode.runs g.P.WorldNode.memory i h ks w.sites there.0 k st is world.sites
     (ap (slice_index_or ks i) c.index-sites-place.is) in
-    let t = c.in_ok-lpdu.ensures l site.wires.here in
-    let none = subst (IsFirst l.to_controller) c.in_default-2.is t.0 in
-    let new = record k { wires = record k.wires { controller = c.take_first.new.self } } in
-    let after = site_with _ g.P.WorldNode.runs g.P.WorldNode.memory k (record k.wires { controller = c.take_first.new.self }) there.0 (without_first l)
-    (come_far l NextFrame) (first_off k.wires c.take_first.new.self l site.wires t.1) site in
-    let S : Link → Type 0 = λ m. SiteIs g.P.WorldNode.runs g.P.WorldNode.memory new (record there.0 { link = m }) in
-    let sites = stays_there _ g.P.WorldNode.runs g.P.WorldNode.memory i h ks w.sites there.0 new st is world.sites (subst S (none_there_yet l none) after) in
+    let none = none_read l.to_controller c.reads_first.result c.in_default-reads_first.is (c.reads_first.ensures l site.wires.here) in
+    let sites = stays_there _ g.P.WorldNode.runs g.P.WorldNode.memory i h ks w.sites there.0 k st is world.sites site in
     let input = ap (λ m. input_of m NextFrame) (link_is w.sites h there.0 there.1) ∙ none_first l none in
     let B : NodeWorld × List Entry → Type 0 = λ x. WorldBecomes g.C.WorldNode.runs g.C.WorldNode.memory g.P.WorldNode.runs g.P.WorldNode.memory
-    (record { on = Some c.in-Some.node; off = c.args.controller.now.off }) (slice_set ks i new) before c.take_first.new.entries.items x in
+    (record { on = Some c.in-Some.node; off = c.args.controller.now.off }) (slice_set ks i k) before before x in
     let place = subst (λ o. IsPlace g.C.WorldNode.runs g.C.WorldNode.memory o c.args.controller.now.off w.memory w.controller
     (λ n. (link_to w.sites n).controller)) c.in-Some.is world.controller in
     subst B (sym (comes_none w h NextFrame input))
     (record {
       world = record { controller = place; sites = sites };
-      noted = t.2 ∙ ap (λ o. before ++ map (note.Took (record { link = h; at_host = false })) (option_to_list o)) c.in_default-2.is;
+      noted = sym (append-nil before);
     })
 
 pub take-live-requires : goal.take-live-requires
@@ -69,21 +63,21 @@ take-live-requires g c =
     let st = c.in-Some-place_of.ensures.place q.0.sites q.1.sites in
     let is = found_there i h q.0.sites q.3.0 st q.2.orderly.different q.3.1 in
     let site = site_read _ g.P.WorldNode.runs g.P.WorldNode.memory i h ks q.0.sites q.3.0 k st is q.1.sites (ap (slice_index_or ks i) c.index-sites-place.is) in
-    let t = c.in_ok-lpdu.ensures l site.wires.here in
-    let first = subst (IsFirst l.to_controller) c.in-Some-2.is t.0 in
+    let f = some_read l.to_controller c.reads_first.result c.in-Some-reads_first.read c.in-Some-reads_first.is (c.reads_first.ensures l site.wires.here) in
+    let t = c.in_ok-take_first.ensures l (Some f.lpdu) site.wires.here f.first in
     let at : End = record { link = h; at_host = false } in
     let link = link_is q.0.sites h q.3.0 q.3.1 in
-    let input = ap (λ m. input_of m NextFrame) link ∙ taken_input l c.in-Some-2.lpdu first in
-    let took = t.2 ∙ ap (λ o. before ++ map (note.Took at) (option_to_list o)) c.in-Some-2.is in
-    let started = took ∙ ap (λ es. before ++ es) (sym (taken_noted h l c.in-Some-2.lpdu first)
+    let input = ap (λ m. input_of m NextFrame) link ∙ taken_input l f.lpdu f.first in
+    let started = t.1 ∙ ap (λ es. before ++ es) (sym (taken_noted h l f.lpdu f.first)
     ∙ ap (λ m. map unnumbered (entries_for h (arrival Controller m NextFrame))) (sym link)) in
     let new = site_with _ g.P.WorldNode.runs g.P.WorldNode.memory k (record k.wires { controller = c.take_first.new.self }) q.3.0 (without_first l)
-    (come_far l NextFrame) (first_off k.wires c.take_first.new.self l site.wires t.1) site in
-    let b = begins_there q.0 here.running h NextFrame (lpdu_input c.in-Some-2.lpdu) q.3.0 q.2 here.runs q.3.1 input
+    (come_far l NextFrame) (first_off k.wires c.take_first.new.self l site.wires t.0) site in
+    let b = begins_there q.0 here.running h NextFrame (lpdu_input f.lpdu) q.3.0 q.2 here.runs q.3.1 input
     _ g.row.P.Denot g.C.WorldNode.runs g.C.WorldNode.memory g.P.WorldNode.runs g.P.WorldNode.memory g.met.C.WorldNode.kept g.met.C.WorldNode.whole
     c.in-Some.node here.place in
     record {
       may = may_begin _ g.C.WorldNode.runs g.C.WorldNode.memory g.met.C.WorldNode.kept b;
+      read = (f.lpdu, f.says);
     }
 
 pub finish_controller-requires-clause-state : goal.finish_controller-requires-clause-state
@@ -100,27 +94,26 @@ finish_controller-requires-clause-state g c =
     let st = c.in-Some-place_of.ensures.place q.0.sites q.1.sites in
     let is = found_there i h q.0.sites q.3.0 st q.2.orderly.different q.3.1 in
     let site = site_read _ g.P.WorldNode.runs g.P.WorldNode.memory i h ks q.0.sites q.3.0 k st is q.1.sites (ap (slice_index_or ks i) c.index-sites-place.is) in
-    let t = c.in_ok-lpdu.ensures l site.wires.here in
-    let first = subst (IsFirst l.to_controller) c.in-Some-2.is t.0 in
+    let f = some_read l.to_controller c.reads_first.result c.in-Some-reads_first.read c.in-Some-reads_first.is (c.reads_first.ensures l site.wires.here) in
+    let t = c.in_ok-take_first.ensures l (Some f.lpdu) site.wires.here f.first in
     let at : End = record { link = h; at_host = false } in
     let link = link_is q.0.sites h q.3.0 q.3.1 in
-    let input = ap (λ m. input_of m NextFrame) link ∙ taken_input l c.in-Some-2.lpdu first in
-    let took = t.2 ∙ ap (λ o. before ++ map (note.Took at) (option_to_list o)) c.in-Some-2.is in
-    let started = took ∙ ap (λ es. before ++ es) (sym (taken_noted h l c.in-Some-2.lpdu first)
+    let input = ap (λ m. input_of m NextFrame) link ∙ taken_input l f.lpdu f.first in
+    let started = t.1 ∙ ap (λ es. before ++ es) (sym (taken_noted h l f.lpdu f.first)
     ∙ ap (λ m. map unnumbered (entries_for h (arrival Controller m NextFrame))) (sym link)) in
     let new = site_with _ g.P.WorldNode.runs g.P.WorldNode.memory k (record k.wires { controller = c.take_first.new.self }) q.3.0 (without_first l)
-    (come_far l NextFrame) (first_off k.wires c.take_first.new.self l site.wires t.1) site in
-    let b = begins_there q.0 here.running h NextFrame (lpdu_input c.in-Some-2.lpdu) q.3.0 q.2 here.runs q.3.1 input
+    (come_far l NextFrame) (first_off k.wires c.take_first.new.self l site.wires t.0) site in
+    let b = begins_there q.0 here.running h NextFrame (lpdu_input f.lpdu) q.3.0 q.2 here.runs q.3.1 input
     _ g.row.P.Denot g.C.WorldNode.runs g.C.WorldNode.memory g.P.WorldNode.runs g.P.WorldNode.memory g.met.C.WorldNode.kept g.met.C.WorldNode.whole
     c.in-Some.node here.place in
     let sites = comes_there _ g.P.WorldNode.runs g.P.WorldNode.memory i h NextFrame ks q.0.sites q.3.0
     (record k { wires = record k.wires { controller = c.take_first.new.self } }) st q.2.orderly.different is q.1.sites new in (
       c.take-live.new.self,
-      Then q.0 here.running h NextFrame (lpdu_input c.in-Some-2.lpdu) q.3.0 q.2 here.runs q.3.1 input,
-      mid_sites q.0 here.running h NextFrame (lpdu_input c.in-Some-2.lpdu) q.3.0 q.2 here.runs q.3.1 input,
-      step_midway q.0 here.running h NextFrame (lpdu_input c.in-Some-2.lpdu) q.3.0 q.2 here.runs q.3.1 input
+      Then q.0 here.running h NextFrame (lpdu_input f.lpdu) q.3.0 q.2 here.runs q.3.1 input,
+      mid_sites q.0 here.running h NextFrame (lpdu_input f.lpdu) q.3.0 q.2 here.runs q.3.1 input,
+      step_midway q.0 here.running h NextFrame (lpdu_input f.lpdu) q.3.0 q.2 here.runs q.3.1 input
           _ g.row.P.Denot g.C.WorldNode.runs g.C.WorldNode.memory g.P.WorldNode.runs g.P.WorldNode.memory g.met.C.WorldNode.kept g.met.C.WorldNode.whole
-          c.in-Some.node c.take-live.new.self c.args.controller.now.off _ c.take-live.result (c.take-live.ensures.stepped _ b) here.off_is sites,
+          c.in-Some.node c.take-live.new.self c.args.controller.now.off _ c.take-live.result (c.take-live.ensures.stepped _ f.lpdu b f.says) here.off_is sites,
     )
 
 pub finish_controller-requires-clause-from : goal.finish_controller-requires-clause-from
@@ -137,21 +130,20 @@ finish_controller-requires-clause-from g c off =
     let st = c.in-Some-place_of.ensures.place q.0.sites q.1.sites in
     let is = found_there i h q.0.sites q.3.0 st q.2.orderly.different q.3.1 in
     let site = site_read _ g.P.WorldNode.runs g.P.WorldNode.memory i h ks q.0.sites q.3.0 k st is q.1.sites (ap (slice_index_or ks i) c.index-sites-place.is) in
-    let t = c.in_ok-lpdu.ensures l site.wires.here in
-    let first = subst (IsFirst l.to_controller) c.in-Some-2.is t.0 in
+    let f = some_read l.to_controller c.reads_first.result c.in-Some-reads_first.read c.in-Some-reads_first.is (c.reads_first.ensures l site.wires.here) in
+    let t = c.in_ok-take_first.ensures l (Some f.lpdu) site.wires.here f.first in
     let at : End = record { link = h; at_host = false } in
     let link = link_is q.0.sites h q.3.0 q.3.1 in
-    let input = ap (λ m. input_of m NextFrame) link ∙ taken_input l c.in-Some-2.lpdu first in
-    let took = t.2 ∙ ap (λ o. before ++ map (note.Took at) (option_to_list o)) c.in-Some-2.is in
-    let started = took ∙ ap (λ es. before ++ es) (sym (taken_noted h l c.in-Some-2.lpdu first)
+    let input = ap (λ m. input_of m NextFrame) link ∙ taken_input l f.lpdu f.first in
+    let started = t.1 ∙ ap (λ es. before ++ es) (sym (taken_noted h l f.lpdu f.first)
     ∙ ap (λ m. map unnumbered (entries_for h (arrival Controller m NextFrame))) (sym link)) in
     let new = site_with _ g.P.WorldNode.runs g.P.WorldNode.memory k (record k.wires { controller = c.take_first.new.self }) q.3.0 (without_first l)
-    (come_far l NextFrame) (first_off k.wires c.take_first.new.self l site.wires t.1) site in
-    let b = begins_there q.0 here.running h NextFrame (lpdu_input c.in-Some-2.lpdu) q.3.0 q.2 here.runs q.3.1 input
+    (come_far l NextFrame) (first_off k.wires c.take_first.new.self l site.wires t.0) site in
+    let b = begins_there q.0 here.running h NextFrame (lpdu_input f.lpdu) q.3.0 q.2 here.runs q.3.1 input
     _ g.row.P.Denot g.C.WorldNode.runs g.C.WorldNode.memory g.P.WorldNode.runs g.P.WorldNode.memory g.met.C.WorldNode.kept g.met.C.WorldNode.whole
     c.in-Some.node here.place in
     from_there c.take-live.new.noted.entries.items before _ c.take-live.new.noted.short c.len-from.result
-    (c.take-live.ensures.noted before _ b (λ long. started)) (sym (c.len-from.ensures ∙ c.args.noted.now.entries.ok.0)) off
+    (c.take-live.ensures.noted before _ f.lpdu b f.says (λ long. started)) (sym (c.len-from.ensures ∙ c.args.noted.now.entries.ok.0)) off
 
 pub returns-clause-stands : goal.returns-clause-stands
 returns-clause-stands g c w world may there few =
@@ -167,33 +159,32 @@ returns-clause-stands g c w world may there few =
     let is = found_there i h w.sites there.0 st may.orderly.different there.1 in
     let site = site_read _ g.P.WorldNode.runs g.P.WorldNode.memory i h ks w.sites there.0 k st is world.sites
     (ap (slice_index_or ks i) c.index-sites-place.is) in
-    let t = c.in_ok-lpdu.ensures l site.wires.here in
-    let first = subst (IsFirst l.to_controller) c.in-Some-2.is t.0 in
+    let f = some_read l.to_controller c.reads_first.result c.in-Some-reads_first.read c.in-Some-reads_first.is (c.reads_first.ensures l site.wires.here) in
+    let t = c.in_ok-take_first.ensures l (Some f.lpdu) site.wires.here f.first in
     let at : End = record { link = h; at_host = false } in
     let link = link_is w.sites h there.0 there.1 in
-    let input = ap (λ m. input_of m NextFrame) link ∙ taken_input l c.in-Some-2.lpdu first in
-    let took = t.2 ∙ ap (λ o. before ++ map (note.Took at) (option_to_list o)) c.in-Some-2.is in
-    let started = took ∙ ap (λ es. before ++ es) (sym (taken_noted h l c.in-Some-2.lpdu first)
+    let input = ap (λ m. input_of m NextFrame) link ∙ taken_input l f.lpdu f.first in
+    let started = t.1 ∙ ap (λ es. before ++ es) (sym (taken_noted h l f.lpdu f.first)
     ∙ ap (λ m. map unnumbered (entries_for h (arrival Controller m NextFrame))) (sym link)) in
     let new = site_with _ g.P.WorldNode.runs g.P.WorldNode.memory k (record k.wires { controller = c.take_first.new.self }) there.0 (without_first l)
-    (come_far l NextFrame) (first_off k.wires c.take_first.new.self l site.wires t.1) site in
-    let b = begins_there w here.running h NextFrame (lpdu_input c.in-Some-2.lpdu) there.0 may here.runs there.1 input
+    (come_far l NextFrame) (first_off k.wires c.take_first.new.self l site.wires t.0) site in
+    let b = begins_there w here.running h NextFrame (lpdu_input f.lpdu) there.0 may here.runs there.1 input
     _ g.row.P.Denot g.C.WorldNode.runs g.C.WorldNode.memory g.P.WorldNode.runs g.P.WorldNode.memory g.met.C.WorldNode.kept g.met.C.WorldNode.whole
     c.in-Some.node here.place in
     let sites = comes_there _ g.P.WorldNode.runs g.P.WorldNode.memory i h NextFrame ks w.sites there.0
     (record k { wires = record k.wires { controller = c.take_first.new.self } }) st may.orderly.different is world.sites new in
-    let gone = c.take-live.ensures.stepped _ b in
-    let midway = step_midway w here.running h NextFrame (lpdu_input c.in-Some-2.lpdu) there.0 may here.runs there.1 input
+    let gone = c.take-live.ensures.stepped _ f.lpdu b f.says in
+    let midway = step_midway w here.running h NextFrame (lpdu_input f.lpdu) there.0 may here.runs there.1 input
     _ g.row.P.Denot g.C.WorldNode.runs g.C.WorldNode.memory g.P.WorldNode.runs g.P.WorldNode.memory g.met.C.WorldNode.kept g.met.C.WorldNode.whole
     c.in-Some.node c.take-live.new.self c.args.controller.now.off _ c.take-live.result gone here.off_is sites in
-    let noted = c.take-live.ensures.noted before _ b (λ long. started) in
+    let noted = c.take-live.ensures.noted before _ f.lpdu b f.says (λ long. started) in
     let long = sym (c.len-from.ensures ∙ c.args.noted.now.entries.ok.0) in
     let names = hosts_as_it_comes h NextFrame w.sites in
     let sessions = c.sessions_of-sessions.ensures (as_it_comes_to h NextFrame w.sites) sites
     (subst AreDifferent (sym names) may.orderly.different) (subst (AllByRecursion IsHost) (sym names) may.hosts) in
-    let counted = numbered w here.running h NextFrame (lpdu_input c.in-Some-2.lpdu) there.0 may here.runs there.1 input
-    c.sessions_of-sessions.result sessions (few (lpdu_input c.in-Some-2.lpdu) input) in
-    step_ends w here.running h NextFrame (lpdu_input c.in-Some-2.lpdu) there.0 may here.runs there.1 input
+    let counted = numbered w here.running h NextFrame (lpdu_input f.lpdu) there.0 may here.runs there.1 input
+    c.sessions_of-sessions.result sessions (few (lpdu_input f.lpdu) input) in
+    step_ends w here.running h NextFrame (lpdu_input f.lpdu) there.0 may here.runs there.1 input
     _ g.row.P.Denot g.C.WorldNode.runs g.C.WorldNode.memory g.P.WorldNode.runs g.P.WorldNode.memory g.met.C.WorldNode.kept g.met.C.WorldNode.whole
     c.finish_controller.result c.take-live.result c.finish_controller.new.controller c.finish_controller.new.sites c.in-Some.node
     c.take-live.new.self before c.finish_controller.new.noted.entries.items here.place gone

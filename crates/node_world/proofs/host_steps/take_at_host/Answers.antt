@@ -1,12 +1,10 @@
-use Rattle.std.proofs.Common.{◌++◌, map, true, refl, sym, subst, ap, ◌∙◌}
-use Rattle.std.specs.Prelude.{option_to_list}
-use Rattle.trace_model.specs.declared.entry.Entry.TheVariants as note
+use Rattle.std.proofs.Common.{true, refl, sym, ap, ◌∙◌}
+use Rattle.std.specs.Prelude.{Some}
 use Rattle.trace_model.specs.declared.line.End.{End}
 use Rattle.link_machine.specs.Machine.{lpdu_input}
 use Rattle.link_entries.specs.messages.Links.{Link, exchanged}
 use Rattle.link_entries.specs.messages.Links.Comes.{NextFrame}
-use Rattle.node_world.specs.LinksKept.{IsFirst}
-use Rattle.node_world.proofs.HostsAre.{is_on, is_off, unchanged_as, hears_off}
+use Rattle.node_world.proofs.HostsAre.{is_on, is_off, unchanged_as, hears_off, some_read, none_read}
 use Rattle.node_world.proofs.HostsBegin.{begins_at_end, may_begin}
 use Rattle.node_world.proofs.HostsGoOn.{heard, is_done, taken_input, taken_stands, arrival_noted, none_taken}
 use Rattle.node_world.proofs.host_steps.take_at_host.Goals as goal
@@ -16,11 +14,10 @@ returns-in_default-clause-stands g c s is host counts =
     unchanged_as _ g.P.WorldNode.runs g.P.WorldNode.memory c.args.noted.now.entries.items is
     (hears_off s NextFrame (is_off _ g.P.WorldNode.runs g.P.WorldNode.memory is c.in_default.is))
 
-pub returns-in_default-2-clause-stands : goal.returns-in_default-2-clause-stands
-returns-in_default-2-clause-stands g c s is host counts =
-    let t = c.in_ok-lpdu.ensures (exchanged s.link) is.wires.there in
-    none_taken _ g.P.WorldNode.runs g.P.WorldNode.memory c.args.site.now s c.take_first.new.self c.in_ok-lpdu.field-0 _ c.args.noted.now.entries.items
-    is c.in-Some.is c.in_default-2.is t.0 t.1 t.2
+pub returns-in_default-reads_first-clause-stands : goal.returns-in_default-reads_first-clause-stands
+returns-in_default-reads_first-clause-stands g c s is host counts =
+    none_taken _ g.P.WorldNode.runs g.P.WorldNode.memory c.args.site.now s c.args.noted.now.entries.items is c.in-Some.is
+    (none_read (exchanged s.link).to_controller c.reads_first.result c.in_default-reads_first.is (c.reads_first.ensures (exchanged s.link) is.wires.there))
 
 pub take-live-requires : goal.take-live-requires
 take-live-requires g c =
@@ -30,6 +27,8 @@ take-live-requires g c =
       may = may_begin _ g.P.WorldNode.runs g.P.WorldNode.memory g.met.P.WorldNode.kept
           (begins_at_end _ g.P.WorldNode.runs g.P.WorldNode.memory g.met.P.WorldNode.kept c.args.site.now r.0 c.in-Some.node here.running NextFrame r.1 r.2
           c.in-Some.is here.runs);
+      read = let f = some_read (exchanged r.0.link).to_controller c.reads_first.result c.in-Some-reads_first.read c.in-Some-reads_first.is
+          (c.reads_first.ensures (exchanged r.0.link) r.1.wires.there) in (f.lpdu, f.says);
     }
 
 pub finish_host-requires-clause-state : goal.finish_host-requires-clause-state
@@ -38,14 +37,14 @@ finish_host-requires-clause-state g c =
     let l : Link = exchanged r.0.link in
     let before = c.args.noted.now.entries.items in
     let at : End = record { link = c.args.site.now.host; at_host = true } in
-    let t = c.in_ok-lpdu.ensures l r.1.wires.there in
-    let first = subst (IsFirst l.to_controller) c.in-Some-2.is t.0 in
-    let took = t.2 ∙ ap (λ o. before ++ map (note.Took at) (option_to_list o)) c.in-Some-2.is in
+    let f = some_read l.to_controller c.reads_first.result c.in-Some-reads_first.read c.in-Some-reads_first.is (c.reads_first.ensures l r.1.wires.there) in
+    let t = c.in_ok-take_first.ensures l (Some f.lpdu) r.1.wires.there f.first in
     let end = ap (λ h. record { link = h; at_host = true }) r.1.host in
     let d = heard _ g.P.WorldNode.runs g.P.WorldNode.memory g.met.P.WorldNode.kept c.args.site.now _ r.0 c.in-Some.node c.take-live.new.self
     c.take-live.result before c.take_first.new.entries.items c.take-live.new.noted.entries.items c.args.noted.now.short c.take-live.new.noted.short r.1 r.2
-    c.in-Some.is refl refl refl NextFrame (lpdu_input c.in-Some-2.lpdu) r.3 (taken_input l c.in-Some-2.lpdu first) c.take-live.ensures.stepped
-    (c.take-live.ensures.noted before) (λ long. arrival_noted before r.0.host at l c.in-Some-2.lpdu end first took) (taken_stands l r.1.wires t.1) in
+    c.in-Some.is refl refl refl NextFrame (lpdu_input f.lpdu) r.3 (taken_input l f.lpdu f.first) (λ x b. c.take-live.ensures.stepped x f.lpdu b f.says)
+    (λ x b. c.take-live.ensures.noted before x f.lpdu b f.says) (λ long. arrival_noted before r.0.host at l f.lpdu end f.first t.1)
+    (taken_stands l r.1.wires t.0) in
     (r.0, d.step, d.l, d.w, before, sym (c.len-from.ensures ∙ c.args.noted.now.entries.ok.0), d.midway)
 
 pub returns-clause-stands : goal.returns-clause-stands
@@ -53,13 +52,13 @@ returns-clause-stands g c s is host counts =
     let l : Link = exchanged s.link in
     let before = c.args.noted.now.entries.items in
     let at : End = record { link = c.args.site.now.host; at_host = true } in
-    let t = c.in_ok-lpdu.ensures l is.wires.there in
-    let first = subst (IsFirst l.to_controller) c.in-Some-2.is t.0 in
-    let took = t.2 ∙ ap (λ o. before ++ map (note.Took at) (option_to_list o)) c.in-Some-2.is in
+    let f = some_read l.to_controller c.reads_first.result c.in-Some-reads_first.read c.in-Some-reads_first.is (c.reads_first.ensures l is.wires.there) in
+    let t = c.in_ok-take_first.ensures l (Some f.lpdu) is.wires.there f.first in
     let end = ap (λ h. record { link = h; at_host = true }) is.host in
     let d = heard _ g.P.WorldNode.runs g.P.WorldNode.memory g.met.P.WorldNode.kept c.args.site.now _ s c.in-Some.node c.take-live.new.self
     c.take-live.result before c.take_first.new.entries.items c.take-live.new.noted.entries.items c.args.noted.now.short c.take-live.new.noted.short is host
-    c.in-Some.is refl refl refl NextFrame (lpdu_input c.in-Some-2.lpdu) counts (taken_input l c.in-Some-2.lpdu first) c.take-live.ensures.stepped
-    (c.take-live.ensures.noted before) (λ long. arrival_noted before s.host at l c.in-Some-2.lpdu end first took) (taken_stands l is.wires t.1) in
+    c.in-Some.is refl refl refl NextFrame (lpdu_input f.lpdu) counts (taken_input l f.lpdu f.first) (λ x b. c.take-live.ensures.stepped x f.lpdu b f.says)
+    (λ x b. c.take-live.ensures.noted before x f.lpdu b f.says) (λ long. arrival_noted before s.host at l f.lpdu end f.first t.1)
+    (taken_stands l is.wires t.0) in
     is_done c.finish_host.result c.finish_host.new.site c.finish_host.new.noted.entries.items d
     (c.finish_host.ensures.stands s d.step d.l d.w before (sym (c.len-from.ensures ∙ c.args.noted.now.entries.ok.0)) d.midway)

@@ -7,7 +7,7 @@ use Rattle.node_world.proofs.numbering.number_all.Goals as goal
 
 pub loop-i-preserved : goal.loop-i-preserved
 loop-i-preserved c =
-    let f : Entry → Entry = with_session (λ h. get_or c.args.sessions h 0) in
+    let f : Entry → Entry = with_session (λ h. get_or c.args.sessions.now h 0) in
     let i : ℕ = c.loop-i.i in
     let x : Entry = c.index-entries-i.result in
     ap (λ e. slice_set c.loop-i.entries i e) (c.number.ensures ∙ ap f (sym c.index-entries-i.is))

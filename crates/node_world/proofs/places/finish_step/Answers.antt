@@ -12,7 +12,7 @@ use Rattle.node_world.proofs.places.finish_step.Goals as goal
 
 pub returns-then-not-live-clause-cut : goal.returns-then-not-live-clause-cut
 returns-then-not-live-clause-cut g c n w p l before f noted len num off =
-    let session : ℕ → ℕ = λ h. get_or c.args.sessions h 0 in
+    let session : ℕ → ℕ = λ h. get_or c.args.sessions.now h 0 in
     let now : List Entry = c.args.noted.now.entries.items in
     let gone = c.lose_power.ensures.off n f.on in
     record {
@@ -26,7 +26,7 @@ returns-then-not-live-clause-cut g c n w p l before f noted len num off =
 
 pub returns-in_ok-send_frames-clause-goes_on : goal.returns-in_ok-send_frames-clause-goes_on
 returns-in_ok-send_frames-clause-goes_on g c n w p l before f noted len num live =
-    let session : ℕ → ℕ = λ h. get_or c.args.sessions h 0 in
+    let session : ℕ → ℕ = λ h. get_or c.args.sessions.now h 0 in
     let now : List Entry = c.args.noted.now.entries.items in
     let Runs = g.P.WorldNode.runs in
     let some : Some c.in-Some.node ≡ Some n = sym c.in-Some.is ∙ f.on in

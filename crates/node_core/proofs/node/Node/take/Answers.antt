@@ -19,7 +19,7 @@ use Rattle.node_core.proofs.node.Node.take.Goals as goal
 pub returns-in_default-clause-carried : goal.returns-in_default-clause-carried
 returns-in_default-clause-carried g c start w lpdu u is =
     let none = no_port (λ (p : Port). report_told (report p.side (lpdu_input lpdu))) (port_at w.ports c.args.host)
-    (sym (no_some c.take.result c.in_default.not-Some) ∙ c.take.ensures.answer w.ports lpdu u.ends is) in
+    (sym (no_some c.take.new.told c.in_default.not-Some) ∙ c.take.ensures.answer w.ports lpdu u.ends is) in
     comes_nowhere c.args.host (lpdu_input lpdu) u (c.take.ensures.stands w.ports lpdu u.ends is) none (no_notes _ _)
 
 pub returns-in_default-clause-runs : goal.returns-in_default-clause-runs

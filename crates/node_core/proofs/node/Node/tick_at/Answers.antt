@@ -25,17 +25,17 @@ returns-in_default-clause-carried g c start w p u is =
     is_some_there (λ (q : Port). q.desk.host) (slice_get w.ports c.args.i) p
     (sym (no_some c.host.result c.in_default.not-Some) ∙ c.host.ensures w.ports u.ends) is
 
-pub returns-in_default-tick-clause-carried : goal.returns-in_default-tick-clause-carried
-returns-in_default-tick-clause-carried g c start w p u is =
+pub returns-in_default-told-clause-carried : goal.returns-in_default-told-clause-carried
+returns-in_default-told-clause-carried g c start w p u is =
     is_some_there (λ (q : Port). report_told (report q.side Tick)) (slice_get w.ports c.args.i) p
-    (sym (no_some c.tick.result c.in_default-tick.not-Some) ∙ c.tick.ensures.answer w.ports u.ends) is
+    (sym (no_some c.tick.new.told c.in_default-told.not-Some) ∙ c.tick.ensures.answer w.ports u.ends) is
 
-pub returns-in_default-tick-clause-none : goal.returns-in_default-tick-clause-none
-returns-in_default-tick-clause-none g c start w u none =
+pub returns-in_default-told-clause-none : goal.returns-in_default-told-clause-none
+returns-in_default-told-clause-none g c start w u none =
     is_none_there (λ (q : Port). q.desk.host) (slice_get w.ports c.args.i) c.in-Some.host (sym c.in-Some.is ∙ c.host.ensures w.ports u.ends) none
 
-pub returns-in_default-tick-clause-runs : goal.returns-in_default-tick-clause-runs
-returns-in_default-tick-clause-runs g c =
+pub returns-in_default-told-clause-runs : goal.returns-in_default-told-clause-runs
+returns-in_default-told-clause-runs g c =
     let r = c.requires.runs in
     record { ports = _; ends = c.tick.ensures.stands r.ports r.ends; started = r.started; version = r.version }
 
@@ -60,11 +60,11 @@ returns-clause-carried g c start w p u is =
     let stands = subst H (sym same)
     (subst E (at_is_with i (λ q. has_come q (Some Tick)) w.ports p differ is) (c.tick.ensures.stands w.ports u.ends)) in
     let found : port_at w.ports h ≡ Some p = ap (port_at w.ports) same ∙ found_there i w.ports p differ is in
-    let told_is = sym c.in-Some-tick.is ∙ (c.tick.ensures.answer w.ports u.ends ∙ (ap (option_map (λ (q : Port). report_told (report q.side Tick))) is
+    let told_is = sym c.in-Some-told.is ∙ (c.tick.ensures.answer w.ports u.ends ∙ (ap (option_map (λ (q : Port). report_told (report q.side Tick))) is
     ∙ sym (ap (option_map (λ (q : Port). report_told (report q.side Tick))) found))) in
     let R : ℕ → Type 0 = λ m. IsInStep (record c.args.self.now { ends = c.tick.new.self }) (g.W.Watch.noted c.note_input.new.watch)
     (g.W.Watch.is_short c.note_input.new.watch) start (all_come (AtEnd m Tick) w) in
-    subst R same (comes_to h Tick c.in-Some-tick.report u stands told_is
+    subst R same (comes_to h Tick c.in-Some-told.report u stands told_is
     (λ q at told_so.
     let P : ℕ → Type 0 = λ n. AreNotes (g.W.Watch.is_short c.args.watch.now) (g.W.Watch.is_short c.note_input.new.watch)
     (g.W.Watch.noted c.args.watch.now) (g.W.Watch.noted c.note_input.new.watch)

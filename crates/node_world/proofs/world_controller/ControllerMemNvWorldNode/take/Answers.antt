@@ -6,14 +6,14 @@ use Rattle.node_world.proofs.NodesRun.{RunsPlainly, plainly, still_plainly, begi
 use Rattle.node_world.proofs.world_controller.ControllerMemNvWorldNode.take.Goals as goal
 
 pub returns-clause-stepped : goal.returns-clause-stepped
-returns-clause-stepped c w begins =
+returns-clause-stepped c w lpdu begins says =
     let noted = c.args.noted.now.entries.items in
-    let t = c.take in
-    goes_so RunsPlainly plainly still_plainly c.has_power.result (steps_regardless (AtEnd c.args.host (lpdu_input c.args.lpdu.now))) begins.begins
-    (t.ensures.stepped noted (bare w) (begins_bare RunsPlainly plainly noted c.args.noted.now.short begins.begins))
+    let t = c.take_read in
+    goes_so RunsPlainly plainly still_plainly c.has_power.result (steps_regardless (AtEnd c.args.host (lpdu_input lpdu))) begins.begins
+    (t.ensures.stepped noted (bare w) lpdu (begins_bare RunsPlainly plainly noted c.args.noted.now.short begins.begins) says)
     (c.has_power.ensures t.new.self.store.journal.live t.ensures.ran)
 
 pub returns-clause-noted : goal.returns-clause-noted
-returns-clause-noted c start w begins told =
-    noted_so {f = steps (AtEnd c.args.host (lpdu_input c.args.lpdu.now))} begins.begins.plan
-    (c.take.ensures.stepped start w (begins_so RunsPlainly plainly begins.begins told))
+returns-clause-noted c start w lpdu begins says told =
+    noted_so {f = steps (AtEnd c.args.host (lpdu_input lpdu))} begins.begins.plan
+    (c.take_read.ensures.stepped start w lpdu (begins_so RunsPlainly plainly begins.begins told) says)
