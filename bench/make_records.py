@@ -1,5 +1,6 @@
 #!/usr/bin/env python3
-"""Writes three line records of 16 MB: frames on both wires, random bits on both wires, and random bytes."""
+"""Writes three line records of 16 MB, of frames on both wires, of random bits on both, and of random bytes; and what a UICC sends to a CLF
+over the byte link, 1 MB: it is activated, accepts the reset, and sends one event after another, which the controller drops."""
 
 import random
 import sys
@@ -42,6 +43,18 @@ def wire(random_numbers: random.Random) -> list[int]:
     return bits[:1_048_576]
 
 
+def unit(lpdu: bytes) -> bytes:
+    """A frame on the byte link."""
+    return len(lpdu).to_bytes(2, "big") + lpdu + crc(lpdu).to_bytes(2, "big")
+
+
+def sent_by_uicc() -> bytes:
+    """ACT_SYNC_ID, ACT_READY, UA, and I frames of an event on pipe 01 whose numbers go round."""
+    begins = unit(b"\x61\x00\x01") + unit(b"\x60") + unit(b"\xE6")
+    eight = b"".join(unit(bytes([0x80 + 8 * number, 0x81, 0x41])) for number in range(8))
+    return begins + eight * ((1_048_576 - len(begins)) // len(eight))
+
+
 def main() -> None:
     folder = Path(sys.argv[1] if len(sys.argv) > 1 else ".")
     random_numbers = random.Random(102613)
@@ -50,6 +63,7 @@ def main() -> None:
     noise = random_numbers.randbytes(1_048_576)
     (folder / "noise.rec").write_bytes(bytes(BIT_BYTES[byte & 3] for byte in noise) * 16)
     (folder / "bytes.rec").write_bytes(random_numbers.randbytes(SIZE))
+    (folder / "uicc.bytes").write_bytes(sent_by_uicc())
 
 
 if __name__ == "__main__":
