@@ -3,7 +3,8 @@ use Rattle.std.proofs.Common.{◌≡◌, ℕ, zero, suc, ◌-◌, ◌≤◌, Boo
 use Rattle.std.proofs.Common.{append_assoc, append-nil}
 use Rattle.std.specs.Prelude.{Option, Some, None, slice_get}
 use Rattle.std.specs.List.{AllByRecursion, flat_map}
-use Rattle.std.specs.Prelude.{Ok, Err, IfSome, option_map}
+use Rattle.std.specs.Prelude.{Ok, Err, IfSome, is_some, option_map, ◌||◌}
+use Rattle.std.proofs.lemmas.List.Concat.{flat_map-cons}
 use Rattle.link_end.specs.declared.report.ResetRefused.{ResetRefused}
 use Rattle.link_end.specs.Reports.{reset_refused, reset_told}
 use Rattle.node_machine.specs.Node.{told_at}
@@ -17,12 +18,13 @@ use Rattle.history.specs.Steps.{entries_for}
 use Rattle.swp_base.specs.declared.link_terms.Cause.TheVariants.{Asked}
 use Rattle.link_end.specs.declared.report.LinkReport.{LinkReport}
 use Rattle.link_end.specs.Reports.{report_told, nothing_told}
-use Rattle.node_machine.specs.Parts.{Core, Port, Work}
+use Rattle.node_machine.specs.Parts.{Core, Port, Notice, Work}
 use Rattle.node_machine.specs.Carrying.{own_side, port_at, noting}
-use Rattle.node_machine.specs.Node.{with_older, is_late, reset_late, told_late}
+use Rattle.node_machine.specs.Node.{with_older, is_late, reset_late, told_late, times_out}
+use Rattle.node_machine.specs.Node.NodeInput.{TimePasses}
 use Rattle.node_ends.specs.Holding.{IsReached, kept_number}
 use Rattle.node_ends.specs.declared.ends.Ends.{Ends}
-use Rattle.node_ends.specs.Desks.{IsYoung}
+use Rattle.node_ends.specs.Desks.{IsYoung, have_notices}
 use Rattle.node_ends.specs.Ends.{EndsStandFor, SeatsStandFor, at_place, late_told}
 use Rattle.node_ends.specs.declared.seat.Seat.{Seat}
 use Rattle.block_pool.specs.Pool.{PoolState}
@@ -163,6 +165,45 @@ late_acked ends ports i h p e is late same =
     ap (λ (n : ℕ). option_map_or (λ (q : Port). kept_number (whole_acked q.side)) (port_at all n) 0) (same ∙ sym (late_host p late))
     ∙ (ap (λ (o : Option Port). option_map_or (λ (q : Port). kept_number (whole_acked q.side)) o 0) found
     ∙ ap (λ (m : Machine). kept_number (whole_acked m)) (late_side p late))
+
+-- ## No notices
+
+neither : (a b : Bool) → (a || b) ≡ false → (a ≡ false) × (b ≡ false)
+neither true b q = cc
+neither false b q = (refl, q)
+
+-- an end without a notice stays as it is
+none_here : (core : Core) (p : Port) → is_some p.desk.notice ≡ false → (with_older p ≡ p) × (reset_late p ≡ p) × (told_late core p ≡ [])
+none_here core p none = by p.desk.notice refl none
+  where
+    by : (o : Option Notice) → p.desk.notice ≡ o → is_some o ≡ false → (with_older p ≡ p) × (reset_late p ≡ p) × (told_late core p ≡ [])
+    by None q none = (rw q refl, rw q refl, rw q refl)
+    by (Some n) q none = cc
+
+none_older : (core : Core) (ports : List Port) → have_notices ports ≡ false → map with_older ports ≡ ports
+none_older core [] none = refl
+none_older core (p ∷ ports) none =
+    let n = neither (is_some p.desk.notice) (have_notices ports) none in
+    ap₂ (λ (q : Port) qs. q ∷ qs) (none_here core p n.0).0 (none_older core ports n.1)
+
+none_reset : (core : Core) (ports : List Port) → have_notices ports ≡ false → map reset_late ports ≡ ports
+none_reset core [] none = refl
+none_reset core (p ∷ ports) none =
+    let n = neither (is_some p.desk.notice) (have_notices ports) none in
+    ap₂ (λ (q : Port) qs. q ∷ qs) (none_here core p n.0).1 (none_reset core ports n.1)
+
+none_told : (core : Core) (ports : List Port) → have_notices ports ≡ false → flat_map (told_late core) ports ≡ []
+none_told core [] none = refl
+none_told core (p ∷ ports) none =
+    let n = neither (is_some p.desk.notice) (have_notices ports) none in
+    flat_map-cons (told_late core) p ports ∙ ap₂ (λ (a b : List Entry). a ++ b) (none_here core p n.0).2 (none_told core ports n.1)
+
+-- without a notice nothing times out
+pub none_times_out : (w : Work) → have_notices w.ports ≡ false → times_out TimePasses w ≡ w
+none_times_out w none =
+    ap (λ (l : List Port). noting (flat_map (told_late w.core) l) (record w { ports = map reset_late l })) (none_older w.core w.ports none)
+    ∙ (ap₂ (λ (es : List Entry) (l : List Port). noting es (record w { ports = l })) (none_told w.core w.ports none) (none_reset w.core w.ports none)
+    ∙ ap (λ (es : List Entry). record w { entries = es }) (append-nil w.entries))
 
 -- ## A reset that is asked for
 

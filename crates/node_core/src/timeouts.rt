@@ -73,6 +73,25 @@ impl<N: Nv + Drop> Node<N> {
         }
     }
 
+    // Notices are a tick older, and the links of those that are late are reset, which is noted. At most six control frames wait at each
+    // end to be sent, and notices have fewer than 255 ticks. The buffer has 4,096 bytes.
+    #[cold]
+    #[inline(never)]
+    fn notices_time_out<W: Watch>(&mut self, buffer: &mut [u8], watch: &mut W)
+        requires runs { IsSoundNode self.old }
+        requires buffer { length buffer.old ≡ 4096 }
+        requires may { (start : List Noted) × (w : Work) × IsInStep self.old (W.noted watch.old) (W.is_short watch.old) start w
+            × AreFewDue w.ports × AreYoung w.ports }
+        ensures carried { (start : List Noted) (w : Work) → IsInStep self.old (W.noted watch.old) (W.is_short watch.old) start w
+            → AreFewDue w.ports → IsInStep self.new (W.noted watch.new) (W.is_short watch.new) start (times_out TimePasses w) }
+        ensures store { self.new.store ≡ self.old.store }
+        ensures number { self.new.number ≡ self.old.number }
+        ensures runs { IsSoundNode self.new }
+    {
+        self.grow_older();
+        self.reset_late(buffer, watch);
+    }
+
     /// Time has passed: notices are a tick older, and the links of those that are late are reset, which is noted. At most six control
     /// frames wait at each end to be sent, and notices have fewer than 255 ticks. The buffer has 4,096 bytes.
     pub(crate) fn times_out<W: Watch>(&mut self, buffer: &mut [u8], watch: &mut W)
@@ -86,7 +105,9 @@ impl<N: Nv + Drop> Node<N> {
         ensures number { self.new.number ≡ self.old.number }
         ensures runs { IsSoundNode self.new }
     {
-        self.grow_older();
-        self.reset_late(buffer, watch);
+        if !self.ends.have_notices() {
+            return;
+        }
+        self.notices_time_out(buffer, watch);
     }
 }

@@ -1,12 +1,15 @@
 -- A message that is read.
-use Rattle.std.proofs.Common.{◌≡◌, ℕ, List, [], ◌∷◌, take, zero, suc, length, ◌<◌, ◌≤◌, refl, ap, arith}
+use Rattle.std.proofs.Common.{◌≡◌, ◌||◌, ◌∙◌, ℕ, List, [], ◌∷◌, take, zero, suc, length, ◌<◌, ◌≤◌, refl, ap, ap₂, arith}
+use Rattle.std.specs.List.{list_any}
 use Rattle.std.specs.Option.{option_map_or}
-use Rattle.std.specs.Prelude.{Bool, false, Option, Some, None, IfSome, IfNone, option_map, slice_get, slice_index_or}
+use Rattle.std.specs.Prelude.{Bool, false, Option, Some, None, IfSome, IfNone, is_some, option_map, slice_get, slice_index_or}
 use Rattle.link_machine.specs.Machine.{Message}
 use Rattle.block_pool.specs.Pool.{PoolState}
 use Rattle.node_machine.specs.Parts.{Port, Desk as DeskOf}
 use Rattle.node_ends.specs.declared.seat.Seat.{Seat}
-use Rattle.node_deeds.specs.Shown.{desk_shown}
+use Rattle.node_deeds.specs.declared.desks.Unanswered.{Unanswered}
+use Rattle.node_deeds.specs.Shown.{desk_shown, notice_shown}
+use Rattle.node_ends.specs.Desks.{have_notices}
 use Rattle.node_ends.specs.Ends.{SeatStandsFor, SeatsStandFor, message_read}
 
 pub read_is : (got : List Message) (o : Option (ℕ × ℕ)) (buffer : List ℕ) → IfSome o (λ x. got ≡ (x.0, take x.1 buffer) ∷ []) → IfNone o (got ≡ [])
@@ -32,6 +35,19 @@ flag_is pool f g same [] (p ∷ ports) i each = absurd each
 flag_is pool f g same (s ∷ seats) [] i each = absurd each
 flag_is pool f g same (s ∷ seats) (p ∷ ports) zero each = same s p each.0
 flag_is pool f g same (s ∷ seats) (p ∷ ports) (suc i) each = flag_is pool f g same seats ports i each.1
+
+-- a notice waits where one is kept
+notice_is : (o : Option Unanswered) → is_some o ≡ is_some (option_map notice_shown o)
+notice_is None = refl
+notice_is (Some n) = refl
+
+pub notices_are : (pool : PoolState) (seats : List Seat) (ports : List Port) → SeatsStandFor pool seats ports
+    → list_any (λ (s : Seat). is_some s.desk.notice) seats ≡ have_notices ports
+notices_are pool [] [] each = refl
+notices_are pool [] (p ∷ ports) each = absurd each
+notices_are pool (s ∷ seats) [] each = absurd each
+notices_are pool (s ∷ seats) (p ∷ ports) each =
+    ap₂ (λ (a b : Bool). a || b) (notice_is s.desk.notice ∙ ap (λ (d : DeskOf). is_some d.notice) each.0.desk) (notices_are pool seats ports each.1)
 
 -- what is read at a place
 pub is_there : (seats : List Seat) (i : ℕ) (s : Seat) → i < length seats → ((d : Seat) → s ≡ slice_index_or seats i d) → Some s ≡ slice_get seats i

@@ -1,5 +1,6 @@
 -- Notices that a node keeps of its ends: their ages, and the creations that wait for them.
-use Rattle.std.specs.Prelude.{ℕ, ◌+◌, ◌<◌, nat_le, Bool, true, false, Option, Some, None, option_map}
+use Rattle.std.specs.Prelude.{ℕ, ◌+◌, ◌<◌, nat_le, Bool, true, false, List, is_some, Option, Some, None, option_map}
+use Rattle.std.specs.List.{list_any}
 use Rattle.std.specs.Option.{option_map_or}
 use Rattle.node_machine.specs.Parts.{Port, Creation, Notice}
 use Rattle.node_machine.specs.Parts.About.{Forgotten as IsForgotten}
@@ -7,6 +8,10 @@ use Rattle.node_machine.specs.Controller.{asked_at}
 use Rattle.node_deeds.specs.declared.desks.About.{About}
 use Rattle.node_deeds.specs.declared.desks.About.TheVariants.{Waits, Forgotten, Removed}
 use Rattle.node_deeds.specs.declared.desks.Unanswered.{Unanswered}
+
+-- a notice waits for its answer at some end
+abbrev pub have_notices : List Port → Bool
+have_notices ports = list_any (λ (p : Port). is_some p.desk.notice) ports
 
 -- a notice that is one tick older
 abbrev pub grown_older : Option Unanswered → Option Unanswered

@@ -4,7 +4,8 @@ ghost use Rattle.node_machine.specs.Parts.{Port};
 ghost use Rattle.node_machine.specs.Carrying.{port_at, with_port};
 ghost use Rattle.std.specs.Option.{option_map_or};
 ghost use Rattle.node_ends.specs.Ends.{AreEnds, place_in, got_at, message_read, rests, are_at_rest};
-ghost use Rattle.std.specs.Prelude.{if◌then◌else◌, map};
+ghost use Rattle.std.specs.Prelude.{if◌then◌else◌, map, is_some};
+ghost use Rattle.std.specs.List.{list_any};
 ghost use Rattle.node_ends.specs.declared.seat.Seat.{Seat as Kept};
 
 use crate::ends::Ends;
@@ -29,6 +30,7 @@ impl Ends {
     ghost use Rattle.node_machine.specs.Parts.{Port};
     ghost use Rattle.node_machine.specs.Carrying.{port_at, with_port};
     ghost use Rattle.node_deeds.specs.Shown.{desk_shown};
+    ghost use Rattle.node_ends.specs.Desks.{have_notices};
     ghost use Rattle.node_ends.specs.Ends.{EndsStandFor, AreOfHosts, got_at, message_read, rests, are_at_rest};
     ghost use Rattle.std.specs.Prelude.{ℕ, false};
     ghost use Rattle.std.specs.Option.{option_map_or};
@@ -107,6 +109,14 @@ impl Ends {
         ensures { (ports : List Port) → EndsStandFor self.now ports → result ≡ are_at_rest ports }
     {
         all_at_rest(self.seats.as_slice(), &self.pool)
+    }
+
+    /// Whether a notice waits for its answer at some end.
+    pub fn have_notices(&self) -> bool
+        requires { (ports : List Port) × EndsStandFor self.now ports }
+        ensures { (ports : List Port) → EndsStandFor self.now ports → result ≡ have_notices ports }
+    {
+        some_waits(self.seats.as_slice())
     }
 
     /// Whether the notice of the end at this place was late in this step; `false` behind the last end.
@@ -190,6 +200,13 @@ fn all_at_rest(seats: &[Seat], pool: &Pool) -> bool
         }
     }
     true
+}
+
+// Whether a notice waits at one of these ends.
+fn some_waits(seats: &[Seat]) -> bool
+    ensures { result ≡ list_any (λ (s : Kept). is_some s.desk.notice) seats.now }
+{
+    seats.iter().any(|seat| seat.desk.notice.is_some())
 }
 
 // What is kept of each of these ends.

@@ -1,13 +1,10 @@
-use Rattle.std.proofs.Common.{map}
-use Rattle.node_machine.specs.Node.{with_older}
-use Rattle.node_core.proofs.Lateness.{few_older}
+use Rattle.std.proofs.Common.{◌≡◌, sym, ◌∙◌, subst}
+use Rattle.node_machine.specs.Parts.{Work}
+use Rattle.node_core.specs.Nodes.{IsInStep}
+use Rattle.node_core.proofs.Lateness.{none_times_out}
 use Rattle.node_core.proofs.node.Node.times_out.Goals as goal
 
-pub reset_late-requires-clause-may : goal.reset_late-requires-clause-may
-reset_late-requires-clause-may g c =
-    let r = c.requires.may in
-    (r.0, record r.1 { ports = map with_older r.1.ports }, c.grow_older.ensures.carried _ _ r.0 r.1 r.2, few_older r.1.ports r.3)
-
-pub returns-clause-carried : goal.returns-clause-carried
-returns-clause-carried g c start w u few =
-    c.reset_late.ensures.carried start (record w { ports = map with_older w.ports }) (c.grow_older.ensures.carried _ _ start w u) (few_older w.ports few)
+pub returns-then-not-have_notices-clause-carried : goal.returns-then-not-have_notices-clause-carried
+returns-then-not-have_notices-clause-carried g c start w u few =
+    let P : Work → Type 0 = λ v. IsInStep c.args.self.now (g.W.Watch.noted c.args.watch.now) (g.W.Watch.is_short c.args.watch.now) start v in
+    subst P (sym (none_times_out w (sym (c.have_notices.ensures w.ports u.ends) ∙ c.if-not-have_notices.true))) u
