@@ -21,6 +21,7 @@ mod Forgetting
 mod Freeing
 mod Settling
 mod Undisturbed
+mod Idle
 pub mod Stepping
 pub mod Lasting
 pub mod Resting

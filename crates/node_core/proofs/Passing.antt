@@ -49,12 +49,12 @@ first_true true b q = refl
 first_true false b q = absurd (true≢false (sym q))
 
 -- an end that rests
-none_waits : (ms : List Message) (held : Bool) → ((length ms == 0) && not held) ≡ true → ms ≡ []
+pub none_waits : (ms : List Message) (held : Bool) → ((length ms == 0) && not held) ≡ true → ms ≡ []
 none_waits [] held q = refl
 none_waits (m ∷ ms) held q =
     let e = eqb-true (length (m ∷ ms)) 0 (first_true (length (m ∷ ms) == 0) (not held) q) in absurd (omega (arith, e))
 
-not_held : (ms : List Message) (held : Bool) → ((length ms == 0) && not held) ≡ true → held ≡ false
+pub not_held : (ms : List Message) (held : Bool) → ((length ms == 0) && not held) ≡ true → held ≡ false
 not_held ms false q = refl
 not_held [] true q = absurd (true≢false (sym q))
 not_held (m ∷ ms) true q =

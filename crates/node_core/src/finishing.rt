@@ -51,11 +51,10 @@ impl<N: Nv + Drop> Node<N> {
     ghost use Rattle.node_core.specs.Running.{HasNoneEnded, reset_refusal_at};
     ghost use Rattle.node_core.specs.Syncing.{sync_kept, finishes};
 
-    /// Behind what came in a step: what sessions that ended there leave is settled, the identifier that came is kept, and the messages
-    /// that wait have their turns. The node is in order, and at most six control frames wait at each end to be sent. The buffer has 4,096
-    /// bytes. Whether the node has its power still.
+    // What came in a step is settled, and the messages that wait have their turns, as in `finish`.
+    #[inline(never)]
     #[tactic(auto, using(crate::proofs::Faults::faults_stay, crate::proofs::Faults::faults_then))]
-    fn finish<W: Watch>(
+    fn settle_and_pass<W: Watch>(
         &mut self,
         came: Option<(u8, u16)>,
         buffer: &mut [u8],
@@ -80,6 +79,38 @@ impl<N: Nv + Drop> Node<N> {
             return false;
         }
         self.passes(buffer, watch)
+    }
+
+    /// Behind what came in a step: what sessions that ended there leave is settled, the identifier that came is kept, and the messages
+    /// that wait have their turns. The node is in order, and at most six control frames wait at each end to be sent. The buffer has 4,096
+    /// bytes. Whether the node has its power still.
+    #[inline(always)]
+    #[tactic(auto, using(crate::proofs::Faults::faults_stay, crate::proofs::Faults::faults_then))]
+    fn finish<W: Watch>(
+        &mut self,
+        came: Option<(u8, u16)>,
+        buffer: &mut [u8],
+        watch: &mut W,
+    ) -> bool
+        requires runs { IsSoundNode self.old }
+        requires live { IsTrue self.old.store.journal.live }
+        requires buffer { length buffer.old ≡ 4096 }
+        requires host { IfSome came (λ pair. (1 ≤ pair.0) × (pair.0 ≤ 7)) }
+        requires may { (start : List Noted) × (w : Work) × IsInStep self.old (W.noted watch.old) (W.is_short watch.old) start w
+            × IsNodeInOrder w.core w.ports × AreFewDue w.ports }
+        ensures carried { (start : List Noted) (w : Work) → IsInStep self.old (W.noted watch.old) (W.is_short watch.old) start w
+            → IsNodeInOrder w.core w.ports → AreFewDue w.ports → Brings N.writes self.old.store.journal.nv self.new.store.journal.nv
+            (IsInStep self.new (W.noted watch.new) (W.is_short watch.new) start)
+            (finishes (sync_kept self.old.store.journal.state self.old.store.tables came)) w }
+        ensures live { result ≡ self.new.store.journal.live }
+        ensures faults { CountsFaults N.faults self.old.store self.new.store }
+        ensures number { self.new.number ≡ self.old.number }
+        ensures runs { IsSoundNode self.new }
+    {
+        if came.is_none() && self.ends.are_idle() {
+            return true;
+        }
+        self.settle_and_pass(came, buffer, watch)
     }
 
     /// A step of a node that is in order: what an LPDU says comes to the end of the link with this

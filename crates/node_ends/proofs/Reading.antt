@@ -1,16 +1,17 @@
 -- A message that is read.
-use Rattle.std.proofs.Common.{◌≡◌, ◌||◌, ◌∙◌, ℕ, List, [], ◌∷◌, take, zero, suc, length, ◌<◌, ◌≤◌, refl, ap, ap₂, arith}
+use Rattle.std.proofs.Common.{◌≡◌, ◌==◌, ◌||◌, ◌&&◌, not, ◌∙◌, ℕ, List, [], ◌∷◌, take, zero, suc, length, ◌<◌, ◌≤◌, refl, ap, ap₂, arith}
 use Rattle.std.specs.List.{list_any}
 use Rattle.std.specs.Option.{option_map_or}
 use Rattle.std.specs.Prelude.{Bool, false, Option, Some, None, IfSome, IfNone, is_some, option_map, slice_get, slice_index_or}
-use Rattle.link_machine.specs.Machine.{Message}
+use Rattle.link_machine.specs.Machine.{Message, is_held}
 use Rattle.block_pool.specs.Pool.{PoolState}
 use Rattle.node_machine.specs.Parts.{Port, Desk as DeskOf}
 use Rattle.node_ends.specs.declared.seat.Seat.{Seat}
 use Rattle.node_deeds.specs.declared.desks.Unanswered.{Unanswered}
 use Rattle.node_deeds.specs.Shown.{desk_shown, notice_shown}
 use Rattle.node_ends.specs.Desks.{have_notices}
-use Rattle.node_ends.specs.Ends.{SeatStandsFor, SeatsStandFor, message_read}
+use Rattle.node_ends.specs.Holding.{HoldsSeat}
+use Rattle.node_ends.specs.Ends.{SeatStandsFor, SeatsStandFor, message_read, rests, is_idle}
 
 pub read_is : (got : List Message) (o : Option (ℕ × ℕ)) (buffer : List ℕ) → IfSome o (λ x. got ≡ (x.0, take x.1 buffer) ∷ []) → IfNone o (got ≡ [])
     → got ≡ message_read o buffer
@@ -48,6 +49,11 @@ notices_are pool [] (p ∷ ports) each = absurd each
 notices_are pool (s ∷ seats) [] each = absurd each
 notices_are pool (s ∷ seats) (p ∷ ports) each =
     ap₂ (λ (a b : Bool). a || b) (notice_is s.desk.notice ∙ ap (λ (d : DeskOf). is_some d.notice) each.0.desk) (notices_are pool seats ports each.1)
+
+-- nothing is left to do at an end of which this is kept
+pub idle_is : {pool : PoolState} {s : Seat} {p : Port} (answer : Bool) → SeatStandsFor pool s p
+    → (HoldsSeat pool s p.side → answer ≡ (not (s.ended || s.late) && ((length p.side.got == 0) && not (is_held p.side)))) → answer ≡ is_idle p
+idle_is {p = p} answer g is = is g.holds ∙ ap₂ (λ (ended late : Bool). not (ended || late) && rests p) g.ended g.late
 
 -- what is read at a place
 pub is_there : (seats : List Seat) (i : ℕ) (s : Seat) → i < length seats → ((d : Seat) → s ≡ slice_index_or seats i d) → Some s ≡ slice_get seats i

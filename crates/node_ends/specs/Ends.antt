@@ -13,7 +13,7 @@ use Rattle.link_end.specs.declared.report.LinkReport.{LinkReport}
 use Rattle.link_end.specs.Reports.{reset_told}
 use Rattle.node_machine.specs.Parts.{Port}
 use Rattle.node_machine.specs.Carrying.{port_at}
-use Rattle.node_machine.specs.Node.{is_late}
+use Rattle.node_machine.specs.Node.{is_late, is_over}
 use Rattle.node_deeds.specs.Cores.{IsSoundDesk}
 use Rattle.node_ends.specs.declared.seat.Seat.{Seat}
 use Rattle.node_ends.specs.declared.ends.Ends.{Ends}
@@ -99,6 +99,14 @@ held_at ports h = option_map_or (λ (p : Port). is_held p.side) (port_at ports h
 -- nothing is left to do at an end: no message waits there, and it isn't held
 abbrev pub rests : Port → Bool
 rests p = (length p.side.got == 0) && not (is_held p.side)
+
+-- nothing is left to do at an end behind what came in a step: its session hasn't ended, and it rests
+abbrev pub is_idle : Port → Bool
+is_idle p = not (is_over p) && rests p
+
+-- nothing is left to do at any end
+abbrev pub are_idle : List Port → Bool
+are_idle ports = list_all is_idle ports
 
 -- all ends are at rest
 abbrev pub are_at_rest : List Port → Bool

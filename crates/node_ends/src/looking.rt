@@ -3,7 +3,7 @@ ghost use Rattle.std.specs.Prelude.{◌≡◌, ◌<◌, ◌≤◌, List, Some, I
 ghost use Rattle.node_machine.specs.Parts.{Port};
 ghost use Rattle.node_machine.specs.Carrying.{port_at, with_port};
 ghost use Rattle.std.specs.Option.{option_map_or};
-ghost use Rattle.node_ends.specs.Ends.{AreEnds, place_in, got_at, message_read, rests, are_at_rest};
+ghost use Rattle.node_ends.specs.Ends.{AreEnds, place_in, got_at, message_read, rests, are_idle, are_at_rest};
 ghost use Rattle.std.specs.Prelude.{if◌then◌else◌, map, is_some};
 ghost use Rattle.std.specs.List.{list_any};
 ghost use Rattle.node_ends.specs.declared.seat.Seat.{Seat as Kept};
@@ -31,7 +31,7 @@ impl Ends {
     ghost use Rattle.node_machine.specs.Carrying.{port_at, with_port};
     ghost use Rattle.node_deeds.specs.Shown.{desk_shown};
     ghost use Rattle.node_ends.specs.Desks.{have_notices};
-    ghost use Rattle.node_ends.specs.Ends.{EndsStandFor, AreOfHosts, got_at, message_read, rests, are_at_rest};
+    ghost use Rattle.node_ends.specs.Ends.{EndsStandFor, AreOfHosts, got_at, message_read, rests, are_idle, are_at_rest};
     ghost use Rattle.std.specs.Prelude.{ℕ, false};
     ghost use Rattle.std.specs.Option.{option_map_or};
     ghost use Rattle.gate_admin.specs.View.{has};
@@ -54,15 +54,17 @@ impl Ends {
     }
 
     /// What is kept of the ends, and which links are up. They are links with hosts 01 to 07.
+    #[inline(always)]
     pub fn seen(&self) -> Seen
         requires { (ports : List Port) × EndsStandFor self.now ports }
         ensures seen { (ports : List Port) → EndsStandFor self.now ports → AreOfHosts ports → AreSeen result.up result.desks.items ports }
         ensures few { length result.desks.items ≤ 7 }
         ensures sound { AreSoundDesks result.desks.items }
     {
+        let up = self.up();
         Seen {
             desks: desks_of(self.seats.as_slice(), &self.pool),
-            up: self.up(),
+            up,
         }
     }
 
@@ -109,6 +111,14 @@ impl Ends {
         ensures { (ports : List Port) → EndsStandFor self.now ports → result ≡ are_at_rest ports }
     {
         all_at_rest(self.seats.as_slice(), &self.pool)
+    }
+
+    /// Whether nothing is left to do at any end behind what came in a step: no session ended there, no message waits, and none is held.
+    pub fn are_idle(&self) -> bool
+        requires { (ports : List Port) × EndsStandFor self.now ports }
+        ensures { (ports : List Port) → EndsStandFor self.now ports → result ≡ are_idle ports }
+    {
+        all_idle(self.seats.as_slice(), &self.pool)
     }
 
     /// Whether a notice waits for its answer at some end.
@@ -207,6 +217,19 @@ fn some_waits(seats: &[Seat]) -> bool
     ensures { result ≡ list_any (λ (s : Kept). is_some s.desk.notice) seats.now }
 {
     seats.iter().any(|seat| seat.desk.notice.is_some())
+}
+
+// Whether nothing is left to do at any of these ends.
+fn all_idle(seats: &[Seat], pool: &Pool) -> bool
+    requires { (ports : List Port) × AreEnds pool.now seats.now ports }
+    ensures { (ports : List Port) → AreEnds pool.now seats.now ports → result ≡ are_idle ports }
+{
+    for seat in seats {
+        if !seat.is_idle() {
+            return false;
+        }
+    }
+    true
 }
 
 // What is kept of each of these ends.

@@ -384,6 +384,14 @@ impl Seat {
         self.waiting.is_none() && !self.is_held()
     }
 
+    /// Whether nothing is left to do at the end behind what came in a step: its session hasn't ended, and it rests.
+    pub(crate) fn is_idle(&self) -> bool
+        ensures { (pool : PoolState) (m : Machine) → HoldsSeat pool self.now m
+            → result ≡ (not (self.now.ended || self.now.late) && ((length m.got == 0) && not (is_held m))) }
+    {
+        !self.is_over() && self.rests()
+    }
+
     /// Whether the end is at rest: it doesn't wait for the acceptance of a reset, and where it is Up all messages that were sent in its
     /// session are acknowledged.
     pub(crate) fn is_at_rest(&self) -> bool

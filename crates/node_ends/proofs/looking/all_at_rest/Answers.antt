@@ -1,4 +1,6 @@
 use Rattle.std.proofs.Common.{refl, sym, ◌∙◌, subst, arith}
+use Rattle.link_machine.specs.AtRest.{end_rests}
+use Rattle.node_machine.specs.Parts.{Port}
 use Rattle.node_ends.specs.declared.seat.Seat.{Seat}
 use Rattle.node_ends.specs.Holding.{HoldsSeat}
 use Rattle.node_ends.proofs.Seated.{reads_here, as_many}
@@ -14,7 +16,7 @@ returns-then-not-is_at_rest c ports e =
     let r = reads_here i c.seat-item.result c.loop-seat-test.true e in
     let P : Seat → Type 0 = λ s. HoldsSeat c.args.pool.now s r.port.side in
     let rests = c.is_at_rest.ensures c.args.pool.now r.port.side (subst P (sym c.seat-item.is) r.stands.holds) in
-    sym (one_is_not i ports r.port r.port_is (sym rests ∙ c.if-not-is_at_rest.true)) ∙ c.loop-seat.invariant.so_far ports e
+    sym (one_is_not (λ (p : Port). end_rests p.side) i ports r.port r.port_is (sym rests ∙ c.if-not-is_at_rest.true)) ∙ c.loop-seat.invariant.so_far ports e
 
 pub loop-seat-preserved : goal.loop-seat-preserved
 loop-seat-preserved c = record {
@@ -23,11 +25,11 @@ loop-seat-preserved c = record {
       let r = reads_here i c.seat-item.result c.loop-seat-test.true e in
       let P : Seat → Type 0 = λ s. HoldsSeat c.args.pool.now s r.port.side in
       let rests = c.is_at_rest.ensures c.args.pool.now r.port.side (subst P (sym c.seat-item.is) r.stands.holds) in
-      one_is i ports r.port r.port_is (sym rests ∙ c.if-not-is_at_rest.false) ∙ c.loop-seat.invariant.so_far ports e;
+      one_is (λ (p : Port). end_rests p.side) i ports r.port r.port_is (sym rests ∙ c.if-not-is_at_rest.false) ∙ c.loop-seat.invariant.so_far ports e;
 }
 
 pub returns : goal.returns
 returns c ports e =
     let many = as_many c.args.pool.now c.args.seats.now ports e.each in
     let past = c.loop-seat-test.false in
-    sym (none_is_left c.loop-seat.seat-index ports (omega (arith, many, past))) ∙ c.loop-seat.invariant.so_far ports e
+    sym (none_is_left (λ (p : Port). end_rests p.side) c.loop-seat.seat-index ports (omega (arith, many, past))) ∙ c.loop-seat.invariant.so_far ports e

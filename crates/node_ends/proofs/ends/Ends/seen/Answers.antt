@@ -7,8 +7,8 @@ use Rattle.node_ends.proofs.ends.Ends.seen.Goals as goal
 
 pub returns-clause-seen : goal.returns-clause-seen
 returns-clause-seen c ports e hosts =
-    are_seen c.args.self.now.pool c.up.result c.desks_of.result.items c.args.self.now.seats.items ports
-    (c.desks_of.ensures ∙ ap (map (λ (s : Seat). s.desk)) c.as_slice.ensures.value) (c.up.ensures ports e) hosts e
+    are_seen c.args.self.now.pool c.up-up.result c.desks_of.result.items c.args.self.now.seats.items ports
+    (c.desks_of.ensures ∙ ap (map (λ (s : Seat). s.desk)) c.as_slice.ensures.value) (c.up-up.ensures ports e) hosts e
 
 pub returns-clause-sound : goal.returns-clause-sound
 returns-clause-sound c =

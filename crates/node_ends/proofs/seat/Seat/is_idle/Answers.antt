@@ -1,0 +1,7 @@
+use Rattle.std.proofs.Common.{◌==◌, ◌&&◌, not, length, sym, ap, ◌∙◌}
+use Rattle.link_machine.specs.Machine.{is_held}
+use Rattle.node_ends.proofs.seat.Seat.is_idle.Goals as goal
+
+pub returns-then-not-is_over : goal.returns-then-not-is_over
+returns-then-not-is_over c pool m h =
+    c.rests.ensures pool m h ∙ ap (λ b. not b && ((length m.got == 0) && not (is_held m))) (sym c.if-not-is_over.true ∙ c.is_over.ensures)
