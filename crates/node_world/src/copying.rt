@@ -1,5 +1,6 @@
 //! Copies of what nodes note.
-ghost use Rattle.std.specs.Prelude.{◌≡◌, ℕ, List, IfOk, IfSome};
+ghost use Rattle.std.specs.Prelude.{◌≡◌, ◌<◌, ◌++◌, ◌∷◌, [], ℕ, List, IfOk, IfSome, IsTrue, false};
+ghost use Rattle.std.specs.Vec.{vec_len, vec_capacity};
 ghost use Rattle.trace_model.specs.Notes.{with_body};
 
 use std::alloc::{AllocError, Global};
@@ -17,17 +18,20 @@ fn octets_of(alloc: Global, spares: &mut Vec<Octets>, body: &[u8]) -> Result<Oct
     Ok(Octets { bytes })
 }
 
-// A copy of an entry whose form has a message, with these bytes as its message. `None` for any other form, and without memory.
-fn with_message(
-    alloc: Global,
+// A copy of an entry whose form has a message is put behind the others, with these bytes as its message. Whether there was memory for the
+// message; `false` for any other form. There is room for an entry.
+fn add_with_message(
+    entries: &mut Vec<Entry>,
     spares: &mut Vec<Octets>,
     entry: &Entry,
     body: &[u8],
-) -> Option<Entry>
-    ensures { IfSome result (λ copy. copy ≡ with_body body.now entry.now) }
+) -> bool
+    requires room { vec_len entries.old < vec_capacity entries.old }
+    ensures added { IsTrue result → entries.new.items ≡ entries.old.items ++ with_body body.now entry.now ∷ [] }
+    ensures full { result ≡ false → entries.new.items ≡ entries.old.items }
 {
-    let Ok(message) = octets_of(alloc, spares, body) else {
-        return None;
+    let Ok(message) = octets_of(*entries.allocator(), spares, body) else {
+        return false;
     };
     match entry {
         Entry::Sent {
@@ -35,37 +39,49 @@ fn with_message(
             session,
             pid,
             ..
-        } => Some(Entry::Sent {
-            at: *at,
-            session: *session,
-            pid: *pid,
-            message,
-        }),
+        } => {
+            entries.push_reserved(Entry::Sent {
+                at: *at,
+                session: *session,
+                pid: *pid,
+                message,
+            });
+            true
+        }
         Entry::Got {
             at,
             session,
             pid,
             ..
-        } => Some(Entry::Got {
-            at: *at,
-            session: *session,
-            pid: *pid,
-            message,
-        }),
-        Entry::Turn { at, pid, .. } => Some(Entry::Turn {
-            at: *at,
-            pid: *pid,
-            message,
-        }),
-        Entry::Ask { host, .. } => Some(Entry::Ask {
-            host: *host,
-            message,
-        }),
-        _ => None,
+        } => {
+            entries.push_reserved(Entry::Got {
+                at: *at,
+                session: *session,
+                pid: *pid,
+                message,
+            });
+            true
+        }
+        Entry::Turn { at, pid, .. } => {
+            entries.push_reserved(Entry::Turn {
+                at: *at,
+                pid: *pid,
+                message,
+            });
+            true
+        }
+        Entry::Ask { host, .. } => {
+            entries.push_reserved(Entry::Ask {
+                host: *host,
+                message,
+            });
+            true
+        }
+        _ => false,
     }
 }
 
-// A copy of an entry of a session or of frames. `None` for any other form.
+// A copy of an entry of a session. `None` for any other form.
 fn copied_of_session(entry: &Entry) -> Option<Entry>
     ensures { (bytes : List ℕ) → IfSome result (λ copy. copy ≡ with_body bytes entry.now) }
 {
@@ -83,11 +99,6 @@ fn copied_of_session(entry: &Entry) -> Option<Entry>
             at: *at,
             tries: *tries,
         }),
-        Entry::Acked { at, session, count } => Some(Entry::Acked {
-            at: *at,
-            session: *session,
-            count: *count,
-        }),
         _ => None,
     }
 }
@@ -102,7 +113,6 @@ fn copied_of_turn(entry: &Entry) -> Option<Entry>
             need: *need,
             spare: *spare,
         }),
-        Entry::Dropped { at, pid } => Some(Entry::Dropped { at: *at, pid: *pid }),
         Entry::Command { node, command } => Some(Entry::Command {
             node: *node,
             command: command.copied(),
@@ -134,28 +144,66 @@ fn copied_of_init(entry: &Entry) -> Option<Entry>
     }
 }
 
-/// A copy of an entry, with these bytes as its message where its form has one. `None` without memory, and for a form that no node
-/// notes: a header, an echo, a frame, tables, a boot, what was settled or refused.
-pub(crate) fn copied(
-    alloc: Global,
-    spares: &mut Vec<Octets>,
-    entry: &Entry,
-    body: &[u8],
-) -> Option<Entry>
-    ensures { IfSome result (λ copy. copy ≡ with_body body.now entry.now) }
+// A copy of an entry whose form has no message, and of which few are noted. `None` for a form that no node notes: a header, an echo, a
+// frame, tables, a boot, what was settled or refused.
+fn copied_of_few(entry: &Entry) -> Option<Entry>
+    ensures { (bytes : List ℕ) → IfSome result (λ copy. copy ≡ with_body bytes entry.now) }
 {
     match entry {
-        Entry::Sent { .. } | Entry::Got { .. } | Entry::Turn { .. } | Entry::Ask { .. } => {
-            with_message(alloc, spares, entry, body)
+        Entry::Up { .. } | Entry::Down { .. } | Entry::Active { .. } | Entry::GaveUp { .. } => {
+            copied_of_session(entry)
         }
-        Entry::Up { .. }
-        | Entry::Down { .. }
-        | Entry::Active { .. }
-        | Entry::GaveUp { .. }
-        | Entry::Acked { .. } => copied_of_session(entry),
         Entry::InitSame { .. } | Entry::InitMade { .. } | Entry::InitFailed { .. } => {
             copied_of_init(entry)
         }
         _ => copied_of_turn(entry),
+    }
+}
+
+// Such a copy is put behind the others; `false` for a form that no node notes. There is room for an entry.
+#[cold]
+#[inline(never)]
+fn add_one_of_few(entries: &mut Vec<Entry>, entry: &Entry) -> bool
+    requires room { vec_len entries.old < vec_capacity entries.old }
+    ensures added { (bytes : List ℕ) → IsTrue result → entries.new.items ≡ entries.old.items ++ with_body bytes entry.now ∷ [] }
+    ensures full { result ≡ false → entries.new.items ≡ entries.old.items }
+{
+    let Some(copy) = copied_of_few(entry) else {
+        return false;
+    };
+    entries.push_reserved(copy);
+    true
+}
+
+/// A copy of an entry is put behind the others, with these bytes as its message where its form has one. Whether there was memory for the
+/// message; `false` for a form that no node notes: a header, an echo, a frame, tables, a boot, what was settled or refused. There is room
+/// for an entry.
+pub(crate) fn add_copy(
+    entries: &mut Vec<Entry>,
+    spares: &mut Vec<Octets>,
+    entry: &Entry,
+    body: &[u8],
+) -> bool
+    requires room { vec_len entries.old < vec_capacity entries.old }
+    ensures added { IsTrue result → entries.new.items ≡ entries.old.items ++ with_body body.now entry.now ∷ [] }
+    ensures full { result ≡ false → entries.new.items ≡ entries.old.items }
+{
+    match entry {
+        Entry::Sent { .. } | Entry::Got { .. } | Entry::Turn { .. } | Entry::Ask { .. } => {
+            add_with_message(entries, spares, entry, body)
+        }
+        Entry::Acked { at, session, count } => {
+            entries.push_reserved(Entry::Acked {
+                at: *at,
+                session: *session,
+                count: *count,
+            });
+            true
+        }
+        Entry::Dropped { at, pid } => {
+            entries.push_reserved(Entry::Dropped { at: *at, pid: *pid });
+            true
+        }
+        _ => add_one_of_few(entries, entry),
     }
 }

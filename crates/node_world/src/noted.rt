@@ -2,7 +2,7 @@
 ghost use Rattle.std.specs.Prelude.{◌≡◌, [], ◌∷◌, ◌++◌, OnOk};
 ghost use Rattle.trace_model.specs.declared.entry.Entry.TheVariants as note;
 
-use crate::copying::copied;
+use crate::copying::add_copy;
 use swp_base::NoMemory;
 use trace_model::{Entry, NoCause, Octets, Watch};
 
@@ -63,12 +63,11 @@ impl Watch for Noted {
         if self.short {
             return;
         }
-        let alloc = *self.entries.allocator();
-        let Some(copy) = copied(alloc, &mut self.spares, entry, body) else {
+        if self.entries.reserve(1).is_err() {
             self.short = true;
             return;
-        };
-        if self.entries.push(copy).is_err() {
+        }
+        if !add_copy(&mut self.entries, &mut self.spares, entry, body) {
             self.short = true;
         }
     }
