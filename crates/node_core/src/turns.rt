@@ -136,7 +136,7 @@ impl<N: Nv + Drop> Node<N> {
 
     // What a node does with this message, which waits at its end with this host, is put into a list, which is empty. The link of a host
     // is the one with its own number.
-    #[inline(never)]
+    #[inline(always)]
     fn deeds_for(&mut self, host: u8, pipe: u8, message: &[u8], deeds: &mut Deeds)
         requires runs { IsSoundNode self.old }
         requires live { IsTrue self.old.store.journal.live }
@@ -162,7 +162,7 @@ impl<N: Nv + Drop> Node<N> {
 
     // This message, which waits at the end with this host, has its turn: what is done with it is decided, and done where there is room.
     // The link of a host is the one with its own number. Whether the node has its power still.
-    #[inline(never)]
+    #[inline(always)]
     #[tactic(auto, using(crate::proofs::Faults::faults_stay, crate::proofs::Faults::faults_then))]
     fn have_turn<W: Watch>(
         &mut self,

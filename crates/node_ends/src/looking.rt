@@ -41,6 +41,7 @@ impl Ends {
 
     /// Copies the message that waits at the end of the link with this host into the front of a buffer of 4,096 bytes. Its pipe, and
     /// how many bytes it has.
+    #[inline(always)]
     pub fn read(&self, host: u8, buffer: &mut [u8]) -> Option<(u8, usize)>
         requires stands { (ports : List Port) × EndsStandFor self.now ports }
         requires buffer { length buffer.old ≡ 4096 }

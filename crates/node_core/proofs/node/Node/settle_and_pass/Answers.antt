@@ -1,4 +1,4 @@
-use Rattle.std.proofs.Common.{◌≡◌, true, not, sym, ap, ◌∙◌, refl}
+use Rattle.std.proofs.Common.{not, sym, ap, ◌∙◌, refl}
 use Rattle.node_machine.specs.Turns.{passes}
 use Rattle.node_core.specs.Nodes.{IsInStep}
 use Rattle.node_core.specs.Bringing.{Brings}
