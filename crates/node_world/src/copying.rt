@@ -39,46 +39,35 @@ fn add_with_message(
             session,
             pid,
             ..
-        } => {
-            entries.push_reserved(Entry::Sent {
-                at: *at,
-                session: *session,
-                pid: *pid,
-                message,
-            });
-            true
-        }
+        } => entries.push_reserved(Entry::Sent {
+            at: *at,
+            session: *session,
+            pid: *pid,
+            message,
+        }),
         Entry::Got {
             at,
             session,
             pid,
             ..
-        } => {
-            entries.push_reserved(Entry::Got {
-                at: *at,
-                session: *session,
-                pid: *pid,
-                message,
-            });
-            true
-        }
-        Entry::Turn { at, pid, .. } => {
-            entries.push_reserved(Entry::Turn {
-                at: *at,
-                pid: *pid,
-                message,
-            });
-            true
-        }
-        Entry::Ask { host, .. } => {
-            entries.push_reserved(Entry::Ask {
-                host: *host,
-                message,
-            });
-            true
-        }
-        _ => false,
+        } => entries.push_reserved(Entry::Got {
+            at: *at,
+            session: *session,
+            pid: *pid,
+            message,
+        }),
+        Entry::Turn { at, pid, .. } => entries.push_reserved(Entry::Turn {
+            at: *at,
+            pid: *pid,
+            message,
+        }),
+        Entry::Ask { host, .. } => entries.push_reserved(Entry::Ask {
+            host: *host,
+            message,
+        }),
+        _ => return false,
     }
+    true
 }
 
 // A copy of an entry of a session. `None` for any other form.
