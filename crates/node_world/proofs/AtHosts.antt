@@ -1,6 +1,6 @@
 -- A host of the world that was found by its number: what may happen to it, and how the world becomes another one by that.
-use Rattle.std.proofs.Common.{◌≡◌, ℕ, ◌+◌, ◌<◌, ◌≤◌, ◌==◌, ◌^◌, Bool, true, false, List, []}
-use Rattle.std.proofs.Common.{◌∷◌, ◌++◌, length, get_or, map, refl, ap, ap₂, sym, subst, ◌∙◌, arith}
+use Rattle.std.proofs.Common.{◌≡◌, ℕ, ◌+◌, ◌<◌, ◌≤◌, ◌==◌, ◌^◌, true, false, List, []}
+use Rattle.std.proofs.Common.{◌∷◌, ◌++◌, get_or, map, refl, ap, sym, subst, ◌∙◌, arith}
 use Rattle.std.specs.Prelude.{is_some, slice_set, Option, Some, None}
 use Rattle.std.specs.List.{AllByRecursion}
 use Rattle.std.proofs.lemmas.Bool.{eq-eqb}
@@ -11,7 +11,7 @@ use Rattle.trace_model.specs.declared.line.End.{End}
 use Rattle.trace_model.specs.declared.entry.Entry.{Entry}
 use Rattle.hcp_packet.specs.Packets.{AreSendable}
 use Rattle.link_laws.specs.sessions.Sessions.{OnWire}
-use Rattle.link_machine.specs.Machine.{LinkEnd, LinkInput}
+use Rattle.link_machine.specs.Machine.{LinkInput}
 use Rattle.link_machine.specs.Machine.LinkInput.{Take, Reset, Start, Stop}
 use Rattle.link_entries.specs.messages.Links.{Link, Comes, NumberedEnd, exchanged}
 use Rattle.link_entries.specs.messages.Links.Comes.{NextFrame, AsksReset, Starts, Stops, NoInput}

@@ -1,10 +1,9 @@
 -- What a host of the world that was found by its number refuses, and how the world stays as it is then.
-use Rattle.std.proofs.Common.{◌≡◌, ℕ, ◌==◌, Bool, true, false, List, [], ◌∷◌, ◌++◌, refl, ap, sym, subst, ◌∙◌}
+use Rattle.std.proofs.Common.{◌≡◌, ℕ, ◌==◌, false, List, [], refl, ap, sym, subst, ◌∙◌}
 use Rattle.std.specs.Prelude.{slice_set, Option, Some, None}
 use Rattle.swp_base.specs.InMemory.{Memory}
 use Rattle.trace_model.specs.declared.entry.Entry.{Entry}
 use Rattle.trace_model.specs.declared.entry.NoCause.{NoCause}
-use Rattle.trace_model.specs.declared.line.End.{End}
 use Rattle.trace_model.specs.declared.line.Line.TheVariants as line
 use Rattle.node_machine.specs.Parts.{Core, Port, Work}
 use Rattle.link_entries.specs.messages.Links.{Comes}
@@ -15,7 +14,7 @@ use Rattle.node_world.specs.declared.places.HostSite.{HostSite}
 use Rattle.node_world.specs.Controllers.{SitesAre, StandsAt}
 use Rattle.node_world.specs.HostSteps.{host_stepped, reset_refused_at, sending_refused, BecomesUnless}
 use Rattle.node_world.specs.Whole.{SitesBecome, if_accepted}
-use Rattle.node_world.proofs.AtHosts.{becomes, end_is, site_changes}
+use Rattle.node_world.proofs.AtHosts.{becomes, site_changes}
 use Rattle.node_world.proofs.HostsInWorlds.{ChangesSite, does_in_world}
 
 module _ (w : NodeWorld) (h : ℕ) (s : Site) (off : (h == 0) ≡ false) (found : site_at w.sites h ≡ Some s) where

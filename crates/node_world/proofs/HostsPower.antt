@@ -5,7 +5,6 @@ use Rattle.std.specs.Prelude.{slice_set, Option, Some, None}
 use Rattle.swp_base.specs.InMemory.{Memory, Plan}
 use Rattle.trace_model.specs.declared.entry.Entry.{Entry}
 use Rattle.trace_model.specs.declared.entry.Entry.TheVariants as note
-use Rattle.trace_model.specs.declared.line.End.{End}
 use Rattle.link_entries.specs.messages.Links.{Link, Loss, happens}
 use Rattle.link_entries.specs.messages.Links.EndEvent.{Lose}
 use Rattle.link_entries.specs.entries.Entries.{first_lost}

@@ -60,3 +60,5 @@ pub mod PlaysFew
 pub mod LinksRest
 pub mod LinesDamage
 pub mod WorldsTick
+pub mod FewPlays
+pub mod RoundLinks

@@ -1,6 +1,6 @@
 -- What becomes of a line at which one thing happens, or which is refused.
-use Rattle.std.proofs.Common.{◌≡◌, ◌≢◌, ◌⊎◌, inl, inr, ℕ, ◌==◌, ◌≤◌, Bool, true, false, List, [], ◌∷◌, ◌++◌, map, refl, ap, sym, subst, ◌∙◌, append-nil, arith}
-use Rattle.std.specs.Prelude.{Option, Some, None, Contains, All}
+use Rattle.std.proofs.Common.{◌≡◌, ℕ, ◌==◌, Bool, true, false, List, [], ◌∷◌, refl, sym, subst, ◌∙◌, append-nil, arith}
+use Rattle.std.specs.Prelude.{Option, Some, None, Contains}
 use Rattle.std.specs.List.{AllByRecursion}
 use Rattle.std.proofs.lemmas.Bool.{eq-eqb, true≢false}
 use Rattle.std.proofs.lemmas.List.Elements.{All-contains, All-from_recursion}
@@ -12,13 +12,13 @@ use Rattle.trace_model.specs.declared.line.Header.{Header}
 use Rattle.trace_model.specs.declared.line.Line.{Line}
 use Rattle.node_machine.specs.Parts.{Core, Port}
 use Rattle.node_machine.specs.world.World.{NodeWorld, Site, Happening, site_at, world_step}
-use Rattle.node_machine.specs.world.Lines.{Occurrence, LineOutcome, refusal_in, goes_on, line_step}
+use Rattle.node_machine.specs.world.Lines.{LineOutcome, refusal_in, goes_on, line_step}
 use Rattle.node_machine.specs.world.Lines.LineOutcome.{WasRefused, Occurred}
 use Rattle.node_laws.specs.telling.Telling.{hosts_in}
 use Rattle.node_world.specs.declared.controller.ControllerPlace.{ControllerPlace}
 use Rattle.node_world.specs.declared.places.HostSite.{HostSite}
 use Rattle.node_world.specs.Controllers.{SitesAre, WorldIs, WorldBecomes, IsThere}
-use Rattle.node_world.specs.Whole.{HostsPlayed, IsWithinBounds, LinePlayed, MayPlay, SitesBecome, if_accepted}
+use Rattle.node_world.specs.Whole.{HostsPlayed, IsWithinBounds, LinePlayed, MayPlay, SitesBecome}
 use Rattle.node_world.proofs.FewInWorlds.{longer}
 
 -- ## What is asked

@@ -1,5 +1,5 @@
 -- What happens at a host leaves the controller as it is, and its ends of all links.
-use Rattle.std.proofs.Common.{◌≡◌, ℕ, ◌==◌, ◌≤◌, ◌<◌, ◌+◌, ◌^◌, Bool, true, false, List, [], ◌∷◌, ◌++◌, length, map, refl, ap, sym, subst, ◌∙◌, arith}
+use Rattle.std.proofs.Common.{◌≡◌, ℕ, ◌==◌, Bool, true, false, List, [], ◌∷◌, ◌++◌, length, map, refl, ap, sym, subst, ◌∙◌, arith}
 use Rattle.std.specs.Prelude.{Option, Some, None}
 use Rattle.std.specs.List.{AllByRecursion}
 use Rattle.swp_base.specs.InMemory.{Memory}
@@ -8,16 +8,13 @@ use Rattle.trace_model.specs.declared.entry.NoCause.{NoCause}
 use Rattle.trace_model.specs.declared.line.End.{End}
 use Rattle.hcp_packet.specs.Packets.{AreSendable}
 use Rattle.link_machine.specs.Machine.{LinkInput}
-use Rattle.link_machine.specs.Machine.Role.{Bare}
-use Rattle.link_entries.specs.messages.Links.{NumberedEnd, Link, Comes, Loss, exchanged, happens, new_link}
-use Rattle.link_entries.specs.messages.Links.EndEvent.{Lose}
+use Rattle.link_entries.specs.messages.Links.{NumberedEnd, Comes, Loss, exchanged}
 use Rattle.link_entries.specs.messages.Links.Comes.{NoInput}
 use Rattle.link_entries.specs.messages.Links.Ending.{CutOff}
-use Rattle.history.specs.Steps.{at}
 use Rattle.node_machine.specs.Parts.{Core, Desk, Running, Port, Work}
 use Rattle.node_machine.specs.Node.{steps}
 use Rattle.node_machine.specs.Node.NodeInput.{AtEnd, TimePasses}
-use Rattle.node_machine.specs.world.World.{NodeWorld, Site, site_at, with_site, link_to, port_for, turns_at, ending_of, host_work, input_of, host_cut}
+use Rattle.node_machine.specs.world.World.{NodeWorld, Site, site_at, link_to, port_for, turns_at, ending_of, host_work, input_of, host_cut}
 use Rattle.node_laws.specs.telling.Telling.{IsOrderly}
 use Rattle.node_laws.proofs.telling.Nodes.{site_host}
 use Rattle.node_world.specs.declared.controller.ControllerPlace.{ControllerPlace}

@@ -1,21 +1,15 @@
 -- A controller or a host over a memory that keeps its bytes does what the world asks for.
-use Rattle.std.proofs.Common.{◌≡◌, ◌≢◌, ℕ, ◌≤◌, Bool, true, false, not, List, [], ◌∷◌, ◌++◌, map, refl, sym, ap, ◌∙◌, subst, arith, append-nil}
-use Rattle.std.specs.Prelude.{Option, Some, None, IsTrue, ◌==◌}
-use Rattle.std.specs.List.{AllByRecursion}
+use Rattle.std.proofs.Common.{◌≡◌, ◌≢◌, ℕ, Bool, true, false, not, List, [], ◌∷◌, ◌++◌, map, refl, sym, ap, ◌∙◌, subst, append-nil}
+use Rattle.std.specs.Prelude.{Some, None, ◌==◌}
 use Rattle.std.proofs.lemmas.Bool.{eqb-true}
 use Rattle.swp_base.specs.InMemory.{Memory, WritesAsPlanned}
 use Rattle.journal_laws.specs.Planned.{after_planned}
 use Rattle.journal_laws.specs.Writes.{Write}
 use Rattle.trace_model.specs.declared.entry.Entry.{Entry}
-use Rattle.link_machine.specs.Machine.{next_frame}
-use Rattle.node_machine.specs.Parts.{Core, Port, Work, Deed}
-use Rattle.node_machine.specs.Parts.Deed.{Sends, Orders, GoesOn}
-use Rattle.node_machine.specs.Carrying.{port_at, done, all_done, unless_cut}
-use Rattle.node_machine.specs.Node.{NodeInput, steps}
+use Rattle.node_machine.specs.Parts.{Core, Port, Work}
+use Rattle.node_machine.specs.Carrying.{port_at}
 use Rattle.node_core.specs.declared.node.Node.{Node}
 use Rattle.node_core.specs.Bringing.{Brings}
-use Rattle.node_core.specs.Giving.{IsAsked}
-use Rattle.node_core.specs.Noting.{unnumbered}
 use Rattle.node_core.specs.Running.{RunsAs, BeginsStep, HasStepped, MayStep}
 use Rattle.node_core.proofs.Planned.{planned_step, planned_writes}
 use Rattle.node_world.specs.WorldNodes.{BeginsOver, MayBeginStep, MayBeginAt, HasGone, IsNotedSo, RunsAsHost}

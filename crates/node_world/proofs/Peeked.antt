@@ -1,5 +1,5 @@
 -- A memory in order that is read while its node is at rest is what a boot of the node would find.
-use Rattle.std.proofs.Common.{◌≡◌, ◌≢◌, ◌⊎◌, inl, inr, ℕ, ◌==◌, Bool, true, false, List, [], ◌∷◌, length, map, refl, ap, sym, subst, ◌∙◌}
+use Rattle.std.proofs.Common.{◌≡◌, inl, inr, ℕ, ◌==◌, Bool, true, false, List, [], ◌∷◌, length, refl, ap, ◌∙◌}
 use Rattle.std.specs.Prelude.{Option, Some, None}
 use Rattle.std.specs.Option.{option_map, option_map_or}
 use Rattle.swp_base.specs.InMemory.{Memory}
@@ -15,7 +15,7 @@ use Rattle.hci_tables.specs.Tables.{close}
 use Rattle.hci_store.specs.Image.{tables_of}
 use Rattle.node_machine.specs.Parts.{Running, Core, Port}
 use Rattle.link_entries.specs.messages.Links.{NumberedEnd}
-use Rattle.node_machine.specs.Node.{found, boot_writes}
+use Rattle.node_machine.specs.Node.{boot_writes}
 use Rattle.node_machine.specs.world.World.{NodeWorld, Site, site_at, with_site, host_cut, loses_power_at, memory_at, with_memory, with_node, node_at, boots}
 use Rattle.node_machine.proofs.world.Cases.{boot_found, boot_written}
 use Rattle.node_world.specs.Memories.{IsSoundMemory}

@@ -35,10 +35,11 @@ use Rattle.node_order.proofs.rounds.Allowing.{on_allowed}
 use Rattle.node_order.proofs.rounds.RoundEvents.{all_go, takes_pass}
 use Rattle.node_order.proofs.rsets.InWorlds.{each_longer, few_behind_step, few_in_new_world}
 use Rattle.lines_told.specs.Below.{IsPlayedLine, nodes_behind}
-use Rattle.lines_told.specs.Plays.{AreFewPlays, IsPlayFor, Play, lines_of_play, lines_played, lines_said, rounds_played, round_behind}
+use Rattle.lines_told.specs.Plays.{IsPlayFor, Play, lines_of_play, lines_played, lines_said, rounds_played, round_behind}
 use Rattle.lines_told.specs.Plays.Play.{Said, Round}
 use Rattle.lines_told.proofs.NodeRounds.{after-append, round_behind_goes}
 use Rattle.node_world.specs.Bounds.{FewBehind, FewOnEach}
+use Rattle.node_world.specs.Worlds.{AreFewWithParts}
 use Rattle.node_world.proofs.CountsStay.{ticks_within}
 use Rattle.node_world.proofs.LinesAgain.{happens_first, happens_not}
 use Rattle.node_world.proofs.LinesFit.{are_hosts, playable}
@@ -267,8 +268,8 @@ few_of_low n m k (s ∷ sites) p q a b =
       few_of_low n m k sites p q a.1 b.1,
     )
 
--- At most 20,000 lines and 400,000,000 rounds make few of them.
-pub few_behind_plays : (header : Header) (plays : List Play) → IsNodeHeader header → AllByRecursion (IsPlayFor header) plays → AreFewPlays plays
+-- At most 320,000 lines and 400,000,000 rounds make few of them.
+pub few_behind_plays : (header : Header) (plays : List Play) → IsNodeHeader header → AllByRecursion (IsPlayFor header) plays → AreFewWithParts plays
     → FewBehind 250000000 (nodes_behind header (lines_played header plays))
 few_behind_plays header plays is may few =
     let hosts = header.hosts.items in

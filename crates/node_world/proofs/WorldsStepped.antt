@@ -1,4 +1,4 @@
--- What is kept of a world of nodes stands for the world behind one line or one round more.
+-- What is kept of a world of nodes stands for the world behind one line or one round more, and where lines count as rounds.
 use Rattle.std.proofs.Common.{◌≡◌, inr, ℕ, suc, ◌+◌, ◌<◌, ◌==◌, true, false, Bool, List, [], ◌∷◌, ◌++◌, get_or, map, refl, ap}
 use Rattle.std.proofs.Common.{sym, subst, ◌∙◌, arith}
 use Rattle.std.specs.Prelude.{Option, Some, None, Result, Ok, Err, IfOk, OnOk, replicate, if◌then◌else◌}
@@ -18,17 +18,17 @@ use Rattle.node_world.proofs.Peeked.{peeked, kept_is, one_of}
 use Rattle.gate_admin.specs.View.{has, hosts_where, mask_of}
 use Rattle.history.specs.Histories.{noted}
 use Rattle.history.specs.Follows.{host_of, outcome_of}
-use Rattle.node_machine.specs.world.World.{NodeWorld as Machine, Site, new_memory, new_site, memory_at, site_at}
+use Rattle.node_machine.specs.world.World.{NodeWorld as Machine, Site, new_memory, new_site, new_world, memory_at, site_at}
 use Rattle.node_machine.specs.world.Lines.{line_step, misread_in, noted_below}
-use Rattle.node_machine.specs.world.NodeHistories.{entries_in}
+use Rattle.node_machine.specs.world.NodeHistories.{NoneIsMisread, entries_in}
 use Rattle.node_machine.specs.world.Rounds.{world_round}
 use Rattle.node_order.proofs.order.HostsStay.{hosts_stay_behind}
 use Rattle.lines_told.specs.Below.{IsPlayedLine, bare_link_behind, entries_below, nodes_behind, told_below}
-use Rattle.lines_told.specs.Plays.{Play, lines_played, lines_said, rounds_played, told_of_play}
+use Rattle.lines_told.specs.Plays.{Play, IsPlayFor, lines_played, lines_said, rounds_played, told_of_play}
 use Rattle.lines_told.specs.Plays.Play.{Said, Round}
 use Rattle.lines_told.proofs.Lines.{lines_may_be_played}
 use Rattle.lines_told.proofs.NodeRounds.{played_round, played_said, sure_with_round, sure_with_said}
-use Rattle.lines_told.proofs.Plays.{few_with_round, few_with_said, for_with, no_more_rounds, no_more_said, one_round, one_said}
+use Rattle.lines_told.proofs.Plays.{for_with, no_more_rounds, no_more_said, one_round, one_said}
 use Rattle.lines_told.proofs.Told.{told_round}
 use Rattle.link_wires.specs.declared.finding.Misread.{Misread}
 use Rattle.node_core.specs.Running.{RunsAs}
@@ -36,8 +36,10 @@ use Rattle.node_world.specs.WorldNodes.{RunsAsHost}
 use Rattle.node_world.specs.declared.worlds.NodeWorld.{NodeWorld}
 use Rattle.node_world.specs.Controllers.{AreTimely, MayGoOn, WorldIs, SitesAre, StandsAt}
 use Rattle.node_world.specs.Rounds.{MayGoRound, WorldHasGone}
-use Rattle.node_world.specs.Worlds.{IsNodeWorldBehind, HasRoomForNodeLine, HasRoomForRound, node_memory, nodes_entries, IsOneOf, IsPeekedSo, memory_kept}
+use Rattle.node_world.specs.Worlds.{AreFewWithParts, IsNodeWorldBehind, HasRoomForNodeLine, HasRoomForRound, node_memory, nodes_entries}
+use Rattle.node_world.specs.Worlds.{IsOneOf, IsPeekedSo, memory_kept}
 use Rattle.node_world.specs.Whole.{IsMisreadIn, LinePlayed, MayPlay}
+use Rattle.node_world.proofs.FewPlays.{few_with_line, few_with_one_round}
 use Rattle.node_world.proofs.Masked.{masked}
 use Rattle.node_world.proofs.PlaysFew.{few_behind_plays}
 use Rattle.node_world.proofs.RoundsBehind.{may_go_round}
@@ -54,8 +56,8 @@ told_of_nodes header lines said is =
 
 -- how many lines were stepped, and how many rounds were gone through, is the same for all plays of which it stands
 pub steps_few : (k : NodeWorld) (said : Line) → HasRoomForNodeLine k said → (header : Header) (plays : List Play) → IsNodeWorldBehind k header plays
-    → lines_said plays < 20000
-steps_few k said room header plays s = subst (λ n. n < 20000) (sym room.stands.stepped ∙ s.stepped) room.few
+    → lines_said plays < 320000
+steps_few k said room header plays s = subst (λ n. n < 320000) (sym room.stands.stepped ∙ s.stepped) room.few
 
 pub rounds_few : (k : NodeWorld) → HasRoomForRound k → (header : Header) (plays : List Play) → IsNodeWorldBehind k header plays
     → rounds_played plays < 400000000
@@ -74,7 +76,7 @@ module _ (old new : NodeWorld) (header : Header) (plays : List Play) (s : IsNode
   abbrev w : Machine
   w = nodes_behind header (lines_played header plays)
 
-  pub stands_behind_more : (said : Line) → IsPlayedLine header said → lines_said plays < 20000 → misread_in w said ≡ None
+  pub stands_behind_more : (said : Line) → IsPlayedLine header said → lines_said plays < 320000 → misread_in w said ≡ None
       → LinePlayed RunsAs node_memory RunsAsHost node_memory new.controller new.sites.items new.noted.entries.items (line_step w said)
       → new.mask ≡ old.mask → new.stepped ≡ old.stepped + 1 → new.rounds ≡ old.rounds → new.noted.short ≡ false
       → IsNodeWorldBehind new header (plays ++ Said said ∷ [])
@@ -86,7 +88,7 @@ module _ (old new : NodeWorld) (header : Header) (plays : List Play) (s : IsNode
       record {
         is_header = s.is_header;
         plays_are = for_with header plays (Said said) s.plays_are may;
-        few = few_with_said plays said s.few room;
+        few = few_with_line plays said s.few room;
         sure = sure_with_said header s.is_header.nodes plays said s.sure none;
         stands = subst W (sym (played_said header s.is_header.nodes plays said)) played.world;
         mask_is = subst M (sym mask) s.mask_is;
@@ -108,7 +110,7 @@ module _ (old new : NodeWorld) (header : Header) (plays : List Play) (s : IsNode
       record {
         is_header = s.is_header;
         plays_are = for_with header plays Round s.plays_are tt;
-        few = few_with_round plays s.few room;
+        few = few_with_one_round plays s.few room;
         sure = sure_with_round header s.is_header.nodes plays s.sure;
         stands = subst W (sym (played_round header s.is_header.nodes plays)) gone.world;
         mask_is = subst M (sym mask) s.mask_is;
@@ -123,6 +125,28 @@ module _ (old new : NodeWorld) (header : Header) (plays : List Play) (s : IsNode
   round_is_told before none gone =
       gone.noted
       ∙ (ap (λ es. es ++ entries_in (world_round w).1) none ∙ sym (told_round header s.is_header.nodes (lines_played header plays)))
+
+-- Behind other plays that come to the same lines it stands as well, where its numbers of lines and rounds are theirs.
+pub stands_alike : (old new : NodeWorld) (header : Header) (plays others : List Play) → IsNodeWorldBehind old header plays
+    → lines_played header plays ≡ lines_played header others → AllByRecursion (IsPlayFor header) others → AreFewWithParts others
+    → new.controller ≡ old.controller → new.sites ≡ old.sites → new.mask ≡ old.mask → new.noted ≡ old.noted → new.stepped ≡ lines_said others
+    → new.rounds ≡ rounds_played others → IsNodeWorldBehind new header others
+stands_alike old new header plays others s same are few controller sites mask noted stepped rounds =
+    let W : List Line → Type 0 = λ lines.
+    WorldIs RunsAs node_memory RunsAsHost node_memory old.controller old.sites.items (nodes_behind header lines) in
+    let M : ℕ → Type 0 = λ m. hosts_where (has m) ≡ header.hosts.items in
+    let S : List Line → Type 0 = λ lines. NoneIsMisread (new_world header.hosts.items) lines in
+    record {
+      is_header = s.is_header;
+      plays_are = are;
+      few = few;
+      sure = subst S same s.sure;
+      stands = rw (controller, sites) (subst W same s.stands);
+      mask_is = subst M (sym mask) s.mask_is;
+      stepped = stepped;
+      rounds = rounds;
+      quiet = rw noted s.quiet;
+    }
 
 -- before any play
 pub stands_at_first : (new : NodeWorld) (header : Header) → IsNodeHeader header → new.controller.on ≡ None
@@ -157,7 +181,7 @@ module _ {E : Type 0} (result : Result (Option Misread) E) (old new : NodeWorld)
   abbrev WasPlayed : Type 0
   WasPlayed = LinePlayed RunsAs node_memory RunsAsHost node_memory new.controller new.sites.items new.noted.entries.items (line_step now said)
 
-  pub stands_answered : lines_said plays < 20000 → IfOk result (λ other. other ≡ None → WasPlayed) → IfOk result (IsMisreadIn now said)
+  pub stands_answered : lines_said plays < 320000 → IfOk result (λ other. other ≡ None → WasPlayed) → IfOk result (IsMisreadIn now said)
       → OnOk result (new.noted.short ≡ false) → new.mask ≡ old.mask → new.stepped ≡ old.stepped + 1 → new.rounds ≡ old.rounds
       → IfOk result (λ other. other ≡ None → IsNodeWorldBehind new header (plays ++ Said said ∷ []))
   stands_answered room played misread short mask stepped rounds = go result played misread short

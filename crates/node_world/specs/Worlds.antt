@@ -1,5 +1,5 @@
 -- The world of nodes, behind which lines of a schedule it stands.
-use Rattle.std.specs.Prelude.{◌≡◌, ◌<◌, ℕ, ◌⊎◌, ◌≢◌, false, List, [], ◌∷◌, Option, Some, None}
+use Rattle.std.specs.Prelude.{◌≡◌, ◌+◌, ◌≤◌, ◌<◌, ◌^◌, ℕ, ◌⊎◌, ◌≢◌, false, List, [], ◌∷◌, Option, Some, None}
 use Rattle.std.specs.List.{AllByRecursion}
 use Rattle.std.specs.Option.{option_map}
 use Rattle.swp_base.specs.InMemory.{Memory}
@@ -16,7 +16,7 @@ use Rattle.node_machine.specs.Parts.{Running}
 use Rattle.node_machine.specs.world.World.{NodeWorld as Machine, node_at, memory_at, with_memory, loses_power_at, boots, new_world}
 use Rattle.node_machine.specs.world.NodeHistories.{NoneIsMisread}
 use Rattle.lines_told.specs.Below.{IsPlayedLine, nodes_behind}
-use Rattle.lines_told.specs.Plays.{AreFewPlays, IsPlayFor, Play, lines_played, lines_said, rounds_played}
+use Rattle.lines_told.specs.Plays.{IsPlayFor, Play, lines_played, lines_said, rounds_played}
 use Rattle.node_core.specs.declared.node.Node.{Node}
 use Rattle.node_core.specs.Running.{RunsAs}
 use Rattle.node_world.specs.WorldNodes.{RunsAsHost}
@@ -31,12 +31,18 @@ nodes_entries k = k.noted.entries.items
 abbrev pub node_memory : Node Memory → Memory
 node_memory n = n.store.journal.nv
 
+-- no more than a schedule has and a line that lets the links settle comes to: 20,000 lines, 300,000 parts of rounds, each played as a line,
+-- and 400,000,000 rounds
+pub record AreFewWithParts (plays : List Play) : Type 0 where
+  pub said : lines_said plays ≤ 320000
+  pub rounds : rounds_played plays ≤ 400000000
+
 -- It stands for the world that these plays leave below this header; each of their lines is one that is played, and none damages a frame so
 -- that another one is read.
 pub record IsNodeWorldBehind (k : NodeWorld) (header : Header) (plays : List Play) : Type 0 where
   pub is_header : IsNodeHeader header
   pub plays_are : AllByRecursion (IsPlayFor header) plays
-  pub few : AreFewPlays plays
+  pub few : AreFewWithParts plays
   pub sure : NoneIsMisread (new_world header.hosts.items) (lines_played header plays)
   pub stands : WorldIs RunsAs node_memory RunsAsHost node_memory k.controller k.sites.items (nodes_behind header (lines_played header plays))
   pub mask_is : hosts_where (has k.mask) ≡ header.hosts.items
@@ -44,12 +50,12 @@ pub record IsNodeWorldBehind (k : NodeWorld) (header : Header) (plays : List Pla
   pub rounds : k.rounds ≡ rounds_played plays
   pub quiet : k.noted.short ≡ false
 
--- plays with fewer than 20,000 lines left it so, and this line may follow them
+-- plays with fewer than 320,000 lines left it so, and this line may follow them
 pub record HasRoomForNodeLine (k : NodeWorld) (said : Line) : Type 0 where
   pub header : Header
   pub plays : List Play
   pub stands : IsNodeWorldBehind k header plays
-  pub few : lines_said plays < 20000
+  pub few : lines_said plays < 320000
   pub may : IsPlayedLine header said
 
 -- plays with fewer than 400,000,000 rounds left it so
@@ -58,6 +64,11 @@ pub record HasRoomForRound (k : NodeWorld) : Type 0 where
   pub plays : List Play
   pub stands : IsNodeWorldBehind k header plays
   pub few : rounds_played plays < 400000000
+
+-- so many of the lines that were stepped may count as so many rounds
+pub record MayCountAsRounds (k : NodeWorld) (lines rounds : ℕ) : Type 0 where
+  pub stepped : lines ≤ k.stepped
+  pub room : k.rounds + rounds < 2 ^ 32
 
 -- ## Memories
 

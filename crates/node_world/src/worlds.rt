@@ -1,12 +1,13 @@
 //! The world of nodes, line by line and round by round.
-ghost use Rattle.std.specs.Prelude.{◌≡◌, [], ◌∷◌, ◌++◌, List, length, None, Some, IfOk, OnErr, OnOk};
+ghost use Rattle.std.specs.Prelude.{◌≡◌, ◌-◌, ◌+◌, [], ◌∷◌, ◌++◌, List, length, None, Some, IfOk, OnErr, OnOk};
+ghost use Rattle.std.specs.List.{AllByRecursion};
 ghost use Rattle.trace_model.specs.declared.line.Header.{Header as Named};
 ghost use Rattle.trace_model.specs.Lines.{IsNodeHeader, IsNodeOf};
 ghost use Rattle.node_machine.specs.world.World.{memory_at};
 ghost use Rattle.node_machine.specs.world.Lines.{frames_at, is_running, misread_in};
 ghost use Rattle.node_machine.specs.world.Rounds.{world_rests};
 ghost use Rattle.lines_told.specs.Below.{IsPlayedLine, nodes_behind, told_below};
-ghost use Rattle.lines_told.specs.Plays.{Play, lines_played, told_of_play};
+ghost use Rattle.lines_told.specs.Plays.{Play, IsPlayFor, lines_played, lines_said, rounds_played, told_of_play};
 ghost use Rattle.lines_told.specs.Plays.Play.{Said, Round};
 ghost use Rattle.node_world.specs.Worlds.{IsOneOf, memory_kept};
 
@@ -43,7 +44,8 @@ pub struct NodeWorld {
 }
 
 impl NodeWorld {
-    ghost use Rattle.node_world.specs.Worlds.{IsNodeWorldBehind, HasRoomForNodeLine, HasRoomForRound, IsPeekedSo, nodes_entries};
+    ghost use Rattle.node_world.specs.Worlds.{AreFewWithParts, IsNodeWorldBehind, HasRoomForNodeLine, HasRoomForRound, MayCountAsRounds};
+    ghost use Rattle.node_world.specs.Worlds.{IsPeekedSo, nodes_entries};
     ghost use Rattle.node_world.specs.Whole.{IsMisreadIn};
 
     /// The world that a header names: no node runs yet, all memories are blank, and no frame is on its way.
@@ -73,7 +75,7 @@ impl NodeWorld {
         })
     }
 
-    /// Does what a line asks for, or refuses it. Fewer than 20,000 lines were stepped before. Where the line damages a frame so that
+    /// Does what a line asks for, or refuses it. Fewer than 320,000 lines were stepped before. Where the line damages a frame so that
     /// another one is read in its place, that is answered, and the world is of no use then.
     ///
     /// # Errors
@@ -122,6 +124,24 @@ impl NodeWorld {
             self.sites.as_mut_slice(),
             &mut self.noted,
         )
+    }
+
+    /// Where it takes its memory.
+    pub fn allocator(&self) -> Global {
+        *self.noted.entries.allocator()
+    }
+
+    /// From now on so many of the lines that were stepped count as so many rounds, whose lines they were.
+    pub fn count_as_rounds(&mut self, lines: u32, rounds: u32)
+        requires { MayCountAsRounds self.old lines rounds }
+        ensures stands { (header : Named) (plays others : List Play) → IsNodeWorldBehind self.old header plays
+            → lines_played header plays ≡ lines_played header others → AllByRecursion (IsPlayFor header) others → AreFewWithParts others
+            → lines_said others ≡ lines_said plays - lines → rounds_played others ≡ rounds_played plays + rounds
+            → IsNodeWorldBehind self.new header others }
+        ensures entries { nodes_entries self.new ≡ nodes_entries self.old }
+    {
+        self.stepped -= lines;
+        self.rounds += rounds;
     }
 
     /// Whether all links are at rest: both wires of each are empty, no end of it waits for the acceptance of a reset, and where an end is up

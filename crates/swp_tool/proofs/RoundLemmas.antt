@@ -14,7 +14,7 @@ use Rattle.lines_told.specs.Plays.{told_of_line, told_of_play, told_of_rounds}
 use Rattle.lines_told.specs.Plays.Play.{Round}
 use Rattle.lines_told.proofs.Plays.{plays_more, round_first, round_last, played-append, so_many_rounds}
 use Rattle.world.specs.declared.world_steps.World.{World}
-use Rattle.world.specs.Worlds.{IsWorldAt, HasRoomToSettle, world_header}
+use Rattle.world.specs.Worlds.{IsWorldAt, HasRoomToSettle, StandsBehind, world_header}
 use Rattle.swp_tool.specs.Replays.{Runs, HasGoneThrough, HasRoundsLeft}
 use Rattle.swp_tool.proofs.Happened.{schedule_text-push}
 use Rattle.swp_tool.proofs.Playing.{under_own_header}
@@ -134,9 +134,9 @@ all_needed header plays most n all so_far =
 
 -- whether they are is what the world says
 pub rests_so : (w : World) (header : Header) (plays : List Play) (quiet b : Bool) → IsWorldAt w header plays
-    → ((ps : List Play) → IsWorldAt w (world_header w) ps → quiet ≡ rests_behind (world_header w) ps) → quiet ≡ b → rests_behind header plays ≡ b
+    → ((ps : List Play) → StandsBehind w ps → quiet ≡ rests_behind (world_header w) ps) → quiet ≡ b → rests_behind header plays ≡ b
 rests_so w header plays quiet b stands says is =
-    ap (λ (h : Header). rests_behind h plays) (sym stands.header_is) ∙ (sym (says plays (under_own_header w header plays stands)) ∙ is)
+    ap (λ (h : Header). rests_behind h plays) (sym stands.header_is) ∙ (sym (says plays (under_own_header w header plays stands).stands) ∙ is)
 
 -- the world stands behind these plays, and has room for a round
 abbrev pub HaveGone : World → World → ℕ → List ℕ → List ℕ → Type 0

@@ -1,6 +1,6 @@
 -- The world stands for the history of its header, and for a history with one line or one round more.
 use Rattle.std.proofs.Common.{◌≡◌, ℕ, ◌+◌, ◌<◌, Bool, true, false, List, [], ◌∷◌, ◌++◌, refl, sym, ap, ◌∙◌, arith, subst}
-use Rattle.std.proofs.Common.{◌^◌, inl, true≢false, append-nil, append_assoc}
+use Rattle.std.proofs.Common.{◌^◌, true≢false, append-nil, append_assoc}
 use Rattle.std.specs.Prelude.{IsTrue, Option, Some, None}
 use Rattle.std.specs.List.{AllByRecursion, list_any}
 use Rattle.std.proofs.lemmas.List.Concat.{flat_map-append}
@@ -29,11 +29,12 @@ use Rattle.lines_told.specs.Below.{IsPlayedLine, bare_link_behind, told_below}
 use Rattle.lines_told.specs.Plays.{Play, IsPlayFor, lines_played, lines_said, rounds_played, round_behind, round_on, told_behind, told_of_play}
 use Rattle.lines_told.specs.Plays.Play.{Said, Round}
 use Rattle.lines_told.specs.RoundLines.{IsRoundLine}
-use Rattle.lines_told.proofs.Plays.{played_more, one_said, no_more_rounds, no_more_said, one_round, few_with_said, few_with_round, for_with}
+use Rattle.lines_told.proofs.Plays.{played_more, one_said, no_more_rounds, no_more_said, one_round, for_with}
 use Rattle.lines_told.proofs.BareRounds.{bare_round_lines, lines-append}
 use Rattle.lines_told.proofs.Lines.{bare_lines_may_be_played, sure_on, bare_known}
 use Rattle.world.specs.declared.side.Side.{Side}
 use Rattle.link_wires.specs.declared.finding.Misread.{Misread}
+use Rattle.node_world.proofs.FewPlays.{few_with_line, few_with_one_round}
 use Rattle.world.specs.declared.bare_world.BareWorld.{BareWorld}
 use Rattle.world.specs.Sides.{SideStandsFor, LinkStandsFor}
 use Rattle.world.specs.Lines.{SidesStandFor, Does, DoesAll, HaveSent, IsMisread, damaged_by, end_for, told_on}
@@ -246,7 +247,7 @@ pub record Grows (now : BareWorld) (header : Header) (plays : List Play) (t : Hi
 pub record WasStepped (w now : BareWorld) (header : Header) (plays : List Play) (t : History) (line : Line) : Type 0 where
   pub before : WorldStandsFor w header plays t
   pub is_line : IsLineOf header line
-  pub room : lines_said plays < 20000
+  pub room : lines_said plays < 320000
   pub header_is : now.header ≡ w.header
   pub none_misread : misread (link_at t) line ≡ None
   pub counted : now.stepped ≡ w.stepped + 1
@@ -287,7 +288,7 @@ step_stands {now} {header} {plays} {t} {line} law s link =
       header_is = s.header_is ∙ h.header_is;
       is_header = h.is_header;
       plays_are = are;
-      few = few_with_said plays line h.few s.room;
+      few = few_with_line plays line h.few s.room;
       follows = follows;
       legal = legal law header (lines_played header next) (with_step t line) (lines_of_plays header next h.is_header are) h.is_header follows;
       link = subst P (sym last) link;
@@ -327,7 +328,7 @@ controller_grows {header} {t} {line} {at} law s seen q does =
     record { stands = step_stands law s (seen_here at q z.0); entries_are = z.1 }
 
 -- the ends of a world were given few messages
-pub few_sent : {w : BareWorld} {header : Header} {plays : List Play} {t : History} → WorldStandsFor w header plays t → HaveSent (link_at t) 20000
+pub few_sent : {w : BareWorld} {header : Header} {plays : List Play} {t : History} → WorldStandsFor w header plays t → HaveSent (link_at t) 320000
 few_sent h =
     let a = h.sent.here in
     let b = h.sent.there in
@@ -339,7 +340,7 @@ pub few_resets : {w : BareWorld} {header : Header} {plays : List Play} {t : Hist
 few_resets {w} {plays} h = let a = h.link.count in let b = h.resets.made in rsets_short plays w.resets h.few (omega (arith, a, b))
 
 -- behind whichever plays a world stands, they are as many
-pub few_said : {w : BareWorld} {plays : List Play} {t : History} → HasBareRoom w → WorldStandsFor w w.header plays t → lines_said plays < 20000
+pub few_said : {w : BareWorld} {plays : List Play} {t : History} → HasBareRoom w → WorldStandsFor w w.header plays t → lines_said plays < 320000
 few_said room h = let n = h.stepped in let m = room.stands.stepped in let few = room.few in omega (arith, n, m, few)
 
 pub few_rounds : {w : BareWorld} {plays : List Play} {t : History} → HasBareRoomToSettle w → WorldStandsFor w w.header plays t
@@ -356,7 +357,7 @@ pub one_misread : (l : Link) (line : Line) (o : Option Misread) (other : Misread
 one_misread l line o other q h = let P : Option Misread → Type 0 = λ x. IsMisread l line x in subst P q h
 
 -- a world that stands for a history of few enough lines can be stepped
-pub has_room : (w : BareWorld) (header : Header) (plays : List Play) (t : History) → WorldStandsFor w header plays t → lines_said plays < 20000
+pub has_room : (w : BareWorld) (header : Header) (plays : List Play) (t : History) → WorldStandsFor w header plays t → lines_said plays < 320000
     → HasBareRoom w
 has_room w header plays t h few =
     let P : Header → Type 0 = λ x. WorldStandsFor w x plays t in
@@ -446,7 +447,7 @@ went_round {now} {header} {plays} {t} law s link told =
         header_is = s.header_is ∙ h.header_is;
         is_header = h.is_header;
         plays_are = are;
-        few = few_with_round plays h.few s.room;
+        few = few_with_one_round plays h.few s.room;
         follows = follows;
         legal = legal law header (lines_played header next) u (lines_of_plays header next h.is_header are) h.is_header follows;
         link = subst P (sym last) link;

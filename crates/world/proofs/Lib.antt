@@ -12,4 +12,7 @@ pub mod Repeating
 pub mod RoundLemmas
 pub mod RsetsOfPlays
 pub mod BareWorlds
+pub mod PlaysOnLinks
 pub mod Below
+pub mod Playing
+pub mod RoundParts

@@ -142,7 +142,7 @@ taken_few {wire} count h is =
     let within = taken_within count wire in let few = h.few in omega (arith, is, within, few)
 
 -- 20,000 is short of what a count of messages holds
-pub few_short : {n : ℕ} → n ≤ 20000 → n < 2 ^ 32
+pub few_short : {n : ℕ} → n ≤ 320000 → n < 2 ^ 32
 few_short h = omega (arith, h)
 
 -- so many frames of at most 64, each with at most twelve RSETs behind it

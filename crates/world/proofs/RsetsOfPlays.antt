@@ -19,7 +19,8 @@ use Rattle.history.specs.Histories.Outcome.{Refused, Caused}
 use Rattle.history.specs.Steps.{events_at, link_after, link_after_all}
 use Rattle.history.specs.Follows.{causes_in, damage_causes, first_verdict, frames_to, link_after_line, link_after_lines, outcome_of, refusal, taken_of}
 use Rattle.history.proofs.RsetsInBareWorlds.{few_after}
-use Rattle.lines_told.specs.Plays.{Play, AreFewPlays, round_on, taking_on}
+use Rattle.lines_told.specs.Plays.{Play, round_on, taking_on}
+use Rattle.node_world.specs.Worlds.{AreFewWithParts}
 use Rattle.lines_told.specs.Plays.Play.{Said, Round}
 use Rattle.lines_told.proofs.Plays.{one_said, no_more_rounds, no_more_said, one_round}
 use Rattle.lines_told.proofs.BareRounds.{lines-append, takes_on}
@@ -114,5 +115,5 @@ pub most_round : (plays : List Play) → most_rsets plays + 2 ≡ most_rsets (pl
 most_round plays = let a = no_more_said plays in let b = one_round plays in omega (arith, a, b)
 
 -- so there is room for those of any line
-pub rsets_short : (plays : List Play) (n : ℕ) → AreFewPlays plays → n ≤ most_rsets plays → n + 2400 < 2 ^ 32
+pub rsets_short : (plays : List Play) (n : ℕ) → AreFewWithParts plays → n ≤ most_rsets plays → n + 2400 < 2 ^ 32
 rsets_short plays n few most = let a = few.said in let b = few.rounds in omega (arith, a, b, most)

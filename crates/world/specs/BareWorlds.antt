@@ -1,5 +1,5 @@
 -- What is kept of the world, and for which histories it stands.
-use Rattle.std.specs.Prelude.{◌≡◌, ℕ, ◌+◌, ◌*◌, ◌<◌, List, [], ◌∷◌, Some, None}
+use Rattle.std.specs.Prelude.{◌≡◌, ℕ, ◌+◌, ◌*◌, ◌≤◌, ◌<◌, ◌^◌, List, [], ◌∷◌, Some, None}
 use Rattle.std.specs.List.{AllByRecursion}
 use Rattle.trace_model.specs.declared.entry.Entry.{Entry}
 use Rattle.trace_model.specs.declared.line.Header.{Header}
@@ -10,7 +10,8 @@ use Rattle.link_entries.specs.messages.Rsets.{FewRsets}
 use Rattle.history.specs.Histories.{History}
 use Rattle.history.specs.Follows.{Follows, link_at, misread, with_step}
 use Rattle.history.specs.Legal.{Legal}
-use Rattle.lines_told.specs.Plays.{Play, IsPlayFor, AreFewPlays, lines_played, lines_said, rounds_played}
+use Rattle.lines_told.specs.Plays.{Play, IsPlayFor, lines_played, lines_said, rounds_played}
+use Rattle.node_world.specs.Worlds.{AreFewWithParts}
 use Rattle.world.specs.declared.bare_world.BareWorld.{BareWorld}
 use Rattle.world.specs.declared.fault.WorldFault.{WorldFault}
 use Rattle.world.specs.declared.fault.WorldFault.TheVariants.{Undetected, NoMemory}
@@ -40,7 +41,7 @@ pub record WorldStandsFor (w : BareWorld) (header : Header) (plays : List Play) 
   pub header_is : w.header ≡ header
   pub is_header : IsHeader header
   pub plays_are : AllByRecursion (IsPlayFor header) plays
-  pub few : AreFewPlays plays
+  pub few : AreFewWithParts plays
   pub follows : Follows header (lines_played header plays) t
   pub legal : Legal t
   pub link : LinkStandsFor w.controller w.host w.resets (link_at t)
@@ -49,12 +50,12 @@ pub record WorldStandsFor (w : BareWorld) (header : Header) (plays : List Play) 
   pub stepped : w.stepped ≡ lines_said plays
   pub rounds : w.rounds ≡ rounds_played plays
 
--- the world stands for a history in which fewer than 20,000 lines were said
+-- the world stands for a history in which fewer than 320,000 lines were said
 pub record HasBareRoom (w : BareWorld) : Type 0 where
   pub plays : List Play
   pub history : History
   pub stands : WorldStandsFor w (bare_header w) plays history
-  pub few : lines_said plays < 20000
+  pub few : lines_said plays < 320000
 
 -- or in which there were fewer rounds than a schedule has at most
 pub record HasBareRoomToSettle (w : BareWorld) : Type 0 where
@@ -62,6 +63,11 @@ pub record HasBareRoomToSettle (w : BareWorld) : Type 0 where
   pub history : History
   pub stands : WorldStandsFor w (bare_header w) plays history
   pub few : rounds_played plays < 400000000
+
+-- so many of the lines that were stepped may count as so many rounds
+pub record MayCountAsRounds (w : BareWorld) (lines rounds : ℕ) : Type 0 where
+  pub stepped : lines ≤ w.stepped
+  pub room : w.rounds + rounds < 2 ^ 32
 
 -- This is why a line stops the world: another frame is read in place of the damaged one, or there was no memory for a line
 -- that does no such thing.

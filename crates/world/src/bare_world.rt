@@ -1,13 +1,15 @@
 //! A bare world, line by line and round by round.
-ghost use Rattle.std.specs.Prelude.{◌≡◌, [], ◌∷◌, ◌++◌, List, IfOk, OnOk, IfErr, None, length};
+ghost use Rattle.std.specs.Prelude.{◌≡◌, ◌-◌, ◌+◌, [], ◌∷◌, ◌++◌, List, IfOk, OnOk, IfErr, None, length};
+ghost use Rattle.std.specs.List.{AllByRecursion};
 ghost use Rattle.trace_model.specs.Lines.{IsHeader, IsLineOf};
 ghost use Rattle.link_entries.specs.entries.Entries.End.{Controller};
 ghost use Rattle.history.specs.Histories.{History, noted};
 ghost use Rattle.history.specs.Follows.{opening_of, host_of, outcome_of, misread, link_at, opened, with_step, frames_to};
 ghost use Rattle.history.specs.Steps.{end_of};
 ghost use Rattle.link_entries.specs.messages.Rest.{link_rests};
-ghost use Rattle.lines_told.specs.Plays.{Play, lines_played, round_behind, told_of_play};
+ghost use Rattle.lines_told.specs.Plays.{Play, IsPlayFor, lines_played, lines_said, rounds_played, round_behind, told_of_play};
 ghost use Rattle.lines_told.specs.Plays.Play.{Said, Round};
+ghost use Rattle.node_world.specs.Worlds.{AreFewWithParts};
 ghost use Rattle.world.specs.declared.fault.WorldFault.TheVariants as fault;
 
 use crate::fault::WorldFault;
@@ -39,7 +41,8 @@ pub(crate) struct BareWorld {
 }
 
 impl BareWorld {
-    ghost use Rattle.world.specs.BareWorlds.{WorldStandsFor, HasBareRoom, HasBareRoomToSettle, IsFaultOf, bare_header, bare_entries, with_steps};
+    ghost use Rattle.world.specs.BareWorlds.{WorldStandsFor, HasBareRoom, HasBareRoomToSettle, MayCountAsRounds, IsFaultOf};
+    ghost use Rattle.world.specs.BareWorlds.{bare_header, bare_entries, with_steps};
 
     /// The world that a header names: both ends of its link are Up in session 0, and no frame is on its way.
     ///
@@ -64,7 +67,7 @@ impl BareWorld {
         })
     }
 
-    /// Does what a line asks for, or refuses it. Fewer than 20,000 lines were stepped before.
+    /// Does what a line asks for, or refuses it. Fewer than 320,000 lines were stepped before.
     ///
     /// # Errors
     ///
@@ -144,6 +147,24 @@ impl BareWorld {
             &mut self.entries,
         )?;
         Ok(())
+    }
+
+    /// Where it takes its memory.
+    pub(crate) fn allocator(&self) -> Global {
+        *self.entries.allocator()
+    }
+
+    /// From now on so many of the lines that were stepped count as so many rounds, whose lines they were.
+    pub(crate) fn count_as_rounds(&mut self, lines: u32, rounds: u32)
+        requires { MayCountAsRounds self.old lines rounds }
+        ensures stands { (plays others : List Play) (t : History) → WorldStandsFor self.old (bare_header self.old) plays t
+            → lines_played (bare_header self.old) plays ≡ lines_played (bare_header self.old) others
+            → AllByRecursion (IsPlayFor (bare_header self.old)) others → AreFewWithParts others → lines_said others ≡ lines_said plays - lines
+            → rounds_played others ≡ rounds_played plays + rounds → WorldStandsFor self.new (bare_header self.old) others t }
+        ensures entries { bare_entries self.new ≡ bare_entries self.old }
+    {
+        self.stepped -= lines;
+        self.rounds += rounds;
     }
 
     /// Whether the link is at rest: no frame stands on a wire, no end waits for the acceptance of a reset, and at each end that is up all

@@ -71,13 +71,13 @@ pub(crate) fn play_line(
     entries: &mut Vec<Entry>,
     other: &mut Option<Misread>,
 ) -> Result<(), AllocError>
-    requires state { (l : Link) × SidesStandFor near.old far.old resets.old at l × HaveSent l 20000 }
+    requires state { (l : Link) × SidesStandFor near.old far.old resets.old at l × HaveSent l 320000 }
     requires line { (header : Header) × IsLineOf header line.now }
     requires seen { (controller : NamedEnd) × (controller.at_host ≡ false) × (at ≡ end_for controller line.now) }
     requires room { resets.old + 2400 < 2 ^ 32 }
     requires nothing { entries.old.items ≡ [] }
     requires none { other.old ≡ None }
-    ensures stands { (l : Link) → SidesStandFor near.old far.old resets.old at l → HaveSent l 20000
+    ensures stands { (l : Link) → SidesStandFor near.old far.old resets.old at l → HaveSent l 320000
         → OnOk result (other.new ≡ None → Does near.new far.new resets.new at l line.now entries.new.items) }
     ensures misread { (l : Link) → SidesStandFor near.old far.old resets.old at l → OnOk result (IsMisread l line.now other.new) }
     ensures told { (l : Link) → SidesStandFor near.old far.old resets.old at l → OnErr result (misread l line.now ≡ None) }

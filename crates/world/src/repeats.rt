@@ -21,10 +21,10 @@ pub(crate) fn take_frames(
     resets: &mut u32,
     entries: &mut Vec<Entry>,
 ) -> Result<(), AllocError>
-    requires state { (l : Link) × SidesStandFor near.old far.old resets.old at l × HaveSent l 20000 }
+    requires state { (l : Link) × SidesStandFor near.old far.old resets.old at l × HaveSent l 320000 }
     requires times { times ≤ 64 }
     requires room { resets.old + 768 < 2 ^ 32 }
-    ensures stands { (l : Link) → SidesStandFor near.old far.old resets.old at l → HaveSent l 20000
+    ensures stands { (l : Link) → SidesStandFor near.old far.old resets.old at l → HaveSent l 320000
         → OnOk result (HasRepeated near.new far.new resets.new at l (Taken at) times entries.old.items entries.new.items) }
     ensures grows { resets.new ≤ resets.old + 768 }
 {
@@ -45,10 +45,10 @@ pub(crate) fn deliver_line(
     resets: &mut u32,
     entries: &mut Vec<Entry>,
 ) -> Result<(), AllocError>
-    requires state { (l : Link) × SidesStandFor near.old far.old resets.old at l × HaveSent l 20000 }
+    requires state { (l : Link) × SidesStandFor near.old far.old resets.old at l × HaveSent l 320000 }
     requires room { resets.old + 768 < 2 ^ 32 }
     requires nothing { entries.old.items ≡ [] }
-    ensures stands { (l : Link) → SidesStandFor near.old far.old resets.old at l → HaveSent l 20000
+    ensures stands { (l : Link) → SidesStandFor near.old far.old resets.old at l → HaveSent l 320000
         → OnOk result (Does near.new far.new resets.new at l (line.Deliver at count) entries.new.items) }
     ensures grows { resets.new ≤ resets.old + 768 }
 {
@@ -70,10 +70,10 @@ pub(crate) fn tick(
     resets: &mut u32,
     entries: &mut Vec<Entry>,
 ) -> Result<(), AllocError>
-    requires state { (l : Link) × SidesStandFor near.old far.old resets.old at l × HaveSent l 20000 }
+    requires state { (l : Link) × SidesStandFor near.old far.old resets.old at l × HaveSent l 320000 }
     requires controller { at.at_host ≡ false }
     requires room { resets.old + 24 < 2 ^ 32 }
-    ensures stands { (l : Link) → SidesStandFor near.old far.old resets.old at l → HaveSent l 20000
+    ensures stands { (l : Link) → SidesStandFor near.old far.old resets.old at l → HaveSent l 320000
         → OnOk result (HasCaused near.new far.new resets.new at l Ticked entries.old.items entries.new.items) }
     ensures grows { resets.new ≤ resets.old + 24 }
 {
@@ -92,12 +92,12 @@ pub(crate) fn tick_line(
     resets: &mut u32,
     entries: &mut Vec<Entry>,
 ) -> Result<(), AllocError>
-    requires state { (l : Link) × SidesStandFor near.old far.old resets.old at l × HaveSent l 20000 }
+    requires state { (l : Link) × SidesStandFor near.old far.old resets.old at l × HaveSent l 320000 }
     requires controller { at.at_host ≡ false }
     requires few { IfSome times (λ n. n ≤ 100) }
     requires room { resets.old + 2400 < 2 ^ 32 }
     requires nothing { entries.old.items ≡ [] }
-    ensures stands { (l : Link) → SidesStandFor near.old far.old resets.old at l → HaveSent l 20000
+    ensures stands { (l : Link) → SidesStandFor near.old far.old resets.old at l → HaveSent l 320000
         → OnOk result (Does near.new far.new resets.new at l (line.Tick times) entries.new.items) }
     ensures grows { resets.new ≤ resets.old + 2400 }
 {

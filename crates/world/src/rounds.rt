@@ -19,9 +19,9 @@ fn take_all(
     resets: &mut u32,
     entries: &mut Vec<Entry>,
 ) -> Result<(), AllocError>
-    requires state { (l : Link) × SidesStandFor near.old far.old resets.old at l × HaveSent l 20000 }
+    requires state { (l : Link) × SidesStandFor near.old far.old resets.old at l × HaveSent l 320000 }
     requires room { resets.old + 768 < 2 ^ 32 }
-    ensures stands { (l : Link) → SidesStandFor near.old far.old resets.old at l → HaveSent l 20000
+    ensures stands { (l : Link) → SidesStandFor near.old far.old resets.old at l → HaveSent l 320000
         → OnOk result (DoesAll near.new far.new resets.new at l (taking_on l at) entries.old.items entries.new.items) }
     ensures grows { resets.new ≤ resets.old + 768 }
 {
@@ -42,11 +42,11 @@ pub(crate) fn play_round(
     resets: &mut u32,
     entries: &mut Vec<Entry>,
 ) -> Result<(), AllocError>
-    requires state { (l : Link) × SidesStandFor near.old far.old resets.old at l × HaveSent l 20000 }
+    requires state { (l : Link) × SidesStandFor near.old far.old resets.old at l × HaveSent l 320000 }
     requires controller { at.at_host ≡ false }
     requires room { resets.old + 1560 < 2 ^ 32 }
     requires nothing { entries.old.items ≡ [] }
-    ensures { (l : Link) → SidesStandFor near.old far.old resets.old at l → HaveSent l 20000
+    ensures { (l : Link) → SidesStandFor near.old far.old resets.old at l → HaveSent l 320000
         → OnOk result (DoesAll near.new far.new resets.new at l (round_on at.link l (at ∷ other_end at ∷ [])) [] entries.new.items) }
 {
     take_all(spare, at, near, far, resets, entries)?;

@@ -1,10 +1,15 @@
-//! The world of a run, line by line and round by round, below either header.
-ghost use Rattle.std.specs.Prelude.{◌≡◌, [], ◌∷◌, ◌++◌, List, IfOk, OnOk, IfErr, None, true, length};
+//! The world of a run, line by line, round by round and part by part, below either header.
+ghost use Rattle.std.specs.Prelude.{◌≡◌, ◌-◌, ◌+◌, ℕ, [], ◌∷◌, ◌++◌, List, IfOk, OnOk, IfErr, None, true, length, replicate};
+ghost use Rattle.std.specs.List.{AllByRecursion};
 ghost use Rattle.trace_model.specs.Lines.{IsNodeOf, MayBegin};
+ghost use Rattle.trace_model.specs.declared.entry.Entry.TheVariants.{Echo, Settled};
+ghost use Rattle.trace_model.specs.declared.line.Header.{Header as Named};
+ghost use Rattle.trace_model.specs.declared.line.Line.{Line as Spoken};
+ghost use Rattle.trace_model.specs.declared.line.Line.TheVariants as line;
 ghost use Rattle.lines_told.specs.Below.{IsPlayedLine, memory_behind, nodes_behind, opening_told, told_below, misread_below};
-ghost use Rattle.lines_told.specs.Plays.{Play, lines_played, rests_behind, told_of_play};
+ghost use Rattle.lines_told.specs.Plays.{IsPlayFor, Play, lines_played, lines_said, rests_behind, rounds_played, told_of_play};
 ghost use Rattle.lines_told.specs.Plays.Play.{Said, Round};
-ghost use Rattle.node_world.specs.Worlds.{IsPeekedSo};
+ghost use Rattle.node_world.specs.Worlds.{AreFewWithParts, IsPeekedSo};
 ghost use Rattle.world.specs.declared.fault.WorldFault.TheVariants as fault;
 ghost use Rattle.world.specs.Worlds.{StandsBelow, last_noted};
 
@@ -23,15 +28,100 @@ pub(crate) enum Below {
     Nodes(NodeWorld),
 }
 
+impl Below {
+    ghost use Rattle.world.specs.Worlds.{HasRoomBelow, HasRoomForRoundBelow, MayCountBelow, IsFaultThere};
+
+    /// Does what a line asks for, or refuses it.
+    ///
+    /// # Errors
+    ///
+    /// As those of [`World::step`].
+    #[inline(always)]
+    pub(crate) fn step(&mut self, alloc: Global, line: &Line) -> Result<(), WorldFault>
+        requires { HasRoomBelow self.old line.now }
+        ensures stands { (header : Named) (plays : List Play) → StandsBelow self.old header plays → IsPlayedLine header line.now
+            → OnOk result (StandsBelow self.new header (plays ++ Said line.now ∷ [])) }
+        ensures entries { (header : Named) (plays : List Play) → StandsBelow self.old header plays → IsPlayedLine header line.now
+            → OnOk result (last_noted self.new ≡ told_below header (lines_played header plays) line.now) }
+        ensures fault { (header : Named) (plays : List Play) → StandsBelow self.old header plays → IsPlayedLine header line.now
+            → IfErr result (IsFaultThere header (lines_played header plays) line.now) }
+        ensures told { (header : Named) (plays : List Play) → StandsBelow self.old header plays → IsPlayedLine header line.now
+            → OnOk result (misread_below header (lines_played header plays) line.now ≡ None) }
+    {
+        match self {
+            Below::Bare(world) => world.step(line),
+            Below::Nodes(world) => match world.step(alloc, line) {
+                Ok(None) => Ok(()),
+                Ok(Some(Misread { sent, read })) => Err(WorldFault::Undetected { sent, read }),
+                Err(_) => Err(WorldFault::NoMemory),
+            },
+        }
+    }
+
+    /// Goes through a round.
+    ///
+    /// # Errors
+    ///
+    /// `NoMemory` where memory runs out. What is below is of no use then.
+    pub(crate) fn round(&mut self) -> Result<(), WorldFault>
+        requires { HasRoomForRoundBelow self.old }
+        ensures stands { (header : Named) (plays : List Play) → StandsBelow self.old header plays
+            → OnOk result (StandsBelow self.new header (plays ++ Round ∷ [])) }
+        ensures entries { (header : Named) (plays : List Play) → StandsBelow self.old header plays
+            → OnOk result (last_noted self.new ≡ told_of_play header (lines_played header plays) Round) }
+        ensures fault { IfErr result (λ why. why ≡ fault.NoMemory) }
+    {
+        match self {
+            Below::Bare(world) => world.round(),
+            Below::Nodes(world) => match world.round() {
+                Ok(()) => Ok(()),
+                Err(_) => Err(WorldFault::NoMemory),
+            },
+        }
+    }
+
+    /// Where it takes its memory.
+    pub(crate) fn allocator(&self) -> Global {
+        match self {
+            Below::Bare(world) => world.allocator(),
+            Below::Nodes(world) => world.allocator(),
+        }
+    }
+
+    /// From now on so many of the lines that were stepped count as so many rounds, whose lines they were.
+    pub(crate) fn count_as_rounds(&mut self, lines: u32, rounds: u32)
+        requires { MayCountBelow self.old lines rounds }
+        ensures stands { (header : Named) (plays others : List Play) → StandsBelow self.old header plays
+            → lines_played header plays ≡ lines_played header others → AllByRecursion (IsPlayFor header) others → AreFewWithParts others
+            → lines_said others ≡ lines_said plays - lines → rounds_played others ≡ rounds_played plays + rounds
+            → StandsBelow self.new header others }
+        ensures entries { last_noted self.new ≡ last_noted self.old }
+    {
+        match self {
+            Below::Bare(world) => world.count_as_rounds(lines, rounds),
+            Below::Nodes(world) => world.count_as_rounds(lines, rounds),
+        }
+    }
+}
+
+/// A line that lets the links settle and isn't closed yet: how many rounds it allows, and how many parts of them were done.
+#[derive(Drop)]
+pub(crate) struct OpenLine {
+    most: u32,
+    parts: u32,
+}
+
 /// The world of a run (this project's own).
 #[derive(Drop)]
 pub struct World {
     header: Header,
     below: Below,
+    opened: Option<OpenLine>,
 }
 
 impl World {
     ghost use Rattle.world.specs.Worlds.{IsWorldAt, HasRoomForLine, HasRoomToSettle, IsFaultThere, world_header, world_entries};
+    ghost use Rattle.world.specs.Worlds.{StandsBehind, IsWorldWithin, HasRoomForPart, HasSettled, IsPartLine, MayBeMarked};
     ghost use Rattle.lines_told.specs.Below.{frames_below, runs_below};
 
     /// The world that a header names. Below a bare one both ends of its link are Up in session 0, and no frame is on its way; below that
@@ -49,10 +139,11 @@ impl World {
         Ok(World {
             header: header.clone()?,
             below: named_by(alloc, header)?,
+            opened: None,
         })
     }
 
-    /// Does what a line asks for, or refuses it. Fewer than 20,000 lines were stepped before.
+    /// Does what a line asks for, or refuses it. Fewer than 20,000 lines were stepped before, and no line that lets the links settle is open.
     ///
     /// # Errors
     ///
@@ -72,18 +163,12 @@ impl World {
             → OnOk result (misread_below (world_header self.old) (lines_played (world_header self.old) plays) line.now ≡ None) }
         ensures header { world_header self.new ≡ world_header self.old }
     {
-        match &mut self.below {
-            Below::Bare(world) => world.step(line),
-            Below::Nodes(world) => match world.step(alloc, line) {
-                Ok(None) => Ok(()),
-                Ok(Some(Misread { sent, read })) => Err(WorldFault::Undetected { sent, read }),
-                Err(_) => Err(WorldFault::NoMemory),
-            },
-        }
+        self.below.step(alloc, line)
     }
 
     /// A round: the controller's end of each link and then the host's, the links ascending, takes all frames that stand on the wire to it
-    /// then, where its node runs; and then time passes, one tick. Fewer than 400,000,000 rounds were done before.
+    /// then, where its node runs; and then time passes, one tick. Fewer than 400,000,000 rounds were done before, and no line that lets the
+    /// links settle is open.
     ///
     /// # Errors
     ///
@@ -97,21 +182,72 @@ impl World {
         ensures fault { IfErr result (λ why. why ≡ fault.NoMemory) }
         ensures header { world_header self.new ≡ world_header self.old }
     {
-        match &mut self.below {
-            Below::Bare(world) => world.round(),
-            Below::Nodes(world) => match world.round() {
-                Ok(()) => Ok(()),
-                Err(_) => Err(WorldFault::NoMemory),
-            },
+        self.below.round()
+    }
+
+    /// Opens a line that lets the links settle, where the entry is its echo, or closes the open one, where it says in how many rounds the
+    /// links settled. A line may be opened where none is open, and closed where its parts were the lines of just the rounds that it comes
+    /// to. No node and no wire changes, and the entry isn't among those of the last line.
+    pub fn mark(&mut self, entry: &Entry)
+        requires { MayBeMarked self.old entry.now }
+        ensures opens { (plays : List Play) (most : ℕ) → IsWorldAt self.old (world_header self.old) plays → entry.now ≡ Echo (line.Settle most)
+            → IsWorldWithin self.new (world_header self.old) plays most [] }
+        ensures closes { (plays : List Play) (most : ℕ) (parts : List Spoken) (rounds : ℕ) → entry.now ≡ Settled rounds
+            → HasSettled self.old (world_header self.old) plays most parts rounds
+            → IsWorldAt self.new (world_header self.old) (plays ++ replicate rounds Round) }
+        ensures entries { world_entries self.new ≡ world_entries self.old }
+        ensures header { world_header self.new ≡ world_header self.old }
+    {
+        match entry {
+            Entry::Echo(line) => {
+                let Line::Settle { rounds } = line else {
+                    unreachable!()
+                };
+                self.opened = Some(OpenLine {
+                    most: *rounds,
+                    parts: 0,
+                });
+            }
+            Entry::Settled { rounds } => {
+                let Some(opened) = &self.opened else {
+                    unreachable!()
+                };
+                self.below.count_as_rounds(opened.parts, *rounds);
+                self.opened = None;
+            }
+            _ => unreachable!(),
         }
+    }
+
+    /// Does what a line `deliver` or `tick` asks for, or refuses it, as a part of the open line that lets the links settle. Parts may come
+    /// in any order; fewer than 300,000 of the line were done before.
+    ///
+    /// # Errors
+    ///
+    /// `NoMemory` where memory runs out. The world is of no use then.
+    pub fn part(&mut self, line: &Line) -> Result<(), WorldFault>
+        requires room { HasRoomForPart self.old }
+        requires line { IsPartLine (world_header self.old) line.now }
+        ensures stands { (plays : List Play) (most : ℕ) (parts : List Spoken) → IsWorldWithin self.old (world_header self.old) plays most parts
+            → OnOk result (IsWorldWithin self.new (world_header self.old) plays most (parts ++ line.now ∷ [])) }
+        ensures entries { (plays : List Play) (most : ℕ) (parts : List Spoken) → IsWorldWithin self.old (world_header self.old) plays most parts
+            → OnOk result (world_entries self.new ≡ told_below (world_header self.old) (lines_played (world_header self.old) plays ++ parts) line.now) }
+        ensures fault { IfErr result (λ why. why ≡ fault.NoMemory) }
+        ensures header { world_header self.new ≡ world_header self.old }
+    {
+        let Some(opened) = &mut self.opened else {
+            unreachable!()
+        };
+        opened.parts += 1;
+        let alloc = self.below.allocator();
+        self.below.step(alloc, line)
     }
 
     /// Whether all links are at rest: no frame stands on a wire, no end waits for the acceptance of a reset, and at each end that is up
     /// all messages sent in its session are acknowledged.
     pub fn quiet(&self) -> bool
-        requires { (plays : List Play) × IsWorldAt self.now (world_header self.now) plays }
-        ensures { (plays : List Play) → IsWorldAt self.now (world_header self.now) plays
-            → result ≡ rests_behind (world_header self.now) plays }
+        requires { (plays : List Play) × StandsBehind self.now plays }
+        ensures { (plays : List Play) → StandsBehind self.now plays → result ≡ rests_behind (world_header self.now) plays }
     {
         match &self.below {
             Below::Bare(world) => world.rests(),
@@ -121,10 +257,9 @@ impl World {
 
     /// How many frames are on their way to an end of a link.
     pub fn standing(&self, link: u8, at_host: bool) -> u16
-        requires { (plays : List Play) × IsWorldAt self.now (world_header self.now) plays }
-        ensures { (plays : List Play) → IsWorldAt self.now (world_header self.now) plays
-            → result ≡ length (frames_below (world_header self.now) (lines_played (world_header self.now) plays)
-            (record { link = link; at_host = at_host })) }
+        requires { (plays : List Play) × StandsBehind self.now plays }
+        ensures { (plays : List Play) → StandsBehind self.now plays → result ≡ length
+            (frames_below (world_header self.now) (lines_played (world_header self.now) plays) (record { link = link; at_host = at_host })) }
     {
         match &self.below {
             Below::Bare(world) => world.standing(at_host),
@@ -134,7 +269,7 @@ impl World {
 
     /// Whether a node runs. The ends of a bare world always do.
     pub fn running(&self, node: u8) -> bool
-        ensures { (plays : List Play) → IsWorldAt self.now (world_header self.now) plays
+        ensures { (plays : List Play) → StandsBehind self.now plays
             → result ≡ runs_below (world_header self.now) (lines_played (world_header self.now) plays) node }
     {
         match &self.below {
@@ -150,7 +285,7 @@ impl World {
         &self.header
     }
 
-    /// What the last line or round caused, in order; before the first, what the header did. The lines themselves aren't in it.
+    /// What the last line, round or part caused, in order; before the first, what the header did. The lines themselves aren't in it.
     pub fn entries(&self) -> &[Entry]
         ensures { result.now ≡ world_entries self.now }
     {

@@ -1,15 +1,16 @@
 -- A world goes through rounds until its links are at rest.
-use Rattle.std.proofs.Common.{◌≡◌, ℕ, zero, suc, ◌+◌, ◌-◌, ◌<◌, Bool, true, false, List, [], ◌∷◌, ◌++◌, refl, ap, sym, subst, ◌∙◌, arith}
-use Rattle.std.proofs.Common.{append-nil, append_assoc}
+use Rattle.std.proofs.Common.{◌≡◌, ℕ, zero, suc, ◌+◌, ◌*◌, ◌-◌, ◌≤◌, ◌<◌, Bool, true, false, List, [], ◌∷◌, ◌++◌, length, map, refl, ap, sym, subst}
+use Rattle.std.proofs.Common.{◌∙◌, arith, append-nil, append_assoc, length-append}
 use Rattle.std.specs.Prelude.{replicate, if◌then◌else◌}
 use Rattle.trace_model.specs.declared.entry.Entry.{Entry}
 use Rattle.trace_model.specs.declared.line.Header.{Header}
-use Rattle.lines_told.specs.Plays.{Play, lines_played, rests_behind, rounds_to_rest, told_of_play, told_of_rounds}
-use Rattle.lines_told.specs.Plays.Play.{Round}
-use Rattle.lines_told.proofs.Plays.{round_first, round_last, played-append, so_many_rounds}
+use Rattle.trace_model.specs.declared.line.Line.{Line}
+use Rattle.lines_told.specs.Plays.{Play, lines_played, rests_behind, round_behind, rounds_to_rest, told_behind, told_of_play, told_of_rounds}
+use Rattle.lines_told.specs.Plays.Play.{Said, Round}
+use Rattle.lines_told.proofs.Plays.{played_more, round_first, round_last}
 use Rattle.world.specs.declared.world_steps.World.{World}
-use Rattle.world.specs.Worlds.{IsWorldAt, HasRoomToSettle, world_header}
-use Rattle.world_settle.specs.Room.{HasRoomForRounds}
+use Rattle.world.specs.Worlds.{HasSettled, IsWorldAt, IsWorldWithin, StandsBehind, world_header}
+use Rattle.world.proofs.Playing.{played_parts, rests_alike}
 
 -- ## A round more
 
@@ -40,18 +41,23 @@ none_on header plays n rests = ap (λ (b : Bool). if b then 0 else suc (rounds_t
 
 -- ## So many rounds
 
--- a world went through k rounds of those that it goes through at most, and they were noted unless the watch is short
+-- the world went through k rounds of those that the open line allows, and they were noted unless the watch is short
 pub record WentOn (w : World) (header : Header) (plays : List Play) (most k : ℕ) (short : Bool) (before now : List Entry) : Type 0 where
-  pub stands : IsWorldAt w header (plays ++ replicate k Round)
+  pub parts : List Line
+  pub within : IsWorldWithin w header plays most parts
+  pub lines_are : lines_played header (plays ++ map Said parts) ≡ lines_played header (plays ++ replicate k Round)
+  pub few : length parts ≤ 15 * k
   pub left : (n : ℕ) → k + n ≡ most → rounds_to_rest header plays most ≡ k + rounds_to_rest header (plays ++ replicate k Round) n
   pub noted_are : short ≡ false → now ≡ before ++ told_of_rounds header plays k
 
-pub went_none : {w : World} {header : Header} {plays : List Play} {most : ℕ} {short : Bool} {now : List Entry} → IsWorldAt w header plays
+pub went_none : {w : World} {header : Header} {plays : List Play} {most : ℕ} {short : Bool} {now : List Entry} → IsWorldWithin w header plays most []
     → WentOn w header plays most 0 short now now
-went_none {w} {header} {plays} {most} {now} at =
-    let P : List Play → Type 0 = λ ps. IsWorldAt w header ps in
+went_none {w} {header} {plays} {most} {now = now} within =
     record {
-      stands = subst P (sym (append-nil plays)) at;
+      parts = [];
+      within = within;
+      lines_are = refl;
+      few = omega arith;
       left = λ n is.
           (let same : n ≡ most = omega (arith, is) in
           let e : rounds_to_rest header plays most ≡ rounds_to_rest header (plays ++ []) n =
@@ -60,16 +66,35 @@ went_none {w} {header} {plays} {most} {now} at =
       noted_are = λ long. sym (append-nil now);
     }
 
+-- the lines behind which the next round begins
+abbrev pub begun : Header → List Play → List Line → List Line
+begun header plays parts = lines_played header plays ++ parts
+
+begun_is : {w : World} {header : Header} {plays : List Play} {most k : ℕ} {short : Bool} {before now : List Entry}
+    (h : WentOn w header plays most k short before now) → begun header plays h.parts ≡ lines_played header (plays ++ replicate k Round)
+begun_is {header = header} {plays} h = sym (played_parts header h.parts plays) ∙ h.lines_are
+
 pub went_more : {w next : World} {header : Header} {plays : List Play} {most k : ℕ} {short later : Bool} {before mid now : List Entry}
-    → WentOn w header plays most k short before mid → rests_behind header (plays ++ replicate k Round) ≡ false
-    → IsWorldAt next header ((plays ++ replicate k Round) ++ Round ∷ []) → (later ≡ false → short ≡ false)
-    → (later ≡ false → now ≡ mid ++ told_of_play header (lines_played header (plays ++ replicate k Round)) Round)
+    → (h : WentOn w header plays most k short before mid) → rests_behind header (plays ++ replicate k Round) ≡ false
+    → IsWorldWithin next header plays most (h.parts ++ round_behind header (begun header plays h.parts))
+    → length (round_behind header (begun header plays h.parts)) ≤ 15 → (later ≡ false → short ≡ false)
+    → (later ≡ false → now ≡ mid ++ told_behind header (begun header plays h.parts) (round_behind header (begun header plays h.parts)))
     → WentOn next header plays most (suc k) later before now
-went_more {next = v} {header} {plays} {most} {k} {before} h moves at goes told =
-    let P : List Play → Type 0 = λ ps. IsWorldAt v header ps in
+went_more {header = header} {plays} {most} {k} {before = before} {mid} h moves within short_round goes told =
     let then_plays : List Play = plays ++ replicate k Round in
+    let start : List Line = begun header plays h.parts in
+    let round : List Line = round_behind header start in
+    let is : start ≡ lines_played header then_plays = begun_is h in
+    let few = h.few in
+    let sum : length (h.parts ++ round) ≡ length h.parts + length round = length-append h.parts round in
     record {
-      stands = subst P (sym (round_last plays k)) at;
+      parts = h.parts ++ round;
+      within = within;
+      lines_are = played_parts header (h.parts ++ round) plays
+          ∙ (sym (append_assoc (lines_played header plays) h.parts round)
+          ∙ (ap (λ (ls : List Line). ls ++ round_behind header ls) is
+          ∙ (sym (played_more header then_plays Round) ∙ ap (lines_played header) (sym (round_last plays k)))));
+      few = omega (arith, few, sum, short_round);
       left = λ n is.
           (let is_next : k + suc n ≡ most = omega (arith, is) in
           let on : rounds_to_rest header then_plays (suc n) ≡ suc (rounds_to_rest header (then_plays ++ Round ∷ []) n) =
@@ -79,9 +104,10 @@ went_more {next = v} {header} {plays} {most} {k} {before} h moves at goes told =
           let so_far = h.left (suc n) is_next in
           omega (arith, so_far, on, same));
       noted_are = λ long.
-          told long ∙ (ap (λ es. es ++ told_then header plays k) (h.noted_are (goes long))
+          told long ∙ (ap (λ (ls : List Line). mid ++ told_behind header ls (round_behind header ls)) is
+          ∙ (ap (λ es. es ++ told_then header plays k) (h.noted_are (goes long))
           ∙ (append_assoc before (told_of_rounds header plays k) (told_then header plays k)
-          ∙ ap (λ es. before ++ es) (sym (told_last header k plays))));
+          ∙ ap (λ es. before ++ es) (sym (told_last header k plays)))));
     }
 
 -- all links are at rest behind these rounds, or there were as many as there may be
@@ -99,31 +125,47 @@ pub went_all : {w : World} {header : Header} {plays : List Play} {most k : ℕ} 
     → WentOn w header plays most k short before now → k ≡ most → k ≡ rounds_to_rest header plays most
 went_all {k = k} h is = let so_far = h.left 0 (omega (arith, is)) in omega (arith, so_far)
 
+-- so the line has settled
+pub settled_so : {w : World} {header : Header} {plays : List Play} {most k : ℕ} {short : Bool} {before now : List Entry}
+    → WentOn w header plays most k short before now → k ≡ rounds_to_rest header plays most
+    → (parts : List Line) × HasSettled w header plays most parts k
+settled_so h is = (h.parts, record { within = h.within; lines_are = h.lines_are; rounds_are = is })
+
 -- ## The world's own header
 
 pub own_header : (w : World) (header : Header) (plays : List Play) → IsWorldAt w header plays → IsWorldAt w (world_header w) plays
 own_header w header plays at = let P : Header → Type 0 = λ x. IsWorldAt w x plays in subst P (sym at.header_is) at
 
--- what is asked of a world under its own header is known under any that it stands below
-pub asked : {w : World} {header : Header} {plays : List Play} (b : Bool) → IsWorldAt w header plays
-    → ((ps : List Play) → IsWorldAt w (world_header w) ps → b ≡ rests_behind (world_header w) ps) → rests_behind header plays ≡ b
-asked {w} {header} {plays} b at told =
-    ap (λ (x : Header). rests_behind x plays) (sym at.header_is) ∙ sym (told plays (own_header w header plays at))
+pub own_within : (w : World) (header : Header) (plays : List Play) (most : ℕ) (parts : List Line) → IsWorldWithin w header plays most parts
+    → IsWorldWithin w (world_header w) plays most parts
+own_within w header plays most parts within =
+    let P : Header → Type 0 = λ x. IsWorldWithin w x plays most parts in subst P (sym within.header_is) within
+
+-- what is asked of a world in an open line, whose parts come to the lines of these rounds
+pub asked : {w : World} {header : Header} {plays : List Play} {most k : ℕ} {short : Bool} {before now : List Entry} (b : Bool)
+    → WentOn w header plays most k short before now → ((ps : List Play) → StandsBehind w ps → b ≡ rests_behind (world_header w) ps)
+    → rests_behind header (plays ++ replicate k Round) ≡ b
+asked {w} {header} {plays} {most} {k} b h told =
+    let parts : List Play = plays ++ map Said h.parts in
+    sym (rests_alike header parts (plays ++ replicate k Round) h.lines_are)
+    ∙ (ap (λ (x : Header). rests_behind x parts) (sym h.within.header_is)
+    ∙ sym (told parts (own_within w header plays most h.parts h.within).stands))
 
 -- what was not short is not, where what is short stays so
 pub was_long : (before later : Bool) → (before ≡ true → later ≡ true) → later ≡ false → before ≡ false
 was_long true later stays long = sym (stays refl) ∙ long
 was_long false later stays long = refl
 
--- a world that has room for rounds has room for the next of them
-pub room_for_next : {w next : World} {most k : ℕ} {short : Bool} {before now : List Entry} (room : HasRoomForRounds w most) → k < most
-    → WentOn next (world_header w) room.plays most k short before now → HasRoomToSettle next
-room_for_next {w} {next} {most} {k} room less h =
-    let sum = played-append room.plays (replicate k Round) in
-    let rounds = so_many_rounds k in
-    let few = room.few in
-    record {
-      plays = room.plays ++ replicate k Round;
-      stands = own_header next (world_header w) (room.plays ++ replicate k Round) h.stands;
-      few = omega (arith, sum, rounds, few, less);
-    }
+-- ## A line is opened and settles
+
+-- what is said of a world under its own header is said under any that it stands below
+pub under : {w : World} {plays : List Play} {most : ℕ} {parts : List Line} {k : ℕ} (header other : Header) → header ≡ other
+    → HasSettled w header plays most parts k → HasSettled w other plays most parts k
+under {w} {plays} {most} {parts} {k} header other same h = let P : Header → Type 0 = λ x. HasSettled w x plays most parts k in subst P same h
+
+pub settles_so : (mid last : World) (header : Header) (plays : List Play) (most k : ℕ) → IsWorldWithin mid header plays most []
+    → ((ps : List Play) → IsWorldWithin mid (world_header mid) ps most [] → (parts : List Line) × HasSettled last (world_header mid) ps most parts k)
+    → (parts : List Line) × HasSettled last header plays most parts k
+settles_so mid last header plays most k within settled =
+    let z = settled plays (own_within mid header plays most [] within) in
+    (z.0, under (world_header mid) header within.header_is z.1)

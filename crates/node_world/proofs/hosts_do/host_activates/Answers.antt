@@ -1,20 +1,12 @@
-use Rattle.std.proofs.Common.{ℕ, ◌==◌, List, [], ◌∷◌, sym, subst, ◌≡◌, ap, ◌∙◌}
-use Rattle.std.specs.Prelude.{Option, Some, None}
-use Rattle.std.proofs.lemmas.Result.{on_ok_weaker, IfOk-weaker}
-use Rattle.trace_model.specs.declared.entry.NoCause.{NoCause}
-use Rattle.trace_model.specs.declared.line.End.{End}
-use Rattle.trace_model.specs.declared.line.Line.TheVariants as line
-use Rattle.link_entries.specs.messages.Links.Comes.{AsksReset, Starts, NoInput}
-use Rattle.node_machine.specs.Node.{begins_with}
-use Rattle.node_machine.specs.world.World.{NodeWorld, Site, comes_at, end_h, site_at, sending, beginning, host_does, world_step}
-use Rattle.node_machine.specs.world.World.Happening.{Resets, Gives, Inits}
-use Rattle.node_machine.specs.world.Lines.{refusal_in}
+use Rattle.std.proofs.Common.{◌≡◌}
+use Rattle.std.specs.Prelude.{Some}
+use Rattle.std.proofs.lemmas.Result.{on_ok_weaker}
+use Rattle.link_entries.specs.messages.Links.Comes.{Starts}
+use Rattle.node_machine.specs.world.World.{comes_at, end_h, site_at}
 use Rattle.node_world.specs.Controllers.{StandsAt}
-use Rattle.node_world.specs.HostSteps.{host_hears, host_stepped, reset_refused_at, sending_refused, BecomesUnless}
-use Rattle.node_world.specs.Whole.{SitesBecome, if_accepted}
-use Rattle.node_world.proofs.AtHosts.{at_place, counts_coming, room_there, becomes, site_stands, end_is, nowhere}
+use Rattle.node_world.specs.HostSteps.{host_hears}
+use Rattle.node_world.proofs.AtHosts.{at_place, counts_coming, room_there, becomes, site_stands, nowhere}
 use Rattle.node_world.proofs.HostsInWorlds.{hears_in_world}
-use Rattle.node_world.proofs.HostsFound.{reset_there, send_there, steps_there, becomes_unless}
 use Rattle.node_world.proofs.hosts_do.host_activates.Goals as goal
 
 pub activate_host-requires-clause-state : goal.activate_host-requires-clause-state

@@ -1,4 +1,4 @@
-use Rattle.std.proofs.Common.{◌≡◌, List, sym, subst, ◌==◌, false}
+use Rattle.std.proofs.Common.{List, sym, subst}
 use Rattle.node_machine.specs.world.World.{Site}
 use Rattle.node_world.specs.declared.places.HostSite.{HostSite}
 use Rattle.node_world.specs.Controllers.{SitesAre, StandsAt}

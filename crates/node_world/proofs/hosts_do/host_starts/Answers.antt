@@ -1,12 +1,11 @@
-use Rattle.std.proofs.Common.{◌≡◌, ◌==◌, false, sym, subst, ap, ◌∙◌}
-use Rattle.std.specs.Prelude.{Option, Some, None}
+use Rattle.std.proofs.Common.{sym, subst, ◌∙◌}
+use Rattle.std.specs.Prelude.{Option}
 use Rattle.std.proofs.lemmas.Result.{on_ok_weaker}
 use Rattle.swp_act.specs.Activation.{new_uicc}
-use Rattle.swp_base.specs.InMemory.{Memory}
 use Rattle.link_machine.specs.Machine.{new_link_end}
 use Rattle.link_machine.specs.Machine.Role.{Uicc}
 use Rattle.node_machine.specs.Parts.{Running}
-use Rattle.node_machine.specs.world.World.{boots, memory_at}
+use Rattle.node_machine.specs.world.World.{boots}
 use Rattle.node_laws.specs.telling.Telling.{IfOff}
 use Rattle.node_world.specs.declared.places.HostSite.{HostSite}
 use Rattle.node_world.specs.Controllers.{StandsAt}

@@ -1,4 +1,4 @@
-use Rattle.std.proofs.Common.{◌≡◌, ◌≢◌, List, sym, subst, ◌==◌, false, ◌∙◌}
+use Rattle.std.proofs.Common.{◌≢◌, subst}
 use Rattle.std.specs.Prelude.{Option, None}
 use Rattle.std.proofs.lemmas.Result.{on_ok_weaker}
 use Rattle.node_machine.specs.Parts.{Running}

@@ -1,15 +1,13 @@
-use Rattle.std.proofs.Common.{ℕ, List, sym, subst, ◌≡◌, ap, ◌∙◌}
-use Rattle.std.specs.Prelude.{slice_set, Some, None}
+use Rattle.std.proofs.Common.{subst, ◌≡◌}
+use Rattle.std.specs.Prelude.{slice_set, Some}
 use Rattle.std.proofs.lemmas.Result.{on_ok_weaker}
 use Rattle.link_entries.specs.messages.Links.Comes.{NextFrame}
 use Rattle.trace_model.specs.declared.line.End.{End}
-use Rattle.node_machine.specs.world.World.{NodeWorld, Site, comes_at, end_h, site_at}
-use Rattle.node_world.specs.declared.places.HostSite.{HostSite}
+use Rattle.node_machine.specs.world.World.{comes_at, end_h, site_at}
 use Rattle.node_world.specs.Controllers.{StandsAt}
-use Rattle.node_world.specs.Places.{SiteIs}
 use Rattle.node_world.specs.HostSteps.{host_hears}
 use Rattle.node_world.specs.Whole.{SitesBecome}
-use Rattle.node_world.proofs.AtHosts.{At, at_place, counts_coming, room_there, becomes, site_stands, end_is, nowhere}
+use Rattle.node_world.proofs.AtHosts.{at_place, counts_coming, room_there, becomes, site_stands, end_is, nowhere}
 use Rattle.node_world.proofs.HostsInWorlds.{hears_in_world}
 use Rattle.node_world.proofs.hosts_do.host_takes.Goals as goal
 

@@ -1,6 +1,4 @@
-use Rattle.std.proofs.Common.{rules, ◌≡◌, ◌==◌, false, length, get_or, sym, subst, ap, ◌∙◌}
-use Rattle.std.specs.Prelude.{is_some, Some}
-use Rattle.std.proofs.lemmas.Bool.{ne_eqb}
+use Rattle.std.proofs.Common.{sym, subst}
 use Rattle.link_entries.specs.messages.Links.{Link}
 use Rattle.history.specs.Follows.{frames_to}
 use Rattle.link_wires.specs.Damages.{Finds}
@@ -8,8 +6,7 @@ use Rattle.node_laws.proofs.telling.Nodes.{link_is}
 use Rattle.node_world.specs.declared.places.HostSite.{HostSite}
 use Rattle.node_world.specs.Controllers.{StandsAt}
 use Rattle.node_world.specs.Places.{SiteIs}
-use Rattle.node_world.proofs.AtHosts.{reads, runs_alike, site_stands}
-use Rattle.node_world.proofs.HostsPower.{node_there}
+use Rattle.node_world.proofs.AtHosts.{reads, site_stands}
 use Rattle.node_world.proofs.looking.damaged_at.Goals as goal
 
 pub returns-in-Some : goal.returns-in-Some

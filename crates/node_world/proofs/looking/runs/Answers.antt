@@ -1,10 +1,6 @@
-use Rattle.std.proofs.Common.{rules, ◌≡◌, ◌==◌, false, length, get_or, sym, subst, ap, ◌∙◌}
-use Rattle.std.specs.Prelude.{is_some, Some}
+use Rattle.std.proofs.Common.{rules, ◌≡◌, ◌==◌, false, get_or, sym, subst, ap, ◌∙◌}
+use Rattle.std.specs.Prelude.{is_some}
 use Rattle.std.proofs.lemmas.Bool.{ne_eqb}
-use Rattle.link_entries.specs.messages.Links.{Link}
-use Rattle.history.specs.Follows.{frames_to}
-use Rattle.link_wires.specs.Damages.{Finds}
-use Rattle.node_laws.proofs.telling.Nodes.{link_is}
 use Rattle.node_world.specs.declared.places.HostSite.{HostSite}
 use Rattle.node_world.specs.Controllers.{StandsAt}
 use Rattle.node_world.specs.Places.{SiteIs}

@@ -1,4 +1,4 @@
-use Rattle.std.proofs.Common.{◌<◌, ◌≤◌, ◌∙◌, length, sym, true, false, arith}
+use Rattle.std.proofs.Common.{◌<◌, ◌≤◌, ◌∙◌, length, sym, arith}
 use Rattle.node_world.proofs.LinksRest.{all_looked_at, all_rest_so, all_still, far_moves, looks_at, near_moves, none_looked_at}
 use Rattle.node_world.proofs.resting.all_rest.Goals as goal
 

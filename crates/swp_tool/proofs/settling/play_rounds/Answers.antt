@@ -15,8 +15,10 @@ loop-done-init c = record {
 
 pub quiet-requires : goal.quiet-requires
 quiet-requires c =
+    let at =
     stands_then c.args.world.now c.loop-done.world c.args.most c.loop-done.done c.args.text.now.items c.loop-done.text.items c.requires
-    c.loop-done.invariant.gone
+    c.loop-done.invariant.gone in
+    (at.0, at.1.stands)
 
 pub returns-then-quiet-clause-gone : goal.returns-then-quiet-clause-gone
 returns-then-quiet-clause-gone c = c.loop-done.invariant.gone

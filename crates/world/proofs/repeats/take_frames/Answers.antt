@@ -16,7 +16,7 @@ take_frame-requires-clause-state c =
     let s = c.requires.state in
     let l : Link = link_after_all s.0 (replicate c.loop.counter (Taken c.args.at)) in
     let r = c.loop.invariant.0 s.0 s.1 s.2 in
-    let sent = sent_repeated 20000 c.loop.counter s.0 (Taken c.args.at) tt s.2 in (
+    let sent = sent_repeated 320000 c.loop.counter s.0 (Taken c.args.at) tt s.2 in (
       seen_from c.args.at l,
       r.stands,
       few_short (few_here c.args.at sent),
@@ -35,7 +35,7 @@ loop-preserved c =
           (let k : ℕ = c.loop.counter in
           let m : Link = link_after_all l (replicate k (Taken c.args.at)) in
           let r = c.loop.invariant.0 l h sent in
-          let few = few_short (few_here c.args.at (sent_repeated 20000 k l (Taken c.args.at) tt sent)) in
+          let few = few_short (few_here c.args.at (sent_repeated 320000 k l (Taken c.args.at) tt sent)) in
           let more : suc k ≡ k + 1 = omega arith in
           let P : ℕ → Type 0 = λ n.
           HasRepeated c.take_frame.new.near c.take_frame.new.far c.take_frame.new.resets c.args.at l (Taken c.args.at) n

@@ -37,7 +37,7 @@ tick_end-requires-2-clause-state c =
     let both = turned_round b.0 in
     let t = c.in_ok-tick_end.ensures.stands (aged l) both (few_short c.requires.state.2.here) in
     let near : Link = ticks_at_controller (aged l) [] GoesOut in
-    let sent : HaveSent near 20000 = sent_ticked 20000 (aged l) (record { here = c.requires.state.2.here; there = c.requires.state.2.there }) in (
+    let sent : HaveSent near 320000 = sent_ticked 320000 (aged l) (record { here = c.requires.state.2.here; there = c.requires.state.2.there }) in (
       exchanged near,
       turned_round t.0,
       few_short sent.there,
@@ -52,7 +52,7 @@ returns-clause-stands c l stands few =
     let both = turned_round b.0 in
     let t = c.in_ok-tick_end.ensures.stands (aged l) both (few_short few.here) in
     let near : Link = ticks_at_controller (aged l) [] GoesOut in
-    let sent : HaveSent near 20000 = sent_ticked 20000 (aged l) (record { here = few.here; there = few.there }) in
+    let sent : HaveSent near 320000 = sent_ticked 320000 (aged l) (record { here = few.here; there = few.there }) in
     on_ok c.tick_end-2.result
     (c.tick_end-2.ensures.stands (exchanged near) (turned_round t.0)
     (few_short sent.there))

@@ -17,7 +17,7 @@ tick-requires-clause-state c =
     let r = c.loop.invariant.0 s.0 s.1 s.2 in (
       link_after_all s.0 (replicate c.loop.counter Ticked),
       r.stands,
-      sent_repeated 20000 c.loop.counter s.0 Ticked tt s.2,
+      sent_repeated 320000 c.loop.counter s.0 Ticked tt s.2,
     )
 
 pub loop-preserved : goal.loop-preserved
@@ -33,7 +33,7 @@ loop-preserved c =
           c.tick.new.entries.items in
           subst P more
           (repeats_more r
-          (c.in_ok-tick.ensures.stands (link_after_all l (replicate k Ticked)) r.stands (sent_repeated 20000 k l Ticked tt sent)))),
+          (c.in_ok-tick.ensures.stands (link_after_all l (replicate k Ticked)) r.stands (sent_repeated 320000 k l Ticked tt sent)))),
       omega (arith, g, i),
     )
 

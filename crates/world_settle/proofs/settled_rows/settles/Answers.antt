@@ -14,4 +14,4 @@ pub quiet-rests-requires : goal.quiet-rests-requires
 quiet-rests-requires g c =
     let at = c.played-world.ensures in
     let plays = at.0 ++ replicate c.in-Ok.done Round in
-    (plays, own_header c.settle.new.world (world_header c.played-world.result) plays (c.in-Ok.ensures.stands at.0 at.1))
+    (plays, (own_header c.settle.new.world (world_header c.played-world.result) plays (c.in-Ok.ensures.stands at.0 at.1)).stands)

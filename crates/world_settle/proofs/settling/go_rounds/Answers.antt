@@ -1,66 +1,77 @@
-use Rattle.std.proofs.Common.{◌≡◌, ℕ, suc, ◌+◌, List, [], ◌∷◌, ◌++◌, replicate, refl, sym, ap, subst, ◌∙◌, arith}
+use Rattle.std.proofs.Common.{◌≡◌, ℕ, suc, ◌+◌, ◌≤◌, false, List, ◌++◌, length, map, subst, ◌∙◌, arith}
 use Rattle.trace_model.specs.declared.entry.Entry.{Entry}
 use Rattle.trace_model.specs.declared.line.Header.{Header}
-use Rattle.lines_told.specs.Plays.{Play, lines_played, told_of_play}
-use Rattle.lines_told.specs.Plays.Play.{Round}
+use Rattle.trace_model.specs.declared.line.Line.{Line}
+use Rattle.lines_told.specs.Plays.{round_behind, told_behind}
+use Rattle.lines_told.specs.Plays.Play.{Said}
 use Rattle.world.specs.declared.world_steps.World.{World}
-use Rattle.world.specs.Worlds.{IsWorldAt}
-use Rattle.world_settle.proofs.Going.{WentOn, went_none, went_more, went_all, rests_now, asked, own_header, was_long, room_for_next}
+use Rattle.world.specs.Worlds.{HasSettled, IsWorldWithin, world_header}
+use Rattle.world_settle.proofs.Going.{WentOn, asked, begun, own_within, rests_now, settled_so, was_long, went_all, went_more}
 use Rattle.world_settle.proofs.settling.go_rounds.Goals as goal
-
-pub loop-done-init : goal.loop-done-init
-loop-done-init g c = record { goes = λ plays at. went_none at; stays = λ s. s; header = refl }
 
 pub quiet-requires : goal.quiet-requires
 quiet-requires g c =
-    let room = c.requires in
-    let then_plays : List Play = room.plays ++ replicate c.loop-done.done Round in (
-      then_plays,
-      own_header c.loop-done.world c.args.world.now.header then_plays (c.loop-done.invariant.goes room.plays room.stands).stands,
-    )
+    let r = c.requires in
+    let header : Header = world_header c.args.world.now in
+    let h = c.loop-done.invariant.goes r.plays r.within in
+    (r.plays ++ map Said h.parts, (own_within c.loop-done.world header r.plays c.args.rounds h.parts h.within).stands)
 
-pub round-requires : goal.round-requires
-round-requires g c =
-    let room = c.requires in
-    room_for_next room (omega (arith, c.loop-done-test.true)) (c.loop-done.invariant.goes room.plays room.stands)
+pub go_round-requires : goal.go_round-requires
+go_round-requires g c =
+    let r = c.requires in
+    let header : Header = world_header c.args.world.now in
+    let h = c.loop-done.invariant.goes r.plays r.within in
+    let few = h.few in
+    let most = r.most in
+    record {
+      plays = r.plays;
+      most = c.args.rounds;
+      parts = h.parts;
+      within = own_within c.loop-done.world header r.plays c.args.rounds h.parts h.within;
+      few = omega (arith, few, most, c.loop-done-test.true);
+    }
 
 pub loop-done-preserved : goal.loop-done-preserved
 loop-done-preserved g c =
     let short = g.W.Watch.is_short in
     let noted = g.W.Watch.noted in
-    let header : Header = c.args.world.now.header in
+    let header : Header = world_header c.args.world.now in
     let w : World = c.loop-done.world in
-    let next : World = c.round.new.self in
+    let next : World = c.go_round.new.world in
     let k : ℕ = c.loop-done.done in
+    let inv = c.loop-done.invariant in
+    let e = c.in_ok-go_round.ensures in
+    let later = short c.go_round.new.watch in
+    let mid : List Entry = noted c.loop-done.watch in
+    let now : List Entry = noted c.go_round.new.watch in
     record {
-      goes = λ plays at.
-          (let went = c.loop-done.invariant.goes plays at in
-          let then_plays : List Play = plays ++ replicate k Round in
-          let own = own_header w header then_plays went.stands in
-          let P : Header → Type 0 = λ x. IsWorldAt next x (then_plays ++ Round ∷ []) in
-          let stands : IsWorldAt next header (then_plays ++ Round ∷ []) =
-          subst P went.stands.header_is (c.in_ok-round.ensures.stands then_plays own) in
-          let told : c.entries.result.now ≡ told_of_play header (lines_played header then_plays) Round =
-          c.entries.ensures
-          ∙ (c.in_ok-round.ensures.entries then_plays own
-          ∙ ap (λ (x : Header). told_of_play x (lines_played x then_plays) Round) went.stands.header_is) in
-          let moves = asked c.quiet.result went.stands c.quiet.ensures ∙ c.if-quiet.false in
+      goes = λ plays within.
+          (let h = inv.goes plays within in
+          let own = own_within w header plays c.args.rounds h.parts h.within in
+          let moves = asked c.quiet.result h c.quiet.ensures ∙ c.if-quiet.false in
+          let S : Header → Type 0 = λ x.
+          IsWorldWithin next x plays c.args.rounds (h.parts ++ round_behind x (begun x plays h.parts)) in
+          let F : Header → Type 0 = λ x. length (round_behind x (begun x plays h.parts)) ≤ 15 in
+          let T : Header → Type 0 = λ x. later ≡ false
+          → now ≡ mid ++ told_behind x (begun x plays h.parts) (round_behind x (begun x plays h.parts)) in
           let more : suc k ≡ k + 1 = omega arith in
-          let Q : ℕ → Type 0 = λ n.
-          WentOn next header plays c.args.rounds n (short c.note_all.new.watch) (noted c.args.watch.now) (noted c.note_all.new.watch) in
+          let Q : ℕ → Type 0 = λ n. WentOn next header plays c.args.rounds n later (noted c.args.watch.now) now in
           subst Q more
-          (went_more went moves stands (was_long (short c.loop-done.watch) (short c.note_all.new.watch) c.note_all.ensures.stays)
-          (λ long. c.note_all.ensures.noted long ∙ ap (λ (es : List Entry). noted c.loop-done.watch ++ es) told)));
-      stays = λ s. c.note_all.ensures.stays (c.loop-done.invariant.stays s);
-      header = c.in_ok-round.ensures.header ∙ c.loop-done.invariant.header;
+          (went_more h moves (subst S inv.header (e.stands plays c.args.rounds h.parts own))
+          (subst F inv.header (e.few plays c.args.rounds h.parts own)) (was_long (short c.loop-done.watch) later e.stays)
+          (subst T inv.header (e.noted plays c.args.rounds h.parts own))));
+      stays = λ s. e.stays (inv.stays s);
+      header = e.header ∙ inv.header;
     }
 
 pub returns-then-quiet-clause-settled : goal.returns-then-quiet-clause-settled
-returns-then-quiet-clause-settled g c plays at =
-    let went = c.loop-done.invariant.goes plays at in
-    rests_now went (omega (arith, c.loop-done-test.true)) (asked c.quiet.result went.stands c.quiet.ensures ∙ c.if-quiet.true)
+returns-then-quiet-clause-settled g c plays within =
+    let h = c.loop-done.invariant.goes plays within in
+    settled_so h (rests_now h (omega (arith, c.loop-done-test.true)) (asked c.quiet.result h c.quiet.ensures ∙ c.if-quiet.true))
 
 pub returns-clause-settled : goal.returns-clause-settled
-returns-clause-settled g c plays at =
+returns-clause-settled g c plays within =
+    let h = c.loop-done.invariant.goes plays within in
     let last : c.loop-done.done ≡ c.args.rounds = omega (arith, c.loop-done-test.false, c.loop-done.auto.done-end) in
-    sym last ∙ went_all (c.loop-done.invariant.goes plays at) last
+    let R : ℕ → Type 0 = λ r. (parts : List Line) × HasSettled c.loop-done.world (world_header c.args.world.now) plays c.args.rounds parts r in
+    subst R last (settled_so h (went_all h last))

@@ -1,6 +1,6 @@
-use Rattle.std.proofs.Common.{◌≡◌, true, List}
+use Rattle.std.proofs.Common.{◌≡◌, true, [], List}
 use Rattle.lines_told.specs.Plays.{Play}
-use Rattle.world.specs.Worlds.{IsWorldAt, world_header}
+use Rattle.world.specs.Worlds.{IsWorldWithin, world_header}
 use Rattle.world_settle.proofs.Going.{WentOn}
 use Rattle.world_settle.proofs.settling.go_rounds.Given as goal
 
@@ -10,7 +10,7 @@ invariant-loop-done g l =
     let noted = g.W.Watch.noted in
     let short = g.W.Watch.is_short in
     record {
-      goes : (plays : List Play) → IsWorldAt l.initial.world (world_header l.initial.world) plays
+      goes : (plays : List Play) → IsWorldWithin l.initial.world (world_header l.initial.world) plays l.rounds []
           → WentOn l.world (world_header l.initial.world) plays l.rounds l.done (short l.watch) (noted l.initial.watch) (noted l.watch);
       stays : short l.initial.watch ≡ true → short l.watch ≡ true;
       header : world_header l.world ≡ world_header l.initial.world;

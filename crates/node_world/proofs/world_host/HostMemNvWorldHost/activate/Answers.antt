@@ -1,4 +1,4 @@
-use Rattle.std.proofs.Common.{◌≡◌, ℕ, true, List, sym, ap, ◌∙◌, subst}
+use Rattle.std.proofs.Common.{ℕ, true, sym, subst}
 use Rattle.link_machine.specs.Machine.LinkInput.{Start}
 use Rattle.node_machine.specs.Node.{steps}
 use Rattle.node_machine.specs.Node.NodeInput.{AtEnd}

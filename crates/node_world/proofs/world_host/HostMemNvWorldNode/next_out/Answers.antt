@@ -1,5 +1,4 @@
-use Rattle.std.proofs.Common.{◌≡◌, ℕ, sym, ap, ◌∙◌, subst}
-use Rattle.std.specs.Prelude.{Some}
+use Rattle.std.proofs.Common.{ℕ, ap, ◌∙◌, subst}
 use Rattle.node_machine.specs.Carrying.{port_at, with_port}
 use Rattle.node_ends.specs.Ends.{has_sent, frame_at}
 use Rattle.node_core.specs.Running.{RunsAs}

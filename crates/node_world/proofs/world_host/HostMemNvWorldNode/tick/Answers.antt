@@ -1,9 +1,8 @@
-use Rattle.std.proofs.Common.{◌≡◌, ℕ, List, sym, ap, ◌∙◌, subst}
 use Rattle.node_machine.specs.Node.{steps}
 use Rattle.node_machine.specs.Node.NodeInput.{TimePasses}
-use Rattle.node_world.specs.WorldNodes.{HasGone, IsNotedSo, RunsAsHost}
+use Rattle.node_world.specs.WorldNodes.{RunsAsHost}
 use Rattle.node_world.proofs.Regardless.{bare, steps_regardless}
-use Rattle.node_world.proofs.NodesRun.{memory_in, of_host, still_host, own_host, begins_so, begins_bare, goes_so, noted_so}
+use Rattle.node_world.proofs.NodesRun.{of_host, still_host, begins_so, begins_bare, goes_so, noted_so}
 use Rattle.node_world.proofs.world_host.HostMemNvWorldNode.tick.Goals as goal
 
 pub returns-clause-stepped : goal.returns-clause-stepped

@@ -8,5 +8,5 @@ pub returns-in-Bare : goal.returns-in-Bare
 returns-in-Bare c plays at =
     let w : BareWorld = c.in-Bare.world in
     let header : Header = c.args.self.now.header in
-    let z = stands_bare c.args.self.now.below w header plays c.in-Bare.is at.stands in
+    let z = stands_bare c.args.self.now.below w header plays c.in-Bare.is at in
     c.rests.ensures plays z.0 (of_its_header w header plays z.0 z.1) ∙ sym (rests_bare w header plays z.0 z.1)

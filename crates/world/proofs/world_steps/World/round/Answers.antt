@@ -1,39 +1,17 @@
-use Rattle.std.proofs.Common.{◌≡◌, List, [], ◌∷◌, ◌++◌, refl, ap, subst, ◌∙◌}
-use Rattle.std.proofs.lemmas.Result.{on_ok_weaker}
-use Rattle.trace_model.specs.declared.line.Header.{Header}
-use Rattle.history.specs.Histories.{History}
-use Rattle.lines_told.specs.Plays.{Play, lines_played, round_behind, told_of_play}
-use Rattle.lines_told.specs.Plays.Play.{Round}
-use Rattle.world.specs.declared.bare_world.BareWorld.{BareWorld}
-use Rattle.world.specs.BareWorlds.{WorldStandsFor, with_steps}
-use Rattle.world.specs.Worlds.{IsWorldAt}
-use Rattle.world.proofs.Below.{stands_bare, of_its_header}
+use Rattle.std.proofs.Common.{refl}
+use Rattle.world.proofs.Playing.{stands_with_round}
 use Rattle.world.proofs.world_steps.World.round.Goals as goal
-use Rattle.world.proofs.world_steps.World.round.Goals.{After-round}
 
--- what the bare world below the header stood for
-stood : (c : After-round) (plays : List Play) → IsWorldAt c.args.self.now c.args.self.now.header plays
-    → (t : History) × WorldStandsFor c.in-Bare.world c.args.self.now.header plays t
-stood c plays at = stands_bare c.args.self.now.below c.in-Bare.world c.args.self.now.header plays c.in-Bare.is at.stands
+pub round-requires : goal.round-requires
+round-requires c =
+    let room = c.requires in
+    record { header = c.args.self.now.header; plays = room.plays; stands = room.stands.stands; few = room.few }
 
-pub returns-in-Bare-clause-stands : goal.returns-in-Bare-clause-stands
-returns-in-Bare-clause-stands c plays at =
-    let w : BareWorld = c.in-Bare.world in
-    let header : Header = c.args.self.now.header in
-    let z = stood c plays at in
-    let P : Header → Type 0 = λ x.
-    WorldStandsFor c.round.new.self x (plays ++ Round ∷ []) (with_steps z.0 (round_behind x (lines_played x plays))) in
-    on_ok_weaker c.round.result
-    (λ (s : P w.header).
-    record { header_is = refl; stands = (with_steps z.0 (round_behind header (lines_played header plays)), subst P z.1.header_is s) })
-    (c.round.ensures.stands plays z.0 (of_its_header w header plays z.0 z.1))
+pub returns-clause-stands : goal.returns-clause-stands
+returns-clause-stands c plays at =
+    let old = c.args.self.now in
+    stands_with_round c.round.result old (record old { below = c.round.new.self }) old.header plays at c.requires refl refl
+    (c.round.ensures.stands old.header plays at.stands)
 
-pub returns-in-Bare-clause-entries : goal.returns-in-Bare-clause-entries
-returns-in-Bare-clause-entries c plays at =
-    let w : BareWorld = c.in-Bare.world in
-    let header : Header = c.args.self.now.header in
-    let z = stood c plays at in
-    on_ok_weaker c.round.result
-    (λ (e : c.round.new.self.entries.items ≡ told_of_play w.header (lines_played w.header plays) Round).
-    e ∙ ap (λ x. told_of_play x (lines_played x plays) Round) z.1.header_is)
-    (c.round.ensures.entries plays z.0 (of_its_header w header plays z.0 z.1))
+pub returns-clause-entries : goal.returns-clause-entries
+returns-clause-entries c plays at = c.round.ensures.entries c.args.self.now.header plays at.stands

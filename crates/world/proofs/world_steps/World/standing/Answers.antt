@@ -11,6 +11,6 @@ returns-in-Bare c plays at =
     let w : BareWorld = c.in-Bare.world in
     let header : Header = c.args.self.now.header in
     let e : End = record { link = c.args.link; at_host = c.args.at_host } in
-    let z = stands_bare c.args.self.now.below w header plays c.in-Bare.is at.stands in
+    let z = stands_bare c.args.self.now.below w header plays c.in-Bare.is at in
     c.standing.ensures plays z.0 (of_its_header w header plays z.0 z.1)
     ∙ ap (λ (xs : List OnWire). length xs) (sym (frames_bare w header plays z.0 z.1 e))

@@ -1,60 +1,24 @@
-use Rattle.std.proofs.Common.{◌≡◌, List, [], ◌∷◌, ◌++◌, refl, sym, ap, subst, ◌∙◌}
-use Rattle.std.specs.Prelude.{None}
-use Rattle.std.proofs.lemmas.Result.{on_ok_weaker, IfErr-weaker}
-use Rattle.trace_model.specs.declared.line.Header.{Header}
-use Rattle.trace_model.specs.declared.line.Line.{Line}
-use Rattle.history.specs.Histories.{History, noted}
-use Rattle.history.specs.Follows.{host_of, link_at, misread, outcome_of, with_step}
-use Rattle.lines_told.specs.Plays.{Play, lines_played}
-use Rattle.lines_told.specs.Plays.Play.{Said}
-use Rattle.world.specs.declared.bare_world.BareWorld.{BareWorld}
-use Rattle.world.specs.BareWorlds.{WorldStandsFor, IsFaultOf}
-use Rattle.world.specs.Worlds.{IsWorldAt, IsFaultThere}
-use Rattle.world.proofs.Below.{stands_bare, of_its_header, told_bare, misread_bare, fault_bare}
+use Rattle.std.proofs.Common.{arith, refl}
+use Rattle.world.proofs.Playing.{stands_with_line}
 use Rattle.world.proofs.world_steps.World.step.Goals as goal
-use Rattle.world.proofs.world_steps.World.step.Goals.{After-step}
 
--- what the bare world below the header stood for
-stood : (c : After-step) (plays : List Play) → IsWorldAt c.args.self.now c.args.self.now.header plays
-    → (t : History) × WorldStandsFor c.in-Bare.world c.args.self.now.header plays t
-stood c plays at = stands_bare c.args.self.now.below c.in-Bare.world c.args.self.now.header plays c.in-Bare.is at.stands
+pub step-requires : goal.step-requires
+step-requires c =
+    let room = c.requires.room in
+    let few = room.few in
+    record { header = c.args.self.now.header; plays = room.plays; stands = room.stands.stands; few = omega (arith, few); may = c.requires.line }
 
-pub returns-in-Bare-clause-stands : goal.returns-in-Bare-clause-stands
-returns-in-Bare-clause-stands c plays at =
-    let w : BareWorld = c.in-Bare.world in
-    let header : Header = c.args.self.now.header in
-    let said : Line = c.args.line.now in
-    let z = stood c plays at in
-    let P : Header → Type 0 = λ x. WorldStandsFor c.step.new.self x (plays ++ Said said ∷ []) (with_step z.0 said) in
-    on_ok_weaker c.step.result
-    (λ (s : P w.header). record { header_is = refl; stands = (with_step z.0 said, subst P z.1.header_is s) })
-    (c.step.ensures.stands plays z.0 (of_its_header w header plays z.0 z.1))
+pub returns-clause-stands : goal.returns-clause-stands
+returns-clause-stands c plays at =
+    let old = c.args.self.now in
+    stands_with_line c.step.result old (record old { below = c.step.new.self }) old.header plays c.args.line.now at c.requires.room refl refl
+    (c.step.ensures.stands old.header plays at.stands c.requires.line)
 
-pub returns-in-Bare-clause-entries : goal.returns-in-Bare-clause-entries
-returns-in-Bare-clause-entries c plays at =
-    let w : BareWorld = c.in-Bare.world in
-    let header : Header = c.args.self.now.header in
-    let said : Line = c.args.line.now in
-    let z = stood c plays at in
-    on_ok_weaker c.step.result
-    (λ (e : c.step.new.self.entries.items ≡ noted (outcome_of (host_of w.header) (link_at z.0) said)).
-    e ∙ ap (λ x. noted (outcome_of (host_of x) (link_at z.0) said)) z.1.header_is ∙ sym (told_bare w header plays z.0 z.1 said))
-    (c.step.ensures.entries plays z.0 (of_its_header w header plays z.0 z.1))
+pub returns-clause-entries : goal.returns-clause-entries
+returns-clause-entries c plays at = c.step.ensures.entries c.args.self.now.header plays at.stands c.requires.line
 
-pub returns-in-Bare-clause-fault : goal.returns-in-Bare-clause-fault
-returns-in-Bare-clause-fault c plays at =
-    let w : BareWorld = c.in-Bare.world in
-    let header : Header = c.args.self.now.header in
-    let said : Line = c.args.line.now in
-    let z = stood c plays at in
-    IfErr-weaker c.step.result (IsFaultOf (link_at z.0) said) (IsFaultThere header (lines_played header plays) said) (fault_bare w header plays z.0 z.1 said)
-    (c.step.ensures.fault plays z.0 (of_its_header w header plays z.0 z.1))
+pub returns-clause-fault : goal.returns-clause-fault
+returns-clause-fault c plays at = c.step.ensures.fault c.args.self.now.header plays at.stands c.requires.line
 
-pub returns-in-Bare-clause-told : goal.returns-in-Bare-clause-told
-returns-in-Bare-clause-told c plays at =
-    let w : BareWorld = c.in-Bare.world in
-    let header : Header = c.args.self.now.header in
-    let said : Line = c.args.line.now in
-    let z = stood c plays at in
-    on_ok_weaker c.step.result (λ (e : misread (link_at z.0) said ≡ None). misread_bare w header plays z.0 z.1 said ∙ e)
-    (c.step.ensures.told plays z.0 (of_its_header w header plays z.0 z.1))
+pub returns-clause-told : goal.returns-clause-told
+returns-clause-told c plays at = c.step.ensures.told c.args.self.now.header plays at.stands c.requires.line
