@@ -4,7 +4,8 @@ behind a gate or ./swp-build; it wants valgrind.
 
 Each block of lines is played a thousand times on a bare link, and on the link of a controller and one host that are up. Of a block it
 prints the instructions, text included, and of each frame that is taken in it those of the step that takes it, with all that this
-brings about: entries, frames that go out, and at a node the turn of the message that came."""
+brings about: entries, frames that go out, and at a node the turn of the message that came. Of a node's frame it prints what its turns
+take, which an end alone doesn't have, and the ratio without them."""
 
 import os
 import re
@@ -35,25 +36,27 @@ def counted(program, lines, folder):
         )
     taken = len(re.findall(r"^took ", told.stdout, re.M))
     table = subprocess.run(["callgrind_annotate", "--inclusive=yes", profile], stdout=subprocess.PIPE, text=True, check=True).stdout
-    steps = re.search(r"^ *([\d,]+) .*take_frame", table, re.M)
-    return int(re.search(r"Collected : (\d+)", told.stderr)[1]), taken, int(steps[1].replace(",", "")) if steps else 0
+    steps = [re.search(rf"^ *([\d,]+) .*{name}", table, re.M) for name in ("take_frame", "settle_and_pass")]
+    return int(re.search(r"Collected : (\d+)", told.stderr)[1]), taken, *(int(it[1].replace(",", "")) if it else 0 for it in steps)
 
 
 def main():
     program = os.path.abspath(sys.argv[1] if len(sys.argv) > 1 else "crates/swp/out/swp")
     if not os.path.exists(program):
         sys.exit(f"{program} is not there: ./swp-build proves and builds it")
-    print("| block | bare, a block | nodes, a block | ratio | bare, a frame | nodes, a frame | ratio |")
-    print("|---|---|---|---|---|---|---|")
+    print("| block | bare, a block | nodes, a block | ratio | bare, a frame | nodes, a frame | ratio | its turns | ratio without |")
+    print("|---|---|---|---|---|---|---|---|---|")
     with tempfile.TemporaryDirectory() as folder:
         for name, block in BLOCKS.items():
             cells, frames = [], []
             for head in (BARE, NODES):
-                start, few, before = counted(program, head, folder)
-                all_of, taken, behind = counted(program, head + block * TIMES, folder)
+                start, few, before, settled = counted(program, head, folder)
+                all_of, taken, behind, passed = counted(program, head + block * TIMES, folder)
                 cells.append((all_of - start) / TIMES)
                 frames.append((behind - before) / (taken - few) if taken > few else None)
+                turns = (passed - settled) / (taken - few) if taken > few else None
             ends = [f"{it:,.0f}" if it else "" for it in frames] + [f"{frames[1] / frames[0]:.2f}" if frames[0] else ""]
+            ends += [f"{turns:,.0f}", f"{(frames[1] - turns) / frames[0]:.2f}"] if frames[0] else ["", ""]
             print(f"| {name} | {cells[0]:,.0f} | {cells[1]:,.0f} | {cells[1] / cells[0]:.2f} | {' | '.join(ends)} |")
 
 
