@@ -65,7 +65,7 @@ pub record HasBareRoomToSettle (w : BareWorld) : Type 0 where
   pub few : rounds_played plays < 400000000
 
 -- so many of the lines that were stepped may count as so many rounds
-pub record MayCountAsRounds (w : BareWorld) (lines rounds : ℕ) : Type 0 where
+pub record MayCountBare (w : BareWorld) (lines rounds : ℕ) : Type 0 where
   pub stepped : lines ≤ w.stepped
   pub room : w.rounds + rounds < 2 ^ 32
 

@@ -17,7 +17,7 @@ use Rattle.world.specs.declared.world_steps.Below.TheVariants.{Bare, Nodes}
 use Rattle.world.specs.declared.fault.WorldFault.{WorldFault}
 use Rattle.world.specs.declared.fault.WorldFault.TheVariants as fault
 use Rattle.world.specs.Lines.{damaged_by}
-use Rattle.world.specs.BareWorlds.{MayCountAsRounds as MayCountBare, WorldStandsFor, bare_entries}
+use Rattle.world.specs.BareWorlds.{MayCountBare, WorldStandsFor, bare_entries}
 
 -- the header that the world was made of
 abbrev pub world_header : World → Header
@@ -99,7 +99,7 @@ pub record MayOpen (w : World) (most : ℕ) : Type 0 where
 
 -- The open line came to so many rounds: its parts are the lines of these rounds, behind which all links are at rest, and behind no fewer; or
 -- there are as many as the line allows.
-pub record HasSettled (w : World) (header : Header) (plays : List Play) (most : ℕ) (parts : List Line) (rounds : ℕ) : Type 0 where
+pub record HasComeTo (w : World) (header : Header) (plays : List Play) (most : ℕ) (parts : List Line) (rounds : ℕ) : Type 0 where
   pub within : IsWorldWithin w header plays most parts
   pub lines_are : lines_played header (plays ++ map Said parts) ≡ lines_played header (plays ++ replicate rounds Round)
   pub rounds_are : rounds ≡ rounds_to_rest header plays most
@@ -109,7 +109,7 @@ pub record MayClose (w : World) (rounds : ℕ) : Type 0 where
   pub plays : List Play
   pub most : ℕ
   pub parts : List Line
-  pub settled : HasSettled w (world_header w) plays most parts rounds
+  pub settled : HasComeTo w (world_header w) plays most parts rounds
 
 -- a line that lets the links settle is marked where it may be opened, and how many rounds it came to where it may be closed
 abbrev pub MayBeMarked : World → Entry → Type 0

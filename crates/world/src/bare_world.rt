@@ -41,7 +41,7 @@ pub(crate) struct BareWorld {
 }
 
 impl BareWorld {
-    ghost use Rattle.world.specs.BareWorlds.{WorldStandsFor, HasBareRoom, HasBareRoomToSettle, MayCountAsRounds, IsFaultOf};
+    ghost use Rattle.world.specs.BareWorlds.{WorldStandsFor, HasBareRoom, HasBareRoomToSettle, MayCountBare, IsFaultOf};
     ghost use Rattle.world.specs.BareWorlds.{bare_header, bare_entries, with_steps};
 
     /// The world that a header names: both ends of its link are Up in session 0, and no frame is on its way.
@@ -156,7 +156,7 @@ impl BareWorld {
 
     /// From now on so many of the lines that were stepped count as so many rounds, whose lines they were.
     pub(crate) fn count_as_rounds(&mut self, lines: u32, rounds: u32)
-        requires { MayCountAsRounds self.old lines rounds }
+        requires { MayCountBare self.old lines rounds }
         ensures stands { (plays others : List Play) (t : History) → WorldStandsFor self.old (bare_header self.old) plays t
             → lines_played (bare_header self.old) plays ≡ lines_played (bare_header self.old) others
             → AllByRecursion (IsPlayFor (bare_header self.old)) others → AreFewWithParts others → lines_said others ≡ lines_said plays - lines

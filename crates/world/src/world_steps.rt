@@ -121,7 +121,7 @@ pub struct World {
 
 impl World {
     ghost use Rattle.world.specs.Worlds.{IsWorldAt, HasRoomForLine, HasRoomToSettle, IsFaultThere, world_header, world_entries};
-    ghost use Rattle.world.specs.Worlds.{StandsBehind, IsWorldWithin, HasRoomForPart, HasSettled, IsPartLine, MayBeMarked};
+    ghost use Rattle.world.specs.Worlds.{StandsBehind, IsWorldWithin, HasRoomForPart, HasComeTo, IsPartLine, MayBeMarked};
     ghost use Rattle.lines_told.specs.Below.{frames_below, runs_below};
 
     /// The world that a header names. Below a bare one both ends of its link are Up in session 0, and no frame is on its way; below that
@@ -193,7 +193,7 @@ impl World {
         ensures opens { (plays : List Play) (most : ℕ) → IsWorldAt self.old (world_header self.old) plays → entry.now ≡ Echo (line.Settle most)
             → IsWorldWithin self.new (world_header self.old) plays most [] }
         ensures closes { (plays : List Play) (most : ℕ) (parts : List Spoken) (rounds : ℕ) → entry.now ≡ Settled rounds
-            → HasSettled self.old (world_header self.old) plays most parts rounds
+            → HasComeTo self.old (world_header self.old) plays most parts rounds
             → IsWorldAt self.new (world_header self.old) (plays ++ replicate rounds Round) }
         ensures entries { world_entries self.new ≡ world_entries self.old }
         ensures header { world_header self.new ≡ world_header self.old }

@@ -9,7 +9,7 @@ use Rattle.lines_told.specs.Plays.{Play, lines_played, rests_behind, round_behin
 use Rattle.lines_told.specs.Plays.Play.{Said, Round}
 use Rattle.lines_told.proofs.Plays.{played_more, round_first, round_last}
 use Rattle.world.specs.declared.world_steps.World.{World}
-use Rattle.world.specs.Worlds.{HasSettled, IsWorldAt, IsWorldWithin, StandsBehind, world_header}
+use Rattle.world.specs.Worlds.{HasComeTo, IsWorldAt, IsWorldWithin, StandsBehind, world_header}
 use Rattle.world.proofs.Playing.{played_parts, rests_alike}
 
 -- ## A round more
@@ -128,7 +128,7 @@ went_all {k = k} h is = let so_far = h.left 0 (omega (arith, is)) in omega (arit
 -- so the line has settled
 pub settled_so : {w : World} {header : Header} {plays : List Play} {most k : ℕ} {short : Bool} {before now : List Entry}
     → WentOn w header plays most k short before now → k ≡ rounds_to_rest header plays most
-    → (parts : List Line) × HasSettled w header plays most parts k
+    → (parts : List Line) × HasComeTo w header plays most parts k
 settled_so h is = (h.parts, record { within = h.within; lines_are = h.lines_are; rounds_are = is })
 
 -- ## The world's own header
@@ -160,12 +160,12 @@ was_long false later stays long = refl
 
 -- what is said of a world under its own header is said under any that it stands below
 pub under : {w : World} {plays : List Play} {most : ℕ} {parts : List Line} {k : ℕ} (header other : Header) → header ≡ other
-    → HasSettled w header plays most parts k → HasSettled w other plays most parts k
-under {w} {plays} {most} {parts} {k} header other same h = let P : Header → Type 0 = λ x. HasSettled w x plays most parts k in subst P same h
+    → HasComeTo w header plays most parts k → HasComeTo w other plays most parts k
+under {w} {plays} {most} {parts} {k} header other same h = let P : Header → Type 0 = λ x. HasComeTo w x plays most parts k in subst P same h
 
 pub settles_so : (mid last : World) (header : Header) (plays : List Play) (most k : ℕ) → IsWorldWithin mid header plays most []
-    → ((ps : List Play) → IsWorldWithin mid (world_header mid) ps most [] → (parts : List Line) × HasSettled last (world_header mid) ps most parts k)
-    → (parts : List Line) × HasSettled last header plays most parts k
+    → ((ps : List Play) → IsWorldWithin mid (world_header mid) ps most [] → (parts : List Line) × HasComeTo last (world_header mid) ps most parts k)
+    → (parts : List Line) × HasComeTo last header plays most parts k
 settles_so mid last header plays most k within settled =
     let z = settled plays (own_within mid header plays most [] within) in
     (z.0, under (world_header mid) header within.header_is z.1)

@@ -9,7 +9,7 @@ ghost use Rattle.lines_told.specs.Plays.{Play, lines_played, round_behind, round
 ghost use Rattle.lines_told.specs.Plays.Play.{Round};
 ghost use Rattle.world.specs.declared.fault.WorldFault.TheVariants as fault;
 ghost use Rattle.world.specs.RoundParts.{has_to_take, taking_below};
-ghost use Rattle.world.specs.Worlds.{HasRoomForPart, HasSettled, IsPartLine, IsWorldAt, IsWorldWithin, StandsBehind, world_header};
+ghost use Rattle.world.specs.Worlds.{HasRoomForPart, HasComeTo, IsPartLine, IsWorldAt, IsWorldWithin, StandsBehind, world_header};
 ghost use Rattle.world_settle.specs.Room.{HasRoomForParts, HasRoomForRounds, IsOpenFor};
 
 use crate::noting::note_all;
@@ -108,7 +108,7 @@ fn go_round<W: Watch>(world: &mut World, watch: &mut W) -> Result<(), WorldFault
 fn go_rounds<W: Watch>(world: &mut World, rounds: u32, watch: &mut W) -> Result<u32, WorldFault>
     requires { IsOpenFor world.old rounds }
     ensures settled { (plays : List Play) → IsWorldWithin world.old (world_header world.old) plays rounds []
-        → IfOk result (λ r. (parts : List Spoken) × HasSettled world.new (world_header world.old) plays rounds parts r) }
+        → IfOk result (λ r. (parts : List Spoken) × HasComeTo world.new (world_header world.old) plays rounds parts r) }
     ensures noted { (plays : List Play) → IsWorldWithin world.old (world_header world.old) plays rounds []
         → IfOk result (λ r. W.is_short watch.new ≡ false
         → W.noted watch.new ≡ W.noted watch.old ++ told_of_rounds (world_header world.old) plays r) }

@@ -5,7 +5,7 @@ use Rattle.trace_model.specs.declared.line.Line.{Line}
 use Rattle.lines_told.specs.Plays.{round_behind, told_behind}
 use Rattle.lines_told.specs.Plays.Play.{Said}
 use Rattle.world.specs.declared.world_steps.World.{World}
-use Rattle.world.specs.Worlds.{HasSettled, IsWorldWithin, world_header}
+use Rattle.world.specs.Worlds.{HasComeTo, IsWorldWithin, world_header}
 use Rattle.world_settle.proofs.Going.{WentOn, asked, begun, own_within, rests_now, settled_so, was_long, went_all, went_more}
 use Rattle.world_settle.proofs.settling.go_rounds.Goals as goal
 
@@ -73,5 +73,5 @@ pub returns-clause-settled : goal.returns-clause-settled
 returns-clause-settled g c plays within =
     let h = c.loop-done.invariant.goes plays within in
     let last : c.loop-done.done ≡ c.args.rounds = omega (arith, c.loop-done-test.false, c.loop-done.auto.done-end) in
-    let R : ℕ → Type 0 = λ r. (parts : List Line) × HasSettled c.loop-done.world (world_header c.args.world.now) plays c.args.rounds parts r in
+    let R : ℕ → Type 0 = λ r. (parts : List Line) × HasComeTo c.loop-done.world (world_header c.args.world.now) plays c.args.rounds parts r in
     subst R last (settled_so h (went_all h last))
