@@ -1,7 +1,6 @@
 //! The sync identifiers that are kept: sorted pairs of host and identifier.
-ghost use Rattle.std.specs.Prelude.{◌≡◌, ℕ, ◌<◌, ◌≤◌, nat_lt};
-ghost use Rattle.std.specs.List.{prefix_len};
-ghost use Rattle.sorted_rows.specs.Rows.{AreRows, row_of, with_row, without_row};
+ghost use Rattle.std.specs.Prelude.{◌≡◌, ℕ, ◌<◌, ◌≤◌};
+ghost use Rattle.sorted_rows.specs.Rows.{AreRows, IsPlace, row_of, with_row};
 ghost use Rattle.hci_tables.specs.Tables.{sync_host, is_kept_sync};
 
 use arrayvec::ArrayVec;
@@ -9,17 +8,12 @@ use arrayvec::ArrayVec;
 /// The sync identifiers that are kept, as pairs of host and identifier.
 pub(crate) type Syncs = ArrayVec<(u8, u16), 7>;
 
-// How many pairs stand before a host.
-fn place_in(syncs: &[(u8, u16)], host: u8) -> usize
-    ensures { result ≡ prefix_len (λ pair. nat_lt (sync_host pair) host) syncs.now }
+// Where the pair of a host stands, or where it would be put.
+fn place_in(syncs: &[(u8, u16)], host: u8) -> Result<usize, usize>
+    requires { AreRows sync_host 1 8 syncs.now }
+    ensures { IsPlace sync_host host syncs.now result }
 {
-    syncs.iter().take_while(|pair| pair.0 < host).count()
-}
-
-fn take_out(syncs: &mut Syncs, host: u8)
-    ensures { syncs.new.items ≡ without_row sync_host host syncs.old.items }
-{
-    syncs.retain(|pair| pair.0 != host);
+    syncs.binary_search_by_key(&host, |pair| pair.0)
 }
 
 /// The identifier of a host is kept, in place of the one that was.
@@ -29,9 +23,10 @@ pub(crate) fn keep(syncs: &mut Syncs, host: u8, id: u16)
     requires host { host ≤ 7 }
     ensures { syncs.new.items ≡ with_row sync_host (host, id) syncs.old.items }
 {
-    take_out(syncs, host);
-    let at = place_in(syncs.as_slice(), host);
-    syncs.insert(at, (host, id));
+    match place_in(syncs.as_slice(), host) {
+        Ok(at) => syncs.as_mut_slice()[at] = (host, id),
+        Err(at) => syncs.insert(at, (host, id)),
+    }
 }
 
 /// Whether this is the identifier that is kept of a host.

@@ -1,7 +1,7 @@
 //! The table of pipes.
-ghost use Rattle.std.specs.Prelude.{◌≡◌, nat_lt};
-ghost use Rattle.std.specs.List.{prefix_len};
-ghost use Rattle.pipe_table.specs.PipeRows.{pipe_at, without_pipe, with_opened, all_closed};
+ghost use Rattle.std.specs.Prelude.{◌≡◌, ◌↔◌, IsTrue, IsSome};
+ghost use Rattle.sorted_rows.specs.Rows.{IsPlace};
+ghost use Rattle.pipe_table.specs.PipeRows.{ArePipeRows, IsDynamic, pid_of, pipe_at, with_pipe, without_pipe, with_opened, all_closed};
 
 use crate::{FIRST_DYNAMIC, FIRST_RESERVED, PipeRow};
 use arrayvec::ArrayVec;
@@ -66,9 +66,7 @@ impl PipeTable {
         requires { IsDynamic row.pid }
         ensures { self.new ≡ with_pipe self.old row }
     {
-        take_out(&mut self.rows, row.pid);
-        let place = place_of(self.rows.as_slice(), row.pid);
-        self.rows.insert(place, row);
+        put(&mut self.rows, row);
     }
 
     /// Takes a pipe out, and says whether there was one.
@@ -76,9 +74,7 @@ impl PipeTable {
         ensures removed { self.new ≡ without_pipe self.old pid }
         ensures found { IsTrue result ↔ IsSome (pipe_at self.old pid) }
     {
-        let found = self.find(pid).is_some();
-        take_out(&mut self.rows, pid);
-        found
+        take_out(&mut self.rows, pid)
     }
 
     /// Takes all pipes of a host out.
@@ -93,9 +89,7 @@ impl PipeTable {
         ensures set { self.new ≡ with_opened self.old pid opened }
         ensures found { IsTrue result ↔ IsSome (pipe_at self.old pid) }
     {
-        let found = self.find(pid).is_some();
-        set_row_opened(self.rows.as_mut_slice(), pid, opened);
-        found
+        set_row_opened(self.rows.as_mut_slice(), pid, opened)
     }
 
     /// Closes all pipes.
@@ -147,32 +141,62 @@ impl Clone for PipeTable {
     }
 }
 
+// Where the row of a pipe stands, or where it would be put.
+fn place_of(rows: &[PipeRow], pid: u8) -> Result<usize, usize>
+    requires { ArePipeRows rows.now }
+    ensures { IsPlace pid_of pid rows.now result }
+{
+    rows.binary_search_by_key(&pid, |row| row.pid)
+}
+
 fn row_of(rows: &[PipeRow], pid: u8) -> Option<PipeRow>
+    requires { ArePipeRows rows.now }
     ensures { result ≡ pipe_at rows.now pid }
 {
-    rows.iter().copied().find(|row| row.pid == pid)
+    match place_of(rows, pid) {
+        Ok(at) => Some(rows[at]),
+        Err(_) => None,
+    }
 }
 
-// How many rows stand before the place of a pipe.
-fn place_of(rows: &[PipeRow], pid: u8) -> usize
-    ensures { result ≡ prefix_len (λ row. nat_lt row.pid pid) rows.now }
+fn put(rows: &mut ArrayVec<PipeRow, 110>, row: PipeRow)
+    requires sorted { ArePipeRows rows.old.items }
+    requires dynamic { IsDynamic row.pid }
+    ensures { rows.new.items ≡ with_pipe rows.old.items row }
 {
-    rows.iter().take_while(|row| row.pid < pid).count()
+    match place_of(rows.as_slice(), row.pid) {
+        Ok(at) => rows.as_mut_slice()[at] = row,
+        Err(at) => rows.insert(at, row),
+    }
 }
 
-fn take_out(rows: &mut ArrayVec<PipeRow, 110>, pid: u8)
-    ensures { rows.new.items ≡ without_pipe rows.old.items pid }
+// Takes the row of a pipe out, and says whether there was one.
+fn take_out(rows: &mut ArrayVec<PipeRow, 110>, pid: u8) -> bool
+    requires { ArePipeRows rows.old.items }
+    ensures removed { rows.new.items ≡ without_pipe rows.old.items pid }
+    ensures found { IsTrue result ↔ IsSome (pipe_at rows.old.items pid) }
 {
-    rows.retain(|row| row.pid != pid);
-}
-
-fn set_row_opened(rows: &mut [PipeRow], pid: u8, opened: bool)
-    ensures { rows.new ≡ with_opened rows.old pid opened }
-{
-    for row in rows.iter_mut() {
-        if row.pid == pid {
-            *row = row.as_opened(opened);
+    match place_of(rows.as_slice(), pid) {
+        Ok(at) => {
+            rows.remove(at);
+            true
         }
+        Err(_) => false,
+    }
+}
+
+// Opens or closes the row of a pipe, and says whether there was one.
+fn set_row_opened(rows: &mut [PipeRow], pid: u8, opened: bool) -> bool
+    requires { ArePipeRows rows.old }
+    ensures set { rows.new ≡ with_opened rows.old pid opened }
+    ensures found { IsTrue result ↔ IsSome (pipe_at rows.old pid) }
+{
+    match place_of(rows, pid) {
+        Ok(at) => {
+            rows[at] = rows[at].as_opened(opened);
+            true
+        }
+        Err(_) => false,
     }
 }
 

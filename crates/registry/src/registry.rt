@@ -1,8 +1,8 @@
 //! The registry.
-ghost use Rattle.std.specs.Prelude.{◌≡◌, ◌≤◌, ◌==◌, nat_lt, length};
-ghost use Rattle.std.specs.List.{list_all, prefix_len};
-ghost use Rattle.sorted_rows.specs.Rows.{without_row};
-ghost use Rattle.registry.specs.Values.{place_of_value, is_default};
+ghost use Rattle.std.specs.Prelude.{◌≡◌, ◌≤◌, ◌==◌, length};
+ghost use Rattle.std.specs.List.{list_all};
+ghost use Rattle.sorted_rows.specs.Rows.{AreRows, IsPlace, with_row, without_row};
+ghost use Rattle.registry.specs.Values.{IsPresent, place_of_value, is_default};
 
 use crate::value::{RegValue, SESSION_IDENTITY, place};
 use arrayvec::ArrayVec;
@@ -98,10 +98,7 @@ impl Registry {
         requires { IsPresent value }
         ensures { self.new ≡ with_row place_of_value value self.old }
     {
-        let place = value.place();
-        take_out(&mut self.values, place);
-        let at = place_in(self.values.as_slice(), place);
-        self.values.insert(at, value);
+        put_in(&mut self.values, value);
     }
 
     /// Sets all parameters of a host to their defaults.
@@ -152,18 +149,33 @@ fn all_ones(value: &[u8]) -> bool
     value.iter().all(|byte| *byte == 0xFF)
 }
 
-// How many values stand before a place.
-fn place_in(values: &[RegValue], place: u16) -> usize
-    ensures { result ≡ prefix_len (λ v. nat_lt (place_of_value v) place) values.now }
+// Where the value of a parameter stands, or where it would be put.
+fn place_in(values: &[RegValue], place: u16) -> Result<usize, usize>
+    requires { AreRows place_of_value 2 16 values.now }
+    ensures { IsPlace place_of_value place values.now result }
 {
-    values
-        .iter()
-        .take_while(|value| value.place() < place)
-        .count()
+    values.binary_search_by_key(&place, |value| value.place())
+}
+
+fn put_in(values: &mut ArrayVec<RegValue, 14>, value: RegValue)
+    requires sorted { AreRows place_of_value 2 16 values.old.items }
+    requires present { IsPresent value }
+    ensures { values.new.items ≡ with_row place_of_value value values.old.items }
+{
+    match place_in(values.as_slice(), value.place()) {
+        Ok(at) => values.as_mut_slice()[at] = value,
+        Err(at) => values.insert(at, value),
+    }
 }
 
 fn take_out(values: &mut ArrayVec<RegValue, 14>, place: u16)
+    requires { AreRows place_of_value 2 16 values.old.items }
     ensures { values.new.items ≡ without_row place_of_value place values.old.items }
 {
-    values.retain(|value| value.place() != place);
+    match place_in(values.as_slice(), place) {
+        Ok(at) => {
+            values.remove(at);
+        }
+        Err(_) => {}
+    }
 }

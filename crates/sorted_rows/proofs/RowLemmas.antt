@@ -41,21 +41,21 @@ length-rows key low high (row ∷ rows) h =
     omega arith
 
 -- where all keys are greater, none stands before, and all stand behind
-rows_before-none : {X : Type 0} (key : X → ℕ) (k low high : ℕ) (rows : List X) → k ≤ low → AreRows key low high rows → rows_before key k rows ≡ []
+pub rows_before-none : {X : Type 0} (key : X → ℕ) (k low high : ℕ) (rows : List X) → k ≤ low → AreRows key low high rows → rows_before key k rows ≡ []
 rows_before-none key k low high [] le h = refl
 rows_before-none key k low high (row ∷ rows) le h =
     let low_le = h.0 in
     cond-false (ltb (key row) k) (row ∷ rows_before key k rows) (rows_before key k rows) (le-ltb (key row) k (omega arith))
     ∙ rows_before-none key k (key row + 1) high rows (omega arith) h.2
 
-rows_behind-all : {X : Type 0} (key : X → ℕ) (k low high : ℕ) (rows : List X) → k < low → AreRows key low high rows → rows_behind key k rows ≡ rows
+pub rows_behind-all : {X : Type 0} (key : X → ℕ) (k low high : ℕ) (rows : List X) → k < low → AreRows key low high rows → rows_behind key k rows ≡ rows
 rows_behind-all key k low high [] le h = refl
 rows_behind-all key k low high (row ∷ rows) le h =
     let low_le = h.0 in
     cond-true (ltb k (key row)) (row ∷ rows_behind key k rows) (rows_behind key k rows) (lt-ltb k (key row) (omega arith))
     ∙ ap (λ behind. row ∷ behind) (rows_behind-all key k (key row + 1) high rows (omega arith) h.2)
 
-without_row-all : {X : Type 0} (key : X → ℕ) (k low high : ℕ) (rows : List X) → k < low → AreRows key low high rows → without_row key k rows ≡ rows
+pub without_row-all : {X : Type 0} (key : X → ℕ) (k low high : ℕ) (rows : List X) → k < low → AreRows key low high rows → without_row key k rows ≡ rows
 without_row-all key k low high [] le h = refl
 without_row-all key k low high (row ∷ rows) le h =
     let low_le = h.0 in
@@ -64,22 +64,22 @@ without_row-all key k low high (row ∷ rows) le h =
     ∙ ap (λ rest. row ∷ rest) (without_row-all key k (key row + 1) high rows (omega arith) h.2)
 
 -- a row below k, one at k and one above it, in the two lists round k
-before-below : {X : Type 0} (key : X → ℕ) (k : ℕ) (row : X) (rows : List X) → key row < k → rows_before key k (row ∷ rows) ≡ row ∷ rows_before key k rows
+pub before-below : {X : Type 0} (key : X → ℕ) (k : ℕ) (row : X) (rows : List X) → key row < k → rows_before key k (row ∷ rows) ≡ row ∷ rows_before key k rows
 before-below key k row rows lt = cond-true (ltb (key row) k) (row ∷ rows_before key k rows) (rows_before key k rows) (lt-ltb (key row) k lt)
 
-before-above : {X : Type 0} (key : X → ℕ) (k : ℕ) (row : X) (rows : List X) → k ≤ key row → rows_before key k (row ∷ rows) ≡ rows_before key k rows
+pub before-above : {X : Type 0} (key : X → ℕ) (k : ℕ) (row : X) (rows : List X) → k ≤ key row → rows_before key k (row ∷ rows) ≡ rows_before key k rows
 before-above key k row rows le = cond-false (ltb (key row) k) (row ∷ rows_before key k rows) (rows_before key k rows) (le-ltb (key row) k le)
 
-behind-below : {X : Type 0} (key : X → ℕ) (k : ℕ) (row : X) (rows : List X) → key row ≤ k → rows_behind key k (row ∷ rows) ≡ rows_behind key k rows
+pub behind-below : {X : Type 0} (key : X → ℕ) (k : ℕ) (row : X) (rows : List X) → key row ≤ k → rows_behind key k (row ∷ rows) ≡ rows_behind key k rows
 behind-below key k row rows le = cond-false (ltb k (key row)) (row ∷ rows_behind key k rows) (rows_behind key k rows) (le-ltb k (key row) le)
 
-behind-above : {X : Type 0} (key : X → ℕ) (k : ℕ) (row : X) (rows : List X) → k < key row → rows_behind key k (row ∷ rows) ≡ row ∷ rows_behind key k rows
+pub behind-above : {X : Type 0} (key : X → ℕ) (k : ℕ) (row : X) (rows : List X) → k < key row → rows_behind key k (row ∷ rows) ≡ row ∷ rows_behind key k rows
 behind-above key k row rows lt = cond-true (ltb k (key row)) (row ∷ rows_behind key k rows) (rows_behind key k rows) (lt-ltb k (key row) lt)
 
-without-same : {X : Type 0} (key : X → ℕ) (k : ℕ) (row : X) (rows : List X) → key row ≡ k → without_row key k (row ∷ rows) ≡ without_row key k rows
+pub without-same : {X : Type 0} (key : X → ℕ) (k : ℕ) (row : X) (rows : List X) → key row ≡ k → without_row key k (row ∷ rows) ≡ without_row key k rows
 without-same key k row rows same = ap (λ b. cond (not b) (row ∷ without_row key k rows) (without_row key k rows)) (eq-eqb (key row) k same)
 
-without-other : {X : Type 0} (key : X → ℕ) (k : ℕ) (row : X) (rows : List X) → (key row ≡ k → ⊥) → without_row key k (row ∷ rows) ≡ row ∷ without_row key k rows
+pub without-other : {X : Type 0} (key : X → ℕ) (k : ℕ) (row : X) (rows : List X) → (key row ≡ k → ⊥) → without_row key k (row ∷ rows) ≡ row ∷ without_row key k rows
 without-other key k row rows other = ap (λ b. cond (not b) (row ∷ without_row key k rows) (without_row key k rows)) (ne_eqb (key row) k other)
 
 pub AreRows-with_row : {X : Type 0} (key : X → ℕ) (low high : ℕ) (row : X) (rows : List X) → AreRows key low high rows → low ≤ key row

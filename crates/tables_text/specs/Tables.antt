@@ -44,6 +44,10 @@ pipe_line row = line (
 abbrev pub static_line : ℕ × ℕ → List ℕ
 static_line static = line (codes "static" ∷ byte_word static.0 ∷ byte_word static.1 ∷ [])
 
+-- the words of a line before the bytes of a value, a space behind each
+abbrev pub value_words : ℕ → ℕ → ℕ → List ℕ
+value_words host gate param = codes "reg" ++ (32 ∷ (byte_word host ++ (32 ∷ (byte_word gate ++ (32 ∷ (byte_word param ++ 32 ∷ []))))))
+
 abbrev pub value_line : RegValue → List ℕ
 value_line value = line (
     codes "reg" ∷ byte_word value.host ∷ byte_word value.gate ∷ byte_word value.param ∷ hex_or_dash value.value.items ∷ []

@@ -1,6 +1,33 @@
-use Rattle.std.proofs.Common.{rules}
-use Rattle.arrayvec.proofs.ArrayVecLemmas.{filter-from_retain}
+use Rattle.std.proofs.Common.{List, refl, sym, subst, ap, ◌∙◌}
+use Rattle.std.specs.Prelude.{Ok, Err, is_some}
+use Rattle.sorted_rows.specs.Rows.{IsPlace}
+use Rattle.sorted_rows.proofs.PlaceLemmas.{remove-is_taken_out, without_row-at_gap, row_of-at_place, row_of-at_gap}
+use Rattle.pipe_table.specs.declared.row.PipeRow.{PipeRow}
+use Rattle.pipe_table.specs.PipeRows.{pid_of}
 use Rattle.pipe_table.proofs.table.take_out.Goals as goal
 
-pub returns : goal.returns
-returns c = filter-from_retain _ _ _ (λ x b f' y called. search rules) _ _ c.retain.ensures.filtered
+pub returns-in-Ok-clause-removed : goal.returns-in-Ok-clause-removed
+returns-in-Ok-clause-removed c =
+    let P : List PipeRow → Type 0 = λ rows. IsPlace pid_of c.args.pid rows (Ok c.in-Ok.at) in
+    let place = subst P c.as_slice.ensures.value c.in-Ok.ensures in
+    c.remove.ensures.items ∙ remove-is_taken_out pid_of c.args.pid 2 112 c.args.rows.now.items c.in-Ok.at c.requires place
+
+pub returns-in-Ok-clause-found : goal.returns-in-Ok-clause-found
+returns-in-Ok-clause-found c =
+    let P : List PipeRow → Type 0 = λ rows. IsPlace pid_of c.args.pid rows (Ok c.in-Ok.at) in
+    let place = subst P c.as_slice.ensures.value c.in-Ok.ensures in
+    let found = ap is_some (row_of-at_place pid_of c.args.pid 2 112 c.args.rows.now.items c.in-Ok.at c.remove.result c.requires place) in
+    ((λ _. found), (λ _. refl))
+
+pub returns-in-Err-clause-removed : goal.returns-in-Err-clause-removed
+returns-in-Err-clause-removed c =
+    let P : List PipeRow → Type 0 = λ rows. IsPlace pid_of c.args.pid rows (Err c.in-Err.field-0) in
+    let place = subst P c.as_slice.ensures.value c.in-Err.ensures in
+    without_row-at_gap pid_of c.args.pid c.args.rows.now.items c.in-Err.field-0 place
+
+pub returns-in-Err-clause-found : goal.returns-in-Err-clause-found
+returns-in-Err-clause-found c =
+    let P : List PipeRow → Type 0 = λ rows. IsPlace pid_of c.args.pid rows (Err c.in-Err.field-0) in
+    let place = subst P c.as_slice.ensures.value c.in-Err.ensures in
+    let none = ap is_some (row_of-at_gap pid_of c.args.pid c.args.rows.now.items c.in-Err.field-0 place) in
+    ((λ found. none ∙ found), (λ found. sym none ∙ found))
