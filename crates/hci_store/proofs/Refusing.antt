@@ -9,7 +9,7 @@ use Rattle.journal_laws.specs.Writes.{AreRead}
 use Rattle.nv_journal.specs.Faults.{is_known, IsKnown, fault}
 use Rattle.nv_journal.specs.Refusals as journal_refusals
 use Rattle.hci_store.specs.Image.{first_other, image_fault}
-use Rattle.hci_store.specs.Refusals.{AreRecordsRefused}
+use Rattle.hci_store.specs.Refusals.{AreRecordsRefused, IsOnlyRead}
 
 pub unknown_is_told : (content : List ℕ) → is_known (journal content).head.version ≡ false → image_fault content ≡ fault content
 unfolding image_fault
@@ -69,6 +69,12 @@ module _ {N : Type 0} (reads : N → Bool → N → Type 0) (faults : N → ℕ)
   unread_of f (inl unread, kept) memory t = (unread.read, kept t)
   unread_of f (inr unsound, kept) memory t = absurd (subst journal_refusals.IsImageFault memory unsound.fault_is)
 
+  -- what is no fault of the memory was found by reads that went through
+  pub only_read : (f : JournalFault) → AreRecordsRefused reads faults tells content first new f → ¬ (f ≡ NvFault)
+      → IsOnlyRead reads tells content first new
+  only_read f (inl unread, kept) image = absurd (image unread.fault)
+  only_read f (inr unsound, kept) image = record { read = unsound.read; kept = kept }
+
   pub fault_of : (f : JournalFault) → AreRecordsRefused reads faults tells content first new f
       → (f ≡ NvFault) ⊎ (f ≡ GenerationsSpent) ⊎ journal_refusals.IsImageFault f
   fault_of f (inl unread, kept) = inl unread.fault
@@ -87,3 +93,8 @@ memory_is_no_image f memory image = subst journal_refusals.IsImageFault memory i
 pub start_is_no_image : (f : JournalFault) → (f ≡ NvFault) ⊎ (f ≡ GenerationsSpent) → journal_refusals.IsImageFault f → ⊥
 start_is_no_image f (inl memory) image = subst journal_refusals.IsImageFault memory image
 start_is_no_image f (inr spent) image = subst journal_refusals.IsImageFault spent image
+
+-- what a start behind the records finds, where its fault is none of the memory
+pub where_spent : {A : Type 0} (f : JournalFault) → (f ≡ NvFault) ⊎ (f ≡ GenerationsSpent) → ¬ (f ≡ NvFault) → (f ≡ GenerationsSpent → A) → A
+where_spent f (inl memory) other found = absurd (other memory)
+where_spent f (inr spent) other found = found spent

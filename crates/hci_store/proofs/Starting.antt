@@ -23,6 +23,12 @@ was_used s older = by_bank s.in_use refl
     by_bank None is = absurd (older (ap (λ p. (option_map_or (λ _. s) p formatted).version) is))
     by_bank (Some side) is = (ap (λ p. option_map_or (λ _. s) p formatted) is, ap (λ p. option_map_or (λ _. []) p format_writes) is)
 
+-- so nothing was written of it
+pub untouched : {M : Type 0} (writes : M → ℕ → List ℕ → Bool → M → Type 0) (s j : State) (old new : M) → j ≡ started_state s → j.version ≢ 2
+    → AreMade writes (start_writes s) old true new → new ≡ old
+untouched writes s j old new is older made =
+    (subst (λ l. AreMade writes l old true new) (was_used s (subst (λ (t : State). t.version ≢ 2) is older)).1 made).1
+
 first_version : (v : ℕ) → IsTrue (v == 1 || v == 2) → v ≢ 2 → v ≡ 1
 first_version v known older = grind (arith, nat_tests)
 
@@ -41,8 +47,7 @@ module _ (content : List ℕ) (s j : State) (says : Says content s) (is : j ≡ 
 
   pub not_written : {M : Type 0} (writes : M → ℕ → List ℕ → Bool → M → Type 0) (old new : M) → j.version ≢ 2
       → AreMade writes (start_writes s) old true new → new ≡ old
-  not_written writes old new older made =
-      (subst (λ l. AreMade writes l old true new) (was_used s (subst (λ (t : State). t.version ≢ 2) is older)).1 made).1
+  not_written writes old new older made = untouched writes s j old new is older made
 
   pub spent : (new : List ℕ) → j.version ≢ 2 → j.generation ≡ 4294967295 → are_commands (records content) ≡ true → new ≡ content → IsSpent content new
   spent new older last all same =

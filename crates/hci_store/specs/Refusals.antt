@@ -23,3 +23,8 @@ pub record IsSpent (old new : List ℕ) : Type 0 where
   pub generation : (journal old).head.generation ≡ 4294967295
   pub sound : image_fault old ≡ None
   pub kept : new ≡ old
+
+-- at most 37 reads were made, all of which went through, and nothing was written: a memory that tells its content says what it said
+pub record IsOnlyRead {N : Type 0} (reads : N → Bool → N → Type 0) (tells : Bool) (content : N → List ℕ) (old new : N) : Type 0 where
+  pub read : AreRead reads 37 old true new
+  pub kept : IsTrue tells → content new ≡ content old

@@ -40,7 +40,7 @@ impl<N: Nv + Drop> Model for Store<N> {
 }
 
 impl<N: Nv + Drop> Store<N> {
-    ghost use Rattle.hci_store.specs.Refusals.{AreRecordsRefused, IsSpent};
+    ghost use Rattle.hci_store.specs.Refusals.{AreRecordsRefused, IsSpent, IsOnlyRead};
     ghost use Rattle.hci_store.specs.Stored.{HoldsTables, Keeps, FindsSame};
 
     /// The tables of a memory of 65,536 bytes, all pipes closed, without any write: one that has no bank with an open gate reads as
@@ -79,7 +79,8 @@ impl<N: Nv + Drop> Store<N> {
 
     /// The tables of a memory of 65,536 bytes, all pipes closed, ready to keep commands. One that has no bank with an open gate is
     /// formatted first. One of version 01 is written anew as a snapshot of version 02 in the other bank. A memory that `peek`
-    /// refuses is refused, and so is one where a write fails or no generation is left: the next start finds what this one found.
+    /// refuses is refused, and so is one where a write fails or no generation is left: the next start finds what this one found. Where
+    /// no call of the memory failed, one that is refused was read alone, and says what it said.
     pub fn start(nv: N) -> Result<Self, StartRefused<N>>
         requires { N.capacity nv ≡ 65536 }
         ensures live { IfOk result (λ s. IsTrue s.journal.live) }
@@ -100,6 +101,7 @@ impl<N: Nv + Drop> Store<N> {
         ensures rose { IfErr result (λ e. e.fault ≡ JournalFault.NvFault → Rose (N.faults nv) (N.faults e.nv)) }
         ensures image { IsTrue N.tells → IfErr result (λ e. IsImageFault e.fault → image_fault (N.content nv) ≡ Some e.fault) }
         ensures left { IsTrue N.tells → IfErr result (λ e. FindsSame (N.content nv) (N.content e.nv)) }
+        ensures refused { IfErr result (λ e. e.fault ≢ JournalFault.NvFault → IsOnlyRead N.reads N.tells N.content nv e.nv) }
         ensures state { IsTrue N.tells → IfOk result (λ s. s.journal.state ≡ ready_state (N.content nv)) }
         ensures made { IsTrue N.tells
             → IfOk result (λ s. HasWritten N.reads N.writes N.content (ready_writes (N.content nv)) nv true s.journal.nv) }

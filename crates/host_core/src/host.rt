@@ -65,7 +65,7 @@ impl<N: Nv + Drop> Host<N> {
     /// # Errors
     ///
     /// `NoMemory` without memory: nothing is read or written then. `Journal` where its store doesn't start. The memory is handed back,
-    /// and the next boot finds what this one found.
+    /// and the next boot finds what this one found. Where none of its calls failed, nothing was written.
     pub fn boot(alloc: Global, host: u8, nv: N) -> Result<Self, BootRefused<N>>
         requires some { 1 ≤ host }
         requires host { host ≤ 7 }

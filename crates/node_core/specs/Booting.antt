@@ -1,12 +1,12 @@
 -- A boot of a node: what it finds in its memory, whatever stands there, and what a boot that is refused leaves.
-use Rattle.std.specs.Prelude.{◌≡◌, ◌⊎◌, ℕ, Bool, List, map, false, Some, None, IsTrue}
+use Rattle.std.specs.Prelude.{◌≡◌, ◌≢◌, ◌⊎◌, ℕ, Bool, List, map, false, Some, None, IsTrue}
 use Rattle.swp_base.specs.Outside.{Rose}
 use Rattle.swp_base.specs.declared.link_terms.Role.{Role as Named}
 use Rattle.nv_journal.specs.declared.JournalFault.{JournalFault}
 use Rattle.nv_journal.specs.declared.JournalFault.TheVariants.{NvFault, GenerationsSpent}
 use Rattle.nv_journal.specs.Refusals.{IsImageFault}
 use Rattle.hci_store.specs.Image.{image_fault}
-use Rattle.hci_store.specs.Refusals.{IsSpent}
+use Rattle.hci_store.specs.Refusals.{IsSpent, IsOnlyRead}
 use Rattle.hci_store.specs.Stored.{FindsSame}
 use Rattle.journal_laws.specs.Writes.{AreRead}
 use Rattle.hci_store.specs.Starting.{ready_state, ready_writes, HasWritten}
@@ -33,7 +33,8 @@ pub record BeginsAs {N : Type 0} (number : ℕ) (role : Named) (hosts : List ℕ
   pub init : n.tasks.init ≡ None
 
 -- A store didn't start on this memory: for a read or a write that failed, since no generation is left for the snapshot of a memory of
--- version 01, or for what is wrong with the memory. The next start finds what this one found.
+-- version 01, or for what is wrong with the memory. The next start finds what this one found. Where no call of the memory failed, nothing
+-- was written.
 pub record IsStartRefused {N : Type 0} (reads : N → Bool → N → Type 0) (writes : N → ℕ → List ℕ → Bool → N → Type 0) (faults : N → ℕ) (tells : Bool)
     (content : N → List ℕ) (old new : N) (f : JournalFault) : Type 0 where
   pub known : (f ≡ NvFault) ⊎ (f ≡ GenerationsSpent) ⊎ IsImageFault f
@@ -41,6 +42,7 @@ pub record IsStartRefused {N : Type 0} (reads : N → Bool → N → Type 0) (wr
   pub spent : IsTrue tells → f ≡ GenerationsSpent → IsSpent (content old) (content new)
   pub image : IsTrue tells → IsImageFault f → image_fault (content old) ≡ Some f
   pub left : IsTrue tells → FindsSame (content old) (content new)
+  pub unwritten : f ≢ NvFault → IsOnlyRead reads tells content old new
   pub torn : IsTrue tells → f ≡ NvFault
       → (AreRead reads 37 old false new × (content new ≡ content old)) ⊎ HasWritten reads writes content (ready_writes (content old)) old false new
 

@@ -47,7 +47,7 @@ impl<N: Nv + Drop> Node<N> {
     ///
     /// `NoMemory` without memory for its ends: nothing is read or written then. `Journal` where its store doesn't start: for a read or
     /// a write that failed, since no generation is left for the snapshot, or for what is wrong with the memory. It is handed back,
-    /// and the next boot finds what this one found.
+    /// and the next boot finds what this one found. Where none of its calls failed, nothing was written.
     pub fn boot(
         alloc: Global,
         number: u8,

@@ -46,7 +46,7 @@ fn not_booted<N: Nv + Drop>(refused: BootRefused<N>) -> NotBooted<N>
 /// # Errors
 ///
 /// No fault without memory: nothing is read or written then. Else its store doesn't start. The memory is handed back, and the next boot
-/// finds what this one found.
+/// finds what this one found. Where none of its calls failed, nothing was written.
 pub fn boot_controller<N: Nv + Drop>(
     alloc: Global,
     nv: N,

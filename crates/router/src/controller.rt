@@ -60,7 +60,7 @@ impl<N: Nv + Drop> Controller<N> {
     /// # Errors
     ///
     /// `NoMemory` without memory: nothing is read or written then. `Journal` where its store doesn't start. The memory is handed back,
-    /// and the next boot finds what this one found.
+    /// and the next boot finds what this one found. Where none of its calls failed, nothing was written.
     pub fn boot(alloc: Global, hosts: u8, nv: N) -> Result<Self, BootRefused<N>>
         requires size { N.capacity nv ≡ 65536 }
         ensures runs { IfOk result (λ c. RunsAs c (core_kept c) (map (new_port Clf) (hosts_where (has hosts)))) }

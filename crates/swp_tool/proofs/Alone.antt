@@ -154,6 +154,16 @@ module _ {N T : Type 0} (writes : N → ℕ → List ℕ → Bool → N → Type
     heard = begun_heard false was after items same h is;
   }
 
+-- the faults of a start beside that of the memory
+pub unknown_is_other : (version : ℕ) → image.UnknownFormat version ≡ image.NvFault → ⊥
+unknown_is_other version is = cc
+
+pub record_is_other : (at : ℕ) → image.BadRecord at ≡ image.NvFault → ⊥
+record_is_other at is = cc
+
+pub spent_is_other : image.GenerationsSpent ≡ image.NvFault → ⊥
+spent_is_other is = cc
+
 -- a boot that was refused
 pub refused_ended : {N : Type 0} (reads : N → Bool → N → Type 0) (writes : N → ℕ → List ℕ → Bool → N → Type 0) (faults : N → ℕ) (nv_tells : Bool)
     (content : N → List ℕ) (tells : Bool) (form : EndForm) (is_clf : Bool) (old new : N) (fault : Option JournalFault) (input before : List ℕ)
@@ -163,11 +173,14 @@ refused_ended reads writes faults nv_tells content tells form is_clf old new Non
 refused_ended reads writes faults nv_tells content tells form is_clf old new (Some image.NvFault) input before told k =
     inl (record { nothing = (refl, λ t. refl); where_cut = k.torn told refl; same = k.left told })
 refused_ended reads writes faults nv_tells content tells form is_clf old new (Some (image.UnknownFormat version)) input before told k =
-    record { nothing = (refl, λ t. refl); why = inl (k.image told tt); same = k.left told }
+    let only = k.unwritten (unknown_is_other version) in
+    record { nothing = (refl, λ t. refl); why = inl (k.image told tt); read = only.read; same = only.kept told }
 refused_ended reads writes faults nv_tells content tells form is_clf old new (Some (image.BadRecord at)) input before told k =
-    record { nothing = (refl, λ t. refl); why = inl (k.image told tt); same = k.left told }
+    let only = k.unwritten (record_is_other at) in
+    record { nothing = (refl, λ t. refl); why = inl (k.image told tt); read = only.read; same = only.kept told }
 refused_ended reads writes faults nv_tells content tells form is_clf old new (Some image.GenerationsSpent) input before told k =
-    record { nothing = (refl, λ t. refl); why = inr (refl, k.spent told refl); same = k.left told }
+    let only = k.unwritten spent_is_other in
+    record { nothing = (refl, λ t. refl); why = inr (refl, k.spent told refl); read = only.read; same = only.kept told }
 
 -- the number of a node says whether it is the CLF's
 pub role_is : {number : ℕ} (is_clf : Bool) → number ≡ cond is_clf 0 2 → (number == 0) ≡ is_clf

@@ -6,16 +6,18 @@ use Rattle.nv_journal.specs.declared.JournalFault.TheVariants as image
 use Rattle.lone_laws.specs.alone.Ends.{EndForm}
 use Rattle.one_end.specs.Standing.{IsNotBooted}
 use Rattle.hci_store.specs.Image.{image_fault}
-use Rattle.hci_store.specs.Refusals.{IsSpent}
+use Rattle.hci_store.specs.Refusals.{IsSpent, IsOnlyRead}
 use Rattle.swp_tool.specs.declared.status.Status.{Status}
 use Rattle.swp_tool.specs.declared.status.Status.TheVariants as status
 use Rattle.swp_tool.specs.Records.{most_bytes}
 use Rattle.swp_tool.specs.Ends.{IsImageRefused, EndedSo, IsOfLone, IsOfEndWord, HasNextGeneration, IsRefusedFor, status_of_boot}
+use Rattle.swp_tool.proofs.Alone.{unknown_is_other, record_is_other, spent_is_other}
 
 -- a run is not refused for its memory, where nothing is wrong with it and no generation is needed that isn't there
-not_refused : {N : Type 0} (content : N → List ℕ) (tells : Bool) (old new : N) (fault : JournalFault) (input left before after : List ℕ)
-    → IsImageRefused content tells old new fault input left before after → image_fault (content old) ≡ None → HasNextGeneration (content old) → ⊥
-not_refused content tells old new fault input left before after h sound next = go h.why where
+not_refused : {N : Type 0} (reads : N → Bool → N → Type 0) (content : N → List ℕ) (tells : Bool) (old new : N) (fault : JournalFault)
+    (input left before after : List ℕ) → IsImageRefused reads content tells old new fault input left before after → image_fault (content old) ≡ None
+    → HasNextGeneration (content old) → ⊥
+not_refused reads content tells old new fault input left before after h sound next = go h.why where
   go : (image_fault (content old) ≡ Some fault) ⊎ ((fault ≡ image.GenerationsSpent) × IsSpent (content old) (content new)) → ⊥
   go (inl q) = cc
   go (inr (q, spent)) = next spent.version spent.generation
@@ -43,7 +45,7 @@ module _ {N : Type 0} (reads : N → Bool → N → Type 0) (writes : N → ℕ 
       let r = h.ran.1 in
       let more = more_came r.bytes r.rest input r.byte r.input_is r.most in
       absurd (omega (arith, more, few))
-  complete_ended (status.BadImage why) h kind few read write nv = absurd (not_refused content tells old new why input left before after h sound next)
+  complete_ended (status.BadImage why) h kind few read write nv = absurd (not_refused reads content tells old new why input left before after h sound next)
   complete_ended status.BadWords h kind few read write nv = absurd kind
   complete_ended (status.BadSchedule line why) h kind few read write nv = absurd kind
   complete_ended (status.Undetected line) h kind few read write nv = absurd kind
@@ -58,7 +60,7 @@ module _ {N : Type 0} (reads : N → Bool → N → Type 0) (writes : N → ℕ 
   too_many_ended status.WriteFault h kind more read write nv = absurd (write refl)
   too_many_ended status.NvFault h kind more read write nv = absurd (nv refl)
   too_many_ended (status.TooMany n) h kind more read write nv = inl (ap status.TooMany kind)
-  too_many_ended (status.BadImage why) h kind more read write nv = absurd (not_refused content tells old new why input left before after h sound next)
+  too_many_ended (status.BadImage why) h kind more read write nv = absurd (not_refused reads content tells old new why input left before after h sound next)
   too_many_ended status.BadWords h kind more read write nv = absurd kind
   too_many_ended (status.BadSchedule line why) h kind more read write nv = absurd kind
   too_many_ended (status.Undetected line) h kind more read write nv = absurd kind
@@ -76,6 +78,17 @@ image_refused reads writes faults nv_tells content old new (Some (image.BadRecor
     let found = k.image told tt in inl (cc)
 image_refused reads writes faults nv_tells content old new (Some image.GenerationsSpent) s f k is told bad nv =
     let sound = (k.spent told refl).sound in absurd (cc)
+
+-- a memory that a boot refused, while none of its calls failed, was read alone
+pub image_unwritten : {N : Type 0} (reads : N → Bool → N → Type 0) (writes : N → ℕ → List ℕ → Bool → N → Type 0) (faults : N → ℕ) (nv_tells : Bool)
+    (content : N → List ℕ) (old new : N) (fault : Option JournalFault) (s : Status) (f : JournalFault)
+    → IsNotBooted reads writes faults nv_tells content old new fault → s ≡ status_of_boot fault → s ≡ status.BadImage f
+    → IsOnlyRead reads nv_tells content old new
+image_unwritten reads writes faults nv_tells content old new None s f k is bad = absurd (cc)
+image_unwritten reads writes faults nv_tells content old new (Some image.NvFault) s f k is bad = absurd (cc)
+image_unwritten reads writes faults nv_tells content old new (Some (image.UnknownFormat version)) s f k is bad = k.unwritten (unknown_is_other version)
+image_unwritten reads writes faults nv_tells content old new (Some (image.BadRecord at)) s f k is bad = k.unwritten (record_is_other at)
+image_unwritten reads writes faults nv_tells content old new (Some image.GenerationsSpent) s f k is bad = k.unwritten spent_is_other
 
 -- a node that runs isn't refused for its memory
 pub runs_on_image : (s : Status) (f : JournalFault) → IsOfLone s → s ≡ status.BadImage f → ⊥

@@ -234,12 +234,13 @@ pub record BootedAndRan {N : Type 0} (reads : N → Bool → N → Type 0) (writ
   pub ran : RanSo writes tells form is_clf (content old) first new s input left before after
 
 -- The boot was refused, for what is wrong with the memory, or since it is of version 01 and has no generation left: nothing was read or
--- written, and the next boot finds what this one found.
-pub record IsImageRefused {N : Type 0} (content : N → List ℕ) (tells : Bool) (old new : N) (fault : JournalFault)
+-- written of the link. Of the memory at most 37 reads were made, and it says what it said.
+pub record IsImageRefused {N : Type 0} (reads : N → Bool → N → Type 0) (content : N → List ℕ) (tells : Bool) (old new : N) (fault : JournalFault)
     (input left before after : List ℕ) : Type 0 where
   pub nothing : IsNothingDone tells input left before after
   pub why : (image_fault (content old) ≡ Some fault) ⊎ ((fault ≡ GenerationsSpent) × IsSpent (content old) (content new))
-  pub same : FindsSame (content old) (content new)
+  pub read : AreRead reads 37 old true new
+  pub same : content new ≡ content old
 
 -- A read of the boot failed, and the memory is as it was, or a write of it, and those before it were made: nothing was read or written of the
 -- link, and the next boot finds what this one found.
@@ -256,7 +257,7 @@ abbrev pub EndedSo : {N : Type 0} → (N → Bool → N → Type 0) → (N → �
 EndedSo reads writes content tells form is_clf old new status.NoMemory input left before after =
     (new ≡ old) × IsNothingDone tells input left before after
 EndedSo reads writes content tells form is_clf old new (status.BadImage fault) input left before after =
-    IsImageRefused content tells old new fault input left before after
+    IsImageRefused reads content tells old new fault input left before after
 EndedSo reads writes content tells form is_clf old new status.NvFault input left before after =
     IsBootCut reads writes content tells old new input left before after
     ⊎ BootedAndRan reads writes content tells form is_clf old new status.NvFault input left before after

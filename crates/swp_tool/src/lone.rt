@@ -3,6 +3,7 @@ ghost use Rattle.std.specs.Prelude.{◌≡◌, ◌≢◌, ◌≤◌, ◌<◌, �
 ghost use Rattle.std.specs.Prelude.{◌↔◌, None, Some};
 ghost use Rattle.swp_base.specs.Outside.{Rose};
 ghost use Rattle.hci_store.specs.Image.{image_fault};
+ghost use Rattle.hci_store.specs.Refusals.{IsOnlyRead};
 ghost use Rattle.nv_journal.specs.declared.JournalFault.{JournalFault as Bad};
 ghost use Rattle.swp_tool.specs.Records.{most_bytes};
 ghost use Rattle.lone_laws.specs.alone.Lone.{Lone};
@@ -264,6 +265,7 @@ pub fn run_end<S: Source, K: Sink, N: Nv + Drop>(
     ensures refuses { IsTrue N.tells → (f : Bad) → (result.status ≡ Status.BadImage f)
         ↔ (IsRefusedFor f (N.content nv) × (result.status ≢ Status.NoMemory) × (result.status ≢ Status.NvFault)) }
     ensures untouched { (f : Bad) → result.status ≡ Status.BadImage f → (source.new ≡ source.old) × (sink.new ≡ sink.old) }
+    ensures unwritten { (f : Bad) → result.status ≡ Status.BadImage f → IsOnlyRead N.reads N.tells N.content nv result.nv }
     ensures never_begins { IsTrue N.tells → (f : Bad) → IsRefusedFor f (N.content nv) → (source.new ≡ source.old) × (sink.new ≡ sink.old) }
     ensures kind { IsOfEndWord result.status }
     ensures nv_fault { result.status ≡ Status.NvFault → Rose (N.faults nv) (N.faults result.nv) }
@@ -301,6 +303,7 @@ fn run_host<S: Source, K: Sink, N: Nv + Drop>(
     ensures refuses { IsTrue N.tells → (f : Bad) → (result.status ≡ Status.BadImage f)
         ↔ (IsRefusedFor f (N.content nv) × (result.status ≢ Status.NoMemory) × (result.status ≢ Status.NvFault)) }
     ensures untouched { (f : Bad) → result.status ≡ Status.BadImage f → (source.new ≡ source.old) × (sink.new ≡ sink.old) }
+    ensures unwritten { (f : Bad) → result.status ≡ Status.BadImage f → IsOnlyRead N.reads N.tells N.content nv result.nv }
     ensures never_begins { IsTrue N.tells → (f : Bad) → IsRefusedFor f (N.content nv) → (source.new ≡ source.old) × (sink.new ≡ sink.old) }
     ensures kind { IsOfEndWord result.status }
     ensures nv_fault { result.status ≡ Status.NvFault → Rose (N.faults nv) (N.faults result.nv) }
@@ -331,6 +334,7 @@ fn run_controller<S: Source, K: Sink, N: Nv + Drop>(
     ensures refuses { IsTrue N.tells → (f : Bad) → (result.status ≡ Status.BadImage f)
         ↔ (IsRefusedFor f (N.content nv) × (result.status ≢ Status.NoMemory) × (result.status ≢ Status.NvFault)) }
     ensures untouched { (f : Bad) → result.status ≡ Status.BadImage f → (source.new ≡ source.old) × (sink.new ≡ sink.old) }
+    ensures unwritten { (f : Bad) → result.status ≡ Status.BadImage f → IsOnlyRead N.reads N.tells N.content nv result.nv }
     ensures never_begins { IsTrue N.tells → (f : Bad) → IsRefusedFor f (N.content nv) → (source.new ≡ source.old) × (sink.new ≡ sink.old) }
     ensures kind { IsOfEndWord result.status }
     ensures nv_fault { result.status ≡ Status.NvFault → Rose (N.faults nv) (N.faults result.nv) }

@@ -8,6 +8,7 @@ ghost use Rattle.swp_tool.specs.Runs.{IsOfReplay};
 ghost use Rattle.swp_tool.specs.Transcripts.{TellsPlayed};
 ghost use Rattle.swp_tool.specs.Images.{Told, IsOfTables};
 ghost use Rattle.hci_store.specs.Image.{image_fault};
+ghost use Rattle.hci_store.specs.Refusals.{IsOnlyRead};
 ghost use Rattle.nv_journal.specs.declared.JournalFault.{JournalFault as Bad};
 ghost use Rattle.swp_tool.specs.Records.{most_bytes, IsOfRecord};
 ghost use Rattle.swp_tool.specs.Decodings.{DecodedBy};
@@ -92,6 +93,9 @@ pub fn run<S: Source, K: Sink, N: Nv + Drop>(
         ↔ (IsRefusedFor f (N.content nv) × (result.status ≢ Status.NoMemory) × (result.status ≢ Status.NvFault)) }
     ensures end_untouched { AskForAnEnd (map string_bytes words.now) →
         (f : Bad) → result.status ≡ Status.BadImage f → (source.new ≡ source.old) × (sink.new ≡ sink.old) }
+    // Of a memory that is refused at most 37 reads were made, also of one that doesn't tell its content.
+    ensures end_unwritten { AskForAnEnd (map string_bytes words.now) →
+        (f : Bad) → result.status ≡ Status.BadImage f → IsOnlyRead N.reads N.tells N.content nv result.nv }
     ensures end_never_begins { AskForAnEnd (map string_bytes words.now) → IsTrue N.tells →
         (f : Bad) → IsRefusedFor f (N.content nv) → (source.new ≡ source.old) × (sink.new ≡ sink.old) }
 

@@ -2,9 +2,10 @@
 use Rattle.std.proofs.Common.{true, refl, sym, subst}
 use Rattle.one_end.specs.Writing.{form_named}
 use Rattle.swp_base.specs.Outside.{Rose}
+use Rattle.hci_store.specs.Refusals.{IsOnlyRead}
 use Rattle.swp_tool.specs.Ends.{EndedSo}
 use Rattle.swp_tool.proofs.Alone.{booted_ended, refused_ended, lone_kind, boot_kind, refused_rose}
-use Rattle.swp_tool.proofs.Outcomes.{image_refused, runs_on_image, refused_exactly, unrefused_exactly, boots_unrefused}
+use Rattle.swp_tool.proofs.Outcomes.{image_refused, image_unwritten, runs_on_image, refused_exactly, unrefused_exactly, boots_unrefused}
 use Rattle.swp_tool.proofs.lone.run_controller.Goals as goal
 
 pub returns-in-Ok-clause-ended : goal.returns-in-Ok-clause-ended
@@ -71,3 +72,12 @@ returns-in-Ok-clause-never_begins g c tells f why =
 
 pub returns-in-Err-clause-never_begins : goal.returns-in-Err-clause-never_begins
 returns-in-Err-clause-never_begins g c tells f why = (refl, refl)
+
+pub returns-in-Ok-clause-unwritten : goal.returns-in-Ok-clause-unwritten
+returns-in-Ok-clause-unwritten g c f is = absurd (runs_on_image c.run_alone.result.status f c.run_alone.ensures.kind is)
+
+pub returns-in-Err-clause-unwritten : goal.returns-in-Err-clause-unwritten
+returns-in-Err-clause-unwritten g c f is =
+    subst (IsOnlyRead g.N.Nv.reads g.N.Nv.tells g.N.Nv.content c.args.nv) (sym c.refused_boot.ensures.memory)
+    (image_unwritten g.N.Nv.reads g.N.Nv.writes g.N.Nv.faults g.N.Nv.tells g.N.Nv.content c.args.nv c.in-Err.unbooted.nv c.in-Err.unbooted.fault
+    c.refused_boot.result.status f c.in-Err.ensures.refused c.refused_boot.ensures.status is)

@@ -47,3 +47,9 @@ returns-else-asked-clause-refuses g c = c.run_host.ensures.refuses
 
 pub returns-else-asked-clause-never_begins : goal.returns-else-asked-clause-never_begins
 returns-else-asked-clause-never_begins g c = c.run_host.ensures.never_begins
+
+pub returns-then-asked-clause-unwritten : goal.returns-then-asked-clause-unwritten
+returns-then-asked-clause-unwritten g c = c.run_controller.ensures.unwritten
+
+pub returns-else-asked-clause-unwritten : goal.returns-else-asked-clause-unwritten
+returns-else-asked-clause-unwritten g c = c.run_host.ensures.unwritten

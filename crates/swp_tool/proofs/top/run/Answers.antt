@@ -12,3 +12,6 @@ returns-in-Some-clause-end_refuses g c asked = c.run_end.ensures.refuses
 
 pub returns-in-Some-clause-end_never_begins : goal.returns-in-Some-clause-end_never_begins
 returns-in-Some-clause-end_never_begins g c asked = c.run_end.ensures.never_begins
+
+pub returns-in-Some-clause-end_unwritten : goal.returns-in-Some-clause-end_unwritten
+returns-in-Some-clause-end_unwritten g c asked = c.run_end.ensures.unwritten

@@ -6,16 +6,18 @@ use Rattle.journal_laws.specs.Journal.{records, count_of}
 use Rattle.hci_tables.specs.Tables.{no_tables, close}
 use Rattle.hci_store.specs.Image.{applied, tables_of, are_commands}
 use Rattle.hci_store.specs.Stored.{FindsSame}
+use Rattle.hci_store.specs.Refusals.{IsOnlyRead}
 use Rattle.hci_store.proofs.LeftBehind.{same_content, keeps_same, format_same, refused_same}
 use Rattle.hci_store.proofs.Applying.{sound_has_no_fault}
 use Rattle.hci_store.proofs.Closing.{close-close}
 use Rattle.hci_store.proofs.Recorded.{recordable-close}
-use Rattle.hci_store.proofs.Refusing.{heads_refused, records_refused, rose_of, image_of, unread_of, memory_is_no_image, start_is_no_image}
+use Rattle.hci_store.proofs.Refusing.{heads_refused, records_refused, rose_of, image_of, unread_of, only_read, where_spent}
+use Rattle.hci_store.proofs.Refusing.{memory_is_no_image, start_is_no_image}
 use Rattle.journal_laws.specs.Writes.{AreMade}
 use Rattle.journal_laws.specs.Operations.{start_writes, started_state}
 use Rattle.hci_store.specs.Starting.{migration_writes}
 use Rattle.hci_store.proofs.Committed.{made-append, made-cut}
-use Rattle.hci_store.proofs.Starting.{counted, spent, unspent, not_written, ready_written, ready_stands}
+use Rattle.hci_store.proofs.Starting.{counted, spent, unspent, untouched, not_written, ready_written, ready_stands}
 use Rattle.nv_journal.specs.Kept.{Says}
 use Rattle.nv_journal.proofs.Refusing.{not_of_memory, read_all}
 use Rattle.hci_store.proofs.store.Store.start.Goals as goal
@@ -243,3 +245,42 @@ returns-in-Err-apply_all-clause-torn g c tells = λ memory.
     let opened = c.in-Ok.ensures in
     let passed = c.in-Err-apply_all.ensures in
     rw c.into_nv.ensures (inl (passed.unread c.args.nv opened.read (ap Err memory), passed.kept tells ∙ opened.kept tells))
+
+pub returns-in-Err-clause-refused : goal.returns-in-Err-clause-refused
+returns-in-Err-clause-refused g c =
+    let opened = c.in-Err.ensures in
+    only_read g.N.Nv.reads g.N.Nv.faults g.N.Nv.tells g.N.Nv.content c.args.nv c.in-Err.refused.nv c.in-Err.refused.fault
+    (heads_refused g.N.Nv.reads g.N.Nv.faults g.N.Nv.tells g.N.Nv.content c.args.nv c.in-Err.refused.nv c.in-Err.refused.fault opened.refused opened.unknown)
+
+pub returns-in-Err-apply_all-clause-refused : goal.returns-in-Err-apply_all-clause-refused
+returns-in-Err-apply_all-clause-refused g c =
+    let scan = c.in-Ok.scan in
+    let opened = c.in-Ok.ensures in
+    let passed = c.in-Err-apply_all.ensures in
+    let f = c.in-Err-apply_all.fault in
+    rw c.into_nv.ensures
+    (only_read g.N.Nv.reads g.N.Nv.faults g.N.Nv.tells g.N.Nv.content c.args.nv c.apply_all.new.scan.nv f
+    (records_refused g.N.Nv.reads g.N.Nv.faults g.N.Nv.tells g.N.Nv.content c.args.nv c.apply_all.new.scan.nv scan.nv f passed.fault
+    (λ memory. passed.unread c.args.nv opened.read (ap Err memory))
+    (λ image. read_all g.N.Nv.reads c.args.nv c.apply_all.new.scan (passed.read c.args.nv opened.read (not_of_memory f image)))
+    opened.count (λ memory. passed.rose (ap Err memory)) opened.kept passed.kept opened.known))
+
+pub returns-in-Err-start-clause-refused : goal.returns-in-Err-start-clause-refused
+returns-in-Err-start-clause-refused g c image = absurd (image c.in-Err-start.ensures.none.0)
+
+pub returns-in-Err-ready-clause-refused : goal.returns-in-Err-ready-clause-refused
+returns-in-Err-ready-clause-refused g c other =
+    let scan = c.apply_all.new.scan in
+    let j = c.in-Ok-start.journal in
+    let made = c.in-Ok-start.ensures in
+    let passed = c.in-Ok-apply_all.ensures in
+    let opened = c.in-Ok.ensures in
+    where_spent c.in-Err-ready.refused.fault c.in-Err-ready.ensures.fault other
+    (λ is.
+    let gone = c.in-Err-ready.ensures.spent is in
+    subst (IsOnlyRead g.N.Nv.reads g.N.Nv.tells g.N.Nv.content c.args.nv)
+    (sym (gone.2 ∙ untouched g.N.Nv.writes scan.state j.state scan.nv j.nv made.state.0 gone.0 made.made))
+    (record {
+      read = read_all g.N.Nv.reads c.args.nv scan (passed.read c.args.nv opened.read (not_refused tt));
+      kept = λ tells. passed.kept tells ∙ opened.kept tells;
+    }))
