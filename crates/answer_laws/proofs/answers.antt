@@ -11,3 +11,7 @@ pub mod Session
 pub mod Otherwise
 pub mod Damaged
 pub mod Wrong
+pub mod WrongWorlds
+pub mod WrongActivated
+pub mod WrongParts
+pub mod WrongSettled

@@ -1,5 +1,6 @@
 pub mod Examples
 pub mod MoreExamples
+pub mod WrongLinks
 pub mod Leading
 pub mod Filters
 pub mod legal

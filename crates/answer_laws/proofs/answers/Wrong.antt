@@ -18,29 +18,29 @@ use Rattle.node_order.specs.power.Powers.{CutsEndParts}
 use Rattle.answer_laws.specs.answers.Answered.{Answered}
 use Rattle.answer_laws.proofs.answers.Walks.{header_of_hosts}
 
-abbrev is_empty : {X : Type 0} → List X → Bool
+abbrev pub is_empty : {X : Type 0} → List X → Bool
 is_empty [] = true
 is_empty (x ∷ xs) = false
 
 -- a history with host 02 that has these events
-abbrev told : List Occurrence → NodeHistory
+abbrev pub told : List Occurrence → NodeHistory
 told events = record { header = header_of_hosts (2 ∷ []); steps = record { line = line.Tick None; outcome = Occurred events } ∷ [] }
 
 -- the controller boots, and its end comes up
-abbrev boot : Occurrence
+abbrev pub boot : Occurrence
 boot = record { cause = Boots 0; entries = Booted 0 0 ∷ [] }
 
-abbrev comes_up : Occurrence
+abbrev pub comes_up : Occurrence
 comes_up = record { cause = Takes (end_c 2); entries = Up (end_c 2) 1 ∷ [] }
 
-abbrev begins : List Occurrence
+abbrev pub begins : List Occurrence
 begins = boot ∷ comes_up ∷ []
 
 -- this is noted as the end takes a frame, and as time passes
-abbrev takes : List Entry → Occurrence
+abbrev pub takes : List Entry → Occurrence
 takes entries = record { cause = Takes (end_c 2); entries = entries }
 
-abbrev ticks : List Entry → Occurrence
+abbrev pub ticks : List Entry → Occurrence
 ticks entries = record { cause = Ticks; entries = entries }
 
 abbrev got : Entry
