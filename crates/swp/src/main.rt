@@ -2,22 +2,24 @@
 //! run ended unless all is done, and ends with the exit status.
 #![tactic(auto)]
 
-mod adapters;
-mod file_memory;
-
-use adapters::{StdinSource, StdoutSink};
-use file_memory::FileNv;
-use std::env::{self, Env};
 use std::fs::{File, Files};
 use std::io;
 use std::process::ExitCode;
 use std::rt::Runtime;
+use swp_os::{Access, FileNv, StdinSource, StdoutSink, begin, words};
 use swp_tool::{Ended, Status, exit_code, run, status_text};
 
 /// The file that keeps a node's memory, in the folder that the program runs in.
 const MEMORY: &str = "swp.nv";
 
+/// The name of that file while it is made.
+const MADE_AS: &str = "swp.nv.new";
+
+/// How many bytes a node's memory has.
+const LENGTH: u32 = 65_536;
+
 fn main(rt: HostRuntime) -> ExitCode {
+    let _kept_open = begin(&rt);
     let status = status_of_run(&rt);
     if status != Status::Done {
         // Where even this can't be said, the exit status still tells.
@@ -28,25 +30,24 @@ fn main(rt: HostRuntime) -> ExitCode {
 
 /// Runs the program over standard input and output.
 fn status_of_run<R: Runtime + Input + Print + AllocGlobal + Files<File = File>>(rt: &R) -> Status {
-    let nv = FileNv::new(rt, MEMORY);
-    let words = match words_of(rt) {
+    let words = match words(rt) {
         Ok(words) => words,
         Err(error) if error.kind() == io::ErrorKind::OutOfMemory => return Status::NoMemory,
         Err(_) => return Status::BadWords,
     };
+    let nv = FileNv::new(rt, MEMORY, MADE_AS, LENGTH, access_for(words.as_slice()));
     let mut source = StdinSource::new(rt.reader());
     let mut sink = StdoutSink::new(io::writer(rt));
     let Ended { status, nv: _ } = run(rt.alloc(), words.as_slice(), &mut source, &mut sink, nv);
     status
 }
 
-/// The words behind the program's name.
-fn words_of<R: Env + AllocGlobal>(rt: &R) -> io::Result<Vec<String>> {
-    let mut words = Vec::new(rt.alloc());
-    for word in env::args(rt)?.skip(1) {
-        words.push(word)?;
+/// What the words use the memory for: `end` alone writes it.
+fn access_for(words: &[String]) -> Access {
+    match words.first() {
+        Some(word) if word.as_str() == "end" => Access::Writes,
+        _ => Access::Reads,
     }
-    Ok(words)
 }
 
 /// Says on standard error how the run ended.

@@ -3,23 +3,25 @@
 //! and ends with the exit status.
 #![tactic(auto)]
 
-mod adapters;
 mod file_flash;
 
-use adapters::{StdinSource, StdoutSink};
 use file_flash::FileFlash;
 use flash_nv::FlashNv;
-use std::env::{self, Env};
 use std::fs::{File, Files};
 use std::io;
 use std::process::ExitCode;
 use std::rt::Runtime;
+use swp_os::{Access, StdinSource, StdoutSink, begin, words};
 use swp_tool::{Ended, Status, exit_code, run, status_text};
 
 /// The file that stands for the flash, in the folder that the program runs in.
 const FLASH: &str = "swp.flash";
 
+/// The name of that file while it is made.
+const MADE_AS: &str = "swp.flash.new";
+
 fn main(rt: HostRuntime) -> ExitCode {
+    let _kept_open = begin(&rt);
     let status = status_of_run(&rt);
     if status != Status::Done {
         // Where even this can't be said, the exit status still tells.
@@ -30,25 +32,25 @@ fn main(rt: HostRuntime) -> ExitCode {
 
 /// Runs the program over standard input and output.
 fn status_of_run<R: Runtime + Input + Print + AllocGlobal + Files<File = File>>(rt: &R) -> Status {
-    let nv = FlashNv::new(FileFlash::new(rt, FLASH));
-    let words = match words_of(rt) {
+    let words = match words(rt) {
         Ok(words) => words,
         Err(error) if error.kind() == io::ErrorKind::OutOfMemory => return Status::NoMemory,
         Err(_) => return Status::BadWords,
     };
+    let flash = FileFlash::new(rt, FLASH, MADE_AS, access_for(words.as_slice()));
+    let nv = FlashNv::new(flash);
     let mut source = StdinSource::new(rt.reader());
     let mut sink = StdoutSink::new(io::writer(rt));
     let Ended { status, nv: _ } = run(rt.alloc(), words.as_slice(), &mut source, &mut sink, nv);
     status
 }
 
-/// The words behind the program's name.
-fn words_of<R: Env + AllocGlobal>(rt: &R) -> io::Result<Vec<String>> {
-    let mut words = Vec::new(rt.alloc());
-    for word in env::args(rt)?.skip(1) {
-        words.push(word)?;
+/// What the words use the flash for: `end` alone writes it.
+fn access_for(words: &[String]) -> Access {
+    match words.first() {
+        Some(word) if word.as_str() == "end" => Access::Writes,
+        _ => Access::Reads,
     }
-    Ok(words)
 }
 
 /// Says on standard error how the run ended.

@@ -1,11 +1,14 @@
-//! Standard input as a source and standard output as a sink. They meet the traits and tell no content; that they read and
-//! write the right bytes is shown by the program's stored run.
+//! Standard input as a source and standard output as a sink.
 ghost use Rattle.std.specs.Prelude.{◌≡◌, [], false};
+ghost use Rattle.std.specs.Io.{ReadsAtMost, WritesAtMost};
 
-use std::io::{Read, Write};
+use std::io::{self, ErrorKind, Read, Write};
 use swp_base::{EndOfInput, Failed, Sink, Source};
 
-/// A reader as a source. A read that fails is counted, and the end is noted.
+/// How often a call is made that a signal breaks off.
+const TRIES: u32 = 1000;
+
+/// A reader as a source. A read that fails is counted, and the end is noted. One that a signal broke off is made again.
 #[derive(Drop)]
 pub struct StdinSource<R> {
     reader: R,
@@ -27,6 +30,19 @@ impl<R: Read + Drop> StdinSource<R> {
     }
 }
 
+/// Reads once more where a signal broke the read off, a bounded number of times.
+fn read_through<R: Read>(reader: &mut R, buf: &mut [u8]) -> io::Result<usize>
+    ensures { ReadsAtMost result buf.new }
+{
+    for _ in 0..TRIES {
+        match reader.read(buf) {
+            Err(error) if error.kind() == ErrorKind::Interrupted => {}
+            answer => return answer,
+        }
+    }
+    Err(ErrorKind::Interrupted.into())
+}
+
 impl<R: Read + Drop> Source for StdinSource<R> {
     ghost faults = { λ s. s.faults };
 
@@ -37,7 +53,7 @@ impl<R: Read + Drop> Source for StdinSource<R> {
     ghost end = { λ s. s.end };
 
     fn read(&mut self, buf: &mut [u8]) -> Result<usize, Failed> {
-        match self.reader.read(buf) {
+        match read_through(&mut self.reader, buf) {
             Ok(n) => {
                 self.end.note(Ok(n));
                 Ok(n)
@@ -51,7 +67,7 @@ impl<R: Read + Drop> Source for StdinSource<R> {
     }
 }
 
-/// A writer as a sink. A write that fails or that takes nothing is counted.
+/// A writer as a sink. A write that fails or that takes nothing is counted. One that a signal broke off is made again.
 #[derive(Drop)]
 pub struct StdoutSink<W> {
     writer: W,
@@ -67,6 +83,19 @@ impl<W: Write + Drop> StdoutSink<W> {
     }
 }
 
+/// Writes once more where a signal broke the write off, a bounded number of times.
+fn write_through<W: Write>(writer: &mut W, bytes: &[u8]) -> io::Result<usize>
+    ensures { WritesAtMost result bytes.now }
+{
+    for _ in 0..TRIES {
+        match writer.write(bytes) {
+            Err(error) if error.kind() == ErrorKind::Interrupted => {}
+            answer => return answer,
+        }
+    }
+    Err(ErrorKind::Interrupted.into())
+}
+
 impl<W: Write + Drop> Sink for StdoutSink<W> {
     ghost faults = { λ s. s.faults };
 
@@ -75,7 +104,7 @@ impl<W: Write + Drop> Sink for StdoutSink<W> {
     ghost written = { λ _. [] };
 
     fn write(&mut self, bytes: &[u8]) -> Result<usize, Failed> {
-        match self.writer.write(bytes) {
+        match write_through(&mut self.writer, bytes) {
             Ok(n) if n > 0 => Ok(n),
             _ => {
                 self.faults = self.faults.saturating_add(1);

@@ -1,0 +1,61 @@
+//! What a program does before all else, and the words that it is given.
+use std::env::{self, Env};
+use std::fs::{File, Files};
+use std::io;
+use std::os::fd::AsRawFd;
+use std::os::unix::fs::FileExt;
+
+/// How much of the stack a run may need, in bytes.
+const STACK: usize = 196_608;
+
+/// What is opened in the place of a standard stream that is closed. No byte can be read from it, and none can be written to it.
+const NOTHING: &str = "/";
+
+/// What stands in the place of standard streams that are closed. It is kept for as long as the program runs.
+#[derive(Drop)]
+pub struct KeptOpen {
+    first: Option<File>,
+    second: Option<File>,
+    third: Option<File>,
+}
+
+/// Begins a program. So that no file that it opens later is taken for a standard stream, each of the three that is closed is
+/// opened, and a read of it or a write to it fails as before. So much of the stack as a run may need is touched, so that a stack
+/// that can't grow so far ends the program here, before it has begun.
+pub fn begin<R: Files<File = File>>(files: &R) -> KeptOpen {
+    // The system gives the lowest number that is free.
+    let kept = KeptOpen {
+        first: open_low(files),
+        second: open_low(files),
+        third: open_low(files),
+    };
+    if let Ok(nothing) = File::open(files, NOTHING) {
+        touch_stack(&nothing);
+    }
+    kept
+}
+
+/// Opens the lowest number that is free, where it is one of the three.
+fn open_low<R: Files<File = File>>(files: &R) -> Option<File> {
+    match File::open(files, NOTHING) {
+        Ok(file) if file.as_raw_fd() <= 2 => Some(file),
+        _ => None,
+    }
+}
+
+/// Touches so much of the stack. The read fails and puts nothing there: that the system is handed the bytes keeps them from
+/// being left out.
+#[inline(never)]
+fn touch_stack(nothing: &File) {
+    let mut deep = [0; STACK];
+    let _ = nothing.read_at(&mut deep, 0);
+}
+
+/// The words behind the program's name.
+pub fn words<R: Env + AllocGlobal>(rt: &R) -> io::Result<Vec<String>> {
+    let mut words = Vec::new(rt.alloc());
+    for word in env::args(rt)?.skip(1) {
+        words.push(word)?;
+    }
+    Ok(words)
+}
