@@ -8,8 +8,8 @@ use Rattle.trace_model.specs.declared.entry.NoCause.TheVariants.{NotUp}
 use Rattle.trace_model.specs.declared.line.End.{End}
 use Rattle.trace_model.specs.declared.line.Line.{Line}
 use Rattle.trace_model.specs.declared.line.Line.TheVariants.{Send, Deliver, Lose, Tick, Reset, Busy, Ready}
-use Rattle.link_entries.specs.messages.Links.{Link}
-use Rattle.link_entries.specs.entries.Entries.End.{Controller, Host}
+use Rattle.link_laws.specs.messages.Links.{Link}
+use Rattle.link_laws.specs.entries.Entries.End.{Controller, Host}
 use Rattle.history.specs.Histories.{Outcome, noted}
 use Rattle.history.specs.Steps.{end_of, bare_link}
 use Rattle.history.specs.Follows.{outcome_of, link_after_line}

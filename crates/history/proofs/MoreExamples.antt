@@ -11,7 +11,7 @@ use Rattle.trace_model.specs.declared.entry.NoCause.TheVariants.{Empty, Beyond, 
 use Rattle.trace_model.specs.declared.line.Line.{Line}
 use Rattle.trace_model.specs.declared.line.Line.TheVariants.{Send, Deliver, Lose, Damage, Tick, Reset}
 use Rattle.link_laws.specs.sessions.Sessions.{OnWire}
-use Rattle.link_entries.specs.messages.Links.{Link}
+use Rattle.link_laws.specs.messages.Links.{Link}
 use Rattle.history.specs.Histories.Cause.{Given}
 use Rattle.history.specs.Steps.{bare_link, link_after, event_at}
 use Rattle.history.specs.Follows.{refusal, misread}

@@ -1,19 +1,19 @@
 -- Few RSETs are put on the link of a bare world.
 use Rattle.std.proofs.Common.{◌≡◌, ℕ, ◌+◌, Bool, true, false, cond, List, [], ◌∷◌, refl, arith}
 use Rattle.trace_model.specs.declared.line.End.{End}
-use Rattle.link_entries.specs.messages.Links.{Link, EndEvent}
-use Rattle.link_entries.specs.messages.Links.IsStart.{IsBare}
-use Rattle.link_entries.specs.messages.Links.Ending.{GoesOut}
-use Rattle.link_entries.specs.messages.Links.Comes.{AsksReset}
-use Rattle.link_entries.specs.messages.Links.EndEvent.{Step}
-use Rattle.link_entries.specs.messages.Links.LinkEvent.{AtController, AtHost}
+use Rattle.link_laws.specs.messages.Links.{Link, EndEvent}
+use Rattle.link_laws.specs.messages.Links.IsStart.{IsBare}
+use Rattle.link_laws.specs.messages.Links.Ending.{GoesOut}
+use Rattle.link_laws.specs.messages.Links.Comes.{AsksReset}
+use Rattle.link_laws.specs.messages.Links.EndEvent.{Step}
+use Rattle.link_laws.specs.messages.Links.LinkEvent.{AtController, AtHost}
 use Rattle.history.specs.Histories.{Cause}
 use Rattle.history.specs.Histories.Cause.{Given, Taken, WasLost, Ticked, WasReset, Readied}
 use Rattle.history.specs.Steps.{at, event_of, bare_link, link_after, link_after_all}
-use Rattle.link_entries.specs.messages.Rsets.{FewRsets, NumbersWithin, rset_causes, resets_in_event}
+use Rattle.link_laws.specs.messages.Rsets.{FewRsets, NumbersWithin, rset_causes, resets_in_event}
 use Rattle.history.specs.BareRsets.{rsets_by_bare, rsets_by_all_bare}
-use Rattle.link_entries.proofs.messages.RsetsOnLinks.{made_by_event}
-use Rattle.link_entries.proofs.messages.RsetNumbers.{event_numbered, start_numbered, numbers_within}
+use Rattle.link_laws.proofs.messages.RsetsOnLinks.{made_by_event}
+use Rattle.link_laws.proofs.messages.RsetNumbers.{event_numbered, start_numbered, numbers_within}
 
 at_end : (e : End) (event : EndEvent) → rset_causes (at e event) ≡ resets_in_event event
 at_end e event = go e.at_host

@@ -5,8 +5,8 @@ use Rattle.swp_frame.specs.declared.fed.Fed.TheVariants.{Nothing, Frame, Refused
 use Rattle.swp_frame.specs.Signal.{symbol_of}
 use Rattle.swp_frame.specs.Stuffing.{frame_of}
 use Rattle.swp_frame.specs.Verdicts.{verdicts}
-use Rattle.link_entries.specs.messages.Links.{Loss}
-use Rattle.link_entries.specs.messages.Links.Loss.{Broken, Unread}
+use Rattle.link_laws.specs.messages.Links.{Loss}
+use Rattle.link_laws.specs.messages.Links.Loss.{Broken, Unread}
 
 -- the bits with the one at this place changed
 abbrev pub flipped : ℕ → List Bool → List Bool

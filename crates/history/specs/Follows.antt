@@ -12,11 +12,11 @@ use Rattle.trace_model.specs.declared.line.Header.{Header}
 use Rattle.trace_model.specs.declared.line.Line.{Line}
 use Rattle.trace_model.specs.declared.line.Line.TheVariants as line
 use Rattle.link_laws.specs.sessions.Sessions.{OnWire}
-use Rattle.link_machine.specs.Machine.{LinkEnd, Refused as EndRefused, give_refusal, reset_refusal}
-use Rattle.link_machine.specs.Machine.Refused.{NotUp, TooLong, Full, Inactive, IsWaiting}
-use Rattle.link_entries.specs.messages.Links.{Link, exchanged}
-use Rattle.link_entries.specs.messages.Links.Loss.{OnDemand}
-use Rattle.link_entries.specs.entries.Entries.End.{Controller, Host}
+use Rattle.link_laws.specs.machine.Machine.{LinkEnd, Refused as EndRefused, give_refusal, reset_refusal}
+use Rattle.link_laws.specs.machine.Machine.Refused.{NotUp, TooLong, Full, Inactive, IsWaiting}
+use Rattle.link_laws.specs.messages.Links.{Link, exchanged}
+use Rattle.link_laws.specs.messages.Links.Loss.{OnDemand}
+use Rattle.link_laws.specs.entries.Entries.End.{Controller, Host}
 use Rattle.history.specs.Histories.{Cause, Outcome, Step, History, events_of, causes_of, all_events}
 use Rattle.history.specs.Histories.Cause.{Given, Taken, WasLost, Ticked, WasReset, Readied}
 use Rattle.history.specs.Histories.Outcome.{Refused, Caused}

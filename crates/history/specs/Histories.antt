@@ -7,8 +7,8 @@ use Rattle.trace_model.specs.declared.entry.Entry.TheVariants.{No}
 use Rattle.trace_model.specs.declared.line.End.{End}
 use Rattle.trace_model.specs.declared.line.Header.{Header}
 use Rattle.trace_model.specs.declared.line.Line.{Line}
-use Rattle.link_machine.specs.Machine.{Message}
-use Rattle.link_entries.specs.messages.Links.{Loss}
+use Rattle.link_laws.specs.machine.Machine.{Message}
+use Rattle.link_laws.specs.messages.Links.{Loss}
 
 -- what causes an event
 pub data Cause : Type 0 where

@@ -8,17 +8,17 @@ use Rattle.trace_model.specs.declared.entry.Entry.TheVariants as entry
 use Rattle.trace_model.specs.declared.entry.LostCause.{LostCause}
 use Rattle.trace_model.specs.declared.entry.LostCause.TheVariants as lost
 use Rattle.trace_model.specs.declared.line.End.{End}
-use Rattle.link_machine.specs.Machine.Role.{Bare}
-use Rattle.link_machine.specs.Machine.Turn.{Give, Hold, FetchMessage}
-use Rattle.link_entries.specs.messages.Links.{Link, Loss, EndEvent, Node, LinkEvent, new_link, happens}
-use Rattle.link_entries.specs.messages.Links.Ending.{GoesOut}
-use Rattle.link_entries.specs.messages.Links.Comes.{NextFrame, AsksReset, NoInput}
-use Rattle.link_entries.specs.messages.Links.Loss.{OnDemand, Broken, Unread, TooOld, TooMany}
-use Rattle.link_entries.specs.messages.Links.EndEvent.{Step, Lose}
-use Rattle.link_entries.specs.messages.Links.LinkEvent.{AtController, AtHost, Ticks}
-use Rattle.link_entries.specs.entries.Entries.{End as Side, Entry as Noted, event_entries}
-use Rattle.link_entries.specs.entries.Entries.End.{Controller, Host}
-use Rattle.link_entries.specs.entries.Entries.Entry.{Up, Down, Active, GaveUp, Acked, Got, Sent, Emit, Took, Lost, Tick, Restarted, Cut}
+use Rattle.link_laws.specs.machine.Machine.Role.{Bare}
+use Rattle.link_laws.specs.machine.Machine.Turn.{Give, Hold, FetchMessage}
+use Rattle.link_laws.specs.messages.Links.{Link, Loss, EndEvent, Node, LinkEvent, new_link, happens}
+use Rattle.link_laws.specs.messages.Links.Ending.{GoesOut}
+use Rattle.link_laws.specs.messages.Links.Comes.{NextFrame, AsksReset, NoInput}
+use Rattle.link_laws.specs.messages.Links.Loss.{OnDemand, Broken, Unread, TooOld, TooMany}
+use Rattle.link_laws.specs.messages.Links.EndEvent.{Step, Lose}
+use Rattle.link_laws.specs.messages.Links.LinkEvent.{AtController, AtHost, Ticks}
+use Rattle.link_laws.specs.entries.Entries.{End as Side, Entry as Noted, event_entries}
+use Rattle.link_laws.specs.entries.Entries.End.{Controller, Host}
+use Rattle.link_laws.specs.entries.Entries.Entry.{Up, Down, Active, GaveUp, Acked, Got, Sent, Emit, Took, Lost, Tick, Restarted, Cut}
 use Rattle.history.specs.Histories.{Cause, Event}
 use Rattle.history.specs.Histories.Cause.{Given, Taken, WasLost, Ticked, WasReset, Readied}
 

@@ -1,8 +1,8 @@
 //! How many RSETs are put on the link of a bare world, without counting the frames that are taken. Nothing here runs.
 
 ghost use Rattle.std.specs.Prelude.{◌+◌, ℕ, List};
-ghost use Rattle.link_entries.specs.messages.Links.{Link};
-ghost use Rattle.link_entries.specs.messages.Rsets.{FewRsets, NumbersWithin};
+ghost use Rattle.link_laws.specs.messages.Links.{Link};
+ghost use Rattle.link_laws.specs.messages.Rsets.{FewRsets, NumbersWithin};
 ghost use Rattle.history.specs.BareRsets.{rsets_by_all_bare, rsets_by_bare};
 ghost use Rattle.history.specs.Histories.{Cause};
 ghost use Rattle.history.specs.Steps.{bare_link, link_after, link_after_all};

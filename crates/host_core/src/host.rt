@@ -42,8 +42,8 @@ impl<N: Nv + Drop> Host<N> {
     ghost use Rattle.hci_store.specs.Starting.{ready_writes, HasWritten};
     ghost use Rattle.hcp_packet.specs.Packets.{IsSendable};
     ghost use Rattle.swp_lpdu.specs.Controls.{lpdu_of, control_of};
-    ghost use Rattle.link_machine.specs.Machine.{lpdu_input, give_refusal, next_frame};
-    ghost use Rattle.link_machine.specs.Machine.LinkInput.{Reset, Start, Stop};
+    ghost use Rattle.link_laws.specs.machine.Machine.{lpdu_input, give_refusal, next_frame};
+    ghost use Rattle.link_laws.specs.machine.Machine.LinkInput.{Reset, Start, Stop};
     ghost use Rattle.node_machine.specs.Parts.{Core, Port, Work};
     ghost use Rattle.node_machine.specs.Carrying.{port_at, with_port};
     ghost use Rattle.node_machine.specs.Controller.{is_command_message};

@@ -1,6 +1,3 @@
-pub mod Plays
-pub mod NodeRounds
-pub mod BareRounds
-pub mod Resting
-pub mod Told
-pub mod Lines
+pub mod fragments
+pub mod messages
+pub mod lines

@@ -1,3 +1,3 @@
-pub mod Below
-pub mod Plays
-pub mod RoundLines
+pub mod fragments
+pub mod messages
+pub mod lines

@@ -7,16 +7,16 @@ ghost use Rattle.trace_model.specs.declared.line.End.{End};
 ghost use Rattle.trace_model.specs.declared.line.Header.{Header};
 ghost use Rattle.trace_model.specs.declared.line.Line.{Line};
 ghost use Rattle.trace_model.specs.declared.line.Line.TheVariants.{Deliver, Settle};
-ghost use Rattle.link_entries.specs.messages.Links.{Link};
+ghost use Rattle.link_laws.specs.messages.Links.{Link};
 ghost use Rattle.history.specs.Follows.{causes_in, host_of, link_after_lines};
 ghost use Rattle.history.specs.Steps.{link_after_all};
 ghost use Rattle.node_machine.specs.world.Lines.{noted_lines};
 ghost use Rattle.node_machine.specs.world.NodeHistories.{NoneIsMisread, entries_in, world_after};
 ghost use Rattle.node_machine.specs.world.Rounds.{end_takes_all, ends_in_order, rounds_of_world, world_round, world_rounds_to_settle, world_settling};
 ghost use Rattle.node_machine.specs.world.World.{NodeWorld, new_world};
-ghost use Rattle.lines_told.specs.Below.{entries_below, nodes_behind};
-ghost use Rattle.lines_told.specs.Plays.{Play, lines_played, round_behind, round_in, taking_in, taking_on, told_behind, told_of_line, told_of_rounds};
-ghost use Rattle.lines_told.specs.Plays.Play.{Round};
+ghost use Rattle.lines_told.specs.lines.Below.{entries_below, nodes_behind};
+ghost use Rattle.lines_told.specs.lines.Plays.{Play, lines_played, round_behind, round_in, taking_in, taking_on, told_behind, told_of_line, told_of_rounds};
+ghost use Rattle.lines_told.specs.lines.Plays.Play.{Round};
 
 /// In a world of nodes the line of an end, where there is one, does what the end does as it takes all that stands on its wire; and the lines
 /// of a round do what the round does. What is noted below them, one after another, is what is noted of that, and no refusal among it.

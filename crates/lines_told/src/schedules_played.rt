@@ -6,11 +6,11 @@ ghost use Rattle.std.specs.List.{AllByRecursion};
 ghost use Rattle.trace_model.specs.declared.line.Header.{Header};
 ghost use Rattle.trace_model.specs.declared.line.Line.{Line};
 ghost use Rattle.trace_model.specs.Lines.{MayBegin, MayFollow};
-ghost use Rattle.lines_told.specs.Below.{IsPlayedLine, is_settling, misread_below, nodes_behind};
-ghost use Rattle.lines_told.specs.Plays.{AreFewPlays, IsPlayFor, Play, lines_of_play, lines_played, lines_played_of, lines_said, plays_of};
-ghost use Rattle.lines_told.specs.Plays.{plays_of_line, rests_behind, round_behind, rounds_played, rounds_to_rest};
-ghost use Rattle.lines_told.specs.Plays.Play.{Round, Said};
-ghost use Rattle.lines_told.specs.RoundLines.{HostsStay, IsRoundLine};
+ghost use Rattle.lines_told.specs.lines.Below.{IsPlayedLine, is_settling, misread_below, nodes_behind};
+ghost use Rattle.lines_told.specs.lines.Plays.{AreFewPlays, IsPlayFor, Play, lines_of_play, lines_played, lines_played_of, lines_said, plays_of};
+ghost use Rattle.lines_told.specs.lines.Plays.{plays_of_line, rests_behind, round_behind, rounds_played, rounds_to_rest};
+ghost use Rattle.lines_told.specs.lines.Plays.Play.{Round, Said};
+ghost use Rattle.lines_told.specs.lines.RoundLines.{HostsStay, IsRoundLine};
 ghost use Rattle.node_machine.specs.world.Rounds.{world_rounds_to_settle};
 
 /// One play more comes to its lines behind those of the plays before it, and one line more to its plays. A schedule in which no line lets the

@@ -15,7 +15,7 @@ use Rattle.hcp_packet.specs.Packets.{AreSendable, fragments_of}
 use Rattle.hcp_chain.specs.declared.joiner.Open.{Open}
 use Rattle.hcp_chain.specs.Holding.{IsOwnOpen, AreApart, HoldsChains, held_blocks, messages_in as messages_of, IsApartFrom}
 use Rattle.hcp_chain.proofs.HoldingLemmas.{all_front, all_map, apart_front}
-use Rattle.link_machine.specs.Machine.{LinkEnd as Machine}
+use Rattle.link_laws.specs.machine.Machine.{LinkEnd as Machine}
 use Rattle.link_messages.specs.declared.outbox.Queued.{Queued}
 use Rattle.link_messages.specs.declared.inbox.Got.{Got}
 use Rattle.link_messages.specs.declared.inbox.Inbox.{Inbox}

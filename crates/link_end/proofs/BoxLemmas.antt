@@ -13,7 +13,7 @@ use Rattle.block_pool.proofs.HoldingLemmas.{apart_by_owner, apart_turned, all_ma
 use Rattle.hcp_packet.specs.Packets.{AreSendable, fragments_of}
 use Rattle.hcp_chain.specs.declared.joiner.Open.{Open}
 use Rattle.hcp_chain.specs.Holding.{IsOwnOpen, held_blocks, messages_in as messages_of, message_of, IsApartFrom}
-use Rattle.link_machine.specs.Machine.{LinkEnd as Machine}
+use Rattle.link_laws.specs.machine.Machine.{LinkEnd as Machine}
 use Rattle.link_messages.specs.declared.outbox.Queued.{Queued}
 use Rattle.link_messages.specs.declared.outbox.Outbox.{Outbox}
 use Rattle.link_messages.specs.declared.inbox.Inbox.{Inbox}

@@ -20,8 +20,8 @@ use Rattle.swp_base.specs.declared.link_terms.Cause.{Cause}
 use Rattle.swp_base.specs.declared.link_terms.Cause.TheVariants.{Act as ByAct}
 use Rattle.swp_act.specs.declared.ActEvent.{ActEvent}
 use Rattle.swp_act.specs.declared.ActOut.{ActOut}
-use Rattle.link_machine.specs.Machine.{LinkEnd as Machine, ActDue as Due, Role, moved, put_down, with_act, activated, act_answer, role_after, if_up}
-use Rattle.link_machine.specs.Machine.{in_front as due_in_front}
+use Rattle.link_laws.specs.machine.Machine.{LinkEnd as Machine, ActDue as Due, Role, moved, put_down, with_act, activated, act_answer, role_after, if_up}
+use Rattle.link_laws.specs.machine.Machine.{in_front as due_in_front}
 use Rattle.link_messages.specs.declared.outbox.Outbox.{Outbox}
 use Rattle.link_messages.specs.declared.inbox.Inbox.{Inbox}
 use Rattle.link_messages.specs.Outgoing.{queued_messages, messages_of_all, waiting_in, OutboxLiesIn, OutboxLeavesOthers as OutboxLeaves}

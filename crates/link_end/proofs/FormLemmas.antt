@@ -7,7 +7,7 @@ use Rattle.shdlc_core.specs.declared.answers.Due.{Due as Shdlc_due}
 use Rattle.shdlc_core.specs.declared.answers.Due.TheVariants.{Rr, Rej, Rnr, Rset, Ua}
 use Rattle.shdlc_core.specs.Machine.{EndState, Fragment, frame_due, fragment_due, control_due, expected}
 use Rattle.swp_lpdu.specs.Controls.{HasNumbers}
-use Rattle.link_machine.specs.Machine.{LinkEnd as Machine, ActDue as Due, next_frame}
+use Rattle.link_laws.specs.machine.Machine.{LinkEnd as Machine, ActDue as Due, next_frame}
 
 no_frame : (c : Control) → None ≡ Some c → ⊥
 no_frame c e = cc

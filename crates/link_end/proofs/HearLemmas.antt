@@ -22,7 +22,8 @@ use Rattle.shdlc_core.proofs.Histories.{in_phase}
 use Rattle.hcp_packet.specs.Packets.{packets_in, fragments_of, good_of, packet_of}
 use Rattle.hcp_chain.specs.Joining.{are_taken, given_by, open_after}
 use Rattle.hcp_chain.proofs.ReadyLemmas.{open_after-append, given_by-append, are_taken-append}
-use Rattle.link_machine.specs.Machine.{LinkEnd as Machine, Message, moved, put_down, heard, is_faulty, messages_got, news, whole_acked, whole_among, oldest}
+use Rattle.link_laws.specs.machine.Machine.{LinkEnd as Machine, Message, moved, put_down, heard, is_faulty, messages_got, news, whole_acked, whole_among}
+use Rattle.link_laws.specs.machine.Machine.{oldest}
 use Rattle.link_messages.specs.declared.outbox.Outbox.{Outbox}
 use Rattle.link_messages.specs.declared.inbox.Inbox.{Inbox}
 use Rattle.link_messages.specs.Outgoing.{queued_messages, waiting_in, rest_among, OutboxLiesIn, GivesBack, acked_more}
@@ -42,7 +43,7 @@ use Rattle.link_end.specs.declared.«end».End.{End}
 use Rattle.link_end.specs.declared.report.LinkReport.{LinkReport}
 use Rattle.link_end.proofs.EndLemmas.{Carries, carries, session_over, session_ended, stopped_before}
 use Rattle.link_end.proofs.BoxLemmas.{OutboxKept, inbox_kept, outbox_kept, leaves_out, leaves_in, leaves_more}
-use Rattle.link_machine.proofs.Reports.{good-append, empty_news}
+use Rattle.link_laws.proofs.machine.Reports.{good-append, empty_news}
 use Rattle.shdlc_core.proofs.OfferedFrames.{taken_alike}
 
 -- ---- what came

@@ -10,7 +10,7 @@ use Rattle.hcp_packet.specs.Packets.{packets_in}
 use Rattle.hcp_chain.specs.declared.joiner.Open.{Open}
 use Rattle.hcp_chain.specs.Joining.{are_taken, open_after}
 use Rattle.hcp_chain.specs.Holding.{HoldsChains, held_blocks, messages_in as messages_of}
-use Rattle.link_machine.specs.Machine.{new_link_end}
+use Rattle.link_laws.specs.machine.Machine.{new_link_end}
 use Rattle.link_messages.specs.declared.outbox.Outbox.{Outbox}
 use Rattle.link_messages.specs.Outgoing.{OutboxLiesIn}
 use Rattle.link_messages.specs.Incoming.{chains_in, got_chains}

@@ -25,12 +25,13 @@ use Rattle.shdlc_core.proofs.Offering.{stands_reset, stands_idle, stands_fetched
 use Rattle.hcp_packet.specs.Packets.{packets_of, packets_in, packet_bytes, fragments_of, IsSendable}
 use Rattle.hcp_chain.specs.Joining.{are_taken, open_after}
 use Rattle.hcp_chain.specs.Holding.{held_blocks, HoldsChains, messages_in as messages_of}
-use Rattle.link_machine.specs.Machine.{LinkEnd as Machine, ActDue as Due, Message, Refused, moved, after_input, is_open, window_of, frame_fetched, next_frame}
-use Rattle.link_machine.specs.Machine.{nearer as due_nearer, need_of_all, spare, in_use, whole_among, give_refusal, given, turn, unless, need}
-use Rattle.link_machine.specs.Machine.Refused.{TooLong, Full}
-use Rattle.link_machine.specs.Machine.Turn.{Give}
-use Rattle.link_machine.specs.Machine.LinkInput.{Reset}
-use Rattle.link_machine.proofs.Sound.{whole_few}
+use Rattle.link_laws.specs.machine.Machine.{LinkEnd as Machine, ActDue as Due, Message, Refused, moved, after_input, is_open, window_of, frame_fetched}
+use Rattle.link_laws.specs.machine.Machine.{next_frame}
+use Rattle.link_laws.specs.machine.Machine.{nearer as due_nearer, need_of_all, spare, in_use, whole_among, give_refusal, given, turn, unless, need}
+use Rattle.link_laws.specs.machine.Machine.Refused.{TooLong, Full}
+use Rattle.link_laws.specs.machine.Machine.Turn.{Give}
+use Rattle.link_laws.specs.machine.Machine.LinkInput.{Reset}
+use Rattle.link_laws.proofs.machine.Sound.{whole_few}
 use Rattle.link_messages.specs.declared.outbox.Queued.{Queued}
 use Rattle.link_messages.specs.declared.outbox.Outbox.{Outbox}
 use Rattle.link_messages.specs.declared.inbox.Got.{Got}

@@ -10,7 +10,7 @@ use Rattle.hcp_packet.specs.Packets.{packets_in, packet_of, good_of}
 use Rattle.hcp_chain.specs.Joining.{given_by, open_after}
 use Rattle.hcp_chain.specs.Holding.{held_blocks, messages_in}
 use Rattle.shdlc_core.specs.Machine.{Fragment}
-use Rattle.link_machine.specs.Machine.{Message}
+use Rattle.link_laws.specs.machine.Machine.{Message}
 use Rattle.link_messages.specs.declared.inbox.Inbox.{Inbox}
 use Rattle.link_messages.specs.Incoming.{got_chains, chains_in, messages_under_way, came_whole, InboxLiesIn, IsInboxReady, Joins}
 use Rattle.link_end.specs.Received.{ReceivesOn}

@@ -5,9 +5,9 @@ use Rattle.std.proofs.lemmas.Bool.{eq-eqb, ne_eqb}
 use Rattle.std.specs.Prelude.{◌==◌, IsTrue}
 use Rattle.block_pool.specs.Pool.{PoolState}
 use Rattle.shdlc_core.specs.declared.answers.LinkState.TheVariants.{Up}
-use Rattle.link_machine.specs.Machine.{LinkEnd as Machine, whole_acked}
-use Rattle.link_machine.specs.AtRest.{end_rests}
-use Rattle.link_machine.proofs.Sound.{whole_few}
+use Rattle.link_laws.specs.machine.Machine.{LinkEnd as Machine, whole_acked}
+use Rattle.link_laws.specs.machine.AtRest.{end_rests}
+use Rattle.link_laws.proofs.machine.Sound.{whole_few}
 use Rattle.link_messages.specs.declared.outbox.Queued.{Queued}
 use Rattle.link_messages.specs.Outgoing.{queued_message}
 use Rattle.link_end.specs.Ends.{EndStandsFor}

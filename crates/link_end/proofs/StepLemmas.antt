@@ -25,9 +25,9 @@ use Rattle.swp_act.specs.declared.ActOut.{ActOut}
 use Rattle.swp_act.specs.Activation.{clf_step, uicc_step}
 use Rattle.swp_act.specs.declared.ActEvent.{ActEvent}
 use Rattle.swp_act.specs.declared.ActEvent.TheVariants.{Take as ActTake, Tick as ActTick}
-use Rattle.link_machine.specs.Machine.{LinkEnd as Machine, Role, Bare, Clf, Uicc, moved, heard, is_open, after_input, activated, whole_acked, whole_among}
-use Rattle.link_machine.specs.Machine.{with_act, put_down, role_after, act_answer, ended_by_act, report}
-use Rattle.link_machine.specs.Machine.LinkInput.{Take, Tick}
+use Rattle.link_laws.specs.machine.Machine.{LinkEnd as Machine, Role, Bare, Clf, Uicc, moved, heard, is_open, after_input, activated, whole_acked, whole_among}
+use Rattle.link_laws.specs.machine.Machine.{with_act, put_down, role_after, act_answer, ended_by_act, report}
+use Rattle.link_laws.specs.machine.Machine.LinkInput.{Take, Tick}
 use Rattle.hcp_packet.specs.Packets.{packets_in}
 use Rattle.hcp_chain.specs.Joining.{are_taken, open_after}
 use Rattle.link_messages.specs.Outgoing.{waiting_in, rest_among}

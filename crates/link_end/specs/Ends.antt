@@ -10,7 +10,7 @@ use Rattle.shdlc_core.specs.Offering.{StandsBefore}
 use Rattle.hcp_packet.specs.Packets.{packets_in, fragments_of, AreSendable}
 use Rattle.hcp_chain.specs.Joining.{are_taken, open_after}
 use Rattle.hcp_chain.specs.Holding.{held_blocks, IsApartFrom}
-use Rattle.link_machine.specs.Machine.{LinkEnd as Machine, ActDue as Due, Message, whole_among}
+use Rattle.link_laws.specs.machine.Machine.{LinkEnd as Machine, ActDue as Due, Message, whole_among}
 use Rattle.link_messages.specs.declared.outbox.Queued.{Queued}
 use Rattle.link_messages.specs.declared.outbox.Outbox.{Outbox}
 use Rattle.link_messages.specs.declared.inbox.Inbox.{Inbox}

@@ -9,8 +9,8 @@ use Rattle.swp_line.specs.declared.period.Period.{Period}
 use Rattle.swp_line.specs.declared.period.Period.TheVariants.{Bits, Suspended, ResumeAsked, Deactivated}
 use Rattle.byte_link.specs.declared.unit.Unit.{Unit as Given}
 use Rattle.byte_link.specs.declared.unit.Unit.TheVariants.{Nothing as NoUnit, Tick as TickUnit, Frame as FrameUnit, Refused as RefusedUnit}
-use Rattle.link_machine.specs.Machine.{LinkEnd as Machine, LinkInput, Role, Bare, Clf, Uicc, after_input, lpdu_input, report}
-use Rattle.link_machine.specs.Machine.LinkInput.{TakeBroken, Tick, Stop}
+use Rattle.link_laws.specs.machine.Machine.{LinkEnd as Machine, LinkInput, Role, Bare, Clf, Uicc, after_input, lpdu_input, report}
+use Rattle.link_laws.specs.machine.Machine.LinkInput.{TakeBroken, Tick, Stop}
 use Rattle.link_end.specs.Reports.{report_told, nothing_told}
 use Rattle.link_end.specs.declared.report.LinkReport.{LinkReport}
 

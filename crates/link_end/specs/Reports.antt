@@ -7,9 +7,9 @@ use Rattle.shdlc_core.specs.Machine.{taken, take_answer}
 use Rattle.block_pool.specs.declared.chain.Chain.{Chain as Blocks}
 use Rattle.swp_act.specs.declared.ActEvent.{ActEvent}
 use Rattle.swp_act.specs.declared.ActOut.{ActOut}
-use Rattle.link_machine.specs.Machine.{LinkEnd as Machine, Report, oldest, act_answer, ended_by_act, heard, is_faulty, news, whole_acked, Message, Refused}
-use Rattle.link_machine.specs.Machine.{give_refusal, reset_refusal, if_up}
-use Rattle.link_machine.specs.Machine.Refused.{NotUp, TooLong, Full, Inactive, IsWaiting}
+use Rattle.link_laws.specs.machine.Machine.{LinkEnd as Machine, Report, oldest, act_answer, ended_by_act, heard, is_faulty, news, whole_acked, Message, Refused}
+use Rattle.link_laws.specs.machine.Machine.{give_refusal, reset_refusal, if_up}
+use Rattle.link_laws.specs.machine.Machine.Refused.{NotUp, TooLong, Full, Inactive, IsWaiting}
 use Rattle.link_end.specs.declared.report.SendRefused.{SendRefused}
 use Rattle.link_end.specs.declared.report.SendRefused.TheVariants.{NotUp as SendNotUp, TooLong as SendTooLong, Full as SendFull}
 use Rattle.link_end.specs.declared.report.ResetRefused.{ResetRefused}

@@ -3,7 +3,7 @@ use Rattle.swp_base.specs.declared.link_terms.Role.{Role as Named}
 use Rattle.swp_base.specs.declared.link_terms.Role.TheVariants.{Clf as ClfName, Uicc as UiccName, Bare as BareName}
 use Rattle.swp_act.specs.declared.ActEvent.{ActEvent}
 use Rattle.swp_act.specs.Activation.{IsPowerStart, new_clf, new_uicc}
-use Rattle.link_machine.specs.Machine.{Role, Bare, Clf, Uicc}
+use Rattle.link_laws.specs.machine.Machine.{Role, Bare, Clf, Uicc}
 use Rattle.link_end.specs.declared.activation.Activation.{Activation}
 use Rattle.link_end.specs.declared.activation.Activation.TheVariants.{Bare as BareEnd, Clf as ClfEnd, Uicc as UiccEnd}
 

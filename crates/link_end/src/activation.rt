@@ -15,7 +15,7 @@ pub enum Activation {
 
 impl Activation {
     ghost use Rattle.std.specs.Prelude.{◌≡◌};
-    ghost use Rattle.link_machine.specs.Machine.{is_open, role_after, act_answer};
+    ghost use Rattle.link_laws.specs.machine.Machine.{is_open, role_after, act_answer};
     ghost use Rattle.link_end.specs.Roles.{role_of, new_role, MayStart};
     ghost use Rattle.link_end.specs.Inputs.{heard_bit};
 

@@ -36,11 +36,11 @@ impl End {
     ghost use Rattle.shdlc_core.specs.Machine.{stopped, ticked, tick_answer};
     ghost use Rattle.block_pool.specs.Pool.{PoolState, used_of, chain_bytes};
     ghost use Rattle.hcp_packet.specs.Packets.{IsSendable};
-    ghost use Rattle.link_machine.specs.Machine.{LinkEnd as Machine, moved, put_down, if_up, with_act, activated, heard, report, after_input, next_frame};
-    ghost use Rattle.link_machine.specs.Machine.{is_held, is_open, oldest, new_link_end, in_front as due_in_front};
-    ghost use Rattle.link_machine.specs.Machine.LinkInput.{Take, TakeUnknown, Reset, Start, Stop, FromNode, Fetch};
-    ghost use Rattle.link_machine.specs.Machine.Turn.{Give, Hold, FetchMessage};
-    ghost use Rattle.link_machine.specs.AtRest.{end_rests};
+    ghost use Rattle.link_laws.specs.machine.Machine.{LinkEnd as Machine, moved, put_down, if_up, with_act, activated, heard, report, after_input, next_frame};
+    ghost use Rattle.link_laws.specs.machine.Machine.{is_held, is_open, oldest, new_link_end, in_front as due_in_front};
+    ghost use Rattle.link_laws.specs.machine.Machine.LinkInput.{Take, TakeUnknown, Reset, Start, Stop, FromNode, Fetch};
+    ghost use Rattle.link_laws.specs.machine.Machine.Turn.{Give, Hold, FetchMessage};
+    ghost use Rattle.link_laws.specs.machine.AtRest.{end_rests};
     ghost use Rattle.link_end.specs.Roles.{role_of, new_role, MayStart};
     ghost use Rattle.link_end.specs.Reports.{report_told, nothing_told, act_told, heard_told, give_told, pass_told, reset_told, IsShdlc};
     ghost use Rattle.link_messages.specs.Outgoing.{OutboxLiesIn, LeavesOthersBut, waiting_in};

@@ -2,7 +2,7 @@
 ghost use Rattle.std.specs.Prelude.{◌≡◌, ℕ, Option, Some, None, false, List, [], slice_get};
 ghost use Rattle.block_pool.specs.declared.chain.Chain.{Chain as Blocks};
 ghost use Rattle.block_pool.specs.Pool.{PoolState, IsNew, used_of, KeepsOthers, Gives};
-ghost use Rattle.link_machine.specs.Machine.{LinkEnd as Machine};
+ghost use Rattle.link_laws.specs.machine.Machine.{LinkEnd as Machine};
 ghost use Rattle.link_messages.specs.Outgoing.{LeavesOthersBut};
 ghost use Rattle.link_end.specs.declared.«end».End.{End as Kept};
 ghost use Rattle.link_end.specs.Ends.{EndStandsFor, EndLeavesOthers, IsFree, MayTake, MayPass, HaveOwners, Accounts, Rests};

@@ -35,10 +35,10 @@ impl LinkEnd {
     ghost use Rattle.link_messages.specs.Outgoing.{LeavesOthersBut};
     ghost use Rattle.swp_act.specs.declared.ActEvent.TheVariants.{Start as ActStart};
     ghost use Rattle.swp_lpdu.specs.Controls.{lpdu_of, control_of};
-    ghost use Rattle.link_machine.specs.Machine.{LinkEnd as Machine, new_link_end, after_input, is_held, report, lpdu_input, next_frame, oldest};
-    ghost use Rattle.link_machine.specs.Machine.LinkInput.{TakeBroken, Tick, Reset, Start, Stop, FromNode, Fetch};
-    ghost use Rattle.link_machine.specs.Machine.Turn.{Give, Hold, FetchMessage};
-    ghost use Rattle.link_machine.specs.AtRest.{end_rests};
+    ghost use Rattle.link_laws.specs.machine.Machine.{LinkEnd as Machine, new_link_end, after_input, is_held, report, lpdu_input, next_frame, oldest};
+    ghost use Rattle.link_laws.specs.machine.Machine.LinkInput.{TakeBroken, Tick, Reset, Start, Stop, FromNode, Fetch};
+    ghost use Rattle.link_laws.specs.machine.Machine.Turn.{Give, Hold, FetchMessage};
+    ghost use Rattle.link_laws.specs.machine.AtRest.{end_rests};
     ghost use Rattle.link_end.specs.Roles.{role_of, new_role, MayStart};
     ghost use Rattle.link_end.specs.Reports.{report_told, give_told, pass_told, reset_told};
     ghost use Rattle.link_end.specs.Inputs.{fed_input, unit_input, after_some, told_some, after_period, told_period, heard_after};

@@ -6,9 +6,9 @@ use Rattle.std.proofs.Math.Seq.{drop-append-add}
 use Rattle.std.proofs.lemmas.Bool.{leb-true, le-leb}
 use Rattle.std.proofs.lemmas.Grind.{flat_map-append, common_steps}
 use Rattle.hcp_packet.specs.Packets.{packets_of, packet_count, packet_bytes, fragments_of, IsSendable}
-use Rattle.link_machine.specs.Machine.{Message, whole_among}
+use Rattle.link_laws.specs.machine.Machine.{Message, whole_among}
 use Rattle.link_messages.specs.Outgoing.{rest_among}
-use Rattle.link_machine.proofs.Sound.{fragments_count as length-fragments}
+use Rattle.link_laws.proofs.machine.Sound.{fragments_count as length-fragments}
 
 abbrev fragments : Message → List (List ℕ)
 fragments m = map packet_bytes (packets_of m.0 m.1)

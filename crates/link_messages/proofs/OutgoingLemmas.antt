@@ -18,13 +18,13 @@ use Rattle.block_pool.specs.Holdings.{IsOwnChain, OwnsAll, LiesApart, LieApart, 
 use Rattle.block_pool.proofs.HoldingLemmas.{kept_all, all_pushed, lie_apart_pushed, used-with_used, quota-with_used, length-with_used, with_used-with_used}
 use Rattle.block_pool.proofs.HoldingLemmas.{with_used-same, other-with_used, apart_empty, lies_apart_by_owner, OwnsAllApart}
 use Rattle.hcp_packet.specs.Packets.{packets_of, packet_count, packet_bytes, fragments_of, AreSendable, IsSendable}
-use Rattle.link_machine.specs.Machine.{Message, whole_among}
+use Rattle.link_laws.specs.machine.Machine.{Message, whole_among}
 use Rattle.link_messages.specs.declared.outbox.Queued.{Queued}
 use Rattle.link_messages.specs.declared.outbox.Outbox.{Outbox}
 use Rattle.link_messages.specs.Outgoing.{chain_in, queued_message, messages_of_all, queued_messages, rest_among, AreKept, OutboxLiesIn, OutboxLeavesOthers}
 use Rattle.link_messages.specs.Outgoing.{Accepts, LeavesOthersBut, GivesFront, GivesBack}
 use Rattle.link_messages.proofs.Among.{whole-first, waiting-first, length-first, waiting-push, length-push}
-use Rattle.link_machine.proofs.Sound.{fragments_count as length-fragments}
+use Rattle.link_laws.proofs.machine.Sound.{fragments_count as length-fragments}
 
 -- the same bytes are the same messages
 pub messages_same : (old new : PoolState) (queue : List Queued) → all_bytes Queued chain_in new queue ≡ all_bytes Queued chain_in old queue

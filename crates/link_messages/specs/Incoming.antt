@@ -7,7 +7,7 @@ use Rattle.hcp_packet.specs.Packets.{good_of}
 use Rattle.hcp_chain.specs.declared.joiner.Open.{Open}
 use Rattle.hcp_chain.specs.Joining.{given_by, open_after}
 use Rattle.hcp_chain.specs.Holding.{HoldsChains, open_messages, messages_in, held_blocks, KeepsOtherChains}
-use Rattle.link_machine.specs.Machine.{Message}
+use Rattle.link_laws.specs.machine.Machine.{Message}
 use Rattle.link_messages.specs.declared.inbox.Got.{Got}
 use Rattle.link_messages.specs.declared.inbox.Inbox.{Inbox}
 

@@ -8,7 +8,7 @@ use Rattle.block_pool.specs.Owners.{owner_at, with_used}
 use Rattle.block_pool.specs.Pool.{PoolState, HasQuota, quota_of, used_of, aside_of, IsLive, IsApart, chain_bytes}
 use Rattle.block_pool.specs.Holdings.{OwnsAll, LiesApart, LieApart, all_blocks, KeepsAllOthers}
 use Rattle.hcp_packet.specs.Packets.{packets_of, packet_count, packet_bytes, fragments_of, AreSendable}
-use Rattle.link_machine.specs.Machine.{Message, whole_among}
+use Rattle.link_laws.specs.machine.Machine.{Message, whole_among}
 use Rattle.link_messages.specs.declared.outbox.Queued.{Queued}
 use Rattle.link_messages.specs.declared.outbox.Outbox.{Outbox}
 

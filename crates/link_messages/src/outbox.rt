@@ -35,7 +35,7 @@ impl Outbox {
     ghost use Rattle.block_pool.specs.Slots.{blocks_for};
     ghost use Rattle.block_pool.specs.Pool.{IsLive, chain_bytes, spare_of};
     ghost use Rattle.hcp_packet.specs.Packets.{packet_count, fragments_of, IsSendable};
-    ghost use Rattle.link_machine.specs.Machine.{Message, whole_among};
+    ghost use Rattle.link_laws.specs.machine.Machine.{Message, whole_among};
     ghost use Rattle.link_messages.specs.declared.outbox.Queued.{Queued};
     ghost use Rattle.link_messages.specs.Outgoing.{queued_messages, waiting_in, rest_among, AreKept, OutboxLiesIn, OutboxLeavesOthers, LeavesOthersBut};
     ghost use Rattle.link_messages.specs.Outgoing.{Accepts, GivesFront, GivesBack, acked_more};

@@ -11,8 +11,8 @@ use Rattle.swp_frame.specs.declared.fed.Fed.{Fed}
 use Rattle.swp_frame.specs.declared.fed.Fed.TheVariants.{Nothing, Frame, Refused}
 use Rattle.swp_frame.specs.Signal.{Symbol, symbol_of}
 use Rattle.swp_frame.specs.Verdicts.{is_verdict, verdict, answers_after}
-use Rattle.link_entries.specs.messages.Links.{Loss}
-use Rattle.link_entries.specs.messages.Links.Loss.{Broken}
+use Rattle.link_laws.specs.messages.Links.{Loss}
+use Rattle.link_laws.specs.messages.Links.Loss.{Broken}
 use Rattle.history.specs.Damage.{flipped, first_frame, judged_by_first, read_as, same_bytes}
 use Rattle.history.specs.Damage.Verdict.{Same, Undetected}
 use Rattle.history.specs.Steps.{lost_as}

@@ -4,7 +4,7 @@ use Rattle.std.specs.Prelude.{Option, Some, None}
 use Rattle.swp_frame.specs.Stuffing.{frame_of}
 use Rattle.trace_model.specs.declared.entry.LostCause.{LostCause}
 use Rattle.link_laws.specs.sessions.Sessions.{OnWire}
-use Rattle.link_entries.specs.messages.Links.{Loss}
+use Rattle.link_laws.specs.messages.Links.{Loss}
 use Rattle.history.specs.Damage.{Verdict, verdict_on}
 use Rattle.history.specs.Damage.Verdict.{Same as ReadSame, LostFor, Undetected as ReadOther}
 use Rattle.history.specs.Steps.{lost_as}

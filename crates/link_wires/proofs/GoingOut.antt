@@ -11,9 +11,9 @@ use Rattle.trace_model.specs.declared.entry.LostCause.{LostCause}
 use Rattle.trace_model.specs.declared.line.End.{End}
 use Rattle.trace_model.specs.Ends.{other_end}
 use Rattle.link_laws.specs.sessions.Sessions.{OnWire, is_rset, fits}
-use Rattle.link_entries.specs.messages.Links.{Link, Loss, put}
-use Rattle.link_entries.specs.entries.Entries.Entry.{Emit as NotedEmit}
-use Rattle.link_entries.specs.entries.Entries.{End as Which, far as far_side, put_entries, pushed_out, wire_with, first_lost}
+use Rattle.link_laws.specs.messages.Links.{Link, Loss, put}
+use Rattle.link_laws.specs.entries.Entries.Entry.{Emit as NotedEmit}
+use Rattle.link_laws.specs.entries.Entries.{End as Which, far as far_side, put_entries, pushed_out, wire_with, first_lost}
 use Rattle.history.specs.Steps.{lost_as}
 use Rattle.link_wires.specs.declared.wire.Flying.{Flying}
 use Rattle.link_wires.specs.Notes.{side_of, AreNoted}

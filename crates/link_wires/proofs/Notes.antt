@@ -3,7 +3,7 @@ use Rattle.std.proofs.Common.{◌≡◌, ℕ, Bool, true, false, List, ◌++◌,
 use Rattle.std.proofs.lemmas.List.Concat.{flat_map-append}
 use Rattle.trace_model.specs.declared.entry.Entry.{Entry}
 use Rattle.trace_model.specs.declared.line.End.{End}
-use Rattle.link_entries.specs.entries.Entries.{Entry as Noted}
+use Rattle.link_laws.specs.entries.Entries.{Entry as Noted}
 use Rattle.history.specs.Steps.{end_of, entry_of, entries_for}
 use Rattle.link_wires.specs.Notes.{side_of, AreNoted}
 

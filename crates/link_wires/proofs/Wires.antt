@@ -13,9 +13,9 @@ use Rattle.trace_model.specs.declared.entry.Entry.TheVariants as entry
 use Rattle.trace_model.specs.declared.entry.LostCause.TheVariants.{Age, Full}
 use Rattle.trace_model.specs.declared.line.End.{End}
 use Rattle.link_laws.specs.sessions.Sessions.{OnWire, fits, aged_wire}
-use Rattle.link_entries.specs.entries.Entries.{Entry as Noted, pushed_out, aged_entries}
-use Rattle.link_entries.specs.entries.Entries.Entry.{Lost}
-use Rattle.link_entries.specs.messages.Links.Loss.{TooOld, TooMany}
+use Rattle.link_laws.specs.entries.Entries.{Entry as Noted, pushed_out, aged_entries}
+use Rattle.link_laws.specs.entries.Entries.Entry.{Lost}
+use Rattle.link_laws.specs.messages.Links.Loss.{TooOld, TooMany}
 use Rattle.history.specs.Steps.{entries_for}
 use Rattle.link_wires.specs.declared.wire.Flying.{Flying}
 use Rattle.link_wires.specs.Notes.{side_of}

@@ -3,7 +3,7 @@ use Rattle.std.specs.Prelude.{◌≡◌, ℕ, List, [], ◌∷◌, Option, Some,
 use Rattle.swp_lpdu.specs.Controls.{lpdu_of}
 use Rattle.trace_model.specs.declared.entry.LostCause.{LostCause}
 use Rattle.link_laws.specs.sessions.Sessions.{OnWire}
-use Rattle.link_entries.specs.messages.Links.{Loss}
+use Rattle.link_laws.specs.messages.Links.{Loss}
 use Rattle.history.specs.Damage.{Verdict, read_as}
 use Rattle.history.specs.Damage.Verdict.{Same as ReadSame, LostFor, Undetected as ReadOther}
 use Rattle.history.specs.Steps.{lost_as}

@@ -2,8 +2,8 @@
 use Rattle.std.specs.Prelude.{◌≡◌, if◌then◌else◌, List, ◌++◌}
 use Rattle.trace_model.specs.declared.entry.Entry.{Entry}
 use Rattle.trace_model.specs.declared.line.End.{End}
-use Rattle.link_entries.specs.entries.Entries.{End as Which, Entry as Noted}
-use Rattle.link_entries.specs.entries.Entries.End.{Controller, Host}
+use Rattle.link_laws.specs.entries.Entries.{End as Which, Entry as Noted}
+use Rattle.link_laws.specs.entries.Entries.End.{Controller, Host}
 use Rattle.history.specs.Steps.{entries_for}
 
 -- which of the two ends of its link an end is

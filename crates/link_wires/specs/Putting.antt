@@ -1,7 +1,7 @@
 -- What is kept of a link where its frames go out at one end.
 use Rattle.std.specs.Prelude.{◌≡◌, ℕ}
 use Rattle.circular_buffer.specs.Buffer.{Buffer}
-use Rattle.link_entries.specs.messages.Links.{Link}
+use Rattle.link_laws.specs.messages.Links.{Link}
 use Rattle.link_wires.specs.declared.wire.Flying.{Flying}
 use Rattle.link_wires.specs.Wires.{WireStandsFor}
 

@@ -3,7 +3,7 @@ ghost use Rattle.std.specs.Prelude.{◌≡◌, ℕ, ◌≤◌, ◌++◌, List, f
 ghost use Rattle.swp_frame.specs.Signal.{symbol_of};
 ghost use Rattle.swp_frame.specs.Stuffing.{frame_of};
 ghost use Rattle.swp_frame.specs.Verdicts.{verdicts};
-ghost use Rattle.link_entries.specs.messages.Links.Loss.{Broken};
+ghost use Rattle.link_laws.specs.messages.Links.Loss.{Broken};
 ghost use Rattle.history.specs.Damage.{flipped, flipped_at, judged_by_first, verdict_on};
 ghost use Rattle.history.specs.Steps.{lost_as};
 ghost use Rattle.history.specs.Follows.{if_beyond};

@@ -3,8 +3,8 @@ ghost use Rattle.std.specs.Prelude.{◌≡◌, ℕ, ◌+◌, ◌<◌, ◌≤◌,
 ghost use Rattle.swp_base.specs.declared.control_frames.Control.{Control as Frame};
 ghost use Rattle.swp_lpdu.specs.Controls.{lpdu_of, control_of};
 ghost use Rattle.link_laws.specs.sessions.Sessions.{OnWire, is_rset};
-ghost use Rattle.link_entries.specs.messages.Links.{Link, Loss, put};
-ghost use Rattle.link_entries.specs.entries.Entries.{put_entries, first_lost};
+ghost use Rattle.link_laws.specs.messages.Links.{Link, Loss, put};
+ghost use Rattle.link_laws.specs.entries.Entries.{put_entries, first_lost};
 ghost use Rattle.history.specs.Steps.{lost_as};
 ghost use Rattle.link_wires.specs.Notes.{side_of, AreNoted};
 ghost use Rattle.link_wires.specs.Wires.{WireStandsFor};

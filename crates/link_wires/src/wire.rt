@@ -4,7 +4,7 @@ ghost use Rattle.swp_base.specs.declared.control_frames.Control.{Control as Fram
 ghost use Rattle.swp_lpdu.specs.Controls.{lpdu_of, control_of};
 ghost use Rattle.link_laws.specs.sessions.Sessions.{OnWire, is_rset, aged_wire, fits};
 ghost use Rattle.history.specs.Follows.{taken_of};
-ghost use Rattle.link_entries.specs.entries.Entries.{aged_entries, pushed_out, far};
+ghost use Rattle.link_laws.specs.entries.Entries.{aged_entries, pushed_out, far};
 ghost use Rattle.link_wires.specs.Notes.{side_of};
 ghost use Rattle.link_wires.specs.Wires.{WireStandsFor, IsMade, kept_of};
 ghost use Rattle.link_wires.specs.Notes.{AreNoted};

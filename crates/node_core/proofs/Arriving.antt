@@ -11,7 +11,7 @@ use Rattle.swp_lpdu.specs.declared.LpduFault.{LpduFault}
 use Rattle.swp_lpdu.specs.Controls.{control_of}
 use Rattle.block_pool.specs.Pool.{PoolState}
 use Rattle.trace_model.specs.declared.entry.Entry.{Entry}
-use Rattle.link_machine.specs.Machine.{LinkEnd as Machine, Message, LinkInput, oldest, report, after_input, got_by, whole_acked, lpdu_input}
+use Rattle.link_laws.specs.machine.Machine.{LinkEnd as Machine, Message, LinkInput, oldest, report, after_input, got_by, whole_acked, lpdu_input}
 use Rattle.link_end.specs.declared.report.LinkReport.{LinkReport}
 use Rattle.link_end.specs.Reports.{report_told}
 use Rattle.node_machine.specs.Parts.{Core, Port, Work}

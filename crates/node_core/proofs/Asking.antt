@@ -5,9 +5,9 @@ use Rattle.std.proofs.lemmas.Bool.{true≢false, and_parts, and_right}
 use Rattle.trace_model.specs.declared.entry.Entry.{Entry}
 use Rattle.trace_model.specs.declared.entry.NoCause.{NoCause}
 use Rattle.hci_store.specs.Stored.{Stored}
-use Rattle.link_machine.specs.Machine.{Message, Refused, Role, give_refusal}
-use Rattle.link_machine.specs.Machine.Role.{Bare, Clf, Uicc}
-use Rattle.link_machine.specs.Machine.Refused.{NotUp, TooLong, Full, Inactive, IsWaiting}
+use Rattle.link_laws.specs.machine.Machine.{Message, Refused, Role, give_refusal}
+use Rattle.link_laws.specs.machine.Machine.Role.{Bare, Clf, Uicc}
+use Rattle.link_laws.specs.machine.Machine.Refused.{NotUp, TooLong, Full, Inactive, IsWaiting}
 use Rattle.node_machine.specs.Parts.{Init, Core, Port, Work, Deed}
 use Rattle.node_machine.specs.Parts.Deed.{Sends, Orders, GoesOn}
 use Rattle.node_machine.specs.Carrying.{port_at, done, all_done}
@@ -23,7 +23,7 @@ use Rattle.node_core.specs.Nodes.{IsInStep, IsSoundNode}
 use Rattle.node_core.specs.Deeds.{IsOnTask}
 use Rattle.node_core.specs.Turning.{IsNodeInOrder}
 use Rattle.node_core.specs.Running.{RunsAs, BeginsStep, HasStepped, IsAllSent, between}
-use Rattle.link_entries.specs.messages.Links.{IsUicc}
+use Rattle.link_laws.specs.messages.Links.{IsUicc}
 use Rattle.node_core.specs.Giving.{IsAsked}
 use Rattle.node_core.proofs.Quiet.{done_quiet}
 use Rattle.node_core.proofs.Elsewhere.{same_links}

@@ -15,11 +15,11 @@ use Rattle.shdlc_core.specs.declared.answers.LinkState.TheVariants.{Down}
 use Rattle.shdlc_core.specs.Machine.{EndState, after_frames}
 use Rattle.link_laws.proofs.sessions.Ties.{fetched-phase}
 use Rattle.trace_model.specs.declared.entry.Entry.{Entry}
-use Rattle.link_machine.specs.Machine.{LinkEnd as Machine, LinkInput, Role, is_open, act_answer, role_after, put_down, activated}
-use Rattle.link_machine.specs.Machine.{report, reset_refusal, sent_all, after_input}
-use Rattle.link_machine.specs.Machine.Role.{Bare, Clf, Uicc}
-use Rattle.link_machine.specs.Machine.LinkInput.{Take, TakeUnknown, TakeBroken, Tick, Reset, Start, Stop, FromNode, Fetch}
-use Rattle.link_machine.proofs.Runs.{Sound, sound}
+use Rattle.link_laws.specs.machine.Machine.{LinkEnd as Machine, LinkInput, Role, is_open, act_answer, role_after, put_down, activated}
+use Rattle.link_laws.specs.machine.Machine.{report, reset_refusal, sent_all, after_input}
+use Rattle.link_laws.specs.machine.Machine.Role.{Bare, Clf, Uicc}
+use Rattle.link_laws.specs.machine.Machine.LinkInput.{Take, TakeUnknown, TakeBroken, Tick, Reset, Start, Stop, FromNode, Fetch}
+use Rattle.link_laws.proofs.machine.Runs.{Sound, sound}
 use Rattle.node_deeds.proofs.Ports.{find-map}
 use Rattle.node_machine.specs.Parts.{Port, Work, Deed}
 use Rattle.node_machine.specs.Carrying.{port_at, unless_cut}

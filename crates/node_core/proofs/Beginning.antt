@@ -2,7 +2,7 @@
 use Rattle.std.proofs.Common.{◌≡◌, ◌≢◌, ℕ, ◌+◌, ◌≤◌, List, [], ◌∷◌, map, length, refl, sym, ap, subst, arith}
 use Rattle.std.specs.Prelude.{None}
 use Rattle.std.specs.List.{AllByRecursion}
-use Rattle.link_entries.specs.messages.Links.{IsClf, IsUicc}
+use Rattle.link_laws.specs.messages.Links.{IsClf, IsUicc}
 use Rattle.swp_base.specs.declared.link_terms.Role.{Role as Named}
 use Rattle.swp_base.specs.declared.link_terms.Role.TheVariants.{Bare, Clf, Uicc}
 use Rattle.node_machine.specs.Parts.{Port}

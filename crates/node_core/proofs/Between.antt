@@ -10,10 +10,10 @@ use Rattle.trace_model.specs.declared.entry.Entry.{Entry}
 use Rattle.hci_store.specs.Stored.{Stored}
 use Rattle.shdlc_core.specs.declared.answers.Due.{Due}
 use Rattle.shdlc_core.specs.Machine.{all_frames, fetched, fragment_due, Fragment}
-use Rattle.link_machine.specs.Machine.{LinkEnd as Machine, ActDue, among, next_frame, frame_fetched, frames_out, sent_all, nearer}
-use Rattle.link_machine.specs.AtRest.{end_rests}
-use Rattle.link_machine.specs.Laws.{fetches, after_fetches, most_fetches}
-use Rattle.link_machine.proofs.Places.{fetched_all, left_all}
+use Rattle.link_laws.specs.machine.Machine.{LinkEnd as Machine, ActDue, among, next_frame, frame_fetched, frames_out, sent_all, nearer}
+use Rattle.link_laws.specs.machine.AtRest.{end_rests}
+use Rattle.link_laws.specs.machine.Laws.{fetches, after_fetches, most_fetches}
+use Rattle.link_laws.proofs.machine.Places.{fetched_all, left_all}
 use Rattle.link_laws.proofs.places.Idle.{left, idle_after}
 use Rattle.node_machine.specs.Parts.{Core, Port, Work, Desk as DeskOf}
 use Rattle.node_deeds.specs.declared.host.Tasks.{Tasks}

@@ -16,8 +16,8 @@ use Rattle.hci_tables.specs.Tables.{apply}
 use Rattle.hci_tables.specs.Bodies.{body_of}
 use Rattle.hci_store.specs.Stored.{Stored}
 use Rattle.hci_store.specs.Committing.{record_fits, commit_writes, committed}
-use Rattle.link_machine.specs.Machine.{Message, Refused, give_refusal}
-use Rattle.link_machine.specs.Machine.Turn.{Give}
+use Rattle.link_laws.specs.machine.Machine.{Message, Refused, give_refusal}
+use Rattle.link_laws.specs.machine.Machine.Turn.{Give}
 use Rattle.node_machine.specs.Parts.{Core, Port, Work}
 use Rattle.node_machine.specs.Carrying.{port_at, noted_of, end_of_node, with_port, after_turn, turn_at, commit, keeps, loses_power, noting}
 use Rattle.node_machine.specs.Carrying.{has_room_for, plan_behind}

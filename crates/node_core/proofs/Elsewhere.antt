@@ -7,8 +7,8 @@ use Rattle.std.proofs.lemmas.Bool.{eqb-true}
 use Rattle.block_pool.specs.Pool.{PoolState}
 use Rattle.shdlc_core.specs.declared.answers.LinkState.{LinkState}
 use Rattle.shdlc_core.specs.Machine.{EndState, with_ready}
-use Rattle.link_machine.specs.Machine.{Message}
-use Rattle.link_machine.specs.Machine.Turn.{Hold}
+use Rattle.link_laws.specs.machine.Machine.{Message}
+use Rattle.link_laws.specs.machine.Machine.Turn.{Hold}
 use Rattle.node_machine.specs.Parts.{Port, Work, Deed as DeedOf}
 use Rattle.node_machine.specs.Carrying.{port_at, changed_if, with_port, after_turn, lack, needs}
 use Rattle.node_machine.specs.Turns.{deeds_of, handles, holds_back, lets_go, have_turns}

@@ -14,13 +14,13 @@ use Rattle.swp_act.specs.declared.ActEvent.TheVariants.{Start as ActStart, Take 
 use Rattle.shdlc_core.specs.declared.answers.LinkState.{LinkState}
 use Rattle.shdlc_core.specs.declared.answers.LinkState.TheVariants.{Down, Waiting, Up}
 use Rattle.shdlc_core.specs.Machine.{EndState, taken, take_answer, ticked, tick_answer, reset_with, stopped}
-use Rattle.link_machine.specs.Machine.{LinkEnd as Machine, LinkInput, Refused, Role, Turn, ActDue, is_open, is_faulty, moved, put_down, with_act}
-use Rattle.link_machine.specs.Machine.{activated, act_answer, role_after, heard, took, had_tick, given, give_refusal, aside_refusal, unless, turn}
-use Rattle.link_machine.specs.Machine.{reset_refusal, reset_by, window_of, if_up, after_input, frame_fetched}
-use Rattle.link_machine.specs.Machine.Role.{Bare, Clf, Uicc}
-use Rattle.link_machine.specs.Machine.Turn.{Give, Hold, FetchMessage, SetAside, Release}
-use Rattle.link_machine.specs.Machine.LinkInput.{Take, TakeUnknown, TakeBroken, Tick, Reset, Start, Stop, FromNode, Fetch}
-use Rattle.link_entries.specs.messages.Links.{IsClf, IsUicc}
+use Rattle.link_laws.specs.machine.Machine.{LinkEnd as Machine, LinkInput, Refused, Role, Turn, ActDue, is_open, is_faulty, moved, put_down, with_act}
+use Rattle.link_laws.specs.machine.Machine.{activated, act_answer, role_after, heard, took, had_tick, given, give_refusal, aside_refusal, unless, turn}
+use Rattle.link_laws.specs.machine.Machine.{reset_refusal, reset_by, window_of, if_up, after_input, frame_fetched}
+use Rattle.link_laws.specs.machine.Machine.Role.{Bare, Clf, Uicc}
+use Rattle.link_laws.specs.machine.Machine.Turn.{Give, Hold, FetchMessage, SetAside, Release}
+use Rattle.link_laws.specs.machine.Machine.LinkInput.{Take, TakeUnknown, TakeBroken, Tick, Reset, Start, Stop, FromNode, Fetch}
+use Rattle.link_laws.specs.messages.Links.{IsClf, IsUicc}
 use Rattle.node_machine.specs.Parts.{Port}
 use Rattle.node_machine.specs.Carrying.{changed_if, with_port}
 use Rattle.node_machine.specs.Node.{has_come, is_late, reset_late}

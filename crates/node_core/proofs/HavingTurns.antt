@@ -2,8 +2,8 @@
 use Rattle.std.proofs.Common.{◌≡◌, ◌≢◌, ℕ, Bool, true, false, List, [], ◌∷◌, map, refl, sym, ap, ◌∙◌, subst}
 use Rattle.std.specs.Prelude.{Option, Some, None, option_map}
 use Rattle.swp_base.specs.InMemory.{Plan}
-use Rattle.link_machine.specs.Machine.{Message}
-use Rattle.link_machine.specs.Machine.Turn.{Hold}
+use Rattle.link_laws.specs.machine.Machine.{Message}
+use Rattle.link_laws.specs.machine.Machine.Turn.{Hold}
 use Rattle.std.specs.Option.{option_map_or}
 use Rattle.node_machine.specs.Parts.{Port, Work, Deed as DeedOf}
 use Rattle.node_machine.specs.Carrying.{port_at, turn_at, unless_cut, lack, needs}

@@ -4,7 +4,7 @@ use Rattle.std.specs.Prelude.{Option, Some, None, IfSome, is_some}
 use Rattle.std.specs.List.{AllByRecursion, list_any}
 use Rattle.std.specs.Option.{option_map_or}
 use Rattle.std.proofs.lemmas.Bool.{true≢false}
-use Rattle.link_machine.specs.Machine.{Message, is_held}
+use Rattle.link_laws.specs.machine.Machine.{Message, is_held}
 use Rattle.node_machine.specs.Parts.{Port, Work, Deed}
 use Rattle.node_machine.specs.Carrying.{port_at, all_done, unless_cut}
 use Rattle.node_machine.specs.Turns.{have_turns, goes_through_ends, passes}

@@ -8,8 +8,8 @@ use Rattle.std.specs.Option.{option_map_or}
 use Rattle.std.proofs.lemmas.Bool.{eqb-true, eq-eqb, true≢false}
 use Rattle.shdlc_core.specs.declared.answers.Due.TheVariants.{Rr as Rr_due}
 use Rattle.shdlc_core.specs.Machine.{EndState, with_ready}
-use Rattle.link_machine.specs.Machine.{LinkEnd as Machine, Message, Turn, Refused, turn, given, unless, give_refusal, aside_refusal}
-use Rattle.link_machine.specs.Machine.Turn.{Give, Hold, FetchMessage, SetAside, Release}
+use Rattle.link_laws.specs.machine.Machine.{LinkEnd as Machine, Message, Turn, Refused, turn, given, unless, give_refusal, aside_refusal}
+use Rattle.link_laws.specs.machine.Machine.Turn.{Give, Hold, FetchMessage, SetAside, Release}
 use Rattle.node_machine.specs.Parts.{Port, Work, Notice, Desk as DeskOf, Deed}
 use Rattle.node_machine.specs.Parts.Deed.{Commits, Sends, SaysOk, Asks, Releases, Tells, IsAnswered, Drops, SetsErrors, Orders, Hears, GoesOn, Ends}
 use Rattle.node_machine.specs.Carrying.{port_at, changed_if, with_port, after_turn, done, all_done, needs, lack}

@@ -11,9 +11,9 @@ use Rattle.node_machine.specs.Node.{told_at}
 use Rattle.node_core.proofs.Sendables.{found_all}
 use Rattle.std.specs.Option.{option_map_or}
 use Rattle.trace_model.specs.declared.entry.Entry.{Entry}
-use Rattle.link_machine.specs.Machine.{LinkEnd as Machine, Refused, report, after_input, whole_acked, reset_refusal, if_up}
-use Rattle.link_machine.specs.Machine.LinkInput.{Reset}
-use Rattle.link_entries.specs.entries.Entries.{End as Side, told}
+use Rattle.link_laws.specs.machine.Machine.{LinkEnd as Machine, Refused, report, after_input, whole_acked, reset_refusal, if_up}
+use Rattle.link_laws.specs.machine.Machine.LinkInput.{Reset}
+use Rattle.link_laws.specs.entries.Entries.{End as Side, told}
 use Rattle.history.specs.Steps.{entries_for}
 use Rattle.swp_base.specs.declared.link_terms.Cause.TheVariants.{Asked}
 use Rattle.link_end.specs.declared.report.LinkReport.{LinkReport}

@@ -5,14 +5,14 @@ use Rattle.std.proofs.lemmas.Bool.{eqb-true, true≢false}
 use Rattle.std.proofs.lemmas.Grind.{flat_map-append}
 use Rattle.std.proofs.lemmas.List.{map-append}
 use Rattle.trace_model.specs.declared.entry.Entry.{Entry}
-use Rattle.link_entries.specs.entries.Entries.{Entry as Noted}
+use Rattle.link_laws.specs.entries.Entries.{Entry as Noted}
 use Rattle.history.specs.Steps.{entry_of, entries_for}
 use Rattle.swp_base.specs.declared.link_terms.Cause.{Cause}
 use Rattle.std.specs.Prelude.{nat_lt}
 use Rattle.trace_model.specs.declared.entry.Entry.TheVariants as entry
-use Rattle.link_machine.specs.Machine.{Message, Report, oldest}
-use Rattle.link_entries.specs.entries.Entries.{End as Side, if_so, told}
-use Rattle.link_entries.specs.entries.Entries.Entry.{Up, Down, Active, GaveUp, Acked, Got}
+use Rattle.link_laws.specs.machine.Machine.{Message, Report, oldest}
+use Rattle.link_laws.specs.entries.Entries.{End as Side, if_so, told}
+use Rattle.link_laws.specs.entries.Entries.Entry.{Up, Down, Active, GaveUp, Acked, Got}
 use Rattle.history.specs.Steps.{end_of}
 use Rattle.link_end.specs.declared.report.LinkReport.{LinkReport}
 use Rattle.link_end.specs.Reports.{report_told}

@@ -6,7 +6,7 @@ use Rattle.swp_base.specs.InMemory.{Plan}
 use Rattle.journal_laws.specs.Writes.{Write}
 use Rattle.hci_tables.specs.Bodies.{body_of}
 use Rattle.hci_store.specs.Committing.{commit_writes}
-use Rattle.link_machine.specs.Machine.{Message}
+use Rattle.link_laws.specs.machine.Machine.{Message}
 use Rattle.node_machine.specs.Parts.{Init, Core, Port, Work, Deed}
 use Rattle.node_machine.specs.Parts.Deed.{Commits, Sends, SaysOk, Asks, Releases, Tells, IsAnswered, Drops, SetsErrors, Orders, Hears, GoesOn, Ends}
 use Rattle.node_machine.specs.Carrying.{port_at, plan_behind, unless_cut, done, all_done, lack, needs}

@@ -9,8 +9,8 @@ use Rattle.hci_tables.specs.declared.command.Command.{Command}
 use Rattle.hci_tables.specs.Bodies.{body_of}
 use Rattle.hci_store.specs.Committing.{commit_writes}
 use Rattle.shdlc_core.specs.declared.answers.LinkState.{LinkState}
-use Rattle.link_machine.specs.Machine.{Message, Role, Refused, given, unless, give_refusal, aside_refusal}
-use Rattle.link_machine.specs.Machine.Turn.{Give, FetchMessage, SetAside, Release}
+use Rattle.link_laws.specs.machine.Machine.{Message, Role, Refused, given, unless, give_refusal, aside_refusal}
+use Rattle.link_laws.specs.machine.Machine.Turn.{Give, FetchMessage, SetAside, Release}
 use Rattle.node_machine.specs.Parts.{Port, Work, Deed, Desk as DeskOf}
 use Rattle.node_machine.specs.Parts.Deed.{Commits, Sends, SaysOk, Asks, Releases, Tells, IsAnswered, Drops, SetsErrors, Orders, Hears, GoesOn, Ends}
 use Rattle.node_machine.specs.Carrying.{port_at, changed_if, with_port, after_turn, commit, done, all_done}

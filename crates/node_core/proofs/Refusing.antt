@@ -11,9 +11,9 @@ use Rattle.swp_act.specs.declared.ActEvent.TheVariants.{Tick as ActTick}
 use Rattle.swp_act.specs.Activation.{out_ticked}
 use Rattle.trace_model.specs.declared.entry.Entry.{Entry}
 use Rattle.swp_base.specs.declared.link_terms.Cause.TheVariants.{Asked}
-use Rattle.link_machine.specs.Machine.{LinkEnd as Machine, Refused, Role, report, after_input, reset_refusal, is_open, act_answer, if_up}
-use Rattle.link_machine.specs.Machine.LinkInput.{Reset, Tick}
-use Rattle.link_machine.specs.Machine.Role.{Bare, Clf, Uicc}
+use Rattle.link_laws.specs.machine.Machine.{LinkEnd as Machine, Refused, Role, report, after_input, reset_refusal, is_open, act_answer, if_up}
+use Rattle.link_laws.specs.machine.Machine.LinkInput.{Reset, Tick}
+use Rattle.link_laws.specs.machine.Machine.Role.{Bare, Clf, Uicc}
 use Rattle.link_end.specs.declared.report.LinkReport.{LinkReport}
 use Rattle.link_end.specs.declared.report.ResetRefused.{ResetRefused}
 use Rattle.link_end.specs.Reports.{reset_refused, reset_told, nothing_told}

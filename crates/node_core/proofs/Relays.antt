@@ -7,8 +7,8 @@ use Rattle.swp_base.specs.InMemory.{Plan}
 use Rattle.trace_model.specs.declared.entry.Entry.{Entry}
 use Rattle.trace_model.specs.declared.entry.Entry.TheVariants as entry
 use Rattle.trace_model.specs.declared.line.End.{End}
-use Rattle.link_machine.specs.Machine.{Message, Refused, give_refusal}
-use Rattle.link_machine.specs.Machine.Turn.{Give, FetchMessage}
+use Rattle.link_laws.specs.machine.Machine.{Message, Refused, give_refusal}
+use Rattle.link_laws.specs.machine.Machine.Turn.{Give, FetchMessage}
 use Rattle.node_machine.specs.Parts.{Core, Port, Work, Deed as DeedOf}
 use Rattle.node_machine.specs.Parts.Deed.{Sends}
 use Rattle.node_machine.specs.Carrying.{port_at, noted_of, end_of_node, with_port, after_turn, turn_at, with_desk, done, all_done, noting}

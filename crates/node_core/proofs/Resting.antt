@@ -4,8 +4,8 @@ use Rattle.std.specs.Prelude.{Option, Some, None, ◌||◌, ◌&&◌, ◌==◌, 
 use Rattle.std.specs.List.{AllByRecursion, flat_map}
 use Rattle.std.proofs.lemmas.Bool.{true≢false}
 use Rattle.std.proofs.lemmas.Bool.Decides.{nat_tests}
-use Rattle.link_machine.specs.Machine.{LinkEnd as Machine, LinkInput, after_input}
-use Rattle.link_machine.specs.Machine.LinkInput.{Tick}
+use Rattle.link_laws.specs.machine.Machine.{LinkEnd as Machine, LinkInput, after_input}
+use Rattle.link_laws.specs.machine.Machine.LinkInput.{Tick}
 use Rattle.node_machine.specs.Parts.{Port, Work, Notice, Deed}
 use Rattle.node_machine.specs.Carrying.{all_done, unless_cut}
 use Rattle.node_machine.specs.Controller.{asked_at}

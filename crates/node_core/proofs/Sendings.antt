@@ -7,8 +7,8 @@ use Rattle.trace_model.specs.declared.entry.NoCause.TheVariants as no
 use Rattle.link_laws.specs.sessions.Sessions.{is_up}
 use Rattle.shdlc_core.specs.declared.answers.LinkState.{LinkState}
 use Rattle.shdlc_core.specs.declared.answers.LinkState.TheVariants.{Down, Waiting as IsWaiting, Up}
-use Rattle.link_machine.specs.Machine.{LinkEnd as Machine, Message, Refused, give_refusal, need, spare}
-use Rattle.link_machine.specs.Machine.Refused.{TooLong, Full}
+use Rattle.link_laws.specs.machine.Machine.{LinkEnd as Machine, Message, Refused, give_refusal, need, spare}
+use Rattle.link_laws.specs.machine.Machine.Refused.{TooLong, Full}
 use Rattle.node_machine.specs.Parts.{Port, Work, Deed}
 use Rattle.node_machine.specs.Parts.Deed.{Sends, Orders}
 use Rattle.node_machine.specs.Carrying.{port_at, done, all_done}

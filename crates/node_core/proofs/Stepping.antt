@@ -8,9 +8,9 @@ use Rattle.std.proofs.lemmas.List.Concat.{flat_map-cons}
 use Rattle.swp_base.specs.InMemory.{Plan}
 use Rattle.trace_model.specs.declared.entry.Entry.{Entry}
 use Rattle.hci_store.specs.Stored.{Stored}
-use Rattle.link_machine.specs.Machine.{LinkEnd as Machine, LinkInput, Role, report, after_input, act_answer, lpdu_input}
-use Rattle.link_machine.specs.Machine.LinkInput.{Reset, Start, Stop, Tick}
-use Rattle.link_machine.specs.Machine.Role.{Bare, Clf, Uicc}
+use Rattle.link_laws.specs.machine.Machine.{LinkEnd as Machine, LinkInput, Role, report, after_input, act_answer, lpdu_input}
+use Rattle.link_laws.specs.machine.Machine.LinkInput.{Reset, Start, Stop, Tick}
+use Rattle.link_laws.specs.machine.Machine.Role.{Bare, Clf, Uicc}
 use Rattle.swp_act.specs.declared.ActEvent.TheVariants.{Start as ActStart, Stop as ActStop}
 use Rattle.link_end.specs.declared.report.LinkReport.{LinkReport}
 use Rattle.link_end.specs.Reports.{report_told}

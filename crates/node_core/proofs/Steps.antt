@@ -6,7 +6,7 @@ use Rattle.std.proofs.lemmas.List.{drop_all}
 use Rattle.std.specs.Prelude.{Option, Some, None}
 use Rattle.std.specs.Option.{option_map_or}
 use Rattle.trace_model.specs.declared.entry.Entry.{Entry}
-use Rattle.link_machine.specs.Machine.{Turn}
+use Rattle.link_laws.specs.machine.Machine.{Turn}
 use Rattle.node_machine.specs.Parts.{Core, Port, Work, Desk as DeskOf}
 use Rattle.node_machine.specs.Carrying.{port_at, noted_of, with_port, with_desk, after_turn, turn_at, noting}
 use Rattle.node_ends.specs.declared.ends.Ends.{Ends}

@@ -11,7 +11,7 @@ use Rattle.std.specs.Option.{option_map_or}
 use Rattle.std.proofs.lemmas.List.{drop_all}
 use Rattle.hcp_packet.specs.Packets.{IsSendable}
 use Rattle.history.specs.Steps.{end_of}
-use Rattle.link_entries.specs.entries.Entries.End.{Host}
+use Rattle.link_laws.specs.entries.Entries.End.{Host}
 use Rattle.node_machine.specs.Parts.Deed.{Sends, Ends}
 use Rattle.node_deeds.specs.declared.deeds.Deed.{Deed}
 use Rattle.node_deeds.specs.declared.deeds.Deed.TheVariants as kept
@@ -21,7 +21,7 @@ use Rattle.node_deeds.specs.Hosts.{init_running}
 use Rattle.node_core.specs.declared.node.Node.{Node}
 use Rattle.node_core.specs.Nodes.{IsInStep}
 use Rattle.node_core.specs.Deeds.{handling, deed_of, IsDoableNow}
-use Rattle.link_machine.specs.Machine.{Message}
+use Rattle.link_laws.specs.machine.Machine.{Message}
 
 -- ## An init that goes on
 

@@ -7,7 +7,7 @@ use Rattle.std.specs.Option.{option_map_or}
 use Rattle.std.proofs.lemmas.Bool.{eqb-true, eq-eqb}
 use Rattle.std.proofs.lemmas.List.Concat.{flat_map-cons}
 use Rattle.trace_model.specs.declared.entry.Entry.{Entry}
-use Rattle.link_machine.specs.Machine.LinkInput.{Tick}
+use Rattle.link_laws.specs.machine.Machine.LinkInput.{Tick}
 use Rattle.node_machine.specs.Parts.{Port, Work}
 use Rattle.node_machine.specs.Carrying.{port_at, with_port, noting}
 use Rattle.node_machine.specs.Node.{has_come, told_at, all_come}

@@ -13,11 +13,11 @@ use Rattle.journal_laws.specs.Planned.{fails_within}
 use Rattle.shdlc_core.specs.Machine.{EndState, is_waiting, waiting_from, stopped}
 use Rattle.shdlc_core.specs.declared.answers.LinkState.TheVariants.{Down}
 use Rattle.link_laws.specs.sessions.Sessions.{is_up}
-use Rattle.link_machine.specs.Machine.{LinkEnd as Machine, Message, LinkInput, Refused, unless, given, give_refusal, after_input, moved, is_open, if_up}
-use Rattle.link_machine.specs.Machine.{window_of, reset_refusal, put_down, with_act, act_answer, role_after, activated}
-use Rattle.link_machine.specs.Machine.LinkInput.{Reset, Start, Stop}
-use Rattle.link_machine.specs.Machine.Refused.{Inactive, IsWaiting}
-use Rattle.link_machine.specs.Machine.Turn.{Give, FetchMessage, Release}
+use Rattle.link_laws.specs.machine.Machine.{LinkEnd as Machine, Message, LinkInput, Refused, unless, given, give_refusal, after_input, moved, is_open, if_up}
+use Rattle.link_laws.specs.machine.Machine.{window_of, reset_refusal, put_down, with_act, act_answer, role_after, activated}
+use Rattle.link_laws.specs.machine.Machine.LinkInput.{Reset, Start, Stop}
+use Rattle.link_laws.specs.machine.Machine.Refused.{Inactive, IsWaiting}
+use Rattle.link_laws.specs.machine.Machine.Turn.{Give, FetchMessage, Release}
 use Rattle.swp_base.specs.declared.control_frames.Act.{Act}
 use Rattle.node_machine.specs.Parts.{Core, Port, Work, Deed}
 use Rattle.node_machine.specs.Parts.Deed.{Sends, Releases, Drops}

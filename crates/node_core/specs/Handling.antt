@@ -2,8 +2,8 @@
 use Rattle.std.specs.Prelude.{ℕ, Bool, true, false, [], ◌∷◌}
 use Rattle.std.specs.Option.{option_map_or}
 use Rattle.trace_model.specs.declared.entry.Entry.TheVariants as entry
-use Rattle.link_machine.specs.Machine.{Message}
-use Rattle.link_machine.specs.Machine.Turn.{FetchMessage}
+use Rattle.link_laws.specs.machine.Machine.{Message}
+use Rattle.link_laws.specs.machine.Machine.Turn.{FetchMessage}
 use Rattle.node_machine.specs.Parts.{Port, Work}
 use Rattle.node_machine.specs.Carrying.{port_at, end_of_node, noting, turn_at, with_desk}
 

@@ -3,7 +3,7 @@
 use Rattle.std.specs.Prelude.{◌≡◌, ◌==◌, ◌&&◌, not, is_none, Bool, true, false, List, ◌++◌}
 use Rattle.trace_model.specs.declared.entry.Entry.{Entry}
 use Rattle.trace_model.specs.declared.entry.Entry.TheVariants.{Up, Sent, Got, Acked}
-use Rattle.link_machine.specs.Machine.{Report}
+use Rattle.link_laws.specs.machine.Machine.{Report}
 use Rattle.link_end.specs.declared.report.LinkReport.{LinkReport}
 use Rattle.std.specs.Prelude.{[]}
 use Rattle.node_ends.specs.Holding.{kept_number}

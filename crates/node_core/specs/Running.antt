@@ -2,8 +2,8 @@
 use Rattle.std.specs.Prelude.{◌≡◌, ◌≤◌, ◌+◌, min, length, Bool, true, false, not, List, [], ◌++◌, map, Option, Some, None, option_map, Result, Ok, Err, IsTrue}
 use Rattle.std.specs.List.{AllByRecursion}
 use Rattle.trace_model.specs.declared.entry.Entry.{Entry}
-use Rattle.link_machine.specs.Machine.{LinkEnd, next_frame, frames_out, sent_all, reset_refusal}
-use Rattle.link_machine.specs.Laws.{fetches, after_fetches, most_fetches}
+use Rattle.link_laws.specs.machine.Machine.{LinkEnd, next_frame, frames_out, sent_all, reset_refusal}
+use Rattle.link_laws.specs.machine.Laws.{fetches, after_fetches, most_fetches}
 use Rattle.link_end.specs.declared.report.LinkReport.{LinkReport}
 use Rattle.link_end.specs.declared.report.ResetRefused.{ResetRefused}
 use Rattle.link_end.specs.Reports.{reset_refused}

@@ -1,7 +1,7 @@
 -- A turn of a message, as a node decides on it.
 use Rattle.std.specs.Prelude.{◌≡◌, ◌≢◌, ℕ, ◌+◌, ◌≤◌, Bool, List, [], ◌∷◌, map, length, Option, Some, option_map}
 use Rattle.std.specs.List.{AllByRecursion}
-use Rattle.link_entries.specs.messages.Links.{IsClf, IsUicc}
+use Rattle.link_laws.specs.messages.Links.{IsClf, IsUicc}
 use Rattle.node_machine.specs.Parts.{Core, Port, Work}
 use Rattle.node_machine.specs.Carrying.{port_at, needs, lack}
 use Rattle.node_machine.specs.Turns.{deeds_of}

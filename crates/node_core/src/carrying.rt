@@ -15,7 +15,7 @@ impl<N: Nv + Drop> Node<N> {
     ghost use Rattle.trace_model.specs.declared.entry.Entry.{Entry as Noted};
     ghost use Rattle.hci_tables.specs.Commands.{IsCommand};
     ghost use Rattle.gate_admin.specs.Decide.{ends_of};
-    ghost use Rattle.link_machine.specs.Machine.Turn.{Give, Release};
+    ghost use Rattle.link_laws.specs.machine.Machine.Turn.{Give, Release};
     ghost use Rattle.node_machine.specs.Parts.{Core, Work};
     ghost use Rattle.node_machine.specs.Parts.Deed.{Asks, SaysOk, Drops};
     ghost use Rattle.node_deeds.specs.Shown.{about_shown, creation_of_row};
@@ -30,7 +30,7 @@ impl<N: Nv + Drop> Node<N> {
     ghost use Rattle.node_core.specs.Handling.{has_turn, is_noted_held};
     ghost use Rattle.std.specs.Prelude.{Bool};
     ghost use Rattle.history.specs.Steps.{end_of};
-    ghost use Rattle.link_entries.specs.entries.Entries.End.{Host};
+    ghost use Rattle.link_laws.specs.entries.Entries.End.{Host};
     ghost use Rattle.node_machine.specs.Parts.Deed.{Orders, Hears, Ends};
     ghost use Rattle.node_deeds.specs.Shown.{goes_on_with, end_shown};
     ghost use Rattle.node_deeds.specs.Hosts.{init_running};

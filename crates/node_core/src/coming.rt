@@ -14,10 +14,10 @@ impl<N: Nv + Drop> Node<N> {
     ghost use Rattle.std.specs.Option.{option_map_or};
     ghost use Rattle.trace_model.specs.declared.entry.Entry.{Entry as Noted};
     ghost use Rattle.swp_lpdu.specs.Controls.{control_of};
-    ghost use Rattle.link_machine.specs.Machine.{Report, report, lpdu_input, whole_acked};
-    ghost use Rattle.link_machine.specs.Machine.LinkInput.{Reset, Start, Stop, Tick};
-    ghost use Rattle.link_entries.specs.entries.Entries.{told};
-    ghost use Rattle.link_entries.specs.entries.Entries.Entry.{Got};
+    ghost use Rattle.link_laws.specs.machine.Machine.{Report, report, lpdu_input, whole_acked};
+    ghost use Rattle.link_laws.specs.machine.Machine.LinkInput.{Reset, Start, Stop, Tick};
+    ghost use Rattle.link_laws.specs.entries.Entries.{told};
+    ghost use Rattle.link_laws.specs.entries.Entries.Entry.{Got};
     ghost use Rattle.history.specs.Steps.{entries_for};
     ghost use Rattle.link_end.specs.declared.report.ResetRefused.{ResetRefused as Refusal};
     ghost use Rattle.link_end.specs.Reports.{report_told, reset_told};

@@ -36,8 +36,8 @@ fn refusal(told: &Option<Result<LinkReport, ResetRefused>>) -> Option<ResetRefus
 impl<N: Nv + Drop> Node<N> {
     ghost use Rattle.std.specs.Prelude.{◌≡◌, ◌≤◌, ℕ, List, length, None, Some, IfSome, IfOk, OnOk, OnErr, MatchResult, IsTrue};
     ghost use Rattle.swp_lpdu.specs.Controls.{control_of};
-    ghost use Rattle.link_machine.specs.Machine.{lpdu_input};
-    ghost use Rattle.link_machine.specs.Machine.LinkInput.{Reset, Start, Stop};
+    ghost use Rattle.link_laws.specs.machine.Machine.{lpdu_input};
+    ghost use Rattle.link_laws.specs.machine.Machine.LinkInput.{Reset, Start, Stop};
     ghost use Rattle.node_machine.specs.Carrying.{port_at};
     ghost use Rattle.node_machine.specs.Node.{steps};
     ghost use Rattle.node_machine.specs.Node.NodeInput.{AtEnd, TimePasses};

@@ -50,7 +50,7 @@ impl<N: Nv + Drop> Node<N> {
     ghost use Rattle.std.specs.Prelude.{◌≡◌, ◌≤◌, ◌==◌, ◌&&◌, ℕ, Bool, List, ◌∷◌, [], length, is_some, Some, option_map, IsTrue, OnOk, OnErr, IfErr};
     ghost use Rattle.trace_model.specs.declared.entry.Entry.{Entry as Noted};
     ghost use Rattle.hcp_packet.specs.Packets.{IsSendable};
-    ghost use Rattle.link_machine.specs.Machine.{Message, give_refusal};
+    ghost use Rattle.link_laws.specs.machine.Machine.{Message, give_refusal};
     ghost use Rattle.node_machine.specs.Parts.{Port, Work};
     ghost use Rattle.node_machine.specs.Parts.Deed.{Sends, GoesOn};
     ghost use Rattle.node_machine.specs.Carrying.{port_at, done, all_done};

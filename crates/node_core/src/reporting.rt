@@ -1,7 +1,7 @@
 //! What came to an end is noted.
 ghost use Rattle.std.specs.Prelude.{◌≡◌, ℕ, List, map, option_to_list, nat_lt};
-ghost use Rattle.link_entries.specs.entries.Entries.{End as Side, if_so, told};
-ghost use Rattle.link_entries.specs.entries.Entries.Entry.{Up, Down, Active, GaveUp, Acked};
+ghost use Rattle.link_laws.specs.entries.Entries.{End as Side, if_so, told};
+ghost use Rattle.link_laws.specs.entries.Entries.Entry.{Up, Down, Active, GaveUp, Acked};
 ghost use Rattle.history.specs.Steps.{end_of, entries_for};
 ghost use Rattle.node_core.specs.Noting.{AreNotes, tells_nothing, without_message};
 

@@ -1,7 +1,7 @@
 //! What is done with a node between its steps.
 ghost use Rattle.std.specs.Prelude.{◌≡◌, ℕ, Bool, true, List, map, Some, None};
 ghost use Rattle.trace_model.specs.declared.entry.Entry.{Entry as Noted};
-ghost use Rattle.link_machine.specs.Machine.{LinkInput, report, reset_refusal, sent_all};
+ghost use Rattle.link_laws.specs.machine.Machine.{LinkInput, report, reset_refusal, sent_all};
 ghost use Rattle.node_machine.specs.Parts.{Core, Desk, Port, Work};
 ghost use Rattle.node_machine.specs.Carrying.{port_at, with_port};
 ghost use Rattle.node_machine.specs.Node.{steps, with_error};
@@ -34,7 +34,7 @@ pub fn how_it_ran(live: bool) -> Ran
 impl<N: Nv + Drop> Node<N> {
     ghost use Rattle.std.specs.Prelude.{◌≡◌, List, map, Some, None, IfSome, Ok, option_map, slice_get};
     ghost use Rattle.swp_lpdu.specs.Controls.{lpdu_of, control_of};
-    ghost use Rattle.link_machine.specs.Machine.{next_frame};
+    ghost use Rattle.link_laws.specs.machine.Machine.{next_frame};
     ghost use Rattle.node_machine.specs.Parts.{Core, Port};
     ghost use Rattle.node_machine.specs.Carrying.{port_at, with_port};
     ghost use Rattle.node_ends.specs.Ends.{EndsStandFor, has_sent, frame_at, are_at_rest};

@@ -13,7 +13,7 @@ use Rattle.gate_answers.specs.Answers.{param_in}
 use Rattle.gate_admin.specs.declared.view.LinkView.{LinkView}
 use Rattle.gate_admin.specs.View.{has, is_connected, hosts_where, mask_of}
 use Rattle.gate_admin.specs.Decide.{decided, far_end_of, if_told, shares, told_of_deletion, told_of_clearing}
-use Rattle.gate_laws.proofs.Decisions.{decided_holds, new_row}
+use Rattle.tables_laws.proofs.gate.Decisions.{decided_holds, new_row}
 use Rattle.node_deeds.specs.Cores.{TellsFew, IsSoundDecision}
 
 -- ## Masks

@@ -12,7 +12,7 @@ use Rattle.hcp_packet.specs.declared.MessageFault.{MessageFault}
 use Rattle.hcp_packet.specs.MessageHeader.{header_of}
 use Rattle.journal_laws.specs.declared.state.State.{State}
 use Rattle.history.specs.Steps.{end_of}
-use Rattle.link_entries.specs.entries.Entries.End.{Controller, Host}
+use Rattle.link_laws.specs.entries.Entries.End.{Controller, Host}
 use Rattle.trace_model.specs.declared.entry.Entry.TheVariants.{InitSame, InitMade}
 use Rattle.pipe_table.specs.declared.row.PipeRow.{PipeRow}
 use Rattle.pipe_table.specs.PipeRows.{pipe_at}
@@ -23,7 +23,7 @@ use Rattle.hci_store.specs.Stored.{Stored}
 use Rattle.gate_answers.specs.declared.response.Response.TheVariants as response
 use Rattle.gate_answers.specs.Answers.{instruction_in, body_in}
 use Rattle.gate_loopback.specs.Loopback.{is_post_data}
-use Rattle.link_machine.specs.Machine.{Message}
+use Rattle.link_laws.specs.machine.Machine.{Message}
 use Rattle.node_machine.specs.Parts.{Init, Core, Port, Deed}
 use Rattle.node_machine.specs.Parts.Deed.{Sends, Hears, Ends}
 use Rattle.node_machine.specs.Carrying.{end_of_node}

@@ -11,7 +11,7 @@ use Rattle.hci_tables.specs.Tables.{HciTables}
 use Rattle.hci_store.specs.Stored.{Stored}
 use Rattle.gate_answers.specs.Answers.{body_in}
 use Rattle.gate_loopback.specs.Loopback.{posts_back}
-use Rattle.link_machine.specs.Machine.{Message}
+use Rattle.link_laws.specs.machine.Machine.{Message}
 use Rattle.node_machine.specs.Parts.{Init, Core, Port, Deed}
 use Rattle.node_machine.specs.Parts.Deed.{Sends, Orders, Hears, GoesOn, Ends}
 use Rattle.node_machine.specs.Carrying.{end_of_node}

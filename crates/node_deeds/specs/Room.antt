@@ -1,7 +1,7 @@
 -- What is spare at the ends of a node, and what deeds lack there.
 use Rattle.std.specs.Prelude.{◌≡◌, ℕ, nat_lt, if◌then◌else◌, List, [], ◌∷◌, slice_index, Option, Some, None}
 use Rattle.std.specs.Option.{option_map_or}
-use Rattle.link_machine.specs.Machine.{spare}
+use Rattle.link_laws.specs.machine.Machine.{spare}
 use Rattle.node_machine.specs.Parts.{Port}
 use Rattle.node_machine.specs.Carrying.{port_at}
 use Rattle.node_deeds.specs.declared.room.Shortfall.{Shortfall}

@@ -8,15 +8,15 @@ use Rattle.trace_model.specs.declared.entry.Entry.{Entry}
 use Rattle.trace_model.specs.declared.entry.Entry.TheVariants.{InitSame, InitMade, InitFailed}
 use Rattle.trace_model.specs.declared.line.End.{End}
 use Rattle.history.specs.Steps.{end_of}
-use Rattle.link_entries.specs.entries.Entries.End.{Host}
+use Rattle.link_laws.specs.entries.Entries.End.{Host}
 use Rattle.pipe_table.specs.declared.row.PipeRow.{PipeRow}
 use Rattle.hci_tables.specs.declared.command.Command.TheVariants.{Create}
 use Rattle.gate_answers.specs.declared.response.Response.TheVariants as response
 use Rattle.gate_answers.specs.Answers.{answer_of, instruction_in, body_in}
 use Rattle.gate_admin.specs.View.{has}
 use Rattle.gate_admin.specs.Decide.{ends_of}
-use Rattle.link_machine.specs.Machine.{Message, end_with}
-use Rattle.link_machine.specs.Machine.Role.{Bare}
+use Rattle.link_laws.specs.machine.Machine.{Message, end_with}
+use Rattle.link_laws.specs.machine.Machine.Role.{Bare}
 use Rattle.node_machine.specs.Parts.{Creation, About, Notice, Desk, Init, Port, Deed}
 use Rattle.node_machine.specs.Parts.About.{Waits, Forgotten, Removed}
 use Rattle.node_machine.specs.Parts.Deed.{Commits, Sends, SaysOk, Asks, Releases, Tells, IsAnswered, Drops, SetsErrors, Orders, Hears, GoesOn, Ends}

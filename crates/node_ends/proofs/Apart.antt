@@ -11,10 +11,11 @@ use Rattle.swp_act.specs.declared.ActEvent.TheVariants.{Start as ActStart, Take 
 use Rattle.shdlc_core.specs.declared.answers.LinkState.{LinkState}
 use Rattle.shdlc_core.specs.declared.answers.LinkState.TheVariants.{Down, Waiting, Up}
 use Rattle.shdlc_core.specs.Machine.{EndState, taken, take_answer, ticked, tick_answer, stopped, reset_with}
-use Rattle.link_machine.specs.Machine.{LinkEnd as Machine, Message, Refused, LinkInput, after_input, got_by, took, brought, heard, news, moved}
-use Rattle.link_machine.specs.Machine.{put_down, activated}
-use Rattle.link_machine.specs.Machine.{with_act, act_answer, role_after, is_open, is_faulty, reset_refusal, if_up, window_of, started, deactivated, had_tick}
-use Rattle.link_machine.specs.Machine.LinkInput.{Take, TakeUnknown, TakeBroken, Tick, Reset, Start, Stop, FromNode, Fetch}
+use Rattle.link_laws.specs.machine.Machine.{LinkEnd as Machine, Message, Refused, LinkInput, after_input, got_by, took, brought, heard, news, moved}
+use Rattle.link_laws.specs.machine.Machine.{put_down, activated}
+use Rattle.link_laws.specs.machine.Machine.{with_act, act_answer, role_after, is_open, is_faulty, reset_refusal, if_up, window_of, started, deactivated}
+use Rattle.link_laws.specs.machine.Machine.{had_tick}
+use Rattle.link_laws.specs.machine.Machine.LinkInput.{Take, TakeUnknown, TakeBroken, Tick, Reset, Start, Stop, FromNode, Fetch}
 
 -- an end where these messages wait
 abbrev pub with_got : List Message → Machine → Machine

@@ -12,11 +12,11 @@ use Rattle.swp_lpdu.specs.Controls.{control_of}
 use Rattle.swp_lpdu.specs.declared.LpduFault.{LpduFault}
 use Rattle.swp_act.specs.declared.ActEvent.{ActEvent}
 use Rattle.swp_act.specs.declared.ActEvent.TheVariants.{Start as ActStart, Take as ActTake, Tick as ActTick, Stop as ActStop}
-use Rattle.link_machine.specs.Machine.{LinkEnd as Machine, Message, ActDue, Refused, is_open, is_faulty, moved, put_down, with_act, activated, act_answer}
-use Rattle.link_machine.specs.Machine.{role_after, heard, took, after_input, lpdu_input, reset_refusal, window_of}
-use Rattle.link_machine.specs.Machine.{if_up, turn, give_refusal, frame_fetched}
-use Rattle.link_machine.specs.Machine.LinkInput.{Tick, Reset, Start, Stop}
-use Rattle.link_machine.specs.Machine.Turn.{Give}
+use Rattle.link_laws.specs.machine.Machine.{LinkEnd as Machine, Message, ActDue, Refused, is_open, is_faulty, moved, put_down, with_act, activated, act_answer}
+use Rattle.link_laws.specs.machine.Machine.{role_after, heard, took, after_input, lpdu_input, reset_refusal, window_of}
+use Rattle.link_laws.specs.machine.Machine.{if_up, turn, give_refusal, frame_fetched}
+use Rattle.link_laws.specs.machine.Machine.LinkInput.{Tick, Reset, Start, Stop}
+use Rattle.link_laws.specs.machine.Machine.Turn.{Give}
 
 moved_aside : (e : Machine) (b : Bool) (s : EndState) → (moved e b s).aside ≡ e.aside
 moved_aside e true s = refl

@@ -9,15 +9,15 @@ use Rattle.link_end.specs.declared.«end».End.{End}
 use Rattle.link_end.specs.Ends.{HaveOwners}
 use Rattle.node_machine.specs.Parts.{Port, Desk as DeskOf}
 use Rattle.node_machine.specs.Carrying.{port_at, changed_if, with_port, after_turn}
-use Rattle.link_machine.specs.Machine.{LinkEnd as Machine, Turn, turn, is_held}
+use Rattle.link_laws.specs.machine.Machine.{LinkEnd as Machine, Turn, turn, is_held}
 use Rattle.node_ends.specs.declared.seat.Seat.{Seat}
 use Rattle.node_deeds.specs.declared.desks.Desk.{Desk}
 use Rattle.node_deeds.specs.Cores.{IsSoundDesk}
 use Rattle.node_deeds.specs.Shown.{desk_shown}
 use Rattle.link_end.specs.declared.link.LinkEnd.{LinkEnd as Link}
 use Rattle.node_ends.specs.declared.seat.Waiting.{Waiting}
-use Rattle.link_machine.specs.Machine.LinkInput.{FromNode}
-use Rattle.link_machine.specs.Laws.{AreSendableInputs}
+use Rattle.link_laws.specs.machine.Machine.LinkInput.{FromNode}
+use Rattle.link_laws.specs.machine.Laws.{AreSendableInputs}
 use Rattle.node_ends.specs.Holding.{HoldsSeat, HoldsEnd, Moves, WaitsHeld, messages_waiting, kept_number}
 use Rattle.node_ends.proofs.Counting.{reached_on, turn_acked}
 use Rattle.node_ends.proofs.Moving.{stays_beside}

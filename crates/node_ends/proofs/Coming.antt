@@ -2,8 +2,8 @@
 use Rattle.std.proofs.Common.{◌≡◌, ℕ, true, refl, [], ◌++◌, ap, ◌∙◌, subst, append-nil}
 use Rattle.std.specs.Prelude.{Option, None, Some, ◌-◌, is_some}
 use Rattle.block_pool.specs.Pool.{PoolState}
-use Rattle.link_machine.specs.Machine.{LinkEnd as Machine, LinkInput, Refused, after_input, got_by, report, whole_acked, reset_refusal, ended_by}
-use Rattle.link_machine.specs.Machine.LinkInput.{Tick, Reset, Start, Stop}
+use Rattle.link_laws.specs.machine.Machine.{LinkEnd as Machine, LinkInput, Refused, after_input, got_by, report, whole_acked, reset_refusal, ended_by}
+use Rattle.link_laws.specs.machine.Machine.LinkInput.{Tick, Reset, Start, Stop}
 use Rattle.link_end.specs.Reports.{report_told, reset_told}
 use Rattle.link_end.specs.declared.«end».End.{End}
 use Rattle.link_end.specs.Ends.{EndStandsFor, EndLeavesOthers}

@@ -7,17 +7,17 @@ use Rattle.hcp_packet.specs.Packets.{IsSendable, packet_count}
 use Rattle.swp_base.specs.declared.control_frames.Control.{Control}
 use Rattle.swp_lpdu.specs.Controls.{control_of}
 use Rattle.swp_lpdu.specs.declared.LpduFault.{LpduFault}
-use Rattle.link_machine.specs.Machine.{LinkEnd as Machine, LinkInput, Turn, Message, Refused, Report, report, after_input, after_inputs, ended_by}
-use Rattle.link_machine.specs.Machine.{began_by, whole_among}
-use Rattle.link_machine.specs.Machine.{whole_acked, turn, give_refusal, aside_refusal, new_link_end, lpdu_input, reset_refusal, reset_by, window_of, if_up}
-use Rattle.link_machine.specs.Machine.LinkInput.{Take, TakeUnknown, TakeBroken, Tick, Reset, Start, Stop, FromNode, Fetch}
-use Rattle.link_machine.specs.Machine.Turn.{Give, Hold, FetchMessage, SetAside, Release}
-use Rattle.link_machine.specs.Laws.{AreSendableInputs}
-use Rattle.link_machine.proofs.Runs.{Sound, sound, parted}
-use Rattle.link_machine.proofs.Shifts.{Shift}
-use Rattle.link_machine.proofs.Shifts.Shift.{Stays, Ends, Renews, Begins, Rests}
-use Rattle.link_machine.proofs.Sound.{SentAfter, whole_more, whole_given}
-use Rattle.link_machine.proofs.Reports.{Reports, take_so, reset_so}
+use Rattle.link_laws.specs.machine.Machine.{LinkEnd as Machine, LinkInput, Turn, Message, Refused, Report, report, after_input, after_inputs, ended_by}
+use Rattle.link_laws.specs.machine.Machine.{began_by, whole_among}
+use Rattle.link_laws.specs.machine.Machine.{whole_acked, turn, give_refusal, aside_refusal, new_link_end, lpdu_input, reset_refusal, reset_by, window_of, if_up}
+use Rattle.link_laws.specs.machine.Machine.LinkInput.{Take, TakeUnknown, TakeBroken, Tick, Reset, Start, Stop, FromNode, Fetch}
+use Rattle.link_laws.specs.machine.Machine.Turn.{Give, Hold, FetchMessage, SetAside, Release}
+use Rattle.link_laws.specs.machine.Laws.{AreSendableInputs}
+use Rattle.link_laws.proofs.machine.Runs.{Sound, sound, parted}
+use Rattle.link_laws.proofs.machine.Shifts.{Shift}
+use Rattle.link_laws.proofs.machine.Shifts.Shift.{Stays, Ends, Renews, Begins, Rests}
+use Rattle.link_laws.proofs.machine.Sound.{SentAfter, whole_more, whole_given}
+use Rattle.link_laws.proofs.machine.Reports.{Reports, take_so, reset_so}
 use Rattle.link_end.specs.declared.report.LinkReport.{LinkReport}
 use Rattle.link_end.specs.Reports.{report_told, nothing_told, reset_told}
 use Rattle.link_end.specs.declared.report.ResetRefused.{ResetRefused}

@@ -7,10 +7,10 @@ use Rattle.block_pool.specs.Pool.{PoolState, chain_bytes}
 use Rattle.hcp_chain.specs.declared.joiner.Open.{Open}
 use Rattle.hcp_chain.specs.Holding.{IsOwnOpen, messages_in as messages_of}
 use Rattle.hcp_chain.proofs.HoldingLemmas.{all_front}
-use Rattle.link_machine.specs.Machine.{LinkEnd as Machine, Message, oldest, got_by, turn, lpdu_input}
-use Rattle.link_machine.specs.Machine.Turn.{FetchMessage}
-use Rattle.link_machine.specs.Machine.{report, whole_acked}
-use Rattle.link_machine.specs.Machine.LinkInput.{Take}
+use Rattle.link_laws.specs.machine.Machine.{LinkEnd as Machine, Message, oldest, got_by, turn, lpdu_input}
+use Rattle.link_laws.specs.machine.Machine.Turn.{FetchMessage}
+use Rattle.link_laws.specs.machine.Machine.{report, whole_acked}
+use Rattle.link_laws.specs.machine.Machine.LinkInput.{Take}
 use Rattle.link_end.specs.Reports.{report_told}
 use Rattle.swp_base.specs.declared.control_frames.Control.{Control}
 use Rattle.swp_base.specs.declared.control_frames.Control.TheVariants.{I, S, Rset, Ua, Act as ActFrame, Clt}

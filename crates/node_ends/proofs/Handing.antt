@@ -5,8 +5,8 @@ use Rattle.std.specs.List.{AllByRecursion}
 use Rattle.block_pool.specs.declared.chain.Chain.{Chain}
 use Rattle.block_pool.specs.Pool.{PoolState, IsLive, chain_bytes, Gives, KeepsOthers}
 use Rattle.block_pool.proofs.HoldingLemmas.{apart_by_owner, lies_apart_by_owner}
-use Rattle.link_machine.specs.Machine.{LinkEnd as Machine, Message, Refused, turn, give_refusal}
-use Rattle.link_machine.specs.Machine.Turn.{Give, FetchMessage}
+use Rattle.link_laws.specs.machine.Machine.{LinkEnd as Machine, Message, Refused, turn, give_refusal}
+use Rattle.link_laws.specs.machine.Machine.Turn.{Give, FetchMessage}
 use Rattle.link_messages.specs.declared.outbox.Queued.{Queued}
 use Rattle.link_messages.specs.declared.inbox.Inbox.{Inbox}
 use Rattle.link_messages.specs.Outgoing.{chain_in, LeavesOthersBut}

@@ -6,7 +6,7 @@ use Rattle.swp_base.specs.declared.outside.NoMemory.{NoMemory}
 use Rattle.std.specs.List.{AllByRecursion}
 use Rattle.swp_base.specs.declared.link_terms.Role.{Role as Named}
 use Rattle.block_pool.specs.Pool.{PoolState, IsNew, used_of}
-use Rattle.link_machine.specs.Machine.{new_link_end}
+use Rattle.link_laws.specs.machine.Machine.{new_link_end}
 use Rattle.link_end.specs.Roles.{new_role}
 use Rattle.link_end.specs.Ends.{IsFree}
 use Rattle.link_end.proofs.AccountLemmas.{new_free, new_unused}

@@ -8,8 +8,8 @@ use Rattle.block_pool.specs.Holdings.{LiesApart}
 use Rattle.block_pool.proofs.HoldingLemmas.{apart_by_owner, all_mapped, lies_apart_by_owner}
 use Rattle.hcp_chain.specs.declared.joiner.Open.{Open}
 use Rattle.hcp_chain.specs.Holding.{IsOwnOpen, IsApartFrom}
-use Rattle.link_machine.specs.Machine.{LinkEnd as Machine, Message, ActDue as Due, turn}
-use Rattle.link_machine.specs.Machine.Turn.{FetchMessage}
+use Rattle.link_laws.specs.machine.Machine.{LinkEnd as Machine, Message, ActDue as Due, turn}
+use Rattle.link_laws.specs.machine.Machine.Turn.{FetchMessage}
 use Rattle.shdlc_core.specs.declared.answers.Due.{Due as ShdlcDue}
 use Rattle.std.proofs.Common.{◌+◌, arith}
 use Rattle.std.proofs.lemmas.List.{length-map}

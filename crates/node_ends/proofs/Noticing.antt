@@ -1,8 +1,8 @@
 -- What is kept of an end beside it, as a step changes it.
 use Rattle.std.proofs.Common.{◌≡◌, ℕ, ◌<◌, ◌||◌, Bool, true, false, refl, sym, ap, ◌∙◌, subst}
 use Rattle.std.specs.Prelude.{Option, Some, None, option_map, List, IfSome, ◌&&◌, not, nat_le, if◌then◌else◌}
-use Rattle.link_machine.specs.Machine.{after_input}
-use Rattle.link_machine.specs.Machine.LinkInput.{Reset}
+use Rattle.link_laws.specs.machine.Machine.{after_input}
+use Rattle.link_laws.specs.machine.Machine.LinkInput.{Reset}
 use Rattle.std.specs.Option.{option_map_or}
 use Rattle.node_machine.specs.Controller.{creation_in, asked_at}
 use Rattle.node_machine.specs.Parts.{Creation, Port, Notice, Desk as DeskOf}

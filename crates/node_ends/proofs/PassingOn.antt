@@ -8,7 +8,7 @@ use Rattle.std.proofs.lemmas.Option.{slice_get_within}
 use Rattle.block_pool.specs.Pool.{PoolState}
 use Rattle.link_end.specs.declared.«end».End.{End}
 use Rattle.link_end.specs.Ends.{HaveOwners}
-use Rattle.link_machine.specs.Machine.{LinkEnd as Machine}
+use Rattle.link_laws.specs.machine.Machine.{LinkEnd as Machine}
 use Rattle.node_machine.specs.Parts.{Port}
 use Rattle.node_machine.specs.Carrying.{port_at, changed_if, with_port}
 use Rattle.node_ends.specs.declared.seat.Seat.{Seat}

@@ -13,7 +13,7 @@ use Rattle.std.specs.Prelude.{Result, Ok, Err}
 use Rattle.shdlc_core.specs.declared.answers.LinkState.{LinkState}
 use Rattle.shdlc_core.specs.declared.answers.LinkState.TheVariants.{Down, Waiting, Up}
 use Rattle.shdlc_core.specs.Machine.{EndState, Fragment, taken, place_of}
-use Rattle.link_machine.specs.Machine.{LinkEnd as Machine, Message, brought, news, messages_got, is_open, is_faulty, got_by, lpdu_input}
+use Rattle.link_laws.specs.machine.Machine.{LinkEnd as Machine, Message, brought, news, messages_got, is_open, is_faulty, got_by, lpdu_input}
 
 -- what an end has accepted after a frame: the same, or nothing, in a new session
 abbrev AcceptsNone : EndState → EndState → Type 0

@@ -3,7 +3,7 @@ use Rattle.std.proofs.Common.{◌≡◌, ◌==◌, ◌||◌, ◌&&◌, not, ◌�
 use Rattle.std.specs.List.{list_any}
 use Rattle.std.specs.Option.{option_map_or}
 use Rattle.std.specs.Prelude.{Bool, false, Option, Some, None, IfSome, IfNone, is_some, option_map, slice_get, slice_index_or}
-use Rattle.link_machine.specs.Machine.{Message, is_held}
+use Rattle.link_laws.specs.machine.Machine.{Message, is_held}
 use Rattle.block_pool.specs.Pool.{PoolState}
 use Rattle.node_machine.specs.Parts.{Port, Desk as DeskOf}
 use Rattle.node_ends.specs.declared.seat.Seat.{Seat}

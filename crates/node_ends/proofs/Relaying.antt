@@ -8,9 +8,9 @@ use Rattle.std.proofs.lemmas.Option.{slice_get_within}
 use Rattle.block_pool.specs.declared.chain.Chain.{Chain}
 use Rattle.block_pool.specs.Pool.{PoolState, chain_bytes}
 use Rattle.hcp_packet.specs.Packets.{IsSendable, AreSendable}
-use Rattle.link_machine.specs.Machine.{LinkEnd as Machine, Message, Refused, turn, give_refusal}
-use Rattle.link_machine.specs.Machine.Turn.{Give, FetchMessage}
-use Rattle.link_machine.specs.Machine.LinkInput.{FromNode}
+use Rattle.link_laws.specs.machine.Machine.{LinkEnd as Machine, Message, Refused, turn, give_refusal}
+use Rattle.link_laws.specs.machine.Machine.Turn.{Give, FetchMessage}
+use Rattle.link_laws.specs.machine.Machine.LinkInput.{FromNode}
 use Rattle.link_end.specs.declared.«end».End.{End}
 use Rattle.link_end.specs.declared.link.LinkEnd.{LinkEnd as Link}
 use Rattle.link_end.specs.declared.report.SendRefused.{SendRefused}

@@ -7,7 +7,7 @@ use Rattle.node_machine.specs.Parts.{Port}
 use Rattle.node_ends.specs.declared.seat.Seat.{Seat}
 use Rattle.link_end.specs.declared.«end».End.{End}
 use Rattle.link_end.specs.declared.link.LinkEnd.{LinkEnd as Link}
-use Rattle.link_machine.specs.Machine.{LinkEnd as Machine, whole_acked}
+use Rattle.link_laws.specs.machine.Machine.{LinkEnd as Machine, whole_acked}
 use Rattle.node_ends.specs.declared.seat.Waiting.{Waiting}
 use Rattle.node_deeds.specs.Cores.{IsSoundDesk}
 use Rattle.node_deeds.specs.Shown.{desk_shown}

@@ -15,13 +15,13 @@ use Rattle.swp_base.specs.declared.control_frames.Act.{Act}
 use Rattle.swp_base.specs.declared.link_terms.Cause.TheVariants.{Asked}
 use Rattle.swp_act.specs.declared.ActEvent.{ActEvent}
 use Rattle.swp_act.specs.declared.ActEvent.TheVariants.{Start as ActStart, Take as ActTake, Tick as ActTick, Stop as ActStop}
-use Rattle.link_machine.specs.Machine.{LinkEnd as Machine, LinkInput, Message, Refused, Turn, is_open, is_faulty, moved, put_down, with_act}
-use Rattle.link_machine.specs.Machine.{activated, act_answer}
-use Rattle.link_machine.specs.Machine.{role_after, heard, took, after_input, after_inputs, reset_refusal, window_of, news, new_link_end, Role}
-use Rattle.link_machine.specs.Machine.{ActDue, if_up, turn, give_refusal, aside_refusal, frame_fetched}
-use Rattle.link_machine.specs.Machine.Role.{Bare, Clf, Uicc}
-use Rattle.link_machine.specs.Machine.LinkInput.{Take, TakeUnknown, TakeBroken, Tick, Reset, Start, Stop, FromNode, Fetch}
-use Rattle.link_machine.specs.Machine.Turn.{Give, Hold, FetchMessage, SetAside, Release}
+use Rattle.link_laws.specs.machine.Machine.{LinkEnd as Machine, LinkInput, Message, Refused, Turn, is_open, is_faulty, moved, put_down, with_act}
+use Rattle.link_laws.specs.machine.Machine.{activated, act_answer}
+use Rattle.link_laws.specs.machine.Machine.{role_after, heard, took, after_input, after_inputs, reset_refusal, window_of, news, new_link_end, Role}
+use Rattle.link_laws.specs.machine.Machine.{ActDue, if_up, turn, give_refusal, aside_refusal, frame_fetched}
+use Rattle.link_laws.specs.machine.Machine.Role.{Bare, Clf, Uicc}
+use Rattle.link_laws.specs.machine.Machine.LinkInput.{Take, TakeUnknown, TakeBroken, Tick, Reset, Start, Stop, FromNode, Fetch}
+use Rattle.link_laws.specs.machine.Machine.Turn.{Give, Hold, FetchMessage, SetAside, Release}
 use Rattle.node_ends.specs.Holding.{IsReached}
 
 -- ## Messages of packets

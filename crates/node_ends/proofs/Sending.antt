@@ -3,7 +3,7 @@ use Rattle.std.proofs.Common.{◌≡◌, Bool, true, false, List, [], ◌∷◌,
 use Rattle.std.specs.Prelude.{◌==◌, Option, Some, None}
 use Rattle.shdlc_core.specs.declared.answers.Due.{Due}
 use Rattle.shdlc_core.specs.Machine.{EndState, Fragment, fetched, fragment_due}
-use Rattle.link_machine.specs.Machine.{LinkEnd as Machine, ActDue, next_frame, frame_fetched, whole_acked, whole_among}
+use Rattle.link_laws.specs.machine.Machine.{LinkEnd as Machine, ActDue, next_frame, frame_fetched, whole_acked, whole_among}
 use Rattle.node_ends.specs.Holding.{without_got}
 
 -- it has nothing to do with the messages that came

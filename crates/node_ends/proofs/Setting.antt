@@ -13,8 +13,8 @@ use Rattle.block_pool.specs.Holdings.{IsOwnChain}
 use Rattle.block_pool.proofs.HoldingLemmas.{all_mapped, counted_keeps}
 use Rattle.hcp_chain.specs.declared.joiner.Open.{Open}
 use Rattle.hcp_chain.specs.Holding.{IsOwnOpen, held_blocks}
-use Rattle.link_machine.specs.Machine.{LinkEnd as Machine, turn, spare}
-use Rattle.link_machine.specs.Machine.Turn.{SetAside, Release}
+use Rattle.link_laws.specs.machine.Machine.{LinkEnd as Machine, turn, spare}
+use Rattle.link_laws.specs.machine.Machine.Turn.{SetAside, Release}
 use Rattle.link_messages.specs.declared.outbox.Queued.{Queued}
 use Rattle.link_messages.specs.Incoming.{chains_in}
 use Rattle.link_end.specs.declared.«end».End.{End}

@@ -1,8 +1,8 @@
 -- What a node does to an end has nothing to do with the messages that came there and wait.
 use Rattle.std.proofs.Common.{◌≡◌, true, false, refl, sym, ◌∙◌}
 use Rattle.std.specs.Prelude.{Option, Some, None, Result, Ok, Err, is_none}
-use Rattle.link_machine.specs.Machine.{LinkEnd as Machine, Message, Refused, turn, give_refusal, aside_refusal}
-use Rattle.link_machine.specs.Machine.Turn.{Give, SetAside}
+use Rattle.link_laws.specs.machine.Machine.{LinkEnd as Machine, Message, Refused, turn, give_refusal, aside_refusal}
+use Rattle.link_laws.specs.machine.Machine.Turn.{Give, SetAside}
 use Rattle.link_end.specs.declared.report.SendRefused.{SendRefused}
 use Rattle.link_end.specs.Reports.{by_refusal_told, give_told}
 use Rattle.node_ends.specs.Holding.{without_got}

@@ -4,8 +4,8 @@ use Rattle.std.specs.Prelude.{◌&&◌, not, Some, None, option_map}
 use Rattle.std.specs.List.{AllByRecursion, list_all}
 use Rattle.std.specs.Option.{option_map_or}
 use Rattle.block_pool.specs.Pool.{PoolState}
-use Rattle.link_machine.specs.Machine.{Message, is_held, give_refusal, whole_acked, next_frame, frame_fetched}
-use Rattle.link_machine.specs.AtRest.{end_rests}
+use Rattle.link_laws.specs.machine.Machine.{Message, is_held, give_refusal, whole_acked, next_frame, frame_fetched}
+use Rattle.link_laws.specs.machine.AtRest.{end_rests}
 use Rattle.swp_lpdu.specs.Controls.{lpdu_of}
 use Rattle.swp_act.specs.declared.ActEvent.TheVariants.{Start as ActStart}
 use Rattle.link_end.specs.Roles.{MayStart}

@@ -3,8 +3,8 @@ use Rattle.std.specs.Prelude.{◌≡◌, ℕ, ◌+◌, ◌≤◌, min, length, L
 use Rattle.std.specs.List.{AllByRecursion}
 use Rattle.block_pool.specs.declared.chain.Chain.{Chain}
 use Rattle.block_pool.specs.Pool.{PoolState, chain_bytes}
-use Rattle.link_machine.specs.Machine.{LinkEnd as Machine, Message, Role, LinkInput}
-use Rattle.link_machine.specs.Laws.{AreSendableInputs, end_after}
+use Rattle.link_laws.specs.machine.Machine.{LinkEnd as Machine, Message, Role, LinkInput}
+use Rattle.link_laws.specs.machine.Laws.{AreSendableInputs, end_after}
 use Rattle.link_end.specs.declared.report.LinkReport.{LinkReport}
 use Rattle.link_end.specs.declared.report.ResetRefused.{ResetRefused}
 use Rattle.link_end.specs.declared.«end».End.{End}

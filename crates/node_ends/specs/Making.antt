@@ -3,7 +3,7 @@ use Rattle.std.specs.Prelude.{◌≡◌, ◌≢◌, ℕ, ◌+◌, ◌*◌, ◌++
 use Rattle.std.specs.List.{AllByRecursion}
 use Rattle.swp_base.specs.declared.link_terms.Role.{Role as Named}
 use Rattle.block_pool.specs.Pool.{PoolState, used_of}
-use Rattle.link_machine.specs.Machine.{new_link_end}
+use Rattle.link_laws.specs.machine.Machine.{new_link_end}
 use Rattle.link_end.specs.Roles.{new_role}
 use Rattle.link_end.specs.Ends.{EndStandsFor, IsFree, Accounts}
 use Rattle.node_machine.specs.Parts.{Port}

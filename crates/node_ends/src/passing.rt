@@ -1,7 +1,7 @@
 //! The message that waits at one end is passed on to another one.
 ghost use Rattle.std.specs.Prelude.{◌≡◌, List, ◌∷◌, [], Some};
-ghost use Rattle.link_machine.specs.Machine.{Message};
-ghost use Rattle.link_machine.specs.Machine.Turn.{Give, FetchMessage};
+ghost use Rattle.link_laws.specs.machine.Machine.{Message};
+ghost use Rattle.link_laws.specs.machine.Machine.Turn.{Give, FetchMessage};
 ghost use Rattle.node_machine.specs.Parts.{Port};
 ghost use Rattle.node_machine.specs.Carrying.{port_at, with_port, after_turn};
 ghost use Rattle.node_ends.specs.Ends.{AreEnds, got_at, takes_at, place_in};
@@ -13,8 +13,8 @@ use block_pool::Pool;
 
 impl Ends {
     ghost use Rattle.std.specs.Prelude.{◌≡◌, List, ◌∷◌, []};
-    ghost use Rattle.link_machine.specs.Machine.{Message};
-    ghost use Rattle.link_machine.specs.Machine.Turn.{Give, FetchMessage};
+    ghost use Rattle.link_laws.specs.machine.Machine.{Message};
+    ghost use Rattle.link_laws.specs.machine.Machine.Turn.{Give, FetchMessage};
     ghost use Rattle.node_machine.specs.Parts.{Port};
     ghost use Rattle.node_machine.specs.Carrying.{port_at, with_port, after_turn};
     ghost use Rattle.node_ends.specs.Ends.{EndsStandFor, got_at, takes_at};

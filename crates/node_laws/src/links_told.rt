@@ -4,10 +4,10 @@ ghost use Rattle.std.specs.Prelude.{◌≡◌, ◌==◌, ℕ, [], List, Some, fa
 ghost use Rattle.std.specs.List.{AllByRecursion};
 ghost use Rattle.trace_model.specs.declared.line.Header.{Header};
 ghost use Rattle.trace_model.specs.declared.line.Line.{Line};
-ghost use Rattle.link_machine.specs.Machine.{LinkInput};
-ghost use Rattle.link_entries.specs.messages.Links.{Comes, exchanged};
-ghost use Rattle.link_entries.specs.messages.Links.EndEvent.{Step};
-ghost use Rattle.link_entries.specs.messages.Links.LinkEvent.{AtController, AtHost};
+ghost use Rattle.link_laws.specs.machine.Machine.{LinkInput};
+ghost use Rattle.link_laws.specs.messages.Links.{Comes, exchanged};
+ghost use Rattle.link_laws.specs.messages.Links.EndEvent.{Step};
+ghost use Rattle.link_laws.specs.messages.Links.LinkEvent.{AtController, AtHost};
 ghost use Rattle.node_machine.specs.Parts.{Running, Work};
 ghost use Rattle.node_machine.specs.Node.{steps};
 ghost use Rattle.node_machine.specs.Node.NodeInput.{AtEnd};

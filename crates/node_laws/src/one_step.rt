@@ -2,7 +2,7 @@
 
 ghost use Rattle.std.specs.Prelude.{◌≡◌, ℕ, ◌≤◌, List};
 ghost use Rattle.std.specs.List.{AllByRecursion};
-ghost use Rattle.link_machine.specs.Machine.{Message};
+ghost use Rattle.link_laws.specs.machine.Machine.{Message};
 ghost use Rattle.node_machine.specs.Parts.{Core, Port};
 ghost use Rattle.node_machine.specs.Controller.{controller_deeds};
 ghost use Rattle.registry.specs.Values.{value_at};

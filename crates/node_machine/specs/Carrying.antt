@@ -14,10 +14,10 @@ use Rattle.hci_tables.specs.declared.command.Command.{Command}
 use Rattle.hci_tables.specs.Bodies.{body_of}
 use Rattle.hci_tables.specs.Tables.{apply}
 use Rattle.hci_store.specs.Committing.{record_fits, commit_writes, committed}
-use Rattle.link_machine.specs.Machine.{Turn, turn, need, spare}
-use Rattle.link_machine.specs.Machine.Turn.{Give, SetAside, Release}
-use Rattle.link_entries.specs.entries.Entries.{End as Side, turn_entry}
-use Rattle.link_entries.specs.entries.Entries.End.{Controller, Host}
+use Rattle.link_laws.specs.machine.Machine.{Turn, turn, need, spare}
+use Rattle.link_laws.specs.machine.Machine.Turn.{Give, SetAside, Release}
+use Rattle.link_laws.specs.entries.Entries.{End as Side, turn_entry}
+use Rattle.link_laws.specs.entries.Entries.End.{Controller, Host}
 use Rattle.history.specs.Steps.{end_of, entries_for}
 use Rattle.node_machine.specs.Parts.{About, Desk, Core, Port, Work, Deed}
 use Rattle.node_machine.specs.Parts.About.{Waits, Removed}

@@ -13,9 +13,9 @@ use Rattle.hci_store.specs.Image.{tables_of}
 use Rattle.gate_answers.specs.declared.response.Response.{Response}
 use Rattle.gate_answers.specs.declared.response.Response.TheVariants as response
 use Rattle.gate_answers.specs.Answers.{answer_of}
-use Rattle.link_machine.specs.Machine.{LinkInput, after_input, ended_by, report, whole_acked}
-use Rattle.link_machine.specs.Machine.LinkInput.{Tick, Reset}
-use Rattle.link_entries.specs.entries.Entries.{told}
+use Rattle.link_laws.specs.machine.Machine.{LinkInput, after_input, ended_by, report, whole_acked}
+use Rattle.link_laws.specs.machine.Machine.LinkInput.{Tick, Reset}
+use Rattle.link_laws.specs.entries.Entries.{told}
 use Rattle.history.specs.Steps.{entries_for}
 use Rattle.node_machine.specs.Parts.{Creation, Notice, Desk, Core, Running, Port, Work, Deed}
 use Rattle.node_machine.specs.Parts.About.{Forgotten}

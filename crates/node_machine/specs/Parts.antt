@@ -6,7 +6,7 @@ use Rattle.journal_laws.specs.declared.state.State.{State}
 use Rattle.journal_laws.specs.Writes.{Write}
 use Rattle.hci_tables.specs.declared.command.Command.{Command}
 use Rattle.hci_tables.specs.Tables.{HciTables}
-use Rattle.link_machine.specs.Machine.{LinkEnd, Turn}
+use Rattle.link_laws.specs.machine.Machine.{LinkEnd, Turn}
 
 -- A creation that waits: which host asked for the pipe, the command that is committed where the other host agrees, and the
 -- answer that the asker gets then.

@@ -11,10 +11,10 @@ use Rattle.trace_model.specs.declared.line.End.{End}
 use Rattle.trace_model.specs.declared.entry.Entry.{Entry}
 use Rattle.hcp_packet.specs.Packets.{AreSendable}
 use Rattle.link_laws.specs.sessions.Sessions.{OnWire}
-use Rattle.link_machine.specs.Machine.{LinkInput}
-use Rattle.link_machine.specs.Machine.LinkInput.{Take, Reset, Start, Stop}
-use Rattle.link_entries.specs.messages.Links.{Link, Comes, NumberedEnd, exchanged}
-use Rattle.link_entries.specs.messages.Links.Comes.{NextFrame, AsksReset, Starts, Stops, NoInput}
+use Rattle.link_laws.specs.machine.Machine.{LinkInput}
+use Rattle.link_laws.specs.machine.Machine.LinkInput.{Take, Reset, Start, Stop}
+use Rattle.link_laws.specs.messages.Links.{Link, Comes, NumberedEnd, exchanged}
+use Rattle.link_laws.specs.messages.Links.Comes.{NextFrame, AsksReset, Starts, Stops, NoInput}
 use Rattle.node_machine.specs.Parts.{Core, Desk, Port, Running}
 use Rattle.node_machine.specs.Node.{new_desk}
 use Rattle.node_machine.specs.world.World.{NodeWorld, Site, site_at, with_site, input_of, port_for, end_c, end_h}

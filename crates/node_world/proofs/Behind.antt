@@ -3,12 +3,12 @@ use Rattle.std.proofs.Common.{◌≡◌, ℕ, ◌==◌, Bool, true, false, List,
 use Rattle.std.specs.Prelude.{Some, cond}
 use Rattle.std.specs.List.{AllByRecursion, find}
 use Rattle.swp_base.specs.declared.control_frames.Control.{Control}
-use Rattle.link_machine.specs.Machine.{LinkEnd, LinkInput, frames_out, sent_all}
-use Rattle.link_entries.proofs.entries.Lasting.{same_number}
-use Rattle.link_entries.specs.messages.Links.{Link, NumberedEnd, Comes, Ending, happens_at_controller, put, put_all}
-use Rattle.link_entries.specs.messages.Links.Ending.{GoesOut, CutOff}
-use Rattle.link_entries.specs.messages.Links.EndEvent.{Step}
-use Rattle.link_entries.specs.entries.Entries.End.{Controller}
+use Rattle.link_laws.specs.machine.Machine.{LinkEnd, LinkInput, frames_out, sent_all}
+use Rattle.link_laws.proofs.entries.Lasting.{same_number}
+use Rattle.link_laws.specs.messages.Links.{Link, NumberedEnd, Comes, Ending, happens_at_controller, put, put_all}
+use Rattle.link_laws.specs.messages.Links.Ending.{GoesOut, CutOff}
+use Rattle.link_laws.specs.messages.Links.EndEvent.{Step}
+use Rattle.link_laws.specs.entries.Entries.End.{Controller}
 use Rattle.history.specs.Steps.{entries_for}
 use Rattle.link_wires.proofs.GoingOut.{put_stays}
 use Rattle.node_machine.specs.Parts.{Desk, Running, Port, Work}

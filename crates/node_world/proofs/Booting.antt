@@ -18,7 +18,7 @@ use Rattle.journal_laws.specs.Planned.{fails_within, after_planned}
 use Rattle.hci_tables.specs.Tables.{HciTables, no_tables, after_commands, close}
 use Rattle.hci_store.specs.Image.{tables_of}
 use Rattle.hci_store.proofs.Starting.{counted}
-use Rattle.link_entries.specs.messages.Links.{NumberedEnd}
+use Rattle.link_laws.specs.messages.Links.{NumberedEnd}
 use Rattle.node_machine.specs.Parts.{Creation, Desk, Port}
 use Rattle.node_machine.specs.Carrying.{port_at}
 use Rattle.node_machine.specs.Controller.{asked_at}

@@ -5,7 +5,7 @@ use Rattle.std.specs.List.{AllByRecursion}
 use Rattle.swp_base.specs.InMemory.{Memory}
 use Rattle.trace_model.specs.Lines.{IsHost}
 use Rattle.trace_model.specs.declared.entry.Entry.{Entry}
-use Rattle.link_entries.specs.messages.Links.{NumberedEnd, aged}
+use Rattle.link_laws.specs.messages.Links.{NumberedEnd, aged}
 use Rattle.node_machine.specs.Parts.{Core, Desk, Running, Port}
 use Rattle.node_machine.specs.Node.NodeInput.{TimePasses}
 use Rattle.node_machine.specs.world.World.{NodeWorld, Site, site_at, link_to, port_for, all_aged, controller_ticks}

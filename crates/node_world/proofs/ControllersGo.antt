@@ -7,13 +7,13 @@ use Rattle.std.proofs.lemmas.Bool.{eqb-true}
 use Rattle.swp_base.specs.InMemory.{Memory}
 use Rattle.swp_base.specs.declared.control_frames.Control.{Control}
 use Rattle.link_laws.specs.sessions.Sessions.{OnWire, is_rset, is_up, fits}
-use Rattle.link_entries.proofs.entries.Lasting.{same_number}
-use Rattle.link_machine.specs.Machine.{frames_out, sent_all, new_link_end, renewed}
-use Rattle.link_entries.specs.messages.Links.{Link, NumberedEnd, Ending, becomes, cut, with_controller, put, put_all}
-use Rattle.link_entries.specs.messages.Links.Ending.{GoesOut, CutOff}
-use Rattle.link_entries.specs.entries.Entries.{End as Side, far, pushed_out, wire_with, put_entries, puts_entries, ending_entries}
-use Rattle.link_entries.specs.entries.Entries.End.{Controller}
-use Rattle.link_entries.specs.entries.Entries.Entry.{Emit}
+use Rattle.link_laws.proofs.entries.Lasting.{same_number}
+use Rattle.link_laws.specs.machine.Machine.{frames_out, sent_all, new_link_end, renewed}
+use Rattle.link_laws.specs.messages.Links.{Link, NumberedEnd, Ending, becomes, cut, with_controller, put, put_all}
+use Rattle.link_laws.specs.messages.Links.Ending.{GoesOut, CutOff}
+use Rattle.link_laws.specs.entries.Entries.{End as Side, far, pushed_out, wire_with, put_entries, puts_entries, ending_entries}
+use Rattle.link_laws.specs.entries.Entries.End.{Controller}
+use Rattle.link_laws.specs.entries.Entries.Entry.{Emit}
 use Rattle.history.specs.Steps.{entries_for}
 use Rattle.node_machine.specs.Parts.{Core, Port, Work}
 use Rattle.node_machine.specs.Carrying.{port_at, with_port, changed_if}

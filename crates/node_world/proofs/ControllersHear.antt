@@ -9,11 +9,11 @@ use Rattle.swp_lpdu.specs.Controls.{lpdu_of}
 use Rattle.trace_model.specs.declared.entry.Entry.{Entry}
 use Rattle.trace_model.specs.declared.entry.Entry.TheVariants as note
 use Rattle.link_laws.specs.sessions.Sessions.{OnWire}
-use Rattle.link_entries.proofs.entries.Lasting.{same_number}
-use Rattle.link_machine.specs.Machine.{LinkInput}
-use Rattle.link_entries.specs.messages.Links.{Link, NumberedEnd, Comes}
-use Rattle.link_entries.specs.messages.Links.Comes.{NextFrame, AsksReset, Starts, Stops, NoInput}
-use Rattle.link_entries.specs.entries.Entries.End.{Controller}
+use Rattle.link_laws.proofs.entries.Lasting.{same_number}
+use Rattle.link_laws.specs.machine.Machine.{LinkInput}
+use Rattle.link_laws.specs.messages.Links.{Link, NumberedEnd, Comes}
+use Rattle.link_laws.specs.messages.Links.Comes.{NextFrame, AsksReset, Starts, Stops, NoInput}
+use Rattle.link_laws.specs.entries.Entries.End.{Controller}
 use Rattle.history.specs.Steps.{entries_for}
 use Rattle.node_machine.specs.Parts.{Core, Running, Port}
 use Rattle.node_machine.specs.world.World.{NodeWorld, Site, site_at, with_site, link_to, input_of, arrival, comes_to, comes_at, end_c}

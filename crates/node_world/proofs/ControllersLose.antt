@@ -5,12 +5,12 @@ use Rattle.std.specs.List.{AllByRecursion}
 use Rattle.swp_base.specs.InMemory.{Memory}
 use Rattle.trace_model.specs.Lines.{IsHost}
 use Rattle.trace_model.specs.declared.entry.Entry.{Entry}
-use Rattle.link_machine.specs.Machine.{next_frame}
-use Rattle.link_entries.specs.messages.Links.{Link, NumberedEnd, Loss, happens}
-use Rattle.link_entries.specs.messages.Links.EndEvent.{Lose}
-use Rattle.link_entries.specs.messages.Links.LinkEvent.{AtController}
-use Rattle.link_entries.specs.entries.Entries.{first_lost}
-use Rattle.link_entries.specs.entries.Entries.End.{Controller}
+use Rattle.link_laws.specs.machine.Machine.{next_frame}
+use Rattle.link_laws.specs.messages.Links.{Link, NumberedEnd, Loss, happens}
+use Rattle.link_laws.specs.messages.Links.EndEvent.{Lose}
+use Rattle.link_laws.specs.messages.Links.LinkEvent.{AtController}
+use Rattle.link_laws.specs.entries.Entries.{first_lost}
+use Rattle.link_laws.specs.entries.Entries.End.{Controller}
 use Rattle.history.specs.Steps.{entries_for}
 use Rattle.node_machine.specs.Parts.{Core, Desk, Running, Port}
 use Rattle.node_machine.specs.Carrying.{with_port, changed_if}

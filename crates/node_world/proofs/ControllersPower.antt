@@ -9,13 +9,13 @@ use Rattle.trace_model.specs.declared.entry.Entry.{Entry}
 use Rattle.trace_model.specs.declared.entry.Entry.TheVariants as note
 use Rattle.journal_laws.specs.Journal.{count_of}
 use Rattle.journal_laws.specs.Planned.{fails_within, after_planned}
-use Rattle.link_machine.specs.Machine.{LinkEnd, next_frame, new_link_end}
-use Rattle.link_machine.specs.Machine.Role.{Clf}
-use Rattle.link_entries.specs.messages.Links.{Link, NumberedEnd, happens, happens_at_controller}
-use Rattle.link_entries.specs.messages.Links.Ending.{CutOff}
-use Rattle.link_entries.specs.messages.Links.Comes.{NoInput}
-use Rattle.link_entries.specs.messages.Links.EndEvent.{Step}
-use Rattle.link_entries.specs.messages.Links.LinkEvent.{AtController}
+use Rattle.link_laws.specs.machine.Machine.{LinkEnd, next_frame, new_link_end}
+use Rattle.link_laws.specs.machine.Machine.Role.{Clf}
+use Rattle.link_laws.specs.messages.Links.{Link, NumberedEnd, happens, happens_at_controller}
+use Rattle.link_laws.specs.messages.Links.Ending.{CutOff}
+use Rattle.link_laws.specs.messages.Links.Comes.{NoInput}
+use Rattle.link_laws.specs.messages.Links.EndEvent.{Step}
+use Rattle.link_laws.specs.messages.Links.LinkEvent.{AtController}
 use Rattle.node_machine.specs.Parts.{Core, Desk, Running, Port}
 use Rattle.node_machine.specs.Node.{found, boot_writes, new_desk}
 use Rattle.node_machine.specs.world.World.{NodeWorld, Site, site_at, link_to, port_for, controller_cut, boots}

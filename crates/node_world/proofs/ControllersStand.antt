@@ -5,10 +5,10 @@ use Rattle.std.specs.List.{AllByRecursion, flat_map}
 use Rattle.swp_base.specs.InMemory.{Memory}
 use Rattle.trace_model.specs.declared.entry.Entry.{Entry}
 use Rattle.journal_laws.specs.Planned.{after_planned}
-use Rattle.link_machine.specs.Machine.{next_frame, sent_all}
-use Rattle.link_entries.specs.messages.Links.{Link, NumberedEnd, Ending}
-use Rattle.link_entries.specs.messages.Links.Ending.{GoesOut, CutOff}
-use Rattle.link_entries.specs.entries.Entries.End.{Controller}
+use Rattle.link_laws.specs.machine.Machine.{next_frame, sent_all}
+use Rattle.link_laws.specs.messages.Links.{Link, NumberedEnd, Ending}
+use Rattle.link_laws.specs.messages.Links.Ending.{GoesOut, CutOff}
+use Rattle.link_laws.specs.entries.Entries.End.{Controller}
 use Rattle.node_machine.specs.Parts.{Core, Desk, Running, Port, Work}
 use Rattle.node_machine.specs.world.World.{NodeWorld, Site, site_at, link_to, port_for, ending_of, runs_on, frames_noted}
 use Rattle.node_laws.specs.kept.Books.{hosts_of_ends}

@@ -6,12 +6,12 @@ use Rattle.swp_base.specs.InMemory.{Memory}
 use Rattle.trace_model.specs.declared.entry.Entry.{Entry}
 use Rattle.link_laws.specs.sessions.Sessions.{OnWire}
 use Rattle.journal_laws.specs.Planned.{after_planned}
-use Rattle.link_machine.specs.Machine.{LinkEnd, LinkInput, next_frame, after_input, reset_refusal}
-use Rattle.link_machine.specs.Machine.LinkInput.{Tick, Reset}
-use Rattle.link_entries.specs.messages.Links.{Link, NumberedEnd, Comes, Ending, number_of, happens_at_controller}
-use Rattle.link_entries.specs.messages.Links.Comes.{NextFrame, AsksReset, Starts, Stops, NoInput}
-use Rattle.link_entries.specs.messages.Links.EndEvent.{Step}
-use Rattle.link_entries.specs.entries.Entries.End.{Controller}
+use Rattle.link_laws.specs.machine.Machine.{LinkEnd, LinkInput, next_frame, after_input, reset_refusal}
+use Rattle.link_laws.specs.machine.Machine.LinkInput.{Tick, Reset}
+use Rattle.link_laws.specs.messages.Links.{Link, NumberedEnd, Comes, Ending, number_of, happens_at_controller}
+use Rattle.link_laws.specs.messages.Links.Comes.{NextFrame, AsksReset, Starts, Stops, NoInput}
+use Rattle.link_laws.specs.messages.Links.EndEvent.{Step}
+use Rattle.link_laws.specs.entries.Entries.End.{Controller}
 use Rattle.history.specs.Steps.{entries_for}
 use Rattle.link_wires.proofs.Results.{on_ok}
 use Rattle.link_end.specs.declared.report.ResetRefused.{ResetRefused}

@@ -6,11 +6,11 @@ use Rattle.swp_base.specs.InMemory.{Memory}
 use Rattle.swp_act.specs.Activation.{new_clf}
 use Rattle.trace_model.specs.declared.entry.Entry.{Entry}
 use Rattle.journal_laws.specs.Planned.{after_planned}
-use Rattle.link_machine.specs.Machine.{after_input, frames_out, new_link_end}
-use Rattle.link_machine.specs.Machine.LinkInput.{Tick}
-use Rattle.link_machine.specs.Machine.Role.{Clf}
-use Rattle.link_entries.specs.messages.Links.{Link, NumberedEnd, Ending, ticks_at_controller, number_of}
-use Rattle.link_entries.specs.messages.Links.Ending.{GoesOut, CutOff}
+use Rattle.link_laws.specs.machine.Machine.{after_input, frames_out, new_link_end}
+use Rattle.link_laws.specs.machine.Machine.LinkInput.{Tick}
+use Rattle.link_laws.specs.machine.Machine.Role.{Clf}
+use Rattle.link_laws.specs.messages.Links.{Link, NumberedEnd, Ending, ticks_at_controller, number_of}
+use Rattle.link_laws.specs.messages.Links.Ending.{GoesOut, CutOff}
 use Rattle.link_wires.proofs.Results.{on_ok}
 use Rattle.node_machine.specs.Parts.{Core, Desk, Running, Port, Work}
 use Rattle.node_machine.specs.Node.NodeInput.{TimePasses}

@@ -5,11 +5,11 @@ use Rattle.std.specs.List.{AllByRecursion}
 use Rattle.hcp_packet.specs.Packets.{AreSendable}
 use Rattle.history.specs.Follows.{taken_of}
 use Rattle.link_laws.specs.sessions.Sessions.{OnWire, took_with}
-use Rattle.link_machine.specs.Machine.{LinkEnd, LinkInput, Message, after_input}
-use Rattle.link_machine.specs.Machine.LinkInput.{Tick, Reset}
-use Rattle.link_machine.specs.Machine.Role.{Bare}
-use Rattle.link_entries.specs.messages.Links.{Link, NumberedEnd, Comes, new_link}
-use Rattle.link_entries.specs.messages.Links.Comes.{NextFrame, AsksReset, Starts, Stops, NoInput}
+use Rattle.link_laws.specs.machine.Machine.{LinkEnd, LinkInput, Message, after_input}
+use Rattle.link_laws.specs.machine.Machine.LinkInput.{Tick, Reset}
+use Rattle.link_laws.specs.machine.Machine.Role.{Bare}
+use Rattle.link_laws.specs.messages.Links.{Link, NumberedEnd, Comes, new_link}
+use Rattle.link_laws.specs.messages.Links.Comes.{NextFrame, AsksReset, Starts, Stops, NoInput}
 use Rattle.node_machine.specs.Parts.{Desk, Port}
 use Rattle.node_machine.specs.Node.{input_at, has_come}
 use Rattle.node_machine.specs.Node.NodeInput.{AtEnd, TimePasses}

@@ -3,12 +3,12 @@ use Rattle.std.proofs.Common.{◌≡◌, ℕ, ◌==◌, false, cond, List, [], �
 use Rattle.std.specs.Prelude.{Option, Some, None}
 use Rattle.std.specs.Option.{option_map_or}
 use Rattle.std.proofs.lemmas.Bool.{eqb-true}
-use Rattle.link_entries.proofs.entries.Lasting.{same_number}
-use Rattle.link_machine.specs.Machine.{LinkEnd, LinkInput, turned}
-use Rattle.link_entries.specs.messages.Links.{Link, Comes, exchanged, number_of}
-use Rattle.link_entries.specs.messages.Links.Comes.{NoInput}
-use Rattle.link_entries.specs.entries.Entries.{End as Side}
-use Rattle.link_entries.specs.entries.Entries.End.{Controller, Host}
+use Rattle.link_laws.proofs.entries.Lasting.{same_number}
+use Rattle.link_laws.specs.machine.Machine.{LinkEnd, LinkInput, turned}
+use Rattle.link_laws.specs.messages.Links.{Link, Comes, exchanged, number_of}
+use Rattle.link_laws.specs.messages.Links.Comes.{NoInput}
+use Rattle.link_laws.specs.entries.Entries.{End as Side}
+use Rattle.link_laws.specs.entries.Entries.End.{Controller, Host}
 use Rattle.node_machine.specs.Parts.{Running, Port, Work, Deed}
 use Rattle.node_machine.specs.Carrying.{port_at}
 use Rattle.node_machine.specs.Node.{steps, begins_with}

@@ -18,13 +18,13 @@ use Rattle.shdlc_core.specs.Machine.{EndState, Session, Fragment, taken, take_an
 use Rattle.shdlc_core.specs.Machine.{reset_with, waiting_from, stopped, with_ready, fetched, runs_timer, most_frames}
 use Rattle.shdlc_core.proofs.Histories.{received-acked}
 use Rattle.hcp_packet.specs.Packets.{packet_count, AreSendable}
-use Rattle.link_machine.specs.Machine.{LinkEnd, Message, LinkInput, Turn, Refused, whole_among, after_input, turn, turned, put_down, moved}
-use Rattle.link_machine.specs.Machine.{activated, heard, took, had_tick, is_open, is_faulty, reset_by, reset_refusal, if_up, sent_all}
-use Rattle.link_machine.specs.Machine.{give_refusal, aside_refusal, window_of, act_answer, with_act}
-use Rattle.link_machine.specs.Machine.LinkInput.{Take, TakeUnknown, TakeBroken, Tick, Reset, Start, Stop, FromNode, Fetch}
-use Rattle.link_machine.specs.Machine.Turn.{Give, Hold, FetchMessage, SetAside, Release}
-use Rattle.link_machine.specs.Machine.{ActDue, role_after, unless, given, news, frame_fetched, nearer}
-use Rattle.link_entries.proofs.entries.Stepping.{fetched_acked}
+use Rattle.link_laws.specs.machine.Machine.{LinkEnd, Message, LinkInput, Turn, Refused, whole_among, after_input, turn, turned, put_down, moved}
+use Rattle.link_laws.specs.machine.Machine.{activated, heard, took, had_tick, is_open, is_faulty, reset_by, reset_refusal, if_up, sent_all}
+use Rattle.link_laws.specs.machine.Machine.{give_refusal, aside_refusal, window_of, act_answer, with_act}
+use Rattle.link_laws.specs.machine.Machine.LinkInput.{Take, TakeUnknown, TakeBroken, Tick, Reset, Start, Stop, FromNode, Fetch}
+use Rattle.link_laws.specs.machine.Machine.Turn.{Give, Hold, FetchMessage, SetAside, Release}
+use Rattle.link_laws.specs.machine.Machine.{ActDue, role_after, unless, given, news, frame_fetched, nearer}
+use Rattle.link_laws.proofs.entries.Stepping.{fetched_acked}
 use Rattle.node_world.specs.Bounds.{IsFromOutside}
 
 -- ## Whole messages

@@ -6,14 +6,14 @@ use Rattle.swp_base.specs.declared.control_frames.Control.{Control}
 use Rattle.swp_base.specs.declared.control_frames.Control.TheVariants.{Act as ActFrame}
 use Rattle.shdlc_core.specs.Machine.{EndState, frame_due, fetched, frames_of, most_frames, is_waiting}
 use Rattle.link_laws.specs.sessions.Sessions.{OnWire, is_rset, is_up, took_with}
-use Rattle.link_machine.specs.Machine.{LinkEnd, ActDue, Role, LinkInput, Turn, among, frames_out, sent_all, turned, after_input, ended_by}
-use Rattle.link_machine.specs.Machine.{new_link_end, renewed}
-use Rattle.link_machine.specs.Machine.Role.{Bare, Clf, Uicc}
-use Rattle.link_machine.specs.Machine.LinkInput.{Take, Tick, Reset, Start, Stop}
-use Rattle.link_entries.specs.messages.Links.{NumberedEnd, Link, Ending, Comes, exchanged, put, put_all, with_controller, with_ended, silent}
-use Rattle.link_entries.specs.messages.Links.{finished, has_input, has_taken, has_restarted, steps_at_controller, ticks_at_controller, aged}
-use Rattle.link_entries.specs.messages.Links.Ending.{GoesOut, CutOff}
-use Rattle.link_entries.specs.messages.Links.Comes.{NextFrame, AsksReset, Starts, Stops, NoInput}
+use Rattle.link_laws.specs.machine.Machine.{LinkEnd, ActDue, Role, LinkInput, Turn, among, frames_out, sent_all, turned, after_input, ended_by}
+use Rattle.link_laws.specs.machine.Machine.{new_link_end, renewed}
+use Rattle.link_laws.specs.machine.Machine.Role.{Bare, Clf, Uicc}
+use Rattle.link_laws.specs.machine.Machine.LinkInput.{Take, Tick, Reset, Start, Stop}
+use Rattle.link_laws.specs.messages.Links.{NumberedEnd, Link, Ending, Comes, exchanged, put, put_all, with_controller, with_ended, silent}
+use Rattle.link_laws.specs.messages.Links.{finished, has_input, has_taken, has_restarted, steps_at_controller, ticks_at_controller, aged}
+use Rattle.link_laws.specs.messages.Links.Ending.{GoesOut, CutOff}
+use Rattle.link_laws.specs.messages.Links.Comes.{NextFrame, AsksReset, Starts, Stops, NoInput}
 use Rattle.node_machine.specs.world.World.{ticked_so}
 use Rattle.node_world.specs.Bounds.{FewOn, IsFromOutside}
 use Rattle.node_world.proofs.FewAtEnds.{input_nearly, turned_acked, all_sent_acked}

@@ -10,10 +10,10 @@ use Rattle.trace_model.specs.declared.entry.Entry.{Entry}
 use Rattle.trace_model.specs.declared.line.End.{End}
 use Rattle.shdlc_core.specs.Machine.{frame_due, fetched, all_frames}
 use Rattle.link_laws.proofs.places.Idle.{fetched_idle}
-use Rattle.link_machine.specs.Machine.{LinkEnd, ActDue, among, next_frame, frame_fetched, frames_out, sent_all}
-use Rattle.link_machine.specs.Laws.{fetches, after_fetches, most_fetches}
-use Rattle.link_entries.specs.messages.Links.{Link, put, put_all}
-use Rattle.link_entries.specs.entries.Entries.{Entry as Noted, put_entries, puts_entries}
+use Rattle.link_laws.specs.machine.Machine.{LinkEnd, ActDue, among, next_frame, frame_fetched, frames_out, sent_all}
+use Rattle.link_laws.specs.machine.Laws.{fetches, after_fetches, most_fetches}
+use Rattle.link_laws.specs.messages.Links.{Link, put, put_all}
+use Rattle.link_laws.specs.entries.Entries.{Entry as Noted, put_entries, puts_entries}
 use Rattle.history.specs.Steps.{entries_for}
 use Rattle.history.specs.Follows.{seen_from}
 use Rattle.link_wires.specs.Notes.{side_of, AreNoted}

@@ -8,10 +8,10 @@ use Rattle.std.proofs.lemmas.List.{map-append, drop-set-lt, drop_more}
 use Rattle.swp_base.specs.InMemory.{Memory}
 use Rattle.swp_base.specs.declared.control_frames.Control.{Control}
 use Rattle.trace_model.specs.declared.entry.Entry.{Entry}
-use Rattle.link_machine.specs.Machine.{frames_out}
-use Rattle.link_entries.specs.messages.Links.{Link, NumberedEnd, put_all}
-use Rattle.link_entries.specs.entries.Entries.{puts_entries}
-use Rattle.link_entries.specs.entries.Entries.End.{Controller}
+use Rattle.link_laws.specs.machine.Machine.{frames_out}
+use Rattle.link_laws.specs.messages.Links.{Link, NumberedEnd, put_all}
+use Rattle.link_laws.specs.entries.Entries.{puts_entries}
+use Rattle.link_laws.specs.entries.Entries.End.{Controller}
 use Rattle.history.specs.Steps.{entries_for}
 use Rattle.node_machine.specs.Parts.{Core, Port}
 use Rattle.node_machine.specs.Carrying.{port_at, with_port, changed_if}

@@ -2,13 +2,13 @@
 use Rattle.std.proofs.Common.{◌≡◌, Bool, true, false, List, [], ◌∷◌, refl, sym, subst, ◌∙◌}
 use Rattle.std.specs.Prelude.{Option, Some, None, is_some}
 use Rattle.link_laws.specs.sessions.Sessions.{OnWire, is_up, took_with}
-use Rattle.link_machine.specs.Machine.{LinkEnd, LinkInput, Turn, turned, after_input, ended_by, started, deactivated, new_link_end, renewed, sent_all}
-use Rattle.link_machine.specs.Machine.LinkInput.{Take, Reset, Start, Stop}
-use Rattle.link_entries.specs.messages.Links.{Link, Comes, exchanged, with_ended, with_controller, becomes, silent, cut}
-use Rattle.link_entries.specs.messages.Links.{happens_at_controller}
-use Rattle.link_entries.specs.messages.Links.Ending.{GoesOut, CutOff}
-use Rattle.link_entries.specs.messages.Links.EndEvent.{Step}
-use Rattle.link_entries.specs.messages.Links.Comes.{NextFrame, AsksReset, Starts, Stops, NoInput}
+use Rattle.link_laws.specs.machine.Machine.{LinkEnd, LinkInput, Turn, turned, after_input, ended_by, started, deactivated, new_link_end, renewed, sent_all}
+use Rattle.link_laws.specs.machine.Machine.LinkInput.{Take, Reset, Start, Stop}
+use Rattle.link_laws.specs.messages.Links.{Link, Comes, exchanged, with_ended, with_controller, becomes, silent, cut}
+use Rattle.link_laws.specs.messages.Links.{happens_at_controller}
+use Rattle.link_laws.specs.messages.Links.Ending.{GoesOut, CutOff}
+use Rattle.link_laws.specs.messages.Links.EndEvent.{Step}
+use Rattle.link_laws.specs.messages.Links.Comes.{NextFrame, AsksReset, Starts, Stops, NoInput}
 use Rattle.link_wires.specs.Wires.{WireStandsFor}
 use Rattle.node_machine.specs.world.World.{input_of, near_end_in}
 use Rattle.node_laws.proofs.telling.Parts.{after_coming, IsStep}

@@ -7,12 +7,12 @@ use Rattle.swp_lpdu.specs.declared.LpduFault.{LpduFault}
 use Rattle.swp_lpdu.specs.Controls.{lpdu_of, control_of}
 use Rattle.trace_model.specs.declared.entry.Entry.{Entry}
 use Rattle.link_laws.specs.sessions.Sessions.{OnWire}
-use Rattle.link_machine.specs.Machine.{LinkInput, Turn}
-use Rattle.link_machine.specs.Machine.LinkInput.{Take}
-use Rattle.link_entries.specs.messages.Links.{Link, Comes, Ending, exchanged, happens_at_controller}
-use Rattle.link_entries.specs.messages.Links.Comes.{NextFrame}
-use Rattle.link_entries.specs.messages.Links.EndEvent.{Step}
-use Rattle.link_entries.specs.entries.Entries.End.{Host}
+use Rattle.link_laws.specs.machine.Machine.{LinkInput, Turn}
+use Rattle.link_laws.specs.machine.Machine.LinkInput.{Take}
+use Rattle.link_laws.specs.messages.Links.{Link, Comes, Ending, exchanged, happens_at_controller}
+use Rattle.link_laws.specs.messages.Links.Comes.{NextFrame}
+use Rattle.link_laws.specs.messages.Links.EndEvent.{Step}
+use Rattle.link_laws.specs.entries.Entries.End.{Host}
 use Rattle.node_machine.specs.Parts.{Core, Running, Port, Work}
 use Rattle.node_machine.specs.Node.{steps}
 use Rattle.node_machine.specs.Node.NodeInput.{AtEnd}

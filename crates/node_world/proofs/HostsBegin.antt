@@ -5,10 +5,10 @@ use Rattle.std.specs.List.{AllByRecursion}
 use Rattle.swp_base.specs.InMemory.{Memory}
 use Rattle.trace_model.specs.declared.entry.Entry.{Entry}
 use Rattle.link_laws.specs.sessions.Sessions.{OnWire}
-use Rattle.link_machine.specs.Machine.{LinkEnd, next_frame}
-use Rattle.link_entries.specs.messages.Links.{Link, NumberedEnd, Comes, exchanged}
-use Rattle.link_entries.specs.messages.Links.Comes.{NextFrame, AsksReset, Starts, Stops, NoInput}
-use Rattle.link_entries.specs.entries.Entries.End.{Host}
+use Rattle.link_laws.specs.machine.Machine.{LinkEnd, next_frame}
+use Rattle.link_laws.specs.messages.Links.{Link, NumberedEnd, Comes, exchanged}
+use Rattle.link_laws.specs.messages.Links.Comes.{NextFrame, AsksReset, Starts, Stops, NoInput}
+use Rattle.link_laws.specs.entries.Entries.End.{Host}
 use Rattle.history.specs.Steps.{entries_for}
 use Rattle.node_machine.specs.Parts.{Core, Desk, Running, Port, Work}
 use Rattle.node_machine.specs.Carrying.{port_at}

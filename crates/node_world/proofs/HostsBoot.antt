@@ -8,10 +8,10 @@ use Rattle.trace_model.specs.declared.entry.Entry.{Entry}
 use Rattle.trace_model.specs.declared.entry.Entry.TheVariants as note
 use Rattle.journal_laws.specs.Journal.{count_of}
 use Rattle.journal_laws.specs.Planned.{fails_within, after_planned}
-use Rattle.link_machine.specs.Machine.{LinkEnd, next_frame, new_link_end}
-use Rattle.link_machine.specs.Machine.Role.{Uicc}
-use Rattle.link_entries.specs.messages.Links.{exchanged}
-use Rattle.link_entries.specs.messages.Links.Comes.{NoInput}
+use Rattle.link_laws.specs.machine.Machine.{LinkEnd, next_frame, new_link_end}
+use Rattle.link_laws.specs.machine.Machine.Role.{Uicc}
+use Rattle.link_laws.specs.messages.Links.{exchanged}
+use Rattle.link_laws.specs.messages.Links.Comes.{NoInput}
 use Rattle.node_machine.specs.Parts.{Core, Running, Port}
 use Rattle.node_machine.specs.Node.{found, boot_writes, new_desk}
 use Rattle.node_machine.specs.world.World.{Site, host_cut, port_for}

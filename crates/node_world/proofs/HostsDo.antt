@@ -6,11 +6,11 @@ use Rattle.std.specs.Option.{option_map_or}
 use Rattle.swp_base.specs.InMemory.{Memory}
 use Rattle.trace_model.specs.declared.entry.Entry.{Entry}
 use Rattle.swp_base.specs.declared.outside.NoMemory.{NoMemory}
-use Rattle.link_machine.specs.Machine.{Turn, next_frame, frames_out, sent_all}
-use Rattle.link_entries.specs.messages.Links.{Link, Ending, exchanged}
-use Rattle.link_entries.specs.messages.Links.Ending.{GoesOut, CutOff}
-use Rattle.link_entries.specs.entries.Entries.{puts_entries, ending_entries}
-use Rattle.link_entries.specs.entries.Entries.End.{Host}
+use Rattle.link_laws.specs.machine.Machine.{Turn, next_frame, frames_out, sent_all}
+use Rattle.link_laws.specs.messages.Links.{Link, Ending, exchanged}
+use Rattle.link_laws.specs.messages.Links.Ending.{GoesOut, CutOff}
+use Rattle.link_laws.specs.entries.Entries.{puts_entries, ending_entries}
+use Rattle.link_laws.specs.entries.Entries.End.{Host}
 use Rattle.history.specs.Steps.{entries_for}
 use Rattle.node_machine.specs.Parts.{Core, Port, Work}
 use Rattle.node_machine.specs.Carrying.{port_at}

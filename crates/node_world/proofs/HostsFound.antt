@@ -6,7 +6,7 @@ use Rattle.trace_model.specs.declared.entry.Entry.{Entry}
 use Rattle.trace_model.specs.declared.entry.NoCause.{NoCause}
 use Rattle.trace_model.specs.declared.line.Line.TheVariants as line
 use Rattle.node_machine.specs.Parts.{Core, Port, Work}
-use Rattle.link_entries.specs.messages.Links.{Comes}
+use Rattle.link_laws.specs.messages.Links.{Comes}
 use Rattle.node_machine.specs.world.World.{NodeWorld, Site, site_at, end_h, host_does}
 use Rattle.node_machine.specs.world.Lines.{refusal_in}
 use Rattle.node_laws.specs.telling.Telling.{IsOrderly}

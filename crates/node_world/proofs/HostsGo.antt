@@ -5,10 +5,10 @@ use Rattle.std.specs.List.{AllByRecursion}
 use Rattle.swp_base.specs.InMemory.{Memory}
 use Rattle.trace_model.specs.declared.entry.Entry.{Entry}
 use Rattle.journal_laws.specs.Planned.{after_planned}
-use Rattle.link_entries.proofs.entries.Lasting.{same_number}
-use Rattle.link_machine.specs.Machine.{LinkEnd, Turn, next_frame, sent_all, new_link_end, renewed}
-use Rattle.link_entries.specs.messages.Links.{Link, NumberedEnd, Ending, exchanged, becomes, with_controller}
-use Rattle.link_entries.specs.messages.Links.Ending.{GoesOut, CutOff}
+use Rattle.link_laws.proofs.entries.Lasting.{same_number}
+use Rattle.link_laws.specs.machine.Machine.{LinkEnd, Turn, next_frame, sent_all, new_link_end, renewed}
+use Rattle.link_laws.specs.messages.Links.{Link, NumberedEnd, Ending, exchanged, becomes, with_controller}
+use Rattle.link_laws.specs.messages.Links.Ending.{GoesOut, CutOff}
 use Rattle.node_machine.specs.Parts.{Core, Desk, Running, Port, Work}
 use Rattle.node_machine.specs.Carrying.{port_at, with_port, changed_if}
 use Rattle.node_machine.specs.world.World.{Site, turns_at, port_for}

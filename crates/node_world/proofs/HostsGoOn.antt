@@ -8,11 +8,11 @@ use Rattle.trace_model.specs.declared.entry.Entry.TheVariants as note
 use Rattle.trace_model.specs.declared.line.End.{End}
 use Rattle.swp_lpdu.specs.Controls.{lpdu_of, control_of}
 use Rattle.link_laws.specs.sessions.Sessions.{OnWire}
-use Rattle.link_machine.specs.Machine.{LinkInput, Turn, lpdu_input}
-use Rattle.link_machine.specs.Machine.LinkInput.{Take}
-use Rattle.link_entries.specs.messages.Links.{Link, Comes, Ending, exchanged}
-use Rattle.link_entries.specs.messages.Links.Comes.{NextFrame, NoInput}
-use Rattle.link_entries.specs.entries.Entries.End.{Host}
+use Rattle.link_laws.specs.machine.Machine.{LinkInput, Turn, lpdu_input}
+use Rattle.link_laws.specs.machine.Machine.LinkInput.{Take}
+use Rattle.link_laws.specs.messages.Links.{Link, Comes, Ending, exchanged}
+use Rattle.link_laws.specs.messages.Links.Comes.{NextFrame, NoInput}
+use Rattle.link_laws.specs.entries.Entries.End.{Host}
 use Rattle.history.specs.Steps.{end_of, entries_for}
 use Rattle.node_machine.specs.Parts.{Core, Port, Work, Deed}
 use Rattle.node_machine.specs.Node.{steps, begins_with}

@@ -9,14 +9,14 @@ use Rattle.swp_base.specs.declared.control_frames.Control.{Control}
 use Rattle.trace_model.specs.declared.entry.Entry.{Entry}
 use Rattle.journal_laws.specs.Planned.{after_planned}
 use Rattle.link_laws.specs.sessions.Sessions.{OnWire, is_rset, took_with}
-use Rattle.link_machine.specs.Machine.{LinkEnd, LinkInput, Turn, frames_out}
-use Rattle.link_machine.specs.Machine.LinkInput.{Tick, Reset}
-use Rattle.link_entries.specs.messages.Links.{Link, NumberedEnd, Comes, Ending, exchanged, number_of, happens_at_controller, put}
-use Rattle.link_entries.specs.messages.Links.Comes.{NextFrame, AsksReset, Starts, Stops, NoInput}
-use Rattle.link_entries.specs.messages.Links.EndEvent.{Step}
-use Rattle.link_entries.specs.entries.Entries.{puts_entries, put_entries}
-use Rattle.link_entries.specs.entries.Entries.End.{Host}
-use Rattle.link_entries.proofs.entries.Lasting.{same_number}
+use Rattle.link_laws.specs.machine.Machine.{LinkEnd, LinkInput, Turn, frames_out}
+use Rattle.link_laws.specs.machine.Machine.LinkInput.{Tick, Reset}
+use Rattle.link_laws.specs.messages.Links.{Link, NumberedEnd, Comes, Ending, exchanged, number_of, happens_at_controller, put}
+use Rattle.link_laws.specs.messages.Links.Comes.{NextFrame, AsksReset, Starts, Stops, NoInput}
+use Rattle.link_laws.specs.messages.Links.EndEvent.{Step}
+use Rattle.link_laws.specs.entries.Entries.{puts_entries, put_entries}
+use Rattle.link_laws.specs.entries.Entries.End.{Host}
+use Rattle.link_laws.proofs.entries.Lasting.{same_number}
 use Rattle.history.specs.Steps.{entries_for}
 use Rattle.node_machine.specs.Parts.{Desk, Core, Running, Port, Work, Deed}
 use Rattle.node_machine.specs.Node.{input_at, has_come, steps, begins_with}

@@ -7,11 +7,11 @@ use Rattle.trace_model.specs.declared.entry.Entry.TheVariants as entry
 use Rattle.trace_model.specs.declared.line.End.{End}
 use Rattle.journal_laws.specs.Journal.{count_of}
 use Rattle.journal_laws.specs.Planned.{fails_within, after_planned}
-use Rattle.link_machine.specs.Machine.{LinkInput}
-use Rattle.link_entries.specs.messages.Links.{Link, Comes, Loss, exchanged, happens}
-use Rattle.link_entries.specs.messages.Links.EndEvent.{Lose}
-use Rattle.link_entries.specs.entries.Entries.{first_lost}
-use Rattle.link_entries.specs.entries.Entries.End.{Host}
+use Rattle.link_laws.specs.machine.Machine.{LinkInput}
+use Rattle.link_laws.specs.messages.Links.{Link, Comes, Loss, exchanged, happens}
+use Rattle.link_laws.specs.messages.Links.EndEvent.{Lose}
+use Rattle.link_laws.specs.entries.Entries.{first_lost}
+use Rattle.link_laws.specs.entries.Entries.End.{Host}
 use Rattle.history.specs.Steps.{at, entries_for}
 use Rattle.history.specs.Follows.{frames_to}
 use Rattle.link_wires.specs.Notes.{side_of}

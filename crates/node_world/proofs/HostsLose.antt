@@ -4,10 +4,10 @@ use Rattle.std.specs.Prelude.{Option, Some, None}
 use Rattle.std.specs.List.{AllByRecursion}
 use Rattle.swp_base.specs.InMemory.{Memory}
 use Rattle.trace_model.specs.declared.line.End.{End}
-use Rattle.link_machine.specs.Machine.{next_frame}
-use Rattle.link_entries.specs.messages.Links.{NumberedEnd, Loss, happens}
-use Rattle.link_entries.specs.messages.Links.Loss.{OnDemand, Broken, Unread, TooOld, TooMany}
-use Rattle.link_entries.specs.messages.Links.EndEvent.{Lose}
+use Rattle.link_laws.specs.machine.Machine.{next_frame}
+use Rattle.link_laws.specs.messages.Links.{NumberedEnd, Loss, happens}
+use Rattle.link_laws.specs.messages.Links.Loss.{OnDemand, Broken, Unread, TooOld, TooMany}
+use Rattle.link_laws.specs.messages.Links.EndEvent.{Lose}
 use Rattle.history.specs.Steps.{at}
 use Rattle.node_machine.specs.Parts.{Core, Desk, Running, Port}
 use Rattle.node_machine.specs.Carrying.{with_port, changed_if}

@@ -5,10 +5,10 @@ use Rattle.std.specs.Prelude.{slice_set, Option, Some, None}
 use Rattle.swp_base.specs.InMemory.{Memory, Plan}
 use Rattle.trace_model.specs.declared.entry.Entry.{Entry}
 use Rattle.trace_model.specs.declared.entry.Entry.TheVariants as note
-use Rattle.link_entries.specs.messages.Links.{Link, Loss, happens}
-use Rattle.link_entries.specs.messages.Links.EndEvent.{Lose}
-use Rattle.link_entries.specs.entries.Entries.{first_lost}
-use Rattle.link_entries.specs.entries.Entries.End.{Host}
+use Rattle.link_laws.specs.messages.Links.{Link, Loss, happens}
+use Rattle.link_laws.specs.messages.Links.EndEvent.{Lose}
+use Rattle.link_laws.specs.entries.Entries.{first_lost}
+use Rattle.link_laws.specs.entries.Entries.End.{Host}
 use Rattle.history.specs.Steps.{at, entries_for}
 use Rattle.history.specs.Follows.{frames_to}
 use Rattle.link_wires.specs.Notes.{side_of, AreNoted}

@@ -6,10 +6,10 @@ use Rattle.trace_model.specs.declared.entry.Entry.{Entry}
 use Rattle.trace_model.specs.declared.entry.NoCause.{NoCause}
 use Rattle.trace_model.specs.declared.entry.NoCause.TheVariants as no
 use Rattle.shdlc_core.specs.Machine.{is_waiting}
-use Rattle.link_machine.specs.Machine.{LinkEnd, Message, is_open, reset_refusal, give_refusal}
+use Rattle.link_laws.specs.machine.Machine.{LinkEnd, Message, is_open, reset_refusal, give_refusal}
 use Rattle.link_end.specs.declared.report.ResetRefused.{ResetRefused}
 use Rattle.link_end.specs.Reports.{reset_refused}
-use Rattle.link_entries.specs.messages.Links.Comes.{NoInput}
+use Rattle.link_laws.specs.messages.Links.Comes.{NoInput}
 use Rattle.history.specs.Follows.{as_noted}
 use Rattle.node_machine.specs.Parts.{Core, Desk, Running, Port}
 use Rattle.node_machine.specs.Parts.Deed.{Sends, Orders}

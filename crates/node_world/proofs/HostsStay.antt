@@ -5,11 +5,11 @@ use Rattle.swp_base.specs.InMemory.{Memory}
 use Rattle.swp_base.specs.declared.control_frames.Control.{Control}
 use Rattle.swp_act.specs.Activation.{new_uicc}
 use Rattle.trace_model.specs.declared.entry.Entry.{Entry}
-use Rattle.link_machine.specs.Machine.{LinkEnd, after_input, frames_out, new_link_end, sent_all}
-use Rattle.link_machine.specs.Machine.LinkInput.{Tick}
-use Rattle.link_machine.specs.Machine.Role.{Uicc}
-use Rattle.link_entries.specs.messages.Links.{Link, exchanged, becomes, put_all, ticks_at_controller}
-use Rattle.link_entries.specs.messages.Links.Ending.{GoesOut}
+use Rattle.link_laws.specs.machine.Machine.{LinkEnd, after_input, frames_out, new_link_end, sent_all}
+use Rattle.link_laws.specs.machine.Machine.LinkInput.{Tick}
+use Rattle.link_laws.specs.machine.Machine.Role.{Uicc}
+use Rattle.link_laws.specs.messages.Links.{Link, exchanged, becomes, put_all, ticks_at_controller}
+use Rattle.link_laws.specs.messages.Links.Ending.{GoesOut}
 use Rattle.node_machine.specs.Parts.{Core, Running, Port}
 use Rattle.node_machine.specs.world.World.{Site, host_ticks}
 use Rattle.node_laws.specs.telling.Telling.{IfOff}

@@ -9,7 +9,7 @@ use Rattle.trace_model.specs.Lines.{IsHost}
 use Rattle.trace_model.specs.declared.entry.Entry.{Entry}
 use Rattle.trace_model.specs.declared.line.End.{End}
 use Rattle.trace_model.specs.declared.line.Line.{Line}
-use Rattle.link_entries.specs.messages.Links.{Comes, aged}
+use Rattle.link_laws.specs.messages.Links.{Comes, aged}
 use Rattle.history.specs.Follows.{frames_to}
 use Rattle.node_machine.specs.Parts.{Core, Port}
 use Rattle.node_machine.specs.Carrying.{changed_if}

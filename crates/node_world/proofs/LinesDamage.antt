@@ -8,7 +8,7 @@ use Rattle.trace_model.specs.declared.entry.NoCause.TheVariants as no
 use Rattle.trace_model.specs.declared.line.End.{End}
 use Rattle.trace_model.specs.declared.line.Line.{Line}
 use Rattle.trace_model.specs.declared.line.Line.TheVariants as line
-use Rattle.link_entries.specs.messages.Links.{Loss}
+use Rattle.link_laws.specs.messages.Links.{Loss}
 use Rattle.history.specs.Damage.Verdict.{Same, LostFor}
 use Rattle.history.specs.Follows.{first_verdict, if_out_of_reach, other_frame}
 use Rattle.link_wires.specs.Damages.{Finds}

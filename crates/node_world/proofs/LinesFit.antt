@@ -14,7 +14,7 @@ use Rattle.trace_model.specs.declared.line.Header.{Header}
 use Rattle.trace_model.specs.declared.line.Line.{Line}
 use Rattle.trace_model.specs.declared.line.Line.TheVariants as line
 use Rattle.node_laws.specs.kept.Hosts.{AreDifferent, AreHosts, IsSentByHost}
-use Rattle.node_order.specs.links.Runs.{IsPlayable}
+use Rattle.node_laws.specs.links.Runs.{IsPlayable}
 
 -- ## Hosts
 

@@ -6,11 +6,11 @@ use Rattle.std.specs.List.{AllByRecursion, list_all}
 use Rattle.swp_base.specs.InMemory.{Memory}
 use Rattle.swp_act.specs.Activation.{new_clf, new_uicc}
 use Rattle.link_laws.specs.sessions.Sessions.{OnWire}
-use Rattle.link_machine.specs.Machine.{new_link_end}
-use Rattle.link_machine.specs.Machine.Role.{Clf, Uicc}
-use Rattle.link_machine.specs.AtRest.{end_rests}
-use Rattle.link_entries.specs.messages.Links.{NumberedEnd}
-use Rattle.link_entries.specs.messages.Rest.{is_clear, link_rests}
+use Rattle.link_laws.specs.machine.Machine.{new_link_end}
+use Rattle.link_laws.specs.machine.Machine.Role.{Clf, Uicc}
+use Rattle.link_laws.specs.machine.AtRest.{end_rests}
+use Rattle.link_laws.specs.messages.Links.{NumberedEnd}
+use Rattle.link_laws.specs.messages.Rest.{is_clear, link_rests}
 use Rattle.node_machine.specs.Parts.{Core, Desk, Port, Running}
 use Rattle.node_machine.specs.world.World.{NodeWorld, Site, link_to, port_for, site_at}
 use Rattle.node_machine.specs.world.Rounds.{sites_rest}

@@ -11,7 +11,7 @@ use Rattle.trace_model.specs.declared.line.Header.{Header}
 use Rattle.trace_model.specs.Lines.{IsHost, IsNodeHeader}
 use Rattle.gate_admin.specs.View.{has, hosts_where, mask_of}
 use Rattle.node_laws.proofs.steps.Masks.{is_in_mask}
-use Rattle.node_order.proofs.links.Masking.{from_mask}
+use Rattle.node_laws.proofs.links.Masking.{from_mask}
 use Rattle.node_world.proofs.LinesFit.{IsAbove, above}
 
 -- ## Rising numbers

@@ -12,11 +12,11 @@ use Rattle.trace_model.specs.declared.entry.NoCause.{NoCause}
 use Rattle.trace_model.specs.declared.line.Line.{Line}
 use Rattle.trace_model.specs.declared.line.Line.TheVariants as line
 use Rattle.journal_laws.specs.Planned.{fails_within, after_planned}
-use Rattle.link_entries.specs.messages.Links.{happens}
-use Rattle.link_entries.specs.messages.Links.Ending.{CutOff}
-use Rattle.link_entries.specs.messages.Links.EndEvent.{Step}
-use Rattle.link_entries.specs.messages.Links.LinkEvent.{AtController}
-use Rattle.link_entries.specs.messages.Links.Comes.{NextFrame, AsksReset, NoInput}
+use Rattle.link_laws.specs.messages.Links.{happens}
+use Rattle.link_laws.specs.messages.Links.Ending.{CutOff}
+use Rattle.link_laws.specs.messages.Links.EndEvent.{Step}
+use Rattle.link_laws.specs.messages.Links.LinkEvent.{AtController}
+use Rattle.link_laws.specs.messages.Links.Comes.{NextFrame, AsksReset, NoInput}
 use Rattle.node_machine.specs.Parts.{Running}
 use Rattle.node_machine.specs.Node.{found, boot_writes}
 use Rattle.node_machine.specs.world.World.{NodeWorld, Site, Happening, new_world, site_at}

@@ -7,8 +7,8 @@ use Rattle.swp_base.specs.InMemory.{Memory, is_next, memory_after}
 use Rattle.trace_model.specs.declared.line.End.{End}
 use Rattle.journal_laws.specs.Writes.{Write}
 use Rattle.journal_laws.specs.Planned.{after_planned}
-use Rattle.link_entries.specs.messages.Links.{Comes, Loss}
-use Rattle.link_entries.specs.messages.Links.Comes.{Starts, NoInput, NextFrame, AsksReset}
+use Rattle.link_laws.specs.messages.Links.{Comes, Loss}
+use Rattle.link_laws.specs.messages.Links.Comes.{Starts, NoInput, NextFrame, AsksReset}
 use Rattle.node_machine.specs.Parts.{Running, Work}
 use Rattle.node_machine.specs.Node.{steps, begins_with, boot_writes}
 use Rattle.node_machine.specs.Node.NodeInput.{AtEnd}

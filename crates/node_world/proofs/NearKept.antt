@@ -7,10 +7,10 @@ use Rattle.trace_model.specs.declared.entry.Entry.{Entry}
 use Rattle.trace_model.specs.declared.entry.NoCause.{NoCause}
 use Rattle.trace_model.specs.declared.line.End.{End}
 use Rattle.hcp_packet.specs.Packets.{AreSendable}
-use Rattle.link_machine.specs.Machine.{LinkInput}
-use Rattle.link_entries.specs.messages.Links.{NumberedEnd, Comes, Loss, exchanged}
-use Rattle.link_entries.specs.messages.Links.Comes.{NoInput}
-use Rattle.link_entries.specs.messages.Links.Ending.{CutOff}
+use Rattle.link_laws.specs.machine.Machine.{LinkInput}
+use Rattle.link_laws.specs.messages.Links.{NumberedEnd, Comes, Loss, exchanged}
+use Rattle.link_laws.specs.messages.Links.Comes.{NoInput}
+use Rattle.link_laws.specs.messages.Links.Ending.{CutOff}
 use Rattle.node_machine.specs.Parts.{Core, Desk, Running, Port, Work}
 use Rattle.node_machine.specs.Node.{steps}
 use Rattle.node_machine.specs.Node.NodeInput.{AtEnd, TimePasses}

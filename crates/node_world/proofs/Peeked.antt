@@ -14,7 +14,7 @@ use Rattle.journal_laws.specs.Planned.{fails_within, after_planned}
 use Rattle.hci_tables.specs.Tables.{close}
 use Rattle.hci_store.specs.Image.{tables_of}
 use Rattle.node_machine.specs.Parts.{Running, Core, Port}
-use Rattle.link_entries.specs.messages.Links.{NumberedEnd}
+use Rattle.link_laws.specs.messages.Links.{NumberedEnd}
 use Rattle.node_machine.specs.Node.{boot_writes}
 use Rattle.node_machine.specs.world.World.{NodeWorld, Site, site_at, with_site, host_cut, loses_power_at, memory_at, with_memory, with_node, node_at, boots}
 use Rattle.node_machine.proofs.world.Cases.{boot_found, boot_written}

@@ -7,7 +7,7 @@ use Rattle.std.proofs.lemmas.Bool.{eqb-false}
 use Rattle.std.proofs.lemmas.List.{length-append, get_or-set_same, get_or-set_other, map-append}
 use Rattle.swp_base.specs.InMemory.{Memory}
 use Rattle.trace_model.specs.Lines.{IsHost}
-use Rattle.link_entries.specs.messages.Links.{number_of}
+use Rattle.link_laws.specs.messages.Links.{number_of}
 use Rattle.node_machine.specs.Parts.{Core, Port}
 use Rattle.node_machine.specs.world.World.{Site, site_at}
 use Rattle.node_laws.specs.kept.Hosts.{AreDifferent}

@@ -3,8 +3,8 @@ use Rattle.std.proofs.Common.{◌≡◌, Bool, true, false, List, refl, sym, sub
 use Rattle.std.specs.Prelude.{Option}
 use Rattle.swp_base.specs.InMemory.{Memory}
 use Rattle.trace_model.specs.declared.line.End.{End}
-use Rattle.link_entries.specs.messages.Links.{Link, NumberedEnd, Loss, happens}
-use Rattle.link_entries.specs.messages.Links.EndEvent.{Lose}
+use Rattle.link_laws.specs.messages.Links.{Link, NumberedEnd, Loss, happens}
+use Rattle.link_laws.specs.messages.Links.EndEvent.{Lose}
 use Rattle.history.specs.Steps.{at}
 use Rattle.node_machine.specs.Parts.{Core, Port}
 use Rattle.node_machine.specs.world.World.{Site}

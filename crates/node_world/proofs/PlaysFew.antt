@@ -9,9 +9,9 @@ use Rattle.trace_model.specs.declared.line.End.{End}
 use Rattle.trace_model.specs.declared.line.Header.{Header}
 use Rattle.trace_model.specs.declared.line.Line.{Line}
 use Rattle.trace_model.specs.declared.line.Line.TheVariants as line
-use Rattle.link_entries.specs.messages.Links.{AllAllowed, LinkEvent, after_link_events}
-use Rattle.link_entries.specs.messages.Links.LinkEvent.{AtController, AtHost}
-use Rattle.link_entries.specs.messages.Links.Loss.{OnDemand}
+use Rattle.link_laws.specs.messages.Links.{AllAllowed, LinkEvent, after_link_events}
+use Rattle.link_laws.specs.messages.Links.LinkEvent.{AtController, AtHost}
+use Rattle.link_laws.specs.messages.Links.Loss.{OnDemand}
 use Rattle.history.specs.Damage.{Verdict}
 use Rattle.history.specs.Damage.Verdict.{Same, LostFor, Undetected}
 use Rattle.history.specs.Follows.{first_verdict, taken_of}
@@ -20,24 +20,24 @@ use Rattle.node_machine.specs.world.World.Happening.{Boots, IsCut, Gives, Inits,
 use Rattle.node_machine.specs.world.Lines.{Occurrence, LineOutcome, all_happen, can_happen, frames_at, goes_on, happens_by, if_off, line_step, refusal_in}
 use Rattle.node_machine.specs.world.Lines.LineOutcome.{WasRefused}
 use Rattle.node_machine.specs.world.Rounds.{end_takes_all, ends_in_order, ends_take_all, world_after_round}
-use Rattle.node_order.specs.acked.AckedRounds.{AreAckedWithin, HostAcksAtMost, taken_in}
-use Rattle.node_order.specs.acked.InTurn.{AcksAtMost, AllAtController, AllAtHost, IsAckedWithin}
-use Rattle.node_order.specs.links.Runs.{IsPlayable}
-use Rattle.node_order.specs.rounds.LinkEvents.{link_events_in}
-use Rattle.node_order.specs.rounds.RoundEvents.{events_on}
-use Rattle.node_order.specs.rsets.Causes.{FewRsetsOnEach, rsets_by}
-use Rattle.node_order.proofs.acked.AckedRounds.{IsSound, all_within, each_rounds, good_of, of_goes, sound_many, sound_new, sound_round, sound_step}
-use Rattle.node_order.proofs.acked.AckedSteps.{step_acks}
-use Rattle.node_order.proofs.acked.InTurn.{far_acks, near_acks}
-use Rattle.node_order.proofs.acked.RoundsInTurn.{far_takes, near_takes}
-use Rattle.node_order.proofs.links.Playing.{MayHappen, runs_then}
-use Rattle.node_order.proofs.rounds.Allowing.{on_allowed}
-use Rattle.node_order.proofs.rounds.RoundEvents.{all_go, takes_pass}
-use Rattle.node_order.proofs.rsets.InWorlds.{each_longer, few_behind_step, few_in_new_world}
-use Rattle.lines_told.specs.Below.{IsPlayedLine, nodes_behind}
-use Rattle.lines_told.specs.Plays.{IsPlayFor, Play, lines_of_play, lines_played, lines_said, rounds_played, round_behind}
-use Rattle.lines_told.specs.Plays.Play.{Said, Round}
-use Rattle.lines_told.proofs.NodeRounds.{after-append, round_behind_goes}
+use Rattle.node_laws.specs.acked.AckedRounds.{AreAckedWithin, HostAcksAtMost, taken_in}
+use Rattle.node_laws.specs.acked.InTurn.{AcksAtMost, AllAtController, AllAtHost, IsAckedWithin}
+use Rattle.node_laws.specs.links.Runs.{IsPlayable}
+use Rattle.node_laws.specs.rounds.LinkEvents.{link_events_in}
+use Rattle.node_laws.specs.rounds.RoundEvents.{events_on}
+use Rattle.node_laws.specs.rsets.Causes.{FewRsetsOnEach, rsets_by}
+use Rattle.node_laws.proofs.acked.AckedRounds.{IsSound, all_within, each_rounds, good_of, of_goes, sound_many, sound_new, sound_round, sound_step}
+use Rattle.node_laws.proofs.acked.AckedSteps.{step_acks}
+use Rattle.node_laws.proofs.acked.InTurn.{far_acks, near_acks}
+use Rattle.node_laws.proofs.acked.RoundsInTurn.{far_takes, near_takes}
+use Rattle.node_laws.proofs.links.Playing.{MayHappen, runs_then}
+use Rattle.node_laws.proofs.rounds.Allowing.{on_allowed}
+use Rattle.node_laws.proofs.rounds.RoundEvents.{all_go, takes_pass}
+use Rattle.node_laws.proofs.rsets.InWorlds.{each_longer, few_behind_step, few_in_new_world}
+use Rattle.lines_told.specs.lines.Below.{IsPlayedLine, nodes_behind}
+use Rattle.lines_told.specs.lines.Plays.{IsPlayFor, Play, lines_of_play, lines_played, lines_said, rounds_played, round_behind}
+use Rattle.lines_told.specs.lines.Plays.Play.{Said, Round}
+use Rattle.lines_told.proofs.lines.NodeRounds.{after-append, round_behind_goes}
 use Rattle.node_world.specs.Bounds.{FewBehind, FewOnEach}
 use Rattle.node_world.specs.Worlds.{AreFewWithParts}
 use Rattle.node_world.proofs.CountsStay.{ticks_within}

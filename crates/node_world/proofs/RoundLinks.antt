@@ -6,10 +6,10 @@ use Rattle.trace_model.specs.declared.line.Header.{Header}
 use Rattle.trace_model.specs.declared.line.Line.{Line}
 use Rattle.node_machine.specs.world.World.{Site, end_c, end_h}
 use Rattle.node_laws.specs.telling.Telling.{hosts_in}
-use Rattle.node_order.proofs.order.HostsStay.{hosts_stay_behind}
-use Rattle.lines_told.specs.Below.{nodes_behind}
-use Rattle.lines_told.specs.Plays.{round_behind, round_in}
-use Rattle.lines_told.proofs.NodeRounds.{round_lines}
+use Rattle.node_laws.proofs.order.HostsStay.{hosts_stay_behind}
+use Rattle.lines_told.specs.lines.Below.{nodes_behind}
+use Rattle.lines_told.specs.lines.Plays.{round_behind, round_in}
+use Rattle.lines_told.proofs.lines.NodeRounds.{round_lines}
 
 -- the controller's end of a link, and the host's
 abbrev both : ℕ → List End

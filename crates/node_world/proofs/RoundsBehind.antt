@@ -12,17 +12,17 @@ use Rattle.trace_model.specs.declared.line.End.{End}
 use Rattle.trace_model.specs.declared.line.Header.{Header}
 use Rattle.trace_model.specs.declared.line.Line.{Line}
 use Rattle.trace_model.specs.declared.line.Line.TheVariants as line
-use Rattle.link_entries.specs.messages.Rest.{is_clear}
+use Rattle.link_laws.specs.messages.Rest.{is_clear}
 use Rattle.node_machine.specs.world.World.{NodeWorld, Site, new_world, node_of}
 use Rattle.node_machine.specs.world.Lines.{frames_at, is_running}
 use Rattle.node_machine.specs.world.NodeHistories.{NoneIsMisread, world_after}
 use Rattle.node_machine.specs.world.Rounds.{ends_in_order, ends_take_all}
 use Rattle.node_laws.specs.telling.Telling.{hosts_in}
-use Rattle.node_order.specs.links.Runs.{IsPlayable, ArePlayable}
-use Rattle.lines_told.specs.Below.{IsPlayedLine, nodes_behind}
-use Rattle.lines_told.specs.Plays.{round_in, taking_in}
-use Rattle.lines_told.proofs.NodeRounds.{after-append, sure-append, sure_round, takes_so}
-use Rattle.lines_told.proofs.Plays.{all-append}
+use Rattle.node_laws.specs.links.Runs.{IsPlayable, ArePlayable}
+use Rattle.lines_told.specs.lines.Below.{IsPlayedLine, nodes_behind}
+use Rattle.lines_told.specs.lines.Plays.{round_in, taking_in}
+use Rattle.lines_told.proofs.lines.NodeRounds.{after-append, sure-append, sure_round, takes_so}
+use Rattle.lines_told.proofs.lines.Plays.{all-append}
 use Rattle.node_world.specs.Bounds.{FewBehind}
 use Rattle.node_world.specs.Controllers.{AreTimely}
 use Rattle.node_world.specs.Rounds.{MayGoRound}

@@ -5,13 +5,13 @@ use Rattle.std.specs.List.{AllByRecursion}
 use Rattle.std.specs.Option.{option_map_or}
 use Rattle.shdlc_core.specs.Machine.{is_waiting}
 use Rattle.shdlc_core.specs.declared.answers.LinkState.TheVariants.{Up}
-use Rattle.link_machine.specs.Machine.{LinkEnd, Turn, turned, after_input, ended_by, sent_all, new_link_end, renewed}
-use Rattle.link_machine.specs.Machine.LinkInput.{Tick, Reset}
-use Rattle.link_entries.specs.messages.Links.{Link, Ending, exchanged, with_ended, with_controller, becomes, cut, has_input, number_of}
-use Rattle.link_entries.specs.messages.Links.Ending.{GoesOut, CutOff}
-use Rattle.link_entries.specs.messages.Links.Comes.{NoInput}
-use Rattle.link_entries.specs.entries.Entries.{End as Side}
-use Rattle.link_entries.specs.entries.Entries.End.{Controller, Host}
+use Rattle.link_laws.specs.machine.Machine.{LinkEnd, Turn, turned, after_input, ended_by, sent_all, new_link_end, renewed}
+use Rattle.link_laws.specs.machine.Machine.LinkInput.{Tick, Reset}
+use Rattle.link_laws.specs.messages.Links.{Link, Ending, exchanged, with_ended, with_controller, becomes, cut, has_input, number_of}
+use Rattle.link_laws.specs.messages.Links.Ending.{GoesOut, CutOff}
+use Rattle.link_laws.specs.messages.Links.Comes.{NoInput}
+use Rattle.link_laws.specs.entries.Entries.{End as Side}
+use Rattle.link_laws.specs.entries.Entries.End.{Controller, Host}
 use Rattle.node_machine.specs.Parts.{Desk, Running, Port, Work}
 use Rattle.node_machine.specs.Carrying.{port_at}
 use Rattle.node_machine.specs.Node.{is_late}

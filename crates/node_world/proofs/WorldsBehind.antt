@@ -11,12 +11,12 @@ use Rattle.node_machine.specs.world.World.{Site, NodeWorld, new_world, site_at, 
 use Rattle.node_machine.specs.world.NodeHistories.{NodeHistory, FollowsNodes, NoneIsMisread, occurrences_in, steps_from}
 use Rattle.node_laws.specs.kept.Hosts.{IsSentByHost}
 use Rattle.node_laws.specs.telling.Telling.{hosts_in}
-use Rattle.node_order.specs.links.Runs.{IsPlayable, ArePlayable}
-use Rattle.node_order.proofs.order.Lines.{watches, of_none, IsSo, all_so_behind, behind_history}
-use Rattle.node_order.proofs.order.Ticking.{timely}
-use Rattle.lines_told.specs.Below.{IsPlayedLine, nodes_behind}
-use Rattle.lines_told.proofs.NodeRounds.{after-append, sure-append}
-use Rattle.lines_told.proofs.Plays.{all-append}
+use Rattle.node_laws.specs.links.Runs.{IsPlayable, ArePlayable}
+use Rattle.node_laws.proofs.order.Lines.{watches, of_none, IsSo, all_so_behind, behind_history}
+use Rattle.node_laws.proofs.order.Ticking.{timely}
+use Rattle.lines_told.specs.lines.Below.{IsPlayedLine, nodes_behind}
+use Rattle.lines_told.proofs.lines.NodeRounds.{after-append, sure-append}
+use Rattle.lines_told.proofs.lines.Plays.{all-append}
 use Rattle.node_world.specs.Bounds.{FewBehind}
 use Rattle.node_world.specs.Controllers.{MayGoOn, AreTimely}
 use Rattle.node_world.specs.Memories.{KeepsSome, IsSoundMemory}

@@ -22,14 +22,14 @@ use Rattle.node_machine.specs.world.World.{NodeWorld as Machine, Site, new_memor
 use Rattle.node_machine.specs.world.Lines.{line_step, misread_in, noted_below}
 use Rattle.node_machine.specs.world.NodeHistories.{NoneIsMisread, entries_in}
 use Rattle.node_machine.specs.world.Rounds.{world_round}
-use Rattle.node_order.proofs.order.HostsStay.{hosts_stay_behind}
-use Rattle.lines_told.specs.Below.{IsPlayedLine, bare_link_behind, entries_below, nodes_behind, told_below}
-use Rattle.lines_told.specs.Plays.{Play, IsPlayFor, lines_played, lines_said, rounds_played, told_of_play}
-use Rattle.lines_told.specs.Plays.Play.{Said, Round}
-use Rattle.lines_told.proofs.Lines.{lines_may_be_played}
-use Rattle.lines_told.proofs.NodeRounds.{played_round, played_said, sure_with_round, sure_with_said}
-use Rattle.lines_told.proofs.Plays.{for_with, no_more_rounds, no_more_said, one_round, one_said}
-use Rattle.lines_told.proofs.Told.{told_round}
+use Rattle.node_laws.proofs.order.HostsStay.{hosts_stay_behind}
+use Rattle.lines_told.specs.lines.Below.{IsPlayedLine, bare_link_behind, entries_below, nodes_behind, told_below}
+use Rattle.lines_told.specs.lines.Plays.{Play, IsPlayFor, lines_played, lines_said, rounds_played, told_of_play}
+use Rattle.lines_told.specs.lines.Plays.Play.{Said, Round}
+use Rattle.lines_told.proofs.lines.Lines.{lines_may_be_played}
+use Rattle.lines_told.proofs.lines.NodeRounds.{played_round, played_said, sure_with_round, sure_with_said}
+use Rattle.lines_told.proofs.lines.Plays.{for_with, no_more_rounds, no_more_said, one_round, one_said}
+use Rattle.lines_told.proofs.lines.Told.{told_round}
 use Rattle.link_wires.specs.declared.finding.Misread.{Misread}
 use Rattle.node_core.specs.Running.{RunsAs}
 use Rattle.node_world.specs.WorldNodes.{RunsAsHost}

@@ -8,12 +8,12 @@ use Rattle.swp_act.specs.Activation.{new_uicc}
 use Rattle.trace_model.specs.Lines.{IsHost}
 use Rattle.trace_model.specs.declared.entry.Entry.{Entry}
 use Rattle.shdlc_core.specs.Machine.{is_waiting}
-use Rattle.link_machine.specs.Machine.{Turn, new_link_end}
-use Rattle.link_machine.specs.Machine.LinkInput.{Tick, Reset}
-use Rattle.link_machine.specs.Machine.Role.{Uicc}
-use Rattle.link_entries.specs.messages.Links.{Link, NumberedEnd, Ending, exchanged, has_input, ticks_at_controller}
-use Rattle.link_entries.specs.messages.Links.Ending.{GoesOut}
-use Rattle.link_entries.specs.messages.Links.Comes.{AsksReset}
+use Rattle.link_laws.specs.machine.Machine.{Turn, new_link_end}
+use Rattle.link_laws.specs.machine.Machine.LinkInput.{Tick, Reset}
+use Rattle.link_laws.specs.machine.Machine.Role.{Uicc}
+use Rattle.link_laws.specs.messages.Links.{Link, NumberedEnd, Ending, exchanged, has_input, ticks_at_controller}
+use Rattle.link_laws.specs.messages.Links.Ending.{GoesOut}
+use Rattle.link_laws.specs.messages.Links.Comes.{AsksReset}
 use Rattle.node_machine.specs.Parts.{Core, Port, Running}
 use Rattle.node_machine.specs.Node.{new_desk}
 use Rattle.node_machine.specs.world.World.{NodeWorld, Site, site_at, link_to, port_for, turns_at, ending_of, is_late_at, ticked_so, all_aged, controller_ticks}

@@ -2,9 +2,9 @@
 -- nodes: a node sends at most twelve frames of SHDLC in a step, and a number N(R) modulo 8 acknowledges at most seven fragments.
 use Rattle.std.specs.Prelude.{ℕ, ◌*◌, ◌≤◌, List}
 use Rattle.std.specs.List.{AllByRecursion}
-use Rattle.link_machine.specs.Machine.{LinkEnd, LinkInput}
-use Rattle.link_machine.specs.Machine.LinkInput.{FromNode}
-use Rattle.link_entries.specs.messages.Links.{Link}
+use Rattle.link_laws.specs.machine.Machine.{LinkEnd, LinkInput}
+use Rattle.link_laws.specs.machine.Machine.LinkInput.{FromNode}
+use Rattle.link_laws.specs.messages.Links.{Link}
 use Rattle.node_machine.specs.Parts.{Port}
 use Rattle.node_machine.specs.world.World.{Site, NodeWorld}
 

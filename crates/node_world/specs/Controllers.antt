@@ -8,10 +8,10 @@ use Rattle.swp_base.specs.declared.control_frames.Control.{Control}
 use Rattle.trace_model.specs.Lines.{IsHost}
 use Rattle.trace_model.specs.declared.entry.Entry.{Entry}
 use Rattle.trace_model.specs.declared.entry.NoCause.{NoCause}
-use Rattle.link_machine.specs.Machine.{LinkInput, frames_out}
-use Rattle.link_entries.specs.messages.Links.{Comes, put_all, number_of}
-use Rattle.link_entries.specs.entries.Entries.{puts_entries}
-use Rattle.link_entries.specs.entries.Entries.End.{Controller}
+use Rattle.link_laws.specs.machine.Machine.{LinkInput, frames_out}
+use Rattle.link_laws.specs.messages.Links.{Comes, put_all, number_of}
+use Rattle.link_laws.specs.entries.Entries.{puts_entries}
+use Rattle.link_laws.specs.entries.Entries.End.{Controller}
 use Rattle.history.specs.Steps.{entries_for}
 use Rattle.node_machine.specs.Parts.{Core, Desk, Running, Port, Work}
 use Rattle.node_machine.specs.Carrying.{port_at, with_port}

@@ -10,17 +10,17 @@ use Rattle.trace_model.specs.declared.entry.NoCause.TheVariants as no
 use Rattle.trace_model.specs.declared.line.End.{End}
 use Rattle.journal_laws.specs.Journal.{count_of}
 use Rattle.journal_laws.specs.Planned.{fails_within, after_planned}
-use Rattle.link_machine.specs.Machine.{LinkEnd, LinkInput, Message, Turn, after_input, frames_out, give_refusal, new_link_end, reset_refusal, sent_all}
-use Rattle.link_machine.specs.Machine.LinkInput.{Reset, Tick}
-use Rattle.link_machine.specs.Machine.Role.{Uicc}
-use Rattle.link_entries.specs.messages.Links.{Link, Comes, Ending, Loss, aged, becomes, cut, exchanged, happens, with_controller}
+use Rattle.link_laws.specs.machine.Machine.{LinkEnd, LinkInput, Message, Turn, after_input, frames_out, give_refusal, new_link_end, reset_refusal, sent_all}
+use Rattle.link_laws.specs.machine.Machine.LinkInput.{Reset, Tick}
+use Rattle.link_laws.specs.machine.Machine.Role.{Uicc}
+use Rattle.link_laws.specs.messages.Links.{Link, Comes, Ending, Loss, aged, becomes, cut, exchanged, happens, with_controller}
 use Rattle.link_end.specs.declared.report.ResetRefused.{ResetRefused}
 use Rattle.link_end.specs.declared.report.ResetRefused.TheVariants.{Inactive, Waiting}
-use Rattle.link_entries.specs.messages.Links.Loss.{Broken}
-use Rattle.link_entries.specs.messages.Links.Ending.{GoesOut, CutOff}
-use Rattle.link_entries.specs.messages.Links.EndEvent.{Lose}
-use Rattle.link_entries.specs.entries.Entries.{aged_entries, puts_entries}
-use Rattle.link_entries.specs.entries.Entries.End.{Controller, Host}
+use Rattle.link_laws.specs.messages.Links.Loss.{Broken}
+use Rattle.link_laws.specs.messages.Links.Ending.{GoesOut, CutOff}
+use Rattle.link_laws.specs.messages.Links.EndEvent.{Lose}
+use Rattle.link_laws.specs.entries.Entries.{aged_entries, puts_entries}
+use Rattle.link_laws.specs.entries.Entries.End.{Controller, Host}
 use Rattle.history.specs.Steps.{at, entries_for}
 use Rattle.history.specs.Follows.{as_noted}
 use Rattle.node_machine.specs.Parts.{Core, Port, Running, Work}

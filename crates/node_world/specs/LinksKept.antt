@@ -4,8 +4,8 @@ use Rattle.swp_base.specs.declared.control_frames.Control.{Control}
 use Rattle.swp_lpdu.specs.declared.LpduFault.{LpduFault}
 use Rattle.swp_lpdu.specs.Controls.{lpdu_of, control_of}
 use Rattle.link_laws.specs.sessions.Sessions.{OnWire, took_with}
-use Rattle.link_entries.specs.messages.Links.{NumberedEnd, Link, Comes}
-use Rattle.link_entries.specs.messages.Links.Comes.{NextFrame, AsksReset, Starts, Stops, NoInput}
+use Rattle.link_laws.specs.messages.Links.{NumberedEnd, Link, Comes}
+use Rattle.link_laws.specs.messages.Links.Comes.{NextFrame, AsksReset, Starts, Stops, NoInput}
 use Rattle.link_wires.specs.Wires.{WireStandsFor}
 use Rattle.node_world.specs.declared.wires.WireEnd.{WireEnd}
 use Rattle.node_world.specs.declared.wires.Wires.{Wires}

@@ -4,8 +4,8 @@ use Rattle.std.specs.Prelude.{◌≡◌, ℕ, ◌≤◌, List, Option, None, Som
 use Rattle.std.specs.List.{AllByRecursion}
 use Rattle.trace_model.specs.declared.entry.Entry.{Entry}
 use Rattle.trace_model.specs.declared.entry.Entry.TheVariants.{Up, Sent, Got, Acked}
-use Rattle.link_machine.specs.Machine.{LinkEnd, LinkInput, after_input, whole_acked}
-use Rattle.link_machine.specs.Machine.LinkInput.{Reset}
+use Rattle.link_laws.specs.machine.Machine.{LinkEnd, LinkInput, after_input, whole_acked}
+use Rattle.link_laws.specs.machine.Machine.LinkInput.{Reset}
 use Rattle.node_machine.specs.Parts.{Port}
 use Rattle.node_machine.specs.Node.{NodeInput, input_at, has_come}
 

@@ -3,10 +3,10 @@ use Rattle.std.specs.Prelude.{◌≡◌, ℕ, Bool, true, List, ◌++◌, map, O
 use Rattle.std.specs.List.{AllByRecursion}
 use Rattle.swp_base.specs.InMemory.{Memory}
 use Rattle.trace_model.specs.declared.entry.Entry.{Entry}
-use Rattle.link_machine.specs.Machine.{next_frame, frames_out}
-use Rattle.link_entries.specs.messages.Links.{NumberedEnd, Link, exchanged, put_all}
-use Rattle.link_entries.specs.entries.Entries.{puts_entries}
-use Rattle.link_entries.specs.entries.Entries.End.{Host}
+use Rattle.link_laws.specs.machine.Machine.{next_frame, frames_out}
+use Rattle.link_laws.specs.messages.Links.{NumberedEnd, Link, exchanged, put_all}
+use Rattle.link_laws.specs.entries.Entries.{puts_entries}
+use Rattle.link_laws.specs.entries.Entries.End.{Host}
 use Rattle.history.specs.Steps.{entries_for}
 use Rattle.node_machine.specs.Parts.{Core, Desk, Running, Port, Work}
 use Rattle.node_machine.specs.Carrying.{port_at, with_port}

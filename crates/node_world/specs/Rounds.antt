@@ -4,10 +4,10 @@ use Rattle.swp_base.specs.InMemory.{Memory}
 use Rattle.swp_act.specs.Activation.{new_uicc}
 use Rattle.trace_model.specs.declared.entry.Entry.{Entry}
 use Rattle.trace_model.specs.declared.line.End.{End}
-use Rattle.link_machine.specs.Machine.{new_link_end}
-use Rattle.link_machine.specs.Machine.Role.{Uicc}
-use Rattle.link_machine.specs.AtRest.{end_rests}
-use Rattle.link_entries.specs.messages.Rest.{is_clear}
+use Rattle.link_laws.specs.machine.Machine.{new_link_end}
+use Rattle.link_laws.specs.machine.Machine.Role.{Uicc}
+use Rattle.link_laws.specs.machine.AtRest.{end_rests}
+use Rattle.link_laws.specs.messages.Rest.{is_clear}
 use Rattle.node_machine.specs.Parts.{Core, Port}
 use Rattle.node_machine.specs.world.World.{NodeWorld, Site}
 use Rattle.node_machine.specs.world.Lines.{Occurrence}

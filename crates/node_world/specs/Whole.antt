@@ -15,7 +15,7 @@ use Rattle.node_machine.specs.world.World.{NodeWorld, Site, node_at, memory_at}
 use Rattle.node_machine.specs.world.World.Happening.{Ticks}
 use Rattle.node_machine.specs.world.Lines.{LineOutcome, all_happen, frames_at, misread_in, noted_below}
 use Rattle.node_laws.specs.telling.Telling.{hosts_in, IsOrderly}
-use Rattle.lines_told.specs.Below.{IsPlayedLine, entries_below}
+use Rattle.lines_told.specs.lines.Below.{IsPlayedLine, entries_below}
 use Rattle.node_world.specs.declared.controller.ControllerPlace.{ControllerPlace}
 use Rattle.node_world.specs.declared.places.HostSite.{HostSite}
 use Rattle.node_world.specs.Bounds.{FewBehind}

@@ -15,8 +15,8 @@ use Rattle.journal_laws.specs.Journal.{count}
 use Rattle.node_machine.specs.Parts.{Running}
 use Rattle.node_machine.specs.world.World.{NodeWorld as Machine, node_at, memory_at, with_memory, loses_power_at, boots, new_world}
 use Rattle.node_machine.specs.world.NodeHistories.{NoneIsMisread}
-use Rattle.lines_told.specs.Below.{IsPlayedLine, nodes_behind}
-use Rattle.lines_told.specs.Plays.{IsPlayFor, Play, lines_played, lines_said, rounds_played}
+use Rattle.lines_told.specs.lines.Below.{IsPlayedLine, nodes_behind}
+use Rattle.lines_told.specs.lines.Plays.{IsPlayFor, Play, lines_played, lines_said, rounds_played}
 use Rattle.node_core.specs.declared.node.Node.{Node}
 use Rattle.node_core.specs.Running.{RunsAs}
 use Rattle.node_world.specs.WorldNodes.{RunsAsHost}

@@ -1,7 +1,7 @@
 //! The controller boots, its power is cut, or a write to its memory is to fail; and frames on their way to its ends are lost.
 ghost use Rattle.std.specs.Prelude.{◌≡◌, ◌<◌, length, None, Some, OnOk};
 ghost use Rattle.gate_admin.specs.View.{has, hosts_where};
-ghost use Rattle.link_entries.specs.messages.Links.{Loss};
+ghost use Rattle.link_laws.specs.messages.Links.{Loss};
 ghost use Rattle.history.specs.Steps.{lost_as};
 ghost use Rattle.node_machine.specs.Parts.{Running};
 ghost use Rattle.node_machine.specs.world.World.{NodeWorld, boots, frame_lost, end_c, world_step};

@@ -1,7 +1,7 @@
 //! Steps of the controller: a frame comes to one of its ends, a reset is asked for or activation begins there, or time passes.
 ghost use Rattle.std.specs.Prelude.{◌≡◌, ◌≤◌, false, IfOk, IfSome, OnOk};
 ghost use Rattle.trace_model.specs.declared.line.Line.TheVariants as line;
-ghost use Rattle.link_entries.specs.messages.Links.Comes.{NextFrame, AsksReset, Starts};
+ghost use Rattle.link_laws.specs.messages.Links.Comes.{NextFrame, AsksReset, Starts};
 ghost use Rattle.node_machine.specs.Node.NodeInput.{TimePasses};
 ghost use Rattle.node_machine.specs.world.World.{NodeWorld, comes_at, end_c, controller_ticks};
 ghost use Rattle.node_machine.specs.world.Lines.{refusal_in};

@@ -3,7 +3,7 @@ ghost use Rattle.std.specs.Prelude.{◌≡◌, ◌<◌, ◌≤◌, length, false
 ghost use Rattle.trace_model.specs.declared.line.Line.TheVariants as line;
 ghost use Rattle.gate_admin.specs.View.{has, hosts_where};
 ghost use Rattle.history.specs.Steps.{lost_as};
-ghost use Rattle.link_entries.specs.messages.Links.{Loss};
+ghost use Rattle.link_laws.specs.messages.Links.{Loss};
 ghost use Rattle.node_machine.specs.world.World.{NodeWorld, world_step};
 ghost use Rattle.node_machine.specs.world.World.Happening.{Boots, IsCut, Loses, Resets, Activates, Arms};
 ghost use Rattle.node_machine.specs.world.Lines.{refusal_in};

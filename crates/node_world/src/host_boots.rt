@@ -1,8 +1,8 @@
 //! A host of the world boots.
 ghost use Rattle.std.specs.Prelude.{◌≡◌, [], ◌∷◌, ◌++◌, None, Some, OnOk};
 ghost use Rattle.swp_act.specs.Activation.{new_uicc};
-ghost use Rattle.link_machine.specs.Machine.{new_link_end};
-ghost use Rattle.link_machine.specs.Machine.Role.{Uicc};
+ghost use Rattle.link_laws.specs.machine.Machine.{new_link_end};
+ghost use Rattle.link_laws.specs.machine.Machine.Role.{Uicc};
 ghost use Rattle.node_machine.specs.world.World.{Site};
 ghost use Rattle.node_world.specs.Places.{SiteIs};
 ghost use Rattle.node_world.specs.Memories.{IsSoundMemory};

@@ -1,9 +1,9 @@
 //! The step of a host ends, whatever has begun it.
 ghost use Rattle.std.specs.Prelude.{◌≡◌, ◌+◌, ◌<◌, ◌^◌, ◌++◌, List, false, length, OnOk};
 ghost use Rattle.trace_model.specs.declared.entry.Entry.{Entry as Told};
-ghost use Rattle.link_machine.specs.Machine.{Turn};
-ghost use Rattle.link_entries.specs.messages.Links.{Link, Ending};
-ghost use Rattle.link_entries.specs.entries.Entries.End.{Host};
+ghost use Rattle.link_laws.specs.machine.Machine.{Turn};
+ghost use Rattle.link_laws.specs.messages.Links.{Link, Ending};
+ghost use Rattle.link_laws.specs.entries.Entries.End.{Host};
 ghost use Rattle.node_machine.specs.Parts.{Work};
 ghost use Rattle.node_machine.specs.world.World.{Site, frames_noted};
 ghost use Rattle.node_world.specs.HostSteps.{host_behind, IsToSend, HasBecome};

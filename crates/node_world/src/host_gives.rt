@@ -1,7 +1,7 @@
 //! What a host of the world does by itself: it sends a message, or begins an init.
 ghost use Rattle.std.specs.Prelude.{◌≡◌, ℕ, ◌+◌, ◌<◌, ◌≤◌, ◌^◌, [], ◌∷◌, false, length, IfOk, OnOk};
 ghost use Rattle.hcp_packet.specs.Packets.{IsSendable};
-ghost use Rattle.link_entries.specs.messages.Links.Comes.{NoInput};
+ghost use Rattle.link_laws.specs.messages.Links.Comes.{NoInput};
 ghost use Rattle.node_machine.specs.Node.{begins_with};
 ghost use Rattle.node_machine.specs.world.World.{Site, sending, beginning};
 ghost use Rattle.node_core.specs.Giving.{refusal_noted};

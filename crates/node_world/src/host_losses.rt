@@ -1,7 +1,7 @@
 //! What is lost on the wires of a host's link, and how the frames there grow older.
 ghost use Rattle.std.specs.Prelude.{◌≡◌, OnOk};
-ghost use Rattle.link_entries.specs.messages.Links.{Loss};
-ghost use Rattle.link_entries.specs.entries.Entries.{first_lost};
+ghost use Rattle.link_laws.specs.messages.Links.{Loss};
+ghost use Rattle.link_laws.specs.entries.Entries.{first_lost};
 ghost use Rattle.history.specs.Follows.{frames_to};
 ghost use Rattle.history.specs.Steps.{lost_as};
 ghost use Rattle.link_wires.specs.Notes.{side_of, AreNoted};

@@ -1,6 +1,6 @@
 //! The steps of a host of the world: something comes to its end, or a tick passes.
 ghost use Rattle.std.specs.Prelude.{◌≡◌, ℕ, ◌+◌, ◌<◌, ◌≤◌, ◌^◌, false, IfOk, IfSome, OnOk, Some};
-ghost use Rattle.link_entries.specs.messages.Links.Comes.{NextFrame, AsksReset, Starts};
+ghost use Rattle.link_laws.specs.messages.Links.Comes.{NextFrame, AsksReset, Starts};
 ghost use Rattle.node_machine.specs.world.World.{Site, host_ticks};
 ghost use Rattle.node_world.specs.Places.{SiteIs};
 ghost use Rattle.node_world.specs.HostSteps.{host_hears, reset_noted, reset_refused_at, IsHostOf, CountsComing, MayTick, HasBecome, BecomesUnless};

@@ -3,9 +3,9 @@ ghost use Rattle.std.specs.Prelude.{◌≡◌, ◌≢◌, ◌<◌, ◌≤◌, �
 ghost use Rattle.trace_model.specs.declared.line.Line.TheVariants as line;
 ghost use Rattle.hcp_packet.specs.Packets.{IsSendable};
 ghost use Rattle.history.specs.Steps.{lost_as};
-ghost use Rattle.link_entries.specs.messages.Links.{Loss};
+ghost use Rattle.link_laws.specs.messages.Links.{Loss};
 ghost use Rattle.node_laws.specs.telling.Telling.{IsOrderly};
-ghost use Rattle.link_entries.specs.messages.Links.Comes.{NextFrame, AsksReset, Starts};
+ghost use Rattle.link_laws.specs.messages.Links.Comes.{NextFrame, AsksReset, Starts};
 ghost use Rattle.node_machine.specs.world.World.{NodeWorld, comes_at, end_h, frame_lost, node_at, world_step};
 ghost use Rattle.node_machine.specs.world.World.Happening.{Boots, IsCut, Gives, Inits, Resets, Arms};
 ghost use Rattle.node_machine.specs.world.Lines.{refusal_in};

@@ -1,7 +1,7 @@
 //! A host of the world: its node or its memory, and the wires of its link.
 ghost use Rattle.std.specs.Prelude.{◌≡◌, ℕ, ◌+◌, ◌<◌, ◌≤◌, ◌^◌, List, true, false, get_or, length, Some, None, OnOk};
 ghost use Rattle.trace_model.specs.declared.entry.Entry.{Entry as Told};
-ghost use Rattle.link_entries.specs.messages.Links.{Link};
+ghost use Rattle.link_laws.specs.messages.Links.{Link};
 ghost use Rattle.node_machine.specs.Parts.{Port, Work};
 ghost use Rattle.node_world.specs.LinksKept.{WiresStandFor, with_bare_wires};
 ghost use Rattle.node_world.specs.Numbers.{AreNumbered};

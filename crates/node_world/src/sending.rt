@@ -1,8 +1,8 @@
 //! The frames of a node go out.
 ghost use Rattle.std.specs.Prelude.{◌≡◌, ◌+◌, ◌<◌, ◌≤◌, ◌^◌, List, Some, OnOk};
-ghost use Rattle.link_machine.specs.Machine.{frames_out};
-ghost use Rattle.link_entries.specs.messages.Links.{Link, put_all};
-ghost use Rattle.link_entries.specs.entries.Entries.{puts_entries};
+ghost use Rattle.link_laws.specs.machine.Machine.{frames_out};
+ghost use Rattle.link_laws.specs.messages.Links.{Link, put_all};
+ghost use Rattle.link_laws.specs.entries.Entries.{puts_entries};
 ghost use Rattle.history.specs.Follows.{seen_from};
 ghost use Rattle.link_wires.specs.Notes.{side_of, AreNoted};
 ghost use Rattle.node_machine.specs.Parts.{Core, Port};

@@ -1,7 +1,7 @@
 //! The wires of a link of the world, with the numbers of RSETs that its ends know.
 ghost use Rattle.std.specs.Prelude.{◌≡◌, List, OnOk};
 ghost use Rattle.link_laws.specs.sessions.Sessions.{OnWire, aged_wire};
-ghost use Rattle.link_entries.specs.entries.Entries.{aged_entries};
+ghost use Rattle.link_laws.specs.entries.Entries.{aged_entries};
 ghost use Rattle.link_wires.specs.Notes.{side_of, AreNoted};
 ghost use Rattle.link_wires.specs.Wires.{WireStandsFor};
 
@@ -35,8 +35,8 @@ pub(crate) struct Wires {
 impl WireEnd {
     ghost use Rattle.std.specs.Prelude.{◌≡◌, ℕ, List, [], ◌++◌, Option, IfOk, OnOk, map, max, option_to_list};
     ghost use Rattle.trace_model.specs.declared.entry.Entry.TheVariants as note;
-    ghost use Rattle.link_machine.specs.Machine.{LinkEnd};
-    ghost use Rattle.link_entries.specs.messages.Links.{Link, new_numbered_end};
+    ghost use Rattle.link_laws.specs.machine.Machine.{LinkEnd};
+    ghost use Rattle.link_laws.specs.messages.Links.{Link, new_numbered_end};
     ghost use Rattle.node_world.specs.LinksKept.{WireEndIs, without_first, IsFirst, IsReadFirst};
 
     // An end that put and took no RSET yet, with no frame on the way to it.
@@ -104,11 +104,11 @@ impl Wires {
     ghost use Rattle.std.specs.Prelude.{◌≡◌, ◌+◌, ◌<◌, ◌^◌, ◌≤◌, ◌++◌, List, ℕ, length, Ok, IfOk, OnOk};
     ghost use Rattle.swp_base.specs.declared.control_frames.Control.{Control as Frame};
     ghost use Rattle.swp_lpdu.specs.Controls.{lpdu_of, control_of};
-    ghost use Rattle.link_machine.specs.Machine.{Role};
-    ghost use Rattle.link_entries.specs.messages.Links.{Link, Loss, new_link, aged, happens, put};
-    ghost use Rattle.link_entries.specs.messages.Links.EndEvent.{Lose};
-    ghost use Rattle.link_entries.specs.entries.Entries.{aged_entries, first_lost, put_entries};
-    ghost use Rattle.link_entries.specs.entries.Entries.End.{Controller, Host};
+    ghost use Rattle.link_laws.specs.machine.Machine.{Role};
+    ghost use Rattle.link_laws.specs.messages.Links.{Link, Loss, new_link, aged, happens, put};
+    ghost use Rattle.link_laws.specs.messages.Links.EndEvent.{Lose};
+    ghost use Rattle.link_laws.specs.entries.Entries.{aged_entries, first_lost, put_entries};
+    ghost use Rattle.link_laws.specs.entries.Entries.End.{Controller, Host};
     ghost use Rattle.history.specs.Steps.{at, entries_for, lost_as};
     ghost use Rattle.history.specs.Follows.{seen_from, frames_to};
     ghost use Rattle.link_wires.specs.Notes.{side_of, AreNoted};

@@ -1,6 +1,6 @@
 //! What happens in the world as a whole: an end takes a frame, and time passes.
 ghost use Rattle.std.specs.Prelude.{◌≡◌, false, OnOk};
-ghost use Rattle.link_entries.specs.messages.Links.Comes.{NextFrame};
+ghost use Rattle.link_laws.specs.messages.Links.Comes.{NextFrame};
 ghost use Rattle.node_machine.specs.world.World.{NodeWorld, comes_at, world_ticks, hosts_tick};
 ghost use Rattle.node_world.specs.Controllers.{SitesAre, WorldIs, WorldBecomes, AreTimely, IsThere};
 ghost use Rattle.node_world.specs.Whole.{IsWithinBounds, SitesTick, AreToTick};

@@ -6,9 +6,9 @@ ghost use Rattle.trace_model.specs.Lines.{IsNodeHeader, IsNodeOf};
 ghost use Rattle.node_machine.specs.world.World.{memory_at};
 ghost use Rattle.node_machine.specs.world.Lines.{frames_at, is_running, misread_in};
 ghost use Rattle.node_machine.specs.world.Rounds.{world_rests};
-ghost use Rattle.lines_told.specs.Below.{IsPlayedLine, nodes_behind, told_below};
-ghost use Rattle.lines_told.specs.Plays.{Play, IsPlayFor, lines_played, lines_said, rounds_played, told_of_play};
-ghost use Rattle.lines_told.specs.Plays.Play.{Said, Round};
+ghost use Rattle.lines_told.specs.lines.Below.{IsPlayedLine, nodes_behind, told_below};
+ghost use Rattle.lines_told.specs.lines.Plays.{Play, IsPlayFor, lines_played, lines_said, rounds_played, told_of_play};
+ghost use Rattle.lines_told.specs.lines.Plays.Play.{Said, Round};
 ghost use Rattle.node_world.specs.Worlds.{IsOneOf, memory_kept};
 
 use crate::controller::ControllerPlace;

@@ -6,8 +6,8 @@ use Rattle.swp_act.specs.declared.ActEvent.{ActEvent}
 use Rattle.swp_act.specs.declared.ActOut.{ActOut}
 use Rattle.swp_act.specs.declared.clf.ClfAct.{ClfAct}
 use Rattle.swp_act.specs.Activation.{is_active, clf_step}
-use Rattle.link_machine.specs.Machine.{LinkEnd, LinkInput, is_open, act_event, act_out, report}
-use Rattle.link_machine.specs.Machine.Role.{Clf}
+use Rattle.link_laws.specs.machine.Machine.{LinkEnd, LinkInput, is_open, act_event, act_out, report}
+use Rattle.link_laws.specs.machine.Machine.Role.{Clf}
 use Rattle.one_end.specs.Alone.{role_behind}
 
 -- the event at an end with this activation

@@ -16,10 +16,11 @@ use Rattle.swp_act.specs.Activation.{out_ticked, no_act_out, sends}
 use Rattle.swp_lpdu.specs.Controls.{lpdu_of, control_of}
 use Rattle.swp_lpdu.specs.declared.LpduFault.{LpduFault}
 use Rattle.trace_model.specs.declared.entry.Entry.{Entry}
-use Rattle.link_machine.specs.Machine.{LinkEnd, LinkInput, Role, act_event, next_frame, frame_fetched, frames_out, sent_all, report, reset_refusal, lpdu_input}
-use Rattle.link_machine.specs.Machine.{is_open, act_out, act_answer}
-use Rattle.link_machine.specs.Machine.Role.{Bare, Clf, Uicc}
-use Rattle.link_machine.specs.Machine.LinkInput.{Take, TakeUnknown, TakeBroken, Tick, Reset, Start, Stop, FromNode, Fetch}
+use Rattle.link_laws.specs.machine.Machine.{LinkEnd, LinkInput, Role, act_event, next_frame, frame_fetched, frames_out, sent_all, report, reset_refusal}
+use Rattle.link_laws.specs.machine.Machine.{lpdu_input}
+use Rattle.link_laws.specs.machine.Machine.{is_open, act_out, act_answer}
+use Rattle.link_laws.specs.machine.Machine.Role.{Bare, Clf, Uicc}
+use Rattle.link_laws.specs.machine.Machine.LinkInput.{Take, TakeUnknown, TakeBroken, Tick, Reset, Start, Stop, FromNode, Fetch}
 use Rattle.link_end.specs.declared.report.ResetRefused.{ResetRefused}
 use Rattle.link_end.specs.Reports.{reset_refused}
 use Rattle.node_machine.specs.Parts.{Desk, Core, Running, Port, Work}

@@ -10,7 +10,7 @@ use Rattle.lone_laws.specs.alone.Lone.{Lone, LoneCause}
 use Rattle.lone_laws.specs.alone.Lone.LoneCause.{ResetComes}
 use Rattle.lone_laws.specs.alone.Ends.{EndForm, asks_reset}
 use Rattle.std.specs.Prelude.{None}
-use Rattle.link_machine.specs.Machine.{reset_refusal}
+use Rattle.link_laws.specs.machine.Machine.{reset_refusal}
 use Rattle.one_end.specs.Running.{does_alone, then_does, answers_alone, all_answered, frames_written, BringsAlone, HasAnswered, RunsYet, RunsReady}
 use Rattle.one_end.specs.Running.{StepsAlone}
 use Rattle.one_end.proofs.Composing.{nothing_done, nothing_at_all, all_answered-append, brings_on, brings_stopped, brings_as, brings_nothing}

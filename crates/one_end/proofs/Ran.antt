@@ -17,7 +17,7 @@ use Rattle.journal_laws.specs.Operations.{started_state, formatted, compacted, c
 use Rattle.journal_laws.specs.Planned.{fails_within, after_planned}
 use Rattle.journal_laws.proofs.Made.{made_whole, made_in_part}
 use Rattle.hci_store.specs.Starting.{ready_state, ready_writes, HasWritten}
-use Rattle.link_machine.specs.Machine.{new_link_end}
+use Rattle.link_laws.specs.machine.Machine.{new_link_end}
 use Rattle.node_machine.specs.Parts.{Running}
 use Rattle.node_machine.specs.Carrying.{plan_behind}
 use Rattle.node_machine.specs.Node.{found, boot_writes}

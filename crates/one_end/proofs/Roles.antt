@@ -12,11 +12,13 @@ use Rattle.shdlc_core.specs.declared.answers.LinkState.{LinkState}
 use Rattle.shdlc_core.specs.declared.answers.LinkState.TheVariants.{Down as IsDown, Waiting as IsWaitingNow, Up as IsUpNow}
 use Rattle.shdlc_core.specs.Machine.{EndState, taken, take_answer, ticked, tick_answer, stopped, reset_with}
 use Rattle.trace_model.specs.declared.entry.Entry.{Entry}
-use Rattle.link_machine.specs.Machine.{LinkEnd, LinkInput, Role, Refused, Turn, is_open, is_faulty, moved, put_down, with_act, activated, act_answer, act_event}
-use Rattle.link_machine.specs.Machine.{role_after, heard, news, had_tick, reset_by, window_of, reset_refusal, unless, after_input, turn, give_refusal, given}
-use Rattle.link_machine.specs.Machine.{aside_refusal, ActDue, frame_fetched}
-use Rattle.link_machine.specs.Machine.LinkInput.{Take, TakeUnknown, TakeBroken, Tick, Reset, Start, Stop, FromNode, Fetch}
-use Rattle.link_machine.specs.Machine.Turn.{Give, Hold, FetchMessage, SetAside, Release}
+use Rattle.link_laws.specs.machine.Machine.{LinkEnd, LinkInput, Role, Refused, Turn, is_open, is_faulty, moved, put_down, with_act, activated, act_answer}
+use Rattle.link_laws.specs.machine.Machine.{act_event}
+use Rattle.link_laws.specs.machine.Machine.{role_after, heard, news, had_tick, reset_by, window_of, reset_refusal, unless, after_input, turn, give_refusal}
+use Rattle.link_laws.specs.machine.Machine.{given}
+use Rattle.link_laws.specs.machine.Machine.{aside_refusal, ActDue, frame_fetched}
+use Rattle.link_laws.specs.machine.Machine.LinkInput.{Take, TakeUnknown, TakeBroken, Tick, Reset, Start, Stop, FromNode, Fetch}
+use Rattle.link_laws.specs.machine.Machine.Turn.{Give, Hold, FetchMessage, SetAside, Release}
 use Rattle.node_machine.specs.Parts.{Desk, Port, Work}
 use Rattle.node_machine.specs.Carrying.{noting, changed_if, with_desk, after_turn, turn_at}
 use Rattle.node_machine.specs.Node.{input_at, has_come, all_come, with_older, is_late, reset_late, times_out, forgotten, is_forgotten, forgets, is_over}

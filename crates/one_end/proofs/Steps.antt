@@ -6,7 +6,7 @@ use Rattle.std.proofs.lemmas.Grind.{flat_map-append}
 use Rattle.swp_base.specs.declared.control_frames.Control.{Control}
 use Rattle.trace_model.specs.declared.entry.Entry.{Entry}
 use Rattle.journal_laws.specs.Planned.{after_planned}
-use Rattle.link_machine.specs.Machine.{LinkInput, frames_out, new_link_end, reset_refusal}
+use Rattle.link_laws.specs.machine.Machine.{LinkInput, frames_out, new_link_end, reset_refusal}
 use Rattle.node_machine.specs.Parts.{Running, Port, Work}
 use Rattle.node_machine.specs.Node.{NodeInput, steps}
 use Rattle.node_machine.specs.world.World.{runs_on}

@@ -5,7 +5,7 @@ use Rattle.std.specs.List.{flat_map}
 use Rattle.std.proofs.lemmas.Bool.{true≢false}
 use Rattle.std.proofs.lemmas.List.{reverse-append}
 use Rattle.node_machine.specs.Parts.{Running}
-use Rattle.link_machine.specs.Machine.{LinkInput}
+use Rattle.link_laws.specs.machine.Machine.{LinkInput}
 use Rattle.lone_laws.specs.alone.Lone.{Lone, LoneCause, lone_input, lone_step, lone_events, lone_after, does_by_power, does_with_input}
 use Rattle.lone_laws.specs.alone.Lone.LoneCause.{ResetComes}
 use Rattle.lone_laws.specs.alone.Ends.{EndForm, event_written, asks_reset, with_resets, byte_brings, bytes_bring}

@@ -3,7 +3,7 @@ use Rattle.std.specs.Prelude.{◌≡◌, ℕ, List, [], ◌∷◌, Option, Some,
 use Rattle.std.proofs.Common.{ap}
 use Rattle.swp_base.specs.declared.control_frames.Control.{Control}
 use Rattle.swp_act.specs.declared.ActEvent.{ActEvent}
-use Rattle.link_machine.specs.Machine.{Role, role_after, frames_out, sent_all}
+use Rattle.link_laws.specs.machine.Machine.{Role, role_after, frames_out, sent_all}
 use Rattle.node_machine.specs.Parts.{Core, Port}
 use Rattle.node_core.specs.declared.node.Node.{Node}
 use Rattle.node_core.specs.Running.{RunsAs}

@@ -5,7 +5,7 @@ use Rattle.swp_base.specs.declared.control_frames.Control.{Control}
 use Rattle.journal_laws.specs.Writes.{Write}
 use Rattle.journal_laws.specs.Planned.{after_planned}
 use Rattle.nv_journal.specs.declared.JournalFault.{JournalFault}
-use Rattle.link_machine.specs.Machine.{new_link_end}
+use Rattle.link_laws.specs.machine.Machine.{new_link_end}
 use Rattle.node_core.specs.Booting.{found_in_memory, IsStartRefused}
 use Rattle.node_core.specs.Bringing.{WereMade, Foretells}
 use Rattle.lone_laws.specs.alone.Lone.{Lone, LoneCause, role_alone, lone_after}

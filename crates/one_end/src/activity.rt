@@ -2,8 +2,8 @@
 ghost use Rattle.std.specs.Prelude.{◌≡◌, None, Some, IfSome, false};
 ghost use Rattle.swp_act.specs.Activation.{IsPowerStart};
 ghost use Rattle.std.specs.Option.{option_map_or, option_and_then};
-ghost use Rattle.link_machine.specs.Machine.{LinkEnd, LinkInput, is_open, act_event, lpdu_input, report};
-ghost use Rattle.link_machine.specs.Machine.Role.{Clf};
+ghost use Rattle.link_laws.specs.machine.Machine.{LinkEnd, LinkInput, is_open, act_event, lpdu_input, report};
+ghost use Rattle.link_laws.specs.machine.Machine.Role.{Clf};
 ghost use Rattle.lone_laws.specs.alone.Lone.{lone_input};
 ghost use Rattle.one_end.specs.Running.{cause_of};
 ghost use Rattle.one_end.specs.Alone.{role_behind};

@@ -33,7 +33,7 @@ pub struct Came {
 pub trait LoneNode<N: Nv> {
     ghost use Rattle.std.specs.Prelude.{None};
     ghost use Rattle.swp_base.specs.declared.control_frames.Control.{Control};
-    ghost use Rattle.link_machine.specs.Machine.{reset_refusal};
+    ghost use Rattle.link_laws.specs.machine.Machine.{reset_refusal};
     ghost use Rattle.lone_laws.specs.alone.Lone.{Lone};
     ghost use Rattle.lone_laws.specs.alone.Lone.LoneCause.{ResetComes};
     ghost use Rattle.lone_laws.specs.alone.Ends.{asks_reset};

@@ -1,7 +1,7 @@
 //! The nodes that run alone: the controller with a link to host 02, and host 02.
 ghost use Rattle.std.specs.Prelude.{◌≡◌, ◌≤◌, ℕ, [], List, None, Some, Bool, true, false, not, IsTrue};
 ghost use Rattle.swp_base.specs.Outside.{Rose};
-ghost use Rattle.link_machine.specs.Machine.{LinkInput};
+ghost use Rattle.link_laws.specs.machine.Machine.{LinkInput};
 ghost use Rattle.node_machine.specs.Parts.{Core, Port, Work};
 ghost use Rattle.node_machine.specs.Carrying.{with_port};
 ghost use Rattle.node_machine.specs.Node.{steps};
@@ -125,7 +125,7 @@ fn comes_to_host<N: Nv + Drop>(host: &mut Host<N>, coming: &Coming) -> Ran
 }
 
 impl<N: Nv + Drop> LoneNode<N> for LoneController<N> {
-    ghost use Rattle.link_machine.specs.Machine.Role.{Clf};
+    ghost use Rattle.link_laws.specs.machine.Machine.Role.{Clf};
     ghost use Rattle.one_end.specs.Alone.{RunsAlone, alone_is_live};
 
     ghost nv = { λ c. c.controller.store.journal.nv };

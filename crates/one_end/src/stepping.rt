@@ -2,7 +2,7 @@
 ghost use Rattle.std.specs.Prelude.{◌≡◌, ◌==◌, ◌≤◌, ◌+◌, ◌*◌, ◌++◌, [], List, ℕ, length, map, None, IsTrue};
 ghost use Rattle.swp_base.specs.Outside.{Rose};
 ghost use Rattle.swp_base.specs.declared.control_frames.Control.{Control};
-ghost use Rattle.link_machine.specs.Machine.{reset_refusal};
+ghost use Rattle.link_laws.specs.machine.Machine.{reset_refusal};
 ghost use Rattle.lone_laws.specs.alone.Lone.{Lone};
 ghost use Rattle.lone_laws.specs.alone.Lone.LoneCause.{ResetComes};
 ghost use Rattle.one_end.specs.Writing.{form_named};

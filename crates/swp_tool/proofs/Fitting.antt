@@ -20,28 +20,28 @@ use Rattle.schedule_text.specs.Answers.{IsInGrammar}
 use Rattle.schedule_text.specs.Entries.{entry_lines}
 use Rattle.schedule_text.specs.Lines.{line_of}
 use Rattle.schedule_text.proofs.LinesLemmas.{line_fits}
-use Rattle.link_entries.specs.messages.Links.{Link}
+use Rattle.link_laws.specs.messages.Links.{Link}
 use Rattle.history.specs.Histories.{Step, History, Outcome}
 use Rattle.history.specs.Steps.{bare_link}
 use Rattle.history.specs.Follows.{Follows, StepsFollow, host_of, opening_of, link_after_line, outcome_of}
 use Rattle.node_machine.specs.world.World.{new_world}
 use Rattle.node_machine.specs.world.NodeHistories.{LineStep, NodeHistory, FollowsNodes, NoneIsMisread}
-use Rattle.answer_laws.specs.schedules.Ranges.{AreNodeLinesOf, asking, lines_asking}
-use Rattle.answer_laws.proofs.schedules.Ranges.{in_range}
-use Rattle.answer_laws.proofs.bounds.Lines.{asking-append, asking_few}
-use Rattle.answer_laws.proofs.worlds.Schedules.{played_legal}
-use Rattle.answer_laws.specs.answers.Headline.{PlayedHistory, IsPlayed}
-use Rattle.answer_laws.specs.answers.Headline.PlayedHistory.{OfLink, OfNodes}
-use Rattle.lines_told.specs.Below.{IsPlayedLine, is_settling, bare_link_behind, misread_below, nodes_behind}
-use Rattle.lines_told.specs.Plays.{Play, lines_of_play, lines_played, lines_played_of, lines_said, plays_of, plays_of_line, round_behind, rounds_to_rest}
-use Rattle.lines_told.specs.Plays.{schedule_told}
-use Rattle.lines_told.specs.Plays.Play.{Said, Round}
-use Rattle.lines_told.specs.RoundLines.{IsRoundLine}
-use Rattle.lines_told.proofs.Plays.{few_said, played_more, plays_for, plays_more, round_first}
-use Rattle.lines_told.proofs.Lines.{lines_may_be_played, round_known, sure_below}
-use Rattle.lines_told.proofs.NodeRounds.{after-append}
-use Rattle.told_laws.proofs.Plays.{keeps_hosts}
-use Rattle.lines_told.proofs.BareRounds.{lines-append}
+use Rattle.node_laws.specs.schedules.Ranges.{AreNodeLinesOf, asking, lines_asking}
+use Rattle.node_laws.proofs.schedules.Ranges.{in_range}
+use Rattle.node_laws.proofs.bounds.Lines.{asking-append, asking_few}
+use Rattle.node_laws.proofs.worlds.Schedules.{played_legal}
+use Rattle.node_laws.specs.answers.Headline.{PlayedHistory, IsPlayed}
+use Rattle.node_laws.specs.answers.Headline.PlayedHistory.{OfLink, OfNodes}
+use Rattle.lines_told.specs.lines.Below.{IsPlayedLine, is_settling, bare_link_behind, misread_below, nodes_behind}
+use Rattle.lines_told.specs.lines.Plays.{Play, lines_of_play, lines_played, lines_played_of, lines_said, plays_of, plays_of_line, round_behind, rounds_to_rest}
+use Rattle.lines_told.specs.lines.Plays.{schedule_told}
+use Rattle.lines_told.specs.lines.Plays.Play.{Said, Round}
+use Rattle.lines_told.specs.lines.RoundLines.{IsRoundLine}
+use Rattle.lines_told.proofs.lines.Plays.{few_said, played_more, plays_for, plays_more, round_first}
+use Rattle.lines_told.proofs.lines.Lines.{lines_may_be_played, round_known, sure_below}
+use Rattle.lines_told.proofs.lines.NodeRounds.{after-append}
+use Rattle.told_laws.proofs.told.Plays.{keeps_hosts}
+use Rattle.lines_told.proofs.lines.BareRounds.{lines-append}
 use Rattle.swp_tool.specs.Schedules.{Stop, Too_many, Schedule, nothing_read, with_played, ended}
 use Rattle.swp_tool.specs.Schedules.{misread_there, and_said, and_line, and_lines, schedule_in}
 use Rattle.swp_tool.specs.Transcripts.{link_steps_from, link_history, nodes_history, history_below, IsPlayedText}

@@ -11,12 +11,12 @@ use Rattle.trace_model.specs.declared.line.Line.{Line}
 use Rattle.trace_model.specs.declared.line.Line.TheVariants as saying
 use Rattle.schedule_text.specs.Entries.{entry_line, entry_lines}
 use Rattle.history.specs.Follows.{host_of, opening_of}
-use Rattle.answer_laws.specs.answers.Headline.PlayedHistory.{OfLink, OfNodes}
-use Rattle.lines_told.specs.Below.{is_settling, opening_told, told_below}
-use Rattle.lines_told.specs.Plays.{Play, lines_played, lines_played_of, plays_of, plays_of_line, round_behind, rounds_to_rest, schedule_told, told_behind}
-use Rattle.lines_told.specs.Plays.{told_of_line, told_of_lines, told_of_play, told_of_rounds}
-use Rattle.lines_told.specs.Plays.Play.{Said, Round}
-use Rattle.lines_told.proofs.Plays.{played_more, plays_more, round_first}
+use Rattle.node_laws.specs.answers.Headline.PlayedHistory.{OfLink, OfNodes}
+use Rattle.lines_told.specs.lines.Below.{is_settling, opening_told, told_below}
+use Rattle.lines_told.specs.lines.Plays.{Play, lines_played, lines_played_of, plays_of, plays_of_line, round_behind, rounds_to_rest, schedule_told, told_behind}
+use Rattle.lines_told.specs.lines.Plays.{told_of_line, told_of_lines, told_of_play, told_of_rounds}
+use Rattle.lines_told.specs.lines.Plays.Play.{Said, Round}
+use Rattle.lines_told.proofs.lines.Plays.{played_more, plays_more, round_first}
 use Rattle.swp_tool.specs.Transcripts.{link_history, nodes_history, history_below, played_told, is_of_schedule, what_happened}
 use Rattle.swp_tool.proofs.Texts.{told_more}
 

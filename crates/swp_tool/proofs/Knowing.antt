@@ -5,12 +5,12 @@ use Rattle.std.specs.Fmt.{decimal}
 use Rattle.std.specs.Str.Lines.{lines}
 use Rattle.trace_model.specs.declared.entry.Entry.{Entry}
 use Rattle.trace_model.specs.declared.line.Header.{Header}
-use Rattle.text_laws.specs.Ranges.{IsNumber, IsEntry}
-use Rattle.text_laws.proofs.CleanLemmas.{IsCleanLine, number_clean}
-use Rattle.text_laws.proofs.ShownLemmas.{same_ended}
+use Rattle.told_laws.specs.texts.Ranges.{IsNumber, IsEntry}
+use Rattle.told_laws.proofs.texts.CleanLemmas.{IsCleanLine, number_clean}
+use Rattle.told_laws.proofs.texts.ShownLemmas.{same_ended}
 use Rattle.schedule_text.specs.Entries.{entry_lines}
-use Rattle.lines_told.specs.Plays.{schedule_told}
-use Rattle.told_laws.proofs.Whole.{schedule_told_in}
+use Rattle.lines_told.specs.lines.Plays.{schedule_told}
+use Rattle.told_laws.proofs.told.Whole.{schedule_told_in}
 use Rattle.swp_tool.specs.declared.status.Status.{Status}
 use Rattle.swp_tool.specs.declared.status.Status.TheVariants as status
 use Rattle.swp_tool.specs.Schedules.{Stop, Schedule, nothing_read, and_lines, ended, schedule_in}

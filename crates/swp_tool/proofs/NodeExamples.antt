@@ -10,7 +10,7 @@ use Rattle.swp_base.specs.Bits.{bits_of_byte}
 use Rattle.pipe_table.specs.PipeRows.{lowest_free}
 use Rattle.schedule_text.specs.Entries.{entry_lines}
 use Rattle.schedule_text.specs.declared.fault.LineFault.TheVariants as fault
-use Rattle.lines_told.specs.Plays.{schedule_told}
+use Rattle.lines_told.specs.lines.Plays.{schedule_told}
 use Rattle.swp_tool.specs.Schedules.{Schedule, AtFault, AtMisread, schedule_in}
 use Rattle.swp_tool.specs.Transcripts.{done_line}
 

@@ -10,10 +10,10 @@ use Rattle.trace_model.specs.Lines.{MayFollow}
 use Rattle.history.specs.Follows.{misread}
 use Rattle.node_machine.specs.world.Lines.{misread_in}
 use Rattle.schedule_text.specs.Entries.{entry_lines}
-use Rattle.lines_told.specs.Below.{bare_link_behind, is_settling, misread_below, nodes_behind}
-use Rattle.lines_told.specs.Plays.{Play, lines_played, plays_of, plays_of_line, rounds_to_rest, schedule_told}
-use Rattle.lines_told.proofs.Plays.{none_said, played-append, said-append, so_many_rounds}
-use Rattle.lines_told.proofs.Resting.{at_most}
+use Rattle.lines_told.specs.lines.Below.{bare_link_behind, is_settling, misread_below, nodes_behind}
+use Rattle.lines_told.specs.lines.Plays.{Play, lines_played, plays_of, plays_of_line, rounds_to_rest, schedule_told}
+use Rattle.lines_told.proofs.lines.Plays.{none_said, played-append, said-append, so_many_rounds}
+use Rattle.lines_told.proofs.lines.Resting.{at_most}
 use Rattle.world.specs.declared.world_steps.World.{World}
 use Rattle.world.specs.declared.fault.WorldFault.{WorldFault}
 use Rattle.world.specs.declared.fault.WorldFault.TheVariants as fault

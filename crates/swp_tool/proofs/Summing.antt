@@ -14,19 +14,19 @@ use Rattle.trace_model.specs.Lines.{IsHost, IsNodeHeader}
 use Rattle.node_machine.specs.world.World.{NodeWorld, new_world}
 use Rattle.node_machine.specs.world.Lines.{misread_in, line_step}
 use Rattle.node_machine.specs.world.NodeHistories.{NoneIsMisread}
-use Rattle.answer_laws.specs.schedules.Ranges.{AreNodeLinesOf}
-use Rattle.answer_laws.proofs.bounds.Lines.{asking_few}
-use Rattle.answer_laws.proofs.schedules.Ranges.{in_range}
-use Rattle.answer_laws.proofs.worlds.Schedules.{played_legal}
-use Rattle.answer_laws.specs.answers.Headline.{IsPlayed}
-use Rattle.answer_laws.specs.answers.Headline.PlayedHistory.{OfNodes}
+use Rattle.node_laws.specs.schedules.Ranges.{AreNodeLinesOf}
+use Rattle.node_laws.proofs.bounds.Lines.{asking_few}
+use Rattle.node_laws.proofs.schedules.Ranges.{in_range}
+use Rattle.node_laws.proofs.worlds.Schedules.{played_legal}
+use Rattle.node_laws.specs.answers.Headline.{IsPlayed}
+use Rattle.node_laws.specs.answers.Headline.PlayedHistory.{OfNodes}
 use Rattle.drawn_schedule.specs.Schedule.{the_header, drawn_lines, is_harmless, IsHarmless}
 use Rattle.drawn_schedule.proofs.HarmlessLemmas.{lines_may_be_played}
 use Rattle.drawn_schedule.proofs.ReadLemmas.{lines_count}
-use Rattle.told_laws.specs.NodesTold.{nodes_told}
-use Rattle.lines_told.specs.Below.{IsPlayedLine, is_settling, told_below}
-use Rattle.lines_told.specs.Plays.{Play, lines_of_play, lines_played, lines_said}
-use Rattle.lines_told.specs.Plays.Play.{Said}
+use Rattle.told_laws.specs.told.NodesTold.{nodes_told}
+use Rattle.lines_told.specs.lines.Below.{IsPlayedLine, is_settling, told_below}
+use Rattle.lines_told.specs.lines.Plays.{Play, lines_of_play, lines_played, lines_said}
+use Rattle.lines_told.specs.lines.Plays.Play.{Said}
 use Rattle.world.specs.Worlds.{HasRoomForLine}
 use Rattle.swp_tool.specs.declared.counts.Counts.{Counts}
 use Rattle.swp_tool.specs.Transcripts.{nodes_history}

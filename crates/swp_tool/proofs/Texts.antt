@@ -9,17 +9,17 @@ use Rattle.trace_model.specs.declared.entry.Entry.{Entry}
 use Rattle.trace_model.specs.declared.entry.Entry.TheVariants as entry
 use Rattle.trace_model.specs.declared.line.Header.{Header}
 use Rattle.trace_model.specs.declared.line.Line.{Line}
-use Rattle.link_entries.specs.messages.Links.{Link}
+use Rattle.link_laws.specs.messages.Links.{Link}
 use Rattle.history.specs.Histories.{Step, noted}
 use Rattle.history.specs.Steps.{bare_link}
 use Rattle.history.specs.Follows.{host_of, opening_of, link_after_line, link_after_lines, outcome_of}
 use Rattle.node_machine.specs.world.World.{NodeWorld, new_world}
 use Rattle.node_machine.specs.world.Lines.{line_step}
 use Rattle.node_machine.specs.world.NodeHistories.{LineStep, steps_from, world_after}
-use Rattle.answer_laws.specs.answers.Headline.PlayedHistory.{OfLink, OfNodes}
-use Rattle.told_laws.specs.Told.{step_told, entries_told}
-use Rattle.told_laws.specs.NodesTold.{line_told, nodes_told}
-use Rattle.lines_told.specs.Below.{bare_link_behind, nodes_behind, told_below}
+use Rattle.node_laws.specs.answers.Headline.PlayedHistory.{OfLink, OfNodes}
+use Rattle.told_laws.specs.told.Told.{step_told, entries_told}
+use Rattle.told_laws.specs.told.NodesTold.{line_told, nodes_told}
+use Rattle.lines_told.specs.lines.Below.{bare_link_behind, nodes_behind, told_below}
 use Rattle.swp_tool.specs.Transcripts.{link_steps_from, link_history, nodes_history, history_below, played_told}
 
 -- ## What a line adds to a history

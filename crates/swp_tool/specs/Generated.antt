@@ -7,10 +7,10 @@ use Rattle.trace_model.specs.declared.entry.Entry.TheVariants as entry
 use Rattle.trace_model.specs.declared.line.Line.{Line}
 use Rattle.drawn_schedule.specs.Schedule.{the_header, drawn_lines}
 use Rattle.node_machine.specs.world.NodeHistories.{NodeHistory}
-use Rattle.answer_laws.specs.answers.Headline.{IsPlayed, IsLegal}
-use Rattle.answer_laws.specs.answers.Headline.PlayedHistory.{OfNodes}
-use Rattle.lines_told.specs.Plays.Play.{Said}
-use Rattle.told_laws.specs.NodesTold.{nodes_told}
+use Rattle.node_laws.specs.answers.Headline.{IsPlayed, IsLegal}
+use Rattle.node_laws.specs.answers.Headline.PlayedHistory.{OfNodes}
+use Rattle.lines_told.specs.lines.Plays.Play.{Said}
+use Rattle.told_laws.specs.told.NodesTold.{nodes_told}
 use Rattle.world.specs.Worlds.{IsWorldAt}
 use Rattle.swp_tool.specs.declared.status.Status.{Status}
 use Rattle.swp_tool.specs.declared.status.Status.TheVariants as status

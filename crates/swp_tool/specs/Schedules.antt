@@ -9,8 +9,8 @@ use Rattle.schedule_text.specs.declared.fault.LineFault.TheVariants as fault
 use Rattle.schedule_text.specs.declared.read.Read.{Read}
 use Rattle.schedule_text.specs.declared.read.Read.TheVariants as read
 use Rattle.schedule_text.specs.Lines.{line_of}
-use Rattle.lines_told.specs.Below.{misread_below}
-use Rattle.lines_told.specs.Plays.{lines_played_of}
+use Rattle.lines_told.specs.lines.Below.{misread_below}
+use Rattle.lines_told.specs.lines.Plays.{lines_played_of}
 
 -- why bytes stop being a schedule: a line is outside the forms, it damages a frame so that another one is read in its place, or
 -- one line more begins than a schedule may have

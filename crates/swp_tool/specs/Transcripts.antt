@@ -7,18 +7,18 @@ use Rattle.trace_model.specs.declared.entry.Entry.TheVariants as entry
 use Rattle.trace_model.specs.declared.line.Header.{Header}
 use Rattle.trace_model.specs.declared.line.Line.{Line}
 use Rattle.schedule_text.specs.Entries.{entry_lines}
-use Rattle.link_entries.specs.messages.Links.{Link}
+use Rattle.link_laws.specs.messages.Links.{Link}
 use Rattle.history.specs.Histories.{Step, History, Outcome}
 use Rattle.history.specs.Steps.{bare_link}
 use Rattle.history.specs.Follows.{host_of, opening_of, outcome_of, link_after_line}
 use Rattle.node_machine.specs.world.World.{new_world}
 use Rattle.node_machine.specs.world.NodeHistories.{NodeHistory, steps_from}
-use Rattle.answer_laws.specs.answers.Headline.{PlayedHistory, IsPlayed, IsLegal}
-use Rattle.answer_laws.specs.answers.Headline.PlayedHistory.{OfLink, OfNodes}
-use Rattle.text_laws.specs.Ranges.{IsNumber, IsEntry}
-use Rattle.lines_told.specs.Plays.{lines_played_of, schedule_told}
-use Rattle.told_laws.specs.Told.{entries_told}
-use Rattle.told_laws.specs.NodesTold.{nodes_told}
+use Rattle.node_laws.specs.answers.Headline.{PlayedHistory, IsPlayed, IsLegal}
+use Rattle.node_laws.specs.answers.Headline.PlayedHistory.{OfLink, OfNodes}
+use Rattle.told_laws.specs.texts.Ranges.{IsNumber, IsEntry}
+use Rattle.lines_told.specs.lines.Plays.{lines_played_of, schedule_told}
+use Rattle.told_laws.specs.told.Told.{entries_told}
+use Rattle.told_laws.specs.told.NodesTold.{nodes_told}
 use Rattle.swp_tool.specs.Schedules.{Stop, Schedule, schedule_in}
 
 -- ## The history of a schedule

@@ -5,7 +5,7 @@ ghost use Rattle.swp_base.specs.Outside.{Rose};
 ghost use Rattle.trace_model.specs.declared.line.Line.{Line as Said};
 ghost use Rattle.trace_model.specs.declared.entry.Entry.{Entry as Told};
 ghost use Rattle.drawn_schedule.specs.Schedule.{the_header, drawn_lines, IsHarmless};
-ghost use Rattle.told_laws.specs.NodesTold.{nodes_told};
+ghost use Rattle.told_laws.specs.told.NodesTold.{nodes_told};
 ghost use Rattle.swp_tool.specs.Transcripts.{nodes_history};
 ghost use Rattle.swp_tool.specs.Generated.{AreCountsOf, HasCounted, IsSummary, Generated, WroteText, IsOfGen, told_line};
 

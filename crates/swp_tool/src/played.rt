@@ -5,9 +5,9 @@ ghost use Rattle.std.specs.List.{AllByRecursion};
 ghost use Rattle.trace_model.specs.declared.line.Header.{Header};
 ghost use Rattle.trace_model.specs.declared.line.Line.{Line};
 ghost use Rattle.schedule_text.specs.Entries.{entry_lines};
-ghost use Rattle.lines_told.specs.Below.{is_settling};
-ghost use Rattle.lines_told.specs.Plays.{lines_played_of, schedule_told};
-ghost use Rattle.answer_laws.specs.answers.Headline.{IsPlayed, PlayedHistory};
+ghost use Rattle.lines_told.specs.lines.Below.{is_settling};
+ghost use Rattle.lines_told.specs.lines.Plays.{lines_played_of, schedule_told};
+ghost use Rattle.node_laws.specs.answers.Headline.{IsPlayed, PlayedHistory};
 ghost use Rattle.swp_tool.specs.Schedules.{schedule_in};
 ghost use Rattle.swp_tool.specs.Transcripts.{done_line, history_below, TellsPlayed};
 

@@ -5,8 +5,8 @@ ghost use Rattle.trace_model.specs.declared.line.Header.{Header};
 ghost use Rattle.trace_model.specs.declared.line.Line.{Line as Said};
 ghost use Rattle.trace_model.specs.declared.line.Line.TheVariants as line;
 ghost use Rattle.schedule_text.specs.Entries.{entry_line, entry_lines};
-ghost use Rattle.lines_told.specs.Plays.{Play, lines_played, plays_of_line, rounds_to_rest, told_of_line, told_of_play};
-ghost use Rattle.lines_told.specs.Plays.Play.{Round};
+ghost use Rattle.lines_told.specs.lines.Plays.{Play, lines_played, plays_of_line, rounds_to_rest, told_of_line, told_of_play};
+ghost use Rattle.lines_told.specs.lines.Plays.Play.{Round};
 ghost use Rattle.world.specs.Worlds.{IsWorldAt, HasRoomToSettle};
 ghost use Rattle.swp_tool.specs.Replays.{Runs, WasStepped, HasGoneThrough, HasRoundsLeft};
 

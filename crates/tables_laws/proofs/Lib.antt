@@ -1,7 +1,2 @@
-pub mod LookUps
-pub mod SortedTables
-pub mod Ends
-pub mod Opened
-pub mod Values
-pub mod TwoHosts
-mod Examples
+pub mod gate
+pub mod tables

@@ -1,10 +1,3 @@
-pub mod Ends
-pub mod Wires
-pub mod Links
-pub mod Notes
-pub mod Lines
-pub mod Plays
-pub mod Coming
-pub mod BarePlays
+pub mod texts
+pub mod told
 pub mod nodes
-pub mod Whole

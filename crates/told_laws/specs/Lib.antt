@@ -1,2 +1,2 @@
-pub mod Told
-pub mod NodesTold
+pub mod texts
+pub mod told

@@ -3,7 +3,7 @@ use Rattle.std.proofs.Common.{◌≡◌, ℕ, sym, ap, ◌∙◌, subst}
 use Rattle.std.specs.Prelude.{Option, Some, None, option_map}
 use Rattle.block_pool.specs.declared.chain.Chain.{Chain}
 use Rattle.block_pool.specs.Pool.{PoolState, Gives, KeepsOthers}
-use Rattle.link_machine.specs.Machine.{LinkEnd as Machine}
+use Rattle.link_laws.specs.machine.Machine.{LinkEnd as Machine}
 use Rattle.link_messages.specs.Outgoing.{LeavesOthersBut}
 use Rattle.link_messages.specs.declared.inbox.Inbox.{Inbox}
 use Rattle.link_end.specs.declared.«end».End.{End}

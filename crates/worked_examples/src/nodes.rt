@@ -1,6 +1,6 @@
 //! A node that has one end of a link and its messages in a pool of its own, for worked examples.
 ghost use Rattle.std.specs.Prelude.{◌≡◌, ◌≤◌};
-ghost use Rattle.link_machine.specs.Machine.{LinkEnd as Machine};
+ghost use Rattle.link_laws.specs.machine.Machine.{LinkEnd as Machine};
 ghost use Rattle.link_end.specs.Ends.{EndStandsFor, Accounts, Rests, controls_in};
 
 use block_pool::Pool;

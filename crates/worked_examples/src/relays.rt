@@ -1,6 +1,6 @@
 //! A node with two ends of links in one pool, for worked examples: how the laws of link ends are used.
 ghost use Rattle.std.specs.Prelude.{◌≡◌, ◌≤◌};
-ghost use Rattle.link_machine.specs.Machine.{LinkEnd as Machine};
+ghost use Rattle.link_laws.specs.machine.Machine.{LinkEnd as Machine};
 ghost use Rattle.link_end.specs.Ends.{EndStandsFor, HaveOwners, Accounts, Rests};
 
 use crate::nodes::has_room;

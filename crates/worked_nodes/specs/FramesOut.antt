@@ -3,7 +3,7 @@ use Rattle.std.specs.Prelude.{◌≡◌, ◌≢◌, ℕ, zero, suc, ◌+◌, ◌
 use Rattle.std.specs.Option.{option_map_or}
 use Rattle.swp_lpdu.specs.Controls.{lpdu_of}
 use Rattle.trace_model.specs.declared.entry.Entry.{Entry}
-use Rattle.link_machine.specs.Machine.{frames_out, sent_all}
+use Rattle.link_laws.specs.machine.Machine.{frames_out, sent_all}
 use Rattle.node_machine.specs.Parts.{Core, Port, Work}
 use Rattle.node_machine.specs.Carrying.{port_at}
 use Rattle.node_ends.specs.Ends.{frame_at}

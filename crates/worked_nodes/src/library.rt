@@ -76,8 +76,8 @@ impl<N: Nv + Drop> FrontEnd<N> {
     ghost use Rattle.trace_model.specs.declared.entry.Entry.{Entry as Noted};
     ghost use Rattle.hci_store.specs.Starting.{ready_writes, HasWritten};
     ghost use Rattle.gate_admin.specs.View.{has, hosts_where};
-    ghost use Rattle.link_machine.specs.Machine.{lpdu_input};
-    ghost use Rattle.link_machine.specs.Machine.LinkInput.{Reset, Start};
+    ghost use Rattle.link_laws.specs.machine.Machine.{lpdu_input};
+    ghost use Rattle.link_laws.specs.machine.Machine.LinkInput.{Reset, Start};
     ghost use Rattle.node_machine.specs.Parts.{Work};
     ghost use Rattle.node_machine.specs.Carrying.{port_at};
     ghost use Rattle.node_machine.specs.Node.{steps};

@@ -2,9 +2,9 @@
 ghost use Rattle.std.specs.Prelude.{◌≡◌, [], ◌∷◌, ◌++◌, ◌+◌, ◌<◌, List, length};
 ghost use Rattle.trace_model.specs.declared.line.Line.{Line as Spoken};
 ghost use Rattle.trace_model.specs.Lines.{MayBegin};
-ghost use Rattle.lines_told.specs.Below.{IsPlayedLine, is_settling};
-ghost use Rattle.lines_told.specs.Plays.{Play, lines_said};
-ghost use Rattle.lines_told.specs.Plays.Play.{Said};
+ghost use Rattle.lines_told.specs.lines.Below.{IsPlayedLine, is_settling};
+ghost use Rattle.lines_told.specs.lines.Plays.{Play, lines_said};
+ghost use Rattle.lines_told.specs.lines.Plays.Play.{Said};
 ghost use Rattle.world.specs.Worlds.{HasRoomForLine, IsWorldAt, world_header};
 
 use crate::cuts::keeps;

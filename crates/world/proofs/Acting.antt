@@ -4,10 +4,10 @@ use Rattle.std.specs.Prelude.{is_some}
 use Rattle.trace_model.specs.declared.entry.Entry.{Entry}
 use Rattle.trace_model.specs.declared.line.End.{End}
 use Rattle.shdlc_core.specs.declared.answers.Due.{Due}
-use Rattle.link_machine.specs.Machine.{LinkEnd, LinkInput, ActDue, report, whole_acked, after_input, ended_by, frames_out}
-use Rattle.link_entries.specs.messages.Links.{Link, number_of, with_ended}
-use Rattle.link_entries.specs.messages.Links.Ending.{GoesOut}
-use Rattle.link_entries.specs.entries.Entries.{told, told_of, puts_entries, input_entries}
+use Rattle.link_laws.specs.machine.Machine.{LinkEnd, LinkInput, ActDue, report, whole_acked, after_input, ended_by, frames_out}
+use Rattle.link_laws.specs.messages.Links.{Link, number_of, with_ended}
+use Rattle.link_laws.specs.messages.Links.Ending.{GoesOut}
+use Rattle.link_laws.specs.entries.Entries.{told, told_of, puts_entries, input_entries}
 use Rattle.world.specs.declared.node.Node.{Node}
 use Rattle.world.specs.declared.node.Place.{Place}
 use Rattle.world.specs.declared.side.Side.{Side}

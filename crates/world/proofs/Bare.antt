@@ -14,12 +14,14 @@ use Rattle.shdlc_core.specs.declared.answers.Due.{Due}
 use Rattle.shdlc_core.specs.declared.answers.Due.TheVariants.{Rr as Rr_due, Rej as Rej_due, Rnr as Rnr_due, Rset as Rset_due, Ua as Ua_due}
 use Rattle.shdlc_core.specs.Machine.{EndState, Fragment, taken, take_answer, ticked, tick_answer, place_of, acknowledged, ahead, received, runs_timer}
 use Rattle.shdlc_core.specs.Machine.{reset_with, stopped, with_ready, fetched}
-use Rattle.link_machine.specs.Machine.{LinkEnd, LinkInput, Refused, Turn, Message, new_link_end, after_input, after_inputs, turn, moved, put_down, activated}
-use Rattle.link_machine.specs.Machine.{heard, took, is_open, is_faulty, news, if_up, reset_by, reset_refusal, window_of, give_refusal, given, aside_refusal}
-use Rattle.link_machine.specs.Machine.{unless, in_front, frame_fetched}
-use Rattle.link_machine.specs.Machine.Role.{Bare}
-use Rattle.link_machine.specs.Machine.LinkInput.{Take, TakeUnknown, TakeBroken, Tick, Reset, Start, Stop, FromNode, Fetch}
-use Rattle.link_machine.specs.Machine.Turn.{Give, Hold, FetchMessage, SetAside, Release}
+use Rattle.link_laws.specs.machine.Machine.{LinkEnd, LinkInput, Refused, Turn, Message, new_link_end, after_input, after_inputs, turn, moved, put_down}
+use Rattle.link_laws.specs.machine.Machine.{activated}
+use Rattle.link_laws.specs.machine.Machine.{heard, took, is_open, is_faulty, news, if_up, reset_by, reset_refusal, window_of, give_refusal, given}
+use Rattle.link_laws.specs.machine.Machine.{aside_refusal}
+use Rattle.link_laws.specs.machine.Machine.{unless, in_front, frame_fetched}
+use Rattle.link_laws.specs.machine.Machine.Role.{Bare}
+use Rattle.link_laws.specs.machine.Machine.LinkInput.{Take, TakeUnknown, TakeBroken, Tick, Reset, Start, Stop, FromNode, Fetch}
+use Rattle.link_laws.specs.machine.Machine.Turn.{Give, Hold, FetchMessage, SetAside, Release}
 use Rattle.world.specs.Nodes.{Reached}
 
 -- ## No activation

@@ -12,26 +12,26 @@ use Rattle.trace_model.specs.declared.line.Line.TheVariants.{Send, Deliver, Lose
 use Rattle.trace_model.specs.declared.line.Line.TheVariants.{Settle}
 use Rattle.trace_model.specs.Ends.{other_end}
 use Rattle.trace_model.specs.Lines.{IsHeader, IsLineOf}
-use Rattle.link_machine.specs.Machine.{new_link_end}
-use Rattle.link_machine.specs.Machine.Role.{Bare}
-use Rattle.link_entries.specs.messages.Links.{Link, new_numbered_end}
-use Rattle.link_entries.specs.messages.Rsets.{FewRsets}
-use Rattle.link_entries.specs.entries.Entries.End.{Controller, Host}
-use Rattle.link_entries.proofs.messages.RsetNumbers.{start_numbered}
-use Rattle.link_entries.specs.messages.Links.IsStart.{IsBare}
+use Rattle.link_laws.specs.machine.Machine.{new_link_end}
+use Rattle.link_laws.specs.machine.Machine.Role.{Bare}
+use Rattle.link_laws.specs.messages.Links.{Link, new_numbered_end}
+use Rattle.link_laws.specs.messages.Rsets.{FewRsets}
+use Rattle.link_laws.specs.entries.Entries.End.{Controller, Host}
+use Rattle.link_laws.proofs.messages.RsetNumbers.{start_numbered}
+use Rattle.link_laws.specs.messages.Links.IsStart.{IsBare}
 use Rattle.history.specs.Histories.{Outcome, Step, History, events_of, causes_of, all_events, all_entries, noted}
 use Rattle.history.specs.Steps.{end_of, bare_link, link_after_all}
 use Rattle.history.specs.Follows.{Follows, StepsFollow, host_of, link_at, link_after_line, link_after_lines, outcome_of, misread, opened, with_step}
 use Rattle.history.proofs.Leading.{events_in, after_events, lines_lead}
 use Rattle.history.specs.Legal.{Legal, Complete, Prefix, Settled, is_chain_fault}
 use Rattle.history.proofs.legal.Asked.{only_one}
-use Rattle.lines_told.specs.Below.{IsPlayedLine, bare_link_behind, told_below}
-use Rattle.lines_told.specs.Plays.{Play, IsPlayFor, lines_played, lines_said, rounds_played, round_behind, round_on, told_behind, told_of_play}
-use Rattle.lines_told.specs.Plays.Play.{Said, Round}
-use Rattle.lines_told.specs.RoundLines.{IsRoundLine}
-use Rattle.lines_told.proofs.Plays.{played_more, one_said, no_more_rounds, no_more_said, one_round, for_with}
-use Rattle.lines_told.proofs.BareRounds.{bare_round_lines, lines-append}
-use Rattle.lines_told.proofs.Lines.{bare_lines_may_be_played, sure_on, bare_known}
+use Rattle.lines_told.specs.lines.Below.{IsPlayedLine, bare_link_behind, told_below}
+use Rattle.lines_told.specs.lines.Plays.{Play, IsPlayFor, lines_played, lines_said, rounds_played, round_behind, round_on, told_behind, told_of_play}
+use Rattle.lines_told.specs.lines.Plays.Play.{Said, Round}
+use Rattle.lines_told.specs.lines.RoundLines.{IsRoundLine}
+use Rattle.lines_told.proofs.lines.Plays.{played_more, one_said, no_more_rounds, no_more_said, one_round, for_with}
+use Rattle.lines_told.proofs.lines.BareRounds.{bare_round_lines, lines-append}
+use Rattle.lines_told.proofs.lines.Lines.{bare_lines_may_be_played, sure_on, bare_known}
 use Rattle.world.specs.declared.side.Side.{Side}
 use Rattle.link_wires.specs.declared.finding.Misread.{Misread}
 use Rattle.node_world.proofs.FewPlays.{few_with_line, few_with_one_round}

@@ -3,14 +3,14 @@ use Rattle.std.proofs.Common.{◌≡◌, ℕ, false, true, List, refl, sym, ap, 
 use Rattle.trace_model.specs.declared.line.End.{End}
 use Rattle.trace_model.specs.declared.line.Header.{Header}
 use Rattle.trace_model.specs.declared.line.Line.{Line}
-use Rattle.link_entries.specs.messages.Links.{Link}
-use Rattle.link_entries.specs.messages.Rest.{link_rests}
+use Rattle.link_laws.specs.messages.Links.{Link}
+use Rattle.link_laws.specs.messages.Rest.{link_rests}
 use Rattle.history.specs.Histories.{History, noted}
 use Rattle.history.specs.Follows.{frames_to, host_of, link_at, misread, outcome_of}
 use Rattle.history.proofs.Leading.{lines_lead}
-use Rattle.lines_told.specs.Below.{bare_link_behind, told_below, misread_below}
-use Rattle.lines_told.specs.Plays.{Play, lines_played, rests_behind}
-use Rattle.lines_told.proofs.Resting.{bare_rests}
+use Rattle.lines_told.specs.lines.Below.{bare_link_behind, told_below, misread_below}
+use Rattle.lines_told.specs.lines.Plays.{Play, lines_played, rests_behind}
+use Rattle.lines_told.proofs.lines.Resting.{bare_rests}
 use Rattle.world.specs.declared.bare_world.BareWorld.{BareWorld}
 use Rattle.world.specs.declared.fault.WorldFault.{WorldFault}
 use Rattle.world.specs.declared.fault.WorldFault.TheVariants as fault
@@ -18,7 +18,7 @@ use Rattle.world.specs.declared.world_steps.Below.{Below}
 use Rattle.world.specs.declared.world_steps.Below.TheVariants.{Bare}
 use Rattle.world.specs.Lines.{damaged_by}
 use Rattle.world.specs.BareWorlds.{WorldStandsFor, IsFaultOf, bare_header}
-use Rattle.lines_told.specs.Below.{frames_below, runs_below}
+use Rattle.lines_told.specs.lines.Below.{frames_below, runs_below}
 use Rattle.world.specs.Worlds.{StandsBelow, IsFaultThere, damaged_below}
 
 -- ## On the link that lines leave

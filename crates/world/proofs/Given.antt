@@ -16,18 +16,19 @@ use Rattle.trace_model.specs.declared.line.Line.{Line}
 use Rattle.trace_model.specs.declared.line.Line.TheVariants as line
 use Rattle.trace_model.specs.declared.entry.NoCause.{NoCause}
 use Rattle.link_laws.specs.sessions.Sessions.{OnWire, is_rset, took_with}
-use Rattle.link_machine.specs.Machine.{LinkEnd, LinkInput, Refused, Message, after_input, turn, turned, moved, put_down, activated, with_act, act_answer}
-use Rattle.link_machine.specs.Machine.{role_after, heard, took, is_open, is_faulty, news, if_up, reset_by, reset_refusal, ended_by, window_of, give_refusal}
-use Rattle.link_machine.specs.Machine.{given, unless, frames_out}
-use Rattle.link_machine.specs.Machine.LinkInput.{Take, Tick, Reset}
-use Rattle.link_machine.specs.Machine.Turn.{Give, Hold, FetchMessage}
-use Rattle.link_entries.specs.messages.Links.{Link, EndEvent, put, put_all, becomes, with_ended, has_input, has_taken, happens_at_controller}
-use Rattle.link_entries.specs.messages.Links.{ticks_at_controller, aged}
-use Rattle.link_entries.specs.messages.Links.{exchanged, happens}
-use Rattle.link_entries.specs.messages.Links.Ending.{GoesOut}
-use Rattle.link_entries.specs.messages.Links.Comes.{NextFrame, AsksReset, NoInput}
-use Rattle.link_entries.specs.messages.Links.EndEvent.{Step, Lose}
-use Rattle.link_entries.specs.messages.Links.Loss.{OnDemand}
+use Rattle.link_laws.specs.machine.Machine.{LinkEnd, LinkInput, Refused, Message, after_input, turn, turned, moved, put_down, activated, with_act, act_answer}
+use Rattle.link_laws.specs.machine.Machine.{role_after, heard, took, is_open, is_faulty, news, if_up, reset_by, reset_refusal, ended_by, window_of}
+use Rattle.link_laws.specs.machine.Machine.{give_refusal}
+use Rattle.link_laws.specs.machine.Machine.{given, unless, frames_out}
+use Rattle.link_laws.specs.machine.Machine.LinkInput.{Take, Tick, Reset}
+use Rattle.link_laws.specs.machine.Machine.Turn.{Give, Hold, FetchMessage}
+use Rattle.link_laws.specs.messages.Links.{Link, EndEvent, put, put_all, becomes, with_ended, has_input, has_taken, happens_at_controller}
+use Rattle.link_laws.specs.messages.Links.{ticks_at_controller, aged}
+use Rattle.link_laws.specs.messages.Links.{exchanged, happens}
+use Rattle.link_laws.specs.messages.Links.Ending.{GoesOut}
+use Rattle.link_laws.specs.messages.Links.Comes.{NextFrame, AsksReset, NoInput}
+use Rattle.link_laws.specs.messages.Links.EndEvent.{Step, Lose}
+use Rattle.link_laws.specs.messages.Links.Loss.{OnDemand}
 use Rattle.history.specs.Histories.{Cause, Outcome, causes_of}
 use Rattle.history.specs.Histories.Cause.{Given, Taken, WasLost, Ticked, WasReset, Readied}
 use Rattle.history.specs.Histories.Outcome.{Refused as LineRefused, Caused}
@@ -36,7 +37,7 @@ use Rattle.history.specs.Damage.Verdict.{Same, LostFor, Undetected}
 use Rattle.history.specs.Steps.{at, events_at, link_after, link_after_all}
 use Rattle.history.specs.Follows.{refusal, causes_in, damage_causes, first_verdict, frames_to, taken_of, outcome_of, link_after_line}
 use Rattle.world.specs.Lines.{HaveSent}
-use Rattle.link_entries.proofs.messages.Project.{host_ended as ended_host}
+use Rattle.link_laws.proofs.messages.Project.{host_ended as ended_host}
 
 -- ## An end
 

@@ -5,14 +5,14 @@ use Rattle.trace_model.specs.declared.entry.Entry.{Entry}
 use Rattle.trace_model.specs.declared.entry.Entry.TheVariants as entry
 use Rattle.trace_model.specs.declared.entry.NoCause.{NoCause}
 use Rattle.trace_model.specs.declared.line.End.{End}
-use Rattle.link_machine.specs.Machine.{LinkEnd, Message, Refused, give_refusal, turn, frames_out}
-use Rattle.link_machine.specs.Machine.Turn.{Give}
-use Rattle.link_entries.specs.messages.Links.{Link, becomes, number_of}
-use Rattle.link_entries.specs.messages.Links.Ending.{GoesOut}
-use Rattle.link_entries.specs.messages.Links.Comes.{NoInput}
-use Rattle.link_entries.specs.messages.Links.EndEvent.{Step}
-use Rattle.link_entries.specs.entries.Entries.{Entry as Noted, sent_unless, puts_entries, here_entries}
-use Rattle.link_entries.specs.entries.Entries.Entry.{Sent}
+use Rattle.link_laws.specs.machine.Machine.{LinkEnd, Message, Refused, give_refusal, turn, frames_out}
+use Rattle.link_laws.specs.machine.Machine.Turn.{Give}
+use Rattle.link_laws.specs.messages.Links.{Link, becomes, number_of}
+use Rattle.link_laws.specs.messages.Links.Ending.{GoesOut}
+use Rattle.link_laws.specs.messages.Links.Comes.{NoInput}
+use Rattle.link_laws.specs.messages.Links.EndEvent.{Step}
+use Rattle.link_laws.specs.entries.Entries.{Entry as Noted, sent_unless, puts_entries, here_entries}
+use Rattle.link_laws.specs.entries.Entries.Entry.{Sent}
 use Rattle.history.specs.Follows.{as_noted}
 use Rattle.world.specs.declared.node.Node.{Node}
 use Rattle.world.specs.declared.side.Side.{Side}

@@ -11,8 +11,8 @@ use Rattle.trace_model.specs.declared.entry.NoCause.TheVariants.{Empty}
 use Rattle.trace_model.specs.declared.line.End.{End}
 use Rattle.trace_model.specs.declared.line.Line.{Line}
 use Rattle.link_laws.specs.sessions.Sessions.{OnWire}
-use Rattle.link_entries.specs.messages.Links.{Link, EndEvent, happens, happens_at_controller, exchanged}
-use Rattle.link_entries.specs.entries.Entries.{event_entries, here_entries}
+use Rattle.link_laws.specs.messages.Links.{Link, EndEvent, happens, happens_at_controller, exchanged}
+use Rattle.link_laws.specs.entries.Entries.{event_entries, here_entries}
 use Rattle.history.specs.Histories.{Cause, Outcome, noted}
 use Rattle.history.specs.Histories.Outcome.{Refused, Caused}
 use Rattle.history.specs.Steps.{at as happens_at, event_of, events_at, entries_for}

@@ -2,12 +2,12 @@
 use Rattle.std.proofs.Common.{◌≡◌, ℕ, ◌-◌, ◌<◌, ◌^◌, List, [], ◌∷◌, ◌++◌, length, drop, map, refl, ap, sym, subst, ◌∙◌, append_assoc, arith}
 use Rattle.std.proofs.lemmas.List.{append-nil}
 use Rattle.std.specs.Prelude.{Bool, true, false, is_some, ◌==◌, Option, Some, None, option_map, Result, Ok, Err}
-use Rattle.link_machine.specs.Machine.{LinkEnd, LinkInput, after_input, after_inputs, turn, whole_acked, new_link_end}
-use Rattle.link_machine.specs.Machine.Role.{Bare}
-use Rattle.link_machine.specs.Machine.LinkInput.{Take, TakeUnknown, TakeBroken, Tick, Reset, Start, Stop, FromNode, Fetch}
-use Rattle.link_machine.specs.Machine.Turn.{Give, Hold, FetchMessage, SetAside, Release}
-use Rattle.link_machine.specs.Laws.{AreSendableInputs}
-use Rattle.link_machine.proofs.Runs.{Sound, sound, parted}
+use Rattle.link_laws.specs.machine.Machine.{LinkEnd, LinkInput, after_input, after_inputs, turn, whole_acked, new_link_end}
+use Rattle.link_laws.specs.machine.Machine.Role.{Bare}
+use Rattle.link_laws.specs.machine.Machine.LinkInput.{Take, TakeUnknown, TakeBroken, Tick, Reset, Start, Stop, FromNode, Fetch}
+use Rattle.link_laws.specs.machine.Machine.Turn.{Give, Hold, FetchMessage, SetAside, Release}
+use Rattle.link_laws.specs.machine.Laws.{AreSendableInputs}
+use Rattle.link_laws.proofs.machine.Runs.{Sound, sound, parted}
 use Rattle.trace_model.specs.declared.entry.Entry.{Entry}
 use Rattle.trace_model.specs.declared.line.End.{End}
 use Rattle.trace_model.specs.declared.entry.Entry.TheVariants as entry
@@ -23,19 +23,19 @@ use Rattle.swp_act.specs.declared.ActEvent.TheVariants.{Tick as ActTick}
 use Rattle.shdlc_core.specs.declared.answers.LinkState.{LinkState}
 use Rattle.shdlc_core.specs.declared.answers.LinkState.TheVariants.{Down, Waiting, Up}
 use Rattle.shdlc_core.specs.Machine.{fetched, ticked, tick_answer}
-use Rattle.link_machine.specs.Machine.{Message, ActDue, Refused, oldest, brought, lpdu_input, give_refusal, frame_fetched, whole_among, report, is_open}
-use Rattle.link_machine.specs.Machine.{reset_refusal, reset_by, if_up, window_of}
+use Rattle.link_laws.specs.machine.Machine.{Message, ActDue, Refused, oldest, brought, lpdu_input, give_refusal, frame_fetched, whole_among, report, is_open}
+use Rattle.link_laws.specs.machine.Machine.{reset_refusal, reset_by, if_up, window_of}
 use Rattle.hcp_packet.specs.Packets.{IsSendable, packet_count}
-use Rattle.link_machine.proofs.Sound.{whole_given}
-use Rattle.link_machine.proofs.Reports.{Reports}
+use Rattle.link_laws.proofs.machine.Sound.{whole_given}
+use Rattle.link_laws.proofs.machine.Reports.{Reports}
 use Rattle.link_end.specs.declared.report.ResetRefused.{ResetRefused}
 use Rattle.link_end.specs.declared.link.LinkEnd.{LinkEnd as Link}
 use Rattle.link_end.specs.declared.report.LinkReport.{LinkReport}
 use Rattle.link_end.specs.Ends.{EndStandsFor, Accounts, EndLeavesOthers}
 use Rattle.link_end.specs.Reports.{report_told as told_of, nothing_told, reset_told, reset_refused}
 use Rattle.link_end.proofs.AccountLemmas.{account_kept, account_moved, given_own}
-use Rattle.link_entries.specs.entries.Entries.{told}
-use Rattle.link_entries.specs.entries.Entries.Entry.{Got}
+use Rattle.link_laws.specs.entries.Entries.{told}
+use Rattle.link_laws.specs.entries.Entries.Entry.{Got}
 use Rattle.history.specs.Steps.{entries_for}
 use Rattle.world.specs.declared.node.Node.{Node}
 use Rattle.world.specs.declared.node.Place.{Place}
@@ -45,8 +45,8 @@ use Rattle.world.specs.Nodes.{Reached, CanFetch, HasInput, NodeStandsFor}
 use Rattle.link_wires.specs.Notes.{AreNoted}
 use Rattle.link_wires.proofs.Notes.{end_is}
 use Rattle.world.proofs.Noting.{told_at, acked_told}
-use Rattle.link_machine.proofs.Kept.{took_got, moved_got, activated_got}
-use Rattle.link_entries.proofs.entries.Stepping.{one_fetched_acked}
+use Rattle.link_laws.proofs.machine.Kept.{took_got, moved_got, activated_got}
+use Rattle.link_laws.proofs.entries.Stepping.{one_fetched_acked}
 
 pub is_sound : (m : LinkEnd) → Reached m → Sound m
 is_sound m r = let P : LinkEnd → Type 0 = λ e. Sound e in subst P (sym r.is) (sound Bare r.inputs r.sendable)

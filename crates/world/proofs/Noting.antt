@@ -7,15 +7,15 @@ use Rattle.swp_base.specs.declared.link_terms.Cause.{Cause}
 use Rattle.trace_model.specs.declared.entry.Entry.{Entry}
 use Rattle.trace_model.specs.declared.entry.Entry.TheVariants as entry
 use Rattle.trace_model.specs.declared.line.End.{End}
-use Rattle.link_machine.specs.Machine.{LinkEnd, LinkInput, Report, report, after_input, ended_by, began_by, whole_among, whole_acked}
-use Rattle.link_machine.proofs.Shifts.{Shift}
-use Rattle.link_machine.proofs.Shifts.Shift.{Stays, Ends, Renews, Begins, Rests}
-use Rattle.link_machine.proofs.Sound.{SentAfter, whole_more, whole_few}
-use Rattle.link_machine.proofs.Runs.{Sound}
-use Rattle.link_machine.proofs.Reports.{Reports}
+use Rattle.link_laws.specs.machine.Machine.{LinkEnd, LinkInput, Report, report, after_input, ended_by, began_by, whole_among, whole_acked}
+use Rattle.link_laws.proofs.machine.Shifts.{Shift}
+use Rattle.link_laws.proofs.machine.Shifts.Shift.{Stays, Ends, Renews, Begins, Rests}
+use Rattle.link_laws.proofs.machine.Sound.{SentAfter, whole_more, whole_few}
+use Rattle.link_laws.proofs.machine.Runs.{Sound}
+use Rattle.link_laws.proofs.machine.Reports.{Reports}
 use Rattle.link_end.specs.Reports.{report_told as told_of}
-use Rattle.link_entries.specs.entries.Entries.{End as Which, Entry as Noted, told, if_so}
-use Rattle.link_entries.specs.entries.Entries.Entry.{Up, Down, Active, GaveUp, Acked, Got}
+use Rattle.link_laws.specs.entries.Entries.{End as Which, Entry as Noted, told, if_so}
+use Rattle.link_laws.specs.entries.Entries.Entry.{Up, Down, Active, GaveUp, Acked, Got}
 use Rattle.history.specs.Steps.{end_of, entry_of, entries_for}
 use Rattle.link_wires.specs.Notes.{side_of}
 use Rattle.link_wires.proofs.Notes.{end_is, entries-append}

@@ -8,11 +8,12 @@ use Rattle.trace_model.specs.declared.line.Header.{Header}
 use Rattle.trace_model.specs.declared.line.Line.{Line}
 use Rattle.trace_model.specs.declared.line.Line.TheVariants as saying
 use Rattle.trace_model.specs.Lines.{MayBegin}
-use Rattle.lines_told.specs.Below.{misread_below}
-use Rattle.lines_told.specs.Plays.{Play, AreFewPlays, IsPlayFor, lines_played, lines_said, rests_behind, rounds_played, rounds_to_rest}
-use Rattle.lines_told.specs.Plays.Play.{Said, Round}
-use Rattle.lines_told.proofs.Plays.{all-append, few_with_round, few_with_said, none_said, played-append, played_more, rounds_for, said-append, so_many_rounds}
-use Rattle.lines_told.proofs.Resting.{at_most}
+use Rattle.lines_told.specs.lines.Below.{misread_below}
+use Rattle.lines_told.specs.lines.Plays.{Play, AreFewPlays, IsPlayFor, lines_played, lines_said, rests_behind, rounds_played, rounds_to_rest}
+use Rattle.lines_told.specs.lines.Plays.Play.{Said, Round}
+use Rattle.lines_told.proofs.lines.Plays.{all-append, few_with_round, few_with_said, none_said, played-append, played_more, rounds_for, said-append}
+use Rattle.lines_told.proofs.lines.Plays.{so_many_rounds}
+use Rattle.lines_told.proofs.lines.Resting.{at_most}
 use Rattle.world.specs.declared.fault.WorldFault.{WorldFault}
 use Rattle.world.specs.declared.fault.WorldFault.TheVariants as fault
 use Rattle.world.specs.declared.world_steps.Below.{Below}

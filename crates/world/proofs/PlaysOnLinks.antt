@@ -5,17 +5,17 @@ use Rattle.trace_model.specs.declared.line.End.{End}
 use Rattle.trace_model.specs.declared.line.Header.{Header}
 use Rattle.trace_model.specs.declared.line.Line.{Line}
 use Rattle.trace_model.specs.Lines.{IsHeader}
-use Rattle.link_entries.specs.messages.Links.{Link}
-use Rattle.link_entries.specs.messages.Links.IsStart.{IsBare}
-use Rattle.link_entries.specs.messages.Rsets.{FewRsets}
-use Rattle.link_entries.specs.entries.Entries.End.{Controller, Host}
-use Rattle.link_entries.proofs.messages.RsetNumbers.{start_numbered}
+use Rattle.link_laws.specs.messages.Links.{Link}
+use Rattle.link_laws.specs.messages.Links.IsStart.{IsBare}
+use Rattle.link_laws.specs.messages.Rsets.{FewRsets}
+use Rattle.link_laws.specs.entries.Entries.End.{Controller, Host}
+use Rattle.link_laws.proofs.messages.RsetNumbers.{start_numbered}
 use Rattle.history.specs.Steps.{bare_link, end_of}
 use Rattle.history.specs.Follows.{host_of, link_after_lines}
-use Rattle.lines_told.specs.Below.{bare_link_behind}
-use Rattle.lines_told.specs.Plays.{Play, IsPlayFor, lines_of_play, lines_played, lines_said, rounds_played, round_behind}
-use Rattle.lines_told.specs.Plays.Play.{Said, Round}
-use Rattle.lines_told.proofs.BareRounds.{bare_round_lines, lines-append}
+use Rattle.lines_told.specs.lines.Below.{bare_link_behind}
+use Rattle.lines_told.specs.lines.Plays.{Play, IsPlayFor, lines_of_play, lines_played, lines_said, rounds_played, round_behind}
+use Rattle.lines_told.specs.lines.Plays.Play.{Said, Round}
+use Rattle.lines_told.proofs.lines.BareRounds.{bare_round_lines, lines-append}
 use Rattle.world.specs.BareWorlds.{most_rsets}
 use Rattle.world.specs.Lines.{HaveSent}
 use Rattle.world.proofs.BareWorlds.{bare_line}

@@ -6,10 +6,10 @@ use Rattle.trace_model.specs.declared.entry.Entry.{Entry}
 use Rattle.trace_model.specs.declared.line.End.{End}
 use Rattle.trace_model.specs.Ends.{other_end}
 use Rattle.trace_model.specs.declared.line.Line.{Line}
-use Rattle.link_entries.specs.messages.Links.{Link, EndEvent, happens, aged, ticks_at_controller, exchanged}
-use Rattle.link_entries.specs.messages.Links.Ending.{GoesOut}
-use Rattle.link_entries.specs.entries.Entries.{End as Which, Entry as Noted, event_entries, aged_entries, tick_entries}
-use Rattle.link_entries.specs.entries.Entries.End.{Controller, Host}
+use Rattle.link_laws.specs.messages.Links.{Link, EndEvent, happens, aged, ticks_at_controller, exchanged}
+use Rattle.link_laws.specs.messages.Links.Ending.{GoesOut}
+use Rattle.link_laws.specs.entries.Entries.{End as Which, Entry as Noted, event_entries, aged_entries, tick_entries}
+use Rattle.link_laws.specs.entries.Entries.End.{Controller, Host}
 use Rattle.history.specs.Histories.{Cause, entries_of}
 use Rattle.history.specs.Histories.Cause.{Ticked}
 use Rattle.history.specs.Histories.Outcome.{Caused}

@@ -7,14 +7,14 @@ use Rattle.trace_model.specs.declared.line.Line.{Line}
 use Rattle.trace_model.specs.declared.line.Line.TheVariants as saying
 use Rattle.trace_model.specs.Ends.{other_end}
 use Rattle.link_laws.specs.sessions.Sessions.{OnWire}
-use Rattle.link_entries.specs.messages.Links.{Link}
-use Rattle.link_entries.specs.messages.Rest.{is_clear}
+use Rattle.link_laws.specs.messages.Links.{Link}
+use Rattle.link_laws.specs.messages.Rest.{is_clear}
 use Rattle.history.specs.Histories.{entries_of, noted}
 use Rattle.history.specs.Histories.Cause.{Taken, Ticked}
 use Rattle.history.specs.Steps.{event_at, events_at}
 use Rattle.history.specs.Follows.{frames_to, link_after_line, link_after_lines, outcome_of, refusal}
-use Rattle.lines_told.specs.Plays.{round_on, taking_on}
-use Rattle.lines_told.proofs.BareRounds.{lines-append, takes_on}
+use Rattle.lines_told.specs.lines.Plays.{round_on, taking_on}
+use Rattle.lines_told.proofs.lines.BareRounds.{lines-append, takes_on}
 use Rattle.world.specs.declared.side.Side.{Side}
 use Rattle.world.specs.Sides.{LinkStandsFor}
 use Rattle.world.specs.Lines.{SidesStandFor, HasCaused, HasRepeated, DoesAll, HaveSent, told_on}

@@ -6,15 +6,15 @@ use Rattle.trace_model.specs.declared.line.Header.{Header}
 use Rattle.trace_model.specs.declared.line.Line.{Line}
 use Rattle.trace_model.specs.Lines.{MayBegin}
 use Rattle.link_laws.specs.sessions.Sessions.{OnWire}
-use Rattle.link_entries.specs.messages.Links.{Link}
-use Rattle.link_entries.specs.messages.Rest.{is_clear}
-use Rattle.link_entries.specs.entries.Entries.End.{Controller, Host}
+use Rattle.link_laws.specs.messages.Links.{Link}
+use Rattle.link_laws.specs.messages.Rest.{is_clear}
+use Rattle.link_laws.specs.entries.Entries.End.{Controller, Host}
 use Rattle.history.specs.Steps.{bare_link, end_of}
 use Rattle.history.specs.Follows.{frames_to, host_of}
-use Rattle.lines_told.specs.Below.{bare_link_behind, nodes_behind}
-use Rattle.lines_told.specs.Plays.{round_behind, round_in, round_on, taking_in, taking_on}
-use Rattle.lines_told.proofs.BareRounds.{bare_round_lines, lines-append}
-use Rattle.lines_told.proofs.NodeRounds.{after-append}
+use Rattle.lines_told.specs.lines.Below.{bare_link_behind, nodes_behind}
+use Rattle.lines_told.specs.lines.Plays.{round_behind, round_in, round_on, taking_in, taking_on}
+use Rattle.lines_told.proofs.lines.BareRounds.{bare_round_lines, lines-append}
+use Rattle.lines_told.proofs.lines.NodeRounds.{after-append}
 use Rattle.node_world.proofs.RoundLinks.{round_by_links}
 use Rattle.world.specs.RoundParts.{ends_of_links, round_left, taking_below, taking_where}
 

@@ -8,10 +8,10 @@ use Rattle.trace_model.specs.declared.entry.Entry.{Entry}
 use Rattle.trace_model.specs.declared.line.End.{End}
 use Rattle.shdlc_core.specs.declared.answers.Due.{Due}
 use Rattle.shdlc_core.specs.Machine.{EndState, fetched, frame_due, frames_of, after_frames}
-use Rattle.link_machine.specs.Machine.{LinkEnd, among, next_frame, frames_out, sent_all, after_input}
-use Rattle.link_machine.specs.Machine.LinkInput.{Fetch}
-use Rattle.link_entries.specs.messages.Links.{Link, put, put_all, becomes, with_controller}
-use Rattle.link_entries.specs.entries.Entries.{Entry as Noted, put_entries, puts_entries}
+use Rattle.link_laws.specs.machine.Machine.{LinkEnd, among, next_frame, frames_out, sent_all, after_input}
+use Rattle.link_laws.specs.machine.Machine.LinkInput.{Fetch}
+use Rattle.link_laws.specs.messages.Links.{Link, put, put_all, becomes, with_controller}
+use Rattle.link_laws.specs.entries.Entries.{Entry as Noted, put_entries, puts_entries}
 use Rattle.history.specs.Steps.{entries_for}
 use Rattle.world.specs.declared.node.Node.{Node}
 use Rattle.world.specs.declared.side.Side.{Side}
@@ -21,7 +21,7 @@ use Rattle.world.specs.Sides.{LinkStandsFor, IsMidway}
 use Rattle.link_wires.specs.Notes.{AreNoted}
 use Rattle.link_wires.proofs.Notes.{more_noted}
 use Rattle.world.proofs.Bare.{is_bare, plain_fetched}
-use Rattle.link_machine.proofs.Places.{fetched_due}
+use Rattle.link_laws.proofs.machine.Places.{fetched_due}
 use Rattle.link_laws.proofs.sessions.Ties.{nothing_sent}
 use Rattle.link_laws.proofs.places.Idle.{after_frames_idle, no_due, fetched_idle}
 

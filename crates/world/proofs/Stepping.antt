@@ -5,10 +5,10 @@ use Rattle.swp_base.specs.declared.control_frames.Control.{Control}
 use Rattle.trace_model.specs.declared.entry.Entry.{Entry}
 use Rattle.trace_model.specs.declared.line.End.{End}
 use Rattle.link_laws.specs.sessions.Sessions.{OnWire}
-use Rattle.link_machine.specs.Machine.{LinkEnd}
-use Rattle.link_entries.specs.messages.Links.{NumberedEnd, Link, Loss, put}
-use Rattle.link_entries.specs.messages.Links.EndEvent.{Lose}
-use Rattle.link_entries.specs.entries.Entries.{first_lost}
+use Rattle.link_laws.specs.machine.Machine.{LinkEnd}
+use Rattle.link_laws.specs.messages.Links.{NumberedEnd, Link, Loss, put}
+use Rattle.link_laws.specs.messages.Links.EndEvent.{Lose}
+use Rattle.link_laws.specs.entries.Entries.{first_lost}
 use Rattle.link_wires.specs.declared.wire.Flying.{Flying}
 use Rattle.link_wires.specs.Notes.{side_of, AreNoted}
 use Rattle.link_wires.specs.Wires.{WireStandsFor}

@@ -8,15 +8,15 @@ use Rattle.trace_model.specs.declared.entry.Entry.{Entry}
 use Rattle.trace_model.specs.declared.entry.Entry.TheVariants as entry
 use Rattle.trace_model.specs.declared.line.End.{End}
 use Rattle.link_laws.specs.sessions.Sessions.{OnWire, is_rset, took_with}
-use Rattle.link_machine.specs.Machine.{LinkEnd, Turn, report, whole_acked, after_input, ended_by, frames_out, turn}
-use Rattle.link_machine.specs.Machine.LinkInput.{Take}
-use Rattle.link_machine.specs.Machine.Turn.{FetchMessage}
-use Rattle.link_entries.specs.messages.Links.{Link, happens_at_controller, becomes, with_ended}
-use Rattle.link_entries.specs.messages.Links.Ending.{GoesOut}
-use Rattle.link_entries.specs.messages.Links.Comes.{NextFrame}
-use Rattle.link_entries.specs.messages.Links.EndEvent.{Step}
-use Rattle.link_entries.specs.entries.Entries.{Entry as Noted, told, told_of, puts_entries, left_after, taken_entries, here_entries}
-use Rattle.link_entries.specs.entries.Entries.Entry.{Took}
+use Rattle.link_laws.specs.machine.Machine.{LinkEnd, Turn, report, whole_acked, after_input, ended_by, frames_out, turn}
+use Rattle.link_laws.specs.machine.Machine.LinkInput.{Take}
+use Rattle.link_laws.specs.machine.Machine.Turn.{FetchMessage}
+use Rattle.link_laws.specs.messages.Links.{Link, happens_at_controller, becomes, with_ended}
+use Rattle.link_laws.specs.messages.Links.Ending.{GoesOut}
+use Rattle.link_laws.specs.messages.Links.Comes.{NextFrame}
+use Rattle.link_laws.specs.messages.Links.EndEvent.{Step}
+use Rattle.link_laws.specs.entries.Entries.{Entry as Noted, told, told_of, puts_entries, left_after, taken_entries, here_entries}
+use Rattle.link_laws.specs.entries.Entries.Entry.{Took}
 use Rattle.history.specs.Steps.{entries_for}
 use Rattle.link_wires.specs.declared.wire.Flying.{Flying}
 use Rattle.world.specs.declared.node.Node.{Node}

@@ -5,12 +5,12 @@ use Rattle.trace_model.specs.declared.entry.Entry.{Entry}
 use Rattle.trace_model.specs.declared.line.Header.{Header}
 use Rattle.trace_model.specs.declared.line.Line.{Line}
 use Rattle.trace_model.specs.Lines.{IsHeader}
-use Rattle.link_entries.specs.messages.Links.{Link}
-use Rattle.link_entries.specs.messages.Rsets.{FewRsets}
+use Rattle.link_laws.specs.messages.Links.{Link}
+use Rattle.link_laws.specs.messages.Rsets.{FewRsets}
 use Rattle.history.specs.Histories.{History}
 use Rattle.history.specs.Follows.{Follows, link_at, misread, with_step}
 use Rattle.history.specs.Legal.{Legal}
-use Rattle.lines_told.specs.Plays.{Play, IsPlayFor, lines_played, lines_said, rounds_played}
+use Rattle.lines_told.specs.lines.Plays.{Play, IsPlayFor, lines_played, lines_said, rounds_played}
 use Rattle.node_world.specs.Worlds.{AreFewWithParts}
 use Rattle.world.specs.declared.bare_world.BareWorld.{BareWorld}
 use Rattle.world.specs.declared.fault.WorldFault.{WorldFault}

@@ -4,7 +4,7 @@ use Rattle.trace_model.specs.declared.entry.Entry.{Entry}
 use Rattle.trace_model.specs.declared.line.End.{End}
 use Rattle.trace_model.specs.declared.line.Line.{Line}
 use Rattle.trace_model.specs.declared.line.Line.TheVariants as line
-use Rattle.link_entries.specs.messages.Links.{Link}
+use Rattle.link_laws.specs.messages.Links.{Link}
 use Rattle.history.specs.Histories.{Cause, entries_of, noted}
 use Rattle.history.specs.Steps.{link_after, link_after_all, event_at, events_at}
 use Rattle.history.specs.Follows.{seen_from, frames_to, outcome_of, link_after_line, link_after_lines, misread}

@@ -1,8 +1,8 @@
 -- What is kept of the node of a bare end, and for which states of the end's machine it stands.
 use Rattle.std.specs.Prelude.{◌≡◌, ◌+◌, ◌≤◌, List, [], length, None}
-use Rattle.link_machine.specs.Machine.{LinkEnd as Machine, LinkInput, whole_acked}
-use Rattle.link_machine.specs.Machine.Role.{Bare}
-use Rattle.link_machine.specs.Laws.{AreSendableInputs, end_after}
+use Rattle.link_laws.specs.machine.Machine.{LinkEnd as Machine, LinkInput, whole_acked}
+use Rattle.link_laws.specs.machine.Machine.Role.{Bare}
+use Rattle.link_laws.specs.machine.Laws.{AreSendableInputs, end_after}
 use Rattle.link_end.specs.Ends.{EndStandsFor, Accounts}
 use Rattle.world.specs.declared.node.Node.{Node}
 

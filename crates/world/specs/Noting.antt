@@ -3,7 +3,7 @@ use Rattle.std.specs.Prelude.{ℕ, ◌+◌, min, nat_lt, if◌then◌else◌, Li
 use Rattle.trace_model.specs.declared.entry.Entry.{Entry}
 use Rattle.trace_model.specs.declared.entry.Entry.TheVariants as entry
 use Rattle.trace_model.specs.declared.line.End.{End}
-use Rattle.link_entries.specs.entries.Entries.{if_so}
+use Rattle.link_laws.specs.entries.Entries.{if_so}
 use Rattle.link_end.specs.declared.report.LinkReport.{LinkReport}
 
 -- how many messages of the session are acknowledged after an input, where so many were before; 4,294,967,295 stands for any

@@ -5,8 +5,8 @@ use Rattle.trace_model.specs.declared.line.End.{End}
 use Rattle.trace_model.specs.declared.line.Header.{Header}
 use Rattle.trace_model.specs.declared.line.Line.{Line}
 use Rattle.trace_model.specs.declared.line.Line.TheVariants as saying
-use Rattle.link_entries.specs.messages.Rest.{is_clear}
-use Rattle.lines_told.specs.Below.{frames_below, runs_below}
+use Rattle.link_laws.specs.messages.Rest.{is_clear}
+use Rattle.lines_told.specs.lines.Below.{frames_below, runs_below}
 
 -- both ends of each of these links, the controller's first
 abbrev pub ends_of_links : List ℕ → List End

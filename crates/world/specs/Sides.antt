@@ -3,9 +3,9 @@ use Rattle.std.specs.Prelude.{◌≡◌, ℕ, ◌≤◌, List, [], length}
 use Rattle.trace_model.specs.declared.entry.Entry.{Entry}
 use Rattle.trace_model.specs.declared.line.End.{End}
 use Rattle.link_laws.specs.sessions.Sessions.{OnWire}
-use Rattle.link_machine.specs.Machine.{LinkEnd as Machine}
-use Rattle.link_entries.specs.messages.Links.{NumberedEnd, Link, EndEvent, happens_at_controller}
-use Rattle.link_entries.specs.entries.Entries.{here_entries}
+use Rattle.link_laws.specs.machine.Machine.{LinkEnd as Machine}
+use Rattle.link_laws.specs.messages.Links.{NumberedEnd, Link, EndEvent, happens_at_controller}
+use Rattle.link_laws.specs.entries.Entries.{here_entries}
 use Rattle.world.specs.declared.side.Side.{Side}
 use Rattle.link_wires.specs.Notes.{side_of, AreNoted}
 use Rattle.world.specs.Nodes.{NodeStandsFor}

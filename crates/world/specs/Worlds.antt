@@ -6,9 +6,9 @@ use Rattle.trace_model.specs.declared.line.Header.{Header}
 use Rattle.trace_model.specs.declared.line.Line.{Line}
 use Rattle.trace_model.specs.declared.line.Line.TheVariants as saying
 use Rattle.history.specs.Histories.{History}
-use Rattle.lines_told.specs.Below.{IsPlayedLine, bare_link_behind, nodes_behind, misread_below}
-use Rattle.lines_told.specs.Plays.{AreFewPlays, Play, lines_played, lines_said, rounds_played, rounds_to_rest}
-use Rattle.lines_told.specs.Plays.Play.{Said, Round}
+use Rattle.lines_told.specs.lines.Below.{IsPlayedLine, bare_link_behind, nodes_behind, misread_below}
+use Rattle.lines_told.specs.lines.Plays.{AreFewPlays, Play, lines_played, lines_said, rounds_played, rounds_to_rest}
+use Rattle.lines_told.specs.lines.Plays.Play.{Said, Round}
 use Rattle.node_world.specs.Whole.{damaged_in}
 use Rattle.node_world.specs.Worlds.{IsNodeWorldBehind, MayCountAsRounds, nodes_entries}
 use Rattle.world.specs.declared.world_steps.World.{World}

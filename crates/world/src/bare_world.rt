@@ -2,13 +2,13 @@
 ghost use Rattle.std.specs.Prelude.{◌≡◌, ◌-◌, ◌+◌, [], ◌∷◌, ◌++◌, List, IfOk, OnOk, IfErr, None, length};
 ghost use Rattle.std.specs.List.{AllByRecursion};
 ghost use Rattle.trace_model.specs.Lines.{IsHeader, IsLineOf};
-ghost use Rattle.link_entries.specs.entries.Entries.End.{Controller};
+ghost use Rattle.link_laws.specs.entries.Entries.End.{Controller};
 ghost use Rattle.history.specs.Histories.{History, noted};
 ghost use Rattle.history.specs.Follows.{opening_of, host_of, outcome_of, misread, link_at, opened, with_step, frames_to};
 ghost use Rattle.history.specs.Steps.{end_of};
-ghost use Rattle.link_entries.specs.messages.Rest.{link_rests};
-ghost use Rattle.lines_told.specs.Plays.{Play, IsPlayFor, lines_played, lines_said, rounds_played, round_behind, told_of_play};
-ghost use Rattle.lines_told.specs.Plays.Play.{Said, Round};
+ghost use Rattle.link_laws.specs.messages.Rest.{link_rests};
+ghost use Rattle.lines_told.specs.lines.Plays.{Play, IsPlayFor, lines_played, lines_said, rounds_played, round_behind, told_of_play};
+ghost use Rattle.lines_told.specs.lines.Plays.Play.{Said, Round};
 ghost use Rattle.node_world.specs.Worlds.{AreFewWithParts};
 ghost use Rattle.world.specs.declared.fault.WorldFault.TheVariants as fault;
 

@@ -4,7 +4,7 @@ ghost use Rattle.trace_model.specs.declared.line.Header.{Header};
 ghost use Rattle.trace_model.specs.declared.line.Line.TheVariants as line;
 ghost use Rattle.trace_model.specs.declared.line.End.{End as NamedEnd};
 ghost use Rattle.trace_model.specs.Lines.{IsLineOf};
-ghost use Rattle.link_entries.specs.messages.Links.{Link};
+ghost use Rattle.link_laws.specs.messages.Links.{Link};
 ghost use Rattle.history.specs.Follows.{machine_of, misread};
 ghost use Rattle.world.specs.Lines.{SidesStandFor, Does, HaveSent, IsMisread, end_for};
 

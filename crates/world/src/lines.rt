@@ -2,7 +2,7 @@
 ghost use Rattle.std.specs.Prelude.{◌≡◌, ℕ, ◌+◌, ◌<◌, ◌≤◌, ◌^◌, [], List, length, not, OnOk, IfSome};
 ghost use Rattle.hcp_packet.specs.Packets.{IsSendable};
 ghost use Rattle.trace_model.specs.declared.line.Line.TheVariants as line;
-ghost use Rattle.link_entries.specs.messages.Links.{Link};
+ghost use Rattle.link_laws.specs.messages.Links.{Link};
 ghost use Rattle.history.specs.Follows.{machine_of};
 ghost use Rattle.world.specs.Lines.{SidesStandFor, Does};
 

@@ -1,7 +1,7 @@
 //! The node of a bare end: the end, the blocks of memory of its messages, and what is noted of the end.
 ghost use Rattle.std.specs.Prelude.{◌≡◌, ◌++◌, OnOk, IfOk, map, option_to_list};
 ghost use Rattle.trace_model.specs.declared.entry.Entry.{Entry};
-ghost use Rattle.link_entries.specs.entries.Entries.{if_so};
+ghost use Rattle.link_laws.specs.entries.Entries.{if_so};
 ghost use Rattle.block_pool.specs.Pool.{PoolState, IsLive, chain_bytes};
 
 use crate::forgetting::left_over;
@@ -42,13 +42,13 @@ impl Node {
     ghost use Rattle.swp_base.specs.declared.control_frames.Control.{Control as Frame};
     ghost use Rattle.swp_lpdu.specs.Controls.{lpdu_of, control_of};
     ghost use Rattle.hcp_packet.specs.Packets.{IsSendable};
-    ghost use Rattle.link_machine.specs.Machine.{LinkEnd as Machine, Bare, Message, report, new_link_end, after_input, next_frame, turn, give_refusal};
-    ghost use Rattle.link_machine.specs.Machine.{reset_refusal, whole_acked};
-    ghost use Rattle.link_machine.specs.AtRest.{end_rests};
-    ghost use Rattle.link_machine.specs.Machine.LinkInput.{Take, Tick, Reset, Fetch};
-    ghost use Rattle.link_machine.specs.Machine.Turn.{Give, Hold, FetchMessage};
-    ghost use Rattle.link_entries.specs.entries.Entries.{told};
-    ghost use Rattle.link_entries.specs.entries.Entries.Entry.{Got};
+    ghost use Rattle.link_laws.specs.machine.Machine.{LinkEnd as Machine, Bare, Message, report, new_link_end, after_input, next_frame, turn, give_refusal};
+    ghost use Rattle.link_laws.specs.machine.Machine.{reset_refusal, whole_acked};
+    ghost use Rattle.link_laws.specs.machine.AtRest.{end_rests};
+    ghost use Rattle.link_laws.specs.machine.Machine.LinkInput.{Take, Tick, Reset, Fetch};
+    ghost use Rattle.link_laws.specs.machine.Machine.Turn.{Give, Hold, FetchMessage};
+    ghost use Rattle.link_laws.specs.entries.Entries.{told};
+    ghost use Rattle.link_laws.specs.entries.Entries.Entry.{Got};
     ghost use Rattle.history.specs.Follows.{as_noted};
     ghost use Rattle.world.specs.Noting.{acked_on, reported};
     ghost use Rattle.link_wires.specs.Notes.{side_of};

@@ -1,7 +1,7 @@
 //! Lines on which the same happens again and again: frames are taken one after another, and time passes tick by tick.
 ghost use Rattle.std.specs.Prelude.{◌≡◌, ℕ, ◌+◌, ◌*◌, ◌<◌, ◌≤◌, ◌^◌, [], List, length, false, OnOk, IfSome};
 ghost use Rattle.trace_model.specs.declared.line.Line.TheVariants as line;
-ghost use Rattle.link_entries.specs.messages.Links.{Link};
+ghost use Rattle.link_laws.specs.messages.Links.{Link};
 ghost use Rattle.history.specs.Histories.Cause.{Taken, Ticked};
 ghost use Rattle.world.specs.Lines.{SidesStandFor, Does, HasCaused, HasRepeated, HaveSent};
 

@@ -1,8 +1,8 @@
 //! A round of a link: each end takes all that stands on its wire then, and time passes once.
 ghost use Rattle.std.specs.Prelude.{◌≡◌, ◌+◌, ◌<◌, ◌≤◌, ◌^◌, [], ◌∷◌, false, OnOk};
 ghost use Rattle.trace_model.specs.Ends.{other_end};
-ghost use Rattle.link_entries.specs.messages.Links.{Link};
-ghost use Rattle.lines_told.specs.Plays.{round_on, taking_on};
+ghost use Rattle.link_laws.specs.messages.Links.{Link};
+ghost use Rattle.lines_told.specs.lines.Plays.{round_on, taking_on};
 ghost use Rattle.world.specs.Lines.{SidesStandFor, DoesAll, HaveSent};
 
 use crate::repeats::{take_frames, tick};

@@ -1,10 +1,10 @@
 //! One side of a link: the node of an end, the frames on the way to it, and the numbers of RSETs that it knows.
 ghost use Rattle.std.specs.Prelude.{◌≡◌, ◌&&◌, [], List, IfOk, max};
 ghost use Rattle.link_laws.specs.sessions.Sessions.{OnWire};
-ghost use Rattle.link_machine.specs.Machine.{Bare, new_link_end};
-ghost use Rattle.link_machine.specs.AtRest.{end_rests};
-ghost use Rattle.link_entries.specs.messages.Links.{NumberedEnd, new_numbered_end};
-ghost use Rattle.link_entries.specs.messages.Rest.{is_clear};
+ghost use Rattle.link_laws.specs.machine.Machine.{Bare, new_link_end};
+ghost use Rattle.link_laws.specs.machine.AtRest.{end_rests};
+ghost use Rattle.link_laws.specs.messages.Links.{NumberedEnd, new_numbered_end};
+ghost use Rattle.link_laws.specs.messages.Rest.{is_clear};
 ghost use Rattle.world.specs.Sides.{SideStandsFor};
 
 use crate::node::{Node, Place};

@@ -6,9 +6,9 @@ ghost use Rattle.trace_model.specs.declared.entry.Entry.TheVariants.{Echo, Settl
 ghost use Rattle.trace_model.specs.declared.line.Header.{Header as Named};
 ghost use Rattle.trace_model.specs.declared.line.Line.{Line as Spoken};
 ghost use Rattle.trace_model.specs.declared.line.Line.TheVariants as line;
-ghost use Rattle.lines_told.specs.Below.{IsPlayedLine, memory_behind, nodes_behind, opening_told, told_below, misread_below};
-ghost use Rattle.lines_told.specs.Plays.{IsPlayFor, Play, lines_played, lines_said, rests_behind, rounds_played, told_of_play};
-ghost use Rattle.lines_told.specs.Plays.Play.{Said, Round};
+ghost use Rattle.lines_told.specs.lines.Below.{IsPlayedLine, memory_behind, nodes_behind, opening_told, told_below, misread_below};
+ghost use Rattle.lines_told.specs.lines.Plays.{IsPlayFor, Play, lines_played, lines_said, rests_behind, rounds_played, told_of_play};
+ghost use Rattle.lines_told.specs.lines.Plays.Play.{Said, Round};
 ghost use Rattle.node_world.specs.Worlds.{AreFewWithParts, IsPeekedSo};
 ghost use Rattle.world.specs.declared.fault.WorldFault.TheVariants as fault;
 ghost use Rattle.world.specs.Worlds.{StandsBelow, last_noted};
@@ -122,7 +122,7 @@ pub struct World {
 impl World {
     ghost use Rattle.world.specs.Worlds.{IsWorldAt, HasRoomForLine, HasRoomToSettle, IsFaultThere, world_header, world_entries};
     ghost use Rattle.world.specs.Worlds.{StandsBehind, IsWorldWithin, HasRoomForPart, HasComeTo, IsPartLine, MayBeMarked};
-    ghost use Rattle.lines_told.specs.Below.{frames_below, runs_below};
+    ghost use Rattle.lines_told.specs.lines.Below.{frames_below, runs_below};
 
     /// The world that a header names. Below a bare one both ends of its link are Up in session 0, and no frame is on its way; below that
     /// of nodes no node runs yet, and all memories are blank.

@@ -5,9 +5,9 @@ use Rattle.std.specs.Prelude.{replicate, if◌then◌else◌}
 use Rattle.trace_model.specs.declared.entry.Entry.{Entry}
 use Rattle.trace_model.specs.declared.line.Header.{Header}
 use Rattle.trace_model.specs.declared.line.Line.{Line}
-use Rattle.lines_told.specs.Plays.{Play, lines_played, rests_behind, round_behind, rounds_to_rest, told_behind, told_of_play, told_of_rounds}
-use Rattle.lines_told.specs.Plays.Play.{Said, Round}
-use Rattle.lines_told.proofs.Plays.{played_more, round_first, round_last}
+use Rattle.lines_told.specs.lines.Plays.{Play, lines_played, rests_behind, round_behind, rounds_to_rest, told_behind, told_of_play, told_of_rounds}
+use Rattle.lines_told.specs.lines.Plays.Play.{Said, Round}
+use Rattle.lines_told.proofs.lines.Plays.{played_more, round_first, round_last}
 use Rattle.world.specs.declared.world_steps.World.{World}
 use Rattle.world.specs.Worlds.{HasComeTo, IsWorldAt, IsWorldWithin, StandsBehind, world_header}
 use Rattle.world.proofs.Playing.{played_parts, rests_alike}

@@ -7,9 +7,9 @@ use Rattle.trace_model.specs.declared.line.End.{End}
 use Rattle.trace_model.specs.declared.line.Header.{Header}
 use Rattle.trace_model.specs.declared.line.Line.{Line}
 use Rattle.trace_model.specs.declared.line.Line.TheVariants as saying
-use Rattle.lines_told.specs.Below.{told_below}
-use Rattle.lines_told.specs.Plays.{Play, lines_played, round_behind, told_behind}
-use Rattle.lines_told.proofs.Told.{behind-append}
+use Rattle.lines_told.specs.lines.Below.{told_below}
+use Rattle.lines_told.specs.lines.Plays.{Play, lines_played, round_behind, told_behind}
+use Rattle.lines_told.proofs.lines.Told.{behind-append}
 use Rattle.world.specs.declared.world_steps.World.{World}
 use Rattle.world.specs.RoundParts.{ends_of_links, has_to_take, round_left, taking_below, taking_where}
 use Rattle.world.specs.Worlds.{HasRoomForPart, IsWorldWithin, world_header}

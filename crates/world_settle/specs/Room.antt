@@ -1,7 +1,7 @@
 -- Which world has room to settle.
 use Rattle.std.specs.Prelude.{ℕ, ◌+◌, ◌≤◌, List, [], length}
 use Rattle.trace_model.specs.declared.line.Line.{Line}
-use Rattle.lines_told.specs.Plays.{Play, rounds_played}
+use Rattle.lines_told.specs.lines.Plays.{Play, rounds_played}
 use Rattle.world.specs.declared.world_steps.World.{World}
 use Rattle.world.specs.Worlds.{IsWorldAt, IsWorldWithin, world_header}
 

@@ -2,8 +2,8 @@
 //! `settle_after_lost_ack`, `settle_busy` and `settle_quiet`.
 ghost use Rattle.std.specs.Prelude.{◌≡◌, ◌<◌, ◌≤◌, [], ◌∷◌, List, length, All, false, true};
 ghost use Rattle.trace_model.specs.declared.line.Line.TheVariants as line;
-ghost use Rattle.lines_told.specs.Below.{IsPlayedLine};
-ghost use Rattle.lines_told.specs.Plays.{Play, rounds_played};
+ghost use Rattle.lines_told.specs.lines.Below.{IsPlayedLine};
+ghost use Rattle.lines_told.specs.lines.Plays.{Play, rounds_played};
 ghost use Rattle.world.specs.Worlds.{IsWorldAt, world_header};
 
 use crate::settle;

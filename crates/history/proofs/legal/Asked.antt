@@ -9,8 +9,8 @@ use Rattle.trace_model.specs.declared.line.Line.{Line}
 use Rattle.trace_model.specs.declared.line.Line.TheVariants.{Send, Deliver, Lose, Damage, Tick, Reset, Busy, Ready, Boot, Cut, Activate, Arm, Init, Tables}
 use Rattle.trace_model.specs.declared.line.Line.TheVariants.{Settle}
 use Rattle.trace_model.specs.Lines.{IsLineOf, IsEndOf, IsHeader}
-use Rattle.link_machine.specs.Machine.{Refused as EndRefused, reset_refusal}
-use Rattle.link_entries.specs.messages.Links.{Link}
+use Rattle.link_laws.specs.machine.Machine.{Refused as EndRefused, reset_refusal}
+use Rattle.link_laws.specs.messages.Links.{Link}
 use Rattle.history.specs.Histories.{Cause, Event, Outcome, Step, events_of, causes_of}
 use Rattle.history.specs.Histories.Cause.{Given, Taken, WasLost, Ticked, WasReset, Readied}
 use Rattle.history.specs.Histories.Outcome.{Refused, Caused}

@@ -7,15 +7,15 @@ use Rattle.trace_model.specs.declared.entry.Entry.{Entry}
 use Rattle.trace_model.specs.declared.line.Header.{Header}
 use Rattle.trace_model.specs.declared.line.Line.{Line}
 use Rattle.trace_model.specs.Lines.{IsLineOf, IsHeader}
-use Rattle.link_machine.specs.Machine.{Message}
-use Rattle.link_entries.specs.messages.Links.{Link, number_of, after_link_events}
-use Rattle.link_entries.specs.messages.Links.IsStart.{IsBare}
-use Rattle.link_entries.specs.entries.Entries.{Entry as Noted}
-use Rattle.link_entries.specs.entries.Entries.End.{Controller, Host}
-use Rattle.link_entries.specs.entries.Reading.{Seen, see_all, nothing_seen}
-use Rattle.link_entries.specs.entries.Quiet.{disturbs, since, IsQuietSince, IsDeliveredOnLink as LinkDelivered}
-use Rattle.link_entries.proofs.entries.Ages.{read_off}
-use Rattle.link_entries.proofs.entries.Delivering.{quiet_here, quiet_there}
+use Rattle.link_laws.specs.machine.Machine.{Message}
+use Rattle.link_laws.specs.messages.Links.{Link, number_of, after_link_events}
+use Rattle.link_laws.specs.messages.Links.IsStart.{IsBare}
+use Rattle.link_laws.specs.entries.Entries.{Entry as Noted}
+use Rattle.link_laws.specs.entries.Entries.End.{Controller, Host}
+use Rattle.link_laws.specs.entries.Reading.{Seen, see_all, nothing_seen}
+use Rattle.link_laws.specs.entries.Quiet.{disturbs, since, IsQuietSince, IsDeliveredOnLink as LinkDelivered}
+use Rattle.link_laws.proofs.entries.Ages.{read_off}
+use Rattle.link_laws.proofs.entries.Delivering.{quiet_here, quiet_there}
 use Rattle.history.specs.Histories.{Event, History, causes_of}
 use Rattle.history.specs.Filters.{session_number, wire_to}
 use Rattle.history.specs.Legal.{IsReadQuiet, IsDelivered, IsComplete, Complete, since_up, has_lost, has_rnr}
@@ -24,7 +24,7 @@ use Rattle.history.specs.Follows.{Follows, host_of}
 use Rattle.history.proofs.legal.Runs.{AreOf, link_events, of_front, of_allowed, of_can}
 use Rattle.history.proofs.legal.Noted.{sent-all, got-all, acked-all, unsaid}
 use Rattle.history.proofs.legal.Ordered.{IsRun, is_run, notes_of, run_entries, same_link}
-use Rattle.link_entries.proofs.entries.Hearing.{session_up}
+use Rattle.link_laws.proofs.entries.Hearing.{session_up}
 use Rattle.history.proofs.legal.Sessions.{controller_heard, host_heard}
 use Rattle.history.proofs.legal.Plain.{plain_trace}
 use Rattle.history.proofs.legal.Reading.{session-all, none_session, no_bytes, wire-controller, wire-host, since-all, plain_since, undisturbed}

@@ -6,14 +6,14 @@ use Rattle.std.proofs.lemmas.List.Elements.{filter_map-append}
 use Rattle.swp_base.specs.declared.link_terms.Cause.TheVariants.{Asked, NoAnswer, Peer, Act as ByAct, Chain}
 use Rattle.trace_model.specs.declared.entry.Entry.{Entry}
 use Rattle.trace_model.specs.declared.line.End.{End}
-use Rattle.link_machine.specs.Machine.{Message}
-use Rattle.link_entries.specs.entries.Entries.{End as Side, Entry as Noted}
-use Rattle.link_entries.specs.entries.Entries.End.{Controller, Host}
-use Rattle.link_entries.specs.entries.Entries.Entry.{Up, Down, Active, GaveUp, Acked, Got, Sent, Emit, Took, Lost, Tick, Restarted, Cut}
-use Rattle.link_entries.specs.entries.Filters.{same_link_end as same_side, sent_noted as link_sent, got_noted as link_got, acked_noted as link_acked}
-use Rattle.link_entries.specs.entries.Order.{is_noted_chain_fault as link_fault}
-use Rattle.link_entries.proofs.entries.Lasting.{same_number}
-use Rattle.link_entries.proofs.entries.Books.{Book, read-append}
+use Rattle.link_laws.specs.machine.Machine.{Message}
+use Rattle.link_laws.specs.entries.Entries.{End as Side, Entry as Noted}
+use Rattle.link_laws.specs.entries.Entries.End.{Controller, Host}
+use Rattle.link_laws.specs.entries.Entries.Entry.{Up, Down, Active, GaveUp, Acked, Got, Sent, Emit, Took, Lost, Tick, Restarted, Cut}
+use Rattle.link_laws.specs.entries.Filters.{same_link_end as same_side, sent_noted as link_sent, got_noted as link_got, acked_noted as link_acked}
+use Rattle.link_laws.specs.entries.Order.{is_noted_chain_fault as link_fault}
+use Rattle.link_laws.proofs.entries.Lasting.{same_number}
+use Rattle.link_laws.proofs.entries.Books.{Book, read-append}
 use Rattle.history.specs.Filters.{Saying, same_end, at_end, said_of, sent_by, got_in_session, acked_after, sent_in, got_in, acked_in}
 use Rattle.history.specs.Filters.Saying.{Begins, Ends, Sends, Gets, Counts}
 use Rattle.history.specs.Legal.{is_chain_fault}

@@ -10,14 +10,14 @@ use Rattle.trace_model.specs.declared.line.Header.{Header}
 use Rattle.trace_model.specs.declared.line.Line.{Line}
 use Rattle.trace_model.specs.Ends.{other_end}
 use Rattle.trace_model.specs.Lines.{IsLineOf, IsHeader}
-use Rattle.link_machine.specs.Machine.{Message}
-use Rattle.link_entries.specs.messages.Links.IsStart.{IsBare}
-use Rattle.link_entries.specs.entries.Entries.{End as Side, Entry as Noted, trace}
-use Rattle.link_entries.specs.entries.Entries.End.{Controller, Host}
-use Rattle.link_entries.specs.entries.Entries.Entry.{Up, Down, Active, GaveUp, Acked, Got, Sent, Emit, Took, Lost, Tick, Restarted, Cut}
-use Rattle.link_entries.specs.entries.Order.{InOrderIn}
-use Rattle.link_entries.proofs.entries.Running.{at_each_moment}
-use Rattle.link_entries.proofs.entries.Chains.{no_chain_noted}
+use Rattle.link_laws.specs.machine.Machine.{Message}
+use Rattle.link_laws.specs.messages.Links.IsStart.{IsBare}
+use Rattle.link_laws.specs.entries.Entries.{End as Side, Entry as Noted, trace}
+use Rattle.link_laws.specs.entries.Entries.End.{Controller, Host}
+use Rattle.link_laws.specs.entries.Entries.Entry.{Up, Down, Active, GaveUp, Acked, Got, Sent, Emit, Took, Lost, Tick, Restarted, Cut}
+use Rattle.link_laws.specs.entries.Order.{InOrderIn}
+use Rattle.link_laws.proofs.entries.Running.{at_each_moment}
+use Rattle.link_laws.proofs.entries.Chains.{no_chain_noted}
 use Rattle.history.specs.Histories.{Event, History, entries_of, all_events, all_entries}
 use Rattle.history.specs.Filters.{sent_in, got_in, acked_in}
 use Rattle.history.specs.Legal.{IsInOrder, Prefix, is_chain_fault}

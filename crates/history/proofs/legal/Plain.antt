@@ -11,20 +11,20 @@ use Rattle.shdlc_core.specs.Machine.{EndState, Fragment, frame_due, fragment_due
 use Rattle.swp_lpdu.specs.Controls.{HasNumbers}
 use Rattle.trace_model.specs.declared.line.End.{End as NamedEnd}
 use Rattle.link_laws.specs.sessions.Sessions.{OnWire, took_with}
-use Rattle.link_machine.specs.Machine.{LinkEnd, ActDue, Refused, LinkInput, Turn, Report, report, whole_acked, turn, turned, give_refusal, after_input}
-use Rattle.link_machine.specs.Machine.{ended_by, among, frames_out}
-use Rattle.link_machine.specs.Machine.LinkInput.{Take, Tick as HasTick, Reset}
-use Rattle.link_machine.specs.Machine.Turn.{Give, Hold, FetchMessage, SetAside, Release}
-use Rattle.link_entries.specs.messages.Links.{NumberedEnd, Link, Loss, EndEvent, exchanged, number_of, put, with_ended, ticks_at_controller, aged, happens}
-use Rattle.link_entries.specs.messages.Links.Ending.{GoesOut, CutOff}
-use Rattle.link_entries.specs.messages.Links.Comes.{NextFrame, AsksReset, Starts, Stops, NoInput}
-use Rattle.link_entries.specs.messages.Links.EndEvent.{Step as EndStep, Lose}
-use Rattle.link_entries.specs.messages.Links.Loss.{TooMany}
-use Rattle.link_entries.specs.entries.Entries.{End, Entry, far, if_so, told, told_of, turn_entry, turn_entries, sent_unless, first_lost, wire_with, put_entries}
-use Rattle.link_entries.specs.entries.Entries.{puts_entries, rest_entries, left_after, taken_entries, step_entries, here_entries, aged_entries, tick_entries}
-use Rattle.link_entries.specs.entries.Entries.{event_entries, entries, trace}
-use Rattle.link_entries.specs.entries.Entries.End.{Controller, Host}
-use Rattle.link_entries.specs.entries.Entries.Entry.{Up, Down, Active, GaveUp, Acked, Got, Emit, Restarted, Cut}
+use Rattle.link_laws.specs.machine.Machine.{LinkEnd, ActDue, Refused, LinkInput, Turn, Report, report, whole_acked, turn, turned, give_refusal, after_input}
+use Rattle.link_laws.specs.machine.Machine.{ended_by, among, frames_out}
+use Rattle.link_laws.specs.machine.Machine.LinkInput.{Take, Tick as HasTick, Reset}
+use Rattle.link_laws.specs.machine.Machine.Turn.{Give, Hold, FetchMessage, SetAside, Release}
+use Rattle.link_laws.specs.messages.Links.{NumberedEnd, Link, Loss, EndEvent, exchanged, number_of, put, with_ended, ticks_at_controller, aged, happens}
+use Rattle.link_laws.specs.messages.Links.Ending.{GoesOut, CutOff}
+use Rattle.link_laws.specs.messages.Links.Comes.{NextFrame, AsksReset, Starts, Stops, NoInput}
+use Rattle.link_laws.specs.messages.Links.EndEvent.{Step as EndStep, Lose}
+use Rattle.link_laws.specs.messages.Links.Loss.{TooMany}
+use Rattle.link_laws.specs.entries.Entries.{End, Entry, far, if_so, told, told_of, turn_entry, turn_entries, sent_unless, first_lost, wire_with, put_entries}
+use Rattle.link_laws.specs.entries.Entries.{puts_entries, rest_entries, left_after, taken_entries, step_entries, here_entries, aged_entries, tick_entries}
+use Rattle.link_laws.specs.entries.Entries.{event_entries, entries, trace}
+use Rattle.link_laws.specs.entries.Entries.End.{Controller, Host}
+use Rattle.link_laws.specs.entries.Entries.Entry.{Up, Down, Active, GaveUp, Acked, Got, Emit, Restarted, Cut}
 use Rattle.history.specs.Histories.{Cause}
 use Rattle.history.specs.Histories.Cause.{Given, Taken, WasLost, Ticked, WasReset, Readied}
 use Rattle.history.specs.Steps.{at, idle, event_of, bare_link}

@@ -11,20 +11,20 @@ use Rattle.trace_model.specs.declared.entry.Entry.{Entry}
 use Rattle.trace_model.specs.declared.line.End.{End}
 use Rattle.trace_model.specs.Ends.{other_end}
 use Rattle.link_laws.specs.sessions.Sessions.{OnWire, older}
-use Rattle.link_entries.specs.messages.Links.{Loss}
-use Rattle.link_entries.specs.entries.Entries.{End as Side, Entry as Noted}
-use Rattle.link_entries.specs.entries.Entries.End.{Controller, Host}
-use Rattle.link_entries.specs.entries.Entries.Entry.{Up, Down, Active, GaveUp, Acked, Got, Sent, Emit, Took, Lost, Tick, Restarted, Cut}
-use Rattle.link_entries.specs.entries.Filters.{same_link_end as same_side}
-use Rattle.link_entries.specs.entries.Reading.{Seen, see, see_all, numbered}
-use Rattle.link_entries.specs.entries.Quiet.{disturbs, begins, since}
-use Rattle.link_entries.proofs.entries.Lasting.{same_number}
+use Rattle.link_laws.specs.messages.Links.{Loss}
+use Rattle.link_laws.specs.entries.Entries.{End as Side, Entry as Noted}
+use Rattle.link_laws.specs.entries.Entries.End.{Controller, Host}
+use Rattle.link_laws.specs.entries.Entries.Entry.{Up, Down, Active, GaveUp, Acked, Got, Sent, Emit, Took, Lost, Tick, Restarted, Cut}
+use Rattle.link_laws.specs.entries.Filters.{same_link_end as same_side}
+use Rattle.link_laws.specs.entries.Reading.{Seen, see, see_all, numbered}
+use Rattle.link_laws.specs.entries.Quiet.{disturbs, begins, since}
+use Rattle.link_laws.proofs.entries.Lasting.{same_number}
 use Rattle.history.specs.Filters.{Saying, same_end, said_of, session_after, session_number, wire_after, wire_to}
 use Rattle.history.specs.Filters.Saying.{Begins, Ends, Sends, Gets, Counts, Puts, Takes, Loses}
 use Rattle.history.specs.Legal.{begins_on, since_up, has_lost, has_rnr, is_rnr_lpdu}
 use Rattle.history.specs.Steps.{end_of, entries_for}
 use Rattle.history.proofs.legal.Noted.{same_as, if_said, Unsaid}
-use Rattle.link_entries.proofs.entries.Hearing.{heard}
+use Rattle.link_laws.proofs.entries.Hearing.{heard}
 use Rattle.history.proofs.legal.Plain.{ArePlain}
 
 -- ## Sessions

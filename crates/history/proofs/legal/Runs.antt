@@ -12,8 +12,8 @@ use Rattle.trace_model.specs.declared.line.Line.TheVariants.{Send, Deliver, Lose
 use Rattle.trace_model.specs.declared.line.Line.TheVariants.{Settle}
 use Rattle.trace_model.specs.Lines.{IsLineOf}
 use Rattle.hcp_packet.specs.Packets.{IsSendable}
-use Rattle.link_entries.specs.messages.Links.{Link, LinkEvent, EndEvent, IsWindow, IsEvent, IsAllowed, AllAllowed, exchanged}
-use Rattle.link_entries.specs.entries.Entries.{entries, event_entries}
+use Rattle.link_laws.specs.messages.Links.{Link, LinkEvent, EndEvent, IsWindow, IsEvent, IsAllowed, AllAllowed, exchanged}
+use Rattle.link_laws.specs.entries.Entries.{entries, event_entries}
 use Rattle.history.specs.Histories.{Cause, Event, Outcome, Step, events_of, entries_of, causes_of}
 use Rattle.history.specs.Histories.Cause.{Given, Taken, WasLost, Ticked, WasReset, Readied}
 use Rattle.history.specs.Histories.Outcome.{Refused, Caused}

@@ -1,12 +1,12 @@
 -- What is noted of the events of causes says which sessions both ends have.
 use Rattle.std.proofs.Common.{◌≡◌, List, [], ◌∷◌, map, None}
-use Rattle.link_entries.specs.messages.Links.{Link, after_link_events, happens, AllAllowed}
-use Rattle.link_entries.specs.messages.Links.IsStart.{IsBare}
-use Rattle.link_entries.specs.entries.Entries.{trace}
-use Rattle.link_entries.specs.entries.Entries.End.{Controller, Host}
-use Rattle.link_entries.specs.entries.Sessions.{number_now}
-use Rattle.link_entries.proofs.entries.Hearing.{heard}
-use Rattle.link_entries.proofs.entries.Heard.{controller_heard as link_controller, host_heard as link_host}
+use Rattle.link_laws.specs.messages.Links.{Link, after_link_events, happens, AllAllowed}
+use Rattle.link_laws.specs.messages.Links.IsStart.{IsBare}
+use Rattle.link_laws.specs.entries.Entries.{trace}
+use Rattle.link_laws.specs.entries.Entries.End.{Controller, Host}
+use Rattle.link_laws.specs.entries.Sessions.{number_now}
+use Rattle.link_laws.proofs.entries.Hearing.{heard}
+use Rattle.link_laws.proofs.entries.Heard.{controller_heard as link_controller, host_heard as link_host}
 use Rattle.history.specs.Histories.{Cause}
 use Rattle.history.specs.Steps.{event_of, bare_link}
 use Rattle.history.proofs.legal.Runs.{CanAll, can_event}

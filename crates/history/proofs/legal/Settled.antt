@@ -11,23 +11,23 @@ use Rattle.trace_model.specs.declared.line.Line.{Line}
 use Rattle.trace_model.specs.Ends.{other_end}
 use Rattle.trace_model.specs.Lines.{IsLineOf, IsHeader}
 use Rattle.shdlc_core.specs.Machine.{is_waiting}
-use Rattle.link_machine.specs.Machine.{reset_refusal}
-use Rattle.link_entries.specs.messages.Links.Ending.{GoesOut}
-use Rattle.link_entries.specs.messages.Links.Comes.{AsksReset}
-use Rattle.link_entries.specs.messages.Links.EndEvent.{Step as EndStep}
-use Rattle.link_entries.specs.messages.Links.IsStart.{IsBare}
-use Rattle.link_entries.specs.messages.Settled.{AreUpTogether as LinkTogether}
-use Rattle.link_entries.proofs.messages.Whole.{start_good, start_reached}
-use Rattle.link_entries.specs.entries.Entries.End.{Controller, Host}
-use Rattle.link_entries.specs.entries.Entries.Entry.{Up, Down, Active, GaveUp, Acked, Got, Sent, Emit, Took, Lost, Tick, Restarted, Cut}
-use Rattle.link_entries.specs.messages.Links.{Link, LinkEvent, happens, after_link_events, number_of, AllAllowed}
-use Rattle.link_entries.specs.messages.Projection.{core_of, core_event}
-use Rattle.link_entries.proofs.messages.Runs.{Good, Reached, reached_more, event_step}
-use Rattle.link_entries.specs.entries.Entries.{Entry as Noted, event_entries, entries, first_entries}
-use Rattle.link_entries.specs.entries.Settled.{IsReset, rest_of, withholds}
-use Rattle.link_entries.proofs.entries.Running.{Noted as IsNoted, note_event, start_noted}
-use Rattle.link_entries.proofs.entries.Sparing.{Spared, Stands, or_none, none_withheld}
-use Rattle.link_entries.proofs.entries.Together.{AreActive, event_goes, together}
+use Rattle.link_laws.specs.machine.Machine.{reset_refusal}
+use Rattle.link_laws.specs.messages.Links.Ending.{GoesOut}
+use Rattle.link_laws.specs.messages.Links.Comes.{AsksReset}
+use Rattle.link_laws.specs.messages.Links.EndEvent.{Step as EndStep}
+use Rattle.link_laws.specs.messages.Links.IsStart.{IsBare}
+use Rattle.link_laws.specs.messages.Settled.{AreUpTogether as LinkTogether}
+use Rattle.link_laws.proofs.messages.Whole.{start_good, start_reached}
+use Rattle.link_laws.specs.entries.Entries.End.{Controller, Host}
+use Rattle.link_laws.specs.entries.Entries.Entry.{Up, Down, Active, GaveUp, Acked, Got, Sent, Emit, Took, Lost, Tick, Restarted, Cut}
+use Rattle.link_laws.specs.messages.Links.{Link, LinkEvent, happens, after_link_events, number_of, AllAllowed}
+use Rattle.link_laws.specs.messages.Projection.{core_of, core_event}
+use Rattle.link_laws.proofs.messages.Runs.{Good, Reached, reached_more, event_step}
+use Rattle.link_laws.specs.entries.Entries.{Entry as Noted, event_entries, entries, first_entries}
+use Rattle.link_laws.specs.entries.Settled.{IsReset, rest_of, withholds}
+use Rattle.link_laws.proofs.entries.Running.{Noted as IsNoted, note_event, start_noted}
+use Rattle.link_laws.proofs.entries.Sparing.{Spared, Stands, or_none, none_withheld}
+use Rattle.link_laws.proofs.entries.Together.{AreActive, event_goes, together}
 use Rattle.history.proofs.legal.Runs.{AreOf, CanAll, can_event, link_events, of_front, of_entries, of_allowed, of_can}
 use Rattle.history.proofs.legal.Plain.{ArePlain, plain_event, plain_entries, plain_trace}
 use Rattle.history.specs.Histories.{Cause, Event, History, entries_of, causes_of, all_events}
@@ -37,7 +37,7 @@ use Rattle.history.specs.Legal.{has_lost, has_rset, AreReadUpTogether, Settled}
 use Rattle.history.specs.Steps.{at, event_of, end_of, entries_for, bare_link, link_after, link_after_all}
 use Rattle.history.specs.Follows.{machine_of, Follows, host_of}
 use Rattle.history.proofs.legal.Ordered.{IsRun, is_run, notes_of, run_entries}
-use Rattle.link_entries.proofs.entries.Hearing.{up_session}
+use Rattle.link_laws.proofs.entries.Hearing.{up_session}
 use Rattle.history.proofs.legal.Sessions.{controller_heard, host_heard}
 use Rattle.history.proofs.legal.Reading.{session-all, link_same}
 use Rattle.history.proofs.legal.Complete.{link_now, empty_controller, empty_host}

@@ -3,8 +3,8 @@ use Rattle.std.proofs.Common.{◌≡◌, ℕ, List, [], ◌∷◌, refl}
 use Rattle.std.specs.List.{AllByRecursion}
 use Rattle.trace_model.specs.declared.entry.Entry.{Entry}
 use Rattle.trace_model.specs.declared.entry.Entry.TheVariants as entry
-use Rattle.link_entries.specs.entries.Entries.{End as Side, Entry as Noted}
-use Rattle.link_entries.specs.entries.Entries.Entry.{Up, Down, Active, GaveUp, Acked, Got, Sent, Emit, Took, Lost, Tick, Restarted, Cut}
+use Rattle.link_laws.specs.entries.Entries.{End as Side, Entry as Noted}
+use Rattle.link_laws.specs.entries.Entries.Entry.{Up, Down, Active, GaveUp, Acked, Got, Sent, Emit, Took, Lost, Tick, Restarted, Cut}
 use Rattle.history.specs.Steps.{entry_of}
 use Rattle.node_machine.specs.Parts.{Port, Work, Deed}
 use Rattle.node_machine.specs.Parts.Deed.{Commits, Sends, SaysOk, Asks, Releases, Tells, IsAnswered, Drops, SetsErrors, Orders, Hears, GoesOn, Ends}
@@ -12,7 +12,7 @@ use Rattle.node_machine.specs.Carrying.{own_side}
 use Rattle.node_machine.specs.Turns.{deeds_of}
 use Rattle.node_machine.specs.Node.{NodeInput, steps}
 use Rattle.node_laws.proofs.telling.Mute.{IsPlain, IsMute, AreMute, deeds_mute}
-use Rattle.node_order.proofs.readings.Noting.{IsOwnNote, IsBeside, NotesSo, steps_note}
+use Rattle.node_laws.proofs.readings.Noting.{IsOwnNote, IsBeside, NotesSo, steps_note}
 use Rattle.lone_laws.specs.alone.Ends.{EndForm, entry_written}
 
 -- nothing is written for an entry

@@ -8,15 +8,15 @@ use Rattle.swp_lpdu.specs.Controls.{lpdu_of}
 use Rattle.trace_model.specs.declared.entry.Entry.{Entry}
 use Rattle.trace_model.specs.declared.entry.Entry.TheVariants as entry
 use Rattle.trace_model.specs.declared.line.End.{End}
-use Rattle.link_machine.specs.Machine.{Message, LinkInput, oldest}
-use Rattle.link_machine.specs.Machine.Turn.{Hold}
+use Rattle.link_laws.specs.machine.Machine.{Message, LinkInput, oldest}
+use Rattle.link_laws.specs.machine.Machine.Turn.{Hold}
 use Rattle.node_machine.specs.Parts.{Core, Running, Port, Work, Deed}
 use Rattle.node_machine.specs.Carrying.{end_of_node, noting, noted_of, port_at, with_desk, after_turn, turn_at}
 use Rattle.node_machine.specs.Turns.{deeds_of, handles, holds_back}
 use Rattle.node_laws.proofs.steps.StepWalks.{lets}
-use Rattle.node_order.specs.passes.Passing.{LastsOverTurns, ComesTo, IsTurnSo, BeginWithTurn, link_of_turn, waiting_at, lacking, takes_up}
-use Rattle.node_order.specs.passes.Noting.{noted_by_deeds}
-use Rattle.node_order.proofs.passes.Passing.{comes_so}
+use Rattle.node_laws.specs.passes.Passing.{LastsOverTurns, ComesTo, IsTurnSo, BeginWithTurn, link_of_turn, waiting_at, lacking, takes_up}
+use Rattle.node_laws.specs.passes.Noting.{noted_by_deeds}
+use Rattle.node_laws.proofs.passes.Passing.{comes_so}
 use Rattle.lone_laws.specs.alone.Lone.{Lone, LoneCause, end_of_node_alone, lone_input, emits_behind, session_with}
 use Rattle.lone_laws.specs.alone.Known.{RecErrors, left_since, talk_since, reply_since, lack_since, first_lack_since}
 use Rattle.lone_laws.specs.alone.Answers.{AnswersAlone, IsRepliedAlone, IsHeldAlone, noted_since, entries_of_deeds}
@@ -25,7 +25,7 @@ use Rattle.lone_laws.proofs.answered.Turning.{IsHere, alone_here}
 use Rattle.lone_laws.proofs.answered.Lasting.{LoneKeeps}
 use Rattle.lone_laws.proofs.answered.Ordered.{begin_read, OrderAt, pass_noted, begun, ended, noted, entries_are, in_order}
 use Rattle.lone_laws.proofs.answered.Knowing.{KnowsAlone, knows_lasts}
-use Rattle.answer_laws.proofs.worlds.Late.{BeginsBehind}
+use Rattle.node_laws.proofs.worlds.Late.{BeginsBehind}
 use Rattle.lone_laws.proofs.answered.Replying.{session_of_end, IsMuteEntry, AreUntil, mute_then, mutes_then, turn_then, deeds_answer, noted_answers}
 use Rattle.lone_laws.proofs.answered.Errors.{errs_all, errs-append, IsSettled, settled_errs, desk_errors, errors_with}
 use Rattle.lone_laws.proofs.answered.Replied.{begin_errs, found, KnowsAll, lack_read, deeds_read, core_read, session_read, same_link, own_port}

@@ -7,9 +7,9 @@ use Rattle.trace_model.specs.declared.entry.Entry.{Entry}
 use Rattle.trace_model.specs.declared.line.End.{End}
 use Rattle.swp_act.specs.declared.ActEvent.TheVariants.{Start as ActStart, Tick as ActTick, Stop as ActStop}
 use Rattle.shdlc_core.specs.Machine.{ticked, tick_answer, stopped}
-use Rattle.link_machine.specs.Machine.{LinkEnd, LinkInput, is_open, moved, had_tick, started, deactivated, after_input, got_by, report, whole_acked}
-use Rattle.link_machine.specs.Machine.LinkInput.{Take, TakeUnknown, TakeBroken, Tick, Reset, Start, Stop, FromNode, Fetch}
-use Rattle.link_machine.proofs.Kept.{moved_got, activated_got, reset_got, took_got}
+use Rattle.link_laws.specs.machine.Machine.{LinkEnd, LinkInput, is_open, moved, had_tick, started, deactivated, after_input, got_by, report, whole_acked}
+use Rattle.link_laws.specs.machine.Machine.LinkInput.{Take, TakeUnknown, TakeBroken, Tick, Reset, Start, Stop, FromNode, Fetch}
+use Rattle.link_laws.proofs.machine.Kept.{moved_got, activated_got, reset_got, took_got}
 use Rattle.history.specs.Filters.{same_end}
 use Rattle.history.specs.Steps.{end_of}
 use Rattle.node_machine.specs.Parts.{Core, Port, Work}
@@ -19,7 +19,7 @@ use Rattle.node_machine.specs.Node.{forgets, is_over}
 use Rattle.node_machine.specs.Node.{all_owed, without_notice, after_sessions}
 use Rattle.node_machine.specs.Node.NodeInput.{AtEnd, TimePasses}
 use Rattle.node_laws.proofs.steps.StepWalks.{unless}
-use Rattle.node_order.specs.passes.Steps.{has_come_so, syncs_in, has_freed, has_synced, comes_to_pass}
+use Rattle.node_laws.specs.passes.Steps.{has_come_so, syncs_in, has_freed, has_synced, comes_to_pass}
 use Rattle.lone_laws.specs.alone.Lone.{end_of_node_alone, node_input}
 use Rattle.lone_laws.proofs.answered.Reading.{eqb_same, Read, read_all, told_read, reads_of, Alone, read_more}
 use Rattle.lone_laws.proofs.answered.Turning.{same_self, own_end}

@@ -20,21 +20,22 @@ use Rattle.trace_model.specs.declared.entry.Entry.TheVariants as entry
 use Rattle.trace_model.specs.declared.line.End.{End}
 use Rattle.hci_tables.specs.declared.command.Command.TheVariants.{Sync}
 use Rattle.hci_tables.specs.Tables.{is_kept_sync}
-use Rattle.link_machine.specs.Machine.{Message, LinkEnd, LinkInput, Report, Role, report, after_input, whole_acked, act_out, act_event, lpdu_input, is_open}
-use Rattle.link_machine.specs.Machine.Role.{Bare, Clf, Uicc}
-use Rattle.link_entries.specs.entries.Entries.{End as Side, Entry as Noted, told}
-use Rattle.link_entries.specs.entries.Entries.Entry.{Up, Down, Active, GaveUp, Acked, Got}
+use Rattle.link_laws.specs.machine.Machine.{Message, LinkEnd, LinkInput, Report, Role, report, after_input, whole_acked, act_out, act_event, lpdu_input}
+use Rattle.link_laws.specs.machine.Machine.{is_open}
+use Rattle.link_laws.specs.machine.Machine.Role.{Bare, Clf, Uicc}
+use Rattle.link_laws.specs.entries.Entries.{End as Side, Entry as Noted, told}
+use Rattle.link_laws.specs.entries.Entries.Entry.{Up, Down, Active, GaveUp, Acked, Got}
 use Rattle.history.specs.Steps.{entries_for}
 use Rattle.node_machine.specs.Parts.{Core, Running, Port, Work, Deed}
 use Rattle.node_machine.specs.Parts.Deed.{Commits}
 use Rattle.node_machine.specs.Carrying.{own_side, all_done, finds_room}
 use Rattle.node_machine.specs.Node.{all_come, told_at, synced, input_at}
-use Rattle.node_order.specs.passes.Noting.{noted_by_deeds, goes_in}
-use Rattle.node_order.specs.passes.Passing.{ComesTo, IsTurnSo}
-use Rattle.node_order.specs.passes.Steps.{syncs_in}
-use Rattle.node_order.proofs.passes.Notes.{deeds_note}
-use Rattle.answer_laws.proofs.worlds.Late.{BeginsBehind}
-use Rattle.answer_laws.proofs.worlds.Uiccs.{tick_none, uicc_sync}
+use Rattle.node_laws.specs.passes.Noting.{noted_by_deeds, goes_in}
+use Rattle.node_laws.specs.passes.Passing.{ComesTo, IsTurnSo}
+use Rattle.node_laws.specs.passes.Steps.{syncs_in}
+use Rattle.node_laws.proofs.passes.Notes.{deeds_note}
+use Rattle.node_laws.proofs.worlds.Late.{BeginsBehind}
+use Rattle.node_laws.proofs.worlds.Uiccs.{tick_none, uicc_sync}
 use Rattle.lone_laws.specs.alone.Lone.{Lone, LoneCause, lone_end, lone_input, node_input, lone_arrival, emits_behind, frames_behind, session_with}
 use Rattle.lone_laws.specs.alone.Lone.LoneCause.{FrameComes, FrameIsRefused, TickComes, ResetComes, StartComes, StopComes}
 use Rattle.lone_laws.specs.alone.Known.{core_since, talk_since}
@@ -141,17 +142,17 @@ input_due core h s c i comes kind = go (eqb core.node 0) refl where
       subst (λ x. of_sync core h (report s x).sync ≡ sync_due core h (FrameComes bytes)) is (frame_due core h s bytes zero (kind ∙ ap (λ b. Some b) zero))
   clf zero (FrameIsRefused fault) q = absurd (cc q)
   clf zero TickComes q =
-      let is : Rattle.link_machine.specs.Machine.LinkInput.Tick ≡ i = cc in
+      let is : Rattle.link_laws.specs.machine.Machine.LinkInput.Tick ≡ i = cc in
       subst (λ x. of_sync core h (report s x).sync ≡ []) is
       (cond_both (is_open s.role) None (Some ActTick) (λ o. of_sync core h (act_out s.role o).sync ≡ []) (λ _. refl)
       (λ _. ap (of_sync core h) (clf_out s.role ActTick (kind ∙ ap (λ b. Some b) zero))))
   clf zero (ResetComes window) q =
-      let is : Rattle.link_machine.specs.Machine.LinkInput.Reset window ≡ i = cc in subst (λ x. of_sync core h (report s x).sync ≡ []) is refl
+      let is : Rattle.link_laws.specs.machine.Machine.LinkInput.Reset window ≡ i = cc in subst (λ x. of_sync core h (report s x).sync ≡ []) is refl
   clf zero (StartComes value) q =
-      let is : Rattle.link_machine.specs.Machine.LinkInput.Start value ≡ i = cc in
+      let is : Rattle.link_laws.specs.machine.Machine.LinkInput.Start value ≡ i = cc in
       subst (λ x. of_sync core h (report s x).sync ≡ []) is (ap (of_sync core h) (clf_out s.role (ActStart value) (kind ∙ ap (λ b. Some b) zero)))
   clf zero StopComes q =
-      let is : Rattle.link_machine.specs.Machine.LinkInput.Stop ≡ i = cc in
+      let is : Rattle.link_laws.specs.machine.Machine.LinkInput.Stop ≡ i = cc in
       subst (λ x. of_sync core h (report s x).sync ≡ []) is (ap (of_sync core h) (clf_out s.role ActStop (kind ∙ ap (λ b. Some b) zero)))
 
   go : (b : Bool) → eqb core.node 0 ≡ b → of_sync core h (report s i).sync ≡ sync_due core h c

@@ -19,10 +19,10 @@ use Rattle.link_laws.specs.sessions.Sessions.{is_up}
 use Rattle.gate_answers.specs.declared.response.Response.TheVariants as response
 use Rattle.gate_answers.specs.Answers.{answer_of}
 use Rattle.hci_tables.specs.declared.command.Command.{Command}
-use Rattle.link_machine.specs.Machine.{Message, Report, Turn}
-use Rattle.link_machine.specs.Machine.Turn.{Give}
-use Rattle.link_entries.specs.entries.Entries.{End as Side, Entry as Noted, told, if_so}
-use Rattle.link_entries.specs.entries.Entries.Entry.{Up, Down, Active, GaveUp, Acked, Got}
+use Rattle.link_laws.specs.machine.Machine.{Message, Report, Turn}
+use Rattle.link_laws.specs.machine.Machine.Turn.{Give}
+use Rattle.link_laws.specs.entries.Entries.{End as Side, Entry as Noted, told, if_so}
+use Rattle.link_laws.specs.entries.Entries.Entry.{Up, Down, Active, GaveUp, Acked, Got}
 use Rattle.history.specs.Filters.{same_end}
 use Rattle.history.specs.Steps.{entries_for}
 use Rattle.node_machine.specs.Parts.{Core, Port, Work, Deed}
@@ -30,9 +30,9 @@ use Rattle.node_machine.specs.Parts.Deed.{Commits, Sends, SaysOk, IsAnswered, Dr
 use Rattle.node_machine.specs.Carrying.{port_at, changed_if, with_port, after_turn, turn_at, done, all_done, unless_cut}
 use Rattle.node_machine.specs.Controller.{own_gate, controller_deeds}
 use Rattle.node_machine.specs.HostReplies.{host_deeds}
-use Rattle.node_readings.specs.views.Errors.{errors_set_by}
-use Rattle.node_readings.proofs.views.Setting.{AreUnset, is_link_gate, SetsNone, IsUpAt, SetDeeds, controller_unset, controller_sets, host_unset, host_sets}
-use Rattle.node_readings.proofs.views.Setting.SetDeeds.{IsSet as IsSetSo, IsRefused as IsRefusedSo, IsDropped as IsDroppedSo}
+use Rattle.node_laws.specs.views.Errors.{errors_set_by}
+use Rattle.node_laws.proofs.views.Setting.{AreUnset, is_link_gate, SetsNone, IsUpAt, SetDeeds, controller_unset, controller_sets, host_unset, host_sets}
+use Rattle.node_laws.proofs.views.Setting.SetDeeds.{IsSet as IsSetSo, IsRefused as IsRefusedSo, IsDropped as IsDroppedSo}
 use Rattle.lone_laws.specs.alone.Lone.{end_of_node_alone}
 use Rattle.lone_laws.specs.alone.Known.{core_noted, is_to_link_gate, value_set_by, says_ok, RecErrors, errors_noted}
 use Rattle.lone_laws.specs.alone.Answers.{entries_of_deeds}
@@ -230,8 +230,8 @@ kept_turn : (to : ℕ) (x : Turn) (u : Work) → desk_errors (turn_at to x u).po
 kept_turn to x u = errors_with to (after_turn x) (λ p. refl) u.ports
 
 kept_commit : (c : Command) (u : Work) → (done 0 (Commits c) u).cut ≡ false → desk_errors (done 0 (Commits c) u).ports ≡ desk_errors u.ports
-kept_commit c u still = go (Rattle.node_order.specs.passes.Noting.goes_in c u) refl where
-  go : (b : Bool) → Rattle.node_order.specs.passes.Noting.goes_in c u ≡ b → desk_errors (done 0 (Commits c) u).ports ≡ desk_errors u.ports
+kept_commit c u still = go (Rattle.node_laws.specs.passes.Noting.goes_in c u) refl where
+  go : (b : Bool) → Rattle.node_laws.specs.passes.Noting.goes_in c u ≡ b → desk_errors (done 0 (Commits c) u).ports ≡ desk_errors u.ports
   go true q = rw q refl
   go false q = rw q refl
 

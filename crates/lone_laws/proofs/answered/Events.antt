@@ -7,7 +7,7 @@ use Rattle.swp_lpdu.specs.Controls.{lpdu_of}
 use Rattle.trace_model.specs.declared.entry.Entry.{Entry}
 use Rattle.trace_model.specs.declared.entry.Entry.TheVariants as entry
 use Rattle.trace_model.specs.declared.line.End.{End}
-use Rattle.node_order.specs.passes.Passing.{link_of_turn, AreNoTurns}
+use Rattle.node_laws.specs.passes.Passing.{link_of_turn, AreNoTurns}
 use Rattle.lone_laws.specs.alone.Lone.{Lone, LoneCause, LoneEvent, lone_step, lone_events}
 use Rattle.lone_laws.specs.alone.Answers.{entries_of_events_alone}
 

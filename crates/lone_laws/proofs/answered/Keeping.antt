@@ -8,8 +8,8 @@ use Rattle.swp_lpdu.specs.Controls.{lpdu_of}
 use Rattle.trace_model.specs.declared.entry.Entry.{Entry}
 use Rattle.trace_model.specs.declared.entry.Entry.TheVariants as entry
 use Rattle.trace_model.specs.declared.line.End.{End}
-use Rattle.link_machine.specs.Machine.{LinkEnd, LinkInput, after_input, report, whole_acked, sent_all}
-use Rattle.link_entries.proofs.entries.Stepping.{sound_sent}
+use Rattle.link_laws.specs.machine.Machine.{LinkEnd, LinkInput, after_input, report, whole_acked, sent_all}
+use Rattle.link_laws.proofs.entries.Stepping.{sound_sent}
 use Rattle.node_machine.specs.Parts.{Desk, Core, Running, Port, Work, Deed}
 use Rattle.node_machine.specs.Parts.Deed.{Commits}
 use Rattle.node_machine.specs.Carrying.{own_side, done, all_done, port_at}
@@ -17,11 +17,11 @@ use Rattle.node_machine.specs.Node.{all_come, told_at}
 use Rattle.node_machine.specs.Turns.{passes}
 use Rattle.node_laws.proofs.steps.Walks.{all_synced_hold}
 use Rattle.node_laws.proofs.steps.StepWalks.{all_do}
-use Rattle.node_order.proofs.links.Works.{fine_at}
-use Rattle.node_order.specs.passes.Noting.{goes_in}
-use Rattle.node_order.specs.passes.Passing.{ComesTo}
-use Rattle.node_order.specs.passes.Steps.{syncs_in}
-use Rattle.node_order.proofs.passes.Before.{steps_are}
+use Rattle.node_laws.proofs.links.Works.{fine_at}
+use Rattle.node_laws.specs.passes.Noting.{goes_in}
+use Rattle.node_laws.specs.passes.Passing.{ComesTo}
+use Rattle.node_laws.specs.passes.Steps.{syncs_in}
+use Rattle.node_laws.proofs.passes.Before.{steps_are}
 use Rattle.lone_laws.specs.alone.Lone.{Lone, LoneCause, lone_end, lone_input, node_input, lone_arrival, lone_port, session_with, side_behind, emits_behind}
 use Rattle.lone_laws.specs.alone.Lone.{frames_behind, lone_behind_step}
 use Rattle.lone_laws.specs.alone.Lone.LoneCause.{FrameComes, FrameIsRefused, TickComes, ResetComes, StartComes, StopComes}

@@ -7,21 +7,21 @@ use Rattle.trace_model.specs.declared.entry.Entry.{Entry}
 use Rattle.trace_model.specs.declared.entry.Entry.TheVariants as entry
 use Rattle.trace_model.specs.declared.line.End.{End}
 use Rattle.hcp_packet.specs.Packets.{AreSendable}
-use Rattle.link_machine.specs.Machine.{Message, LinkEnd, LinkInput, after_input, report, whole_acked}
-use Rattle.link_machine.specs.Machine.LinkInput.{Take, TakeUnknown, TakeBroken, Tick, Reset, Start, Stop, FromNode, Fetch}
-use Rattle.link_machine.specs.Machine.Turn.{Hold, FetchMessage}
-use Rattle.link_machine.proofs.Runs.{Sound, sound_input}
+use Rattle.link_laws.specs.machine.Machine.{Message, LinkEnd, LinkInput, after_input, report, whole_acked}
+use Rattle.link_laws.specs.machine.Machine.LinkInput.{Take, TakeUnknown, TakeBroken, Tick, Reset, Start, Stop, FromNode, Fetch}
+use Rattle.link_laws.specs.machine.Machine.Turn.{Hold, FetchMessage}
+use Rattle.link_laws.proofs.machine.Runs.{Sound, sound_input}
 use Rattle.node_machine.specs.Parts.{Core, Running, Port, Work, Deed}
 use Rattle.node_machine.specs.Carrying.{own_side, end_of_node, noting, port_at, with_desk, turn_at, all_done}
 use Rattle.node_machine.specs.Turns.{deeds_of, handles, holds_back}
 use Rattle.node_machine.specs.Node.{all_come, told_at}
 use Rattle.node_laws.proofs.steps.StepWalks.{all_do, lets}
-use Rattle.node_order.proofs.links.Deeds.{IsFine, AreFine, IsTrueDesk}
+use Rattle.node_laws.proofs.links.Deeds.{IsFine, AreFine, IsTrueDesk}
 use Rattle.node_laws.proofs.steps.Walks.{all_synced_hold}
-use Rattle.node_order.proofs.links.Works.{IsFinePort, IsFineWork, fine_at, deeds_fine, all_done_fine, handles_fine, holds_fine, lets_fine, came_fine}
-use Rattle.node_order.specs.passes.Passing.{LastsOverTurns, ComesTo, waiting_at, takes_up}
-use Rattle.node_order.specs.passes.Steps.{syncs_in}
-use Rattle.node_order.proofs.passes.Passing.{comes_so}
+use Rattle.node_laws.proofs.links.Works.{IsFinePort, IsFineWork, fine_at, deeds_fine, all_done_fine, handles_fine, holds_fine, lets_fine, came_fine}
+use Rattle.node_laws.specs.passes.Passing.{LastsOverTurns, ComesTo, waiting_at, takes_up}
+use Rattle.node_laws.specs.passes.Steps.{syncs_in}
+use Rattle.node_laws.proofs.passes.Passing.{comes_so}
 use Rattle.lone_laws.specs.alone.Lone.{Lone, LoneCause, end_of_node_alone, lone_end, lone_input, node_input, lone_arrival, lone_port, lone_work, rsets_since}
 use Rattle.lone_laws.specs.alone.Lone.{session_with, side_behind, emits_behind}
 use Rattle.lone_laws.specs.alone.Known.{LoneTalk, no_session_now}

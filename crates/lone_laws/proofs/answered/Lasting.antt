@@ -9,8 +9,8 @@ use Rattle.trace_model.specs.declared.entry.Entry.{Entry}
 use Rattle.trace_model.specs.declared.entry.Entry.TheVariants as entry
 use Rattle.trace_model.specs.declared.line.End.{End}
 use Rattle.hci_tables.specs.Tables.{AreTables}
-use Rattle.tables_laws.specs.Changes.{JoinTwo}
-use Rattle.link_machine.specs.Machine.{LinkEnd, LinkInput}
+use Rattle.tables_laws.specs.tables.Changes.{JoinTwo}
+use Rattle.link_laws.specs.machine.Machine.{LinkEnd, LinkInput}
 use Rattle.node_machine.specs.Parts.{Desk, Running, Port, Work}
 use Rattle.node_machine.specs.Carrying.{changed_if, port_at}
 use Rattle.node_machine.specs.Node.{steps}

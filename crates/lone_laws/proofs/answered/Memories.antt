@@ -16,7 +16,7 @@ use Rattle.hci_tables.specs.declared.command.Command.{Command}
 use Rattle.hci_tables.specs.Commands.{IsCommand}
 use Rattle.hci_tables.specs.Bodies.{body_of}
 use Rattle.hci_tables.specs.Tables.{HciTables, AreTables, after_commands, apply}
-use Rattle.tables_laws.proofs.SortedTables.{AreTables-apply}
+use Rattle.tables_laws.proofs.tables.SortedTables.{AreTables-apply}
 use Rattle.hci_store.proofs.Recorded.{recordable-apply}
 use Rattle.hci_store.specs.Committing.{commit_writes, committed}
 use Rattle.hci_store.specs.Recordable.{IsRecordable}
@@ -221,7 +221,7 @@ module _ (tables : HciTables) (many : ℕ) (before : List Command) (old : Memory
       (λ g. all_hold k deeds None command init (commit c w) g tt lone.1 may.1)
   all_hold k (Sends to m ∷ deeds) s command init w h same lone may =
       let v : Work = done k (Sends to m) w in
-      let g : Holds v = plainly_holds w v (plainly_turn to (Rattle.link_machine.specs.Machine.Turn.Give m) w) h in
+      let g : Holds v = plainly_holds w v (plainly_turn to (Rattle.link_laws.specs.machine.Machine.Turn.Give m) w) h in
       on_hold (all_done k deeds) v g (all_hold k deeds s command init v g same lone.1 may)
   all_hold k (SaysOk ∷ deeds) s command init w h same lone may =
       let v : Work = done k SaysOk w in

@@ -5,19 +5,19 @@ use Rattle.std.specs.Option.{option_map_or}
 use Rattle.trace_model.specs.declared.entry.Entry.{Entry}
 use Rattle.trace_model.specs.declared.entry.Entry.TheVariants as entry
 use Rattle.trace_model.specs.declared.line.End.{End}
-use Rattle.link_machine.specs.Machine.{Message, LinkInput, oldest}
+use Rattle.link_laws.specs.machine.Machine.{Message, LinkInput, oldest}
 use Rattle.node_machine.specs.Parts.{Core, Running, Port, Work}
 use Rattle.node_machine.specs.Turns.{passes, goes_through_ends}
 use Rattle.node_machine.specs.Node.{steps}
 use Rattle.node_laws.specs.kept.Books.{hosts_of_ends}
 use Rattle.registry.proofs.ValueLemmas.{AllByRecursion-append}
-use Rattle.node_order.specs.passes.Passing.{BeginWithTurn, link_of_turn, IsNoTurn, AreNoTurns, ComesTo, ArePassed, IsTurnSo, IsBehind, Stays}
-use Rattle.node_order.specs.passes.Passing.{waiting_at, is_held_at}
-use Rattle.node_order.specs.passes.Passing.ComesTo.{Begins}
-use Rattle.node_order.specs.passes.Steps.{comes_to_pass, noted_before_pass}
-use Rattle.node_order.proofs.passes.Passing.{comes_lasts}
-use Rattle.node_order.proofs.passes.Before.{steps_are, before_entries, before_none}
-use Rattle.node_order.proofs.passes.Behind.{leaves_behind}
+use Rattle.node_laws.specs.passes.Passing.{BeginWithTurn, link_of_turn, IsNoTurn, AreNoTurns, ComesTo, ArePassed, IsTurnSo, IsBehind, Stays}
+use Rattle.node_laws.specs.passes.Passing.{waiting_at, is_held_at}
+use Rattle.node_laws.specs.passes.Passing.ComesTo.{Begins}
+use Rattle.node_laws.specs.passes.Steps.{comes_to_pass, noted_before_pass}
+use Rattle.node_laws.proofs.passes.Passing.{comes_lasts}
+use Rattle.node_laws.proofs.passes.Before.{steps_are, before_entries, before_none}
+use Rattle.node_laws.proofs.passes.Behind.{leaves_behind}
 use Rattle.lone_laws.specs.alone.Lone.{Lone, LoneCause, lone_end, lone_input, node_input, lone_arrival, lone_work, frames_behind, emits_behind}
 use Rattle.lone_laws.specs.alone.Lone.LoneCause.{FrameComes, FrameIsRefused, TickComes, ResetComes, StartComes, StopComes}
 use Rattle.lone_laws.specs.alone.Known.{left_since, is_held_since}

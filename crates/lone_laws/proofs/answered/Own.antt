@@ -6,7 +6,7 @@ use Rattle.std.specs.Option.{option_map_or}
 use Rattle.std.proofs.lemmas.Bool.{true≢false, and_parts, not-true, not_from_false, not-false, and_cases, eqb-true, eqb-false, false≢true}
 use Rattle.hci_tables.specs.Commands.{IsCommand}
 use Rattle.hci_tables.specs.Tables.{HciTables, AreTables}
-use Rattle.tables_laws.specs.Changes.{JoinTwo}
+use Rattle.tables_laws.specs.tables.Changes.{JoinTwo}
 use Rattle.gate_answers.specs.Answers.{body_in}
 use Rattle.gate_admin.specs.declared.view.LinkView.{LinkView}
 use Rattle.gate_admin.specs.declared.decision.Decision.{Decision}
@@ -14,16 +14,16 @@ use Rattle.gate_admin.specs.declared.decision.Decision.TheVariants.{Answer, Comm
 use Rattle.gate_admin.specs.View.{has, hosts_where, mask_of, is_connected}
 use Rattle.gate_admin.specs.Decide.{decided, tests_to_create, dest_in, IsRecordableDecision}
 use Rattle.gate_admin.proofs.CreationLemmas.{AllFalse, all_false}
-use Rattle.gate_laws.specs.Rules.{TellsOthers}
-use Rattle.gate_laws.proofs.Decisions.{decided_holds, decided_tells_others}
-use Rattle.link_machine.specs.Machine.{Message}
+use Rattle.tables_laws.specs.gate.Rules.{TellsOthers}
+use Rattle.tables_laws.proofs.gate.Decisions.{decided_holds, decided_tells_others}
+use Rattle.link_laws.specs.machine.Machine.{Message}
 use Rattle.node_machine.specs.Parts.{Creation, Core, Port, Deed}
 use Rattle.node_machine.specs.Parts.Deed.{Commits, Sends, SaysOk, Releases, Tells, IsAnswered, Drops, SetsErrors}
 use Rattle.node_machine.specs.Carrying.{port_at}
 use Rattle.node_machine.specs.Controller.{is_connected_at, creation_in, asked_at, view_for, controller_deeds}
 use Rattle.node_machine.specs.HostReplies.{host_deeds}
 use Rattle.node_laws.proofs.steps.Walks.{Plain, OfDecision, all_of_controller, all_ordered, host_holds}
-use Rattle.node_order.proofs.links.Masking.{nobody, from_mask}
+use Rattle.node_laws.proofs.links.Masking.{nobody, from_mask}
 use Rattle.node_laws.proofs.kept.Deciding.{decided_recordable}
 
 -- ## Deeds of its own

@@ -11,15 +11,15 @@ use Rattle.hci_store.specs.Committing.{commit_writes}
 use Rattle.node_machine.specs.Parts.{Work, Port, Deed}
 use Rattle.node_machine.specs.Parts.Deed.{Commits, Sends, SaysOk, Asks, Releases, Tells, IsAnswered, Drops, SetsErrors, Orders, Hears, GoesOn, Ends}
 use Rattle.node_machine.specs.Carrying.{end_of_node, noting, port_at, noted_of, turn_at, done, loses_power, keeps}
-use Rattle.link_machine.specs.Machine.{Turn}
-use Rattle.link_machine.specs.Machine.Turn.{FetchMessage, Hold}
+use Rattle.link_laws.specs.machine.Machine.{Turn}
+use Rattle.link_laws.specs.machine.Machine.Turn.{FetchMessage, Hold}
 use Rattle.std.specs.Option.{option_map_or}
 use Rattle.node_machine.specs.Node.{NodeInput, steps, all_come, times_out, synced, forgotten, forgets, all_owed, without_notice, after_sessions}
 use Rattle.node_machine.specs.Node.NodeInput.{AtEnd, TimePasses}
 use Rattle.node_laws.proofs.steps.Walks.{anyone}
 use Rattle.node_laws.proofs.steps.StepWalks.{Lasts, rest_lasts}
-use Rattle.node_order.specs.passes.Noting.{noted_by_deed}
-use Rattle.node_order.proofs.passes.Notes.{deed_notes}
+use Rattle.node_laws.specs.passes.Noting.{noted_by_deed}
+use Rattle.node_laws.proofs.passes.Notes.{deed_notes}
 use Rattle.lone_laws.specs.alone.Answers.{is_own_cut}
 
 -- where its power has gone, that was noted

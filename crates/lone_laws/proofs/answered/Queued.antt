@@ -9,7 +9,7 @@ use Rattle.trace_model.specs.declared.entry.Entry.{Entry}
 use Rattle.trace_model.specs.declared.entry.Entry.TheVariants as entry
 use Rattle.trace_model.specs.declared.line.End.{End}
 use Rattle.history.specs.Filters.{same_end, same_side}
-use Rattle.link_machine.specs.Machine.{Message, oldest}
+use Rattle.link_laws.specs.machine.Machine.{Message, oldest}
 use Rattle.node_machine.specs.world.NodeLegal.{got_entry, turn_entry_at}
 use Rattle.lone_laws.specs.alone.Lone.{LoneEvent}
 use Rattle.lone_laws.specs.alone.Known.{left_noted, left_since}

@@ -17,14 +17,14 @@ use Rattle.hci_tables.specs.Bodies.{body_of}
 use Rattle.hci_tables.specs.Commands.{IsCommand}
 use Rattle.hci_tables.specs.Tables.{AreTables}
 use Rattle.hci_store.specs.Committing.{commit_writes}
-use Rattle.tables_laws.specs.Changes.{JoinTwo}
-use Rattle.tables_laws.proofs.TwoHosts.{JoinTwo-after}
-use Rattle.tables_laws.proofs.SortedTables.{AreTables-apply}
-use Rattle.link_machine.specs.Machine.{Message, Refused, LinkEnd, Turn, turn, given, give_refusal, aside_refusal, unless, Report}
-use Rattle.link_machine.specs.Machine.Turn.{Give, Hold, FetchMessage, SetAside, Release}
-use Rattle.link_entries.specs.entries.Entries.{End as Side, Entry as Noted, told, turn_entry, if_so}
-use Rattle.link_entries.specs.entries.Entries.Entry.{Up, Down, Active, GaveUp, Acked, Got}
-use Rattle.link_entries.specs.entries.Entries.End.{Controller, Host}
+use Rattle.tables_laws.specs.tables.Changes.{JoinTwo}
+use Rattle.tables_laws.proofs.tables.TwoHosts.{JoinTwo-after}
+use Rattle.tables_laws.proofs.tables.SortedTables.{AreTables-apply}
+use Rattle.link_laws.specs.machine.Machine.{Message, Refused, LinkEnd, Turn, turn, given, give_refusal, aside_refusal, unless, Report}
+use Rattle.link_laws.specs.machine.Machine.Turn.{Give, Hold, FetchMessage, SetAside, Release}
+use Rattle.link_laws.specs.entries.Entries.{End as Side, Entry as Noted, told, turn_entry, if_so}
+use Rattle.link_laws.specs.entries.Entries.Entry.{Up, Down, Active, GaveUp, Acked, Got}
+use Rattle.link_laws.specs.entries.Entries.End.{Controller, Host}
 use Rattle.history.specs.Filters.{same_end}
 use Rattle.history.specs.Steps.{end_of, entries_for}
 use Rattle.node_machine.specs.Parts.{Desk, Core, Port, Work, Deed}
@@ -234,7 +234,7 @@ module _ (number h : ℕ) (r : Read) (t : List Entry) where
   sent_nothing core x None = tt
   sent_nothing core x (Some p) = by_turn x where
     by_refusal : (m : Message) (why : Option Refused)
-        → AreNothing e (entries_for p.desk.host (Rattle.link_entries.specs.entries.Entries.sent_unless why (own_side core) p.session m))
+        → AreNothing e (entries_for p.desk.host (Rattle.link_laws.specs.entries.Entries.sent_unless why (own_side core) p.session m))
     by_refusal m None = ((λ z. refl), tt)
     by_refusal m (Some why) = tt
 

@@ -11,21 +11,21 @@ use Rattle.shdlc_core.specs.declared.answers.LinkState.TheVariants.{Up as IsUpNo
 use Rattle.link_laws.specs.sessions.Sessions.{is_up}
 use Rattle.history.specs.Filters.{same_end}
 use Rattle.hci_tables.specs.Tables.{AreTables}
-use Rattle.tables_laws.specs.Changes.{JoinTwo}
-use Rattle.link_machine.specs.Machine.{Message, spare}
-use Rattle.link_machine.specs.Machine.Turn.{FetchMessage}
+use Rattle.tables_laws.specs.tables.Changes.{JoinTwo}
+use Rattle.link_laws.specs.machine.Machine.{Message, spare}
+use Rattle.link_laws.specs.machine.Machine.Turn.{FetchMessage}
 use Rattle.node_machine.specs.Parts.{Desk, Core, Port, Work, Deed}
 use Rattle.node_machine.specs.Parts.Deed.{Sends}
 use Rattle.node_machine.specs.Carrying.{end_of_node, port_at, changed_if, with_port, after_turn, all_done, needs, lack}
 use Rattle.node_machine.specs.Turns.{deeds_of, handles}
-use Rattle.answer_laws.proofs.answers.Alike.{replies_alike, up_read, spare_read}
-use Rattle.answer_laws.proofs.hosts.Alike.{host_same}
-use Rattle.node_order.specs.passes.Passing.{waiting_at, lacking, takes_up}
-use Rattle.node_order.specs.passes.Noting.{noted_by_deeds}
-use Rattle.node_order.proofs.passes.Notes.{deeds_note}
-use Rattle.node_order.proofs.passes.Passing.{takes_entries}
-use Rattle.node_order.proofs.passes.Counts.{taken_at_once}
-use Rattle.node_readings.proofs.views.Setting.{IsUpAt}
+use Rattle.node_laws.proofs.answers.Alike.{replies_alike, up_read, spare_read}
+use Rattle.node_laws.proofs.hosts.Alike.{host_same}
+use Rattle.node_laws.specs.passes.Passing.{waiting_at, lacking, takes_up}
+use Rattle.node_laws.specs.passes.Noting.{noted_by_deeds}
+use Rattle.node_laws.proofs.passes.Notes.{deeds_note}
+use Rattle.node_laws.proofs.passes.Passing.{takes_entries}
+use Rattle.node_laws.proofs.passes.Counts.{taken_at_once}
+use Rattle.node_laws.proofs.views.Setting.{IsUpAt}
 use Rattle.lone_laws.specs.alone.Lone.{end_of_node_alone}
 use Rattle.lone_laws.specs.alone.Known.{RecErrors, LoneTalk, no_session_now, errors_noted, spare_in_talk, talk_since, core_since, port_since, reply_since}
 use Rattle.lone_laws.specs.alone.Known.{lack_since, is_to_link_gate, value_set_by}

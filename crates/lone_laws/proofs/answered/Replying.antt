@@ -15,15 +15,15 @@ use Rattle.journal_laws.specs.Journal.{count_of}
 use Rattle.hci_tables.specs.declared.command.Command.{Command}
 use Rattle.hci_tables.specs.Bodies.{body_of}
 use Rattle.hci_store.specs.Committing.{commit_writes}
-use Rattle.link_machine.specs.Machine.{Message, give_refusal}
-use Rattle.link_machine.specs.Machine.Turn.{Give}
-use Rattle.link_entries.specs.entries.Entries.{sent_unless}
+use Rattle.link_laws.specs.machine.Machine.{Message, give_refusal}
+use Rattle.link_laws.specs.machine.Machine.Turn.{Give}
+use Rattle.link_laws.specs.entries.Entries.{sent_unless}
 use Rattle.history.specs.Steps.{end_of, entries_for}
 use Rattle.node_machine.specs.Parts.{Core, Port, Work, Deed}
 use Rattle.node_machine.specs.Parts.Deed.{Commits, Sends, SaysOk, IsAnswered, Drops, SetsErrors}
 use Rattle.node_machine.specs.Carrying.{own_side, end_of_node, noting, port_at, changed_if, with_port, noted_of, unless_cut, loses_power, keeps, done}
 use Rattle.node_machine.specs.Carrying.{all_done, needs, lack}
-use Rattle.node_order.specs.passes.Noting.{noted_at, goes_in, noted_by_deeds}
+use Rattle.node_laws.specs.passes.Noting.{noted_at, goes_in, noted_by_deeds}
 use Rattle.lone_laws.specs.alone.Lone.{end_of_node_alone}
 use Rattle.lone_laws.specs.alone.Known.{core_with}
 use Rattle.lone_laws.specs.alone.Answers.{is_own_answer, is_own_turn, is_own_cut, to_turn, through_command, AnswersAlone, entries_of_deeds}

@@ -7,15 +7,15 @@ use Rattle.trace_model.specs.declared.entry.Entry.TheVariants as entry
 use Rattle.hci_tables.specs.declared.command.Command.{Command}
 use Rattle.hci_tables.specs.declared.command.Command.TheVariants.{Sync}
 use Rattle.gate_answers.specs.Answers.{answer_of}
-use Rattle.link_machine.specs.Machine.{Message, Refused, give_refusal}
-use Rattle.link_machine.specs.Machine.Turn.{Give, SetAside}
-use Rattle.link_entries.specs.entries.Entries.{End as Side, sent_unless}
+use Rattle.link_laws.specs.machine.Machine.{Message, Refused, give_refusal}
+use Rattle.link_laws.specs.machine.Machine.Turn.{Give, SetAside}
+use Rattle.link_laws.specs.entries.Entries.{End as Side, sent_unless}
 use Rattle.history.specs.Steps.{entries_for}
 use Rattle.node_machine.specs.Parts.{Creation, Core, Port, Work, Deed}
 use Rattle.node_machine.specs.Parts.Deed.{Commits, Asks, Tells}
 use Rattle.node_machine.specs.Carrying.{own_side, port_at, noted_of, turn_at}
 use Rattle.node_machine.specs.Node.{NodeInput, all_owed, synced}
-use Rattle.node_order.specs.passes.Noting.{goes_in, noted_by_deed}
+use Rattle.node_laws.specs.passes.Noting.{goes_in, noted_by_deed}
 use Rattle.node_laws.proofs.steps.Walks.{Plain, OfHost, any_of_controller, all_of_host, deeds_hold, all_owed_hold, all_synced_hold, forgotten_hold}
 use Rattle.std.proofs.Common.{◌≡◌, ◌++◌, ◌||◌, eqb, sym, ap, subst, ◌∙◌}
 use Rattle.std.proofs.lemmas.Bool.{cond_both}
@@ -32,23 +32,23 @@ use Rattle.shdlc_core.specs.declared.answers.LinkState.{LinkState}
 use Rattle.shdlc_core.specs.declared.answers.LinkState.TheVariants.{Up as IsUpNow, Waiting as IsWaitingNow, Down as IsDown}
 use Rattle.shdlc_core.specs.Machine.{tick_answer}
 use Rattle.link_laws.specs.sessions.Sessions.{is_up}
-use Rattle.link_machine.specs.Machine.{LinkEnd, LinkInput, Report, after_input, report, ended_by, ended_by_frame, ended_by_reset, reset_refusal, if_up}
-use Rattle.link_machine.specs.Machine.{whole_acked, lpdu_input, is_open}
-use Rattle.link_entries.specs.entries.Entries.{Entry as Noted, told, if_so}
-use Rattle.link_entries.specs.entries.Entries.Entry.{Up, Down, Active, GaveUp, Acked, Got}
+use Rattle.link_laws.specs.machine.Machine.{LinkEnd, LinkInput, Report, after_input, report, ended_by, ended_by_frame, ended_by_reset, reset_refusal, if_up}
+use Rattle.link_laws.specs.machine.Machine.{whole_acked, lpdu_input, is_open}
+use Rattle.link_laws.specs.entries.Entries.{Entry as Noted, told, if_so}
+use Rattle.link_laws.specs.entries.Entries.Entry.{Up, Down, Active, GaveUp, Acked, Got}
 use Rattle.node_machine.specs.Carrying.{end_of_node}
-use Rattle.link_machine.specs.Machine.{Turn}
-use Rattle.link_machine.specs.Machine.Turn.{FetchMessage, Hold}
+use Rattle.link_laws.specs.machine.Machine.{Turn}
+use Rattle.link_laws.specs.machine.Machine.Turn.{FetchMessage, Hold}
 use Rattle.node_laws.proofs.steps.Walks.{anyone}
 use Rattle.node_laws.proofs.steps.StepWalks.{Lasts, rest_lasts}
-use Rattle.node_order.proofs.passes.Notes.{deed_notes}
+use Rattle.node_laws.proofs.passes.Notes.{deed_notes}
 use Rattle.lone_laws.specs.alone.Lone.{Lone, LoneCause, lone_end, lone_input, node_input, lone_arrival, emits_behind, frames_behind, session_with}
 use Rattle.lone_laws.specs.alone.Lone.LoneCause.{FrameComes, FrameIsRefused, TickComes, ResetComes, StartComes, StopComes}
 use Rattle.lone_laws.specs.alone.Known.{LoneTalk, talk_since}
 use Rattle.lone_laws.specs.alone.Answers.{is_asked_down, is_reset_alone, IsResetAlone}
 use Rattle.swp_act.specs.declared.ActEvent.TheVariants.{Tick as ActTick}
-use Rattle.link_machine.specs.Machine.{ended_by_act, act_answer, is_faulty}
-use Rattle.link_machine.proofs.Runs.{Sound}
+use Rattle.link_laws.specs.machine.Machine.{ended_by_act, act_answer, is_faulty}
+use Rattle.link_laws.proofs.machine.Runs.{Sound}
 use Rattle.std.specs.Prelude.{Result, Ok, Err}
 use Rattle.node_machine.specs.Parts.{Running}
 use Rattle.node_machine.specs.Node.{all_come, told_at, times_out, forgets, forgotten, after_sessions, without_notice}
@@ -58,7 +58,7 @@ use Rattle.lone_laws.proofs.answered.Stepping.{lone_comes}
 use Rattle.lone_laws.proofs.answered.Lasting.{begins_alone, arrival_nothing}
 use Rattle.lone_laws.proofs.answered.Ordered.{begin_read, start, ended}
 use Rattle.lone_laws.proofs.answered.Keeping.{core_of, KeepsAll}
-use Rattle.answer_laws.proofs.worlds.Causes.{act_asked, asked, frame_asked, tick_asked, up_asked}
+use Rattle.node_laws.proofs.worlds.Causes.{act_asked, asked, frame_asked, tick_asked, up_asked}
 
 -- an entry tells of no reset that was asked for
 abbrev pub IsQuietEntry : Entry → Type 0
@@ -233,17 +233,17 @@ input_asked : (s : LinkEnd) (c : LoneCause) (i : LinkInput) → lone_input c ≡
 input_asked s (FrameComes bytes) i q sound = let is : lpdu_input bytes ≡ i = cc in subst (λ x. asked (ended_by s x) ≡ false) is (lpdu_asked s bytes)
 input_asked s (FrameIsRefused fault) i q sound = absurd (cc q)
 input_asked s TickComes i q sound =
-    let is : Rattle.link_machine.specs.Machine.LinkInput.Tick ≡ i = cc in
+    let is : Rattle.link_laws.specs.machine.Machine.LinkInput.Tick ≡ i = cc in
     subst (λ x. asked (ended_by s x) ≡ false) is
     (cond_both (is_open s.role) (tick_answer s.shdlc).ended (ended_by_act s ActTick) (λ o. asked o ≡ false) (λ _. tick_asked s.shdlc)
     (λ _. act_asked s ActTick))
 input_asked s (ResetComes window) i q sound =
-    let is : Rattle.link_machine.specs.Machine.LinkInput.Reset window ≡ i = cc in
+    let is : Rattle.link_laws.specs.machine.Machine.LinkInput.Reset window ≡ i = cc in
     subst (λ x. asked (ended_by s x) ≡ is_up s.shdlc.phase) is (reset_asked s sound)
 input_asked s (StartComes value) i q sound =
-    let is : Rattle.link_machine.specs.Machine.LinkInput.Start value ≡ i = cc in subst (λ x. asked (ended_by s x) ≡ false) is (up_asked s.shdlc ByAct refl)
+    let is : Rattle.link_laws.specs.machine.Machine.LinkInput.Start value ≡ i = cc in subst (λ x. asked (ended_by s x) ≡ false) is (up_asked s.shdlc ByAct refl)
 input_asked s StopComes i q sound =
-    let is : Rattle.link_machine.specs.Machine.LinkInput.Stop ≡ i = cc in subst (λ x. asked (ended_by s x) ≡ false) is (up_asked s.shdlc ByAct refl)
+    let is : Rattle.link_laws.specs.machine.Machine.LinkInput.Stop ≡ i = cc in subst (λ x. asked (ended_by s x) ≡ false) is (up_asked s.shdlc ByAct refl)
 
 -- ## A step
 

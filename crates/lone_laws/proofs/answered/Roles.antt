@@ -10,13 +10,14 @@ use Rattle.swp_act.specs.declared.ActEvent.TheVariants.{Start as ActStart, Take 
 use Rattle.shdlc_core.specs.declared.answers.LinkState.{LinkState}
 use Rattle.shdlc_core.specs.declared.answers.LinkState.TheVariants.{Down as IsDown, Waiting as IsWaitingNow, Up as IsUpNow}
 use Rattle.shdlc_core.specs.Machine.{EndState, taken, take_answer, ticked, tick_answer, stopped, reset_with}
-use Rattle.link_machine.specs.Machine.{LinkEnd, LinkInput, Refused, is_open, is_faulty, moved, put_down, with_act, activated, act_answer, role_after, heard}
-use Rattle.link_machine.specs.Machine.{news}
-use Rattle.link_machine.specs.Machine.{reset_by, window_of, reset_refusal, unless, after_input}
-use Rattle.link_machine.specs.Machine.LinkInput.{Take, TakeUnknown, TakeBroken, Tick, Reset, Start, Stop, FromNode, Fetch}
+use Rattle.link_laws.specs.machine.Machine.{LinkEnd, LinkInput, Refused, is_open, is_faulty, moved, put_down, with_act, activated, act_answer, role_after}
+use Rattle.link_laws.specs.machine.Machine.{heard}
+use Rattle.link_laws.specs.machine.Machine.{news}
+use Rattle.link_laws.specs.machine.Machine.{reset_by, window_of, reset_refusal, unless, after_input}
+use Rattle.link_laws.specs.machine.Machine.LinkInput.{Take, TakeUnknown, TakeBroken, Tick, Reset, Start, Stop, FromNode, Fetch}
 use Rattle.lone_laws.proofs.answered.Coming.{IsLoneInput}
-use Rattle.link_machine.specs.Machine.{Role}
-use Rattle.link_machine.specs.Machine.Role.{Bare, Clf, Uicc}
+use Rattle.link_laws.specs.machine.Machine.{Role}
+use Rattle.link_laws.specs.machine.Machine.Role.{Bare, Clf, Uicc}
 
 -- an end of a CLF, or of a UICC
 abbrev pub kind_of : Role → Option Bool

@@ -15,21 +15,22 @@ use Rattle.journal_laws.specs.Planned.{fails_within}
 use Rattle.hci_tables.specs.declared.command.Command.{Command}
 use Rattle.hci_tables.specs.Bodies.{body_of}
 use Rattle.hci_store.specs.Committing.{commit_writes}
-use Rattle.link_machine.specs.Machine.{Message, Refused, LinkEnd, Turn, turn, given, give_refusal, unless, sent_all, whole_among, whole_acked, in_use, spare}
-use Rattle.link_machine.specs.Machine.Turn.{Give, Hold, FetchMessage, SetAside, Release}
-use Rattle.link_machine.proofs.Sound.{whole_given}
-use Rattle.link_machine.proofs.Runs.{Sound, sound_turn}
+use Rattle.link_laws.specs.machine.Machine.{Message, Refused, LinkEnd, Turn, turn, given, give_refusal, unless, sent_all, whole_among, whole_acked, in_use}
+use Rattle.link_laws.specs.machine.Machine.{spare}
+use Rattle.link_laws.specs.machine.Machine.Turn.{Give, Hold, FetchMessage, SetAside, Release}
+use Rattle.link_laws.proofs.machine.Sound.{whole_given}
+use Rattle.link_laws.proofs.machine.Runs.{Sound, sound_turn}
 use Rattle.link_laws.proofs.places.Joined.{ready_cases}
 use Rattle.link_laws.proofs.places.Joined.{fetch_cases}
-use Rattle.link_entries.specs.entries.Entries.{End as Side, sent_unless, turn_entry}
-use Rattle.link_entries.proofs.entries.Stepping.{fetched_acked}
+use Rattle.link_laws.specs.entries.Entries.{End as Side, sent_unless, turn_entry}
+use Rattle.link_laws.proofs.entries.Stepping.{fetched_acked}
 use Rattle.history.specs.Filters.{same_end}
 use Rattle.history.specs.Steps.{end_of, entries_for}
 use Rattle.node_machine.specs.Parts.{Desk, Port, Work, Deed}
 use Rattle.node_machine.specs.Parts.Deed.{Commits, Sends, SaysOk, Asks, Releases, Tells, IsAnswered, Drops, SetsErrors, Orders, Hears, GoesOn, Ends}
 use Rattle.node_machine.specs.Carrying.{own_side, end_of_node, noting, port_at, changed_if, with_port, with_desk, after_turn, noted_of, turn_at, loses_power}
 use Rattle.node_machine.specs.Carrying.{keeps, commit, done}
-use Rattle.node_order.proofs.links.Deeds.{IsFine}
+use Rattle.node_laws.proofs.links.Deeds.{IsFine}
 use Rattle.lone_laws.specs.alone.Lone.{end_of_node_alone}
 use Rattle.lone_laws.specs.alone.Known.{LoneTalk, talk_noted, spare_in_talk}
 use Rattle.lone_laws.proofs.answered.Own.{IsOwnDeed}

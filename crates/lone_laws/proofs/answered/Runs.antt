@@ -24,8 +24,8 @@ use Rattle.hci_tables.specs.Tables.{HciTables, AreTables, after_commands, close}
 use Rattle.hci_store.specs.Recordable.{IsRecordable}
 use Rattle.hci_store.proofs.Closing.{close-close}
 use Rattle.hci_store.proofs.Starting.{counted}
-use Rattle.link_machine.specs.Machine.{LinkInput, Message, is_held}
-use Rattle.link_machine.specs.Machine.Turn.{FetchMessage, Hold}
+use Rattle.link_laws.specs.machine.Machine.{LinkInput, Message, is_held}
+use Rattle.link_laws.specs.machine.Machine.Turn.{FetchMessage, Hold}
 use Rattle.node_machine.specs.Parts.{Core, Port, Running, Work, Deed}
 use Rattle.node_machine.specs.Carrying.{all_done, end_of_node, lack, needs, noting, port_at, turn_at, unless_cut, with_desk}
 use Rattle.node_machine.specs.Turns.{deeds_of, goes_through_ends, handles, have_turns, holds_back, lets_go, passes}
@@ -42,10 +42,10 @@ use Rattle.node_laws.proofs.kept.Plainly.{plainly_desk, plainly_noting, plainly_
 use Rattle.node_laws.proofs.kept.Planned.{planned_cut, planned_whole}
 use Rattle.node_laws.proofs.kept.Replies.{controller_may}
 use Rattle.node_laws.proofs.kept.Stepping.{one_may, plainly_come, syncs_one}
-use Rattle.node_order.specs.passes.Passing.{waiting_at}
-use Rattle.node_order.specs.passes.Steps.{comes_to_pass, syncs_in}
-use Rattle.node_order.proofs.passes.Before.{steps_are}
-use Rattle.node_order.proofs.passes.Passing.{handles_sees}
+use Rattle.node_laws.specs.passes.Passing.{waiting_at}
+use Rattle.node_laws.specs.passes.Steps.{comes_to_pass, syncs_in}
+use Rattle.node_laws.proofs.passes.Before.{steps_are}
+use Rattle.node_laws.proofs.passes.Passing.{handles_sees}
 use Rattle.lone_laws.specs.alone.Lone.{Lone, LoneCause, LoneEvent, lone_after, lone_arrival, lone_behind_step, lone_booted, lone_end, lone_events, lone_input}
 use Rattle.lone_laws.specs.alone.Lone.{does_by_power, emits_behind, lone_step, lone_work, node_input, session_with, with_refusal}
 use Rattle.lone_laws.specs.alone.Lone.{frames_behind, noted_of_refused}

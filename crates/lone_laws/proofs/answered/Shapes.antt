@@ -4,7 +4,7 @@ use Rattle.std.specs.Prelude.{Option, Some, None}
 use Rattle.std.specs.List.{AllByRecursion}
 use Rattle.hci_tables.specs.declared.command.Command.{Command}
 use Rattle.hci_tables.specs.declared.command.Command.TheVariants.{Create, Delete, Clear}
-use Rattle.tables_laws.specs.Changes.{JoinTwo}
+use Rattle.tables_laws.specs.tables.Changes.{JoinTwo}
 use Rattle.gate_answers.specs.declared.response.Response.TheVariants as response
 use Rattle.gate_answers.specs.Answers.{answer_of, body_in}
 use Rattle.gate_admin.specs.declared.view.LinkView.{LinkView}
@@ -14,8 +14,8 @@ use Rattle.gate_admin.specs.View.{has, hosts_where}
 use Rattle.gate_admin.specs.Decide.{decided}
 use Rattle.gate_identity.specs.Identity.{identity_served}
 use Rattle.gate_link.specs.Link.{link_served}
-use Rattle.gate_laws.proofs.Decisions.{decided_tells_others}
-use Rattle.link_machine.specs.Machine.{Message}
+use Rattle.tables_laws.proofs.gate.Decisions.{decided_tells_others}
+use Rattle.link_laws.specs.machine.Machine.{Message}
 use Rattle.node_machine.specs.Parts.{Creation, Core, Port, Deed}
 use Rattle.node_machine.specs.Parts.Deed.{Commits, Sends, SaysOk, Tells, IsAnswered, Drops, SetsErrors}
 use Rattle.node_machine.specs.Carrying.{port_at, finds_room}

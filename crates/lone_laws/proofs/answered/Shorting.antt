@@ -11,13 +11,13 @@ use Rattle.swp_lpdu.specs.Controls.{lpdu_of}
 use Rattle.trace_model.specs.declared.entry.Entry.{Entry}
 use Rattle.trace_model.specs.declared.entry.Entry.TheVariants as entry
 use Rattle.trace_model.specs.declared.line.End.{End}
-use Rattle.link_machine.specs.Machine.{Message, LinkInput, oldest}
+use Rattle.link_laws.specs.machine.Machine.{Message, LinkInput, oldest}
 use Rattle.node_machine.specs.Parts.{Core, Running, Port, Work}
 use Rattle.node_machine.specs.Carrying.{end_of_node, port_at, needs, lack}
 use Rattle.node_machine.specs.Turns.{deeds_of}
-use Rattle.answer_laws.proofs.answers.Alike.{replies_alike}
-use Rattle.answer_laws.proofs.hosts.Alike.{host_same}
-use Rattle.node_order.specs.passes.Passing.{BeginWithTurn, AreAlong, links_of_turns, ComesTo, IsBehind, Stays, waiting_at, is_held_at}
+use Rattle.node_laws.proofs.answers.Alike.{replies_alike}
+use Rattle.node_laws.proofs.hosts.Alike.{host_same}
+use Rattle.node_laws.specs.passes.Passing.{BeginWithTurn, AreAlong, links_of_turns, ComesTo, IsBehind, Stays, waiting_at, is_held_at}
 use Rattle.lone_laws.specs.alone.Lone.{Lone, LoneCause, end_of_node_alone, lone_input, emits_behind, frames_behind, session_with}
 use Rattle.lone_laws.specs.alone.Known.{RecErrors, LoneTalk, core_noted, left_noted, talk_noted, no_session_now, spare_in_talk, side_told, core_since}
 use Rattle.lone_laws.specs.alone.Known.{left_since}

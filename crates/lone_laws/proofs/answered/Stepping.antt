@@ -10,18 +10,18 @@ use Rattle.trace_model.specs.declared.entry.Entry.{Entry}
 use Rattle.trace_model.specs.declared.line.End.{End}
 use Rattle.hci_tables.specs.declared.command.Command.TheVariants.{Sync}
 use Rattle.hci_tables.specs.Commands.{IsCommand}
-use Rattle.link_machine.specs.Machine.{LinkInput, lpdu_input, report}
+use Rattle.link_laws.specs.machine.Machine.{LinkInput, lpdu_input, report}
 use Rattle.node_machine.specs.Parts.{Core, Port, Work}
 use Rattle.node_machine.specs.Parts.Deed.{Commits}
 use Rattle.node_machine.specs.Carrying.{unless_cut, all_done}
 use Rattle.node_machine.specs.Turns.{passes}
 use Rattle.node_machine.specs.Node.{NodeInput, input_at, synced, steps, all_come}
 use Rattle.node_laws.proofs.steps.StepWalks.{all_do}
-use Rattle.node_order.specs.passes.Passing.{ComesTo, ArePassed}
-use Rattle.node_order.specs.passes.Passing.ComesTo.{Begins}
-use Rattle.node_order.specs.passes.Steps.{syncs_in, comes_to_pass}
-use Rattle.node_order.proofs.passes.Passing.{through, comes_lasts}
-use Rattle.node_order.proofs.passes.Before.{steps_are}
+use Rattle.node_laws.specs.passes.Passing.{ComesTo, ArePassed}
+use Rattle.node_laws.specs.passes.Passing.ComesTo.{Begins}
+use Rattle.node_laws.specs.passes.Steps.{syncs_in, comes_to_pass}
+use Rattle.node_laws.proofs.passes.Passing.{through, comes_lasts}
+use Rattle.node_laws.proofs.passes.Before.{steps_are}
 use Rattle.node_laws.specs.kept.Books.{hosts_of_ends}
 use Rattle.lone_laws.specs.alone.Lone.{LoneCause, end_of_node_alone, lone_input, node_input}
 use Rattle.lone_laws.specs.alone.Lone.LoneCause.{FrameComes, FrameIsRefused, TickComes, ResetComes, StartComes, StopComes}
@@ -41,10 +41,10 @@ lone_lpdu bytes = go (control_of bytes) refl where
 pub lone_comes : (c : LoneCause) (i : LinkInput) → lone_input c ≡ Some i → IsLoneInput i
 lone_comes (FrameComes bytes) i q = let is : lpdu_input bytes ≡ i = cc in subst IsLoneInput is (lone_lpdu bytes)
 lone_comes (FrameIsRefused fault) i q = absurd (cc q)
-lone_comes TickComes i q = let is : Rattle.link_machine.specs.Machine.LinkInput.Tick ≡ i = cc in subst IsLoneInput is tt
-lone_comes (ResetComes window) i q = let is : Rattle.link_machine.specs.Machine.LinkInput.Reset window ≡ i = cc in subst IsLoneInput is tt
-lone_comes (StartComes value) i q = let is : Rattle.link_machine.specs.Machine.LinkInput.Start value ≡ i = cc in subst IsLoneInput is tt
-lone_comes StopComes i q = let is : Rattle.link_machine.specs.Machine.LinkInput.Stop ≡ i = cc in subst IsLoneInput is tt
+lone_comes TickComes i q = let is : Rattle.link_laws.specs.machine.Machine.LinkInput.Tick ≡ i = cc in subst IsLoneInput is tt
+lone_comes (ResetComes window) i q = let is : Rattle.link_laws.specs.machine.Machine.LinkInput.Reset window ≡ i = cc in subst IsLoneInput is tt
+lone_comes (StartComes value) i q = let is : Rattle.link_laws.specs.machine.Machine.LinkInput.Start value ≡ i = cc in subst IsLoneInput is tt
+lone_comes StopComes i q = let is : Rattle.link_laws.specs.machine.Machine.LinkInput.Stop ≡ i = cc in subst IsLoneInput is tt
 
 -- ## A step
 

@@ -17,18 +17,18 @@ use Rattle.shdlc_core.specs.declared.answers.LinkState.{LinkState}
 use Rattle.shdlc_core.specs.declared.answers.LinkState.TheVariants.{Down as IsDown, Waiting as IsWaitingNow, Up as IsUpNow}
 use Rattle.shdlc_core.specs.Machine.{EndState, taken, take_answer, ticked, tick_answer, stopped, reset_with}
 use Rattle.link_laws.specs.sessions.Sessions.{is_up}
-use Rattle.link_machine.specs.Machine.{Message, LinkEnd, LinkInput, Refused, Report, is_open, is_faulty, moved, put_down, with_act, activated, act_answer}
-use Rattle.link_machine.specs.Machine.{role_after, heard, news}
-use Rattle.link_machine.specs.Machine.{reset_by, window_of, reset_refusal, unless, after_input, ended_by, began_by, got_by, report}
-use Rattle.link_machine.specs.Machine.{whole_among, whole_acked}
-use Rattle.link_machine.specs.Machine.LinkInput.{Take, TakeUnknown, TakeBroken, Tick, Reset, Start, Stop, FromNode, Fetch}
-use Rattle.link_machine.proofs.Shifts.{Shift, IsNotUp}
-use Rattle.link_machine.proofs.Shifts.Shift.{Stays, Ends, Renews, Begins, Rests}
-use Rattle.link_machine.proofs.Sound.{Data, SentAfter, whole_more}
-use Rattle.link_machine.proofs.Runs.{Sound}
-use Rattle.link_machine.proofs.Reports.{Becomes, take_so, tick_so, reset_so, start_so, stop_so}
-use Rattle.link_entries.specs.entries.Entries.{End as Side, Entry as Noted, told, if_so}
-use Rattle.link_entries.specs.entries.Entries.Entry.{Up, Down, Active, GaveUp, Acked, Got}
+use Rattle.link_laws.specs.machine.Machine.{Message, LinkEnd, LinkInput, Refused, Report, is_open, is_faulty, moved, put_down, with_act, activated, act_answer}
+use Rattle.link_laws.specs.machine.Machine.{role_after, heard, news}
+use Rattle.link_laws.specs.machine.Machine.{reset_by, window_of, reset_refusal, unless, after_input, ended_by, began_by, got_by, report}
+use Rattle.link_laws.specs.machine.Machine.{whole_among, whole_acked}
+use Rattle.link_laws.specs.machine.Machine.LinkInput.{Take, TakeUnknown, TakeBroken, Tick, Reset, Start, Stop, FromNode, Fetch}
+use Rattle.link_laws.proofs.machine.Shifts.{Shift, IsNotUp}
+use Rattle.link_laws.proofs.machine.Shifts.Shift.{Stays, Ends, Renews, Begins, Rests}
+use Rattle.link_laws.proofs.machine.Sound.{Data, SentAfter, whole_more}
+use Rattle.link_laws.proofs.machine.Runs.{Sound}
+use Rattle.link_laws.proofs.machine.Reports.{Becomes, take_so, tick_so, reset_so, start_so, stop_so}
+use Rattle.link_laws.specs.entries.Entries.{End as Side, Entry as Noted, told, if_so}
+use Rattle.link_laws.specs.entries.Entries.Entry.{Up, Down, Active, GaveUp, Acked, Got}
 use Rattle.history.specs.Filters.{same_end}
 use Rattle.history.specs.Steps.{end_of, entry_of, entries_for}
 use Rattle.lone_laws.specs.alone.Known.{LoneTalk, no_session_now, talk_noted}

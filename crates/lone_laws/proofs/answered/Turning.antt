@@ -7,16 +7,16 @@ use Rattle.trace_model.specs.declared.entry.Entry.{Entry}
 use Rattle.trace_model.specs.declared.entry.Entry.TheVariants as entry
 use Rattle.trace_model.specs.declared.line.End.{End}
 use Rattle.hci_tables.specs.Tables.{AreTables}
-use Rattle.tables_laws.specs.Changes.{JoinTwo}
-use Rattle.link_machine.specs.Machine.{Message}
-use Rattle.link_machine.specs.Machine.Turn.{Hold, FetchMessage}
+use Rattle.tables_laws.specs.tables.Changes.{JoinTwo}
+use Rattle.link_laws.specs.machine.Machine.{Message}
+use Rattle.link_laws.specs.machine.Machine.Turn.{Hold, FetchMessage}
 use Rattle.history.specs.Filters.{same_end, same_side}
 use Rattle.node_machine.specs.Parts.{Core, Port, Work}
 use Rattle.node_machine.specs.Carrying.{end_of_node, noting, port_at, changed_if, with_port, with_desk, after_turn, turn_at}
 use Rattle.node_machine.specs.Turns.{deeds_of, handles, holds_back}
 use Rattle.node_laws.proofs.steps.StepWalks.{all_do, lets}
-use Rattle.node_order.specs.passes.Passing.{waiting_at, takes_up, LastsOverTurns, ComesTo}
-use Rattle.node_order.proofs.passes.Passing.{comes_so, takes_entries}
+use Rattle.node_laws.specs.passes.Passing.{waiting_at, takes_up, LastsOverTurns, ComesTo}
+use Rattle.node_laws.proofs.passes.Passing.{comes_so, takes_entries}
 use Rattle.lone_laws.specs.alone.Lone.{end_of_node_alone}
 use Rattle.lone_laws.proofs.answered.Own.{IsOwnDeed, AreOwnDeeds, controller_own, host_own}
 use Rattle.lone_laws.proofs.answered.Reading.{eqb_same, Read, read_all, reads_of, Alone, read_more, alone_turn}

@@ -17,22 +17,22 @@ use Rattle.hci_tables.specs.declared.command.Command.{Command}
 use Rattle.hci_tables.specs.Commands.{IsCommand}
 use Rattle.hci_tables.specs.Bodies.{spelled_by, command_of}
 use Rattle.hci_tables.specs.Tables.{HciTables, AreTables, no_tables, apply, close}
-use Rattle.tables_laws.specs.Changes.{JoinTwo}
-use Rattle.tables_laws.proofs.SortedTables.{AreTables-apply, AreTables-close, AreTables-none}
-use Rattle.tables_laws.proofs.TwoHosts.{JoinTwo-after, JoinTwo-closed}
+use Rattle.tables_laws.specs.tables.Changes.{JoinTwo}
+use Rattle.tables_laws.proofs.tables.SortedTables.{AreTables-apply, AreTables-close, AreTables-none}
+use Rattle.tables_laws.proofs.tables.TwoHosts.{JoinTwo-after, JoinTwo-closed}
 use Rattle.hci_store.specs.Image.{applied, tables_of}
 use Rattle.node_laws.proofs.kept.Booting.{command_read}
-use Rattle.link_entries.specs.messages.Links.Loss.{Broken}
+use Rattle.link_laws.specs.messages.Links.Loss.{Broken}
 use Rattle.history.specs.Steps.{lost_as}
-use Rattle.link_machine.specs.Machine.{LinkInput, oldest, new_link_end}
+use Rattle.link_laws.specs.machine.Machine.{LinkInput, oldest, new_link_end}
 use Rattle.swp_act.specs.Activation.{new_clf, new_uicc}
-use Rattle.link_machine.specs.Machine.Role.{Clf, Uicc}
-use Rattle.link_machine.proofs.Runs.{new_sound}
+use Rattle.link_laws.specs.machine.Machine.Role.{Clf, Uicc}
+use Rattle.link_laws.proofs.machine.Runs.{new_sound}
 use Rattle.node_machine.specs.Parts.{Desk, Core, Running, Work}
 use Rattle.node_machine.specs.Carrying.{changed_if}
 use Rattle.node_machine.specs.Node.{boot_writes, found, new_desk, with_error}
 use Rattle.node_machine.specs.world.NodeFilters.{was_refused}
-use Rattle.node_order.specs.passes.Passing.{link_of_turn, AreNoTurns}
+use Rattle.node_laws.specs.passes.Passing.{link_of_turn, AreNoTurns}
 use Rattle.lone_laws.specs.alone.Lone.{Lone, LoneCause, LoneEvent, lone_end, lone_input, node_input, lone_arrival, lone_work, emits_behind, with_refusal}
 use Rattle.lone_laws.specs.alone.Lone.{noted_of_refused, lone_behind_step, does_by_power, lone_step, lone_events, lone_booted, role_alone}
 use Rattle.lone_laws.specs.alone.Lone.LoneCause.{FrameComes, FrameIsRefused, TickComes, ResetComes, StartComes, StopComes}

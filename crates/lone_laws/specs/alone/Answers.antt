@@ -15,7 +15,7 @@ use Rattle.trace_model.specs.declared.line.End.{End}
 use Rattle.journal_laws.specs.Journal.{count_of}
 use Rattle.hci_tables.specs.declared.command.Command.TheVariants.{Sync}
 use Rattle.hci_tables.specs.Tables.{is_kept_sync}
-use Rattle.link_machine.specs.Machine.{oldest}
+use Rattle.link_laws.specs.machine.Machine.{oldest}
 use Rattle.node_machine.specs.Parts.{Core, Deed}
 use Rattle.node_machine.specs.Parts.Deed.{Commits, Sends, SaysOk, Drops}
 use Rattle.node_machine.specs.Carrying.{finds_room}

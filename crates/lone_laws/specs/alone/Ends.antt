@@ -20,7 +20,7 @@ use Rattle.swp_decode.specs.declared.line.Wire.TheVariants.{S1, S2}
 use Rattle.swp_decode.specs.Readings.{symbol_on}
 use Rattle.trace_model.specs.declared.entry.Entry.{Entry}
 use Rattle.trace_model.specs.declared.entry.Entry.TheVariants as entry
-use Rattle.link_machine.specs.Machine.{report}
+use Rattle.link_laws.specs.machine.Machine.{report}
 use Rattle.lone_laws.specs.alone.Lone.{Lone, LoneCause, LoneEvent, lone_input, lone_step, lone_events, lone_booted}
 use Rattle.lone_laws.specs.alone.Lone.LoneCause.{FrameComes, FrameIsRefused, TickComes, ResetComes, StartComes, StopComes}
 

@@ -17,8 +17,8 @@ use Rattle.hci_tables.specs.Tables.{apply}
 use Rattle.hci_store.specs.Committing.{committed}
 use Rattle.gate_answers.specs.Answers.{body_in}
 use Rattle.gate_link.specs.Link.{link_served}
-use Rattle.link_machine.specs.Machine.{Message, LinkEnd, new_link_end, oldest, need_of_all}
-use Rattle.link_machine.specs.Machine.Role.{Bare, Clf}
+use Rattle.link_laws.specs.machine.Machine.{Message, LinkEnd, new_link_end, oldest, need_of_all}
+use Rattle.link_laws.specs.machine.Machine.Role.{Bare, Clf}
 use Rattle.history.specs.Filters.{same_end}
 use Rattle.node_machine.specs.Parts.{Core, Port, Deed}
 use Rattle.node_machine.specs.Carrying.{needs, lack}

@@ -13,10 +13,10 @@ use Rattle.trace_model.specs.declared.entry.Entry.TheVariants as entry
 use Rattle.trace_model.specs.declared.line.End.{End}
 use Rattle.link_laws.specs.sessions.Sessions.{is_rset}
 use Rattle.journal_laws.specs.Planned.{fails_within, after_planned}
-use Rattle.link_machine.specs.Machine.{LinkEnd, Role, LinkInput, new_link_end, lpdu_input, began_by, frames_out, sent_all}
-use Rattle.link_machine.specs.Machine.Role.{Clf, Uicc}
-use Rattle.link_machine.specs.Machine.LinkInput.{Take, Tick, Reset, Start, Stop}
-use Rattle.link_entries.specs.messages.Links.Loss.{Broken}
+use Rattle.link_laws.specs.machine.Machine.{LinkEnd, Role, LinkInput, new_link_end, lpdu_input, began_by, frames_out, sent_all}
+use Rattle.link_laws.specs.machine.Machine.Role.{Clf, Uicc}
+use Rattle.link_laws.specs.machine.Machine.LinkInput.{Take, Tick, Reset, Start, Stop}
+use Rattle.link_laws.specs.messages.Links.Loss.{Broken}
 use Rattle.history.specs.Steps.{lost_as}
 use Rattle.node_machine.specs.Parts.{Desk, Running, Port, Work}
 use Rattle.node_machine.specs.Carrying.{port_at}

@@ -6,11 +6,11 @@ use Rattle.std.proofs.lemmas.Bool.{cases_Bool, ne_eqb, eqb-true}
 use Rattle.swp_base.specs.InMemory.{Memory}
 use Rattle.trace_model.specs.Lines.{IsHost}
 use Rattle.trace_model.specs.declared.entry.Entry.{Entry}
-use Rattle.link_entries.specs.messages.Links.{happens}
-use Rattle.link_entries.specs.messages.Links.LinkEvent.{AtController}
-use Rattle.link_entries.specs.messages.Links.Comes.{NoInput}
-use Rattle.link_entries.specs.messages.Links.Ending.{CutOff}
-use Rattle.link_entries.specs.messages.Links.EndEvent.{Step}
+use Rattle.link_laws.specs.messages.Links.{happens}
+use Rattle.link_laws.specs.messages.Links.LinkEvent.{AtController}
+use Rattle.link_laws.specs.messages.Links.Comes.{NoInput}
+use Rattle.link_laws.specs.messages.Links.Ending.{CutOff}
+use Rattle.link_laws.specs.messages.Links.EndEvent.{Step}
 use Rattle.node_machine.specs.Parts.{Running}
 use Rattle.node_machine.specs.world.World.{NodeWorld, Site, node_at, site_at, with_site, controller_cut, host_cut, loses_power_at, memory_at}
 use Rattle.node_machine.specs.world.World.{with_memory, with_node}

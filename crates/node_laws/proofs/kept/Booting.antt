@@ -22,14 +22,14 @@ use Rattle.hci_tables.specs.declared.command.Command.{Command}
 use Rattle.hci_tables.specs.Commands.{is_command, IsCommand}
 use Rattle.hci_tables.specs.Bodies.{spelled_by, if_command, command_of}
 use Rattle.hci_tables.specs.Tables.{HciTables, AreTables, no_tables, apply, after_commands, close}
-use Rattle.tables_laws.proofs.SortedTables.{AreTables-apply, AreTables-close, AreTables-none}
+use Rattle.tables_laws.proofs.tables.SortedTables.{AreTables-apply, AreTables-close, AreTables-none}
 use Rattle.hci_store.specs.Recordable.{IsRecordable}
 use Rattle.hci_store.specs.Image.{applied, tables_of}
 use Rattle.hci_store.proofs.Recorded.{recordable-none, recordable-close, recordable-apply}
 use Rattle.hci_store.proofs.Closing.{close-close}
 use Rattle.hci_store.proofs.CutShort.{holds_still}
 use Rattle.hci_store.proofs.Starting.{counted}
-use Rattle.link_entries.specs.messages.Links.{NumberedEnd}
+use Rattle.link_laws.specs.messages.Links.{NumberedEnd}
 use Rattle.node_machine.specs.Parts.{Creation, Desk, Running, Port}
 use Rattle.node_machine.specs.Carrying.{port_at}
 use Rattle.node_machine.specs.Controller.{asked_at}

@@ -17,7 +17,7 @@ use Rattle.gate_admin.specs.Decide.{IsRecordableDecision, far_end_of, far_end, t
 use Rattle.gate_admin.specs.Decide.{tests_to_delete}
 use Rattle.gate_admin.specs.Decide.{decided}
 use Rattle.gate_admin.proofs.CreationLemmas.{AllFalse, all_false, creation-recordable}
-use Rattle.gate_laws.proofs.Decisions.{decided_holds}
+use Rattle.tables_laws.proofs.gate.Decisions.{decided_holds}
 
 row_dynamic : (t : HciTables) (h pipe : ℕ) → AreTables t → is_none (option_and_then (far_end_of h) (pipe_at t.rows pipe)) ≡ false → (2 ≤ pipe) × (pipe < 112)
 row_dynamic t h pipe are some = by_row (pipe_at t.rows pipe) refl some where

@@ -17,8 +17,8 @@ use Rattle.hci_tables.specs.Bodies.{body_of}
 use Rattle.hci_tables.specs.Tables.{HciTables, no_tables, apply, after_commands, close}
 use Rattle.hci_store.specs.Committing.{commit_writes, committed}
 use Rattle.hci_store.proofs.Recorded.{recordable-apply}
-use Rattle.tables_laws.proofs.SortedTables.{AreTables-apply}
-use Rattle.link_machine.specs.Machine.Turn.{Give, SetAside, Release}
+use Rattle.tables_laws.proofs.tables.SortedTables.{AreTables-apply}
+use Rattle.link_laws.specs.machine.Machine.Turn.{Give, SetAside, Release}
 use Rattle.node_machine.specs.Parts.{Creation, Port, Work, Deed, Init}
 use Rattle.node_machine.specs.Parts.About.{Waits, Removed}
 use Rattle.node_machine.specs.Parts.Deed.{Commits, Sends, SaysOk, Asks, Releases, Tells, IsAnswered, Drops, SetsErrors, Orders, Hears, GoesOn, Ends}

@@ -15,9 +15,9 @@ use Rattle.trace_model.specs.declared.line.Line.TheVariants as line
 use Rattle.history.specs.Damage.{Verdict}
 use Rattle.history.specs.Damage.Verdict.{Same, LostFor, Undetected}
 use Rattle.history.specs.Follows.{first_verdict, taken_of}
-use Rattle.link_machine.specs.Machine.{Refused, give_refusal}
-use Rattle.link_machine.specs.Machine.Refused.{NotUp}
-use Rattle.link_entries.specs.messages.Links.Comes.{NextFrame, AsksReset}
+use Rattle.link_laws.specs.machine.Machine.{Refused, give_refusal}
+use Rattle.link_laws.specs.machine.Machine.Refused.{NotUp}
+use Rattle.link_laws.specs.messages.Links.Comes.{NextFrame, AsksReset}
 use Rattle.node_machine.specs.Parts.{Running}
 use Rattle.node_machine.specs.Controller.{is_command_message}
 use Rattle.node_machine.specs.world.World.{NodeWorld, Site, Happening, node_at, site_at, node_of, world_step}

@@ -8,10 +8,10 @@ use Rattle.swp_base.specs.InMemory.{Memory}
 use Rattle.trace_model.specs.declared.entry.Entry.{Entry}
 use Rattle.journal_laws.specs.Journal.{count_of}
 use Rattle.journal_laws.specs.Planned.{after_planned}
-use Rattle.link_machine.specs.Machine.{Turn}
-use Rattle.link_machine.specs.Machine.Turn.{Give, FetchMessage}
-use Rattle.link_entries.specs.entries.Entries.{Entry as Noted, turn_entry}
-use Rattle.link_entries.specs.entries.Entries.Entry.{Up, Down, Active, GaveUp, Acked, Got, Sent, Emit, Took, Lost, Tick, Restarted, Cut}
+use Rattle.link_laws.specs.machine.Machine.{Turn}
+use Rattle.link_laws.specs.machine.Machine.Turn.{Give, FetchMessage}
+use Rattle.link_laws.specs.entries.Entries.{Entry as Noted, turn_entry}
+use Rattle.link_laws.specs.entries.Entries.Entry.{Up, Down, Active, GaveUp, Acked, Got, Sent, Emit, Took, Lost, Tick, Restarted, Cut}
 use Rattle.history.specs.Steps.{entry_of, entries_for}
 use Rattle.hci_tables.specs.Tables.{AreTables}
 use Rattle.hci_store.specs.Recordable.{IsRecordable}

@@ -13,7 +13,7 @@ use Rattle.gate_admin.specs.declared.decision.Decision.TheVariants.{Answer, Comm
 use Rattle.gate_admin.specs.View.{has, hosts_where}
 use Rattle.gate_admin.specs.Decide.{IsRecordableDecision, decided}
 use Rattle.gate_link.specs.Link.{link_served}
-use Rattle.link_machine.specs.Machine.{Message}
+use Rattle.link_laws.specs.machine.Machine.{Message}
 use Rattle.node_machine.specs.Parts.{Creation, About, Notice, Core, Port, Deed}
 use Rattle.node_machine.specs.Parts.About.{Waits, Forgotten, Removed}
 use Rattle.node_machine.specs.Parts.Deed.{Tells}

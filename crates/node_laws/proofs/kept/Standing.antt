@@ -8,7 +8,7 @@ use Rattle.trace_model.specs.declared.entry.Entry.{Entry}
 use Rattle.trace_model.specs.declared.entry.Entry.TheVariants as entry
 use Rattle.journal_laws.specs.Journal.{count_of}
 use Rattle.journal_laws.specs.Planned.{after_planned}
-use Rattle.link_entries.specs.messages.Links.{NumberedEnd}
+use Rattle.link_laws.specs.messages.Links.{NumberedEnd}
 use Rattle.hci_tables.specs.Tables.{close}
 use Rattle.node_machine.specs.Parts.{Desk, Running, Port, Work}
 use Rattle.node_machine.specs.world.World.{port_for, work_of, runs_on}

@@ -18,11 +18,11 @@ use Rattle.journal_laws.specs.declared.state.State.{State}
 use Rattle.hci_tables.specs.declared.command.Command.TheVariants.{Sync}
 use Rattle.hci_tables.specs.Commands.{IsCommand}
 use Rattle.hci_tables.specs.Tables.{HciTables, AreTables, apply, is_kept_sync}
-use Rattle.link_machine.specs.Machine.{Role, LinkInput, after_input, act_out, act_answer, is_open, report, whole_acked}
-use Rattle.link_machine.specs.Machine.Role.{Bare, Clf, Uicc}
-use Rattle.link_machine.specs.Machine.LinkInput.{Reset}
-use Rattle.link_machine.specs.Machine.Turn.{Give, Release}
-use Rattle.link_entries.specs.entries.Entries.{told}
+use Rattle.link_laws.specs.machine.Machine.{Role, LinkInput, after_input, act_out, act_answer, is_open, report, whole_acked}
+use Rattle.link_laws.specs.machine.Machine.Role.{Bare, Clf, Uicc}
+use Rattle.link_laws.specs.machine.Machine.LinkInput.{Reset}
+use Rattle.link_laws.specs.machine.Machine.Turn.{Give, Release}
+use Rattle.link_laws.specs.entries.Entries.{told}
 use Rattle.node_machine.specs.Parts.{Creation, Notice, Init, Core, Port, Work, Deed}
 use Rattle.node_machine.specs.Parts.About.{Forgotten}
 use Rattle.node_machine.specs.Parts.Deed.{Commits, Sends, Releases}

@@ -10,8 +10,8 @@ use Rattle.swp_base.specs.InMemory.{Memory}
 use Rattle.trace_model.specs.Lines.{IsHost}
 use Rattle.trace_model.specs.declared.entry.Entry.{Entry}
 use Rattle.trace_model.specs.declared.entry.Entry.TheVariants as entry
-use Rattle.link_machine.specs.Machine.{Message, is_held}
-use Rattle.link_machine.specs.Machine.Turn.{FetchMessage, Hold}
+use Rattle.link_laws.specs.machine.Machine.{Message, is_held}
+use Rattle.link_laws.specs.machine.Machine.Turn.{FetchMessage, Hold}
 use Rattle.node_machine.specs.Parts.{Port, Work, Deed}
 use Rattle.node_machine.specs.Carrying.{noting, unless_cut, port_at, with_desk, turn_at, end_of_node, needs, lack}
 use Rattle.node_machine.specs.HostReplies.{host_deeds}

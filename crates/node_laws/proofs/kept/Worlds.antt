@@ -8,9 +8,9 @@ use Rattle.swp_base.specs.InMemory.{Memory}
 use Rattle.trace_model.specs.Lines.{IsHost}
 use Rattle.trace_model.specs.declared.entry.Entry.{Entry}
 use Rattle.journal_laws.specs.Planned.{after_planned}
-use Rattle.link_entries.specs.messages.Links.{Link, Comes, exchanged}
-use Rattle.link_entries.specs.entries.Entries.{End as Side, ending_entries}
-use Rattle.link_entries.specs.entries.Entries.End.{Controller, Host}
+use Rattle.link_laws.specs.messages.Links.{Link, Comes, exchanged}
+use Rattle.link_laws.specs.entries.Entries.{End as Side, ending_entries}
+use Rattle.link_laws.specs.entries.Entries.End.{Controller, Host}
 use Rattle.history.specs.Steps.{entries_for}
 use Rattle.node_machine.specs.Parts.{Running, Port, Work}
 use Rattle.node_machine.specs.Carrying.{port_at}

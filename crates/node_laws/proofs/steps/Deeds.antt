@@ -6,9 +6,9 @@ use Rattle.gate_admin.specs.declared.decision.Decision.{Decision}
 use Rattle.gate_admin.specs.declared.decision.Decision.TheVariants.{Answer, Commit, Ask}
 use Rattle.gate_admin.specs.View.{has, hosts_where}
 use Rattle.gate_admin.specs.Decide.{decided}
-use Rattle.gate_laws.specs.Rules.{AsksAsAllowed}
-use Rattle.gate_laws.proofs.Decisions.{decided_as_allowed}
-use Rattle.link_machine.specs.Machine.{Message}
+use Rattle.tables_laws.specs.gate.Rules.{AsksAsAllowed}
+use Rattle.tables_laws.proofs.gate.Decisions.{decided_as_allowed}
+use Rattle.link_laws.specs.machine.Machine.{Message}
 use Rattle.node_machine.specs.Parts.{Core, Port}
 use Rattle.node_machine.specs.Parts.Deed.{Tells}
 use Rattle.node_machine.specs.Controller.{view_for, controller_deeds}

@@ -3,7 +3,7 @@ use Rattle.std.proofs.Common.{◌≡◌, ℕ, Bool, true, false, eqb, List, [], 
 use Rattle.std.specs.Prelude.{Option, Some, None}
 use Rattle.std.specs.List.{list_any, AllByRecursion}
 use Rattle.std.proofs.lemmas.Bool.{cond_both}
-use Rattle.link_machine.specs.Machine.{LinkInput}
+use Rattle.link_laws.specs.machine.Machine.{LinkInput}
 use Rattle.node_machine.specs.Parts.{Core, Port}
 use Rattle.node_machine.specs.Carrying.{port_at, changed_if}
 use Rattle.node_machine.specs.Controller.{asked_at}

@@ -7,8 +7,8 @@ use Rattle.hci_tables.specs.declared.command.Command.{Command}
 use Rattle.hci_tables.specs.declared.command.Command.TheVariants.{Create, Delete, Clear, SetOpened, Set, Sync}
 use Rattle.hci_tables.specs.Commands.{IsCommand}
 use Rattle.hci_tables.specs.Tables.{HciTables, AreTables, apply, is_kept_sync}
-use Rattle.tables_laws.specs.Changes.{told_value}
-use Rattle.tables_laws.proofs.Values.{values-apply}
+use Rattle.tables_laws.specs.tables.Changes.{told_value}
+use Rattle.tables_laws.proofs.tables.Values.{values-apply}
 use Rattle.node_laws.specs.steps.Creations.{LeavesWhitelist}
 
 synced : (t : HciTables) (h id x : ℕ) → told_value t (Sync h id) x 3 ≡ value_at t.values x 0 3

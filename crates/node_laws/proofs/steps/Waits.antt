@@ -11,8 +11,8 @@ use Rattle.hci_tables.specs.Commands.{IsCommand}
 use Rattle.hci_tables.specs.Tables.{HciTables, AreTables, apply}
 use Rattle.gate_admin.specs.declared.view.LinkView.{LinkView}
 use Rattle.gate_admin.specs.Decide.{allows}
-use Rattle.gate_laws.specs.Rules.{EndsAtController, IsAskedFor}
-use Rattle.link_machine.specs.Machine.{Message}
+use Rattle.tables_laws.specs.gate.Rules.{EndsAtController, IsAskedFor}
+use Rattle.link_laws.specs.machine.Machine.{Message}
 use Rattle.node_machine.specs.Parts.{Creation, About, Notice, Core, Port, Deed}
 use Rattle.node_machine.specs.Parts.About.{Waits, Forgotten, Removed}
 use Rattle.node_machine.specs.Parts.Deed.{Commits, Asks}

@@ -27,7 +27,7 @@ use Rattle.gate_admin.specs.Decide.{decided}
 use Rattle.gate_link.specs.Link.{link_served}
 use Rattle.gate_identity.specs.Identity.{identity_served}
 use Rattle.gate_loopback.specs.Loopback.{posts_back}
-use Rattle.link_machine.specs.Machine.{Message, LinkInput, report}
+use Rattle.link_laws.specs.machine.Machine.{Message, LinkInput, report}
 use Rattle.node_machine.specs.Parts.{Init, Creation, Notice, Core, Port, Deed}
 use Rattle.node_machine.specs.Parts.Deed.{Commits, Sends, SaysOk, Asks, Releases, Tells, IsAnswered, Drops, SetsErrors, Orders, Hears, GoesOn, Ends}
 use Rattle.node_machine.specs.Carrying.{end_of_node, port_at, finds_room}

@@ -14,13 +14,13 @@ use Rattle.gate_admin.specs.View.{has, hosts_where, is_asked}
 use Rattle.gate_admin.specs.Decide.{tests_to_set_it, tests_to_clear}
 use Rattle.gate_admin.specs.Decide.{decided}
 use Rattle.gate_admin.proofs.CreationLemmas.{AllFalse, all_false}
-use Rattle.link_machine.specs.Machine.{Message}
+use Rattle.link_laws.specs.machine.Machine.{Message}
 use Rattle.node_machine.specs.Parts.{Core, Port}
 use Rattle.node_machine.specs.Parts.Deed.{Tells}
 use Rattle.node_machine.specs.Carrying.{port_at}
 use Rattle.node_machine.specs.Controller.{is_asked_at, view_for, controller_deeds}
 use Rattle.node_laws.specs.steps.Creations.{LeavesWhitelist, DeedLeavesWhitelist, IsBeingAsked, IsMaking, WaitsForPipes}
-use Rattle.gate_laws.proofs.Decisions.{decided_holds}
+use Rattle.tables_laws.proofs.gate.Decisions.{decided_holds}
 use Rattle.node_laws.proofs.steps.Masks.{is_in_mask}
 use Rattle.node_laws.proofs.steps.Walks.{Plain, OfDecision, anyone, all_of_controller}
 

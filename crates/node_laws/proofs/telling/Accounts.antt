@@ -4,12 +4,12 @@ use Rattle.std.proofs.Common.{append_assoc}
 use Rattle.std.specs.Option.{option_map_or}
 use Rattle.std.proofs.lemmas.Bool.{true≢false, eqb-true, ne_eqb}
 use Rattle.std.proofs.lemmas.List.Concat.{flat_map-append}
-use Rattle.link_entries.proofs.entries.Lasting.{same_number}
+use Rattle.link_laws.proofs.entries.Lasting.{same_number}
 use Rattle.trace_model.specs.declared.entry.Entry.{Entry}
-use Rattle.link_machine.specs.Machine.{LinkEnd, Turn, turn, turned}
-use Rattle.link_entries.specs.entries.Entries.{End as Side, Entry as Noted, turn_entry, turn_entries}
-use Rattle.link_entries.specs.entries.Entries.End.{Controller, Host}
-use Rattle.link_entries.specs.entries.Entries.Entry.{Up, Down, Active, GaveUp, Acked, Got, Sent, Emit, Took, Lost, Tick, Restarted, Cut}
+use Rattle.link_laws.specs.machine.Machine.{LinkEnd, Turn, turn, turned}
+use Rattle.link_laws.specs.entries.Entries.{End as Side, Entry as Noted, turn_entry, turn_entries}
+use Rattle.link_laws.specs.entries.Entries.End.{Controller, Host}
+use Rattle.link_laws.specs.entries.Entries.Entry.{Up, Down, Active, GaveUp, Acked, Got, Sent, Emit, Took, Lost, Tick, Restarted, Cut}
 use Rattle.history.specs.Filters.{said}
 use Rattle.history.specs.Steps.{end_of, entry_of, entries_for}
 use Rattle.node_machine.specs.Parts.{Desk, Port, Work}

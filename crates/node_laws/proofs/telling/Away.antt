@@ -2,8 +2,8 @@
 use Rattle.std.proofs.Common.{◌≡◌, ℕ, ◌==◌, Bool, true, false, List, [], ◌∷◌, ◌++◌, Option, Some, None, map, refl, ap, subst, ◌∙◌}
 use Rattle.std.specs.Option.{option_map_or}
 use Rattle.trace_model.specs.declared.entry.Entry.{Entry}
-use Rattle.link_machine.specs.Machine.{Turn}
-use Rattle.link_entries.specs.entries.Entries.{turn_entry}
+use Rattle.link_laws.specs.machine.Machine.{Turn}
+use Rattle.link_laws.specs.entries.Entries.{turn_entry}
 use Rattle.node_machine.specs.Parts.{Desk, Port, Work}
 use Rattle.node_machine.specs.Carrying.{own_side, noting, port_at, changed_if, with_desk, after_turn, noted_of, turn_at}
 use Rattle.node_laws.specs.telling.Telling.{of_link}

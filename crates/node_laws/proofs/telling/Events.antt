@@ -10,15 +10,15 @@ use Rattle.trace_model.specs.declared.entry.Entry.TheVariants as entry
 use Rattle.trace_model.specs.declared.line.End.{End}
 use Rattle.journal_laws.specs.Journal.{count_of}
 use Rattle.journal_laws.specs.Planned.{after_planned}
-use Rattle.link_machine.specs.Machine.{Message, LinkInput}
-use Rattle.link_entries.specs.messages.Links.{NumberedEnd, Link, Comes, Loss, LinkEvent, exchanged, happens, after_link_events}
-use Rattle.link_entries.specs.messages.Links.Comes.{NextFrame, AsksReset, Starts, NoInput}
-use Rattle.link_entries.specs.messages.Links.Ending.{CutOff}
-use Rattle.link_entries.specs.messages.Links.Loss.{OnDemand, Broken, Unread, TooOld, TooMany}
-use Rattle.link_entries.specs.messages.Links.EndEvent.{Step, Lose}
-use Rattle.link_entries.specs.messages.Links.LinkEvent.{AtController, AtHost}
-use Rattle.link_entries.specs.entries.Entries.{event_entries, entries, first_lost}
-use Rattle.link_entries.specs.entries.Entries.End.{Controller, Host}
+use Rattle.link_laws.specs.machine.Machine.{Message, LinkInput}
+use Rattle.link_laws.specs.messages.Links.{NumberedEnd, Link, Comes, Loss, LinkEvent, exchanged, happens, after_link_events}
+use Rattle.link_laws.specs.messages.Links.Comes.{NextFrame, AsksReset, Starts, NoInput}
+use Rattle.link_laws.specs.messages.Links.Ending.{CutOff}
+use Rattle.link_laws.specs.messages.Links.Loss.{OnDemand, Broken, Unread, TooOld, TooMany}
+use Rattle.link_laws.specs.messages.Links.EndEvent.{Step, Lose}
+use Rattle.link_laws.specs.messages.Links.LinkEvent.{AtController, AtHost}
+use Rattle.link_laws.specs.entries.Entries.{event_entries, entries, first_lost}
+use Rattle.link_laws.specs.entries.Entries.End.{Controller, Host}
 use Rattle.history.specs.Steps.{entries_for}
 use Rattle.node_machine.specs.Parts.{Desk, Running, Work, Deed}
 use Rattle.node_machine.specs.Parts.Deed.{Sends, Orders}

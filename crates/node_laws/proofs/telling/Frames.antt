@@ -4,14 +4,14 @@ use Rattle.std.specs.Prelude.{nat_lt}
 use Rattle.std.specs.List.{AllByRecursion}
 use Rattle.swp_base.specs.declared.control_frames.Control.{Control}
 use Rattle.link_laws.specs.sessions.Sessions.{OnWire}
-use Rattle.link_machine.specs.Machine.{LinkEnd, frames_out}
-use Rattle.link_entries.specs.messages.Links.{Link, Ending, Comes, Loss, put}
-use Rattle.link_entries.specs.messages.Links.Comes.{NextFrame, AsksReset, Starts, Stops, NoInput}
-use Rattle.link_entries.specs.messages.Links.Ending.{GoesOut, CutOff}
-use Rattle.link_entries.specs.messages.Links.Loss.{TooOld, TooMany}
-use Rattle.link_entries.specs.entries.Entries.{End as Side, Entry as Noted, far, first_lost, pushed_out, wire_with, put_entries, puts_entries, ending_entries}
-use Rattle.link_entries.specs.entries.Entries.{aged_entries}
-use Rattle.link_entries.specs.entries.Entries.Entry.{Emit, Took, Lost, Cut}
+use Rattle.link_laws.specs.machine.Machine.{LinkEnd, frames_out}
+use Rattle.link_laws.specs.messages.Links.{Link, Ending, Comes, Loss, put}
+use Rattle.link_laws.specs.messages.Links.Comes.{NextFrame, AsksReset, Starts, Stops, NoInput}
+use Rattle.link_laws.specs.messages.Links.Ending.{GoesOut, CutOff}
+use Rattle.link_laws.specs.messages.Links.Loss.{TooOld, TooMany}
+use Rattle.link_laws.specs.entries.Entries.{End as Side, Entry as Noted, far, first_lost, pushed_out, wire_with, put_entries, puts_entries, ending_entries}
+use Rattle.link_laws.specs.entries.Entries.{aged_entries}
+use Rattle.link_laws.specs.entries.Entries.Entry.{Emit, Took, Lost, Cut}
 use Rattle.node_machine.specs.world.World.{arrival}
 
 module _ (P : Noted → Type 0) (emit : (who : Side) (c : Control) → P (Emit who c)) (took : (who : Side) (c : Control) → P (Took who c))

@@ -2,8 +2,8 @@
 use Rattle.std.proofs.Common.{◌≡◌, ℕ, ◌==◌, Bool, true, false, cond, List, [], ◌∷◌, Option, Some, None, map, refl, ap, ◌∙◌}
 use Rattle.std.specs.List.{flat_map}
 use Rattle.trace_model.specs.declared.entry.Entry.{Entry}
-use Rattle.link_machine.specs.Machine.{LinkInput, Turn}
-use Rattle.link_machine.specs.Machine.LinkInput.{Tick}
+use Rattle.link_laws.specs.machine.Machine.{LinkInput, Turn}
+use Rattle.link_laws.specs.machine.Machine.LinkInput.{Tick}
 use Rattle.node_machine.specs.Parts.{Desk, Running, Port, Work, Deed}
 use Rattle.node_machine.specs.Carrying.{noting, changed_if, with_desk, after_turn, turn_at}
 use Rattle.node_machine.specs.Node.{input_at, has_come, all_come, with_older, reset_late, times_out, forgotten, forgets, all_owed, without_notice}

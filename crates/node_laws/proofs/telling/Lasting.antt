@@ -9,7 +9,7 @@ use Rattle.trace_model.specs.declared.entry.NoCause.TheVariants as cause
 use Rattle.trace_model.specs.declared.line.End.{End}
 use Rattle.trace_model.specs.declared.line.Line.{Line}
 use Rattle.trace_model.specs.declared.line.Line.TheVariants as line
-use Rattle.link_entries.specs.messages.Links.{Loss}
+use Rattle.link_laws.specs.messages.Links.{Loss}
 use Rattle.history.specs.Damage.{Verdict}
 use Rattle.history.specs.Damage.Verdict.{Same, LostFor, Undetected}
 use Rattle.history.specs.Follows.{first_verdict, taken_of}

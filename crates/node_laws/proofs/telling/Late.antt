@@ -11,10 +11,10 @@ use Rattle.shdlc_core.specs.Machine.{EndState, no_session, runs_timer, timed, Ti
 use Rattle.shdlc_core.specs.Machine.Timed.{Runs, Over, Spent}
 use Rattle.swp_act.specs.declared.ActOut.{ActOut}
 use Rattle.swp_act.specs.Activation.{no_act_out}
-use Rattle.link_machine.specs.Machine.{LinkEnd, is_open, in_front, whole_among, whole_acked, after_input, ended_by, act_event, act_out, gave_up_by, report}
-use Rattle.link_machine.specs.Machine.LinkInput.{Tick, Reset}
-use Rattle.link_entries.specs.entries.Entries.{End as Side, Entry as Noted, told, if_so}
-use Rattle.link_entries.specs.entries.Entries.Entry.{Up as IsUpNow, Down, Active, GaveUp, Acked}
+use Rattle.link_laws.specs.machine.Machine.{LinkEnd, is_open, in_front, whole_among, whole_acked, after_input, ended_by, act_event, act_out, gave_up_by, report}
+use Rattle.link_laws.specs.machine.Machine.LinkInput.{Tick, Reset}
+use Rattle.link_laws.specs.entries.Entries.{End as Side, Entry as Noted, told, if_so}
+use Rattle.link_laws.specs.entries.Entries.Entry.{Up as IsUpNow, Down, Active, GaveUp, Acked}
 
 -- an end that is active and up, and whose session doesn't end by the next tick
 pub record IsLasting (e : LinkEnd) : Type 0 where

@@ -5,15 +5,15 @@ use Rattle.std.specs.List.{flat_map}
 use Rattle.std.specs.Option.{option_map_or}
 use Rattle.std.proofs.lemmas.Bool.{eqb-true, ne_eqb, true≢false}
 use Rattle.trace_model.specs.declared.entry.Entry.{Entry}
-use Rattle.link_entries.proofs.entries.Lasting.{same_number}
-use Rattle.link_machine.specs.Machine.{LinkInput}
-use Rattle.link_machine.specs.Machine.Role.{Bare}
-use Rattle.link_entries.specs.messages.Links.{NumberedEnd, Comes, new_link, exchanged, number_of}
-use Rattle.link_entries.specs.messages.Links.Comes.{NextFrame, AsksReset, Starts, Stops, NoInput}
-use Rattle.link_entries.specs.messages.Links.EndEvent.{Step}
-use Rattle.link_entries.specs.messages.Links.LinkEvent.{AtController, AtHost}
-use Rattle.link_entries.specs.entries.Entries.{step_entries}
-use Rattle.link_entries.specs.entries.Entries.End.{Controller, Host}
+use Rattle.link_laws.proofs.entries.Lasting.{same_number}
+use Rattle.link_laws.specs.machine.Machine.{LinkInput}
+use Rattle.link_laws.specs.machine.Machine.Role.{Bare}
+use Rattle.link_laws.specs.messages.Links.{NumberedEnd, Comes, new_link, exchanged, number_of}
+use Rattle.link_laws.specs.messages.Links.Comes.{NextFrame, AsksReset, Starts, Stops, NoInput}
+use Rattle.link_laws.specs.messages.Links.EndEvent.{Step}
+use Rattle.link_laws.specs.messages.Links.LinkEvent.{AtController, AtHost}
+use Rattle.link_laws.specs.entries.Entries.{step_entries}
+use Rattle.link_laws.specs.entries.Entries.End.{Controller, Host}
 use Rattle.history.specs.Steps.{entries_for}
 use Rattle.node_machine.specs.Parts.{Desk, Running, Port, Work, Deed}
 use Rattle.node_machine.specs.Carrying.{port_at}

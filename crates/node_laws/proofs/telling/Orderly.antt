@@ -4,7 +4,7 @@ use Rattle.std.specs.Prelude.{replicate}
 use Rattle.std.specs.List.{AllByRecursion}
 use Rattle.trace_model.specs.declared.line.Line.{Line}
 use Rattle.journal_laws.specs.Planned.{after_planned}
-use Rattle.link_entries.specs.messages.Links.{NumberedEnd, aged}
+use Rattle.link_laws.specs.messages.Links.{NumberedEnd, aged}
 use Rattle.node_machine.specs.Parts.{Work}
 use Rattle.node_machine.specs.world.World.{Site, NodeWorld, Happening, new_site, new_world, link_to, work_of, runs_on}
 use Rattle.node_machine.specs.world.World.{all_aged, controller_ticks, host_ticks, hosts_tick, world_ticks, world_step}

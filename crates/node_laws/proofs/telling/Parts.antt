@@ -3,17 +3,17 @@ use Rattle.std.proofs.Common.{◌≡◌, ℕ, Bool, true, false, List, [], ◌�
 use Rattle.std.specs.Prelude.{◌+◌, if◌then◌else◌, is_some}
 use Rattle.swp_base.specs.declared.control_frames.Control.{Control}
 use Rattle.link_laws.specs.sessions.Sessions.{OnWire, is_rset, is_up, took_with}
-use Rattle.link_machine.specs.Machine.{LinkEnd, LinkInput, Turn, turned, after_input, ended_by, frames_out}
-use Rattle.link_machine.specs.Machine.LinkInput.{Take, Tick, Reset, Start, Stop}
-use Rattle.link_entries.specs.messages.Links.{NumberedEnd, Link, Ending, Comes, Node, number_of, put, with_ended, silent}
-use Rattle.link_entries.specs.messages.Links.Ending.{GoesOut, CutOff}
-use Rattle.link_entries.specs.messages.Links.Comes.{NextFrame, AsksReset, Starts, Stops, NoInput}
-use Rattle.link_entries.specs.entries.Entries.{End as Side, Entry as Noted, far, told_of, turn_entries, pushed_out, wire_with, put_entries, puts_entries}
-use Rattle.link_entries.specs.entries.Entries.{ending_entries, rest_entries, left_after, step_entries, tick_entries}
-use Rattle.link_entries.specs.entries.Entries.Entry.{Emit}
+use Rattle.link_laws.specs.machine.Machine.{LinkEnd, LinkInput, Turn, turned, after_input, ended_by, frames_out}
+use Rattle.link_laws.specs.machine.Machine.LinkInput.{Take, Tick, Reset, Start, Stop}
+use Rattle.link_laws.specs.messages.Links.{NumberedEnd, Link, Ending, Comes, Node, number_of, put, with_ended, silent}
+use Rattle.link_laws.specs.messages.Links.Ending.{GoesOut, CutOff}
+use Rattle.link_laws.specs.messages.Links.Comes.{NextFrame, AsksReset, Starts, Stops, NoInput}
+use Rattle.link_laws.specs.entries.Entries.{End as Side, Entry as Noted, far, told_of, turn_entries, pushed_out, wire_with, put_entries, puts_entries}
+use Rattle.link_laws.specs.entries.Entries.{ending_entries, rest_entries, left_after, step_entries, tick_entries}
+use Rattle.link_laws.specs.entries.Entries.Entry.{Emit}
 use Rattle.history.specs.Steps.{entries_for}
 use Rattle.node_machine.specs.world.World.{input_of, near_end_in, arrival, wires_for}
-use Rattle.link_entries.proofs.entries.Noting.{ended_number}
+use Rattle.link_laws.proofs.entries.Noting.{ended_number}
 
 -- ## Frames that go out
 

@@ -7,11 +7,11 @@ use Rattle.trace_model.specs.declared.entry.Entry.{Entry}
 use Rattle.trace_model.specs.declared.entry.Entry.TheVariants as entry
 use Rattle.trace_model.specs.declared.line.End.{End}
 use Rattle.journal_laws.specs.Writes.{Write}
-use Rattle.link_machine.specs.Machine.{LinkInput, Refused, Turn, Message, give_refusal, report, whole_acked, after_input}
-use Rattle.link_machine.specs.Machine.LinkInput.{Reset}
-use Rattle.link_machine.specs.Machine.Turn.{Give, Hold, FetchMessage, SetAside, Release}
-use Rattle.link_entries.specs.entries.Entries.{End as Side, Entry as Noted, told, sent_unless}
-use Rattle.link_entries.specs.entries.Entries.Entry.{Up, Down, Active, GaveUp, Acked, Got, Sent, Emit, Took, Lost, Tick, Restarted, Cut}
+use Rattle.link_laws.specs.machine.Machine.{LinkInput, Refused, Turn, Message, give_refusal, report, whole_acked, after_input}
+use Rattle.link_laws.specs.machine.Machine.LinkInput.{Reset}
+use Rattle.link_laws.specs.machine.Machine.Turn.{Give, Hold, FetchMessage, SetAside, Release}
+use Rattle.link_laws.specs.entries.Entries.{End as Side, Entry as Noted, told, sent_unless}
+use Rattle.link_laws.specs.entries.Entries.Entry.{Up, Down, Active, GaveUp, Acked, Got, Sent, Emit, Took, Lost, Tick, Restarted, Cut}
 use Rattle.history.specs.Filters.{Saying, said}
 use Rattle.history.specs.Filters.Saying.{Sends}
 use Rattle.history.specs.Steps.{end_of, entry_of, entries_for}

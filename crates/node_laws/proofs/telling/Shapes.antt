@@ -9,20 +9,20 @@ use Rattle.std.proofs.lemmas.List.Sums.{fold-append}
 use Rattle.swp_base.specs.declared.control_frames.Control.{Control}
 use Rattle.trace_model.specs.declared.entry.Entry.{Entry}
 use Rattle.link_laws.specs.sessions.Sessions.{OnWire, took_with}
-use Rattle.link_machine.specs.Machine.{LinkEnd, LinkInput, Refused, Report, Turn, Message, report, whole_acked, after_input, ended_by, turn, turned}
-use Rattle.link_machine.specs.Machine.{give_refusal, frames_out}
-use Rattle.link_machine.specs.Machine.LinkInput.{Take, Tick as HasTick, Reset, Start, Stop}
-use Rattle.link_machine.specs.Machine.Turn.{Give, Hold, FetchMessage, SetAside, Release}
-use Rattle.link_entries.specs.messages.Links.{NumberedEnd, Link, Ending, Comes, Loss, Node, number_of, put, with_ended, silent}
-use Rattle.link_entries.specs.messages.Links.Ending.{GoesOut, CutOff}
-use Rattle.link_entries.specs.messages.Links.Comes.{NextFrame, AsksReset, Starts, Stops, NoInput}
-use Rattle.link_entries.specs.messages.Links.Loss.{TooOld, TooMany}
-use Rattle.link_entries.specs.entries.Entries.{End as Side, Entry as Noted, far, if_so, told, told_of, turn_entry, sent_unless, turn_entries}
-use Rattle.link_entries.specs.entries.Entries.{first_lost, pushed_out}
-use Rattle.link_entries.specs.entries.Entries.{wire_with, puts_entries, ending_entries, rest_entries, input_entries, left_after, step_entries, aged_entries}
-use Rattle.link_entries.specs.entries.Entries.{tick_entries}
-use Rattle.link_entries.specs.entries.Entries.End.{Controller, Host}
-use Rattle.link_entries.specs.entries.Entries.Entry.{Up, Down, Active, GaveUp, Acked, Got, Took, Lost, Restarted, Cut}
+use Rattle.link_laws.specs.machine.Machine.{LinkEnd, LinkInput, Refused, Report, Turn, Message, report, whole_acked, after_input, ended_by, turn, turned}
+use Rattle.link_laws.specs.machine.Machine.{give_refusal, frames_out}
+use Rattle.link_laws.specs.machine.Machine.LinkInput.{Take, Tick as HasTick, Reset, Start, Stop}
+use Rattle.link_laws.specs.machine.Machine.Turn.{Give, Hold, FetchMessage, SetAside, Release}
+use Rattle.link_laws.specs.messages.Links.{NumberedEnd, Link, Ending, Comes, Loss, Node, number_of, put, with_ended, silent}
+use Rattle.link_laws.specs.messages.Links.Ending.{GoesOut, CutOff}
+use Rattle.link_laws.specs.messages.Links.Comes.{NextFrame, AsksReset, Starts, Stops, NoInput}
+use Rattle.link_laws.specs.messages.Links.Loss.{TooOld, TooMany}
+use Rattle.link_laws.specs.entries.Entries.{End as Side, Entry as Noted, far, if_so, told, told_of, turn_entry, sent_unless, turn_entries}
+use Rattle.link_laws.specs.entries.Entries.{first_lost, pushed_out}
+use Rattle.link_laws.specs.entries.Entries.{wire_with, puts_entries, ending_entries, rest_entries, input_entries, left_after, step_entries, aged_entries}
+use Rattle.link_laws.specs.entries.Entries.{tick_entries}
+use Rattle.link_laws.specs.entries.Entries.End.{Controller, Host}
+use Rattle.link_laws.specs.entries.Entries.Entry.{Up, Down, Active, GaveUp, Acked, Got, Took, Lost, Restarted, Cut}
 use Rattle.history.specs.Filters.{said}
 use Rattle.history.specs.Steps.{entry_of, entries_for}
 use Rattle.node_machine.specs.Parts.{Port, Work}

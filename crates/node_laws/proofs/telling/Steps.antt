@@ -6,9 +6,9 @@ use Rattle.std.specs.Option.{option_map_or}
 use Rattle.std.proofs.lemmas.Bool.{eqb-true}
 use Rattle.std.proofs.lemmas.List.Concat.{flat_map-append}
 use Rattle.trace_model.specs.declared.entry.Entry.{Entry}
-use Rattle.link_machine.specs.Machine.{LinkEnd, LinkInput, Turn, turned, after_input, report, whole_acked}
-use Rattle.link_entries.specs.messages.Links.{Link, NumberedEnd, Comes, number_of}
-use Rattle.link_entries.specs.entries.Entries.{End as Side, Entry as Noted, told, turn_entries, ending_entries, step_entries}
+use Rattle.link_laws.specs.machine.Machine.{LinkEnd, LinkInput, Turn, turned, after_input, report, whole_acked}
+use Rattle.link_laws.specs.messages.Links.{Link, NumberedEnd, Comes, number_of}
+use Rattle.link_laws.specs.entries.Entries.{End as Side, Entry as Noted, told, turn_entries, ending_entries, step_entries}
 use Rattle.history.specs.Steps.{entry_of, entries_for}
 use Rattle.node_machine.specs.Parts.{Core, Port, Work, Deed}
 use Rattle.node_machine.specs.Carrying.{own_side, port_at}

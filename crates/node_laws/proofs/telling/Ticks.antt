@@ -5,11 +5,11 @@ use Rattle.std.specs.List.{flat_map}
 use Rattle.std.proofs.lemmas.Bool.{eqb-true}
 use Rattle.trace_model.specs.declared.entry.Entry.{Entry}
 use Rattle.shdlc_core.specs.declared.answers.LinkState.TheVariants.{Up}
-use Rattle.link_machine.specs.Machine.{LinkEnd, LinkInput, is_open, turned, after_input, ended_by, report, whole_acked}
-use Rattle.link_machine.specs.Machine.LinkInput.{Tick, Reset}
-use Rattle.link_entries.specs.messages.Links.{Link, number_of}
-use Rattle.link_entries.specs.messages.Links.Comes.{AsksReset, NoInput}
-use Rattle.link_entries.specs.entries.Entries.{End as Side, told, told_of, turn_entries}
+use Rattle.link_laws.specs.machine.Machine.{LinkEnd, LinkInput, is_open, turned, after_input, ended_by, report, whole_acked}
+use Rattle.link_laws.specs.machine.Machine.LinkInput.{Tick, Reset}
+use Rattle.link_laws.specs.messages.Links.{Link, number_of}
+use Rattle.link_laws.specs.messages.Links.Comes.{AsksReset, NoInput}
+use Rattle.link_laws.specs.entries.Entries.{End as Side, told, told_of, turn_entries}
 use Rattle.history.specs.Steps.{entries_for}
 use Rattle.node_machine.specs.Parts.{Notice, Core, Port, Work}
 use Rattle.node_machine.specs.Carrying.{own_side, port_at}

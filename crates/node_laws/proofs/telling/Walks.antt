@@ -10,8 +10,8 @@ use Rattle.journal_laws.specs.Journal.{count_of}
 use Rattle.hci_tables.specs.declared.command.Command.{Command}
 use Rattle.hci_tables.specs.Bodies.{body_of}
 use Rattle.hci_store.specs.Committing.{commit_writes}
-use Rattle.link_machine.specs.Machine.{Message, Turn}
-use Rattle.link_machine.specs.Machine.Turn.{Give, Hold, FetchMessage, SetAside, Release}
+use Rattle.link_laws.specs.machine.Machine.{Message, Turn}
+use Rattle.link_laws.specs.machine.Machine.Turn.{Give, Hold, FetchMessage, SetAside, Release}
 use Rattle.history.specs.Filters.{said}
 use Rattle.node_machine.specs.Parts.{About, Desk, Work, Deed}
 use Rattle.node_machine.specs.Parts.About.{Waits, Removed}

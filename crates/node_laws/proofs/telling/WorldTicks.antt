@@ -10,19 +10,19 @@ use Rattle.swp_act.specs.Activation.{new_clf, new_uicc}
 use Rattle.trace_model.specs.declared.entry.Entry.{Entry}
 use Rattle.shdlc_core.specs.Machine.{is_waiting}
 use Rattle.journal_laws.specs.Planned.{after_planned}
-use Rattle.link_machine.specs.Machine.{LinkEnd, LinkInput, Turn, new_link_end, turned, after_input, ended_by, report, whole_acked, frames_out}
-use Rattle.link_machine.specs.Machine.LinkInput.{Tick, Reset}
-use Rattle.link_machine.specs.Machine.Role.{Clf, Uicc}
-use Rattle.link_entries.specs.messages.Links.{NumberedEnd, Link, Ending, Node, LinkEvent, exchanged, aged, has_input, with_ended, steps_at_controller}
-use Rattle.link_entries.specs.messages.Links.{ticks_at_controller, happens, number_of}
-use Rattle.link_entries.specs.messages.Links.Ending.{GoesOut}
-use Rattle.link_entries.specs.messages.Links.Comes.{AsksReset, NoInput}
-use Rattle.link_entries.specs.messages.Links.EndEvent.{Step}
-use Rattle.link_entries.specs.messages.Links.LinkEvent.{Ticks, TicksWithout}
-use Rattle.link_entries.proofs.messages.Project.{host_ended}
-use Rattle.link_entries.specs.entries.Entries.{End as Side, Entry as Noted, told, puts_entries, step_entries, aged_entries, tick_entries, event_entries}
-use Rattle.link_entries.specs.entries.Entries.End.{Controller, Host}
-use Rattle.link_entries.proofs.entries.Stepping.{host_finished}
+use Rattle.link_laws.specs.machine.Machine.{LinkEnd, LinkInput, Turn, new_link_end, turned, after_input, ended_by, report, whole_acked, frames_out}
+use Rattle.link_laws.specs.machine.Machine.LinkInput.{Tick, Reset}
+use Rattle.link_laws.specs.machine.Machine.Role.{Clf, Uicc}
+use Rattle.link_laws.specs.messages.Links.{NumberedEnd, Link, Ending, Node, LinkEvent, exchanged, aged, has_input, with_ended, steps_at_controller}
+use Rattle.link_laws.specs.messages.Links.{ticks_at_controller, happens, number_of}
+use Rattle.link_laws.specs.messages.Links.Ending.{GoesOut}
+use Rattle.link_laws.specs.messages.Links.Comes.{AsksReset, NoInput}
+use Rattle.link_laws.specs.messages.Links.EndEvent.{Step}
+use Rattle.link_laws.specs.messages.Links.LinkEvent.{Ticks, TicksWithout}
+use Rattle.link_laws.proofs.messages.Project.{host_ended}
+use Rattle.link_laws.specs.entries.Entries.{End as Side, Entry as Noted, told, puts_entries, step_entries, aged_entries, tick_entries, event_entries}
+use Rattle.link_laws.specs.entries.Entries.End.{Controller, Host}
+use Rattle.link_laws.proofs.entries.Stepping.{host_finished}
 use Rattle.history.specs.Steps.{entries_for}
 use Rattle.node_machine.specs.Parts.{Desk, Running, Port, Work}
 use Rattle.node_machine.specs.Carrying.{port_at}

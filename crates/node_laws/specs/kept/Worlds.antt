@@ -12,7 +12,7 @@ use Rattle.node_machine.specs.world.World.{NodeWorld, Site, Happening, node_at, 
 use Rattle.node_machine.specs.world.World.Happening.{IsCut, Gives}
 use Rattle.node_machine.specs.world.NodeFilters.{new_book, book_in, commands_in, tables_in}
 use Rattle.node_machine.specs.world.NodeLegal.{last_in}
-use Rattle.link_entries.specs.messages.Links.{NumberedEnd}
+use Rattle.link_laws.specs.messages.Links.{NumberedEnd}
 use Rattle.node_laws.specs.steps.Waiting.{MayWait}
 use Rattle.node_laws.specs.kept.Finds.{Knows}
 use Rattle.node_laws.specs.kept.Books.{WaitsFor, WouldFind}

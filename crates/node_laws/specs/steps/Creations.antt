@@ -4,7 +4,7 @@ use Rattle.std.specs.List.{AllByRecursion}
 use Rattle.hci_tables.specs.declared.command.Command.{Command}
 use Rattle.hci_tables.specs.declared.command.Command.TheVariants.{Create, Clear, Set}
 use Rattle.hci_tables.specs.Tables.{HciTables}
-use Rattle.gate_laws.specs.Rules.{EndsAtController, IsAskedFor}
+use Rattle.tables_laws.specs.gate.Rules.{EndsAtController, IsAskedFor}
 use Rattle.node_machine.specs.Parts.{Creation, Port, Deed}
 use Rattle.node_machine.specs.Parts.Deed.{Commits, Asks}
 use Rattle.node_machine.specs.Carrying.{port_at}

@@ -4,10 +4,10 @@ use Rattle.std.specs.List.{fold}
 use Rattle.trace_model.specs.declared.entry.Entry.{Entry}
 use Rattle.trace_model.specs.declared.entry.Entry.TheVariants as entry
 use Rattle.trace_model.specs.declared.line.End.{End}
-use Rattle.link_entries.specs.messages.Links.{Link, LinkEvent}
-use Rattle.link_entries.specs.entries.Entries.{End as Side, Entry as Noted, event_entries}
-use Rattle.link_entries.specs.entries.Entries.End.{Controller, Host}
-use Rattle.link_entries.specs.entries.Entries.Entry.{Cut}
+use Rattle.link_laws.specs.messages.Links.{Link, LinkEvent}
+use Rattle.link_laws.specs.entries.Entries.{End as Side, Entry as Noted, event_entries}
+use Rattle.link_laws.specs.entries.Entries.End.{Controller, Host}
+use Rattle.link_laws.specs.entries.Entries.Entry.{Cut}
 use Rattle.history.specs.Filters.{Saying, said}
 use Rattle.history.specs.Filters.Saying.{Begins, Ends, Puts, Takes, Loses}
 use Rattle.history.specs.Steps.{entry_of}

@@ -8,10 +8,10 @@ use Rattle.trace_model.specs.declared.line.Line.{Line}
 use Rattle.trace_model.specs.declared.line.Line.TheVariants.{Tick}
 use Rattle.swp_act.specs.Activation.{new_clf, new_uicc}
 use Rattle.shdlc_core.specs.declared.answers.LinkState.TheVariants.{Up}
-use Rattle.link_machine.specs.Machine.{LinkEnd, is_open, new_link_end}
-use Rattle.link_machine.specs.Machine.Role.{Clf, Uicc}
-use Rattle.link_entries.specs.messages.Links.{Link, LinkEvent, after_link_events}
-use Rattle.link_entries.specs.entries.Entries.{event_entries, entries}
+use Rattle.link_laws.specs.machine.Machine.{LinkEnd, is_open, new_link_end}
+use Rattle.link_laws.specs.machine.Machine.Role.{Clf, Uicc}
+use Rattle.link_laws.specs.messages.Links.{Link, LinkEvent, after_link_events}
+use Rattle.link_laws.specs.entries.Entries.{event_entries, entries}
 use Rattle.history.specs.Filters.{Saying, said}
 use Rattle.history.specs.Steps.{entries_for}
 use Rattle.node_machine.specs.Parts.{Notice, Desk, Running}

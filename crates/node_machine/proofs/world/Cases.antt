@@ -7,12 +7,12 @@ use Rattle.trace_model.specs.declared.entry.Entry.TheVariants as entry
 use Rattle.trace_model.specs.declared.line.End.{End}
 use Rattle.journal_laws.specs.Journal.{count_of}
 use Rattle.journal_laws.specs.Planned.{fails_within, after_planned}
-use Rattle.link_machine.specs.Machine.{LinkInput}
-use Rattle.link_entries.specs.messages.Links.{Comes, Loss, exchanged, ticks_at_controller, happens}
-use Rattle.link_entries.specs.messages.Links.Ending.{GoesOut}
-use Rattle.link_entries.specs.messages.Links.EndEvent.{Lose}
-use Rattle.link_entries.specs.entries.Entries.{first_lost}
-use Rattle.link_entries.specs.entries.Entries.End.{Controller, Host}
+use Rattle.link_laws.specs.machine.Machine.{LinkInput}
+use Rattle.link_laws.specs.messages.Links.{Comes, Loss, exchanged, ticks_at_controller, happens}
+use Rattle.link_laws.specs.messages.Links.Ending.{GoesOut}
+use Rattle.link_laws.specs.messages.Links.EndEvent.{Lose}
+use Rattle.link_laws.specs.entries.Entries.{first_lost}
+use Rattle.link_laws.specs.entries.Entries.End.{Controller, Host}
 use Rattle.history.specs.Follows.{seen_from}
 use Rattle.history.specs.Steps.{at, entries_for}
 use Rattle.node_machine.specs.Parts.{Running, Work}

@@ -8,7 +8,7 @@ use Rattle.journal_laws.specs.Journal.{count_of}
 use Rattle.gate_admin.specs.View.{hosts_where}
 use Rattle.pipe_table.specs.PipeRows.{lowest_free}
 use Rattle.hci_tables.specs.Tables.{HciTables}
-use Rattle.link_machine.specs.Machine.{spare}
+use Rattle.link_laws.specs.machine.Machine.{spare}
 use Rattle.node_machine.specs.Parts.{Desk, Running}
 use Rattle.node_machine.specs.world.World.{NodeWorld, Site, new_world, node_at, link_to, end_c, end_h}
 use Rattle.node_machine.specs.world.Lines.{LineOutcome, line_step}

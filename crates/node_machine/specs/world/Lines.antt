@@ -10,9 +10,9 @@ use Rattle.trace_model.specs.declared.line.End.{End}
 use Rattle.trace_model.specs.declared.line.Line.{Line}
 use Rattle.trace_model.specs.declared.line.Line.TheVariants as line
 use Rattle.link_laws.specs.sessions.Sessions.{OnWire}
-use Rattle.link_machine.specs.Machine.{Message, Refused, LinkEnd, give_refusal, reset_refusal}
-use Rattle.link_machine.specs.Machine.Refused.{NotUp}
-use Rattle.link_entries.specs.messages.Links.Loss.{OnDemand}
+use Rattle.link_laws.specs.machine.Machine.{Message, Refused, LinkEnd, give_refusal, reset_refusal}
+use Rattle.link_laws.specs.machine.Machine.Refused.{NotUp}
+use Rattle.link_laws.specs.messages.Links.Loss.{OnDemand}
 use Rattle.hci_tables.specs.Tables.{HciTables}
 use Rattle.history.specs.Damage.{Verdict}
 use Rattle.history.specs.Damage.Verdict.{Same, LostFor, Undetected}

@@ -14,7 +14,7 @@ use Rattle.hcp_packet.specs.MessageHeader.{header_of}
 use Rattle.hci_tables.specs.declared.command.Command.{Command}
 use Rattle.hci_tables.specs.Tables.{HciTables, no_tables, apply, after_commands, close, is_opened}
 use Rattle.gate_answers.specs.Answers.{instruction_in}
-use Rattle.link_machine.specs.Machine.{Message, need_of_all}
+use Rattle.link_laws.specs.machine.Machine.{Message, need_of_all}
 use Rattle.history.specs.Filters.{same_end, sent_in, acked_in}
 use Rattle.node_machine.specs.Controller.{is_command_message}
 use Rattle.node_machine.specs.world.World.{end_c, end_h}

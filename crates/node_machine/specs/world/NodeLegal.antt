@@ -10,7 +10,7 @@ use Rattle.hci_tables.specs.declared.command.Command.{Command}
 use Rattle.hci_tables.specs.declared.command.Command.TheVariants.{Create}
 use Rattle.hci_tables.specs.Tables.{HciTables}
 use Rattle.gate_admin.specs.Decide.{allows}
-use Rattle.link_machine.specs.Machine.{Message}
+use Rattle.link_laws.specs.machine.Machine.{Message}
 use Rattle.history.specs.Filters.{same_end}
 use Rattle.node_machine.specs.world.Lines.LineOutcome.{ToldTables}
 use Rattle.node_machine.specs.world.NodeHistories.{LineStep, NodeHistory, entries_in, occurrences_of, node_entries}

@@ -3,7 +3,7 @@ use Rattle.std.specs.Prelude.{ℕ, zero, suc, ◌&&◌, Bool, true, List, [], �
 use Rattle.std.specs.List.{flat_map}
 use Rattle.trace_model.specs.declared.line.End.{End}
 use Rattle.trace_model.specs.declared.line.Line.TheVariants as line
-use Rattle.link_entries.specs.messages.Rest.{link_rests, steps_to_rest}
+use Rattle.link_laws.specs.messages.Rest.{link_rests, steps_to_rest}
 use Rattle.node_machine.specs.world.World.{Site, NodeWorld, end_c, end_h}
 use Rattle.node_machine.specs.world.World.Happening.{Ticks}
 use Rattle.node_machine.specs.world.Lines.{Occurrence, all_happen, happenings}

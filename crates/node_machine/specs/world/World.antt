@@ -13,19 +13,19 @@ use Rattle.link_laws.specs.sessions.Sessions.{OnWire, took_with}
 use Rattle.journal_laws.specs.Writes.{Write}
 use Rattle.journal_laws.specs.Journal.{count_of}
 use Rattle.journal_laws.specs.Planned.{fails_within, after_planned}
-use Rattle.link_machine.specs.Machine.{Message, LinkInput, Turn}
-use Rattle.link_machine.specs.Machine.LinkInput.{Take, Reset, Start, Stop}
-use Rattle.link_machine.specs.Machine.Role.{Bare, Clf, Uicc}
-use Rattle.link_entries.specs.messages.Links.{NumberedEnd, Link, Ending, Comes, Loss, new_link, number_of, exchanged, aged, has_input}
-use Rattle.link_entries.specs.messages.Links.{ticks_at_controller, happens}
-use Rattle.link_entries.specs.messages.Links.Ending.{GoesOut, CutOff}
-use Rattle.link_entries.specs.messages.Links.Comes.{NextFrame, AsksReset, Starts, Stops, NoInput}
-use Rattle.link_entries.specs.messages.Links.Loss.{Broken}
-use Rattle.link_entries.specs.messages.Links.EndEvent.{Step, Lose}
-use Rattle.link_entries.specs.messages.Links.LinkEvent.{AtController, AtHost}
-use Rattle.link_entries.specs.entries.Entries.{End as Side, Entry as Noted, ending_entries, aged_entries, first_lost}
-use Rattle.link_entries.specs.entries.Entries.End.{Controller, Host}
-use Rattle.link_entries.specs.entries.Entries.Entry.{Took}
+use Rattle.link_laws.specs.machine.Machine.{Message, LinkInput, Turn}
+use Rattle.link_laws.specs.machine.Machine.LinkInput.{Take, Reset, Start, Stop}
+use Rattle.link_laws.specs.machine.Machine.Role.{Bare, Clf, Uicc}
+use Rattle.link_laws.specs.messages.Links.{NumberedEnd, Link, Ending, Comes, Loss, new_link, number_of, exchanged, aged, has_input}
+use Rattle.link_laws.specs.messages.Links.{ticks_at_controller, happens}
+use Rattle.link_laws.specs.messages.Links.Ending.{GoesOut, CutOff}
+use Rattle.link_laws.specs.messages.Links.Comes.{NextFrame, AsksReset, Starts, Stops, NoInput}
+use Rattle.link_laws.specs.messages.Links.Loss.{Broken}
+use Rattle.link_laws.specs.messages.Links.EndEvent.{Step, Lose}
+use Rattle.link_laws.specs.messages.Links.LinkEvent.{AtController, AtHost}
+use Rattle.link_laws.specs.entries.Entries.{End as Side, Entry as Noted, ending_entries, aged_entries, first_lost}
+use Rattle.link_laws.specs.entries.Entries.End.{Controller, Host}
+use Rattle.link_laws.specs.entries.Entries.Entry.{Took}
 use Rattle.history.specs.Steps.{at, entries_for}
 use Rattle.history.specs.Follows.{seen_from}
 use Rattle.node_machine.specs.Parts.{Desk, Running, Port, Work, Deed}

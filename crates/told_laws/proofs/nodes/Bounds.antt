@@ -2,14 +2,14 @@
 -- their ends, whatever it came through.
 use Rattle.std.proofs.Common.{ℕ, ◌≤◌, Bool, true, false, List, [], ◌∷◌, arith}
 use Rattle.std.specs.List.{AllByRecursion}
-use Rattle.link_machine.specs.Machine.{LinkEnd}
-use Rattle.link_entries.specs.messages.Links.{NumberedEnd, Link}
-use Rattle.link_entries.specs.messages.Rsets.{EndIsLow, FewRsets}
+use Rattle.link_laws.specs.machine.Machine.{LinkEnd}
+use Rattle.link_laws.specs.messages.Links.{NumberedEnd, Link}
+use Rattle.link_laws.specs.messages.Rsets.{EndIsLow, FewRsets}
 use Rattle.node_machine.specs.world.World.{NodeWorld, Site}
-use Rattle.node_order.specs.acked.InTurn.{IsAckedWithin}
-use Rattle.node_order.specs.acked.AckedRounds.{AreAckedWithin}
-use Rattle.node_order.specs.rsets.Causes.{FewRsetsOnEach}
-use Rattle.told_laws.proofs.Wires.{wire_within}
+use Rattle.node_laws.specs.acked.InTurn.{IsAckedWithin}
+use Rattle.node_laws.specs.acked.AckedRounds.{AreAckedWithin}
+use Rattle.node_laws.specs.rsets.Causes.{FewRsetsOnEach}
+use Rattle.told_laws.proofs.told.Wires.{wire_within}
 use Rattle.told_laws.proofs.nodes.Sides.{IsLineFrame}
 use Rattle.told_laws.proofs.nodes.Machines.{SideIn}
 use Rattle.told_laws.proofs.nodes.Linking.{NumberedIn, LinkIn}

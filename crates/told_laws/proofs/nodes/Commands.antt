@@ -20,8 +20,8 @@ use Rattle.hci_tables.specs.Tables.{HciTables, no_tables, apply, after_commands,
 use Rattle.trace_model.specs.declared.entry.Entry.{Entry}
 use Rattle.trace_model.specs.declared.entry.Entry.TheVariants as entry
 use Rattle.node_machine.specs.world.NodeFilters.{Book, new_book, with_command, with_found, book_after, tables_in}
-use Rattle.text_laws.specs.Ranges.{IsSaidPipe, IsSaidCommand, IsSaidStatic, IsSaidValue, IsSaidSync}
-use Rattle.told_laws.proofs.Lines.{each_all, all_each}
+use Rattle.told_laws.specs.texts.Ranges.{IsSaidPipe, IsSaidCommand, IsSaidStatic, IsSaidValue, IsSaidSync}
+use Rattle.told_laws.proofs.told.Lines.{each_all, all_each}
 use Rattle.told_laws.proofs.nodes.Sides.{AreBytes}
 use Rattle.told_laws.proofs.nodes.Ranges.{IsIn, AreIn, IsShortCommand}
 

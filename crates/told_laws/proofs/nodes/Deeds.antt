@@ -30,10 +30,10 @@ use Rattle.gate_admin.specs.Decide.{answers, commits, tests_of_pipe, tests_to_op
 use Rattle.gate_admin.specs.Decide.{tests_to_clear, opening, closing, setting, getting, creating, deleting, clearing, carried_out, decided, value_of, dest_in}
 use Rattle.gate_admin.specs.Decide.{others_opened, ends_of, commits_and_tells, told_of_deletion, told_of_clearing, far_end}
 use Rattle.gate_admin.proofs.CreationLemmas.{creation-recordable}
-use Rattle.gate_laws.proofs.Decisions.{unless, new_row}
+use Rattle.tables_laws.proofs.gate.Decisions.{unless, new_row}
 use Rattle.gate_link.specs.Link.{count_bytes, count_in, tests_to_set_errors, link_served, link_unless_refused as link_unless}
 use Rattle.gate_identity.specs.Identity.{identity_value, identity_served, identity_unless_refused as identity_unless}
-use Rattle.link_machine.specs.Machine.{Message}
+use Rattle.link_laws.specs.machine.Machine.{Message}
 use Rattle.node_machine.specs.Parts.{Init, Creation, Notice, Desk, Core, Port, Deed}
 use Rattle.node_machine.specs.Parts.Deed.{Commits, Sends, SaysOk, Asks, Releases, Tells, IsAnswered, Drops, SetsErrors, Orders, Hears, GoesOn, Ends}
 use Rattle.node_machine.specs.Carrying.{finds_room, port_at}
@@ -42,10 +42,10 @@ use Rattle.node_machine.specs.Controller.{has_link, is_command_message, relayed_
 use Rattle.node_machine.specs.Controller.{unless_asking, goes_through, own_gate, asks_for, if_notice, own_deeds, relay_deeds, deeds_by_relay}
 use Rattle.node_laws.proofs.steps.Ports.{at_port}
 use Rattle.node_laws.proofs.steps.Walks.{told_hold}
-use Rattle.node_order.proofs.links.Masking.{nobody}
-use Rattle.text_laws.specs.Ranges.{IsSaidCommand}
-use Rattle.told_laws.proofs.Lines.{each_all}
-use Rattle.told_laws.proofs.Wires.{drop_each}
+use Rattle.node_laws.proofs.links.Masking.{nobody}
+use Rattle.told_laws.specs.texts.Ranges.{IsSaidCommand}
+use Rattle.told_laws.proofs.told.Lines.{each_all}
+use Rattle.told_laws.proofs.told.Wires.{drop_each}
 use Rattle.told_laws.proofs.nodes.Sides.{AreBytes, IsMail}
 use Rattle.told_laws.proofs.nodes.Ranges.{IsIn, IsShortCommand}
 use Rattle.told_laws.proofs.nodes.Commands.{IfMade, IsCommandIn, AreTablesIn, index_in, value_read_in, recordable_made}

@@ -9,16 +9,16 @@ use Rattle.trace_model.specs.declared.entry.Entry.{Entry}
 use Rattle.trace_model.specs.declared.line.End.{End}
 use Rattle.shdlc_core.specs.Machine.{is_waiting}
 use Rattle.journal_laws.specs.Planned.{after_planned}
-use Rattle.link_machine.specs.Machine.{Message}
-use Rattle.link_machine.specs.Machine.LinkInput.{Tick, Reset}
-use Rattle.link_entries.specs.messages.Links.{Link, Comes, Loss, exchanged, aged, has_input, ticks_at_controller, happens, happens_at_controller}
-use Rattle.link_entries.specs.messages.Links.Ending.{GoesOut, CutOff}
-use Rattle.link_entries.specs.messages.Links.Comes.{NextFrame, AsksReset, Starts, NoInput}
-use Rattle.link_entries.specs.messages.Links.Loss.{OnDemand, Broken, Unread, TooOld, TooMany}
-use Rattle.link_entries.specs.messages.Links.EndEvent.{Step, Lose}
-use Rattle.link_entries.specs.messages.Links.LinkEvent.{AtController, AtHost}
-use Rattle.link_entries.specs.entries.Entries.{first_lost, aged_entries}
-use Rattle.link_entries.specs.entries.Entries.End.{Controller, Host}
+use Rattle.link_laws.specs.machine.Machine.{Message}
+use Rattle.link_laws.specs.machine.Machine.LinkInput.{Tick, Reset}
+use Rattle.link_laws.specs.messages.Links.{Link, Comes, Loss, exchanged, aged, has_input, ticks_at_controller, happens, happens_at_controller}
+use Rattle.link_laws.specs.messages.Links.Ending.{GoesOut, CutOff}
+use Rattle.link_laws.specs.messages.Links.Comes.{NextFrame, AsksReset, Starts, NoInput}
+use Rattle.link_laws.specs.messages.Links.Loss.{OnDemand, Broken, Unread, TooOld, TooMany}
+use Rattle.link_laws.specs.messages.Links.EndEvent.{Step, Lose}
+use Rattle.link_laws.specs.messages.Links.LinkEvent.{AtController, AtHost}
+use Rattle.link_laws.specs.entries.Entries.{first_lost, aged_entries}
+use Rattle.link_laws.specs.entries.Entries.End.{Controller, Host}
 use Rattle.history.specs.Steps.{at, entries_for}
 use Rattle.registry.proofs.ValueLemmas.{AllByRecursion-append as each-append}
 use Rattle.node_machine.specs.Parts.{Desk, Running, Work, Deed}
@@ -35,7 +35,7 @@ use Rattle.node_machine.specs.world.World.{end_c, end_h, activates, world_step, 
 use Rattle.node_machine.specs.world.World.Happening.{Boots, IsCut, Gives, Inits, Takes, Loses, Ticks, Resets, Activates, Arms}
 use Rattle.node_machine.proofs.world.Cases.{by_controller, by_coming, by_power, by_memory, by_running, boot_written, boot_found, site_lost, by_boot, by_loss}
 use Rattle.node_machine.proofs.world.Cases.{near_tick, by_controller_tick, host_tick, by_host_tick}
-use Rattle.told_laws.proofs.Links.{IsLowWindow}
+use Rattle.told_laws.proofs.told.Links.{IsLowWindow}
 use Rattle.told_laws.proofs.nodes.Sides.{IsMail}
 use Rattle.told_laws.proofs.nodes.Machines.{AreTurnsIn}
 use Rattle.told_laws.proofs.nodes.Ranges.{IsNotedIn, AreIn, in-append, all_in_more, all_entries_in, first_lost_in, aged_in}

@@ -17,9 +17,9 @@ use Rattle.node_laws.specs.kept.Hosts.{AreHosts, IsFew}
 use Rattle.node_laws.specs.kept.Books.{IsTold, AreToldBehind}
 use Rattle.node_laws.specs.kept.Worlds.{IfRuns, SiteKeeps, AllKeep, MayHappen}
 use Rattle.node_laws.proofs.kept.Lines.{MayAllHappen, world_goes, few_front}
-use Rattle.node_order.specs.rsets.Causes.{FewRsetsOnEach, rsets_by}
-use Rattle.node_order.proofs.rsets.InWorlds.{each_longer, few_behind_step}
-use Rattle.told_laws.proofs.Lines.{top}
+use Rattle.node_laws.specs.rsets.Causes.{FewRsetsOnEach, rsets_by}
+use Rattle.node_laws.proofs.rsets.InWorlds.{each_longer, few_behind_step}
+use Rattle.told_laws.proofs.told.Lines.{top}
 use Rattle.told_laws.proofs.nodes.Ranges.{AreIn, in-append, all_in_more}
 use Rattle.told_laws.proofs.nodes.Commands.{AreTablesIn, tables_read_in}
 use Rattle.told_laws.proofs.nodes.Worlds.{IsWorldIn, IfTables, SitesHave, world_more}

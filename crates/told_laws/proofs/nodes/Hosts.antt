@@ -25,9 +25,9 @@ use Rattle.gate_link.specs.Link.{link_served}
 use Rattle.gate_identity.specs.Identity.{identity_served}
 use Rattle.gate_loopback.specs.Loopback.{posts_back}
 use Rattle.link_laws.specs.sessions.Sessions.{is_up}
-use Rattle.link_machine.specs.Machine.{Message}
+use Rattle.link_laws.specs.machine.Machine.{Message}
 use Rattle.trace_model.specs.declared.entry.Entry.TheVariants.{InitSame, InitMade, InitFailed}
-use Rattle.text_laws.specs.Ranges.{IsEnd, IsSaidCommand}
+use Rattle.told_laws.specs.texts.Ranges.{IsEnd, IsSaidCommand}
 use Rattle.node_machine.specs.Parts.{Init, Core, Port, Deed}
 use Rattle.node_machine.specs.Parts.Deed.{Commits, Sends, Orders, GoesOn, Ends}
 use Rattle.node_machine.specs.Carrying.{own_side, end_of_node, finds_room}
@@ -35,7 +35,7 @@ use Rattle.node_machine.specs.Controller.{gates}
 use Rattle.node_machine.specs.HostReplies.{accepts, pipe_named_in, orders_of, is_same, learns, init_agreed, init_deeds, deleted_by, created_by, learned}
 use Rattle.node_machine.specs.HostReplies.{response_deeds, is_gate, gate_of_pipe, ordered_deeds, host_deeds}
 use Rattle.node_laws.proofs.steps.Walks.{ordered_holds}
-use Rattle.told_laws.proofs.Lines.{end_in, each_all}
+use Rattle.told_laws.proofs.told.Lines.{end_in, each_all}
 use Rattle.told_laws.proofs.nodes.Sides.{AreBytes, IsMail}
 use Rattle.told_laws.proofs.nodes.Ranges.{IsShortCommand}
 use Rattle.told_laws.proofs.nodes.Commands.{IsCommandIn, AreTablesIn, recordable_made}

@@ -22,12 +22,12 @@ use Rattle.trace_model.specs.declared.line.Line.{Line}
 use Rattle.trace_model.specs.declared.line.Line.TheVariants as line
 use Rattle.trace_model.specs.Lines.{IsHost, IsNodeHeader, IsEndOf, IsNodeOf, MayFollow}
 use Rattle.schedule_text.proofs.ReadAgainLemmas.{header_hosts, node_fits}
-use Rattle.text_laws.specs.Ranges.{IsSaidValue, AreSaidTables}
+use Rattle.told_laws.specs.texts.Ranges.{IsSaidValue, AreSaidTables}
 use Rattle.link_laws.specs.sessions.Sessions.{OnWire}
-use Rattle.link_machine.specs.Machine.{Message, Refused, give_refusal, reset_refusal, LinkEnd, need, spare}
+use Rattle.link_laws.specs.machine.Machine.{Message, Refused, give_refusal, reset_refusal, LinkEnd, need, spare}
 use Rattle.shdlc_core.specs.declared.answers.LinkState.{LinkState}
 use Rattle.shdlc_core.specs.declared.answers.LinkState.TheVariants.{Down, Waiting, Up}
-use Rattle.link_machine.specs.Machine.Refused.{NotUp, TooLong, Full, Inactive, IsWaiting}
+use Rattle.link_laws.specs.machine.Machine.Refused.{NotUp, TooLong, Full, Inactive, IsWaiting}
 use Rattle.history.specs.Damage.{Verdict}
 use Rattle.history.specs.Damage.Verdict.{Same, LostFor, Undetected}
 use Rattle.history.specs.Follows.{as_noted, if_empty, if_out_of_reach, frames_to, taken_of, first_verdict}
@@ -36,9 +36,9 @@ use Rattle.node_machine.specs.world.World.Happening.{Takes, Ticks}
 use Rattle.node_machine.specs.world.Lines.{first_cause, if_true, is_running, if_off, machine_in, frames_at, if_waiting, if_not_sent, refusal_in}
 use Rattle.node_machine.specs.world.Lines.{happens_by, happenings}
 use Rattle.node_laws.proofs.kept.Lines.{first_none}
-use Rattle.answer_laws.specs.schedules.Ranges.{IsNodeLineOf}
-use Rattle.told_laws.proofs.Wires.{WireIs}
-use Rattle.told_laws.proofs.Lines.{each_all, all_each, IfCause, give_in, reset_in, empty_in, beyond_in, frame_few}
+use Rattle.node_laws.specs.schedules.Ranges.{IsNodeLineOf}
+use Rattle.told_laws.proofs.told.Wires.{WireIs}
+use Rattle.told_laws.proofs.told.Lines.{each_all, all_each, IfCause, give_in, reset_in, empty_in, beyond_in, frame_few}
 use Rattle.told_laws.proofs.nodes.Sides.{AreBytes, IsLineFrame}
 use Rattle.told_laws.proofs.nodes.Ranges.{line_lpdu}
 use Rattle.told_laws.proofs.nodes.Linking.{LinkIn}

@@ -15,21 +15,21 @@ use Rattle.shdlc_core.specs.declared.answers.LinkState.{LinkState}
 use Rattle.shdlc_core.specs.declared.answers.LinkState.TheVariants.{Down, Waiting, Up}
 use Rattle.shdlc_core.specs.Machine.{EndState, taken, take_answer, ticked, tick_answer, reset_with, stopped, all_frames}
 use Rattle.link_laws.specs.sessions.Sessions.{OnWire, is_rset, is_up, took_with}
-use Rattle.link_machine.specs.Machine.{Role, ActDue, LinkEnd, LinkInput, Turn, Refused, is_faulty, is_open, act_answer, role_after, with_act}
-use Rattle.link_machine.specs.Machine.{in_front, moved, put_down}
-use Rattle.link_machine.specs.Machine.{activated, heard, took, give_refusal, given, aside_refusal, turn, turned, reset_refusal, if_up}
-use Rattle.link_machine.specs.Machine.{reset_by, window_of, among, frames_out, sent_all, after_input, renewed, new_link_end, unless, ended_by}
-use Rattle.link_machine.specs.Machine.Role.{Bare, Clf, Uicc}
-use Rattle.link_machine.specs.Machine.LinkInput.{Take, TakeUnknown, TakeBroken, Tick, Reset, Start, Stop, FromNode, Fetch}
-use Rattle.link_machine.specs.Machine.Turn.{Give, Hold, FetchMessage, SetAside, Release}
-use Rattle.link_entries.specs.messages.Links.{NumberedEnd, Link, Ending, Comes, Loss, new_link, exchanged, put, put_all, with_controller, with_ended}
-use Rattle.link_entries.specs.messages.Links.{silent, cut, finished, has_input, has_taken, has_restarted, steps_at_controller, happens_at_controller, aged}
-use Rattle.link_entries.specs.messages.Links.Ending.{GoesOut, CutOff}
-use Rattle.link_entries.specs.messages.Links.Comes.{NextFrame, AsksReset, Starts, Stops, NoInput}
-use Rattle.link_entries.specs.messages.Links.EndEvent.{Lose}
-use Rattle.told_laws.proofs.Ends.{frames_few}
-use Rattle.told_laws.proofs.Links.{IsLowWindow, took_low}
-use Rattle.told_laws.proofs.Wires.{WireIs, wire_more, wire_dropped, wire_put, wire_aged}
+use Rattle.link_laws.specs.machine.Machine.{Role, ActDue, LinkEnd, LinkInput, Turn, Refused, is_faulty, is_open, act_answer, role_after, with_act}
+use Rattle.link_laws.specs.machine.Machine.{in_front, moved, put_down}
+use Rattle.link_laws.specs.machine.Machine.{activated, heard, took, give_refusal, given, aside_refusal, turn, turned, reset_refusal, if_up}
+use Rattle.link_laws.specs.machine.Machine.{reset_by, window_of, among, frames_out, sent_all, after_input, renewed, new_link_end, unless, ended_by}
+use Rattle.link_laws.specs.machine.Machine.Role.{Bare, Clf, Uicc}
+use Rattle.link_laws.specs.machine.Machine.LinkInput.{Take, TakeUnknown, TakeBroken, Tick, Reset, Start, Stop, FromNode, Fetch}
+use Rattle.link_laws.specs.machine.Machine.Turn.{Give, Hold, FetchMessage, SetAside, Release}
+use Rattle.link_laws.specs.messages.Links.{NumberedEnd, Link, Ending, Comes, Loss, new_link, exchanged, put, put_all, with_controller, with_ended}
+use Rattle.link_laws.specs.messages.Links.{silent, cut, finished, has_input, has_taken, has_restarted, steps_at_controller, happens_at_controller, aged}
+use Rattle.link_laws.specs.messages.Links.Ending.{GoesOut, CutOff}
+use Rattle.link_laws.specs.messages.Links.Comes.{NextFrame, AsksReset, Starts, Stops, NoInput}
+use Rattle.link_laws.specs.messages.Links.EndEvent.{Lose}
+use Rattle.told_laws.proofs.told.Ends.{frames_few}
+use Rattle.told_laws.proofs.told.Links.{IsLowWindow, took_low}
+use Rattle.told_laws.proofs.told.Wires.{WireIs, wire_more, wire_dropped, wire_put, wire_aged}
 use Rattle.told_laws.proofs.nodes.Sides.{IsLineFrame}
 use Rattle.told_laws.proofs.nodes.Machines.{IsRoleIn, IsStartIn, SideIn, side_more, side_input, side_turned, side_sent, AreTurnsIn}
 use Rattle.told_laws.proofs.nodes.Machines.{IsInputIn, AreFramesIn, out_in}

@@ -23,17 +23,17 @@ use Rattle.shdlc_core.specs.declared.answers.LinkState.TheVariants.{Down, Waitin
 use Rattle.shdlc_core.specs.Machine.{EndState, taken, take_answer, ticked, tick_answer, reset_with, stopped, all_frames}
 use Rattle.hcp_packet.specs.Packets.{packet_bytes, packets_of}
 use Rattle.registry.proofs.ValueLemmas.{AllByRecursion-append as each-append}
-use Rattle.told_laws.proofs.Ends.{IsFrame, IfTries, few_tries, frames_in}
-use Rattle.told_laws.proofs.Links.{IsLowWindow, fragments_in}
-use Rattle.told_laws.proofs.Wires.{drop_each}
-use Rattle.link_machine.specs.Machine.{Role, ActDue, LinkEnd, LinkInput, Turn, Refused, Report, messages_got, is_faulty, is_open, role_after, act_answer}
-use Rattle.link_machine.specs.Machine.{with_act, in_front, moved, put_down, activated, started, deactivated, news, heard, took, give_refusal}
-use Rattle.link_machine.specs.Machine.{given, aside_refusal}
-use Rattle.link_machine.specs.Machine.{turn, turned, reset_refusal, if_up, reset_by, window_of, had_tick, among, frames_out, sent_all, after_input}
-use Rattle.link_machine.specs.Machine.{brought, report, whole_acked, unless}
-use Rattle.link_machine.specs.Machine.Role.{Bare, Clf, Uicc}
-use Rattle.link_machine.specs.Machine.LinkInput.{Take, TakeUnknown, TakeBroken, Tick, Reset, Start, Stop, FromNode, Fetch}
-use Rattle.link_machine.specs.Machine.Turn.{Give, Hold, FetchMessage, SetAside, Release}
+use Rattle.told_laws.proofs.told.Ends.{IsFrame, IfTries, few_tries, frames_in}
+use Rattle.told_laws.proofs.told.Links.{IsLowWindow, fragments_in}
+use Rattle.told_laws.proofs.told.Wires.{drop_each}
+use Rattle.link_laws.specs.machine.Machine.{Role, ActDue, LinkEnd, LinkInput, Turn, Refused, Report, messages_got, is_faulty, is_open, role_after, act_answer}
+use Rattle.link_laws.specs.machine.Machine.{with_act, in_front, moved, put_down, activated, started, deactivated, news, heard, took, give_refusal}
+use Rattle.link_laws.specs.machine.Machine.{given, aside_refusal}
+use Rattle.link_laws.specs.machine.Machine.{turn, turned, reset_refusal, if_up, reset_by, window_of, had_tick, among, frames_out, sent_all, after_input}
+use Rattle.link_laws.specs.machine.Machine.{brought, report, whole_acked, unless}
+use Rattle.link_laws.specs.machine.Machine.Role.{Bare, Clf, Uicc}
+use Rattle.link_laws.specs.machine.Machine.LinkInput.{Take, TakeUnknown, TakeBroken, Tick, Reset, Start, Stop, FromNode, Fetch}
+use Rattle.link_laws.specs.machine.Machine.Turn.{Give, Hold, FetchMessage, SetAside, Release}
 use Rattle.told_laws.proofs.nodes.Sides.{IsAct, IsLineFrame, plain_frame, EndIn, end_taken, end_ticked, end_reset, end_stopped, end_readied, end_out}
 use Rattle.told_laws.proofs.nodes.Sides.{end_sent, end_more, IsMail, mail_told, AreMail, got_in, whole_low}
 

@@ -13,19 +13,19 @@ use Rattle.swp_lpdu.specs.Controls.{lpdu_of}
 use Rattle.trace_model.specs.declared.entry.Entry.{Entry}
 use Rattle.trace_model.specs.declared.entry.Entry.TheVariants as entry
 use Rattle.link_laws.specs.sessions.Sessions.{OnWire}
-use Rattle.link_machine.specs.Machine.{Report}
-use Rattle.link_entries.specs.messages.Links.{Loss}
-use Rattle.link_entries.specs.messages.Links.Loss.{TooOld}
-use Rattle.link_entries.specs.entries.Entries.{End as Side, Entry as Noted, if_so, told, first_lost, aged_entries}
-use Rattle.link_entries.specs.entries.Entries.Entry.{Up, Down, Active, GaveUp, Acked, Got, Sent, Emit, Took, Lost, Tick, Restarted, Cut}
+use Rattle.link_laws.specs.machine.Machine.{Report}
+use Rattle.link_laws.specs.messages.Links.{Loss}
+use Rattle.link_laws.specs.messages.Links.Loss.{TooOld}
+use Rattle.link_laws.specs.entries.Entries.{End as Side, Entry as Noted, if_so, told, first_lost, aged_entries}
+use Rattle.link_laws.specs.entries.Entries.Entry.{Up, Down, Active, GaveUp, Acked, Got, Sent, Emit, Took, Lost, Tick, Restarted, Cut}
 use Rattle.history.specs.Steps.{entry_of, entries_for}
 use Rattle.hci_tables.specs.declared.command.Command.{Command}
 use Rattle.hci_tables.specs.declared.command.Command.TheVariants.{Set}
-use Rattle.text_laws.specs.Ranges.{IsEnd, IsEntry, IsSaidCommand}
+use Rattle.told_laws.specs.texts.Ranges.{IsEnd, IsEntry, IsSaidCommand}
 use Rattle.registry.proofs.ValueLemmas.{AllByRecursion-append as each-append}
-use Rattle.told_laws.proofs.Lines.{IsLpdu, lpdu_by, lpdu_in, end_in}
+use Rattle.told_laws.proofs.told.Lines.{IsLpdu, lpdu_by, lpdu_in, end_in}
 use Rattle.swp_base.specs.declared.link_terms.Cause.{Cause}
-use Rattle.told_laws.proofs.Ends.{IfTries}
+use Rattle.told_laws.proofs.told.Ends.{IfTries}
 use Rattle.told_laws.proofs.nodes.Sides.{IsLineFrame, IsMail}
 use Rattle.told_laws.proofs.nodes.Machines.{ReportIn}
 

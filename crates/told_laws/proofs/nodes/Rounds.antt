@@ -16,11 +16,11 @@ use Rattle.node_machine.specs.world.Rounds.{ends_in_order, end_takes_all, ends_t
 use Rattle.node_laws.specs.kept.Hosts.{AreHosts, IsFew}
 use Rattle.node_laws.specs.kept.Worlds.{MayHappen}
 use Rattle.node_laws.proofs.kept.Lines.{few_front}
-use Rattle.node_order.specs.acked.AckedRounds.{AreAckedWithin, amid_round}
-use Rattle.node_order.specs.rsets.Causes.{FewRsetsOnEach}
-use Rattle.node_order.proofs.acked.AckedRounds.{IsSound, each_amid, each_rounds}
-use Rattle.node_order.proofs.rsets.InWorlds.{few_behind_step, each_longer}
-use Rattle.told_laws.proofs.Lines.{top}
+use Rattle.node_laws.specs.acked.AckedRounds.{AreAckedWithin, amid_round}
+use Rattle.node_laws.specs.rsets.Causes.{FewRsetsOnEach}
+use Rattle.node_laws.proofs.acked.AckedRounds.{IsSound, each_amid, each_rounds}
+use Rattle.node_laws.proofs.rsets.InWorlds.{few_behind_step, each_longer}
+use Rattle.told_laws.proofs.told.Lines.{top}
 use Rattle.told_laws.proofs.nodes.Worlds.{IsSiteIn}
 use Rattle.told_laws.proofs.nodes.Happenings.{HappensIn}
 use Rattle.told_laws.proofs.nodes.Histories.{Stands, event_in, first_happens, none_happens, stands_more}

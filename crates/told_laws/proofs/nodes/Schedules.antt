@@ -14,11 +14,11 @@ use Rattle.trace_model.specs.declared.line.Line.{Line}
 use Rattle.trace_model.specs.declared.line.Line.TheVariants as line
 use Rattle.trace_model.specs.Lines.{IsHost, IsNodeHeader, MayBegin}
 use Rattle.trace_model.specs.declared.line.End.{End}
-use Rattle.text_laws.specs.Ranges.{IsEntry}
-use Rattle.text_laws.proofs.ReadLemmas.{said_in}
-use Rattle.link_machine.specs.Machine.{need, spare}
+use Rattle.told_laws.specs.texts.Ranges.{IsEntry}
+use Rattle.told_laws.proofs.texts.ReadLemmas.{said_in}
+use Rattle.link_laws.specs.machine.Machine.{need, spare}
 use Rattle.link_laws.specs.sessions.Sessions.{OnWire}
-use Rattle.link_entries.specs.messages.Rest.{is_clear}
+use Rattle.link_laws.specs.messages.Rest.{is_clear}
 use Rattle.registry.proofs.ValueLemmas.{AllByRecursion-append as each-append}
 use Rattle.node_machine.specs.Parts.{Running}
 use Rattle.node_machine.specs.world.World.{NodeWorld, Site, Happening, node_at, node_of, site_at, new_world, new_site}
@@ -31,25 +31,26 @@ use Rattle.node_machine.specs.world.Rounds.{ends_in_order, end_takes_all, ends_t
 use Rattle.node_laws.specs.kept.Hosts.{AreDifferent, AreHosts, IsFew, IsSentByHost}
 use Rattle.node_laws.proofs.kept.Lines.{MayAllHappen, line_may, few_front}
 use Rattle.node_laws.proofs.kept.Kept.{all_begin}
-use Rattle.node_order.proofs.acked.AckedRounds.{IsSound, sound_new}
-use Rattle.node_order.proofs.order.HostsStay.{hosts_stay, hosts_stay_behind}
-use Rattle.node_order.proofs.links.Playing.{world_fine}
-use Rattle.node_order.proofs.rsets.InWorlds.{few_in_new_world}
-use Rattle.answer_laws.specs.schedules.Ranges.{IsNodeLineOf, AreNodeLinesOf, lines_asking}
-use Rattle.answer_laws.proofs.bounds.Lines.{asking-append, asking_few}
-use Rattle.answer_laws.proofs.schedules.Ranges.{hosts_are, in_range, playable, sent_by_hosts}
-use Rattle.answer_laws.proofs.schedules.Few.{are_few}
-use Rattle.lines_told.specs.Below.{IsPlayedLine, entries_below, is_settling, nodes_behind}
-use Rattle.lines_told.specs.Plays.{Play, IsPlayFor, AreFewPlays, lines_of_play, lines_played, lines_said, rounds_played, round_behind, round_in, taking_in}
-use Rattle.lines_told.specs.Plays.Play.{Said, Round}
-use Rattle.lines_told.specs.RoundLines.{IsRoundLine}
-use Rattle.lines_told.proofs.Lines.{lines_may_be_played, round_known}
-use Rattle.lines_told.proofs.NodeRounds.{told_in, after-append, told-append, takes_so, round_is, round_told, round_lines}
-use Rattle.lines_told.proofs.Plays.{played_more, said-append, played-append, for_with}
-use Rattle.told_laws.specs.NodesTold.{line_told, nodes_told}
-use Rattle.told_laws.proofs.Lines.{each_all, IfCause, top}
-use Rattle.told_laws.proofs.Coming.{front_each, back_each}
-use Rattle.told_laws.proofs.Plays.{lines_from, played_from}
+use Rattle.node_laws.proofs.acked.AckedRounds.{IsSound, sound_new}
+use Rattle.node_laws.proofs.order.HostsStay.{hosts_stay, hosts_stay_behind}
+use Rattle.node_laws.proofs.links.Playing.{world_fine}
+use Rattle.node_laws.proofs.rsets.InWorlds.{few_in_new_world}
+use Rattle.node_laws.specs.schedules.Ranges.{IsNodeLineOf, AreNodeLinesOf, lines_asking}
+use Rattle.node_laws.proofs.bounds.Lines.{asking-append, asking_few}
+use Rattle.node_laws.proofs.schedules.Ranges.{hosts_are, in_range, playable, sent_by_hosts}
+use Rattle.node_laws.proofs.schedules.Few.{are_few}
+use Rattle.lines_told.specs.lines.Below.{IsPlayedLine, entries_below, is_settling, nodes_behind}
+use Rattle.lines_told.specs.lines.Plays.{Play, IsPlayFor, AreFewPlays, lines_of_play, lines_played, lines_said, rounds_played, round_behind, round_in}
+use Rattle.lines_told.specs.lines.Plays.{taking_in}
+use Rattle.lines_told.specs.lines.Plays.Play.{Said, Round}
+use Rattle.lines_told.specs.lines.RoundLines.{IsRoundLine}
+use Rattle.lines_told.proofs.lines.Lines.{lines_may_be_played, round_known}
+use Rattle.lines_told.proofs.lines.NodeRounds.{told_in, after-append, told-append, takes_so, round_is, round_told, round_lines}
+use Rattle.lines_told.proofs.lines.Plays.{played_more, said-append, played-append, for_with}
+use Rattle.told_laws.specs.told.NodesTold.{line_told, nodes_told}
+use Rattle.told_laws.proofs.told.Lines.{each_all, IfCause, top}
+use Rattle.told_laws.proofs.told.Coming.{front_each, back_each}
+use Rattle.told_laws.proofs.told.Plays.{lines_from, played_from}
 use Rattle.told_laws.proofs.nodes.Ranges.{IsIn}
 use Rattle.told_laws.proofs.nodes.Linking.{new_link_in}
 use Rattle.told_laws.proofs.nodes.Worlds.{IsSiteIn}

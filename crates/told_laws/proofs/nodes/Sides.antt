@@ -23,10 +23,10 @@ use Rattle.hcp_packet.specs.declared.Packet.{Packet}
 use Rattle.hcp_packet.specs.Packets.{packets_in, packet_count, is_good, good_of}
 use Rattle.hcp_chain.specs.Joining.{join_step, message_in, given_by, is_fifth, grown, so_far, others}
 use Rattle.registry.proofs.ValueLemmas.{AllByRecursion-append as each-append, AllByRecursion-filter}
-use Rattle.told_laws.proofs.Ends.{IsFragment, IsFrame, Ranged, ranged_taken, ranged_ticked, ranged_reset, ranged_stopped, ranged_ready, ranged_out}
-use Rattle.told_laws.proofs.Ends.{ranged_after}
-use Rattle.link_machine.specs.Machine.{Message, messages_got, whole_among}
-use Rattle.told_laws.proofs.Links.{IsTellable}
+use Rattle.told_laws.proofs.told.Ends.{IsFragment, IsFrame, Ranged, ranged_taken, ranged_ticked, ranged_reset, ranged_stopped, ranged_ready, ranged_out}
+use Rattle.told_laws.proofs.told.Ends.{ranged_after}
+use Rattle.link_laws.specs.machine.Machine.{Message, messages_got, whole_among}
+use Rattle.told_laws.proofs.told.Links.{IsTellable}
 
 -- ## Frames
 

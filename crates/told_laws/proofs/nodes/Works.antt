@@ -12,10 +12,10 @@ use Rattle.hci_tables.specs.declared.command.Command.TheVariants.{Sync}
 use Rattle.hci_tables.specs.Bodies.{body_of}
 use Rattle.hci_store.specs.Committing.{commit_writes}
 use Rattle.gate_answers.specs.Answers.{answer_of}
-use Rattle.link_machine.specs.Machine.{Message, Refused, LinkEnd, LinkInput, Turn, give_refusal, after_input, report, whole_acked, need, spare}
-use Rattle.link_machine.specs.Machine.LinkInput.{Reset}
-use Rattle.link_machine.specs.Machine.Turn.{Give, Hold, FetchMessage, SetAside, Release}
-use Rattle.link_entries.specs.entries.Entries.{End as Side, turn_entry, sent_unless, told}
+use Rattle.link_laws.specs.machine.Machine.{Message, Refused, LinkEnd, LinkInput, Turn, give_refusal, after_input, report, whole_acked, need, spare}
+use Rattle.link_laws.specs.machine.Machine.LinkInput.{Reset}
+use Rattle.link_laws.specs.machine.Machine.Turn.{Give, Hold, FetchMessage, SetAside, Release}
+use Rattle.link_laws.specs.entries.Entries.{End as Side, turn_entry, sent_unless, told}
 use Rattle.registry.proofs.ValueLemmas.{AllByRecursion-append as each-append}
 use Rattle.node_machine.specs.Parts.{About, Notice, Desk, Core, Port, Work, Deed}
 use Rattle.node_machine.specs.Parts.About.{Waits, Forgotten, Removed}
@@ -31,7 +31,7 @@ use Rattle.node_machine.specs.Node.{is_forgotten, forgotten, forgets, all_owed, 
 use Rattle.node_machine.specs.Node.NodeInput.{AtEnd, TimePasses}
 use Rattle.node_laws.proofs.steps.StepWalks.{got_at, unless, lets}
 use Rattle.node_laws.proofs.steps.Walks.{forgotten_hold, all_owed_hold}
-use Rattle.told_laws.proofs.Lines.{each_all}
+use Rattle.told_laws.proofs.told.Lines.{each_all}
 use Rattle.swp_base.specs.Bits.{IsByte}
 use Rattle.told_laws.proofs.nodes.Sides.{IsMail, AreMail}
 use Rattle.told_laws.proofs.nodes.Machines.{SideIn, side_more, side_turn, side_input, side_reset_at, IsTurnIn, AreTurnsIn, IsInputIn, IfSync}

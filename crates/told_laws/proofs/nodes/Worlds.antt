@@ -9,18 +9,18 @@ use Rattle.swp_base.specs.declared.control_frames.Control.{Control}
 use Rattle.trace_model.specs.declared.entry.Entry.{Entry}
 use Rattle.pipe_table.specs.PipeRows.{ArePipeRows}
 use Rattle.link_laws.specs.sessions.Sessions.{OnWire, is_rset, fits, took_with}
-use Rattle.link_machine.specs.Machine.{LinkEnd, LinkInput, frames_out}
-use Rattle.link_machine.specs.Machine.LinkInput.{Take, Reset, Start, Stop}
-use Rattle.link_machine.specs.Machine.Role.{Bare}
-use Rattle.link_entries.specs.messages.Links.{NumberedEnd, Link, Ending, Comes, new_link, number_of, exchanged}
-use Rattle.link_entries.specs.messages.Links.{happens_at_controller, put}
-use Rattle.link_entries.specs.messages.Links.Ending.{GoesOut, CutOff}
-use Rattle.link_entries.specs.messages.Links.Comes.{NextFrame, AsksReset, Starts, Stops, NoInput}
-use Rattle.link_entries.specs.messages.Links.Loss.{TooMany}
-use Rattle.link_entries.specs.messages.Links.EndEvent.{Step}
-use Rattle.link_entries.specs.entries.Entries.{End as Side, Entry as Noted, ending_entries, puts_entries, pushed_out, put_entries, wire_with, far, first_lost}
-use Rattle.link_entries.specs.entries.Entries.End.{Controller, Host}
-use Rattle.link_entries.specs.entries.Entries.Entry.{Took}
+use Rattle.link_laws.specs.machine.Machine.{LinkEnd, LinkInput, frames_out}
+use Rattle.link_laws.specs.machine.Machine.LinkInput.{Take, Reset, Start, Stop}
+use Rattle.link_laws.specs.machine.Machine.Role.{Bare}
+use Rattle.link_laws.specs.messages.Links.{NumberedEnd, Link, Ending, Comes, new_link, number_of, exchanged}
+use Rattle.link_laws.specs.messages.Links.{happens_at_controller, put}
+use Rattle.link_laws.specs.messages.Links.Ending.{GoesOut, CutOff}
+use Rattle.link_laws.specs.messages.Links.Comes.{NextFrame, AsksReset, Starts, Stops, NoInput}
+use Rattle.link_laws.specs.messages.Links.Loss.{TooMany}
+use Rattle.link_laws.specs.messages.Links.EndEvent.{Step}
+use Rattle.link_laws.specs.entries.Entries.{End as Side, Entry as Noted, ending_entries, puts_entries, pushed_out, put_entries, wire_with, far, first_lost}
+use Rattle.link_laws.specs.entries.Entries.End.{Controller, Host}
+use Rattle.link_laws.specs.entries.Entries.Entry.{Took}
 use Rattle.history.specs.Steps.{entries_for}
 use Rattle.registry.proofs.ValueLemmas.{AllByRecursion-append as each-append}
 use Rattle.node_machine.specs.Parts.{Desk, Running, Port, Work}
@@ -29,8 +29,8 @@ use Rattle.node_machine.specs.world.World.{Site, NodeWorld, site_at, with_site, 
 use Rattle.node_machine.specs.world.World.{wires_for, port_for, work_of, frames_noted, comes_to, controller_work, link_after_controller, after_controller}
 use Rattle.node_machine.specs.world.World.{controller_does, host_work, after_host, host_does}
 use Rattle.node_machine.proofs.world.Cases.{by_controller, by_host}
-use Rattle.told_laws.proofs.Links.{took_low}
-use Rattle.told_laws.proofs.Wires.{FrameIs, WireIs, drop_each}
+use Rattle.told_laws.proofs.told.Links.{took_low}
+use Rattle.told_laws.proofs.told.Wires.{FrameIs, WireIs, drop_each}
 use Rattle.told_laws.proofs.nodes.Sides.{IsLineFrame}
 use Rattle.told_laws.proofs.nodes.Machines.{SideIn, AreTurnsIn, IsInputIn, AreFramesIn, out_in}
 use Rattle.told_laws.proofs.nodes.Ranges.{IsNotedIn, AreIn, in-append, all_in_more, AreNotedIn, all_entries_in, first_lost_in}

@@ -2,7 +2,7 @@ use Rattle.std.proofs.Common.{ℕ, ◌+◌, List, ◌∷◌, [], ◌++◌, ap, �
 use Rattle.trace_model.specs.declared.entry.Entry.TheVariants as entry
 use Rattle.trace_model.specs.declared.line.End.{End}
 use Rattle.link_laws.specs.sessions.Sessions.{fits}
-use Rattle.link_entries.specs.entries.Entries.{pushed_out}
+use Rattle.link_laws.specs.entries.Entries.{pushed_out}
 use Rattle.link_wires.specs.Notes.{side_of, AreNoted}
 use Rattle.link_wires.specs.Wires.{WireStandsFor}
 use Rattle.link_wires.proofs.Results.{on_ok}

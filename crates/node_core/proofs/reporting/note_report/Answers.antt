@@ -1,7 +1,7 @@
 use Rattle.std.proofs.Common.{map, sym}
 use Rattle.std.specs.Prelude.{option_to_list, nat_lt}
-use Rattle.link_entries.specs.entries.Entries.{if_so}
-use Rattle.link_entries.specs.entries.Entries.Entry.{Up, Down, Active, GaveUp, Acked}
+use Rattle.link_laws.specs.entries.Entries.{if_so}
+use Rattle.link_laws.specs.entries.Entries.Entry.{Up, Down, Active, GaveUp, Acked}
 use Rattle.node_core.proofs.Notes.{notes_then, notes_are, whole}
 use Rattle.node_core.proofs.reporting.note_report.Goals as goal
 

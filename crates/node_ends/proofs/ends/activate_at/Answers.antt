@@ -1,7 +1,7 @@
 use Rattle.std.proofs.Common.{sym, ap, ◌∙◌, arith, subst}
 use Rattle.std.specs.Prelude.{Some, is_some}
-use Rattle.link_machine.specs.Machine.{report}
-use Rattle.link_machine.specs.Machine.LinkInput.{Start}
+use Rattle.link_laws.specs.machine.Machine.{report}
+use Rattle.link_laws.specs.machine.Machine.LinkInput.{Start}
 use Rattle.link_end.specs.declared.report.LinkReport.{LinkReport}
 use Rattle.link_end.specs.Reports.{report_told}
 use Rattle.node_machine.specs.Parts.{Port}
@@ -14,7 +14,7 @@ use Rattle.node_ends.proofs.Moving.{few_controls}
 use Rattle.node_ends.proofs.Changing.{within, reads, comes, told_there}
 use Rattle.node_ends.specs.Holding.{acked_since}
 use Rattle.node_ends.proofs.Counting.{acked_so, reached_on, input_acked}
-use Rattle.link_machine.proofs.Reports.{start_so}
+use Rattle.link_laws.proofs.machine.Reports.{start_so}
 use Rattle.node_ends.specs.Ends.{AreEnds}
 use Rattle.node_machine.specs.Carrying.{with_port}
 use Rattle.std.specs.Prelude.{slice_set}

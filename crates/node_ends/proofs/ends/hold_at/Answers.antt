@@ -1,6 +1,6 @@
 use Rattle.std.proofs.Common.{arith, refl, subst}
 use Rattle.node_ends.specs.Ends.{FewAreDue}
-use Rattle.link_machine.specs.Machine.Turn.{Hold}
+use Rattle.link_laws.specs.machine.Machine.Turn.{Hold}
 use Rattle.node_ends.proofs.Moving.{few_controls}
 use Rattle.node_ends.proofs.Changing.{within, turns, reads}
 use Rattle.node_ends.proofs.ends.hold_at.Goals as goal

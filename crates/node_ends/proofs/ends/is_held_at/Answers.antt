@@ -1,7 +1,7 @@
 use Rattle.std.proofs.Common.{false, sym, ap, ◌∙◌, arith, subst}
 use Rattle.std.specs.Prelude.{Option}
 use Rattle.std.specs.Option.{option_map_or}
-use Rattle.link_machine.specs.Machine.{is_held}
+use Rattle.link_laws.specs.machine.Machine.{is_held}
 use Rattle.node_machine.specs.Parts.{Port}
 use Rattle.node_ends.specs.declared.seat.Seat.{Seat}
 use Rattle.node_ends.specs.Holding.{HoldsSeat}

@@ -1,6 +1,6 @@
 use Rattle.std.proofs.Common.{ap, arith}
 use Rattle.node_ends.specs.declared.seat.Seat.{Seat}
-use Rattle.link_machine.specs.Machine.Turn.{Release}
+use Rattle.link_laws.specs.machine.Machine.Turn.{Release}
 use Rattle.node_ends.proofs.Changing.{within, turns_so, reads, owner_is}
 use Rattle.node_ends.proofs.ends.release_at.Goals as goal
 

@@ -1,5 +1,5 @@
 use Rattle.std.proofs.Common.{sym, ap, ◌∙◌, arith}
-use Rattle.link_machine.specs.Machine.Turn.{Give}
+use Rattle.link_laws.specs.machine.Machine.Turn.{Give}
 use Rattle.node_ends.specs.Ends.{takes_at}
 use Rattle.node_ends.proofs.Changing.{within, turns, reads}
 use Rattle.node_ends.proofs.Blocks.{give_aside}

@@ -1,9 +1,9 @@
 use Rattle.std.proofs.Common.{◌≡◌, subst, sym, ap, ◌∙◌}
 use Rattle.std.specs.Prelude.{Some, IfSome, Ok}
 use Rattle.swp_lpdu.specs.Controls.{lpdu_of, control_of}
-use Rattle.link_machine.specs.Machine.{next_frame}
+use Rattle.link_laws.specs.machine.Machine.{next_frame}
 use Rattle.node_machine.specs.Parts.{Port}
-use Rattle.link_machine.specs.Machine.LinkInput.{Fetch}
+use Rattle.link_laws.specs.machine.Machine.LinkInput.{Fetch}
 use Rattle.node_ends.specs.declared.seat.Seat.{Seat}
 use Rattle.node_deeds.specs.Cores.{IsSoundDesk}
 use Rattle.node_deeds.specs.Shown.{desk_shown}

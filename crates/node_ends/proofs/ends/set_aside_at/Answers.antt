@@ -1,6 +1,6 @@
 use Rattle.std.proofs.Common.{ap, arith}
 use Rattle.node_ends.specs.declared.seat.Seat.{Seat}
-use Rattle.link_machine.specs.Machine.Turn.{SetAside}
+use Rattle.link_laws.specs.machine.Machine.Turn.{SetAside}
 use Rattle.node_ends.proofs.Changing.{within, turns_so, reads, owner_is}
 use Rattle.node_ends.proofs.ends.set_aside_at.Goals as goal
 

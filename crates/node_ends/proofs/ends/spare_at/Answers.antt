@@ -2,7 +2,7 @@ use Rattle.std.proofs.Common.{ℕ, ◌<◌, length, sym, ap, ◌∙◌, arith, s
 use Rattle.std.specs.Prelude.{Option}
 use Rattle.std.specs.Option.{option_map_or}
 use Rattle.block_pool.specs.Pool.{spare_of}
-use Rattle.link_machine.specs.Machine.{spare}
+use Rattle.link_laws.specs.machine.Machine.{spare}
 use Rattle.link_end.proofs.NodeLemmas.{spare_is}
 use Rattle.node_machine.specs.Parts.{Port}
 use Rattle.node_ends.specs.Holding.{without_got}

@@ -1,6 +1,6 @@
 use Rattle.std.proofs.Common.{sym, ap, ◌∙◌, arith, subst}
 use Rattle.std.specs.Prelude.{Some, is_some}
-use Rattle.link_machine.specs.Machine.{lpdu_input, report}
+use Rattle.link_laws.specs.machine.Machine.{lpdu_input, report}
 use Rattle.link_end.specs.declared.report.LinkReport.{LinkReport}
 use Rattle.link_end.specs.Reports.{report_told}
 use Rattle.node_machine.specs.Parts.{Port}

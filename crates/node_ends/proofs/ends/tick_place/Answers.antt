@@ -1,7 +1,7 @@
 use Rattle.std.proofs.Common.{sym, ap, ◌∙◌, subst}
 use Rattle.std.specs.Prelude.{Some, is_some}
-use Rattle.link_machine.specs.Machine.{report}
-use Rattle.link_machine.specs.Machine.LinkInput.{Tick}
+use Rattle.link_laws.specs.machine.Machine.{report}
+use Rattle.link_laws.specs.machine.Machine.LinkInput.{Tick}
 use Rattle.link_end.specs.declared.report.LinkReport.{LinkReport}
 use Rattle.link_end.specs.Reports.{report_told}
 use Rattle.node_machine.specs.Parts.{Port}
@@ -15,7 +15,7 @@ use Rattle.node_ends.proofs.Changing.{told_there}
 use Rattle.node_ends.proofs.Seated.{reads_here, comes_here}
 use Rattle.node_ends.specs.Holding.{acked_since}
 use Rattle.node_ends.proofs.Counting.{acked_so, reached_on, input_acked}
-use Rattle.link_machine.proofs.Reports.{tick_so}
+use Rattle.link_laws.proofs.machine.Reports.{tick_so}
 use Rattle.node_ends.specs.Ends.{AreEnds, at_place}
 use Rattle.std.specs.Prelude.{slice_set}
 use Rattle.node_ends.proofs.Blocks.{tick_aside}

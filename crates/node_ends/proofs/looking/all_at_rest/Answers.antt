@@ -1,5 +1,5 @@
 use Rattle.std.proofs.Common.{refl, sym, ◌∙◌, subst, arith}
-use Rattle.link_machine.specs.AtRest.{end_rests}
+use Rattle.link_laws.specs.machine.AtRest.{end_rests}
 use Rattle.node_machine.specs.Parts.{Port}
 use Rattle.node_ends.specs.declared.seat.Seat.{Seat}
 use Rattle.node_ends.specs.Holding.{HoldsSeat}

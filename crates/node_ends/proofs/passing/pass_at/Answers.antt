@@ -5,7 +5,7 @@ use Rattle.block_pool.specs.Pool.{PoolState, IsLive, chain_bytes, Gives, KeepsOt
 use Rattle.hcp_packet.specs.Packets.{IsSendable}
 use Rattle.link_end.specs.declared.link.LinkEnd.{LinkEnd as Link}
 use Rattle.link_end.specs.Ends.{EndStandsFor, MayPass}
-use Rattle.link_machine.specs.Machine.{Message, give_refusal}
+use Rattle.link_laws.specs.machine.Machine.{Message, give_refusal}
 use Rattle.node_ends.specs.declared.seat.Seat.{Seat}
 use Rattle.node_ends.specs.Holding.{without_got}
 use Rattle.node_ends.specs.Ends.{takes_at}

@@ -2,8 +2,8 @@ use Rattle.std.proofs.Common.{ℕ, refl, ap, sym, subst, ◌∙◌}
 use Rattle.std.specs.Prelude.{slice_index_or}
 use Rattle.std.specs.List.{AllByRecursion}
 use Rattle.trace_model.specs.Lines.{IsHost}
-use Rattle.link_machine.specs.Machine.LinkInput.{Start}
-use Rattle.link_entries.specs.messages.Links.Comes.{Starts}
+use Rattle.link_laws.specs.machine.Machine.LinkInput.{Start}
+use Rattle.link_laws.specs.messages.Links.Comes.{Starts}
 use Rattle.node_machine.specs.world.World.{link_to}
 use Rattle.node_laws.specs.kept.Hosts.{AreDifferent}
 use Rattle.node_world.specs.LinksKept.{with_bare_wires}

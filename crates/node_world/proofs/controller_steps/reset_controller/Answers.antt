@@ -2,8 +2,8 @@ use Rattle.std.proofs.Common.{ℕ, List, refl, sym, subst, ◌∙◌}
 use Rattle.std.specs.Prelude.{Ok}
 use Rattle.std.specs.List.{AllByRecursion}
 use Rattle.trace_model.specs.Lines.{IsHost}
-use Rattle.link_machine.specs.Machine.LinkInput.{Reset}
-use Rattle.link_entries.specs.messages.Links.Comes.{AsksReset}
+use Rattle.link_laws.specs.machine.Machine.LinkInput.{Reset}
+use Rattle.link_laws.specs.messages.Links.Comes.{AsksReset}
 use Rattle.node_machine.specs.world.World.{Site, link_to}
 use Rattle.node_laws.specs.kept.Hosts.{AreDifferent}
 use Rattle.node_world.specs.Controllers.{SitesAre, as_it_comes_to}

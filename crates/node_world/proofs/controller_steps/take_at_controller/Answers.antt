@@ -4,10 +4,10 @@ use Rattle.std.specs.List.{AllByRecursion}
 use Rattle.trace_model.specs.Lines.{IsHost}
 use Rattle.trace_model.specs.declared.entry.Entry.{Entry}
 use Rattle.trace_model.specs.declared.line.End.{End}
-use Rattle.link_machine.specs.Machine.{lpdu_input}
-use Rattle.link_entries.specs.messages.Links.{Link}
-use Rattle.link_entries.specs.messages.Links.Comes.{NextFrame}
-use Rattle.link_entries.specs.entries.Entries.End.{Controller}
+use Rattle.link_laws.specs.machine.Machine.{lpdu_input}
+use Rattle.link_laws.specs.messages.Links.{Link}
+use Rattle.link_laws.specs.messages.Links.Comes.{NextFrame}
+use Rattle.link_laws.specs.entries.Entries.End.{Controller}
 use Rattle.history.specs.Steps.{entries_for}
 use Rattle.node_machine.specs.world.World.{NodeWorld, link_to, input_of, arrival}
 use Rattle.node_laws.specs.kept.Hosts.{AreDifferent}

@@ -1,7 +1,7 @@
 use Rattle.std.proofs.Common.{◌≡◌, ℕ, ◌<◌, ◌≤◌, true, false, refl, ap, sym, ◌∙◌, arith}
 use Rattle.std.proofs.lemmas.Result.{on_ok_weaker}
 use Rattle.trace_model.specs.declared.line.Line.TheVariants as line
-use Rattle.link_entries.specs.messages.Links.Comes.{NextFrame}
+use Rattle.link_laws.specs.messages.Links.Comes.{NextFrame}
 use Rattle.history.specs.Follows.{taken_of}
 use Rattle.node_machine.specs.world.World.{node_of}
 use Rattle.node_machine.specs.world.World.Happening.{Takes}

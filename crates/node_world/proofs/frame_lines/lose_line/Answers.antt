@@ -3,7 +3,7 @@ use Rattle.std.proofs.lemmas.Result.{on_ok_weaker}
 use Rattle.trace_model.specs.declared.entry.Entry.{Entry}
 use Rattle.trace_model.specs.declared.entry.Entry.TheVariants as note
 use Rattle.trace_model.specs.declared.line.Line.TheVariants as line
-use Rattle.link_entries.specs.messages.Links.Loss.{OnDemand}
+use Rattle.link_laws.specs.messages.Links.Loss.{OnDemand}
 use Rattle.node_machine.specs.world.World.{world_step}
 use Rattle.node_machine.specs.world.World.Happening.{Loses}
 use Rattle.node_world.specs.Controllers.{WorldBecomes}

@@ -4,7 +4,7 @@ use Rattle.std.proofs.lemmas.Result.{on_ok_weaker}
 use Rattle.swp_base.specs.InMemory.{Memory}
 use Rattle.trace_model.specs.Lines.{IsHost}
 use Rattle.trace_model.specs.declared.entry.Entry.{Entry}
-use Rattle.link_entries.specs.messages.Links.Comes.{Starts}
+use Rattle.link_laws.specs.messages.Links.Comes.{Starts}
 use Rattle.node_machine.specs.Parts.{Core, Port}
 use Rattle.node_machine.specs.world.World.{NodeWorld, activates, comes_at, end_c, end_h}
 use Rattle.node_laws.proofs.telling.Events.{comes_goes}

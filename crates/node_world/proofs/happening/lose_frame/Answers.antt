@@ -1,7 +1,7 @@
 use Rattle.std.proofs.Common.{subst}
 use Rattle.std.proofs.lemmas.Result.{on_ok_weaker}
 use Rattle.trace_model.specs.declared.line.End.{End}
-use Rattle.link_entries.specs.entries.Entries.{first_lost}
+use Rattle.link_laws.specs.entries.Entries.{first_lost}
 use Rattle.history.specs.Follows.{frames_to}
 use Rattle.history.specs.Steps.{entries_for}
 use Rattle.link_wires.specs.Notes.{side_of}

@@ -2,7 +2,7 @@ use Rattle.std.proofs.Common.{ℕ, List, refl, sym, subst, ◌∙◌, ap}
 use Rattle.std.specs.Prelude.{Some, None, Ok}
 use Rattle.node_machine.specs.Parts.{Deed}
 use Rattle.node_machine.specs.world.World.{sending}
-use Rattle.link_entries.specs.messages.Links.Comes.{NoInput}
+use Rattle.link_laws.specs.messages.Links.Comes.{NoInput}
 use Rattle.node_core.specs.Giving.{refusal_noted}
 use Rattle.node_world.proofs.HostsAre.{is_on, is_off, unchanged}
 use Rattle.node_world.proofs.HostsBegin.{begins_at_end, has_end}

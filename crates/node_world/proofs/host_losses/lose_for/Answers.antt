@@ -1,5 +1,5 @@
 use Rattle.std.proofs.Common.{refl, sym, ◌∙◌}
-use Rattle.link_entries.specs.messages.Links.Comes.{NoInput}
+use Rattle.link_laws.specs.messages.Links.Comes.{NoInput}
 use Rattle.node_world.proofs.Plainly.{was_lost}
 use Rattle.node_world.proofs.HostsAre.{is_on, is_off}
 use Rattle.node_world.proofs.HostsBegin.{begins_at_end, has_end}

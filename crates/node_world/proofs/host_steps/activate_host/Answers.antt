@@ -1,6 +1,6 @@
 use Rattle.std.proofs.Common.{refl, sym, ◌∙◌}
-use Rattle.link_machine.specs.Machine.LinkInput.{Start}
-use Rattle.link_entries.specs.messages.Links.Comes.{Starts}
+use Rattle.link_laws.specs.machine.Machine.LinkInput.{Start}
+use Rattle.link_laws.specs.messages.Links.Comes.{Starts}
 use Rattle.node_world.proofs.HostsAre.{is_on, is_off, unchanged_as, hears_off}
 use Rattle.node_world.proofs.HostsBegin.{begins_at_end, may_begin}
 use Rattle.node_world.proofs.HostsGoOn.{heard, is_done, not_more}

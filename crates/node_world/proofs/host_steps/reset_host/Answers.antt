@@ -1,7 +1,7 @@
 use Rattle.std.proofs.Common.{refl, sym, ◌∙◌, ap}
 use Rattle.std.specs.Prelude.{Ok}
-use Rattle.link_machine.specs.Machine.LinkInput.{Reset}
-use Rattle.link_entries.specs.messages.Links.Comes.{AsksReset}
+use Rattle.link_laws.specs.machine.Machine.LinkInput.{Reset}
+use Rattle.link_laws.specs.messages.Links.Comes.{AsksReset}
 use Rattle.node_world.proofs.HostsAre.{is_on, is_off, unchanged}
 use Rattle.node_world.proofs.HostsBegin.{begins_at_end, may_begin}
 use Rattle.node_world.proofs.HostsGoOn.{heard, is_done, not_more}

@@ -1,9 +1,9 @@
 use Rattle.std.proofs.Common.{true, refl, sym, ap, ◌∙◌}
 use Rattle.std.specs.Prelude.{Some}
 use Rattle.trace_model.specs.declared.line.End.{End}
-use Rattle.link_machine.specs.Machine.{lpdu_input}
-use Rattle.link_entries.specs.messages.Links.{Link, exchanged}
-use Rattle.link_entries.specs.messages.Links.Comes.{NextFrame}
+use Rattle.link_laws.specs.machine.Machine.{lpdu_input}
+use Rattle.link_laws.specs.messages.Links.{Link, exchanged}
+use Rattle.link_laws.specs.messages.Links.Comes.{NextFrame}
 use Rattle.node_world.proofs.HostsAre.{is_on, is_off, unchanged_as, hears_off, some_read, none_read}
 use Rattle.node_world.proofs.HostsBegin.{begins_at_end, may_begin}
 use Rattle.node_world.proofs.HostsGoOn.{heard, is_done, taken_input, taken_stands, arrival_noted, none_taken}

@@ -4,7 +4,7 @@ use Rattle.std.proofs.lemmas.Result.{IfOk-weaker}
 use Rattle.trace_model.specs.declared.entry.NoCause.{NoCause}
 use Rattle.trace_model.specs.declared.line.End.{End}
 use Rattle.trace_model.specs.declared.line.Line.TheVariants as line
-use Rattle.link_entries.specs.messages.Links.Comes.{AsksReset}
+use Rattle.link_laws.specs.messages.Links.Comes.{AsksReset}
 use Rattle.node_machine.specs.world.World.{comes_at, end_h, site_at}
 use Rattle.node_machine.specs.world.Lines.{refusal_in}
 use Rattle.node_world.specs.Controllers.{StandsAt}

@@ -2,8 +2,8 @@ use Rattle.std.proofs.Common.{sym, subst, ◌∙◌}
 use Rattle.std.specs.Prelude.{Option}
 use Rattle.std.proofs.lemmas.Result.{on_ok_weaker}
 use Rattle.swp_act.specs.Activation.{new_uicc}
-use Rattle.link_machine.specs.Machine.{new_link_end}
-use Rattle.link_machine.specs.Machine.Role.{Uicc}
+use Rattle.link_laws.specs.machine.Machine.{new_link_end}
+use Rattle.link_laws.specs.machine.Machine.Role.{Uicc}
 use Rattle.node_machine.specs.Parts.{Running}
 use Rattle.node_machine.specs.world.World.{boots}
 use Rattle.node_laws.specs.telling.Telling.{IfOff}

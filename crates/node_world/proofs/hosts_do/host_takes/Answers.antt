@@ -1,7 +1,7 @@
 use Rattle.std.proofs.Common.{subst, ◌≡◌}
 use Rattle.std.specs.Prelude.{slice_set, Some}
 use Rattle.std.proofs.lemmas.Result.{on_ok_weaker}
-use Rattle.link_entries.specs.messages.Links.Comes.{NextFrame}
+use Rattle.link_laws.specs.messages.Links.Comes.{NextFrame}
 use Rattle.trace_model.specs.declared.line.End.{End}
 use Rattle.node_machine.specs.world.World.{comes_at, end_h, site_at}
 use Rattle.node_world.specs.Controllers.{StandsAt}

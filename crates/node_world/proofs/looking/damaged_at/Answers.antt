@@ -1,5 +1,5 @@
 use Rattle.std.proofs.Common.{sym, subst}
-use Rattle.link_entries.specs.messages.Links.{Link}
+use Rattle.link_laws.specs.messages.Links.{Link}
 use Rattle.history.specs.Follows.{frames_to}
 use Rattle.link_wires.specs.Damages.{Finds}
 use Rattle.node_laws.proofs.telling.Nodes.{link_is}

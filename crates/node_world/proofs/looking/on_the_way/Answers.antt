@@ -1,5 +1,5 @@
 use Rattle.std.proofs.Common.{length, sym, subst, ap, ◌∙◌}
-use Rattle.link_entries.specs.messages.Links.{Link}
+use Rattle.link_laws.specs.messages.Links.{Link}
 use Rattle.history.specs.Follows.{frames_to}
 use Rattle.node_laws.proofs.telling.Nodes.{link_is}
 use Rattle.node_world.specs.declared.places.HostSite.{HostSite}

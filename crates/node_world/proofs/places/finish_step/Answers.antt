@@ -1,10 +1,10 @@
 use Rattle.std.proofs.Common.{◌≡◌, ℕ, List, ◌++◌, get_or, take, drop, map, ap, sym, subst, ◌∙◌, refl}
 use Rattle.std.specs.Prelude.{Some}
 use Rattle.trace_model.specs.declared.entry.Entry.{Entry}
-use Rattle.link_machine.specs.Machine.{frames_out}
-use Rattle.link_entries.specs.messages.Links.{exchanged}
-use Rattle.link_entries.specs.entries.Entries.{puts_entries}
-use Rattle.link_entries.specs.entries.Entries.End.{Host}
+use Rattle.link_laws.specs.machine.Machine.{frames_out}
+use Rattle.link_laws.specs.messages.Links.{exchanged}
+use Rattle.link_laws.specs.entries.Entries.{puts_entries}
+use Rattle.link_laws.specs.entries.Entries.End.{Host}
 use Rattle.history.specs.Steps.{entries_for}
 use Rattle.node_world.specs.Numbers.{with_session}
 use Rattle.node_world.proofs.Renumbered.{numbered_behind}

@@ -1,6 +1,6 @@
 use Rattle.std.proofs.Common.{◌≡◌, ℕ, ◌<◌, ◌≤◌, true, false, ap, sym, subst, ◌∙◌, arith, length}
 use Rattle.std.specs.Prelude.{replicate}
-use Rattle.link_entries.specs.messages.Links.Comes.{NextFrame}
+use Rattle.link_laws.specs.messages.Links.Comes.{NextFrame}
 use Rattle.node_machine.specs.world.World.{node_of}
 use Rattle.node_machine.specs.world.World.Happening.{Takes}
 use Rattle.node_machine.specs.world.Lines.{all_happen, is_running, frames_at}

@@ -1,8 +1,8 @@
 use Rattle.std.proofs.Common.{◌≡◌, ℕ, ◌-◌, List, refl, sym, subst, ap, ◌∙◌, arith}
 use Rattle.std.specs.Prelude.{None, option_map}
 use Rattle.swp_lpdu.specs.Controls.{lpdu_of, control_of}
-use Rattle.link_machine.specs.Machine.{next_frame}
-use Rattle.link_machine.specs.Laws.{most_fetches}
+use Rattle.link_laws.specs.machine.Machine.{next_frame}
+use Rattle.link_laws.specs.machine.Laws.{most_fetches}
 use Rattle.node_machine.specs.Parts.{Core, Port}
 use Rattle.node_machine.specs.Carrying.{with_port}
 use Rattle.node_world.specs.WorldNodes.{GoesOutWhole}

@@ -1,6 +1,6 @@
 use Rattle.std.proofs.Common.{◌≡◌, ◌+◌, ◌-◌, ◌≤◌, List}
-use Rattle.link_machine.specs.Laws.{most_fetches}
-use Rattle.link_entries.specs.messages.Links.{Link}
+use Rattle.link_laws.specs.machine.Laws.{most_fetches}
+use Rattle.link_laws.specs.messages.Links.{Link}
 use Rattle.history.specs.Follows.{seen_from}
 use Rattle.node_machine.specs.Parts.{Core, Port}
 use Rattle.node_world.specs.LinksKept.{WiresStandFor}

@@ -5,7 +5,7 @@ use Rattle.circular_buffer.specs.Buffer.{Buffer}
 use Rattle.trace_model.specs.declared.entry.Entry.{Entry}
 use Rattle.trace_model.specs.declared.line.End.{End}
 use Rattle.link_laws.specs.sessions.Sessions.{OnWire, aged_wire}
-use Rattle.link_entries.specs.entries.Entries.{aged_entries}
+use Rattle.link_laws.specs.entries.Entries.{aged_entries}
 use Rattle.link_wires.specs.declared.wire.Flying.{Flying}
 use Rattle.link_wires.specs.Notes.{side_of, AreNoted}
 use Rattle.link_wires.specs.Wires.{WireStandsFor}

@@ -1,7 +1,7 @@
 use Rattle.std.proofs.Common.{sym, subst}
 use Rattle.std.proofs.lemmas.Result.{on_ok_weaker}
 use Rattle.trace_model.specs.declared.line.End.{End}
-use Rattle.link_entries.specs.messages.Links.Comes.{NextFrame}
+use Rattle.link_laws.specs.messages.Links.Comes.{NextFrame}
 use Rattle.node_machine.specs.world.World.{comes_at, end_h}
 use Rattle.node_world.specs.Controllers.{WorldBecomes}
 use Rattle.node_world.specs.HostSteps.{host_hears}

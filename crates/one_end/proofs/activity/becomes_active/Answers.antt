@@ -3,8 +3,8 @@ use Rattle.std.proofs.Common.{◌∙◌, refl, sym, ap, subst}
 use Rattle.std.specs.Prelude.{IfSome}
 use Rattle.swp_act.specs.declared.ActOut.{ActOut}
 use Rattle.swp_act.specs.Activation.{IsPowerStart}
-use Rattle.link_machine.specs.Machine.{LinkEnd, new_link_end}
-use Rattle.link_machine.specs.Machine.Role.{Clf}
+use Rattle.link_laws.specs.machine.Machine.{LinkEnd, new_link_end}
+use Rattle.link_laws.specs.machine.Machine.Role.{Clf}
 use Rattle.lone_laws.specs.alone.Lone.{lone_input}
 use Rattle.one_end.specs.Running.{cause_of}
 use Rattle.one_end.proofs.Activating.{event_there, none_told, some_told, role_none, role_some, none_came}

@@ -1,7 +1,7 @@
 -- A controller boots.
 use Rattle.std.proofs.Common.{◌≡◌, sym, ap}
 use Rattle.gate_admin.specs.View.{hosts_where}
-use Rattle.link_machine.specs.Machine.Role.{Clf}
+use Rattle.link_laws.specs.machine.Machine.Role.{Clf}
 use Rattle.node_core.specs.Running.{core_kept}
 use Rattle.one_end.specs.Alone.{RunsAlone}
 use Rattle.one_end.proofs.Booted.{begun, no_bytes, controller_begins, is_controller, has_booted}

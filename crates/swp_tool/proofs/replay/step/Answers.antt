@@ -4,10 +4,10 @@ use Rattle.std.specs.Prelude.{Result, Ok, Err, IfErr, IsErrAnd}
 use Rattle.trace_model.specs.declared.entry.Entry.TheVariants as entry
 use Rattle.trace_model.specs.declared.line.Header.{Header}
 use Rattle.schedule_text.specs.Entries.{entry_line, entry_lines}
-use Rattle.lines_told.specs.Below.{told_below, misread_below}
-use Rattle.lines_told.specs.Plays.{Play, lines_played, plays_of, schedule_told}
-use Rattle.lines_told.specs.Plays.Play.{Said}
-use Rattle.lines_told.proofs.Plays.{no_more_rounds, one_said}
+use Rattle.lines_told.specs.lines.Below.{told_below, misread_below}
+use Rattle.lines_told.specs.lines.Plays.{Play, lines_played, plays_of, schedule_told}
+use Rattle.lines_told.specs.lines.Plays.Play.{Said}
+use Rattle.lines_told.proofs.lines.Plays.{no_more_rounds, one_said}
 use Rattle.world.specs.Worlds.{IsWorldAt, world_header}
 use Rattle.world.specs.declared.fault.WorldFault.{WorldFault}
 use Rattle.swp_tool.specs.declared.replay.Halt.{Halt}

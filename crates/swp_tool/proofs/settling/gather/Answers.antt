@@ -5,8 +5,8 @@ use Rattle.trace_model.specs.declared.entry.Entry.TheVariants.{Echo}
 use Rattle.trace_model.specs.declared.line.Header.{Header}
 use Rattle.trace_model.specs.declared.line.Line.TheVariants.{Settle}
 use Rattle.schedule_text.specs.Entries.{entry_line, entry_lines}
-use Rattle.lines_told.specs.Plays.{Play, plays_of_line}
-use Rattle.lines_told.specs.Plays.Play.{Round}
+use Rattle.lines_told.specs.lines.Plays.{Play, plays_of_line}
+use Rattle.lines_told.specs.lines.Plays.Play.{Round}
 use Rattle.world.specs.Worlds.{IsWorldAt}
 use Rattle.swp_tool.proofs.RoundLemmas.{any_err, any_ok, gone_more, more_again, settled_text}
 use Rattle.swp_tool.proofs.settling.gather.Goals as goal

@@ -3,8 +3,8 @@ use Rattle.std.proofs.lemmas.Result.{on_ok_weaker}
 use Rattle.trace_model.specs.declared.entry.Entry.{Entry}
 use Rattle.trace_model.specs.declared.line.Header.{Header}
 use Rattle.schedule_text.specs.Entries.{entry_lines}
-use Rattle.lines_told.specs.Plays.{Play, lines_played, told_of_play}
-use Rattle.lines_told.specs.Plays.Play.{Round}
+use Rattle.lines_told.specs.lines.Plays.{Play, lines_played, told_of_play}
+use Rattle.lines_told.specs.lines.Plays.Play.{Round}
 use Rattle.world.specs.Worlds.{IsWorldAt}
 use Rattle.swp_tool.proofs.Playing.{under_own_header}
 use Rattle.swp_tool.proofs.RoundLemmas.{any_ok}

@@ -1,6 +1,6 @@
 use Rattle.std.proofs.Common.{◌≡◌, ℕ, ◌≤◌, ◌++◌, List, true, false, arith, subst}
 use Rattle.std.specs.Prelude.{replicate}
-use Rattle.lines_told.specs.Plays.Play.{Round}
+use Rattle.lines_told.specs.lines.Plays.Play.{Round}
 use Rattle.swp_tool.specs.Replays.{HasGoneThrough}
 use Rattle.swp_tool.proofs.RoundLemmas.{all_needed, any_err, first_needed, gone_more, more_again, none_gone, none_needed, one_gone, one_needed}
 use Rattle.swp_tool.proofs.RoundLemmas.{rests_so, room_for_round, stands_then}

@@ -1,6 +1,6 @@
 use Rattle.std.proofs.Common.{◌≤◌, List}
 use Rattle.trace_model.specs.declared.line.Header.{Header}
-use Rattle.lines_told.specs.Plays.{Play}
+use Rattle.lines_told.specs.lines.Plays.{Play}
 use Rattle.world.specs.Worlds.{IsWorldAt}
 use Rattle.swp_tool.specs.Replays.{HasGoneThrough}
 use Rattle.swp_tool.proofs.RoundLemmas.{MayNeedMore}

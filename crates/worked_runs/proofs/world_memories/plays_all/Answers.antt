@@ -1,5 +1,5 @@
 use Rattle.std.proofs.Common.{◌≡◌, [], ◌++◌, length, sym, ap, subst, append-nil, arith}
-use Rattle.lines_told.specs.Plays.{lines_said}
+use Rattle.lines_told.specs.lines.Plays.{lines_said}
 use Rattle.world.specs.Worlds.{IsWorldAt, world_header}
 use Rattle.worked_runs.proofs.PlaysLemmas.{one_more}
 use Rattle.worked_runs.proofs.world_memories.plays_all.Goals as goal

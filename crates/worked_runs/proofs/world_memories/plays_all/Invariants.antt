@@ -1,5 +1,5 @@
 use Rattle.std.proofs.Common.{◌≡◌, ◌+◌, ◌++◌, List}
-use Rattle.lines_told.specs.Plays.{Play, lines_said}
+use Rattle.lines_told.specs.lines.Plays.{Play, lines_said}
 use Rattle.world.specs.Worlds.{IsWorldAt, world_header}
 use Rattle.worked_runs.proofs.world_memories.plays_all.Given as goal
 

@@ -1,7 +1,7 @@
 use Rattle.std.proofs.Common.{List, [], ◌∷◌, ◌++◌, refl, sym, ap, ◌∙◌}
 use Rattle.trace_model.specs.declared.entry.Entry.TheVariants.{No}
 use Rattle.link_laws.specs.sessions.Sessions.{OnWire}
-use Rattle.link_entries.specs.messages.Links.{Loss}
+use Rattle.link_laws.specs.messages.Links.{Loss}
 use Rattle.history.specs.Histories.Cause.{Taken, WasLost}
 use Rattle.history.specs.Follows.{seen_from, frames_to, damage_causes, if_out_of_reach, first_verdict}
 use Rattle.world.proofs.LineLemmas.{refused_does, happened_does}

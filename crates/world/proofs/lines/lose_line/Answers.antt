@@ -1,7 +1,7 @@
 use Rattle.std.proofs.Common.{[], ◌∷◌, ◌++◌, refl, ap, ◌∙◌}
 use Rattle.trace_model.specs.declared.entry.Entry.TheVariants.{No}
 use Rattle.trace_model.specs.declared.entry.NoCause.TheVariants.{Empty}
-use Rattle.link_entries.specs.messages.Links.Loss.{OnDemand}
+use Rattle.link_laws.specs.messages.Links.Loss.{OnDemand}
 use Rattle.history.specs.Histories.Cause.{WasLost}
 use Rattle.history.specs.Follows.{seen_from}
 use Rattle.link_wires.proofs.Results.{on_ok}

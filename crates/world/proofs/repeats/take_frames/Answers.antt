@@ -1,5 +1,5 @@
 use Rattle.std.proofs.Common.{◌≡◌, ℕ, suc, ◌+◌, replicate, refl, subst, arith}
-use Rattle.link_entries.specs.messages.Links.{Link}
+use Rattle.link_laws.specs.messages.Links.{Link}
 use Rattle.history.specs.Histories.Cause.{Taken}
 use Rattle.history.specs.Steps.{link_after_all}
 use Rattle.history.specs.Follows.{seen_from}

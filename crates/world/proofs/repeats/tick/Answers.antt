@@ -1,9 +1,9 @@
 use Rattle.std.proofs.Common.{[], subst}
 use Rattle.trace_model.specs.declared.line.End.{End}
-use Rattle.link_entries.specs.entries.Entries.{aged_entries, tick_entries}
+use Rattle.link_laws.specs.entries.Entries.{aged_entries, tick_entries}
 use Rattle.link_laws.specs.sessions.Sessions.{aged_wire}
-use Rattle.link_entries.specs.messages.Links.{Link, aged, exchanged, ticks_at_controller}
-use Rattle.link_entries.specs.messages.Links.Ending.{GoesOut}
+use Rattle.link_laws.specs.messages.Links.{Link, aged, exchanged, ticks_at_controller}
+use Rattle.link_laws.specs.messages.Links.Ending.{GoesOut}
 use Rattle.history.specs.Steps.{idle}
 use Rattle.link_wires.specs.Notes.{side_of}
 use Rattle.link_wires.specs.Notes.{AreNoted}

@@ -2,9 +2,9 @@ use Rattle.std.proofs.Common.{List, sym, subst}
 use Rattle.trace_model.specs.declared.entry.Entry.{Entry}
 use Rattle.trace_model.specs.declared.line.End.{End}
 use Rattle.trace_model.specs.Ends.{other_end}
-use Rattle.link_entries.specs.messages.Links.{Link}
+use Rattle.link_laws.specs.messages.Links.{Link}
 use Rattle.history.specs.Follows.{link_after_lines}
-use Rattle.lines_told.specs.Plays.{taking_on}
+use Rattle.lines_told.specs.lines.Plays.{taking_on}
 use Rattle.link_wires.proofs.Results.{on_ok}
 use Rattle.world.specs.Lines.{SidesStandFor, DoesAll}
 use Rattle.world.proofs.RoundLemmas.{does_both, does_tick, other_sees, other_did, sent_taking}

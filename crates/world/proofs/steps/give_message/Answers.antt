@@ -1,6 +1,6 @@
 use Rattle.std.proofs.Common.{◌≡◌, ℕ, List, false, ap, sym, subst, ◌∙◌}
-use Rattle.link_machine.specs.Machine.{LinkEnd, Message, give_refusal, turn}
-use Rattle.link_machine.specs.Machine.Turn.{Give}
+use Rattle.link_laws.specs.machine.Machine.{LinkEnd, Message, give_refusal, turn}
+use Rattle.link_laws.specs.machine.Machine.Turn.{Give}
 use Rattle.history.specs.Follows.{as_noted}
 use Rattle.world.specs.declared.node.Place.{Place}
 use Rattle.world.specs.Nodes.{NodeStandsFor}

@@ -1,7 +1,7 @@
 use Rattle.std.specs.Prelude.{is_some}
-use Rattle.link_machine.specs.Machine.{LinkEnd, after_input, ended_by}
-use Rattle.link_machine.specs.Machine.LinkInput.{Reset}
-use Rattle.link_entries.specs.messages.Links.{with_ended}
+use Rattle.link_laws.specs.machine.Machine.{LinkEnd, after_input, ended_by}
+use Rattle.link_laws.specs.machine.Machine.LinkInput.{Reset}
+use Rattle.link_laws.specs.messages.Links.{with_ended}
 use Rattle.world.proofs.Bare.{reset_most}
 use Rattle.world.proofs.Acting.{room_here, midway, input_noted}
 use Rattle.world.proofs.Giving.{still, if_some, none_of}

@@ -1,6 +1,6 @@
 use Rattle.std.proofs.Common.{not, false}
-use Rattle.link_machine.specs.Machine.{LinkEnd, turn}
-use Rattle.link_machine.specs.Machine.Turn.{Hold}
+use Rattle.link_laws.specs.machine.Machine.{LinkEnd, turn}
+use Rattle.link_laws.specs.machine.Machine.Turn.{Hold}
 use Rattle.link_wires.proofs.Results.{on_ok}
 use Rattle.world.proofs.Bare.{hold_most}
 use Rattle.world.proofs.Acting.{room_here, midway}

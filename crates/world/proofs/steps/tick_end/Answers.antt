@@ -1,7 +1,7 @@
 use Rattle.std.specs.Prelude.{is_some}
-use Rattle.link_machine.specs.Machine.{LinkEnd, after_input, ended_by}
-use Rattle.link_machine.specs.Machine.LinkInput.{Tick}
-use Rattle.link_entries.specs.messages.Links.{with_ended}
+use Rattle.link_laws.specs.machine.Machine.{LinkEnd, after_input, ended_by}
+use Rattle.link_laws.specs.machine.Machine.LinkInput.{Tick}
+use Rattle.link_laws.specs.messages.Links.{with_ended}
 use Rattle.link_wires.proofs.Results.{on_ok}
 use Rattle.world.proofs.Bare.{tick_most}
 use Rattle.world.proofs.Acting.{bare_here, room_here, midway, input_noted}

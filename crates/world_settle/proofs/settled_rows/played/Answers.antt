@@ -1,7 +1,7 @@
 use Rattle.std.proofs.Common.{[], refl, sym, subst, arith}
 use Rattle.std.specs.Prelude.{All}
 use Rattle.trace_model.specs.declared.line.Header.{Header}
-use Rattle.lines_told.specs.Below.{IsPlayedLine}
+use Rattle.lines_told.specs.lines.Below.{IsPlayedLine}
 use Rattle.world_settle.proofs.SettledRows.{line_more}
 use Rattle.world_settle.proofs.settled_rows.played.Goals as goal
 

@@ -1,5 +1,5 @@
 use Rattle.std.specs.Prelude.{All}
-use Rattle.lines_told.specs.Below.{IsPlayedLine}
+use Rattle.lines_told.specs.lines.Below.{IsPlayedLine}
 use Rattle.world.specs.Worlds.{world_header}
 use Rattle.world_settle.proofs.SettledRows.{StandsBehindLines}
 use Rattle.world_settle.proofs.settled_rows.played.Given as goal

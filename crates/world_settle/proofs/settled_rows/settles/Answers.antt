@@ -1,5 +1,5 @@
 use Rattle.std.proofs.Common.{◌++◌, replicate, arith}
-use Rattle.lines_told.specs.Plays.Play.{Round}
+use Rattle.lines_told.specs.lines.Plays.Play.{Round}
 use Rattle.world.specs.Worlds.{world_header}
 use Rattle.world_settle.proofs.Going.{own_header}
 use Rattle.world_settle.proofs.settled_rows.settles.Goals as goal

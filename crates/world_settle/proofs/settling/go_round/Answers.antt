@@ -5,7 +5,7 @@ use Rattle.trace_model.specs.declared.entry.Entry.{Entry}
 use Rattle.trace_model.specs.declared.line.Header.{Header}
 use Rattle.trace_model.specs.declared.line.Line.{Line}
 use Rattle.trace_model.specs.declared.line.Line.TheVariants as line
-use Rattle.lines_told.specs.Below.{told_below}
+use Rattle.lines_told.specs.lines.Below.{told_below}
 use Rattle.world.specs.declared.world_steps.World.{World}
 use Rattle.world.specs.RoundParts.{ends_of_links}
 use Rattle.world.specs.Worlds.{IsWorldWithin, world_header}

@@ -1,6 +1,6 @@
 use Rattle.std.proofs.Common.{◌≡◌, ℕ, List, true}
 use Rattle.trace_model.specs.declared.line.Line.{Line}
-use Rattle.lines_told.specs.Plays.{Play}
+use Rattle.lines_told.specs.lines.Plays.{Play}
 use Rattle.world.specs.Worlds.{IsWorldWithin, world_header}
 use Rattle.world_settle.proofs.Taking.{LinksHaveTaken}
 use Rattle.world_settle.proofs.settling.go_round.Given as goal

@@ -2,8 +2,8 @@ use Rattle.std.proofs.Common.{◌≡◌, ℕ, suc, ◌+◌, ◌≤◌, false, Li
 use Rattle.trace_model.specs.declared.entry.Entry.{Entry}
 use Rattle.trace_model.specs.declared.line.Header.{Header}
 use Rattle.trace_model.specs.declared.line.Line.{Line}
-use Rattle.lines_told.specs.Plays.{round_behind, told_behind}
-use Rattle.lines_told.specs.Plays.Play.{Said}
+use Rattle.lines_told.specs.lines.Plays.{round_behind, told_behind}
+use Rattle.lines_told.specs.lines.Plays.Play.{Said}
 use Rattle.world.specs.declared.world_steps.World.{World}
 use Rattle.world.specs.Worlds.{HasComeTo, IsWorldWithin, world_header}
 use Rattle.world_settle.proofs.Going.{WentOn, asked, begun, own_within, rests_now, settled_so, was_long, went_all, went_more}

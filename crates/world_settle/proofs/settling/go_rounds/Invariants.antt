@@ -1,5 +1,5 @@
 use Rattle.std.proofs.Common.{◌≡◌, true, [], List}
-use Rattle.lines_told.specs.Plays.{Play}
+use Rattle.lines_told.specs.lines.Plays.{Play}
 use Rattle.world.specs.Worlds.{IsWorldWithin, world_header}
 use Rattle.world_settle.proofs.Going.{WentOn}
 use Rattle.world_settle.proofs.settling.go_rounds.Given as goal

@@ -5,9 +5,9 @@ use Rattle.trace_model.specs.declared.line.End.{End}
 use Rattle.trace_model.specs.declared.line.Header.{Header}
 use Rattle.trace_model.specs.declared.line.Line.{Line}
 use Rattle.trace_model.specs.declared.line.Line.TheVariants as line
-use Rattle.lines_told.specs.Below.{told_below}
-use Rattle.lines_told.specs.Plays.{Play, lines_played, told_behind}
-use Rattle.lines_told.specs.Plays.Play.{Said}
+use Rattle.lines_told.specs.lines.Below.{told_below}
+use Rattle.lines_told.specs.lines.Plays.{Play, lines_played, told_behind}
+use Rattle.lines_told.specs.lines.Plays.Play.{Said}
 use Rattle.world.specs.declared.world_steps.World.{World}
 use Rattle.world.specs.RoundParts.{has_to_take, taking_where}
 use Rattle.world.specs.Worlds.{IsWorldWithin, StandsBehind, world_header}

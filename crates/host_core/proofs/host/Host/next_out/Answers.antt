@@ -1,7 +1,7 @@
 use Rattle.std.proofs.Common.{◌≡◌, ℕ, sym, subst}
 use Rattle.std.specs.Prelude.{Some, IfSome, Ok}
 use Rattle.swp_lpdu.specs.Controls.{lpdu_of, control_of}
-use Rattle.link_machine.specs.Machine.{next_frame}
+use Rattle.link_laws.specs.machine.Machine.{next_frame}
 use Rattle.node_machine.specs.Carrying.{port_at, with_port}
 use Rattle.node_core.specs.declared.node.Node.{Node}
 use Rattle.node_ends.specs.Ends.{has_sent}

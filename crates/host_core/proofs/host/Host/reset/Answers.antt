@@ -2,7 +2,7 @@ use Rattle.std.proofs.Common.{◌≡◌, ◌≢◌, ◌≤◌, ℕ, Bool, List, 
 use Rattle.std.specs.Prelude.{Option, Some, None, Result, Ok, Err, MatchResult, OnOk, OnErr, option_map}
 use Rattle.trace_model.specs.declared.entry.Entry.{Entry}
 use Rattle.hci_store.specs.Stored.{Stored}
-use Rattle.link_machine.specs.Machine.LinkInput.{Reset}
+use Rattle.link_laws.specs.machine.Machine.LinkInput.{Reset}
 use Rattle.link_end.specs.declared.report.ResetRefused.{ResetRefused}
 use Rattle.node_machine.specs.Parts.{Core, Port, Work}
 use Rattle.node_machine.specs.Carrying.{port_at}

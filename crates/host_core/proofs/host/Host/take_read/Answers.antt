@@ -3,7 +3,7 @@ use Rattle.node_machine.specs.Node.{steps}
 use Rattle.node_core.specs.declared.node.Node.{Node}
 use Rattle.node_core.specs.Bringing.{Brings}
 use Rattle.node_core.specs.Running.{MayStep, BeginsStep, HasStepped}
-use Rattle.link_machine.specs.Machine.{lpdu_input}
+use Rattle.link_laws.specs.machine.Machine.{lpdu_input}
 use Rattle.node_machine.specs.Node.NodeInput.{AtEnd}
 use Rattle.node_ends.proofs.Dues.{lpdu_few}
 use Rattle.node_core.proofs.Between.{begins_in_step, at_rest, rests_in_step}

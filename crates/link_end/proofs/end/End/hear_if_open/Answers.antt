@@ -1,5 +1,5 @@
 use Rattle.std.proofs.Common.{◌≡◌, true, false, sym, ap, ◌∙◌, subst}
-use Rattle.link_machine.specs.Machine.{LinkEnd, is_open}
+use Rattle.link_laws.specs.machine.Machine.{LinkEnd, is_open}
 use Rattle.link_end.specs.Ends.{EndStandsFor}
 use Rattle.link_end.proofs.StepLemmas.{heard_after, unheard_after}
 use Rattle.link_end.proofs.«end».End.hear_if_open.Goals as goal

@@ -1,7 +1,7 @@
 use Rattle.std.proofs.Common.{sym, subst}
 use Rattle.std.specs.Prelude.{Option}
 use Rattle.swp_base.specs.declared.control_frames.Act.{Act}
-use Rattle.link_machine.specs.Machine.{with_act}
+use Rattle.link_laws.specs.machine.Machine.{with_act}
 use Rattle.link_end.specs.Ends.{EndStandsFor}
 use Rattle.link_end.proofs.EndLemmas.{act_made}
 use Rattle.link_end.proofs.«end».End.make_act.Goals as goal

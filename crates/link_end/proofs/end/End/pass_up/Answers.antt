@@ -4,8 +4,8 @@ use Rattle.block_pool.specs.declared.chain.Chain.{Chain as Blocks}
 use Rattle.block_pool.specs.Slots.{blocks_for}
 use Rattle.block_pool.specs.Pool.{PoolState, chain_bytes}
 use Rattle.shdlc_core.specs.declared.answers.LinkState.TheVariants.{Up}
-use Rattle.link_machine.specs.Machine.{LinkEnd, Message, spare}
-use Rattle.link_machine.specs.Machine.Refused.{TooLong, Full}
+use Rattle.link_laws.specs.machine.Machine.{LinkEnd, Message, spare}
+use Rattle.link_laws.specs.machine.Machine.Refused.{TooLong, Full}
 use Rattle.link_messages.specs.declared.outbox.Outbox.{Outbox}
 use Rattle.link_end.specs.Ends.{EndStandsFor}
 use Rattle.link_end.specs.Reports.{pass_by}

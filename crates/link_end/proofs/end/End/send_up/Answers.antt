@@ -3,8 +3,8 @@ use Rattle.std.specs.Prelude.{Err}
 use Rattle.block_pool.specs.Slots.{blocks_for}
 use Rattle.block_pool.specs.Pool.{PoolState}
 use Rattle.shdlc_core.specs.declared.answers.LinkState.TheVariants.{Up}
-use Rattle.link_machine.specs.Machine.{LinkEnd, Message, spare}
-use Rattle.link_machine.specs.Machine.Refused.{TooLong, Full}
+use Rattle.link_laws.specs.machine.Machine.{LinkEnd, Message, spare}
+use Rattle.link_laws.specs.machine.Machine.Refused.{TooLong, Full}
 use Rattle.link_messages.specs.declared.outbox.Outbox.{Outbox}
 use Rattle.link_end.specs.Ends.{EndStandsFor, LeavesBoxes}
 use Rattle.link_end.specs.Reports.{by_refusal_told}

@@ -1,7 +1,7 @@
 use Rattle.std.proofs.Common.{sym, ap, ◌∙◌, subst}
 use Rattle.swp_base.specs.declared.control_frames.Control.{Control}
-use Rattle.link_machine.specs.Machine.{after_input, report}
-use Rattle.link_machine.specs.Machine.LinkInput.{Take}
+use Rattle.link_laws.specs.machine.Machine.{after_input, report}
+use Rattle.link_laws.specs.machine.Machine.LinkInput.{Take}
 use Rattle.link_end.specs.Ends.{EndStandsFor}
 use Rattle.link_end.specs.Reports.{report_told}
 use Rattle.link_end.proofs.StepLemmas.{act_is_told}

@@ -2,8 +2,8 @@ use Rattle.std.proofs.Common.{◌≡◌, ap, sym, ◌∙◌, subst}
 use Rattle.std.specs.Prelude.{Result, Ok, Err}
 use Rattle.swp_base.specs.declared.control_frames.Control.{Control}
 use Rattle.swp_lpdu.specs.declared.LpduFault.{LpduFault}
-use Rattle.link_machine.specs.Machine.{LinkInput, after_input, report, lpdu_input}
-use Rattle.link_machine.specs.Machine.LinkInput.{Take, TakeUnknown}
+use Rattle.link_laws.specs.machine.Machine.{LinkInput, after_input, report, lpdu_input}
+use Rattle.link_laws.specs.machine.Machine.LinkInput.{Take, TakeUnknown}
 use Rattle.link_end.specs.Ends.{EndStandsFor}
 use Rattle.link_end.specs.Reports.{report_told}
 use Rattle.link_end.proofs.link.LinkEnd.take_read.Goals as goal

@@ -4,7 +4,7 @@ use Rattle.std.proofs.lemmas.Option.{slice_get_within}
 use Rattle.block_pool.specs.Pool.{PoolState, chain_bytes}
 use Rattle.hcp_packet.specs.Packets.{packets_of, packet_bytes, fragments_of}
 use Rattle.link_messages.specs.Outgoing.{queued_message, queued_messages, messages_of_all}
-use Rattle.link_machine.proofs.Sound.{fragments_count as length-fragments}
+use Rattle.link_laws.proofs.machine.Sound.{fragments_count as length-fragments}
 use Rattle.link_messages.proofs.OutgoingLemmas.{looks_at, looks_on, slice_get_inside, drop_none, few_queued}
 use Rattle.link_messages.proofs.outbox.Outbox.fragment_at.Goals as goal
 

@@ -1,6 +1,6 @@
 use Rattle.std.proofs.Common.{◌≡◌, ℕ, ◌-◌, length, sym, ap, ◌∙◌, arith, subst}
 use Rattle.hcp_packet.specs.Packets.{packet_count}
-use Rattle.link_machine.specs.Machine.{Message}
+use Rattle.link_laws.specs.machine.Machine.{Message}
 use Rattle.link_messages.specs.Outgoing.{GivesFront, GivesBack}
 use Rattle.link_messages.proofs.OutgoingLemmas.{gives_whole, front_given, some_left, first_is}
 use Rattle.link_messages.proofs.outbox.Outbox.give_first.Goals as goal

@@ -2,7 +2,7 @@ use Rattle.std.proofs.Common.{◌≡◌, ℕ, ◌+◌, List, [], ◌∷◌, get_
 use Rattle.std.proofs.lemmas.List.{drop_all}
 use Rattle.hci_store.specs.Stored.{Stored}
 use Rattle.gate_answers.specs.Answers.{answer_of}
-use Rattle.link_machine.specs.Machine.Turn.{Give}
+use Rattle.link_laws.specs.machine.Machine.Turn.{Give}
 use Rattle.std.specs.List.{flat_map}
 use Rattle.std.proofs.lemmas.List.Concat.{flat_map-cons}
 use Rattle.node_core.specs.Owing.{answers_owed}

@@ -1,7 +1,7 @@
 use Rattle.std.proofs.Common.{refl, ap, ◌∙◌, false, ◌++◌, ◌∷◌, []}
 use Rattle.trace_model.specs.declared.line.End.{End}
 use Rattle.trace_model.specs.declared.entry.Entry.TheVariants as entry
-use Rattle.link_machine.specs.Machine.Turn.{FetchMessage}
+use Rattle.link_laws.specs.machine.Machine.Turn.{FetchMessage}
 use Rattle.node_machine.specs.Parts.{Work}
 use Rattle.node_machine.specs.Carrying.{turn_at, noting, end_of_node}
 use Rattle.node_core.proofs.Steps.{plain_noted, silent_turn, desk_changed}

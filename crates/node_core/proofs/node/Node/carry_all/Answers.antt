@@ -1,5 +1,5 @@
 use Rattle.std.proofs.Common.{◌≡◌, ◌+◌, true, not, List, ◌∷◌, map, drop, refl, sym, ap, ◌∙◌, subst}
-use Rattle.link_machine.specs.Machine.{Message}
+use Rattle.link_laws.specs.machine.Machine.{Message}
 use Rattle.node_machine.specs.Parts.{Work, Deed as DeedOf}
 use Rattle.node_machine.specs.Carrying.{done}
 use Rattle.node_deeds.specs.declared.deeds.Deed.{Deed}

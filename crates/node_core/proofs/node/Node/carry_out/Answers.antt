@@ -1,7 +1,7 @@
 use Rattle.std.proofs.Common.{◌≡◌, ℕ, List, ◌∷◌, refl, ap, subst}
 use Rattle.std.specs.Prelude.{None}
 use Rattle.gate_admin.specs.Decide.{ends_of}
-use Rattle.link_machine.specs.Machine.Turn.{Give}
+use Rattle.link_laws.specs.machine.Machine.Turn.{Give}
 use Rattle.node_machine.specs.Parts.About.{Removed}
 use Rattle.node_machine.specs.Parts.Deed.{Sends, SaysOk, Asks, Releases, Tells, IsAnswered, Drops, SetsErrors, Orders, Hears, Ends}
 use Rattle.node_machine.specs.Carrying.{done, turn_at, notified}
@@ -10,7 +10,7 @@ use Rattle.node_core.specs.declared.node.Node.{Node}
 use Rattle.node_core.specs.Nodes.{IsInStep}
 use Rattle.node_deeds.specs.declared.deeds.Deed.TheVariants as kept
 use Rattle.history.specs.Steps.{end_of}
-use Rattle.link_entries.specs.entries.Entries.End.{Host}
+use Rattle.link_laws.specs.entries.Entries.End.{Host}
 use Rattle.node_deeds.specs.Shown.{goes_on_with, end_shown}
 use Rattle.node_deeds.specs.Hosts.{init_running}
 use Rattle.node_core.specs.Deeds.{handling}

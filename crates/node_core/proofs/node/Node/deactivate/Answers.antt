@@ -1,10 +1,10 @@
 use Rattle.std.proofs.Common.{◌≡◌, ℕ, [], map, refl, sym, ◌∙◌, subst}
 use Rattle.std.specs.Prelude.{Some, if◌then◌else◌}
-use Rattle.link_machine.specs.Machine.{report, after_input, whole_acked}
-use Rattle.link_machine.specs.Machine.LinkInput.{Stop}
+use Rattle.link_laws.specs.machine.Machine.{report, after_input, whole_acked}
+use Rattle.link_laws.specs.machine.Machine.LinkInput.{Stop}
 use Rattle.link_end.specs.declared.report.LinkReport.{LinkReport}
 use Rattle.link_end.specs.Reports.{report_told}
-use Rattle.link_entries.specs.entries.Entries.{told}
+use Rattle.link_laws.specs.entries.Entries.{told}
 use Rattle.history.specs.Steps.{entries_for}
 use Rattle.node_machine.specs.Parts.{Port}
 use Rattle.node_machine.specs.Carrying.{own_side, port_at, with_port}

@@ -1,8 +1,8 @@
 use Rattle.std.proofs.Common.{◌≡◌, refl, sym, ap, ◌∙◌}
 use Rattle.node_machine.specs.Node.NodeInput.{AtEnd}
 use Rattle.std.specs.Prelude.{None}
-use Rattle.link_machine.specs.Machine.{lpdu_input}
-use Rattle.link_machine.specs.Machine.LinkInput.{Reset, Start, Stop}
+use Rattle.link_laws.specs.machine.Machine.{lpdu_input}
+use Rattle.link_laws.specs.machine.Machine.LinkInput.{Reset, Start, Stop}
 use Rattle.node_ends.proofs.Dues.{stop_few}
 use Rattle.node_core.proofs.Elsewhere.{few_at, hosts_differ}
 use Rattle.node_core.proofs.Staying.{come_order}

@@ -1,5 +1,5 @@
 use Rattle.std.proofs.Common.{◌≡◌, ℕ, sym, subst}
-use Rattle.link_machine.specs.Machine.{Message}
+use Rattle.link_laws.specs.machine.Machine.{Message}
 use Rattle.node_machine.specs.Turns.{deeds_of}
 use Rattle.node_deeds.specs.Shown.{deeds_shown}
 use Rattle.node_core.specs.Deeds.{handling}

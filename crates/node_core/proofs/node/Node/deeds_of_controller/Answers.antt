@@ -1,6 +1,6 @@
 use Rattle.std.proofs.Common.{◌≡◌, List, not, refl, sym, ap, ◌∙◌, subst}
 use Rattle.hci_store.specs.Stored.{Stored}
-use Rattle.link_machine.specs.Machine.{Message}
+use Rattle.link_laws.specs.machine.Machine.{Message}
 use Rattle.node_machine.specs.Controller.{controller_deeds}
 use Rattle.node_deeds.specs.declared.desks.Desk.{Desk}
 use Rattle.node_deeds.specs.Shown.{Handling, AreSeen, deeds_shown}

@@ -2,7 +2,7 @@ use Rattle.std.proofs.Common.{◌≡◌, List, refl, sym, ap, subst}
 use Rattle.std.specs.Prelude.{None}
 use Rattle.trace_model.specs.declared.entry.Entry.TheVariants as entry
 use Rattle.history.specs.Steps.{end_of}
-use Rattle.link_entries.specs.entries.Entries.End.{Host}
+use Rattle.link_laws.specs.entries.Entries.End.{Host}
 use Rattle.node_machine.specs.Parts.{Work}
 use Rattle.node_machine.specs.Parts.Deed.{Ends}
 use Rattle.node_machine.specs.Carrying.{done}

@@ -1,6 +1,6 @@
 use Rattle.std.proofs.Common.{◌≡◌, ◌∷◌, List, map, refl, sym, ap, subst}
 use Rattle.hci_store.specs.Stored.{Stored}
-use Rattle.link_machine.specs.Machine.{Message}
+use Rattle.link_laws.specs.machine.Machine.{Message}
 use Rattle.node_machine.specs.Parts.{Work, Deed as DeedOf}
 use Rattle.node_machine.specs.Carrying.{all_done}
 use Rattle.node_deeds.specs.declared.deeds.Deed.{Deed}

@@ -1,7 +1,7 @@
 use Rattle.std.proofs.Common.{◌≡◌, ℕ, List, [], ◌∷◌, take, sym, ap, ◌∙◌, subst}
 use Rattle.std.specs.Prelude.{Option}
 use Rattle.hcp_packet.specs.Packets.{AreSendable}
-use Rattle.link_machine.specs.Machine.{Message}
+use Rattle.link_laws.specs.machine.Machine.{Message}
 use Rattle.node_machine.specs.Parts.{Work}
 use Rattle.node_machine.specs.Turns.{lets_go, have_turns}
 use Rattle.node_ends.specs.Ends.{got_at, message_read}

@@ -1,8 +1,8 @@
 use Rattle.std.proofs.Common.{ℕ, List, map, sym, ap, ◌∙◌}
 use Rattle.std.specs.Option.{option_map_or}
-use Rattle.link_machine.specs.Machine.{Message, whole_acked}
-use Rattle.link_entries.specs.entries.Entries.{told}
-use Rattle.link_entries.specs.entries.Entries.Entry.{Got}
+use Rattle.link_laws.specs.machine.Machine.{Message, whole_acked}
+use Rattle.link_laws.specs.entries.Entries.{told}
+use Rattle.link_laws.specs.entries.Entries.Entry.{Got}
 use Rattle.link_end.specs.declared.report.LinkReport.{LinkReport}
 use Rattle.link_end.specs.Reports.{report_told}
 use Rattle.history.specs.Steps.{entries_for}

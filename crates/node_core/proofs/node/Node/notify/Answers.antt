@@ -1,5 +1,5 @@
 use Rattle.std.specs.Prelude.{Some}
-use Rattle.link_machine.specs.Machine.Turn.{Give}
+use Rattle.link_laws.specs.machine.Machine.Turn.{Give}
 use Rattle.node_machine.specs.Parts.{Work}
 use Rattle.node_machine.specs.Carrying.{turn_at}
 use Rattle.node_deeds.specs.Shown.{about_shown}

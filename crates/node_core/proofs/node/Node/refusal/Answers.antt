@@ -3,7 +3,7 @@ use Rattle.std.specs.Prelude.{Option, Some, None, nat_lt, is_some, option_map}
 use Rattle.std.proofs.lemmas.Bool.{lt-ltb, le-ltb}
 use Rattle.trace_model.specs.declared.entry.NoCause.{NoCause}
 use Rattle.trace_model.specs.declared.entry.NoCause.TheVariants as no
-use Rattle.link_machine.specs.Machine.{Message, give_refusal, need, spare}
+use Rattle.link_laws.specs.machine.Machine.{Message, give_refusal, need, spare}
 use Rattle.node_machine.specs.Parts.{Port}
 use Rattle.node_machine.specs.Carrying.{port_at}
 use Rattle.node_machine.specs.world.Lines.{if_waiting}

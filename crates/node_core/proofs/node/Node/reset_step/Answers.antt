@@ -1,6 +1,6 @@
 use Rattle.std.proofs.Common.{◌≡◌, refl, sym, ap, ◌∙◌, subst}
 use Rattle.std.specs.Prelude.{Option, None, Some, Result, Err}
-use Rattle.link_machine.specs.Machine.LinkInput.{Reset}
+use Rattle.link_laws.specs.machine.Machine.LinkInput.{Reset}
 use Rattle.link_end.specs.declared.report.LinkReport.{LinkReport}
 use Rattle.link_end.specs.declared.report.ResetRefused.{ResetRefused}
 use Rattle.node_machine.specs.Parts.{Work}

@@ -1,13 +1,13 @@
 use Rattle.std.proofs.Common.{◌≡◌, ℕ, ◌≤◌, refl, sym, ap, ◌∙◌, subst}
 use Rattle.std.specs.Prelude.{Option, IfSome, option_map}
-use Rattle.link_machine.specs.Machine.{LinkInput, report}
+use Rattle.link_laws.specs.machine.Machine.{LinkInput, report}
 use Rattle.link_end.specs.Reports.{report_told}
 use Rattle.node_machine.specs.Parts.{Port}
 use Rattle.node_machine.specs.Carrying.{port_at}
 use Rattle.node_machine.specs.Node.{all_come}
 use Rattle.node_core.specs.Syncing.{sync_told, sync_kept}
 use Rattle.node_machine.specs.Node.NodeInput.{AtEnd}
-use Rattle.link_machine.specs.Machine.{lpdu_input}
+use Rattle.link_laws.specs.machine.Machine.{lpdu_input}
 use Rattle.node_ends.proofs.Dues.{lpdu_few}
 use Rattle.node_core.proofs.Elsewhere.{few_at, hosts_differ}
 use Rattle.node_core.proofs.Staying.{come_order}

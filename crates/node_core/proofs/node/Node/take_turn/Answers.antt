@@ -3,7 +3,7 @@ use Rattle.std.specs.Prelude.{option_map}
 use Rattle.node_deeds.specs.Room.{lack_shown}
 use Rattle.node_core.specs.Bringing.{Brings}
 use Rattle.node_machine.specs.Turns.{handles, holds_back, lets_go}
-use Rattle.link_machine.specs.Machine.{Message}
+use Rattle.link_laws.specs.machine.Machine.{Message}
 use Rattle.node_core.specs.Nodes.{IsInStep}
 use Rattle.node_deeds.specs.Shown.{deeds_shown}
 use Rattle.node_core.specs.Deeds.{handling}

@@ -1,7 +1,7 @@
 use Rattle.std.proofs.Common.{◌≡◌, ℕ, true, not, List, [], ◌∷◌, refl, sym, ap, ◌∙◌, subst}
 use Rattle.std.specs.Prelude.{Option, None, option_map}
 use Rattle.hci_store.specs.Stored.{Stored}
-use Rattle.link_machine.specs.Machine.{Message}
+use Rattle.link_laws.specs.machine.Machine.{Message}
 use Rattle.node_machine.specs.Parts.{Work, Deed as DeedOf}
 use Rattle.node_machine.specs.Parts.Deed.{Sends}
 use Rattle.node_machine.specs.Carrying.{lack, needs}

@@ -1,7 +1,7 @@
 use Rattle.std.proofs.Common.{sym, ap, ◌∙◌}
 use Rattle.std.specs.Prelude.{Option}
 use Rattle.std.specs.Option.{option_map_or}
-use Rattle.link_machine.specs.Machine.{whole_acked}
+use Rattle.link_laws.specs.machine.Machine.{whole_acked}
 use Rattle.node_ends.specs.Holding.{kept_number}
 use Rattle.node_machine.specs.Parts.{Port}
 use Rattle.node_ends.specs.Ends.{place_in}

@@ -1,8 +1,8 @@
 use Rattle.std.proofs.Common.{ap, ◌∙◌}
 use Rattle.std.specs.Prelude.{Some}
-use Rattle.link_machine.specs.Machine.{report}
+use Rattle.link_laws.specs.machine.Machine.{report}
 use Rattle.link_end.specs.Reports.{report_told}
-use Rattle.link_machine.specs.Machine.LinkInput.{Start}
+use Rattle.link_laws.specs.machine.Machine.LinkInput.{Start}
 use Rattle.node_machine.specs.Parts.{Port}
 use Rattle.node_machine.specs.Node.{has_come}
 use Rattle.node_ends.specs.Ends.{place_in}

@@ -1,5 +1,5 @@
 use Rattle.std.proofs.Common.{ap, ◌∙◌}
-use Rattle.link_machine.specs.Machine.Turn.{Release}
+use Rattle.link_laws.specs.machine.Machine.Turn.{Release}
 use Rattle.node_machine.specs.Carrying.{after_turn}
 use Rattle.node_ends.specs.Ends.{place_in}
 use Rattle.node_ends.proofs.Changing.{nowhere}

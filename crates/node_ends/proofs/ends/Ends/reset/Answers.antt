@@ -1,7 +1,7 @@
 use Rattle.std.proofs.Common.{ap, ◌∙◌}
 use Rattle.std.specs.Prelude.{Some}
 use Rattle.link_end.specs.Reports.{reset_told}
-use Rattle.link_machine.specs.Machine.LinkInput.{Reset}
+use Rattle.link_laws.specs.machine.Machine.LinkInput.{Reset}
 use Rattle.node_machine.specs.Parts.{Port}
 use Rattle.node_machine.specs.Node.{has_come}
 use Rattle.node_ends.specs.Ends.{place_in}

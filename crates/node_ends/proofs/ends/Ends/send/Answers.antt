@@ -1,5 +1,5 @@
 use Rattle.std.proofs.Common.{sym, ap, ◌∙◌}
-use Rattle.link_machine.specs.Machine.Turn.{Give}
+use Rattle.link_laws.specs.machine.Machine.Turn.{Give}
 use Rattle.node_machine.specs.Carrying.{after_turn}
 use Rattle.node_ends.specs.Ends.{takes_at, place_in}
 use Rattle.node_ends.proofs.Changing.{nowhere}

@@ -2,7 +2,7 @@ use Rattle.std.proofs.Common.{rules, ◌≡◌, ◌++◌, length, take, drop, Li
 use Rattle.std.specs.Prelude.{Some}
 use Rattle.std.proofs.Math.Seq.{take-append_seam}
 use Rattle.node_machine.specs.Carrying.{with_port}
-use Rattle.link_machine.specs.Machine.{report, lpdu_input}
+use Rattle.link_laws.specs.machine.Machine.{report, lpdu_input}
 use Rattle.link_end.specs.Reports.{report_told}
 use Rattle.node_machine.specs.Parts.{Port}
 use Rattle.node_machine.specs.Node.{has_come}

@@ -1,7 +1,7 @@
 use Rattle.std.proofs.Common.{arith, sym, ap, subst}
 use Rattle.std.specs.Prelude.{Some, List, option_map}
-use Rattle.link_machine.specs.Machine.{report}
-use Rattle.link_machine.specs.Machine.LinkInput.{Tick}
+use Rattle.link_laws.specs.machine.Machine.{report}
+use Rattle.link_laws.specs.machine.Machine.LinkInput.{Tick}
 use Rattle.link_end.specs.Reports.{report_told}
 use Rattle.node_machine.specs.Parts.{Port}
 use Rattle.node_machine.specs.Node.{has_come}

@@ -1,8 +1,8 @@
 use Rattle.std.proofs.Common.{◌≡◌, sym, ◌∙◌, subst}
 use Rattle.std.specs.Prelude.{Option, Some}
 use Rattle.link_end.specs.Ends.{Accounts}
-use Rattle.link_machine.specs.Machine.{turn}
-use Rattle.link_machine.specs.Machine.Turn.{FetchMessage}
+use Rattle.link_laws.specs.machine.Machine.{turn}
+use Rattle.link_laws.specs.machine.Machine.Turn.{FetchMessage}
 use Rattle.node_ends.specs.declared.seat.Waiting.{Waiting}
 use Rattle.node_ends.specs.Holding.{HoldsEnd, chain_of}
 use Rattle.node_ends.proofs.Moving.{given_holds, given_moves}

@@ -1,6 +1,6 @@
 use Rattle.std.proofs.Common.{refl}
-use Rattle.link_machine.specs.Machine.{turn}
-use Rattle.link_machine.specs.Machine.Turn.{Hold}
+use Rattle.link_laws.specs.machine.Machine.{turn}
+use Rattle.link_laws.specs.machine.Machine.Turn.{Hold}
 use Rattle.node_ends.specs.Holding.{without_got}
 use Rattle.node_ends.proofs.Moving.{boxes_hold}
 use Rattle.node_ends.proofs.seat.Seat.hold.Goals as goal

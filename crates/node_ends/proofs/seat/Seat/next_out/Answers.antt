@@ -2,7 +2,7 @@ use Rattle.std.proofs.Common.{◌≡◌, ap, ◌∙◌, subst}
 use Rattle.std.specs.Prelude.{Option, IfSome, Ok, option_map}
 use Rattle.swp_base.specs.declared.control_frames.Control.{Control}
 use Rattle.swp_lpdu.specs.Controls.{lpdu_of, control_of}
-use Rattle.link_machine.specs.Machine.{frame_fetched}
+use Rattle.link_laws.specs.machine.Machine.{frame_fetched}
 use Rattle.link_end.specs.Ends.{EndStandsFor}
 use Rattle.node_ends.specs.Holding.{without_got}
 use Rattle.node_ends.proofs.Moving.{boxes_hold, stays_beside}

@@ -1,7 +1,7 @@
 use Rattle.std.proofs.Common.{sym, subst}
 use Rattle.std.specs.Prelude.{None}
-use Rattle.link_machine.specs.Machine.{after_input}
-use Rattle.link_machine.specs.Machine.LinkInput.{Reset}
+use Rattle.link_laws.specs.machine.Machine.{after_input}
+use Rattle.link_laws.specs.machine.Machine.LinkInput.{Reset}
 use Rattle.node_ends.specs.declared.seat.Seat.{Seat}
 use Rattle.node_ends.specs.Holding.{HoldsSeat}
 use Rattle.node_ends.proofs.seat.Seat.reset_late.Goals as goal

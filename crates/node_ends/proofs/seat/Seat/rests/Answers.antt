@@ -1,6 +1,6 @@
 use Rattle.std.proofs.Common.{◌≡◌, List, [], length, not, sym, ap, ◌∙◌}
 use Rattle.std.specs.Prelude.{◌==◌, ◌&&◌}
-use Rattle.link_machine.specs.Machine.{Message, is_held}
+use Rattle.link_laws.specs.machine.Machine.{Message, is_held}
 use Rattle.node_ends.specs.Holding.{messages_waiting}
 use Rattle.node_ends.proofs.Fetching.{none_waits}
 use Rattle.node_ends.proofs.seat.Seat.rests.Goals as goal

@@ -1,6 +1,6 @@
 use Rattle.std.proofs.Common.{subst}
-use Rattle.link_machine.specs.Machine.{Message, turn}
-use Rattle.link_machine.specs.Machine.Turn.{Give}
+use Rattle.link_laws.specs.machine.Machine.{Message, turn}
+use Rattle.link_laws.specs.machine.Machine.Turn.{Give}
 use Rattle.link_end.specs.Ends.{EndStandsFor}
 use Rattle.node_ends.specs.Holding.{without_got}
 use Rattle.node_ends.proofs.Turning.{give_without, give_got, told_taken, told_refused}

@@ -1,7 +1,7 @@
 use Rattle.std.proofs.Common.{ℕ, ◌+◌, ◌<◌, length, refl, sym, ap, ◌∙◌, subst, arith}
 use Rattle.std.proofs.lemmas.Bool.{true≢false}
 use Rattle.block_pool.specs.Pool.{PoolState, spare_of, used_of, aside_of}
-use Rattle.link_machine.specs.Machine.{LinkEnd as Machine}
+use Rattle.link_laws.specs.machine.Machine.{LinkEnd as Machine}
 use Rattle.node_ends.specs.Holding.{HoldsEnd, Moves, without_got}
 use Rattle.node_ends.proofs.Moving.{stays_beside}
 use Rattle.node_ends.proofs.Setting.{Counts, set_holds, set_refused, set_counts, few_aside, counted_moves}

@@ -1,6 +1,6 @@
 use Rattle.std.proofs.Common.{◌≡◌, sym, ap, ◌∙◌, subst}
 use Rattle.std.specs.Prelude.{Option, None, is_some}
-use Rattle.link_machine.specs.Machine.{LinkEnd as Machine, after_input, lpdu_input, got_by, oldest}
+use Rattle.link_laws.specs.machine.Machine.{LinkEnd as Machine, after_input, lpdu_input, got_by, oldest}
 use Rattle.link_end.specs.Ends.{EndStandsFor}
 use Rattle.link_end.specs.declared.report.LinkReport.{LinkReport}
 use Rattle.link_end.proofs.AccountLemmas.{account_kept}

@@ -1,5 +1,5 @@
 use Rattle.std.proofs.Common.{refl, ◌∙◌}
-use Rattle.link_machine.specs.Machine.LinkInput.{Tick}
+use Rattle.link_laws.specs.machine.Machine.LinkInput.{Tick}
 use Rattle.node_ends.specs.Holding.{without_got}
 use Rattle.node_ends.proofs.Moving.{call_moves}
 use Rattle.node_ends.proofs.Coming.{still_holds, tick_told_apart}

@@ -1,4 +1,4 @@
-use Rattle.link_machine.specs.Machine.LinkInput.{Start}
+use Rattle.link_laws.specs.machine.Machine.LinkInput.{Start}
 use Rattle.node_machine.specs.Node.{steps}
 use Rattle.node_machine.specs.Node.NodeInput.{AtEnd}
 use Rattle.node_world.proofs.Regardless.{bare, steps_regardless}

@@ -1,6 +1,6 @@
 use Rattle.node_machine.specs.Node.{steps}
 use Rattle.node_machine.specs.Node.NodeInput.{AtEnd}
-use Rattle.link_machine.specs.Machine.{lpdu_input}
+use Rattle.link_laws.specs.machine.Machine.{lpdu_input}
 use Rattle.node_world.proofs.Regardless.{bare, steps_regardless}
 use Rattle.node_world.proofs.NodesRun.{RunsPlainly, plainly, still_plainly, begins_so, begins_bare, goes_so, noted_so}
 use Rattle.node_world.proofs.world_controller.ControllerMemNvWorldNode.take.Goals as goal

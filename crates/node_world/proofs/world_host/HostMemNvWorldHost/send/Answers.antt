@@ -1,5 +1,5 @@
 use Rattle.std.proofs.Common.{ℕ, true, ap, ◌∙◌, subst}
-use Rattle.link_machine.specs.Machine.{Message}
+use Rattle.link_laws.specs.machine.Machine.{Message}
 use Rattle.node_machine.specs.Carrying.{port_at}
 use Rattle.node_machine.specs.Node.{begins_with}
 use Rattle.node_machine.specs.world.World.{sending}

@@ -1,5 +1,5 @@
 use Rattle.std.proofs.Common.{◌≡◌, ℕ, true, sym, subst}
-use Rattle.link_machine.specs.Machine.LinkInput.{Reset}
+use Rattle.link_laws.specs.machine.Machine.LinkInput.{Reset}
 use Rattle.std.specs.Prelude.{Some, None}
 use Rattle.node_machine.specs.Carrying.{port_at}
 use Rattle.node_machine.specs.Node.{steps}

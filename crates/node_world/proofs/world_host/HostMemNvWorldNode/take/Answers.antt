@@ -1,5 +1,5 @@
 use Rattle.std.proofs.Common.{ℕ, subst}
-use Rattle.link_machine.specs.Machine.{lpdu_input}
+use Rattle.link_laws.specs.machine.Machine.{lpdu_input}
 use Rattle.node_machine.specs.Node.{steps}
 use Rattle.node_machine.specs.Node.NodeInput.{AtEnd}
 use Rattle.node_world.specs.WorldNodes.{HasGone, IsNotedSo, RunsAsHost}

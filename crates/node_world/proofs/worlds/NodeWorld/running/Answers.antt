@@ -1,6 +1,6 @@
 use Rattle.std.proofs.Common.{List, subst, sym}
-use Rattle.lines_told.specs.Below.{nodes_behind}
-use Rattle.lines_told.specs.Plays.{lines_played}
+use Rattle.lines_told.specs.lines.Below.{nodes_behind}
+use Rattle.lines_told.specs.lines.Plays.{lines_played}
 use Rattle.node_core.specs.Running.{RunsAs}
 use Rattle.node_world.specs.Controllers.{WorldIs}
 use Rattle.node_world.specs.WorldNodes.{RunsAsHost}

@@ -1,7 +1,7 @@
 use Rattle.std.proofs.Common.{◌≡◌, ◌≤◌, List, length, subst, sym, arith}
 use Rattle.node_machine.specs.world.Lines.{frames_at}
-use Rattle.lines_told.specs.Below.{nodes_behind}
-use Rattle.lines_told.specs.Plays.{lines_played}
+use Rattle.lines_told.specs.lines.Below.{nodes_behind}
+use Rattle.lines_told.specs.lines.Plays.{lines_played}
 use Rattle.node_world.specs.Controllers.{SitesAre}
 use Rattle.node_world.specs.WorldNodes.{RunsAsHost}
 use Rattle.node_world.specs.Worlds.{node_memory}

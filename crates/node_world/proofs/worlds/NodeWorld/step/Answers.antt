@@ -4,8 +4,8 @@ use Rattle.std.specs.Prelude.{None, IfOk}
 use Rattle.std.specs.Vec.{with_items}
 use Rattle.node_world.specs.declared.worlds.NodeWorld.{NodeWorld}
 use Rattle.node_machine.specs.world.Lines.{line_step}
-use Rattle.lines_told.specs.Below.{nodes_behind}
-use Rattle.lines_told.specs.Plays.{lines_played}
+use Rattle.lines_told.specs.lines.Below.{nodes_behind}
+use Rattle.lines_told.specs.lines.Plays.{lines_played}
 use Rattle.node_core.specs.Running.{RunsAs}
 use Rattle.node_world.specs.WorldNodes.{RunsAsHost}
 use Rattle.node_world.specs.Controllers.{WorldIs}

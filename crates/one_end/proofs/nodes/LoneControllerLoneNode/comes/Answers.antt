@@ -1,7 +1,7 @@
 -- Something comes to a controller.
 use Rattle.std.proofs.Common.{◌≡◌, ◌∙◌, ◌∷◌, [], true, sym, ap}
-use Rattle.link_machine.specs.Machine.{LinkEnd, Role}
-use Rattle.link_machine.specs.Machine.Role.{Clf}
+use Rattle.link_laws.specs.machine.Machine.{LinkEnd, Role}
+use Rattle.link_laws.specs.machine.Machine.Role.{Clf}
 use Rattle.hci_store.specs.Stored.{Stored}
 use Rattle.one_end.specs.Running.{cause_of}
 use Rattle.one_end.proofs.Alone.{may_step, same_side, comes_alone, asks_alone, ready_by}

@@ -1,9 +1,9 @@
 -- The link of a controller is reset.
 use Rattle.std.proofs.Common.{◌≡◌, ◌∙◌, ◌∷◌, [], Some, None, refl, sym, ap}
 use Rattle.std.proofs.lemmas.Bool.{true≢false}
-use Rattle.link_machine.specs.Machine.{LinkEnd}
-use Rattle.link_machine.specs.Machine.Role.{Clf}
-use Rattle.link_machine.specs.Machine.LinkInput.{Reset}
+use Rattle.link_laws.specs.machine.Machine.{LinkEnd}
+use Rattle.link_laws.specs.machine.Machine.Role.{Clf}
+use Rattle.link_laws.specs.machine.Machine.LinkInput.{Reset}
 use Rattle.lone_laws.specs.alone.Lone.{lone_work}
 use Rattle.lone_laws.specs.alone.Lone.LoneCause.{ResetComes}
 use Rattle.one_end.proofs.Alone.{may_step, begins_step, running, same_side, not_refused, has_stepped_alone, asks_alone}

@@ -1,7 +1,7 @@
 -- The link of a host is reset.
 use Rattle.std.proofs.Common.{◌∙◌, ◌∷◌, [], None, false, not, refl, sym, ap}
 use Rattle.std.proofs.lemmas.Bool.{true≢false}
-use Rattle.link_machine.specs.Machine.LinkInput.{Reset}
+use Rattle.link_laws.specs.machine.Machine.LinkInput.{Reset}
 use Rattle.lone_laws.specs.alone.Lone.LoneCause.{ResetComes}
 use Rattle.one_end.proofs.Alone.{may_step, has_stepped_alone, taken_reset, asks_never}
 use Rattle.one_end.proofs.nodes.LoneHostLoneNode.reset.Goals as goal

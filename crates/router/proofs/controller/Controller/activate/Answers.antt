@@ -1,5 +1,5 @@
 use Rattle.std.proofs.Common.{◌≡◌, ℕ, List, map, sym, ap, ◌∙◌, subst}
-use Rattle.link_machine.specs.Machine.LinkInput.{Start}
+use Rattle.link_laws.specs.machine.Machine.LinkInput.{Start}
 use Rattle.node_machine.specs.Carrying.{port_at}
 use Rattle.node_ends.proofs.Dues.{start_few}
 use Rattle.node_machine.specs.Node.{steps}

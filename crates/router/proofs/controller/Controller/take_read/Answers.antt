@@ -1,5 +1,5 @@
 use Rattle.std.proofs.Common.{sym, ap, ◌∙◌, subst}
-use Rattle.link_machine.specs.Machine.{lpdu_input}
+use Rattle.link_laws.specs.machine.Machine.{lpdu_input}
 use Rattle.node_ends.proofs.Dues.{lpdu_few}
 use Rattle.node_machine.specs.Node.{steps}
 use Rattle.node_machine.specs.Node.NodeInput.{AtEnd}

@@ -3,10 +3,10 @@ use Rattle.trace_model.specs.declared.entry.Entry.{Entry as Told}
 use Rattle.trace_model.specs.declared.line.Header.{Header}
 use Rattle.trace_model.specs.declared.line.Line.{Line}
 use Rattle.drawn_schedule.specs.Schedule.{the_header}
-use Rattle.told_laws.specs.NodesTold.{nodes_told}
-use Rattle.lines_told.specs.Below.{told_below}
-use Rattle.lines_told.specs.Plays.{Play, lines_played}
-use Rattle.lines_told.specs.Plays.Play.{Said}
+use Rattle.told_laws.specs.told.NodesTold.{nodes_told}
+use Rattle.lines_told.specs.lines.Below.{told_below}
+use Rattle.lines_told.specs.lines.Plays.{Play, lines_played}
+use Rattle.lines_told.specs.lines.Plays.Play.{Said}
 use Rattle.world.specs.Worlds.{IsWorldAt, world_header}
 use Rattle.swp_tool.specs.Transcripts.{nodes_history}
 use Rattle.swp_tool.specs.Generated.{AreCountsOf}

@@ -2,7 +2,7 @@ use Rattle.std.proofs.Common.{◌≡◌, List, sym, ap, ◌∙◌, subst, refl}
 use Rattle.std.specs.Prelude.{None}
 use Rattle.trace_model.specs.declared.entry.Entry.{Entry}
 use Rattle.hci_store.specs.Stored.{Stored}
-use Rattle.link_machine.specs.Machine.LinkInput.{Reset}
+use Rattle.link_laws.specs.machine.Machine.LinkInput.{Reset}
 use Rattle.node_machine.specs.Parts.{Core, Port, Work}
 use Rattle.node_machine.specs.Node.{steps}
 use Rattle.node_machine.specs.Node.NodeInput.{AtEnd}

@@ -2,7 +2,7 @@ use Rattle.std.proofs.Common.{◌≡◌, ◌+◌, false, List, refl, ap}
 use Rattle.trace_model.specs.declared.line.End.{End}
 use Rattle.history.specs.Histories.{History}
 use Rattle.history.specs.Follows.{link_at}
-use Rattle.lines_told.specs.Plays.{Play}
+use Rattle.lines_told.specs.lines.Plays.{Play}
 use Rattle.world.specs.declared.bare_world.BareWorld.{BareWorld}
 use Rattle.world.specs.BareWorlds.{WorldStandsFor}
 use Rattle.world.proofs.LineLemmas.{seen_at_controller}

@@ -1,7 +1,7 @@
 use Rattle.std.proofs.Common.{subst, ap, sym, ◌∙◌}
-use Rattle.link_machine.specs.Machine.{LinkInput, after_input, lpdu_input, report}
-use Rattle.link_machine.specs.Machine.LinkInput.{Take}
-use Rattle.link_machine.proofs.Reports.{take_so}
+use Rattle.link_laws.specs.machine.Machine.{LinkInput, after_input, lpdu_input, report}
+use Rattle.link_laws.specs.machine.Machine.LinkInput.{Take}
+use Rattle.link_laws.proofs.machine.Reports.{take_so}
 use Rattle.link_end.specs.Ends.{EndStandsFor}
 use Rattle.link_end.specs.Reports.{report_told as told_of}
 use Rattle.link_end.proofs.AccountLemmas.{rests, rests_may_take}

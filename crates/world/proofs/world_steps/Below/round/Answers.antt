@@ -2,8 +2,8 @@ use Rattle.std.proofs.Common.{◌≡◌, List, [], ◌∷◌, ◌++◌, ap, subs
 use Rattle.std.proofs.lemmas.Result.{on_ok_weaker}
 use Rattle.trace_model.specs.declared.line.Header.{Header}
 use Rattle.history.specs.Histories.{History}
-use Rattle.lines_told.specs.Plays.{Play, lines_played, round_behind, told_of_play}
-use Rattle.lines_told.specs.Plays.Play.{Round}
+use Rattle.lines_told.specs.lines.Plays.{Play, lines_played, round_behind, told_of_play}
+use Rattle.lines_told.specs.lines.Plays.Play.{Round}
 use Rattle.world.specs.declared.bare_world.BareWorld.{BareWorld}
 use Rattle.world.specs.BareWorlds.{WorldStandsFor, with_steps}
 use Rattle.world.specs.Worlds.{StandsBelow}

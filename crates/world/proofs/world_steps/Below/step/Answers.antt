@@ -5,8 +5,8 @@ use Rattle.trace_model.specs.declared.line.Header.{Header}
 use Rattle.trace_model.specs.declared.line.Line.{Line}
 use Rattle.history.specs.Histories.{History, noted}
 use Rattle.history.specs.Follows.{host_of, link_at, misread, outcome_of, with_step}
-use Rattle.lines_told.specs.Plays.{Play, lines_played}
-use Rattle.lines_told.specs.Plays.Play.{Said}
+use Rattle.lines_told.specs.lines.Plays.{Play, lines_played}
+use Rattle.lines_told.specs.lines.Plays.Play.{Said}
 use Rattle.world.specs.declared.bare_world.BareWorld.{BareWorld}
 use Rattle.world.specs.BareWorlds.{WorldStandsFor, IsFaultOf}
 use Rattle.world.specs.Worlds.{StandsBelow, IsFaultThere}

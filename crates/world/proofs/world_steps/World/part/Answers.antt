@@ -2,9 +2,9 @@ use Rattle.std.proofs.Common.{◌≡◌, ◌+◌, ◌++◌, List, length, map, r
 use Rattle.std.specs.Prelude.{Some, OnOk}
 use Rattle.std.proofs.lemmas.Result.{IfErr-weaker}
 use Rattle.trace_model.specs.declared.line.Line.{Line}
-use Rattle.lines_told.specs.Below.{told_below}
-use Rattle.lines_told.specs.Plays.{Play, lines_played}
-use Rattle.lines_told.specs.Plays.Play.{Said}
+use Rattle.lines_told.specs.lines.Below.{told_below}
+use Rattle.lines_told.specs.lines.Plays.{Play, lines_played}
+use Rattle.lines_told.specs.lines.Plays.Play.{Said}
 use Rattle.world.specs.declared.fault.WorldFault.TheVariants as fault
 use Rattle.world.specs.declared.world_steps.OpenLine.{OpenLine}
 use Rattle.world.specs.declared.world_steps.World.{World}

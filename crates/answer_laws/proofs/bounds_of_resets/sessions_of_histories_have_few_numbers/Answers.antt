@@ -1,5 +1,0 @@
-use Rattle.answer_laws.proofs.bounds.SessionsInHistories.{sessions_in_history}
-use Rattle.answer_laws.proofs.bounds_of_resets.sessions_of_histories_have_few_numbers.Goals as goal
-
-pub returns : goal.returns
-returns c = sessions_in_history

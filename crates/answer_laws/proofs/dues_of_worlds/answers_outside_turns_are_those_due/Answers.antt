@@ -1,5 +1,0 @@
-use Rattle.answer_laws.proofs.worlds.Schedules.{schedule_dues}
-use Rattle.answer_laws.proofs.dues_of_worlds.answers_outside_turns_are_those_due.Goals as goal
-
-pub returns : goal.returns
-returns c = record { due = schedule_dues }

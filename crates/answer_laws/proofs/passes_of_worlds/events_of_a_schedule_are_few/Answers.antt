@@ -1,5 +1,0 @@
-use Rattle.answer_laws.proofs.passes.Events.{front_long}
-use Rattle.answer_laws.proofs.passes_of_worlds.events_of_a_schedule_are_few.Goals as goal
-
-pub returns : goal.returns
-returns c = front_long

@@ -1,5 +1,0 @@
-use Rattle.answer_laws.proofs.steps.Reading.{comes_reads, tick_reads}
-use Rattle.answer_laws.proofs.readings_in_steps.a_pass_begins_as_is_read.Goals as goal
-
-pub returns : goal.returns
-returns c = record { comes = comes_reads; ticks = tick_reads }

@@ -1,5 +1,0 @@
-use Rattle.answer_laws.proofs.steps.Alike.{same_deeds}
-use Rattle.answer_laws.proofs.readings_in_steps.controllers_that_know_the_same_do_the_same.Goals as goal
-
-pub returns : goal.returns
-returns c = same_deeds

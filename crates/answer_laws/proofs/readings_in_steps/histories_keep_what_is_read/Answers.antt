@@ -1,5 +1,0 @@
-use Rattle.answer_laws.proofs.steps.Reading.{history_reads}
-use Rattle.answer_laws.proofs.readings_in_steps.histories_keep_what_is_read.Goals as goal
-
-pub returns : goal.returns
-returns c = history_reads

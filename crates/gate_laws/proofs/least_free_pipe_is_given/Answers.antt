@@ -1,8 +1,0 @@
-use Rattle.gate_laws.proofs.FreePipes.{lowest_free-least, lowest_free-none}
-use Rattle.gate_laws.proofs.least_free_pipe_is_given.Goals as goal
-
-pub returns-clause-given : goal.returns-clause-given
-returns-clause-given c = lowest_free-least
-
-pub returns-clause-none : goal.returns-clause-none
-returns-clause-none c = lowest_free-none

@@ -1,0 +1,437 @@
+-- Each thing that the near end of a link does, where both ends are up in one session: how far it brings the places of both ends.
+use Rattle.std.proofs.Common.{◌≡◌, ℕ, ◌+◌, ◌<◌, ◌≤◌, Bool, true, false, not, List, [], ◌∷◌, Some, ◌⊎◌, inl, inr}
+use Rattle.std.proofs.Common.{refl, ap, sym, subst, ◌∙◌, arith, length, drop, map}
+use Rattle.std.specs.Prelude.{nat_lt, is_some}
+use Rattle.std.proofs.lemmas.Bool.{cases_lt, ltb-true, or_parts, true≢false}
+use Rattle.swp_base.specs.declared.control_frames.Control.{Control}
+use Rattle.swp_base.specs.declared.control_frames.Control.TheVariants.{Ua}
+use Rattle.swp_base.specs.declared.control_frames.Act.{Act as Activation}
+use Rattle.shdlc_core.specs.declared.answers.LinkState.TheVariants.{Up, Waiting}
+use Rattle.shdlc_core.specs.declared.answers.Due.{Due}
+use Rattle.shdlc_core.specs.declared.answers.Due.TheVariants.{Rr as Rr_due}
+use Rattle.shdlc_core.specs.Machine.{EndState, taken, take_answer, ticked, tick_answer, runs_timer, sent_again, waiting_from, frames_of}
+use Rattle.link_laws.specs.places.Wire.{OnWire, is_act, sans, counts_first, with_frame}
+use Rattle.link_laws.specs.sessions.Sessions.{NumberedShdlc, ShdlcLink, shdlc_put, shdlc_put_all, shdlc_becomes}
+use Rattle.link_laws.specs.sessions.Sessions.{with_shdlc_ended, took_with, act_frame, ShdlcTurn, shdlc_turned, shdlc_happens_at_controller}
+use Rattle.link_laws.specs.sessions.Sessions.{shdlc_ticks_at_controller}
+use Rattle.link_laws.specs.sessions.Sessions.ShdlcEndEvent.{Turns, Deliver, Acts, Lose}
+use Rattle.link_laws.specs.sessions.Losses.{Losses, noted_loss, noted_all, noted_out, came_up, noted_here, noted_tick}
+use Rattle.link_laws.proofs.sessions.Wire.{IsData, live}
+use Rattle.link_laws.proofs.sessions.Hand.{IsRset, ua_told, rset_told}
+use Rattle.link_laws.proofs.sessions.Data.{Pair, TakenUp, taken_up}
+use Rattle.link_laws.proofs.sessions.Safe.{Safe, frame_cases}
+use Rattle.link_laws.proofs.sessions.Steps.{passes_act}
+use Rattle.link_laws.proofs.sessions.Ties.{turned-phase}
+use Rattle.lines_told.proofs.fragments.Wires.{StandsIn, NoRnrBehind, in_rest, in_more, behind_more, behind_rest, behind_push, behind_fits}
+use Rattle.lines_told.proofs.fragments.Sends.{sent_same, put_all_same, out_lost, put_stands}
+use Rattle.lines_told.proofs.fragments.Turns.{turned_up}
+use Rattle.lines_told.proofs.fragments.Takes.{Answers, Brings, Differs, answers_no_act, brings_no_act, Took, took}
+use Rattle.lines_told.proofs.fragments.Becomes.{StartsAgain, CountedAt, Sends, Receives, advances_own, advances_other}
+use Rattle.lines_told.proofs.fragments.Near.{Sound, Did, did_wires, leaves_same, pair_up, runs_of_idle}
+
+-- the near end has become e, with the wires of l, has its turns and sends all that is due
+did_becomes : {c t : ℕ} {m l : ShdlcLink} {e : EndState} (ts : List ShdlcTurn) (n : Losses) → (noted_out n l (shdlc_turned e ts)).lost ≡ false
+    → ((a : ℕ) → Sends a c t m l e) → ((a : ℕ) → Receives a c m l e) → e.session.window ≡ m.controller.side.session.window
+    → Did c 0 t 0 m (shdlc_becomes l (shdlc_turned e ts))
+did_becomes {c} {t} {m} {l} {e} ts n none sends receives window =
+    let g : EndState = shdlc_turned e ts in
+    record {
+      own = λ a. advances_own ts n none (sends a);
+      other = λ a. advances_other ts n none (receives a);
+      near_window = (sent_same 12 g).window ∙ ((turned_up ts e (sends 0).up).window ∙ window);
+      far_window = ap (λ (x : NumberedShdlc). x.side.session.window) ((put_all_same (frames_of 12 g) l).1 ∙ (receives 0).host);
+    }
+
+-- ## It takes nothing
+
+-- l has the wires of m, with frames of activation more on the way to the host
+record Beside (m l : ShdlcLink) : Type 1 where
+  to_controller : l.to_controller ≡ m.to_controller
+  host : l.host ≡ m.host
+  rnr : (k : ℕ) → NoRnrBehind k m.to_host → NoRnrBehind k l.to_host
+  stands : (P : Control → Type 0) → ((c : Control) → is_act c ≡ true → P c → ⊥) → (k : ℕ) → StandsIn P k m.to_host → StandsIn P k l.to_host
+
+module _ {kn kf : ℕ} {m l : ShdlcLink} (h : Sound kn kf m) (b : Beside m l) where
+  idle_sends : (a : ℕ) → Sends a 0 0 m l m.controller.side
+  idle_sends a =
+      let p = pair_up h in
+      record {
+        up = h.near_up;
+        answers = rw h.safe.n_due tt;
+        few = rw h.safe.n_due (omega arith);
+        wide = h.near_wide;
+        narrow = p.mine.most;
+        from = p.mine.from;
+        acked = omega arith;
+        out = refl;
+        rnr = λ j k i r. rw b.to_controller (behind_more j k m.to_controller (omega arith) r);
+        answered = λ j k i low s. inl (rw b.to_controller (in_more (Answers a) j k m.to_controller (omega arith) s));
+        sent = λ k s. b.stands (Brings a) (brings_no_act a) k s;
+        waits = λ same low more rnr idle. inl (record { timer = omega arith; below = λ i. absurd (omega (arith, i)) });
+      }
+
+  idle_receives : (a : ℕ) → Receives a 0 m l m.controller.side
+  idle_receives a =
+      record {
+        up = h.near_up;
+        host = b.host;
+        answers = rw h.safe.n_due tt;
+        no_rnr = rw h.safe.n_due tt;
+        rnr = b.rnr;
+        stands = λ k s. b.stands (Answers a) (answers_no_act a) k s;
+        placed = λ j k i low s. inl (rw b.to_controller (in_more (Brings a) j k m.to_controller (omega arith) s));
+      }
+
+  idle_becomes : (ts : List ShdlcTurn) (n : Losses) → (noted_out n l (shdlc_turned m.controller.side ts)).lost ≡ false
+      → Did 0 0 0 0 m (shdlc_becomes l (shdlc_turned m.controller.side ts))
+  idle_becomes ts n none = did_becomes ts n none idle_sends idle_receives refl
+
+-- its node has turns
+pub did_turns : {kn kf : ℕ} {m : ShdlcLink} → Sound kn kf m → (ts : List ShdlcTurn) (n : Losses) → (noted_here n m (Turns ts)).lost ≡ false
+    → Did 0 0 0 0 m (shdlc_happens_at_controller m (Turns ts))
+did_turns h ts n none = idle_becomes h (record { to_controller = refl; host = refl; rnr = λ k r. r; stands = λ P plain k s. s }) ts n none
+
+-- frames of activation go out
+acts_stand : (P : Control → Type 0) → ((c : Control) → is_act c ≡ true → P c → ⊥) → (k : ℕ) (acts : List Activation) (n : Losses) (l : ShdlcLink)
+    → (noted_all n l (map act_frame acts)).lost ≡ false → StandsIn P k l.to_host → StandsIn P k (shdlc_put_all l (map act_frame acts)).to_host
+acts_stand P plain k [] n l none s = s
+acts_stand P plain k (x ∷ acts) n l none s =
+    let one = out_lost (map act_frame acts) (noted_loss n l (act_frame x)) (shdlc_put l (act_frame x)) none in
+    acts_stand P plain k acts (noted_loss n l (act_frame x)) (shdlc_put l (act_frame x)) none (put_stands P plain k n l (act_frame x) refl one s)
+
+acts_no_rnr : (k : ℕ) (acts : List Activation) (l : ShdlcLink) → NoRnrBehind k l.to_host → NoRnrBehind k (shdlc_put_all l (map act_frame acts)).to_host
+acts_no_rnr k [] l r = r
+acts_no_rnr k (x ∷ acts) l r =
+    acts_no_rnr k acts (shdlc_put l (act_frame x))
+    (behind_fits k (with_frame l.to_host (act_frame x)) (behind_push k l.to_host (record { frame = act_frame x; age = 0; number = 0 }) refl r))
+
+pub did_acts : {kn kf : ℕ} {m : ShdlcLink} → Sound kn kf m → (acts : List Activation) (ts : List ShdlcTurn) (n : Losses)
+    → (noted_here n m (Acts acts ts)).lost ≡ false → Did 0 0 0 0 m (shdlc_happens_at_controller m (Acts acts ts))
+did_acts {m = m} h acts ts n none =
+    let l : ShdlcLink = shdlc_put_all m (map act_frame acts) in
+    let p : Losses = noted_all n m (map act_frame acts) in
+    let kept : p.lost ≡ false = out_lost (frames_of 12 (shdlc_turned m.controller.side ts)) p l none in
+    let same = put_all_same (map act_frame acts) m in
+    idle_becomes h
+    (record {
+      to_controller = same.0;
+      host = same.1;
+      rnr = λ k r. acts_no_rnr k acts m r;
+      stands = λ P plain k s. acts_stand P plain k acts n m kept s;
+    })
+    ts p none
+
+-- ## A frame is taken
+
+-- one of activation is taken from its wire
+pub did_loses : {m : ShdlcLink} (n : Losses) → (noted_here n m Lose).lost ≡ false → Did 1 0 0 0 m (shdlc_happens_at_controller m Lose)
+did_loses {m = m} n none = go m.to_controller (or_parts n.lost (counts_first m.to_controller) none).1
+  where
+    act : (x : OnWire) (xs : List OnWire) → counts_first (x ∷ xs) ≡ false → is_act x.frame ≡ true
+    act x xs e = by (is_act x.frame) refl e
+      where
+        by : (b : Bool) → is_act x.frame ≡ b → not b ≡ false → is_act x.frame ≡ true
+        by true q e = q
+        by false q e = absurd (true≢false e)
+
+    rest : (P : Control → Type 0) → ((c : Control) → is_act c ≡ true → P c → ⊥) → (j k : ℕ) → j ≤ k + 1 → (w : List OnWire) → counts_first w ≡ false
+        → StandsIn P j w → StandsIn P k (drop 1 w)
+    rest P plain j k i [] e s = absurd s
+    rest P plain j k i (x ∷ xs) e s = by (in_rest P j k x xs i s)
+      where
+        by : P x.frame ⊎ StandsIn P k xs → StandsIn P k xs
+        by (inl p) = absurd (plain x.frame (act x xs e) p)
+        by (inr t) = t
+
+    rnr : (j k : ℕ) → j ≤ k + 1 → (w : List OnWire) → NoRnrBehind j w → NoRnrBehind k (drop 1 w)
+    rnr j k i [] r = tt
+    rnr j k i (x ∷ xs) r = behind_rest j k x xs i r
+
+    go : (w : List OnWire) → counts_first w ≡ false → Did 1 0 0 0 (record m { to_controller = w }) (record m { to_controller = drop 1 w })
+    go w e =
+        did_wires 1 0 (record m { to_controller = w }) (drop 1 w) m.to_host
+        (record { rnr = λ j k i r. rnr j k i w r; stands = λ P plain j k i s. rest P plain j k i w e s }) (leaves_same m.to_host)
+
+-- the link as the first frame is gone, whether a session ended or not
+abbrev gone : ShdlcLink → List OnWire → Bool → ℕ → ShdlcLink
+gone l xs ended took =
+    let m : ShdlcLink = with_shdlc_ended (record l { to_controller = xs }) ended in
+    record m { controller = record m.controller { took = took } }
+
+gone_wires : (l : ShdlcLink) (xs : List OnWire) (b : Bool) (t : ℕ)
+    → ((gone l xs b t).to_controller ≡ xs) × ((gone l xs b t).to_host ≡ l.to_host) × ((gone l xs b t).host ≡ l.host)
+gone_wires l xs true t = (refl, refl, refl)
+gone_wires l xs false t = (refl, refl, refl)
+
+-- the near end, which is ready, takes the first frame on its way to it
+pub did_delivers : {m : ShdlcLink} → Sound 0 0 m → m.controller.side.ready ≡ true → (ts : List ShdlcTurn) (n : Losses)
+    → (noted_here n m (Deliver ts)).lost ≡ false → Did 1 0 0 0 m (shdlc_happens_at_controller m (Deliver ts))
+did_delivers {m} h ready ts n none = go m.to_controller h none
+  where
+    nothing : Did 1 0 0 0 (record m { to_controller = [] }) (record m { to_controller = [] })
+    nothing =
+        did_wires 1 0 (record m { to_controller = [] }) [] m.to_host (record { rnr = λ j k i r. tt; stands = λ P plain j k i s. absurd s })
+        (leaves_same m.to_host)
+
+    go : (w : List OnWire) → Sound 0 0 (record m { to_controller = w }) → (noted_here n (record m { to_controller = w }) (Deliver ts)).lost ≡ false
+        → Did 1 0 0 0 (record m { to_controller = w }) (shdlc_happens_at_controller (record m { to_controller = w }) (Deliver ts))
+    go [] g lost = nothing
+    go (x ∷ xs) g lost = by_kind (is_act x.frame) refl
+      where
+        full : ShdlcLink
+        full = record m { to_controller = x ∷ xs }
+
+        left : ShdlcLink
+        left = gone full xs (is_some (take_answer m.controller.side x.frame).ended) (took_with m.controller.took x)
+
+        wires : (left.to_controller ≡ xs) × (left.to_host ≡ m.to_host) × (left.host ≡ m.host)
+        wires = gone_wires full xs (is_some (take_answer m.controller.side x.frame).ended) (took_with m.controller.took x)
+
+        by_sides : ((a : ℕ) → Sends a 1 0 full left (taken m.controller.side x.frame)) → ((a : ℕ) → Receives a 1 full left (taken m.controller.side x.frame))
+            → (taken m.controller.side x.frame).session.window ≡ m.controller.side.session.window
+            → Did 1 0 0 0 full (shdlc_becomes left (shdlc_turned (taken m.controller.side x.frame) ts))
+        by_sides a b w = did_becomes ts (came_up n left (take_answer m.controller.side x.frame).began) lost a b w
+
+        -- a frame of activation
+        passed : is_act x.frame ≡ true → Did 1 0 0 0 full (shdlc_becomes left (shdlc_turned (taken m.controller.side x.frame) ts))
+        passed q =
+            let same : taken m.controller.side x.frame ≡ m.controller.side = (passes_act m.controller.side x.frame q).0 in
+            by_sides (λ a. subst (λ f. Sends a 1 0 full left f) (sym same) (sends a)) (λ a. subst (λ f. Receives a 1 full left f) (sym same) (receives a))
+            (ap (λ (f : EndState). f.session.window) same)
+          where
+            rest : (P : Control → Type 0) → ((c : Control) → is_act c ≡ true → P c → ⊥) → (j k : ℕ) → j ≤ k + 1 → StandsIn P j (x ∷ xs)
+                → StandsIn P k left.to_controller
+            rest P plain j k i s = by (in_rest P j k x xs i s)
+              where
+                by : P x.frame ⊎ StandsIn P k xs → StandsIn P k left.to_controller
+                by (inl p) = absurd (plain x.frame q p)
+                by (inr t) = rw wires.0 t
+
+            sends : (a : ℕ) → Sends a 1 0 full left m.controller.side
+            sends a =
+                let p = pair_up g in
+                record {
+                  up = g.near_up;
+                  answers = rw g.safe.n_due tt;
+                  few = rw g.safe.n_due (omega arith);
+                  wide = g.near_wide;
+                  narrow = p.mine.most;
+                  from = p.mine.from;
+                  acked = omega arith;
+                  out = refl;
+                  rnr = λ j k i r. rw wires.0 (behind_rest j k x xs i r);
+                  answered = λ j k i low s. inl (rest (Answers a) (answers_no_act a) j k i s);
+                  sent = λ k s. rw wires.1 s;
+                  waits = λ same low more rnr idle. inl (record { timer = omega arith; below = λ i. absurd (omega (arith, i)) });
+                }
+
+            receives : (a : ℕ) → Receives a 1 full left m.controller.side
+            receives a =
+                record {
+                  up = g.near_up;
+                  host = wires.2;
+                  answers = rw g.safe.n_due tt;
+                  no_rnr = rw g.safe.n_due tt;
+                  rnr = λ k r. rw wires.1 r;
+                  stands = λ k s. rw wires.1 s;
+                  placed = λ j k i low s. inl (rest (Brings a) (brings_no_act a) j k i s);
+                }
+
+        -- a frame of the session
+        in_session : is_act x.frame ≡ false → IsData x.frame → Did 1 0 0 0 full (shdlc_becomes left (shdlc_turned (taken m.controller.side x.frame) ts))
+        in_session q d = by_sides sends receives kept.window
+          where
+            pair : Pair m.controller.side.session m.host.side.session (x ∷ sans xs) (live m.host.side.phase (sans m.to_host))
+            pair = rw q at (pair_up g)
+
+            state : TakenUp m.controller.side (taken m.controller.side x.frame) m.host.side.session (sans xs) (live m.host.side.phase (sans m.to_host))
+            state = (taken_up m.controller.side g.near_up d pair).0
+
+            kept : Took m.controller.side (taken m.controller.side x.frame) x.frame
+            kept = took m.controller.side ready g.safe.n_due g.near_up d pair
+
+            sends : (a : ℕ) → Sends a 1 0 full left (taken m.controller.side x.frame)
+            sends a =
+                record {
+                  up = state.up;
+                  answers = kept.answers;
+                  few = kept.few;
+                  wide = omega (arith, kept.window, g.near_wide);
+                  narrow = state.pair.mine.most;
+                  from = state.pair.mine.from;
+                  acked = kept.acked;
+                  out = kept.out;
+                  rnr = λ j k i r. rw wires.0 (behind_rest j k x xs i r);
+                  answered = λ j k i low s. answered k low (in_rest (Answers a) j k x xs i s);
+                  sent = λ k s. rw wires.1 s;
+                  waits = λ same low more rnr idle. waits (kept.stays rnr.0 (omega (arith, kept.acked)));
+                }
+              where
+                answered : (k : ℕ) → a ≤ m.controller.side.session.acked → Answers a x.frame ⊎ StandsIn (Answers a) k xs
+                    → StandsIn (Answers a) k left.to_controller ⊎ (a < (taken m.controller.side x.frame).session.acked)
+                answered k low (inl p) = inr (kept.grows a low p)
+                answered k low (inr t) = inl (rw wires.0 t)
+
+                waits : ((taken m.controller.side x.frame).timer ≡ m.controller.side.timer)
+                    ⊎ (((taken m.controller.side x.frame).session.next ≡ (taken m.controller.side x.frame).session.acked)
+                    × ((taken m.controller.side x.frame).session.peer_busy ≡ false))
+                    → CountedAt m.controller.side.timer 0 (taken m.controller.side x.frame) ⊎ StartsAgain (taken m.controller.side x.frame).session
+                waits (inl t) = inl (record { timer = omega (arith, t); below = λ i. absurd (omega (arith, i)) })
+                waits (inr t) = inr (record { next = t.0; may = inl t.1 })
+
+            receives : (a : ℕ) → Receives a 1 full left (taken m.controller.side x.frame)
+            receives a =
+                record {
+                  up = state.up;
+                  host = wires.2;
+                  answers = kept.answers;
+                  no_rnr = kept.no_rnr;
+                  rnr = λ k r. rw wires.1 r;
+                  stands = λ k s. rw wires.1 s;
+                  placed = λ j k i low s. placed k low (in_rest (Brings a) j k x xs i s) (cases_lt a m.host.side.session.acked);
+                }
+              where
+                placed : (k : ℕ) → a ≤ m.host.side.session.acked → Brings a x.frame ⊎ StandsIn (Brings a) k xs
+                    → (a < m.host.side.session.acked) ⊎ (m.host.side.session.acked ≤ a)
+                    → StandsIn (Brings a) k left.to_controller
+                    ⊎ ((a < m.host.side.session.acked)
+                    ⊎ (((ds : List Due) × ((taken m.controller.side x.frame).due ≡ Rr_due ∷ ds)) × Differs (length
+                    (taken m.controller.side x.frame).session.acc) a))
+                placed k low (inr t) b = inl (rw wires.0 t)
+                placed k low (inl p) (inl b) = inr (inl b)
+                placed k low (inl p) (inr b) =
+                    inr (inr (kept.placed a (omega (arith, pair.theirs.acked)) (omega (arith, pair.theirs.fits, pair.theirs.within, pair.theirs.most)) p))
+
+        by_frame : is_act x.frame ≡ false → IsData x.frame ⊎ (IsRset x ⊎ (x.frame ≡ Ua))
+            → Did 1 0 0 0 full (shdlc_becomes left (shdlc_turned (taken m.controller.side x.frame) ts))
+        by_frame q (inl d) = in_session q d
+        by_frame q (inr (inl is)) =
+            absurd (let safe : Safe 0 0 m.controller m.host (x ∷ sans xs) (sans m.to_host) m.resets = rw q at g.safe in
+            let z = sym (rset_told safe.hand is).waiting ∙ g.far_up in let y : Waiting ≡ Up = z in cc)
+        by_frame q (inr (inr is)) =
+            absurd (let safe : Safe 0 0 m.controller m.host (x ∷ sans xs) (sans m.to_host) m.resets = rw q at g.safe in
+            let z = sym (ua_told safe.hand is).1 ∙ g.near_up in let y : Waiting ≡ Up = z in cc)
+
+        by_kind : (b : Bool) → is_act x.frame ≡ b → Did 1 0 0 0 full (shdlc_becomes left (shdlc_turned (taken m.controller.side x.frame) ts))
+        by_kind true q = passed q
+        by_kind false q = by_frame q (frame_cases x)
+
+-- ## It has its tick
+
+-- the end e had a tick in its session, and is f
+record Ticked (e f : EndState) : Type 0 where
+  up : f.phase ≡ Up
+  due : f.due ≡ e.due
+  window : f.session.window ≡ e.session.window
+  acked : f.session.acked ≡ e.session.acked
+  out : f.session.out ≡ e.session.out
+  acc : f.session.acc ≡ e.session.acc
+  from : f.session.acked ≤ f.session.next
+  waits : runs_timer e.session ≡ true → CountedAt e.timer 1 f ⊎ StartsAgain f.session
+
+ticked_up : (e : EndState) → e.phase ≡ Up → (ticked e).phase ≡ Up → e.session.acked ≤ e.session.next → Ticked e (ticked e)
+ticked_up e up still from = go (runs_timer e.session) (nat_lt (e.timer + 1) 10) (nat_lt e.tries 5) refl refl refl
+  where
+    may : (b : Bool) → (b ≡ false) ⊎ (b ≡ true)
+    may true = inr refl
+    may false = inl refl
+
+    by : (f : EndState) → ticked e ≡ f → Ticked e f → Ticked e (ticked e)
+    by f is t = subst (Ticked e) (sym is) t
+
+    go : (a b c : Bool) → runs_timer e.session ≡ a → nat_lt (e.timer + 1) 10 ≡ b → nat_lt e.tries 5 ≡ c → Ticked e (ticked e)
+    go false b c p q r =
+        by e (rw (up, p) refl)
+        (record {
+          up = up;
+          due = refl;
+          window = refl;
+          acked = refl;
+          out = refl;
+          acc = refl;
+          from = from;
+          waits = λ runs. absurd (true≢false (sym runs ∙ p));
+        })
+    go true true c p q r =
+        by (record e { timer = e.timer + 1 }) (rw (up, p, q) refl)
+        (record {
+          up = up;
+          due = refl;
+          window = refl;
+          acked = refl;
+          out = refl;
+          acc = refl;
+          from = from;
+          waits = λ runs. inl (record { timer = refl; below = λ i. ltb-true (e.timer + 1) 10 q });
+        })
+    go true false true p q r =
+        by (sent_again e) (rw (up, p, q, r) refl)
+        (record {
+          up = up;
+          due = refl;
+          window = refl;
+          acked = refl;
+          out = refl;
+          acc = refl;
+          from = omega arith;
+          waits = λ runs. inr (record { next = refl; may = may e.session.peer_busy });
+        })
+    go true false false p q r =
+        absurd (let is : ticked e ≡ waiting_from e = rw (up, p, q, r) refl in let z = sym (ap (λ (f : EndState). f.phase) is) ∙ still in
+        let y : Waiting ≡ Up = z in cc)
+
+pub ended_wires : (l : ShdlcLink) (b : Bool) → ((with_shdlc_ended l b).to_controller ≡ l.to_controller) × ((with_shdlc_ended l b).to_host ≡ l.to_host)
+    × ((with_shdlc_ended l b).host ≡ l.host)
+ended_wires l true = (refl, refl, refl)
+ended_wires l false = (refl, refl, refl)
+
+pub did_ticks : {kf : ℕ} {m : ShdlcLink} → Sound 1 kf m → (ts : List ShdlcTurn) (n : Losses) → (noted_tick n (Some ts) m).lost ≡ false
+    → (shdlc_ticks_at_controller m ts).controller.side.phase ≡ Up → Did 0 0 1 0 m (shdlc_ticks_at_controller m ts)
+did_ticks {kf} {m} h ts n none up = did_becomes ts n none sends receives state.window
+  where
+    wires : ((with_shdlc_ended m (is_some (tick_answer m.controller.side).ended)).to_controller ≡ m.to_controller)
+        × ((with_shdlc_ended m (is_some (tick_answer m.controller.side).ended)).to_host ≡ m.to_host)
+        × ((with_shdlc_ended m (is_some (tick_answer m.controller.side).ended)).host ≡ m.host)
+    wires = ended_wires m (is_some (tick_answer m.controller.side).ended)
+
+    pair : Pair m.controller.side.session m.host.side.session (sans m.to_controller) (live m.host.side.phase (sans m.to_host))
+    pair = pair_up h
+
+    still : (ticked m.controller.side).phase ≡ Up
+    still = sym (turned-phase ts (ticked m.controller.side)) ∙ (sym (sent_same 12 (shdlc_turned (ticked m.controller.side) ts)).phase ∙ up)
+
+    state : Ticked m.controller.side (ticked m.controller.side)
+    state = ticked_up m.controller.side h.near_up still pair.mine.from
+
+    due : (ticked m.controller.side).due ≡ []
+    due = state.due ∙ h.safe.n_due
+
+    sends : (a : ℕ) → Sends a 0 1 m (with_shdlc_ended m (is_some (tick_answer m.controller.side).ended)) (ticked m.controller.side)
+    sends a =
+        record {
+          up = state.up;
+          answers = rw due tt;
+          few = rw due (omega arith);
+          wide = omega (arith, state.window, h.near_wide);
+          narrow = omega (arith, state.window, pair.mine.most);
+          from = state.from;
+          acked = omega (arith, state.acked);
+          out = state.out;
+          rnr = λ j k i r. rw wires.0 (behind_more j k m.to_controller (omega arith) r);
+          answered = λ j k i low s. inl (rw wires.0 (in_more (Answers a) j k m.to_controller (omega arith) s));
+          sent = λ k s. rw wires.1 s;
+          waits = λ same low more rnr idle.
+              state.waits (runs_of_idle m.controller.side h.near_wide pair.mine.from (omega (arith, same, state.acked)) idle);
+        }
+
+    receives : (a : ℕ) → Receives a 0 m (with_shdlc_ended m (is_some (tick_answer m.controller.side).ended)) (ticked m.controller.side)
+    receives a =
+        record {
+          up = state.up;
+          host = wires.2;
+          answers = rw due tt;
+          no_rnr = rw due tt;
+          rnr = λ k r. rw wires.1 r;
+          stands = λ k s. rw wires.1 s;
+          placed = λ j k i low s. inl (rw wires.0 (in_more (Brings a) j k m.to_controller (omega arith) s));
+        }

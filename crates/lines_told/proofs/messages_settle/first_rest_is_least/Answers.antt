@@ -1,0 +1,6 @@
+use Rattle.lines_told.proofs.messages.Rest.{first_rest}
+use Rattle.link_laws.specs.messages.Rest.{link_rests}
+use Rattle.lines_told.proofs.messages_settle.first_rest_is_least.Goals as goal
+
+pub returns : goal.returns
+returns c = first_rest link_rests

@@ -1,2 +1,0 @@
-pub mod messages
-pub mod entries

@@ -1,5 +1,0 @@
-use Rattle.link_entries.proofs.entries.Running.{at_each_moment}
-use Rattle.link_entries.proofs.entry_order.messages_are_in_order_at_each_moment.Goals as goal
-
-pub returns : goal.returns
-returns c = at_each_moment

@@ -1,5 +1,0 @@
-use Rattle.link_entries.proofs.entries.Chains.{no_chain_noted}
-use Rattle.link_entries.proofs.entry_order.no_chain_fault_is_noted.Goals as goal
-
-pub returns : goal.returns
-returns c = no_chain_noted

@@ -1,5 +1,0 @@
-use Rattle.link_entries.proofs.entries.Heard.{settled}
-use Rattle.link_entries.proofs.entry_order.reset_brings_both_up.Goals as goal
-
-pub returns : goal.returns
-returns c = settled

@@ -1,5 +1,0 @@
-use Rattle.link_entries.proofs.entries.Ages.{read_off}
-use Rattle.link_entries.proofs.entry_order.wires_and_numbers_are_read_off.Goals as goal
-
-pub returns : goal.returns
-returns c = read_off

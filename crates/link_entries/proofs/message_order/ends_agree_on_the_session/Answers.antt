@@ -1,5 +1,0 @@
-use Rattle.link_entries.proofs.messages.Whole.{one_number}
-use Rattle.link_entries.proofs.message_order.ends_agree_on_the_session.Goals as goal
-
-pub returns : goal.returns
-returns c = one_number

@@ -1,8 +1,0 @@
-use Rattle.link_entries.proofs.messages.Quiet.{all_here, all_there}
-use Rattle.link_entries.proofs.message_order.quiet_session_has_delivered_all.Goals as goal
-
-pub returns-clause-to_host : goal.returns-clause-to_host
-returns-clause-to_host c = all_here
-
-pub returns-clause-to_controller : goal.returns-clause-to_controller
-returns-clause-to_controller c = all_there

@@ -1,5 +1,0 @@
-use Rattle.link_entries.proofs.messages.Quiet.{up_together}
-use Rattle.link_entries.proofs.message_order.reset_brings_both_up.Goals as goal
-
-pub returns : goal.returns
-returns c = up_together

@@ -1,0 +1,530 @@
+-- What the entries of an end say of its sessions, and what each part of a step adds.
+use Rattle.std.proofs.Common.{◌≡◌, ℕ, ◌≤◌, ◌<◌, ◌-◌, Bool, true, false, cond, List, [], ◌∷◌, ◌++◌, length, map, drop, Option, Some, None, refl, ap, sym, ◌∙◌}
+use Rattle.std.proofs.Common.{arith, append-nil, append_assoc}
+use Rattle.std.specs.Prelude.{◌+◌, ◌==◌, ◌&&◌, nat_lt, option_to_list, max, not}
+use Rattle.std.proofs.lemmas.Bool.{true≢false, ltb-true, ltb-false, eqb-true}
+use Rattle.std.proofs.lemmas.Grind.{common_steps}
+use Rattle.std.proofs.lemmas.List.Elements.{filter_map-append, filter-append}
+use Rattle.shdlc_core.specs.declared.answers.LinkState.{LinkState}
+use Rattle.shdlc_core.specs.declared.answers.LinkState.TheVariants.{Down as IsDown, Waiting as IsWaitingNow, Up as IsUpNow}
+use Rattle.shdlc_core.specs.Machine.{EndState, Session, with_ready}
+use Rattle.hcp_packet.specs.Packets.{packets_in, packet_of, good_of, is_good, IsSendable, packet_count}
+use Rattle.hcp_packet.specs.declared.Packet.{Packet}
+use Rattle.hcp_chain.specs.Joining.{given_by, join_step, message_in}
+use Rattle.link_laws.proofs.places.Joined.{ready_cases}
+use Rattle.link_laws.specs.machine.Machine.{Message, LinkEnd, Refused, Turn, Report, turn, given, give_refusal, aside_refusal, messages_got, whole_among}
+use Rattle.link_laws.specs.machine.Machine.{whole_acked, news}
+use Rattle.link_laws.specs.machine.Machine.Turn.{Give, Hold, FetchMessage, SetAside, Release}
+use Rattle.link_laws.proofs.machine.Shifts.{Shift, IsNotUp}
+use Rattle.link_laws.proofs.machine.Shifts.Shift.{Stays, Ends, Renews, Begins, Rests}
+use Rattle.link_laws.proofs.machine.Sound.{Data, SentAfter, whole_more, whole_given}
+use Rattle.link_laws.proofs.machine.Reports.{Becomes}
+use Rattle.link_laws.specs.messages.Links.{Talk, NumberedEnd, number_of, no_talk, ended_talk, talk_now, talk_of}
+use Rattle.link_laws.specs.entries.Entries.{End, Entry, far, if_so, told, turn_entry, sent_unless}
+use Rattle.link_laws.specs.entries.Entries.End.{Controller, Host}
+use Rattle.link_laws.specs.entries.Entries.Entry.{Up, Down, Active, GaveUp, Acked, Got, Sent, Emit, Took, Lost, Tick, Restarted, Cut}
+use Rattle.link_laws.specs.entries.Filters.{same_link_end, sent_noted, got_noted, acked_noted}
+
+-- ## Three filters at once
+
+-- what an end sent, got and had acknowledged in a session
+pub record Book : Type 0 where
+  pub sent : List Message
+  pub got : List Message
+  pub acked : ℕ
+
+abbrev pub blank : Book
+blank = record { sent = []; got = []; acked = 0 }
+
+abbrev pub book : List Message → List Message → ℕ → Book
+book sent got acked = record { sent = sent; got = got; acked = acked }
+
+abbrev pub plus : Book → Book → Book
+plus a b = record { sent = a.sent ++ b.sent; got = a.got ++ b.got; acked = max a.acked b.acked }
+
+abbrev pub read : List Entry → End → ℕ → Book
+read t who n = record { sent = sent_noted t who n; got = got_noted t who n; acked = acked_noted t who n }
+
+abbrev pub book_of : Talk → Book
+book_of t = record { sent = t.sent; got = messages_got t.session; acked = whole_among t.sent t.session.acked }
+
+abbrev pick : Bool → Book → Book
+pick b x = cond b x blank
+
+max_zero : (n : ℕ) → max n 0 ≡ n
+max_zero n = omega arith
+
+zero_max : (n : ℕ) → max 0 n ≡ n
+zero_max n = omega arith
+
+max_assoc : (a b c : ℕ) → max a (max b c) ≡ max (max a b) c
+max_assoc a b c = omega arith
+
+pub plus-blank : (b : Book) → plus b blank ≡ b
+plus-blank b = rw (append-nil b.sent, append-nil b.got, max_zero b.acked) refl
+
+pub blank-plus : (b : Book) → plus blank b ≡ b
+blank-plus b = rw (zero_max b.acked) refl
+
+pub plus_assoc : (a b c : Book) → plus a (plus b c) ≡ plus (plus a b) c
+plus_assoc a b c = rw (append_assoc a.sent b.sent c.sent, append_assoc a.got b.got c.got, max_assoc a.acked b.acked c.acked) refl
+
+-- one entry
+abbrev note : Entry → End → ℕ → Book
+note e who n = read (e ∷ []) who n
+
+read-one : (e : Entry) (t : List Entry) (who : End) (n : ℕ) → read (e ∷ t) who n ≡ plus (note e who n) (read t who n)
+read-one (Sent w k m) t who n = go (same_link_end w who && (k == n)) refl
+  where
+    go : (b : Bool) → (same_link_end w who && (k == n)) ≡ b → read (Sent w k m ∷ t) who n ≡ plus (note (Sent w k m) who n) (read t who n)
+    go true q = rw (q, zero_max (acked_noted t who n)) refl
+    go false q = rw (q, zero_max (acked_noted t who n)) refl
+read-one (Got w k m) t who n = go (same_link_end w who && (k == n)) refl
+  where
+    go : (b : Bool) → (same_link_end w who && (k == n)) ≡ b → read (Got w k m ∷ t) who n ≡ plus (note (Got w k m) who n) (read t who n)
+    go true q = rw (q, zero_max (acked_noted t who n)) refl
+    go false q = rw (q, zero_max (acked_noted t who n)) refl
+read-one (Acked w k a) t who n = go (same_link_end w who && (k == n)) refl
+  where
+    go : (b : Bool) → (same_link_end w who && (k == n)) ≡ b → read (Acked w k a ∷ t) who n ≡ plus (note (Acked w k a) who n) (read t who n)
+    go true q = rw (q, max_zero a) refl
+    go false q = rw (q, zero_max (acked_noted t who n)) refl
+read-one (Up w k) t who n = sym (blank-plus (read t who n))
+read-one (Down w c) t who n = sym (blank-plus (read t who n))
+read-one (Active w) t who n = sym (blank-plus (read t who n))
+read-one (GaveUp w k) t who n = sym (blank-plus (read t who n))
+read-one (Emit w c) t who n = sym (blank-plus (read t who n))
+read-one (Took w c) t who n = sym (blank-plus (read t who n))
+read-one (Lost w c why) t who n = sym (blank-plus (read t who n))
+read-one Tick t who n = sym (blank-plus (read t who n))
+read-one (Restarted w) t who n = sym (blank-plus (read t who n))
+read-one (Cut w) t who n = sym (blank-plus (read t who n))
+
+pub read-append : (t u : List Entry) (who : End) (n : ℕ) → read (t ++ u) who n ≡ plus (read t who n) (read u who n)
+read-append [] u who n = sym (blank-plus (read u who n))
+read-append (e ∷ t) u who n =
+    read-one e (t ++ u) who n
+    ∙ (ap (plus (note e who n)) (read-append t u who n)
+    ∙ (plus_assoc (note e who n) (read t who n) (read u who n) ∙ ap (λ b. plus b (read u who n)) (sym (read-one e t who n))))
+
+-- entries that say nothing of messages
+abbrev pub Silent : List Entry → Type 0
+Silent u = (who : End) (n : ℕ) → read u who n ≡ blank
+
+pub silent-append : (t u : List Entry) → Silent t → Silent u → Silent (t ++ u)
+silent-append t u p q who n = read-append t u who n ∙ (ap (λ b. plus b (read u who n)) (p who n) ∙ (blank-plus (read u who n) ∙ q who n))
+
+pub silent_cons : (e : Entry) (t : List Entry) → Silent (e ∷ []) → Silent t → Silent (e ∷ t)
+silent_cons e t p q who n = read-one e t who n ∙ (ap (λ b. plus b (read t who n)) (p who n) ∙ (blank-plus (read t who n) ∙ q who n))
+
+silent_so : (b : Bool) (e : Entry) → Silent (e ∷ []) → Silent (if_so b e)
+silent_so false e p who n = refl
+silent_so true e p who n = p who n
+
+silent_option : {A : Type 0} (f : A → Entry) (o : Option A) → ((x : A) → Silent (f x ∷ [])) → Silent (map f (option_to_list o))
+silent_option f None p who n = refl
+silent_option f (Some x) p who n = p x who n
+
+-- ## What is told
+
+read_got : (who who' : End) (k n : ℕ) (ms : List Message)
+    → read (map (Got who k) ms) who' n ≡ pick (same_link_end who who' && (k == n)) (record { sent = []; got = ms; acked = 0 })
+read_got who who' k n ms = go (same_link_end who who' && (k == n)) refl ms
+  where
+    go : (b : Bool) → (same_link_end who who' && (k == n)) ≡ b → (ms : List Message)
+        → read (map (Got who k) ms) who' n ≡ pick (same_link_end who who' && (k == n)) (record { sent = []; got = ms; acked = 0 })
+    go true q [] = rw q refl
+    go false q [] = rw q refl
+    go true q (m ∷ ms) =
+        read-one (Got who k m) (map (Got who k) ms) who' n
+        ∙ rw q (let z = go true q ms in ap (plus (record { sent = []; got = m ∷ []; acked = 0 })) (rw q at z))
+    go false q (m ∷ ms) = read-one (Got who k m) (map (Got who k) ms) who' n ∙ rw q (let z = go false q ms in ap (plus blank) (rw q at z))
+
+read_acked : (who who' : End) (k n a : ℕ) (b : Bool)
+    → read (if_so b (Acked who k a)) who' n ≡ pick (same_link_end who who' && (k == n)) (record { sent = []; got = []; acked = cond b a 0 })
+read_acked who who' k n a b = go (same_link_end who who' && (k == n)) refl b
+  where
+    go : (c : Bool) → (same_link_end who who' && (k == n)) ≡ c → (b : Bool)
+        → read (if_so b (Acked who k a)) who' n ≡ pick (same_link_end who who' && (k == n)) (record { sent = []; got = []; acked = cond b a 0 })
+    go true q true = rw (q, max_zero a) refl
+    go true q false = rw q refl
+    go false q true = rw q refl
+    go false q false = rw q refl
+
+-- what a report says of messages
+abbrev pub told_book : Report → ℕ → Book
+told_book r acked = record { sent = []; got = r.got; acked = cond (nat_lt 0 r.acked) acked 0 }
+
+pub read_told : (who who' : End) (k n : ℕ) (r : Report) (acked : ℕ)
+    → read (told who k r acked) who' n ≡ pick (same_link_end who who' && (k == n)) (told_book r acked)
+read_told who who' k n r acked =
+    skip (map (Down who) (option_to_list r.ended)) b (silent_option (Down who) r.ended (λ x w m. refl))
+    ∙ (skip (if_so r.began (Up who k)) c (silent_so r.began (Up who k) (λ w m. refl))
+    ∙ (skip (if_so r.became_active (Active who)) d (silent_so r.became_active (Active who) (λ w m. refl))
+    ∙ (skip (map (GaveUp who) (option_to_list r.gave_up)) e (silent_option (GaveUp who) r.gave_up (λ x w m. refl)) ∙ last)))
+  where
+    e : List Entry
+    e = if_so (nat_lt 0 r.acked) (Acked who k acked) ++ map (Got who k) r.got
+
+    d : List Entry
+    d = map (GaveUp who) (option_to_list r.gave_up) ++ e
+
+    c : List Entry
+    c = if_so r.became_active (Active who) ++ d
+
+    b : List Entry
+    b = if_so r.began (Up who k) ++ c
+
+    skip : (t u : List Entry) → Silent t → read (t ++ u) who' n ≡ read u who' n
+    skip t u p = read-append t u who' n ∙ (ap (λ z. plus z (read u who' n)) (p who' n) ∙ blank-plus (read u who' n))
+
+    both : (x : Bool) → plus (pick x (record { sent = []; got = []; acked = cond (nat_lt 0 r.acked) acked 0 }))
+        (pick x (record { sent = []; got = r.got; acked = 0 })) ≡ pick x (told_book r acked)
+    both true = rw (max_zero (cond (nat_lt 0 r.acked) acked 0)) refl
+    both false = refl
+
+    last : read e who' n ≡ pick (same_link_end who who' && (k == n)) (told_book r acked)
+    last =
+        read-append (if_so (nat_lt 0 r.acked) (Acked who k acked)) (map (Got who k) r.got) who' n
+        ∙ (ap (λ z. plus z (read (map (Got who k) r.got) who' n)) (read_acked who who' k n acked (nat_lt 0 r.acked))
+        ∙ (ap (plus (pick (same_link_end who who' && (k == n)) (record { sent = []; got = []; acked = cond (nat_lt 0 r.acked) acked 0 })))
+        (read_got who who' k n r.got)
+        ∙ both (same_link_end who who' && (k == n))))
+
+-- ## An end and what was noted of it
+
+-- what was noted of an end says what is kept of its sessions
+abbrev pub Told : List Entry → End → NumberedEnd → Type 0
+Told t who h = (n : ℕ) → read t who n ≡ book_of (talk_of h n)
+
+pub up_talk : (h : NumberedEnd) (n : ℕ) → h.side.shdlc.phase ≡ IsUpNow → talk_of h n ≡ cond (n == number_of h) (talk_now h.side) (ended_talk h.past n)
+up_talk h n p = rw p refl
+
+pub down_talk : (h : NumberedEnd) (n : ℕ) → IsNotUp h.side.shdlc → talk_of h n ≡ ended_talk h.past n
+down_talk h n down = go h.side.shdlc.phase refl
+  where
+    go : (p : LinkState) → h.side.shdlc.phase ≡ p → talk_of h n ≡ ended_talk h.past n
+    go IsUpNow p = absurd (down p)
+    go IsWaitingNow p = rw p refl
+    go IsDown p = rw p refl
+
+pub same_self : (who : End) → same_link_end who who ≡ true
+same_self Controller = refl
+same_self Host = refl
+
+pub same_far : (who : End) → same_link_end who (far who) ≡ false
+same_far Controller = refl
+same_far Host = refl
+
+-- nothing of the other end is told
+pub told_far : (t : List Entry) (who : End) (k : ℕ) (r : Report) (acked : ℕ) (h : NumberedEnd) → Told t (far who) h → Told (t ++ told who k r acked) (far who) h
+told_far t who k r acked h b n =
+    let none : read (told who k r acked) (far who) n ≡ blank =
+    read_told who (far who) k n r acked ∙ ap (λ x. pick (x && (k == n)) (told_book r acked)) (same_far who) in
+    read-append t (told who k r acked) (far who) n ∙ (ap (plus (read t (far who) n)) none ∙ (plus-blank (read t (far who) n) ∙ b n))
+
+pub told_silent : (t u : List Entry) (who : End) (h : NumberedEnd) → Silent u → Told t who h → Told (t ++ u) who h
+told_silent t u who h s b n = read-append t u who n ∙ (ap (plus (read t who n)) (s who n) ∙ (plus-blank (read t who n) ∙ b n))
+
+-- ## Messages that came
+
+given_front : (ms : List (ℕ × List ℕ)) (ps qs : List Packet) → (rest : List (ℕ × List ℕ)) × (given_by ms (ps ++ qs) ≡ given_by ms ps ++ rest)
+given_front ms [] qs = (given_by ms qs, refl)
+given_front ms (p ∷ ps) qs =
+    let z = given_front (join_step ms p).1 ps qs in
+    (z.0, ap (λ x. message_in (join_step ms p).0 ++ x) z.1 ∙ sym (append_assoc (message_in (join_step ms p).0) (given_by (join_step ms p).1 ps) z.0))
+
+drop_front : (xs ys : List Message) → drop (length xs) (xs ++ ys) ≡ ys
+drop_front [] ys = refl
+drop_front (x ∷ xs) ys = drop_front xs ys
+
+-- what came before and what comes now is all that came
+pub got_more : (before : Session) (s : EndState) (more : List (List ℕ)) → s.session.acc ≡ before.acc ++ more → messages_got before ++ news before s
+    ≡ messages_got s.session
+got_more before s more q =
+    let packets : packets_in s.session.acc ≡ packets_in before.acc ++ packets_in more = ap packets_in q ∙ filter_map-append packet_of before.acc more in
+    let g = given_front [] (packets_in before.acc) (packets_in more) in
+    let all : messages_got s.session ≡ messages_got before ++ good_of g.0 =
+    ap (λ ps. good_of (given_by [] ps)) packets ∙ (ap good_of g.1 ∙ filter-append (λ m. is_good m.1) (given_by [] (packets_in before.acc)) g.0) in
+    ap (λ ms. messages_got before ++ drop (length (messages_got before)) ms) all
+    ∙ (ap (λ ms. messages_got before ++ ms) (drop_front (messages_got before) (good_of g.0)) ∙ sym all)
+
+-- ## An input
+
+grows : (a b : ℕ) → a ≤ b → max a (cond (nat_lt 0 (b - a)) b 0) ≡ b
+grows a b i = go (nat_lt 0 (b - a)) refl
+  where
+    go : (x : Bool) → nat_lt 0 (b - a) ≡ x → max a (cond (nat_lt 0 (b - a)) b 0) ≡ b
+    go true q = let z = ltb-true 0 (b - a) q in rw q (omega (arith, z, i))
+    go false q = let z = ltb-false 0 (b - a) q in rw q (omega (arith, z, i))
+
+-- an end with its session ended or not
+abbrev pub past_after : Bool → NumberedEnd → List (ℕ × Talk)
+past_after false h = h.past
+past_after true h = (number_of h, talk_now h.side) ∷ h.past
+
+-- what an input to the end of h, which becomes k, says of messages
+pub record Input (h k : NumberedEnd) (ended began : Bool) (r : Report) : Type 0 where
+  pub becomes : Becomes h.side k.side ended began r.got
+  pub acked : r.acked ≡ whole_acked k.side - whole_acked h.side
+  pub past : k.past ≡ past_after ended h
+  pub same : h.side.shdlc.phase ≡ IsUpNow → ended ≡ false → number_of k ≡ number_of h
+  pub fresh : began ≡ true → talk_of h (number_of k) ≡ no_talk
+
+noted : (t : List Entry) (who : End) (k : ℕ) (r : Report) (acked n : ℕ)
+    → read (t ++ told who k r acked) who n ≡ plus (read t who n) (pick (k == n) (told_book r acked))
+noted t who k r acked n =
+    read-append t (told who k r acked) who n
+    ∙ ap (plus (read t who n)) (read_told who who k n r acked ∙ ap (λ x. pick (x && (k == n)) (told_book r acked)) (same_self who))
+
+-- a report that says nothing
+silent_report : (t : List Entry) (who : End) (k : ℕ) (r : Report) (acked n : ℕ)
+    → r.got ≡ [] → nat_lt 0 r.acked ≡ false → read (t ++ told who k r acked) who n ≡ read t who n
+silent_report t who k r acked n got zero = noted t who k r acked n ∙ (ap (plus (read t who n)) (none (k == n)) ∙ plus-blank (read t who n))
+  where
+    none : (b : Bool) → pick b (told_book r acked) ≡ blank
+    none false = refl
+    none true = rw (got, zero) refl
+
+not_more : (a b : ℕ) → b ≡ 0 → nat_lt 0 (b - a) ≡ false
+not_more a b q = rw q (grind (arith, common_steps))
+
+-- an end without messages
+fresh_whole : (e : LinkEnd) → e.sent ≡ [] → whole_acked e ≡ 0
+fresh_whole e q = rw q refl
+
+empty_got : (s : Session) → s.acc ≡ [] → messages_got s ≡ []
+empty_got s q = rw q refl
+
+blank_talk : (e : LinkEnd) → e.sent ≡ [] → e.shdlc.session.acc ≡ [] → book_of (talk_now e) ≡ blank
+blank_talk e s a = rw (s, a) refl
+
+ended_first : (past : List (ℕ × Talk)) (k n : ℕ) (t : Talk) → ended_talk ((k, t) ∷ past) n ≡ cond (n == k) t (ended_talk past n)
+ended_first past k n t = refl
+
+eq_sym : (a b : ℕ) (x : Bool) → (a == b) ≡ x → (b == a) ≡ x
+eq_sym a b true q = let e : a ≡ b = eqb-true a b q in grind (arith, common_steps, e)
+eq_sym a b false q = grind (arith, common_steps, q)
+
+pub told_input : (t : List Entry) (who : End) (h k : NumberedEnd) (ended began : Bool) (r : Report) → Input h k ended began r → Data h.side → Told t who h
+    → Told (t ++ told who (number_of k) r (whole_acked k.side)) who k
+told_input t who h k ended began r i d b n = go i.becomes.shift
+  where
+    j : ℕ
+    j = number_of k
+
+    result : List Entry
+    result = t ++ told who j r (whole_acked k.side)
+
+    got : r.got ≡ news h.side.shdlc.session k.side.shdlc
+    got = i.becomes.got
+
+    sent_false : ended ≡ false → k.side.sent ≡ h.side.sent
+    sent_false q = by ended q i.becomes.sent
+      where
+        by : (b : Bool) → b ≡ false → SentAfter b h.side k.side → k.side.sent ≡ h.side.sent
+        by false z s = s
+        by true z s = absurd (true≢false z)
+
+    sent_true : ended ≡ true → k.side.sent ≡ []
+    sent_true q = by ended q i.becomes.sent
+      where
+        by : (b : Bool) → b ≡ true → SentAfter b h.side k.side → k.side.sent ≡ []
+        by true z s = s
+        by false z s = absurd (true≢false (sym z))
+
+    past_false : ended ≡ false → k.past ≡ h.past
+    past_false q = i.past ∙ ap (λ x. past_after x h) q
+
+    past_true : ended ≡ true → k.past ≡ (number_of h, talk_now h.side) ∷ h.past
+    past_true q = i.past ∙ ap (λ x. past_after x h) q
+
+    -- nothing is told of messages
+    nothing : k.side.shdlc.session.acc ≡ [] → k.side.sent ≡ [] → read result who n ≡ read t who n
+    nothing acc sent =
+        silent_report t who j r (whole_acked k.side) n
+        (got ∙ ap (λ (xs : List (List ℕ)). drop (length (messages_got h.side.shdlc.session))
+        (messages_got (record k.side.shdlc.session { acc = xs }))) acc ∙ drop_none (length (messages_got h.side.shdlc.session)))
+        (ap (nat_lt 0) i.acked ∙ not_more (whole_acked h.side) (whole_acked k.side) (fresh_whole k.side sent))
+      where
+        drop_none : (m : ℕ) → drop {A = Message} m [] ≡ []
+        drop_none m = grind (arith, common_steps)
+
+    -- the sessions that ended before, and the one that ended now
+    after_end : h.side.shdlc.phase ≡ IsUpNow → ended ≡ true → ended_talk k.past n ≡ talk_of h n
+    after_end up q = ap (λ p. ended_talk p n) (past_true q) ∙ sym (up_talk h n up)
+
+    -- the session that begins has no messages yet, and none were noted of its number
+    begins : (x : Bool) → (n == j) ≡ x → book_of (talk_now k.side) ≡ blank → talk_of h j ≡ no_talk → book_of (talk_of h n)
+        ≡ book_of (cond (n == j) (talk_now k.side) (talk_of h n))
+    begins true q none fresh =
+        let e : n ≡ j = eqb-true n j q in
+        rw q (ap (λ m. book_of (talk_of h m)) e ∙ (ap book_of fresh ∙ sym none))
+    begins false q none fresh = rw q refl
+
+    go : Shift h.side.shdlc k.side.shdlc ended began → read result who n ≡ book_of (talk_of k n)
+    go (Stays p q g) =
+        let same : j ≡ number_of h = i.same g.was p in
+        let sent = sent_false p in
+        let low : whole_acked h.side ≤ whole_acked k.side =
+        let z = whole_more h.side.sent h.side.shdlc.session.acked k.side.shdlc.session.acked g.low in
+        let w : whole_acked k.side ≡ whole_among h.side.sent k.side.shdlc.session.acked = ap (λ ms. whole_among ms k.side.shdlc.session.acked) sent in
+        omega (arith, z, w) in
+        let now : plus (book_of (talk_now h.side)) (told_book r (whole_acked k.side)) ≡ book_of (talk_now k.side) =
+        book_is (append-nil h.side.sent ∙ sym sent) (ap (λ ms. messages_got h.side.shdlc.session ++ ms) got
+        ∙ got_more h.side.shdlc.session k.side.shdlc g.more g.acc)
+        (ap (λ x. max (whole_acked h.side) (cond (nat_lt 0 x) (whole_acked k.side) 0)) i.acked ∙ grows (whole_acked h.side) (whole_acked k.side) low) in
+        let old : read t who n ≡ book_of (cond (n == j) (talk_now h.side) (ended_talk h.past n)) =
+        b n ∙ (ap book_of (up_talk h n g.was) ∙ ap (λ x. book_of (cond (n == x) (talk_now h.side) (ended_talk h.past n))) (sym same)) in
+        let new : talk_of k n ≡ cond (n == j) (talk_now k.side) (ended_talk h.past n) =
+        up_talk k n g.is ∙ ap (λ ps. cond (n == j) (talk_now k.side) (ended_talk ps n)) (past_false p) in
+        noted t who j r (whole_acked k.side) n
+        ∙ (ap (λ z. plus z (pick (j == n) (told_book r (whole_acked k.side)))) old ∙ (by (n == j) refl now ∙ ap book_of (sym new)))
+      where
+        book_is : {s u g g' : List Message} {a c : ℕ} → s ≡ u → g ≡ g' → a ≡ c → book s g a ≡ book u g' c
+        book_is p q r = rw (p, q, r) refl
+
+        by : (x : Bool) → (n == j) ≡ x → plus (book_of (talk_now h.side)) (told_book r (whole_acked k.side)) ≡ book_of (talk_now k.side)
+            → plus (book_of (cond (n == j) (talk_now h.side) (ended_talk h.past n))) (pick (j == n) (told_book r (whole_acked k.side)))
+            ≡ book_of (cond (n == j) (talk_now k.side) (ended_talk h.past n))
+        by true q now = rw (q, eq_sym n j true q) now
+        by false q now = rw (q, eq_sym n j false q) (plus-blank (book_of (ended_talk h.past n)))
+    go (Ends p q up still s) =
+        nothing (ap (λ (z : Session). z.acc) s) (sent_true p) ∙ (b n ∙ ap book_of (sym (down_talk k n still ∙ after_end up p)))
+    go (Renews p q up new) =
+        let none : book_of (talk_now k.side) ≡ blank = blank_talk k.side (sent_true p) new.acc in
+        let fresh : talk_of h j ≡ no_talk = i.fresh q in
+        let is : talk_of k n ≡ cond (n == j) (talk_now k.side) (talk_of h n) = up_talk k n new.is
+        ∙ ap (λ x. cond (n == j) (talk_now k.side) x) (after_end up p) in
+        nothing new.acc (sent_true p) ∙ (b n ∙ (begins (n == j) refl none fresh ∙ ap book_of (sym is)))
+    go (Begins p q down new) =
+        let none : book_of (talk_now k.side) ≡ blank = blank_talk k.side (sent_false p ∙ d.forgot down) new.acc in
+        let fresh : talk_of h j ≡ no_talk = i.fresh q in
+        let is : talk_of k n ≡ cond (n == j) (talk_now k.side) (talk_of h n) =
+        up_talk k n new.is ∙ ap (λ x. cond (n == j) (talk_now k.side) x) (ap (λ ps. ended_talk ps n) (past_false p) ∙ sym (down_talk h n down)) in
+        nothing new.acc (sent_false p ∙ d.forgot down) ∙ (b n ∙ (begins (n == j) refl none fresh ∙ ap book_of (sym is)))
+    go (Rests p q down still s) =
+        nothing (ap (λ (z : Session). z.acc) (s (d.none down))) (sent_false p ∙ d.forgot down)
+        ∙ (b n ∙ ap book_of (down_talk h n down ∙ sym (down_talk k n still ∙ ap (λ ps. ended_talk ps n) (past_false p))))
+
+-- ## Turns
+
+-- the end of h does something that its sessions don't show
+pub told_same : (t : List Entry) (who : End) (h k : NumberedEnd) → k.side.shdlc.phase ≡ h.side.shdlc.phase → k.past ≡ h.past
+    → (h.side.shdlc.phase ≡ IsUpNow → number_of k ≡ number_of h) → book_of (talk_now k.side) ≡ book_of (talk_now h.side) → Told t who h → Told t who k
+told_same t who h k phase past number same b n = b n ∙ go h.side.shdlc.phase refl
+  where
+    up : h.side.shdlc.phase ≡ IsUpNow → book_of (talk_of h n) ≡ book_of (talk_of k n)
+    up p =
+        let m = number p in
+        let other : talk_of k n ≡ cond (n == number_of h) (talk_now k.side) (ended_talk h.past n) =
+        up_talk k n (phase ∙ p) ∙ (ap (λ x. cond (n == x) (talk_now k.side) (ended_talk k.past n)) m
+        ∙ ap (λ ps. cond (n == number_of h) (talk_now k.side) (ended_talk ps n)) past) in
+        ap book_of (up_talk h n p) ∙ (by (n == number_of h) ∙ sym (ap book_of other))
+      where
+        by : (x : Bool) → book_of (cond x (talk_now h.side) (ended_talk h.past n)) ≡ book_of (cond x (talk_now k.side) (ended_talk h.past n))
+        by true = sym same
+        by false = refl
+
+    idle : IsNotUp h.side.shdlc → book_of (talk_of h n) ≡ book_of (talk_of k n)
+    idle d =
+        let still : IsNotUp k.side.shdlc = λ u. d (sym phase ∙ u) in
+        ap book_of (down_talk h n d ∙ (ap (λ ps. ended_talk ps n) (sym past) ∙ sym (down_talk k n still)))
+
+    go : (p : LinkState) → h.side.shdlc.phase ≡ p → book_of (talk_of h n) ≡ book_of (talk_of k n)
+    go IsUpNow p = up p
+    go IsWaitingNow p = idle (λ u. let z = sym p ∙ u in cc)
+    go IsDown p = idle (λ u. let z = sym p ∙ u in cc)
+
+-- the end of h, which is e now
+abbrev pub with_side : NumberedEnd → LinkEnd → NumberedEnd
+with_side h e = record h { side = e }
+
+-- a message that is given can be sent
+abbrev pub IsSendableTurn : Turn → Type 0
+IsSendableTurn (Give m) = IsSendable m
+IsSendableTurn _ = Unit {0}
+
+given_up : (e : LinkEnd) (m : Message) → give_refusal e m ≡ None → e.shdlc.phase ≡ IsUpNow
+given_up e m q = go e.shdlc.phase refl
+  where
+    go : (p : LinkState) → e.shdlc.phase ≡ p → e.shdlc.phase ≡ IsUpNow
+    go IsUpNow p = p
+    go IsWaitingNow p = absurd (let z = rw p at q in cc)
+    go IsDown p = absurd (let z = rw p at q in cc)
+
+-- a message that is sent
+told_given : (t : List Entry) (who : End) (h : NumberedEnd) (m : Message) → IsSendable m → h.side.shdlc.phase ≡ IsUpNow → Data h.side → Told t who h
+    → Told (t ++ Sent who (number_of h) m ∷ []) who (with_side h (given h.side m))
+told_given t who h m s up d b n =
+    read-append t (Sent who (number_of h) m ∷ []) who n
+    ∙ (ap (λ x. plus x (read (Sent who (number_of h) m ∷ []) who n)) (b n ∙ ap book_of (up_talk h n up))
+    ∙ (by (n == number_of h) refl ∙ sym (ap book_of (up_talk (with_side h (given h.side m)) n up))))
+  where
+    j : ℕ
+    j = number_of h
+
+    count : 0 < packet_count (length m.1)
+    count = let l = s.1 in omega (arith, l)
+
+    whole : whole_among (h.side.sent ++ m ∷ []) h.side.shdlc.session.acked ≡ whole_acked h.side
+    whole =
+        let len = ap (λ (xs : List (List ℕ)). length xs) d.out in
+        let i = d.acked in let r = d.reached in
+        whole_given h.side.sent m h.side.shdlc.session.acked count (omega (arith, len, i, r))
+
+    now : plus (book_of (talk_now h.side)) (record { sent = m ∷ []; got = []; acked = 0 }) ≡ book_of (talk_now (given h.side m))
+    now = rw (append-nil (messages_got h.side.shdlc.session), max_zero (whole_acked h.side), whole) refl
+
+    by : (x : Bool) → (n == j) ≡ x → plus (book_of (cond (n == j) (talk_now h.side) (ended_talk h.past n))) (read (Sent who j m ∷ []) who n)
+        ≡ book_of (cond (n == j) (talk_now (given h.side m)) (ended_talk h.past n))
+    by true q = let a = eq_sym n j true q in let w = same_self who in rw (q, w, a) now
+    by false q = let a = eq_sym n j false q in let w = same_self who in rw (q, w, a) (plus-blank (book_of (ended_talk h.past n)))
+
+ready_session : (e : EndState) (r : Bool) → ((with_ready e r).session.acc ≡ e.session.acc) × ((with_ready e r).session.acked ≡ e.session.acked)
+    × ((with_ready e r).phase ≡ e.phase)
+ready_session e r =
+    ready_cases (λ f. (f.session.acc ≡ e.session.acc) × (f.session.acked ≡ e.session.acked) × (f.phase ≡ e.phase)) e r (refl, refl, refl)
+    (refl, refl, refl) (refl, refl, refl)
+
+told_nothing : (t : List Entry) (who : End) (h : NumberedEnd) → Told t who h → Told (t ++ []) who h
+told_nothing t who h b = told_silent t [] who h (λ w n. refl) b
+
+pub told_turn : (t : List Entry) (who : End) (h : NumberedEnd) (x : Turn) → IsSendableTurn x → Data h.side → Told t who h
+    → Told (t ++ turn_entry who (number_of h) h.side x) who (with_side h (turn h.side x))
+told_turn t who h (Give m) s d b = go (give_refusal h.side m) refl
+  where
+    go : (o : Option Refused) → give_refusal h.side m ≡ o → Told (t ++ turn_entry who (number_of h) h.side (Give m)) who (with_side h (turn h.side (Give m)))
+    go None q = rw q (told_given t who h m s (given_up h.side m q) d b)
+    go (Some why) q = rw q (told_nothing t who h b)
+told_turn t who h (Hold held) s d b =
+    let r = ready_session h.side.shdlc (not held) in
+    told_nothing t who (with_side h (turn h.side (Hold held)))
+    (told_same t who h (with_side h (turn h.side (Hold held))) r.2 refl (λ _. refl) (rw (r.0, r.1) refl) b)
+told_turn t who h FetchMessage s d b =
+    told_nothing t who (with_side h (turn h.side FetchMessage)) (told_same t who h (with_side h (turn h.side FetchMessage)) refl refl (λ _. refl) refl b)
+told_turn t who h Release s d b =
+    told_nothing t who (with_side h (turn h.side Release)) (told_same t who h (with_side h (turn h.side Release)) refl refl (λ _. refl) refl b)
+told_turn t who h SetAside s d b = go (aside_refusal h.side) refl
+  where
+    go : (o : Option Refused) → aside_refusal h.side ≡ o → Told (t ++ []) who (with_side h (turn h.side SetAside))
+    go None q =
+        rw q (told_nothing t who (with_side h (record h.side { aside = h.side.aside + 1 }))
+        (told_same t who h (with_side h (record h.side { aside = h.side.aside + 1 })) refl refl (λ _. refl) refl b))
+    go (Some why) q = rw q (told_nothing t who h b)
+
+-- a turn of the other end
+pub turn_far : (t : List Entry) (who : End) (k : ℕ) (e : LinkEnd) (x : Turn) (h : NumberedEnd) → Told t (far who) h
+    → Told (t ++ turn_entry who k e x) (far who) h
+turn_far t who k e (Hold held) h b = told_nothing t (far who) h b
+turn_far t who k e FetchMessage h b = told_nothing t (far who) h b
+turn_far t who k e SetAside h b = told_nothing t (far who) h b
+turn_far t who k e Release h b = told_nothing t (far who) h b
+turn_far t who k e (Give m) h b = go (give_refusal e m)
+  where
+    go : (o : Option Refused) → Told (t ++ sent_unless o who k m) (far who) h
+    go (Some why) = told_nothing t (far who) h b
+    go None = λ n.
+        let w = same_far who in
+        let none : read (Sent who k m ∷ []) (far who) n ≡ blank = rw w refl in
+        read-append t (Sent who k m ∷ []) (far who) n ∙ (ap (plus (read t (far who) n)) none ∙ (plus-blank (read t (far who) n) ∙ b n))

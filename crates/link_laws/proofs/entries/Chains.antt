@@ -1,0 +1,305 @@
+-- No session ends by a packet that can't be joined.
+use Rattle.std.proofs.Common.{◌≡◌, ℕ, Bool, true, false, List, [], ◌∷◌, ◌++◌, length, map, Option, Some, None, refl, sym, subst}
+use Rattle.std.specs.Prelude.{◌+◌, is_some, nat_lt, option_to_list}
+use Rattle.std.specs.List.{list_any}
+use Rattle.swp_base.specs.declared.control_frames.Control.{Control}
+use Rattle.swp_base.specs.declared.link_terms.Cause.{Cause}
+use Rattle.swp_base.specs.declared.link_terms.Cause.TheVariants.{Asked, NoAnswer, Peer, Act as ByAct, Chain}
+use Rattle.swp_act.specs.declared.ActEvent.TheVariants.{Tick as ActTick}
+use Rattle.shdlc_core.specs.declared.answers.LinkState.{LinkState}
+use Rattle.shdlc_core.specs.declared.answers.LinkState.TheVariants.{Down as IsDown, Waiting as IsWaitingNow, Up as IsUpNow}
+use Rattle.shdlc_core.specs.Machine.{EndState, tick_answer, runs_timer}
+use Rattle.link_laws.specs.sessions.Sessions.{OnWire, took_with}
+use Rattle.link_laws.specs.machine.Machine.{Message, LinkEnd, Role, Refused, LinkInput, Turn, Report, report, turn, turned, give_refusal, is_open}
+use Rattle.link_laws.specs.machine.Machine.{reset_refusal}
+use Rattle.link_laws.specs.machine.Machine.{if_up, after_input, ended_by, whole_acked, frames_out}
+use Rattle.link_laws.specs.machine.Machine.LinkInput.{Take, Tick as HasTick, Reset, Start, Stop}
+use Rattle.link_laws.specs.machine.Machine.Role.{Bare, Clf, Uicc}
+use Rattle.link_laws.specs.machine.Machine.Turn.{Give, Hold, FetchMessage, SetAside, Release}
+use Rattle.link_laws.specs.messages.Links.{NumberedEnd, Link, IsStart, Ending, Comes, Loss, EndEvent, Node, LinkEvent, exchanged, number_of, put}
+use Rattle.link_laws.specs.messages.Links.{with_ended, silent}
+use Rattle.link_laws.specs.messages.Links.{steps_at_controller, happens_at_controller, happens, all_at_controller, ticks_at_controller, aged}
+use Rattle.link_laws.specs.messages.Links.{AreOwn, IsOwn, IsEvent}
+use Rattle.link_laws.specs.messages.Links.{AllAllowed}
+use Rattle.link_laws.specs.messages.Links.Ending.{GoesOut, CutOff}
+use Rattle.link_laws.specs.messages.Links.Loss.{TooMany}
+use Rattle.link_laws.specs.messages.Links.Comes.{NextFrame, AsksReset, Starts, Stops, NoInput}
+use Rattle.link_laws.specs.messages.Links.EndEvent.{Step, Lose}
+use Rattle.link_laws.specs.messages.Links.LinkEvent.{AtController, AtHost, Ticks, TicksWithout, Activate}
+use Rattle.link_laws.specs.messages.Projection.{core_of, core_event}
+use Rattle.link_laws.proofs.messages.Steps.{FromHost, core_first, no_fault_first}
+use Rattle.link_laws.proofs.messages.Runs.{Good, Reached, event_step, reached_more, from_host, from_controller}
+use Rattle.link_laws.proofs.messages.Whole.{not_chain, act_not_chain, start_good, start_reached}
+use Rattle.link_laws.specs.entries.Entries.{End, Entry, far, if_so, told, told_of, turn_entry, turn_entries, sent_unless, first_lost, wire_with, pushed_out}
+use Rattle.link_laws.specs.entries.Entries.{put_entries, puts_entries, ending_entries, rest_entries, left_after, taken_entries, step_entries, here_entries}
+use Rattle.link_laws.specs.entries.Entries.{entries_of_events, aged_entries, tick_entries, event_entries, entries, first_entries, trace}
+use Rattle.link_laws.specs.entries.Entries.End.{Controller, Host}
+use Rattle.link_laws.specs.entries.Entries.Entry.{Up, Down, Active, GaveUp, Acked, Got}
+use Rattle.link_laws.specs.entries.Order.{is_noted_chain_fault}
+
+-- none of these tells of a chain fault
+abbrev NoChain : List Entry → Type 0
+NoChain [] = Unit {0}
+NoChain (e ∷ t) = (is_noted_chain_fault e ≡ false) × NoChain t
+
+more : (t u : List Entry) → NoChain t → NoChain u → NoChain (t ++ u)
+more [] u a b = b
+more (e ∷ t) u a b = (a.0, more t u a.1 b)
+
+-- the causes of the other ends of sessions
+abbrev IsOther : Option Cause → Type 0
+IsOther o = o ≡ Some Chain → ⊥
+
+chain_ended : (who : End) (o : Option Cause) → IsOther o → NoChain (map (Down who) (option_to_list o))
+chain_ended who None n = tt
+chain_ended who (Some Chain) n = absurd (n refl)
+chain_ended who (Some Asked) n = (refl, tt)
+chain_ended who (Some NoAnswer) n = (refl, tt)
+chain_ended who (Some Peer) n = (refl, tt)
+chain_ended who (Some ByAct) n = (refl, tt)
+
+chain_so : (b : Bool) (e : Entry) → is_noted_chain_fault e ≡ false → NoChain (if_so b e)
+chain_so false e p = tt
+chain_so true e p = (p, tt)
+
+chain_option : {A : Type 0} (f : A → Entry) (o : Option A) → ((x : A) → is_noted_chain_fault (f x) ≡ false) → NoChain (map f (option_to_list o))
+chain_option f None p = tt
+chain_option f (Some x) p = (p x, tt)
+
+chain_got : (who : End) (k : ℕ) (ms : List Message) → NoChain (map (Got who k) ms)
+chain_got who k [] = tt
+chain_got who k (m ∷ ms) = (refl, chain_got who k ms)
+
+chain_told : (who : End) (k : ℕ) (r : Report) (acked : ℕ) → IsOther r.ended → NoChain (told who k r acked)
+chain_told who k r acked n =
+    let e : List Entry = if_so (nat_lt 0 r.acked) (Acked who k acked) ++ map (Got who k) r.got in
+    let d : List Entry = map (GaveUp who) (option_to_list r.gave_up) ++ e in
+    let c : List Entry = if_so r.became_active (Active who) ++ d in
+    more (map (Down who) (option_to_list r.ended)) (if_so r.began (Up who k) ++ c) (chain_ended who r.ended n)
+    (more (if_so r.began (Up who k)) c (chain_so r.began (Up who k) refl)
+    (more (if_so r.became_active (Active who)) d (chain_so r.became_active (Active who) refl)
+    (more (map (GaveUp who) (option_to_list r.gave_up)) e (chain_option (GaveUp who) r.gave_up (λ x. refl))
+    (more (if_so (nat_lt 0 r.acked) (Acked who k acked)) (map (Got who k) r.got) (chain_so (nat_lt 0 r.acked) (Acked who k acked) refl)
+    (chain_got who k r.got)))))
+
+chain_turn : (who : End) (k : ℕ) (e : LinkEnd) (t : Turn) → NoChain (turn_entry who k e t)
+chain_turn who k e (Give m) = go (give_refusal e m)
+  where
+    go : (o : Option Refused) → NoChain (sent_unless o who k m)
+    go None = (refl, tt)
+    go (Some why) = tt
+chain_turn who k e (Hold held) = tt
+chain_turn who k e FetchMessage = tt
+chain_turn who k e SetAside = tt
+chain_turn who k e Release = tt
+
+chain_turns : (who : End) (k : ℕ) (e : LinkEnd) (ts : List Turn) → NoChain (turn_entries who k e ts)
+chain_turns who k e [] = tt
+chain_turns who k e (t ∷ ts) = more (turn_entry who k e t) (turn_entries who k (turn e t) ts) (chain_turn who k e t) (chain_turns who k (turn e t) ts)
+
+chain_lost : (who : End) (why : Loss) (w : List OnWire) → NoChain (first_lost who why w)
+chain_lost who why [] = tt
+chain_lost who why (x ∷ xs) = (refl, tt)
+
+chain_pushed : (who : End) (w : List OnWire) → NoChain (pushed_out who w)
+chain_pushed who w = go (nat_lt 64 (length w)) refl
+  where
+    go : (b : Bool) → nat_lt 64 (length w) ≡ b → NoChain (pushed_out who w)
+    go true q = rw q (chain_lost who TooMany w)
+    go false q = rw q tt
+
+chain_puts : (cs : List Control) (who : End) (l : Link) → NoChain (puts_entries who l cs)
+chain_puts [] who l = tt
+chain_puts (c ∷ cs) who l =
+    more (put_entries who l c) (puts_entries who (put l c) cs) (refl, chain_pushed (far who) (wire_with l c)) (chain_puts cs who (put l c))
+
+chain_ending : (who : End) (l : Link) (e : LinkEnd) (ending : Ending) → NoChain (ending_entries who l e ending)
+chain_ending who l e GoesOut = chain_puts (frames_out e) who l
+chain_ending who l e CutOff = (refl, tt)
+
+chain_rest : (who : End) (l : Link) (e : LinkEnd) (ts : List Turn) (ending : Ending) → NoChain (rest_entries who l e ts ending)
+chain_rest who l e ts ending =
+    more (turn_entries who (number_of l.controller) e ts) (ending_entries who l (turned e ts) ending) (chain_turns who (number_of l.controller) e ts)
+    (chain_ending who l (turned e ts) ending)
+
+chain_input : (who : End) (k : Link) (h : NumberedEnd) (i : LinkInput) (e : LinkEnd) (ts : List Turn) (ending : Ending) → IsOther (ended_by h.side i)
+    → NoChain (told_of who h i ++ rest_entries who k e ts ending)
+chain_input who k h i e ts ending n =
+    more (told_of who h i) (rest_entries who k e ts ending) (chain_told who (number_of h) (report h.side i) (whole_acked (after_input h.side i)) n)
+    (chain_rest who k e ts ending)
+
+-- ## Causes
+
+if_up_other : (s : EndState) (cause : Cause) → (cause ≡ Chain → ⊥) → IsOther (if_up s cause)
+if_up_other s cause n q = go s.phase refl
+  where
+    go : (p : LinkState) → s.phase ≡ p → ⊥
+    go IsUpNow p = let z = rw p at q in n (cc)
+    go IsWaitingNow p = let z = rw p at q in cc
+    go IsDown p = let z = rw p at q in cc
+
+reset_other : (e : LinkEnd) (window : Option ℕ) → IsOther (ended_by e (Reset window))
+reset_other e window q = go (reset_refusal e) refl
+  where
+    go : (o : Option Refused) → reset_refusal e ≡ o → ⊥
+    go None p = if_up_other e.shdlc Asked (λ z. cc) (let z = q in rw p at z)
+    go (Some why) p = let z = rw p at q in cc
+
+tick_other : (e : LinkEnd) → IsOther (ended_by e HasTick)
+tick_other e q = go (is_open e.role) refl
+  where
+    shdlc : (tick_answer e.shdlc).ended ≡ Some Chain → ⊥
+    shdlc z = by e.shdlc.phase (runs_timer e.shdlc.session) (nat_lt (e.shdlc.timer + 1) 10) (nat_lt e.shdlc.tries 5) refl refl refl refl
+      where
+        by : (p : LinkState) (a b c : Bool) → e.shdlc.phase ≡ p → runs_timer e.shdlc.session ≡ a → nat_lt (e.shdlc.timer + 1) 10
+            ≡ b → nat_lt e.shdlc.tries 5 ≡ c → ⊥
+        by IsDown a b c p u v w = let y = rw p at z in cc
+        by IsUpNow false b c p u v w = let y = rw (p, u) at z in cc
+        by IsUpNow true true c p u v w = let y = rw (p, u, v) at z in cc
+        by IsUpNow true false true p u v w = let y = rw (p, u, v, w) at z in cc
+        by IsUpNow true false false p u v w = let y = rw (p, u, v, w) at z in cc
+        by IsWaitingNow a true c p u v w = let y = rw (p, v) at z in cc
+        by IsWaitingNow a false true p u v w = let y = rw (p, v, w) at z in cc
+        by IsWaitingNow a false false p u v w = let y = rw (p, v, w) at z in cc
+
+    go : (o : Bool) → is_open e.role ≡ o → ⊥
+    go true o = shdlc (let z = q in rw o at z)
+    go false o = act_not_chain e ActTick (let z = q in rw o at z)
+
+-- ## Steps and events
+
+-- the first frame on the wire doesn't bring one
+abbrev Joins : Link → Type 0
+Joins l = (x : OnWire) (xs : List OnWire) → l.to_controller ≡ x ∷ xs → IsOther (ended_by l.controller.side (Take x.frame))
+
+abbrev JoinsFor : Comes → Link → Type 0
+JoinsFor NextFrame l = Joins l
+JoinsFor _ l = Unit {0}
+
+chain_step : (who : End) (l : Link) (comes : Comes) (ts : List Turn) (ending : Ending) → JoinsFor comes l → NoChain (step_entries who l comes ts ending)
+chain_step who l NextFrame ts ending j = go l.to_controller refl
+  where
+    P : List Entry → Type 0
+    P u = NoChain u
+
+    go : (w : List OnWire) → l.to_controller ≡ w → NoChain (step_entries who l NextFrame ts ending)
+    go [] q = let none : step_entries who l NextFrame ts ending ≡ [] = rw q refl in subst P (sym none) tt
+    go (x ∷ xs) q =
+        let some : step_entries who l NextFrame ts ending ≡ taken_entries who l x xs ts ending = rw q refl in
+        subst P (sym some) (
+          refl,
+          chain_input who (left_after l x xs) (record l.controller { took = took_with l.controller.took x }) (Take x.frame)
+              (after_input l.controller.side (Take x.frame)) ts ending (j x xs q),
+        )
+chain_step who l (AsksReset window) ts ending j =
+    chain_input who (with_ended l (is_some (ended_by l.controller.side (Reset window)))) l.controller (Reset window)
+    (after_input l.controller.side (Reset window)) ts ending
+    (reset_other l.controller.side window)
+chain_step who l (Starts v) ts ending j = (
+  refl,
+  chain_input who (silent l (after_input l.controller.side (Start v))) l.controller (Start v) (after_input l.controller.side (Start v)) ts ending
+      (if_up_other l.controller.side.shdlc ByAct (λ z. cc)),
+)
+chain_step who l Stops ts ending j = (
+  refl,
+  chain_input who (silent l (after_input l.controller.side Stop)) l.controller Stop (after_input l.controller.side Stop) ts ending
+      (if_up_other l.controller.side.shdlc ByAct (λ z. cc)),
+)
+chain_step who l NoInput ts ending j = chain_rest who l l.controller.side ts ending
+
+chain_here : (who : End) (l : Link) (e : EndEvent) → Joins l → NoChain (here_entries who l e)
+chain_here who l (Step NextFrame ts ending) j = chain_step who l NextFrame ts ending j
+chain_here who l (Step (AsksReset window) ts ending) j = chain_step who l (AsksReset window) ts ending tt
+chain_here who l (Step (Starts v) ts ending) j = chain_step who l (Starts v) ts ending tt
+chain_here who l (Step Stops ts ending) j = chain_step who l Stops ts ending tt
+chain_here who l (Step NoInput ts ending) j = chain_step who l NoInput ts ending tt
+chain_here who l (Lose why) j = chain_lost who why l.to_controller
+
+chain_own : (who : End) (l : Link) (e : EndEvent) → IsOwn e → NoChain (here_entries who l e)
+chain_own who l (Step NextFrame ts ending) o = absurd o
+chain_own who l (Step (AsksReset window) ts ending) o = chain_step who l (AsksReset window) ts ending tt
+chain_own who l (Step (Starts v) ts ending) o = chain_step who l (Starts v) ts ending tt
+chain_own who l (Step Stops ts ending) o = chain_step who l Stops ts ending tt
+chain_own who l (Step NoInput ts ending) o = chain_step who l NoInput ts ending tt
+chain_own who l (Lose why) o = absurd o
+
+chain_all : (who : End) (es : List EndEvent) (l : Link) → AreOwn l es → NoChain (entries_of_events who l es)
+chain_all who [] l a = tt
+chain_all who (e ∷ es) l a =
+    more (here_entries who l e) (entries_of_events who (happens_at_controller l e) es) (chain_own who l e a.0)
+    (chain_all who es (happens_at_controller l e) a.2)
+
+chain_tick : (who : End) (l : Link) (node : Node) → NoChain (tick_entries who l node)
+chain_tick who l node =
+    chain_input who (with_ended l (is_some (ended_by l.controller.side HasTick))) l.controller HasTick (after_input l.controller.side HasTick)
+    node.turns node.ending
+    (tick_other l.controller.side)
+
+chain_aged : (who : End) (w : List OnWire) → NoChain (aged_entries who w)
+chain_aged who [] = tt
+chain_aged who (x ∷ xs) = by (nat_lt x.age 4) refl (chain_aged who xs)
+  where
+    by : (b : Bool) → nat_lt x.age 4 ≡ b → NoChain (aged_entries who xs) → NoChain (aged_entries who (x ∷ xs))
+    by true q later = rw q later
+    by false q later = rw q (refl, later)
+
+joins_here : (l : Link) → Good l → Reached (core_of l) → Joins l
+joins_here l g r x xs q =
+    not_chain l.controller.side x.frame
+    (λ o. no_fault_first l x xs q g.controller g.host o (subst FromHost (core_first (core_of l) [] x xs q) (from_host (core_of l) r)))
+
+joins_there : (l : Link) → Good l → Reached (core_of l) → Joins (exchanged l)
+joins_there l g r x xs q =
+    let k : Link = exchanged l in
+    not_chain l.host.side x.frame
+    (λ o. no_fault_first k x xs q g.host g.controller o (subst FromHost (core_first (core_of k) [] x xs q) (from_controller (core_of l) r)))
+
+chain_event : (l : Link) (e : LinkEvent) → IsEvent l e → Good l → Reached (core_of l) → NoChain (event_entries l e)
+chain_event l (AtController e) a g r = chain_here Controller l e (joins_here l g r)
+chain_event l (AtHost e) a g r = chain_here Host (exchanged l) e (joins_there l g r)
+chain_event l (Ticks c es h) a g r =
+    let near : Link = ticks_at_controller (aged l) c.turns c.ending in
+    let ds : List Entry = entries_of_events Controller near es in
+    let fs : List Entry = tick_entries Host (exchanged (all_at_controller near es)) h in
+    let cs : List Entry = tick_entries Controller (aged l) c in (
+      refl,
+      more (aged_entries Controller l.to_controller) (aged_entries Host l.to_host ++ (cs ++ (ds ++ fs))) (chain_aged Controller l.to_controller)
+          (more (aged_entries Host l.to_host) (cs ++ (ds ++ fs)) (chain_aged Host l.to_host)
+          (more cs (ds ++ fs) (chain_tick Controller (aged l) c)
+          (more ds fs (chain_all Controller es near a.1) (chain_tick Host (exchanged (all_at_controller near es)) h)))),
+    )
+chain_event l (TicksWithout es h) a g r =
+    let ds : List Entry = entries_of_events Controller (aged l) es in
+    let fs : List Entry = tick_entries Host (exchanged (all_at_controller (aged l) es)) h in (
+      refl,
+      more (aged_entries Controller l.to_controller) (aged_entries Host l.to_host ++ (ds ++ fs)) (chain_aged Controller l.to_controller)
+          (more (aged_entries Host l.to_host) (ds ++ fs) (chain_aged Host l.to_host)
+          (more ds fs (chain_all Controller es (aged l) a.1) (chain_tick Host (exchanged (all_at_controller (aged l) es)) h))),
+    )
+chain_event l (Activate power c id h) a g r =
+    more (step_entries Controller l (Starts power) c.turns c.ending)
+    (step_entries Host (exchanged (steps_at_controller l (Starts power) c.turns c.ending)) (Starts id) h.turns h.ending)
+    (chain_step Controller l (Starts power) c.turns c.ending tt)
+    (chain_step Host (exchanged (steps_at_controller l (Starts power) c.turns c.ending)) (Starts id) h.turns h.ending tt)
+
+chain_events : (events : List LinkEvent) (l : Link) → AllAllowed l events → Good l → Reached (core_of l) → NoChain (entries l events)
+chain_events [] l a g r = tt
+chain_events (e ∷ es) l a g r =
+    let st = event_step l e a.0 g r in
+    let next : Reached (core_of (happens l e)) = subst Reached (sym st.core) (reached_more (core_of l) (core_event l e) st.allowed r) in
+    more (event_entries l e) (entries (happens l e) es) (chain_event l e a.0 g r) (chain_events es (happens l e) a.1 st.good next)
+
+first_chain : (r : Role) → NoChain (first_entries r)
+first_chain Bare = (refl, (refl, tt))
+first_chain (Clf s) = tt
+first_chain (Uicc s) = tt
+
+none_any : (t : List Entry) → NoChain t → list_any is_noted_chain_fault t ≡ false
+none_any [] a = refl
+none_any (e ∷ t) a = rw (a.0) (none_any t a.1)
+
+pub no_chain_noted : (l : Link) → IsStart l → (events : List LinkEvent) → AllAllowed l events → list_any is_noted_chain_fault (trace l events) ≡ false
+no_chain_noted l s events a =
+    none_any (trace l events)
+    (more (first_entries l.controller.side.role) (entries l events) (first_chain l.controller.side.role)
+    (chain_events events l a (start_good l s) (start_reached l s)))

@@ -1,0 +1,339 @@
+-- What is noted of a step of an end says which session it has.
+use Rattle.std.proofs.Common.{◌≡◌, ℕ, Bool, true, false, List, [], ◌∷◌, ◌++◌, map, Option, Some, None, refl, ap, sym, subst, ◌∙◌}
+use Rattle.std.specs.Prelude.{is_some, nat_lt, option_to_list, max, length, if◌then◌else◌}
+use Rattle.std.specs.List.{fold}
+use Rattle.std.proofs.lemmas.List.Sums.{fold-append}
+use Rattle.swp_base.specs.declared.control_frames.Control.{Control}
+use Rattle.swp_base.specs.declared.link_terms.Cause.{Cause as EndedBy}
+use Rattle.shdlc_core.specs.declared.answers.LinkState.{LinkState}
+use Rattle.shdlc_core.specs.declared.answers.LinkState.TheVariants.{Down as IsDown, Waiting as IsWaitingNow, Up as IsUpNow}
+use Rattle.shdlc_core.specs.Machine.{most_frames}
+use Rattle.link_laws.specs.sessions.Sessions.{OnWire, is_up, took_with}
+use Rattle.link_laws.specs.machine.Machine.{LinkEnd, Refused, LinkInput, Turn, Report, report, turn, turned, give_refusal, took, after_input, ended_by}
+use Rattle.link_laws.specs.machine.Machine.{began_by}
+use Rattle.link_laws.specs.machine.Machine.{whole_acked, frames_out}
+use Rattle.link_laws.specs.machine.Machine.LinkInput.{Take, Tick as HasTick, Reset}
+use Rattle.link_laws.specs.machine.Machine.Turn.{Give, Hold, FetchMessage, SetAside, Release}
+use Rattle.link_laws.proofs.machine.Shifts.{Shift, IsNotUp}
+use Rattle.link_laws.proofs.machine.Shifts.Shift.{Stays, Ends, Renews, Begins, Rests as ShiftRests}
+use Rattle.link_laws.proofs.machine.Reports.{Reports, take_so, tick_so, reset_so}
+use Rattle.link_laws.specs.messages.Links.{NumberedEnd, Link, Loss, Ending, Node, EndEvent, number_of, put, becomes, silent, finished, with_ended, has_taken}
+use Rattle.link_laws.specs.messages.Links.{happens_at_controller, ticks_at_controller, IsNode, IsAllowed, IsOwn}
+use Rattle.link_laws.specs.messages.Links.Ending.{GoesOut, CutOff}
+use Rattle.link_laws.specs.messages.Links.Comes.{NextFrame, AsksReset, Starts, Stops, NoInput}
+use Rattle.link_laws.specs.messages.Links.EndEvent.{Step, Lose}
+use Rattle.link_laws.specs.messages.Links.Loss.{TooMany}
+use Rattle.link_laws.proofs.messages.Ends.{frames_alike}
+use Rattle.link_laws.specs.entries.Entries.{End, Entry, far, if_so, told, told_of, turn_entry, turn_entries, sent_unless, first_lost, wire_with, put_entries}
+use Rattle.link_laws.specs.entries.Entries.{puts_entries, rest_entries, input_entries, restart_entries, step_entries, here_entries, tick_entries, left_after}
+use Rattle.link_laws.specs.entries.Entries.{taken_entries, aged_entries}
+use Rattle.link_laws.specs.entries.Entries.Entry.{Up, Down, Active, GaveUp, Acked, Got, Cut}
+use Rattle.link_laws.specs.entries.Sessions.{hear, number_now}
+use Rattle.link_laws.proofs.entries.Books.{same_self, same_far, with_side}
+use Rattle.link_laws.proofs.entries.Stepping.{puts_number, CanFinish}
+use Rattle.link_laws.proofs.entries.Noting.{turned_same, IsQuietEnd, Near, Frame, Frames, ended_number, IsRestart, start_restarts, stop_restarts}
+use Rattle.link_laws.proofs.entries.Noting.{idle_finishes}
+use Rattle.link_laws.proofs.entries.Noting.{tick_finishes, reset_finishes, take_finishes, restart_finishes}
+use Rattle.link_laws.proofs.entries.Completing.{new_not_up}
+use Rattle.link_laws.proofs.entries.Running.{Before, frame_facts, near_of}
+use Rattle.swp_act.specs.declared.ActEvent.{ActEvent}
+
+-- ## Sessions
+
+pub up_session : (h : NumberedEnd) → h.side.shdlc.phase ≡ IsUpNow → number_now h ≡ Some (number_of h)
+up_session h p = rw p refl
+
+pub down_session : (h : NumberedEnd) → IsNotUp h.side.shdlc → number_now h ≡ None
+down_session h down = go h.side.shdlc.phase refl
+  where
+    go : (p : LinkState) → h.side.shdlc.phase ≡ p → number_now h ≡ None
+    go IsUpNow p = absurd (down p)
+    go IsWaitingNow p = rw p refl
+    go IsDown p = rw p refl
+
+-- an end that has a session is up, and this is its number
+pub session_up : (h : NumberedEnd) (n : ℕ) → number_now h ≡ Some n → (h.side.shdlc.phase ≡ IsUpNow) × (number_of h ≡ n)
+session_up h n q = go h.side.shdlc.phase refl
+  where
+    go : (p : LinkState) → h.side.shdlc.phase ≡ p → (h.side.shdlc.phase ≡ IsUpNow) × (number_of h ≡ n)
+    go IsUpNow p = (p, (let z : Some (number_of h) ≡ Some n = sym (up_session h p) ∙ q in cc))
+    go IsWaitingNow p = absurd (let z : None ≡ Some n = rw p at q in cc)
+    go IsDown p = absurd (let z : None ≡ Some n = rw p at q in cc)
+
+-- two ends in the same phase with the same number
+pub same_session : (a b : NumberedEnd) → a.side.shdlc.phase ≡ b.side.shdlc.phase → (b.side.shdlc.phase ≡ IsUpNow → number_of a ≡ number_of b)
+    → number_now a ≡ number_now b
+same_session a b p n = go b.side.shdlc.phase refl
+  where
+    go : (y : LinkState) → b.side.shdlc.phase ≡ y → number_now a ≡ number_now b
+    go IsUpNow q = up_session a (p ∙ q) ∙ (ap (λ m. Some m) (n q) ∙ sym (up_session b q))
+    go IsWaitingNow q = down_session a (λ u. let z = sym (p ∙ q) ∙ u in cc) ∙ sym (down_session b (λ u. let z = sym q ∙ u in cc))
+    go IsDown q = down_session a (λ u. let z = sym (p ∙ q) ∙ u in cc) ∙ sym (down_session b (λ u. let z = sym q ∙ u in cc))
+
+-- ## What is heard of them
+
+-- after these entries, one after another
+abbrev pub heard : End → Option ℕ → List Entry → Option ℕ
+heard who s t = fold (hear who) s t
+
+pub heard-append : (who : End) (s : Option ℕ) (t u : List Entry) → heard who s (t ++ u) ≡ heard who (heard who s t) u
+heard-append who s t u = fold-append (hear who) s t u
+
+-- these say nothing of the sessions of an end
+abbrev pub Passes : End → List Entry → Type 0
+Passes who t = (s : Option ℕ) → heard who s t ≡ s
+
+pub passes-append : (who : End) (t u : List Entry) → Passes who t → Passes who u → Passes who (t ++ u)
+passes-append who t u p q s = heard-append who s t u ∙ (ap (λ z. heard who z u) (p s) ∙ q s)
+
+passes_so : (who : End) (b : Bool) (e : Entry) → Passes who (e ∷ []) → Passes who (if_so b e)
+passes_so who false e p s = refl
+passes_so who true e p s = p s
+
+passes_map : {A : Type 0} (who : End) (f : A → Entry) (xs : List A) → ((x : A) → Passes who (f x ∷ [])) → Passes who (map f xs)
+passes_map who f [] p s = refl
+passes_map who f (x ∷ xs) p s = ap (λ z. heard who z (map f xs)) (p x s) ∙ passes_map who f xs p s
+
+-- what is told behind the end and the beginning of a session
+abbrev told_rest : End → ℕ → Report → ℕ → List Entry
+told_rest who n r acked =
+    if_so r.became_active (Active who)
+    ++ (map (GaveUp who) (option_to_list r.gave_up) ++ (if_so (nat_lt 0 r.acked) (Acked who n acked) ++ map (Got who n) r.got))
+
+passes_told_rest : (w who : End) (n : ℕ) (r : Report) (acked : ℕ) → Passes w (told_rest who n r acked)
+passes_told_rest w who n r acked =
+    let a = passes-append w (if_so (nat_lt 0 r.acked) (Acked who n acked)) (map (Got who n) r.got)
+    (passes_so w (nat_lt 0 r.acked) (Acked who n acked) (λ s. refl)) (passes_map w (Got who n) r.got (λ m s. refl)) in
+    let b = passes-append w (map (GaveUp who) (option_to_list r.gave_up)) (if_so (nat_lt 0 r.acked) (Acked who n acked) ++ map (Got who n) r.got)
+    (passes_map w (GaveUp who) (option_to_list r.gave_up) (λ m s. refl)) a in
+    passes-append w (if_so r.became_active (Active who))
+    (map (GaveUp who) (option_to_list r.gave_up) ++ (if_so (nat_lt 0 r.acked) (Acked who n acked) ++ map (Got who n) r.got))
+    (passes_so w r.became_active (Active who) (λ s. refl)) b
+
+-- nothing is told of the other end
+passes_told : (who : End) (n : ℕ) (r : Report) (acked : ℕ) → Passes (far who) (told who n r acked)
+passes_told who n r acked =
+    let q = same_far who in
+    let b = passes-append (far who) (if_so r.began (Up who n)) (told_rest who n r acked) (passes_so (far who) r.began (Up who n) (λ s. rw q refl))
+    (passes_told_rest (far who) who n r acked) in
+    passes-append (far who) (map (Down who) (option_to_list r.ended)) (if_so r.began (Up who n) ++ told_rest who n r acked)
+    (passes_map (far who) (Down who) (option_to_list r.ended) (λ c s. rw q refl)) b
+
+-- the session of an end whose session ended or not, and where one with this number began or not
+abbrev pub after_told : Bool → Bool → ℕ → Option ℕ → Option ℕ
+after_told ended began n s = if began then Some n else (if ended then None else s)
+
+heard_down : (who : End) (o : Option EndedBy) (s : Option ℕ) → heard who s (map (Down who) (option_to_list o)) ≡ (if is_some o then None else s)
+heard_down who None s = refl
+heard_down who (Some c) s = let q = same_self who in rw q refl
+
+heard_up : (who : End) (b : Bool) (n : ℕ) (s : Option ℕ) → heard who s (if_so b (Up who n)) ≡ (if b then Some n else s)
+heard_up who false n s = refl
+heard_up who true n s = let q = same_self who in rw q refl
+
+pub heard_told : (who : End) (n : ℕ) (r : Report) (acked : ℕ) (s : Option ℕ) → heard who s (told who n r acked) ≡ after_told (is_some r.ended) r.began n s
+heard_told who n r acked s =
+    let first : Option ℕ = if is_some r.ended then None else s in
+    heard-append who s (map (Down who) (option_to_list r.ended)) (if_so r.began (Up who n) ++ told_rest who n r acked)
+    ∙ (ap (λ z. heard who z (if_so r.began (Up who n) ++ told_rest who n r acked)) (heard_down who r.ended s)
+    ∙ (heard-append who first (if_so r.began (Up who n)) (told_rest who n r acked)
+    ∙ (passes_told_rest who who n r acked (heard who first (if_so r.began (Up who n))) ∙ heard_up who r.began n first)))
+
+-- what becomes of the session of h as it becomes k
+pub shifted : (h k : NumberedEnd) (ended began : Bool) → Shift h.side.shdlc k.side.shdlc ended began
+    → (h.side.shdlc.phase ≡ IsUpNow → ended ≡ false → number_of k ≡ number_of h) → after_told ended began (number_of k) (number_now h) ≡ number_now k
+shifted h k ended began (Stays p q g) same =
+    rw (p, q) (up_session h g.was ∙ (ap (λ m. Some m) (sym (same g.was p)) ∙ sym (up_session k g.is)))
+shifted h k ended began (Ends p q up still s) same = rw (p, q) (sym (down_session k still))
+shifted h k ended began (Renews p q up new) same = rw q (sym (up_session k new.is))
+shifted h k ended began (Begins p q down new) same = rw q (sym (up_session k new.is))
+shifted h k ended began (ShiftRests p q down still s) same = rw (p, q) (down_session h down ∙ sym (down_session k still))
+
+-- ## Turns and frames
+
+passes_turn : (w who : End) (n : ℕ) (e : LinkEnd) (t : Turn) → Passes w (turn_entry who n e t)
+passes_turn w who n e (Give m) = go (give_refusal e m)
+  where
+    go : (o : Option Refused) → Passes w (sent_unless o who n m)
+    go None s = refl
+    go (Some why) s = refl
+passes_turn w who n e (Hold held) = λ s. refl
+passes_turn w who n e FetchMessage = λ s. refl
+passes_turn w who n e SetAside = λ s. refl
+passes_turn w who n e Release = λ s. refl
+
+pub passes_turns : (w who : End) (n : ℕ) (e : LinkEnd) (ts : List Turn) → Passes w (turn_entries who n e ts)
+passes_turns w who n e [] = λ s. refl
+passes_turns w who n e (t ∷ ts) =
+    passes-append w (turn_entry who n e t) (turn_entries who n (turn e t) ts) (passes_turn w who n e t) (passes_turns w who n (turn e t) ts)
+
+pub passes_lost : (w who : End) (why : Loss) (xs : List OnWire) → Passes w (first_lost who why xs)
+passes_lost w who why [] = λ s. refl
+passes_lost w who why (x ∷ xs) = λ s. refl
+
+passes_pushed : (w who : End) (b : Bool) (xs : List OnWire) → Passes w (if b then first_lost who TooMany xs else [])
+passes_pushed w who true xs = passes_lost w who TooMany xs
+passes_pushed w who false xs = λ s. refl
+
+passes_puts : (w who : End) (cs : List Control) (l : Link) → Passes w (puts_entries who l cs)
+passes_puts w who [] l = λ s. refl
+passes_puts w who (c ∷ cs) l =
+    passes-append w (put_entries who l c) (puts_entries who (put l c) cs)
+    (passes_pushed w (far who) (nat_lt 64 (length (wire_with l c))) (wire_with l c)) (passes_puts w who cs (put l c))
+
+pub passes_aged : (w who : End) (xs : List OnWire) → Passes w (aged_entries who xs)
+passes_aged w who [] = λ s. refl
+passes_aged w who (x ∷ xs) = go (nat_lt x.age 4) refl (passes_aged w who xs)
+  where
+    go : (b : Bool) → nat_lt x.age 4 ≡ b → Passes w (aged_entries who xs) → Passes w (aged_entries who (x ∷ xs))
+    go true q later s = rw q (later s)
+    go false q later s = rw q (later s)
+
+passes_out : (w who : End) (l : Link) (e : LinkEnd) (ts : List Turn) → Passes w (rest_entries who l e ts GoesOut)
+passes_out w who l e ts =
+    passes-append w (turn_entries who (number_of l.controller) e ts) (puts_entries who l (frames_out (turned e ts)))
+    (passes_turns w who (number_of l.controller) e ts) (passes_puts w who (frames_out (turned e ts)) l)
+
+-- nothing of the other end
+rest_far : (who : End) (l : Link) (e : LinkEnd) (ts : List Turn) (ending : Ending) → Passes (far who) (rest_entries who l e ts ending)
+rest_far who l e ts GoesOut = passes_out (far who) who l e ts
+rest_far who l e ts CutOff =
+    passes-append (far who) (turn_entries who (number_of l.controller) e ts) (Cut who ∷ []) (passes_turns (far who) who (number_of l.controller) e ts)
+    (λ s. let q = same_far who in rw q refl)
+
+-- a step without an input keeps the session
+rest_session : (l : Link) (e : LinkEnd) (ts : List Turn) → IsQuietEnd e ts
+    → number_now (becomes l (turned e ts)).controller ≡ number_now (with_side l.controller e)
+rest_session l e ts quiet =
+    let f : LinkEnd = turned e ts in
+    same_session (becomes l f).controller (with_side l.controller e) ((frames_alike most_frames f.shdlc).phase ∙ turned_same ts e)
+    (λ up. puts_number l (frames_out f) (quiet (turned_same ts e ∙ up)))
+
+-- turns of the node of an end that is e by now, and how the step ends
+rest_heard : (who : End) (l : Link) (e : LinkEnd) (ts : List Turn) (ending : Ending) → CanFinish e ts ending
+    → heard who (number_now (with_side l.controller e)) (rest_entries who l e ts ending) ≡ number_now (finished l (turned e ts) ending).controller
+rest_heard who l e ts GoesOut finishes = passes_out who who l e ts (number_now (with_side l.controller e)) ∙ sym (rest_session l e ts finishes.quiet)
+rest_heard who l e ts CutOff finishes =
+    let s : Option ℕ = number_now (with_side l.controller e) in
+    let us : List Entry = turn_entries who (number_of l.controller) e ts in
+    let last : heard who s (Cut who ∷ []) ≡ None = let q = same_self who in rw q refl in
+    heard-append who s us (Cut who ∷ [])
+    ∙ (ap (λ z. heard who z (Cut who ∷ [])) (passes_turns who who (number_of l.controller) e ts s)
+    ∙ (last ∙ sym (down_session (finished l (turned e ts) CutOff).controller (new_not_up (turned e ts).role finishes.can))))
+
+-- ## Steps
+
+-- a step tells the session of its end, and nothing of the other end
+pub record Heard (who : End) (l m : Link) (u : List Entry) : Type 0 where
+  pub here : heard who (number_now l.controller) u ≡ number_now m.controller
+  pub there : Passes (far who) u
+
+-- an input of the end, which has taken an RSET with the number `took` then, and what follows it
+input_heard : (who : End) (l k : Link) (took : ℕ) (i : LinkInput) {ts : List Turn} {ending : Ending} → Reports l.controller.side i
+    → number_of k.controller ≡ max l.controller.emitted took
+    → (l.controller.side.shdlc.phase ≡ IsUpNow → is_some (ended_by l.controller.side i) ≡ false → max l.controller.emitted took ≡ number_of l.controller)
+    → CanFinish (after_input l.controller.side i) ts ending
+    → Heard who l (finished k (turned (after_input l.controller.side i) ts) ending)
+    (told_of who (record l.controller { took = took }) i ++ rest_entries who k (after_input l.controller.side i) ts ending)
+input_heard who l k took i {ts} {ending} so number same finishes =
+    let e : LinkEnd = l.controller.side in
+    let f : LinkEnd = after_input e i in
+    let h : NumberedEnd = record l.controller { took = took } in
+    let us : List Entry = told who (number_of h) (report e i) (whole_acked f) in
+    let vs : List Entry = rest_entries who k f ts ending in
+    let now : heard who (number_now l.controller) us ≡ number_now (with_side k.controller f) =
+    heard_told who (number_of h) (report e i) (whole_acked f) (number_now l.controller)
+    ∙ (shifted l.controller (with_side h f) (is_some (ended_by e i)) (began_by e i) so.shift same
+    ∙ same_session (with_side h f) (with_side k.controller f) refl (λ up. sym number)) in
+    record {
+      here = heard-append who (number_now l.controller) us vs ∙ (ap (λ z. heard who z vs) now ∙ rest_heard who k f ts ending finishes);
+      there = passes-append (far who) us vs (passes_told who (number_of h) (report e i) (whole_acked f)) (rest_far who k f ts ending);
+    }
+
+-- an input of its own
+own_input_heard : (who : End) (l : Link) (i : LinkInput) {ts : List Turn} {ending : Ending} → Reports l.controller.side i
+    → CanFinish (after_input l.controller.side i) ts ending
+    → Heard who l (finished (with_ended l (is_some (ended_by l.controller.side i))) (turned (after_input l.controller.side i) ts) ending)
+    (input_entries who l i ts ending)
+own_input_heard who l i so finishes =
+    let b : Bool = is_some (ended_by l.controller.side i) in
+    input_heard who l (with_ended l b) l.controller.took i so (ended_number l b) (λ up q. refl) finishes
+
+pub tick_heard : (who : End) (l : Link) (node : Node) → IsNode l node.turns node.ending → Near l
+    → Heard who l (ticks_at_controller l node.turns node.ending) (tick_entries who l node)
+tick_heard who l node a n = own_input_heard who l HasTick (tick_so l.controller.side n.sound) (tick_finishes l node a n)
+
+-- activation begins or ends
+restart_heard : (who : End) (l : Link) {i : LinkInput} {event : ActEvent} (ts : List Turn) (ending : Ending) → IsNode l ts ending → Near l
+    → IsRestart l.controller.side i event
+    → Heard who l (finished (silent l (after_input l.controller.side i)) (turned (after_input l.controller.side i) ts) ending)
+    (restart_entries who l i ts ending)
+restart_heard who l {i} ts ending a n r =
+    let h = input_heard who l (silent l (after_input l.controller.side i)) l.controller.took i r.reports
+    (ended_number l (is_up l.controller.side.shdlc.phase)) (λ up q. refl) (restart_finishes l ts ending a n r) in
+    record { here = h.here; there = h.there }
+
+taken_heard : (who : End) (l : Link) (x : OnWire) (xs : List OnWire) (ts : List Turn) (ending : Ending) → IsNode l ts ending → Near l → Frame l x ts
+    → Heard who l (has_taken l x xs ts ending) (taken_entries who l x xs ts ending)
+taken_heard who l x xs ts ending a n fr =
+    let e : LinkEnd = l.controller.side in
+    let i : LinkInput = Take x.frame in
+    let h = input_heard who l (left_after l x xs) (took_with l.controller.took x) i (take_so e x.frame n.sound) (number (is_some (ended_by e i)))
+    (λ up q. ap (max l.controller.emitted) (fr.same up q)) (take_finishes l x ts ending a n fr) in
+    record { here = h.here; there = h.there }
+  where
+    number : (c : Bool) → number_of (record (with_ended (record l { to_controller = xs }) c).controller { took = took_with l.controller.took x })
+        ≡ max l.controller.emitted (took_with l.controller.took x)
+    number false = refl
+    number true = refl
+
+-- a step that takes no frame
+pub own_heard : (who : End) (l : Link) (e : EndEvent) → IsOwn e → IsAllowed l e → Near l → Heard who l (happens_at_controller l e) (here_entries who l e)
+own_heard who l (Lose why) o a n = absurd o
+own_heard who l (Step NextFrame ts ending) o a n = absurd o
+own_heard who l (Step (AsksReset window) ts ending) o a n =
+    own_input_heard who l (Reset window) (reset_so l.controller.side window n.sound) (reset_finishes l window ts ending a.1 n)
+own_heard who l (Step (Starts v) ts ending) o a n = restart_heard who l ts ending a.1 n (start_restarts l.controller.side v n.sound)
+own_heard who l (Step Stops ts ending) o a n = restart_heard who l ts ending a.1 n (stop_restarts l.controller.side n.sound)
+own_heard who l (Step NoInput ts ending) o a n =
+    record { here = rest_heard who l l.controller.side ts ending (idle_finishes l ts ending a.1 n); there = rest_far who l l.controller.side ts ending }
+
+frame_heard : (who : End) (l : Link) (ts : List Turn) (ending : Ending) → IsNode l ts ending → Near l → Frames l ts
+    → Heard who l (happens_at_controller l (Step NextFrame ts ending)) (step_entries who l NextFrame ts ending)
+frame_heard who l ts ending a n frames = go l.to_controller refl
+  where
+    m : Link
+    m = happens_at_controller l (Step NextFrame ts ending)
+
+    u : List Entry
+    u = step_entries who l NextFrame ts ending
+
+    P : Link → Type 0
+    P k = Heard who l k u
+
+    go : (w : List OnWire) → l.to_controller ≡ w → Heard who l m u
+    go [] q =
+        let none : u ≡ [] = rw q refl in
+        let same : m ≡ l = rw q refl in
+        let Q : List Entry → Type 0 = λ z. Heard who l l z in
+        subst P (sym same) (subst Q (sym none) (record { here = refl; there = λ s. refl }))
+    go (x ∷ xs) q =
+        let some : u ≡ taken_entries who l x xs ts ending = rw q refl in
+        let next : m ≡ has_taken l x xs ts ending = rw q refl in
+        let Q : List Entry → Type 0 = λ z. Heard who l (has_taken l x xs ts ending) z in
+        subst P (sym next) (subst Q (sym some) (taken_heard who l x xs ts ending a n (frames x xs q)))
+
+pub here_heard : (who : End) (l : Link) (e : EndEvent) → IsAllowed l e → Before l → Heard who l (happens_at_controller l e) (here_entries who l e)
+here_heard who l e a b = go e a
+  where
+    near : Near l
+    near = near_of l b
+
+    go : (e : EndEvent) → IsAllowed l e → Heard who l (happens_at_controller l e) (here_entries who l e)
+    go (Lose why) a =
+        record { here = passes_lost who who why l.to_controller (number_now l.controller); there = passes_lost (far who) who why l.to_controller }
+    go (Step NextFrame ts ending) a = frame_heard who l ts ending a.1 near (frame_facts l ts a.1.0 b)
+    go (Step (AsksReset window) ts ending) a = own_heard who l (Step (AsksReset window) ts ending) tt a near
+    go (Step (Starts v) ts ending) a = own_heard who l (Step (Starts v) ts ending) tt a near
+    go (Step Stops ts ending) a = own_heard who l (Step Stops ts ending) tt a near
+    go (Step NoInput ts ending) a = own_heard who l (Step NoInput ts ending) tt a near

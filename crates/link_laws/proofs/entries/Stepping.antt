@@ -1,0 +1,354 @@
+-- What is noted of a step of an end says what is kept of its sessions.
+use Rattle.std.proofs.Common.{◌≡◌, ℕ, zero, suc, Bool, true, false, cond, List, [], ◌∷◌, ◌++◌, length, refl, ap, sym, subst, ◌∙◌, append_assoc}
+use Rattle.std.specs.Prelude.{◌==◌, nat_lt, is_some, Option, Some, None}
+use Rattle.swp_base.specs.declared.control_frames.Control.{Control}
+use Rattle.shdlc_core.specs.declared.answers.LinkState.{LinkState}
+use Rattle.shdlc_core.specs.declared.answers.LinkState.TheVariants.{Down as IsDown, Waiting as IsWaitingNow, Up as IsUpNow}
+use Rattle.shdlc_core.specs.declared.answers.Due.{Due}
+use Rattle.shdlc_core.specs.Machine.{EndState, Fragment, fetched, fragment_due, after_frames, most_frames}
+use Rattle.link_laws.proofs.places.Joined.{fetch_cases}
+use Rattle.link_laws.specs.sessions.Sessions.{OnWire, is_up, took_with}
+use Rattle.link_laws.specs.machine.Machine.{LinkEnd, Role, LinkInput, Turn, Report, report, turn, turned, new_link_end, renewed, after_input, ended_by}
+use Rattle.link_laws.specs.machine.Machine.{began_by}
+use Rattle.link_laws.specs.machine.Machine.{whole_acked, frames_out, sent_all}
+use Rattle.link_laws.specs.machine.Machine.Role.{Bare, Clf, Uicc}
+use Rattle.link_laws.specs.machine.Machine.LinkInput.{Take, Reset, Start, Stop, FromNode}
+use Rattle.link_laws.specs.machine.Machine.Turn.{Give, Hold, FetchMessage, SetAside, Release}
+use Rattle.link_laws.specs.machine.Laws.{AreSendableInputs}
+use Rattle.link_laws.proofs.machine.Runs.{Sound, sound_turn, fetched_data}
+use Rattle.link_laws.specs.messages.Links.{NumberedEnd, Link, Ending, Comes, Loss, number_of, ended_talk, talk_now, talk_of, becomes, put, put_all}
+use Rattle.link_laws.specs.messages.Links.{with_controller}
+use Rattle.link_laws.specs.messages.Links.{with_ended, silent, cut, finished, AreSendableTurns, CanEnd}
+use Rattle.link_laws.specs.messages.Links.Ending.{GoesOut, CutOff}
+use Rattle.link_laws.specs.messages.Links.Loss.{TooMany}
+use Rattle.link_laws.specs.messages.Links.Comes.{NextFrame, AsksReset, Starts, Stops, NoInput}
+use Rattle.link_laws.proofs.messages.Asks.{NoRset, puts_none}
+use Rattle.link_laws.proofs.messages.Ends.{frames_alike}
+use Rattle.link_laws.proofs.messages.Project.{beside-put_all}
+use Rattle.link_laws.specs.entries.Entries.{End, Entry, far, told, told_of, turn_entry, turn_entries, first_lost, pushed_out, wire_with}
+use Rattle.link_laws.specs.entries.Entries.{put_entries, puts_entries}
+use Rattle.link_laws.specs.entries.Entries.{ending_entries, rest_entries, left_after, taken_entries, step_entries}
+use Rattle.link_laws.specs.entries.Entries.Entry.{Emit}
+use Rattle.link_laws.proofs.entries.Fronts.{OfOne, one-append, one_told, one_turns, AllFew, few_told, few_more, few_grown, few_then, no_sent_told, NoAcked}
+use Rattle.link_laws.proofs.entries.Fronts.{no_acked-append, no_acked_turns}
+use Rattle.link_laws.proofs.entries.Books.{book_of, Silent, silent-append, silent_cons, Told, up_talk, down_talk, told_far, told_silent, told_same}
+use Rattle.link_laws.proofs.entries.Books.{told_input}
+use Rattle.link_laws.proofs.entries.Books.{Input, with_side, told_turn, IsSendableTurn, turn_far}
+
+-- ## Turns
+
+sendable_first : (t : Turn) (ts : List Turn) → AreSendableTurns (t ∷ ts) → IsSendableTurn t × AreSendableTurns ts × AreSendableInputs (FromNode t ∷ [])
+sendable_first (Give m) ts a = (a.0, a.1, (a.0, tt))
+sendable_first (Hold held) ts a = (tt, a, tt)
+sendable_first FetchMessage ts a = (tt, a, tt)
+sendable_first SetAside ts a = (tt, a, tt)
+sendable_first Release ts a = (tt, a, tt)
+
+pub told_turns : (ts : List Turn) (t : List Entry) (who : End) (h : NumberedEnd) → AreSendableTurns ts → Sound h.side → Told t who h
+    → Told (t ++ turn_entries who (number_of h) h.side ts) who (with_side h (turned h.side ts))
+told_turns [] t who h a s b = told_silent t [] who h (λ w n. refl) b
+told_turns (x ∷ ts) t who h a s b =
+    let p = sendable_first x ts a in
+    let one = told_turn t who h x p.0 s.is b in
+    let k : NumberedEnd = with_side h (turn h.side x) in
+    let more = told_turns ts (t ++ turn_entry who (number_of h) h.side x) who k p.1 (sound_turn h.side x p.2 s) one in
+    let P : List Entry → Type 0 = λ u. Told u who (with_side h (turned h.side (x ∷ ts))) in
+    subst P (append_assoc t (turn_entry who (number_of h) h.side x) (turn_entries who (number_of h) (turn h.side x) ts)) more
+
+far_turns : (ts : List Turn) (t : List Entry) (who : End) (k : ℕ) (e : LinkEnd) (h : NumberedEnd) → Told t (far who) h
+    → Told (t ++ turn_entries who k e ts) (far who) h
+far_turns [] t who k e h b = told_silent t [] (far who) h (λ w n. refl) b
+far_turns (x ∷ ts) t who k e h b =
+    let more = far_turns ts (t ++ turn_entry who k e x) who k (turn e x) h (turn_far t who k e x h b) in
+    let P : List Entry → Type 0 = λ u. Told u (far who) h in
+    subst P (append_assoc t (turn_entry who k e x) (turn_entries who k (turn e x) ts)) more
+
+pub sound_turns : (ts : List Turn) (e : LinkEnd) → AreSendableTurns ts → Sound e → Sound (turned e ts)
+sound_turns [] e a s = s
+sound_turns (t ∷ ts) e a s = let p = sendable_first t ts a in sound_turns ts (turn e t) p.1 (sound_turn e t p.2 s)
+
+-- ## Frames go out
+
+pub silent_first : (who : End) (why : Loss) (w : List OnWire) → Silent (first_lost who why w)
+silent_first who why [] x n = refl
+silent_first who why (y ∷ ys) x n = refl
+
+silent_lost : (who : End) (b : Bool) (w : List OnWire) → Silent (cond b (first_lost who TooMany w) [])
+silent_lost who false w x n = refl
+silent_lost who true w x n = silent_first who TooMany w x n
+
+silent_puts : (cs : List Control) (who : End) (l : Link) → Silent (puts_entries who l cs)
+silent_puts [] who l = λ x n. refl
+silent_puts (c ∷ cs) who l =
+    silent-append (put_entries who l c) (puts_entries who _ cs)
+    (silent_cons (Emit who c) (pushed_out (far who) (wire_with l c)) (λ x n. refl) (silent_lost (far who) (nat_lt 64 (length (wire_with l c))) (wire_with l c)))
+    (silent_puts cs who _)
+
+pub fetched_acked : (n : ℕ) (e : EndState) → (after_frames n e).session.acked ≡ e.session.acked
+fetched_acked zero e = refl
+fetched_acked (suc n) e =
+    fetched_acked n (fetched e) ∙ fetch_cases (λ f o. f.session.acked ≡ e.session.acked) e (λ d ds p. refl) (λ p q. refl) (λ info p q. refl)
+
+sent_book : (e : LinkEnd) → book_of (talk_now (sent_all e)) ≡ book_of (talk_now e)
+sent_book e = let a = frames_alike most_frames e.shdlc in let b = fetched_acked most_frames e.shdlc in rw (a.acc, b) refl
+
+pub sound_sent : (e : LinkEnd) → Sound e → Sound (sent_all e)
+sound_sent e s = go most_frames (record e { acts = [] }) (fetched_same e s)
+  where
+    fetched_same : (e : LinkEnd) → Sound e → Sound (record e { acts = [] })
+    fetched_same e s =
+        record {
+          is = record { out = s.is.out; none = s.is.none; forgot = s.is.forgot; acked = s.is.acked; reached = s.is.reached; room = s.is.room };
+          closed = s.closed;
+        }
+
+    go : (n : ℕ) (f : LinkEnd) → Sound f → Sound (record f { shdlc = after_frames n f.shdlc })
+    go zero f h = h
+    go (suc n) f h = go n (record f { shdlc = fetched f.shdlc }) (fetched_data f f.acts h)
+
+-- where no RSET goes out the number stays
+pub puts_number : (l : Link) (cs : List Control) → NoRset cs → number_of (put_all l cs).controller ≡ number_of l.controller
+puts_number l cs a = ap (λ (m : Link). number_of m.controller) (puts_none cs l a)
+
+-- an end that has become e and sent all that was due
+sent_told : (t : List Entry) (who : End) (l : Link) (e : LinkEnd) → (e.shdlc.phase ≡ IsUpNow → NoRset (frames_out e)) → Told t who (with_side l.controller e)
+    → Told t who (becomes l e).controller
+sent_told t who l e none b =
+    told_same t who (with_side l.controller e) (becomes l e).controller (frames_alike most_frames e.shdlc).phase (beside-put_all (frames_out e) l).past
+    (λ up. puts_number l (frames_out e) (none up)) (sent_book e) b
+
+-- one whose node lost power before that
+cut_told : (t : List Entry) (who : End) (l : Link) (e : LinkEnd) → CanEnd e.role CutOff → Told t who (with_side l.controller e)
+    → Told t who (cut (with_controller l (sent_all e))).controller
+cut_told t who l e can b n = b n ∙ go e.shdlc.phase refl e.role refl can
+  where
+    f : LinkEnd
+    f = sent_all e
+
+    phase : f.shdlc.phase ≡ e.shdlc.phase
+    phase = (frames_alike most_frames e.shdlc).phase
+
+    -- the end that is new
+    at : Bool → Role → NumberedEnd
+    at c r =
+        let m : Link = with_ended (with_controller l f) c in
+        record m.controller { side = new_link_end (renewed r) }
+
+    new_down : (c : Bool) (r : Role) → CanEnd r CutOff → talk_of (at c r) n ≡ ended_talk (at c r).past n
+    new_down c Bare can = absurd can
+    new_down c (Clf s) can = refl
+    new_down c (Uicc s) can = refl
+
+    up_past : (r : Role) → book_of (talk_of (with_side l.controller e) n)
+        ≡ book_of (cond (n == number_of l.controller) (talk_now e) (ended_talk l.controller.past n))
+        → book_of (cond (n == number_of l.controller) (talk_now e) (ended_talk l.controller.past n)) ≡ book_of (ended_talk (at true r).past n)
+    up_past r z = by (n == number_of l.controller) refl
+      where
+        by : (x : Bool) → (n == number_of l.controller)
+            ≡ x → book_of (cond (n == number_of l.controller) (talk_now e) (ended_talk l.controller.past n)) ≡ book_of (ended_talk (at true r).past n)
+        by true q = rw q (sym (sent_book e))
+        by false q = rw q refl
+
+    up : e.shdlc.phase ≡ IsUpNow → CanEnd e.role CutOff
+        → book_of (talk_of (with_side l.controller e) n) ≡ book_of (talk_of (cut (with_controller l f)).controller n)
+    up p can =
+        let z : book_of (talk_of (with_side l.controller e) n) ≡ book_of (cond (n == number_of l.controller) (talk_now e) (ended_talk l.controller.past n)) =
+        ap book_of (up_talk (with_side l.controller e) n p) in
+        let is : is_up f.shdlc.phase ≡ true = ap is_up (phase ∙ p) in
+        z ∙ (up_past e.role z ∙ ap book_of (sym (new_down true e.role can) ∙ ap (λ c. talk_of (at c e.role) n) (sym is)))
+
+    idle : (e.shdlc.phase ≡ IsUpNow → ⊥) → is_up f.shdlc.phase ≡ false → CanEnd e.role CutOff
+        → book_of (talk_of (with_side l.controller e) n) ≡ book_of (talk_of (cut (with_controller l f)).controller n)
+    idle d is can =
+        ap book_of (down_talk (with_side l.controller e) n d ∙ (sym (new_down false e.role can) ∙ ap (λ c. talk_of (at c e.role) n) (sym is)))
+
+    go : (p : LinkState) → e.shdlc.phase ≡ p → (r : Role) → e.role ≡ r → CanEnd e.role CutOff
+        → book_of (talk_of (with_side l.controller e) n) ≡ book_of (talk_of (cut (with_controller l f)).controller n)
+    go IsUpNow p r q can = up p can
+    go IsWaitingNow p r q can = idle (λ u. let z = sym p ∙ u in cc) (ap is_up (phase ∙ p)) can
+    go IsDown p r q can = idle (λ u. let z = sym p ∙ u in cc) (ap is_up (phase ∙ p)) can
+
+silent_ending : (who : End) (l : Link) (e : LinkEnd) (ending : Ending) → Silent (ending_entries who l e ending)
+silent_ending who l e GoesOut = silent_puts (frames_out e) who l
+silent_ending who l e CutOff = λ x n. refl
+
+-- frames that go out acknowledge nothing
+no_acked_lost : (who : End) (b : Bool) (w : List OnWire) → NoAcked (cond b (first_lost who TooMany w) [])
+no_acked_lost who false w = tt
+no_acked_lost who true [] = tt
+no_acked_lost who true (x ∷ xs) = ((λ w n. refl), tt)
+
+no_acked_puts : (cs : List Control) (who : End) (l : Link) → NoAcked (puts_entries who l cs)
+no_acked_puts [] who l = tt
+no_acked_puts (c ∷ cs) who l =
+    no_acked-append (put_entries who l c) (puts_entries who (put l c) cs)
+    ((λ w n. refl), no_acked_lost (far who) (nat_lt 64 (length (wire_with l c))) (wire_with l c)) (no_acked_puts cs who (put l c))
+
+no_acked_ending : (who : End) (l : Link) (e : LinkEnd) (ending : Ending) → NoAcked (ending_entries who l e ending)
+no_acked_ending who l e GoesOut = no_acked_puts (frames_out e) who l
+no_acked_ending who l e CutOff = ((λ w n. refl), tt)
+
+-- and are of one end
+one_lost : (who : End) (b : Bool) (w : List OnWire) → OfOne who (cond b (first_lost (far who) TooMany w) [])
+one_lost who false w = tt
+one_lost who true [] = tt
+one_lost who true (x ∷ xs) = ((λ n. refl), tt)
+
+one_puts : (cs : List Control) (who : End) (l : Link) → OfOne who (puts_entries who l cs)
+one_puts [] who l = tt
+one_puts (c ∷ cs) who l =
+    one-append who (put_entries who l c) (puts_entries who (put l c) cs)
+    ((λ n. refl), one_lost who (nat_lt 64 (length (wire_with l c))) (wire_with l c)) (one_puts cs who (put l c))
+
+one_ending : (who : End) (l : Link) (e : LinkEnd) (ending : Ending) → OfOne who (ending_entries who l e ending)
+one_ending who l e GoesOut = one_puts (frames_out e) who l
+one_ending who l e CutOff = ((λ n. refl), tt)
+
+pub one_rest : (who : End) (l : Link) (e : LinkEnd) (ts : List Turn) (ending : Ending) → OfOne who (rest_entries who l e ts ending)
+one_rest who l e ts ending =
+    one-append who (turn_entries who (number_of l.controller) e ts) (ending_entries who l (turned e ts) ending) (one_turns who (number_of l.controller) e ts)
+    (one_ending who l (turned e ts) ending)
+
+pub one_input : (who : End) (l k : Link) (h : NumberedEnd) (i : LinkInput) (e : LinkEnd) (ts : List Turn) (ending : Ending)
+    → OfOne who (told_of who h i ++ rest_entries who k e ts ending)
+one_input who l k h i e ts ending =
+    one-append who (told_of who h i) (rest_entries who k e ts ending) (one_told who (number_of h) (report h.side i) (whole_acked (after_input h.side i)))
+    (one_rest who k e ts ending)
+
+-- what is noted of a step is of its end
+pub one_step : (who : End) (l : Link) (comes : Comes) (ts : List Turn) (ending : Ending) → OfOne who (step_entries who l comes ts ending)
+one_step who l NextFrame ts ending = go l.to_controller refl
+  where
+    some : (x : OnWire) (xs : List OnWire) → l.to_controller ≡ x ∷ xs → step_entries who l NextFrame ts ending ≡ taken_entries who l x xs ts ending
+    some x xs q = rw q refl
+
+    P : List Entry → Type 0
+    P u = OfOne who u
+
+    go : (w : List OnWire) → l.to_controller ≡ w → OfOne who (step_entries who l NextFrame ts ending)
+    go [] q = let none : step_entries who l NextFrame ts ending ≡ [] = rw q refl in subst P (sym none) tt
+    go (x ∷ xs) q =
+        subst P (sym (some x xs q)) (
+          (λ n. refl),
+          one_input who l (left_after l x xs) (record l.controller { took = took_with l.controller.took x })
+              (Take x.frame)
+              (after_input l.controller.side (Take x.frame)) ts ending,
+        )
+one_step who l (AsksReset window) ts ending =
+    one_input who l (with_ended l (is_some (ended_by l.controller.side (Reset window)))) l.controller (Reset window)
+    (after_input l.controller.side (Reset window)) ts ending
+one_step who l (Starts v) ts ending = (
+  (λ n. refl),
+  one_input who l (silent l (after_input l.controller.side (Start v))) l.controller (Start v)
+      (after_input l.controller.side (Start v)) ts ending,
+)
+one_step who l Stops ts ending =
+    ((λ n. refl), one_input who l (silent l (after_input l.controller.side Stop)) l.controller Stop (after_input l.controller.side Stop) ts ending)
+one_step who l NoInput ts ending = one_rest who l l.controller.side ts ending
+
+ending_told : (t : List Entry) (who : End) (l : Link) (e : LinkEnd) (ending : Ending) → CanEnd e.role ending → (e.shdlc.phase ≡ IsUpNow → NoRset (frames_out e))
+    → Told t who (with_side l.controller e) → Told (t ++ ending_entries who l e ending) who (finished l e ending).controller
+ending_told t who l e GoesOut can none b =
+    told_silent t (ending_entries who l e GoesOut) who (becomes l e).controller (silent_ending who l e GoesOut) (sent_told t who l e none b)
+ending_told t who l e CutOff can none b =
+    told_silent t (ending_entries who l e CutOff) who (cut (with_controller l (sent_all e))).controller (silent_ending who l e CutOff)
+    (cut_told t who l e can b)
+
+pub host_finished : (l : Link) (e : LinkEnd) (ending : Ending) → (finished l e ending).host ≡ l.host
+host_finished l e GoesOut = (beside-put_all (frames_out e) l).host
+host_finished l e CutOff = by (is_up (sent_all e).shdlc.phase)
+  where
+    by : (b : Bool) → (with_ended (with_controller l (sent_all e)) b).host ≡ l.host
+    by true = refl
+    by false = refl
+
+-- ## A link
+
+-- what was noted of both ends of a link
+pub record Tolds (t : List Entry) (who : End) (l : Link) : Type 0 where
+  pub here : Told t who l.controller
+  pub there : Told t (far who) l.host
+
+-- what a step noted, and that at each moment of it no more was acknowledged than sent
+pub record Out (t u : List Entry) (who : End) (m : Link) : Type 0 where
+  pub tolds : Tolds (t ++ u) who m
+  pub few : AllFew t who u
+
+told_at : (t : List Entry) (who : End) (h k : NumberedEnd) → k ≡ h → Told t who h → Told t who k
+told_at t who h k q b = let P : NumberedEnd → Type 0 = λ z. Told t who z in subst P (sym q) b
+
+told_list : (t u : List Entry) (who : End) (h : NumberedEnd) → t ≡ u → Told t who h → Told u who h
+told_list t u who h q b = let P : List Entry → Type 0 = λ z. Told z who h in subst P q b
+
+-- an end that is e by now can have these turns of its node, and end its step so
+pub record CanFinish (e : LinkEnd) (ts : List Turn) (ending : Ending) : Type 0 where
+  pub sendable : AreSendableTurns ts
+  pub can : CanEnd (turned e ts).role ending
+  pub quiet : (turned e ts).shdlc.phase ≡ IsUpNow → NoRset (frames_out (turned e ts))
+  pub sound : Sound e
+
+-- the turns of its node and the end of a step
+pub rest_told : (t : List Entry) (who : End) (l : Link) (e : LinkEnd) (ts : List Turn) (ending : Ending) → CanFinish e ts ending
+    → Told t who (with_side l.controller e) → Told t (far who) l.host → Out t (rest_entries who l e ts ending) who (finished l (turned e ts) ending)
+rest_told t who l e ts ending finishes here there =
+    let n : ℕ = number_of l.controller in
+    let us : List Entry = turn_entries who n e ts in
+    let vs : List Entry = ending_entries who l (turned e ts) ending in
+    let turns = told_turns ts t who (with_side l.controller e) finishes.sendable finishes.sound here in
+    let q : (t ++ us) ++ vs ≡ t ++ (us ++ vs) = append_assoc t us vs in
+    record {
+      tolds = record {
+        here = told_list ((t ++ us) ++ vs) (t ++ (us ++ vs)) who (finished l (turned e ts) ending).controller q
+            (ending_told (t ++ us) who l (turned e ts) ending finishes.can finishes.quiet turns);
+        there = told_list ((t ++ us) ++ vs) (t ++ (us ++ vs)) (far who) (finished l (turned e ts) ending).host q
+            (told_silent (t ++ us) vs (far who) (finished l (turned e ts) ending).host (silent_ending who l (turned e ts) ending)
+            (told_at (t ++ us) (far who) l.host (finished l (turned e ts) ending).host (host_finished l (turned e ts) ending)
+            (far_turns ts t who n e l.host there)));
+      };
+      few =
+          few_more t who (us ++ vs) (few_told t who (with_side l.controller e) here)
+          (no_acked-append us vs (no_acked_turns who n e ts) (no_acked_ending who l (turned e ts) ending));
+    }
+
+-- the controller's end of l, with the number of h, takes an input, and l becomes k
+pub record TakesInput (l k : Link) (i : LinkInput) (h : NumberedEnd) : Type 0 where
+  pub input : Input l.controller (with_side k.controller (after_input l.controller.side i)) (is_some (ended_by l.controller.side i))
+      (began_by l.controller.side i) (report l.controller.side i)
+  pub side : h.side ≡ l.controller.side
+  pub number : number_of h ≡ number_of k.controller
+  pub host : k.host ≡ l.host
+
+-- an input, the turns and the end of a step
+pub input_told : {t : List Entry} {who : End} {l k : Link} (i : LinkInput) {h : NumberedEnd} {ts : List Turn} {ending : Ending} → TakesInput l k i h
+    → CanFinish (after_input l.controller.side i) ts ending → Sound l.controller.side → Tolds t who l
+    → Out t (told_of who h i ++ rest_entries who k (after_input l.controller.side i) ts ending) who
+    (finished k (turned (after_input l.controller.side i) ts) ending)
+input_told {t} {who} {l} {k} i {h} {ts} {ending} takes finishes s b =
+    let f : LinkEnd = after_input l.controller.side i in
+    let e : LinkEnd = l.controller.side in
+    let r : Report = report e i in
+    let us : List Entry = told who (number_of k.controller) r (whole_acked f) in
+    let vs : List Entry = rest_entries who k f ts ending in
+    let here = told_input t who l.controller (with_side k.controller f) (is_some (ended_by e i)) (began_by e i) r takes.input s.is b.here in
+    let there = told_far t who (number_of k.controller) r (whole_acked f) k.host (told_at t (far who) l.host k.host takes.host b.there) in
+    let out = rest_told (t ++ us) who k f ts ending finishes here there in
+    let same : told_of who h i ≡ us =
+    ap (λ n. told who n (report h.side i) (whole_acked (after_input h.side i))) takes.number
+    ∙ ap (λ z. told who (number_of k.controller) (report z i) (whole_acked (after_input z i))) takes.side in
+    let P : List Entry → Type 0 = λ z. Tolds z who (finished k (turned f ts) ending) in
+    let both : Out t (us ++ vs) who (finished k (turned f ts) ending) =
+    record {
+      tolds = subst P (append_assoc t us vs) out.tolds;
+      few =
+          few_then t who us vs (few_grown t who us (few_told (t ++ us) who (with_side k.controller f) here)
+          (no_sent_told who (number_of k.controller) r (whole_acked f))) out.few;
+    } in
+    let Q : List Entry → Type 0 = λ z. Out t (z ++ vs) who (finished k (turned f ts) ending) in
+    subst Q (sym same) both
+
+pub one_fetched_acked : (s : EndState) → (fetched s).session.acked ≡ s.session.acked
+one_fetched_acked s = go s.due refl (fragment_due s.session) refl where
+  go : (due : List Due) → s.due ≡ due → (o : Option Fragment) → fragment_due s.session ≡ o → (fetched s).session.acked ≡ s.session.acked
+  go [] q None r = rw (q, r) refl
+  go [] q (Some info) r = rw (q, r) refl
+  go (d ∷ ds) q o r = rw q refl

@@ -1,0 +1,5 @@
+use Rattle.link_laws.proofs.entries.Heard.{settled}
+use Rattle.link_laws.proofs.entry_order.reset_brings_both_up.Goals as goal
+
+pub returns : goal.returns
+returns c = settled

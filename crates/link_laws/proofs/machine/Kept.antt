@@ -1,0 +1,64 @@
+-- Messages that came at an end are kept until they are fetched.
+use Rattle.std.proofs.Common.{◌≡◌, ℕ, Bool, true, false, cond, [], ◌++◌, refl, sym, ◌∙◌, append-nil}
+use Rattle.std.specs.Prelude.{is_some, Option, Some, None}
+use Rattle.swp_base.specs.declared.control_frames.Control.{Control}
+use Rattle.swp_base.specs.declared.control_frames.Control.TheVariants.{I, S, Rset, Ua, Act as ActFrame, Clt}
+use Rattle.swp_base.specs.declared.control_frames.Act.{Act}
+use Rattle.swp_base.specs.declared.link_terms.Cause.TheVariants.{Asked}
+use Rattle.swp_act.specs.declared.ActEvent.{ActEvent}
+use Rattle.swp_act.specs.declared.ActEvent.TheVariants.{Take as ActTake}
+use Rattle.shdlc_core.specs.declared.answers.LinkState.{LinkState}
+use Rattle.shdlc_core.specs.declared.answers.LinkState.TheVariants.{Down, Waiting, Up}
+use Rattle.shdlc_core.specs.Machine.{EndState, taken, reset_with}
+use Rattle.link_laws.specs.machine.Machine.{LinkEnd, Refused, is_open, is_faulty, act_answer, role_after, with_act, moved, put_down, activated, heard, took}
+use Rattle.link_laws.specs.machine.Machine.{news}
+use Rattle.link_laws.specs.machine.Machine.{brought, reset_refusal, if_up, window_of, after_input}
+use Rattle.link_laws.specs.machine.Machine.LinkInput.{Reset}
+
+pub moved_got : (e : LinkEnd) (b : Bool) (s : EndState) → (moved e b s).got ≡ e.got
+moved_got e true s = refl
+moved_got e false s = refl
+
+pub down_got : (e : LinkEnd) (b : Bool) → (put_down b e).got ≡ e.got
+down_got e false = refl
+down_got e true = go e.shdlc.phase refl
+  where
+    go : (p : LinkState) → e.shdlc.phase ≡ p → (put_down true e).got ≡ e.got
+    go Up q = rw q refl
+    go Waiting q = rw q refl
+    go Down q = rw q refl
+
+pub act_got : (o : Option Act) (e : LinkEnd) → (with_act o e).got ≡ e.got
+act_got None e = refl
+act_got (Some act) e = refl
+
+pub activated_got : (e : LinkEnd) (event : ActEvent) → (activated e event).got ≡ e.got
+activated_got e event =
+    act_got (act_answer e.role event).send (record (put_down (act_answer e.role event).ended_link e) { role = role_after e.role event })
+    ∙ down_got e (act_answer e.role event).ended_link
+
+pub reset_got : (e : LinkEnd) (window : Option ℕ) → (after_input e (Reset window)).got ≡ e.got
+reset_got e window = go (reset_refusal e) refl
+  where
+    go : (o : Option Refused) → reset_refusal e ≡ o → (after_input e (Reset window)).got ≡ e.got
+    go None q = let w : ℕ = window_of e window in rw q (moved_got e (is_some (if_up e.shdlc Asked)) (reset_with e.shdlc w))
+    go (Some why) q = rw q refl
+
+pub heard_got : (m : LinkEnd) (c : Control) → (took m c ≡ cond (is_open m.role) (heard m c) m)
+    → (brought m c ≡ cond (is_open m.role) (cond (is_faulty (taken m.shdlc c).session) [] (news m.shdlc.session (taken m.shdlc c))) [])
+    → (took m c).got ≡ m.got ++ brought m c
+heard_got m c t b = by (is_open m.role) (is_faulty (taken m.shdlc c).session) refl refl
+  where
+    by : (o f : Bool) → is_open m.role ≡ o → is_faulty (taken m.shdlc c).session ≡ f → (took m c).got ≡ m.got ++ brought m c
+    by false f p q = rw (t, b, p) (sym (append-nil m.got))
+    by true true p q = rw (t, b, p, q) (down_got m true ∙ sym (append-nil m.got))
+    by true false p q = rw (t, b, p, q) refl
+
+-- what a frame brings stands behind what came before
+pub took_got : (m : LinkEnd) (c : Control) → (took m c).got ≡ m.got ++ brought m c
+took_got m (ActFrame act again) = activated_got m (ActTake act again) ∙ sym (append-nil m.got)
+took_got m Clt = sym (append-nil m.got)
+took_got m (I ns nr info) = heard_got m (I ns nr info) refl refl
+took_got m (S kind nr) = heard_got m (S kind nr) refl refl
+took_got m (Rset window caps) = heard_got m (Rset window caps) refl refl
+took_got m Ua = heard_got m Ua refl refl

@@ -1,0 +1,506 @@
+-- Each input keeps what is true of an end.
+use Rattle.std.proofs.Common.{◌≡◌, ℕ, suc, ◌+◌, ◌-◌, ◌<◌, ◌≤◌, Bool, true, false, cond, List, [], ◌∷◌, ◌++◌, length, take, drop, map, Option, Some, None, ◌⊎◌}
+use Rattle.std.proofs.Common.{inl, inr, refl, ap, sym, subst, ◌∙◌, arith, append-nil, length-append}
+use Rattle.std.proofs.lemmas.Bool.{true≢false, ltb-true, ltb-false}
+use Rattle.std.proofs.lemmas.List.Concat.{flat_map-append}
+use Rattle.std.proofs.lemmas.Grind.{common_steps}
+use Rattle.std.proofs.lemmas.Option.{slice_get_within}
+use Rattle.std.specs.Prelude.{nat_le, nat_lt, is_some, not, max, slice_get, ◌==◌}
+use Rattle.swp_base.specs.declared.control_frames.Control.{Control}
+use Rattle.swp_base.specs.declared.control_frames.Control.TheVariants.{I, S, Rset, Ua, Act, Clt}
+use Rattle.swp_base.specs.declared.control_frames.Act.{Act as Activation}
+use Rattle.swp_base.specs.declared.control_frames.Act.TheVariants.{Ready as ActReady, SyncId, PowerMode}
+use Rattle.swp_base.specs.declared.link_terms.Cause.TheVariants.{Asked, Act as ByAct}
+use Rattle.swp_act.specs.declared.ActEvent.{ActEvent}
+use Rattle.swp_act.specs.declared.ActEvent.TheVariants.{Start as ActStart, Take as ActTake, Tick as ActTick, Stop as ActStop}
+use Rattle.swp_act.specs.declared.Phase.{Phase}
+use Rattle.swp_act.specs.declared.Phase.TheVariants.{Inactive, Awaiting, Active}
+use Rattle.shdlc_core.specs.declared.answers.LinkState.{LinkState}
+use Rattle.shdlc_core.specs.declared.answers.LinkState.TheVariants.{Down, Waiting, Up}
+use Rattle.shdlc_core.specs.declared.answers.Due.{Due}
+use Rattle.shdlc_core.specs.declared.answers.Due.TheVariants.{Rr as Rr_due}
+use Rattle.shdlc_core.specs.Machine.{EndState, Session, Fragment, no_session, taken, take_answer, ticked, tick_answer, is_waiting, reset_with, stopped}
+use Rattle.shdlc_core.specs.Machine.{with_ready, fetched, frame_due, fragment_due, sent_next, begun, new_end}
+use Rattle.hcp_packet.specs.Packets.{packets_of, packet_count, packet_bytes, fragments_of, IsSendable}
+use Rattle.link_laws.specs.machine.Machine.{Message, LinkEnd, Role, ActDue, Turn, LinkInput, Refused, new_link_end, is_faulty, whole_among, need, need_of_all}
+use Rattle.link_laws.specs.machine.Machine.{in_use, spare, is_open, role_after, act_answer, with_act, in_front, moved, put_down, activated, started}
+use Rattle.link_laws.specs.machine.Machine.{deactivated}
+use Rattle.link_laws.specs.machine.Machine.{give_refusal, given, aside_refusal, turn, reset_refusal, if_up, reset_by, window_of, heard, took, had_tick}
+use Rattle.link_laws.specs.machine.Machine.{frame_fetched, nearer, after_input, after_inputs, news}
+use Rattle.link_laws.specs.machine.Machine.Role.{Bare, Clf, Uicc}
+use Rattle.link_laws.specs.machine.Machine.Turn.{Give, Hold, FetchMessage, SetAside, Release}
+use Rattle.link_laws.specs.machine.Machine.LinkInput.{Take, TakeUnknown, TakeBroken, Tick, Reset, Start, Stop, FromNode, Fetch}
+use Rattle.link_laws.specs.machine.Laws.{AreSendableInputs, is_shdlc}
+use Rattle.link_laws.proofs.machine.Shifts.{Shift, IsNotUp, same_shift, taken_shift, ticked_shift, reset_shift, stopped_shift}
+use Rattle.link_laws.proofs.machine.Sound.{Data, SentAfter, shifted, need_more, need_less, whole_given, whole_few}
+
+-- an end that isn't open is Down and has nothing of SHDLC to send
+pub record IsClosed (s : EndState) : Type 0 where
+  pub phase : s.phase ≡ Down
+  pub due : s.due ≡ []
+
+pub record Sound (e : LinkEnd) : Type 0 where
+  pub is : Data e
+  pub closed : is_open e.role ≡ false → IsClosed e.shdlc
+
+-- what is told alike of two ends
+data_as : (e f : LinkEnd) → f.shdlc ≡ e.shdlc → f.sent ≡ e.sent → f.aside ≡ e.aside → Data e → Data f
+data_as e f shdlc sent aside h =
+    let P : EndState → Type 0 = λ s. Shift e.shdlc s false false in
+    shifted e f false false (subst P (sym shdlc) (same_shift e.shdlc e.shdlc refl)) sent aside h
+
+pub opened : (r : Role) (P : Type 0) → is_open r ≡ true → is_open r ≡ false → P
+opened r P p q = absurd (true≢false (sym p ∙ q))
+
+sent_moved : (e : LinkEnd) (b : Bool) (s : EndState) → SentAfter b e (moved e b s)
+sent_moved e false s = refl
+sent_moved e true s = refl
+
+moved_is : (e : LinkEnd) (b : Bool) (s : EndState) → ((moved e b s).shdlc ≡ s) × ((moved e b s).aside ≡ e.aside) × ((moved e b s).role ≡ e.role)
+moved_is e false s = (refl, refl, refl)
+moved_is e true s = (refl, refl, refl)
+
+-- the SHDLC end of an end becomes s
+data_moved : (e : LinkEnd) (b began : Bool) (s : EndState) → Shift e.shdlc s b began → Data e → Data (moved e b s)
+data_moved e b began s shift h =
+    let P : EndState → Type 0 = λ z. Shift e.shdlc z b began in
+    let m = moved_is e b s in
+    shifted e (moved e b s) b began (subst P (sym m.0) shift) (sent_moved e b s) m.1 h
+
+sound_moved : (e : LinkEnd) (b began : Bool) (s : EndState) → Shift e.shdlc s b began → is_open e.role ≡ true → Sound e → Sound (moved e b s)
+sound_moved e b began s shift o h =
+    let m = moved_is e b s in
+    record { is = data_moved e b began s shift h.is; closed = λ c. opened e.role (IsClosed (moved e b s).shdlc) o (ap is_open (sym m.2) ∙ c) }
+
+-- ## Activation
+
+-- a link that goes down is closed
+data_down : (e : LinkEnd) → Data e → Data (put_down true e)
+data_down e h = go e.shdlc.phase refl
+  where
+    go : (p : LinkState) → e.shdlc.phase ≡ p → Data (put_down true e)
+    go Up p =
+        let d : Data (moved e true (stopped e.shdlc)) = data_moved e true false (stopped e.shdlc) (stopped_up p) h in
+        rw p d
+      where
+        stopped_up : e.shdlc.phase ≡ Up → Shift e.shdlc (stopped e.shdlc) true false
+        stopped_up p =
+            let b : is_some (if_up e.shdlc ByAct) ≡ true = rw p refl in
+            let P : Bool → Type 0 = λ c. Shift e.shdlc (stopped e.shdlc) c false in subst P b (stopped_shift e.shdlc ByAct)
+    go Waiting p =
+        let b : is_some (if_up e.shdlc ByAct) ≡ false = rw p refl in
+        let P : Bool → Type 0 = λ c. Shift e.shdlc (stopped e.shdlc) c false in
+        let no : IsNotUp e.shdlc = λ u. let z = sym p ∙ u in cc in
+        let d : Data (moved e true (stopped e.shdlc)) =
+        shifted e (moved e true (stopped e.shdlc)) false false (subst P b (stopped_shift e.shdlc ByAct)) (sym (h.forgot no)) refl h in
+        rw p d
+    go Down p =
+        let no : IsNotUp e.shdlc = λ u. let z = sym p ∙ u in cc in
+        let f : LinkEnd = record e { shdlc = record e.shdlc { due = [] }; acts = map in_front e.acts } in
+        let d : Data f =
+        record { out = h.out; none = λ n. h.none no; forgot = λ n. h.forgot no; acked = h.acked; reached = h.reached; room = h.room } in
+        rw p (rw p at d)
+
+closed_down : (e : LinkEnd) → IsClosed (put_down true e).shdlc
+closed_down e = go e.shdlc.phase refl
+  where
+    go : (p : LinkState) → e.shdlc.phase ≡ p → IsClosed (put_down true e).shdlc
+    go Up p = rw p (record { phase = refl; due = refl })
+    go Waiting p = rw p (record { phase = refl; due = refl })
+    go Down p = let c : IsClosed (record e.shdlc { due = [] }) = record { phase = p; due = refl } in rw p (rw p at c)
+
+-- an end that was closed stays so, or its link goes down
+pub role_closes : (r : Role) (event : ActEvent) → is_open (role_after r event) ≡ false → (is_open r ≡ false) ⊎ ((act_answer r event).ended_link ≡ true)
+role_closes Bare event q = inl q
+role_closes (Clf s) (ActStart v) q = inr refl
+role_closes (Clf s) ActStop q = inr refl
+role_closes (Clf s) (ActTake act true) q = inl q
+role_closes (Clf s) (ActTake (PowerMode code) false) q = inl q
+role_closes (Clf s) (ActTake (SyncId id) false) q = go s.phase refl
+  where
+    go : (p : Phase) → s.phase ≡ p → (is_open (Clf s) ≡ false) ⊎ ((act_answer (Clf s) (ActTake (SyncId id) false)).ended_link ≡ true)
+    go Inactive p = inl (rw p refl)
+    go (Awaiting tries ticks) p = inl (rw p refl)
+    go Active p = inr (rw p refl)
+role_closes (Clf s) (ActTake ActReady false) q = go s.phase refl
+  where
+    go : (p : Phase) → s.phase ≡ p → (is_open (Clf s) ≡ false) ⊎ ((act_answer (Clf s) (ActTake ActReady false)).ended_link ≡ true)
+    go Inactive p = inl (rw p refl)
+    go (Awaiting tries ticks) p = inl (rw p refl)
+    go Active p = absurd (let z = rw p at q in cc)
+role_closes (Clf s) ActTick q = go s.phase refl
+  where
+    go : (p : Phase) → s.phase ≡ p → (is_open (Clf s) ≡ false) ⊎ ((act_answer (Clf s) ActTick).ended_link ≡ true)
+    go Inactive p = inl (rw p refl)
+    go (Awaiting tries ticks) p = inl (rw p refl)
+    go Active p = absurd (let z = rw p at q in cc)
+role_closes (Uicc s) (ActStart v) q = inr refl
+role_closes (Uicc s) ActStop q = inr refl
+role_closes (Uicc s) (ActTake act true) q = inl q
+role_closes (Uicc s) (ActTake ActReady false) q = inl q
+role_closes (Uicc s) (ActTake (SyncId id) false) q = inl q
+role_closes (Uicc s) (ActTake (PowerMode code) false) q = go s.phase (nat_le code 1) refl refl
+  where
+    go : (p : Phase) (b : Bool) → s.phase ≡ p → nat_le code 1 ≡ b
+        → (is_open (Uicc s) ≡ false) ⊎ ((act_answer (Uicc s) (ActTake (PowerMode code) false)).ended_link ≡ true)
+    go Inactive b p c = inl (rw p refl)
+    go (Awaiting tries ticks) b p c = inl (rw p refl)
+    go Active true p c = absurd (let z = rw (c, p) at q in cc)
+    go Active false p c = inl (let z = rw c at q in z)
+role_closes (Uicc s) ActTick q = go s.phase refl
+  where
+    go : (p : Phase) → s.phase ≡ p → (is_open (Uicc s) ≡ false) ⊎ ((act_answer (Uicc s) ActTick).ended_link ≡ true)
+    go Inactive p = inl (rw p refl)
+    go (Awaiting tries ticks) p = inl (rw p refl)
+    go Active p = absurd (let z = rw p at q in cc)
+
+sound_act : (o : Option Activation) (e : LinkEnd) → Sound e → Sound (with_act o e)
+sound_act None e h = h
+sound_act (Some act) e h = record { is = data_as e (with_act (Some act) e) refl refl refl h.is; closed = h.closed }
+
+sound_activated : (e : LinkEnd) (event : ActEvent) → Sound e → Sound (activated e event)
+sound_activated e event h = sound_act (act_answer e.role event).send f (by (act_answer e.role event).ended_link refl)
+  where
+    r : Role
+    r = role_after e.role event
+
+    f : LinkEnd
+    f = record (put_down (act_answer e.role event).ended_link e) { role = r }
+
+    at : Bool → LinkEnd
+    at b = record (put_down b e) { role = r }
+
+    by : (b : Bool) → (act_answer e.role event).ended_link ≡ b → Sound f
+    by true q =
+        let s : Sound (at true) =
+        record { is = data_as (put_down true e) (at true) refl refl refl (data_down e h.is); closed = λ _. closed_down e } in
+        let P : Bool → Type 0 = λ b. Sound (at b) in subst P (sym q) s
+    by false q =
+        let s : Sound (at false) = record { is = data_as e (at false) refl refl refl h.is; closed = λ c. still (role_closes e.role event c) } in
+        let P : Bool → Type 0 = λ b. Sound (at b) in subst P (sym q) s
+      where
+        still : (is_open e.role ≡ false) ⊎ ((act_answer e.role event).ended_link ≡ true) → IsClosed e.shdlc
+        still (inl c) = h.closed c
+        still (inr b) = absurd (true≢false (sym b ∙ q))
+
+-- an end whose link was put down for activation
+sound_stopped : (e : LinkEnd) → Sound e → Sound (moved e true (stopped e.shdlc))
+sound_stopped e h = record { is = go e.shdlc.phase refl; closed = λ _. record { phase = refl; due = refl } }
+  where
+    at : (b : Bool) → is_some (if_up e.shdlc ByAct) ≡ b → Shift e.shdlc (stopped e.shdlc) b false
+    at b q = let P : Bool → Type 0 = λ c. Shift e.shdlc (stopped e.shdlc) c false in subst P q (stopped_shift e.shdlc ByAct)
+
+    go : (p : LinkState) → e.shdlc.phase ≡ p → Data (moved e true (stopped e.shdlc))
+    go Up p = data_moved e true false (stopped e.shdlc) (at true (rw p refl)) h.is
+    go Waiting p =
+        shifted e (moved e true (stopped e.shdlc)) false false (at false (rw p refl)) (sym (h.is.forgot (λ u. let z = sym p ∙ u in cc))) refl h.is
+    go Down p =
+        shifted e (moved e true (stopped e.shdlc)) false false (at false (rw p refl)) (sym (h.is.forgot (λ u. let z = sym p ∙ u in cc))) refl h.is
+
+-- ## Frames and ticks
+
+sound_heard : (e : LinkEnd) (c : Control) → is_open e.role ≡ true → Sound e → Sound (heard e c)
+sound_heard e c o h = go (is_faulty (taken e.shdlc c).session) refl
+  where
+    b : Bool
+    b = is_some (take_answer e.shdlc c).ended
+
+    s : EndState
+    s = taken e.shdlc c
+
+    good : LinkEnd
+    good = record (moved e b s) { got = e.got ++ news e.shdlc.session s }
+
+    put_down_role : (p : LinkState) → e.shdlc.phase ≡ p → (put_down true e).role ≡ e.role
+    put_down_role Up p = rw p refl
+    put_down_role Waiting p = rw p refl
+    put_down_role Down p = rw p refl
+
+    down : Sound (put_down true e)
+    down = record { is = data_down e h.is; closed = λ _. closed_down e }
+
+    fine : Sound good
+    fine =
+        let m = sound_moved e b (take_answer e.shdlc c).began s (taken_shift e.shdlc c) o h in
+        record { is = data_as (moved e b s) good refl refl refl m.is; closed = m.closed }
+
+    go : (f : Bool) → is_faulty (taken e.shdlc c).session ≡ f → Sound (heard e c)
+    go true q = rw q down
+    go false q = rw q fine
+
+sound_took : (e : LinkEnd) (c : Control) → Sound e → Sound (took e c)
+sound_took e (Act act again) h = sound_activated e (ActTake act again) h
+sound_took e Clt h = record { is = data_as e (took e Clt) refl refl refl h.is; closed = h.closed }
+sound_took e (I ns nr info) h = by (is_open e.role) refl
+  where
+    by : (b : Bool) → is_open e.role ≡ b → Sound (took e (I ns nr info))
+    by true o = rw o (sound_heard e (I ns nr info) o h)
+    by false o = rw o h
+sound_took e (S kind nr) h = by (is_open e.role) refl
+  where
+    by : (b : Bool) → is_open e.role ≡ b → Sound (took e (S kind nr))
+    by true o = rw o (sound_heard e (S kind nr) o h)
+    by false o = rw o h
+sound_took e (Rset w caps) h = by (is_open e.role) refl
+  where
+    by : (b : Bool) → is_open e.role ≡ b → Sound (took e (Rset w caps))
+    by true o = rw o (sound_heard e (Rset w caps) o h)
+    by false o = rw o h
+sound_took e Ua h = by (is_open e.role) refl
+  where
+    by : (b : Bool) → is_open e.role ≡ b → Sound (took e Ua)
+    by true o = rw o (sound_heard e Ua o h)
+    by false o = rw o h
+
+sound_tick : (e : LinkEnd) → Sound e → Sound (had_tick e)
+sound_tick e h = by (is_open e.role) refl
+  where
+    by : (b : Bool) → is_open e.role ≡ b → Sound (had_tick e)
+    by true o = rw o (sound_moved e (is_some (tick_answer e.shdlc).ended) false (ticked e.shdlc) (ticked_shift e.shdlc) o h)
+    by false o = rw o (sound_activated e ActTick h)
+
+sound_reset : (e : LinkEnd) (window : Option ℕ) → Sound e → Sound (after_input e (Reset window))
+sound_reset e window h = by (is_open e.role) (is_waiting e.shdlc) refl refl
+  where
+    by : (a b : Bool) → is_open e.role ≡ a → is_waiting e.shdlc ≡ b → Sound (after_input e (Reset window))
+    by false b o w = rw o h
+    by true true o w = rw (o, w) h
+    by true false o w =
+        let s = sound_moved e (is_some (if_up e.shdlc Asked)) false (reset_with e.shdlc (window_of e window))
+        (reset_shift e.shdlc (window_of e window) Asked w) o h in
+        rw (o, w) (rw w at s)
+
+-- ## What its node does
+
+ready_data : (e : LinkEnd) (r : Bool) → Sound e → Sound (record e { shdlc = with_ready e.shdlc r })
+ready_data e r h = go e.shdlc.ready r e.shdlc.session.answered_rnr refl refl refl
+  where
+    f : Bool → List Due → EndState
+    f ready due = record e.shdlc { ready = ready; due = due; session = record e.shdlc.session { answered_rnr = false } }
+
+    changed : (ready : Bool) (due : List Due) → (is_open e.role ≡ false → due ≡ []) → Sound (record e { shdlc = f ready due })
+    changed ready due empty =
+        record {
+          is = record {
+            out = h.is.out;
+            none = λ n. ap (λ (s : Session). record s { answered_rnr = false }) (h.is.none n);
+            forgot = h.is.forgot;
+            acked = h.is.acked;
+            reached = h.is.reached;
+            room = h.is.room;
+          };
+          closed = λ c. record { phase = (h.closed c).phase; due = empty c };
+        }
+
+    unanswered : e.shdlc.session.answered_rnr ≡ true → is_open e.role ≡ false → e.shdlc.due ++ Rr_due ∷ [] ≡ []
+    unanswered q c =
+        let no : IsNotUp e.shdlc = λ u. let z = sym (h.closed c).phase ∙ u in cc in
+        let z : false ≡ true = sym (ap (λ (s : Session). s.answered_rnr) (h.is.none no)) ∙ q in absurd (cc)
+
+    go : (was now noted : Bool) → e.shdlc.ready ≡ was → r ≡ now → e.shdlc.session.answered_rnr ≡ noted → Sound (record e { shdlc = with_ready e.shdlc r })
+    go true true noted p q n = rw (p, q) (let z = h in rw p at z)
+    go false false noted p q n = rw (p, q) (let z = h in rw p at z)
+    go true false noted p q n = rw (p, q) (let z = changed false e.shdlc.due (λ c. (h.closed c).due) in z)
+    go false true true p q n = rw (p, q, n) (changed true (e.shdlc.due ++ Rr_due ∷ []) (unanswered n))
+    go false true false p q n = rw (p, q, n) (changed true e.shdlc.due (λ c. (h.closed c).due))
+
+-- a message that isn't refused
+record IsGiven (e : LinkEnd) (m : Message) : Type 0 where
+  up : e.shdlc.phase ≡ Up
+  room : need m.1 ≤ spare e
+
+give_tells : (e : LinkEnd) (m : Message) → give_refusal e m ≡ None → IsGiven e m
+give_tells e m q = go e.shdlc.phase (nat_lt 4096 (length m.1)) (nat_lt (spare e) (need m.1)) refl refl refl
+  where
+    go : (p : LinkState) (b c : Bool) → e.shdlc.phase ≡ p → nat_lt 4096 (length m.1) ≡ b → nat_lt (spare e) (need m.1) ≡ c → IsGiven e m
+    go Up false false p b c = record { up = p; room = ltb-false (spare e) (need m.1) c }
+    go Up false true p b c = absurd (let z = rw (p, b, c) at q in cc)
+    go Up true c p b r = absurd (let z = rw (p, b) at q in cc)
+    go Waiting b c p r t = absurd (let z = rw p at q in cc)
+    go Down b c p r t = absurd (let z = rw p at q in cc)
+
+data_given : (e : LinkEnd) (m : Message) → IsSendable m → IsGiven e m → Data e → Data (given e m)
+data_given e m s g h =
+    let f : Message → List (List ℕ) = λ k. map packet_bytes (packets_of k.0 k.1) in
+    let last : fragments_of (m ∷ []) ≡ f m = append-nil (f m) in
+    let a : ℕ = e.shdlc.session.acked in
+    let len : length e.shdlc.session.out ≡ length (fragments_of e.sent) = ap (λ (xs : List (List ℕ)). length xs) h.out in
+    let count : 0 < packet_count (length m.1) = let n = s.1 in omega (arith, n) in
+    let whole : whole_among (e.sent ++ m ∷ []) a ≡ whole_among e.sent a = whole_given e.sent m a count (omega (arith, len, h.acked, h.reached)) in
+    let few = whole_few e.sent a in
+    let more = need_more e.sent m (whole_among e.sent a) few in
+    let blocks : in_use (given e m) ≡ in_use e + need m.1 = ap (λ n. need_of_all (drop n (e.sent ++ m ∷ []))) whole ∙ more in
+    let grown = length-append e.shdlc.session.out (f m) in
+    record {
+      out = ap (λ fs. fs ++ f m) h.out ∙ sym (flat_map-append f e.sent (m ∷ []) ∙ ap (λ fs. fragments_of e.sent ++ fs) last);
+      none = λ no. absurd (no g.up);
+      forgot = λ no. absurd (no g.up);
+      acked = h.acked;
+      reached = omega (arith, h.reached, grown);
+      room = omega (arith, blocks, g.room, h.room);
+    }
+
+pub sound_turn : (e : LinkEnd) (t : Turn) → AreSendableInputs (FromNode t ∷ []) → Sound e → Sound (turn e t)
+sound_turn e (Give m) a h = by (give_refusal e m) refl
+  where
+    by : (o : Option Refused) → give_refusal e m ≡ o → Sound (turn e (Give m))
+    by (Some why) q = rw q h
+    by None q =
+        let s : Sound (given e m) = record {
+          is = data_given e m a.0 (give_tells e m q) h.is;
+          closed = λ c. let k = h.closed c in record { phase = k.phase; due = k.due };
+        } in rw q s
+sound_turn e (Hold held) a h = ready_data e (not held) h
+sound_turn e FetchMessage a h = record { is = data_as e (turn e FetchMessage) refl refl refl h.is; closed = h.closed }
+sound_turn e SetAside a h = by (nat_lt 0 (spare e)) refl
+  where
+    by : (b : Bool) → nat_lt 0 (spare e) ≡ b → Sound (turn e SetAside)
+    by true q =
+        let i = ltb-true 0 (spare e) q in
+        let f : LinkEnd = record e { aside = e.aside + 1 } in
+        let s : Sound f =
+        record {
+          is = record {
+            out = h.is.out;
+            none = h.is.none;
+            forgot = h.is.forgot;
+            acked = h.is.acked;
+            reached = h.is.reached;
+            room = let r = h.is.room in omega (arith, r, i);
+          };
+          closed = h.closed;
+        } in
+        rw q s
+    by false q = rw q h
+sound_turn e Release a h =
+    record {
+      is = record {
+        out = h.is.out;
+        none = h.is.none;
+        forgot = h.is.forgot;
+        acked = h.is.acked;
+        reached = h.is.reached;
+        room = let r = h.is.room in omega (arith, r);
+      };
+      closed = h.closed;
+    }
+
+-- ## A frame is fetched
+
+pub fetched_data : (e : LinkEnd) (acts : List ActDue) → Sound e → Sound (record e { shdlc = fetched e.shdlc; acts = acts })
+fetched_data e acts h = go e.shdlc.due (fragment_due e.shdlc.session) refl refl
+  where
+    s : Session
+    s = e.shdlc.session
+
+    f : EndState → LinkEnd
+    f g = record e { shdlc = g; acts = acts }
+
+    next : (info : Fragment) → slice_get s.out s.next ≡ Some info → s.next < length s.out
+    next info q = slice_get_within s.out s.next info q
+
+    due_next : (info : Fragment) → fragment_due s ≡ Some info → slice_get s.out s.next ≡ Some info
+    due_next info q = grind (arith, common_steps)
+
+    not_none : (info : Fragment) → fragment_due s ≡ Some info → s ≡ no_session → ⊥
+    not_none info q z = let n : None ≡ Some info = sym (ap fragment_due z) ∙ q in cc
+
+    go : (ds : List Due) (o : Option Fragment) → e.shdlc.due ≡ ds → fragment_due s ≡ o → Sound (record e { shdlc = fetched e.shdlc; acts = acts })
+    go [] None p q =
+        let k : Sound (f e.shdlc) = record { is = data_as e (f e.shdlc) refl refl refl h.is; closed = h.closed } in
+        rw (p, q) (rw p at k)
+    go [] (Some info) p q =
+        let i = next info (due_next info q) in
+        let k : Sound (f (record e.shdlc { session = sent_next s })) =
+        record {
+          is = record {
+            out = h.is.out;
+            none = λ no. absurd (not_none info q (h.is.none no));
+            forgot = h.is.forgot;
+            acked = let a = h.is.acked in omega (arith, a);
+            reached = let r = h.is.reached in omega (arith, r, i);
+            room = h.is.room;
+          };
+          closed = λ c. absurd (not_none info q (h.is.none (λ u. let z = sym (h.closed c).phase ∙ u in cc)));
+        } in
+        rw (p, q) (rw p at k)
+    go (d ∷ ds) o p q =
+        let k : Sound (f (record e.shdlc { due = ds })) =
+        record {
+          is = record { out = h.is.out; none = h.is.none; forgot = h.is.forgot; acked = h.is.acked; reached = h.is.reached; room = h.is.room };
+          closed = λ c. absurd (let z = sym (h.closed c).due ∙ p in cc);
+        } in
+        rw p k
+
+sound_fetch : (e : LinkEnd) → Sound e → Sound (frame_fetched e)
+sound_fetch e h = go e.acts refl
+  where
+    go : (acts : List ActDue) → e.acts ≡ acts → Sound (frame_fetched e)
+    go [] p = let k = fetched_data e [] h in rw p k
+    go (a ∷ acts) p = by (a.behind == 0) refl
+      where
+        by : (b : Bool) → (a.behind == 0) ≡ b → Sound (frame_fetched e)
+        by true q =
+            let k : Sound (record e { acts = acts }) = record { is = data_as e (record e { acts = acts }) refl refl refl h.is; closed = h.closed } in
+            rw (p, q) k
+        by false q = let k = fetched_data e (map nearer (a ∷ acts)) h in rw (p, q) k
+
+-- ## Runs
+
+pub sound_input : (e : LinkEnd) (i : LinkInput) → AreSendableInputs (i ∷ []) → Sound e → Sound (after_input e i)
+sound_input e (Take c) a h = sound_took e c h
+sound_input e TakeUnknown a h = record { is = data_as e (after_input e TakeUnknown) refl refl refl h.is; closed = h.closed }
+sound_input e (TakeBroken fault) a h = h
+sound_input e Tick a h = sound_tick e h
+sound_input e (Reset window) a h = sound_reset e window h
+sound_input e (Start v) a h = sound_activated (moved e true (stopped e.shdlc)) (ActStart v) (sound_stopped e h)
+sound_input e Stop a h = sound_activated (moved e true (stopped e.shdlc)) ActStop (sound_stopped e h)
+sound_input e (FromNode t) a h = sound_turn e t a h
+sound_input e Fetch a h = sound_fetch e h
+
+-- the first of these, and the others
+pub parted : (i : LinkInput) (is : List LinkInput) → AreSendableInputs (i ∷ is) → AreSendableInputs (i ∷ []) × AreSendableInputs is
+parted (FromNode (Give m)) is a = ((a.0, tt), a.1)
+parted (FromNode (Hold held)) is a = (tt, a)
+parted (FromNode FetchMessage) is a = (tt, a)
+parted (FromNode SetAside) is a = (tt, a)
+parted (FromNode Release) is a = (tt, a)
+parted (Take c) is a = (tt, a)
+parted TakeUnknown is a = (tt, a)
+parted (TakeBroken fault) is a = (tt, a)
+parted Tick is a = (tt, a)
+parted (Reset window) is a = (tt, a)
+parted (Start v) is a = (tt, a)
+parted Stop is a = (tt, a)
+parted Fetch is a = (tt, a)
+
+sound_inputs : (is : List LinkInput) (e : LinkEnd) → AreSendableInputs is → Sound e → Sound (after_inputs e is)
+sound_inputs [] e a h = h
+sound_inputs (i ∷ is) e a h = let p = parted i is a in sound_inputs is (after_input e i) p.1 (sound_input e i p.0 h)
+
+pub new_sound : (role : Role) → Sound (new_link_end role)
+new_sound Bare =
+    record {
+      is = record {
+        out = refl;
+        none = λ no. absurd (no refl);
+        forgot = λ _. refl;
+        acked = omega arith;
+        reached = omega arith;
+        room = omega arith;
+      };
+      closed = λ c. absurd (true≢false c);
+    }
+new_sound (Clf s) =
+    record {
+      is = record { out = refl; none = λ _. refl; forgot = λ _. refl; acked = omega arith; reached = omega arith; room = omega arith };
+      closed = λ _. record { phase = refl; due = refl };
+    }
+new_sound (Uicc s) =
+    record {
+      is = record { out = refl; none = λ _. refl; forgot = λ _. refl; acked = omega arith; reached = omega arith; room = omega arith };
+      closed = λ _. record { phase = refl; due = refl };
+    }
+
+pub sound : (role : Role) (is : List LinkInput) → AreSendableInputs is → Sound (after_inputs (new_link_end role) is)
+sound role is a = sound_inputs is (new_link_end role) a (new_sound role)

@@ -1,0 +1,189 @@
+-- Where an end doesn't wait it has no RSET to send, and frames that are none give a link no number.
+use Rattle.std.proofs.Common.{◌≡◌, ℕ, zero, suc, Bool, true, false, List, [], ◌∷◌, ◌++◌, Option, Some, None, refl, ap, sym, ◌∙◌}
+use Rattle.std.specs.Prelude.{◌+◌, ◌==◌, nat_lt}
+use Rattle.std.proofs.lemmas.Bool.{true≢false}
+use Rattle.swp_base.specs.declared.control_frames.Kind.{Kind}
+use Rattle.swp_base.specs.declared.control_frames.Kind.TheVariants.{Rr, Rej, Rnr, Srej}
+use Rattle.swp_base.specs.declared.control_frames.Control.{Control}
+use Rattle.swp_base.specs.declared.control_frames.Control.TheVariants.{I, S, Rset, Ua, Act, Clt}
+use Rattle.shdlc_core.specs.declared.answers.LinkState.{LinkState}
+use Rattle.shdlc_core.specs.declared.answers.LinkState.TheVariants.{Down, Waiting, Up}
+use Rattle.shdlc_core.specs.declared.answers.Due.{Due}
+use Rattle.shdlc_core.specs.declared.answers.Due.TheVariants.{Rr as Rr_due, Rej as Rej_due, Rnr as Rnr_due, Rset as Rset_due, Ua as Ua_due}
+use Rattle.shdlc_core.specs.Machine.{EndState, Fragment, fetched, frame_due, frames_of, control_due, taken, ticked, is_waiting, place_of, acknowledged}
+use Rattle.shdlc_core.specs.Machine.{received, runs_timer}
+use Rattle.link_laws.proofs.places.Joined.{fetch_cases, ready_cases, received_cases}
+use Rattle.link_laws.specs.sessions.Sessions.{ShdlcTurn, is_rset, shdlc_turn, shdlc_turned}
+use Rattle.link_laws.specs.sessions.Sessions.ShdlcTurn.{Offer, SetReady}
+use Rattle.link_laws.specs.messages.Links.{Link, put, put_all}
+use Rattle.link_laws.proofs.sessions.Ties.{turn-phase as turn_phase}
+
+-- it is an RSET
+abbrev pub is_ask : Due → Bool
+is_ask Rset_due = true
+is_ask Rr_due = false
+is_ask Rej_due = false
+is_ask Rnr_due = false
+is_ask Ua_due = false
+
+-- none of these is an RSET
+abbrev pub NoAsk : List Due → Type 0
+NoAsk [] = Unit {0}
+NoAsk (d ∷ ds) = (is_ask d ≡ false) × NoAsk ds
+
+no_ask_more : (ds : List Due) (d : Due) → is_ask d ≡ false → NoAsk ds → NoAsk (ds ++ d ∷ [])
+no_ask_more [] d q a = (q, tt)
+no_ask_more (x ∷ ds) d q a = (a.0, no_ask_more ds d q a.1)
+
+-- nothing is due
+pub none_due : (e : EndState) → e.due ≡ [] → NoAsk e.due
+none_due e q = rw q tt
+
+-- ## What comes to an end
+
+up_I : (e : EndState) (ns nr : ℕ) (info : Fragment) → e.phase ≡ Up → NoAsk e.due → NoAsk (taken e (I ns nr info)).due
+up_I e ns nr info up a = go (place_of e.session nr) refl
+  where
+    by : (x : ℕ) → NoAsk (received (acknowledged e x) ns info).due
+    by x =
+        received_cases (λ f. NoAsk f.due) (acknowledged e x) ns info (λ _. no_ask_more e.due Rr_due refl a) (λ _ _. a)
+        (λ _ _. no_ask_more e.due Rej_due refl a) (λ _ _. no_ask_more e.due Rr_due refl a) (no_ask_more e.due Rnr_due refl a)
+
+    go : (o : Option ℕ) → place_of e.session nr ≡ o → NoAsk (taken e (I ns nr info)).due
+    go None q = rw (up, q) a
+    go (Some x) q = rw (up, q) (let z = by x in rw up at z)
+
+up_S : (e : EndState) (k : Kind) (nr : ℕ) → e.phase ≡ Up → NoAsk e.due → NoAsk (taken e (S k nr)).due
+up_S e k nr up a = go k (place_of e.session nr) refl
+  where
+    go : (k : Kind) (o : Option ℕ) → place_of e.session nr ≡ o → NoAsk (taken e (S k nr)).due
+    go Rr None q = rw (up, q) a
+    go Rr (Some x) q = rw (up, q) a
+    go Rej None q = rw (up, q) a
+    go Rej (Some x) q = rw (up, q) a
+    go Rnr None q = rw (up, q) a
+    go Rnr (Some x) q = rw (up, q) a
+    go Srej o q = rw up a
+
+-- a frame makes no RSET
+pub taken_asks : (e : EndState) (c : Control) → NoAsk e.due → NoAsk (taken e c).due
+taken_asks e c a = go e.phase refl c
+  where
+    go : (p : LinkState) → e.phase ≡ p → (c : Control) → NoAsk (taken e c).due
+    go Up p (I ns nr info) = up_I e ns nr info p a
+    go Up p (S kind nr) = up_S e kind nr p a
+    go Up p (Rset w caps) = by (w == 0) refl
+      where
+        by : (b : Bool) → (w == 0) ≡ b → NoAsk (taken e (Rset w caps)).due
+        by true q = rw (p, q) a
+        by false q = rw (p, q) (refl, tt)
+    go Up p Ua = rw p a
+    go Up p (Act x y) = rw p a
+    go Up p Clt = rw p a
+    go Waiting p Ua = rw p a
+    go Waiting p (Rset w caps) = by (w == 0) refl
+      where
+        by : (b : Bool) → (w == 0) ≡ b → NoAsk (taken e (Rset w caps)).due
+        by true q = rw (p, q) a
+        by false q = rw (p, q) (no_ask_more e.due Ua_due refl a)
+    go Waiting p (I ns nr info) = rw p a
+    go Waiting p (S kind nr) = rw p a
+    go Waiting p (Act x y) = rw p a
+    go Waiting p Clt = rw p a
+    go Down p (Rset w caps) = by (w == 0) refl
+      where
+        by : (b : Bool) → (w == 0) ≡ b → NoAsk (taken e (Rset w caps)).due
+        by true q = rw (p, q) a
+        by false q = rw (p, q) (no_ask_more e.due Ua_due refl a)
+    go Down p (I ns nr info) = rw p a
+    go Down p (S kind nr) = rw p a
+    go Down p Ua = rw p a
+    go Down p (Act x y) = rw p a
+    go Down p Clt = rw p a
+
+-- nor does a tick, where the end doesn't wait then
+pub ticked_asks : (e : EndState) → is_waiting (ticked e) ≡ false → NoAsk e.due → NoAsk (ticked e).due
+ticked_asks e n a = go e.phase (runs_timer e.session) (nat_lt (e.timer + 1) 10) (nat_lt e.tries 5) refl refl refl refl
+  where
+    go : (p : LinkState) (a b c : Bool) → e.phase ≡ p → runs_timer e.session ≡ a → nat_lt (e.timer + 1) 10 ≡ b → nat_lt e.tries 5 ≡ c → NoAsk (ticked e).due
+    go Down x b c p q r t = rw p a
+    go Up false b c p q r t = rw (p, q) a
+    go Up true true c p q r t = rw (p, q, r) a
+    go Up true false true p q r t = rw (p, q, r, t) a
+    go Up true false false p q r t = absurd (let z : true ≡ false = rw (p, q, r, t) at n in cc)
+    go Waiting x true c p q r t = absurd (let z : true ≡ false = rw (p, r) at n in cc)
+    go Waiting x false true p q r t = absurd (let z : true ≡ false = rw (p, r, t) at n in cc)
+    go Waiting x false false p q r t = rw (p, r, t) a
+
+turn_asks : (e : EndState) (t : ShdlcTurn) → NoAsk e.due → NoAsk (shdlc_turn e t).due
+turn_asks e (Offer fs) a = go e.phase refl
+  where
+    go : (p : LinkState) → e.phase ≡ p → NoAsk (shdlc_turn e (Offer fs)).due
+    go Up p = rw p a
+    go Waiting p = rw p a
+    go Down p = rw p a
+turn_asks e (SetReady r) a = ready_cases (λ f. NoAsk f.due) e r a a (no_ask_more e.due Rr_due refl a)
+
+-- nor do the turns of its node
+pub turned_asks : (e : EndState) (ts : List ShdlcTurn) → NoAsk e.due → NoAsk (shdlc_turned e ts).due
+turned_asks e [] a = a
+turned_asks e (t ∷ ts) a = turned_asks (shdlc_turn e t) ts (turn_asks e t a)
+
+-- turns leave it Up, waiting or Down
+pub turned_phase : (e : EndState) (ts : List ShdlcTurn) → (shdlc_turned e ts).phase ≡ e.phase
+turned_phase e [] = refl
+turned_phase e (t ∷ ts) = turned_phase (shdlc_turn e t) ts ∙ turn_phase e t
+
+-- ## What it sends
+
+-- none of these is an RSET
+abbrev pub NoRset : List Control → Type 0
+NoRset [] = Unit {0}
+NoRset (c ∷ cs) = (is_rset c ≡ false) × NoRset cs
+
+control_no_rset : (e : EndState) (d : Due) → is_ask d ≡ false → is_rset (control_due e d) ≡ false
+control_no_rset e Rr_due q = refl
+control_no_rset e Rej_due q = refl
+control_no_rset e Rnr_due q = refl
+control_no_rset e Ua_due q = refl
+control_no_rset e Rset_due q = q
+
+-- a frame that is fetched
+record Fetches (f : EndState) (o : Option Control) : Type 0 where
+  frame : (c : Control) → o ≡ Some c → is_rset c ≡ false
+  rest : NoAsk f.due
+
+fetches : (e : EndState) → NoAsk e.due → Fetches (fetched e) (frame_due e)
+fetches e a =
+    fetch_cases Fetches e
+    (λ d ds p. let z : NoAsk (d ∷ ds) = rw p at a in
+    record { frame = λ c q. let same : control_due e d ≡ c = cc in ap is_rset (sym same) ∙ control_no_rset e d z.0; rest = z.1 })
+    (λ p q. record { frame = λ c r. absurd (let z = r in cc); rest = a })
+    (λ info p q. record { frame = λ c r. fragment r; rest = a })
+  where
+    fragment : {n m : ℕ} {info : List ℕ} {c : Control} → Some (I n m info) ≡ Some c → is_rset c ≡ false
+    fragment {n} {m} {info} {c} r = let same : I n m info ≡ c = cc in ap is_rset (sym same)
+
+-- where no RSET is due none goes out
+pub no_rset : (n : ℕ) (e : EndState) → NoAsk e.due → NoRset (frames_of n e)
+no_rset zero e a = tt
+no_rset (suc n) e a = go (frame_due e) refl (no_rset n (fetched e) (fetches e a).rest)
+  where
+    go : (o : Option Control) → frame_due e ≡ o → NoRset (frames_of n (fetched e)) → NoRset (frames_of (suc n) e)
+    go None q later = rw q tt
+    go (Some c) q later = rw q ((fetches e a).frame c q, later)
+
+-- frames that are no RSETs change the wire to the host alone
+pub puts_none : (cs : List Control) (l : Link) → NoRset cs → put_all l cs ≡ record l { to_host = (put_all l cs).to_host }
+puts_none [] l a = refl
+puts_none (c ∷ cs) l a =
+    let later = puts_none cs (put l c) a.1 in
+    later ∙ ap (λ (m : Link). record m { to_host = (put_all (put l c) cs).to_host }) (one c a.0)
+  where
+    one : (c : Control) → is_rset c ≡ false → put l c ≡ record l { to_host = (put l c).to_host }
+    one (I _ _ _) q = refl
+    one (S _ _) q = refl
+    one (Rset _ _) q = absurd (true≢false q)
+    one Ua q = refl
+    one (Act _ _) q = refl
+    one Clt q = refl

@@ -1,0 +1,683 @@
+-- Each step of an end is projected, whether its frames go out or its node loses power before that.
+use Rattle.std.proofs.Common.{◌≡◌, ℕ, Bool, true, false, List, [], ◌∷◌, ◌++◌, Option, Some, None, ◌⊎◌, inl, inr, refl, ap, sym, subst, ◌∙◌}
+use Rattle.std.specs.Prelude.{◌+◌, ◌&&◌, nat_lt, is_some, option_to_list}
+use Rattle.std.proofs.lemmas.Bool.{true≢false}
+use Rattle.swp_base.specs.declared.control_frames.Control.{Control}
+use Rattle.swp_base.specs.declared.control_frames.Control.TheVariants.{I, S, Rset, Ua, Act, Clt}
+use Rattle.swp_base.specs.declared.control_frames.Act.{Act as Activation}
+use Rattle.swp_base.specs.declared.link_terms.Cause.TheVariants.{Asked}
+use Rattle.swp_act.specs.declared.ActEvent.{ActEvent}
+use Rattle.swp_act.specs.declared.ActEvent.TheVariants.{Take as ActTake, Tick as ActTick}
+use Rattle.swp_act.specs.declared.Phase.{Phase}
+use Rattle.swp_act.specs.declared.Phase.TheVariants.{Inactive, Awaiting, Active}
+use Rattle.shdlc_core.specs.declared.answers.LinkState.{LinkState}
+use Rattle.shdlc_core.specs.declared.answers.LinkState.TheVariants.{Down, Waiting, Up}
+use Rattle.shdlc_core.specs.Machine.{EndState, frame_due, frames_of, after_frames, most_frames, taken, take_answer, ticked, tick_answer, reset_with, is_waiting}
+use Rattle.shdlc_core.specs.Machine.{runs_timer, stopped, new_end, no_session}
+use Rattle.hcp_packet.specs.Packets.{fragments_of}
+use Rattle.link_laws.proofs.places.Idle.{after_frames_idle}
+use Rattle.link_laws.specs.sessions.Sessions.{OnWire, ShdlcLink as CoreLink, ShdlcTurn as CoreTurn, ShdlcEndEvent as CoreEndEvent}
+use Rattle.link_laws.specs.sessions.Sessions.{shdlc_turned as core_turned, is_up}
+use Rattle.link_laws.specs.sessions.Sessions.{shdlc_put_all as core_put_all, shdlc_becomes as core_becomes, with_shdlc_ended as core_with_ended}
+use Rattle.link_laws.specs.sessions.Sessions.{with_shdlc_controller as core_with_controller, shdlc_silent as core_silent}
+use Rattle.link_laws.specs.sessions.Sessions.{shdlc_happens_at_controller as core_happens_here, shdlc_all_at_controller as core_all_here}
+use Rattle.link_laws.specs.sessions.Sessions.{shdlc_ticks_at_controller as core_ticks_here, ticks_or_cut as core_ticks_or_cut, took_with}
+use Rattle.link_laws.specs.sessions.Sessions.ShdlcEndEvent.{Turns as CoreTurns, Deliver as CoreDeliver, Acts as CoreActs, Stop as CoreStop}
+use Rattle.link_laws.specs.machine.Machine.{LinkEnd, Role, Turn, Refused, is_faulty, is_open, role_after, act_answer, moved, put_down, activated, heard, took}
+use Rattle.link_laws.specs.machine.Machine.{renewed, new_link_end, reset_refusal, if_up, reset_by, window_of, turned, after_input, among, frames_out, sent_all}
+use Rattle.link_laws.specs.machine.Machine.{ended_by, ended_by_act, ended_by_frame}
+use Rattle.link_laws.specs.machine.Machine.LinkInput.{Tick}
+use Rattle.link_laws.specs.machine.Machine.Role.{Bare, Clf, Uicc}
+use Rattle.link_laws.specs.messages.Links.{NumberedEnd, Link, Ending, becomes, put_all, with_controller, with_ended, silent, cut, finished}
+use Rattle.link_laws.specs.messages.Links.{has_taken, has_restarted}
+use Rattle.link_laws.specs.messages.Links.{steps_at_controller, ticks_at_controller, AreSendableTurns, IfLine, CanEnd}
+use Rattle.link_laws.specs.messages.Links.Ending.{GoesOut, CutOff}
+use Rattle.link_laws.specs.messages.Links.Comes.{NextFrame, AsksReset}
+use Rattle.link_laws.specs.messages.Projection.{core_of, core_turns, core_take, core_ending, core_reset, core_restart, core_step, is_lost_tick, core_tick}
+use Rattle.link_laws.specs.messages.Projection.{core_tick_rest}
+use Rattle.link_laws.proofs.messages.Asks.{NoAsk, NoRset, none_due, no_rset, turned_asks, taken_asks, ticked_asks, turned_phase, puts_none}
+use Rattle.link_laws.proofs.messages.ActsInOrder.{ActsInOrder, LinkInOrder, IsPolite, with_sent, in_order_cut, in_order_tick}
+use Rattle.link_laws.proofs.messages.Ends.{Idle, Keeps, ticked_keeps, frames_alike}
+use Rattle.link_laws.proofs.messages.Project.{Mid, Now, mid_moved, moved_role, frames_now, among_now, Tells, Step, step_same, step_turned}
+use Rattle.link_laws.proofs.messages.Project.{step_moved, turns_mid}
+use Rattle.link_laws.proofs.messages.Project.{turned_role, past_ended, host_ended}
+use Rattle.link_laws.proofs.machine.Runs.{opened}
+use Rattle.link_laws.proofs.machine.Reports.{shdlc_is as shdlc_moved}
+use Rattle.link_laws.proofs.sessions.Steps.{took as core_took}
+use Rattle.link_laws.proofs.messages.Steps.{FromHost, Rests, is_shdlc, heard_end, heard_is, mid_counted, took_open, took_closed, no_fault_first}
+use Rattle.link_laws.proofs.messages.Steps.{polite, role_closes}
+use Rattle.link_laws.proofs.messages.Steps.{ComesFirst, step_first, stays_down, activated_role, act_mid, Acted, tick_closes, core_first}
+
+-- ## A step that is cut off
+
+-- both wires are empty, and the end is Down
+pub silent-core : (l : Link) (e : LinkEnd) → core_of (silent l e) ≡ core_silent (core_of l) e.shdlc
+silent-core l e = go l.controller.side.shdlc.phase refl
+  where
+    go : (p : LinkState) → l.controller.side.shdlc.phase ≡ p → core_of (silent l e) ≡ core_silent (core_of l) e.shdlc
+    go Up p = rw p refl
+    go Waiting p = rw p refl
+    go Down p = rw p refl
+
+step_silent : (l : Link) (e : LinkEnd) → Now e → Tells l.controller → (LinkInOrder l → ActsInOrder e.role l.host.side.role [] [])
+    → Step l (silent l e) (core_silent (core_of l) e.shdlc)
+step_silent l e n h wires =
+    record {
+      core = silent-core l e;
+      tells = record { now = n; past = past_ended l (is_up l.controller.side.shdlc.phase) h };
+      host = host_ended l (is_up l.controller.side.shdlc.phase);
+      in_order = λ z. let P : NumberedEnd → Type 0 = λ f. ActsInOrder e.role f.side.role [] [] in
+          subst P (sym (host_ended l (is_up l.controller.side.shdlc.phase))) (wires z);
+    }
+
+-- its node loses power
+pub step_cut : (l : Link) → IfLine l.controller.side.role → Tells l.controller → Step l (cut l) (core_silent (core_of l) (new_end 4))
+step_cut l line h = go l.controller.side.role line (λ z. in_order_cut l.controller.side.role l.host.side.role l.to_controller l.to_host line z)
+  where
+    fresh : (e : LinkEnd) → e.shdlc ≡ new_end 4 → e.sent ≡ [] → e.acts ≡ [] → Now e
+    fresh e q s a =
+        record {
+          acts = a;
+          idle = λ _. (ap (λ (z : EndState). z.session.out) q, ap (λ (z : EndState). z.session.acc) q);
+          closed = λ _. ap (λ (z : EndState). z.phase) q;
+          says = record { out = ap (λ (z : EndState). z.session.out) q ∙ ap fragments_of (sym s); short = rw s tt };
+        }
+
+    go : (r : Role) → IfLine r → (LinkInOrder l → ActsInOrder (renewed r) l.host.side.role [] [])
+        → Step l (silent l (new_link_end (renewed r))) (core_silent (core_of l) (new_end 4))
+    go Bare i in_order = absurd i
+    go (Clf s) i wires =
+        step_silent l (new_link_end (renewed (Clf s))) (fresh (new_link_end (renewed (Clf s))) refl refl refl) h wires
+    go (Uicc s) i wires =
+        step_silent l (new_link_end (renewed (Uicc s))) (fresh (new_link_end (renewed (Uicc s))) refl refl refl) h wires
+
+-- the link where the end with this role is new after a loss of power, whether a session ended or not
+abbrev cut_as : Link → Bool → Role → Link
+cut_as l b r =
+    let m : Link = with_ended l b in
+    record m { controller = record m.controller { side = new_link_end (renewed r) }; to_controller = []; to_host = [] }
+
+-- frames that are no RSETs leave no trace where the step is cut off
+cut_off_is : (k : Link) (e : LinkEnd) → NoRset (frames_out e) → cut (with_controller k (sent_all e)) ≡ cut (becomes k e)
+cut_off_is k e none =
+    sym (ap (λ (m : Link). cut (with_controller m (sent_all e))) (puts_none (frames_out e) k none) ∙ wire (is_up (sent_all e).shdlc.phase))
+  where
+    v : List OnWire
+    v = (put_all k (frames_out e)).to_host
+
+    wire : (b : Bool) → cut_as (with_controller (record k { to_host = v }) (sent_all e)) b (sent_all e).role
+        ≡ cut_as (with_controller k (sent_all e)) b (sent_all e).role
+    wire true = refl
+    wire false = refl
+
+-- a step ends: with its frames, or before that
+pub step_ends : (l k : Link) (e : LinkEnd) (c : CoreLink) (ending : Ending) → Step l (becomes k e) c → NoRset (frames_out e) → CanEnd e.role ending
+    → Step l (finished k e ending) (core_all_here c (core_ending ending))
+step_ends l k e c GoesOut st none can = st
+step_ends l k e c CutOff st none can =
+    let m : Link = becomes k e in
+    let sc = step_cut m can st.tells in
+    step_same l (cut (with_controller k (sent_all e))) (cut m) (core_silent c (new_end 4)) (core_silent c (new_end 4)) (cut_off_is k e none) refl
+    (record {
+      core = sc.core ∙ ap (λ d. core_silent d (new_end 4)) st.core;
+      tells = sc.tells;
+      host = sc.host ∙ st.host;
+      in_order = λ z. sc.in_order (st.in_order z);
+    })
+
+no_rset_acts : (o : Option Activation) (cs : List Control) → NoRset cs → NoRset (frames_now o ++ cs)
+no_rset_acts None cs a = a
+no_rset_acts (Some act) cs a = (refl, a)
+
+-- where no RSET was due before its node's turns, none goes out
+pub none_out : (o : Option Activation) (e : LinkEnd) (ts : List Turn) → AreSendableTurns ts → Mid o e → NoAsk e.shdlc.due → NoRset (frames_out (turned e ts))
+none_out o e ts a h n =
+    let t = turns_mid o e ts a h in
+    let asks : NoAsk (turned e ts).shdlc.due =
+    let P : EndState → Type 0 = λ s. NoAsk s.due in subst P (sym t.is) (turned_asks e.shdlc (core_turns e ts) n) in
+    let fs : List Control = frames_of most_frames (turned e ts).shdlc in
+    let is : frames_out (turned e ts) ≡ frames_now o ++ fs = ap (λ acts. among 0 acts fs) t.mid.acts ∙ among_now o fs in
+    subst NoRset (sym is) (no_rset_acts o fs (no_rset most_frames (turned e ts).shdlc asks))
+
+-- the role of an end after its node's turns lets its step end so
+pub can_end : (e : LinkEnd) (ts : List Turn) (r : Role) (ending : Ending) → e.role ≡ r → CanEnd r ending → CanEnd (turned e ts).role ending
+can_end e ts r ending q can = let P : Role → Type 0 = λ z. CanEnd z ending in subst P (sym (turned_role e ts ∙ q)) can
+
+-- ## Turns alone
+
+pub all_here-append : (c : CoreLink) (es fs : List CoreEndEvent) → core_all_here c (es ++ fs) ≡ core_all_here (core_all_here c es) fs
+all_here-append c [] fs = refl
+all_here-append c (e ∷ es) fs = all_here-append (core_happens_here c e) es fs
+
+pub step_idle : (l : Link) (ts : List Turn) (ending : Ending) → AreSendableTurns ts → CanEnd l.controller.side.role ending → Tells l.controller
+    → Rests l.controller.side.shdlc
+    → Step l (finished l (turned l.controller.side ts) ending)
+    (core_all_here (core_of l) (CoreTurns (core_turns l.controller.side ts) ∷ core_ending ending))
+step_idle l ts ending a can h r =
+    let e : LinkEnd = l.controller.side in
+    step_ends l l (turned e ts) (core_happens_here (core_of l) (CoreTurns (core_turns e ts))) ending
+    (step_turned l l None e ts refl h.past a h.now (λ z. z))
+    (none_out None e ts a h.now (none_due e.shdlc r.due)) (can_end e ts e.role ending refl can)
+
+-- ## A frame is taken
+
+-- no RSET goes out after it
+pub first_none : (l : Link) (ts : List Turn) (x : OnWire) (xs : List OnWire) → AreSendableTurns ts → ComesFirst l x xs
+    → NoRset (frames_out (turned (took l.controller.side x.frame) ts))
+first_none l ts x xs a comes = go x.frame refl
+  where
+    e : LinkEnd
+    e = l.controller.side
+
+    P : LinkEnd → Type 0
+    P f = NoRset (frames_out (turned f ts))
+
+    none : NoAsk e.shdlc.due
+    none = none_due e.shdlc comes.rests.due
+
+    shdlc : (b : Bool) → is_open e.role ≡ b → is_shdlc x.frame ≡ true → P (took e x.frame)
+    shdlc true o s =
+        let f = took_open e x s o (no_fault_first l x xs comes.first comes.tells comes.host o comes.from) in
+        let g = heard_is e x comes.tells.now o in
+        let Q : EndState → Type 0 = λ z. NoAsk z.due in
+        subst P (sym f.0) (none_out None (heard_end e x) ts a g.mid (subst Q (sym g.shdlc) (taken_asks e.shdlc x.frame none)))
+    shdlc false o s = subst P (sym (took_closed e x.frame s o).0) (none_out None e ts a comes.tells.now none)
+
+    acts : (act : Activation) (again : Bool) → x.frame ≡ Act act again → P (took e x.frame)
+    acts act again q =
+        let event : ActEvent = ActTake act again in
+        let down = polite e x xs act again q comes.polite in
+        let closed : is_open (role_after e.role event) ≡ false → e.shdlc.phase ≡ Down = λ z. by (role_closes e.role act again z) in
+        let m = act_mid e event comes.tells.now comes.rests.due down closed in
+        let due : (activated e event).shdlc.due ≡ [] = ap (λ (z : EndState). z.due) m.same ∙ comes.rests.due in
+        subst P (sym (ap (took e) q)) (none_out (act_answer e.role event).send (activated e event) ts a m.mid (none_due (activated e event).shdlc due))
+      where
+        by : (is_open e.role ≡ false) ⊎ ((act_answer e.role (ActTake act again)).ended_link ≡ true) → e.shdlc.phase ≡ Down
+        by (inl z) = comes.tells.now.closed z
+        by (inr z) = polite e x xs act again q comes.polite z
+
+    go : (c : Control) → x.frame ≡ c → P (took e x.frame)
+    go (Act act again) q = acts act again q
+    go (I _ _ _) q = shdlc (is_open e.role) refl (ap is_shdlc q)
+    go (S _ _) q = shdlc (is_open e.role) refl (ap is_shdlc q)
+    go (Rset _ _) q = shdlc (is_open e.role) refl (ap is_shdlc q)
+    go Ua q = shdlc (is_open e.role) refl (ap is_shdlc q)
+    go Clt q =
+        subst P (sym (ap (took e) q))
+        (none_out None (record e { passed_over = e.passed_over + 1 }) ts a (mid_counted None e (e.passed_over + 1) comes.tells.now) none)
+
+-- the role of an end that took a frame lets its step end so
+pub can_after : (r : Role) (event : ActEvent) (ending : Ending) → CanEnd r ending → CanEnd (role_after r event) ending
+can_after r event GoesOut can = tt
+can_after Bare event CutOff can = can
+can_after (Clf s) event CutOff can = tt
+can_after (Uicc s) event CutOff can = tt
+
+-- a frame changes the role only by activation
+pub took_can : (e : LinkEnd) (c : Control) (ending : Ending) → CanEnd e.role ending → CanEnd (took e c).role ending
+took_can e c ending can = go c (is_open e.role) (is_faulty (taken e.shdlc c).session) refl refl
+  where
+    put_down_role : (b : Bool) → (put_down b e).role ≡ e.role
+    put_down_role false = refl
+    put_down_role true = down e.shdlc.phase refl
+      where
+        down : (p : LinkState) → e.shdlc.phase ≡ p → (put_down true e).role ≡ e.role
+        down Up p = rw p refl
+        down Waiting p = rw p refl
+        down Down p = rw p refl
+
+    R : Role → Type 0
+    R r = CanEnd r ending
+
+    heard_can : (c : Control) (f : Bool) → is_faulty (taken e.shdlc c).session ≡ f → CanEnd (heard e c).role ending
+    heard_can c true q = rw q (subst R (sym (put_down_role true)) can)
+    heard_can c false q = rw q (subst R (sym (moved_role e (is_some (take_answer e.shdlc c).ended) (taken e.shdlc c))) can)
+
+    go : (c : Control) (o f : Bool) → is_open e.role ≡ o → is_faulty (taken e.shdlc c).session ≡ f → CanEnd (took e c).role ending
+    go (Act act again) o f p q = subst R (sym (activated_role e (ActTake act again))) (can_after e.role (ActTake act again) ending can)
+    go Clt o f p q = can
+    go (I ns nr info) true f p q = rw p (heard_can (I ns nr info) f q)
+    go (I ns nr info) false f p q = rw p can
+    go (S kind nr) true f p q = rw p (heard_can (S kind nr) f q)
+    go (S kind nr) false f p q = rw p can
+    go (Rset n caps) true f p q = rw p (heard_can (Rset n caps) f q)
+    go (Rset n caps) false f p q = rw p can
+    go Ua true f p q = rw p (heard_can Ua f q)
+    go Ua false f p q = rw p can
+
+step_take : (l : Link) (ts : List Turn) (ending : Ending) (x : OnWire) (xs : List OnWire) → AreSendableTurns ts → CanEnd l.controller.side.role ending
+    → ComesFirst l x xs → Step l (has_taken l x xs ts ending) (core_all_here (core_of l) (core_take l.controller.side x.frame ts ++ core_ending ending))
+step_take l ts ending x xs a can comes =
+    let e : LinkEnd = l.controller.side in
+    let m : Link = with_ended (record l { to_controller = xs }) (is_some (ended_by_frame e x.frame)) in
+    let k : Link = record m { controller = record m.controller { took = took_with l.controller.took x } } in
+    let f : LinkEnd = took e x.frame in
+    let st =
+    step_ends l k (turned f ts) (core_all_here (core_of l) (core_take e x.frame ts)) ending (step_first l ts x xs a comes)
+    (first_none l ts x xs a comes) (can_end f ts f.role ending refl (took_can e x.frame ending can)) in
+    record {
+      core = st.core ∙ sym (all_here-append (core_of l) (core_take e x.frame ts) (core_ending ending));
+      tells = st.tells;
+      host = st.host;
+      in_order = st.in_order;
+    }
+
+pub step_frame : (l : Link) (ts : List Turn) (ending : Ending) → AreSendableTurns ts → CanEnd l.controller.side.role ending
+    → IsPolite l.controller.side l.to_controller → Tells l.controller → Tells l.host → Rests l.controller.side.shdlc
+    → FromHost (core_happens_here (core_of l) (CoreDeliver []))
+    → Step l (steps_at_controller l NextFrame ts ending) (core_all_here (core_of l) (core_step l NextFrame ts ending))
+step_frame l ts ending a can p h t rests from = go l.to_controller refl
+  where
+    nothing : l.to_controller ≡ [] → steps_at_controller l NextFrame ts ending ≡ l
+    nothing q = rw q refl
+
+    core_nothing : l.to_controller ≡ [] → core_step l NextFrame ts ending ≡ []
+    core_nothing q = rw q refl
+
+    some : (x : OnWire) (xs : List OnWire) → l.to_controller ≡ x ∷ xs → steps_at_controller l NextFrame ts ending ≡ has_taken l x xs ts ending
+    some x xs q = rw q refl
+
+    core_some : (x : OnWire) (xs : List OnWire) → l.to_controller ≡ x ∷ xs
+        → core_step l NextFrame ts ending ≡ core_take l.controller.side x.frame ts ++ core_ending ending
+    core_some x xs q = rw q refl
+
+    go : (w : List OnWire) → l.to_controller ≡ w
+        → Step l (steps_at_controller l NextFrame ts ending) (core_all_here (core_of l) (core_step l NextFrame ts ending))
+    go [] q =
+        step_same l (steps_at_controller l NextFrame ts ending) l (core_all_here (core_of l) (core_step l NextFrame ts ending)) (core_of l)
+        (nothing q) (ap (core_all_here (core_of l)) (core_nothing q))
+        (record { core = refl; tells = h; host = refl; in_order = λ z. z })
+    go (x ∷ xs) q =
+        step_same l (steps_at_controller l NextFrame ts ending) (has_taken l x xs ts ending) (core_all_here (core_of l) (core_step l NextFrame ts ending))
+        (core_all_here (core_of l) (core_take l.controller.side x.frame ts ++ core_ending ending))
+        (some x xs q) (ap (core_all_here (core_of l)) (core_some x xs q))
+        (step_take l ts ending x xs a can (record {
+          first = q;
+          polite = subst (IsPolite l.controller.side) q p;
+          tells = h;
+          host = t;
+          rests = rests;
+          from = subst FromHost (core_first (core_of l) [] x xs q) from;
+        }))
+
+-- ## A cut in place of a step that leaves the end waiting
+
+cut_instead : (l : Link) (b : Bool) (e : LinkEnd) → e.shdlc.phase ≡ Waiting → b ≡ is_up l.controller.side.shdlc.phase
+    → e.role ≡ l.controller.side.role → cut (with_controller (with_ended l b) (sent_all e)) ≡ cut l
+cut_instead l b e waits same role =
+    let f : LinkEnd = sent_all e in
+    let no_session : is_up f.shdlc.phase ≡ false = ap is_up ((frames_alike most_frames e.shdlc).phase ∙ waits) in
+    let at : Bool → Role → Link = λ c r. cut_as (with_controller (with_ended l b) f) c r in
+    ap (λ c. at c f.role) no_session ∙ (ap (at false) role ∙ ap (λ c. cut_as l c l.controller.side.role) same)
+
+step_cut_instead : (l : Link) (b : Bool) (e : LinkEnd) → e.shdlc.phase ≡ Waiting → b ≡ is_up l.controller.side.shdlc.phase
+    → e.role ≡ l.controller.side.role → IfLine l.controller.side.role → Tells l.controller
+    → Step l (finished (with_ended l b) e CutOff) (core_silent (core_of l) (new_end 4))
+step_cut_instead l b e waits same role line h =
+    step_same l (cut (with_controller (with_ended l b) (sent_all e))) (cut l) (core_silent (core_of l) (new_end 4)) (core_silent (core_of l) (new_end 4))
+    (cut_instead l b e waits same role) refl (step_cut l line h)
+
+-- turns leave the phase of an end
+pub turns_phase : (e : LinkEnd) (ts : List Turn) → AreSendableTurns ts → Now e → (turned e ts).shdlc.phase ≡ e.shdlc.phase
+turns_phase e ts a h =
+    ap (λ (s : EndState). s.phase) (turns_mid None e ts a h).is ∙ turned_phase e.shdlc (core_turns e ts)
+
+-- ## Resets
+
+reset_up : (s : EndState) → is_some (if_up s Asked) ≡ is_up s.phase
+reset_up s = go s.phase refl
+  where
+    go : (p : LinkState) → s.phase ≡ p → is_some (if_up s Asked) ≡ is_up s.phase
+    go Up p = rw p refl
+    go Waiting p = rw p refl
+    go Down p = rw p refl
+
+pub reset_keeps : (e : EndState) (w : ℕ) → is_waiting e ≡ false → Idle e → Keeps (is_some (if_up e Asked)) e (reset_with e w)
+reset_keeps e w n idle = go e.phase refl
+  where
+    go : (p : LinkState) → e.phase ≡ p → Keeps (is_some (if_up e Asked)) e (reset_with e w)
+    go Waiting p = absurd (let z : true ≡ false = rw p at n in cc)
+    go Up p = rw p (record { out = refl; idle = λ _. (refl, refl) })
+    go Down p = rw p (record { out = sym (idle (λ u. let z = sym p ∙ u in cc)).0; idle = λ _. (refl, refl) })
+
+-- an end that is open and doesn't wait
+pub reset_tells : (e : LinkEnd) → reset_refusal e ≡ None → (is_open e.role ≡ true) × (is_waiting e.shdlc ≡ false)
+reset_tells e q = go (is_open e.role) (is_waiting e.shdlc) refl refl
+  where
+    go : (a b : Bool) → is_open e.role ≡ a → is_waiting e.shdlc ≡ b → (is_open e.role ≡ true) × (is_waiting e.shdlc ≡ false)
+    go true false x y = (x, y)
+    go true true x y = absurd (let z = rw (x, y) at q in cc)
+    go false b x y = absurd (let z = rw x at q in cc)
+
+pub reset_waits : (s : EndState) (w : ℕ) → is_waiting s ≡ false → (reset_with s w).phase ≡ Waiting
+reset_waits s w n = rw n refl
+
+pub step_reset : (l : Link) (window : Option ℕ) (ts : List Turn) (ending : Ending) → AreSendableTurns ts → CanEnd l.controller.side.role ending
+    → Tells l.controller → Rests l.controller.side.shdlc
+    → Step l (steps_at_controller l (AsksReset window) ts ending) (core_all_here (core_of l) (core_step l (AsksReset window) ts ending))
+step_reset l window ts ending a can h r = go (reset_refusal l.controller.side) refl
+  where
+    e : LinkEnd
+    e = l.controller.side
+
+    w : ℕ
+    w = window_of e window
+
+    b : Bool
+    b = is_some (if_up e.shdlc Asked)
+
+    refused : (why : Refused) → reset_refusal e ≡ Some why → steps_at_controller l (AsksReset window) ts ending ≡ finished l (turned e ts) ending
+    refused why q = rw q refl
+
+    asks : reset_refusal e ≡ None → steps_at_controller l (AsksReset window) ts ending ≡ finished (with_ended l b) (turned (reset_by e w) ts) ending
+    asks q = rw q refl
+
+    core_is : (o : Option Refused) → reset_refusal e ≡ o → core_step l (AsksReset window) ts ending ≡ core_reset o e w ts ending
+    core_is o q = ap (λ z. core_reset z e w ts ending) q
+
+    waits : reset_refusal e ≡ None → (turned (reset_by e w) ts).shdlc.phase ≡ Waiting
+    waits q =
+        let t = reset_tells e q in
+        let s : EndState = reset_with e.shdlc w in
+        let n : Now (reset_by e w) = mid_moved e b s h.now (reset_keeps e.shdlc w t.1 h.now.idle) (opened e.role (s.phase ≡ Down) t.0) in
+        turns_phase (reset_by e w) ts a n ∙ (ap (λ (z : EndState). z.phase) (shdlc_moved e b s) ∙ reset_waits e.shdlc w t.1)
+
+    done : (ending : Ending) → CanEnd e.role ending → reset_refusal e ≡ None
+        → Step l (finished (with_ended l b) (turned (reset_by e w) ts) ending) (core_all_here (core_of l) (core_reset None e w ts ending))
+    done CutOff can q =
+        step_cut_instead l b (turned (reset_by e w) ts) (waits q) (reset_up e.shdlc) (turned_role (reset_by e w) ts
+        ∙ moved_role e b (reset_with e.shdlc w)) can h
+    done GoesOut can q =
+        let t = reset_tells e q in
+        let us : List CoreTurn = core_turns (reset_by e w) ts in
+        let st =
+        step_moved l b (reset_with e.shdlc w) ts h a (reset_keeps e.shdlc w t.1 h.now.idle) (opened e.role ((reset_with e.shdlc w).phase ≡ Down) t.0) in
+        record {
+          core = st.core ∙ ap (λ c. core_becomes (core_with_ended (core_of l) c) (core_turned (reset_with e.shdlc w) us)) (reset_up e.shdlc);
+          tells = st.tells;
+          host = st.host;
+          in_order = st.in_order;
+        }
+
+    go : (o : Option Refused) → reset_refusal e ≡ o
+        → Step l (steps_at_controller l (AsksReset window) ts ending) (core_all_here (core_of l) (core_step l (AsksReset window) ts ending))
+    go (Some why) q =
+        step_same l (steps_at_controller l (AsksReset window) ts ending) (finished l (turned e ts) ending)
+        (core_all_here (core_of l) (core_step l (AsksReset window) ts ending)) (core_all_here (core_of l) (core_reset (Some why) e w ts ending))
+        (refused why q) (ap (core_all_here (core_of l)) (core_is (Some why) q)) (step_idle l ts ending a can h r)
+    go None q =
+        step_same l (steps_at_controller l (AsksReset window) ts ending) (finished (with_ended l b) (turned (reset_by e w) ts) ending)
+        (core_all_here (core_of l) (core_step l (AsksReset window) ts ending)) (core_all_here (core_of l) (core_reset None e w ts ending))
+        (asks q) (ap (core_all_here (core_of l)) (core_is None q)) (done ending can q)
+
+-- ## Activation begins or ends
+
+pub restart_mid : (e : LinkEnd) (event : ActEvent) → Now e
+    → Acted (record e { shdlc = stopped e.shdlc }) (activated (moved e true (stopped e.shdlc)) event) (act_answer e.role event).send
+restart_mid e event h =
+    let f : LinkEnd = moved e true (stopped e.shdlc) in
+    let n : Now f =
+    record { acts = rw h.acts refl; idle = λ _. (refl, refl); closed = λ _. refl; says = record { out = refl; short = tt } } in
+    let m = act_mid f event n refl (λ _. refl) (λ _. refl) in
+    record { mid = m.mid; same = m.same }
+
+pub step_restart : (l : Link) (event : ActEvent) (ts : List Turn) (ending : Ending) → AreSendableTurns ts → CanEnd l.controller.side.role ending
+    → Tells l.controller
+    → (LinkInOrder l → ActsInOrder (role_after l.controller.side.role event) l.host.side.role [] (with_sent (act_answer l.controller.side.role event).send []))
+    → (let g : LinkEnd = activated (moved l.controller.side true (stopped l.controller.side.shdlc)) event in
+    Step l (has_restarted l g ts ending) (core_all_here (core_of l) (core_restart l.controller.side event g ts ending)))
+step_restart l event ts ending a can h wires =
+    let e : LinkEnd = l.controller.side in
+    let g : LinkEnd = activated (moved e true (stopped e.shdlc)) event in
+    let o : Option Activation = (act_answer e.role event).send in
+    let us : List CoreTurn = core_turns g ts in
+    let m = restart_mid e event h.now in
+    let b : Bool = is_up e.shdlc.phase in
+    let k : Link = silent l g in
+    let role : g.role ≡ role_after e.role event = activated_role (moved e true (stopped e.shdlc)) event in
+    let P : Role → Type 0 = λ r. ActsInOrder r l.host.side.role [] (with_sent o []) in
+    let st = step_turned l k o g ts (host_ended l b) (past_ended l b h) a m.mid (λ z. subst P (sym role) (wires z)) in
+    let c : core_of k ≡ core_happens_here (core_of l) CoreStop = silent-core l g ∙ ap (core_silent (core_of l)) m.same in
+    let out =
+    step_ends l k (turned g ts) (core_becomes (core_put_all (core_of k) (frames_now o)) (core_turned g.shdlc us)) ending st
+    (none_out o g ts a m.mid (none_due g.shdlc (ap (λ (z : EndState). z.due) m.same)))
+    (can_end g ts (role_after e.role event) ending role (can_after e.role event ending can)) in
+    record {
+      core = out.core ∙ ap (λ d. core_all_here (core_happens_here d (CoreActs (option_to_list o) us)) (core_ending ending)) c;
+      tells = out.tells;
+      host = out.host;
+      in_order = out.in_order;
+    }
+
+-- ## Ticks
+
+pub rests : (s : EndState) → s.phase ≡ Down → Rests s → frame_due s ≡ None
+rests s p r = let none : s.session ≡ no_session = r.none (λ u. let z = sym p ∙ u in cc) in rw (r.due, none) refl
+
+core_rests : (c : CoreLink) → frame_due c.controller.side ≡ None → core_becomes c c.controller.side ≡ c
+core_rests c q =
+    let f : frames_of most_frames c.controller.side ≡ [] = rw q refl in
+    let a : after_frames most_frames c.controller.side ≡ c.controller.side = after_frames_idle most_frames c.controller.side q in
+    ap (λ fs. core_with_controller (core_put_all c fs) (after_frames most_frames c.controller.side)) f ∙ ap (core_with_controller c) a
+
+pub core_tick_rests : (c : CoreLink) → c.controller.side.phase ≡ Down → Rests c.controller.side → core_ticks_here c [] ≡ c
+core_tick_rests c p r = nothing ∙ core_rests c (rests c.controller.side p r)
+  where
+    ended : is_some (tick_answer c.controller.side).ended ≡ false
+    ended = rw p refl
+
+    state : ticked c.controller.side ≡ c.controller.side
+    state = rw p refl
+
+    nothing : core_ticks_here c [] ≡ core_becomes c c.controller.side
+    nothing = ap (λ b. core_becomes (core_with_ended c b) (ticked c.controller.side)) ended ∙ ap (core_becomes c) state
+
+pub tick_open : (e : LinkEnd) → is_open e.role ≡ true
+    → (after_input e Tick ≡ moved e (is_some (tick_answer e.shdlc).ended) (ticked e.shdlc))
+    × (is_some (ended_by e Tick) ≡ is_some (tick_answer e.shdlc).ended)
+tick_open e o = (rw o refl, rw o refl)
+
+pub tick_closed : (e : LinkEnd) → is_open e.role ≡ false → (after_input e Tick ≡ activated e ActTick) × (ended_by e Tick ≡ ended_by_act e ActTick)
+tick_closed e o = (rw o refl, rw o refl)
+
+pub tick_role : (r : Role) → is_open (role_after r ActTick) ≡ false → is_open r ≡ false
+tick_role Bare q = q
+tick_role (Clf s) q = go s.phase refl
+  where
+    go : (p : Phase) → s.phase ≡ p → is_open (Clf s) ≡ false
+    go Inactive p = rw p refl
+    go (Awaiting tries ticks) p = rw p refl
+    go Active p = absurd (let z = rw p at q in cc)
+tick_role (Uicc s) q = go s.phase refl
+  where
+    go : (p : Phase) → s.phase ≡ p → is_open (Uicc s) ≡ false
+    go Inactive p = rw p refl
+    go (Awaiting tries ticks) p = rw p refl
+    go Active p = absurd (let z = rw p at q in cc)
+
+-- a tick after which an end waits has ended its session, if it had one
+tick_up : (s : EndState) → is_waiting (ticked s) ≡ true → is_some (tick_answer s).ended ≡ is_up s.phase
+tick_up s w = go s.phase (runs_timer s.session) (nat_lt (s.timer + 1) 10) (nat_lt s.tries 5) refl refl refl refl
+  where
+    go : (p : LinkState) (a b c : Bool) → s.phase ≡ p → runs_timer s.session ≡ a → nat_lt (s.timer + 1) 10 ≡ b → nat_lt s.tries 5 ≡ c
+        → is_some (tick_answer s).ended ≡ is_up s.phase
+    go Down a b c p q r t = rw p refl
+    go Up false b c p q r t = absurd (let z : false ≡ true = rw (p, q) at w in cc)
+    go Up true true c p q r t = absurd (let z : false ≡ true = rw (p, q, r) at w in cc)
+    go Up true false true p q r t = absurd (let z : false ≡ true = rw (p, q, r, t) at w in cc)
+    go Up true false false p q r t = rw (p, q, r, t) refl
+    go Waiting a true c p q r t = rw (p, r) refl
+    go Waiting a false true p q r t = rw (p, r, t) refl
+    go Waiting a false false p q r t = rw (p, r, t) refl
+
+pub waiting_phase : (s : EndState) → is_waiting s ≡ true → s.phase ≡ Waiting
+waiting_phase s w = go s.phase refl
+  where
+    go : (p : LinkState) → s.phase ≡ p → s.phase ≡ Waiting
+    go Waiting p = p
+    go Up p = absurd (let z : false ≡ true = rw p at w in cc)
+    go Down p = absurd (let z : false ≡ true = rw p at w in cc)
+
+abbrev pub CoreTick : Link → List Turn → Ending → CoreLink
+CoreTick l ts ending =
+    core_all_here (core_ticks_or_cut (core_tick l.controller.side ts ending) (core_of l)) (core_tick_rest l.controller.side ts ending)
+
+-- what a tick is there
+core_tick_as : (l : Link) (ts : List Turn) (ending : Ending) (t : Option (List CoreTurn)) (us : List CoreEndEvent)
+    → core_tick l.controller.side ts ending ≡ t → core_tick_rest l.controller.side ts ending ≡ us
+    → CoreTick l ts ending ≡ core_all_here (core_ticks_or_cut t (core_of l)) us
+core_tick_as l ts ending t us p q =
+    ap (λ z. core_all_here (core_ticks_or_cut z (core_of l)) (core_tick_rest l.controller.side ts ending)) p
+    ∙ ap (core_all_here (core_ticks_or_cut t (core_of l))) q
+
+tick_as : (l : Link) (ts : List Turn) (ending : Ending) (b : Bool) (e : LinkEnd) → is_some (ended_by l.controller.side Tick) ≡ b
+    → after_input l.controller.side Tick ≡ e → ticks_at_controller l ts ending ≡ finished (with_ended l b) (turned e ts) ending
+tick_as l ts ending b e p q =
+    ap (λ a. finished (with_ended l a) (turned (after_input l.controller.side Tick) ts) ending) p ∙ ap (λ f. finished (with_ended l b) (turned f ts) ending) q
+
+step_tick_open : (l : Link) (ts : List Turn) (ending : Ending) → AreSendableTurns ts → CanEnd l.controller.side.role ending → Tells l.controller
+    → Rests l.controller.side.shdlc → is_open l.controller.side.role ≡ true → Step l (ticks_at_controller l ts ending) (CoreTick l ts ending)
+step_tick_open l ts ending a can h r o = go ending (is_lost_tick e ending) can refl
+  where
+    e : LinkEnd
+    e = l.controller.side
+
+    b : Bool
+    b = is_some (tick_answer e.shdlc).ended
+
+    f : LinkEnd
+    f = moved e b (ticked e.shdlc)
+
+    t : (after_input e Tick ≡ f) × (is_some (ended_by e Tick) ≡ b)
+    t = tick_open e o
+
+    us : List CoreTurn
+    us = core_turns (after_input e Tick) ts
+
+    now : Now f
+    now = mid_moved e b (ticked e.shdlc) h.now (ticked_keeps e.shdlc h.now.idle) (opened e.role ((ticked e.shdlc).phase ≡ Down) o)
+
+    st : Step l (becomes (with_ended l b) (turned f ts)) (core_becomes (core_with_ended (core_of l) b) (core_turned (ticked e.shdlc) (core_turns f ts)))
+    st = step_moved l b (ticked e.shdlc) ts h a (ticked_keeps e.shdlc h.now.idle) (opened e.role ((ticked e.shdlc).phase ≡ Down) o)
+
+    lost_tick : (ending : Ending) → is_lost_tick e ending ≡ true → (core_tick e ts ending ≡ None) × (core_tick_rest e ts ending ≡ [])
+    lost_tick ending q = (rw q refl, rw q refl)
+
+    kept_tick : (ending : Ending) → is_lost_tick e ending ≡ false → (core_tick e ts ending ≡ Some us) × (core_tick_rest e ts ending ≡ core_ending ending)
+    kept_tick ending q = (rw (q, o) refl, rw (q, o) refl)
+
+    waits : (c : Bool) → is_lost_tick e CutOff ≡ c → is_waiting (ticked e.shdlc) ≡ c
+    waits c q =
+        let z : is_lost_tick e CutOff ≡ is_waiting (ticked e.shdlc) =
+        ap (λ x. x && is_waiting (after_input e Tick).shdlc) o
+        ∙ (ap (λ (g : LinkEnd). is_waiting g.shdlc) t.0 ∙ ap is_waiting (shdlc_moved e b (ticked e.shdlc))) in
+        sym z ∙ q
+
+    kept : (ending : Ending) → CanEnd e.role ending → is_lost_tick e ending ≡ false → NoAsk (ticked e.shdlc).due
+        → Step l (ticks_at_controller l ts ending) (CoreTick l ts ending)
+    kept ending can q n =
+        let k = kept_tick ending q in
+        let Q : EndState → Type 0 = λ s. NoAsk s.due in
+        let out =
+        step_ends l (with_ended l b) (turned f ts) (core_becomes (core_with_ended (core_of l) b) (core_turned (ticked e.shdlc) (core_turns f ts))) ending st
+        (none_out None f ts a now (subst Q (sym (shdlc_moved e b (ticked e.shdlc))) n)) (can_end f ts e.role ending (moved_role e b (ticked e.shdlc)) can) in
+        step_same l (ticks_at_controller l ts ending) (finished (with_ended l b) (turned f ts) ending) (CoreTick l ts ending)
+        (core_all_here (core_becomes (core_with_ended (core_of l) b) (core_turned (ticked e.shdlc) (core_turns f ts))) (core_ending ending))
+        (tick_as l ts ending b f t.1 t.0)
+        (core_tick_as l ts ending (Some us) (core_ending ending) k.0 k.1
+        ∙ ap (λ (g : LinkEnd). core_all_here (core_ticks_here (core_of l) (core_turns g ts)) (core_ending ending)) t.0)
+        out
+
+    sends : Step l (ticks_at_controller l ts GoesOut) (CoreTick l ts GoesOut)
+    sends =
+        let k = kept_tick GoesOut refl in
+        step_same l (ticks_at_controller l ts GoesOut) (becomes (with_ended l b) (turned f ts)) (CoreTick l ts GoesOut)
+        (core_becomes (core_with_ended (core_of l) b) (core_turned (ticked e.shdlc) (core_turns f ts)))
+        (tick_as l ts GoesOut b f t.1 t.0)
+        (core_tick_as l ts GoesOut (Some us) [] k.0 k.1 ∙ ap (λ (g : LinkEnd). core_ticks_here (core_of l) (core_turns g ts)) t.0)
+        st
+
+    go : (ending : Ending) (c : Bool) → CanEnd e.role ending → is_lost_tick e ending ≡ c → Step l (ticks_at_controller l ts ending) (CoreTick l ts ending)
+    go GoesOut c can q = sends
+    go CutOff false can q = kept CutOff can q (ticked_asks e.shdlc (waits false q) (none_due e.shdlc r.due))
+    go CutOff true can q =
+        let k = lost_tick CutOff q in
+        let w = waits true q in
+        let phase : (turned f ts).shdlc.phase ≡ Waiting =
+        turns_phase f ts a now ∙ (ap (λ (z : EndState). z.phase) (shdlc_moved e b (ticked e.shdlc)) ∙ waiting_phase (ticked e.shdlc) w) in
+        step_same l (ticks_at_controller l ts CutOff) (finished (with_ended l b) (turned f ts) CutOff) (CoreTick l ts CutOff)
+        (core_silent (core_of l) (new_end 4))
+        (tick_as l ts CutOff b f t.1 t.0) (core_tick_as l ts CutOff None [] k.0 k.1)
+        (step_cut_instead l b (turned f ts) phase (tick_up e.shdlc w) (turned_role f ts ∙ moved_role e b (ticked e.shdlc)) can h)
+
+step_tick_closed : (l : Link) (ts : List Turn) (ending : Ending) → AreSendableTurns ts → CanEnd l.controller.side.role ending → Tells l.controller
+    → Rests l.controller.side.shdlc → is_open l.controller.side.role ≡ false → Step l (ticks_at_controller l ts ending) (CoreTick l ts ending)
+step_tick_closed l ts ending a can h r o =
+    let out =
+    step_ends l l (turned f ts) (core_becomes (core_put_all (core_of l) (frames_now act)) (core_turned f.shdlc us)) ending st
+    (none_out act f ts a m.mid (none_due f.shdlc (ap (λ (z : EndState). z.due) m.same ∙ r.due)))
+    (can_end f ts (role_after e.role ActTick) ending (activated_role e ActTick) (can_after e.role ActTick ending can)) in
+    step_same l (ticks_at_controller l ts ending) (finished l (turned f ts) ending) (CoreTick l ts ending)
+    (core_all_here (core_becomes (core_put_all (core_of l) (frames_now act)) (core_turned f.shdlc us)) (core_ending ending))
+    (tick_as l ts ending false f ended t.0) core out
+  where
+    e : LinkEnd
+    e = l.controller.side
+
+    f : LinkEnd
+    f = activated e ActTick
+
+    act : Option Activation
+    act = (act_answer e.role ActTick).send
+
+    us : List CoreTurn
+    us = core_turns f ts
+
+    t : (after_input e Tick ≡ f) × (ended_by e Tick ≡ ended_by_act e ActTick)
+    t = tick_closed e o
+
+    down : (act_answer e.role ActTick).ended_link ≡ true → e.shdlc.phase ≡ Down
+    down z = absurd (true≢false (sym z ∙ tick_closes e.role o))
+
+    ended : is_some (ended_by e Tick) ≡ false
+    ended = ap (λ z. is_some z) t.1 ∙ (stays_down (act_answer e.role ActTick).ended_link e down r.due h.now.acts).1
+
+    m : Acted e f act
+    m = act_mid e ActTick h.now r.due down (λ z. h.now.closed (tick_role e.role z))
+
+    st : Step l (becomes l (turned f ts)) (core_becomes (core_put_all (core_of l) (frames_now act)) (core_turned f.shdlc us))
+    st =
+        let R : Role → Type 0 = λ z. ActsInOrder z l.host.side.role l.to_controller (with_sent act l.to_host) in
+        step_turned l l act f ts refl h.past a m.mid
+        (λ z. subst R (sym (activated_role e ActTick)) (in_order_tick e.role l.host.side.role l.to_controller l.to_host o z))
+
+    not_lost : (ending : Ending) → is_lost_tick e ending ≡ false
+    not_lost GoesOut = refl
+    not_lost CutOff = rw o refl
+
+    vs : List CoreTurn
+    vs = core_turns (after_input e Tick) ts
+
+    ticks : core_tick e ts ending ≡ Some []
+    ticks = let n = not_lost ending in rw (n, o) refl
+
+    rest : core_tick_rest e ts ending ≡ CoreActs (option_to_list act) vs ∷ core_ending ending
+    rest = let n = not_lost ending in rw (n, o) refl
+
+    core : CoreTick l ts ending ≡ core_all_here (core_becomes (core_put_all (core_of l) (frames_now act)) (core_turned f.shdlc us)) (core_ending ending)
+    core =
+        core_tick_as l ts ending (Some []) (CoreActs (option_to_list act) vs ∷ core_ending ending) ticks rest
+        ∙ (ap (λ c. core_all_here (core_happens_here c (CoreActs (option_to_list act) vs)) (core_ending ending))
+        (core_tick_rests (core_of l) (h.now.closed o) r)
+        ∙ (ap (λ (g : LinkEnd). core_all_here (core_becomes (core_put_all (core_of l) (frames_now act)) (core_turned e.shdlc (core_turns g ts)))
+        (core_ending ending)) t.0
+        ∙ ap (λ s. core_all_here (core_becomes (core_put_all (core_of l) (frames_now act)) (core_turned s us)) (core_ending ending)) (sym m.same)))
+
+-- the controller's end has its tick
+pub step_tick : (l : Link) (ts : List Turn) (ending : Ending) → AreSendableTurns ts → CanEnd l.controller.side.role ending → Tells l.controller
+    → Rests l.controller.side.shdlc → Step l (ticks_at_controller l ts ending) (CoreTick l ts ending)
+step_tick l ts ending a can h r = go (is_open l.controller.side.role) refl
+  where
+    go : (b : Bool) → is_open l.controller.side.role ≡ b → Step l (ticks_at_controller l ts ending) (CoreTick l ts ending)
+    go true o = step_tick_open l ts ending a can h r o
+    go false o = step_tick_closed l ts ending a can h r o

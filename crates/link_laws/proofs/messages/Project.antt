@@ -1,0 +1,383 @@
+-- A step of a link over messages is its projection's step, where no chain fault comes.
+use Rattle.std.proofs.Common.{◌≡◌, ℕ, ◌≤◌, Bool, true, false, List, [], ◌∷◌, ◌++◌, length, map, Option, Some, None, refl, ap, sym, subst, ◌∙◌, append-nil}
+use Rattle.std.specs.Prelude.{◌+◌, ◌-◌, nat_lt, not, drop, option_to_list}
+use Rattle.std.proofs.lemmas.Bool.{ltb-false}
+use Rattle.std.proofs.lemmas.List.Concat.{flat_map-append}
+use Rattle.swp_base.specs.declared.control_frames.Control.{Control}
+use Rattle.swp_base.specs.declared.control_frames.Control.TheVariants.{I, S, Rset, Ua, Act, Clt}
+use Rattle.swp_base.specs.declared.control_frames.Act.{Act as Activation}
+use Rattle.shdlc_core.specs.declared.answers.LinkState.{LinkState}
+use Rattle.shdlc_core.specs.declared.answers.LinkState.TheVariants.{Down, Waiting, Up}
+use Rattle.shdlc_core.specs.Machine.{EndState, frames_of, after_frames, most_frames, put_out}
+use Rattle.hcp_packet.specs.Packets.{packets_of, packet_bytes, fragments_of}
+use Rattle.link_laws.specs.sending.Sending.{IsShort, AreShort}
+use Rattle.link_laws.specs.sessions.Sessions.{OnWire, ShdlcLink as CoreLink, ShdlcTurn as CoreTurn, shdlc_turned as core_turned, shdlc_turn as core_turn_of}
+use Rattle.link_laws.specs.sessions.Sessions.{act_frame, shdlc_put as core_put, shdlc_put_all as core_put_all, shdlc_becomes as core_becomes}
+use Rattle.link_laws.specs.sessions.Sessions.{with_shdlc_ended as core_with_ended, with_shdlc_controller as core_with_controller}
+use Rattle.link_laws.specs.sessions.Sessions.ShdlcTurn.{Offer}
+use Rattle.link_laws.specs.machine.Machine.{Message, LinkEnd, Role, ActDue, Turn, Refused, is_open, moved, given, give_refusal, aside_refusal, turn, turned}
+use Rattle.link_laws.specs.machine.Machine.{among}
+use Rattle.link_laws.specs.machine.Machine.{frames_out, sent_all}
+use Rattle.link_laws.specs.machine.Machine.Turn.{Give, Hold, FetchMessage, SetAside, Release}
+use Rattle.link_laws.specs.messages.Links.{Talk, NumberedEnd, Link, talk_now, put, put_all, becomes, with_ended, AreSendableTurns}
+use Rattle.link_laws.specs.messages.Projection.{core_of, core_turn, core_turns}
+use Rattle.link_laws.proofs.messages.ActsInOrder.{ActsInOrder, LinkInOrder, with_sent, no_acts, in_order_put_all}
+use Rattle.link_laws.proofs.messages.Ends.{Idle, Keeps, ready_keeps, frames_alike}
+use Rattle.link_laws.proofs.sessions.Ties.{ready-phase as ready_phase}
+use Rattle.link_laws.proofs.machine.Reports.{shdlc_is as shdlc_moved}
+
+-- ## One end
+
+-- what an end has to send in a session is the fragments of the messages given in it
+pub record Says (t : Talk) : Type 0 where
+  pub out : t.session.out ≡ fragments_of t.sent
+  pub short : AreShort t.sent
+
+abbrev pub due_now : Option Activation → List ActDue
+due_now None = []
+due_now (Some act) = record { frame = act; behind = 0 } ∷ []
+
+-- one end whose frames are still to go out, with this frame of activation
+pub record Mid (o : Option Activation) (e : LinkEnd) : Type 0 where
+  pub acts : e.acts ≡ due_now o
+  pub idle : Idle e.shdlc
+  pub closed : is_open e.role ≡ false → e.shdlc.phase ≡ Down
+  pub says : Says (talk_now e)
+
+abbrev pub Now : LinkEnd → Type 0
+Now e = Mid None e
+
+pub mid_moved : (e : LinkEnd) (b : Bool) (s : EndState) → Now e → Keeps b e.shdlc s → (is_open e.role ≡ false → s.phase ≡ Down) → Now (moved e b s)
+mid_moved e false s h k c =
+    record { acts = h.acts; idle = k.idle; closed = c; says = record { out = k.out ∙ h.says.out; short = h.says.short } }
+mid_moved e true s h k c =
+    record { acts = rw h.acts refl; idle = k.idle; closed = c; says = record { out = k.out; short = tt } }
+
+pub now_sent : (e : LinkEnd) (o : Option Activation) → Mid o e → Now (sent_all e)
+now_sent e o h =
+    let a = frames_alike most_frames e.shdlc in
+    record {
+      acts = refl;
+      idle = λ n. let i = h.idle (λ u. n (a.phase ∙ u)) in (a.out ∙ i.0, a.acc ∙ i.1);
+      closed = λ q. a.phase ∙ h.closed q;
+      says = record { out = a.out ∙ h.says.out; short = h.says.short };
+    }
+
+-- ## Turns
+
+pub give_tells : (e : LinkEnd) (m : Message) → give_refusal e m ≡ None → (e.shdlc.phase ≡ Up) × (length m.1 ≤ 4096)
+give_tells e m q = go e.shdlc.phase (nat_lt 4096 (length m.1)) refl refl
+  where
+    go : (p : LinkState) (b : Bool) → e.shdlc.phase ≡ p → nat_lt 4096 (length m.1) ≡ b → (e.shdlc.phase ≡ Up) × (length m.1 ≤ 4096)
+    go Up false p b = (p, ltb-false 4096 (length m.1) b)
+    go Up true p b = absurd (let z = rw (p, b) at q in cc)
+    go Waiting b p r = absurd (let z = rw p at q in cc)
+    go Down b p r = absurd (let z = rw p at q in cc)
+
+pub short_more : (ms : List Message) (m : Message) → AreShort ms → IsShort m → AreShort (ms ++ m ∷ [])
+short_more [] m h s = (s, tt)
+short_more (x ∷ ms) m h s = (h.0, short_more ms m h.1 s)
+
+pub mid_given : (o : Option Activation) (e : LinkEnd) (m : Message) → Mid o e → e.shdlc.phase ≡ Up → IsShort m → Mid o (given e m)
+mid_given o e m h up short =
+    let f : Message → List (List ℕ) = λ k. map packet_bytes (packets_of k.0 k.1) in
+    let last : fragments_of (m ∷ []) ≡ f m = append-nil (f m) in
+    record {
+      acts = h.acts;
+      idle = λ n. absurd (n up);
+      closed = h.closed;
+      says = record {
+        out = ap (λ fs. fs ++ f m) h.says.out ∙ sym (flat_map-append f e.sent (m ∷ []) ∙ ap (λ fs. fragments_of e.sent ++ fs) last);
+        short = short_more e.sent m h.says.short short;
+      };
+    }
+
+-- the end after turns, and what they are at its SHDLC end
+pub record Turned (o : Option Activation) (e f : LinkEnd) (ts : List CoreTurn) : Type 0 where
+  pub mid : Mid o f
+  pub is : f.shdlc ≡ core_turned e.shdlc ts
+
+pub turned_same : (o : Option Activation) (e f : LinkEnd) (ts us : List CoreTurn) (g : LinkEnd) → f ≡ g → ts ≡ us → Turned o e g us → Turned o e f ts
+turned_same o e f ts us g p q h =
+    record { mid = subst (Mid o) (sym p) h.mid; is = ap (λ (z : LinkEnd). z.shdlc) p ∙ (h.is ∙ ap (core_turned e.shdlc) (sym q)) }
+
+-- what a node does that its SHDLC end doesn't see
+turned_beside : (o : Option Activation) (e f : LinkEnd) → f.role ≡ e.role → f.shdlc ≡ e.shdlc → f.sent ≡ e.sent → f.acts ≡ e.acts → Mid o e → Turned o e f []
+turned_beside o e f role shdlc sent acts h =
+    record {
+      mid = record {
+        acts = acts ∙ h.acts;
+        idle = let P : EndState → Type 0 = λ s. Idle s in subst P (sym shdlc) h.idle;
+        closed = λ q. ap (λ (s : EndState). s.phase) shdlc ∙ h.closed (ap is_open (sym role) ∙ q);
+        says = record {
+          out = ap (λ (s : EndState). s.session.out) shdlc ∙ (h.says.out ∙ ap fragments_of (sym sent));
+          short = let P : List Message → Type 0 = λ ms. AreShort ms in subst P (sym sent) h.says.short;
+        };
+      };
+      is = shdlc;
+    }
+
+pub turn_mid : (o : Option Activation) (e : LinkEnd) (t : Turn) → AreSendableTurns (t ∷ []) → Mid o e → Turned o e (turn e t) (core_turn e t)
+turn_mid o e (Hold held) a h =
+    let k = ready_keeps e.shdlc (not held) h.idle in
+    record {
+      mid = record {
+        acts = h.acts;
+        idle = k.idle;
+        closed = λ q. ready_phase e.shdlc (not held) ∙ h.closed q;
+        says = record { out = k.out ∙ h.says.out; short = h.says.short };
+      };
+      is = refl;
+    }
+turn_mid o e FetchMessage a h = turned_beside o e (record e { got = drop 1 e.got }) refl refl refl refl h
+turn_mid o e Release a h = turned_beside o e (record e { aside = e.aside - 1 }) refl refl refl refl h
+turn_mid o e SetAside a h = go (aside_refusal e) refl
+  where
+    none : aside_refusal e ≡ None → turn e SetAside ≡ record e { aside = e.aside + 1 }
+    none q = rw q refl
+
+    some : (r : Refused) → aside_refusal e ≡ Some r → turn e SetAside ≡ e
+    some r q = rw q refl
+
+    go : (x : Option Refused) → aside_refusal e ≡ x → Turned o e (turn e SetAside) []
+    go None q =
+        turned_same o e (turn e SetAside) [] [] (record e { aside = e.aside + 1 }) (none q) refl
+        (turned_beside o e (record e { aside = e.aside + 1 }) refl refl refl refl h)
+    go (Some r) q = turned_same o e (turn e SetAside) [] [] e (some r q) refl (turned_beside o e e refl refl refl refl h)
+turn_mid o e (Give m) a h = go (give_refusal e m) refl
+  where
+    fs : List (List ℕ)
+    fs = map packet_bytes (packets_of m.0 m.1)
+
+    none_end : give_refusal e m ≡ None → turn e (Give m) ≡ given e m
+    none_end q = rw q refl
+
+    none_core : give_refusal e m ≡ None → core_turn e (Give m) ≡ Offer fs ∷ []
+    none_core q = rw q refl
+
+    some_end : (r : Refused) → give_refusal e m ≡ Some r → turn e (Give m) ≡ e
+    some_end r q = rw q refl
+
+    some_core : (r : Refused) → give_refusal e m ≡ Some r → core_turn e (Give m) ≡ []
+    some_core r q = rw q refl
+
+    offered : e.shdlc.phase ≡ Up → put_out e.shdlc fs ≡ core_turn_of e.shdlc (Offer fs)
+    offered up = rw up refl
+
+    go : (x : Option Refused) → give_refusal e m ≡ x → Turned o e (turn e (Give m)) (core_turn e (Give m))
+    go (Some r) q = turned_same o e (turn e (Give m)) (core_turn e (Give m)) [] e (some_end r q) (some_core r q) (record { mid = h; is = refl })
+    go None q =
+        let t = give_tells e m q in
+        turned_same o e (turn e (Give m)) (core_turn e (Give m)) (Offer fs ∷ []) (given e m) (none_end q) (none_core q)
+        (record { mid = mid_given o e m h t.0 (a.0, t.1); is = offered t.0 })
+
+pub core_turned-append : (s : EndState) (ts us : List CoreTurn) → core_turned s (ts ++ us) ≡ core_turned (core_turned s ts) us
+core_turned-append s [] us = refl
+core_turned-append s (t ∷ ts) us = core_turned-append (core_turn_of s t) ts us
+
+pub turns_mid : (o : Option Activation) (e : LinkEnd) (ts : List Turn) → AreSendableTurns ts → Mid o e → Turned o e (turned e ts) (core_turns e ts)
+turns_mid o e [] a h = record { mid = h; is = refl }
+turns_mid o e (t ∷ ts) a h =
+    let p = parted t ts a in
+    let one = turn_mid o e t p.0 h in
+    let more = turns_mid o (turn e t) ts p.1 one.mid in
+    record {
+      mid = more.mid;
+      is = more.is ∙ (ap (λ s. core_turned s (core_turns (turn e t) ts)) one.is
+          ∙ sym (core_turned-append e.shdlc (core_turn e t) (core_turns (turn e t) ts)));
+    }
+  where
+    parted : (t : Turn) (ts : List Turn) → AreSendableTurns (t ∷ ts) → AreSendableTurns (t ∷ []) × AreSendableTurns ts
+    parted (Give m) ts a = ((a.0, tt), a.1)
+    parted (Hold held) ts a = (tt, a)
+    parted FetchMessage ts a = (tt, a)
+    parted SetAside ts a = (tt, a)
+    parted Release ts a = (tt, a)
+
+-- ## A link
+
+pub put-core : (l : Link) (c : Control) → core_of (put l c) ≡ core_put (core_of l) c
+put-core l (I _ _ _) = refl
+put-core l (S _ _) = refl
+put-core l (Rset _ _) = refl
+put-core l Ua = refl
+put-core l (Act _ _) = refl
+put-core l Clt = refl
+
+pub put_all-core : (cs : List Control) (l : Link) → core_of (put_all l cs) ≡ core_put_all (core_of l) cs
+put_all-core [] l = refl
+put_all-core (c ∷ cs) l = put_all-core cs (put l c) ∙ ap (λ m. core_put_all m cs) (put-core l c)
+
+pub core_put_all-append : (c : CoreLink) (xs ys : List Control) → core_put_all c (xs ++ ys) ≡ core_put_all (core_put_all c xs) ys
+core_put_all-append c [] ys = refl
+core_put_all-append c (x ∷ xs) ys = core_put_all-append (core_put c x) xs ys
+
+abbrev pub frames_now : Option Activation → List Control
+frames_now o = map act_frame (option_to_list o)
+
+pub among_now : (o : Option Activation) (frames : List Control) → among 0 (due_now o) frames ≡ frames_now o ++ frames
+among_now None frames = refl
+among_now (Some act) frames = refl
+
+pub becomes-core : (l : Link) (o : Option Activation) (e : LinkEnd) (s : EndState) → e.acts ≡ due_now o → e.shdlc ≡ s
+    → core_of (becomes l e) ≡ core_becomes (core_put_all (core_of l) (frames_now o)) s
+becomes-core l o e s acts is =
+    let frames : frames_out e ≡ frames_now o ++ frames_of most_frames s =
+    ap (λ a. among 0 a (frames_of most_frames e.shdlc)) acts
+    ∙ (ap (λ f. among 0 (due_now o) (frames_of most_frames f)) is ∙ among_now o (frames_of most_frames s)) in
+    ap (λ f. core_with_controller (core_of (put_all l (frames_out e))) (after_frames most_frames f)) is
+    ∙ ap (λ m. core_with_controller m (after_frames most_frames s))
+    (ap (λ fs. core_of (put_all l fs)) frames
+    ∙ (put_all-core (frames_now o ++ frames_of most_frames s) l ∙ core_put_all-append (core_of l) (frames_now o) (frames_of most_frames s)))
+
+pub with_ended-core : (l : Link) (b : Bool) → core_of (with_ended l b) ≡ core_with_ended (core_of l) b
+with_ended-core l false = refl
+with_ended-core l true = refl
+
+-- the frames of the controller's end leave these parts of a link
+pub record Beside (l m : Link) : Type 0 where
+  pub host : m.host ≡ l.host
+  pub past : m.controller.past ≡ l.controller.past
+  pub to_controller : m.to_controller ≡ l.to_controller
+
+pub beside-put : (l : Link) (c : Control) → Beside l (put l c)
+beside-put l (I _ _ _) = record { host = refl; past = refl; to_controller = refl }
+beside-put l (S _ _) = record { host = refl; past = refl; to_controller = refl }
+beside-put l (Rset _ _) = record { host = refl; past = refl; to_controller = refl }
+beside-put l Ua = record { host = refl; past = refl; to_controller = refl }
+beside-put l (Act _ _) = record { host = refl; past = refl; to_controller = refl }
+beside-put l Clt = record { host = refl; past = refl; to_controller = refl }
+
+pub beside-put_all : (cs : List Control) (l : Link) → Beside l (put_all l cs)
+beside-put_all [] l = record { host = refl; past = refl; to_controller = refl }
+beside-put_all (c ∷ cs) l =
+    let a = beside-put l c in
+    let b = beside-put_all cs (put l c) in
+    record { host = b.host ∙ a.host; past = b.past ∙ a.past; to_controller = b.to_controller ∙ a.to_controller }
+
+abbrev pub AllSay : List (ℕ × Talk) → Type 0
+AllSay [] = Unit {0}
+AllSay (x ∷ xs) = Says x.1 × AllSay xs
+
+-- one end with its past
+pub record Tells (h : NumberedEnd) : Type 0 where
+  pub now : Now h.side
+  pub past : AllSay h.past
+
+-- what a step at the controller's end gives: it is projected, and both ends are as they should
+pub record Step (l m : Link) (c : CoreLink) : Type 0 where
+  pub core : core_of m ≡ c
+  pub tells : Tells m.controller
+  pub host : m.host ≡ l.host
+  pub in_order : LinkInOrder l → LinkInOrder m
+
+pub step_same : (l m k : Link) (c d : CoreLink) → m ≡ k → c ≡ d → Step l k d → Step l m c
+step_same l m k c d p q st =
+    record {
+      core = ap core_of p ∙ (st.core ∙ sym q);
+      tells = subst (λ (j : Link). Tells j.controller) (sym p) st.tells;
+      host = ap (λ (j : Link). j.host) p ∙ st.host;
+      in_order = λ z. subst LinkInOrder (sym p) (st.in_order z);
+    }
+
+pub put_all-append : (l : Link) (xs ys : List Control) → put_all l (xs ++ ys) ≡ put_all (put_all l xs) ys
+put_all-append l [] ys = refl
+put_all-append l (x ∷ xs) ys = put_all-append (put l x) xs ys
+
+-- all that is due goes out
+pub becomes_in_order : (l k : Link) (o : Option Activation) (e : LinkEnd) → k.host ≡ l.host → e.acts ≡ due_now o
+    → ActsInOrder e.role l.host.side.role k.to_controller (with_sent o k.to_host) → LinkInOrder (becomes k e)
+becomes_in_order l k o e host acts in_order =
+    let b = beside-put_all (frames_out e) k in
+    let v : List OnWire = (put_all k (frames_out e)).to_host in
+    let P : NumberedEnd → Type 0 = λ g. ActsInOrder e.role g.side.role (put_all k (frames_out e)).to_controller v in
+    let Q : List OnWire → Type 0 = λ w. ActsInOrder e.role l.host.side.role w v in
+    subst P (sym (b.host ∙ host)) (subst Q (sym b.to_controller) goes)
+  where
+    sends : (o : Option Activation) → (put_all k (frames_now o)).to_host ≡ with_sent o k.to_host
+    sends None = refl
+    sends (Some act) = refl
+
+    frames : frames_out e ≡ frames_now o ++ frames_of most_frames e.shdlc
+    frames = ap (λ a. among 0 a (frames_of most_frames e.shdlc)) acts ∙ among_now o (frames_of most_frames e.shdlc)
+
+    wire : (put_all k (frames_out e)).to_host ≡ (put_all (put_all k (frames_now o)) (frames_of most_frames e.shdlc)).to_host
+    wire = ap (λ fs. (put_all k fs).to_host) frames ∙ ap (λ (j : Link). j.to_host) (put_all-append k (frames_now o) (frames_of most_frames e.shdlc))
+
+    goes : ActsInOrder e.role l.host.side.role k.to_controller (put_all k (frames_out e)).to_host
+    goes =
+        let P : List OnWire → Type 0 = λ v. ActsInOrder e.role l.host.side.role k.to_controller v in
+        subst P (sym wire) (in_order_put_all e.role l.host.side.role k.to_controller (frames_of most_frames e.shdlc) (put_all k (frames_now o))
+        (no_acts most_frames e.shdlc) (subst P (sym (sends o)) in_order))
+
+pub step_becomes : (l k : Link) (o : Option Activation) (e : LinkEnd) (s : EndState) → k.host ≡ l.host → AllSay k.controller.past → Mid o e → e.shdlc ≡ s
+    → (LinkInOrder l → ActsInOrder e.role l.host.side.role k.to_controller (with_sent o k.to_host))
+    → Step l (becomes k e) (core_becomes (core_put_all (core_of k) (frames_now o)) s)
+step_becomes l k o e s host past h is in_order =
+    let b = beside-put_all (frames_out e) k in
+    record {
+      core = becomes-core k o e s h.acts is;
+      tells = record { now = now_sent e o h; past = rw b.past past };
+      host = b.host ∙ host;
+      in_order = λ z. becomes_in_order l k o e host h.acts (in_order z);
+    }
+
+-- turns come before
+pub turned_role : (e : LinkEnd) (ts : List Turn) → (turned e ts).role ≡ e.role
+turned_role e [] = refl
+turned_role e (t ∷ ts) = turned_role (turn e t) ts ∙ one t
+  where
+    one : (t : Turn) → (turn e t).role ≡ e.role
+    one (Hold held) = refl
+    one FetchMessage = refl
+    one Release = refl
+    one SetAside = go (aside_refusal e) refl
+      where
+        go : (o : Option Refused) → aside_refusal e ≡ o → (turn e SetAside).role ≡ e.role
+        go None q = rw q refl
+        go (Some r) q = rw q refl
+    one (Give m) = go (give_refusal e m) refl
+      where
+        go : (o : Option Refused) → give_refusal e m ≡ o → (turn e (Give m)).role ≡ e.role
+        go None q = rw q refl
+        go (Some r) q = rw q refl
+
+pub step_turned : (l k : Link) (o : Option Activation) (e : LinkEnd) (ts : List Turn) → k.host ≡ l.host → AllSay k.controller.past
+    → AreSendableTurns ts → Mid o e
+    → (LinkInOrder l → ActsInOrder e.role l.host.side.role k.to_controller (with_sent o k.to_host))
+    → Step l (becomes k (turned e ts)) (core_becomes (core_put_all (core_of k) (frames_now o)) (core_turned e.shdlc (core_turns e ts)))
+step_turned l k o e ts host past a h in_order =
+    let t = turns_mid o e ts a h in
+    let P : Role → Type 0 = λ r. ActsInOrder r l.host.side.role k.to_controller (with_sent o k.to_host) in
+    step_becomes l k o (turned e ts) (core_turned e.shdlc (core_turns e ts)) host past t.mid t.is (λ z. subst P (sym (turned_role e ts)) (in_order z))
+
+pub moved_role : (e : LinkEnd) (b : Bool) (s : EndState) → (moved e b s).role ≡ e.role
+moved_role e false s = refl
+moved_role e true s = refl
+
+pub past_ended : (l : Link) (b : Bool) → Tells l.controller → AllSay (with_ended l b).controller.past
+past_ended l false h = h.past
+past_ended l true h = (h.now.says, h.past)
+
+pub host_ended : (l : Link) (b : Bool) → (with_ended l b).host ≡ l.host
+host_ended l false = refl
+host_ended l true = refl
+
+-- the end has become e, in a step that may end its session
+pub step_moved : (l : Link) (b : Bool) (s : EndState) (ts : List Turn) → Tells l.controller → AreSendableTurns ts → Keeps b l.controller.side.shdlc s
+    → (is_open l.controller.side.role ≡ false → s.phase ≡ Down)
+    → Step l (becomes (with_ended l b) (turned (moved l.controller.side b s) ts))
+    (core_becomes (core_with_ended (core_of l) b) (core_turned s (core_turns (moved l.controller.side b s) ts)))
+step_moved l b s ts h a keeps c =
+    let f : LinkEnd = moved l.controller.side b s in
+    let st = step_turned l (with_ended l b) None f ts (host_ended l b) (past_ended l b h) a (mid_moved l.controller.side b s h.now keeps c) (in_order b) in
+    let q : core_becomes (core_of (with_ended l b)) (core_turned f.shdlc (core_turns f ts))
+    ≡ core_becomes (core_with_ended (core_of l) b) (core_turned s (core_turns f ts)) =
+    ap (λ m. core_becomes m (core_turned f.shdlc (core_turns f ts))) (with_ended-core l b)
+    ∙ ap (λ z. core_becomes (core_with_ended (core_of l) b) (core_turned z (core_turns f ts))) (shdlc_moved l.controller.side b s) in
+    record { core = st.core ∙ q; tells = st.tells; host = st.host; in_order = st.in_order }
+  where
+    in_order : (b : Bool) → LinkInOrder l
+        → ActsInOrder (moved l.controller.side b s).role l.host.side.role (with_ended l b).to_controller (with_ended l b).to_host
+    in_order false z = z
+    in_order true z = z

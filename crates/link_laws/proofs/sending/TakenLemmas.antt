@@ -1,0 +1,115 @@
+-- A sender of whole messages never causes a fault.
+use Rattle.std.proofs.Common.{◌≡◌, ℕ, zero, suc, ◌+◌, ◌-◌, ◌/◌, ◌<◌, ◌≤◌, Bool, true, false, cond, not, ◌&&◌, eqb, leb, ltb, List, [], ◌∷◌, ◌++◌, length, take}
+use Rattle.std.proofs.Common.{drop, map, refl, sym, ap, ◌∙◌, subst, arith, rules, length-append, length-take, length-drop}
+use Rattle.std.proofs.Math.Bool.{and-false}
+use Rattle.std.specs.Prelude.{IsTrue}
+use Rattle.std.proofs.lemmas.List.Elements.{filter_map-append}
+use Rattle.std.proofs.lemmas.Grind.{common_steps}
+use Rattle.hcp_packet.specs.declared.Packet.{Packet}
+use Rattle.hcp_packet.specs.Packets.{packet, packet_bytes, packet_of, parts_of, packet_count, packets_of, packets_in, messages_of, fragments_of, IsFrontOf}
+use Rattle.hcp_chain.specs.Joining.{is_message_open, so_far, others, is_fifth, grown, join_step, is_fault, are_taken, given_by}
+use Rattle.hcp_chain.proofs.GivenLemmas.{given_messages, last_step, more_step}
+use Rattle.link_laws.specs.sending.Sending.{AreShort}
+use Rattle.hcp_packet.proofs.Joining.{parts_of-more, packets_in-parts, packets_of_all}
+
+-- ---- fragments
+
+packets_in-fragments : (sent : List (ℕ × List ℕ)) → AreShort sent → packets_in (fragments_of sent) ≡ packets_of_all sent
+packets_in-fragments [] short = refl
+packets_in-fragments (m ∷ sent) short =
+    filter_map-append packet_of (map packet_bytes (packets_of m.0 m.1)) (fragments_of sent)
+    ∙ (ap (λ ps. ps ++ packets_in (fragments_of sent)) (packets_in-parts m.0 (packet_count (length m.1)) m.1 short.0.0.0)
+    ∙ ap (λ ps. packets_of m.0 m.1 ++ ps) (packets_in-fragments sent short.1))
+
+-- ---- one packet that is taken
+
+-- ---- one message
+
+-- only the message of this pipe is under way, or none
+record Alone (ms : List (ℕ × List ℕ)) (pipe : ℕ) (bytes : List ℕ) : Type 0 where
+  few : length ms ≤ 1
+  rest : others ms pipe ≡ []
+  under_way : so_far ms pipe ≡ bytes
+
+not_fifth : (ms : List (ℕ × List ℕ)) (pipe : ℕ) → length ms ≤ 1 → is_fifth ms pipe ≡ false
+not_fifth ms pipe few =
+    let no : leb 4 (length ms) ≡ false = grind (arith, common_steps) in
+    ap (λ b. not (is_message_open ms pipe) && b) no ∙ and-false (not (is_message_open ms pipe))
+
+not_long : (ms : List (ℕ × List ℕ)) (p : Packet) (bytes : List ℕ) → Alone ms p.pipe bytes → length bytes + length p.bytes.items ≤ 4096
+    → ltb 4096 (length (grown ms p)) ≡ false
+not_long ms p bytes alone fits =
+    let len : length (grown ms p) ≡ length bytes + length p.bytes.items = length-append (so_far ms p.pipe) p.bytes.items
+    ∙ ap (λ bs. length bs + length p.bytes.items) alone.under_way in
+    grind (arith, common_steps, len)
+
+itself : (pipe : ℕ) → eqb pipe pipe ≡ true
+itself pipe = grind (arith, common_steps)
+
+alone_again : (pipe : ℕ) (bytes : List ℕ) → Alone ((pipe, bytes) ∷ []) pipe bytes
+alone_again pipe bytes = record {
+  few = omega arith;
+  rest = ap (λ b. cond (not b) ((pipe, bytes) ∷ []) []) (itself pipe);
+  under_way = ap (λ b. cond b bytes []) (itself pipe);
+}
+
+parts_taken : (pipe n : ℕ) (left bytes : List ℕ) (ms : List (ℕ × List ℕ)) (packets : List Packet) → Alone ms pipe bytes
+    → length bytes + length left ≤ 4096 → are_taken ms (parts_of pipe (suc n) left ++ packets) ≡ are_taken [] packets
+parts_taken pipe zero left bytes ms packets alone fits =
+    let p = packet true pipe (take 28 left) in
+    let step = last_step ms p (not_fifth ms pipe alone.few) (not_long ms p bytes alone (omega (arith, length-take 28 left))) refl in
+    ap (λ s. not (is_fault s.0) && are_taken s.1 packets) step ∙ ap (λ ns. are_taken ns packets) alone.rest
+parts_taken pipe (suc n) left bytes ms packets alone fits =
+    let p = packet false pipe (take 28 left) in
+    let step = more_step ms p (not_fifth ms pipe alone.few) (not_long ms p bytes alone (omega (arith, length-take 28 left))) refl in
+    let grown_is : grown ms p ≡ bytes ++ take 28 left = ap (λ bs. bs ++ take 28 left) alone.under_way in
+    let next : others ms pipe ++ (pipe, grown ms p) ∷ [] ≡ (pipe, bytes ++ take 28 left) ∷ [] = ap (λ os. os ++ (pipe, grown ms p) ∷ []) alone.rest
+    ∙ ap (λ bs. (pipe, bs) ∷ []) grown_is in
+    ap (λ ps. are_taken ms (ps ++ packets)) (parts_of-more pipe n left)
+    ∙ (ap (λ s. not (is_fault s.0) && are_taken s.1 (parts_of pipe (suc n) (drop 28 left) ++ packets)) step
+    ∙ (ap (λ ns. are_taken ns (parts_of pipe (suc n) (drop 28 left) ++ packets)) next
+    ∙ parts_taken pipe n (drop 28 left) (bytes ++ take 28 left) ((pipe, bytes ++ take 28 left) ∷ []) packets (alone_again pipe (bytes ++ take 28 left))
+    (omega (arith, length-append bytes (take 28 left), length-take 28 left, length-drop 28 left))))
+
+-- ---- whole messages, and a front of them
+
+packet_count-suc : (len : ℕ) → 0 < len → (n : ℕ) × (packet_count len ≡ suc n)
+packet_count-suc len some = ((len + 27) / 28 - 1, omega arith)
+
+none_alone : (pipe : ℕ) → Alone [] pipe []
+none_alone pipe = record { few = omega arith; rest = refl; under_way = refl }
+
+all_taken : (sent : List (ℕ × List ℕ)) → AreShort sent → are_taken [] (packets_of_all sent) ≡ true
+all_taken [] short = refl
+all_taken (m ∷ sent) short =
+    let count = packet_count-suc (length m.1) short.0.0.1 in
+    ap (λ n. are_taken [] (parts_of m.0 n m.1 ++ packets_of_all sent)) count.1
+    ∙ (parts_taken m.0 count.0 m.1 [] [] (packets_of_all sent) (none_alone m.0) (omega (arith, short.0.1)) ∙ all_taken sent short.1)
+
+front_taken : (front rest : List Packet) (ms : List (ℕ × List ℕ)) → are_taken ms (front ++ rest) ≡ true → are_taken ms front ≡ true
+front_taken [] rest ms taken = refl
+front_taken (p ∷ front) rest ms taken = by_fault (is_fault (join_step ms p).0) refl (λ t. front_taken front rest (join_step ms p).1 t)
+  where
+    by_fault : (b : Bool) → is_fault (join_step ms p).0 ≡ b
+        → (are_taken (join_step ms p).1 (front ++ rest) ≡ true → are_taken (join_step ms p).1 front ≡ true)
+        → (not (is_fault (join_step ms p).0) && are_taken (join_step ms p).1 front) ≡ true
+    by_fault true e more = absurd (let t : not true && are_taken (join_step ms p).1 (front ++ rest) ≡ true =
+        subst (λ b. not b && are_taken (join_step ms p).1 (front ++ rest) ≡ true) e taken in never t)
+      where
+        never : false ≡ true → ⊥
+        never f = cc
+    by_fault false e more =
+        let t : not false && are_taken (join_step ms p).1 (front ++ rest) ≡ true =
+        subst (λ b. not b && are_taken (join_step ms p).1 (front ++ rest) ≡ true) e taken in
+        ap (λ b. not b && are_taken (join_step ms p).1 front) e ∙ more t
+
+pub no_fault : (sent : List (ℕ × List ℕ)) (got : List (List ℕ)) → AreShort sent → IsFrontOf got (fragments_of sent) → IsTrue (are_taken [] (packets_in got))
+no_fault sent got short front =
+    let all : packets_in got ++ packets_in front.0 ≡ packets_of_all sent = sym (filter_map-append packet_of got front.0)
+    ∙ (ap packets_in front.1 ∙ packets_in-fragments sent short) in
+    let taken : are_taken [] (packets_in got) ≡ true = front_taken (packets_in got) (packets_in front.0) [] (ap (are_taken []) all ∙ all_taken sent short) in
+    subst IsTrue (sym taken) (search rules)
+
+pub all_given : (sent : List (ℕ × List ℕ)) (got : List (List ℕ)) → AreShort sent → IsFrontOf got (fragments_of sent)
+    → given_by [] (packets_in got) ≡ messages_of (packets_in got)
+all_given sent got short front = given_messages (packets_in got) (no_fault sent got short front)

@@ -1,8 +1,0 @@
-use Rattle.link_machine.proofs.Told.{inactive_takes, inactive_sends}
-use Rattle.link_machine.proofs.inactive_end_has_activation_alone.Goals as goal
-
-pub returns-clause-takes : goal.returns-clause-takes
-returns-clause-takes c = inactive_takes
-
-pub returns-clause-sends : goal.returns-clause-sends
-returns-clause-sends c = inactive_sends

@@ -1,0 +1,74 @@
+-- In a round of a bare world the ends take frames one after the other, so at most a window of fragments more count as acknowledged at each.
+use Rattle.std.proofs.Common.{◌≡◌, ℕ, zero, suc, ◌*◌, List, [], ◌∷◌, ◌++◌, map, refl, ap, sym, subst, ◌∙◌, arith, length, append-nil}
+use Rattle.std.specs.Prelude.{replicate}
+use Rattle.std.proofs.lemmas.List.{map-append}
+use Rattle.link_laws.specs.messages.Links.{Link, LinkEvent, IsStart, AllAllowed, after_link_events}
+use Rattle.link_laws.specs.entries.Entries.End.{Controller, Host}
+use Rattle.link_laws.proofs.messages.Runs.{Good, Reached}
+use Rattle.link_laws.proofs.messages.Whole.{from_start, reached}
+use Rattle.link_laws.specs.messages.Projection.{core_of}
+use Rattle.history.specs.Histories.{Cause}
+use Rattle.history.specs.Histories.Cause.{Taken, Ticked}
+use Rattle.history.specs.Steps.{end_of, event_of, link_after_all}
+use Rattle.node_laws.specs.acked.InTurn.{AllAtController, AllAtHost, AreTakenInTurn, AcksAtMost}
+use Rattle.node_laws.specs.rounds.BareRounds.{causes_of_round, link_after_round, causes_of_rounds}
+use Rattle.node_laws.proofs.acked.InTurn.{good_after, front_acks}
+use Rattle.node_laws.proofs.rounds.BareRounds.{after_causes, bare_round_allowed}
+
+near_taken : (k h : ℕ) → AllAtController (map event_of (replicate k (Taken (end_of h Controller))))
+near_taken zero h = tt
+near_taken (suc k) h = near_taken k h
+
+far_taken : (k h : ℕ) → AllAtHost (map event_of (replicate k (Taken (end_of h Host))))
+far_taken zero h = tt
+far_taken (suc k) h = far_taken k h
+
+pub bare_in_turn : (h : ℕ) (l : Link) → AreTakenInTurn (map event_of (causes_of_round h l))
+bare_in_turn h l =
+    let near : List Cause = replicate (length l.to_controller) (Taken (end_of h Controller)) in
+    let k : ℕ = length (link_after_all l near).to_host in
+    let far : List Cause = replicate k (Taken (end_of h Host)) in
+    record {
+      near = map event_of near;
+      far = map event_of far;
+      rest = map event_of (Ticked ∷ []);
+      parts = map-append event_of near (far ++ Ticked ∷ []) ∙ ap (λ es. map event_of near ++ es) (map-append event_of far (Ticked ∷ []));
+      at_controller = near_taken (length l.to_controller) h;
+      at_host = far_taken k h;
+      none_taken = tt;
+    }
+
+pub good_start : (l : Link) → IsStart l → (before : List LinkEvent) → AllAllowed l before
+    → Good (after_link_events l before) × Reached (core_of (after_link_events l before))
+good_start l s before a = ((from_start l s before a).good, reached l s before a)
+
+pub bare_round_acks : (h : ℕ) (l : Link) → Good l × Reached (core_of l) → (front back : List Cause) → causes_of_round h l ≡ front ++ back
+    → AcksAtMost 4 4 l (link_after_all l front)
+bare_round_acks h l k front back q =
+    let parts : map event_of (causes_of_round h l) ≡ map event_of front ++ map event_of back = ap (map event_of) q ∙ map-append event_of front back in
+    let P : Link → Type 0 = AcksAtMost 4 4 l in
+    subst P (sym (after_causes front l))
+    (front_acks (map event_of (causes_of_round h l)) (map event_of front) (map event_of back) l parts (bare_round_allowed h l) k (bare_in_turn h l))
+
+all-append : (cs ds : List Cause) (l : Link) → link_after_all l (cs ++ ds) ≡ link_after_all (link_after_all l cs) ds
+all-append [] ds l = refl
+all-append (c ∷ cs) ds l = all-append cs ds _
+
+pub bare_rounds_acks : (r h : ℕ) (l : Link) → Good l × Reached (core_of l) → AcksAtMost (4 * r) (4 * r) l (link_after_all l (causes_of_rounds r h l))
+bare_rounds_acks zero h l k = record { controller = omega arith; host = omega arith }
+bare_rounds_acks (suc r) h l k =
+    let now : List Cause = causes_of_round h l in
+    let m : Link = link_after_round h l in
+    let later : List Cause = causes_of_rounds r h m in
+    let one : AcksAtMost 4 4 l m = bare_round_acks h l k now [] (sym (append-nil now)) in
+    let K : Link → Type 0 = λ o. Good o × Reached (core_of o) in
+    let known : K m = subst K (sym (after_causes now l)) (good_after (map event_of now) l (bare_round_allowed h l) k) in
+    let more : AcksAtMost (4 * r) (4 * r) m (link_after_all m later) = bare_rounds_acks r h m known in
+    let c1 = one.controller in
+    let h1 = one.host in
+    let c2 = more.controller in
+    let h2 = more.host in
+    let both : AcksAtMost (4 * suc r) (4 * suc r) l (link_after_all m later) =
+    record { controller = omega (arith, c1, c2); host = omega (arith, h1, h2) } in
+    let P : Link → Type 0 = AcksAtMost (4 * suc r) (4 * suc r) l in
+    subst P (sym (all-append now later l)) both

@@ -1,0 +1,23 @@
+-- Four fragments more may indeed count as acknowledged in one round.
+use Rattle.std.proofs.Common.{◌≡◌, [], ◌∷◌, refl}
+use Rattle.std.specs.Prelude.{replicate}
+use Rattle.link_laws.specs.machine.Machine.Role.{Bare}
+use Rattle.link_laws.specs.machine.Machine.Turn.{Give}
+use Rattle.link_laws.specs.messages.Links.{Link, new_link, happens}
+use Rattle.link_laws.specs.messages.Links.Ending.{GoesOut}
+use Rattle.link_laws.specs.messages.Links.Comes.{NoInput}
+use Rattle.link_laws.specs.messages.Links.EndEvent.{Step}
+use Rattle.link_laws.specs.messages.Links.LinkEvent.{AtController}
+use Rattle.node_laws.specs.acked.InTurn.{acked_at_controller}
+use Rattle.node_laws.specs.rounds.BareRounds.{link_after_round}
+
+-- the controller's end of a bare link has sent the first four fragments of a message
+abbrev sent_four : Link
+sent_four = happens (new_link Bare Bare) (AtController (Step NoInput (Give (5, replicate 120 7) ∷ []) GoesOut))
+
+-- in the first round they are taken and answered, in the second the answers are taken
+none_at_first : acked_at_controller (link_after_round 1 sent_four) ≡ 0
+none_at_first = refl
+
+four_then : acked_at_controller (link_after_round 1 (link_after_round 1 sent_four)) ≡ 4
+four_then = refl

@@ -1,0 +1,227 @@
+-- In a round of a world the ends of each link take frames one after the other: first the controller's, then the host's.
+use Rattle.std.proofs.Common.{◌≡◌, ℕ, zero, suc, ◌==◌, ◌&&◌, Bool, true, false, cond, not, List, [], ◌∷◌, ◌++◌, Option, Some, None}
+use Rattle.std.proofs.Common.{refl, ap, sym, subst, ◌∙◌, length, append_assoc}
+use Rattle.std.specs.Prelude.{replicate}
+use Rattle.trace_model.specs.declared.line.End.{End}
+use Rattle.trace_model.specs.declared.line.Line.TheVariants as line
+use Rattle.shdlc_core.specs.Machine.{is_waiting}
+use Rattle.link_laws.specs.machine.Machine.{LinkInput}
+use Rattle.link_laws.specs.messages.Links.{Link, LinkEvent, Node, exchanged}
+use Rattle.link_laws.specs.messages.Links.Comes.{NextFrame}
+use Rattle.link_laws.specs.messages.Links.EndEvent.{Step}
+use Rattle.link_laws.specs.messages.Links.LinkEvent.{AtController, AtHost}
+use Rattle.node_machine.specs.Parts.{Running, Work}
+use Rattle.node_machine.specs.Node.{steps}
+use Rattle.node_machine.specs.Node.NodeInput.{AtEnd}
+use Rattle.node_machine.specs.world.World.{Site, NodeWorld, site_at, link_to, input_of, controller_work, host_work, comes_to, turns_at, ending_of}
+use Rattle.node_machine.specs.world.World.{end_c, end_h, all_aged, controller_ticks, world_step}
+use Rattle.node_machine.specs.world.World.Happening.{Takes, Ticks as TimePassing}
+use Rattle.node_machine.specs.world.Lines.{can_happen, happenings, frames_at}
+use Rattle.node_laws.specs.kept.Hosts.{AreDifferent}
+use Rattle.node_laws.specs.telling.Telling.{hosts_in}
+use Rattle.node_laws.proofs.telling.Nodes.{site_host}
+use Rattle.node_laws.specs.acked.InTurn.{AllAtController, AllAtHost, TakeNoFrames, AreTakenInTurn}
+use Rattle.node_machine.specs.world.Rounds.{ends_in_order, end_takes_all, ends_take_all}
+use Rattle.node_laws.specs.rounds.LinkEvents.{link_events_in, controller_takes, site_takes, takes_on, tick_so, ticks_on, on_site}
+use Rattle.node_laws.specs.rounds.RoundEvents.{events_on, ends_events, round_events}
+use Rattle.node_laws.proofs.rounds.Ends.{ends_of, order_is, ends-append, AreOthers, Split, split, events-append}
+
+-- ## One frame
+
+-- what the controller takes is at its end
+near_at : (h : ℕ) (w : NodeWorld) (k : ℕ) → AllAtController (controller_takes h w k)
+near_at h w k = go (input_of (link_to w.sites k) NextFrame) w.controller
+  where
+    by : Option LinkInput → Option Running → List LinkEvent
+    by None _ = []
+    by (Some i) None = []
+    by (Some i) (Some r) =
+        let work : Work = controller_work w r k NextFrame (steps (AtEnd k i)) in
+        AtController (Step (comes_to k NextFrame h) (turns_at work h) (ending_of work)) ∷ []
+
+    go : (i : Option LinkInput) (c : Option Running) → AllAtController (by i c)
+    go None c = tt
+    go (Some i) None = tt
+    go (Some i) (Some r) = tt
+
+-- at the end of another link it takes none on this one
+near_none : (h : ℕ) (w : NodeWorld) (k : ℕ) → (h == k) ≡ false → TakeNoFrames (controller_takes h w k)
+near_none h w k other = go (input_of (link_to w.sites k) NextFrame) w.controller
+  where
+    by : Option LinkInput → Option Running → List LinkEvent
+    by None _ = []
+    by (Some i) None = []
+    by (Some i) (Some r) =
+        let work : Work = controller_work w r k NextFrame (steps (AtEnd k i)) in
+        AtController (Step (comes_to k NextFrame h) (turns_at work h) (ending_of work)) ∷ []
+
+    go : (i : Option LinkInput) (c : Option Running) → TakeNoFrames (by i c)
+    go None c = tt
+    go (Some i) None = tt
+    go (Some i) (Some r) = rw other (tt, tt)
+
+far_at : (s : Site) → AllAtHost (site_takes s)
+far_at s = go (input_of (exchanged s.link) NextFrame) s.node
+  where
+    by : Option LinkInput → Option Running → List LinkEvent
+    by None _ = []
+    by (Some i) None = []
+    by (Some i) (Some r) =
+        let work : Work = host_work s r NextFrame (steps (AtEnd s.host i)) in AtHost (Step NextFrame (turns_at work s.host) (ending_of work)) ∷ []
+
+    go : (i : Option LinkInput) (c : Option Running) → AllAtHost (by i c)
+    go None c = tt
+    go (Some i) None = tt
+    go (Some i) (Some r) = tt
+
+pub near_takes : (h k : ℕ) (w : NodeWorld) → AllAtController (link_events_in h w (Takes (end_c k)))
+near_takes h k w = go (site_at w.sites h)
+  where
+    go : (o : Option Site) → AllAtController (on_site o (λ s. takes_on s w (end_c k)))
+    go None = tt
+    go (Some s) = near_at s.host w k
+
+pub far_takes : (h k : ℕ) (w : NodeWorld) → AllAtHost (link_events_in h w (Takes (end_h k)))
+far_takes h k w = go (site_at w.sites h)
+  where
+    own : (b : Bool) (s : Site) → AllAtHost (cond b (site_takes s) [])
+    own true s = far_at s
+    own false s = tt
+
+    go : (o : Option Site) → AllAtHost (on_site o (λ s. takes_on s w (end_h k)))
+    go None = tt
+    go (Some s) = own (s.host == k) s
+
+-- the end of another link
+other_near : (h k : ℕ) → (h == k) ≡ false → (w : NodeWorld) → TakeNoFrames (link_events_in h w (Takes (end_c k)))
+other_near h k other w = go (site_at w.sites h) refl
+  where
+    go : (o : Option Site) → site_at w.sites h ≡ o → TakeNoFrames (on_site o (λ s. takes_on s w (end_c k)))
+    go None q = tt
+    go (Some s) q =
+        let number : s.host ≡ h = site_host w.sites h s q in
+        near_none s.host w k (ap (λ n. n == k) number ∙ other)
+
+other_far : (h k : ℕ) → (h == k) ≡ false → (w : NodeWorld) → link_events_in h w (Takes (end_h k)) ≡ []
+other_far h k other w = go (site_at w.sites h) refl
+  where
+    go : (o : Option Site) → site_at w.sites h ≡ o → on_site o (λ s. takes_on s w (end_h k)) ≡ []
+    go None q = refl
+    go (Some s) q =
+        let number : s.host ≡ h = site_host w.sites h s q in
+        let not_own : (s.host == k) ≡ false = ap (λ n. n == k) number ∙ other in
+        rw not_own refl
+
+-- ## Many frames
+
+-- it holds of nothing, and of two lists one after the other
+record Joins (P : List LinkEvent → Type 0) : Type 1 where
+  none : P []
+  both : (es fs : List LinkEvent) → P es → P fs → P (es ++ fs)
+
+near_joins : Joins AllAtController
+near_joins = record { none = tt; both = both }
+  where
+    both : (es fs : List LinkEvent) → AllAtController es → AllAtController fs → AllAtController (es ++ fs)
+    both [] fs a b = b
+    both (AtController e ∷ es) fs a b = both es fs a b
+    both (_ ∷ es) fs a b = absurd a
+
+far_joins : Joins AllAtHost
+far_joins = record { none = tt; both = both }
+  where
+    both : (es fs : List LinkEvent) → AllAtHost es → AllAtHost fs → AllAtHost (es ++ fs)
+    both [] fs a b = b
+    both (AtHost e ∷ es) fs a b = both es fs a b
+    both (_ ∷ es) fs a b = absurd a
+
+none_joins : Joins TakeNoFrames
+none_joins = record { none = tt; both = both }
+  where
+    both : (es fs : List LinkEvent) → TakeNoFrames es → TakeNoFrames fs → TakeNoFrames (es ++ fs)
+    both [] fs a b = b
+    both (AtController e ∷ es) fs a b = (a.0, both es fs a.1 b)
+    both (AtHost e ∷ es) fs a b = (a.0, both es fs a.1 b)
+    both (_ ∷ es) fs a b = both es fs a b
+
+-- so many frames are taken at an end
+many : (P : List LinkEvent → Type 0) → Joins P → (h : ℕ) (e : End) → ((w : NodeWorld) → P (link_events_in h w (Takes e))) → (n : ℕ) (w : NodeWorld)
+    → P (events_on h w (replicate n (Takes e)))
+many P joins h e each zero w = joins.none
+many P joins h e each (suc n) w = go (can_happen w (Takes e)) (many P joins h e each n (world_step w (Takes e)).0)
+  where
+    now : List LinkEvent
+    now = link_events_in h w (Takes e)
+
+    later : List LinkEvent
+    later = events_on h (world_step w (Takes e)).0 (replicate n (Takes e))
+
+    go : (b : Bool) → P later → P (cond b (now ++ later) [])
+    go true more = joins.both now later (each w) more
+    go false more = joins.none
+
+-- the ends of other links take frames
+others : (P : List LinkEvent → Type 0) → Joins P → (h : ℕ) → ((k : ℕ) → (h == k) ≡ false → (w : NodeWorld) → P (link_events_in h w (Takes (end_c k))))
+    → (ks : List ℕ) (w : NodeWorld) → AreOthers h ks → P (ends_events h w (ends_of ks))
+others P joins h near [] w a = joins.none
+others P joins h near (k ∷ ks) w a =
+    let v : NodeWorld = (end_takes_all w (end_c k)).0 in
+    let o : NodeWorld = (end_takes_all v (end_h k)).0 in
+    let first : List LinkEvent = events_on h w (happenings w (line.Deliver (end_c k) None)) in
+    let second : List LinkEvent = events_on h v (happenings v (line.Deliver (end_h k) None)) in
+    let rest : List LinkEvent = ends_events h o (ends_of ks) in
+    let none : (u : NodeWorld) → P (link_events_in h u (Takes (end_h k))) = λ u. subst P (sym (other_far h k a.0 u)) joins.none in
+    joins.both first (second ++ rest) (many P joins h (end_c k) (near k a.0) (length (frames_at w (end_c k))) w)
+    (joins.both second rest (many P joins h (end_h k) none (length (frames_at v (end_h k))) v) (others P joins h near ks o a.1))
+
+-- ## A tick
+
+tick_none : (l : Link) (late : Bool) (c d : Node) → TakeNoFrames (tick_so l late c d ∷ [])
+tick_none l late c d = go (late && not (is_waiting l.controller.side.shdlc)) refl
+  where
+    go : (b : Bool) → (late && not (is_waiting l.controller.side.shdlc)) ≡ b → TakeNoFrames (tick_so l late c d ∷ [])
+    go true q = rw q tt
+    go false q = rw q tt
+
+pub time_none : (h : ℕ) (w : NodeWorld) → TakeNoFrames (link_events_in h w TimePassing)
+time_none h w = go (site_at w.sites h) (site_at (controller_ticks (all_aged w).0).0.sites h)
+  where
+    go : (o p : Option Site) → TakeNoFrames (on_site o (λ s. on_site p (ticks_on s w)))
+    go None p = tt
+    go (Some s) None = tt
+    go (Some s) (Some t) = tick_none s.link _ _ _
+
+-- ## A round
+
+pub round_in_turn : (w : NodeWorld) (h : ℕ) (s : Site) → AreDifferent (hosts_in w.sites) → site_at w.sites h ≡ Some s → AreTakenInTurn (round_events h w)
+round_in_turn w h s different q =
+    let p : Split h (hosts_in w.sites) = split w.sites h s different q in
+    let a : List End = ends_of p.before in
+    let b : List End = ends_of p.behind in
+    let w1 : NodeWorld = (ends_take_all w a).0 in
+    let w2 : NodeWorld = (end_takes_all w1 (end_c h)).0 in
+    let w3 : NodeWorld = (end_takes_all w2 (end_h h)).0 in
+    let f1 : List LinkEvent = ends_events h w a in
+    let f2 : List LinkEvent = events_on h w1 (happenings w1 (line.Deliver (end_c h) None)) in
+    let f3 : List LinkEvent = events_on h w2 (happenings w2 (line.Deliver (end_h h) None)) in
+    let f4 : List LinkEvent = ends_events h w3 b in
+    let v : NodeWorld = (ends_take_all w (ends_in_order w)).0 in
+    let time : List LinkEvent = events_on h v (TimePassing ∷ []) in
+    let order : ends_in_order w ≡ a ++ (end_c h ∷ end_h h ∷ b) =
+    order_is w.sites ∙ (ap ends_of p.parts ∙ ends-append p.before (h ∷ p.behind)) in
+    let is : ends_events h w (ends_in_order w) ≡ f1 ++ (f2 ++ (f3 ++ f4)) =
+    ap (ends_events h w) order ∙ events-append h a (end_c h ∷ end_h h ∷ b) w in
+    let parts : round_events h w ≡ (f1 ++ f2) ++ (f3 ++ (f4 ++ time)) =
+    ap (λ es. es ++ time) (is ∙ sym (append_assoc f1 f2 (f3 ++ f4)))
+    ∙ (append_assoc (f1 ++ f2) (f3 ++ f4) time ∙ ap (λ es. (f1 ++ f2) ++ es) (append_assoc f3 f4 time)) in
+    let passes : TakeNoFrames time = none_joins.both (link_events_in h v TimePassing) [] (time_none h v) tt in
+    record {
+      near = f1 ++ f2;
+      far = f3;
+      rest = f4 ++ time;
+      parts = parts;
+      at_controller = near_joins.both f1 f2 (others AllAtController near_joins h (λ k z u. near_takes h k u) p.before w p.first)
+          (many AllAtController near_joins h (end_c h) (near_takes h h) (length (frames_at w1 (end_c h))) w1);
+      at_host = many AllAtHost far_joins h (end_h h) (far_takes h h) (length (frames_at w2 (end_h h))) w2;
+      none_taken = none_joins.both f4 time (others TakeNoFrames none_joins h (λ k z u. other_near h k z u) p.behind w3 p.last) passes;
+    }

@@ -1,0 +1,25 @@
+-- A message that is held for room is answered once there is room.
+use Rattle.std.proofs.Common.{◌≡◌, refl, Bool, true, false, [], ◌∷◌}
+use Rattle.std.specs.List.{filter}
+use Rattle.trace_model.specs.declared.entry.Entry.{Entry}
+use Rattle.trace_model.specs.declared.entry.Entry.TheVariants as entry
+use Rattle.journal_laws.specs.Records.{found_from}
+use Rattle.gate_admin.specs.View.{hosts_where}
+use Rattle.pipe_table.specs.PipeRows.{lowest_free}
+use Rattle.node_machine.specs.world.World.{end_c}
+use Rattle.node_machine.specs.world.NodeHistories.{node_entries}
+use Rattle.node_laws.specs.answers.Answered.{Answered}
+use Rattle.node_laws.proofs.answers.Walks.{answered, all_in_turn, history_of_lines}
+use Rattle.node_laws.proofs.answers.Schedules.{held_lines}
+
+abbrev is_held_entry : Entry → Bool
+is_held_entry (entry.Held e need spare) = true
+is_held_entry _ = false
+
+held_is_told : filter is_held_entry (node_entries (history_of_lines (2 ∷ []) held_lines)) ≡ entry.Held (end_c 2) 128 127 ∷ []
+unfolding found_from hosts_where lowest_free
+held_is_told = refl
+
+held : Answered (history_of_lines (2 ∷ []) held_lines)
+unfolding found_from hosts_where lowest_free
+held = answered (history_of_lines (2 ∷ []) held_lines) (all_in_turn (2 ∷ []) held_lines refl (tt, tt) (refl, tt)) refl

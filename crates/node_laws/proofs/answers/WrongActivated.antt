@@ -1,0 +1,76 @@
+-- Small wrong histories of a link that is activated as its causes say aren't legal: those of a reset, and of a memory.
+use Rattle.std.proofs.Common.{◌≡◌, refl, ap, sym, true, true≢false, List, [], ◌∷◌, ◌++◌, get_or, arith, Option, Some, None}
+use Rattle.std.specs.Prelude.{is_some, unwrap_or}
+use Rattle.trace_model.specs.declared.entry.Entry.{Entry}
+use Rattle.trace_model.specs.declared.entry.Entry.TheVariants.{Emit, Took, Active, Command}
+use Rattle.hci_tables.specs.declared.command.Command.TheVariants as command
+use Rattle.journal_laws.specs.Records.{found_from}
+use Rattle.gate_admin.specs.View.{hosts_where}
+use Rattle.pipe_table.specs.PipeRows.{lowest_free}
+use Rattle.swp_base.specs.InMemory.{Memory}
+use Rattle.node_machine.specs.world.World.{Site, new_site, new_world, site_at, end_c, end_h}
+use Rattle.node_machine.specs.world.World.Happening.{Resets, Activates}
+use Rattle.node_machine.specs.world.Lines.{Occurrence}
+use Rattle.node_laws.specs.telling.Telling.{world_behind}
+use Rattle.node_laws.specs.order.Resets.{IsUpheld}
+use Rattle.node_laws.specs.answers.Headline.{LegalWorld}
+use Rattle.node_laws.proofs.answers.Wrong.{told, boot, takes}
+use Rattle.node_laws.proofs.answers.WrongWorlds.{boots_host, host_takes}
+
+abbrev activates : List Entry → Occurrence
+activates entries = record { cause = Activates 2 2 0; entries = entries }
+
+-- the link with host 02 is activated, and all is noted
+abbrev pub activated : List Occurrence
+activated =
+    boot ∷ boots_host 2
+    ∷ activates (Emit (end_h 2) (97 ∷ 0 ∷ 2 ∷ []) ∷ [])
+    ∷ takes (Took (end_c 2) (97 ∷ 0 ∷ 2 ∷ []) ∷ Command 0 (command.Sync 2 2) ∷ Emit (end_c 2) (98 ∷ 0 ∷ []) ∷ [])
+    ∷ host_takes (Took (end_h 2) (98 ∷ 0 ∷ []) ∷ Active (end_h 2) ∷ Emit (end_h 2) (96 ∷ []) ∷ [])
+    ∷ takes (Took (end_c 2) (96 ∷ []) ∷ Active (end_c 2) ∷ [])
+    ∷ []
+
+-- the site of host 02 behind these events
+abbrev pub site_behind : List Occurrence → Option Site
+site_behind events = site_at (world_behind (new_world (2 ∷ [])) events).sites 2
+
+abbrev pub site : List Occurrence → Site
+site events = unwrap_or (site_behind events) (new_site [] 2)
+
+pub is_there : (s : Option Site) → is_some s ≡ true → s ≡ Some (unwrap_or s (new_site [] 2))
+is_there None h = absurd (true≢false (sym h))
+is_there (Some s) h = refl
+
+-- ## Upheld
+
+-- a host's end is reset, and no RSET is put on the wire
+abbrev asks : Occurrence
+asks = record { cause = Resets (end_h 2) None; entries = [] }
+
+reset_and_not_up : LegalWorld (told (activated ++ asks ∷ [])) → ⊥
+unfolding found_from hosts_where lowest_free
+reset_and_not_up w = true≢false (sym (ap is_some (w.legal.complete.upheld activated asks [] [] (end_h 2) None (site activated) refl upheld).up.host))
+  where
+    upheld : IsUpheld (2 ∷ []) activated asks [] (end_h 2) None (site activated)
+    upheld = record {
+      cause = refl;
+      there = is_there (site_behind activated) refl;
+      active = refl;
+      free = refl;
+      powered = refl;
+      undisturbed = refl;
+      unopened = refl;
+      to_controller = refl;
+      to_host = refl;
+    }
+
+-- ## Memories
+
+-- The controller takes a new identifier, which it writes to its memory, and nothing is noted of that.
+abbrev silent : List Occurrence
+silent = boot ∷ boots_host 2 ∷ activates [] ∷ takes [] ∷ []
+
+wrote_what_is_not_noted : LegalWorld (told silent) → ⊥
+unfolding found_from hosts_where lowest_free
+wrote_what_is_not_noted w =
+    let same : 90 ≡ 255 = ap (λ (m : Memory). get_or m.content 12 0) (w.legal.kept.stands silent [] 0 refl refl) in omega (arith, same)

@@ -1,0 +1,77 @@
+-- A small wrong history of a link that settles isn't legal.
+use Rattle.std.proofs.Common.{◌≡◌, ◌∙◌, refl, ap, sym, ℕ, true≢false, List, [], ◌∷◌, ◌++◌, Some, None}
+use Rattle.std.specs.Prelude.{is_some}
+use Rattle.swp_base.specs.declared.control_frames.Act.TheVariants.{Ready, PowerMode}
+use Rattle.swp_act.specs.declared.Phase.TheVariants.{Active as IsActive}
+use Rattle.trace_model.specs.declared.entry.LostCause.TheVariants as lost
+use Rattle.trace_model.specs.declared.entry.Entry.TheVariants.{Up, Emit, Took, Lost}
+use Rattle.journal_laws.specs.Records.{found_from}
+use Rattle.gate_admin.specs.View.{hosts_where}
+use Rattle.pipe_table.specs.PipeRows.{lowest_free}
+use Rattle.link_laws.specs.machine.Machine.{Role, new_link_end}
+use Rattle.link_laws.specs.machine.Machine.Role.{Bare, Clf, Uicc}
+use Rattle.link_laws.specs.messages.Links.{Link, LinkEvent, NumberedEnd, after_link_events}
+use Rattle.link_laws.specs.messages.Links.Comes.{NextFrame, AsksReset, Starts}
+use Rattle.link_laws.specs.messages.Links.Ending.{GoesOut}
+use Rattle.link_laws.specs.messages.Links.EndEvent.{Step}
+use Rattle.link_laws.specs.messages.Links.LinkEvent.{AtController, AtHost}
+use Rattle.link_laws.specs.messages.Settled.{IsSettled, sure_of}
+use Rattle.node_machine.specs.world.World.{end_c, end_h}
+use Rattle.node_machine.specs.world.World.Happening.{Resets}
+use Rattle.node_machine.specs.world.Lines.{Occurrence}
+use Rattle.node_laws.specs.links.Runs.{IsRunOf, new_line}
+use Rattle.node_laws.specs.answers.Headline.{LegalWorld}
+use Rattle.node_laws.proofs.answers.Wrong.{told, takes}
+use Rattle.node_laws.proofs.answers.WrongWorlds.{host_takes}
+use Rattle.node_laws.proofs.answers.WrongActivated.{activated, site, site_behind, is_there}
+
+-- It is reset, and its UA comes as the causes say; but it is noted as lost, and the host's end not as up. What is upheld is read off
+-- entries, so it says nothing of this one.
+abbrev settles : List Occurrence
+settles =
+    activated
+    ++ record { cause = Resets (end_h 2) None; entries = Emit (end_h 2) (249 ∷ 4 ∷ 0 ∷ []) ∷ [] }
+    ∷ takes (Took (end_c 2) (249 ∷ 4 ∷ 0 ∷ []) ∷ Up (end_c 2) 1 ∷ Emit (end_c 2) (230 ∷ []) ∷ [])
+    ∷ host_takes (Lost (end_h 2) (230 ∷ []) lost.Asked ∷ [])
+    ∷ []
+
+-- what happens on the link as these events have it
+abbrev happened : List LinkEvent
+happened =
+    AtController (Step (Starts 0) [] GoesOut) ∷ AtHost (Step (Starts 2) [] GoesOut)
+    ∷ AtController (Step NextFrame [] GoesOut) ∷ AtHost (Step NextFrame [] GoesOut) ∷ AtController (Step NextFrame [] GoesOut)
+    ∷ AtHost (Step (AsksReset None) [] GoesOut) ∷ AtController (Step NextFrame [] GoesOut) ∷ AtHost (Step NextFrame [] GoesOut) ∷ []
+
+-- the link behind that: both ends are active, and up with number 1
+abbrev comes_to_be : Role → ℕ → ℕ → NumberedEnd
+comes_to_be role emitted took = record { side = record (new_link_end Bare) { role = role }; emitted = emitted; took = took; past = [] }
+
+abbrev settled_link : Link
+settled_link = record {
+  controller = comes_to_be (Clf (record { phase = IsActive; last = Some (PowerMode 0); power = 0 })) 0 1;
+  host = comes_to_be (Uicc (record { phase = IsActive; last = Some Ready })) 1 0;
+  to_controller = [];
+  to_host = [];
+  resets = 1;
+}
+
+law_makes_it : after_link_events new_line happened ≡ settled_link
+law_makes_it = refl
+
+world_makes_it : (site settles).link ≡ settled_link
+unfolding found_from hosts_where lowest_free
+world_makes_it = refl
+
+settled_and_not_up : LegalWorld (told settles) → ⊥
+unfolding found_from hosts_where lowest_free
+settled_and_not_up w =
+    true≢false (sym (ap is_some (w.legal.complete.settled settles [] refl 2 (site settles) (is_there (site_behind settles) refl) happened run settled).up.host))
+  where
+    run : IsRunOf happened (site settles).link
+    run = record {
+      allowed = ((tt, (tt, tt)), ((refl, (tt, tt)), ((tt, (tt, tt)), ((tt, (tt, tt)), ((tt, (tt, tt)), ((tt, (tt, tt)), ((tt, (tt, tt)), ((tt, (tt, tt)), tt))))))));
+      is = law_makes_it ∙ sym world_makes_it;
+    }
+
+    settled : IsSettled (site settles).link (sure_of new_line happened)
+    settled = record { undisturbed = refl; to_controller = refl; to_host = refl }

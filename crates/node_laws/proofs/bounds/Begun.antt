@@ -1,0 +1,353 @@
+-- In each pass of the controller no more commands are noted than came of causes.
+use Rattle.std.proofs.Common.{◌≡◌, ℕ, ◌+◌, ◌≤◌, Bool, true, false, cond, eqb, List, [], ◌∷◌, ◌++◌, length, map, sym, refl, ap, ◌∙◌, subst, arith, append-nil}
+use Rattle.std.proofs.Common.{append_assoc, Option, Some, None}
+use Rattle.std.specs.Prelude.{nat_lt, option_to_list}
+use Rattle.std.specs.List.{flat_map}
+use Rattle.std.specs.Option.{option_map_or}
+use Rattle.std.proofs.lemmas.Bool.{true≢false, cond_both}
+use Rattle.std.proofs.lemmas.List.{length-map}
+use Rattle.std.proofs.lemmas.List.Concat.{flat_map-append}
+use Rattle.registry.proofs.ValueLemmas.{AllByRecursion-append}
+use Rattle.trace_model.specs.declared.entry.Entry.{Entry}
+use Rattle.trace_model.specs.declared.line.End.{End}
+use Rattle.trace_model.specs.Ends.{other_end}
+use Rattle.hcp_packet.specs.Packets.{good_of, IsFrontOf}
+use Rattle.link_laws.specs.machine.Machine.{Message, LinkInput, Report, report, whole_acked, after_input}
+use Rattle.link_laws.specs.machine.Machine.LinkInput.{Reset, Start, Stop}
+use Rattle.link_laws.specs.messages.Links.{NumberedEnd, Comes, aged}
+use Rattle.link_laws.specs.messages.Links.Comes.{NextFrame, AsksReset, Starts, Stops, NoInput}
+use Rattle.link_laws.specs.entries.Entries.{End as Side, Entry as Noted, if_so, told, aged_entries}
+use Rattle.link_laws.specs.entries.Entries.End.{Controller, Host}
+use Rattle.link_laws.specs.entries.Entries.Entry.{Up, Down, Active, GaveUp, Acked, Got}
+use Rattle.history.specs.Filters.{sent_in, got_in}
+use Rattle.history.specs.Steps.{entries_for}
+use Rattle.node_machine.specs.Parts.{Core, Running, Port, Work}
+use Rattle.node_machine.specs.Carrying.{own_side, unless_cut, needs, lack}
+use Rattle.node_machine.specs.Turns.{deeds_of, handles, holds_back, lets_go, have_turns, goes_through_ends, passes}
+use Rattle.node_machine.specs.Node.{NodeInput, input_at, told_at, told_late, all_come, with_older, is_late, forgets, steps}
+use Rattle.node_machine.specs.Node.NodeInput.{AtEnd, TimePasses}
+use Rattle.node_machine.specs.world.World.{NodeWorld, Site, link_to, near_end_in, arrival, comes_to, input_of, wires_for, frames_noted, all_aged}
+use Rattle.node_machine.specs.world.World.{end_c, site_at}
+use Rattle.node_machine.specs.world.World.{controller_work, after_controller, new_world, world_step}
+use Rattle.node_machine.specs.world.World.{Happening}
+use Rattle.node_machine.specs.world.World.Happening.{Takes}
+use Rattle.node_machine.specs.world.Lines.{Occurrence}
+use Rattle.node_machine.specs.world.NodeHistories.{entries_in}
+use Rattle.node_laws.specs.kept.Hosts.{AreDifferent, AreHosts}
+use Rattle.node_laws.specs.telling.Telling.{HasEnds, IfItRuns, hosts_in, world_behind}
+use Rattle.node_laws.proofs.kept.Sites.{hosts_same as sites_same}
+use Rattle.node_laws.proofs.telling.Lasting.{occurs}
+use Rattle.node_laws.proofs.telling.Mute.{all_owed_mute, all_synced_mute}
+use Rattle.node_laws.proofs.steps.StepWalks.{unless, got_at}
+use Rattle.node_laws.specs.passes.Noting.{noted_by_deeds}
+use Rattle.node_laws.specs.passes.Passing.{ComesTo}
+use Rattle.node_laws.specs.passes.Steps.{comes_to_pass, controller_begins, has_come_so, has_freed, has_synced, syncs_in, owed_in_step}
+use Rattle.node_laws.specs.passes.Steps.{told_of_coming, told_of_late}
+use Rattle.node_laws.proofs.passes.Before.{before_entries}
+use Rattle.node_laws.proofs.passes.Passing.{handles_entries, holds_notes, lets_notes, own_held}
+use Rattle.node_laws.proofs.order.Lines.{IsSo, of_none, next_so}
+use Rattle.node_laws.proofs.order.Ordered.{in_order_so}
+use Rattle.node_laws.proofs.turns.Coming.{IsNoGot, AreNoGots, notes_still, so_none, ended_none, tries_none}
+use Rattle.node_laws.proofs.turns.Lines.{AllWait}
+use Rattle.node_laws.proofs.turns.Queues.{Goes, goes-append}
+use Rattle.node_laws.specs.bounds.Commands.{AreCausedSo, commands_by_events}
+use Rattle.node_laws.specs.reply_passes.Counts.{commands_noted}
+use Rattle.node_laws.proofs.reply_passes.Ordered.{deeds_still}
+use Rattle.node_laws.proofs.telling.Frames.{wires_all}
+use Rattle.node_laws.proofs.telling.Nodes.{hosts_same}
+use Rattle.node_laws.specs.kept.Books.{hosts_of_ends}
+use Rattle.node_laws.proofs.readings.Sites.{comes_outside, near_end_side}
+use Rattle.node_laws.proofs.turns.Works.{Leaves, aged_none, arrival_still, flat_leaves, sites_is, still_leaves}
+use Rattle.node_laws.specs.read_steps.Worlds.{as_it_ticks}
+use Rattle.node_laws.proofs.reply_passes.InTurn.{near_goes, turns_in_order}
+use Rattle.node_laws.proofs.bounds.Costs.{IsNoSent, costs, costs-append, pays-append, notes_free}
+use Rattle.node_laws.proofs.bounds.Holding.{node_holds}
+use Rattle.node_laws.proofs.bounds.Deeds.{Owes, less}
+use Rattle.node_laws.proofs.bounds.Works.{syncs_told, begun_owes}
+use Rattle.node_laws.proofs.bounds.Worlds.{world_holds, begins_so, controller_side, arrival_free, told_once, ticks_told, came_from, all_took}
+use Rattle.node_laws.proofs.bounds.Causes.{PaidSo, paid_so}
+use Rattle.node_laws.proofs.bounds.Passes.{NoGets, gets-append, still_gets, fronts_more, pass_few}
+use Rattle.node_laws.proofs.bounds.Paying.{AreFronts, other_twice}
+
+-- ## Nothing comes
+
+notes_get : (h : ℕ) (notes : List Noted) → AreNoGots notes → NoGets (entries_for h notes)
+notes_get h notes none e n = still_gets e (entries_for h notes) n (notes_still e h notes none)
+
+told_gets : (h : ℕ) (who : Side) (n : ℕ) (r : Report) (acked : ℕ) → r.got ≡ [] → NoGets (entries_for h (told who n r acked))
+told_gets h who n r acked none =
+    notes_get h (told who n r acked)
+    (AllByRecursion-append IsNoGot (map (Down who) (option_to_list r.ended)) _ (ended_none who r.ended)
+    (AllByRecursion-append IsNoGot (if_so r.began (Up who n)) _ (so_none r.began (Up who n) tt)
+    (AllByRecursion-append IsNoGot (if_so r.became_active (Active who)) _ (so_none r.became_active (Active who) tt)
+    (AllByRecursion-append IsNoGot (map (GaveUp who) (option_to_list r.gave_up)) _ (tries_none who r.gave_up)
+    (AllByRecursion-append IsNoGot (if_so (nat_lt 0 r.acked) (Acked who n acked)) _ (so_none (nat_lt 0 r.acked) (Acked who n acked) tt)
+    (subst (λ (ms : List Message). AreNoGots (map (Got who n) ms)) (sym none) tt))))))
+
+flat_gets : {X : Type 0} (f : X → List Entry) → ((x : X) → NoGets (f x)) → (xs : List X) → NoGets (flat_map f xs)
+flat_gets f one [] = λ e n. refl
+flat_gets f one (x ∷ xs) = gets-append (f x) (flat_map f xs) (one x) (flat_gets f one xs)
+
+-- an input that brings no message, at any end
+abbrev pub BringsNone : NodeInput → Type 0
+BringsNone input = (p : Port) → option_map_or (λ i. (report p.side i).got) (input_at input p) [] ≡ []
+
+brings : (b : Bool) (i : LinkInput) (p : Port) → (report p.side i).got ≡ [] → option_map_or (λ j. (report p.side j).got) (cond b (Some i) None) [] ≡ []
+brings true i p none = none
+brings false i p none = refl
+
+module _ (input : NodeInput) (w : Work) (none : BringsNone input) where
+  told_none : (core : Core) (p : Port) → NoGets (told_at core p (input_at input p))
+  told_none core p = by (input_at input p) (none p) where
+    by : (o : Option LinkInput) → option_map_or (λ i. (report p.side i).got) o [] ≡ [] → NoGets (told_at core p o)
+    by None q = λ e n. refl
+    by (Some i) q = told_gets p.desk.host (own_side core) p.session (report p.side i) (whole_acked (after_input p.side i)) q
+
+  late_none : (core : Core) (p : Port) → NoGets (told_late core p)
+  late_none core p =
+      cond_both (is_late p) (told_at core p (Some (Reset None))) [] NoGets
+      (λ _. told_gets p.desk.host (own_side core) p.session (report p.side (Reset None)) (whole_acked (after_input p.side (Reset None))) refl)
+      (λ _ e n. refl)
+
+  lates_none : (input : NodeInput) → NoGets (told_of_late input (all_come input w))
+  lates_none (AtEnd h i) = λ e n. refl
+  lates_none TimePasses =
+      flat_gets (told_late (all_come TimePasses w).core) (late_none (all_come TimePasses w).core) (map with_older (all_come TimePasses w).ports)
+
+  owed_none : (b : Bool) → NoGets (cond b [] (noted_by_deeds 0 (owed_in_step input w) (has_synced input w)))
+  owed_none true e n = refl
+  owed_none false e n =
+      still_gets e (noted_by_deeds 0 (owed_in_step input w) (has_synced input w)) n
+      (deeds_still e 0 (owed_in_step input w) (has_synced input w) (all_owed_mute (map (forgets (has_come_so input w).ports) (has_come_so input w).ports)))
+
+  begun_none : NoGets w.entries → NoGets (comes_to_pass input w).entries
+  begun_none before =
+      subst NoGets (sym (before_entries input w))
+      (gets-append w.entries _ before
+      (gets-append (told_of_coming input w) _
+      (gets-append (flat_map (λ p. told_at w.core p (input_at input p)) w.ports) (told_of_late input (all_come input w))
+      (flat_gets (λ p. told_at w.core p (input_at input p)) (told_none w.core) w.ports) (lates_none input))
+      (gets-append (noted_by_deeds 0 (syncs_in input w) (has_freed input w)) _
+      (λ e n. still_gets e (noted_by_deeds 0 (syncs_in input w) (has_freed input w)) n
+      (deeds_still e 0 (syncs_in input w) (has_freed input w) (all_synced_mute w.core input w.ports))) (owed_none (has_synced input w).cut))))
+
+-- ## A step notes more than its beginning
+
+record Extends (w v : Work) : Type 0 where
+  es : List Entry
+  is : v.entries ≡ w.entries ++ es
+
+module _ (w : Work) where
+  ext : (u v : Work) (fs : List Entry) → v.entries ≡ u.entries ++ fs → Extends w u → Extends w v
+  ext u v fs is a = record { es = a.es ++ fs; is = is ∙ (ap (λ z. z ++ fs) a.is ∙ append_assoc w.entries a.es fs) }
+
+  having : (h : ℕ) (messages : List Message) (u : Work) → Extends w u → Extends w (have_turns h messages u)
+  having h [] u a = ext u (lets_go h u) [] (lets_notes h u).entries a
+  having h (m ∷ messages) u a = go (lack u.ports (needs h (deeds_of u.core u.ports h m))) (λ v b. having h messages v b) where
+    by : Option (ℕ × ℕ) → Work
+    by None = unless_cut (have_turns h messages) (handles h m (deeds_of u.core u.ports h m) u)
+    by (Some short) = holds_back h short u
+
+    go : (o : Option (ℕ × ℕ)) → ((v : Work) → Extends w v → Extends w (have_turns h messages v)) → Extends w (by o)
+    go None later =
+        unless (Extends w) (have_turns h messages) (handles h m (deeds_of u.core u.ports h m) u) later
+        (ext u (handles h m (deeds_of u.core u.ports h m) u) _ (handles_entries h m (deeds_of u.core u.ports h m) u) a)
+    go (Some short) later = ext u (holds_back h short u) (own_held h short u) (holds_notes h short u).entries a
+
+  going : (hosts : List ℕ) (u : Work) → Extends w u → Extends w (goes_through_ends hosts u)
+  going [] u a = a
+  going (h ∷ hosts) u a =
+      unless (Extends w) (goes_through_ends hosts) (have_turns h (got_at h u) u) (λ v b. going hosts v b) (having h (got_at h u) u a)
+
+  pass_extends : Extends w (unless_cut passes w)
+  pass_extends =
+      unless (Extends w) passes w (λ v b. going (map (λ (p : Port). p.desk.host) v.ports) v b) (record { es = []; is = sym (append-nil w.entries) })
+
+-- ## The controller
+
+module _ (hosts : List ℕ) (most : length hosts ≤ 7) (all : ℕ) (os : List Occurrence) (w : NodeWorld) (a : PaidSo hosts all os w) (r : Running)
+    (runs : w.controller ≡ Some r) where
+  t : List Entry
+  t = entries_in os
+
+  has : HasEnds 0 (hosts_in w.sites) r
+  has = subst (IfItRuns 0 (hosts_in w.sites)) runs a.so.well.orderly.controller
+
+  few : length w.sites ≤ 7
+  few = let one = length-map w.sites (λ (s : Site). s.host) in let two = ap length a.so.hosts_are in omega (arith, one, two, most)
+
+  waits : AllWait (entries_in os) w
+  waits = record { orderly = a.so.well.orderly; waiting = a.waiting }
+
+  any : (e : End) → (q : List Message) × Goes e [] (entries_in os) q
+  any e = ((a.waiting e.at_host e.link).messages, (a.waiting e.at_host e.link).goes)
+
+  -- messages came in order until the step
+  before : AreFronts (entries_in os)
+  before e n =
+      let order = in_order_so hosts os w a.so (entries_in os) [] (sym (append-nil (entries_in os))) in
+      subst (λ (f : End). IsFrontOf (got_in (entries_in os) f n) (good_of (sent_in (entries_in os) (other_end e) n))) (other_twice e)
+      (order.delivered (other_end e) n)
+
+  module _ (h : ℕ) where
+    abbrev taking : Work
+    taking = controller_begins w r h NextFrame
+
+    -- as the first frame on its way is taken
+    taken_fronts : (i : LinkInput) → input_of (link_to w.sites h) NextFrame ≡ Some i
+        → AreFronts (entries_in os ++ (comes_to_pass (AtEnd h i) taking).entries)
+    taken_fronts i seen e n =
+        let begun : Work = comes_to_pass (AtEnd h i) taking in
+        let k : Work = controller_work w r h NextFrame (steps (AtEnd h i)) in
+        let on : Extends begun k = pass_extends begun in
+        let frames : List Entry =
+        flat_map (λ (s : Site). frames_noted Controller s.host (wires_for s.link (comes_to h NextFrame s.host)) k) w.sites in
+        let c : Happening = Takes (end_c h) in
+        let did : (world_step w c).1 ≡ k.entries ++ frames = did_so i seen in
+        let so : IsSo hosts (os ++ occurs w c ∷ []) (world_step w c).0 = next_so of_none hosts os w c a.so tt (λ h q. absurd (true≢false (sym q))) in
+        let whole : entries_in (os ++ occurs w c ∷ []) ≡ (entries_in os ++ begun.entries) ++ (on.es ++ frames) =
+        flat_map-append (λ (o : Occurrence). o.entries) os (occurs w c ∷ [])
+        ∙ (ap (λ z. entries_in os ++ z) (append-nil (world_step w c).1 ∙ (did ∙ (ap (λ z. z ++ frames) on.is ∙ append_assoc begun.entries on.es frames)))
+        ∙ sym (append_assoc (entries_in os) begun.entries (on.es ++ frames))) in
+        let order = in_order_so hosts (os ++ occurs w c ∷ []) (world_step w c).0 so (entries_in os ++ begun.entries) (on.es ++ frames) whole in
+        subst (λ (f : End). IsFrontOf (got_in (entries_in os ++ begun.entries) f n) (good_of (sent_in (entries_in os ++ begun.entries) (other_end e) n)))
+        (other_twice e) (order.delivered (other_end e) n)
+      where
+        did_so : (i : LinkInput) → input_of (link_to w.sites h) NextFrame ≡ Some i
+            → (world_step w (Takes (end_c h))).1 ≡ (after_controller w h NextFrame (controller_work w r h NextFrame (steps (AtEnd h i)))).1
+        did_so i seen = rw seen (rw runs refl)
+
+    -- where no message comes
+    quiet : (comes : Comes) (i : LinkInput) → BringsNone (AtEnd h i) → NoGets (controller_begins w r h comes).entries
+        → AreFronts (entries_in os ++ (comes_to_pass (AtEnd h i) (controller_begins w r h comes)).entries)
+    quiet comes i none first =
+        fronts_more (entries_in os) (comes_to_pass (AtEnd h i) (controller_begins w r h comes)).entries
+        (begun_none (AtEnd h i) (controller_begins w r h comes) none first) before
+
+    -- whatever comes to the controller's end of this link
+    pub comes_fronts : (comes : Comes) (i : LinkInput) → input_of (link_to w.sites h) comes ≡ Some i
+        → AreFronts (entries_in os ++ (comes_to_pass (AtEnd h i) (controller_begins w r h comes)).entries)
+    comes_fronts NextFrame i seen = taken_fronts i seen
+    comes_fronts (AsksReset window) i seen = by i cc where
+      by : (i : LinkInput) → Reset window ≡ i → AreFronts (entries_in os ++ (comes_to_pass (AtEnd h i) (controller_begins w r h (AsksReset window))).entries)
+      by i is = subst (λ j. AreFronts (entries_in os ++ (comes_to_pass (AtEnd h j) (controller_begins w r h (AsksReset window))).entries)) is
+          (quiet (AsksReset window) (Reset window) (λ p. brings (eqb p.desk.host h) (Reset window) p refl) (λ e n. refl))
+    comes_fronts (Starts value) i seen = by i cc where
+      by : (i : LinkInput) → Start value ≡ i → AreFronts (entries_in os ++ (comes_to_pass (AtEnd h i) (controller_begins w r h (Starts value))).entries)
+      by i is = subst (λ j. AreFronts (entries_in os ++ (comes_to_pass (AtEnd h j) (controller_begins w r h (Starts value))).entries)) is
+          (quiet (Starts value) (Start value) (λ p. brings (eqb p.desk.host h) (Start value) p refl) (λ e n. refl))
+    comes_fronts Stops i seen = by i cc where
+      by : (i : LinkInput) → Stop ≡ i → AreFronts (entries_in os ++ (comes_to_pass (AtEnd h i) (controller_begins w r h Stops)).entries)
+      by i is = subst (λ j. AreFronts (entries_in os ++ (comes_to_pass (AtEnd h j) (controller_begins w r h Stops)).entries)) is
+          (quiet Stops Stop (λ p. brings (eqb p.desk.host h) Stop p refl) (λ e n. refl))
+    comes_fronts NoInput i seen = absurd (cc seen)
+
+    pub comes_few : (comes : Comes) (i : LinkInput) → input_of (link_to w.sites h) comes ≡ Some i → (v : Work)
+        → ComesTo (comes_to_pass (AtEnd h i) (controller_begins w r h comes)) v → commands_noted (entries_in os ++ v.entries) ≤ all
+    comes_few comes i seen v reached =
+        let near_ends : ℕ → NumberedEnd = λ j. near_end_in (link_to w.sites j) (comes_to h comes j) in
+        let es : List Entry = entries_for h (arrival Controller (link_to w.sites h) comes) in
+        let start : Work = controller_begins w r h comes in
+        let left : ℕ = syncs_told (AtEnd h i) start.ports in
+        let long = length-map w.sites (λ (s : Site). s.host) in
+        let start_owes : Owes Controller left (node_holds (Some r) + left) start =
+        begins_so Controller 0 (hosts_in w.sites) r w.memory.plan near_ends es left (controller_side r (hosts_in w.sites) has) has
+        (omega (arith, long, few)) (arrival_free Controller h (link_to w.sites h) comes) in
+        let apart : AreDifferent (hosts_of_ends start.ports) =
+        subst AreDifferent (sym (hosts_same near_ends r.desks ∙ has.ends)) a.so.well.orderly.different in
+        let once = told_once h i start.ports apart in
+        let came = came_from w.sites h comes i seen in
+        let took = all_took w h comes in
+        let was : node_holds w.controller ≡ node_holds (Some r) = ap node_holds runs in
+        let paid = a.paid in
+        pass_few Controller (entries_in os) (world_holds w) (node_holds (Some r) + left) all (comes_to_pass (AtEnd h i) start) v paid
+        (omega (arith, once, came, took, was)) (begun_owes Controller (node_holds (Some r) + left) (AtEnd h i) start start_owes) reached
+        (comes_fronts comes i seen)
+        (turns_in_order (entries_in os) w r has.number has.ends a.so.well.orderly.different near_ends es
+        (λ k. near_end_side (link_to w.sites k) (comes_to h comes k)) (near_goes (entries_in os) w waits r runs) any (AtEnd h i)
+        (comes_outside (link_to w.sites h) comes i seen) (λ e. arrival_still e Controller h (link_to w.sites h) comes) v reached)
+
+  -- time passes
+  abbrev since : List Entry
+  since = entries_in os ++ (all_aged w).1
+
+  abbrev gone : Site → List Entry
+  gone s = entries_for s.host (aged_entries Controller s.link.to_controller ++ aged_entries Host s.link.to_host)
+
+  gone_gets : NoGets (all_aged w).1
+  gone_gets = flat_gets gone (λ s. notes_get s.host (aged_entries Controller s.link.to_controller ++ aged_entries Host s.link.to_host)
+      (aged_none Controller Host s.link.to_controller s.link.to_host)) w.sites
+
+  quiet_ends : (e : End) → Leaves e (all_aged w).1
+  quiet_ends e = flat_leaves e gone (λ s. still_leaves e (gone s) (notes_still e s.host
+      (aged_entries Controller s.link.to_controller ++ aged_entries Host s.link.to_host)
+      (aged_none Controller Host s.link.to_controller s.link.to_host))) w.sites
+
+  abbrev older : Site → Site
+  older s = record s { link = aged s.link }
+
+  old_hosts : hosts_in (all_aged w).0.sites ≡ hosts_in w.sites
+  old_hosts = sites_same older (λ s. refl) w.sites
+
+  old_near : (k : ℕ) (s : Site) → site_at (all_aged w).0.sites k ≡ Some s → Goes (end_c k) [] since s.link.controller.side.got
+  old_near k s here =
+      sites_is older (λ x. refl) w.sites k (λ o. o ≡ Some s → Goes (end_c k) [] since s.link.controller.side.got)
+      (λ z q. let no : None ≡ Some s = q in absurd (cc no))
+      (λ x z q.
+      let same : Some (older x) ≡ Some s = q in
+      let one : older x ≡ s = cc in
+      subst (λ (y : Site). Goes (end_c k) [] since y.link.controller.side.got) one
+      (goes-append (end_c k) (entries_in os) (all_aged w).1 [] x.link.controller.side.got x.link.controller.side.got
+      (near_goes (entries_in os) w waits r runs k x z) (quiet_ends (end_c k) x.link.controller.side.got))) here
+
+  old_any : (e : End) → (q : List Message) × Goes e [] since q
+  old_any e = let z = any e in (z.0, goes-append e (entries_in os) (all_aged w).1 [] z.0 z.0 z.1 (quiet_ends e z.0))
+
+  pub ticks_few : (v : Work) → ComesTo (comes_to_pass TimePasses (as_it_ticks w r)) v → commands_noted (since ++ v.entries) ≤ all
+  ticks_few v reached =
+      let near_ends : ℕ → NumberedEnd = λ k. (link_to (all_aged w).0.sites k).controller in
+      let start : Work = as_it_ticks w r in
+      let none = ticks_told start.ports in
+      let long = length-map w.sites (λ (s : Site). s.host) in
+      let start_owes : Owes Controller 0 (node_holds (Some r) + 0) start =
+      begins_so Controller 0 (hosts_in w.sites) r w.memory.plan near_ends [] 0 (controller_side r (hosts_in w.sites) has) has
+      (omega (arith, long, few)) refl in
+      let was : node_holds w.controller ≡ node_holds (Some r) = ap node_holds runs in
+      let lost = gone_free w.sites in
+      let cs = costs-append (entries_in os) (all_aged w).1 in
+      let ps = pays-append (entries_in os) (all_aged w).1 in
+      let paid = a.paid in
+      pass_few Controller since (world_holds w) (node_holds (Some r) + 0) all (comes_to_pass TimePasses start) v (omega (arith, paid, lost, cs, ps))
+      (omega (arith, was))
+      (begun_owes Controller (node_holds (Some r) + 0) TimePasses start
+      (less Controller (node_holds (Some r) + 0) 0 (syncs_told TimePasses start.ports) start (omega (arith, none)) start_owes)) reached
+      (fronts_more since (comes_to_pass TimePasses start).entries (begun_none TimePasses start (λ p. refl) (λ e n. refl))
+      (fronts_more (entries_in os) (all_aged w).1 gone_gets before))
+      (turns_in_order since (all_aged w).0 r has.number (has.ends ∙ sym old_hosts)
+      (subst AreDifferent (sym old_hosts) a.so.well.orderly.different) near_ends [] (λ k. refl) old_near old_any TimePasses tt (λ e. tt) v reached)
+    where
+      gone_free : (sites : List Site) → costs (flat_map gone sites) ≡ 0
+      gone_free [] = refl
+      gone_free (s ∷ sites) =
+          let first = notes_free s.host (aged_entries Controller s.link.to_controller ++ aged_entries Host s.link.to_host)
+          (wires_all IsNoSent (λ w c. tt) (λ w c. tt) (λ w c why. tt) (λ w. tt) Controller Host s.link.to_controller s.link.to_host) in
+          let rest = gone_free sites in
+          let both = costs-append (gone s) (flat_map gone sites) in
+          omega (arith, first, rest, both)
+
+-- ## Behind events
+
+module _ (hosts : List ℕ) (events : List Occurrence) (are : AreHosts hosts) (most : length hosts ≤ 7) (caused : AreCausedSo (new_world hosts) events)
+    (w : NodeWorld) (is : world_behind (new_world hosts) events ≡ w) (r : Running) (runs : w.controller ≡ Some r) where
+  so : PaidSo hosts (0 + commands_by_events events) events w
+  so = subst (PaidSo hosts (0 + commands_by_events events) events) is (paid_so hosts events are most caused)
+
+  pub passes_bounded : (h : ℕ) (comes : Comes) (i : LinkInput) → input_of (link_to w.sites h) comes ≡ Some i → (v : Work)
+      → ComesTo (comes_to_pass (AtEnd h i) (controller_begins w r h comes)) v
+      → commands_noted (entries_in events ++ v.entries) ≤ commands_by_events events
+  passes_bounded h comes i seen v reached =
+      let few = comes_few hosts most (0 + commands_by_events events) events w so r runs h comes i seen v reached in omega (arith, few)
+
+  pub ticks_bounded : (v : Work) → ComesTo (comes_to_pass TimePasses (as_it_ticks w r)) v
+      → commands_noted ((entries_in events ++ (all_aged w).1) ++ v.entries) ≤ commands_by_events events
+  ticks_bounded v reached = let few = ticks_few hosts most (0 + commands_by_events events) events w so r runs v reached in omega (arith, few)

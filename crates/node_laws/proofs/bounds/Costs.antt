@@ -1,0 +1,154 @@
+-- What is noted is counted: commands that are committed cost, and so do messages that are sent and may bring about others; messages that have
+-- their turns pay for them.
+use Rattle.std.proofs.Common.{◌≡◌, ℕ, ◌+◌, ◌≤◌, ◌&&◌, Bool, true, false, eqb, List, [], ◌∷◌, ◌++◌, map, refl, ap, ◌∙◌, arith, Option}
+use Rattle.std.proofs.Common.{Some, None}
+use Rattle.std.specs.Prelude.{not, nat_lt, option_to_list}
+use Rattle.std.specs.List.{AllByRecursion}
+use Rattle.std.proofs.lemmas.List.Concat.{flat_map-append}
+use Rattle.trace_model.specs.declared.entry.Entry.{Entry}
+use Rattle.trace_model.specs.declared.entry.Entry.TheVariants as entry
+use Rattle.link_laws.specs.machine.Machine.{Message, Report, Refused}
+use Rattle.link_laws.specs.entries.Entries.{End as Side, Entry as Noted, if_so, told, sent_unless}
+use Rattle.link_laws.specs.entries.Entries.End.{Controller, Host}
+use Rattle.link_laws.specs.entries.Entries.Entry.{Up, Down, Active, GaveUp, Acked, Got, Sent, Emit, Took, Lost, Tick as Ticked, Restarted, Cut}
+use Rattle.history.specs.Steps.{entry_of, entries_for}
+use Rattle.node_machine.specs.Controller.{is_command_message}
+
+-- ## Entries
+
+-- so much, where it is so
+abbrev pub worth : ℕ → Bool → ℕ
+worth n true = n
+worth n false = 0
+
+-- What may come of a message that a host sent, or that the controller sent: a command of a host is decided, answered and told; a notice is
+-- kept and answered. No other message brings about a command that nothing else pays for.
+abbrev pub message_cost : Bool → ℕ → List ℕ → ℕ
+message_cost true pid m = worth 16 (is_command_message m)
+message_cost false pid m = worth 1 (eqb pid 1 && is_command_message m)
+
+abbrev pub cost : Entry → ℕ
+cost (entry.Command node c) = 1
+cost (entry.Sent e n pid message) = message_cost e.at_host pid message
+cost _ = 0
+
+-- a message that has its turn pays for what comes of it
+abbrev pub pay : Entry → ℕ
+pay (entry.Turn e pid message) = message_cost (not e.at_host) pid message
+pay _ = 0
+
+abbrev pub costs : List Entry → ℕ
+costs [] = 0
+costs (x ∷ t) = cost x + costs t
+
+abbrev pub pays : List Entry → ℕ
+pays [] = 0
+pays (x ∷ t) = pay x + pays t
+
+pub costs-append : (s t : List Entry) → costs (s ++ t) ≡ costs s + costs t
+costs-append [] t = omega arith
+costs-append (x ∷ s) t = let rest = costs-append s t in omega (arith, rest)
+
+pub pays-append : (s t : List Entry) → pays (s ++ t) ≡ pays s + pays t
+pays-append [] t = omega arith
+pays-append (x ∷ s) t = let rest = pays-append s t in omega (arith, rest)
+
+-- ## Messages
+
+-- an end of a host
+abbrev pub is_host_side : Side → Bool
+is_host_side Controller = false
+is_host_side Host = true
+
+both_off : (a b : Bool) → b ≡ false → (a && b) ≡ false
+both_off true b off = off
+both_off false b off = refl
+
+-- what is no command costs nothing
+pub plain_free : (b : Bool) (pid : ℕ) (m : List ℕ) → is_command_message m ≡ false → message_cost b pid m ≡ 0
+plain_free true pid m off = ap (worth 16) off
+plain_free false pid m off = ap (worth 1) (both_off (eqb pid 1) (is_command_message m) off)
+
+-- no message costs more
+worth_most : (b : Bool) (n : ℕ) → worth n b ≤ n
+worth_most true n = omega arith
+worth_most false n = omega arith
+
+pub near_most : (pid : ℕ) (m : List ℕ) → message_cost false pid m ≤ 1
+near_most pid m = worth_most (eqb pid 1 && is_command_message m) 1
+
+pub far_most : (pid : ℕ) (m : List ℕ) → message_cost true pid m ≤ 16
+far_most pid m = worth_most (is_command_message m) 16
+
+-- on another pipe than 01 the controller sends nothing that costs
+pub off_free : (pid : ℕ) (m : List ℕ) → eqb pid 1 ≡ false → message_cost false pid m ≡ 0
+off_free pid m off = ap (λ c. worth 1 (c && is_command_message m)) off
+
+-- ## Of a link
+
+abbrev pub costs_at : ℕ → List Noted → ℕ
+costs_at h notes = costs (entries_for h notes)
+
+costs_at-append : (h : ℕ) (xs ys : List Noted) → costs_at h (xs ++ ys) ≡ costs_at h xs + costs_at h ys
+costs_at-append h xs ys = ap costs (flat_map-append (entry_of h) xs ys) ∙ costs-append (entries_for h xs) (entries_for h ys)
+
+-- it tells of no message that is sent
+abbrev pub IsNoSent : Noted → Type 0
+IsNoSent (Sent who n m) = ⊥
+IsNoSent _ = Unit {0}
+
+abbrev pub AreNoSents : List Noted → Type 0
+AreNoSents notes = AllByRecursion IsNoSent notes
+
+note_free : (h : ℕ) (x : Noted) → IsNoSent x → costs (entry_of h x) ≡ 0
+note_free h (Up who n) a = refl
+note_free h (Down who cause) a = refl
+note_free h (Active who) a = refl
+note_free h (GaveUp who tries) a = refl
+note_free h (Acked who n count) a = refl
+note_free h (Got who n m) a = refl
+note_free h (Sent who n m) a = absurd a
+note_free h (Emit who frame) a = refl
+note_free h (Took who frame) a = refl
+note_free h (Lost who frame why) a = refl
+note_free h Ticked a = refl
+note_free h (Restarted who) a = refl
+note_free h (Cut who) a = refl
+
+pub notes_free : (h : ℕ) (notes : List Noted) → AreNoSents notes → costs_at h notes ≡ 0
+notes_free h [] a = refl
+notes_free h (x ∷ notes) a =
+    let both = costs-append (entry_of h x) (entries_for h notes) in
+    let first = note_free h x a.0 in
+    let rest = notes_free h notes a.1 in
+    omega (arith, both, first, rest)
+
+none-append : (xs ys : List Noted) → AreNoSents xs → AreNoSents ys → AreNoSents (xs ++ ys)
+none-append [] ys a b = b
+none-append (x ∷ xs) ys a b = (a.0, none-append xs ys a.1 b)
+
+so_none : (b : Bool) (x : Noted) → IsNoSent x → AreNoSents (if_so b x)
+so_none true x a = (a, tt)
+so_none false x a = tt
+
+each_none : {X : Type 0} (f : X → Noted) → ((x : X) → IsNoSent (f x)) → (xs : List X) → AreNoSents (map f xs)
+each_none f one [] = tt
+each_none f one (x ∷ xs) = (one x, each_none f one xs)
+
+-- what is told of an input costs nothing
+pub told_free : (h : ℕ) (who : Side) (n : ℕ) (r : Report) (acked : ℕ) → costs_at h (told who n r acked) ≡ 0
+told_free h who n r acked =
+    notes_free h (told who n r acked)
+    (none-append (map (Down who) (option_to_list r.ended)) _ (each_none (Down who) (λ x. tt) (option_to_list r.ended))
+    (none-append (if_so r.began (Up who n)) _ (so_none r.began (Up who n) tt)
+    (none-append (if_so r.became_active (Active who)) _ (so_none r.became_active (Active who) tt)
+    (none-append (map (GaveUp who) (option_to_list r.gave_up)) _ (each_none (GaveUp who) (λ x. tt) (option_to_list r.gave_up))
+    (none-append (if_so (nat_lt 0 r.acked) (Acked who n acked)) _ (so_none (nat_lt 0 r.acked) (Acked who n acked) tt)
+    (each_none (Got who n) (λ x. tt) r.got))))))
+
+-- a message that is given costs what a sent one does, unless it is refused
+pub sent_most : (h n : ℕ) (m : Message) (side : Side) (o : Option Refused)
+    → costs (entries_for h (sent_unless o side n m)) ≤ message_cost (is_host_side side) m.0 m.1
+sent_most h n m Controller None = omega arith
+sent_most h n m Host None = omega arith
+sent_most h n m side (Some why) = omega arith

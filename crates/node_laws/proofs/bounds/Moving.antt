@@ -1,0 +1,223 @@
+-- Messages that have their turns were sent: what they pay was paid for, message by message, by the end from which they came.
+use Rattle.std.proofs.Common.{◌≡◌, ℕ, zero, suc, ◌+◌, ◌≤◌, ◌<◌, ◌==◌, Bool, true, false, List, [], ◌∷◌, ◌++◌, refl, ap, ◌∙◌, arith}
+use Rattle.std.proofs.Common.{Option, Some, None}
+use Rattle.std.specs.Prelude.{not, if◌then◌else◌}
+use Rattle.std.specs.List.{cons_option, filter_map}
+use Rattle.std.proofs.lemmas.Bool.{eqb-true, eqb-false, ne_eqb}
+use Rattle.std.proofs.lemmas.List.Elements.{filter_map-append}
+use Rattle.trace_model.specs.declared.entry.Entry.{Entry}
+use Rattle.trace_model.specs.declared.entry.Entry.TheVariants as entry
+use Rattle.trace_model.specs.declared.line.End.{End}
+use Rattle.trace_model.specs.Ends.{other_end}
+use Rattle.hcp_packet.specs.Packets.{good_of, is_good, IsFrontOf}
+use Rattle.link_laws.specs.machine.Machine.{Message}
+use Rattle.history.specs.Filters.{same_end, said_of, sent_by, sent_in, got_in_session, got_in}
+use Rattle.node_machine.specs.world.NodeLegal.{since_boot, got_entry, turn_entry_at, node_number, AreInTurn}
+use Rattle.node_laws.proofs.bounds.Costs.{message_cost, worth}
+
+-- ## Messages that weigh
+
+-- what messages pay that come to an end of this side
+abbrev pub worth_of : Bool → List Message → ℕ
+worth_of b [] = 0
+worth_of b (m ∷ ms) = message_cost (not b) m.0 m.1 + worth_of b ms
+
+worth-append : (b : Bool) (xs ys : List Message) → worth_of b (xs ++ ys) ≡ worth_of b xs + worth_of b ys
+worth-append b [] ys = omega arith
+worth-append b (m ∷ xs) ys = let rest = worth-append b xs ys in omega (arith, rest)
+
+front_worth : (b : Bool) (xs ys : List Message) → IsFrontOf xs ys → worth_of b xs ≤ worth_of b ys
+front_worth b xs ys front = let both = worth-append b xs front.0 in let all = ap (worth_of b) front.1 in omega (arith, both, all)
+
+good_worth : (b : Bool) (xs : List Message) → worth_of b (good_of xs) ≤ worth_of b xs
+good_worth b [] = omega arith
+good_worth b (m ∷ xs) = by (is_good m.1) refl (good_worth b xs) where
+  by : (g : Bool) → is_good m.1 ≡ g → worth_of b (good_of xs) ≤ worth_of b xs → worth_of b (good_of (m ∷ xs)) ≤ worth_of b (m ∷ xs)
+  by true q rest = rw q (omega (arith, rest))
+  by false q rest = rw q (omega (arith, rest))
+
+-- ## At one end
+
+module _ (e : End) where
+  abbrev pub turns : List Entry → ℕ
+  turns t = worth_of e.at_host (filter_map (turn_entry_at e) t)
+
+  abbrev pub gots : List Entry → ℕ
+  gots t = worth_of e.at_host (filter_map (got_entry e) t)
+
+  turns-append : (s t : List Entry) → turns (s ++ t) ≡ turns s + turns t
+  turns-append s t =
+      ap (worth_of e.at_host) (filter_map-append (turn_entry_at e) s t)
+      ∙ worth-append e.at_host (filter_map (turn_entry_at e) s) (filter_map (turn_entry_at e) t)
+
+  gots-append : (s t : List Entry) → gots (s ++ t) ≡ gots s + gots t
+  gots-append s t =
+      ap (worth_of e.at_host) (filter_map-append (got_entry e) s t)
+      ∙ worth-append e.at_host (filter_map (got_entry e) s) (filter_map (got_entry e) t)
+
+  -- since each boot no more had its turn than came
+  abbrev AreFewer : List Entry → List Entry → Type 0
+  AreFewer since t = (front back : List Entry) → t ≡ front ++ back
+      → turns (since_boot (node_number e) since front) ≤ gots (since_boot (node_number e) since front)
+
+  at_end : (t since : List Entry) → AreFewer since t → turns since + turns t ≤ gots since + gots t
+  at_end [] since are = let now = are [] [] refl in omega (arith, now)
+  at_end (entry.Booted node k ∷ t) since are = go (node == node_number e) refl (at_end t []) (at_end t (since ++ entry.Booted node k ∷ [])) where
+    x : Entry
+    x = entry.Booted node k
+
+    now : turns since ≤ gots since
+    now = are [] (x ∷ t) refl
+
+    go : (b : Bool) → (node == node_number e) ≡ b → (AreFewer [] t → turns [] + turns t ≤ gots [] + gots t)
+        → (AreFewer (since ++ x ∷ []) t → turns (since ++ x ∷ []) + turns t ≤ gots (since ++ x ∷ []) + gots t)
+        → turns since + turns (x ∷ t) ≤ gots since + gots (x ∷ t)
+    go true q anew later =
+        let fresh : AreFewer [] t = (λ front back is. let z = are (x ∷ front) back (ap (λ l. x ∷ l) is) in rw q at z) in
+        let rest = anew fresh in
+        omega (arith, rest, now)
+    go false q anew later =
+        let on : AreFewer (since ++ x ∷ []) t = (λ front back is. let z = are (x ∷ front) back (ap (λ l. x ∷ l) is) in rw q at z) in
+        let rest = later on in
+        let a = turns-append since (x ∷ []) in
+        let b = gots-append since (x ∷ []) in
+        omega (arith, rest, a, b)
+  at_end (x ∷ t) since are =
+      let rest = at_end t (since ++ x ∷ []) (λ front back is. are (x ∷ front) back (ap (λ l. x ∷ l) is)) in
+      let a = turns-append since (x ∷ []) in
+      let b = gots-append since (x ∷ []) in
+      let c = turns-append (x ∷ []) t in
+      let d = gots-append (x ∷ []) t in
+      omega (arith, rest, a, b, c, d)
+
+  pub turned_came : (t : List Entry) → AreInTurn t → turns t ≤ gots t
+  turned_came t are =
+      let fewer : AreFewer [] t =
+      (λ front back is. front_worth e.at_host _ (filter_map (got_entry e) (since_boot (node_number e) [] front)) (are front back e is)) in
+      let last = at_end t [] fewer in
+      omega (arith, last)
+
+  -- ## In all sessions
+
+  -- what this end got in the sessions below this number, or the other end sent in them
+  abbrev pub got_below : List Entry → ℕ → ℕ
+  got_below t zero = 0
+  got_below t (suc n) = worth_of e.at_host (got_in t e n) + got_below t n
+
+  abbrev pub sent_below : List Entry → ℕ → ℕ
+  sent_below t zero = 0
+  sent_below t (suc n) = worth_of e.at_host (sent_in t (other_end e) n) + sent_below t n
+
+  pub fewer_below : (t : List Entry) → ((n : ℕ) → IsFrontOf (got_in t e n) (good_of (sent_in t (other_end e) n))) → (n : ℕ) → got_below t n ≤ sent_below t n
+  fewer_below t fronts zero = omega arith
+  fewer_below t fronts (suc n) =
+      let one = front_worth e.at_host (got_in t e n) (good_of (sent_in t (other_end e) n)) (fronts n) in
+      let good = good_worth e.at_host (sent_in t (other_end e) n) in
+      let rest = fewer_below t fronts n in
+      omega (arith, one, good, rest)
+
+-- ## Messages that were noted are those of sessions
+
+-- a message that may be there
+abbrev pub worth_if : Bool → Option Message → ℕ
+worth_if b None = 0
+worth_if b (Some m) = message_cost (not b) m.0 m.1
+
+cons_worth : (b : Bool) (o : Option Message) (ms : List Message) → worth_of b (cons_option o ms) ≡ worth_if b o + worth_of b ms
+cons_worth b None ms = omega arith
+cons_worth b (Some m) ms = refl
+
+-- so much at one number below this one
+abbrev pub hits : ℕ → ℕ → ℕ → ℕ
+hits k w zero = 0
+hits k w (suc n) = worth w (k == n) + hits k w n
+
+not_yet : (k w n : ℕ) → n ≤ k → hits k w n ≡ 0
+not_yet k w zero below = refl
+not_yet k w (suc n) below =
+    let off : (k == n) ≡ false = ne_eqb k n (λ is. omega (arith, below, is)) in
+    let rest = not_yet k w n (omega (arith, below)) in
+    let one : worth w (k == n) ≡ 0 = ap (worth w) off in
+    omega (arith, one, rest)
+
+pub hits_most : (k w n : ℕ) → hits k w n ≤ w
+hits_most k w zero = omega arith
+hits_most k w (suc n) = go (k == n) refl (hits_most k w n) where
+  go : (b : Bool) → (k == n) ≡ b → hits k w n ≤ w → hits k w (suc n) ≤ w
+  go true q most =
+      let is : k ≡ n = eqb-true k n q in
+      let rest = not_yet k w n (omega (arith, is)) in
+      let one : worth w (k == n) ≡ w = ap (worth w) q in
+      omega (arith, one, rest)
+  go false q most =
+      let one : worth w (k == n) ≡ 0 = ap (worth w) q in
+      omega (arith, one, most)
+
+hits_once : (k w n : ℕ) → k < n → w ≤ hits k w n
+hits_once k w zero below = absurd (omega (arith, below))
+hits_once k w (suc n) below = go (k == n) refl (hits_once k w n) where
+  go : (b : Bool) → (k == n) ≡ b → (k < n → w ≤ hits k w n) → w ≤ hits k w (suc n)
+  go true q later = let one : worth w (k == n) ≡ w = ap (worth w) q in omega (arith, one)
+  go false q later =
+      let apart : k ≡ n → ⊥ = eqb-false k n q in
+      let rest = later (omega (arith, below, apart)) in
+      omega (arith, rest)
+
+module _ (e : End) where
+  -- what one entry tells of the sessions below a number
+  abbrev pub got_by : Entry → ℕ → ℕ
+  got_by x zero = 0
+  got_by x (suc n) = worth_if e.at_host (got_in_session n (said_of e x)) + got_by x n
+
+  abbrev pub sent_of : Entry → ℕ → ℕ
+  sent_of x zero = 0
+  sent_of x (suc n) = worth_if e.at_host (sent_by n (said_of (other_end e) x)) + sent_of x n
+
+  got_more : (x : Entry) (t : List Entry) (n : ℕ) → got_below e (x ∷ t) n ≡ got_by x n + got_below e t n
+  got_more x t zero = refl
+  got_more x t (suc n) =
+      let one = cons_worth e.at_host (got_in_session n (said_of e x)) (got_in t e n) in let rest = got_more x t n in omega (arith, one, rest)
+
+  pub sent_more : (x : Entry) (t : List Entry) (n : ℕ) → sent_below e (x ∷ t) n ≡ sent_of x n + sent_below e t n
+  sent_more x t zero = refl
+  sent_more x t (suc n) =
+      let one = cons_worth e.at_host (sent_by n (said_of (other_end e) x)) (sent_in t (other_end e) n) in
+      let rest = sent_more x t n in
+      omega (arith, one, rest)
+
+  -- a message that came is told in its session
+  hit_got : (f : End) (k pid : ℕ) (m : List ℕ) (n : ℕ) → same_end f e ≡ true
+      → got_by (entry.Got f k pid m) n ≡ hits k (message_cost (not e.at_host) pid m) n
+  hit_got f k pid m zero on = refl
+  hit_got f k pid m (suc n) on =
+      let rest = hit_got f k pid m n on in
+      let one : worth_if e.at_host (got_in_session n (said_of e (entry.Got f k pid m))) ≡ worth (message_cost (not e.at_host) pid m) (k == n) =
+      rw on (by (k == n)) in
+      omega (arith, one, rest)
+    where
+      by : (b : Bool) → worth_if e.at_host (if b then Some (pid, m) else None) ≡ worth (message_cost (not e.at_host) pid m) b
+      by true = refl
+      by false = refl
+
+  -- the greatest number of a session in which a message came, and one more
+  abbrev pub top : List Entry → ℕ
+  top [] = 0
+  top (entry.Got f k pid m ∷ t) = suc k + top t
+  top (x ∷ t) = top t
+
+  pub all_got : (t : List Entry) (n : ℕ) → top t ≤ n → gots e t ≤ got_below e t n
+  all_got [] n most = omega arith
+  all_got (entry.Got f k pid m ∷ t) n most = go (same_end f e) refl (all_got t n (omega (arith, most))) where
+    x : Entry
+    x = entry.Got f k pid m
+
+    go : (b : Bool) → same_end f e ≡ b → gots e t ≤ got_below e t n → gots e (x ∷ t) ≤ got_below e (x ∷ t) n
+    go true q rest =
+        let is : gots e (x ∷ t) ≡ message_cost (not e.at_host) pid m + gots e t = rw q refl in
+        let more = got_more x t n in
+        let hit = hit_got f k pid m n q in
+        let once = hits_once k (message_cost (not e.at_host) pid m) n (omega (arith, most)) in
+        omega (arith, is, more, hit, once, rest)
+    go false q rest = let is : gots e (x ∷ t) ≡ gots e t = rw q refl in let more = got_more x t n in omega (arith, is, more, rest)
+  all_got (x ∷ t) n most =
+      let rest = all_got t n most in let more = got_more x t n in omega (arith, more, rest)

@@ -1,0 +1,386 @@
+-- No session that is noted of a link has a greater number than how many RSETs were put on the link until then.
+use Rattle.std.proofs.Common.{◌≡◌, ℕ, ◌≤◌, Bool, true, false, cond, List, [], ◌∷◌, ◌++◌, length, map, Option, Some, None, refl, arith}
+use Rattle.std.specs.Prelude.{nat_lt, is_some}
+use Rattle.std.specs.List.{AllByRecursion}
+use Rattle.std.specs.Option.{option_to_list}
+use Rattle.registry.proofs.ValueLemmas.{AllByRecursion-append as each_append}
+use Rattle.swp_base.specs.declared.control_frames.Control.{Control}
+use Rattle.link_laws.specs.sessions.Sessions.{OnWire, is_rset, is_up, took_with}
+use Rattle.link_laws.specs.machine.Machine.{LinkEnd, LinkInput, Refused, Report, Turn, after_input, deactivated, ended_by, frames_out, give_refusal, report}
+use Rattle.link_laws.specs.machine.Machine.{started, turn, turned, whole_acked, new_link_end, renewed, sent_all}
+use Rattle.link_laws.specs.machine.Machine.LinkInput.{Take, Tick as HasTick, Reset, Start, Stop}
+use Rattle.link_laws.specs.machine.Machine.Turn.{Give, Hold, FetchMessage, SetAside, Release}
+use Rattle.link_laws.specs.messages.Links.{NumberedEnd, Link, Ending, Comes, Loss, EndEvent, LinkEvent, Node, IsStart, number_of, put, put_all}
+use Rattle.link_laws.specs.messages.Links.{with_controller, with_ended, silent, finished, has_input, has_taken, has_restarted, steps_at_controller}
+use Rattle.link_laws.specs.messages.Links.{ticks_at_controller, exchanged, aged, happens_at_controller, all_at_controller, happens, after_link_events}
+use Rattle.link_laws.specs.messages.Links.Ending.{GoesOut, CutOff}
+use Rattle.link_laws.specs.messages.Links.Comes.{NextFrame, AsksReset, Starts, Stops, NoInput}
+use Rattle.link_laws.specs.messages.Links.Loss.{TooMany}
+use Rattle.link_laws.specs.messages.Links.EndEvent.{Step, Lose}
+use Rattle.link_laws.specs.messages.Links.LinkEvent.{AtController, AtHost, Ticks, TicksWithout, Activate}
+use Rattle.link_laws.specs.entries.Entries.{End, Entry, if_so, told, told_of, sent_unless, turn_entry, turn_entries, first_lost, pushed_out, wire_with}
+use Rattle.link_laws.specs.entries.Entries.{put_entries, puts_entries, ending_entries, rest_entries, input_entries, left_after, taken_entries}
+use Rattle.link_laws.specs.entries.Entries.{restart_entries, step_entries, here_entries, entries_of_events, aged_entries, tick_entries, event_entries}
+use Rattle.link_laws.specs.entries.Entries.{entries, far}
+use Rattle.link_laws.specs.entries.Entries.End.{Controller, Host}
+use Rattle.link_laws.specs.entries.Entries.Entry.{Up, Down, Active, GaveUp, Acked, Got, Sent, Emit, Took, Lost, Tick, Restarted, Cut}
+use Rattle.history.specs.Steps.{entry_of, entries_for}
+use Rattle.link_laws.specs.messages.Rsets.{HasLowNumbers}
+use Rattle.node_laws.specs.bounds.Resets.{NotedWithin, AreNotedWithin, SessionWithin, AreSessionsWithin}
+use Rattle.link_laws.proofs.messages.RsetNumbers.{number_low, exchanged_numbered, aged_numbered, silent_numbered, took_low}
+use Rattle.link_laws.proofs.messages.RsetNumbers.{steps_numbered, tick_numbered, here_numbered, all_numbered, event_numbered, start_numbered}
+
+-- ## Lists
+
+within_more : (m n : ℕ) → m ≤ n → (x : Entry) → NotedWithin m x → NotedWithin n x
+within_more m n q (Up who k) a = omega (arith, q, a)
+within_more m n q (Acked who k count) a = omega (arith, q, a)
+within_more m n q (Got who k message) a = omega (arith, q, a)
+within_more m n q (Sent who k message) a = omega (arith, q, a)
+within_more m n q _ a = tt
+
+pub more : (m n : ℕ) (t : List Entry) → m ≤ n → AreNotedWithin m t → AreNotedWithin n t
+more m n [] q a = tt
+more m n (x ∷ t) q a = (within_more m n q x a.0, more m n t q a.1)
+
+join : (n : ℕ) (t u : List Entry) → AreNotedWithin n t → AreNotedWithin n u → AreNotedWithin n (t ++ u)
+join n t u a b = each_append (NotedWithin n) t u a b
+
+mapped : {X : Type 0} (n : ℕ) (f : X → Entry) (xs : List X) → ((x : X) → NotedWithin n (f x)) → AreNotedWithin n (map f xs)
+mapped {X} n f [] a = tt
+mapped {X} n f (x ∷ xs) a = (a x, mapped n f xs a)
+
+so : (n : ℕ) (b : Bool) (x : Entry) → NotedWithin n x → AreNotedWithin n (if_so b x)
+so n true x a = (a, tt)
+so n false x a = tt
+
+-- ## What comes, and turns
+
+told_within : (n : ℕ) (who : End) (k : ℕ) (r : Report) (acked : ℕ) → k ≤ n → AreNotedWithin n (told who k r acked)
+told_within n who k r acked q =
+    let got = mapped n (Got who k) r.got (λ m. q) in
+    let counted = join n (if_so (nat_lt 0 r.acked) (Acked who k acked)) _ (so n (nat_lt 0 r.acked) (Acked who k acked) q) got in
+    let gave = join n (map (GaveUp who) (option_to_list r.gave_up)) _ (mapped n (GaveUp who) (option_to_list r.gave_up) (λ m. tt)) counted in
+    let active = join n (if_so r.became_active (Active who)) _ (so n r.became_active (Active who) tt) gave in
+    let began = join n (if_so r.began (Up who k)) _ (so n r.began (Up who k) q) active in
+    join n (map (Down who) (option_to_list r.ended)) _ (mapped n (Down who) (option_to_list r.ended) (λ m. tt)) began
+
+input_told : (n : ℕ) (who : End) (h : NumberedEnd) (i : LinkInput) → number_of h ≤ n → AreNotedWithin n (told_of who h i)
+input_told n who h i q = told_within n who (number_of h) (report h.side i) (whole_acked (after_input h.side i)) q
+
+turn_within : (n : ℕ) (who : End) (k : ℕ) (e : LinkEnd) (t : Turn) → k ≤ n → AreNotedWithin n (turn_entry who k e t)
+turn_within n who k e (Give m) q = go (give_refusal e m)
+  where
+    go : (o : Option Refused) → AreNotedWithin n (sent_unless o who k m)
+    go None = (q, tt)
+    go (Some why) = tt
+turn_within n who k e (Hold held) q = tt
+turn_within n who k e FetchMessage q = tt
+turn_within n who k e SetAside q = tt
+turn_within n who k e Release q = tt
+
+turns_within : (n : ℕ) (who : End) (k : ℕ) (ts : List Turn) (e : LinkEnd) → k ≤ n → AreNotedWithin n (turn_entries who k e ts)
+turns_within n who k [] e q = tt
+turns_within n who k (t ∷ ts) e q =
+    join n (turn_entry who k e t) (turn_entries who k (turn e t) ts) (turn_within n who k e t q) (turns_within n who k ts (turn e t) q)
+
+-- ## Frames
+
+lost_within : (n : ℕ) (who : End) (why : Loss) (wire : List OnWire) → AreNotedWithin n (first_lost who why wire)
+lost_within n who why [] = tt
+lost_within n who why (x ∷ wire) = (tt, tt)
+
+pushed_within : (n : ℕ) (who : End) (wire : List OnWire) → AreNotedWithin n (pushed_out who wire)
+pushed_within n who wire = go (nat_lt 64 (length wire))
+  where
+    go : (b : Bool) → AreNotedWithin n (cond b (first_lost who TooMany wire) [])
+    go true = lost_within n who TooMany wire
+    go false = tt
+
+puts_within : (n : ℕ) (who : End) (cs : List Control) (l : Link) → AreNotedWithin n (puts_entries who l cs)
+puts_within n who [] l = tt
+puts_within n who (c ∷ cs) l =
+    join n (put_entries who l c) (puts_entries who (put l c) cs) (tt, pushed_within n (far who) (wire_with l c)) (puts_within n who cs (put l c))
+
+ending_within : (n : ℕ) (who : End) (l : Link) (e : LinkEnd) (ending : Ending) → AreNotedWithin n (ending_entries who l e ending)
+ending_within n who l e GoesOut = puts_within n who (frames_out e) l
+ending_within n who l e CutOff = (tt, tt)
+
+aged_within : (n : ℕ) (who : End) (wire : List OnWire) → AreNotedWithin n (aged_entries who wire)
+aged_within n who [] = tt
+aged_within n who (x ∷ wire) = go (nat_lt x.age 4) refl (aged_within n who wire)
+  where
+    go : (b : Bool) → nat_lt x.age 4 ≡ b → AreNotedWithin n (aged_entries who wire) → AreNotedWithin n (aged_entries who (x ∷ wire))
+    go true q later = rw q later
+    go false q later = rw q (tt, later)
+
+-- ## Steps of the near end
+
+rest_within : (n : ℕ) (who : End) (l : Link) (e : LinkEnd) (ts : List Turn) (ending : Ending) → number_of l.controller ≤ n
+    → AreNotedWithin n (rest_entries who l e ts ending)
+rest_within n who l e ts ending q =
+    join n (turn_entries who (number_of l.controller) e ts) (ending_entries who l (turned e ts) ending)
+    (turns_within n who (number_of l.controller) ts e q) (ending_within n who l (turned e ts) ending)
+
+ended_number : (l : Link) (b : Bool) → number_of (with_ended l b).controller ≡ number_of l.controller
+ended_number l true = refl
+ended_number l false = refl
+
+input_within : (who : End) (l : Link) (i : LinkInput) (ts : List Turn) (ending : Ending) → HasLowNumbers l
+    → AreNotedWithin l.resets (input_entries who l i ts ending)
+input_within who l i ts ending a =
+    let m : Link = with_ended l (is_some (ended_by l.controller.side i)) in
+    let low = number_low l.resets l.controller a.controller in
+    let same = ended_number l (is_some (ended_by l.controller.side i)) in
+    join l.resets (told_of who l.controller i) (rest_entries who m (after_input l.controller.side i) ts ending)
+    (input_told l.resets who l.controller i low) (rest_within l.resets who m (after_input l.controller.side i) ts ending (omega (arith, low, same)))
+
+taken_within : (who : End) (l : Link) (x : OnWire) (xs : List OnWire) (ts : List Turn) (ending : Ending) → l.to_controller ≡ x ∷ xs → HasLowNumbers l
+    → AreNotedWithin l.resets (taken_entries who l x xs ts ending)
+taken_within who l x xs ts ending q a =
+    let near : NumberedEnd = record l.controller { took = took_with l.controller.took x } in
+    let e : LinkEnd = after_input l.controller.side (Take x.frame) in (
+      tt,
+      join l.resets (told_of who near (Take x.frame)) (rest_entries who (left_after l x xs) e ts ending)
+          (input_told l.resets who near (Take x.frame) heard) (rest_within l.resets who (left_after l x xs) e ts ending left),
+    )
+  where
+    wire : AllByRecursion (λ (y : OnWire). y.number ≤ l.resets) (x ∷ xs)
+    wire = rw q at a.to_controller
+
+    heard : number_of (record l.controller { took = took_with l.controller.took x }) ≤ l.resets
+    heard =
+        let t = took_low l.resets l.controller.took x a.controller.took wire.0 in let e = a.controller.emitted in omega (arith, t, e)
+
+    left : number_of (left_after l x xs).controller ≤ l.resets
+    left = go (is_some (ended_by l.controller.side (Take x.frame)))
+      where
+        by : Bool → Link
+        by b =
+            let m : Link = with_ended (record l { to_controller = xs }) b in
+            record m { controller = record m.controller { took = took_with l.controller.took x } }
+
+        go : (b : Bool) → number_of (by b).controller ≤ l.resets
+        go true = heard
+        go false = heard
+
+silent_resets : (l : Link) (e : LinkEnd) → (silent l e).resets ≡ l.resets
+silent_resets l e = go (is_up l.controller.side.shdlc.phase)
+  where
+    go : (b : Bool) → (with_ended l b).resets ≡ l.resets
+    go true = refl
+    go false = refl
+
+restart_within : (who : End) (l : Link) (i : LinkInput) (ts : List Turn) (ending : Ending) → HasLowNumbers l
+    → AreNotedWithin l.resets (restart_entries who l i ts ending)
+restart_within who l i ts ending a =
+    let e : LinkEnd = after_input l.controller.side i in
+    let low = number_low l.resets l.controller a.controller in (
+      tt,
+      join l.resets (told_of who l.controller i) (rest_entries who (silent l e) e ts ending) (input_told l.resets who l.controller i low)
+          (rest_within l.resets who (silent l e) e ts ending (silent_low e)),
+    )
+  where
+    silent_low : (e : LinkEnd) → number_of (silent l e).controller ≤ l.resets
+    silent_low e =
+        let z = number_low (silent l e).resets (silent l e).controller (silent_numbered l e a).controller in
+        let r = silent_resets l e in
+        omega (arith, z, r)
+
+step_within : (who : End) (l : Link) (comes : Comes) (ts : List Turn) (ending : Ending) → HasLowNumbers l
+    → AreNotedWithin l.resets (step_entries who l comes ts ending)
+step_within who l NextFrame ts ending a = go l.to_controller refl
+  where
+    by : List OnWire → List Entry
+    by [] = []
+    by (x ∷ xs) = taken_entries who l x xs ts ending
+
+    go : (w : List OnWire) → l.to_controller ≡ w → AreNotedWithin l.resets (by w)
+    go [] q = tt
+    go (x ∷ xs) q = taken_within who l x xs ts ending q a
+step_within who l (AsksReset window) ts ending a = input_within who l (Reset window) ts ending a
+step_within who l (Starts value) ts ending a = restart_within who l (Start value) ts ending a
+step_within who l Stops ts ending a = restart_within who l Stop ts ending a
+step_within who l NoInput ts ending a =
+    rest_within l.resets who l l.controller.side ts ending (number_low l.resets l.controller a.controller)
+
+here_within : (who : End) (l : Link) (e : EndEvent) → HasLowNumbers l → AreNotedWithin l.resets (here_entries who l e)
+here_within who l (Step comes ts ending) a = step_within who l comes ts ending a
+here_within who l (Lose why) a = lost_within l.resets who why l.to_controller
+
+-- ## The numbers grow
+
+put_grows : (l : Link) (c : Control) → l.resets ≤ (put l c).resets
+put_grows l c = go (is_rset c) refl
+  where
+    go : (b : Bool) → is_rset c ≡ b → l.resets ≤ (put l c).resets
+    go true q = rw q (omega arith)
+    go false q = rw q (omega arith)
+
+puts_grow : (cs : List Control) (l : Link) → l.resets ≤ (put_all l cs).resets
+puts_grow [] l = omega arith
+puts_grow (c ∷ cs) l = let z = puts_grow cs (put l c) in let o = put_grows l c in omega (arith, z, o)
+
+ended_resets : (l : Link) (b : Bool) → (with_ended l b).resets ≡ l.resets
+ended_resets l true = refl
+ended_resets l false = refl
+
+finished_grows : (l : Link) (e : LinkEnd) (ending : Ending) → l.resets ≤ (finished l e ending).resets
+finished_grows l e GoesOut = puts_grow (frames_out e) l
+finished_grows l e CutOff =
+    let k : Link = with_controller l (sent_all e) in
+    let r = silent_resets k (new_link_end (renewed e.role)) in
+    omega (arith, r)
+
+input_grows : (l : Link) (i : LinkInput) (ts : List Turn) (ending : Ending) → l.resets ≤ (has_input l i ts ending).resets
+input_grows l i ts ending =
+    let b : Bool = is_some (ended_by l.controller.side i) in
+    let z = finished_grows (with_ended l b) (turned (after_input l.controller.side i) ts) ending in
+    let r = ended_resets l b in
+    omega (arith, z, r)
+
+taken_grows : (l : Link) (x : OnWire) (xs : List OnWire) (ts : List Turn) (ending : Ending) → l.resets ≤ (has_taken l x xs ts ending).resets
+taken_grows l x xs ts ending =
+    let z = finished_grows (left_after l x xs) (turned (after_input l.controller.side (Take x.frame)) ts) ending in
+    let r = ended_resets (record l { to_controller = xs }) (is_some (ended_by l.controller.side (Take x.frame))) in
+    omega (arith, z, r)
+
+restarted_grows : (l : Link) (e : LinkEnd) (ts : List Turn) (ending : Ending) → l.resets ≤ (has_restarted l e ts ending).resets
+restarted_grows l e ts ending = let z = finished_grows (silent l e) (turned e ts) ending in let r = silent_resets l e in omega (arith, z, r)
+
+step_grows : (l : Link) (comes : Comes) (ts : List Turn) (ending : Ending) → l.resets ≤ (steps_at_controller l comes ts ending).resets
+step_grows l NextFrame ts ending = go l.to_controller
+  where
+    by : List OnWire → Link
+    by [] = l
+    by (x ∷ xs) = has_taken l x xs ts ending
+
+    go : (w : List OnWire) → l.resets ≤ (by w).resets
+    go [] = omega arith
+    go (x ∷ xs) = taken_grows l x xs ts ending
+step_grows l (AsksReset window) ts ending = input_grows l (Reset window) ts ending
+step_grows l (Starts value) ts ending = restarted_grows l (started l.controller.side value) ts ending
+step_grows l Stops ts ending = restarted_grows l (deactivated l.controller.side) ts ending
+step_grows l NoInput ts ending = finished_grows l (turned l.controller.side ts) ending
+
+here_grows : (l : Link) (e : EndEvent) → l.resets ≤ (happens_at_controller l e).resets
+here_grows l (Step comes ts ending) = step_grows l comes ts ending
+here_grows l (Lose why) = omega arith
+
+all_grow : (es : List EndEvent) (l : Link) → l.resets ≤ (all_at_controller l es).resets
+all_grow [] l = omega arith
+all_grow (e ∷ es) l = let z = all_grow es (happens_at_controller l e) in let o = here_grows l e in omega (arith, z, o)
+
+event_grows : (l : Link) (e : LinkEvent) → l.resets ≤ (happens l e).resets
+event_grows l (AtController e) = here_grows l e
+event_grows l (AtHost e) = here_grows (exchanged l) e
+event_grows l (Ticks c events h) =
+    let near : Link = ticks_at_controller (aged l) c.turns c.ending in
+    let x = input_grows (aged l) HasTick c.turns c.ending in
+    let y = all_grow events near in
+    let z = input_grows (exchanged (all_at_controller near events)) HasTick h.turns h.ending in
+    omega (arith, x, y, z)
+event_grows l (TicksWithout events h) =
+    let y = all_grow events (aged l) in
+    let z = input_grows (exchanged (all_at_controller (aged l) events)) HasTick h.turns h.ending in
+    omega (arith, y, z)
+event_grows l (Activate power c id h) =
+    let x = step_grows l (Starts power) c.turns c.ending in
+    let y = step_grows (exchanged (steps_at_controller l (Starts power) c.turns c.ending)) (Starts id) h.turns h.ending in
+    omega (arith, x, y)
+
+events_grow : (events : List LinkEvent) (l : Link) → l.resets ≤ (after_link_events l events).resets
+events_grow [] l = omega arith
+events_grow (e ∷ es) l = let z = events_grow es (happens l e) in let o = event_grows l e in omega (arith, z, o)
+
+-- ## Events
+
+all_within : (es : List EndEvent) (who : End) (l : Link) → HasLowNumbers l → AreNotedWithin (all_at_controller l es).resets (entries_of_events who l es)
+all_within [] who l a = tt
+all_within (e ∷ es) who l a =
+    let m : Link = happens_at_controller l e in
+    let end : Link = all_at_controller m es in
+    let x = here_grows l e in
+    let y = all_grow es m in
+    join end.resets (here_entries who l e) (entries_of_events who m es)
+    (more l.resets end.resets (here_entries who l e) (omega (arith, x, y)) (here_within who l e a)) (all_within es who m (here_numbered l e a))
+
+tick_within : (n : ℕ) (who : End) (l : Link) (node : Node) → l.resets ≤ n → HasLowNumbers l → AreNotedWithin n (tick_entries who l node)
+tick_within n who l node q a = more l.resets n (tick_entries who l node) q (input_within who l HasTick node.turns node.ending a)
+
+-- what is noted of frames that are too old, and behind it
+behind_aged : (n : ℕ) (l : Link) (t : List Entry) → AreNotedWithin n t
+    → AreNotedWithin n (aged_entries Controller l.to_controller ++ (aged_entries Host l.to_host ++ t))
+behind_aged n l t a =
+    join n (aged_entries Controller l.to_controller) _ (aged_within n Controller l.to_controller)
+    (join n (aged_entries Host l.to_host) t (aged_within n Host l.to_host) a)
+
+pub event_within : (l : Link) (e : LinkEvent) → HasLowNumbers l → AreNotedWithin (happens l e).resets (event_entries l e)
+event_within l (AtController e) a =
+    more l.resets (happens_at_controller l e).resets (here_entries Controller l e) (here_grows l e) (here_within Controller l e a)
+event_within l (AtHost e) a =
+    more l.resets (happens_at_controller (exchanged l) e).resets (here_entries Host (exchanged l) e) (here_grows (exchanged l) e)
+    (here_within Host (exchanged l) e (exchanged_numbered l a))
+event_within l (Ticks c events h) a =
+    let near : Link = ticks_at_controller (aged l) c.turns c.ending in
+    let k : Link = all_at_controller near events in
+    let n : ℕ = (happens l (Ticks c events h)).resets in
+    let b : HasLowNumbers (aged l) = aged_numbered l a in
+    let d : HasLowNumbers near = tick_numbered (aged l) c.turns c.ending b in
+    let x : l.resets ≤ near.resets = input_grows (aged l) HasTick c.turns c.ending in
+    let y : near.resets ≤ k.resets = all_grow events near in
+    let z : k.resets ≤ n = input_grows (exchanged k) HasTick h.turns h.ending in
+    let middle = more k.resets n (entries_of_events Controller near events) z (all_within events Controller near d) in
+    let last = tick_within n Host (exchanged k) h z (exchanged_numbered k (all_numbered events near d)) in
+    let first = tick_within n Controller (aged l) c (omega (arith, x, y, z)) b in
+    (tt, behind_aged n l _ (join n (tick_entries Controller (aged l) c) _ first (join n (entries_of_events Controller near events) _ middle last)))
+event_within l (TicksWithout events h) a =
+    let k : Link = all_at_controller (aged l) events in
+    let n : ℕ = (happens l (TicksWithout events h)).resets in
+    let b : HasLowNumbers (aged l) = aged_numbered l a in
+    let z : k.resets ≤ n = input_grows (exchanged k) HasTick h.turns h.ending in
+    let middle = more k.resets n (entries_of_events Controller (aged l) events) z (all_within events Controller (aged l) b) in
+    let last = tick_within n Host (exchanged k) h z (exchanged_numbered k (all_numbered events (aged l) b)) in
+    (tt, behind_aged n l _ (join n (entries_of_events Controller (aged l) events) _ middle last))
+event_within l (Activate power c id h) a =
+    let near : Link = steps_at_controller l (Starts power) c.turns c.ending in
+    let n : ℕ = (happens l (Activate power c id h)).resets in
+    let x : l.resets ≤ near.resets = step_grows l (Starts power) c.turns c.ending in
+    let y : near.resets ≤ n = step_grows (exchanged near) (Starts id) h.turns h.ending in
+    join n (step_entries Controller l (Starts power) c.turns c.ending) (step_entries Host (exchanged near) (Starts id) h.turns h.ending)
+    (more l.resets n (step_entries Controller l (Starts power) c.turns c.ending) (omega (arith, x, y))
+    (step_within Controller l (Starts power) c.turns c.ending a))
+    (more near.resets n (step_entries Host (exchanged near) (Starts id) h.turns h.ending) y
+    (step_within Host (exchanged near) (Starts id) h.turns h.ending (exchanged_numbered near (steps_numbered l (Starts power) c.turns c.ending a))))
+
+pub events_within : (events : List LinkEvent) (l : Link) → HasLowNumbers l → AreNotedWithin (after_link_events l events).resets (entries l events)
+events_within [] l a = tt
+events_within (e ∷ es) l a =
+    let m : Link = happens l e in
+    let end : Link = after_link_events m es in
+    join end.resets (event_entries l e) (entries m es)
+    (more m.resets end.resets (event_entries l e) (events_grow es m) (event_within l e a)) (events_within es m (event_numbered l e a))
+
+pub run_within : (l : Link) → IsStart l → (events : List LinkEvent) → AreNotedWithin (after_link_events l events).resets (entries l events)
+run_within l start events = events_within events l (start_numbered l start)
+
+-- ## As entries of a transcript
+
+one_entry : (h n : ℕ) (x : Entry) → NotedWithin n x → AreSessionsWithin n (entry_of h x)
+one_entry h n (Up who k) a = (a, tt)
+one_entry h n (Down who cause) a = (tt, tt)
+one_entry h n (Active who) a = (tt, tt)
+one_entry h n (GaveUp who tries) a = (tt, tt)
+one_entry h n (Acked who k count) a = (a, tt)
+one_entry h n (Got who k m) a = (a, tt)
+one_entry h n (Sent who k m) a = (a, tt)
+one_entry h n (Emit who c) a = (tt, tt)
+one_entry h n (Took who c) a = (tt, tt)
+one_entry h n (Lost who c why) a = (tt, tt)
+one_entry h n Tick a = tt
+one_entry h n (Restarted who) a = tt
+one_entry h n (Cut who) a = tt
+
+pub entries_within : (h n : ℕ) (t : List Entry) → AreNotedWithin n t → AreSessionsWithin n (entries_for h t)
+entries_within h n [] a = tt
+entries_within h n (x ∷ t) a = each_append (SessionWithin n) (entry_of h x) (entries_for h t) (one_entry h n x a.0) (entries_within h n t a.1)

@@ -1,0 +1,291 @@
+-- What a node notes in a step is paid for by the messages that have their turns, and by what it kept.
+use Rattle.std.proofs.Common.{◌≡◌, ℕ, ◌+◌, ◌≤◌, Bool, true, false, cond, eqb, List, [], ◌∷◌, map, sym, refl, ap, ◌∙◌, subst, arith, Option, Some, None}
+use Rattle.std.specs.Prelude.{not, ◌&&◌}
+use Rattle.std.specs.List.{flat_map, filter, filter_map, list_any}
+use Rattle.std.specs.Option.{option_map_or}
+use Rattle.std.proofs.lemmas.Bool.{cond_both}
+use Rattle.std.proofs.lemmas.List.{length-map}
+use Rattle.trace_model.specs.declared.entry.Entry.{Entry}
+use Rattle.trace_model.specs.declared.entry.Entry.TheVariants as entry
+use Rattle.hci_tables.specs.declared.command.Command.TheVariants.{Sync}
+use Rattle.hci_tables.specs.Tables.{is_kept_sync}
+use Rattle.gate_answers.specs.declared.response.Response.{Response}
+use Rattle.gate_answers.specs.declared.response.Response.TheVariants as response
+use Rattle.link_laws.specs.machine.Machine.{Message, LinkInput, report, whole_acked, after_input}
+use Rattle.link_laws.specs.machine.Machine.LinkInput.{Reset}
+use Rattle.link_laws.specs.machine.Machine.Turn.{FetchMessage, Hold}
+use Rattle.link_laws.specs.entries.Entries.{End as Side}
+use Rattle.link_laws.specs.entries.Entries.End.{Controller, Host}
+use Rattle.history.specs.Steps.{end_of}
+use Rattle.node_machine.specs.Parts.{Creation, Notice, Core, Port, Work, Deed}
+use Rattle.node_machine.specs.Parts.About.{Forgotten}
+use Rattle.node_machine.specs.Parts.Deed.{Commits, Releases}
+use Rattle.node_machine.specs.Carrying.{own_side, end_of_node, noting, unless_cut, port_at, with_desk, after_turn, turn_at, all_done, needs, lack, finds_room}
+use Rattle.node_machine.specs.Controller.{asked_at, controller_deeds}
+use Rattle.node_machine.specs.HostReplies.{host_deeds}
+use Rattle.node_machine.specs.Turns.{deeds_of, handles, holds_back, have_turns, goes_through_ends, passes}
+use Rattle.node_machine.specs.Node.{NodeInput, input_at, has_come, told_at, all_come, with_older, is_late, reset_late, told_late, times_out, is_over}
+use Rattle.node_machine.specs.Node.{is_over_at}
+use Rattle.node_machine.specs.Node.{is_forgotten, forgotten, forgets, owed, all_owed, without_notice, after_sessions, synced}
+use Rattle.node_machine.specs.Node.{steps, begins_with}
+use Rattle.node_machine.specs.Node.NodeInput.{AtEnd, TimePasses}
+use Rattle.node_laws.specs.passes.Steps.{comes_to_pass}
+use Rattle.node_laws.proofs.steps.StepWalks.{unless, lets, holds, got_at}
+use Rattle.node_laws.proofs.steps.Ports.{sessions_node}
+use Rattle.node_laws.proofs.bounds.Costs.{costs, message_cost, costs-append, is_host_side, told_free}
+use Rattle.node_laws.proofs.bounds.Holding.{core_holds, notice_holds, holds_at, map_less, with_less, stays_at}
+use Rattle.node_laws.proofs.bounds.Deeds.{Owes, weights, weights-append, less, noted, ended, ported, kept, turned, all_owe}
+use Rattle.node_laws.proofs.bounds.Syncs.{sync_told}
+use Rattle.node_laws.proofs.bounds.Turns.{answer_free, controller_pays, host_pays}
+
+-- ## Turns
+
+module _ (side : Side) (all : ℕ) where
+  -- what a message pays at an end of this side
+  abbrev turn_pay : Message → ℕ
+  turn_pay m = message_cost (not (is_host_side side)) m.0 m.1
+
+  pay_is : (h : ℕ) (m : Message) (s : Side) → message_cost (not (end_of h s).at_host) m.0 m.1 ≡ message_cost (not (is_host_side s)) m.0 m.1
+  pay_is h m Controller = refl
+  pay_is h m Host = refl
+
+  pub marked : (left h : ℕ) (flag : Bool) (w : Work) → Owes side left all w → Owes side left all (with_desk h (λ d. record d { holds = flag }) w)
+  marked left h flag w a =
+      let f : Port → Port = λ p. record p { desk = record p.desk { holds = flag } } in
+      let same = with_less h f (λ p. omega arith) w.ports in
+      ended side all left left h f w (omega (arith, same)) a
+
+  pub held : (h : ℕ) (flag : Bool) (w : Work) → Owes side 0 all w → Owes side 0 all (turn_at h (Hold flag) w)
+  held h flag w a = turned side all 0 h (Hold flag) w (λ m is. cc is) a
+
+module _ (side : Side) (all : ℕ) (core : Core) (ports : List Port) (h : ℕ) (m : Message) (v : Work) (side_is : own_side core ≡ side) (core_is : v.core ≡ core)
+    (same : holds_at h v.ports ≡ holds_at h ports) (a : Owes side (turn_pay side all m) all v) where
+  deeds_pay : Owes side 0 all (all_done h (deeds_of core ports h m) v)
+  deeds_pay = go (eqb core.node 0) refl where
+    by : Bool → List Deed
+    by true = controller_deeds core ports h m
+    by false = option_map_or (λ p. host_deeds core p m) (port_at ports h) []
+
+    Goal : Side → Bool → Type 0
+    Goal s b = Owes s (turn_pay s all m) all v → Owes s 0 all (all_done h (by b) v)
+
+    far : (o : Option Port) → Owes Host (message_cost false m.0 m.1) all v
+        → Owes Host 0 all (all_done h (option_map_or (λ p. host_deeds core p m) o []) v)
+    far None b = less Host all (message_cost false m.0 m.1) 0 v (omega arith) b
+    far (Some p) b = host_pays all core h m p v core_is b
+
+    go : (b : Bool) → eqb core.node 0 ≡ b → Owes side 0 all (all_done h (by b) v)
+    go true q =
+        let is : Controller ≡ side = sym (ap (λ c. cond c Controller Host) q) ∙ side_is in
+        subst (λ s. Goal s true) is (controller_pays all core ports h m v same) a
+    go false q =
+        let is : Host ≡ side = sym (ap (λ c. cond c Controller Host) q) ∙ side_is in
+        subst (λ s. Goal s false) is (far (port_at ports h)) a
+
+module _ (side : Side) (all : ℕ) where
+  pub handled : (h : ℕ) (m : Message) (w : Work) → Owes side 0 all w → Owes side 0 all (handles h m (deeds_of w.core w.ports h m) w)
+  handled h m w a =
+      let es : List Entry = entry.Turn (end_of_node w.core h) m.0 m.1 ∷ [] in
+      let pays_it : message_cost (not (end_of_node w.core h).at_host) m.0 m.1 ≡ turn_pay side all m =
+      pay_is side all h m (own_side w.core) ∙ ap (λ s. turn_pay s all m) a.side_is in
+      let told : Owes side (turn_pay side all m) all (noting es w) = noted side all (turn_pay side all m) 0 es w (omega (arith, pays_it)) a in
+      let fetched : Work = turn_at h FetchMessage (noting es w) in
+      let f : Port → Port = λ p. record p { desk = record p.desk { holds = false } } in
+      deeds_pay side all w.core w.ports h m (with_desk h (λ d. record d { holds = false }) fetched) a.side_is refl
+      (stays_at h f (λ p. refl) (λ p. refl) fetched.ports ∙ stays_at h (after_turn FetchMessage) (λ p. refl) (λ p. refl) w.ports)
+      (marked side all (turn_pay side all m) h false fetched (turned side all (turn_pay side all m) h FetchMessage (noting es w) (λ m is. cc is) told))
+
+  having : (h : ℕ) (messages : List Message) (w : Work) → Owes side 0 all w → Owes side 0 all (have_turns h messages w)
+  having h [] w a = lets (Owes side 0 all) (held side all) h w a
+  having h (m ∷ messages) w a = go (lack w.ports (needs h deeds)) (λ v b. having h messages v b) where
+    deeds : List Deed
+    deeds = deeds_of w.core w.ports h m
+
+    by : Option (ℕ × ℕ) → Work
+    by None = unless_cut (have_turns h messages) (handles h m deeds w)
+    by (Some short) = holds_back h short w
+
+    go : (o : Option (ℕ × ℕ)) → ((v : Work) → Owes side 0 all v → Owes side 0 all (have_turns h messages v)) → Owes side 0 all (by o)
+    go None later = unless (Owes side 0 all) (have_turns h messages) (handles h m deeds w) later (handled h m w a)
+    go (Some short) later =
+        holds (Owes side 0 all) (held side all) (λ k flag v b. marked side all 0 k flag v b)
+        (λ k need spare v b. noted side all 0 0 (entry.Held (end_of_node v.core k) need spare ∷ []) v (omega arith) b) h short w a
+
+  going : (hosts : List ℕ) (w : Work) → Owes side 0 all w → Owes side 0 all (goes_through_ends hosts w)
+  going [] w a = a
+  going (h ∷ hosts) w a =
+      unless (Owes side 0 all) (goes_through_ends hosts) (have_turns h (got_at h w) w) (λ v b. going hosts v b) (having h (got_at h w) w a)
+
+-- ## What is done outside turns
+
+releases_weigh : (side : Side) (cs : List Creation) → weights side (map (λ (c : Creation). Releases c.asker) cs) ≡ 0
+releases_weigh side [] = refl
+releases_weigh side (c ∷ cs) = let rest = releases_weigh side cs in omega (arith, rest)
+
+forgotten_weigh : (side : Side) (ports : List Port) → weights side (forgotten ports) ≡ 0
+forgotten_weigh side ports = releases_weigh side (filter (λ (c : Creation). is_over_at ports c.asker) (filter_map asked_at ports))
+
+owed_weigh : (side : Side) (r : Response) (o : Option Creation) → weights side (owed r o) ≡ 0
+owed_weigh side r None = refl
+owed_weigh side r (Some c) = let none = answer_free (is_host_side side) 1 r [] in omega (arith, none)
+
+flat_weigh : {X : Type 0} (side : Side) (f : X → List Deed) → ((x : X) → weights side (f x) ≡ 0) → (xs : List X) → weights side (flat_map f xs) ≡ 0
+flat_weigh side f one [] = refl
+flat_weigh side f one (x ∷ xs) =
+    let both = weights-append side (f x) (flat_map f xs) in
+    let first = one x in
+    let rest = flat_weigh side f one xs in
+    omega (arith, both, first, rest)
+
+all_owed_weigh : (side : Side) (ports : List Port) → weights side (all_owed ports) ≡ 0
+all_owed_weigh side ports =
+    let ended : List Port = filter (λ p. p.ended) ports in
+    let late : List Port = filter (λ p. p.late) ports in
+    let both =
+    weights-append side (flat_map (λ p. owed response.NotConnected (asked_at p)) ended) (flat_map (λ p. owed response.Timeout (asked_at p)) late) in
+    let first = flat_weigh side (λ p. owed response.NotConnected (asked_at p)) (λ p. owed_weigh side response.NotConnected (asked_at p)) ended in
+    let rest = flat_weigh side (λ p. owed response.Timeout (asked_at p)) (λ p. owed_weigh side response.Timeout (asked_at p)) late in
+    omega (arith, both, first, rest)
+
+-- how many ends tell of an identifier of a UICC
+abbrev pub syncs_told : NodeInput → List Port → ℕ
+syncs_told input [] = 0
+syncs_told input (p ∷ ports) = option_map_or (λ i. sync_told (report p.side i).sync) (input_at input p) 0 + syncs_told input ports
+
+-- each costs one command at most
+synced_weighs : (side : Side) (core : Core) (input : NodeInput) (p : Port)
+    → weights side (synced core input p) ≤ option_map_or (λ i. sync_told (report p.side i).sync) (input_at input p) 0
+synced_weighs side core input p = by_input (input_at input p) where
+  by_id : Option ℕ → List Deed
+  by_id None = []
+  by_id (Some id) = cond (not (is_kept_sync core.tables.syncs p.desk.host id) && finds_room core (Sync p.desk.host id)) (Commits (Sync p.desk.host id) ∷ []) []
+
+  by : Option LinkInput → List Deed
+  by None = []
+  by (Some i) = by_id (report p.side i).sync
+
+  each : (o : Option ℕ) → weights side (by_id o) ≤ sync_told o
+  each None = omega arith
+  each (Some id) =
+      cond_both (not (is_kept_sync core.tables.syncs p.desk.host id) && finds_room core (Sync p.desk.host id)) (Commits (Sync p.desk.host id) ∷ []) []
+      (λ deeds. weights side deeds ≤ 1) (λ _. omega arith) (λ _. omega arith)
+
+  by_input : (o : Option LinkInput) → weights side (by o) ≤ option_map_or (λ i. sync_told (report p.side i).sync) o 0
+  by_input None = omega arith
+  by_input (Some i) = each (report p.side i).sync
+
+all_synced : (side : Side) (core : Core) (input : NodeInput) (ports : List Port) → weights side (flat_map (synced core input) ports) ≤ syncs_told input ports
+all_synced side core input [] = omega arith
+all_synced side core input (p ∷ ports) =
+    let both = weights-append side (synced core input p) (flat_map (synced core input) ports) in
+    let first = synced_weighs side core input p in
+    let rest = all_synced side core input ports in
+    omega (arith, both, first, rest)
+
+-- ## What comes
+
+told_costs : (core : Core) (p : Port) (o : Option LinkInput) → costs (told_at core p o) ≡ 0
+told_costs core p None = refl
+told_costs core p (Some i) = told_free p.desk.host (own_side core) p.session (report p.side i) (whole_acked (after_input p.side i))
+
+late_costs : (core : Core) (p : Port) → costs (told_late core p) ≡ 0
+late_costs core p = cond_both (is_late p) (told_at core p (Some (Reset None))) [] (λ es. costs es ≡ 0) (λ _. told_costs core p (Some (Reset None))) (λ _. refl)
+
+flat_costs : {X : Type 0} (f : X → List Entry) → ((x : X) → costs (f x) ≡ 0) → (xs : List X) → costs (flat_map f xs) ≡ 0
+flat_costs f one [] = refl
+flat_costs f one (x ∷ xs) =
+    let both = costs-append (f x) (flat_map f xs) in let first = one x in let rest = flat_costs f one xs in omega (arith, both, first, rest)
+
+come_desk : (p : Port) (o : Option LinkInput) → notice_holds (has_come p o).desk.notice ≤ notice_holds p.desk.notice
+come_desk p None = omega arith
+come_desk p (Some i) = omega arith
+
+older_desk : (p : Port) → notice_holds (with_older p).desk.notice ≤ notice_holds p.desk.notice
+older_desk p = by p.desk.notice where
+  older : Option Notice → Option Notice
+  older None = None
+  older (Some n) = Some (record n { age = n.age + 1 })
+
+  by : (o : Option Notice) → notice_holds (older o) ≤ notice_holds o
+  by None = omega arith
+  by (Some n) = omega arith
+
+late_desk : (p : Port) → notice_holds (reset_late p).desk.notice ≤ notice_holds p.desk.notice
+late_desk p =
+    cond_both (is_late p) _ p (λ (q : Port). notice_holds q.desk.notice ≤ notice_holds p.desk.notice) (λ _. omega arith) (λ _. omega arith)
+
+forgets_desk : (ports : List Port) (p : Port) → notice_holds (forgets ports p).desk.notice ≤ notice_holds p.desk.notice
+forgets_desk ports p =
+    cond_both (is_forgotten ports (asked_at p)) _ p (λ (q : Port). notice_holds q.desk.notice ≤ notice_holds p.desk.notice)
+    (λ _. by p.desk.notice) (λ _. omega arith)
+  where
+    by : (o : Option Notice) → notice_holds (option_map_or (λ (n : Notice). Some (record n { about = Forgotten })) o None) ≤ notice_holds o
+    by None = omega arith
+    by (Some n) = omega arith
+
+without_desk : (p : Port) → notice_holds (without_notice p).desk.notice ≤ notice_holds p.desk.notice
+without_desk p = cond_both (is_over p) _ p (λ (q : Port). notice_holds q.desk.notice ≤ notice_holds p.desk.notice) (λ _. omega arith) (λ _. omega arith)
+
+sessions_hold : (core : Core) (ports : List Port) → core_holds (after_sessions core ports) ≤ core_holds core
+sessions_hold core ports =
+    cond_both (list_any is_over ports) _ core (λ (c : Core). core_holds c ≤ core_holds core) (λ _. omega arith) (λ _. omega arith)
+
+-- ## Steps
+
+module _ (side : Side) (all : ℕ) where
+  mapped : (left : ℕ) (f : Port → Port) → ((p : Port) → notice_holds (f p).desk.notice ≤ notice_holds p.desk.notice) → (w : Work) → Owes side left all w
+      → Owes side left all (record w { ports = map f w.ports })
+  mapped left f less w a = ported side all left (map f w.ports) w (length-map w.ports f) (map_less f less w.ports) a
+
+  timed : (left : ℕ) (input : NodeInput) (w : Work) → Owes side left all w → Owes side left all (times_out input w)
+  timed left (AtEnd h i) w a = a
+  timed left TimePasses w a =
+      let older : List Port = map with_older w.ports in
+      let es : List Entry = flat_map (told_late w.core) older in
+      let v : Work = record w { ports = map reset_late older } in
+      let none = flat_costs (told_late w.core) (late_costs w.core) older in
+      noted side all left left es v (omega (arith, none))
+      (mapped left reset_late late_desk (record w { ports = older }) (mapped left with_older older_desk w a))
+
+  before_pass : (left : ℕ) (freed syncs owing : List Deed) (w : Work) → weights side freed ≡ 0 → weights side syncs ≤ left → weights side owing ≡ 0
+      → Owes side left all w → Owes side 0 all (unless_cut (all_done 0 owing) (all_done 0 syncs (all_done 0 freed w)))
+  before_pass left freed syncs owing w f s o a =
+      let first : Owes side left all (all_done 0 freed w) =
+      all_owe side all left 0 freed w (less side all left (left + weights side freed) w (omega (arith, f)) a) in
+      let kept_ids : Owes side 0 all (all_done 0 syncs (all_done 0 freed w)) =
+      all_owe side all 0 0 syncs (all_done 0 freed w) (less side all left (0 + weights side syncs) (all_done 0 freed w) (omega (arith, s)) first) in
+      unless (Owes side 0 all) (all_done 0 owing) (all_done 0 syncs (all_done 0 freed w))
+      (λ v b. all_owe side all 0 0 owing v (less side all 0 (0 + weights side owing) v (omega (arith, o)) b)) kept_ids
+
+  -- As its pass begins a node owes nothing that it didn't keep before the step, but for the identifiers that its ends tell of.
+  pub begun_owes : (input : NodeInput) (w : Work) → Owes side (syncs_told input w.ports) all w → Owes side 0 all (comes_to_pass input w)
+  begun_owes input w a =
+      let k : ℕ = syncs_told input w.ports in
+      let begun : Work = record w { ports = map (λ p. has_come p (input_at input p)) w.ports } in
+      let es : List Entry = flat_map (λ p. told_at w.core p (input_at input p)) w.ports in
+      let none = flat_costs (λ p. told_at w.core p (input_at input p)) (λ p. told_costs w.core p (input_at input p)) w.ports in
+      let told : Owes side k all (all_come input w) =
+      noted side all k k es begun (omega (arith, none))
+      (mapped k (λ p. has_come p (input_at input p)) (λ p. come_desk p (input_at input p)) w a) in
+      let came : Work = times_out input (all_come input w) in
+      let out : Owes side k all came = timed k input (all_come input w) told in
+      let syncs : List Deed = flat_map (synced w.core input) w.ports in
+      let left : List Port = map (forgets came.ports) came.ports in
+      let core : Core = after_sessions came.core came.ports in
+      let less_core = sessions_hold came.core came.ports in
+      let cored : Owes side k all (record came { core = core }) =
+      kept side all k k core came (sessions_node came.core came.ports) (omega (arith, less_core)) out in
+      let begins : Owes side k all (record came { core = core; ports = map without_notice left }) =
+      mapped k without_notice without_desk (record came { core = core; ports = left })
+      (mapped k (forgets came.ports) (forgets_desk came.ports) (record came { core = core }) cored) in
+      before_pass k (forgotten came.ports) syncs (all_owed left) (record came { core = core; ports = map without_notice left })
+      (forgotten_weigh side came.ports) (all_synced side w.core input w.ports) (all_owed_weigh side left) begins
+
+  -- nor does it behind the step
+  pub steps_owe : (input : NodeInput) (w : Work) → Owes side (syncs_told input w.ports) all w → Owes side 0 all (steps input w)
+  steps_owe input w a =
+      unless (Owes side 0 all) passes (comes_to_pass input w) (λ v b. going side all (map (λ (p : Port). p.desk.host) v.ports) v b) (begun_owes input w a)
+
+  -- what a host does of itself owes what its deeds cost
+  pub begins_owe : (h : ℕ) (deeds : List Deed) (w : Work) → Owes side (weights side deeds) all w → Owes side 0 all (begins_with h deeds w)
+  begins_owe h deeds w a = all_owe side all 0 h deeds w (less side all (weights side deeds) (0 + weights side deeds) w (omega arith) a)

@@ -1,0 +1,5 @@
+use Rattle.node_laws.proofs.bounds.SessionsInHistories.{sessions_in_bare_history}
+use Rattle.node_laws.proofs.bounds_of_resets.sessions_of_bare_histories_have_few_numbers.Goals as goal
+
+pub returns : goal.returns
+returns c = sessions_in_bare_history

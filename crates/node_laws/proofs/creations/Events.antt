@@ -1,0 +1,521 @@
+-- What is read of creations over whatever happens.
+use Rattle.std.proofs.Common.{◌≡◌, ◌⊎◌, inl, inr, ℕ, ◌+◌, ◌&&◌, Bool, true, false, not, cond, eqb, List, [], ◌∷◌, ◌++◌, map, min, sym, refl, ap, ◌∙◌}
+use Rattle.std.proofs.Common.{subst, append-nil}
+use Rattle.std.specs.Prelude.{Option, Some, None}
+use Rattle.std.specs.List.{AllByRecursion, flat_map, find, cons_option, filter_map}
+use Rattle.std.specs.Option.{option_map_or}
+use Rattle.std.proofs.lemmas.Bool.{cases_Bool, eqb-true}
+use Rattle.swp_base.specs.InMemory.{Memory}
+use Rattle.journal_laws.specs.Journal.{count_of}
+use Rattle.journal_laws.specs.Planned.{after_planned}
+use Rattle.trace_model.specs.Lines.{IsHost}
+use Rattle.trace_model.specs.declared.entry.Entry.{Entry}
+use Rattle.trace_model.specs.declared.entry.Entry.TheVariants as entry
+use Rattle.trace_model.specs.declared.line.End.{End}
+use Rattle.link_laws.specs.machine.Machine.{LinkInput, Role, Turn, new_link_end, renewed, sent_all, turned, after_input, deactivated, started}
+use Rattle.link_laws.specs.machine.Machine.Role.{Bare}
+use Rattle.link_laws.specs.messages.Links.{Link, NumberedEnd, Loss, Comes, exchanged, aged, happens, ticks_at_controller, steps_at_controller}
+use Rattle.link_laws.specs.messages.Links.{has_input, has_taken}
+use Rattle.link_laws.specs.messages.Links.Ending.{GoesOut, CutOff}
+use Rattle.link_laws.specs.messages.Links.Comes.{NextFrame, AsksReset, Starts, NoInput, Stops}
+use Rattle.link_laws.specs.messages.Links.Loss.{OnDemand, Broken, Unread, TooOld, TooMany}
+use Rattle.link_laws.specs.messages.Links.EndEvent.{Step}
+use Rattle.link_laws.specs.messages.Links.LinkEvent.{AtController}
+use Rattle.link_laws.specs.entries.Entries.{first_lost}
+use Rattle.link_laws.specs.entries.Entries.End.{Controller, Host}
+use Rattle.history.specs.Steps.{entries_for}
+use Rattle.history.specs.Follows.{seen_from}
+use Rattle.node_machine.specs.Parts.{Desk, Running, Port, Work, Deed}
+use Rattle.node_machine.specs.Carrying.{changed_if, port_at}
+use Rattle.node_machine.specs.Controller.{creation_in}
+use Rattle.node_machine.specs.Node.{steps, begins_with, boot_writes, found, new_desk, with_error, has_come, input_at}
+use Rattle.node_machine.specs.Node.NodeInput.{AtEnd, TimePasses}
+use Rattle.node_machine.specs.world.World.{NodeWorld, Site, node_at, memory_at, site_at, with_site, with_memory, with_node, link_to, links_of}
+use Rattle.node_machine.specs.world.World.{ending_of, runs_on}
+use Rattle.node_machine.specs.world.World.{turns_at, input_of, near_end_in, arrival, wires_for, work_of, frames_noted, comes_to, controller_work}
+use Rattle.node_machine.specs.world.World.{link_after_controller}
+use Rattle.node_machine.specs.world.World.{after_controller, host_work, after_host, host_does, controller_cut, host_cut, loses_power_at, boots}
+use Rattle.node_machine.specs.world.World.{counts, frame_lost}
+use Rattle.node_machine.specs.world.World.{all_aged, is_late_at, ticked_so, controller_ticks, comes_at, port_for}
+use Rattle.node_machine.specs.world.NodeFilters.{book_in, asking_in}
+use Rattle.node_laws.specs.kept.Hosts.{AreHosts}
+use Rattle.node_laws.specs.kept.Worlds.{AllKeep, IfRuns, RunsSo}
+use Rattle.node_laws.specs.telling.Telling.{HasEnds, hosts_in}
+use Rattle.node_laws.proofs.telling.Events.{site_map}
+use Rattle.node_laws.proofs.telling.Nodes.{site_host, link_is}
+use Rattle.node_laws.specs.readings.Noticed.{IfNoticedUp}
+use Rattle.node_laws.proofs.readings.NoticedWorlds.{side_map, side_with, far_side, lost_side}
+use Rattle.node_laws.proofs.readings.Sites.{near_end_side, comes_outside, lost_quiet}
+use Rattle.node_laws.specs.notices.Worlds.{IfHostNode, IsGoodSite, IsShut, KeepsNotices}
+use Rattle.node_laws.proofs.notices.Own.{AreOwn}
+use Rattle.node_laws.proofs.notices.Far.{AreFar, far-append, far_flat, quiet_far, IsFarWork, all_do, steps_far, asking_more}
+use Rattle.node_laws.proofs.notices.Sites.{AreGood, good_at, link_shut, frames_quiet, arrival_quiet}
+use Rattle.node_machine.proofs.world.Cases.{by_power, by_memory, by_running, boot_written, boot_found, written_off, by_boot, site_lost, by_loss}
+use Rattle.node_laws.specs.creations.Creations.{creations_at, creations_of, IsReadSo, of_asker}
+use Rattle.node_laws.specs.creations.Worlds.{AreProper, IsProperBook, IfAwaited, HasSetAside, AreAwaited}
+use Rattle.node_laws.proofs.creations.Rows.{proper_found}
+use Rattle.node_laws.proofs.creations.Near.{Reads, far_book, far_reading, new_ready, none_side, IsBegun, begun_at, step_reads}
+use Rattle.node_laws.proofs.creations.Sides.{near_made, tick_made, after_tick, near_side, tick_side}
+use Rattle.link_laws.specs.machine.Machine.LinkInput.{Reset, Tick, Take}
+use Rattle.shdlc_core.specs.Machine.{is_waiting}
+use Rattle.link_laws.specs.sessions.Sessions.{OnWire}
+use Rattle.hci_tables.specs.Tables.{HciTables}
+use Rattle.node_laws.proofs.kept.Books.{book_more}
+
+-- ## Beside the controller
+
+-- The controller's creations and its ends stay as others act, and what is noted tells of neither.
+pub record Beside (w v : NodeWorld) (es : List Entry) : Type 0 where
+  pub far : AreFar es
+  pub creations : (x : ℕ) → creations_of v.controller x ≡ creations_of w.controller x
+  pub due : AreAwaited w.controller → AreAwaited v.controller
+  pub sides : (n : ℕ) → (link_to v.sites n).controller.side ≡ (link_to w.sites n).controller.side
+
+pub beside_reads : (t : List Entry) (w v : NodeWorld) (es : List Entry) → Reads t w → Beside w v es → Reads (t ++ es) v
+beside_reads t w v es a b = record {
+  book = far_book t es b.far a.book;
+  due = b.due a.due;
+  read = λ x. subst (λ m. IsReadSo m (creations_of v.controller x)) (sym (far_reading x t es b.far))
+      (subst (IsReadSo (asking_in t x)) (sym (b.creations x)) (a.read x));
+  ends = λ x. subst (HasSetAside (creations_of v.controller x)) (sym (b.sides x))
+      (subst (λ l. HasSetAside l (link_to w.sites x).controller.side) (sym (b.creations x))
+      (a.ends x));
+}
+
+abbrev pub BesideBy : NodeWorld → NodeWorld × List Entry → Type 0
+BesideBy w p = Beside w p.0 p.1
+
+pub stays : (w : NodeWorld) → Beside w w []
+stays w = record { far = tt; creations = λ x. refl; due = λ a. a; sides = λ n. refl }
+
+sites_beside : (w : NodeWorld) (h : ℕ) (f : Site → Site) (es : List Entry) → AreFar es → ((s : Site) → (f s).host ≡ s.host)
+    → ((s : Site) → (f s).link.controller.side ≡ s.link.controller.side) → Beside w (record w { sites = with_site h f w.sites }) es
+sites_beside w h f es far host side =
+    record { far = far; creations = λ x. refl; due = λ a. a; sides = λ n. side_with h f host side w.sites n }
+
+-- a host acts
+host_beside : (w : NodeWorld) (h : ℕ) (comes : Comes) (f : Work → Work) → AreGood w.sites → ((k : Work) → IsFarWork k → IsFarWork (f k))
+    → BesideBy w (host_does w h comes f)
+host_beside w h comes f good keeps = by_site (site_at w.sites h) refl where
+  none_is : site_at w.sites h ≡ None → host_does w h comes f ≡ (w, [])
+  none_is e = rw e refl
+
+  off_is : (s : Site) → site_at w.sites h ≡ Some s → s.node ≡ None → host_does w h comes f ≡ (w, [])
+  off_is s here e = rw here (rw e refl)
+
+  on_is : (s : Site) (r : Running) → site_at w.sites h ≡ Some s → s.node ≡ Some r → host_does w h comes f
+      ≡ (
+        record w { sites = with_site h (after_host comes (host_work s r comes f)) w.sites },
+        (host_work s r comes f).entries ++ frames_noted Host h (wires_for (exchanged s.link) comes) (host_work s r comes f),
+      )
+  on_is s r here e = rw here (rw e refl)
+
+  by_node : (s : Site) → site_at w.sites h ≡ Some s → IsGoodSite s → (o : Option Running) → s.node ≡ o → BesideBy w (host_does w h comes f)
+  by_node s here fine None e = subst (BesideBy w) (sym (off_is s here e)) (stays w)
+  by_node s here fine (Some r) e =
+      subst (BesideBy w) (sym (on_is s r here e))
+      (sites_beside w h (after_host comes k) (k.entries ++ frames) (far-append k.entries frames far.far (frames_quiet Host h
+      (wires_for (exchanged s.link) comes) k)) (λ z. refl) (λ z. far_side z.link (Step comes (turns_at k z.host) (ending_of k))))
+    where
+      k : Work
+      k = host_work s r comes f
+
+      frames : List Entry
+      frames = frames_noted Host h (wires_for (exchanged s.link) comes) k
+
+      far : IsFarWork k
+      far =
+          keeps (work_of r s.memory.plan (λ n. near_end_in (exchanged s.link) comes) (entries_for s.host (arrival Host (exchanged s.link) comes)))
+          (record { number = subst IfHostNode e fine.node; far = arrival_quiet Host s.host (exchanged s.link) comes })
+
+  by_site : (o : Option Site) → site_at w.sites h ≡ o → BesideBy w (host_does w h comes f)
+  by_site None e = subst (BesideBy w) (sym (none_is e)) (stays w)
+  by_site (Some s) e = by_node s e (good_at w.sites h s good e) s.node refl
+
+pub far_beside : (w : NodeWorld) (e : End) (comes : Comes) → AreGood w.sites → e.at_host ≡ true → BesideBy w (comes_at w e comes)
+far_beside w e comes good far = go (input_of (seen_from e (link_to w.sites e.link)) comes) refl where
+  none_is : input_of (seen_from e (link_to w.sites e.link)) comes ≡ None → comes_at w e comes ≡ (w, [])
+  none_is q = rw q refl
+
+  far_is : (i : LinkInput) → input_of (seen_from e (link_to w.sites e.link)) comes ≡ Some i
+      → comes_at w e comes ≡ host_does w e.link comes (steps (AtEnd e.link i))
+  far_is i q = rw q (rw far refl)
+
+  go : (o : Option LinkInput) → input_of (seen_from e (link_to w.sites e.link)) comes ≡ o → BesideBy w (comes_at w e comes)
+  go None q = subst (BesideBy w) (sym (none_is q)) (stays w)
+  go (Some i) q =
+      subst (BesideBy w) (sym (far_is i q)) (host_beside w e.link comes (steps (AtEnd e.link i)) good (λ k b. steps_far (AtEnd e.link i) k b))
+
+pub begins_beside : (w : NodeWorld) (h : ℕ) (deeds : List Deed) → AreGood w.sites → AreOwn deeds
+    → BesideBy w (host_does w h NoInput (begins_with h deeds))
+begins_beside w h deeds good own = host_beside w h NoInput (begins_with h deeds) good (λ k b. all_do h deeds k own b)
+
+pub memory_beside : (w : NodeWorld) (n : ℕ) (m : Memory) → Beside w (with_memory n m w) []
+memory_beside w n m =
+    by_memory (λ v. Beside w v []) n w m (λ e. record { far = tt; creations = λ x. refl; due = λ a. a; sides = λ k. refl })
+    (λ e. sites_beside w n (λ (s : Site). record s { memory = m }) [] tt (λ s. refl) (λ s. refl))
+
+-- ## Losses
+
+creations_counted : (h : ℕ) (desks : List Desk) (x : ℕ) → creations_at (with_error h desks) x ≡ creations_at desks x
+creations_counted h desks x = ap (λ l. of_asker x l) (go desks) where
+  go : (desks : List Desk) → filter_map (λ (d : Desk). creation_in d.notice) (with_error h desks)
+      ≡ filter_map (λ (d : Desk). creation_in d.notice) desks
+  go [] = refl
+  go (d ∷ desks) = by (eqb d.host h) (go desks) where
+    more : Desk → Desk
+    more c = record c { errors = min 65535 (c.errors + 1) }
+
+    by : (b : Bool) → filter_map (λ (d : Desk). creation_in d.notice) (with_error h desks)
+        ≡ filter_map (λ (d : Desk). creation_in d.notice) desks
+        → filter_map (λ (d : Desk). creation_in d.notice) (changed_if b more d ∷ with_error h desks)
+        ≡ filter_map (λ (d : Desk). creation_in d.notice) (d ∷ desks)
+    by true later = ap (λ l. cons_option (creation_in d.notice) l) later
+    by false later = ap (λ l. cons_option (creation_in d.notice) l) later
+
+due_counted : (h : ℕ) (desks : List Desk) → AllByRecursion (λ (d : Desk). IfAwaited (creation_in d.notice)) desks
+    → AllByRecursion (λ (d : Desk). IfAwaited (creation_in d.notice)) (with_error h desks)
+due_counted h [] a = tt
+due_counted h (d ∷ desks) a = (by (eqb d.host h), due_counted h desks a.1) where
+  by : (b : Bool) → IfAwaited (creation_in (changed_if b (λ c. record c { errors = min 65535 (c.errors + 1) }) d).notice)
+  by true = a.0
+  by false = a.0
+
+counted_creations : (why : Loss) (h : ℕ) (o : Option Running) (x : ℕ) → creations_of (counts why h o) x ≡ creations_of o x
+counted_creations (Broken fault) h None x = refl
+counted_creations (Broken fault) h (Some r) x = creations_counted h r.desks x
+counted_creations OnDemand h o x = refl
+counted_creations Unread h o x = refl
+counted_creations TooOld h o x = refl
+counted_creations TooMany h o x = refl
+
+counted_due : (why : Loss) (h : ℕ) (o : Option Running) → AreAwaited o → AreAwaited (counts why h o)
+counted_due (Broken fault) h None a = tt
+counted_due (Broken fault) h (Some r) a = due_counted h r.desks a
+counted_due OnDemand h o a = a
+counted_due Unread h o a = a
+counted_due TooOld h o a = a
+counted_due TooMany h o a = a
+
+pub lost_beside : (w : NodeWorld) (e : End) (why : Loss) → BesideBy w (frame_lost w e why)
+lost_beside w e why =
+    by_loss (BesideBy w) w e why
+    (λ b. sites_beside w e.link (λ (s : Site). record (site_lost e why s) { node = counts why e.link s.node })
+    (entries_for e.link (first_lost Host why (link_to w.sites e.link).to_host))
+    (quiet_far e.link (first_lost Host why (link_to w.sites e.link).to_host) (lost_quiet Host why (link_to w.sites e.link).to_host)) (λ s. refl)
+    (λ s. lost_side e why s.link))
+    (λ b. record {
+      far = quiet_far e.link (first_lost Controller why (link_to w.sites e.link).to_controller)
+          (lost_quiet Controller why (link_to w.sites e.link).to_controller);
+      creations = λ x. counted_creations why e.link w.controller x;
+      due = counted_due why e.link w.controller;
+      sides = λ n. side_with e.link (site_lost e why) (λ s. refl) (λ s. lost_side e why s.link) w.sites n;
+    })
+
+-- ## Power
+
+none_asked : (hosts : List ℕ) (x : ℕ) → creations_at (map new_desk hosts) x ≡ []
+none_asked [] x = refl
+none_asked (h ∷ hosts) x = none_asked hosts x
+
+new_due : (hosts : List ℕ) → AllByRecursion (λ (d : Desk). IfAwaited (creation_in d.notice)) (map new_desk hosts)
+new_due [] = tt
+new_due (h ∷ hosts) = (tt, new_due hosts)
+
+-- the ends of a controller that loses its power are new
+cut_ends : (sites : List Site) (n : ℕ)
+    → HasSetAside [] (link_to (map (λ (s : Site). record s { link = happens s.link (AtController (Step NoInput [] CutOff)) }) sites) n).controller.side
+cut_ends [] n = new_ready Bare
+cut_ends (s ∷ sites) n = go (cases_Bool (eqb s.host n)) (cut_ends sites n) where
+  f : Site → Site
+  f s = record s { link = happens s.link (AtController (Step NoInput [] CutOff)) }
+
+  go : (eqb s.host n ≡ true) ⊎ (eqb s.host n ≡ false) → HasSetAside [] (link_to (map f sites) n).controller.side
+      → HasSetAside [] (link_to (map f (s ∷ sites)) n).controller.side
+  go (inl is) later = rw is (new_ready (sent_all s.link.controller.side).role)
+  go (inr off) later = rw off later
+
+pub cut_reads : (t : List Entry) (w : NodeWorld) (n : ℕ) → Reads t w → Reads (t ++ entry.Cut n ∷ []) (loses_power_at n w)
+cut_reads t w n a =
+    by_power (Reads (t ++ entry.Cut n ∷ [])) n w
+    (λ e. subst (λ m. Reads (t ++ entry.Cut m ∷ []) (controller_cut w)) (sym (eqb-true n 0 e)) near)
+    (λ e. beside_reads t w (record w { sites = with_site n host_cut w.sites }) (entry.Cut n ∷ []) a
+    (sites_beside w n host_cut (entry.Cut n ∷ []) (e, tt) (λ s. refl) (λ s. far_side s.link (Step NoInput [] CutOff))))
+  where
+    near : Reads (t ++ entry.Cut 0 ∷ []) (controller_cut w)
+    near = record {
+      book = subst IsProperBook (sym (book_more t (entry.Cut 0 ∷ []) 0)) a.book;
+      due = tt;
+      read = λ x. subst (λ m. IsReadSo m []) (sym (asking_more x t (entry.Cut 0 ∷ []))) tt;
+      ends = λ x. cut_ends w.sites x;
+    }
+
+runs_reads : (t : List Entry) (w : NodeWorld) (n k : ℕ) (hosts content : List ℕ) → Reads t w → (eqb n 0 ≡ true → w.controller ≡ None)
+    → Reads (t ++ entry.Booted n k ∷ []) (with_node n (found n hosts content) w)
+runs_reads t w n k hosts content a off =
+    by_running (Reads (t ++ entry.Booted n k ∷ [])) n w (found n hosts content)
+    (λ e. subst (λ m. Reads (t ++ entry.Booted m k ∷ []) (record w { controller = Some (found n hosts content) })) (sym (eqb-true n 0 e)) (near (off e)))
+    (λ e. beside_reads t w (record w { sites = with_site n (λ (s : Site). record s { node = Some (found n hosts content) }) w.sites })
+    (entry.Booted n k ∷ []) a
+    (sites_beside w n (λ (s : Site). record s { node = Some (found n hosts content) }) (entry.Booted n k ∷ []) (e, tt) (λ s. refl) (λ s. refl)))
+  where
+    near : w.controller ≡ None → Reads (t ++ entry.Booted 0 k ∷ []) (record w { controller = Some (found n hosts content) })
+    near none = record {
+      book = subst IsProperBook (sym (book_more t (entry.Booted 0 k ∷ []) 0)) (proper_found k (book_in t 0) a.book);
+      due = new_due hosts;
+      read = λ x. subst (λ m. IsReadSo m (creations_at (map new_desk hosts) x))
+          (sym (asking_more x t (entry.Booted 0 k ∷ [])))
+          (subst (IsReadSo (asking_in t x)) (sym (none_asked hosts x)) (subst (λ o. IsReadSo (asking_in t x) (creations_of o x)) none (a.read x)));
+      ends = λ x. subst (λ l. HasSetAside l (link_to w.sites x).controller.side) (sym (none_asked hosts x))
+          (subst (λ o. HasSetAside (creations_of o x) (link_to w.sites x).controller.side) none (a.ends x));
+    }
+
+pub boots_reads : (t : List Entry) (w : NodeWorld) (n : ℕ) → Reads t w → node_at w n ≡ None → Reads (t ++ (boots w n).1) (boots w n).0
+boots_reads t w n a stands =
+    by_boot (λ p. Reads (t ++ p.1) p.0) w n (cut_reads t (boot_written w n) n still)
+    (runs_reads t (boot_written w n) n (count_of (boot_found w n).core.journal) (links_of w n) (memory_at w n).content still (written_off w n stands))
+  where
+    still : Reads t (boot_written w n)
+    still = subst (λ l. Reads l (boot_written w n)) (append-nil t)
+        (beside_reads t w (boot_written w n) [] a (memory_beside w n (after_planned (boot_writes (memory_at w n).content) (memory_at w n))))
+
+-- ## The controller acts
+
+-- an end of a controller that lost its power in a tick is new
+tick_new : (l : Link) (late : Bool) (ts : List Turn)
+    → (role : Role) × ((ticked_so l late ts CutOff).controller.side ≡ new_link_end (renewed role))
+tick_new l late ts = go (late && not (is_waiting l.controller.side.shdlc)) where
+  go : (b : Bool) → (role : Role) × ((cond b (has_input l (Reset None) ts CutOff)
+      (ticks_at_controller l ts CutOff)).controller.side ≡ new_link_end (renewed role))
+  go true = (
+    (sent_all (turned (after_input l.controller.side (Reset None)) ts)).role,
+    refl,
+  )
+  go false = (
+    (sent_all (turned (after_input l.controller.side Tick) ts)).role,
+    refl,
+  )
+
+module _ (hosts : List ℕ) (are : AreHosts hosts) (t : List Entry) (w : NodeWorld) (kept : AllKeep hosts t w) (notices : KeepsNotices t w) (a : Reads t w) where
+  sites_are : hosts_in w.sites ≡ hosts
+  sites_are = kept.hosts_are
+
+  all_hosts : AllByRecursion IsHost (hosts_in w.sites)
+  all_hosts = subst (AllByRecursion IsHost) (sym sites_are) are.all
+
+  shut_at : (n : ℕ) → IsShut (link_to w.sites n).controller.side
+  shut_at n = link_shut w.sites n notices.sites
+
+  rows_of : (r : Running) → w.controller ≡ Some r → AreProper r.core.tables.rows
+  rows_of r e =
+      let runs : RunsSo 0 hosts w.memory.content t r = subst (IfRuns 0 hosts w.memory.content t) e kept.controller.runs in
+      subst (λ (z : HciTables). AreProper z.rows) (sym runs.tables_are) a.book.tables
+
+  -- a desk for each site
+  has_desk : (r : Running) → HasEnds 0 (hosts_in w.sites) r → (x : ℕ) (s : Site) → site_at w.sites x ≡ Some s
+      → (d : Desk) × (find (λ (d : Desk). eqb d.host x) r.desks ≡ Some d)
+  has_desk r has x s q = go r.desks w.sites has.ends q where
+    go : (desks : List Desk) (sites : List Site) → map (λ (d : Desk). d.host) desks ≡ hosts_in sites → site_at sites x ≡ Some s
+        → (d : Desk) × (find (λ (d : Desk). eqb d.host x) desks ≡ Some d)
+    go [] [] e z = absurd (cc z)
+    go [] (y ∷ sites) e z = absurd (cc e)
+    go (d ∷ desks) [] e z = absurd (cc z)
+    go (d ∷ desks) (y ∷ sites) e z = by (cases_Bool (eqb y.host x)) (go desks sites) where
+      one : d.host ≡ y.host
+      one = cc
+
+      others : map (λ (c : Desk). c.host) desks ≡ hosts_in sites
+      others = cc
+
+      by : (eqb y.host x ≡ true) ⊎ (eqb y.host x ≡ false)
+          → (map (λ (c : Desk). c.host) desks ≡ hosts_in sites → site_at sites x ≡ Some s → (d : Desk) × (find (λ (d : Desk). eqb d.host x) desks ≡ Some d))
+          → (c : Desk) × (find (λ (c : Desk). eqb c.host x) (d ∷ desks) ≡ Some c)
+      by (inl is) later = let here : eqb d.host x ≡ true = ap (λ n. eqb n x) one ∙ is in (d, rw here refl)
+      by (inr off) later =
+          let passed : eqb d.host x ≡ false = ap (λ n. eqb n x) one ∙ off in
+          let found_it = later others (rw off at z) in
+          (found_it.0, rw passed found_it.1)
+
+  -- no end where no site is
+  nowhere_map : (f : Site → Site) → ((s : Site) → (f s).host ≡ s.host) → (sites : List Site) (x : ℕ) → site_at sites x ≡ None → site_at (map f sites) x ≡ None
+  nowhere_map f host [] x none = refl
+  nowhere_map f host (s ∷ sites) x none = go (cases_Bool (eqb s.host x)) (nowhere_map f host sites x) where
+    go : (eqb s.host x ≡ true) ⊎ (eqb s.host x ≡ false) → (site_at sites x ≡ None → site_at (map f sites) x ≡ None) → site_at (map f (s ∷ sites)) x ≡ None
+    go (inl is) later = let z : Some s ≡ None = rw is at none in absurd (cc z)
+    go (inr off) later = let there : eqb (f s).host x ≡ false = ap (λ k. eqb k x) (host s) ∙ off in rw there (later (rw off at none))
+
+  ending_out : (k : Work) → k.cut ≡ false → ending_of k ≡ GoesOut
+  ending_out k e = rw e refl
+
+  ending_cut : (k : Work) → k.cut ≡ true → ending_of k ≡ CutOff
+  ending_cut k e = rw e refl
+
+  turns_of : (k : Work) (x : ℕ) (p : Port) → port_at k.ports x ≡ Some p → turns_at k x ≡ p.turns
+  turns_of k x p e = ap (λ o. option_map_or (λ (q : Port). q.turns) o []) e
+
+  -- an end of a controller that lost its power in a step is new
+  step_new : (l : Link) (comes : Comes) (ts : List Turn) (i : LinkInput) → input_of l comes ≡ Some i
+      → (role : Role) × ((steps_at_controller l comes ts CutOff).controller.side ≡ new_link_end (renewed role))
+  step_new l NextFrame ts i e = go l.to_controller refl where
+    go : (xs : List OnWire) → l.to_controller ≡ xs
+        → (role : Role) × ((steps_at_controller l NextFrame ts CutOff).controller.side ≡ new_link_end (renewed role))
+    go [] q = let z : None ≡ Some i = rw q at e in absurd (cc z)
+    go (y ∷ ys) q =
+        let is : steps_at_controller l NextFrame ts CutOff ≡ has_taken l y ys ts CutOff = rw q refl in (
+          (sent_all (turned (after_input l.controller.side (Take y.frame)) ts)).role,
+          ap (λ (k : Link). k.controller.side) is,
+        )
+  step_new l (AsksReset window) ts i e =
+      ((sent_all (turned (after_input l.controller.side (Reset window)) ts)).role, refl)
+  step_new l (Starts value) ts i e = ((sent_all (turned (started l.controller.side value) ts)).role, refl)
+  step_new l Stops ts i e =
+      ((sent_all (turned (deactivated l.controller.side) ts)).role, refl)
+  step_new l NoInput ts i e = absurd (cc e)
+
+  module _ (r : Running) (runs : w.controller ≡ Some r) (has : HasEnds 0 (hosts_in w.sites) r) (ups : IfNoticedUp w.sites (Some r)) where
+    pub near_step : (h : ℕ) (comes : Comes) (i : LinkInput) → input_of (link_to w.sites h) comes ≡ Some i
+        → Reads (t ++ (after_controller w h comes (controller_work w r h comes (steps (AtEnd h i)))).1)
+        (after_controller w h comes (controller_work w r h comes (steps (AtEnd h i)))).0
+    near_step h comes i input =
+        step_reads t w r runs has notices.orderly.different all_hosts ups shut_at (rows_of r runs) a w.memory.plan near_ends same es
+        (arrival_quiet Controller h (link_to w.sites h) comes) (AtEnd h i) (comes_outside (link_to w.sites h) comes i input) frames
+        (far_flat (λ (s : Site). frames_noted Controller s.host (wires_for s.link (comes_to h comes s.host)) k)
+        (λ s. frames_quiet Controller s.host (wires_for s.link (comes_to h comes s.host)) k) w.sites)
+        (after_controller w h comes k).0 refl
+        (λ x none. none_side (map (link_after_controller h comes k) w.sites) x (nowhere_map (link_after_controller h comes k) (λ s. refl) w.sites x none))
+        lost goes
+      where
+        near_ends : ℕ → NumberedEnd
+        near_ends n = near_end_in (link_to w.sites n) (comes_to h comes n)
+
+        same : (n : ℕ) → (near_ends n).side ≡ (link_to w.sites n).controller.side
+        same n = near_end_side (link_to w.sites n) (comes_to h comes n)
+
+        es : List Entry
+        es = entries_for h (arrival Controller (link_to w.sites h) comes)
+
+        k : Work
+        k = controller_work w r h comes (steps (AtEnd h i))
+
+        frames : List Entry
+        frames = flat_map (λ (s : Site). frames_noted Controller s.host (wires_for s.link (comes_to h comes s.host)) k) w.sites
+
+        input_at_site : (x : ℕ) (s : Site) → site_at w.sites x ≡ Some s → eqb x h ≡ true → input_of s.link comes ≡ Some i
+        input_at_site x s q e =
+            ap (λ l. input_of l comes) (sym (ap (link_to w.sites) (sym (eqb-true x h e)) ∙ link_is w.sites x s q)) ∙ input
+
+        there : (x : ℕ) (s : Site) → site_at w.sites x ≡ Some s → (link_to (map (link_after_controller h comes k) w.sites) x).controller.side
+            ≡ (steps_at_controller s.link (cond (eqb x h) comes NoInput) (turns_at k x) (ending_of k)).controller.side
+        there x s q =
+            ap (λ (l : Link). l.controller.side) (link_is (map (link_after_controller h comes k) w.sites) x (link_after_controller h comes k s)
+            (site_map (link_after_controller h comes k) (λ y. refl) w.sites x s q))
+            ∙ ap (λ n. (steps_at_controller s.link (cond (eqb n h) comes NoInput) (turns_at k n) (ending_of k)).controller.side) (site_host w.sites x s q)
+
+        lost : (x : ℕ) (s : Site) → site_at w.sites x ≡ Some s → k.cut ≡ true
+            → (role : Role) × ((link_to (map (link_after_controller h comes k) w.sites) x).controller.side ≡ new_link_end (renewed role))
+        lost x s q e = by (cases_Bool (eqb x h)) where
+          now : (link_to (map (link_after_controller h comes k) w.sites) x).controller.side
+              ≡ (steps_at_controller s.link (cond (eqb x h) comes NoInput) (turns_at k x) CutOff).controller.side
+          now = there x s q ∙ ap (λ z. (steps_at_controller s.link (cond (eqb x h) comes NoInput) (turns_at k x) z).controller.side) (ending_cut k e)
+
+          by : (eqb x h ≡ true) ⊎ (eqb x h ≡ false)
+              → (role : Role) × ((link_to (map (link_after_controller h comes k) w.sites) x).controller.side ≡ new_link_end (renewed role))
+          by (inl is) =
+              let one = step_new s.link comes (turns_at k x) i (input_at_site x s q is) in
+              (one.0, now ∙ (ap (λ b. (steps_at_controller s.link (cond b comes NoInput) (turns_at k x) CutOff).controller.side) is ∙ one.1))
+          by (inr off) = (
+            (sent_all (turned s.link.controller.side (turns_at k x))).role,
+            now ∙ ap (λ b. (steps_at_controller s.link (cond b comes NoInput) (turns_at k x) CutOff).controller.side) off,
+          )
+
+        goes : (x : ℕ) (s : Site) → site_at w.sites x ≡ Some s → k.cut ≡ false
+            → (p : Port) × (port_at k.ports x ≡ Some p) × ((link_to (map (link_after_controller h comes k) w.sites) x).controller.side ≡ sent_all p.side)
+        goes x s q e =
+            let d = has_desk r has x s q in
+            let b : IsBegun t w r runs has notices.orderly.different all_hosts ups shut_at (rows_of r runs) a w.memory.plan near_ends same es
+            (arrival_quiet Controller h (link_to w.sites h) comes) x (port_for (near_ends x) d.0) =
+            begun_at t w r runs has notices.orderly.different all_hosts ups shut_at (rows_of r runs) a w.memory.plan near_ends same es
+            (arrival_quiet Controller h (link_to w.sites h) comes) x d.0 d.1 in
+            let p : Port = port_for (near_ends x) d.0 in
+            let made = near_made x h i (work_of r w.memory.plan near_ends es) p b.here b.turns in
+            let side : p.side ≡ s.link.controller.side = b.side ∙ ap (λ (l : Link). l.controller.side) (link_is w.sites x s q) in (
+              made.port,
+              made.here,
+              there x s q
+                  ∙ (ap (λ z. (steps_at_controller s.link (cond (eqb x h) comes NoInput) (turns_at k x) z).controller.side) (ending_out k e)
+                  ∙ (near_side s.link h x comes i (turns_at k x) p b.host side (λ is. input_at_site x s q is)
+                  ∙ (ap (λ ts. sent_all (turned (has_come p (input_at (AtEnd h i) p)).side ts))
+                  (turns_of k x made.port made.here)
+                  ∙ ap sent_all (sym made.is)))),
+            )
+
+    pub near_tick : (es : List Entry) → Reads (t ++ es) w → Reads ((t ++ es) ++ (controller_ticks (all_aged w).0).1) (controller_ticks (all_aged w).0).0
+    near_tick es before =
+        subst (λ (p : NodeWorld × List Entry). Reads ((t ++ es) ++ p.1) p.0) (sym on_is)
+        (step_reads (t ++ es) w r runs has notices.orderly.different all_hosts ups shut_at
+        (rows_of r runs) before w.memory.plan near_ends same [] tt TimePasses tt
+        frames (far_flat (λ (s : Site). frames_noted Controller s.host s.link k) (λ s. frames_quiet Controller s.host s.link k) (all_aged w).0.sites)
+        ticked_world refl
+        (λ x none. none_side ticked_world.sites x (nowhere_map ticked (λ s. refl) (map older w.sites) x (nowhere_map older (λ s. refl) w.sites x none)))
+        lost goes)
+      where
+        older : Site → Site
+        older s = record s { link = aged s.link }
+
+        near_ends : ℕ → NumberedEnd
+        near_ends n = (link_to (all_aged w).0.sites n).controller
+
+        same : (n : ℕ) → (near_ends n).side ≡ (link_to w.sites n).controller.side
+        same n = side_map older (λ s. refl) (λ s. refl) w.sites n
+
+        k : Work
+        k = steps TimePasses (work_of r w.memory.plan near_ends [])
+
+        ticked : Site → Site
+        ticked s = record s { link = ticked_so s.link (is_late_at k s.host) (turns_at k s.host) (ending_of k) }
+
+        frames : List Entry
+        frames = flat_map (λ (s : Site). frames_noted Controller s.host s.link k) (all_aged w).0.sites
+
+        ticked_world : NodeWorld
+        ticked_world = record { memory = after_planned k.writes w.memory; controller = runs_on k; sites = map ticked (all_aged w).0.sites }
+
+        on_is : controller_ticks (all_aged w).0 ≡ (ticked_world, k.entries ++ frames)
+        on_is = rw runs refl
+
+        there : (x : ℕ) (s : Site) → site_at w.sites x ≡ Some s → (link_to ticked_world.sites x).controller.side
+            ≡ (ticked_so (aged s.link) (is_late_at k x) (turns_at k x) (ending_of k)).controller.side
+        there x s q =
+            ap (λ (l : Link). l.controller.side) (link_is ticked_world.sites x (ticked (older s))
+            (site_map ticked (λ y. refl) (map older w.sites) x (older s) (site_map older (λ y. refl) w.sites x s q)))
+            ∙ ap (λ n. (ticked_so (aged s.link) (is_late_at k n) (turns_at k n) (ending_of k)).controller.side) (site_host w.sites x s q)
+
+        lost : (x : ℕ) (s : Site) → site_at w.sites x ≡ Some s → k.cut ≡ true
+            → (role : Role) × ((link_to ticked_world.sites x).controller.side ≡ new_link_end (renewed role))
+        lost x s q e =
+            let one = tick_new (aged s.link) (is_late_at k x) (turns_at k x) in (
+              one.0,
+              there x s q
+                  ∙ (ap (λ z. (ticked_so (aged s.link) (is_late_at k x) (turns_at k x) z).controller.side) (ending_cut k e) ∙ one.1),
+            )
+
+        goes : (x : ℕ) (s : Site) → site_at w.sites x ≡ Some s → k.cut ≡ false
+            → (p : Port) × (port_at k.ports x ≡ Some p) × ((link_to ticked_world.sites x).controller.side ≡ sent_all p.side)
+        goes x s q e =
+            let d = has_desk r has x s q in
+            let b : IsBegun (t ++ es) w r runs has notices.orderly.different all_hosts ups shut_at (rows_of r runs) before w.memory.plan near_ends same [] tt x
+            (port_for (near_ends x) d.0) =
+            begun_at (t ++ es) w r runs has notices.orderly.different all_hosts ups shut_at
+            (rows_of r runs) before w.memory.plan near_ends same [] tt x d.0 d.1 in
+            let p : Port = port_for (near_ends x) d.0 in
+            let made = tick_made x (work_of r w.memory.plan near_ends []) p b.here b.turns in
+            let side : p.side ≡ (aged s.link).controller.side = b.side ∙ ap (λ (l : Link). l.controller.side) (link_is w.sites x s q) in
+            let late : is_late_at k x ≡ (after_tick p).late = ap (λ o. option_map_or (λ (q : Port). q.late) o false) made.here ∙ made.late_is in (
+              made.port,
+              made.here,
+              there x s q
+                  ∙ (ap (λ z. (ticked_so (aged s.link) (is_late_at k x) (turns_at k x) z).controller.side) (ending_out k e)
+                  ∙ (ap (λ z. (ticked_so (aged s.link) z (turns_at k x) GoesOut).controller.side) late
+                  ∙ (tick_side (aged s.link) (turns_at k x) p side b.late b.up (subst IsShut (sym b.side) (shut_at x))
+                  ∙ (ap (λ ts. sent_all (turned (after_tick p).side ts)) (turns_of k x made.port made.here) ∙ ap sent_all (sym made.is))))),
+            )

@@ -1,0 +1,280 @@
+-- Whatever happens, no end of a host has a block set aside.
+use Rattle.std.proofs.Common.{◌≡◌, ◌⊎◌, inl, inr, ℕ, ◌&&◌, Bool, true, false, not, eqb, List, [], ◌∷◌, map, sym, refl, ap, ◌∙◌, subst}
+use Rattle.std.specs.Prelude.{Option, Some, None}
+use Rattle.std.specs.List.{AllByRecursion}
+use Rattle.std.proofs.lemmas.Bool.{cases_Bool, cond_both}
+use Rattle.swp_base.specs.InMemory.{Memory}
+use Rattle.journal_laws.specs.Planned.{after_planned}
+use Rattle.trace_model.specs.declared.entry.Entry.{Entry}
+use Rattle.trace_model.specs.declared.line.End.{End}
+use Rattle.shdlc_core.specs.Machine.{is_waiting}
+use Rattle.link_laws.specs.machine.Machine.{LinkInput, Turn}
+use Rattle.link_laws.specs.machine.Machine.LinkInput.{Reset}
+use Rattle.link_laws.specs.messages.Links.{NumberedEnd, Link, Comes, EndEvent, Ending, Loss, aged, exchanged, happens, has_input, ticks_at_controller}
+use Rattle.link_laws.specs.messages.Links.Ending.{CutOff, GoesOut}
+use Rattle.link_laws.specs.messages.Links.Comes.{NextFrame, AsksReset, Starts, NoInput}
+use Rattle.link_laws.specs.messages.Links.EndEvent.{Step, Lose}
+use Rattle.link_laws.specs.messages.Links.LinkEvent.{AtController}
+use Rattle.history.specs.Steps.{at, entries_for}
+use Rattle.link_laws.specs.entries.Entries.End.{Host}
+use Rattle.history.specs.Follows.{seen_from}
+use Rattle.node_machine.specs.Parts.{Desk, Port, Running, Work, Deed}
+use Rattle.node_machine.specs.Carrying.{changed_if}
+use Rattle.node_machine.specs.Node.{steps, begins_with, boot_writes}
+use Rattle.node_machine.specs.Node.NodeInput.{AtEnd, TimePasses}
+use Rattle.node_machine.specs.world.World.{NodeWorld, Site, Happening, memory_at, site_at, with_site, with_memory, link_to, ending_of, turns_at}
+use Rattle.node_machine.specs.world.World.{input_of, near_end_in, arrival, port_for, work_of, comes_to, controller_work, link_after_controller}
+use Rattle.node_machine.specs.world.World.{after_controller}
+use Rattle.node_machine.specs.world.World.{controller_does, host_work, after_host, host_does, host_cut, loses_power_at, boots, counts, frame_lost}
+use Rattle.node_machine.specs.world.World.{all_aged, is_late_at, ticked_so, controller_ticks, host_ticks, hosts_tick, comes_at, sending, beginning}
+use Rattle.node_machine.specs.world.World.{new_site, end_c}
+use Rattle.node_machine.specs.world.World.{end_h, world_step}
+use Rattle.node_machine.specs.world.World.Happening.{Boots, IsCut, Gives, Inits, Takes, Loses, Ticks, Resets, Activates, Arms}
+use Rattle.node_laws.proofs.links.Ends.{here_host}
+use Rattle.link_laws.proofs.entries.Together.{ticks_host as tick_host}
+use Rattle.node_laws.specs.notices.Worlds.{IfHostNode, IsGoodSite, KeepsNotices}
+use Rattle.node_laws.proofs.notices.Own.{AreOwn}
+use Rattle.node_laws.proofs.notices.Sites.{AreGood, good_at, sending_own, beginning_own}
+use Rattle.node_laws.proofs.notices.Near.{comes_reads as notices_come}
+use Rattle.node_laws.specs.creations.Worlds.{HasNoneAside}
+use Rattle.node_laws.proofs.creations.HostSides.{SetsNoneAside, SetNone, step_none, tick_none, all_do, steps_none, none_at}
+use Rattle.node_machine.proofs.world.Cases.{by_memory, by_running, by_power, boot_written, boot_found, by_boot}
+
+abbrev pub HaveNoneAside : List Site → Type 0
+HaveNoneAside sites = AllByRecursion HasNoneAside sites
+
+none_map : (f : Site → Site) → ((s : Site) → HasNoneAside s → HasNoneAside (f s)) → (sites : List Site) → HaveNoneAside sites → HaveNoneAside (map f sites)
+none_map f one [] a = tt
+none_map f one (s ∷ sites) a = (one s a.0, none_map f one sites a.1)
+
+none_with : (h : ℕ) (f : Site → Site) → ((s : Site) → HasNoneAside s → HasNoneAside (f s)) → (sites : List Site) → HaveNoneAside sites
+    → HaveNoneAside (with_site h f sites)
+none_with h f one sites a = none_map (λ (s : Site). changed_if (eqb s.host h) f s) (λ s b. go (eqb s.host h) s b) sites a where
+  go : (c : Bool) (s : Site) → HasNoneAside s → HasNoneAside (changed_if c f s)
+  go true s b = one s b
+  go false s b = b
+
+-- what happens at the controller's end leaves the host's
+near_same : (l : Link) (x : EndEvent) → l.host.side.aside ≡ 0 → (happens l (AtController x)).host.side.aside ≡ 0
+near_same l x a = ap (λ (h : NumberedEnd). h.side.aside) (here_host l x) ∙ a
+
+ticked_same : (l : Link) (late : Bool) (ts : List Turn) (ending : Ending) → l.host.side.aside ≡ 0 → (ticked_so l late ts ending).host.side.aside ≡ 0
+ticked_same l late ts ending a =
+    cond_both (late && not (is_waiting l.controller.side.shdlc)) (has_input l (Reset None) ts ending) (ticks_at_controller l ts ending)
+    (λ (m : Link). m.host.side.aside ≡ 0) (λ _. near_same l (Step (AsksReset None) ts ending) a)
+    (λ _. ap (λ (h : NumberedEnd). h.side.aside) (tick_host l ts ending) ∙ a)
+
+-- ## Hosts act
+
+host_none : (w : NodeWorld) (h : ℕ) (comes : Comes) (f : Work → Work) → AreGood w.sites → ((k : Work) → SetsNoneAside k → SetsNoneAside (f k))
+    → HaveNoneAside w.sites → HaveNoneAside (host_does w h comes f).0.sites
+host_none w h comes f good keeps a = by_site (site_at w.sites h) refl where
+  none_is : site_at w.sites h ≡ None → (host_does w h comes f).0 ≡ w
+  none_is e = rw e refl
+
+  off_is : (s : Site) → site_at w.sites h ≡ Some s → s.node ≡ None → (host_does w h comes f).0 ≡ w
+  off_is s here e = rw here (rw e refl)
+
+  on_is : (s : Site) (r : Running) → site_at w.sites h ≡ Some s → s.node ≡ Some r
+      → (host_does w h comes f).0 ≡ record w { sites = with_site h (after_host comes (host_work s r comes f)) w.sites }
+  on_is s r here e = rw here (rw e refl)
+
+  Fine : NodeWorld → Type 0
+  Fine v = HaveNoneAside v.sites
+
+  start_none : (r : Running) (near_ends : ℕ → NumberedEnd) → AllByRecursion (λ (p : Port). SetNone p.turns)
+      (map (λ (d : Desk). port_for (near_ends d.host) d) r.desks)
+  start_none r near_ends = go r.desks where
+    go : (desks : List Desk) → AllByRecursion (λ (p : Port). SetNone p.turns)
+        (map (λ (d : Desk). port_for (near_ends d.host) d) desks)
+    go [] = tt
+    go (d ∷ desks) = (tt, go desks)
+
+  by_node : (s : Site) → site_at w.sites h ≡ Some s → IsGoodSite s → (o : Option Running) → s.node ≡ o → Fine (host_does w h comes f).0
+  by_node s here fine None e = subst Fine (sym (off_is s here e)) a
+  by_node s here fine (Some r) e =
+      subst Fine (sym (on_is s r here e))
+      (none_with h (after_host comes k) (λ z b. step_none (exchanged z.link) comes (turns_at k z.host) (ending_of k) (none_at k z.host none) b) w.sites a)
+    where
+      k : Work
+      k = host_work s r comes f
+
+      none : SetsNoneAside k
+      none =
+          keeps (work_of r s.memory.plan (λ n. near_end_in (exchanged s.link) comes) (entries_for s.host
+          (arrival Host (exchanged s.link) comes)))
+          (record { number = subst IfHostNode e fine.node; turns = start_none r (λ n. near_end_in (exchanged s.link) comes) })
+
+  by_site : (o : Option Site) → site_at w.sites h ≡ o → Fine (host_does w h comes f).0
+  by_site None e = subst Fine (sym (none_is e)) a
+  by_site (Some s) e = by_node s e (good_at w.sites h s good e) s.node refl
+
+comes_none : (w : NodeWorld) (e : End) (comes : Comes) → AreGood w.sites → HaveNoneAside w.sites → HaveNoneAside (comes_at w e comes).0.sites
+comes_none w e comes good a = go (input_of (seen_from e (link_to w.sites e.link)) comes) refl (cases_Bool e.at_host) where
+  Fine : NodeWorld → Type 0
+  Fine v = HaveNoneAside v.sites
+
+  none_is : input_of (seen_from e (link_to w.sites e.link)) comes ≡ None → (comes_at w e comes).0 ≡ w
+  none_is q = rw q refl
+
+  near_is : (i : LinkInput) → input_of (seen_from e (link_to w.sites e.link)) comes ≡ Some i → e.at_host ≡ false
+      → (comes_at w e comes).0 ≡ (controller_does w e.link comes (steps (AtEnd e.link i))).0
+  near_is i q b = rw q (rw b refl)
+
+  far_is : (i : LinkInput) → input_of (seen_from e (link_to w.sites e.link)) comes ≡ Some i → e.at_host ≡ true
+      → (comes_at w e comes).0 ≡ (host_does w e.link comes (steps (AtEnd e.link i))).0
+  far_is i q b = rw q (rw b refl)
+
+  near : (i : LinkInput) → Fine (controller_does w e.link comes (steps (AtEnd e.link i))).0
+  near i = by_node w.controller refl where
+    off_is : w.controller ≡ None → (controller_does w e.link comes (steps (AtEnd e.link i))).0 ≡ w
+    off_is z = rw z refl
+
+    on_is : (r : Running) → w.controller ≡ Some r → (controller_does w e.link comes (steps (AtEnd e.link i))).0
+        ≡ (after_controller w e.link comes (controller_work w r e.link comes (steps (AtEnd e.link i)))).0
+    on_is r z = rw z refl
+
+    by_node : (o : Option Running) → w.controller ≡ o → Fine (controller_does w e.link comes (steps (AtEnd e.link i))).0
+    by_node None z = subst Fine (sym (off_is z)) a
+    by_node (Some r) z =
+        let k : Work = controller_work w r e.link comes (steps (AtEnd e.link i)) in
+        subst Fine (sym (on_is r z)) (none_map (link_after_controller e.link comes k)
+        (λ s b. near_same s.link (Step (comes_to e.link comes s.host) (turns_at k s.host) (ending_of k)) b) w.sites a)
+
+  go : (o : Option LinkInput) → input_of (seen_from e (link_to w.sites e.link)) comes ≡ o → (e.at_host ≡ true) ⊎ (e.at_host ≡ false)
+      → Fine (comes_at w e comes).0
+  go None q side = subst Fine (sym (none_is q)) a
+  go (Some i) q (inl far) =
+      subst Fine (sym (far_is i q far)) (host_none w e.link comes (steps (AtEnd e.link i)) good (λ k b. steps_none (AtEnd e.link i) k b) a)
+  go (Some i) q (inr off) = subst Fine (sym (near_is i q off)) (near i)
+
+begins_none : (w : NodeWorld) (h : ℕ) (deeds : List Deed) → AreGood w.sites → AreOwn deeds → HaveNoneAside w.sites
+    → HaveNoneAside (host_does w h NoInput (begins_with h deeds)).0.sites
+begins_none w h deeds good own a = host_none w h NoInput (begins_with h deeds) good (λ k b. all_do h deeds k own b) a
+
+-- ## Power and memories
+
+-- no host has a block set aside
+abbrev AsideNowhere : NodeWorld → Type 0
+AsideNowhere w = HaveNoneAside w.sites
+
+memory_none : (w : NodeWorld) (n : ℕ) (m : Memory) → HaveNoneAside w.sites → HaveNoneAside (with_memory n m w).sites
+memory_none w n m a =
+    by_memory AsideNowhere n w m (λ _. a) (λ _. none_with n (λ (s : Site). record s { memory = m }) (λ s b. b) w.sites a)
+
+cut_none : (w : NodeWorld) (n : ℕ) → HaveNoneAside w.sites → HaveNoneAside (loses_power_at n w).sites
+cut_none w n a =
+    by_power AsideNowhere n w
+    (λ _. none_map (λ (s : Site). record s { link = happens s.link (AtController (Step NoInput [] CutOff)) })
+    (λ s b. near_same s.link (Step NoInput [] CutOff) b) w.sites a)
+    (λ _. none_with n host_cut (λ s b. step_none (exchanged s.link) NoInput [] CutOff tt b) w.sites a)
+
+boots_none : (w : NodeWorld) (n : ℕ) → HaveNoneAside w.sites → HaveNoneAside (boots w n).0.sites
+boots_none w n a =
+    let v : NodeWorld = boot_written w n in
+    let still : HaveNoneAside v.sites = memory_none w n (after_planned (boot_writes (memory_at w n).content) (memory_at w n)) a in
+    by_boot (λ (p : NodeWorld × List Entry). HaveNoneAside p.0.sites) w n (cut_none v n still)
+    (by_running AsideNowhere n v (boot_found w n) (λ _. still)
+    (λ _. none_with n (λ (s : Site). record s { node = Some (boot_found w n) }) (λ s b. b) v.sites still))
+
+lost_none : (w : NodeWorld) (e : End) (why : Loss) → HaveNoneAside w.sites → HaveNoneAside (frame_lost w e why).0.sites
+lost_none w e why a = by_side (cases_Bool e.at_host) where
+  lost : Site → Site
+  lost s = record s { link = happens s.link (at e (Lose why)) }
+
+  one : (s : Site) → HasNoneAside s → HasNoneAside (lost s)
+  one s b = go e.at_host refl where
+    go : (c : Bool) → e.at_host ≡ c → (happens s.link (at e (Lose why))).host.side.aside ≡ 0
+    go true q = rw q b
+    go false q = rw q b
+
+  near_is : e.at_host ≡ false → (frame_lost w e why).0.sites ≡ with_site e.link lost w.sites
+  near_is b = rw b refl
+
+  far_is : e.at_host ≡ true
+      → (frame_lost w e why).0.sites ≡ with_site e.link (λ (s : Site). record (lost s) { node = counts why e.link s.node }) w.sites
+  far_is b = rw b refl
+
+  by_side : (e.at_host ≡ true) ⊎ (e.at_host ≡ false) → HaveNoneAside (frame_lost w e why).0.sites
+  by_side (inl b) =
+      subst HaveNoneAside (sym (far_is b)) (none_with e.link (λ (s : Site). record (lost s) { node = counts why e.link s.node }) one w.sites a)
+  by_side (inr b) = subst HaveNoneAside (sym (near_is b)) (none_with e.link lost one w.sites a)
+
+-- ## Time
+
+host_tick_none : (s : Site) → IsGoodSite s → HasNoneAside s → HasNoneAside (host_ticks s).0
+host_tick_none s good a = by_node s.node refl good.node where
+  k : Running → Work
+  k r = steps TimePasses (work_of r s.memory.plan (λ h. s.link.host) [])
+
+  off_is : s.node ≡ None → (host_ticks s).0.link ≡ exchanged (ticks_at_controller (exchanged s.link) [] GoesOut)
+  off_is e = rw e refl
+
+  on_is : (r : Running) → s.node ≡ Some r
+      → (host_ticks s).0.link ≡ exchanged (ticks_at_controller (exchanged s.link) (turns_at (k r) s.host) (ending_of (k r)))
+  on_is r e = rw e refl
+
+  start_none : (r : Running) → AllByRecursion (λ (p : Port). SetNone p.turns)
+      (map (λ (d : Desk). port_for s.link.host d) r.desks)
+  start_none r = go r.desks where
+    go : (desks : List Desk) → AllByRecursion (λ (p : Port). SetNone p.turns)
+        (map (λ (d : Desk). port_for s.link.host d) desks)
+    go [] = tt
+    go (d ∷ desks) = (tt, go desks)
+
+  by_node : (o : Option Running) → s.node ≡ o → IfHostNode o → HasNoneAside (host_ticks s).0
+  by_node None e node = ap (λ (l : Link). l.host.side.aside) (off_is e) ∙ tick_none (exchanged s.link) [] GoesOut tt a
+  by_node (Some r) e node =
+      ap (λ (l : Link). l.host.side.aside) (on_is r e)
+      ∙ tick_none (exchanged s.link) (turns_at (k r) s.host) (ending_of (k r))
+      (none_at (k r) s.host (steps_none TimePasses (work_of r s.memory.plan (λ h. s.link.host) []) (record { number = node; turns = start_none r }))) a
+
+all_ticked : (sites : List Site) → AreGood sites → HaveNoneAside sites → HaveNoneAside (hosts_tick sites).0
+all_ticked [] good a = tt
+all_ticked (s ∷ sites) good a = (host_tick_none s good.0 a.0, all_ticked sites good.1 a.1)
+
+near_none : (w : NodeWorld) → HaveNoneAside w.sites → HaveNoneAside (controller_ticks w).0.sites
+near_none w a = go w.controller refl where
+  k : Running → Work
+  k r = steps TimePasses (work_of r w.memory.plan (λ h. (link_to w.sites h).controller) [])
+
+  off_is : w.controller ≡ None → (controller_ticks w).0.sites ≡ map (λ (s : Site). record s { link = ticks_at_controller s.link [] GoesOut }) w.sites
+  off_is e = rw e refl
+
+  on_is : (r : Running) → w.controller ≡ Some r → (controller_ticks w).0.sites
+      ≡ map (λ (s : Site). record s { link = ticked_so s.link (is_late_at (k r) s.host) (turns_at (k r) s.host) (ending_of (k r)) }) w.sites
+  on_is r e = rw e refl
+
+  go : (o : Option Running) → w.controller ≡ o → HaveNoneAside (controller_ticks w).0.sites
+  go None e = subst HaveNoneAside (sym (off_is e)) (none_map (λ (s : Site). record s { link = ticks_at_controller s.link [] GoesOut })
+      (λ s b. ap (λ (h : NumberedEnd). h.side.aside) (tick_host s.link [] GoesOut) ∙ b) w.sites a)
+  go (Some r) e = subst HaveNoneAside (sym (on_is r e)) (none_map
+      (λ (s : Site). record s { link = ticked_so s.link (is_late_at (k r) s.host) (turns_at (k r) s.host) (ending_of (k r)) })
+      (λ s b. ticked_same s.link (is_late_at (k r) s.host) (turns_at (k r) s.host) (ending_of (k r)) b) w.sites a)
+
+pub aged_none : (w : NodeWorld) → HaveNoneAside w.sites → HaveNoneAside (all_aged w).0.sites
+aged_none w a = none_map (λ (s : Site). record s { link = aged s.link }) (λ s b. b) w.sites a
+
+-- ## Events
+
+pub event_none : (t : List Entry) (w : NodeWorld) (c : Happening) → KeepsNotices t w → AreGood (controller_ticks (all_aged w).0).0.sites → HaveNoneAside w.sites
+    → HaveNoneAside (world_step w c).0.sites
+event_none t w (Boots n) notices ticked a = boots_none w n a
+event_none t w (IsCut n) notices ticked a = cut_none w n a
+event_none t w (Gives e m) notices ticked a = begins_none w e.link (sending e.link m) notices.sites (sending_own e.link m) a
+event_none t w (Inits e identity pipes) notices ticked a =
+    begins_none w e.link (beginning identity pipes) notices.sites (beginning_own identity pipes) a
+event_none t w (Takes e) notices ticked a = comes_none w e NextFrame notices.sites a
+event_none t w (Loses e why) notices ticked a = lost_none w e why a
+event_none t w Ticks notices ticked a =
+    all_ticked (controller_ticks (all_aged w).0).0.sites ticked (near_none (all_aged w).0 (aged_none w a))
+event_none t w (Resets e window) notices ticked a = comes_none w e (AsksReset window) notices.sites a
+event_none t w (Activates h sync power) notices ticked a =
+    let near : NodeWorld × List Entry = comes_at w (end_c h) (Starts power) in
+    let good = notices_come t w notices.orderly notices.up (record { sites = notices.sites; reads_so = notices.controller }) (end_c h) (Starts power) in
+    comes_none near.0 (end_h h) (Starts sync) good.sites (comes_none w (end_c h) (Starts power) notices.sites a)
+event_none t w (Arms n plan) notices ticked a = memory_none w n (record (memory_at w n) { plan = Some plan }) a
+
+pub new_none : (content hosts : List ℕ) → HaveNoneAside (map (new_site content) hosts)
+new_none content [] = tt
+new_none content (h ∷ hosts) = (refl, new_none content hosts)

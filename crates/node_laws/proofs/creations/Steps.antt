@@ -1,0 +1,397 @@
+-- A whole step of a controller: the creation that a host asked for stays the one that is read.
+use Rattle.std.proofs.Common.{◌≡◌, ◌⊎◌, inl, inr, ℕ, ◌+◌, ◌-◌, ◌&&◌, Bool, true, false, not, cond, eqb, List, [], ◌∷◌, ◌++◌, length, map, sym, refl, ap, ◌∙◌}
+use Rattle.std.proofs.Common.{subst, append-nil, arith}
+use Rattle.std.specs.Prelude.{Option, Some, None}
+use Rattle.std.specs.List.{AllByRecursion, flat_map, filter, filter_map}
+use Rattle.std.specs.Option.{option_map, option_map_or}
+use Rattle.std.proofs.lemmas.Bool.{cases_Bool, eqb-true}
+use Rattle.trace_model.specs.Lines.{IsHost}
+use Rattle.trace_model.specs.declared.entry.Entry.{Entry}
+use Rattle.hci_tables.specs.declared.command.Command.TheVariants.{Sync}
+use Rattle.hci_tables.specs.Tables.{HciTables, is_kept_sync}
+use Rattle.gate_answers.specs.declared.response.Response.{Response}
+use Rattle.gate_answers.specs.declared.response.Response.TheVariants as response
+use Rattle.gate_answers.specs.Answers.{answer_of}
+use Rattle.link_laws.specs.machine.Machine.{LinkInput, report}
+use Rattle.link_laws.specs.machine.Machine.Turn.{Release}
+use Rattle.node_machine.specs.Parts.{Creation, Notice, Core, Port, Work, Deed}
+use Rattle.node_machine.specs.Parts.Deed.{Commits, Releases, Sends}
+use Rattle.node_machine.specs.Parts.About.{Forgotten}
+use Rattle.node_machine.specs.Carrying.{unless_cut, port_at, turn_at, commit, all_done, finds_room}
+use Rattle.node_machine.specs.Controller.{asked_at, creation_in}
+use Rattle.node_machine.specs.Turns.{passes}
+use Rattle.node_machine.specs.Node.{NodeInput, input_at, all_come, times_out, is_over, is_over_at, is_forgotten, forgets, forgotten, owed, all_owed}
+use Rattle.node_machine.specs.Node.{without_notice, after_sessions, synced, answers_and_passes, steps}
+use Rattle.node_machine.specs.Node.NodeInput.{AtEnd, TimePasses}
+use Rattle.node_machine.specs.world.NodeFilters.{is_response}
+use Rattle.node_laws.specs.links.Notices.{IsOutside}
+use Rattle.node_laws.proofs.links.Noticing.{UpAt, at_all}
+use Rattle.node_laws.proofs.telling.Steps.{without_same, forgets_same}
+use Rattle.node_laws.specs.kept.Hosts.{AreDifferent}
+use Rattle.node_laws.proofs.kept.Plainly.{hosts_map}
+use Rattle.node_laws.specs.readings.Orders.{IsFresh}
+use Rattle.node_laws.specs.notices.Worlds.{IsShut}
+use Rattle.node_laws.specs.creations.Creations.{IsReadSo}
+use Rattle.node_laws.specs.creations.Worlds.{IsProperCommand, AreProper, IsAwaited, IfAwaited}
+use Rattle.node_laws.proofs.creations.Asks.{Asked, asked_of, waits, owes, owes-append, forgot, stays, ended_of, late_of, Parts, owed_parts}
+use Rattle.node_laws.proofs.creations.Doing.{EndHas, EndAt, IsOn, IsOff, Good, many, reading, on_is, released, commits}
+use Rattle.node_laws.proofs.creations.Deeds.{Fine, then, then_fine, pays_then}
+use Rattle.node_laws.proofs.creations.Turning.{passes_good}
+use Rattle.node_laws.proofs.creations.Coming.{ComeAt, AreFlagged, HasCome, came_near, came_tick, over_at}
+use Rattle.node_laws.proofs.notices.Steps.{sessions_tables}
+use Rattle.registry.proofs.ValueLemmas.{AllByRecursion-append as all_joined}
+use Rattle.node_laws.proofs.steps.Ports.{forgets_host, sessions_node, without_host}
+
+answer_response : (r : Response) → is_response (answer_of r []) ≡ true
+answer_response response.Ok = refl
+answer_response response.NotConnected = refl
+answer_response response.CommandParameterUnknown = refl
+answer_response response.NotOk = refl
+answer_response response.NoPipesAvailable = refl
+answer_response response.RegistryParameterUnknown = refl
+answer_response response.PipeNotOpened = refl
+answer_response response.CommandNotSupported = refl
+answer_response response.Inhibited = refl
+answer_response response.Timeout = refl
+answer_response response.RegistryAccessDenied = refl
+answer_response response.PipeAccessDenied = refl
+
+-- ## What is due
+
+abbrev AllAwaited : List Port → Type 0
+AllAwaited ports = AllByRecursion (λ (p : Port). IfAwaited (asked_at p)) ports
+
+pub due_ports : (ports : List Port) → AllByRecursion (λ (e : ℕ × Option Creation). IfAwaited e.1) (asked_of ports) → AllAwaited ports
+due_ports [] a = tt
+due_ports (p ∷ ports) a = (a.0, due_ports ports a.1)
+
+pub ports_due : (ports : List Port) → AllAwaited ports → AllByRecursion (λ (e : ℕ × Option Creation). IfAwaited e.1) (asked_of ports)
+ports_due [] a = tt
+ports_due (p ∷ ports) a = (a.0, ports_due ports a.1)
+
+due_map : (f : Port → Port) → ((p : Port) → IfAwaited (asked_at p) → IfAwaited (asked_at (f p))) → (ports : List Port) → AllAwaited ports
+    → AllAwaited (map f ports)
+due_map f one [] a = tt
+due_map f one (p ∷ ports) a = (one p a.0, due_map f one ports a.1)
+
+forgets_due : (all : List Port) (p : Port) → IfAwaited (asked_at p) → IfAwaited (asked_at (forgets all p))
+forgets_due all p a = go (is_forgotten all (asked_at p)) refl where
+  by : (o : Option Notice) → IfAwaited (creation_in (option_map_or (λ (n : Notice). Some (record n { about = Forgotten })) o None))
+  by None = tt
+  by (Some n) = tt
+
+  go : (b : Bool) → is_forgotten all (asked_at p) ≡ b → IfAwaited (asked_at (forgets all p))
+  go true e = rw e (by p.desk.notice)
+  go false e = rw e a
+
+without_due : (p : Port) → IfAwaited (asked_at p) → IfAwaited (asked_at (without_notice p))
+without_due p a = go (is_over p) refl where
+  go : (b : Bool) → is_over p ≡ b → IfAwaited (asked_at (without_notice p))
+  go true e = rw e tt
+  go false e = rw e a
+
+owed_due : (test : Port → Bool) (ports : List Port) → AllAwaited ports → AllByRecursion IsAwaited (filter_map asked_at (filter test ports))
+owed_due test [] a = tt
+owed_due test (p ∷ ports) a = by_test (test p) refl (owed_due test ports a.1) where
+  by_test : (b : Bool) → test p ≡ b → AllByRecursion IsAwaited (filter_map asked_at (filter test ports))
+      → AllByRecursion IsAwaited (filter_map asked_at (filter test (p ∷ ports)))
+  by_test false e later = rw e later
+  by_test true e later = by_creation (asked_at p) refl a.0 where
+    by_creation : (o : Option Creation) → asked_at p ≡ o → IfAwaited o → AllByRecursion IsAwaited (filter_map asked_at (filter test (p ∷ ports)))
+    by_creation None q due = rw (e, q) later
+    by_creation (Some c) q due = rw (e, q) (due, later)
+
+-- ## What stays of an end
+
+forgets_ended : (all : List Port) (p : Port) → (forgets all p).ended ≡ p.ended
+forgets_ended all p = go (is_forgotten all (asked_at p)) refl where
+  go : (b : Bool) → is_forgotten all (asked_at p) ≡ b → (forgets all p).ended ≡ p.ended
+  go true e = rw e refl
+  go false e = rw e refl
+
+flags_left : (all ports : List Port) → AreFlagged ports → AreFlagged (map (forgets all) ports)
+flags_left all [] f = tt
+flags_left all (p ∷ ports) f = ((λ z. forgets_ended all p ∙ f.0 (sym (forgets_same all p).late ∙ z)), flags_left all ports f.1)
+
+-- the creations of this asker among those that are forgotten
+freed_are : (x : ℕ) (all ports : List Port) → owes x (filter (λ (c : Creation). is_over_at all c.asker) (filter_map asked_at ports))
+    ≡ cond (is_over_at all x) (waits x (asked_of ports)) []
+freed_are x all [] = go [] (is_over_at all x) where
+  go : (l : List Creation) (b : Bool) → l ≡ cond b l l
+  go l true = refl
+  go l false = refl
+freed_are x all (p ∷ ports) = by_creation (asked_at p) refl (freed_are x all ports) where
+  l : List Creation
+  l = filter (λ (c : Creation). is_over_at all c.asker) (filter_map asked_at ports)
+
+  w : List Creation
+  w = waits x (asked_of ports)
+
+  Goal : Type 0
+  Goal = owes x (filter (λ (c : Creation). is_over_at all c.asker) (filter_map asked_at (p ∷ ports)))
+      ≡ cond (is_over_at all x) (waits x (asked_of (p ∷ ports))) []
+
+  by_creation : (o : Option Creation) → asked_at p ≡ o → owes x l ≡ cond (is_over_at all x) w [] → Goal
+  by_creation None q later = rw q later
+  by_creation (Some c) q later = by_asker (cases_Bool (eqb c.asker x)) (cases_Bool (is_over_at all c.asker)) where
+    by_asker : (eqb c.asker x ≡ true) ⊎ (eqb c.asker x ≡ false) → (is_over_at all c.asker ≡ true) ⊎ (is_over_at all c.asker ≡ false) → Goal
+    by_asker (inl is) (inl over) =
+        let here : is_over_at all x ≡ true = ap (is_over_at all) (sym (eqb-true c.asker x is)) ∙ over in
+        let same : owes x l ≡ w = later ∙ ap (λ b. cond b w []) here in
+        rw (q, over, is, here) (ap (λ k. c ∷ k) same)
+    by_asker (inl is) (inr off) =
+        let here : is_over_at all x ≡ false = ap (is_over_at all) (sym (eqb-true c.asker x is)) ∙ off in
+        let same : owes x l ≡ [] = later ∙ ap (λ b. cond b w []) here in
+        rw (q, off, here) same
+    by_asker (inr else) (inl over) = rw (q, over, else) later
+    by_asker (inr else) (inr off) = rw (q, off, else) later
+
+module _ (x : ℕ) (before : List Entry) (hosts : List ℕ) where
+  -- blocks are freed, one after another
+  pub frees : (asked : Asked) (owing : List Creation) (j : ℕ) (cs : List Creation) (w : Work) → IsOn x before hosts asked owing (length (owes x cs) + j) w
+      → IsOn x before hosts asked owing j (all_done 0 (map (λ (c : Creation). Releases c.asker) cs) w)
+  frees asked owing j [] w a = subst (λ n. IsOn x before hosts asked owing n w) (omega arith) a
+  frees asked owing j (c ∷ cs) w a =
+      let u : Work = turn_at c.asker Release w in
+      let n : ℕ = length (owes x (c ∷ cs)) + j in
+      let first : IsOn x before hosts asked owing (cond (eqb c.asker x) (n - 1) n) u = released x before hosts asked owing n c.asker w a in
+      let less : cond (eqb c.asker x) (n - 1) n ≡ length (owes x cs) + j = go (cases_Bool (eqb c.asker x)) in
+      let next : IsOn x before hosts asked owing (length (owes x cs) + j) u = subst (λ k. IsOn x before hosts asked owing k u) less first in
+      subst (IsOn x before hosts asked owing j) (sym (on_is x before hosts (all_done 0 (map (λ (c : Creation). Releases c.asker) cs)) u next.on))
+      (frees asked owing j cs u next)
+    where
+      go : (eqb c.asker x ≡ true) ⊎ (eqb c.asker x ≡ false)
+          → cond (eqb c.asker x) ((length (owes x (c ∷ cs)) + j) - 1) (length (owes x (c ∷ cs)) + j) ≡ length (owes x cs) + j
+      go (inl e) = rw e (omega arith)
+      go (inr e) = rw e refl
+
+  -- identifiers are kept
+  abbrev IsKept : Deed → Type 0
+  IsKept (Commits c) = IsProperCommand c
+  IsKept _ = ⊥
+
+  kept_append : (ds es : List Deed) → AllByRecursion IsKept ds → AllByRecursion IsKept es → AllByRecursion IsKept (ds ++ es)
+  kept_append ds es a b = all_joined IsKept ds es a b
+
+  synced_kept : (core : Core) (input : NodeInput) (p : Port) → AllByRecursion IsKept (synced core input p)
+  synced_kept core input p = go (input_at input p) refl where
+    either : (b : Bool) (id : ℕ) → AllByRecursion IsKept (cond b (Commits (Sync p.desk.host id) ∷ []) [])
+    either true id = (tt, tt)
+    either false id = tt
+
+    go : (o : Option LinkInput) → input_at input p ≡ o → AllByRecursion IsKept (synced core input p)
+    go None q = rw q tt
+    go (Some i) q = by (report p.side i).sync refl where
+      by : (o : Option ℕ) → (report p.side i).sync ≡ o → AllByRecursion IsKept (synced core input p)
+      by None e = rw (q, e) tt
+      by (Some id) e = rw (q, e) (either (not (is_kept_sync core.tables.syncs p.desk.host id) && finds_room core (Sync p.desk.host id)) id)
+
+  pub all_kept : (core : Core) (input : NodeInput) (ports : List Port) → AllByRecursion IsKept (flat_map (synced core input) ports)
+  all_kept core input [] = tt
+  all_kept core input (p ∷ ports) =
+      kept_append (synced core input p) (flat_map (synced core input) ports) (synced_kept core input p) (all_kept core input ports)
+
+  pub keeps_all : (asked : Asked) (owing : List Creation) (deeds : List Deed) (w : Work) → AllByRecursion IsKept deeds → Good x before hosts asked owing w
+      → Good x before hosts asked owing (all_done 0 deeds w) ⊎ IsOff x before hosts (all_done 0 deeds w)
+  keeps_all asked owing [] w may a = inl a
+  keeps_all asked owing (Commits c ∷ deeds) w may a =
+      let R : Work → Type 0 = λ v. Good x before hosts asked owing v ⊎ IsOff x before hosts v in
+      then x before hosts R asked owing (many x before hosts asked owing) (all_done 0 deeds) (commit c w)
+      (commits x before hosts asked owing (many x before hosts asked owing) c w may.0 a) (λ lost. inr lost)
+      (λ b. keeps_all asked owing deeds (commit c w) may.1 b)
+  keeps_all asked owing (d ∷ deeds) w may a = absurd may.0
+
+  -- ## What is owed
+
+  pub pays_all : (asked : Asked) (r : Response) (ports : List Port) (owing : List Creation) (rest : List Deed) (w : Work)
+      → Good x before hosts asked (filter_map asked_at ports ++ owing) w
+      → ((v : Work) → Good x before hosts asked owing v → Fine x before hosts (all_done 0 rest v))
+      → Fine x before hosts (all_done 0 (flat_map (λ p. owed r (asked_at p)) ports ++ rest) w)
+  pays_all asked r [] owing rest w a next = next w a
+  pays_all asked r (p ∷ ports) owing rest w a next = by_creation (λ v b. pays_all asked r ports owing rest v b next) (asked_at p) refl where
+    later : List Deed
+    later = flat_map (λ p. owed r (asked_at p)) ports ++ rest
+
+    by_creation : ((v : Work) → Good x before hosts asked (filter_map asked_at ports ++ owing) v → Fine x before hosts (all_done 0 later v))
+        → (o : Option Creation) → asked_at p ≡ o → Fine x before hosts (all_done 0 (flat_map (λ p. owed r (asked_at p)) (p ∷ ports) ++ rest) w)
+    by_creation more None q =
+        let same : flat_map (λ p. owed r (asked_at p)) (p ∷ ports) ++ rest ≡ later = rw q refl in
+        let b : Good x before hosts asked (filter_map asked_at ports ++ owing) w = rw q at a in
+        subst (λ d. Fine x before hosts (all_done 0 d w)) (sym same) (more w b)
+    by_creation more (Some c) q =
+        let same : flat_map (λ p. owed r (asked_at p)) (p ∷ ports) ++ rest ≡ Releases c.asker ∷ Sends c.asker (1, answer_of r []) ∷ later = rw q refl in
+        let b : Good x before hosts asked (c ∷ (filter_map asked_at ports ++ owing)) w = rw q at a in
+        subst (λ d. Fine x before hosts (all_done 0 d w)) (sym same)
+        (pays_then x before hosts (Fine x before hosts) 0 asked (filter_map asked_at ports ++ owing) c (answer_of r []) later w (answer_response r)
+        (omega arith) b
+        (λ v d. more v d))
+
+  -- ## Steps
+
+  module _ (all : AllByRecursion IsHost hosts) (different : AreDifferent hosts) (asked : Asked) (w : Work) (a : Good x before hosts asked [] w)
+      (fresh : AllByRecursion IsFresh w.ports) where
+    abbrev n : ℕ
+    n = many x before hosts asked []
+
+    module _ (v : Work) (c : HasCome x before hosts asked n w a different fresh v) where
+      abbrev left : List Port
+      left = map (forgets v.ports) v.ports
+
+      abbrev begun : Work
+      begun = record v { core = after_sessions v.core v.ports; ports = map without_notice left }
+
+      abbrev now : Asked
+      now = asked_of (map without_notice left)
+
+      abbrev owing : List Creation
+      owing = filter_map asked_at (filter (λ (p : Port). p.ended) left) ++ filter_map asked_at (filter (λ (p : Port). p.late) left)
+
+      abbrev over : Bool
+      over = is_over_at v.ports x
+
+      left_are : waits x (asked_of left) ≡ cond over [] (waits x asked)
+      left_are = forgot x v.ports v.ports ∙ ap (λ l. cond over [] (waits x l)) c.asked_are
+
+      parts : Parts x left
+      parts = owed_parts x left (flags_left v.ports v.ports c.flags)
+
+      in_parts : waits x now ++ owes x owing ≡ stays x left ++ (ended_of x left ++ late_of x left)
+      in_parts = ap (λ l. waits x now ++ l) (owes-append x (filter_map asked_at (filter (λ (p : Port). p.ended) left))
+          (filter_map asked_at (filter (λ (p : Port). p.late) left)))
+
+      tables : (after_sessions v.core v.ports).tables ≡ w.core.tables
+      tables = sessions_tables v.core v.ports ∙ ap (λ (k : Core). k.tables) c.core
+
+      due_left : AllAwaited left
+      due_left = due_map (forgets v.ports) (forgets_due v.ports) v.ports
+          (due_ports v.ports (subst (AllByRecursion (λ (e : ℕ × Option Creation). IfAwaited e.1)) (sym c.asked_are) a.due))
+
+      read_left : IsReadSo (reading x before hosts v) (waits x (asked_of left))
+      read_left = subst (λ l. IsReadSo (reading x before hosts v) l) (sym left_are) (subst (λ r. IsReadSo r (cond over [] (waits x asked))) (sym c.read)
+          (go over)) where
+            go : (b : Bool) → IsReadSo (cond b None (reading x before hosts w)) (cond b [] (waits x asked))
+            go true = tt
+            go false = subst (IsReadSo (reading x before hosts w)) (append-nil (waits x asked)) a.read
+
+      same_length : length (waits x now ++ owes x owing) ≡ length (cond over [] (waits x asked))
+      same_length = ap length in_parts ∙ (parts.many ∙ ap length left_are)
+
+      -- where a creation waits or is owed the session of its asker goes on
+      some_waits : (waits x now ++ owes x owing ≡ [] → ⊥) → (over ≡ false) × (waits x asked ++ [] ≡ [] → ⊥)
+      some_waits some = go over refl where
+        empty : (l m : List Creation) → length l ≡ length m → m ≡ [] → l ≡ []
+        empty [] m e z = refl
+        empty (d ∷ l) m e z = absurd (omega (arith, e, ap length z))
+
+        go : (b : Bool) → over ≡ b → (over ≡ false) × (waits x asked ++ [] ≡ [] → ⊥)
+        go true e = absurd (some (empty (waits x now ++ owes x owing) [] (same_length ∙ ap (λ b. length (cond b [] (waits x asked))) e) refl))
+        go false e = (
+          e,
+          (λ z. some (empty (waits x now ++ owes x owing) (waits x asked) (same_length ∙ ap (λ b. length (cond b [] (waits x asked))) e)
+              (sym (append-nil (waits x asked)) ∙ z))),
+        )
+
+      end_at : (o : Option Port) → port_at v.ports x ≡ o → ComeAt n (waits x asked ++ []) o
+          → EndAt n (waits x now ++ owes x owing) (option_map without_notice (option_map (forgets v.ports) o))
+      end_at None e z = (z.0, gone)
+        where
+          empty : (l : List Creation) → length l ≡ 0 → l ≡ []
+          empty [] q = refl
+          empty (d ∷ l) q = absurd (omega (arith, q))
+
+          none : (b : Bool) → length (cond b [] (waits x asked)) ≡ 0
+          none true = refl
+          none false = ap length (sym (append-nil (waits x asked)) ∙ z.1)
+
+          gone : waits x now ++ owes x owing ≡ []
+          gone = empty (waits x now ++ owes x owing) (same_length ∙ none over)
+      end_at (Some p) e z =
+          let q : Port = without_notice (forgets v.ports p) in
+          let side : q.side ≡ p.side = (without_same (forgets v.ports p)).side ∙ (forgets_same v.ports p).side in
+          subst (EndHas n (waits x now ++ owes x owing)) (sym side) (record {
+            within = z.within;
+            aside = z.aside;
+            up = λ some.
+                let so = some_waits some in
+                z.up (sym (ap (λ o. option_map_or is_over o false) e) ∙ (sym over_now ∙ so.0)) so.1;
+          })
+        where
+          over_now : over ≡ option_map_or is_over (port_at v.ports x) false
+          over_now = over_at v.ports x (subst AreDifferent (sym c.hosts_are) different)
+
+      pub begins : IsOn x before hosts now owing n begun
+      begins = record {
+        on = c.on;
+        node = sessions_node v.core v.ports ∙ (ap (λ (k : Core). k.node) c.core ∙ a.node);
+        asked_are = refl;
+        hosts_are = hosts_map without_notice without_host left ∙ (hosts_map (forgets v.ports) (forgets_host v.ports) v.ports ∙ c.hosts_are);
+        due = ports_due (map without_notice left) (due_map without_notice without_due left due_left);
+        owed_due = all_joined IsAwaited (filter_map asked_at (filter (λ (p : Port). p.ended) left)) (filter_map asked_at (filter (λ (p : Port). p.late) left))
+            (owed_due (λ (p : Port). p.ended) left due_left) (owed_due (λ (p : Port). p.late) left due_left);
+        rows = subst (λ (t : HciTables). AreProper t.rows) (sym tables) a.rows;
+        book = c.book;
+        read = subst (IsReadSo (reading x before hosts v)) (sym in_parts) (parts.read (reading x before hosts v) read_left);
+        end = subst (EndAt n (waits x now ++ owes x owing)) (sym (at_all left x without_notice without_host
+            ∙ ap (option_map without_notice) (at_all v.ports x (forgets v.ports) (forgets_host v.ports)))) (end_at (port_at v.ports x) refl c.end);
+      }
+
+      abbrev freed : List Creation
+      freed = filter (λ (c : Creation). is_over_at v.ports c.asker) (filter_map asked_at v.ports)
+
+      -- as many blocks are freed as creations are forgotten
+      pub shared : n ≡ length (owes x freed) + many x before hosts now owing
+      shared = go over refl where
+        freed_is : owes x freed ≡ cond over (waits x asked) []
+        freed_is = freed_are x v.ports v.ports ∙ ap (λ l. cond over (waits x l) []) c.asked_are
+
+        all_are : n ≡ length (waits x asked)
+        all_are = ap length (append-nil (waits x asked))
+
+        go : (b : Bool) → over ≡ b → n ≡ length (owes x freed) + many x before hosts now owing
+        go true e =
+            let f : length (owes x freed) ≡ length (waits x asked) = ap length freed_is ∙ ap (λ b. length (cond b (waits x asked) [])) e in
+            let z : many x before hosts now owing ≡ 0 = same_length ∙ ap (λ b. length (cond b [] (waits x asked))) e in
+            omega (arith, all_are, f, z)
+        go false e =
+            let f : length (owes x freed) ≡ 0 = ap length freed_is ∙ ap (λ b. length (cond b (waits x asked) [])) e in
+            let z : many x before hosts now owing ≡ length (waits x asked) = same_length ∙ ap (λ b. length (cond b [] (waits x asked))) e in
+            omega (arith, all_are, f, z)
+
+      goes_on : (syncs : List Deed) → AllByRecursion IsKept syncs
+          → Fine x before hosts (answers_and_passes (forgotten v.ports) syncs (all_owed left) begun)
+      goes_on syncs may =
+          let u : Work = all_done 0 (forgotten v.ports) begun in
+          let first : Good x before hosts now owing u =
+          frees now owing (many x before hosts now owing) freed begun (subst (λ k. IsOn x before hosts now owing k begun) shared begins) in
+          let s : Work = all_done 0 syncs u in
+          let synced_so = keeps_all now owing syncs u may first in
+          let answered : Fine x before hosts (unless_cut (all_done 0 (all_owed left)) s) =
+          then x before hosts (Fine x before hosts) now owing (many x before hosts now owing) (all_done 0 (all_owed left)) s synced_so (λ lost. inr lost)
+          (λ b. pay s b) in
+          then_fine x before hosts passes (unless_cut (all_done 0 (all_owed left)) s) answered
+          (λ l b. passes_good x before hosts different l (unless_cut (all_done 0 (all_owed left)) s) all b)
+        where
+          ended : List Port
+          ended = filter (λ (p : Port). p.ended) left
+
+          lates : List Port
+          lates = filter (λ (p : Port). p.late) left
+
+          second : List Deed
+          second = flat_map (λ p. owed response.Timeout (asked_at p)) lates
+
+          pay : (s : Work) → Good x before hosts now owing s → Fine x before hosts (all_done 0 (all_owed left) s)
+          pay s b =
+              pays_all now response.NotConnected ended (filter_map asked_at lates) second s b
+              (λ y d. subst (λ l. Fine x before hosts (all_done 0 l y)) (append-nil second)
+              (pays_all now response.Timeout lates [] [] y (subst (λ l. Good x before hosts now l y) (sym (append-nil (filter_map asked_at lates))) d)
+              (λ z e. inl (record { asked = now; good = e }))))
+
+    pub steps_good : (input : NodeInput) → IsOutside input → UpAt (port_at w.ports x) → AllByRecursion (λ (p : Port). IsShut p.side) w.ports
+        → Fine x before hosts (steps input w)
+    steps_good (AtEnd h i) outside up shut =
+        goes_on (times_out (AtEnd h i) (all_come (AtEnd h i) w)) (came_near x before hosts asked n w a different fresh h i outside)
+        (flat_map (synced w.core (AtEnd h i)) w.ports) (all_kept w.core (AtEnd h i) w.ports)
+    steps_good TimePasses outside up shut =
+        goes_on (times_out TimePasses (all_come TimePasses w)) (came_tick x before hosts asked n w a different fresh up shut)
+        (flat_map (synced w.core TimePasses) w.ports) (all_kept w.core TimePasses w.ports)

@@ -1,0 +1,210 @@
+-- A controller has its turns: the creation that a host asked for stays the one that is read.
+use Rattle.std.proofs.Common.{◌≡◌, inl, ℕ, Bool, true, false, eqb, List, [], ◌∷◌, ◌++◌, map, sym, refl, ap, ◌∙◌, subst, arith}
+use Rattle.std.specs.Prelude.{Option, Some, None, is_some, nat_lt}
+use Rattle.std.specs.List.{AllByRecursion}
+use Rattle.std.specs.Option.{option_map, option_map_or}
+use Rattle.std.proofs.lemmas.Bool.{eqb-true, ne_eqb, eq-eqb, true≢false, ltb-false, lt-ltb}
+use Rattle.trace_model.specs.Lines.{IsHost}
+use Rattle.trace_model.specs.declared.entry.Entry.{Entry}
+use Rattle.trace_model.specs.declared.entry.Entry.TheVariants as entry
+use Rattle.link_laws.specs.sessions.Sessions.{is_up}
+use Rattle.link_laws.specs.machine.Machine.{Message, spare, is_held, need}
+use Rattle.link_laws.specs.machine.Machine.Turn.{FetchMessage, Hold}
+use Rattle.node_machine.specs.Parts.{Creation, Notice, Port, Work, Deed}
+use Rattle.node_machine.specs.Parts.Deed.{Asks}
+use Rattle.node_machine.specs.Carrying.{noting, unless_cut, port_at, changed_if, with_port, with_desk, after_turn, turn_at, end_of_node, needs, lack}
+use Rattle.node_machine.specs.Controller.{has_link, asked_at, creation_in, controller_deeds, asks_for}
+use Rattle.node_machine.specs.Turns.{deeds_of, handles, holds_back, lets_go, have_turns, goes_through_ends, passes}
+use Rattle.node_laws.specs.links.Notices.{AllReach}
+use Rattle.node_laws.proofs.links.Noticing.{at_all}
+use Rattle.node_laws.proofs.links.Reaching.{controller_reach}
+use Rattle.node_laws.proofs.readings.Noticed.{up_is}
+use Rattle.node_laws.proofs.readings.Turning.{lack_parts}
+use Rattle.node_laws.specs.kept.Hosts.{AreDifferent}
+use Rattle.node_laws.specs.notices.Notices.{GoesToFree}
+use Rattle.node_laws.proofs.notices.Freeing.{controller_free}
+use Rattle.node_laws.specs.creations.Worlds.{IsAwaited, IfAwaited}
+use Rattle.node_laws.proofs.creations.Asks.{Asked, asked_of, waits, none_waits, Split, split_at}
+use Rattle.node_laws.proofs.creations.Outcomes.{IsAskedSo, Outcome, outcome, all_leave, LeavesAsked}
+use Rattle.node_laws.proofs.creations.Outcomes.Outcome.{Stays, IsAsking, IsHeard, IsDone}
+use Rattle.node_laws.proofs.creations.Doing.{Good, many, notes, turns, desks}
+use Rattle.node_laws.proofs.creations.Deeds.{HasBlock, Fine, then_fine, leaves, agrees, hears, asks_one}
+use Rattle.node_laws.proofs.steps.Ports.{changed_host}
+
+all_middle : {X : Type 0} (P : X → Type 0) (front back : List X) (e : X) → AllByRecursion P (front ++ (e ∷ back)) → P e
+all_middle P [] back e a = a.0
+all_middle P (z ∷ front) back e a = all_middle P front back e a.1
+
+pub due_at : (asked : Asked) (k : ℕ) (c : Creation) → Split asked k (Some c) → AllByRecursion (λ (e : ℕ × Option Creation). IfAwaited e.1) asked → IsAwaited c
+due_at asked k c s a =
+    all_middle (λ (e : ℕ × Option Creation). IfAwaited e.1) s.front s.back (s.key, Some c)
+    (subst (AllByRecursion (λ (e : ℕ × Option Creation). IfAwaited e.1)) s.is a)
+
+-- an end with a link that is up and a block to spare
+block_at : (ports : List Port) (x : ℕ) → nat_lt (option_map_or (λ (p : Port). spare p.side) (port_at ports x) 0) 1 ≡ false → has_link ports x ≡ true
+    → HasBlock (port_at ports x)
+block_at ports x room up = go (port_at ports x) room up where
+  go : (o : Option Port) → nat_lt (option_map_or (λ (p : Port). spare p.side) o 0) 1 ≡ false
+      → option_map_or (λ (p : Port). is_up p.side.shdlc.phase) o false ≡ true → HasBlock o
+  go None r u = absurd (true≢false (sym u))
+  go (Some p) r u = (up_is p.side.shdlc.phase u, lt-ltb 0 (spare p.side) (ltb-false (spare p.side) 1 r))
+
+-- it has it still, where ends are changed that keep that
+block_with : (k x : ℕ) (g : Port → Port) (ports : List Port) → ((p : Port) → (g p).desk.host ≡ p.desk.host)
+    → ((p : Port) → HasBlock (Some p) → HasBlock (Some (g p))) → HasBlock (port_at ports x) → HasBlock (port_at (with_port k g ports) x)
+block_with k x g ports host one a =
+    subst HasBlock (sym (at_all ports x (λ p. changed_if (eqb p.desk.host k) g p) (λ p. changed_host (eqb p.desk.host k) g p host))) (go (port_at ports x) a)
+  where
+    by : (b : Bool) (p : Port) → HasBlock (Some p) → HasBlock (Some (changed_if b g p))
+    by true p z = one p z
+    by false p z = z
+
+    go : (o : Option Port) → HasBlock o → HasBlock (option_map (λ (p : Port). changed_if (eqb p.desk.host k) g p) o)
+    go None z = z
+    go (Some p) z = by (eqb p.desk.host k) p z
+
+module _ (x : ℕ) (before : List Entry) (hosts : List ℕ) (different : AreDifferent hosts) where
+  module _ (k : ℕ) (host : IsHost k) where
+    -- the work as a message is the node's, and nothing is done with it yet
+    abbrev fetched : Message → Work → Work
+    fetched m w = with_desk k (λ d. record d { holds = false }) (turn_at k FetchMessage (noting (entry.Turn (end_of_node w.core k) m.0 m.1 ∷ []) w))
+
+    fetched_good : (asked : Asked) (m : Message) (w : Work) → Good x before hosts asked [] w → Good x before hosts asked [] (fetched m w)
+    fetched_good asked m w a =
+        let noted : Work = noting (entry.Turn (end_of_node w.core k) m.0 m.1 ∷ []) w in
+        let n : ℕ = many x before hosts asked [] in
+        desks x before hosts asked [] n k (λ d. record d { holds = false }) (turn_at k FetchMessage noted) (λ d. refl) (λ d. refl)
+        (turns x before hosts asked [] n k FetchMessage noted tt (λ p e. refl)
+        (notes x before hosts asked [] n (entry.Turn (end_of_node w.core k) m.0 m.1 ∷ []) w (λ b. refl) refl a))
+
+    fetched_block : (m : Message) (w : Work) → HasBlock (port_at w.ports x) → HasBlock (port_at (fetched m w).ports x)
+    fetched_block m w b =
+        block_with k x (λ p. record p { desk = record p.desk { holds = false } }) (with_port k (after_turn FetchMessage) w.ports) (λ q. refl) (λ q z. z)
+        (block_with k x (after_turn FetchMessage) w.ports (λ q. refl) (λ q z. z) b)
+
+    -- ## Messages
+
+    module _ (asked : Asked) (m : Message) (w : Work) (a : Good x before hosts asked [] w) where
+      abbrev deeds : List Deed
+      deeds = controller_deeds w.core w.ports k m
+
+      apart : AreDifferent (map (λ (p : Port). p.desk.host) w.ports)
+      apart = subst AreDifferent (sym a.hosts_are) different
+
+      split : (to : ℕ) (p : Port) (o : Option Creation) → port_at w.ports to ≡ Some p → asked_at p ≡ o → Split asked to o
+      split to p o here is = subst (λ l. Split l to o) a.asked_are (subst (Split (asked_of w.ports) to) is (split_at w.ports to p apart here))
+
+      asks_so : (to : ℕ) (notice : List ℕ) (c : Creation) → deeds ≡ Asks to notice c ∷ [] → IsAskedSo w.ports k to notice c
+          → lack w.ports (needs k deeds) ≡ None → Fine x before hosts (handles k m deeds w)
+      asks_so to notice c e so room =
+          subst (λ d. Fine x before hosts (handles k m d w)) (sym e)
+          (asks_one x before hosts asked to notice c so.due so.notice_of (fetched m w) free block (fetched_good asked m w a) k (there (port_at w.ports to) refl
+          reach.0))
+        where
+          reach : AllReach w.ports (Asks to notice c ∷ [])
+          reach = subst (λ d. AllReach w.ports d) e (controller_reach w.core w.ports k m)
+
+          unnoticed : AllByRecursion (GoesToFree w.ports) (Asks to notice c ∷ [])
+          unnoticed = subst (λ d. AllByRecursion (GoesToFree w.ports) d) e (controller_free w.core w.ports k m)
+
+          none_of : (p : Port) (o : Option Notice) → p.desk.notice ≡ o → is_some o ≡ false → asked_at p ≡ None
+          none_of p None is off = ap creation_in is
+          none_of p (Some n) is off = absurd (true≢false off)
+
+          there : (o : Option Port) → port_at w.ports to ≡ o → option_map_or (λ (p : Port). is_up p.side.shdlc.phase) o false ≡ true → Split asked to None
+          there None is up = absurd (true≢false (sym up))
+          there (Some p) is up =
+              split to p None is (none_of p p.desk.notice refl (sym (ap (λ o. option_map_or (λ (p : Port). is_some p.desk.notice) o false) is) ∙ unnoticed.0))
+
+          asker_is : eqb c.asker x ≡ true → k ≡ x
+          asker_is z = sym so.asker ∙ eqb-true c.asker x z
+
+          free : eqb c.asker x ≡ true → waits x asked ≡ []
+          free z = subst (λ l. waits x l ≡ []) a.asked_are (none_waits x w.ports (subst (λ n. asks_for w.ports n ≡ false) (asker_is z) so.asks))
+
+          block : eqb c.asker x ≡ true → HasBlock (port_at (fetched m w).ports x)
+          block z =
+              fetched_block m w (block_at w.ports x
+              (subst (λ n. nat_lt (option_map_or (λ (p : Port). spare p.side) (port_at w.ports n) 0) 1 ≡ false) (eqb-true c.asker x z)
+              (lack_parts w.ports c.asker 1 ((to, need notice) ∷ []) (ap (λ d. lack w.ports (needs k d)) (sym e) ∙ room)).0)
+              (subst (λ n. has_link w.ports n ≡ true) (asker_is z) so.up))
+
+      pub handled : lack w.ports (needs k deeds) ≡ None → Fine x before hosts (handles k m deeds w)
+      handled room = go (outcome x w.core w.ports k (ne_eqb k 0 (λ z. omega (arith, z, host.0))) a.rows m) where
+        go : Outcome x w.ports k deeds → Fine x before hosts (handles k m deeds w)
+        go (Stays may) =
+            leaves x before hosts k asked deeds (fetched m w)
+            (subst (λ l. AllByRecursion (LeavesAsked x l) deeds) a.asked_are
+            (all_leave x w.ports deeds apart may (controller_free w.core w.ports k m))) (fetched_good asked m w a)
+        go (IsAsking to notice c e so) = asks_so to notice c e so room
+        go (IsHeard p here is e) =
+            subst (λ d. Fine x before hosts (handles k m d w)) (sym e)
+            (hears x before hosts k asked (fetched m w) (split k p None here is) (fetched_good asked m w a))
+        go (IsDone p c flag here is e) =
+            let s : Split asked k (Some c) = split k p (Some c) here is in
+            subst (λ d. Fine x before hosts (handles k m d w)) (sym e)
+            (agrees x before hosts k asked c flag (fetched m w) s (due_at asked k c s a.due) (fetched_good asked m w a))
+
+    pub holds_good : (asked : Asked) (short : ℕ × ℕ) (w : Work) → Good x before hosts asked [] w → Good x before hosts asked [] (holds_back k short w)
+    holds_good asked short w a = go (option_map_or (λ (p : Port). p.desk.holds) (port_at w.ports k) false) where
+      n : ℕ
+      n = many x before hosts asked []
+
+      told : Work
+      told = noting (entry.Held (end_of_node w.core k) short.0 short.1 ∷ []) w
+
+      by : Bool → Work
+      by true = turn_at k (Hold true) w
+      by false = turn_at k (Hold true) (with_desk k (λ d. record d { holds = true }) told)
+
+      go : (b : Bool) → Good x before hosts asked [] (by b)
+      go true = turns x before hosts asked [] n k (Hold true) w tt (λ p e. refl) a
+      go false =
+          turns x before hosts asked [] n k (Hold true) (with_desk k (λ d. record d { holds = true }) told) tt (λ p e. refl)
+          (desks x before hosts asked [] n k (λ d. record d { holds = true }) told (λ d. refl) (λ d. refl)
+          (notes x before hosts asked [] n (entry.Held (end_of_node w.core k) short.0 short.1 ∷ []) w (λ b. refl) refl a))
+
+    pub lets_good : (asked : Asked) (w : Work) → Good x before hosts asked [] w → Good x before hosts asked [] (lets_go k w)
+    lets_good asked w a = go (option_map_or (λ (p : Port). is_held p.side) (port_at w.ports k) false) where
+      by : Bool → Work
+      by true = turn_at k (Hold false) w
+      by false = w
+
+      go : (b : Bool) → Good x before hosts asked [] (by b)
+      go true = turns x before hosts asked [] (many x before hosts asked []) k (Hold false) w tt (λ p e. refl) a
+      go false = a
+
+    have_good : (messages : List Message) (asked : Asked) (w : Work) → Good x before hosts asked [] w → Fine x before hosts (have_turns k messages w)
+    have_good [] asked w a = inl (record { asked = asked; good = lets_good asked w a })
+    have_good (m ∷ messages) asked w a =
+        subst (Fine x before hosts) (sym is) (go (lack w.ports (needs k now)) refl (λ l v b. have_good messages l v b)) where
+          now : List Deed
+          now = controller_deeds w.core w.ports k m
+
+          by : List Deed → Option (ℕ × ℕ) → Work
+          by d None = unless_cut (have_turns k messages) (handles k m d w)
+          by d (Some short) = holds_back k short w
+
+          deeds_are : deeds_of w.core w.ports k m ≡ now
+          deeds_are = let zero : eqb w.core.node 0 ≡ true = eq-eqb w.core.node 0 a.node in rw zero refl
+
+          is : have_turns k (m ∷ messages) w ≡ by now (lack w.ports (needs k now))
+          is = ap (λ d. by d (lack w.ports (needs k d))) deeds_are
+
+          go : (o : Option (ℕ × ℕ)) → lack w.ports (needs k now) ≡ o
+              → ((l : Asked) (v : Work) → Good x before hosts l [] v → Fine x before hosts (have_turns k messages v)) → Fine x before hosts (by now o)
+          go None e later =
+              then_fine x before hosts (have_turns k messages) (handles k m now w) (handled asked m w a e) (λ l b. later l (handles k m now w) b)
+          go (Some short) e later = inl (record { asked = asked; good = holds_good asked short w a })
+
+  ends_good : (ends : List ℕ) (asked : Asked) (w : Work) → AllByRecursion IsHost ends → Good x before hosts asked [] w
+      → Fine x before hosts (goes_through_ends ends w)
+  ends_good [] asked w all a = inl (record { asked = asked; good = a })
+  ends_good (k ∷ ends) asked w all a =
+      let messages : List Message = option_map_or (λ (p : Port). p.side.got) (port_at w.ports k) [] in
+      then_fine x before hosts (goes_through_ends ends) (have_turns k messages w) (have_good k all.0 messages asked w a)
+      (λ l b. ends_good ends l (have_turns k messages w) all.1 b)
+
+  pub passes_good : (asked : Asked) (w : Work) → AllByRecursion IsHost hosts → Good x before hosts asked [] w → Fine x before hosts (passes w)
+  passes_good asked w all a =
+      ends_good (map (λ (p : Port). p.desk.host) w.ports) asked w (subst (AllByRecursion IsHost) (sym a.hosts_are) all) a

@@ -1,0 +1,296 @@
+-- What a controller takes as identifiers are those that are read off LPDUs, and nothing else in a step is read so.
+use Rattle.std.proofs.Common.{◌≡◌, ◌⊎◌, inl, inr, ℕ, ◌+◌, ◌*◌, ◌/◌, ◌%◌, ◌≤◌, Bool}
+use Rattle.std.proofs.Common.{true, false, cond, List, [], ◌∷◌, ◌++◌, length, map, sym, refl, ap, ◌∙◌}
+use Rattle.std.proofs.Common.{subst, arith}
+use Rattle.std.specs.Prelude.{◌==◌, find, nat_le, nat_lt, option_to_list, Option, Some, None, Result, Ok, Err}
+use Rattle.std.specs.List.{AllByRecursion, flat_map}
+use Rattle.std.specs.Option.{option_map_or}
+use Rattle.std.proofs.lemmas.Bool.{and_right, lt-leb, true≢false}
+use Rattle.registry.proofs.ValueLemmas.{AllByRecursion-append as all_append}
+use Rattle.swp_base.specs.declared.control_frames.Control.{Control}
+use Rattle.swp_base.specs.declared.control_frames.Control.TheVariants as control
+use Rattle.swp_base.specs.declared.control_frames.Act.TheVariants.{PowerMode, Ready, SyncId}
+use Rattle.swp_lpdu.specs.declared.LpduFault.{LpduFault}
+use Rattle.swp_lpdu.specs.Controls.{LpduRow, control_of, is_within, kind_number, lpdu_of, lpdu_row_of, read_by, table}
+use Rattle.trace_model.specs.declared.entry.Entry.{Entry}
+use Rattle.trace_model.specs.declared.entry.Entry.TheVariants as entry
+use Rattle.trace_model.specs.declared.line.End.{End}
+use Rattle.hci_tables.specs.declared.command.Command.TheVariants.{Sync}
+use Rattle.hci_tables.specs.Tables.{HciTables, is_kept_sync}
+use Rattle.link_laws.specs.sessions.Sessions.{OnWire}
+use Rattle.link_laws.specs.machine.Machine.{LinkEnd, LinkInput, Report, after_input, frames_out, report, whole_acked}
+use Rattle.link_laws.specs.machine.Machine.LinkInput.{Reset}
+use Rattle.link_laws.specs.messages.Links.{Ending, Link, Loss, put}
+use Rattle.link_laws.specs.messages.Links.Ending.{CutOff, GoesOut}
+use Rattle.link_laws.specs.messages.Links.Loss.{TooMany, TooOld}
+use Rattle.link_laws.specs.entries.Entries.{End as Side, Entry as Noted, aged_entries, ending_entries, far, first_lost, if_so, pushed_out, put_entries}
+use Rattle.link_laws.specs.entries.Entries.{puts_entries, told, wire_with}
+use Rattle.link_laws.specs.entries.Entries.Entry.{Acked, Active, Cut, Down, Emit, GaveUp, Got, Lost, Restarted, Sent, Tick as Ticked, Took, Up}
+use Rattle.link_laws.specs.entries.Entries.End.{Controller, Host}
+use Rattle.history.specs.Steps.{entries_for}
+use Rattle.node_machine.specs.Parts.{Core, Deed, Port, Work}
+use Rattle.node_machine.specs.Parts.Deed.{Commits}
+use Rattle.node_machine.specs.Carrying.{own_side, port_at}
+use Rattle.node_machine.specs.Node.{NodeInput, all_come, input_at, is_late, told_at, told_late, with_older}
+use Rattle.node_machine.specs.Node.NodeInput.{AtEnd, TimePasses}
+use Rattle.node_machine.specs.world.World.{Site, end_c, ending_of, frames_noted, node_of}
+use Rattle.node_laws.specs.passes.Steps.{told_of_coming, told_of_late}
+use Rattle.node_laws.specs.power.Powers.{AreNotOf, is_of_node}
+use Rattle.node_laws.specs.answers.Unasked.{new_sync}
+
+-- ## LPDUs
+
+-- the identifier that a frame brings to a controller
+abbrev pub brought : Control → Option ℕ
+brought (control.Act (SyncId id) false) = Some id
+brought _ = None
+
+abbrev pub brought_by : Result Control LpduFault → Option ℕ
+brought_by (Ok c) = brought c
+brought_by (Err fault) = None
+
+-- no row of the table for bytes from 80 on brings one
+module _ (bytes : List ℕ) where
+  abbrev Brings : Option LpduRow → Type 0
+  Brings o = brought_by (read_by o bytes) ≡ None
+
+  by_row : (r : LpduRow) → brought (r.says bytes) ≡ None → Brings (Some r)
+  by_row r none = go (nat_lt (length bytes) r.need) (nat_lt r.most (length bytes)) where
+    go : (b c : Bool) → brought_by (cond b (Err (Rattle.swp_lpdu.specs.declared.LpduFault.TheVariants.Short r.need (length bytes)))
+        (cond c (Err (Rattle.swp_lpdu.specs.declared.LpduFault.TheVariants.TooLong (length bytes))) (Ok (r.says bytes)))) ≡ None
+    go true c = refl
+    go false true = refl
+    go false false = none
+
+  -- a row that is found brings none, where each does that may be found
+  rows_bring : (p : LpduRow → Bool) (rows : List LpduRow) → AllByRecursion (λ r. (brought (r.says bytes) ≡ None) ⊎ (p r ≡ false)) rows → Brings (find p rows)
+  rows_bring p [] a = refl
+  rows_bring p (r ∷ rows) a = by (p r) refl a.0 (rows_bring p rows a.1) where
+    by : (b : Bool) → p r ≡ b → (brought (r.says bytes) ≡ None) ⊎ (p r ≡ false) → Brings (find p rows) → Brings (cond (p r) (Some r) (find p rows))
+    by true q (inl none) later = subst (λ b. Brings (cond b (Some r) (find p rows))) (sym q) (by_row r none)
+    by true q (inr off) later = absurd (true≢false (sym q ∙ off))
+    by false q one later = subst (λ b. Brings (cond b (Some r) (find p rows))) (sym q) later
+
+  high_brings : (b : ℕ) → 0x80 ≤ b → Brings (lpdu_row_of b)
+  high_brings b high =
+      rows_bring (λ (r : LpduRow). is_within r.first r.last b) table (
+        inl refl,
+        (
+          inl refl,
+          (
+            inl refl,
+            (
+              inl refl,
+              (
+                inl refl,
+                (
+                  inl refl,
+                  (
+                    inl refl,
+                    (
+                      inl refl,
+                      (
+                        inl refl,
+                        (
+                          inr (and_right (nat_le 0x61 b) (nat_le b 0x61) (lt-leb b 0x61 (omega (arith, high)))),
+                          (inl refl, (inl refl, (inl refl, (inl refl, tt)))),
+                        ),
+                      ),
+                    ),
+                  ),
+                ),
+              ),
+            ),
+          ),
+        ),
+      )
+
+pub written : (c : Control) → brought_by (control_of (lpdu_of c)) ≡ brought c
+written (control.I ns nr info) = high_brings (lpdu_of (control.I ns nr info)) (0x80 + 8 * ns + nr) (omega arith)
+written (control.S kind nr) = high_brings (lpdu_of (control.S kind nr)) (0xC0 + 8 * kind_number kind + nr) (omega arith)
+written (control.Rset window caps) = refl
+written control.Ua = refl
+written control.Clt = refl
+written (control.Act Ready true) = refl
+written (control.Act Ready false) = refl
+written (control.Act (PowerMode power) true) = refl
+written (control.Act (PowerMode power) false) = refl
+written (control.Act (SyncId id) true) = refl
+written (control.Act (SyncId id) false) = let q : 256 * (id / 256) + id % 256 ≡ id = omega arith in rw q refl
+
+-- ## Entries
+
+-- an identifier is kept unless it is
+abbrev pub keeps_new : HciTables → ℕ → Option ℕ → List Deed
+keeps_new t h None = []
+keeps_new t h (Some id) = cond (is_kept_sync t.syncs h id) [] (Commits (Sync h id) ∷ [])
+
+pub took_read : (t : HciTables) (h : ℕ) (lpdu : List ℕ) → new_sync t (entry.Took (end_c h) lpdu) ≡ keeps_new t h (brought_by (control_of lpdu))
+took_read t h lpdu = go (control_of lpdu) refl where
+  go : (x : Result Control LpduFault) → control_of lpdu ≡ x → new_sync t (entry.Took (end_c h) lpdu) ≡ keeps_new t h (brought_by (control_of lpdu))
+  go (Err fault) q = rw q refl
+  go (Ok (control.I ns nr info)) q = rw q refl
+  go (Ok (control.S kind nr)) q = rw q refl
+  go (Ok (control.Rset window caps)) q = rw q refl
+  go (Ok control.Ua) q = rw q refl
+  go (Ok control.Clt) q = rw q refl
+  go (Ok (control.Act (SyncId id) false)) q = rw q refl
+  go (Ok (control.Act (SyncId id) true)) q = rw q refl
+  go (Ok (control.Act Ready again)) q = rw q refl
+  go (Ok (control.Act (PowerMode code) again)) q = rw q refl
+
+-- a frame is taken
+abbrev pub is_took : Entry → Bool
+is_took (entry.Took e lpdu) = true
+is_took _ = false
+
+abbrev pub IsTookless : Entry → Type 0
+IsTookless x = is_took x ≡ false
+
+abbrev pub AreTookless : List Entry → Type 0
+AreTookless es = AllByRecursion IsTookless es
+
+-- nothing is read so of an entry
+abbrev pub IsUnread : HciTables → Entry → Type 0
+IsUnread t x = new_sync t x ≡ []
+
+tookless_one : (t : HciTables) (x : Entry) → IsTookless x → IsUnread t x
+tookless_one t (entry.Took e lpdu) q = absurd (true≢false q)
+tookless_one t _ q = refl
+
+pub tookless_all : (t : HciTables) (es : List Entry) → AreTookless es → AllByRecursion (IsUnread t) es
+tookless_all t [] a = tt
+tookless_all t (x ∷ es) a = (tookless_one t x a.0, tookless_all t es a.1)
+
+far_unread : (t : HciTables) (e : End) (lpdu : List ℕ) → (node_of e == 0) ≡ false → IsUnread t (entry.Took e lpdu)
+far_unread t e lpdu off = by e.at_host refl where
+  by : (b : Bool) → e.at_host ≡ b → IsUnread t (entry.Took e lpdu)
+  by true q = rw q refl
+  by false q =
+      let zero : node_of e ≡ 0 = rw q refl in
+      absurd (true≢false (sym (ap (λ n. n == 0) zero) ∙ off))
+
+other_unread : (t : HciTables) (x : Entry) → is_of_node 0 x ≡ false → IsUnread t x
+other_unread t (entry.Took e lpdu) off = far_unread t e lpdu off
+other_unread t _ off = refl
+
+pub others_unread : (t : HciTables) (es : List Entry) → AreNotOf 0 es → AllByRecursion (IsUnread t) es
+others_unread t [] a = tt
+others_unread t (x ∷ es) a = (other_unread t x a.0, others_unread t es a.1)
+
+pub unread_flat : (t : HciTables) (es : List Entry) → AllByRecursion (IsUnread t) es → flat_map (new_sync t) es ≡ []
+unread_flat t [] a = refl
+unread_flat t (x ∷ es) a = ap (λ ds. ds ++ flat_map (new_sync t) es) a.0 ∙ unread_flat t es a.1
+
+-- ## What links note
+
+-- no frame that comes
+abbrev pub IsNoTake : Noted → Type 0
+IsNoTake (Took who frame) = ⊥
+IsNoTake _ = Unit {0}
+
+abbrev pub AreNoTakes : List Noted → Type 0
+AreNoTakes xs = AllByRecursion IsNoTake xs
+
+pub notes_tookless : (h : ℕ) (xs : List Noted) → AreNoTakes xs → AreTookless (entries_for h xs)
+notes_tookless h [] a = tt
+notes_tookless h (Up who n ∷ xs) a = (refl, notes_tookless h xs a.1)
+notes_tookless h (Down who cause ∷ xs) a = (refl, notes_tookless h xs a.1)
+notes_tookless h (Active who ∷ xs) a = (refl, notes_tookless h xs a.1)
+notes_tookless h (GaveUp who tries ∷ xs) a = (refl, notes_tookless h xs a.1)
+notes_tookless h (Acked who n count ∷ xs) a = (refl, notes_tookless h xs a.1)
+notes_tookless h (Got who n m ∷ xs) a = (refl, notes_tookless h xs a.1)
+notes_tookless h (Sent who n m ∷ xs) a = (refl, notes_tookless h xs a.1)
+notes_tookless h (Emit who frame ∷ xs) a = (refl, notes_tookless h xs a.1)
+notes_tookless h (Took who frame ∷ xs) a = absurd a.0
+notes_tookless h (Lost who frame why ∷ xs) a = (refl, notes_tookless h xs a.1)
+notes_tookless h (Ticked ∷ xs) a = notes_tookless h xs a.1
+notes_tookless h (Restarted who ∷ xs) a = notes_tookless h xs a.1
+notes_tookless h (Cut who ∷ xs) a = notes_tookless h xs a.1
+
+map_takes : {X : Type 0} (f : X → Noted) → ((x : X) → IsNoTake (f x)) → (xs : List X) → AreNoTakes (map f xs)
+map_takes f one [] = tt
+map_takes f one (x ∷ xs) = (one x, map_takes f one xs)
+
+if_takes : (b : Bool) (x : Noted) → IsNoTake x → AreNoTakes (if_so b x)
+if_takes true x a = (a, tt)
+if_takes false x a = tt
+
+told_takes : (who : Side) (n : ℕ) (r : Report) (acked : ℕ) → AreNoTakes (told who n r acked)
+told_takes who n r acked =
+    all_append IsNoTake (map (Down who) (option_to_list r.ended)) _ (map_takes (Down who) (λ x. tt) (option_to_list r.ended))
+    (all_append IsNoTake (if_so r.began (Up who n)) _ (if_takes r.began (Up who n) tt)
+    (all_append IsNoTake (if_so r.became_active (Active who)) _ (if_takes r.became_active (Active who) tt)
+    (all_append IsNoTake (map (GaveUp who) (option_to_list r.gave_up)) _ (map_takes (GaveUp who) (λ x. tt) (option_to_list r.gave_up))
+    (all_append IsNoTake (if_so (nat_lt 0 r.acked) (Acked who n acked)) _ (if_takes (nat_lt 0 r.acked) (Acked who n acked) tt)
+    (map_takes (Got who n) (λ x. tt) r.got)))))
+
+at_tookless : (core : Core) (p : Port) (o : Option LinkInput) → AreTookless (told_at core p o)
+at_tookless core p None = tt
+at_tookless core p (Some i) =
+    notes_tookless p.desk.host (told (own_side core) p.session (report p.side i) (whole_acked (after_input p.side i)))
+    (told_takes (own_side core) p.session (report p.side i) (whole_acked (after_input p.side i)))
+
+late_tookless : (core : Core) (p : Port) → AreTookless (told_late core p)
+late_tookless core p = go (is_late p) where
+  go : (b : Bool) → AreTookless (cond b (told_at core p (Some (Reset None))) [])
+  go true = at_tookless core p (Some (Reset None))
+  go false = tt
+
+flat_tookless : (f : Port → List Entry) → ((p : Port) → AreTookless (f p)) → (ports : List Port) → AreTookless (flat_map f ports)
+flat_tookless f one [] = tt
+flat_tookless f one (p ∷ ports) = all_append IsTookless (f p) (flat_map f ports) (one p) (flat_tookless f one ports)
+
+pub coming_tookless : (input : NodeInput) (w : Work) → AreTookless (told_of_coming input w)
+coming_tookless input w =
+    all_append IsTookless (flat_map (λ p. told_at w.core p (input_at input p)) w.ports) (told_of_late input (all_come input w))
+    (flat_tookless (λ p. told_at w.core p (input_at input p)) (λ p. at_tookless w.core p (input_at input p)) w.ports) (late input) where
+      late : (input : NodeInput) → AreTookless (told_of_late input (all_come input w))
+      late (AtEnd h i) = tt
+      late TimePasses = flat_tookless (told_late w.core) (late_tookless w.core) (map with_older (all_come TimePasses w).ports)
+
+-- frames that go out, or are lost
+lost_takes : (who : Side) (why : Loss) (xs : List OnWire) → AreNoTakes (first_lost who why xs)
+lost_takes who why [] = tt
+lost_takes who why (x ∷ xs) = (tt, tt)
+
+pushed_takes : (who : Side) (wire : List OnWire) → AreNoTakes (pushed_out who wire)
+pushed_takes who wire = go (nat_lt 64 (length wire)) where
+  go : (b : Bool) → AreNoTakes (cond b (first_lost who TooMany wire) [])
+  go true = lost_takes who TooMany wire
+  go false = tt
+
+puts_takes : (who : Side) (l : Link) (cs : List Control) → AreNoTakes (puts_entries who l cs)
+puts_takes who l [] = tt
+puts_takes who l (c ∷ cs) =
+    all_append IsNoTake (put_entries who l c) (puts_entries who (put l c) cs) (tt, pushed_takes (far who) (wire_with l c)) (puts_takes who (put l c) cs)
+
+ending_takes : (who : Side) (l : Link) (e : LinkEnd) (ending : Ending) → AreNoTakes (ending_entries who l e ending)
+ending_takes who l e GoesOut = puts_takes who l (frames_out e)
+ending_takes who l e CutOff = (tt, tt)
+
+pub frames_tookless : (who : Side) (h : ℕ) (l : Link) (k : Work) → AreTookless (frames_noted who h l k)
+frames_tookless who h l k = go (port_at k.ports h) where
+  go : (o : Option Port) → AreTookless (option_map_or (λ (p : Port). entries_for h (ending_entries who l p.side (ending_of k))) o [])
+  go None = tt
+  go (Some p) = notes_tookless h (ending_entries who l p.side (ending_of k)) (ending_takes who l p.side (ending_of k))
+
+pub first_tookless : (h : ℕ) (who : Side) (why : Loss) (xs : List OnWire) → AreTookless (entries_for h (first_lost who why xs))
+first_tookless h who why xs = notes_tookless h (first_lost who why xs) (lost_takes who why xs)
+
+aged_takes : (who : Side) (xs : List OnWire) → AreNoTakes (aged_entries who xs)
+aged_takes who [] = tt
+aged_takes who (x ∷ xs) = go (nat_lt x.age 4) (aged_takes who xs) where
+  go : (b : Bool) → AreNoTakes (aged_entries who xs) → AreNoTakes (cond b (aged_entries who xs) (Lost who x.frame TooOld ∷ aged_entries who xs))
+  go true later = later
+  go false later = (tt, later)
+
+pub aged_tookless : (sites : List Site)
+    → AreTookless (flat_map (λ (s : Site). entries_for s.host (aged_entries Controller s.link.to_controller ++ aged_entries Host s.link.to_host)) sites)
+aged_tookless [] = tt
+aged_tookless (s ∷ sites) =
+    all_append IsTookless (entries_for s.host (aged_entries Controller s.link.to_controller ++ aged_entries Host s.link.to_host)) _
+    (notes_tookless s.host (aged_entries Controller s.link.to_controller ++ aged_entries Host s.link.to_host)
+    (all_append IsNoTake (aged_entries Controller s.link.to_controller) (aged_entries Host s.link.to_host) (aged_takes Controller s.link.to_controller)
+    (aged_takes Host s.link.to_host)))
+    (aged_tookless sites)

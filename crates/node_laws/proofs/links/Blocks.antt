@@ -1,0 +1,341 @@
+-- The blocks in use at each end of a link, those set aside and those that are spare are 128.
+use Rattle.std.proofs.Common.{◌≡◌, ℕ, ◌+◌, ◌-◌, ◌≤◌, Bool, true, false, cond, List, [], ◌∷◌, ◌++◌, length, Option, Some, None, refl, ap, sym, subst, ◌∙◌, arith}
+use Rattle.std.specs.Prelude.{◌==◌, not, nat_le, nat_lt, drop, is_some}
+use Rattle.std.specs.List.{AllByRecursion}
+use Rattle.std.proofs.lemmas.Bool.{true≢false, ltb-false, ltb-true}
+use Rattle.swp_base.specs.declared.control_frames.Control.{Control}
+use Rattle.swp_base.specs.declared.control_frames.Control.TheVariants.{I, S, Rset, Ua, Act as ActFrame, Clt}
+use Rattle.swp_base.specs.declared.control_frames.Act.{Act}
+use Rattle.swp_base.specs.declared.link_terms.Cause.TheVariants.{Asked}
+use Rattle.trace_model.specs.declared.line.Line.{Line}
+use Rattle.swp_act.specs.declared.ActEvent.{ActEvent}
+use Rattle.swp_act.specs.declared.ActEvent.TheVariants.{Start as ActStart, Take as ActTake, Tick as ActTick, Stop as ActStop}
+use Rattle.shdlc_core.specs.declared.answers.LinkState.{LinkState}
+use Rattle.shdlc_core.specs.declared.answers.LinkState.TheVariants.{Down, Waiting, Up}
+use Rattle.shdlc_core.specs.Machine.{EndState, taken, take_answer, ticked, tick_answer, reset_with, stopped, with_ready, fetched, most_frames}
+use Rattle.link_laws.proofs.sessions.Ties.{fetched-phase, after_frames-phase}
+use Rattle.hcp_packet.specs.Packets.{packet_count}
+use Rattle.link_laws.specs.machine.Machine.{Message, LinkEnd, LinkInput, ActDue, Role, Turn, Refused, is_faulty, is_open, act_answer, role_after, with_act}
+use Rattle.link_laws.specs.machine.Machine.{moved}
+use Rattle.link_laws.specs.machine.Machine.{put_down, activated, heard, had_tick, took, reset_refusal, reset_by, window_of, renewed, new_link_end, sent_all}
+use Rattle.link_laws.specs.machine.Machine.{frame_fetched, after_input, turn, turned, give_refusal, given, whole_among, need_of_all, need, in_use, spare, if_up}
+use Rattle.link_laws.specs.machine.Machine.LinkInput.{Take, TakeUnknown, TakeBroken, Tick, Reset, Start, Stop, FromNode, Fetch}
+use Rattle.link_laws.specs.machine.Machine.Turn.{Give, Hold, FetchMessage, SetAside, Release}
+use Rattle.link_laws.specs.machine.Machine.Role.{Bare, Clf, Uicc}
+use Rattle.link_laws.proofs.machine.Shifts.{IsNotUp, Shift, taken_shift, ticked_shift, reset_shift}
+use Rattle.link_laws.proofs.machine.Shifts.Shift.{Stays, Ends, Renews, Begins, Rests}
+use Rattle.link_laws.proofs.machine.Sound.{SentAfter, whole_more, whole_few, need_less, need_more}
+use Rattle.link_laws.specs.messages.Links.{Link, EndEvent, LinkEvent, exchanged, aged, happens_at_controller, all_at_controller, ticks_at_controller}
+use Rattle.link_laws.specs.messages.Links.{steps_at_controller, happens, after_link_events}
+use Rattle.link_laws.specs.messages.Links.Comes.{Starts}
+use Rattle.link_laws.specs.messages.Links.EndEvent.{Step}
+use Rattle.link_laws.specs.messages.Links.LinkEvent.{AtController, AtHost, Ticks, TicksWithout, Activate}
+use Rattle.link_laws.proofs.messages.Finishing.{reset_tells}
+use Rattle.node_machine.specs.world.World.{Site, new_world}
+use Rattle.node_machine.specs.world.NodeHistories.{world_after}
+use Rattle.node_laws.specs.links.Runs.{new_line, ArePlayable, SharesOut}
+use Rattle.node_laws.proofs.links.Ends.{here_is, tick_is, here_host}
+use Rattle.link_laws.proofs.entries.Together.{ticks_host as tick_host}
+use Rattle.node_laws.proofs.links.Obeying.{obey}
+use Rattle.link_laws.proofs.machine.Reports.{shdlc_is as moved_shdlc, moved_sent as sent_moved}
+use Rattle.link_laws.proofs.entries.Stepping.{fetched_acked as frames_acked, one_fetched_acked}
+
+-- ## Messages
+
+-- a message more leaves those before it whole
+whole_front : (ms : List Message) (m : Message) (a : ℕ) → whole_among ms a ≤ whole_among (ms ++ m ∷ []) a
+whole_front [] m a = omega arith
+whole_front (x ∷ ms) m a = go (nat_le n a) refl (whole_front ms m (a - n)) where
+  n : ℕ
+  n = packet_count (length x.1)
+
+  go : (b : Bool) → nat_le n a ≡ b → whole_among ms (a - n) ≤ whole_among (ms ++ m ∷ []) (a - n)
+      → whole_among (x ∷ ms) a ≤ whole_among (x ∷ (ms ++ m ∷ [])) a
+  go true q later = rw q (omega (arith, later))
+  go false q later = rw q (omega arith)
+
+-- ## One end
+
+-- no more blocks are in use and set aside than there are, and nothing is sent in no session
+pub record IsWithin (e : LinkEnd) : Type 0 where
+  pub room : in_use e + e.aside ≤ 128
+  pub forgot : IsNotUp e.shdlc → e.sent ≡ []
+
+-- no message, no blocks
+empty_within : (e f : LinkEnd) → f.sent ≡ [] → f.aside ≡ e.aside → IsWithin e → IsWithin f
+empty_within e f sent aside a =
+    let none : in_use f ≡ 0 = ap (λ (ms : List Message). need_of_all (drop (whole_among ms f.shdlc.session.acked) ms)) sent in
+    record { room = omega (arith, none, aside, a.room); forgot = λ no. sent }
+
+-- an end becomes one with its messages, of which no fewer are acknowledged
+grown_within : (e f : LinkEnd) → f.sent ≡ e.sent → e.shdlc.session.acked ≤ f.shdlc.session.acked → f.aside ≡ e.aside → (IsNotUp f.shdlc → e.sent ≡ [])
+    → IsWithin e → IsWithin f
+grown_within e f sent acked aside forgot a =
+    let less = need_less e.sent (whole_among e.sent e.shdlc.session.acked) (whole_among e.sent f.shdlc.session.acked)
+    (whole_more e.sent e.shdlc.session.acked f.shdlc.session.acked acked) in
+    let blocks : in_use f ≡ need_of_all (drop (whole_among e.sent f.shdlc.session.acked) e.sent) =
+    ap (λ (ms : List Message). need_of_all (drop (whole_among ms f.shdlc.session.acked) ms)) sent in
+    record { room = omega (arith, blocks, less, a.room, aside); forgot = λ no. sent ∙ forgot no }
+
+-- it becomes one with the same session, messages and phase
+same_within : (e f : LinkEnd) → f.sent ≡ e.sent → f.shdlc.session.acked ≡ e.shdlc.session.acked → f.shdlc.phase ≡ e.shdlc.phase → f.aside ≡ e.aside
+    → IsWithin e → IsWithin f
+same_within e f sent acked phase aside a =
+    grown_within e f sent (omega (arith, acked)) aside (λ no. a.forgot (λ up. no (phase ∙ up))) a
+
+shifted_within : (e f : LinkEnd) (ended began : Bool) → Shift e.shdlc f.shdlc ended began → SentAfter ended e f → f.aside ≡ e.aside → IsWithin e → IsWithin f
+shifted_within e f ended began (Stays p q g) sent aside a =
+    grown_within e f (by ended p sent) g.low aside (λ no. absurd (no g.is)) a
+  where
+    by : (b : Bool) → b ≡ false → SentAfter b e f → f.sent ≡ e.sent
+    by false z s = s
+    by true z s = absurd (true≢false z)
+shifted_within e f ended began (Ends p q up down s) sent aside a = empty_within e f (by ended p sent) aside a
+  where
+    by : (b : Bool) → b ≡ true → SentAfter b e f → f.sent ≡ []
+    by true z s = s
+    by false z s = absurd (true≢false (sym z))
+shifted_within e f ended began (Renews p q up n) sent aside a = empty_within e f (by ended p sent) aside a
+  where
+    by : (b : Bool) → b ≡ true → SentAfter b e f → f.sent ≡ []
+    by true z s = s
+    by false z s = absurd (true≢false (sym z))
+shifted_within e f ended began (Begins p q down n) sent aside a = empty_within e f (by ended p sent) aside a
+  where
+    by : (b : Bool) → b ≡ false → SentAfter b e f → f.sent ≡ []
+    by false z s = s ∙ a.forgot down
+    by true z s = absurd (true≢false z)
+shifted_within e f ended began (Rests p q down still s) sent aside a = empty_within e f (by ended p sent) aside a
+  where
+    by : (b : Bool) → b ≡ false → SentAfter b e f → f.sent ≡ []
+    by false z s = s ∙ a.forgot down
+    by true z s = absurd (true≢false z)
+
+-- ## Turns
+
+give_taken : (e : LinkEnd) (m : Message) → give_refusal e m ≡ None → (e.shdlc.phase ≡ Up) × (need m.1 ≤ spare e)
+give_taken e m q = go e.shdlc.phase refl (nat_lt 4096 (length m.1)) refl (nat_lt (spare e) (need m.1)) refl where
+  go : (p : LinkState) → e.shdlc.phase ≡ p → (b : Bool) → nat_lt 4096 (length m.1) ≡ b → (c : Bool) → nat_lt (spare e) (need m.1) ≡ c
+      → (e.shdlc.phase ≡ Up) × (need m.1 ≤ spare e)
+  go Up p true b c r = let z = rw (p, b) at q in absurd (cc z)
+  go Up p false b true r = let z = rw (p, b, r) at q in absurd (cc z)
+  go Up p false b false r = (p, ltb-false (spare e) (need m.1) r)
+  go Waiting p b r c s = let z = rw p at q in absurd (cc z)
+  go Down p b r c s = let z = rw p at q in absurd (cc z)
+
+given_within : (e : LinkEnd) (m : Message) → give_refusal e m ≡ None → IsWithin e → IsWithin (given e m)
+given_within e m q a =
+    let taken = give_taken e m q in
+    let acked : ℕ = e.shdlc.session.acked in
+    let less = need_less (e.sent ++ m ∷ []) (whole_among e.sent acked) (whole_among (e.sent ++ m ∷ []) acked) (whole_front e.sent m acked) in
+    let more = need_more e.sent m (whole_among e.sent acked) (whole_few e.sent acked) in
+    record { room = omega (arith, less, more, taken.1, a.room); forgot = λ no. absurd (no taken.0) }
+
+ready_acked : (s : EndState) (r : Bool) → (with_ready s r).session.acked ≡ s.session.acked
+ready_acked s r = go s.ready r refl s.session.answered_rnr refl where
+  go : (b r : Bool) → s.ready ≡ b → (c : Bool) → s.session.answered_rnr ≡ c → (with_ready s r).session.acked ≡ s.session.acked
+  go true true p c q = rw p refl
+  go false false p c q = rw p refl
+  go true false p c q = rw p refl
+  go false true p true q = rw (p, q) refl
+  go false true p false q = rw (p, q) refl
+
+pub turn_within : (e : LinkEnd) (t : Turn) → IsWithin e → IsWithin (turn e t)
+turn_within e (Give m) a = go (give_refusal e m) refl where
+  go : (o : Option Refused) → give_refusal e m ≡ o → IsWithin (turn e (Give m))
+  go None q = let is : turn e (Give m) ≡ given e m = rw q refl in subst IsWithin (sym is) (given_within e m q a)
+  go (Some why) q = let is : turn e (Give m) ≡ e = rw q refl in subst IsWithin (sym is) a
+turn_within e (Hold held) a =
+    same_within e (turn e (Hold held)) refl (ready_acked e.shdlc (not held)) (Rattle.link_laws.proofs.sessions.Ties.ready-phase e.shdlc (not held)) refl a
+turn_within e FetchMessage a = same_within e (turn e FetchMessage) refl refl refl refl a
+turn_within e SetAside a = go (nat_lt 0 (spare e)) refl where
+  go : (b : Bool) → nat_lt 0 (spare e) ≡ b → IsWithin (turn e SetAside)
+  go true q =
+      let is : turn e SetAside ≡ record e { aside = e.aside + 1 } = rw q refl in
+      let some = ltb-true 0 (spare e) q in
+      subst IsWithin (sym is) (record { room = omega (arith, some, a.room); forgot = a.forgot })
+  go false q = let is : turn e SetAside ≡ e = rw q refl in subst IsWithin (sym is) a
+turn_within e Release a = record { room = omega (arith, a.room); forgot = a.forgot }
+
+pub turns_within : (e : LinkEnd) (ts : List Turn) → IsWithin e → IsWithin (turned e ts)
+turns_within e [] a = a
+turns_within e (t ∷ ts) a = turns_within (turn e t) ts (turn_within e t a)
+
+-- ## Frames that go out
+
+pub sent_within : (e : LinkEnd) → IsWithin e → IsWithin (sent_all e)
+sent_within e a = same_within e (sent_all e) refl (frames_acked most_frames e.shdlc) (after_frames-phase most_frames e.shdlc) refl a
+
+fetch_within : (e : LinkEnd) → IsWithin e → IsWithin (frame_fetched e)
+fetch_within e a = go e.acts refl where
+  fetch : (f : LinkEnd) → f.sent ≡ e.sent → f.shdlc ≡ fetched e.shdlc → f.aside ≡ e.aside → IsWithin f
+  fetch f sent shdlc aside =
+      same_within e f sent (ap (λ (s : EndState). s.session.acked) shdlc ∙ one_fetched_acked e.shdlc)
+      (ap (λ (s : EndState). s.phase) shdlc ∙ fetched-phase e.shdlc)
+      aside a
+
+  go : (acts : List ActDue) → e.acts ≡ acts → IsWithin (frame_fetched e)
+  go [] q = fetch (frame_fetched e) (rw q refl) (rw q refl) (rw q refl)
+  go (d ∷ acts) q = by (d.behind == 0) refl where
+    by : (b : Bool) → (d.behind == 0) ≡ b → IsWithin (frame_fetched e)
+    by true z =
+        same_within e (frame_fetched e) (rw (q, z) refl) (rw (q, z) refl) (rw (q, z) refl) (rw (q, z) refl) a
+    by false z = fetch (frame_fetched e) (rw (q, z) refl) (rw (q, z) refl) (rw (q, z) refl)
+
+-- ## Inputs
+
+pub moved_aside : (e : LinkEnd) (b : Bool) (s : EndState) → (moved e b s).aside ≡ e.aside
+moved_aside e true s = refl
+moved_aside e false s = refl
+
+moved_within : (e : LinkEnd) (b began : Bool) (s : EndState) → Shift e.shdlc s b began → IsWithin e → IsWithin (moved e b s)
+moved_within e b began s shift a =
+    shifted_within e (moved e b s) b began (subst (λ z. Shift e.shdlc z b began) (sym (moved_shdlc e b s)) shift) (sent_moved e b s) (moved_aside e b s) a
+
+ended_within : (e : LinkEnd) (s : EndState) → IsWithin e → IsWithin (moved e true s)
+ended_within e s a = empty_within e (moved e true s) refl refl a
+
+down_within : (e : LinkEnd) (b : Bool) → IsWithin e → IsWithin (put_down b e)
+down_within e false a = a
+down_within e true a = go e.shdlc.phase refl where
+  go : (p : LinkState) → e.shdlc.phase ≡ p → IsWithin (put_down true e)
+  go Up q = rw q (ended_within e (stopped e.shdlc) a)
+  go Waiting q = rw q (ended_within e (stopped e.shdlc) a)
+  go Down q = same_within e (put_down true e) (rw q refl) (rw q refl) (rw q refl) (rw q refl) a
+
+act_within : (o : Option Act) (e : LinkEnd) → IsWithin e → IsWithin (with_act o e)
+act_within None e a = a
+act_within (Some act) e a = same_within e (with_act (Some act) e) refl refl refl refl a
+
+activated_within : (e : LinkEnd) (event : ActEvent) → IsWithin e → IsWithin (activated e event)
+activated_within e event a =
+    let b : Bool = (act_answer e.role event).ended_link in
+    let down : LinkEnd = put_down b e in
+    act_within (act_answer e.role event).send (record down { role = role_after e.role event })
+    (same_within down (record down { role = role_after e.role event }) refl refl refl refl (down_within e b a))
+
+heard_within : (e : LinkEnd) (c : Control) (b : Bool) → IsWithin e → IsWithin (cond b (heard e c) e)
+heard_within e c false a = a
+heard_within e c true a = go (is_faulty (taken e.shdlc c).session) refl where
+  go : (b : Bool) → is_faulty (taken e.shdlc c).session ≡ b → IsWithin (heard e c)
+  go true q = let is : heard e c ≡ put_down true e = rw q refl in subst IsWithin (sym is) (down_within e true a)
+  go false q =
+      let ended : Bool = is_some (take_answer e.shdlc c).ended in
+      let f : LinkEnd = moved e ended (taken e.shdlc c) in
+      let b : IsWithin f = moved_within e ended (take_answer e.shdlc c).began (taken e.shdlc c) (taken_shift e.shdlc c) a in
+      same_within f (heard e c) (rw q refl) (rw q refl) (rw q refl) (rw q refl) b
+
+took_within : (e : LinkEnd) (c : Control) → IsWithin e → IsWithin (took e c)
+took_within e (ActFrame act again) a = activated_within e (ActTake act again) a
+took_within e Clt a = same_within e (took e Clt) refl refl refl refl a
+took_within e (I ns nr info) a = heard_within e (I ns nr info) (is_open e.role) a
+took_within e (S kind nr) a = heard_within e (S kind nr) (is_open e.role) a
+took_within e (Rset w caps) a = heard_within e (Rset w caps) (is_open e.role) a
+took_within e Ua a = heard_within e Ua (is_open e.role) a
+
+tick_within : (e : LinkEnd) → IsWithin e → IsWithin (had_tick e)
+tick_within e a = go (is_open e.role) refl where
+  go : (b : Bool) → is_open e.role ≡ b → IsWithin (had_tick e)
+  go true o =
+      let ended : Bool = is_some (tick_answer e.shdlc).ended in
+      let is : had_tick e ≡ moved e ended (ticked e.shdlc) = rw o refl in
+      subst IsWithin (sym is) (moved_within e ended false (ticked e.shdlc) (ticked_shift e.shdlc) a)
+  go false o =
+      let is : had_tick e ≡ activated e ActTick = rw o refl in
+      subst IsWithin (sym is) (activated_within e ActTick a)
+
+reset_within : (e : LinkEnd) (window : Option ℕ) → IsWithin e → IsWithin (after_input e (Reset window))
+reset_within e window a = go (reset_refusal e) refl where
+  go : (o : Option Refused) → reset_refusal e ≡ o → IsWithin (after_input e (Reset window))
+  go None q =
+      let w : ℕ = window_of e window in
+      let is : after_input e (Reset window) ≡ reset_by e w = rw q refl in
+      subst IsWithin (sym is) (moved_within e (is_some (if_up e.shdlc Asked)) false (reset_with e.shdlc w) (reset_shift e.shdlc w Asked (reset_tells e q).1) a)
+  go (Some why) q = let is : after_input e (Reset window) ≡ e = rw q refl in subst IsWithin (sym is) a
+
+pub input_within : (e : LinkEnd) (i : LinkInput) → IsWithin e → IsWithin (after_input e i)
+input_within e (Take c) a = took_within e c a
+input_within e TakeUnknown a = same_within e (after_input e TakeUnknown) refl refl refl refl a
+input_within e (TakeBroken fault) a = a
+input_within e Tick a = tick_within e a
+input_within e (Reset window) a = reset_within e window a
+input_within e (Start value) a = activated_within (moved e true (stopped e.shdlc)) (ActStart value) (ended_within e (stopped e.shdlc) a)
+input_within e Stop a = activated_within (moved e true (stopped e.shdlc)) ActStop (ended_within e (stopped e.shdlc) a)
+input_within e (FromNode t) a = turn_within e t a
+input_within e Fetch a = fetch_within e a
+
+pub new_within : (e : LinkEnd) → IsWithin e → IsWithin (new_link_end (renewed e.role))
+new_within e a = go e.role where
+  go : (r : Role) → IsWithin (new_link_end (renewed r))
+  go Bare = record { room = omega arith; forgot = λ no. refl }
+  go (Clf s) = record { room = omega arith; forgot = λ no. refl }
+  go (Uicc s) = record { room = omega arith; forgot = λ no. refl }
+
+-- ## Links
+
+-- both ends are so
+record AreWithin (l : Link) : Type 0 where
+  near : IsWithin l.controller.side
+  far : IsWithin l.host.side
+
+here_within : (l : Link) (x : EndEvent) → AreWithin l → AreWithin (happens_at_controller l x)
+here_within l x a = record {
+  near = here_is IsWithin input_within turns_within sent_within new_within l x a.near;
+  far = subst (λ (h : Rattle.link_laws.specs.messages.Links.NumberedEnd). IsWithin h.side) (sym (here_host l x)) a.far;
+}
+
+all_within : (l : Link) (xs : List EndEvent) → AreWithin l → AreWithin (all_at_controller l xs)
+all_within l [] a = a
+all_within l (x ∷ xs) a = all_within (happens_at_controller l x) xs (here_within l x a)
+
+over : (l : Link) → AreWithin l → AreWithin (exchanged l)
+over l a = record { near = a.far; far = a.near }
+
+ticks_within : (l : Link) (ts : List Turn) (ending : Rattle.link_laws.specs.messages.Links.Ending) → AreWithin l
+    → AreWithin (ticks_at_controller l ts ending)
+ticks_within l ts ending a = record {
+  near = tick_is IsWithin input_within turns_within sent_within new_within l ts ending a.near;
+  far = subst (λ (h : Rattle.link_laws.specs.messages.Links.NumberedEnd). IsWithin h.side) (sym (tick_host l ts ending)) a.far;
+}
+
+event_within : (l : Link) (e : LinkEvent) → AreWithin l → AreWithin (happens l e)
+event_within l (AtController x) a = here_within l x a
+event_within l (AtHost x) a = over (happens_at_controller (exchanged l) x) (here_within (exchanged l) x (over l a))
+event_within l (Ticks c events h) a =
+    let near : Link = all_at_controller (ticks_at_controller (aged l) c.turns c.ending) events in
+    let b : AreWithin near = all_within (ticks_at_controller (aged l) c.turns c.ending) events
+    (ticks_within (aged l) c.turns c.ending (record { near = a.near; far = a.far })) in
+    over (ticks_at_controller (exchanged near) h.turns h.ending) (ticks_within (exchanged near) h.turns h.ending (over near b))
+event_within l (TicksWithout events h) a =
+    let near : Link = all_at_controller (aged l) events in
+    let b : AreWithin near = all_within (aged l) events (record { near = a.near; far = a.far }) in
+    over (ticks_at_controller (exchanged near) h.turns h.ending) (ticks_within (exchanged near) h.turns h.ending (over near b))
+event_within l (Activate power c id h) a =
+    let near : Link = steps_at_controller l (Starts power) c.turns c.ending in
+    let b : AreWithin near = here_within l (Step (Starts power) c.turns c.ending) a in
+    over (steps_at_controller (exchanged near) (Starts id) h.turns h.ending)
+    (here_within (exchanged near) (Step (Starts id) h.turns h.ending) (over near b))
+
+after_within : (l : Link) (events : List LinkEvent) → AreWithin l → AreWithin (after_link_events l events)
+after_within l [] a = a
+after_within l (e ∷ events) a = after_within (happens l e) events (event_within l e a)
+
+new_line_within : AreWithin new_line
+new_line_within = record { near = record { room = omega arith; forgot = λ no. refl }; far = record { room = omega arith; forgot = λ no. refl } }
+
+-- ## Worlds
+
+shares : (e : LinkEnd) → IsWithin e → SharesOut e
+shares e a = omega (arith, a.room)
+
+pub near_shares : (hosts : List ℕ) (lines : List Line) → ArePlayable lines
+    → AllByRecursion (λ (s : Site). SharesOut s.link.controller.side) (world_after (new_world hosts) lines).sites
+near_shares = obey (λ l. SharesOut l.controller.side)
+    (λ l r. subst (λ (k : Link). SharesOut k.controller.side) r.run.is
+    (shares (after_link_events new_line r.events).controller.side (after_within new_line r.events new_line_within).near))
+
+pub far_shares : (hosts : List ℕ) (lines : List Line) → ArePlayable lines
+    → AllByRecursion (λ (s : Site). SharesOut s.link.host.side) (world_after (new_world hosts) lines).sites
+far_shares = obey (λ l. SharesOut l.host.side)
+    (λ l r. subst (λ (k : Link). SharesOut k.host.side) r.run.is
+    (shares (after_link_events new_line r.events).host.side (after_within new_line r.events new_line_within).far))

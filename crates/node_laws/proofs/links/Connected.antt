@@ -1,0 +1,62 @@
+-- A host that gets a notice is connected.
+use Rattle.std.proofs.Common.{◌≡◌, ℕ, Bool, true, false, cond, List, [], ◌∷◌, refl, sym}
+use Rattle.std.specs.Prelude.{Option, Some, None}
+use Rattle.std.specs.List.{AllByRecursion}
+use Rattle.std.specs.Option.{option_map_or, option_and_then}
+use Rattle.std.proofs.lemmas.Bool.{true≢false}
+use Rattle.hci_tables.specs.Tables.{HciTables}
+use Rattle.pipe_table.specs.PipeRows.{pipe_at}
+use Rattle.gate_answers.specs.Answers.{param_in}
+use Rattle.gate_admin.specs.declared.view.LinkView.{LinkView}
+use Rattle.gate_admin.specs.declared.decision.Decision.{Decision}
+use Rattle.gate_admin.specs.declared.decision.Decision.TheVariants.{Answer, Commit, Ask}
+use Rattle.gate_admin.specs.View.{has, hosts_where, mask_of, is_connected}
+use Rattle.gate_admin.specs.Decide.{far_end_of}
+use Rattle.gate_admin.specs.Decide.{shares, decided}
+use Rattle.gate_admin.specs.Decide.{told_of_clearing}
+use Rattle.tables_laws.proofs.gate.Decisions.{decided_holds}
+use Rattle.node_laws.proofs.links.Masking.{nobody, alone, from_mask, all_in}
+
+-- they are connected
+abbrev pub AreConnected : LinkView → List ℕ → Type 0
+AreConnected v hosts = AllByRecursion (λ (x : ℕ). is_connected v x ≡ true) hosts
+
+-- those that are told of a change are connected
+abbrev pub TellsConnected : LinkView → Decision → Type 0
+TellsConnected v (Answer answer) = Unit {0}
+TellsConnected v (Commit c answer tell notice) = AreConnected v (hosts_where (has tell))
+TellsConnected v (Ask dest notice c answer) = Unit {0}
+
+module _ (v : LinkView) where
+  none_told : AreConnected v (hosts_where (has 0))
+  none_told = rw nobody tt
+
+  deletion : (o : Option (ℕ × ℕ))
+      → AreConnected v (hosts_where (has (mask_of (option_map_or (λ (end : ℕ × ℕ). cond (is_connected v end.0) (end.0 ∷ []) []) o []))))
+  deletion None = none_told
+  deletion (Some end) = go (is_connected v end.0) refl
+    where
+      go : (b : Bool) → is_connected v end.0 ≡ b → AreConnected v (hosts_where (has (mask_of (cond b (end.0 ∷ []) []))))
+      go true q = alone (λ x. is_connected v x ≡ true) v.connected end.0 q q
+      go false q = none_told
+
+  -- each that is in the mask of the hosts that share a pipe is connected
+  sharing : (t : HciTables) (host : ℕ) (hosts : List ℕ) → AllByRecursion (λ x. has (mask_of (told_of_clearing t v host)) x ≡ true) hosts → AreConnected v hosts
+  sharing t host [] a = tt
+  sharing t host (x ∷ hosts) a = (first (is_connected v x) refl (from_mask (shares t v host) x a.0), sharing t host hosts a.1)
+    where
+      first : (b : Bool) → is_connected v x ≡ b → shares t v host x ≡ true → is_connected v x ≡ true
+      first true q s = q
+      first false q s = absurd (true≢false (sym (rw q at s)))
+
+  pub decided_tells : (t : HciTables) (host pipe instruction : ℕ) (body : List ℕ) → TellsConnected v (decided t v host pipe instruction body)
+  decided_tells t host pipe n body =
+      decided_holds (TellsConnected v) t v host pipe body n (λ r value. tt) (λ _. record {
+        opens = none_told;
+        closes = none_told;
+        sets = λ _. none_told;
+        makes = λ _ controller. none_told;
+        asks = λ _ other. tt;
+        deletes = λ _. deletion (option_and_then (far_end_of host) (pipe_at t.rows (param_in body)));
+        clears = λ _. sharing t host (hosts_where (has (mask_of (told_of_clearing t v host)))) (all_in (has (mask_of (told_of_clearing t v host))));
+      })

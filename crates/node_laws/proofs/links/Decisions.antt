@@ -1,0 +1,86 @@
+-- Each answer and each notice that a gate decides on has a byte.
+use Rattle.std.proofs.Common.{◌≡◌, ℕ, ◌<◌, Bool, true, false, eqb, List, [], ◌∷◌, length, refl, arith}
+use Rattle.std.specs.Prelude.{Option, Some, None}
+use Rattle.std.specs.List.{AllByRecursion}
+use Rattle.hci_tables.specs.Tables.{HciTables}
+use Rattle.hci_tables.specs.declared.command.Command.{Command}
+use Rattle.hci_tables.specs.declared.command.Command.TheVariants.{Delete, Clear}
+use Rattle.gate_answers.specs.declared.response.Response.{Response}
+use Rattle.gate_answers.specs.declared.response.Response.TheVariants as response
+use Rattle.gate_answers.specs.Answers.{answer_of, first_of, tests_to_set, tests_to_get, param_in, value_in}
+use Rattle.gate_admin.specs.declared.view.LinkView.{LinkView}
+use Rattle.gate_admin.specs.declared.decision.Decision.{Decision}
+use Rattle.gate_admin.specs.declared.decision.Decision.TheVariants.{Answer, Commit, Ask}
+use Rattle.gate_admin.specs.View.{has, hosts_where, mask_of}
+use Rattle.gate_admin.specs.Decide.{ends_of, commits_and_tells}
+use Rattle.gate_admin.specs.Decide.{decided, others_opened, told_of_deletion}
+use Rattle.gate_admin.specs.Decide.{told_of_clearing}
+use Rattle.tables_laws.proofs.gate.Decisions.{new_row, decided_holds}
+use Rattle.gate_link.specs.Link.{count_bytes, count_in, tests_to_set_errors, link_served, link_unless_refused as link_unless}
+use Rattle.gate_identity.specs.Identity.{identity_value, identity_served, identity_unless_refused as identity_unless}
+use Rattle.node_laws.proofs.links.Masking.{nobody}
+
+-- it has a byte
+abbrev pub IsSpoken : List ℕ → Type 0
+IsSpoken message = 0 < length message
+
+answer_spoken : (r : Response) (value : List ℕ) → IsSpoken (answer_of r value)
+answer_spoken r value = omega arith
+
+-- ## The administration gate
+
+-- so it is with a decision: a notice has a byte where a host is told
+abbrev pub Speaks : Decision → Type 0
+Speaks (Answer answer) = IsSpoken answer.items
+Speaks (Commit c answer tell notice) = IsSpoken answer.items × AllByRecursion (λ (x : ℕ). IsSpoken notice.items) (hosts_where (has tell))
+Speaks (Ask dest notice c answer) = IsSpoken notice.items × IsSpoken answer.items
+
+all_spoken : (message : List ℕ) → IsSpoken message → (hosts : List ℕ) → AllByRecursion (λ (x : ℕ). IsSpoken message) hosts
+all_spoken message a [] = tt
+all_spoken message a (x ∷ hosts) = (a, all_spoken message a hosts)
+
+none_told : (message : List ℕ) → AllByRecursion (λ (x : ℕ). IsSpoken message) (hosts_where (has 0))
+none_told message = rw nobody tt
+
+tells_speaks : (c : Command) (told notice : List ℕ) → IsSpoken notice → Speaks (commits_and_tells c told notice)
+tells_speaks c [] notice a = (answer_spoken response.Ok [], none_told [])
+tells_speaks c (x ∷ told) notice a = (answer_spoken response.Ok [], all_spoken notice a (hosts_where (has (mask_of (x ∷ told)))))
+
+pub decided_speaks : (t : HciTables) (v : LinkView) (host pipe instruction : ℕ) (body : List ℕ) → Speaks (decided t v host pipe instruction body)
+decided_speaks t v host pipe n body =
+    decided_holds Speaks t v host pipe body n answer_spoken (λ _. record {
+      opens = (answer_spoken response.Ok (others_opened t host pipe ∷ []), none_told []);
+      closes = (answer_spoken response.Ok [], none_told []);
+      sets = λ _. (answer_spoken response.Ok [], none_told []);
+      makes = λ _ controller. (answer_spoken response.Ok (ends_of (new_row t v host body)), none_told []);
+      asks = λ _ other. (omega arith, omega arith);
+      deletes = λ _. tells_speaks (Delete (param_in body)) (told_of_deletion t v host (param_in body)) (19 ∷ param_in body ∷ []) (omega arith);
+      clears = λ _. tells_speaks (Clear host) (told_of_clearing t v host) (21 ∷ host ∷ []) (omega arith);
+    })
+
+-- ## Other gates
+
+link_one : (o : Option Response) (otherwise : List ℕ × Option ℕ) → IsSpoken otherwise.0 → IsSpoken (link_unless o otherwise).0
+link_one (Some r) otherwise a = answer_spoken r []
+link_one None otherwise a = a
+
+pub link_spoken : (errors instruction : ℕ) (body : List ℕ) → IsSpoken (link_served errors instruction body).0
+link_spoken errors instruction body = go (eqb instruction 1) (eqb instruction 2) refl refl
+  where
+    go : (a b : Bool) → eqb instruction 1 ≡ a → eqb instruction 2 ≡ b → IsSpoken (link_served errors instruction body).0
+    go true b p q = rw p (link_one (first_of (tests_to_set_errors body)) (answer_of response.Ok [], Some (count_in (value_in body))) (omega arith))
+    go false true p q = rw (p, q) (link_one (first_of (tests_to_get 6 body)) (answer_of response.Ok (count_bytes errors), None) (omega arith))
+    go false false p q = rw (p, q) (omega arith)
+
+identity_one : (o : Option Response) (otherwise : List ℕ) → IsSpoken otherwise → IsSpoken (identity_unless o otherwise)
+identity_one (Some r) otherwise a = answer_spoken r []
+identity_one None otherwise a = a
+
+pub identity_spoken : (gates : List ℕ) (instruction : ℕ) (body : List ℕ) → IsSpoken (identity_served gates instruction body)
+identity_spoken gates instruction body = go (eqb instruction 1) (eqb instruction 2) refl refl
+  where
+    go : (a b : Bool) → eqb instruction 1 ≡ a → eqb instruction 2 ≡ b → IsSpoken (identity_served gates instruction body)
+    go true b p q = rw p (identity_one (first_of (tests_to_set 5 body)) (answer_of response.RegistryAccessDenied []) (omega arith))
+    go false true p q =
+        rw (p, q) (identity_one (first_of (tests_to_get 5 body)) (answer_of response.Ok (identity_value gates (param_in body))) (omega arith))
+    go false false p q = rw (p, q) (omega arith)

@@ -1,0 +1,170 @@
+-- What came at an end may be sent on: its messages aren't empty, and their pipes aren't reserved.
+use Rattle.std.proofs.Common.{◌≡◌, ℕ, zero, suc, ◌<◌, Bool, true, false, cond, List, [], ◌∷◌, ◌++◌, length, Option, Some, None, refl, sym, subst, ◌∙◌, arith}
+use Rattle.std.specs.Prelude.{drop, nat_lt, is_some, ◌%◌, ◌==◌}
+use Rattle.std.specs.List.{AllByRecursion}
+use Rattle.std.proofs.lemmas.Bool.{ltb-true, true≢false}
+use Rattle.swp_base.specs.declared.control_frames.Control.{Control}
+use Rattle.swp_base.specs.declared.control_frames.Control.TheVariants.{I, S, Rset, Ua, Act as ActFrame, Clt}
+use Rattle.swp_base.specs.declared.link_terms.Cause.TheVariants.{Asked}
+use Rattle.swp_act.specs.declared.ActEvent.TheVariants.{Take as ActTake, Tick as ActTick, Start as ActStart, Stop as ActStop}
+use Rattle.shdlc_core.specs.Machine.{Session, taken, ticked, tick_answer, reset_with, stopped}
+use Rattle.hcp_packet.specs.declared.Packet.{Packet}
+use Rattle.hcp_packet.specs.Packets.{packets_in, is_good, good_of, AreSendable}
+use Rattle.hcp_chain.specs.Joining.{join_step, message_in, given_by, is_fifth, grown}
+use Rattle.link_laws.specs.machine.Machine.{Message, LinkEnd, ActDue, Refused, LinkInput, Turn, is_faulty, messages_got, is_open, moved, put_down, activated}
+use Rattle.link_laws.specs.machine.Machine.{started, deactivated, news, heard, took, had_tick, give_refusal, aside_refusal, turn, turned, reset_refusal}
+use Rattle.link_laws.specs.machine.Machine.{reset_by}
+use Rattle.link_laws.specs.machine.Machine.{if_up, window_of, after_input, frame_fetched}
+use Rattle.link_laws.specs.machine.Machine.LinkInput.{Take, TakeUnknown, TakeBroken, Tick, Reset, Start, Stop, FromNode, Fetch}
+use Rattle.link_laws.specs.machine.Machine.Turn.{Give, Hold, FetchMessage, SetAside, Release}
+use Rattle.link_laws.proofs.machine.Kept.{moved_got, down_got, activated_got}
+
+-- ## Lists
+
+pub sendable-append : (ms ns : List Message) → AreSendable ms → AreSendable ns → AreSendable (ms ++ ns)
+sendable-append [] ns a b = b
+sendable-append (m ∷ ms) ns a b = (a.0, sendable-append ms ns a.1 b)
+
+pub sendable-drop : (n : ℕ) (ms : List Message) → AreSendable ms → AreSendable (drop n ms)
+sendable-drop zero ms a = a
+sendable-drop (suc n) [] a = tt
+sendable-drop (suc n) (m ∷ ms) a = sendable-drop n ms a.1
+
+-- ## Messages of fragments
+
+abbrev HavePipes : List Packet → Type 0
+HavePipes ps = AllByRecursion (λ (p : Packet). p.pipe < 112) ps
+
+abbrev OnPipes : List Message → Type 0
+OnPipes ms = AllByRecursion (λ (m : Message). m.0 < 112) ms
+
+have_pipes : (fs : List (List ℕ)) → HavePipes (packets_in fs)
+have_pipes [] = tt
+have_pipes ([] ∷ fs) = have_pipes fs
+have_pipes ((first ∷ rest) ∷ fs) = go (nat_lt (first % 128) 112) refl (have_pipes fs)
+  where
+    go : (b : Bool) → nat_lt (first % 128) 112 ≡ b → HavePipes (packets_in fs) → HavePipes (packets_in ((first ∷ rest) ∷ fs))
+    go true q later = rw q (ltb-true (first % 128) 112 q, later)
+    go false q later = rw q later
+
+on_pipes-append : (ms ns : List Message) → OnPipes ms → OnPipes ns → OnPipes (ms ++ ns)
+on_pipes-append [] ns a b = b
+on_pipes-append (m ∷ ms) ns a b = (a.0, on_pipes-append ms ns a.1 b)
+
+joined_pipe : (begun : List Message) (p : Packet) → p.pipe < 112 → OnPipes (message_in (join_step begun p).0)
+joined_pipe begun p fits = go (is_fifth begun p.pipe) (nat_lt 4096 (length (grown begun p))) p.last refl refl refl
+  where
+    go : (a b c : Bool) → is_fifth begun p.pipe ≡ a → nat_lt 4096 (length (grown begun p)) ≡ b → p.last ≡ c → OnPipes (message_in (join_step begun p).0)
+    go true b c x y z = rw x tt
+    go false true c x y z = rw (x, y) tt
+    go false false true x y z = rw (x, y, z) (fits, tt)
+    go false false false x y z = rw (x, y, z) tt
+
+on_pipes : (begun : List Message) (ps : List Packet) → HavePipes ps → OnPipes (given_by begun ps)
+on_pipes begun [] a = tt
+on_pipes begun (p ∷ ps) a =
+    on_pipes-append (message_in (join_step begun p).0) (given_by (join_step begun p).1 ps) (joined_pipe begun p a.0) (on_pipes (join_step begun p).1 ps a.1)
+
+good_sendable : (ms : List Message) → OnPipes ms → AreSendable (good_of ms)
+good_sendable [] a = tt
+good_sendable (m ∷ ms) a = by (is_good m.1) refl (good_sendable ms a.1)
+  where
+    long : (bytes : List ℕ) → is_good bytes ≡ true → 0 < length bytes
+    long [] z = absurd (true≢false (sym z))
+    long (first ∷ rest) z = omega arith
+
+    by : (b : Bool) → is_good m.1 ≡ b → AreSendable (good_of ms) → AreSendable (good_of (m ∷ ms))
+    by true q later = rw q ((a.0, long m.1 q), later)
+    by false q later = rw q later
+
+pub got_sendable : (s : Session) → AreSendable (messages_got s)
+got_sendable s = good_sendable (given_by [] (packets_in s.acc)) (on_pipes [] (packets_in s.acc) (have_pipes s.acc))
+
+-- ## What came at an end
+
+abbrev pub Clean : LinkEnd → Type 0
+Clean e = AreSendable e.got
+
+got_same : (e f : LinkEnd) → f.got ≡ e.got → Clean e → Clean f
+got_same e f q c = let P : List Message → Type 0 = λ ms. AreSendable ms in subst P (sym q) c
+
+heard_clean : (e : LinkEnd) (c : Control) → Clean e → Clean (heard e c)
+heard_clean e c a = go (is_faulty (taken e.shdlc c).session) refl
+  where
+    go : (b : Bool) → is_faulty (taken e.shdlc c).session ≡ b → Clean (heard e c)
+    go true q = rw q (got_same e (put_down true e) (down_got e true) a)
+    go false q =
+        rw q (sendable-append e.got (news e.shdlc.session (taken e.shdlc c)) a
+        (sendable-drop (length (messages_got e.shdlc.session)) (messages_got (taken e.shdlc c).session) (got_sendable (taken e.shdlc c).session)))
+
+open_clean : (e : LinkEnd) (c : Control) (b : Bool) → Clean e → Clean (cond b (heard e c) e)
+open_clean e c true a = heard_clean e c a
+open_clean e c false a = a
+
+took_clean : (e : LinkEnd) (c : Control) → Clean e → Clean (took e c)
+took_clean e (ActFrame act again) a = got_same e (activated e (ActTake act again)) (activated_got e (ActTake act again)) a
+took_clean e Clt a = a
+took_clean e (I ns nr info) a = open_clean e (I ns nr info) (is_open e.role) a
+took_clean e (S kind nr) a = open_clean e (S kind nr) (is_open e.role) a
+took_clean e (Rset w caps) a = open_clean e (Rset w caps) (is_open e.role) a
+took_clean e Ua a = open_clean e Ua (is_open e.role) a
+
+tick_clean : (e : LinkEnd) → Clean e → Clean (had_tick e)
+tick_clean e a = go (is_open e.role) refl
+  where
+    go : (b : Bool) → is_open e.role ≡ b → Clean (had_tick e)
+    go true q =
+        let b : Bool = is_some (tick_answer e.shdlc).ended in
+        rw q (got_same e (moved e b (ticked e.shdlc)) (moved_got e b (ticked e.shdlc)) a)
+    go false q = rw q (got_same e (activated e ActTick) (activated_got e ActTick) a)
+
+reset_clean : (e : LinkEnd) (window : Option ℕ) → Clean e → Clean (after_input e (Reset window))
+reset_clean e window a = go (reset_refusal e) refl
+  where
+    go : (o : Option Refused) → reset_refusal e ≡ o → Clean (after_input e (Reset window))
+    go None q =
+        let w : ℕ = window_of e window in
+        rw q (got_same e (reset_by e w) (moved_got e (is_some (if_up e.shdlc Asked)) (reset_with e.shdlc w)) a)
+    go (Some why) q = rw q a
+
+turn_clean : (e : LinkEnd) (t : Turn) → Clean e → Clean (turn e t)
+turn_clean e (Give m) a = go (give_refusal e m) refl
+  where
+    go : (o : Option Refused) → give_refusal e m ≡ o → Clean (turn e (Give m))
+    go None q = rw q a
+    go (Some why) q = rw q a
+turn_clean e (Hold held) a = a
+turn_clean e FetchMessage a = sendable-drop 1 e.got a
+turn_clean e SetAside a = go (aside_refusal e) refl
+  where
+    go : (o : Option Refused) → aside_refusal e ≡ o → Clean (turn e SetAside)
+    go None q = rw q a
+    go (Some why) q = rw q a
+turn_clean e Release a = a
+
+pub turned_clean : (e : LinkEnd) (ts : List Turn) → Clean e → Clean (turned e ts)
+turned_clean e [] a = a
+turned_clean e (t ∷ ts) a = turned_clean (turn e t) ts (turn_clean e t a)
+
+pub one_clean : (e : LinkEnd) (t : Turn) → Clean e → Clean (turn e t)
+one_clean = turn_clean
+
+pub input_clean : (e : LinkEnd) (i : LinkInput) → Clean e → Clean (after_input e i)
+input_clean e (Take c) a = took_clean e c a
+input_clean e TakeUnknown a = a
+input_clean e (TakeBroken fault) a = a
+input_clean e Tick a = tick_clean e a
+input_clean e (Reset window) a = reset_clean e window a
+input_clean e (Start value) a =
+    got_same e (started e value) (activated_got (moved e true (stopped e.shdlc)) (ActStart value) ∙ moved_got e true (stopped e.shdlc)) a
+input_clean e Stop a = got_same e (deactivated e) (activated_got (moved e true (stopped e.shdlc)) ActStop ∙ moved_got e true (stopped e.shdlc)) a
+input_clean e (FromNode t) a = turn_clean e t a
+input_clean e Fetch a = got_same e (frame_fetched e) (fetched_got e.acts refl) a
+  where
+    fetched_got : (acts : List ActDue) → e.acts ≡ acts → (frame_fetched e).got ≡ e.got
+    fetched_got [] q = rw q refl
+    fetched_got (x ∷ acts) q = by (x.behind == 0) refl
+      where
+        by : (b : Bool) → (x.behind == 0) ≡ b → (frame_fetched e).got ≡ e.got
+        by true z = rw (q, z) refl
+        by false z = rw (q, z) refl

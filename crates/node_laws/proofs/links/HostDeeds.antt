@@ -1,0 +1,60 @@
+-- What hosts send may be sent.
+use Rattle.std.proofs.Common.{ℕ, ◌<◌, List, [], arith}
+use Rattle.std.specs.List.{AllByRecursion}
+use Rattle.hcp_packet.specs.Packets.{IsSendable}
+use Rattle.hci_tables.specs.declared.command.Command.{Command}
+use Rattle.hci_tables.specs.declared.command.Command.TheVariants.{Create, Delete, Clear}
+use Rattle.gate_answers.specs.declared.response.Response.TheVariants as response
+use Rattle.gate_answers.specs.Answers.{answer_of, body_in}
+use Rattle.gate_link.specs.Link.{link_served}
+use Rattle.gate_identity.specs.Identity.{identity_served}
+use Rattle.link_laws.specs.machine.Machine.{Message}
+use Rattle.registry.proofs.ValueLemmas.{AllByRecursion-get}
+use Rattle.node_machine.specs.Parts.{Init, Core, Port}
+use Rattle.node_machine.specs.Carrying.{finds_room}
+use Rattle.node_machine.specs.Controller.{gates}
+use Rattle.node_machine.specs.HostReplies.{accepts, orders_of, ordered_deeds, host_deeds}
+use Rattle.node_laws.proofs.links.Decisions.{IsSpoken, link_spoken, identity_spoken}
+use Rattle.node_laws.proofs.steps.Walks.{OfHost, ordered_holds, host_holds, all_heard, orders_hold}
+use Rattle.node_laws.proofs.links.Deeds.{IsFine, AreFine, answers_fine, commit_fine, link_fine, low}
+
+accepts_fine : (core : Core) (c : Command) → AreFine (accepts core c)
+accepts_fine core c = commit_fine (finds_room core c) core.node 1 c (answer_of response.Ok []) [] low (omega arith) tt
+
+-- ## Init
+
+orders_spoken : (i : Init) → AllByRecursion IsSpoken (orders_of i)
+orders_spoken i = orders_hold IsSpoken i (omega arith) (omega arith) (omega arith) (λ pipe. omega arith) (omega arith)
+
+own : (core : Core) → OfHost IsFine core
+own core = record {
+  commits = λ c. tt;
+  hears = tt;
+  goes_on = λ i. tt;
+  orders = λ i k order is. AllByRecursion-get IsSpoken (orders_of i) k order (orders_spoken i) is;
+  same = tt;
+  made = λ count. tt;
+  failed = λ code. tt;
+}
+
+-- ## Messages
+
+ordered_fine : (core : Core) (errors pipe n : ℕ) (body : List ℕ) → pipe < 112 → AreFine (ordered_deeds core errors pipe n body)
+ordered_fine core errors pipe n body p = ordered_holds AreFine core errors pipe n body (record {
+  none = tt;
+  refuses = λ r. answers_fine core.node 1 (answer_of r []) low (omega arith);
+  creates = λ row named welcome. accepts_fine core (Create row);
+  deletes = λ pid kept. accepts_fine core (Delete pid);
+  clears = λ x host. accepts_fine core (Clear x);
+  counts = λ zero. link_fine core.node 0 (link_served errors n body) (omega arith) (link_spoken errors n body);
+  names = λ off. answers_fine core.node pipe (identity_served gates n body) p (identity_spoken gates n body);
+})
+
+pub host_fine : (core : Core) (p : Port) (m : Message) → IsSendable m → AreFine (host_deeds core p m)
+host_fine core p m s = host_holds AreFine core p m (record {
+  none = tt;
+  drops = (tt, tt);
+  goes = (s, tt);
+  ordered = λ n is. ordered_fine core p.desk.errors m.0 n (body_in m.1) s.0;
+  heard = λ code order is. all_heard IsFine core (own core) code order (body_in m.1);
+})

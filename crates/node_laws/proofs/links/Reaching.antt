@@ -1,0 +1,68 @@
+-- A controller tells and asks only hosts whose links are up.
+use Rattle.std.proofs.Common.{◌≡◌, ℕ, Bool, true, false, ◌&&◌, List, [], ◌∷◌, refl}
+use Rattle.std.specs.Prelude.{Option, Some, None}
+use Rattle.std.specs.List.{AllByRecursion}
+use Rattle.std.specs.Option.{option_map_or}
+use Rattle.link_laws.specs.sessions.Sessions.{is_up}
+use Rattle.hci_tables.specs.declared.command.Command.{Command}
+use Rattle.hci_tables.specs.declared.command.Command.TheVariants.{Create, Delete, Clear, SetOpened, Set, Sync}
+use Rattle.hci_tables.specs.Tables.{HciTables, is_opened}
+use Rattle.gate_answers.specs.Answers.{body_in}
+use Rattle.gate_admin.specs.declared.view.LinkView.{LinkView}
+use Rattle.gate_admin.specs.declared.decision.Decision.{Decision}
+use Rattle.gate_admin.specs.declared.decision.Decision.TheVariants.{Answer, Commit, Ask}
+use Rattle.gate_admin.specs.View.{has, hosts_where, is_connected}
+use Rattle.gate_admin.specs.Decide.{decided}
+use Rattle.tables_laws.specs.gate.Rules.{AsksAsAllowed, IsAskedFor}
+use Rattle.tables_laws.proofs.gate.Decisions.{decided_as_allowed}
+use Rattle.link_laws.specs.machine.Machine.{Message}
+use Rattle.node_machine.specs.Parts.{Core, Port}
+use Rattle.node_machine.specs.Carrying.{port_at}
+use Rattle.node_machine.specs.Controller.{has_link, is_connected_at, view_for, controller_deeds}
+use Rattle.node_laws.proofs.steps.Walks.{Plain, OfDecision, all_of_controller}
+use Rattle.node_laws.specs.links.Notices.{Reaches, AllReach}
+use Rattle.node_laws.proofs.links.Masking.{from_mask}
+use Rattle.node_laws.proofs.links.Connected.{AreConnected, decided_tells, TellsConnected}
+
+-- the link with this host is up
+abbrev pub IsLinked : List Port → ℕ → Type 0
+IsLinked ports x = has_link ports x ≡ true
+
+linked_of : (t : HciTables) (ports : List Port) (h x : ℕ) → is_connected (view_for t ports h) x ≡ true → IsLinked ports x
+linked_of t ports h x q = go (port_at ports x) (from_mask (λ k. option_map_or (is_connected_at t) (port_at ports k) false) x q)
+  where
+    up : (a b : Bool) → (a && b) ≡ true → a ≡ true
+    up true b z = refl
+    up false b z = z
+
+    go : (o : Option Port) → option_map_or (is_connected_at t) o false ≡ true → option_map_or (λ (p : Port). is_up p.side.shdlc.phase) o false ≡ true
+    go None z = z
+    go (Some p) z = up (is_up p.side.shdlc.phase) (is_opened t p.desk.host 1) z
+
+asked_reach : (t : HciTables) (ports : List Port) (h dest : ℕ) (c : Command) → IsAskedFor t (view_for t ports h) h dest c → IsLinked ports dest
+asked_reach t ports h dest (Create row) a = linked_of t ports h dest a.connected
+asked_reach t ports h dest (Delete pid) a = absurd a
+asked_reach t ports h dest (Clear other) a = absurd a
+asked_reach t ports h dest (SetOpened other pid opened) a = absurd a
+asked_reach t ports h dest (Set other gate param value) a = absurd a
+asked_reach t ports h dest (Sync other id) a = absurd a
+
+plain : (ports : List Port) → Plain (Reaches ports)
+plain ports = record { sends = λ to x. tt; says_ok = tt; releases = λ asker. tt; is_answered = tt; drops = λ pid. tt }
+
+decision_reach : (t : HciTables) (ports : List Port) (h : ℕ) (d : Decision) → AsksAsAllowed t (view_for t ports h) h d → TellsConnected (view_for t ports h) d
+    → OfDecision (Reaches ports) h d
+decision_reach t ports h (Answer answer) a b = tt
+decision_reach t ports h (Commit c answer tell notice) a b = (tt, each (hosts_where (has tell)) b) where
+  each : (hosts : List ℕ) → AreConnected (view_for t ports h) hosts → AllByRecursion (IsLinked ports) hosts
+  each [] b = tt
+  each (x ∷ hosts) b = (linked_of t ports h x b.0, each hosts b.1)
+decision_reach t ports h (Ask asked notice c answer) a b = asked_reach t ports h asked c a
+
+pub controller_reach : (core : Core) (ports : List Port) (h : ℕ) (m : Message) → AllReach ports (controller_deeds core ports h m)
+controller_reach core ports h m =
+    let v : LinkView = view_for core.tables ports h in
+    all_of_controller (Reaches ports) (plain ports) core ports h m
+    (λ n. decision_reach core.tables ports h (decided core.tables v h m.0 n (body_in m.1)) (decided_as_allowed core.tables v h m.0 n (body_in m.1))
+    (decided_tells v core.tables h m.0 n (body_in m.1)))
+    (λ p c here asked. tt) (λ errors n value command gate is. tt)

@@ -1,0 +1,279 @@
+-- What is read of the controller's notices over whatever happens.
+use Rattle.std.proofs.Common.{◌≡◌, ◌⊎◌, inl, inr, ℕ, ◌+◌, Bool, true, false, eqb, List, [], ◌∷◌, ◌++◌, map, min, sym, refl, subst, append-nil}
+use Rattle.std.specs.Prelude.{Option, Some, None, replicate}
+use Rattle.std.specs.List.{AllByRecursion, fold}
+use Rattle.std.specs.Option.{option_map_or}
+use Rattle.std.proofs.lemmas.Bool.{cases_Bool, eqb-true}
+use Rattle.swp_base.specs.InMemory.{Memory}
+use Rattle.journal_laws.specs.Journal.{count_of, records}
+use Rattle.journal_laws.specs.Planned.{after_planned}
+use Rattle.trace_model.specs.Lines.{IsHost}
+use Rattle.trace_model.specs.declared.entry.Entry.{Entry}
+use Rattle.trace_model.specs.declared.entry.Entry.TheVariants as entry
+use Rattle.trace_model.specs.declared.line.End.{End}
+use Rattle.hci_tables.specs.declared.command.Command.{Command}
+use Rattle.hci_tables.specs.Commands.{IsCommand}
+use Rattle.hci_tables.specs.Bodies.{spelled_by, command_of}
+use Rattle.hci_tables.specs.Tables.{HciTables, AreTables, no_tables, apply, close}
+use Rattle.tables_laws.specs.tables.Changes.{JoinTwo}
+use Rattle.tables_laws.proofs.tables.SortedTables.{AreTables-apply, AreTables-close, AreTables-none}
+use Rattle.tables_laws.proofs.tables.TwoHosts.{JoinTwo-after, JoinTwo-closed}
+use Rattle.hci_store.specs.Image.{applied, tables_of}
+use Rattle.link_laws.specs.messages.Links.{Link, Loss, happens}
+use Rattle.link_laws.specs.messages.Links.Ending.{CutOff}
+use Rattle.link_laws.specs.messages.Links.Comes.{NextFrame, AsksReset, NoInput}
+use Rattle.link_laws.specs.messages.Links.Loss.{OnDemand, Broken, Unread, TooOld, TooMany}
+use Rattle.link_laws.specs.messages.Links.EndEvent.{Step, Lose}
+use Rattle.link_laws.specs.messages.Links.LinkEvent.{AtController, AtHost}
+use Rattle.link_laws.specs.entries.Entries.{first_lost}
+use Rattle.link_laws.specs.entries.Entries.End.{Controller, Host}
+use Rattle.history.specs.Steps.{entries_for}
+use Rattle.node_machine.specs.Parts.{Desk, Running}
+use Rattle.node_machine.specs.Carrying.{changed_if}
+use Rattle.node_machine.specs.Node.{boot_writes, found, new_desk, with_error}
+use Rattle.node_machine.specs.world.World.{NodeWorld, Site, Happening, node_at, memory_at, with_site, with_memory, with_node, link_to, links_of, controller_cut}
+use Rattle.node_machine.specs.world.World.{host_cut, loses_power_at, boots, counts, frame_lost, sending, beginning, new_site, new_world, world_step}
+use Rattle.node_machine.specs.world.World.Happening.{Boots, IsCut, Gives, Inits, Takes, Loses, Ticks, Resets, Activates, Arms}
+use Rattle.node_machine.specs.world.NodeFilters.{notice_in}
+use Rattle.node_laws.specs.kept.Hosts.{AreHosts}
+use Rattle.node_laws.proofs.telling.Orderly.{new_orderly, step_orderly}
+use Rattle.node_laws.proofs.readings.NoticedWorlds.{event_up, numbers}
+use Rattle.node_laws.proofs.readings.Sites.{lost_quiet}
+use Rattle.node_machine.proofs.world.Cases.{by_power, by_memory, by_running, boot_written, boot_found, written_off, by_boot}
+use Rattle.node_laws.specs.notices.Notices.{IsKeptNotice, notice_at}
+use Rattle.node_laws.proofs.notices.Reading.{notice_more}
+use Rattle.node_laws.proofs.notices.Shut.{here_shut}
+use Rattle.node_laws.proofs.notices.Far.{quiet_far, asking_more}
+use Rattle.node_laws.proofs.notices.Sites.{AreGood, Reads, AreHushed, still_reads, far_hushed, good_map, good_with, far_shut, begins_reads, sending_own}
+use Rattle.node_laws.proofs.notices.Sites.{beginning_own}
+use Rattle.node_laws.proofs.notices.Near.{comes_reads, ticks_reads, activates_reads}
+use Rattle.node_laws.specs.telling.Telling.{MayBoot}
+use Rattle.node_laws.specs.notices.Worlds.{ControllerReads, IfHostNode, IfReads, KeepsNotices, IsRightNotice}
+use Rattle.node_laws.proofs.kept.Booting.{command_read}
+
+-- ## The tables of a memory
+
+-- tables are sorted, and each pipe joins two hosts
+abbrev AreFine : HciTables → Type 0
+AreFine t = AreTables t × JoinTwo t.rows
+
+fine_one : (t : HciTables) (o : Option Command) → ((c : Command) → o ≡ Some c → IsCommand c) → AreFine t → AreFine (option_map_or (apply t) o t)
+fine_one t None may fine = fine
+fine_one t (Some c) may fine = (AreTables-apply t c (may c refl) fine.0, JoinTwo-after t (c ∷ []) (may c refl, tt) fine.1)
+
+fine_fold : (t : HciTables) (bodies : List (List ℕ)) → AreFine t → AreFine (fold applied t bodies)
+fine_fold t [] fine = fine
+fine_fold t (body ∷ bodies) fine =
+    fine_fold (applied t body) bodies (fine_one t (command_of body) (λ c e. command_read (spelled_by body) c e) fine)
+
+fine_found : (content : List ℕ) → AreFine (close (tables_of content))
+fine_found content =
+    let fine = fine_fold no_tables (records content) (AreTables-none, refl) in
+    (AreTables-close (tables_of content) fine.0, JoinTwo-closed (tables_of content).rows fine.1)
+
+-- a controller that boots has no notices
+none_noticed : (hosts : List ℕ) (x : ℕ) → notice_at (map new_desk hosts) x ≡ None
+none_noticed [] x = refl
+none_noticed (h ∷ hosts) x = go (cases_Bool (eqb h x)) (none_noticed hosts x) where
+  go : (eqb h x ≡ true) ⊎ (eqb h x ≡ false) → notice_at (map new_desk hosts) x ≡ None → notice_at (map new_desk (h ∷ hosts)) x ≡ None
+  go (inl is) later = rw is refl
+  go (inr off) later = rw off later
+
+none_right : (hosts : List ℕ) → AllByRecursion (λ (d : Desk). IsRightNotice d.notice) (map new_desk hosts)
+none_right [] = tt
+none_right (h ∷ hosts) = (tt, none_right hosts)
+
+found_reads : (t : List Entry) (hosts content : List ℕ) → IfReads t None → ControllerReads t (found 0 hosts content)
+found_reads t hosts content none = record {
+  sorted = (fine_found content).0;
+  two = (fine_found content).1;
+  right = none_right hosts;
+  kept = λ x. subst (λ m. IsKeptNotice m (notice_at (map new_desk hosts) x)) (sym (none x).0) (subst (IsKeptNotice None) (sym (none_noticed hosts x)) tt);
+}
+
+module _ (t : List Entry) (w : NodeWorld) (a : Reads t w) where
+  -- ## Memories
+
+  memory_reads : (n : ℕ) (m : Memory) → Reads t (with_memory n m w)
+  memory_reads n m =
+      by_memory (Reads t) n w m (λ e. record { sites = a.sites; reads_so = a.reads_so })
+      (λ e. record {
+        sites = good_with n (λ (s : Site). record s { memory = m }) (λ s b. record { host = b.host; node = b.node; shut = b.shut }) w.sites a.sites;
+        reads_so = a.reads_so;
+      })
+
+  -- ## Power
+
+  near_cut : Reads (t ++ entry.Cut 0 ∷ []) (controller_cut w)
+  near_cut = record {
+    sites = good_map (λ (s : Site). record s { link = happens s.link (AtController (Step NoInput [] CutOff)) })
+        (λ s b. record { host = b.host; node = b.node; shut = here_shut s.link (Step NoInput [] CutOff) b.shut }) w.sites a.sites;
+    reads_so = λ x. (notice_more x t (entry.Cut 0 ∷ []), asking_more x t (entry.Cut 0 ∷ []));
+  }
+
+  cut_hushed : (n : ℕ) → eqb n 0 ≡ false → AreHushed (entry.Cut n ∷ [])
+  cut_hushed n e = far_hushed (entry.Cut n ∷ []) (e, tt)
+
+  far_cut : (n : ℕ) → eqb n 0 ≡ false → Reads (t ++ entry.Cut n ∷ []) (record w { sites = with_site n host_cut w.sites })
+  far_cut n e = record {
+    sites = good_with n host_cut (λ s b. record { host = b.host; node = tt; shut = far_shut s.link (Step NoInput [] CutOff) b.shut }) w.sites a.sites;
+    reads_so = still_reads t (entry.Cut n ∷ []) w.controller (cut_hushed n e) a.reads_so;
+  }
+
+  pub cut_reads : (n : ℕ) → Reads (t ++ entry.Cut n ∷ []) (loses_power_at n w)
+  cut_reads n =
+      by_power (Reads (t ++ entry.Cut n ∷ [])) n w
+      (λ e. subst (λ m. Reads (t ++ entry.Cut m ∷ []) (controller_cut w)) (sym (eqb-true n 0 e)) near_cut) (λ e. far_cut n e)
+
+booted_hushed : (n k : ℕ) → AreHushed (entry.Booted n k ∷ [])
+booted_hushed n k x r = (refl, refl)
+
+-- a node that doesn't run boots
+runs_reads : (t : List Entry) (w : NodeWorld) (n k : ℕ) (hosts content : List ℕ) → Reads t w → (eqb n 0 ≡ true → w.controller ≡ None)
+    → Reads (t ++ entry.Booted n k ∷ []) (with_node n (found n hosts content) w)
+runs_reads t w n k hosts content a off =
+    by_running (Reads (t ++ entry.Booted n k ∷ [])) n w (found n hosts content)
+    (λ e. record {
+      sites = a.sites;
+      reads_so = still_reads t (entry.Booted n k ∷ []) (Some (found n hosts content)) (booted_hushed n k)
+          (subst (λ m. ControllerReads t (found m hosts content)) (sym (eqb-true n 0 e))
+          (found_reads t hosts content (subst (IfReads t) (off e) a.reads_so)));
+    })
+    (λ e. record {
+      sites = good_with n (λ (s : Site). record s { node = Some (found n hosts content) })
+          (λ s b. record { host = b.host; node = e; shut = b.shut }) w.sites a.sites;
+      reads_so = still_reads t (entry.Booted n k ∷ []) w.controller (booted_hushed n k) a.reads_so;
+    })
+
+boots_reads : (t : List Entry) (w : NodeWorld) (n : ℕ) → Reads t w → node_at w n ≡ None → Reads (t ++ (boots w n).1) (boots w n).0
+boots_reads t w n a stands =
+    by_boot (λ p. Reads (t ++ p.1) p.0) w n (cut_reads t (boot_written w n) still n)
+    (runs_reads t (boot_written w n) n (count_of (boot_found w n).core.journal) (links_of w n) (memory_at w n).content still (written_off w n stands))
+  where
+    still : Reads t (boot_written w n)
+    still = memory_reads t w a n (after_planned (boot_writes (memory_at w n).content) (memory_at w n))
+
+-- ## Losses
+
+-- frames that are counted leave the notices
+noticed_counted : (h : ℕ) (desks : List Desk) (x : ℕ) → notice_at (with_error h desks) x ≡ notice_at desks x
+noticed_counted h [] x = refl
+noticed_counted h (d ∷ desks) x = by_error (eqb d.host h) (cases_Bool (eqb d.host x)) (noticed_counted h desks x) where
+  more : Desk → Desk
+  more c = record c { errors = min 65535 (c.errors + 1) }
+
+  by_error : (b : Bool) → (eqb d.host x ≡ true) ⊎ (eqb d.host x ≡ false) → notice_at (with_error h desks) x ≡ notice_at desks x
+      → notice_at (changed_if b more d ∷ with_error h desks) x ≡ notice_at (d ∷ desks) x
+  by_error true (inl is) later = rw is refl
+  by_error true (inr off) later = rw off later
+  by_error false (inl is) later = rw is refl
+  by_error false (inr off) later = rw off later
+
+right_counted : (h : ℕ) (desks : List Desk) → AllByRecursion (λ (d : Desk). IsRightNotice d.notice) desks
+    → AllByRecursion (λ (d : Desk). IsRightNotice d.notice) (with_error h desks)
+right_counted h [] a = tt
+right_counted h (d ∷ desks) a = (by (eqb d.host h), right_counted h desks a.1) where
+  by : (b : Bool) → IsRightNotice (changed_if b (λ c. record c { errors = min 65535 (c.errors + 1) }) d).notice
+  by true = a.0
+  by false = a.0
+
+counted_reads : (t : List Entry) (why : Loss) (h : ℕ) (o : Option Running) → IfReads t o → IfReads t (counts why h o)
+counted_reads t (Broken fault) h None a = a
+counted_reads t (Broken fault) h (Some r) a = record {
+  sorted = a.sorted;
+  two = a.two;
+  right = right_counted h r.desks a.right;
+  kept = λ x. subst (IsKeptNotice (notice_in t x)) (sym (noticed_counted h r.desks x)) (a.kept x);
+}
+counted_reads t OnDemand h o a = a
+counted_reads t Unread h o a = a
+counted_reads t TooOld h o a = a
+counted_reads t TooMany h o a = a
+
+counted_node : (why : Loss) (h : ℕ) (o : Option Running) → IfHostNode o → IfHostNode (counts why h o)
+counted_node (Broken fault) h None a = tt
+counted_node (Broken fault) h (Some r) a = a
+counted_node OnDemand h o a = a
+counted_node Unread h o a = a
+counted_node TooOld h o a = a
+counted_node TooMany h o a = a
+
+lost_reads : (t : List Entry) (w : NodeWorld) (e : End) (why : Loss) → Reads t w → Reads (t ++ (frame_lost w e why).1) (frame_lost w e why).0
+lost_reads t w e why a = by_side (cases_Bool e.at_host) where
+  Fine : NodeWorld × List Entry → Type 0
+  Fine p = Reads (t ++ p.1) p.0
+
+  l : Link
+  l = link_to w.sites e.link
+
+  near : Site → Site
+  near s = record s { link = happens s.link (AtController (Lose why)) }
+
+  far : Site → Site
+  far s = record s { link = happens s.link (AtHost (Lose why)); node = counts why e.link s.node }
+
+  near_is : e.at_host ≡ false → frame_lost w e why
+      ≡ (
+        record w { controller = counts why e.link w.controller; sites = with_site e.link near w.sites },
+        entries_for e.link (first_lost Controller why l.to_controller),
+      )
+  near_is b = rw b refl
+
+  far_is : e.at_host ≡ true → frame_lost w e why ≡ (record w { sites = with_site e.link far w.sites }, entries_for e.link (first_lost Host why l.to_host))
+  far_is b = rw b refl
+
+  by_side : (e.at_host ≡ true) ⊎ (e.at_host ≡ false) → Fine (frame_lost w e why)
+  by_side (inl b) = subst Fine (sym (far_is b)) (record {
+    sites = good_with e.link far (λ s k. record {
+      host = k.host;
+      node = counted_node why e.link s.node k.node;
+      shut = far_shut s.link (Lose why) k.shut;
+    }) w.sites a.sites;
+    reads_so = still_reads t (entries_for e.link (first_lost Host why l.to_host)) w.controller
+        (far_hushed (entries_for e.link (first_lost Host why l.to_host)) (quiet_far e.link (first_lost Host why l.to_host) (lost_quiet Host why l.to_host)))
+        a.reads_so;
+  })
+  by_side (inr b) = subst Fine (sym (near_is b)) (record {
+    sites = good_with e.link near (λ s k. record { host = k.host; node = k.node; shut = here_shut s.link (Lose why) k.shut }) w.sites a.sites;
+    reads_so = counted_reads (t ++ entries_for e.link (first_lost Controller why l.to_controller)) why e.link w.controller
+        (still_reads t (entries_for e.link (first_lost Controller why l.to_controller)) w.controller
+        (far_hushed (entries_for e.link (first_lost Controller why l.to_controller)) (quiet_far e.link (first_lost Controller why l.to_controller)
+        (lost_quiet Controller why l.to_controller))) a.reads_so);
+  })
+
+-- ## Events
+
+so_far : (t : List Entry) (w : NodeWorld) → KeepsNotices t w → Reads t w
+so_far t w a = record { sites = a.sites; reads_so = a.controller }
+
+event_so : (t : List Entry) (w : NodeWorld) (c : Happening) → KeepsNotices t w → MayBoot w c → Reads (t ++ (world_step w c).1) (world_step w c).0
+event_so t w (Boots n) a may = boots_reads t w n (so_far t w a) may
+event_so t w (IsCut n) a may = cut_reads t w (so_far t w a) n
+event_so t w (Gives e m) a may = begins_reads t w (so_far t w a) e.link (sending e.link m) (sending_own e.link m)
+event_so t w (Inits e identity pipes) a may = begins_reads t w (so_far t w a) e.link (beginning identity pipes) (beginning_own identity pipes)
+event_so t w (Takes e) a may = comes_reads t w a.orderly a.up (so_far t w a) e NextFrame
+event_so t w (Loses e why) a may = lost_reads t w e why (so_far t w a)
+event_so t w Ticks a may = ticks_reads t w a.orderly a.up (so_far t w a)
+event_so t w (Resets e window) a may = comes_reads t w a.orderly a.up (so_far t w a) e (AsksReset window)
+event_so t w (Activates h sync power) a may = activates_reads t w a.orderly a.up (so_far t w a) h sync power
+event_so t w (Arms n plan) a may =
+    subst (λ l. Reads l (world_step w (Arms n plan)).0) (sym (append-nil t)) (memory_reads t w (so_far t w a) n (record (memory_at w n) { plan = Some plan }))
+
+pub event_read : (t : List Entry) (w : NodeWorld) (c : Happening) → KeepsNotices t w → MayBoot w c → KeepsNotices (t ++ (world_step w c).1) (world_step w c).0
+event_read t w c a may =
+    let so : Reads (t ++ (world_step w c).1) (world_step w c).0 = event_so t w c a may in
+    record { orderly = step_orderly w c a.orderly; up = event_up w c a.orderly a.up; sites = so.sites; controller = so.reads_so }
+
+-- ## The beginning
+
+new_good : (content : List ℕ) (hosts : List ℕ) → AllByRecursion IsHost hosts → AreGood (map (new_site content) hosts)
+new_good content [] a = tt
+new_good content (h ∷ hosts) a = (record { host = a.0; node = tt; shut = λ q. refl }, new_good content hosts a.1)
+
+pub begins_read : (hosts : List ℕ) → AreHosts hosts → KeepsNotices [] (new_world hosts)
+begins_read hosts are = record {
+  orderly = new_orderly hosts are.different (numbers hosts are.all);
+  up = tt;
+  sites = new_good (replicate 65536 255) hosts are.all;
+  controller = λ x. (refl, refl);
+}

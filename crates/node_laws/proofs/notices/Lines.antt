@@ -1,0 +1,48 @@
+-- What is read of the controller's notices over the lines of a schedule.
+use Rattle.std.proofs.Common.{◌≡◌, ℕ, List, [], sym, ap, subst}
+use Rattle.std.specs.Prelude.{Option, Some, None}
+use Rattle.std.specs.List.{flat_map}
+use Rattle.trace_model.specs.declared.entry.Entry.{Entry}
+use Rattle.trace_model.specs.declared.line.Header.{Header}
+use Rattle.trace_model.specs.declared.line.Line.{Line}
+use Rattle.node_machine.specs.Parts.{Running}
+use Rattle.node_machine.specs.world.World.{NodeWorld, new_world}
+use Rattle.node_machine.specs.world.NodeHistories.{LineStep, NodeHistory, FollowsNodes, occurrences_of, entries_in, node_entries, world_after}
+use Rattle.node_machine.specs.world.NodeFilters.{notice_in, asking_in}
+use Rattle.node_laws.specs.kept.Hosts.{AreHosts}
+use Rattle.node_laws.specs.telling.Telling.{MayBoot}
+use Rattle.node_laws.proofs.telling.Lasting.{AnyLine, boots_may, all_lines, lines_last}
+use Rattle.node_laws.specs.notices.Notices.{IsKeptNotice, notice_of_running, NoticesAreRead}
+use Rattle.node_laws.proofs.notices.Events.{event_read, begins_read}
+use Rattle.node_laws.specs.notices.Worlds.{IfReads, KeepsNotices}
+
+-- ## Schedules
+
+-- the notices of a controller are those that are read
+pub notices_of : (t : List Entry) (w : NodeWorld) → KeepsNotices t w → NoticesAreRead t w
+notices_of t w a = go w.controller a.controller where
+  go : (o : Option Running) → IfReads t o → (h : ℕ) → IsKeptNotice (notice_in t h) (notice_of_running o h)
+  go None none h = subst (λ m. IsKeptNotice m None) (sym (none h).0) tt
+  go (Some r) some h = some.kept h
+
+schedule_is : (header : Header) (lines : List Line) (t : NodeHistory) → FollowsNodes header lines t → AreHosts header.hosts.items
+    → KeepsNotices (node_entries t) (world_after (new_world header.hosts.items) lines)
+schedule_is header lines t follows are =
+    subst (λ l. KeepsNotices l (world_after (new_world header.hosts.items) lines))
+    (ap (λ (steps : List LineStep). entries_in (flat_map (λ (s : LineStep). occurrences_of s.outcome) steps)) (sym follows.steps_are))
+    (lines_last KeepsNotices MayBoot AnyLine event_read boots_may lines [] (new_world header.hosts.items) (begins_read header.hosts.items are)
+    (all_lines lines))
+
+pub schedule_read : (header : Header) (lines : List Line) (t : NodeHistory) → FollowsNodes header lines t → AreHosts header.hosts.items
+    → NoticesAreRead (node_entries t) (world_after (new_world header.hosts.items) lines)
+schedule_read header lines t follows are =
+    notices_of (node_entries t) (world_after (new_world header.hosts.items) lines) (schedule_is header lines t follows are)
+
+-- no creation is read to wait while the controller doesn't run
+pub none_waits : (t : List Entry) (w : NodeWorld) → KeepsNotices t w → w.controller ≡ None → (h : ℕ) → asking_in t h ≡ None
+none_waits t w a off h = let none : IfReads t None = subst (IfReads t) off a.controller in (none h).1
+
+pub schedule_waits : (header : Header) (lines : List Line) (t : NodeHistory) → FollowsNodes header lines t → AreHosts header.hosts.items
+    → (world_after (new_world header.hosts.items) lines).controller ≡ None → (h : ℕ) → asking_in (node_entries t) h ≡ None
+schedule_waits header lines t follows are =
+    none_waits (node_entries t) (world_after (new_world header.hosts.items) lines) (schedule_is header lines t follows are)

@@ -1,0 +1,254 @@
+-- What stays of the hosts of a world and of the links to them, and what is read of the controller's notices as a host acts.
+use Rattle.std.proofs.Common.{◌≡◌, ◌⊎◌, inl, inr, ℕ, ◌&&◌, Bool, true, false, eqb, List, [], ◌∷◌, ◌++◌, map, sym, refl, ◌∙◌, subst, append-nil}
+use Rattle.std.specs.Prelude.{Option, Some, None}
+use Rattle.std.specs.List.{AllByRecursion}
+use Rattle.std.specs.Option.{option_map_or}
+use Rattle.std.proofs.lemmas.Bool.{cases_Bool, cond_both, true≢false}
+use Rattle.trace_model.specs.declared.entry.Entry.{Entry}
+use Rattle.trace_model.specs.declared.line.End.{End}
+use Rattle.link_laws.specs.sessions.Sessions.{OnWire}
+use Rattle.link_laws.specs.machine.Machine.{Message, LinkEnd, LinkInput, new_link_end}
+use Rattle.link_laws.specs.machine.Machine.Role.{Bare}
+use Rattle.link_laws.specs.messages.Links.{Link, NumberedEnd, Comes, Ending, EndEvent, exchanged, happens, ticks_at_controller}
+use Rattle.link_laws.specs.messages.Links.Ending.{GoesOut}
+use Rattle.link_laws.specs.messages.Links.Comes.{NextFrame, AsksReset, Starts, Stops, NoInput}
+use Rattle.link_laws.specs.messages.Links.EndEvent.{Step}
+use Rattle.link_laws.specs.messages.Links.LinkEvent.{AtHost}
+use Rattle.link_laws.specs.entries.Entries.{End as Side, ending_entries}
+use Rattle.link_laws.specs.entries.Entries.End.{Host}
+use Rattle.history.specs.Steps.{entries_for}
+use Rattle.history.specs.Follows.{seen_from}
+use Rattle.node_machine.specs.Parts.{Running, Port, Work, Deed}
+use Rattle.node_machine.specs.Parts.Deed.{Sends, Orders}
+use Rattle.node_machine.specs.Controller.{is_command_message}
+use Rattle.node_machine.specs.Carrying.{changed_if, port_at}
+use Rattle.node_machine.specs.Node.{steps, begins_with}
+use Rattle.node_machine.specs.Node.NodeInput.{AtEnd, TimePasses}
+use Rattle.node_machine.specs.world.World.{NodeWorld, Site, site_at, with_site, link_to, ending_of, runs_on, turns_at, input_of, near_end_in, arrival}
+use Rattle.node_machine.specs.world.World.{wires_for}
+use Rattle.node_machine.specs.world.World.{work_of, frames_noted, host_work, after_host, host_does, host_ticks, hosts_tick, comes_at, sending, beginning}
+use Rattle.node_machine.specs.world.NodeFilters.{notice_in, asking_in}
+use Rattle.node_laws.proofs.links.Ends.{here_host}
+use Rattle.link_laws.proofs.entries.Together.{ticks_host as tick_host}
+use Rattle.node_laws.proofs.readings.Sites.{ending_quiet}
+use Rattle.node_laws.specs.notices.Notices.{IsKeptNotice, notice_at}
+use Rattle.node_laws.proofs.notices.Reading.{reads, notice_more}
+use Rattle.node_laws.proofs.notices.Own.{AreOwn}
+use Rattle.node_laws.proofs.notices.Far.{AreFar, far-append, far_reads, far_asks, asks, asking_more, quiet_far, IsFarWork, all_do, steps_far}
+use Rattle.node_laws.specs.notices.Worlds.{IfHostNode, IfReads, IsGoodSite, IsShut}
+
+abbrev pub AreGood : List Site → Type 0
+AreGood sites = AllByRecursion IsGoodSite sites
+
+pub record Reads (t : List Entry) (w : NodeWorld) : Type 0 where
+  pub sites : AreGood w.sites
+  pub reads_so : IfReads t w.controller
+
+-- entries tell nothing of any notice, nor of any creation
+abbrev pub AreHushed : List Entry → Type 0
+AreHushed es = (x : ℕ) (r : Option (List ℕ)) → (reads x es r ≡ r) × (asks x es r ≡ r)
+
+same_in : (t es : List Entry) (x : ℕ) → AreHushed es → notice_in (t ++ es) x ≡ notice_in t x
+same_in t es x hushed = notice_more x t es ∙ (hushed x (notice_in t x)).0
+
+same_asking : (t es : List Entry) (x : ℕ) → AreHushed es → asking_in (t ++ es) x ≡ asking_in t x
+same_asking t es x hushed = asking_more x t es ∙ (hushed x (asking_in t x)).1
+
+pub still_reads : (t es : List Entry) (o : Option Running) → AreHushed es → IfReads t o → IfReads (t ++ es) o
+still_reads t es None hushed a = λ x. (same_in t es x hushed ∙ (a x).0, same_asking t es x hushed ∙ (a x).1)
+still_reads t es (Some r) hushed a = record {
+  sorted = a.sorted;
+  two = a.two;
+  right = a.right;
+  kept = λ x. subst (λ m. IsKeptNotice m (notice_at r.desks x)) (sym (same_in t es x hushed)) (a.kept x);
+}
+
+pub far_hushed : (es : List Entry) → AreFar es → AreHushed es
+far_hushed es far x r = (far_reads x es far r, far_asks x es far r)
+
+-- ## Sites
+
+pub good_map : (f : Site → Site) → ((s : Site) → IsGoodSite s → IsGoodSite (f s)) → (sites : List Site) → AreGood sites → AreGood (map f sites)
+good_map f one [] a = tt
+good_map f one (s ∷ sites) a = (one s a.0, good_map f one sites a.1)
+
+pub good_with : (h : ℕ) (f : Site → Site) → ((s : Site) → IsGoodSite s → IsGoodSite (f s)) → (sites : List Site) → AreGood sites → AreGood (with_site h f sites)
+good_with h f one sites a = good_map (λ (s : Site). changed_if (eqb s.host h) f s) (λ s b. go (eqb s.host h) s b) sites a where
+  go : (c : Bool) (s : Site) → IsGoodSite s → IsGoodSite (changed_if c f s)
+  go true s b = one s b
+  go false s b = b
+
+pub good_at : (sites : List Site) (h : ℕ) (s : Site) → AreGood sites → site_at sites h ≡ Some s → IsGoodSite s
+good_at [] h s a e = absurd (cc e)
+good_at (z ∷ sites) h s a e =
+    cond_both (eqb z.host h) (Some z) (site_at sites h) (λ o. o ≡ Some s → IsGoodSite s)
+    (λ is f. let same : z ≡ s = cc in subst IsGoodSite same a.0) (λ off f. good_at sites h s a.1 f) e
+
+pub link_shut : (sites : List Site) (n : ℕ) → AreGood sites → IsShut (link_to sites n).controller.side
+link_shut sites n a = go (site_at sites n) refl where
+  go : (o : Option Site) → site_at sites n ≡ o
+      → IsShut (option_map_or (λ (s : Site). s.link) o (Rattle.link_laws.specs.messages.Links.new_link Bare Bare)).controller.side
+  go None e = λ q. absurd (true≢false q)
+  go (Some s) e = (good_at sites n s a e).shut
+
+-- what happens at the host's end leaves the controller's
+pub far_shut : (l : Link) (x : EndEvent) → IsShut l.controller.side → IsShut (happens l (AtHost x)).controller.side
+far_shut l x a = subst (λ (h : NumberedEnd). IsShut h.side) (sym (here_host (exchanged l) x)) a
+
+far_tick_shut : (l : Link) (ts : List Rattle.link_laws.specs.machine.Machine.Turn) (ending : Ending) → IsShut l.controller.side
+    → IsShut (exchanged (ticks_at_controller (exchanged l) ts ending)).controller.side
+far_tick_shut l ts ending a = subst (λ (h : NumberedEnd). IsShut h.side) (sym (tick_host (exchanged l) ts ending)) a
+
+-- ## Notes
+
+pub frames_quiet : (who : Side) (h : ℕ) (l : Link) (k : Work) → AreFar (frames_noted who h l k)
+frames_quiet who h l k = go (port_at k.ports h) where
+  go : (o : Option Port) → AreFar (option_map_or (λ (p : Port). entries_for h (ending_entries who l p.side (ending_of k))) o [])
+  go None = tt
+  go (Some p) = quiet_far h (ending_entries who l p.side (ending_of k)) (ending_quiet who l p.side (ending_of k))
+
+pub arrival_quiet : (who : Side) (h : ℕ) (l : Link) (comes : Comes) → AreFar (entries_for h (arrival who l comes))
+arrival_quiet who h l NextFrame = go l.to_controller where
+  first : List OnWire → List Rattle.link_laws.specs.entries.Entries.Entry
+  first [] = []
+  first (x ∷ xs) = Rattle.link_laws.specs.entries.Entries.Entry.Took who x.frame ∷ []
+
+  go : (xs : List OnWire) → AreFar (entries_for h (first xs))
+  go [] = tt
+  go (x ∷ xs) = (tt, tt)
+arrival_quiet who h l (AsksReset window) = tt
+arrival_quiet who h l (Starts value) = tt
+arrival_quiet who h l Stops = tt
+arrival_quiet who h l NoInput = tt
+
+-- ## A host acts
+
+runs_far : (k : Work) → IsFarWork k → IfHostNode (runs_on k)
+runs_far k a = go (cases_Bool k.cut) where
+  off_is : k.cut ≡ true → runs_on k ≡ None
+  off_is e = rw e refl
+
+  on_is : k.cut ≡ false → runs_on k ≡ Some (record { core = k.core; desks = map (λ (p : Port). p.desk) k.ports })
+  on_is e = rw e refl
+
+  go : (k.cut ≡ true) ⊎ (k.cut ≡ false) → IfHostNode (runs_on k)
+  go (inl e) = subst IfHostNode (sym (off_is e)) tt
+  go (inr e) = subst IfHostNode (sym (on_is e)) a.number
+
+module _ (t : List Entry) (w : NodeWorld) (a : Reads t w) where
+  pub nothing : Reads (t ++ []) w
+  nothing = subst (λ l. Reads l w) (sym (append-nil t)) a
+
+  pub host_reads : (h : ℕ) (comes : Comes) (f : Work → Work) → ((k : Work) → IsFarWork k → IsFarWork (f k))
+      → Reads (t ++ (host_does w h comes f).1) (host_does w h comes f).0
+  host_reads h comes f keeps = by_site (site_at w.sites h) refl where
+    Fine : NodeWorld × List Entry → Type 0
+    Fine p = Reads (t ++ p.1) p.0
+
+    none_is : site_at w.sites h ≡ None → host_does w h comes f ≡ (w, [])
+    none_is e = rw e refl
+
+    off_is : (s : Site) → site_at w.sites h ≡ Some s → s.node ≡ None → host_does w h comes f ≡ (w, [])
+    off_is s here e = rw here (rw e refl)
+
+    on_is : (s : Site) (r : Running) → site_at w.sites h ≡ Some s → s.node ≡ Some r → host_does w h comes f
+        ≡ (
+          record w { sites = with_site h (after_host comes (host_work s r comes f)) w.sites },
+          (host_work s r comes f).entries ++ frames_noted Host h (wires_for (exchanged s.link) comes) (host_work s r comes f),
+        )
+    on_is s r here e = rw here (rw e refl)
+
+    by_node : (s : Site) → site_at w.sites h ≡ Some s → IsGoodSite s → (o : Option Running) → s.node ≡ o → Fine (host_does w h comes f)
+    by_node s here good None e = subst Fine (sym (off_is s here e)) nothing
+    by_node s here good (Some r) e = subst Fine (sym (on_is s r here e)) (record {
+      sites = good_with h (after_host comes k)
+          (λ z b. record { host = b.host; node = runs_far k far; shut = far_shut z.link (Step comes (turns_at k z.host) (ending_of k)) b.shut })
+          w.sites a.sites;
+      reads_so = still_reads t (k.entries ++ frames) w.controller
+          (far_hushed (k.entries ++ frames) (far-append k.entries frames far.far (frames_quiet Host h (wires_for (exchanged s.link) comes) k))) a.reads_so;
+    }) where
+      k : Work
+      k = host_work s r comes f
+
+      frames : List Entry
+      frames = frames_noted Host h (wires_for (exchanged s.link) comes) k
+
+      far : IsFarWork k
+      far =
+          keeps (work_of r s.memory.plan (λ n. near_end_in (exchanged s.link) comes) (entries_for s.host (arrival Host (exchanged s.link) comes)))
+          (record { number = subst IfHostNode e good.node; far = arrival_quiet Host s.host (exchanged s.link) comes })
+
+    by_site : (o : Option Site) → site_at w.sites h ≡ o → Fine (host_does w h comes f)
+    by_site None e = subst Fine (sym (none_is e)) nothing
+    by_site (Some s) e = by_node s e (good_at w.sites h s a.sites e) s.node refl
+
+  -- something comes to the end of a host
+  pub far_reads_so : (e : End) (comes : Comes) → e.at_host ≡ true → Reads (t ++ (comes_at w e comes).1) (comes_at w e comes).0
+  far_reads_so e comes far = go (input_of (seen_from e (link_to w.sites e.link)) comes) refl where
+    Fine : NodeWorld × List Entry → Type 0
+    Fine p = Reads (t ++ p.1) p.0
+
+    none_is : input_of (seen_from e (link_to w.sites e.link)) comes ≡ None → comes_at w e comes ≡ (w, [])
+    none_is q = rw q refl
+
+    far_is : (i : LinkInput) → input_of (seen_from e (link_to w.sites e.link)) comes ≡ Some i
+        → comes_at w e comes ≡ host_does w e.link comes (steps (AtEnd e.link i))
+    far_is i q = rw q (rw far refl)
+
+    go : (o : Option LinkInput) → input_of (seen_from e (link_to w.sites e.link)) comes ≡ o → Fine (comes_at w e comes)
+    go None q = subst Fine (sym (none_is q)) nothing
+    go (Some i) q = subst Fine (sym (far_is i q)) (host_reads e.link comes (steps (AtEnd e.link i)) (λ k b. steps_far (AtEnd e.link i) k b))
+
+  -- a host begins by deeds of its own
+  pub begins_reads : (h : ℕ) (deeds : List Deed) → AreOwn deeds
+      → Reads (t ++ (host_does w h NoInput (begins_with h deeds)).1) (host_does w h NoInput (begins_with h deeds)).0
+  begins_reads h deeds own = host_reads h NoInput (begins_with h deeds) (λ k b. all_do h deeds k own b)
+
+pub sending_own : (h : ℕ) (m : Message) → AreOwn (sending h m)
+sending_own h m = cond_both (eqb m.0 1 && is_command_message m.1) (Orders m.1 ∷ []) (Sends h m ∷ []) AreOwn (λ _. (tt, tt)) (λ _. (tt, tt))
+
+pub beginning_own : (identity : List ℕ) (pipes : List (List ℕ)) → AreOwn (beginning identity pipes)
+beginning_own identity pipes = (tt, (tt, tt))
+
+-- ## Hosts have their ticks
+
+one_tick : (s : Site) → IsGoodSite s → IsGoodSite (host_ticks s).0 × AreFar (host_ticks s).1
+one_tick s good = by_node s.node refl good.node where
+  k : Running → Work
+  k r = steps TimePasses (work_of r s.memory.plan (λ h. s.link.host) [])
+
+  off_is : s.node ≡ None → host_ticks s ≡ (record s { link = exchanged (ticks_at_controller (exchanged s.link) [] GoesOut) }, [])
+  off_is e = rw e refl
+
+  on_is : (r : Running) → s.node ≡ Some r → host_ticks s
+      ≡ (
+        record s {
+          link = exchanged (ticks_at_controller (exchanged s.link) (turns_at (k r) s.host) (ending_of (k r)));
+          memory = Rattle.journal_laws.specs.Planned.after_planned (k r).writes s.memory;
+          node = runs_on (k r);
+        },
+        (k r).entries ++ frames_noted Host s.host (exchanged s.link) (k r),
+      )
+  on_is r e = rw e refl
+
+  by_node : (o : Option Running) → s.node ≡ o → IfHostNode o → IsGoodSite (host_ticks s).0 × AreFar (host_ticks s).1
+  by_node None e node =
+      subst (λ (p : Site × List Entry). IsGoodSite p.0 × AreFar p.1) (sym (off_is e))
+      (record { host = good.host; node = subst IfHostNode (sym e) tt; shut = far_tick_shut s.link [] GoesOut good.shut }, tt)
+  by_node (Some r) e node =
+      let far : IsFarWork (k r) = steps_far TimePasses (work_of r s.memory.plan (λ h. s.link.host) []) (record { number = node; far = tt }) in
+      subst (λ (p : Site × List Entry). IsGoodSite p.0 × AreFar p.1) (sym (on_is r e)) (
+        record {
+          host = good.host;
+          node = runs_far (k r) far;
+          shut = far_tick_shut s.link (turns_at (k r) s.host) (ending_of (k r)) good.shut;
+        },
+        far-append (k r).entries (frames_noted Host s.host (exchanged s.link) (k r)) far.far (frames_quiet Host s.host (exchanged s.link) (k r)),
+      )
+
+pub all_tick : (sites : List Site) → AreGood sites → AreGood (hosts_tick sites).0 × AreFar (hosts_tick sites).1
+all_tick [] a = (tt, tt)
+all_tick (s ∷ sites) a =
+    let first = one_tick s a.0 in
+    let later = all_tick sites a.1 in
+    ((first.0, later.0), far-append (host_ticks s).1 (hosts_tick sites).1 first.1 later.1)

@@ -1,0 +1,296 @@
+-- A controller has a step: its unanswered notice to a host stays the one that is read.
+use Rattle.std.proofs.Common.{◌≡◌, ◌⊎◌, inl, inr, ℕ, ◌&&◌, ◌||◌, Bool, true, false, not, cond, eqb, List, [], ◌∷◌, ◌++◌, map, sym, refl, ap, ◌∙◌, subst}
+use Rattle.std.specs.Prelude.{Option, Some, None, is_some, nat_le}
+use Rattle.std.specs.List.{AllByRecursion, flat_map}
+use Rattle.std.specs.Option.{option_map_or}
+use Rattle.std.proofs.lemmas.Bool.{cases_Bool, eqb-true, eqb-false, ne_eqb, eq-eqb, true≢false, and_from, le-leb}
+use Rattle.trace_model.specs.Lines.{IsHost}
+use Rattle.trace_model.specs.declared.entry.Entry.{Entry}
+use Rattle.hci_tables.specs.declared.command.Command.TheVariants.{Sync}
+use Rattle.hci_tables.specs.Commands.{IsCommand}
+use Rattle.hci_tables.specs.Tables.{is_kept_sync}
+use Rattle.gate_answers.specs.declared.response.Response.{Response}
+use Rattle.gate_answers.specs.Answers.{instruction_in}
+use Rattle.link_laws.specs.sessions.Sessions.{is_up}
+use Rattle.shdlc_core.specs.declared.answers.LinkState.TheVariants.{Up, Down}
+use Rattle.link_laws.specs.machine.Machine.{LinkEnd, LinkInput, is_open, after_input, ended_by, report}
+use Rattle.link_laws.specs.machine.Machine.LinkInput.{Reset}
+use Rattle.link_laws.specs.entries.Entries.End.{Controller}
+use Rattle.node_machine.specs.Parts.{Creation, About, Notice, Core, Port, Deed}
+use Rattle.node_machine.specs.Parts.About.{Waits, Forgotten, Removed}
+use Rattle.node_machine.specs.Parts.Deed.{Commits, Sends, SaysOk, Asks, Releases, Tells, IsAnswered, Drops, SetsErrors, Orders, Hears, GoesOn, Ends}
+use Rattle.node_machine.specs.Carrying.{own_side, port_at, finds_room}
+use Rattle.node_machine.specs.Controller.{asked_at, creation_in}
+use Rattle.node_machine.specs.Node.{NodeInput, input_at, has_come, told_at, older_notice, with_older, is_late, reset_late, told_late, is_over, is_forgotten}
+use Rattle.node_machine.specs.Node.{forgets, owed, without_notice, synced}
+use Rattle.node_machine.specs.world.NodeFilters.{is_notice}
+use Rattle.node_laws.specs.links.Notices.{IsComing}
+use Rattle.node_laws.proofs.links.Staying.{stays_up}
+use Rattle.node_laws.proofs.links.Noticing.{UpAt}
+use Rattle.node_laws.specs.kept.Hosts.{AreDifferent}
+use Rattle.node_laws.specs.readings.Orders.{IsFresh}
+use Rattle.node_laws.proofs.readings.Noticed.{up_is}
+use Rattle.node_laws.specs.notices.Notices.{IsNoticeOf, IsAbout, IsKeptNotice}
+use Rattle.node_laws.proofs.notices.Reading.{reads, reads_append, told_reads}
+use Rattle.node_laws.proofs.notices.Deciding.{answer_other}
+use Rattle.node_laws.proofs.notices.Telling.{MayTell}
+use Rattle.node_laws.proofs.notices.Shut.{input_shut}
+use Rattle.node_laws.specs.notices.Worlds.{IsShut}
+
+-- ## Quiet deeds
+
+-- it tells nobody of anything
+abbrev pub TellsNoNotice : Deed → Type 0
+TellsNoNotice (Commits c) = IsCommand c
+TellsNoNotice (Sends to m) = (eqb m.0 1 && is_notice m.1) ≡ false
+TellsNoNotice (Releases asker) = Unit {0}
+TellsNoNotice _ = ⊥
+
+abbrev pub TellNoNotices : List Deed → Type 0
+TellNoNotices deeds = AllByRecursion TellsNoNotice deeds
+
+pub no_notices-append : (ds es : List Deed) → TellNoNotices ds → TellNoNotices es → TellNoNotices (ds ++ es)
+no_notices-append [] es a b = b
+no_notices-append (d ∷ ds) es a b = (a.0, no_notices-append ds es a.1 b)
+
+pub no_notices_flat : (f : Port → List Deed) (P : Port → Type 0) → ((p : Port) → P p → TellNoNotices (f p)) → (ports : List Port) → AllByRecursion P ports
+    → TellNoNotices (flat_map f ports)
+no_notices_flat f P one [] a = tt
+no_notices_flat f P one (p ∷ ports) a = no_notices-append (f p) (flat_map f ports) (one p a.0) (no_notices_flat f P one ports a.1)
+
+pub no_notices_all : (f : Port → List Deed) → ((p : Port) → TellNoNotices (f p)) → (ports : List Port) → TellNoNotices (flat_map f ports)
+no_notices_all f one [] = tt
+no_notices_all f one (p ∷ ports) = no_notices-append (f p) (flat_map f ports) (one p) (no_notices_all f one ports)
+
+pub no_notices_may : (x : ℕ) (F : List ℕ → Type 0) (deeds : List Deed) → TellNoNotices deeds → MayTell x F deeds
+no_notices_may x F [] a = tt
+no_notices_may x F (Commits c ∷ deeds) a = (a.0, no_notices_may x F deeds a.1)
+no_notices_may x F (Sends to m ∷ deeds) a = (a.0, no_notices_may x (λ n. (eqb to x ≡ false) × F n) deeds a.1)
+no_notices_may x F (Releases asker ∷ deeds) a = no_notices_may x (λ n. ⊥) deeds a.1
+no_notices_may x F (SaysOk ∷ deeds) a = absurd a.0
+no_notices_may x F (Asks to message c ∷ deeds) a = absurd a.0
+no_notices_may x F (Tells to message ∷ deeds) a = absurd a.0
+no_notices_may x F (IsAnswered ∷ deeds) a = absurd a.0
+no_notices_may x F (Drops pid ∷ deeds) a = absurd a.0
+no_notices_may x F (SetsErrors errors ∷ deeds) a = absurd a.0
+no_notices_may x F (Orders order ∷ deeds) a = absurd a.0
+no_notices_may x F (Hears ∷ deeds) a = absurd a.0
+no_notices_may x F (GoesOn i ∷ deeds) a = absurd a.0
+no_notices_may x F (Ends e ∷ deeds) a = absurd a.0
+
+pub owed_no_notices : (r : Response) (o : Option Creation) → TellNoNotices (owed r o)
+owed_no_notices r None = tt
+owed_no_notices r (Some c) = (tt, (answer_other r [], tt))
+
+pub synced_no_notices : (core : Core) (input : NodeInput) (p : Port) → IsHost p.desk.host → TellNoNotices (synced core input p)
+synced_no_notices core input p host = go (input_at input p) refl where
+  may : (id : ℕ) → IsCommand (Sync p.desk.host id)
+  may id = and_from (nat_le 1 p.desk.host) (nat_le p.desk.host 7) (le-leb 1 p.desk.host host.0) (le-leb p.desk.host 7 host.1)
+
+  either : (b : Bool) (id : ℕ) → TellNoNotices (cond b (Commits (Sync p.desk.host id) ∷ []) [])
+  either true id = (may id, tt)
+  either false id = tt
+
+  go : (o : Option LinkInput) → input_at input p ≡ o → TellNoNotices (synced core input p)
+  go None q = rw q tt
+  go (Some i) q = by (report p.side i).sync refl where
+    by : (o : Option ℕ) → (report p.side i).sync ≡ o → TellNoNotices (synced core input p)
+    by None e = rw (q, e) tt
+    by (Some id) e = rw (q, e) (either (not (is_kept_sync core.tables.syncs p.desk.host id) && finds_room core (Sync p.desk.host id)) id)
+
+-- ## What is read of many ends
+
+module _ (x : ℕ) where
+  -- of ends with different hosts only that of x tells of its notice
+  pub flat_reads : (f : Port → List Entry) → ((p : Port) (r : Option (List ℕ)) → eqb p.desk.host x ≡ false → reads x (f p) r ≡ r) → (ports : List Port)
+      → AreDifferent (map (λ (p : Port). p.desk.host) ports) → (r : Option (List ℕ))
+      → reads x (flat_map f ports) r ≡ option_map_or (λ p. reads x (f p) r) (port_at ports x) r
+  flat_reads f silent [] d r = refl
+  flat_reads f silent (p ∷ ports) d r =
+      reads_append x (f p) (flat_map f ports) r ∙ go (cases_Bool (eqb p.desk.host x)) (flat_reads f silent ports d.1) where
+        others : (ports : List Port) → AllByRecursion (λ (k : ℕ). eqb k p.desk.host ≡ false) (map (λ (p : Port). p.desk.host) ports)
+            → eqb p.desk.host x ≡ true → (r : Option (List ℕ)) → reads x (flat_map f ports) r ≡ r
+        others [] a e r = refl
+        others (q ∷ ports) a e r =
+            reads_append x (f q) (flat_map f ports) r
+            ∙ (ap (reads x (flat_map f ports)) (silent q r (ne_eqb q.desk.host x (λ s. eqb-false q.desk.host p.desk.host a.0
+            (s ∙ sym (eqb-true p.desk.host x e))))) ∙ others ports a.1 e r)
+
+        go : (eqb p.desk.host x ≡ true) ⊎ (eqb p.desk.host x ≡ false)
+            → ((r : Option (List ℕ)) → reads x (flat_map f ports) r ≡ option_map_or (λ p. reads x (f p) r) (port_at ports x) r)
+            → reads x (flat_map f ports) (reads x (f p) r) ≡ option_map_or (λ p. reads x (f p) r) (port_at (p ∷ ports) x) r
+        go (inl e) later = rw e (others ports d.0 e (reads x (f p) r))
+        go (inr e) later = rw e (ap (reads x (flat_map f ports)) (silent p r e) ∙ later r)
+
+  pub told_elsewhere : (core : Core) → own_side core ≡ Controller → (p : Port) (o : Option LinkInput) (r : Option (List ℕ)) → eqb p.desk.host x ≡ false
+      → reads x (told_at core p o) r ≡ r
+  told_elsewhere core side p None r e = refl
+  told_elsewhere core side p (Some i) r e = told_reads x core p i r side ∙ ap (λ b. cond (b && is_some (ended_by p.side i)) None r) e
+
+  pub told_here : (core : Core) → own_side core ≡ Controller → (p : Port) (i : LinkInput) (r : Option (List ℕ)) → p.desk.host ≡ x
+      → reads x (told_at core p (Some i)) r ≡ cond (is_some (ended_by p.side i)) None r
+  told_here core side p i r e =
+      told_reads x core p i r side ∙ ap (λ b. cond (b && is_some (ended_by p.side i)) None r) (eq-eqb p.desk.host x e)
+
+  pub late_elsewhere : (core : Core) → own_side core ≡ Controller → (p : Port) (r : Option (List ℕ)) → eqb p.desk.host x ≡ false
+      → reads x (told_late core p) r ≡ r
+  late_elsewhere core side p r e = go (is_late p) where
+    go : (b : Bool) → reads x (cond b (told_at core p (Some (Reset None))) []) r ≡ r
+    go true = told_elsewhere core side p (Some (Reset None)) r e
+    go false = refl
+
+-- ## An end behind what came
+
+-- what is read and kept of it: nothing is read where its session ended
+pub record IsCome (r : Option (List ℕ)) (q : Port) : Type 0 where
+  pub kept : is_over q ≡ false → IsKeptNotice r q.desk.notice
+  pub gone : is_over q ≡ true → r ≡ None
+  pub up : is_over q ≡ false → is_some q.desk.notice ≡ true → q.side.shdlc.phase ≡ Up
+  pub shut : IsShut q.side
+
+abbrev pub IsComeAt : Option (List ℕ) → Option Port → Type 0
+IsComeAt r None = r ≡ None
+IsComeAt r (Some q) = IsCome r q
+
+module _ (p : Port) (fresh : IsFresh p) (up : UpAt (Some p)) (shut : IsShut p.side) where
+  pub come_is : (r : Option (List ℕ)) (o : Option LinkInput) → ((i : LinkInput) → o ≡ Some i → IsComing i) → IsKeptNotice r p.desk.notice
+      → IsCome (option_map_or (λ i. cond (is_some (ended_by p.side i)) None r) o r) (has_come p o)
+  come_is r None coming kept =
+      let not_over : is_over p ≡ false = rw (fresh.0, fresh.1) refl in
+      record {
+        kept = λ n. kept;
+        gone = λ y. absurd (true≢false (sym y ∙ not_over));
+        up = λ n some. up_is p.side.shdlc.phase (up some);
+        shut = shut;
+      }
+  come_is r (Some i) coming kept = go (is_some (ended_by p.side i)) refl where
+    over : (b : Bool) → is_some (ended_by p.side i) ≡ b → is_over (has_come p (Some i)) ≡ b
+    over b e = ap (λ c. c || p.late) e ∙ (ap (λ c. b || c) fresh.1 ∙ same b) where
+      same : (b : Bool) → (b || false) ≡ b
+      same true = refl
+      same false = refl
+
+    go : (b : Bool) → is_some (ended_by p.side i) ≡ b → IsCome (cond (is_some (ended_by p.side i)) None r) (has_come p (Some i))
+    go true e = subst (λ c. IsCome (cond c None r) (has_come p (Some i))) (sym e) (record {
+      kept = λ n. absurd (true≢false (sym (over true e) ∙ n));
+      gone = λ y. refl;
+      up = λ n. absurd (true≢false (sym (over true e) ∙ n));
+      shut = input_shut p.side i shut;
+    })
+    go false e = subst (λ c. IsCome (cond c None r) (has_come p (Some i))) (sym e) (record {
+      kept = λ n. kept;
+      gone = λ y. absurd (true≢false (sym y ∙ over false e));
+      up = λ n some. stays_up p.side i (coming i refl) (up_is p.side.shdlc.phase (up some)) e;
+      shut = input_shut p.side i shut;
+    })
+
+pub older_is : (r : Option (List ℕ)) (q : Port) → IsCome r q → IsCome r (with_older q)
+older_is r q a = record { kept = λ n. kept q.desk.notice (a.kept n); gone = a.gone; up = λ n some. a.up n (some_of q.desk.notice some); shut = a.shut } where
+  by : Option Notice → Option Notice
+  by None = None
+  by (Some n) = Some (older_notice n)
+
+  kept_of : (r : Option (List ℕ)) (n : Notice) → IsKeptNotice r (Some n) → IsKeptNotice r (Some (older_notice n))
+  kept_of None n k = k
+  kept_of (Some m) n k = k
+
+  kept : (o : Option Notice) → IsKeptNotice r o → IsKeptNotice r (by o)
+  kept None k = k
+  kept (Some n) k = kept_of r n k
+
+  some_of : (o : Option Notice) → is_some (by o) ≡ true → is_some o ≡ true
+  some_of None z = z
+  some_of (Some n) z = refl
+
+-- an end that is up loses its session by a reset
+pub reset_ends : (e : LinkEnd) → IsShut e → e.shdlc.phase ≡ Up → is_some (ended_by e (Reset None)) ≡ true
+reset_ends e shut up = go (is_open e.role) refl where
+  go : (b : Bool) → is_open e.role ≡ b → is_some (ended_by e (Reset None)) ≡ true
+  go true o = rw (o, up) refl
+  go false o = let z : Up ≡ Down = sym up ∙ shut o in absurd (cc z)
+
+pub late_is : (core : Core) (r : Option (List ℕ)) (q : Port) → q.late ≡ false → IsCome r q
+    → IsCome (cond (is_late q) (cond (is_some (ended_by q.side (Reset None))) None r) r) (reset_late q)
+late_is core r q fresh a = go (is_late q) refl where
+  both : (c d : Bool) → (c && d) ≡ true → (c ≡ true) × (d ≡ true)
+  both true d e = (refl, e)
+  both false d e = absurd (true≢false (sym e))
+
+  some_of : (o : Option Notice) → option_map_or (λ (n : Notice). nat_le 100 n.age) o false ≡ true → is_some o ≡ true
+  some_of None e = e
+  some_of (Some n) e = refl
+
+  not_of : (b : Bool) → not b ≡ true → b ≡ false
+  not_of true e = sym e
+  not_of false e = refl
+
+  late_over : (b : Bool) → (b || true) ≡ true
+  late_over true = refl
+  late_over false = refl
+
+  go : (b : Bool) → is_late q ≡ b → IsCome (cond (is_late q) (cond (is_some (ended_by q.side (Reset None))) None r) r) (reset_late q)
+  go false e = rw e a
+  go true e =
+      let parts = both (option_map_or (λ (n : Notice). nat_le 100 n.age) q.desk.notice false) (not q.ended) e in
+      let not_over : is_over q ≡ false = ap (λ b. b || q.late) (not_of q.ended parts.1) ∙ fresh in
+      let ends : is_some (ended_by q.side (Reset None)) ≡ true = reset_ends q.side a.shut (a.up not_over (some_of q.desk.notice parts.0)) in
+      let reset : Port = record q { side = after_input q.side (Reset None); late = true } in
+      let over : is_over reset ≡ true = late_over q.ended in
+      let here : IsCome None reset = record {
+        kept = λ n. absurd (true≢false (sym over ∙ n));
+        gone = λ y. refl;
+        up = λ n. absurd (true≢false (sym over ∙ n));
+        shut = input_shut q.side (Reset None) a.shut;
+      } in
+      let is : reset_late q ≡ reset = rw e refl in
+      let read : cond (is_late q) (cond (is_some (ended_by q.side (Reset None))) None r) r ≡ None =
+      ap (λ b. cond b (cond (is_some (ended_by q.side (Reset None))) None r) r) e ∙ ap (λ b. cond b None r) ends in
+      subst (λ z. IsCome z (reset_late q)) (sym read) (subst (IsCome None) (sym is) here)
+
+pub forgets_is : (ports : List Port) (r : Option (List ℕ)) (q : Port) → IsCome r q → IsCome r (forgets ports q)
+forgets_is ports r q a = go (is_forgotten ports (asked_at q)) refl where
+  named : (c : Creation) (m : List ℕ) → IsNoticeOf c m → instruction_in m ≡ 18
+  named c m is = ap instruction_in is.message_is
+
+  about : (r : Option (List ℕ)) (n : Notice) (c : Creation) → creation_in (Some n) ≡ Some c → IsKeptNotice r (Some n)
+      → IsKeptNotice r (Some (record n { about = Forgotten }))
+  about None n c e k = k
+  about (Some m) n c e k = by n.about refl k where
+    by : (b : About) → n.about ≡ b → IsAbout n.about m → instruction_in m ≡ 18
+    by (Waits d) q k = let k2 : IsNoticeOf d m = subst (λ z. IsAbout z m) q k in named d m k2
+    by Forgotten q k = subst (λ z. IsAbout z m) q k
+    by Removed q k = let z : None ≡ Some c = rw q at e in absurd (cc z)
+
+  go : (b : Bool) → is_forgotten ports (asked_at q) ≡ b → IsCome r (forgets ports q)
+  go false e = rw e a
+  go true e = by_notice q.desk.notice refl where
+    by_notice : (o : Option Notice) → q.desk.notice ≡ o → IsCome r (forgets ports q)
+    by_notice None n = let z : false ≡ true = rw n at e in absurd (true≢false (sym z))
+    by_notice (Some n) is = by_creation (creation_in (Some n)) refl where
+      forgot : Port
+      forgot = record q { desk = record q.desk { notice = Some (record n { about = Forgotten }) } }
+
+      same : forgets ports q ≡ forgot
+      same = rw (e, is) refl
+
+      by_creation : (o : Option Creation) → creation_in (Some n) ≡ o → IsCome r (forgets ports q)
+      by_creation None c =
+          let none : asked_at q ≡ None = ap creation_in is ∙ c in
+          let z : false ≡ true = ap (is_forgotten ports) (sym none) ∙ e in absurd (true≢false (sym z))
+      by_creation (Some c) z = subst (IsCome r) (sym same) (record {
+        kept = λ k. about r n c z (subst (IsKeptNotice r) is (a.kept k));
+        gone = a.gone;
+        up = λ k some. a.up k (ap (λ (o : Option Notice). is_some o) is);
+        shut = a.shut;
+      })
+
+-- an end as the node's turns begin
+pub record IsReady (r : Option (List ℕ)) (q : Port) : Type 0 where
+  pub kept : IsKeptNotice r q.desk.notice
+  pub up : UpAt (Some q)
+
+pub without_is : (r : Option (List ℕ)) (q : Port) → IsCome r q → IsReady r (without_notice q)
+without_is r q a = go (is_over q) refl where
+  go : (b : Bool) → is_over q ≡ b → IsReady r (without_notice q)
+  go true e = rw e (record { kept = subst (λ z. IsKeptNotice z None) (sym (a.gone e)) tt; up = λ n. absurd (true≢false (sym n)) })
+  go false e = rw e (record { kept = a.kept e; up = λ n. ap is_up (a.up e n) })

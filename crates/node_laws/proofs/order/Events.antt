@@ -1,0 +1,732 @@
+-- Each event of a world but a tick leaves each link told.
+use Rattle.std.proofs.Common.{◌≡◌, ℕ, ◌==◌, Bool, true, false, cond, List, [], ◌∷◌, ◌++◌, length, Option, Some, None, map, refl, ap, sym, subst, ◌∙◌}
+use Rattle.std.proofs.Common.{append_assoc}
+use Rattle.std.specs.Prelude.{is_some, min, ◌+◌}
+use Rattle.std.specs.List.{AllByRecursion}
+use Rattle.std.proofs.lemmas.Bool.{eqb-true, true≢false}
+use Rattle.swp_base.specs.InMemory.{Memory}
+use Rattle.swp_act.specs.Activation.{new_clf, new_uicc}
+use Rattle.trace_model.specs.declared.entry.Entry.{Entry}
+use Rattle.trace_model.specs.declared.entry.Entry.TheVariants as entry
+use Rattle.trace_model.specs.declared.line.End.{End}
+use Rattle.journal_laws.specs.Journal.{count_of}
+use Rattle.journal_laws.specs.Planned.{fails_within, after_planned}
+use Rattle.link_laws.specs.machine.Machine.{LinkEnd, LinkInput, new_link_end}
+use Rattle.link_laws.specs.machine.Machine.LinkInput.{Start}
+use Rattle.link_laws.specs.machine.Machine.Role.{Clf, Uicc}
+use Rattle.link_laws.specs.messages.Links.{NumberedEnd, Link, Comes, Loss, EndEvent, LinkEvent, exchanged, happens_at_controller, happens, IsClf, IsEvent}
+use Rattle.link_laws.specs.messages.Links.Ending.{CutOff}
+use Rattle.link_laws.specs.messages.Links.Comes.{Starts, NoInput}
+use Rattle.link_laws.specs.messages.Links.Loss.{OnDemand, Broken, Unread, TooOld, TooMany}
+use Rattle.link_laws.specs.messages.Links.EndEvent.{Step, Lose}
+use Rattle.link_laws.specs.messages.Links.LinkEvent.{AtController, AtHost}
+use Rattle.link_laws.specs.messages.Links.IsStart.{IsLine}
+use Rattle.link_laws.proofs.messages.Whole.{from_start}
+use Rattle.node_laws.specs.links.Runs.{new_line}
+use Rattle.node_machine.specs.world.World.Happening.{Activates}
+use Rattle.link_laws.specs.entries.Entries.{first_lost}
+use Rattle.link_laws.specs.entries.Entries.End.{Controller, Host}
+use Rattle.history.specs.Steps.{at, entries_for}
+use Rattle.history.specs.Follows.{seen_from}
+use Rattle.node_machine.specs.Parts.{Desk, Running, Work, Deed}
+use Rattle.node_machine.specs.Carrying.{changed_if}
+use Rattle.node_machine.specs.Node.{steps, begins_with, found, boot_writes, with_error, new_desk}
+use Rattle.node_machine.specs.Node.NodeInput.{AtEnd}
+use Rattle.node_machine.specs.world.World.{Site, NodeWorld, site_at, with_site, link_to, input_of, near_end_in, arrival, work_of, ending_of, turns_at, runs_on}
+use Rattle.node_machine.specs.world.World.{comes_to, controller_work, link_after_controller, after_controller, controller_does, host_work, after_host}
+use Rattle.node_machine.specs.world.World.{host_does}
+use Rattle.node_machine.specs.world.World.{controller_cut, host_cut, loses_power_at, memory_at, with_memory, with_node, links_of, boots, counts}
+use Rattle.node_machine.specs.world.World.{frame_lost, comes_at}
+use Rattle.node_machine.specs.world.World.{end_c, end_h, activates}
+use Rattle.link_laws.proofs.entries.Lasting.{same_number}
+use Rattle.node_laws.proofs.links.Ends.{here_host}
+use Rattle.node_laws.proofs.links.Works.{IsFineWork, all_done_fine, steps_fine}
+use Rattle.node_laws.proofs.links.Deeds.{AreFine}
+use Rattle.node_laws.proofs.links.Sites.{MayCome, clf_line, uicc_line, can_come, can_end}
+use Rattle.node_laws.proofs.links.Worlds.{AreTrueDesks, IsFineNode, IsFineSite, IsFineWorld, AtHostOnly, CanReach, near_end_clean, near_clean, fine_clean}
+use Rattle.node_laws.proofs.links.Worlds.{ports_fine, turns_fine, may_here, memory_fine}
+use Rattle.node_laws.proofs.links.Playing.{plain_reach, starts_fine, starts_then}
+use Rattle.node_laws.specs.telling.Telling.{of_link, TellOf, HasEnds, IfItRuns, hosts_in, IsOrderly, IfOff}
+use Rattle.node_laws.specs.telling.Standing.{StandsOf}
+use Rattle.node_laws.proofs.telling.Mute.{AreMute}
+use Rattle.node_laws.proofs.telling.Powers.{entries_uncut, clear_stands, away_stands}
+use Rattle.node_laws.proofs.telling.Shapes.{clear_lost, shaped_step}
+use Rattle.node_laws.proofs.telling.Accounts.{of_other}
+use Rattle.node_laws.proofs.telling.Parts.{IsStep}
+use Rattle.node_laws.proofs.telling.Nodes.{site_host, link_is, ports_for, own_power, other_power, is_step, controller_tells, controller_stands}
+use Rattle.node_laws.proofs.telling.Worlds.{site_is, node_is, HostDoes, host_does_step, host_does_begin}
+use Rattle.node_laws.proofs.telling.Events.{memory_goes, comes_goes}
+use Rattle.node_laws.proofs.readings.NoticedWorlds.{far_side}
+use Rattle.node_laws.specs.order.Told.{IsLinkTold}
+use Rattle.node_laws.proofs.order.Unnoticed.{IfNone, HasNoNotices, AreUnnoticed, all_done_none, steps_none, runs_none}
+use Rattle.node_laws.proofs.order.Watches.{IsStepOf, WatchedLink, watched, unwatched, opened, watch_begins, watched-append}
+use Rattle.node_laws.proofs.order.Knowing.{told_more, LeaveLink, told_same, cut_clf, cut_uicc, Knows, Each, later, each_empty, each_back, each_alike}
+use Rattle.node_laws.proofs.order.Knowing.{was_there}
+use Rattle.node_laws.proofs.order.Knowing.{each_map, each_site}
+use Rattle.node_laws.proofs.order.Wires.{Shown, shown_same, clear_unstarted, shown_more, step_shown, AreEmpty, started_empty, empty_shown}
+
+-- a world that is orderly, and whose nodes send what may be sent
+pub record IsWell (w : NodeWorld) : Type 0 where
+  pub orderly : IsOrderly w
+  pub fine : IsFineWorld w
+
+-- what happens at the controller's end leaves the host's
+near_side : (l : Link) (e : EndEvent) → (happens l (AtController e)).host.side ≡ l.host.side
+near_side l e = ap (λ (h : NumberedEnd). h.side) (here_host l e)
+
+-- ## Steps of the controller
+
+module _ (w : NodeWorld) (t : List Entry) (X : ℕ → WatchedLink) (a : IsWell w) (each : Each t X w) (k : ℕ) (comes : Comes) (i : LinkInput) (may : MayCome comes)
+    (q : input_of (link_to w.sites k) comes ≡ Some i) where
+  module _ (r : Running) (runs : w.controller ≡ Some r) where
+    abbrev v : Work
+    v = controller_work w r k comes (steps (AtEnd k i))
+
+    abbrev u : List Entry
+    u = (after_controller w k comes v).1
+
+    abbrev near_ends : ℕ → NumberedEnd
+    near_ends j = near_end_in (link_to w.sites j) (comes_to k comes j)
+
+    desks : AreTrueDesks r.desks
+    desks = go w.controller runs a.fine.controller
+      where
+        go : (o : Option Running) → o ≡ Some r → IsFineNode o → AreTrueDesks r.desks
+        go None e b = absurd (cc e)
+        go (Some x) e b = let one : x ≡ r = cc in let P : Running → Type 0 = λ z. AreTrueDesks z.desks in subst P one b
+
+    done : IsFineWork v
+    done =
+        steps_fine (AtEnd k i) (work_of r w.memory.plan near_ends (entries_for k (arrival Controller (link_to w.sites k) comes)))
+        (ports_fine near_ends
+        (λ j. near_end_clean (link_to w.sites j) (comes_to k comes j) (near_clean w.sites j (fine_clean w.sites a.fine.sites))) r.desks desks)
+
+    node : HasEnds 0 (hosts_in w.sites) r
+    node = node_is 0 (hosts_in w.sites) w.controller r a.orderly.controller runs
+
+    -- how each link stands behind it
+    abbrev Y : ℕ → WatchedLink
+    Y h = watched h (opened (comes_to k comes h) (X h)) u
+
+    -- what happens at its end of a link
+    abbrev pub near_event : Site → LinkEvent
+    near_event s = AtController (Step (comes_to k comes s.host) (turns_at v s.host) (ending_of v))
+
+    pub near_step : (h : ℕ) (s : Site) → site_at w.sites h ≡ Some s → IsStepOf h s.link (near_event s) u
+    near_step h s there =
+        let fine : IsFineSite s = site_is IsFineSite w.sites h s a.fine.sites there in
+        let number : s.host ≡ h = site_host w.sites h s there in
+        let P : ℕ → Type 0 = λ m. TellOf h s.link (AtController (Step (comes_to k comes m) (turns_at v m) (ending_of v))) u in
+        let S : ℕ → Type 0 = λ m. StandsOf h s.link (AtController (Step (comes_to k comes m) (turns_at v m) (ending_of v))) u in
+        record {
+          can = (
+            can_come s.link (comes_to k comes s.host) (may_here k comes s.host may) fine.link.line.clf,
+            (
+              turns_fine v s.host done,
+              can_end s.link.controller.side.role (ending_of v)
+                  (clf_line s.link.controller.side.role fine.link.line.clf),
+            ),
+          );
+          tells = subst P (sym number) (controller_tells w r k comes h s a.orderly node there i q);
+          stands = subst S (sym number) (controller_stands w r k comes h s a.orderly node there i q);
+        }
+
+    one : (h : ℕ) (s : Site) → site_at w.sites h ≡ Some s → Knows t (X h) w.controller h s
+        → Knows (t ++ u) (Y h) (runs_on v) h (link_after_controller k comes v s)
+    one h s there b =
+        let fine : IsFineSite s = site_is IsFineSite w.sites h s a.fine.sites there in
+        let here : Comes = comes_to k comes s.host in
+        let e : LinkEvent = near_event s in
+        let number : s.host ≡ h = site_host w.sites h s there in
+        let n : IsStepOf h s.link e u = near_step h s there in
+        record {
+          told = told_more h s.link e t u n b.told;
+          shown = let W : ℕ → Type 0 = λ m. Shown (happens s.link e) (watched h (opened (comes_to k comes m) (X h)) u) in
+              subst W number (step_shown h s.link e t u (X h) b.told n b.shown Controller here (ending_of v)
+              (shaped_step Controller s.link here (turns_at v s.host) (ending_of v) (cond (s.host == k) (Some i) None) (arrives (s.host == k) refl)
+              (is_so (s.host == k))));
+          near = off v.cut refl fine.link.line.clf;
+          far = let F : LinkEnd → Type 0 = IfOff s.node (new_link_end (Uicc new_uicc)) in
+              subst F (sym (near_side s.link (Step here (turns_at v s.host) (ending_of v)))) b.far;
+          none = b.none;
+        }
+      where
+        arrives : (b : Bool) → (s.host == k) ≡ b → input_of s.link (cond b comes NoInput) ≡ cond b (Some i) None
+        arrives true e =
+            ap (λ l. input_of l comes) (sym (ap (link_to w.sites) (sym (eqb-true s.host k e) ∙ site_host w.sites h s there) ∙ link_is w.sites h s there)) ∙ q
+        arrives false e = refl
+
+        is_so : (b : Bool) → IsStep (cond b comes NoInput) (cond b (Some i) None)
+        is_so true = is_step comes i
+        is_so false = tt
+
+        off : (c : Bool) → v.cut ≡ c → IsClf s.link.controller.side.role
+            → IfOff (runs_on v) (new_link_end (Clf new_clf))
+            (happens s.link (AtController (Step (comes_to k comes s.host) (turns_at v s.host) (ending_of v)))).controller.side
+        off true e clf =
+            let none : runs_on v ≡ None = rw e refl in
+            let ending : ending_of v ≡ CutOff = rw e refl in
+            let G : Option Running → Type 0 = λ o. IfOff o (new_link_end (Clf new_clf))
+            (happens s.link (AtController (Step (comes_to k comes s.host) (turns_at v s.host) (ending_of v)))).controller.side in
+            subst G (sym none)
+            (ap (λ x. (happens s.link (AtController (Step (comes_to k comes s.host) (turns_at v s.host) x))).controller.side) ending
+            ∙ cut_clf s.link (comes_to k comes s.host) (turns_at v s.host) (cond (s.host == k) (Some i) None) (arrives (s.host == k) refl)
+            (is_so (s.host == k)) clf)
+        off false e clf =
+            let some : runs_on v ≡ Some (record { core = v.core; desks = map (λ p. p.desk) v.ports }) = rw e refl in
+            let G : Option Running → Type 0 = λ o. IfOff o (new_link_end (Clf new_clf))
+            (happens s.link (AtController (Step (comes_to k comes s.host) (turns_at v s.host) (ending_of v)))).controller.side in
+            subst G (sym some) tt
+
+    pub after : Each (t ++ u) Y (after_controller w k comes v).0
+    after = each_map w (after_planned v.writes w.memory) (runs_on v) t u X Y (link_after_controller k comes v) (λ s. refl) one each
+
+  pub controller_each : ((h : ℕ) → opened (comes_to k comes h) (X h) ≡ X h)
+      → Each (t ++ (controller_does w k comes (steps (AtEnd k i))).1) (later X (controller_does w k comes (steps (AtEnd k i))).1)
+      (controller_does w k comes (steps (AtEnd k i))).0
+  controller_each plain = go w.controller refl
+    where
+      off_is : w.controller ≡ None → controller_does w k comes (steps (AtEnd k i)) ≡ (w, [])
+      off_is e = rw e refl
+
+      on_is : (r : Running) → w.controller ≡ Some r
+          → controller_does w k comes (steps (AtEnd k i)) ≡ after_controller w k comes (controller_work w r k comes (steps (AtEnd k i)))
+      on_is r e = rw e refl
+
+      P : NodeWorld × List Entry → Type 0
+      P z = Each (t ++ z.1) (later X z.1) z.0
+
+      go : (o : Option Running) → w.controller ≡ o → P (controller_does w k comes (steps (AtEnd k i)))
+      go None e = subst P (sym (off_is e)) (each_empty t X w each)
+      go (Some r) e =
+          subst P (sym (on_is r e)) (each_alike (t ++ u r e) (Y r e) (later X (u r e)) (after_controller w k comes (v r e)).0
+          (λ h. ap (λ x. watched h x (u r e)) (plain h)) (after r e))
+
+-- ## Steps of a host
+
+module _ (w : NodeWorld) (t : List Entry) (X : ℕ → WatchedLink) (a : IsWell w) (each : Each t X w) (k : ℕ) (comes : Comes) (f : Work → Work)
+    (reach : AllByRecursion (AtHostOnly (CanReach comes) k) w.sites)
+    (does : (s : Site) (r : Running) → site_at w.sites k ≡ Some s → s.node ≡ Some r → HostDoes w k comes f s r)
+    (fine : (v : Work) → IsFineWork v → IsFineWork (f v)) (plain : (v : Work) → HasNoNotices v → HasNoNotices (f v))
+    (o : Option LinkInput) (so : IsStep comes o)
+    (q : (s : Site) → site_at w.sites k ≡ Some s → input_of (exchanged s.link) comes ≡ o)
+    (plain_wires : (s : Site) → site_at w.sites k ≡ Some s → opened comes (X k) ≡ X k) where
+  module _ (s : Site) (there : site_at w.sites k ≡ Some s) (r : Running) (runs : s.node ≡ Some r) where
+    abbrev worked : Work
+    worked = host_work s r comes f
+
+    abbrev noted : List Entry
+    noted = (host_does w k comes f).1
+
+    site_fine : IsFineSite s
+    site_fine = site_is IsFineSite w.sites k s a.fine.sites there
+
+    number : s.host ≡ k
+    number = site_host w.sites k s there
+
+    host_desks : AreTrueDesks r.desks
+    host_desks = go s.node runs site_fine.node
+      where
+        go : (o : Option Running) → o ≡ Some r → IsFineNode o → AreTrueDesks r.desks
+        go None e b = absurd (cc e)
+        go (Some x) e b = let one : x ≡ r = cc in let P : Running → Type 0 = λ z. AreTrueDesks z.desks in subst P one b
+
+    host_done : IsFineWork worked
+    host_done =
+        fine (work_of r s.memory.plan (λ j. near_end_in (exchanged s.link) comes) (entries_for s.host (arrival Host (exchanged s.link) comes)))
+        (ports_fine (λ j. near_end_in (exchanged s.link) comes) (λ j. near_end_clean (exchanged s.link) comes site_fine.link.line.far) r.desks host_desks)
+
+    -- what happens at its end
+    abbrev pub far_event : LinkEvent
+    far_event = AtHost (Step comes (turns_at worked s.host) (ending_of worked))
+
+    pub far_step : IsStepOf k s.link far_event noted
+    far_step =
+        let told : HostDoes w k comes f s r = does s r there runs in
+        record {
+          can = (
+            site_is (AtHostOnly (CanReach comes) k) w.sites k s reach there (ap (λ n. n == k) number ∙ same_number k),
+            (
+              turns_fine worked s.host host_done,
+              can_end s.link.host.side.role (ending_of worked)
+                  (uicc_line s.link.host.side.role site_fine.link.line.uicc),
+            ),
+          );
+          tells = told.own;
+          stands = told.stands;
+        }
+
+    own : Knows t (X k) w.controller k s → Knows (t ++ noted) (later X noted k) w.controller k (after_host comes worked s)
+    own b =
+        let e : LinkEvent = far_event in
+        let n : IsStepOf k s.link e noted = far_step in
+        let N : LinkEnd → Type 0 = IfOff w.controller (new_link_end (Clf new_clf)) in
+        record {
+          told = told_more k s.link e t noted n b.told;
+          shown = subst (λ x. Shown (happens s.link e) (watched k x noted)) (plain_wires s there)
+              (step_shown k s.link e t noted (X k) b.told n b.shown Host comes (ending_of worked)
+              (shaped_step Host (exchanged s.link) comes (turns_at worked s.host) (ending_of worked) o (q s there) so));
+          near = subst N (sym (far_side s.link (Step comes (turns_at worked s.host) (ending_of worked)))) b.near;
+          far = off worked.cut refl;
+          none = runs_none worked (plain _ (record { host = host; none = ports_none r.desks desks_none }));
+        }
+      where
+        host : (r.core.node == 0) ≡ false
+        host =
+            let node : HasEnds s.host (s.host ∷ []) r =
+            node_is s.host (s.host ∷ []) s.node r (site_is (λ (x : Site). IfItRuns x.host (x.host ∷ []) x.node) w.sites k s a.orderly.nodes there) runs in
+            ap (λ n. n == 0) node.number ∙ site_is (λ (x : Site). (x.host == 0) ≡ false) w.sites k s a.orderly.hosts there
+
+        desks_none : AllByRecursion (λ (d : Desk). d.notice ≡ None) r.desks
+        desks_none = go s.node runs b.none
+          where
+            go : (o : Option Running) → o ≡ Some r → IfNone o → AllByRecursion (λ (d : Desk). d.notice ≡ None) r.desks
+            go None e n = absurd (cc e)
+            go (Some x) e n =
+                let one : x ≡ r = cc in
+                let P : Running → Type 0 = λ z. AllByRecursion (λ (d : Desk). d.notice ≡ None) z.desks in subst P one n
+
+        ports_none : (ds : List Desk) → AllByRecursion (λ (d : Desk). d.notice ≡ None) ds
+            → AllByRecursion (λ p. p.desk.notice ≡ None) (ports_for (λ j. near_end_in (exchanged s.link) comes) ds)
+        ports_none [] n = tt
+        ports_none (d ∷ ds) n = (n.0, ports_none ds n.1)
+
+        off : (c : Bool) → worked.cut ≡ c
+            → IfOff (runs_on worked) (new_link_end (Uicc new_uicc))
+            (happens_at_controller (exchanged s.link) (Step comes (turns_at worked s.host) (ending_of worked))).controller.side
+        off true e =
+            let none : runs_on worked ≡ None = rw e refl in
+            let ending : ending_of worked ≡ CutOff = rw e refl in
+            let G : Option Running → Type 0 = λ o. IfOff o (new_link_end (Uicc new_uicc))
+            (happens_at_controller (exchanged s.link) (Step comes (turns_at worked s.host) (ending_of worked))).controller.side in
+            subst G (sym none)
+            (ap (λ x. (happens_at_controller (exchanged s.link) (Step comes (turns_at worked s.host) x)).controller.side) ending
+            ∙ cut_uicc (exchanged s.link) comes (turns_at worked s.host) o (q s there) so site_fine.link.line.uicc)
+        off false e =
+            let some : runs_on worked ≡ Some (record { core = worked.core; desks = map (λ p. p.desk) worked.ports }) = rw e refl in
+            let G : Option Running → Type 0 = λ o. IfOff o (new_link_end (Uicc new_uicc))
+            (happens_at_controller (exchanged s.link) (Step comes (turns_at worked s.host) (ending_of worked))).controller.side in
+            subst G (sym some) tt
+
+  pub host_each : Each (t ++ (host_does w k comes f).1) (later X (host_does w k comes f).1) (host_does w k comes f).0
+  host_each = go (site_at w.sites k) refl
+    where
+      P : NodeWorld × List Entry → Type 0
+      P z = Each (t ++ z.1) (later X z.1) z.0
+
+      none_is : site_at w.sites k ≡ None → host_does w k comes f ≡ (w, [])
+      none_is e = rw e refl
+
+      off_is : (s : Site) → site_at w.sites k ≡ Some s → s.node ≡ None → host_does w k comes f ≡ (w, [])
+      off_is s e n = rw (e, n) refl
+
+      on_is : (s : Site) (r : Running) → site_at w.sites k ≡ Some s → s.node ≡ Some r
+          → (host_does w k comes f).0 ≡ record w { sites = with_site k (after_host comes (host_work s r comes f)) w.sites }
+      on_is s r e n = rw (e, n) refl
+
+      runs : (s : Site) → site_at w.sites k ≡ Some s → (x : Option Running) → s.node ≡ x → P (host_does w k comes f)
+      runs s there None n = subst P (sym (off_is s there n)) (each_empty t X w each)
+      runs s there (Some r) n =
+          let u : List Entry = (host_does w k comes f).1 in
+          let Q : NodeWorld → Type 0 = λ z. Each (t ++ u) (later X u) z in
+          subst Q (sym (on_is s r there n))
+          (each_site w w.memory w.controller t u X k (after_host comes (host_work s r comes f)) (λ x. refl) (λ h x b. b)
+          (λ x found b.
+          let same : Some s ≡ Some x = sym there ∙ found in
+          let one : s ≡ x = cc in
+          let R : Site → Type 0 = λ z. Knows t (X k) w.controller k z
+          → Knows (t ++ u) (later X u k) w.controller k (after_host comes (host_work s r comes f) z) in
+          subst R one (own s there r n) b)
+          (λ h z. record { none = (does s r there n).others h z; stands = (does s r there n).leaves h z }) each)
+
+      go : (x : Option Site) → site_at w.sites k ≡ x → P (host_does w k comes f)
+      go None e = subst P (sym (none_is e)) (each_empty t X w each)
+      go (Some s) e = runs s e s.node refl
+
+-- ## What comes to an end
+
+-- activation neither begins nor ends
+plain_at : (comes : Comes) → ((x : WatchedLink) → opened comes x ≡ x) → (b : Bool) (x : WatchedLink) → opened (cond b comes NoInput) x ≡ x
+plain_at comes plain true x = plain x
+plain_at comes plain false x = refl
+
+pub comes_each : (w : NodeWorld) (t : List Entry) (X : ℕ → WatchedLink) (e : End) (comes : Comes) → IsWell w → Each t X w → MayCome comes
+    → AllByRecursion (AtHostOnly (CanReach comes) e.link) w.sites → ((x : WatchedLink) → opened comes x ≡ x)
+    → Each (t ++ (comes_at w e comes).1) (later X (comes_at w e comes).1) (comes_at w e comes).0
+comes_each w t X e comes a each may reach plain = go (input_of (seen_from e (link_to w.sites e.link)) comes) e.at_host refl refl
+  where
+    by : Option LinkInput → Bool → NodeWorld × List Entry
+    by None at_host = (w, [])
+    by (Some i) true = host_does w e.link comes (steps (AtEnd e.link i))
+    by (Some i) false = controller_does w e.link comes (steps (AtEnd e.link i))
+
+    seen : Bool → Link → Link
+    seen b l = cond b (exchanged l) l
+
+    go : (o : Option LinkInput) (b : Bool) → input_of (seen_from e (link_to w.sites e.link)) comes ≡ o → e.at_host ≡ b
+        → Each (t ++ (by o b).1) (later X (by o b).1) (by o b).0
+    go None b q r = each_empty t X w each
+    go (Some i) true q r =
+        let input : (s : Site) → site_at w.sites e.link ≡ Some s → input_of (exchanged s.link) comes ≡ Some i =
+        λ s found. ap (λ l. input_of (exchanged l) comes) (sym (link_is w.sites e.link s found))
+        ∙ (ap (λ b. input_of (seen b (link_to w.sites e.link)) comes) (sym r) ∙ q) in
+        host_each w t X a each e.link comes (steps (AtEnd e.link i)) reach
+        (λ s n found runs. host_does_step w s n e.link a.orderly found runs comes i (input s found))
+        (λ v b. steps_fine (AtEnd e.link i) v b) (λ v b. steps_none (AtEnd e.link i) v b) (Some i) (is_step comes i) input (λ s found. plain (X e.link))
+    go (Some i) false q r =
+        controller_each w t X a each e.link comes i may (ap (λ b. input_of (seen b (link_to w.sites e.link)) comes) (sym r) ∙ q)
+        (λ h. plain_at comes plain (h == e.link) (X h))
+
+pub begins_each : (w : NodeWorld) (t : List Entry) (X : ℕ → WatchedLink) (k : ℕ) (deeds : List Deed) → AreMute deeds → AreFine deeds → AreUnnoticed deeds
+    → IsWell w → Each t X w
+    → Each (t ++ (host_does w k NoInput (begins_with k deeds)).1) (later X (host_does w k NoInput (begins_with k deeds)).1)
+    (host_does w k NoInput (begins_with k deeds)).0
+begins_each w t X k deeds m f u a each =
+    host_each w t X a each k NoInput (begins_with k deeds) (plain_reach k NoInput tt w.sites)
+    (λ s r found runs. host_does_begin w s r k a.orderly found runs deeds m) (λ v b. all_done_fine k deeds v f b) (λ v b. all_done_none k deeds v u b)
+    None tt (λ s found. refl) (λ s found. refl)
+
+-- ## Power and memories
+
+-- where only the memory of a host and its node change, and nothing is told
+pub each_beside : (w : NodeWorld) (t u : List Entry) (X : ℕ → WatchedLink) (k : ℕ) (memory : Site → Memory) (node : Site → Option Running)
+    → ((s : Site) → (IfOff s.node (new_link_end (Uicc new_uicc)) s.link.host.side → IfOff (node s) (new_link_end (Uicc new_uicc)) s.link.host.side)
+    × (IfNone s.node → IfNone (node s))) → ((h : ℕ) → LeaveLink h u) → Each t X w
+    → Each (t ++ u) (later X u) (record w { sites = with_site k (λ s. record s { memory = memory s; node = node s }) w.sites })
+each_beside w t u X k memory node changes q each =
+    each_site w w.memory w.controller t u X k (λ s. record s { memory = memory s; node = node s }) (λ s. refl) (λ h s b. b)
+    (λ s found b. record {
+      told = told_same k s.link t u (q k) b.told;
+      shown = shown_same k s.link (X k) u ((q k).stands (X k).stands) b.shown;
+      near = b.near;
+      far = (changes s).0 b.far;
+      none = (changes s).1 b.none;
+    })
+    (λ h z. q h) each
+
+pub memory_each : (n : ℕ) (m : Memory) (w : NodeWorld) (t : List Entry) (X : ℕ → WatchedLink) → Each t X w → Each (t ++ []) (later X []) (with_memory n m w)
+memory_each n m w t X each = go (n == 0)
+  where
+    by : Bool → NodeWorld
+    by true = record w { memory = m }
+    by false = record w { sites = with_site n (λ s. record s { memory = m }) w.sites }
+
+    go : (b : Bool) → Each (t ++ []) (later X []) (by b)
+    go true = each_empty t X (by true) (λ h s found. each h s found)
+    go false = each_beside w t [] X n (λ s. m) (λ s. s.node) (λ s. (λ b. b, λ b. b)) (λ h. record { none = refl; stands = λ x. refl }) each
+
+pub power_each : (n : ℕ) (w : NodeWorld) (t : List Entry) (X : ℕ → WatchedLink) → IsWell w → Each t X w
+    → Each (t ++ entry.Cut n ∷ []) (later X (entry.Cut n ∷ [])) (loses_power_at n w)
+power_each n w t X a each = go (n == 0) refl
+  where
+    u : List Entry
+    u = entry.Cut n ∷ []
+
+    by : Bool → NodeWorld
+    by true = controller_cut w
+    by false = record w { sites = with_site n host_cut w.sites }
+
+    near : EndEvent
+    near = Step NoInput [] CutOff
+
+    go : (b : Bool) → (n == 0) ≡ b → Each (t ++ entry.Cut n ∷ []) (later X (entry.Cut n ∷ [])) (by b)
+    go true zero =
+        each_map w w.memory None t u X (later X u) (λ (s : Site). record s { link = happens s.link (AtController near) }) (λ s. refl)
+        (λ h s found b.
+        let fine : IsFineSite s = site_is IsFineSite w.sites h s a.fine.sites found in
+        let F : LinkEnd → Type 0 = IfOff s.node (new_link_end (Uicc new_uicc)) in
+        let n : IsStepOf h s.link (AtController near) u = record {
+          can = (tt, (tt, clf_line s.link.controller.side.role fine.link.line.clf));
+          tells = refl;
+          stands = λ x. rw zero refl;
+        } in
+        record {
+          told = told_more h s.link (AtController near) t u n b.told;
+          shown = shown_more h s.link (AtController near) t u (X h) b.told n b.shown (tt, tt);
+          near = cut_clf s.link NoInput [] None refl tt fine.link.line.clf;
+          far = subst F (sym (near_side s.link near)) b.far;
+          none = b.none;
+        }) each
+    go false zero =
+        each_site w w.memory w.controller t u X n host_cut (λ s. refl) (λ h s b. b)
+        (λ s found b.
+        let fine : IsFineSite s = site_is IsFineSite w.sites n s a.fine.sites found in
+        let N : LinkEnd → Type 0 = IfOff w.controller (new_link_end (Clf new_clf)) in
+        let step : IsStepOf n s.link (AtHost near) u = record {
+          can = (tt, (tt, uicc_line s.link.host.side.role fine.link.line.uicc));
+          tells = refl;
+          stands = own_power n zero;
+        } in
+        record {
+          told = told_more n s.link (AtHost near) t u step b.told;
+          shown = shown_more n s.link (AtHost near) t u (X n) b.told step b.shown (tt, tt);
+          near = subst N (sym (far_side s.link near)) b.near;
+          far = cut_uicc (exchanged s.link) NoInput [] None refl tt fine.link.line.uicc;
+          none = tt;
+        }) (λ h z. record { none = refl; stands = other_power n h zero z }) each
+
+new_none : (hosts : List ℕ) → AllByRecursion (λ (d : Desk). d.notice ≡ None) (map new_desk hosts)
+new_none [] = tt
+new_none (h ∷ hosts) = (refl, new_none hosts)
+
+node_each : (n : ℕ) (r : Running) (w : NodeWorld) (t u : List Entry) (X : ℕ → WatchedLink) → IfNone (Some r) → ((h : ℕ) → LeaveLink h u) → Each t X w
+    → Each (t ++ u) (later X u) (with_node n r w)
+node_each n r w t u X none q each = go (n == 0)
+  where
+    by : Bool → NodeWorld
+    by true = record w { controller = Some r }
+    by false = record w { sites = with_site n (λ s. record s { node = Some r }) w.sites }
+
+    go : (b : Bool) → Each (t ++ u) (later X u) (by b)
+    go true = λ h s found.
+        let b : Knows t (X h) w.controller h s = each h s found in
+        record {
+          told = told_same h s.link t u (q h) b.told;
+          shown = shown_same h s.link (X h) u ((q h).stands (X h).stands) b.shown;
+          near = tt;
+          far = b.far;
+          none = b.none;
+        }
+    go false = each_beside w t u X n (λ s. s.memory) (λ s. Some r) (λ s. (λ b. tt, λ b. none)) q each
+
+pub boots_each : (w : NodeWorld) (t : List Entry) (X : ℕ → WatchedLink) (n : ℕ) → IsWell w → Each t X w
+    → Each (t ++ (boots w n).1) (later X (boots w n).1) (boots w n).0
+boots_each w t X n a each = go (fails_within (length (boot_writes (memory_at w n).content)) (memory_at w n).plan)
+  where
+    m : Memory
+    m = after_planned (boot_writes (memory_at w n).content) (memory_at w n)
+
+    written : NodeWorld
+    written = with_memory n m w
+
+    r : Running
+    r = found n (links_of w n) (memory_at w n).content
+
+    kept : Each t X written
+    kept = each_back t X written (memory_each n m w t X each)
+
+    well : IsWell written
+    well = record { orderly = (memory_goes n m w a.orderly).orderly; fine = memory_fine n m w a.fine }
+
+    by : Bool → NodeWorld × List Entry
+    by true = (loses_power_at n written, entry.Cut n ∷ [])
+    by false = (with_node n r written, entry.Booted n (count_of r.core.journal) ∷ [])
+
+    go : (b : Bool) → Each (t ++ (by b).1) (later X (by b).1) (by b).0
+    go true = power_each n written t X well kept
+    go false = node_each n r written t (entry.Booted n (count_of r.core.journal) ∷ []) X (new_none (links_of w n))
+        (λ h. record { none = refl; stands = λ x. refl }) kept
+
+-- ## Losses
+
+errors_none : (h : ℕ) (desks : List Desk) → AllByRecursion (λ (d : Desk). d.notice ≡ None) desks
+    → AllByRecursion (λ (d : Desk). d.notice ≡ None) (with_error h desks)
+errors_none h [] a = tt
+errors_none h (d ∷ desks) a = (go (d.host == h), errors_none h desks a.1)
+  where
+    more : Desk → Desk
+    more x = record x { errors = min 65535 (x.errors + 1) }
+
+    go : (b : Bool) → (changed_if b more d).notice ≡ None
+    go true = a.0
+    go false = a.0
+
+counts_none : (why : Loss) (h : ℕ) (o : Option Running) → IfNone o → IfNone (counts why h o)
+counts_none (Broken fault) h None a = a
+counts_none (Broken fault) h (Some r) a = errors_none h r.desks a
+counts_none OnDemand h o a = a
+counts_none Unread h o a = a
+counts_none TooOld h o a = a
+counts_none TooMany h o a = a
+
+counts_off : (why : Loss) (h : ℕ) (o : Option Running) (new e : LinkEnd) → IfOff o new e → IfOff (counts why h o) new e
+counts_off (Broken fault) h None new e a = a
+counts_off (Broken fault) h (Some r) new e a = tt
+counts_off OnDemand h o new e a = a
+counts_off Unread h o new e a = a
+counts_off TooOld h o new e a = a
+counts_off TooMany h o new e a = a
+
+pub lost_each : (w : NodeWorld) (t : List Entry) (X : ℕ → WatchedLink) (e : End) (why : Loss) → Each t X w
+    → Each (t ++ (frame_lost w e why).1) (later X (frame_lost w e why).1) (frame_lost w e why).0
+lost_each w t X e why each = go e.at_host refl
+  where
+    event : Bool → LinkEvent
+    event b = cond b (AtHost (Lose why)) (AtController (Lose why))
+
+    lost : Site → Site
+    lost s = record s { link = happens s.link (at e (Lose why)) }
+
+    by : Bool → NodeWorld × List Entry
+    by false = (
+      record w { controller = counts why e.link w.controller; sites = with_site e.link lost w.sites },
+      entries_for e.link (first_lost Controller why (link_to w.sites e.link).to_controller),
+    )
+    by true = (
+      record w { sites = with_site e.link (λ s. record (lost s) { node = counts why e.link s.node }) w.sites },
+      entries_for e.link (first_lost Host why (link_to w.sites e.link).to_host),
+    )
+
+    new_near : LinkEnd
+    new_near = new_link_end (Clf new_clf)
+
+    new_far : LinkEnd
+    new_far = new_link_end (Uicc new_uicc)
+
+    -- a frame that is lost leaves both ends
+    near_left : (b : Bool) (l : Link) → (happens l (event b)).controller.side ≡ l.controller.side
+    near_left true l = refl
+    near_left false l = refl
+
+    far_left : (b : Bool) (l : Link) → (happens l (event b)).host.side ≡ l.host.side
+    far_left true l = refl
+    far_left false l = refl
+
+    allowed : (b : Bool) (l : Link) → IsEvent l (event b)
+    allowed true l = tt
+    allowed false l = tt
+
+    go : (b : Bool) → e.at_host ≡ b → Each (t ++ (by b).1) (later X (by b).1) (by b).0
+    go false q =
+        let u : List Entry = (by false).1 in
+        each_site w w.memory (counts why e.link w.controller) t u X e.link lost (λ s. refl)
+        (λ h s b. counts_off why e.link w.controller new_near s.link.controller.side b)
+        (λ s there b.
+        let T : Bool → Type 0 = λ c. IsLinkTold e.link (happens s.link (event c)) (t ++ u) in
+        let told : TellOf e.link s.link (AtController (Lose why)) u =
+        ap (λ (l : Link). of_link e.link (entries_for e.link (first_lost Controller why l.to_controller))) (link_is w.sites e.link s there) in
+        let N : LinkEnd → Type 0 = IfOff (counts why e.link w.controller) new_near in
+        let F : LinkEnd → Type 0 = IfOff s.node new_far in
+        let n : IsStepOf e.link s.link (AtController (Lose why)) u = record {
+          can = tt;
+          tells = told;
+          stands = clear_stands e.link u (first_lost Controller why s.link.to_controller)
+              (entries_uncut e.link (first_lost Controller why (link_to w.sites e.link).to_controller))
+              (clear_lost Controller why s.link.to_controller) told;
+        } in
+        record {
+          told = subst T (sym q) (told_more e.link s.link (AtController (Lose why)) t u n b.told);
+          shown = let S : Bool → Type 0 = λ c. Shown (happens s.link (event c)) (watched e.link (X e.link) u) in
+              subst S (sym q) (shown_more e.link s.link (AtController (Lose why)) t u (X e.link) b.told n b.shown
+              (clear_unstarted (first_lost Controller why s.link.to_controller) (clear_lost Controller why s.link.to_controller)));
+          near = subst N (sym (near_left e.at_host s.link)) (counts_off why e.link w.controller new_near s.link.controller.side b.near);
+          far = subst F (sym (far_left e.at_host s.link)) b.far;
+          none = b.none;
+        })
+        (λ h z.
+        let none : of_link h u ≡ [] = of_other e.link h (first_lost Controller why (link_to w.sites e.link).to_controller) z in
+        record {
+          none = none;
+          stands = away_stands h u (entries_uncut e.link (first_lost Controller why (link_to w.sites e.link).to_controller)) none;
+        }) each
+    go true q =
+        let u : List Entry = (by true).1 in
+        each_site w w.memory w.controller t u X e.link (λ s. record (lost s) { node = counts why e.link s.node }) (λ s. refl) (λ h s b. b)
+        (λ s there b.
+        let T : Bool → Type 0 = λ c. IsLinkTold e.link (happens s.link (event c)) (t ++ u) in
+        let told : TellOf e.link s.link (AtHost (Lose why)) u =
+        ap (λ (l : Link). of_link e.link (entries_for e.link (first_lost Host why l.to_host))) (link_is w.sites e.link s there) in
+        let N : LinkEnd → Type 0 = IfOff w.controller new_near in
+        let F : LinkEnd → Type 0 = IfOff (counts why e.link s.node) new_far in
+        let n : IsStepOf e.link s.link (AtHost (Lose why)) u = record {
+          can = tt;
+          tells = told;
+          stands = clear_stands e.link u (first_lost Host why s.link.to_host)
+              (entries_uncut e.link (first_lost Host why (link_to w.sites e.link).to_host)) (clear_lost Host why s.link.to_host) told;
+        } in
+        record {
+          told = subst T (sym q) (told_more e.link s.link (AtHost (Lose why)) t u n b.told);
+          shown = let S : Bool → Type 0 = λ c. Shown (happens s.link (event c)) (watched e.link (X e.link) u) in
+              subst S (sym q) (shown_more e.link s.link (AtHost (Lose why)) t u (X e.link) b.told n b.shown
+              (clear_unstarted (first_lost Host why s.link.to_host) (clear_lost Host why s.link.to_host)));
+          near = subst N (sym (near_left e.at_host s.link)) b.near;
+          far = subst F (sym (far_left e.at_host s.link)) (counts_off why e.link s.node new_far s.link.host.side b.far);
+          none = counts_none why e.link s.node b.none;
+        })
+        (λ h z.
+        let none : of_link h u ≡ [] = of_other e.link h (first_lost Host why (link_to w.sites e.link).to_host) z in
+        record {
+          none = none;
+          stands = away_stands h u (entries_uncut e.link (first_lost Host why (link_to w.sites e.link).to_host)) none;
+        }) each
+
+-- ## Activation
+
+-- the wires of the link are empty as activation has begun at the controller's end
+module _ (w : NodeWorld) (t : List Entry) (X : ℕ → WatchedLink) (a : IsWell w) (each : Each t X w) (h power : ℕ) where
+  abbrev AreOpened : NodeWorld → Type 0
+  AreOpened v = (s : Site) → site_at v.sites h ≡ Some s → AreEmpty s.link
+
+  opened_so : (r : Running) → w.controller ≡ Some r
+      → AreOpened (after_controller w h (Starts power) (controller_work w r h (Starts power) (steps (AtEnd h (Start power))))).0
+  opened_so r runs s there =
+      let v : Work = controller_work w r h (Starts power) (steps (AtEnd h (Start power))) in
+      let was = was_there (link_after_controller h (Starts power) v) (λ x. refl) w.sites h s there in
+      let l : Link = was.site.link in
+      let b : Knows t (X h) w.controller h was.site = each h was.site was.there in
+      let fine : IsFineSite was.site = site_is IsFineSite w.sites h was.site a.fine.sites was.there in
+      let P : Link → Type 0 = λ k. k.controller.side.acts ≡ [] in
+      let acts : l.controller.side.acts ≡ [] =
+      subst P b.told.run.is (from_start new_line IsLine b.told.events b.told.run.allowed).good.controller.now.acts in
+      let here : (was.site.host == h) ≡ true = ap (λ n. n == h) (site_host w.sites h was.site was.there) ∙ same_number h in
+      let Q : Comes → Type 0 = λ c. AreEmpty (happens l (AtController (Step c (turns_at v was.site.host) (ending_of v)))) in
+      let R : Site → Type 0 = λ z. AreEmpty z.link in
+      subst R was.is
+      (subst (λ b. Q (cond b (Starts power) NoInput)) (sym here)
+      (started_empty l power (turns_at v was.site.host) (ending_of v) fine.link.line.clf acts))
+
+begun_at : (b : Bool) (power : ℕ) (x : WatchedLink) → opened (cond b (Starts power) NoInput) x ≡ cond b (unwatched x) x
+begun_at true power x = refl
+begun_at false power x = refl
+
+pub activates_each : (w : NodeWorld) (t : List Entry) (X : ℕ → WatchedLink) (h sync power : ℕ) → is_some w.controller ≡ true → IsWell w → Each t X w
+    → Each (t ++ (activates w h sync power).1) (λ k. watched k (watch_begins k (Activates h sync power) (X k)) (activates w h sync power).1)
+    (activates w h sync power).0
+activates_each w t X h sync power runs a each = go w.controller refl runs
+  where
+    near : NodeWorld × List Entry
+    near = comes_at w (end_c h) (Starts power)
+
+    far : NodeWorld × List Entry
+    far = comes_at near.0 (end_h h) (Starts sync)
+
+    well : IsWell near.0
+    well = record { orderly = (comes_goes w (end_c h) (Starts power) a.orderly).orderly; fine = starts_fine w h power a.fine }
+
+    Z : ℕ → WatchedLink
+    Z k = watched k (opened (comes_to h (Starts power) k) (X k)) near.1
+
+    on_is : (r : Running) → w.controller ≡ Some r
+        → near ≡ after_controller w h (Starts power) (controller_work w r h (Starts power) (steps (AtEnd h (Start power))))
+    on_is r e = rw e refl
+
+    First : NodeWorld × List Entry → Type 0
+    First z = Each (t ++ z.1) (λ k. watched k (opened (comes_to h (Starts power) k) (X k)) z.1) z.0
+
+    unwatched_so : (Z h).since ≡ false
+    unwatched_so = let q = same_number h in rw q refl
+
+    then_far : Each (t ++ near.1) Z near.0 → AreOpened w t X a each h power near.0 → Each ((t ++ near.1) ++ far.1) (later Z far.1) far.0
+    then_far first clean =
+        host_each near.0 (t ++ near.1) Z well first h (Starts sync) (steps (AtEnd h (Start sync))) (starts_then w h sync power runs a.fine)
+        (λ s n found runs. host_does_step near.0 s n h well.orderly found runs (Starts sync) (Start sync) refl)
+        (λ v b. steps_fine (AtEnd h (Start sync)) v b) (λ v b. steps_none (AtEnd h (Start sync)) v b) (Some (Start sync)) tt (λ s found. refl)
+        (λ s found. empty_shown s.link (Z h) (clean s found) (first h s found).shown unwatched_so)
+
+    alike : (k : ℕ) → later Z far.1 k ≡ watched k (watch_begins k (Activates h sync power) (X k)) (near.1 ++ far.1)
+    alike k =
+        ap (λ x. watched k (watched k x near.1) far.1) (begun_at (k == h) power (X k))
+        ∙ watched-append k (watch_begins k (Activates h sync power) (X k)) near.1 far.1
+
+    go : (o : Option Running) → w.controller ≡ o → is_some o ≡ true
+        → Each (t ++ (near.1 ++ far.1)) (λ k. watched k (watch_begins k (Activates h sync power) (X k)) (near.1 ++ far.1)) far.0
+    go None e q = absurd (true≢false (sym q))
+    go (Some r) e q =
+        let first : Each (t ++ near.1) Z near.0 =
+        subst First (sym (on_is r e)) (after w t X a each h (Starts power) (Start power) tt refl r e) in
+        let clean : AreOpened w t X a each h power near.0 =
+        subst (λ (z : NodeWorld × List Entry). AreOpened w t X a each h power z.0) (sym (on_is r e)) (opened_so w t X a each h power r e) in
+        let P : List Entry → Type 0 = λ z. Each z (λ k. watched k (watch_begins k (Activates h sync power) (X k)) (near.1 ++ far.1)) far.0 in
+        subst P (append_assoc t near.1 far.1)
+        (each_alike ((t ++ near.1) ++ far.1) (later Z far.1) (λ k. watched k (watch_begins k (Activates h sync power) (X k)) (near.1 ++ far.1)) far.0 alike
+        (then_far first clean))

@@ -1,0 +1,242 @@
+-- A reset whose answer nothing withheld has brought both ends of its link up, in each history.
+use Rattle.std.proofs.Common.{◌≡◌, ℕ, ◌==◌, Bool, true, false, cond, List, [], ◌∷◌, ◌++◌, Option, Some, None, refl, ap, sym, subst, ◌∙◌}
+use Rattle.std.specs.Prelude.{◌||◌, is_some}
+use Rattle.std.specs.List.{list_any}
+use Rattle.std.proofs.lemmas.Bool.{true≢false}
+use Rattle.std.proofs.lemmas.List.Folds.{list_any-append}
+use Rattle.trace_model.specs.declared.entry.Entry.{Entry}
+use Rattle.trace_model.specs.declared.entry.NoCause.TheVariants as no
+use Rattle.trace_model.specs.declared.line.End.{End}
+use Rattle.trace_model.specs.declared.line.Line.TheVariants as line
+use Rattle.trace_model.specs.Ends.{other_end}
+use Rattle.shdlc_core.specs.Machine.{is_waiting}
+use Rattle.link_laws.specs.sessions.Sessions.{OnWire}
+use Rattle.link_laws.specs.machine.Machine.{LinkEnd, LinkInput, Refused, Turn, is_open, after_input, ended_by, reset_refusal}
+use Rattle.link_laws.specs.machine.Machine.LinkInput.{Reset}
+use Rattle.link_laws.specs.messages.Links.{Link, Ending, Comes, LinkEvent, exchanged, number_of, with_ended, happens, IsEvent, IsWindow}
+use Rattle.link_laws.specs.messages.Links.Ending.{GoesOut, CutOff}
+use Rattle.link_laws.specs.messages.Links.Comes.{AsksReset, NoInput}
+use Rattle.link_laws.specs.messages.Links.EndEvent.{Step}
+use Rattle.link_laws.specs.messages.Links.LinkEvent.{AtController, AtHost}
+use Rattle.link_laws.specs.messages.Links.IsStart.{IsLine}
+use Rattle.link_laws.specs.messages.Settled.{AreUpTogether}
+use Rattle.link_laws.specs.entries.Entries.{End as Side, Entry as Noted, told_of, turn_entries, rest_entries, input_entries, event_entries}
+use Rattle.link_laws.specs.entries.Entries.End.{Controller, Host}
+use Rattle.link_laws.specs.entries.Entries.Entry.{Cut}
+use Rattle.link_laws.specs.entries.Settled.{withholds, FindsReady, IsReset, rest_of}
+use Rattle.link_laws.proofs.entries.Hearing.{up_session}
+use Rattle.link_laws.proofs.entries.Lasting.{same_number}
+use Rattle.link_laws.proofs.entries.Together.{together}
+use Rattle.history.specs.Follows.{machine_of, as_noted}
+use Rattle.node_machine.specs.Parts.{Running, Work}
+use Rattle.node_machine.specs.Carrying.{changed_if}
+use Rattle.node_machine.specs.Node.{steps}
+use Rattle.node_machine.specs.Node.NodeInput.{AtEnd}
+use Rattle.node_machine.specs.world.World.{Site, NodeWorld, site_at, with_site, node_at, node_of, turns_at, ending_of, controller_work, link_after_controller}
+use Rattle.node_machine.specs.world.World.{after_controller, controller_does, host_work, after_host, host_does, world_step}
+use Rattle.node_machine.specs.world.World.Happening.{Resets}
+use Rattle.node_machine.specs.world.Lines.{if_off, machine_in, refusal_in}
+use Rattle.node_laws.specs.links.Runs.{new_line, IsRunOf}
+use Rattle.node_laws.proofs.links.Sites.{run_of_more}
+use Rattle.node_laws.proofs.links.Works.{steps_fine}
+use Rattle.node_laws.proofs.links.Playing.{plain_reach}
+use Rattle.node_laws.proofs.kept.Lines.{first_none}
+use Rattle.node_laws.specs.telling.Standing.{Standing}
+use Rattle.node_laws.proofs.telling.Nodes.{site_host, link_is}
+use Rattle.node_laws.proofs.telling.Worlds.{host_does_step}
+use Rattle.node_laws.proofs.telling.Events.{site_map}
+use Rattle.node_laws.specs.order.Told.{AreSessionsRead, AreBothUp, frames_on}
+use Rattle.node_laws.specs.order.Resets.{cuts_on}
+use Rattle.node_laws.proofs.order.Watches.{IsStepOf, WatchedLink, IsSince, is_cut, no_cut}
+use Rattle.node_laws.proofs.order.Knowing.{Each, was_there}
+use Rattle.node_laws.proofs.order.Unnoticed.{steps_none}
+use Rattle.node_laws.proofs.order.Events.{IsWell, near_step, far_step}
+use Rattle.node_laws.proofs.order.Lines.{host_number}
+
+-- ## A reset on a link
+
+since_reset : (l : Link) (e : LinkEvent) (events : List LinkEvent) → IsRunOf events l → IsEvent l e → IsReset l e → rest_of l e ≡ [] → IsSince (happens l e)
+since_reset l e events run can ready alone =
+    let R : Link → Type 0 = λ k. IsReset k e in
+    record {
+      before = events;
+      reset = e;
+      behind = [];
+      run = run_of_more events l e can run;
+      asked = subst R (sym run.is) ready;
+      undisturbed = ap (λ k. list_any withholds (rest_of k e ++ [])) run.is ∙ ap (λ z. list_any withholds (z ++ [])) alone;
+    }
+
+or_true : (b : Bool) → (b || true) ≡ true
+or_true true = refl
+or_true false = refl
+
+cut_behind : (xs ys : List Noted) → list_any is_cut ys ≡ true → list_any is_cut (xs ++ ys) ≡ true
+cut_behind xs ys q = list_any-append is_cut xs ys ∙ (ap (λ b. list_any is_cut xs || b) q ∙ or_true (list_any is_cut xs))
+
+-- where the power goes in a step, that is noted
+rest_cut : (who : Side) (l : Link) (e : LinkEnd) (ts : List Turn) → list_any is_cut (rest_entries who l e ts CutOff) ≡ true
+rest_cut who l e ts = cut_behind (turn_entries who (number_of l.controller) e ts) (Cut who ∷ []) refl
+
+input_cut : (who : Side) (l : Link) (i : LinkInput) (ts : List Turn) → list_any is_cut (input_entries who l i ts CutOff) ≡ true
+input_cut who l i ts =
+    let m : Link = with_ended l (is_some (ended_by l.controller.side i)) in
+    let e : LinkEnd = after_input l.controller.side i in
+    cut_behind (told_of who l.controller i) (rest_entries who m e ts CutOff) (rest_cut who m e ts)
+
+module _ (h : ℕ) (l : Link) (window : Option ℕ) (ts : List Turn) (u : List Entry) (events : List LinkEvent) (run : IsRunOf events l)
+    (powered : list_any (cuts_on h) u ≡ false) where
+  near_reset : (ending : Ending) → IsStepOf h l (AtController (Step (AsksReset window) ts ending)) u → FindsReady l
+      → IsSince (happens l (AtController (Step (AsksReset window) ts ending)))
+  near_reset GoesOut n ready = since_reset l (AtController (Step (AsksReset window) ts GoesOut)) events run n.can ready refl
+  near_reset CutOff n ready =
+      absurd (true≢false (sym (input_cut Controller l (Reset window) ts)
+      ∙ no_cut h u (event_entries l (AtController (Step (AsksReset window) ts CutOff))) powered n.stands))
+
+  far_reset : (ending : Ending) → IsStepOf h l (AtHost (Step (AsksReset window) ts ending)) u → FindsReady (exchanged l)
+      → IsSince (happens l (AtHost (Step (AsksReset window) ts ending)))
+  far_reset GoesOut n ready = since_reset l (AtHost (Step (AsksReset window) ts GoesOut)) events run n.can ready refl
+  far_reset CutOff n ready =
+      absurd (true≢false (sym (input_cut Host (exchanged l) (Reset window) ts)
+      ∙ no_cut h u (event_entries l (AtHost (Step (AsksReset window) ts CutOff))) powered n.stands))
+
+-- ## A reset in a world
+
+on_if : (b : Bool) → (cond b None (Some no.Off)) ≡ None → b ≡ true
+on_if true q = refl
+on_if false q = absurd (cc q)
+
+none_refused : (o : Option Refused) → as_noted o ≡ None → o ≡ None
+none_refused None q = refl
+none_refused (Some why) q = absurd (cc q)
+
+module _ (w : NodeWorld) (t : List Entry) (X : ℕ → WatchedLink) (a : IsWell w) (each : Each t X w) (k : ℕ) (window : Option ℕ) (may : IsWindow window)
+    (s : Site)
+    (there : site_at w.sites k ≡ Some s) where
+  abbrev comes : Comes
+  comes = AsksReset window
+
+  abbrev side : Bool → End
+  side b = record { link = k; at_host = b }
+
+  abbrev HasReset : NodeWorld × List Entry → Type 0
+  HasReset z = list_any (cuts_on k) z.1 ≡ false → (v : Site) → site_at z.0.sites k ≡ Some v → IsSince v.link
+
+  -- at the controller's end
+  near_so : FindsReady s.link → is_some w.controller ≡ true → HasReset (world_step w (Resets (side false) window))
+  near_so ready on = go w.controller refl on
+    where
+      on_is : (r : Running) → w.controller ≡ Some r → controller_does w k comes (steps (AtEnd k (Reset window)))
+          ≡ after_controller w k comes (controller_work w r k comes (steps (AtEnd k (Reset window))))
+      on_is r e = rw e refl
+
+      so : (r : Running) → w.controller ≡ Some r → HasReset (after_controller w k comes (controller_work w r k comes (steps (AtEnd k (Reset window)))))
+      so r e powered v found =
+          let work : Work = controller_work w r k comes (steps (AtEnd k (Reset window))) in
+          let u : List Entry = (after_controller w k comes work).1 in
+          let was = was_there (link_after_controller k comes work) (λ x. refl) w.sites k v found in
+          let z : Site = was.site in
+          let same : Some s ≡ Some z = sym there ∙ was.there in
+          let one : s ≡ z = cc in
+          let told = (each k z was.there).told in
+          let ts : List Turn = turns_at work z.host in
+          let here : (z.host == k) ≡ true = ap (λ n. n == k) (site_host w.sites k z was.there) ∙ same_number k in
+          let E : Bool → LinkEvent = λ b. AtController (Step (cond b comes NoInput) ts (ending_of work)) in
+          let T : Bool → Type 0 = λ b. IsStepOf k z.link (E b) u → IsSince (happens z.link (E b)) in
+          let F : Site → Type 0 = λ y. FindsReady y.link in
+          let law : T true = λ n. near_reset k z.link window ts u told.events told.run powered (ending_of work) n (subst F one ready) in
+          let S : Site → Type 0 = λ y. IsSince y.link in
+          subst S was.is (subst T (sym here) law (near_step w t X a each k comes (Reset window) may refl r e k z was.there))
+
+      go : (o : Option Running) → w.controller ≡ o → is_some o ≡ true → HasReset (controller_does w k comes (steps (AtEnd k (Reset window))))
+      go None e on = absurd (true≢false (sym on))
+      go (Some r) e on = subst HasReset (sym (on_is r e)) (so r e)
+
+  -- at the host's
+  far_so : FindsReady (exchanged s.link) → is_some s.node ≡ true → HasReset (world_step w (Resets (side true) window))
+  far_so ready on = go s.node refl on
+    where
+      f : Work → Work
+      f = steps (AtEnd k (Reset window))
+
+      after_site : Running → Site → Site
+      after_site r = after_host comes (host_work s r comes f)
+
+      changed : Running → Site → Site
+      changed r x = changed_if (x.host == k) (after_site r) x
+
+      keeps : (r : Running) (x : Site) → (changed r x).host ≡ x.host
+      keeps r x = by (x.host == k)
+        where
+          by : (b : Bool) → (changed_if b (after_site r) x).host ≡ x.host
+          by true = refl
+          by false = refl
+
+      on_is : (r : Running) → s.node ≡ Some r → (host_does w k comes f).0 ≡ record w { sites = with_site k (after_site r) w.sites }
+      on_is r e = rw (there, e) refl
+
+      so : (r : Running) → s.node ≡ Some r → HasReset (host_does w k comes f)
+      so r e powered v found =
+          let work : Work = host_work s r comes f in
+          let u : List Entry = (host_does w k comes f).1 in
+          let N : NodeWorld → Type 0 = λ z. site_at z.sites k ≡ Some v in
+          let now : Some (changed r s) ≡ Some v = sym (site_map (changed r) (keeps r) w.sites k s there) ∙ subst N (on_is r e) found in
+          let one : changed r s ≡ v = cc in
+          let here : (s.host == k) ≡ true = ap (λ n. n == k) (site_host w.sites k s there) ∙ same_number k in
+          let told = (each k s there).told in
+          let n : IsStepOf k s.link (AtHost (Step comes (turns_at work s.host) (ending_of work))) u =
+          far_step w t X a each k comes f (plain_reach k comes may w.sites)
+          (λ x m there runs. host_does_step w x m k a.orderly there runs comes (Reset window) refl)
+          (λ v b. steps_fine (AtEnd k (Reset window)) v b) (λ v b. steps_none (AtEnd k (Reset window)) v b) (Some (Reset window)) tt (λ x there. refl)
+          (λ x there. refl) s there r e in
+          let C : Bool → Type 0 = λ b. IsSince (changed_if b (after_site r) s).link in
+          let S : Site → Type 0 = λ y. IsSince y.link in
+          subst S one (subst C (sym here) (far_reset k s.link window (turns_at work s.host) u told.events told.run powered (ending_of work) n ready))
+
+      go : (o : Option Running) → s.node ≡ o → is_some o ≡ true → HasReset (host_does w k comes f)
+      go None e on = absurd (true≢false (sym on))
+      go (Some r) e on = so r e
+
+  -- at either end
+  pub reset_since : (b : Bool) → refusal_in w (line.Reset (side b) window) ≡ None → is_open (machine_of s.link (other_end (side b))).role ≡ true
+      → is_waiting (machine_of s.link (other_end (side b))).shdlc ≡ false → HasReset (world_step w (Resets (side b) window))
+  reset_since b none active free = go b (first_none (if_off w (node_of (side b))) (as_noted (reset_refusal (machine_in w (side b)))) none) active free
+    where
+      granted : (b : Bool) → as_noted (reset_refusal (machine_in w (side b))) ≡ None → reset_refusal (machine_of s.link (side b)) ≡ None
+      granted b q =
+          ap (λ l. reset_refusal (machine_of l (side b))) (sym (link_is w.sites k s there)) ∙ none_refused (reset_refusal (machine_in w (side b))) q
+
+      runs : is_some (node_at w k) ≡ true → is_some s.node ≡ true
+      runs q =
+          let host : (k == 0) ≡ false = host_number w k s a.orderly there in
+          let is : node_at w k ≡ s.node = rw (host, there) refl in
+          sym (ap (λ (o : Option Running). is_some o) is) ∙ q
+
+      go : (b : Bool) → (if_off w (node_of (side b)) ≡ None) × (as_noted (reset_refusal (machine_in w (side b))) ≡ None)
+          → is_open (machine_of s.link (other_end (side b))).role ≡ true → is_waiting (machine_of s.link (other_end (side b))).shdlc ≡ false
+          → HasReset (world_step w (Resets (side b) window))
+      go false q active free =
+          near_so (record { granted = granted false q.1; active = active; free = free }) (on_if (is_some w.controller) q.0)
+      go true q active free =
+          far_so (record { granted = granted true q.1; active = active; free = free }) (runs (on_if (is_some (node_at w k)) q.0))
+
+-- ## Both ends are up
+
+no_frames : (w : List OnWire) → frames_on w ≡ [] → w ≡ []
+no_frames [] q = refl
+no_frames (x ∷ w) q = absurd (cc q)
+
+-- where nothing withheld the answer and both wires are empty
+pub brought_up : (h : ℕ) (l : Link) (t : List Entry) (x : Standing) → AreSessionsRead t h l → IsSince l → x.to_controller ≡ frames_on l.to_controller
+    → x.to_host ≡ frames_on l.to_host → x.to_controller ≡ [] → x.to_host ≡ [] → AreBothUp t h
+brought_up h l t x read a near far to_controller to_host =
+    let P : Link → Type 0 = λ k. k.to_controller ≡ [] → k.to_host ≡ [] → AreUpTogether k in
+    let law : P l = subst P a.run.is (together new_line IsLine a.before a.reset a.behind a.run.allowed a.asked a.undisturbed) in
+    let both : AreUpTogether l = law (no_frames l.to_controller (sym near ∙ to_controller)) (no_frames l.to_host (sym far ∙ to_host)) in
+    record {
+      number = number_of l.controller;
+      up = record {
+        controller = read.controller ∙ up_session l.controller both.controller;
+        host = read.host ∙ (up_session l.host both.host ∙ ap (λ n. Some n) (sym both.number));
+      };
+    }

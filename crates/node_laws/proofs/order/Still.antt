@@ -1,0 +1,328 @@
+-- A link that is still, as it is read off the events of a history, has delivered all.
+use Rattle.std.proofs.Common.{◌≡◌, ℕ, ◌<◌, Bool, true, false, List, [], ◌∷◌, ◌++◌, length, Option, Some, None, refl, ap, sym, subst, ◌∙◌}
+use Rattle.std.specs.Prelude.{◌==◌, ◌&&◌, ◌||◌, not, nat_lt, if◌then◌else◌}
+use Rattle.std.specs.List.{AllByRecursion, fold, list_any}
+use Rattle.std.proofs.lemmas.Bool.{true≢false, ltb-true, lt-ltb}
+use Rattle.swp_base.specs.declared.control_frames.Control.{Control}
+use Rattle.swp_base.specs.declared.control_frames.Control.TheVariants.{I, S, Rset, Ua, Act, Clt}
+use Rattle.swp_lpdu.specs.Controls.{HasNumbers}
+use Rattle.trace_model.specs.declared.entry.Entry.{Entry}
+use Rattle.trace_model.specs.declared.entry.Entry.TheVariants as entry
+use Rattle.trace_model.specs.declared.line.End.{End}
+use Rattle.trace_model.specs.declared.line.Header.{Header}
+use Rattle.trace_model.specs.declared.line.Line.{Line}
+use Rattle.hcp_packet.specs.Packets.{good_of}
+use Rattle.shdlc_core.specs.declared.answers.LinkState.TheVariants.{Up as IsUpNow}
+use Rattle.link_laws.specs.machine.Machine.{Message, frames_out}
+use Rattle.link_laws.specs.messages.Links.{Link, number_of, after_link_events as link_after}
+use Rattle.link_laws.specs.messages.Links.IsStart.{IsLine}
+use Rattle.link_laws.specs.entries.Entries.{End as Side, Entry as Noted, entries}
+use Rattle.link_laws.specs.entries.Entries.End.{Controller, Host}
+use Rattle.link_laws.specs.entries.Entries.Entry.{Up, Down, Active, GaveUp, Acked, Got, Sent, Emit, Took, Lost, Tick, Restarted, Cut}
+use Rattle.link_laws.specs.entries.Quiet.{disturbs, begins, since, IsQuietSince, IsDeliveredOnLink as LinkDelivered}
+use Rattle.link_laws.proofs.entries.Delivering.{quiet_here, quiet_there}
+use Rattle.link_laws.proofs.entries.Hearing.{session_up}
+use Rattle.link_laws.proofs.entries.Sparing.{silences, or_none}
+use Rattle.history.specs.Filters.{Saying, said}
+use Rattle.history.specs.Filters.Saying.{Begins, Ends, Sends, Gets, Counts, Puts, Takes, Loses}
+use Rattle.history.specs.Legal.{begins_on, loses_on, rejects_on, since_up, has_lost, has_rnr}
+use Rattle.history.specs.Steps.{entries_for}
+use Rattle.history.proofs.legal.Noted.{sent-all, got-all, acked-all}
+use Rattle.history.proofs.legal.Plain.{ArePlain, out_numbers}
+use Rattle.history.proofs.legal.Reading.{no_bytes, since-all, undisturbed}
+use Rattle.node_laws.specs.kept.Hosts.{AreHosts}
+use Rattle.node_machine.specs.world.World.{Site, NodeWorld, new_world, site_at, end_c, end_h}
+use Rattle.node_machine.specs.world.Lines.{Occurrence}
+use Rattle.node_machine.specs.world.NodeFilters.{session_now}
+use Rattle.node_machine.specs.world.NodeHistories.{FollowsNodes, NodeHistory, entries_in, occurrences_in}
+use Rattle.node_laws.specs.links.Runs.{ArePlayable, new_line}
+use Rattle.node_laws.specs.telling.Telling.{is_of, of_link, hosts_in, world_behind}
+use Rattle.node_laws.specs.order.Told.{IsLinkTold, AreWiresRead, IsStillInSession, HasDeliveredAll}
+use Rattle.node_laws.proofs.order.Prefix.{sent_alike, got_alike, acked_alike}
+use Rattle.node_laws.proofs.order.Lines.{IsSo, host_number, history_so}
+use Rattle.node_laws.proofs.order.Sessions.{after, are_read}
+use Rattle.node_laws.proofs.order.Strangers.{IsStrange}
+use Rattle.node_laws.proofs.order.Silencing.{HearsNone, events_mute}
+use Rattle.node_laws.proofs.order.Since.{none_silenced}
+
+-- ## What is read since an end came up is read of the entries of its link
+
+module _ (h : ℕ) where
+  begins_of : (n : ℕ) (o : Option (End × Saying)) → is_of h o ≡ false → begins_on h n o ≡ false
+  begins_of n None q = refl
+  begins_of n (Some (e, Begins k)) q = rw q refl
+  begins_of n (Some (e, Ends)) q = refl
+  begins_of n (Some (e, Sends k m)) q = refl
+  begins_of n (Some (e, Gets k m)) q = refl
+  begins_of n (Some (e, Counts k c)) q = refl
+  begins_of n (Some (e, Puts l)) q = refl
+  begins_of n (Some (e, Takes l)) q = refl
+  begins_of n (Some (e, Loses l)) q = refl
+
+  loses_of : (o : Option (End × Saying)) → is_of h o ≡ false → loses_on h o ≡ false
+  loses_of None q = refl
+  loses_of (Some (e, Begins k)) q = refl
+  loses_of (Some (e, Ends)) q = refl
+  loses_of (Some (e, Sends k m)) q = refl
+  loses_of (Some (e, Gets k m)) q = refl
+  loses_of (Some (e, Counts k c)) q = refl
+  loses_of (Some (e, Puts l)) q = refl
+  loses_of (Some (e, Takes l)) q = refl
+  loses_of (Some (e, Loses l)) q = q
+
+  rejects_of : (o : Option (End × Saying)) → is_of h o ≡ false → rejects_on h o ≡ false
+  rejects_of None q = refl
+  rejects_of (Some (e, Begins k)) q = refl
+  rejects_of (Some (e, Ends)) q = refl
+  rejects_of (Some (e, Sends k m)) q = refl
+  rejects_of (Some (e, Gets k m)) q = refl
+  rejects_of (Some (e, Counts k c)) q = refl
+  rejects_of (Some (e, Puts l)) q = rw q refl
+  rejects_of (Some (e, Takes l)) q = refl
+  rejects_of (Some (e, Loses l)) q = refl
+
+  since_of : (n : ℕ) (t : List Entry) → of_link h (since_up h n t) ≡ since_up h n (of_link h t)
+  since_of n [] = refl
+  since_of n (x ∷ t) = go (is_of h (said x)) (begins_on h n (said x)) refl refl (since_of n t)
+    where
+      go : (b c : Bool) → is_of h (said x) ≡ b → begins_on h n (said x) ≡ c → of_link h (since_up h n t) ≡ since_up h n (of_link h t)
+          → of_link h (since_up h n (x ∷ t)) ≡ since_up h n (of_link h (x ∷ t))
+      go true true p q later = rw (p, q) refl
+      go true false p q later = rw (p, q) later
+      go false c p q later = let z = begins_of n (said x) p in rw (p, z) later
+
+  any_of : (f : Option (End × Saying) → Bool) → ((o : Option (End × Saying)) → is_of h o ≡ false → f o ≡ false) → (t : List Entry)
+      → list_any (λ x. f (said x)) t ≡ list_any (λ x. f (said x)) (of_link h t)
+  any_of f off [] = refl
+  any_of f off (x ∷ t) = go (is_of h (said x)) refl (any_of f off t)
+    where
+      go : (b : Bool) → is_of h (said x) ≡ b → list_any (λ x. f (said x)) t ≡ list_any (λ x. f (said x)) (of_link h t)
+          → list_any (λ x. f (said x)) (x ∷ t) ≡ list_any (λ x. f (said x)) (of_link h (x ∷ t))
+      go true p later = rw p (ap (λ b. f (said x) || b) later)
+      go false p later = let z = off (said x) p in rw (p, z) later
+
+  since_alike : (f : Option (End × Saying) → Bool) → ((o : Option (End × Saying)) → is_of h o ≡ false → f o ≡ false) → (n : ℕ) (t v : List Entry)
+      → of_link h t ≡ of_link h v → list_any (λ x. f (said x)) (since_up h n t) ≡ list_any (λ x. f (said x)) (since_up h n v)
+  since_alike f off n t v q =
+      any_of f off (since_up h n t)
+      ∙ (ap (list_any (λ x. f (said x))) (since_of n t ∙ (ap (since_up h n) q ∙ sym (since_of n v))) ∙ sym (any_of f off (since_up h n v)))
+
+  pub lost_alike : (n : ℕ) (t v : List Entry) → of_link h t ≡ of_link h v → has_lost h (since_up h n t) ≡ has_lost h (since_up h n v)
+  lost_alike n t v q = since_alike (loses_on h) loses_of n t v q
+
+  pub rnr_alike : (n : ℕ) (t v : List Entry) → of_link h t ≡ of_link h v → has_rnr h (since_up h n t) ≡ has_rnr h (since_up h n v)
+  rnr_alike n t v q = since_alike (rejects_on h) rejects_of n t v q
+
+-- ## Frames that are put on a link have their numbers
+
+abbrev misnumbered : Noted → Bool
+misnumbered (Emit who (I ns nr info)) = not (nat_lt ns 8 && nat_lt nr 8)
+misnumbered (Emit who (S kind nr)) = not (nat_lt nr 8)
+misnumbered _ = false
+
+low_number : (n : ℕ) → n < 8 → nat_lt n 8 ≡ true
+low_number n q = lt-ltb n 8 q
+
+numbers_fit : (who : Side) (cs : List Control) → AllByRecursion HasNumbers cs → AllByRecursion (λ c. misnumbered (Emit who c) ≡ false) cs
+numbers_fit who [] a = tt
+numbers_fit who (I ns nr info ∷ cs) a =
+    let x = low_number ns a.0.0 in let y = low_number nr a.0.1 in (rw (x, y) refl, numbers_fit who cs a.1)
+numbers_fit who (S kind nr ∷ cs) a = let x = low_number nr a.0 in (rw x refl, numbers_fit who cs a.1)
+numbers_fit who (Rset window caps ∷ cs) a = (refl, numbers_fit who cs a.1)
+numbers_fit who (Ua ∷ cs) a = (refl, numbers_fit who cs a.1)
+numbers_fit who (Act act again ∷ cs) a = (refl, numbers_fit who cs a.1)
+numbers_fit who (Clt ∷ cs) a = (refl, numbers_fit who cs a.1)
+
+misnumbered_mute : HearsNone misnumbered
+misnumbered_mute =
+    record {
+      deaf = record {
+        down = λ w c. refl;
+        active = λ w. refl;
+        gave_up = λ w t. refl;
+        acked = λ w n c. refl;
+        got = λ w n m. refl;
+        sent = λ w n m. refl;
+        emit = λ w e. numbers_fit w (frames_out e) (out_numbers e);
+        took = λ w c. refl;
+        lost = λ w c y. refl;
+        tick = refl;
+      };
+      up = λ w n. refl;
+      restarted = λ w. refl;
+      cut = λ w. refl;
+    }
+
+since_none : (f : Noted → Bool) (n : ℕ) (t : List Noted) → list_any f t ≡ false → list_any f (since n t) ≡ false
+since_none f n [] q = refl
+since_none f n (e ∷ t) q = go (begins n e) refl (since_none f n t)
+  where
+    later : list_any f t ≡ false
+    later = (or_none (f e) (list_any f t) q).1
+
+    go : (b : Bool) → begins n e ≡ b → (list_any f t ≡ false → list_any f (since n t) ≡ false) → list_any f (since n (e ∷ t)) ≡ false
+    go true p more = rw p later
+    go false p more = rw p (more later)
+
+numbered : (who : Side) (c : Control) → misnumbered (Emit who c) ≡ false → HasNumbers c
+numbered who (I ns nr info) q = go (nat_lt ns 8) (nat_lt nr 8) refl refl
+  where
+    go : (a b : Bool) → nat_lt ns 8 ≡ a → nat_lt nr 8 ≡ b → (ns < 8) × (nr < 8)
+    go true true x y = (ltb-true ns 8 x, ltb-true nr 8 y)
+    go true false x y = absurd (true≢false (rw (x, y) at q))
+    go false b x y = absurd (true≢false (rw x at q))
+numbered who (S kind nr) q = go (nat_lt nr 8) refl
+  where
+    go : (a : Bool) → nat_lt nr 8 ≡ a → nr < 8
+    go true x = ltb-true nr 8 x
+    go false x = absurd (true≢false (rw x at q))
+numbered who (Rset window caps) q = tt
+numbered who Ua q = tt
+numbered who (Act act again) q = tt
+numbered who Clt q = tt
+
+are_plain : (t : List Noted) → list_any silences t ≡ false → list_any misnumbered t ≡ false → ArePlain t
+are_plain [] a b = tt
+are_plain (Restarted who ∷ t) a b = absurd (true≢false a)
+are_plain (Cut who ∷ t) a b = absurd (true≢false a)
+are_plain (Emit who c ∷ t) a b =
+    let x = or_none (misnumbered (Emit who c)) (list_any misnumbered t) b in (numbered who c x.0, are_plain t a x.1)
+are_plain (Up who n ∷ t) a b = (tt, are_plain t a b)
+are_plain (Down who cause ∷ t) a b = (tt, are_plain t a b)
+are_plain (Active who ∷ t) a b = (tt, are_plain t a b)
+are_plain (GaveUp who tries ∷ t) a b = (tt, are_plain t a b)
+are_plain (Acked who n count ∷ t) a b = (tt, are_plain t a b)
+are_plain (Got who n m ∷ t) a b = (tt, are_plain t a b)
+are_plain (Sent who n m ∷ t) a b = (tt, are_plain t a b)
+are_plain (Took who c ∷ t) a b = (tt, are_plain t a b)
+are_plain (Lost who c why ∷ t) a b = (tt, are_plain t a b)
+are_plain (Tick ∷ t) a b = (tt, are_plain t a b)
+
+-- ## A link that is still
+
+module _ (h : ℕ) (l : Link) (events : List Occurrence) (host : (h == 0) ≡ false) (a : IsLinkTold h l (entries_in events))
+    (wires : AreWiresRead events h l) where
+  abbrev t : List Entry
+  t = entries_in events
+
+  abbrev notes : List Noted
+  notes = entries new_line a.events
+
+  abbrev v : List Entry
+  v = entries_for h notes
+
+  -- as the law of one link has it
+  record IsStillByLaw (n : ℕ) : Type 0 where
+    quiet : IsQuietSince notes (link_after new_line a.events)
+    number : number_of (link_after new_line a.events).controller ≡ n
+
+  still_by_law : (n : ℕ) → IsStillInSession events h n → IsStillByLaw n
+  still_by_law n s =
+      let k : Link = link_after new_line a.events in
+      let read = are_read h l t host a in
+      let near = session_up l.controller n (sym read.controller ∙ s.up.controller) in
+      let far = session_up l.host n (sym read.host ∙ s.up.host) in
+      let is : l ≡ k = sym a.run.is in
+      let P : Link → Type 0 = λ z. z.controller.side.shdlc.phase ≡ IsUpNow in
+      let Q : Link → Type 0 = λ z. z.host.side.shdlc.phase ≡ IsUpNow in
+      let here : k.controller.side.shdlc.phase ≡ IsUpNow = subst P is near.0 in
+      let there : k.host.side.shdlc.phase ≡ IsUpNow = subst Q is far.0 in
+      let mine : number_of k.controller ≡ n = ap (λ (z : Link). number_of z.controller) a.run.is ∙ near.1 in
+      let theirs : number_of k.host ≡ n = ap (λ (z : Link). number_of z.host) a.run.is ∙ far.1 in
+      let late : List Noted = since n notes in
+      let uncut : list_any silences late ≡ false = none_silenced n a.events a.run.allowed here there mine theirs in
+      let fits : list_any misnumbered late ≡ false = since_none misnumbered n notes (events_mute misnumbered misnumbered_mute a.events new_line) in
+      let lost : has_lost h (entries_for h late) ≡ false =
+      sym (ap (has_lost h) (since-all h n notes)) ∙ (sym (lost_alike h n t v a.told) ∙ s.lossless) in
+      let rnr : has_rnr h (entries_for h late) ≡ false = sym (ap (has_rnr h) (since-all h n notes)) ∙ (sym (rnr_alike h n t v a.told) ∙ s.ready) in
+      let none_disturbs : list_any disturbs late ≡ false = undisturbed h late (are_plain late uncut fits) lost rnr in
+      let R : ℕ → Type 0 = λ z. list_any disturbs (since z notes) ≡ false in
+      record {
+        quiet = record {
+          controller = here;
+          host = there;
+          undisturbed = subst R (sym mine) none_disturbs;
+          to_controller = ap (λ (z : Link). z.to_controller) a.run.is ∙ no_bytes l.to_controller (sym wires.to_controller ∙ s.to_controller);
+          to_host = ap (λ (z : Link). z.to_host) a.run.is ∙ no_bytes l.to_host (sym wires.to_host ∙ s.to_host);
+        };
+        number = mine;
+      }
+
+  pub delivered_all : HasDeliveredAll events h
+  delivered_all = record {
+    to_host = λ n s.
+        let b = still_by_law n s in
+        let P : ℕ → Type 0 = λ z. LinkDelivered notes Controller z in
+        let d : LinkDelivered notes Controller n = subst P b.number (quiet_here new_line IsLine a.events a.run.allowed b.quiet) in
+        let sent = sent_alike t v (end_c h) n a.told ∙ sent-all h notes Controller n in
+        record {
+          got = got_alike t v (end_h h) n a.told ∙ (got-all h notes Host n ∙ (d.got ∙ ap good_of (sym sent)));
+          acked = acked_alike t v (end_c h) n a.told ∙ (acked-all h notes Controller n ∙ (d.acked ∙ ap (λ (ms : List Message). length ms) (sym sent)));
+        };
+    to_controller = λ n s.
+        let b = still_by_law n s in
+        let P : ℕ → Type 0 = λ z. LinkDelivered notes Host z in
+        let d : LinkDelivered notes Host n = subst P b.number (quiet_there new_line IsLine a.events a.run.allowed b.quiet) in
+        let sent = sent_alike t v (end_h h) n a.told ∙ sent-all h notes Host n in
+        record {
+          got = got_alike t v (end_c h) n a.told ∙ (got-all h notes Controller n ∙ (d.got ∙ ap good_of (sym sent)));
+          acked = acked_alike t v (end_h h) n a.told ∙ (acked-all h notes Host n ∙ (d.acked ∙ ap (λ (ms : List Message). length ms) (sym sent)));
+        };
+  }
+
+-- ## A host that isn't there has no session
+
+cut_none : (b : Bool) (s : Option ℕ) → s ≡ None → (if b then None else s) ≡ None
+cut_none true s q = refl
+cut_none false s q = q
+
+none_after : (h : ℕ) (far : Bool) (node : ℕ) (x : Entry) → is_of h (said x) ≡ false → after (record { link = h; at_host = far }) node None x ≡ None
+none_after h far node (entry.Up f n) q = rw q refl
+none_after h far node (entry.Down f cause) q = rw q refl
+none_after h far node (entry.Cut n) q = cut_none (n == node) None refl
+none_after h far node x q = refl
+
+unread : (h : ℕ) (far : Bool) (node : ℕ) (t : List Entry) → of_link h t ≡ [] → session_now t (record { link = h; at_host = far }) node ≡ None
+unread h far node [] q = refl
+unread h far node (x ∷ t) q = go (is_of h (said x)) refl (unread h far node t)
+  where
+    e : End
+    e = record { link = h; at_host = far }
+
+    go : (b : Bool) → is_of h (said x) ≡ b → (of_link h t ≡ [] → session_now t e node ≡ None) → session_now (x ∷ t) e node ≡ None
+    go true p later = absurd (cc (rw p at q))
+    go false p later =
+        let others : of_link h t ≡ [] = rw p at q in
+        ap (λ s. fold (after e node) s t) (none_after h far node x p) ∙ later others
+
+strange_of : (sites : List Site) (h : ℕ) → site_at sites h ≡ None → IsStrange h (hosts_in sites)
+strange_of [] h q = tt
+strange_of (s ∷ sites) h q = go (s.host == h) refl (strange_of sites h)
+  where
+    go : (b : Bool) → (s.host == h) ≡ b → (site_at sites h ≡ None → IsStrange h (hosts_in sites)) → ((s.host == h) ≡ false) × IsStrange h (hosts_in sites)
+    go true p later = absurd (cc (rw p at q))
+    go false p later = (p, later (rw p at q))
+
+-- ## Each history
+
+pub history_delivered : (header : Header) (lines : List Line) (t : NodeHistory) → FollowsNodes header lines t → AreHosts header.hosts.items
+    → ArePlayable lines → (front back : List Occurrence) → occurrences_in t ≡ front ++ back → (h : ℕ) → HasDeliveredAll front h
+history_delivered header lines t follows are playable front back q h = go (site_at w.sites h) refl
+  where
+    w : NodeWorld
+    w = world_behind (new_world header.hosts.items) front
+
+    a : IsSo header.hosts.items front w
+    a = history_so header lines t follows are playable front back q
+
+    never : (n : ℕ) → IsStrange h header.hosts.items → IsStillInSession front h n → ⊥
+    never n strange s = absurd (cc (sym (unread h false 0 (entries_in front) (a.strange h strange)) ∙ s.up.controller))
+
+    go : (o : Option Site) → site_at w.sites h ≡ o → HasDeliveredAll front h
+    go (Some s) found =
+        let b = a.each h s found in
+        delivered_all h s.link front (host_number w h s a.well.orderly found) b.told
+        (record { to_controller = b.shown.wires.to_controller; to_host = b.shown.wires.to_host })
+    go None found =
+        let strange : IsStrange h header.hosts.items = subst (IsStrange h) a.hosts_are (strange_of w.sites h found) in
+        record { to_host = λ n s. absurd (never n strange s); to_controller = λ n s. absurd (never n strange s) }

@@ -1,0 +1,383 @@
+-- A tick of a world leaves each link told.
+use Rattle.std.proofs.Common.{◌≡◌, ℕ, ◌==◌, Bool, true, false, cond, List, [], ◌∷◌, ◌++◌, Option, Some, None, map, refl, ap, sym, subst, ◌∙◌}
+use Rattle.std.specs.Prelude.{is_some, not, ◌&&◌}
+use Rattle.std.specs.List.{AllByRecursion, find}
+use Rattle.std.proofs.lemmas.Bool.{eqb-true, true≢false}
+use Rattle.swp_act.specs.Activation.{new_clf, new_uicc}
+use Rattle.trace_model.specs.declared.entry.Entry.{Entry}
+use Rattle.shdlc_core.specs.declared.answers.LinkState.TheVariants.{Up, Down}
+use Rattle.shdlc_core.specs.Machine.{is_waiting}
+use Rattle.journal_laws.specs.Planned.{after_planned}
+use Rattle.link_laws.specs.machine.Machine.{LinkEnd, Turn, is_open, new_link_end, turned, after_input, sent_all}
+use Rattle.link_laws.specs.machine.Machine.LinkInput.{Tick, Reset}
+use Rattle.link_laws.specs.machine.Machine.Role.{Clf, Uicc}
+use Rattle.link_laws.specs.messages.Links.{NumberedEnd, Link, Ending, LinkEvent, exchanged, aged, has_input, ticks_at_controller, AreSendableTurns}
+use Rattle.link_laws.specs.messages.Links.{IsClf, IsUicc}
+use Rattle.link_laws.specs.messages.Links.{IsEvent}
+use Rattle.link_laws.specs.messages.Links.Ending.{GoesOut, CutOff}
+use Rattle.link_laws.specs.messages.Links.Comes.{AsksReset}
+use Rattle.link_laws.specs.messages.Links.EndEvent.{Step}
+use Rattle.link_laws.specs.messages.Links.IsStart.{IsLine}
+use Rattle.link_laws.proofs.messages.Whole.{from_start}
+use Rattle.node_machine.specs.Parts.{Notice, Desk, Running}
+use Rattle.node_machine.specs.Carrying.{port_at}
+use Rattle.node_machine.specs.Node.NodeInput.{TimePasses}
+use Rattle.node_machine.specs.world.World.{Site, NodeWorld, site_at, link_to, port_for, work_of, ending_of, turns_at, runs_on, all_aged, is_late_at, ticked_so}
+use Rattle.node_machine.specs.world.World.{controller_ticks, host_ticks, hosts_tick, world_ticks}
+use Rattle.node_laws.specs.links.Runs.{new_line}
+use Rattle.node_laws.specs.links.Notices.{IsNoticedUp, OnFirst}
+use Rattle.node_laws.proofs.links.Got.{Clean}
+use Rattle.node_laws.proofs.links.Ends.{here_clf, tick_clf, tick_uicc}
+use Rattle.node_laws.proofs.links.Works.{steps_fine}
+use Rattle.node_laws.proofs.links.Sites.{AreNodes, tick_allowed, reset_allowed}
+use Rattle.node_laws.proofs.links.Worlds.{AreTrueDesks, IsFineNode, IsFineSite, AreFineSites, AreClean, near_clean, ports_fine, turns_fine}
+use Rattle.node_laws.specs.telling.Telling.{IfItRuns, is_due, NoneDue, IfOff, IfDue, IsTimely}
+use Rattle.node_laws.proofs.telling.Nodes.{link_is, ports_for}
+use Rattle.node_laws.proofs.telling.Worlds.{site_is}
+use Rattle.node_laws.proofs.telling.WorldTicks.{host_is, tick_host, host_turns, between, between_far, near_turns, tick_event, Ticking, ticking}
+use Rattle.node_machine.proofs.world.Cases.{near_tick, host_tick}
+use Rattle.node_laws.specs.readings.Noticed.{IfNoticedUp, NoticesAreUp}
+use Rattle.node_laws.proofs.readings.NoticedWorlds.{host_tick_side}
+use Rattle.node_laws.specs.order.Told.{IsLinkTold}
+use Rattle.node_laws.proofs.order.Unnoticed.{IfNone, steps_none, runs_none}
+use Rattle.node_laws.proofs.order.Knowing.{told_more, renewed_clf, renewed_uicc, Knows, Each, later, WasThere, was_there}
+use Rattle.node_laws.proofs.order.Watches.{IsStepOf, WatchedLink}
+use Rattle.node_laws.proofs.order.Wires.{Shown, tick_unstarted, shown_more}
+use Rattle.node_laws.proofs.order.Events.{IsWell}
+use Rattle.node_laws.proofs.turns.Works.{site_none}
+
+-- ## Every world is timely
+
+-- a host that has no notice has none that is due
+none_due : (o : Option Running) → IfNone o → NoneDue o
+none_due None a = tt
+none_due (Some r) a = all r.desks a
+  where
+    all : (desks : List Desk) → AllByRecursion (λ (d : Desk). d.notice ≡ None) desks → AllByRecursion (λ (d : Desk). is_due d ≡ false) desks
+    all [] n = tt
+    all (d ∷ desks) n = (let q = n.0 in rw q refl, all desks n.1)
+
+end_found : (near_ends : ℕ → NumberedEnd) (desks : List Desk) (h : ℕ) (d : Desk) → find (λ d. d.host == h) desks ≡ Some d
+    → port_at (ports_for near_ends desks) h ≡ Some (port_for (near_ends h) d)
+end_found near_ends [] h d q = absurd (cc q)
+end_found near_ends (x ∷ desks) h d q = go (x.host == h) refl (end_found near_ends desks h d)
+  where
+    go : (b : Bool) → (x.host == h) ≡ b → (find (λ d. d.host == h) desks ≡ Some d → port_at (ports_for near_ends desks) h ≡ Some (port_for (near_ends h) d))
+        → port_at (ports_for near_ends (x ∷ desks)) h ≡ Some (port_for (near_ends h) d)
+    go true e later =
+        let is : Some x ≡ Some d = rw e at q in
+        let one : x ≡ d = cc in
+        rw e (ap (λ n. Some (port_for (near_ends n) x)) (eqb-true x.host h e) ∙ ap (λ z. Some (port_for (near_ends h) z)) one)
+    go false e later = rw e (later (rw e at q))
+
+-- an end of such a link that is up is active
+up_open : (h : ℕ) (l : Link) (t : List Entry) → IsLinkTold h l t → l.controller.side.shdlc.phase ≡ Up → is_open l.controller.side.role ≡ true
+up_open h l t a up = go (is_open l.controller.side.role) refl
+  where
+    P : Link → Type 0
+    P k = is_open k.controller.side.role ≡ false → k.controller.side.shdlc.phase ≡ Down
+
+    closed : P l
+    closed = subst P a.run.is (from_start new_line IsLine a.events a.run.allowed).good.controller.now.closed
+
+    go : (b : Bool) → is_open l.controller.side.role ≡ b → is_open l.controller.side.role ≡ true
+    go true q = q
+    go false q = let z : Up ≡ Down = sym up ∙ closed q in absurd (cc z)
+
+due_some : (d : Desk) → is_due d ≡ true → is_some d.notice ≡ true
+due_some d q = go d.notice refl
+  where
+    go : (o : Option Notice) → d.notice ≡ o → is_some d.notice ≡ true
+    go None e = let z : false ≡ true = rw e at q in absurd (true≢false (sym z))
+    go (Some n) e = rw e refl
+
+pub timely : (w : NodeWorld) (t : List Entry) (x : WatchedLink) (h : ℕ) (s : Site) → NoticesAreUp w → site_at w.sites h ≡ Some s
+    → Knows t x w.controller h s → IsTimely w h s
+timely w t x h s up found a =
+    record { controller = a.near; host = a.far; up = due w.controller up; young = none_due s.node a.none }
+  where
+    due : (o : Option Running) → IfNoticedUp w.sites o → IfDue o h s.link.controller.side
+    due None u = tt
+    due (Some r) u = λ d there late.
+        let near_ends : ℕ → NumberedEnd = λ j. (link_to w.sites j).controller in
+        let here : IsNoticedUp (port_for (near_ends h) d) = subst (OnFirst IsNoticedUp) (end_found near_ends r.desks h d there) (u h) in
+        let is : s.link.controller.side.shdlc.phase ≡ Up =
+        ap (λ (l : Link). l.controller.side.shdlc.phase) (sym (link_is w.sites h s found)) ∙ here (due_some d late) in
+        (up_open h s.link t a.told is, is)
+
+-- ## Turns that may be sent
+
+pub aged_clean : (sites : List Site) → AreFineSites sites → AreClean (map (λ (s : Site). record s { link = aged s.link }) sites)
+aged_clean [] a = tt
+aged_clean (s ∷ sites) a = (a.0.link.line.near, aged_clean sites a.1)
+
+pub some_desks : (o : Option Running) (r : Running) → o ≡ Some r → IsFineNode o → AreTrueDesks r.desks
+some_desks None r e b = absurd (cc e)
+some_desks (Some x) r e b = let one : x ≡ r = cc in let P : Running → Type 0 = λ z. AreTrueDesks z.desks in subst P one b
+
+pub near_sends : (w : NodeWorld) (h : ℕ) (o : Option Running) → AreClean w.sites → IsFineNode o → AreSendableTurns (near_turns w h o)
+near_sends w h None clean a = tt
+near_sends w h (Some r) clean a =
+    let near_ends : ℕ → NumberedEnd = λ j. (link_to w.sites j).controller in
+    turns_fine (near_tick w r) h
+    (steps_fine TimePasses (work_of r w.memory.plan near_ends []) (ports_fine near_ends (λ j. near_clean w.sites j clean) r.desks a))
+
+pub far_sends : (x : Site) (o : Option Running) → Clean x.link.host.side → IsFineNode o → AreSendableTurns (host_turns x o)
+far_sends x None clean a = tt
+far_sends x (Some n) clean a =
+    turns_fine (host_tick x n) x.host
+    (steps_fine TimePasses (work_of n x.memory.plan (λ j. x.link.host) []) (ports_fine (λ j. x.link.host) (λ j. clean) n.desks a))
+
+-- ## Ends after a tick
+
+-- the controller's end after a tick in which its power went
+near_cut : (l : Link) (late : Bool) (ts : List Turn) → IsClf l.controller.side.role
+    → (ticked_so l late ts CutOff).controller.side ≡ new_link_end (Clf new_clf)
+near_cut l late ts a = go (late && not (is_waiting l.controller.side.shdlc))
+  where
+    by : Bool → Link
+    by b = cond b (has_input l (Reset None) ts CutOff) (ticks_at_controller l ts CutOff)
+
+    go : (b : Bool) → (by b).controller.side ≡ new_link_end (Clf new_clf)
+    go true = renewed_clf (turned (after_input l.controller.side (Reset None)) ts).role (here_clf l (Step (AsksReset None) ts CutOff) a)
+    go false = renewed_clf (turned (after_input l.controller.side Tick) ts).role (tick_clf l ts CutOff a)
+
+near_after : (w : NodeWorld) → ((h : ℕ) (s : Site) → site_at w.sites h ≡ Some s → IsClf s.link.controller.side.role)
+    → ((h : ℕ) (s : Site) → site_at w.sites h ≡ Some s → IfOff w.controller (new_link_end (Clf new_clf)) s.link.controller.side)
+    → (h : ℕ) (v : Site) → site_at (controller_ticks w).0.sites h ≡ Some v
+    → IfOff (controller_ticks w).0.controller (new_link_end (Clf new_clf)) v.link.controller.side
+near_after w clf off h v q = go w.controller refl
+  where
+    Goal : NodeWorld → Type 0
+    Goal z = site_at z.sites h ≡ Some v → IfOff z.controller (new_link_end (Clf new_clf)) v.link.controller.side
+
+    f : Site → Site
+    f s = record s { link = ticks_at_controller s.link [] GoesOut }
+
+    g : Running → Site → Site
+    g r s = record s { link = ticked_so s.link (is_late_at (near_tick w r) s.host) (turns_at (near_tick w r) s.host) (ending_of (near_tick w r)) }
+
+    none_is : w.controller ≡ None → (controller_ticks w).0 ≡ record w { sites = map f w.sites }
+    none_is e = rw e refl
+
+    some_is : (r : Running) → w.controller ≡ Some r → (controller_ticks w).0 ≡ record {
+      memory = after_planned (near_tick w r).writes w.memory;
+      controller = runs_on (near_tick w r);
+      sites = map (g r) w.sites;
+    }
+    some_is r e = rw e refl
+
+    still : (s : Site) → s.link.controller.side ≡ new_link_end (Clf new_clf) → (f s).link.controller.side ≡ new_link_end (Clf new_clf)
+    still s e = ap (λ z. sent_all (after_input z Tick)) e
+
+    off_now : w.controller ≡ None → (s : Site) → site_at w.sites h ≡ Some s → s.link.controller.side ≡ new_link_end (Clf new_clf)
+    off_now e s there = let G : Option Running → Type 0 = λ o. IfOff o (new_link_end (Clf new_clf)) s.link.controller.side in subst G e (off h s there)
+
+    off_goal : w.controller ≡ None → Goal (record w { sites = map f w.sites })
+    off_goal e here =
+        let was = was_there f (λ s. refl) w.sites h v here in
+        let V : Site → Type 0 = λ z. z.link.controller.side ≡ new_link_end (Clf new_clf) in
+        let G : Option Running → Type 0 = λ o. IfOff o (new_link_end (Clf new_clf)) v.link.controller.side in
+        subst G (sym e) (subst V was.is (still was.site (off_now e was.site was.there)))
+
+    on_goal : (r : Running) → Goal (record {
+      memory = after_planned (near_tick w r).writes w.memory;
+      controller = runs_on (near_tick w r);
+      sites = map (g r) w.sites;
+    })
+    on_goal r here = by (near_tick w r).cut refl
+      where
+        was : WasThere (g r) w.sites h v
+        was = was_there (g r) (λ s. refl) w.sites h v here
+
+        by : (b : Bool) → (near_tick w r).cut ≡ b → IfOff (runs_on (near_tick w r)) (new_link_end (Clf new_clf)) v.link.controller.side
+        by true e =
+            let none : runs_on (near_tick w r) ≡ None = rw e refl in
+            let ending : ending_of (near_tick w r) ≡ CutOff = rw e refl in
+            let s : Site = was.site in
+            let G : Option Running → Type 0 = λ o. IfOff o (new_link_end (Clf new_clf)) v.link.controller.side in
+            let V : Site → Type 0 = λ z. z.link.controller.side ≡ new_link_end (Clf new_clf) in
+            subst G (sym none) (subst V was.is
+            (ap (λ x. (ticked_so s.link (is_late_at (near_tick w r) s.host) (turns_at (near_tick w r) s.host) x).controller.side) ending
+            ∙ near_cut s.link (is_late_at (near_tick w r) s.host) (turns_at (near_tick w r) s.host) (clf h s was.there)))
+        by false e =
+            let some : runs_on (near_tick w r) ≡ Some (record { core = (near_tick w r).core; desks = map (λ p. p.desk) (near_tick w r).ports }) = rw e refl in
+            let G : Option Running → Type 0 = λ o. IfOff o (new_link_end (Clf new_clf)) v.link.controller.side in
+            subst G (sym some) tt
+
+    go : (o : Option Running) → w.controller ≡ o → IfOff (controller_ticks w).0.controller (new_link_end (Clf new_clf)) v.link.controller.side
+    go None e = subst Goal (sym (none_is e)) (off_goal e) q
+    go (Some r) e = subst Goal (sym (some_is r e)) (on_goal r) q
+
+-- a host after its tick
+record FarAfter (x : Site) : Type 0 where
+  off : IfOff (host_ticks x).0.node (new_link_end (Uicc new_uicc)) (host_ticks x).0.link.host.side
+  none : IfNone (host_ticks x).0.node
+
+far_after : (x : Site) → (x.host == 0) ≡ false → IfItRuns x.host (x.host ∷ []) x.node → IsUicc x.link.host.side.role
+    → IfOff x.node (new_link_end (Uicc new_uicc)) x.link.host.side → IfNone x.node → FarAfter x
+far_after x host node uicc off none = go x.node refl node off none
+  where
+    P : Site × List Entry → Type 0
+    P z = IfOff z.0.node (new_link_end (Uicc new_uicc)) z.0.link.host.side
+
+    Q : Site × List Entry → Type 0
+    Q z = IfNone z.0.node
+
+    none_is : x.node ≡ None → host_ticks x ≡ (record x { link = exchanged (ticks_at_controller (exchanged x.link) [] GoesOut) }, [])
+    none_is q = rw q refl
+
+    ports_none : (ds : List Desk) → AllByRecursion (λ (d : Desk). d.notice ≡ None) ds
+        → AllByRecursion (λ p. p.desk.notice ≡ None) (ports_for (λ j. x.link.host) ds)
+    ports_none [] n = tt
+    ports_none (d ∷ ds) n = (n.0, ports_none ds n.1)
+
+    go : (o : Option Running) → x.node ≡ o → IfItRuns x.host (x.host ∷ []) o → IfOff o (new_link_end (Uicc new_uicc)) x.link.host.side → IfNone o → FarAfter x
+    go None e r f n =
+        let G : Option Running → Type 0 = λ o. IfOff o (new_link_end (Uicc new_uicc)) (sent_all (after_input x.link.host.side Tick)) in
+        let N : Option Running → Type 0 = IfNone in
+        record {
+          off = subst P (sym (none_is e)) (subst G (sym e) (ap (λ z. sent_all (after_input z Tick)) f));
+          none = subst Q (sym (none_is e)) (subst N (sym e) tt);
+        }
+    go (Some n) e r f d =
+        record {
+          off = subst P (sym (host_is x n e)) (by (host_tick x n).cut refl);
+          none = subst Q (sym (host_is x n e))
+              (runs_none (host_tick x n) (steps_none TimePasses (work_of n x.memory.plan (λ j. x.link.host) [])
+              (record { host = ap (λ m. m == 0) r.number ∙ host; none = ports_none n.desks d })));
+        }
+      where
+        side : Ending → LinkEnd
+        side ending = (ticks_at_controller (exchanged x.link) (turns_at (host_tick x n) x.host) ending).controller.side
+
+        by : (b : Bool) → (host_tick x n).cut ≡ b → IfOff (runs_on (host_tick x n)) (new_link_end (Uicc new_uicc)) (side (ending_of (host_tick x n)))
+        by true c =
+            let none : runs_on (host_tick x n) ≡ None = rw c refl in
+            let ending : ending_of (host_tick x n) ≡ CutOff = rw c refl in
+            let G : Option Running → Type 0 = λ o. IfOff o (new_link_end (Uicc new_uicc)) (side (ending_of (host_tick x n))) in
+            subst G (sym none) (ap side ending
+            ∙ renewed_uicc (turned (after_input x.link.host.side Tick) (turns_at (host_tick x n) x.host)).role
+            (tick_uicc (exchanged x.link) (turns_at (host_tick x n) x.host) CutOff uicc))
+        by false c =
+            let some : runs_on (host_tick x n) ≡ Some (record { core = (host_tick x n).core; desks = map (λ p. p.desk) (host_tick x n).ports }) = rw c refl in
+            let G : Option Running → Type 0 = λ o. IfOff o (new_link_end (Uicc new_uicc)) (side (ending_of (host_tick x n))) in
+            subst G (sym some) tt
+
+-- ## A tick of the world
+
+hosts_none : (sites : List Site) (h : ℕ) → site_at sites h ≡ None → site_at (hosts_tick sites).0 h ≡ None
+hosts_none [] h q = refl
+hosts_none (x ∷ sites) h q = go (x.host == h) refl (hosts_none sites h)
+  where
+    same : ((host_ticks x).0.host == h) ≡ (x.host == h)
+    same = ap (λ n. n == h) (tick_host x)
+
+    go : (b : Bool) → (x.host == h) ≡ b → (site_at sites h ≡ None → site_at (hosts_tick sites).0 h ≡ None) → site_at (hosts_tick (x ∷ sites)).0 h ≡ None
+    go true e later = let is : Some x ≡ None = rw e at q in absurd (cc is)
+    go false e later =
+        let fails : ((host_ticks x).0.host == h) ≡ false = same ∙ e in
+        rw fails (later (rw e at q))
+
+pub near_none : (w : NodeWorld) (h : ℕ) → site_at w.sites h ≡ None → site_at (controller_ticks w).0.sites h ≡ None
+near_none w h q = go w.controller refl
+  where
+    go : (o : Option Running) → w.controller ≡ o → site_at (controller_ticks w).0.sites h ≡ None
+    go None e = rw e (site_none (λ (s : Site). record s { link = ticks_at_controller s.link [] GoesOut }) (λ s. refl) w.sites h q)
+    go (Some r) e =
+        rw e (site_none (λ (s : Site). record s {
+          link = ticked_so s.link (is_late_at (near_tick w r) s.host) (turns_at (near_tick w r) s.host) (ending_of (near_tick w r));
+        }) (λ s. refl) w.sites h q)
+
+pub ticks_each : (w : NodeWorld) (t : List Entry) (X : ℕ → WatchedLink) → IsWell w → NoticesAreUp w → Each t X w
+    → Each (t ++ (world_ticks w).1) (later X (world_ticks w).1) (world_ticks w).0
+ticks_each w t X a up each h v q = go (site_at w.sites h) refl
+  where
+    old : NodeWorld
+    old = (all_aged w).0
+
+    older : Site → Site
+    older s = record s { link = aged s.link }
+
+    u : List Entry
+    u = (world_ticks w).1
+
+    none : site_at w.sites h ≡ None → Knows (t ++ u) (later X u h) (world_ticks w).0.controller h v
+    none e =
+        let is : None ≡ Some v =
+        sym (hosts_none (controller_ticks old).0.sites h (near_none old h (site_none older (λ s. refl) w.sites h e))) ∙ q in
+        absurd (cc is)
+
+    old_clf : (k : ℕ) (s : Site) → site_at old.sites k ≡ Some s → IsClf s.link.controller.side.role
+    old_clf k s there =
+        let was = was_there older (λ s. refl) w.sites k s there in
+        let P : Site → Type 0 = λ z. IsClf z.link.controller.side.role in
+        subst P was.is (site_is IsFineSite w.sites k was.site a.fine.sites was.there).link.line.clf
+
+    old_off : (k : ℕ) (s : Site) → site_at old.sites k ≡ Some s → IfOff w.controller (new_link_end (Clf new_clf)) s.link.controller.side
+    old_off k s there =
+        let was = was_there older (λ s. refl) w.sites k s there in
+        let P : Site → Type 0 = λ z. IfOff w.controller (new_link_end (Clf new_clf)) z.link.controller.side in
+        subst P was.is (each k was.site was.there).near
+
+    some : (s : Site) → site_at w.sites h ≡ Some s → Knows (t ++ u) (later X u h) (world_ticks w).0.controller h v
+    some s found = subst K one (record {
+      told = let T : Link → Type 0 = λ l. IsLinkTold h l (t ++ u) in subst T c.is (told_more h s.link event t u n b.told);
+      shown = let S : Link → Type 0 = λ l. Shown l (later X u h) in
+          subst S c.is (shown_more h s.link event t u (X h) b.told n b.shown (tick_unstarted c.late s.link c.near c.far));
+      near = let N : LinkEnd → Type 0 = IfOff (controller_ticks old).0.controller (new_link_end (Clf new_clf)) in
+          subst N (sym (host_tick_side x)) (near_after old old_clf old_off h x c.near_there);
+      far = after_it.off;
+      none = after_it.none;
+    })
+      where
+        b : Knows t (X h) w.controller h s
+        b = each h s found
+
+        c : Ticking w h s
+        c = ticking w h s a.orderly found (timely w t (X h) h s up found b)
+
+        x : Site
+        x = record s { link = between c.late (aged s.link) c.near }
+
+        fine : IsFineSite s
+        fine = site_is IsFineSite w.sites h s a.fine.sites found
+
+        event : LinkEvent
+        event = tick_event c.late c.near c.far
+
+        far_is : x.link.host.side ≡ s.link.host.side
+        far_is = between_far c.late (aged s.link) c.near
+
+        sends : AreNodes c.near c.far
+        sends =
+            let C : LinkEnd → Type 0 = Clean in
+            record {
+              controller = subst AreSendableTurns (sym c.near_had) (near_sends old h w.controller (aged_clean w.sites a.fine.sites) a.fine.controller);
+              host = subst AreSendableTurns (sym c.far_had) (far_sends x s.node (subst C (sym far_is) fine.link.line.far) fine.node);
+            }
+
+        allowed : (late : Bool) → (late ≡ true → is_waiting s.link.controller.side.shdlc ≡ false) → IsEvent s.link (tick_event late c.near c.far)
+        allowed true ready = reset_allowed s.link c.near c.far sends fine.link.line (ready refl)
+        allowed false ready = tick_allowed s.link c.near c.far sends fine.link.line
+
+        n : IsStepOf h s.link event u
+        n = record { can = allowed c.late c.ready; tells = c.told; stands = c.stands }
+
+        after_it : FarAfter x
+        after_it =
+            let U : LinkEnd → Type 0 = λ e. IsUicc e.role in
+            let F : LinkEnd → Type 0 = IfOff s.node (new_link_end (Uicc new_uicc)) in
+            far_after x (site_is (λ (z : Site). (z.host == 0) ≡ false) w.sites h s a.orderly.hosts found)
+            (site_is (λ (z : Site). IfItRuns z.host (z.host ∷ []) z.node) w.sites h s a.orderly.nodes found)
+            (subst U (sym far_is) fine.link.line.uicc) (subst F (sym far_is) b.far) b.none
+
+        K : Site → Type 0
+        K z = Knows (t ++ u) (later X u h) (world_ticks w).0.controller h z
+
+        one : (host_ticks x).0 ≡ v
+        one = let is : Some (host_ticks x).0 ≡ Some v = sym c.there ∙ q in cc
+
+    go : (o : Option Site) → site_at w.sites h ≡ o → Knows (t ++ u) (later X u h) (world_ticks w).0.controller h v
+    go None e = none e
+    go (Some s) e = some s e

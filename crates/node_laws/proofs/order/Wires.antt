@@ -1,0 +1,330 @@
+-- The frames on the wires of a link are read off what is noted of it.
+use Rattle.std.proofs.Common.{◌≡◌, ℕ, Bool, true, false, List, [], ◌∷◌, ◌++◌, refl, ap, sym, subst, ◌∙◌}
+use Rattle.std.specs.Prelude.{◌+◌, drop, not, Option, Some, None}
+use Rattle.std.specs.List.{list_any}
+use Rattle.std.proofs.lemmas.Bool.{true≢false}
+use Rattle.trace_model.specs.declared.entry.Entry.{Entry}
+use Rattle.swp_lpdu.specs.Controls.{lpdu_of}
+use Rattle.shdlc_core.specs.declared.answers.LinkState.TheVariants.{Down as IsDown}
+use Rattle.shdlc_core.specs.Machine.{EndState, Session, no_session, frame_due, with_ready}
+use Rattle.link_laws.specs.sessions.Sessions.{OnWire, older}
+use Rattle.link_laws.specs.machine.Machine.{LinkEnd, Role, Refused, Turn, aside_refusal, unless, turn, turned, started, frames_out}
+use Rattle.link_laws.specs.machine.Machine.LinkInput.{Reset}
+use Rattle.link_laws.specs.machine.Machine.Role.{Bare, Clf, Uicc}
+use Rattle.link_laws.specs.machine.Machine.Turn.{Give, Hold, FetchMessage, SetAside, Release}
+use Rattle.link_laws.specs.messages.Links.{Link, Ending, Comes, Node, LinkEvent, exchanged, aged, put_all, silent, happens, after_link_events, IsClf}
+use Rattle.link_laws.specs.messages.Links.Ending.{GoesOut, CutOff}
+use Rattle.link_laws.specs.messages.Links.Comes.{NextFrame, AsksReset, Starts, Stops, NoInput}
+use Rattle.link_laws.specs.messages.Links.EndEvent.{Step}
+use Rattle.link_laws.specs.messages.Links.LinkEvent.{AtController}
+use Rattle.link_laws.specs.messages.Links.IsStart.{IsLine}
+use Rattle.link_laws.specs.entries.Entries.{End as Side, Entry as Noted, entries, event_entries, aged_entries, tick_entries, step_entries}
+use Rattle.link_laws.specs.entries.Entries.End.{Controller, Host}
+use Rattle.link_laws.specs.entries.Entries.Entry.{Up, Down, Active, GaveUp, Acked, Got, Sent, Emit, Took, Lost, Tick, Restarted, Cut}
+use Rattle.link_laws.specs.entries.Reading.{Seen, see, see_all, kept, nothing_seen}
+use Rattle.link_laws.proofs.entries.Ages.{read_off}
+use Rattle.link_laws.proofs.entries.Seeing.{see_all-append}
+use Rattle.link_laws.proofs.entries.Lasting.{same_number}
+use Rattle.history.specs.Filters.{Saying}
+use Rattle.history.specs.Filters.Saying.{Begins, Ends, Sends, Gets, Counts, Puts, Takes, Loses}
+use Rattle.history.specs.Steps.{end_of}
+use Rattle.node_laws.specs.links.Runs.{new_line}
+use Rattle.node_laws.specs.telling.Standing.{Standing, said_near, said_far, stands_said, with_empty_wires, standing, law_noted, standing_by_law}
+use Rattle.node_laws.proofs.telling.Powers.{AreClear}
+use Rattle.node_laws.proofs.telling.Shapes.{last_of, IsShaped, shaped_tick, shaped_step, opened_by, IsStepShaped, opened_stands, clear_aged}
+use Rattle.node_laws.proofs.telling.Events.{after-append, entries-append}
+use Rattle.node_laws.proofs.telling.WorldTicks.{between, near_notes, tick_event}
+use Rattle.node_laws.specs.order.Told.{IsLinkTold, frames_on}
+use Rattle.node_laws.specs.order.Resets.{withholds_on}
+use Rattle.node_laws.proofs.order.Watches.{IsStepOf, WatchedLink, watched, IsSince, IsUnstarted, AreUnstarted, since_step, unwatched, opened, kept_left}
+
+-- ## Wires that are seen
+
+pub record ShownBy (s : Seen) (x : Standing) : Type 0 where
+  pub to_controller : x.to_controller ≡ frames_on s.to_controller
+  pub to_host : x.to_host ≡ frames_on s.to_host
+
+-- the wires of a link are those of the watched one, and where it is known so, nothing withheld the answer to a reset
+pub record Shown (l : Link) (x : WatchedLink) : Type 0 where
+  pub wires : ShownBy (kept l) x.stands
+  pub since : x.since ≡ true → IsSince l
+
+-- behind entries that tell nothing of it
+pub shown_same : (h : ℕ) (l : Link) (x : WatchedLink) (u : List Entry) → standing h x.stands u ≡ x.stands → Shown l x → Shown l (watched h x u)
+shown_same h l x u q s =
+    record {
+      wires = subst (ShownBy (kept l)) (sym q) s.wires;
+      since = λ z. s.since (kept_left x.since (not (list_any (withholds_on h) u)) z);
+    }
+
+frames_push : (w : List OnWire) (y : OnWire) → frames_on (w ++ y ∷ []) ≡ frames_on w ++ lpdu_of y.frame ∷ []
+frames_push [] y = refl
+frames_push (x ∷ w) y = ap (λ z. lpdu_of x.frame ∷ z) (frames_push w y)
+
+frames_drop : (w : List OnWire) → frames_on (drop 1 w) ≡ drop 1 (frames_on w)
+frames_drop [] = refl
+frames_drop (x ∷ w) = refl
+
+frames_older : (w : List OnWire) → frames_on (older w) ≡ frames_on w
+frames_older [] = refl
+frames_older (x ∷ w) = ap (λ z. lpdu_of x.frame ∷ z) (frames_older w)
+
+near_said : (h : ℕ) (x : Standing) (s : Saying) → said_near s x ≡ stands_said h x (Some (end_of h Controller, s))
+near_said h x s = let q = same_number h in rw q refl
+
+far_said : (h : ℕ) (x : Standing) (s : Saying) → said_far s x ≡ stands_said h x (Some (end_of h Host, s))
+far_said h x s = let q = same_number h in rw q refl
+
+module _ (h : ℕ) where
+  near_so : (s : Seen) (x : Standing) (y : Saying) → ShownBy s (said_near y x) → ShownBy s (stands_said h x (Some (end_of h Controller, y)))
+  near_so s x y a = subst (ShownBy s) (near_said h x y) a
+
+  far_so : (s : Seen) (x : Standing) (y : Saying) → ShownBy s (said_far y x) → ShownBy s (stands_said h x (Some (end_of h Host, y)))
+  far_so s x y a = subst (ShownBy s) (far_said h x y) a
+
+  same : (s : Seen) (x z : Standing) → z.to_controller ≡ x.to_controller → z.to_host ≡ x.to_host → ShownBy s x → ShownBy s z
+  same s x z p q a = record { to_controller = p ∙ a.to_controller; to_host = q ∙ a.to_host }
+
+  note_shown : (s : Seen) (x : Standing) (n : Noted) → IsUnstarted n → ShownBy s x → ShownBy (see s n) (law_noted h x n)
+  note_shown s x (Up Controller k) u a = near_so s x (Begins k) (same s x (said_near (Begins k) x) refl refl a)
+  note_shown s x (Up Host k) u a = far_so s x (Begins k) (same s x (said_far (Begins k) x) refl refl a)
+  note_shown s x (Down Controller cause) u a = near_so s x Ends (same s x (said_near Ends x) refl refl a)
+  note_shown s x (Down Host cause) u a = far_so s x Ends (same s x (said_far Ends x) refl refl a)
+  note_shown s x (Active w) u a = a
+  note_shown s x (GaveUp w tries) u a = a
+  note_shown s x (Acked Controller k count) u a = near_so s x (Counts k count) a
+  note_shown s x (Acked Host k count) u a = far_so s x (Counts k count) a
+  note_shown s x (Got Controller k m) u a = near_so s x (Gets k m) a
+  note_shown s x (Got Host k m) u a = far_so s x (Gets k m) a
+  note_shown s x (Sent Controller k m) u a = near_so s x (Sends k m) a
+  note_shown s x (Sent Host k m) u a = far_so s x (Sends k m) a
+  note_shown s x (Emit Controller c) u a =
+      near_so (see s (Emit Controller c)) x (Puts (lpdu_of c))
+      (record { to_controller = a.to_controller; to_host = ap (λ z. z ++ lpdu_of c ∷ []) a.to_host ∙ sym (frames_push s.to_host _) })
+  note_shown s x (Emit Host c) u a =
+      far_so (see s (Emit Host c)) x (Puts (lpdu_of c))
+      (record { to_controller = ap (λ z. z ++ lpdu_of c ∷ []) a.to_controller ∙ sym (frames_push s.to_controller _); to_host = a.to_host })
+  note_shown s x (Took Controller c) u a =
+      near_so (see s (Took Controller c)) x (Takes (lpdu_of c))
+      (record { to_controller = ap (λ z. drop 1 z) a.to_controller ∙ sym (frames_drop s.to_controller); to_host = a.to_host })
+  note_shown s x (Took Host c) u a =
+      far_so (see s (Took Host c)) x (Takes (lpdu_of c))
+      (record { to_controller = a.to_controller; to_host = ap (λ z. drop 1 z) a.to_host ∙ sym (frames_drop s.to_host) })
+  note_shown s x (Lost Controller c why) u a =
+      near_so (see s (Lost Controller c why)) x (Loses (lpdu_of c))
+      (record { to_controller = ap (λ z. drop 1 z) a.to_controller ∙ sym (frames_drop s.to_controller); to_host = a.to_host })
+  note_shown s x (Lost Host c why) u a =
+      far_so (see s (Lost Host c why)) x (Loses (lpdu_of c))
+      (record { to_controller = a.to_controller; to_host = ap (λ z. drop 1 z) a.to_host ∙ sym (frames_drop s.to_host) })
+  note_shown s x Tick u a =
+      record { to_controller = a.to_controller ∙ sym (frames_older s.to_controller); to_host = a.to_host ∙ sym (frames_older s.to_host) }
+  note_shown s x (Restarted w) u a = absurd u
+  note_shown s x (Cut Controller) u a = record { to_controller = refl; to_host = refl }
+  note_shown s x (Cut Host) u a = record { to_controller = refl; to_host = refl }
+
+  notes_shown : (notes : List Noted) (s : Seen) (x : Standing) → AreUnstarted notes → ShownBy s x → ShownBy (see_all s notes) (standing_by_law h x notes)
+  notes_shown [] s x u a = a
+  notes_shown (n ∷ notes) s x u a = notes_shown notes (see s n) (law_noted h x n) u.1 (note_shown s x n u.0 a)
+
+-- ## Notes in which no activation begins
+
+unstarted-append : (xs ys : List Noted) → AreUnstarted xs → AreUnstarted ys → AreUnstarted (xs ++ ys)
+unstarted-append [] ys a b = b
+unstarted-append (x ∷ xs) ys a b = (a.0, unstarted-append xs ys a.1 b)
+
+pub clear_unstarted : (xs : List Noted) → AreClear xs → AreUnstarted xs
+clear_unstarted [] a = tt
+clear_unstarted (Restarted w ∷ xs) a = absurd a.0
+clear_unstarted (x ∷ xs) a = (tt, clear_unstarted xs a.1)
+
+last_unstarted : (who : Side) (ending : Ending) → AreUnstarted (last_of who ending)
+last_unstarted who GoesOut = tt
+last_unstarted who CutOff = (tt, tt)
+
+shaped_unstarted : (who : Side) (ending : Ending) (notes : List Noted) → IsShaped who ending notes → AreUnstarted notes
+shaped_unstarted who ending notes s =
+    subst (λ z. AreUnstarted z) (sym s.is)
+    (unstarted-append s.body (last_of who ending) (clear_unstarted s.body s.clear) (last_unstarted who ending))
+
+pub tick_unstarted : (b : Bool) (l : Link) (c n : Node) → AreUnstarted (event_entries l (tick_event b c n))
+tick_unstarted false l c n = (
+  tt,
+  unstarted-append (aged_entries Controller l.to_controller) _ (clear_unstarted _ (clear_aged Controller l.to_controller))
+      (unstarted-append (aged_entries Host l.to_host) _ (clear_unstarted _ (clear_aged Host l.to_host))
+      (unstarted-append (tick_entries Controller (aged l) c) (tick_entries Host (exchanged (between false (aged l) c)) n)
+      (shaped_unstarted Controller c.ending _ (shaped_tick Controller (aged l) c))
+      (shaped_unstarted Host n.ending _ (shaped_tick Host (exchanged (between false (aged l) c)) n)))),
+)
+tick_unstarted true l c n =
+    let step = shaped_step Controller (aged l) (AsksReset None) c.turns c.ending (Some (Reset None)) refl tt in (
+      tt,
+      unstarted-append (aged_entries Controller l.to_controller) _ (clear_unstarted _ (clear_aged Controller l.to_controller))
+          (unstarted-append (aged_entries Host l.to_host) _ (clear_unstarted _ (clear_aged Host l.to_host))
+          (unstarted-append (near_notes true (aged l) c) (tick_entries Host (exchanged (between true (aged l) c)) n)
+          (unstarted-append (step_entries Controller (aged l) (AsksReset None) c.turns c.ending) []
+          (subst (λ z. AreUnstarted z) (sym step.is) (shaped_unstarted Controller c.ending step.rest step.shaped)) tt)
+          (shaped_unstarted Host n.ending _ (shaped_tick Host (exchanged (between true (aged l) c)) n)))),
+    )
+
+-- ## Events
+
+-- what is seen of an event of a link that is told
+event_seen : (h : ℕ) (l : Link) (t : List Entry) (e : LinkEvent) → IsLinkTold h l t → see_all (kept l) (event_entries l e) ≡ kept (happens l e)
+event_seen h l t e a =
+    let es : List LinkEvent = a.events in
+    let m : Link = after_link_events new_line es in
+    let before : see_all nothing_seen (entries new_line es) ≡ kept m = read_off new_line IsLine es in
+    let behind : see_all nothing_seen (entries new_line (es ++ e ∷ [])) ≡ kept (after_link_events new_line (es ++ e ∷ [])) =
+    read_off new_line IsLine (es ++ e ∷ []) in
+    let last : see_all (kept m) (entries m (e ∷ [])) ≡ kept (happens m e) =
+    sym (ap (see_all nothing_seen) (entries-append es (e ∷ []) new_line)
+    ∙ (see_all-append nothing_seen (entries new_line es) (entries m (e ∷ [])) ∙ ap (λ s. see_all s (entries m (e ∷ []))) before))
+    ∙ (behind ∙ ap kept (after-append es (e ∷ []) new_line)) in
+    let P : Link → Type 0 = λ k. see_all (kept k) (event_entries k e) ≡ kept (happens k e) in
+    subst P a.run.is (ap (see_all (kept m)) (sym (append_nil_of (event_entries m e))) ∙ last)
+  where
+    append_nil_of : (xs : List Noted) → xs ++ [] ≡ xs
+    append_nil_of [] = refl
+    append_nil_of (x ∷ xs) = ap (λ z. x ∷ z) (append_nil_of xs)
+
+module _ (h : ℕ) (l : Link) (e : LinkEvent) (t u : List Entry) (x : WatchedLink) (a : IsLinkTold h l t) (n : IsStepOf h l e u) (shown : Shown l x) where
+  pub shown_more : AreUnstarted (event_entries l e) → Shown (happens l e) (watched h x u)
+  shown_more plain =
+      let all : ShownBy (see_all (kept l) (event_entries l e)) (standing_by_law h x.stands (event_entries l e)) =
+      notes_shown h (event_entries l e) (kept l) x.stands plain shown.wires in
+      let P : Seen → Type 0 = λ z. ShownBy z (standing_by_law h x.stands (event_entries l e)) in
+      record {
+        wires = subst (ShownBy (kept (happens l e))) (sym (n.stands x.stands)) (subst P (event_seen h l t e a) all);
+        since = since_step h l e u n plain x shown.since;
+      }
+
+  pub step_shown : (who : Side) (comes : Comes) (ending : Ending) → IsStepShaped who comes ending (event_entries l e)
+      → Shown (happens l e) (watched h (opened comes x) u)
+  step_shown who comes ending s =
+      let y : Standing = (opened comes x).stands in
+      let first : ShownBy (see_all (kept l) (opened_by who comes)) y = opens comes in
+      let all : ShownBy (see_all (see_all (kept l) (opened_by who comes)) s.rest) (standing_by_law h y s.rest) =
+      notes_shown h s.rest (see_all (kept l) (opened_by who comes)) y (shaped_unstarted who ending s.rest s.shaped) first in
+      let seen : see_all (see_all (kept l) (opened_by who comes)) s.rest ≡ kept (happens l e) =
+      sym (ap (see_all (kept l)) s.is ∙ see_all-append (kept l) (opened_by who comes) s.rest) ∙ event_seen h l t e a in
+      let P : Seen → Type 0 = λ z. ShownBy z (standing_by_law h y s.rest) in
+      record {
+        wires = subst (ShownBy (kept (happens l e))) (sym (n.stands y ∙ opened_stands h who comes (event_entries l e) s.rest s.is y)) (subst P seen all);
+        since = goes comes s.is;
+      }
+    where
+      opens : (c : Comes) → ShownBy (see_all (kept l) (opened_by who c)) (opened c x).stands
+      opens NextFrame = shown.wires
+      opens (AsksReset window) = shown.wires
+      opens (Starts value) = record { to_controller = refl; to_host = refl }
+      opens Stops = record { to_controller = refl; to_host = refl }
+      opens NoInput = shown.wires
+
+      rest_unstarted : AreUnstarted s.rest
+      rest_unstarted = shaped_unstarted who ending s.rest s.shaped
+
+      plainly : event_entries l e ≡ s.rest → (watched h x u).since ≡ true → IsSince (happens l e)
+      plainly q = since_step h l e u n (subst (λ z. AreUnstarted z) (sym q) rest_unstarted) x shown.since
+
+      goes : (c : Comes) → event_entries l e ≡ opened_by who c ++ s.rest → (watched h (opened c x) u).since ≡ true → IsSince (happens l e)
+      goes NextFrame q = plainly q
+      goes (AsksReset window) q = plainly q
+      goes (Starts value) q = λ z. absurd (true≢false (sym z))
+      goes Stops q = λ z. absurd (true≢false (sym z))
+      goes NoInput q = plainly q
+
+-- ## Activation at the controller's end puts nothing on the wire
+
+-- nothing is due at an end that is Down
+record IsBlank (e : LinkEnd) : Type 0 where
+  acts : e.acts ≡ []
+  due : e.shdlc.due ≡ []
+  session : e.shdlc.session ≡ no_session
+  down : e.shdlc.phase ≡ IsDown
+
+blank_ready : (e : LinkEnd) (r : Bool) → IsBlank e → IsBlank (record e { shdlc = with_ready e.shdlc r })
+blank_ready e r a = go e.shdlc.ready r refl refl
+  where
+    s : EndState
+    s = e.shdlc
+
+    changed : EndState
+    changed = record s { ready = r; session = record s.session { answered_rnr = false } }
+
+    P : EndState → Type 0
+    P z = IsBlank (record e { shdlc = z })
+
+    same : P s
+    same = record { acts = a.acts; due = a.due; session = a.session; down = a.down }
+
+    fine : P changed
+    fine = record {
+      acts = a.acts;
+      due = a.due;
+      session = ap (λ (z : Session). record z { answered_rnr = false }) a.session;
+      down = a.down;
+    }
+
+    quiet : s.session.answered_rnr ≡ false
+    quiet = ap (λ (z : Session). z.answered_rnr) a.session
+
+    go : (b c : Bool) → s.ready ≡ b → r ≡ c → P (with_ready s r)
+    go true true p q = let z : with_ready s r ≡ s = rw (p, q) refl in subst P (sym z) same
+    go false false p q = let z : with_ready s r ≡ s = rw (p, q) refl in subst P (sym z) same
+    go true false p q = let z : with_ready s r ≡ changed = rw (p, q) refl in subst P (sym z) fine
+    go false true p q = let z : with_ready s r ≡ changed = rw (p, q, quiet) refl in subst P (sym z) fine
+
+blank_turn : (e : LinkEnd) (t : Turn) → IsBlank e → IsBlank (turn e t)
+blank_turn e (Give m) a = let q = a.down in let same : turn e (Give m) ≡ e = rw q refl in subst IsBlank (sym same) a
+blank_turn e (Hold held) a = blank_ready e (not held) a
+blank_turn e FetchMessage a = record { acts = a.acts; due = a.due; session = a.session; down = a.down }
+blank_turn e SetAside a = go (aside_refusal e)
+  where
+    go : (o : Option Refused) → IsBlank (unless o e (record e { aside = e.aside + 1 }))
+    go None = record { acts = a.acts; due = a.due; session = a.session; down = a.down }
+    go (Some why) = a
+blank_turn e Release a = record { acts = a.acts; due = a.due; session = a.session; down = a.down }
+
+blank_turned : (ts : List Turn) (e : LinkEnd) → IsBlank e → IsBlank (turned e ts)
+blank_turned [] e a = a
+blank_turned (t ∷ ts) e a = blank_turned ts (turn e t) (blank_turn e t a)
+
+blank_out : (e : LinkEnd) → IsBlank e → frames_out e ≡ []
+blank_out e a =
+    let acts = a.acts in
+    let due = a.due in
+    let session = a.session in
+    let none : frame_due e.shdlc ≡ None = rw (due, session) refl in
+    rw (acts, none) refl
+
+clf_blank : (e : LinkEnd) (value : ℕ) → IsClf e.role → e.acts ≡ [] → IsBlank (started e value)
+clf_blank e value clf acts = go e.role refl clf
+  where
+    go : (r : Role) → e.role ≡ r → IsClf r → IsBlank (started e value)
+    go Bare q c = absurd c
+    go (Uicc s) q c = absurd c
+    go (Clf s) q c = rw q (record { acts = rw acts refl; due = refl; session = refl; down = refl })
+
+-- so both wires are empty as activation has begun there
+pub record AreEmpty (l : Link) : Type 0 where
+  pub to_controller : l.to_controller ≡ []
+  pub to_host : l.to_host ≡ []
+
+pub started_empty : (l : Link) (value : ℕ) (ts : List Turn) (ending : Ending) → IsClf l.controller.side.role → l.controller.side.acts ≡ []
+    → AreEmpty (happens l (AtController (Step (Starts value) ts ending)))
+started_empty l value ts CutOff clf acts = record { to_controller = refl; to_host = refl }
+started_empty l value ts GoesOut clf acts =
+    let e : LinkEnd = started l.controller.side value in
+    let out : frames_out (turned e ts) ≡ [] = blank_out (turned e ts) (blank_turned ts e (clf_blank l.controller.side value clf acts)) in
+    record {
+      to_controller = ap (λ cs. (put_all (silent l e) cs).to_controller) out;
+      to_host = ap (λ cs. (put_all (silent l e) cs).to_host) out;
+    }
+
+pub empty_shown : (l : Link) (x : WatchedLink) → AreEmpty l → Shown l x → x.since ≡ false → unwatched x ≡ x
+empty_shown l x e s q =
+    let y : Standing = x.stands in
+    let wires : with_empty_wires y ≡ y =
+    ap (λ w. record y { to_controller = w; to_host = [] }) (sym (s.wires.to_controller ∙ ap frames_on e.to_controller))
+    ∙ ap (λ w. record y { to_host = w }) (sym (s.wires.to_host ∙ ap frames_on e.to_host)) in
+    ap (λ z. record { stands = z; since = false }) wires ∙ ap (λ b. record { stands = y; since = b }) (sym q)

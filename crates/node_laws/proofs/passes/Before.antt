@@ -1,0 +1,196 @@
+-- What a node notes in a step before its pass.
+use Rattle.std.proofs.Common.{◌≡◌, ℕ, ◌==◌, Bool, true, false, cond, List, [], ◌∷◌, ◌++◌, Option, Some, None, map, refl, ap, sym, ◌∙◌, append_assoc, append-nil}
+use Rattle.std.specs.List.{flat_map}
+use Rattle.registry.proofs.ValueLemmas.{AllByRecursion-append as all_append}
+use Rattle.trace_model.specs.declared.entry.Entry.{Entry}
+use Rattle.link_laws.specs.machine.Machine.{LinkInput, after_input, report, whole_acked}
+use Rattle.link_laws.specs.machine.Machine.LinkInput.{Reset}
+use Rattle.link_laws.specs.entries.Entries.{Entry as Told, told}
+use Rattle.link_laws.specs.entries.Entries.Entry.{Up, Down, Active, GaveUp, Acked, Got, Sent, Emit, Took, Lost, Tick, Restarted, Cut}
+use Rattle.history.specs.Steps.{entry_of, entries_for}
+use Rattle.node_machine.specs.Parts.{Creation, Core, Port, Work, Deed}
+use Rattle.node_machine.specs.Parts.Deed.{Releases}
+use Rattle.link_laws.specs.machine.Machine.Turn.{Release}
+use Rattle.node_machine.specs.Carrying.{own_side, unless_cut, changed_if, with_port, after_turn, turn_at, all_done}
+use Rattle.node_laws.specs.kept.Books.{hosts_of_ends}
+use Rattle.node_laws.proofs.kept.Plainly.{hosts_map}
+use Rattle.node_laws.proofs.steps.Ports.{come_host, forgets_host, changed_host, without_host}
+use Rattle.node_laws.proofs.telling.Mute.{AreMute, forgotten_mute, all_owed_mute, all_synced_mute}
+use Rattle.node_laws.proofs.telling.Walks.{every_do}
+use Rattle.node_laws.proofs.steps.StepWalks.{unless}
+use Rattle.node_machine.specs.Turns.{passes}
+use Rattle.node_machine.specs.Node.{NodeInput, input_at, has_come, told_at, all_come, with_older, is_late, reset_late, told_late, forgotten, after_sessions}
+use Rattle.node_machine.specs.Node.{forgets, without_notice, steps}
+use Rattle.node_machine.specs.Node.NodeInput.{AtEnd, TimePasses}
+use Rattle.node_laws.specs.passes.Noting.{noted_by_deeds}
+use Rattle.node_laws.specs.passes.Passing.{IsNoTurn, AreNoTurns}
+use Rattle.node_laws.specs.passes.Steps.{has_come_so, told_of_late, told_of_coming, syncs_in, owed_in_step, has_freed, has_synced, comes_to_pass}
+use Rattle.node_laws.specs.passes.Steps.{noted_before_pass}
+use Rattle.node_laws.proofs.passes.Notes.{deeds_note}
+use Rattle.node_laws.proofs.passes.Turnless.{synced_none, owed_none}
+
+-- ## What is noted
+
+pub come_entries : (input : NodeInput) (w : Work) → (has_come_so input w).entries ≡ w.entries ++ told_of_coming input w
+come_entries (AtEnd h i) w = ap (λ es. w.entries ++ es) (sym (append-nil _))
+come_entries TimePasses w =
+    append_assoc w.entries (flat_map (λ p. told_at w.core p (input_at TimePasses p)) w.ports) (told_of_late TimePasses (all_come TimePasses w))
+
+-- blocks that are free aren't noted
+releases_none : (cs : List Creation) (w : Work) → noted_by_deeds 0 (map (λ (c : Creation). Releases c.asker) cs) w ≡ []
+releases_none [] w = refl
+releases_none (c ∷ cs) w = go w.cut (releases_none cs (turn_at c.asker Release w))
+  where
+    go : (b : Bool) {es : List Entry} → es ≡ [] → cond b [] es ≡ []
+    go true later = refl
+    go false later = later
+
+freed_entries : (input : NodeInput) (w : Work) → (has_freed input w).entries ≡ w.entries ++ told_of_coming input w
+freed_entries input w =
+    let came : Work = has_come_so input w in
+    let begun : Work = record came { core = after_sessions came.core came.ports; ports = map without_notice (map (forgets came.ports) came.ports) } in
+    deeds_note 0 (forgotten came.ports) begun
+    ∙ (ap (λ es. came.entries ++ es) (releases_none _ begun) ∙ (append-nil came.entries ∙ come_entries input w))
+
+synced_entries : (input : NodeInput) (w : Work)
+    → (has_synced input w).entries ≡ w.entries ++ (told_of_coming input w ++ noted_by_deeds 0 (syncs_in input w) (has_freed input w))
+synced_entries input w =
+    let more : List Entry = noted_by_deeds 0 (syncs_in input w) (has_freed input w) in
+    deeds_note 0 (syncs_in input w) (has_freed input w)
+    ∙ (ap (λ es. es ++ more) (freed_entries input w) ∙ append_assoc w.entries (told_of_coming input w) more)
+
+pub before_entries : (input : NodeInput) (w : Work) → (comes_to_pass input w).entries ≡ w.entries ++ noted_before_pass input w
+before_entries input w = go v.cut refl
+  where
+    v : Work
+    v = has_synced input w
+
+    first : List Entry
+    first = told_of_coming input w
+
+    syncs : List Entry
+    syncs = noted_by_deeds 0 (syncs_in input w) (has_freed input w)
+
+    owing : List Entry
+    owing = noted_by_deeds 0 (owed_in_step input w) v
+
+    go : (b : Bool) → v.cut ≡ b
+        → (unless_cut (all_done 0 (owed_in_step input w)) v).entries ≡ w.entries ++ (first ++ (syncs ++ cond v.cut [] owing))
+    go true q = rw q (synced_entries input w ∙ ap (λ es. w.entries ++ (first ++ es)) (sym (append-nil syncs)))
+    go false q =
+        rw q (deeds_note 0 (owed_in_step input w) v
+        ∙ (ap (λ es. es ++ owing) (synced_entries input w)
+        ∙ (append_assoc w.entries (first ++ syncs) owing ∙ ap (λ es. w.entries ++ es) (append_assoc first syncs owing))))
+
+pub steps_are : (input : NodeInput) (w : Work) → steps input w ≡ unless_cut passes (comes_to_pass input w)
+steps_are input w = refl
+
+-- ## No turns
+
+flat_none : {X : Type 0} (f : X → List Entry) → ((x : X) → AreNoTurns (f x)) → (xs : List X) → AreNoTurns (flat_map f xs)
+flat_none f one [] = tt
+flat_none f one (x ∷ xs) = all_append IsNoTurn (f x) (flat_map f xs) (one x) (flat_none f one xs)
+
+one_none : (h : ℕ) (x : Told) → AreNoTurns (entry_of h x)
+one_none h (Up who n) = (refl, tt)
+one_none h (Down who cause) = (refl, tt)
+one_none h (Active who) = (refl, tt)
+one_none h (GaveUp who tries) = (refl, tt)
+one_none h (Acked who n count) = (refl, tt)
+one_none h (Got who n m) = (refl, tt)
+one_none h (Sent who n m) = (refl, tt)
+one_none h (Emit who frame) = (refl, tt)
+one_none h (Took who frame) = (refl, tt)
+one_none h (Lost who frame why) = (refl, tt)
+one_none h Tick = tt
+one_none h (Restarted who) = tt
+one_none h (Cut who) = tt
+
+pub links_none : (h : ℕ) (xs : List Told) → AreNoTurns (entries_for h xs)
+links_none h xs = flat_none (entry_of h) (one_none h) xs
+
+at_none : (core : Core) (p : Port) (o : Option LinkInput) → AreNoTurns (told_at core p o)
+at_none core p None = tt
+at_none core p (Some i) =
+    links_none p.desk.host (told (own_side core) p.session (report p.side i) (whole_acked (after_input p.side i)))
+
+late_none : (core : Core) (p : Port) → AreNoTurns (told_late core p)
+late_none core p = go (is_late p) refl
+  where
+    go : (b : Bool) → is_late p ≡ b → AreNoTurns (told_late core p)
+    go true q = rw q (at_none core p (Some (Reset None)))
+    go false q = rw q tt
+
+all_late_none : (input : NodeInput) (w : Work) → AreNoTurns (told_of_late input w)
+all_late_none (AtEnd h i) w = tt
+all_late_none TimePasses w = flat_none (told_late w.core) (late_none w.core) (map with_older w.ports)
+
+coming_none : (input : NodeInput) (w : Work) → AreNoTurns (told_of_coming input w)
+coming_none input w =
+    all_append IsNoTurn (flat_map (λ p. told_at w.core p (input_at input p)) w.ports) (told_of_late input (all_come input w))
+    (flat_none (λ p. told_at w.core p (input_at input p)) (λ p. at_none w.core p (input_at input p)) w.ports) (all_late_none input (all_come input w))
+
+pub before_none : (input : NodeInput) (w : Work) → AreNoTurns (noted_before_pass input w)
+before_none input w =
+    all_append IsNoTurn (told_of_coming input w) (syncs ++ cond v.cut [] owing) (coming_none input w)
+    (all_append IsNoTurn syncs (cond v.cut [] owing) (synced_none w.core input w.ports (has_freed input w)) (go v.cut))
+  where
+    v : Work
+    v = has_synced input w
+
+    syncs : List Entry
+    syncs = noted_by_deeds 0 (syncs_in input w) (has_freed input w)
+
+    owing : List Entry
+    owing = noted_by_deeds 0 (owed_in_step input w) v
+
+    go : (b : Bool) → AreNoTurns (cond b [] owing)
+    go true = tt
+    go false = owed_none w.core (map (forgets (has_come_so input w).ports) (has_come_so input w).ports) v
+
+-- ## Ends
+
+abbrev HasHosts : List ℕ → Work → Type 0
+HasHosts hosts w = hosts_of_ends w.ports ≡ hosts
+
+changed_all : (j : ℕ) (f : Port → Port) → ((p : Port) → (f p).desk.host ≡ p.desk.host) → (ports : List Port)
+    → hosts_of_ends (with_port j f ports) ≡ hosts_of_ends ports
+changed_all j f host ports =
+    hosts_map (λ p. changed_if (p.desk.host == j) f p) (λ p. changed_host (p.desk.host == j) f p host) ports
+
+done_hosts : (hosts : List ℕ) (h : ℕ) (deeds : List Deed) (w : Work) → AreMute deeds → HasHosts hosts w → HasHosts hosts (all_done h deeds w)
+done_hosts hosts h deeds w mute a =
+    every_do (HasHosts hosts) (λ es v p b. b) (λ k f v host b. changed_all k (λ p. record p { desk = f p.desk }) (λ p. host p.desk) v.ports ∙ b)
+    (λ k t v n b. changed_all k (after_turn t) (λ p. refl) v.ports ∙ b) (λ u v c n ports e b. ap hosts_of_ends ports ∙ b) (λ writes v b. b) h deeds w mute a
+
+pub come_hosts : (input : NodeInput) (w : Work) → hosts_of_ends (has_come_so input w).ports ≡ hosts_of_ends w.ports
+come_hosts (AtEnd h i) w = hosts_map (λ p. has_come p (input_at (AtEnd h i) p)) (λ p. come_host p (input_at (AtEnd h i) p)) w.ports
+come_hosts TimePasses w =
+    hosts_map reset_late reset_host (map with_older (all_come TimePasses w).ports)
+    ∙ (hosts_map with_older (λ p. refl) (all_come TimePasses w).ports
+    ∙ hosts_map (λ p. has_come p (input_at TimePasses p)) (λ p. come_host p (input_at TimePasses p)) w.ports)
+  where
+    reset_host : (p : Port) → (reset_late p).desk.host ≡ p.desk.host
+    reset_host p = go (is_late p) refl
+      where
+        go : (b : Bool) → is_late p ≡ b → (reset_late p).desk.host ≡ p.desk.host
+        go true q = rw q refl
+        go false q = rw q refl
+
+pub before_hosts : (input : NodeInput) (w : Work) → hosts_of_ends (comes_to_pass input w).ports ≡ hosts_of_ends w.ports
+before_hosts input w =
+    unless (HasHosts hosts) (all_done 0 (owed_in_step input w)) (has_synced input w)
+    (λ v a. done_hosts hosts 0 (owed_in_step input w) v (all_owed_mute (map (forgets came.ports) came.ports)) a)
+    (done_hosts hosts 0 (syncs_in input w) (has_freed input w) (all_synced_mute w.core input w.ports)
+    (done_hosts hosts 0 (forgotten came.ports) begun (forgotten_mute came.ports)
+    (hosts_map without_notice without_host (map (forgets came.ports) came.ports)
+    ∙ (hosts_map (forgets came.ports) (forgets_host came.ports) came.ports ∙ come_hosts input w))))
+  where
+    hosts : List ℕ
+    hosts = hosts_of_ends w.ports
+
+    came : Work
+    came = has_come_so input w
+
+    begun : Work
+    begun = record came { core = after_sessions came.core came.ports; ports = map without_notice (map (forgets came.ports) came.ports) }

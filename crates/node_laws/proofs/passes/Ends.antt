@@ -1,0 +1,159 @@
+-- What waits at an end of a node, and whether it was noted as held, as the node does something to it or to another one.
+use Rattle.std.proofs.Common.{◌≡◌, ℕ, ◌==◌, Bool, true, false, List, [], ◌∷◌, Option, Some, None, map, refl, ap, sym, subst, ◌∙◌}
+use Rattle.std.specs.Prelude.{◌+◌}
+use Rattle.std.specs.Option.{option_map_or}
+use Rattle.std.proofs.lemmas.Bool.{eqb-true, eq-eqb, true≢false}
+use Rattle.trace_model.specs.declared.entry.Entry.TheVariants as entry
+use Rattle.hci_tables.specs.declared.command.Command.{Command}
+use Rattle.link_laws.specs.machine.Machine.{Message, LinkEnd, Refused, Turn, turn, unless, give_refusal, aside_refusal, given, is_held}
+use Rattle.link_laws.specs.machine.Machine.Turn.{Give, Hold, FetchMessage, SetAside, Release}
+use Rattle.node_machine.specs.Parts.{About, Desk, Port, Work, Deed}
+use Rattle.node_machine.specs.Parts.About.{Waits, Removed}
+use Rattle.node_machine.specs.Parts.Deed.{Commits, Sends, SaysOk, Asks, Releases, Tells, IsAnswered, Drops, SetsErrors, Orders, Hears, GoesOn, Ends}
+use Rattle.node_machine.specs.Carrying.{noting, port_at, changed_if, with_port, with_desk, after_turn, turn_at, notified, commit, done, all_done}
+use Rattle.node_machine.specs.Turns.{lets_go}
+use Rattle.node_laws.proofs.steps.Ports.{changed_host}
+use Rattle.node_laws.proofs.telling.Accounts.{at_host}
+use Rattle.node_laws.proofs.telling.Away.{at_map, none_map}
+use Rattle.node_laws.proofs.telling.Walks.{IsNoFetch}
+use Rattle.node_laws.proofs.steps.StepWalks.{unless as unless_lost}
+use Rattle.node_laws.specs.passes.Noting.{goes_in}
+use Rattle.node_laws.specs.passes.Passing.{waiting_at}
+
+-- these messages wait there, and whether the first one was noted as held
+abbrev pub Sees : List Message → Bool → Option Port → Type 0
+Sees ms b o = (option_map_or (λ (p : Port). p.side.got) o [] ≡ ms) × (option_map_or (λ (p : Port). p.desk.holds) o false ≡ b)
+
+abbrev pub SeesAt : ℕ → List Message → Bool → Work → Type 0
+SeesAt k ms b w = Sees ms b (port_at w.ports k)
+
+pub map_sees : (f : Port → Port) → ((p : Port) → (f p).desk.host ≡ p.desk.host) → ((p : Port) → (f p).side.got ≡ p.side.got)
+    → ((p : Port) → (f p).desk.holds ≡ p.desk.holds) → (ports : List Port) (k : ℕ) (ms : List Message) (b : Bool) → Sees ms b (port_at ports k)
+    → Sees ms b (port_at (map f ports) k)
+map_sees f host got holds ports k ms b s = go (port_at ports k) refl
+  where
+    go : (o : Option Port) → port_at ports k ≡ o → Sees ms b (port_at (map f ports) k)
+    go None q = subst (Sees ms b) (sym (none_map f host ports k q)) (subst (Sees ms b) q s)
+    go (Some p) q =
+        let was : Sees ms b (Some p) = subst (Sees ms b) q s in
+        subst (Sees ms b) (sym (at_map f host ports k p q)) (got p ∙ was.0, holds p ∙ was.1)
+
+-- the end with another number stays as it is
+pub other_stays : (j k : ℕ) (f : Port → Port) → ((p : Port) → (f p).desk.host ≡ p.desk.host) → (ports : List Port) → (j == k) ≡ false
+    → port_at (with_port j f ports) k ≡ port_at ports k
+other_stays j k f host ports off = go (port_at ports k) refl
+  where
+    g : Port → Port
+    g p = changed_if (p.desk.host == j) f p
+
+    keeps : (p : Port) → (g p).desk.host ≡ p.desk.host
+    keeps p = changed_host (p.desk.host == j) f p host
+
+    go : (o : Option Port) → port_at ports k ≡ o → port_at (map g ports) k ≡ port_at ports k
+    go None q = none_map g keeps ports k q ∙ sym q
+    go (Some p) q = at_map g keeps ports k p q ∙ (ap (λ z. Some z) (same (p.desk.host == j) refl) ∙ sym q)
+      where
+        same : (b : Bool) → (p.desk.host == j) ≡ b → changed_if b f p ≡ p
+        same true e = absurd (true≢false (sym (eq-eqb j k (sym (eqb-true p.desk.host j e) ∙ eqb-true p.desk.host k (at_host ports k p q))) ∙ off))
+        same false e = refl
+
+-- a turn that fetches no message leaves those that came
+unless_got : (o : Option Refused) (e f : LinkEnd) → f.got ≡ e.got → (unless o e f).got ≡ e.got
+unless_got None e f q = q
+unless_got (Some why) e f q = refl
+
+got_same : (e : LinkEnd) (t : Turn) → IsNoFetch t → (turn e t).got ≡ e.got
+got_same e (Give m) n = unless_got (give_refusal e m) e (given e m) refl
+got_same e (Hold held) n = refl
+got_same e FetchMessage n = absurd n
+got_same e SetAside n = unless_got (aside_refusal e) e (record e { aside = e.aside + 1 }) refl
+got_same e Release n = refl
+
+changed_got : (b : Bool) (f : Port → Port) (p : Port) → (f p).side.got ≡ p.side.got → (changed_if b f p).side.got ≡ p.side.got
+changed_got true f p q = q
+changed_got false f p q = refl
+
+changed_holds : (b : Bool) (f : Port → Port) (p : Port) → (f p).desk.holds ≡ p.desk.holds → (changed_if b f p).desk.holds ≡ p.desk.holds
+changed_holds true f p q = q
+changed_holds false f p q = refl
+
+module _ (k : ℕ) (ms : List Message) (b : Bool) where
+  abbrev pub Same : Work → Type 0
+  Same w = SeesAt k ms b w
+
+  pub turn_sees : (j : ℕ) (t : Turn) (w : Work) → IsNoFetch t → Same w → Same (turn_at j t w)
+  turn_sees j t w n s =
+      map_sees (λ p. changed_if (p.desk.host == j) (after_turn t) p) (λ p. changed_host (p.desk.host == j) (after_turn t) p (λ q. refl))
+      (λ p. changed_got (p.desk.host == j) (after_turn t) p (got_same p.side t n)) (λ p. changed_holds (p.desk.host == j) (after_turn t) p refl)
+      w.ports k ms b s
+
+  pub desk_sees : (j : ℕ) (f : Desk → Desk) (w : Work) → ((d : Desk) → (f d).host ≡ d.host) → ((d : Desk) → (f d).holds ≡ d.holds) → Same w
+      → Same (with_desk j f w)
+  desk_sees j f w host holds s =
+      let g : Port → Port = λ p. record p { desk = f p.desk } in
+      map_sees (λ p. changed_if (p.desk.host == j) g p) (λ p. changed_host (p.desk.host == j) g p (λ q. host q.desk))
+      (λ p. changed_got (p.desk.host == j) g p refl) (λ p. changed_holds (p.desk.host == j) g p (holds p.desk)) w.ports k ms b s
+
+  notified_sees : (j : ℕ) (about : About) (message : List ℕ) (w : Work) → Same w → Same (notified j about message w)
+  notified_sees j about message w s =
+      desk_sees j (λ d. record d { notice = Some (record { about = about; age = 0 }) }) (turn_at j (Give (1, message)) w) (λ d. refl) (λ d. refl)
+      (turn_sees j (Give (1, message)) w tt s)
+
+  commit_sees : (c : Command) (w : Work) → Same w → Same (commit c w)
+  commit_sees c w s = go (goes_in c w) refl
+    where
+      go : (f : Bool) → goes_in c w ≡ f → Same (commit c w)
+      go true q = rw q s
+      go false q = rw q s
+
+  deed_sees : (h : ℕ) (d : Deed) (w : Work) → Same w → Same (done h d w)
+  deed_sees h (Commits c) w s = commit_sees c w s
+  deed_sees h (Sends to m) w s = turn_sees to (Give m) w tt s
+  deed_sees h SaysOk w s = s
+  deed_sees h (Asks to message c) w s =
+      notified_sees to (Waits c) message (noting (entry.Ask to message ∷ []) (turn_at c.asker SetAside w)) (turn_sees c.asker SetAside w tt s)
+  deed_sees h (Releases asker) w s = turn_sees asker Release w tt s
+  deed_sees h (Tells to message) w s = notified_sees to Removed message w s
+  deed_sees h IsAnswered w s = desk_sees h (λ d. record d { notice = None }) w (λ d. refl) (λ d. refl) s
+  deed_sees h (Drops pid) w s = s
+  deed_sees h (SetsErrors errors) w s = desk_sees h (λ d. record d { errors = errors }) w (λ d. refl) (λ d. refl) s
+  deed_sees h (Orders message) w s = turn_sees h (Give (1, message)) (record w { core = record w.core { command = Some message } }) tt s
+  deed_sees h Hears w s = s
+  deed_sees h (GoesOn i) w s = s
+  deed_sees h (Ends e) w s = s
+
+  pub deeds_see : (h : ℕ) (deeds : List Deed) (w : Work) → Same w → Same (all_done h deeds w)
+  deeds_see h [] w s = s
+  deeds_see h (d ∷ deeds) w s = unless_lost Same (all_done h deeds) (done h d w) (λ v t. deeds_see h deeds v t) (deed_sees h d w s)
+
+  pub lets_see : (h : ℕ) (w : Work) → Same w → Same (lets_go h w)
+  lets_see h w s = go (option_map_or (λ (p : Port). is_held p.side) (port_at w.ports h) false) refl
+    where
+      go : (f : Bool) → option_map_or (λ (p : Port). is_held p.side) (port_at w.ports h) false ≡ f → Same (lets_go h w)
+      go true q = rw q (turn_sees h (Hold false) w tt s)
+      go false q = rw q s
+
+-- ## An end with messages
+
+-- the end where the first message waits
+pub record HasFirst (ports : List Port) (h : ℕ) (m : Message) (messages : List Message) : Type 0 where
+  pub port : Port
+  pub here : port_at ports h ≡ Some port
+  pub got : port.side.got ≡ m ∷ messages
+
+pub has_first : (ports : List Port) (h : ℕ) (m : Message) (messages : List Message) → waiting_at ports h ≡ m ∷ messages → HasFirst ports h m messages
+has_first ports h m messages e = go (port_at ports h) refl
+  where
+    P : Option Port → Type 0
+    P o = option_map_or (λ (p : Port). p.side.got) o [] ≡ m ∷ messages
+
+    go : (o : Option Port) → port_at ports h ≡ o → HasFirst ports h m messages
+    go None q = let none : [] ≡ m ∷ messages = subst P q e in absurd (cc none)
+    go (Some p) q = record { port = p; here = q; got = subst P q e }
+
+-- its own end, as it is changed
+pub own_changed : (h : ℕ) (f : Port → Port) → ((p : Port) → (f p).desk.host ≡ p.desk.host) → (ports : List Port) (p : Port) → port_at ports h ≡ Some p
+    → port_at (with_port h f ports) h ≡ Some (f p)
+own_changed h f host ports p q =
+    at_map (λ x. changed_if (x.desk.host == h) f x) (λ x. changed_host (x.desk.host == h) f x host) ports h p q
+    ∙ ap (λ b. Some (changed_if b f p)) (at_host ports h p q)

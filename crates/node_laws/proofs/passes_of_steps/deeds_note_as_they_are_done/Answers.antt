@@ -1,0 +1,5 @@
+use Rattle.node_laws.proofs.passes.Notes.{deeds_note}
+use Rattle.node_laws.proofs.passes_of_steps.deeds_note_as_they_are_done.Goals as goal
+
+pub returns : goal.returns
+returns c = record { noted = deeds_note }

@@ -1,0 +1,17 @@
+use Rattle.std.proofs.Common.{◌≡◌, false, sym, subst}
+use Rattle.node_machine.specs.Turns.{goes_through_ends}
+use Rattle.node_laws.specs.kept.Books.{hosts_of_ends}
+use Rattle.node_laws.specs.passes.Passing.{ComesTo, IsBehind}
+use Rattle.node_laws.specs.passes.Passing.ComesTo.{Begins}
+use Rattle.node_laws.proofs.passes.Passing.{through, comes_lasts}
+use Rattle.node_laws.proofs.passes.Behind.{leaves_behind}
+use Rattle.node_laws.proofs.passes_of_steps.passes_have_turns.Goals as goal
+
+pub returns-clause-walked : goal.returns-clause-walked
+returns-clause-walked c = λ w on. through (ComesTo w) (comes_lasts w) (hosts_of_ends w.ports) w Begins on
+
+pub returns-clause-left : goal.returns-clause-left
+returns-clause-left c =
+    λ w on still earlier h later is off.
+    subst (λ hosts. IsBehind (ComesTo w) w (goes_through_ends hosts w) earlier h later) (sym is)
+    (leaves_behind (ComesTo w) (comes_lasts w) earlier h later w Begins on off (subst (λ hosts. (goes_through_ends hosts w).cut ≡ false) is still))

@@ -1,0 +1,290 @@
+-- In each event nothing of a node stands behind its cut.
+use Rattle.std.proofs.Common.{◌≡◌, ℕ, ◌==◌, Bool, true, false, cond, List, [], ◌∷◌, ◌++◌, Option, None, refl, ap, sym, subst, ◌∙◌, append-nil}
+use Rattle.std.specs.Prelude.{◌&&◌}
+use Rattle.std.specs.List.{AllByRecursion, flat_map}
+use Rattle.std.proofs.lemmas.Bool.{eqb-true, true≢false}
+use Rattle.registry.proofs.ValueLemmas.{AllByRecursion-append as all_append}
+use Rattle.swp_base.specs.InMemory.{Plan}
+use Rattle.trace_model.specs.declared.entry.Entry.{Entry}
+use Rattle.trace_model.specs.declared.line.End.{End}
+use Rattle.link_laws.specs.machine.Machine.{Message}
+use Rattle.link_laws.specs.machine.Machine.LinkInput.{Start}
+use Rattle.link_laws.specs.messages.Links.{NumberedEnd, Link, Comes, Loss, exchanged, aged}
+use Rattle.link_laws.specs.messages.Links.Comes.{NextFrame, AsksReset, Starts, NoInput}
+use Rattle.link_laws.specs.entries.Entries.{Entry as Noted, first_lost, aged_entries}
+use Rattle.link_laws.specs.entries.Entries.End.{Controller, Host}
+use Rattle.history.specs.Steps.{entries_for}
+use Rattle.node_machine.specs.Parts.{Running, Port, Work, Deed}
+use Rattle.node_machine.specs.Parts.Deed.{Sends, Orders}
+use Rattle.node_machine.specs.Controller.{is_command_message}
+use Rattle.node_machine.specs.Node.{steps, begins_with}
+use Rattle.node_machine.specs.Node.NodeInput.{AtEnd, TimePasses}
+use Rattle.node_machine.specs.world.World.{Site, NodeWorld, Happening, site_at, link_to, near_end_in, arrival, wires_for, work_of, frames_noted, comes_to}
+use Rattle.node_machine.specs.world.World.{controller_does, host_work, host_does, boots, frame_lost, all_aged}
+use Rattle.node_machine.specs.world.World.{controller_ticks, host_ticks, hosts_tick, world_ticks, sending}
+use Rattle.node_machine.specs.world.World.{beginning, comes_at, end_c, end_h, world_step, node_of}
+use Rattle.node_machine.specs.world.World.Happening.{Boots, IsCut, Gives, Inits, Takes, Loses, Ticks, Resets, Activates, Arms}
+use Rattle.node_machine.proofs.world.Cases.{by_controller, by_host, by_coming, by_boot, by_loss, near_tick, by_controller_tick, host_tick, by_host_tick}
+use Rattle.node_laws.specs.kept.Books.{hosts_of_ends}
+use Rattle.node_laws.specs.kept.Hosts.{AreDifferent}
+use Rattle.node_laws.specs.telling.Telling.{HasEnds, IfItRuns, hosts_in, IsOrderly}
+use Rattle.node_laws.proofs.telling.Walks.{IsUncut, AreUncut}
+use Rattle.node_laws.proofs.telling.Nodes.{site_host, ports_for, hosts_same}
+use Rattle.node_laws.proofs.telling.Worlds.{site_is}
+use Rattle.node_laws.proofs.telling.Events.{orderly_map, comes_goes}
+use Rattle.node_laws.proofs.telling.Powers.{entries_uncut}
+use Rattle.node_laws.proofs.telling.WorldTicks.{near_orderly}
+use Rattle.node_laws.proofs.telling.Shapes.{frames_uncut, frames_none}
+use Rattle.node_laws.specs.power.Powers.{AreNotOf}
+use Rattle.node_laws.proofs.power.Parts.{IsOwn, AreOwn, AreOver, IsPart, own_not, over_front, over_part, part_own, nothing_part, part_over}
+use Rattle.node_laws.proofs.power.Links.{links_own, arrival_of_side}
+use Rattle.node_laws.proofs.power.Doing.{IsEndOf, AreEnds, Runs, Fine, IsMine, deeds_fine}
+use Rattle.node_laws.proofs.power.Steps.{steps_fine, work_part, frames_own}
+
+-- ## Nodes as a step begins
+
+-- all ends of a controller are its own
+all_near : (ports : List Port) → AreEnds 0 ports
+all_near [] = tt
+all_near (p ∷ ports) = (refl, all_near ports)
+
+far_end : (h : ℕ) → (h == 0) ≡ false → IsEndOf h h
+far_end h other = rw other refl
+
+pub near_runs : (r : Running) (plan : Option Plan) (near_ends : ℕ → NumberedEnd) (es : List Entry) → r.core.node ≡ 0 → AreOwn 0 es → AreUncut es
+    → Runs 0 (work_of r plan near_ends es)
+near_runs r plan near_ends es number own uncut = record {
+  on = refl;
+  number = number;
+  ends = all_near (ports_for near_ends r.desks);
+  own = own;
+  uncut = uncut;
+}
+
+-- a host's end is its own
+one_end : (h : ℕ) (ports : List Port) → (h == 0) ≡ false → hosts_of_ends ports ≡ h ∷ [] → AreEnds h ports
+one_end h [] other e = absurd (cc e)
+one_end h (p ∷ []) other e = let is : p.desk.host ≡ h = cc in (subst (IsEndOf h) (sym is) (far_end h other), tt)
+one_end h (p ∷ q ∷ ports) other e = let none : q.desk.host ∷ hosts_of_ends ports ≡ [] = cc in absurd (cc none)
+
+pub far_runs : (h : ℕ) (r : Running) (plan : Option Plan) (near_ends : ℕ → NumberedEnd) (es : List Entry) → (h == 0) ≡ false → HasEnds h (h ∷ []) r
+    → AreOwn h es → AreUncut es → Runs h (work_of r plan near_ends es)
+far_runs h r plan near_ends es other has own uncut = record {
+  on = refl;
+  number = has.number;
+  ends = one_end h (ports_for near_ends r.desks) other (hosts_same near_ends r.desks ∙ has.ends);
+  own = own;
+  uncut = uncut;
+}
+
+-- ## Steps
+
+flat_frames_none : (f : Site → List Entry) → ((s : Site) → f s ≡ []) → (sites : List Site) → flat_map f sites ≡ []
+flat_frames_none f none [] = refl
+flat_frames_none f none (s ∷ sites) = ap (λ es. es ++ flat_map f sites) (none s) ∙ flat_frames_none f none sites
+
+flat_all : (P : Entry → Type 0) (f : Site → List Entry) → ((s : Site) → AllByRecursion P (f s)) → (sites : List Site) → AllByRecursion P (flat_map f sites)
+flat_all P f one [] = tt
+flat_all P f one (s ∷ sites) = all_append P (f s) (flat_map f sites) (one s) (flat_all P f one sites)
+
+-- the controller with the frames that go out on these links
+near_part : (v : Work) (wires : Site → Link) (sites : List Site) → Fine 0 v
+    → IsPart 0 (v.entries ++ flat_map (λ (s : Site). frames_noted Controller s.host (wires s) v) sites)
+near_part v wires sites fine =
+    work_part 0 v (flat_map (λ (s : Site). frames_noted Controller s.host (wires s) v) sites) fine
+    (λ off. flat_frames_none (λ (s : Site). frames_noted Controller s.host (wires s) v) (λ s. frames_none Controller s.host (wires s) v off) sites)
+    (flat_all (IsOwn 0) (λ (s : Site). frames_noted Controller s.host (wires s) v) (λ s. frames_own 0 Controller s.host (wires s) v refl) sites)
+    (flat_all IsUncut (λ (s : Site). frames_noted Controller s.host (wires s) v) (λ s. frames_uncut Controller s.host (wires s) v) sites)
+
+far_part : (h : ℕ) (v : Work) (l : Link) → Fine h v → IsPart h (v.entries ++ frames_noted Host h l v)
+far_part h v l fine =
+    work_part h v (frames_noted Host h l v) fine (frames_none Host h l v) (frames_own h Host h l v refl) (frames_uncut Host h l v)
+
+pub controller_part : (w : NodeWorld) (k : ℕ) (comes : Comes) (f : Work → Work) → ((v : Work) → Runs 0 v → Fine 0 (f v)) → IsOrderly w
+    → IsPart 0 (controller_does w k comes f).1
+controller_part w k comes f does a =
+    by_controller (λ p. IsPart 0 p.1) w k comes f (nothing_part 0)
+    (λ r q.
+    let n : HasEnds 0 (hosts_in w.sites) r = subst (IfItRuns 0 (hosts_in w.sites)) q a.controller in
+    let l : Link = link_to w.sites k in
+    let es : List Entry = entries_for k (arrival Controller l comes) in
+    let near_ends : ℕ → NumberedEnd = λ j. near_end_in (link_to w.sites j) (comes_to k comes j) in
+    let begun : Work = work_of r w.memory.plan near_ends es in
+    near_part (f begun) (λ s. wires_for s.link (comes_to k comes s.host)) w.sites
+    (does begun (near_runs r w.memory.plan near_ends es n.number
+    (links_own 0 k Controller refl (arrival Controller l comes) (arrival_of_side Controller l comes)) (entries_uncut k (arrival Controller l comes)))))
+
+pub host_part : (w : NodeWorld) (h : ℕ) (comes : Comes) (f : Work → Work) → ((v : Work) → Runs h v → Fine h (f v)) → IsOrderly w
+    → IsPart h (host_does w h comes f).1
+host_part w h comes f does a =
+    by_host (λ p. IsPart h p.1) w h comes f (nothing_part h)
+    (λ s r found q.
+    let is : s.host ≡ h = site_host w.sites h s found in
+    let node : HasEnds s.host (s.host ∷ []) r =
+    subst (IfItRuns s.host (s.host ∷ [])) q (site_is (λ (x : Site). IfItRuns x.host (x.host ∷ []) x.node) w.sites h s a.nodes found) in
+    let other : (s.host == 0) ≡ false = site_is (λ (x : Site). (x.host == 0) ≡ false) w.sites h s a.hosts found in
+    let off : (h == 0) ≡ false = subst (λ j. (j == 0) ≡ false) is other in
+    let P : ℕ → Type 0 = λ j. HasEnds j (j ∷ []) r in
+    let l : Link = exchanged s.link in
+    let es : List Entry = entries_for s.host (arrival Host l comes) in
+    let Q : ℕ → Type 0 = λ j. AreOwn h (entries_for j (arrival Host l comes)) in
+    far_part h (host_work s r comes f) (wires_for l comes)
+    (does (work_of r s.memory.plan (λ j. near_end_in l comes) es)
+    (far_runs h r s.memory.plan (λ j. near_end_in l comes) es off (subst P is node)
+    (subst Q (sym is) (links_own h h Host refl (arrival Host l comes) (arrival_of_side Host l comes))) (entries_uncut s.host (arrival Host l comes)))))
+
+pub comes_part : (w : NodeWorld) (e : End) (comes : Comes) → IsOrderly w → IsPart (node_of e) (comes_at w e comes).1
+comes_part w e comes a =
+    by_coming (λ p. IsPart (node_of e) p.1) w e comes (nothing_part (node_of e))
+    (λ i q seen. rw q (host_part w e.link comes (steps (AtEnd e.link i)) (λ v r. steps_fine e.link (AtEnd e.link i) v r) a))
+    (λ i q seen. rw q (controller_part w e.link comes (steps (AtEnd e.link i)) (λ v r. steps_fine 0 (AtEnd e.link i) v r) a))
+
+pub begins_part : (w : NodeWorld) (h : ℕ) (deeds : List Deed) → AllByRecursion (IsMine h h) deeds → IsOrderly w
+    → IsPart h (host_does w h NoInput (begins_with h deeds)).1
+begins_part w h deeds mine a = host_part w h NoInput (begins_with h deeds) (λ v r. deeds_fine h h deeds v mine r) a
+
+pub sending_mine : (h : ℕ) (m : Message) → AllByRecursion (IsMine h h) (sending h m)
+sending_mine h m = go (m.0 == 1 && is_command_message m.1)
+  where
+    go : (b : Bool) → AllByRecursion (IsMine h h) (cond b (Orders m.1 ∷ []) (Sends h m ∷ []))
+    go true = (tt, tt)
+    go false = (tt, tt)
+
+-- ## Ticks
+
+pub near_ticks_part : (w : NodeWorld) → IsOrderly w → IsPart 0 (controller_ticks w).1
+near_ticks_part w a =
+    by_controller_tick (λ p. IsPart 0 p.1) w (λ q. nothing_part 0)
+    (λ r q.
+    let n : HasEnds 0 (hosts_in w.sites) r = subst (IfItRuns 0 (hosts_in w.sites)) q a.controller in
+    let near_ends : ℕ → NumberedEnd = λ h. (link_to w.sites h).controller in
+    near_part (near_tick w r) (λ s. s.link) w.sites
+    (steps_fine 0 TimePasses (work_of r w.memory.plan near_ends []) (near_runs r w.memory.plan near_ends [] n.number tt tt)))
+
+pub far_tick : (s : Site) → (s.host == 0) ≡ false → IfItRuns s.host (s.host ∷ []) s.node → IsPart s.host (host_ticks s).1
+far_tick s other runs =
+    by_host_tick (λ p. IsPart s.host p.1) s (λ q. nothing_part s.host)
+    (λ r q.
+    let n : HasEnds s.host (s.host ∷ []) r = subst (IfItRuns s.host (s.host ∷ [])) q runs in
+    far_part s.host (host_tick s r) (exchanged s.link)
+    (steps_fine s.host TimePasses (work_of r s.memory.plan (λ h. s.link.host) [])
+    (far_runs s.host r s.memory.plan (λ h. s.link.host) [] other n tt tt)))
+
+abbrev pub AreNodes : List Site → Type 0
+AreNodes sites = AllByRecursion (λ (s : Site). ((s.host == 0) ≡ false) × IfItRuns s.host (s.host ∷ []) s.node) sites
+
+pub both_nodes : (sites : List Site) → AllByRecursion (λ (s : Site). (s.host == 0) ≡ false) sites
+    → AllByRecursion (λ (s : Site). IfItRuns s.host (s.host ∷ []) s.node) sites → AreNodes sites
+both_nodes [] a b = tt
+both_nodes (s ∷ sites) a b = ((a.0, b.0), both_nodes sites a.1 b.1)
+
+-- hosts with other numbers note nothing of a node
+pub others_tick : (n : ℕ) (sites : List Site) → AllByRecursion (λ h. (h == n) ≡ false) (hosts_in sites) → AreNodes sites → AreNotOf n (hosts_tick sites).1
+others_tick n [] off a = tt
+others_tick n (s ∷ sites) off a =
+    all_append _ (host_ticks s).1 (hosts_tick sites).1
+    (own_not s.host n (host_ticks s).1 off.0 (part_own s.host (host_ticks s).1 (far_tick s a.0.0 a.0.1)))
+    (others_tick n sites off.1 a.1)
+
+hosts_over : (sites : List Site) → AreDifferent (hosts_in sites) → AreNodes sites → AreOver (hosts_tick sites).1
+hosts_over [] d a = tt
+hosts_over (s ∷ sites) d a =
+    over_part s.host (host_ticks s).1 (hosts_tick sites).1 (far_tick s a.0.0 a.0.1) (others_tick s.host sites d.0 a.1) (hosts_over sites d.1 a.1)
+
+pub none_zero : (sites : List Site) → AllByRecursion (λ (s : Site). (s.host == 0) ≡ false) sites → AllByRecursion (λ h. (h == 0) ≡ false) (hosts_in sites)
+none_zero [] a = tt
+none_zero (s ∷ sites) a = (a.0, none_zero sites a.1)
+
+aged_uncut : (sites : List Site)
+    → AreUncut (flat_map (λ (s : Site). entries_for s.host (aged_entries Controller s.link.to_controller ++ aged_entries Host s.link.to_host)) sites)
+aged_uncut sites =
+    flat_all IsUncut (λ (s : Site). entries_for s.host (aged_entries Controller s.link.to_controller ++ aged_entries Host s.link.to_host))
+    (λ s. entries_uncut s.host (aged_entries Controller s.link.to_controller ++ aged_entries Host s.link.to_host)) sites
+
+ticks_over : (w : NodeWorld) → IsOrderly w → AreOver (world_ticks w).1
+ticks_over w a =
+    over_front (all_aged w).1 ((controller_ticks old).1 ++ (hosts_tick near).1) (aged_uncut w.sites)
+    (over_part 0 (controller_ticks old).1 (hosts_tick near).1 (near_ticks_part old b) (others_tick 0 near (none_zero near kept.hosts) nodes)
+    (hosts_over near kept.different nodes))
+  where
+    old : NodeWorld
+    old = (all_aged w).0
+
+    b : IsOrderly old
+    b = orderly_map w w.memory w.controller (λ (x : Site). record x { link = aged x.link }) (λ x. refl) a a.controller (λ x n. n)
+
+    near : List Site
+    near = (controller_ticks old).0.sites
+
+    -- the sites behind the tick of the controller
+    kept : IsOrderly (record { memory = old.memory; controller = None; sites = near })
+    kept = near_orderly old b
+
+    nodes : AreNodes near
+    nodes = both_nodes near kept.hosts kept.nodes
+
+-- ## Events
+
+boots_over : (w : NodeWorld) (n : ℕ) → AreOver (boots w n).1
+boots_over w n = by_boot (λ p. AreOver p.1) w n (tt, tt) (tt, tt)
+
+uncut_over : (es : List Entry) → AreUncut es → AreOver es
+uncut_over es u = subst AreOver (append-nil es) (over_front es [] u tt)
+
+lost_over : (w : NodeWorld) (e : End) (why : Loss) → AreOver (frame_lost w e why).1
+lost_over w e why =
+    by_loss (λ p. AreOver p.1) w e why (λ q. notes (first_lost Host why (link_to w.sites e.link).to_host))
+    (λ q. notes (first_lost Controller why (link_to w.sites e.link).to_controller))
+  where
+    notes : (es : List Noted) → AreOver (entries_for e.link es)
+    notes es = uncut_over (entries_for e.link es) (entries_uncut e.link es)
+
+-- no host has the number of the controller
+pub no_site : (sites : List Site) (h : ℕ) → (h == 0) ≡ true → AllByRecursion (λ (s : Site). (s.host == 0) ≡ false) sites → site_at sites h ≡ None
+no_site [] h zero a = refl
+no_site (s ∷ sites) h zero a = go (s.host == h) refl (no_site sites h zero a.1)
+  where
+    go : (b : Bool) → (s.host == h) ≡ b → site_at sites h ≡ None → site_at (s ∷ sites) h ≡ None
+    go true e later = absurd (true≢false (sym (ap (λ n. n == 0) (eqb-true s.host h e) ∙ zero) ∙ a.0))
+    go false e later = rw e later
+
+host_none : (w : NodeWorld) (h : ℕ) (comes : Comes) (f : Work → Work) → site_at w.sites h ≡ None → (host_does w h comes f).1 ≡ []
+host_none w h comes f q = rw q refl
+
+activates_over : (w : NodeWorld) (h sync power : ℕ) → IsOrderly w → AreOver (world_step w (Activates h sync power)).1
+activates_over w h sync power a =
+    over_part 0 near.1 far.1 (comes_part w (end_c h) (Starts power) a) (others (h == 0) refl) (part_over h far.1 last)
+  where
+    near : NodeWorld × List Entry
+    near = comes_at w (end_c h) (Starts power)
+
+    far : NodeWorld × List Entry
+    far = comes_at near.0 (end_h h) (Starts sync)
+
+    b : IsOrderly near.0
+    b = (comes_goes w (end_c h) (Starts power) a).orderly
+
+    last : IsPart h far.1
+    last = comes_part near.0 (end_h h) (Starts sync) b
+
+    others : (c : Bool) → (h == 0) ≡ c → AreNotOf 0 far.1
+    others false q = own_not h 0 far.1 q (part_own h far.1 last)
+    others true q =
+        let none : far.1 ≡ [] =
+        host_none near.0 h (Starts sync) (steps (AtEnd h (Start sync))) (no_site near.0.sites h q b.hosts) in
+        subst (AreNotOf 0) (sym none) tt
+
+pub step_over : (w : NodeWorld) (c : Happening) → IsOrderly w → AreOver (world_step w c).1
+step_over w (Boots n) a = boots_over w n
+step_over w (IsCut n) a = (tt, tt)
+step_over w (Gives e m) a =
+    part_over e.link (host_does w e.link NoInput (begins_with e.link (sending e.link m))).1 (begins_part w e.link (sending e.link m) (sending_mine e.link m) a)
+step_over w (Inits e identity pipes) a =
+    part_over e.link (host_does w e.link NoInput (begins_with e.link (beginning identity pipes))).1
+    (begins_part w e.link (beginning identity pipes) (tt, (tt, tt)) a)
+step_over w (Takes e) a = part_over (node_of e) (comes_at w e NextFrame).1 (comes_part w e NextFrame a)
+step_over w (Loses e why) a = lost_over w e why
+step_over w Ticks a = ticks_over w a
+step_over w (Resets e window) a = part_over (node_of e) (comes_at w e (AsksReset window)).1 (comes_part w e (AsksReset window) a)
+step_over w (Activates h sync power) a = activates_over w h sync power a
+step_over w (Arms n plan) a = tt

@@ -1,0 +1,131 @@
+-- What is noted of an end tells of its node, and of no loss of power.
+use Rattle.std.proofs.Common.{◌≡◌, ℕ, Bool, true, false, cond, List, [], ◌∷◌, length, Option, Some, None, map, refl}
+use Rattle.std.specs.Prelude.{nat_lt, option_to_list}
+use Rattle.std.specs.List.{AllByRecursion}
+use Rattle.registry.proofs.ValueLemmas.{AllByRecursion-append as all_append}
+use Rattle.swp_base.specs.declared.control_frames.Control.{Control}
+use Rattle.link_laws.specs.sessions.Sessions.{OnWire}
+use Rattle.link_laws.specs.machine.Machine.{Message, LinkEnd, Refused, Turn, Report, frames_out, give_refusal}
+use Rattle.link_laws.specs.machine.Machine.Turn.{Give, Hold, FetchMessage, SetAside, Release}
+use Rattle.link_laws.specs.messages.Links.{Link, Comes, Loss, put}
+use Rattle.link_laws.specs.messages.Links.Ending.{GoesOut}
+use Rattle.link_laws.specs.messages.Links.Comes.{NextFrame, AsksReset, Starts, Stops, NoInput}
+use Rattle.link_laws.specs.messages.Links.Loss.{TooMany}
+use Rattle.link_laws.specs.entries.Entries.{End as Side, Entry as Noted, far, if_so, told, sent_unless, turn_entry, first_lost, pushed_out}
+use Rattle.link_laws.specs.entries.Entries.{wire_with, put_entries}
+use Rattle.link_laws.specs.entries.Entries.{puts_entries, ending_entries}
+use Rattle.link_laws.specs.entries.Entries.Entry.{Up, Down, Active, GaveUp, Acked, Got, Sent, Emit, Took, Lost, Tick, Restarted, Cut}
+use Rattle.history.specs.Steps.{end_of, entry_of, entries_for}
+use Rattle.node_machine.specs.world.World.{node_of, arrival}
+use Rattle.node_laws.proofs.power.Parts.{IsOwn, AreOwn}
+
+-- ## No power
+
+-- ## Its node
+
+-- it is noted of this end, or of a frame that is lost
+abbrev pub IsOfSide : Side → Noted → Type 0
+IsOfSide who (Up s n) = s ≡ who
+IsOfSide who (Down s cause) = s ≡ who
+IsOfSide who (Active s) = s ≡ who
+IsOfSide who (GaveUp s tries) = s ≡ who
+IsOfSide who (Acked s n count) = s ≡ who
+IsOfSide who (Got s n m) = s ≡ who
+IsOfSide who (Sent s n m) = s ≡ who
+IsOfSide who (Emit s frame) = s ≡ who
+IsOfSide who (Took s frame) = s ≡ who
+IsOfSide who (Lost s frame why) = Unit {0}
+IsOfSide who Tick = Unit {0}
+IsOfSide who (Restarted s) = Unit {0}
+IsOfSide who (Cut s) = Unit {0}
+
+abbrev pub AreOfSide : Side → List Noted → Type 0
+AreOfSide who xs = AllByRecursion (IsOfSide who) xs
+
+module _ (k h : ℕ) (who : Side) (own : node_of (end_of h who) ≡ k) where
+  at : (s : Side) → s ≡ who → node_of (end_of h s) ≡ k
+  at s e = rw e own
+
+  one_own : (x : Noted) → IsOfSide who x → AreOwn k (entry_of h x)
+  one_own (Up s n) a = (at s a, tt)
+  one_own (Down s cause) a = (at s a, tt)
+  one_own (Active s) a = (at s a, tt)
+  one_own (GaveUp s tries) a = (at s a, tt)
+  one_own (Acked s n count) a = (at s a, tt)
+  one_own (Got s n m) a = (at s a, tt)
+  one_own (Sent s n m) a = (at s a, tt)
+  one_own (Emit s frame) a = (at s a, tt)
+  one_own (Took s frame) a = (at s a, tt)
+  one_own (Lost s frame why) a = (tt, tt)
+  one_own Tick a = tt
+  one_own (Restarted s) a = tt
+  one_own (Cut s) a = tt
+
+  pub links_own : (xs : List Noted) → AreOfSide who xs → AreOwn k (entries_for h xs)
+  links_own [] a = tt
+  links_own (x ∷ xs) a = all_append (IsOwn k) (entry_of h x) (entries_for h xs) (one_own x a.0) (links_own xs a.1)
+
+-- ## What is noted of one end
+
+map_of : {X : Type 0} (who : Side) (f : X → Noted) → ((x : X) → IsOfSide who (f x)) → (xs : List X) → AreOfSide who (map f xs)
+map_of who f one [] = tt
+map_of who f one (x ∷ xs) = (one x, map_of who f one xs)
+
+if_of : (who : Side) (b : Bool) (x : Noted) → IsOfSide who x → AreOfSide who (if_so b x)
+if_of who true x a = (a, tt)
+if_of who false x a = tt
+
+pub told_of_side : (who : Side) (n : ℕ) (r : Report) (acked : ℕ) → AreOfSide who (told who n r acked)
+told_of_side who n r acked =
+    all_append (IsOfSide who) (map (Down who) (option_to_list r.ended)) _ (map_of who (Down who) (λ x. refl) (option_to_list r.ended))
+    (all_append (IsOfSide who) (if_so r.began (Up who n)) _ (if_of who r.began (Up who n) refl)
+    (all_append (IsOfSide who) (if_so r.became_active (Active who)) _ (if_of who r.became_active (Active who) refl)
+    (all_append (IsOfSide who) (map (GaveUp who) (option_to_list r.gave_up)) _ (map_of who (GaveUp who) (λ x. refl) (option_to_list r.gave_up))
+    (all_append (IsOfSide who) (if_so (nat_lt 0 r.acked) (Acked who n acked)) _ (if_of who (nat_lt 0 r.acked) (Acked who n acked) refl)
+    (map_of who (Got who n) (λ x. refl) r.got)))))
+
+sent_of_side : (o : Option Refused) (who : Side) (n : ℕ) (m : Message) → AreOfSide who (sent_unless o who n m)
+sent_of_side None who n m = (refl, tt)
+sent_of_side (Some why) who n m = tt
+
+pub turn_of_side : (who : Side) (n : ℕ) (e : LinkEnd) (t : Turn) → AreOfSide who (turn_entry who n e t)
+turn_of_side who n e (Give m) = sent_of_side (give_refusal e m) who n m
+turn_of_side who n e (Hold held) = tt
+turn_of_side who n e FetchMessage = tt
+turn_of_side who n e SetAside = tt
+turn_of_side who n e Release = tt
+
+lost_of_side : (who s : Side) (why : Loss) (xs : List OnWire) → AreOfSide who (first_lost s why xs)
+lost_of_side who s why [] = tt
+lost_of_side who s why (x ∷ xs) = (tt, tt)
+
+pushed_of_side : (who s : Side) (wire : List OnWire) → AreOfSide who (pushed_out s wire)
+pushed_of_side who s wire = go (nat_lt 64 (length wire))
+  where
+    go : (b : Bool) → AreOfSide who (cond b (first_lost s TooMany wire) [])
+    go true = lost_of_side who s TooMany wire
+    go false = tt
+
+puts_of_side : (who : Side) (l : Link) (cs : List Control) → AreOfSide who (puts_entries who l cs)
+puts_of_side who l [] = tt
+puts_of_side who l (c ∷ cs) =
+    all_append (IsOfSide who) (put_entries who l c) (puts_entries who (put l c) cs) (refl, pushed_of_side who (far who) (wire_with l c))
+    (puts_of_side who (put l c) cs)
+
+pub out_of_side : (who : Side) (l : Link) (e : LinkEnd) → AreOfSide who (ending_entries who l e GoesOut)
+out_of_side who l e = puts_of_side who l (frames_out e)
+
+pub arrival_of_side : (who : Side) (l : Link) (comes : Comes) → AreOfSide who (arrival who l comes)
+arrival_of_side who l NextFrame = go l.to_controller
+  where
+    first : List OnWire → List Noted
+    first [] = []
+    first (x ∷ xs) = Took who x.frame ∷ []
+
+    go : (xs : List OnWire) → AreOfSide who (first xs)
+    go [] = tt
+    go (x ∷ xs) = (refl, tt)
+arrival_of_side who l (AsksReset window) = tt
+arrival_of_side who l (Starts value) = tt
+arrival_of_side who l Stops = tt
+arrival_of_side who l NoInput = tt

@@ -1,0 +1,199 @@
+-- What is known of the ends of the controller as it begins to go through them in a step.
+use Rattle.std.proofs.Common.{◌≡◌, ℕ, ◌==◌, Bool, true, false, cond, List, [], ◌∷◌, ◌++◌, Option, Some, None, map, refl, ap, sym, subst, ◌∙◌, arith}
+use Rattle.std.specs.List.{flat_map}
+use Rattle.std.proofs.lemmas.Bool.{eqb-true}
+use Rattle.trace_model.specs.declared.entry.Entry.{Entry}
+use Rattle.link_laws.specs.sessions.Sessions.{OnWire}
+use Rattle.link_laws.specs.machine.Machine.{LinkEnd, LinkInput, report, whole_acked, after_input}
+use Rattle.link_laws.specs.messages.Links.{NumberedEnd, Link, Comes, number_of}
+use Rattle.link_laws.specs.messages.Links.Comes.{NextFrame, AsksReset, Starts, Stops, NoInput}
+use Rattle.link_laws.specs.entries.Entries.{End as Side, Entry as Noted}
+use Rattle.link_laws.specs.entries.Entries.End.{Controller}
+use Rattle.link_laws.proofs.entries.Noting.{FramesFor}
+use Rattle.link_laws.proofs.entries.Running.{Before, frame_facts}
+use Rattle.history.specs.Steps.{entries_for}
+use Rattle.node_machine.specs.Parts.{Running, Port, Work, Deed}
+use Rattle.node_machine.specs.Carrying.{port_at, all_done}
+use Rattle.node_machine.specs.Node.{NodeInput, input_at, has_come, all_come, times_out, forgotten, forgets, all_owed, without_notice, after_sessions, synced}
+use Rattle.node_machine.specs.Node.NodeInput.{AtEnd}
+use Rattle.node_machine.specs.world.World.{Site, NodeWorld, site_at, link_to, input_of, near_end_in, arrival, comes_to}
+use Rattle.node_laws.specs.kept.Books.{hosts_of_ends}
+use Rattle.node_laws.proofs.kept.Plainly.{hosts_map}
+use Rattle.node_laws.proofs.links.Works.{IsFineWork, map_fine, came_fine, without_fine, forgets_fine}
+use Rattle.node_laws.proofs.links.Worlds.{IsFineWorld, near_end_clean, near_clean, fine_clean, ports_fine}
+use Rattle.node_laws.specs.telling.Telling.{of_link, HasEnds, hosts_in, IsOrderly}
+use Rattle.node_laws.specs.telling.Standing.{without_power}
+use Rattle.node_laws.proofs.telling.Mute.{forgotten_mute, all_owed_mute, all_synced_mute}
+use Rattle.node_laws.proofs.steps.StepWalks.{unless}
+use Rattle.node_laws.proofs.telling.Powers.{AreClear, entries_uncut, came_uncut}
+use Rattle.node_laws.proofs.telling.Shapes.{clear-append, clear_told, twice}
+use Rattle.node_laws.proofs.telling.Accounts.{Account, at_host}
+use Rattle.node_laws.proofs.telling.Parts.{after_coming, told_coming}
+use Rattle.node_laws.proofs.telling.Steps.{notes-append, Opening, GoesLate, came}
+use Rattle.node_laws.proofs.telling.Nodes.{hosts_same, opened, given, is_so}
+use Rattle.node_laws.proofs.telling.Worlds.{node_is}
+use Rattle.node_laws.proofs.steps.Ports.{come_host, forgets_host, without_host}
+use Rattle.node_laws.specs.order.Told.{IsLinkTold}
+use Rattle.node_laws.proofs.order.Lines.{host_number}
+use Rattle.node_laws.proofs.order.Ticking.{some_desks}
+use Rattle.node_laws.proofs.read_rooms.Coming.{Came, has_come_so}
+use Rattle.node_laws.proofs.read_rooms.Reading.{AreNoted, its_notes, are_noted, before_near, near_says}
+use Rattle.node_laws.proofs.read_rooms.Carrying.{Carries}
+use Rattle.node_laws.proofs.read_rooms.Lasting.{IsCarried, carried_deeds}
+use Rattle.node_laws.proofs.steps.Walks.{forgotten_hold, all_owed_hold, all_synced_hold}
+use Rattle.node_laws.proofs.links.Deeds.{IsFine, low}
+use Rattle.node_laws.specs.passes.Steps.{comes_to_pass, controller_begins}
+
+-- ## One end
+
+arrival_clear : (who : Side) (l : Link) (comes : Comes) → AreClear (arrival who l comes)
+arrival_clear who l NextFrame = go l.to_controller
+  where
+    go : (w : List OnWire) → AreClear (arrival who (record l { to_controller = w }) NextFrame)
+    go [] = tt
+    go (x ∷ xs) = (tt, tt)
+arrival_clear who l (AsksReset window) = tt
+arrival_clear who l (Starts value) = tt
+arrival_clear who l Stops = tt
+arrival_clear who l NoInput = tt
+
+coming_clear : (who : Side) (h : NumberedEnd) (o : Option LinkInput) → AreClear (told_coming who h o)
+coming_clear who h None = tt
+coming_clear who h (Some i) = clear_told who (number_of h) (report h.side i) (whole_acked (after_input h.side i))
+
+module _ (t : List Entry) (h : ℕ) (who : Side) (l : Link) (comes : Comes) (o : Option LinkInput) where
+  pub carries_from : (late : Bool) (before : List Noted) (w : Work) → (h == 0) ≡ false → AreNoted h t before → Came before who l comes o
+      → GoesLate h who l comes o late w → Carries t h who w
+  carries_from late before w number noted c goes =
+      let first : List Noted = arrival who l comes in
+      let second : List Noted = told_coming who (near_end_in l comes) o in
+      let b : List Entry = of_link h (entries_for h first) ++ of_link h (entries_for h second) in
+      let N : ℕ → Type 0 = λ n. Account h who n (after_coming (near_end_in l comes).side o) b late w in
+      let E : LinkEnd → Type 0 = λ e. Account h who (number_of c.end) e b late w in
+      let B : List Entry → Type 0 = λ z. Account h who (number_of c.end) c.end.side z late w in
+      record {
+        number = number;
+        before = before;
+        came = first ++ second;
+        end = c.end;
+        late = late;
+        noted = noted;
+        clear = clear-append first second (arrival_clear who l comes) (coming_clear who (near_end_in l comes) o);
+        says = c.says;
+        account = subst B (sym (notes-append h first second)) (subst E (sym c.side) (subst N (sym c.number) goes));
+      }
+
+-- what is known of a frame that is taken
+pub frames_for : (l : Link) (comes : Comes) → Before l → FramesFor comes l []
+frames_for l NextFrame b = frame_facts l [] tt b
+frames_for l (AsksReset window) b = tt
+frames_for l (Starts value) b = tt
+frames_for l Stops b = tt
+frames_for l NoInput b = tt
+
+-- ## All ends
+
+-- the host of an end
+pub record HasSite (sites : List Site) (h : ℕ) : Type 0 where
+  pub site : Site
+  pub there : site_at sites h ≡ Some site
+
+pub site_for : (ports : List Port) (sites : List Site) (h : ℕ) (p : Port) → hosts_of_ends ports ≡ hosts_in sites → port_at ports h ≡ Some p
+    → HasSite sites h
+site_for [] sites h p e q = absurd (cc q)
+site_for (x ∷ ports) [] h p e q = absurd (cc e)
+site_for (x ∷ ports) (s ∷ sites) h p e q = go (x.desk.host == h) refl (site_for ports sites h p)
+  where
+    one : x.desk.host ≡ s.host
+    one = cc
+
+    others : hosts_of_ends ports ≡ hosts_in sites
+    others = cc
+
+    go : (b : Bool) → (x.desk.host == h) ≡ b → (hosts_of_ends ports ≡ hosts_in sites → port_at ports h ≡ Some p → HasSite sites h) → HasSite (s ∷ sites) h
+    go true f later = let found : (s.host == h) ≡ true = ap (λ n. n == h) (sym one) ∙ f in record { site = s; there = rw found refl }
+    go false f later =
+        let passed : (s.host == h) ≡ false = ap (λ n. n == h) (sym one) ∙ f in
+        let rest : HasSite sites h = later others (rw f at q) in
+        record { site = rest.site; there = rw passed rest.there }
+
+-- what is left to do before a node goes through its ends
+pub pass_carried : (t : List Entry) (who : Side) (input : NodeInput) (w : Work)
+    → (let v : Work = times_out input (all_come input w) in
+    IsCarried t who (record v { core = after_sessions v.core v.ports; ports = map without_notice (map (forgets v.ports) v.ports) }))
+    → IsCarried t who (comes_to_pass input w)
+pass_carried t who input w a =
+    let v : Work = times_out input (all_come input w) in
+    let left : List Port = map (forgets v.ports) v.ports in
+    let start : Work = record v { core = after_sessions v.core v.ports; ports = map without_notice left } in
+    let freed : List Deed = forgotten v.ports in
+    let syncs : List Deed = flat_map (synced w.core input) w.ports in
+    let owing : List Deed = all_owed left in
+    let one : IsCarried t who (all_done 0 freed start) =
+    carried_deeds t who 0 freed start (forgotten_mute v.ports) (forgotten_hold IsFine (λ asker. tt) v.ports) a in
+    let two : IsCarried t who (all_done 0 syncs (all_done 0 freed start)) =
+    carried_deeds t who 0 syncs (all_done 0 freed start) (all_synced_mute w.core input w.ports)
+    (all_synced_hold IsFine (λ host id. tt) w.core input w.ports) one in
+    unless (IsCarried t who) (all_done 0 owing) (all_done 0 syncs (all_done 0 freed start))
+    (λ x b. carried_deeds t who 0 owing x (all_owed_mute left) (all_owed_hold IsFine (λ asker. tt) (λ to r. (low, omega arith)) left) b) two
+
+pub begun_fine : (input : NodeInput) (w : Work) → IsFineWork w
+    → (let v : Work = times_out input (all_come input w) in
+    IsFineWork (record v { core = after_sessions v.core v.ports; ports = map without_notice (map (forgets v.ports) v.ports) }))
+begun_fine input w a =
+    let v : Work = times_out input (all_come input w) in
+    map_fine without_notice without_fine (map (forgets v.ports) v.ports) (map_fine (forgets v.ports) (forgets_fine v.ports) v.ports (came_fine input w a))
+
+-- ## Something comes to an end of the controller
+
+module _ (w : NodeWorld) (t : List Entry) (orderly : IsOrderly w) (fine : IsFineWorld w)
+    (told : (h : ℕ) (s : Site) → site_at w.sites h ≡ Some s → IsLinkTold h s.link t) (r : Running) (runs : w.controller ≡ Some r) where
+  pub node : HasEnds 0 (hosts_in w.sites) r
+  node = node_is 0 (hosts_in w.sites) w.controller r orderly.controller runs
+
+  module _ (k : ℕ) (comes : Comes) (i : LinkInput) (q : input_of (link_to w.sites k) comes ≡ Some i) where
+    abbrev start : Work
+    start = controller_begins w r k comes
+
+    abbrev come : Work
+    come = all_come (AtEnd k i) start
+
+    abbrev begun : Work
+    begun = record come { core = after_sessions come.core come.ports; ports = map without_notice (map (forgets come.ports) come.ports) }
+
+    abbrev near_ends : ℕ → NumberedEnd
+    near_ends j = near_end_in (link_to w.sites j) (comes_to k comes j)
+
+    begun_hosts : hosts_of_ends begun.ports ≡ hosts_in w.sites
+    begun_hosts =
+        hosts_map without_notice without_host (map (forgets come.ports) come.ports)
+        ∙ (hosts_map (forgets come.ports) (forgets_host come.ports) come.ports
+        ∙ (hosts_map (λ p. has_come p (input_at (AtEnd k i) p)) (λ p. come_host p (input_at (AtEnd k i) p)) start.ports
+        ∙ (hosts_same near_ends r.desks ∙ node.ends)))
+
+    carries_one : (h : ℕ) (s : Site) → site_at w.sites h ≡ Some s → Carries t h Controller begun
+    carries_one h s found =
+        let here : Comes = comes_to k comes h in
+        let o : Option LinkInput = cond (h == k) (Some i) None in
+        let a : Opening h Controller s.link here start = opened w r k comes h s orderly node found in
+        let host : a.port.desk.host ≡ h = eqb-true a.port.desk.host h (at_host start.ports h a.port a.here) in
+        let link : IsLinkTold h s.link t = told h s found in
+        let notes : List Noted = its_notes h s.link t link in
+        carries_from t h Controller s.link here o false notes begun (host_number w h s orderly found) (are_noted h s.link t link)
+        (has_come_so notes Controller s.link here o (given w r k comes h s orderly node found i q (h == k) refl)
+        (is_so w r k comes h s orderly node found i (h == k)) (frames_for s.link here (before_near h s.link t link)) (near_says h s.link t link))
+        (came h Controller s.link here o k i start a (ap (λ n. cond (n == k) (Some i) None) host) come.ports)
+
+    pub comes_carried : IsCarried t Controller (comes_to_pass (AtEnd k i) start)
+    comes_carried =
+        pass_carried t Controller (AtEnd k i) start (record {
+          carry = record {
+            uncut = λ _. came_uncut 0 0 (without_power Controller) (λ x. refl) (twice Controller) (AtEnd k i) start
+                (entries_uncut k (arrival Controller (link_to w.sites k) comes));
+            each = λ h p here. let s : HasSite w.sites h = site_for begun.ports w.sites h p begun_hosts here in carries_one h s.site s.there;
+          };
+          fine = begun_fine (AtEnd k i) start
+              (ports_fine near_ends
+              (λ j. near_end_clean (link_to w.sites j) (comes_to k comes j) (near_clean w.sites j (fine_clean w.sites fine.sites))) r.desks
+              (some_desks w.controller r runs fine.controller));
+        })

@@ -1,0 +1,79 @@
+-- What is read of an end in a step is what it has there.
+use Rattle.std.proofs.Common.{◌≡◌, ℕ, List, ◌++◌, Option, Some, None, refl, ap, sym, ◌∙◌}
+use Rattle.std.specs.Prelude.{if◌then◌else◌, drop}
+use Rattle.trace_model.specs.declared.entry.Entry.{Entry}
+use Rattle.trace_model.specs.declared.line.End.{End}
+use Rattle.shdlc_core.specs.declared.answers.LinkState.{LinkState}
+use Rattle.shdlc_core.specs.declared.answers.LinkState.TheVariants.{Up, Waiting, Down}
+use Rattle.link_laws.specs.sessions.Sessions.{is_up}
+use Rattle.link_laws.specs.machine.Machine.{LinkEnd, spare, whole_acked}
+use Rattle.link_laws.specs.messages.Links.{NumberedEnd, number_of, talk_of, AreSendableTurns}
+use Rattle.link_laws.specs.entries.Entries.{End as Side, Entry as Noted}
+use Rattle.link_laws.specs.entries.Entries.End.{Controller, Host}
+use Rattle.link_laws.specs.entries.Sessions.{number_now as own_session}
+use Rattle.history.specs.Steps.{end_of}
+use Rattle.node_machine.specs.Parts.{Port, Work}
+use Rattle.node_machine.specs.world.World.{node_of}
+use Rattle.node_machine.specs.world.NodeFilters.{session_now, unacknowledged_in}
+use Rattle.node_laws.proofs.telling.Walks.{AreUncut}
+use Rattle.node_laws.specs.order.Told.{IsReadOff}
+use Rattle.node_laws.proofs.order.Sessions.{node_on}
+use Rattle.node_laws.proofs.notices.Sparing.{spare_is}
+use Rattle.node_laws.proofs.rooms.Holding.{held_is, end_is}
+use Rattle.node_laws.specs.read_rooms.Moments.{IsPortRead}
+use Rattle.node_laws.proofs.read_rooms.Inputs.{Says}
+use Rattle.node_laws.proofs.read_rooms.Reading.{session_is, reads_are}
+use Rattle.node_laws.proofs.read_rooms.Carrying.{Carries, end_now, all_noted, noted_now, says_now}
+
+-- the session of an end with this number
+abbrev session_at : LinkEnd → ℕ → Option ℕ
+session_at e n = if is_up e.shdlc.phase then Some n else None
+
+own_is : (k : NumberedEnd) → own_session k ≡ session_at k.side (number_of k)
+own_is k = go k.side.shdlc.phase refl
+  where
+    go : (p : LinkState) → k.side.shdlc.phase ≡ p → own_session k ≡ session_at k.side (number_of k)
+    go Up q = rw q refl
+    go Waiting q = rw q refl
+    go Down q = rw q refl
+
+node_is : (h : ℕ) (who : Side) → node_of (end_of h who) ≡ node_on h who
+node_is h Controller = refl
+node_is h Host = refl
+
+pub port_read : (t : List Entry) (h : ℕ) (who : Side) (w : Work) (a : Carries t h who w) → AreUncut w.entries
+    → AreSendableTurns a.account.port.turns → IsPortRead (t ++ w.entries) (end_of h who) a.account.port
+port_read t h who w a uncut fine =
+    record {
+      session =
+          session ∙ (own_is k ∙ (ap (λ z. session_at z (number_of k)) (sym is) ∙ ap (session_at p.side) (sym a.account.session)));
+      held = ap (unacknowledged_in u e) session ∙ (held_is u e k reads says.sound ∙ ap (λ (z : LinkEnd). drop (whole_acked z) z.sent) (sym is));
+      spare = λ q. spare_is u e k (end_is u e k reads says.sound session (q ∙ ap (λ (z : LinkEnd). z.aside) is)) ∙ ap spare (sym is);
+    }
+  where
+    u : List Entry
+    u = t ++ w.entries
+
+    e : End
+    e = end_of h who
+
+    p : Port
+    p = a.account.port
+
+    k : NumberedEnd
+    k = end_now t h who w a
+
+    notes : List Noted
+    notes = all_noted t h who w a
+
+    is : p.side ≡ k.side
+    is = a.account.is
+
+    says : Says notes who k
+    says = says_now t h who w a fine
+
+    session : session_now u e (node_of e) ≡ own_session k
+    session = ap (session_now u e) (node_is h who) ∙ session_is h a.number u notes (noted_now t h who w a uncut) who k says
+
+    reads : (n : ℕ) → IsReadOff u e n (talk_of k n)
+    reads = reads_are h a.number u notes (noted_now t h who w a uncut) who k says

@@ -1,0 +1,299 @@
+-- What a controller notes in a turn: a notice of a creation names the host that it goes to.
+use Rattle.std.proofs.Common.{◌≡◌, ◌⊎◌, inl, inr, ℕ, ◌&&◌, Bool, true, false, cond, eqb, List, [], ◌∷◌, ◌++◌, length, map, sym, refl, ap, ◌∙◌, subst}
+use Rattle.std.specs.Prelude.{Option, Some, None, option_to_list, slice_index}
+use Rattle.std.specs.List.{AllByRecursion, fold}
+use Rattle.std.specs.Option.{option_map_or}
+use Rattle.std.proofs.lemmas.Bool.{eqb-true, true≢false}
+use Rattle.swp_base.specs.declared.link_terms.Cause.{Cause}
+use Rattle.trace_model.specs.declared.entry.Entry.{Entry}
+use Rattle.trace_model.specs.declared.entry.Entry.TheVariants as entry
+use Rattle.journal_laws.specs.Planned.{fails_within}
+use Rattle.hci_tables.specs.declared.command.Command.{Command}
+use Rattle.hci_tables.specs.declared.command.Command.TheVariants.{Create}
+use Rattle.hci_tables.specs.Bodies.{body_of}
+use Rattle.hci_tables.specs.Tables.{HciTables}
+use Rattle.hci_store.specs.Committing.{commit_writes}
+use Rattle.gate_answers.specs.Answers.{instruction_in}
+use Rattle.link_laws.specs.machine.Machine.{Message, LinkInput, Refused, Turn, ended_by, give_refusal, is_held, report, whole_acked, after_input}
+use Rattle.link_laws.specs.machine.Machine.LinkInput.{Reset}
+use Rattle.link_laws.specs.machine.Machine.Turn.{Give, Hold, FetchMessage, SetAside, Release}
+use Rattle.link_laws.specs.entries.Entries.{End as Side, Entry as Noted, sent_unless}
+use Rattle.link_laws.specs.entries.Entries.End.{Controller, Host}
+use Rattle.link_laws.specs.entries.Entries.Entry.{Down}
+use Rattle.history.specs.Filters.{same_end, same_side}
+use Rattle.history.specs.Steps.{entries_for}
+use Rattle.node_machine.specs.Parts.{Creation, Core, Port, Work, Deed}
+use Rattle.node_machine.specs.Parts.Deed.{Commits, Sends, SaysOk, Asks, Releases, Tells, IsAnswered, Drops, SetsErrors, Orders, Hears, GoesOn, Ends}
+use Rattle.node_machine.specs.Carrying.{own_side, noting, unless_cut, port_at, with_desk, noted_of, turn_at, commit, done, all_done, end_of_node}
+use Rattle.node_machine.specs.Turns.{handles, holds_back, lets_go}
+use Rattle.node_machine.specs.Node.{told_at, told_late, is_late}
+use Rattle.node_machine.specs.world.World.{end_c}
+use Rattle.node_machine.specs.world.NodeFilters.{is_notice, is_response, awaited_after, notice_in}
+use Rattle.node_laws.specs.steps.Waiting.{IsAllowedFor, IsAllowedStill}
+use Rattle.node_laws.proofs.links.Noticing.{at_host}
+use Rattle.node_laws.proofs.readings.Silent.{told_rest, rest_quiet}
+use Rattle.registry.proofs.ValueLemmas.{AllByRecursion-append}
+use Rattle.node_laws.specs.notices.Notices.{IsNoticeOf}
+use Rattle.node_laws.proofs.notices.Deciding.{IsRemoval}
+use Rattle.node_laws.proofs.notices.Far.{AreFar, quiet_far}
+use Rattle.node_laws.proofs.notices.Own.{IsFar}
+use Rattle.node_laws.proofs.notices.Stepping.{TellNoNotices}
+use Rattle.node_laws.proofs.notices.Telling.{MayTell}
+use Rattle.node_laws.specs.read_steps.Names.{IsNamed, AreNamed}
+
+-- ## What is read
+
+-- a message that is read names this host, where it is the notice of a creation
+abbrev pub NamesHost : ℕ → Option (List ℕ) → Type 0
+NamesHost x None = Unit {0}
+NamesHost x (Some m) = instruction_in m ≡ 18 → slice_index m 3 ≡ x
+
+one_named : (x : ℕ) (e : Entry) (r : Option (List ℕ)) → IsNamed e → NamesHost x r → NamesHost x (awaited_after is_notice (end_c x) 0 r e)
+one_named x (entry.Sent f n pid message) r named a = go (same_end f (end_c x) && eqb pid 1 && is_notice message) refl where
+  go : (b : Bool) → (same_end f (end_c x) && eqb pid 1 && is_notice message) ≡ b → NamesHost x (cond b (Some message) r)
+  go true e = named x e
+  go false e = a
+one_named x (entry.Turn f pid message) r named a = go (same_end f (end_c x) && eqb pid 1 && is_response message) where
+  go : (b : Bool) → NamesHost x (cond b None r)
+  go true = tt
+  go false = a
+one_named x (entry.Down f cause) r named a = go (same_end f (end_c x)) where
+  go : (b : Bool) → NamesHost x (cond b None r)
+  go true = tt
+  go false = a
+one_named x (entry.Cut n) r named a = go (eqb n 0) where
+  go : (b : Bool) → NamesHost x (cond b None r)
+  go true = tt
+  go false = a
+one_named x _ r named a = a
+
+all_named : (x : ℕ) (t : List Entry) (r : Option (List ℕ)) → AreNamed t → NamesHost x r → NamesHost x (fold (awaited_after is_notice (end_c x) 0) r t)
+all_named x [] r named a = a
+all_named x (e ∷ t) r named a = all_named x t (awaited_after is_notice (end_c x) 0 r e) named.1 (one_named x e r named.0 a)
+
+-- the notice to a host that isn't answered names it
+pub notice_names : (x : ℕ) (t : List Entry) → AreNamed t → NamesHost x (notice_in t x)
+notice_names x t named = all_named x t None named tt
+
+pub names_read : (t : List Entry) → AreNamed t → (h : ℕ) (message : List ℕ) → notice_in t h ≡ Some message → instruction_in message ≡ 18
+    → slice_index message 3 ≡ h
+names_read t named h message is made = let one : NamesHost h (Some message) = subst (NamesHost h) is (notice_names h t named) in one made
+
+-- ## Entries
+
+off_end : (a b c d : Bool) → b ≡ true → ((a && same_side b false) && c && d) ≡ true → ⊥
+off_end true true c d q z = true≢false (sym z)
+off_end true false c d q z = true≢false (sym q)
+off_end false b c d q z = true≢false (sym z)
+
+on_end : (a b c d : Bool) → ((a && b) && c && d) ≡ true → (a ≡ true) × ((c && d) ≡ true)
+on_end true true c d z = (refl, z)
+on_end true false c d z = absurd (true≢false (sym z))
+on_end false b c d z = absurd (true≢false (sym z))
+
+one_far : (e : Entry) → IsFar e → IsNamed e
+one_far (entry.Sent e n pid message) far = λ h is. absurd (off_end (eqb e.link h) e.at_host (eqb pid 1) (is_notice message) far is)
+one_far _ far = tt
+
+pub far_named : (es : List Entry) → AreFar es → AreNamed es
+far_named [] far = tt
+far_named (e ∷ es) far = (one_far e far.0, far_named es far.1)
+
+-- a message to a host names it, where it is the notice of a creation
+abbrev pub GoesSo : ℕ → Message → Type 0
+GoesSo k m = (eqb m.0 1 && is_notice m.1) ≡ true → instruction_in m.1 ≡ 18 → slice_index m.1 3 ≡ k
+
+sent_named : (k n : ℕ) (who : Side) (m : Message) (o : Option Refused) → GoesSo k m → AreNamed (entries_for k (sent_unless o who n m))
+sent_named k n who m (Some why) goes = tt
+sent_named k n Controller m None goes = (
+  (λ h is made.
+      let parts = on_end (eqb k h) true (eqb m.0 1) (is_notice m.1) is in
+      goes parts.1 made ∙ eqb-true k h parts.0),
+  tt,
+)
+sent_named k n Host m None goes = ((λ h is. absurd (off_end (eqb k h) true (eqb m.0 1) (is_notice m.1) refl is)), tt)
+
+abbrev GoesBy : ℕ → Turn → Type 0
+GoesBy k (Give m) = GoesSo k m
+GoesBy k _ = Unit {0}
+
+noted_named : (core : Core) (t : Turn) (p : Port) → GoesBy p.desk.host t → AreNamed (noted_of core t p)
+noted_named core (Give m) p goes = sent_named p.desk.host p.session (own_side core) m (give_refusal p.side m) goes
+noted_named core (Hold held) p goes = tt
+noted_named core FetchMessage p goes = tt
+noted_named core SetAside p goes = tt
+noted_named core Release p goes = tt
+
+turn_named : (k : ℕ) (t : Turn) (w : Work) → GoesBy k t → AreNamed w.entries → AreNamed (turn_at k t w).entries
+turn_named k t w goes a = AllByRecursion-append IsNamed w.entries (option_map_or (noted_of w.core t) (port_at w.ports k) []) a
+    (go (port_at w.ports k) refl) where
+      go : (o : Option Port) → port_at w.ports k ≡ o → AreNamed (option_map_or (noted_of w.core t) o [])
+      go None e = tt
+      go (Some p) e = noted_named w.core t p (subst (λ n. GoesBy n t) (sym (at_host w.ports k p e)) goes)
+
+note_named : (x : Entry) (w : Work) → IsNamed x → AreNamed w.entries → AreNamed (noting (x ∷ []) w).entries
+note_named x w is a = AllByRecursion-append IsNamed w.entries (x ∷ []) a (is, tt)
+
+-- ## Deeds
+
+abbrev pub NamesSo : Deed → Type 0
+NamesSo (Sends to m) = GoesSo to m
+NamesSo (Asks to message c) = GoesSo to (1, message)
+NamesSo (Tells to message) = GoesSo to (1, message)
+NamesSo (Orders message) = ⊥
+NamesSo (Ends x) = IsNamed x
+NamesSo _ = Unit {0}
+
+commit_named : (c : Command) (w : Work) → AreNamed w.entries → AreNamed (commit c w).entries
+commit_named c w a = go (fails_within (length (commit_writes w.core.journal w.core.tables (body_of c))) w.plan) refl where
+  noted : AreNamed (noting (entry.Command w.core.node c ∷ []) w).entries
+  noted = note_named (entry.Command w.core.node c) w tt a
+
+  go : (b : Bool) → fails_within (length (commit_writes w.core.journal w.core.tables (body_of c))) w.plan ≡ b → AreNamed (commit c w).entries
+  go true e = rw e (note_named (entry.Cut w.core.node) (noting (entry.Command w.core.node c ∷ []) w) tt noted)
+  go false e = rw e noted
+
+done_named : (k : ℕ) (d : Deed) (w : Work) → NamesSo d → AreNamed w.entries → AreNamed (done k d w).entries
+done_named k (Commits c) w names a = commit_named c w a
+done_named k (Sends to m) w names a = turn_named to (Give m) w names a
+done_named k SaysOk w names a = note_named _ w tt a
+done_named k (Asks to message c) w names a =
+    turn_named to (Give (1, message)) (noting (entry.Ask to message ∷ []) (turn_at c.asker SetAside w)) names
+    (note_named (entry.Ask to message) (turn_at c.asker SetAside w) tt (turn_named c.asker SetAside w tt a))
+done_named k (Releases asker) w names a = turn_named asker Release w tt a
+done_named k (Tells to message) w names a = turn_named to (Give (1, message)) w names a
+done_named k IsAnswered w names a = a
+done_named k (Drops pid) w names a = note_named (entry.Dropped (end_of_node w.core k) pid) w tt a
+done_named k (SetsErrors errors) w names a = a
+done_named k (Orders message) w names a = absurd names
+done_named k Hears w names a = a
+done_named k (GoesOn i) w names a = a
+done_named k (Ends x) w names a = note_named x (record w { core = record w.core { init = None } }) names a
+
+pub unless_named : (f : Work → Work) (w : Work) → (w.cut ≡ false → AreNamed (f w).entries) → AreNamed w.entries → AreNamed (unless_cut f w).entries
+unless_named f w one a = go w.cut refl where
+  on_is : w.cut ≡ false → unless_cut f w ≡ f w
+  on_is e = rw e refl
+
+  off_is : w.cut ≡ true → unless_cut f w ≡ w
+  off_is e = rw e refl
+
+  go : (b : Bool) → w.cut ≡ b → AreNamed (unless_cut f w).entries
+  go true e = subst (λ (v : Work). AreNamed v.entries) (sym (off_is e)) a
+  go false e = subst (λ (v : Work). AreNamed v.entries) (sym (on_is e)) (one e)
+
+pub all_done_named : (k : ℕ) (deeds : List Deed) (w : Work) → AllByRecursion NamesSo deeds → AreNamed w.entries → AreNamed (all_done k deeds w).entries
+all_done_named k [] w names a = a
+all_done_named k (d ∷ deeds) w names a =
+    let one : AreNamed (done k d w).entries = done_named k d w names.0 a in
+    unless_named (all_done k deeds) (done k d w) (λ on. all_done_named k deeds (done k d w) names.1 one) one
+
+-- ## Turns
+
+pub handles_named : (h : ℕ) (m : Message) (deeds : List Deed) (w : Work) → AllByRecursion NamesSo deeds → AreNamed w.entries
+    → AreNamed (handles h m deeds w).entries
+handles_named h m deeds w names a =
+    let noted : Work = noting (entry.Turn (end_of_node w.core h) m.0 m.1 ∷ []) w in
+    all_done_named h deeds (with_desk h (λ d. record d { holds = false }) (turn_at h FetchMessage noted)) names
+    (turn_named h FetchMessage noted tt (note_named (entry.Turn (end_of_node w.core h) m.0 m.1) w tt a))
+
+pub holds_named : (h : ℕ) (short : ℕ × ℕ) (w : Work) → AreNamed w.entries → AreNamed (holds_back h short w).entries
+holds_named h short w a = go (option_map_or (λ (p : Port). p.desk.holds) (port_at w.ports h) false) where
+  told : Work
+  told = noting (entry.Held (end_of_node w.core h) short.0 short.1 ∷ []) w
+
+  by : Bool → Work
+  by true = turn_at h (Hold true) w
+  by false = turn_at h (Hold true) (with_desk h (λ d. record d { holds = true }) told)
+
+  go : (b : Bool) → AreNamed (by b).entries
+  go true = turn_named h (Hold true) w tt a
+  go false = turn_named h (Hold true) (with_desk h (λ d. record d { holds = true }) told) tt
+      (note_named (entry.Held (end_of_node w.core h) short.0 short.1) w tt a)
+
+pub lets_named : (h : ℕ) (w : Work) → AreNamed w.entries → AreNamed (lets_go h w).entries
+lets_named h w a = go (option_map_or (λ (p : Port). is_held p.side) (port_at w.ports h) false) where
+  by : Bool → Work
+  by true = turn_at h (Hold false) w
+  by false = w
+
+  go : (b : Bool) → AreNamed (by b).entries
+  go true = turn_named h (Hold false) w tt a
+  go false = a
+
+-- ## What deeds name
+
+no_notice : (k : ℕ) (m : Message) → (eqb m.0 1 && is_notice m.1) ≡ false → GoesSo k m
+no_notice k m off on = absurd (true≢false (sym on ∙ off))
+
+removal : (k : ℕ) (message : List ℕ) → IsRemoval message → GoesSo k (1, message)
+removal k message r = go r.about where
+  other : (n : ℕ) → eqb n 18 ≡ false → instruction_in message ≡ n → instruction_in message ≡ 18 → slice_index message 3 ≡ k
+  other n off is made = absurd (true≢false (ap (λ j. eqb j 18) (sym made ∙ is) ∙ off))
+
+  go : (instruction_in message ≡ 19) ⊎ (instruction_in message ≡ 21) → GoesSo k (1, message)
+  go (inl is) on made = other 19 refl is made
+  go (inr is) on made = other 21 refl is made
+
+asked_names : (t : HciTables) (to : ℕ) (message : List ℕ) (c : Creation) → IsNoticeOf c message → IsAllowedFor t to c.command → GoesSo to (1, message)
+asked_names t to message c is allowed =
+    let for : IsAllowedFor t to (Create is.row) = subst (IsAllowedFor t to) is.command allowed in
+    λ on made. ap (λ (m : List ℕ). slice_index m 3) is.message_is ∙ for.0
+
+pub may_name : (x : ℕ) (F : List ℕ → Type 0) (t : HciTables) (ports : List Port) (deeds : List Deed) → MayTell x F deeds
+    → AllByRecursion (IsAllowedStill t ports) deeds → AllByRecursion NamesSo deeds
+may_name x F t ports [] may allowed = tt
+may_name x F t ports (Commits c ∷ deeds) may allowed = (tt, may_name x F t ports deeds may.1 allowed.1)
+may_name x F t ports (Sends to m ∷ deeds) may allowed =
+    (no_notice to m may.0, may_name x (λ n. (eqb to x ≡ false) × F n) t ports deeds may.1 allowed.1)
+may_name x F t ports (SaysOk ∷ deeds) may allowed = (tt, may_name x F t ports deeds may allowed.1)
+may_name x F t ports (Asks to message c ∷ deeds) may allowed =
+    (asked_names t to message c may.1.notice allowed.0, may_name x (λ n. ⊥) t ports deeds may.2 allowed.1)
+may_name x F t ports (Releases asker ∷ deeds) may allowed = (tt, may_name x (λ n. ⊥) t ports deeds may allowed.1)
+may_name x F t ports (Tells to message ∷ deeds) may allowed =
+    (removal to message may.1, may_name x (λ n. (eqb to x ≡ false) × F n) t ports deeds may.2 allowed.1)
+may_name x F t ports (IsAnswered ∷ deeds) may allowed = absurd may
+may_name x F t ports (Drops pid ∷ deeds) may allowed = (tt, may_name x F t ports deeds may allowed.1)
+may_name x F t ports (SetsErrors errors ∷ deeds) may allowed = (tt, may_name x F t ports deeds may allowed.1)
+may_name x F t ports (Orders order ∷ deeds) may allowed = absurd may
+may_name x F t ports (Hears ∷ deeds) may allowed = absurd may
+may_name x F t ports (GoesOn i ∷ deeds) may allowed = absurd may
+may_name x F t ports (Ends e ∷ deeds) may allowed = absurd may
+
+pub no_notices_name : (deeds : List Deed) → TellNoNotices deeds → AllByRecursion NamesSo deeds
+no_notices_name [] a = tt
+no_notices_name (Commits c ∷ deeds) a = (tt, no_notices_name deeds a.1)
+no_notices_name (Sends to m ∷ deeds) a = (no_notice to m a.0, no_notices_name deeds a.1)
+no_notices_name (Releases asker ∷ deeds) a = (tt, no_notices_name deeds a.1)
+no_notices_name (SaysOk ∷ deeds) a = absurd a.0
+no_notices_name (Asks to message c ∷ deeds) a = absurd a.0
+no_notices_name (Tells to message ∷ deeds) a = absurd a.0
+no_notices_name (IsAnswered ∷ deeds) a = absurd a.0
+no_notices_name (Drops pid ∷ deeds) a = absurd a.0
+no_notices_name (SetsErrors errors ∷ deeds) a = absurd a.0
+no_notices_name (Orders order ∷ deeds) a = absurd a.0
+no_notices_name (Hears ∷ deeds) a = absurd a.0
+no_notices_name (GoesOn i ∷ deeds) a = absurd a.0
+no_notices_name (Ends e ∷ deeds) a = absurd a.0
+
+-- ## What comes
+
+pub told_named : (core : Core) (p : Port) (o : Option LinkInput) → AreNamed (told_at core p o)
+told_named core p None = tt
+told_named core p (Some i) = go (ended_by p.side i) where
+  rest : List Noted
+  rest = told_rest (own_side core) p.session (whole_acked (after_input p.side i)) (report p.side i)
+
+  later : AreNamed (entries_for p.desk.host rest)
+  later = far_named (entries_for p.desk.host rest)
+      (quiet_far p.desk.host rest (rest_quiet (own_side core) p.session (whole_acked (after_input p.side i)) (report p.side i)))
+
+  go : (o : Option Cause) → AreNamed (entries_for p.desk.host (map (Down (own_side core)) (option_to_list o) ++ rest))
+  go None = later
+  go (Some cause) = (tt, later)
+
+pub late_named : (core : Core) (p : Port) → AreNamed (told_late core p)
+late_named core p = go (is_late p) where
+  go : (b : Bool) → AreNamed (cond b (told_at core p (Some (Reset None))) [])
+  go true = told_named core p (Some (Reset None))
+  go false = tt

@@ -1,0 +1,97 @@
+-- What a controller keeps is what is read, and its notices name hosts: as a pass begins, and over each turn.
+use Rattle.std.proofs.Common.{◌≡◌, ℕ, false, List, [], ◌∷◌, ◌++◌, sym, subst}
+use Rattle.std.specs.Prelude.{Some, None}
+use Rattle.std.specs.List.{AllByRecursion}
+use Rattle.std.specs.Option.{option_map_or}
+use Rattle.trace_model.specs.Lines.{IsHost}
+use Rattle.trace_model.specs.declared.entry.Entry.{Entry}
+use Rattle.trace_model.specs.declared.line.Header.{Header}
+use Rattle.trace_model.specs.declared.line.Line.{Line}
+use Rattle.link_laws.specs.machine.Machine.{LinkInput, Message}
+use Rattle.link_laws.specs.messages.Links.{Comes}
+use Rattle.node_machine.specs.Parts.{Port, Running, Work}
+use Rattle.node_machine.specs.Carrying.{lack, needs, port_at}
+use Rattle.node_machine.specs.Turns.{deeds_of, handles, holds_back, lets_go}
+use Rattle.node_machine.specs.Node.NodeInput.{AtEnd, TimePasses}
+use Rattle.node_machine.specs.world.World.{NodeWorld, all_aged, input_of, link_to, new_world}
+use Rattle.node_machine.specs.world.Lines.{Occurrence}
+use Rattle.node_machine.specs.world.NodeHistories.{NodeHistory, FollowsNodes, entries_in, node_entries, occurrences_in}
+use Rattle.node_laws.specs.kept.Hosts.{AreHosts, IsFew, IsSentByHost}
+use Rattle.node_laws.specs.telling.Telling.{world_behind}
+use Rattle.registry.proofs.ValueLemmas.{AllByRecursion-append}
+use Rattle.node_laws.proofs.notices.Near.{aged_far}
+use Rattle.node_laws.specs.read_steps.Names.{IsNamed, AreNamed}
+use Rattle.node_laws.specs.read_steps.Works.{ReadsInStep}
+use Rattle.node_laws.specs.read_steps.Worlds.{ReadsBetween, as_it_ticks}
+use Rattle.node_laws.proofs.read_steps.Lasting.{found_end, got_end}
+use Rattle.node_laws.proofs.read_steps.Running.{runs_handled, runs_holds, runs_lets}
+use Rattle.node_laws.proofs.read_steps.Naming.{far_named, handles_named, holds_named, lets_named}
+use Rattle.node_laws.proofs.read_steps.Walking.{deeds_name}
+use Rattle.node_laws.proofs.read_steps.Starting.{comes_begins, comes_pass_named, tick_begins, tick_pass_named}
+use Rattle.node_laws.proofs.read_steps.Events.{history_named}
+use Rattle.node_laws.proofs.read_steps.Lines.{history_keeps_between}
+use Rattle.node_laws.specs.passes.Steps.{comes_to_pass, controller_begins}
+
+pub history_reads : (header : Header) (lines : List Line) (t : NodeHistory) → FollowsNodes header lines t → AreHosts header.hosts.items
+    → AllByRecursion IsSentByHost lines → IsFew (node_entries t) → (front back : List Occurrence) → occurrences_in t ≡ front ++ back
+    → ReadsBetween header.hosts.items (entries_in front) (world_behind (new_world header.hosts.items) front)
+history_reads header lines t follows are sent few front back parts = record {
+  keeps = history_keeps_between header lines t follows are sent few front back parts;
+  named = history_named header lines t follows are sent few front back parts;
+}
+
+-- those of the step are, where all until there are
+split_named : (xs ys : List Entry) → AreNamed (xs ++ ys) → AreNamed xs × AreNamed ys
+split_named [] ys a = (tt, a)
+split_named (x ∷ xs) ys a = let rest = split_named xs ys a.1 in ((a.0, rest.0), rest.1)
+
+join : (xs ys : List Entry) → AreNamed xs → AreNamed ys → AreNamed (xs ++ ys)
+join xs ys a b = AllByRecursion-append IsNamed xs ys a b
+
+module _ (hosts : List ℕ) (are : AreHosts hosts) (t : List Entry) where
+  module _ (w : NodeWorld) (k : ReadsBetween hosts t w) (r : Running) (runs : w.controller ≡ Some r) where
+    pub comes_reads : (h : ℕ) (comes : Comes) (i : LinkInput) → input_of (link_to w.sites h) comes ≡ Some i
+        → (comes_to_pass (AtEnd h i) (controller_begins w r h comes)).cut ≡ false
+        → ReadsInStep hosts t (comes_to_pass (AtEnd h i) (controller_begins w r h comes))
+    comes_reads h comes i input on = record {
+      runs = comes_begins hosts are t w k.keeps r runs h comes i input on;
+      named = join t (comes_to_pass (AtEnd h i) (controller_begins w r h comes)).entries k.named
+          (comes_pass_named hosts are t w k.keeps r runs h comes i input);
+    }
+
+    pub tick_reads : (comes_to_pass TimePasses (as_it_ticks w r)).cut ≡ false
+        → ReadsInStep hosts (t ++ (all_aged w).1) (comes_to_pass TimePasses (as_it_ticks w r))
+    tick_reads on = record {
+      runs = tick_begins hosts are t w k.keeps r runs on;
+      named = join (t ++ (all_aged w).1) (comes_to_pass TimePasses (as_it_ticks w r)).entries
+          (join t (all_aged w).1 k.named (far_named (all_aged w).1 (aged_far t w k.keeps.creations.notices.orderly k.keeps.creations.notices.up
+          (record { sites = k.keeps.creations.notices.sites; reads_so = k.keeps.creations.notices.controller }))))
+          (tick_pass_named hosts are t w k.keeps r runs);
+    }
+
+  abbrev J : Work → Type 0
+  J w = ReadsInStep hosts t w
+
+  pub handles_reads : (h : ℕ) (m : Message) (rest : List Message) (w : Work) → J w
+      → option_map_or (λ (p : Port). p.side.got) (port_at w.ports h) [] ≡ m ∷ rest
+      → lack w.ports (needs h (deeds_of w.core w.ports h m)) ≡ None → (handles h m (deeds_of w.core w.ports h m) w).cut ≡ false
+      → J (handles h m (deeds_of w.core w.ports h m) w)
+  handles_reads h m rest w a got room on =
+      let found = got_end (port_at w.ports h) m rest got in
+      let host : IsHost h = found_end IsHost w.ports h found.0 found.1 (subst (AllByRecursion IsHost) (sym a.runs.keeps.hosts_are) are.all) in
+      let parts = split_named t w.entries a.named in
+      record {
+        runs = runs_handled hosts are t h m found.0 w a.runs found.1 room on;
+        named = join t (handles h m (deeds_of w.core w.ports h m) w).entries parts.0
+            (handles_named h m (deeds_of w.core w.ports h m) w (deeds_name hosts are t h m w a.runs host) parts.1);
+      }
+
+  pub holds_reads : (h : ℕ) (short : ℕ × ℕ) (w : Work) → J w → J (holds_back h short w)
+  holds_reads h short w a =
+      let parts = split_named t w.entries a.named in
+      record { runs = runs_holds hosts are t h short w a.runs; named = join t (holds_back h short w).entries parts.0 (holds_named h short w parts.1) }
+
+  pub lets_reads : (h : ℕ) (w : Work) → J w → J (lets_go h w)
+  lets_reads h w a =
+      let parts = split_named t w.entries a.named in
+      record { runs = runs_lets hosts are t h w a.runs; named = join t (lets_go h w).entries parts.0 (lets_named h w parts.1) }

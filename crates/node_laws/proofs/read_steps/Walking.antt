@@ -1,0 +1,162 @@
+-- A controller has its turns: each notice of a creation that it sends names the host that it goes to.
+use Rattle.std.proofs.Common.{◌≡◌, inl, ℕ, ◌||◌, Bool, true, false, eqb, List, [], ◌∷◌, map, sym, refl, ap, ◌∙◌, subst}
+use Rattle.std.specs.Prelude.{Option, Some, None, is_some}
+use Rattle.std.specs.List.{AllByRecursion, flat_map}
+use Rattle.std.specs.Option.{option_map_or}
+use Rattle.std.proofs.lemmas.Bool.{eq-eqb, true≢false}
+use Rattle.trace_model.specs.Lines.{IsHost}
+use Rattle.trace_model.specs.declared.entry.Entry.{Entry}
+use Rattle.link_laws.specs.machine.Machine.{Message}
+use Rattle.node_machine.specs.Parts.{Creation, Port, Work, Deed}
+use Rattle.node_machine.specs.Parts.Deed.{IsAnswered, Releases}
+use Rattle.node_machine.specs.Carrying.{unless_cut, port_at, all_done, needs, lack}
+use Rattle.node_machine.specs.Controller.{controller_deeds}
+use Rattle.node_machine.specs.Turns.{deeds_of, handles, holds_back, have_turns, goes_through_ends, passes}
+use Rattle.node_machine.specs.Node.{NodeInput, input_at, told_at, all_come, with_older, told_late, times_out, forgotten, all_owed, synced}
+use Rattle.node_machine.specs.Node.NodeInput.{AtEnd, TimePasses}
+use Rattle.node_laws.specs.steps.Waiting.{IsAllowedStill}
+use Rattle.node_laws.specs.kept.Books.{hosts_of_ends}
+use Rattle.node_laws.specs.kept.Hosts.{AreHosts}
+use Rattle.node_laws.proofs.kept.Turning.{deeds_fit}
+use Rattle.node_laws.specs.notices.Notices.{IsKeptNotice}
+use Rattle.node_laws.proofs.notices.Doing.{Holds}
+use Rattle.node_laws.proofs.notices.Stepping.{TellNoNotices}
+use Rattle.node_laws.proofs.notices.Telling.{IsShort, Outcome, controller_outcome}
+use Rattle.node_laws.proofs.notices.Telling.Outcome.{Leaves, IsHeard}
+use Rattle.registry.proofs.ValueLemmas.{AllByRecursion-append}
+use Rattle.node_laws.specs.cuts.Histories.{is_one_of}
+use Rattle.node_laws.proofs.readings.Noting.{all_flat}
+use Rattle.node_laws.specs.read_steps.Names.{IsNamed, AreNamed}
+use Rattle.node_laws.specs.read_steps.Works.{RunsInStep}
+use Rattle.node_laws.proofs.read_steps.Parts.{to_notices}
+use Rattle.node_laws.proofs.read_steps.Lasting.{near_deeds}
+use Rattle.node_laws.proofs.read_steps.Running.{runs_handled, runs_holds, runs_lets}
+use Rattle.node_laws.proofs.read_steps.Readying.{begun_by, left_by}
+use Rattle.node_laws.proofs.read_steps.Knowing.{there_is}
+use Rattle.node_laws.proofs.read_steps.Naming.{NamesSo, all_done_named, no_notices_name, handles_named, holds_named, late_named, lets_named, may_name}
+use Rattle.node_laws.proofs.read_steps.Naming.{told_named}
+use Rattle.node_laws.proofs.read_steps.Naming.{unless_named}
+use Rattle.node_laws.specs.passes.Steps.{comes_to_pass}
+
+-- ## As the pass begins
+
+releases_name : (cs : List Creation) → AllByRecursion NamesSo (map (λ (c : Creation). Releases c.asker) cs)
+releases_name [] = tt
+releases_name (c ∷ cs) = (tt, releases_name cs)
+
+come_named : (input : NodeInput) (w : Work) → AreNamed w.entries → AreNamed (all_come input w).entries
+come_named input w a =
+    AllByRecursion-append IsNamed w.entries (flat_map (λ p. told_at w.core p (input_at input p)) w.ports) a
+    (all_flat IsNamed (λ p. told_at w.core p (input_at input p)) (λ p. told_named w.core p (input_at input p)) w.ports)
+
+timed_named : (input : NodeInput) (w : Work) → AreNamed w.entries → AreNamed (times_out input w).entries
+timed_named (AtEnd h i) w a = a
+timed_named TimePasses w a =
+    AllByRecursion-append IsNamed w.entries (flat_map (told_late w.core) (map with_older w.ports)) a
+    (all_flat IsNamed (told_late w.core) (late_named w.core) (map with_older w.ports))
+
+pub ready_named : (input : NodeInput) (w : Work) → TellNoNotices (flat_map (synced w.core input) w.ports)
+    → ((ports : List Port) → TellNoNotices (all_owed ports))
+    → AreNamed w.entries → AreNamed (comes_to_pass input w).entries
+ready_named input w syncs owing a =
+    let came : Work = times_out input (all_come input w) in
+    let begun : AreNamed (begun_by input w).entries = timed_named input (all_come input w) (come_named input w a) in
+    let u : Work = all_done 0 (forgotten came.ports) (begun_by input w) in
+    let freed : AreNamed u.entries = all_done_named 0 (forgotten came.ports) (begun_by input w) (releases_name _) begun in
+    let v : Work = all_done 0 (flat_map (synced w.core input) w.ports) u in
+    let kept : AreNamed v.entries =
+    all_done_named 0 (flat_map (synced w.core input) w.ports) u (no_notices_name (flat_map (synced w.core input) w.ports) syncs) freed in
+    unless_named (all_done 0 (all_owed (left_by input w))) v
+    (λ on. all_done_named 0 (all_owed (left_by input w)) v (no_notices_name (all_owed (left_by input w)) (owing (left_by input w))) kept) kept
+
+-- ## The pass
+
+some_of : (o : Option Port) → is_some o ≡ true → (p : Port) × (o ≡ Some p)
+some_of None e = absurd (true≢false (sym e))
+some_of (Some p) e = (p, refl)
+
+-- each of these is one of them
+each_one : (hosts : List ℕ) → AllByRecursion (λ h. is_one_of hosts h ≡ true) hosts
+each_one [] = tt
+each_one (k ∷ hosts) = (ap (λ b. b || is_one_of hosts k) (eq-eqb k k refl), more hosts (each_one hosts)) where
+  either : (b c : Bool) → c ≡ true → (b || c) ≡ true
+  either true c e = refl
+  either false c e = e
+
+  more : (hs : List ℕ) → AllByRecursion (λ h. is_one_of hosts h ≡ true) hs → AllByRecursion (λ h. is_one_of (k ∷ hosts) h ≡ true) hs
+  more [] all = tt
+  more (h ∷ hs) all = (either (eqb k h) (is_one_of hosts h) all.0, more hs all.1)
+
+module _ (hosts : List ℕ) (are : AreHosts hosts) (t : List Entry) where
+  pub deeds_name : (h : ℕ) (m : Message) (w : Work) → RunsInStep hosts t w → IsHost h → AllByRecursion NamesSo (deeds_of w.core w.ports h m)
+  deeds_name h m w a host = subst (AllByRecursion NamesSo) (sym same)
+      (go (controller_outcome 0 h w.core w.ports n.sorted n.two host.0 host.1 n.right n.up m)) where
+        n : Holds 0 t IsKeptNotice w
+        n = to_notices hosts t w a.keeps are.all 0
+
+        same : deeds_of w.core w.ports h m ≡ controller_deeds w.core w.ports h m
+        same = near_deeds hosts are t h m w a.keeps
+
+        allowed : AllByRecursion (IsAllowedStill w.core.tables w.ports) (controller_deeds w.core w.ports h m)
+        allowed = subst (AllByRecursion (IsAllowedStill w.core.tables w.ports)) same (deeds_fit 0 hosts a.memory t (inl refl) w h m a.kept refl)
+
+        go : Outcome 0 h w.ports m (controller_deeds w.core w.ports h m) → AllByRecursion NamesSo (controller_deeds w.core w.ports h m)
+        go (Leaves none may) = may_name 0 IsShort w.core.tables w.ports (controller_deeds w.core w.ports h m) may allowed
+        go (IsHeard rest e is may) =
+            let fit : AllByRecursion (IsAllowedStill w.core.tables w.ports) (IsAnswered ∷ rest) =
+            subst (AllByRecursion (IsAllowedStill w.core.tables w.ports)) e allowed in
+            subst (AllByRecursion NamesSo) (sym e) (tt, may_name 0 IsShort w.core.tables w.ports rest may fit.1)
+
+  -- it keeps what is read while it has power, and its notices name hosts
+  pub record Walked (w : Work) : Type 0 where
+    pub keeps : w.cut ≡ false → RunsInStep hosts t w
+    pub named : AreNamed w.entries
+
+  unless_walked : (f : Work → Work) (w : Work) → Walked w → (RunsInStep hosts t w → AreNamed w.entries → Walked (f w)) → Walked (unless_cut f w)
+  unless_walked f w a next = go w.cut refl where
+    on_is : w.cut ≡ false → unless_cut f w ≡ f w
+    on_is e = rw e refl
+
+    off_is : w.cut ≡ true → unless_cut f w ≡ w
+    off_is e = rw e refl
+
+    go : (b : Bool) → w.cut ≡ b → Walked (unless_cut f w)
+    go true e = subst Walked (sym (off_is e)) a
+    go false e = subst Walked (sym (on_is e)) (next (a.keeps e) a.named)
+
+  turns_walked : (h : ℕ) → IsHost h → is_one_of hosts h ≡ true → (messages : List Message) (w : Work) → RunsInStep hosts t w → AreNamed w.entries
+      → Walked (have_turns h messages w)
+  turns_walked h host one [] w a named = record { keeps = λ on. runs_lets hosts are t h w a; named = lets_named h w named }
+  turns_walked h host one (m ∷ messages) w a named =
+      go (lack w.ports (needs h deeds)) refl (λ v b n. turns_walked h host one messages v b n) where
+        deeds : List Deed
+        deeds = deeds_of w.core w.ports h m
+
+        by : Option (ℕ × ℕ) → Work
+        by None = unless_cut (have_turns h messages) (handles h m deeds w)
+        by (Some short) = holds_back h short w
+
+        end : (p : Port) × (port_at w.ports h ≡ Some p)
+        end = some_of (port_at w.ports h) (there_is hosts are t w a.keeps h ∙ one)
+
+        go : (o : Option (ℕ × ℕ)) → lack w.ports (needs h deeds) ≡ o
+            → ((v : Work) → RunsInStep hosts t v → AreNamed v.entries → Walked (have_turns h messages v)) → Walked (by o)
+        go None e later =
+            unless_walked (have_turns h messages) (handles h m deeds w) (record {
+              keeps = λ on. runs_handled hosts are t h m end.0 w a end.1 e on;
+              named = handles_named h m deeds w (deeds_name h m w a host) named;
+            }) (λ b n. later (handles h m deeds w) b n)
+        go (Some short) e later = record { keeps = λ on. runs_holds hosts are t h short w a; named = holds_named h short w named }
+
+  ends_walked : (hs : List ℕ) → AllByRecursion IsHost hs → AllByRecursion (λ h. is_one_of hosts h ≡ true) hs → (w : Work) → RunsInStep hosts t w
+      → AreNamed w.entries → Walked (goes_through_ends hs w)
+  ends_walked [] all ones w a named = record { keeps = λ on. a; named = named }
+  ends_walked (h ∷ hs) all ones w a named =
+      let messages : List Message = option_map_or (λ (p : Port). p.side.got) (port_at w.ports h) [] in
+      unless_walked (goes_through_ends hs) (have_turns h messages w) (turns_walked h all.0 ones.0 messages w a named)
+      (λ b n. ends_walked hs all.1 ones.1 (have_turns h messages w) b n)
+
+  pub passes_walked : (w : Work) → RunsInStep hosts t w → AreNamed w.entries → Walked (passes w)
+  passes_walked w a named =
+      ends_walked (hosts_of_ends w.ports) (subst (AllByRecursion IsHost) (sym a.keeps.hosts_are) are.all)
+      (subst (AllByRecursion (λ h. is_one_of hosts h ≡ true)) (sym a.keeps.hosts_are) (each_one hosts)) w a named

@@ -1,0 +1,18 @@
+-- What other nodes do tells nothing of the unanswered command of a host.
+use Rattle.std.proofs.Common.{ℕ, List, refl}
+use Rattle.std.specs.List.{AllByRecursion}
+use Rattle.link_laws.specs.machine.Machine.{Message}
+use Rattle.node_machine.specs.Parts.{Core, Port, Deed}
+use Rattle.node_machine.specs.Turns.{deeds_of}
+use Rattle.node_laws.specs.readings.Orders.{IsSilent}
+use Rattle.node_laws.proofs.readings.Noting.{NotesSo, controller_notes, host_notes}
+use Rattle.node_laws.proofs.steps.Walks.{deeds_hold}
+
+-- what deeds end in tells nothing of it
+abbrev pub AreHushed : ℕ → List Deed → Type 0
+AreHushed k deeds = AllByRecursion (NotesSo (IsSilent k)) deeds
+
+pub deeds_hushed : (k : ℕ) (core : Core) (ports : List Port) (h : ℕ) (m : Message) → AreHushed k (deeds_of core ports h m)
+deeds_hushed k core ports h m =
+    deeds_hold (AreHushed k) core ports h m (controller_notes (IsSilent k) core ports h m) tt
+    (λ p. host_notes (IsSilent k) core (λ waits. refl) (λ count waits. refl) (λ code waits. refl) p m)

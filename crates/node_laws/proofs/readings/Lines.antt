@@ -1,0 +1,120 @@
+-- What is read of all hosts over the lines of a schedule.
+use Rattle.std.proofs.Common.{◌≡◌, ℕ, Bool, true, false, eqb, ◌&&◌, List, [], ◌∷◌, ◌++◌, sym, refl, ap, ◌∙◌, subst}
+use Rattle.std.specs.Prelude.{Option, Some, None, unwrap_or, IsTrue}
+use Rattle.std.specs.List.{AllByRecursion}
+use Rattle.trace_model.specs.declared.entry.Entry.{Entry}
+use Rattle.trace_model.specs.declared.entry.NoCause.{NoCause}
+use Rattle.trace_model.specs.declared.line.End.{End}
+use Rattle.trace_model.specs.declared.line.Header.{Header}
+use Rattle.trace_model.specs.declared.line.Line.{Line}
+use Rattle.trace_model.specs.declared.line.Line.TheVariants as line
+use Rattle.history.specs.Follows.{first_verdict, taken_of}
+use Rattle.link_laws.specs.machine.Machine.{Message, Refused, give_refusal}
+use Rattle.link_laws.specs.machine.Machine.Refused.{NotUp}
+use Rattle.link_laws.specs.messages.Links.Comes.{NextFrame, AsksReset}
+use Rattle.node_machine.specs.Controller.{is_command_message}
+use Rattle.node_machine.specs.world.World.{NodeWorld, Happening, node_at, node_of, link_to, memory_at, new_world, world_step}
+use Rattle.node_machine.specs.world.World.Happening.{Boots, IsCut, Gives, Inits, Takes, Loses, Ticks, Resets, Activates, Arms}
+use Rattle.node_machine.specs.world.Lines.{first_cause, if_off, machine_in, frames_at, has_order, if_waiting, if_not_sent, refusal_in, happenings}
+use Rattle.node_machine.specs.world.Lines.{Occurrence}
+use Rattle.node_machine.specs.world.NodeHistories.{FollowsNodes, NodeHistory, entries_in, node_entries, occurrences_in, steps_from, world_after}
+use Rattle.node_laws.specs.telling.Telling.{world_behind}
+use Rattle.node_laws.specs.kept.Hosts.{AreHosts, IsSentByHost}
+use Rattle.node_laws.proofs.telling.Lasting.{AllHold, AllMay, damaged_may, entries_of_steps, events_of_steps, front_holds, lines_hold, lines_last}
+use Rattle.node_laws.proofs.telling.Lasting.{repeated_may, stands_none}
+use Rattle.node_laws.specs.readings.Worlds.{AllRead, MayBeRead, IsInitOfHost}
+use Rattle.node_laws.proofs.readings.Worlds.{comes_read, activates_read}
+use Rattle.node_laws.proofs.readings.Events.{all_begin, gives_read, inits_read, ticks_read_all}
+use Rattle.node_laws.proofs.readings.Powers.{cut_read, boots_read, memory_read}
+use Rattle.node_laws.proofs.readings.Losses.{lost_read}
+
+-- ## What a line that isn't refused says
+
+-- the second of two causes doesn't apply where none does
+second_none : (a b : Option NoCause) → first_cause a b ≡ None → b ≡ None
+second_none None b e = e
+second_none (Some c) b e = absurd (cc e)
+
+taken_none : (waits : Bool) (why : Option Refused) → if_waiting waits why ≡ None → why ≡ None
+taken_none false None e = refl
+taken_none false (Some NotUp) e = absurd (cc e)
+taken_none false (Some why) e = absurd (cc e)
+taken_none true (Some NotUp) e = absurd (cc e)
+taken_none true _ e = absurd (cc e)
+
+-- the machine of a host's end
+host_end : (w : NodeWorld) (e : End) → IsTrue e.at_host → machine_in w e ≡ (link_to w.sites e.link).host.side
+host_end w e side = rw side refl
+
+pub is_taken : (w : NodeWorld) (e : End) (m : Message) → IsTrue e.at_host → first_cause (if_off w (node_of e)) (if_not_sent w e m) ≡ None
+    → give_refusal (link_to w.sites e.link).host.side m ≡ None
+is_taken w e m side none =
+    ap (λ k. give_refusal k m) (sym (host_end w e side))
+    ∙ taken_none (eqb m.0 1 && is_command_message m.1 && has_order (node_at w (node_of e))) (give_refusal (machine_in w e) m)
+    (second_none (if_off w (node_of e)) (if_not_sent w e m) none)
+
+line_may : (w : NodeWorld) (l : Line) → IsSentByHost l → IsInitOfHost l → refusal_in w l ≡ None → AllMay MayBeRead w (happenings w l)
+line_may w (line.Send e pid message) side init none = (is_taken w e (pid, message) side none, tt)
+line_may w (line.Deliver e count) side init none = repeated_may MayBeRead (Takes e) (λ v. tt) (taken_of count (frames_at w e)) w
+line_may w (line.Lose e) side init none = (tt, tt)
+line_may w (line.Damage e places) side init none = damaged_may MayBeRead w e tt (λ why. tt) (first_verdict (frames_at w e) places.items)
+line_may w (line.Tick times) side init none = repeated_may MayBeRead Ticks (λ v. tt) (unwrap_or times 1) w
+line_may w (line.Reset e window) side init none = (tt, tt)
+line_may w (line.Busy e) side init none = tt
+line_may w (line.Ready e) side init none = tt
+line_may w (line.Boot n) side init none = (stands_none (node_at w n) none, tt)
+line_may w (line.Cut n) side init none = (tt, tt)
+line_may w (line.Activate host sync power) side init none = (tt, tt)
+line_may w (line.Arm n nth fill) side init none = (tt, tt)
+line_may w (line.Init e identity pipes) side init none = ((is_taken w e (1, 3 ∷ []) init.0 none, init.1), tt)
+line_may w (line.Tables n) side init none = tt
+line_may w (line.Settle n) side init none = tt
+
+module _ (hosts : List ℕ) (are : AreHosts hosts) where
+  -- ## Events
+
+  pub event_read : (t : List Entry) (w : NodeWorld) (c : Happening) → AllRead hosts t w → MayBeRead w c
+      → AllRead hosts (t ++ (world_step w c).1) (world_step w c).0
+  event_read t w (Boots n) all may = boots_read hosts are t w n all may
+  event_read t w (IsCut n) all may = cut_read hosts are t w n all
+  event_read t w (Gives e m) all may = gives_read hosts are t w e.link m all may
+  event_read t w (Inits e identity pipes) all may = inits_read hosts are t w e.link identity pipes all may.0 may.1
+  event_read t w (Takes e) all may = comes_read hosts are t w e NextFrame all
+  event_read t w (Loses e why) all may = lost_read hosts t w all e why
+  event_read t w Ticks all may = ticks_read_all hosts are t w all
+  event_read t w (Resets e window) all may = comes_read hosts are t w e (AsksReset window) all
+  event_read t w (Activates h sync power) all may = activates_read hosts are t w h sync power all
+  event_read t w (Arms n plan) all may = memory_read hosts are t w n (record (memory_at w n) { plan = Some plan }) all
+
+-- ## Schedules
+
+-- a line sends as hosts do, and begins an init as it may
+abbrev IsPlain : Line → Type 0
+IsPlain l = IsSentByHost l × IsInitOfHost l
+
+both : (lines : List Line) → AllByRecursion IsSentByHost lines → AllByRecursion IsInitOfHost lines → AllByRecursion IsPlain lines
+both [] sides inits = tt
+both (l ∷ lines) sides inits = ((sides.0, inits.0), both lines sides.1 inits.1)
+
+pub schedule_read : (header : Header) (lines : List Line) (t : NodeHistory) → FollowsNodes header lines t → AreHosts header.hosts.items
+    → AllByRecursion IsSentByHost lines → AllByRecursion IsInitOfHost lines
+    → AllRead header.hosts.items (node_entries t) (world_after (new_world header.hosts.items) lines)
+schedule_read header lines t follows are sides inits =
+    let hosts : List ℕ = header.hosts.items in
+    subst (λ l. AllRead hosts l (world_after (new_world hosts) lines)) (ap entries_of_steps (sym follows.steps_are))
+    (lines_last (AllRead hosts) MayBeRead IsPlain (event_read hosts are) (λ w l is none. line_may w l is.0 is.1 none) lines [] (new_world hosts)
+    (all_begin hosts) (both lines sides inits))
+
+-- so it is behind any first events
+pub events_read : (header : Header) (lines : List Line) (t : NodeHistory) → FollowsNodes header lines t → AreHosts header.hosts.items
+    → AllByRecursion IsSentByHost lines → AllByRecursion IsInitOfHost lines → (front back : List Occurrence) → occurrences_in t ≡ front ++ back
+    → AllRead header.hosts.items (entries_in front) (world_behind (new_world header.hosts.items) front)
+events_read header lines t follows are sides inits front back parts =
+    let hosts : List ℕ = header.hosts.items in
+    let may : (w : NodeWorld) (l : Line) → IsPlain l → refusal_in w l ≡ None → AllMay MayBeRead w (happenings w l) =
+    λ w l is none. line_may w l is.0 is.1 none in
+    let all : AllHold (AllRead hosts) MayBeRead IsPlain (event_read hosts are) may [] (new_world hosts) (events_of_steps (steps_from (new_world hosts) lines)) =
+    lines_hold (AllRead hosts) MayBeRead IsPlain (event_read hosts are) may lines [] (new_world hosts) (all_begin hosts) (both lines sides inits) in
+    let same : events_of_steps (steps_from (new_world hosts) lines) ≡ front ++ back = sym (ap events_of_steps follows.steps_are) ∙ parts in
+    front_holds (AllRead hosts) MayBeRead IsPlain (event_read hosts are) may front back [] (new_world hosts)
+    (subst (AllHold (AllRead hosts) MayBeRead IsPlain (event_read hosts are) may [] (new_world hosts)) same all)

@@ -1,0 +1,140 @@
+-- What is read of all hosts as a frame is lost on its way.
+use Rattle.std.proofs.Common.{◌≡◌, ◌+◌, ℕ, Bool, true, false, eqb, List, [], ◌∷◌, ◌++◌, map, sym, refl, ap, ◌∙◌, subst}
+use Rattle.std.specs.Prelude.{Option, Some, None}
+use Rattle.std.specs.List.{AllByRecursion}
+use Rattle.trace_model.specs.declared.entry.Entry.{Entry}
+use Rattle.trace_model.specs.declared.line.End.{End}
+use Rattle.link_laws.specs.messages.Links.{Link, Loss, happens}
+use Rattle.link_laws.specs.messages.Links.Loss.{OnDemand, Broken, Unread, TooOld, TooMany}
+use Rattle.link_laws.specs.messages.Links.EndEvent.{Lose}
+use Rattle.link_laws.specs.messages.Links.LinkEvent.{AtController, AtHost}
+use Rattle.link_laws.specs.entries.Entries.{first_lost}
+use Rattle.link_laws.specs.entries.Entries.End.{Controller, Host}
+use Rattle.history.specs.Steps.{entries_for}
+use Rattle.node_machine.specs.Parts.{Desk, Running}
+use Rattle.node_machine.specs.Carrying.{changed_if}
+use Rattle.node_machine.specs.world.World.{NodeWorld, Site, with_site, link_to, counts, frame_lost}
+use Rattle.node_laws.proofs.kept.Sites.{hosts_with}
+use Rattle.node_laws.specs.readings.Worlds.{IfHostRuns, SiteReads, IfZero, AllRead}
+use Rattle.node_laws.specs.readings.Orders.{order_of}
+use Rattle.node_laws.proofs.readings.Sites.{lost_quiet, others_read}
+use Rattle.node_laws.proofs.readings.Elsewhere.{AreSilent, quiet_silent}
+
+zero_counts : (why : Loss) (h : ℕ) (o : Option Running) → IfZero o → IfZero (counts why h o)
+zero_counts (Broken fault) h None z = tt
+zero_counts (Broken fault) h (Some r) z = z
+zero_counts OnDemand h o z = z
+zero_counts Unread h o z = z
+zero_counts TooOld h o z = z
+zero_counts TooMany h o z = z
+
+changed_desk : (b : Bool) (f : Desk → Desk) (d : Desk) (P : Desk → Type 0) → P d → P (f d) → P (changed_if b f d)
+changed_desk true f d P x y = y
+changed_desk false f d P x y = x
+
+-- a frame that is counted leaves the command
+order_counts : (why : Loss) (h : ℕ) (o : Option Running) → order_of (counts why h o) ≡ order_of o
+order_counts (Broken fault) h None = refl
+order_counts (Broken fault) h (Some r) = refl
+order_counts OnDemand h o = refl
+order_counts Unread h o = refl
+order_counts TooOld h o = refl
+order_counts TooMany h o = refl
+
+runs_counts : (why : Loss) (h n : ℕ) (l : Link) (o : Option Running) → IfHostRuns n l o → IfHostRuns n l (counts why h o)
+runs_counts (Broken fault) h n l None so = tt
+runs_counts (Broken fault) h n l (Some r) so = record {
+  number = so.number;
+  desk = changed_if (eqb so.desk.host h) more so.desk;
+  desks_are = ap (Rattle.node_machine.specs.Node.with_error h) so.desks_are;
+  host = changed_desk (eqb so.desk.host h) more so.desk (λ d. d.host ≡ n) so.host so.host;
+  no_notice = changed_desk (eqb so.desk.host h) more so.desk (λ d. d.notice ≡ None) so.no_notice so.no_notice;
+  short = so.short;
+  up = so.up;
+} where
+  more : Desk → Desk
+  more d = record d { errors = Rattle.std.specs.Prelude.min 65535 (d.errors + 1) }
+runs_counts OnDemand h n l o so = so
+runs_counts Unread h n l o so = so
+runs_counts TooOld h n l o so = so
+runs_counts TooMany h n l o so = so
+
+each_site : (t es : List Entry) (g : Site → Site) → ((s : Site) → SiteReads t s → SiteReads (t ++ es) (g s)) → (sites : List Site)
+    → AllByRecursion (SiteReads t) sites → AllByRecursion (SiteReads (t ++ es)) (map g sites)
+each_site t es g one [] all = tt
+each_site t es g one (s ∷ sites) all = (one s all.0, each_site t es g one sites all.1)
+
+module _ (hosts : List ℕ) (t : List Entry) (w : NodeWorld) (all : AllRead hosts t w) where
+  pub lost_read : (e : End) (why : Loss) → AllRead hosts (t ++ (frame_lost w e why).1) (frame_lost w e why).0
+  lost_read e why = by_side e.at_host refl where
+    Fine : NodeWorld × List Entry → Type 0
+    Fine p = AllRead hosts (t ++ p.1) p.0
+
+    l : Link
+    l = link_to w.sites e.link
+
+    near : Site → Site
+    near s = record s { link = happens s.link (AtController (Lose why)) }
+
+    far : Site → Site
+    far s = record s { link = happens s.link (AtHost (Lose why)); node = counts why e.link s.node }
+
+    near_is : e.at_host ≡ false → frame_lost w e why
+        ≡ (
+          record w { controller = counts why e.link w.controller; sites = with_site e.link near w.sites },
+          entries_for e.link (first_lost Controller why l.to_controller),
+        )
+    near_is b = rw b refl
+
+    far_is : e.at_host ≡ true → frame_lost w e why ≡ (record w { sites = with_site e.link far w.sites }, entries_for e.link (first_lost Host why l.to_host))
+    far_is b = rw b refl
+
+    site : (es : List Entry) (f : Site → Site) → ((k : ℕ) → AreSilent k es) → ((u : List Entry) (s : Site) → SiteReads u s → SiteReads u (f s))
+        → AllByRecursion (SiteReads (t ++ es)) (with_site e.link f w.sites)
+    site es f silent one = each_site t es (λ s. changed_if (eqb s.host e.link) f s)
+        (λ s k. by (eqb s.host e.link) s (others_read t es s s (silent s.host) refl refl refl k)) w.sites all.sites where
+          by : (b : Bool) (s : Site) → SiteReads (t ++ es) s → SiteReads (t ++ es) (changed_if b f s)
+          by true s k = one (t ++ es) s k
+          by false s k = k
+
+    by_side : (b : Bool) → e.at_host ≡ b → Fine (frame_lost w e why)
+    by_side false b = subst Fine (sym (near_is b)) (record {
+      controller = zero_counts why e.link w.controller all.controller;
+      hosts_are = hosts_with e.link near (λ s. refl) w.sites ∙ all.hosts_are;
+      sites = site (entries_for e.link (first_lost Controller why l.to_controller)) near
+          (λ k. quiet_silent k e.link (first_lost Controller why l.to_controller) (lost_quiet Controller why l.to_controller))
+          (λ u s k. record { order = k.order; runs = kept s s.node k.runs });
+    }) where
+      kept : (s : Site) (o : Option Running) → IfHostRuns s.host s.link o → IfHostRuns s.host (happens s.link (AtController (Lose why))) o
+      kept s None so = tt
+      kept s (Some r) so = record {
+        number = so.number;
+        desk = so.desk;
+        desks_are = so.desks_are;
+        host = so.host;
+        no_notice = so.no_notice;
+        short = so.short;
+        up = so.up;
+      }
+    by_side true b = subst Fine (sym (far_is b)) (record {
+      controller = all.controller;
+      hosts_are = hosts_with e.link far (λ s. refl) w.sites ∙ all.hosts_are;
+      sites = site (entries_for e.link (first_lost Host why l.to_host)) far
+          (λ k. quiet_silent k e.link (first_lost Host why l.to_host) (lost_quiet Host why l.to_host))
+          (λ u s k. record {
+            order = k.order ∙ sym (order_counts why e.link s.node);
+            runs = runs_counts why e.link s.host (far s).link s.node
+                (kept s s.node k.runs);
+          });
+    }) where
+      kept : (s : Site) (o : Option Running) → IfHostRuns s.host s.link o → IfHostRuns s.host (happens s.link (AtHost (Lose why))) o
+      kept s None so = tt
+      kept s (Some r) so = record {
+        number = so.number;
+        desk = so.desk;
+        desks_are = so.desks_are;
+        host = so.host;
+        no_notice = so.no_notice;
+        short = so.short;
+        up = so.up;
+      }

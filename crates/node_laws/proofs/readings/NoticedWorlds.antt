@@ -1,0 +1,506 @@
+-- Over whatever happens in a world a controller has notices that aren't answered only at ends that are up.
+use Rattle.std.proofs.Common.{◌≡◌, ◌⊎◌, inl, inr, ℕ, ◌+◌, Bool, true, false, not, cond, eqb, List, [], ◌∷◌, map, min, sym, refl, ap, ◌∙◌, subst, arith}
+use Rattle.std.specs.Prelude.{Option, Some, None, is_some}
+use Rattle.std.specs.List.{AllByRecursion}
+use Rattle.std.specs.Option.{option_map}
+use Rattle.std.proofs.lemmas.Bool.{true≢false, eqb-true, cases_Bool, ne_eqb}
+use Rattle.swp_base.specs.InMemory.{Memory}
+use Rattle.journal_laws.specs.Planned.{after_planned}
+use Rattle.trace_model.specs.Lines.{IsHost}
+use Rattle.trace_model.specs.declared.entry.Entry.{Entry}
+use Rattle.trace_model.specs.declared.line.End.{End}
+use Rattle.trace_model.specs.declared.line.Line.{Line}
+use Rattle.shdlc_core.specs.declared.answers.LinkState.{LinkState}
+use Rattle.shdlc_core.specs.declared.answers.LinkState.TheVariants.{Up}
+use Rattle.link_laws.specs.machine.Machine.{LinkEnd, LinkInput, Turn, after_input}
+use Rattle.link_laws.specs.machine.Machine.LinkInput.{Reset}
+use Rattle.link_laws.specs.messages.Links.{Link, NumberedEnd, Ending, Comes, Loss, EndEvent, exchanged, aged, has_input, steps_at_controller}
+use Rattle.link_laws.specs.messages.Links.{ticks_at_controller}
+use Rattle.link_laws.specs.messages.Links.{happens}
+use Rattle.link_laws.specs.messages.Links.Ending.{GoesOut, CutOff}
+use Rattle.link_laws.specs.messages.Links.Comes.{NextFrame, AsksReset, Starts, NoInput}
+use Rattle.link_laws.specs.messages.Links.Loss.{OnDemand, Broken, Unread, TooOld, TooMany}
+use Rattle.link_laws.specs.messages.Links.EndEvent.{Step, Lose}
+use Rattle.link_laws.specs.messages.Links.LinkEvent.{AtHost}
+use Rattle.link_laws.specs.entries.Entries.End.{Controller}
+use Rattle.history.specs.Steps.{at, entries_for}
+use Rattle.history.specs.Follows.{seen_from}
+use Rattle.node_machine.specs.Parts.{Desk, Running, Port, Work}
+use Rattle.node_machine.specs.Carrying.{port_at, changed_if}
+use Rattle.node_machine.specs.Node.{steps, begins_with, boot_writes, new_desk, with_error}
+use Rattle.node_machine.specs.Node.NodeInput.{AtEnd, TimePasses}
+use Rattle.node_machine.specs.world.World.{NodeWorld, Site, Happening, site_at, link_to, memory_at, with_site, with_memory, links_of, ending_of, runs_on}
+use Rattle.node_machine.specs.world.World.{turns_at, input_of, near_end_in, arrival, port_for, work_of, comes_to, controller_work, link_after_controller}
+use Rattle.node_machine.specs.world.World.{after_controller, controller_does, host_work, after_host, host_does, host_cut, loses_power_at, boots, counts}
+use Rattle.node_machine.specs.world.World.{frame_lost, all_aged, is_late_at, ticked_so, controller_ticks, host_ticks, hosts_tick, world_ticks}
+use Rattle.node_machine.specs.world.World.{sending, beginning}
+use Rattle.node_machine.specs.world.World.{comes_at, end_c, end_h, new_world, world_step}
+use Rattle.node_machine.specs.world.World.Happening.{Boots, IsCut, Gives, Inits, Takes, Loses, Ticks, Resets, Activates, Arms}
+use Rattle.node_machine.specs.world.Lines.{happenings}
+use Rattle.node_machine.specs.world.NodeHistories.{world_after}
+use Rattle.node_laws.specs.links.Notices.{IsNoticedUp, OnFirst}
+use Rattle.node_laws.proofs.links.Ends.{here_host}
+use Rattle.link_laws.proofs.entries.Together.{ticks_host as tick_host}
+use Rattle.node_laws.proofs.links.Noticing.{at_all, at_host}
+use Rattle.node_laws.specs.kept.Hosts.{AreHosts}
+use Rattle.node_laws.specs.telling.Telling.{HasEnds, IfItRuns, hosts_in, IsOrderly}
+use Rattle.node_laws.proofs.telling.Events.{site_map, orderly_map, comes_goes}
+use Rattle.node_laws.proofs.telling.Lasting.{Any, AnyLine, all_any, all_lines, lines_last}
+use Rattle.node_laws.proofs.telling.Nodes.{site_host, link_is, ports_for}
+use Rattle.node_laws.proofs.telling.Orderly.{new_orderly, step_orderly}
+use Rattle.node_laws.proofs.telling.WorldTicks.{tick_host as ticked_number}
+use Rattle.node_laws.specs.readings.Noticed.{IfNoticedUp, NoticesAreUp}
+use Rattle.node_laws.proofs.readings.Sites.{near_end_side, comes_outside, sent_phase, stepped_phase}
+use Rattle.node_laws.proofs.readings.Noticed.{up_is, not_waiting, CameUp, input_up, tick_up, was_up}
+use Rattle.node_machine.proofs.world.Cases.{by_memory, by_running, by_power, boot_written, boot_found, by_boot}
+
+-- ## Ends
+
+same_sides : (g h : ℕ → NumberedEnd) → ((n : ℕ) → (h n).side ≡ (g n).side) → (desks : List Desk) (x : ℕ) → OnFirst IsNoticedUp (port_at (ports_for g desks) x)
+    → OnFirst IsNoticedUp (port_at (ports_for h desks) x)
+same_sides g h same [] x a = tt
+same_sides g h same (d ∷ desks) x a = go (cases_Bool (eqb d.host x)) (same_sides g h same desks x) where
+  go : (eqb d.host x ≡ true) ⊎ (eqb d.host x ≡ false)
+      → (OnFirst IsNoticedUp (port_at (ports_for g desks) x) → OnFirst IsNoticedUp (port_at (ports_for h desks) x))
+      → OnFirst IsNoticedUp (port_at (ports_for h (d ∷ desks)) x)
+  go (inl is) later =
+      let b : IsNoticedUp (port_for (g d.host) d) = rw is at a in
+      let c : IsNoticedUp (port_for (h d.host) d) = λ some. ap (λ (e : LinkEnd). e.shdlc.phase) (same d.host) ∙ b some in
+      rw is c
+  go (inr off) later = rw off (later (rw off at a))
+
+-- where the links of a controller have the same ends, it has its notices as before
+kept : (v w : List Site) (o : Option Running) → ((n : ℕ) → (link_to v n).controller.side ≡ (link_to w n).controller.side) → IfNoticedUp w o → IfNoticedUp v o
+kept v w None same a = tt
+kept v w (Some r) same a = λ x. same_sides (λ n. (link_to w n).controller) (λ n. (link_to v n).controller) same r.desks x (a x)
+
+-- a controller that boots has none
+none_noticed : (near_ends : ℕ → NumberedEnd) (hosts : List ℕ) (x : ℕ) → OnFirst IsNoticedUp (port_at (ports_for near_ends (map new_desk hosts)) x)
+none_noticed near_ends [] x = tt
+none_noticed near_ends (h ∷ hosts) x = go (cases_Bool (eqb h x)) (none_noticed near_ends hosts x) where
+  go : (eqb h x ≡ true) ⊎ (eqb h x ≡ false) → OnFirst IsNoticedUp (port_at (ports_for near_ends (map new_desk hosts)) x)
+      → OnFirst IsNoticedUp (port_at (ports_for near_ends (map new_desk (h ∷ hosts))) x)
+  go (inl is) later =
+      let b : IsNoticedUp (port_for (near_ends h) (new_desk h)) = λ some. absurd (true≢false (sym some)) in
+      rw is b
+  go (inr off) later = rw off later
+
+-- ## Links
+
+pub side_map : (f : Site → Site) → ((s : Site) → (f s).host ≡ s.host) → ((s : Site) → (f s).link.controller.side ≡ s.link.controller.side)
+    → (sites : List Site) (n : ℕ) → (link_to (map f sites) n).controller.side ≡ (link_to sites n).controller.side
+side_map f host side [] n = refl
+side_map f host side (s ∷ sites) n = go (cases_Bool (eqb s.host n)) (side_map f host side sites n) where
+  go : (eqb s.host n ≡ true) ⊎ (eqb s.host n ≡ false) → (link_to (map f sites) n).controller.side ≡ (link_to sites n).controller.side
+      → (link_to (map f (s ∷ sites)) n).controller.side ≡ (link_to (s ∷ sites) n).controller.side
+  go (inl is) later = let here : eqb (f s).host n ≡ true = ap (λ k. eqb k n) (host s) ∙ is in rw (is, here) (side s)
+  go (inr off) later = let there : eqb (f s).host n ≡ false = ap (λ k. eqb k n) (host s) ∙ off in rw (off, there) later
+
+pub side_with : (h : ℕ) (f : Site → Site) → ((s : Site) → (f s).host ≡ s.host) → ((s : Site) → (f s).link.controller.side ≡ s.link.controller.side)
+    → (sites : List Site) (n : ℕ) → (link_to (with_site h f sites) n).controller.side ≡ (link_to sites n).controller.side
+side_with h f host side sites n =
+    side_map (λ (s : Site). changed_if (eqb s.host h) f s) (λ s. hosts (eqb s.host h) s) (λ s. sides (eqb s.host h) s) sites n where
+      hosts : (b : Bool) (s : Site) → (changed_if b f s).host ≡ s.host
+      hosts true s = host s
+      hosts false s = refl
+
+      sides : (b : Bool) (s : Site) → (changed_if b f s).link.controller.side ≡ s.link.controller.side
+      sides true s = side s
+      sides false s = refl
+
+-- what happens at the host's end leaves the controller's
+pub far_side : (l : Link) (e : EndEvent) → (happens l (AtHost e)).controller.side ≡ l.controller.side
+far_side l e = ap (λ (h : NumberedEnd). h.side) (here_host (exchanged l) e)
+
+far_tick : (l : Link) (ts : List Turn) (ending : Ending) → (exchanged (ticks_at_controller (exchanged l) ts ending)).controller.side ≡ l.controller.side
+far_tick l ts ending = ap (λ (h : NumberedEnd). h.side) (tick_host (exchanged l) ts ending)
+
+pub lost_side : (e : End) (why : Loss) (l : Link) → (happens l (at e (Lose why))).controller.side ≡ l.controller.side
+lost_side e why l = go e.at_host refl where
+  go : (b : Bool) → e.at_host ≡ b → (happens l (at e (Lose why))).controller.side ≡ l.controller.side
+  go true q = rw q refl
+  go false q = rw q refl
+
+-- ## Steps of the controller
+
+desks_map : (g : Desk → Port) (ports : List Port) → map g (map (λ (p : Port). p.desk) ports) ≡ map (λ (p : Port). g p.desk) ports
+desks_map g [] = refl
+desks_map g (p ∷ ports) = ap (λ l. g p.desk ∷ l) (desks_map g ports)
+
+-- the controller runs on so after a step whose ends with notices are up
+runs_up : (sites : List Site) (k : Work)
+    → ((x : ℕ) (p : Port) → k.cut ≡ false → port_at k.ports x ≡ Some p → is_some p.desk.notice ≡ true → (link_to sites x).controller.side.shdlc.phase ≡ Up)
+    → IfNoticedUp sites (runs_on k)
+runs_up sites k ups = go k.cut refl where
+  g : Desk → Port
+  g d = port_for (link_to sites d.host).controller d
+
+  on_is : k.cut ≡ false → runs_on k ≡ Some (record { core = k.core; desks = map (λ (p : Port). p.desk) k.ports })
+  on_is z = rw z refl
+
+  off_is : k.cut ≡ true → runs_on k ≡ None
+  off_is z = rw z refl
+
+  at_is : (x : ℕ) → port_at (map g (map (λ (p : Port). p.desk) k.ports)) x ≡ option_map (λ (p : Port). g p.desk) (port_at k.ports x)
+  at_is x = ap (λ l. port_at l x) (desks_map g k.ports) ∙ at_all k.ports x (λ (p : Port). g p.desk) (λ q. refl)
+
+  one : (x : ℕ) → k.cut ≡ false → (o : Option Port) → port_at k.ports x ≡ o → OnFirst IsNoticedUp (option_map (λ (p : Port). g p.desk) o)
+  one x z None e = tt
+  one x z (Some p) e = λ some. ap (λ n. (link_to sites n).controller.side.shdlc.phase) (at_host k.ports x p e) ∙ ups x p z e some
+
+  go : (b : Bool) → k.cut ≡ b → IfNoticedUp sites (runs_on k)
+  go true z = subst (IfNoticedUp sites) (sym (off_is z)) tt
+  go false z = subst (IfNoticedUp sites) (sym (on_is z)) (λ x. subst (OnFirst IsNoticedUp) (sym (at_is x)) (one x z (port_at k.ports x) refl))
+
+-- a controller has ends only on links with hosts
+record HasSite (sites : List Site) (x : ℕ) : Type 0 where
+  pub site : Site
+  pub there : site_at sites x ≡ Some site
+
+site_there : (near_ends : ℕ → NumberedEnd) (desks : List Desk) (sites : List Site) (x : ℕ) (q : Port) → map (λ (d : Desk). d.host) desks ≡ hosts_in sites
+    → port_at (ports_for near_ends desks) x ≡ Some q → HasSite sites x
+site_there near_ends [] sites x q e here = absurd (cc here)
+site_there near_ends (d ∷ desks) [] x q e here = absurd (cc e)
+site_there near_ends (d ∷ desks) (s ∷ sites) x q e here = go (cases_Bool (eqb s.host x)) (site_there near_ends desks sites x q) where
+  one : d.host ≡ s.host
+  one = cc
+
+  others : map (λ (c : Desk). c.host) desks ≡ hosts_in sites
+  others = cc
+
+  go : (eqb s.host x ≡ true) ⊎ (eqb s.host x ≡ false)
+      → (map (λ (c : Desk). c.host) desks ≡ hosts_in sites → port_at (ports_for near_ends desks) x ≡ Some q → HasSite sites x) → HasSite (s ∷ sites) x
+  go (inl is) later = record { site = s; there = rw is refl }
+  go (inr off) later =
+      let passed : eqb d.host x ≡ false = ap (λ n. eqb n x) one ∙ off in
+      let found_it : HasSite sites x = later others (rw passed at here) in
+      record { site = found_it.site; there = rw off found_it.there }
+
+ending_is : (k : Work) → k.cut ≡ false → ending_of k ≡ GoesOut
+ending_is k z = rw z refl
+
+step_phase : (l : Link) (b : Bool) (comes : Comes) (i : LinkInput) (ts : List Turn) → (b ≡ true → input_of l comes ≡ Some i)
+    → (steps_at_controller l (cond b comes NoInput) ts GoesOut).controller.side.shdlc.phase
+    ≡ (cond b (after_input l.controller.side i) l.controller.side).shdlc.phase
+step_phase l true comes i ts input = stepped_phase l comes ts i (input refl)
+step_phase l false comes i ts input = sent_phase l.controller.side ts
+
+module _ (w : NodeWorld) (r : Running) (runs : w.controller ≡ Some r) (has : HasEnds 0 (hosts_in w.sites) r) (ups : IfNoticedUp w.sites (Some r)) where
+  near_step : (h : ℕ) (comes : Comes) (i : LinkInput) → input_of (link_to w.sites h) comes ≡ Some i
+      → NoticesAreUp (after_controller w h comes (controller_work w r h comes (steps (AtEnd h i)))).0
+  near_step h comes i input = runs_up (map (link_after_controller h comes k) w.sites) k one where
+    near_ends : ℕ → NumberedEnd
+    near_ends n = near_end_in (link_to w.sites n) (comes_to h comes n)
+
+    es : List Entry
+    es = entries_for h (arrival Controller (link_to w.sites h) comes)
+
+    k : Work
+    k = controller_work w r h comes (steps (AtEnd h i))
+
+    noticed : (x : ℕ) → OnFirst IsNoticedUp (port_at (ports_for near_ends r.desks) x)
+    noticed x = same_sides (λ n. (link_to w.sites n).controller) near_ends (λ n. near_end_side (link_to w.sites n) (comes_to h comes n)) r.desks x (ups x)
+
+    one : (x : ℕ) (p : Port) → k.cut ≡ false → port_at k.ports x ≡ Some p → is_some p.desk.notice ≡ true
+        → (link_to (map (link_after_controller h comes k) w.sites) x).controller.side.shdlc.phase ≡ Up
+    one x p z here some = by_site (site_there near_ends r.desks w.sites x came.start has.ends came.here) where
+      came : CameUp r w.memory.plan near_ends es x (cond (eqb x h) (after_input (near_ends x).side i) (near_ends x).side).shdlc.phase
+      came = input_up r w.memory.plan near_ends es has.number noticed h i (comes_outside (link_to w.sites h) comes i input) x p here some
+
+      by_site : HasSite w.sites x → (link_to (map (link_after_controller h comes k) w.sites) x).controller.side.shdlc.phase ≡ Up
+      by_site found_it =
+          ap (λ (l : Link). l.controller.side.shdlc.phase) (link_is (map (link_after_controller h comes k) w.sites) x (link_after_controller h comes k s)
+          (site_map (link_after_controller h comes k) (λ y. refl) w.sites x s found_it.there))
+          ∙ ap (λ e. (steps_at_controller s.link (comes_to h comes s.host) ts e).controller.side.shdlc.phase) (ending_is k z)
+          ∙ step_phase s.link (eqb s.host h) comes i ts (λ is. ap (λ l. input_of l comes) (sym (link_of is)) ∙ input)
+          ∙ ap (λ n. (cond (eqb n h) (after_input s.link.controller.side i) s.link.controller.side).shdlc.phase) number
+          ∙ ap (λ e. (cond (eqb x h) (after_input e i) e).shdlc.phase) (sym side)
+          ∙ up_is (cond (eqb x h) (after_input (near_ends x).side i) (near_ends x).side).shdlc.phase came.up
+        where
+          s : Site
+          s = found_it.site
+
+          ts : List Turn
+          ts = turns_at k s.host
+
+          number : s.host ≡ x
+          number = site_host w.sites x s found_it.there
+
+          link_of : eqb s.host h ≡ true → link_to w.sites h ≡ s.link
+          link_of is = ap (link_to w.sites) (sym (eqb-true s.host h is) ∙ number) ∙ link_is w.sites x s found_it.there
+
+          side : (near_ends x).side ≡ s.link.controller.side
+          side = near_end_side (link_to w.sites x) (comes_to h comes x) ∙ ap (λ (l : Link). l.controller.side) (link_is w.sites x s found_it.there)
+
+  near_tick : NoticesAreUp (record {
+    memory = after_planned (steps TimePasses (work_of r w.memory.plan (λ h. (link_to w.sites h).controller) [])).writes w.memory;
+    controller = runs_on (steps TimePasses (work_of r w.memory.plan (λ h. (link_to w.sites h).controller) []));
+    sites = map (λ (s : Site). record s {
+      link = ticked_so s.link (is_late_at (steps TimePasses (work_of r w.memory.plan (λ h. (link_to w.sites h).controller) [])) s.host)
+          (turns_at (steps TimePasses (work_of r w.memory.plan (λ h. (link_to w.sites h).controller) [])) s.host)
+          (ending_of (steps TimePasses (work_of r w.memory.plan (λ h. (link_to w.sites h).controller) [])));
+    }) w.sites;
+  })
+  near_tick = runs_up (map f w.sites) k one where
+    near_ends : ℕ → NumberedEnd
+    near_ends n = (link_to w.sites n).controller
+
+    k : Work
+    k = steps TimePasses (work_of r w.memory.plan (λ h. (link_to w.sites h).controller) [])
+
+    f : Site → Site
+    f s = record s { link = ticked_so s.link (is_late_at k s.host) (turns_at k s.host) (ending_of k) }
+
+    phase : Link → ℕ → Ending → LinkState
+    phase l n e = (ticked_so l (is_late_at k n) (turns_at k n) e).controller.side.shdlc.phase
+
+    one : (x : ℕ) (p : Port) → k.cut ≡ false → port_at k.ports x ≡ Some p → is_some p.desk.notice ≡ true
+        → (link_to (map f w.sites) x).controller.side.shdlc.phase ≡ Up
+    one x p z here some = by_site (site_there near_ends r.desks w.sites x came.start has.ends came.here) where
+      came : CameUp r w.memory.plan near_ends [] x (phase (link_to w.sites x) x GoesOut)
+      came = tick_up r w.memory.plan near_ends [] has.number ups x p (link_to w.sites x) (turns_at k x) here some refl
+
+      by_site : HasSite w.sites x → (link_to (map f w.sites) x).controller.side.shdlc.phase ≡ Up
+      by_site found_it =
+          ap (λ (l : Link). l.controller.side.shdlc.phase) (link_is (map f w.sites) x (f found_it.site)
+          (site_map f (λ y. refl) w.sites x found_it.site found_it.there))
+          ∙ ap (phase found_it.site.link found_it.site.host) (ending_is k z)
+          ∙ ap (λ n. phase found_it.site.link n GoesOut) (site_host w.sites x found_it.site found_it.there)
+          ∙ ap (λ l. phase l x GoesOut) (sym (link_is w.sites x found_it.site found_it.there))
+          ∙ up_is (phase (link_to w.sites x) x GoesOut) came.up
+
+-- ## Events
+
+controller_up : (w : NodeWorld) (h : ℕ) (comes : Comes) (i : LinkInput) → IsOrderly w → NoticesAreUp w → input_of (link_to w.sites h) comes ≡ Some i
+    → NoticesAreUp (controller_does w h comes (steps (AtEnd h i))).0
+controller_up w h comes i orderly a input = go w.controller refl orderly.controller a where
+  off_is : w.controller ≡ None → (controller_does w h comes (steps (AtEnd h i))).0 ≡ w
+  off_is e = rw e refl
+
+  on_is : (r : Running) → w.controller ≡ Some r
+      → (controller_does w h comes (steps (AtEnd h i))).0 ≡ (after_controller w h comes (controller_work w r h comes (steps (AtEnd h i)))).0
+  on_is r e = rw e refl
+
+  go : (o : Option Running) → w.controller ≡ o → IfItRuns 0 (hosts_in w.sites) o → IfNoticedUp w.sites o
+      → NoticesAreUp (controller_does w h comes (steps (AtEnd h i))).0
+  go None e has b = subst NoticesAreUp (sym (off_is e)) a
+  go (Some r) e has b = subst NoticesAreUp (sym (on_is r e)) (near_step w r e has b h comes i input)
+
+host_up : (w : NodeWorld) (h : ℕ) (comes : Comes) (f : Work → Work) → NoticesAreUp w → NoticesAreUp (host_does w h comes f).0
+host_up w h comes f a = by_site (site_at w.sites h) refl where
+  none_is : site_at w.sites h ≡ None → (host_does w h comes f).0 ≡ w
+  none_is e = rw e refl
+
+  off_is : (x : Site) → site_at w.sites h ≡ Some x → x.node ≡ None → (host_does w h comes f).0 ≡ w
+  off_is x here e = rw here (rw e refl)
+
+  on_is : (x : Site) (r : Running) → site_at w.sites h ≡ Some x → x.node ≡ Some r
+      → (host_does w h comes f).0 ≡ record w { sites = with_site h (after_host comes (host_work x r comes f)) w.sites }
+  on_is x r here e = rw here (rw e refl)
+
+  by_node : (x : Site) → site_at w.sites h ≡ Some x → (o : Option Running) → x.node ≡ o → NoticesAreUp (host_does w h comes f).0
+  by_node x here None e = subst NoticesAreUp (sym (off_is x here e)) a
+  by_node x here (Some r) e =
+      subst NoticesAreUp (sym (on_is x r here e))
+      (kept (with_site h (after_host comes (host_work x r comes f)) w.sites) w.sites w.controller
+      (side_with h (after_host comes (host_work x r comes f)) (λ s. refl) (λ s. far_side s.link (Step comes (turns_at (host_work x r comes f) s.host) (ending_of
+      (host_work x r comes f)))) w.sites) a)
+
+  by_site : (o : Option Site) → site_at w.sites h ≡ o → NoticesAreUp (host_does w h comes f).0
+  by_site None e = subst NoticesAreUp (sym (none_is e)) a
+  by_site (Some x) e = by_node x e x.node refl
+
+comes_up : (w : NodeWorld) (e : End) (comes : Comes) → IsOrderly w → NoticesAreUp w → NoticesAreUp (comes_at w e comes).0
+comes_up w e comes orderly a = go (input_of (seen_from e (link_to w.sites e.link)) comes) refl e.at_host refl where
+  none_is : input_of (seen_from e (link_to w.sites e.link)) comes ≡ None → (comes_at w e comes).0 ≡ w
+  none_is q = rw q refl
+
+  near_is : (i : LinkInput) → input_of (seen_from e (link_to w.sites e.link)) comes ≡ Some i → e.at_host ≡ false
+      → (comes_at w e comes).0 ≡ (controller_does w e.link comes (steps (AtEnd e.link i))).0
+  near_is i q b = rw q (rw b refl)
+
+  far_is : (i : LinkInput) → input_of (seen_from e (link_to w.sites e.link)) comes ≡ Some i → e.at_host ≡ true
+      → (comes_at w e comes).0 ≡ (host_does w e.link comes (steps (AtEnd e.link i))).0
+  far_is i q b = rw q (rw b refl)
+
+  seen : e.at_host ≡ false → seen_from e (link_to w.sites e.link) ≡ link_to w.sites e.link
+  seen b = rw b refl
+
+  go : (o : Option LinkInput) → input_of (seen_from e (link_to w.sites e.link)) comes ≡ o → (b : Bool) → e.at_host ≡ b → NoticesAreUp (comes_at w e comes).0
+  go None q b z = subst NoticesAreUp (sym (none_is q)) a
+  go (Some i) q false z =
+      subst NoticesAreUp (sym (near_is i q z)) (controller_up w e.link comes i orderly a (ap (λ l. input_of l comes) (sym (seen z)) ∙ q))
+  go (Some i) q true z = subst NoticesAreUp (sym (far_is i q z)) (host_up w e.link comes (steps (AtEnd e.link i)) a)
+
+memory_up : (n : ℕ) (m : Memory) (w : NodeWorld) → NoticesAreUp w → NoticesAreUp (with_memory n m w)
+memory_up n m w a =
+    by_memory NoticesAreUp n w m (λ _. a)
+    (λ _. kept (with_site n (λ (s : Site). record s { memory = m }) w.sites) w.sites w.controller
+    (side_with n (λ (s : Site). record s { memory = m }) (λ s. refl) (λ s. refl) w.sites) a)
+
+cut_up : (n : ℕ) (w : NodeWorld) → NoticesAreUp w → NoticesAreUp (loses_power_at n w)
+cut_up n w a =
+    by_power NoticesAreUp n w (λ _. tt)
+    (λ _. kept (with_site n host_cut w.sites) w.sites w.controller
+    (side_with n host_cut (λ s. refl) (λ s. far_side s.link (Step NoInput [] CutOff)) w.sites) a)
+
+boots_up : (n : ℕ) (w : NodeWorld) → NoticesAreUp w → NoticesAreUp (boots w n).0
+boots_up n w a =
+    let v : NodeWorld = boot_written w n in
+    let f : Site → Site = λ s. record s { node = Some (boot_found w n) } in
+    let written : NoticesAreUp v = memory_up n (after_planned (boot_writes (memory_at w n).content) (memory_at w n)) w a in
+    by_boot (λ (p : NodeWorld × List Entry). NoticesAreUp p.0) w n (cut_up n v written)
+    (by_running NoticesAreUp n v (boot_found w n) (λ _ x. none_noticed (λ h. (link_to v.sites h).controller) (links_of w n) x)
+    (λ _. kept (with_site n f v.sites) v.sites v.controller (side_with n f (λ s. refl) (λ s. refl) v.sites) written))
+
+-- ## Losses
+
+-- an end whose errors were counted is as it was
+counted : (near_ends : ℕ → NumberedEnd) (h : ℕ) (desks : List Desk) (x : ℕ) → OnFirst IsNoticedUp (port_at (ports_for near_ends desks) x)
+    → OnFirst IsNoticedUp (port_at (ports_for near_ends (with_error h desks)) x)
+counted near_ends h [] x a = tt
+counted near_ends h (d ∷ desks) x a = by_error (eqb d.host h) (cases_Bool (eqb d.host x)) (counted near_ends h desks x) where
+  more : Desk → Desk
+  more c = record c { errors = min 65535 (c.errors + 1) }
+
+  by_error : (b : Bool) → (eqb d.host x ≡ true) ⊎ (eqb d.host x ≡ false)
+      → (OnFirst IsNoticedUp (port_at (ports_for near_ends desks) x) → OnFirst IsNoticedUp (port_at (ports_for near_ends (with_error h desks)) x))
+      → OnFirst IsNoticedUp (port_at (port_for (near_ends (changed_if b more d).host) (changed_if b more d) ∷ ports_for near_ends (with_error h desks)) x)
+  by_error true (inl is) later = let c : IsNoticedUp (port_for (near_ends d.host) (more d)) = rw is at a in rw is c
+  by_error true (inr off) later = rw off (later (rw off at a))
+  by_error false (inl is) later = let c : IsNoticedUp (port_for (near_ends d.host) d) = rw is at a in rw is c
+  by_error false (inr off) later = rw off (later (rw off at a))
+
+counts_up : (sites : List Site) (why : Loss) (h : ℕ) (o : Option Running) → IfNoticedUp sites o → IfNoticedUp sites (counts why h o)
+counts_up sites (Broken fault) h None a = tt
+counts_up sites (Broken fault) h (Some r) a = λ x. counted (λ n. (link_to sites n).controller) h r.desks x (a x)
+counts_up sites OnDemand h o a = a
+counts_up sites Unread h o a = a
+counts_up sites TooOld h o a = a
+counts_up sites TooMany h o a = a
+
+lost_up : (w : NodeWorld) (e : End) (why : Loss) → NoticesAreUp w → NoticesAreUp (frame_lost w e why).0
+lost_up w e why a = go e.at_host refl where
+  lost : Site → Site
+  lost s = record s { link = happens s.link (at e (Lose why)) }
+
+  near_is : e.at_host ≡ false → (frame_lost w e why).0 ≡ record w { controller = counts why e.link w.controller; sites = with_site e.link lost w.sites }
+  near_is b = rw b refl
+
+  far_is : e.at_host ≡ true
+      → (frame_lost w e why).0 ≡ record w { sites = with_site e.link (λ (s : Site). record (lost s) { node = counts why e.link s.node }) w.sites }
+  far_is b = rw b refl
+
+  go : (b : Bool) → e.at_host ≡ b → NoticesAreUp (frame_lost w e why).0
+  go false b =
+      subst NoticesAreUp (sym (near_is b)) (kept (with_site e.link lost w.sites) w.sites (counts why e.link w.controller)
+      (side_with e.link lost (λ s. refl) (λ s. lost_side e why s.link) w.sites) (counts_up w.sites why e.link w.controller a))
+  go true b =
+      subst NoticesAreUp (sym (far_is b))
+      (kept (with_site e.link (λ (s : Site). record (lost s) { node = counts why e.link s.node }) w.sites) w.sites w.controller
+      (side_with e.link (λ (s : Site). record (lost s) { node = counts why e.link s.node }) (λ s. refl) (λ s. lost_side e why s.link) w.sites) a)
+
+-- ## Ticks
+
+controller_tick_up : (w : NodeWorld) → IsOrderly w → NoticesAreUp w → NoticesAreUp (controller_ticks w).0
+controller_tick_up w orderly a = go w.controller refl orderly.controller a where
+  k : Running → Work
+  k r = steps TimePasses (work_of r w.memory.plan (λ h. (link_to w.sites h).controller) [])
+
+  off_is : w.controller ≡ None → (controller_ticks w).0.controller ≡ None
+  off_is e = rw e refl
+
+  on_is : (r : Running) → w.controller ≡ Some r → (controller_ticks w).0 ≡ record {
+    memory = after_planned (k r).writes w.memory;
+    controller = runs_on (k r);
+    sites = map (λ (s : Site). record s { link = ticked_so s.link (is_late_at (k r) s.host) (turns_at (k r) s.host) (ending_of (k r)) }) w.sites;
+  }
+  on_is r e = rw e refl
+
+  go : (o : Option Running) → w.controller ≡ o → IfItRuns 0 (hosts_in w.sites) o → IfNoticedUp w.sites o → NoticesAreUp (controller_ticks w).0
+  go None e has b = subst (IfNoticedUp (controller_ticks w).0.sites) (sym (off_is e)) tt
+  go (Some r) e has b = subst NoticesAreUp (sym (on_is r e)) (near_tick w r e has b)
+
+pub host_tick_side : (s : Site) → (host_ticks s).0.link.controller.side ≡ s.link.controller.side
+host_tick_side s = go s.node refl where
+  k : Running → Work
+  k r = steps TimePasses (work_of r s.memory.plan (λ n. s.link.host) [])
+
+  go : (o : Option Running) → s.node ≡ o → (host_ticks s).0.link.controller.side ≡ s.link.controller.side
+  go None e = rw e (far_tick s.link [] GoesOut)
+  go (Some r) e = rw e (far_tick s.link (turns_at (k r) s.host) (ending_of (k r)))
+
+pub hosts_tick_side : (sites : List Site) (n : ℕ) → (link_to (hosts_tick sites).0 n).controller.side ≡ (link_to sites n).controller.side
+hosts_tick_side [] n = refl
+hosts_tick_side (s ∷ sites) n = go (cases_Bool (eqb s.host n)) (hosts_tick_side sites n) where
+  go : (eqb s.host n ≡ true) ⊎ (eqb s.host n ≡ false) → (link_to (hosts_tick sites).0 n).controller.side ≡ (link_to sites n).controller.side
+      → (link_to (hosts_tick (s ∷ sites)).0 n).controller.side ≡ (link_to (s ∷ sites) n).controller.side
+  go (inl is) later = let here : eqb (host_ticks s).0.host n ≡ true = ap (λ k. eqb k n) (ticked_number s) ∙ is in rw (is, here) (host_tick_side s)
+  go (inr off) later = let there : eqb (host_ticks s).0.host n ≡ false = ap (λ k. eqb k n) (ticked_number s) ∙ off in rw (off, there) later
+
+tick_goes_up : (w : NodeWorld) → IsOrderly w → NoticesAreUp w → NoticesAreUp (world_ticks w).0
+tick_goes_up w orderly a =
+    kept (hosts_tick near.sites).0 near.sites near.controller (hosts_tick_side near.sites) (controller_tick_up old old_orderly old_up)
+  where
+    old : NodeWorld
+    old = (all_aged w).0
+
+    near : NodeWorld
+    near = (controller_ticks old).0
+
+    old_orderly : IsOrderly old
+    old_orderly = orderly_map w w.memory w.controller (λ (x : Site). record x { link = aged x.link }) (λ x. refl) orderly orderly.controller (λ x n. n)
+
+    old_up : NoticesAreUp old
+    old_up = kept (map (λ (s : Site). record s { link = aged s.link }) w.sites) w.sites w.controller
+        (side_map (λ (s : Site). record s { link = aged s.link }) (λ s. refl) (λ s. refl) w.sites) a
+
+pub event_up : (w : NodeWorld) (c : Happening) → IsOrderly w → NoticesAreUp w → NoticesAreUp (world_step w c).0
+event_up w (Boots n) o a = boots_up n w a
+event_up w (IsCut n) o a = cut_up n w a
+event_up w (Gives e m) o a = host_up w e.link NoInput (begins_with e.link (sending e.link m)) a
+event_up w (Inits e identity pipes) o a = host_up w e.link NoInput (begins_with e.link (beginning identity pipes)) a
+event_up w (Takes e) o a = comes_up w e NextFrame o a
+event_up w (Loses e why) o a = lost_up w e why a
+event_up w Ticks o a = tick_goes_up w o a
+event_up w (Resets e window) o a = comes_up w e (AsksReset window) o a
+event_up w (Activates h sync power) o a =
+    comes_up (comes_at w (end_c h) (Starts power)).0 (end_h h) (Starts sync) (comes_goes w (end_c h) (Starts power) o).orderly
+    (comes_up w (end_c h) (Starts power) o a)
+event_up w (Arms n plan) o a = memory_up n (record (memory_at w n) { plan = Some plan }) w a
+
+-- ## Lines
+
+-- a world that is orderly, and whose notices are up
+abbrev IsSo : NodeWorld → Type 0
+IsSo w = IsOrderly w × NoticesAreUp w
+
+pub numbers : (hosts : List ℕ) → AllByRecursion IsHost hosts → AllByRecursion (λ h. eqb h 0 ≡ false) hosts
+numbers [] a = tt
+numbers (h ∷ hosts) a = (ne_eqb h 0 (λ z. omega (arith, z, a.0.0)), numbers hosts a.1)
+
+pub lines_up : (hosts : List ℕ) (lines : List Line) → AreHosts hosts → NoticesAreUp (world_after (new_world hosts) lines)
+lines_up hosts lines are =
+    (lines_last (λ t w. IsSo w) Any AnyLine (λ t w c a may. (step_orderly w c a.0, event_up w c a.0 a.1)) (λ w l is none. all_any w (happenings w l)) lines []
+    (new_world hosts) (new_orderly hosts are.different (numbers hosts are.all), tt) (all_lines lines)).1
+
+-- ## Late notices
+
+-- an end whose notice is late is up, so it is reset in place of its tick
+pub late_resets : (w : NodeWorld) (r : Running) (h : ℕ) (turns : List Turn) (ending : Ending) → IsOrderly w → NoticesAreUp w → w.controller ≡ Some r
+    → is_late_at (steps TimePasses (work_of r w.memory.plan (λ n. (link_to w.sites n).controller) [])) h ≡ true
+    → ticked_so (link_to w.sites h) true turns ending ≡ has_input (link_to w.sites h) (Reset None) turns ending
+late_resets w r h turns ending orderly a runs late =
+    ap (λ b. cond (not b) (has_input l (Reset None) turns ending) (ticks_at_controller l turns ending)) (not_waiting l.controller.side.shdlc up)
+  where
+    l : Link
+    l = link_to w.sites h
+
+    has : HasEnds 0 (hosts_in w.sites) r
+    has = subst (IfItRuns 0 (hosts_in w.sites)) runs orderly.controller
+
+    noticed : IfNoticedUp w.sites (Some r)
+    noticed = subst (IfNoticedUp w.sites) runs a
+
+    up : l.controller.side.shdlc.phase ≡ Up
+    up = was_up r w.memory.plan (λ n. (link_to w.sites n).controller) [] has.number noticed h late

@@ -1,0 +1,301 @@
+-- What a node notes in a step: a fact of entries holds of all of them, where it holds of what is noted of its own ends, of what it
+-- notes beside them, and of what its deeds note.
+use Rattle.std.proofs.Common.{◌≡◌, ℕ, Bool, true, false, cond, eqb, List, [], ◌∷◌, ◌++◌, length, map, sym, refl, ap, ◌∙◌, subst}
+use Rattle.std.specs.Prelude.{Option, Some, None, option_to_list, nat_lt}
+use Rattle.std.specs.List.{AllByRecursion, flat_map}
+use Rattle.std.specs.Option.{option_map_or}
+use Rattle.std.proofs.lemmas.Bool.{cond_both}
+use Rattle.trace_model.specs.declared.entry.Entry.{Entry}
+use Rattle.trace_model.specs.declared.entry.Entry.TheVariants as entry
+use Rattle.journal_laws.specs.Planned.{fails_within}
+use Rattle.journal_laws.specs.Journal.{count_of}
+use Rattle.swp_base.specs.declared.link_terms.Cause.{Cause}
+use Rattle.hci_tables.specs.declared.command.Command.{Command}
+use Rattle.hci_tables.specs.Bodies.{body_of}
+use Rattle.hci_store.specs.Committing.{commit_writes}
+use Rattle.link_laws.specs.machine.Machine.{Message, LinkInput, Refused, Turn, Report, give_refusal, report, whole_acked, after_input}
+use Rattle.link_laws.specs.machine.Machine.LinkInput.{Reset}
+use Rattle.link_laws.specs.machine.Machine.Turn.{Give, Hold, FetchMessage, SetAside, Release}
+use Rattle.link_laws.specs.entries.Entries.{End as Side, Entry as Noted, if_so, told, sent_unless}
+use Rattle.link_laws.specs.entries.Entries.End.{Controller, Host}
+use Rattle.link_laws.specs.entries.Entries.Entry.{Up, Down, Active, GaveUp, Acked, Got, Sent}
+use Rattle.history.specs.Steps.{entries_for, entry_of, end_of}
+use Rattle.node_machine.specs.Parts.{About, Desk, Core, Port, Work, Deed}
+use Rattle.node_machine.specs.Parts.About.{Waits, Removed}
+use Rattle.node_machine.specs.Parts.Deed.{Commits, Sends, SaysOk, Asks, Releases, Tells, IsAnswered, Drops, SetsErrors, Orders, Hears, GoesOn, Ends}
+use Rattle.node_machine.specs.Carrying.{own_side, noting, port_at, changed_if, with_port, with_desk, after_turn, noted_of, turn_at, notified}
+use Rattle.node_machine.specs.Carrying.{commit, done, all_done, end_of_node}
+use Rattle.node_machine.specs.Controller.{controller_deeds}
+use Rattle.node_machine.specs.HostReplies.{host_deeds}
+use Rattle.node_machine.specs.Turns.{deeds_of}
+use Rattle.node_machine.specs.Node.{NodeInput, input_at, has_come, told_at, all_come, with_older, is_late, reset_late, told_late, times_out, forgotten, forgets}
+use Rattle.node_machine.specs.Node.{all_owed, without_notice, after_sessions, synced, steps}
+use Rattle.node_machine.specs.Node.NodeInput.{AtEnd, TimePasses}
+use Rattle.registry.proofs.ValueLemmas.{AllByRecursion-append}
+use Rattle.node_laws.proofs.steps.Walks.{Plain, OfHost, any_of_controller, all_of_host, forgotten_hold, all_owed_hold, all_synced_hold, anyone}
+use Rattle.node_laws.proofs.steps.StepWalks.{got_at, all_do as all_note, Lasts, rest_lasts}
+use Rattle.node_laws.proofs.steps.Ports.{come_host, forgets_host, late_host, without_host, changed_host, sessions_node, at_port}
+use Rattle.node_laws.proofs.links.Noticing.{at_host}
+
+-- this is noted of an end of this side
+abbrev pub IsOwnNote : Side → Noted → Type 0
+IsOwnNote who (Up side n) = side ≡ who
+IsOwnNote who (Down side cause) = side ≡ who
+IsOwnNote who (Active side) = side ≡ who
+IsOwnNote who (GaveUp side tries) = side ≡ who
+IsOwnNote who (Acked side n count) = side ≡ who
+IsOwnNote who (Got side n m) = side ≡ who
+IsOwnNote who (Sent side n m) = side ≡ who
+IsOwnNote who _ = ⊥
+
+-- this is noted by a node beside its links, turns and inits
+abbrev pub IsBeside : ℕ → Entry → Type 0
+IsBeside n (entry.Held e need spare) = Unit {0}
+IsBeside n (entry.Ask host message) = Unit {0}
+IsBeside n (entry.Dropped e pid) = Unit {0}
+IsBeside n (entry.Command node command) = node ≡ n
+IsBeside n (entry.AnyOk node count) = node ≡ n
+IsBeside n (entry.Cut node) = node ≡ n
+IsBeside n _ = ⊥
+
+-- a fact holds of what a deed notes as an init ends
+abbrev pub NotesSo : (Entry → Type 0) → Deed → Type 0
+NotesSo P (Ends x) = P x
+NotesSo P _ = Unit {0}
+
+pub all_flat : {X Y : Type 0} (P : Y → Type 0) (f : X → List Y) → ((x : X) → AllByRecursion P (f x)) → (xs : List X) → AllByRecursion P (flat_map f xs)
+all_flat P f one [] = tt
+all_flat P f one (x ∷ xs) = AllByRecursion-append P (f x) (flat_map f xs) (one x) (all_flat P f one xs)
+
+-- ## Deeds
+
+plain : (P : Entry → Type 0) → Plain (NotesSo P)
+plain P = record { sends = λ to x. tt; says_ok = tt; releases = λ asker. tt; is_answered = tt; drops = λ pid. tt }
+
+-- no init ends at a controller
+pub controller_notes : (P : Entry → Type 0) (core : Core) (ports : List Port) (h : ℕ) (m : Message)
+    → AllByRecursion (NotesSo P) (controller_deeds core ports h m)
+controller_notes P core ports h m =
+    any_of_controller (NotesSo P) (plain P) (λ c. tt) (λ to message. tt) (λ to message c. tt) (λ errors. tt) core ports h m
+
+module _ (P : Entry → Type 0) (core : Core) (same : P (entry.InitSame (end_of_node core core.node)))
+    (made : (count : ℕ) → P (entry.InitMade (end_of_node core core.node) count))
+    (failed : (code : ℕ) → P (entry.InitFailed (end_of_node core core.node) code)) where
+  of_host : OfHost (NotesSo P) core
+  of_host = record { commits = λ c. tt; hears = tt; goes_on = λ i. tt; orders = λ i k order is. tt; same = same; made = made; failed = failed }
+
+  pub host_notes : (p : Port) (m : Message) → AllByRecursion (NotesSo P) (host_deeds core p m)
+  host_notes p m = all_of_host (NotesSo P) core (plain P) of_host p m (λ n value command zero is. tt)
+
+-- ## What is told of an end
+
+pub all_notes : (who : Side) (n acked : ℕ) (r : Report) → AllByRecursion (IsOwnNote who) (told who n r acked)
+all_notes who n acked r =
+    AllByRecursion-append (IsOwnNote who) (map (Down who) (option_to_list r.ended)) _ (ended r.ended)
+    (AllByRecursion-append (IsOwnNote who) (if_so r.began (Up who n)) _ (so r.began (Up who n) refl)
+    (AllByRecursion-append (IsOwnNote who) (if_so r.became_active (Active who)) _ (so r.became_active (Active who) refl)
+    (AllByRecursion-append (IsOwnNote who) (map (GaveUp who) (option_to_list r.gave_up)) _ (tries r.gave_up)
+    (AllByRecursion-append (IsOwnNote who) (if_so (nat_lt 0 r.acked) (Acked who n acked)) _ (so (nat_lt 0 r.acked) (Acked who n acked) refl)
+    (got r.got))))) where
+      so : (b : Bool) (x : Noted) → IsOwnNote who x → AllByRecursion (IsOwnNote who) (if_so b x)
+      so true x is = (is, tt)
+      so false x is = tt
+
+      ended : (o : Option Cause) → AllByRecursion (IsOwnNote who) (map (Down who) (option_to_list o))
+      ended None = tt
+      ended (Some cause) = (refl, tt)
+
+      tries : (o : Option ℕ) → AllByRecursion (IsOwnNote who) (map (GaveUp who) (option_to_list o))
+      tries None = tt
+      tries (Some k) = (refl, tt)
+
+      got : (ms : List Message) → AllByRecursion (IsOwnNote who) (map (Got who n) ms)
+      got [] = tt
+      got (m ∷ ms) = (refl, got ms)
+
+turn_notes : (core : Core) (who : Side) (t : Turn) (p : Port) → own_side core ≡ who
+    → AllByRecursion (IsOwnNote who) (Rattle.link_laws.specs.entries.Entries.turn_entry (own_side core) p.session p.side t)
+turn_notes core who (Give m) p is = go (give_refusal p.side m) where
+  go : (o : Option Refused) → AllByRecursion (IsOwnNote who) (sent_unless o (own_side core) p.session m)
+  go None = (is, tt)
+  go (Some why) = tt
+turn_notes core who (Hold held) p is = tt
+turn_notes core who FetchMessage p is = tt
+turn_notes core who SetAside p is = tt
+turn_notes core who Release p is = tt
+
+-- ## A node
+
+module _ (P : Entry → Type 0) (n : ℕ) (who : Side) (At : ℕ → Type 0) where
+  -- the node has this number and this side of its links, and so is all that it noted
+  pub record Notes (w : Work) : Type 0 where
+    pub number : w.core.node ≡ n
+    pub side : own_side w.core ≡ who
+    pub ends : AllByRecursion (λ (p : Port). At p.desk.host) w.ports
+    pub so : AllByRecursion P w.entries
+
+  module _ (note : (h : ℕ) (x : Noted) → At h → IsOwnNote who x → AllByRecursion P (entry_of h x))
+      (turned : (h pid : ℕ) (message : List ℕ) → At h → P (entry.Turn (end_of h who) pid message))
+      (beside : (x : Entry) → IsBeside n x → P x)
+      (deeds_note : (core : Core) (ports : List Port) (h : ℕ) (m : Message) → core.node ≡ n → AllByRecursion (NotesSo P) (deeds_of core ports h m)) where
+    notes_all : (h : ℕ) (xs : List Noted) → At h → AllByRecursion (IsOwnNote who) xs → AllByRecursion P (entries_for h xs)
+    notes_all h [] at all = tt
+    notes_all h (x ∷ xs) at all = AllByRecursion-append P (entry_of h x) (entries_for h xs) (note h x at all.0) (notes_all h xs at all.1)
+
+    with_core : (w : Work) (c : Core) → c.node ≡ w.core.node → Notes w → Notes (record w { core = c })
+    with_core w c same a = record {
+      number = same ∙ a.number;
+      side = ap (λ m. cond (eqb m 0) Controller Host) same ∙ a.side;
+      ends = a.ends;
+      so = a.so;
+    }
+
+    notes : (es : List Entry) (w : Work) → AllByRecursion P es → Notes w → Notes (noting es w)
+    notes es w more a = record { number = a.number; side = a.side; ends = a.ends; so = AllByRecursion-append P w.entries es a.so more }
+
+    map_at : (f : Port → Port) → ((p : Port) → (f p).desk.host ≡ p.desk.host) → (ports : List Port) → AllByRecursion (λ (p : Port). At p.desk.host) ports
+        → AllByRecursion (λ (p : Port). At p.desk.host) (map f ports)
+    map_at f host [] all = tt
+    map_at f host (p ∷ ports) all = (subst At (sym (host p)) all.0, map_at f host ports all.1)
+
+    maps : (f : Port → Port) (w : Work) → ((p : Port) → (f p).desk.host ≡ p.desk.host) → Notes w → Notes (record w { ports = map f w.ports })
+    maps f w host a = record { number = a.number; side = a.side; ends = map_at f host w.ports a.ends; so = a.so }
+
+    ends_with : (h : ℕ) (f : Port → Port) (w : Work) → ((p : Port) → (f p).desk.host ≡ p.desk.host) → Notes w
+        → Notes (record w { ports = with_port h f w.ports })
+    ends_with h f w host a = maps (λ p. changed_if (eqb p.desk.host h) f p) w (λ p. changed_host (eqb p.desk.host h) f p host) a
+
+    turn_told : (core : Core) (t : Turn) (ports : List Port) (h : ℕ) → own_side core ≡ who → AllByRecursion (λ (p : Port). At p.desk.host) ports
+        → AllByRecursion P (option_map_or (noted_of core t) (port_at ports h) [])
+    turn_told core t [] h side all = tt
+    turn_told core t (p ∷ ports) h side all =
+        cond_both (eqb p.desk.host h) (Some p) (port_at ports h) (λ o. AllByRecursion P (option_map_or (noted_of core t) o []))
+        (λ _. notes_all p.desk.host _ all.0 (turn_notes core who t p side)) (λ _. turn_told core t ports h side all.1)
+
+    turns : (h : ℕ) (t : Turn) (w : Work) → Notes w → Notes (turn_at h t w)
+    turns h t w a =
+        notes (option_map_or (noted_of w.core t) (port_at w.ports h) []) (record w { ports = with_port h (after_turn t) w.ports })
+        (turn_told w.core t w.ports h a.side a.ends) (ends_with h (after_turn t) w (λ p. refl) a)
+
+    desks : (h : ℕ) (f : Desk → Desk) (w : Work) → ((d : Desk) → (f d).host ≡ d.host) → Notes w → Notes (with_desk h f w)
+    desks h f w host a = ends_with h (λ p. record p { desk = f p.desk }) w (λ p. host p.desk) a
+
+    tells : (h : ℕ) (about : About) (message : List ℕ) (w : Work) → Notes w → Notes (notified h about message w)
+    tells h about message w a =
+        desks h (λ d. record d { notice = Some (record { about = about; age = 0 }) }) (turn_at h (Give (1, message)) w) (λ d. refl) (turns h (Give
+        (1, message)) w a)
+
+    commits : (c : Command) (w : Work) → Notes w → Notes (commit c w)
+    commits c w a = go (fails_within (length (commit_writes w.core.journal w.core.tables (body_of c))) w.plan) refl where
+      go : (b : Bool) → fails_within (length (commit_writes w.core.journal w.core.tables (body_of c))) w.plan ≡ b → Notes (commit c w)
+      go true q = rw q (record {
+        number = a.number;
+        side = a.side;
+        ends = a.ends;
+        so = AllByRecursion-append P (w.entries ++ entry.Command w.core.node c ∷ []) (entry.Cut w.core.node ∷ [])
+            (AllByRecursion-append P w.entries (entry.Command w.core.node c ∷ []) a.so (beside (entry.Command w.core.node c) a.number, tt))
+            (beside (entry.Cut w.core.node) a.number, tt);
+      })
+      go false q = rw q (record {
+        number = a.number;
+        side = a.side;
+        ends = a.ends;
+        so = AllByRecursion-append P w.entries (entry.Command w.core.node c ∷ []) a.so (beside (entry.Command w.core.node c) a.number, tt);
+      })
+
+    does : (h : ℕ) (d : Deed) (w : Work) → NotesSo P d → Notes w → Notes (done h d w)
+    does h (Commits c) w q a = commits c w a
+    does h (Sends to m) w q a = turns to (Give m) w a
+    does h SaysOk w q a =
+        notes (entry.AnyOk w.core.node (count_of w.core.journal) ∷ []) w (beside (entry.AnyOk w.core.node (count_of w.core.journal)) a.number, tt) a
+    does h (Asks to message c) w q a =
+        tells to (Waits c) message (noting (entry.Ask to message ∷ []) (turn_at c.asker SetAside w))
+        (notes (entry.Ask to message ∷ []) (turn_at c.asker SetAside w) (beside (entry.Ask to message) tt, tt) (turns c.asker SetAside w a))
+    does h (Releases asker) w q a = turns asker Release w a
+    does h (Tells to message) w q a = tells to Removed message w a
+    does h IsAnswered w q a = desks h (λ d. record d { notice = None }) w (λ d. refl) a
+    does h (Drops pid) w q a = notes (entry.Dropped (end_of_node w.core h) pid ∷ []) w (beside (entry.Dropped (end_of_node w.core h) pid) tt, tt) a
+    does h (SetsErrors errors) w q a = desks h (λ d. record d { errors = errors }) w (λ d. refl) a
+    does h (Orders message) w q a =
+        turns h (Give (1, message)) (record w { core = record w.core { command = Some message } }) (with_core w
+        (record w.core { command = Some message }) refl a)
+    does h Hears w q a = with_core w (record w.core { command = None }) refl a
+    does h (GoesOn i) w q a = with_core w (record w.core { init = Some i }) refl a
+    does h (Ends e) w q a =
+        notes (e ∷ []) (record w { core = record w.core { init = None } }) (q, tt) (with_core w (record w.core { init = None }) refl a)
+
+    pub all_do : (h : ℕ) (deeds : List Deed) (w : Work) → AllByRecursion (NotesSo P) deeds → Notes w → Notes (all_done h deeds w)
+    all_do h deeds w q a = all_note Notes (NotesSo P) does h deeds w q a
+
+    -- ## Turns
+
+    abbrev ComesAt : ℕ → Message → Type 0
+    ComesAt h m = At h
+
+    -- each message comes at an end of the node
+    come_at : (h : ℕ) (w : Work) → Notes w → AllByRecursion (ComesAt h) (got_at h w)
+    come_at h w a = go (port_at w.ports h) refl where
+      go : (o : Option Port) → port_at w.ports h ≡ o → AllByRecursion (ComesAt h) (option_map_or (λ (p : Port). p.side.got) o [])
+      go None q = tt
+      go (Some p) q =
+          anyone (ComesAt h) (λ m. subst At (at_host w.ports h p q) (at_port (λ (p : Port). At p.desk.host) w.ports h p a.ends q)) p.side.got
+
+    notes_last : Lasts Notes (NotesSo P) ComesAt
+    notes_last = record {
+      does = does;
+      turn_told = λ h m w at a. notes (entry.Turn (end_of_node w.core h) m.0 m.1 ∷ []) w
+          (subst (λ s. P (entry.Turn (end_of h s) m.0 m.1)) (sym a.side) (turned h m.0 m.1 at), tt) a;
+      held_told = λ h need spare w a. notes (entry.Held (end_of_node w.core h) need spare ∷ []) w
+          (beside (entry.Held (end_of_node w.core h) need spare) tt, tt) a;
+      fetched = λ h w a. turns h FetchMessage w a;
+      held = λ h flag w a. turns h (Hold flag) w a;
+      marked = λ h flag w a. desks h (λ d. record d { holds = flag }) w (λ d. refl) a;
+      come = come_at;
+      causes = λ h m w at a. deeds_note w.core w.ports h m a.number;
+    }
+
+    -- ## Steps
+
+    come_told : (core : Core) (p : Port) (o : Option LinkInput) → own_side core ≡ who → At p.desk.host → AllByRecursion P (told_at core p o)
+    come_told core p None side at = tt
+    come_told core p (Some i) side at =
+        notes_all p.desk.host (told (own_side core) p.session (report p.side i) (whole_acked (after_input p.side i))) at
+        (subst (λ s. AllByRecursion (IsOwnNote who) (told s p.session (report p.side i) (whole_acked (after_input p.side i)))) (sym side)
+        (all_notes who p.session (whole_acked (after_input p.side i)) (report p.side i)))
+
+    all_told : (f : Port → List Entry) → ((p : Port) → At p.desk.host → AllByRecursion P (f p)) → (ports : List Port)
+        → AllByRecursion (λ (p : Port). At p.desk.host) ports → AllByRecursion P (flat_map f ports)
+    all_told f one [] all = tt
+    all_told f one (p ∷ ports) all = AllByRecursion-append P (f p) (flat_map f ports) (one p all.0) (all_told f one ports all.1)
+
+    came_all : (input : NodeInput) (w : Work) → Notes w → Notes (all_come input w)
+    came_all input w a =
+        notes (flat_map (λ p. told_at w.core p (input_at input p)) w.ports) (record w { ports = map (λ p. has_come p (input_at input p)) w.ports })
+        (all_told (λ p. told_at w.core p (input_at input p)) (λ p at. come_told w.core p (input_at input p) a.side at) w.ports a.ends)
+        (maps (λ p. has_come p (input_at input p)) w (λ p. come_host p (input_at input p)) a)
+
+    late_told : (core : Core) (p : Port) → own_side core ≡ who → At p.desk.host → AllByRecursion P (told_late core p)
+    late_told core p side at = cond_both (is_late p) (told_at core p (Some (Reset None))) [] (AllByRecursion P) (λ _. come_told core p (Some
+        (Reset None)) side at) (λ _. tt)
+
+    timed_all : (input : NodeInput) (w : Work) → Notes w → Notes (times_out input w)
+    timed_all (AtEnd h i) w a = a
+    timed_all TimePasses w a =
+        let v : Work = record w { ports = map with_older w.ports } in
+        let b : Notes v = maps with_older w (λ p. refl) a in
+        notes (flat_map (told_late v.core) v.ports) (record v { ports = map reset_late v.ports })
+        (all_told (told_late v.core) (λ p at. late_told v.core p b.side at) v.ports b.ends)
+        (maps reset_late v late_host b)
+
+    pub steps_note : (input : NodeInput) (w : Work) → Notes w → Notes (steps input w)
+    steps_note input w a =
+        let came : Work = times_out input (all_come input w) in
+        let b : Notes came = timed_all input (all_come input w) (came_all input w a) in
+        let left : List Port = map (forgets came.ports) came.ports in
+        let begun : Work = record came { core = after_sessions came.core came.ports; ports = map without_notice left } in
+        let first : Notes begun =
+        with_core (record came { ports = map without_notice left }) (after_sessions came.core came.ports) (sessions_node came.core came.ports)
+        (maps without_notice (record came { ports = left }) without_host (maps (forgets came.ports) came (forgets_host came.ports) b)) in
+        rest_lasts Notes (NotesSo P) ComesAt notes_last (forgotten came.ports) (flat_map (synced w.core input) w.ports) (all_owed left) begun
+        (forgotten_hold (NotesSo P) (λ asker. tt) came.ports) (all_synced_hold (NotesSo P) (λ host id. tt) w.core input w.ports)
+        (all_owed_hold (NotesSo P) (λ asker. tt) (λ to r. tt) left) first

@@ -1,0 +1,114 @@
+-- What a host does with a message that answers none of its commands may be done, and so may what follows the answer to one.
+use Rattle.std.proofs.Common.{◌≡◌, ℕ, ◌≤◌, ◌&&◌, Bool, true, false, cond, eqb, List, [], ◌∷◌, ◌++◌, length, refl, ap}
+use Rattle.std.specs.Prelude.{Option, Some, None, ◌+◌}
+use Rattle.std.specs.List.{AllByRecursion}
+use Rattle.std.proofs.lemmas.Bool.{cond_both}
+use Rattle.trace_model.specs.declared.entry.Entry.TheVariants.{InitMade}
+use Rattle.hci_tables.specs.declared.command.Command.{Command}
+use Rattle.hci_tables.specs.declared.command.Command.TheVariants.{Create, Delete, Clear, Set}
+use Rattle.gate_answers.specs.declared.response.Response.{Response}
+use Rattle.gate_answers.specs.declared.response.Response.TheVariants as response
+use Rattle.gate_answers.specs.Answers.{answer_of}
+use Rattle.gate_link.specs.Link.{link_served}
+use Rattle.gate_identity.specs.Identity.{identity_served}
+use Rattle.link_laws.specs.machine.Machine.{Message}
+use Rattle.registry.proofs.ValueLemmas.{AllByRecursion-get}
+use Rattle.node_machine.specs.Parts.{Init, Core, Deed}
+use Rattle.node_machine.specs.Parts.Deed.{Sends, Ends}
+use Rattle.node_machine.specs.Carrying.{end_of_node, finds_room}
+use Rattle.node_machine.specs.Controller.{answers_on, commit_deeds, link_deeds, gates, is_command_message}
+use Rattle.node_machine.specs.HostReplies.{accepts, orders_of, learns, init_deeds, learned, ordered_deeds}
+use Rattle.node_laws.proofs.steps.Walks.{ordered_holds, learns_holds, learned_holds, init_holds, orders_hold}
+use Rattle.node_laws.specs.readings.Orders.{AreInitsShort, MayDo}
+
+-- an answer is no command
+pub no_command : (r : Response) (value : List ℕ) → is_command_message (answer_of r value) ≡ false
+no_command response.Ok value = refl
+no_command response.NotConnected value = refl
+no_command response.CommandParameterUnknown value = refl
+no_command response.NotOk value = refl
+no_command response.NoPipesAvailable value = refl
+no_command response.RegistryParameterUnknown value = refl
+no_command response.PipeNotOpened value = refl
+no_command response.CommandNotSupported value = refl
+no_command response.Inhibited value = refl
+no_command response.Timeout value = refl
+no_command response.RegistryAccessDenied value = refl
+no_command response.PipeAccessDenied value = refl
+
+module _ (h : ℕ) (F : List ℕ → Type 0) where
+  abbrev May : List Deed → Type 0
+  May deeds = MayDo h F deeds
+
+  either : (b : Bool) (d e : List Deed) → May d → May e → May (cond b d e)
+  either true d e x y = x
+  either false d e x y = y
+
+  -- ## Answers
+
+  accepts_may : (core : Core) (c : Command) → May (accepts core c)
+  accepts_may core c = go (finds_room core c) where
+    go : (b : Bool) → May (commit_deeds b core.node 1 c (answer_of response.Ok []) [])
+    go true = (refl, tt)
+    go false = (refl, tt)
+
+  -- an answer on another pipe than 01
+  other_may : (to pipe : ℕ) (answer : List ℕ) → eqb pipe 1 ≡ false → May (answers_on to pipe answer)
+  other_may to pipe answer off = (ap (λ b. b && is_command_message answer) off, tt)
+
+  link_may : (to : ℕ) (o : Option ℕ) (answer : List ℕ) → May (link_deeds to 0 (answer, o))
+  link_may to None answer = (refl, tt)
+  link_may to (Some errors) answer = (refl, tt)
+
+  pub ordered_may : (core : Core) (errors pipe n : ℕ) (body : List ℕ) → May (ordered_deeds core errors pipe n body)
+  ordered_may core errors pipe n body = ordered_holds May core errors pipe n body (record {
+    none = tt;
+    refuses = λ r. (no_command r [], tt);
+    creates = λ row named welcome. accepts_may core (Create row);
+    deletes = λ pid kept. accepts_may core (Delete pid);
+    clears = λ x host. accepts_may core (Clear x);
+    counts = λ zero. link_may core.node (link_served errors n body).1 (link_served errors n body).0;
+    names = λ off. other_may core.node pipe (identity_served gates n body) off;
+  })
+
+  -- an event that is posted back is no command
+  pub posted_may : (core : Core) (m : Message) (b : Bool) → is_command_message m.1 ≡ false → May (cond b (Sends core.node m ∷ []) [])
+  posted_may core m b off = either b (Sends core.node m ∷ []) [] (none (eqb m.0 1), tt) tt where
+    none : (a : Bool) → (a && is_command_message m.1) ≡ false
+    none true = off
+    none false = refl
+
+  -- ## Init
+
+  -- behind what is learned
+  learns_then : (core : Core) (c : Command) (behind : List Deed) → May behind → May (learns core c ++ behind)
+  learns_then core c behind may = learns_holds (λ deeds. May (deeds ++ behind)) core may (λ c is room. may) c
+
+  pub learned_if : (b : Bool) (core : Core) (order value : List ℕ) (behind : List Deed) → May behind
+      → May (cond b (learned core order value) [] ++ behind)
+  learned_if b core order value behind may =
+      cond_both b (learned core order value) [] (λ deeds. May (deeds ++ behind))
+      (λ _. learned_holds (λ deeds. May (deeds ++ behind)) core may (λ c is room. may) order value) (λ _. may)
+
+-- each command of an init is a command
+pub orders_commands : (i : Init) → AllByRecursion (λ order. is_command_message order ≡ true) (orders_of i)
+orders_commands i = orders_hold (λ order. is_command_message order ≡ true) i refl refl refl (λ pipe. refl) refl
+
+-- what an init does next may be done, where each of its commands that isn't too long may be given
+module _ (h : ℕ) (core : Core) (code : ℕ) (value : List ℕ) where
+  abbrev pub OrderFits : (List ℕ → Type 0) → Type 0
+  OrderFits F = (order : List ℕ) → is_command_message order ≡ true → length order ≤ 4096 → F order
+
+  pub init_may : (F : List ℕ → Type 0) (o : Option Init) → AreInitsShort o → OrderFits F → MayDo h F (init_deeds core code value o)
+  init_may F None short fits = tt
+  init_may F (Some i) short fits = init_holds (MayDo h F) core i code value (record {
+    same = ((λ waits. refl), tt);
+    failed = λ code. ((λ waits. refl), tt);
+    made =
+        learns_then h F core (Set core.node 0 1 (record { items = i.identity })) (Ends (InitMade (end_of_node core core.node) (length i.pipes)) ∷ [])
+        ((λ waits. refl), tt);
+    next = λ order is.
+        let commands : is_command_message order ≡ true =
+        AllByRecursion-get (λ x. is_command_message x ≡ true) (orders_of i) (i.answered + 1) order (orders_commands i) is in
+        (short, (fits order commands (AllByRecursion-get (λ x. length x ≤ 4096) (orders_of i) (i.answered + 1) order short is), commands, tt));
+  })

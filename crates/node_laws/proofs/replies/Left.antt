@@ -1,0 +1,202 @@
+-- As a pass of a controller leaves an end, all messages there have had their turns, or the first one that is left lacks room, as it is read.
+use Rattle.std.proofs.Common.{◌≡◌, ◌⊎◌, inl, inr, ℕ, Bool, true, false, cond, eqb, List, [], ◌∷◌, ◌++◌, sym, refl, ap, ◌∙◌, subst, append_assoc}
+use Rattle.std.proofs.Common.{append-nil, arith}
+use Rattle.std.specs.Prelude.{◌==◌, Some, is_some, nat_lt}
+use Rattle.std.specs.List.{AllByRecursion}
+use Rattle.std.specs.Option.{option_map_or, option_and_then}
+use Rattle.std.proofs.lemmas.Bool.{le-ltb}
+use Rattle.std.proofs.lemmas.List.Sums.{fold-append}
+use Rattle.trace_model.specs.declared.entry.Entry.{Entry}
+use Rattle.trace_model.specs.declared.entry.Entry.TheVariants as entry
+use Rattle.trace_model.specs.declared.line.End.{End}
+use Rattle.link_laws.specs.machine.Machine.{Message, oldest}
+use Rattle.link_laws.specs.entries.Entries.End.{Controller}
+use Rattle.link_laws.proofs.entries.Lasting.{same_number}
+use Rattle.node_machine.specs.Parts.{Port, Work}
+use Rattle.node_machine.specs.Carrying.{end_of_node, port_at}
+use Rattle.node_machine.specs.Turns.{goes_through_ends, passes}
+use Rattle.node_machine.specs.world.World.{end_c}
+use Rattle.node_laws.specs.kept.Books.{hosts_of_ends}
+use Rattle.node_laws.specs.kept.Hosts.{AreHosts}
+use Rattle.node_laws.specs.passes.Passing.{AreAlong, ArePassed, BeginWithTurn, IsBehind, IsTurnSo, LastsOverTurns, Stays as StaysThere}
+use Rattle.node_laws.specs.passes.Passing.{is_held_at, links_of_turns, waiting_at}
+use Rattle.node_laws.specs.passes.Passing.ComesTo.{Begins}
+use Rattle.node_laws.proofs.passes.Behind.{leaves_behind}
+use Rattle.node_laws.proofs.passes.Ends.{HasFirst, has_first}
+use Rattle.node_laws.specs.answers.Answered.{is_later}
+use Rattle.node_laws.specs.answers.Moments.{Moment, lack_at, lack_of, unhandled_after, unhandled_in, until}
+use Rattle.node_laws.specs.replies.Known.{KeepsBeside}
+use Rattle.node_laws.specs.replies.Passes.{BeginsPass}
+use Rattle.node_laws.specs.read_steps.Works.{KeepsInStep, ReadsInStep}
+use Rattle.node_laws.proofs.replies.Calm.{AreCalm, calm_both, calm_none, lack_calm}
+use Rattle.node_laws.proofs.replies.Passes.{own_end_is, split_of, walked}
+use Rattle.node_laws.proofs.replies.Staying.{Stays, all_stays, beside_of}
+use Rattle.node_laws.proofs.read_rooms.Lasting.{IsCarried}
+use Rattle.node_laws.proofs.views.Leaving.{plainly}
+use Rattle.node_laws.proofs.worlds.Resting.{AreIdle, idle_unhandled}
+
+-- an end of a turn, or of a message that is held, is one of the controller
+abbrev pub IsNear : Entry → Type 0
+IsNear (entry.Turn f pid message) = f.at_host ≡ false
+IsNear (entry.Held f need spare) = f.at_host ≡ false
+IsNear _ = Unit {0}
+
+pub idle_left : (e : End) (s es : List Entry) → AreIdle e es → unhandled_in (s ++ es) e ≡ unhandled_in s e
+idle_left e s [] idle = ap (λ l. unhandled_in l e) (append-nil s)
+idle_left e s (x ∷ es) idle =
+    ap (λ l. unhandled_in l e) (sym (append_assoc s (x ∷ []) es)) ∙ (idle_left e (s ++ x ∷ []) es idle.1 ∙ idle_unhandled e s x idle.0)
+
+-- a message that is left at this end lacks room behind these entries, and behind more that change nothing
+abbrev pub LacksBehind : List ℕ → List Entry → List Entry → ℕ → Type 0
+LacksBehind hosts told own k =
+    (m : Moment) (rest : List Entry) → AreCalm rest → AreIdle (end_c k) rest → until m ≡ told ++ (own ++ rest) → is_some (lack_at hosts m (end_c k)) ≡ true
+
+-- So a pass that begins in w leaves the end of the link with the host k, behind those entries at earlier ends.
+pub record IsLeft (hosts : List ℕ) (t : List Entry) (w : Work) (earlier : List ℕ) (k : ℕ) (later : List ℕ) : Type 0 where
+  pub front : List Entry
+  pub own : List Entry
+  pub back : List Entry
+  pub all : (passes w).entries ≡ (w.entries ++ front) ++ (own ++ back)
+  pub before : AreAlong (earlier ++ k ∷ []) (links_of_turns front)
+  pub mine : AllByRecursion (λ x. is_later (end_c k) x ≡ false) own
+  pub behind : AreAlong later (links_of_turns back)
+  pub next : BeginWithTurn back
+  pub near : (x : Entry) (rest : List Entry) → back ≡ x ∷ rest → IsNear x
+  pub lacks : (unhandled_in (t ++ (passes w).entries) (end_c k) ≡ []) ⊎ LacksBehind hosts (t ++ (w.entries ++ front)) own k
+
+pub port_there : (ports : List Port) (earlier : List ℕ) (k : ℕ) (later : List ℕ) → hosts_of_ends ports ≡ earlier ++ k ∷ later
+    → (p : Port) × (port_at ports k ≡ Some p)
+port_there [] [] k later is = absurd (cc is)
+port_there [] (h ∷ earlier) k later is = absurd (cc is)
+port_there (p ∷ ports) [] k later is =
+    let one : p.desk.host ≡ k = cc in
+    let found : eqb p.desk.host k ≡ true = ap (λ n. eqb n k) one ∙ same_number k in
+    (p, rw found refl)
+port_there (p ∷ ports) (h ∷ earlier) k later is = by (eqb p.desk.host k) refl (port_there ports earlier k later rest) where
+  rest : hosts_of_ends ports ≡ earlier ++ k ∷ later
+  rest = cc
+
+  by : (b : Bool) → eqb p.desk.host k ≡ b → (q : Port) × (port_at ports k ≡ Some q) → (q : Port) × (port_at (p ∷ ports) k ≡ Some q)
+  by true q next = (p, rw q refl)
+  by false q next = (next.0, rw q next.1)
+
+none_later : (k : ℕ) → nat_lt k k ≡ false
+none_later k = le-ltb k k (omega arith)
+
+module _ (hosts : List ℕ) (are : AreHosts hosts) (t : List Entry) (w : Work) (step : ReadsInStep hosts t w) (carried : IsCarried t Controller w)
+    (b : BeginsPass t w) where
+  abbrev K : Work → Type 0
+  K v = Stays hosts are t w b.room v
+
+  abbrev lasts : LastsOverTurns K
+  lasts = all_stays hosts are t w b.room
+
+  abbrev beside : (v : Work) → K v → KeepsBeside hosts t v
+  beside v s = beside_of hosts are t w b.room v s
+
+  begins : K w
+  begins = record { comes = Begins; step = step; carried = carried; messages = b.messages }
+
+  abbrev walk : ArePassed (λ v. KeepsInStep hosts t v × K v) (hosts_of_ends w.ports) w (passes w)
+  walk = walked hosts are t K lasts beside w (step.runs.keeps, begins)
+
+  -- what waits where none does
+  none_waits : (v : Work) → K v → (earlier : List ℕ) (k : ℕ) (later : List ℕ) → hosts ≡ earlier ++ k ∷ later → waiting_at v.ports k ≡ []
+      → unhandled_in (t ++ v.entries) (end_c k) ≡ []
+  none_waits v s earlier k later is none =
+      let p = port_there v.ports earlier k later (s.step.runs.keeps.hosts_are ∙ is) in
+      s.messages.waiting k p.0 p.1 ∙ (sym (ap (λ o. option_map_or (λ (p : Port). p.side.got) o []) p.1) ∙ none)
+
+  -- its first message is held
+  own_calm : (v : Work) → K v → (k : ℕ) (held : Bool) (short : ℕ × ℕ)
+      → AreCalm (cond held [] (entry.Held (end_of_node v.core k) short.0 short.1 ∷ []))
+  own_calm v s k true short = calm_none
+  own_calm v s k false short = record { far = (tt, tt); unheard = (tt, tt); leave = λ j. ((λ x n r. plainly (end_c j) x n r), tt) }
+
+  own_late : (v : Work) → K v → (k : ℕ) (held : Bool) (short : ℕ × ℕ)
+      → AllByRecursion (λ x. is_later (end_c k) x ≡ false) (cond held [] (entry.Held (end_of_node v.core k) short.0 short.1 ∷ []))
+  own_late v s k true short = tt
+  own_late v s k false short =
+      let at : end_of_node v.core k ≡ end_c k = own_end_is v.core k s.step.runs.keeps.node in
+      (ap (λ f. is_later (end_c k) (entry.Held f short.0 short.1)) at ∙ none_later k, tt)
+
+  own_left : (s : List Entry) (e f : End) (held : Bool) (short : ℕ × ℕ)
+      → unhandled_in (s ++ cond held [] (entry.Held f short.0 short.1 ∷ [])) e ≡ unhandled_in s e
+  own_left s e f true short = ap (λ l. unhandled_in l e) (append-nil s)
+  own_left s e f false short = fold-append (unhandled_after e) [] s (entry.Held f short.0 short.1 ∷ [])
+
+  module _ (earlier : List ℕ) (k : ℕ) (later : List ℕ) (is : hosts_of_ends w.ports ≡ earlier ++ k ∷ later)
+      (off : AllByRecursion (λ j. (j == k) ≡ false) later) (on : w.cut ≡ false) (still : (passes w).cut ≡ false) where
+    abbrev last : Work
+    last = goes_through_ends (earlier ++ k ∷ later) w
+
+    whole : last ≡ passes w
+    whole = ap (λ hs. goes_through_ends hs w) (sym is)
+
+    abbrev c : IsBehind K w last earlier k later
+    c = leaves_behind K lasts earlier k later w begins on off (ap (λ (u : Work). u.cut) whole ∙ still)
+
+    split : (passes w).entries ≡ (w.entries ++ c.front) ++ (c.own ++ c.back)
+    split = ap (λ (u : Work). u.entries) (sym whole) ∙ c.all
+
+    held_lacks : (m : Message) (messages : List Message) → waiting_at c.work.ports k ≡ m ∷ messages → StaysThere c.work last k c.own (m ∷ messages)
+        → LacksBehind hosts (t ++ (w.entries ++ c.front)) c.own k
+    held_lacks m messages waits stays at rest calm idle same =
+        let v : Work = c.work in
+        let H : Bool = is_held_at v.ports k in
+        let f : End = end_of_node v.core k in
+        let short : ℕ × ℕ = stays.0 in
+        let told : t ++ (w.entries ++ c.front) ≡ t ++ v.entries = ap (λ l. t ++ l) (sym c.entries) in
+        let here : until at ≡ (t ++ v.entries) ++ (c.own ++ rest) = same ∙ ap (λ l. l ++ (c.own ++ rest)) told in
+        let own : AreCalm c.own = subst AreCalm (sym stays.3) (own_calm v c.keeps k H short) in
+        let first : HasFirst v.ports k m messages = has_first v.ports k m messages waits in
+        let got : unhandled_in (t ++ v.entries) (end_c k) ≡ m ∷ messages = c.keeps.messages.waiting k first.port first.here ∙ first.got in
+        let with_own : unhandled_in ((t ++ v.entries) ++ c.own) (end_c k) ≡ m ∷ messages =
+        ap (λ l. unhandled_in ((t ++ v.entries) ++ l) (end_c k)) stays.3 ∙ (own_left (t ++ v.entries) (end_c k) f H short ∙ got) in
+        let left : unhandled_in (until at) (end_c k) ≡ m ∷ messages =
+        ap (λ l. unhandled_in l (end_c k)) (here ∙ sym (append_assoc (t ++ v.entries) c.own rest))
+        ∙ (idle_left (end_c k) ((t ++ v.entries) ++ c.own) rest idle ∙ with_own) in
+        ap is_some (ap (λ l. option_and_then (lack_of hosts at (end_c k)) (oldest l)) left
+        ∙ (lack_calm hosts are t v (beside v c.keeps) (c.own ++ rest) (calm_both c.own rest own calm) at here k m ∙ stays.1))
+
+    near_so : (x : Entry) (front rest : List Entry) → IsTurnSo (λ v. KeepsInStep hosts t v × K v) w front x rest → IsNear x
+    near_so (entry.Turn f pid message) front rest u =
+        ap (λ (z : End). z.at_host) (u.its_end ∙ own_end_is u.work.core u.host u.keeps.0.node)
+    near_so (entry.Held f need spare) front rest u =
+        ap (λ (z : End). z.at_host) (u.its_end ∙ own_end_is u.work.core u.host u.keeps.0.node)
+    near_so _ front rest u = tt
+
+    by_waiting : (q : List Message) → waiting_at c.work.ports k ≡ q
+        → ((unhandled_in (t ++ (passes w).entries) (end_c k) ≡ []) ⊎ LacksBehind hosts (t ++ (w.entries ++ c.front)) c.own k)
+        × AllByRecursion (λ x. is_later (end_c k) x ≡ false) c.own
+    by_waiting [] q =
+        let stays : c.own ≡ [] = subst (StaysThere c.work last k c.own) q c.stays in
+        let ends : K (passes w) = (walk.keeps still).1 in
+        let none : waiting_at (passes w).ports k ≡ [] = ap (λ (u : Work). waiting_at u.ports k) (sym whole) ∙ (c.waits ∙ q) in (
+          inl (none_waits (passes w) ends earlier k later (sym step.runs.keeps.hosts_are ∙ is) none),
+          subst (AllByRecursion (λ x. is_later (end_c k) x ≡ false)) (sym stays) tt,
+        )
+    by_waiting (m ∷ messages) q =
+        let stays : StaysThere c.work last k c.own (m ∷ messages) = subst (StaysThere c.work last k c.own) q c.stays in (
+          inr (held_lacks m messages q stays),
+          subst (AllByRecursion (λ x. is_later (end_c k) x ≡ false)) (sym stays.3) (own_late c.work c.keeps k (is_held_at c.work.ports k) stays.0),
+        )
+
+    pub is_left : IsLeft hosts t w earlier k later
+    is_left =
+        let what = by_waiting (waiting_at c.work.ports k) refl in
+        record {
+          front = c.front;
+          own = c.own;
+          back = c.back;
+          all = split;
+          before = c.before;
+          mine = what.1;
+          behind = c.behind;
+          next = c.next;
+          near = λ x rest q. near_so x (c.front ++ c.own) rest (walk.each (c.front ++ c.own) rest x
+              (split_of hosts are t K lasts beside w (step.runs.keeps, begins) ((c.front ++ c.own) ++ (x ∷ rest))
+              (split ∙ (ap (λ l. (w.entries ++ c.front) ++ (c.own ++ l)) q
+              ∙ (append_assoc w.entries c.front (c.own ++ (x ∷ rest)) ∙ ap (λ l. w.entries ++ l) (sym (append_assoc c.front c.own (x ∷ rest))))))));
+          lacks = what.0;
+        }

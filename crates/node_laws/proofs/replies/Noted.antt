@@ -1,0 +1,50 @@
+-- What is noted of a reply, as it is read, is what its deeds note in a controller whose sessions are read.
+use Rattle.std.proofs.Common.{◌≡◌, ℕ, true, false, cond, List, [], ◌∷◌, ◌++◌, sym, refl, ap, ap₂, ◌∙◌}
+use Rattle.std.specs.Prelude.{Option, Some, None}
+use Rattle.std.specs.List.{AllByRecursion}
+use Rattle.std.specs.Option.{option_map_or, option_and_then}
+use Rattle.std.proofs.lemmas.Bool.{true≢false}
+use Rattle.trace_model.specs.declared.entry.Entry.{Entry}
+use Rattle.trace_model.specs.declared.entry.Entry.TheVariants as entry
+use Rattle.link_laws.specs.sessions.Sessions.{is_up}
+use Rattle.link_laws.specs.machine.Machine.{Message}
+use Rattle.node_machine.specs.Parts.{Port, Deed}
+use Rattle.node_machine.specs.Parts.Deed.{Commits, Sends, SaysOk, Asks, Tells, Drops, Orders, Ends}
+use Rattle.node_machine.specs.Carrying.{port_at}
+use Rattle.node_machine.specs.Controller.{has_link}
+use Rattle.node_machine.specs.world.World.{end_c}
+use Rattle.node_machine.specs.world.NodeFilters.{session_now}
+use Rattle.node_laws.specs.links.Notices.{AllReach}
+use Rattle.node_laws.specs.passes.Noting.{next_count, sent_in_session, entries_of_reply, session_of_port}
+use Rattle.node_laws.specs.replies.Known.{EndsAreRead}
+use Rattle.node_laws.proofs.replies.Apart.{SendsOver}
+
+module _ (t : List Entry) (ports : List Port) (ends : EndsAreRead t ports) (h : ℕ) where
+  abbrev read_session : ℕ → Option ℕ
+  read_session k = session_now t (end_c k) 0
+
+  -- an end that is up has the session that is read
+  same_session : (k : ℕ) → has_link ports k ≡ true → read_session k ≡ session_of_port ports k
+  same_session k up = go (port_at ports k) refl where
+    go : (o : Option Port) → port_at ports k ≡ o → read_session k ≡ session_of_port ports k
+    go None q = absurd (true≢false (sym up ∙ ap (λ o. option_map_or (λ (p : Port). is_up p.side.shdlc.phase) o false) q))
+    go (Some p) q =
+        ends.sessions k p q ∙ sym (ap (λ o. option_and_then (λ (p : Port). cond (is_up p.side.shdlc.phase) (Some p.session) None) o) q)
+
+  same_sent : (k : ℕ) (m : Message) → has_link ports k ≡ true → sent_in_session 0 read_session k m ≡ sent_in_session 0 (session_of_port ports) k m
+  same_sent k m up = ap (λ o. option_map_or (λ n. entry.Sent (end_c k) n m.0 m.1 ∷ []) o []) (same_session k up)
+
+  pub same_noted : (count : ℕ) (deeds : List Deed) → AllByRecursion (SendsOver ports) deeds → AllReach ports deeds
+      → entries_of_reply 0 read_session h count deeds ≡ entries_of_reply 0 (session_of_port ports) h count deeds
+  same_noted count [] over reach = refl
+  same_noted count (Commits c ∷ deeds) over reach = ap (λ l. entry.Command 0 c ∷ l) (same_noted (next_count count) deeds over.1 reach.1)
+  same_noted count (Sends to m ∷ deeds) over reach = ap₂ (λ a b. a ++ b) (same_sent to m over.0) (same_noted count deeds over.1 reach.1)
+  same_noted count (SaysOk ∷ deeds) over reach = ap (λ l. entry.AnyOk 0 count ∷ l) (same_noted count deeds over.1 reach.1)
+  same_noted count (Asks to message c ∷ deeds) over reach =
+      ap₂ (λ a b. entry.Ask to message ∷ a ++ b) (same_sent to (1, message) reach.0) (same_noted count deeds over.1 reach.1)
+  same_noted count (Tells to message ∷ deeds) over reach =
+      ap₂ (λ a b. a ++ b) (same_sent to (1, message) reach.0) (same_noted count deeds over.1 reach.1)
+  same_noted count (Drops pid ∷ deeds) over reach = ap (λ l. entry.Dropped (end_c h) pid ∷ l) (same_noted count deeds over.1 reach.1)
+  same_noted count (Orders message ∷ deeds) over reach = absurd over.0
+  same_noted count (Ends e ∷ deeds) over reach = absurd over.0
+  same_noted count (_ ∷ deeds) over reach = same_noted count deeds over.1 reach.1

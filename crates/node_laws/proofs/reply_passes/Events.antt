@@ -1,0 +1,150 @@
+-- A line causes 100 events at most.
+use Rattle.std.proofs.Common.{◌≡◌, ℕ, ◌*◌, ◌≤◌, Bool, true, false, cond, List, [], ◌∷◌, ◌++◌, length, length-append, sym, refl, ap, ◌∙◌}
+use Rattle.std.proofs.Common.{arith, Option, Some, None}
+use Rattle.std.specs.List.{AllByRecursion}
+use Rattle.std.specs.Option.{option_map_or}
+use Rattle.std.proofs.lemmas.List.{length-replicate}
+use Rattle.trace_model.specs.declared.entry.NoCause.{NoCause}
+use Rattle.trace_model.specs.declared.line.End.{End}
+use Rattle.trace_model.specs.declared.line.Header.{Header}
+use Rattle.trace_model.specs.declared.line.Line.{Line}
+use Rattle.trace_model.specs.declared.line.Line.TheVariants as line
+use Rattle.link_laws.specs.sessions.Sessions.{OnWire}
+use Rattle.link_laws.specs.messages.Links.{Link, exchanged, new_link}
+use Rattle.link_laws.specs.machine.Machine.Role.{Bare}
+use Rattle.history.specs.Damage.{Verdict}
+use Rattle.history.specs.Damage.Verdict.{Same, LostFor, Undetected}
+use Rattle.history.specs.Follows.{taken_of, first_verdict}
+use Rattle.node_machine.specs.Parts.{Running}
+use Rattle.node_machine.specs.world.World.{NodeWorld, Site, Happening, node_at, site_at, link_to, new_world, world_step}
+use Rattle.node_machine.specs.world.World.Happening.{Takes, Ticks}
+use Rattle.node_machine.specs.world.Lines.{frames_at, refusal_in, happens_by, happenings, Occurrence, can_happen, all_happen, LineOutcome, tables_told, goes_on}
+use Rattle.node_machine.specs.world.Lines.{line_step}
+use Rattle.node_machine.specs.world.Lines.LineOutcome.{WasRefused}
+use Rattle.node_machine.specs.world.NodeHistories.{NodeHistory, FollowsNodes, steps_from, occurrences_of, occurrences_in}
+use Rattle.node_laws.specs.links.Runs.{ArePlayable}
+use Rattle.node_laws.proofs.links.Worlds.{AreFineSites, IsFineWorld}
+use Rattle.node_laws.proofs.links.Playing.{lines_fine, world_fine}
+use Rattle.node_laws.proofs.telling.Lasting.{events_of_steps}
+use Rattle.node_laws.proofs.telling.Worlds.{site_is}
+use Rattle.node_laws.specs.schedules.Ranges.{IsNodeLineOf, AreNodeLinesOf}
+use Rattle.node_laws.proofs.schedules.Wires.{IsFewWires, run_few}
+
+-- ## Causes
+
+abbrev AreFewWires : List Site → Type 0
+AreFewWires sites = AllByRecursion (λ (s : Site). IsFewWires s.link) sites
+
+fine_few : (sites : List Site) → AreFineSites sites → AreFewWires sites
+fine_few [] a = tt
+fine_few (s ∷ sites) a = (run_few s.link a.0.link.run, fine_few sites a.1)
+
+frames_few : (w : NodeWorld) (e : End) → AreFewWires w.sites → length (frames_at w e) ≤ 64
+frames_few w e few = by_side (link_to w.sites e.link) (by_site (site_at w.sites e.link) refl) e.at_host where
+  by_site : (o : Option Site) → site_at w.sites e.link ≡ o → IsFewWires (option_map_or (λ (s : Site). s.link) o (new_link Bare Bare))
+  by_site None here = record { to_controller = omega arith; to_host = omega arith }
+  by_site (Some s) here = site_is (λ (x : Site). IsFewWires x.link) w.sites e.link s few here
+
+  by_side : (l : Link) → IsFewWires l → (b : Bool) → length (cond b (exchanged l) l).to_controller ≤ 64
+  by_side l a true = a.to_host
+  by_side l a false = a.to_controller
+
+taken_few : (count : Option ℕ) (wire : List OnWire) → length wire ≤ 64 → taken_of count wire ≤ 64
+taken_few None wire few = few
+taken_few (Some n) wire few = omega (arith, few)
+
+damage_few : (e : End) (v : Option Verdict) → length (happens_by e v) ≤ 100
+damage_few e None = omega arith
+damage_few e (Some Same) = omega arith
+damage_few e (Some (LostFor why)) = omega arith
+damage_few e (Some (Undetected read)) = omega arith
+
+-- a line causes 100 events at most
+causes_few : (header : Header) (w : NodeWorld) (l : Line) → AreFewWires w.sites → IsNodeLineOf header l → length (happenings w l) ≤ 100
+causes_few header w (line.Send e pid message) few is = omega arith
+causes_few header w (line.Deliver e count) few is =
+    let most = taken_few count (frames_at w e) (frames_few w e few) in
+    let long = length-replicate (taken_of count (frames_at w e)) (Takes e) in
+    omega (arith, most, long)
+causes_few header w (line.Lose e) few is = omega arith
+causes_few header w (line.Damage e places) few is = damage_few e (first_verdict (frames_at w e) places.items)
+causes_few header w (line.Tick None) few is = omega arith
+causes_few header w (line.Tick (Some n)) few is = let long = length-replicate n Ticks in let most = is.1 in omega (arith, long, most)
+causes_few header w (line.Reset e window) few is = omega arith
+causes_few header w (line.Busy e) few is = omega arith
+causes_few header w (line.Ready e) few is = omega arith
+causes_few header w (line.Boot node) few is = omega arith
+causes_few header w (line.Cut node) few is = omega arith
+causes_few header w (line.Activate host sync power) few is = omega arith
+causes_few header w (line.Arm node nth fill) few is = omega arith
+causes_few header w (line.Init e identity pipes) few is = omega arith
+causes_few header w (line.Tables node) few is = omega arith
+causes_few header w (line.Settle rounds) few is = omega arith
+
+-- ## Events
+
+happen_long : (causes : List Happening) (w : NodeWorld) → length (all_happen w causes).1 ≤ length causes
+happen_long [] w = omega arith
+happen_long (c ∷ causes) w = go (can_happen w c) (happen_long causes (world_step w c).0) where
+  later : NodeWorld × List Occurrence
+  later = all_happen (world_step w c).0 causes
+
+  by : Bool → NodeWorld × List Occurrence
+  by true = (later.0, record { cause = c; entries = (world_step w c).1 } ∷ later.1)
+  by false = (w, [])
+
+  go : (b : Bool) → length later.1 ≤ length causes → length (by b).1 ≤ length (c ∷ causes)
+  go true rest = omega (arith, rest)
+  go false rest = omega arith
+
+none_long : (n : ℕ) (o : Option Running) → length (occurrences_of (tables_told n o)) ≤ 100
+none_long n None = omega arith
+none_long n (Some r) = omega arith
+
+on_long : (w : NodeWorld) (l : Line) → length (all_happen w (happenings w l)).1 ≤ 100 → length (occurrences_of (goes_on w l).1) ≤ 100
+on_long w (line.Tables n) a = none_long n (node_at w n)
+on_long w (line.Send e pid message) a = a
+on_long w (line.Deliver e count) a = a
+on_long w (line.Lose e) a = a
+on_long w (line.Damage e places) a = a
+on_long w (line.Tick times) a = a
+on_long w (line.Reset e window) a = a
+on_long w (line.Busy e) a = a
+on_long w (line.Ready e) a = a
+on_long w (line.Boot n) a = a
+on_long w (line.Cut n) a = a
+on_long w (line.Activate host sync power) a = a
+on_long w (line.Arm n nth fill) a = a
+on_long w (line.Init e identity pipes) a = a
+on_long w (line.Settle rounds) a = a
+
+line_long : (header : Header) (w : NodeWorld) (l : Line) → AreFewWires w.sites → IsNodeLineOf header l → length (occurrences_of (line_step w l).1) ≤ 100
+line_long header w l few is = go (refusal_in w l) where
+  by : Option NoCause → NodeWorld × LineOutcome
+  by (Some cause) = (w, WasRefused cause)
+  by None = goes_on w l
+
+  go : (o : Option NoCause) → length (occurrences_of (by o).1) ≤ 100
+  go (Some cause) = omega arith
+  go None = on_long w l (let one = happen_long (happenings w l) w in let two = causes_few header w l few is in omega (arith, one, two))
+
+-- as many lines cause 100 events each at most
+pub lines_long : (header : Header) (lines : List Line) (w : NodeWorld) → IsFineWorld w → AreNodeLinesOf header lines → ArePlayable lines
+    → length (events_of_steps (steps_from w lines)) ≤ 100 * length lines
+lines_long header [] w fine are play = omega arith
+lines_long header (l ∷ lines) w fine are play =
+    let v : NodeWorld = (line_step w l).0 in
+    let here : List Occurrence = occurrences_of (line_step w l).1 in
+    let first = line_long header w l (fine_few w.sites fine.sites) are.0 in
+    let rest = lines_long header lines v (lines_fine (l ∷ []) w (play.0, tt) fine) are.1 play.1 in
+    let both = length-append here (events_of_steps (steps_from v lines)) in
+    omega (arith, first, rest, both)
+
+-- behind any first events of a history
+pub front_long : (header : Header) (lines : List Line) (t : NodeHistory) → FollowsNodes header lines t → AreNodeLinesOf header lines → ArePlayable lines
+    → (front back : List Occurrence) → occurrences_in t ≡ front ++ back → length front ≤ 100 * length lines
+front_long header lines t follows are play front back parts =
+    let all = lines_long header lines (new_world header.hosts.items) (world_fine header.hosts.items [] tt) are play in
+    let is = ap length (ap events_of_steps (sym follows.steps_are) ∙ parts) in
+    let both = length-append front back in
+    omega (arith, all, is, both)

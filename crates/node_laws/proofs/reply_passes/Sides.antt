@@ -1,0 +1,281 @@
+-- Turns and messages that are held are noted at the node's own ends.
+use Rattle.std.proofs.Common.{◌≡◌, ℕ, ◌&&◌, Bool, true, false, cond, eqb, List, [], ◌∷◌, ◌++◌, map, sym, refl, ap, ◌∙◌, subst, append_assoc}
+use Rattle.std.proofs.Common.{append-nil}
+use Rattle.std.specs.Prelude.{drop, not}
+use Rattle.std.specs.Option.{option_map_or}
+use Rattle.std.specs.List.{AllByRecursion}
+use Rattle.std.proofs.lemmas.List.Sums.{fold-append}
+use Rattle.trace_model.specs.declared.entry.Entry.{Entry}
+use Rattle.trace_model.specs.declared.entry.Entry.TheVariants as entry
+use Rattle.trace_model.specs.declared.line.End.{End}
+use Rattle.registry.proofs.ValueLemmas.{AllByRecursion-append}
+use Rattle.link_laws.specs.machine.Machine.{Message, is_held}
+use Rattle.link_laws.specs.entries.Entries.{End as Side, Entry as Noted}
+use Rattle.link_laws.specs.entries.Entries.End.{Controller, Host}
+use Rattle.link_laws.specs.entries.Entries.Entry.{Up, Down, Active, GaveUp, Acked, Got, Sent, Emit, Took, Lost, Tick, Restarted, Cut}
+use Rattle.history.specs.Filters.{same_end, same_side}
+use Rattle.history.specs.Steps.{end_of, entries_for, entry_of}
+use Rattle.node_machine.specs.Parts.{Port, Work, Deed}
+use Rattle.node_machine.specs.Parts.Deed.{Commits, Sends, SaysOk, Asks, Releases, Tells, IsAnswered, Drops, SetsErrors, Orders, Hears, GoesOn, Ends}
+use Rattle.node_machine.specs.Carrying.{own_side, port_at, all_done}
+use Rattle.node_machine.specs.Turns.{deeds_of, holds_back, lets_go}
+use Rattle.node_machine.specs.Node.{NodeInput, steps, begins_with, after_sessions, without_notice, forgets, forgotten}
+use Rattle.node_machine.specs.Node.NodeInput.{AtEnd, TimePasses}
+use Rattle.node_laws.proofs.telling.Mute.{IsPlain, IsMute, AreMute, deeds_mute, forgotten_mute, all_owed_mute, all_synced_mute}
+use Rattle.node_laws.proofs.readings.Noting.{IsBeside, NotesSo, Notes, all_do as notes_do, steps_note}
+use Rattle.node_laws.proofs.telling.Walks.{all_last, handling}
+use Rattle.node_laws.proofs.telling.Steps.{sessions_side}
+use Rattle.node_laws.proofs.steps.StepWalks.{unless}
+use Rattle.node_laws.specs.passes.Steps.{has_come_so, has_freed, has_synced, comes_to_pass, syncs_in, owed_in_step}
+use Rattle.node_laws.proofs.passes.Passing.{comes_so}
+use Rattle.node_laws.specs.passes.Passing.{ComesTo, ArePassed, IsTurnSo, AreNoTurns, IsNoTurn, waits_after, waits_behind}
+use Rattle.node_laws.specs.answers.Moments.{holds_in}
+
+-- ## No boots
+
+abbrev pub IsNoBoot : Entry → Type 0
+IsNoBoot (entry.Booted n k) = ⊥
+IsNoBoot _ = Unit {0}
+
+abbrev pub AreNoBoots : List Entry → Type 0
+AreNoBoots es = AllByRecursion IsNoBoot es
+
+note_unbooted : (h : ℕ) (x : Noted) → AreNoBoots (entry_of h x)
+note_unbooted h (Up who n) = (tt, tt)
+note_unbooted h (Down who cause) = (tt, tt)
+note_unbooted h (Active who) = (tt, tt)
+note_unbooted h (GaveUp who tries) = (tt, tt)
+note_unbooted h (Acked who n count) = (tt, tt)
+note_unbooted h (Got who n m) = (tt, tt)
+note_unbooted h (Sent who n m) = (tt, tt)
+note_unbooted h (Emit who frame) = (tt, tt)
+note_unbooted h (Took who frame) = (tt, tt)
+note_unbooted h (Lost who frame why) = (tt, tt)
+note_unbooted h Tick = tt
+note_unbooted h (Restarted who) = tt
+note_unbooted h (Cut who) = tt
+
+pub notes_unbooted : (h : ℕ) (xs : List Noted) → AreNoBoots (entries_for h xs)
+notes_unbooted h [] = tt
+notes_unbooted h (x ∷ xs) = AllByRecursion-append IsNoBoot (entry_of h x) (entries_for h xs) (note_unbooted h x) (notes_unbooted h xs)
+
+beside_unbooted : (n : ℕ) (x : Entry) → IsBeside n x → IsNoBoot x
+beside_unbooted n (entry.Booted m k) b = absurd b
+beside_unbooted n x b = tt
+
+plain_unbooted : (x : Entry) → IsPlain x → IsNoBoot x
+plain_unbooted (entry.Booted m k) p = absurd p
+plain_unbooted x p = tt
+
+mute_unbooted : (deeds : List Deed) → AreMute deeds → AllByRecursion (NotesSo IsNoBoot) deeds
+mute_unbooted [] all = tt
+mute_unbooted (d ∷ deeds) all = (one d all.0, mute_unbooted deeds all.1) where
+  one : (d : Deed) → IsMute d → NotesSo IsNoBoot d
+  one (Commits c) m = tt
+  one (Sends to m) i = tt
+  one SaysOk m = tt
+  one (Asks to message c) m = tt
+  one (Releases asker) m = tt
+  one (Tells to message) m = tt
+  one IsAnswered m = tt
+  one (Drops pid) m = tt
+  one (SetsErrors errors) m = tt
+  one (Orders message) m = tt
+  one Hears m = tt
+  one (GoesOn i) m = tt
+  one (Ends y) m = plain_unbooted y m
+
+any_ends : (ports : List Port) → AllByRecursion (λ (p : Port). Unit {0}) ports
+any_ends [] = tt
+any_ends (p ∷ ports) = (tt, any_ends ports)
+
+module _ (n : ℕ) (who : Side) where
+  abbrev Any : ℕ → Type 0
+  Any h = Unit {0}
+
+  from_here : (w : Work) → w.core.node ≡ n → own_side w.core ≡ who → AreNoBoots w.entries → Notes IsNoBoot n who Any w
+  from_here w number side none = record { number = number; side = side; ends = any_ends w.ports; so = none }
+
+  pub steps_unbooted : (input : NodeInput) (w : Work) → w.core.node ≡ n → own_side w.core ≡ who → AreNoBoots w.entries → AreNoBoots (steps input w).entries
+  steps_unbooted input w number side none =
+      (steps_note IsNoBoot n who Any (λ h x at own. note_unbooted h x) (λ h pid message at. tt) (beside_unbooted n)
+      (λ core ports h m is. mute_unbooted (deeds_of core ports h m) (deeds_mute core ports h m)) input w (from_here w number side none)).so
+
+  pub begins_unbooted : (h : ℕ) (deeds : List Deed) (w : Work) → AreMute deeds → w.core.node ≡ n → own_side w.core ≡ who → AreNoBoots w.entries
+      → AreNoBoots (begins_with h deeds w).entries
+  begins_unbooted h deeds w mute number side none =
+      (notes_do IsNoBoot n who Any (λ h x at own. note_unbooted h x) (λ h pid message at. tt) (beside_unbooted n)
+      (λ core ports h m is. mute_unbooted (deeds_of core ports h m) (deeds_mute core ports h m)) h deeds w (mute_unbooted deeds mute)
+      (from_here w number side none)).so
+
+pub front_unbooted : (xs ys : List Entry) → AreNoBoots (xs ++ ys) → AreNoBoots xs × AreNoBoots ys
+front_unbooted [] ys a = (tt, a)
+front_unbooted (x ∷ xs) ys a = let rest = front_unbooted xs ys a.1 in ((a.0, rest.0), rest.1)
+
+-- ## Sides
+
+abbrev pub is_host_side : Side → Bool
+is_host_side Controller = false
+is_host_side Host = true
+
+-- a turn, and a message that is held, stand at an end of this side, and no boot is noted
+abbrev pub IsOnSide : Bool → Entry → Type 0
+IsOnSide b (entry.Turn f pid message) = f.at_host ≡ b
+IsOnSide b (entry.Held f need spare) = f.at_host ≡ b
+IsOnSide b (entry.Booted n k) = ⊥
+IsOnSide b _ = Unit {0}
+
+abbrev pub AreOnSide : Bool → List Entry → Type 0
+AreOnSide b es = AllByRecursion (IsOnSide b) es
+
+quiet_one : (b : Bool) (x : Entry) → IsNoTurn x → IsNoBoot x → IsOnSide b x
+quiet_one b (entry.Turn f pid message) none un = absurd (cc none)
+quiet_one b (entry.Held f need spare) none un = absurd (cc none)
+quiet_one b (entry.Booted n k) none un = absurd un
+quiet_one b x none un = tt
+
+pub quiet_sided : (b : Bool) (es : List Entry) → AreNoTurns es → AreNoBoots es → AreOnSide b es
+quiet_sided b [] none un = tt
+quiet_sided b (x ∷ es) none un = (quiet_one b x none.0 un.0, quiet_sided b es none.1 un.1)
+
+side_of_end : (who : Side) (h : ℕ) → (end_of h who).at_host ≡ is_host_side who
+side_of_end Controller h = refl
+side_of_end Host h = refl
+
+-- what holds of each entry holds of all
+each_all : (P : Entry → Type 0) (es : List Entry) → ((front back : List Entry) (x : Entry) → es ≡ front ++ (x ∷ back) → P x) → AllByRecursion P es
+each_all P [] each = tt
+each_all P (x ∷ es) each = (each [] es x refl, each_all P es (λ front back y e. each (x ∷ front) back y (ap (λ l. x ∷ l) e)))
+
+-- ## A pass
+
+-- a node keeps its side over its turns
+module _ (who : Side) where
+  abbrev IsSide : Work → Type 0
+  IsSide w = own_side w.core ≡ who
+
+  pub side_comes : (w v : Work) → IsSide w → ComesTo w v → IsSide v
+  side_comes w v side c = comes_so IsSide (record {
+    handled = λ v h m messages a on waiting room still.
+        handling IsSide (λ es u s p a. a) (λ k f u host a. a) (λ k t u a. a) (λ x y cut core ports entries a. ap
+        (λ (m : ℕ). cond (eqb m 0) Controller Host) core ∙ a)
+        (λ writes u a. a) h m (deeds_of v.core v.ports h m) v (deeds_mute v.core v.ports h m) a;
+    held = λ v h m messages short a on waiting lacks. held_side h short v a;
+    let_go = λ v h a on waiting. lets_side h v a;
+  }) w side v c where
+    held_side : (h : ℕ) (short : ℕ × ℕ) (v : Work) → IsSide v → IsSide (holds_back h short v)
+    held_side h short v a =
+        by (option_map_or (λ (p : Port). p.desk.holds) (port_at v.ports h) false) refl where
+          by : (b : Bool) → option_map_or (λ (p : Port). p.desk.holds) (port_at v.ports h) false ≡ b → IsSide (holds_back h short v)
+          by true q = rw q a
+          by false q = rw q a
+
+    lets_side : (h : ℕ) (v : Work) → IsSide v → IsSide (lets_go h v)
+    lets_side h v a = by (option_map_or (λ (p : Port). is_held p.side) (port_at v.ports h) false) refl where
+      by : (b : Bool) → option_map_or (λ (p : Port). is_held p.side) (port_at v.ports h) false ≡ b → IsSide (lets_go h v)
+      by true q = rw q a
+      by false q = rw q a
+
+  turn_sided : (w : Work) → IsSide w → (front back : List Entry) (x : Entry) → IsTurnSo (ComesTo w) w front x back → IsNoBoot x
+      → IsOnSide (is_host_side who) x
+  turn_sided w side front back (entry.Turn e pid message) t un =
+      ap (λ (f : End). f.at_host) t.its_end
+      ∙ (ap (λ s. (end_of t.host s).at_host) (side_comes w t.work side t.keeps) ∙ side_of_end who t.host)
+  turn_sided w side front back (entry.Held e need spare) t un =
+      ap (λ (f : End). f.at_host) t.its_end
+      ∙ (ap (λ s. (end_of t.host s).at_host) (side_comes w t.work side t.keeps) ∙ side_of_end who t.host)
+  turn_sided w side front back (entry.Booted n k) t un = absurd un
+  turn_sided w side front back x t un = tt
+
+  pub pass_sided : (w v : Work) (hosts : List ℕ) → IsSide w → (p : ArePassed (ComesTo w) hosts w v) → AreNoBoots p.more → AreOnSide (is_host_side who) p.more
+  pass_sided w v hosts side p un = each_all (IsOnSide (is_host_side who)) p.more (λ front back x e.
+      turn_sided w side front back x (p.each front back x e) (one_of front back x (subst AreNoBoots e un))) where
+        one_of : (front back : List Entry) (x : Entry) → AreNoBoots (front ++ (x ∷ back)) → IsNoBoot x
+        one_of front back x a = (front_unbooted front (x ∷ back) a).1.0
+
+-- ## What is read of messages that are held
+
+same_by : (f : End) (k : ℕ) (b : Bool) → f.at_host ≡ b → same_end f (record { link = k; at_host = b }) ≡ eqb f.link k
+same_by f k b q = ap (λ c. eqb f.link k && same_side c b) q ∙ right (eqb f.link k) b where
+  right : (a b : Bool) → (a && same_side b b) ≡ a
+  right true true = refl
+  right true false = refl
+  right false true = refl
+  right false false = refl
+
+other_by : (f : End) (k : ℕ) (b : Bool) → f.at_host ≡ not b → same_end f (record { link = k; at_host = b }) ≡ false
+other_by f k b q = ap (λ c. eqb f.link k && same_side c b) q ∙ right (eqb f.link k) b where
+  right : (a b : Bool) → (a && same_side (not b) b) ≡ false
+  right true true = refl
+  right true false = refl
+  right false true = refl
+  right false false = refl
+
+module _ (k : ℕ) (b : Bool) where
+  abbrev e : End
+  e = record { link = k; at_host = b }
+
+  told_one : (s : List Entry) (x : Entry) (ms : List Message) → IsOnSide b x
+      → holds_in (s ++ x ∷ []) e ≡ (waits_after k (ms, holds_in s e) x).1
+  told_one s (entry.Turn f pid message) ms on =
+      fold-append _ false s (entry.Turn f pid message ∷ [])
+      ∙ (ap (λ c. cond c false (holds_in s e)) (same_by f k b on) ∙ by (eqb f.link k)) where
+        by : (c : Bool) → cond c false (holds_in s e) ≡ (cond {A = List Message × Bool} c (drop 1 ms, false) (ms, holds_in s e)).1
+        by true = refl
+        by false = refl
+  told_one s (entry.Held f need spare) ms on =
+      fold-append _ false s (entry.Held f need spare ∷ [])
+      ∙ (ap (λ c. cond c true (holds_in s e)) (same_by f k b on) ∙ by (eqb f.link k)) where
+        by : (c : Bool) → cond c true (holds_in s e) ≡ (cond {A = List Message × Bool} c (ms, true) (ms, holds_in s e)).1
+        by true = refl
+        by false = refl
+  told_one s (entry.Booted n count) ms on = absurd on
+  told_one s x ms on = fold-append _ false s (x ∷ [])
+
+  -- what is noted of turns at this side
+  pub told_all : (s es : List Entry) (ms : List Message) → AreOnSide b es → holds_in (s ++ es) e ≡ (waits_behind k (ms, holds_in s e) es).1
+  told_all s [] ms on = ap (λ l. holds_in l e) (append-nil s)
+  told_all s (x ∷ es) ms on =
+      ap (λ l. holds_in l e) (sym (append_assoc s (x ∷ []) es))
+      ∙ (told_all (s ++ x ∷ []) es (waits_after k (ms, holds_in s e) x).0 on.1
+      ∙ ap (λ c. (waits_behind k ((waits_after k (ms, holds_in s e) x).0, c) es).1) (told_one s x ms on.0))
+
+  far_one : (s : List Entry) (x : Entry) → IsOnSide (not b) x → holds_in (s ++ x ∷ []) e ≡ holds_in s e
+  far_one s (entry.Turn f pid message) on =
+      fold-append _ false s (entry.Turn f pid message ∷ []) ∙ ap (λ c. cond c false (holds_in s e)) (other_by f k b on)
+  far_one s (entry.Held f need spare) on =
+      fold-append _ false s (entry.Held f need spare ∷ []) ∙ ap (λ c. cond c true (holds_in s e)) (other_by f k b on)
+  far_one s (entry.Booted n count) on = absurd on
+  far_one s x on = fold-append _ false s (x ∷ [])
+
+  -- what is noted at the other side of links leaves it
+  pub far_all : (s es : List Entry) → AreOnSide (not b) es → holds_in (s ++ es) e ≡ holds_in s e
+  far_all s [] on = ap (λ l. holds_in l e) (append-nil s)
+  far_all s (x ∷ es) on =
+      ap (λ l. holds_in l e) (sym (append_assoc s (x ∷ []) es)) ∙ (far_all (s ++ x ∷ []) es on.1 ∙ far_one s x on.0)
+
+  -- and so does what tells of no turn
+  pub quiet_all : (s es : List Entry) → AreNoTurns es → AreNoBoots es → holds_in (s ++ es) e ≡ holds_in s e
+  quiet_all s es none un = far_all s es (quiet_sided (not b) es none un)
+
+-- a node keeps its side until its pass begins
+module _ (who : Side) where
+  all_side : (h : ℕ) (deeds : List Deed) (v : Work) → AreMute deeds → own_side v.core ≡ who → own_side (all_done h deeds v).core ≡ who
+  all_side h deeds v mute a =
+      all_last (λ (x : Work). own_side x.core ≡ who) (λ es u s p a. a) (λ k f u host a. a) (λ k t u a. a)
+      (λ x y cut core ports entries a. ap (λ (m : ℕ). cond (eqb m 0) Controller Host) core ∙ a) (λ writes u a. a) h deeds v mute a
+
+  timed_side : (input : NodeInput) (w : Work) → own_side w.core ≡ who → own_side (has_come_so input w).core ≡ who
+  timed_side (AtEnd h i) w a = a
+  timed_side TimePasses w a = a
+
+  pub begun_side : (input : NodeInput) (w : Work) → own_side w.core ≡ who → own_side (comes_to_pass input w).core ≡ who
+  begun_side input w a =
+      let came : Work = has_come_so input w in
+      let start : Work = record came { core = after_sessions came.core came.ports; ports = map without_notice (map (forgets came.ports) came.ports) } in
+      let freed : own_side (has_freed input w).core ≡ who =
+      all_side 0 (forgotten came.ports) start (forgotten_mute came.ports) (sessions_side came.core came.ports ∙ timed_side input w a) in
+      let synced : own_side (has_synced input w).core ≡ who =
+      all_side 0 (syncs_in input w) (has_freed input w) (all_synced_mute w.core input w.ports) freed in
+      unless (λ (x : Work). own_side x.core ≡ who) (all_done 0 (owed_in_step input w)) (has_synced input w)
+      (λ v b. all_side 0 (owed_in_step input w) v (all_owed_mute (map (forgets came.ports) came.ports)) b) synced

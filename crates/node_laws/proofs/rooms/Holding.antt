@@ -1,0 +1,98 @@
+-- The messages of an end that aren't acknowledged whole are those that are read to be so.
+use Rattle.std.proofs.Common.{◌≡◌, ℕ, cond, List, [], ◌∷◌, ◌++◌, Some, None, refl, ap, ap₂, sym, subst, ◌∙◌}
+use Rattle.std.specs.Prelude.{drop}
+use Rattle.trace_model.specs.declared.entry.Entry.{Entry}
+use Rattle.trace_model.specs.declared.line.End.{End}
+use Rattle.shdlc_core.specs.declared.answers.LinkState.{LinkState}
+use Rattle.shdlc_core.specs.declared.answers.LinkState.TheVariants.{Up, Waiting, Down}
+use Rattle.link_laws.specs.machine.Machine.{Message, whole_among, whole_acked}
+use Rattle.link_laws.proofs.machine.Runs.{Sound}
+use Rattle.link_laws.specs.messages.Links.{NumberedEnd, Link, LinkEvent, number_of, talk_now, talk_of, ended_talk, happens, after_link_events, AllAllowed}
+use Rattle.link_laws.specs.messages.Links.IsStart.{IsLine}
+use Rattle.link_laws.specs.messages.Projection.{core_of, core_event}
+use Rattle.link_laws.proofs.messages.Runs.{Good, Reached, reached_more, event_step}
+use Rattle.link_laws.proofs.messages.Whole.{start_good, start_reached}
+use Rattle.link_laws.specs.entries.Entries.{Entry as Note, event_entries, first_entries}
+use Rattle.link_laws.specs.entries.Sessions.{number_now as own_session}
+use Rattle.link_laws.proofs.entries.Books.{up_talk}
+use Rattle.link_laws.proofs.entries.Lasting.{same_number}
+use Rattle.link_laws.proofs.entries.Running.{Sounds, Noted, note_event, start_noted}
+use Rattle.node_machine.specs.world.World.{end_c, end_h, node_of}
+use Rattle.node_machine.specs.world.NodeFilters.{session_now, unacknowledged_in, aside_in}
+use Rattle.node_laws.specs.links.Runs.{new_line}
+use Rattle.node_laws.specs.order.Told.{IsLinkTold, IsReadOff, AreReadOff}
+use Rattle.node_laws.proofs.order.Quiet.{read_off}
+use Rattle.node_laws.specs.notices.Spares.{IsEndRead}
+use Rattle.node_laws.specs.rooms.Rooms.{IsHeldRead, AreHeldRead}
+
+-- ## Both ends are sound
+
+all_sounds : (es : List LinkEvent) (t : List Note) (l : Link) → AllAllowed l es → Good l → Reached (core_of l) → Noted t l → Sounds (after_link_events l es)
+all_sounds [] t l a g r n = n.sounds
+all_sounds (e ∷ es) t l a g r n =
+    let m : Link = happens l e in
+    let st = event_step l e a.0 g r in
+    let next : Reached (core_of m) = subst Reached (sym st.core) (reached_more (core_of l) (core_event l e) st.allowed r) in
+    all_sounds es (t ++ event_entries l e) m a.1 st.good next (note_event t l e a.0 g r n).noted
+
+run_sounds : (events : List LinkEvent) → AllAllowed new_line events → Sounds (after_link_events new_line events)
+run_sounds events a =
+    all_sounds events (first_entries new_line.controller.side.role) new_line a (start_good new_line IsLine) (start_reached new_line IsLine)
+    (start_noted new_line IsLine)
+
+pub told_sounds : (h : ℕ) (l : Link) (t : List Entry) → IsLinkTold h l t → Sounds l
+told_sounds h l t a = subst Sounds a.run.is (run_sounds a.events a.run.allowed)
+
+-- ## One end
+
+module _ (t : List Entry) (e : End) (k : NumberedEnd) (reads : (n : ℕ) → IsReadOff t e n (talk_of k n)) (sound : Sound k.side) where
+  now : k.side.shdlc.phase ≡ Up → IsReadOff t e (number_of k) (talk_now k.side)
+  now up =
+      let is : talk_of k (number_of k) ≡ talk_now k.side =
+      up_talk k (number_of k) up ∙ ap (λ b. cond b (talk_now k.side) (ended_talk k.past (number_of k))) (same_number (number_of k)) in
+      subst (IsReadOff t e (number_of k)) is (reads (number_of k))
+
+  none : (k.side.shdlc.phase ≡ Up → ⊥) → k.side.sent ≡ []
+  none down = sound.is.forgot down
+
+  pub held_is : IsHeldRead t e k
+  held_is = go k.side.shdlc.phase refl where
+    nothing : (k.side.shdlc.phase ≡ Up → ⊥) → drop (whole_acked k.side) k.side.sent ≡ []
+    nothing down = ap (λ (ms : List Message). drop (whole_among ms k.side.shdlc.session.acked) ms) (none down)
+
+    go : (p : LinkState) → k.side.shdlc.phase ≡ p → IsHeldRead t e k
+    go Up q =
+        let is : own_session k ≡ Some (number_of k) = rw q refl in
+        ap (unacknowledged_in t e) is ∙ ap₂ (λ n (ms : List Message). drop n ms) (now q).acked (now q).sent
+    go Waiting q =
+        let is : own_session k ≡ None = rw q refl in
+        ap (unacknowledged_in t e) is ∙ sym (nothing (λ up. let z : Waiting ≡ Up = sym q ∙ up in cc))
+    go Down q =
+        let is : own_session k ≡ None = rw q refl in
+        ap (unacknowledged_in t e) is ∙ sym (nothing (λ up. let z : Down ≡ Up = sym q ∙ up in cc))
+
+  -- with its session and the block that is set aside all of it is read
+  pub end_is : session_now t e (node_of e) ≡ own_session k → aside_in t e ≡ k.side.aside → IsEndRead t e k
+  end_is session aside = record { session = session; sent = λ up. (now up).sent; acked = λ up. (now up).acked; none = none; aside = aside }
+
+-- ## A link that is told
+
+module _ (h : ℕ) (l : Link) (t : List Entry) (a : IsLinkTold h l t) where
+  reads : AreReadOff t h l
+  reads = read_off h l t a
+
+  sounds : Sounds l
+  sounds = told_sounds h l t a
+
+  pub held : AreHeldRead t h l
+  held = record {
+    controller = held_is t (end_c h) l.controller reads.controller sounds.controller;
+    host = held_is t (end_h h) l.host reads.host sounds.host;
+  }
+
+  pub controller_end : session_now t (end_c h) 0 ≡ own_session l.controller → aside_in t (end_c h) ≡ l.controller.side.aside
+      → IsEndRead t (end_c h) l.controller
+  controller_end = end_is t (end_c h) l.controller reads.controller sounds.controller
+
+  pub host_end : session_now t (end_h h) h ≡ own_session l.host → aside_in t (end_h h) ≡ l.host.side.aside → IsEndRead t (end_h h) l.host
+  host_end = end_is t (end_h h) l.host reads.host sounds.host

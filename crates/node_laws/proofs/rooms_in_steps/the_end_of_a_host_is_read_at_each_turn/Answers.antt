@@ -1,0 +1,10 @@
+use Rattle.std.proofs.Common.{subst}
+use Rattle.node_machine.specs.world.World.{NodeWorld}
+use Rattle.node_laws.proofs.order.Lines.{IsSo, history_so}
+use Rattle.node_laws.proofs.read_rooms.HostLines.{host_read}
+use Rattle.node_laws.proofs.rooms_in_steps.the_end_of_a_host_is_read_at_each_turn.Goals as goal
+
+pub returns : goal.returns
+returns c = λ header lines t follows are playable front back q w is h s found r runs comes i input.
+    let P : NodeWorld → Type 0 = IsSo header.hosts.items front in
+    host_read header.hosts.items front w (subst P is (history_so header lines t follows are playable front back q)) h s found r runs comes i input

@@ -1,0 +1,10 @@
+use Rattle.std.proofs.Common.{subst}
+use Rattle.node_machine.specs.world.World.{NodeWorld}
+use Rattle.node_laws.proofs.order.Lines.{IsSo, history_so}
+use Rattle.node_laws.proofs.read_rooms.HostLines.{activated_read}
+use Rattle.node_laws.proofs.rooms_in_steps.the_end_of_a_host_is_read_at_each_turn_of_its_activation.Goals as goal
+
+pub returns : goal.returns
+returns c = λ header lines t follows are playable front back q w is h power sync s found r runs.
+    let P : NodeWorld → Type 0 = IsSo header.hosts.items front in
+    activated_read header.hosts.items front w (subst P is (history_so header lines t follows are playable front back q)) h power s found r runs sync

@@ -1,0 +1,106 @@
+-- A schedule whose lines have every form of nodes, and lines that are outside the ranges.
+use Rattle.std.proofs.Common.{◌≡◌, ℕ, zero, suc, true, List, [], ◌∷◌, length, refl, sym, arith}
+use Rattle.std.specs.Prelude.{Some, None, All, Contains}
+use Rattle.std.specs.List.Sorted.{IsStrictlyIncreasing}
+use Rattle.std.proofs.lemmas.Bool.{true≢false}
+use Rattle.std.proofs.lemmas.List.Elements.{All-from_recursion}
+use Rattle.swp_base.specs.Bits.{IsByte}
+use Rattle.trace_model.specs.declared.line.End.{End}
+use Rattle.trace_model.specs.declared.line.Header.{Header}
+use Rattle.trace_model.specs.declared.line.Line.{Line}
+use Rattle.trace_model.specs.declared.line.Line.TheVariants as line
+use Rattle.trace_model.specs.Lines.{IsHost}
+use Rattle.node_machine.specs.world.World.{end_c, end_h}
+use Rattle.node_laws.specs.schedules.Ranges.{IsNodeLineOf, AreNodeLinesOf}
+use Rattle.trace_model.specs.Lines.{IsNodeHeader}
+
+-- `swp 1 hci 01 02`
+abbrev two_hosts : Header
+two_hosts = record { hci = true; hosts = record { items = 1 ∷ 2 ∷ [] } }
+
+rising : IsStrictlyIncreasing (1 ∷ 2 ∷ [])
+rising zero within = omega arith
+rising (suc k) within = absurd (omega (arith, within))
+
+header_in_range : IsNodeHeader two_hosts
+header_in_range = record {
+  nodes = refl;
+  some = omega arith;
+  hosts = All-from_recursion IsHost (1 ∷ 2 ∷ []) ((omega arith, omega arith), ((omega arith, omega arith), tt));
+  rising = rising;
+}
+
+second : Contains two_hosts.hosts.items 2
+second = (1, omega arith, refl)
+
+-- `send 02h 01 03`
+abbrev sends : Line
+sends = line.Send (end_h 2) 1 (3 ∷ [])
+
+sent : IsNodeLineOf two_hosts sends
+sent = record {
+  known = second;
+  sender = λ h. refl;
+  pipe = omega arith;
+  some = omega arith;
+  bytes = All-from_recursion IsByte (3 ∷ []) (omega arith, tt);
+}
+
+-- `arm 00 1 13`
+abbrev arms : Line
+arms = line.Arm 0 1 (record { items = 19 ∷ [] })
+
+armed : IsNodeLineOf two_hosts arms
+armed = record {
+  known = refl;
+  which = (omega arith, omega arith);
+  long = (omega arith, omega arith);
+  bytes = All-from_recursion IsByte (19 ∷ []) (omega arith, tt);
+}
+
+-- `init 02h 0102030405060708 200004`
+abbrev identity : List ℕ
+identity = 1 ∷ 2 ∷ 3 ∷ 4 ∷ 5 ∷ 6 ∷ 7 ∷ 8 ∷ []
+
+abbrev triple : List ℕ
+triple = 32 ∷ 0 ∷ 4 ∷ []
+
+abbrev inits : Line
+inits = line.Init (end_h 2) identity (record { items = triple ∷ [] })
+
+begun : IsNodeLineOf two_hosts inits
+begun = record {
+  known = second;
+  host = refl;
+  long = refl;
+  bytes = All-from_recursion IsByte identity
+      (omega arith, (omega arith, (omega arith, (omega arith, (omega arith, (omega arith, (omega arith, (omega arith, tt))))))));
+  few = omega arith;
+  each = All-from_recursion (λ pipe. (length pipe ≡ 3) × All IsByte pipe) (triple ∷ [])
+      ((refl, All-from_recursion IsByte triple (omega arith, (omega arith, (omega arith, tt)))), tt);
+}
+
+-- `boot 00`, `boot 02`, `activate 02 1A2B 01`, `deliver 02c`, these three, `tables 00`, `cut 02`, `tick 100`
+abbrev many_lines : List Line
+many_lines =
+    line.Boot 0 ∷ line.Boot 2 ∷ line.Activate 2 6699 1 ∷ line.Deliver (end_c 2) None ∷ sends ∷ arms ∷ inits ∷ line.Tables 0 ∷ line.Cut 2 ∷ line.Tick (Some
+    100) ∷ []
+
+activated : IsNodeLineOf two_hosts (line.Activate 2 6699 1)
+activated = record { known = second; identifier = omega arith; code = omega arith }
+
+lines_in_range : AreNodeLinesOf two_hosts many_lines
+lines_in_range =
+    (refl, (refl, (activated, ((second, tt), (sent, (armed, (begun, (refl, (refl, ((omega arith, omega arith), tt))))))))))
+
+-- no end of a world of nodes is made busy by a line
+busy_is_outside : (e : End) → IsNodeLineOf two_hosts (line.Busy e) → ⊥
+busy_is_outside e is = true≢false is.0
+
+-- the controller sends nothing by a line
+controller_sends_nothing : (pid : ℕ) (message : List ℕ) → IsNodeLineOf two_hosts (line.Send (end_c 2) pid message) → ⊥
+controller_sends_nothing pid message is = true≢false (sym (is.sender refl))
+
+-- a power code is 00 or 01
+power_02_is_outside : IsNodeLineOf two_hosts (line.Activate 2 6699 2) → ⊥
+power_02_is_outside is = let low = is.code in omega (arith, low)

@@ -1,0 +1,164 @@
+-- No wire of a link holds more than 64 frames.
+use Rattle.std.proofs.Common.{◌≡◌, ◌+◌, ◌≤◌, Bool, true, false, cond, List, [], ◌∷◌, ◌++◌, length, length-append, length-drop, drop, sym, refl, subst, arith}
+use Rattle.std.specs.Prelude.{nat_lt, is_some}
+use Rattle.std.proofs.lemmas.Bool.{ltb-false}
+use Rattle.swp_base.specs.declared.control_frames.Control.{Control}
+use Rattle.link_laws.specs.sessions.Sessions.{OnWire, is_rset, fits, aged_wire, took_with}
+use Rattle.link_laws.specs.machine.Machine.{LinkEnd, LinkInput, Turn, turned, after_input, frames_out, ended_by, started, deactivated}
+use Rattle.link_laws.specs.machine.Machine.LinkInput.{Take, Tick, Reset}
+use Rattle.link_laws.specs.messages.Links.{Link, Ending, Comes, EndEvent, LinkEvent, exchanged, put, put_all, with_ended, finished, has_input, has_taken}
+use Rattle.link_laws.specs.messages.Links.{has_restarted, steps_at_controller, happens_at_controller, all_at_controller, aged, ticks_at_controller, happens}
+use Rattle.link_laws.specs.messages.Links.{after_link_events, silent}
+use Rattle.link_laws.specs.messages.Links.Ending.{GoesOut, CutOff}
+use Rattle.link_laws.specs.messages.Links.Comes.{NextFrame, AsksReset, Starts, Stops, NoInput}
+use Rattle.link_laws.specs.messages.Links.EndEvent.{Step, Lose}
+use Rattle.link_laws.specs.messages.Links.LinkEvent.{AtController, AtHost, Ticks, TicksWithout, Activate}
+use Rattle.node_laws.specs.links.Runs.{IsRun, new_line}
+
+-- both wires hold 64 frames at most
+pub record IsFewWires (l : Link) : Type 0 where
+  pub to_controller : length l.to_controller ≤ 64
+  pub to_host : length l.to_host ≤ 64
+
+-- ## Frames go out
+
+fits_few : (wire : List OnWire) (x : OnWire) → length wire ≤ 64 → length (fits (wire ++ x ∷ [])) ≤ 64
+fits_few wire x few = go (nat_lt 64 (length (wire ++ x ∷ []))) refl where
+  long : length (wire ++ x ∷ []) ≡ length wire + 1
+  long = length-append wire (x ∷ [])
+
+  go : (b : Bool) → nat_lt 64 (length (wire ++ x ∷ [])) ≡ b → length (cond b (drop 1 (wire ++ x ∷ [])) (wire ++ x ∷ [])) ≤ 64
+  go true q = let less = length-drop 1 (wire ++ x ∷ []) in omega (arith, less, long, few)
+  go false q = let low = ltb-false 64 (length (wire ++ x ∷ [])) q in omega (arith, low)
+
+put_few : (l : Link) (c : Control) → IsFewWires l → IsFewWires (put l c)
+put_few l c a = go (is_rset c) where
+  by : Bool → Link
+  by true =
+      record l {
+        to_host = fits (l.to_host ++ record { frame = c; age = 0; number = l.resets + 1 } ∷ []);
+        controller = record l.controller { emitted = l.resets + 1 };
+        resets = l.resets + 1;
+      }
+  by false = record l { to_host = fits (l.to_host ++ record { frame = c; age = 0; number = 0 } ∷ []) }
+
+  go : (b : Bool) → IsFewWires (by b)
+  go true = record { to_controller = a.to_controller; to_host = fits_few l.to_host (record { frame = c; age = 0; number = l.resets + 1 }) a.to_host }
+  go false = record { to_controller = a.to_controller; to_host = fits_few l.to_host (record { frame = c; age = 0; number = 0 }) a.to_host }
+
+puts_few : (l : Link) (cs : List Control) → IsFewWires l → IsFewWires (put_all l cs)
+puts_few l [] a = a
+puts_few l (c ∷ cs) a = puts_few (put l c) cs (put_few l c a)
+
+-- ## Steps of one end
+
+-- a link with these wires
+same_few : (l m : Link) → m.to_controller ≡ l.to_controller → m.to_host ≡ l.to_host → IsFewWires l → IsFewWires m
+same_few l m p q a = record {
+  to_controller = subst (λ (w : List OnWire). length w ≤ 64) (sym p) a.to_controller;
+  to_host = subst (λ (w : List OnWire). length w ≤ 64) (sym q) a.to_host;
+}
+
+ended_few : (l : Link) (b : Bool) → IsFewWires l → IsFewWires (with_ended l b)
+ended_few l true a = record { to_controller = a.to_controller; to_host = a.to_host }
+ended_few l false a = a
+
+silent_few : (l : Link) (e : LinkEnd) → IsFewWires (silent l e)
+silent_few l e = record { to_controller = omega arith; to_host = omega arith }
+
+finished_few : (l : Link) (e : LinkEnd) (ending : Ending) → IsFewWires l → IsFewWires (finished l e ending)
+finished_few l e GoesOut a =
+    let p : IsFewWires (put_all l (frames_out e)) = puts_few l (frames_out e) a in record { to_controller = p.to_controller; to_host = p.to_host }
+finished_few l e CutOff a = record { to_controller = omega arith; to_host = omega arith }
+
+input_few : (l : Link) (i : LinkInput) (ts : List Turn) (ending : Ending) → IsFewWires l → IsFewWires (has_input l i ts ending)
+input_few l i ts ending a =
+    let b : Bool = is_some (ended_by l.controller.side i) in
+    finished_few (with_ended l b) (turned (after_input l.controller.side i) ts) ending (ended_few l b a)
+
+taken_few : (l : Link) (x : OnWire) (xs : List OnWire) (ts : List Turn) (ending : Ending) → length xs ≤ 64 → length l.to_host ≤ 64
+    → IsFewWires (has_taken l x xs ts ending)
+taken_few l x xs ts ending near far =
+    let b : Bool = is_some (ended_by l.controller.side (Take x.frame)) in
+    let k : Link = record l { to_controller = xs } in
+    let m : Link = with_ended k b in
+    let fine : IsFewWires m = ended_few k b (record { to_controller = near; to_host = far }) in
+    finished_few (record m { controller = record m.controller { took = took_with l.controller.took x } })
+    (turned (after_input l.controller.side (Take x.frame)) ts) ending (record { to_controller = fine.to_controller; to_host = fine.to_host })
+
+restarted_few : (l : Link) (e : LinkEnd) (ts : List Turn) (ending : Ending) → IsFewWires (has_restarted l e ts ending)
+restarted_few l e ts ending = finished_few (silent l e) (turned e ts) ending (silent_few l e)
+
+step_few : (l : Link) (comes : Comes) (ts : List Turn) (ending : Ending) → IsFewWires l → IsFewWires (steps_at_controller l comes ts ending)
+step_few l NextFrame ts ending a = go l.to_controller a.to_controller where
+  by : List OnWire → Link
+  by [] = l
+  by (x ∷ xs) = has_taken l x xs ts ending
+
+  go : (xs : List OnWire) → length xs ≤ 64 → IsFewWires (by xs)
+  go [] few = a
+  go (x ∷ xs) few = taken_few l x xs ts ending (omega (arith, few)) a.to_host
+step_few l (AsksReset window) ts ending a = input_few l (Reset window) ts ending a
+step_few l (Starts value) ts ending a = restarted_few l (started l.controller.side value) ts ending
+step_few l Stops ts ending a = restarted_few l (deactivated l.controller.side) ts ending
+step_few l NoInput ts ending a = finished_few l (turned l.controller.side ts) ending a
+
+here_few : (l : Link) (e : EndEvent) → IsFewWires l → IsFewWires (happens_at_controller l e)
+here_few l (Step comes ts ending) a = step_few l comes ts ending a
+here_few l (Lose why) a =
+    let less = length-drop 1 l.to_controller in
+    let few = a.to_controller in
+    record { to_controller = omega (arith, less, few); to_host = a.to_host }
+
+all_few : (l : Link) (es : List EndEvent) → IsFewWires l → IsFewWires (all_at_controller l es)
+all_few l [] a = a
+all_few l (e ∷ es) a = all_few (happens_at_controller l e) es (here_few l e a)
+
+-- ## Events
+
+swapped_few : (l : Link) → IsFewWires l → IsFewWires (exchanged l)
+swapped_few l a = record { to_controller = a.to_host; to_host = a.to_controller }
+
+aged_wire_few : (wire : List OnWire) → length (aged_wire wire) ≤ length wire
+aged_wire_few [] = omega arith
+aged_wire_few (x ∷ wire) = go (nat_lt x.age 4) (aged_wire_few wire) where
+  go : (b : Bool) → length (aged_wire wire) ≤ length wire
+      → length (cond b (record x { age = x.age + 1 } ∷ aged_wire wire) (aged_wire wire)) ≤ length (x ∷ wire)
+  go true rest = omega (arith, rest)
+  go false rest = omega (arith, rest)
+
+aged_few : (l : Link) → IsFewWires l → IsFewWires (aged l)
+aged_few l a =
+    let near = aged_wire_few l.to_controller in
+    let far = aged_wire_few l.to_host in
+    let p = a.to_controller in
+    let q = a.to_host in
+    record { to_controller = omega (arith, near, p); to_host = omega (arith, far, q) }
+
+tick_few : (l : Link) (ts : List Turn) (ending : Ending) → IsFewWires l → IsFewWires (ticks_at_controller l ts ending)
+tick_few l ts ending a = input_few l Tick ts ending a
+
+event_few : (l : Link) (e : LinkEvent) → IsFewWires l → IsFewWires (happens l e)
+event_few l (AtController e) a = here_few l e a
+event_few l (AtHost e) a = swapped_few (happens_at_controller (exchanged l) e) (here_few (exchanged l) e (swapped_few l a))
+event_few l (Ticks c events h) a =
+    let near : Link = all_at_controller (ticks_at_controller (aged l) c.turns c.ending) events in
+    let fine : IsFewWires near =
+    all_few (ticks_at_controller (aged l) c.turns c.ending) events (tick_few (aged l) c.turns c.ending (aged_few l a)) in
+    swapped_few (ticks_at_controller (exchanged near) h.turns h.ending) (tick_few (exchanged near) h.turns h.ending (swapped_few near fine))
+event_few l (TicksWithout events h) a =
+    let near : Link = all_at_controller (aged l) events in
+    let fine : IsFewWires near = all_few (aged l) events (aged_few l a) in
+    swapped_few (ticks_at_controller (exchanged near) h.turns h.ending) (tick_few (exchanged near) h.turns h.ending (swapped_few near fine))
+event_few l (Activate power c id h) a =
+    let near : Link = steps_at_controller l (Starts power) c.turns c.ending in
+    let fine : IsFewWires near = step_few l (Starts power) c.turns c.ending a in
+    swapped_few (steps_at_controller (exchanged near) (Starts id) h.turns h.ending)
+    (step_few (exchanged near) (Starts id) h.turns h.ending (swapped_few near fine))
+
+after_few : (es : List LinkEvent) (l : Link) → IsFewWires l → IsFewWires (after_link_events l es)
+after_few [] l a = a
+after_few (e ∷ es) l a = after_few es (happens l e) (event_few l e a)
+
+pub run_few : (l : Link) → IsRun l → IsFewWires l
+run_few l r = subst IsFewWires r.run.is (after_few r.events new_line (record { to_controller = omega arith; to_host = omega arith }))

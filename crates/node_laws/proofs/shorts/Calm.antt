@@ -1,0 +1,265 @@
+-- Entries that change nothing of what decides a reply of a host: behind them a message there lacks what it lacked before.
+use Rattle.std.proofs.Common.{◌≡◌, ℕ, ◌-◌, ◌+◌, Bool, true, false, cond, eqb, List, [], ◌∷◌, ◌++◌, drop, map, sym, subst, refl, ap, ap₂, ◌∙◌}
+use Rattle.std.proofs.Common.{append_assoc, append-nil}
+use Rattle.std.specs.Prelude.{Option, Some, None, is_some}
+use Rattle.std.specs.List.{AllByRecursion, fold, filter_map}
+use Rattle.std.specs.Option.{option_map_or}
+use Rattle.std.proofs.lemmas.Bool.{cond-true}
+use Rattle.std.proofs.lemmas.List.Elements.{filter_map-append}
+use Rattle.std.proofs.lemmas.List.Sums.{fold-append}
+use Rattle.trace_model.specs.declared.entry.Entry.{Entry}
+use Rattle.trace_model.specs.declared.entry.Entry.TheVariants as entry
+use Rattle.trace_model.specs.declared.line.End.{End}
+use Rattle.link_laws.specs.machine.Machine.{LinkEnd, Message, need_of_all, spare}
+use Rattle.link_laws.specs.sessions.Sessions.{is_up}
+use Rattle.link_laws.specs.messages.Links.{Link}
+use Rattle.link_laws.specs.entries.Entries.{End as Side, Entry as Noted, ending_entries}
+use Rattle.link_laws.specs.entries.Entries.Entry.{Cut, Emit, Lost, Took}
+use Rattle.link_laws.proofs.entries.Lasting.{same_number}
+use Rattle.history.specs.Steps.{entries_for}
+use Rattle.history.specs.Filters.{Saying, acked_after, acked_in, said_of, same_end, sent_by, sent_in}
+use Rattle.history.specs.Filters.Saying.{Begins, Counts, Ends, Gets, Loses, Puts, Sends, Takes}
+use Rattle.node_machine.specs.Parts.{Init, Port, Work}
+use Rattle.node_machine.specs.Carrying.{lack, needs, port_at}
+use Rattle.node_machine.specs.HostReplies.{host_deeds}
+use Rattle.node_machine.specs.world.World.{end_h, ending_of, frames_noted}
+use Rattle.node_machine.specs.world.NodeFilters.{Book, book_after, book_in, order_in, session_now, spare_at, tables_in, unacknowledged_in}
+use Rattle.node_laws.proofs.kept.Books.{book_more}
+use Rattle.node_laws.proofs.telling.Frames.{ending_all}
+use Rattle.node_laws.specs.passes.Noting.{end_of_number}
+use Rattle.node_laws.specs.power.Powers.{AreNotOf, is_of_node}
+use Rattle.node_laws.specs.readings.Orders.{IsSilent}
+use Rattle.node_laws.proofs.readings.Silent.{order_more}
+use Rattle.node_laws.specs.views.Errors.{errors_in}
+use Rattle.node_laws.specs.views.Inits.{LeavesInit}
+use Rattle.node_laws.proofs.views.Answering.{reads_init}
+use Rattle.node_laws.specs.answers.Moments.{Moment, core_read, lack_of, port_read, ports_read, reply, runs_in, side_read, unhandled_after}
+use Rattle.node_laws.specs.answers.Moments.{unhandled_in, until}
+use Rattle.node_laws.proofs.replies.Turns.{lack_alike}
+use Rattle.node_laws.proofs.worlds.Hearing.{IsFrame}
+use Rattle.node_laws.proofs.worlds.Resting.{idle_unhandled, other_end, others_idle}
+use Rattle.node_laws.proofs.hosts.Alike.{host_same}
+use Rattle.node_laws.proofs.hosts.Standing.{not_book, not_init, not_silent}
+use Rattle.node_laws.proofs.hosts.Turns.{far_deeds}
+
+-- ## Entries that change nothing
+
+module _ (n : ℕ) where
+  -- an entry tells that a message is held or of a frame, or isn't of this host
+  abbrev pub IsCalmAt : Entry → Type 0
+  IsCalmAt (entry.Held f need spare) = Unit {0}
+  IsCalmAt (entry.Emit f lpdu) = Unit {0}
+  IsCalmAt (entry.Took f lpdu) = Unit {0}
+  IsCalmAt (entry.Lost f lpdu cause) = Unit {0}
+  IsCalmAt x = is_of_node n x ≡ false
+
+  abbrev pub AreCalmAt : List Entry → Type 0
+  AreCalmAt es = AllByRecursion IsCalmAt es
+
+  other_calm : (x : Entry) → is_of_node n x ≡ false → IsCalmAt x
+  other_calm (entry.Held f need spare) off = tt
+  other_calm (entry.Emit f lpdu) off = tt
+  other_calm (entry.Took f lpdu) off = tt
+  other_calm (entry.Lost f lpdu cause) off = tt
+  other_calm _ off = off
+
+  pub others_calm : (es : List Entry) → AreNotOf n es → AreCalmAt es
+  others_calm [] a = tt
+  others_calm (x ∷ es) a = (other_calm x a.0, others_calm es a.1)
+
+  -- frames
+  frames_all : (h : ℕ) (notes : List Noted) → AllByRecursion IsFrame notes → AreCalmAt (entries_for h notes)
+  frames_all h [] all = tt
+  frames_all h (Emit who frame ∷ notes) all = (tt, frames_all h notes all.1)
+  frames_all h (Took who frame ∷ notes) all = (tt, frames_all h notes all.1)
+  frames_all h (Lost who frame why ∷ notes) all = (tt, frames_all h notes all.1)
+  frames_all h (Cut who ∷ notes) all = frames_all h notes all.1
+  frames_all h (_ ∷ notes) all = absurd all.0
+
+  pub frames_calm : (who : Side) (h : ℕ) (l : Link) (v : Work) → AreCalmAt (frames_noted who h l v)
+  frames_calm who h l v = go (port_at v.ports h) where
+    go : (o : Option Port) → AreCalmAt (option_map_or (λ (p : Port). entries_for h (ending_entries who l p.side (ending_of v))) o [])
+    go None = tt
+    go (Some p) =
+        frames_all h (ending_entries who l p.side (ending_of v))
+        (ending_all IsFrame (λ w c. tt) (λ w c. tt) (λ w c why. tt) (λ w. tt) who l p.side (ending_of v))
+
+  -- what is folded over them stays
+  module _ {A : Type 0} (f : A → Entry → A) (stays : (a : A) (x : Entry) → IsCalmAt x → f a x ≡ a) where
+    fold_calm : (a : A) (es : List Entry) → AreCalmAt es → fold f a es ≡ a
+    fold_calm a [] calm = refl
+    fold_calm a (x ∷ es) calm = ap (λ b. fold f b es) (stays a x calm.0) ∙ fold_calm a es calm.1
+
+  abbrev e : End
+  e = end_h n
+
+  -- ## Tables, commands and inits
+
+  book_one : (b : Book) (x : Entry) → IsCalmAt x → book_after n b x ≡ b
+  book_one b (entry.Held f need spare) calm = refl
+  book_one b (entry.Emit f lpdu) calm = refl
+  book_one b (entry.Took f lpdu) calm = refl
+  book_one b (entry.Lost f lpdu cause) calm = refl
+  book_one b x calm = not_book n b x calm
+
+  pub tables_calm : (t es : List Entry) → AreCalmAt es → tables_in (t ++ es) n ≡ tables_in t n
+  tables_calm t es calm =
+      ap (λ (b : Book). b.tables) (book_more t es n ∙ fold_calm (book_after n) book_one (book_in t n) es calm)
+
+  order_one : (x : Entry) → IsCalmAt x → IsSilent n x
+  order_one (entry.Held f need spare) calm = λ waits. refl
+  order_one (entry.Emit f lpdu) calm = λ waits. refl
+  order_one (entry.Took f lpdu) calm = λ waits. refl
+  order_one (entry.Lost f lpdu cause) calm = λ waits. refl
+  order_one x calm = not_silent n x calm
+
+  pub order_calm : (t es : List Entry) → AreCalmAt es → order_in (t ++ es) n ≡ order_in t n
+  order_calm t es calm = order_more t es n ∙ fold_calm _ (λ a x c. order_one x c a) (order_in t n) es calm
+
+  init_one : (x : Entry) → IsCalmAt x → LeavesInit n x
+  init_one (entry.Held f need spare) calm = λ i. refl
+  init_one (entry.Emit f lpdu) calm = λ i. refl
+  init_one (entry.Took f lpdu) calm = λ i. refl
+  init_one (entry.Lost f lpdu cause) calm = λ i. refl
+  init_one x calm = not_init n x calm
+
+  pub init_calm : (es : List Entry) (i : Option Init) → AreCalmAt es → reads_init n es i ≡ i
+  init_calm es i calm = fold_calm _ (λ a x c. init_one x c a) i es calm
+
+  -- ## Power and messages
+
+  runs_one : (s : List Entry) (x : Entry) → IsCalmAt x → runs_in (s ++ x ∷ []) n ≡ runs_in s n
+  runs_one s (entry.Booted m k) calm = fold-append _ false s (entry.Booted m k ∷ []) ∙ ap (λ b. cond b true (runs_in s n)) calm
+  runs_one s (entry.Cut m) calm = fold-append _ false s (entry.Cut m ∷ []) ∙ ap (λ b. cond b false (runs_in s n)) calm
+  runs_one s x calm = fold-append _ false s (x ∷ [])
+
+  pub runs_calm : (s es : List Entry) → AreCalmAt es → runs_in (s ++ es) n ≡ runs_in s n
+  runs_calm s [] calm = ap (λ l. runs_in l n) (append-nil s)
+  runs_calm s (x ∷ es) calm =
+      ap (λ l. runs_in l n) (sym (append_assoc s (x ∷ []) es)) ∙ (runs_calm (s ++ x ∷ []) es calm.1 ∙ runs_one s x calm.0)
+
+  waits_one : (s : List Entry) (x : Entry) → IsCalmAt x → unhandled_in (s ++ x ∷ []) e ≡ unhandled_in s e
+  waits_one s (entry.Held f need spare) calm = fold-append (unhandled_after e) [] s (entry.Held f need spare ∷ [])
+  waits_one s (entry.Emit f lpdu) calm = fold-append (unhandled_after e) [] s (entry.Emit f lpdu ∷ [])
+  waits_one s (entry.Took f lpdu) calm = fold-append (unhandled_after e) [] s (entry.Took f lpdu ∷ [])
+  waits_one s (entry.Lost f lpdu cause) calm = fold-append (unhandled_after e) [] s (entry.Lost f lpdu cause ∷ [])
+  waits_one s x calm = idle_unhandled e s x (others_idle e (x ∷ []) (calm, tt)).0
+
+  pub waits_calm : (s es : List Entry) → AreCalmAt es → unhandled_in (s ++ es) e ≡ unhandled_in s e
+  waits_calm s [] calm = ap (λ l. unhandled_in l e) (append-nil s)
+  waits_calm s (x ∷ es) calm =
+      ap (λ l. unhandled_in l e) (sym (append_assoc s (x ∷ []) es)) ∙ (waits_calm (s ++ x ∷ []) es calm.1 ∙ waits_one s x calm.0)
+
+  -- ## Sessions, and what isn't acknowledged
+
+  session_one : (t : List Entry) (x : Entry) → IsCalmAt x → session_now (t ++ x ∷ []) e n ≡ session_now t e n
+  session_one t (entry.Up f j) calm = fold-append _ None t (entry.Up f j ∷ []) ∙ ap (λ b. cond b (Some j) (session_now t e n)) (other_end e f calm)
+  session_one t (entry.Down f cause) calm = fold-append _ None t (entry.Down f cause ∷ []) ∙ ap (λ b. cond b None (session_now t e n)) (other_end e f calm)
+  session_one t (entry.Cut m) calm = fold-append _ None t (entry.Cut m ∷ []) ∙ ap (λ b. cond b None (session_now t e n)) calm
+  session_one t x calm = fold-append _ None t (x ∷ [])
+
+  pub session_calm : (t es : List Entry) → AreCalmAt es → session_now (t ++ es) e n ≡ session_now t e n
+  session_calm t [] calm = ap (λ l. session_now l e n) (append-nil t)
+  session_calm t (x ∷ es) calm =
+      ap (λ l. session_now l e n) (sym (append_assoc t (x ∷ []) es)) ∙ (session_calm (t ++ x ∷ []) es calm.1 ∙ session_one t x calm.0)
+
+  module _ (j : ℕ) where
+    quiet : (b : Bool) (s : Saying) → sent_by j (Some s) ≡ None → sent_by j (cond b (Some s) None) ≡ None
+    quiet true s q = q
+    quiet false s q = refl
+
+    sent_one : (x : Entry) → IsCalmAt x → sent_by j (said_of e x) ≡ None
+    sent_one (entry.Up f k) calm = quiet (same_end f e) (Begins k) refl
+    sent_one (entry.Down f cause) calm = quiet (same_end f e) Ends refl
+    sent_one (entry.Sent f k pid message) calm = ap (λ b. sent_by j (cond b (Some (Sends k (pid, message))) None)) (other_end e f calm)
+    sent_one (entry.Got f k pid message) calm = quiet (same_end f e) (Gets k (pid, message)) refl
+    sent_one (entry.Acked f k count) calm = quiet (same_end f e) (Counts k count) refl
+    sent_one (entry.Emit f lpdu) calm = quiet (same_end f e) (Puts lpdu) refl
+    sent_one (entry.Took f lpdu) calm = quiet (same_end f e) (Takes lpdu) refl
+    sent_one (entry.Lost f lpdu cause) calm = quiet (same_end f e) (Loses lpdu) refl
+    sent_one _ calm = refl
+
+    none_sent : (es : List Entry) → AreCalmAt es → filter_map (λ x. sent_by j (said_of e x)) es ≡ []
+    none_sent [] calm = refl
+    none_sent (x ∷ es) calm = rw (sent_one x calm.0) (none_sent es calm.1)
+
+    sent_calm : (t es : List Entry) → AreCalmAt es → sent_in (t ++ es) e j ≡ sent_in t e j
+    sent_calm t es calm =
+        filter_map-append (λ x. sent_by j (said_of e x)) t es ∙ (ap (λ l. sent_in t e j ++ l) (none_sent es calm) ∙ append-nil (sent_in t e j))
+
+    calm_count : (before : ℕ) (b : Bool) (s : Saying) → acked_after j before (Some s) ≡ before → acked_after j before (cond b (Some s) None) ≡ before
+    calm_count before true s q = q
+    calm_count before false s q = refl
+
+    acked_one : (before : ℕ) (x : Entry) → IsCalmAt x → acked_after j before (said_of e x) ≡ before
+    acked_one before (entry.Up f k) calm = calm_count before (same_end f e) (Begins k) refl
+    acked_one before (entry.Down f cause) calm = calm_count before (same_end f e) Ends refl
+    acked_one before (entry.Sent f k pid message) calm = calm_count before (same_end f e) (Sends k (pid, message)) refl
+    acked_one before (entry.Got f k pid message) calm = calm_count before (same_end f e) (Gets k (pid, message)) refl
+    acked_one before (entry.Acked f k count) calm =
+        ap (λ b. acked_after j before (cond b (Some (Counts k count)) None)) (other_end e f calm)
+    acked_one before (entry.Emit f lpdu) calm = calm_count before (same_end f e) (Puts lpdu) refl
+    acked_one before (entry.Took f lpdu) calm = calm_count before (same_end f e) (Takes lpdu) refl
+    acked_one before (entry.Lost f lpdu cause) calm = calm_count before (same_end f e) (Loses lpdu) refl
+    acked_one before _ calm = refl
+
+    acked_calm : (t es : List Entry) → AreCalmAt es → acked_in (t ++ es) e j ≡ acked_in t e j
+    acked_calm t es calm = fold-append _ 0 t es ∙ fold_calm _ acked_one (acked_in t e j) es calm
+
+  left_calm : (t es : List Entry) → AreCalmAt es → (o : Option ℕ) → unacknowledged_in (t ++ es) e o ≡ unacknowledged_in t e o
+  left_calm t es calm None = refl
+  left_calm t es calm (Some j) = ap₂ (λ c l. drop c l) (acked_calm j t es calm) (sent_calm j t es calm)
+
+  pub spare_calm : (t es : List Entry) → AreCalmAt es → spare_at (t ++ es) e ≡ spare_at t e
+  spare_calm t es calm =
+      ap (λ l. 128 - (need_of_all l + 0)) (ap (unacknowledged_in (t ++ es) e) (session_calm t es calm) ∙ left_calm t es calm (session_now t e n))
+
+-- ## What a message lacks
+
+-- behind those entries as behind these
+module _ (hosts : List ℕ) (n : ℕ) (off : eqb n 0 ≡ false) (t s : List Entry) (session : session_now s (end_h n) n ≡ session_now t (end_h n) n)
+    (spares : spare_at s (end_h n) ≡ spare_at t (end_h n)) (errors : errors_in s (end_h n) ≡ errors_in t (end_h n)) where
+  abbrev read : List Entry → Port
+  read u = port_read u n n
+
+  at_end : end_of_number n n ≡ end_h n
+  at_end = rw off refl
+
+  side_same : (read s).side ≡ (read t).side
+  side_same =
+      let ends : (Q : End → Type 0) → Q (end_h n) → Q (end_of_number n n) = λ Q q. subst Q (sym at_end) q in
+      ap₂ (λ o k. side_read (is_some o) k)
+      (ends (λ z. session_now s z n ≡ session_now t z n) session) (ends (λ z. spare_at s z ≡ spare_at t z) spares)
+
+  errors_same : (read s).desk.errors ≡ (read t).desk.errors
+  errors_same = subst (λ z. errors_in s z ≡ errors_in t z) (sym at_end) errors
+
+  ports_of : (u : List Entry) → ports_read hosts u n ≡ read u ∷ []
+  ports_of u = ap (λ b. map (port_read u n) (cond b hosts (n ∷ []))) off
+
+  shown : (m : Moment) (message : Message) → reply hosts m (end_h n) message ≡ host_deeds (core_read m n) (read (until m)) message
+  shown m message =
+      far_deeds (core_read m n) (ports_read hosts (until m) n) n message (read (until m)) off
+      (ap (λ ps. port_at ps n) (ports_of (until m)) ∙ cond-true (eqb n n) (Some (read (until m))) None (same_number n))
+
+  spares_same : (j : ℕ) → option_map_or (λ (p : Port). spare p.side) (port_at (read s ∷ []) j) 0
+      ≡ option_map_or (λ (p : Port). spare p.side) (port_at (read t ∷ []) j) 0
+  spares_same j = by (eqb n j) where
+    by : (b : Bool) → option_map_or (λ (p : Port). spare p.side) (cond b (Some (read s)) None) 0
+        ≡ option_map_or (λ (p : Port). spare p.side) (cond b (Some (read t)) None) 0
+    by true = ap (λ (l : LinkEnd). spare l) side_same
+    by false = refl
+
+  pub lack_same : (m l : Moment) → until m ≡ s → until l ≡ t → core_read m n ≡ core_read l n → (message : Message)
+      → lack_of hosts m (end_h n) message ≡ lack_of hosts l (end_h n) message
+  lack_same m l here there core message =
+      let one : reply hosts m (end_h n) message ≡ host_deeds (core_read m n) (read s) message =
+      shown m message ∙ ap (λ u. host_deeds (core_read m n) (read u) message) here in
+      let two : reply hosts l (end_h n) message ≡ host_deeds (core_read l n) (read t) message =
+      shown l message ∙ ap (λ u. host_deeds (core_read l n) (read u) message) there in
+      let same : reply hosts m (end_h n) message ≡ reply hosts l (end_h n) message =
+      one ∙ (ap (λ c. host_deeds c (read s) message) core
+      ∙ (host_same (core_read l n) (read s) (read t) message (ap (λ (x : LinkEnd). is_up x.shdlc.phase) side_same) errors_same ∙ sym two)) in
+      ap₂ (λ ps d. lack ps (needs n d)) (ap (λ u. ports_read hosts u n) here ∙ ports_of s) same
+      ∙ (lack_alike (read s ∷ []) (read t ∷ []) spares_same (needs n (reply hosts l (end_h n) message))
+      ∙ ap (λ ps. lack ps (needs n (reply hosts l (end_h n) message))) (sym (ap (λ u. ports_read hosts u n) there ∙ ports_of t)))

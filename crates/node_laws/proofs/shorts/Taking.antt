@@ -1,0 +1,110 @@
+-- Lines let a host take no more frames than stand on its wire.
+use Rattle.std.proofs.Common.{◌≡◌, ℕ, zero, suc, ◌≤◌, Bool, true, false, List, [], ◌∷◌, length, sym, refl, ap, ◌∙◌, subst, arith}
+use Rattle.std.specs.Prelude.{Some, None, is_some, unwrap_or, replicate}
+use Rattle.std.proofs.lemmas.Bool.{true≢false}
+use Rattle.swp_lpdu.specs.Controls.{lpdu_of}
+use Rattle.trace_model.specs.declared.line.End.{End}
+use Rattle.trace_model.specs.declared.line.Line.{Line}
+use Rattle.trace_model.specs.declared.line.Line.TheVariants as line
+use Rattle.link_laws.specs.sessions.Sessions.{OnWire}
+use Rattle.link_laws.specs.machine.Machine.{LinkInput}
+use Rattle.link_laws.specs.messages.Links.{Ending, Link, exchanged, steps_at_controller}
+use Rattle.link_laws.specs.messages.Links.Comes.{NextFrame}
+use Rattle.link_laws.specs.messages.Links.Ending.{GoesOut}
+use Rattle.history.specs.Damage.{Verdict, verdict_on}
+use Rattle.history.specs.Damage.Verdict.{LostFor, Same, Undetected}
+use Rattle.history.specs.Follows.{first_verdict, frames_to, taken_of}
+use Rattle.node_machine.specs.Parts.{Work}
+use Rattle.node_machine.specs.Node.{steps}
+use Rattle.node_machine.specs.Node.NodeInput.{AtEnd}
+use Rattle.node_machine.specs.world.World.{Happening, NodeWorld, Site, after_host, ending_of, host_does, host_work, runs_on, site_at, turns_at, world_step}
+use Rattle.node_machine.specs.world.World.Happening.{Takes, Ticks}
+use Rattle.node_machine.specs.world.Lines.{frames_at, happenings, happens_by, refusal_in}
+use Rattle.node_machine.proofs.world.Cases.{by_coming, by_host}
+use Rattle.node_laws.specs.kept.Hosts.{IsSentByHost}
+use Rattle.node_laws.proofs.cuts.Worlds.{with_here}
+use Rattle.node_laws.proofs.telling.Lasting.{AllMay, repeated_may}
+use Rattle.node_laws.proofs.telling.Nodes.{link_is}
+use Rattle.node_laws.proofs.worlds.Taking.{step_near, taken_most}
+
+-- a host takes a frame only where one stands on its wire, while it runs
+abbrev pub MayTake : NodeWorld → Happening → Type 0
+MayTake w (Takes e) = e.at_host ≡ true → (s : Site) → site_at w.sites e.link ≡ Some s → is_some s.node ≡ true → frames_at w e ≡ [] → ⊥
+MayTake w _ = Unit {0}
+
+-- so many frames stand on the wire to this host, while it runs
+abbrev Stand : NodeWorld → ℕ → ℕ → Type 0
+Stand w h n = (s : Site) → site_at w.sites h ≡ Some s → is_some s.node ≡ true → n ≤ length s.link.to_host
+
+fewer : (w : NodeWorld) (h n : ℕ) → Stand w h (suc n) → Stand w h n
+fewer w h n many s found on = let some = many s found on in omega (arith, some)
+
+far_stand : (w : NodeWorld) (h : ℕ) (i : LinkInput) (n : ℕ) → Stand w h (suc n) → Stand (host_does w h NextFrame (steps (AtEnd h i))).0 h n
+far_stand w h i n many =
+    by_host (λ p. Stand p.0 h n) w h NextFrame (steps (AtEnd h i)) (fewer w h n many) (λ s r found q.
+    let k : Work = host_work s r NextFrame (steps (AtEnd h i)) in
+    let some : suc n ≤ length s.link.to_host = many s found (ap is_some q) in
+    λ x there on.
+    let same : Some (after_host NextFrame k s) ≡ Some x = sym (with_here (after_host NextFrame k) (λ y. refl) w.sites h s found) ∙ there in
+    let one : after_host NextFrame k s ≡ x = cc in
+    subst (λ (y : Site). n ≤ length y.link.to_host) one (by_cut k s some k.cut refl (ap (λ (y : Site). is_some y.node) one ∙ on))) where
+      by_cut : (k : Work) (s : Site) → suc n ≤ length s.link.to_host → (b : Bool) → k.cut ≡ b → is_some (runs_on k) ≡ true
+          → n ≤ length (after_host NextFrame k s).link.to_host
+      by_cut k s some true off on =
+          let none : runs_on k ≡ None = rw off refl in
+          absurd (true≢false (sym on ∙ ap is_some none))
+      by_cut k s some false still on =
+          let out : ending_of k ≡ GoesOut = rw still refl in
+          subst (λ (g : Ending). n ≤ length (steps_at_controller (exchanged s.link) NextFrame (turns_at k s.host) g).to_controller) (sym out)
+          (step_near (exchanged s.link) (turns_at k s.host) n some)
+
+take_stands : (w : NodeWorld) (e : End) (n : ℕ) → e.at_host ≡ true → Stand w e.link (suc n) → Stand (world_step w (Takes e)).0 e.link n
+take_stands w e n far many =
+    by_coming (λ p. Stand p.0 e.link n) w e NextFrame (fewer w e.link n many) (λ i z seen. far_stand w e.link i n many)
+    (λ i z seen. absurd (true≢false (sym far ∙ z)))
+
+frames_far : (w : NodeWorld) (e : End) (s : Site) → e.at_host ≡ true → site_at w.sites e.link ≡ Some s → frames_at w e ≡ s.link.to_host
+frames_far w e s far found =
+    let is : frames_to s.link e ≡ s.link.to_host = rw far refl in ap (λ (l : Link). frames_to l e) (link_is w.sites e.link s found) ∙ is
+
+takes_may : (n : ℕ) (w : NodeWorld) (e : End) → e.at_host ≡ true → Stand w e.link n → AllMay MayTake w (replicate n (Takes e))
+takes_may zero w e far many = tt
+takes_may (suc n) w e far many = (
+  λ at s found on none.
+      let some = many s found on in
+      let empty = ap (λ (xs : List OnWire). length xs) (sym (frames_far w e s far found) ∙ none) in
+      absurd (omega (arith, some, empty)),
+  takes_may n (world_step w (Takes e)).0 e far (take_stands w e n far many),
+)
+
+damage_may : (w : NodeWorld) (e : End) (places : List ℕ) (wire : List OnWire) → frames_at w e ≡ wire
+    → AllMay MayTake w (happens_by e (first_verdict wire places))
+damage_may w e places [] here = tt
+damage_may w e places (x ∷ xs) here = by (verdict_on (lpdu_of x.frame) places) where
+  by : (v : Verdict) → AllMay MayTake w (happens_by e (Some v))
+  by Same = ((λ far s found on none. let no : x ∷ xs ≡ [] = sym here ∙ none in cc no), tt)
+  by (LostFor why) = (tt, tt)
+  by (Undetected read) = tt
+
+pub line_takes : (w : NodeWorld) (l : Line) → IsSentByHost l → refusal_in w l ≡ None → AllMay MayTake w (happenings w l)
+line_takes w (line.Send e pid message) is none = (tt, tt)
+line_takes w (line.Deliver e count) is none = by e.at_host refl where
+  by : (b : Bool) → e.at_host ≡ b → AllMay MayTake w (replicate (taken_of count (frames_at w e)) (Takes e))
+  by false near = repeated_may MayTake (Takes e) (λ v far. absurd (true≢false (sym far ∙ near))) (taken_of count (frames_at w e)) w
+  by true far =
+      takes_may (taken_of count (frames_at w e)) w e far
+      (λ s found on. let most = taken_most count (frames_at w e) in
+      let same = ap (λ (xs : List OnWire). length xs) (frames_far w e s far found) in omega (arith, most, same))
+line_takes w (line.Lose e) is none = (tt, tt)
+line_takes w (line.Damage e places) is none = damage_may w e places.items (frames_at w e) refl
+line_takes w (line.Tick times) is none = repeated_may MayTake Ticks (λ v. tt) (unwrap_or times 1) w
+line_takes w (line.Reset e window) is none = (tt, tt)
+line_takes w (line.Busy e) is none = tt
+line_takes w (line.Ready e) is none = tt
+line_takes w (line.Boot n) is none = (tt, tt)
+line_takes w (line.Cut n) is none = (tt, tt)
+line_takes w (line.Activate host sync power) is none = (tt, tt)
+line_takes w (line.Arm n nth fill) is none = (tt, tt)
+line_takes w (line.Init e identity pipes) is none = (tt, tt)
+line_takes w (line.Tables n) is none = tt
+line_takes w (line.Settle rounds) is none = tt

@@ -1,0 +1,485 @@
+-- What waits at each end of a world over whatever happens there.
+use Rattle.std.proofs.Common.{◌≡◌, ℕ, ◌==◌, ◌&&◌, Bool, true, false, cond, List, [], ◌∷◌, ◌++◌, Option, Some, None, map, refl, ap, sym, subst, ◌∙◌}
+use Rattle.std.proofs.Math.Bool.{and-false}
+use Rattle.std.specs.Prelude.{is_some}
+use Rattle.std.specs.List.{AllByRecursion}
+use Rattle.std.proofs.lemmas.Bool.{eqb-true, eq-eqb, true≢false}
+use Rattle.swp_base.specs.InMemory.{Memory}
+use Rattle.trace_model.specs.declared.entry.Entry.{Entry}
+use Rattle.trace_model.specs.declared.entry.Entry.TheVariants as entry
+use Rattle.trace_model.specs.declared.line.End.{End}
+use Rattle.journal_laws.specs.Journal.{count_of}
+use Rattle.journal_laws.specs.Planned.{after_planned}
+use Rattle.link_laws.specs.sessions.Sessions.{OnWire}
+use Rattle.link_laws.specs.machine.Machine.{Message, LinkInput}
+use Rattle.link_laws.specs.messages.Links.{NumberedEnd, Link, Comes, Loss, exchanged, aged, happens, ticks_at_controller}
+use Rattle.link_laws.specs.messages.Links.Comes.{NextFrame, AsksReset, Starts, NoInput}
+use Rattle.link_laws.specs.messages.Links.Ending.{GoesOut, CutOff}
+use Rattle.link_laws.specs.messages.Links.Loss.{OnDemand, Broken, Unread, TooOld, TooMany}
+use Rattle.link_laws.specs.messages.Links.EndEvent.{Step, Lose}
+use Rattle.link_laws.specs.messages.Links.LinkEvent.{AtController, AtHost}
+use Rattle.link_laws.specs.entries.Entries.{End as Side, aged_entries, first_lost}
+use Rattle.link_laws.specs.entries.Entries.End.{Controller, Host}
+use Rattle.history.specs.Filters.{same_end}
+use Rattle.history.specs.Steps.{entries_for}
+use Rattle.node_machine.specs.Parts.{Running, Work, Deed}
+use Rattle.node_machine.specs.Node.{steps, begins_with, boot_writes}
+use Rattle.node_machine.specs.Node.NodeInput.{AtEnd}
+use Rattle.node_machine.specs.world.World.{Site, NodeWorld, Happening, node_at, site_at, with_site, link_to, input_of}
+use Rattle.node_machine.specs.world.World.{frames_noted, wires_for, controller_does, host_work, after_host}
+use Rattle.node_machine.specs.world.World.{host_does, host_cut, loses_power_at, memory_at, with_memory, with_node, boots, counts, frame_lost}
+use Rattle.node_machine.specs.world.World.{all_aged, controller_ticks, host_ticks, hosts_tick, world_ticks, sending, beginning, comes_at, activates}
+use Rattle.node_machine.specs.world.World.{end_c, end_h}
+use Rattle.node_machine.specs.world.World.{world_step}
+use Rattle.node_machine.specs.world.World.Happening.{Boots, IsCut, Gives, Inits, Takes, Loses, Ticks, Resets, Activates, Arms}
+use Rattle.node_machine.specs.world.NodeLegal.{node_number}
+use Rattle.node_laws.proofs.kept.Sites.{with_site_twice}
+use Rattle.node_laws.proofs.links.Ends.{here_host}
+use Rattle.link_laws.proofs.entries.Together.{ticks_host as tick_host}
+use Rattle.node_laws.specs.telling.Telling.{HasEnds, IfItRuns, hosts_in, IsOrderly, MayBoot}
+use Rattle.node_laws.proofs.telling.Mute.{AreMute}
+use Rattle.node_laws.proofs.telling.Nodes.{site_host, link_is}
+use Rattle.node_laws.proofs.telling.Worlds.{site_is, node_is}
+use Rattle.node_laws.proofs.telling.Events.{comes_goes, sending_mute, orderly_map}
+use Rattle.node_laws.proofs.telling.WorldTicks.{near_orderly, tick_host as site_ticked}
+use Rattle.node_machine.proofs.world.Cases.{by_controller, after_host_step, by_host, by_coming, by_power, by_memory, boot_written, boot_found}
+use Rattle.node_machine.proofs.world.Cases.{by_boot, site_lost}
+use Rattle.node_machine.proofs.world.Cases.{by_loss, site_unticked, by_controller_tick, by_host_tick}
+use Rattle.node_laws.specs.kept.Hosts.{AreDifferent}
+use Rattle.node_laws.proofs.turns.Queues.Doing.{Clears, Nothing}
+use Rattle.node_laws.proofs.turns.Queues.{Becomes, Goes, goes-append, doing}
+use Rattle.node_laws.proofs.turns.Ends.{ticks_got}
+use Rattle.node_laws.proofs.turns.Coming.{notes_still}
+use Rattle.node_laws.proofs.turns.Works.{lost_none, aged_none, ByPower, NearWaits, FarWaits, Waits, end_at, Moves, AllMove, move_then, Leaves, leaves-append}
+use Rattle.node_laws.proofs.turns.Works.{still_leaves, flat_leaves, sites_is, OwnMoves, SiteGoes, at_site}
+use Rattle.node_laws.proofs.turns.Nodes.{host_steps, host_begins, host_ticked, controller_steps, controller_ticked}
+
+-- ## Worlds that stay
+
+-- all ends are as they were
+waits_same : (w v : NodeWorld) → is_some v.controller ≡ is_some w.controller → v.sites ≡ w.sites → (b : Bool) (h : ℕ) (q : List Message) → Waits w b h q
+    → Waits v b h q
+waits_same w v power sites true h q x = subst (λ l. FarWaits q (site_at l h)) (sym sites) x
+waits_same w v power sites false h q x =
+    subst (λ l. NearWaits v.controller q (site_at l h)) (sym sites) (by (site_at w.sites h) x)
+  where
+    by : (o : Option Site) → NearWaits w.controller q o → NearWaits v.controller q o
+    by None y = tt
+    by (Some s) y = subst (λ b. ByPower b q s.link.controller.side.got) (sym power) y
+
+pub all_stay : (w v : NodeWorld) (t : List Entry) → is_some v.controller ≡ is_some w.controller → v.sites ≡ w.sites → ((e : End) → Leaves e t) → AllMove w v t
+all_stay w v t power sites quiet b h q x =
+    record { left = q; goes = quiet (end_at b h) q; waits = waits_same w v power sites b h q x }
+
+pub nothing_moves : (w : NodeWorld) → AllMove w w []
+nothing_moves w = all_stay w w [] refl refl (λ e q. refl)
+
+-- a host that stays but for its memory, its wires and what it keeps
+stays : (s v : Site) (t : List Entry) → v.link.controller.side.got ≡ s.link.controller.side.got → v.link.host.side.got ≡ s.link.host.side.got
+    → is_some v.node ≡ is_some s.node → ((e : End) → Leaves e t) → SiteGoes s v t
+stays s v t near far power quiet =
+    record {
+      near = near;
+      goes = λ q x. record {
+        left = q;
+        goes = quiet (end_h s.host) q;
+        waits = subst (λ b. ByPower b q v.link.host.side.got) (sym power) (subst (ByPower (is_some s.node) q) (sym far) x);
+      };
+      others = λ e off. quiet e;
+    }
+
+-- all hosts become others, and the controller goes on or loses its power
+all_sites : (w : NodeWorld) (memory : Memory) (c : Option Running) (g : Site → Site) (t : List Entry) → ((s : Site) → (g s).host ≡ s.host)
+    → ((s : Site) → (g s).node ≡ s.node) → ((s : Site) → (g s).link.host.side.got ≡ s.link.host.side.got)
+    → ((q : List Message) (s : Site) → NearWaits w.controller q (Some s) → NearWaits c q (Some (g s)))
+    → ((e : End) → Leaves e t) → AllMove w (record { memory = memory; controller = c; sites = map g w.sites }) t
+all_sites w memory c g t host node far near quiet true h q x = record {
+  left = q;
+  goes = quiet (end_h h) q;
+  waits = sites_is g host w.sites h (FarWaits q) (λ z. tt)
+      (λ s z.
+      let was : ByPower (is_some s.node) q s.link.host.side.got = subst (FarWaits q) z x in
+      subst (λ (o : Option Running). ByPower (is_some o) q (g s).link.host.side.got) (sym (node s)) (subst (ByPower (is_some s.node) q) (sym (far s)) was));
+}
+all_sites w memory c g t host node far near quiet false h q x = record {
+  left = q;
+  goes = quiet (end_c h) q;
+  waits = sites_is g host w.sites h (NearWaits c q) (λ z. tt) (λ s z. near q s (subst (NearWaits w.controller q) z x));
+}
+
+-- ## Steps of nodes
+
+pub controller_moves_so : (w : NodeWorld) (k : ℕ) (comes : Comes) (i : LinkInput) → IsOrderly w → input_of (link_to w.sites k) comes ≡ Some i
+    → AllMove w (controller_does w k comes (steps (AtEnd k i))).0 (controller_does w k comes (steps (AtEnd k i))).1
+controller_moves_so w k comes i a q =
+    by_controller (λ p. AllMove w p.0 p.1) w k comes (steps (AtEnd k i)) (nothing_moves w)
+    (λ r z. controller_steps w r z (subst (IfItRuns 0 (hosts_in w.sites)) z a.controller) a.different k comes i q)
+
+-- a host does something
+module _ (w : NodeWorld) (k : ℕ) (comes : Comes) (f : Work → Work) (a : IsOrderly w)
+    (does : (s : Site) (r : Running) → site_at w.sites k ≡ Some s → s.host ≡ k → s.node ≡ Some r → HasEnds s.host (s.host ∷ []) r
+    → (s.host == 0) ≡ false → SiteGoes s (after_host comes (host_work s r comes f) s)
+    ((host_work s r comes f).entries ++ frames_noted Host k (wires_for (exchanged s.link) comes) (host_work s r comes f))) where
+  pub host_moves : AllMove w (host_does w k comes f).0 (host_does w k comes f).1
+  host_moves =
+      by_host (λ p. AllMove w p.0 p.1) w k comes f (nothing_moves w)
+      (λ s r here z.
+      let v : Work = host_work s r comes f in
+      let t : List Entry = (after_host_step w k comes s v).1 in
+      let host : (s.host == 0) ≡ false = site_is (λ (x : Site). (x.host == 0) ≡ false) w.sites k s a.hosts here in
+      let node : HasEnds s.host (s.host ∷ []) r =
+      node_is s.host (s.host ∷ []) s.node r (site_is (λ (x : Site). IfItRuns x.host (x.host ∷ []) x.node) w.sites k s a.nodes here) z in
+      let one : SiteGoes s (after_host comes v s) t = does s r here (site_host w.sites k s here) z node host in
+      at_site w w.controller k (after_host comes v) t refl (λ x. refl)
+      (λ x found.
+      let same : Some s ≡ Some x = sym here ∙ found in
+      let is : s ≡ x = cc in
+      let P : Site → Type 0 = λ y. SiteGoes y (after_host comes v y) t in subst P is one)
+      (λ none. let both : Some s ≡ None = sym here ∙ none in absurd (cc both)))
+
+comes_move : (w : NodeWorld) (e : End) (comes : Comes) → IsOrderly w → AllMove w (comes_at w e comes).0 (comes_at w e comes).1
+comes_move w e comes a =
+    by_coming (λ p. AllMove w p.0 p.1) w e comes (nothing_moves w)
+    (λ i side q. host_moves w e.link comes (steps (AtEnd e.link i)) a
+    (λ s n here number runs node host. host_steps s n e.link number runs node host comes i
+    (ap (λ l. input_of (exchanged l) comes) (sym (link_is w.sites e.link s here)) ∙ q)))
+    (λ i side q. controller_moves_so w e.link comes i a q)
+
+begins_move : (w : NodeWorld) (k : ℕ) (deeds : List Deed) → AreMute deeds → IsOrderly w
+    → AllMove w (host_does w k NoInput (begins_with k deeds)).0 (host_does w k NoInput (begins_with k deeds)).1
+begins_move w k deeds m a =
+    host_moves w k NoInput (begins_with k deeds) a (λ s n here number runs node host. host_begins s n k number runs node host deeds m)
+
+activates_move : (w : NodeWorld) (h sync power : ℕ) → IsOrderly w → AllMove w (activates w h sync power).0 (activates w h sync power).1
+activates_move w h sync power a =
+    let near : NodeWorld × List Entry = comes_at w (end_c h) (Starts power) in
+    let far : NodeWorld × List Entry = comes_at near.0 (end_h h) (Starts sync) in
+    move_then w near.0 far.0 near.1 far.1 (comes_move w (end_c h) (Starts power) a)
+    (comes_move near.0 (end_h h) (Starts sync) (comes_goes w (end_c h) (Starts power) a).orderly)
+
+-- ## Power and memories
+
+cut_quiet : (n : ℕ) (e : End) → Leaves e (entry.Cut n ∷ [])
+cut_quiet n e = still_leaves e (entry.Cut n ∷ []) (refl, tt)
+
+power_moves : (n : ℕ) (w : NodeWorld) → AllMove w (loses_power_at n w) (entry.Cut n ∷ [])
+power_moves n w =
+    by_power (λ v. AllMove w v (entry.Cut n ∷ [])) n w
+    (λ z. all_sites w w.memory None (λ (s : Site). record s { link = happens s.link (AtController (Step NoInput [] CutOff)) }) (entry.Cut n ∷ [])
+    (λ s. refl) (λ s. refl)
+    (λ s. ap (λ (x : NumberedEnd). x.side.got) (here_host s.link (Step NoInput [] CutOff))) (λ q s x. refl) (cut_quiet n))
+    (λ z. at_site w w.controller n host_cut (entry.Cut n ∷ []) refl (λ s. refl)
+    (λ s here. record {
+      near = ap (λ (x : NumberedEnd). x.side.got) (here_host (exchanged s.link) (Step NoInput [] CutOff));
+      goes = λ q x. record { left = q; goes = cut_quiet n (end_h s.host) q; waits = refl };
+      others = λ e off. cut_quiet n e;
+    })
+    (λ none. all_stay w w (entry.Cut n ∷ []) refl refl (cut_quiet n)))
+
+memory_moves : (n : ℕ) (m : Memory) (w : NodeWorld) → AllMove w (with_memory n m w) []
+memory_moves n m w =
+    by_memory (λ v. AllMove w v []) n w m (λ z. all_stay w (record w { memory = m }) [] refl refl (λ e q. refl))
+    (λ z. at_site w w.controller n (λ s. record s { memory = m }) [] refl (λ s. refl)
+    (λ s here. stays s (record s { memory = m }) [] refl refl refl (λ e q. refl)) (λ none. nothing_moves w))
+
+-- ## Boots
+
+clears : (e : End) (n count : ℕ) (q : List Message) → (n == node_number e) ≡ true → Goes e q (entry.Booted n count ∷ []) []
+clears e n count q on =
+    let one : doing e (entry.Booted n count) ≡ Clears = rw on refl in
+    ([], (subst (λ d. Becomes d q []) (sym one) refl, refl))
+
+clears_not : (e : End) (n count : ℕ) → (n == node_number e) ≡ false → Leaves e (entry.Booted n count ∷ [])
+clears_not e n count off = let one : doing e (entry.Booted n count) ≡ Nothing = rw off refl in still_leaves e (entry.Booted n count ∷ []) (one, tt)
+
+module _ (w : NodeWorld) (n : ℕ) (r : Running) (m : Memory) (count : ℕ) (a : IsOrderly w) (off : node_at w n ≡ None) where
+  abbrev booted : List Entry
+  booted = entry.Booted n count ∷ []
+
+  no_zero : (h : ℕ) → h ≡ 0 → site_at w.sites h ≡ None
+  no_zero h z = go (site_at w.sites h) refl
+    where
+      go : (o : Option Site) → site_at w.sites h ≡ o → o ≡ None
+      go None q = refl
+      go (Some s) q =
+          let some : (s.host == 0) ≡ false = site_is (λ (x : Site). (x.host == 0) ≡ false) w.sites h s a.hosts q in
+          absurd (true≢false (sym (eq-eqb s.host 0 (site_host w.sites h s q ∙ z)) ∙ some))
+
+  near_boots : (n == 0) ≡ true → AllMove w (record w { memory = m; controller = Some r }) booted
+  near_boots z false h q x = record { left = []; goes = clears (end_c h) n count q z; waits = by (site_at w.sites h) x }
+    where
+      none : w.controller ≡ None
+      none = rw z at off
+
+      by : (o : Option Site) → NearWaits w.controller q o → NearWaits (Some r) [] o
+      by None y = tt
+      by (Some s) y =
+          let new : s.link.controller.side.got ≡ [] = let P : Option Running → Type 0 = λ o. NearWaits o q (Some s) in subst P none y in
+          sym new
+  near_boots z true h q x = go (n == h) refl
+    where
+      go : (b : Bool) → (n == h) ≡ b → Moves true h (record w { memory = m; controller = Some r }) booted q
+      go true e =
+          let none : site_at w.sites h ≡ None = no_zero h (sym (eqb-true n h e) ∙ eqb-true n 0 z) in
+          record { left = []; goes = clears (end_h h) n count q e; waits = subst (FarWaits []) (sym none) tt }
+      go false e = record { left = q; goes = clears_not (end_h h) n count e q; waits = x }
+
+  abbrev runs_there : Site → Site
+  runs_there s = record s { memory = m; node = Some r }
+
+  far_boots : (n == 0) ≡ false → AllMove w (record w { sites = with_site n runs_there w.sites }) booted
+  far_boots z = at_site w w.controller n runs_there booted refl (λ s. refl) some nobody
+    where
+      some : (s : Site) → site_at w.sites n ≡ Some s → SiteGoes s (runs_there s) booted
+      some s here = record {
+        near = refl;
+        goes = λ q x.
+            let none : s.node ≡ None = rw here at (rw z at off) in
+            let new : s.link.host.side.got ≡ [] =
+            let P : Option Running → Type 0 = λ o. ByPower (is_some o) q s.link.host.side.got in subst P none x in
+            record { left = []; goes = clears (end_h s.host) n count q (eq-eqb n s.host (sym number)); waits = sym new };
+        others = λ e out. clears_not e n count (others e out);
+      }
+        where
+          number : s.host ≡ n
+          number = site_host w.sites n s here
+
+          others : (e : End) → same_end (end_h s.host) e ≡ false → (n == node_number e) ≡ false
+          others e out = go e.at_host refl
+            where
+              go : (b : Bool) → e.at_host ≡ b → (n == node_number e) ≡ false
+              go true y =
+                  let is : ((s.host == e.link) && true) ≡ false = rw y at out in
+                  rw y (ap (λ k. k == e.link) (sym number) ∙ (same (s.host == e.link) ∙ is))
+                where
+                  same : (b : Bool) → b ≡ (b && true)
+                  same true = refl
+                  same false = refl
+              go false y = rw y z
+
+      nobody : site_at w.sites n ≡ None → AllMove w w booted
+      nobody none false h q x = record { left = q; goes = clears_not (end_c h) n count z q; waits = x }
+      nobody none true h q x = go (n == h) refl
+        where
+          go : (b : Bool) → (n == h) ≡ b → Moves true h w booted q
+          go true e =
+              let here : site_at w.sites h ≡ None = ap (site_at w.sites) (sym (eqb-true n h e)) ∙ none in
+              record { left = []; goes = clears (end_h h) n count q e; waits = subst (FarWaits []) (sym here) tt }
+          go false e = record { left = q; goes = clears_not (end_h h) n count e q; waits = x }
+
+  node_moves : AllMove w (with_node n r (with_memory n m w)) booted
+  node_moves = go (n == 0) refl
+    where
+      go : (b : Bool) → (n == 0) ≡ b → AllMove w (with_node n r (with_memory n m w)) booted
+      go true z =
+          let is : with_node n r (with_memory n m w) ≡ record w { memory = m; controller = Some r } = rw z refl in
+          let P : NodeWorld → Type 0 = λ v. AllMove w v booted in
+          subst P (sym is) (near_boots z)
+      go false z =
+          let remembers : Site → Site = λ s. record s { memory = m } in
+          let is : with_node n r (with_memory n m w)
+          ≡ record w { sites = with_site n (λ (s : Site). record s { node = Some r }) (with_site n remembers w.sites) } = rw z refl in
+          let twice : with_site n (λ (s : Site). record s { node = Some r }) (with_site n remembers w.sites) ≡ with_site n runs_there w.sites =
+          with_site_twice n remembers (λ (s : Site). record s { node = Some r }) (λ s. refl) w.sites in
+          let P : NodeWorld → Type 0 = λ v. AllMove w v booted in
+          subst P (sym (is ∙ ap (λ l. record w { sites = l }) twice)) (far_boots z)
+
+boots_move : (w : NodeWorld) (n : ℕ) → IsOrderly w → node_at w n ≡ None → AllMove w (boots w n).0 (boots w n).1
+boots_move w n a off =
+    by_boot (λ p. AllMove w p.0 p.1) w n
+    (move_then w (boot_written w n) (loses_power_at n (boot_written w n)) [] (entry.Cut n ∷ []) (memory_moves n later w)
+    (power_moves n (boot_written w n)))
+    (node_moves w n (boot_found w n) later (count_of (boot_found w n).core.journal) a off)
+  where
+    later : Memory
+    later = after_planned (boot_writes (memory_at w n).content) (memory_at w n)
+
+-- ## Losses
+
+counts_power : (why : Loss) (h : ℕ) (o : Option Running) → is_some (counts why h o) ≡ is_some o
+counts_power (Broken fault) h None = refl
+counts_power (Broken fault) h (Some r) = refl
+counts_power OnDemand h o = refl
+counts_power Unread h o = refl
+counts_power TooOld h o = refl
+counts_power TooMany h o = refl
+
+lost_moves : (w : NodeWorld) (e : End) (why : Loss) → AllMove w (frame_lost w e why).0 (frame_lost w e why).1
+lost_moves w e why =
+    by_loss (λ p. AllMove w p.0 p.1) w e why
+    (λ side.
+    let t : List Entry = entries_for e.link (first_lost Host why (link_to w.sites e.link).to_host) in
+    let q : (x : End) → Leaves x t = quiet Host (link_to w.sites e.link).to_host in
+    at_site w w.controller e.link (λ s. record (site_lost e why s) { node = counts why e.link s.node }) t refl (λ s. refl)
+    (λ s here. stays s (record (site_lost e why s) { node = counts why e.link s.node }) t (near e.at_host s.link) (far e.at_host s.link)
+    (counts_power why e.link s.node) q)
+    (λ none. all_stay w w t refl refl q))
+    (λ side.
+    let c : Option Running = counts why e.link w.controller in
+    let t : List Entry = entries_for e.link (first_lost Controller why (link_to w.sites e.link).to_controller) in
+    let q : (x : End) → Leaves x t = quiet Controller (link_to w.sites e.link).to_controller in
+    at_site w c e.link (site_lost e why) t (counts_power why e.link w.controller) (λ s. refl)
+    (λ s here. stays s (site_lost e why s) t (near e.at_host s.link) (far e.at_host s.link) refl q)
+    (λ none. all_stay w (record w { controller = c }) t (counts_power why e.link w.controller) refl q))
+  where
+    near : (b : Bool) (l : Link) → (happens l (cond b (AtHost (Lose why)) (AtController (Lose why)))).controller.side.got ≡ l.controller.side.got
+    near true l = refl
+    near false l = refl
+
+    far : (b : Bool) (l : Link) → (happens l (cond b (AtHost (Lose why)) (AtController (Lose why)))).host.side.got ≡ l.host.side.got
+    far true l = refl
+    far false l = refl
+
+    quiet : (who : Side) (xs : List OnWire) (x : End) → Leaves x (entries_for e.link (first_lost who why xs))
+    quiet who xs x = still_leaves x _ (notes_still x e.link (first_lost who why xs) (lost_none who why xs))
+
+-- ## Ticks
+
+old_moves : (w : NodeWorld) → AllMove w (all_aged w).0 (all_aged w).1
+old_moves w =
+    all_sites w w.memory w.controller (λ (s : Site). record s { link = aged s.link }) (all_aged w).1 (λ s. refl) (λ s. refl) (λ s. refl) (λ q s x. x)
+    (λ e. flat_leaves e (λ (s : Site). entries_for s.host (aged_entries Controller s.link.to_controller ++ aged_entries Host s.link.to_host))
+    (λ s. still_leaves e _ (notes_still e s.host (aged_entries Controller s.link.to_controller ++ aged_entries Host s.link.to_host)
+    (aged_none Controller Host s.link.to_controller s.link.to_host))) w.sites)
+
+-- a world after the controller's tick, whose hosts are still as they must be
+pub record NearTick (w : NodeWorld) (p : NodeWorld × List Entry) : Type 0 where
+  pub moves : AllMove w p.0 p.1
+  pub different : AreDifferent (hosts_in p.0.sites)
+  pub hosts : AllByRecursion (λ (s : Site). (s.host == 0) ≡ false) p.0.sites
+  pub nodes : AllByRecursion (λ (s : Site). IfItRuns s.host (s.host ∷ []) s.node) p.0.sites
+
+near_moves : (w : NodeWorld) → IsOrderly w → NearTick w (controller_ticks w)
+near_moves w a =
+    record {
+      moves = by_controller_tick (λ p. AllMove w p.0 p.1) w
+          (λ z. all_sites w w.memory w.controller site_unticked [] (λ s. refl) (λ s. refl)
+          (λ s. ap (λ (x : NumberedEnd). x.side.got) (tick_host s.link [] GoesOut))
+          (λ q s x. subst (ByPower (is_some w.controller) q) (sym (ticks_got s.link [] GoesOut)) x) (λ e q. refl))
+          (λ r z. controller_ticked w r z (subst (IfItRuns 0 (hosts_in w.sites)) z a.controller) a.different);
+      different = kept.different;
+      hosts = kept.hosts;
+      nodes = kept.nodes;
+    }
+  where
+    kept : IsOrderly (record { memory = w.memory; controller = None; sites = (controller_ticks w).0.sites })
+    kept = near_orderly w a
+
+site_ticks : (x : Site) → (x.host == 0) ≡ false → IfItRuns x.host (x.host ∷ []) x.node → SiteGoes x (host_ticks x).0 (host_ticks x).1
+site_ticks x host a =
+    by_host_tick (λ p. SiteGoes x p.0 p.1) x
+    (λ z. stays x (record x { link = exchanged (ticks_at_controller (exchanged x.link) [] GoesOut) }) []
+    (ap (λ (y : NumberedEnd). y.side.got) (tick_host (exchanged x.link) [] GoesOut)) (ticks_got (exchanged x.link) [] GoesOut) refl (λ e q. refl))
+    (λ n z. host_ticked x n x.host refl z (subst (IfItRuns x.host (x.host ∷ [])) z a) host)
+
+-- what waits at the end of a host as all hosts have had their ticks
+pub record HostsMove (h : ℕ) (p : List Site × List Entry) (q : List Message) : Type 0 where
+  pub left : List Message
+  pub goes : Goes (end_h h) q p.1 left
+  pub waits : FarWaits left (site_at p.0 h)
+
+abbrev AreNumbered : List Site → Type 0
+AreNumbered sites = AllByRecursion (λ (x : Site). (x.host == 0) ≡ false) sites
+
+abbrev AreNodes : List Site → Type 0
+AreNodes sites = AllByRecursion (λ (x : Site). IfItRuns x.host (x.host ∷ []) x.node) sites
+
+near_leaves : (h : ℕ) (sites : List Site) → AreNumbered sites → AreNodes sites → Leaves (end_c h) (hosts_tick sites).1
+near_leaves h [] b a q = refl
+near_leaves h (x ∷ sites) b a q =
+    leaves-append (end_c h) (host_ticks x).1 (hosts_tick sites).1 ((site_ticks x b.0 a.0).others (end_c h) (and-false (x.host == h)))
+    (near_leaves h sites b.1 a.1) q
+
+near_stays : (c : Option Running) (h : ℕ) (q : List Message) (sites : List Site) → AreNumbered sites → AreNodes sites → NearWaits c q (site_at sites h)
+    → NearWaits c q (site_at (hosts_tick sites).0 h)
+near_stays c h q [] b a x = tt
+near_stays c h q (y ∷ sites) b a x = go (y.host == h) refl (near_stays c h q sites b.1 a.1)
+  where
+    same : ((host_ticks y).0.host == h) ≡ (y.host == h)
+    same = ap (λ n. n == h) (site_ticked y)
+
+    go : (t : Bool) → (y.host == h) ≡ t → (NearWaits c q (site_at sites h) → NearWaits c q (site_at (hosts_tick sites).0 h))
+        → NearWaits c q (site_at (hosts_tick (y ∷ sites)).0 h)
+    go true e later =
+        let passes : ((host_ticks y).0.host == h) ≡ true = same ∙ e in
+        let was : NearWaits c q (Some y) = rw e at x in
+        rw passes (subst (ByPower (is_some c) q) (sym (site_ticks y b.0 a.0).near) was)
+    go false e later =
+        let fails : ((host_ticks y).0.host == h) ≡ false = same ∙ e in
+        rw fails (later (rw e at x))
+
+off_far : (h : ℕ) (x : Site) → (x.host == h) ≡ false → same_end (end_h x.host) (end_h h) ≡ false
+off_far h x e = ap (λ b. b && true) e
+
+far_leaves : (h : ℕ) (sites : List Site) → AreNumbered sites → AreNodes sites → AllByRecursion (λ n. (n == h) ≡ false) (hosts_in sites)
+    → Leaves (end_h h) (hosts_tick sites).1
+far_leaves h [] b a d q = refl
+far_leaves h (x ∷ sites) b a d q =
+    leaves-append (end_h h) (host_ticks x).1 (hosts_tick sites).1 ((site_ticks x b.0 a.0).others (end_h h) (off_far h x d.0))
+    (far_leaves h sites b.1 a.1 d.1) q
+
+hosts_go : (h : ℕ) (q : List Message) (sites : List Site) → AreDifferent (hosts_in sites) → AreNumbered sites → AreNodes sites
+    → FarWaits q (site_at sites h) → HostsMove h (hosts_tick sites) q
+hosts_go h q [] d b a x = record { left = q; goes = refl; waits = tt }
+hosts_go h q (y ∷ sites) d b a x = go (y.host == h) refl (hosts_go h q sites d.1 b.1 a.1)
+  where
+    same : ((host_ticks y).0.host == h) ≡ (y.host == h)
+    same = ap (λ n. n == h) (site_ticked y)
+
+    one : SiteGoes y (host_ticks y).0 (host_ticks y).1
+    one = site_ticks y b.0 a.0
+
+    go : (t : Bool) → (y.host == h) ≡ t → (FarWaits q (site_at sites h) → HostsMove h (hosts_tick sites) q) → HostsMove h (hosts_tick (y ∷ sites)) q
+    go true e later =
+        let here : site_at (hosts_tick (y ∷ sites)).0 h ≡ Some (host_ticks y).0 =
+        let passes : ((host_ticks y).0.host == h) ≡ true = same ∙ e in rw passes refl in
+        let was : FarWaits q (Some y) = rw e at x in
+        let own : OwnMoves y.host (host_ticks y).0 (host_ticks y).1 q = one.goes q was in
+        let A : ℕ → Type 0 = λ n. AllByRecursion (λ k. (k == n) ≡ false) (hosts_in sites) in
+        record {
+          left = own.left;
+          goes = goes-append (end_h h) (host_ticks y).1 (hosts_tick sites).1 q own.left own.left
+              (subst (λ n. Goes (end_h n) q (host_ticks y).1 own.left) (eqb-true y.host h e) own.goes)
+              (far_leaves h sites b.1 a.1 (subst A (eqb-true y.host h e) d.0) own.left);
+          waits = subst (FarWaits own.left) (sym here) own.waits;
+        }
+    go false e later =
+        let here : site_at (hosts_tick (y ∷ sites)).0 h ≡ site_at (hosts_tick sites).0 h =
+        let fails : ((host_ticks y).0.host == h) ≡ false = same ∙ e in rw fails refl in
+        let rest : HostsMove h (hosts_tick sites) q = later (rw e at x) in
+        record {
+          left = rest.left;
+          goes = goes-append (end_h h) (host_ticks y).1 (hosts_tick sites).1 q q rest.left (one.others (end_h h) (off_far h y e) q) rest.goes;
+          waits = subst (FarWaits rest.left) (sym here) rest.waits;
+        }
+
+hosts_move : (w : NodeWorld) → AreDifferent (hosts_in w.sites) → AreNumbered w.sites → AreNodes w.sites
+    → AllMove w (record w { sites = (hosts_tick w.sites).0 }) (hosts_tick w.sites).1
+hosts_move w d b a false h q x =
+    record { left = q; goes = near_leaves h w.sites b a q; waits = near_stays w.controller h q w.sites b a x }
+hosts_move w d b a true h q x =
+    let one : HostsMove h (hosts_tick w.sites) q = hosts_go h q w.sites d b a x in record { left = one.left; goes = one.goes; waits = one.waits }
+
+ticks_move : (w : NodeWorld) → IsOrderly w → AllMove w (world_ticks w).0 (world_ticks w).1
+ticks_move w a =
+    let old : NodeWorld × List Entry = all_aged w in
+    let near : NodeWorld × List Entry = controller_ticks old.0 in
+    let far : List Site × List Entry = hosts_tick near.0.sites in
+    let first : NearTick old.0 near =
+    near_moves old.0 (orderly_map w w.memory w.controller (λ (s : Site). record s { link = aged s.link }) (λ s. refl) a a.controller (λ s n. n)) in
+    move_then w old.0 (record near.0 { sites = far.0 }) old.1 (near.1 ++ far.1) (old_moves w)
+    (move_then old.0 near.0 (record near.0 { sites = far.0 }) near.1 far.1 first.moves (hosts_move near.0 first.different first.hosts first.nodes))
+
+-- ## Events
+
+pub events_move : (w : NodeWorld) (c : Happening) → IsOrderly w → MayBoot w c → AllMove w (world_step w c).0 (world_step w c).1
+events_move w (Boots n) a may = boots_move w n a may
+events_move w (IsCut n) a may = power_moves n w
+events_move w (Gives e m) a may = begins_move w e.link (sending e.link m) (sending_mute e.link m) a
+events_move w (Inits e identity pipes) a may = begins_move w e.link (beginning identity pipes) (tt, (tt, tt)) a
+events_move w (Takes e) a may = comes_move w e NextFrame a
+events_move w (Loses e why) a may = lost_moves w e why
+events_move w Ticks a may = ticks_move w a
+events_move w (Resets e window) a may = comes_move w e (AsksReset window) a
+events_move w (Activates h sync power) a may = activates_move w h sync power a
+events_move w (Arms n plan) a may = memory_moves n (record (memory_at w n) { plan = Some plan }) w

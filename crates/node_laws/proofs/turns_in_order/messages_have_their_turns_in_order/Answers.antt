@@ -1,0 +1,11 @@
+use Rattle.node_laws.proofs.turns.Lines.{in_turn, left_at_host, left_at_controller}
+use Rattle.node_laws.proofs.turns_in_order.messages_have_their_turns_in_order.Goals as goal
+
+pub returns-clause-in_order : goal.returns-clause-in_order
+returns-clause-in_order c = in_turn
+
+pub returns-clause-left_at_hosts : goal.returns-clause-left_at_hosts
+returns-clause-left_at_hosts c = left_at_host
+
+pub returns-clause-left_at_controller : goal.returns-clause-left_at_controller
+returns-clause-left_at_controller c = left_at_controller

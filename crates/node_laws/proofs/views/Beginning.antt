@@ -1,0 +1,239 @@
+-- Something comes to a host, or it begins something: the init that runs there stays what is read.
+use Rattle.std.proofs.Common.{◌≡◌, ◌⊎◌, inl, inr, ℕ, ◌&&◌, true, false, cond, eqb, List, [], ◌∷◌, ◌++◌, map, sym, refl, ap, ◌∙◌, subst, append-nil}
+use Rattle.std.specs.Prelude.{Option, Some, None}
+use Rattle.std.specs.List.{AllByRecursion, flat_map}
+use Rattle.std.proofs.lemmas.Bool.{cases_Bool, cond_both, true≢false}
+use Rattle.trace_model.specs.Lines.{IsHost}
+use Rattle.trace_model.specs.declared.entry.Entry.{Entry}
+use Rattle.shdlc_core.specs.declared.answers.LinkState.{LinkState}
+use Rattle.shdlc_core.specs.declared.answers.LinkState.TheVariants.{Up}
+use Rattle.link_laws.specs.machine.Machine.{Message, LinkInput}
+use Rattle.node_machine.specs.Parts.{Init, Core, Port, Work, Deed}
+use Rattle.node_machine.specs.Parts.Deed.{Sends, Orders}
+use Rattle.node_machine.specs.Controller.{is_command_message}
+use Rattle.node_machine.specs.Carrying.{noting, unless_cut, all_done}
+use Rattle.node_machine.specs.Turns.{passes}
+use Rattle.node_machine.specs.Node.{NodeInput, input_at, has_come, told_at, all_come, reset_late, told_late, times_out, forgotten, forgets, all_owed}
+use Rattle.node_machine.specs.Node.{without_notice, after_sessions, synced, steps, begins_with}
+use Rattle.node_machine.specs.Node.NodeInput.{AtEnd, TimePasses}
+use Rattle.node_machine.specs.world.World.{runs_on, sending, beginning}
+use Rattle.node_laws.specs.links.Notices.{IsComing, IsOutside}
+use Rattle.node_laws.proofs.links.Noticing.{outside}
+use Rattle.node_laws.proofs.links.Staying.{stays_up}
+use Rattle.node_laws.specs.passes.Steps.{comes_to_pass}
+use Rattle.node_laws.specs.readings.Orders.{IsFresh}
+use Rattle.node_laws.specs.readings.Worlds.{init_of}
+use Rattle.node_laws.proofs.readings.Silent.{host_side}
+use Rattle.node_laws.specs.views.Inits.{init_of_running, KeepsInit}
+use Rattle.node_laws.proofs.steps.Walks.{all_synced_hold}
+use Rattle.node_laws.proofs.views.Answering.{reads_init, init_append, IsNeutral, AreNeutral, MayGo, neutral_stays}
+use Rattle.node_laws.proofs.views.Going.{Base, Stands, then, all_go, passes_stand, told_init}
+use Rattle.node_laws.proofs.readings.Stepping.{late_told, forgets_same, none_forgotten, none_owed, older_same, late_same, without_same}
+
+-- ## An end without a notice
+
+times_same : (input : NodeInput) (w : Work) (q : Port) → w.ports ≡ q ∷ [] → q.desk.notice ≡ None → times_out input w ≡ w
+times_same (AtEnd k i) w q is quiet = refl
+times_same TimePasses w q is quiet =
+    ap (λ ps. times_out TimePasses (record w { ports = ps })) is
+    ∙ (ap (λ x. noting (told_late w.core x ++ []) (record w { ports = reset_late x ∷ [] })) (older_same q quiet)
+    ∙ (ap (λ es. noting (es ++ []) (record w { ports = reset_late q ∷ [] })) (late_told w.core q quiet)
+    ∙ (ap (λ x. noting [] (record w { ports = x ∷ [] })) (late_same q quiet)
+    ∙ (ap (λ es. record w { entries = es; ports = q ∷ [] }) (append-nil w.entries)
+    ∙ ap (λ ps. record w { ports = ps }) (sym is)))))
+
+-- what stands behind what came, before the node passes its ends
+abbrev behind : List Deed → Work → Work
+behind syncs came =
+    unless_cut (all_done 0 (all_owed (map (forgets came.ports) came.ports)))
+    (all_done 0 syncs (all_done 0 (forgotten came.ports)
+    (record came { core = after_sessions came.core came.ports; ports = map without_notice (map (forgets came.ports) came.ports) })))
+
+module _ (h : ℕ) (host : IsHost h) (i0 : Option Init) where
+  -- what came to the end of a host
+  record HasCome (now : LinkState) (w : Work) (q : Port) (more : List Entry) : Type 0 where
+    at : q.desk.host ≡ h
+    quiet : q.desk.notice ≡ None
+    late : q.late ≡ false
+    told : (y : Option Init) → reads_init h more y ≡ cond q.ended None y
+    up : now ≡ Up → q.ended ≡ false → q.side.shdlc.phase ≡ Up
+
+  came_so : (now : LinkState) (w : Work) (p : Port) (o : Option LinkInput) → ((i : LinkInput) → o ≡ Some i → IsComing i) → w.core.node ≡ h → p.desk.host ≡ h
+      → p.desk.notice ≡ None → p.side.shdlc.phase ≡ now → IsFresh p → HasCome now w (has_come p o) (told_at w.core p o)
+  came_so now w p None coming node at quiet phase fresh = record {
+    at = at;
+    quiet = quiet;
+    late = fresh.1;
+    told = λ y. sym (ap (λ b. cond b None y) fresh.0);
+    up = λ is ended. phase ∙ is;
+  }
+  came_so now w p (Some i) coming node at quiet phase fresh = record {
+    at = at;
+    quiet = quiet;
+    late = fresh.1;
+    told = λ y. told_init h w.core p i y (host_side w.core h host node) at;
+    up = λ is ended. stays_up p.side i (coming i refl) (phase ∙ is) ended;
+  }
+
+  -- the host behind what came
+  begun_stands : (now : LinkState) (w : Work) (q : Port) (more : List Entry) → w.cut ≡ false → Stands h host i0 now w → HasCome now w q more
+      → Stands h host i0 q.side.shdlc.phase (record w { core = after_sessions w.core (q ∷ []); ports = q ∷ []; entries = w.entries ++ more })
+  begun_stands now w q more on s came = by_end (cases_Bool q.ended) where
+    Fine : Core → Type 0
+    Fine core = Stands h host i0 q.side.shdlc.phase (record w { core = core; ports = q ∷ []; entries = w.entries ++ more })
+
+    over_is : q.ended ≡ true → after_sessions w.core (q ∷ []) ≡ record w.core { command = None; init = None }
+    over_is e = rw e refl
+
+    on_is : q.ended ≡ false → after_sessions w.core (q ∷ []) ≡ w.core
+    on_is e = rw (e, came.late) refl
+
+    read : reads_init h (w.entries ++ more) i0 ≡ cond q.ended None w.core.init
+    read = init_append h w.entries more i0 ∙ (came.told (reads_init h w.entries i0) ∙ ap (λ y. cond q.ended None y) (s.on on).0)
+
+    base : (core : Core) → core.node ≡ h → Base h host i0 q.side.shdlc.phase (record w { core = core; ports = q ∷ []; entries = w.entries ++ more })
+    base core number = record { number = number; port = q; is = refl; at = came.at; quiet = came.quiet; phase = refl }
+
+    by_end : (q.ended ≡ true) ⊎ (q.ended ≡ false) → Fine (after_sessions w.core (q ∷ []))
+    by_end (inl e) = subst Fine (sym (over_is e)) (record {
+      base = base (record w.core { command = None; init = None }) s.base.number;
+      on = λ z. (read ∙ ap (λ b. cond b None w.core.init) e, λ some. absurd (true≢false (sym some)));
+      off = λ z. absurd (true≢false (sym z ∙ on));
+    })
+    by_end (inr e) = subst Fine (sym (on_is e)) (record {
+      base = base w.core s.base.number;
+      on = λ z. (read ∙ ap (λ b. cond b None w.core.init) e, λ some. (((s.on on).1 some).0, came.up ((s.on on).1 some).1 e));
+      off = λ z. absurd (true≢false (sym z ∙ on));
+    })
+
+  -- and what it does then, before its turns
+  rest_stands : (now : LinkState) (syncs : List Deed) (v : Work) → AreNeutral syncs → v.cut ≡ false → Stands h host i0 now v
+      → Stands h host i0 now (unless_cut (all_done 0 []) (all_done 0 syncs v))
+  rest_stands now syncs v neutral on s =
+      let kept : Stands h host i0 now (all_done 0 syncs v) = all_go h host i0 now 0 syncs v v.core.init on s.base (s.on on).0
+      (neutral_stays h now v.core.init v.core.command v.core.init syncs refl (s.on on).1 neutral) in
+      then h host i0 now (all_done 0 []) (all_done 0 syncs v) (λ still z. z) kept
+
+  behind_stands : (now : LinkState) (syncs : List Deed) (w : Work) (q : Port) (more : List Entry) → AreNeutral syncs → w.cut ≡ false
+      → Stands h host i0 now w → HasCome now w q more
+      → Stands h host i0 q.side.shdlc.phase (behind syncs (record w { ports = q ∷ []; entries = w.entries ++ more }))
+  behind_stands now syncs w q more neutral on s came =
+      subst (Stands h host i0 q.side.shdlc.phase) (sym is) (rest_stands q.side.shdlc.phase syncs (begun (q ∷ [])) neutral on (begun_stands now w q more on s
+      came)) where
+        begun : List Port → Work
+        begun ports = record w { core = after_sessions w.core (q ∷ []); ports = ports; entries = w.entries ++ more }
+
+        left : map (forgets (q ∷ [])) (q ∷ []) ≡ q ∷ []
+        left = ap (λ x. x ∷ []) (forgets_same (q ∷ []) q came.quiet)
+
+        then_owed : List Deed → List Deed → Work → Work
+        then_owed freed owing v = unless_cut (all_done 0 owing) (all_done 0 syncs (all_done 0 freed v))
+
+        is : behind syncs (record w { ports = q ∷ []; entries = w.entries ++ more }) ≡ then_owed [] [] (begun (q ∷ []))
+        is =
+            ap (λ l. then_owed (forgotten (q ∷ [])) (all_owed l) (begun (map without_notice l))) left
+            ∙ (ap (λ d. then_owed d (all_owed (q ∷ [])) (begun (map without_notice (q ∷ [])))) (none_forgotten q came.quiet)
+            ∙ (ap (λ d. then_owed [] d (begun (map without_notice (q ∷ [])))) (none_owed q came.quiet)
+            ∙ ap (λ x. then_owed [] [] (begun (x ∷ []))) (without_same q came.quiet)))
+
+  -- as its pass begins
+  pub ready_stand : (now : LinkState) (input : NodeInput) (w : Work) → IsOutside input → w.cut ≡ false → (s : Stands h host i0 now w) → IsFresh s.base.port
+      → Stands h host i0 (has_come s.base.port (input_at input s.base.port)).side.shdlc.phase (comes_to_pass input w)
+  ready_stand now input w out on s fresh =
+      subst (λ v. Stands h host i0 q.side.shdlc.phase (comes_to_pass input v)) (sym w_is)
+      (subst (λ u. Stands h host i0 q.side.shdlc.phase (behind syncs u)) (sym came_is) (behind_stands now syncs w q more neutral on s came)) where
+        p : Port
+        p = s.base.port
+
+        v : Work
+        v = record w { ports = p ∷ [] }
+
+        w_is : w ≡ v
+        w_is = ap (λ ps. record w { ports = ps }) s.base.is
+
+        q : Port
+        q = has_come p (input_at input p)
+
+        more : List Entry
+        more = told_at w.core p (input_at input p)
+
+        came : HasCome now w q more
+        came = came_so now w p (input_at input p) (outside input out p) s.base.number s.base.at s.base.quiet s.base.phase fresh
+
+        syncs : List Deed
+        syncs = flat_map (synced w.core input) (p ∷ [])
+
+        neutral : AreNeutral syncs
+        neutral = all_synced_hold IsNeutral (λ host id. tt) w.core input (p ∷ [])
+
+        came_is : times_out input (all_come input v) ≡ record w { ports = q ∷ []; entries = w.entries ++ more }
+        came_is =
+            times_same input (all_come input v) q refl came.quiet
+            ∙ ap (λ es. record w { ports = q ∷ []; entries = w.entries ++ es }) (append-nil more)
+
+  pub steps_stand : (now : LinkState) (input : NodeInput) (w : Work) → IsOutside input → w.cut ≡ false → (s : Stands h host i0 now w) → IsFresh s.base.port
+      → Stands h host i0 (has_come s.base.port (input_at input s.base.port)).side.shdlc.phase (steps input w)
+  steps_stand now input w out on s fresh =
+      let later : LinkState = (has_come s.base.port (input_at input s.base.port)).side.shdlc.phase in
+      then h host i0 later passes (comes_to_pass input w) (λ still z. passes_stand h host i0 later (comes_to_pass input w) still z)
+      (ready_stand now input w out on s fresh)
+
+  -- ## What a host keeps
+
+  kept_on : (w : Work) → w.cut ≡ false → init_of_running (runs_on w) ≡ w.core.init
+  kept_on w e = rw e refl
+
+  kept_off : (w : Work) → w.cut ≡ true → init_of_running (runs_on w) ≡ None
+  kept_off w e = rw e refl
+
+  pub keeps_stand : (w : Work) → w.cut ≡ false → (k : KeepsInit h i0 w) → Stands h host i0 k.port.side.shdlc.phase w
+  keeps_stand w on k = record {
+    base = record { number = k.node; port = k.port; is = k.ports_are; at = k.host; quiet = k.no_notice; phase = refl };
+    on = λ e. (k.read ∙ kept_on w e, k.waits e);
+    off = λ e. absurd (true≢false (sym e ∙ on));
+  }
+
+  pub stands_keep : (now : LinkState) (w : Work) → Stands h host i0 now w → KeepsInit h i0 w
+  stands_keep now w s = record {
+    node = s.base.number;
+    port = s.base.port;
+    ports_are = s.base.is;
+    host = s.base.at;
+    no_notice = s.base.quiet;
+    waits = λ e some. (((s.on e).1 some).0, s.base.phase ∙ ((s.on e).1 some).1);
+    read = by (cases_Bool w.cut);
+  } where
+    by : (w.cut ≡ true) ⊎ (w.cut ≡ false) → reads_init h w.entries i0 ≡ init_of_running (runs_on w)
+    by (inl e) = s.off e ∙ sym (kept_off w e)
+    by (inr e) = (s.on e).0 ∙ sym (kept_on w e)
+
+pub steps_keep : (h : ℕ) (begun : Option Init) (input : NodeInput) (w : Work) → IsHost h → IsOutside input → KeepsInit h begun w → w.cut ≡ false
+    → AllByRecursion IsFresh w.ports → KeepsInit h begun (steps input w)
+steps_keep h begun input w host out k on fresh =
+    let s : Stands h host begun k.port.side.shdlc.phase w = keeps_stand h host begun w on k in
+    let all : AllByRecursion IsFresh (s.base.port ∷ []) = subst (AllByRecursion IsFresh) s.base.is fresh in
+    stands_keep h host begun (has_come s.base.port (input_at input s.base.port)).side.shdlc.phase (steps input w)
+    (steps_stand h host begun k.port.side.shdlc.phase input w out on s all.0)
+
+pub sends_keep : (h : ℕ) (begun : Option Init) (m : Message) (w : Work) → IsHost h → KeepsInit h begun w → w.cut ≡ false
+    → KeepsInit h begun (begins_with h (sending h m) w)
+sends_keep h begun m w host k on =
+    let now : LinkState = k.port.side.shdlc.phase in
+    let s : Stands h host begun now w = keeps_stand h host begun w on k in
+    stands_keep h host begun now (begins_with h (sending h m) w) (all_go h host begun now h (sending h m) w w.core.init on s.base (s.on on).0
+    (cond_both (eqb m.0 1 && is_command_message m.1) (Orders m.1 ∷ []) (Sends h m ∷ []) (MayGo h now w.core.init w.core.command w.core.init)
+    (λ _. (refl, λ some. (refl, ((s.on on).1 some).1))) (λ _. (refl, (s.on on).1))))
+
+pub begins_keep : (h : ℕ) (begun : Option Init) (identity : List ℕ) (pipes : List (List ℕ)) (w : Work) → IsHost h → (k : KeepsInit h begun w) → w.cut ≡ false
+    → w.entries ≡ [] → k.port.side.shdlc.phase ≡ Up → KeepsInit h (Some (init_of identity pipes)) (begins_with h (beginning identity pipes) w)
+begins_keep h begun identity pipes w host k on none up =
+    let i : Option Init = Some (init_of identity pipes) in
+    let now : LinkState = k.port.side.shdlc.phase in
+    stands_keep h host i now (begins_with h (beginning identity pipes) w) (all_go h host i now h (beginning identity pipes) w i on (record {
+      number = k.node;
+      port = k.port;
+      is = k.ports_are;
+      at = k.host;
+      quiet = k.no_notice;
+      phase = refl;
+    }) (ap (λ es. reads_init h es i) none) (refl, λ some. (refl, up)))

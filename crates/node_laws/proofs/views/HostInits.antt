@@ -1,0 +1,232 @@
+-- A host of a world keeps the init that is read of it over each of its own events.
+use Rattle.std.proofs.Common.{◌≡◌, ◌⊎◌, inl, inr, ℕ, ◌&&◌, true, false, cond, eqb, List, [], ◌∷◌, ◌++◌, map, sym, refl, ap, ◌∙◌, subst}
+use Rattle.std.specs.Prelude.{Option, Some, None}
+use Rattle.std.specs.Option.{option_map_or}
+use Rattle.std.proofs.lemmas.Bool.{cases_Bool, cond_both, eq-eqb, true≢false}
+use Rattle.swp_base.specs.InMemory.{Memory}
+use Rattle.journal_laws.specs.Planned.{after_planned}
+use Rattle.trace_model.specs.Lines.{IsHost}
+use Rattle.trace_model.specs.declared.entry.Entry.{Entry}
+use Rattle.trace_model.specs.declared.entry.Entry.TheVariants as entry
+use Rattle.shdlc_core.specs.declared.answers.LinkState.{LinkState}
+use Rattle.shdlc_core.specs.declared.answers.LinkState.TheVariants.{Up}
+use Rattle.link_laws.specs.machine.Machine.{LinkEnd, LinkInput, Message, after_input}
+use Rattle.link_laws.specs.machine.Machine.LinkInput.{Tick}
+use Rattle.link_laws.specs.messages.Links.{NumberedEnd, Link, Comes, exchanged, steps_at_controller, ticks_at_controller}
+use Rattle.link_laws.specs.messages.Links.Ending.{GoesOut, CutOff}
+use Rattle.link_laws.specs.messages.Links.Comes.{NoInput}
+use Rattle.link_laws.specs.entries.Entries.{End as Side, ending_entries}
+use Rattle.link_laws.specs.entries.Entries.End.{Host}
+use Rattle.history.specs.Steps.{entries_for}
+use Rattle.node_machine.specs.Parts.{Init, Desk, Running, Port, Work, Deed}
+use Rattle.node_machine.specs.Parts.Deed.{Sends, Orders}
+use Rattle.node_machine.specs.Controller.{is_command_message}
+use Rattle.node_machine.specs.Carrying.{port_at}
+use Rattle.node_machine.specs.Node.{input_at, has_come, steps, begins_with, found, new_desk}
+use Rattle.node_machine.specs.Node.NodeInput.{AtEnd, TimePasses}
+use Rattle.node_machine.specs.world.World.{Site, ending_of, runs_on, turns_at, input_of, near_end_in, arrival, wires_for, port_for, work_of}
+use Rattle.node_machine.specs.world.World.{frames_noted, host_work}
+use Rattle.node_machine.specs.world.World.{after_host, host_cut, host_ticks, sending, beginning}
+use Rattle.node_laws.specs.readings.Worlds.{host_does_so, init_of}
+use Rattle.node_laws.proofs.readings.Sites.{ending_quiet, arrival_quiet, sent_phase, stepped_phase, comes_outside, near_end_side}
+use Rattle.node_laws.specs.views.Inits.{init_of_running, RunsInit, IfRunsInit, SiteKeepsInit}
+use Rattle.node_laws.proofs.views.Answering.{reads_init, init_append, MayGo}
+use Rattle.node_laws.proofs.views.Going.{Base, Stands, all_go, quiet_init}
+use Rattle.node_laws.proofs.views.Beginning.{steps_stand}
+
+frames_init : (h : ℕ) (who : Side) (k : ℕ) (l : Link) (w : Work) (y : Option Init) → reads_init h (frames_noted who k l w) y ≡ y
+frames_init h who k l w y = go (port_at w.ports k) where
+  go : (o : Option Port) → reads_init h (option_map_or (λ (p : Port). entries_for k (ending_entries who l p.side (ending_of w))) o []) y ≡ y
+  go None = refl
+  go (Some p) = quiet_init h k (ending_entries who l p.side (ending_of w)) y (ending_quiet who l p.side (ending_of w))
+
+arrival_init : (h : ℕ) (who : Side) (k : ℕ) (l : Link) (comes : Comes) (y : Option Init) → reads_init h (entries_for k (arrival who l comes)) y ≡ y
+arrival_init h who k l comes y = quiet_init h k (arrival who l comes) y (arrival_quiet who l comes)
+
+-- The step of a host is done, in which frames come to its end of l: its link becomes this one, its memory that.
+done_keeps : (s : Site) (host : IsHost s.host) (i : Option Init) (now : LinkState) (k : Work) (l link : Link) (memory : Memory)
+    → (k.cut ≡ false → link.host.side.shdlc.phase ≡ now) → Stands s.host host i now k
+    → SiteKeepsInit (reads_init s.host (k.entries ++ frames_noted Host s.host l k) i) (record s { link = link; memory = memory; node = runs_on k })
+done_keeps s host i now k l link memory phase st = by (cases_Bool k.cut) where
+  v : Site
+  v = record s { link = link; memory = memory; node = runs_on k }
+
+  read : reads_init s.host (k.entries ++ frames_noted Host s.host l k) i ≡ reads_init s.host k.entries i
+  read = init_append s.host k.entries (frames_noted Host s.host l k) i ∙ frames_init s.host Host s.host l k (reads_init s.host k.entries i)
+
+  on_is : k.cut ≡ false → runs_on k ≡ Some (record { core = k.core; desks = map (λ (p : Port). p.desk) k.ports })
+  on_is e = rw e refl
+
+  off_is : k.cut ≡ true → runs_on k ≡ None
+  off_is e = rw e refl
+
+  by : (k.cut ≡ true) ⊎ (k.cut ≡ false) → SiteKeepsInit (reads_init s.host (k.entries ++ frames_noted Host s.host l k) i) v
+  by (inl e) = record {
+    read = read ∙ (st.off e ∙ sym (ap init_of_running (off_is e)));
+    runs = subst (IfRunsInit s.host link) (sym (off_is e)) tt;
+  }
+  by (inr e) = record {
+    read = read ∙ ((st.on e).0 ∙ sym (ap init_of_running (on_is e)));
+    runs = subst (IfRunsInit s.host link) (sym (on_is e)) (record {
+      number = st.base.number;
+      desk = st.base.port.desk;
+      desks_are = ap (map (λ (p : Port). p.desk)) st.base.is;
+      host = st.base.at;
+      no_notice = st.base.quiet;
+      waits = λ some. (((st.on e).1 some).0, phase e ∙ ((st.on e).1 some).1);
+    });
+  }
+
+module _ (s : Site) (host : IsHost s.host) (i : Option Init) (r : Running) (node : s.node ≡ Some r) (k : SiteKeepsInit i s) where
+  so : RunsInit s.host s.link r
+  so = subst (IfRunsInit s.host s.link) node k.runs
+
+  kept : i ≡ r.core.init
+  kept = k.read ∙ ap init_of_running node
+
+  -- its step begins, over what is noted first
+  base_of : (near_end : NumberedEnd) (es : List Entry) (b : Option Init)
+      → Base s.host host b near_end.side.shdlc.phase (work_of r s.memory.plan (λ n. near_end) es)
+  base_of near_end es b = record {
+    number = so.number;
+    port = port_for near_end so.desk;
+    is = ap (map (λ (d : Desk). port_for near_end d)) so.desks_are;
+    at = so.host;
+    quiet = so.no_notice;
+    phase = refl;
+  }
+
+  pub begun_stands : (near_end : NumberedEnd) (es : List Entry) → near_end.side ≡ s.link.host.side → ((y : Option Init) → reads_init s.host es y ≡ y)
+      → Stands s.host host i near_end.side.shdlc.phase (work_of r s.memory.plan (λ n. near_end) es)
+  begun_stands near_end es side silent = record {
+    base = base_of near_end es i;
+    on = λ e. (silent i ∙ kept, λ some. ((so.waits some).0, ap (λ (x : LinkEnd). x.shdlc.phase) side ∙ (so.waits some).1));
+    off = λ e. absurd (true≢false (sym e));
+  }
+
+  pub comes_keeps : (comes : Comes) (input : LinkInput) → input_of (exchanged s.link) comes ≡ Some input
+      → SiteKeepsInit (reads_init s.host (host_does_so s r comes (steps (AtEnd s.host input))).1 i) (host_does_so s r comes (steps (AtEnd s.host input))).0
+  unfolding begun_stands base_of
+  comes_keeps comes input is =
+      done_keeps s host i now w (wires_for (exchanged s.link) comes) (after_host comes w s).link (after_host comes w s).memory phase stands where
+        w : Work
+        w = host_work s r comes (steps (AtEnd s.host input))
+
+        near_end : NumberedEnd
+        near_end = near_end_in (exchanged s.link) comes
+
+        begun : Work
+        begun = work_of r s.memory.plan (λ n. near_end) (entries_for s.host (arrival Host (exchanged s.link) comes))
+
+        now : LinkState
+        now = (after_input s.link.host.side input).shdlc.phase
+
+        first : Stands s.host host i near_end.side.shdlc.phase begun
+        first = begun_stands near_end (entries_for s.host (arrival Host (exchanged s.link) comes)) (near_end_side (exchanged s.link) comes)
+            (arrival_init s.host Host s.host (exchanged s.link) comes)
+
+        came : (has_come (port_for near_end so.desk) (input_at (AtEnd s.host input) (port_for near_end so.desk))).side.shdlc.phase ≡ now
+        came =
+            ap (λ b. (has_come (port_for near_end so.desk) (cond b (Some input) None)).side.shdlc.phase) (eq-eqb so.desk.host s.host so.host)
+            ∙ ap (λ e. (after_input e input).shdlc.phase) (near_end_side (exchanged s.link) comes)
+
+        stands : Stands s.host host i now w
+        stands = subst (λ n. Stands s.host host i n w) came (steps_stand s.host host i near_end.side.shdlc.phase (AtEnd s.host input) begun
+            (comes_outside (exchanged s.link) comes input is) refl first (refl, refl))
+
+        phase : w.cut ≡ false → (after_host comes w s).link.host.side.shdlc.phase ≡ now
+        phase on =
+            ap (λ b. (steps_at_controller (exchanged s.link) comes (turns_at w s.host) (cond b CutOff GoesOut)).controller.side.shdlc.phase) on
+            ∙ stepped_phase (exchanged s.link) comes (turns_at w s.host) input is
+
+  -- it does deeds of its own
+  acts_keep : (deeds : List Deed) (b : Option Init) → MayGo s.host s.link.host.side.shdlc.phase b r.core.command r.core.init deeds
+      → SiteKeepsInit (reads_init s.host (host_does_so s r NoInput (begins_with s.host deeds)).1 b) (host_does_so s r NoInput (begins_with s.host deeds)).0
+  acts_keep deeds b may =
+      done_keeps s host b now w (wires_for (exchanged s.link) NoInput) (after_host NoInput w s).link (after_host NoInput w s).memory phase
+      (all_go s.host host b now s.host deeds begun b refl (base_of s.link.host [] b) refl may) where
+        w : Work
+        w = host_work s r NoInput (begins_with s.host deeds)
+
+        now : LinkState
+        now = s.link.host.side.shdlc.phase
+
+        begun : Work
+        begun = work_of r s.memory.plan (λ n. s.link.host) []
+
+        phase : w.cut ≡ false → (after_host NoInput w s).link.host.side.shdlc.phase ≡ now
+        phase on =
+            ap (λ b. (steps_at_controller (exchanged s.link) NoInput (turns_at w s.host) (cond b CutOff GoesOut)).controller.side.shdlc.phase) on
+            ∙ sent_phase s.link.host.side (turns_at w s.host)
+
+  pub sends_keeps : (m : Message) → SiteKeepsInit (reads_init s.host (host_does_so s r NoInput (begins_with s.host (sending s.host m))).1 i)
+      (host_does_so s r NoInput (begins_with s.host (sending s.host m))).0
+  sends_keeps m = acts_keep (sending s.host m) i (cond_both (eqb m.0 1 && is_command_message m.1) (Orders m.1 ∷ []) (Sends s.host m ∷ [])
+      (MayGo s.host s.link.host.side.shdlc.phase i r.core.command r.core.init) (λ _. (kept, λ some. (refl, (so.waits some).1))) (λ _. (kept, so.waits)))
+
+  pub begins_keeps : (identity : List ℕ) (pipes : List (List ℕ)) → s.link.host.side.shdlc.phase ≡ Up
+      → SiteKeepsInit (reads_init s.host (host_does_so s r NoInput (begins_with s.host (beginning identity pipes))).1 (Some (init_of identity pipes)))
+      (host_does_so s r NoInput (begins_with s.host (beginning identity pipes))).0
+  begins_keeps identity pipes up = acts_keep (beginning identity pipes) (Some (init_of identity pipes)) (refl, λ some. (refl, up))
+
+-- a tick of a host
+pub ticks_keep : (s : Site) (i : Option Init) → IsHost s.host → SiteKeepsInit i s → SiteKeepsInit (reads_init s.host (host_ticks s).1 i) (host_ticks s).0
+unfolding begun_stands base_of
+ticks_keep s i host k = by_node s.node refl where
+  Fine : Site × List Entry → Type 0
+  Fine p = SiteKeepsInit (reads_init s.host p.1 i) p.0
+
+  by_node : (o : Option Running) → s.node ≡ o → Fine (host_ticks s)
+  by_node None e = subst Fine (sym (off_is e)) (record {
+    read = k.read;
+    runs = subst (IfRunsInit s.host (exchanged (ticks_at_controller (exchanged s.link) [] GoesOut))) (sym e) tt;
+  }) where
+    off_is : s.node ≡ None → host_ticks s ≡ (record s { link = exchanged (ticks_at_controller (exchanged s.link) [] GoesOut) }, [])
+    off_is e = rw e refl
+  by_node (Some r) e = subst Fine (sym (on_is e)) (done_keeps s host i now w (exchanged s.link) v.link v.memory phase stands) where
+    begun : Work
+    begun = work_of r s.memory.plan (λ n. s.link.host) []
+
+    w : Work
+    w = steps TimePasses begun
+
+    v : Site
+    v = record s {
+      link = exchanged (ticks_at_controller (exchanged s.link) (turns_at w s.host) (ending_of w));
+      memory = after_planned w.writes s.memory;
+      node = runs_on w;
+    }
+
+    on_is : s.node ≡ Some r → host_ticks s ≡ (v, w.entries ++ frames_noted Host s.host (exchanged s.link) w)
+    on_is e = rw e refl
+
+    now : LinkState
+    now = (after_input s.link.host.side Tick).shdlc.phase
+
+    stands : Stands s.host host i now w
+    stands = steps_stand s.host host i s.link.host.side.shdlc.phase TimePasses begun tt refl (begun_stands s host i r e k s.link.host [] refl (λ y. refl))
+        (refl, refl)
+
+    phase : w.cut ≡ false → v.link.host.side.shdlc.phase ≡ now
+    phase on =
+        ap (λ b. (ticks_at_controller (exchanged s.link) (turns_at w s.host) (cond b CutOff GoesOut)).controller.side.shdlc.phase) on
+        ∙ sent_phase (after_input s.link.host.side Tick) (turns_at w s.host)
+
+-- its power is cut
+pub cut_keeps : (s : Site) (i : Option Init) → SiteKeepsInit (reads_init s.host (entry.Cut s.host ∷ []) i) (host_cut s)
+cut_keeps s i = record { read = ap (λ b. cond b None i) (eq-eqb s.host s.host refl); runs = tt }
+
+-- it boots while it doesn't run
+pub boot_keeps : (s : Site) (i : Option Init) (m : Memory) (content : List ℕ) (n : ℕ) → SiteKeepsInit i s → s.node ≡ None
+    → SiteKeepsInit (reads_init s.host (entry.Booted s.host n ∷ []) i) (record s { memory = m; node = Some (found s.host (s.host ∷ []) content) })
+boot_keeps s i m content n k off = record {
+  read = k.read ∙ ap init_of_running off;
+  runs = record {
+    number = refl;
+    desk = new_desk s.host;
+    desks_are = refl;
+    host = refl;
+    no_notice = refl;
+    waits = λ some. absurd (true≢false (sym some));
+  };
+}

@@ -1,0 +1,29 @@
+-- An init as it is read off the events of a small run.
+use Rattle.std.proofs.Common.{◌≡◌, refl, List, [], ◌∷◌, ◌++◌, None, Some}
+use Rattle.trace_model.specs.declared.entry.Entry.TheVariants.{Booted, Cut, Turn, Sent, InitMade}
+use Rattle.node_machine.specs.world.World.{end_h}
+use Rattle.node_machine.specs.world.World.Happening.{Boots, Inits, Takes, IsCut}
+use Rattle.node_machine.specs.world.Lines.{Occurrence}
+use Rattle.node_laws.specs.views.Inits.{init_in}
+
+-- host 02 begins an init with one pipe, and its first two commands are answered
+abbrev begun : List Occurrence
+begun =
+    record { cause = Boots 2; entries = Booted 2 0 ∷ [] }
+    ∷ record { cause = Inits (end_h 2) (7 ∷ []) ((4 ∷ 0 ∷ 4 ∷ []) ∷ []); entries = Sent (end_h 2) 1 1 (3 ∷ []) ∷ [] }
+    ∷ record { cause = Takes (end_h 2); entries = Turn (end_h 2) 1 (128 ∷ 0 ∷ []) ∷ Sent (end_h 2) 1 1 (2 ∷ 1 ∷ []) ∷ [] }
+    ∷ record { cause = Takes (end_h 2); entries = Turn (end_h 2) 5 (128 ∷ []) ∷ [] }
+    ∷ record { cause = Takes (end_h 2); entries = Turn (end_h 2) 1 (128 ∷ 255 ∷ []) ∷ Sent (end_h 2) 1 1 (20 ∷ []) ∷ [] }
+    ∷ []
+
+two_answers : init_in begun 2 ≡ Some (record { identity = 7 ∷ []; pipes = (4 ∷ 0 ∷ 4 ∷ []) ∷ []; answered = 2 })
+two_answers = refl
+
+none_elsewhere : init_in begun 1 ≡ None
+none_elsewhere = refl
+
+made : init_in (begun ++ record { cause = Takes (end_h 2); entries = Turn (end_h 2) 1 (128 ∷ []) ∷ InitMade (end_h 2) 1 ∷ [] } ∷ []) 2 ≡ None
+made = refl
+
+is_cut : init_in (begun ++ record { cause = IsCut 2; entries = Cut 2 ∷ [] } ∷ []) 2 ≡ None
+is_cut = refl

@@ -1,0 +1,263 @@
+-- What is read of REC_ERROR of all ends over the lines of a schedule.
+use Rattle.std.proofs.Common.{◌≡◌, ℕ, ◌&&◌, Bool, true, false, cond, eqb, List, [], ◌∷◌, ◌++◌, sym, refl, ap, ◌∙◌, subst, arith, ◌||◌}
+use Rattle.std.specs.Prelude.{Option, Some, None, unwrap_or}
+use Rattle.std.specs.List.{AllByRecursion, find}
+use Rattle.std.specs.Option.{option_map}
+use Rattle.std.proofs.lemmas.Bool.{cond_both, eqb-true, true≢false, ne_eqb}
+use Rattle.std.proofs.lemmas.Grind.{flat_map-append}
+use Rattle.trace_model.specs.Lines.{IsHost}
+use Rattle.trace_model.specs.declared.entry.Entry.{Entry}
+use Rattle.trace_model.specs.declared.line.End.{End}
+use Rattle.trace_model.specs.declared.line.Header.{Header}
+use Rattle.trace_model.specs.declared.line.Line.{Line}
+use Rattle.trace_model.specs.declared.line.Line.TheVariants as line
+use Rattle.link_laws.specs.sessions.Sessions.{OnWire}
+use Rattle.history.specs.Damage.{Verdict}
+use Rattle.history.specs.Damage.Verdict.{Same, LostFor, Undetected}
+use Rattle.history.specs.Follows.{first_verdict, taken_of, if_empty}
+use Rattle.link_laws.specs.machine.Machine.{Message}
+use Rattle.link_laws.specs.messages.Links.Comes.{NextFrame, AsksReset}
+use Rattle.node_machine.specs.Parts.{Desk, Running}
+use Rattle.node_machine.specs.Parts.Deed.{Orders, Sends}
+use Rattle.node_machine.specs.Controller.{is_command_message}
+use Rattle.node_machine.specs.world.World.{NodeWorld, site_at, Happening, node_at, node_of, memory_at, sending, beginning, new_world, world_step}
+use Rattle.node_machine.specs.world.World.Happening.{Boots, IsCut, Gives, Inits, Takes, Loses, Ticks, Resets, Activates, Arms}
+use Rattle.node_machine.specs.world.Lines.{if_off, frames_at, if_not_sent, refusal_in, happens_by, happenings}
+use Rattle.node_machine.specs.world.NodeFilters.{Book}
+use Rattle.node_machine.specs.world.Lines.{Occurrence}
+use Rattle.node_machine.specs.world.NodeHistories.{NodeHistory, FollowsNodes, steps_from, occurrences_in, entries_in, node_entries, world_after}
+use Rattle.node_laws.specs.kept.Hosts.{AreHosts, IsSentByHost, IsFew}
+use Rattle.node_laws.specs.kept.Worlds.{AllKeep, IfRuns, MayHappen}
+use Rattle.node_laws.proofs.kept.Kept.{all_begin}
+use Rattle.node_laws.proofs.kept.Lines.{world_goes, few_front, first_none, off_none, send_may}
+use Rattle.node_laws.specs.telling.Telling.{HasEnds, IfItRuns, hosts_in, IsOrderly, MayBoot, world_behind}
+use Rattle.node_laws.proofs.telling.Mute.{AreMute}
+use Rattle.node_laws.proofs.telling.Orderly.{step_orderly, new_orderly}
+use Rattle.node_laws.specs.notices.Worlds.{KeepsNotices}
+use Rattle.node_laws.proofs.notices.Events.{event_read, begins_read}
+use Rattle.node_laws.proofs.notices.Lines.{notices_of}
+use Rattle.node_laws.proofs.telling.Lasting.{AllMay, repeated_may, stands_none, events_of_steps, entries_of_steps, AllHold, front_holds, lines_hold, lines_last}
+use Rattle.node_laws.specs.views.Errors.{ErrorCount, no_errors, errors_in, errors_of, ErrorsAreRead, MayBeCounted}
+use Rattle.node_laws.proofs.views.Leaving.{reads, reads_append, book_reads}
+use Rattle.node_laws.proofs.views.Setting.{AreUnset}
+use Rattle.node_laws.proofs.views.Nodes.{IfKeeps}
+use Rattle.node_laws.proofs.views.Worlds.{far_node, near_node, host_node, own_node_is, Kept, Known, After, orderly_fine, far_begins, comes_kept}
+use Rattle.node_laws.proofs.views.Worlds.{activates_kept}
+use Rattle.node_laws.proofs.views.Events.{ticks_kept, cut_kept, memory_kept, boots_kept}
+use Rattle.node_laws.proofs.views.Losses.{lost_kept}
+use Rattle.node_machine.specs.Controller.{view_for}
+use Rattle.node_laws.specs.readings.Noticed.{ends_between}
+use Rattle.node_laws.specs.cuts.Histories.{is_one_of}
+use Rattle.node_laws.specs.views.Views.{view_at, IsSameView}
+use Rattle.node_laws.proofs.views.Viewing.{SessionsAreRead, PipesAreRead, same_view}
+
+-- the end of the link with a host is no end of 00
+pub real_of : (e : End) → IsHost e.link → e.at_host ≡ true → eqb e.link 0 ≡ false
+real_of e host far = ne_eqb e.link 0 (λ z. omega (arith, z, host.0))
+
+-- ## Events
+
+module _ (e : End) (real : e.at_host ≡ true → eqb e.link 0 ≡ false) where
+  sending_unset : (h : ℕ) (m : Message) → AreUnset (sending h m)
+  sending_unset h m = cond_both (eqb m.0 1 && is_command_message m.1) (Orders m.1 ∷ []) (Sends h m ∷ []) AreUnset (λ _. (tt, tt)) (λ _. (tt, tt))
+
+  sending_mute : (h : ℕ) (m : Message) → AreMute (sending h m)
+  sending_mute h m = cond_both (eqb m.0 1 && is_command_message m.1) (Orders m.1 ∷ []) (Sends h m ∷ []) AreMute (λ _. (tt, tt)) (λ _. (tt, tt))
+
+  pub event_kept : (w : NodeWorld) (c : Happening) (x : ErrorCount) → IsOrderly w → Known e real w x → MayBeCounted w c → Kept e real w x
+      → After e real (world_step w c) x
+  event_kept w (Boots n) x orderly known may k = boots_kept e real w n x k
+  event_kept w (IsCut n) x orderly known may k = cut_kept e real w n x k
+  event_kept w (Gives a m) x orderly known may k =
+      far_begins e real w x a.link (sending a.link m) (orderly_fine w orderly) (sending_unset a.link m) (sending_mute a.link m) k
+  event_kept w (Inits a identity pipes) x orderly known may k =
+      far_begins e real w x a.link (beginning identity pipes) (orderly_fine w orderly) (tt, (tt, tt)) (tt, (tt, tt)) k
+  event_kept w (Takes a) x orderly known may k = comes_kept e real w x a NextFrame orderly known k
+  event_kept w (Loses a why) x orderly known may k = lost_kept e real w a x k why may
+  event_kept w Ticks x orderly known may k = ticks_kept e real w x orderly known k
+  event_kept w (Resets a window) x orderly known may k = comes_kept e real w x a (AsksReset window) orderly known k
+  event_kept w (Activates h sync power) x orderly known may k = activates_kept e real w x h sync power orderly known k
+  event_kept w (Arms n plan) x orderly known may k = memory_kept e real w n (record (memory_at w n) { plan = Some plan }) x k
+
+-- what is kept of all ends of links with hosts
+abbrev pub AllKept : List Entry → NodeWorld → Type 0
+AllKept t w = (e : End) (host : IsHost e.link) → Kept e (real_of e host) w (reads e t no_errors)
+
+desk_found : (e : End) (k : ℕ) (desks : List Desk) (n : ℕ) → AllByRecursion (λ (d : Desk). eqb d.host e.link ≡ true → d.errors ≡ k) desks
+    → option_map (λ (d : Desk). d.errors) (find (λ (d : Desk). eqb d.host e.link) desks) ≡ Some n → k ≡ n
+desk_found e k [] n all q = absurd (cc q)
+desk_found e k (d ∷ desks) n all q = by (eqb d.host e.link) refl (desk_found e k desks n all.1) where
+  Told : Option Desk → Type 0
+  Told o = option_map (λ (d : Desk). d.errors) o ≡ Some n
+
+  by : (b : Bool) → eqb d.host e.link ≡ b → (Told (find (λ (d : Desk). eqb d.host e.link) desks) → k ≡ n) → k ≡ n
+  by true z later =
+      let here : Some d.errors ≡ Some n = sym (ap (λ b. option_map (λ (d : Desk). d.errors) (cond b (Some d) (find (λ (d : Desk). eqb d.host e.link) desks))) z)
+      ∙ q in
+      let is : d.errors ≡ n = cc in
+      sym (all.0 z) ∙ is
+  by false z later = later (sym (ap (λ b. option_map (λ (d : Desk). d.errors) (cond b (Some d) (find (λ (d : Desk). eqb d.host e.link) desks))) z) ∙ q)
+
+pub kept_read : (t : List Entry) (w : NodeWorld) → AllKept t w → ErrorsAreRead t w
+kept_read t w all e n host q = by (node_at w (node_of e)) refl q where
+  kept : (o : Option Running) → node_at w (node_of e) ≡ o → IfKeeps e o (reads e t no_errors)
+  kept o is = subst (λ o. IfKeeps e o (reads e t no_errors)) (sym (own_node_is e (real_of e host) w) ∙ is) (all e host)
+
+  by : (o : Option Running) → node_at w (node_of e) ≡ o → errors_of o e.link ≡ Some n → errors_in t e ≡ n
+  by None is z = absurd (cc z)
+  by (Some r) is z = desk_found e (reads e t no_errors).errors r.desks n (kept (Some r) is).desks z
+
+-- a controller that runs has the tables that are read
+pub known_tables : (hosts : List ℕ) (t : List Entry) (w : NodeWorld) (e : End) (real : e.at_host ≡ true → eqb e.link 0 ≡ false) → AllKeep hosts t w
+    → Known e real w (reads e t no_errors)
+known_tables hosts t w e real all near r q =
+    let runs : IfRuns 0 hosts w.memory.content t (Some r) = subst (IfRuns 0 hosts w.memory.content t) q all.controller.runs in
+    runs.tables_are ∙ sym (ap (λ (b : Book). b.tables) (book_reads e t no_errors))
+
+-- ## What may happen
+
+abbrev pub May : NodeWorld → Happening → Type 0
+May w c = MayHappen w c × MayBeCounted w c × MayBoot w c
+
+-- where no node has more commands than a journal counts, all nodes keep what is read
+pub record IsSo (hosts : List ℕ) (t : List Entry) (w : NodeWorld) : Type 0 where
+  pub keep : AllKeep hosts t w
+  pub orderly : IsOrderly w
+  pub notices : KeepsNotices t w
+  pub errors : AllKept t w
+
+abbrev pub IfFew : List ℕ → List Entry → NodeWorld → Type 0
+IfFew hosts t w = IsFew t → IsSo hosts t w
+
+event_so : (hosts : List ℕ) → AreHosts hosts → (t : List Entry) (w : NodeWorld) (c : Happening) → IfFew hosts t w → May w c
+    → IfFew hosts (t ++ (world_step w c).1) (world_step w c).0
+event_so hosts are t w c so may few =
+    let es : List Entry = (world_step w c).1 in
+    let before : IsSo hosts t w = so (few_front t es few) in
+    record {
+      keep = (world_goes hosts are t w c before.keep may.0 (λ n. few t es n refl)).keep;
+      orderly = step_orderly w c before.orderly;
+      notices = event_read t w c before.notices may.2;
+      errors = λ e host. subst (Kept e (real_of e host) (world_step w c).0) (sym (reads_append e t es no_errors)) (event_kept e (real_of e host) w c
+          (reads e t no_errors) before.orderly (known_tables hosts t w e (real_of e host) before.keep) may.1 (before.errors e host));
+    }
+
+-- ## Lines
+
+not_empty : (wire : List OnWire) → if_empty wire ≡ None → wire ≡ [] → ⊥
+not_empty [] none e = cc none
+not_empty (x ∷ xs) none e = cc e
+
+damage_may : (w : NodeWorld) (e : End) (places : List ℕ) (wire : List OnWire) → frames_at w e ≡ wire → AllMay May w (happens_by e (first_verdict wire places))
+damage_may w e places [] here = tt
+damage_may w e places (x ∷ xs) here = by (Rattle.history.specs.Damage.verdict_on (Rattle.swp_lpdu.specs.Controls.lpdu_of x.frame) places) where
+  there : frames_at w e ≡ [] → ⊥
+  there none = let no : x ∷ xs ≡ [] = sym here ∙ none in cc no
+
+  by : (v : Verdict) → AllMay May w (happens_by e (Some v))
+  by Same = ((tt, tt, tt), tt)
+  by (LostFor why) = ((tt, there, tt), tt)
+  by (Undetected read) = tt
+
+line_may : (w : NodeWorld) (l : Line) → IsSentByHost l → refusal_in w l ≡ None → AllMay May w (happenings w l)
+line_may w (line.Send e pid message) side none =
+    ((send_may w e pid message side (first_none (if_off w (node_of e)) (if_not_sent w e (pid, message)) none).1, tt, tt), tt)
+line_may w (line.Deliver e count) side none = repeated_may May (Takes e) (λ v. (tt, tt, tt)) (taken_of count (frames_at w e)) w
+line_may w (line.Lose e) side none =
+    ((tt, not_empty (frames_at w e) (first_none (if_off w (node_of e)) (if_empty (frames_at w e)) none).1, tt), tt)
+line_may w (line.Damage e places) side none = damage_may w e places.items (frames_at w e) refl
+line_may w (line.Tick times) side none = repeated_may May Ticks (λ v. (tt, tt, tt)) (unwrap_or times 1) w
+line_may w (line.Reset e window) side none = ((tt, tt, tt), tt)
+line_may w (line.Busy e) side none = tt
+line_may w (line.Ready e) side none = tt
+line_may w (line.Boot n) side none = ((tt, tt, stands_none (node_at w n) none), tt)
+line_may w (line.Cut n) side none = ((off_none (node_at w n) none, tt, tt), tt)
+line_may w (line.Activate host sync power) side none = ((tt, tt, tt), tt)
+line_may w (line.Arm n nth fill) side none = ((tt, tt, tt), tt)
+line_may w (line.Init e identity pipes) side none = ((tt, tt, tt), tt)
+line_may w (line.Tables n) side none = tt
+line_may w (line.Settle n) side none = tt
+
+-- ## Schedules
+
+pub begun_kept : (hosts : List ℕ) → AllKept [] (new_world hosts)
+begun_kept hosts e host = by e.at_host refl where
+  real : e.at_host ≡ true → eqb e.link 0 ≡ false
+  real = real_of e host
+
+  none_runs : (hosts : List ℕ) → far_node (site_at (new_world hosts).sites e.link) ≡ None
+  none_runs [] = refl
+  none_runs (h ∷ hosts) = cond_both (eqb h e.link) _ _ (λ o. far_node o ≡ None) (λ _. refl) (λ _. none_runs hosts)
+
+  by : (b : Bool) → e.at_host ≡ b → Kept e real (new_world hosts) no_errors
+  by true q = subst (λ o. IfKeeps e o no_errors) (sym (host_node e real (new_world hosts) q ∙ none_runs hosts)) refl
+  by false q = subst (λ o. IfKeeps e o no_errors) (sym (near_node e real (new_world hosts) q)) refl
+
+pub none_zero : (hosts : List ℕ) → AllByRecursion IsHost hosts → AllByRecursion (λ h. (eqb h 0) ≡ false) hosts
+none_zero [] all = tt
+none_zero (h ∷ hosts) all = (ne_eqb h 0 (λ z. omega (arith, z, all.0.0)), none_zero hosts all.1)
+
+pub schedule_so : (header : Header) (lines : List Line) (t : NodeHistory) → FollowsNodes header lines t → AreHosts header.hosts.items
+    → AllByRecursion IsSentByHost lines → IsFew (node_entries t)
+    → IsSo header.hosts.items (node_entries t) (world_after (new_world header.hosts.items) lines)
+schedule_so header lines t follows are sides few =
+    let hosts : List ℕ = header.hosts.items in
+    let all : IfFew hosts (node_entries t) (world_after (new_world hosts) lines) =
+    subst (λ l. IfFew hosts l (world_after (new_world hosts) lines)) (ap entries_of_steps (sym follows.steps_are))
+    (lines_last (IfFew hosts) May IsSentByHost (event_so hosts are) line_may lines [] (new_world hosts) (λ f. record {
+      keep = all_begin hosts;
+      orderly = new_orderly hosts are.different (none_zero hosts are.all);
+      notices = begins_read hosts are;
+      errors = begun_kept hosts;
+    }) sides) in all few
+
+-- so it is at the end of each event
+pub events_so : (header : Header) (lines : List Line) (t : NodeHistory) → FollowsNodes header lines t → AreHosts header.hosts.items
+    → AllByRecursion IsSentByHost lines → IsFew (node_entries t) → (front back : List Occurrence) → occurrences_in t ≡ front ++ back
+    → IsSo header.hosts.items (entries_in front) (world_behind (new_world header.hosts.items) front)
+events_so header lines t follows are sides few front back parts =
+    let hosts : List ℕ = header.hosts.items in
+    let events : List Occurrence = events_of_steps (steps_from (new_world hosts) lines) in
+    let all : AllHold (IfFew hosts) May IsSentByHost (event_so hosts are) line_may [] (new_world hosts) events =
+    lines_hold (IfFew hosts) May IsSentByHost (event_so hosts are) line_may lines [] (new_world hosts) (λ f. record {
+      keep = all_begin hosts;
+      orderly = new_orderly hosts are.different (none_zero hosts are.all);
+      notices = begins_read hosts are;
+      errors = begun_kept hosts;
+    }) sides in
+    let same : events ≡ front ++ back = sym (ap events_of_steps follows.steps_are) ∙ parts in
+    front_holds (IfFew hosts) May IsSentByHost (event_so hosts are) line_may front back [] (new_world hosts) (subst (AllHold (IfFew hosts) May IsSentByHost
+    (event_so hosts are) line_may [] (new_world hosts)) same all) (few_front (entries_in front) (entries_in back) (subst IsFew (ap entries_in parts
+    ∙ flat_map-append (λ (o : Occurrence). o.entries) front back) few))
+
+pub errors_read_events : (header : Header) (lines : List Line) (t : NodeHistory) → FollowsNodes header lines t → AreHosts header.hosts.items
+    → AllByRecursion IsSentByHost lines → IsFew (node_entries t) → (front back : List Occurrence) → occurrences_in t ≡ front ++ back
+    → ErrorsAreRead (entries_in front) (world_behind (new_world header.hosts.items) front)
+errors_read_events header lines t follows are sides few front back parts =
+    kept_read (entries_in front) (world_behind (new_world header.hosts.items) front) (events_so header lines t follows are sides few front back parts).errors
+
+pub errors_read : (header : Header) (lines : List Line) (t : NodeHistory) → FollowsNodes header lines t → AreHosts header.hosts.items
+    → AllByRecursion IsSentByHost lines → IsFew (node_entries t) → ErrorsAreRead (node_entries t) (world_after (new_world header.hosts.items) lines)
+errors_read header lines t follows are sides few =
+    kept_read (node_entries t) (world_after (new_world header.hosts.items) lines) (schedule_so header lines t follows are sides few).errors
+
+-- ## Views
+
+all_one : (hosts : List ℕ) (h : ℕ) → AllByRecursion IsHost hosts → is_one_of hosts h ≡ true → IsHost h
+all_one [] h all one = absurd (true≢false (sym one))
+all_one (k ∷ hosts) h all one = by (eqb k h) refl (all_one hosts h all.1) where
+  by : (b : Bool) → eqb k h ≡ b → (is_one_of hosts h ≡ true → IsHost h) → IsHost h
+  by true q later = subst IsHost (eqb-true k h q) all.0
+  by false q later = later (sym (ap (λ b. b || is_one_of hosts h) q) ∙ one)
+
+-- the view that a controller has is the one that is read, where sessions and creations are
+module _ (hosts : List ℕ) (are : AreHosts hosts) (t : List Entry) (w : NodeWorld) (so : IsSo hosts t w) (r : Running) (runs : w.controller ≡ Some r) where
+  pub view_read : SessionsAreRead t w → PipesAreRead hosts t (ends_between w.sites r) → (h : ℕ) → is_one_of hosts h ≡ true
+      → IsSameView (view_for r.core.tables (ends_between w.sites r) h) (view_at hosts t h)
+  view_read sessions pipes h one =
+      let has : HasEnds 0 (hosts_in w.sites) r = subst (IfItRuns 0 (hosts_in w.sites)) runs so.orderly.controller in
+      let keeps : IfRuns 0 hosts w.memory.content t (Some r) = subst (IfRuns 0 hosts w.memory.content t) runs so.keep.controller.runs in
+      subst (λ hs. IsSameView (view_for r.core.tables (ends_between w.sites r) h) (view_at hs t h)) so.keep.hosts_are
+      (same_view t w r runs has keeps.tables_are (notices_of t w so.notices) (kept_read t w so.errors) sessions h (all_one hosts h are.all one)
+      (subst (λ hs. is_one_of hs h ≡ true) (sym so.keep.hosts_are) one) (subst (λ hs. PipesAreRead hs t (ends_between w.sites r)) (sym so.keep.hosts_are)
+      pipes))

@@ -1,0 +1,270 @@
+-- A node of a world does something: REC_ERROR of its ends stays what is read, and that of others is left.
+use Rattle.std.proofs.Common.{◌≡◌, ℕ, Bool, true, false, cond, eqb, List, [], ◌∷◌, ◌++◌, length, map, sym, refl, ap, ◌∙◌, subst}
+use Rattle.std.specs.Prelude.{Option, Some, None, nat_lt}
+use Rattle.std.specs.List.{AllByRecursion}
+use Rattle.std.specs.Option.{option_map_or}
+use Rattle.swp_base.specs.InMemory.{Plan}
+use Rattle.swp_base.specs.declared.control_frames.Control.{Control}
+use Rattle.trace_model.specs.declared.entry.Entry.{Entry}
+use Rattle.trace_model.specs.declared.entry.Entry.TheVariants as entry
+use Rattle.trace_model.specs.declared.line.End.{End}
+use Rattle.link_laws.specs.sessions.Sessions.{OnWire}
+use Rattle.link_laws.specs.machine.Machine.{Message, LinkEnd, frames_out}
+use Rattle.link_laws.specs.messages.Links.{NumberedEnd, Link, Ending, Comes, put}
+use Rattle.link_laws.specs.messages.Links.Comes.{NextFrame, AsksReset, Starts, Stops, NoInput}
+use Rattle.link_laws.specs.messages.Links.Ending.{GoesOut, CutOff}
+use Rattle.link_laws.specs.messages.Links.Loss.{TooOld, TooMany}
+use Rattle.link_laws.specs.entries.Entries.{End as Side, Entry as Noted, far, first_lost, pushed_out, wire_with, put_entries, puts_entries, ending_entries}
+use Rattle.link_laws.specs.entries.Entries.{aged_entries}
+use Rattle.link_laws.specs.entries.Entries.End.{Controller, Host}
+use Rattle.link_laws.specs.entries.Entries.Entry.{Took, Lost}
+use Rattle.history.specs.Filters.{same_end}
+use Rattle.history.specs.Steps.{entries_for, entry_of, end_of}
+use Rattle.node_machine.specs.Parts.{Desk, Core, Running, Port, Work, Deed}
+use Rattle.node_machine.specs.Parts.Deed.{Commits, Sends, SaysOk, Asks, Releases, Tells, IsAnswered, Drops, SetsErrors, Orders, Hears, GoesOn, Ends}
+use Rattle.node_machine.specs.Carrying.{own_side, port_at}
+use Rattle.node_machine.specs.Node.{NodeInput, steps, begins_with}
+use Rattle.node_machine.specs.world.World.{node_of, runs_on, work_of, ending_of, frames_noted, arrival}
+use Rattle.node_laws.specs.telling.Telling.{HasEnds}
+use Rattle.node_laws.proofs.telling.Mute.{IsPlain, IsMute, AreMute, deeds_mute}
+use Rattle.node_laws.proofs.telling.Nodes.{hosts_same, ports_for}
+use Rattle.node_laws.specs.views.Errors.{ErrorCount}
+use Rattle.node_laws.proofs.readings.Noting.{IsOwnNote, NotesSo, Notes, all_do as notes_do, steps_note}
+use Rattle.node_laws.proofs.views.Leaving.{reads, reads_append, Leaves, leaves_all, IsStill, still_all, still_leaves, IsUndamaged, note_still, notes_still}
+use Rattle.node_laws.proofs.views.Leaving.{turn_leaves, beside_leaves, plainly}
+use Rattle.node_laws.proofs.views.Setting.{AreUnset}
+use Rattle.node_laws.proofs.views.Doing.{side_of, HasErrors, Right, unset_fine, all_do}
+use Rattle.node_laws.proofs.views.Stepping.{all_undamaged, steps_right}
+use Rattle.registry.proofs.ValueLemmas.{AllByRecursion-append}
+
+-- ## Frames
+
+undamaged-append : (xs ys : List Noted) → AllByRecursion IsUndamaged xs → AllByRecursion IsUndamaged ys → AllByRecursion IsUndamaged (xs ++ ys)
+undamaged-append = AllByRecursion-append IsUndamaged
+
+pushed_undamaged : (who : Side) (wire : List OnWire) → AllByRecursion IsUndamaged (pushed_out who wire)
+pushed_undamaged who wire = go (nat_lt 64 (length wire)) wire where
+  go : (b : Bool) (xs : List OnWire) → AllByRecursion IsUndamaged (cond b (first_lost who TooMany xs) [])
+  go true [] = tt
+  go true (x ∷ xs) = (tt, tt)
+  go false xs = tt
+
+puts_undamaged : (who : Side) (l : Link) (cs : List Control) → AllByRecursion IsUndamaged (puts_entries who l cs)
+puts_undamaged who l [] = tt
+puts_undamaged who l (c ∷ cs) =
+    undamaged-append (put_entries who l c) (puts_entries who (put l c) cs) (tt, pushed_undamaged (far who) (wire_with l c)) (puts_undamaged who (put l c) cs)
+
+ending_undamaged : (who : Side) (l : Link) (e : LinkEnd) (ending : Ending) → AllByRecursion IsUndamaged (ending_entries who l e ending)
+ending_undamaged who l e GoesOut = puts_undamaged who l (frames_out e)
+ending_undamaged who l e CutOff = (tt, tt)
+
+arrival_undamaged : (who : Side) (l : Link) (comes : Comes) → AllByRecursion IsUndamaged (arrival who l comes)
+arrival_undamaged who l NextFrame = go l.to_controller where
+  first : List OnWire → List Noted
+  first [] = []
+  first (x ∷ xs) = Took who x.frame ∷ []
+
+  go : (xs : List OnWire) → AllByRecursion IsUndamaged (first xs)
+  go [] = tt
+  go (x ∷ xs) = (tt, tt)
+arrival_undamaged who l (AsksReset window) = tt
+arrival_undamaged who l (Starts value) = tt
+arrival_undamaged who l Stops = tt
+arrival_undamaged who l NoInput = tt
+
+aged_undamaged : (who : Side) (xs : List OnWire) → AllByRecursion IsUndamaged (aged_entries who xs)
+aged_undamaged who [] = tt
+aged_undamaged who (x ∷ xs) = go (nat_lt x.age 4) (aged_undamaged who xs) where
+  go : (b : Bool) → AllByRecursion IsUndamaged (aged_entries who xs)
+      → AllByRecursion IsUndamaged (cond b (aged_entries who xs) (Lost who x.frame TooOld ∷ aged_entries who xs))
+  go true later = later
+  go false later = (tt, later)
+
+pub frames_still : (e : End) (who : Side) (h : ℕ) (l : Link) (k : Work) → AllByRecursion (IsStill e) (frames_noted who h l k)
+frames_still e who h l k = go (port_at k.ports h) where
+  go : (o : Option Port) → AllByRecursion (IsStill e) (option_map_or (λ (p : Port). entries_for h (ending_entries who l p.side (ending_of k))) o [])
+  go None = tt
+  go (Some p) = notes_still e h (ending_entries who l p.side (ending_of k)) (ending_undamaged who l p.side (ending_of k))
+
+pub arrival_still : (e : End) (who : Side) (h : ℕ) (l : Link) (comes : Comes) → AllByRecursion (IsStill e) (entries_for h (arrival who l comes))
+arrival_still e who h l comes = notes_still e h (arrival who l comes) (arrival_undamaged who l comes)
+
+pub aged_still : (e : End) (h : ℕ) (l : Link)
+    → AllByRecursion (IsStill e) (entries_for h (aged_entries Controller l.to_controller ++ aged_entries Host l.to_host))
+aged_still e h l = notes_still e h (aged_entries Controller l.to_controller ++ aged_entries Host l.to_host)
+    (undamaged-append (aged_entries Controller l.to_controller) (aged_entries Host l.to_host) (aged_undamaged Controller l.to_controller)
+    (aged_undamaged Host l.to_host))
+
+-- ## What a node keeps
+
+-- a node that runs keeps what is read of REC_ERROR of its end
+pub record KeepsErrors (e : End) (r : Running) (x : ErrorCount) : Type 0 where
+  pub sets : x.sets ≡ None
+  pub desks : AllByRecursion (λ (d : Desk). eqb d.host e.link ≡ true → d.errors ≡ x.errors) r.desks
+
+-- where it runs
+abbrev pub IfKeeps : End → Option Running → ErrorCount → Type 0
+IfKeeps e None x = x.sets ≡ None
+IfKeeps e (Some r) x = KeepsErrors e r x
+
+pub keeps_sets : (e : End) (o : Option Running) (x : ErrorCount) → IfKeeps e o x → x.sets ≡ None
+keeps_sets e None x k = k
+keeps_sets e (Some r) x k = k.sets
+
+same_desks : (e : End) (n m : ℕ) (desks : List Desk) → n ≡ m → AllByRecursion (λ (d : Desk). eqb d.host e.link ≡ true → d.errors ≡ n) desks
+    → AllByRecursion (λ (d : Desk). eqb d.host e.link ≡ true → d.errors ≡ m) desks
+same_desks e n m desks is all = subst (λ k. AllByRecursion (λ (d : Desk). eqb d.host e.link ≡ true → d.errors ≡ k) desks) is all
+
+pub leaves_kept : (e : End) (o : Option Running) (x : ErrorCount) (es : List Entry) → AllByRecursion (Leaves e) es → IfKeeps e o x → IfKeeps e o (reads e es x)
+leaves_kept e None x es all k = (leaves_all e es x x.errors all (record { sets = k; is = refl })).sets
+leaves_kept e (Some r) x es all k =
+    let after = leaves_all e es x x.errors all (record { sets = k.sets; is = refl }) in
+    record { sets = after.sets; desks = same_desks e x.errors (reads e es x).errors r.desks (sym after.is) k.desks }
+
+-- ## The node of the end
+
+module _ (e : End) (real : e.at_host ≡ true → eqb e.link 0 ≡ false) (hosts : List ℕ) (single : e.at_host ≡ true → hosts ≡ e.link ∷ []) where
+  side_is : (core : Core) → core.node ≡ node_of e → own_side core ≡ side_of e
+  side_is core number = ap (λ n. cond (eqb n 0) Controller Host) number ∙ by e.at_host refl where
+    by : (b : Bool) → e.at_host ≡ b → cond (eqb (node_of e) 0) Controller Host ≡ side_of e
+    by true q = rw (q, real q) refl
+    by false q = rw q refl
+
+  ends_has : (x : ErrorCount) (near_ends : ℕ → NumberedEnd) (desks : List Desk)
+      → AllByRecursion (λ (d : Desk). eqb d.host e.link ≡ true → d.errors ≡ x.errors) desks
+      → AllByRecursion (HasErrors e x.errors) (ports_for near_ends desks)
+  ends_has x near_ends [] all = tt
+  ends_has x near_ends (d ∷ desks) all = (all.0, ends_has x near_ends desks all.1)
+
+  desks_has : (n m : ℕ) → m ≡ n → (ports : List Port) → AllByRecursion (HasErrors e n) ports
+      → AllByRecursion (λ (d : Desk). eqb d.host e.link ≡ true → d.errors ≡ m) (map (λ (p : Port). p.desk) ports)
+  desks_has n m is [] all = tt
+  desks_has n m is (p ∷ ports) all = ((λ here. all.0 here ∙ sym is), desks_has n m is ports all.1)
+
+  -- a step begins
+  pub begun_right : (x : ErrorCount) (r : Running) (plan : Option Plan) (near_ends : ℕ → NumberedEnd) (es : List Entry) → HasEnds (node_of e) hosts r
+      → AllByRecursion (IsStill e) es → (e.at_host ≡ false → r.core.tables ≡ x.book.tables) → KeepsErrors e r x → Right e hosts x (work_of r plan near_ends es)
+  begun_right x r plan near_ends es has still known k =
+      let read = still_all e es x x.errors still (record { sets = k.sets; is = refl }) in
+      record {
+        number = has.number;
+        side = side_is r.core has.number;
+        hosts_are = hosts_same near_ends r.desks ∙ has.ends;
+        errors = x.errors;
+        read = read.0;
+        ends = ends_has x near_ends r.desks k.desks;
+        tables = λ on near. known near ∙ ap (λ (b : Rattle.node_machine.specs.world.NodeFilters.Book). b.tables) (sym read.1);
+      }
+
+  -- it ends
+  ended_keeps : (x : ErrorCount) (k : Work) → Right e hosts x k → IfKeeps e (runs_on k) (reads e k.entries x)
+  ended_keeps x k r = by k.cut refl where
+    on_is : k.cut ≡ false → runs_on k ≡ Some (record { core = k.core; desks = map (λ (p : Port). p.desk) k.ports })
+    on_is q = rw q refl
+
+    off_is : k.cut ≡ true → runs_on k ≡ None
+    off_is q = rw q refl
+
+    by : (b : Bool) → k.cut ≡ b → IfKeeps e (runs_on k) (reads e k.entries x)
+    by true q = subst (λ o. IfKeeps e o (reads e k.entries x)) (sym (off_is q)) r.read.sets
+    by false q = subst (λ o. IfKeeps e o (reads e k.entries x)) (sym (on_is q))
+        (record { sets = r.read.sets; desks = desks_has r.errors (reads e k.entries x).errors r.read.is k.ports r.ends })
+
+  pub own_steps : (x : ErrorCount) (r : Running) (plan : Option Plan) (near_ends : ℕ → NumberedEnd) (es frames : List Entry) (input : NodeInput)
+      → HasEnds (node_of e) hosts r → AllByRecursion (IsStill e) es → AllByRecursion (IsStill e) frames
+      → (e.at_host ≡ false → r.core.tables ≡ x.book.tables) → KeepsErrors e r x
+      → IfKeeps e (runs_on (steps input (work_of r plan near_ends es))) (reads e ((steps input (work_of r plan near_ends es)).entries ++ frames) x)
+  own_steps x r plan near_ends es frames input has still frames_so known keeps =
+      let k : Work = steps input (work_of r plan near_ends es) in
+      subst (IfKeeps e (runs_on k)) (sym (reads_append e k.entries frames x)) (leaves_kept e (runs_on k) (reads e k.entries x) frames
+      (still_leaves e frames frames_so)
+      (ended_keeps x k (steps_right e hosts x single input (work_of r plan near_ends es) (begun_right x r plan near_ends es has still known keeps))))
+
+  pub own_begins : (x : ErrorCount) (r : Running) (plan : Option Plan) (near_ends : ℕ → NumberedEnd) (frames : List Entry) (h : ℕ) (deeds : List Deed)
+      → HasEnds (node_of e) hosts r → AllByRecursion (IsStill e) frames → AreUnset deeds
+      → (e.at_host ≡ false → r.core.tables ≡ x.book.tables) → KeepsErrors e r x
+      → IfKeeps e (runs_on (begins_with h deeds (work_of r plan near_ends [])))
+      (reads e ((begins_with h deeds (work_of r plan near_ends [])).entries ++ frames) x)
+  own_begins x r plan near_ends frames h deeds has frames_so unset known keeps =
+      let k : Work = begins_with h deeds (work_of r plan near_ends []) in
+      subst (IfKeeps e (runs_on k)) (sym (reads_append e k.entries frames x)) (leaves_kept e (runs_on k) (reads e k.entries x) frames
+      (still_leaves e frames frames_so)
+      (ended_keeps x k
+      (all_do e hosts x h deeds (work_of r plan near_ends []) (unset_fine e hosts x h deeds unset) (begun_right x r plan near_ends [] has tt known
+      keeps))))
+
+-- ## Other nodes
+
+plain_leaves : (e : End) (y : Entry) → IsPlain y → Leaves e y
+plain_leaves e (entry.Held f need spare) p = λ x n r. plainly e x n r
+plain_leaves e (entry.Ask host message) p = λ x n r. plainly e x n r
+plain_leaves e (entry.Dropped f pid) p = λ x n r. plainly e x n r
+plain_leaves e (entry.Command node command) p = λ x n r. record { sets = refl; is = r.is }
+plain_leaves e (entry.AnyOk node count) p = λ x n r. plainly e x n r
+plain_leaves e (entry.InitSame f) p = λ x n r. plainly e x n r
+plain_leaves e (entry.InitMade f count) p = λ x n r. plainly e x n r
+plain_leaves e (entry.InitFailed f code) p = λ x n r. plainly e x n r
+plain_leaves e (entry.Cut node) p = λ x n r. plainly e x n r
+plain_leaves e y p = absurd p
+
+mute_leaves : (e : End) (deeds : List Deed) → AreMute deeds → AllByRecursion (NotesSo (Leaves e)) deeds
+mute_leaves e [] all = tt
+mute_leaves e (d ∷ deeds) all = (one d all.0, mute_leaves e deeds all.1) where
+  one : (d : Deed) → IsMute d → NotesSo (Leaves e) d
+  one (Commits c) m = tt
+  one (Sends to m) i = tt
+  one SaysOk m = tt
+  one (Asks to message c) m = tt
+  one (Releases asker) m = tt
+  one (Tells to message) m = tt
+  one IsAnswered m = tt
+  one (Drops pid) m = tt
+  one (SetsErrors errors) m = tt
+  one (Orders message) m = tt
+  one Hears m = tt
+  one (GoesOn i) m = tt
+  one (Ends y) m = plain_leaves e y m
+
+-- the node isn't that of the end
+abbrev pub IsOther : End → Side → ℕ → Type 0
+IsOther e who h = same_end (end_of h who) e ≡ false
+
+module _ (e : End) (n : ℕ) (who : Side) where
+  note_leaves : (h : ℕ) (x : Noted) → IsOther e who h → IsOwnNote who x → AllByRecursion (Leaves e) (entry_of h x)
+  note_leaves h x at own = still_leaves e (entry_of h x) (note_still e h x (all_undamaged who (x ∷ []) (own, tt)).0)
+
+  turned_leaves : (h pid : ℕ) (message : List ℕ) → IsOther e who h → Leaves e (entry.Turn (end_of h who) pid message)
+  turned_leaves h pid message at = λ x k r. (turn_leaves e (end_of h who) pid message at x k r).0
+
+  deeds_leave : (core : Core) (ports : List Port) (h : ℕ) (m : Message) → core.node ≡ n → AllByRecursion (NotesSo (Leaves e))
+      (Rattle.node_machine.specs.Turns.deeds_of core ports h m)
+  deeds_leave core ports h m number = mute_leaves e (Rattle.node_machine.specs.Turns.deeds_of core ports h m) (deeds_mute core ports h m)
+
+  ends_other : (near_ends : ℕ → NumberedEnd) (desks : List Desk) → AllByRecursion (IsOther e who) (map (λ (d : Desk). d.host) desks)
+      → AllByRecursion (λ (p : Port). IsOther e who p.desk.host) (ports_for near_ends desks)
+  ends_other near_ends [] all = tt
+  ends_other near_ends (d ∷ desks) all = (all.0, ends_other near_ends desks all.1)
+
+  begun_notes : (hosts : List ℕ) (r : Running) (plan : Option Plan) (near_ends : ℕ → NumberedEnd) (es : List Entry) → HasEnds n hosts r
+      → cond (eqb n 0) Controller Host ≡ who → AllByRecursion (IsOther e who) hosts → AllByRecursion (Leaves e) es
+      → Notes (Leaves e) n who (IsOther e who) (work_of r plan near_ends es)
+  begun_notes hosts r plan near_ends es has side others so = record {
+    number = has.number;
+    side = ap (λ k. cond (eqb k 0) Controller Host) has.number ∙ side;
+    ends = ends_other near_ends r.desks (subst (AllByRecursion (IsOther e who)) (sym has.ends) others);
+    so = so;
+  }
+
+  pub others_step : (hosts : List ℕ) (r : Running) (plan : Option Plan) (near_ends : ℕ → NumberedEnd) (es : List Entry) (input : NodeInput) → HasEnds n hosts r
+      → cond (eqb n 0) Controller Host ≡ who → AllByRecursion (IsOther e who) hosts → AllByRecursion (Leaves e) es
+      → AllByRecursion (Leaves e) (steps input (work_of r plan near_ends es)).entries
+  others_step hosts r plan near_ends es input has side others so =
+      (steps_note (Leaves e) n who (IsOther e who) note_leaves turned_leaves (beside_leaves e n) deeds_leave input (work_of r plan near_ends es)
+      (begun_notes hosts r plan near_ends es has side others so)).so
+
+  pub others_begin : (hosts : List ℕ) (r : Running) (plan : Option Plan) (near_ends : ℕ → NumberedEnd) (h : ℕ) (deeds : List Deed) → HasEnds n hosts r
+      → cond (eqb n 0) Controller Host ≡ who → AllByRecursion (IsOther e who) hosts → AreMute deeds
+      → AllByRecursion (Leaves e) (begins_with h deeds (work_of r plan near_ends [])).entries
+  others_begin hosts r plan near_ends h deeds has side others mute =
+      (notes_do (Leaves e) n who (IsOther e who) note_leaves turned_leaves (beside_leaves e n) deeds_leave h deeds (work_of r plan near_ends [])
+      (mute_leaves e deeds mute) (begun_notes hosts r plan near_ends [] has side others tt)).so

@@ -1,0 +1,274 @@
+-- Which deeds of a message set REC_ERROR: those of a command that sets it, at its turn on a pipe to the link management gate, which
+-- is answered by ANY_OK next. Where such a command isn't carried out, it is answered otherwise, or dropped.
+use Rattle.std.proofs.Common.{◌≡◌, ℕ, ◌&&◌, ◌||◌, Bool, true, false, not, cond, eqb, List, [], ◌∷◌, sym, refl, ap, ◌∙◌, subst}
+use Rattle.std.specs.Prelude.{Option, Some, None, Result, Ok, Err}
+use Rattle.std.specs.List.{AllByRecursion}
+use Rattle.std.specs.Option.{option_map_or}
+use Rattle.std.proofs.lemmas.Bool.{cond_both, eqb-true, true≢false}
+use Rattle.trace_model.specs.declared.entry.Entry.{Entry}
+use Rattle.trace_model.specs.declared.entry.Entry.TheVariants.{InitSame, InitMade, InitFailed}
+use Rattle.link_laws.specs.sessions.Sessions.{is_up}
+use Rattle.shdlc_core.specs.declared.answers.LinkState.TheVariants.{Up}
+use Rattle.hcp_packet.specs.declared.MessageKind.{MessageKind}
+use Rattle.hcp_packet.specs.declared.MessageKind.TheVariants.{Command as IsCommand, Event as IsEvent, Response as IsResponse}
+use Rattle.hcp_packet.specs.declared.MessageFault.{MessageFault}
+use Rattle.hcp_packet.specs.MessageHeader.{header_of}
+use Rattle.hci_tables.specs.Tables.{HciTables, is_opened}
+use Rattle.gate_answers.specs.declared.response.Response.{Response}
+use Rattle.gate_answers.specs.declared.response.Response.TheVariants as response
+use Rattle.gate_answers.specs.Answers.{answer_of, first_of, tests_to_get, value_in, body_in}
+use Rattle.gate_admin.specs.declared.view.LinkView.{LinkView}
+use Rattle.gate_admin.specs.declared.decision.Decision.{Decision}
+use Rattle.gate_admin.specs.declared.decision.Decision.TheVariants.{Answer, Commit, Ask}
+use Rattle.gate_admin.specs.View.{has, hosts_where}
+use Rattle.gate_admin.specs.Decide.{decided, far_end, answers}
+use Rattle.gate_link.specs.Link.{link_served, tests_to_set_errors, link_unless_refused, count_in, count_bytes}
+use Rattle.link_laws.specs.machine.Machine.{Message}
+use Rattle.node_machine.specs.Parts.{Core, Port, Deed}
+use Rattle.node_machine.specs.Parts.Deed.{Sends, Tells, Drops, SetsErrors, Ends}
+use Rattle.node_machine.specs.Carrying.{port_at}
+use Rattle.node_machine.specs.Controller.{has_link, asks_for, view_for, decision_deeds, link_deeds, own_gate, goes_through, served_at, relayed_to}
+use Rattle.node_machine.specs.Controller.{unless_asking, kind_deeds, own_deeds, deeds_by_relay, command_deeds, controller_deeds}
+use Rattle.node_machine.specs.HostReplies.{ordered_deeds, host_deeds}
+use Rattle.node_laws.proofs.steps.Walks.{Plain, OfDecision, OfHost, anyone, all_of_controller, all_of_host}
+use Rattle.node_laws.specs.views.Errors.{errors_set_by}
+use Rattle.node_laws.proofs.readings.Noticed.{up_is}
+
+-- an init ends so
+abbrev pub IsInitEnd : Entry → Type 0
+IsInitEnd (InitSame e) = Unit {0}
+IsInitEnd (InitMade e count) = Unit {0}
+IsInitEnd (InitFailed e code) = Unit {0}
+IsInitEnd _ = ⊥
+
+-- a deed doesn't set it
+abbrev pub IsUnset : Deed → Type 0
+IsUnset (SetsErrors errors) = ⊥
+IsUnset (Ends x) = IsInitEnd x
+IsUnset _ = Unit {0}
+
+abbrev pub AreUnset : List Deed → Type 0
+AreUnset deeds = AllByRecursion IsUnset deeds
+
+-- ## The link management gate
+
+-- what a command sets there doesn't depend on what REC_ERROR is
+pub set_same : (errors instruction : ℕ) (body : List ℕ) → (link_served errors instruction body).1 ≡ (link_served 0 instruction body).1
+set_same errors instruction body = by (eqb instruction 1) (eqb instruction 2) refl refl where
+  by : (a b : Bool) → eqb instruction 1 ≡ a → eqb instruction 2 ≡ b → (link_served errors instruction body).1 ≡ (link_served 0 instruction body).1
+  by true b p q = rw p refl
+  by false true p q = rw (p, q) (tests (first_of (tests_to_get 6 body))) where
+    tests : (o : Option Response)
+        → (link_unless_refused o (answer_of response.Ok (count_bytes errors), None)).1 ≡ (link_unless_refused o (answer_of response.Ok (count_bytes 0), None)).1
+    tests None = refl
+    tests (Some r) = refl
+  by false false p q = rw (p, q) refl
+
+-- where it sets it, it is ANY_SET_PARAMETER, and it is answered by ANY_OK
+pub set_is : (errors instruction : ℕ) (body : List ℕ) (v : ℕ) → (link_served 0 instruction body).1 ≡ Some v
+    → (link_served errors instruction body ≡ (answer_of response.Ok [], Some v)) × (eqb instruction 1 ≡ true)
+set_is errors instruction body v sets = by (eqb instruction 1) (eqb instruction 2) refl refl sets where
+  by : (a b : Bool) → eqb instruction 1 ≡ a → eqb instruction 2 ≡ b → (link_served 0 instruction body).1 ≡ Some v
+      → (link_served errors instruction body ≡ (answer_of response.Ok [], Some v)) × (eqb instruction 1 ≡ true)
+  by true b p q s = (tests (first_of (tests_to_set_errors body)) refl, p) where
+    tests : (o : Option Response) → first_of (tests_to_set_errors body) ≡ o → link_served errors instruction body ≡ (answer_of response.Ok [], Some v)
+    tests None z =
+        let is : Some (count_in (value_in body)) ≡ Some v = rw (p, z) at s in
+        rw (p, z) (ap (λ o. (answer_of response.Ok [], o)) is)
+    tests (Some r) z = let none : None ≡ Some v = rw (p, z) at s in absurd (cc none)
+  by false true p q s = tests (first_of (tests_to_get 6 body)) refl where
+    tests : (o : Option Response) → first_of (tests_to_get 6 body) ≡ o
+        → (link_served errors instruction body ≡ (answer_of response.Ok [], Some v)) × (eqb instruction 1 ≡ true)
+    tests None z = let none : None ≡ Some v = rw (p, q, z) at s in absurd (cc none)
+    tests (Some r) z = let none : None ≡ Some v = rw (p, q, z) at s in absurd (cc none)
+  by false false p q s = let none : None ≡ Some v = rw (p, q) at s in absurd (cc none)
+
+-- what a message sets by its header
+abbrev set_by_header : List ℕ → Result (MessageKind × ℕ) MessageFault → Option ℕ
+set_by_header message (Ok (IsCommand, instruction)) = (link_served 0 instruction (body_in message)).1
+set_by_header message _ = None
+
+set_by_is : (message : List ℕ) → errors_set_by message ≡ set_by_header message (header_of message)
+set_by_is message = by (header_of message) refl where
+  by : (x : Result (MessageKind × ℕ) MessageFault) → header_of message ≡ x → errors_set_by message ≡ set_by_header message (header_of message)
+  by (Ok (IsCommand, instruction)) q = rw q refl
+  by (Ok (IsEvent, instruction)) q = rw q refl
+  by (Ok (IsResponse, code)) q = rw q refl
+  by (Err fault) q = rw q refl
+
+-- the pipe leads to the link management gate
+abbrev pub is_link_gate : Option ℕ → Bool
+is_link_gate gate = option_map_or (λ g. eqb g 6) gate false
+
+-- the command sets nothing, or its pipe leads elsewhere
+abbrev pub SetsNone : Bool → Option ℕ → Type 0
+SetsNone here sets = cond here sets None ≡ None
+
+-- a command that sets nothing doesn't set this value
+sets_nothing : (errors n value : ℕ) (m : Message) → header_of m.1 ≡ Ok (IsCommand, n) → errors_set_by m.1 ≡ None
+    → (link_served errors n (body_in m.1)).1 ≡ Some value → ⊥
+sets_nothing errors n value m command none is =
+    let none_here : (link_served 0 n (body_in m.1)).1 ≡ None = sym (set_by_is m.1 ∙ ap (set_by_header m.1) command) ∙ none in
+    let both : Some value ≡ None = sym is ∙ (set_same errors n (body_in m.1) ∙ none_here) in
+    cc both
+
+-- ## Other messages
+
+plain : Plain IsUnset
+plain = record { sends = λ to x. tt; says_ok = tt; releases = λ asker. tt; is_answered = tt; drops = λ pid. tt }
+
+own : (core : Core) → OfHost IsUnset core
+own core = record { commits = λ c. tt; hears = tt; goes_on = λ i. tt; orders = λ i k order is. tt; same = tt; made = λ count. tt; failed = λ code. tt }
+
+decision_unset : (h : ℕ) (d : Decision) → OfDecision IsUnset h d
+decision_unset h (Answer answer) = tt
+decision_unset h (Commit c answer tell notice) = (tt, anyone (λ y. IsUnset (Tells y notice.items)) (λ y. tt) (hosts_where (has tell)))
+decision_unset h (Ask asked notice c answer) = tt
+
+pub controller_unset : (core : Core) (ports : List Port) (h : ℕ) (m : Message)
+    → SetsNone (is_link_gate (own_gate core.tables h m.0)) (errors_set_by m.1) → AreUnset (controller_deeds core ports h m)
+controller_unset core ports h m none =
+    all_of_controller IsUnset plain core ports h m
+    (λ n. decision_unset h (decided core.tables (view_for core.tables ports h) h m.0 n (body_in m.1))) (λ p c here asked. tt)
+    (λ errors n value command gate is.
+    sets_nothing errors n value m command (subst (λ b. SetsNone b (errors_set_by m.1)) (ap is_link_gate gate) none) is)
+
+pub host_unset : (core : Core) (p : Port) (m : Message) → SetsNone (eqb m.0 0) (errors_set_by m.1) → AreUnset (host_deeds core p m)
+host_unset core p m none =
+    all_of_host IsUnset core plain (own core) p m
+    (λ n value command zero is. sets_nothing p.desk.errors n value m command (subst (λ b. SetsNone b (errors_set_by m.1)) zero none) is)
+
+-- ## Commands that set it
+
+-- a header that sets something is a command's
+pub record SetsBy (message : List ℕ) (v : ℕ) : Type 0 where
+  pub instruction : ℕ
+  pub header : header_of message ≡ Ok (IsCommand, instruction)
+  pub sets : (link_served 0 instruction (body_in message)).1 ≡ Some v
+
+pub sets_by : (message : List ℕ) (v : ℕ) → errors_set_by message ≡ Some v → SetsBy message v
+sets_by message v e = by (header_of message) refl where
+  by : (x : Result (MessageKind × ℕ) MessageFault) → header_of message ≡ x → SetsBy message v
+  by (Ok (IsCommand, instruction)) q = record { instruction = instruction; header = q; sets = sym (set_by_is message ∙ ap (set_by_header message) q) ∙ e }
+  by (Ok (IsEvent, instruction)) q = let none : None ≡ Some v = sym (set_by_is message ∙ ap (set_by_header message) q) ∙ e in absurd (cc none)
+  by (Ok (IsResponse, code)) q = let none : None ≡ Some v = sym (set_by_is message ∙ ap (set_by_header message) q) ∙ e in absurd (cc none)
+  by (Err fault) q = let none : None ≡ Some v = sym (set_by_is message ∙ ap (set_by_header message) q) ∙ e in absurd (cc none)
+
+-- the end of the link with this host is up
+pub record IsUpAt (ports : List Port) (h : ℕ) : Type 0 where
+  pub port : Port
+  pub here : port_at ports h ≡ Some port
+  pub up : port.side.shdlc.phase ≡ Up
+
+-- what is done with a command that sets it to v: it is set and answered by ANY_OK, it is answered otherwise, or it is dropped
+pub data SetDeeds (ports : List Port) (h pid v : ℕ) (deeds : List Deed) : Type 0 where
+  IsSet : IsUpAt ports h → deeds ≡ SetsErrors v ∷ Sends h (pid, answer_of response.Ok []) ∷ [] → SetDeeds ports h pid v deeds
+  IsRefused : IsUpAt ports h → deeds ≡ Sends h (pid, answer_of response.PipeNotOpened []) ∷ [] → SetDeeds ports h pid v deeds
+  IsDropped : deeds ≡ Drops pid ∷ [] → SetDeeds ports h pid v deeds
+
+link_up : (ports : List Port) (h : ℕ) → has_link ports h ≡ true → IsUpAt ports h
+link_up ports h up = by (port_at ports h) refl up where
+  by : (o : Option Port) → port_at ports h ≡ o → option_map_or (λ (p : Port). is_up p.side.shdlc.phase) o false ≡ true → IsUpAt ports h
+  by None q u = absurd (true≢false (sym u))
+  by (Some p) q u = record { port = p; here = q; up = up_is p.side.shdlc.phase u }
+
+set_deeds : (h pid errors instruction v : ℕ) (body : List ℕ) → (link_served 0 instruction body).1 ≡ Some v
+    → link_deeds h pid (link_served errors instruction body) ≡ SetsErrors v ∷ Sends h (pid, answer_of response.Ok []) ∷ []
+set_deeds h pid errors instruction v body sets = ap (link_deeds h pid) (set_is errors instruction body v sets).0
+
+abbrev both_of : ℕ → ℕ → Option (ℕ × ℕ)
+both_of host gate = Some (host, gate)
+
+-- the gate that a pipe leads to, by its far end
+gate_far : (t : HciTables) (h pid : ℕ) → is_link_gate (own_gate t h pid) ≡ true → far_end t h pid ≡ both_of 0 6
+gate_far t h pid is = by (far_end t h pid) refl where
+  by : (o : Option (ℕ × ℕ)) → far_end t h pid ≡ o → o ≡ both_of 0 6
+  by None q = let no : false ≡ true = rw q at is in absurd (true≢false (sym no))
+  by (Some (host, gate)) q = ends (eqb host 0) (eqb gate 0) refl refl where
+    ends : (a b : Bool) → eqb host 0 ≡ a → eqb gate 0 ≡ b → both_of host gate ≡ both_of 0 6
+    ends false b x y = let no : false ≡ true = rw (q, x) at is in absurd (true≢false (sym no))
+    ends true true x y = let no : false ≡ true = rw (q, x, y) at is in absurd (true≢false (sym no))
+    ends true false x y =
+        let six : eqb gate 6 ≡ true = rw (q, x, y) at is in
+        ap (λ a. both_of a gate) (eqb-true host 0 x) ∙ ap (both_of 0) (eqb-true gate 6 six)
+
+pub controller_sets : (core : Core) (ports : List Port) (h : ℕ) (m : Message) (v : ℕ) → is_link_gate (own_gate core.tables h m.0) ≡ true
+    → errors_set_by m.1 ≡ Some v → SetDeeds ports h m.0 v (controller_deeds core ports h m)
+controller_sets core ports h m v leads sets =
+    subst (SetDeeds ports h m.0 v) (sym not_relayed) (by_link (has_link ports h) refl) where
+      s : SetsBy m.1 v
+      s = sets_by m.1 v sets
+
+      far : far_end core.tables h m.0 ≡ both_of 0 6
+      far = gate_far core.tables h m.0 leads
+
+      gate_is : own_gate core.tables h m.0 ≡ Some 6
+      gate_is = rw far refl
+
+      relayed_none : relayed_to core.tables h m ≡ None
+      relayed_none = rw far (cond_both _ None None (λ o. o ≡ None) (λ _. refl) (λ _. refl))
+
+      not_relayed : controller_deeds core ports h m ≡ own_deeds core ports h m (has_link ports h)
+      not_relayed = ap (deeds_by_relay core ports h m) relayed_none
+
+      other_pipe : eqb m.0 1 ≡ false
+      other_pipe = by (eqb m.0 1) refl where
+        by : (b : Bool) → eqb m.0 1 ≡ b → b ≡ false
+        by false q = refl
+        by true q = let one : m.0 ≡ 1 = eqb-true m.0 1 q in
+            let no : far_end core.tables h 1 ≡ both_of 0 6 = subst (λ n. far_end core.tables h n ≡ both_of 0 6) one far in absurd (cc no)
+
+      kind_is : kind_deeds core ports h m (header_of m.1) ≡ command_deeds core ports h m.0 s.instruction (body_in m.1)
+      kind_is = ap (kind_deeds core ports h m) s.header ∙ ap (λ b. unless_asking core ports h m s.instruction (b && asks_for ports h)) other_pipe
+
+      one_is : s.instruction ≡ 1
+      one_is = eqb-true s.instruction 1 (set_is 0 s.instruction (body_in m.1) v s.sets).1
+
+      view : LinkView
+      view = view_for core.tables ports h
+
+      through_is : goes_through core.tables h m.0 s.instruction ≡ is_opened core.tables h m.0
+      through_is = ap (λ n. is_opened core.tables h m.0 && not (eqb n 3 || eqb n 4)) one_is ∙ right (is_opened core.tables h m.0) where
+        right : (b : Bool) → (b && true) ≡ b
+        right true = refl
+        right false = refl
+
+      command_is : (b : Bool) → is_opened core.tables h m.0 ≡ b
+          → command_deeds core ports h m.0 s.instruction (body_in m.1) ≡ served_at core view h m.0 s.instruction (body_in m.1) (cond b (Some 6) None)
+      command_is b q =
+          ap (λ c. served_at core view h m.0 s.instruction (body_in m.1) (cond c (own_gate core.tables h m.0) None)) (through_is ∙ q)
+          ∙ ap (λ o. served_at core view h m.0 s.instruction (body_in m.1) (cond b o None)) gate_is
+
+      refused : is_opened core.tables h m.0 ≡ false → decided core.tables view h m.0 s.instruction (body_in m.1) ≡ answers response.PipeNotOpened []
+      refused q = ap (λ n. decided core.tables view h m.0 n (body_in m.1)) one_is ∙ rw (far, q) refl
+
+      by_opened : (b : Bool) → is_opened core.tables h m.0 ≡ b → IsUpAt ports h
+          → SetDeeds ports h m.0 v (command_deeds core ports h m.0 s.instruction (body_in m.1))
+      by_opened true q up = IsSet up (command_is true q ∙ set_deeds h m.0 view.errors s.instruction v (body_in m.1) s.sets)
+      by_opened false q up = IsRefused up (command_is false q ∙ ap (decision_deeds core h m.0) (refused q))
+
+      by_link : (b : Bool) → has_link ports h ≡ b → SetDeeds ports h m.0 v (own_deeds core ports h m b)
+      by_link false q = IsDropped refl
+      by_link true q = subst (SetDeeds ports h m.0 v) (sym kind_is) (by_opened (is_opened core.tables h m.0) refl (link_up ports h q))
+
+pub host_sets : (core : Core) (ports : List Port) (p : Port) (m : Message) (v : ℕ) → port_at ports core.node ≡ Some p → eqb m.0 0 ≡ true
+    → errors_set_by m.1 ≡ Some v → SetDeeds ports core.node m.0 v (host_deeds core p m)
+host_sets core ports p m v here zero sets = go (is_up p.side.shdlc.phase) refl where
+  s : SetsBy m.1 v
+  s = sets_by m.1 v sets
+
+  zero_is : m.0 ≡ 0
+  zero_is = eqb-true m.0 0 zero
+
+  ordered_is : ordered_deeds core p.desk.errors m.0 s.instruction (body_in m.1)
+      ≡ link_deeds core.node m.0 (link_served p.desk.errors s.instruction (body_in m.1))
+  ordered_is =
+      ap (λ n. ordered_deeds core p.desk.errors n s.instruction (body_in m.1)) zero_is
+      ∙ ap (λ n. link_deeds core.node n (link_served p.desk.errors s.instruction (body_in m.1))) (sym zero_is)
+
+  go : (b : Bool) → is_up p.side.shdlc.phase ≡ b → SetDeeds ports core.node m.0 v (host_deeds core p m)
+  go false q = IsDropped (rw q refl)
+  go true q =
+      let shown : host_deeds core p m ≡ ordered_deeds core p.desk.errors m.0 s.instruction (body_in m.1) = rw (q, s.header) refl in
+      IsSet (record { port = p; here = here; up = up_is p.side.shdlc.phase q })
+      (shown ∙ (ordered_is ∙ set_deeds core.node m.0 p.desk.errors s.instruction v (body_in m.1) s.sets))

@@ -1,0 +1,349 @@
+-- In each event the ages of the controller's notices stay those that are read.
+use Rattle.std.proofs.Common.{◌≡◌, ℕ, ◌≤◌, Bool, true, false, cond, List, [], ◌∷◌, ◌++◌, map, Option, Some, None, refl, sym, ap, subst, ◌∙◌, ◌||◌, eqb, min}
+use Rattle.std.specs.Prelude.{◌+◌}
+use Rattle.std.specs.List.{AllByRecursion}
+use Rattle.std.proofs.lemmas.Bool.{true≢false}
+use Rattle.std.proofs.lemmas.List.Sums.{fold-append}
+use Rattle.swp_base.specs.InMemory.{Plan}
+use Rattle.journal_laws.specs.Journal.{count_of}
+use Rattle.trace_model.specs.declared.entry.Entry.{Entry}
+use Rattle.trace_model.specs.declared.entry.Entry.TheVariants as entry
+use Rattle.trace_model.specs.declared.line.End.{End}
+use Rattle.link_laws.specs.machine.Machine.{LinkInput}
+use Rattle.link_laws.specs.messages.Links.{Link, Loss, Comes, NumberedEnd, exchanged}
+use Rattle.link_laws.specs.messages.Links.Comes.{NextFrame, AsksReset, Starts, NoInput}
+use Rattle.link_laws.specs.messages.Links.Loss.{OnDemand, Broken, Unread, TooOld, TooMany}
+use Rattle.link_laws.specs.entries.Entries.{first_lost}
+use Rattle.link_laws.specs.entries.Entries.End.{Controller, Host}
+use Rattle.history.specs.Steps.{entries_for}
+use Rattle.node_machine.specs.Parts.{Desk, Notice, Running, Port, Work, Deed}
+use Rattle.node_machine.specs.Carrying.{changed_if}
+use Rattle.node_machine.specs.Node.{NodeInput, steps, begins_with, new_desk, with_error}
+use Rattle.node_machine.specs.Node.NodeInput.{AtEnd, TimePasses}
+use Rattle.node_machine.specs.world.World.{NodeWorld, Site, Happening, site_at, link_to, near_end_in, arrival, wires_for}
+use Rattle.node_machine.specs.world.World.{work_of, frames_noted, comes_to, runs_on, counts}
+use Rattle.node_machine.specs.world.World.{controller_does, controller_work, host_work, host_does, comes_at, end_c, end_h}
+use Rattle.node_machine.specs.world.World.{all_aged, controller_ticks, hosts_tick, world_ticks}
+use Rattle.node_machine.specs.world.World.{input_of, world_step, activates, sending, beginning, frame_lost, boots, node_at}
+use Rattle.node_machine.specs.world.World.{loses_power_at, with_memory, controller_cut, memory_at}
+use Rattle.node_machine.specs.world.World.Happening.{Boots, IsCut, Gives, Inits, Takes, Loses, Ticks, Resets, Activates, Arms}
+use Rattle.node_machine.specs.world.Lines.{Occurrence}
+use Rattle.node_machine.specs.world.NodeHistories.{entries_in}
+use Rattle.node_machine.proofs.world.Cases.{by_controller, by_host, by_coming, by_controller_tick, near_tick, by_power, by_memory, by_running}
+use Rattle.node_machine.proofs.world.Cases.{by_boot, boot_written, boot_found, by_loss}
+use Rattle.node_laws.specs.kept.Hosts.{AreDifferent}
+use Rattle.node_laws.specs.links.Notices.{IsOutside}
+use Rattle.node_laws.specs.readings.Noticed.{IfNoticedUp}
+use Rattle.node_laws.specs.readings.Orders.{IsFresh}
+use Rattle.node_laws.proofs.readings.Sites.{near_end_side, comes_outside, lost_quiet}
+use Rattle.node_laws.specs.telling.Telling.{HasEnds, IfItRuns, hosts_in}
+use Rattle.node_laws.proofs.telling.Lasting.{occurs}
+use Rattle.node_laws.proofs.telling.Nodes.{hosts_same}
+use Rattle.node_laws.specs.notices.Notices.{notice_at}
+use Rattle.node_laws.specs.notices.Worlds.{ControllerReads, IfReads, IfHostNode, IsShut, KeepsNotices}
+use Rattle.node_laws.proofs.notices.Far.{AreFar, far-append, far_flat, quiet_far, IsFarWork, steps_far, all_do}
+use Rattle.node_laws.proofs.notices.Sites.{AreGood, Reads, good_at, link_shut, frames_quiet, arrival_quiet, sending_own, beginning_own}
+use Rattle.node_laws.proofs.notices.Doing.{IsOn}
+use Rattle.node_laws.proofs.notices.Near.{begins, all_ports, aged_side, aged_far, comes_reads, noticed_desks}
+use Rattle.node_laws.proofs.notices.Steps.{HasCome, came_near, came_tick}
+use Rattle.node_laws.specs.passes.Steps.{has_come_so}
+use Rattle.node_laws.specs.answers.Unasked.{age_in, age_after, is_tick}
+use Rattle.node_laws.proofs.worlds.Ages.{notified, more_notified, still_notified, far_notifies, AgeIs}
+use Rattle.node_laws.proofs.worlds.Growing.{grown, step_ages}
+use Rattle.node_laws.proofs.worlds.Resetting.{AgesAreRead, noticed_ports}
+
+-- the notices of a controller that runs are as old as this, or new where one was sent
+abbrev pub AreAged : (ℕ → ℕ) → List Entry → Option Running → Type 0
+AreAged base es None = Unit {0}
+AreAged base es (Some r) = (x : ℕ) (n : Notice) → notice_at r.desks x ≡ Some n → AgeIs x (base x) (notified x es) n
+
+abbrev pub AreOld : (ℕ → ℕ) → Option Running → Type 0
+AreOld age None = Unit {0}
+AreOld age (Some r) = (x : ℕ) (n : Notice) → notice_at r.desks x ≡ Some n → (n.age ≡ age x) × (n.age ≤ 99)
+
+-- what tells nothing of notices leaves them
+far_aged : (age : ℕ → ℕ) (es : List Entry) (o : Option Running) → AreFar es → AreOld age o → AreAged age es o
+far_aged age es None far a = tt
+far_aged age es (Some r) far a = λ x n q. let b = a x n q in (b.0 ∙ sym (ap (λ c. cond c 0 (age x)) (far_notifies x es far)), b.1)
+
+far_behind : (base : ℕ → ℕ) (es fs : List Entry) (o : Option Running) → AreFar fs → AreAged base es o → AreAged base (es ++ fs) o
+far_behind base es fs None far a = tt
+far_behind base es fs (Some r) far a = λ x n q. subst (λ c. AgeIs x (base x) c n) (sym (still_notified x es fs (far_notifies x fs far))) (a x n q)
+
+far_before : (base : ℕ → ℕ) (fs es : List Entry) (o : Option Running) → AreFar fs → AreAged base es o → AreAged base (fs ++ es) o
+far_before base fs es None far a = tt
+far_before base fs es (Some r) far a =
+    λ x n q. subst (λ c. AgeIs x (base x) c n) (sym (more_notified x fs es ∙ ap (λ c. c || notified x es) (far_notifies x fs far))) (a x n q)
+
+-- ## A step of the controller
+
+module _ (t : List Entry) (w : NodeWorld) (r : Running) (has : HasEnds 0 (hosts_in w.sites) r) (different : AreDifferent (hosts_in w.sites))
+    (ups : IfNoticedUp w.sites (Some r)) (sites : AreGood w.sites) (old : ControllerReads t r) (plan : Option Plan) (near_ends : ℕ → NumberedEnd)
+    (same : (n : ℕ) → (near_ends n).side ≡ (link_to w.sites n).controller.side) (es : List Entry) (quiet : AreFar es) (age : ℕ → ℕ)
+    (ages : AreOld age (Some r)) where
+  abbrev begun : Work
+  begun = work_of r plan near_ends es
+
+  fresh : AllByRecursion IsFresh begun.ports
+  fresh = all_ports IsFresh near_ends (λ d. (refl, refl)) r.desks
+
+  shut : AllByRecursion (λ (p : Port). IsShut p.side) begun.ports
+  shut = all_ports (λ (p : Port). IsShut p.side) near_ends (λ d. subst IsShut (sym (same d.host)) (link_shut w.sites d.host sites)) r.desks
+
+  apart : AreDifferent (map (λ (p : Port). p.desk.host) begun.ports)
+  apart = subst AreDifferent (sym (hosts_same near_ends r.desks ∙ has.ends)) different
+
+  module _ (input : NodeInput) (outside : IsOutside input) where
+    on : (x : ℕ) → IsOn x t begun
+    on x = begins t w r has different ups sites old plan near_ends same es quiet input outside x
+
+    come : (x : ℕ) → HasCome x t begun (on x) (has_come_so input begun)
+    come x = by input outside where
+      by : (i : NodeInput) → IsOutside i → HasCome x t begun (on x) (has_come_so i begun)
+      by (AtEnd h i) out = came_near x t begun (on x) h i out apart fresh shut
+      by TimePasses out = came_tick x t begun (on x) apart fresh shut
+
+    pub step_aged : AreAged (λ x. grown x input (age x)) (steps input begun).entries (runs_on (steps input begun))
+    step_aged = go (steps input begun).cut refl where
+      v : Work
+      v = steps input begun
+
+      go : (b : Bool) → v.cut ≡ b → AreAged (λ x. grown x input (age x)) v.entries (runs_on v)
+      go true z = let off : runs_on v ≡ None = rw z refl in subst (AreAged (λ x. grown x input (age x)) v.entries) (sym off) tt
+      go false z =
+          let is : runs_on v ≡ Some (record { core = v.core; desks = map (λ (p : Port). p.desk) v.ports }) = rw z refl in
+          subst (AreAged (λ x. grown x input (age x)) v.entries) (sym is)
+          (λ x n q. step_ages x t input begun (on x) (come x) (age x) (far_notifies x es quiet)
+          (λ m y. ages x m (sym (noticed_ports near_ends r.desks x) ∙ y)) z n (noticed_desks v.ports x ∙ q))
+
+-- ## Worlds
+
+module _ (t : List Entry) (w : NodeWorld) (k : KeepsNotices t w) (age : ℕ → ℕ) (old : AreOld age w.controller) where
+  abbrev Stays : NodeWorld × List Entry → Type 0
+  Stays p = AreAged age p.1 p.0.controller
+
+  reads : Reads t w
+  reads = record { sites = k.sites; reads_so = k.controller }
+
+  none_stays : Stays (w, [])
+  none_stays = far_aged age [] w.controller tt old
+
+  near_stays : (h : ℕ) (comes : Comes) (i : LinkInput) → input_of (link_to w.sites h) comes ≡ Some i → Stays (controller_does w h comes (steps (AtEnd h i)))
+  near_stays h comes i input =
+      by_controller Stays w h comes (steps (AtEnd h i)) none_stays
+      (λ r q.
+      let v : Work = controller_work w r h comes (steps (AtEnd h i)) in
+      far_behind age v.entries _ (runs_on v)
+      (far_flat (λ (s : Site). frames_noted Controller s.host (wires_for s.link (comes_to h comes s.host)) v)
+      (λ s. frames_quiet Controller s.host (wires_for s.link (comes_to h comes s.host)) v) w.sites)
+      (step_aged t w r (subst (IfItRuns 0 (hosts_in w.sites)) q k.orderly.controller) k.orderly.different (subst (IfNoticedUp w.sites) q k.up) k.sites
+      (subst (IfReads t) q k.controller) w.memory.plan (λ n. near_end_in (link_to w.sites n) (comes_to h comes n))
+      (λ n. near_end_side (link_to w.sites n) (comes_to h comes n)) (entries_for h (arrival Controller (link_to w.sites h) comes))
+      (arrival_quiet Controller h (link_to w.sites h) comes) age (subst (AreOld age) q old) (AtEnd h i) (comes_outside (link_to w.sites h) comes i input)))
+
+-- a host leaves the controller, and tells nothing of its notices
+module _ (w : NodeWorld) (good : AreGood w.sites) where
+  abbrev Leaves : NodeWorld × List Entry → Type 0
+  Leaves p = (p.0.controller ≡ w.controller) × AreFar p.1
+
+  host_leaves : (h : ℕ) (comes : Comes) (f : Work → Work) → ((k : Work) → IsFarWork k → IsFarWork (f k)) → Leaves (host_does w h comes f)
+  host_leaves h comes f keeps =
+      by_host Leaves w h comes f (refl, tt)
+      (λ s r here q.
+      let begun : Work = work_of r s.memory.plan (λ n. near_end_in (exchanged s.link) comes) (entries_for s.host (arrival Host (exchanged s.link) comes)) in
+      let far : IsFarWork (f begun) = keeps begun (record {
+        number = subst IfHostNode q (good_at w.sites h s good here).node;
+        far = arrival_quiet Host s.host (exchanged s.link) comes;
+      }) in
+      (refl, far-append (f begun).entries _ far.far (frames_quiet Host h (wires_for (exchanged s.link) comes) (f begun))))
+
+module _ (age : ℕ → ℕ) where
+  Still : NodeWorld × List Entry → Type 0
+  Still p = AreAged age p.1 p.0.controller
+
+  left : (w : NodeWorld) (p : NodeWorld × List Entry) → AreOld age w.controller → (p.0.controller ≡ w.controller) × AreFar p.1 → AreAged age p.1 p.0.controller
+  left w p old a = subst (AreAged age p.1) (sym a.0) (far_aged age p.1 w.controller a.1 old)
+
+  pub comes_aged : (t : List Entry) (w : NodeWorld) → KeepsNotices t w → AreOld age w.controller → (e : End) (comes : Comes)
+      → AreAged age (comes_at w e comes).1 (comes_at w e comes).0.controller
+  comes_aged t w k old e comes =
+      by_coming (λ p. AreAged age p.1 p.0.controller) w e comes (none_stays t w k age old)
+      (λ i far q. left w (host_does w e.link comes (steps (AtEnd e.link i))) old
+      (host_leaves w k.sites e.link comes (steps (AtEnd e.link i)) (λ v b. steps_far (AtEnd e.link i) v b)))
+      (λ i near q. near_stays t w k age old e.link comes i q)
+
+  -- ## Events
+
+  begins_aged : (w : NodeWorld) → AreGood w.sites → AreOld age w.controller → (h : ℕ) (deeds : List Deed) → Rattle.node_laws.proofs.notices.Own.AreOwn deeds
+      → AreAged age (host_does w h NoInput (begins_with h deeds)).1 (host_does w h NoInput (begins_with h deeds)).0.controller
+  begins_aged w good old h deeds own =
+      left w (host_does w h NoInput (begins_with h deeds)) old (host_leaves w good h NoInput (begins_with h deeds) (λ v b. all_do h deeds v own b))
+
+  activates_aged : (t : List Entry) (w : NodeWorld) → KeepsNotices t w → AreOld age w.controller → (h sync power : ℕ)
+      → AreAged age (activates w h sync power).1 (activates w h sync power).0.controller
+  activates_aged t w k old h sync power =
+      far_behind age near.1 far.1 far.0.controller leaves.1
+      (subst (AreAged age near.1) (sym leaves.0) (comes_aged t w k old (end_c h) (Starts power))) where
+        near : NodeWorld × List Entry
+        near = comes_at w (end_c h) (Starts power)
+
+        far : NodeWorld × List Entry
+        far = comes_at near.0 (end_h h) (Starts sync)
+
+        good : AreGood near.0.sites
+        good = (comes_reads t w k.orderly k.up (record { sites = k.sites; reads_so = k.controller }) (end_c h) (Starts power)).sites
+
+        leaves : (far.0.controller ≡ near.0.controller) × AreFar far.1
+        leaves =
+            by_coming (λ p. (p.0.controller ≡ near.0.controller) × AreFar p.1) near.0 (end_h h) (Starts sync) (refl, tt)
+            (λ i at q. host_leaves near.0 good h (Starts sync) (steps (AtEnd h i)) (λ v b. steps_far (AtEnd h i) v b))
+            (λ i at q. absurd (true≢false at))
+
+  -- frames that are counted leave the notices
+  counted : (h : ℕ) (desks : List Desk) (x : ℕ) → notice_at (with_error h desks) x ≡ notice_at desks x
+  counted h [] x = refl
+  counted h (d ∷ desks) x = by_error (eqb d.host h) (eqb d.host x) refl (counted h desks x) where
+    more : Desk → Desk
+    more c = record c { errors = min 65535 (c.errors + 1) }
+
+    by_error : (b c : Bool) → eqb d.host x ≡ c → notice_at (with_error h desks) x ≡ notice_at desks x
+        → notice_at (changed_if b more d ∷ with_error h desks) x ≡ notice_at (d ∷ desks) x
+    by_error true true is later = rw is refl
+    by_error true false off later = rw off later
+    by_error false true is later = rw is refl
+    by_error false false off later = rw off later
+
+  counts_old : (why : Loss) (h : ℕ) (o : Option Running) → AreOld age o → AreOld age (counts why h o)
+  counts_old (Broken fault) h None a = tt
+  counts_old (Broken fault) h (Some r) a = λ x n q. a x n (sym (counted h r.desks x) ∙ q)
+  counts_old OnDemand h o a = a
+  counts_old Unread h o a = a
+  counts_old TooOld h o a = a
+  counts_old TooMany h o a = a
+
+  lost_aged : (w : NodeWorld) → AreOld age w.controller → (e : End) (why : Loss) → AreAged age (frame_lost w e why).1 (frame_lost w e why).0.controller
+  lost_aged w old e why =
+      by_loss (λ p. AreAged age p.1 p.0.controller) w e why
+      (λ z. far_aged age _ w.controller (quiet_far e.link (first_lost Host why (link_to w.sites e.link).to_host)
+      (lost_quiet Host why (link_to w.sites e.link).to_host)) old)
+      (λ z. far_aged age _ (counts why e.link w.controller) (quiet_far e.link (first_lost Controller why (link_to w.sites e.link).to_controller)
+      (lost_quiet Controller why (link_to w.sites e.link).to_controller)) (counts_old why e.link w.controller old))
+
+  memory_old : (w : NodeWorld) (n : ℕ) (m : Rattle.swp_base.specs.InMemory.Memory) → AreOld age w.controller → AreOld age (with_memory n m w).controller
+  memory_old w n m old = by_memory (λ v. AreOld age v.controller) n w m (λ z. old) (λ z. old)
+
+  -- the power goes
+  cut_aged : (w : NodeWorld) (n : ℕ) → AreOld age w.controller → AreAged age (entry.Cut n ∷ []) (loses_power_at n w).controller
+  cut_aged w n old =
+      by_power (λ v. AreAged age (entry.Cut n ∷ []) v.controller) n w (λ z. tt) (λ z. far_aged age (entry.Cut n ∷ []) w.controller (z, tt) old)
+
+  none_new : (hosts : List ℕ) (x : ℕ) → notice_at (map new_desk hosts) x ≡ None
+  none_new [] x = refl
+  none_new (h ∷ hosts) x = go (eqb h x) refl (none_new hosts x) where
+    go : (b : Bool) → eqb h x ≡ b → notice_at (map new_desk hosts) x ≡ None → notice_at (map new_desk (h ∷ hosts)) x ≡ None
+    go true is later = rw is refl
+    go false off later = rw off later
+
+  boots_aged : (w : NodeWorld) (n : ℕ) → AreOld age w.controller → AreAged age (boots w n).1 (boots w n).0.controller
+  boots_aged w n old =
+      by_boot (λ p. AreAged age p.1 p.0.controller) w n (cut_aged (boot_written w n) n still)
+      (by_running (λ v. AreAged age (entry.Booted n (count_of (boot_found w n).core.journal) ∷ []) v.controller) n (boot_written w n) (boot_found w n)
+      (λ z x m q. let none : None ≡ Some m = sym (none_new (Rattle.node_machine.specs.world.World.links_of w n) x) ∙ q in absurd (cc none))
+      (λ z. far_aged age (entry.Booted n (count_of (boot_found w n).core.journal) ∷ []) (boot_written w n).controller (z, tt) still))
+    where
+      still : AreOld age (boot_written w n).controller
+      still = memory_old w n _ old
+
+-- ## Ticks
+
+host_far : (s : Site) → IfHostNode s.node → AreFar (Rattle.node_machine.specs.world.World.host_ticks s).1
+host_far s node =
+    Rattle.node_machine.proofs.world.Cases.by_host_tick (λ p. AreFar p.1) s (λ q. tt)
+    (λ r q.
+    let begun : Work = work_of r s.memory.plan (λ h. s.link.host) [] in
+    let far : IsFarWork (steps TimePasses begun) = steps_far TimePasses begun (record { number = subst IfHostNode q node; far = tt }) in
+    far-append (steps TimePasses begun).entries _ far.far (frames_quiet Host s.host (exchanged s.link) (steps TimePasses begun)))
+
+hosts_far : (sites : List Site) → AllByRecursion (λ (s : Site). IfHostNode s.node) sites → AreFar (hosts_tick sites).1
+hosts_far [] a = tt
+hosts_far (s ∷ sites) a = far-append (Rattle.node_machine.specs.world.World.host_ticks s).1 (hosts_tick sites).1 (host_far s a.0) (hosts_far sites a.1)
+
+ticks_aged : (age : ℕ → ℕ) (t : List Entry) (w : NodeWorld) → KeepsNotices t w → AreOld age w.controller
+    → AreAged (λ x. age x + 1) (world_ticks w).1 (world_ticks w).0.controller
+ticks_aged age t w k old =
+    far_before base aged.1 (near.1 ++ (hosts_tick near.0.sites).1) near.0.controller (aged_far t w k.orderly k.up reads)
+    (far_behind base near.1 (hosts_tick near.0.sites).1 near.0.controller (hosts_far near.0.sites nodes) first) where
+      base : ℕ → ℕ
+      base x = age x + 1
+
+      aged : NodeWorld × List Entry
+      aged = all_aged w
+
+      near : NodeWorld × List Entry
+      near = controller_ticks aged.0
+
+      reads : Reads t w
+      reads = record { sites = k.sites; reads_so = k.controller }
+
+      first : AreAged base near.1 near.0.controller
+      first =
+          by_controller_tick (λ p. AreAged base p.1 p.0.controller) aged.0
+          (λ q. subst (AreAged base []) (sym q) tt)
+          (λ r q.
+          far_behind base (near_tick aged.0 r).entries _ (runs_on (near_tick aged.0 r))
+          (far_flat (λ (s : Site). frames_noted Controller s.host s.link (near_tick aged.0 r)) (λ s. frames_quiet Controller s.host s.link (near_tick aged.0 r))
+          aged.0.sites)
+          (step_aged t w r (subst (IfItRuns 0 (hosts_in w.sites)) q k.orderly.controller) k.orderly.different (subst (IfNoticedUp w.sites) q k.up) k.sites
+          (subst (IfReads t) q k.controller) w.memory.plan (λ h. (link_to aged.0.sites h).controller)
+          (λ n. aged_side t w k.orderly k.up reads w.sites n) [] tt age (subst (AreOld age) q old) TimePasses tt))
+
+      mapped : (f : Site → Site) → ((s : Site) → (f s).node ≡ s.node) → (sites : List Site) → AllByRecursion (λ (s : Site). IfHostNode s.node) sites
+          → AllByRecursion (λ (s : Site). IfHostNode s.node) (map f sites)
+      mapped f node [] q = tt
+      mapped f node (s ∷ sites) q = (subst IfHostNode (sym (node s)) q.0, mapped f node sites q.1)
+
+      good_nodes : (sites : List Site) → AreGood sites → AllByRecursion (λ (s : Site). IfHostNode s.node) sites
+      good_nodes [] a = tt
+      good_nodes (s ∷ sites) a = (a.0.node, good_nodes sites a.1)
+
+      still : AllByRecursion (λ (s : Site). IfHostNode s.node) aged.0.sites
+      still = mapped (λ (s : Site). record s { link = Rattle.link_laws.specs.messages.Links.aged s.link }) (λ s. refl) w.sites (good_nodes w.sites k.sites)
+
+      nodes : AllByRecursion (λ (s : Site). IfHostNode s.node) near.0.sites
+      nodes =
+          by_controller_tick (λ p. AllByRecursion (λ (s : Site). IfHostNode s.node) p.0.sites) aged.0
+          (λ q. mapped Rattle.node_machine.proofs.world.Cases.site_unticked (λ s. refl) aged.0.sites still)
+          (λ r q. mapped (Rattle.node_machine.proofs.world.Cases.site_ticked (near_tick aged.0 r)) (λ s. refl) aged.0.sites still)
+
+-- ## Whatever happens
+
+pub event_aged : (age : ℕ → ℕ) (t : List Entry) (w : NodeWorld) (c : Happening) → KeepsNotices t w → AreOld age w.controller
+    → AreAged (λ x. cond (is_tick c) (age x + 1) (age x)) (world_step w c).1 (world_step w c).0.controller
+event_aged age t w (Boots n) k old = boots_aged age w n old
+event_aged age t w (IsCut n) k old = cut_aged age w n old
+event_aged age t w (Gives e m) k old = begins_aged age w k.sites old e.link (sending e.link m) (sending_own e.link m)
+event_aged age t w (Inits e identity pipes) k old = begins_aged age w k.sites old e.link (beginning identity pipes) (beginning_own identity pipes)
+event_aged age t w (Takes e) k old = comes_aged age t w k old e NextFrame
+event_aged age t w (Loses e why) k old = lost_aged age w old e why
+event_aged age t w Ticks k old = ticks_aged age t w k old
+event_aged age t w (Resets e window) k old = comes_aged age t w k old e (AsksReset window)
+event_aged age t w (Activates h sync power) k old = activates_aged age t w k old h sync power
+event_aged age t w (Arms n plan) k old =
+    far_aged age [] (world_step w (Arms n plan)).0.controller tt (memory_old age w n (record (memory_at w n) { plan = Some plan }) old)
+
+-- ## Histories
+
+pub aged_read : (past : List Occurrence) (w : NodeWorld) (c : Happening) → KeepsNotices (entries_in past) w → AgesAreRead past w.controller
+    → AgesAreRead (past ++ occurs w c ∷ []) (world_step w c).0.controller
+aged_read past w c k a = to (world_step w c).0.controller (event_aged (age_in past) (entries_in past) w c k (from w.controller a)) where
+  from : (o : Option Running) → AgesAreRead past o → AreOld (age_in past) o
+  from None a = tt
+  from (Some r) a = a
+
+  age_is : (x : ℕ) → age_in (past ++ occurs w c ∷ []) x ≡ cond (notified x (world_step w c).1) 0 (cond (is_tick c) (age_in past x + 1) (age_in past x))
+  age_is x = fold-append (age_after x) 0 past (occurs w c ∷ [])
+
+  to : (o : Option Running) → AreAged (λ x. cond (is_tick c) (age_in past x + 1) (age_in past x)) (world_step w c).1 o
+      → AgesAreRead (past ++ occurs w c ∷ []) o
+  to None b = tt
+  to (Some r) b = λ x n q. ((b x n q).0 ∙ sym (age_is x), (b x n q).1)

@@ -1,0 +1,344 @@
+-- Over a step of a controller the ages of its notices are read.
+use Rattle.std.proofs.Common.{◌≡◌, inl, inr, ℕ, ◌≤◌, Bool, true, false, cond, List, [], ◌∷◌, ◌++◌, map, Option, Some, None, refl}
+use Rattle.std.proofs.Common.{sym, ap, ap₂, subst, ◌∙◌, ◌||◌, ◌&&◌, eqb, arith}
+use Rattle.std.specs.Prelude.{◌+◌, not, nat_le, option_to_list}
+use Rattle.std.specs.List.{AllByRecursion, flat_map, list_any}
+use Rattle.std.specs.Option.{option_map, option_map_or, option_and_then}
+use Rattle.std.proofs.lemmas.Bool.{true≢false, eq-eqb}
+use Rattle.swp_base.specs.declared.link_terms.Cause.{Cause as EndedBy}
+use Rattle.trace_model.specs.Lines.{IsHost}
+use Rattle.trace_model.specs.declared.entry.Entry.{Entry}
+use Rattle.trace_model.specs.declared.entry.Entry.TheVariants as entry
+use Rattle.link_laws.specs.machine.Machine.{LinkInput, Message, Report, after_input, report, whole_acked}
+use Rattle.link_laws.specs.machine.Machine.LinkInput.{Tick, Reset}
+use Rattle.link_laws.specs.machine.Machine.Turn.{Hold}
+use Rattle.link_laws.specs.entries.Entries.{End as Side, Entry as Noted, told}
+use Rattle.link_laws.specs.entries.Entries.Entry.{Down}
+use Rattle.history.specs.Steps.{entries_for}
+use Rattle.node_machine.specs.Parts.{Creation, Notice, Core, Port, Work, Deed}
+use Rattle.node_machine.specs.Controller.{controller_deeds, asked_at}
+use Rattle.node_machine.specs.Carrying.{own_side, port_at, noted_of, noting, turn_at, with_desk, end_of_node, all_done, lack, needs, unless_cut}
+use Rattle.node_machine.specs.Turns.{deeds_of, handles, holds_back, passes}
+use Rattle.node_machine.specs.Node.{NodeInput, input_at, told_at, has_come, all_come, with_older, reset_late, is_late}
+use Rattle.node_machine.specs.Node.{told_late, is_over, is_forgotten, forgets, forgotten}
+use Rattle.node_machine.specs.Node.{without_notice, after_sessions, synced, all_owed, steps}
+use Rattle.node_machine.specs.Node.NodeInput.{AtEnd, TimePasses}
+use Rattle.node_laws.specs.kept.Books.{hosts_of_ends}
+use Rattle.node_laws.proofs.steps.Walks.{all_owed_hold, all_synced_hold, forgotten_hold}
+use Rattle.node_laws.proofs.steps.Ports.{at_port}
+use Rattle.node_laws.proofs.steps.StepWalks.{holds, lets, unless}
+use Rattle.node_laws.proofs.links.Noticing.{at_all, at_host}
+use Rattle.node_laws.proofs.readings.Silent.{told_rest, rest_quiet}
+use Rattle.node_laws.proofs.notices.Far.{quiet_far}
+use Rattle.node_laws.proofs.notices.Deciding.{answer_other}
+use Rattle.node_laws.proofs.notices.Telling.{noticed}
+use Rattle.node_laws.proofs.notices.Doing.{IsOn, Stands, then, all_stand, AreHostEnds}
+use Rattle.node_laws.proofs.notices.Turning.{handled_stand, holds_stand, lets_stand}
+use Rattle.node_laws.proofs.notices.Stepping.{no_notices_may, no_notices_flat, synced_no_notices, TellNoNotices}
+use Rattle.node_laws.proofs.notices.Steps.{HasCome, begun, frees, owed_all}
+use Rattle.node_laws.specs.passes.Passing.{LastsOverTurns, waiting_at}
+use Rattle.node_laws.specs.passes.Steps.{has_come_so, told_of_coming, told_of_late, syncs_in, owed_in_step, has_freed, has_synced, comes_to_pass}
+use Rattle.node_laws.proofs.passes.Passing.{through}
+use Rattle.node_laws.proofs.passes.Before.{come_entries, steps_are}
+use Rattle.node_laws.proofs.worlds.Ages.{notified, more_notified, still_notified, far_notifies, AgeIs, AgesIn, Each, each_same}
+use Rattle.node_laws.proofs.worlds.Ages.{turn_noticed, desk_noticed, handled_ages, else_ages, IsElse}
+
+-- ## A pass
+
+module _ (x : ℕ) (t : List Entry) (base : ℕ) where
+  -- more is noted, but no notice to x is sent, and that to x stays
+  ages_same : (w v : Work) (es : List Entry) → noticed v.ports x ≡ noticed w.ports x → v.entries ≡ w.entries ++ es → notified x es ≡ false
+      → AgesIn x base w → AgesIn x base v
+  ages_same w v es same entries none a =
+      subst (λ b. Each x (AgeIs x base b) v) (sym (ap (notified x) entries ∙ still_notified x w.entries es none))
+      (each_same x (AgeIs x base (notified x w.entries)) w v same a)
+
+  abbrev G : Work → Type 0
+  G v = IsOn x t v × AgesIn x base v
+
+  held_ages : (h : ℕ) (flag : Bool) (w : Work) → AgesIn x base w → AgesIn x base (turn_at h (Hold flag) w)
+  held_ages h flag w a =
+      ages_same w (turn_at h (Hold flag) w) (option_map_or (noted_of w.core (Hold flag)) (port_at w.ports h) []) (turn_noticed x h (Hold flag) w) refl
+      (none (port_at w.ports h)) a
+    where
+      none : (o : Option Port) → notified x (option_map_or (noted_of w.core (Hold flag)) o []) ≡ false
+      none None = refl
+      none (Some p) = refl
+
+  holds_ages : (h : ℕ) (short : ℕ × ℕ) (w : Work) → AgesIn x base w → AgesIn x base (holds_back h short w)
+  holds_ages h short w a =
+      holds (AgesIn x base) held_ages
+      (λ h flag w a. each_same x (AgeIs x base (notified x w.entries)) w (with_desk h (λ d. record d { holds = flag }) w)
+      (desk_noticed x h (λ d. record d { holds = flag }) w (λ d. refl) (λ d. refl)) a)
+      (λ h need spare w a. ages_same w (noting (entry.Held (end_of_node w.core h) need spare ∷ []) w) (entry.Held (end_of_node w.core h) need spare ∷ [])
+      refl refl refl a) h short w a
+
+  waiting_host : (ports : List Port) (h : ℕ) (m : Message) (messages : List Message) → AreHostEnds ports → waiting_at ports h ≡ m ∷ messages → IsHost h
+  waiting_host ports h m messages hosts q = go (port_at ports h) refl where
+    go : (o : Option Port) → port_at ports h ≡ o → IsHost h
+    go None z = let none : [] ≡ m ∷ messages = rw z at q in absurd (cc none)
+    go (Some p) z = subst IsHost (at_host ports h p z) (at_port (λ (u : Port). IsHost u.desk.host) ports h p hosts z)
+
+  on_of : (v : Work) → Stands x t v → v.cut ≡ false → IsOn x t v
+  on_of v (inl a) on = a
+  on_of v (inr a) on = absurd (true≢false (sym a.off ∙ on))
+
+  lasts : LastsOverTurns G
+  lasts = record {
+    handled = λ w h m messages a on waits room still.
+        let host : IsHost h = waiting_host w.ports h m messages a.0.hosts waits in
+        let deeds : List Deed = controller_deeds w.core w.ports h m in
+        let are : deeds_of w.core w.ports h m ≡ deeds = own_deeds w h m a.0.node in
+        subst (λ ds. (handles h m ds w).cut ≡ false → G (handles h m ds w)) (sym are)
+        (λ on.
+        let b : IsOn x t (handles h m deeds w) = on_of (handles h m deeds w) (handled_stand x t h m w host a.0 (ap (λ ds. lack w.ports (needs h ds))
+        (sym are) ∙ room)) on in
+        (b, handled_ages x t base h m w host a.0 a.1 b)) still;
+    held = λ w h m messages short a on waits lacks. (holds_stand x t h short w a.0, holds_ages h short w a.1);
+    let_go = λ w h a on waits. (lets_stand x t h w a.0, lets (AgesIn x base) held_ages h w a.1);
+  } where
+    own_deeds : (w : Work) (h : ℕ) (m : Message) → w.core.node ≡ 0 → deeds_of w.core w.ports h m ≡ controller_deeds w.core w.ports h m
+    own_deeds w h m node = let zero : eqb w.core.node 0 ≡ true = eq-eqb w.core.node 0 node in rw zero refl
+
+  pub pass_ages : (w : Work) → w.cut ≡ false → IsOn x t w → AgesIn x base w → (passes w).cut ≡ false → AgesIn x base (passes w)
+  pass_ages w on a ages still = ((through G lasts (hosts_of_ends w.ports) w (a, ages) on).keeps still).1
+
+-- ## Before a pass
+
+module _ (x : ℕ) where
+  told_mute : (h : ℕ) (who : Side) (n acked : ℕ) (r : Report) → notified x (entries_for h (told who n r acked)) ≡ false
+  told_mute h who n acked r = go r.ended where
+    rest : List Noted
+    rest = told_rest who n acked r
+
+    quiet : notified x (entries_for h rest) ≡ false
+    quiet = far_notifies x (entries_for h rest) (quiet_far h rest (rest_quiet who n acked r))
+
+    go : (o : Option EndedBy) → notified x (entries_for h (map (Down who) (option_to_list o) ++ rest)) ≡ false
+    go None = quiet
+    go (Some cause) = quiet
+
+  at_mute : (core : Core) (p : Port) (o : Option LinkInput) → notified x (told_at core p o) ≡ false
+  at_mute core p None = refl
+  at_mute core p (Some i) = told_mute p.desk.host (own_side core) p.session (whole_acked (after_input p.side i)) (report p.side i)
+
+  late_mute : (core : Core) (p : Port) → notified x (told_late core p) ≡ false
+  late_mute core p = go (is_late p) where
+    go : (b : Bool) → notified x (cond b (told_at core p (Some (Reset None))) []) ≡ false
+    go true = at_mute core p (Some (Reset None))
+    go false = refl
+
+  flat_mute : (f : Port → List Entry) → ((p : Port) → notified x (f p) ≡ false) → (ports : List Port) → notified x (flat_map f ports) ≡ false
+  flat_mute f one [] = refl
+  flat_mute f one (p ∷ ports) = more_notified x (f p) (flat_map f ports) ∙ ap₂ (λ a b. a || b) (one p) (flat_mute f one ports)
+
+  coming_mute : (input : NodeInput) (w : Work) → notified x (told_of_coming input w) ≡ false
+  coming_mute input w =
+      more_notified x (flat_map (λ p. told_at w.core p (input_at input p)) w.ports) (told_of_late input (all_come input w))
+      ∙ ap₂ (λ a b. a || b) (flat_mute (λ p. told_at w.core p (input_at input p)) (λ p. at_mute w.core p (input_at input p)) w.ports) (late input) where
+        late : (input : NodeInput) → notified x (told_of_late input (all_come input w)) ≡ false
+        late (AtEnd h i) = refl
+        late TimePasses = flat_mute (told_late w.core) (late_mute w.core) (map with_older (all_come TimePasses w).ports)
+
+  -- a notice that stays at an end
+  record Stayed (q : Port) (n : Notice) : Type 0 where
+    was : Notice
+    here : q.desk.notice ≡ Some was
+    age : n.age ≡ was.age
+    off : is_over q ≡ false
+
+  stayed : (ports : List Port) (q : Port) (n : Notice) → (without_notice (forgets ports q)).desk.notice ≡ Some n → Stayed q n
+  stayed ports q n is = go (is_forgotten ports (asked_at q)) refl where
+    over : (r : Port) → (without_notice r).desk.notice ≡ Some n → (is_over r ≡ false) × (r.desk.notice ≡ Some n)
+    over r z = by (is_over r) refl where
+      by : (b : Bool) → is_over r ≡ b → (is_over r ≡ false) × (r.desk.notice ≡ Some n)
+      by true y = let none : None ≡ Some n = rw y at z in absurd (cc none)
+      by false y = (y, rw y at z)
+
+    parts : (is_over (forgets ports q) ≡ false) × ((forgets ports q).desk.notice ≡ Some n)
+    parts = over (forgets ports q) is
+
+    forgot : Option Notice → Option Notice
+    forgot o = option_map_or (λ (n : Notice). Some (record n { about = Rattle.node_machine.specs.Parts.About.Forgotten })) o None
+
+    by_notice : is_over q ≡ false → (o : Option Notice) → q.desk.notice ≡ o → forgot o ≡ Some n → Stayed q n
+    by_notice off None z y = absurd (cc y)
+    by_notice off (Some m) z y =
+        let same : record m { about = Rattle.node_machine.specs.Parts.About.Forgotten } ≡ n = cc in
+        record { was = m; here = z; age = sym (ap (λ (k : Notice). k.age) same); off = off }
+
+    go : (b : Bool) → is_forgotten ports (asked_at q) ≡ b → Stayed q n
+    go true z = by_notice (rw z at parts.0) q.desk.notice refl (rw z at parts.1)
+    go false z = record { was = n; here = rw z at parts.1; age = refl; off = rw z at parts.0 }
+
+  -- how old it was, and is as the turns begin
+  abbrev pub grown : NodeInput → ℕ → ℕ
+  grown (AtEnd h i) age = age
+  grown TimePasses age = age + 1
+
+  -- an end as something has come to it, and late notices have reset its link
+  abbrev came : NodeInput → Port → Port
+  came (AtEnd h i) p = has_come p (input_at (AtEnd h i) p)
+  came TimePasses p = reset_late (with_older (has_come p (Some Tick)))
+
+  come_host : (p : Port) (o : Option LinkInput) → (has_come p o).desk ≡ p.desk
+  come_host p None = refl
+  come_host p (Some i) = refl
+
+  reset_desk : (p : Port) → (reset_late p).desk ≡ p.desk
+  reset_desk p = go (is_late p) refl where
+    go : (b : Bool) → is_late p ≡ b → (reset_late p).desk ≡ p.desk
+    go true z = rw z refl
+    go false z = rw z refl
+
+  came_is : (input : NodeInput) (w : Work) → port_at (has_come_so input w).ports x ≡ option_map (came input) (port_at w.ports x)
+  came_is (AtEnd h i) w = at_all w.ports x (λ p. has_come p (input_at (AtEnd h i) p)) (λ q. ap (λ
+      (d : Rattle.node_machine.specs.Parts.Desk). d.host) (come_host q (input_at (AtEnd h i) q)))
+  came_is TimePasses w =
+      at_all (map with_older (map (λ p. has_come p (Some Tick)) w.ports)) x reset_late (λ q. ap (λ
+      (d : Rattle.node_machine.specs.Parts.Desk). d.host) (reset_desk q))
+      ∙ (ap (option_map reset_late) (at_all (map (λ p. has_come p (Some Tick)) w.ports) x with_older (λ q. refl)
+      ∙ ap (option_map with_older) (at_all w.ports x (λ p. has_come p (Some Tick)) (λ q. refl))) ∙ three (port_at w.ports x)) where
+        three : (o : Option Port) → option_map reset_late (option_map with_older (option_map (λ p. has_come p (Some Tick)) o)) ≡ option_map (came TimePasses) o
+        three None = refl
+        three (Some p) = refl
+
+  no_or : (a b : Bool) → (a || b) ≡ false → (a ≡ false) × (b ≡ false)
+  no_or true b q = absurd (true≢false q)
+  no_or false b q = (refl, q)
+
+  young : (n : ℕ) → nat_le 100 n ≡ false → n ≤ 99
+  young n q = grind (arith, q)
+
+  -- a notice is as old as is read while it stays
+  came_age : (input : NodeInput) (p : Port) (age0 : ℕ) (n : Notice) → ((m : Notice) → p.desk.notice ≡ Some m → (m.age ≡ age0) × (m.age ≤ 99))
+      → Stayed (came input p) n → (n.age ≡ grown input age0) × (n.age ≤ 99)
+  came_age (AtEnd h i) p age0 n old s =
+      let m = old s.was (ap (λ (d : Rattle.node_machine.specs.Parts.Desk). d.notice) (sym (come_host p (input_at (AtEnd h i) p))) ∙ s.here) in
+      (s.age ∙ m.0, subst (λ k. k ≤ 99) (sym s.age) m.1)
+  came_age TimePasses p age0 n old s = by p.desk.notice refl where
+    y : Port
+    y = with_older (has_come p (Some Tick))
+
+    here : y.desk.notice ≡ Some s.was
+    here = ap (λ (d : Rattle.node_machine.specs.Parts.Desk). d.notice) (sym (reset_desk y)) ∙ s.here
+
+    fresh : (is_late y ≡ false) × (y.ended ≡ false)
+    fresh = go (is_late y) refl where
+      over_true : (b : Bool) → (b || true) ≡ true
+      over_true true = refl
+      over_true false = refl
+
+      go : (b : Bool) → is_late y ≡ b → (is_late y ≡ false) × (y.ended ≡ false)
+      go true z =
+          let late : is_over (reset_late y) ≡ true = rw z (over_true y.ended) in absurd (true≢false (sym late ∙ s.off))
+      go false z =
+          let same : reset_late y ≡ y = rw z refl in
+          (z, (no_or y.ended y.late (ap is_over (sym same) ∙ s.off)).0)
+
+    and_not : (a b : Bool) → (a && not b) ≡ false → b ≡ false → a ≡ false
+    and_not true true q z = absurd (true≢false z)
+    and_not true false q z = q
+    and_not false b q z = refl
+
+    low : option_map_or (λ (n : Notice). nat_le 100 n.age) y.desk.notice false ≡ false
+    low = and_not (option_map_or (λ (n : Notice). nat_le 100 n.age) y.desk.notice false) y.ended fresh.0 fresh.1
+
+    by : (o : Option Notice) → p.desk.notice ≡ o → (n.age ≡ age0 + 1) × (n.age ≤ 99)
+    by None z = let none : None ≡ Some s.was = rw z at here in absurd (cc none)
+    by (Some m) z =
+        let is : Some (Rattle.node_machine.specs.Node.older_notice m) ≡ Some s.was = rw z at here in
+        let same : Rattle.node_machine.specs.Node.older_notice m ≡ s.was = cc in
+        let age : n.age ≡ m.age + 1 = s.age ∙ sym (ap (λ (k : Notice). k.age) same) in
+        let less : nat_le 100 s.was.age ≡ false = ap (λ o. option_map_or (λ (n : Notice). nat_le 100 n.age) o false) (sym here) ∙ low in (
+          age ∙ ap (λ k. k + 1) (old m z).0,
+          subst (λ k. k ≤ 99) (sym s.age) (young s.was.age less),
+        )
+
+  -- as a step begins to do what it owes
+  module _ (input : NodeInput) (w : Work) (age0 : ℕ) (quiet : notified x w.entries ≡ false) (old : Each x (λ n. (n.age ≡ age0) × (n.age ≤ 99)) w) where
+    abbrev v : Work
+    v = has_come_so input w
+
+    abbrev u : Work
+    u = record v { core = after_sessions v.core v.ports; ports = map without_notice (map (forgets v.ports) v.ports) }
+
+    forgets_host : (ports : List Port) (q : Port) → (forgets ports q).desk.host ≡ q.desk.host
+    forgets_host ports q = go (is_forgotten ports (asked_at q)) refl where
+      go : (b : Bool) → is_forgotten ports (asked_at q) ≡ b → (forgets ports q).desk.host ≡ q.desk.host
+      go true z = rw z refl
+      go false z = rw z refl
+
+    without_host : (q : Port) → (without_notice q).desk.host ≡ q.desk.host
+    without_host q = go (is_over q) refl where
+      go : (b : Bool) → is_over q ≡ b → (without_notice q).desk.host ≡ q.desk.host
+      go true z = rw z refl
+      go false z = rw z refl
+
+    is : noticed u.ports x
+        ≡ option_and_then (λ (p : Port). p.desk.notice) (option_map without_notice (option_map (forgets v.ports) (option_map (came input) (port_at w.ports x))))
+    is =
+        ap (λ o. option_and_then (λ (p : Port). p.desk.notice) o)
+        (at_all (map (forgets v.ports) v.ports) x without_notice without_host
+        ∙ ap (option_map without_notice) (at_all v.ports x (forgets v.ports) (forgets_host v.ports) ∙ ap (option_map (forgets v.ports)) (came_is input w)))
+
+    ages : (n : Notice) → noticed u.ports x ≡ Some n → (n.age ≡ grown input age0) × (n.age ≤ 99)
+    ages n q = go (port_at w.ports x) refl (sym is ∙ q) where
+      go : (o : Option Port) → port_at w.ports x ≡ o
+          → option_and_then (λ (p : Port). p.desk.notice) (option_map without_notice (option_map (forgets v.ports) (option_map (came input) o))) ≡ Some n
+          → (n.age ≡ grown input age0) × (n.age ≤ 99)
+      go None z y = absurd (cc y)
+      go (Some p) z y =
+          came_age input p age0 n (λ m e. old m (ap (λ o. option_and_then (λ (p : Port). p.desk.notice) o) z ∙ e)) (stayed v.ports (came input p) n y)
+
+    none : notified x u.entries ≡ false
+    none = ap (notified x) (come_entries input w) ∙ (still_notified x w.entries (told_of_coming input w) (coming_mute input w) ∙ quiet)
+
+    begins_ages : AgesIn x (grown input age0) u
+    begins_ages = λ n q. let a = ages n q in (a.0 ∙ sym (ap (λ b. cond b 0 (grown input age0)) none), a.1)
+
+    pub before_ages : AgesIn x (grown input age0) (comes_to_pass input w)
+    before_ages =
+        unless (AgesIn x (grown input age0)) (all_done 0 (owed_in_step input w)) (has_synced input w)
+        (λ k a. else_ages x (grown input age0) 0 (owed_in_step input w) k
+        (all_owed_hold (IsElse x) (λ asker. tt) (λ to r. answer_other r []) (map (forgets v.ports) v.ports)) a)
+        (else_ages x (grown input age0) 0 (syncs_in input w) (has_freed input w) (all_synced_hold (IsElse x) (λ host id. tt) w.core input w.ports)
+        (else_ages x (grown input age0) 0 (forgotten v.ports) u (forgotten_hold (IsElse x) (λ asker. tt) v.ports) begins_ages))
+
+  -- ## A step
+
+  module _ (t : List Entry) (input : NodeInput) (w : Work) (a : IsOn x t w) (c : HasCome x t w a (has_come_so input w)) (age0 : ℕ)
+      (quiet : notified x w.entries ≡ false) (old : Each x (λ n. (n.age ≡ age0) × (n.age ≤ 99)) w) where
+    syncs_none : TellNoNotices (syncs_in input w)
+    syncs_none =
+        no_notices_flat (synced w.core input) (λ (p : Port). IsHost p.desk.host) (λ p host. synced_no_notices w.core input p host) w.ports a.hosts
+
+    stands : Stands x t (comes_to_pass input w)
+    stands =
+        let come : Work = has_come_so input w in
+        let left : List Port = map (forgets come.ports) come.ports in
+        then x t (all_done 0 (owed_in_step input w)) (has_synced input w)
+        (all_stand x t 0 (λ n. ⊥) (syncs_in input w) (has_freed input w) (λ n f. absurd f) (no_notices_may x (λ n. ⊥) (syncs_in input w) syncs_none)
+        (frees x t w a (Rattle.std.specs.List.filter (λ (c : Creation). Rattle.node_machine.specs.Node.is_over_at come.ports c.asker)
+        (Rattle.std.specs.List.filter_map asked_at come.ports)) (u input w age0 quiet old) (begun x t w a come c)))
+        (λ d. all_stand x t 0 (λ n. ⊥) (owed_in_step input w) (has_synced input w) (λ n f. absurd f)
+        (no_notices_may x (λ n. ⊥) (owed_in_step input w) (owed_all x t w a left)) d)
+
+    -- behind a step in which it keeps its power
+    pub step_ages : (steps input w).cut ≡ false → AgesIn x (grown input age0) (steps input w)
+    step_ages on = subst (AgesIn x (grown input age0)) (sym (steps_are input w)) (go (comes_to_pass input w).cut refl) where
+      k : Work
+      k = comes_to_pass input w
+
+      before : AgesIn x (grown input age0) k
+      before = before_ages input w age0 quiet old
+
+      still : (unless_cut passes k).cut ≡ false
+      still = ap (λ (z : Work). z.cut) (sym (steps_are input w)) ∙ on
+
+      go : (b : Bool) → k.cut ≡ b → AgesIn x (grown input age0) (unless_cut passes k)
+      go true z = let is : unless_cut passes k ≡ k = rw z refl in subst (AgesIn x (grown input age0)) (sym is) before
+      go false z =
+          let is : unless_cut passes k ≡ passes k = rw z refl in
+          subst (AgesIn x (grown input age0)) (sym is)
+          (pass_ages x t (grown input age0) k z (on_of x t (grown input age0) k stands z) before (ap (λ (y : Work). y.cut) (sym is) ∙ still))

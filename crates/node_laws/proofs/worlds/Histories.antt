@@ -1,0 +1,192 @@
+-- Over histories sessions end by resets exactly where those are due.
+use Rattle.std.proofs.Common.{◌≡◌, ℕ, Bool, true, false, List, [], ◌∷◌, ◌++◌, Option, Some, None, refl, sym, ap, subst, ◌∙◌, eqb}
+use Rattle.std.specs.List.{AllByRecursion, fold, list_any}
+use Rattle.std.proofs.lemmas.Bool.{eqb-true, eqb-false, eq-eqb}
+use Rattle.trace_model.specs.Lines.{IsHost}
+use Rattle.trace_model.specs.declared.entry.Entry.{Entry}
+use Rattle.trace_model.specs.declared.line.End.{End}
+use Rattle.trace_model.specs.declared.line.Header.{Header}
+use Rattle.trace_model.specs.declared.line.Line.{Line}
+use Rattle.node_machine.specs.Parts.{Init}
+use Rattle.node_machine.specs.world.World.{NodeWorld, Site, site_at, new_world, world_step, end_c, end_h}
+use Rattle.node_machine.specs.world.Lines.{Occurrence}
+use Rattle.node_machine.specs.world.NodeHistories.{NodeHistory, FollowsNodes, entries_in, node_entries, occurrences_in}
+use Rattle.node_laws.specs.kept.Hosts.{AreHosts, AreDifferent, IsFew, IsSentByHost}
+use Rattle.node_laws.specs.links.Runs.{ArePlayable}
+use Rattle.node_laws.specs.telling.Telling.{hosts_in, world_behind}
+use Rattle.node_laws.proofs.telling.Lasting.{AreCaused, lines_caused, events_of_steps}
+use Rattle.node_laws.proofs.telling.Nodes.{site_host}
+use Rattle.node_laws.proofs.telling.Orderly.{new_orderly}
+use Rattle.node_laws.proofs.telling.Worlds.{site_is}
+use Rattle.node_laws.proofs.order.Lines.{IsSo, history_so, host_number}
+use Rattle.node_laws.proofs.order.Sessions.{are_read}
+use Rattle.node_laws.proofs.order.Asked.{AreDone, done_back, history_done}
+use Rattle.node_laws.specs.notices.Worlds.{KeepsNotices, IsGoodSite}
+use Rattle.node_laws.proofs.creations.Lines.{history_keeps}
+use Rattle.node_laws.specs.views.Inits.{IsBegunByHost, init_behind}
+use Rattle.node_laws.proofs.views.InitWorlds.{AtSite, Keeps}
+use Rattle.node_laws.proofs.views.InitEvents.{MayKeep}
+use Rattle.node_laws.proofs.views.Lines.{none_zero}
+use Rattle.node_laws.specs.answers.Moments.{AtEachOccurrence}
+use Rattle.node_laws.specs.answers.Answered.{AreReset, ends_in}
+use Rattle.node_laws.specs.answers.Unasked.{is_reset_down, is_reset_due}
+use Rattle.std.proofs.Common.{append-nil}
+use Rattle.std.proofs.lemmas.List.Concat.{flat_map-append}
+use Rattle.node_machine.specs.world.World.{Happening}
+use Rattle.node_machine.specs.world.NodeHistories.{steps_from}
+use Rattle.node_laws.specs.telling.Telling.{MayBoot}
+use Rattle.node_laws.proofs.telling.Lasting.{AnyLine, EachHolds, all_lines, boots_may, front_each, lines_each, occurs}
+use Rattle.node_laws.proofs.notices.Events.{begins_read, event_read}
+use Rattle.node_laws.proofs.worlds.Aging.{aged_read}
+use Rattle.node_laws.proofs.worlds.Quiet.{front_keeps, new_keeps, keeps_none}
+use Rattle.node_laws.proofs.views.InitLines.{line_may}
+use Rattle.node_laws.proofs.worlds.Ticking.{NoNotices, IfNoNotices}
+use Rattle.node_laws.proofs.worlds.Resetting.{AgesAreRead, IsReadBefore, near_is, far_is}
+
+-- ## Sites
+
+pub of_hosts : (Q : ℕ → Type 0) (sites : List Site) → AllByRecursion Q (hosts_in sites) → AllByRecursion (λ (s : Site). Q s.host) sites
+of_hosts Q [] a = tt
+of_hosts Q (s ∷ sites) a = (a.0, of_hosts Q sites a.1)
+
+-- so it is with each site where it is so with each that is found
+all_found : (P : Site → Type 0) (sites : List Site) → AreDifferent (hosts_in sites) → ((h : ℕ) (s : Site) → site_at sites h ≡ Some s → P s)
+    → AllByRecursion P sites
+all_found P [] d f = tt
+all_found P (s ∷ sites) d f = (f s.host s (rw (eq-eqb s.host s.host refl) refl), all_found P sites d.1 later) where
+  later : (h : ℕ) (z : Site) → site_at sites h ≡ Some z → P z
+  later h z found = go (eqb s.host h) refl where
+    other : eqb h s.host ≡ false
+    other = subst (λ n. eqb n s.host ≡ false) (site_host sites h z found)
+        (site_is (λ (x : Site). eqb x.host s.host ≡ false) sites h z (of_hosts (λ k. eqb k s.host ≡ false) sites d.0) found)
+
+    go : (b : Bool) → eqb s.host h ≡ b → P z
+    go true q = absurd (eqb-false h s.host other (sym (eqb-true s.host h q)))
+    go false q = f h z (rw q found)
+
+-- each host has its site
+abbrev IsFound : List Site → ℕ → Type 0
+IsFound sites h = (s : Site) × (site_at sites h ≡ Some s)
+
+each_found : (sites : List Site) → AllByRecursion (IsFound sites) (hosts_in sites)
+each_found [] = tt
+each_found (s ∷ sites) = ((s, rw (eq-eqb s.host s.host refl) refl), more (hosts_in sites) (each_found sites)) where
+  one : (h : ℕ) → IsFound sites h → IsFound (s ∷ sites) h
+  one h found = go (eqb s.host h) refl where
+    go : (b : Bool) → eqb s.host h ≡ b → IsFound (s ∷ sites) h
+    go true q = (s, rw q refl)
+    go false q = (found.0, rw q found.1)
+
+  more : (hosts : List ℕ) → AllByRecursion (IsFound sites) hosts → AllByRecursion (IsFound (s ∷ sites)) hosts
+  more [] a = tt
+  more (h ∷ hosts) a = (one h a.0, more hosts a.1)
+
+-- both ends of each link
+all_ends : (P : End → Type 0) (hosts : List ℕ) → AllByRecursion (λ h. P (end_c h) × P (end_h h)) hosts → AllByRecursion P (ends_in hosts)
+all_ends P [] a = tt
+all_ends P (h ∷ hosts) a = (a.0.0, (a.0.1, all_ends P hosts a.1))
+
+-- ## Ages
+
+-- a world whose notices are read, and are as old as is read
+record IsAgedSo (past : List Occurrence) (w : NodeWorld) : Type 0 where
+  notices : KeepsNotices (entries_in past) w
+  ages : AgesAreRead past w.controller
+
+aged_so : (past : List Occurrence) (w : NodeWorld) (c : Happening) → IsAgedSo past w → MayBoot w c → IsAgedSo (past ++ occurs w c ∷ []) (world_step w c).0
+aged_so past w c a may =
+    let es : List Entry = (world_step w c).1 in
+    let same : entries_in (past ++ occurs w c ∷ []) ≡ entries_in past ++ es =
+    flat_map-append (λ (o : Occurrence). o.entries) past (occurs w c ∷ []) ∙ ap (λ z. entries_in past ++ z) (append-nil es) in
+    record {
+      notices = subst (λ u. KeepsNotices u (world_step w c).0) (sym same) (event_read (entries_in past) w c a.notices may);
+      ages = aged_read past w c a.notices a.ages;
+    }
+
+pub ages_read : (header : Header) (lines : List Line) (t : NodeHistory) → FollowsNodes header lines t → AreHosts header.hosts.items
+    → (past back : List Occurrence) → occurrences_in t ≡ past ++ back → AgesAreRead past (world_behind (new_world header.hosts.items) past).controller
+ages_read header lines t follows are past back parts =
+    let hosts : List ℕ = header.hosts.items in
+    let P : List Occurrence → Type 0 = λ events. EachHolds IsAgedSo MayBoot AnyLine aged_so boots_may [] (new_world hosts) events in
+    let is : events_of_steps (steps_from (new_world hosts) lines) ≡ past ++ back = ap events_of_steps (sym follows.steps_are) ∙ parts in
+    (front_each IsAgedSo MayBoot AnyLine aged_so boots_may past back [] (new_world hosts)
+    (subst P is (lines_each IsAgedSo MayBoot AnyLine aged_so boots_may lines [] (new_world hosts)
+    (record { notices = begins_read hosts are; ages = tt }) (all_lines lines)))).ages
+
+module _ (header : Header) (lines : List Line) (t : NodeHistory) (follows : FollowsNodes header lines t) (are : AreHosts header.hosts.items)
+    (playable : ArePlayable lines) (sent : AllByRecursion IsSentByHost lines) (sides : AllByRecursion IsBegunByHost lines)
+    (few : IsFew (node_entries t)) where
+  abbrev hosts : List ℕ
+  hosts = header.hosts.items
+
+  module _ (past back : List Occurrence) (parts : occurrences_in t ≡ past ++ back) where
+    abbrev w : NodeWorld
+    w = world_behind (new_world hosts) past
+
+    so : IsSo hosts past w
+    so = history_so header lines t follows are playable past back parts
+
+    notices : KeepsNotices (entries_in past) w
+    notices = (history_keeps header lines t follows are sent few past back parts).notices
+
+    pub quiet : NoNotices w.sites
+    quiet = all_found (λ (s : Site). IfNoNotices s.node) w.sites so.well.orderly.different one where
+      same : events_of_steps (Rattle.node_machine.specs.world.NodeHistories.steps_from (new_world hosts) lines) ≡ past ++ back
+      same = sym (ap events_of_steps follows.steps_are) ∙ parts
+
+      one : (h : ℕ) (s : Site) → site_at w.sites h ≡ Some s → IfNoNotices s.node
+      one h s found =
+          let host : IsHost h = subst IsHost (site_host w.sites h s found) (site_is IsGoodSite w.sites h s notices.sites found).host in
+          let i : Option Init = fold (init_behind h) None past in
+          let keeps : Keeps h host w i =
+          front_keeps h host past back (new_world hosts) None (new_orderly hosts are.different (none_zero hosts are.all)) (new_keeps h host hosts)
+          (subst (AreCaused MayKeep (new_world hosts)) same (lines_caused MayKeep IsBegunByHost line_may lines (new_world hosts) sides)) in
+          keeps_none i s (subst (AtSite i) found keeps)
+
+    module _ (ages : AgesAreRead past w.controller) where
+      pub read_before : IsReadBefore past w
+      read_before = record {
+        orderly = so.well.orderly;
+        notices = notices;
+        sessions = λ x s found. are_read x s.link (entries_in past) (host_number w x s so.well.orderly found) (so.each x s found).told;
+        quiet = quiet;
+        ages = ages;
+      }
+
+  -- Sessions end by resets exactly where those are due.
+  pub resets_due : AtEachOccurrence t (AreReset t.header.hosts.items)
+  resets_due past back o parts =
+      subst (λ (h : Header). AreReset h.hosts.items past o) (sym follows.header_is)
+      (all_ends (λ e. list_any (is_reset_down e) o.entries ≡ is_reset_due past o e) hosts
+      (subst (AllByRecursion (λ h. Due (end_c h) × Due (end_h h))) (so past (o ∷ back) parts).hosts_are
+      (both (hosts_in v.sites) (each_found v.sites)))) where
+        v : NodeWorld
+        v = world_behind (new_world hosts) past
+
+        Due : End → Type 0
+        Due e = list_any (is_reset_down e) o.entries ≡ is_reset_due past o e
+
+        done : AreDone v (o ∷ back)
+        done = done_back past (o ∷ back) (new_world hosts) (subst (AreDone (new_world hosts)) parts (history_done header lines t follows playable))
+
+        before : IsReadBefore past v
+        before = read_before past (o ∷ back) parts (ages_read header lines t follows are past (o ∷ back) parts)
+
+        as_noted : (e : End) → list_any (is_reset_down e) (world_step v o.cause).1 ≡ is_reset_due past (record {
+          cause = o.cause;
+          entries =
+              (world_step v o.cause).1;
+        }) e
+            → Due e
+        as_noted e z =
+            subst (λ es. list_any (is_reset_down e) es ≡ is_reset_due past (record { cause = o.cause; entries = es }) e) (sym done.0.0) z
+
+        both : (hs : List ℕ) → AllByRecursion (IsFound v.sites) hs → AllByRecursion (λ h. Due (end_c h) × Due (end_h h)) hs
+        both [] a = tt
+        both (h ∷ hs) a = (
+          (
+            as_noted (end_c h) (near_is past v before h a.0.0 a.0.1 o.cause done.0.1.1),
+            as_noted (end_h h) (far_is past v before h a.0.0 a.0.1 o.cause done.0.1.1),
+          ),
+          both hs a.1,
+        )

@@ -1,0 +1,223 @@
+-- In each event of a world what comes to a node is noted before what it answers.
+use Rattle.std.proofs.Common.{◌≡◌, ℕ, Bool, true, false, List, [], ◌∷◌, ◌++◌, None, refl, sym, subst}
+use Rattle.std.specs.Prelude.{◌==◌}
+use Rattle.std.specs.List.{AllByRecursion, flat_map}
+use Rattle.std.proofs.lemmas.Bool.{eqb-true}
+use Rattle.registry.proofs.ValueLemmas.{AllByRecursion-append as all_append}
+use Rattle.trace_model.specs.declared.entry.Entry.{Entry}
+use Rattle.trace_model.specs.declared.line.End.{End}
+use Rattle.trace_model.specs.declared.line.Header.{Header}
+use Rattle.trace_model.specs.declared.line.Line.{Line}
+use Rattle.link_laws.specs.machine.Machine.LinkInput.{Start}
+use Rattle.link_laws.specs.messages.Links.{Loss, Comes, aged, exchanged}
+use Rattle.link_laws.specs.messages.Links.Comes.{NextFrame, AsksReset, Starts, NoInput}
+use Rattle.link_laws.specs.entries.Entries.{first_lost, aged_entries}
+use Rattle.link_laws.specs.entries.Entries.End.{Controller, Host}
+use Rattle.history.specs.Steps.{entries_for}
+use Rattle.node_machine.specs.Parts.{Work, Deed}
+use Rattle.node_machine.specs.Node.{steps, begins_with}
+use Rattle.node_machine.specs.Node.NodeInput.{AtEnd, TimePasses}
+use Rattle.node_machine.specs.world.World.{Site, NodeWorld, Happening, site_at, link_to, wires_for, work_of, frames_noted}
+use Rattle.node_machine.specs.world.World.{comes_to, controller_work, host_work, host_does}
+use Rattle.node_machine.specs.world.World.{boots, frame_lost, all_aged, controller_ticks, host_ticks, hosts_tick, world_ticks, sending}
+use Rattle.node_machine.specs.world.World.{beginning, comes_at, end_c, end_h}
+use Rattle.node_machine.specs.world.World.{world_step, controller_does, activates, new_world}
+use Rattle.node_machine.specs.world.World.Happening.{Boots, IsCut, Gives, Inits, Takes, Loses, Ticks, Resets, Activates, Arms}
+use Rattle.node_machine.specs.world.Lines.{Occurrence, happenings}
+use Rattle.node_machine.specs.world.NodeHistories.{LineStep, NodeHistory, FollowsNodes, occurrences_of, occurrences_in}
+use Rattle.node_machine.proofs.world.Cases.{by_controller, by_host, by_coming, by_boot, by_loss, near_tick, by_controller_tick, host_tick, by_host_tick}
+use Rattle.node_laws.specs.kept.Hosts.{AreDifferent}
+use Rattle.node_laws.specs.telling.Telling.{hosts_in, IsOrderly}
+use Rattle.node_laws.proofs.telling.Lasting.{Any, AnyLine, all_any, all_lines, AreCaused, lines_caused}
+use Rattle.node_laws.proofs.telling.Orderly.{step_orderly, new_orderly}
+use Rattle.node_laws.proofs.telling.Events.{orderly_map, comes_goes}
+use Rattle.node_laws.proofs.telling.WorldTicks.{near_orderly}
+use Rattle.node_laws.proofs.telling.Frames.{lost_all, wires_all}
+use Rattle.node_laws.specs.passes.Steps.{controller_begins, controller_tick_begins}
+use Rattle.node_laws.specs.power.Powers.{AreNotOf}
+use Rattle.node_laws.proofs.power.Parts.{own_not, part_own}
+use Rattle.node_laws.specs.answers.Order.{NodesHearFirst}
+use Rattle.node_laws.proofs.worlds.Steps.{host_begins}
+use Rattle.node_laws.proofs.worlds.Hearing.{IsFrame, IsParted, IsUnheard, AreUnheard, AreUnanswered, NotesUnheard, frames_unheard, out_unheard}
+use Rattle.node_laws.proofs.worlds.Hearing.{arrival_unanswered}
+use Rattle.node_laws.proofs.worlds.Hearing.{step_parted, deeds_parted, sending_unheard, beginning_unheard, IsUnanswered}
+use Rattle.node_laws.proofs.power.Events.{AreNodes, both_nodes, comes_part, far_tick, near_ticks_part, no_site, none_zero, others_tick}
+use Rattle.node_laws.proofs.worlds.Order.{IsPartedFor, parted_for, others_behind, not_of_before, unanswered_before, first_heard}
+
+flat_unheard : (f : Site → List Entry) → ((s : Site) → AreUnheard (f s)) → (sites : List Site) → AreUnheard (flat_map f sites)
+flat_unheard f one [] = tt
+flat_unheard f one (s ∷ sites) = all_append IsUnheard (f s) (flat_map f sites) (one s) (flat_unheard f one sites)
+
+only_back : (es : List Entry) → AreUnheard es → IsParted es
+only_back es a = record { front = []; back = es; is = refl; unanswered = tt; unheard = a }
+
+-- ## Steps
+
+near_parted : (w : NodeWorld) (k : ℕ) (comes : Comes) (i : Rattle.link_laws.specs.machine.Machine.LinkInput) → IsParted (controller_does w k comes (steps
+    (AtEnd k i))).1
+near_parted w k comes i =
+    by_controller (λ p. IsParted p.1) w k comes (steps (AtEnd k i)) (only_back [] tt)
+    (λ r q.
+    let v : Work = controller_work w r k comes (steps (AtEnd k i)) in
+    step_parted (AtEnd k i) (controller_begins w r k comes)
+    (flat_map (λ (s : Site). frames_noted Controller s.host (wires_for s.link (comes_to k comes s.host)) v) w.sites)
+    (arrival_unanswered Controller k (link_to w.sites k) comes)
+    (flat_unheard (λ (s : Site). frames_noted Controller s.host (wires_for s.link (comes_to k comes s.host)) v)
+    (λ s. out_unheard Controller s.host (wires_for s.link (comes_to k comes s.host)) v) w.sites))
+
+far_parted : (w : NodeWorld) (k : ℕ) (comes : Comes) (i : Rattle.link_laws.specs.machine.Machine.LinkInput)
+    → IsParted (host_does w k comes (steps (AtEnd k i))).1
+far_parted w k comes i =
+    by_host (λ p. IsParted p.1) w k comes (steps (AtEnd k i)) (only_back [] tt)
+    (λ s r found q.
+    step_parted (AtEnd k i) (host_begins s r comes) (frames_noted Host k (wires_for (exchanged s.link) comes) (host_work s r comes (steps (AtEnd k i))))
+    (arrival_unanswered Host s.host (exchanged s.link) comes)
+    (out_unheard Host k (wires_for (exchanged s.link) comes) (host_work s r comes (steps (AtEnd k i)))))
+
+comes_parted : (w : NodeWorld) (e : End) (comes : Comes) → IsParted (comes_at w e comes).1
+comes_parted w e comes =
+    by_coming (λ p. IsParted p.1) w e comes (only_back [] tt) (λ i at q. far_parted w e.link comes i) (λ i at q. near_parted w e.link comes i)
+
+begins_parted : (w : NodeWorld) (h : ℕ) (deeds : List Deed) → AllByRecursion NotesUnheard deeds → IsParted (host_does w h NoInput (begins_with h deeds)).1
+begins_parted w h deeds may =
+    by_host (λ p. IsParted p.1) w h NoInput (begins_with h deeds) (only_back [] tt)
+    (λ s r found q.
+    deeds_parted h deeds (host_begins s r NoInput)
+    (frames_noted Host h (wires_for (exchanged s.link) NoInput) (host_work s r NoInput (begins_with h deeds))) may
+    (arrival_unanswered Host s.host (exchanged s.link) NoInput)
+    (out_unheard Host h (wires_for (exchanged s.link) NoInput) (host_work s r NoInput (begins_with h deeds))))
+
+lost_parted : (w : NodeWorld) (e : End) (why : Loss) → IsParted (frame_lost w e why).1
+lost_parted w e why =
+    by_loss (λ p. IsParted p.1) w e why
+    (λ z. only_back _ (frames_unheard e.link (first_lost Host why (link_to w.sites e.link).to_host)
+    (lost_all IsFrame (λ w c. tt) (λ w c. tt) (λ w c why. tt) (λ w. tt) Host why (link_to w.sites e.link).to_host)).0)
+    (λ z. only_back _ (frames_unheard e.link (first_lost Controller why (link_to w.sites e.link).to_controller)
+    (lost_all IsFrame (λ w c. tt) (λ w c. tt) (λ w c why. tt) (λ w. tt) Controller why (link_to w.sites e.link).to_controller)).0)
+
+boots_parted : (w : NodeWorld) (n : ℕ) → IsParted (boots w n).1
+boots_parted w n = by_boot (λ p. IsParted p.1) w n (only_back _ (refl, tt)) (only_back _ (refl, tt))
+
+-- ## Activation
+
+activates_parted : (n : ℕ) (w : NodeWorld) → IsOrderly w → (h sync power : ℕ) → IsPartedFor n (activates w h sync power).1
+activates_parted n w a h sync power = go (0 == n) refl where
+  near : NodeWorld × List Entry
+  near = comes_at w (end_c h) (Starts power)
+
+  far : NodeWorld × List Entry
+  far = comes_at near.0 (end_h h) (Starts sync)
+
+  b : IsOrderly near.0
+  b = (comes_goes w (end_c h) (Starts power) a).orderly
+
+  zero_far : (c : Bool) → (h == 0) ≡ c → AreNotOf 0 far.1
+  zero_far false q = own_not h 0 far.1 q (part_own h far.1 (comes_part near.0 (end_h h) (Starts sync) b))
+  zero_far true q =
+      let none : site_at near.0.sites h ≡ None = no_site near.0.sites h q b.hosts in
+      let is : far.1 ≡ [] = rw none refl in
+      subst (AreNotOf 0) (sym is) tt
+
+  go : (c : Bool) → (0 == n) ≡ c → IsPartedFor n (near.1 ++ far.1)
+  go false q =
+      not_of_before n far.1 near.1 (own_not 0 n near.1 q (part_own 0 near.1 (comes_part w (end_c h) (Starts power) a)))
+      (parted_for n far.1 (comes_parted near.0 (end_h h) (Starts sync)))
+  go true q =
+      others_behind n near.1 far.1 (parted_for n near.1 (comes_parted w (end_c h) (Starts power)))
+      (subst (λ m. AreNotOf m far.1) (eqb-true 0 n q) (zero_far (h == 0) refl))
+
+-- ## Ticks
+
+host_parted : (s : Site) → IsParted (host_ticks s).1
+host_parted s =
+    by_host_tick (λ p. IsParted p.1) s (λ q. only_back [] tt)
+    (λ r q. step_parted TimePasses (work_of r s.memory.plan (λ h. s.link.host) []) (frames_noted Host s.host (exchanged s.link) (host_tick s r)) tt
+    (out_unheard Host s.host (exchanged s.link) (host_tick s r)))
+
+hosts_parted : (n : ℕ) (sites : List Site) → AreDifferent (hosts_in sites) → AreNodes sites → IsPartedFor n (hosts_tick sites).1
+hosts_parted n [] d a = parted_for n [] (only_back [] tt)
+hosts_parted n (s ∷ sites) d a = go (s.host == n) refl (hosts_parted n sites d.1 a.1) where
+  go : (c : Bool) → (s.host == n) ≡ c → IsPartedFor n (hosts_tick sites).1 → IsPartedFor n ((host_ticks s).1 ++ (hosts_tick sites).1)
+  go false q later =
+      not_of_before n (hosts_tick sites).1 (host_ticks s).1 (own_not s.host n (host_ticks s).1 q (part_own s.host (host_ticks s).1 (far_tick s a.0.0 a.0.1)))
+      later
+  go true q later =
+      others_behind n (host_ticks s).1 (hosts_tick sites).1 (parted_for n (host_ticks s).1 (host_parted s))
+      (subst (λ m. AreNotOf m (hosts_tick sites).1) (eqb-true s.host n q) (others_tick s.host sites d.0 a.1))
+
+pub aged_unanswered : (sites : List Site)
+    → AreUnanswered (flat_map (λ (s : Site). entries_for s.host (aged_entries Controller s.link.to_controller ++ aged_entries Host s.link.to_host)) sites)
+aged_unanswered [] = tt
+aged_unanswered (s ∷ sites) =
+    all_append IsUnanswered (entries_for s.host (aged_entries Controller s.link.to_controller ++ aged_entries Host s.link.to_host)) _
+    (frames_unheard s.host (aged_entries Controller s.link.to_controller ++ aged_entries Host s.link.to_host)
+    (wires_all IsFrame (λ w c. tt) (λ w c. tt) (λ w c why. tt) (λ w. tt) Controller Host s.link.to_controller s.link.to_host)).1
+    (aged_unanswered sites)
+
+ticks_parted : (n : ℕ) (w : NodeWorld) → IsOrderly w → IsPartedFor n (world_ticks w).1
+ticks_parted n w a = unanswered_before n (near.1 ++ (hosts_tick near.0.sites).1) (all_aged w).1 (aged_unanswered w.sites) (go (0 == n) refl) where
+  old : NodeWorld
+  old = (all_aged w).0
+
+  near : NodeWorld × List Entry
+  near = controller_ticks old
+
+  b : IsOrderly old
+  b = orderly_map w w.memory w.controller (λ (x : Site). record x { link = aged x.link }) (λ x. refl) a a.controller (λ x n. n)
+
+  kept : IsOrderly (record { memory = old.memory; controller = None; sites = near.0.sites })
+  kept = near_orderly old b
+
+  nodes : AreNodes near.0.sites
+  nodes = both_nodes near.0.sites kept.hosts kept.nodes
+
+  first : IsParted near.1
+  first =
+      by_controller_tick (λ p. IsParted p.1) old (λ q. only_back [] tt)
+      (λ r q. step_parted TimePasses (controller_tick_begins old r)
+      (flat_map (λ (s : Site). frames_noted Controller s.host s.link (near_tick old r)) old.sites) tt
+      (flat_unheard (λ (s : Site). frames_noted Controller s.host s.link (near_tick old r)) (λ s. out_unheard Controller s.host s.link (near_tick old r))
+      old.sites))
+
+  go : (c : Bool) → (0 == n) ≡ c → IsPartedFor n (near.1 ++ (hosts_tick near.0.sites).1)
+  go false q =
+      not_of_before n (hosts_tick near.0.sites).1 near.1 (own_not 0 n near.1 q (part_own 0 near.1 (near_ticks_part old b)))
+      (hosts_parted n near.0.sites kept.different nodes)
+  go true q =
+      others_behind n near.1 (hosts_tick near.0.sites).1 (parted_for n near.1 first)
+      (subst (λ m. AreNotOf m (hosts_tick near.0.sites).1) (eqb-true 0 n q) (others_tick 0 near.0.sites (none_zero near.0.sites kept.hosts) nodes))
+
+-- ## Events
+
+event_parted : (n : ℕ) (w : NodeWorld) (c : Happening) → IsOrderly w → IsPartedFor n (world_step w c).1
+event_parted n w (Boots k) a = parted_for n _ (boots_parted w k)
+event_parted n w (IsCut k) a = parted_for n _ (only_back _ (refl, tt))
+event_parted n w (Gives e m) a = parted_for n _ (begins_parted w e.link (sending e.link m) (sending_unheard e.link m))
+event_parted n w (Inits e identity pipes) a = parted_for n _ (begins_parted w e.link (beginning identity pipes) (beginning_unheard identity pipes))
+event_parted n w (Takes e) a = parted_for n _ (comes_parted w e NextFrame)
+event_parted n w (Loses e why) a = parted_for n _ (lost_parted w e why)
+event_parted n w Ticks a = ticks_parted n w a
+event_parted n w (Resets e window) a = parted_for n _ (comes_parted w e (AsksReset window))
+event_parted n w (Activates h sync power) a = activates_parted n w a h sync power
+event_parted n w (Arms k plan) a = parted_for n [] (only_back [] tt)
+
+-- ## Histories
+
+each_parted : (n : ℕ) (past later : List Occurrence) (o : Occurrence) (w : NodeWorld) → IsOrderly w → AreCaused Any w (past ++ (o ∷ later))
+    → IsPartedFor n o.entries
+each_parted n [] later o w a caused = subst (IsPartedFor n) (sym caused.0) (event_parted n w o.cause a)
+each_parted n (x ∷ past) later o w a caused = each_parted n past later o (world_step w x.cause).0 (step_orderly w x.cause a) caused.2
+
+pub hear_first : (header : Header) (lines : List Line) (t : NodeHistory) → FollowsNodes header lines t → AreDifferent header.hosts.items
+    → AllByRecursion (λ h. (h == 0) ≡ false) header.hosts.items → NodesHearFirst t
+hear_first header lines t follows different numbers past back o front behind x is split n answers =
+    first_heard n o.entries front behind x
+    (each_parted n past back o w (new_orderly header.hosts.items different numbers) (subst (AreCaused Any w) is caused)) split answers
+  where
+    w : NodeWorld
+    w = new_world header.hosts.items
+
+    caused : AreCaused Any w (occurrences_in t)
+    caused =
+        subst (λ steps. AreCaused Any w (flat_map (λ (s : LineStep). occurrences_of s.outcome) steps)) (sym follows.steps_are)
+        (lines_caused Any AnyLine (λ v l is none. all_any v (happenings v l)) lines w (all_lines lines))

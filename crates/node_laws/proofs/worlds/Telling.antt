@@ -1,0 +1,173 @@
+-- Which sessions end in a step of a node, by its ends.
+use Rattle.std.proofs.Common.{◌≡◌, ℕ, Bool, true, false, cond, List, [], ◌∷◌, map, Option, Some, None, refl, sym}
+use Rattle.std.proofs.Common.{ap, ap₂, subst, ◌∙◌, ◌||◌, ◌&&◌, eqb, append-nil}
+use Rattle.std.specs.List.{AllByRecursion, flat_map}
+use Rattle.std.specs.Option.{option_map_or, option_map}
+use Rattle.std.proofs.lemmas.Bool.{eqb-true, eqb-false, ne_eqb}
+use Rattle.swp_base.specs.declared.link_terms.Cause.{Cause as EndedBy}
+use Rattle.trace_model.specs.declared.entry.Entry.{Entry}
+use Rattle.trace_model.specs.declared.line.End.{End}
+use Rattle.link_laws.specs.machine.Machine.{LinkInput}
+use Rattle.link_laws.specs.machine.Machine.LinkInput.{Tick, Reset}
+use Rattle.link_laws.specs.entries.Entries.End.{Controller, Host}
+use Rattle.history.specs.Filters.{same_end}
+use Rattle.history.specs.Steps.{end_of}
+use Rattle.node_machine.specs.Parts.{Core, Port, Work}
+use Rattle.node_machine.specs.Carrying.{own_side, port_at}
+use Rattle.node_machine.specs.Node.{NodeInput, input_at, told_at, has_come, all_come, with_older, is_late, told_late, steps}
+use Rattle.node_machine.specs.Node.NodeInput.{AtEnd, TimePasses}
+use Rattle.node_machine.specs.world.World.{end_c, end_h}
+use Rattle.node_laws.specs.kept.Books.{hosts_of_ends}
+use Rattle.node_laws.specs.kept.Hosts.{AreDifferent}
+use Rattle.node_laws.proofs.kept.Plainly.{hosts_map}
+use Rattle.node_laws.proofs.links.Noticing.{at_all}
+use Rattle.node_laws.specs.passes.Steps.{told_of_coming, told_of_late}
+use Rattle.node_laws.proofs.worlds.Downs.{AreDownless, ends_in_list, any_append, any_front, ends_by, at_any, step_tells}
+
+and_none : (b : Bool) → (b && false) ≡ false
+and_none true = refl
+and_none false = refl
+
+and_true : (b : Bool) → (b && true) ≡ b
+and_true true = refl
+and_true false = refl
+
+pub near_same : (h x : ℕ) → same_end (end_of h Controller) (end_c x) ≡ eqb h x
+near_same h x = and_true (eqb h x)
+
+pub far_same : (h x : ℕ) → same_end (end_of h Host) (end_h x) ≡ eqb h x
+far_same h x = and_true (eqb h x)
+
+pub near_far : (h x : ℕ) → same_end (end_of h Controller) (end_h x) ≡ false
+near_far h x = and_none (eqb h x)
+
+pub far_near : (h x : ℕ) → same_end (end_of h Host) (end_c x) ≡ false
+far_near h x = and_none (eqb h x)
+
+-- an end as a tick has come to it
+abbrev pub ticked : Port → Port
+ticked p = with_older (has_come p (Some Tick))
+
+module _ (test : EndedBy → Bool) (e : End) where
+  abbrev tells : List Entry → Bool
+  tells es = ends_in_list test e es
+
+  -- ## Nothing
+
+  pub flat_none : (f : Port → List Entry) → ((p : Port) → tells (f p) ≡ false) → (ports : List Port) → tells (flat_map f ports) ≡ false
+  flat_none f one [] = refl
+  flat_none f one (p ∷ ports) =
+      any_append test e (f p) (flat_map f ports) ∙ (ap (λ b. b || tells (flat_map f ports)) (one p) ∙ flat_none f one ports)
+
+  late_one : (core : Core) (p : Port) → tells (told_late core p) ≡ (is_late p && tells (told_at core p (Some (Reset None))))
+  late_one core p = go (is_late p) where
+    go : (b : Bool) → tells (cond b (told_at core p (Some (Reset None))) []) ≡ (b && tells (told_at core p (Some (Reset None))))
+    go true = refl
+    go false = refl
+
+  -- what comes ends none so, and no notice is late
+  pub step_none : (k : ℕ) (i : LinkInput) (w : Work) → AreDownless w.entries → ((p : Port) → ends_by test e p (Some i) ≡ false)
+      → tells (steps (AtEnd k i) w).entries ≡ false
+  step_none k i w quiet none =
+      step_tells test e (AtEnd k i) w
+      ∙ (any_front test e w.entries (told_of_coming (AtEnd k i) w) quiet
+      ∙ (ap tells (append-nil (flat_map (λ p. told_at w.core p (input_at (AtEnd k i) p)) w.ports))
+      ∙ flat_none (λ p. told_at w.core p (input_at (AtEnd k i) p)) one w.ports)) where
+        one : (p : Port) → tells (told_at w.core p (input_at (AtEnd k i) p)) ≡ false
+        one p = at_any test e w.core p (input_at (AtEnd k i) p) ∙ (ap (λ b. same_end (end_of p.desk.host (own_side w.core)) e && b)
+            (go (eqb p.desk.host k)) ∙ and_none (same_end (end_of p.desk.host (own_side w.core)) e)) where
+              go : (b : Bool) → ends_by test e p (cond b (Some i) None) ≡ false
+              go true = none p
+              go false = refl
+
+  -- the end is none of the node
+  pub step_other : (input : NodeInput) (w : Work) → AreDownless w.entries → ((h : ℕ) → same_end (end_of h (own_side w.core)) e ≡ false)
+      → tells (steps input w).entries ≡ false
+  step_other input w quiet other =
+      step_tells test e input w
+      ∙ (any_front test e w.entries (told_of_coming input w) quiet
+      ∙ (any_append test e (flat_map (λ p. told_at w.core p (input_at input p)) w.ports) (told_of_late input (all_come input w))
+      ∙ ap₂ (λ a b. a || b) (flat_none (λ p. told_at w.core p (input_at input p)) (λ p. one p (input_at input p)) w.ports) (late input))) where
+        one : (p : Port) (o : Option LinkInput) → tells (told_at w.core p o) ≡ false
+        one p o = at_any test e w.core p o ∙ ap (λ b. b && ends_by test e p o) (other p.desk.host)
+
+        late : (input : NodeInput) → tells (told_of_late input (all_come input w)) ≡ false
+        late (AtEnd h i) = refl
+        late TimePasses =
+            flat_none (told_late w.core) (λ p. late_one w.core p ∙ (ap (λ b. is_late p && b) (one p (Some (Reset None))) ∙ and_none (is_late p)))
+            (map with_older (all_come TimePasses w).ports)
+
+  -- ## Something
+
+  module _ (x : ℕ) where
+    pub flat_any : (f : Port → List Entry) (g : Port → Bool) → ((p : Port) → tells (f p) ≡ (eqb p.desk.host x && g p)) → (ports : List Port)
+        → AreDifferent (hosts_of_ends ports) → tells (flat_map f ports) ≡ option_map_or g (port_at ports x) false
+    flat_any f g one [] d = refl
+    flat_any f g one (p ∷ ports) d =
+        any_append test e (f p) (flat_map f ports) ∙ (ap (λ b. b || tells (flat_map f ports)) (one p) ∙ go (eqb p.desk.host x) refl
+        (flat_any f g one ports d.1))
+      where
+        or_none : (b : Bool) → (b || false) ≡ b
+        or_none true = refl
+        or_none false = refl
+
+        others : (ports : List Port) → AllByRecursion (λ (k : ℕ). eqb k p.desk.host ≡ false) (hosts_of_ends ports) → eqb p.desk.host x ≡ true
+            → tells (flat_map f ports) ≡ false
+        others [] a q = refl
+        others (r ∷ ports) a q =
+            any_append test e (f r) (flat_map f ports)
+            ∙ ap₂ (λ a b. a || b) (one r ∙ ap (λ b. b && g r) (ne_eqb r.desk.host x (λ s. eqb-false r.desk.host p.desk.host a.0
+            (s ∙ sym (eqb-true p.desk.host x q))))) (others ports a.1 q)
+
+        go : (b : Bool) → eqb p.desk.host x ≡ b → tells (flat_map f ports) ≡ option_map_or g (port_at ports x) false
+            → ((b && g p) || tells (flat_map f ports)) ≡ option_map_or g (port_at (p ∷ ports) x) false
+        go true q later = rw q (ap (λ b. g p || b) (others ports d.0 q) ∙ or_none (g p))
+        go false q later = rw q later
+
+    module _ (w : Work) (quiet : AreDownless w.entries) (different : AreDifferent (hosts_of_ends w.ports))
+        (mine : (h : ℕ) → same_end (end_of h (own_side w.core)) e ≡ eqb h x) where
+      one : (p : Port) (o : Option LinkInput) → tells (told_at w.core p o) ≡ (eqb p.desk.host x && ends_by test e p o)
+      one p o = at_any test e w.core p o ∙ ap (λ b. b && ends_by test e p o) (mine p.desk.host)
+
+      -- the session of an end ends as what comes to it ends it
+      pub step_at : (k : ℕ) (i : LinkInput)
+          → tells (steps (AtEnd k i) w).entries ≡ option_map_or (λ p. ends_by test e p (input_at (AtEnd k i) p)) (port_at w.ports x) false
+      step_at k i =
+          step_tells test e (AtEnd k i) w
+          ∙ (any_front test e w.entries (told_of_coming (AtEnd k i) w) quiet
+          ∙ (ap tells (append-nil (flat_map (λ p. told_at w.core p (input_at (AtEnd k i) p)) w.ports))
+          ∙ flat_any (λ p. told_at w.core p (input_at (AtEnd k i) p)) (λ p. ends_by test e p (input_at (AtEnd k i) p))
+          (λ p. one p (input_at (AtEnd k i) p)) w.ports different))
+
+      -- or as a tick comes, and then as a late notice resets its link
+      pub step_tick : tells (steps TimePasses w).entries
+          ≡ option_map_or (λ p. ends_by test e p (Some Tick) || (is_late (ticked p) && ends_by test e (ticked p) (Some (Reset None)))) (port_at w.ports x) false
+      step_tick =
+          step_tells test e TimePasses w
+          ∙ (any_front test e w.entries (told_of_coming TimePasses w) quiet
+          ∙ (any_append test e (flat_map (λ p. told_at w.core p (Some Tick)) w.ports) (told_of_late TimePasses (all_come TimePasses w))
+          ∙ (ap₂ (λ a b. a || b)
+          (flat_any (λ p. told_at w.core p (Some Tick)) (λ p. ends_by test e p (Some Tick)) (λ p. one p (Some Tick)) w.ports different)
+          (flat_any (told_late w.core) (λ p. is_late p && ends_by test e p (Some (Reset None))) late (map with_older (all_come TimePasses w).ports) still
+          ∙ (ap (λ o. option_map_or (λ p. is_late p && ends_by test e p (Some (Reset None))) o false)
+          (at_all (all_come TimePasses w).ports x with_older (λ q. refl) ∙ ap (option_map with_older) (at_all w.ports x (λ p. has_come p
+          (Some Tick)) (λ q. refl)))
+          )) ∙ go (port_at w.ports x)))) where
+            late : (p : Port) → tells (told_late w.core p) ≡ (eqb p.desk.host x && (is_late p && ends_by test e p (Some (Reset None))))
+            late p = late_one w.core p ∙ (ap (λ b. is_late p && b) (one p (Some (Reset None))) ∙ swap (is_late p) (eqb p.desk.host x)) where
+              swap : (a b : Bool) → (a && (b && ends_by test e p (Some (Reset None)))) ≡ (b && (a && ends_by test e p (Some (Reset None))))
+              swap true b = refl
+              swap false true = refl
+              swap false false = refl
+
+            still : AreDifferent (hosts_of_ends (map with_older (all_come TimePasses w).ports))
+            still = subst AreDifferent (sym (hosts_map with_older (λ q. refl) (all_come TimePasses w).ports
+                ∙ hosts_map (λ p. has_come p (Some Tick)) (λ q. refl) w.ports)) different
+
+            go : (o : Option Port)
+                → (option_map_or (λ p. ends_by test e p (Some Tick)) o false
+                || option_map_or (λ p. is_late p && ends_by test e p (Some (Reset None))) (option_map with_older (option_map (λ p. has_come p
+                (Some Tick)) o)) false)
+                ≡ option_map_or (λ p. ends_by test e p (Some Tick) || (is_late (ticked p) && ends_by test e (ticked p) (Some (Reset None)))) o false
+            go None = refl
+            go (Some p) = refl

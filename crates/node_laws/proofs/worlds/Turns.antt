@@ -1,0 +1,298 @@
+-- In each event a node's turns are in the order of its ends.
+use Rattle.std.proofs.Common.{◌≡◌, ℕ, ◌&&◌, cond, Bool, true, false, List, [], ◌∷◌, ◌++◌, Option, Some, None, refl, sym, ap, subst, ◌∙◌, eqb}
+use Rattle.std.specs.Prelude.{◌==◌}
+use Rattle.std.specs.List.{AllByRecursion, flat_map}
+use Rattle.std.proofs.lemmas.Bool.{eqb-true}
+use Rattle.registry.proofs.ValueLemmas.{AllByRecursion-append as all_append}
+use Rattle.trace_model.specs.declared.entry.Entry.{Entry}
+use Rattle.trace_model.specs.declared.line.End.{End}
+use Rattle.trace_model.specs.declared.line.Header.{Header}
+use Rattle.trace_model.specs.declared.line.Line.{Line}
+use Rattle.link_laws.specs.machine.Machine.LinkInput.{Start}
+use Rattle.link_laws.specs.messages.Links.{Loss, Comes, aged, exchanged}
+use Rattle.link_laws.specs.messages.Links.Comes.{NextFrame, AsksReset, Starts, NoInput}
+use Rattle.link_laws.specs.entries.Entries.{first_lost, aged_entries}
+use Rattle.link_laws.specs.entries.Entries.End.{Controller, Host}
+use Rattle.history.specs.Steps.{entries_for}
+use Rattle.node_machine.specs.Parts.{Work, Deed}
+use Rattle.node_machine.specs.Node.{steps, begins_with}
+use Rattle.node_machine.specs.Node.NodeInput.{AtEnd, TimePasses}
+use Rattle.node_machine.specs.world.World.{Site, NodeWorld, Happening, site_at, link_to, wires_for, work_of, frames_noted}
+use Rattle.node_machine.specs.world.World.{comes_to, controller_work, host_work, host_does}
+use Rattle.node_machine.specs.world.World.{boots, frame_lost, all_aged, controller_ticks, host_ticks, hosts_tick, world_ticks, sending}
+use Rattle.node_machine.specs.world.World.{beginning, comes_at, end_c, end_h}
+use Rattle.node_machine.specs.world.World.{world_step, controller_does, activates, new_world}
+use Rattle.node_machine.specs.world.World.Happening.{Boots, IsCut, Gives, Inits, Takes, Loses, Ticks, Resets, Activates, Arms}
+use Rattle.node_machine.specs.world.NodeHistories.{NodeHistory, FollowsNodes}
+use Rattle.node_machine.proofs.world.Cases.{by_controller, by_host, by_coming, by_boot, by_loss, near_tick, by_controller_tick, host_tick, by_host_tick}
+use Rattle.node_laws.specs.kept.Hosts.{AreDifferent}
+use Rattle.node_laws.specs.telling.Telling.{IfItRuns, hosts_in, IsOrderly}
+use Rattle.node_laws.proofs.telling.Events.{orderly_map, comes_goes}
+use Rattle.node_laws.proofs.telling.WorldTicks.{near_orderly}
+use Rattle.node_laws.specs.passes.Steps.{controller_begins, controller_tick_begins}
+use Rattle.node_laws.specs.power.Powers.{AreNotOf}
+use Rattle.node_laws.proofs.power.Parts.{own_not, part_own}
+use Rattle.node_laws.specs.answers.Order.{TurnsAscend, turn_link, IsAscending}
+use Rattle.node_laws.proofs.worlds.Steps.{host_begins}
+use Rattle.node_laws.proofs.power.Events.{AreNodes, both_nodes, comes_part, far_tick, near_ticks_part, no_site, none_zero, others_tick}
+use Rattle.std.specs.List.{filter_map}
+use Rattle.std.proofs.Common.{append-nil}
+use Rattle.trace_model.specs.declared.entry.Entry.TheVariants as entry
+use Rattle.std.specs.Option.{option_map_or}
+use Rattle.link_laws.specs.machine.Machine.{LinkInput, Message, Refused, give_refusal}
+use Rattle.link_laws.specs.machine.Machine.Turn.{Give}
+use Rattle.link_laws.specs.entries.Entries.{sent_unless}
+use Rattle.node_machine.specs.Parts.{Core, Port}
+use Rattle.node_machine.specs.Parts.Deed.{Sends, Orders}
+use Rattle.node_machine.specs.Carrying.{noted_of, own_side, port_at, all_done}
+use Rattle.node_machine.specs.Controller.{is_command_message}
+use Rattle.node_machine.specs.world.World.{near_end_in, arrival}
+use Rattle.node_laws.specs.telling.Telling.{HasEnds, world_behind}
+use Rattle.node_laws.proofs.telling.Nodes.{hosts_same}
+use Rattle.node_laws.specs.passes.Noting.{noted_by_deed, noted_by_deeds}
+use Rattle.node_laws.specs.passes.Passing.{AreNoTurns, IsNoTurn}
+use Rattle.node_laws.proofs.passes.Before.{links_none}
+use Rattle.node_laws.proofs.passes.Notes.{deeds_note}
+use Rattle.node_laws.proofs.passes.Turnless.{noted_none}
+use Rattle.node_laws.specs.power.Powers.{is_of_node}
+use Rattle.node_laws.specs.kept.Hosts.{AreHosts}
+use Rattle.node_laws.specs.links.Runs.{ArePlayable}
+use Rattle.node_laws.proofs.order.Lines.{history_so}
+use Rattle.node_laws.proofs.order.Asked.{AreDone, done_back, history_done}
+use Rattle.node_laws.proofs.worlds.Steps.{near_node, far_node}
+use Rattle.node_laws.proofs.worlds.Ascending.{AllAscend, ascends_part, turnless_ascend, frames_turnless, step_ascends, links_append, none_there}
+
+pub flat_turnless : (f : Site → List Entry) → ((s : Site) → AreNoTurns (f s)) → (sites : List Site) → AreNoTurns (flat_map f sites)
+flat_turnless f one [] = tt
+flat_turnless f one (s ∷ sites) = all_append IsNoTurn (f s) (flat_map f sites) (one s) (flat_turnless f one sites)
+
+-- ## What begins at a host
+
+given_turnless : (core : Core) (m : Message) (o : Option Port) → AreNoTurns (option_map_or (noted_of core (Give m)) o [])
+given_turnless core m None = tt
+given_turnless core m (Some p) = go (give_refusal p.side m) where
+  go : (o : Option Refused) → AreNoTurns (entries_for p.desk.host (sent_unless o (own_side core) p.session m))
+  go None = (refl, tt)
+  go (Some why) = tt
+
+-- what a deed notes has no turn
+abbrev pub NotesNoTurn : Deed → Type 0
+NotesNoTurn d = (h : ℕ) (w : Work) → AreNoTurns (noted_by_deed h d w)
+
+pub sending_turnless : (h : ℕ) (m : Message) → AllByRecursion NotesNoTurn (sending h m)
+sending_turnless h m = go (eqb m.0 1 && is_command_message m.1) where
+  go : (b : Bool) → AllByRecursion NotesNoTurn (cond b (Orders m.1 ∷ []) (Sends h m ∷ []))
+  go true = ((λ k w. given_turnless w.core (1, m.1) (port_at w.ports k)), tt)
+  go false = ((λ k w. given_turnless w.core m (port_at w.ports h)), tt)
+
+pub beginning_turnless : (identity : List ℕ) (pipes : List (List ℕ)) → AllByRecursion NotesNoTurn (beginning identity pipes)
+beginning_turnless identity pipes = ((λ k w. tt), ((λ k w. given_turnless w.core (1, 3 ∷ []) (port_at w.ports k)), tt))
+
+-- ## Steps
+
+module _ (w : NodeWorld) (a : IsOrderly w) (up : IsAscending (hosts_in w.sites)) where
+  near_ascends : (k : ℕ) (comes : Comes) (i : LinkInput) → AllAscend (controller_does w k comes (steps (AtEnd k i))).1
+  near_ascends k comes i =
+      by_controller (λ p. AllAscend p.1) w k comes (steps (AtEnd k i)) tt
+      (λ r q.
+      let v : Work = controller_work w r k comes (steps (AtEnd k i)) in
+      step_ascends (AtEnd k i) (controller_begins w r k comes)
+      (flat_map (λ (s : Site). frames_noted Controller s.host (wires_for s.link (comes_to k comes s.host)) v) w.sites)
+      (links_none k (arrival Controller (link_to w.sites k) comes))
+      (subst IsAscending (sym (hosts_same (λ j. near_end_in (link_to w.sites j) (comes_to k comes j)) r.desks ∙ (near_node w r a q).ends)) up)
+      (flat_turnless (λ (s : Site). frames_noted Controller s.host (wires_for s.link (comes_to k comes s.host)) v)
+      (λ s. frames_turnless Controller s.host (wires_for s.link (comes_to k comes s.host)) v) w.sites))
+
+far_ascends : (w : NodeWorld) → IsOrderly w → (k : ℕ) (comes : Comes) (i : LinkInput) → AllAscend (host_does w k comes (steps (AtEnd k i))).1
+far_ascends w a k comes i =
+    by_host (λ p. AllAscend p.1) w k comes (steps (AtEnd k i)) tt
+    (λ s r found q.
+    step_ascends (AtEnd k i) (host_begins s r comes) (frames_noted Host k (wires_for (exchanged s.link) comes) (host_work s r comes (steps (AtEnd k i))))
+    (links_none s.host (arrival Host (exchanged s.link) comes))
+    (subst IsAscending (sym (hosts_same (λ j. near_end_in (exchanged s.link) comes) r.desks ∙ (far_node w k s r a found q).ends)) (tt, tt))
+    (frames_turnless Host k (wires_for (exchanged s.link) comes) (host_work s r comes (steps (AtEnd k i)))))
+
+comes_ascends : (w : NodeWorld) → IsOrderly w → IsAscending (hosts_in w.sites) → (e : End) (comes : Comes) → AllAscend (comes_at w e comes).1
+comes_ascends w a up e comes =
+    by_coming (λ p. AllAscend p.1) w e comes tt (λ i at q. far_ascends w a e.link comes i) (λ i at q. near_ascends w a up e.link comes i)
+
+pub begun_turnless : (w : NodeWorld) (h : ℕ) (deeds : List Deed) → AllByRecursion NotesNoTurn deeds
+    → AreNoTurns (host_does w h NoInput (begins_with h deeds)).1
+begun_turnless w h deeds may =
+    by_host (λ p. AreNoTurns p.1) w h NoInput (begins_with h deeds) tt
+    (λ s r found q.
+    let begun : Work = host_begins s r NoInput in
+    all_append IsNoTurn (all_done h deeds begun).entries _
+    (subst AreNoTurns (sym (deeds_note h deeds begun))
+    (all_append IsNoTurn begun.entries (noted_by_deeds h deeds begun) (links_none s.host (arrival Host (exchanged s.link) NoInput))
+    (noted_none h deeds begun may)))
+    (frames_turnless Host h (wires_for (exchanged s.link) NoInput) (host_work s r NoInput (begins_with h deeds))))
+
+begins_ascends : (w : NodeWorld) (h : ℕ) (deeds : List Deed) → AllByRecursion NotesNoTurn deeds → AllAscend (host_does w h NoInput (begins_with h deeds)).1
+begins_ascends w h deeds may = turnless_ascend _ (begun_turnless w h deeds may)
+
+pub lost_turnless : (w : NodeWorld) (e : End) (why : Loss) → AreNoTurns (frame_lost w e why).1
+lost_turnless w e why =
+    by_loss (λ p. AreNoTurns p.1) w e why
+    (λ z. links_none e.link (first_lost Host why (link_to w.sites e.link).to_host))
+    (λ z. links_none e.link (first_lost Controller why (link_to w.sites e.link).to_controller))
+
+pub boots_turnless : (w : NodeWorld) (n : ℕ) → AreNoTurns (boots w n).1
+boots_turnless w n = by_boot (λ p. AreNoTurns p.1) w n (refl, tt) (refl, tt)
+
+-- ## One node's turns
+
+module _ (n : ℕ) where
+  abbrev Own : List Entry → Type 0
+  Own es = IsAscending (filter_map (turn_link n) es)
+
+  pub other_turn : (x : Entry) → is_of_node n x ≡ false → turn_link n x ≡ None
+  other_turn (entry.Turn e pid message) q = ap (λ b. cond b (Some e.link) None) q
+  other_turn (entry.Held e need spare) q = ap (λ b. cond b (Some e.link) None) q
+  other_turn x q = refl
+
+  pub other_turns : (es : List Entry) → AreNotOf n es → AllByRecursion (λ x. turn_link n x ≡ None) es
+  other_turns [] a = tt
+  other_turns (x ∷ es) a = (other_turn x a.0, other_turns es a.1)
+
+  no_turns : (es : List Entry) → AreNotOf n es → filter_map (turn_link n) es ≡ []
+  no_turns es a = none_there (turn_link n) es (other_turns es a)
+
+  own_behind : (es fs : List Entry) → Own es → AreNotOf n fs → Own (es ++ fs)
+  own_behind es fs p a =
+      subst IsAscending (sym (links_append (turn_link n) es fs ∙ (ap (λ l. filter_map (turn_link n) es ++ l) (no_turns fs a) ∙ append-nil _))) p
+
+  own_before : (es fs : List Entry) → AreNotOf n fs → Own es → Own (fs ++ es)
+  own_before es fs a p = subst IsAscending (sym (links_append (turn_link n) fs es ∙ ap (λ l. l ++ filter_map (turn_link n) es) (no_turns fs a))) p
+
+-- ## Activation
+
+activates_own : (n : ℕ) (w : NodeWorld) → IsOrderly w → IsAscending (hosts_in w.sites) → (h sync power : ℕ) → Own n (activates w h sync power).1
+activates_own n w a up h sync power = go (0 == n) refl where
+  near : NodeWorld × List Entry
+  near = comes_at w (end_c h) (Starts power)
+
+  far : NodeWorld × List Entry
+  far = comes_at near.0 (end_h h) (Starts sync)
+
+  b : IsOrderly near.0
+  b = (comes_goes w (end_c h) (Starts power) a).orderly
+
+  zero_far : (c : Bool) → (h == 0) ≡ c → AreNotOf 0 far.1
+  zero_far false q = own_not h 0 far.1 q (part_own h far.1 (comes_part near.0 (end_h h) (Starts sync) b))
+  zero_far true q =
+      let none : site_at near.0.sites h ≡ None = no_site near.0.sites h q b.hosts in
+      let is : far.1 ≡ [] = rw none refl in
+      subst (AreNotOf 0) (sym is) tt
+
+  go : (c : Bool) → (0 == n) ≡ c → Own n (near.1 ++ far.1)
+  go false q =
+      own_before n far.1 near.1 (own_not 0 n near.1 q (part_own 0 near.1 (comes_part w (end_c h) (Starts power) a)))
+      (ascends_part n far.1 (far_ascends near.0 b h (Starts sync) (Start sync)))
+  go true q =
+      own_behind n near.1 far.1 (ascends_part n near.1 (comes_ascends w a up (end_c h) (Starts power)))
+      (subst (λ m. AreNotOf m far.1) (eqb-true 0 n q) (zero_far (h == 0) refl))
+
+-- ## Ticks
+
+host_ascends : (s : Site) → IfItRuns s.host (s.host ∷ []) s.node → AllAscend (host_ticks s).1
+host_ascends s runs =
+    by_host_tick (λ p. AllAscend p.1) s (λ q. tt)
+    (λ r q.
+    let node : HasEnds s.host (s.host ∷ []) r = subst (IfItRuns s.host (s.host ∷ [])) q runs in
+    step_ascends TimePasses (work_of r s.memory.plan (λ h. s.link.host) []) (frames_noted Host s.host (exchanged s.link) (host_tick s r)) tt
+    (subst IsAscending (sym (hosts_same (λ h. s.link.host) r.desks ∙ node.ends)) (tt, tt))
+    (frames_turnless Host s.host (exchanged s.link) (host_tick s r)))
+
+hosts_own : (n : ℕ) (sites : List Site) → AreDifferent (hosts_in sites) → AreNodes sites → Own n (hosts_tick sites).1
+hosts_own n [] d a = tt
+hosts_own n (s ∷ sites) d a = go (s.host == n) refl (hosts_own n sites d.1 a.1) where
+  go : (c : Bool) → (s.host == n) ≡ c → Own n (hosts_tick sites).1 → Own n ((host_ticks s).1 ++ (hosts_tick sites).1)
+  go false q later =
+      own_before n (hosts_tick sites).1 (host_ticks s).1 (own_not s.host n (host_ticks s).1 q (part_own s.host (host_ticks s).1 (far_tick s a.0.0 a.0.1)))
+      later
+  go true q later =
+      own_behind n (host_ticks s).1 (hosts_tick sites).1 (ascends_part n (host_ticks s).1 (host_ascends s a.0.1))
+      (subst (λ m. AreNotOf m (hosts_tick sites).1) (eqb-true s.host n q) (others_tick s.host sites d.0 a.1))
+
+pub aged_turnless : (sites : List Site)
+    → AreNoTurns (flat_map (λ (s : Site). entries_for s.host
+    (aged_entries Controller s.link.to_controller ++ aged_entries Host s.link.to_host)) sites)
+aged_turnless =
+    flat_turnless (λ (s : Site). entries_for s.host (aged_entries Controller s.link.to_controller ++ aged_entries Host s.link.to_host))
+    (λ s. links_none s.host (aged_entries Controller s.link.to_controller ++ aged_entries Host s.link.to_host))
+
+turnless_one : (n : ℕ) (x : Entry) → IsNoTurn x → turn_link n x ≡ None
+turnless_one n (entry.Turn e pid message) q = absurd (cc q)
+turnless_one n (entry.Held e need spare) q = absurd (cc q)
+turnless_one n x q = refl
+
+-- where no message has its turn or is held, none is at this node
+pub turnless_there : (n : ℕ) (es : List Entry) → AreNoTurns es → AllByRecursion (λ x. turn_link n x ≡ None) es
+turnless_there n [] a = tt
+turnless_there n (x ∷ es) a = (turnless_one n x a.0, turnless_there n es a.1)
+
+ticks_own : (n : ℕ) (w : NodeWorld) → IsOrderly w → IsAscending (hosts_in w.sites) → Own n (world_ticks w).1
+ticks_own n w a up =
+    subst IsAscending (sym (links_append (turn_link n) (all_aged w).1 (near.1 ++ (hosts_tick near.0.sites).1)
+    ∙ ap (λ l. l ++ filter_map (turn_link n) (near.1 ++ (hosts_tick near.0.sites).1))
+    (none_there (turn_link n) (all_aged w).1 (turnless_there n (all_aged w).1 (aged_turnless w.sites))))) (go (0 == n) refl) where
+      old : NodeWorld
+      old = (all_aged w).0
+
+      near : NodeWorld × List Entry
+      near = controller_ticks old
+
+      b : IsOrderly old
+      b = orderly_map w w.memory w.controller (λ (x : Site). record x { link = aged x.link }) (λ x. refl) a a.controller (λ x n. n)
+
+      kept : IsOrderly (record { memory = old.memory; controller = None; sites = near.0.sites })
+      kept = near_orderly old b
+
+      nodes : AreNodes near.0.sites
+      nodes = both_nodes near.0.sites kept.hosts kept.nodes
+
+      first : AllAscend near.1
+      first =
+          by_controller_tick (λ p. AllAscend p.1) old (λ q. tt)
+          (λ r q. step_ascends TimePasses (controller_tick_begins old r)
+          (flat_map (λ (s : Site). frames_noted Controller s.host s.link (near_tick old r)) old.sites) tt
+          (subst IsAscending (sym (hosts_same (λ k. (link_to old.sites k).controller) r.desks ∙ (near_node w r a q).ends)) up)
+          (flat_turnless (λ (s : Site). frames_noted Controller s.host s.link (near_tick old r)) (λ s. frames_turnless Controller s.host s.link
+          (near_tick old r))
+          old.sites))
+
+      go : (c : Bool) → (0 == n) ≡ c → Own n (near.1 ++ (hosts_tick near.0.sites).1)
+      go false q =
+          own_before n (hosts_tick near.0.sites).1 near.1 (own_not 0 n near.1 q (part_own 0 near.1 (near_ticks_part old b)))
+          (hosts_own n near.0.sites kept.different nodes)
+      go true q =
+          own_behind n near.1 (hosts_tick near.0.sites).1 (ascends_part n near.1 first)
+          (subst (λ m. AreNotOf m (hosts_tick near.0.sites).1) (eqb-true 0 n q) (others_tick 0 near.0.sites (none_zero near.0.sites kept.hosts) nodes))
+
+-- ## Events
+
+event_own : (n : ℕ) (w : NodeWorld) (c : Happening) → IsOrderly w → IsAscending (hosts_in w.sites) → Own n (world_step w c).1
+event_own n w (Boots k) a up = ascends_part n (boots w k).1 (turnless_ascend _ (boots_turnless w k))
+event_own n w (IsCut k) a up = tt
+event_own n w (Gives e m) a up =
+    ascends_part n (world_step w (Gives e m)).1 (begins_ascends w e.link (sending e.link m) (sending_turnless e.link m))
+event_own n w (Inits e identity pipes) a up =
+    ascends_part n (world_step w (Inits e identity pipes)).1 (begins_ascends w e.link (beginning identity pipes) (beginning_turnless identity pipes))
+event_own n w (Takes e) a up = ascends_part n (comes_at w e NextFrame).1 (comes_ascends w a up e NextFrame)
+event_own n w (Loses e why) a up = ascends_part n (frame_lost w e why).1 (turnless_ascend _ (lost_turnless w e why))
+event_own n w Ticks a up = ticks_own n w a up
+event_own n w (Resets e window) a up = ascends_part n (comes_at w e (AsksReset window)).1 (comes_ascends w a up e (AsksReset window))
+event_own n w (Activates h sync power) a up = activates_own n w a up h sync power
+event_own n w (Arms k plan) a up = tt
+
+-- ## Histories
+
+pub turns_ascend : (header : Header) (lines : List Line) (t : NodeHistory) → FollowsNodes header lines t → AreHosts header.hosts.items
+    → ArePlayable lines → IsAscending header.hosts.items → TurnsAscend t
+turns_ascend header lines t follows are playable up past back o parts n =
+    let first : NodeWorld = new_world header.hosts.items in
+    let w : NodeWorld = world_behind first past in
+    let done : AreDone w (o ∷ back) = done_back past (o ∷ back) first (subst (AreDone first) parts (history_done header lines t follows playable)) in
+    let so = history_so header lines t follows are playable past (o ∷ back) parts in
+    subst (Own n) (sym done.0.0) (event_own n w o.cause so.well.orderly (subst IsAscending (sym so.hosts_are) up))

@@ -1,9 +1,0 @@
-pub mod links
-pub mod passes
-pub mod power
-pub mod readings
-pub mod rsets
-pub mod rounds
-pub mod acked
-pub mod turns
-pub mod order

@@ -1,5 +1,0 @@
-use Rattle.node_order.proofs.order.LegalLemmas.{legal}
-use Rattle.node_order.proofs.histories_in_order.every_history_of_nodes_is_legal.Goals as goal
-
-pub returns : goal.returns
-returns c = legal

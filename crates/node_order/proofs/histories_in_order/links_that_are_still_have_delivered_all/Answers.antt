@@ -1,5 +1,0 @@
-use Rattle.node_order.proofs.order.Still.{history_delivered}
-use Rattle.node_order.proofs.histories_in_order.links_that_are_still_have_delivered_all.Goals as goal
-
-pub returns : goal.returns
-returns c = history_delivered

@@ -1,5 +1,0 @@
-use Rattle.node_order.proofs.order.Ordered.{in_order, joined}
-use Rattle.node_order.proofs.histories_in_order.messages_are_in_order_in_each_history.Goals as goal
-
-pub returns : goal.returns
-returns c = record { in_order = in_order; joined = joined }

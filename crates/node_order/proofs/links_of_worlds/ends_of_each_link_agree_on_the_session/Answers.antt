@@ -1,5 +1,0 @@
-use Rattle.node_order.proofs.links.Obeying.{agree}
-use Rattle.node_order.proofs.links_of_worlds.ends_of_each_link_agree_on_the_session.Goals as goal
-
-pub returns : goal.returns
-returns c = agree

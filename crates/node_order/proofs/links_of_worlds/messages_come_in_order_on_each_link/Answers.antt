@@ -1,5 +1,0 @@
-use Rattle.node_order.proofs.links.Obeying.{to_host, to_controller}
-use Rattle.node_order.proofs.links_of_worlds.messages_come_in_order_on_each_link.Goals as goal
-
-pub returns : goal.returns
-returns c = record { to_host = to_host; to_controller = to_controller }

@@ -1,6 +1,0 @@
-use Rattle.node_order.proofs.links.Reaching.{controller_reach}
-use Rattle.node_order.proofs.links.Staying.{stays_up}
-use Rattle.node_order.proofs.links_of_worlds.notices_go_over_links_that_are_up.Goals as goal
-
-pub returns : goal.returns
-returns c = record { sent = controller_reach; kept = stays_up }

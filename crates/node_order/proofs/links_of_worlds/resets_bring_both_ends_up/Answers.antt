@@ -1,5 +1,0 @@
-use Rattle.node_order.proofs.links.Obeying.{settled}
-use Rattle.node_order.proofs.links_of_worlds.resets_bring_both_ends_up.Goals as goal
-
-pub returns : goal.returns
-returns c = settled

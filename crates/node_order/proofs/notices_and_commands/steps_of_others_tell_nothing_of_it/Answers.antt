@@ -1,8 +1,0 @@
-use Rattle.std.proofs.Common.{refl}
-use Rattle.node_machine.specs.Carrying.{own_side}
-use Rattle.node_order.proofs.readings.Elsewhere.{steps_away}
-use Rattle.node_order.proofs.notices_and_commands.steps_of_others_tell_nothing_of_it.Goals as goal
-
-pub returns : goal.returns
-returns c = λ h input w another silent.
-    (steps_away h w.core.node another.other (own_side w.core) input w (record { number = refl; side = refl; ends = another.ends; so = silent })).so

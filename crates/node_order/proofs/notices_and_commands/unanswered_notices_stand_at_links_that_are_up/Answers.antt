@@ -1,5 +1,0 @@
-use Rattle.node_order.proofs.readings.NoticedWorlds.{event_up, lines_up, late_resets}
-use Rattle.node_order.proofs.notices_and_commands.unanswered_notices_stand_at_links_that_are_up.Goals as goal
-
-pub returns : goal.returns
-returns c = record { event = event_up; histories = lines_up; late = late_resets }

@@ -1,5 +1,0 @@
-use Rattle.node_order.proofs.passes.Notes.{deeds_note}
-use Rattle.node_order.proofs.passes_of_steps.deeds_note_as_they_are_done.Goals as goal
-
-pub returns : goal.returns
-returns c = record { noted = deeds_note }

@@ -1,5 +1,0 @@
-use Rattle.node_order.proofs.passes.Waiting.{waiting_read}
-use Rattle.node_order.proofs.passes_of_steps.waiting_messages_are_read_at_turns.Goals as goal
-
-pub returns : goal.returns
-returns c = record { waits = λ w v h comes. waiting_read h w v comes }

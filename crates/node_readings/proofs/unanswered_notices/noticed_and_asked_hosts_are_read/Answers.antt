@@ -1,5 +1,0 @@
-use Rattle.node_readings.proofs.notices.Knowing.{noticed_is, asked_is}
-use Rattle.node_readings.proofs.unanswered_notices.noticed_and_asked_hosts_are_read.Goals as goal
-
-pub returns : goal.returns
-returns c = record { noticed = noticed_is; asked = asked_is }

@@ -1,5 +1,0 @@
-use Rattle.node_readings.proofs.notices.Lines.{schedule_read}
-use Rattle.node_readings.proofs.unanswered_notices.unanswered_notices_are_read_off_histories.Goals as goal
-
-pub returns : goal.returns
-returns c = schedule_read

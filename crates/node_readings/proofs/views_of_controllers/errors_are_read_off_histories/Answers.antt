@@ -1,5 +1,0 @@
-use Rattle.node_readings.proofs.views.Lines.{errors_read, errors_read_events}
-use Rattle.node_readings.proofs.views_of_controllers.errors_are_read_off_histories.Goals as goal
-
-pub returns : goal.returns
-returns c = record { events = errors_read_events; lines = errors_read }

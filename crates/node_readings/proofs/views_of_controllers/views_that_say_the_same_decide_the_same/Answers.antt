@@ -1,5 +1,0 @@
-use Rattle.node_readings.proofs.views.Viewing.{decided_same}
-use Rattle.node_readings.proofs.views_of_controllers.views_that_say_the_same_decide_the_same.Goals as goal
-
-pub returns : goal.returns
-returns c = decided_same

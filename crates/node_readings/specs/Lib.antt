@@ -1,4 +1,0 @@
-pub mod notices
-pub mod creations
-pub mod rooms
-pub mod views

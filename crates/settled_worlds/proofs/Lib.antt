@@ -1,4 +1,0 @@
-pub mod links
-pub mod worlds
-pub mod schedules
-pub mod undisturbed

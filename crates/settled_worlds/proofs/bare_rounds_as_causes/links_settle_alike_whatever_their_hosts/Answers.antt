@@ -1,8 +1,0 @@
-use Rattle.settled_worlds.proofs.links.AnyHost.{same_count, same_settling}
-use Rattle.settled_worlds.proofs.bare_rounds_as_causes.links_settle_alike_whatever_their_hosts.Goals as goal
-
-pub returns-clause-rounds : goal.returns-clause-rounds
-returns-clause-rounds c = same_count
-
-pub returns-clause-events : goal.returns-clause-events
-returns-clause-events c = same_settling

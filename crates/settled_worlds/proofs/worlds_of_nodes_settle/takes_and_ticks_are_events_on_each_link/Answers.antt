@@ -1,8 +1,0 @@
-use Rattle.node_order.proofs.rounds.LinkEvents.{takes_go, ticks_go}
-use Rattle.settled_worlds.proofs.worlds_of_nodes_settle.takes_and_ticks_are_events_on_each_link.Goals as goal
-
-pub returns-clause-takes : goal.returns-clause-takes
-returns-clause-takes c = takes_go
-
-pub returns-clause-ticks : goal.returns-clause-ticks
-returns-clause-ticks c = ticks_go

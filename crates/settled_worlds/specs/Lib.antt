@@ -1,2 +1,0 @@
-pub mod links
-pub mod worlds

@@ -1,2 +1,0 @@
-pub mod fragments
-pub mod messages

@@ -1,5 +1,0 @@
-use Rattle.tables_laws.proofs.Values.{values-apply}
-use Rattle.tables_laws.proofs.values_are_the_last_set.Goals as goal
-
-pub returns : goal.returns
-returns c = values-apply

@@ -1,4 +1,0 @@
-pub mod fragments
-pub mod entries
-pub mod histories
-pub mod worlds

@@ -1,5 +1,0 @@
-use Rattle.tap_laws.proofs.fragments.Runs.{reported}
-use Rattle.tap_laws.proofs.taps_of_fragments.tap_reports_what_was_got.Goals as goal
-
-pub returns : goal.returns
-returns c = reported

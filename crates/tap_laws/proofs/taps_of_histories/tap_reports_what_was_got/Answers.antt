@@ -1,5 +1,0 @@
-use Rattle.tap_laws.proofs.histories.Histories.{tap_reports_history}
-use Rattle.tap_laws.proofs.taps_of_histories.tap_reports_what_was_got.Goals as goal
-
-pub returns : goal.returns
-returns c = tap_reports_history

@@ -1,5 +1,0 @@
-use Rattle.tap_laws.proofs.worlds.Worlds.{tap_reports_world}
-use Rattle.tap_laws.proofs.taps_of_worlds.tap_reports_what_was_got.Goals as goal
-
-pub returns : goal.returns
-returns c = tap_reports_world

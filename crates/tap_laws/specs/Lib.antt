@@ -1,3 +1,0 @@
-pub mod fragments
-pub mod entries
-pub mod histories

@@ -1,0 +1,5 @@
+use Rattle.told_laws.proofs.texts.ReadLemmas.{read_in}
+use Rattle.told_laws.proofs.texts_apart.a_read_line_is_in_its_range.Goals as goal
+
+pub returns : goal.returns
+returns c = read_in

@@ -1,0 +1,9 @@
+pub mod Ends
+pub mod Wires
+pub mod Links
+pub mod Notes
+pub mod Lines
+pub mod Plays
+pub mod Coming
+pub mod BarePlays
+pub mod Whole

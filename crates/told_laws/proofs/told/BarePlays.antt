@@ -1,0 +1,106 @@
+-- All that is told of plays in a bare world is in its range.
+use Rattle.std.proofs.Common.{◌≡◌, ℕ, ◌+◌, ◌*◌, ◌≤◌, Bool, true, false, List, [], ◌∷◌, ◌++◌, None, refl, ap, arith, sym, ◌∙◌, inl}
+use Rattle.std.proofs.lemmas.Bool.{true≢false}
+use Rattle.std.specs.Prelude.{if◌then◌else◌}
+use Rattle.std.specs.List.{AllByRecursion}
+use Rattle.trace_model.specs.declared.line.End.{End}
+use Rattle.trace_model.specs.declared.line.Header.{Header}
+use Rattle.trace_model.specs.declared.line.Line.{Line}
+use Rattle.trace_model.specs.declared.line.Line.TheVariants as line
+use Rattle.trace_model.specs.Lines.{IsHeader, IsLineOf}
+use Rattle.told_laws.specs.texts.Ranges.{IsEntry}
+use Rattle.link_laws.specs.messages.Links.{Link}
+use Rattle.link_laws.specs.messages.Rest.{is_clear}
+use Rattle.link_laws.specs.entries.Entries.End.{Controller, Host}
+use Rattle.history.specs.Histories.{History}
+use Rattle.history.specs.Follows.{Follows, frames_to, host_of, link_after_lines}
+use Rattle.history.specs.Steps.{end_of}
+use Rattle.node_laws.proofs.order.HostsStay.{hosts_stay_behind}
+use Rattle.lines_told.specs.lines.Below.{IsPlayedLine, bare_link_behind}
+use Rattle.lines_told.specs.lines.Plays.{Play, AreFewPlays, IsPlayFor, lines_of_play, lines_played, lines_said, rounds_played, round_on, taking_on}
+use Rattle.lines_told.specs.lines.Plays.Play.{Said, Round}
+use Rattle.lines_told.proofs.lines.Lines.{lines_may_be_played}
+use Rattle.lines_told.proofs.lines.BareRounds.{bare_round_lines}
+use Rattle.lines_told.proofs.lines.Plays.{said-append, played-append}
+use Rattle.told_laws.specs.told.Told.{entries_told}
+use Rattle.told_laws.proofs.told.Lines.{line_cheap, lines_cost}
+use Rattle.told_laws.proofs.told.Coming.{told_in}
+use Rattle.told_laws.proofs.told.Plays.{lines_from, played_from}
+
+-- ## What lines cost
+
+cost-append : (xs ys : List Line) → lines_cost (xs ++ ys) ≡ lines_cost xs + lines_cost ys
+cost-append [] ys = omega arith
+cost-append (x ∷ xs) ys = let rest = cost-append xs ys in omega (arith, rest)
+
+taking_cost : (l : Link) (e : End) → lines_cost (taking_on l e) ≡ 0
+taking_cost l e = go (is_clear (frames_to l e))
+  where
+    go : (b : Bool) → lines_cost (if b then [] else line.Deliver e None ∷ []) ≡ 0
+    go true = refl
+    go false = refl
+
+round_cost : (h : ℕ) (ends : List End) (l : Link) → lines_cost (round_on h l ends) ≡ 2
+round_cost h [] l = refl
+round_cost h (e ∷ ends) l =
+    let m : Link = link_after_lines h l (taking_on l e) in
+    let both = cost-append (taking_on l e) (round_on h m ends) in
+    let none = taking_cost l e in
+    let rest = round_cost h ends m in
+    omega (arith, both, none, rest)
+
+module _ (header : Header) (is : IsHeader header) where
+  not_of_nodes : header.hci ≡ true → ⊥
+  not_of_nodes nodes = true≢false (sym nodes ∙ is.bare)
+
+  pub bare_line : (l : Line) → IsPlayedLine header l → IsLineOf header l
+  bare_line (line.Boot node) may = absurd (not_of_nodes may.may_follow.0)
+  bare_line (line.Cut node) may = absurd (not_of_nodes may.may_follow.0)
+  bare_line (line.Activate host sync power) may = absurd (not_of_nodes may.may_follow.0)
+  bare_line (line.Arm node nth fill) may = absurd (not_of_nodes may.may_follow.0)
+  bare_line (line.Init e identity pipes) may = absurd (not_of_nodes may.may_follow.0)
+  bare_line (line.Tables node) may = absurd (not_of_nodes may.may_follow.0)
+  bare_line (line.Settle rounds) may = absurd (true≢false may.settles_not)
+  bare_line (line.Send e pid message) may = may.may_follow
+  bare_line (line.Deliver e count) may = may.may_follow
+  bare_line (line.Lose e) may = may.may_follow
+  bare_line (line.Damage e places) may = may.may_follow
+  bare_line (line.Tick times) may = may.may_follow
+  bare_line (line.Reset e window) may = may.may_follow
+  bare_line (line.Busy e) may = may.may_follow
+  bare_line (line.Ready e) may = may.may_follow
+
+  pub bare_lines : (lines : List Line) → AllByRecursion (IsPlayedLine header) lines → AllByRecursion (IsLineOf header) lines
+  bare_lines [] may = tt
+  bare_lines (l ∷ lines) may = (bare_line l may.0, bare_lines lines may.1)
+
+  play_cost : (before : List Line) (p : Play) → IsPlayFor header p → lines_cost (lines_of_play header before p)
+      ≤ 200 * lines_said (p ∷ []) + 2 * rounds_played (p ∷ [])
+  play_cost before (Said l) may = let cheap = line_cheap header l (bare_line l may) in omega (arith, cheap)
+  play_cost before Round may =
+      let h : ℕ = host_of header in
+      let same = ap lines_cost (bare_round_lines header is.bare before) in
+      let two = round_cost h (end_of h Controller ∷ end_of h Host ∷ []) (bare_link_behind header before) in
+      omega (arith, same, two)
+
+  plays_cost : (plays before : List Play) → AllByRecursion (IsPlayFor header) plays
+      → lines_cost (lines_from header before plays) ≤ 200 * lines_said plays + 2 * rounds_played plays
+  plays_cost [] before may = omega arith
+  plays_cost (p ∷ plays) before may =
+      let now = play_cost (lines_played header before) p may.0 in
+      let later = plays_cost plays (before ++ p ∷ []) may.1 in
+      let both = cost-append (lines_of_play header (lines_played header before) p) (lines_from header (before ++ p ∷ []) plays) in
+      let said = said-append (p ∷ []) plays in
+      let rounds = played-append (p ∷ []) plays in
+      omega (arith, now, later, both, said, rounds)
+
+  pub bare_told_in : (plays : List Play) (t : History) → AllByRecursion (IsPlayFor header) plays → AreFewPlays plays
+      → Follows header (lines_played header plays) t → AllByRecursion IsEntry (entries_told t)
+  bare_told_in plays t may most follows =
+      let lines : List Line = lines_played header plays in
+      let same = ap lines_cost (played_from header plays []) in
+      let cost = plays_cost plays [] may in
+      let said = most.said in
+      let rounds = most.rounds in
+      told_in header lines t
+      (bare_lines lines (lines_may_be_played header (inl is) (hosts_stay_behind header) plays may)) is follows (omega (arith, same, cost, said, rounds))

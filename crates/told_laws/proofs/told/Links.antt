@@ -1,0 +1,434 @@
+-- The ends of a bare link, and what is on its wires, are in their ranges.
+use Rattle.std.proofs.Common.{◌≡◌, ℕ, zero, suc, ◌+◌, ◌≤◌, ◌<◌, Bool, true, false, cond, List, [], ◌∷◌, ◌++◌, length, take, drop, map, refl, sym, ap}
+use Rattle.std.proofs.Common.{subst, arith, max, Option, Some, None, length-append}
+use Rattle.std.specs.Prelude.{is_some, if◌then◌else◌, ◌==◌, not}
+use Rattle.std.specs.List.{AllByRecursion}
+use Rattle.swp_base.specs.declared.control_frames.Control.{Control}
+use Rattle.swp_base.specs.declared.control_frames.Control.TheVariants.{I, S, Rset, Ua, Act, Clt}
+use Rattle.shdlc_core.specs.declared.answers.LinkState.{LinkState}
+use Rattle.shdlc_core.specs.declared.answers.LinkState.TheVariants.{Down, Waiting, Up}
+use Rattle.shdlc_core.specs.Machine.{EndState, taken, take_answer, ticked, tick_answer, reset_with, stopped, all_frames}
+use Rattle.hcp_packet.specs.Packets.{packets_of, parts_of, packet_count, packet_bytes}
+use Rattle.trace_model.specs.declared.line.End.{End}
+use Rattle.link_laws.specs.sessions.Sessions.{OnWire, is_rset, took_with}
+use Rattle.link_laws.specs.machine.Machine.{LinkEnd, LinkInput, Refused, Message, after_input, turn, moved, put_down, activated, heard, took, is_open}
+use Rattle.link_laws.specs.machine.Machine.{is_faulty}
+use Rattle.link_laws.specs.machine.Machine.{news, if_up, reset_by, reset_refusal, ended_by, window_of, give_refusal, given, unless, among, frames_out, sent_all}
+use Rattle.link_laws.specs.machine.Machine.{had_tick, in_front}
+use Rattle.link_laws.specs.machine.Machine.Role.{Bare}
+use Rattle.link_laws.specs.machine.Machine.LinkInput.{Take, Tick, Reset}
+use Rattle.link_laws.specs.machine.Machine.Turn.{Give, Hold, FetchMessage}
+use Rattle.swp_base.specs.declared.link_terms.Cause.TheVariants.{Asked}
+use Rattle.swp_act.specs.declared.ActEvent.TheVariants.{Tick as ActTick}
+use Rattle.link_laws.specs.messages.Links.{NumberedEnd, Link, EndEvent, Loss, put, put_all, becomes, with_ended, has_input, happens_at_controller}
+use Rattle.link_laws.specs.messages.Links.{ticks_at_controller, aged, exchanged, happens}
+use Rattle.link_laws.specs.messages.Rsets.{EndIsLow, FewRsets}
+use Rattle.link_laws.specs.messages.Links.Ending.{GoesOut}
+use Rattle.link_laws.specs.messages.Links.Comes.{NextFrame, AsksReset, NoInput}
+use Rattle.link_laws.specs.messages.Links.EndEvent.{Step, Lose}
+use Rattle.history.specs.Histories.{Cause}
+use Rattle.history.specs.Histories.Cause.{Given, Taken, WasLost, Ticked, WasReset, Readied}
+use Rattle.history.specs.Steps.{at, bare_link, link_after}
+use Rattle.swp_base.specs.Bits.{IsByte}
+use Rattle.told_laws.proofs.told.Ends.{IsFragment, IsFrame, Ranged, ranged_taken, ranged_ticked, ranged_reset, ranged_stopped, ranged_ready, ranged_out}
+use Rattle.told_laws.proofs.told.Ends.{ranged_after, frames_in, frames_few}
+use Rattle.registry.proofs.ValueLemmas.{AllByRecursion-take}
+use Rattle.told_laws.proofs.told.Wires.{drop_each, FrameIs, WireIs, wire_more, wire_within, wire_dropped, wire_put, wire_aged}
+
+-- ## Messages
+
+-- a message that a line may send
+pub record IsTellable (m : Message) : Type 0 where
+  pub pipe : m.0 < 112
+  pub some : 0 < length m.1
+  pub bytes : AllByRecursion IsByte m.1
+
+take_few : {X : Type 0} (n : ℕ) (xs : List X) → length (take n xs) ≤ n
+take_few zero xs = omega arith
+take_few (suc n) [] = omega arith
+take_few (suc n) (x ∷ xs) = let few = take_few n xs in omega (arith, few)
+
+first_low : (last : Bool) (pipe : ℕ) → pipe < 112 → cond last 128 0 + pipe < 256
+first_low true pipe low = omega (arith, low)
+first_low false pipe low = omega (arith, low)
+
+parts_in : (pipe n : ℕ) (left : List ℕ) → pipe < 112 → AllByRecursion IsByte left → AllByRecursion IsFragment (map packet_bytes (parts_of pipe n left))
+parts_in pipe zero left low h = tt
+parts_in pipe (suc n) left low h = (
+  ((first_low (n == 0) pipe low, AllByRecursion-take IsByte 28 left h), let few = take_few 28 left in omega (arith, few)),
+  parts_in pipe n (drop 28 left) low (drop_each IsByte 28 left h),
+)
+
+pub fragments_in : (m : Message) → IsTellable m → AllByRecursion IsFragment (map packet_bytes (packets_of m.0 m.1))
+fragments_in m h = parts_in m.0 (packet_count (length m.1)) m.1 h.pipe h.bytes
+
+-- ## An end
+
+-- a bare end that was given at most n messages in its session
+pub record EndIs (n : ℕ) (e : LinkEnd) : Type 0 where
+  pub bare : e.role ≡ Bare
+  pub acts : e.acts ≡ []
+  pub few : length e.sent ≤ n
+  pub ranged : Ranged e.shdlc
+
+end_more : (n k : ℕ) (e : LinkEnd) → n ≤ k → EndIs n e → EndIs k e
+end_more n k e more h = let f = h.few in record { bare = h.bare; acts = h.acts; few = omega (arith, f, more); ranged = h.ranged }
+
+end_cond : (n : ℕ) (b : Bool) (e f : LinkEnd) → EndIs n e → EndIs n f → EndIs n (cond b e f)
+end_cond n true e f p q = p
+end_cond n false e f p q = q
+
+end_unless : (n : ℕ) (o : Option Refused) (e f : LinkEnd) → EndIs n e → EndIs n f → EndIs n (unless o e f)
+end_unless n None e f p q = q
+end_unless n (Some why) e f p q = p
+
+end_moved : (n : ℕ) (e : LinkEnd) (b : Bool) (s : EndState) → Ranged s → EndIs n e → EndIs n (moved e b s)
+end_moved n e false s r h = record { bare = h.bare; acts = h.acts; few = h.few; ranged = r }
+end_moved n e true s r h = record { bare = h.bare; acts = ap (map in_front) h.acts; few = omega arith; ranged = r }
+
+end_down : (n : ℕ) (e : LinkEnd) → EndIs n e → EndIs n (put_down true e)
+end_down n e h = by e.shdlc.phase refl
+  where
+    stops : EndIs n (moved e true (stopped e.shdlc))
+    stops = end_moved n e true (stopped e.shdlc) (ranged_stopped e.shdlc h.ranged) h
+
+    by : (p : LinkState) → e.shdlc.phase ≡ p → EndIs n (put_down true e)
+    by Up p = rw p stops
+    by Waiting p = rw p stops
+    by Down p = rw p (record { bare = h.bare; acts = ap (map in_front) h.acts; few = h.few; ranged = h.ranged })
+
+end_heard : (n : ℕ) (e : LinkEnd) (c : Control) → EndIs n e → EndIs n (heard e c)
+end_heard n e c h =
+    let f : LinkEnd = moved e (is_some (take_answer e.shdlc c).ended) (taken e.shdlc c) in
+    let is : EndIs n f = end_moved n e (is_some (take_answer e.shdlc c).ended) (taken e.shdlc c) (ranged_taken e.shdlc c h.ranged) h in
+    end_cond n (is_faulty (taken e.shdlc c).session) (put_down true e) (record f { got = e.got ++ news e.shdlc.session (taken e.shdlc c) })
+    (end_down n e h) (record { bare = is.bare; acts = is.acts; few = is.few; ranged = is.ranged })
+
+pub end_took : (n : ℕ) (e : LinkEnd) (c : Control) → IsFrame c → EndIs n e → EndIs n (took e c)
+end_took n e (I ns nr info) is h = end_cond n (is_open e.role) (heard e (I ns nr info)) e (end_heard n e (I ns nr info) h) h
+end_took n e (S kind nr) is h = end_cond n (is_open e.role) (heard e (S kind nr)) e (end_heard n e (S kind nr) h) h
+end_took n e (Rset window caps) is h = end_cond n (is_open e.role) (heard e (Rset window caps)) e (end_heard n e (Rset window caps) h) h
+end_took n e Ua is h = end_cond n (is_open e.role) (heard e Ua) e (end_heard n e Ua h) h
+end_took n e (Act act again) is h = absurd is
+end_took n e Clt is h = absurd is
+
+pub opens : (n : ℕ) (e : LinkEnd) → EndIs n e → is_open e.role ≡ true
+opens n e h = ap is_open h.bare
+
+pub end_ticked : (n : ℕ) (e : LinkEnd) → EndIs n e → EndIs n (had_tick e)
+end_ticked n e h =
+    let go : EndIs n (moved e (is_some (tick_answer e.shdlc).ended) (ticked e.shdlc)) =
+    end_moved n e (is_some (tick_answer e.shdlc).ended) (ticked e.shdlc) (ranged_ticked e.shdlc h.ranged) h in
+    subst (λ b. EndIs n (cond b (moved e (is_some (tick_answer e.shdlc).ended) (ticked e.shdlc)) (activated e ActTick))) (sym (opens n e h)) go
+
+-- a window that a reset names
+abbrev pub IsLowWindow : Option ℕ → Type 0
+IsLowWindow None = Unit {0}
+IsLowWindow (Some w) = w ≤ 4
+
+window_low : (e : LinkEnd) (window : Option ℕ) → IsLowWindow window → Ranged e.shdlc → window_of e window ≤ 4
+window_low e None low h = h.window
+window_low e (Some w) low h = low
+
+pub end_reset : (n : ℕ) (e : LinkEnd) (window : Option ℕ) → IsLowWindow window → EndIs n e → EndIs n (after_input e (Reset window))
+end_reset n e window low h =
+    end_unless n (reset_refusal e) e (reset_by e (window_of e window)) h
+    (end_moved n e (is_some (if_up e.shdlc Asked)) (reset_with e.shdlc (window_of e window))
+    (ranged_reset e.shdlc (window_of e window) (window_low e window low h.ranged) h.ranged) h)
+
+pub end_given : (n : ℕ) (e : LinkEnd) (m : Message) → IsTellable m → EndIs n e → EndIs (n + 1) (turn e (Give m))
+end_given n e m is h =
+    end_unless (n + 1) (give_refusal e m) e (given e m) (end_more n (n + 1) e (omega arith) h) (record {
+      bare = h.bare;
+      acts = h.acts;
+      few = let l = length-append e.sent (m ∷ []) in let f = h.few in omega (arith, l, f);
+      ranged = ranged_out e.shdlc (map packet_bytes (packets_of m.0 m.1)) (fragments_in m is) h.ranged;
+    })
+
+pub end_held : (n : ℕ) (e : LinkEnd) (held : Bool) → EndIs n e → EndIs n (turn e (Hold held))
+end_held n e held h = record { bare = h.bare; acts = h.acts; few = h.few; ranged = ranged_ready e.shdlc (not held) h.ranged }
+
+pub end_fetched : (n : ℕ) (e : LinkEnd) → EndIs n e → EndIs n (turn e FetchMessage)
+end_fetched n e h = record { bare = h.bare; acts = h.acts; few = h.few; ranged = h.ranged }
+
+-- ## The link
+
+pub record NumberedIs (most n : ℕ) (h : NumberedEnd) : Type 0 where
+  pub side : EndIs most h.side
+  pub emitted : h.emitted ≤ n
+  pub took : h.took ≤ n
+
+-- the link where no number is above n, and no more than so many messages were given to an end in its session
+pub record LinkIs (most n : ℕ) (l : Link) : Type 0 where
+  pub near : NumberedIs most n l.controller
+  pub far : NumberedIs most n l.host
+  pub to_near : WireIs IsFrame n l.to_controller
+  pub to_far : WireIs IsFrame n l.to_host
+  pub resets : l.resets ≤ n
+
+numbered_more : (most all n k : ℕ) (h : NumberedEnd) → most ≤ all → n ≤ k → NumberedIs most n h → NumberedIs all k h
+numbered_more most all n k h more_given more is =
+    let a = is.emitted in
+    let b = is.took in
+    record { side = end_more most all h.side more_given is.side; emitted = omega (arith, a, more); took = omega (arith, b, more) }
+
+pub link_more : (most all n k : ℕ) (l : Link) → most ≤ all → n ≤ k → LinkIs most n l → LinkIs all k l
+link_more most all n k l more_given more h =
+    let r = h.resets in
+    record {
+      near = numbered_more most all n k l.controller more_given more h.near;
+      far = numbered_more most all n k l.host more_given more h.far;
+      to_near = wire_more IsFrame n k l.to_controller more h.to_near;
+      to_far = wire_more IsFrame n k l.to_host more h.to_far;
+      resets = omega (arith, r, more);
+    }
+
+-- no number is above a greater one
+link_up : (most n k : ℕ) (l : Link) → n ≤ k → LinkIs most n l → LinkIs most k l
+link_up most n k l more h = link_more most most n k l (omega arith) more h
+
+-- The numbers of a link are bounded by the RSETs that were made on it, whatever it came through.
+pub link_within : (most n k : ℕ) (l : Link) → FewRsets k l → LinkIs most n l → LinkIs most k l
+link_within most n k l few h =
+    let made = few.made in
+    let low : l.resets ≤ k = omega (arith, made) in
+    record {
+      near = numbered_within l.resets l.controller low few.numbered.controller h.near.side;
+      far = numbered_within l.resets l.host low few.numbered.host h.far.side;
+      to_near = wire_within IsFrame n k l.resets l.to_controller low h.to_near few.numbered.to_controller;
+      to_far = wire_within IsFrame n k l.resets l.to_host low h.to_far few.numbered.to_host;
+      resets = low;
+    }
+  where
+    numbered_within : (r : ℕ) (h : NumberedEnd) → r ≤ k → EndIsLow r h → EndIs most h.side → NumberedIs most k h
+    numbered_within r h more low is =
+        let a = low.emitted in
+        let b = low.took in record { side = is; emitted = omega (arith, a, more); took = omega (arith, b, more) }
+
+pub link_swapped : (most n : ℕ) (l : Link) → LinkIs most n l → LinkIs most n (exchanged l)
+link_swapped most n l h = record { near = h.far; far = h.near; to_near = h.to_far; to_far = h.to_near; resets = h.resets }
+
+pub link_aged : (most n : ℕ) (l : Link) → LinkIs most n l → LinkIs most n (aged l)
+link_aged most n l h =
+    record {
+      near = h.near;
+      far = h.far;
+      to_near = wire_aged IsFrame n l.to_controller h.to_near;
+      to_far = wire_aged IsFrame n l.to_host h.to_far;
+      resets = h.resets;
+    }
+
+-- the frame that is put on the wire to the host
+abbrev pub put_frame : Link → Control → OnWire
+put_frame l c = record { frame = c; age = 0; number = if is_rset c then l.resets + 1 else 0 }
+
+pub put_frame_is : (most n : ℕ) (l : Link) (c : Control) → IsFrame c → LinkIs most n l → FrameIs IsFrame (n + 1) (put_frame l c)
+put_frame_is most n l c is h = record { frame = is; number = go (is_rset c) }
+  where
+    go : (b : Bool) → cond b (l.resets + 1) 0 ≤ n + 1
+    go true = let r = h.resets in omega (arith, r)
+    go false = omega arith
+
+pub link_put : (most n : ℕ) (l : Link) (c : Control) → IsFrame c → LinkIs most n l → LinkIs most (n + 1) (put l c)
+link_put most n l c is h = go (is_rset c) refl
+  where
+    up : LinkIs most (n + 1) l
+    up = link_up most n (n + 1) l (omega arith) h
+
+    go : (b : Bool) → is_rset c ≡ b → LinkIs most (n + 1) (put l c)
+    go true q =
+        let r = h.resets in
+        let x : OnWire = record { frame = c; age = 0; number = l.resets + 1 } in
+        rw q (record {
+          near = record { side = up.near.side; emitted = omega (arith, r); took = up.near.took };
+          far = up.far;
+          to_near = up.to_near;
+          to_far = wire_put IsFrame (n + 1) l.to_host x up.to_far (record { frame = is; number = omega (arith, r) });
+          resets = omega (arith, r);
+        })
+    go false q =
+        let x : OnWire = record { frame = c; age = 0; number = 0 } in
+        rw q (record {
+          near = up.near;
+          far = up.far;
+          to_near = up.to_near;
+          to_far = wire_put IsFrame (n + 1) l.to_host x up.to_far (record { frame = is; number = omega arith });
+          resets = up.resets;
+        })
+
+link_puts : (cs : List Control) (most n : ℕ) (l : Link) → AllByRecursion IsFrame cs → LinkIs most n l → LinkIs most (n + length cs) (put_all l cs)
+link_puts [] most n l is h = link_up most n (n + 0) l (omega arith) h
+link_puts (c ∷ cs) most n l is h =
+    link_up most ((n + 1) + length cs) (n + length (c ∷ cs)) (put_all (put l c) cs) (omega arith)
+    (link_puts cs most (n + 1) (put l c) is.1 (link_put most n l c is.0 h))
+
+-- all frames that are due at a bare end
+pub out_is : (n : ℕ) (e : LinkEnd) → EndIs n e → AllByRecursion IsFrame (frames_out e)
+out_is n e h =
+    subst (λ acts. AllByRecursion IsFrame (among 0 acts (all_frames e.shdlc))) (sym h.acts) (frames_in 12 e.shdlc h.ranged)
+
+out_few : (n : ℕ) (e : LinkEnd) → EndIs n e → length (frames_out e) ≤ 12
+out_few n e h = subst (λ acts. length (among 0 acts (all_frames e.shdlc)) ≤ 12) (sym h.acts) (frames_few 12 e.shdlc)
+
+end_sent : (n : ℕ) (e : LinkEnd) → EndIs n e → EndIs n (sent_all e)
+end_sent n e h = record { bare = h.bare; acts = refl; few = h.few; ranged = ranged_after 12 e.shdlc h.ranged }
+
+-- the controller's end has become e, and all its frames went out
+link_becomes : (most n : ℕ) (l : Link) (e : LinkEnd) → EndIs most e → LinkIs most n l → LinkIs most (n + 12) (becomes l e)
+link_becomes most n l e is h =
+    let few = out_few most e is in
+    let m : Link = put_all l (frames_out e) in
+    let p : LinkIs most (n + 12) m =
+    link_up most (n + length (frames_out e)) (n + 12) m (omega (arith, few)) (link_puts (frames_out e) most n l (out_is most e is) h) in
+    record {
+      near = record { side = end_sent most e is; emitted = p.near.emitted; took = p.near.took };
+      far = p.far;
+      to_near = p.to_near;
+      to_far = p.to_far;
+      resets = p.resets;
+    }
+
+pub link_ended : (most n : ℕ) (l : Link) (b : Bool) → LinkIs most n l → LinkIs most n (with_ended l b)
+link_ended most n l false h = h
+link_ended most n l true h =
+    record {
+      near = record { side = h.near.side; emitted = h.near.emitted; took = h.near.took };
+      far = h.far;
+      to_near = h.to_near;
+      to_far = h.to_far;
+      resets = h.resets;
+    }
+
+link_input : (most n : ℕ) (l : Link) (i : LinkInput) → EndIs most (after_input l.controller.side i) → LinkIs most n l
+    → LinkIs most (n + 12) (has_input l i [] GoesOut)
+link_input most n l i is h =
+    let b : Bool = is_some (ended_by l.controller.side i) in link_becomes most n (with_ended l b) (after_input l.controller.side i) is (link_ended most n l b h)
+
+pub took_low : (n t : ℕ) (x : OnWire) → t ≤ n → x.number ≤ n → took_with t x ≤ n
+took_low n t x low is = go (is_rset x.frame)
+  where
+    go : (b : Bool) → cond b (max t x.number) t ≤ n
+    go true = omega (arith, low, is)
+    go false = low
+
+-- the link where the controller's end has taken a frame, and these are left
+abbrev pub left_with : Link → OnWire → List OnWire → Link
+left_with l x xs =
+    let m : Link = with_ended (record l { to_controller = xs }) (is_some (ended_by l.controller.side (Take x.frame))) in
+    record m { controller = record m.controller { took = took_with l.controller.took x } }
+
+pub link_left : (most n : ℕ) (l : Link) (x : OnWire) (xs : List OnWire) → l.to_controller ≡ x ∷ xs → LinkIs most n l → LinkIs most n (left_with l x xs)
+link_left most n l x xs q h =
+    let wire : WireIs IsFrame n (x ∷ xs) = subst (WireIs IsFrame n) q h.to_near in
+    let few = wire.few in
+    let one : LinkIs most n (record l { to_controller = xs }) =
+    record { near = h.near; far = h.far; to_near = record { frames = wire.frames.1; few = omega (arith, few) }; to_far = h.to_far; resets = h.resets } in
+    let b : Bool = is_some (ended_by l.controller.side (Take x.frame)) in
+    let two : LinkIs most n (with_ended (record l { to_controller = xs }) b) = link_ended most n (record l { to_controller = xs }) b one in
+    record {
+      near = record { side = two.near.side; emitted = two.near.emitted; took = took_low n l.controller.took x h.near.took wire.frames.0.number };
+      far = two.far;
+      to_near = two.to_near;
+      to_far = two.to_far;
+      resets = two.resets;
+    }
+
+-- ## What happens at one end
+
+link_taken : (most n : ℕ) (l : Link) → LinkIs most n l → LinkIs most (n + 12) (happens_at_controller l (Step NextFrame (FetchMessage ∷ []) GoesOut))
+link_taken most n l h = by l.to_controller refl
+  where
+    by : (w : List OnWire) → l.to_controller ≡ w → LinkIs most (n + 12) (happens_at_controller l (Step NextFrame (FetchMessage ∷ []) GoesOut))
+    by [] q =
+        rw q
+        (link_up most n (n + 12) (record l { to_controller = [] }) (omega arith)
+        (record { near = h.near; far = h.far; to_near = record { frames = tt; few = omega arith }; to_far = h.to_far; resets = h.resets }))
+    by (x ∷ xs) q =
+        let wire : WireIs IsFrame n (x ∷ xs) = subst (WireIs IsFrame n) q h.to_near in
+        let e : LinkEnd = after_input l.controller.side (Take x.frame) in
+        rw q (link_becomes most n (left_with l x xs) (turn e FetchMessage)
+        (end_fetched most e (end_took most l.controller.side x.frame wire.frames.0.frame h.near.side)) (link_left most n l x xs q h))
+
+pub link_ticked : (most n : ℕ) (l : Link) → LinkIs most n l → LinkIs most (n + 12) (ticks_at_controller l [] GoesOut)
+link_ticked most n l h = link_input most n l Tick (end_ticked most l.controller.side h.near.side) h
+
+link_reset : (most n : ℕ) (window : Option ℕ) (l : Link) → IsLowWindow window → LinkIs most n l
+    → LinkIs most (n + 12) (happens_at_controller l (Step (AsksReset window) [] GoesOut))
+link_reset most n window l low h = link_input most n l (Reset window) (end_reset most l.controller.side window low h.near.side) h
+
+link_held : (most n : ℕ) (held : Bool) (l : Link) → LinkIs most n l → LinkIs most (n + 12) (happens_at_controller l (Step NoInput (Hold held ∷ []) GoesOut))
+link_held most n held l h = link_becomes most n l (turn l.controller.side (Hold held)) (end_held most l.controller.side held h.near.side) h
+
+link_given : (most n : ℕ) (m : Message) (l : Link) → IsTellable m → LinkIs most n l
+    → LinkIs (most + 1) (n + 12) (happens_at_controller l (Step NoInput (Give m ∷ []) GoesOut))
+link_given most n m l is h =
+    link_becomes (most + 1) n l (turn l.controller.side (Give m)) (end_given most l.controller.side m is h.near.side)
+    (link_more most (most + 1) n n l (omega arith) (omega arith) h)
+
+link_lost : (most n : ℕ) (l : Link) (why : Loss) → LinkIs most n l → LinkIs most n (happens_at_controller l (Lose why))
+link_lost most n l why h =
+    record { near = h.near; far = h.far; to_near = wire_dropped IsFrame n l.to_controller h.to_near; to_far = h.to_far; resets = h.resets }
+
+-- it happens at either end
+link_either : (most all n k : ℕ) (l : Link) (e : End) (x : EndEvent) → ((m : Link) → LinkIs most n m → LinkIs all k (happens_at_controller m x))
+    → LinkIs most n l → LinkIs all k (happens l (at e x))
+link_either most all n k l e x here h = go e.at_host
+  where
+    go : (b : Bool) → LinkIs all k (happens l (at (record { link = e.link; at_host = b }) x))
+    go true = link_swapped all k (happens_at_controller (exchanged l) x) (here (exchanged l) (link_swapped most n l h))
+    go false = here l h
+
+-- ## Causes
+
+-- what a cause says is in its range
+abbrev pub CanTell : Cause → Type 0
+CanTell (Given e m) = IsTellable m
+CanTell (WasReset e window) = IsLowWindow window
+CanTell (Taken e) = Unit {0}
+CanTell (WasLost e why) = Unit {0}
+CanTell Ticked = Unit {0}
+CanTell (Readied e ready) = Unit {0}
+
+-- how many messages are given
+abbrev pub given_by : Cause → ℕ
+given_by (Given e m) = 1
+given_by (Taken e) = 0
+given_by (WasLost e why) = 0
+given_by Ticked = 0
+given_by (WasReset e window) = 0
+given_by (Readied e ready) = 0
+
+pub link_caused : (most n : ℕ) (l : Link) (c : Cause) → CanTell c → LinkIs most n l → LinkIs (most + given_by c) (n + 24) (link_after l c)
+link_caused most n l (Given e m) can h =
+    link_up (most + 1) (n + 12) (n + 24) _ (omega arith)
+    (link_either most (most + 1) n (n + 12) l e (Step NoInput (Give m ∷ []) GoesOut) (λ k g. link_given most n m k can g) h)
+link_caused most n l (Taken e) can h =
+    link_more most (most + 0) (n + 12) (n + 24) _ (omega arith) (omega arith)
+    (link_either most most n (n + 12) l e (Step NextFrame (FetchMessage ∷ []) GoesOut) (link_taken most n) h)
+link_caused most n l (WasLost e why) can h =
+    link_more most (most + 0) n (n + 24) _ (omega arith) (omega arith)
+    (link_either most most n n l e (Lose why) (λ k g. link_lost most n k why g) h)
+link_caused most n l (WasReset e window) can h =
+    link_more most (most + 0) (n + 12) (n + 24) _ (omega arith) (omega arith)
+    (link_either most most n (n + 12) l e (Step (AsksReset window) [] GoesOut) (λ k g. link_reset most n window k can g) h)
+link_caused most n l (Readied e ready) can h =
+    link_more most (most + 0) (n + 12) (n + 24) _ (omega arith) (omega arith)
+    (link_either most most n (n + 12) l e (Step NoInput (Hold (not ready) ∷ []) GoesOut) (link_held most n (not ready)) h)
+link_caused most n l Ticked can h =
+    let near : Link = ticks_at_controller (aged l) [] GoesOut in
+    link_more most (most + 0) ((n + 12) + 12) (n + 24) _ (omega arith) (omega arith)
+    (link_swapped most ((n + 12) + 12) (ticks_at_controller (exchanged near) [] GoesOut)
+    (link_ticked most (n + 12) (exchanged near) (link_swapped most (n + 12) near (link_ticked most n (aged l) (link_aged most n l h)))))
+
+-- nothing has happened yet
+pub bare_is : LinkIs 0 0 bare_link
+bare_is =
+    let side : EndIs 0 bare_link.controller.side =
+    record { bare = refl; acts = refl; few = omega arith; ranged = record { fragments = tt; window = omega arith; few = omega arith } } in
+    record {
+      near = record { side = side; emitted = omega arith; took = omega arith };
+      far = record { side = side; emitted = omega arith; took = omega arith };
+      to_near = record { frames = tt; few = omega arith };
+      to_far = record { frames = tt; few = omega arith };
+      resets = omega arith;
+    }

@@ -1,0 +1,254 @@
+-- All that is told of a schedule is in its range: its header, its opening, and its lines, each with what is noted below it.
+use Rattle.std.proofs.Common.{◌≡◌, inl, inr, ℕ, zero, suc, ◌≤◌, true, false, List, [], ◌∷◌, ◌++◌, length, replicate, None, refl, sym, ap, subst}
+use Rattle.std.proofs.Common.{◌∙◌, arith, append-nil, append_assoc, length-append, All}
+use Rattle.std.specs.List.{AllByRecursion, flat_map}
+use Rattle.registry.proofs.ValueLemmas.{AllByRecursion-append as each-append}
+use Rattle.trace_model.specs.declared.entry.Entry.{Entry}
+use Rattle.trace_model.specs.declared.entry.Entry.TheVariants.{Echo}
+use Rattle.trace_model.specs.declared.line.Header.{Header}
+use Rattle.trace_model.specs.declared.line.Line.{Line}
+use Rattle.trace_model.specs.declared.line.Line.TheVariants as line
+use Rattle.trace_model.specs.Lines.{MayBegin, MayFollow}
+use Rattle.told_laws.specs.texts.Ranges.{IsEntry}
+use Rattle.told_laws.proofs.texts.ReadLemmas.{said_in}
+use Rattle.link_laws.specs.messages.Links.{Link}
+use Rattle.history.specs.Histories.{History, Outcome, Step, noted}
+use Rattle.history.specs.Steps.{bare_link}
+use Rattle.history.specs.Follows.{Follows, StepsFollow, host_of, link_after_line, misread, opening_of, outcome_of}
+use Rattle.node_machine.specs.world.Lines.{misread_in}
+use Rattle.node_machine.specs.world.NodeHistories.{NoneIsMisread}
+use Rattle.node_machine.specs.world.World.{NodeWorld, new_world}
+use Rattle.node_laws.proofs.order.HostsStay.{hosts_stay_behind}
+use Rattle.lines_told.specs.lines.Below.{bare_link_behind, misread_below, nodes_behind, opening_told, told_below}
+use Rattle.lines_told.specs.lines.Plays.{Play, AreFewPlays, IsPlayFor, lines_played, lines_played_of, plays_of, plays_of_line, round_behind, rounds_to_rest}
+use Rattle.lines_told.specs.lines.Plays.{schedule_told, told_behind, told_of_line, told_of_lines, told_of_rounds}
+use Rattle.lines_told.specs.lines.Plays.Play.{Said, Round}
+use Rattle.lines_told.specs.lines.RoundLines.{IsRoundLine}
+use Rattle.lines_told.proofs.lines.BareRounds.{lines-append}
+use Rattle.lines_told.proofs.lines.Lines.{round_known, sure_below}
+use Rattle.lines_told.proofs.lines.NodeRounds.{after-append}
+use Rattle.lines_told.proofs.lines.Plays.{played_more, plays_for, plays_more, round_first}
+use Rattle.lines_told.proofs.lines.Resting.{at_most, few_plays}
+use Rattle.lines_told.proofs.lines.Told.{behind-append, told_nodes}
+use Rattle.told_laws.specs.told.Told.{step_told}
+use Rattle.told_laws.proofs.told.Lines.{each_all, host_low}
+use Rattle.told_laws.proofs.told.Coming.{front_each, back_each}
+use Rattle.told_laws.proofs.told.BarePlays.{bare_told_in}
+use Rattle.told_laws.proofs.told.Plays.{lines_from, played_from}
+use Rattle.told_laws.proofs.nodes.Schedules.{told_below_plays}
+
+module _ (header : Header) where
+  -- ## Lines of which none is misread
+
+  -- no line damages a frame so that another one is read
+  abbrev AreSure : List Line → List Line → Type 0
+  AreSure before [] = Unit {0}
+  AreSure before (l ∷ lines) = (misread_below header before l ≡ None) × AreSure (before ++ l ∷ []) lines
+
+  sure-append : (xs ys before : List Line) → AreSure before xs → AreSure (before ++ xs) ys → AreSure before (xs ++ ys)
+  sure-append [] ys before a b = subst (λ (ls : List Line). AreSure ls ys) (append-nil before) b
+  sure-append (x ∷ xs) ys before a b =
+      (a.0, sure-append xs ys (before ++ x ∷ []) a.1 (subst (λ (ls : List Line). AreSure ls ys) (sym (append_assoc before (x ∷ []) xs)) b))
+
+  sure_lines : (lines before : List Line) → AllByRecursion (IsRoundLine header) lines → AreSure before lines
+  sure_lines [] before are = tt
+  sure_lines (l ∷ lines) before are = (sure_below header l are.0 before, sure_lines lines (before ++ l ∷ []) are.1)
+
+  abbrev AreSurePlays : List Play → Type 0
+  AreSurePlays plays = AreSure [] (lines_played header plays)
+
+  sure_with : (plays : List Play) (line : Line) → misread_below header (lines_played header plays) line ≡ None → AreSurePlays plays
+      → AreSurePlays (plays ++ Said line ∷ [])
+  sure_with plays line none sure =
+      subst (AreSure []) (sym (played_more header plays (Said line)))
+      (sure-append (lines_played header plays) (line ∷ []) [] sure (none, tt))
+
+  module _ (begin : MayBegin header) where
+    sure_rounds : (n : ℕ) (plays : List Play) → AreSurePlays plays → AreSurePlays (plays ++ replicate n Round)
+    sure_rounds zero plays sure = subst AreSurePlays (sym (append-nil plays)) sure
+    sure_rounds (suc n) plays sure =
+        let before : List Line = lines_played header plays in
+        let one : AreSurePlays (plays ++ Round ∷ []) =
+        subst (AreSure []) (sym (played_more header plays Round))
+        (sure-append before (round_behind header before) [] sure
+        (sure_lines (round_behind header before) before (round_known header begin (hosts_stay_behind header) before))) in
+        subst AreSurePlays (sym (round_first plays n)) (sure_rounds n (plays ++ Round ∷ []) one)
+
+    sure_line : (plays : List Play) (said : Line) → misread_below header (lines_played header plays) said ≡ None → AreSurePlays plays
+        → AreSurePlays (plays ++ plays_of_line header plays said)
+    sure_line plays (line.Settle n) none sure = sure_rounds (rounds_to_rest header plays n) plays sure
+    sure_line plays (line.Send e pid message) none sure = sure_with plays (line.Send e pid message) none sure
+    sure_line plays (line.Deliver e count) none sure = sure_with plays (line.Deliver e count) none sure
+    sure_line plays (line.Lose e) none sure = sure_with plays (line.Lose e) none sure
+    sure_line plays (line.Damage e places) none sure = sure_with plays (line.Damage e places) none sure
+    sure_line plays (line.Tick times) none sure = sure_with plays (line.Tick times) none sure
+    sure_line plays (line.Reset e window) none sure = sure_with plays (line.Reset e window) none sure
+    sure_line plays (line.Busy e) none sure = sure_with plays (line.Busy e) none sure
+    sure_line plays (line.Ready e) none sure = sure_with plays (line.Ready e) none sure
+    sure_line plays (line.Boot node) none sure = sure_with plays (line.Boot node) none sure
+    sure_line plays (line.Cut node) none sure = sure_with plays (line.Cut node) none sure
+    sure_line plays (line.Activate host sync power) none sure = sure_with plays (line.Activate host sync power) none sure
+    sure_line plays (line.Arm node nth fill) none sure = sure_with plays (line.Arm node nth fill) none sure
+    sure_line plays (line.Init e identity pipes) none sure = sure_with plays (line.Init e identity pipes) none sure
+    sure_line plays (line.Tables node) none sure = sure_with plays (line.Tables node) none sure
+
+    -- ## What is told below the lines of plays
+
+    nodes_sure : header.hci ≡ true → (lines before : List Line) → AreSure before lines → NoneIsMisread (nodes_behind header before) lines
+    nodes_sure hci [] before sure = tt
+    nodes_sure hci (l ∷ lines) before sure =
+        let w : NodeWorld = nodes_behind header before in
+        let same : misread_below header before l ≡ misread_in w l = rw hci refl in (
+          sym same ∙ sure.0,
+          subst (λ (v : NodeWorld). NoneIsMisread v lines) (after-append before (l ∷ []) (new_world header.hosts.items))
+              (nodes_sure hci lines (before ++ l ∷ []) sure.1),
+        )
+
+    -- the steps of lines on a bare link
+    abbrev steps_on : Link → List Line → List Step
+    steps_on l [] = []
+    steps_on l (said ∷ lines) =
+        record { line = said; outcome = outcome_of (host_of header) l said } ∷ steps_on (link_after_line l (outcome_of (host_of header) l said)) lines
+
+    one_more : (before : List Line) (said : Line)
+        → bare_link_behind header (before ++ said ∷ [])
+        ≡ link_after_line (bare_link_behind header before) (outcome_of (host_of header) (bare_link_behind header before) said)
+    one_more before said = lines-append (host_of header) before (said ∷ []) bare_link
+
+    bare_follows : header.hci ≡ false → (lines before : List Line) (l : Link) → bare_link_behind header before ≡ l → AreSure before lines
+        → StepsFollow (host_of header) l lines (steps_on l lines)
+    bare_follows bare [] before l is sure = tt
+    bare_follows bare (said ∷ lines) before l is sure =
+        let same : misread_below header before said ≡ misread l said = rw bare (ap (λ (m : Link). misread m said) is) in
+        let next : bare_link_behind header (before ++ said ∷ []) ≡ link_after_line l (outcome_of (host_of header) l said) =
+        one_more before said ∙ ap (λ (m : Link). link_after_line m (outcome_of (host_of header) m said)) is in
+        (refl, refl, sym same ∙ sure.0, bare_follows bare lines (before ++ said ∷ []) (link_after_line l (outcome_of (host_of header) l said)) next sure.1)
+
+    bare_behind : header.hci ≡ false → (lines before : List Line) (l : Link) → bare_link_behind header before ≡ l
+        → AllByRecursion IsEntry (flat_map step_told (steps_on l lines)) → AllByRecursion IsEntry (told_behind header before lines)
+    bare_behind bare [] before l is told = tt
+    bare_behind bare (said ∷ lines) before l is told =
+        let outcome : Outcome = outcome_of (host_of header) l said in
+        let here : List Entry = noted outcome in
+        let later : List Entry = flat_map step_told (steps_on (link_after_line l outcome) lines) in
+        let same : told_below header before said ≡ here = rw bare (ap (λ (m : Link). noted (outcome_of (host_of header) m said)) is) in
+        let next : bare_link_behind header (before ++ said ∷ []) ≡ link_after_line l outcome =
+        one_more before said ∙ ap (λ (m : Link). link_after_line m (outcome_of (host_of header) m said)) is in
+        each-append IsEntry (told_below header before said) (told_behind header (before ++ said ∷ []) lines)
+        (subst (AllByRecursion IsEntry) (sym same) (front_each IsEntry here later told.1))
+        (bare_behind bare lines (before ++ said ∷ []) (link_after_line l outcome) next (back_each IsEntry here later told.1))
+
+    told_plays : (plays : List Play) → AllByRecursion (IsPlayFor header) plays → AreFewPlays plays → AreSurePlays plays
+        → AllByRecursion IsEntry (told_behind header [] (lines_played header plays))
+    told_plays plays may few sure = go begin
+      where
+        lines : List Line
+        lines = lines_played header plays
+
+        go : MayBegin header → AllByRecursion IsEntry (told_behind header [] lines)
+        go (inr nodes) =
+            subst (AllByRecursion IsEntry) (sym (told_nodes header nodes.nodes lines []))
+            (told_below_plays header nodes plays may few (nodes_sure nodes.nodes lines [] sure))
+        go (inl is) =
+            let t : History = record { header = header; opening = opening_of (host_of header); steps = steps_on bare_link lines } in
+            let follows : Follows header lines t =
+            record { header_is = refl; opening_is = refl; steps_follow = bare_follows is.bare lines [] bare_link refl sure } in
+            bare_behind is.bare lines [] bare_link refl
+            (back_each IsEntry (opening_of (host_of header)) (flat_map step_told (steps_on bare_link lines)) (bare_told_in header is plays t may few follows).1)
+
+    -- what is told of plays behind others
+    told_later : (before plays : List Play) → AllByRecursion (IsPlayFor header) (before ++ plays) → AreFewPlays (before ++ plays)
+        → AreSurePlays (before ++ plays) → AllByRecursion IsEntry (told_behind header (lines_played header before) (lines_from header before plays))
+    told_later before plays may few sure =
+        let lines : List Line = lines_played header before in
+        let parts : told_behind header [] (lines_played header (before ++ plays))
+        ≡ told_behind header [] lines ++ told_behind header lines (lines_from header before plays) =
+        ap (told_behind header []) (played_from header plays before) ∙ behind-append header lines (lines_from header before plays) [] in
+        back_each IsEntry (told_behind header [] lines) _ (subst (AllByRecursion IsEntry) parts (told_plays (before ++ plays) may few sure))
+
+    -- ## Lines of a schedule
+
+    rounds_told : (n : ℕ) (before : List Play)
+        → told_of_rounds header before n ≡ told_behind header (lines_played header before) (lines_from header before (replicate n Round))
+    rounds_told zero before = refl
+    rounds_told (suc n) before =
+        let lines : List Line = lines_played header before in
+        let round : List Line = round_behind header lines in
+        let rest : List Line = lines_from header (before ++ Round ∷ []) (replicate n Round) in
+        ap (λ (t : List Entry). told_behind header lines round ++ t)
+        (rounds_told n (before ++ Round ∷ []) ∙ ap (λ (ls : List Line). told_behind header ls rest) (played_more header before Round))
+        ∙ sym (behind-append header round rest lines)
+
+    said_told : (before : List Play) (said : Line)
+        → AllByRecursion IsEntry (told_behind header (lines_played header before) (lines_from header before (Said said ∷ [])))
+        → AllByRecursion IsEntry (told_below header (lines_played header before) said)
+    said_told before said told = front_each IsEntry (told_below header (lines_played header before) said) [] told
+
+    line_told : (before : List Play) (said : Line) → MayFollow header said
+        → AllByRecursion IsEntry (told_behind header (lines_played header before) (lines_from header before (plays_of_line header before said)))
+        → AllByRecursion IsEntry (told_of_line header before said)
+    line_told before (line.Settle n) may told =
+        let few = at_most header before n in
+        let most = may.1 in
+        each-append IsEntry (told_of_rounds header before (rounds_to_rest header before n)) _
+        (subst (AllByRecursion IsEntry) (sym (rounds_told (rounds_to_rest header before n) before)) told) (omega (arith, few, most), tt)
+    line_told before (line.Send e pid message) may told = said_told before (line.Send e pid message) told
+    line_told before (line.Deliver e count) may told = said_told before (line.Deliver e count) told
+    line_told before (line.Lose e) may told = said_told before (line.Lose e) told
+    line_told before (line.Damage e places) may told = said_told before (line.Damage e places) told
+    line_told before (line.Tick times) may told = said_told before (line.Tick times) told
+    line_told before (line.Reset e window) may told = said_told before (line.Reset e window) told
+    line_told before (line.Busy e) may told = said_told before (line.Busy e) told
+    line_told before (line.Ready e) may told = said_told before (line.Ready e) told
+    line_told before (line.Boot node) may told = said_told before (line.Boot node) told
+    line_told before (line.Cut node) may told = said_told before (line.Cut node) told
+    line_told before (line.Activate host sync power) may told = said_told before (line.Activate host sync power) told
+    line_told before (line.Arm node nth fill) may told = said_told before (line.Arm node nth fill) told
+    line_told before (line.Init e identity pipes) may told = said_told before (line.Init e identity pipes) told
+    line_told before (line.Tables node) may told = said_told before (line.Tables node) told
+
+    abbrev NoneIsMisreadOf : List Line → Type 0
+    NoneIsMisreadOf lines =
+        (front back : List Line) (said : Line) → lines ≡ front ++ said ∷ back → misread_below header (lines_played_of header front) said ≡ None
+
+    lines_told : (lines front whole : List Line) → whole ≡ front ++ lines → AllByRecursion (MayFollow header) whole → length whole ≤ 20000
+        → NoneIsMisreadOf whole → AreSurePlays (plays_of header front) → AllByRecursion IsEntry (told_of_lines header (plays_of header front) lines)
+    lines_told [] front whole is may few none sure = tt
+    lines_told (said ∷ lines) front whole is may few none sure =
+        let before : List Play = plays_of header front in
+        let now : List Line = front ++ said ∷ [] in
+        let parts : whole ≡ now ++ lines = is ∙ sym (append_assoc front (said ∷ []) lines) in
+        let may_now : AllByRecursion (MayFollow header) now =
+        front_each (MayFollow header) now lines (subst (AllByRecursion (MayFollow header)) parts may) in
+        let may_said : MayFollow header said = (back_each (MayFollow header) front (said ∷ []) may_now).0 in
+        let same = ap length parts in
+        let long = length-append now lines in
+        let few_now : length now ≤ 20000 = omega (arith, same, long, few) in
+        let next : plays_of header now ≡ before ++ plays_of_line header before said = plays_more header front said in
+        let sure_now : AreSurePlays (before ++ plays_of_line header before said) = sure_line before said (none front lines said is) sure in
+        let told : AllByRecursion IsEntry (told_of_line header before said) =
+        line_told before said may_said
+        (told_later before (plays_of_line header before said) (subst (AllByRecursion (IsPlayFor header)) next (plays_for header now may_now))
+        (subst AreFewPlays next (few_plays header now may_now few_now)) sure_now) in
+        let rest : AllByRecursion IsEntry (told_of_lines header (plays_of header now) lines) =
+        lines_told lines now whole parts may few none (subst AreSurePlays (sym next) sure_now) in
+        each-append IsEntry (Echo said ∷ told_of_line header before said) (told_of_lines header (before ++ plays_of_line header before said) lines)
+        (said_in header begin said may_said, told) (subst (λ (ps : List Play). AllByRecursion IsEntry (told_of_lines header ps lines)) next rest)
+
+    opening_in : AllByRecursion IsEntry (opening_told header)
+    opening_in = go begin
+      where
+        go : MayBegin header → AllByRecursion IsEntry (opening_told header)
+        go (inl is) =
+            let low = host_low header is in
+            let same : opening_told header ≡ opening_of (host_of header) = rw is.bare refl in
+            subst (AllByRecursion IsEntry) (sym same) ((low, omega arith), ((low, omega arith), tt))
+        go (inr nodes) = let same : opening_told header ≡ [] = rw nodes.nodes refl in subst (AllByRecursion IsEntry) (sym same) tt
+
+    pub schedule_told_in : (lines : List Line) → AllByRecursion (MayFollow header) lines → length lines ≤ 20000 → NoneIsMisreadOf lines
+        → All IsEntry (schedule_told header lines)
+    schedule_told_in lines may few none =
+        each_all IsEntry (schedule_told header lines) (
+          begin,
+          each-append IsEntry (opening_told header) (told_of_lines header [] lines) opening_in (lines_told lines [] lines refl may few none tt),
+        )

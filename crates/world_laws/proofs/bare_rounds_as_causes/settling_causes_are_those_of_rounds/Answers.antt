@@ -1,0 +1,25 @@
+use Rattle.std.proofs.Common.{arith}
+use Rattle.link_laws.specs.messages.Rest.{link_rests}
+use Rattle.lines_told.proofs.messages.Rest.{first_rest}
+use Rattle.node_laws.specs.rounds.BareRounds.{link_after_round}
+use Rattle.world_laws.specs.links.Settling.{rounds_to_settle}
+use Rattle.world_laws.proofs.links.RoundCauses.{settles, rounds_are, ticks_are}
+use Rattle.world_laws.proofs.bare_rounds_as_causes.settling_causes_are_those_of_rounds.Goals as goal
+
+pub returns-clause-least : goal.returns-clause-least
+returns-clause-least c = λ n h l. first_rest link_rests (link_after_round h) n l
+
+pub returns-clause-settles : goal.returns-clause-settles
+returns-clause-settles c = settles
+
+pub returns-clause-are : goal.returns-clause-are
+returns-clause-are c = λ n h l. rounds_are h (rounds_to_settle n h l) l
+
+pub returns-clause-ticks : goal.returns-clause-ticks
+returns-clause-ticks c = λ n h l. ticks_are h (rounds_to_settle n h l) l
+
+pub returns-clause-most : goal.returns-clause-most
+returns-clause-most c = λ n h l.
+    let ticks = ticks_are h (rounds_to_settle n h l) l in
+    let most = (first_rest link_rests (link_after_round h) n l).most in
+    omega (arith, ticks, most)

@@ -1,0 +1,455 @@
+-- What is noted of each event of a link, and of a whole run, holds the frames that are sent then and the messages that come.
+use Rattle.std.proofs.Common.{◌≡◌, Bool, true, false, List, [], ◌∷◌, ◌++◌, map, Option, inl, inr, refl, ap, sym, subst, ◌∙◌}
+use Rattle.std.proofs.Common.{append_assoc}
+use Rattle.swp_base.specs.declared.control_frames.Control.{Control}
+use Rattle.link_laws.specs.sessions.Sessions.{ShdlcLink as CoreLink, ShdlcTurn as CoreTurn, ShdlcEndEvent as CoreEndEvent, ShdlcLinkEvent as CoreLinkEvent}
+use Rattle.link_laws.specs.sessions.Sessions.{shdlc_exchanged as core_exchanged, shdlc_happens as core_happens, shdlc_after as core_after}
+use Rattle.link_laws.specs.sessions.Sessions.{shdlc_happens_at_controller as core_happens_here, shdlc_all_at_controller as core_all_here}
+use Rattle.link_laws.specs.sessions.Sessions.{shdlc_aged as core_aged}
+use Rattle.link_laws.specs.sessions.Sessions.{ticks_or_cut as core_ticks_or_cut, ticks_if_waiting as core_ticks_if_waiting}
+use Rattle.link_laws.specs.sessions.Sessions.ShdlcLinkEvent.{AtController as CoreAtController, AtHost as CoreAtHost, Tick as CoreTick}
+use Rattle.link_laws.specs.sessions.Sessions.ShdlcLinkEvent.{TickWithout as CoreTickWithout}
+use Rattle.link_laws.proofs.sessions.Sending.{SafeLink}
+use Rattle.link_laws.proofs.sessions.Steps.{safe_aged, safe_turns, safe_exchanged, tick_or_cut, tick_if_waiting}
+use Rattle.link_laws.specs.machine.Machine.{LinkEnd, Role}
+use Rattle.link_laws.specs.machine.Machine.Role.{Bare, Clf, Uicc}
+use Rattle.link_laws.specs.messages.Links.{Link, NumberedEnd, IsStart, EndEvent, Node, LinkEvent, exchanged, happens_at_controller}
+use Rattle.link_laws.specs.messages.Links.{all_at_controller, happens, aged, ticks_at_controller, CanStart, IsUicc, IsNode, IsAllowed, IsEvent}
+use Rattle.link_laws.specs.messages.Links.{AllAllowed}
+use Rattle.link_laws.specs.messages.Links.IsStart.{IsBare, IsLine}
+use Rattle.link_laws.specs.messages.Links.Ending.{GoesOut}
+use Rattle.link_laws.specs.messages.Links.Comes.{Starts}
+use Rattle.link_laws.specs.messages.Links.EndEvent.{Step as EndStep}
+use Rattle.link_laws.specs.messages.Links.LinkEvent.{AtController, AtHost, Ticks, TicksWithout, Activate}
+use Rattle.link_laws.specs.messages.Projection.{core_of, core_here, core_all, core_tick, core_tick_rest, core_event, core_events}
+use Rattle.link_laws.proofs.messages.Finishing.{step_tick, all_here-append}
+use Rattle.link_laws.proofs.messages.Runs.{Good, Reached, safe_reached, rests_of, reached_more, from_host, from_controller, step_own, all_step}
+use Rattle.link_laws.proofs.messages.Runs.{tells_same, seen}
+use Rattle.link_laws.proofs.messages.Runs.{event_step, rest_both, started_clf, clf_starts, can_start}
+use Rattle.link_laws.proofs.messages.Whole.{start_good, start_reached, core_starts, allowed}
+use Rattle.link_laws.specs.entries.Entries.{Entry, here_entries, entries_of_events, aged_entries, tick_entries, event_entries, entries, first_entries, trace}
+use Rattle.link_laws.specs.entries.Entries.End.{Controller, Host}
+use Rattle.link_laws.specs.entries.Entries.Entry.{Tick}
+use Rattle.tap_reading.specs.Tap.{reports_to, tapped}
+use Rattle.world_laws.specs.fragments.Emitted.{emitted_here, got_here, emitted_tick, emitted_if_waiting, emitted_turns, got_turns, frames_by}
+use Rattle.world_laws.specs.fragments.Emitted.{emitted_event, got_event}
+use Rattle.world_laws.specs.fragments.Emitted.{emitted, got}
+use Rattle.world_laws.specs.fragments.Emitted.{AllKeepPower, HasItsTick, NoneIsCut}
+use Rattle.world_laws.specs.fragments.Knowing.{StartsSo}
+use Rattle.world_laws.proofs.fragments.Runs.{reported}
+use Rattle.world_laws.specs.entries.Hearing.{frames_heard, lpdus_heard, gots_noted, is_bare}
+use Rattle.tap_reading.specs.Lpdus.{tapped_lpdus}
+use Rattle.world_laws.proofs.entries.Reading.{AreWritten, written-append, BothWritten, both-append, both_by, all_read}
+use Rattle.world_laws.proofs.entries.Noting.{Notes, notes_then, silent_none, silent_aged, NoCut, no_cut_parts, here_notes}
+use Rattle.world_laws.proofs.entries.Ticking.{turns-append, frames_by-append, reports_to-append, power-append, turns_bring_none, all_notes, TickNotes}
+use Rattle.world_laws.proofs.entries.Ticking.{tick_notes}
+use Rattle.world_laws.proofs.entries.Ticking.{tick_power}
+
+-- ## Lists of events over fragments
+
+emitted-append : (c : CoreLink) (es fs : List CoreLinkEvent) → emitted c (es ++ fs) ≡ emitted c es ++ emitted (core_after c es) fs
+emitted-append c [] fs = refl
+emitted-append c (e ∷ es) fs =
+    let d : CoreLink = core_happens c e in
+    ap (λ z. emitted_event c e ++ z) (emitted-append d es fs) ∙ sym (append_assoc (emitted_event c e) (emitted d es) (emitted (core_after d es) fs))
+
+got_all-append : (c : CoreLink) (es fs : List CoreLinkEvent) → got c (es ++ fs) ≡ got c es ++ got (core_after c es) fs
+got_all-append c [] fs = refl
+got_all-append c (e ∷ es) fs =
+    let d : CoreLink = core_happens c e in
+    ap (λ z. got_event c e ++ z) (got_all-append d es fs) ∙ sym (append_assoc (got_event c e) (got d es) (got (core_after d es) fs))
+
+none_cut-append : (es fs : List CoreLinkEvent) → NoneIsCut es → NoneIsCut fs → NoneIsCut (es ++ fs)
+none_cut-append [] fs a b = b
+none_cut-append (CoreAtController e ∷ es) fs a b = (a.0, none_cut-append es fs a.1 b)
+none_cut-append (CoreAtHost e ∷ es) fs a b = (a.0, none_cut-append es fs a.1 b)
+none_cut-append (CoreTick c turns h ∷ es) fs a b = (a.0, a.1, a.2, none_cut-append es fs a.3 b)
+none_cut-append (CoreTickWithout turns h ∷ es) fs a b = (a.0, a.1, none_cut-append es fs a.2 b)
+
+-- what happens at one end
+emitted_here_all : (es : List CoreEndEvent) (c : CoreLink) → emitted c (map CoreAtController es) ≡ frames_by true (emitted_turns c es)
+emitted_here_all [] c = refl
+emitted_here_all (e ∷ es) c =
+    let d : CoreLink = core_happens_here c e in
+    ap (λ z. frames_by true (emitted_here c e) ++ z) (emitted_here_all es d) ∙ sym (frames_by-append true (emitted_here c e) (emitted_turns d es))
+
+got_here_all : (es : List CoreEndEvent) (c : CoreLink) → got c (map CoreAtController es) ≡ reports_to true (got_turns c es)
+got_here_all [] c = refl
+got_here_all (e ∷ es) c =
+    let d : CoreLink = core_happens_here c e in
+    ap (λ z. reports_to true (got_here c e) ++ z) (got_here_all es d) ∙ sym (reports_to-append true (got_here c e) (got_turns d es))
+
+emitted_there_all : (es : List CoreEndEvent) (c : CoreLink) → emitted c (map CoreAtHost es) ≡ frames_by false (emitted_turns (core_exchanged c) es)
+emitted_there_all [] c = refl
+emitted_there_all (e ∷ es) c =
+    let k : CoreLink = core_exchanged c in
+    let d : CoreLink = core_happens_here k e in
+    ap (λ z. frames_by false (emitted_here k e) ++ z) (emitted_there_all es (core_exchanged d))
+    ∙ sym (frames_by-append false (emitted_here k e) (emitted_turns d es))
+
+got_there_all : (es : List CoreEndEvent) (c : CoreLink) → got c (map CoreAtHost es) ≡ reports_to false (got_turns (core_exchanged c) es)
+got_there_all [] c = refl
+got_there_all (e ∷ es) c =
+    let k : CoreLink = core_exchanged c in
+    let d : CoreLink = core_happens_here k e in
+    ap (λ z. reports_to false (got_here k e) ++ z) (got_there_all es (core_exchanged d))
+    ∙ sym (reports_to-append false (got_here k e) (got_turns d es))
+
+power_here : (es : List CoreEndEvent) → AllKeepPower es → NoneIsCut (map CoreAtController es)
+power_here [] a = tt
+power_here (e ∷ es) a = (a.0, power_here es a.1)
+
+power_there : (es : List CoreEndEvent) → AllKeepPower es → NoneIsCut (map CoreAtHost es)
+power_there [] a = tt
+power_there (e ∷ es) a = (a.0, power_there es a.1)
+
+-- ## Events at one end
+
+-- what is noted of an event, which is that of these over fragments
+record EventNotes (l : Link) (es : List CoreLinkEvent) (t : List Entry) : Type 0 where
+  notes : Notes t (emitted (core_of l) es) (got (core_of l) es)
+  power : NoneIsCut es
+  written : BothWritten (emitted (core_of l) es)
+
+at_controller : (l : Link) (e : EndEvent) → IsAllowed l e → Good l → Reached (core_of l) → NoCut (here_entries Controller l e)
+    → EventNotes l (map CoreAtController (core_here l e)) (here_entries Controller l e)
+at_controller l e a g r q =
+    let n = here_notes Controller l e a (record {
+      tells = g.controller;
+      host = g.host;
+      in_order = g.in_order;
+      rests = rests_of 0 0 (core_of l) (safe_reached (core_of l) r);
+      from = from_host (core_of l) r;
+    }) q in
+    record {
+      notes = record {
+        frames = n.notes.frames ∙ sym (emitted_here_all (core_here l e) (core_of l));
+        gots = n.notes.gots ∙ sym (got_here_all (core_here l e) (core_of l));
+      };
+      power = power_here (core_here l e) n.power;
+      written = subst BothWritten (sym (emitted_here_all (core_here l e) (core_of l))) (both_by true (emitted_turns (core_of l) (core_here l e)) n.written);
+    }
+
+at_host : (l : Link) (e : EndEvent) → IsAllowed (exchanged l) e → Good l → Reached (core_of l) → NoCut (here_entries Host (exchanged l) e)
+    → EventNotes l (map CoreAtHost (core_here (exchanged l) e)) (here_entries Host (exchanged l) e)
+at_host l e a g r q =
+    let k : Link = exchanged l in
+    let n = here_notes Host k e a (record {
+      tells = g.host;
+      host = g.controller;
+      in_order = seen l g.in_order;
+      rests = rests_of 0 0 (core_of k) (safe_exchanged 0 0 (core_of l) (safe_reached (core_of l) r));
+      from = from_controller (core_of l) r;
+    }) q in
+    record {
+      notes = record {
+        frames = n.notes.frames ∙ sym (emitted_there_all (core_here k e) (core_of l));
+        gots = n.notes.gots ∙ sym (got_there_all (core_here k e) (core_of l));
+      };
+      power = power_there (core_here k e) n.power;
+      written = subst BothWritten (sym (emitted_there_all (core_here k e) (core_of l))) (both_by false (emitted_turns (core_of k) (core_here k e)) n.written);
+    }
+
+-- ## Ticks
+
+written_parts : (cs ds : List Control) → AreWritten (cs ++ ds) → AreWritten cs × AreWritten ds
+written_parts [] ds a = (tt, a)
+written_parts (c ∷ cs) ds a = let p = written_parts cs ds a.1 in ((a.0, p.0), p.1)
+
+shuffle : (f a b c d : List Control) → frames_by true (f ++ a) ++ (frames_by true b ++ frames_by false (c ++ d))
+    ≡ (frames_by true (f ++ (a ++ b)) ++ frames_by false c) ++ frames_by false d
+shuffle f a b c d =
+    let far : List (Bool × Control) = frames_by false (c ++ d) in
+    sym (append_assoc (frames_by true (f ++ a)) (frames_by true b) far)
+    ∙ (ap (λ z. z ++ far) (sym (frames_by-append true (f ++ a) b) ∙ ap (frames_by true) (append_assoc f a b))
+    ∙ (ap (λ z. frames_by true (f ++ (a ++ b)) ++ z) (frames_by-append false c d)
+    ∙ sym (append_assoc (frames_by true (f ++ (a ++ b))) (frames_by false c) (frames_by false d))))
+
+-- the frames of a tick of this end
+abbrev tick_out : LinkEnd → Node → CoreLink → List Control
+tick_out e node c =
+    emitted_tick c (core_tick e node.turns node.ending)
+    ++ emitted_turns (core_ticks_or_cut (core_tick e node.turns node.ending) c) (core_tick_rest e node.turns node.ending)
+
+-- what is noted of a tick, of which x is the link over fragments before the tick of the host's end
+record TickParts (l m : Link) (x : CoreLink) (h : Node) (t : List Entry) (f a b : List Control) : Type 0 where
+  host : m.host ≡ l.host
+  core : core_of m ≡ x
+  notes : Notes t (frames_by true (f ++ a) ++ frames_by true b) []
+  last : TickNotes Host (exchanged m) h
+  written : AreWritten (f ++ (a ++ b))
+
+-- what is noted, and each frame can be read again
+record Made (t : List Entry) (fs : List (Bool × Control)) : Type 0 where
+  notes : Notes t fs []
+  written : BothWritten fs
+
+-- the frames of a whole tick
+tick_frames : (l m : Link) (x : CoreLink) (h : Node) (t : List Entry) (f a b : List Control) → TickParts l m x h t f a b
+    → Made (t ++ tick_entries Host (exchanged m) h)
+    ((frames_by true (f ++ (a ++ b)) ++ frames_by false (emitted_tick (core_exchanged x) (core_tick l.host.side h.turns h.ending)))
+    ++ frames_by false (emitted_turns (core_ticks_or_cut (core_tick l.host.side h.turns h.ending) (core_exchanged x))
+    (core_tick_rest l.host.side h.turns h.ending)))
+tick_frames l m x h t f a b p =
+    let fs : List (Bool × Control) = frames_by true (f ++ a) ++ frames_by true b in
+    let n = notes_then t (tick_entries Host (exchanged m) h) fs (frames_by false (tick_out m.host.side h (core_of (exchanged m)))) [] [] p.notes p.last.notes in
+    let same : tick_out m.host.side h (core_of (exchanged m)) ≡ tick_out l.host.side h (core_exchanged x) =
+    ap (λ (z : NumberedEnd). tick_out z.side h (core_of (exchanged m))) p.host ∙ ap (λ c. tick_out l.host.side h (core_exchanged c)) p.core in
+    let first : List Control = emitted_tick (core_exchanged x) (core_tick l.host.side h.turns h.ending) in
+    let rest : List Control = emitted_turns (core_ticks_or_cut (core_tick l.host.side h.turns h.ending) (core_exchanged x))
+    (core_tick_rest l.host.side h.turns h.ending) in
+    let head : List (Bool × Control) = frames_by true (f ++ (a ++ b)) ++ frames_by false first in
+    let far : AreWritten (first ++ rest) = subst AreWritten same p.last.written in
+    let parts = written_parts first rest far in
+    record {
+      notes = record {
+        frames = n.frames ∙ (ap (λ z. fs ++ frames_by false z) same
+            ∙ (append_assoc (frames_by true (f ++ a)) (frames_by true b) (frames_by false (first ++ rest)) ∙ shuffle f a b first rest));
+        gots = n.gots;
+      };
+      written = both-append head (frames_by false rest)
+          (both-append (frames_by true (f ++ (a ++ b))) (frames_by false first) (both_by true (f ++ (a ++ b)) p.written) (both_by false first parts.0))
+          (both_by false rest parts.1);
+    }
+
+-- what grows too old comes first
+aged_notes : (l : Link) (t : List Entry) (fs : List (Bool × Control)) → Made t fs
+    → Made (Tick ∷ (aged_entries Controller l.to_controller ++ (aged_entries Host l.to_host ++ t))) fs
+aged_notes l t fs n =
+    let p = notes_then (aged_entries Controller l.to_controller) (aged_entries Host l.to_host ++ t) [] fs [] [] (silent_aged Controller l.to_controller)
+    (notes_then (aged_entries Host l.to_host) t [] fs [] [] (silent_aged Host l.to_host) n.notes) in
+    record { notes = record { frames = p.frames; gots = p.gots }; written = n.written }
+
+-- and has no cut
+aged_cut : (l : Link) (t : List Entry) → NoCut (Tick ∷ (aged_entries Controller l.to_controller ++ (aged_entries Host l.to_host ++ t))) → NoCut t
+aged_cut l t q =
+    (no_cut_parts (aged_entries Host l.to_host) t (no_cut_parts (aged_entries Controller l.to_controller) (aged_entries Host l.to_host ++ t) q).1).1
+
+-- all frames of a tick: those of the controller's end, and then those of the host's
+abbrev tick_all : List Control → CoreLink → LinkEnd → Node → List (Bool × Control)
+tick_all us x e h =
+    (frames_by true us ++ frames_by false (emitted_tick (core_exchanged x) (core_tick e h.turns h.ending)))
+    ++ frames_by false (emitted_turns (core_ticks_or_cut (core_tick e h.turns h.ending) (core_exchanged x)) (core_tick_rest e h.turns h.ending))
+
+notes_as : (t : List Entry) (fs gs : List (Bool × Control)) → fs ≡ gs → Made t fs → Made t gs
+notes_as t fs gs q n = subst (Made t) q n
+
+-- what is noted in three parts behind what grows too old
+aged_whole : (l : Link) (t u v : List Entry) (fs : List (Bool × Control)) → Made ((t ++ u) ++ v) fs
+    → Made (Tick ∷ (aged_entries Controller l.to_controller ++ (aged_entries Host l.to_host ++ (t ++ (u ++ v))))) fs
+aged_whole l t u v fs n = let P : List Entry → Type 0 = λ z. Made z fs in aged_notes l (t ++ (u ++ v)) fs (subst P (append_assoc t u v) n)
+
+-- the tick of the host's end isn't cut off
+far_power : (l m : Link) (h : Node) → m.host ≡ l.host → h.ending ≡ GoesOut
+    → HasItsTick (core_tick l.host.side h.turns h.ending) × NoneIsCut (map CoreAtHost (core_tick_rest l.host.side h.turns h.ending))
+far_power l m h host ends =
+    let p = tick_power l.host.side h.turns h.ending ends in
+    (p.0, power_there (core_tick_rest l.host.side h.turns h.ending) p.1)
+
+-- a tick, which is this event over fragments
+tick_done : (l : Link) (e : CoreLinkEvent) (x : CoreLink) (us : List Control) (h : Node) {t : List Entry} → Made t (tick_all us x l.host.side h)
+    → emitted_event (core_of l) e ≡ frames_by true us ++ frames_by false (emitted_tick (core_exchanged x) (core_tick l.host.side h.turns h.ending))
+    → got_event (core_of l) e ≡ []
+    → core_exchanged (core_happens (core_of l) e) ≡ core_ticks_or_cut (core_tick l.host.side h.turns h.ending) (core_exchanged x)
+    → NoneIsCut (e ∷ map CoreAtHost (core_tick_rest l.host.side h.turns h.ending))
+    → EventNotes l (e ∷ map CoreAtHost (core_tick_rest l.host.side h.turns h.ending)) t
+tick_done l e x us h n sends gets goes power =
+    let rest : List CoreEndEvent = core_tick_rest l.host.side h.turns h.ending in
+    let d : CoreLink = core_happens (core_of l) e in
+    let turns = (rest_both l.host.side h.turns h.ending).turns in
+    let head : List (Bool × Control) = frames_by true us ++ frames_by false (emitted_tick (core_exchanged x) (core_tick l.host.side h.turns h.ending)) in
+    let last : emitted d (map CoreAtHost rest)
+    ≡ frames_by false (emitted_turns (core_ticks_or_cut (core_tick l.host.side h.turns h.ending) (core_exchanged x)) rest) =
+    emitted_there_all rest d ∙ ap (λ c. frames_by false (emitted_turns c rest)) goes in
+    let all : emitted_event (core_of l) e ++ emitted d (map CoreAtHost rest) ≡ tick_all us x l.host.side h =
+    ap (λ z. z ++ emitted d (map CoreAtHost rest)) sends ∙ ap (λ z. head ++ z) last in
+    record {
+      notes = record {
+        frames = n.notes.frames ∙ sym all;
+        gots = n.notes.gots ∙ sym (ap (λ z. z ++ got d (map CoreAtHost rest)) gets ∙ (got_there_all rest d
+            ∙ ap (reports_to false) (turns_bring_none rest (core_exchanged d) turns)));
+      };
+      power = power;
+      written = subst BothWritten (sym all) n.written;
+    }
+
+event_notes : (l : Link) (e : LinkEvent) → IsEvent l e → Good l → Reached (core_of l) → NoCut (event_entries l e)
+    → EventNotes l (core_event l e) (event_entries l e)
+event_notes l (AtController e) a g r q = at_controller l e a g r q
+event_notes l (AtHost e) a g r q = at_host l e a g r q
+event_notes l (Ticks c es h) a g r q =
+    let s0 = safe_aged (core_of l) (safe_reached (core_of l) r) in
+    let near : Link = ticks_at_controller (aged l) c.turns c.ending in
+    let m : Link = all_at_controller near es in
+    let k : Link = exchanged m in
+    let first : List Entry = tick_entries Controller (aged l) c in
+    let u : List Entry = entries_of_events Controller near es in
+    let v : List Entry = tick_entries Host k h in
+    let parts = no_cut_parts first (u ++ v) (aged_cut l (first ++ (u ++ v)) q) in
+    let more = no_cut_parts u v parts.1 in
+    let e : LinkEnd = l.controller.side in
+    let rest : List CoreEndEvent = core_tick_rest e c.turns c.ending in
+    let t : Option (List CoreTurn) = core_tick e c.turns c.ending in
+    let start : CoreLink = core_ticks_or_cut t (core_aged (core_of l)) in
+    let all : List CoreEndEvent = core_all near es in
+    let x : CoreLink = core_all_here start (rest ++ all) in
+    let one = step_tick (aged l) c.turns c.ending a.0.0 a.0.1 g.controller (rests_of 1 1 (core_of (aged l)) s0) in
+    let rest_turns = rest_both e c.turns c.ending in
+    let s1 = safe_turns 1 rest start rest_turns.turns (tick_or_cut 1 t (core_aged (core_of l)) s0) in
+    let P : CoreLink → Type 0 = λ d. SafeLink 0 1 d in
+    let near_safe : SafeLink 0 1 (core_of near) = subst P (sym one.core) s1 in
+    let two = all_step 1 near es a.1 one.tells near_safe in
+    let m_safe : SafeLink 0 1 (core_of m) = subst P (sym two.step.core) (safe_turns 1 all (core_of near) two.turns near_safe) in
+    let host : m.host ≡ l.host = two.step.host ∙ one.host in
+    let near_tick = tick_notes Controller (aged l) c a.0.0 g.controller (rests_of 1 1 (core_of (aged l)) s0) parts.0 in
+    let far_tick = tick_notes Host k h a.2.0 (tells_same m.host l.host host g.host) (rests_of 1 0 (core_of k) (safe_exchanged 0 1 (core_of m) m_safe)) more.1 in
+    let turns = all_notes {kf = 1} Controller es near a.1 one.tells near_safe more.0 in
+    let f : List Control = emitted_tick (core_aged (core_of l)) t in
+    let ra : List Control = emitted_turns start rest in
+    let b : List Control = emitted_turns (core_of near) all in
+    let none : reports_to true (got_turns (core_of near) all) ≡ [] = ap (reports_to true) (turns_bring_none all (core_of near) two.turns) in
+    let turns_written : AreWritten b = turns.written in
+    let w = notes_then first u (frames_by true (f ++ ra)) (frames_by true b) [] (reports_to true (got_turns (core_of near) all)) near_tick.notes turns.notes in
+    let n = tick_frames l m x h (first ++ u) f ra b (record {
+      host = host;
+      core = two.step.core ∙ (ap (λ d. core_all_here d all) one.core ∙ sym (all_here-append start rest all));
+      notes = record { frames = w.frames; gots = w.gots ∙ none };
+      last = far_tick;
+      written = subst AreWritten (append_assoc f ra b) (written-append (f ++ ra) b near_tick.written turns_written);
+    }) in
+    let us : List Control = f ++ emitted_turns start (rest ++ all) in
+    let sent : f ++ (ra ++ b) ≡ us = ap (λ z. f ++ z) (ap (λ d. ra ++ emitted_turns d all) one.core ∙ sym (turns-append start rest all)) in
+    let power = tick_power e c.turns c.ending near_tick.ends in
+    let last = far_power l m h host far_tick.ends in
+    tick_done l (CoreTick t (rest ++ all) (core_tick l.host.side h.turns h.ending)) x us h
+    (aged_whole l first u v (tick_all us x l.host.side h) (notes_as ((first ++ u) ++ v) (tick_all (f ++ (ra ++ b)) x l.host.side h)
+    (tick_all us x l.host.side h)
+    (ap (λ z. tick_all z x l.host.side h) sent) n))
+    refl refl refl (power.0, power-append rest all power.1 turns.power, last.0, last.1)
+event_notes l (TicksWithout es h) a g r q =
+    let s0 = safe_aged (core_of l) (safe_reached (core_of l) r) in
+    let near : Link = aged l in
+    let m : Link = all_at_controller near es in
+    let k : Link = exchanged m in
+    let u : List Entry = entries_of_events Controller near es in
+    let v : List Entry = tick_entries Host k h in
+    let parts = no_cut_parts u v (aged_cut l (u ++ v) q) in
+    let all : List CoreEndEvent = core_all near es in
+    let start : CoreLink = core_ticks_if_waiting (core_aged (core_of l)) in
+    let kept : start ≡ core_of near = rw a.0 refl in
+    let quiet : emitted_if_waiting (core_aged (core_of l)) ≡ [] = rw a.0 refl in
+    let P : CoreLink → Type 0 = λ d. SafeLink 0 1 d in
+    let near_safe : SafeLink 0 1 (core_of near) = subst P kept (tick_if_waiting 1 (core_aged (core_of l)) s0) in
+    let two = all_step 1 near es a.1 g.controller near_safe in
+    let m_safe : SafeLink 0 1 (core_of m) = subst P (sym two.step.core) (safe_turns 1 all (core_of near) two.turns near_safe) in
+    let host : m.host ≡ l.host = two.step.host in
+    let far_tick = tick_notes Host k h a.2.0 (tells_same m.host l.host host g.host) (rests_of 1 0 (core_of k) (safe_exchanged 0 1
+    (core_of m) m_safe)) parts.1 in
+    let turns = all_notes {kf = 1} Controller es near a.1 g.controller near_safe parts.0 in
+    let b : List Control = emitted_turns (core_of near) all in
+    let none : reports_to true (got_turns (core_of near) all) ≡ [] = ap (reports_to true) (turns_bring_none all (core_of near) two.turns) in
+    let x : CoreLink = core_all_here start all in
+    let n = tick_frames l m x h u [] [] b (record {
+      host = host;
+      core = two.step.core ∙ ap (λ d. core_all_here d all) (sym kept);
+      notes = record { frames = turns.notes.frames; gots = turns.notes.gots ∙ none };
+      last = far_tick;
+      written = turns.written;
+    }) in
+    let us : List Control = emitted_if_waiting (core_aged (core_of l)) ++ emitted_turns start all in
+    let sent : b ≡ us = sym (ap (λ z. z ++ emitted_turns start all) quiet ∙ ap (λ d. emitted_turns d all) kept) in
+    let last = far_power l m h host far_tick.ends in
+    tick_done l (CoreTickWithout all (core_tick l.host.side h.turns h.ending)) x us h
+    (aged_notes l (u ++ v) (tick_all us x l.host.side h) (notes_as (u ++ v) (tick_all b x l.host.side h) (tick_all us x l.host.side h)
+    (ap (λ z. tick_all z x l.host.side h) sent) n))
+    refl refl refl (turns.power, last.0, last.1)
+event_notes l (Activate power c id h) a g r q =
+    let x : EndEvent = EndStep (Starts power) c.turns c.ending in
+    let y : EndEvent = EndStep (Starts id) h.turns h.ending in
+    let near : Link = happens_at_controller l x in
+    let es : List CoreLinkEvent = map CoreAtController (core_here l x) in
+    let fs : List CoreLinkEvent = map CoreAtHost (core_here (exchanged near) y) in
+    let t : List Entry = here_entries Controller l x in
+    let u : List Entry = here_entries Host (exchanged near) y in
+    let parts = no_cut_parts t u q in
+    let clf : CanStart l.controller.side.role l.host.side.role = clf_starts l.controller.side.role l.host.side.role a.0 in
+    let st = event_step l (AtController x) (clf, a.2) g r in
+    let next : Reached (core_of near) = subst Reached (sym st.core) (reached_more (core_of l) es st.allowed r) in
+    let host : near.host ≡ l.host = (step_own l (Starts power) c.turns c.ending tt clf a.2 g.controller
+    (rests_of 0 0 (core_of l) (safe_reached (core_of l) r))).host in
+    let Q : NumberedEnd → Type 0 = λ z. IsUicc z.side.role × IsNode (exchanged (record l { host = z })) h.turns h.ending in
+    let there : Q near.host = subst Q (sym host) (a.1, a.3) in
+    let starts : CanStart near.host.side.role near.controller.side.role =
+    can_start near.host.side.role near.controller.side.role there.0 (started_clf l power c.turns c.ending a.0) in
+    let one = at_controller l x (clf, a.2) g r parts.0 in
+    let two = at_host near y (starts, there.1) st.good next parts.1 in
+    let n = notes_then t u (emitted (core_of l) es) (emitted (core_of near) fs) (got (core_of l) es) (got (core_of near) fs) one.notes two.notes in
+    record {
+      notes = record {
+        frames = n.frames ∙ (ap (λ d. emitted (core_of l) es ++ emitted d fs) st.core ∙ sym (emitted-append (core_of l) es fs));
+        gots = n.gots ∙ (ap (λ d. got (core_of l) es ++ got d fs) st.core ∙ sym (got_all-append (core_of l) es fs));
+      };
+      power = none_cut-append es fs one.power two.power;
+      written = subst BothWritten (ap (λ d. emitted (core_of l) es ++ emitted d fs) st.core ∙ sym (emitted-append (core_of l) es fs))
+          (both-append (emitted (core_of l) es) (emitted (core_of near) fs) one.written two.written);
+    }
+
+-- ## Runs
+
+run_notes : (events : List LinkEvent) (l : Link) → AllAllowed l events → Good l → Reached (core_of l) → NoCut (entries l events)
+    → EventNotes l (core_events l events) (entries l events)
+run_notes [] l a g r q = record { notes = silent_none; power = tt; written = tt }
+run_notes (e ∷ events) l a g r q =
+    let m : Link = happens l e in
+    let t : List Entry = event_entries l e in
+    let u : List Entry = entries m events in
+    let es : List CoreLinkEvent = core_event l e in
+    let fs : List CoreLinkEvent = core_events m events in
+    let parts = no_cut_parts t u q in
+    let st = event_step l e a.0 g r in
+    let next : Reached (core_of m) = subst Reached (sym st.core) (reached_more (core_of l) es st.allowed r) in
+    let one = event_notes l e a.0 g r parts.0 in
+    let two = run_notes events m a.1 st.good next parts.1 in
+    let n = notes_then t u (emitted (core_of l) es) (emitted (core_of m) fs) (got (core_of l) es) (got (core_of m) fs) one.notes two.notes in
+    record {
+      notes = record {
+        frames = n.frames ∙ (ap (λ d. emitted (core_of l) es ++ emitted d fs) st.core ∙ sym (emitted-append (core_of l) es fs));
+        gots = n.gots ∙ (ap (λ d. got (core_of l) es ++ got d fs) st.core ∙ sym (got_all-append (core_of l) es fs));
+      };
+      power = none_cut-append es fs one.power two.power;
+      written = subst BothWritten (ap (λ d. emitted (core_of l) es ++ emitted d fs) st.core ∙ sym (emitted-append (core_of l) es fs))
+          (both-append (emitted (core_of l) es) (emitted (core_of m) fs) one.written two.written);
+    }
+
+starts_so : (l : Link) → IsStart l → StartsSo (is_bare l.controller.side.role) (core_of l)
+starts_so l IsBare = inl refl
+starts_so l IsLine = inr (λ u. cc)
+
+first_silent : (r : Role) → Notes (first_entries r) [] []
+first_silent Bare = record { frames = refl; gots = refl }
+first_silent (Clf s) = silent_none
+first_silent (Uicc s) = silent_none
+
+-- a new tap over all frames of a run reports what was got
+pub tap_reports : (l : Link) → IsStart l → (events : List LinkEvent) → AllAllowed l events → NoCut (trace l events)
+    → tapped (is_bare l.controller.side.role) (frames_heard (trace l events)) ≡ gots_noted (trace l events)
+tap_reports l s events a q =
+    let r : Role = l.controller.side.role in
+    let t : List Entry = entries l events in
+    let es : List CoreLinkEvent = core_events l events in
+    let n = run_notes events l a (start_good l s) (start_reached l s) (no_cut_parts (first_entries r) t q).1 in
+    let all = notes_then (first_entries r) t [] (emitted (core_of l) es) [] (got (core_of l) es) (first_silent r) n.notes in
+    ap (tapped (is_bare r)) all.frames
+    ∙ (reported (is_bare r) (core_of l) (core_starts l s) (starts_so l s) es (allowed l s events a) n.power ∙ sym all.gots)
+
+-- so it does over the LPDUs of these frames
+pub tap_reports_lpdus : (l : Link) → IsStart l → (events : List LinkEvent) → AllAllowed l events → NoCut (trace l events)
+    → tapped_lpdus (is_bare l.controller.side.role) (lpdus_heard (trace l events)) ≡ gots_noted (trace l events)
+tap_reports_lpdus l s events a q =
+    let r : Role = l.controller.side.role in
+    let t : List Entry = entries l events in
+    let es : List CoreLinkEvent = core_events l events in
+    let n = run_notes events l a (start_good l s) (start_reached l s) (no_cut_parts (first_entries r) t q).1 in
+    let all = notes_then (first_entries r) t [] (emitted (core_of l) es) [] (got (core_of l) es) (first_silent r) n.notes in
+    let written : BothWritten (frames_heard (trace l events)) = subst BothWritten (sym all.frames) n.written in
+    ap (tapped (is_bare r)) (all_read (frames_heard (trace l events)) written) ∙ tap_reports l s events a q

@@ -1,0 +1,397 @@
+-- What an end puts on the link in a step, and what it gets, over messages and over fragments.
+use Rattle.std.proofs.Common.{◌≡◌, ℕ, zero, suc, ◌+◌, Bool, true, false, not, List, [], ◌∷◌, ◌++◌, length, map, drop, Option, Some, None, ◌⊎◌, inl, inr}
+use Rattle.std.proofs.Common.{refl, ap, sym}
+use Rattle.std.proofs.Common.{subst, ◌∙◌, append-nil}
+use Rattle.std.specs.Prelude.{is_some, option_to_list, ◌==◌}
+use Rattle.std.proofs.lemmas.Bool.{true≢false}
+use Rattle.swp_base.specs.declared.control_frames.Control.{Control}
+use Rattle.swp_base.specs.declared.control_frames.Control.TheVariants.{I, S, Rset, Ua, Act, Clt}
+use Rattle.swp_base.specs.declared.control_frames.Act.{Act as Activation}
+use Rattle.swp_base.specs.declared.link_terms.Cause.TheVariants.{Asked}
+use Rattle.swp_act.specs.declared.ActEvent.{ActEvent}
+use Rattle.swp_act.specs.declared.ActEvent.TheVariants.{Take as ActTake}
+use Rattle.shdlc_core.specs.declared.answers.LinkState.{LinkState}
+use Rattle.shdlc_core.specs.declared.answers.LinkState.TheVariants.{Down as IsDown, Waiting as IsWaitingNow, Up as IsUpNow}
+use Rattle.shdlc_core.specs.Machine.{EndState, Fragment, taken, take_answer, reset_with, stopped}
+use Rattle.link_laws.specs.sessions.Sessions.{OnWire, ShdlcLink as CoreLink, ShdlcTurn as CoreTurn, ShdlcEndEvent as CoreEndEvent, shdlc_turned as core_turned}
+use Rattle.link_laws.specs.sessions.Sessions.{is_rset, took_with, shdlc_number_of as core_number_of, shdlc_silent as core_silent}
+use Rattle.link_laws.specs.sessions.Sessions.ShdlcEndEvent.{Turns as CoreTurns, Deliver as CoreDeliver, Ignore as CoreIgnore, Acts as CoreActs}
+use Rattle.link_laws.specs.sessions.Sessions.ShdlcEndEvent.{Lose as CoreLose}
+use Rattle.link_laws.specs.sessions.Sessions.ShdlcEndEvent.{Reset as CoreReset, Stop as CoreStop}
+use Rattle.link_laws.specs.sessions.Losses.{is_act}
+use Rattle.link_laws.proofs.sessions.Wire.{IsData}
+use Rattle.link_laws.proofs.sessions.Steps.{passes}
+use Rattle.hcp_packet.specs.Packets.{packets_in, good_of}
+use Rattle.hcp_chain.specs.Joining.{are_taken, given_by}
+use Rattle.link_laws.specs.machine.Machine.{Message, LinkEnd, Turn, turned, is_open, role_after, act_answer, activated, is_faulty, messages_got, news, moved}
+use Rattle.link_laws.specs.machine.Machine.{took}
+use Rattle.link_laws.specs.machine.Machine.{frames_out, got_by, if_up, reset_refusal, reset_by}
+use Rattle.link_laws.specs.machine.Machine.LinkInput.{Take}
+use Rattle.link_laws.proofs.machine.Runs.{opened}
+use Rattle.link_laws.proofs.machine.Reports.{shdlc_is as shdlc_moved}
+use Rattle.link_laws.specs.messages.Links.{Link, AreSendableTurns, number_of}
+use Rattle.link_laws.specs.messages.Projection.{core_of, core_turns, core_take}
+use Rattle.link_laws.proofs.messages.Project.{Now, Tells, frames_now, turns_mid, mid_moved}
+use Rattle.link_laws.proofs.messages.Steps.{ComesFirst, Heard, is_shdlc, heard_end, heard_is, counted_is, mid_counted, took_open, took_closed}
+use Rattle.link_laws.proofs.messages.Steps.{no_fault_first, polite}
+use Rattle.link_laws.proofs.messages.Steps.{role_closes, act_mid}
+use Rattle.link_laws.proofs.messages.Finishing.{reset_tells, reset_keeps, restart_mid}
+use Rattle.world_laws.specs.fragments.Emitted.{sent_then, emitted_here, brought_by, got_with, got_here, emitted_turns, got_turns}
+use Rattle.world_laws.proofs.entries.Reading.{AreWritten, out_is, out_written}
+use Rattle.world_laws.proofs.fragments.Taking.{Accepted, takes_data, accepts_none}
+
+-- ## What comes with a frame
+
+-- messages with the number of their session
+abbrev pub numbered : ℕ → List Message → List (ℕ × ℕ × List ℕ)
+numbered n messages = map (λ m. (n, m.0, m.1)) messages
+
+abbrev pub brought : List Fragment → Option Fragment → List Message
+brought acc None = []
+brought acc (Some info) = brought_by acc info
+
+got_is : (n : ℕ) (acc : List Fragment) (o : Option Fragment) → got_with n acc o ≡ numbered n (brought acc o)
+got_is n acc None = refl
+got_is n acc (Some info) = refl
+
+drop_all : {X : Type 0} (xs : List X) → drop (length xs) xs ≡ []
+drop_all [] = refl
+drop_all (x ∷ xs) = drop_all xs
+
+drop_none : {X : Type 0} (n : ℕ) → drop {A = X} n [] ≡ []
+drop_none zero = refl
+drop_none (suc n) = refl
+
+-- where nothing more was accepted, or the session is new, there is no news
+no_news : (e : EndState) (q : EndState) → (q.session.acc ≡ e.session.acc) ⊎ (q.session.acc ≡ []) → news e.session q ≡ []
+no_news e q (inl a) = rw a (drop_all (messages_got e.session))
+no_news e q (inr a) = rw a (drop_none (length (messages_got e.session)))
+
+-- RSET and UA
+handshake : (e : EndState) (c : Control) → (IsData c → ⊥)
+    → (((taken e c).session.acc ≡ e.session.acc) ⊎ ((taken e c).session.acc ≡ [])) × ((take_answer e c).accepted ≡ None)
+handshake e c d = go e.phase refl c d
+  where
+    go : (p : LinkState) → e.phase ≡ p → (c : Control) → (IsData c → ⊥)
+        → (((taken e c).session.acc ≡ e.session.acc) ⊎ ((taken e c).session.acc ≡ [])) × ((take_answer e c).accepted ≡ None)
+    go p q (I _ _ _) d = absurd (d tt)
+    go p q (S _ _) d = absurd (d tt)
+    go p q (Act _ _) d = absurd (d tt)
+    go p q Clt d = absurd (d tt)
+    go IsUpNow q Ua d = (inl (rw q refl), rw q refl)
+    go IsDown q Ua d = (inl (rw q refl), rw q refl)
+    go IsWaitingNow q Ua d = (inr (rw q refl), rw q refl)
+    go IsUpNow q (Rset w c) d = by (w == 0) refl
+      where
+        by : (b : Bool) → (w == 0) ≡ b
+            → (((taken e (Rset w c)).session.acc ≡ e.session.acc) ⊎ ((taken e (Rset w c)).session.acc ≡ [])) × ((take_answer e (Rset w c)).accepted ≡ None)
+        by true z = (inl (rw (q, z) refl), rw (q, z) refl)
+        by false z = (inr (rw (q, z) refl), rw (q, z) refl)
+    go IsDown q (Rset w c) d = by (w == 0) refl
+      where
+        by : (b : Bool) → (w == 0) ≡ b
+            → (((taken e (Rset w c)).session.acc ≡ e.session.acc) ⊎ ((taken e (Rset w c)).session.acc ≡ [])) × ((take_answer e (Rset w c)).accepted ≡ None)
+        by true z = (inl (rw (q, z) refl), rw (q, z) refl)
+        by false z = (inr (rw (q, z) refl), rw (q, z) refl)
+    go IsWaitingNow q (Rset w c) d = by (w == 0) refl
+      where
+        by : (b : Bool) → (w == 0) ≡ b
+            → (((taken e (Rset w c)).session.acc ≡ e.session.acc) ⊎ ((taken e (Rset w c)).session.acc ≡ [])) × ((take_answer e (Rset w c)).accepted ≡ None)
+        by true z = (inl (rw (q, z) refl), rw q refl)
+        by false z = (inl (rw (q, z) refl), rw q refl)
+
+-- the news of a frame that can be joined is what the fragment brings that is accepted
+pub news_is : (e : EndState) (c : Control) → is_faulty (taken e c).session ≡ false
+    → news e.session (taken e c) ≡ brought e.session.acc (take_answer e c).accepted
+news_is e c sound = kinds c sound
+  where
+    quiet : (c : Control) → ((taken e c).session.acc ≡ e.session.acc) ⊎ ((taken e c).session.acc ≡ []) → (take_answer e c).accepted ≡ None
+        → news e.session (taken e c) ≡ brought e.session.acc (take_answer e c).accepted
+    quiet c a q = no_news e (taken e c) a ∙ ap (brought e.session.acc) (sym q)
+
+    negated : (b : Bool) → not b ≡ false → b ≡ true
+    negated true q = refl
+    negated false q = absurd (true≢false q)
+
+    joined : (c : Control) → IsData c → is_faulty (taken e c).session ≡ false → news e.session (taken e c) ≡ brought e.session.acc (take_answer e c).accepted
+    joined c d sound = by e.phase refl
+      where
+        up : (o : Option Fragment) → (take_answer e c).accepted ≡ o → Accepted o e (taken e c)
+            → news e.session (taken e c) ≡ brought e.session.acc (take_answer e c).accepted
+        up None q a = quiet c (inl a.acc) q
+        up (Some info) q a =
+            let joined : List Fragment → List Message = λ fragments. good_of (given_by [] (packets_in fragments)) in
+            let all : are_taken [] (packets_in (e.session.acc ++ info ∷ [])) ≡ true =
+            ap (λ x. are_taken [] (packets_in x)) (sym a.acc.0) ∙ negated (are_taken [] (packets_in (taken e c).session.acc)) sound in
+            let is : brought_by e.session.acc info ≡ drop (length (joined e.session.acc)) (joined (e.session.acc ++ info ∷ [])) = rw all refl in
+            ap (λ x. drop (length (joined e.session.acc)) (joined x)) a.acc.0 ∙ (sym is ∙ ap (brought e.session.acc) (sym q))
+
+        by_answer : (o : Option Fragment) → (take_answer e c).accepted ≡ o → Accepted (take_answer e c).accepted e (taken e c)
+            → news e.session (taken e c) ≡ brought e.session.acc (take_answer e c).accepted
+        by_answer o q a = let P : Option Fragment → Type 0 = λ z. Accepted z e (taken e c) in up o q (subst P q a)
+
+        by : (p : LinkState) → e.phase ≡ p → news e.session (taken e c) ≡ brought e.session.acc (take_answer e c).accepted
+        by IsUpNow p = by_answer (take_answer e c).accepted refl (takes_data e c p d)
+        by IsWaitingNow p =
+            let no_up : e.phase ≡ IsUpNow → ⊥ = λ u. let z = sym p ∙ u in cc in
+            quiet c (inl (ap (λ (s : EndState). s.session.acc) (passes e c d no_up).0)) (accepts_none e c no_up)
+        by IsDown p =
+            let no_up : e.phase ≡ IsUpNow → ⊥ = λ u. let z = sym p ∙ u in cc in
+            quiet c (inl (ap (λ (s : EndState). s.session.acc) (passes e c d no_up).0)) (accepts_none e c no_up)
+
+    kinds : (c : Control) → is_faulty (taken e c).session ≡ false → news e.session (taken e c) ≡ brought e.session.acc (take_answer e c).accepted
+    kinds (I ns nr info) sound = joined (I ns nr info) tt sound
+    kinds (S k nr) sound = joined (S k nr) tt sound
+    kinds (Act a b) sound = joined (Act a b) tt sound
+    kinds Clt sound = joined Clt tt sound
+    kinds (Rset w x) sound = let h = handshake e (Rset w x) (λ d. d) in quiet (Rset w x) h.0 h.1
+    kinds Ua sound = let h = handshake e Ua (λ d. d) in quiet Ua h.0 h.1
+
+-- ## A frame is taken
+
+abbrev pub got_now : Link → OnWire → List (ℕ × ℕ × List ℕ)
+got_now l x = numbered (number_of (record l.controller { took = took_with l.controller.took x })) (got_by l.controller.side (Take x.frame))
+
+-- what goes out of the controller's end and what it gets in a step is what these events send and give over fragments
+pub record Sends (l : Link) (es : List CoreEndEvent) (out : List Control) (told : List (ℕ × ℕ × List ℕ)) : Type 0 where
+  pub frames : emitted_turns (core_of l) es ≡ out
+  pub gets : got_turns (core_of l) es ≡ told
+  pub written : AreWritten out
+
+pub sends_same : (l : Link) (es fs : List CoreEndEvent) (out : List Control) (gets : List (ℕ × ℕ × List ℕ)) → es ≡ fs → Sends l fs out gets
+    → Sends l es out gets
+sends_same l es fs out gets q s =
+    record { frames = ap (emitted_turns (core_of l)) q ∙ s.frames; gets = ap (got_turns (core_of l)) q ∙ s.gets; written = s.written }
+
+deliver_sends : (c : CoreLink) (us : List CoreTurn) (x : OnWire) (xs : List OnWire) → c.to_controller ≡ x ∷ xs
+    → emitted_here c (CoreDeliver us) ≡ sent_then (taken c.controller.side x.frame) us
+deliver_sends c us x xs q = rw q refl
+
+deliver_gets : (c : CoreLink) (us : List CoreTurn) (x : OnWire) (xs : List OnWire) → c.to_controller ≡ x ∷ xs
+    → got_here c (CoreDeliver us) ≡ got_with (core_number_of c.controller) c.controller.side.session.acc (take_answer c.controller.side x.frame).accepted
+deliver_gets c us x xs q = rw q refl
+
+ignore_sends : (c : CoreLink) (us : List CoreTurn) (x : OnWire) (xs : List OnWire) → c.controller.side.phase ≡ IsDown → c.to_controller ≡ x ∷ xs
+    → emitted_here c (CoreIgnore us) ≡ sent_then c.controller.side us
+ignore_sends c us x xs p q = rw (p, q) refl
+
+pub take_sends : (l : Link) (ts : List Turn) (x : OnWire) (xs : List OnWire) → AreSendableTurns ts → ComesFirst l x xs
+    → Sends l (core_take l.controller.side x.frame ts) (frames_out (turned (took l.controller.side x.frame) ts)) (got_now l x)
+take_sends l ts x xs a comes = go x.frame refl
+  where
+    e : LinkEnd
+    e = l.controller.side
+
+    c : CoreLink
+    c = core_of l
+
+    Goal : Type 0
+    Goal = Sends l (core_take e x.frame ts) (frames_out (turned (took e x.frame) ts)) (got_now l x)
+
+    take_open : (y : Control) → is_act y ≡ false → is_open e.role ≡ true → core_take e y ts ≡ CoreDeliver (core_turns (took e y) ts) ∷ []
+    take_open (Act _ _) q o = absurd (true≢false q)
+    take_open (I _ _ _) q o = rw o refl
+    take_open (S _ _) q o = rw o refl
+    take_open (Rset _ _) q o = rw o refl
+    take_open Ua q o = rw o refl
+    take_open Clt q o = rw o refl
+
+    take_closed : (y : Control) → is_act y ≡ false → is_open e.role ≡ false → core_take e y ts ≡ CoreIgnore (core_turns (took e y) ts) ∷ []
+    take_closed (Act _ _) q o = absurd (true≢false q)
+    take_closed (I _ _ _) q o = rw o refl
+    take_closed (S _ _) q o = rw o refl
+    take_closed (Rset _ _) q o = rw o refl
+    take_closed Ua q o = rw o refl
+    take_closed Clt q o = rw o refl
+
+    -- an end that is open became f, and got these messages
+    open_as : (f : LinkEnd) (b : Bool) → is_act x.frame ≡ false → is_open e.role ≡ true → took e x.frame ≡ f → Heard e f x b
+        → got_with (core_number_of c.controller) e.shdlc.session.acc (take_answer e.shdlc x.frame).accepted ≡ got_now l x → Goal
+    open_as f b q o is heard gets =
+        let us : List CoreTurn = core_turns f ts in
+        let tm = turns_mid None f ts a heard.mid in
+        let s : EndState = core_turned (taken e.shdlc x.frame) us in
+        let shdlc : (turned f ts).shdlc ≡ s = tm.is ∙ ap (λ z. core_turned z us) heard.shdlc in
+        sends_same l (core_take e x.frame ts) (CoreDeliver us ∷ []) (frames_out (turned (took e x.frame) ts)) (got_now l x)
+        (take_open x.frame q o ∙ ap (λ g. CoreDeliver (core_turns g ts) ∷ []) is)
+        (record {
+          frames = append-nil (emitted_here c (CoreDeliver us)) ∙ (deliver_sends c us x xs comes.first
+              ∙ (sym (out_is None (turned f ts) s tm.mid.acts shdlc) ∙ ap (λ g. frames_out (turned g ts)) (sym is)));
+          gets = append-nil (got_here c (CoreDeliver us)) ∙ (deliver_gets c us x xs comes.first ∙ gets);
+          written = subst (λ g. AreWritten (frames_out (turned g ts))) (sym is) (out_written None (turned f ts) tm.mid);
+        })
+
+    -- one that isn't passed over it
+    closed_as : (f : LinkEnd) → is_act x.frame ≡ false → is_open e.role ≡ false → took e x.frame ≡ f → f.shdlc ≡ e.shdlc → Now f → [] ≡ got_now l x → Goal
+    closed_as f q o is same mid gets =
+        let us : List CoreTurn = core_turns f ts in
+        let tm = turns_mid None f ts a mid in
+        let s : EndState = core_turned e.shdlc us in
+        let shdlc : (turned f ts).shdlc ≡ s = tm.is ∙ ap (λ z. core_turned z us) same in
+        let down = comes.tells.now.closed o in
+        sends_same l (core_take e x.frame ts) (CoreIgnore us ∷ []) (frames_out (turned (took e x.frame) ts)) (got_now l x)
+        (take_closed x.frame q o ∙ ap (λ g. CoreIgnore (core_turns g ts) ∷ []) is)
+        (record {
+          frames = append-nil (emitted_here c (CoreIgnore us)) ∙ (ignore_sends c us x xs down comes.first
+              ∙ (sym (out_is None (turned f ts) s tm.mid.acts shdlc) ∙ ap (λ g. frames_out (turned g ts)) (sym is)));
+          gets = gets;
+          written = subst (λ g. AreWritten (frames_out (turned g ts))) (sym is) (out_written None (turned f ts) tm.mid);
+        })
+
+    got_open : (y : Control) → is_shdlc y ≡ true → is_open e.role ≡ true → is_faulty (taken e.shdlc y).session ≡ false
+        → got_by e (Take y) ≡ news e.shdlc.session (taken e.shdlc y)
+    got_open (Act _ _) q o f = absurd (true≢false (sym q))
+    got_open (I _ _ _) q o f = rw (o, f) refl
+    got_open (S _ _) q o f = rw (o, f) refl
+    got_open (Rset _ _) q o f = rw (o, f) refl
+    got_open Ua q o f = rw (o, f) refl
+    got_open Clt q o f = absurd (true≢false (sym q))
+
+    got_closed : (y : Control) → is_open e.role ≡ false → got_by e (Take y) ≡ []
+    got_closed (Act _ _) o = refl
+    got_closed (I _ _ _) o = rw o refl
+    got_closed (S _ _) o = rw o refl
+    got_closed (Rset _ _) o = rw o refl
+    got_closed Ua o = rw o refl
+    got_closed Clt o = refl
+
+    n : ℕ
+    n = number_of (record l.controller { took = took_with l.controller.took x })
+
+    plain : (acc : List Fragment) → is_rset x.frame ≡ false
+        → got_with (core_number_of c.controller) acc (take_answer e.shdlc x.frame).accepted ≡ got_with n acc (take_answer e.shdlc x.frame).accepted
+    plain acc r = rw r refl
+
+    -- an RSET brings nothing, so that its number doesn't count
+    numbers : (y : Control) → x.frame ≡ y → (acc : List Fragment)
+        → got_with (core_number_of c.controller) acc (take_answer e.shdlc x.frame).accepted ≡ got_with n acc (take_answer e.shdlc x.frame).accepted
+    numbers (Rset w z) q acc =
+        let none : (take_answer e.shdlc x.frame).accepted ≡ None = ap (λ y. (take_answer e.shdlc y).accepted) q ∙ (handshake e.shdlc (Rset w z) (λ d. d)).1 in
+        ap (got_with (core_number_of c.controller) acc) none ∙ sym (ap (got_with n acc) none)
+    numbers (I _ _ _) q acc = plain acc (ap is_rset q)
+    numbers (S _ _) q acc = plain acc (ap is_rset q)
+    numbers Ua q acc = plain acc (ap is_rset q)
+    numbers (Act _ _) q acc = plain acc (ap is_rset q)
+    numbers Clt q acc = plain acc (ap is_rset q)
+
+    shdlc : (b : Bool) → is_open e.role ≡ b → is_shdlc x.frame ≡ true → is_act x.frame ≡ false → Goal
+    shdlc true o s q =
+        let sound = no_fault_first l x xs comes.first comes.tells comes.host o comes.from in
+        let f = took_open e x s o sound in
+        let acc : List Fragment = e.shdlc.session.acc in
+        open_as (heard_end e x) (is_some (take_answer e.shdlc x.frame).ended) q o f.0 (heard_is e x comes.tells.now o)
+        (numbers x.frame refl acc ∙ (got_is n acc (take_answer e.shdlc x.frame).accepted
+        ∙ ap (numbered n) (sym (got_open x.frame s o sound ∙ news_is e.shdlc x.frame sound))))
+    shdlc false o s q =
+        let f = took_closed e x.frame s o in closed_as e q o f.0 refl comes.tells.now (ap (numbered n) (sym (got_closed x.frame o)))
+
+    clt_none : (s : EndState) → (take_answer s Clt).accepted ≡ None
+    clt_none s = by s.phase refl
+      where
+        by : (p : LinkState) → s.phase ≡ p → (take_answer s Clt).accepted ≡ None
+        by IsUpNow p = rw p refl
+        by IsWaitingNow p = rw p refl
+        by IsDown p = rw p refl
+
+    counts : (b : Bool) → is_open e.role ≡ b → x.frame ≡ Clt → Goal
+    counts true o q =
+        open_as (record e { passed_over = e.passed_over + 1 }) false (ap is_act q) o (ap (took e) q) (counted_is e x comes.tells.now q)
+        (ap (got_with (core_number_of c.controller) e.shdlc.session.acc) (ap (λ y. (take_answer e.shdlc y).accepted) q ∙ clt_none e.shdlc)
+        ∙ ap (λ y. numbered n (got_by e (Take y))) (sym q))
+    counts false o q =
+        closed_as (record e { passed_over = e.passed_over + 1 }) (ap is_act q) o (ap (took e) q) refl
+        (mid_counted None e (e.passed_over + 1) comes.tells.now) (ap (λ y. numbered n (got_by e (Take y))) (sym q))
+
+    -- a frame of activation
+    acts : (act : Activation) (again : Bool) → x.frame ≡ Act act again → Goal
+    acts act again q =
+        let event : ActEvent = ActTake act again in
+        let down = polite e x xs act again q comes.polite in
+        let o : Option Activation = (act_answer e.role event).send in
+        let closed : is_open (role_after e.role event) ≡ false → e.shdlc.phase ≡ IsDown = λ z. by (role_closes e.role act again z) in
+        let f : LinkEnd = activated e event in
+        let m = act_mid e event comes.tells.now comes.rests.due down closed in
+        let is : took e x.frame ≡ f = ap (took e) q in
+        let us : List CoreTurn = core_turns f ts in
+        let tm = turns_mid o f ts a m.mid in
+        let s : EndState = core_turned e.shdlc us in
+        let same : (turned f ts).shdlc ≡ s = tm.is ∙ ap (λ z. core_turned z us) m.same in
+        sends_same l (core_take e x.frame ts) (CoreLose ∷ CoreActs (option_to_list o) us ∷ []) (frames_out (turned (took e x.frame) ts)) (got_now l x)
+        (ap (λ y. core_take e y ts) q)
+        (record {
+          frames = append-nil (frames_now o ++ sent_then e.shdlc us)
+              ∙ (sym (out_is o (turned f ts) s tm.mid.acts same) ∙ ap (λ g. frames_out (turned g ts)) (sym is));
+          gets = ap (λ y. numbered n (got_by e (Take y))) (sym q);
+          written = subst (λ g. AreWritten (frames_out (turned g ts))) (sym is) (out_written o (turned f ts) tm.mid);
+        })
+      where
+        by : (is_open e.role ≡ false) ⊎ ((act_answer e.role (ActTake act again)).ended_link ≡ true) → e.shdlc.phase ≡ IsDown
+        by (inl z) = comes.tells.now.closed z
+        by (inr z) = polite e x xs act again q comes.polite z
+
+    go : (y : Control) → x.frame ≡ y → Goal
+    go (Act act again) q = acts act again q
+    go (I _ _ _) q = shdlc (is_open e.role) refl (ap is_shdlc q) (ap is_act q)
+    go (S _ _) q = shdlc (is_open e.role) refl (ap is_shdlc q) (ap is_act q)
+    go (Rset _ _) q = shdlc (is_open e.role) refl (ap is_shdlc q) (ap is_act q)
+    go Ua q = shdlc (is_open e.role) refl (ap is_shdlc q) (ap is_act q)
+    go Clt q = counts (is_open e.role) refl q
+
+-- ## Turns, resets and activation
+
+pub idle_sends : (l : Link) (ts : List Turn) → AreSendableTurns ts → Tells l.controller
+    → Sends l (CoreTurns (core_turns l.controller.side ts) ∷ []) (frames_out (turned l.controller.side ts)) []
+idle_sends l ts a h =
+    let e : LinkEnd = l.controller.side in
+    let tm = turns_mid None e ts a h.now in
+    record {
+      frames = append-nil (sent_then e.shdlc (core_turns e ts)) ∙ sym (out_is None (turned e ts) (core_turned e.shdlc (core_turns e ts)) tm.mid.acts tm.is);
+      gets = refl;
+      written = out_written None (turned e ts) tm.mid;
+    }
+
+pub reset_sends : (l : Link) (w : ℕ) (ts : List Turn) → AreSendableTurns ts → Tells l.controller → reset_refusal l.controller.side ≡ None
+    → Sends l (CoreReset w (core_turns (reset_by l.controller.side w) ts) ∷ []) (frames_out (turned (reset_by l.controller.side w) ts)) []
+reset_sends l w ts a h q =
+    let e : LinkEnd = l.controller.side in
+    let b : Bool = is_some (if_up e.shdlc Asked) in
+    let f : LinkEnd = reset_by e w in
+    let t = reset_tells e q in
+    let us : List CoreTurn = core_turns f ts in
+    let now : Now f = mid_moved e b (reset_with e.shdlc w) h.now (reset_keeps e.shdlc w t.1 h.now.idle)
+    (opened e.role ((reset_with e.shdlc w).phase ≡ IsDown) t.0) in
+    let tm = turns_mid None f ts a now in
+    let s : EndState = core_turned (reset_with e.shdlc w) us in
+    let is : (turned f ts).shdlc ≡ s = tm.is ∙ ap (λ z. core_turned z us) (shdlc_moved e b (reset_with e.shdlc w)) in
+    record {
+      frames = append-nil (sent_then (reset_with e.shdlc w) us) ∙ sym (out_is None (turned f ts) s tm.mid.acts is);
+      gets = refl;
+      written = out_written None (turned f ts) tm.mid;
+    }
+
+silent_side : (c : CoreLink) (s : EndState) → (core_silent c s).controller.side ≡ s
+silent_side c s = go c.controller.side.phase refl
+  where
+    go : (p : LinkState) → c.controller.side.phase ≡ p → (core_silent c s).controller.side ≡ s
+    go IsUpNow p = rw p refl
+    go IsWaitingNow p = rw p refl
+    go IsDown p = rw p refl
+
+pub restart_sends : (l : Link) (event : ActEvent) (ts : List Turn) → AreSendableTurns ts → Tells l.controller
+    → let f : LinkEnd = activated (moved l.controller.side true (stopped l.controller.side.shdlc)) event in
+    Sends l (CoreStop ∷ CoreActs (option_to_list (act_answer l.controller.side.role event).send) (core_turns f ts) ∷ []) (frames_out (turned f ts)) []
+restart_sends l event ts a h =
+    let e : LinkEnd = l.controller.side in
+    let o : Option Activation = (act_answer e.role event).send in
+    let f : LinkEnd = activated (moved e true (stopped e.shdlc)) event in
+    let m = restart_mid e event h.now in
+    let us : List CoreTurn = core_turns f ts in
+    let tm = turns_mid o f ts a m.mid in
+    let s : EndState = core_turned (stopped e.shdlc) us in
+    let is : (turned f ts).shdlc ≡ s = tm.is ∙ ap (λ z. core_turned z us) m.same in
+    record {
+      frames = append-nil (frames_now o ++ sent_then (core_silent (core_of l) (stopped e.shdlc)).controller.side us)
+          ∙ (ap (λ z. frames_now o ++ sent_then z us) (silent_side (core_of l) (stopped e.shdlc)) ∙ sym (out_is o (turned f ts) s tm.mid.acts is));
+      gets = refl;
+      written = out_written o (turned f ts) tm.mid;
+    }

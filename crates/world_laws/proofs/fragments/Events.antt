@@ -1,0 +1,406 @@
+-- What the tap knows after whatever happens at the controller's end.
+use Rattle.std.proofs.Common.{◌≡◌, ℕ, ◌+◌, ◌≤◌, Bool, true, false, List, [], ◌∷◌, ◌++◌, Some, None, ◌⊎◌, inl, inr, refl, ap, sym}
+use Rattle.std.proofs.Common.{subst, ◌∙◌, arith, length, map, drop}
+use Rattle.std.specs.Prelude.{nat_lt, is_some}
+use Rattle.std.proofs.lemmas.Bool.{ltb-false}
+use Rattle.swp_base.specs.declared.control_frames.Act.{Act as Activation}
+use Rattle.swp_base.specs.declared.control_frames.Control.{Control}
+use Rattle.swp_base.specs.declared.control_frames.Control.TheVariants.{I, S, Rset, Ua, Act, Clt}
+use Rattle.shdlc_core.specs.declared.answers.LinkState.{LinkState}
+use Rattle.shdlc_core.specs.declared.answers.LinkState.TheVariants.{Down, Waiting, Up}
+use Rattle.shdlc_core.specs.declared.answers.Due.TheVariants.{Rset as Rset_due}
+use Rattle.shdlc_core.specs.Machine.{EndState, Session, Fragment, no_session, take_answer, taken, ticked, tick_answer, reset_with, stopped, frames_of}
+use Rattle.shdlc_core.specs.Machine.{most_frames}
+use Rattle.shdlc_core.specs.Machine.{waiting_from, runs_timer, sent_again, asked_again, given_up}
+use Rattle.link_laws.specs.sessions.Sessions.{OnWire, NumberedShdlc, ShdlcLink, shdlc_number_of, shdlc_session_of, shdlc_put, shdlc_put_all}
+use Rattle.link_laws.specs.sessions.Sessions.{shdlc_becomes, with_shdlc_ended, took_with, is_rset, is_up, ShdlcTurn, shdlc_turned, act_frame}
+use Rattle.link_laws.specs.sessions.Sessions.{ShdlcEndEvent, IsTurn}
+use Rattle.link_laws.specs.sessions.Sessions.{shdlc_silent, shdlc_happens_at_controller, shdlc_ticks_at_controller}
+use Rattle.link_laws.specs.sessions.Sessions.ShdlcEndEvent.{Turns, Deliver, Ignore, Acts, Lose, Reset, Cut, Stop}
+use Rattle.link_laws.specs.sessions.Losses.{is_act, sans}
+use Rattle.link_laws.proofs.sessions.Hand.{NothingIsOut, idle_out, nothing_out}
+use Rattle.link_laws.proofs.sessions.Data.{Below, of_up}
+use Rattle.link_laws.proofs.sessions.Safe.{Safe}
+use Rattle.link_laws.proofs.sessions.Sending.{SafeLink}
+use Rattle.link_laws.proofs.sessions.Steps.{took, took_other, passes_act, act_not_rset, counts}
+use Rattle.tap_reading.specs.Tap.{TapState, tap_hears}
+use Rattle.world_laws.specs.fragments.Emitted.{hears_all, tells_all, sent_then, emitted_here, got_here, KeepsPower, emitted_tick}
+use Rattle.world_laws.proofs.fragments.Wires.{NoUa, no_ua-drop, no_ua-rest, no_ua-from}
+use Rattle.world_laws.proofs.fragments.Sides.{ever_sent, Tracks, Knows, KnowsLink, Alike, alike_end, alike_none, Becomes, tracks_on, tracks_far}
+use Rattle.world_laws.proofs.fragments.Frames.{CanSend, can_send, knows_wire}
+use Rattle.world_laws.proofs.fragments.Turning.{knows_rset}
+use Rattle.world_laws.proofs.fragments.Going.{GoesAt, hears_all-append, tells_all-append, knows_side, Went, went_none, went_one, goes_of}
+use Rattle.world_laws.proofs.fragments.Taking.{Heard, got_now, knows_rest, takes_heard}
+
+-- what the tap knows after this at the controller's end
+abbrev pub HeardHere : Bool → TapState → ShdlcLink → ShdlcEndEvent → Type 0
+HeardHere bare t l e = Heard bare t (shdlc_happens_at_controller l e) (emitted_here l e) (got_here l e)
+
+went_heard : {bare : Bool} {t : TapState} (l : ShdlcLink) (e : EndState) (told : List (ℕ × ℕ × List ℕ)) → Went bare t l e told
+    → Heard bare t (shdlc_becomes l e) (frames_of most_frames e) told
+went_heard l e told w = record { knows = w.knows; tells = w.tells }
+
+-- ## It takes a frame
+
+deliver_heard : (bare : Bool) (t : TapState) (ts : List ShdlcTurn) (l : ShdlcLink) → SafeLink 0 0 l → KnowsLink bare t l → HeardHere bare t l (Deliver ts)
+deliver_heard bare t ts l s h = go l.to_controller s h
+  where
+    at : List OnWire → ShdlcLink
+    at w = record l { to_controller = w }
+
+    first : (x : OnWire) (xs : List OnWire) (b : Bool) → is_act x.frame ≡ b → SafeLink 0 0 (at (x ∷ xs)) → KnowsLink bare t (at (x ∷ xs))
+        → Heard bare t (took (at (x ∷ xs)) ts x xs) (sent_then (taken l.controller.side x.frame) ts) (got_now (at (x ∷ xs)) x)
+    first x xs false q s h = takes_heard bare t ts (at (x ∷ xs)) x xs (rw q at s) h
+    first x xs true q s h =
+        let p = passes_act l.controller.side x.frame q in
+        let none : (take_answer l.controller.side x.frame).accepted ≡ None = act_none x.frame q in
+        let number : took_with l.controller.took x ≡ l.controller.took = took_other l.controller.took x (act_not_rset x.frame q) in
+        let g : GoesAt bare t (at xs) l.controller.side = record {
+          knows = knows_rest h;
+          sends = λ up. can_send (rw (of_up l.controller up) at (s.n_base (shdlc_number_of l.controller)));
+          none = s.n_none;
+        } in
+        let w = went_none bare t ts (at xs) l.controller.side s.n_due g in
+        record { knows = rw (p.1, number, p.0) w.knows; tells = rw (p.0, none) w.tells }
+      where
+        act_none : (c : Control) → is_act c ≡ true → (take_answer l.controller.side c).accepted ≡ None
+        act_none (Act a b) q = by l.controller.side.phase refl
+          where
+            by : (p : LinkState) → l.controller.side.phase ≡ p → (take_answer l.controller.side (Act a b)).accepted ≡ None
+            by Up p = rw p refl
+            by Waiting p = rw p refl
+            by Down p = rw p refl
+        act_none (I _ _ _) q = absurd (let z : false ≡ true = q in cc)
+        act_none (S _ _) q = absurd (let z : false ≡ true = q in cc)
+        act_none (Rset _ _) q = absurd (let z : false ≡ true = q in cc)
+        act_none Ua q = absurd (let z : false ≡ true = q in cc)
+        act_none Clt q = absurd (let z : false ≡ true = q in cc)
+
+    go : (w : List OnWire) → SafeLink 0 0 (at w) → KnowsLink bare t (at w) → HeardHere bare t (at w) (Deliver ts)
+    go [] s h = record { knows = h; tells = refl }
+    go (x ∷ xs) s h = let a = first x xs (is_act x.frame) refl s h in record { knows = a.knows; tells = a.tells }
+
+ignore_is : (l : ShdlcLink) (ts : List ShdlcTurn) (x : OnWire) (xs : List OnWire) → l.controller.side.phase ≡ Down → l.to_controller ≡ x ∷ xs
+    → shdlc_happens_at_controller l (Ignore ts)
+    ≡ shdlc_becomes (record l { to_controller = xs; controller = record l.controller { took = took_with l.controller.took x } })
+    (shdlc_turned l.controller.side ts)
+ignore_is l ts x xs p q = rw (p, q) refl
+
+ignore_sends : (l : ShdlcLink) (ts : List ShdlcTurn) (x : OnWire) (xs : List OnWire) → l.controller.side.phase ≡ Down → l.to_controller ≡ x ∷ xs
+    → emitted_here l (Ignore ts) ≡ sent_then l.controller.side ts
+ignore_sends l ts x xs p q = rw (p, q) refl
+
+-- an end that is Down passes over a frame, but for the number of an RSET
+ignore_heard : (bare : Bool) (t : TapState) (ts : List ShdlcTurn) (l : ShdlcLink) → SafeLink 0 0 l → KnowsLink bare t l → HeardHere bare t l (Ignore ts)
+ignore_heard bare t ts l s h = go l.controller.side.phase refl l.to_controller refl
+  where
+    n : NumberedShdlc
+    n = l.controller
+
+    by_parts : (m : ShdlcLink) (cs : List Control) → shdlc_happens_at_controller l (Ignore ts) ≡ m → emitted_here l (Ignore ts) ≡ cs → Heard bare t m cs []
+        → HeardHere bare t l (Ignore ts)
+    by_parts m cs p q a = record { knows = rw (p, q) a.knows; tells = rw q a.tells }
+
+    same : Heard bare t l [] []
+    same = record { knows = h; tells = refl }
+
+    down : n.side.phase ≡ Down → (x : OnWire) (xs : List OnWire) → l.to_controller ≡ x ∷ xs
+        → Went bare t (record l { to_controller = xs; controller = record n { took = took_with n.took x } }) (shdlc_turned n.side ts) []
+    down q x xs w =
+        let m : NumberedShdlc = record n { took = took_with n.took x } in
+        let k : ShdlcLink = record l { to_controller = xs; controller = m } in
+        let P : List OnWire → Type 0 = λ v. Safe 0 0 n l.host (sans v) (sans l.to_host) l.resets in
+        let c = counts l x xs q (subst P w s) in
+        let no_up : n.side.phase ≡ Up → ⊥ = λ u. let g = sym q ∙ u in cc in
+        let more : n.took ≤ took_with n.took x = grows x in
+        let R : List OnWire → Type 0 = λ v. NoUa v ⊎ (n.emitted ≤ t.uicc.number) in
+        let near : Tracks bare t.clf t.uicc m l.host xs = record {
+          asked = h.near.asked;
+          from = h.near.from;
+          upto = omega (arith, h.near.upto, more);
+          now = λ d. absurd (d q);
+          took = c.hand.n_took;
+          named = inr (λ d. absurd (d q));
+          past = h.near.past;
+          count = h.near.count ∙ sym (ap (length {A = Fragment}) (alike_none n m no_up no_up refl t.clf.number).acc);
+          list = h.near.list ∙ sym (alike_none n m no_up no_up refl t.uicc.number).sent;
+          low = h.near.low;
+          met = λ u. absurd (no_up u);
+          told = left x xs (subst R w h.near.told);
+        } in
+        let g : GoesAt bare t k n.side = record {
+          knows = record { near = near; far = tracks_far {n = n} {m = m} {to_f = l.to_host} refl (omega arith) h.far.told h.far; rsets = h.rsets };
+          sends = λ u. absurd (no_up u);
+          none = s.n_none;
+        } in
+        went_none bare t ts k n.side s.n_due g
+      where
+        left : (x : OnWire) (xs : List OnWire) → NoUa (x ∷ xs) ⊎ (n.emitted ≤ t.uicc.number) → NoUa xs ⊎ (n.emitted ≤ t.uicc.number)
+        left x xs (inl z) = inl (no_ua-rest x xs z)
+        left x xs (inr z) = inr z
+
+        grows : (x : OnWire) → n.took ≤ took_with n.took x
+        grows x = by (is_rset x.frame) refl
+          where
+            by : (b : Bool) → is_rset x.frame ≡ b → n.took ≤ took_with n.took x
+            by true q = rw q (omega arith)
+            by false q = rw q (omega arith)
+
+    go : (p : LinkState) → n.side.phase ≡ p → (w : List OnWire) → l.to_controller ≡ w → HeardHere bare t l (Ignore ts)
+    go Up q w p = by_parts l [] (rw q refl) (rw q refl) same
+    go Waiting q w p = by_parts l [] (rw q refl) (rw q refl) same
+    go Down q [] p = by_parts l [] (rw (q, p) refl) (rw (q, p) refl) same
+    go Down q (x ∷ xs) p =
+        let k : ShdlcLink = record l { to_controller = xs; controller = record n { took = took_with n.took x } } in
+        by_parts (shdlc_becomes k (shdlc_turned n.side ts)) (sent_then n.side ts) (ignore_is l ts x xs q p) (ignore_sends l ts x xs q p)
+        (went_heard k (shdlc_turned n.side ts) [] (down q x xs p))
+
+-- ## Frames of activation
+
+acts_go : (bare : Bool) (t : TapState) (acts : List Activation) (l : ShdlcLink) (e : EndState) → GoesAt bare t l e
+    → GoesAt bare (hears_all bare t (map act_frame acts)) (shdlc_put_all l (map act_frame acts)) e × (tells_all bare t (map act_frame acts) ≡ [])
+acts_go bare t [] l e g = (g, refl)
+acts_go bare t (a ∷ acts) l e g =
+    acts_go bare t acts (shdlc_put l (act_frame a)) e
+    (record { knows = knows_wire (record { frame = act_frame a; age = 0; number = 0 }) refl g.knows; sends = g.sends; none = g.none })
+
+acts_heard : {kf : ℕ} (bare : Bool) (t : TapState) (acts : List Activation) (ts : List ShdlcTurn) (l : ShdlcLink) → SafeLink 0 kf l → KnowsLink bare t l
+    → HeardHere bare t l (Acts acts ts)
+acts_heard bare t acts ts l s h =
+    let bs : List Control = map act_frame acts in
+    let cs : List Control = sent_then l.controller.side ts in
+    let g = acts_go bare t acts l l.controller.side (goes_of l s h) in
+    let w = went_none bare (hears_all bare t bs) ts (shdlc_put_all l bs) l.controller.side s.n_due g.0 in
+    record {
+      knows = rw (hears_all-append bare t bs cs) w.knows;
+      tells = tells_all-append bare t bs cs ∙ (ap (λ z. z ++ tells_all bare (hears_all bare t bs) cs) g.1 ∙ w.tells);
+    }
+
+-- ## It sends an RSET and waits
+
+-- the end has become q, which waits, and its sessions are these
+goes_rset : {bare : Bool} {t : TapState} {kn kf : ℕ} (l : ShdlcLink) (q : EndState) (past : List (ℕ × Session)) (w c : ℕ) → q.phase ≡ Waiting
+    → q.session ≡ no_session
+    → Alike l.controller (record { side = q; emitted = l.resets + 1; took = l.controller.took; past = past }) → Below (t.clf.number + 1) past
+    → NothingIsOut (sans l.to_controller) (sans l.to_host) → SafeLink kn kf l → KnowsLink bare t l
+    → GoesAt bare (tap_hears bare t (Rset w c)) (shdlc_put (record l { controller = record l.controller { past = past } }) (Rset w c)) q
+goes_rset l q past w c waits none alike below out s h =
+    let x : OnWire = record { frame = Rset w c; age = 0; number = l.resets + 1 } in
+    record {
+      knows = knows_rset x w c refl (record {
+        alike = alike;
+        waits = waits;
+        emitted = refl;
+        took = refl;
+        past = below;
+        no_ua = no_ua-from l.to_controller out.no_ua;
+        bound = s.hand.n_bound;
+        far_bound = s.hand.f_bound;
+      }) h;
+      sends = λ u. absurd (let e = sym waits ∙ u in cc);
+      none = λ _. none;
+    }
+
+-- an end that was Up: its session is kept
+up_asks : {bare : Bool} {t : TapState} {kn kf : ℕ} (ts : List ShdlcTurn) (l : ShdlcLink) (e : EndState) → l.controller.side.phase ≡ Up → e.phase ≡ Up
+    → SafeLink kn kf l → KnowsLink bare t l → Went bare t (with_shdlc_ended l true) (shdlc_turned (waiting_from e) ts) []
+up_asks {bare} {t} ts l e up eup s h =
+    let n : NumberedShdlc = l.controller in
+    let past : List (ℕ × Session) = (shdlc_number_of n, n.side.session) ∷ n.past in
+    let q : EndState = record (waiting_from e) { due = [] } in
+    let m : NumberedShdlc = record { side = q; emitted = l.resets + 1; took = n.took; past = past } in
+    let now : t.clf.number ≡ shdlc_number_of n = h.near.now (λ d. let y = sym up ∙ d in cc) in
+    let is : (waiting_from e).due ≡ Rset_due ∷ [] = rw eup refl in
+    let alike : Alike n m = alike_end n m up (λ u. let y : Waiting ≡ Up = u in cc) refl in
+    let out : NothingIsOut (sans l.to_controller) (sans l.to_host) = idle_out s.hand (λ w. let y = sym up ∙ w in cc) in
+    went_one bare t ts (with_shdlc_ended l true) (waiting_from e) Rset_due [] is
+    (goes_rset l q past e.own_window 0 refl refl alike (omega (arith, now), h.near.past) out s h) refl
+
+-- one that was not
+idle_asks : {bare : Bool} {t : TapState} {kn kf : ℕ} (ts : List ShdlcTurn) (l : ShdlcLink) (q : EndState) → (l.controller.side.phase ≡ Up → ⊥)
+    → q.phase ≡ Waiting → q.session ≡ no_session → q.due ≡ Rset_due ∷ [] → NothingIsOut (sans l.to_controller) (sans l.to_host)
+    → SafeLink kn kf l → KnowsLink bare t l → Went bare t l (shdlc_turned q ts) []
+idle_asks {bare} {t} ts l q no_up waits none due out s h =
+    let n : NumberedShdlc = l.controller in
+    let v : EndState = record q { due = [] } in
+    let m : NumberedShdlc = record { side = v; emitted = l.resets + 1; took = n.took; past = n.past } in
+    let alike : Alike n m = alike_none n m no_up (λ u. let y = sym waits ∙ u in cc) refl in
+    went_one bare t ts l q Rset_due [] due (goes_rset l v n.past q.own_window 0 waits none alike h.near.past out s h) refl
+
+reset_heard : {kf : ℕ} (bare : Bool) (t : TapState) (ts : List ShdlcTurn) (l : ShdlcLink) (w : ℕ) → SafeLink 0 kf l → KnowsLink bare t l
+    → HeardHere bare t l (Reset w ts)
+reset_heard {kf} bare t ts l w s h = go l.controller.side.phase refl
+  where
+    side : EndState
+    side = l.controller.side
+
+    e : EndState
+    e = record side { own_window = w }
+
+    by_parts : (b : Bool) (q : EndState) → is_up side.phase ≡ b → reset_with side w ≡ q → Went bare t (with_shdlc_ended l b) (shdlc_turned q ts) []
+        → HeardHere bare t l (Reset w ts)
+    by_parts b q up is a = record { knows = rw (up, is) a.knows; tells = rw is a.tells }
+
+    go : (p : LinkState) → side.phase ≡ p → HeardHere bare t l (Reset w ts)
+    go Waiting q = by_parts false side (rw q refl) (rw q refl) (went_none bare t ts l side s.n_due (goes_of l s h))
+    go Up q = by_parts true (waiting_from e) (rw q refl) (rw q refl) (up_asks ts l e q q s h)
+    go Down q =
+        by_parts false (waiting_from e) (rw q refl) (rw q refl)
+        (idle_asks ts l (waiting_from e) (λ u. let y = sym q ∙ u in cc) refl refl (rw (q, s.n_due) refl) (idle_out s.hand (λ v. let y = sym q ∙ v in cc)) s h)
+
+-- ## It is stopped
+
+stop_heard : {kn kf : ℕ} (bare : Bool) (t : TapState) (l : ShdlcLink) → SafeLink kn kf l → KnowsLink bare t l → HeardHere bare t l Stop
+stop_heard bare t l s h = record { knows = go l.controller.side.phase refl; tells = refl }
+  where
+    n : NumberedShdlc
+    n = l.controller
+
+    q : EndState
+    q = stopped n.side
+
+    made : (past : List (ℕ × Session)) → Alike n (record n { side = q; past = past }) → Below (t.clf.number + 1) past
+        → Knows bare t (record n { side = q; past = past }) l.host [] [] l.resets
+    made past alike below =
+        record {
+          near = tracks_on (record { alike = alike; emitted = refl; took = refl; past = below; phase = λ d. absurd (d refl) })
+              (λ u. let y : Down ≡ Up = u in cc) (inl refl) h.near;
+          far = tracks_far {n = n} {m = record n { side = q; past = past }} {to_f = l.to_host} refl (omega arith) (inl refl) h.far;
+          rsets = h.rsets;
+        }
+
+    no : (u : Down ≡ Up) → ⊥
+    no u = cc
+
+    go : (p : LinkState) → n.side.phase ≡ p → KnowsLink bare t (shdlc_silent l q)
+    go Up e =
+        let past : List (ℕ × Session) = (shdlc_number_of n, n.side.session) ∷ n.past in
+        let now : t.clf.number ≡ shdlc_number_of n = h.near.now (λ d. let y = sym e ∙ d in cc) in
+        rw e (made past (alike_end n (record n { side = q; past = past }) e no refl) (omega (arith, now), h.near.past))
+    go Waiting e = rw e (made n.past (alike_none n (record n { side = q }) (λ u. let y = sym e ∙ u in cc) no refl) h.near.past)
+    go Down e = rw e (made n.past (alike_none n (record n { side = q }) (λ u. let y = sym e ∙ u in cc) no refl) h.near.past)
+
+-- ## Turns and losses
+
+turns_heard : {kf : ℕ} (bare : Bool) (t : TapState) (ts : List ShdlcTurn) (l : ShdlcLink) → SafeLink 0 kf l → KnowsLink bare t l
+    → HeardHere bare t l (Turns ts)
+turns_heard bare t ts l s h =
+    went_heard l (shdlc_turned l.controller.side ts) [] (went_none bare t ts l l.controller.side s.n_due (goes_of l s h))
+
+lose_heard : (bare : Bool) (t : TapState) (l : ShdlcLink) → KnowsLink bare t l → HeardHere bare t l Lose
+lose_heard bare t l h =
+    record {
+      knows = record {
+        near = tracks_on (record { alike = λ k. record { acc = refl; sent = refl }; emitted = refl; took = refl; past = h.near.past; phase = λ d. d })
+            h.near.met (left h.near.told) h.near;
+        far = h.far;
+        rsets = h.rsets;
+      };
+      tells = refl;
+    }
+  where
+    left : NoUa l.to_controller ⊎ (l.controller.emitted ≤ t.uicc.number) → NoUa (drop 1 l.to_controller) ⊎ (l.controller.emitted ≤ t.uicc.number)
+    left (inl q) = inl (no_ua-drop l.to_controller q)
+    left (inr q) = inr q
+
+-- whatever happens at the controller's end
+pub here_heard : (bare : Bool) (t : TapState) (l : ShdlcLink) (e : ShdlcEndEvent) → KeepsPower e → SafeLink 0 0 l → KnowsLink bare t l → HeardHere bare t l e
+here_heard bare t l (Turns ts) a s h = turns_heard bare t ts l s h
+here_heard bare t l (Deliver ts) a s h = deliver_heard bare t ts l s h
+here_heard bare t l (Ignore ts) a s h = ignore_heard bare t ts l s h
+here_heard bare t l (Acts acts ts) a s h = acts_heard bare t acts ts l s h
+here_heard bare t l Lose a s h = lose_heard bare t l h
+here_heard bare t l (Reset w ts) a s h = reset_heard bare t ts l w s h
+here_heard bare t l Cut a s h = absurd a
+here_heard bare t l Stop a s h = stop_heard bare t l s h
+
+-- whatever its node's turns do
+pub turn_heard : {kf : ℕ} (bare : Bool) (t : TapState) (l : ShdlcLink) (e : ShdlcEndEvent) → IsTurn e → KeepsPower e → SafeLink 0 kf l
+    → KnowsLink bare t l → Heard bare t (shdlc_happens_at_controller l e) (emitted_here l e) []
+turn_heard bare t l (Turns ts) i a s h = turns_heard bare t ts l s h
+turn_heard bare t l (Deliver ts) i a s h = absurd i
+turn_heard bare t l (Ignore ts) i a s h = absurd i
+turn_heard bare t l (Acts acts ts) i a s h = acts_heard bare t acts ts l s h
+turn_heard bare t l Lose i a s h = absurd i
+turn_heard bare t l (Reset w ts) i a s h = reset_heard bare t ts l w s h
+turn_heard bare t l Cut i a s h = absurd a
+turn_heard bare t l Stop i a s h = stop_heard bare t l s h
+
+-- ## Its tick
+
+pub tick_heard : {kf : ℕ} (bare : Bool) (t : TapState) (ts : List ShdlcTurn) (l : ShdlcLink) → SafeLink 1 kf l → KnowsLink bare t l
+    → Heard bare t (shdlc_ticks_at_controller l ts) (emitted_tick l (Some ts)) []
+tick_heard {kf} bare t ts l s h = go e.phase (runs_timer e.session) (nat_lt (e.timer + 1) 10) (nat_lt e.tries 5) refl refl refl refl
+  where
+    e : EndState
+    e = l.controller.side
+
+    Goal : Type 0
+    Goal = Heard bare t (shdlc_ticks_at_controller l ts) (emitted_tick l (Some ts)) []
+
+    g : GoesAt bare t l e
+    g = goes_of l s h
+
+    by_parts : (q : EndState) (b : Bool) → ticked e ≡ q → is_some (tick_answer e).ended ≡ b → Went bare t (with_shdlc_ended l b) (shdlc_turned q ts) [] → Goal
+    by_parts q b p r w = record { knows = rw (p, r) w.knows; tells = rw p w.tells }
+
+    -- the end has become q, in the same phase and with the same session, but for the place from which it sends
+    goes : (q : EndState) → q.phase ≡ e.phase → q.session.acc ≡ e.session.acc → ever_sent q.session ≡ ever_sent e.session
+        → (q.phase ≡ Up → CanSend q.session (shdlc_session_of l.host (shdlc_number_of l.controller)))
+        → ((q.phase ≡ Up → ⊥) → q.session ≡ no_session) → GoesAt bare t l q
+    goes q phase acc sent sends none = record { knows = knows_side q phase (record { acc = acc; sent = sent }) h; sends = sends; none = none }
+
+    counted : GoesAt bare t l (record e { timer = e.timer + 1 })
+    counted = goes (record e { timer = e.timer + 1 }) refl refl refl g.sends g.none
+
+    again : e.phase ≡ Up → GoesAt bare t l (sent_again e)
+    again up =
+        goes (sent_again e) refl refl refl (λ u. let can = g.sends up in record {
+          from = omega arith;
+          sent = omega (arith, can.from, can.sent);
+          offered = can.offered;
+          within = can.within;
+          most = can.most;
+          acked = can.acked;
+        }) (λ no_up. absurd (no_up up))
+
+    late : nat_lt (e.timer + 1) 10 ≡ false → NothingIsOut (sans l.to_controller) (sans l.to_host)
+    late r = nothing_out s.hand (let i = ltb-false (e.timer + 1) 10 r in omega (arith, i))
+
+    go : (p : LinkState) (a b c : Bool) → e.phase ≡ p → runs_timer e.session ≡ a → nat_lt (e.timer + 1) 10 ≡ b → nat_lt e.tries 5 ≡ c → Goal
+    go Down a b c p q r v = by_parts e false (rw p refl) (rw p refl) (went_none bare t ts l e s.n_due g)
+    go Up false b c p q r v = by_parts e false (rw (p, q) refl) (rw (p, q) refl) (went_none bare t ts l e s.n_due g)
+    go Up true true c p q r v =
+        by_parts (record e { timer = e.timer + 1 }) false (rw (p, q, r) refl) (rw (p, q, r) refl)
+        (went_none bare t ts l (record e { timer = e.timer + 1 }) s.n_due counted)
+    go Up true false true p q r v =
+        by_parts (sent_again e) false (rw (p, q, r, v) refl) (rw (p, q, r, v) refl) (went_none bare t ts l (sent_again e) s.n_due (again p))
+    go Up true false false p q r v =
+        by_parts (waiting_from e) true (rw (p, q, r, v) refl) (rw (p, q, r, v) refl) (up_asks ts l e p p s h)
+    go Waiting a true c p q r v =
+        by_parts (record e { timer = e.timer + 1 }) false (rw (p, r) refl) (rw (p, r) refl)
+        (went_none bare t ts l (record e { timer = e.timer + 1 }) s.n_due counted)
+    go Waiting a false true p q r v =
+        let no_up : e.phase ≡ Up → ⊥ = λ u. let y = sym p ∙ u in cc in
+        by_parts (asked_again e) false (rw (p, r, v) refl) (rw (p, r, v) refl)
+        (idle_asks ts l (asked_again e) no_up p (s.n_none no_up) (rw s.n_due refl) (late r) s h)
+    go Waiting a false false p q r v =
+        let no_up : e.phase ≡ Up → ⊥ = λ u. let y = sym p ∙ u in cc in
+        let d : EndState = given_up e in
+        let becomes : Becomes l.controller (record l.controller { side = d }) (t.clf.number + 1) = record {
+          alike = alike_none l.controller (record l.controller { side = d }) no_up (λ u. let y : Down ≡ Up = u in cc) refl;
+          emitted = refl;
+          took = refl;
+          past = h.near.past;
+          phase = λ z. absurd (z refl);
+        } in
+        let gone : GoesAt bare t l d = record {
+          knows = record {
+            near = tracks_on becomes (λ u. let y : Down ≡ Up = u in cc) h.near.told h.near;
+            far = tracks_far {n = l.controller} {m = record l.controller { side = d }} {to_f = l.to_host} refl (omega arith) h.far.told h.far;
+            rsets = h.rsets;
+          };
+          sends = λ u. let y : Down ≡ Up = u in cc;
+          none = λ _. s.n_none no_up;
+        } in
+        by_parts d false (rw (p, r, v) refl) (rw (p, r, v) refl) (went_none bare t ts l d s.n_due gone)

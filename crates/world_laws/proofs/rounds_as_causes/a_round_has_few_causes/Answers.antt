@@ -1,0 +1,23 @@
+use Rattle.std.proofs.Common.{arith}
+use Rattle.lines_told.proofs.messages.Rest.{first_rest}
+use Rattle.node_machine.specs.world.Rounds.{world_after_round, world_rests, world_rounds_to_settle}
+use Rattle.world_laws.proofs.worlds.FewCauses.{wires_few, round_few, rounds_few}
+use Rattle.world_laws.proofs.rounds_as_causes.a_round_has_few_causes.Goals as goal
+
+pub returns-clause-wires : goal.returns-clause-wires
+returns-clause-wires c = wires_few
+
+pub returns-clause-round : goal.returns-clause-round
+returns-clause-round c = round_few
+
+pub returns-clause-rounds : goal.returns-clause-rounds
+returns-clause-rounds c = rounds_few
+
+pub returns-clause-settling : goal.returns-clause-settling
+returns-clause-settling c = λ n w. rounds_few (world_rounds_to_settle n w) w
+
+pub returns-clause-most : goal.returns-clause-most
+returns-clause-most c = λ n w few seven.
+    let causes = rounds_few (world_rounds_to_settle n w) w few seven in
+    let most = (first_rest world_rests world_after_round n w).most in
+    omega (arith, causes, most)

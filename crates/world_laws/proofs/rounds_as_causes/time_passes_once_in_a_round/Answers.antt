@@ -1,0 +1,17 @@
+use Rattle.std.proofs.Common.{arith}
+use Rattle.lines_told.proofs.messages.Rest.{first_rest}
+use Rattle.node_machine.specs.world.Rounds.{world_after_round, world_rests, world_rounds_to_settle}
+use Rattle.world_laws.proofs.worlds.CausesOfRounds.{ticks_are}
+use Rattle.world_laws.proofs.rounds_as_causes.time_passes_once_in_a_round.Goals as goal
+
+pub returns-clause-rounds : goal.returns-clause-rounds
+returns-clause-rounds c = ticks_are
+
+pub returns-clause-settling : goal.returns-clause-settling
+returns-clause-settling c = λ n w. ticks_are (world_rounds_to_settle n w) w
+
+pub returns-clause-most : goal.returns-clause-most
+returns-clause-most c = λ n w.
+    let ticks = ticks_are (world_rounds_to_settle n w) w in
+    let most = (first_rest world_rests world_after_round n w).most in
+    omega (arith, ticks, most)

@@ -1,0 +1,130 @@
+-- What the link of a bare world has brought behind a line that lets it settle, as the history of the schedule notes it.
+use Rattle.std.proofs.Common.{◌≡◌, ℕ, ◌+◌, ◌*◌, ◌≤◌, false, List, [], ◌∷◌, ◌++◌, ap, sym, subst, ◌∙◌, arith}
+use Rattle.std.specs.List.{AllByRecursion}
+use Rattle.trace_model.specs.declared.entry.Entry.{Entry}
+use Rattle.trace_model.specs.declared.line.Header.{Header}
+use Rattle.trace_model.specs.declared.line.Line.{Line}
+use Rattle.trace_model.specs.declared.line.Line.TheVariants as saying
+use Rattle.trace_model.specs.Lines.{IsLineOf}
+use Rattle.link_laws.specs.messages.Links.{Link, Talk, after_link_events, talk_now, talk_of}
+use Rattle.link_laws.specs.messages.Links.IsStart.{IsBare}
+use Rattle.link_laws.specs.entries.Entries.{Entry as Noted}
+use Rattle.link_laws.specs.entries.Entries.End.{Controller, Host}
+use Rattle.link_laws.specs.entries.Sessions.{IsRead}
+use Rattle.link_laws.proofs.messages.Whole.{start_good, start_reached}
+use Rattle.link_laws.proofs.entries.Hearing.{session_up}
+use Rattle.link_laws.proofs.entries.Running.{read_here, read_there}
+use Rattle.history.specs.Histories.{Event, History, all_entries, all_events, causes_of}
+use Rattle.history.specs.Filters.{session_number}
+use Rattle.history.specs.Steps.{bare_link, end_of, entries_for}
+use Rattle.history.specs.Follows.{Follows, host_of}
+use Rattle.history.proofs.legal.Noted.{sent-all, got-all, acked-all}
+use Rattle.history.proofs.legal.Ordered.{IsRun, is_run, notes_of, run_entries}
+use Rattle.history.proofs.legal.Plain.{plain_trace}
+use Rattle.history.proofs.legal.Reading.{session-all}
+use Rattle.history.proofs.legal.Runs.{link_events, of_allowed, of_can}
+use Rattle.history.proofs.legal.Sessions.{controller_heard, host_heard}
+use Rattle.node_machine.specs.world.World.{end_c, end_h}
+use Rattle.node_laws.specs.order.Told.{IsReadOff}
+use Rattle.lines_told.specs.messages.Recovery.{IsLinkUndisturbed, fragments_left}
+use Rattle.lines_told.proofs.messages.Projected.{Known, known_after}
+use Rattle.lines_told.specs.lines.Below.{bare_link_behind}
+use Rattle.lines_told.specs.lines.Plays.{lines_played_of, plays_of}
+use Rattle.world_laws.specs.links.Resting.{LinkBrought}
+use Rattle.world_laws.specs.links.Settling.{settling_events}
+use Rattle.world_laws.specs.worlds.Brought.{AreBothUpIn, BothBrought}
+use Rattle.world_laws.specs.worlds.NotedFragments.{fragments_noted}
+use Rattle.world_laws.proofs.worlds.NotedFragments.{end_left}
+use Rattle.world_laws.proofs.schedules.Bare.{happened_leads, bare_settled}
+use Rattle.world_laws.proofs.schedules.Nodes.{brought, with_settle}
+use Rattle.world_laws.proofs.schedules.Sessions.{talk_in}
+
+-- what both ends have of the session in which they are up is what is noted
+record ReadInBare (t : List Entry) (h : ℕ) (l : Link) (n : ℕ) : Type 0 where
+  near : IsReadOff t (end_c h) n (talk_now l.controller.side)
+  far : IsReadOff t (end_h h) n (talk_now l.host.side)
+  left : fragments_left l ≤ fragments_noted t h n
+
+module _ (h : ℕ) (xs : List Event) (n : ℕ) where
+  abbrev notes : List Noted
+  notes = notes_of xs
+
+  abbrev leads : Link
+  leads = after_link_events bare_link (link_events xs)
+
+  pub read_end : (r : IsRead (notes_of xs) Controller n (talk_of (after_link_events bare_link (link_events xs)).controller n))
+      → IsReadOff (entries_for h (notes_of xs)) (end_c h) n (talk_of (after_link_events bare_link (link_events xs)).controller n)
+  read_end r =
+      record {
+        sent = sent-all h notes Controller n ∙ r.sent;
+        got = got-all h notes Controller n ∙ r.got;
+        acked = acked-all h notes Controller n ∙ r.acked;
+      }
+
+  pub read_other : (r : IsRead (notes_of xs) Host n (talk_of (after_link_events bare_link (link_events xs)).host n))
+      → IsReadOff (entries_for h (notes_of xs)) (end_h h) n (talk_of (after_link_events bare_link (link_events xs)).host n)
+  read_other r =
+      record {
+        sent = sent-all h notes Host n ∙ r.sent;
+        got = got-all h notes Host n ∙ r.got;
+        acked = acked-all h notes Host n ∙ r.acked;
+      }
+
+module _ (header : Header) (lines : List Line) (t : History) (valid : AllByRecursion (IsLineOf header) lines) (follows : Follows header lines t) where
+  read_in_bare : (n : ℕ) → AreBothUpIn (all_entries t) (host_of header) n
+      → ReadInBare (all_entries t) (host_of header) (bare_link_behind header lines) n
+  read_in_bare n up =
+      let h : ℕ = host_of header in
+      let xs : List Event = all_events t in
+      let run : IsRun h t = is_run header lines t valid follows in
+      let told : all_entries t ≡ entries_for h (notes_of xs) = run_entries h t.opening xs run.opening run.events in
+      let m : Link = after_link_events bare_link (link_events xs) in
+      let may = of_allowed h bare_link xs run.events in
+      let can = of_can h bare_link xs run.events in
+      let plain = plain_trace (causes_of xs) in
+      let near = session_up m.controller n
+      (sym (session-all h (notes_of xs) Controller plain ∙ controller_heard (causes_of xs) can)
+      ∙ (sym (ap (λ (es : List Entry). session_number es (end_of h Controller)) told) ∙ up.controller)) in
+      let far = session_up m.host n
+      (sym (session-all h (notes_of xs) Host plain ∙ host_heard (causes_of xs) can)
+      ∙ (sym (ap (λ (es : List Entry). session_number es (end_of h Host)) told) ∙ up.host)) in
+      let P : Talk → Type 0 = λ k. IsReadOff (entries_for h (notes_of xs)) (end_c h) n k in
+      let Q : Talk → Type 0 = λ k. IsReadOff (entries_for h (notes_of xs)) (end_h h) n k in
+      let here : P (talk_now m.controller.side) =
+      subst P (talk_in m.controller n near.0 near.1) (read_end h xs n (read_here bare_link IsBare (link_events xs) may n)) in
+      let there : Q (talk_now m.host.side) =
+      subst Q (talk_in m.host n far.0 far.1) (read_other h xs n (read_there bare_link IsBare (link_events xs) may n)) in
+      let known : Known m =
+      (known_after (link_events xs) bare_link may (record { good = start_good bare_link IsBare; reached = start_reached bare_link IsBare })).0 in
+      let one = end_left (entries_for h (notes_of xs)) (end_c h) n (talk_now m.controller.side) known.good.controller.now.says here in
+      let two = end_left (entries_for h (notes_of xs)) (end_h h) n (talk_now m.host.side) known.good.host.now.says there in
+      let all : ReadInBare (entries_for h (notes_of xs)) h m n = record { near = here; far = there; left = omega (arith, one, two) } in
+      subst (λ (l : Link). ReadInBare (all_entries t) h l n) (happened_leads header lines t valid follows)
+      (subst (λ (es : List Entry). ReadInBare es h m n) (sym told) all)
+
+module _ (header : Header) (bare : header.hci ≡ false) (lines : List Line) (n : ℕ) (t later : History)
+    (valid : AllByRecursion (IsLineOf header) (lines_played_of header lines))
+    (later_valid : AllByRecursion (IsLineOf header) (lines_played_of header (lines ++ saying.Settle n ∷ [])))
+    (follows : Follows header (lines_played_of header lines) t)
+    (goes_on : Follows header (lines_played_of header (lines ++ saying.Settle n ∷ [])) later) where
+  pub bare_noted : (k : ℕ) → AreBothUpIn (all_entries t) (host_of header) k → AreBothUpIn (all_entries later) (host_of header) k
+      → IsLinkUndisturbed (bare_link_behind header (lines_played_of header lines))
+      (settling_events n (host_of header) (bare_link_behind header (lines_played_of header lines)))
+      → 24 * (fragments_noted (all_entries t) (host_of header) k + 1) ≤ n → BothBrought (all_entries t) (all_entries later) (host_of header) k
+  bare_noted k up up_later u fits =
+      let h : ℕ = host_of header in
+      let l : Link = bare_link_behind header (lines_played_of header lines) in
+      let all : List Line = lines_played_of header (lines ++ saying.Settle n ∷ []) in
+      let m : Link = bare_link_behind header all in
+      let was : ReadInBare (all_entries t) h l k = read_in_bare header (lines_played_of header lines) t valid follows k up in
+      let is : ReadInBare (all_entries later) h m k = read_in_bare header all later later_valid goes_on k up_later in
+      let left = was.left in
+      let come : LinkBrought l m =
+      subst (λ (ls : List Line). LinkBrought l (bare_link_behind header ls)) (sym (with_settle header lines n))
+      (bare_settled header bare (plays_of header lines) t valid follows n u (omega (arith, left, fits))) in
+      record {
+        to_host = brought (all_entries t) (all_entries later) (end_c h) (end_h h) k (talk_now l.controller.side)
+            (talk_now m.controller.side) (talk_now m.host.side) was.near is.near is.far come.to_host;
+        to_controller = brought (all_entries t) (all_entries later) (end_h h) (end_c h) k (talk_now l.host.side)
+            (talk_now m.host.side) (talk_now m.controller.side) was.far is.far is.near come.to_controller;
+      }

@@ -1,0 +1,44 @@
+-- What may be played below a header is what the laws of its worlds ask for.
+use Rattle.std.proofs.Common.{◌≡◌, ℕ, false, List, [], ◌∷◌, ap, sym, ◌∙◌}
+use Rattle.std.specs.Prelude.{IsTrue}
+use Rattle.std.specs.List.{AllByRecursion}
+use Rattle.std.proofs.lemmas.Bool.{true≢false}
+use Rattle.trace_model.specs.declared.line.Header.{Header}
+use Rattle.trace_model.specs.declared.line.Line.{Line}
+use Rattle.trace_model.specs.declared.line.Line.TheVariants as saying
+use Rattle.trace_model.specs.Lines.{IsLineOf}
+use Rattle.node_laws.specs.links.Runs.{ArePlayable}
+use Rattle.node_laws.specs.schedules.Ranges.{AreNodeLinesOf}
+use Rattle.node_laws.proofs.schedules.Ranges.{in_range, playable}
+use Rattle.lines_told.specs.lines.Below.{IsPlayedLine, is_settling}
+
+settles_not : (line : Line) (rounds : ℕ) → is_settling line ≡ false → line ≡ saying.Settle rounds → ⊥
+settles_not line rounds plain is = true≢false (sym (ap is_settling is) ∙ plain)
+
+module _ (header : Header) where
+  in_ranges : (lines : List Line) → AllByRecursion (IsPlayedLine header) lines → AreNodeLinesOf header lines
+  in_ranges [] may = tt
+  in_ranges (line ∷ lines) may =
+      (in_range header line may.0.may_follow (λ rounds is. settles_not line rounds may.0.settles_not is), in_ranges lines may.1)
+
+  pub played_playable : (lines : List Line) → AllByRecursion (IsPlayedLine header) lines → ArePlayable lines
+  played_playable lines may = playable header lines (in_ranges lines may)
+
+  -- in a bare world
+  module _ (bare : header.hci ≡ false) where
+    no_nodes : IsTrue header.hci → ⊥
+    no_nodes nodes = true≢false (sym nodes ∙ bare)
+
+    bare_line : (line : Line) → IsPlayedLine header line → IsLineOf header line
+    bare_line (saying.Boot node) may = absurd (no_nodes may.may_follow.0)
+    bare_line (saying.Cut node) may = absurd (no_nodes may.may_follow.0)
+    bare_line (saying.Activate host sync power) may = absurd (no_nodes may.may_follow.0)
+    bare_line (saying.Arm node nth fill) may = absurd (no_nodes may.may_follow.0)
+    bare_line (saying.Init e identity pipes) may = absurd (no_nodes may.may_follow.0)
+    bare_line (saying.Tables node) may = absurd (no_nodes may.may_follow.0)
+    bare_line (saying.Settle rounds) may = absurd (true≢false may.settles_not)
+    bare_line line may = may.may_follow
+
+    pub played_bare : (lines : List Line) → AllByRecursion (IsPlayedLine header) lines → AllByRecursion (IsLineOf header) lines
+    played_bare [] may = tt
+    played_bare (line ∷ lines) may = (bare_line line may.0, played_bare lines may.1)

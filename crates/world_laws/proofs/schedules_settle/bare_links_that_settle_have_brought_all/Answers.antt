@@ -1,0 +1,31 @@
+use Rattle.std.proofs.Common.{inl, subst, sym, ◌++◌}
+use Rattle.std.specs.Prelude.{replicate}
+use Rattle.std.specs.List.{AllByRecursion}
+use Rattle.trace_model.specs.Lines.{IsLineOf}
+use Rattle.lines_told.specs.lines.Plays.{IsPlayFor, lines_played, plays_of, rounds_to_rest}
+use Rattle.lines_told.specs.lines.Plays.Play.{Round}
+use Rattle.node_laws.proofs.order.HostsStay.{hosts_stay_behind}
+use Rattle.lines_told.proofs.lines.Lines.{lines_may_be_played}
+use Rattle.lines_told.proofs.lines.Plays.{all-append, plays_for, rounds_for}
+use Rattle.world_laws.proofs.schedules.Bare.{bare_settled}
+use Rattle.world_laws.proofs.schedules.BareNoted.{bare_noted}
+use Rattle.world_laws.proofs.schedules.Nodes.{with_settle}
+use Rattle.world_laws.proofs.schedules.Played.{played_bare}
+use Rattle.world_laws.proofs.schedules_settle.bare_links_that_settle_have_brought_all.Goals as goal
+
+pub returns-clause-plays : goal.returns-clause-plays
+returns-clause-plays c = λ header is plays may t.
+    bare_settled header is.bare plays t
+    (played_bare header is.bare (lines_played header plays) (lines_may_be_played header (inl is) (hosts_stay_behind header) plays may))
+
+pub returns-clause-noted : goal.returns-clause-noted
+returns-clause-noted c = λ header is lines may n t later.
+    let before = plays_for header lines may in
+    let rounds = replicate (rounds_to_rest header (plays_of header lines) n) Round in
+    let all = all-append (IsPlayFor header) (plays_of header lines) rounds before
+    (rounds_for header (rounds_to_rest header (plays_of header lines) n)) in
+    let played = lines_may_be_played header (inl is) (hosts_stay_behind header) in
+    bare_noted header is.bare lines n t later
+    (played_bare header is.bare (lines_played header (plays_of header lines)) (played (plays_of header lines) before))
+    (subst (AllByRecursion (IsLineOf header)) (sym (with_settle header lines n))
+    (played_bare header is.bare (lines_played header (plays_of header lines ++ rounds)) (played (plays_of header lines ++ rounds) all)))

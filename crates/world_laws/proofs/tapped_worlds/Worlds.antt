@@ -1,0 +1,107 @@
+-- What a tap reports over a history of a world of nodes.
+use Rattle.std.proofs.Common.{◌≡◌, ℕ, Bool, true, false, List, [], ◌∷◌, ◌++◌, Option, Some, None, refl, ap, sym, subst, ◌∙◌}
+use Rattle.std.specs.List.{cons_option, filter_map, list_any}
+use Rattle.trace_model.specs.declared.entry.Entry.{Entry}
+use Rattle.trace_model.specs.declared.line.End.{End}
+use Rattle.trace_model.specs.declared.line.Header.{Header}
+use Rattle.trace_model.specs.declared.line.Line.{Line}
+use Rattle.link_laws.specs.messages.Links.{Link}
+use Rattle.link_laws.specs.messages.Links.IsStart.{IsLine}
+use Rattle.link_laws.specs.entries.Entries.{Entry as Noted, entries}
+use Rattle.history.specs.Filters.{Saying, said}
+use Rattle.history.specs.Filters.Saying.{Begins, Ends, Sends, Gets, Counts, Puts, Takes, Loses}
+use Rattle.history.specs.Steps.{entries_for}
+use Rattle.node_machine.specs.world.World.{new_world}
+use Rattle.node_machine.specs.world.Lines.{Occurrence}
+use Rattle.node_machine.specs.world.NodeHistories.{FollowsNodes, NodeHistory, entries_in, occurrences_in}
+use Rattle.node_laws.specs.kept.Hosts.{AreHosts}
+use Rattle.node_laws.specs.telling.Telling.{is_of, of_link, world_behind}
+use Rattle.node_laws.specs.links.Runs.{ArePlayable, new_line}
+use Rattle.node_laws.specs.order.Resets.{cuts_on}
+use Rattle.node_laws.specs.order.Told.{IsLinkTold}
+use Rattle.node_laws.proofs.order.Lines.{IsSo, history_so}
+use Rattle.node_laws.proofs.order.Ordered.{Whether, whether}
+use Rattle.node_laws.proofs.order.Ordered.Whether.{Stands, IsNone}
+use Rattle.node_laws.proofs.order.Strangers.{IsStrange}
+use Rattle.node_laws.proofs.order.Watches.{no_cut}
+use Rattle.tap_reading.specs.Lpdus.{tapped_lpdus}
+use Rattle.world_laws.specs.entries.Hearing.{lpdus_heard, gots_noted, is_cut}
+use Rattle.world_laws.specs.histories.Tapping.{put_on, lpdus_on, got_on, gots_on}
+use Rattle.world_laws.proofs.entries.Events.{tap_reports_lpdus}
+use Rattle.world_laws.proofs.histories.Histories.{lpdus_same, gots_same}
+
+-- ## What tells nothing of a link
+
+module _ (h : ℕ) where
+  put_none : (o : Option (End × Saying)) → is_of h o ≡ false → put_on h o ≡ None
+  put_none None q = refl
+  put_none (Some (e, Puts frame)) q = rw q refl
+  put_none (Some (e, Begins n)) q = refl
+  put_none (Some (e, Ends)) q = refl
+  put_none (Some (e, Sends n m)) q = refl
+  put_none (Some (e, Gets n m)) q = refl
+  put_none (Some (e, Counts n k)) q = refl
+  put_none (Some (e, Takes frame)) q = refl
+  put_none (Some (e, Loses frame)) q = refl
+
+  got_none : (o : Option (End × Saying)) → is_of h o ≡ false → got_on h o ≡ None
+  got_none None q = refl
+  got_none (Some (e, Gets n m)) q = rw q refl
+  got_none (Some (e, Begins n)) q = refl
+  got_none (Some (e, Ends)) q = refl
+  got_none (Some (e, Sends n m)) q = refl
+  got_none (Some (e, Counts n k)) q = refl
+  got_none (Some (e, Puts frame)) q = refl
+  got_none (Some (e, Takes frame)) q = refl
+  got_none (Some (e, Loses frame)) q = refl
+
+  -- where nothing is made of what tells nothing of a link, all is made of what tells of it
+  of_link_alone : {X : Type 0} (f : Option (End × Saying) → Option X) → ((o : Option (End × Saying)) → is_of h o ≡ false → f o ≡ None) → (t : List Entry)
+      → filter_map (λ x. f (said x)) t ≡ filter_map (λ x. f (said x)) (of_link h t)
+  of_link_alone f none [] = refl
+  of_link_alone {X} f none (x ∷ t) = go (is_of h (said x)) refl (of_link_alone f none t)
+    where
+      Goal : Type 0
+      Goal = filter_map (λ y. f (said y)) (x ∷ t) ≡ filter_map (λ y. f (said y)) (of_link h (x ∷ t))
+
+      go : (b : Bool) → is_of h (said x) ≡ b → filter_map (λ y. f (said y)) t ≡ filter_map (λ y. f (said y)) (of_link h t) → Goal
+      go true r later = rw r (ap (cons_option (f (said x))) later)
+      go false r later = rw r (ap (λ o. cons_option o (filter_map (λ y. f (said y)) t)) (none (said x) r) ∙ later)
+
+  lpdus_alone : (t : List Entry) → lpdus_on h t ≡ lpdus_on h (of_link h t)
+  lpdus_alone t = of_link_alone (put_on h) put_none t
+
+  gots_alone : (t : List Entry) → gots_on h t ≡ gots_on h (of_link h t)
+  gots_alone t = of_link_alone (got_on h) got_none t
+
+-- ## Of a link that is told
+
+told_reports : (h : ℕ) (l : Link) (t : List Entry) → IsLinkTold h l t → list_any (cuts_on h) t ≡ false
+    → tapped_lpdus false (lpdus_on h t) ≡ gots_on h t
+told_reports h l t a uncut =
+    let notes : List Noted = entries new_line a.events in
+    let heard : lpdus_on h t ≡ lpdus_heard notes =
+    lpdus_alone h t ∙ (ap (lpdus_on h) a.told ∙ (sym (lpdus_alone h (entries_for h notes)) ∙ lpdus_same h notes)) in
+    let got : gots_on h t ≡ gots_noted notes =
+    gots_alone h t ∙ (ap (gots_on h) a.told ∙ (sym (gots_alone h (entries_for h notes)) ∙ gots_same h notes)) in
+    let none : list_any is_cut notes ≡ false = no_cut h t notes uncut a.stands_from in
+    ap (tapped_lpdus false) heard ∙ (tap_reports_lpdus new_line IsLine a.events a.run.allowed none ∙ sym got)
+
+-- no link has this number
+strange_reports : (h : ℕ) (t : List Entry) → of_link h t ≡ [] → tapped_lpdus false (lpdus_on h t) ≡ gots_on h t
+strange_reports h t none =
+    ap (tapped_lpdus false) (lpdus_alone h t ∙ ap (lpdus_on h) none) ∙ sym (gots_alone h t ∙ ap (gots_on h) none)
+
+pub tap_reports_world : (header : Header) (lines : List Line) (t : NodeHistory) → FollowsNodes header lines t → AreHosts header.hosts.items
+    → ArePlayable lines → (front back : List Occurrence) → occurrences_in t ≡ front ++ back → (h : ℕ) → list_any (cuts_on h) (entries_in front) ≡ false
+    → tapped_lpdus false (lpdus_on h (entries_in front)) ≡ gots_on h (entries_in front)
+tap_reports_world header lines t follows are p front back q h uncut =
+    go (whether (world_behind (new_world header.hosts.items) front) h)
+  where
+    so : IsSo header.hosts.items front (world_behind (new_world header.hosts.items) front)
+    so = history_so header lines t follows are p front back q
+
+    go : Whether (world_behind (new_world header.hosts.items) front) h
+        → tapped_lpdus false (lpdus_on h (entries_in front)) ≡ gots_on h (entries_in front)
+    go (Stands s found) = told_reports h s.link (entries_in front) (so.each h s found).told uncut
+    go (IsNone strange) = strange_reports h (entries_in front) (so.strange h (subst (IsStrange h) so.hosts_are strange))

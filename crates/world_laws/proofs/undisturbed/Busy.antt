@@ -1,0 +1,245 @@
+-- Whether the ends of a bare world take fragments behind the lines of a schedule: the last line that says so decides.
+use Rattle.std.proofs.Common.{◌≡◌, ℕ, zero, suc, ◌==◌, Bool, true, false, List, [], ◌∷◌, ◌++◌, Option, Some, None, refl, ap, sym, subst, ◌∙◌, cond}
+use Rattle.std.specs.Prelude.{replicate, not, is_some, unwrap_or, ◌&&◌, if◌then◌else◌}
+use Rattle.std.specs.List.{fold, AllByRecursion}
+use Rattle.std.proofs.lemmas.Bool.{true≢false, eq-eqb}
+use Rattle.trace_model.specs.declared.entry.NoCause.{NoCause}
+use Rattle.trace_model.specs.declared.line.End.{End}
+use Rattle.trace_model.specs.declared.line.Header.{Header}
+use Rattle.trace_model.specs.declared.line.Line.{Line}
+use Rattle.trace_model.specs.declared.line.Line.TheVariants as saying
+use Rattle.trace_model.specs.Lines.{IsHeader, IsEndOf, MayFollow}
+use Rattle.link_laws.specs.machine.Machine.{Turn, turned, after_input, ended_by}
+use Rattle.link_laws.specs.machine.Machine.LinkInput.{Reset, Tick}
+use Rattle.link_laws.specs.machine.Machine.Turn.{Give, Hold, FetchMessage}
+use Rattle.link_laws.specs.messages.Links.{Link, EndEvent, exchanged, aged, with_ended, happens, happens_at_controller, ticks_at_controller}
+use Rattle.link_laws.specs.messages.Links.Ending.{GoesOut}
+use Rattle.link_laws.specs.messages.Links.Comes.{NextFrame, AsksReset, NoInput}
+use Rattle.link_laws.specs.messages.Links.EndEvent.{Step, Lose}
+use Rattle.link_laws.specs.messages.Links.LinkEvent.{AtController, AtHost}
+use Rattle.history.specs.Damage.{Verdict}
+use Rattle.history.specs.Damage.Verdict.{Same, LostFor, Undetected}
+use Rattle.history.specs.Histories.{Cause, Outcome, events_of, causes_of}
+use Rattle.history.specs.Histories.Cause.{Given, Taken, WasLost, Ticked, WasReset, Readied}
+use Rattle.history.specs.Histories.Outcome.{Refused, Caused}
+use Rattle.history.specs.Steps.{bare_link, events_at, link_after, link_after_all}
+use Rattle.history.specs.Follows.{causes_in, damage_causes, first_verdict, frames_to, link_after_line, outcome_of, refusal, host_of, taken_of}
+use Rattle.history.specs.Filters.{same_side}
+use Rattle.history.proofs.legal.Asked.{only_one}
+use Rattle.node_laws.proofs.rounds.BareRounds.{after_causes}
+use Rattle.lines_told.specs.lines.Below.{bare_link_behind, is_settling}
+use Rattle.lines_told.specs.lines.Plays.{Play, lines_played, plays_of_line, plays_of, rounds_to_rest}
+use Rattle.lines_told.specs.lines.Plays.Play.{Said, Round}
+use Rattle.lines_told.proofs.lines.Plays.{played_more}
+use Rattle.lines_told.proofs.lines.BareRounds.{lines-append}
+use Rattle.world_laws.specs.links.RoundCauses.{AreRoundCauses}
+use Rattle.world_laws.specs.links.Settling.{settling_causes, rounds_to_settle}
+use Rattle.world_laws.specs.worlds.Undisturbed.{busy_after, is_left_busy}
+use Rattle.world_laws.proofs.links.RoundCauses.{again, rounds_are}
+use Rattle.world_laws.proofs.schedules.Bare.{settled_link}
+use Rattle.world_laws.proofs.undisturbed.Causes.{ready_at, readied_by, HasReady, became, ended_host, turned_ready, frame_readied}
+use Rattle.world_laws.proofs.undisturbed.Ready.{had_tick_ready, asked_ready}
+
+-- ## A cause
+
+-- it happens at one end
+at_one : (at_host side : Bool) (l : Link) (x : EndEvent) (f : Bool → Bool)
+    → ((k : Link) → HasReady k (happens_at_controller k x) (f k.controller.side.shdlc.ready))
+    → ready_at at_host (happens l (if side then AtHost x else AtController x)) ≡ cond (same_side side at_host) (f (ready_at at_host l)) (ready_at at_host l)
+at_one false false l x f is = (is l).near
+at_one true false l x f is = (is l).far
+at_one false true l x f is = (is (exchanged l)).far
+at_one true true l x f is = (is (exchanged l)).near
+
+either : (b c : Bool) → cond b c c ≡ c
+either true c = refl
+either false c = refl
+
+not_not : (b : Bool) → not (not b) ≡ b
+not_not true = refl
+not_not false = refl
+
+with_turn : (t : Turn) (ready : Bool → Bool) (k : Link) → (turned k.controller.side (t ∷ [])).shdlc.ready ≡ ready k.controller.side.shdlc.ready
+    → HasReady k (happens_at_controller k (Step NoInput (t ∷ []) GoesOut)) (ready k.controller.side.shdlc.ready)
+with_turn t ready k is = became k k (turned k.controller.side (t ∷ [])) (ready k.controller.side.shdlc.ready) refl is
+
+ticked_here : (l : Link) → HasReady l (ticks_at_controller l [] GoesOut) l.controller.side.shdlc.ready
+ticked_here l =
+    let b : Bool = is_some (ended_by l.controller.side Tick) in
+    became l (with_ended l b) (after_input l.controller.side Tick) l.controller.side.shdlc.ready (ended_host l b) (had_tick_ready l.controller.side)
+
+reset_here : (window : Option ℕ) (l : Link) → HasReady l (happens_at_controller l (Step (AsksReset window) [] GoesOut)) l.controller.side.shdlc.ready
+reset_here window l =
+    let b : Bool = is_some (ended_by l.controller.side (Reset window)) in
+    became l (with_ended l b) (after_input l.controller.side (Reset window)) l.controller.side.shdlc.ready (ended_host l b)
+    (asked_ready l.controller.side window)
+
+pub cause_readies : (at_host : Bool) (l : Link) (c : Cause) → ready_at at_host (link_after l c) ≡ readied_by at_host (ready_at at_host l) c
+cause_readies at_host l (Given e m) =
+    at_one at_host e.at_host l (Step NoInput (Give m ∷ []) GoesOut) (λ b. b)
+    (λ k. with_turn (Give m) (λ b. b) k (turned_ready k.controller.side (Give m ∷ []) k.controller.side.shdlc.ready refl))
+    ∙ either (same_side e.at_host at_host) (ready_at at_host l)
+cause_readies at_host l (Taken e) =
+    at_one at_host e.at_host l (Step NextFrame (FetchMessage ∷ []) GoesOut) (λ b. b) (λ k. frame_readied k (FetchMessage ∷ []) refl)
+    ∙ either (same_side e.at_host at_host) (ready_at at_host l)
+cause_readies at_host l (WasLost e why) =
+    at_one at_host e.at_host l (Lose why) (λ b. b) (λ k. record { near = refl; far = refl }) ∙ either (same_side e.at_host at_host) (ready_at at_host l)
+cause_readies at_host l (WasReset e window) =
+    at_one at_host e.at_host l (Step (AsksReset window) [] GoesOut) (λ b. b) (reset_here window) ∙ either (same_side e.at_host at_host) (ready_at at_host l)
+cause_readies at_host l (Readied e ready) =
+    at_one at_host e.at_host l (Step NoInput (Hold (not ready) ∷ []) GoesOut) (λ b. ready)
+    (λ k. with_turn (Hold (not ready)) (λ b. ready) k
+    (turned_ready k.controller.side (Hold (not ready) ∷ []) k.controller.side.shdlc.ready refl ∙ not_not ready))
+cause_readies at_host l Ticked = go at_host
+  where
+    m : Link
+    m = ticks_at_controller (aged l) [] GoesOut
+
+    go : (at_host : Bool) → ready_at at_host (exchanged (ticks_at_controller (exchanged m) [] GoesOut)) ≡ ready_at at_host l
+    go true = (ticked_here (exchanged m)).near ∙ (ticked_here (aged l)).far
+    go false = (ticked_here (exchanged m)).far ∙ (ticked_here (aged l)).near
+
+abbrev pub readied_by_all : Bool → Bool → List Cause → Bool
+readied_by_all at_host before [] = before
+readied_by_all at_host before (c ∷ cs) = readied_by_all at_host (readied_by at_host before c) cs
+
+pub causes_ready : (at_host : Bool) (cs : List Cause) (l : Link) → ready_at at_host (link_after_all l cs) ≡ readied_by_all at_host (ready_at at_host l) cs
+causes_ready at_host [] l = refl
+causes_ready at_host (c ∷ cs) l =
+    causes_ready at_host cs (link_after l c) ∙ ap (λ b. readied_by_all at_host b cs) (cause_readies at_host l c)
+
+-- rounds say nothing of it
+pub rounds_ready : (at_host : Bool) (h : ℕ) (l : Link) (cs : List Cause) → AreRoundCauses h l cs → (b : Bool) → readied_by_all at_host b cs ≡ b
+rounds_ready at_host h l [] a b = refl
+rounds_ready at_host h l (Taken e ∷ cs) a b = rounds_ready at_host h (link_after l (Taken e)) cs a.1 b
+rounds_ready at_host h l (Ticked ∷ cs) a b = rounds_ready at_host h (link_after l Ticked) cs a.1 b
+rounds_ready at_host h l (Given e m ∷ cs) a b = absurd a.0
+rounds_ready at_host h l (WasLost e why ∷ cs) a b = absurd a.0
+rounds_ready at_host h l (WasReset e window ∷ cs) a b = absurd a.0
+rounds_ready at_host h l (Readied e ready ∷ cs) a b = absurd a.0
+
+-- ## A line
+
+-- a line causes nothing, or these causes
+pub by_refusal : (P : List Cause → Type 0) (h : ℕ) (l : Link) (line : Line) → P [] → P (causes_in l line) → P (causes_of (events_of (outcome_of h l line)))
+by_refusal P h l line none some = go (refusal l line) refl
+  where
+    go : (o : Option NoCause) → refusal l line ≡ o → P (causes_of (events_of (outcome_of h l line)))
+    go (Some why) q =
+        let is : outcome_of h l line ≡ Refused why = rw q refl in
+        subst (λ (o : Outcome). P (causes_of (events_of o))) (sym is) none
+    go None q =
+        let is : outcome_of h l line ≡ Caused (events_at h l (causes_in l line)) = rw q refl in
+        subst (λ (o : Outcome). P (causes_of (events_of o))) (sym is) (subst P (sym (again h l (causes_in l line))) some)
+
+repeated_ready : (at_host : Bool) (c : Cause) → ((b : Bool) → readied_by at_host b c ≡ b) → (n : ℕ) (b : Bool) → readied_by_all at_host b (replicate n c) ≡ b
+repeated_ready at_host c none zero b = refl
+repeated_ready at_host c none (suc n) b =
+    repeated_ready at_host c none n (readied_by at_host b c) ∙ none b
+
+damage_ready : (at_host : Bool) (e : End) (v : Option Verdict) (b : Bool) → readied_by_all at_host b (damage_causes e v) ≡ b
+damage_ready at_host e None b = refl
+damage_ready at_host e (Some Same) b = refl
+damage_ready at_host e (Some (LostFor why)) b = refl
+damage_ready at_host e (Some (Undetected read)) b = refl
+
+module _ (header : Header) (is : IsHeader header) (at_host : Bool) where
+  abbrev here : End
+  here = record { link = host_of header; at_host = at_host }
+
+  -- what is said of an end of the world is said of this side of its link
+  same : (e : End) → IsEndOf header e → (b c : Bool) → not (cond ((e.link == host_of header) && same_side e.at_host at_host) b (not c))
+      ≡ cond (same_side e.at_host at_host) (not b) c
+  same e known b c =
+      let one : (e.link == host_of header) ≡ true = eq-eqb e.link (host_of header) (only_one header.hosts.items e.link is.one known) in
+      rw one (go (same_side e.at_host at_host))
+    where
+      go : (s : Bool) → not (cond s b (not c)) ≡ cond s (not b) c
+      go true = refl
+      go false = not_not c
+
+  -- the lines that aren't about it leave it
+  kept : (l : Link) (line : Line) → ((b : Bool) → readied_by_all at_host b (causes_in l line) ≡ b)
+      → ready_at at_host (link_after_line l (outcome_of (host_of header) l line)) ≡ not (not (ready_at at_host l))
+  kept l line none =
+      let h : ℕ = host_of header in
+      let b : Bool = ready_at at_host l in
+      causes_ready at_host (causes_of (events_of (outcome_of h l line))) l
+      ∙ (by_refusal (λ cs. readied_by_all at_host b cs ≡ b) h l line refl (none b) ∙ sym (not_not b))
+
+  line_ready : (l : Link) (line : Line) → MayFollow header line → is_settling line ≡ false
+      → ready_at at_host (link_after_line l (outcome_of (host_of header) l line)) ≡ not (busy_after here (not (ready_at at_host l)) line)
+  line_ready l (saying.Send e pid message) may plain = kept l (saying.Send e pid message) (λ b. refl)
+  line_ready l (saying.Deliver e count) may plain =
+      kept l (saying.Deliver e count) (repeated_ready at_host (Taken e) (λ b. refl) (taken_of count (frames_to l e)))
+  line_ready l (saying.Lose e) may plain = kept l (saying.Lose e) (λ b. refl)
+  line_ready l (saying.Damage e places) may plain =
+      kept l (saying.Damage e places) (damage_ready at_host e (first_verdict (frames_to l e) places.items))
+  line_ready l (saying.Tick times) may plain = kept l (saying.Tick times) (repeated_ready at_host Ticked (λ b. refl) (unwrap_or times 1))
+  line_ready l (saying.Reset e window) may plain = kept l (saying.Reset e window) (λ b. refl)
+  line_ready l (saying.Busy e) may plain = cause_readies at_host l (Readied e false) ∙ sym (same e may.1 true (ready_at at_host l))
+  line_ready l (saying.Ready e) may plain = cause_readies at_host l (Readied e true) ∙ sym (same e may.1 false (ready_at at_host l))
+  line_ready l (saying.Boot node) may plain = kept l (saying.Boot node) (λ b. refl)
+  line_ready l (saying.Cut node) may plain = kept l (saying.Cut node) (λ b. refl)
+  line_ready l (saying.Activate host sync power) may plain = kept l (saying.Activate host sync power) (λ b. refl)
+  line_ready l (saying.Arm node nth fill) may plain = kept l (saying.Arm node nth fill) (λ b. refl)
+  line_ready l (saying.Init e identity pipes) may plain = kept l (saying.Init e identity pipes) (λ b. refl)
+  line_ready l (saying.Tables node) may plain = kept l (saying.Tables node) (λ b. refl)
+  line_ready l (saying.Settle rounds) may plain = absurd (true≢false plain)
+
+  -- ## A schedule
+
+  -- the link behind these plays
+  abbrev behind : List Play → Link
+  behind plays = bare_link_behind header (lines_played header plays)
+
+  said_ready : (before : List Play) (line : Line) → MayFollow header line → is_settling line ≡ false → (busy : Bool)
+      → ready_at at_host (behind before) ≡ not busy → ready_at at_host (behind (before ++ Said line ∷ [])) ≡ not (busy_after here busy line)
+  said_ready before line may plain busy was =
+      let h : ℕ = host_of header in
+      let goes : behind (before ++ Said line ∷ []) ≡ link_after_line (behind before) (outcome_of h (behind before) line) =
+      ap (bare_link_behind header) (played_more header before (Said line)) ∙ lines-append h (lines_played header before) (line ∷ []) bare_link in
+      ap (ready_at at_host) goes
+      ∙ (line_ready (behind before) line may plain ∙ ap (λ b. not (busy_after here b line)) (ap not was ∙ not_not busy))
+
+  rested_ready : (before : List Play) (n : ℕ)
+      → ready_at at_host (behind (before ++ replicate (rounds_to_rest header before n) Round)) ≡ ready_at at_host (behind before)
+  rested_ready before n =
+      let h : ℕ = host_of header in
+      let l : Link = behind before in
+      ap (ready_at at_host) (settled_link header is.bare before n ∙ sym (after_causes (settling_causes n h l) l))
+      ∙ (causes_ready at_host (settling_causes n h l) l
+      ∙ rounds_ready at_host h l (settling_causes n h l) (rounds_are h (rounds_to_settle n h l) l) (ready_at at_host l))
+
+  line_played : (before : List Play) (line : Line) → MayFollow header line → (busy : Bool) → ready_at at_host (behind before) ≡ not busy
+      → ready_at at_host (behind (before ++ plays_of_line header before line)) ≡ not (busy_after here busy line)
+  line_played before (saying.Settle n) may busy was = rested_ready before n ∙ was
+  line_played before (saying.Send e pid message) may busy was = said_ready before (saying.Send e pid message) may refl busy was
+  line_played before (saying.Deliver e count) may busy was = said_ready before (saying.Deliver e count) may refl busy was
+  line_played before (saying.Lose e) may busy was = said_ready before (saying.Lose e) may refl busy was
+  line_played before (saying.Damage e places) may busy was = said_ready before (saying.Damage e places) may refl busy was
+  line_played before (saying.Tick times) may busy was = said_ready before (saying.Tick times) may refl busy was
+  line_played before (saying.Reset e window) may busy was = said_ready before (saying.Reset e window) may refl busy was
+  line_played before (saying.Busy e) may busy was = said_ready before (saying.Busy e) may refl busy was
+  line_played before (saying.Ready e) may busy was = said_ready before (saying.Ready e) may refl busy was
+  line_played before (saying.Boot node) may busy was = said_ready before (saying.Boot node) may refl busy was
+  line_played before (saying.Cut node) may busy was = said_ready before (saying.Cut node) may refl busy was
+  line_played before (saying.Activate host sync power) may busy was = said_ready before (saying.Activate host sync power) may refl busy was
+  line_played before (saying.Arm node nth fill) may busy was = said_ready before (saying.Arm node nth fill) may refl busy was
+  line_played before (saying.Init e identity pipes) may busy was = said_ready before (saying.Init e identity pipes) may refl busy was
+  line_played before (saying.Tables node) may busy was = said_ready before (saying.Tables node) may refl busy was
+
+  lines_ready : (lines : List Line) (before : List Play) (busy : Bool) → AllByRecursion (MayFollow header) lines → ready_at at_host (behind before) ≡ not busy
+      → ready_at at_host (behind (fold (λ (ps : List Play) (line : Line). ps ++ plays_of_line header ps line) before lines))
+      ≡ not (fold (busy_after here) busy lines)
+  lines_ready [] before busy may was = was
+  lines_ready (line ∷ lines) before busy may was =
+      lines_ready lines (before ++ plays_of_line header before line) (busy_after here busy line) may.1 (line_played before line may.0 busy was)
+
+  pub schedule_ready : (lines : List Line) → AllByRecursion (MayFollow header) lines → is_left_busy here lines ≡ false
+      → ready_at at_host (behind (plays_of header lines)) ≡ true
+  schedule_ready lines may none = lines_ready lines [] false may (at_start at_host) ∙ ap not none
+    where
+      at_start : (b : Bool) → ready_at b bare_link ≡ true
+      at_start true = refl
+      at_start false = refl

@@ -1,0 +1,102 @@
+-- A worked example of a link of nodes that settles and holds no message meanwhile, computed from the definitions.
+use Rattle.std.proofs.Common.{◌≡◌, refl, List, [], ◌∷◌, None}
+use Rattle.std.specs.Prelude.{true}
+use Rattle.trace_model.specs.declared.entry.Entry.{Entry}
+use Rattle.trace_model.specs.declared.entry.Entry.TheVariants.{Acked, Active, AnyOk, Booted, Command, Emit, Got, Sent, Took, Turn, Up}
+use Rattle.hci_tables.specs.declared.command.Command.TheVariants as command
+use Rattle.journal_laws.specs.Records.{found_from}
+use Rattle.gate_admin.specs.View.{hosts_where}
+use Rattle.pipe_table.specs.PipeRows.{lowest_free}
+use Rattle.node_machine.specs.world.World.{Happening, NodeWorld, end_c, end_h, new_world}
+use Rattle.node_machine.specs.world.World.Happening.{Activates, Boots, Gives, Resets, Takes}
+use Rattle.node_machine.specs.world.Lines.{Occurrence, all_happen}
+use Rattle.node_machine.specs.world.NodeHistories.{entries_in}
+use Rattle.node_machine.specs.world.Rounds.{world_settling}
+use Rattle.node_laws.specs.order.Told.{AreUpWith}
+use Rattle.world_laws.specs.worlds.NotedFragments.{fragments_noted}
+use Rattle.world_laws.specs.worlds.Undisturbed.{ArePoweredNotes, AreUnheldNotes}
+
+-- the link of host 02 is activated and reset, and the host sends ANY_OPEN_PIPE on pipe 01
+abbrev causes : List Happening
+causes =
+    Boots 0
+    ∷ Boots 2
+    ∷ Activates 2 6699 1
+    ∷ Takes (end_c 2)
+    ∷ Takes (end_h 2)
+    ∷ Takes (end_c 2)
+    ∷ Resets (end_c 2) None
+    ∷ Takes (end_h 2)
+    ∷ Takes (end_c 2)
+    ∷ Gives (end_h 2) (1, 3 ∷ [])
+    ∷ []
+
+-- the world then, and what is noted so far
+abbrev begun : NodeWorld × List Occurrence
+begun = all_happen (new_world (2 ∷ [])) causes
+
+abbrev before : List Entry
+before =
+    Booted 0 0
+    ∷ Booted 2 0
+    ∷ Emit (end_h 2) (97 ∷ 26 ∷ 43 ∷ [])
+    ∷ Took (end_c 2) (97 ∷ 26 ∷ 43 ∷ [])
+    ∷ Command 0 (command.Sync 2 6699)
+    ∷ Emit (end_c 2) (98 ∷ 1 ∷ [])
+    ∷ Took (end_h 2) (98 ∷ 1 ∷ [])
+    ∷ Active (end_h 2)
+    ∷ Emit (end_h 2) (96 ∷ [])
+    ∷ Took (end_c 2) (96 ∷ [])
+    ∷ Active (end_c 2)
+    ∷ Emit (end_c 2) (249 ∷ 4 ∷ 0 ∷ [])
+    ∷ Took (end_h 2) (249 ∷ 4 ∷ 0 ∷ [])
+    ∷ Up (end_h 2) 1
+    ∷ Emit (end_h 2) (230 ∷ [])
+    ∷ Took (end_c 2) (230 ∷ [])
+    ∷ Up (end_c 2) 1
+    ∷ Sent (end_h 2) 1 1 (3 ∷ [])
+    ∷ Emit (end_h 2) (128 ∷ 129 ∷ 3 ∷ [])
+    ∷ []
+
+-- what two rounds note, which bring the command, its response and the acknowledgements of both
+abbrev later : List Entry
+later =
+    Took (end_c 2) (128 ∷ 129 ∷ 3 ∷ [])
+    ∷ Got (end_c 2) 1 1 (3 ∷ [])
+    ∷ Turn (end_c 2) 1 (3 ∷ [])
+    ∷ Command 0 (command.SetOpened 2 1 true)
+    ∷ Sent (end_c 2) 1 1 (128 ∷ 0 ∷ [])
+    ∷ AnyOk 0 2
+    ∷ Emit (end_c 2) (193 ∷ [])
+    ∷ Emit (end_c 2) (129 ∷ 129 ∷ 128 ∷ 0 ∷ [])
+    ∷ Took (end_h 2) (193 ∷ [])
+    ∷ Acked (end_h 2) 1 1
+    ∷ Took (end_h 2) (129 ∷ 129 ∷ 128 ∷ 0 ∷ [])
+    ∷ Got (end_h 2) 1 1 (128 ∷ 0 ∷ [])
+    ∷ Turn (end_h 2) 1 (128 ∷ 0 ∷ [])
+    ∷ Emit (end_h 2) (193 ∷ [])
+    ∷ Took (end_c 2) (193 ∷ [])
+    ∷ Acked (end_c 2) 1 1
+    ∷ []
+
+is_noted_before : entries_in begun.1 ≡ before
+unfolding found_from hosts_where lowest_free
+is_noted_before = refl
+
+-- what a line that has the links settle with 48 rounds at most does behind them
+is_noted_later : entries_in (world_settling 48 begun.0).1 ≡ later
+unfolding found_from hosts_where lowest_free
+is_noted_later = refl
+
+-- Each message has its turn at once, and all else that the law asks for is noted too: with one fragment it asks for 48 rounds.
+none_is_held : AreUnheldNotes before later 2
+none_is_held = record { controller = refl; host = refl; none_held = refl }
+
+nothing_disturbs : ArePoweredNotes later 2
+nothing_disturbs = record { undisturbed = record { lasting = refl; lossless = refl }; powered = refl }
+
+both_are_up : AreUpWith before 2 1
+both_are_up = record { controller = refl; host = refl }
+
+one_fragment : fragments_noted before 2 1 ≡ 1
+one_fragment = refl

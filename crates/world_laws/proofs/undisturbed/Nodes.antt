@@ -1,0 +1,180 @@
+-- A link of a world of nodes is undisturbed while it settles, where nothing that disturbs it is noted behind the line.
+use Rattle.std.proofs.Common.{◌≡◌, ℕ, false, ◌==◌, List, [], ◌∷◌, ◌++◌, Some, ap, sym, subst, ◌∙◌, length}
+use Rattle.std.specs.Prelude.{drop}
+use Rattle.std.proofs.Math.Seq.{drop-append_seam}
+use Rattle.std.proofs.lemmas.List.Concat.{flat_map-append}
+use Rattle.trace_model.specs.declared.entry.Entry.{Entry}
+use Rattle.trace_model.specs.declared.line.Header.{Header}
+use Rattle.trace_model.specs.declared.line.Line.{Line}
+use Rattle.trace_model.specs.declared.line.Line.TheVariants as saying
+use Rattle.link_laws.specs.messages.Links.{Link, LinkEvent, AllAllowed, after_link_events}
+use Rattle.link_laws.specs.messages.Links.IsStart.{IsLine}
+use Rattle.link_laws.specs.entries.Entries.{entries}
+use Rattle.link_laws.specs.entries.Entries.End.{Controller, Host}
+use Rattle.link_laws.specs.entries.Sessions.{number_now}
+use Rattle.link_laws.proofs.entries.Hearing.{heard, session_up}
+use Rattle.link_laws.proofs.entries.Running.{IsUnderWay, start_under_way}
+use Rattle.node_machine.specs.world.World.{Site, NodeWorld, new_world, site_at}
+use Rattle.node_machine.specs.world.Lines.{Occurrence}
+use Rattle.node_machine.specs.world.NodeHistories.{FollowsNodes, NodeHistory, LineStep, entries_in, node_entries, occurrences_in}
+use Rattle.node_machine.specs.world.Rounds.{rounds_of_world}
+use Rattle.node_laws.specs.kept.Hosts.{AreHosts}
+use Rattle.node_laws.specs.telling.Telling.{world_behind}
+use Rattle.node_laws.proofs.telling.Lasting.{events_of_steps}
+use Rattle.node_laws.specs.links.Runs.{ArePlayable, new_line}
+use Rattle.node_laws.specs.order.Told.{AreSessionsRead, AreUpWith}
+use Rattle.node_laws.specs.rounds.LinkEvents.{GoesOnLink}
+use Rattle.node_laws.specs.rounds.RoundEvents.{rounds_events}
+use Rattle.node_laws.proofs.order.Lines.{host_number}
+use Rattle.node_laws.proofs.order.Sessions.{are_read}
+use Rattle.node_laws.proofs.rounds.Allowing.{fine_there, rounds_allowed}
+use Rattle.node_laws.proofs.rounds.BareRounds.{allowed-append}
+use Rattle.node_laws.proofs.rounds.RoundEvents.{rounds_go}
+use Rattle.lines_told.specs.messages.Recovery.{IsLinkUndisturbed}
+use Rattle.lines_told.proofs.messages.Projected.{after_events-append}
+use Rattle.lines_told.specs.lines.Below.{nodes_behind}
+use Rattle.lines_told.specs.lines.Plays.{lines_played_of, plays_of, rounds_to_rest}
+use Rattle.lines_told.proofs.lines.NodeRounds.{played_rounds}
+use Rattle.world_laws.specs.worlds.Undisturbed.{ArePoweredNotes, AreReadyThroughout, entries_since}
+use Rattle.world_laws.proofs.schedules.Nodes.{last, reached, with_settle}
+use Rattle.world_laws.proofs.schedules.Occurring.{occurring, rounds_occur}
+use Rattle.world_laws.proofs.undisturbed.Begun.{Unbegun}
+use Rattle.world_laws.proofs.undisturbed.NodeRounds.{rounds_calmly}
+use Rattle.world_laws.proofs.undisturbed.Runs.{AreBothUpNow, calm_run, far_session, keeps, near_session, way_to}
+use Rattle.world_laws.proofs.undisturbed.Ticking.{GoesCalmly}
+use Rattle.world_laws.proofs.worlds.Rounds.{IsReached}
+
+-- ## A world that is reached
+
+module _ (hosts : List ℕ) (w : NodeWorld) (h : ℕ) (s : Site) (r : IsReached hosts w) (found : site_at w.sites h ≡ Some s) (n : ℕ) where
+  abbrev fs : List LinkEvent
+  fs = rounds_events h n w
+
+  allowed : AllAllowed s.link fs
+  allowed = rounds_allowed n w h s r.so.well.fine found
+
+  -- its rounds are undisturbed on a link, and no session of it begins
+  pub calm_there : GoesCalmly s.link fs → AreBothUpNow s.link → AreReadyThroughout s.link fs → IsLinkUndisturbed s.link fs × Unbegun (entries s.link fs)
+  calm_there goes up ready =
+      let run = (fine_there w h s r.so.well.fine found).link.run in
+      let way = way_to run.events new_line run.run.allowed (start_under_way new_line IsLine) in
+      calm_run new_line IsLine fs run.events s.link run.run.is run.run.allowed allowed goes.rounds (subst (IsUnderWay way.0) run.run.is way.1) up ready
+      goes.calm
+
+  -- the sessions of its ends behind them are what is noted of them
+  pub record EndsThen : Type 0 where
+    pub controller : number_now (after_link_events s.link fs).controller ≡ heard Controller (number_now s.link.controller) (entries s.link fs)
+    pub host : number_now (after_link_events s.link fs).host ≡ heard Host (number_now s.link.host) (entries s.link fs)
+
+  pub ends_then : EndsThen
+  ends_then =
+      let run = (fine_there w h s r.so.well.fine found).link.run in
+      let pre : List LinkEvent = run.events in
+      let is : s.link ≡ after_link_events new_line pre = sym run.run.is in
+      let all : AllAllowed new_line (pre ++ fs) =
+      allowed-append pre fs new_line run.run.allowed (subst (λ (l : Link). AllAllowed l fs) is allowed) in
+      let behind : after_link_events new_line (pre ++ fs) ≡ after_link_events s.link fs =
+      after_events-append pre fs new_line ∙ ap (λ (l : Link). after_link_events l fs) run.run.is in
+      let near : Link → Link → Type 0 = λ l m. number_now m.controller ≡ heard Controller (number_now l.controller) (entries l fs) in
+      let far : Link → Link → Type 0 = λ l m. number_now m.host ≡ heard Host (number_now l.host) (entries l fs) in
+      record {
+        controller = subst (near s.link) behind
+            (subst (λ l. near l (after_link_events new_line (pre ++ fs))) run.run.is (near_session new_line IsLine pre fs all));
+        host = subst (far s.link) behind
+            (subst (λ l. far l (after_link_events new_line (pre ++ fs))) run.run.is (far_session new_line IsLine pre fs all));
+      }
+
+-- ## A schedule
+
+module _ (header : Header) (are : AreHosts header.hosts.items) (lines : List Line) (n : ℕ) (p : ArePlayable (lines_played_of header lines))
+    (later_p : ArePlayable (lines_played_of header (lines ++ saying.Settle n ∷ []))) (t later : NodeHistory)
+    (follows : FollowsNodes header (lines_played_of header lines) t)
+    (goes_on : FollowsNodes header (lines_played_of header (lines ++ saying.Settle n ∷ [])) later) where
+  abbrev hosts : List ℕ
+  hosts = header.hosts.items
+
+  abbrev w : NodeWorld
+  w = nodes_behind header (lines_played_of header lines)
+
+  abbrev rounds : ℕ
+  rounds = rounds_to_rest header (plays_of header lines) n
+
+  abbrev all : List Line
+  all = lines_played_of header (lines ++ saying.Settle n ∷ [])
+
+  -- the later history has what occurs in the rounds behind what occurs in the earlier one
+  later_occurs : occurrences_in later ≡ occurrences_in t ++ (rounds_of_world rounds w).1
+  later_occurs =
+      ap (λ (steps : List LineStep). events_of_steps steps) goes_on.steps_are
+      ∙ (ap (occurring (new_world hosts)) (with_settle header lines n)
+      ∙ (rounds_occur header follows.nodes rounds (plays_of header lines)
+      ∙ ap (λ (steps : List LineStep). events_of_steps steps ++ (rounds_of_world rounds w).1) (sym follows.steps_are)))
+
+  pub since : entries_since (node_entries t) (node_entries later) ≡ entries_in (rounds_of_world rounds w).1
+  since =
+      let a : List Entry = node_entries t in
+      let b : List Entry = entries_in (rounds_of_world rounds w).1 in
+      let whole : node_entries later ≡ a ++ b =
+      ap entries_in later_occurs ∙ flat_map-append (λ (o : Occurrence). o.entries) (occurrences_in t) (rounds_of_world rounds w).1 in
+      ap (drop (length a)) whole ∙ drop-append_seam a b
+
+  here : IsReached hosts w
+  here = subst (IsReached hosts) (last header (lines_played_of header lines) t follows are p) (reached header (lines_played_of header lines) t follows are p)
+
+  module _ (h : ℕ) (s : Site) (found : site_at (nodes_behind header (lines_played_of header lines)).sites h ≡ Some s) (k : ℕ)
+      (up : AreUpWith (node_entries t) h k)
+      (ready : AreReadyThroughout s.link
+      (rounds_events h (rounds_to_rest header (plays_of header lines) n) (nodes_behind header (lines_played_of header lines))))
+      (notes : ArePoweredNotes (entries_since (node_entries t) (node_entries later)) h) where
+    abbrev es : List LinkEvent
+    es = rounds_events h rounds w
+
+    number : (h == 0) ≡ false
+    number = host_number w h s here.so.well.orderly found
+
+    -- what is read of both ends before the rounds
+    read : AreSessionsRead (node_entries t) h s.link
+    read =
+        let before : List Line = lines_played_of header lines in
+        let q : site_at (world_behind (new_world hosts) (occurrences_in t)).sites h ≡ Some s =
+        ap (λ (v : NodeWorld). site_at v.sites h) (last header before t follows are p) ∙ found in
+        are_read h s.link (node_entries t) number ((reached header before t follows are p).so.each h s q).told
+
+    up_there : AreBothUpNow s.link
+    up_there = record {
+      controller = (session_up s.link.controller k (sym read.controller ∙ up.controller)).0;
+      host = (session_up s.link.host k (sym read.host ∙ up.host)).0;
+    }
+
+    goes : GoesCalmly s.link es
+    goes = rounds_calmly hosts h rounds w s here found up_there (subst (λ (z : List Entry). ArePoweredNotes z h) since notes)
+
+    both : IsLinkUndisturbed s.link es × Unbegun (entries s.link es)
+    both = calm_there hosts w h s here found rounds goes up_there ready
+
+    pub nodes_undisturbed : IsLinkUndisturbed s.link
+        (rounds_events h (rounds_to_rest header (plays_of header lines) n) (nodes_behind header (lines_played_of header lines)))
+    nodes_undisturbed = both.0
+
+    -- both ends are up in the same session behind the rounds
+    pub nodes_up_later : AreUpWith (node_entries later) h k
+    nodes_up_later =
+        let g : GoesOnLink (rounds_of_world rounds w).0 h s es = rounds_go rounds w h s found in
+        let behind : EndsThen hosts w h s here found rounds = ends_then hosts w h s here found rounds in
+        let end : nodes_behind header all ≡ (rounds_of_world rounds w).0 =
+        ap (nodes_behind header) (with_settle header lines n) ∙ played_rounds header follows.nodes rounds (plays_of header lines) in
+        let q : site_at (world_behind (new_world hosts) (occurrences_in later)).sites h ≡ Some g.later =
+        ap (λ (v : NodeWorld). site_at v.sites h) (last header all later goes_on are later_p ∙ end) ∙ g.is in
+        let now : AreSessionsRead (node_entries later) h g.later.link =
+        are_read h g.later.link (node_entries later) number ((reached header all later goes_on are later_p).so.each h g.later q).told in
+        record {
+          controller = now.controller
+              ∙ (ap (λ (l : Link). number_now l.controller) g.link
+              ∙ (behind.controller
+              ∙ (ap (λ z. heard Controller z (entries s.link es)) (sym read.controller ∙ up.controller)
+              ∙ keeps Controller k (entries s.link es) goes.calm both.1)));
+          host = now.host
+              ∙ (ap (λ (l : Link). number_now l.host) g.link
+              ∙ (behind.host
+              ∙ (ap (λ z. heard Host z (entries s.link es)) (sym read.host ∙ up.host) ∙ keeps Host k (entries s.link es) goes.calm both.1)));
+        }

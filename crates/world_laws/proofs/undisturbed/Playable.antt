@@ -1,0 +1,31 @@
+-- The lines of a schedule of a world of nodes may be played, also with a line behind them that lets the links settle.
+use Rattle.std.proofs.Common.{List, [], ℕ, ◌∷◌, ◌++◌, inr, subst, sym}
+use Rattle.std.specs.Prelude.{replicate}
+use Rattle.std.specs.List.{AllByRecursion}
+use Rattle.trace_model.specs.declared.line.Header.{Header}
+use Rattle.trace_model.specs.declared.line.Line.{Line}
+use Rattle.trace_model.specs.declared.line.Line.TheVariants.{Settle}
+use Rattle.trace_model.specs.Lines.{IsNodeHeader, MayFollow}
+use Rattle.node_laws.specs.links.Runs.{ArePlayable}
+use Rattle.node_laws.proofs.order.HostsStay.{hosts_stay_behind}
+use Rattle.lines_told.specs.lines.Plays.{IsPlayFor, lines_played, lines_played_of, plays_of, rounds_to_rest}
+use Rattle.lines_told.specs.lines.Plays.Play.{Round}
+use Rattle.lines_told.proofs.lines.Lines.{lines_may_be_played}
+use Rattle.lines_told.proofs.lines.Plays.{all-append, plays_for, rounds_for}
+use Rattle.world_laws.proofs.schedules.Nodes.{with_settle}
+use Rattle.world_laws.proofs.schedules.Played.{played_playable}
+
+module _ (header : Header) (is : IsNodeHeader header) (lines : List Line) (may : AllByRecursion (MayFollow header) lines) where
+  pub playable : ArePlayable (lines_played_of header lines)
+  playable =
+      played_playable header (lines_played_of header lines)
+      (lines_may_be_played header (inr is) (hosts_stay_behind header) (plays_of header lines) (plays_for header lines may))
+
+  pub playable_with : (n : ℕ) → ArePlayable (lines_played_of header (lines ++ Settle n ∷ []))
+  playable_with n =
+      let rounds = replicate (rounds_to_rest header (plays_of header lines) n) Round in
+      let all = all-append (IsPlayFor header) (plays_of header lines) rounds (plays_for header lines may)
+      (rounds_for header (rounds_to_rest header (plays_of header lines) n)) in
+      subst ArePlayable (sym (with_settle header lines n))
+      (played_playable header (lines_played header (plays_of header lines ++ rounds))
+      (lines_may_be_played header (inr is) (hosts_stay_behind header) (plays_of header lines ++ rounds) all))

@@ -1,0 +1,45 @@
+use Rattle.std.proofs.Common.{List, [], ℕ, ◌∷◌, inl, subst, sym, ◌++◌}
+use Rattle.std.specs.Prelude.{replicate}
+use Rattle.std.specs.List.{AllByRecursion}
+use Rattle.trace_model.specs.declared.line.Header.{Header}
+use Rattle.trace_model.specs.declared.line.Line.{Line}
+use Rattle.trace_model.specs.declared.line.Line.TheVariants.{Settle}
+use Rattle.trace_model.specs.Lines.{IsHeader, IsLineOf, MayFollow}
+use Rattle.lines_told.specs.lines.Plays.{IsPlayFor, lines_played, lines_played_of, plays_of, rounds_to_rest}
+use Rattle.lines_told.specs.lines.Plays.Play.{Round}
+use Rattle.node_laws.proofs.order.HostsStay.{hosts_stay_behind}
+use Rattle.lines_told.proofs.lines.Lines.{lines_may_be_played}
+use Rattle.lines_told.proofs.lines.Plays.{all-append, plays_for, rounds_for}
+use Rattle.world_laws.proofs.schedules.BareNoted.{bare_noted}
+use Rattle.world_laws.proofs.schedules.Nodes.{with_settle}
+use Rattle.world_laws.proofs.schedules.Played.{played_bare}
+use Rattle.world_laws.proofs.undisturbed.Bare.{bare_undisturbed, up_later}
+use Rattle.world_laws.proofs.undisturbed_as_noted.bare_links_that_are_noted_undisturbed_have_brought_all.Goals as goal
+
+valid : (header : Header) → IsHeader header → (lines : List Line) → AllByRecursion (MayFollow header) lines
+    → AllByRecursion (IsLineOf header) (lines_played_of header lines)
+valid header is lines may =
+    played_bare header is.bare (lines_played_of header lines)
+    (lines_may_be_played header (inl is) (hosts_stay_behind header) (plays_of header lines) (plays_for header lines may))
+
+valid_with : (header : Header) → IsHeader header → (lines : List Line) → AllByRecursion (MayFollow header) lines → (n : ℕ)
+    → AllByRecursion (IsLineOf header) (lines_played_of header (lines ++ Settle n ∷ []))
+valid_with header is lines may n =
+    let rounds = replicate (rounds_to_rest header (plays_of header lines) n) Round in
+    let all = all-append (IsPlayFor header) (plays_of header lines) rounds (plays_for header lines may)
+    (rounds_for header (rounds_to_rest header (plays_of header lines) n)) in
+    subst (AllByRecursion (IsLineOf header)) (sym (with_settle header lines n))
+    (played_bare header is.bare (lines_played header (plays_of header lines ++ rounds))
+    (lines_may_be_played header (inl is) (hosts_stay_behind header) (plays_of header lines ++ rounds) all))
+
+pub returns-clause-undisturbed : goal.returns-clause-undisturbed
+returns-clause-undisturbed c = λ header is lines may n t later follows goes.
+    bare_undisturbed header is lines may n t later (valid header is lines may) (valid_with header is lines may n) follows goes
+
+pub returns-clause-noted : goal.returns-clause-noted
+returns-clause-noted c = λ header is lines may n t later follows goes k up left notes.
+    let before = valid header is lines may in
+    let with_rounds = valid_with header is lines may n in
+    bare_noted header is.bare lines n t later before with_rounds follows goes k up
+    (up_later header is lines may n t later before with_rounds follows goes k up left notes)
+    (bare_undisturbed header is lines may n t later before with_rounds follows goes k up left notes)

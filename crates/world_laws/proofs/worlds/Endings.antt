@@ -1,0 +1,220 @@
+-- While a link is undisturbed, no node of it loses power and no notice on it is late.
+use Rattle.std.proofs.Common.{◌≡◌, ℕ, subst, Bool, true, false, ◌&&◌, not, List, [], ◌∷◌, ◌++◌, Option, Some, None, ◌⊎◌, inl, inr, map, refl, ap, sym, ◌∙◌}
+use Rattle.shdlc_core.specs.declared.answers.LinkState.{LinkState}
+use Rattle.shdlc_core.specs.declared.answers.LinkState.TheVariants.{Down, Waiting, Up}
+use Rattle.shdlc_core.specs.Machine.{new_end, is_waiting, reset_with}
+use Rattle.link_laws.specs.sessions.Sessions.{NumberedShdlc as CoreEnd, OnWire, ShdlcLink as CoreLink, ShdlcTurn as CoreTurn, ShdlcEndEvent as CoreEndEvent}
+use Rattle.link_laws.specs.sessions.Sessions.{shdlc_exchanged as core_exchanged, shdlc_happens as core_happens}
+use Rattle.link_laws.specs.sessions.Sessions.{shdlc_happens_at_controller as core_happens_here}
+use Rattle.link_laws.specs.sessions.Sessions.{shdlc_after as core_after}
+use Rattle.link_laws.specs.sessions.Sessions.{shdlc_silent as core_silent, ticks_or_cut as core_ticks_or_cut, shdlc_all_at_controller as core_all_here}
+use Rattle.link_laws.specs.sessions.Sessions.{shdlc_aged as core_aged, ticks_if_waiting as core_ticks_if_waiting, shdlc_turned as core_turned}
+use Rattle.link_laws.specs.sessions.Sessions.ShdlcEndEvent.{Turns as CoreTurns, Cut as CoreCut, Reset as CoreReset}
+use Rattle.link_laws.specs.sessions.Sessions.ShdlcLinkEvent.{AtController as CoreAtController, AtHost as CoreAtHost}
+use Rattle.link_laws.proofs.sessions.Ties.{turned-phase}
+use Rattle.lines_told.specs.fragments.Rounds.{AreUndisturbed}
+use Rattle.lines_told.proofs.fragments.Sends.{sent_same}
+use Rattle.lines_told.proofs.fragments.Events.{tick_host}
+use Rattle.lines_told.proofs.fragments.Wide.{silent_host}
+use Rattle.lines_told.proofs.fragments.Stretches.{began, ended}
+use Rattle.link_laws.specs.machine.Machine.{LinkEnd, Turn, is_open, after_input, reset_refusal, reset_by, window_of}
+use Rattle.link_laws.specs.machine.Machine.LinkInput.{Tick as InputTick}
+use Rattle.link_laws.specs.messages.Links.{Link, LinkEvent, Node, Ending, aged}
+use Rattle.node_laws.specs.rounds.LinkEvents.{tick_so}
+use Rattle.std.proofs.lemmas.Bool.{and_parts, not-true}
+use Rattle.link_laws.specs.messages.Links.Ending.{GoesOut, CutOff}
+use Rattle.link_laws.specs.messages.Links.Comes.{NextFrame, NoInput, AsksReset}
+use Rattle.link_laws.specs.messages.Links.EndEvent.{Step}
+use Rattle.link_laws.specs.messages.Links.LinkEvent.{AtController, AtHost, Ticks, TicksWithout}
+use Rattle.link_laws.specs.messages.Projection.{core_of, core_take, core_turns, core_tick, core_tick_rest, core_event, core_all, core_reset, is_lost_tick}
+use Rattle.lines_told.specs.messages.Recovery.{IsLinkUndisturbed}
+
+-- an end whose node has lost power is down
+silent_down : (c : CoreLink) → (core_silent c (new_end 4)).controller.side.phase ≡ Down
+silent_down c = go c.controller.side.phase refl
+  where
+    go : (p : LinkState) → c.controller.side.phase ≡ p → (core_silent c (new_end 4)).controller.side.phase ≡ Down
+    go Up q = rw q refl
+    go Waiting q = rw q refl
+    go Down q = rw q refl
+
+cut_near : (es : List CoreEndEvent) (c : CoreLink) → (core_after c (map CoreAtController (es ++ CoreCut ∷ []) ++ [])).controller.side.phase ≡ Down
+cut_near [] c = silent_down c
+cut_near (e ∷ es) c = cut_near es (core_happens c (CoreAtController e))
+
+cut_far : (es : List CoreEndEvent) (c : CoreLink) → (core_after c (map CoreAtHost (es ++ CoreCut ∷ []) ++ [])).host.side.phase ≡ Down
+cut_far [] c = silent_down (core_exchanged c)
+cut_far (e ∷ es) c = cut_far es (core_happens c (CoreAtHost e))
+
+not_down : {p : LinkState} → p ≡ Down → p ≡ Up → ⊥
+not_down a b = let z = sym a ∙ b in cc
+
+-- ## A step
+
+-- the controller takes a frame, or its node has turns
+pub idle_goes_out : (l : Link) (ts : List Turn) (ending : Ending) → IsLinkUndisturbed l (AtController (Step NoInput ts ending) ∷ []) → ending ≡ GoesOut
+idle_goes_out l ts GoesOut u = refl
+idle_goes_out l ts CutOff u =
+    let e : LinkEvent = AtController (Step NoInput ts CutOff) in
+    let b = ended (core_event l e ++ []) (core_of l) u in
+    absurd (not_down (cut_near (CoreTurns (core_turns l.controller.side ts) ∷ []) (core_of l)) b.controller_up)
+
+pub take_goes_out : (l : Link) (ts : List Turn) (ending : Ending) (x : OnWire) (xs : List OnWire)
+    → IsLinkUndisturbed (record l { to_controller = x ∷ xs }) (AtController (Step NextFrame ts ending) ∷ []) → ending ≡ GoesOut
+take_goes_out l ts GoesOut x xs u = refl
+take_goes_out l ts CutOff x xs u =
+    let m : Link = record l { to_controller = x ∷ xs } in
+    let b = ended (core_event m (AtController (Step NextFrame ts CutOff)) ++ []) (core_of m) u in
+    absurd (not_down (cut_near (core_take l.controller.side x.frame ts) (core_of m)) b.controller_up)
+
+pub host_take_goes_out : (l : Link) (ts : List Turn) (ending : Ending) (x : OnWire) (xs : List OnWire)
+    → IsLinkUndisturbed (record l { to_host = x ∷ xs }) (AtHost (Step NextFrame ts ending) ∷ []) → ending ≡ GoesOut
+host_take_goes_out l ts GoesOut x xs u = refl
+host_take_goes_out l ts CutOff x xs u =
+    let m : Link = record l { to_host = x ∷ xs } in
+    let b = ended (core_event m (AtHost (Step NextFrame ts CutOff)) ++ []) (core_of m) u in
+    absurd (not_down (cut_far (core_take l.host.side x.frame ts) (core_of m)) b.host_up)
+
+-- ## A tick
+
+far_same : (d : Option (List CoreTurn)) (c : CoreLink) → (core_ticks_or_cut d c).host ≡ c.host
+far_same (Some ts) c = tick_host c ts
+far_same None c = silent_host c (new_end 4)
+
+-- a tick that is cut off is a loss of power in place of it or behind it
+cut_tick : (e : LinkEnd) (ts : List Turn) → is_open e.role ≡ true
+    → ((core_tick e ts CutOff ≡ None) × (core_tick_rest e ts CutOff ≡ []))
+    ⊎ ((us : List CoreTurn) × (core_tick e ts CutOff ≡ Some us) × (core_tick_rest e ts CutOff ≡ CoreCut ∷ []))
+cut_tick e ts p = go (is_lost_tick e CutOff) refl
+  where
+    go : (b : Bool) → is_lost_tick e CutOff ≡ b → ((core_tick e ts CutOff ≡ None) × (core_tick_rest e ts CutOff ≡ []))
+        ⊎ ((us : List CoreTurn) × (core_tick e ts CutOff ≡ Some us) × (core_tick_rest e ts CutOff ≡ CoreCut ∷ []))
+    go true q = inl (rw q refl, rw q refl)
+    go false q = inr (core_turns (after_input e InputTick) ts, rw q (rw p refl), rw q (rw p refl))
+
+-- the near end of a link after a tick in which its node has lost power
+near_cut : (e : LinkEnd) (ts : List Turn) (c : CoreLink) → is_open e.role ≡ true
+    → (core_all_here (core_ticks_or_cut (core_tick e ts CutOff) c) (core_tick_rest e ts CutOff ++ [])).controller.side.phase ≡ Down
+near_cut e ts c p = go (core_tick e ts CutOff) (core_tick_rest e ts CutOff) (cut_tick e ts p)
+  where
+    go : (d : Option (List CoreTurn)) (rest : List CoreEndEvent)
+        → ((d ≡ None) × (rest ≡ [])) ⊎ ((us : List CoreTurn) × (d ≡ Some us) × (rest ≡ CoreCut ∷ []))
+        → (core_all_here (core_ticks_or_cut d c) (rest ++ [])).controller.side.phase ≡ Down
+    go d rest (inl a) = rw (a.0, a.1) (silent_down c)
+    go d rest (inr a) = rw (a.1, a.2) (silent_down (core_ticks_or_cut (Some a.0) c))
+
+-- the near end after the far end's tick
+near_after : (d : Option (List CoreTurn)) (c : CoreLink) → (core_exchanged (core_ticks_or_cut d (core_exchanged c))).controller ≡ c.controller
+near_after d c = far_same d (core_exchanged c)
+
+pub near_tick_goes_out : (l : Link) (ts us : List Turn) (ending later : Ending) → is_open l.controller.side.role ≡ true
+    → IsLinkUndisturbed l (Ticks (record { turns = ts; ending = ending }) [] (record { turns = us; ending = later }) ∷ []) → ending ≡ GoesOut
+near_tick_goes_out l ts us GoesOut later p u = refl
+near_tick_goes_out l ts us CutOff later p u =
+    let x : CoreLink =
+    core_all_here (core_ticks_or_cut (core_tick l.controller.side ts CutOff) (core_aged (core_of l))) (core_tick_rest l.controller.side ts CutOff ++ []) in
+    let d : Option (List CoreTurn) = core_tick l.host.side us later in
+    let b = began (map CoreAtHost (core_tick_rest l.host.side us later) ++ []) u.2 in
+    let same : (core_exchanged (core_ticks_or_cut d (core_exchanged x))).controller ≡ x.controller = near_after d x in
+    absurd (not_down (ap (λ (k : CoreEnd). k.side.phase) same ∙ near_cut l.controller.side ts (core_aged (core_of l)) p) b.controller_up)
+
+pub far_tick_goes_out : (l : Link) (ts us : List Turn) (ending later : Ending) → is_open l.host.side.role ≡ true
+    → IsLinkUndisturbed l (Ticks (record { turns = ts; ending = ending }) [] (record { turns = us; ending = later }) ∷ []) → later ≡ GoesOut
+far_tick_goes_out l ts us ending GoesOut p u = refl
+far_tick_goes_out l ts us ending CutOff p u = go (core_tick l.host.side us CutOff) (core_tick_rest l.host.side us CutOff) (cut_tick l.host.side us p) u.2
+  where
+    x : CoreLink
+    x = core_all_here (core_ticks_or_cut (core_tick l.controller.side ts ending) (core_aged (core_of l))) (core_tick_rest l.controller.side ts ending ++ [])
+
+    go : (d : Option (List CoreTurn)) (rest : List CoreEndEvent)
+        → ((d ≡ None) × (rest ≡ [])) ⊎ ((vs : List CoreTurn) × (d ≡ Some vs) × (rest ≡ CoreCut ∷ []))
+        → AreUndisturbed (core_exchanged (core_ticks_or_cut d (core_exchanged
+        (core_all_here (core_ticks_or_cut (core_tick l.controller.side ts ending) (core_aged (core_of l)))
+        (core_tick_rest l.controller.side ts ending ++ [])))))
+        (map CoreAtHost rest ++ [])
+        → CutOff ≡ GoesOut
+    go d rest (inl a) r =
+        let s : AreUndisturbed (core_exchanged (core_ticks_or_cut None (core_exchanged x))) [] = rw (a.0, a.1) at r in
+        absurd (not_down (silent_down (core_exchanged x)) s.host_up)
+    go d rest (inr a) r =
+        let k : CoreLink = core_exchanged (core_ticks_or_cut (Some a.0) (core_exchanged x)) in
+        let s : AreUndisturbed k (map CoreAtHost (CoreCut ∷ []) ++ []) = rw (a.1, a.2) at r in
+        absurd (not_down (cut_far [] k) (ended (map CoreAtHost (CoreCut ∷ []) ++ []) k s).host_up)
+
+-- an end that doesn't wait waits after a reset
+reset_waits : (c : CoreLink) (w : ℕ) (ts : List CoreTurn) → is_waiting c.controller.side ≡ false
+    → (core_happens_here c (CoreReset w ts)).controller.side.phase ≡ Waiting
+reset_waits c w ts q =
+    (sent_same 12 (core_turned (reset_with c.controller.side w) ts)).phase ∙ (turned-phase ts (reset_with c.controller.side w) ∙ rw q refl)
+
+-- where an end that doesn't wait is reset it isn't up
+module _ (l : Link) (ts : List Turn) (p : is_open l.controller.side.role ≡ true) (q : is_waiting l.controller.side.shdlc ≡ false) where
+  none : reset_refusal l.controller.side ≡ None
+  none = rw (p, q) refl
+
+  still : core_ticks_if_waiting (core_aged (core_of l)) ≡ core_aged (core_of l)
+  still = rw q refl
+
+  abbrev reset_there : Ending → CoreLink
+  reset_there ending = core_all_here (core_ticks_if_waiting (core_aged (core_of l))) (core_all (aged l) (Step (AsksReset None) ts ending ∷ []))
+
+  gone : (ending : Ending) → (reset_there ending).controller.side.phase ≡ Up → ⊥
+  gone GoesOut up =
+      let e : LinkEnd = l.controller.side in
+      let is = still in
+      let free = none in
+      let r : (core_all_here (core_aged (core_of l)) (core_reset None e (window_of e None) ts GoesOut ++ [])).controller.side.phase ≡ Up =
+      rw (is, free) at up in
+      let w = reset_waits (core_aged (core_of l)) (window_of e None) (core_turns (reset_by e (window_of e None)) ts) q in
+      let z = sym w ∙ r in
+      let y : Waiting ≡ Up = z in
+      cc
+  gone CutOff up =
+      let e : LinkEnd = l.controller.side in
+      let is = still in
+      let free = none in
+      let r : (core_all_here (core_aged (core_of l)) (core_reset None e (window_of e None) ts CutOff ++ [])).controller.side.phase ≡ Up =
+      rw (is, free) at up in
+      not_down (silent_down (core_aged (core_of l))) r
+
+  -- no notice is late
+  not_late : (ending : Ending) (h : Node) → IsLinkUndisturbed l (TicksWithout (Step (AsksReset None) ts ending ∷ []) h ∷ []) → ⊥
+  not_late ending h u =
+      let d : Option (List CoreTurn) = core_tick l.host.side h.turns h.ending in
+      let b = began (map CoreAtHost (core_tick_rest l.host.side h.turns h.ending) ++ []) u.2 in
+      let same = near_after d (reset_there ending) in
+      gone ending (sym (ap (λ (k : CoreEnd). k.side.phase) same) ∙ b.controller_up)
+
+  -- nor where both ends are up behind a tick that goes out
+  pub late_not_up : (ending : Ending) (h : Node) → is_open l.host.side.role ≡ true → h.ending ≡ GoesOut
+      → (core_after (core_of l) (core_event l (TicksWithout (Step (AsksReset None) ts ending ∷ []) h))).controller.side.phase ≡ Up → ⊥
+  late_not_up ending h o out up =
+      let d : Option (List CoreTurn) = core_tick l.host.side h.turns h.ending in
+      let x : CoreLink = reset_there ending in
+      let rest : core_tick_rest l.host.side h.turns h.ending ≡ [] = rw (out, o) refl in
+      let P : List CoreEndEvent → Type 0 =
+      λ es. (core_after (core_exchanged (core_ticks_or_cut d (core_exchanged x))) (map CoreAtHost es)).controller.side.phase ≡ Up in
+      gone ending (sym (ap (λ (k : CoreEnd). k.side.phase) (near_after d x)) ∙ subst P rest up)
+
+-- a tick of an undisturbed link
+pub record IsCalmTick (l : Link) (late : Bool) (c h : Node) : Type 0 where
+  pub is : tick_so l late c h ≡ Ticks c [] h
+  pub near : c.ending ≡ GoesOut
+  pub far : h.ending ≡ GoesOut
+
+pub calm_tick : (l : Link) (late : Bool) (c h : Node) → is_open l.controller.side.role ≡ true → is_open l.host.side.role ≡ true
+    → IsLinkUndisturbed l (tick_so l late c h ∷ []) → IsCalmTick l late c h
+calm_tick l late c h p q u = go (late && not (is_waiting l.controller.side.shdlc)) refl
+  where
+    go : (b : Bool) → (late && not (is_waiting l.controller.side.shdlc)) ≡ b → IsCalmTick l late c h
+    go false r =
+        let is : tick_so l late c h ≡ Ticks c [] h = rw r refl in
+        let v : IsLinkUndisturbed l (Ticks c [] h ∷ []) = subst (λ e. IsLinkUndisturbed l (e ∷ [])) is u in
+        record { is = is; near = near_tick_goes_out l c.turns h.turns c.ending h.ending p v; far = far_tick_goes_out l c.turns h.turns c.ending h.ending q v }
+    go true r =
+        let is : tick_so l late c h ≡ TicksWithout (Step (AsksReset None) c.turns c.ending ∷ []) h = rw r refl in
+        let v : IsLinkUndisturbed l (TicksWithout (Step (AsksReset None) c.turns c.ending ∷ []) h ∷ []) =
+        subst (λ e. IsLinkUndisturbed l (e ∷ [])) is u in
+        let waits : is_waiting l.controller.side.shdlc ≡ false =
+        not-true (is_waiting l.controller.side.shdlc) (and_parts late (not (is_waiting l.controller.side.shdlc)) r).1 in
+        absurd (not_late l c.turns p waits c.ending h v)

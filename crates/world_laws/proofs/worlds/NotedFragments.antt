@@ -1,0 +1,68 @@
+-- The fragments that are left on a link are at most those that are noted.
+use Rattle.std.proofs.Common.{◌≡◌, ℕ, ◌+◌, ◌-◌, ◌≤◌, Bool, true, false, List, [], ◌∷◌, drop, length, map, Some, refl, ap, ap₂, subst}
+use Rattle.std.proofs.Common.{◌∙◌, length-append, arith}
+use Rattle.std.specs.Prelude.{nat_le}
+use Rattle.std.proofs.lemmas.Bool.{leb-true}
+use Rattle.std.proofs.lemmas.List.{length-map}
+use Rattle.hcp_packet.specs.Packets.{packets_of, packet_count, packet_bytes, fragments_of}
+use Rattle.hcp_packet.proofs.Joining.{packets_are_counted}
+use Rattle.trace_model.specs.declared.entry.Entry.{Entry}
+use Rattle.trace_model.specs.declared.line.End.{End}
+use Rattle.link_laws.specs.machine.Machine.{Message, whole_among}
+use Rattle.link_laws.specs.messages.Links.{Talk, talk_now}
+use Rattle.link_laws.proofs.messages.Project.{Says}
+use Rattle.node_machine.specs.world.World.{Site, NodeWorld, site_at, end_c, end_h}
+use Rattle.node_machine.specs.world.NodeHistories.{entries_in}
+use Rattle.node_laws.specs.order.Told.{IsLinkTold, IsReadOff, AreUpWith}
+use Rattle.node_laws.proofs.order.Lines.{host_number}
+use Rattle.node_laws.proofs.order.Quiet.{near_now, far_now, up_near, up_far}
+use Rattle.lines_told.specs.fragments.Rounds.{undelivered}
+use Rattle.lines_told.specs.messages.Recovery.{fragments_left}
+use Rattle.lines_told.proofs.messages.Projected.{Known}
+use Rattle.world_laws.specs.worlds.NotedFragments.{fragments_unacked, fragments_noted}
+use Rattle.world_laws.proofs.worlds.Rounds.{IsReached, known_there}
+
+-- of the fragments of messages behind so many, those of the messages that are among these whole are left out
+left_behind : (sent : List Message) (n : ℕ) → length (fragments_of sent) ≤ n + length (fragments_of (drop (whole_among sent n) sent))
+left_behind [] n = omega arith
+left_behind (m ∷ ms) n = go (nat_le (packet_count (length m.1)) n) refl (left_behind ms (n - packet_count (length m.1)))
+  where
+    count : length (fragments_of (m ∷ ms)) ≡ packet_count (length m.1) + length (fragments_of ms)
+    count =
+        let a = length-append (map packet_bytes (packets_of m.0 m.1)) (fragments_of ms) in
+        let b = length-map (packets_of m.0 m.1) packet_bytes ∙ packets_are_counted m.0 m.1 in
+        omega (arith, a, b)
+
+    go : (b : Bool) → nat_le (packet_count (length m.1)) n ≡ b
+        → length (fragments_of ms) ≤ (n - packet_count (length m.1))
+        + length (fragments_of (drop (whole_among ms (n - packet_count (length m.1))) ms))
+        → length (fragments_of (m ∷ ms)) ≤ n + length (fragments_of (drop (whole_among (m ∷ ms) n) (m ∷ ms)))
+    go true q more =
+        let fits : packet_count (length m.1) ≤ n = leb-true (packet_count (length m.1)) n q in
+        rw q (omega (arith, count, fits, more))
+    go false q more = rw q (omega arith)
+
+pub end_left : (t : List Entry) (e : End) (n : ℕ) (talk : Talk) → Says talk → IsReadOff t e n talk → undelivered talk.session ≤ fragments_unacked t e n
+end_left t e n talk says read =
+    let out : length talk.session.out ≡ length (fragments_of talk.sent) = ap (λ (fs : List (List ℕ)). length fs) says.out in
+    let left = left_behind talk.sent talk.session.acked in
+    let is : fragments_unacked t e n ≡ length (fragments_of (drop (whole_among talk.sent talk.session.acked) talk.sent)) =
+    ap₂ (λ k (ms : List Message). length (fragments_of (drop k ms))) read.acked read.sent in
+    omega (arith, out, left, is)
+
+-- of a link whose ends are both up in the session with this number, as it is noted
+pub link_left : (hosts : List ℕ) (w : NodeWorld) (h : ℕ) (s : Site) (r : IsReached hosts w) → site_at w.sites h ≡ Some s → (n : ℕ)
+    → AreUpWith (entries_in r.events) h n → fragments_left s.link ≤ fragments_noted (entries_in r.events) h n
+link_left hosts w h s r q n up =
+    let t : List Entry = entries_in r.events in
+    let told : IsLinkTold h s.link t = (r.so.each h s q).told in
+    let zero = host_number w h s r.so.well.orderly q in
+    let near = up_near h s.link t told zero n up in
+    let far = up_far h s.link t told zero n up in
+    let known : Known s.link = known_there hosts w h s r q in
+    let P : ℕ → Type 0 = λ k. IsReadOff t (end_c h) k (talk_now s.link.controller.side) in
+    let Q : ℕ → Type 0 = λ k. IsReadOff t (end_h h) k (talk_now s.link.host.side) in
+    let one = end_left t (end_c h) n (talk_now s.link.controller.side) known.good.controller.now.says
+    (subst P near.1 (near_now h s.link t told near.0)) in
+    let two = end_left t (end_h h) n (talk_now s.link.host.side) known.good.host.now.says (subst Q near.1 (far_now h s.link t told near.0 far)) in
+    omega (arith, one, two)

@@ -1,0 +1,19 @@
+use Rattle.std.proofs.Common.{◌≤◌, arith}
+use Rattle.node_machine.specs.world.World.{new_world}
+use Rattle.node_machine.specs.world.NodeHistories.{entries_in}
+use Rattle.node_laws.specs.telling.Telling.{world_behind}
+use Rattle.lines_told.specs.messages.Recovery.{fragments_left}
+use Rattle.world_laws.specs.worlds.NotedFragments.{fragments_noted}
+use Rattle.world_laws.proofs.worlds.NotedFragments.{link_left}
+use Rattle.world_laws.proofs.worlds.WorldRounds.{reached_behind, world_settled}
+use Rattle.world_laws.proofs.worlds_of_nodes_settle.links_of_settled_worlds_have_brought_all.Goals as goal
+
+pub returns-clause-links : goal.returns-clause-links
+returns-clause-links c = world_settled
+
+pub returns-clause-noted : goal.returns-clause-noted
+returns-clause-noted c = λ header lines t follows are p front back q h s found n k u up fits.
+    let left : fragments_left s.link ≤ fragments_noted (entries_in front) h k =
+    link_left header.hosts.items (world_behind (new_world header.hosts.items) front) h s (reached_behind header lines t follows are p front back q) found
+    k up in
+    world_settled header lines t follows are p front back q h s found n u (omega (arith, left, fits))

@@ -1,0 +1,5 @@
+pub mod fragments
+pub mod entries
+pub mod histories
+pub mod links
+pub mod worlds
