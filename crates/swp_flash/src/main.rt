@@ -3,15 +3,12 @@
 //! and ends with the exit status.
 #![tactic(auto)]
 
-mod file_flash;
-
-use file_flash::FileFlash;
 use flash_nv::FlashNv;
 use std::fs::{File, Files};
 use std::io;
 use std::process::ExitCode;
 use std::rt::Runtime;
-use swp_os::{Access, StdinSource, StdoutSink, begin, words};
+use swp_os::{Access, FileFlash, StdinSource, StdoutSink, begin, words};
 use swp_tool::{Ended, Status, exit_code, run, status_text};
 
 /// The file that stands for the flash, in the folder that the program runs in.

@@ -3,10 +3,12 @@
 //! programs that use it.
 #![tactic(auto)]
 
+mod file_flash;
 mod kept_file;
 mod start;
 mod streams;
 
+pub use file_flash::FileFlash;
 pub use kept_file::{Access, FileNv};
 pub use start::{KeptOpen, begin, words};
 pub use streams::{StdinSource, StdoutSink};

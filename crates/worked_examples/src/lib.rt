@@ -15,9 +15,17 @@ mod decisions;
 #[cfg(test)]
 mod decodings;
 #[cfg(test)]
+mod file_flashes;
+#[cfg(test)]
+mod flash_journals;
+#[cfg(test)]
+mod flash_pages;
+#[cfg(test)]
 mod frames;
 #[cfg(test)]
 mod gates;
+#[cfg(test)]
+mod kept_files;
 #[cfg(test)]
 mod library;
 #[cfg(test)]

@@ -14,4 +14,8 @@ mod refusals;
 #[cfg(test)]
 mod sessions;
 #[cfg(test)]
+mod settled_rows;
+#[cfg(test)]
 mod shown;
+#[cfg(test)]
+mod transcript;

@@ -1,3 +1,2 @@
 pub mod Going
-pub mod SettledRows
 pub mod Taking

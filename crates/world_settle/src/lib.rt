@@ -2,10 +2,6 @@
 #![tactic(auto)]
 
 mod noting;
-#[cfg(test)]
-mod settled_rows;
 mod settling;
-#[cfg(test)]
-mod transcript;
 
 pub use settling::settle;

@@ -6,13 +6,13 @@ ghost use Rattle.lines_told.specs.lines.Below.{IsPlayedLine};
 ghost use Rattle.lines_told.specs.lines.Plays.{Play, rounds_played};
 ghost use Rattle.world.specs.Worlds.{IsWorldAt, world_header};
 
-use crate::settle;
 use crate::transcript::Transcript;
 use arrayvec::ArrayVec;
 use std::alloc::Global;
 use std::process::Abort;
 use trace_model::{End, Header, Line, Octets};
 use world::World;
+use world_settle::settle;
 
 /// The controller's end of the link, and the host's.
 const CONTROLLER: End = End {

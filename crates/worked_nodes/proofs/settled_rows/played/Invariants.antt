@@ -1,8 +1,8 @@
 use Rattle.std.specs.Prelude.{All}
 use Rattle.lines_told.specs.lines.Below.{IsPlayedLine}
 use Rattle.world.specs.Worlds.{world_header}
-use Rattle.world_settle.proofs.SettledRows.{StandsBehindLines}
-use Rattle.world_settle.proofs.settled_rows.played.Given as goal
+use Rattle.worked_nodes.proofs.SettledRows.{StandsBehindLines}
+use Rattle.worked_nodes.proofs.settled_rows.played.Given as goal
 
 -- the world of host 02 stands behind so many lines, and may play all of them
 abbrev pub invariant-loop-line : goal.invariant-loop-line

@@ -2,7 +2,7 @@ use Rattle.std.proofs.Common.{◌++◌, replicate, arith}
 use Rattle.lines_told.specs.lines.Plays.Play.{Round}
 use Rattle.world.specs.Worlds.{world_header}
 use Rattle.world_settle.proofs.Going.{own_header}
-use Rattle.world_settle.proofs.settled_rows.settles.Goals as goal
+use Rattle.worked_nodes.proofs.settled_rows.settles.Goals as goal
 
 pub settle-requires-clause-room : goal.settle-requires-clause-room
 settle-requires-clause-room g c =

@@ -2,8 +2,8 @@ use Rattle.std.proofs.Common.{[], refl, sym, subst, arith}
 use Rattle.std.specs.Prelude.{All}
 use Rattle.trace_model.specs.declared.line.Header.{Header}
 use Rattle.lines_told.specs.lines.Below.{IsPlayedLine}
-use Rattle.world_settle.proofs.SettledRows.{line_more}
-use Rattle.world_settle.proofs.settled_rows.played.Goals as goal
+use Rattle.worked_nodes.proofs.SettledRows.{line_more}
+use Rattle.worked_nodes.proofs.settled_rows.played.Goals as goal
 
 pub loop-line-init : goal.loop-line-init
 loop-line-init g c =
