@@ -26,3 +26,16 @@ fn bytes_are_read_again_from_the_file(rt: HostRuntime) -> Result<(), Fail> {
     fs::remove_file(&rt, name)?;
     Ok(())
 }
+
+#[test]
+fn a_lone_byte_is_made_ff_again(rt: HostRuntime) -> Result<(), Fail> {
+    let (name, made_as) = ("again.nv", "made_again.nv");
+    let mut memory = FileNv::new(&rt, name, made_as, 65_536, Access::Writes);
+    let mut one = [0];
+    assert_eq!(rt; memory.write_at(9, &[0x5A]), Ok(()));
+    assert_eq!(rt; memory.write_at(9, &[0xFF]), Ok(()));
+    assert_eq!(rt; memory.read_at(9, &mut one), Ok(()));
+    assert_eq!(rt; one, [0xFF]);
+    fs::remove_file(&rt, name)?;
+    Ok(())
+}
