@@ -3,7 +3,7 @@ use Rattle.std.proofs.Common.{◌≡◌, ℕ, zero, suc, ◌+◌, ◌*◌, ◌%�
 use Rattle.std.proofs.Common.{refl, sym, ap, ◌∙◌, subst, arith, length-set, get_or-set_same, append_assoc}
 use Rattle.std.specs.Prelude.{Option, Some, None}
 use Rattle.std.proofs.lemmas.List.{set-set, take_more_set, drop-set-lt, take-append-drop}
-use Rattle.block_pool.specs.declared.blocks.Head.{Head}
+use Rattle.block_pool.specs.declared.heads.Head.{Head}
 use Rattle.block_pool.specs.Slots.{with_chain}
 use Rattle.block_pool.specs.Links.{region_behind}
 use Rattle.block_pool.specs.Layout.{laid_bytes, slots_of, AreSoundBlocks}

@@ -10,7 +10,7 @@ use Rattle.std.proofs.lemmas.List.Sums.{sum_by-set}
 use Rattle.std.proofs.lemmas.Bool.{cases_lt, cases_eq}
 use Rattle.std.proofs.lemmas.List.FromFn.{length-map-range_with_len, get_or-map-range_with_len, take-map-range_with_len}
 use Rattle.std.proofs.lemmas.Grind.{common_steps}
-use Rattle.block_pool.specs.declared.blocks.Head.{Head}
+use Rattle.block_pool.specs.declared.heads.Head.{Head}
 use Rattle.block_pool.specs.Slots.{Held, blocks_for, slot, with_chain, bytes_in, held_bytes, owner_in, owner_of}
 use Rattle.block_pool.specs.Links.{block_at, linked_byte}
 use Rattle.block_pool.specs.Layout.{laid_bytes, held_by, slots_of, head_blocks, IsMarked, IsChain, AreSoundBlocks}
@@ -449,6 +449,13 @@ module _ (region next : List ℕ) (heads : List (Option Head)) (free free_len : 
 pub last_in : (region next : List ℕ) (heads : List (Option Head)) (free free_len : ℕ) (sound : AreSoundBlocks region next heads free free_len) (b : ℕ)
     (head : Head) → get_or heads b None ≡ Some head → head.last < sound.count
 last_in region next heads free free_len sound b head at = (last_marked (sound.chains b head at)).0
+
+-- a chain has no more blocks than a pool, which has at most 16,384
+pub blocks_few : (region next : List ℕ) (heads : List (Option Head)) (free free_len : ℕ) (sound : AreSoundBlocks region next heads free free_len) (b : ℕ)
+    (head : Head) → get_or heads b None ≡ Some head → blocks_for head.len ≤ 16384
+blocks_few region next heads free free_len sound b head at =
+    let low : b < length heads = omega (arith, in_pool (sound.chains b head at), sound.counted) in
+    omega (arith, sum_by-set head_blocks heads b None None low, ap head_blocks at, sound.all, sound.few)
 
 -- and so does its first one
 pub begun_low : (region next : List ℕ) (heads : List (Option Head)) (free free_len : ℕ) (sound : AreSoundBlocks region next heads free free_len) (b : ℕ)

@@ -6,7 +6,7 @@ use Rattle.std.specs.List.{range_with_len}
 use Rattle.std.proofs.lemmas.List.{same_lists, get_or_past, get_or_default}
 use Rattle.std.proofs.lemmas.Bool.{cases_lt, cases_eq, eq-eqb, ne_eqb}
 use Rattle.std.proofs.lemmas.List.FromFn.{length-map-range_with_len, get_or-map-range_with_len, map-range_with_len_more}
-use Rattle.block_pool.specs.declared.blocks.Head.{Head}
+use Rattle.block_pool.specs.declared.heads.Head.{Head}
 use Rattle.block_pool.specs.Slots.{Held, blocks_for, slot}
 use Rattle.block_pool.specs.Links.{block_at, linked_byte}
 use Rattle.block_pool.specs.Layout.{laid_bytes, held_by, slots_of, IsMarked, IsChain, AreSoundBlocks}

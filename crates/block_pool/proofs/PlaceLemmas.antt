@@ -9,7 +9,7 @@ use Rattle.std.proofs.lemmas.List.{get_or-append_right, length-replicate, append
 use Rattle.std.proofs.lemmas.List.Sums.{sum-map}
 use Rattle.std.proofs.lemmas.Bool.{cases_lt, cases_eq}
 use Rattle.std.proofs.lemmas.List.FromFn.{length-map-range_with_len, get_or-map-range_with_len, length-range_with_len, get_or-range_with_len}
-use Rattle.block_pool.specs.declared.blocks.Head.{Head}
+use Rattle.block_pool.specs.declared.heads.Head.{Head}
 use Rattle.block_pool.specs.declared.chain.Chain.{Chain}
 use Rattle.block_pool.specs.Slots.{Held, BlocksState, ShareNoBlock, blocks_for, bytes_in, held_bytes}
 use Rattle.block_pool.specs.Names.{named_bytes, blocks_named}

@@ -3,7 +3,7 @@ use Rattle.std.specs.Prelude.{◌≡◌, ℕ, ◌+◌, ◌-◌, ◌*◌, ◌<◌
 use Rattle.std.specs.List.{range_with_len, sum_by}
 use Rattle.block_pool.specs.Slots.{Held, Places, blocks_for}
 use Rattle.block_pool.specs.Links.{block_at, linked_byte}
-use Rattle.block_pool.specs.declared.blocks.Head.{Head}
+use Rattle.block_pool.specs.declared.heads.Head.{Head}
 
 -- the bytes of a chain
 unfoldable pub laid_bytes : List ℕ → List ℕ → ℕ → ℕ → List ℕ

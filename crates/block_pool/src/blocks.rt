@@ -1,40 +1,15 @@
 //! Blocks of memory in one region, linked into chains and a list of free blocks.
-ghost use Rattle.std.specs.Prelude.{◌≡◌, ℕ, ◌+◌, ◌*◌, ◌/◌, ◌^◌, ◌<◌, ◌≤◌, ◌++◌, length, map, replicate, None, Some, IsSome, slice_index_or};
+ghost use Rattle.std.specs.Prelude.{◌≡◌, ℕ, ◌+◌, ◌*◌, ◌/◌, ◌^◌, ◌<◌, ◌≤◌, ◌++◌, length, map, replicate};
 ghost use Rattle.std.specs.List.{range_with_len};
 ghost use Rattle.std.specs.Vec.{vec_len, vec_capacity};
 ghost use Rattle.block_pool.specs.Links.{block_at, linked_byte, region_behind};
 
+use crate::heads::{Head, StoredHead, head_at};
 use std::alloc::{AllocError, Global};
 use std::marker::Model;
 
 /// The bytes that a block holds.
 pub const BLOCK_BYTES: usize = 32;
-
-/// A chain of blocks, kept at its first block.
-#[derive(Clone, Copy)]
-struct Head {
-    owner: u8,
-    /// Its last block.
-    last: u16,
-    /// Its length in bytes, at least 1.
-    len: u32,
-    /// The block at which reading goes on.
-    read_on: u16,
-    /// How many of its blocks lie before that one.
-    passed: u32,
-}
-
-/// The chain that begins at a block where one does.
-fn head_at(heads: &[Option<Head>], block: u16) -> Head
-    requires { IsSome (slice_index_or heads.now block None) }
-    ensures low { block < length heads.now }
-    ensures head { slice_index_or heads.now block None ≡ Some result }
-{
-    match heads.get(block as usize) {
-        Some(Some(head)) => *head,
-        _ => unreachable!(),
-    }
-}
 
 /// The block `steps` links behind a block.
 fn walk(next: &[u16], first: u16, steps: usize) -> u16
@@ -123,7 +98,7 @@ pub struct Blocks {
     /// For each block the next one of its chain, or of the free list.
     next: Vec<u16>,
     /// For each block the chain that begins there.
-    heads: Vec<Option<Head>>,
+    heads: Vec<StoredHead>,
     /// The first block of the free list.
     free: u16,
     /// How many blocks are in the free list.
@@ -185,7 +160,7 @@ impl Blocks {
         let block = self.next.len() as u16;
         add_block(&mut self.region);
         self.next.push_reserved(0);
-        self.heads.push_reserved(None);
+        self.heads.push_reserved(StoredHead::none());
         self.free = block;
         self.free_len = 1;
         self.fresh -= 1;
@@ -231,7 +206,7 @@ impl Blocks {
         self.free = self.next[block as usize];
         self.free_len -= 1;
         self.region[BLOCK_BYTES * block as usize] = byte;
-        self.heads[block as usize] = Some(Head {
+        self.heads[block as usize] = StoredHead::of(Head {
             owner,
             last: block,
             len: 1,
@@ -254,7 +229,7 @@ impl Blocks {
         let head = head_at(&self.heads, first);
         let place = BLOCK_BYTES * head.last as usize + head.len as usize % BLOCK_BYTES;
         overwrite(&mut self.region, place, bytes);
-        self.heads[first as usize] = Some(Head {
+        self.heads[first as usize] = StoredHead::of(Head {
             owner: head.owner,
             last: head.last,
             len: head.len + bytes.len() as u32,
@@ -280,7 +255,7 @@ impl Blocks {
         self.free_len -= 1;
         self.next[head.last as usize] = block;
         self.region[BLOCK_BYTES * block as usize] = byte;
-        self.heads[first as usize] = Some(Head {
+        self.heads[first as usize] = StoredHead::of(Head {
             owner: head.owner,
             last: block,
             len: head.len + 1,
@@ -300,7 +275,7 @@ impl Blocks {
         self.next[head.last as usize] = self.free;
         self.free = first;
         self.free_len += head.len.div_ceil(BLOCK_BYTES as u32) as u16;
-        self.heads[first as usize] = None;
+        self.heads[first as usize] = StoredHead::none();
     }
 
     /// Appends as many bytes to a chain as its last block has room for, or the first one in a new block, and says how many.
@@ -351,7 +326,7 @@ impl Blocks {
         ensures free { self.new.free ≡ self.old.free }
     {
         let head = head_at(&self.heads, first);
-        self.heads[first as usize] = Some(Head {
+        self.heads[first as usize] = StoredHead::of(Head {
             owner,
             last: head.last,
             len: head.len,
@@ -403,12 +378,12 @@ impl Blocks {
             &mut out[..count],
         );
         if count < left {
-            self.heads[first as usize] = Some(Head {
+            self.heads[first as usize] = StoredHead::of(Head {
                 owner: head.owner,
                 last: head.last,
                 len: head.len,
                 read_on,
-                passed: (from + count as u32) / BLOCK_BYTES as u32,
+                passed: ((from + count as u32) / BLOCK_BYTES as u32) as u16,
             });
         }
         count

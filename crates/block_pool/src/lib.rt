@@ -3,6 +3,7 @@
 
 mod blocks;
 mod chain;
+mod heads;
 pub mod laws;
 mod owners;
 mod pool;

@@ -14,7 +14,8 @@ some_free c = subst (λ (v : BlocksState). 0 < v.listed) (sym c.self.view_is) c.
 pub invariant_of-self : goal.invariant_of-self
 invariant_of-self c =
     let s = c.self.inside in
-    let first = first_free s.region.items s.next.items s.heads.items s.free s.free_len c.self.invariant.0 (some_free c) in (
+    let first = first_free s.region.items s.next.items s.heads.items s.free s.free_len c.self.invariant.0 (some_free c) in
+    rw c.of.ensures (
       begin_sound s.region.items s.next.items s.heads.items s.free s.free_len c.self.invariant.0 c.args.owner c.args.byte (32 * s.free) c.index.result.now
           (some_free c)
           (get_or_read s.next.items s.free c.index.result.now (omega (arith, first.0, c.self.invariant.0.links)) c.index.ensures 0),
@@ -47,8 +48,9 @@ pub returns-clause-slots : goal.returns-clause-slots
 returns-clause-slots c =
     let s = c.self.inside in
     let first = first_free s.region.items s.next.items s.heads.items s.free s.free_len c.self.invariant.0 (some_free c) in
-    set-filled (slots_of s.region.items s.next.items s.heads.items) _ s.fresh s.free None _
+    rw c.of.ensures
+    (set-filled (slots_of s.region.items s.next.items s.heads.items) _ s.fresh s.free None _
     (begin_slots s.region.items s.next.items s.heads.items s.free s.free_len c.self.invariant.0 c.args.owner c.args.byte (some_free c))
     (omega (arith, first.0, c.self.invariant.0.counted, length-slots_of s.region.items s.next.items s.heads.items))
     ∙ ap (λ (ss : List (Option Held)). with_chain ss s.free c.args.owner (c.args.byte ∷ []))
-    (ap (λ (v : BlocksState). v.slots) c.self.view_is ∙ c.reach.ensures.slots)
+    (ap (λ (v : BlocksState). v.slots) c.self.view_is ∙ c.reach.ensures.slots))

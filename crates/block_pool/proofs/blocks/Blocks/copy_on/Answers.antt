@@ -1,8 +1,9 @@
+use Rattle.std.proofs.lemmas.Grind.{common_steps}
 use Rattle.std.proofs.Common.{◌≡◌, ℕ, ◌+◌, ◌*◌, ◌/◌, ◌<◌, sym, ap, ◌∙◌, subst, arith, length, take, get_or, List, length-take}
 use Rattle.std.specs.Prelude.{[], ◌++◌, replicate, None, Some, IsSome}
 use Rattle.block_pool.specs.Slots.{BlocksState, blocks_for}
 use Rattle.block_pool.specs.Links.{block_at}
-use Rattle.block_pool.proofs.LayoutLemmas.{blocks_reached, copied_out, has_head, len_says, read_on_sound, read_on_slots}
+use Rattle.block_pool.proofs.LayoutLemmas.{blocks_few, blocks_reached, copied_out, has_head, len_says, read_on_sound, read_on_slots}
 use Rattle.block_pool.proofs.PlaceLemmas.{read_on_chains, same_state}
 use Rattle.block_pool.proofs.blocks.Blocks.copy_on.Goals as goal
 
@@ -33,6 +34,31 @@ copy_from-read_on-requires-clause-reached c =
     (ap (λ (v : BlocksState). v.slots) c.self.view_is) c.args.first c.requires.some k
     (omega (arith, length-take c.min-count.result c.args.out.now, c.min-count.ensures, len_is, c.requires.in_chain)))
 
+pub overflow_cast-of : goal.overflow_cast-of
+overflow_cast-of c =
+    let s = c.self.inside in
+    let head = c.head_at-head.result in
+    let at : get_or s.heads.items c.args.first None ≡ Some head = rw c.deref.ensures.value at c.head_at-head.ensures.head in
+    let few = blocks_few s.region.items s.next.items s.heads.items s.free s.free_len c.self.invariant.0 c.args.first head at in
+    let low : (c.args.from + c.min-count.result) / 32 < 16384 = omega (arith, few, c.if-count-left.true) in
+    grind (arith, common_steps)
+
+pub of-requires-clause-some : goal.of-requires-clause-some
+of-requires-clause-some c =
+    let s = c.self.inside in
+    let head = c.head_at-head.result in
+    let at : get_or s.heads.items c.args.first None ≡ Some head = rw c.deref.ensures.value at c.head_at-head.ensures.head in
+    let some : 0 < head.len = (c.self.invariant.0.chains c.args.first head at).some in
+    some
+
+pub of-requires-clause-few : goal.of-requires-clause-few
+of-requires-clause-few c =
+    let s = c.self.inside in
+    let head = c.head_at-head.result in
+    let at : get_or s.heads.items c.args.first None ≡ Some head = rw c.deref.ensures.value at c.head_at-head.ensures.head in
+    let few = blocks_few s.region.items s.next.items s.heads.items s.free s.free_len c.self.invariant.0 c.args.first head at in
+    omega (arith, few)
+
 pub invariant_of-self : goal.invariant_of-self
 invariant_of-self c =
     let s = c.self.inside in
@@ -42,7 +68,8 @@ invariant_of-self c =
     omega (arith, length-take c.min-count.result c.args.out.now, c.min-count.ensures) in
     let behind : c.copy_from-read_on.result ≡ block_at s.next.items c.args.first ((c.args.from + c.min-count.result) / 32) =
     rw (c.deref-3.ensures.value, copied) at c.copy_from-read_on.ensures.behind in
-    let low : (c.args.from + c.min-count.result) / 32 < blocks_for head.len = omega (arith, c.if-count-left.true) in (
+    let low : (c.args.from + c.min-count.result) / 32 < blocks_for head.len = omega (arith, c.if-count-left.true) in
+    rw c.of.ensures (
       read_on_sound s.region.items s.next.items s.heads.items s.free s.free_len c.self.invariant.0 c.args.first c.copy_from-read_on.result
           ((c.args.from + c.min-count.result) / 32) head at low behind,
       c.self.invariant.1,
@@ -77,7 +104,7 @@ returns-then-count-left-clause-unchanged c =
     let slots =
     read_on_slots s.region.items s.next.items s.heads.items s.free s.free_len c.self.invariant.0 c.args.first c.copy_from-read_on.result passed head at in
     let chains = read_on_chains s.next.items s.heads.items c.args.first c.copy_from-read_on.result passed head low at in
-    same_state _ _ _ _ _ _ _ s.free_len (ap (λ ss. ss ++ replicate s.fresh None) slots) (ap (λ cs. cs ++ replicate s.fresh []) chains) ∙ c.self.view_is
+    rw c.of.ensures (same_state _ _ _ _ _ _ _ s.free_len (ap (λ ss. ss ++ replicate s.fresh None) slots) (ap (λ cs. cs ++ replicate s.fresh []) chains) ∙ c.self.view_is)
 
 pub returns-else-count-left-clause-count : goal.returns-else-count-left-clause-count
 returns-else-count-left-clause-count c =

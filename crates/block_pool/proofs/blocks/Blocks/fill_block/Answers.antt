@@ -1,11 +1,11 @@
-use Rattle.std.proofs.Common.{◌≡◌, ℕ, List, ◌<◌, ◌≤◌, ◌+◌, ◌*◌, ◌%◌, sym, ap, ◌∙◌, subst, arith, length, get_or, set, take, drop, refl}
-use Rattle.std.specs.Prelude.{replicate, ◌∷◌, [], ◌++◌, None, Some, IsSome}
+use Rattle.std.proofs.Common.{◌≡◌, ◌<◌, ◌≤◌, ◌+◌, ◌*◌, ◌%◌, sym, ap, ◌∙◌, subst, arith, length, get_or, set, take, drop, refl}
+use Rattle.std.specs.Prelude.{replicate, ◌++◌, None, Some, IsSome}
 use Rattle.std.proofs.lemmas.List.{take_at}
 use Rattle.block_pool.specs.Links.{region_behind}
 use Rattle.block_pool.specs.Slots.{BlocksState, with_chain, held_bytes}
 use Rattle.block_pool.specs.Layout.{slots_of, laid_bytes, AreSoundBlocks}
 use Rattle.block_pool.proofs.FreshLemmas.{set-filled}
-use Rattle.block_pool.proofs.LayoutLemmas.{begun_low, bytes_say, owner_says, len_says, has_head, last_in, head_fits}
+use Rattle.block_pool.proofs.LayoutLemmas.{begun_low, blocks_few, bytes_say, owner_says, len_says, has_head, last_in}
 use Rattle.block_pool.proofs.FillLemmas.{written, grown, fill, at_once}
 use Rattle.block_pool.proofs.blocks.Blocks.fill_block.Goals as goal
 
@@ -37,6 +37,34 @@ overwrite-requires c =
     ) in
     subst (λ r. place + length bytes ≤ length r) (sym c.deref_mut.ensures.value) fits
 
+pub of-requires-clause-some : goal.of-requires-clause-some
+of-requires-clause-some c =
+    let s = c.self.inside in
+    let head = c.head_at-head.result in
+    let at : get_or s.heads.items c.args.first None ≡ Some head = rw c.deref.ensures.value at c.head_at-head.ensures.head in
+    let bytes = c.args.bytes.now in
+    let view : slots_of s.region.items s.next.items s.heads.items ++ replicate s.fresh None ≡ c.args.self.now.slots = ap (λ (v : BlocksState). v.slots)
+    c.self.view_is in
+    let len_is = len_says s.region.items s.next.items s.heads.items s.fresh c.args.self.now.slots view c.args.first head at in
+    let room : head.len % 32 + length bytes ≤ 32 = subst (λ n. n % 32 + length bytes ≤ 32) len_is c.requires.room in
+    let begun : 0 < head.len % 32 = subst (λ n. 0 < n % 32) len_is c.requires.begun in
+    let some : 0 < head.len = (c.self.invariant.0.chains c.args.first head at).some in
+    omega (arith, some)
+
+pub of-requires-clause-few : goal.of-requires-clause-few
+of-requires-clause-few c =
+    let s = c.self.inside in
+    let head = c.head_at-head.result in
+    let at : get_or s.heads.items c.args.first None ≡ Some head = rw c.deref.ensures.value at c.head_at-head.ensures.head in
+    let bytes = c.args.bytes.now in
+    let view : slots_of s.region.items s.next.items s.heads.items ++ replicate s.fresh None ≡ c.args.self.now.slots = ap (λ (v : BlocksState). v.slots)
+    c.self.view_is in
+    let len_is = len_says s.region.items s.next.items s.heads.items s.fresh c.args.self.now.slots view c.args.first head at in
+    let room : head.len % 32 + length bytes ≤ 32 = subst (λ n. n % 32 + length bytes ≤ 32) len_is c.requires.room in
+    let begun : 0 < head.len % 32 = subst (λ n. 0 < n % 32) len_is c.requires.begun in
+    let few = blocks_few s.region.items s.next.items s.heads.items s.free s.free_len c.self.invariant.0 c.args.first head at in
+    omega (arith, few, room, begun)
+
 pub invariant_of-self : goal.invariant_of-self
 invariant_of-self c =
     let s = c.self.inside in
@@ -67,7 +95,7 @@ invariant_of-self c =
     fill bytes s.region.items s.next.items s.heads.items s.free s.free_len c.self.invariant.0 c.args.first head place (head.len + length bytes) at
     c.requires.more
     begun room refl refl in
-    (subst (λ r. AreSoundBlocks r s.next.items heads s.free s.free_len) (sym region_is) filled.sound, c.self.invariant.1)
+    rw c.of.ensures (subst (λ r. AreSoundBlocks r s.next.items heads s.free s.free_len) (sym region_is) filled.sound, c.self.invariant.1)
 
 pub returns-clause-slots : goal.returns-clause-slots
 returns-clause-slots c =
@@ -101,9 +129,10 @@ returns-clause-slots c =
     begun room refl refl in
     let bytes_are = bytes_say s.region.items s.next.items s.heads.items s.fresh c.args.self.now.slots view c.args.first head at in
     let owner_is = owner_says s.region.items s.next.items s.heads.items s.fresh c.args.self.now.slots view c.args.first head at in
-    set-filled (slots_of s.region.items s.next.items s.heads.items) _ s.fresh c.args.first None _
+    rw c.of.ensures
+    (set-filled (slots_of s.region.items s.next.items s.heads.items) _ s.fresh c.args.first None _
     (ap (λ r. slots_of r s.next.items heads) region_is ∙ filled.slots)
     (begun_low s.region.items s.next.items s.heads.items s.free s.free_len c.self.invariant.0 c.args.first head at)
     ∙ (ap (λ ss. with_chain ss c.args.first head.owner (laid_bytes s.region.items s.next.items c.args.first head.len ++ bytes)) view
     ∙ (ap (λ bs. with_chain c.args.self.now.slots c.args.first head.owner (bs ++ bytes)) (sym bytes_are)
-    ∙ ap (λ o. with_chain c.args.self.now.slots c.args.first o (held_bytes c.args.self.now.slots c.args.first ++ bytes)) (sym owner_is)))
+    ∙ ap (λ o. with_chain c.args.self.now.slots c.args.first o (held_bytes c.args.self.now.slots c.args.first ++ bytes)) (sym owner_is))))

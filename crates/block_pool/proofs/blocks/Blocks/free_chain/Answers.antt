@@ -52,7 +52,8 @@ invariant_of-self c =
     let s = c.self.inside in
     let head = c.head_at-head.result in
     let at : get_or s.heads.items c.args.first None ≡ Some head = rw c.deref.ensures.value at c.head_at-head.ensures.head in
-    let blocks : c.div_ceil.result ≡ blocks_for head.len = blocks_is c.div_ceil.result head.len c.div_ceil.ensures in (
+    let blocks : c.div_ceil.result ≡ blocks_for head.len = blocks_is c.div_ceil.result head.len c.div_ceil.ensures in
+    rw c.none.ensures (
       subst
           (λ n. AreSoundBlocks s.region.items (slice_set s.next.items head.last s.free) (slice_set s.heads.items c.args.first None) c.args.first
           (s.free_len + n))
@@ -66,10 +67,11 @@ returns-clause-slots c =
     let s = c.self.inside in
     let head = c.head_at-head.result in
     let at : get_or s.heads.items c.args.first None ≡ Some head = rw c.deref.ensures.value at c.head_at-head.ensures.head in
-    set-filled (slots_of s.region.items s.next.items s.heads.items) _ s.fresh c.args.first None _
+    rw c.none.ensures
+    (set-filled (slots_of s.region.items s.next.items s.heads.items) _ s.fresh c.args.first None _
     (free_chain_slots s.region.items s.next.items s.heads.items s.free s.free_len c.self.invariant.0 c.args.first head at)
     (begun_low s.region.items s.next.items s.heads.items s.free s.free_len c.self.invariant.0 c.args.first head at)
-    ∙ ap (λ (v : BlocksState). slice_set v.slots c.args.first None) c.self.view_is
+    ∙ ap (λ (v : BlocksState). slice_set v.slots c.args.first None) c.self.view_is)
 
 pub returns-clause-free : goal.returns-clause-free
 returns-clause-free c =

@@ -28,7 +28,7 @@ invariant_of-self c =
     let len : length s.next.items ≡ s.next.len = sym s.next.ok.0 in
     let few : length s.next.items < 16384 = omega (arith, room.few, some, len) in
     let grown = lengthened_sound s.region.items s.next.items s.heads.items s.free (sound c) (replicate 32 0) 0 refl few in (
-      rw (c.add_block.ensures.items, c.push_reserved.ensures.items, c.push_reserved-2.ensures.items, c.len-block.ensures, s.next.ok.0) grown,
+      rw (c.add_block.ensures.items, c.push_reserved.ensures.items, c.push_reserved-2.ensures.items, c.none.ensures, c.len-block.ensures, s.next.ok.0) grown,
       record {
         few = omega (arith, room.few, some, c.push_reserved.ensures.len);
         bytes = omega (arith, room.bytes, some, c.push_reserved.ensures.len, c.add_block.ensures.capacity);
@@ -43,6 +43,6 @@ returns-clause-slots c =
     let some = some_fresh c in
     let fresh_is : (s.fresh - 1) + 1 ≡ s.fresh = omega arith in
     let same = lengthened_slots s.region.items s.next.items s.heads.items s.free (sound c) (replicate 32 0) 0 (s.fresh - 1) in
-    rw (c.add_block.ensures.items, c.push_reserved.ensures.items, c.push_reserved-2.ensures.items) same
+    rw (c.add_block.ensures.items, c.push_reserved.ensures.items, c.push_reserved-2.ensures.items, c.none.ensures) same
     ∙ (ap (λ n. slots_of s.region.items s.next.items s.heads.items ++ replicate n None) fresh_is
     ∙ ap (λ (v : BlocksState). v.slots) c.self.view_is)

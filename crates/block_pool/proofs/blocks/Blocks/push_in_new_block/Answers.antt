@@ -4,7 +4,7 @@ use Rattle.std.proofs.lemmas.List.{get_or_read}
 use Rattle.block_pool.specs.Slots.{BlocksState, with_chain, held_bytes}
 use Rattle.block_pool.specs.Layout.{slots_of, laid_bytes}
 use Rattle.block_pool.proofs.FreshLemmas.{set-filled}
-use Rattle.block_pool.proofs.LayoutLemmas.{begun_low, bytes_say, owner_says, len_says, has_head, last_in, head_fits, first_free, push_in_new_block_sound}
+use Rattle.block_pool.proofs.LayoutLemmas.{begun_low, blocks_few, bytes_say, owner_says, len_says, has_head, last_in, head_fits, first_free, push_in_new_block_sound}
 use Rattle.block_pool.proofs.LayoutLemmas.{push_in_new_block_slots}
 use Rattle.block_pool.proofs.blocks.Blocks.push_in_new_block.Goals as goal
 
@@ -33,6 +33,22 @@ overflow_add-head c =
     let len_is = len_says s.region.items s.next.items s.heads.items s.fresh c.args.self.now.slots view c.args.first head at in
     head_fits head.len (length (held_bytes c.args.self.now.slots c.args.first)) len_is c.requires.short
 
+pub of-requires-clause-some : goal.of-requires-clause-some
+of-requires-clause-some c =
+    let s = c.self.inside in
+    let head = c.head_at-head.result in
+    let at : get_or s.heads.items c.args.first None ≡ Some head = rw c.deref.ensures.value at c.head_at-head.ensures.head in
+    let some : 0 < head.len = (c.self.invariant.0.chains c.args.first head at).some in
+    omega (arith, some)
+
+pub of-requires-clause-few : goal.of-requires-clause-few
+of-requires-clause-few c =
+    let s = c.self.inside in
+    let head = c.head_at-head.result in
+    let at : get_or s.heads.items c.args.first None ≡ Some head = rw c.deref.ensures.value at c.head_at-head.ensures.head in
+    let few = blocks_few s.region.items s.next.items s.heads.items s.free s.free_len c.self.invariant.0 c.args.first head at in
+    omega (arith, few)
+
 pub invariant_of-self : goal.invariant_of-self
 invariant_of-self c =
     let s = c.self.inside in
@@ -43,7 +59,8 @@ invariant_of-self c =
     let len_is = len_says s.region.items s.next.items s.heads.items s.fresh c.args.self.now.slots view c.args.first head at in
     let some : 0 < s.free_len = subst (λ (v : BlocksState). 0 < v.listed) (sym c.self.view_is) c.reach.ensures.listed in
     let full : head.len % 32 ≡ 0 = subst (λ n. n % 32 ≡ 0) len_is c.requires.full in
-    let first = first_free s.region.items s.next.items s.heads.items s.free s.free_len c.self.invariant.0 some in (
+    let first = first_free s.region.items s.next.items s.heads.items s.free s.free_len c.self.invariant.0 some in
+    rw c.of.ensures (
       push_in_new_block_sound s.region.items s.next.items s.heads.items s.free s.free_len c.self.invariant.0 c.args.first head
           (32 * s.free) c.args.byte c.index.result.now at full some
           (get_or_read s.next.items s.free c.index.result.now (omega (arith, first.0, c.self.invariant.0.links)) c.index.ensures 0),
@@ -62,9 +79,10 @@ returns-clause-slots c =
     let owner_is = owner_says s.region.items s.next.items s.heads.items s.fresh c.args.self.now.slots view c.args.first head at in
     let some : 0 < s.free_len = subst (λ (v : BlocksState). 0 < v.listed) (sym c.self.view_is) c.reach.ensures.listed in
     let full : head.len % 32 ≡ 0 = subst (λ n. n % 32 ≡ 0) len_is c.requires.full in
-    set-filled (slots_of s.region.items s.next.items s.heads.items) _ s.fresh c.args.first None _
+    rw c.of.ensures
+    (set-filled (slots_of s.region.items s.next.items s.heads.items) _ s.fresh c.args.first None _
     (push_in_new_block_slots s.region.items s.next.items s.heads.items s.free s.free_len c.self.invariant.0 c.args.first head c.args.byte at full some)
     (begun_low s.region.items s.next.items s.heads.items s.free s.free_len c.self.invariant.0 c.args.first head at)
     ∙ (ap (λ ss. with_chain ss c.args.first head.owner (laid_bytes s.region.items s.next.items c.args.first head.len ++ c.args.byte ∷ [])) view
     ∙ (ap (λ bs. with_chain c.args.self.now.slots c.args.first head.owner (bs ++ c.args.byte ∷ [])) (sym bytes_are)
-    ∙ ap (λ o. with_chain c.args.self.now.slots c.args.first o (held_bytes c.args.self.now.slots c.args.first ++ c.args.byte ∷ [])) (sym owner_is)))
+    ∙ ap (λ o. with_chain c.args.self.now.slots c.args.first o (held_bytes c.args.self.now.slots c.args.first ++ c.args.byte ∷ [])) (sym owner_is))))
