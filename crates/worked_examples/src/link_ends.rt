@@ -251,43 +251,6 @@ fn a_broken_frame_is_told(rt: HostRuntime) {
     sends(&rt, &mut node, &[]);
 }
 
-/// Two ends send what they have to each other, so many times in turn: how many frames came to the second one, the length of the
-/// last message there, and how many messages of the first one were acknowledged.
-fn take_turns(rt: &impl Abort, node: &mut Node, other: &mut Node, turns: u8) -> (u16, u32, u16) {
-    let mut frames = 0u16;
-    let mut len = 0;
-    let mut acked = 0u16;
-    for _turn in 0..turns {
-        let came = deliver(rt, Form::Lpdus, node, other);
-        frames = frames.saturating_add(came.frames);
-        if let Some(message) = came.last {
-            len = message.len;
-        }
-        acked = acked.saturating_add(deliver(rt, Form::Lpdus, other, node).acked);
-    }
-    (frames, len, acked)
-}
-
-#[test]
-fn message_of_4096_bytes(rt: HostRuntime) {
-    let mut node = Node::make(&rt, rt.alloc(), Role::Bare);
-    let mut other = Node::make(&rt, rt.alloc(), Role::Bare);
-    let bytes = [0x42; 4097];
-    let too_long = SendRefused::TooLong { len: 4097 };
-    offers(&rt, &mut node, &bytes, Err(too_long));
-    offers(&rt, &mut node, &bytes[..4096], Ok(()));
-    let full = SendRefused::Full { need: 1, spare: 0 };
-    offers(&rt, &mut node, &[3], Err(full));
-    let came = take_turns(&rt, &mut node, &mut other, 37);
-    same(&rt, &came, &(147, 4096, 1));
-    offers(&rt, &mut node, &[3], Ok(()));
-    let full = SendRefused::Full {
-        need: 128,
-        spare: 127,
-    };
-    offers(&rt, &mut node, &bytes[..4096], Err(full));
-}
-
 #[test]
 fn a_fifth_message_under_way_ends_the_session(rt: HostRuntime) {
     let mut node = Node::make(&rt, rt.alloc(), Role::Bare);

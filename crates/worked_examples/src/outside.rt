@@ -3,11 +3,10 @@ ghost use Rattle.std.specs.Prelude.{◌≡◌, ◌+◌, ◌<◌, ◌≤◌, ◌+
 ghost use Rattle.swp_base.specs.Outside.{Rose};
 
 use crate::shown::{same, same_bytes};
-use arrayvec::ArrayVec;
 use std::alloc::Global;
 use std::process::Abort;
 use swp_base::{
-    Failed, Info, Lpdu, MemNv, MemSink, MemSource, NoMemory, Nv, Sink, Source, SureNv, SureSink,
+    Failed, Info, Lpdu, MemSink, MemSource, NoMemory, Nv, Sink, Source, SureNv, SureSink,
     SureSource,
 };
 
@@ -103,64 +102,6 @@ fn first_bytes<N: Nv>(nv: &mut N, bytes: &[u8]) -> (Result<(), Failed>, [u8; 4])
     let mut first = [0; 4];
     let _ = nv.read(0, &mut first);
     (written, first)
-}
-
-/// The first four bytes of a memory of four, once these were written at place 1, and whether that went through.
-fn keeps(
-    rt: &impl Abort,
-    nv: &mut MemNv,
-    bytes: &[u8; 3],
-    written: Result<(), Failed>,
-    first: [u8; 4],
-)
-    requires { length nv.old.content ≡ 4 }
-    ensures { length nv.new.content ≡ 4 }
-{
-    same(rt, &first_bytes(nv, bytes), &(written, first));
-}
-
-/// A memory of four bytes.
-fn memory_of_4(rt: &impl Abort, alloc: Global) -> MemNv
-    ensures { length result.content ≡ 4 }
-{
-    MemNv::new(alloc, 4).expect(rt, "there is memory")
-}
-
-#[test]
-fn a_planned_write_of_a_memory_is_torn(rt: HostRuntime) {
-    let mut nv = memory_of_4(&rt, rt.alloc());
-    let mut fill = ArrayVec::new();
-    fill.push(0xA5);
-    fill.push(0x5A);
-    nv.arm(2, fill);
-    keeps(&rt, &mut nv, &[1, 2, 3], Ok(()), [0xFF, 1, 2, 3]);
-    keeps(
-        &rt,
-        &mut nv,
-        &[4, 5, 6],
-        Err(Failed),
-        [0xFF, 0xA5, 0x5A, 0xA5],
-    );
-    keeps(&rt, &mut nv, &[7, 8, 9], Ok(()), [0xFF, 7, 8, 9]);
-}
-
-/// A read of two bytes goes through or fails, and leaves FF in their place.
-fn reads(rt: &impl Abort, nv: &mut MemNv, first: &mut [u8; 2], answer: Result<(), Failed>)
-    requires { length nv.old.content ≡ 4 }
-    ensures { length nv.new.content ≡ 4 }
-{
-    same(rt, &nv.read(1, first), &answer);
-    same_bytes(rt, first, &[0xFF, 0xFF]);
-}
-
-#[test]
-fn a_planned_read_of_a_memory_fails_once(rt: HostRuntime) {
-    let mut nv = memory_of_4(&rt, rt.alloc());
-    nv.arm_read(2);
-    let mut first = [0; 2];
-    reads(&rt, &mut nv, &mut first, Ok(()));
-    reads(&rt, &mut nv, &mut first, Err(Failed));
-    reads(&rt, &mut nv, &mut first, Ok(()));
 }
 
 #[test]

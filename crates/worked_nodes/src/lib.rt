@@ -2,15 +2,9 @@
 #![tactic(auto)]
 
 #[cfg(test)]
-mod boots;
-#[cfg(test)]
 mod card;
 #[cfg(test)]
-mod cut_boots;
-#[cfg(test)]
 mod library;
-#[cfg(test)]
-mod refusals;
 #[cfg(test)]
 mod sessions;
 #[cfg(test)]

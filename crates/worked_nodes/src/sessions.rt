@@ -8,7 +8,7 @@ use hci_store::Store;
 use router::Ran;
 use std::alloc::Global;
 use std::process::Abort;
-use swp_base::{Lpdu, MemNv, Nv, SureNv};
+use swp_base::{Lpdu, MemNv, Nv};
 
 /// The hosts of the controller: 02 alone.
 pub(crate) const HOSTS: u8 = 0b100;
@@ -229,39 +229,9 @@ pub(crate) fn memory(rt: &impl Abort, alloc: Global) -> MemNv
     MemNv::new(alloc, 65_536).expect(rt, "there is memory")
 }
 
-/// A new memory that never fails.
-fn sure_memory(rt: &impl Abort, alloc: Global) -> SureNv
-    ensures { length result ≡ 65536 }
-{
-    SureNv::new(alloc, 65_536).expect(rt, "there is memory")
-}
-
 #[test]
 fn the_first_pipe_is_opened(rt: HostRuntime) {
     let clf = memory(&rt, rt.alloc());
     let uicc = memory(&rt, rt.alloc());
     play(&rt, rt.alloc(), clf, uicc);
-}
-
-#[test]
-fn the_first_pipe_is_opened_over_memories_that_never_fail(rt: HostRuntime) {
-    let clf = sure_memory(&rt, rt.alloc());
-    let uicc = sure_memory(&rt, rt.alloc());
-    play(&rt, rt.alloc(), clf, uicc);
-}
-
-/// A tick passes at the controller, and nothing comes of it.
-fn ticks<N: Nv + Drop>(rt: &impl Abort, front: &mut FrontEnd<N>) {
-    let mut seen = Seen::new();
-    let ran = front.tick(&mut seen.count, &mut seen.sent);
-    same(rt, &ran, &Ran::Done);
-    seen.shows(rt, 0, &[]);
-}
-
-#[test]
-fn a_tick_of_a_quiet_link_sends_nothing(rt: HostRuntime) {
-    let clf = memory(&rt, rt.alloc());
-    let uicc = memory(&rt, rt.alloc());
-    let (mut front, _card) = up(&rt, rt.alloc(), clf, uicc);
-    ticks(&rt, &mut front);
 }
