@@ -1,16 +1,16 @@
 -- What a call of a flash memory leaves, byte by byte and bit by bit.
 use Rattle.std.proofs.Common.{◌≡◌, ◌⊎◌, inl, inr, ℕ, zero, suc, ◌+◌, ◌-◌, ◌*◌, ◌==◌, ◌<◌, ◌≤◌, min, Bool, true, false, if◌then◌else◌, List, ◌++◌, length}
-use Rattle.std.proofs.Common.{take, drop, slice_index, bit_and, max, not, ◌%◌, Option, Some, None, [], ◌∷◌, sym, refl, ap, ◌∙◌, subst, arith}
+use Rattle.std.proofs.Common.{take, drop, slice_index, slice_range, bit_and, ap₂, max, not, ◌%◌, Option, Some, None, [], ◌∷◌, sym, refl, ap, ◌∙◌, subst, arith}
 use Rattle.std.proofs.Common.{zero-add, w8}
 use Rattle.std.proofs.lemmas.Bool.{cases_lt, false≢true}
 use Rattle.std.proofs.lemmas.Bool.Decides.{nat_tests}
-use Rattle.std.proofs.lemmas.List.{get_or_past, length-replicate, get_or-replicate, drop_all, append-nil, take_all}
+use Rattle.std.proofs.lemmas.List.{get_or-take, get_or-drop, get_or_past, length-replicate, get_or-replicate, drop_all, append-nil, take_all}
 use Rattle.std.proofs.lemmas.List.FromFn.{get_or-map-range_with_len, length-map-range_with_len, fill_by_all}
 use Rattle.std.proofs.lemmas.Nat.Bits.{bit_at_and, bit_at_or, bit_at_ones, bit_at_not, bit_at-lt, bit_at_above, same_from_bits, same_from_bits_below}
 use Rattle.std.specs.Int.{bit_at}
 use Rattle.std.specs.Int.Bits.{or_lt, and_le_l, and_le_r}
 use Rattle.flash_nv.specs.Cells.{AreCells, IsChanged, is_in_range, remade, programmed, erased}
-use Rattle.flash_nv.specs.MemCells.{blank, Tear, tears_next, tear_mask, mixed, torn}
+use Rattle.flash_nv.specs.MemCells.{blank, Tear, tears_next, tear_mask, mixed, torn, partly}
 
 pub within-true : (at len i : ℕ) → at ≤ i → i < at + len → is_in_range at len i ≡ true
 within-true at len i low high = grind (arith, nat_tests)
@@ -366,3 +366,37 @@ ok_is_full o ok is e = mask_full o (not_true (tears_next o) (sym is ∙ e))
     not_true : (b : Bool) → not b ≡ true → b ≡ false
     not_true true f = absurd (false≢true f)
     not_true false f = refl
+
+-- What a change as planned left of a call that was to make each byte of a range anew, said by the whole memory that it was to make.
+pub torn_is_partly : (cells : List ℕ) (at len : ℕ) (byte : ℕ → ℕ) (whole mask : List ℕ) → AreCells cells → at + len ≤ 139264 → length whole ≡ len
+    → ((k : ℕ) → k < len → slice_index whole k ≡ byte (at + k)) → torn cells at whole mask ≡ partly cells at len (remade cells at len byte) mask
+torn_is_partly cells at len byte whole mask old room size each =
+    remade_by_parts cells (torn cells at whole mask) at len made (length-remade cells at (length whole) left) inside outside
+  where
+    left : ℕ → ℕ
+    left i = mixed (slice_index cells i) (slice_index whole (i - at)) (slice_index mask ((i - at) % length mask))
+
+    made : ℕ → ℕ
+    made i = mixed (slice_index cells i) (slice_index (remade cells at len byte) i) (slice_index mask ((i - at) % length mask))
+
+    within : (k : ℕ) → k < len → at + k < length cells
+    within k small = omega (arith, old.size)
+
+    inside : (k : ℕ) → k < len → slice_index (torn cells at whole mask) (at + k) ≡ made (at + k)
+    inside k small =
+        let e : at + k - at ≡ k = omega arith in
+        remade-inside cells at (length whole) left (at + k) (within k small) (omega arith) (omega (arith, size))
+        ∙ ap (λ w. mixed (slice_index cells (at + k)) w (slice_index mask ((at + k - at) % length mask)))
+        (ap (slice_index whole) e ∙ each k small ∙ sym (remade-inside cells at len byte (at + k) (within k small) (omega arith) (omega arith)))
+
+    outside : (k : ℕ) → (k < at) ⊎ (at + len ≤ k) → slice_index (torn cells at whole mask) k ≡ slice_index cells k
+    outside k out = remade-outside cells at (length whole) left k (subst (λ n. (k < at) ⊎ (at + n ≤ k)) (sym size) out)
+
+-- the AND of a range of a memory and of bytes that are to be programmed there
+pub cleared_part : (cells bytes whole : List ℕ) (at : ℕ)
+    → ((i : ℕ) → i < length bytes → slice_index whole i ≡ bit_and (slice_index (slice_range cells at (at + length bytes)) i) (slice_index bytes i))
+    → (k : ℕ) → k < length bytes → slice_index (take (length bytes) whole) k ≡ bit_and (slice_index cells (at + k)) (slice_index bytes (at + k - at))
+cleared_part cells bytes whole at each k small =
+    let e : at + k - at ≡ k = omega arith in
+    get_or-take (length bytes) whole k 0 small ∙ each k small
+    ∙ ap₂ bit_and (get_or-take (at + length bytes - at) (drop at cells) k 0 (omega arith) ∙ get_or-drop at cells k 0) (ap (slice_index bytes) (sym e))

@@ -22,6 +22,7 @@ piece_step old mid new before after page p s version from bytes was whole same p
   map = map;
   header = has.header ∙ ap (λ v. page_header s (v + 1)) (version_is ∙ ap (version_on old) at);
   bytes_are = λ j small. has.bytes_are j small ∙ by_low j small (cases_lt j from);
+  others = λ i out. put.others i out ∙ ap (λ xs. slice_index xs i) same;
 }
   where
     has : HasSector new p s (version + 1) whole
@@ -117,4 +118,5 @@ steps_more old mid new first map last at bytes done len s from place small is mo
       map = step.map;
       header = step.header;
       bytes_are = λ j inside. step.bytes_are j inside ∙ piece_is_laid mid s at from bytes done len place small is more edge size j inside;
+      others = step.others;
     }

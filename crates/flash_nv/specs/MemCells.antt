@@ -41,3 +41,8 @@ mixed old whole mask = bit_or (bit_and old (255 - mask)) (bit_and whole mask)
 abbrev pub torn : List ℕ → ℕ → List ℕ → List ℕ → List ℕ
 torn cells at whole mask = remade cells at (length whole)
     (λ i. mixed (slice_index cells i) (slice_index whole (i - at)) (slice_index mask ((i - at) % length mask)))
+
+-- a memory of which a call was to make `whole`, by so many bytes from place `at` on: the bits of the mask took effect, over and over
+abbrev pub partly : List ℕ → ℕ → ℕ → List ℕ → List ℕ → List ℕ
+partly cells at len whole mask =
+    remade cells at len (λ i. mixed (slice_index cells i) (slice_index whole i) (slice_index mask ((i - at) % length mask)))

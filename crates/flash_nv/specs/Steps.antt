@@ -1,5 +1,5 @@
 -- What a write that goes through makes of the pages, sector by sector.
-use Rattle.std.specs.Prelude.{◌≡◌, ℕ, zero, suc, ◌+◌, ◌-◌, ◌*◌, ◌/◌, ◌<◌, ◌==◌, false, if◌then◌else◌, List, Some, length, slice_index, slice_set}
+use Rattle.std.specs.Prelude.{◌≡◌, ◌⊎◌, ℕ, zero, suc, ◌+◌, ◌-◌, ◌*◌, ◌/◌, ◌<◌, ◌≤◌, ◌==◌, false, if◌then◌else◌, List, Some, length, slice_index, slice_set}
 use Rattle.std.specs.Prelude.{IsTrue}
 use Rattle.flash_nv.specs.Cells.{is_in_range}
 use Rattle.flash_nv.specs.Maps.{Map, IsNextFree, page_behind}
@@ -13,6 +13,7 @@ pub record IsStep (old new : List ℕ) (before after : Map) (sector : ℕ) (byte
   pub map : after ≡ record { pages = slice_set before.pages sector (Some page); next = page_behind page }
   pub header : header_at new page ≡ page_header sector (sector_version old sector + 1)
   pub bytes_are : (j : ℕ) → j < 256 → slice_index new (512 * page + 18 + j) ≡ byte j
+  pub others : (i : ℕ) → (i < 512 * page) ⊎ (512 * page + 512 ≤ i) → slice_index new i ≡ slice_index old i
 
 -- byte j of a sector over which bytes are written from one of its places on
 abbrev pub piece_byte : List ℕ → ℕ → ℕ → List ℕ → ℕ → ℕ

@@ -5,7 +5,7 @@ ghost use Rattle.std.specs.Prelude.{IfOk, IfSome, OnOk, OnErr, is_some, if◌the
 ghost use Rattle.swp_base.specs.Outside.{one_more};
 ghost use Rattle.flash_nv.specs.Cells.{AreCells, IsInPage, IsChanged, programmed, erased};
 ghost use Rattle.flash_nv.specs.Pages.{IsClean};
-ghost use Rattle.flash_nv.specs.MemCells.{blank, tears_next, tear_after, tear_mask, mixed, torn};
+ghost use Rattle.flash_nv.specs.MemCells.{blank, tears_next, tear_after, tear_mask, mixed, torn, partly};
 
 use crate::Flash;
 use arrayvec::ArrayVec;
@@ -130,6 +130,10 @@ impl Flash for MemFlash {
         ensures planned { is_ok result ≡ not (tears_next self.old.tear) }
         ensures fault { OnErr result (self.new.faults ≡ one_more self.old.faults) }
         ensures changed { IsChanged (is_ok result) self.old.cells (programmed self.old.cells at bytes.now) self.new.cells }
+        ensures masked { self.new.cells ≡ partly self.old.cells at (length bytes.now) (programmed self.old.cells at bytes.now)
+            (tear_mask self.old.tear) }
+        ensures tear { self.new.tear ≡ tear_after self.old.tear }
+        ensures faults { self.new.faults ≡ (if tears_next self.old.tear then one_more self.old.faults else self.old.faults) }
     {
         let from = at as usize;
         let whole = cleared(&self.bytes[from..from + bytes.len()], bytes);
@@ -142,6 +146,9 @@ impl Flash for MemFlash {
         ensures planned { is_ok result ≡ not (tears_next self.old.tear) }
         ensures fault { OnErr result (self.new.faults ≡ one_more self.old.faults) }
         ensures changed { IsChanged (is_ok result) self.old.cells (erased self.old.cells page) self.new.cells }
+        ensures masked { self.new.cells ≡ partly self.old.cells (512 * page) 512 (erased self.old.cells page) (tear_mask self.old.tear) }
+        ensures tear { self.new.tear ≡ tear_after self.old.tear }
+        ensures faults { self.new.faults ≡ (if tears_next self.old.tear then one_more self.old.faults else self.old.faults) }
     {
         self.change(512 * page as usize, &[0xFF; 512])
     }

@@ -138,7 +138,7 @@ fn rsets_after(rsets: u32, control: &Control) -> u32
 }
 
 impl Tap {
-    ghost use Rattle.std.specs.Prelude.{◌≡◌, ◌+◌, ◌<◌, ◌≤◌, List, ℕ, Bool, ◌++◌, ◌∷◌, [], length, IfOk};
+    ghost use Rattle.std.specs.Prelude.{◌≡◌, ◌+◌, ◌<◌, ◌≤◌, List, ℕ, Bool, ◌++◌, ◌∷◌, [], length, IfOk, MatchOption};
     ghost use Rattle.tap_reading.specs.Lpdus.{tapped_lpdus};
     ghost use Rattle.swp_tap.specs.Hearing.{StandsFor, new_tap_value, kept_after_lpdu, kept_reports_lpdu, reports_in, reports_told};
 
@@ -182,6 +182,7 @@ impl Tap {
         ensures stands { (lpdus : List (Bool × List ℕ)) → StandsFor self.old lpdus → StandsFor self.new (lpdus ++ (from_clf, lpdu.now) ∷ []) }
         ensures reports { (lpdus : List (Bool × List ℕ)) → StandsFor self.old lpdus →
             tapped_lpdus self.old.bare (lpdus ++ (from_clf, lpdu.now) ∷ []) ≡ tapped_lpdus self.old.bare lpdus ++ reports_told result }
+        ensures body { MatchOption result (self.new.body ≡ self.old.body) (λ m. self.new.body ≡ m.body.items) }
     {
         match self.tell(from_clf, lpdu) {
             None => None,
