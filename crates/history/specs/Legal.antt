@@ -1,4 +1,5 @@
--- What a history must be. These facts speak of what was noted and what caused it, and know no machine.
+-- What a history must be. These facts speak of what was noted and what caused it. One part of one of them knows a machine: whether the other end
+-- waited as an end was reset (`IsReadSettled.other`), which is asked of the link behind the causes before.
 use Rattle.std.specs.Prelude.{◌≡◌, ℕ, ◌≤◌, ◌==◌, ◌&&◌, Bool, true, false, if◌then◌else◌, List, [], ◌∷◌, ◌++◌, length, take, Option, Some, Result, Ok}
 use Rattle.std.specs.List.{list_any}
 use Rattle.swp_base.specs.declared.control_frames.Control.{Control}

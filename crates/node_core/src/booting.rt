@@ -13,13 +13,16 @@ use node_ends::Ends;
 use nv_journal::{JournalFault, StartRefused};
 use std::alloc::Global;
 use swp_base::{NoMemory, Nv, Role};
+use thiserror::Error;
 
 /// Why a node doesn't boot.
-#[derive(Drop)]
+#[derive(Debug, Drop, Error)]
 pub enum BootFault {
     /// There is no memory for its ends.
+    #[error("out of memory")]
     NoMemory,
     /// Its store doesn't start.
+    #[error("{0}")]
     Journal(JournalFault),
 }
 
