@@ -1,4 +1,4 @@
-//! Three schedules of a bare world with their transcripts, as in `examples/`: each is what `swp replay` reads, and all that it writes.
+//! Two schedules of a bare world with their transcripts, as in `examples/`: each is what `swp replay` reads, and all that it writes.
 
 pub const ONE_MESSAGE: [&str; 2] = [
     "\
@@ -22,30 +22,6 @@ emit 02c C1\n\
 took 02h C1\n\
 acked 02h 0 1\n\
 done 4\n\
-",
-];
-
-pub const DAMAGE_BREAKS_A_FRAME: [&str; 2] = [
-    "\
-swp 1 bare 02\n\
-send 02h 01 03\n\
-damage 02c 55\n\
-tick 9\n\
-tick\n\
-",
-    "\
-> swp 1 bare 02\n\
-up 02c 0\n\
-up 02h 0\n\
-> send 02h 01 03\n\
-sent 02h 0 01 03\n\
-emit 02h 808103\n\
-> damage 02c 55\n\
-lost 02c 808103 broken\n\
-> tick 9\n\
-> tick\n\
-emit 02h 808103\n\
-done 5\n\
 ",
 ];
 
