@@ -3,9 +3,12 @@
 Records and frames: PERIODS, BYTE_OF, IDLE, crc, frame_bits, frame_periods, decode, read_record.
 LPDUs and messages: control, packet, message, describe, Pipes.
 Transcripts of `swp replay`: Transcript, with its steps and frames.
-Programs: Refused, stop.
+Programs: Refused, Options, run, binary_input, text_input.
 """
 
+import argparse
+import io
+import os
 import re
 import sys
 from bisect import bisect_right
@@ -22,14 +25,66 @@ CLF, UICC = 1, 2  # the wire that each sends on: S1, S2
 SIDES = {CLF: "CLF", UICC: "UICC"}
 
 
+# ---- programs ---------------------------------------------------------------------------------------------------------------
+
+
 class Refused(Exception):
     """An input that a companion refuses; its text is what the user reads."""
 
 
-def stop(program, text):
-    """Ends a program with one line on standard error and the exit status 1."""
-    sys.stdout.flush()
-    sys.exit(f"{program}: {text}")
+class Options(argparse.ArgumentParser):
+    """The options of a companion. Its help is the program's own text; wrong words end it with one line and the exit status 2."""
+
+    def __init__(self, program, text):
+        super().__init__(prog=program, description=text, formatter_class=argparse.RawDescriptionHelpFormatter, add_help=False, allow_abbrev=False)
+        self.add_argument("-h", "--help", action="store_true", help=argparse.SUPPRESS)
+
+    def read(self, words=None):
+        if any(word in ("-h", "--help") for word in (sys.argv[1:] if words is None else words)):
+            print(self.description.strip())
+            sys.exit(0)
+        return self.parse_args(words)
+
+    def error(self, message):
+        print(f"{self.prog}: {message}", file=sys.stderr)
+        sys.exit(2)
+
+
+def run(program, main):
+    """Runs a companion: what it refuses, cannot read or cannot write is one line on standard error and the exit status 1."""
+    try:
+        status = main()
+        sys.stdout.flush()
+    except Refused as fault:
+        _stop(program, fault)
+    except BrokenPipeError:
+        os.dup2(os.open(os.devnull, os.O_WRONLY), sys.stdout.fileno())
+        _stop(program, "nobody reads the output")
+    except OSError as fault:
+        _stop(program, f"{fault.filename}: {fault.strerror}" if fault.filename else str(fault.strerror))
+    sys.exit(status)
+
+
+def _stop(program, text):
+    try:
+        sys.stdout.flush()
+    except OSError:
+        pass
+    print(f"{program}: {text}", file=sys.stderr)
+    sys.exit(1)
+
+
+def binary_input(name=None):
+    """The file of this name, or standard input, for bytes."""
+    return open(name, "rb") if name else sys.stdin.buffer
+
+
+def text_input(name=None):
+    """The file of this name, or standard input, for lines of text; a byte that is no UTF-8 comes as a replacement character."""
+    return io.TextIOWrapper(binary_input(name), encoding="utf-8", errors="replace")
+
+
+# ---- whole records ----------------------------------------------------------------------------------------------------------
 
 
 def read_record(file):
