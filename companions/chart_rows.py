@@ -67,6 +67,11 @@ class Streams:
         return on
 
 
+def counted(number, one, many=None):
+    """A number and its noun."""
+    return f"{number} {one if number == 1 else many or one + 's'}"
+
+
 def short(text):
     """A text with `host 02 gate 41` as 02/41."""
     return re.sub(r"host (\w\w) gate (\w\w)", r"\1/\2", text)
@@ -187,7 +192,7 @@ class Chart:
         if wires:
             band = Band(None, ["at", "the", "end"] if last == len(self._blocks) else ["after", "line", str(last)], self.end + 1)
             for frames in wires.values():
-                text = "1 frame on its way" if len(frames) == 1 else f"{len(frames)} frames on their way"
+                text = counted(len(frames), "frame") + (" on its way" if len(frames) == 1 else " on their way")
                 band.rows.append(Row("on-way", self.end + 1, text, "soft", frames=tuple(frames)))
             self.bands.append(band)
 
@@ -270,8 +275,7 @@ class Rows:
         elif step.kind == "no":
             self._refusal(step)
         elif step.kind == "settled":
-            rounds = "1 round" if step.words[1] == "1" else f"{step.words[1]} rounds"
-            self.rows.append(Row("remark", step.row, f"settled: {rounds}", "got"))
+            self.rows.append(Row("remark", step.row, f"settled: {counted(int(step.words[1]), 'round')}", "got"))
         elif not self._told_by_frames(index, step):
             self._note(step)
 
@@ -382,14 +386,16 @@ def _parameter(gate, number):
 
 
 def _tables_note(chart, words):
-    _, node, pipes, static, registers, identifiers = words
-    return node, "▦", "keep", f"tables: {pipes} pipes, {static} static, {registers} parameters, {identifiers} identifiers"
+    names = ("pipe", "static pipe", "parameter", "identifier")
+    parts = [counted(int(word), name) for word, name in zip(words[2:], names) if word != "0"]
+    return words[1], "▦", "keep", "tables: " + (", ".join(parts) or "empty")
 
 
 def _init_note(chart, words):
-    rest = words[2:]
-    text = {"same": "the same session", "made": f"{rest[-1]} pipes made", "failed": f"failed, response {rest[-1]}"}[rest[0]]
-    return words[1], "★", "bad" if rest[0] == "failed" else "keep", f"init: {text}"
+    if words[2] == "failed":
+        return words[1], "★", "bad", f"init: failed, response {words[3]}"
+    text = "the same session" if words[2] == "same" else f"{counted(int(words[3]), 'pipe')} made"
+    return words[1], "★", "keep", f"init: {text}"
 
 
 NOTES = {
@@ -400,7 +406,7 @@ NOTES = {
     "up": lambda chart, w: (w[1], "▲", "session", f"session {w[2]} up"),
     "down": lambda chart, w: (w[1], "▼", "warn", f"session ends: {DOWN.get(w[2], w[2])}"),
     "active": lambda chart, w: (w[1], "◆", "keep", "active"),
-    "gaveup": lambda chart, w: (w[1], "✕", "bad", f"gave up after {w[2]} tries"),
+    "gaveup": lambda chart, w: (w[1], "✕", "bad", f"gave up after {counted(int(w[2]), 'try', 'tries')}"),
     "held": lambda chart, w: (w[1], "‖", "warn", f"held: needs {w[2]} blocks, {w[3]} spare"),
     "drop": lambda chart, w: (w[1], "–", "warn", f"message on pipe {w[2]} dropped"),
     "ask": lambda chart, w: (f"{w[1]}c", "?", "soft", f"asks host {w[1]}"),
@@ -408,6 +414,6 @@ NOTES = {
     "ok": lambda chart, w: (w[1], "✓", "soft", f"ANY_OK for command {w[2]}"),
     "init": _init_note,
     "cut": lambda chart, w: (w[1], "✕", "bad", "power cut"),
-    "booted": lambda chart, w: (w[1], "◉", "keep", f"boots: {w[2]} commands kept"),
+    "booted": lambda chart, w: (w[1], "◉", "keep", f"boots, {counted(int(w[2]), 'command')} kept"),
     "tables": _tables_note,
 }

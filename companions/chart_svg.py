@@ -14,13 +14,14 @@ BOLD = ("session", "bad", "warn")
 SANS = "'Helvetica Neue', Arial, 'DejaVu Sans', sans-serif"
 MONO = "Menlo, Consolas, 'DejaVu Sans Mono', monospace"
 STYLE = (
-    f"text{{font-family:{SANS};font-size:11px}}.m{{font-family:{MONO};font-size:10.5px}}.b{{font-weight:600}}"
+    f"text{{font-family:{SANS};font-size:11px}}.m{{font-family:{MONO};font-size:10.5px}}.b{{font-weight:600}}.g{{fill-opacity:.84}}"
     f".arrow,.stop{{fill:none;stroke-width:1.4}}.lost{{stroke-dasharray:5 4}}.up{{fill:#cfe3f7;stroke:#8db8e2}}"
     f".wait{{fill:{PAPER};stroke:#7b1fa2;stroke-dasharray:3 2}}.down{{stroke:#93a4b3;stroke-width:1.2}}"
     f".off{{stroke:#b4c0cb;stroke-dasharray:1 5;stroke-linecap:round}}"
 )
 TOP, GAP = 120, 8
-HEIGHTS = {"emit": 20, "took": 14, "lost": 18, "gone": 18, "on-way": 18, "note": 18, "remark": 18}
+HEIGHTS = {"emit": 20, "took": 14, "lost": 22, "gone": 22, "on-way": 22, "note": 18, "remark": 18}
+LOW = 5  # how much lower the text of a frame's end stands in its row
 NODE_NAMES = {"01": "terminal", "02": "UICC"}
 TURN = 0.6  # how far a frame goes level, as a part of its lane, before it goes down
 
@@ -60,7 +61,8 @@ class Layout:
 
     def __init__(self, chart):
         self.chart = chart
-        titles = [width for band in chart.bands for width in (len(band.title()), *(len(r.text) for r in band.rows if r.kind == "remark"))]
+        titles = [len(band.title()) + (8 if band.time is not None else 0) for band in chart.bands]
+        titles += [len(row.text) for band in chart.bands for row in band.rows if row.kind == "remark"]
         self.gutter = 46 + 6.4 * clamp(12, max(titles, default=12), 30)
         self.x, at = {}, self.gutter + self._room("left")
         for host in chart.left:
@@ -119,6 +121,7 @@ class Drawing:
         self.x = self.layout.x
         self.tops, self.grounds = {}, {}  # of rows and bands: their y; of rows: the colour behind them
         self.places = []  # (row of the transcript, y), ascending
+        self.states = set()  # of the lifelines drawn
         self.bottom = self._place_rows()
         self.arrived, self.left = {}, {}
         for band in chart.bands:
@@ -176,11 +179,11 @@ class Drawing:
         classes = f' class="{style}"' if style else ""
         self.put(f'<text x="{x:.1f}" y="{y:.1f}" fill="{colour}"{where}{classes}{size_of}>{escape(text)}</text>')
 
-    def on_ground(self, row, x, text, colour, size=11.0, anchor="start", bold=False):
+    def on_ground(self, row, x, text, colour, size=11.0, anchor="start", bold=False, low=0):
         """A text of a row, on the colour of its band, so that no line runs through it."""
-        y, wide = self.tops[id(row)], width_of(text, size, bold) + 6
+        y, wide = self.tops[id(row)] + low, width_of(text, size, bold) + 6
         left = x - 3 if anchor == "start" else x - wide + 3
-        self.put(f'<rect x="{left:.1f}" y="{y:.1f}" width="{wide:.1f}" height="15" fill="{self.grounds[id(row)]}"/>')
+        self.put(f'<rect class="g" x="{left:.1f}" y="{y:.1f}" width="{wide:.1f}" height="15" fill="{self.grounds[id(row)]}"/>')
         self.text(x, y + 11.5, text, colour, size, anchor, "b" if bold else "")
 
     # ---- the parts of the picture
@@ -222,6 +225,7 @@ class Drawing:
     def _life(self, x, y, end, state):
         if end <= y:
             return
+        self.states.add(state)
         if state in ("up", "wait"):
             self.put(f'<rect class="{state}" x="{x - 4:.1f}" y="{y:.1f}" width="8" height="{end - y:.1f}" rx="2"/>')
         else:
@@ -234,7 +238,7 @@ class Drawing:
         x0, x1 = self.x[frame.sender] + 5 * way, self.x[frame.to] - 5 * way
         turn = x0 + way * TURN * self._lane_at(frame)
         y0 = self.tops[id(start[0])] + 16 if start else TOP - 8
-        y1 = self.tops[id(row)] + 7
+        y1 = self.tops[id(row)] + (7 if row.kind == "took" else 7 + LOW)
         if row.kind != "took":
             x1 = turn + way * min(0.2 * abs(x1 - turn) + 6 * index, 0.9 * abs(x1 - turn))
         colour = ARROWS[control(frame.lpdu)[0]] if row.kind in ("took", "on-way") else BAD
@@ -275,14 +279,22 @@ class Drawing:
         if row.kind == "emit":
             frame = row.frames[0]
             way = 1 if self.x[frame.to] > self.x[frame.sender] else -1
-            text = fit(row.text, self._lane_at(frame) - 40, 10.5)
-            self.on_ground(row, self.x[frame.sender] + 13 * way, text, ARROWS[control(frame.lpdu)[0]], 10.5, "start" if way > 0 else "end")
+            x = self._outside(frame.sender, way) + 13 * way
+            text = fit(row.text, self._lane_at(frame) - abs(x - self.x[frame.sender]) - 27, 10.5)
+            self.on_ground(row, x, text, ARROWS[control(frame.lpdu)[0]], 10.5, "start" if way > 0 else "end")
         elif row.kind in ("lost", "gone", "on-way"):
             self._cause(row)
         elif row.kind == "note":
             self._note(row)
         elif row.kind == "remark":
             self.on_ground(row, 42, row.text, TONES[row.tone], 10.5)
+
+    def _outside(self, end, way):
+        """Of an end of the controller, the lifeline of the outermost one on this side."""
+        if end[2] == "h":
+            return self.x[end]
+        xs = [self.x[host + "c"] for host in self.chart.hosts]
+        return max(xs) if way > 0 else min(xs)
 
     def _cause(self, row):
         """Towards the sender from where its frames ended."""
@@ -291,7 +303,7 @@ class Drawing:
         turn = self.x[frame.sender] + way * (5 + TURN * self._lane_at(frame))
         reach = abs(self.x[frame.to] - 5 * way - turn)
         x = turn + way * (0.2 * reach - 10)
-        self.on_ground(row, x, row.text, TONES[row.tone], 10.5, "end" if way > 0 else "start", row.tone == "bad")
+        self.on_ground(row, x, row.text, TONES[row.tone], 10.5, "end" if way > 0 else "start", row.tone == "bad", LOW)
 
     def _note(self, row):
         """Beside the lifeline of an end or a node, on the side where no other one of it stands."""
@@ -347,7 +359,8 @@ class Drawing:
             self.text(x + 28, y + 4, name, SOFT, 10)
             x += 46 + width_of(name, 10)
         x, y = 46.0, y + 22
-        for name, state in (("session up", "up"), ("waits for UA", "wait"), ("no session", "down"), ("no power", "off")):
+        names = {"up": "session up", "wait": "waits for UA", "down": "no session", "off": "no power"}
+        for state, name in [(state, name) for state, name in names.items() if state in self.states]:
             self._life(x, y - 9, y + 9, state)
             self.text(x + 12, y + 4, name, SOFT, 10)
             x += 34 + width_of(name, 10)
