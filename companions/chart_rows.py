@@ -319,7 +319,7 @@ class Rows:
         words, line = step.words[1:], self.block[0].words
         text = REFUSED.get(words[0], " ".join(words))
         if words[0] == "full":
-            text = f"needs {words[1]} blocks, {words[2]} spare"
+            text = f"needs {counted(int(words[1]), 'block')}, {words[2]} spare"
         elif words[0] == "beyond":
             text = f"the frame has {words[1]} bits"
         where = line[1] if len(line) > 1 and line[0] not in ("tick", "settle") else "00"
@@ -361,11 +361,11 @@ def _command_text(words):
     """What a node keeps, of the words behind `command NODE`."""
     kind = words[0]
     if kind == "create":
-        return f"create pipe {words[1]}: {words[2]}/{words[3]} → {words[4]}/{words[5]}"
+        return f"pipe {words[1]} made, {words[2]}/{words[3]} → {words[4]}/{words[5]}"
     if kind == "delete":
-        return f"delete pipe {words[1]}"
+        return f"pipe {words[1]} deleted"
     if kind == "clear":
-        return f"clear host {words[1]}"
+        return f"pipes of host {words[1]} cleared"
     if kind == "opened":
         return f"pipe {words[2]} of host {words[1]} {'opened' if words[3] == '01' else 'closed'}"
     if kind == "set":
@@ -407,10 +407,10 @@ NOTES = {
     "down": lambda chart, w: (w[1], "▼", "warn", f"session ends: {DOWN.get(w[2], w[2])}"),
     "active": lambda chart, w: (w[1], "◆", "keep", "active"),
     "gaveup": lambda chart, w: (w[1], "✕", "bad", f"gave up after {counted(int(w[2]), 'try', 'tries')}"),
-    "held": lambda chart, w: (w[1], "‖", "warn", f"held: needs {w[2]} blocks, {w[3]} spare"),
+    "held": lambda chart, w: (w[1], "‖", "warn", f"held: needs {counted(int(w[2]), 'block')}, {w[3]} spare"),
     "drop": lambda chart, w: (w[1], "–", "warn", f"message on pipe {w[2]} dropped"),
     "ask": lambda chart, w: (f"{w[1]}c", "?", "soft", f"asks host {w[1]}"),
-    "command": lambda chart, w: (w[1], "▤", "keep", "keeps " + _command_text(w[2:])),
+    "command": lambda chart, w: (w[1], "▤", "keep", "keeps: " + _command_text(w[2:])),
     "ok": lambda chart, w: (w[1], "✓", "soft", f"ANY_OK for command {w[2]}"),
     "init": _init_note,
     "cut": lambda chart, w: (w[1], "✕", "bad", "power cut"),

@@ -4,6 +4,7 @@ import html
 import math
 from bisect import bisect_right
 
+from chart_rows import counted
 from swp_formats import control
 
 INK, SOFT, FAINT, PAPER, SHADE = "#1f2933", "#5a6977", "#d5dde5", "#ffffff", "#f4f7fa"
@@ -126,7 +127,7 @@ class Drawing:
         self.arrived, self.left = {}, {}
         for band in chart.bands:
             for row in band.rows:
-                for index, frame in enumerate(row.frames):
+                for index, frame in enumerate(reversed(row.frames)):  # the oldest ends farthest
                     (self.left if row.kind == "emit" else self.arrived)[frame] = (row, index)
         self.height = self.bottom + 84
 
@@ -191,9 +192,9 @@ class Drawing:
     def _title(self):
         run = self.chart.transcript
         self.text(24, 34, self.title, INK, 17, style="b")
-        lost = sum(frame.fate == "lost" for frame in run.frames)
+        lost = sum(frame.fate == "lost" for frame in self.chart.frames)
         what = "a controller and its hosts" if run.hci else "one bare link"
-        self.text(24, 54, f"{what} · {len(run.frames)} frames, {lost} lost · time runs down", SOFT)
+        self.text(24, 54, f"{what} · {counted(len(self.chart.frames), 'frame')}, {lost} lost · time runs down", SOFT)
 
     def _bands(self):
         ends = [self.tops[id(band)] - 4 for band in self.chart.bands[1:]] + [self.bottom - 2]
@@ -364,5 +365,6 @@ class Drawing:
             self._life(x, y - 9, y + 9, state)
             self.text(x + 12, y + 4, name, SOFT, 10)
             x += 34 + width_of(name, 10)
-        self.put(f'<circle cx="{x:.1f}" cy="{y:.1f}" r="4" fill="{GOOD}"/>')
-        self.text(x + 9, y + 4, "message delivered", SOFT, 10)
+        if any(row.delivered for row, _ in self.arrived.values()):
+            self.put(f'<circle cx="{x:.1f}" cy="{y:.1f}" r="4" fill="{GOOD}"/>')
+            self.text(x + 9, y + 4, "message delivered", SOFT, 10)
