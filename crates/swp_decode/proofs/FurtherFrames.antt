@@ -18,7 +18,7 @@ use Rattle.swp_decode.specs.Readings.{ReadSymbol, symbol_on, readings_on, AreBit
 use Rattle.swp_decode.specs.Texts.{verdict_line}
 use Rattle.swp_decode.specs.Decoded.{line_with, line_at, lines_with}
 use Rattle.swp_decode.specs.Frames.{frame_in, frame_with, frame_given, frames_told, frames_with, record_frames}
-use Rattle.swp_decode.proofs.Gathering.{AreBits-at}
+use Rattle.swp_decode.proofs.Gathering.{AreBits-front}
 use Rattle.swp_decode.proofs.FurtherLines.{reverse_onto, no_parts, signal_at, AreQuietBetween, no_lines_between}
 
 -- ---- where no line comes, no frame does
@@ -98,25 +98,26 @@ frames_between {bytes} {older} {first} {second} {from} {to} h =
 abbrev pub frame_of_word : Wire → Word → ℕ → ℕ → List ReadSymbol → List (Bool × List ℕ)
 frame_of_word wire word place last older = frame_with wire (Some (symbol_of (bit word.bits (63 - last)))) (readings_on place (take last (word_bits word)) older)
 
-frame_there : (wire : Wire) (word : Word) (bytes older : List ℕ) (place last : ℕ) → AreBits wire bytes (word_bits word) → last < length bytes → last < 64
-    → place ≡ length older
+frame_there : (wire : Wire) (word : Word) (bytes older : List ℕ) (known place last : ℕ) → AreBits wire (take known bytes) (take known (word_bits word))
+    → last < known → last < length bytes → last < 64 → place ≡ length older
     → frame_given wire (get_or bytes last 0 ∷ (reverse (take last bytes) ++ older)) ≡ frame_of_word wire word place last (signal wire older)
-frame_there wire word bytes older place last are within h is =
-    ap₂ (frame_with wire) (AreBits-at wire last bytes (word_bits word) are within ∙ ap (λ b. Some (symbol_of b)) same)
-    (signal_at wire bytes older (word_bits word) last are ∙ ap (λ n. readings_on n (take last (word_bits word)) (signal wire older)) (sym is))
+frame_there wire word bytes older known place last are small within h is =
+    ap₂ (frame_with wire) (AreBits-front wire known last bytes (word_bits word) are small within ∙ ap (λ b. Some (symbol_of b)) same)
+    (signal_at wire bytes older (word_bits word) known last (omega arith) are ∙ ap (λ n. readings_on n (take last (word_bits word)) (signal wire older)) (sym is))
   where
     same : get_or (word_bits word) last false ≡ bit word.bits (63 - last)
     same = low_bits-at 64 last word.bits h ∙ ap (bit word.bits) (omega (arith, h))
 
 -- where no mark ends on either wire from one place up to another, the frames that come with the bytes through the other are those of its bits
 pub frames_through : {bytes older : List ℕ} (word1 word2 : Word) {place from last : ℕ}
-    → AreQuietBetween bytes older (word_bits word1) (word_bits word2) from last → length bytes ≡ 64 → last < 64 → place ≡ length older
+    (quiet : AreQuietBetween bytes older (word_bits word1) (word_bits word2) from last) → last < quiet.known → length bytes ≡ 64 → last < 64
+    → place ≡ length older
     → (frames_with older (take from bytes) ++ frame_of_word S1 word1 place last (signal S1 older)) ++ frame_of_word S2 word2 place last (signal S2 older)
     ≡ frames_with older (take (last + 1) bytes)
-frames_through {bytes} {older} word1 word2 {place} {from} {last} quiet l h is =
+frames_through {bytes} {older} word1 word2 {place} {from} {last} quiet small l h is =
     let within : last < length bytes = omega (arith, l, h) in
-    ap₂ (λ a b. (frames_with older (take from bytes) ++ a) ++ b) (sym (frame_there S1 word1 bytes older place last quiet.s1 within h is))
-    (sym (frame_there S2 word2 bytes older place last quiet.s2 within h is))
+    ap₂ (λ a b. (frames_with older (take from bytes) ++ a) ++ b) (sym (frame_there S1 word1 bytes older quiet.known place last quiet.s1 small within h is))
+    (sym (frame_there S2 word2 bytes older quiet.known place last quiet.s2 small within h is))
     ∙ ap (λ frames. (frames ++ frame_given S1 (get_or bytes last 0 ∷ (reverse (take last bytes) ++ older)))
     ++ frame_given S2 (get_or bytes last 0 ∷ (reverse (take last bytes) ++ older)))
     (sym (frames_between quiet))

@@ -11,7 +11,7 @@ use Rattle.swp_decode.specs.Readings.{with_reading, readings_on, AreBits, signal
 use Rattle.swp_decode.specs.declared.decoder.Decoder.{Decoder}
 use Rattle.swp_decode.specs.Kept.{ReadsSignal, DecoderStandsFor}
 use Rattle.swp_decode.proofs.FurtherBits.{lines_on-quiet}
-use Rattle.swp_decode.proofs.Gathering.{AreBits-take, AreBits-drop, AreBits-at}
+use Rattle.swp_decode.proofs.Gathering.{AreBits-part, AreBits-front}
 use Rattle.swp_decode.specs.Decoded.{line_with, line_at, lines_on, lines_with, transcript, record_lines}
 
 -- older bytes with one more behind them
@@ -115,9 +115,10 @@ stands_behind {new} bytes {older} first second s1 s2 stands count reads_s1 reads
 
 -- ---- the first of some bytes that have bits
 
-pub signal_at : (wire : Wire) (bytes older : List ℕ) (bits : List Bool) (n : ℕ) → AreBits wire bytes bits
+pub signal_at : (wire : Wire) (bytes older : List ℕ) (bits : List Bool) (known n : ℕ) → n ≤ known → AreBits wire (take known bytes) (take known bits)
     → signal wire (reverse (take n bytes) ++ older) ≡ readings_on (length older) (take n bits) (signal wire older)
-signal_at wire bytes older bits n are = signal-bits wire (take n bytes) (take n bits) older (AreBits-take wire n bytes bits are)
+signal_at wire bytes older bits known n within are =
+    signal-bits wire (take n bytes) (take n bits) older (AreBits-part wire known 0 n bytes bits (omega arith) are)
 
 -- no line comes where no mark ends on either wire
 no_lines : (bytes older : List ℕ) (first second : List Bool) → AreBits S1 bytes first → AreBits S2 bytes second
@@ -126,11 +127,13 @@ no_lines bytes older first second s1 s2 quiet_s1 quiet_s2 =
     s1_silent bytes older (wire_lines-bits S1 bytes first older s1 ∙ lines_on-quiet S1 (length older) first (signal S1 older) quiet_s1)
     ∙ wire_lines-bits S2 bytes second older s2 ∙ lines_on-quiet S2 (length older) second (signal S2 older) quiet_s2
 
--- bytes behind older ones have these bits on the two wires, and no mark ends on either from one place of them up to another
+-- so many bytes behind older ones have these bits on the two wires, and no mark ends on either from one place of them up to another
 pub record AreQuietBetween (bytes older : List ℕ) (first second : List Bool) (from to : ℕ) : Type 0 where
+  pub known : ℕ
   pub order : from ≤ to
-  pub s1 : AreBits S1 bytes first
-  pub s2 : AreBits S2 bytes second
+  pub within : to ≤ known
+  pub s1 : AreBits S1 (take known bytes) (take known first)
+  pub s2 : AreBits S2 (take known bytes) (take known second)
   pub quiet_s1 : HasNoMark (symbols (readings_on (length older) (take from first) (signal S1 older))) (take (to - from) (drop from first))
   pub quiet_s2 : HasNoMark (symbols (readings_on (length older) (take from second) (signal S2 older))) (take (to - from) (drop from second))
 
@@ -140,10 +143,12 @@ pub no_lines_between : {bytes older : List ℕ} {first second : List Bool} {from
 no_lines_between {bytes} {older} {first} {second} {from} {to} h =
     no_lines (take (to - from) (drop from bytes)) (reverse (take from bytes) ++ older)
     (take (to - from) (drop from first)) (take (to - from) (drop from second))
-    (AreBits-take S1 (to - from) (drop from bytes) (drop from first) (AreBits-drop S1 from bytes first h.s1))
-    (AreBits-take S2 (to - from) (drop from bytes) (drop from second) (AreBits-drop S2 from bytes second h.s2))
-    (subst (λ readings. HasNoMark (symbols readings) (take (to - from) (drop from first))) (sym (signal_at S1 bytes older first from h.s1)) h.quiet_s1)
-    (subst (λ readings. HasNoMark (symbols readings) (take (to - from) (drop from second))) (sym (signal_at S2 bytes older second from h.s2)) h.quiet_s2)
+    (AreBits-part S1 h.known from (to - from) bytes first (omega (arith, h.order, h.within)) h.s1)
+    (AreBits-part S2 h.known from (to - from) bytes second (omega (arith, h.order, h.within)) h.s2)
+    (subst (λ readings. HasNoMark (symbols readings) (take (to - from) (drop from first)))
+    (sym (signal_at S1 bytes older first h.known from (omega (arith, h.order, h.within)) h.s1)) h.quiet_s1)
+    (subst (λ readings. HasNoMark (symbols readings) (take (to - from) (drop from second)))
+    (sym (signal_at S2 bytes older second h.known from (omega (arith, h.order, h.within)) h.s2)) h.quiet_s2)
 
 pub lines_between : {bytes older : List ℕ} {first second : List Bool} {from to : ℕ} → AreQuietBetween bytes older first second from to
     → lines_with older (take to bytes) ≡ lines_with older (take from bytes)
@@ -156,27 +161,28 @@ lines_between {bytes} {older} {first} {second} {from} {to} h =
     ∙ ap (λ lines. lines_with older (take from bytes) ++ lines) (no_lines_between h)
     ∙ append-nil (lines_with older (take from bytes))
 
-line_there : (wire : Wire) (bytes older : List ℕ) (bits : List Bool) (i : ℕ) → AreBits wire bytes bits → i < length bytes
-    → line_at wire (get_or bytes i 0 ∷ (reverse (take i bytes) ++ older))
+line_there : (wire : Wire) (bytes older : List ℕ) (bits : List Bool) (known i : ℕ) → AreBits wire (take known bytes) (take known bits) → i < known
+    → i < length bytes → line_at wire (get_or bytes i 0 ∷ (reverse (take i bytes) ++ older))
     ≡ line_with wire (Some (symbol_of (get_or bits i false))) (readings_on (length older) (take i bits) (signal wire older))
-line_there wire bytes older bits i are h = ap₂ (line_with wire) (AreBits-at wire i bytes bits are h) (signal_at wire bytes older bits i are)
+line_there wire bytes older bits known i are small h =
+    ap₂ (line_with wire) (AreBits-front wire known i bytes bits are small h) (signal_at wire bytes older bits known i (omega arith) are)
 
 -- where no mark ends on either wire from one place up to another, the lines that come with the bytes through the other are those of its bits
-pub lines_through : (text : List ℕ) {bytes older : List ℕ} {first second : List Bool} {from last : ℕ} → AreQuietBetween bytes older first second from last
-    → last < length bytes
+pub lines_through : (text : List ℕ) {bytes older : List ℕ} {first second : List Bool} {from last : ℕ}
+    (h : AreQuietBetween bytes older first second from last) → last < h.known → last < length bytes
     → ((text ++ lines_with older (take from bytes))
     ++ line_with S1 (Some (symbol_of (get_or first last false))) (readings_on (length older) (take last first) (signal S1 older)))
     ++ line_with S2 (Some (symbol_of (get_or second last false))) (readings_on (length older) (take last second) (signal S2 older))
     ≡ text ++ lines_with older (take (last + 1) bytes)
-lines_through text {bytes} {older} {first} {second} {from} {last} h within =
-    ap₂ (λ a b. ((text ++ lines_with older (take from bytes)) ++ a) ++ b) (sym (line_there S1 bytes older first last h.s1 within))
-    (sym (line_there S2 bytes older second last h.s2 within))
+lines_through text {bytes} {older} {first} {second} {from} {last} h small within =
+    ap₂ (λ a b. ((text ++ lines_with older (take from bytes)) ++ a) ++ b) (sym (line_there S1 bytes older first h.known last h.s1 small within))
+    (sym (line_there S2 bytes older second h.known last h.s2 small within))
     ∙ ap (λ lines. ((text ++ lines) ++ line_at S1 (get_or bytes last 0 ∷ (reverse (take last bytes) ++ older)))
     ++ line_at S2 (get_or bytes last 0 ∷ (reverse (take last bytes) ++ older)))
     (sym (lines_between h))
     ∙ lines_behind-more text older bytes last within
 
--- a wire whose bits were read up to a place, with the bits of its word
-pub bits_of_word : (wire : Wire) (bytes : List ℕ) (given : ℕ) (word : Word) → word.bits ≡ given → AreBits wire bytes (low_bits 64 given)
-    → AreBits wire bytes (word_bits word)
-bits_of_word wire bytes given word is are = rw is are
+-- so many bytes have the bits of a word
+pub bits_of_word : (wire : Wire) (bytes : List ℕ) (known given : ℕ) (word : Word) → word.bits ≡ given
+    → AreBits wire (take known bytes) (take known (low_bits 64 given)) → AreBits wire (take known bytes) (take known (word_bits word))
+bits_of_word wire bytes known given word is are = rw is are

@@ -60,6 +60,10 @@ none_before a b u from to order within is small =
       none_above b u from to order within (omega (arith, parts, le_or_r (a % 2 ^ (64 - from)) (b % 2 ^ (64 - from)))) small,
     )
 
+-- no mark is left before an earlier place either
+pub below_sooner : (n sooner to : ℕ) → sooner ≤ to → n < 2 ^ (64 - to) → n < 2 ^ (64 - sooner)
+below_sooner n sooner to order below = omega (arith, pow_mono {i = 64 - to} {j = 64 - sooner} (omega arith))
+
 -- the marks behind it
 pub marks_left : (u all from last : ℕ) → from ≤ last → last < 64 → u ≡ all % 2 ^ (64 - from) → u % (1 * 2 ^ (63 - last) % 2 ^ 64) ≡ all % 2 ^ (64 - (last + 1))
 marks_left u all from last order within is =

@@ -75,7 +75,8 @@ impl Decoder {
     }
 
     /// Reads the first of these bytes of the record, at least one, and appends the lines that they give, as so many steps would.
-    /// It answers how many it read: all where they are periods with bits and lines come at no more than eight places.
+    /// It answers how many it read: all where they are periods with bits and lines come at no more than eight places. Bytes that are no
+    /// periods with bits are read one by one, with at most fifteen before and some behind them.
     #[inline(always)]
     pub fn step_many(&mut self, bytes: &[u8; 64], text: &mut Text) -> usize
         requires few { self.old.count + 64 ≤ Self.MAX_BYTES }
@@ -87,21 +88,22 @@ impl Decoder {
         ensures lines { (older : List ℕ) → DecoderStandsFor self.old older → text.new.items ≡ text.old.items ++ lines_with older (take result bytes.now) }
         ensures sized { length text.new.items ≤ length text.old.items + Self.ROOM_OF_MANY }
     {
-        match many_bits(bytes) {
-            Some(bits) => self.step_bits(bits, bytes, text),
-            None => {
-                self.step_each(&bytes[..8], text);
-                8
-            }
+        let bits = many_bits(bytes);
+        if bits.known == 0 {
+            self.step_each(&bytes[..8], text);
+            return 8;
         }
+        self.step_bits(bits, bytes, text)
     }
 
     /// Reads periods with bits. Each wire is read at once up to the next place at which a mark ends on it; the marks of both are
     /// taken in the order of their places.
     #[inline(never)]
     fn step_bits(&mut self, bits: ManyBits, bytes: &[u8; 64], text: &mut Text) -> usize
-        requires s1 { AreBits Wire.S1 bytes.now (low_bits 64 bits.s1) }
-        requires s2 { AreBits Wire.S2 bytes.now (low_bits 64 bits.s2) }
+        requires known { 0 < bits.known }
+        requires most { bits.known ≤ 64 }
+        requires s1 { AreBits Wire.S1 (take bits.known bytes.now) (take bits.known (low_bits 64 bits.s1)) }
+        requires s2 { AreBits Wire.S2 (take bits.known bytes.now) (take bits.known (low_bits 64 bits.s2)) }
         requires few { self.old.count + 64 ≤ Self.MAX_BYTES }
         requires room { length text.old.items + Self.ROOM_OF_MANY ≤ 8192 }
         ensures some { 0 < result }
@@ -118,7 +120,7 @@ impl Decoder {
         let mut read_s1 = 0;
         let mut read_s2 = 0;
         let mut passed = 0;
-        'marks: while marks != 0 && passed < Self::MOST_PLACES {
+        'marks: while marks.leading_zeros() < bits.known && passed < Self::MOST_PLACES {
             let last = marks.leading_zeros();
             read_s1 = self
                 .s1
@@ -129,7 +131,7 @@ impl Decoder {
             marks %= 1 << (63 - last);
             passed += 1;
         }
-        let to = marks.leading_zeros();
+        let to = marks.leading_zeros().min(bits.known);
         self.s1.read_between(&s1, read_s1, to, place);
         self.s2.read_between(&s2, read_s2, to, place);
         self.count = place + to;
@@ -216,20 +218,21 @@ impl Decoder {
         ensures heard { (older : List ℕ) → DecoderStandsFor self.old older → frames.new.items ≡ frames_with older (take result bytes.now) }
         ensures sized { length frames.new.items ≤ 2 * result }
     {
-        match many_bits(bytes) {
-            Some(bits) => self.hear_bits(bits, bytes, frames),
-            None => {
-                self.hear_each(&bytes[..8], frames);
-                8
-            }
+        let bits = many_bits(bytes);
+        if bits.known == 0 {
+            self.hear_each(&bytes[..8], frames);
+            return 8;
         }
+        self.hear_bits(bits, bytes, frames)
     }
 
     /// Reads periods with bits, as `step_bits` does.
     #[inline(never)]
     fn hear_bits(&mut self, bits: ManyBits, bytes: &[u8; 64], frames: &mut Frames) -> usize
-        requires s1 { AreBits Wire.S1 bytes.now (low_bits 64 bits.s1) }
-        requires s2 { AreBits Wire.S2 bytes.now (low_bits 64 bits.s2) }
+        requires known { 0 < bits.known }
+        requires most { bits.known ≤ 64 }
+        requires s1 { AreBits Wire.S1 (take bits.known bytes.now) (take bits.known (low_bits 64 bits.s1)) }
+        requires s2 { AreBits Wire.S2 (take bits.known bytes.now) (take bits.known (low_bits 64 bits.s2)) }
         requires few { self.old.count + 64 ≤ Self.MAX_BYTES }
         requires room { frames.old.items ≡ [] }
         ensures some { 0 < result }
@@ -246,7 +249,7 @@ impl Decoder {
         let mut read_s1 = 0;
         let mut read_s2 = 0;
         let mut passed = 0;
-        'marks: while marks != 0 && passed < Self::MOST_PLACES {
+        'marks: while marks.leading_zeros() < bits.known && passed < Self::MOST_PLACES {
             let last = marks.leading_zeros();
             read_s1 = self
                 .s1
@@ -257,7 +260,7 @@ impl Decoder {
             marks %= 1 << (63 - last);
             passed += 1;
         }
-        let to = marks.leading_zeros();
+        let to = marks.leading_zeros().min(bits.known);
         self.s1.read_between(&s1, read_s1, to, place);
         self.s2.read_between(&s2, read_s2, to, place);
         self.count = place + to;

@@ -1,9 +1,11 @@
-use Rattle.std.proofs.Common.{◌≡◌, ◌≤◌, ◌∙◌, ◌-◌, ℕ, List, length, take, drop, sym, ap, subst, arith, length-drop, take-add}
+use Rattle.std.proofs.Common.{◌≡◌, ◌≤◌, ◌∙◌, ◌+◌, ◌-◌, ◌++◌, ℕ, List, length, take, drop, sym, ap, subst, arith, rules, length-drop, take-add}
 use Rattle.swp_decode.specs.declared.line.Wire.TheVariants.{S1, S2}
 use Rattle.swp_decode.specs.Readings.{AreBits}
 use Rattle.swp_frame.specs.Words.{low_bits}
 use Rattle.swp_frame.proofs.WritingLemmas.{take_all}
-use Rattle.swp_decode.proofs.Gathering.{AreBits-append, AreBits-take, AreBits-drop, low_bits-more}
+use Rattle.swp_frame.proofs.LowBits.{length-low_bits}
+use Rattle.swp_decode.specs.declared.line.Wire.{Wire}
+use Rattle.swp_decode.proofs.Gathering.{AreBits-append, AreBits-behind, low_bits-more}
 use Rattle.swp_decode.proofs.many.many_bits.Goals as goal
 
 -- what is left behind a place
@@ -14,15 +16,27 @@ pub sixteens-init : goal.sixteens-init
 unfolding low_bits
 sixteens-init c = record { within = omega arith; whole = omega arith; s1 = tt; s2 = tt }
 
-pub returns-in_err-bits-clause-none : goal.returns-in_err-bits-clause-none
-returns-in_err-bits-clause-none c =
+pub returns-in_default-sixteen_bits-clause-most : goal.returns-in_default-sixteen_bits-clause-most
+returns-in_default-sixteen_bits-clause-most c small bits has =
     let bytes = c.args.bytes.now in
     let at = c.sixteens.read in
     let sixteen = c.in-Some.ensures.cases.0 ∙ ap (take 16) (left_behind bytes at c.told-bytes) in
-    rw c.from_residual.ensures (λ bits has.
-    c.in_err-bits.ensures.none (take 16 (drop at bits))
-    (subst (λ xs. AreBits S1 xs (take 16 (drop at bits))) (sym sixteen)
-    (AreBits-take S1 16 (drop at bytes) (drop at bits) (AreBits-drop S1 at bytes bits has))))
+    let is = ap (λ n. take (n + 16) bytes) c.first_bits.ensures.known ∙ take-add at 16 bytes ∙ ap (λ xs. take at bytes ++ xs) (sym sixteen) in
+    c.in_default-sixteen_bits.ensures.none (drop (length (take at bytes)) bits)
+    (AreBits-behind S1 (take at bytes) c.in-Some.sixteen.now bits (subst (λ xs. AreBits S1 xs bits) is has))
+
+-- all of sixty-four
+whole_bits : (wire : Wire) (bytes : List ℕ) (read x : ℕ) → read ≡ 64 → AreBits wire (take read bytes) (low_bits read x)
+    → AreBits wire (take 64 bytes) (take 64 (low_bits 64 x))
+whole_bits wire bytes read x full are =
+    subst (λ bits. AreBits wire (take 64 bytes) bits) (sym (take_all (low_bits 64 x) 64 (omega (arith, length-low_bits 64 x))))
+    (subst (λ n. AreBits wire (take n bytes) (low_bits n x)) full are)
+
+pub returns-clause-s1 : goal.returns-clause-s1
+returns-clause-s1 c = whole_bits S1 c.args.bytes.now c.sixteens.read c.sixteens.s1 (search rules) c.sixteens.invariant.s1
+
+pub returns-clause-s2 : goal.returns-clause-s2
+returns-clause-s2 c = whole_bits S2 c.args.bytes.now c.sixteens.read c.sixteens.s2 (search rules) c.sixteens.invariant.s2
 
 pub sixteens-preserved : goal.sixteens-preserved
 sixteens-preserved c =
@@ -34,10 +48,10 @@ sixteens-preserved c =
     record {
       within = omega (arith, few);
       whole = omega (arith, kept.whole);
-      s1 = rw (take-add at 16 bytes, ← sixteen, c.from.ensures, low_bits-more at c.sixteens.s1 c.in_ok-bits.bits.s1 few (omega arith))
+      s1 = rw (take-add at 16 bytes, ← sixteen, c.from.ensures, low_bits-more at c.sixteens.s1 c.in-Some-sixteen_bits.bits.s1 few (omega arith))
           (AreBits-append S1 (take at bytes) c.in-Some.sixteen.now (low_bits at c.sixteens.s1)
-          (low_bits 16 c.in_ok-bits.bits.s1) kept.s1 c.in_ok-bits.ensures.s1);
-      s2 = rw (take-add at 16 bytes, ← sixteen, c.from-in-Some.ensures, low_bits-more at c.sixteens.s2 c.in_ok-bits.bits.s2 few (omega arith))
+          (low_bits 16 c.in-Some-sixteen_bits.bits.s1) kept.s1 c.in-Some-sixteen_bits.ensures.s1);
+      s2 = rw (take-add at 16 bytes, ← sixteen, c.from-in-Some.ensures, low_bits-more at c.sixteens.s2 c.in-Some-sixteen_bits.bits.s2 few (omega arith))
           (AreBits-append S2 (take at bytes) c.in-Some.sixteen.now (low_bits at c.sixteens.s2)
-          (low_bits 16 c.in_ok-bits.bits.s2) kept.s2 c.in_ok-bits.ensures.s2);
+          (low_bits 16 c.in-Some-sixteen_bits.bits.s2) kept.s2 c.in-Some-sixteen_bits.ensures.s2);
     }

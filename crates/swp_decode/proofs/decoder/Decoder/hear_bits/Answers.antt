@@ -1,4 +1,4 @@
-use Rattle.std.proofs.Common.{◌≡◌, ◌<◌, ◌∙◌, ◌+◌, ◌++◌, ℕ, length, take, sym, ap, arith}
+use Rattle.std.proofs.Common.{min, ◌≤◌, ◌≡◌, ◌<◌, ◌∙◌, ◌+◌, ◌++◌, ℕ, length, take, sym, ap, arith}
 use Rattle.std.proofs.Common.{rules}
 use Rattle.std.specs.Int.RustNames.{bit_or}
 use lib.Count.{count_leading_zeros}
@@ -9,10 +9,10 @@ use Rattle.swp_frame.specs.Words.{word_bits}
 use Rattle.swp_decode.specs.declared.line.Wire.TheVariants.{S1, S2}
 use Rattle.swp_decode.specs.Readings.{signal}
 use Rattle.swp_decode.proofs.FurtherBits.{quiet_between, quiet_further, quiet_none}
-use Rattle.swp_decode.proofs.Gathering.{AreBits-take}
+use Rattle.swp_decode.proofs.Gathering.{AreBits-part}
 use Rattle.swp_decode.proofs.FurtherLines.{bits_of_word, stands_behind}
 use Rattle.swp_decode.proofs.FurtherFrames.{frame_of_word, frames_between, frames_through}
-use Rattle.swp_decode.proofs.Marks.{next_of, not_past, none_before, marks_left}
+use Rattle.swp_decode.proofs.Marks.{next_of, not_past, none_before, below_sooner, marks_left}
 use Rattle.swp_decode.proofs.decoder.Decoder.hear_bits.Goals as goal
 use Rattle.swp_decode.proofs.decoder.Decoder.hear_bits.Goals.{then-marks-test+else-passed-lt-MOST_PLACES, else-marks-test}
 
@@ -21,6 +21,7 @@ marks-init c = (
   0,
   record {
     within = omega arith;
+    under = omega arith;
     few = omega arith;
     progress = omega arith;
     marks = sym (mod-eq_of_lt (or_lt 64 c.word-s1.result.marks c.word-s2.result.marks (search rules) (search rules)));
@@ -48,12 +49,22 @@ hear_mark_at-read_s2-requires-clause-order c =
 pub read_between-requires-clause-order : goal.read_between-requires-clause-order
 read_between-requires-clause-order c =
     let kept = c.marks.invariant.1 in
-    not_past c.marks.marks (bit_or c.word-s1.result.marks c.word-s2.result.marks) c.marks.invariant.0 c.marks.read_s1 kept.within kept.marks kept.before_s1
+    omega (
+      arith,
+      kept.before_s1,
+      kept.under,
+      not_past c.marks.marks (bit_or c.word-s1.result.marks c.word-s2.result.marks) c.marks.invariant.0 c.marks.read_s1 kept.within kept.marks kept.before_s1,
+    )
 
 pub read_between-requires-2-clause-order : goal.read_between-requires-2-clause-order
 read_between-requires-2-clause-order c =
     let kept = c.marks.invariant.1 in
-    not_past c.marks.marks (bit_or c.word-s1.result.marks c.word-s2.result.marks) c.marks.invariant.0 c.marks.read_s2 kept.within kept.marks kept.before_s2
+    omega (
+      arith,
+      kept.before_s2,
+      kept.under,
+      not_past c.marks.marks (bit_or c.word-s1.result.marks c.word-s2.result.marks) c.marks.invariant.0 c.marks.read_s2 kept.within kept.marks kept.before_s2,
+    )
 
 pub marks-preserved : goal.marks-preserved
 marks-preserved c =
@@ -66,15 +77,17 @@ marks-preserved c =
     let last : ℕ = count_leading_zeros 64 c.marks.marks in
     let all : ℕ = bit_or word1.marks word2.marks in
     let next = next_of c.marks.marks all read kept.within kept.marks in
-    let inside : last < 64 = next.there (omega (arith, c.marks-test.true)) in
+    let small : last < c.args.bits.known = c.marks-test.true in
+    let inside : last < 64 = omega (arith, small, c.requires.most) in
     let quiet = none_before word1.marks word2.marks c.marks.marks read last next.behind next.within kept.marks next.below in
     let quiet1 = quiet_further word1 c.marks.read_s1 read last kept.before_s1 next.behind next.within kept.quiet_s1 quiet.0 in
     let quiet2 = quiet_further word2 c.marks.read_s2 read last kept.before_s2 next.behind next.within kept.quiet_s2 quiet.1 in
-    let s1 = bits_of_word S1 bytes c.args.bits.s1 word1 c.word-s1.ensures.bits c.requires.s1 in
-    let s2 = bits_of_word S2 bytes c.args.bits.s2 word2 c.word-s2.ensures.bits c.requires.s2 in (
+    let s1 = bits_of_word S1 bytes c.args.bits.known c.args.bits.s1 word1 c.word-s1.ensures.bits c.requires.s1 in
+    let s2 = bits_of_word S2 bytes c.args.bits.known c.args.bits.s2 word2 c.word-s2.ensures.bits c.requires.s2 in (
       last + 1,
       record {
         within = omega (arith, inside);
+        under = omega (arith, small);
         few = omega (arith, c.if-passed-lt-MOST_PLACES.true);
         progress = omega (arith, kept.progress, next.behind);
         marks = marks_left c.marks.marks all read last next.behind inside kept.marks;
@@ -93,28 +106,27 @@ marks-preserved c =
             ∙ ap (λ frames. frames ++ frame_of_word S1 word1 place last (signal S1 older)) (kept.heard older stands))
             ∙ frames_through word1 word2
             (record {
+              known = c.args.bits.known;
               order = next.behind;
+              within = omega (arith, small);
               s1 = s1;
               s2 = s2;
               quiet_s1 = quiet_between word1 (length older) read last (signal S1 older) next.behind next.within behind1 quiet.0;
               quiet_s2 = quiet_between word2 (length older) read last (signal S2 older) next.behind next.within behind2 quiet.1;
             })
-            c.told-bytes inside stands.count;
+            small c.told-bytes inside stands.count;
         sized = omega (arith, kept.sized, c.hear_mark_at-read_s1.ensures.sized, c.hear_mark_at-read_s2.ensures.sized);
       },
     )
 
 pub returns-clause-some : goal.returns-clause-some
-unfolding count_leading_zeros
 returns-clause-some c =
     let next =
     next_of c.marks.marks (bit_or c.word-s1.result.marks c.word-s2.result.marks) c.marks.invariant.0 c.marks.invariant.1.within c.marks.invariant.1.marks in
     elim c.marks-test.branch [
-      | then-marks-test+else-passed-lt-MOST_PLACES w ↦ omega (arith, w.if-passed-lt-MOST_PLACES.false, c.marks.invariant.1.progress, next.behind)
-      | else-marks-test w ↦
-          let none : c.marks.marks ≡ 0 = omega (arith, w.marks-test.false) in
-          let all : count_leading_zeros 64 c.marks.marks ≡ 64 = ap (count_leading_zeros 64) none in
-          omega (arith, all)
+      | then-marks-test+else-passed-lt-MOST_PLACES w ↦
+          omega (arith, w.if-passed-lt-MOST_PLACES.false, c.marks.invariant.1.progress, c.marks.invariant.1.under, next.behind)
+      | else-marks-test w ↦ omega (arith, w.marks-test.false, c.requires.known)
     ]
 
 pub returns-clause-stands : goal.returns-clause-stands
@@ -124,16 +136,22 @@ returns-clause-stands c = λ older stands.
     let word2 = c.word-s2.result in
     let read : ℕ = c.marks.invariant.0 in
     let kept = c.marks.invariant.1 in
-    let to : ℕ = count_leading_zeros 64 c.marks.marks in
+    let all : ℕ = count_leading_zeros 64 c.marks.marks in
+    let to : ℕ = c.min-to.result in
+    let is : to ≡ min all c.args.bits.known = c.min-to.ensures in
     let next = next_of c.marks.marks (bit_or word1.marks word2.marks) read kept.within kept.marks in
-    let quiet = none_before word1.marks word2.marks c.marks.marks read to next.behind next.within kept.marks next.below in
-    let quiet1 = quiet_further word1 c.marks.read_s1 read to kept.before_s1 next.behind next.within kept.quiet_s1 quiet.0 in
-    let quiet2 = quiet_further word2 c.marks.read_s2 read to kept.before_s2 next.behind next.within kept.quiet_s2 quiet.1 in
-    let s1 = bits_of_word S1 bytes c.args.bits.s1 word1 c.word-s1.ensures.bits c.requires.s1 in
-    let s2 = bits_of_word S2 bytes c.args.bits.s2 word2 c.word-s2.ensures.bits c.requires.s2 in
+    let order : read ≤ to = omega (arith, next.behind, kept.under) in
+    let whole : to ≤ 64 = omega (arith, next.within) in
+    let low = below_sooner c.marks.marks to all (omega arith) next.below in
+    let quiet = none_before word1.marks word2.marks c.marks.marks read to order whole kept.marks low in
+    let quiet1 = quiet_further word1 c.marks.read_s1 read to kept.before_s1 order whole kept.quiet_s1 quiet.0 in
+    let quiet2 = quiet_further word2 c.marks.read_s2 read to kept.before_s2 order whole kept.quiet_s2 quiet.1 in
+    let s1 = bits_of_word S1 bytes c.args.bits.known c.args.bits.s1 word1 c.word-s1.ensures.bits c.requires.s1 in
+    let s2 = bits_of_word S2 bytes c.args.bits.known c.args.bits.s2 word2 c.word-s2.ensures.bits c.requires.s2 in
     stands_behind (take to bytes) (take to (word_bits word1)) (take to (word_bits word2))
-    (AreBits-take S1 to bytes (word_bits word1) s1) (AreBits-take S2 to bytes (word_bits word2) s2) stands
-    (omega (arith, length-take-le to bytes (omega (arith, next.within, c.told-bytes))))
+    (AreBits-part S1 c.args.bits.known 0 to bytes (word_bits word1) (omega arith) s1)
+    (AreBits-part S2 c.args.bits.known 0 to bytes (word_bits word2) (omega arith) s2) stands
+    (omega (arith, length-take-le to bytes (omega (arith, whole, c.told-bytes))))
     (c.read_between.ensures (signal S1 older) (c.word-s1.ensures.behind (signal S1 older) stands.s1) quiet1 (kept.s1 (signal S1 older) stands.s1))
     (c.read_between-2.ensures (signal S2 older) (c.word-s2.ensures.behind (signal S2 older) stands.s2) quiet2 (kept.s2 (signal S2 older) stands.s2))
 
@@ -144,19 +162,26 @@ returns-clause-heard c = λ older stands.
     let word2 = c.word-s2.result in
     let read : ℕ = c.marks.invariant.0 in
     let kept = c.marks.invariant.1 in
-    let to : ℕ = count_leading_zeros 64 c.marks.marks in
+    let all : ℕ = count_leading_zeros 64 c.marks.marks in
+    let to : ℕ = c.min-to.result in
+    let is : to ≡ min all c.args.bits.known = c.min-to.ensures in
     let next = next_of c.marks.marks (bit_or word1.marks word2.marks) read kept.within kept.marks in
-    let quiet = none_before word1.marks word2.marks c.marks.marks read to next.behind next.within kept.marks next.below in
-    let s1 = bits_of_word S1 bytes c.args.bits.s1 word1 c.word-s1.ensures.bits c.requires.s1 in
-    let s2 = bits_of_word S2 bytes c.args.bits.s2 word2 c.word-s2.ensures.bits c.requires.s2 in
+    let order : read ≤ to = omega (arith, next.behind, kept.under) in
+    let whole : to ≤ 64 = omega (arith, next.within) in
+    let low = below_sooner c.marks.marks to all (omega arith) next.below in
+    let quiet = none_before word1.marks word2.marks c.marks.marks read to order whole kept.marks low in
+    let s1 = bits_of_word S1 bytes c.args.bits.known c.args.bits.s1 word1 c.word-s1.ensures.bits c.requires.s1 in
+    let s2 = bits_of_word S2 bytes c.args.bits.known c.args.bits.s2 word2 c.word-s2.ensures.bits c.requires.s2 in
     kept.heard older stands
     ∙ sym (frames_between (record {
-      order = next.behind;
+      known = c.args.bits.known;
+      order = order;
+      within = omega arith;
       s1 = s1;
       s2 = s2;
-      quiet_s1 = quiet_between word1 (length older) read to (signal S1 older) next.behind next.within (c.word-s1.ensures.behind (signal S1 older) stands.s1)
+      quiet_s1 = quiet_between word1 (length older) read to (signal S1 older) order whole (c.word-s1.ensures.behind (signal S1 older) stands.s1)
           quiet.0;
-      quiet_s2 = quiet_between word2 (length older) read to (signal S2 older) next.behind next.within (c.word-s2.ensures.behind (signal S2 older) stands.s2)
+      quiet_s2 = quiet_between word2 (length older) read to (signal S2 older) order whole (c.word-s2.ensures.behind (signal S2 older) stands.s2)
           quiet.1;
     }))
 
@@ -164,4 +189,4 @@ pub returns-clause-sized : goal.returns-clause-sized
 returns-clause-sized c =
     let next =
     next_of c.marks.marks (bit_or c.word-s1.result.marks c.word-s2.result.marks) c.marks.invariant.0 c.marks.invariant.1.within c.marks.invariant.1.marks in
-    omega (arith, c.marks.invariant.1.sized, c.marks.invariant.1.progress, next.behind)
+    omega (arith, c.marks.invariant.1.sized, c.marks.invariant.1.progress, c.marks.invariant.1.under, next.behind)

@@ -10,6 +10,7 @@ use Rattle.swp_decode.proofs.decoder.Decoder.hear_bits.Given as goal
 abbrev pub invariant-marks : goal.invariant-marks
 invariant-marks l = (read : ℕ) × record {
   within : read ≤ 64;
+  under : read ≤ l.bits.known;
   few : l.passed ≤ 8;
   progress : l.passed ≤ read;
   marks : l.marks ≡ bit_or l.s1.marks l.s2.marks % 2 ^ (64 - read);
