@@ -20,11 +20,11 @@ use Rattle.node_machine.specs.Node.{new_desk}
 use Rattle.node_machine.specs.world.World.{NodeWorld, Site, site_at, with_site, input_of, port_for, end_c, end_h}
 use Rattle.node_laws.specs.kept.Hosts.{AreDifferent}
 use Rattle.node_laws.specs.telling.Telling.{hosts_in, IfItRuns, IsOrderly}
-use Rattle.node_world.specs.declared.places.HostSite.{HostSite}
+use Rattle.node_sites.specs.declared.places.HostSite.{HostSite}
 use Rattle.node_world.specs.Bounds.{AcksWithin, FewOn, FewBehind, IsFromOutside}
 use Rattle.node_world.specs.Controllers.{SitesAre, MayGoOn, StandsAt}
 use Rattle.node_world.specs.HostSteps.{IsHostOf, CountsOn, CountsComing, HasBecome}
-use Rattle.node_world.specs.Places.{SiteIs, IsPlace}
+use Rattle.node_sites.specs.Places.{SiteIs, IsPlace}
 use Rattle.node_world.specs.Whole.{IsWithinBounds, SitesBecome}
 use Rattle.node_world.proofs.CountsStay.{counts_few_at_end, resets_fit}
 use Rattle.node_world.proofs.FramesToAll.{others_before, of_these}

@@ -23,10 +23,10 @@ use Rattle.node_laws.specs.kept.Books.{hosts_of_ends}
 use Rattle.node_laws.proofs.telling.Nodes.{swapped, link_is}
 use Rattle.node_laws.proofs.telling.Keeping.{steps_keep}
 use Rattle.node_laws.proofs.telling.Events.{site_map}
-use Rattle.node_world.specs.declared.wires.Wires.{Wires}
-use Rattle.node_world.specs.LinksKept.{WiresStandFor}
-use Rattle.node_world.specs.WorldNodes.{as_kept}
-use Rattle.node_world.specs.FramesOut.{sent_port}
+use Rattle.node_sites.specs.declared.wires.Wires.{Wires}
+use Rattle.node_sites.specs.LinksKept.{WiresStandFor}
+use Rattle.node_sites.specs.WorldNodes.{as_kept}
+use Rattle.node_sites.specs.FramesOut.{sent_port}
 use Rattle.node_world.proofs.EndsGo.{EndGoes, controller_ends}
 
 -- ## One link

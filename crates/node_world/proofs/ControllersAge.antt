@@ -12,9 +12,9 @@ use Rattle.node_machine.specs.world.World.{NodeWorld, Site, site_at, link_to, po
 use Rattle.node_laws.specs.telling.Telling.{IsTimely, hosts_in}
 use Rattle.node_laws.proofs.telling.Events.{orderly_map}
 use Rattle.node_world.specs.declared.controller.ControllerPlace.{ControllerPlace}
-use Rattle.node_world.specs.declared.places.HostSite.{HostSite}
-use Rattle.node_world.specs.Numbers.{CountsFew}
-use Rattle.node_world.specs.Places.{IsPlace}
+use Rattle.node_sites.specs.declared.places.HostSite.{HostSite}
+use Rattle.node_sites.specs.Numbers.{CountsFew}
+use Rattle.node_sites.specs.Places.{IsPlace}
 use Rattle.node_world.specs.Controllers.{SitesAre, WorldIs, WorldBecomes, MayGoOn, AreTimely, FewAreCounted, near_ticks}
 
 -- a host whose frames have grown older

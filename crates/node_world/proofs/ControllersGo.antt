@@ -23,10 +23,10 @@ use Rattle.node_laws.specs.kept.Books.{hosts_of_ends}
 use Rattle.node_laws.specs.telling.Telling.{hosts_in}
 use Rattle.node_laws.proofs.telling.Nodes.{swapped}
 use Rattle.node_laws.proofs.telling.Parts.{AreAlike}
-use Rattle.node_world.specs.declared.places.HostSite.{HostSite}
-use Rattle.node_world.specs.LinksKept.{WiresStandFor, with_bare_wires, SameWires}
-use Rattle.node_world.specs.FramesOut.{IsOnly, sent_port}
-use Rattle.node_world.specs.Places.{IsPlace, SiteIs}
+use Rattle.node_sites.specs.declared.places.HostSite.{HostSite}
+use Rattle.node_sites.specs.LinksKept.{WiresStandFor, with_bare_wires, SameWires}
+use Rattle.node_sites.specs.FramesOut.{IsOnly, sent_port}
+use Rattle.node_sites.specs.Places.{IsPlace, SiteIs}
 use Rattle.node_world.specs.Controllers.{SitesAre, due_at, sent_to, has_frames, frames_emitted, HasOneEnd, with_bare_link}
 use Rattle.node_world.proofs.GoingOn.{same_stand, silent_same, same_twice, ended_far}
 

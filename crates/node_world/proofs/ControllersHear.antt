@@ -21,12 +21,12 @@ use Rattle.node_machine.specs.Carrying.{changed_if}
 use Rattle.node_laws.specs.kept.Hosts.{AreDifferent}
 use Rattle.node_laws.specs.telling.Telling.{hosts_in}
 use Rattle.node_core.specs.Noting.{unnumbered}
-use Rattle.node_world.specs.declared.places.HostSite.{HostSite}
-use Rattle.node_world.specs.declared.wires.WireEnd.{WireEnd}
-use Rattle.node_world.specs.declared.wires.Wires.{Wires}
-use Rattle.node_world.specs.LinksKept.{WiresStandFor, WireEndIs, without_first, as_it_comes, IsFirst}
-use Rattle.node_world.specs.WorldNodes.{IsNotedSo}
-use Rattle.node_world.specs.Places.{IsPlace, SiteIs}
+use Rattle.node_sites.specs.declared.places.HostSite.{HostSite}
+use Rattle.node_sites.specs.declared.wires.WireEnd.{WireEnd}
+use Rattle.node_sites.specs.declared.wires.Wires.{Wires}
+use Rattle.node_sites.specs.LinksKept.{WiresStandFor, WireEndIs, without_first, as_it_comes, IsFirst}
+use Rattle.node_sites.specs.WorldNodes.{IsNotedSo}
+use Rattle.node_sites.specs.Places.{IsPlace, SiteIs}
 use Rattle.node_world.specs.Controllers.{SitesAre, HaveRoom, StandsAt, as_it_comes_to}
 use Rattle.node_world.proofs.Behind.{each_found}
 use Rattle.node_world.proofs.FramesToAll.{of_these, others_before}

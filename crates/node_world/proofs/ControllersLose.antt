@@ -19,9 +19,9 @@ use Rattle.node_machine.specs.world.World.{NodeWorld, Site, site_at, with_site, 
 use Rattle.node_core.specs.Running.{one_more_error}
 use Rattle.node_laws.specs.telling.Telling.{HasEnds, IfItRuns, hosts_in}
 use Rattle.node_laws.proofs.telling.Nodes.{link_is, stands, Stands}
-use Rattle.node_world.specs.declared.places.HostSite.{HostSite}
-use Rattle.node_world.specs.WorldNodes.{HasEndOf}
-use Rattle.node_world.specs.Places.{IsPlace}
+use Rattle.node_sites.specs.declared.places.HostSite.{HostSite}
+use Rattle.node_sites.specs.WorldNodes.{HasEndOf}
+use Rattle.node_sites.specs.Places.{IsPlace}
 use Rattle.node_world.specs.HostSteps.{IsHostOf, is_broken}
 use Rattle.node_world.specs.Controllers.{SitesAre, WorldBecomes, MayGoOn, StandsAt}
 use Rattle.node_world.proofs.HostsLose.{counts_plain, counts_none, counts_one}

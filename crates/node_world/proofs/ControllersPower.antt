@@ -23,11 +23,11 @@ use Rattle.node_ends.specs.Making.{new_port}
 use Rattle.node_laws.specs.telling.Telling.{IfOff, hosts_in}
 use Rattle.node_laws.proofs.telling.Nodes.{link_is}
 use Rattle.node_world.specs.declared.controller.ControllerPlace.{ControllerPlace}
-use Rattle.node_world.specs.declared.places.HostSite.{HostSite}
-use Rattle.node_world.specs.WorldNodes.{as_kept}
-use Rattle.node_world.specs.Places.{IsPlace}
+use Rattle.node_sites.specs.declared.places.HostSite.{HostSite}
+use Rattle.node_sites.specs.WorldNodes.{as_kept}
+use Rattle.node_sites.specs.Places.{IsPlace}
 use Rattle.node_world.specs.Controllers.{SitesAre, WorldIs, WorldBecomes, MayGoOn, AreTimely, with_bare_link}
-use Rattle.node_world.specs.Memories.{IsSoundMemory}
+use Rattle.node_sites.specs.Memories.{IsSoundMemory}
 use Rattle.node_world.proofs.Behind.{each_found}
 use Rattle.node_world.proofs.GoingOn.{goes_on, cut_same, same_stand, ended_far}
 

@@ -15,10 +15,10 @@ use Rattle.node_laws.specs.kept.Books.{hosts_of_ends}
 use Rattle.node_laws.specs.kept.Hosts.{AreDifferent}
 use Rattle.node_laws.specs.telling.Telling.{hosts_in}
 use Rattle.node_world.specs.declared.controller.ControllerPlace.{ControllerPlace}
-use Rattle.node_world.specs.declared.places.HostSite.{HostSite}
-use Rattle.node_world.specs.WorldNodes.{as_kept, GoesOutWhole}
-use Rattle.node_world.specs.FramesOut.{sent_port}
-use Rattle.node_world.specs.Places.{IsPlace}
+use Rattle.node_sites.specs.declared.places.HostSite.{HostSite}
+use Rattle.node_sites.specs.WorldNodes.{as_kept, GoesOutWhole}
+use Rattle.node_sites.specs.FramesOut.{sent_port}
+use Rattle.node_sites.specs.Places.{IsPlace}
 use Rattle.node_world.specs.Controllers.{SitesAre, WorldBecomes, SendsTo, HasOneEnd, sent_to, GoesOnWith, WentOffWith}
 use Rattle.node_world.proofs.Behind.{each_found, next_ports, all_sides}
 use Rattle.node_world.proofs.ControllersGo.{EndSteps, EachSteps, midway, midway_hosts, each_one, sent_everywhere, told_alike, none_told, midway_stands}

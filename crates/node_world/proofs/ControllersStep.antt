@@ -34,19 +34,19 @@ use Rattle.node_laws.specs.telling.Telling.{HasEnds, IfItRuns, hosts_in}
 use Rattle.node_laws.proofs.telling.Nodes.{link_is, stands, Stands}
 use Rattle.node_laws.proofs.telling.Parts.{AreAlike}
 use Rattle.node_world.specs.declared.controller.ControllerPlace.{ControllerPlace}
-use Rattle.node_world.specs.declared.places.HostSite.{HostSite}
-use Rattle.node_world.specs.LinksKept.{SameWires, as_it_comes}
-use Rattle.node_world.specs.WorldNodes.{as_kept, BeginsAt, GoesOutWhole, HasGone}
-use Rattle.node_world.specs.Numbers.{AreNumbered, CountsFew, StaysCounted}
-use Rattle.node_world.specs.Places.{IsPlace}
+use Rattle.node_sites.specs.declared.places.HostSite.{HostSite}
+use Rattle.node_sites.specs.LinksKept.{SameWires, as_it_comes}
+use Rattle.node_sites.specs.WorldNodes.{as_kept, BeginsAt, GoesOutWhole, HasGone}
+use Rattle.node_sites.specs.Numbers.{AreNumbered, CountsFew, StaysCounted}
+use Rattle.node_sites.specs.Places.{IsPlace}
 use Rattle.node_world.specs.Controllers.{SitesAre, WorldBecomes, MayGoOn, FewAreCounted, AreSessions, as_it_comes_to, SendsTo, EndsStep}
 use Rattle.node_world.specs.Controllers.{GoesOnWith, WentOffWith}
 use Rattle.node_world.proofs.HostsBegin.{near_side}
 use Rattle.node_world.proofs.HostsHear.{number_coming}
 use Rattle.node_world.proofs.EndsGo.{EndGoes, controller_ends}
 use Rattle.node_world.proofs.Behind.{each_found, hosts_kept}
-use Rattle.node_world.proofs.Numbered.{stepped}
-use Rattle.node_world.proofs.Renumbered.{work_numbers, arrival_numbered}
+use Rattle.node_sites.proofs.Numbered.{stepped}
+use Rattle.node_sites.proofs.Renumbered.{work_numbers, arrival_numbered}
 use Rattle.node_world.proofs.ControllersGo.{EndSteps}
 use Rattle.node_world.proofs.ControllersStand.{mid_hosts, sends_them, went_on, went_off}
 

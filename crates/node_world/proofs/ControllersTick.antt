@@ -21,18 +21,18 @@ use Rattle.node_laws.specs.telling.Telling.{HasEnds, IfItRuns, IfOff, IfDue, hos
 use Rattle.node_laws.proofs.telling.Keeping.{tick_keeps}
 use Rattle.node_laws.proofs.telling.Nodes.{link_is, hosts_same}
 use Rattle.node_world.specs.declared.controller.ControllerPlace.{ControllerPlace}
-use Rattle.node_world.specs.declared.places.HostSite.{HostSite}
-use Rattle.node_world.specs.LinksKept.{SameWires}
-use Rattle.node_world.specs.WorldNodes.{as_kept, BeginsOver, GoesOutWhole, HasGone, MayBeginStep}
-use Rattle.node_world.specs.Numbers.{AreNumbered, CountsFew}
-use Rattle.node_world.specs.Places.{IsPlace, SiteIs}
+use Rattle.node_sites.specs.declared.places.HostSite.{HostSite}
+use Rattle.node_sites.specs.LinksKept.{SameWires}
+use Rattle.node_sites.specs.WorldNodes.{as_kept, BeginsOver, GoesOutWhole, HasGone, MayBeginStep}
+use Rattle.node_sites.specs.Numbers.{AreNumbered, CountsFew}
+use Rattle.node_sites.specs.Places.{IsPlace, SiteIs}
 use Rattle.node_world.specs.Controllers.{SitesAre, WorldIs, WorldBecomes, MayGoOn, AreTimely, FewAreCounted, AreSessions, EndsStep, GoesOnWith, WentOffWith}
 use Rattle.node_world.proofs.GoingOn.{same_stand, same_twice}
 use Rattle.node_world.proofs.Behind.{each_found, all_far}
 use Rattle.node_world.proofs.HostsStay.{becomes_same}
 use Rattle.node_world.proofs.TicksGo.{ticks_on, NearTicks, controller_end_ticks}
-use Rattle.node_world.proofs.Numbered.{stepped}
-use Rattle.node_world.proofs.Renumbered.{work_numbers}
+use Rattle.node_sites.proofs.Numbered.{stepped}
+use Rattle.node_sites.proofs.Renumbered.{work_numbers}
 use Rattle.node_world.proofs.ControllersGo.{EndSteps}
 use Rattle.node_world.proofs.ControllersStand.{mid_hosts, sends_them, went_on, went_off}
 use Rattle.node_world.proofs.ControllersStep.{ends_sent, ends_fresh}

@@ -14,7 +14,7 @@ use Rattle.node_machine.specs.Parts.{Desk, Port}
 use Rattle.node_machine.specs.Node.{input_at, has_come}
 use Rattle.node_machine.specs.Node.NodeInput.{AtEnd, TimePasses}
 use Rattle.node_machine.specs.world.World.{Site, Happening, site_at, link_to, near_end_in, port_for}
-use Rattle.node_world.specs.Numbers.{StaysCounted, CountsFew}
+use Rattle.node_sites.specs.Numbers.{StaysCounted, CountsFew}
 use Rattle.node_world.specs.Bounds.{AcksWithin, FewOn, FewOnEach, AckWithin, IsFromOutside}
 use Rattle.node_world.proofs.FewAtEnds.{Nearly, whole_within, input_nearly, reset_nearly}
 

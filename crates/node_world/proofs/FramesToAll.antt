@@ -19,11 +19,11 @@ use Rattle.node_machine.specs.world.World.{Site}
 use Rattle.node_laws.specs.kept.Hosts.{AreDifferent}
 use Rattle.node_laws.specs.telling.Telling.{hosts_in}
 use Rattle.node_laws.proofs.telling.Nodes.{swapped}
-use Rattle.node_world.specs.declared.places.HostSite.{HostSite}
-use Rattle.node_world.specs.declared.wires.Wires.{Wires}
-use Rattle.node_world.specs.LinksKept.{WiresStandFor}
-use Rattle.node_world.specs.FramesOut.{IsOnly, sent_port, SendsFrom}
-use Rattle.node_world.specs.Places.{IsPlace, SiteIs}
+use Rattle.node_sites.specs.declared.places.HostSite.{HostSite}
+use Rattle.node_sites.specs.declared.wires.Wires.{Wires}
+use Rattle.node_sites.specs.LinksKept.{WiresStandFor}
+use Rattle.node_sites.specs.FramesOut.{IsOnly, sent_port, SendsFrom}
+use Rattle.node_sites.specs.Places.{IsPlace, SiteIs}
 use Rattle.node_world.specs.Controllers.{SitesAre, HaveRoom, due_at, sent_to, has_frames, frames_emitted, HasOneEnd}
 use Rattle.node_world.proofs.Behind.{all_far}
 use Rattle.node_world.proofs.SitesKept.{Walked, Next, walk_begins, walk_next, walk_ends}

@@ -12,8 +12,8 @@ use Rattle.link_laws.specs.messages.Links.Comes.{NextFrame, AsksReset, Starts, S
 use Rattle.link_wires.specs.Wires.{WireStandsFor}
 use Rattle.node_machine.specs.world.World.{input_of, near_end_in}
 use Rattle.node_laws.proofs.telling.Parts.{after_coming, IsStep}
-use Rattle.node_world.specs.declared.wires.Wires.{Wires}
-use Rattle.node_world.specs.LinksKept.{WiresStandFor, with_bare_wires, without_first, SameWires, as_it_comes}
+use Rattle.node_sites.specs.declared.wires.Wires.{Wires}
+use Rattle.node_sites.specs.LinksKept.{WiresStandFor, with_bare_wires, without_first, SameWires, as_it_comes}
 
 -- ## The same wires
 

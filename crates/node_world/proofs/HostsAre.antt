@@ -18,9 +18,9 @@ use Rattle.node_machine.specs.Node.{steps}
 use Rattle.node_machine.specs.Node.NodeInput.{AtEnd}
 use Rattle.node_machine.specs.world.World.{Site, input_of, wires_for, frames_noted, host_work, host_ticks}
 use Rattle.node_machine.proofs.world.Cases.{host_tick, after_tick}
-use Rattle.node_world.specs.declared.places.HostSite.{HostSite}
-use Rattle.node_world.specs.LinksKept.{IsFirst, IsReadFirst}
-use Rattle.node_world.specs.Places.{IsPlace, SiteIs}
+use Rattle.node_sites.specs.declared.places.HostSite.{HostSite}
+use Rattle.node_sites.specs.LinksKept.{IsFirst, IsReadFirst}
+use Rattle.node_sites.specs.Places.{IsPlace, SiteIs}
 use Rattle.node_world.specs.HostSteps.{host_stepped, host_hears, host_behind, HasBecome}
 
 -- ## What is kept

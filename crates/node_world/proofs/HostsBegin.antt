@@ -15,9 +15,9 @@ use Rattle.node_machine.specs.Carrying.{port_at}
 use Rattle.node_machine.specs.world.World.{Site, near_end_in, arrival, port_for, work_of}
 use Rattle.node_laws.specs.telling.Telling.{HasEnds, IfItRuns}
 use Rattle.node_laws.proofs.telling.Nodes.{host_opened}
-use Rattle.node_world.specs.declared.places.HostSite.{HostSite}
-use Rattle.node_world.specs.WorldNodes.{as_kept, BeginsOver, BeginsAt, HasEndOf, MayBeginAt, MayBeginStep}
-use Rattle.node_world.specs.Places.{IsPlace, SiteIs}
+use Rattle.node_sites.specs.declared.places.HostSite.{HostSite}
+use Rattle.node_sites.specs.WorldNodes.{as_kept, BeginsOver, BeginsAt, HasEndOf, MayBeginAt, MayBeginStep}
+use Rattle.node_sites.specs.Places.{IsPlace, SiteIs}
 use Rattle.node_world.specs.HostSteps.{IsHostOf}
 
 -- what comes changes no end by itself

@@ -16,12 +16,12 @@ use Rattle.node_machine.specs.Parts.{Core, Running, Port}
 use Rattle.node_machine.specs.Node.{found, boot_writes, new_desk}
 use Rattle.node_machine.specs.world.World.{Site, host_cut, port_for}
 use Rattle.node_ends.specs.Making.{new_port}
-use Rattle.node_world.specs.declared.places.HostSite.{HostSite}
-use Rattle.node_world.specs.declared.wires.Wires.{Wires}
-use Rattle.node_world.specs.LinksKept.{WiresStandFor, with_bare_wires}
-use Rattle.node_world.specs.WorldNodes.{as_kept}
-use Rattle.node_world.specs.Places.{IsPlace, SiteIs}
-use Rattle.node_world.specs.Memories.{IsSoundMemory}
+use Rattle.node_sites.specs.declared.places.HostSite.{HostSite}
+use Rattle.node_sites.specs.declared.wires.Wires.{Wires}
+use Rattle.node_sites.specs.LinksKept.{WiresStandFor, with_bare_wires}
+use Rattle.node_sites.specs.WorldNodes.{as_kept}
+use Rattle.node_sites.specs.Places.{IsPlace, SiteIs}
+use Rattle.node_sites.specs.Memories.{IsSoundMemory}
 use Rattle.node_world.specs.HostSteps.{host_boots, HasBecome}
 use Rattle.node_world.proofs.GoingOn.{goes_on, cut_same, same_stand, same_exchanged}
 

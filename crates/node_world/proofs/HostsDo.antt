@@ -16,13 +16,13 @@ use Rattle.node_machine.specs.Parts.{Core, Port, Work}
 use Rattle.node_machine.specs.Carrying.{port_at}
 use Rattle.node_machine.specs.world.World.{Site, ending_of, frames_noted}
 use Rattle.node_laws.specs.kept.Books.{hosts_of_ends}
-use Rattle.node_world.specs.declared.places.HostSite.{HostSite}
-use Rattle.node_world.specs.LinksKept.{WiresStandFor}
-use Rattle.node_world.specs.WorldNodes.{GoesOutWhole, as_kept}
-use Rattle.node_world.specs.FramesOut.{IsOnly}
-use Rattle.node_world.specs.Places.{IsFinishing, RunsOn, WentOff}
+use Rattle.node_sites.specs.declared.places.HostSite.{HostSite}
+use Rattle.node_sites.specs.LinksKept.{WiresStandFor}
+use Rattle.node_sites.specs.WorldNodes.{GoesOutWhole, as_kept}
+use Rattle.node_sites.specs.FramesOut.{IsOnly}
+use Rattle.node_sites.specs.Places.{IsFinishing, RunsOn, WentOff}
 use Rattle.node_world.specs.HostSteps.{host_behind, IsToSend, HasBecome}
-use Rattle.node_world.proofs.FramesGoOut.{at_found}
+use Rattle.node_sites.proofs.FramesGoOut.{at_found}
 use Rattle.node_world.proofs.HostsGo.{one_port, host_runs_on, host_went_off}
 
 -- the one end of a host is its only one

@@ -10,7 +10,7 @@ use Rattle.link_laws.specs.messages.Links.{Comes}
 use Rattle.node_machine.specs.world.World.{NodeWorld, Site, site_at, end_h, host_does}
 use Rattle.node_machine.specs.world.Lines.{refusal_in}
 use Rattle.node_laws.specs.telling.Telling.{IsOrderly}
-use Rattle.node_world.specs.declared.places.HostSite.{HostSite}
+use Rattle.node_sites.specs.declared.places.HostSite.{HostSite}
 use Rattle.node_world.specs.Controllers.{SitesAre, StandsAt}
 use Rattle.node_world.specs.HostSteps.{host_stepped, reset_refused_at, sending_refused, BecomesUnless}
 use Rattle.node_world.specs.Whole.{SitesBecome, if_accepted}

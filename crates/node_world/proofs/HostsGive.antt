@@ -15,7 +15,7 @@ use Rattle.node_core.specs.declared.node.Node.{Node}
 use Rattle.node_core.specs.Giving.{IsAsked}
 use Rattle.node_core.specs.Running.{RunsAs, HasStepped}
 use Rattle.node_core.proofs.Sendings.{given_order, given_other, given_both}
-use Rattle.node_world.specs.WorldNodes.{BeginsOver, HasGone, IsNotedSo, RunsAsHost}
+use Rattle.node_sites.specs.WorldNodes.{BeginsOver, HasGone, IsNotedSo, RunsAsHost}
 use Rattle.node_world.proofs.Regardless.{bare, all_regardless}
 use Rattle.node_world.proofs.NodesRun.{memory_in, still_host}
 

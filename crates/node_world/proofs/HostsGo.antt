@@ -14,11 +14,11 @@ use Rattle.node_machine.specs.Carrying.{port_at, with_port, changed_if}
 use Rattle.node_machine.specs.world.World.{Site, turns_at, port_for}
 use Rattle.node_laws.specs.kept.Books.{hosts_of_ends}
 use Rattle.node_laws.proofs.telling.Accounts.{at_host}
-use Rattle.node_world.specs.declared.places.HostSite.{HostSite}
-use Rattle.node_world.specs.LinksKept.{SameWires, with_bare_wires}
-use Rattle.node_world.specs.WorldNodes.{as_kept}
-use Rattle.node_world.specs.FramesOut.{sent_port}
-use Rattle.node_world.specs.Places.{IsPlace, SiteIs, RunsOn, WentOff}
+use Rattle.node_sites.specs.declared.places.HostSite.{HostSite}
+use Rattle.node_sites.specs.LinksKept.{SameWires, with_bare_wires}
+use Rattle.node_sites.specs.WorldNodes.{as_kept}
+use Rattle.node_sites.specs.FramesOut.{sent_port}
+use Rattle.node_sites.specs.Places.{IsPlace, SiteIs, RunsOn, WentOff}
 use Rattle.node_world.specs.HostSteps.{EndDoes, host_behind}
 use Rattle.node_world.proofs.GoingOn.{same_stand, same_exchanged, silent_same}
 

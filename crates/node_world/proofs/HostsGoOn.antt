@@ -22,12 +22,12 @@ use Rattle.node_machine.proofs.world.Cases.{host_tick}
 use Rattle.node_laws.specs.telling.Telling.{NoneDue}
 use Rattle.node_laws.proofs.telling.Mute.{AreMute}
 use Rattle.node_core.specs.Noting.{unnumbered}
-use Rattle.node_world.specs.declared.places.HostSite.{HostSite}
-use Rattle.node_world.specs.declared.wires.WireEnd.{WireEnd}
-use Rattle.node_world.specs.declared.wires.Wires.{Wires}
-use Rattle.node_world.specs.LinksKept.{WireEndIs, WiresStandFor, as_it_comes, without_first, IsFirst}
-use Rattle.node_world.specs.WorldNodes.{as_kept, BeginsOver, BeginsAt, HasGone, IsNotedSo}
-use Rattle.node_world.specs.Places.{IsPlace, SiteIs}
+use Rattle.node_sites.specs.declared.places.HostSite.{HostSite}
+use Rattle.node_sites.specs.declared.wires.WireEnd.{WireEnd}
+use Rattle.node_sites.specs.declared.wires.Wires.{Wires}
+use Rattle.node_sites.specs.LinksKept.{WireEndIs, WiresStandFor, as_it_comes, without_first, IsFirst}
+use Rattle.node_sites.specs.WorldNodes.{as_kept, BeginsOver, BeginsAt, HasGone, IsNotedSo}
+use Rattle.node_sites.specs.Places.{IsPlace, SiteIs}
 use Rattle.node_world.specs.HostSteps.{host_stepped, host_hears, host_behind, IsHostOf, CountsComing, MayTick, IsToSend, HasBecome}
 use Rattle.node_world.proofs.HostsBegin.{begins_at_end}
 use Rattle.node_world.proofs.HostsAre.{IsOn, is_on, goes_by, stepped_on, hears_on, ticks_on, hears_none, none_first, first_taken}

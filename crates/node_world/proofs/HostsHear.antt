@@ -27,13 +27,13 @@ use Rattle.node_laws.specs.kept.Books.{hosts_of_ends}
 use Rattle.node_laws.specs.telling.Telling.{HasEnds, IfItRuns, is_due}
 use Rattle.node_laws.proofs.telling.Mute.{AreMute}
 use Rattle.node_laws.proofs.telling.Keeping.{Keeps, steps_keep, tick_keeps, begins_keep}
-use Rattle.node_world.specs.declared.places.HostSite.{HostSite}
-use Rattle.node_world.specs.LinksKept.{WiresStandFor, SameWires, as_it_comes, without_first}
-use Rattle.node_world.specs.Numbers.{AreNumbered, StaysCounted, CountsFew}
-use Rattle.node_world.specs.WorldNodes.{HasGone, IsNotedSo}
+use Rattle.node_sites.specs.declared.places.HostSite.{HostSite}
+use Rattle.node_sites.specs.LinksKept.{WiresStandFor, SameWires, as_it_comes, without_first}
+use Rattle.node_sites.specs.Numbers.{AreNumbered, StaysCounted, CountsFew}
+use Rattle.node_sites.specs.WorldNodes.{HasGone, IsNotedSo}
 use Rattle.node_world.specs.HostSteps.{IsHostOf, CountsOn, EndDoes, IsToSend}
-use Rattle.node_world.proofs.Numbered.{Numbers, stepped, begun}
-use Rattle.node_world.proofs.Renumbered.{work_numbers, arrival_numbered}
+use Rattle.node_sites.proofs.Numbered.{Numbers, stepped, begun}
+use Rattle.node_sites.proofs.Renumbered.{work_numbers, arrival_numbered}
 use Rattle.node_world.proofs.GoingOn.{same_stand, same_exchanged}
 use Rattle.node_world.proofs.EndsGo.{EndGoes, host_ends, host_begins}
 use Rattle.node_world.proofs.TicksGo.{EndTicks, host_end_ticks}

@@ -14,9 +14,9 @@ use Rattle.node_machine.specs.Carrying.{with_port, changed_if}
 use Rattle.node_machine.specs.Node.{with_error}
 use Rattle.node_machine.specs.world.World.{Site, port_for, counts}
 use Rattle.node_core.specs.Running.{one_more_error}
-use Rattle.node_world.specs.declared.places.HostSite.{HostSite}
-use Rattle.node_world.specs.LinksKept.{WiresStandFor}
-use Rattle.node_world.specs.Places.{IsPlace, SiteIs}
+use Rattle.node_sites.specs.declared.places.HostSite.{HostSite}
+use Rattle.node_sites.specs.LinksKept.{WiresStandFor}
+use Rattle.node_sites.specs.Places.{IsPlace, SiteIs}
 use Rattle.node_world.specs.HostSteps.{IsHostOf, is_broken, site_loses}
 use Rattle.node_world.proofs.Plainly.{same_host}
 use Rattle.node_world.proofs.HostsRefuse.{OwnEnd, own_end}

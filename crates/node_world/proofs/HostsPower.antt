@@ -17,10 +17,10 @@ use Rattle.node_machine.specs.world.World.{NodeWorld, Site, site_at, with_site, 
 use Rattle.node_machine.specs.world.World.Happening.{IsCut, Arms}
 use Rattle.node_laws.specs.telling.Telling.{IsOrderly}
 use Rattle.node_laws.proofs.telling.Nodes.{link_is}
-use Rattle.node_world.specs.declared.places.HostSite.{HostSite}
+use Rattle.node_sites.specs.declared.places.HostSite.{HostSite}
 use Rattle.node_world.specs.Controllers.{SitesAre, StandsAt}
 use Rattle.node_world.specs.HostSteps.{site_loses}
-use Rattle.node_world.specs.Places.{SiteIs}
+use Rattle.node_sites.specs.Places.{SiteIs}
 use Rattle.node_world.specs.Whole.{SitesBecome}
 use Rattle.node_world.proofs.AtHosts.{site_changes, site_stands}
 use Rattle.node_world.proofs.SitesKept.{written_there}

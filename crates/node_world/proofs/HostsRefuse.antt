@@ -21,9 +21,9 @@ use Rattle.node_core.specs.Running.{reset_refusal_at}
 use Rattle.node_laws.specs.telling.Telling.{HasEnds, IfItRuns}
 use Rattle.node_laws.proofs.telling.Mute.{AreMute}
 use Rattle.node_laws.proofs.telling.Nodes.{host_opened}
-use Rattle.node_world.specs.declared.places.HostSite.{HostSite}
-use Rattle.node_world.specs.WorldNodes.{as_kept}
-use Rattle.node_world.specs.Places.{IsPlace, SiteIs}
+use Rattle.node_sites.specs.declared.places.HostSite.{HostSite}
+use Rattle.node_sites.specs.WorldNodes.{as_kept}
+use Rattle.node_sites.specs.Places.{IsPlace, SiteIs}
 use Rattle.node_world.specs.HostSteps.{IsHostOf, HasBecome, reset_noted, reset_refused_at, sending_refused}
 use Rattle.node_world.proofs.HostsAre.{is_on}
 

@@ -13,9 +13,9 @@ use Rattle.link_laws.specs.messages.Links.Ending.{GoesOut}
 use Rattle.node_machine.specs.Parts.{Core, Running, Port}
 use Rattle.node_machine.specs.world.World.{Site, host_ticks}
 use Rattle.node_laws.specs.telling.Telling.{IfOff}
-use Rattle.node_world.specs.declared.places.HostSite.{HostSite}
-use Rattle.node_world.specs.LinksKept.{SameWires}
-use Rattle.node_world.specs.Places.{IsPlace, SiteIs}
+use Rattle.node_sites.specs.declared.places.HostSite.{HostSite}
+use Rattle.node_sites.specs.LinksKept.{SameWires}
+use Rattle.node_sites.specs.Places.{IsPlace, SiteIs}
 use Rattle.node_world.specs.HostSteps.{MayTick, HasBecome}
 use Rattle.node_world.proofs.GoingOn.{same_stand, same_exchanged, same_twice}
 use Rattle.node_world.proofs.TicksGo.{ticks_on}

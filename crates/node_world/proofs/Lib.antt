@@ -1,11 +1,7 @@
-pub mod Numbered
-pub mod Renumbered
-pub mod Links
 pub mod GoingOn
 pub mod EndsGo
 pub mod Behind
 pub mod TicksGo
-pub mod FramesGoOut
 pub mod HostsGo
 pub mod HostsDo
 pub mod HostsHear

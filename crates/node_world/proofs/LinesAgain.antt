@@ -24,7 +24,7 @@ use Rattle.node_machine.proofs.world.Cases.{by_coming, by_controller, by_control
 use Rattle.node_laws.specs.telling.Telling.{hosts_in}
 use Rattle.node_laws.proofs.telling.Orderly.{hosts_ticked, step_orderly}
 use Rattle.node_world.specs.declared.controller.ControllerPlace.{ControllerPlace}
-use Rattle.node_world.specs.declared.places.HostSite.{HostSite}
+use Rattle.node_sites.specs.declared.places.HostSite.{HostSite}
 use Rattle.node_world.specs.Bounds.{FewBehind}
 use Rattle.node_world.specs.Controllers.{IsThere, MayGoOn, SitesAre, WorldBecomes, WorldIs}
 use Rattle.node_world.specs.Rounds.{WorldHasGone}

@@ -16,7 +16,7 @@ use Rattle.node_machine.specs.world.World.{NodeWorld, Happening, Site, site_at, 
 use Rattle.node_machine.specs.world.Lines.{first_cause, goes_on, if_off, is_running, line_step, refusal_in}
 use Rattle.node_laws.specs.telling.Telling.{hosts_in}
 use Rattle.node_world.specs.declared.controller.ControllerPlace.{ControllerPlace}
-use Rattle.node_world.specs.declared.places.HostSite.{HostSite}
+use Rattle.node_sites.specs.declared.places.HostSite.{HostSite}
 use Rattle.node_world.specs.Controllers.{IsThere, WorldIs, WorldBecomes}
 use Rattle.node_world.specs.Whole.{LinePlayed}
 use Rattle.node_world.proofs.LinesGo.{one_step, world_goes, world_refused}

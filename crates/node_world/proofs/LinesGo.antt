@@ -16,7 +16,7 @@ use Rattle.node_machine.specs.world.Lines.{LineOutcome, refusal_in, goes_on, lin
 use Rattle.node_machine.specs.world.Lines.LineOutcome.{WasRefused, Occurred}
 use Rattle.node_laws.specs.telling.Telling.{hosts_in}
 use Rattle.node_world.specs.declared.controller.ControllerPlace.{ControllerPlace}
-use Rattle.node_world.specs.declared.places.HostSite.{HostSite}
+use Rattle.node_sites.specs.declared.places.HostSite.{HostSite}
 use Rattle.node_world.specs.Controllers.{SitesAre, WorldIs, WorldBecomes, IsThere}
 use Rattle.node_world.specs.Whole.{HostsPlayed, IsWithinBounds, LinePlayed, MayPlay, SitesBecome}
 use Rattle.node_world.proofs.FewInWorlds.{longer}

@@ -18,9 +18,9 @@ use Rattle.node_laws.specs.telling.Telling.{HasEnds, IfItRuns, IfOff, hosts_in}
 use Rattle.node_laws.proofs.telling.Nodes.{link_is}
 use Rattle.node_ends.specs.Ends.{are_at_rest}
 use Rattle.node_world.specs.declared.controller.ControllerPlace.{ControllerPlace}
-use Rattle.node_world.specs.declared.places.HostSite.{HostSite}
+use Rattle.node_sites.specs.declared.places.HostSite.{HostSite}
 use Rattle.node_world.specs.Controllers.{AreTimely, MayGoOn, SitesAre}
-use Rattle.node_world.specs.Places.{IsPlace, SiteIs}
+use Rattle.node_sites.specs.Places.{IsPlace, SiteIs}
 use Rattle.node_world.specs.Rounds.{IsToLookAt, far_rests, near_rests}
 use Rattle.node_world.proofs.Behind.{each_found}
 use Rattle.node_world.proofs.PlacesFound.{There, there}

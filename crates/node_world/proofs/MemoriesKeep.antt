@@ -38,7 +38,7 @@ use Rattle.node_laws.proofs.kept.Ticking.{ticks_goes}
 use Rattle.node_laws.proofs.kept.Lines.{MayAllHappen, line_may}
 use Rattle.node_laws.proofs.kept.Kept.{all_begin}
 use Rattle.hci_store.proofs.Applying.{sound_has_no_fault}
-use Rattle.node_world.specs.Memories.{KeepsSome, IsSoundMemory}
+use Rattle.node_sites.specs.Memories.{KeepsSome, IsSoundMemory}
 use Rattle.node_world.proofs.Versions.{boots_find_version_02}
 use Rattle.node_world.proofs.MemoryReads.{reads_at_first, reads_behind_step}
 use Rattle.node_world.proofs.Booting.{as_found, told_as_found, runs_as_found}

@@ -20,7 +20,7 @@ use Rattle.node_machine.specs.world.World.{world_step, sending, beginning}
 use Rattle.node_machine.specs.world.World.Happening.{Boots, IsCut, Gives, Inits, Takes, Loses, Ticks, Resets, Activates, Arms}
 use Rattle.node_machine.proofs.world.Cases.{by_controller, by_host, by_coming, by_power, by_memory, by_running, boot_written, boot_found, by_boot, by_loss}
 use Rattle.node_machine.proofs.world.Cases.{site_lost, site_ticked, near_tick, host_tick, by_controller_tick, by_host_tick}
-use Rattle.node_world.specs.Memories.{ReadsGoThrough}
+use Rattle.node_sites.specs.Memories.{ReadsGoThrough}
 
 -- ## One memory
 

@@ -12,7 +12,7 @@ use Rattle.node_core.specs.declared.node.Node.{Node}
 use Rattle.node_core.specs.Bringing.{Brings}
 use Rattle.node_core.specs.Running.{RunsAs, BeginsStep, HasStepped, MayStep}
 use Rattle.node_core.proofs.Planned.{planned_step, planned_writes}
-use Rattle.node_world.specs.WorldNodes.{BeginsOver, MayBeginStep, MayBeginAt, HasGone, IsNotedSo, RunsAsHost}
+use Rattle.node_sites.specs.WorldNodes.{BeginsOver, MayBeginStep, MayBeginAt, HasGone, IsNotedSo, RunsAsHost}
 use Rattle.node_world.proofs.Regardless.{bare, IsRegardless}
 
 -- where its memory lies

@@ -18,8 +18,8 @@ use Rattle.link_laws.specs.messages.Links.{NumberedEnd}
 use Rattle.node_machine.specs.Node.{boot_writes}
 use Rattle.node_machine.specs.world.World.{NodeWorld, Site, site_at, with_site, host_cut, loses_power_at, memory_at, with_memory, with_node, node_at, boots}
 use Rattle.node_machine.proofs.world.Cases.{boot_found, boot_written}
-use Rattle.node_world.specs.Memories.{IsSoundMemory}
-use Rattle.node_world.specs.Places.{IsPlace}
+use Rattle.node_sites.specs.Memories.{IsSoundMemory}
+use Rattle.node_sites.specs.Places.{IsPlace}
 use Rattle.node_world.specs.Worlds.{IsOneOf, IsPeekedSo, at_rest, memory_kept}
 
 -- ## A host that is changed

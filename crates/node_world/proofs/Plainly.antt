@@ -8,9 +8,9 @@ use Rattle.link_laws.specs.messages.Links.EndEvent.{Lose}
 use Rattle.history.specs.Steps.{at}
 use Rattle.node_machine.specs.Parts.{Core, Port}
 use Rattle.node_machine.specs.world.World.{Site}
-use Rattle.node_world.specs.declared.places.HostSite.{HostSite}
-use Rattle.node_world.specs.LinksKept.{WiresStandFor}
-use Rattle.node_world.specs.Places.{IsPlace, SiteIs}
+use Rattle.node_sites.specs.declared.places.HostSite.{HostSite}
+use Rattle.node_sites.specs.LinksKept.{WiresStandFor}
+use Rattle.node_sites.specs.Places.{IsPlace, SiteIs}
 
 module _ (P : Type 0) (Runs : P → Core → List Port → Type 0) (memory_of : P → Memory) where
   pub same_host : (to : End) (l : Link) (why : Loss) → (happens l (at to (Lose why))).host ≡ l.host

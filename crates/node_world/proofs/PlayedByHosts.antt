@@ -16,7 +16,7 @@ use Rattle.node_machine.specs.world.World.{NodeWorld, Site, host_does, sending, 
 use Rattle.node_machine.specs.world.Lines.{LineOutcome, goes_on, line_step, refusal_in}
 use Rattle.node_machine.specs.world.Lines.LineOutcome.{WasRefused}
 use Rattle.node_world.specs.declared.controller.ControllerPlace.{ControllerPlace}
-use Rattle.node_world.specs.declared.places.HostSite.{HostSite}
+use Rattle.node_sites.specs.declared.places.HostSite.{HostSite}
 use Rattle.node_world.specs.Controllers.{SitesAre, WorldIs, IsThere}
 use Rattle.node_world.specs.HostSteps.{host_stepped}
 use Rattle.node_world.specs.Whole.{HostsPlayed, LinePlayed, MayPlay, SitesBecome}

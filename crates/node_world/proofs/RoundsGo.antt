@@ -21,7 +21,7 @@ use Rattle.node_laws.specs.telling.Telling.{hosts_in}
 use Rattle.node_laws.proofs.telling.Orderly.{step_orderly}
 use Rattle.node_laws.proofs.rounds.Ends.{ends_of, order_is}
 use Rattle.node_world.specs.declared.controller.ControllerPlace.{ControllerPlace}
-use Rattle.node_world.specs.declared.places.HostSite.{HostSite}
+use Rattle.node_sites.specs.declared.places.HostSite.{HostSite}
 use Rattle.node_world.specs.Bounds.{FewBehind}
 use Rattle.node_world.specs.Controllers.{MayGoOn, SitesAre, WorldBecomes, WorldIs}
 use Rattle.node_world.specs.Rounds.{MayTakeAll, MayTakeInOrder, WorldHasGone}

@@ -21,7 +21,7 @@ use Rattle.node_laws.specs.telling.Telling.{HasEnds, hosts_in, IsOrderly, IfDue,
 use Rattle.node_laws.proofs.telling.Nodes.{host_opened}
 use Rattle.node_laws.proofs.telling.Ticks.{older, not_late, IfLate, Ticked, ticked}
 use Rattle.node_laws.proofs.telling.WorldTicks.{opened, up_late, young_ports}
-use Rattle.node_world.specs.LinksKept.{SameWires, with_bare_wires}
+use Rattle.node_sites.specs.LinksKept.{SameWires, with_bare_wires}
 use Rattle.node_world.proofs.GoingOn.{ended_same, ended_far, silent_same, emptied_same, same_twice}
 
 -- an end after its tick, or after its reset in place of it

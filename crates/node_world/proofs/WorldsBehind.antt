@@ -19,7 +19,7 @@ use Rattle.lines_told.proofs.lines.NodeRounds.{after-append, sure-append}
 use Rattle.lines_told.proofs.lines.Plays.{all-append}
 use Rattle.node_world.specs.Bounds.{FewBehind}
 use Rattle.node_world.specs.Controllers.{MayGoOn, AreTimely}
-use Rattle.node_world.specs.Memories.{KeepsSome, IsSoundMemory}
+use Rattle.node_sites.specs.Memories.{KeepsSome, IsSoundMemory}
 use Rattle.node_world.specs.Whole.{MayPlay, after_ticks}
 use Rattle.node_world.proofs.MemoriesKeep.{keeps_at_first, keeps_behind_lines, controller_in_order, hosts_in_order}
 use Rattle.node_world.proofs.LinesFit.{are_hosts, each_line, playable, sent_by_host}

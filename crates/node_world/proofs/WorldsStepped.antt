@@ -10,8 +10,8 @@ use Rattle.trace_model.specs.declared.line.Line.{Line}
 use Rattle.trace_model.specs.Lines.{IsNodeHeader, IsNodeOf}
 use Rattle.swp_base.specs.InMemory.{Memory}
 use Rattle.node_core.specs.declared.node.Node.{Node}
-use Rattle.node_world.specs.declared.places.HostSite.{HostSite}
-use Rattle.node_world.specs.Places.{SiteIs}
+use Rattle.node_sites.specs.declared.places.HostSite.{HostSite}
+use Rattle.node_sites.specs.Places.{SiteIs}
 use Rattle.node_world.proofs.AtHosts.{site_stands, nowhere}
 use Rattle.node_world.proofs.SitesKept.{read_there}
 use Rattle.node_world.proofs.Peeked.{peeked, kept_is, one_of}
@@ -32,7 +32,7 @@ use Rattle.lines_told.proofs.lines.Plays.{for_with, no_more_rounds, no_more_said
 use Rattle.lines_told.proofs.lines.Told.{told_round}
 use Rattle.link_wires.specs.declared.finding.Misread.{Misread}
 use Rattle.node_core.specs.Running.{RunsAs}
-use Rattle.node_world.specs.WorldNodes.{RunsAsHost}
+use Rattle.node_sites.specs.WorldNodes.{RunsAsHost}
 use Rattle.node_world.specs.declared.worlds.NodeWorld.{NodeWorld}
 use Rattle.node_world.specs.Controllers.{AreTimely, MayGoOn, WorldIs, SitesAre, StandsAt}
 use Rattle.node_world.specs.Rounds.{MayGoRound, WorldHasGone}

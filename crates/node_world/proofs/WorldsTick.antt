@@ -22,11 +22,11 @@ use Rattle.node_machine.proofs.world.Cases.{by_controller_tick, by_host_tick, ho
 use Rattle.node_laws.specs.telling.Telling.{hosts_in, IfItRuns, IfOff, NoneDue}
 use Rattle.node_laws.proofs.telling.WorldTicks.{tick_host}
 use Rattle.node_world.specs.declared.controller.ControllerPlace.{ControllerPlace}
-use Rattle.node_world.specs.declared.places.HostSite.{HostSite}
+use Rattle.node_sites.specs.declared.places.HostSite.{HostSite}
 use Rattle.node_world.specs.Bounds.{FewOn, FewOnEach}
 use Rattle.node_world.specs.Controllers.{SitesAre, WorldBecomes, AreTimely, near_ticks}
 use Rattle.node_world.specs.HostSteps.{IsHostOf, CountsOn, MayTick}
-use Rattle.node_world.specs.Places.{SiteIs, IsPlace}
+use Rattle.node_sites.specs.Places.{SiteIs, IsPlace}
 use Rattle.node_world.specs.Whole.{IsWithinBounds, SitesTick, AreToTick}
 use Rattle.node_world.proofs.AtHosts.{GivesSendable, sendable_on}
 use Rattle.node_world.proofs.Behind.{each_found}

@@ -21,12 +21,12 @@ use Rattle.node_machine.specs.world.World.{Site, NodeWorld, site_at, link_to, po
 use Rattle.node_machine.specs.world.World.{controller_ticks}
 use Rattle.node_laws.specs.kept.Hosts.{AreDifferent}
 use Rattle.node_laws.specs.telling.Telling.{hosts_in, IsOrderly, IsTimely}
-use Rattle.node_world.specs.declared.places.HostSite.{HostSite}
+use Rattle.node_sites.specs.declared.places.HostSite.{HostSite}
 use Rattle.node_world.specs.declared.controller.ControllerPlace.{ControllerPlace}
-use Rattle.node_world.specs.LinksKept.{with_bare_wires, as_it_comes}
-use Rattle.node_world.specs.FramesOut.{IsOnly, sent_port}
-use Rattle.node_world.specs.Numbers.{CountsFew}
-use Rattle.node_world.specs.Places.{IsPlace, SiteIs}
+use Rattle.node_sites.specs.LinksKept.{with_bare_wires, as_it_comes}
+use Rattle.node_sites.specs.FramesOut.{IsOnly, sent_port}
+use Rattle.node_sites.specs.Numbers.{CountsFew}
+use Rattle.node_sites.specs.Places.{IsPlace, SiteIs}
 
 -- ## What is kept
 

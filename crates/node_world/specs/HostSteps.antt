@@ -32,11 +32,11 @@ use Rattle.node_machine.specs.world.World.{Site, input_of, wires_for, frames_not
 use Rattle.node_machine.specs.world.World.{turns_at, ending_of, runs_on}
 use Rattle.node_machine.specs.world.Lines.{first_cause, if_waiting, has_order}
 use Rattle.node_laws.specs.telling.Telling.{IfItRuns, IfOff, NoneDue}
-use Rattle.node_world.specs.declared.places.HostSite.{HostSite}
-use Rattle.node_world.specs.LinksKept.{WiresStandFor}
-use Rattle.node_world.specs.Numbers.{StaysCounted, AreNumbered}
-use Rattle.node_world.specs.WorldNodes.{IsNotedSo}
-use Rattle.node_world.specs.Places.{SiteIs}
+use Rattle.node_sites.specs.declared.places.HostSite.{HostSite}
+use Rattle.node_sites.specs.LinksKept.{WiresStandFor}
+use Rattle.node_sites.specs.Numbers.{StaysCounted, AreNumbered}
+use Rattle.node_sites.specs.WorldNodes.{IsNotedSo}
+use Rattle.node_sites.specs.Places.{SiteIs}
 
 -- ## What happens
 

@@ -1,12 +1,5 @@
-pub mod Numbers
-pub mod LinksKept
-pub mod WorldNodes
-pub mod WorldBoots
-pub mod FramesOut
-pub mod Places
 pub mod Bounds
 pub mod HostSteps
-pub mod Memories
 pub mod Whole
 pub mod Controllers
 pub mod Rounds

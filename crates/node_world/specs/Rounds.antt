@@ -15,7 +15,7 @@ use Rattle.node_machine.specs.world.NodeHistories.{entries_in}
 use Rattle.node_machine.specs.world.Rounds.{ends_in_order, ends_take_all}
 use Rattle.node_laws.specs.telling.Telling.{IfItRuns, IfOff}
 use Rattle.node_world.specs.declared.controller.ControllerPlace.{ControllerPlace}
-use Rattle.node_world.specs.declared.places.HostSite.{HostSite}
+use Rattle.node_sites.specs.declared.places.HostSite.{HostSite}
 use Rattle.node_world.specs.Bounds.{FewBehind}
 use Rattle.node_world.specs.Controllers.{AreTimely, IsThere, MayGoOn, WorldIs}
 

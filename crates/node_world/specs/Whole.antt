@@ -17,11 +17,11 @@ use Rattle.node_machine.specs.world.Lines.{LineOutcome, all_happen, frames_at, m
 use Rattle.node_laws.specs.telling.Telling.{hosts_in, IsOrderly}
 use Rattle.lines_told.specs.lines.Below.{IsPlayedLine, entries_below}
 use Rattle.node_world.specs.declared.controller.ControllerPlace.{ControllerPlace}
-use Rattle.node_world.specs.declared.places.HostSite.{HostSite}
+use Rattle.node_sites.specs.declared.places.HostSite.{HostSite}
 use Rattle.node_world.specs.Bounds.{FewBehind}
 use Rattle.node_world.specs.Controllers.{SitesAre, WorldIs, MayGoOn, AreTimely, IsThere}
 use Rattle.node_world.specs.HostSteps.{IsHostOf, MayTick}
-use Rattle.node_world.specs.Memories.{IsSoundMemory}
+use Rattle.node_sites.specs.Memories.{IsSoundMemory}
 
 -- ## Something happens
 

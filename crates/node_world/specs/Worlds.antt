@@ -19,7 +19,7 @@ use Rattle.lines_told.specs.lines.Below.{IsPlayedLine, nodes_behind}
 use Rattle.lines_told.specs.lines.Plays.{IsPlayFor, Play, lines_played, lines_said, rounds_played}
 use Rattle.node_core.specs.declared.node.Node.{Node}
 use Rattle.node_core.specs.Running.{RunsAs}
-use Rattle.node_world.specs.WorldNodes.{RunsAsHost}
+use Rattle.node_sites.specs.WorldNodes.{RunsAsHost}
 use Rattle.node_world.specs.declared.worlds.NodeWorld.{NodeWorld}
 use Rattle.node_world.specs.Controllers.{WorldIs}
 

@@ -4,15 +4,15 @@ ghost use Rattle.std.specs.Prelude.{◌≡◌, ◌≤◌, List, true, false, get
 ghost use Rattle.trace_model.specs.declared.entry.Entry.{Entry as Told};
 ghost use Rattle.node_machine.specs.Parts.{Work};
 ghost use Rattle.node_machine.specs.world.World.{Site};
-ghost use Rattle.node_world.specs.Numbers.{AreNumbered};
-ghost use Rattle.node_world.specs.WorldNodes.{IsNotedSo};
+ghost use Rattle.node_sites.specs.Numbers.{AreNumbered};
+ghost use Rattle.node_sites.specs.WorldNodes.{IsNotedSo};
 ghost use Rattle.node_world.specs.Controllers.{SitesAre, with_bare_link, HaveRoom, EndsStep, GoesOnWith, WentOffWith};
 
 use crate::controller_sites::{empty_all, send_to_all};
-use crate::nodes::WorldNode;
-use crate::noted::Noted;
-use crate::numbering::{Sessions, number_from};
-use crate::places::HostSite;
+use node_sites::nodes::WorldNode;
+use node_sites::noted::Noted;
+use node_sites::numbering::{Sessions, number_from};
+use node_sites::places::HostSite;
 use swp_base::{MemNv, NoMemory};
 
 /// The controller of the world: its node while that runs, its memory while it doesn't.

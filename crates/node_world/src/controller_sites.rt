@@ -10,11 +10,11 @@ ghost use Rattle.node_world.specs.Controllers.{SitesAre, HaveRoom, SendsTo, sent
 ghost use Rattle.node_world.specs.Controllers.{IsPlaceOf, AreSessions};
 
 use crate::host_losses::age_host;
-use crate::nodes::WorldNode;
-use crate::noted::Noted;
-use crate::numbering::Sessions;
-use crate::places::HostSite;
-use crate::sending::send_frames;
+use node_sites::nodes::WorldNode;
+use node_sites::noted::Noted;
+use node_sites::numbering::Sessions;
+use node_sites::places::HostSite;
+use node_sites::sending::send_frames;
 use std::alloc::AllocError;
 use swp_base::NoMemory;
 use trace_model::{End, Entry};

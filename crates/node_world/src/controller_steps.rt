@@ -11,9 +11,9 @@ ghost use Rattle.node_world.specs.Controllers.{near_ticks};
 use crate::controller::{ControllerPlace, finish_controller};
 use crate::controller_sites::{age_all, place_of, sessions_of};
 use crate::host_steps::reset_cause;
-use crate::nodes::{WorldController, WorldNode};
-use crate::noted::Noted;
-use crate::places::HostSite;
+use node_sites::nodes::{WorldController, WorldNode};
+use node_sites::noted::Noted;
+use node_sites::places::HostSite;
 use swp_base::NoMemory;
 use trace_model::{End, NoCause};
 

@@ -10,12 +10,12 @@ ghost use Rattle.node_world.specs.Whole.{IsMisreadIn, LinePlayed, MayPlay};
 use crate::controller::ControllerPlace;
 use crate::happening::lose_frame;
 use crate::looking::{damaged_at, no_frame, node_of, on_the_way, runs};
-use crate::nodes::WorldNode;
-use crate::noted::{Noted, refuse};
-use crate::places::HostSite;
 use crate::world_ticks::{take_frame, tick_world};
 use arrayvec::ArrayVec;
 use link_wires::{Damaged, Misread, taken};
+use node_sites::nodes::WorldNode;
+use node_sites::noted::{Noted, refuse};
+use node_sites::places::HostSite;
 use swp_base::NoMemory;
 use trace_model::{End, LostCause, NoCause};
 

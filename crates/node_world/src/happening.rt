@@ -20,10 +20,10 @@ use crate::controller_steps::{activate_controller, reset_controller};
 use crate::hosts_do::{
     host_activates, host_arms, host_loses, host_resets, host_starts, host_stops,
 };
-use crate::nodes::{WorldController, WorldHost, WorldNode};
-use crate::noted::Noted;
-use crate::places::HostSite;
 use arrayvec::ArrayVec;
+use node_sites::nodes::{WorldController, WorldHost, WorldNode};
+use node_sites::noted::Noted;
+use node_sites::places::HostSite;
 use std::alloc::Global;
 use swp_base::NoMemory;
 use trace_model::{End, LostCause, NoCause};

@@ -4,13 +4,13 @@ ghost use Rattle.swp_act.specs.Activation.{new_uicc};
 ghost use Rattle.link_laws.specs.machine.Machine.{new_link_end};
 ghost use Rattle.link_laws.specs.machine.Machine.Role.{Uicc};
 ghost use Rattle.node_machine.specs.world.World.{Site};
-ghost use Rattle.node_world.specs.Places.{SiteIs};
-ghost use Rattle.node_world.specs.Memories.{IsSoundMemory};
+ghost use Rattle.node_sites.specs.Places.{SiteIs};
+ghost use Rattle.node_sites.specs.Memories.{IsSoundMemory};
 ghost use Rattle.node_world.specs.HostSteps.{host_boots, IsHostOf, HasBecome};
 
-use crate::nodes::{Booted, WorldHost};
-use crate::noted::Noted;
-use crate::places::HostSite;
+use node_sites::nodes::{Booted, WorldHost};
+use node_sites::noted::Noted;
+use node_sites::places::HostSite;
 use std::alloc::Global;
 use swp_base::NoMemory;
 use trace_model::Entry;

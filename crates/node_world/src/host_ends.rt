@@ -8,9 +8,9 @@ ghost use Rattle.node_machine.specs.Parts.{Work};
 ghost use Rattle.node_machine.specs.world.World.{Site, frames_noted};
 ghost use Rattle.node_world.specs.HostSteps.{host_behind, IsToSend, HasBecome};
 
-use crate::nodes::WorldNode;
-use crate::noted::Noted;
-use crate::places::{HostSite, finish_step};
+use node_sites::nodes::WorldNode;
+use node_sites::noted::Noted;
+use node_sites::places::{HostSite, finish_step};
 use swp_base::NoMemory;
 
 /// A host's node has done its work, in which it noted what stands from this place on: its frames go out, unless it has lost its power.

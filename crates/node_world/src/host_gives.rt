@@ -5,14 +5,14 @@ ghost use Rattle.link_laws.specs.messages.Links.Comes.{NoInput};
 ghost use Rattle.node_machine.specs.Node.{begins_with};
 ghost use Rattle.node_machine.specs.world.World.{Site, sending, beginning};
 ghost use Rattle.node_core.specs.Giving.{refusal_noted};
-ghost use Rattle.node_world.specs.Places.{SiteIs};
+ghost use Rattle.node_sites.specs.Places.{SiteIs};
 ghost use Rattle.node_world.specs.HostSteps.{host_stepped, sending_refused, IsHostOf, BecomesUnless};
 
 use crate::host_ends::finish_host;
-use crate::nodes::WorldHost;
-use crate::noted::Noted;
-use crate::places::HostSite;
 use node_core::HostRefused;
+use node_sites::nodes::WorldHost;
+use node_sites::noted::Noted;
+use node_sites::places::HostSite;
 use swp_base::NoMemory;
 use trace_model::NoCause;
 

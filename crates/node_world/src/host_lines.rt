@@ -8,10 +8,10 @@ ghost use Rattle.node_world.specs.Controllers.{SitesAre};
 ghost use Rattle.node_world.specs.Whole.{HostsPlayed, MayPlay};
 
 use crate::hosts_do::{host_inits, host_sends};
-use crate::nodes::WorldHost;
-use crate::noted::{Noted, refuse};
-use crate::places::HostSite;
 use arrayvec::ArrayVec;
+use node_sites::nodes::WorldHost;
+use node_sites::noted::{Noted, refuse};
+use node_sites::places::HostSite;
 use swp_base::NoMemory;
 use trace_model::{End, Octets};
 

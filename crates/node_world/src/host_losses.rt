@@ -6,12 +6,12 @@ ghost use Rattle.history.specs.Follows.{frames_to};
 ghost use Rattle.history.specs.Steps.{lost_as};
 ghost use Rattle.link_wires.specs.Notes.{side_of, AreNoted};
 ghost use Rattle.node_machine.specs.world.World.{Site};
-ghost use Rattle.node_world.specs.Places.{SiteIs};
+ghost use Rattle.node_sites.specs.Places.{SiteIs};
 ghost use Rattle.node_world.specs.HostSteps.{is_broken, site_loses, site_ages, IsHostOf, HasBecome};
 
-use crate::nodes::WorldNode;
-use crate::noted::Noted;
-use crate::places::HostSite;
+use node_sites::nodes::WorldNode;
+use node_sites::noted::Noted;
+use node_sites::places::HostSite;
 use swp_base::NoMemory;
 use trace_model::{End, LostCause};
 

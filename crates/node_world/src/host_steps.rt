@@ -2,14 +2,14 @@
 ghost use Rattle.std.specs.Prelude.{◌≡◌, ℕ, ◌+◌, ◌<◌, ◌≤◌, ◌^◌, false, IfOk, IfSome, OnOk, Some};
 ghost use Rattle.link_laws.specs.messages.Links.Comes.{NextFrame, AsksReset, Starts};
 ghost use Rattle.node_machine.specs.world.World.{Site, host_ticks};
-ghost use Rattle.node_world.specs.Places.{SiteIs};
+ghost use Rattle.node_sites.specs.Places.{SiteIs};
 ghost use Rattle.node_world.specs.HostSteps.{host_hears, reset_noted, reset_refused_at, IsHostOf, CountsComing, MayTick, HasBecome, BecomesUnless};
 
 use crate::host_ends::finish_host;
-use crate::nodes::{WorldHost, WorldNode};
-use crate::noted::Noted;
-use crate::places::HostSite;
 use link_end::ResetRefused;
+use node_sites::nodes::{WorldHost, WorldNode};
+use node_sites::noted::Noted;
+use node_sites::places::HostSite;
 use swp_base::NoMemory;
 use trace_model::{End, NoCause};
 

@@ -8,9 +8,9 @@ ghost use Rattle.node_world.specs.Controllers.{SitesAre, WorldIs, MayGoOn};
 
 use crate::controller::ControllerPlace;
 use crate::controller_sites::place_of;
-use crate::nodes::WorldNode;
-use crate::places::HostSite;
 use link_wires::Damaged;
+use node_sites::nodes::WorldNode;
+use node_sites::places::HostSite;
 use trace_model::{End, NoCause};
 
 /// The number of the node of an end.

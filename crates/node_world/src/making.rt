@@ -3,15 +3,15 @@ ghost use Rattle.std.specs.Prelude.{◌≡◌, ◌==◌, ◌^◌, ◌<◌, Some,
 ghost use Rattle.std.specs.List.{list_any};
 ghost use Rattle.gate_admin.specs.View.{hosts_where, mask_of};
 ghost use Rattle.node_machine.specs.world.World.{new_site};
-ghost use Rattle.node_world.specs.Places.{SiteIs};
-ghost use Rattle.node_world.specs.WorldNodes.{RunsAsHost};
+ghost use Rattle.node_sites.specs.Places.{SiteIs};
+ghost use Rattle.node_sites.specs.WorldNodes.{RunsAsHost};
 ghost use Rattle.node_world.specs.Controllers.{SitesAre};
 ghost use Rattle.node_world.specs.Worlds.{node_memory};
 
-use crate::nodes::MEMORY_SIZE;
-use crate::places::HostSite;
-use crate::wires::Wires;
 use host_core::Host;
+use node_sites::nodes::MEMORY_SIZE;
+use node_sites::places::HostSite;
+use node_sites::wires::Wires;
 use std::alloc::Global;
 use swp_base::{MemNv, NoMemory};
 

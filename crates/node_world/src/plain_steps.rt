@@ -3,12 +3,12 @@ ghost use Rattle.std.specs.Prelude.{◌≡◌, ◌<◌, ◌++◌, ◌∷◌, [],
 ghost use Rattle.trace_model.specs.declared.entry.Entry.TheVariants as note;
 ghost use Rattle.node_machine.specs.Parts.{Running};
 ghost use Rattle.node_machine.specs.world.World.{Site, host_cut};
-ghost use Rattle.node_world.specs.Places.{SiteIs};
+ghost use Rattle.node_sites.specs.Places.{SiteIs};
 
-use crate::nodes::WorldNode;
-use crate::noted::Noted;
-use crate::places::{HostSite, lose_power};
 use arrayvec::ArrayVec;
+use node_sites::nodes::WorldNode;
+use node_sites::noted::Noted;
+use node_sites::places::{HostSite, lose_power};
 use swp_base::NoMemory;
 use trace_model::Entry;
 

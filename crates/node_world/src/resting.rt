@@ -4,12 +4,12 @@ ghost use Rattle.std.specs.List.{list_all};
 ghost use Rattle.node_machine.specs.world.World.{NodeWorld, Site};
 ghost use Rattle.node_machine.specs.world.Rounds.{world_rests};
 ghost use Rattle.node_world.specs.Controllers.{AreTimely, MayGoOn, WorldIs};
-ghost use Rattle.node_world.specs.Places.{SiteIs};
+ghost use Rattle.node_sites.specs.Places.{SiteIs};
 ghost use Rattle.node_world.specs.Rounds.{IsToLookAt, far_rests, near_rests};
 
 use crate::controller::ControllerPlace;
-use crate::nodes::WorldNode;
-use crate::places::HostSite;
+use node_sites::nodes::WorldNode;
+use node_sites::places::HostSite;
 use trace_model::End;
 
 // Whether both wires of a host's link are empty, and its end of it is at rest.

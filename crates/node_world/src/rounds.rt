@@ -8,10 +8,10 @@ ghost use Rattle.node_world.specs.Whole.{IsWithinBounds};
 
 use crate::controller::ControllerPlace;
 use crate::looking::{node_of, on_the_way, runs};
-use crate::nodes::WorldNode;
-use crate::noted::Noted;
-use crate::places::HostSite;
 use crate::world_ticks::{take_frame, tick_world};
+use node_sites::nodes::WorldNode;
+use node_sites::noted::Noted;
+use node_sites::places::HostSite;
 use swp_base::NoMemory;
 use trace_model::End;
 

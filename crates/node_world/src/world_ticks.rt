@@ -9,9 +9,9 @@ use crate::controller::ControllerPlace;
 use crate::controller_steps::{begin_tick, take_at_controller};
 use crate::host_steps::tick_host;
 use crate::hosts_do::host_takes;
-use crate::nodes::WorldNode;
-use crate::noted::Noted;
-use crate::places::HostSite;
+use node_sites::nodes::WorldNode;
+use node_sites::noted::Noted;
+use node_sites::places::HostSite;
 use swp_base::NoMemory;
 use trace_model::End;
 

@@ -2,9 +2,9 @@ use Rattle.std.proofs.Common.{◌≡◌, ℕ, List, ◌++◌, get_or, take, drop
 use Rattle.std.specs.Prelude.{Some}
 use Rattle.std.specs.List.{flat_map}
 use Rattle.trace_model.specs.declared.entry.Entry.{Entry}
-use Rattle.node_world.specs.Numbers.{with_session}
+use Rattle.node_sites.specs.Numbers.{with_session}
 use Rattle.node_world.specs.Controllers.{frames_emitted}
-use Rattle.node_world.proofs.Renumbered.{numbered_behind}
+use Rattle.node_sites.proofs.Renumbered.{numbered_behind}
 use Rattle.node_world.proofs.controller.finish_controller.Goals as goal
 
 pub returns-then-not-live-clause-cut : goal.returns-then-not-live-clause-cut

@@ -6,7 +6,7 @@ use Rattle.link_laws.specs.machine.Machine.LinkInput.{Start}
 use Rattle.link_laws.specs.messages.Links.Comes.{Starts}
 use Rattle.node_machine.specs.world.World.{link_to}
 use Rattle.node_laws.specs.kept.Hosts.{AreDifferent}
-use Rattle.node_world.specs.LinksKept.{with_bare_wires}
+use Rattle.node_sites.specs.LinksKept.{with_bare_wires}
 use Rattle.node_world.specs.Controllers.{as_it_comes_to}
 use Rattle.node_world.proofs.HostsBegin.{may_begin}
 use Rattle.node_world.proofs.HostsGoOn.{not_more}

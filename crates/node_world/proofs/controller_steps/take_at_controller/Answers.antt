@@ -13,8 +13,8 @@ use Rattle.node_machine.specs.world.World.{NodeWorld, link_to, input_of, arrival
 use Rattle.node_laws.specs.kept.Hosts.{AreDifferent}
 use Rattle.node_laws.proofs.telling.Nodes.{link_is}
 use Rattle.node_core.specs.Noting.{unnumbered}
-use Rattle.node_world.specs.LinksKept.{without_first}
-use Rattle.node_world.specs.Places.{IsPlace}
+use Rattle.node_sites.specs.LinksKept.{without_first}
+use Rattle.node_sites.specs.Places.{IsPlace}
 use Rattle.node_world.specs.Controllers.{WorldBecomes, as_it_comes_to}
 use Rattle.node_world.proofs.HostsAre.{none_first, some_read, none_read}
 use Rattle.node_world.proofs.HostsBegin.{may_begin}

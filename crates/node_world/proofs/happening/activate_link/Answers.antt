@@ -9,7 +9,7 @@ use Rattle.node_machine.specs.Parts.{Core, Port}
 use Rattle.node_machine.specs.world.World.{NodeWorld, activates, comes_at, end_c, end_h}
 use Rattle.node_laws.proofs.telling.Events.{comes_goes}
 use Rattle.node_world.specs.declared.controller.ControllerPlace.{ControllerPlace}
-use Rattle.node_world.specs.declared.places.HostSite.{HostSite}
+use Rattle.node_sites.specs.declared.places.HostSite.{HostSite}
 use Rattle.node_world.specs.Bounds.{FewBehind}
 use Rattle.node_world.specs.Controllers.{WorldBecomes, MayGoOn, IsThere}
 use Rattle.node_world.specs.HostSteps.{host_hears}

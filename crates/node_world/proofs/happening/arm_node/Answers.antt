@@ -7,9 +7,9 @@ use Rattle.node_machine.specs.world.World.{NodeWorld, Site, link_to, memory_at, 
 use Rattle.node_machine.specs.world.World.Happening.{Arms}
 use Rattle.node_laws.specs.telling.Telling.{IsOrderly}
 use Rattle.node_world.specs.declared.controller.ControllerPlace.{ControllerPlace}
-use Rattle.node_world.specs.declared.places.HostSite.{HostSite}
+use Rattle.node_sites.specs.declared.places.HostSite.{HostSite}
 use Rattle.node_world.specs.Controllers.{SitesAre, WorldIs}
-use Rattle.node_world.specs.Places.{IsPlace}
+use Rattle.node_sites.specs.Places.{IsPlace}
 use Rattle.node_world.proofs.HostsInWorlds.{armed_in_world}
 use Rattle.node_world.proofs.HostsPower.{armed, none_changed}
 use Rattle.node_world.proofs.NearKept.{host_becomes}

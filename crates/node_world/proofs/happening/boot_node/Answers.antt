@@ -7,7 +7,7 @@ use Rattle.node_machine.specs.Node.{boot_writes}
 use Rattle.node_machine.specs.world.World.{Site, boots, host_cut, memory_at, node_at}
 use Rattle.node_world.specs.Controllers.{WorldBecomes}
 use Rattle.node_world.specs.HostSteps.{host_boots}
-use Rattle.node_world.specs.Memories.{IsSoundMemory}
+use Rattle.node_sites.specs.Memories.{IsSoundMemory}
 use Rattle.node_world.proofs.HostsBoot.{boot_goes, boot_stops}
 use Rattle.node_world.proofs.HostsInWorlds.{boots_in_world}
 use Rattle.node_world.proofs.NearKept.{LeavesNear, cut_leaves, host_becomes}

@@ -1,5 +1,5 @@
 use Rattle.std.proofs.Common.{ℕ, get_or, replicate, sym, subst}
-use Rattle.node_world.specs.Numbers.{AreNumbered}
+use Rattle.node_sites.specs.Numbers.{AreNumbered}
 use Rattle.node_world.proofs.HostsDo.{finishing, has_finished}
 use Rattle.node_world.proofs.host_ends.finish_host.Goals as goal
 

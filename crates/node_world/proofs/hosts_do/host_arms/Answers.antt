@@ -1,8 +1,8 @@
 use Rattle.std.proofs.Common.{List, sym, subst}
 use Rattle.node_machine.specs.world.World.{Site}
-use Rattle.node_world.specs.declared.places.HostSite.{HostSite}
+use Rattle.node_sites.specs.declared.places.HostSite.{HostSite}
 use Rattle.node_world.specs.Controllers.{SitesAre, StandsAt}
-use Rattle.node_world.specs.Places.{SiteIs}
+use Rattle.node_sites.specs.Places.{SiteIs}
 use Rattle.node_world.proofs.AtHosts.{reads}
 use Rattle.node_world.proofs.HostsPower.{is_armed, arms_nowhere}
 use Rattle.node_world.proofs.hosts_do.host_arms.Goals as goal

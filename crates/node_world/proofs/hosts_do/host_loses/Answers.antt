@@ -6,10 +6,10 @@ use Rattle.history.specs.Follows.{frames_to}
 use Rattle.link_wires.specs.Notes.{side_of, AreNoted}
 use Rattle.node_machine.specs.world.World.{frame_lost}
 use Rattle.std.specs.Prelude.{slice_set}
-use Rattle.node_world.specs.declared.places.HostSite.{HostSite}
+use Rattle.node_sites.specs.declared.places.HostSite.{HostSite}
 use Rattle.node_world.specs.Controllers.{StandsAt}
 use Rattle.node_world.specs.HostSteps.{site_loses}
-use Rattle.node_world.specs.Places.{SiteIs}
+use Rattle.node_sites.specs.Places.{SiteIs}
 use Rattle.node_world.specs.Whole.{SitesBecome}
 use Rattle.node_world.proofs.AtHosts.{end_is, is_host, nowhere, reads}
 use Rattle.node_world.proofs.HostsPower.{is_lost}

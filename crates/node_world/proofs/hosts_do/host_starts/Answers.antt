@@ -7,11 +7,11 @@ use Rattle.link_laws.specs.machine.Machine.Role.{Uicc}
 use Rattle.node_machine.specs.Parts.{Running}
 use Rattle.node_machine.specs.world.World.{boots}
 use Rattle.node_laws.specs.telling.Telling.{IfOff}
-use Rattle.node_world.specs.declared.places.HostSite.{HostSite}
+use Rattle.node_sites.specs.declared.places.HostSite.{HostSite}
 use Rattle.node_world.specs.Controllers.{StandsAt}
 use Rattle.node_world.specs.HostSteps.{host_boots}
-use Rattle.node_world.specs.Memories.{IsSoundMemory}
-use Rattle.node_world.specs.Places.{SiteIs}
+use Rattle.node_sites.specs.Memories.{IsSoundMemory}
+use Rattle.node_sites.specs.Places.{SiteIs}
 use Rattle.node_world.proofs.AtHosts.{becomes, is_host, nowhere, reads, site_stands}
 use Rattle.node_world.proofs.HostsInWorlds.{boots_in_world}
 use Rattle.node_world.proofs.HostsPower.{memory_there, node_there}

@@ -2,9 +2,9 @@ use Rattle.std.proofs.Common.{◌≢◌, subst}
 use Rattle.std.specs.Prelude.{Option, None}
 use Rattle.std.proofs.lemmas.Result.{on_ok_weaker}
 use Rattle.node_machine.specs.Parts.{Running}
-use Rattle.node_world.specs.declared.places.HostSite.{HostSite}
+use Rattle.node_sites.specs.declared.places.HostSite.{HostSite}
 use Rattle.node_world.specs.Controllers.{StandsAt}
-use Rattle.node_world.specs.Places.{SiteIs}
+use Rattle.node_sites.specs.Places.{SiteIs}
 use Rattle.node_world.proofs.AtHosts.{reads, site_stands}
 use Rattle.node_world.proofs.HostsPower.{is_cut, node_there, node_nowhere, runs_so}
 use Rattle.node_world.proofs.hosts_do.host_stops.Goals as goal

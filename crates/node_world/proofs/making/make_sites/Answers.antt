@@ -2,7 +2,7 @@ use Rattle.std.proofs.Common.{◌≡◌, ℕ, ◌+◌, List, [], ◌∷◌, ◌+
 use Rattle.std.specs.Prelude.{replicate}
 use Rattle.std.proofs.lemmas.List.{take_more, take_all, map-append}
 use Rattle.node_machine.specs.world.World.{new_site, Site}
-use Rattle.node_world.specs.WorldNodes.{RunsAsHost}
+use Rattle.node_sites.specs.WorldNodes.{RunsAsHost}
 use Rattle.node_world.specs.Controllers.{SitesAre}
 use Rattle.node_world.specs.Worlds.{node_memory}
 use Rattle.node_world.proofs.SitesKept.{together}

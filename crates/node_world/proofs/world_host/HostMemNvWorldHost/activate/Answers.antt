@@ -2,7 +2,7 @@ use Rattle.std.proofs.Common.{ℕ, true, sym, subst}
 use Rattle.link_laws.specs.machine.Machine.LinkInput.{Start}
 use Rattle.node_machine.specs.Node.{steps}
 use Rattle.node_machine.specs.Node.NodeInput.{AtEnd}
-use Rattle.node_world.specs.WorldNodes.{HasGone, IsNotedSo, RunsAsHost}
+use Rattle.node_sites.specs.WorldNodes.{HasGone, IsNotedSo, RunsAsHost}
 use Rattle.node_world.proofs.Regardless.{bare, steps_regardless}
 use Rattle.node_world.proofs.NodesRun.{memory_in, of_host, still_host, own_host, begins_so, begins_bare, goes_so, noted_so}
 use Rattle.node_world.proofs.world_host.HostMemNvWorldHost.activate.Goals as goal

@@ -2,7 +2,7 @@ use Rattle.std.proofs.Common.{ℕ, true, ap, ◌∙◌, subst}
 use Rattle.node_machine.specs.Carrying.{port_at}
 use Rattle.node_machine.specs.Node.{begins_with}
 use Rattle.node_machine.specs.world.World.{beginning}
-use Rattle.node_world.specs.WorldNodes.{HasGone, IsNotedSo, RunsAsHost}
+use Rattle.node_sites.specs.WorldNodes.{HasGone, IsNotedSo, RunsAsHost}
 use Rattle.node_world.proofs.Regardless.{bare}
 use Rattle.node_world.proofs.NodesRun.{memory_in, own_host}
 use Rattle.node_world.proofs.HostsGive.{asked_so, asked_bare, gives_so, beginning_writes}

@@ -3,7 +3,7 @@ use Rattle.link_laws.specs.machine.Machine.{Message}
 use Rattle.node_machine.specs.Carrying.{port_at}
 use Rattle.node_machine.specs.Node.{begins_with}
 use Rattle.node_machine.specs.world.World.{sending}
-use Rattle.node_world.specs.WorldNodes.{HasGone, IsNotedSo, RunsAsHost}
+use Rattle.node_sites.specs.WorldNodes.{HasGone, IsNotedSo, RunsAsHost}
 use Rattle.node_world.proofs.Regardless.{bare}
 use Rattle.node_world.proofs.NodesRun.{memory_in, own_host}
 use Rattle.node_world.proofs.HostsGive.{asked_so, asked_bare, gives_so, sending_writes}

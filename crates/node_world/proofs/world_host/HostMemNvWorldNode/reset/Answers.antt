@@ -5,7 +5,7 @@ use Rattle.node_machine.specs.Carrying.{port_at}
 use Rattle.node_machine.specs.Node.{steps}
 use Rattle.node_machine.specs.Node.NodeInput.{AtEnd}
 use Rattle.node_core.specs.Running.{reset_refusal_at}
-use Rattle.node_world.specs.WorldNodes.{HasGone, IsNotedSo, RunsAsHost}
+use Rattle.node_sites.specs.WorldNodes.{HasGone, IsNotedSo, RunsAsHost}
 use Rattle.node_world.proofs.Regardless.{bare, steps_regardless}
 use Rattle.node_world.proofs.NodesRun.{memory_in, of_host, still_host, own_host, begins_so, begins_bare, goes_so, noted_so}
 use Rattle.node_world.proofs.world_host.HostMemNvWorldNode.reset.Goals as goal

@@ -1,6 +1,6 @@
 use Rattle.node_machine.specs.Node.{steps}
 use Rattle.node_machine.specs.Node.NodeInput.{TimePasses}
-use Rattle.node_world.specs.WorldNodes.{RunsAsHost}
+use Rattle.node_sites.specs.WorldNodes.{RunsAsHost}
 use Rattle.node_world.proofs.Regardless.{bare, steps_regardless}
 use Rattle.node_world.proofs.NodesRun.{of_host, still_host, begins_so, begins_bare, goes_so, noted_so}
 use Rattle.node_world.proofs.world_host.HostMemNvWorldNode.tick.Goals as goal

@@ -2,7 +2,7 @@ use Rattle.std.proofs.Common.{List, sym, subst}
 use Rattle.std.proofs.lemmas.Bool.{eq-eqb, ne_eqb}
 use Rattle.lines_told.specs.lines.Below.{nodes_behind}
 use Rattle.lines_told.specs.lines.Plays.{lines_played}
-use Rattle.node_world.specs.WorldNodes.{RunsAsHost}
+use Rattle.node_sites.specs.WorldNodes.{RunsAsHost}
 use Rattle.node_world.specs.Controllers.{SitesAre}
 use Rattle.node_world.specs.Worlds.{node_memory}
 use Rattle.node_world.proofs.WorldsStepped.{found_behind, controller_kept, host_kept, host_is_one, controller_is_one, host_is_there}

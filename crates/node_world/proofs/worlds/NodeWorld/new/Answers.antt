@@ -3,7 +3,7 @@ use Rattle.std.specs.Prelude.{Some, replicate}
 use Rattle.std.specs.List.{list_any}
 use Rattle.gate_admin.specs.View.{hosts_where, mask_of}
 use Rattle.node_machine.specs.world.World.{new_site}
-use Rattle.node_world.specs.WorldNodes.{RunsAsHost}
+use Rattle.node_sites.specs.WorldNodes.{RunsAsHost}
 use Rattle.node_world.specs.Controllers.{SitesAre}
 use Rattle.node_world.specs.Worlds.{node_memory}
 use Rattle.node_world.proofs.WorldsStepped.{stands_at_first}

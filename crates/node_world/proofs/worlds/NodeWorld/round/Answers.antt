@@ -7,7 +7,7 @@ use Rattle.node_machine.specs.world.Rounds.{world_round}
 use Rattle.lines_told.specs.lines.Below.{nodes_behind}
 use Rattle.lines_told.specs.lines.Plays.{lines_played}
 use Rattle.node_core.specs.Running.{RunsAs}
-use Rattle.node_world.specs.WorldNodes.{RunsAsHost}
+use Rattle.node_sites.specs.WorldNodes.{RunsAsHost}
 use Rattle.node_world.specs.Controllers.{WorldIs}
 use Rattle.node_world.specs.Rounds.{WorldHasGone}
 use Rattle.node_world.specs.Worlds.{node_memory}

@@ -3,7 +3,7 @@ use Rattle.node_machine.specs.world.Lines.{frames_at}
 use Rattle.lines_told.specs.lines.Below.{nodes_behind}
 use Rattle.lines_told.specs.lines.Plays.{lines_played}
 use Rattle.node_world.specs.Controllers.{SitesAre}
-use Rattle.node_world.specs.WorldNodes.{RunsAsHost}
+use Rattle.node_sites.specs.WorldNodes.{RunsAsHost}
 use Rattle.node_world.specs.Worlds.{node_memory}
 use Rattle.node_world.proofs.LinesAgain.{few_on_way}
 use Rattle.node_world.proofs.WorldsStepped.{in_order_behind}

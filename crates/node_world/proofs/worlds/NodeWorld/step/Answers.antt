@@ -7,7 +7,7 @@ use Rattle.node_machine.specs.world.Lines.{line_step}
 use Rattle.lines_told.specs.lines.Below.{nodes_behind}
 use Rattle.lines_told.specs.lines.Plays.{lines_played}
 use Rattle.node_core.specs.Running.{RunsAs}
-use Rattle.node_world.specs.WorldNodes.{RunsAsHost}
+use Rattle.node_sites.specs.WorldNodes.{RunsAsHost}
 use Rattle.node_world.specs.Controllers.{WorldIs}
 use Rattle.node_world.specs.Whole.{LinePlayed}
 use Rattle.node_world.specs.Worlds.{node_memory}

@@ -1,0 +1,4 @@
+pub mod Numbered
+pub mod Renumbered
+pub mod Links
+pub mod FramesGoOut

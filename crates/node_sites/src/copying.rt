@@ -1,0 +1,198 @@
+//! Copies of what nodes note.
+ghost use Rattle.std.specs.Prelude.{◌≡◌, ◌<◌, ◌++◌, ◌∷◌, [], ℕ, List, IfOk, IfSome, IsTrue, false};
+ghost use Rattle.std.specs.Vec.{vec_len, vec_capacity};
+ghost use Rattle.trace_model.specs.Notes.{with_body};
+
+use std::alloc::{AllocError, Global};
+use trace_model::{Entry, Octets};
+
+// A message of these bytes, in memory that was kept, where there is some.
+fn octets_of(alloc: Global, spares: &mut Vec<Octets>, body: &[u8]) -> Result<Octets, AllocError>
+    ensures { IfOk result (λ octets. octets ≡ body.now) }
+{
+    let Some(Octets { mut bytes }) = spares.pop() else {
+        return Octets::from_slice(alloc, body);
+    };
+    bytes.clear();
+    bytes.extend_from_slice(body)?;
+    Ok(Octets { bytes })
+}
+
+// A copy of an entry whose form has a message is put behind the others, with these bytes as its message. Whether there was memory for the
+// message; `false` for any other form. There is room for an entry.
+fn add_with_message(
+    entries: &mut Vec<Entry>,
+    spares: &mut Vec<Octets>,
+    entry: &Entry,
+    body: &[u8],
+) -> bool
+    requires room { vec_len entries.old < vec_capacity entries.old }
+    ensures added { IsTrue result → entries.new.items ≡ entries.old.items ++ with_body body.now entry.now ∷ [] }
+    ensures full { result ≡ false → entries.new.items ≡ entries.old.items }
+{
+    let Ok(message) = octets_of(*entries.allocator(), spares, body) else {
+        return false;
+    };
+    match entry {
+        Entry::Sent {
+            at,
+            session,
+            pid,
+            ..
+        } => entries.push_reserved(Entry::Sent {
+            at: *at,
+            session: *session,
+            pid: *pid,
+            message,
+        }),
+        Entry::Got {
+            at,
+            session,
+            pid,
+            ..
+        } => entries.push_reserved(Entry::Got {
+            at: *at,
+            session: *session,
+            pid: *pid,
+            message,
+        }),
+        Entry::Turn { at, pid, .. } => entries.push_reserved(Entry::Turn {
+            at: *at,
+            pid: *pid,
+            message,
+        }),
+        Entry::Ask { host, .. } => entries.push_reserved(Entry::Ask {
+            host: *host,
+            message,
+        }),
+        _ => return false,
+    }
+    true
+}
+
+// A copy of an entry of a session. `None` for any other form.
+fn copied_of_session(entry: &Entry) -> Option<Entry>
+    ensures { (bytes : List ℕ) → IfSome result (λ copy. copy ≡ with_body bytes entry.now) }
+{
+    match entry {
+        Entry::Up { at, session } => Some(Entry::Up {
+            at: *at,
+            session: *session,
+        }),
+        Entry::Down { at, cause } => Some(Entry::Down {
+            at: *at,
+            cause: *cause,
+        }),
+        Entry::Active { at } => Some(Entry::Active { at: *at }),
+        Entry::GaveUp { at, tries } => Some(Entry::GaveUp {
+            at: *at,
+            tries: *tries,
+        }),
+        _ => None,
+    }
+}
+
+// A copy of an entry of a turn or of a command. `None` for any other form.
+fn copied_of_turn(entry: &Entry) -> Option<Entry>
+    ensures { (bytes : List ℕ) → IfSome result (λ copy. copy ≡ with_body bytes entry.now) }
+{
+    match entry {
+        Entry::Held { at, need, spare } => Some(Entry::Held {
+            at: *at,
+            need: *need,
+            spare: *spare,
+        }),
+        Entry::Command { node, command } => Some(Entry::Command {
+            node: *node,
+            command: command.copied(),
+        }),
+        Entry::AnyOk { node, count } => Some(Entry::AnyOk {
+            node: *node,
+            count: *count,
+        }),
+        Entry::Cut { node } => Some(Entry::Cut { node: *node }),
+        _ => None,
+    }
+}
+
+// A copy of an entry of an init. `None` for any other form.
+fn copied_of_init(entry: &Entry) -> Option<Entry>
+    ensures { (bytes : List ℕ) → IfSome result (λ copy. copy ≡ with_body bytes entry.now) }
+{
+    match entry {
+        Entry::InitSame { at } => Some(Entry::InitSame { at: *at }),
+        Entry::InitMade { at, count } => Some(Entry::InitMade {
+            at: *at,
+            count: *count,
+        }),
+        Entry::InitFailed { at, code } => Some(Entry::InitFailed {
+            at: *at,
+            code: *code,
+        }),
+        _ => None,
+    }
+}
+
+// A copy of an entry whose form has no message, and of which few are noted. `None` for a form that no node notes: a header, an echo, a
+// frame, tables, a boot, what was settled or refused.
+fn copied_of_few(entry: &Entry) -> Option<Entry>
+    ensures { (bytes : List ℕ) → IfSome result (λ copy. copy ≡ with_body bytes entry.now) }
+{
+    match entry {
+        Entry::Up { .. } | Entry::Down { .. } | Entry::Active { .. } | Entry::GaveUp { .. } => {
+            copied_of_session(entry)
+        }
+        Entry::InitSame { .. } | Entry::InitMade { .. } | Entry::InitFailed { .. } => {
+            copied_of_init(entry)
+        }
+        _ => copied_of_turn(entry),
+    }
+}
+
+// Such a copy is put behind the others; `false` for a form that no node notes. There is room for an entry.
+#[cold]
+#[inline(never)]
+fn add_one_of_few(entries: &mut Vec<Entry>, entry: &Entry) -> bool
+    requires room { vec_len entries.old < vec_capacity entries.old }
+    ensures added { (bytes : List ℕ) → IsTrue result → entries.new.items ≡ entries.old.items ++ with_body bytes entry.now ∷ [] }
+    ensures full { result ≡ false → entries.new.items ≡ entries.old.items }
+{
+    let Some(copy) = copied_of_few(entry) else {
+        return false;
+    };
+    entries.push_reserved(copy);
+    true
+}
+
+/// A copy of an entry is put behind the others, with these bytes as its message where its form has one. Whether there was memory for the
+/// message; `false` for a form that no node notes: a header, an echo, a frame, tables, a boot, what was settled or refused. There is room
+/// for an entry.
+pub fn add_copy(
+    entries: &mut Vec<Entry>,
+    spares: &mut Vec<Octets>,
+    entry: &Entry,
+    body: &[u8],
+) -> bool
+    requires room { vec_len entries.old < vec_capacity entries.old }
+    ensures added { IsTrue result → entries.new.items ≡ entries.old.items ++ with_body body.now entry.now ∷ [] }
+    ensures full { result ≡ false → entries.new.items ≡ entries.old.items }
+{
+    match entry {
+        Entry::Sent { .. } | Entry::Got { .. } | Entry::Turn { .. } | Entry::Ask { .. } => {
+            add_with_message(entries, spares, entry, body)
+        }
+        Entry::Acked { at, session, count } => {
+            entries.push_reserved(Entry::Acked {
+                at: *at,
+                session: *session,
+                count: *count,
+            });
+            true
+        }
+        Entry::Dropped { at, pid } => {
+            entries.push_reserved(Entry::Dropped { at: *at, pid: *pid });
+            true
+        }
+        _ => add_one_of_few(entries, entry),
+    }
+}

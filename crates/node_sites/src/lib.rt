@@ -1,0 +1,11 @@
+//! The parts of a world of nodes: what a node of the world does, the two wires of a link, a host with its memory and its wires, and what is
+//! noted of a step. All of it is this project's own.
+#![tactic(auto)]
+
+pub mod copying;
+pub mod nodes;
+pub mod noted;
+pub mod numbering;
+pub mod places;
+pub mod sending;
+pub mod wires;

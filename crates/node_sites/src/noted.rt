@@ -1,0 +1,93 @@
+//! What a line causes, as it is noted.
+ghost use Rattle.std.specs.Prelude.{◌≡◌, [], ◌∷◌, ◌++◌, OnOk};
+ghost use Rattle.trace_model.specs.declared.entry.Entry.TheVariants as note;
+
+use crate::copying::add_copy;
+use swp_base::NoMemory;
+use trace_model::{Entry, NoCause, Octets, Watch};
+
+/// The most messages whose memory is kept. This project's own.
+const MOST_SPARES: usize = 16;
+
+/// What was noted of a line so far, while there was memory for it.
+#[derive(Drop)]
+pub struct Noted {
+    pub entries: Vec<Entry>,
+    pub short: bool,
+    /// Messages that were noted and are forgotten, whose memory serves those to come.
+    pub spares: Vec<Octets>,
+}
+
+impl Noted {
+    ghost use Rattle.std.specs.Prelude.{◌≡◌, []};
+
+    /// Nothing is noted any more.
+    pub fn forget(&mut self)
+        ensures entries { self.new.entries.items ≡ [] }
+        ensures short { self.new.short ≡ self.old.short }
+    {
+        'entries: while let Some(entry) = self.entries.pop() {
+            let_go(entry, &mut self.spares);
+        }
+    }
+}
+
+// An entry is let go; the memory of a message in it is kept.
+fn let_go(entry: Entry, spares: &mut Vec<Octets>) {
+    match entry {
+        Entry::Emit { lpdu, .. } | Entry::Took { lpdu, .. } | Entry::Lost { lpdu, .. } => {
+            drop(lpdu);
+        }
+        Entry::Sent { message, .. }
+        | Entry::Got { message, .. }
+        | Entry::Turn { message, .. }
+        | Entry::Ask { message, .. } => keep(message, spares),
+        Entry::No { .. } | Entry::Acked { .. } | Entry::Up { .. } | Entry::Down { .. } => {}
+        other => drop(other),
+    }
+}
+
+// The memory of a message is kept, where there are few others and memory for it.
+fn keep(message: Octets, spares: &mut Vec<Octets>) {
+    if !message.bytes.is_empty() && spares.len() < MOST_SPARES {
+        let _kept = spares.push(message);
+    }
+}
+
+impl Watch for Noted {
+    ghost noted = { λ n. n.entries.items };
+
+    ghost is_short = { λ n. n.short };
+
+    fn note(&mut self, entry: &Entry, body: &[u8]) {
+        if self.short {
+            return;
+        }
+        if self.entries.reserve(1).is_err() {
+            self.short = true;
+            return;
+        }
+        if !add_copy(&mut self.entries, &mut self.spares, entry, body) {
+            self.short = true;
+        }
+    }
+
+    fn short(&self) -> bool {
+        self.short
+    }
+}
+
+/// A line is refused for this cause, which is noted.
+///
+/// # Errors
+///
+/// No memory is left.
+pub fn refuse(noted: &mut Noted, cause: NoCause) -> Result<(), NoMemory>
+    ensures noted { OnOk result (noted.new.entries.items ≡ noted.old.entries.items ++ note.No cause ∷ []) }
+    ensures short { noted.new.short ≡ noted.old.short }
+{
+    match noted.entries.push(Entry::No { cause }) {
+        Ok(()) => Ok(()),
+        Err(_) => Err(NoMemory),
+    }
+}

@@ -1,0 +1,49 @@
+//! The frames of a node go out.
+ghost use Rattle.std.specs.Prelude.{◌≡◌, ◌+◌, ◌<◌, ◌≤◌, ◌^◌, List, Some, OnOk};
+ghost use Rattle.link_laws.specs.machine.Machine.{frames_out};
+ghost use Rattle.link_laws.specs.messages.Links.{Link, put_all};
+ghost use Rattle.link_laws.specs.entries.Entries.{puts_entries};
+ghost use Rattle.history.specs.Follows.{seen_from};
+ghost use Rattle.link_wires.specs.Notes.{side_of, AreNoted};
+ghost use Rattle.node_machine.specs.Parts.{Core, Port};
+ghost use Rattle.node_machine.specs.Carrying.{port_at, with_port};
+ghost use Rattle.node_sites.specs.LinksKept.{WiresStandFor};
+ghost use Rattle.node_sites.specs.FramesOut.{IsOnly, sent_port, SendsFrom};
+
+use crate::nodes::WorldNode;
+use crate::wires::Wires;
+use std::alloc::AllocError;
+use trace_model::{End, Entry};
+
+/// The most frames that an end sends at one moment: 12 of SHDLC, and 5 of activation.
+const MOST_FRAMES: u8 = 17;
+
+/// All frames go out that are due at a node's end of a link.
+///
+/// # Errors
+///
+/// No memory is left; what the wires stand for then isn't said.
+pub fn send_frames<P: WorldNode>(
+    node: &mut P,
+    at: End,
+    wires: &mut Wires,
+    entries: &mut Vec<Entry>,
+) -> Result<(), AllocError>
+    requires state { (core : Core) × (ports : List Port) × (p : Port) × (l : Link)
+        × SendsFrom (P.runs node.old core ports) at p ports × WiresStandFor wires.old (seen_from at l) }
+    requires room { wires.old.resets + 17 < 2 ^ 32 }
+    ensures stands { (core : Core) (ports : List Port) (p : Port) (l : Link) → SendsFrom (P.runs node.old core ports) at p ports
+        → WiresStandFor wires.old (seen_from at l)
+        → OnOk result (P.runs node.new core (with_port at.link sent_port ports) × WiresStandFor wires.new (seen_from at (put_all l (frames_out p.side)))
+        × AreNoted at entries.old.items entries.new.items (puts_entries (side_of at) l (frames_out p.side))) }
+    ensures memory { P.memory node.new ≡ P.memory node.old }
+    ensures grows { wires.new.resets ≤ wires.old.resets + 17 }
+{
+    for _ in 0..MOST_FRAMES {
+        let Some(lpdu) = node.next_out(at.link) else {
+            return Ok(());
+        };
+        wires.put(at, lpdu, entries)?;
+    }
+    Ok(())
+}
