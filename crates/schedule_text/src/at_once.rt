@@ -16,7 +16,7 @@ use crate::read::{MAX_LINE, small_number};
 use crate::values::{byte_of, end_of, number_of};
 use crate::words::{
     behind_busy, behind_damage, behind_deliver, behind_lose, behind_ready, behind_reset,
-    behind_send, behind_tick, next_word,
+    behind_send, behind_settle, behind_tick, next_word,
 };
 use arrayvec::ArrayVec;
 use trace_model::{End, Header, Line, Octets};
@@ -24,9 +24,9 @@ use trace_model::{End, Header, Line, Octets};
 /// The most digits of a message (this project's own).
 const MOST_DIGITS: usize = 9000;
 
-/// Reads the line below a header that has one of the forms `send`, `deliver`, `lose`, `damage`, `reset`, `tick`, `ready` and `busy`, if it
-/// has no fault, its words stand as they are written and there is memory for its message, which lies in memory that is left over. It is put
-/// where none was before, since a line that is handed out is moved. None there says nothing of a line: `read_line` reads each.
+/// Reads the line below a header that has one of the forms `send`, `deliver`, `lose`, `damage`, `reset`, `tick`, `settle`, `ready` and
+/// `busy`, if it has no fault, its words stand as they are written and there is memory for its message, which lies in memory that is left over.
+/// It is put where none was before, since a line that is handed out is moved. None there says nothing of a line: `read_line` reads each.
 pub fn read_at_once(header: &Header, bytes: &[u8], spare: &mut Vec<u8>, line: &mut Option<Line>)
     requires none { line.old ≡ None }
     ensures said { IfSome line.new (λ said. line_of (Some header.now) bytes.now ≡ Ok (read.Line said)) }
@@ -72,6 +72,12 @@ fn other_at_once(header: &Header, bytes: &[u8], line: &mut Option<Line>)
     if let Some(rest) = behind_tick(bytes) {
         if let Some(times) = tick_at_once(header, rest) {
             *line = Some(Line::Tick { times: Some(times) });
+        }
+        return;
+    }
+    if let Some(rest) = behind_settle(bytes) {
+        if let Some(rounds) = settle_at_once(header, rest) {
+            *line = Some(Line::Settle { rounds });
         }
         return;
     }
@@ -280,6 +286,20 @@ fn tick_at_once(header: &Header, rest: &[u8]) -> Option<u8>
     }
     let times = small_number(word, 100)?;
     Some(times)
+}
+
+/// How many rounds a line `settle N` lets pass at most, if it has no fault.
+#[inline]
+fn settle_at_once(header: &Header, rest: &[u8]) -> Option<u32>
+    ensures { IfSome result (λ rounds. Ok (read.Line (line.Settle rounds))
+        ≡ by_row (Some header.now) (row_for (codes "settle") (words rest.now)) (words rest.now)) }
+{
+    let (word, more) = next_word(rest)?;
+    if next_word(more).is_some() {
+        return None;
+    }
+    let rounds = number_of(word, 1, 20000)?;
+    Some(u32::from(rounds))
 }
 
 /// Whether the header names a host.

@@ -98,6 +98,17 @@ pub(crate) fn behind_busy(line: &[u8]) -> Option<&[u8]>
     }
 }
 
+/// What stands behind the word `settle` at the front of a line, if a space does.
+#[inline(always)]
+pub(crate) fn behind_settle(line: &[u8]) -> Option<&[u8]>
+    ensures { IfSome result (λ rest. words line.now ≡ codes "settle" ∷ words rest.now) }
+{
+    match line {
+        [b's', b'e', b't', b't', b'l', b'e', b' ', ..] => Some(line.split_at(6).1),
+        _ => None,
+    }
+}
+
 /// What stands behind the word `ready` at the front of a line, if a space does.
 #[inline(always)]
 pub(crate) fn behind_ready(line: &[u8]) -> Option<&[u8]>
