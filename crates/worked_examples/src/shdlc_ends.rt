@@ -1,4 +1,4 @@
-//! Worked examples of one SHDLC end.
+//! Worked examples of one SHDLC end. Losses, crossed resets and tries are shown by the cases of bare links.
 ghost use Rattle.std.specs.Prelude.{◌≡◌, ◌≤◌, [], length};
 
 use crate::shown::{same, same_bytes};
@@ -174,40 +174,6 @@ fn up() -> Shdlc
     end
 }
 
-// A new end, which is Down.
-fn down() -> Shdlc
-    ensures { result.due ≡ [] }
-{
-    Shdlc::new(4)
-}
-
-#[test]
-fn lost_frame_is_rejected_and_sent_again(rt: HostRuntime) {
-    let mut host = up();
-    play(
-        &rt,
-        &mut host,
-        &[
-            (Input::Offer, Answer::Nothing, &[0x80]),
-            (Input::Offer, Answer::Nothing, &[0x88]),
-            (Input::Offer, Answer::Nothing, &[0x90]),
-            (Input::S(Kind::Rr, 1), Answer::Acked(1), &[]),
-            (Input::S(Kind::Rej, 1), Answer::Nothing, &[0x88, 0x90]),
-        ],
-    );
-    let mut controller = up();
-    play(
-        &rt,
-        &mut controller,
-        &[
-            (Input::I(0, 0), Answer::Accepted, &[0xC1]),
-            (Input::I(2, 0), Answer::Nothing, &[0xC9]),
-            (Input::I(1, 0), Answer::Accepted, &[0xC2]),
-            (Input::I(2, 0), Answer::Accepted, &[0xC3]),
-        ],
-    );
-}
-
 #[test]
 fn window_and_queue_hold_four(rt: HostRuntime) {
     let mut host = up();
@@ -223,31 +189,6 @@ fn window_and_queue_hold_four(rt: HostRuntime) {
             (Input::S(Kind::Rr, 1), Answer::Acked(1), &[]),
             (Input::Offer, Answer::Nothing, &[0xA0]),
             (Input::S(Kind::Rr, 5), Answer::Acked(4), &[]),
-        ],
-    );
-}
-
-#[test]
-fn lost_acknowledgement_is_answered_again(rt: HostRuntime) {
-    let mut host = up();
-    play(
-        &rt,
-        &mut host,
-        &[
-            (Input::Offer, Answer::Nothing, &[0x80]),
-            (Input::Ticks(9), Answer::Nothing, &[]),
-            (Input::Ticks(1), Answer::Nothing, &[0x80]),
-            (Input::S(Kind::Rr, 1), Answer::Acked(1), &[]),
-            (Input::Ticks(60), Answer::Nothing, &[]),
-        ],
-    );
-    let mut controller = up();
-    play(
-        &rt,
-        &mut controller,
-        &[
-            (Input::I(0, 0), Answer::Accepted, &[0xC1]),
-            (Input::I(0, 0), Answer::Nothing, &[0xC1]),
         ],
     );
 }
@@ -312,58 +253,6 @@ fn reset_from_either_end_starts_a_session(rt: HostRuntime) {
             (Input::Offer, Answer::Nothing, &[0x88]),
             (Input::Offer, Answer::Nothing, &[]),
             (Input::S(Kind::Rr, 1), Answer::Acked(1), &[0x90]),
-        ],
-    );
-}
-
-#[test]
-fn crossed_resets_give_one_session(rt: HostRuntime) {
-    let mut controller = up();
-    play(
-        &rt,
-        &mut controller,
-        &[
-            (Input::Reset(4), Answer::Nothing, &[0xF9]),
-            (Input::Rset(4), Answer::Nothing, &[0xE6]),
-            (Input::Ua, Answer::Began, &[]),
-        ],
-    );
-}
-
-#[test]
-fn fragment_is_tried_five_times(rt: HostRuntime) {
-    let mut host = up();
-    play(
-        &rt,
-        &mut host,
-        &[
-            (Input::Offer, Answer::Nothing, &[0x80]),
-            (Input::Ticks(10), Answer::Nothing, &[0x80]),
-            (Input::Ticks(10), Answer::Nothing, &[0x80]),
-            (Input::Ticks(10), Answer::Nothing, &[0x80]),
-            (Input::Ticks(10), Answer::Nothing, &[0x80]),
-            (Input::Ticks(10), Answer::Nothing, &[0x80]),
-            (Input::Ticks(10), Answer::Ended(Cause::NoAnswer), &[0xF9]),
-            (Input::Ua, Answer::Began, &[]),
-        ],
-    );
-}
-
-#[test]
-fn reset_is_tried_five_times(rt: HostRuntime) {
-    let mut host = down();
-    play(
-        &rt,
-        &mut host,
-        &[
-            (Input::Reset(4), Answer::Nothing, &[0xF9]),
-            (Input::Ticks(10), Answer::Nothing, &[0xF9]),
-            (Input::Ticks(10), Answer::Nothing, &[0xF9]),
-            (Input::Ticks(10), Answer::Nothing, &[0xF9]),
-            (Input::Ticks(10), Answer::Nothing, &[0xF9]),
-            (Input::Ticks(10), Answer::GaveUp(5), &[]),
-            (Input::Offer, Answer::Refused, &[]),
-            (Input::Reset(4), Answer::Nothing, &[0xF9]),
         ],
     );
 }
