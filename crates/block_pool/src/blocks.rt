@@ -378,13 +378,8 @@ impl Blocks {
             &mut out[..count],
         );
         if count < left {
-            self.heads[first as usize] = StoredHead::of(Head {
-                owner: head.owner,
-                last: head.last,
-                len: head.len,
-                read_on,
-                passed: ((from + count as u32) / BLOCK_BYTES as u32) as u16,
-            });
+            let passed = ((from + count as u32) / BLOCK_BYTES as u32) as u16;
+            self.heads[first as usize].go_on_at(read_on, passed);
         }
         count
     }

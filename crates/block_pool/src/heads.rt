@@ -1,6 +1,7 @@
 //! What a pool keeps of each chain, at its first block.
 ghost use Rattle.std.specs.Prelude.{◌≡◌, ℕ, ◌^◌, ◌<◌, ◌≤◌, length, None, Some, IsSome, slice_index_or};
 ghost use Rattle.block_pool.specs.Slots.{blocks_for};
+ghost use Rattle.block_pool.specs.declared.heads.Head.{Head as Kept};
 
 use crate::blocks::BLOCK_BYTES;
 use std::marker::Model;
@@ -79,6 +80,14 @@ impl StoredHead {
             read_on: head.read_on,
             passed: head.passed,
         }
+    }
+
+    /// Reading goes on at another block.
+    pub(crate) fn go_on_at(&mut self, read_on: u16, passed: u16)
+        ensures { (head : Kept) → self.old ≡ Some head → self.new ≡ Some (record head { read_on = read_on; passed = passed }) }
+    {
+        self.read_on = read_on;
+        self.passed = passed;
     }
 
     /// The chain.

@@ -1,4 +1,5 @@
 use Rattle.std.proofs.lemmas.Grind.{common_steps}
+use Rattle.std.proofs.lemmas.List.{get_or_read}
 use Rattle.std.proofs.Common.{◌≡◌, ℕ, ◌+◌, ◌*◌, ◌/◌, ◌<◌, sym, ap, ◌∙◌, subst, arith, length, take, get_or, List, length-take}
 use Rattle.std.specs.Prelude.{[], ◌++◌, replicate, None, Some, IsSome}
 use Rattle.block_pool.specs.Slots.{BlocksState, blocks_for}
@@ -34,30 +35,14 @@ copy_from-read_on-requires-clause-reached c =
     (ap (λ (v : BlocksState). v.slots) c.self.view_is) c.args.first c.requires.some k
     (omega (arith, length-take c.min-count.result c.args.out.now, c.min-count.ensures, len_is, c.requires.in_chain)))
 
-pub overflow_cast-of : goal.overflow_cast-of
-overflow_cast-of c =
+pub overflow_cast-passed : goal.overflow_cast-passed
+overflow_cast-passed c =
     let s = c.self.inside in
     let head = c.head_at-head.result in
     let at : get_or s.heads.items c.args.first None ≡ Some head = rw c.deref.ensures.value at c.head_at-head.ensures.head in
     let few = blocks_few s.region.items s.next.items s.heads.items s.free s.free_len c.self.invariant.0 c.args.first head at in
     let low : (c.args.from + c.min-count.result) / 32 < 16384 = omega (arith, few, c.if-count-left.true) in
     grind (arith, common_steps)
-
-pub of-requires-clause-some : goal.of-requires-clause-some
-of-requires-clause-some c =
-    let s = c.self.inside in
-    let head = c.head_at-head.result in
-    let at : get_or s.heads.items c.args.first None ≡ Some head = rw c.deref.ensures.value at c.head_at-head.ensures.head in
-    let some : 0 < head.len = (c.self.invariant.0.chains c.args.first head at).some in
-    some
-
-pub of-requires-clause-few : goal.of-requires-clause-few
-of-requires-clause-few c =
-    let s = c.self.inside in
-    let head = c.head_at-head.result in
-    let at : get_or s.heads.items c.args.first None ≡ Some head = rw c.deref.ensures.value at c.head_at-head.ensures.head in
-    let few = blocks_few s.region.items s.next.items s.heads.items s.free s.free_len c.self.invariant.0 c.args.first head at in
-    omega (arith, few)
 
 pub invariant_of-self : goal.invariant_of-self
 invariant_of-self c =
@@ -69,7 +54,10 @@ invariant_of-self c =
     let behind : c.copy_from-read_on.result ≡ block_at s.next.items c.args.first ((c.args.from + c.min-count.result) / 32) =
     rw (c.deref-3.ensures.value, copied) at c.copy_from-read_on.ensures.behind in
     let low : (c.args.from + c.min-count.result) / 32 < blocks_for head.len = omega (arith, c.if-count-left.true) in
-    rw c.of.ensures (
+    let first = c.head_at-head.ensures.low in
+    let low_is : c.args.first < length s.heads.items = rw c.deref.ensures.value at first in
+    let was : c.index_mut.result.now ≡ Some head = get_or_read s.heads.items c.args.first c.index_mut.result.now low_is c.index_mut.ensures.value None ∙ at in
+    rw (c.go_on_at.ensures head was) (
       read_on_sound s.region.items s.next.items s.heads.items s.free s.free_len c.self.invariant.0 c.args.first c.copy_from-read_on.result
           ((c.args.from + c.min-count.result) / 32) head at low behind,
       c.self.invariant.1,
@@ -104,7 +92,10 @@ returns-then-count-left-clause-unchanged c =
     let slots =
     read_on_slots s.region.items s.next.items s.heads.items s.free s.free_len c.self.invariant.0 c.args.first c.copy_from-read_on.result passed head at in
     let chains = read_on_chains s.next.items s.heads.items c.args.first c.copy_from-read_on.result passed head low at in
-    rw c.of.ensures (same_state _ _ _ _ _ _ _ s.free_len (ap (λ ss. ss ++ replicate s.fresh None) slots) (ap (λ cs. cs ++ replicate s.fresh []) chains) ∙ c.self.view_is)
+    let was : c.index_mut.result.now ≡ Some head = get_or_read s.heads.items c.args.first c.index_mut.result.now low c.index_mut.ensures.value None ∙ at in
+    rw (c.go_on_at.ensures head was)
+    (same_state _ _ _ _ _ _ _ s.free_len (ap (λ ss. ss ++ replicate s.fresh None) slots) (ap (λ cs. cs ++ replicate s.fresh []) chains)
+    ∙ c.self.view_is)
 
 pub returns-else-count-left-clause-count : goal.returns-else-count-left-clause-count
 returns-else-count-left-clause-count c =
