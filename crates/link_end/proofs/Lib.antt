@@ -8,3 +8,4 @@ pub mod MakeLemmas
 pub mod FormLemmas
 pub mod AccountLemmas
 pub mod RestLemmas
+pub mod IdleLemmas

@@ -5,3 +5,4 @@ pub mod Ends
 pub mod Steps
 pub mod Received
 pub mod Inputs
+pub mod Idle

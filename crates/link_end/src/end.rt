@@ -30,7 +30,7 @@ pub struct End {
 
 impl End {
     ghost use Rattle.std.specs.Prelude.{◌≡◌, ◌≢◌, ℕ, ◌+◌, ◌-◌, ◌<◌, ◌≤◌, [], map, length, true, false, None, Some, IfOk, IfErr, IfSome, OnOk, OnErr, is_some};
-    ghost use Rattle.std.specs.Prelude.{option_map, if◌then◌else◌};
+    ghost use Rattle.std.specs.Prelude.{option_map, if◌then◌else◌, IsTrue};
     ghost use Rattle.std.specs.Bool.{OnTrue, OnFalse};
     ghost use Rattle.shdlc_core.specs.Offering.{StandsBefore};
     ghost use Rattle.shdlc_core.specs.Machine.{stopped, ticked, tick_answer};
@@ -48,6 +48,7 @@ impl End {
     ghost use Rattle.link_end.specs.Dues.{kept_in_front};
     ghost use Rattle.link_end.specs.Ends.{IsFree, MayPass, Halfway, EndStandsFor, EndLeavesOthers, MayTake, Accounts, controls_in};
     ghost use Rattle.link_end.specs.Inputs.{heard_bit};
+    ghost use Rattle.link_end.specs.Idle.{IsIdle};
     ghost use Rattle.link_end.specs.Steps.{ForgetsMessages};
 
     // The window that an end asks for, until a reset names another.
@@ -344,6 +345,21 @@ impl End {
         ensures { result ≡ is_open (role_of self.now.activation) }
     {
         self.activation.is_open()
+    }
+
+    /// Whether nothing is under way: the end is open and Up, no control frame waits, and all fragments that were offered are acknowledged. A
+    /// tick changes nothing then and tells nothing, and no frame is to be sent. False says nothing.
+    #[inline(always)]
+    pub fn is_idle(&self) -> bool
+        ensures { (pool : PoolState) (m : Machine) → EndStandsFor self.now pool m → IsTrue result → IsIdle m }
+    {
+        if !self.activation.is_open() {
+            return false;
+        }
+        if !self.acts.is_empty() {
+            return false;
+        }
+        self.shdlc.is_idle()
     }
 
     /// One tick of an end that isn't open. At most six control frames wait to be fetched before.

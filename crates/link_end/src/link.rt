@@ -23,7 +23,7 @@ pub struct LinkEnd {
 }
 
 impl LinkEnd {
-    ghost use Rattle.std.specs.Prelude.{◌≡◌, ◌≢◌, ℕ, ◌≤◌, ◌∷◌, [], List, None, Ok, IfOk, IfErr, IfSome, OnOk, OnErr, OnSome, option_map};
+    ghost use Rattle.std.specs.Prelude.{◌≡◌, ◌≢◌, ℕ, ◌≤◌, ◌∷◌, [], List, None, Ok, IfOk, IfErr, IfSome, OnOk, OnErr, OnSome, option_map, IsTrue};
     ghost use Rattle.swp_base.specs.declared.link_terms.Role.{Role as Named};
     ghost use Rattle.swp_frame.specs.Signal.{Symbol};
     ghost use Rattle.swp_frame.specs.Kept.{DeframerStandsFor};
@@ -43,6 +43,7 @@ impl LinkEnd {
     ghost use Rattle.link_end.specs.Reports.{report_told, give_told, pass_told, reset_told};
     ghost use Rattle.link_end.specs.Inputs.{fed_input, unit_input, after_some, told_some, after_period, told_period, heard_after};
     ghost use Rattle.link_end.specs.Ends.{IsFree, MayPass, EndStandsFor, EndLeavesOthers, MayTake, Accounts, controls_in};
+    ghost use Rattle.link_end.specs.Idle.{IsIdle};
 
     /// An end of this role, with an owner of 128 blocks for what it sends and one of 512 for what comes. Its window is 4, and it is Up
     /// where it is bare.
@@ -225,6 +226,15 @@ impl LinkEnd {
             Unit::Frame(lpdu) => self.take_lpdu(pool, &lpdu),
             Unit::Refused(fault) => Self::take_broken(fault),
         }
+    }
+
+    /// Whether nothing is under way: the end is open and Up, no control frame waits, and all fragments that were offered are acknowledged. A
+    /// tick changes nothing then and tells nothing, and no frame is to be sent. False says nothing.
+    #[inline(always)]
+    pub fn is_idle(&self) -> bool
+        ensures { (pool : PoolState) (m : Machine) → EndStandsFor self.now.link pool m → IsTrue result → IsIdle m }
+    {
+        self.link.is_idle()
     }
 
     /// One tick of time. At most six control frames wait to be fetched before.

@@ -26,8 +26,8 @@ pub struct LinkReport {
 }
 
 impl LinkReport {
-    // Nothing of this happened.
-    pub(crate) fn nothing() -> LinkReport
+    /// Nothing of this happened.
+    pub fn nothing() -> LinkReport
         ensures { result ≡ nothing_told }
     {
         LinkReport {

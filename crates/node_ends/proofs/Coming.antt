@@ -1,5 +1,5 @@
 -- What comes to an end and brings no message leaves the one that waits there.
-use Rattle.std.proofs.Common.{◌≡◌, ℕ, true, refl, [], ◌++◌, ap, ◌∙◌, subst, append-nil}
+use Rattle.std.proofs.Common.{◌≡◌, ℕ, true, refl, [], ◌++◌, sym, ap, ◌∙◌, subst, append-nil}
 use Rattle.std.specs.Prelude.{Option, None, Some, ◌-◌, is_some}
 use Rattle.block_pool.specs.Pool.{PoolState}
 use Rattle.link_laws.specs.machine.Machine.{LinkEnd as Machine, LinkInput, Refused, after_input, got_by, report, whole_acked, reset_refusal, ended_by}
@@ -23,6 +23,13 @@ still_holds old new k after waiting m i h none out leaves stands =
     input_apart m m.got i out ∙ (ap (λ l. with_got (m.got ++ l) (after_input m i)) none ∙ ap (λ l. with_got l (after_input m i)) (append-nil m.got)) in
     call_holds old new k after waiting m (after_input m i) h leaves (subst (λ n. EndStandsFor after new n) before stands)
     (ap (λ (x : Machine). x.got) all)
+
+-- a tick that changes nothing but for what waits changes nothing
+pub same_apart : (m : Machine) → after_input (without_got m) Tick ≡ without_got m → after_input m Tick ≡ m
+same_apart m same =
+    let all : after_input m Tick ≡ with_got m.got (after_input m Tick) =
+    input_apart m m.got Tick refl ∙ ap (λ l. with_got l (after_input m Tick)) (append-nil m.got) in
+    all ∙ ap (with_got m.got) (sym (input_apart m [] Tick refl) ∙ same)
 
 -- ## What is told
 

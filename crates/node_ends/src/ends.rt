@@ -599,6 +599,11 @@ fn tick_place(seats: &mut [Seat], i: usize, pool: &mut Pool, told: &mut Option<L
         → told.new ≡ option_map (λ (p : Port). report_told (report p.side Tick)) (slice_get ports i) }
 {
     let seat = &mut seats[i];
+    if seat.side.is_idle() {
+        seat.ended = false;
+        *told = Some(LinkReport::nothing());
+        return;
+    }
     let report = told.insert(seat.tick(pool));
     seat.count(report);
 }

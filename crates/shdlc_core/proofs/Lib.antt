@@ -5,3 +5,4 @@ pub mod FramesDue
 pub mod Timers
 pub mod OfferedFrames
 pub mod Offering
+pub mod Idle

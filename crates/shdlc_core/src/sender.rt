@@ -1,6 +1,6 @@
 //! The half of a session that sends: the fragments that aren't acknowledged, and where sending stands (ETSI TS 102 613,
 //! section 10).
-ghost use Rattle.std.specs.Prelude.{◌≡◌, ◌+◌, ◌<◌, ◌≤◌, ◌==◌, ◌++◌, ◌∷◌, [], length, drop, max, false, option_map, IfSome, OnSome, IfNone, ◌%◌};
+ghost use Rattle.std.specs.Prelude.{◌≡◌, ◌+◌, ◌<◌, ◌≤◌, ◌==◌, ◌++◌, ◌∷◌, [], length, drop, max, false, option_map, IfSome, OnSome, IfNone, ◌%◌, IsTrue, ◌↔◌};
 ghost use Rattle.shdlc_core.specs.Kept.{SendsFor};
 ghost use Rattle.shdlc_core.specs.Machine.{Session, place_of, fragment_due, sent_next, runs_timer, new_session};
 
@@ -80,6 +80,14 @@ impl Sender {
         ensures fits { length self.now.queue ≤ 4 }
     {
         self.queue.is_full()
+    }
+
+    /// Whether all that was offered is acknowledged.
+    pub fn is_empty(&self) -> bool
+        ensures value { IsTrue result ↔ (self.now.queue ≡ []) }
+        ensures sent { IsTrue result → self.now.sent ≡ 0 }
+    {
+        self.queue.is_empty()
     }
 
     pub fn push(&mut self, info: &Info)

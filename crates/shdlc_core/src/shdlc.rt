@@ -5,7 +5,7 @@ ghost use Rattle.std.specs.Bool.{OnFalse};
 ghost use Rattle.shdlc_core.specs.Kept.{ShdlcStandsFor, ReceivesFor, frames_left};
 ghost use Rattle.shdlc_core.specs.Machine.{EndState, new_end, begun, up_with, offered, offer_refusal, control_due, frame_due, fetched, acknowledged, received};
 ghost use Rattle.shdlc_core.specs.Machine.{fragment_accepted, with_timer, place_of, gap_found, due_left, taken, take_answer, ticked, tick_answer, sent_again};
-ghost use Rattle.shdlc_core.specs.Machine.{asked_again, waiting_from, no_session, reset_with, stopped, with_ready};
+ghost use Rattle.shdlc_core.specs.Machine.{asked_again, waiting_from, no_session, reset_with, stopped, with_ready, nothing_ticked, all_frames, all_fetched};
 
 use crate::answers::{Due, LinkState, OfferRefused, Taken, Ticked};
 use crate::receiver::Receiver;
@@ -127,6 +127,29 @@ impl Shdlc {
         ensures full { OnFalse result ((self.now.phase ≢ LinkState.Up) ⊎ (length self.now.sender.queue ≡ 4)) }
     {
         self.phase == LinkState::Up && !self.sender.is_full()
+    }
+
+    /// Whether nothing is under way: the end is Up, no control frame waits to be fetched, and all fragments that were offered are
+    /// acknowledged. A tick changes nothing then and tells nothing, and no frame is to be sent.
+    #[inline(always)]
+    pub fn is_idle(&self) -> bool
+        ensures value { IsTrue result ↔ ((self.now.phase ≡ LinkState.Up) × (self.now.due ≡ []) × (self.now.sender.queue ≡ [])) }
+        ensures tick { (e : EndState) → ShdlcStandsFor self.now e → IsTrue result → (ticked e ≡ e) × (tick_answer e ≡ nothing_ticked) }
+        ensures frames { (e : EndState) → ShdlcStandsFor self.now e → IsTrue result → (all_frames e ≡ []) × (all_fetched e ≡ e) }
+    {
+        match self.phase {
+            LinkState::Up => self.has_sent_all(),
+            LinkState::Down | LinkState::Waiting => false,
+        }
+    }
+
+    // Whether no control frame waits to be fetched, and all fragments that were offered are acknowledged.
+    #[inline(always)]
+    fn has_sent_all(&self) -> bool
+        ensures value { IsTrue result ↔ ((self.now.due ≡ []) × (self.now.sender.queue ≡ [])) }
+        ensures sent { IsTrue result → self.now.sender.sent ≡ 0 }
+    {
+        self.due.is_empty() && self.sender.is_empty()
     }
 
     /// Takes a fragment for sending.

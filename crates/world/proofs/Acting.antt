@@ -1,13 +1,20 @@
 -- A step of an end: what comes to it or what its node does, and then its frames go out.
-use Rattle.std.proofs.Common.{◌≡◌, ℕ, ◌≤◌, Bool, true, false, List, [], length, max, ap, subst, ◌∙◌, arith}
-use Rattle.std.specs.Prelude.{is_some}
+use Rattle.std.proofs.Common.{◌≡◌, ℕ, ◌≤◌, Bool, true, false, List, [], ◌++◌, length, max, refl, ap, subst, ◌∙◌, arith}
+use Rattle.std.specs.Prelude.{Option, None, is_some}
 use Rattle.trace_model.specs.declared.entry.Entry.{Entry}
 use Rattle.trace_model.specs.declared.line.End.{End}
 use Rattle.shdlc_core.specs.declared.answers.Due.{Due}
-use Rattle.link_laws.specs.machine.Machine.{LinkEnd, LinkInput, ActDue, report, whole_acked, after_input, ended_by, frames_out}
-use Rattle.link_laws.specs.messages.Links.{Link, number_of, with_ended}
+use Rattle.link_laws.specs.machine.Machine.{LinkEnd, LinkInput, ActDue, Report, report, whole_acked, after_input, ended_by, frames_out, sent_all}
+use Rattle.link_laws.specs.machine.Machine.LinkInput.{Tick}
+use Rattle.link_laws.specs.messages.Links.{Link, number_of, with_ended, with_controller, becomes, put_all, ticks_at_controller}
 use Rattle.link_laws.specs.messages.Links.Ending.{GoesOut}
-use Rattle.link_laws.specs.entries.Entries.{told, told_of, puts_entries, input_entries}
+use Rattle.link_laws.specs.entries.Entries.{End as Who, Entry as Noted, told, told_of, puts_entries, input_entries, tick_entries}
+use Rattle.history.specs.Steps.{idle}
+use Rattle.swp_base.specs.declared.control_frames.Control.{Control}
+use Rattle.swp_base.specs.declared.link_terms.Cause.{Cause}
+use Rattle.link_end.specs.declared.report.LinkReport.{LinkReport}
+use Rattle.link_end.specs.Reports.{report_told, nothing_told}
+use Rattle.link_end.specs.Idle.{IsIdle}
 use Rattle.world.specs.declared.node.Node.{Node}
 use Rattle.world.specs.declared.node.Place.{Place}
 use Rattle.world.specs.declared.side.Side.{Side}
@@ -72,3 +79,34 @@ input_noted {l} {at} {mid} {now} i before h is noted put =
     more_noted at before (told_of (side_of at) l.controller i)
     (puts_entries (side_of at) (with_ended l (is_some (ended_by l.controller.side i))) (frames_out (after_input l.controller.side i)))
     (told_here i before h is noted) put
+
+-- ## An end at which nothing is under way
+
+-- its tick changes nothing of the link
+pub idle_ticks : (l : Link) → IsIdle l.controller.side → ticks_at_controller l [] GoesOut ≡ l
+idle_ticks l still =
+    let m : LinkEnd = l.controller.side in
+    let none : ended_by m Tick ≡ None = ap (λ (r : LinkReport). r.ended) still.told in
+    ap (λ (c : Option Cause). becomes (with_ended l (is_some c)) (after_input m Tick)) none
+    ∙ (ap (λ (e : LinkEnd). becomes l e) still.same
+    ∙ (ap (λ (cs : List Control). with_controller (put_all l cs) (sent_all m)) still.frames ∙ ap (λ (e : LinkEnd). with_controller l e) still.sent))
+
+told_nothing : (who : Who) (n k : ℕ) (r : Report) → report_told r ≡ nothing_told → r.got ≡ [] → told who n r k ≡ []
+told_nothing who n k r is none =
+    let ended : r.ended ≡ None = ap (λ (x : LinkReport). x.ended) is in
+    let began : r.began ≡ false = ap (λ (x : LinkReport). x.began) is in
+    let active : r.became_active ≡ false = ap (λ (x : LinkReport). x.became_active) is in
+    let gave_up : r.gave_up ≡ None = ap (λ (x : LinkReport). x.gave_up) is in
+    let acked : r.acked ≡ 0 = ap (λ (x : LinkReport). x.acked) is in
+    rw (ended, began, active, gave_up, acked, none) refl
+
+-- and nothing is noted of it
+pub idle_entries : (who : Who) (l : Link) → IsIdle l.controller.side → tick_entries who l idle ≡ []
+idle_entries who l still =
+    let m : LinkEnd = l.controller.side in
+    let none : ended_by m Tick ≡ None = ap (λ (r : LinkReport). r.ended) still.told in
+    let put : puts_entries who (with_ended l (is_some (ended_by m Tick))) (frames_out (after_input m Tick)) ≡ [] =
+    ap (λ (c : Option Cause). puts_entries who (with_ended l (is_some c)) (frames_out (after_input m Tick))) none
+    ∙ (ap (λ (e : LinkEnd). puts_entries who l (frames_out e)) still.same ∙ ap (λ (cs : List Control). puts_entries who l cs) still.frames) in
+    ap (λ (es : List Noted). told_of who l.controller Tick ++ es) put
+    ∙ ap (λ (es : List Noted). es ++ []) (told_nothing who (number_of l.controller) (whole_acked (after_input m Tick)) (report m Tick) still.told refl)

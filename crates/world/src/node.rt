@@ -54,6 +54,8 @@ impl Node {
     ghost use Rattle.link_wires.specs.Notes.{side_of};
     ghost use Rattle.world.specs.Nodes.{NodeStandsFor, HasInput, CanFetch, HasFewDue};
     ghost use Rattle.link_wires.specs.Notes.{AreNoted};
+    ghost use Rattle.link_end.specs.Idle.{IsIdle};
+    ghost use Rattle.std.specs.Prelude.{IsTrue};
 
     /// A new end, which is Up.
     pub(crate) fn make(alloc: Global) -> Result<Node, NoMemory>
@@ -134,6 +136,14 @@ impl Node {
         let report = self.end.take_read(&mut self.pool, read);
         self.note(place, &report, entries)?;
         self.note_message(spare, place, entries)
+    }
+
+    /// Whether nothing is under way at the end: a tick changes nothing there and tells nothing, and no frame is to be sent. False says nothing.
+    #[inline(always)]
+    pub(crate) fn is_idle(&self) -> bool
+        ensures { (m : Machine) → NodeStandsFor self.now m → IsTrue result → IsIdle m }
+    {
+        self.end.is_idle()
     }
 
     /// One tick, and what it did is noted.

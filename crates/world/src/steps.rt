@@ -127,6 +127,9 @@ pub(crate) fn tick_end(
         × AreNoted at entries.old.items entries.new.items (tick_entries (side_of at) l idle)) }
     ensures grows { resets.new ≤ resets.old + 12 }
 {
+    if near.node.is_idle() {
+        return Ok(());
+    }
     let place = near.place(at);
     near.node.tick(place, entries)?;
     send_all(at, near, far, resets, entries)

@@ -1,10 +1,14 @@
+use Rattle.std.proofs.Common.{List, sym, subst, append-nil}
 use Rattle.std.specs.Prelude.{is_some}
 use Rattle.link_laws.specs.machine.Machine.{LinkEnd, after_input, ended_by}
 use Rattle.link_laws.specs.machine.Machine.LinkInput.{Tick}
-use Rattle.link_laws.specs.messages.Links.{with_ended}
+use Rattle.link_laws.specs.messages.Links.{Link, with_ended}
+use Rattle.link_laws.specs.entries.Entries.{Entry as Noted}
+use Rattle.link_wires.specs.Notes.{side_of, AreNoted}
+use Rattle.world.specs.Sides.{LinkStandsFor}
 use Rattle.link_wires.proofs.Results.{on_ok}
 use Rattle.world.proofs.Bare.{tick_most}
-use Rattle.world.proofs.Acting.{bare_here, room_here, midway, input_noted}
+use Rattle.world.proofs.Acting.{bare_here, room_here, midway, input_noted, idle_ticks, idle_entries}
 use Rattle.world.proofs.steps.tick_end.Goals as goal
 
 pub tick-requires : goal.tick-requires
@@ -34,3 +38,12 @@ returns-clause-stands c l h short =
     (c.send_all.ensures.stands (with_ended l (is_some (ended_by m Tick))) (after_input m Tick)
     (midway (is_some (ended_by m Tick)) h t.0 (tick_most m bare h.here.idle)))
     (λ r. (r.0, input_noted Tick c.args.entries.now.items h c.place-place.ensures t.1 r.1))
+
+-- where nothing is under way nothing changes
+pub returns-then-is_idle-clause-stands : goal.returns-then-is_idle-clause-stands
+returns-then-is_idle-clause-stands c l h short =
+    let still = c.is_idle.ensures l.controller.side h.here.has.node c.if-is_idle.true in
+    let before = c.args.entries.now.items in (
+      subst (λ (x : Link). LinkStandsFor c.args.near.now c.args.far.now c.args.resets.now x) (sym (idle_ticks l still)) h,
+      subst (λ (es : List Noted). AreNoted c.args.at before before es) (sym (idle_entries (side_of c.args.at) l still)) (sym (append-nil before)),
+    )
