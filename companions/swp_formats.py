@@ -62,6 +62,8 @@ def run(program, main):
         _stop(program, "nobody reads the output")
     except OSError as fault:
         _stop(program, f"{fault.filename}: {fault.strerror}" if fault.filename else str(fault.strerror))
+    except KeyboardInterrupt:
+        sys.exit(130)
     sys.exit(status)
 
 

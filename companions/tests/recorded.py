@@ -76,7 +76,8 @@ def disturbed(wave, period, seed, jitter=0.0, drift=0.0, glitches=0):
 def vcd_of(wave, timescale="1 ps"):
     """A VCD of a wave, in the form of a simulator's."""
     changes, end = wave
-    lines = [f"$timescale {timescale} $end", "$scope module bench $end", "$var wire 1 ! S1 $end", '$var wire 1 " S2 $end', "$upscope $end", "$enddefinitions $end"]
+    lines = [f"$timescale {timescale} $end", "$scope module bench $end", "$var wire 1 ! S1 $end", '$var wire 1 " S2 $end']
+    lines += ["$upscope $end", "$enddefinitions $end"]
     last = 4
     for at, levels in changes:
         lines.append(f"#{at}")

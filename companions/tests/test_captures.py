@@ -206,9 +206,8 @@ class Rules(unittest.TestCase):
     lead = [0.25, 0.75] * 16
 
     def test_each_share_of_a_period_is_its_bit_or_neither(self):
-        for high, byte in [
-            (0.10, 0x50), (0.13, 0x40), (0.25, 0x40), (0.43, 0x40), (0.44, 0x50), (0.5, 0x50), (0.56, 0x50), (0.57, 0x54), (0.75, 0x54), (0.87, 0x54), (0.89, 0x50),
-        ]:  # fmt: skip
+        shares = {0x40: (0.13, 0.25, 0.43), 0x54: (0.57, 0.75, 0.87), 0x50: (0.10, 0.44, 0.5, 0.56, 0.89)}
+        for byte, high in [(byte, high) for byte, highs in shares.items() for high in highs]:
             record, notes = read(vcd_of(bits_wave(self.lead + [high] + self.lead)))
             self.assertEqual(record, b"\x40\x54" * 16 + bytes([byte]) + b"\x40\x54" * 16)
             self.assertEqual("1 periods are neither bit" in notes, byte == 0x50)
@@ -334,6 +333,7 @@ class Inputs(unittest.TestCase):
 
     def test_each_refusal_is_one_line_and_what_was_read_is_written(self):
         none = "line 1: no VCD: {!r} stands before $enddefinitions"
+        three = HEAD.replace("S1", "A").replace("S2", "B").replace("$upscope", "$var wire 1 # C $end $upscope")
         for text, words, said, written in [
             ("", [], "no VCD: no $enddefinitions", b""),
             ("PK\x03\x04..", [], none.format("PK\x03\x04.."), b""),
@@ -346,7 +346,7 @@ class Inputs(unittest.TestCase):
             (HEAD + BODY, ["--s1", "CLK"], "--s1 CLK: no signal of one bit of that name; there are: a.S1, a.S2", b""),
             (HEAD.replace("S2 ", "S1 ") + BODY, ["--s1", "S1"], "--s1 S1: more than one signal of one bit of that name; there are: a.S1, a.S1", b""),
             (HEAD.replace("wire 1 !", "wire 2 !") + BODY, [], "--s1 S1: no signal of one bit of that name; there are: a.S2", b""),
-            (HEAD.replace("S1", "A").replace("S2", "B").replace("$upscope", '$var wire 1 # C $end $upscope'), [], "--s1 S1: no signal of one bit of that name; there are: a.A, a.B, a.C", b""),
+            (three, [], "--s1 S1: no signal of one bit of that name; there are: a.A, a.B, a.C", b""),
             (HEAD + BODY, ["--s2", "S1"], "S1 and S2 are the same signal", b""),
             (HEAD, [], "no time in the file", b""),
             (HEAD + BODY[:BODY.index("#6000")], [], "fewer than 8 bit periods found: is S1 the right signal? else give --period", b""),
@@ -358,8 +358,10 @@ class Inputs(unittest.TestCase):
             ("0,1,1\n1e-6,x,1\n", CSV, "line 2: no numbers in the columns 1, 2, 3", b""),
             ("0,1\n", CSV, "no table: no line has numbers in these columns", b""),
             ("0,1,1\n-1e-6,1,1\n", CSV, "line 2: time goes back", b""),
-            ("0,1,1\n1e-6,nan,1\n", CSV, "line 2: a cell is no number", b""),
-            ("0,1,1\ninf,1,1\n", CSV, "line 2: a cell is no number", b""),
+            ("0,1,1\n1e-6,nan,1\n", CSV, "line 2: a cell is no number, or seconds of 1000000000 or more", b""),
+            ("0,1,1\ninf,1,1\n", CSV, "line 2: a cell is no number, or seconds of 1000000000 or more", b""),
+            ("0,1,1\n1e300,1,1\n", CSV, "line 2: a cell is no number, or seconds of 1000000000 or more", b""),
+            ("$" + "x" * 2_000_000, [], "no VCD: a word has more than a million letters", b""),
             ("", ["--csv", "2,0.6", "3,0.1,0.2"], "--csv: each signal is COLUMN,LOW,HIGH", b""),
             ("", ["--csv", "2,0.6,0.6", "3,0.1,0.2"], "--csv: a column is 2 or above, and LOW is below HIGH", b""),
             ("", ["--csv", "1,0.6,1.2", "3,0.1,0.2"], "--csv: a column is 2 or above, and LOW is below HIGH", b""),
@@ -431,6 +433,12 @@ class Waves(unittest.TestCase):
         bits = [text for _, name, text in shown if name == "uicc_bit"]
         self.assertEqual("".join(bits), "---0" + "".join(map(str, frame_bits(b"\xc1")))[:-3] + "--")
 
+    def test_a_frame_that_begins_in_another_is_shown_to_its_end(self):
+        whole = frame_periods(b"\xc1\xff", CLF)
+        record = whole[:20] + whole + b"\x40\x40"
+        shown = [(at // 100, text) for at, name, text in self.strings(run("rec2vcd", input=record).stdout) if name == "clf_frame"]
+        self.assertEqual(shown, [(0, "refused: broken"), (20, "too long RR"), (20 + len(whole), "-")])
+
     def test_messages_stand_behind_the_frame_that_acknowledges_them(self):
         shown = self.strings(run("rec2vcd", "--messages", "bare", input=self.record).stdout)
         places = [at // 100 for at, name, text in shown if name == "message" and text != "-"]
@@ -459,7 +467,8 @@ class Waves(unittest.TestCase):
 
 
 class Middles(unittest.TestCase):
-    names = ["numbers_wrap", "message_of_4096_bytes", "window_of_four", "lost_frame_is_rejected_and_resent", "both_ways_over_resets", "nodes/relays", "nodes/order_again"]
+    names = ["numbers_wrap", "message_of_4096_bytes", "window_of_four", "lost_frame_is_rejected_and_resent", "both_ways_over_resets"]
+    names += ["nodes/relays", "nodes/order_again"]
 
     def test_what_is_told_of_a_capture_that_begins_late_is_a_tail_of_the_whole(self):
         cuts = told = alone = 0
@@ -493,7 +502,8 @@ class Middles(unittest.TestCase):
     def test_the_notes_name_the_numbers(self):
         part = frame_periods(b"\xab\x81\x43", CLF) + frame_periods(b"\xc5", UICC) + frame_periods(b"\xc3", CLF)
         told = run("from_middle", input=part)
-        self.assertEqual((told.returncode, told.stderr.decode()), (0, "from_middle: the CLF begins at N(S) 5, 0 before it not acknowledged\nfrom_middle: the UICC begins at N(S) 3, 0 before it not acknowledged\n"))
+        notes = [f"from_middle: the {side} begins at N(S) {number}, 0 before it not acknowledged\n" for side, number in (("CLF", 5), ("UICC", 3))]
+        self.assertEqual((told.returncode, told.stderr.decode()), (0, "".join(notes)))
         self.assertTrue(told.stdout.endswith(part))
 
     def test_a_record_that_is_too_long_is_refused(self):
@@ -505,7 +515,8 @@ class LintOfRecords(unittest.TestCase):
     def test_a_record_is_counted(self):
         path = EXAMPLES / "both_ways_over_resets.record"
         told = run("lint_record", path)
-        counted = f"{path}: 1405 bytes: 1405 periods of bits, 0 suspended, 0 resume asked, 0 deactivated, 0 no period\n  frames: 7 of the CLF, 9 of the UICC; refused: 0\n"
+        counted = f"{path}: 1405 bytes: 1405 periods of bits, 0 suspended, 0 resume asked, 0 deactivated, 0 no period\n"
+        counted += "  frames: 7 of the CLF, 9 of the UICC; refused: 0\n"
         self.assertEqual((told.returncode, told.stdout.decode(), told.stderr), (0, counted, b""))
 
     def test_other_files_are_named(self):

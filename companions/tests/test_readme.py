@@ -40,9 +40,8 @@ class Readme(unittest.TestCase):
             os.symlink(Path(SWP).resolve(), f"{folder}/bin/swp")
             paths = f"{folder}/bin:{COMPANIONS}:{os.environ['PATH']}"
             for command, written in told:
-                ran = subprocess.run(
-                    ["bash", "-c", command], cwd=folder, env={**os.environ, "PATH": paths, "SWP": "swp"}, stdout=subprocess.PIPE, stderr=subprocess.STDOUT, check=False
-                )
+                words, names = ["bash", "-c", command], {**os.environ, "PATH": paths, "SWP": "swp"}
+                ran = subprocess.run(words, cwd=folder, env=names, stdout=subprocess.PIPE, stderr=subprocess.STDOUT, check=False)
                 self.assertEqual(ran.stdout.decode(), written, command)
             self.assertTrue(Path(folder, "session.svg").read_text().startswith("<svg "))
 
