@@ -181,6 +181,18 @@ class RoundTrips(unittest.TestCase):
                 self.assertEqual(read(piped)[0], record)
 
     @unittest.skipUnless(SIGROK, "sigrok-cli is not installed")
+    def test_a_hundred_records_with_jitter_and_drift_come_back_through_sigrok(self):
+        form = "binary:numchannels=2:samplerate=50000000"
+        with tempfile.TemporaryDirectory() as folder:
+            for seed in range(100):
+                record = drawn_record(1000 + seed)
+                jitter, drift = 0.05 * (seed % 5 + 1) / 5, 0.05 * (seed % 3) / 2
+                wave = disturbed(wave_of(record, PERIOD), PERIOD, seed, jitter, drift)
+                Path(folder, "a.bin").write_bytes(samples_of(wave, PERIOD // 50))
+                vcd = self.sigrok(folder, "-I", form, "-i", "a.bin", "-C", "0=S1,1=S2", "-O", "vcd")
+                self.assertEqual(read(vcd)[0], record, f"seed {seed}: jitter {jitter}, drift {drift}")
+
+    @unittest.skipUnless(SIGROK, "sigrok-cli is not installed")
     def test_samples_of_a_clock_that_is_off_come_back_through_sigrok(self):
         with tempfile.TemporaryDirectory() as folder:
             for megahertz in (12, 16, 24):
