@@ -5,3 +5,4 @@ pub mod WorldBoots
 pub mod FramesOut
 pub mod Places
 pub mod Memories
+pub mod GivenMessages

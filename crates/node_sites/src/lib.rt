@@ -1,5 +1,5 @@
-//! The parts of a world of nodes: what a node of the world does, the two wires of a link, a host with its memory and its wires, and what is
-//! noted of a step. All of it is this project's own.
+//! The parts of a world of nodes: what a node of the world does, the controller and a host as such, the two wires of a link, a host with its
+//! memory and its wires, and what is noted of a step. All of it is this project's own.
 #![tactic(auto)]
 
 pub mod copying;
@@ -9,3 +9,5 @@ pub mod numbering;
 pub mod places;
 pub mod sending;
 pub mod wires;
+pub mod world_controller;
+pub mod world_host;

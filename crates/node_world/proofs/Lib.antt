@@ -25,10 +25,6 @@ pub mod ControllersTick
 pub mod ControllersPower
 pub mod ControllersAge
 pub mod HostsInWorlds
-mod Regardless
-pub mod NodesRun
-mod NodesBoot
-pub mod HostsGive
 pub mod FewAtEnds
 pub mod FewOnLinks
 pub mod FewInWorlds

@@ -4,4 +4,3 @@ pub mod Whole
 pub mod Controllers
 pub mod Rounds
 pub mod Worlds
-pub mod GivenMessages

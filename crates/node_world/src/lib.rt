@@ -23,8 +23,6 @@ mod plain_steps;
 mod playing;
 mod resting;
 mod rounds;
-mod world_controller;
-mod world_host;
 mod world_ticks;
 mod worlds;
 

@@ -1,0 +1,28 @@
+use Rattle.std.proofs.Common.{true, ℕ, List, map, refl, ◌∙◌, subst}
+use Rattle.swp_base.specs.declared.link_terms.Role.TheVariants.{Clf}
+use Rattle.gate_admin.specs.View.{has, hosts_where}
+use Rattle.swp_base.specs.InMemory.{Memory, ReadsAsPlanned, WritesAsPlanned}
+use Rattle.node_machine.specs.Parts.{Core}
+use Rattle.node_ends.specs.Making.{new_port}
+use Rattle.node_core.specs.declared.booting.BootFault.{BootFault}
+use Rattle.node_core.specs.Booting.{IsBootRefused}
+use Rattle.node_core.specs.Running.{RunsAs}
+use Rattle.node_sites.proofs.NodesBoot.{found_as_booted, boots_so, refused_so}
+use Rattle.node_sites.proofs.world_controller.ControllerMemNvWorldController.boot.Goals as goal
+
+pub returns-in-Ok : goal.returns-in-Ok
+returns-in-Ok c =
+    let e = c.in-Ok.ensures in
+    let m : Memory = c.args.memory in
+    let hosts : List ℕ = hosts_where (has c.args.hosts) in
+    let may = c.requires.memory in
+    let booted = boots_so m may c.in-Ok.booted.store.journal.nv (e.made refl) in
+    let P : Core → Type 0 = λ core. RunsAs c.in-Ok.booted core (map (new_port Clf) hosts) in
+    (booted.0, booted.1, subst P (e.found refl ∙ found_as_booted m.content may.version 0 hosts) e.runs)
+
+pub returns-in-Journal : goal.returns-in-Journal
+returns-in-Journal c =
+    let m : Memory = c.args.memory in
+    let P : BootFault → Type 0 = λ f. IsBootRefused ReadsAsPlanned WritesAsPlanned (λ (x : Memory). x.faults) true (λ (x : Memory). x.content) m
+    c.in-Err.field-0.nv f in
+    refused_so m c.requires.memory (λ (x : Memory). x.faults) c.in-Err.field-0.nv c.in-Journal.field-0 (subst P c.in-Journal.is c.in-Err.ensures.refused)

@@ -1,0 +1,30 @@
+use Rattle.std.proofs.Common.{ℕ, subst}
+use Rattle.link_laws.specs.machine.Machine.{lpdu_input}
+use Rattle.node_machine.specs.Node.{steps}
+use Rattle.node_machine.specs.Node.NodeInput.{AtEnd}
+use Rattle.node_sites.specs.WorldNodes.{HasGone, IsNotedSo, RunsAsHost}
+use Rattle.node_sites.proofs.Regardless.{bare, steps_regardless}
+use Rattle.node_sites.proofs.NodesRun.{memory_in, of_host, still_host, own_host, begins_so, begins_bare, goes_so, noted_so}
+use Rattle.node_sites.proofs.world_host.HostMemNvWorldNode.take.Goals as goal
+
+pub returns-clause-stepped : goal.returns-clause-stepped
+returns-clause-stepped c w lpdu begins says =
+    let noted = c.args.noted.now.entries.items in
+    let t = c.take_read in
+    let b = begins.begins in
+    let n = c.args.self.now in
+    let P : ℕ → Type 0 = λ h. HasGone RunsAsHost memory_in n t.new.self (steps (AtEnd h (lpdu_input lpdu)) w) c.has_power.result in
+    subst P (own_host b.runs begins.here)
+    (goes_so RunsAsHost of_host (still_host t.ensures.number b.runs.number) c.has_power.result
+    (steps_regardless (AtEnd n.number (lpdu_input lpdu))) b
+    (t.ensures.stepped noted (bare w) lpdu (begins_bare RunsAsHost of_host noted c.args.noted.now.short b) says)
+    (c.has_power.ensures t.new.self.store.journal.live t.ensures.ran))
+
+pub returns-clause-noted : goal.returns-clause-noted
+returns-clause-noted c start w lpdu begins says told =
+    let t = c.take_read in
+    let b = begins.begins in
+    let P : ℕ → Type 0 = λ h. IsNotedSo t.new.watch.entries.items t.new.watch.short start (steps (AtEnd h (lpdu_input lpdu)) w).entries in
+    subst P (own_host b.runs begins.here)
+    (noted_so {f = steps (AtEnd c.args.self.now.number (lpdu_input lpdu))} b.plan
+    (t.ensures.stepped start w lpdu (begins_so RunsAsHost of_host b told) says))
