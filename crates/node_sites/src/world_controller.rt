@@ -2,12 +2,12 @@
 ghost use Rattle.std.specs.Prelude.{◌≡◌, Bool};
 ghost use Rattle.node_core.specs.Running.{ran_so};
 
+use crate::nodes::{Booted, MEMORY_SIZE, WorldController, WorldNode};
+use crate::noted::Noted;
 use arrayvec::ArrayVec;
 use hci_tables::Tables;
 use link_end::ResetRefused;
 use node_core::Ran;
-use node_sites::nodes::{Booted, MEMORY_SIZE, WorldController, WorldNode};
-use node_sites::noted::Noted;
 use router::{BootFault, BootRefused, Controller};
 use std::alloc::Global;
 use swp_base::{Control, Lpdu, MemNv, Nv};

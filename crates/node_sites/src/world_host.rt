@@ -1,11 +1,11 @@
 //! A host as the world asks for it.
+use crate::nodes::{Booted, MEMORY_SIZE, WorldHost, WorldNode};
+use crate::noted::Noted;
 use crate::world_controller::has_power;
 use arrayvec::ArrayVec;
 use hci_tables::Tables;
 use host_core::{BootFault, BootRefused, Host, HostRefused};
 use link_end::ResetRefused;
-use node_sites::nodes::{Booted, MEMORY_SIZE, WorldHost, WorldNode};
-use node_sites::noted::Noted;
 use std::alloc::Global;
 use swp_base::{Control, Lpdu, MemNv, Nv};
 use swp_lpdu::LpduFault;
