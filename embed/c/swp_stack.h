@@ -45,11 +45,11 @@ typedef enum swp_code {
     SWP_BAD_ROLE = 22
 } swp_code;
 
-/* Bytes of heap that suffice. A heap begins at a multiple of 8. */
-#define SWP_HOST_HEAP 50000u
-#define SWP_CONTROLLER_HEAP(hosts) (20000u + (hosts) * 50000u)
-#define SWP_LINK_HEAP 50000u
-#define SWP_DECODER_HEAP 9000u
+/* Bytes of heap that each object needs where a pointer has 8 bytes; with pointers of 4 bytes it needs fewer. A heap begins at a multiple of 8. */
+#define SWP_HOST_HEAP 35240u
+#define SWP_CONTROLLER_HEAP(hosts) (5572u + (hosts) * 29668u)
+#define SWP_LINK_HEAP 29808u
+#define SWP_DECODER_HEAP 8392u
 
 /* How many bytes of a heap the object made in it uses. */
 size_t swp_heap_used(const void *heap);
@@ -188,6 +188,9 @@ swp_code swp_link_at_rest(swp_link *link, bool *rests);
 
 /* A frame as a unit of a byte link: its length, the LPDU, its CRC. Room for 34 bytes. */
 swp_code swp_unit_write(const uint8_t *frame, size_t length, uint8_t *unit, size_t *count);
+
+/* A frame as the bits of a line: start, the LPDU and its CRC with stuffed bits, end. Room for 336. */
+swp_code swp_frame_write(const uint8_t *frame, size_t length, bool *bits, size_t *count);
 
 /* ---- The decoder of line records ---- */
 

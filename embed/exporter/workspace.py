@@ -117,7 +117,7 @@ def export_program(repository, out, with_real):
     copy_folder("rtstd/src", f"{out}/rtstd/src")
     copy_folder("rtstd/tests", f"{out}/rtstd/tests")
     write(f"{out}/rtstd/Cargo.toml", manifest("rtstd", [("arrayvec", others["arrayvec"].replace("../..", ".."))], LINTS))
-    names = ["host_core", "router", "swp_base", "swp_tool", "trace_model"]
+    names = ["drawn_schedule", "host_core", "router", "swp_base", "swp_tool", "trace_model"]
     below = [(name, at(f"../crates/{name}")) for name in names] + [("rtstd", at("../rtstd"))]
     write(f"{out}/swp/Cargo.toml", manifest("swp", below, LINTS))
     copy("program/main.rs", f"{out}/swp/src/main.rs")

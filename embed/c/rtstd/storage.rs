@@ -8,8 +8,9 @@ use core::ptr::NonNull;
 use core::slice;
 
 /// What stands at the front of a heap.
+#[repr(C)]
 struct Front {
-    /// How many bytes are given out, this front among them.
+    /// How many bytes are given out, this front among them. `swp_heap_used` of the C library reads it.
     used: usize,
     /// How many there are.
     size: usize,

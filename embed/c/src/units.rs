@@ -3,6 +3,7 @@ use crate::codes::Code;
 use crate::memory::{lpdu, put, put_bytes};
 use byte_link::write_unit;
 use core::mem::size_of;
+use swp_frame::write_frame;
 
 #[unsafe(no_mangle)]
 unsafe extern "C" fn swp_unit_write(frame: *const u8, length: usize, unit: *mut u8, count: *mut usize) -> Code {
@@ -12,6 +13,22 @@ unsafe extern "C" fn swp_unit_write(frame: *const u8, length: usize, unit: *mut 
         let written = write_unit(&lpdu);
         // SAFETY: as above.
         unsafe { put_bytes(unit, 34, written.as_slice()).and(put(count, written.len())) }
+    };
+    write().into()
+}
+
+#[unsafe(no_mangle)]
+unsafe extern "C" fn swp_frame_write(frame: *const u8, length: usize, bits: *mut bool, count: *mut usize) -> Code {
+    let write = || {
+        // SAFETY: the header says what the caller gives.
+        let lpdu = unsafe { lpdu(frame, length) }?;
+        let written = write_frame(&lpdu);
+        let mut bytes = [0; 336];
+        for (byte, bit) in bytes.iter_mut().zip(&written.bits) {
+            *byte = u8::from(*bit);
+        }
+        // SAFETY: as above; the bytes 0 and 1 are the values of a bool.
+        unsafe { put_bytes(bits.cast(), 336, &bytes[..written.bits.len()]).and(put(count, written.bits.len())) }
     };
     write().into()
 }

@@ -2,6 +2,7 @@
 use host_core::Host;
 use router::Controller;
 use rtstd::alloc::Global;
+use std::collections::VecDeque;
 use swp_base::SureNv;
 use trace_model::{Entry, Watch};
 
@@ -21,25 +22,30 @@ impl Watch for Told {
     }
 }
 
-fn main() {
-    let (mut at_clf, mut at_card) = (Told("controller"), Told("host 02"));
-    let mut clf = Controller::boot(Global, 1 << 2, SureNv::new(Global, 65_536).unwrap()).ok().unwrap();
-    let mut card = Host::boot(Global, 2, SureNv::new(Global, 65_536).unwrap()).ok().unwrap();
-    card.activate(0x1A2B, &mut at_card);
-    for round in 0..40 {
-        while let Some(lpdu) = card.next_out() {
-            clf.take(2, &lpdu, &mut at_clf);
-            while let Some(lpdu) = clf.next_out(2) {
-                card.take(&lpdu, &mut at_card);
-            }
-        }
-        if round == 1 {
-            clf.reset(2, None, &mut at_clf).unwrap();
-        } else if round == 3 {
-            card.send(1, &[3], &mut at_card).unwrap();
-        }
-        while let Some(lpdu) = clf.next_out(2) {
-            card.take(&lpdu, &mut at_card);
+fn talk(clf: &mut Controller<SureNv>, card: &mut Host<SureNv>) {
+    let (mut to_clf, mut to_card) = (VecDeque::new(), VecDeque::new());
+    loop {
+        // All frames of a step are fetched before the next one.
+        to_clf.extend(std::iter::from_fn(|| card.next_out()));
+        to_card.extend(std::iter::from_fn(|| clf.next_out(2)));
+        if let Some(lpdu) = to_clf.pop_front() {
+            clf.take(2, &lpdu, &mut Told("controller"));
+        } else if let Some(lpdu) = to_card.pop_front() {
+            card.take(&lpdu, &mut Told("host 02"));
+        } else {
+            return;
         }
     }
+}
+
+fn main() {
+    let memory = || SureNv::new(Global, 65_536).unwrap();
+    let mut clf = Controller::boot(Global, 1 << 2, memory()).ok().unwrap();
+    let mut card = Host::boot(Global, 2, memory()).ok().unwrap();
+    card.activate(0x1A2B, &mut Told("host 02"));
+    talk(&mut clf, &mut card);
+    clf.reset(2, None, &mut Told("controller")).unwrap();
+    talk(&mut clf, &mut card);
+    card.send(1, &[3], &mut Told("host 02")).unwrap();
+    talk(&mut clf, &mut card);
 }
