@@ -238,6 +238,7 @@ impl Ends {
 
     /// One tick at the end at this place. At most six control frames wait there to be sent. What is told of it is put into `told`: `None`
     /// behind the last end.
+    #[inline(always)]
     pub fn tick(&mut self, i: usize, told: &mut Option<LinkReport>)
         requires { (ports : List Port) × EndsStandFor self.old ports × FewAreDue (slice_get ports i) }
         ensures stands { (ports : List Port) → EndsStandFor self.old ports → EndsStandFor self.new (at_place i (λ p. has_come p (Some Tick)) ports) }
@@ -590,6 +591,7 @@ fn deactivate_at(seats: &mut [Seat], i: usize, pool: &mut Pool, host: u8) -> Lin
 }
 
 // One tick there.
+#[inline(always)]
 fn tick_place(seats: &mut [Seat], i: usize, pool: &mut Pool, told: &mut Option<LinkReport>)
     requires inside { i < length seats.old }
     requires stands { (ports : List Port) × AreEnds pool.old seats.old ports × FewAreDue (slice_get ports i) }
