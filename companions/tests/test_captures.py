@@ -302,18 +302,29 @@ class Inputs(unittest.TestCase):
 
     def test_signals_are_named_by_name_path_or_code(self):
         other = HEAD.replace("S1", "SWIO").replace("S2", "shunt")
-        for words in ([], ["--s1", "SWIO"], ["--s1", "a.SWIO", "--s2", "a.shunt"], ["--s1", "!", "--s2", '"'], ["--s1", "swio", "--s2", "Shunt"]):
-            if words[:2] == ["--s1", "SWIO"] or words == []:
-                words = words and ["--s1", "SWIO", "--s2", "shunt"]
-            self.assertEqual(self.whole(other + BODY, *words)[0], TOLD)
-        self.assertIn("S1 is a.SWIO, S2 is a.shunt", self.whole(other + BODY)[1])
+        ways = [["--s1", "SWIO", "--s2", "shunt"], ["--s1", "a.SWIO", "--s2", "a.shunt"], ["--s1", "!", "--s2", '"'], ["--s1", "swio", "--s2", "Shunt"]]
+        for words in ways:
+            record, notes = self.whole(other + BODY, *words)
+            self.assertEqual((record, "S1 is" in notes), (TOLD, False))
+
+    def test_two_signals_of_other_names_are_taken_and_said(self):
+        for names, said in ((("SWIO", "shunt"), "S1 is a.SWIO, S2 is a.shunt"), (("S1", "shunt"), "S1 is a.S1, S2 is a.shunt")):
+            record, notes = self.whole(HEAD.replace("S1", names[0]).replace("S2", names[1]) + BODY)
+            self.assertEqual((record, said in notes), (TOLD, True))
+        turned = HEAD.replace("! S1", '" shunt').replace('" S2', "! S1")
+        record, notes = self.whole(turned + BODY)
+        self.assertEqual((record, "S1 is a.S1, S2 is a.shunt" in notes), (TOLD, True))
+        code = HEAD.replace("! S1", "S2 S1").replace('" S2', "! S2") + BODY.replace("!", "S2")  # S2 is a code too
+        self.assertEqual(self.whole(code)[0], TOLD)
 
     def test_levels_may_be_turned_and_s2_left_out(self):
-        turned = BODY.translate(str.maketrans({"1": "1", "0": "0"})).replace("1!", "x!").replace("0!", "1!").replace("x!", "0!")
+        turned = BODY.replace("1!", "x!").replace("0!", "1!").replace("x!", "0!")
         self.assertEqual(self.whole(HEAD + turned, "--invert-s1")[0], TOLD)
         self.assertEqual(self.whole(HEAD + '#0 0"\n' + BODY, "--invert-s2")[0], b"\xc0\xfc" * 20)
         alone = HEAD.replace('$var wire 1 " S2 $end ', "")
         self.assertEqual(self.whole(alone + BODY, "--no-s2")[0], TOLD)
+        self.assertEqual(self.whole(alone + BODY, "--no-s2", "--invert-s2")[0], TOLD)
+        self.assertEqual(self.whole(HEAD + BODY, "--invert-s2")[0], b"\xc0\xfc" * 20)
 
     def test_forms_of_other_tools_are_read(self):
         first = "META samplerate: 1000000\n" + HEAD + BODY
