@@ -553,12 +553,15 @@ class LintOfRecords(unittest.TestCase):
             (b"swp 1 bare 02\n", "this looks like a schedule: swp replay < FILE"),
             (b"Time,CH1,CH2\n0,1,2\n", "this looks like a table of text: vcd2rec --csv COLUMN,LOW,HIGH COLUMN,LOW,HIGH FILE > RECORD"),
             (b"anything else, on\x01two lines", "more than a tenth of the bytes are no period: this is no record, or its capture had another bit period"),
+            (bytes(0x54 if byte == 0x40 else 0x40 for byte in frames), "no frame, and more than a hundred periods with a 1"),
             (bytes(0x54 if byte == 0x40 else 0x40 for byte in frames), "with S1 inverted there are frames"),
             (frames + bytes(LIMIT), "swp reads 16777216 bytes at most: vcd2rec --idle 64 shortens idle line"),
         ]
         for data, said in cases:
             hints = list(lint_record.hints_of(data, lint_record.counts(data), lint_record.frames(data[:LIMIT])))
             self.assertIn(said, hints)
+        quiet = b"\x40" * 5000
+        self.assertEqual(list(lint_record.hints_of(quiet, lint_record.counts(quiet), lint_record.frames(quiet))), [])
         self.assertEqual(list(lint_record.hints_of(swapped, lint_record.counts(swapped), lint_record.frames(swapped))), [])
         self.assertEqual(lint_record.frames(swapped)[1], 8)
 
