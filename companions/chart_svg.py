@@ -184,8 +184,8 @@ class Drawing:
         """A text of a row, on the colour of its band, so that no line runs through it."""
         y, wide = self.tops[id(row)] + low, width_of(text, size, bold) + 6
         left = x - 3 if anchor == "start" else x - wide + 3
-        self.put(f'<rect class="g" x="{left:.1f}" y="{y:.1f}" width="{wide:.1f}" height="15" fill="{self.grounds[id(row)]}"/>')
-        self.text(x, y + 11.5, text, colour, size, anchor, "b" if bold else "")
+        self.put(f'<rect class="g" x="{left:.1f}" y="{y:.1f}" width="{wide:.1f}" height="14" fill="{self.grounds[id(row)]}"/>')
+        self.text(x, y + 10.5, text, colour, size, anchor, "b" if bold else "")
 
     # ---- the parts of the picture
 
