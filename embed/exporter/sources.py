@@ -3,6 +3,7 @@
 import re
 
 from bodies import Bodies
+from errors import displayed
 from items import Reader
 from tokens import COMMENT, DOC, SIGN, SPACE, STRING, WORD, Refused, Token, closing, is_blank, text_of, tokens_of
 
@@ -145,7 +146,7 @@ class Writer:
         head = text_of(self.bodies.rewritten(item.head))
         if item.body is None:
             return self.lead_of(item) + head + ";"
-        errors = errors_of(item) if any("Error" in [t.text for t in a] for a in item.attributes) else ""
+        errors = displayed(item, self.refuse) if any("Error" in [t.text for t in a] for a in item.attributes) else ""
         return self.lead_of(item) + head + "{" + self.fields(item) + "}" + errors
 
     def fields(self, item):
@@ -278,15 +279,3 @@ def infallible_clone(head):
     """The Clone of a type that has a TryClone."""
     of = head.replace("TryClone", "Clone", 1).rstrip()
     return f"\n\n{of} {{\n    fn clone(&self) -> Self {{\n        std::clone::sure(self)\n    }}\n}}"
-
-
-def errors_of(item):
-    """The Display of an enum of errors, by the texts beside its variants."""
-    texts = re.findall(r'#\[error\(("(?:[^"\\]|\\.)*")\)\]\s*(\w+)\s*(?:\{([^}]*)\})?', text_of(item.body))
-    arms = []
-    for text, variant, fields in texts:
-        names = ", ".join(re.findall(r"(\w+):", fields))
-        arms.append(f"            Self::{variant}{' { ' + names + ' }' if names else ''} => write!(f, {text}),\n")
-    body = "        match self {\n" + "".join(arms) + "        }\n"
-    head = f"impl std::fmt::Display for {item.name} {{\n    fn fmt(&self, f: &mut std::fmt::Formatter<'_>) -> std::fmt::Result {{\n"
-    return f"\n\n{head}{body}    }}\n}}\n\nimpl std::error::Error for {item.name} {{}}"

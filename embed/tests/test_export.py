@@ -72,9 +72,13 @@ class Small(unittest.TestCase):
         self.assertEqual(text, "fn f(x: u8) -> u8 {\n    x\n}\n")
 
     def test_errors_are_displayed_by_their_texts(self):
-        text = written('#[derive(Debug, Error)]\nenum E {\n    #[error("bad {at}")]\n    Bad { at: u32 },\n    #[error("gone")]\n    Gone,\n}\n')
-        self.assertIn('Self::Bad { at } => write!(f, "bad {at}"),\n            Self::Gone => write!(f, "gone"),', text)
+        text = written('#[derive(Debug, Error)]\nenum E {\n    /// A.\n    #[error("bad {at}")]\n    Bad { at: u32 },\n    #[error("gone")]\n    Gone,\n    #[error("of {0}")]\n    Of(Other),\n}\n')
+        for arm in ('Self::Bad { at } => write!(f, "bad {at}"),', 'Self::Gone => write!(f, "gone"),', 'Self::Of(field_0) => write!(f, "of {field_0}"),'):
+            self.assertIn(arm, text)
         self.assertNotIn("#[error", text)
+        for variant in ("Bad,", '#[error(transparent)] Of(Other)', '#[error("a")] Of(#[from] Other)'):
+            with self.assertRaisesRegex(Refused, r"^x\.rt:1: "):
+                written(f"#[derive(Error)] enum E {{ {variant} }}\n")
 
     def test_a_clone_that_may_fail_is_two(self):
         text = written("impl Clone for S {\n    fn clone(&self) -> Result<Self, AllocError> {\n        Ok(S)\n    }\n}\n")
