@@ -1,0 +1,173 @@
+//! A capture as a record.
+ghost use Rattle.std.specs.Prelude.{◌≡◌, ◌≢◌, ◌≤◌, ◌<◌, ◌^◌, ◌⊎◌, Err};
+ghost use Rattle.swp_base.specs.Outside.{Rose};
+ghost use Rattle.swp_capture.specs.declared.status.Status.{Status};
+
+use crate::output::Output;
+use crate::status::Status;
+use line_capture::{CaptureFault, Change, LineReader};
+use swp_base::{Failed, Sink, Source};
+use vcd_text::{Told, VcdFault, VcdReader, VcdRefusal};
+
+/// How many bytes are read at once.
+const MOST_PIECE: usize = 8192;
+
+/// A capture that is being read.
+#[derive(Drop)]
+struct Capture {
+    unit: u64,
+    text: VcdReader,
+    line: Option<LineReader>,
+    output: Output,
+    ghost in_range: { (0 < unit) × (unit ≤ 2 ^ 32) },
+}
+
+/// Reads a capture to its end, and writes its record. `unit` is a sixteenth of the bit period, in femtoseconds. What the bytes of
+/// one read make known is written before the next read, and what was known before a refusal is written too.
+pub fn record_capture<S: Source, K: Sink>(unit: u64, source: &mut S, sink: &mut K) -> Status
+    requires some { 0 < unit }
+    requires few { unit ≤ 2 ^ 32 }
+    ensures read_fault { result ≡ Status.ReadFault → Rose (S.faults source.old) (S.faults source.new) }
+    ensures write_fault { result ≡ Status.WriteFault → Rose (K.faults sink.old) (K.faults sink.new) }
+{
+    let mut capture = Capture {
+        unit,
+        text: VcdReader::new(),
+        line: None,
+        output: Output::new(),
+    };
+    let mut buffer = [0; MOST_PIECE];
+    'reads: for _ in 0..u64::MAX {
+        match source.read(&mut buffer) {
+            Err(Failed) => return Status::ReadFault,
+            Ok(0) => return capture.close(sink),
+            Ok(n) => {
+                let answer = capture.take_all(sink, &buffer[..n]);
+                let status = capture.settled(sink, answer);
+                if status != Status::Done {
+                    return status;
+                }
+            }
+        }
+    }
+    Status::TooLong
+}
+
+impl Capture {
+    /// Writes what is known, and gives how the run ended so far.
+    fn settled<K: Sink>(&mut self, sink: &mut K, answer: Result<(), Status>) -> Status
+        requires { answer ≢ Err Status.ReadFault }
+        ensures count { K.faults sink.old ≤ K.faults sink.new }
+        ensures read { result ≢ Status.ReadFault }
+        ensures fault { result ≡ Status.WriteFault → (answer ≡ Err Status.WriteFault) ⊎ Rose (K.faults sink.old) (K.faults sink.new) }
+    {
+        match (answer, self.output.flush(sink)) {
+            (Err(status), _) => status,
+            (Ok(()), Err(status)) => status,
+            (Ok(()), Ok(())) => Status::Done,
+        }
+    }
+
+    /// Takes bytes of the text.
+    fn take_all<K: Sink>(&mut self, sink: &mut K, bytes: &[u8]) -> Result<(), Status>
+        ensures count { K.faults sink.old ≤ K.faults sink.new }
+        ensures read { result ≢ Err Status.ReadFault }
+        ensures fault { result ≡ Err Status.WriteFault → Rose (K.faults sink.old) (K.faults sink.new) }
+    {
+        for byte in bytes {
+            self.take(sink, *byte)?;
+        }
+        Ok(())
+    }
+
+    /// Takes a byte of the text.
+    fn take<K: Sink>(&mut self, sink: &mut K, byte: u8) -> Result<(), Status>
+        ensures count { K.faults sink.old ≤ K.faults sink.new }
+        ensures read { result ≢ Err Status.ReadFault }
+        ensures fault { result ≡ Err Status.WriteFault → Rose (K.faults sink.old) (K.faults sink.new) }
+    {
+        match self.text.take(byte) {
+            Ok(Told::Nothing) => Ok(()),
+            Ok(Told::Begins(time)) => {
+                self.line = Some(LineReader::begin(self.unit, time));
+                Ok(())
+            }
+            Ok(Told::Changes(change)) => self.change(sink, change),
+            Err(refusal) => Err(refused(refusal)),
+        }
+    }
+
+    /// Takes a change of the line.
+    fn change<K: Sink>(&mut self, sink: &mut K, change: Change) -> Result<(), Status>
+        ensures count { K.faults sink.old ≤ K.faults sink.new }
+        ensures read { result ≢ Err Status.ReadFault }
+        ensures fault { result ≡ Err Status.WriteFault → Rose (K.faults sink.old) (K.faults sink.new) }
+    {
+        let Some(line) = &mut self.line else {
+            return Ok(());
+        };
+        match line.take(change) {
+            Ok(piece) => self.output.add(sink, piece),
+            Err(fault) => Err(self.late(fault)),
+        }
+    }
+
+    /// The text has ended: writes the rest.
+    fn close<K: Sink>(&mut self, sink: &mut K) -> Status
+        ensures count { K.faults sink.old ≤ K.faults sink.new }
+        ensures read { result ≢ Status.ReadFault }
+        ensures fault { result ≡ Status.WriteFault → Rose (K.faults sink.old) (K.faults sink.new) }
+    {
+        let answer = self.end(sink);
+        self.settled(sink, answer)
+    }
+
+    fn end<K: Sink>(&mut self, sink: &mut K) -> Result<(), Status>
+        ensures count { K.faults sink.old ≤ K.faults sink.new }
+        ensures read { result ≢ Err Status.ReadFault }
+        ensures fault { result ≡ Err Status.WriteFault → Rose (K.faults sink.old) (K.faults sink.new) }
+    {
+        // The last word may have no end of line behind it.
+        self.take(sink, b' ')?;
+        let end = match self.text.finish() {
+            Ok(end) => end,
+            Err(refusal) => return Err(refused(refusal)),
+        };
+        if let Some(change) = end.change {
+            self.change(sink, change)?;
+        }
+        let Some(line) = &self.line else {
+            return Ok(());
+        };
+        match line.finish(end.time) {
+            Ok(piece) => self.output.add(sink, piece),
+            Err(fault) => Err(self.late(fault)),
+        }
+    }
+
+    /// What a time that the line refuses is told as. The text refuses it before.
+    fn late(&self, fault: CaptureFault) -> Status
+        ensures read { result ≢ Status.ReadFault }
+        ensures write { result ≢ Status.WriteFault }
+    {
+        let fault = match fault {
+            CaptureFault::TimeBack => VcdFault::TimeBack,
+            CaptureFault::TooLate => VcdFault::TimeTooLarge,
+        };
+        Status::BadCapture {
+            line: self.text.line(),
+            fault,
+        }
+    }
+}
+
+/// A refusal of the text as the end of a run.
+fn refused(refusal: VcdRefusal) -> Status
+    ensures read { result ≢ Status.ReadFault }
+    ensures write { result ≢ Status.WriteFault }
+{
+    Status::BadCapture {
+        line: refusal.line,
+        fault: refusal.fault,
+    }
+}

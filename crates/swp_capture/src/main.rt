@@ -1,0 +1,80 @@
+//! The program `swp_capture`: it reads what a logic analyser recorded of a line, and writes its line record. It makes the adapters
+//! to the operating system, says on standard error how the run ended unless all is done, and ends with the exit status.
+#![tactic(auto)]
+
+mod capture;
+mod output;
+mod status;
+
+ghost use Rattle.std.specs.Prelude.{◌<◌, ◌≤◌, ◌^◌, IfSome};
+
+use capture::record_capture;
+use status::{Status, exit_code, status_text};
+use std::fs::{File, Files};
+use std::io;
+use std::process::ExitCode;
+use std::rt::Runtime;
+use swp_os::{StdinSource, StdoutSink, begin, words};
+
+/// How many femtoseconds a second has, by sixteen.
+const SIXTEENTHS: u64 = 62_500_000_000_000;
+
+/// The lowest and the highest rate, in bits a second.
+const RATES: (u64, u64) = (20_000, 10_000_000);
+
+fn main(rt: HostRuntime) -> ExitCode {
+    let _kept_open = begin(&rt);
+    let status = status_of_run(&rt);
+    if status != Status::Done {
+        // Where even this can't be said, the exit status still tells.
+        let _ = tell(&rt, &status);
+    }
+    ExitCode::from(exit_code(&status))
+}
+
+/// Runs the program over standard input and output.
+fn status_of_run<R: Runtime + Input + Print + AllocGlobal + Files<File = File>>(rt: &R) -> Status {
+    let words = match words(rt) {
+        Ok(words) => words,
+        Err(error) if error.kind() == io::ErrorKind::OutOfMemory => return Status::NoMemory,
+        Err(_) => return Status::BadWords,
+    };
+    let Some(unit) = unit_asked(words.as_slice()) else {
+        return Status::BadWords;
+    };
+    let mut source = StdinSource::new(rt.reader());
+    let mut sink = StdoutSink::new(io::writer(rt));
+    record_capture(unit, &mut source, &mut sink)
+}
+
+/// A sixteenth of the bit period that the words ask for, in femtoseconds; none where they are no command.
+fn unit_asked(words: &[String]) -> Option<u64>
+    ensures some { IfSome result (λ unit. 0 < unit) }
+    ensures few { IfSome result (λ unit. unit ≤ 2 ^ 32) }
+{
+    match words {
+        [form, rate] if form.as_str() == "vcd" => unit_of(rate.as_str()),
+        _ => None,
+    }
+}
+
+fn unit_of(rate: &str) -> Option<u64>
+    ensures some { IfSome result (λ unit. 0 < unit) }
+    ensures few { IfSome result (λ unit. unit ≤ 2 ^ 32) }
+{
+    let Ok(rate) = rate.parse::<u64>() else {
+        return None;
+    };
+    if rate < RATES.0 || rate > RATES.1 {
+        return None;
+    }
+    Some(SIXTEENTHS / rate)
+}
+
+/// Says on standard error how the run ended.
+fn tell<R: Eprint + AllocGlobal>(rt: &R, status: &Status) -> io::Result<()> {
+    match status_text(rt.alloc(), status) {
+        Ok(text) => rt.eprintln(text),
+        Err(_) => Ok(()),
+    }
+}
