@@ -1,9 +1,10 @@
 //! A capture as a record.
-ghost use Rattle.std.specs.Prelude.{◌≡◌, ◌≢◌, ◌≤◌, ◌<◌, ◌^◌, ◌⊎◌, Err};
+ghost use Rattle.std.specs.Prelude.{◌≡◌, ◌≢◌, ◌≤◌, ◌<◌, ◌^◌, ◌⊎◌, IfSome, Err};
 ghost use Rattle.swp_base.specs.Outside.{Rose};
 ghost use Rattle.swp_capture.specs.declared.status.Status.{Status};
 
 use crate::output::Output;
+use crate::rate::Search;
 use crate::status::Status;
 use line_capture::{CaptureFault, Change, LineReader};
 use swp_base::{Failed, Sink, Source};
@@ -16,26 +17,25 @@ const MOST_PIECE: usize = 8192;
 #[derive(Drop)]
 struct Capture {
     unit: u64,
+    is_known: bool,
+    begin: u64,
+    search: Search,
     text: VcdReader,
     line: Option<LineReader>,
     output: Output,
-    ghost in_range: { (0 < unit) × (unit ≤ 2 ^ 32) },
+    ghost in_range: { (0 < unit) × (unit ≤ 2 ^ 32) × (begin < 2 ^ 63) },
 }
 
-/// Reads a capture to its end, and writes its record. `unit` is a sixteenth of the bit period, in femtoseconds. What the bytes of
+/// Reads a capture to its end, and writes its record. `unit` is a sixteenth of the bit period, in femtoseconds; where there is none, it
+/// is found in the first changes, which are kept until then. What the bytes of
 /// one read make known is written before the next read, and what was known before a refusal is written too.
-pub fn record_capture<S: Source, K: Sink>(unit: u64, source: &mut S, sink: &mut K) -> Status
-    requires some { 0 < unit }
-    requires few { unit ≤ 2 ^ 32 }
+pub fn record_capture<S: Source, K: Sink>(unit: Option<u64>, source: &mut S, sink: &mut K) -> Status
+    requires some { IfSome unit (λ u. 0 < u) }
+    requires few { IfSome unit (λ u. u ≤ 2 ^ 32) }
     ensures read_fault { result ≡ Status.ReadFault → Rose (S.faults source.old) (S.faults source.new) }
     ensures write_fault { result ≡ Status.WriteFault → Rose (K.faults sink.old) (K.faults sink.new) }
 {
-    let mut capture = Capture {
-        unit,
-        text: VcdReader::new(),
-        line: None,
-        output: Output::new(),
-    };
+    let mut capture = Capture::new(unit);
     let mut buffer = [0; MOST_PIECE];
     'reads: for _ in 0..u64::MAX {
         match source.read(&mut buffer) {
@@ -54,6 +54,26 @@ pub fn record_capture<S: Source, K: Sink>(unit: u64, source: &mut S, sink: &mut 
 }
 
 impl Capture {
+    /// Nothing is read yet.
+    fn new(unit: Option<u64>) -> Self
+        requires some { IfSome unit (λ u. 0 < u) }
+        requires few { IfSome unit (λ u. u ≤ 2 ^ 32) }
+    {
+        let (unit, is_known) = match unit {
+            Some(unit) => (unit, true),
+            None => (1, false),
+        };
+        Capture {
+            unit,
+            is_known,
+            begin: 0,
+            search: Search::new(),
+            text: VcdReader::new(),
+            line: None,
+            output: Output::new(),
+        }
+    }
+
     /// Writes what is known, and gives how the run ended so far.
     fn settled<K: Sink>(&mut self, sink: &mut K, answer: Result<(), Status>) -> Status
         requires { answer ≢ Err Status.ReadFault }
@@ -89,7 +109,10 @@ impl Capture {
         match self.text.take(byte) {
             Ok(Told::Nothing) => Ok(()),
             Ok(Told::Begins(time)) => {
-                self.line = Some(LineReader::begin(self.unit, time));
+                self.begin = time;
+                if self.is_known {
+                    self.line = Some(LineReader::begin(self.unit, time));
+                }
                 Ok(())
             }
             Ok(Told::Changes(change)) => self.change(sink, change),
@@ -104,12 +127,49 @@ impl Capture {
         ensures fault { result ≡ Err Status.WriteFault → Rose (K.faults sink.old) (K.faults sink.new) }
     {
         let Some(line) = &mut self.line else {
-            return Ok(());
+            return self.seek(sink, change);
         };
         match line.take(change) {
             Ok(piece) => self.output.add(sink, piece),
             Err(fault) => Err(self.late(fault)),
         }
+    }
+
+    /// Keeps a change, and begins the line where the rate is known by it.
+    fn seek<K: Sink>(&mut self, sink: &mut K, change: Change) -> Result<(), Status>
+        ensures count { K.faults sink.old ≤ K.faults sink.new }
+        ensures read { result ≢ Err Status.ReadFault }
+        ensures fault { result ≡ Err Status.WriteFault → Rose (K.faults sink.old) (K.faults sink.new) }
+    {
+        self.search.note(change);
+        if self.search.is_over() {
+            self.begin_line(sink)
+        } else {
+            Ok(())
+        }
+    }
+
+    /// Begins the line at the rate that was found, with the changes that were kept.
+    fn begin_line<K: Sink>(&mut self, sink: &mut K) -> Result<(), Status>
+        ensures count { K.faults sink.old ≤ K.faults sink.new }
+        ensures read { result ≢ Err Status.ReadFault }
+        ensures fault { result ≡ Err Status.WriteFault → Rose (K.faults sink.old) (K.faults sink.new) }
+    {
+        let Some(unit) = self.search.unit() else {
+            return Err(Status::NoRate);
+        };
+        let mut line = LineReader::begin(unit, self.begin);
+        'kept: for at in 0..self.search.count() {
+            let Some(change) = self.search.change_at(at) else {
+                break;
+            };
+            match line.take(change) {
+                Ok(piece) => self.output.add(sink, piece)?,
+                Err(fault) => return Err(self.late(fault)),
+            }
+        }
+        self.line = Some(line);
+        Ok(())
     }
 
     /// The text has ended: writes the rest.
@@ -135,6 +195,9 @@ impl Capture {
         };
         if let Some(change) = end.change {
             self.change(sink, change)?;
+        }
+        if self.line.is_none() {
+            self.begin_line(sink)?;
         }
         let Some(line) = &self.line else {
             return Ok(());

@@ -4,9 +4,10 @@
 
 mod capture;
 mod output;
+mod rate;
 mod status;
 
-ghost use Rattle.std.specs.Prelude.{◌<◌, ◌≤◌, ◌^◌, IfSome};
+ghost use Rattle.std.specs.Prelude.{◌<◌, ◌≤◌, ◌^◌, IfOk, IfSome};
 
 use capture::record_capture;
 use status::{Status, exit_code, status_text};
@@ -39,25 +40,36 @@ fn status_of_run<R: Runtime + Input + Print + AllocGlobal + Files<File = File>>(
         Err(error) if error.kind() == io::ErrorKind::OutOfMemory => return Status::NoMemory,
         Err(_) => return Status::BadWords,
     };
-    let Some(unit) = unit_asked(words.as_slice()) else {
-        return Status::BadWords;
+    let unit = match unit_asked(words.as_slice()) {
+        Ok(unit) => unit,
+        Err(status) => return status,
     };
     let mut source = StdinSource::new(rt.reader());
     let mut sink = StdoutSink::new(io::writer(rt));
     record_capture(unit, &mut source, &mut sink)
 }
 
-/// A sixteenth of the bit period that the words ask for, in femtoseconds; none where they are no command.
-fn unit_asked(words: &[String]) -> Option<u64>
-    ensures some { IfSome result (λ unit. 0 < unit) }
-    ensures few { IfSome result (λ unit. unit ≤ 2 ^ 32) }
+/// A sixteenth of the bit period that the words ask for, in femtoseconds; none where the rate is to be found.
+fn unit_asked(words: &[String]) -> Result<Option<u64>, Status>
+    ensures some { IfOk result (λ unit. IfSome unit (λ u. 0 < u)) }
+    ensures few { IfOk result (λ unit. IfSome unit (λ u. u ≤ 2 ^ 32)) }
 {
-    match words {
-        [form, rate] if form.as_str() == "vcd" => unit_of(rate.as_str()),
-        _ => None,
+    let [form, rate] = words else {
+        return Err(Status::BadWords);
+    };
+    if form.as_str() != "vcd" {
+        return Err(Status::BadWords);
+    }
+    if rate.as_str() == "auto" {
+        return Ok(None);
+    }
+    match unit_of(rate.as_str()) {
+        Some(unit) => Ok(Some(unit)),
+        None => Err(Status::BadWords),
     }
 }
 
+/// A sixteenth of the bit period at a rate; none where it is no number in the range.
 fn unit_of(rate: &str) -> Option<u64>
     ensures some { IfSome result (λ unit. 0 < unit) }
     ensures few { IfSome result (λ unit. unit ≤ 2 ^ 32) }

@@ -13,6 +13,8 @@ pub enum Status {
     BadWords,
     /// Line `line`, from 1, is the first one that is no part of a capture.
     BadCapture { line: u64, fault: VcdFault },
+    /// The rate was to be found, and fewer than 8 bit periods were.
+    NoRate,
     /// A read of the input failed.
     ReadFault,
     /// A write of the output failed.
@@ -29,6 +31,7 @@ pub fn exit_code(status: &Status) -> u8 {
         Status::Done => 0,
         Status::BadWords => 2,
         Status::BadCapture { .. } => 3,
+        Status::NoRate => 4,
         Status::ReadFault => 5,
         Status::WriteFault => 6,
         Status::NoMemory => 8,
@@ -40,11 +43,12 @@ pub fn exit_code(status: &Status) -> u8 {
 pub fn status_text(alloc: Global, status: &Status) -> Result<String, AllocError> {
     match status {
         Status::Done => Ok(String::new(alloc)),
-        Status::BadWords => String::from_str(alloc, "usage: swp_capture vcd RATE"),
+        Status::BadWords => String::from_str(alloc, "usage: swp_capture vcd RATE|auto"),
         Status::BadCapture { line, fault } => {
             let words = fault_words(*fault);
             format!(in alloc; "line {line}: {words}")
         }
+        Status::NoRate => String::from_str(alloc, "no rate: fewer than 8 bit periods found"),
         Status::ReadFault => String::from_str(alloc, "read failed"),
         Status::WriteFault => String::from_str(alloc, "write failed"),
         Status::NoMemory => String::from_str(alloc, "out of memory"),
