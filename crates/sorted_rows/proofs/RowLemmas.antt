@@ -79,7 +79,8 @@ behind-above key k row rows lt = cond-true (ltb k (key row)) (row ∷ rows_behin
 pub without-same : {X : Type 0} (key : X → ℕ) (k : ℕ) (row : X) (rows : List X) → key row ≡ k → without_row key k (row ∷ rows) ≡ without_row key k rows
 without-same key k row rows same = ap (λ b. cond (not b) (row ∷ without_row key k rows) (without_row key k rows)) (eq-eqb (key row) k same)
 
-pub without-other : {X : Type 0} (key : X → ℕ) (k : ℕ) (row : X) (rows : List X) → (key row ≡ k → ⊥) → without_row key k (row ∷ rows) ≡ row ∷ without_row key k rows
+pub without-other : {X : Type 0} (key : X → ℕ) (k : ℕ) (row : X) (rows : List X) → (key row ≡ k → ⊥)
+    → without_row key k (row ∷ rows) ≡ row ∷ without_row key k rows
 without-other key k row rows other = ap (λ b. cond (not b) (row ∷ without_row key k rows) (without_row key k rows)) (ne_eqb (key row) k other)
 
 pub AreRows-with_row : {X : Type 0} (key : X → ℕ) (low high : ℕ) (row : X) (rows : List X) → AreRows key low high rows → low ≤ key row

@@ -4,8 +4,8 @@ use Rattle.std.proofs.lemmas.List.{get_or_read}
 use Rattle.block_pool.specs.Slots.{BlocksState, with_chain, held_bytes}
 use Rattle.block_pool.specs.Layout.{slots_of, laid_bytes}
 use Rattle.block_pool.proofs.FreshLemmas.{set-filled}
-use Rattle.block_pool.proofs.LayoutLemmas.{begun_low, blocks_few, bytes_say, owner_says, len_says, has_head, last_in, head_fits, first_free, push_in_new_block_sound}
-use Rattle.block_pool.proofs.LayoutLemmas.{push_in_new_block_slots}
+use Rattle.block_pool.proofs.LayoutLemmas.{begun_low, blocks_few, bytes_say, owner_says, len_says, has_head, last_in, head_fits, first_free}
+use Rattle.block_pool.proofs.LayoutLemmas.{push_in_new_block_slots, push_in_new_block_sound}
 use Rattle.block_pool.proofs.blocks.Blocks.push_in_new_block.Goals as goal
 
 pub head_at-head-requires : goal.head_at-head-requires
