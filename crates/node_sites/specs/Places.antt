@@ -17,19 +17,19 @@ use Rattle.node_sites.specs.FramesOut.{IsOnly, sent_port}
 
 -- A node of the world runs over its memory, all its frames went out, and its ends are these; or its power is off, and its memory
 -- lies there.
-abbrev pub IsPlace : {P : Type 0} → (P → Core → List Port → Type 0) → (P → Memory) → Option P → Option Memory → Memory → Option Running
+abbrev pub IsNodePlace : {P : Type 0} → (P → Core → List Port → Type 0) → (P → Memory) → Option P → Option Memory → Memory → Option Running
     → (ℕ → NumberedEnd) → Type 0
-IsPlace Runs memory_of (Some n) None m (Some r) near_ends =
+IsNodePlace Runs memory_of (Some n) None m (Some r) near_ends =
     (memory_of n ≡ m) × Runs n r.core (map (λ (d : Desk). port_for (near_ends d.host) d) r.desks)
     × AllByRecursion (λ (d : Desk). next_frame (near_ends d.host).side ≡ None) r.desks
-IsPlace Runs memory_of None (Some kept) m None near_ends = kept ≡ m
-IsPlace Runs memory_of _ _ m _ near_ends = ⊥
+IsNodePlace Runs memory_of None (Some kept) m None near_ends = kept ≡ m
+IsNodePlace Runs memory_of _ _ m _ near_ends = ⊥
 
 -- a host with its memory and its link to the controller
 pub record SiteIs {P : Type 0} (Runs : P → Core → List Port → Type 0) (memory_of : P → Memory) (k : HostSite P) (s : Site) : Type 0 where
   pub host : k.host ≡ s.host
   pub wires : WiresStandFor k.wires s.link
-  pub place : IsPlace Runs memory_of k.on k.off s.memory s.node (λ h. s.link.host)
+  pub place : IsNodePlace Runs memory_of k.on k.off s.memory s.node (λ h. s.link.host)
 
 -- A host n behind a step that has brought it to the state k, with the link l as it sees it, before its frames go out at its one end p.
 pub record IsFinishing {P : Type 0} (Runs : P → Core → List Port → Type 0) (k : HostSite P) (n : P) (live : Bool) (w : Work) (p : Port) (l : Link)

@@ -24,7 +24,7 @@ use Rattle.node_sites.specs.declared.places.HostSite.{HostSite}
 use Rattle.node_world.specs.Bounds.{AcksWithin, FewOn, FewBehind, IsFromOutside}
 use Rattle.node_world.specs.Controllers.{SitesAre, MayGoOn, StandsAt}
 use Rattle.node_world.specs.HostSteps.{IsHostOf, CountsOn, CountsComing, HasBecome}
-use Rattle.node_sites.specs.Places.{SiteIs, IsPlace}
+use Rattle.node_sites.specs.Places.{SiteIs, IsNodePlace}
 use Rattle.node_world.specs.Whole.{IsWithinBounds, SitesBecome}
 use Rattle.node_world.proofs.CountsStay.{counts_few_at_end, resets_fit}
 use Rattle.node_world.proofs.FramesToAll.{others_before, of_these}
@@ -121,7 +121,7 @@ module _ (P : Type 0) (Runs : P → Core → List Port → Type 0) (memory_of : 
       near : ℕ → NumberedEnd
       near h = s.link.host
 
-      go : (on : Option P) (off : Option Memory) (node : Option Running) → s.node ≡ node → IsPlace Runs memory_of on off s.memory node near
+      go : (on : Option P) (off : Option Memory) (node : Option Running) → s.node ≡ node → IsNodePlace Runs memory_of on off s.memory node near
           → IfItRuns s.host (s.host ∷ []) node → node ≡ Some r → AreSendable s.link.host.side.sent
       go (Some n) None (Some q) e place ends runs =
           first_sendable s.link.host s.host q.desks ends.ends (given n q.core (map (λ (d : Desk). port_for s.link.host d) q.desks) place.1)
@@ -177,7 +177,7 @@ module _ (P : Type 0) (Runs : P → Core → List Port → Type 0) (memory_of : 
   pub runs_alike : (k : HostSite P) (s : Site) → SiteIs Runs memory_of k s → is_some k.on ≡ is_some s.node
   runs_alike k s is = go k.on k.off s.node is.place
     where
-      go : (on : Option P) (off : Option Memory) (node : Option Running) → IsPlace Runs memory_of on off s.memory node (λ h. s.link.host)
+      go : (on : Option P) (off : Option Memory) (node : Option Running) → IsNodePlace Runs memory_of on off s.memory node (λ h. s.link.host)
           → is_some on ≡ is_some node
       go (Some n) None (Some r) place = refl
       go (Some n) None None place = absurd place

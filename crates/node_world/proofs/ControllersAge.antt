@@ -14,7 +14,7 @@ use Rattle.node_laws.proofs.telling.Events.{orderly_map}
 use Rattle.node_world.specs.declared.controller.ControllerPlace.{ControllerPlace}
 use Rattle.node_sites.specs.declared.places.HostSite.{HostSite}
 use Rattle.node_sites.specs.Numbers.{CountsFew}
-use Rattle.node_sites.specs.Places.{IsPlace}
+use Rattle.node_sites.specs.Places.{IsNodePlace}
 use Rattle.node_world.specs.Controllers.{SitesAre, WorldIs, WorldBecomes, MayGoOn, AreTimely, FewAreCounted, near_ticks}
 
 -- a host whose frames have grown older
@@ -92,7 +92,7 @@ module _ (C P : Type 0) (CRuns : C → Core → List Port → Type 0) (c_memory 
     pub older_is : (k : ControllerPlace C) (ks news : List (HostSite P)) (w : NodeWorld) → WorldIs CRuns c_memory PRuns p_memory k ks w
         → SitesAre PRuns p_memory news (map older w.sites) → WorldIs CRuns c_memory PRuns p_memory k news (older_world w)
     older_is k ks news w world sites =
-        let Q : (ℕ → NumberedEnd) → Type 0 = λ near. IsPlace CRuns c_memory k.on k.off w.memory w.controller near in
+        let Q : (ℕ → NumberedEnd) → Type 0 = λ near. IsNodePlace CRuns c_memory k.on k.off w.memory w.controller near in
         record { controller = subst Q (sym (all_near w.sites)) world.controller; sites = sites }
 
     pub then_ticks : (k : ControllerPlace C) (ks : List (HostSite P)) (w : NodeWorld) (before mid now : List Entry) → mid ≡ before ++ (all_aged w).1

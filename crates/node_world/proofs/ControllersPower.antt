@@ -25,7 +25,7 @@ use Rattle.node_laws.proofs.telling.Nodes.{link_is}
 use Rattle.node_world.specs.declared.controller.ControllerPlace.{ControllerPlace}
 use Rattle.node_sites.specs.declared.places.HostSite.{HostSite}
 use Rattle.node_sites.specs.WorldNodes.{as_kept}
-use Rattle.node_sites.specs.Places.{IsPlace}
+use Rattle.node_sites.specs.Places.{IsNodePlace}
 use Rattle.node_world.specs.Controllers.{SitesAre, WorldIs, WorldBecomes, MayGoOn, AreTimely, with_bare_link}
 use Rattle.node_sites.specs.Memories.{IsSoundMemory}
 use Rattle.node_world.proofs.Behind.{each_found}
@@ -43,7 +43,7 @@ module _ (P : Type 0) (PRuns : P → Core → List Port → Type 0) (p_memory : 
   all_left (k ∷ ks) [] a = absurd a
   all_left (k ∷ ks) (s ∷ sites) a =
       let g = goes_on s.link NoInput None [] refl tt in
-      let Q : NumberedEnd → Type 0 = λ e. IsPlace PRuns p_memory k.on k.off s.memory s.node (λ h. e) in
+      let Q : NumberedEnd → Type 0 = λ e. IsNodePlace PRuns p_memory k.on k.off s.memory s.node (λ h. e) in
       (record { host = a.0.host; wires = same_stand (cut_same g) a.0.wires; place = subst Q (sym (far s.link)) a.0.place }, all_left ks sites a.1)
     where
       far : (l : Link) → (happens_at_controller l (Step NoInput [] CutOff)).host ≡ l.host
@@ -59,12 +59,12 @@ module _ (P : Type 0) (PRuns : P → Core → List Port → Type 0) (p_memory : 
       pub memory : c_memory node ≡ m
 
     pub runs_over : (on : Option C) (off : Option Memory) (m : Memory) (node : Option Running) (near : ℕ → NumberedEnd) (r : Running) → node ≡ Some r
-        → IsPlace CRuns c_memory on off m node near → RunsOver on m
+        → IsNodePlace CRuns c_memory on off m node near → RunsOver on m
     runs_over on off m runs near r q place =
-        let Q : Option Running → Type 0 = λ o. IsPlace CRuns c_memory on off m o near in
+        let Q : Option Running → Type 0 = λ o. IsNodePlace CRuns c_memory on off m o near in
         go on off refl (subst Q q place)
       where
-        go : (a : Option C) (b : Option Memory) → on ≡ a → IsPlace CRuns c_memory a b m (Some r) near → RunsOver on m
+        go : (a : Option C) (b : Option Memory) → on ≡ a → IsNodePlace CRuns c_memory a b m (Some r) near → RunsOver on m
         go (Some n) None e p = record { node = n; on_is = e; memory = p.0 }
         go (Some n) (Some x) e p = absurd p
         go None (Some x) e p = absurd p
@@ -75,7 +75,7 @@ module _ (P : Type 0) (PRuns : P → Core → List Port → Type 0) (p_memory : 
         → WorldBecomes CRuns c_memory PRuns p_memory new ks before now (controller_cut w, note.Cut 0 ∷ [])
     was_cut k new ks w before now n memory gone sites noted =
         let near : ℕ → NumberedEnd = λ h. (link_to (map left_alone w.sites) h).controller in
-        let N : Option C → Option Memory → Type 0 = λ a b. IsPlace CRuns c_memory a b w.memory None near in
+        let N : Option C → Option Memory → Type 0 = λ a b. IsNodePlace CRuns c_memory a b w.memory None near in
         record {
           world = record {
             controller = subst (λ a. N a new.off) (sym gone.0) (subst (λ b. N None b) (sym gone.1) memory);
@@ -92,17 +92,17 @@ module _ (P : Type 0) (PRuns : P → Core → List Port → Type 0) (p_memory : 
       pub memory : given ≡ m
 
     pub lies_at_hand : (on : Option C) (off : Option Memory) (m given : Memory) (node : Option Running) (near : ℕ → NumberedEnd) → node ≡ None
-        → off ≡ Some given → IsPlace CRuns c_memory on off m node near → LiesAtHand on m given
+        → off ≡ Some given → IsNodePlace CRuns c_memory on off m node near → LiesAtHand on m given
     lies_at_hand on off m given node near q there place =
-        let Q : Option Memory → Option Running → Type 0 = λ b o. IsPlace CRuns c_memory on b m o near in
+        let Q : Option Memory → Option Running → Type 0 = λ b o. IsNodePlace CRuns c_memory on b m o near in
         go on refl (subst (λ o. Q (Some given) o) q (subst (λ b. Q b node) there place))
       where
-        go : (a : Option C) → on ≡ a → IsPlace CRuns c_memory a (Some given) m None near → LiesAtHand on m given
+        go : (a : Option C) → on ≡ a → IsNodePlace CRuns c_memory a (Some given) m None near → LiesAtHand on m given
         go None e p = record { on_is = e; memory = p }
         go (Some n) e p = absurd p
 
     pub at_hand_boots : (on : Option C) (off : Option Memory) (m given : Memory) (node : Option Running) (near : ℕ → NumberedEnd) → node ≡ None
-        → off ≡ Some given → IsSoundMemory m → IsPlace CRuns c_memory on off m node near → IsSoundMemory given
+        → off ≡ Some given → IsSoundMemory m → IsNodePlace CRuns c_memory on off m node near → IsSoundMemory given
     at_hand_boots on off m given node near q there order place =
         let lies = lies_at_hand on off m given node near q there place in
         subst IsSoundMemory (sym lies.memory) order
@@ -151,7 +151,7 @@ module _ (P : Type 0) (PRuns : P → Core → List Port → Type 0) (p_memory : 
         let b : B w.memory = subst B lies.memory booted in
         let D : NodeWorld × List Entry → Type 0 = λ x. WorldBecomes CRuns c_memory PRuns p_memory (record { on = k.on; off = Some left }) news before now x in
         let near : ℕ → NumberedEnd = λ h. (link_to (map left_alone w.sites) h).controller in
-        let N : Option C → Type 0 = λ a. IsPlace CRuns c_memory a (Some left) (after_planned (boot_writes w.memory.content) w.memory) None near in
+        let N : Option C → Type 0 = λ a. IsNodePlace CRuns c_memory a (Some left) (after_planned (boot_writes w.memory.content) w.memory) None near in
         subst D (sym (boot_stops w b.0))
         (record {
           world = record { controller = subst N (sym lies.on_is) b.1; sites = all_left news w.sites sites };
@@ -175,7 +175,7 @@ module _ (P : Type 0) (PRuns : P → Core → List Port → Type 0) (p_memory : 
           let r : Running = found 0 (hosts_in w.sites) w.memory.content in
           let sides = new_sides w w.sites not_on timely (each_found (λ (x : Site). x.host) w.sites may.orderly.different) in
           let D : NodeWorld × List Entry → Type 0 = λ x. WorldBecomes CRuns c_memory PRuns p_memory (record { on = Some n; off = off }) ks before now x in
-          let N : Option Memory → Type 0 = λ o. IsPlace CRuns c_memory (Some n) o (after_planned (boot_writes w.memory.content) w.memory) (Some r) near in
+          let N : Option Memory → Type 0 = λ o. IsNodePlace CRuns c_memory (Some n) o (after_planned (boot_writes w.memory.content) w.memory) (Some r) near in
           let ports = kept n r.core (map (new_port named.Clf) (hosts_in w.sites))
           (map (λ (d : Desk). port_for (near d.host) d) (map new_desk (hosts_in w.sites)))
           (new_ends near (hosts_in w.sites) sides) b.2 in

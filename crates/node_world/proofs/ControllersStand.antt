@@ -18,7 +18,7 @@ use Rattle.node_world.specs.declared.controller.ControllerPlace.{ControllerPlace
 use Rattle.node_sites.specs.declared.places.HostSite.{HostSite}
 use Rattle.node_sites.specs.WorldNodes.{as_kept, GoesOutWhole}
 use Rattle.node_sites.specs.FramesOut.{sent_port}
-use Rattle.node_sites.specs.Places.{IsPlace}
+use Rattle.node_sites.specs.Places.{IsNodePlace}
 use Rattle.node_world.specs.Controllers.{SitesAre, WorldBecomes, SendsTo, HasOneEnd, sent_to, GoesOnWith, WentOffWith}
 use Rattle.node_world.proofs.Behind.{each_found, next_ports, all_sides}
 use Rattle.node_world.proofs.ControllersGo.{EndSteps, EachSteps, midway, midway_hosts, each_one, sent_everywhere, told_alike, none_told, midway_stands}
@@ -94,7 +94,7 @@ module _ (w : NodeWorld) (v : Work) (starts out : Site → Link) (so : Site → 
         kept r.node v.core (sent_to (hosts_in mid_hosts) v.ports) (map (λ (d : Desk). port_for (near_ends d.host) d) left.desks)
         (ap (map as_kept) names ∙ next_ports near_ends v.ports sides) r.runs in
         let m : Memory = after_planned v.writes w.memory in
-        let Place : Option C → Option Memory → Type 0 = λ a b. IsPlace CRuns c_memory a b m (Some left) near_ends in
+        let Place : Option C → Option Memory → Type 0 = λ a b. IsNodePlace CRuns c_memory a b m (Some left) near_ends in
         let place : Place (Some r.node) None = (r.memory ∙ memory, ports, none_left near_ends v.ports sides (whole n v.core v.ports runs)) in
         let there : Place k.on k.off = subst (λ a. Place a k.off) (sym r.on) (subst (Place (Some r.node)) (sym r.off) place) in
         let told : List Entry = flat_map (λ (s : Site). frames_noted Controller s.host (out s) v) w.sites in
@@ -113,7 +113,7 @@ module _ (w : NodeWorld) (v : Work) (starts out : Site → Link) (so : Site → 
         let near_ends : ℕ → NumberedEnd = λ h. (link_to (sites_so CutOff) h).controller in
         let left : Running = record { core = v.core; desks = map (λ (p : Port). p.desk) v.ports } in
         let m : Memory = after_planned v.writes w.memory in
-        let Place : Option C → Option Memory → Type 0 = λ a b. IsPlace CRuns c_memory a b m None near_ends in
+        let Place : Option C → Option Memory → Type 0 = λ a b. IsNodePlace CRuns c_memory a b m None near_ends in
         let there : Place k.on k.off = subst (λ a. Place a k.off) (sym r.on) (subst (Place None) (sym r.off) memory) in
         let told : List Entry = flat_map (λ (s : Site). frames_noted Controller s.host (out s) v) w.sites in
         let World : Bool → NodeWorld = λ b. record { memory = m; controller = cond b None (Some left); sites = sites_so (cond b CutOff GoesOut) } in

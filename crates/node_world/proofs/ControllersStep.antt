@@ -38,7 +38,7 @@ use Rattle.node_sites.specs.declared.places.HostSite.{HostSite}
 use Rattle.node_sites.specs.LinksKept.{SameWires, as_it_comes}
 use Rattle.node_sites.specs.WorldNodes.{as_kept, BeginsAt, GoesOutWhole, HasGone}
 use Rattle.node_sites.specs.Numbers.{AreNumbered, CountsFew, StaysCounted}
-use Rattle.node_sites.specs.Places.{IsPlace}
+use Rattle.node_sites.specs.Places.{IsNodePlace}
 use Rattle.node_world.specs.Controllers.{SitesAre, WorldBecomes, MayGoOn, FewAreCounted, AreSessions, as_it_comes_to, SendsTo, EndsStep}
 use Rattle.node_world.specs.Controllers.{GoesOnWith, WentOffWith}
 use Rattle.node_world.proofs.HostsBegin.{near_side}
@@ -253,7 +253,7 @@ module _ (w : NodeWorld) (r : Running) (h : ℕ) (comes : Comes) (i : LinkInput)
   module _ (C P : Type 0) (CRuns : C → Core → List Port → Type 0) (c_memory : C → Memory) (PRuns : P → Core → List Port → Type 0) (p_memory : P → Memory)
       (kept : (n : C) (core : Core) (ports others : List Port) → map as_kept ports ≡ map as_kept others → CRuns n core ports → CRuns n core others)
       (whole : (n : C) (core : Core) (ports : List Port) → CRuns n core ports → AllByRecursion (λ (p : Port). GoesOutWhole p.side) ports) where
-    pub begins_there : (n : C) → IsPlace CRuns c_memory (Some n) None w.memory (Some r) plain → BeginsAt CRuns c_memory n h Start
+    pub begins_there : (n : C) → IsNodePlace CRuns c_memory (Some n) None w.memory (Some r) plain → BeginsAt CRuns c_memory n h Start
     begins_there n place =
         let one : Stands near r.desks h = stands near r.desks w.sites h s node.ends found in
         record {
@@ -303,7 +303,7 @@ module _ (w : NodeWorld) (r : Running) (h : ℕ) (comes : Comes) (i : LinkInput)
 
     -- the step ends in either way
     pub step_ends : {T F : Type 0} (result : Result T F) (live : Bool) (k : ControllerPlace C) (ks : List (HostSite P)) (old n : C) (before now : List Entry)
-        → IsPlace CRuns c_memory (Some old) None w.memory (Some r) plain → HasGone CRuns c_memory old n Then live
+        → IsNodePlace CRuns c_memory (Some old) None w.memory (Some r) plain → HasGone CRuns c_memory old n Then live
         → (live ≡ true → OnOk result (GoesOnWith CRuns c_memory PRuns p_memory k ks n Then mid_sites before now))
         → (live ≡ false → OnOk result (WentOffWith c_memory PRuns p_memory k ks n Then mid_sites before now)) → OnOk result (Becomes k ks before now)
     step_ends result live k ks old n before now place gone goes_on goes_off = go live refl

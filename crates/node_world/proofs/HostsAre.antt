@@ -20,7 +20,7 @@ use Rattle.node_machine.specs.world.World.{Site, input_of, wires_for, frames_not
 use Rattle.node_machine.proofs.world.Cases.{host_tick, after_tick}
 use Rattle.node_sites.specs.declared.places.HostSite.{HostSite}
 use Rattle.node_sites.specs.LinksKept.{IsFirst, IsReadFirst}
-use Rattle.node_sites.specs.Places.{IsPlace, SiteIs}
+use Rattle.node_sites.specs.Places.{IsNodePlace, SiteIs}
 use Rattle.node_world.specs.HostSteps.{host_stepped, host_hears, host_behind, HasBecome}
 
 -- ## What is kept
@@ -35,10 +35,10 @@ module _ (P : Type 0) (Runs : P → Core → List Port → Type 0) (memory_of : 
 
   pub is_on : {k : HostSite P} {s : Site} {n : P} → SiteIs Runs memory_of k s → k.on ≡ Some n → IsOn k s n
   is_on {k} {s} {n} is on =
-      let Q : Option P → Type 0 = λ a. IsPlace Runs memory_of a k.off s.memory s.node (λ h. s.link.host) in
+      let Q : Option P → Type 0 = λ a. IsNodePlace Runs memory_of a k.off s.memory s.node (λ h. s.link.host) in
       go k.off s.node refl refl (subst Q on is.place)
     where
-      go : (off : Option Memory) (o : Option Running) → k.off ≡ off → s.node ≡ o → IsPlace Runs memory_of (Some n) off s.memory o (λ h. s.link.host)
+      go : (off : Option Memory) (o : Option Running) → k.off ≡ off → s.node ≡ o → IsNodePlace Runs memory_of (Some n) off s.memory o (λ h. s.link.host)
           → IsOn k s n
       go None (Some r) q runs place = record { running = r; runs = runs; off = q; memory = place.0 }
       go None None q runs place = absurd place
@@ -47,10 +47,10 @@ module _ (P : Type 0) (Runs : P → Core → List Port → Type 0) (memory_of : 
   -- it doesn't
   pub is_off : {k : HostSite P} {s : Site} → SiteIs Runs memory_of k s → k.on ≡ None → s.node ≡ None
   is_off {k} {s} is on =
-      let Q : Option P → Type 0 = λ a. IsPlace Runs memory_of a k.off s.memory s.node (λ h. s.link.host) in
+      let Q : Option P → Type 0 = λ a. IsNodePlace Runs memory_of a k.off s.memory s.node (λ h. s.link.host) in
       go k.off s.node refl (subst Q on is.place)
     where
-      go : (off : Option Memory) (o : Option Running) → s.node ≡ o → IsPlace Runs memory_of None off s.memory o (λ h. s.link.host) → s.node ≡ None
+      go : (off : Option Memory) (o : Option Running) → s.node ≡ o → IsNodePlace Runs memory_of None off s.memory o (λ h. s.link.host) → s.node ≡ None
       go (Some m) None runs place = runs
       go (Some m) (Some r) runs place = absurd place
       go None o runs place = absurd place

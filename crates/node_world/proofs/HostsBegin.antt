@@ -17,7 +17,7 @@ use Rattle.node_laws.specs.telling.Telling.{HasEnds, IfItRuns}
 use Rattle.node_laws.proofs.telling.Nodes.{host_opened}
 use Rattle.node_sites.specs.declared.places.HostSite.{HostSite}
 use Rattle.node_sites.specs.WorldNodes.{as_kept, BeginsOver, BeginsAt, HasEndOf, MayBeginAt, MayBeginStep}
-use Rattle.node_sites.specs.Places.{IsPlace, SiteIs}
+use Rattle.node_sites.specs.Places.{IsNodePlace, SiteIs}
 use Rattle.node_world.specs.HostSteps.{IsHostOf}
 
 -- what comes changes no end by itself
@@ -55,10 +55,10 @@ module _ (P : Type 0) (Runs : P → Core → List Port → Type 0) (memory_of : 
   pub host_begins_so : (k : HostSite P) (s : Site) (n : P) (r : Running) (comes : Comes) (entries : List Entry) → SiteIs Runs memory_of k s → k.on ≡ Some n
       → s.node ≡ Some r → BeginsOver Runs memory_of n (work_of r s.memory.plan (λ j. near_end_in (exchanged s.link) comes) entries)
   host_begins_so k s n r comes entries is on runs =
-      let Q : Option P → Option Running → Type 0 = λ a b. IsPlace Runs memory_of a k.off s.memory b (λ h. s.link.host) in
+      let Q : Option P → Option Running → Type 0 = λ a b. IsNodePlace Runs memory_of a k.off s.memory b (λ h. s.link.host) in
       go k.off (subst (λ b. Q (Some n) b) runs (subst (λ a. Q a s.node) on is.place))
     where
-      go : (off : Option Memory) → IsPlace Runs memory_of (Some n) off s.memory (Some r) (λ h. s.link.host)
+      go : (off : Option Memory) → IsNodePlace Runs memory_of (Some n) off s.memory (Some r) (λ h. s.link.host)
           → BeginsOver Runs memory_of n (work_of r s.memory.plan (λ j. near_end_in (exchanged s.link) comes) entries)
       go (Some m) place = absurd place
       go None place =

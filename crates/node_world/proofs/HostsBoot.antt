@@ -20,7 +20,7 @@ use Rattle.node_sites.specs.declared.places.HostSite.{HostSite}
 use Rattle.node_sites.specs.declared.wires.Wires.{Wires}
 use Rattle.node_sites.specs.LinksKept.{WiresStandFor, with_bare_wires}
 use Rattle.node_sites.specs.WorldNodes.{as_kept}
-use Rattle.node_sites.specs.Places.{IsPlace, SiteIs}
+use Rattle.node_sites.specs.Places.{IsNodePlace, SiteIs}
 use Rattle.node_sites.specs.Memories.{IsSoundMemory}
 use Rattle.node_world.specs.HostSteps.{host_boots, HasBecome}
 use Rattle.node_world.proofs.GoingOn.{goes_on, cut_same, same_stand, same_exchanged}
@@ -44,10 +44,10 @@ module _ (P : Type 0) (Runs : P → Core → List Port → Type 0) (memory_of : 
 
   lies_there : (k : HostSite P) (s : Site) (m : Memory) → SiteIs Runs memory_of k s → s.node ≡ None → k.off ≡ Some m → LiesThere k s m
   lies_there k s m is off q =
-      let Q : Option Memory → Option Running → Type 0 = λ b o. IsPlace Runs memory_of k.on b s.memory o (λ h. s.link.host) in
+      let Q : Option Memory → Option Running → Type 0 = λ b o. IsNodePlace Runs memory_of k.on b s.memory o (λ h. s.link.host) in
       go k.on refl (subst (λ o. Q (Some m) o) off (subst (λ b. Q b s.node) q is.place))
     where
-      go : (on : Option P) → k.on ≡ on → IsPlace Runs memory_of on (Some m) s.memory None (λ h. s.link.host) → LiesThere k s m
+      go : (on : Option P) → k.on ≡ on → IsNodePlace Runs memory_of on (Some m) s.memory None (λ h. s.link.host) → LiesThere k s m
       go None here place = record { on = here; memory = place }
       go (Some n) here place = absurd place
 
@@ -81,7 +81,7 @@ module _ (P : Type 0) (Runs : P → Core → List Port → Type 0) (memory_of : 
         let C : Site × List Entry → Type 0 = λ x.
         HasBecome Runs memory_of (record { host = k.host; wires = k.wires; on = Some n; off = off }) before now x in
         let N : Option Memory → Type 0 = λ o.
-        IsPlace Runs memory_of (Some n) o (after_planned (boot_writes s.memory.content) s.memory) (Some r) (λ h. s.link.host) in
+        IsNodePlace Runs memory_of (Some n) o (after_planned (boot_writes s.memory.content) s.memory) (Some r) (λ h. s.link.host) in
         subst C (sym (boot_goes s b.0))
         (record {
           site = record {
@@ -105,7 +105,7 @@ module _ (P : Type 0) (Runs : P → Core → List Port → Type 0) (memory_of : 
       let C : Site × List Entry → Type 0 = λ x.
       HasBecome Runs memory_of (record { host = k.host; wires = wires; on = k.on; off = Some left }) before now x in
       let gone : Site = host_cut (record s { memory = after_planned (boot_writes s.memory.content) s.memory }) in
-      let N : Option P → Type 0 = λ a. IsPlace Runs memory_of a (Some left) gone.memory None (λ h. gone.link.host) in
+      let N : Option P → Type 0 = λ a. IsNodePlace Runs memory_of a (Some left) gone.memory None (λ h. gone.link.host) in
       let g = goes_on (exchanged s.link) NoInput None [] refl tt in
       subst C (sym (boot_stops s b.0))
       (record {

@@ -18,7 +18,7 @@ use Rattle.node_sites.specs.declared.places.HostSite.{HostSite}
 use Rattle.node_sites.specs.LinksKept.{SameWires, with_bare_wires}
 use Rattle.node_sites.specs.WorldNodes.{as_kept}
 use Rattle.node_sites.specs.FramesOut.{sent_port}
-use Rattle.node_sites.specs.Places.{IsPlace, SiteIs, RunsOn, WentOff}
+use Rattle.node_sites.specs.Places.{IsNodePlace, SiteIs, RunsOn, WentOff}
 use Rattle.node_world.specs.HostSteps.{EndDoes, host_behind}
 use Rattle.node_world.proofs.GoingOn.{same_stand, same_exchanged, silent_same}
 
@@ -81,7 +81,7 @@ module _ (P : Type 0) (Runs : P → Core → List Port → Type 0) (memory_of : 
       kept r.node k.core (with_port old.host sent_port k.ports) (map (λ (d : Desk). port_for near_end d) left.desks)
       (ap (λ h. map as_kept (with_port h sent_port k.ports)) was ∙ ends_next s.host e.port near_end k.ports hosts e.here refl) r.runs in
       let Place : Option P → Option Memory → Type 0 = λ a b.
-      IsPlace Runs memory_of a b (after_planned k.writes s.memory) (Some left) (λ h. near_end) in
+      IsNodePlace Runs memory_of a b (after_planned k.writes s.memory) (Some left) (λ h. near_end) in
       let place : Place (Some r.node) None = (r.memory ∙ memory, ports, all_sent left.desks (sent_all e.port.side) none) in
       let there : Place new.on new.off = subst (λ a. Place a new.off) (sym r.on) (subst (Place (Some r.node)) (sym r.off) place) in
       let w = r.wires in
@@ -119,7 +119,7 @@ module _ (P : Type 0) (Runs : P → Core → List Port → Type 0) (memory_of : 
   host_went_off off r =
       let is : host_behind s step k ≡ goes_to (step_so true) None = ap (λ (b : Bool). goes_to (step_so b) (cond b None (Some left))) off in
       let Place : Option P → Option Memory → Type 0 = λ a b.
-      IsPlace Runs memory_of a b (after_planned k.writes s.memory) None (λ h. (step_so true).controller) in
+      IsNodePlace Runs memory_of a b (after_planned k.writes s.memory) None (λ h. (step_so true).controller) in
       let place : Place None (Some (memory_of n)) = memory in
       let there : Place new.on new.off = subst (λ a. Place a new.off) (sym r.on) (subst (Place None) (sym r.off) place) in
       let S : Site → Type 0 = λ x. SiteIs Runs memory_of new x in

@@ -27,7 +27,7 @@ use Rattle.node_sites.specs.declared.wires.WireEnd.{WireEnd}
 use Rattle.node_sites.specs.declared.wires.Wires.{Wires}
 use Rattle.node_sites.specs.LinksKept.{WireEndIs, WiresStandFor, as_it_comes, without_first, IsFirst}
 use Rattle.node_sites.specs.WorldNodes.{as_kept, BeginsOver, BeginsAt, HasGone, IsNotedSo}
-use Rattle.node_sites.specs.Places.{IsPlace, SiteIs}
+use Rattle.node_sites.specs.Places.{IsNodePlace, SiteIs}
 use Rattle.node_world.specs.HostSteps.{host_stepped, host_hears, host_behind, IsHostOf, CountsComing, MayTick, IsToSend, HasBecome}
 use Rattle.node_world.proofs.HostsBegin.{begins_at_end}
 use Rattle.node_world.proofs.HostsAre.{IsOn, is_on, goes_by, stepped_on, hears_on, ticks_on, hears_none, none_first, first_taken}
@@ -175,7 +175,7 @@ module _ (P : Type 0) (Runs : P → Core → List Port → Type 0) (memory_of : 
       let input : input_of (exchanged s.link) NextFrame ≡ None = none_first (exchanged s.link) nothing in
       let new : HostSite P = record { host = k.host; wires = k.wires; on = Some n; off = k.off } in
       let B : Site × List Entry → Type 0 = λ x. HasBecome Runs memory_of new before before x in
-      let Q : Option P → Type 0 = λ a. IsPlace Runs memory_of a k.off s.memory s.node (λ h. s.link.host) in
+      let Q : Option P → Type 0 = λ a. IsNodePlace Runs memory_of a k.off s.memory s.node (λ h. s.link.host) in
       subst B (sym (hears_none s NextFrame input))
       (record {
         site = record {

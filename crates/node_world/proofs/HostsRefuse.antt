@@ -23,7 +23,7 @@ use Rattle.node_laws.proofs.telling.Mute.{AreMute}
 use Rattle.node_laws.proofs.telling.Nodes.{host_opened}
 use Rattle.node_sites.specs.declared.places.HostSite.{HostSite}
 use Rattle.node_sites.specs.WorldNodes.{as_kept}
-use Rattle.node_sites.specs.Places.{IsPlace, SiteIs}
+use Rattle.node_sites.specs.Places.{IsNodePlace, SiteIs}
 use Rattle.node_world.specs.HostSteps.{IsHostOf, HasBecome, reset_noted, reset_refused_at, sending_refused}
 use Rattle.node_world.proofs.HostsAre.{is_on}
 
@@ -78,7 +78,7 @@ module _ (P : Type 0) (Runs : P → Core → List Port → Type 0) (memory_of : 
   runs_here =
       let here = is_on P Runs memory_of is on in
       let r : Running = here.running in
-      let Q : Option P → Option Memory → Option Running → Type 0 = λ a b o. IsPlace Runs memory_of a b s.memory o (λ h. s.link.host) in
+      let Q : Option P → Option Memory → Option Running → Type 0 = λ a b o. IsNodePlace Runs memory_of a b s.memory o (λ h. s.link.host) in
       let place : Q (Some n) None (Some r) =
       subst (λ o. Q (Some n) None o) here.runs (subst (λ b. Q (Some n) b s.node) here.off (subst (λ a. Q a k.off s.node) on is.place)) in
       record { running = r; on_is = here.runs; runs = place.1; end = own_end k.host s r host is.host here.runs }
@@ -114,14 +114,14 @@ module _ (P : Type 0) (Runs : P → Core → List Port → Type 0) (memory_of : 
       → (before now : List Entry) → now ≡ before
       → HasBecome Runs memory_of (record { host = k.host; wires = k.wires; on = Some m; off = k.off }) before now (s, [])
   still_stands k s n m is on runs memory before now q =
-      let Q : Option P → Type 0 = λ a. IsPlace Runs memory_of a k.off s.memory s.node (λ h. s.link.host) in
+      let Q : Option P → Type 0 = λ a. IsNodePlace Runs memory_of a k.off s.memory s.node (λ h. s.link.host) in
       record {
         site = record { host = is.host; wires = is.wires; place = go k.off s.node (subst Q on is.place) };
         noted = q ∙ sym (append-nil before);
       }
     where
-      go : (off : Option Memory) (o : Option Running) → IsPlace Runs memory_of (Some n) off s.memory o (λ h. s.link.host)
-          → IsPlace Runs memory_of (Some m) off s.memory o (λ h. s.link.host)
+      go : (off : Option Memory) (o : Option Running) → IsNodePlace Runs memory_of (Some n) off s.memory o (λ h. s.link.host)
+          → IsNodePlace Runs memory_of (Some m) off s.memory o (λ h. s.link.host)
       go None (Some r) p = (memory ∙ p.0, runs r.core (map (λ (d : Desk). port_for s.link.host d) r.desks) p.1, p.2)
       go None None p = p
       go (Some x) o p = p

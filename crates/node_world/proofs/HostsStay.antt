@@ -15,7 +15,7 @@ use Rattle.node_machine.specs.world.World.{Site, host_ticks}
 use Rattle.node_laws.specs.telling.Telling.{IfOff}
 use Rattle.node_sites.specs.declared.places.HostSite.{HostSite}
 use Rattle.node_sites.specs.LinksKept.{SameWires}
-use Rattle.node_sites.specs.Places.{IsPlace, SiteIs}
+use Rattle.node_sites.specs.Places.{IsNodePlace, SiteIs}
 use Rattle.node_world.specs.HostSteps.{MayTick, HasBecome}
 use Rattle.node_world.proofs.GoingOn.{same_stand, same_exchanged, same_twice}
 use Rattle.node_world.proofs.TicksGo.{ticks_on}
@@ -45,8 +45,8 @@ module _ (P : Type 0) (Runs : P → Core → List Port → Type 0) (memory_of : 
       let after : Link = exchanged (ticks_at_controller (exchanged s.link) [] GoesOut) in
       let none : host_ticks s ≡ (record s { link = after }, []) = rw off refl in
       let B : Site × List Entry → Type 0 = λ x. HasBecome Runs memory_of k entries entries x in
-      let Here : Option Running → Type 0 = λ o. IsPlace Runs memory_of k.on k.off s.memory o (λ h. s.link.host) in
-      let There : Option Running → Type 0 = λ o. IsPlace Runs memory_of k.on k.off s.memory o (λ h. after.host) in
+      let Here : Option Running → Type 0 = λ o. IsNodePlace Runs memory_of k.on k.off s.memory o (λ h. s.link.host) in
+      let There : Option Running → Type 0 = λ o. IsNodePlace Runs memory_of k.on k.off s.memory o (λ h. after.host) in
       subst B (sym none)
       (record {
         site = record {
@@ -57,8 +57,8 @@ module _ (P : Type 0) (Runs : P → Core → List Port → Type 0) (memory_of : 
         noted = sym (append-nil entries);
       })
     where
-      same_place : (on : Option P) (kept : Option Memory) → IsPlace Runs memory_of on kept s.memory None (λ h. s.link.host)
-          → IsPlace Runs memory_of on kept s.memory None (λ h. (exchanged (ticks_at_controller (exchanged s.link) [] GoesOut)).host)
+      same_place : (on : Option P) (kept : Option Memory) → IsNodePlace Runs memory_of on kept s.memory None (λ h. s.link.host)
+          → IsNodePlace Runs memory_of on kept s.memory None (λ h. (exchanged (ticks_at_controller (exchanged s.link) [] GoesOut)).host)
       same_place None (Some m) p = p
       same_place None None p = p
       same_place (Some n) (Some m) p = p

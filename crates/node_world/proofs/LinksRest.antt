@@ -20,7 +20,7 @@ use Rattle.node_ends.specs.Ends.{are_at_rest}
 use Rattle.node_world.specs.declared.controller.ControllerPlace.{ControllerPlace}
 use Rattle.node_sites.specs.declared.places.HostSite.{HostSite}
 use Rattle.node_world.specs.Controllers.{AreTimely, MayGoOn, SitesAre}
-use Rattle.node_sites.specs.Places.{IsPlace, SiteIs}
+use Rattle.node_sites.specs.Places.{IsNodePlace, SiteIs}
 use Rattle.node_world.specs.Rounds.{IsToLookAt, far_rests, near_rests}
 use Rattle.node_world.proofs.Behind.{each_found}
 use Rattle.node_world.proofs.PlacesFound.{There, there}
@@ -127,9 +127,9 @@ module _ (P : Type 0) (Runs : P → Core → List Port → Type 0) (memory_of : 
   pub host_says : (k : HostSite P) (s : Site) (n : P) (b : Bool) → SiteIs Runs memory_of k s → k.on ≡ Some n → IsToLookAt s → IsSaid n b
       → b ≡ end_rests s.link.host.side
   host_says k s n b is on may says =
-      go k.off s.node refl (subst (λ (o : Option P). IsPlace Runs memory_of o k.off s.memory s.node (λ h. s.link.host)) on is.place)
+      go k.off s.node refl (subst (λ (o : Option P). IsNodePlace Runs memory_of o k.off s.memory s.node (λ h. s.link.host)) on is.place)
     where
-      go : (off : Option Memory) (o : Option Running) → s.node ≡ o → IsPlace Runs memory_of (Some n) off s.memory o (λ h. s.link.host)
+      go : (off : Option Memory) (o : Option Running) → s.node ≡ o → IsNodePlace Runs memory_of (Some n) off s.memory o (λ h. s.link.host)
           → b ≡ end_rests s.link.host.side
       go None (Some r) q place = says r.core (map (λ (d : Desk). port_for s.link.host d) r.desks) place.1 ∙ host_end_rests s r q may
       go None None q place = absurd place
@@ -137,24 +137,24 @@ module _ (P : Type 0) (Runs : P → Core → List Port → Type 0) (memory_of : 
 
   pub host_is_new : (k : HostSite P) (s : Site) → SiteIs Runs memory_of k s → k.on ≡ None → IsToLookAt s → true ≡ end_rests s.link.host.side
   host_is_new k s is on may =
-      go k.off s.node refl (subst (λ (o : Option P). IsPlace Runs memory_of o k.off s.memory s.node (λ h. s.link.host)) on is.place)
+      go k.off s.node refl (subst (λ (o : Option P). IsNodePlace Runs memory_of o k.off s.memory s.node (λ h. s.link.host)) on is.place)
     where
-      go : (off : Option Memory) (o : Option Running) → s.node ≡ o → IsPlace Runs memory_of None off s.memory o (λ h. s.link.host)
+      go : (off : Option Memory) (o : Option Running) → s.node ≡ o → IsNodePlace Runs memory_of None off s.memory o (λ h. s.link.host)
           → true ≡ end_rests s.link.host.side
       go (Some m) None q place = sym (new_host_rests s q may)
       go (Some m) (Some r) q place = absurd place
       go None o q place = absurd place
 
   module _ (w : NodeWorld) (may : MayGoOn w) (k : ControllerPlace P)
-      (is : IsPlace Runs memory_of k.on k.off w.memory w.controller (λ h. (link_to w.sites h).controller)) where
+      (is : IsNodePlace Runs memory_of k.on k.off w.memory w.controller (λ h. (link_to w.sites h).controller)) where
     abbrev near : ℕ → NumberedEnd
     near h = (link_to w.sites h).controller
 
     pub controller_says : (n : P) (b : Bool) → k.on ≡ Some n → IsSaid n b → b ≡ list_all near_rests w.sites
     controller_says n b on says =
-        go k.off w.controller refl (subst (λ (o : Option P). IsPlace Runs memory_of o k.off w.memory w.controller near) on is)
+        go k.off w.controller refl (subst (λ (o : Option P). IsNodePlace Runs memory_of o k.off w.memory w.controller near) on is)
       where
-        go : (off : Option Memory) (o : Option Running) → w.controller ≡ o → IsPlace Runs memory_of (Some n) off w.memory o near
+        go : (off : Option Memory) (o : Option Running) → w.controller ≡ o → IsNodePlace Runs memory_of (Some n) off w.memory o near
             → b ≡ list_all near_rests w.sites
         go None (Some r) q place =
             says r.core (map (λ (d : Desk). port_for (near d.host) d) r.desks) place.1 ∙ controller_ends_rest w may r q
@@ -163,9 +163,9 @@ module _ (P : Type 0) (Runs : P → Core → List Port → Type 0) (memory_of : 
 
     pub controller_is_new : AreTimely w → k.on ≡ None → true ≡ list_all near_rests w.sites
     controller_is_new timely on =
-        go k.off w.controller refl (subst (λ (o : Option P). IsPlace Runs memory_of o k.off w.memory w.controller near) on is)
+        go k.off w.controller refl (subst (λ (o : Option P). IsNodePlace Runs memory_of o k.off w.memory w.controller near) on is)
       where
-        go : (off : Option Memory) (o : Option Running) → w.controller ≡ o → IsPlace Runs memory_of None off w.memory o near
+        go : (off : Option Memory) (o : Option Running) → w.controller ≡ o → IsNodePlace Runs memory_of None off w.memory o near
             → true ≡ list_all near_rests w.sites
         go (Some m) None q place = new_ends_rest w may timely q
         go (Some m) (Some r) q place = absurd place

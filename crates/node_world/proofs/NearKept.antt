@@ -22,7 +22,7 @@ use Rattle.node_sites.specs.declared.places.HostSite.{HostSite}
 use Rattle.node_world.specs.Bounds.{FewOnEach, FewBehind}
 use Rattle.node_world.specs.Controllers.{SitesAre, StandsAt, WorldIs, WorldBecomes, HaveRoom, FewAreCounted, FewAreCountedAt}
 use Rattle.node_world.specs.HostSteps.{host_stepped, host_hears, site_loses}
-use Rattle.node_sites.specs.Places.{IsPlace}
+use Rattle.node_sites.specs.Places.{IsNodePlace}
 use Rattle.node_world.specs.Whole.{SitesBecome, if_accepted}
 use Rattle.node_world.proofs.AtHosts.{GivesSendable, from_outside, room_there, site_changes}
 use Rattle.node_world.proofs.CountsStay.{acks_of_ports, counts_few_at_end, counts_few_in_tick, few_to}
@@ -108,7 +108,7 @@ module _ (w : NodeWorld) (h : ℕ) (s : Site) (found : site_at w.sites h ≡ Som
         → WorldIs CRuns c_memory PRuns p_memory k ks w → SitesBecome PRuns p_memory new before later now
         → WorldBecomes CRuns c_memory PRuns p_memory k new before later now
     host_becomes k ks new before later world b =
-        let Q : Memory → Option Running → (ℕ → NumberedEnd) → Type 0 = λ m node near. IsPlace CRuns c_memory k.on k.off m node near in
+        let Q : Memory → Option Running → (ℕ → NumberedEnd) → Type 0 = λ m node near. IsNodePlace CRuns c_memory k.on k.off m node near in
         let memory : now.0.memory ≡ w.memory = ap (λ (v : NodeWorld). v.memory) c.world in
         let node : now.0.controller ≡ w.controller = ap (λ (v : NodeWorld). v.controller) c.world in
         let one = subst (λ near. Q w.memory w.controller near) (sym all_left) world.controller in
@@ -143,7 +143,7 @@ room_for_all P Runs memory_of ks w a f = have_room P Runs memory_of ks w.sites a
 
 module _ (C : Type 0) (Runs : C → Core → List Port → Type 0) (memory_of : C → Memory) (given : GivesSendable C Runs memory_of) where
   on_sendable : (on : Option C) (off : Option Memory) (m : Memory) (node : Option Running) (near : ℕ → NumberedEnd) (r : Running)
-      → IsPlace Runs memory_of on off m node near → node ≡ Some r
+      → IsNodePlace Runs memory_of on off m node near → node ≡ Some r
       → AllByRecursion (λ (p : Port). AreSendable p.side.sent) (map (λ (d : Desk). port_for (near d.host) d) r.desks)
   on_sendable (Some n) None m (Some q) near r place e =
       let one : q ≡ r = cc in
@@ -156,7 +156,7 @@ module _ (C : Type 0) (Runs : C → Core → List Port → Type 0) (memory_of : 
   on_sendable None None m o near r place e = absurd place
 
   pub counted_at : (k : ControllerPlace C) (w : NodeWorld) (h : ℕ) (comes : Comes)
-      → IsPlace Runs memory_of k.on k.off w.memory w.controller (near_of w.sites) → FewBehind 300000000 w → FewAreCountedAt h comes w
+      → IsNodePlace Runs memory_of k.on k.off w.memory w.controller (near_of w.sites) → FewBehind 300000000 w → FewAreCountedAt h comes w
   counted_at k w h comes place few i q = go w.controller refl
     where
       go : (o : Option Running) → w.controller ≡ o → FewAreCounted (AtEnd h i) w
@@ -170,7 +170,7 @@ module _ (C : Type 0) (Runs : C → Core → List Port → Type 0) (memory_of : 
 
   -- and in a tick
   pub counted_in_tick : (k : ControllerPlace C) (w : NodeWorld)
-      → IsPlace Runs memory_of k.on k.off w.memory w.controller (near_of w.sites) → FewBehind 300000000 w → FewAreCounted TimePasses w
+      → IsNodePlace Runs memory_of k.on k.off w.memory w.controller (near_of w.sites) → FewBehind 300000000 w → FewAreCounted TimePasses w
   counted_in_tick k w place few = go w.controller refl
     where
       go : (o : Option Running) → w.controller ≡ o → FewAreCounted TimePasses w

@@ -19,7 +19,7 @@ use Rattle.node_machine.specs.Node.{boot_writes}
 use Rattle.node_machine.specs.world.World.{NodeWorld, Site, site_at, with_site, host_cut, loses_power_at, memory_at, with_memory, with_node, node_at, boots}
 use Rattle.node_machine.proofs.world.Cases.{boot_found, boot_written}
 use Rattle.node_sites.specs.Memories.{IsSoundMemory}
-use Rattle.node_sites.specs.Places.{IsPlace}
+use Rattle.node_sites.specs.Places.{IsNodePlace}
 use Rattle.node_world.specs.Worlds.{IsOneOf, IsPeekedSo, at_rest, memory_kept}
 
 -- ## A host that is changed
@@ -134,7 +134,7 @@ module _ (w : NodeWorld) (n : ℕ) (there : (n == 0) ≡ false → (s : Site) ×
 
 module _ (P : Type 0) (Runs : P → Core → List Port → Type 0) (memory_of : P → Memory) where
   pub one_of : (on : Option P) (off : Option Memory) (m : Memory) (o : Option Running) (near : ℕ → NumberedEnd)
-      → IsPlace Runs memory_of on off m o near → IsOneOf on off
+      → IsNodePlace Runs memory_of on off m o near → IsOneOf on off
   one_of (Some n) None m (Some r) near place = inl (λ z. cc z)
   one_of None (Some kept) m None near place = inr (λ z. cc z)
   one_of (Some n) None m None near place = absurd place
@@ -143,7 +143,7 @@ module _ (P : Type 0) (Runs : P → Core → List Port → Type 0) (memory_of : 
   one_of None None m o near place = absurd place
 
   pub kept_is : (on : Option P) (off : Option Memory) (m : Memory) (o : Option Running) (near : ℕ → NumberedEnd)
-      → IsPlace Runs memory_of on off m o near → memory_kept memory_of on off ≡ Some m
+      → IsNodePlace Runs memory_of on off m o near → memory_kept memory_of on off ≡ Some m
   kept_is (Some n) None m (Some r) near place = ap (λ x. Some x) place.0
   kept_is None (Some kept) m None near place = ap (λ x. Some x) place
   kept_is (Some n) None m None near place = absurd place

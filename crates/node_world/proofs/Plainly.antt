@@ -10,7 +10,7 @@ use Rattle.node_machine.specs.Parts.{Core, Port}
 use Rattle.node_machine.specs.world.World.{Site}
 use Rattle.node_sites.specs.declared.places.HostSite.{HostSite}
 use Rattle.node_sites.specs.LinksKept.{WiresStandFor}
-use Rattle.node_sites.specs.Places.{IsPlace, SiteIs}
+use Rattle.node_sites.specs.Places.{IsNodePlace, SiteIs}
 
 module _ (P : Type 0) (Runs : P → Core → List Port → Type 0) (memory_of : P → Memory) where
   pub same_host : (to : End) (l : Link) (why : Loss) → (happens l (at to (Lose why))).host ≡ l.host
@@ -24,8 +24,8 @@ module _ (P : Type 0) (Runs : P → Core → List Port → Type 0) (memory_of : 
       → new.off ≡ old.off → WiresStandFor new.wires (happens s.link (at to (Lose why)))
       → SiteIs Runs memory_of new (record s { link = happens s.link (at to (Lose why)) })
   was_lost {old} {new} s to why is host on off wires =
-      let Q : NumberedEnd → Type 0 = λ e. IsPlace Runs memory_of new.on new.off s.memory s.node (λ h. e) in
-      let A : Option P → Option Memory → Type 0 = λ a b. IsPlace Runs memory_of a b s.memory s.node (λ h. s.link.host) in
+      let Q : NumberedEnd → Type 0 = λ e. IsNodePlace Runs memory_of new.on new.off s.memory s.node (λ h. e) in
+      let A : Option P → Option Memory → Type 0 = λ a b. IsNodePlace Runs memory_of a b s.memory s.node (λ h. s.link.host) in
       record {
         host = host ∙ is.host;
         wires = wires;

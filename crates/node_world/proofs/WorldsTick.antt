@@ -26,7 +26,7 @@ use Rattle.node_sites.specs.declared.places.HostSite.{HostSite}
 use Rattle.node_world.specs.Bounds.{FewOn, FewOnEach}
 use Rattle.node_world.specs.Controllers.{SitesAre, WorldBecomes, AreTimely, near_ticks}
 use Rattle.node_world.specs.HostSteps.{IsHostOf, CountsOn, MayTick}
-use Rattle.node_sites.specs.Places.{SiteIs, IsPlace}
+use Rattle.node_sites.specs.Places.{SiteIs, IsNodePlace}
 use Rattle.node_world.specs.Whole.{IsWithinBounds, SitesTick, AreToTick}
 use Rattle.node_world.proofs.AtHosts.{GivesSendable, sendable_on}
 use Rattle.node_world.proofs.Behind.{each_found}
@@ -177,7 +177,7 @@ module _ (C P : Type 0) (CRuns : C → Core → List Port → Type 0) (c_memory 
       let old : List Entry = (all_aged w).1 in
       let ticked : List Entry = (controller_ticks (all_aged w).0).1 in
       let far : List Site × List Entry = hosts_tick near.sites in
-      let Q : (ℕ → NumberedEnd) → Type 0 = λ ends. IsPlace CRuns c_memory k.on k.off near.memory near.controller ends in
+      let Q : (ℕ → NumberedEnd) → Type 0 = λ ends. IsNodePlace CRuns c_memory k.on k.off near.memory near.controller ends in
       let same : near_of far.0 ≡ near_of near.sites = λ i h. near_left near.sites h i in
       record {
         world = record { controller = subst Q (sym same) first.world.controller; sites = second.sites };

@@ -26,7 +26,7 @@ use Rattle.node_world.specs.declared.controller.ControllerPlace.{ControllerPlace
 use Rattle.node_sites.specs.LinksKept.{with_bare_wires, as_it_comes}
 use Rattle.node_sites.specs.FramesOut.{IsOnly, sent_port}
 use Rattle.node_sites.specs.Numbers.{CountsFew}
-use Rattle.node_sites.specs.Places.{IsPlace, SiteIs}
+use Rattle.node_sites.specs.Places.{IsNodePlace, SiteIs}
 
 -- ## What is kept
 
@@ -39,7 +39,7 @@ SitesAre Runs memory_of _ _ = ⊥
 -- what is kept of the controller and of all hosts stands for a world
 pub record WorldIs {C P : Type 0} (CRuns : C → Core → List Port → Type 0) (c_memory : C → Memory) (PRuns : P → Core → List Port → Type 0)
     (p_memory : P → Memory) (k : ControllerPlace C) (ks : List (HostSite P)) (w : NodeWorld) : Type 0 where
-  pub controller : IsPlace CRuns c_memory k.on k.off w.memory w.controller (λ h. (link_to w.sites h).controller)
+  pub controller : IsNodePlace CRuns c_memory k.on k.off w.memory w.controller (λ h. (link_to w.sites h).controller)
   pub sites : SitesAre PRuns p_memory ks w.sites
 
 -- it does so for the world that something has made of it, and this was noted behind what was noted before

@@ -1,7 +1,7 @@
 use Rattle.std.proofs.Common.{ℕ, ap, sym, subst, ◌∙◌}
 use Rattle.std.specs.Prelude.{slice_index_or, slice_set, Some}
 use Rattle.node_machine.specs.world.World.{link_to, port_for, counts}
-use Rattle.node_sites.specs.Places.{IsPlace}
+use Rattle.node_sites.specs.Places.{IsNodePlace}
 use Rattle.node_world.proofs.ControllersHear.{place_is_on, place_is_off, found_there, site_read, changed_there}
 use Rattle.node_world.proofs.ControllersLose.{lost_on, a_host_of, end_there, has_end_there, counted_there, lost_there, plain_there, off_there}
 use Rattle.node_world.proofs.controller_power.lose_at_controller.Goals as goal
@@ -50,7 +50,7 @@ returns-in-Some-on-clause-stands g c w why world may there cause =
     (λ h. (link_to w.sites h).controller) c.in-Some-on.node c.in-Some-on.is world.controller in
     let e = end_there g.row.C.Denot g.row.P.Denot g.C.WorldNode.runs g.C.WorldNode.memory g.P.WorldNode.runs g.P.WorldNode.memory w h there.0 on.running
     may on.runs there.1 in
-    subst (λ o. IsPlace g.C.WorldNode.runs g.C.WorldNode.memory (Some c.refused.new.self) o w.memory (counts why h w.controller)
+    subst (λ o. IsNodePlace g.C.WorldNode.runs g.C.WorldNode.memory (Some c.refused.new.self) o w.memory (counts why h w.controller)
     (λ n. (link_to w.sites n).controller)) (sym on.off_is)
     (counted_there _ g.row.P.Denot g.C.WorldNode.runs g.C.WorldNode.memory g.P.WorldNode.runs g.P.WorldNode.memory w h on.running c.in-Some-on.node
     c.refused.new.self why on.runs (sym (c.is_refusal.ensures why cause) ∙ c.if-is_refusal.true) on.place c.refused.ensures.memory

@@ -14,7 +14,7 @@ use Rattle.node_laws.specs.kept.Hosts.{AreDifferent}
 use Rattle.node_laws.proofs.telling.Nodes.{link_is}
 use Rattle.node_core.specs.Noting.{unnumbered}
 use Rattle.node_sites.specs.LinksKept.{without_first}
-use Rattle.node_sites.specs.Places.{IsPlace}
+use Rattle.node_sites.specs.Places.{IsNodePlace}
 use Rattle.node_world.specs.Controllers.{WorldBecomes, as_it_comes_to}
 use Rattle.node_world.proofs.HostsAre.{none_first, some_read, none_read}
 use Rattle.node_world.proofs.HostsBegin.{may_begin}
@@ -41,7 +41,7 @@ returns-in_default-reads_first-clause-stands g c w world may there few =
     let input = ap (λ m. input_of m NextFrame) (link_is w.sites h there.0 there.1) ∙ none_first l none in
     let B : NodeWorld × List Entry → Type 0 = λ x. WorldBecomes g.C.WorldNode.runs g.C.WorldNode.memory g.P.WorldNode.runs g.P.WorldNode.memory
     (record { on = Some c.in-Some.node; off = c.args.controller.now.off }) (slice_set ks i k) before before x in
-    let place = subst (λ o. IsPlace g.C.WorldNode.runs g.C.WorldNode.memory o c.args.controller.now.off w.memory w.controller
+    let place = subst (λ o. IsNodePlace g.C.WorldNode.runs g.C.WorldNode.memory o c.args.controller.now.off w.memory w.controller
     (λ n. (link_to w.sites n).controller)) c.in-Some.is world.controller in
     subst B (sym (comes_none w h NextFrame input))
     (record {

@@ -9,7 +9,7 @@ use Rattle.node_laws.specs.telling.Telling.{IsOrderly}
 use Rattle.node_world.specs.declared.controller.ControllerPlace.{ControllerPlace}
 use Rattle.node_sites.specs.declared.places.HostSite.{HostSite}
 use Rattle.node_world.specs.Controllers.{SitesAre, WorldIs}
-use Rattle.node_sites.specs.Places.{IsPlace}
+use Rattle.node_sites.specs.Places.{IsNodePlace}
 use Rattle.node_world.proofs.HostsInWorlds.{armed_in_world}
 use Rattle.node_world.proofs.HostsPower.{armed, none_changed}
 use Rattle.node_world.proofs.NearKept.{host_becomes}
@@ -35,7 +35,7 @@ module _ (C P : Type 0) (CRuns : C → Core → List Port → Type 0) (c_memory 
           (armed_in_world w n s found off plan) (record { host = refl; near = refl }) C P CRuns c_memory PRuns p_memory k ks new [] [] world
           (record { sites = now; noted = refl })).world
       go None none =
-          let K : NodeWorld → Type 0 = λ v. IsPlace CRuns c_memory k.on k.off v.memory v.controller (λ h. (link_to v.sites h).controller) in
+          let K : NodeWorld → Type 0 = λ v. IsNodePlace CRuns c_memory k.on k.off v.memory v.controller (λ h. (link_to v.sites h).controller) in
           record { controller = subst K (sym (nothing_armed w n plan off none)) world.controller; sites = now }
 
 pub returns-then-node-eq0 : goal.returns-then-node-eq0
