@@ -224,6 +224,16 @@ class Rules(unittest.TestCase):
             self.assertEqual(record, b"\x40\x54" * 16 + bytes([byte]) + b"\x40\x54" * 16)
             self.assertEqual("1 periods are neither bit" in notes, byte == 0x50)
 
+    def test_a_period_of_another_length_is_told_by_one_of_its_levels(self):
+        cases = [(0.55, 0.7, b"\x50"), (0.9, 0.35, b"\x54"), (0.9, 0.5, b"\x55\x50"), (0.2, 0.45, b"\x50"), (0.2, 0.8, b"\x40")]
+        for high, low, told in [*cases, (1.7, 0.3, b"\x55\x54"), (0.3, 1.7, b"\x40\0"), (1.8, 1.2, b"\x55\x54\0")]:
+            changes = bits_wave(self.lead)[0]
+            at = 32 * PERIOD
+            behind = bits_wave(self.lead)[0]
+            changes += [(at, 1), (at + round(high * PERIOD), 0)] + [(at + round((high + low) * PERIOD) + t, levels) for t, levels in behind]
+            record = read(vcd_of((changes, at + round((high + low + 32) * PERIOD))))[0]
+            self.assertEqual(record, b"\x40\x54" * 16 + told + b"\x40\x54" * 16, (high, low))
+
     def test_a_period_that_is_neither_bit_breaks_the_frame(self):
         bits = frame_bits(b"\xc1")
         highs = [0.75 if bit else 0.25 for bit in bits]
@@ -272,6 +282,16 @@ class Rules(unittest.TestCase):
         record = b"\x40\x54" * 8 + b"\x55" * 70 + b"\x54" + b"\0" * 70 + b"\x40" * 70 + b"\xff" * 9
         cut = b"\x40\x54" * 8 + b"\x55" * 3 + b"\x54" + b"\0" * 3 + b"\x40" * 70 + b"\xff" * 9
         self.assertEqual(read(vcd_of(wave_of(record, PERIOD)), "--idle", 3)[0], cut)
+
+    def test_a_stretch_is_one_where_s2_is_up_for_a_moment(self):
+        changes = bits_wave(self.lead)[0]
+        at = 32 * PERIOD
+        changes += [(at, 1), (at + 20_100_000, 3), (at + 20_400_000, 1), (at + 40_250_000, 0)]
+        for words, count in (([], 40), (["--idle", "3"], 3), (["--idle", "30"], 30)):
+            record = read(vcd_of((changes, at + 41 * PERIOD)), *words)[0]
+            self.assertEqual(record, b"\x40\x54" * 16 + b"\x55" * count + b"\x40")
+        grid = read(vcd_of(wave_of(b"\x55" * 9 + b"\0" * 9, PERIOD)), "--grid", "--period", 1000, "--idle", 2)[0]
+        self.assertEqual(grid, b"\x55\x55\0\0")
 
     def test_each_start_has_its_time(self):
         for seed, words in ((5, []), (6, ["--idle", "2"])):
