@@ -1,6 +1,4 @@
 //! How a run of the program ended.
-ghost use Rattle.std.specs.Prelude.{◌≡◌};
-
 use std::alloc::{AllocError, Global};
 use vcd_text::VcdFault;
 
