@@ -2,11 +2,13 @@
 use Rattle.std.proofs.Common.{◌≡◌, ℕ, zero, suc, ◌+◌, ◌-◌, ◌*◌, ◌/◌, ◌≤◌, ◌<◌, Bool, true, false, cond, List, [], ◌∷◌, ◌++◌, map, refl, sym, ap}
 use Rattle.std.proofs.Common.{◌∙◌, subst, arith, append_assoc, inl, inr}
 use Rattle.std.specs.Prelude.{Option, Some, None, replicate, nat_lt}
+use Rattle.std.proofs.lemmas.Bool.{le-ltb}
 use Rattle.std.proofs.lemmas.List.{append-nil}
 use Rattle.line_capture.specs.declared.change.Change.{Change}
 use Rattle.line_capture.specs.declared.shape.Shape.TheVariants.{Whole}
 use Rattle.line_capture.specs.Reading.{Line, byte_of_shape, held_period, looked_bytes, looked_held, line_bytes_from, record_of}
 use Rattle.line_capture.specs.Waves.{IsNear, Low, low_change, DrawnPeriod, Off, High, Bit, byte_drawn, shape_of_bit, high_part, changes_drawn, AreEdgesNear}
+use Rattle.line_capture.proofs.Shapes.{if_false}
 use Rattle.line_capture.proofs.Runs.{some_due, Runs, Ends, ends_at_first, ends_behind_high, ends_behind_bit, rise_below}
 
 abbrev line : ℕ → ℕ → Bool → Bool → Option Bool → ℕ → ℕ → ℕ → Line
@@ -222,11 +224,22 @@ high_on unit end (Bit bit up begin fall lows) rest low high from i time s2 held 
 
 -- ---- all periods
 
+-- the last one is not left out
+whole_at_end : (unit from i time rise due end : ℕ) (held : Option Bool) → time ≡ from + 16 * unit * suc i → Runs unit from rise due held
+    → IsNear unit time end → nat_lt (end + 10 * unit) (due + 16 * unit * cond (nat_lt end due) 0 ((end - due) / (16 * unit) + 1)) ≡ false
+whole_at_end unit from i time rise due end held is runs near =
+    subst (λ (n : ℕ). nat_lt (end + 10 * unit) (due + 16 * unit * n) ≡ false) (sym (counted_at_edge unit from i time rise due end held is runs near))
+    (le-ltb (end + 10 * unit) (due + 16 * unit * suc i) (omega (arith, is, runs.late, runs.early, near.late, near.early)))
+
 both : (unit end : ℕ) → 0 < unit → (drawn : List DrawnPeriod) → FromLow unit drawn end × FromHigh unit drawn end
 both unit end some [] = (
   (λ time held rise until due owed ends edges at s2. ends 0 end (record { late = omega (arith, edges.late); early = omega (arith, edges.early) })),
   (λ from i time s2 held rise until due at is runs edges.
-      ap (λ n. held_period held ++ replicate n (high_byte s2)) (counted_at_edge unit from i time rise due end held is runs edges)
+      if_false (nat_lt (end + 10 * unit) (due + 16 * unit * cond (nat_lt end due) 0 ((end - due) / (16 * unit) + 1)))
+      (looked_bytes held s2 (cond (nat_lt end due) 0 ((end - due) / (16 * unit) + 1)))
+      (held_period held ++ replicate (cond (nat_lt end due) 0 ((end - due) / (16 * unit) + 1)) (high_byte s2))
+      (whole_at_end unit from i time rise due end held is runs edges)
+      ∙ ap (λ n. held_period held ++ replicate n (high_byte s2)) (counted_at_edge unit from i time rise due end held is runs edges)
       ∙ ap (λ bs. held_period held ++ bs) (sym (append-nil (replicate (suc i) (high_byte s2))))),
 )
 both unit end some (period ∷ rest) = by (both unit end some rest)

@@ -107,10 +107,14 @@ abbrev pub after_change : Line → Change → Line
 after_change l change =
     with_levels change (if l.s1 then after_high l change.time else if change.s1 then after_rise l change.time else l)
 
--- the line ends at this time
+-- the line ends at this time: the last period is left out where S1 was high for less than half of it
 abbrev pub end_bytes : Line → ℕ → List ℕ
 end_bytes l time =
-    if l.s1 then held_period l.held ++ replicate (looks l time) (byte_of_shape Whole l.s2) else low_bytes l time
+    if l.s1
+    then (if nat_lt (time + 10 * l.unit) (l.due + 16 * l.unit * looks l time)
+    then looked_bytes l.held l.s2 (looks l time)
+    else held_period l.held ++ replicate (looks l time) (byte_of_shape Whole l.s2))
+    else low_bytes l time
 
 -- a line that is low from this time on
 abbrev pub begun_line : ℕ → ℕ → Line

@@ -1,5 +1,5 @@
 //! The reader of a line.
-ghost use Rattle.std.specs.Prelude.{◌≡◌, ◌+◌, ◌-◌, ◌*◌, ◌^◌, ◌≤◌, ◌<◌, ◌↔◌, IfOk, OnErr, OnOk, Err, option_to_list};
+ghost use Rattle.std.specs.Prelude.{◌≡◌, ◌+◌, ◌-◌, ◌*◌, ◌^◌, ◌≤◌, ◌<◌, ◌↔◌, IfOk, OnErr, OnOk, Err, true, option_to_list};
 ghost use Rattle.line_capture.specs.Reading.{begun_line, bytes_of, change_bytes, after_change, end_bytes, stretch_bytes, looked_bytes, looks};
 ghost use Rattle.line_capture.specs.Reading.{low_bytes, held_period};
 ghost use Rattle.line_capture.specs.declared.change.CaptureFault.{CaptureFault as Fault};
@@ -81,7 +81,8 @@ impl LineReader {
         Ok(piece)
     }
 
-    /// The bytes of what is known and not given yet, where the line ends at this time.
+    /// The bytes of what is known and not given yet, where the line ends at this time. A last period that S1 is high in counts where
+    /// half of it came.
     pub fn finish(&self, end: u64) -> Result<Piece, CaptureFault>
         ensures bytes { IfOk result (λ piece. bytes_of piece ≡ end_bytes self.now end) }
         ensures back { (result ≡ Err Fault.TimeBack) ↔ (end < self.now.at) }
@@ -94,13 +95,25 @@ impl LineReader {
             return Err(CaptureFault::TooLate);
         }
         if self.s1 {
-            Ok(Piece {
-                first: whole_byte(self.held),
-                byte: byte_of(Shape::Whole, self.s2),
-                times: self.count_looks(end),
-            })
+            Ok(self.last_high_piece(end))
         } else {
             Ok(self.low_piece(end))
+        }
+    }
+
+    /// The bytes of a line that ends while S1 is high. The last period is left out where S1 was high for less than half of it.
+    fn last_high_piece(&self, end: u64) -> Piece
+        requires { end < 2 ^ 63 }
+        ensures { self.now.s1 ≡ true → bytes_of result ≡ end_bytes self.now end }
+    {
+        let looked = self.count_looks(end);
+        if end + 10 * self.unit < self.due + 16 * self.unit * looked {
+            return self.high_piece(end);
+        }
+        Piece {
+            first: whole_byte(self.held),
+            byte: byte_of(Shape::Whole, self.s2),
+            times: looked,
         }
     }
 
