@@ -2,7 +2,7 @@
 use Rattle.std.proofs.Common.{◌≡◌, ℕ, zero, suc, ◌+◌, ◌<◌, ◌≤◌, Bool, true, false, IsTrue, List, [], ◌∷◌, ◌++◌, length, take, map, refl, sym, ap, ◌∙◌}
 use Rattle.std.proofs.Common.{append_assoc, subst}
 use Rattle.std.proofs.Common.{inl, inr}
-use Rattle.std.specs.Prelude.{Option, Some, None, Result, Ok, Err, OnOk, OnErr, IfErr, is_err}
+use Rattle.std.specs.Prelude.{Option, Some, None, Result, Ok, Err, OnOk, OnErr, IfOk, IfErr, is_err}
 use Rattle.std.specs.Str.Lines.{lines, strip_carriage_return}
 use Rattle.std.proofs.lemmas.List.{append-nil}
 use Rattle.trace_model.specs.declared.line.Header.{Header}
@@ -12,7 +12,7 @@ use Rattle.swp_tool.specs.declared.replay.Halt.TheVariants as halt
 use Rattle.swp_tool.specs.declared.pieces.Pieces.{Pieces}
 use Rattle.swp_tool.specs.Schedules.{Stop, AtFault, AtMisread, Too_many, Schedule, ended}
 use Rattle.swp_tool.specs.Transcripts.{IsTextBelow, IsTranscript, IsDoneText, StopsWithText}
-use Rattle.swp_tool.specs.Pieces.{IsReading, IsRunning, HasRead, IsFrontTranscript, IsWholeTranscript, Halts, HaltsAtEnd}
+use Rattle.swp_tool.specs.Pieces.{IsReading, IsRunning, HasRead, HasFed, IsFrontTranscript, IsWholeTranscript, Halts, HaltsAtEnd}
 use Rattle.swp_tool.specs.Pieces.{schedule_read, schedule_so_far}
 use Rattle.swp_tool.specs.Runs.{status_of, AppendsText, IsSomeTranscript, IsCutShort, Replayed, IsUnderWay}
 use Rattle.swp_tool.proofs.Reading.{front_so_far, played_transcript}
@@ -140,15 +140,24 @@ cut_short {tells} {p} {before} {written} {after} piece left items under few some
   behind tells before under.text (take front.0 items) written after under.after_is front.1,
 )
 
+-- what is left of a piece stands behind what was read of it
+pub left_behind : (bytes front left piece rest : List ℕ) → front ++ left ≡ piece → (bytes ++ front) ++ (left ++ rest) ≡ (bytes ++ piece) ++ rest
+left_behind bytes front left piece rest is =
+    sym (append_assoc (bytes ++ front) left rest) ∙ ap (λ l. l ++ rest) (append_assoc bytes front left ∙ ap (λ l. bytes ++ l) is)
+
 -- what was gathered of a piece is the transcript of some of the first lines, whether the replay goes on or not
-pub fed_front : (p q : Pieces) (r : Result (Unit {0}) Halt) (piece rest bytes text : List ℕ)
-    → OnOk r ((b w : List ℕ) → HasRead p b w → HasRead q (b ++ piece) w)
+pub fed_front : {T : Type 0} (p q : Pieces) (r : Result T Halt) (now : T → List ℕ) (piece rest bytes text : List ℕ)
+    → IfOk r (λ left. HasFed p q piece (now left))
     → IfErr r (λ why. (b w : List ℕ) → HasRead p b w → Halts why q.replay.count (b ++ piece) (w ++ q.replay.text.items))
     → HasRead p bytes text → IsFrontTranscript ((bytes ++ piece) ++ rest) (text ++ q.replay.text.items)
-fed_front p q (Ok x) piece rest bytes text read halts h =
-    let k = read bytes text h in
-    front_so_far q (bytes ++ piece) text rest (text ++ q.replay.text.items) k (played_transcript q.replay (map strip_carriage_return k.whole) text k.played)
-fed_front p q (Err why) piece rest bytes text read halts h =
+fed_front p q (Ok x) now piece rest bytes text fed halts h =
+    let k = fed.read bytes text h in
+    let left = now x in
+    let P : List ℕ → Type 0 = λ b. IsFrontTranscript b (text ++ q.replay.text.items) in
+    subst P (left_behind bytes fed.front left piece rest fed.piece_is)
+    (front_so_far q (bytes ++ fed.front) text (left ++ rest) (text ++ q.replay.text.items) k
+    (played_transcript q.replay (map strip_carriage_return k.whole) text k.played))
+fed_front p q (Err why) now piece rest bytes text fed halts h =
     halts_front why q.replay.count (bytes ++ piece) (text ++ q.replay.text.items) rest (halts bytes text h)
 
 -- the same at the end

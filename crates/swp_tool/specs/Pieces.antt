@@ -69,6 +69,14 @@ pub record IsReadAhead (most : ℕ) (input left : List ℕ) : Type 0 where
 abbrev pub bytes_left : Pieces → ℕ
 bytes_left p = (20000 - p.replay.count) * 9003 + (9002 - length p.partial.items)
 
+-- Of a piece all was read but what is left, one byte of it at least, and so many bytes fewer may come.
+pub record HasFed (old new : Pieces) (piece left : List ℕ) : Type 0 where
+  pub front : List ℕ
+  pub piece_is : front ++ left ≡ piece
+  pub read : (bytes written : List ℕ) → HasRead old bytes written → HasRead new (bytes ++ front) written
+  pub fewer : bytes_left new + length front ≤ bytes_left old
+  pub some : 0 < length piece → length left < length piece
+
 -- a text is the transcript of some of the first lines of the bytes
 pub record IsFrontTranscript (bytes text : List ℕ) : Type 0 where
   pub front : List (List ℕ)

@@ -1,9 +1,9 @@
 //! A schedule comes in pieces; each line is played as soon as it has ended.
-ghost use Rattle.std.specs.Prelude.{◌≡◌, ◌==◌, ◌+◌, ◌<◌, ◌≤◌, ◌++◌, ◌∷◌, [], List, ℕ, length, position, OnOk, IfErr, IfSome, IfNone};
+ghost use Rattle.std.specs.Prelude.{◌≡◌, ◌==◌, ◌+◌, ◌<◌, ◌≤◌, ◌++◌, ◌∷◌, [], List, ℕ, length, position, OnOk, IfOk, IfErr, IfSome, IfNone};
 ghost use Rattle.std.specs.Str.Lines.{strip_carriage_return};
 ghost use Rattle.swp_tool.specs.Replays.{HasPlayed};
 ghost use Rattle.swp_tool.specs.Transcripts.{IsDoneText};
-ghost use Rattle.swp_tool.specs.Pieces.{schedule_read, LacksLineFeed, ended_line, HasRead, IsReading, Halts, HaltsAtEnd, bytes_left};
+ghost use Rattle.swp_tool.specs.Pieces.{schedule_read, LacksLineFeed, ended_line, HasRead, HasFed, IsReading, Halts, HaltsAtEnd, bytes_left};
 
 use crate::replay::{Halt, Replay};
 use memchr::memchr;
@@ -15,6 +15,9 @@ const MAX_LINES: u64 = 20_000;
 
 /// The most bytes of a line, without the end of the line (this project's own).
 const MAX_LINE: usize = 9_000;
+
+/// The most text that is gathered behind a line before more lines are played.
+const MOST_GATHERED: usize = 65_536;
 
 /// A replay, and the front of the line that has not ended yet.
 #[derive(Drop)]
@@ -36,13 +39,13 @@ impl Pieces {
         }
     }
 
-    /// Takes the bytes of a piece, line by line. Where it halts, the text is that of the lines before.
-    pub fn feed(&mut self, alloc: Global, piece: &[u8]) -> Result<(), Halt>
+    /// Takes the bytes of a piece, line by line, until all are taken or, behind a line, more than 64 KiB of text are gathered. It gives the
+    /// bytes that are left. Where it halts, the text is that of the lines before.
+    pub fn feed<'a>(&mut self, alloc: Global, piece: &'a [u8]) -> Result<&'a [u8], Halt>
         requires { IsReading self.old }
-        ensures read { OnOk result ((bytes written : List ℕ) → HasRead self.old bytes written → HasRead self.new (bytes ++ piece.now) written) }
+        ensures read { IfOk result (λ left. HasFed self.old self.new piece.now left.now) }
         ensures reading { OnOk result (IsReading self.new) }
         ensures counted { self.new.replay.count ≤ 20000 }
-        ensures progress { OnOk result (0 < length piece.now → bytes_left self.new < bytes_left self.old) }
         ensures halts { IfErr result (λ why. (bytes written : List ℕ) → HasRead self.old bytes written
             → Halts why self.new.replay.count (bytes ++ piece.now) (written ++ self.new.replay.text.items)) }
     {
@@ -52,9 +55,12 @@ impl Pieces {
                 return Err(why);
             }
             left = more;
+            if self.replay.text.len() > MOST_GATHERED {
+                return Ok(left);
+            }
         }
         match self.keep(left) {
-            Ok(()) => Ok(()),
+            Ok(()) => Ok(&[]),
             Err(why) => Err(why),
         }
     }

@@ -1,7 +1,7 @@
 //! The command `replay`: a schedule in, its transcript out.
-ghost use Rattle.std.specs.Prelude.{◌≡◌, ◌≢◌, ◌≤◌, ◌++◌, [], List, ℕ, take, false, IsTrue, OnOk, OnErr};
+ghost use Rattle.std.specs.Prelude.{◌≡◌, ◌≢◌, ◌≤◌, ◌<◌, ◌+◌, ◌++◌, [], List, ℕ, length, take, Err, false, IsTrue, OnOk, OnErr, IfOk, IfErr};
 ghost use Rattle.swp_base.specs.Outside.{Rose};
-ghost use Rattle.swp_tool.specs.Runs.{status_of, AppendsText, Replayed, IsOfReplay};
+ghost use Rattle.swp_tool.specs.Runs.{status_of, AppendsText, Replayed, IsUnderWay, IsOfReplay};
 ghost use Rattle.swp_tool.specs.Schedules.{schedule_in};
 ghost use Rattle.swp_tool.specs.Transcripts.{TellsPlayed};
 ghost use Rattle.swp_tool.specs.Pieces.{HasRead, IsReading, IsReadAhead, bytes_left};
@@ -67,6 +67,40 @@ fn flush<K: Sink>(sink: &mut K, pieces: &mut Pieces) -> Result<(), Failed>
     Ok(())
 }
 
+/// Takes the first bytes of a piece, one at least, and writes what they cause: it stops behind a line that causes much. It gives the bytes
+/// that are left.
+fn take_part<'a, K: Sink>(
+    alloc: Global,
+    sink: &mut K,
+    pieces: &mut Pieces,
+    piece: &'a [u8],
+) -> Result<&'a [u8], Status>
+    requires goes { IsReading pieces.old }
+    requires some { 0 < length piece.now }
+    requires size { length piece.now ≤ 4096 }
+    ensures count { K.faults sink.old ≤ K.faults sink.new }
+    ensures write_fault { result ≡ Err Status.WriteFault → Rose (K.faults sink.old) (K.faults sink.new) }
+    ensures read_fault { result ≢ Err Status.ReadFault }
+    ensures kind { IfErr result IsOfReplay }
+    ensures goes { OnOk result (IsReading pieces.new) }
+    ensures part { IfOk result (λ left. length left.now < length piece.now) }
+    ensures fewer { IfOk result (λ left. bytes_left pieces.new + length piece.now ≤ bytes_left pieces.old + length left.now) }
+    ensures on { IfOk result (λ left. (input rest before : List ℕ) → IsUnderWay K.tells pieces.old input (piece.now ++ rest) before (K.written sink.old)
+        → IsUnderWay K.tells pieces.new input (left.now ++ rest) before (K.written sink.new)) }
+    ensures ends { IfErr result (λ status. (input rest before : List ℕ)
+        → IsUnderWay K.tells pieces.old input (piece.now ++ rest) before (K.written sink.old)
+        → Replayed K.tells status input rest before (K.written sink.new)) }
+{
+    let fed = pieces.feed(alloc, piece);
+    if flush(sink, pieces).is_err() {
+        return Err(Status::WriteFault);
+    }
+    match fed {
+        Ok(left) => Ok(left),
+        Err(why) => Err(halted(why, pieces.replay.count)),
+    }
+}
+
 impl Job for Pieces {
     ghost use Rattle.swp_tool.specs.Runs.{Replayed, IsUnderWay, IsOfReplay};
     ghost use Rattle.swp_tool.specs.Pieces.{IsReading, IsReadAhead, bytes_left};
@@ -94,14 +128,14 @@ impl Job for Pieces {
     }
 
     fn take<K: Sink>(&mut self, alloc: Global, sink: &mut K, piece: &[u8]) -> Result<(), Status> {
-        let fed = self.feed(alloc, piece);
-        if flush(sink, self).is_err() {
-            return Err(Status::WriteFault);
+        let mut left = piece;
+        'parts: while !left.is_empty() {
+            match take_part(alloc, sink, self, left) {
+                Ok(more) => left = more,
+                Err(status) => return Err(status),
+            }
         }
-        match fed {
-            Ok(()) => Ok(()),
-            Err(why) => Err(halted(why, self.replay.count)),
-        }
+        Ok(())
     }
 
     fn close<K: Sink>(&mut self, alloc: Global, sink: &mut K) -> Status {

@@ -1,6 +1,6 @@
 -- Where a line halts the replay, it halts however the piece goes on.
-use Rattle.std.proofs.Common.{◌++◌, List, ℕ, length-append, subst, sym, ap, ◌∙◌, append_assoc, arith}
-use Rattle.swp_tool.specs.Pieces.{HasRead, Halts, ended_line}
+use Rattle.std.proofs.Common.{◌≡◌, ◌++◌, ◌∷◌, [], List, ℕ, length, length-append, subst, sym, ap, ◌∙◌, append_assoc, arith}
+use Rattle.swp_tool.specs.Pieces.{HasRead, HasFed, Halts, ended_line}
 use Rattle.swp_tool.proofs.Cutting.{whole_line}
 use Rattle.swp_tool.proofs.Reading.{halts_more}
 use Rattle.swp_tool.proofs.pieces.Pieces.feed.Goals as goal
@@ -18,6 +18,29 @@ lines-preserved c =
           subst P (append_assoc bytes front line) (c.in_default-take_line.ensures.read (bytes ++ front) written (read bytes written h))),
       omega (arith, length-append front line, c.in_default-take_line.ensures.progress, c.lines.invariant.4),
     )
+
+-- it stops behind a line
+pub returns-then-len-gt-MOST_GATHERED-clause-read : goal.returns-then-len-gt-MOST_GATHERED-clause-read
+returns-then-len-gt-MOST_GATHERED-clause-read c =
+    let front = c.lines.invariant.0 in
+    let line = ended_line c.in-Some.line.now in
+    let more = c.in-Some.more.now in
+    let read = c.lines.invariant.3 in
+    let P : List ℕ → List ℕ → Type 0 = λ b written. HasRead c.take_line.new.self b written in
+    let piece_is : (front ++ line) ++ more ≡ c.args.piece.now =
+    append_assoc front line more ∙ ap (λ l. front ++ l) (sym c.in-Some.ensures.some) ∙ c.lines.invariant.1 in
+    let sizes = length-append front line in
+    let ended = length-append c.in-Some.line.now (10 ∷ []) in
+    let all = length-append (front ++ line) more in
+    let whole = ap length piece_is in
+    record {
+      front = front ++ line;
+      piece_is = piece_is;
+      read = λ bytes written h. subst (λ b. P b written) (append_assoc bytes front line)
+          (c.in_default-take_line.ensures.read (bytes ++ front) written (read bytes written h));
+      fewer = omega (arith, sizes, c.in_default-take_line.ensures.progress, c.lines.invariant.4);
+      some = λ any. omega (arith, sizes, ended, all, whole);
+    }
 
 pub returns-in-Err-clause-halts : goal.returns-in-Err-clause-halts
 returns-in-Err-clause-halts c bytes written h =

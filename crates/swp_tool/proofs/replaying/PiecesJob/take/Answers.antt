@@ -1,62 +1,15 @@
--- What was gathered of a piece stands behind what was written.
-use Rattle.std.proofs.Common.{◌≡◌, ◌++◌, List, ℕ, IsTrue, [], sym, ap, ◌∙◌, append_assoc, subst, take, inl}
-use Rattle.swp_tool.specs.declared.status.Status.{Status}
-use Rattle.swp_tool.specs.Pieces.{HasRead, IsFrontTranscript}
-use Rattle.swp_tool.specs.Runs.{Replayed}
-use Rattle.swp_tool.proofs.Ending.{of_err, of_ok, behind, cut_short, fed_front, halted_replayed}
+-- The parts of the piece came one after another.
+use Rattle.std.proofs.Common.{◌≤◌, length, arith}
 use Rattle.swp_tool.proofs.replaying.PiecesJob.take.Goals as goal
 
-pub returns-then-is_err-clause-ends : goal.returns-then-is_err-clause-ends
-returns-then-is_err-clause-ends g c o input rest before under =
-    let tells = g.K.Sink.tells in
-    let items = c.feed-fed.new.self.replay.text.items in
-    let piece = c.args.piece.now in
-    let was = g.K.Sink.written c.args.sink.now in
-    let after = g.K.Sink.written c.flush.new.sink in
-    let front = of_err
-    ((n : ℕ) × (IsTrue tells → after ≡ was ++ take n items)) c.flush.result c.is_err.result c.is_err.ensures.value c.if-is_err.true c.flush.ensures.front in
-    let input_is : input ≡ (under.bytes ++ piece) ++ rest = under.input_is ∙ sym (append_assoc under.bytes piece rest) in
-    let P : List ℕ → Type 0 = λ i. IsFrontTranscript i (under.text ++ items) in
-    let some = subst P (sym input_is)
-    (fed_front c.args.self.now c.feed-fed.new.self c.feed-fed.result piece rest under.bytes under.text c.feed-fed.ensures.read c.feed-fed.ensures.halts
-    under.read) in
-    cut_short piece rest items under c.requires.size (inl some) front
-
-pub returns-in-Ok-clause-on : goal.returns-in-Ok-clause-on
-returns-in-Ok-clause-on g c o input rest before under =
-    let tells = g.K.Sink.tells in
-    let items = c.feed-fed.new.self.replay.text.items in
-    let piece = c.args.piece.now in
-    let was = g.K.Sink.written c.args.sink.now in
-    let after = g.K.Sink.written c.flush.new.sink in
-    let wrote : IsTrue tells → after ≡ was ++ items =
-    λ told. of_ok (after ≡ was ++ items) c.flush.result c.is_err.result c.is_err.ensures.value c.if-is_err.false (c.flush.ensures.wrote told) in
-    let same = of_ok ((b t : List ℕ) → HasRead c.feed-fed.new.self b t
-    → HasRead c.flush.new.pieces b (t ++ items)) c.flush.result c.is_err.result c.is_err.ensures.value c.if-is_err.false c.flush.ensures.same in
-    record {
-      bytes = under.bytes ++ piece;
-      text = under.text ++ items;
-      input_is = under.input_is ∙ sym (append_assoc under.bytes piece rest);
-      after_is = behind tells before under.text items was after under.after_is wrote;
-      read = same (under.bytes ++ piece) under.text (c.in-Ok.ensures.read under.bytes under.text under.read);
-      gathered =
-          of_ok (c.flush.new.pieces.replay.text.items ≡ []) c.flush.result c.is_err.result c.is_err.ensures.value c.if-is_err.false c.flush.ensures.gathered;
-    }
+pub parts-preserved : goal.parts-preserved
+parts-preserved g c = record {
+  goes = c.in-Ok.ensures.goes;
+  within = omega (arith, c.in-Ok.ensures.part, c.parts.invariant.within);
+  fewer = omega (arith, c.in-Ok.ensures.fewer, c.parts.invariant.fewer);
+  writes = omega (arith, c.take_part.ensures.count, c.parts.invariant.writes);
+  under = λ input rest before u. c.in-Ok.ensures.on input rest before (c.parts.invariant.under input rest before u);
+}
 
 pub returns-in-Err-clause-ends : goal.returns-in-Err-clause-ends
-returns-in-Err-clause-ends g c o input rest before under =
-    let tells = g.K.Sink.tells in
-    let q = c.feed-fed.new.self in
-    let items = q.replay.text.items in
-    let piece = c.args.piece.now in
-    let was = g.K.Sink.written c.args.sink.now in
-    let after = g.K.Sink.written c.flush.new.sink in
-    let wrote : IsTrue tells → after ≡ was ++ items =
-    λ told. of_ok (after ≡ was ++ items) c.flush.result c.is_err.result c.is_err.ensures.value c.if-is_err.false (c.flush.ensures.wrote told) in
-    let input_is : input ≡ (under.bytes ++ piece) ++ rest = under.input_is ∙ sym (append_assoc under.bytes piece rest) in
-    let P : List ℕ → Type 0 = λ i. Replayed tells c.halted.result i rest before after in
-    let Q : Status → Type 0 = λ s. Replayed tells s ((under.bytes ++ piece) ++ rest) rest before after in
-    subst P (sym input_is) (subst Q (sym (c.halted.ensures.status ∙ ap (λ n. Rattle.swp_tool.specs.Runs.status_of c.in-Err.why n) c.flush.ensures.lines))
-    (halted_replayed tells c.in-Err.why q.replay.count (under.bytes ++ piece) (under.text ++ items) rest before after
-    (c.in-Err.ensures.halts under.bytes under.text under.read)
-    (behind tells before under.text items was after under.after_is wrote)))
+returns-in-Err-clause-ends g c o input rest before u = c.in-Err.ensures.ends input rest before (c.parts.invariant.under input rest before u)
