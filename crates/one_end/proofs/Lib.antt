@@ -10,4 +10,5 @@ pub mod Roles
 pub mod Alone
 pub mod Activating
 pub mod Booted
+pub mod Bringing
 pub mod Ran

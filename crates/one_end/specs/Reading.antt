@@ -1,8 +1,10 @@
 -- What is kept of the bytes that came to a node alone, and what the last one of them brought.
-use Rattle.std.specs.Prelude.{◌≡◌, ℕ, ◌+◌, ◌%◌, ◌==◌, Bool, true, false, List, ◌∷◌, ◌++◌, Option, Some, None}
+use Rattle.std.specs.Prelude.{◌≡◌, ℕ, ◌+◌, ◌%◌, ◌==◌, ◌&&◌, not, Bool, true, false, List, ◌∷◌, ◌++◌, Option, Some, None}
 use Rattle.swp_line.specs.declared.period.Period.{Period}
 use Rattle.swp_line.specs.declared.period.Period.TheVariants.{Bits, Deactivated}
 use Rattle.swp_frame.specs.Signal.{Symbol}
+use Rattle.swp_frame.specs.declared.fed.Fed.{Fed}
+use Rattle.swp_frame.specs.declared.fed.Fed.TheVariants as fed
 use Rattle.swp_frame.specs.Kept.{DeframerStandsFor}
 use Rattle.swp_decode.specs.declared.line.Wire.{Wire}
 use Rattle.swp_decode.specs.declared.line.Wire.TheVariants.{S1, S2}
@@ -19,6 +21,16 @@ use Rattle.one_end.specs.declared.reading.Reader.TheVariants as reader
 -- what comes to the node, one after another
 abbrev pub causes_brought : Brought → List LoneCause
 causes_brought b = comes_if b.starts (StartComes 1) ++ verdict_brings b.fed ++ comes_if b.stops StopComes ++ comes_if b.ticks TickComes
+
+-- where no frame came and none was refused, this is so
+abbrev pub unless_fed : Fed → Bool → Bool
+unless_fed fed.Nothing so = so
+unless_fed (fed.Frame lpdu) so = false
+unless_fed (fed.Refused fault) so = false
+
+-- a byte brought nothing
+abbrev pub is_nothing_brought : Brought → Bool
+is_nothing_brought b = unless_fed b.fed (not b.starts && not b.stops && not b.ticks)
 
 -- the wire that a node reads
 abbrev pub wire_of : Bool → Wire

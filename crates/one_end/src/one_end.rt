@@ -27,6 +27,7 @@ pub struct OneEnd<T> {
 }
 
 /// What a byte brings, one after another.
+#[inline(never)]
 fn comings_of(brought: Brought) -> ArrayVec<Coming, 4>
     ensures causes { map cause_of result.items ≡ causes_brought brought }
 {
@@ -97,6 +98,7 @@ pub fn begin<N: Nv, T: LoneNode<N>>(
 }
 
 /// A byte comes on the link: what the node writes for it is put out. Whether it has lost its power: it does nothing more then.
+#[inline(always)]
 pub fn hear<N: Nv, T: LoneNode<N>>(end: &mut OneEnd<T>, byte: u8, out: &mut Output) -> bool
     requires may { (l : Lone) × (older : List ℕ) × StandsAlone T.runs T.number end.old l older }
     requires empty { out.old.items ≡ [] }
@@ -111,6 +113,7 @@ pub fn hear<N: Nv, T: LoneNode<N>>(end: &mut OneEnd<T>, byte: u8, out: &mut Outp
 }
 
 /// A byte comes on the link.
+#[inline(always)]
 fn hear_byte<N: Nv, T: LoneNode<N>>(end: &mut OneEnd<T>, byte: u8, out: &mut Output) -> bool
     requires may { (l : Lone) × (older : List ℕ) × StandsAlone T.runs T.number end.old l older }
     requires empty { out.old.items ≡ [] }
@@ -122,7 +125,11 @@ fn hear_byte<N: Nv, T: LoneNode<N>>(end: &mut OneEnd<T>, byte: u8, out: &mut Out
     ensures count { N.faults (T.nv end.old.node) ≤ N.faults (T.nv end.new.node) }
     ensures rose { IsTrue result → Rose (N.faults (T.nv end.old.node)) (N.faults (T.nv end.new.node)) }
 {
-    let comings = comings_of(end.reader.hear(byte));
+    let brought = end.reader.hear(byte);
+    if brought.is_nothing() {
+        return false;
+    }
+    let comings = comings_of(brought);
     answer_all(&mut end.node, end.form, end.is_clf, comings.as_slice(), out)
 }
 

@@ -1,7 +1,7 @@
 //! What a node alone reads, byte by byte.
 ghost use Rattle.std.specs.Prelude.{◌≡◌, ◌==◌, List, ℕ, [], ◌∷◌};
 ghost use Rattle.lone_laws.specs.alone.Ends.{unit_brings};
-ghost use Rattle.one_end.specs.Reading.{causes_brought};
+ghost use Rattle.one_end.specs.Reading.{causes_brought, is_nothing_brought};
 
 use crate::line::LineReader;
 use crate::writing::Form;
@@ -19,6 +19,19 @@ pub struct Brought {
     pub stops: bool,
     /// A tick comes.
     pub ticks: bool,
+}
+
+impl Brought {
+    /// Whether nothing comes to the node.
+    #[inline(always)]
+    pub fn is_nothing(&self) -> bool
+        ensures { result ≡ is_nothing_brought self.now }
+    {
+        match self.fed {
+            Fed::Nothing => !self.starts && !self.stops && !self.ticks,
+            Fed::Frame(_) | Fed::Refused(_) => false,
+        }
+    }
 }
 
 /// Reads what comes to the node at one end of a link.
@@ -47,6 +60,7 @@ impl Reader {
     }
 
     /// Takes a byte, and gives what it brings to the node.
+    #[inline(always)]
     pub fn hear(&mut self, byte: u8) -> Brought
         ensures form { form_read self.new ≡ form_read self.old }
         ensures stands { (number : ℕ) (older : List ℕ) → ReaderStandsFor self.old number older → ReaderStandsFor self.new number (byte ∷ older) }
@@ -61,6 +75,7 @@ impl Reader {
 }
 
 /// What a unit of a byte link brings.
+#[inline(always)]
 fn brought_by_unit(unit: Unit) -> Brought
     ensures { causes_brought result ≡ unit_brings unit }
 {
