@@ -1,5 +1,5 @@
--- What is known of a source's end.
-use Rattle.std.specs.Prelude.{ℕ, ◌==◌, Bool, true, false, Result, Ok, Err}
+-- What is known of a source's reads.
+use Rattle.std.specs.Prelude.{ℕ, ◌==◌, if◌then◌else◌, Bool, true, false, Result, Ok, Err}
 use Rattle.swp_base.specs.Outside.{one_more}
 use Rattle.swp_base.specs.declared.outside.Failed.{Failed}
 use Rattle.swp_base.specs.declared.outside.EndOfInput.{EndOfInput}
@@ -9,9 +9,14 @@ abbrev pub is_last : Result ℕ Failed → Bool
 is_last (Ok n) = n == 0
 is_last (Err why) = true
 
--- what is known of a source's end, with a read more that had this answer
+-- the bytes of the last read that gave some, with a read more
+abbrev pub given_with : ℕ → Result ℕ Failed → ℕ
+given_with given (Ok n) = if n == 0 then given else n
+given_with given (Err why) = given
+
+-- what is known of a source's reads, with one more that had this answer
 abbrev pub with_read : EndOfInput → Result ℕ Failed → EndOfInput
 with_read end answer = by_end end.ended where
   by_end : Bool → EndOfInput
-  by_end true = record end { late = one_more end.late }
-  by_end false = record end { ended = is_last answer }
+  by_end true = record end { late = one_more end.late; given = given_with end.given answer }
+  by_end false = record end { ended = is_last answer; given = given_with end.given answer }

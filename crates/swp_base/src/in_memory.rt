@@ -49,7 +49,7 @@ impl MemSource {
           piece = piece;
           calls = 0;
           faults = 0;
-          end = record { ended = false; late = 0 };
+          end = record { ended = false; late = 0; given = 0 };
         } }
     {
         Self {
@@ -218,7 +218,7 @@ impl Model for SureSource {
 impl SureSource {
     /// A source that has these bytes left.
     pub fn new(bytes: Vec<u8>) -> Self
-        ensures { result ≡ record { left = bytes.items; end = record { ended = false; late = 0 } } }
+        ensures { result ≡ record { left = bytes.items; end = record { ended = false; late = 0; given = 0 } } }
     {
         Self {
             bytes,

@@ -21,24 +21,27 @@ impl From<AllocError> for NoMemory {
     }
 }
 
-/// What is known of a source's end: whether a read has said that it ended or has failed, and how many reads were asked of it since
-/// then. The number stands still at the last value of a `u64`.
+/// What is known of a source's reads: whether one has said that it ended or has failed, how many reads were asked of it since
+/// then, and how many bytes the last one gave that gave some. The number of reads stands still at the last value of a `u64`.
 #[derive(Clone, Copy)]
 pub struct EndOfInput {
     /// A read gave no byte, or failed.
     pub ended: bool,
     /// How many reads came behind that one.
     pub late: u64,
+    /// The bytes of the last read that gave some; 0 before it.
+    pub given: usize,
 }
 
 impl EndOfInput {
-    /// It has not ended.
+    /// Nothing was read, and it has not ended.
     pub fn new() -> Self
-        ensures { result ≡ record { ended = false; late = 0 } }
+        ensures { result ≡ record { ended = false; late = 0; given = 0 } }
     {
         EndOfInput {
             ended: false,
             late: 0,
+            given: 0,
         }
     }
 
@@ -50,6 +53,11 @@ impl EndOfInput {
             self.late = self.late.saturating_add(1);
         } else {
             self.ended = matches!(answer, Ok(0) | Err(Failed));
+        }
+        if let Ok(n) = answer {
+            if n != 0 {
+                self.given = n;
+            }
         }
     }
 }
@@ -67,7 +75,7 @@ pub trait Source {
     // the bytes still to come
     ghost left: { Self → List ℕ };
 
-    // whether it has said that it ended or has failed, and how many reads were asked of it since
+    // whether it has said that it ended or has failed, how many reads were asked of it since, and the bytes of the last one that gave some
     ghost end: { Self → EndOfInput };
 
     /// Reads some of the bytes that are left into the front of the buffer, and gives their number. It is 0 only at the

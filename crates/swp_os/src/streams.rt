@@ -20,7 +20,7 @@ impl<R: Read + Drop> StdinSource<R> {
     /// No read has failed, and none has said that the input ended.
     pub fn new(reader: R) -> Self
         ensures faults { result.faults ≡ 0 }
-        ensures end { result.end ≡ record { ended = false; late = 0 } }
+        ensures end { result.end ≡ record { ended = false; late = 0; given = 0 } }
     {
         StdinSource {
             reader,

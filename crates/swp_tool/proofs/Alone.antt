@@ -44,14 +44,16 @@ module _ {N T : Type 0} (writes : N → ℕ → List ℕ → Bool → N → Type
   before_is front None earlier h = h
   before_is front (Some byte) earlier h = (nv h.0.node, run_is h.0 false front earlier h.1 h.2)
 
-  pub broken_is : (tells : Bool) (e : OneEnd T) (input left before after : List ℕ) → IsBrokenAlone writes nv Runs number tells o e input left before after
-      → IsRunBrokenOff writes tells (form_named o.form) is_clf o.content o.first (nv e.node) input left before after
-  broken_is tells e input left before after h = record {
+  pub broken_is : (tells : Bool) (given : ℕ) (e : OneEnd T) (input left before after : List ℕ)
+      → IsBrokenAlone writes nv Runs number tells given o e input left before after
+      → IsRunBrokenOff writes tells given (form_named o.form) is_clf o.content o.first (nv e.node) input left before after
+  broken_is tells given e input left before after h = record {
     front = h.front;
     byte = h.byte;
     ahead = h.ahead;
     input_is = h.input_is;
     near = h.near;
+    at_once = h.at_once;
     stopped = h.stopped;
     earlier = h.earlier;
     last = h.last;
@@ -61,13 +63,15 @@ module _ {N T : Type 0} (writes : N → ℕ → List ℕ → Bool → N → Type
     after_is = h.after_is;
   }
 
-  pub stopped_is : (tells : Bool) (e : OneEnd T) (input left before after : List ℕ) → IsStoppedAlone writes nv Runs number tells o e input left before after
-      → IsRunStopped writes tells (form_named o.form) is_clf o.content o.first (nv e.node) input left before after
-  stopped_is tells e input left before after h = record {
+  pub stopped_is : (tells : Bool) (given : ℕ) (e : OneEnd T) (input left before after : List ℕ)
+      → IsStoppedAlone writes nv Runs number tells given o e input left before after
+      → IsRunStopped writes tells given (form_named o.form) is_clf o.content o.first (nv e.node) input left before after
+  stopped_is tells given e input left before after h = record {
     bytes = h.bytes;
     ahead = h.ahead;
     input_is = h.input_is;
     near = h.near;
+    at_once = h.at_once;
     run = heard_is tells e true h.bytes before after h.heard;
   }
 
@@ -81,14 +85,14 @@ module _ {N T : Type 0} (writes : N → ℕ → List ℕ → Bool → N → Type
     run = heard_is tells e false h.bytes before after h.heard;
   }
 
-  pub ended_ran : (tells : Bool) (e : OneEnd T) (count : ℕ) (s : Status) (input left before after : List ℕ)
-      → EndedAlone writes nv Runs number tells o e count s input left before after
-      → RanSo writes tells (form_named o.form) is_clf o.content o.first (nv e.node) s input left before after
-  ended_ran tells e count status.Done input left before after h = (h.0, h.1, heard_is tells e false input before after h.2)
-  ended_ran tells e count status.ReadFault input left before after h = cut_off_is tells e count input left before after h.0 h.1
-  ended_ran tells e count status.WriteFault input left before after h = broken_is tells e input left before after h
-  ended_ran tells e count status.NvFault input left before after h = stopped_is tells e input left before after h
-  ended_ran tells e count (status.TooMany n) input left before after h = (
+  pub ended_ran : (tells : Bool) (given : ℕ) (e : OneEnd T) (count : ℕ) (s : Status) (input left before after : List ℕ)
+      → EndedAlone writes nv Runs number tells given o e count s input left before after
+      → RanSo writes tells given (form_named o.form) is_clf o.content o.first (nv e.node) s input left before after
+  ended_ran tells given e count status.Done input left before after h = (h.0, h.1, heard_is tells e false input before after h.2)
+  ended_ran tells given e count status.ReadFault input left before after h = cut_off_is tells e count input left before after h.0 h.1
+  ended_ran tells given e count status.WriteFault input left before after h = broken_is tells given e input left before after h
+  ended_ran tells given e count status.NvFault input left before after h = stopped_is tells given e input left before after h
+  ended_ran tells given e count (status.TooMany n) input left before after h = (
     h.0,
     record {
       bytes = h.1.bytes;
@@ -99,26 +103,27 @@ module _ {N T : Type 0} (writes : N → ℕ → List ℕ → Bool → N → Type
       run = heard_is tells e false h.1.bytes before after h.1.heard;
     },
   )
-  ended_ran tells e count status.BadWords input left before after h = absurd h
-  ended_ran tells e count (status.BadSchedule line why) input left before after h = absurd h
-  ended_ran tells e count (status.Undetected line) input left before after h = absurd h
-  ended_ran tells e count status.NoMemory input left before after h = absurd h
-  ended_ran tells e count (status.BadImage why) input left before after h = absurd h
+  ended_ran tells given e count status.BadWords input left before after h = absurd h
+  ended_ran tells given e count (status.BadSchedule line why) input left before after h = absurd h
+  ended_ran tells given e count (status.Undetected line) input left before after h = absurd h
+  ended_ran tells given e count status.NoMemory input left before after h = absurd h
+  ended_ran tells given e count (status.BadImage why) input left before after h = absurd h
 
 -- ## Before the first byte
 
 module _ {N T : Type 0} (writes : N → ℕ → List ℕ → Bool → N → Type 0) (nv : T → N) (Runs : T → Lone → List Control → Type 0) (number : ℕ)
     (o : Began N) (tells : Bool) (e : OneEnd T) where
-  pub begins_broken : (stopped : Bool) (input was after items : List ℕ) → e.form ≡ o.form
+  pub begins_broken : (given : ℕ) (stopped : Bool) (input was after items : List ℕ) → e.form ≡ o.form
       → HasRun writes nv Runs number o.content o.first e stopped [] items → (n : ℕ) → (IsTrue tells → after ≡ was ++ take n items)
-      → IsBrokenAlone writes nv Runs number tells o e input input was after
-  begins_broken stopped input was after items same h n is = record {
+      → IsBrokenAlone writes nv Runs number tells given o e input input was after
+  begins_broken given stopped input was after items same h n is = record {
     form_is = same;
     front = [];
     byte = None;
     ahead = [];
     input_is = refl;
     near = omega arith;
+    at_once = omega arith;
     stopped = stopped;
     earlier = [];
     last = items;
@@ -133,14 +138,15 @@ module _ {N T : Type 0} (writes : N → ℕ → List ℕ → Bool → N → Type
       → HasHeardAlone writes nv Runs number tells o e stopped [] was after
   begun_heard stopped was after items same h is = record { form_is = same; written = items; run = h; after_is = is }
 
-  pub begins_stopped : (input was after items : List ℕ) → e.form ≡ o.form
+  pub begins_stopped : (given : ℕ) (input was after items : List ℕ) → e.form ≡ o.form
       → HasRun writes nv Runs number o.content o.first e true [] items → (IsTrue tells → after ≡ was ++ items)
-      → IsStoppedAlone writes nv Runs number tells o e input input was after
-  begins_stopped input was after items same h is = record {
+      → IsStoppedAlone writes nv Runs number tells given o e input input was after
+  begins_stopped given input was after items same h is = record {
     bytes = [];
     ahead = [];
     input_is = refl;
     near = omega arith;
+    at_once = omega arith;
     heard = begun_heard true was after items same h is;
   }
 
@@ -166,19 +172,19 @@ spent_is_other is = cc
 
 -- a boot that was refused
 pub refused_ended : {N : Type 0} (reads : N → Bool → N → Type 0) (writes : N → ℕ → List ℕ → Bool → N → Type 0) (faults : N → ℕ) (nv_tells : Bool)
-    (content : N → List ℕ) (tells : Bool) (form : EndForm) (is_clf : Bool) (old new : N) (fault : Option JournalFault) (input before : List ℕ)
+    (content : N → List ℕ) (tells : Bool) (given : ℕ) (form : EndForm) (is_clf : Bool) (old new : N) (fault : Option JournalFault) (input before : List ℕ)
     → IsTrue nv_tells → IsNotBooted reads writes faults nv_tells content old new fault
-    → EndedSo reads writes content tells form is_clf old new (status_of_boot fault) input input before before
-refused_ended reads writes faults nv_tells content tells form is_clf old new None input before told k = (k, (refl, λ t. refl))
-refused_ended reads writes faults nv_tells content tells form is_clf old new (Some image.NvFault) input before told k =
+    → EndedSo reads writes content tells given form is_clf old new (status_of_boot fault) input input before before
+refused_ended reads writes faults nv_tells content tells given form is_clf old new None input before told k = (k, (refl, λ t. refl))
+refused_ended reads writes faults nv_tells content tells given form is_clf old new (Some image.NvFault) input before told k =
     inl (record { nothing = (refl, λ t. refl); where_cut = k.torn told refl; same = k.left told })
-refused_ended reads writes faults nv_tells content tells form is_clf old new (Some (image.UnknownFormat version)) input before told k =
+refused_ended reads writes faults nv_tells content tells given form is_clf old new (Some (image.UnknownFormat version)) input before told k =
     let only = k.unwritten (unknown_is_other version) in
     record { nothing = (refl, λ t. refl); why = inl (k.image told tt); read = only.read; same = only.kept told }
-refused_ended reads writes faults nv_tells content tells form is_clf old new (Some (image.BadRecord at)) input before told k =
+refused_ended reads writes faults nv_tells content tells given form is_clf old new (Some (image.BadRecord at)) input before told k =
     let only = k.unwritten (record_is_other at) in
     record { nothing = (refl, λ t. refl); why = inl (k.image told tt); read = only.read; same = only.kept told }
-refused_ended reads writes faults nv_tells content tells form is_clf old new (Some image.GenerationsSpent) input before told k =
+refused_ended reads writes faults nv_tells content tells given form is_clf old new (Some image.GenerationsSpent) input before told k =
     let only = k.unwritten spent_is_other in
     record { nothing = (refl, λ t. refl); why = inr (refl, k.spent told refl); read = only.read; same = only.kept told }
 
@@ -190,25 +196,27 @@ role_is false q = ap (λ n. n == 0) q
 -- ## A run behind a boot
 
 pub booted_ended : {N : Type 0} (reads : N → Bool → N → Type 0) (writes : N → ℕ → List ℕ → Bool → N → Type 0) (content : N → List ℕ) (tells : Bool)
-    (form : EndForm) (is_clf : Bool) (old first new : N) (s : Status) (input left before after : List ℕ) → IsOfLone s → image_fault (content old) ≡ None
+    (given : ℕ) (form : EndForm) (is_clf : Bool) (old first new : N) (s : Status) (input left before after : List ℕ) → IsOfLone s
+    → image_fault (content old) ≡ None
     → HasNextGeneration (content old) → HasWritten reads writes content (ready_writes (content old)) old true first
-    → RanSo writes tells form is_clf (content old) first new s input left before after
-    → EndedSo reads writes content tells form is_clf old new s input left before after
-booted_ended reads writes content tells form is_clf old first new status.Done input left before after kind sound next made ran =
+    → RanSo writes tells given form is_clf (content old) first new s input left before after
+    → EndedSo reads writes content tells given form is_clf old new s input left before after
+booted_ended reads writes content tells given form is_clf old first new status.Done input left before after kind sound next made ran =
     record { first = first; sound = sound; next = next; booted = made; ran = ran }
-booted_ended reads writes content tells form is_clf old first new status.ReadFault input left before after kind sound next made ran =
+booted_ended reads writes content tells given form is_clf old first new status.ReadFault input left before after kind sound next made ran =
     record { first = first; sound = sound; next = next; booted = made; ran = ran }
-booted_ended reads writes content tells form is_clf old first new status.WriteFault input left before after kind sound next made ran =
+booted_ended reads writes content tells given form is_clf old first new status.WriteFault input left before after kind sound next made ran =
     record { first = first; sound = sound; next = next; booted = made; ran = ran }
-booted_ended reads writes content tells form is_clf old first new status.NvFault input left before after kind sound next made ran =
+booted_ended reads writes content tells given form is_clf old first new status.NvFault input left before after kind sound next made ran =
     inr (record { first = first; sound = sound; next = next; booted = made; ran = ran })
-booted_ended reads writes content tells form is_clf old first new (status.TooMany n) input left before after kind sound next made ran =
+booted_ended reads writes content tells given form is_clf old first new (status.TooMany n) input left before after kind sound next made ran =
     record { first = first; sound = sound; next = next; booted = made; ran = ran }
-booted_ended reads writes content tells form is_clf old first new status.BadWords input left before after kind sound next made ran = absurd kind
-booted_ended reads writes content tells form is_clf old first new (status.BadSchedule line why) input left before after kind sound next made ran = absurd kind
-booted_ended reads writes content tells form is_clf old first new (status.Undetected line) input left before after kind sound next made ran = absurd kind
-booted_ended reads writes content tells form is_clf old first new status.NoMemory input left before after kind sound next made ran = absurd kind
-booted_ended reads writes content tells form is_clf old first new (status.BadImage why) input left before after kind sound next made ran = absurd kind
+booted_ended reads writes content tells given form is_clf old first new status.BadWords input left before after kind sound next made ran = absurd kind
+booted_ended reads writes content tells given form is_clf old first new (status.BadSchedule line why) input left before after kind sound next made ran =
+    absurd kind
+booted_ended reads writes content tells given form is_clf old first new (status.Undetected line) input left before after kind sound next made ran = absurd kind
+booted_ended reads writes content tells given form is_clf old first new status.NoMemory input left before after kind sound next made ran = absurd kind
+booted_ended reads writes content tells given form is_clf old first new (status.BadImage why) input left before after kind sound next made ran = absurd kind
 
 -- ## How it can end
 

@@ -49,19 +49,19 @@ halts_end_front halt.TooMany count bytes text h = absurd h
 halts_end_front halt.NoMemory count bytes text h = h
 
 -- the status of a halt says what was written
-pub halted_replayed : (tells : Bool) (why : Halt) (count : ℕ) (bytes text rest before after : List ℕ) → Halts why count bytes text
-    → (IsTrue tells → after ≡ before ++ text) → Replayed tells (status_of why count) (bytes ++ rest) rest before after
-halted_replayed tells (halt.Fault f) count bytes text rest before after h is = (text, h rest, is)
-halted_replayed tells halt.Undetected count bytes text rest before after h is = (text, h rest, is)
-halted_replayed tells halt.TooMany count bytes text rest before after h is = (text, h rest, is)
-halted_replayed tells halt.NoMemory count bytes text rest before after h is = (text, h rest, is)
+pub halted_replayed : (tells : Bool) (given : ℕ) (why : Halt) (count : ℕ) (bytes text rest before after : List ℕ) → Halts why count bytes text
+    → (IsTrue tells → after ≡ before ++ text) → Replayed tells given (status_of why count) (bytes ++ rest) rest before after
+halted_replayed tells given (halt.Fault f) count bytes text rest before after h is = (text, h rest, is)
+halted_replayed tells given halt.Undetected count bytes text rest before after h is = (text, h rest, is)
+halted_replayed tells given halt.TooMany count bytes text rest before after h is = (text, h rest, is)
+halted_replayed tells given halt.NoMemory count bytes text rest before after h is = (text, h rest, is)
 
-pub halted_at_end : (tells : Bool) (why : Halt) (count : ℕ) (bytes text before after : List ℕ) → HaltsAtEnd why count bytes text
-    → (IsTrue tells → after ≡ before ++ text) → Replayed tells (status_of why count) bytes [] before after
-halted_at_end tells (halt.Fault f) count bytes text before after h is = (text, h, is)
-halted_at_end tells halt.Undetected count bytes text before after h is = (text, h, is)
-halted_at_end tells halt.TooMany count bytes text before after h is = absurd h
-halted_at_end tells halt.NoMemory count bytes text before after h is = (text, h, is)
+pub halted_at_end : (tells : Bool) (given : ℕ) (why : Halt) (count : ℕ) (bytes text before after : List ℕ) → HaltsAtEnd why count bytes text
+    → (IsTrue tells → after ≡ before ++ text) → Replayed tells given (status_of why count) bytes [] before after
+halted_at_end tells given (halt.Fault f) count bytes text before after h is = (text, h, is)
+halted_at_end tells given halt.Undetected count bytes text before after h is = (text, h, is)
+halted_at_end tells given halt.TooMany count bytes text before after h is = absurd h
+halted_at_end tells given halt.NoMemory count bytes text before after h is = (text, h, is)
 
 -- before the first byte
 pub nothing_played : (tells : Bool) (p : Pieces) (input before : List ℕ) → HasRead p [] [] → p.replay.text.items ≡ []
@@ -120,16 +120,18 @@ whole_transcript p bytes text h gathered =
     }
 
 -- a front of what was gathered of a piece stands behind what was written before it
-pub cut_short : {tells : Bool} {p : Pieces} {input before written after : List ℕ} (piece left items : List ℕ)
-    → (under : IsUnderWay tells p input (piece ++ left) before written) → length piece ≤ 4096 → IsSomeTranscript input (under.text ++ items)
-    → (n : ℕ) × (IsTrue tells → after ≡ written ++ take n items) → AppendsText tells (IsCutShort 4096 input left) before after
-cut_short {tells} {p} {before} {written} {after} piece left items under few some front = (
+pub cut_short : {tells : Bool} {p : Pieces} {input before written after : List ℕ} (given : ℕ) (piece left items : List ℕ)
+    → (under : IsUnderWay tells p input (piece ++ left) before written) → length piece ≤ 4096 → length piece ≤ given
+    → IsSomeTranscript input (under.text ++ items)
+    → (n : ℕ) × (IsTrue tells → after ≡ written ++ take n items) → AppendsText tells (IsCutShort 4096 given input left) before after
+cut_short {tells} {p} {before} {written} {after} given piece left items under few at_once some front = (
   under.text ++ take front.0 items,
   record {
     bytes = under.bytes;
     piece = piece;
     input_is = under.input_is;
     few = few;
+    at_once = at_once;
     written = under.text;
     whole = whole_transcript p under.bytes under.text under.read under.gathered;
     behind = items;

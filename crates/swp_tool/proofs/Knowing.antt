@@ -80,12 +80,12 @@ tells_below input header is running =
       text_is = refl;
     })
 
-done_replayed : (tells : Bool) (input left before after : List ℕ) → Replayed tells status.Done input left before after
+done_replayed : (tells : Bool) (given : ℕ) (input left before after : List ℕ) → Replayed tells given status.Done input left before after
     → AppendsText tells (TellsPlayed (schedule_in input)) before after
-done_replayed tells input left before after h = (h.1.0, tells_whole input h.1.0 h.1.1, h.1.2)
+done_replayed tells given input left before after h = (h.1.0, tells_whole input h.1.0 h.1.1, h.1.2)
 
 -- so does what a replay has written that is done
-pub known : (tells : Bool) (s : Status) (input left before after : List ℕ) → s ≡ status.Done → Replayed tells s input left before after
+pub known : (tells : Bool) (given : ℕ) (s : Status) (input left before after : List ℕ) → s ≡ status.Done → Replayed tells given s input left before after
     → AppendsText tells (TellsPlayed (schedule_in input)) before after
-known tells s input left before after is h =
-    done_replayed tells input left before after (subst (λ x. Replayed tells x input left before after) is h)
+known tells given s input left before after is h =
+    done_replayed tells given input left before after (subst (λ x. Replayed tells given x input left before after) is h)

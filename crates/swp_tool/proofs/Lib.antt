@@ -1,4 +1,5 @@
 pub mod Finding
+pub mod Giving
 pub mod Cutting
 pub mod Texts
 pub mod Fitting

@@ -30,10 +30,10 @@ more_came bytes rest input byte is most =
     omega (arith, l, all, most)
 
 module _ {N : Type 0} (reads : N → Bool → N → Type 0) (writes : N → ℕ → List ℕ → Bool → N → Type 0) (content : N → List ℕ) (tells : Bool)
-    (form : EndForm) (is_clf : Bool) (old new : N) (input left before after : List ℕ) (sound : image_fault (content old) ≡ None)
+    (given : ℕ) (form : EndForm) (is_clf : Bool) (old new : N) (input left before after : List ℕ) (sound : image_fault (content old) ≡ None)
     (next : HasNextGeneration (content old)) where
   -- of an input that isn't too long all came
-  pub complete_ended : (s : Status) → EndedSo reads writes content tells form is_clf old new s input left before after → IsOfEndWord s
+  pub complete_ended : (s : Status) → EndedSo reads writes content tells given form is_clf old new s input left before after → IsOfEndWord s
       → length input ≤ most_bytes → ¬ (s ≡ status.ReadFault) → ¬ (s ≡ status.WriteFault) → ¬ (s ≡ status.NvFault)
       → (s ≡ status.Done) ⊎ (s ≡ status.NoMemory)
   complete_ended status.Done h kind few read write nv = inl refl
@@ -51,7 +51,7 @@ module _ {N : Type 0} (reads : N → Bool → N → Type 0) (writes : N → ℕ 
   complete_ended (status.Undetected line) h kind few read write nv = absurd kind
 
   -- a longer one is refused at the first byte too many
-  pub too_many_ended : (s : Status) → EndedSo reads writes content tells form is_clf old new s input left before after → IsOfEndWord s
+  pub too_many_ended : (s : Status) → EndedSo reads writes content tells given form is_clf old new s input left before after → IsOfEndWord s
       → most_bytes < length input → ¬ (s ≡ status.ReadFault) → ¬ (s ≡ status.WriteFault) → ¬ (s ≡ status.NvFault)
       → (s ≡ status.TooMany 16777217) ⊎ (s ≡ status.NoMemory)
   too_many_ended status.Done h kind more read write nv = let few = h.ran.1 in absurd (omega (arith, more, few))

@@ -127,29 +127,30 @@ pub front_of_some : {lines : List ℕ → List ℕ} {tells : Bool} {earlier befo
 front_of_some bytes rest front = record { bytes = bytes; rest = rest; input_is = refl; front = front }
 
 -- how reading a piece ended, said of the whole
-pub ended_in : (lines : List ℕ → List ℕ) (tells : Bool) (why : Status) (earlier : List ℕ) {input : List ℕ} (piece left before after : List ℕ)
-    → input ≡ earlier ++ (piece ++ left) → length piece ≤ 8192
-    → EndedIn lines tells why earlier input before after → RecordedBy lines tells why input left before after
-ended_in lines tells (status.TooMany count) earlier piece left before after is few h = h
-ended_in lines tells status.WriteFault earlier piece left before after is few h =
-    record { earlier = earlier; piece = piece; input_is = is; few = few; front = inl h }
-ended_in lines tells status.Done earlier piece left before after is few h = absurd h
-ended_in lines tells status.ReadFault earlier piece left before after is few h = absurd h
-ended_in lines tells status.NoMemory earlier piece left before after is few h = absurd h
-ended_in lines tells status.BadWords earlier piece left before after is few h = absurd h
-ended_in lines tells (status.BadSchedule line why) earlier piece left before after is few h = absurd h
-ended_in lines tells (status.Undetected line) earlier piece left before after is few h = absurd h
-ended_in lines tells status.NvFault earlier piece left before after is few h = absurd h
-ended_in lines tells (status.BadImage why) earlier piece left before after is few h = absurd h
+pub ended_in : (lines : List ℕ → List ℕ) (tells : Bool) (given : ℕ) (why : Status) (earlier : List ℕ) {input : List ℕ} (piece left before after : List ℕ)
+    → input ≡ earlier ++ (piece ++ left) → length piece ≤ 8192 → length piece ≤ given
+    → EndedIn lines tells why earlier input before after → RecordedBy lines tells given why input left before after
+ended_in lines tells given (status.TooMany count) earlier piece left before after is few at_once h = h
+ended_in lines tells given status.WriteFault earlier piece left before after is few at_once h =
+    record { earlier = earlier; piece = piece; input_is = is; few = few; at_once = at_once; front = inl h }
+ended_in lines tells given status.Done earlier piece left before after is few at_once h = absurd h
+ended_in lines tells given status.ReadFault earlier piece left before after is few at_once h = absurd h
+ended_in lines tells given status.NoMemory earlier piece left before after is few at_once h = absurd h
+ended_in lines tells given status.BadWords earlier piece left before after is few at_once h = absurd h
+ended_in lines tells given (status.BadSchedule line why) earlier piece left before after is few at_once h = absurd h
+ended_in lines tells given (status.Undetected line) earlier piece left before after is few at_once h = absurd h
+ended_in lines tells given status.NvFault earlier piece left before after is few at_once h = absurd h
+ended_in lines tells given (status.BadImage why) earlier piece left before after is few at_once h = absurd h
 
 -- a write failed behind the end of the input: the lines of all of it had been written
-pub broken_off_at_end : (lines : List ℕ → List ℕ) (tells : Bool) (input before after : List ℕ) → length input ≤ 16777216
-    → IsFront tells (length (lines input)) (whole_record lines input) before after → IsBrokenOff lines tells input [] before after
-broken_off_at_end lines tells input before after few front = record {
+pub broken_off_at_end : (lines : List ℕ → List ℕ) (tells : Bool) (given : ℕ) (input before after : List ℕ) → length input ≤ 16777216
+    → IsFront tells (length (lines input)) (whole_record lines input) before after → IsBrokenOff lines tells given input [] before after
+broken_off_at_end lines tells given input before after few front = record {
   earlier = input;
   piece = [];
   input_is = sym (append-nil input);
   few = omega arith;
+  at_once = omega arith;
   front = inr (record { few = few; front = front });
 }
 

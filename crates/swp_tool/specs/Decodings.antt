@@ -12,6 +12,6 @@ pub record IsDecoding (tells : Bool) (d : Decoding) (earlier bytes before after 
   pub stands : DecoderStandsFor d.decoder (reverse bytes)
   pub lines : IsGathered tells d.text.items (length (record_lines earlier)) (record_lines bytes) before after
 
--- How a decoding of this input ended. Whether the sink tells what was written comes first.
-abbrev pub DecodedBy : Bool → Status → List ℕ → List ℕ → List ℕ → List ℕ → Type 0
-DecodedBy tells status input left before after = RecordedBy record_lines tells status input left before after
+-- How a decoding of this input ended. Whether the sink tells what was written comes first, and then the bytes of the last read that gave some.
+abbrev pub DecodedBy : Bool → ℕ → Status → List ℕ → List ℕ → List ℕ → List ℕ → Type 0
+DecodedBy tells given status input left before after = RecordedBy record_lines tells given status input left before after

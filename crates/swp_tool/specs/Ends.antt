@@ -43,15 +43,16 @@ IsWrittenBefore {N} {T} writes nv Runs number o front (Some byte) earlier =
     (d : OneEnd T) × (d.form ≡ o.form) × HasRun writes nv Runs number o.content o.first d false front earlier
 
 -- A write failed: all that the node wrote for the bytes before the last one went out, and a front of what it wrote for that. Behind that byte no
--- more was read than comes in one call.
+-- more was read than the last read gave.
 pub record IsBrokenAlone {N T : Type 0} (writes : N → ℕ → List ℕ → Bool → N → Type 0) (nv : T → N) (Runs : T → Lone → List Control → Type 0)
-    (number : ℕ) (tells : Bool) (o : Began N) (e : OneEnd T) (input left before after : List ℕ) : Type 0 where
+    (number : ℕ) (tells : Bool) (given : ℕ) (o : Began N) (e : OneEnd T) (input left before after : List ℕ) : Type 0 where
   pub form_is : e.form ≡ o.form
   pub front : List ℕ
   pub byte : Option ℕ
   pub ahead : List ℕ
   pub input_is : input ≡ (front ++ option_to_list byte) ++ (ahead ++ left)
   pub near : length ahead ≤ 8192
+  pub at_once : length ahead ≤ given
   pub stopped : Bool
   pub earlier : List ℕ
   pub last : List ℕ
@@ -60,13 +61,14 @@ pub record IsBrokenAlone {N T : Type 0} (writes : N → ℕ → List ℕ → Boo
   pub n : ℕ
   pub after_is : IsTrue tells → after ≡ before ++ (earlier ++ take n last)
 
--- The node lost its power with the last of these bytes. Behind it no more was read than comes in one call.
+-- The node lost its power with the last of these bytes. Behind it no more was read than the last read gave.
 pub record IsStoppedAlone {N T : Type 0} (writes : N → ℕ → List ℕ → Bool → N → Type 0) (nv : T → N) (Runs : T → Lone → List Control → Type 0)
-    (number : ℕ) (tells : Bool) (o : Began N) (e : OneEnd T) (input left before after : List ℕ) : Type 0 where
+    (number : ℕ) (tells : Bool) (given : ℕ) (o : Began N) (e : OneEnd T) (input left before after : List ℕ) : Type 0 where
   pub bytes : List ℕ
   pub ahead : List ℕ
   pub input_is : input ≡ bytes ++ (ahead ++ left)
   pub near : length ahead ≤ 8192
+  pub at_once : length ahead ≤ given
   pub heard : HasHeardAlone writes nv Runs number tells o e true bytes before after
 
 -- one byte came more than may come
@@ -80,14 +82,15 @@ pub record IsTooLongAlone {N T : Type 0} (writes : N → ℕ → List ℕ → Bo
   pub heard : HasHeardAlone writes nv Runs number tells o e false bytes before after
 
 -- how a run ended while bytes of this input came
-abbrev pub EndedInBytes : {N T : Type 0} → (N → ℕ → List ℕ → Bool → N → Type 0) → (T → N) → (T → Lone → List Control → Type 0) → ℕ → Bool → Began N
-    → OneEnd T → Status → List ℕ → List ℕ → List ℕ → List ℕ → Type 0
-EndedInBytes writes nv Runs number tells o e status.WriteFault input left before after =
-    IsBrokenAlone writes nv Runs number tells o e input left before after
-EndedInBytes writes nv Runs number tells o e status.NvFault input left before after = IsStoppedAlone writes nv Runs number tells o e input left before after
-EndedInBytes writes nv Runs number tells o e (status.TooMany count) input left before after =
+abbrev pub EndedInBytes : {N T : Type 0} → (N → ℕ → List ℕ → Bool → N → Type 0) → (T → N) → (T → Lone → List Control → Type 0) → ℕ → Bool → ℕ
+    → Began N → OneEnd T → Status → List ℕ → List ℕ → List ℕ → List ℕ → Type 0
+EndedInBytes writes nv Runs number tells given o e status.WriteFault input left before after =
+    IsBrokenAlone writes nv Runs number tells given o e input left before after
+EndedInBytes writes nv Runs number tells given o e status.NvFault input left before after =
+    IsStoppedAlone writes nv Runs number tells given o e input left before after
+EndedInBytes writes nv Runs number tells given o e (status.TooMany count) input left before after =
     (count ≡ 16777217) × IsTooLongAlone writes nv Runs number tells o e input before after
-EndedInBytes writes nv Runs number tells o e _ input left before after = ⊥
+EndedInBytes writes nv Runs number tells given o e _ input left before after = ⊥
 
 -- how a run with the word `end` can end while bytes come
 abbrev pub IsOfEnd : Status → Type 0
@@ -111,19 +114,19 @@ pub record IsHearing {N T : Type 0} (writes : N → ℕ → List ℕ → Bool �
 
 -- How a run of this input ended. On Done all of it came, and what the node wrote for it went out; where reading failed, a front; where a write to
 -- its memory failed or too much came, what it wrote up to there; where writing failed, a front of that.
-abbrev pub EndedAlone : {N T : Type 0} → (N → ℕ → List ℕ → Bool → N → Type 0) → (T → N) → (T → Lone → List Control → Type 0) → ℕ → Bool → Began N
-    → OneEnd T → ℕ → Status → List ℕ → List ℕ → List ℕ → List ℕ → Type 0
-EndedAlone writes nv Runs number tells o e count status.Done input left before after =
+abbrev pub EndedAlone : {N T : Type 0} → (N → ℕ → List ℕ → Bool → N → Type 0) → (T → N) → (T → Lone → List Control → Type 0) → ℕ → Bool → ℕ
+    → Began N → OneEnd T → ℕ → Status → List ℕ → List ℕ → List ℕ → List ℕ → Type 0
+EndedAlone writes nv Runs number tells given o e count status.Done input left before after =
     (left ≡ []) × (length input ≤ most_bytes) × HasHeardAlone writes nv Runs number tells o e false input before after
-EndedAlone writes nv Runs number tells o e count status.ReadFault input left before after =
+EndedAlone writes nv Runs number tells given o e count status.ReadFault input left before after =
     (count ≤ most_bytes) × IsHearing writes nv Runs number tells o e count input left before after
-EndedAlone writes nv Runs number tells o e count status.WriteFault input left before after =
-    EndedInBytes writes nv Runs number tells o e status.WriteFault input left before after
-EndedAlone writes nv Runs number tells o e count status.NvFault input left before after =
-    EndedInBytes writes nv Runs number tells o e status.NvFault input left before after
-EndedAlone writes nv Runs number tells o e count (status.TooMany n) input left before after =
-    EndedInBytes writes nv Runs number tells o e (status.TooMany n) input left before after
-EndedAlone writes nv Runs number tells o e count _ input left before after = ⊥
+EndedAlone writes nv Runs number tells given o e count status.WriteFault input left before after =
+    EndedInBytes writes nv Runs number tells given o e status.WriteFault input left before after
+EndedAlone writes nv Runs number tells given o e count status.NvFault input left before after =
+    EndedInBytes writes nv Runs number tells given o e status.NvFault input left before after
+EndedAlone writes nv Runs number tells given o e count (status.TooMany n) input left before after =
+    EndedInBytes writes nv Runs number tells given o e (status.TooMany n) input left before after
+EndedAlone writes nv Runs number tells given o e count _ input left before after = ⊥
 
 -- how such a run can end
 abbrev pub IsOfLone : Status → Type 0
@@ -151,14 +154,15 @@ IsRunBefore {N} writes form is_clf content first front (Some byte) earlier =
     (mid : N) × IsRunOfBytes writes first mid false form is_clf content front earlier
 
 -- A write of the output failed: all that was written for the bytes before the last one went out, and a front of what was for that. Behind that
--- byte no more was read than comes in one call.
-pub record IsRunBrokenOff {N : Type 0} (writes : N → ℕ → List ℕ → Bool → N → Type 0) (tells : Bool) (form : EndForm) (is_clf : Bool) (content : List ℕ)
-    (first now : N) (input left before after : List ℕ) : Type 0 where
+-- byte no more was read than the last read gave.
+pub record IsRunBrokenOff {N : Type 0} (writes : N → ℕ → List ℕ → Bool → N → Type 0) (tells : Bool) (given : ℕ) (form : EndForm) (is_clf : Bool)
+    (content : List ℕ) (first now : N) (input left before after : List ℕ) : Type 0 where
   pub front : List ℕ
   pub byte : Option ℕ
   pub ahead : List ℕ
   pub input_is : input ≡ (front ++ option_to_list byte) ++ (ahead ++ left)
   pub near : length ahead ≤ 8192
+  pub at_once : length ahead ≤ given
   pub stopped : Bool
   pub earlier : List ℕ
   pub last : List ℕ
@@ -178,13 +182,14 @@ pub record IsOneTooMany {N : Type 0} (writes : N → ℕ → List ℕ → Bool �
   pub run : HasRunAlone writes tells form is_clf content first now false bytes before after
 
 -- A write to the memory failed in what the last of these bytes caused: what was written up to there went out. Behind that byte no more was read
--- than comes in one call.
-pub record IsRunStopped {N : Type 0} (writes : N → ℕ → List ℕ → Bool → N → Type 0) (tells : Bool) (form : EndForm) (is_clf : Bool) (content : List ℕ)
-    (first now : N) (input left before after : List ℕ) : Type 0 where
+-- than the last read gave.
+pub record IsRunStopped {N : Type 0} (writes : N → ℕ → List ℕ → Bool → N → Type 0) (tells : Bool) (given : ℕ) (form : EndForm) (is_clf : Bool)
+    (content : List ℕ) (first now : N) (input left before after : List ℕ) : Type 0 where
   pub bytes : List ℕ
   pub ahead : List ℕ
   pub input_is : input ≡ bytes ++ (ahead ++ left)
   pub near : length ahead ≤ 8192
+  pub at_once : length ahead ≤ given
   pub run : HasRunAlone writes tells form is_clf content first now true bytes before after
 
 -- a read of the input failed behind these bytes, and these weren't too many: all that was written for them went out
@@ -198,19 +203,19 @@ pub record IsRunCutOff {N : Type 0} (writes : N → ℕ → List ℕ → Bool �
 -- How a run of this input ended, of which this is left, by its status. On Done all of it came, and all that the node wrote for it went out;
 -- where reading failed, a front came; where a write to the memory failed or one byte too many came, what was written up to there went out;
 -- where writing failed, a front of that.
-abbrev pub RanSo : {N : Type 0} → (N → ℕ → List ℕ → Bool → N → Type 0) → Bool → EndForm → Bool → List ℕ → N → N → Status → List ℕ → List ℕ → List ℕ
-    → List ℕ → Type 0
-RanSo writes tells form is_clf content first now status.Done input left before after =
+abbrev pub RanSo : {N : Type 0} → (N → ℕ → List ℕ → Bool → N → Type 0) → Bool → ℕ → EndForm → Bool → List ℕ → N → N → Status → List ℕ → List ℕ
+    → List ℕ → List ℕ → Type 0
+RanSo writes tells given form is_clf content first now status.Done input left before after =
     (left ≡ []) × (length input ≤ most_bytes) × HasRunAlone writes tells form is_clf content first now false input before after
-RanSo writes tells form is_clf content first now status.ReadFault input left before after =
+RanSo writes tells given form is_clf content first now status.ReadFault input left before after =
     IsRunCutOff writes tells form is_clf content first now input left before after
-RanSo writes tells form is_clf content first now status.WriteFault input left before after =
-    IsRunBrokenOff writes tells form is_clf content first now input left before after
-RanSo writes tells form is_clf content first now status.NvFault input left before after =
-    IsRunStopped writes tells form is_clf content first now input left before after
-RanSo writes tells form is_clf content first now (status.TooMany count) input left before after =
+RanSo writes tells given form is_clf content first now status.WriteFault input left before after =
+    IsRunBrokenOff writes tells given form is_clf content first now input left before after
+RanSo writes tells given form is_clf content first now status.NvFault input left before after =
+    IsRunStopped writes tells given form is_clf content first now input left before after
+RanSo writes tells given form is_clf content first now (status.TooMany count) input left before after =
     (count ≡ 16777217) × IsOneTooMany writes tells form is_clf content first now input before after
-RanSo writes tells form is_clf content first now _ input left before after = ⊥
+RanSo writes tells given form is_clf content first now _ input left before after = ⊥
 
 -- nothing was read or written
 abbrev pub IsNothingDone : Bool → List ℕ → List ℕ → List ℕ → List ℕ → Type 0
@@ -226,12 +231,12 @@ IsRefusedFor f content = (image_fault content ≡ Some f) ⊎ ((f ≡ Generation
 
 -- The boot went through, with the writes that it makes of what it found, and the node ran so.
 pub record BootedAndRan {N : Type 0} (reads : N → Bool → N → Type 0) (writes : N → ℕ → List ℕ → Bool → N → Type 0) (content : N → List ℕ) (tells : Bool)
-    (form : EndForm) (is_clf : Bool) (old new : N) (s : Status) (input left before after : List ℕ) : Type 0 where
+    (given : ℕ) (form : EndForm) (is_clf : Bool) (old new : N) (s : Status) (input left before after : List ℕ) : Type 0 where
   pub first : N
   pub sound : image_fault (content old) ≡ None
   pub next : HasNextGeneration (content old)
   pub booted : HasWritten reads writes content (ready_writes (content old)) old true first
-  pub ran : RanSo writes tells form is_clf (content old) first new s input left before after
+  pub ran : RanSo writes tells given form is_clf (content old) first new s input left before after
 
 -- The boot was refused, for what is wrong with the memory, or since it is of version 01 and has no generation left: nothing was read or
 -- written of the link. Of the memory at most 37 reads were made, and it says what it said.
@@ -252,17 +257,17 @@ pub record IsBootCut {N : Type 0} (reads : N → Bool → N → Type 0) (writes 
   pub same : FindsSame (content old) (content new)
 
 -- How a run with the word `end` over this memory ended: its last words say whether it is the CLF's end, and the form of its link.
-abbrev pub EndedSo : {N : Type 0} → (N → Bool → N → Type 0) → (N → ℕ → List ℕ → Bool → N → Type 0) → (N → List ℕ) → Bool → EndForm → Bool → N → N
+abbrev pub EndedSo : {N : Type 0} → (N → Bool → N → Type 0) → (N → ℕ → List ℕ → Bool → N → Type 0) → (N → List ℕ) → Bool → ℕ → EndForm → Bool → N → N
     → Status → List ℕ → List ℕ → List ℕ → List ℕ → Type 0
-EndedSo reads writes content tells form is_clf old new status.NoMemory input left before after =
+EndedSo reads writes content tells given form is_clf old new status.NoMemory input left before after =
     (new ≡ old) × IsNothingDone tells input left before after
-EndedSo reads writes content tells form is_clf old new (status.BadImage fault) input left before after =
+EndedSo reads writes content tells given form is_clf old new (status.BadImage fault) input left before after =
     IsImageRefused reads content tells old new fault input left before after
-EndedSo reads writes content tells form is_clf old new status.NvFault input left before after =
+EndedSo reads writes content tells given form is_clf old new status.NvFault input left before after =
     IsBootCut reads writes content tells old new input left before after
-    ⊎ BootedAndRan reads writes content tells form is_clf old new status.NvFault input left before after
-EndedSo reads writes content tells form is_clf old new s input left before after =
-    BootedAndRan reads writes content tells form is_clf old new s input left before after
+    ⊎ BootedAndRan reads writes content tells given form is_clf old new status.NvFault input left before after
+EndedSo reads writes content tells given form is_clf old new s input left before after =
+    BootedAndRan reads writes content tells given form is_clf old new s input left before after
 
 -- how a run ends whose boot was refused, for this fault or without memory
 abbrev pub status_of_boot : Option JournalFault → Status

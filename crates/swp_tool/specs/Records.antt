@@ -56,12 +56,13 @@ pub record IsFrontOfSome (lines : List ℕ → List ℕ) (tells : Bool) (earlier
   pub front : IsFront tells (length (lines earlier)) (lines bytes) before after
 
 -- A write failed: a front of what is written for the input was written. Of what was read, where this is left, all but the piece in
--- hand, of at most 8,192 bytes, had been read and its lines written before.
-pub record IsBrokenOff (lines : List ℕ → List ℕ) (tells : Bool) (input left before after : List ℕ) : Type 0 where
+-- hand, of at most 8,192 bytes and no more than the last read gave, had been read and its lines written before.
+pub record IsBrokenOff (lines : List ℕ → List ℕ) (tells : Bool) (given : ℕ) (input left before after : List ℕ) : Type 0 where
   pub earlier : List ℕ
   pub piece : List ℕ
   pub input_is : input ≡ earlier ++ (piece ++ left)
   pub few : length piece ≤ 8192
+  pub at_once : length piece ≤ given
   pub front : IsFrontOfSome lines tells earlier input before after ⊎ IsFrontOfWhole lines tells earlier input before after
 
 -- one byte more than a record may have came, and the lines of those before it were written
@@ -82,19 +83,19 @@ pub record IsCutOff (lines : List ℕ → List ℕ) (tells : Bool) (input left b
 
 -- How reading a record ended, of this input. On Done all of its text was written; where reading failed or the record was too long,
 -- the lines of what was read before; where writing failed, a front, all of the pieces before the last among it. Whether the sink
--- tells what was written comes behind the lines.
-abbrev pub RecordedBy : (List ℕ → List ℕ) → Bool → Status → List ℕ → List ℕ → List ℕ → List ℕ → Type 0
-RecordedBy lines tells status.Done input left before after =
+-- tells what was written comes behind the lines, and then how many bytes the last read gave that gave some.
+abbrev pub RecordedBy : (List ℕ → List ℕ) → Bool → ℕ → Status → List ℕ → List ℕ → List ℕ → List ℕ → Type 0
+RecordedBy lines tells given status.Done input left before after =
     (left ≡ []) × (length input ≤ most_bytes) × (IsTrue tells → after ≡ before ++ whole_record lines input)
-RecordedBy lines tells (status.TooMany count) input left before after = (count ≡ 16777217) × IsTooLong lines tells input before after
-RecordedBy lines tells status.ReadFault input left before after = IsCutOff lines tells input left before after
-RecordedBy lines tells status.WriteFault input left before after = IsBrokenOff lines tells input left before after
-RecordedBy lines tells status.NoMemory input left before after = ⊥
-RecordedBy lines tells status.BadWords input left before after = ⊥
-RecordedBy lines tells (status.BadSchedule line why) input left before after = ⊥
-RecordedBy lines tells (status.Undetected line) input left before after = ⊥
-RecordedBy lines tells status.NvFault input left before after = ⊥
-RecordedBy lines tells (status.BadImage why) input left before after = ⊥
+RecordedBy lines tells given (status.TooMany count) input left before after = (count ≡ 16777217) × IsTooLong lines tells input before after
+RecordedBy lines tells given status.ReadFault input left before after = IsCutOff lines tells input left before after
+RecordedBy lines tells given status.WriteFault input left before after = IsBrokenOff lines tells given input left before after
+RecordedBy lines tells given status.NoMemory input left before after = ⊥
+RecordedBy lines tells given status.BadWords input left before after = ⊥
+RecordedBy lines tells given (status.BadSchedule line why) input left before after = ⊥
+RecordedBy lines tells given (status.Undetected line) input left before after = ⊥
+RecordedBy lines tells given status.NvFault input left before after = ⊥
+RecordedBy lines tells given (status.BadImage why) input left before after = ⊥
 
 -- How reading a piece ended it, behind earlier bytes: the record is too long, or a write failed.
 abbrev pub EndedIn : (List ℕ → List ℕ) → Bool → Status → List ℕ → List ℕ → List ℕ → List ℕ → Type 0

@@ -33,12 +33,13 @@ abbrev pub IsSomeTranscript : List ℕ → List ℕ → Type 0
 IsSomeTranscript input text = IsFrontTranscript input text ⊎ IsDoneText input text
 
 -- A write failed: a front of such a text was written. Of what was read, where this is left, all but the piece in hand, of at most so many
--- bytes, had been played and its transcript written before; so nothing was read behind the write that failed.
-pub record IsCutShort (most : ℕ) (input left front : List ℕ) : Type 0 where
+-- bytes and no more than the last read gave, had been played and its transcript written before; so nothing was read behind the write that failed.
+pub record IsCutShort (most given : ℕ) (input left front : List ℕ) : Type 0 where
   pub bytes : List ℕ
   pub piece : List ℕ
   pub input_is : input ≡ bytes ++ (piece ++ left)
   pub few : length piece ≤ most
+  pub at_once : length piece ≤ given
   pub written : List ℕ
   pub whole : IsWholeTranscript bytes written
   pub behind : List ℕ
@@ -52,18 +53,18 @@ IsTranscriptOfRead input left text = (bytes : List ℕ) × (input ≡ bytes ++ l
 
 -- How a replay of this input ended. The transcript of the lines before the fault was written, on Done all of it; on a fault of writing,
 -- a front of it, all of the pieces before the last among it. Whether the sink tells what was written comes first: without it there is
--- such a text, and nothing is said of where it went.
-abbrev pub Replayed : Bool → Status → List ℕ → List ℕ → List ℕ → List ℕ → Type 0
-Replayed tells status.Done input left before after = (left ≡ []) × AppendsText tells (IsDoneText input) before after
-Replayed tells (status.BadSchedule line why) input left before after = AppendsText tells (StopsWithText input (AtFault why) line) before after
-Replayed tells (status.Undetected line) input left before after = AppendsText tells (StopsWithText input AtMisread line) before after
-Replayed tells (status.TooMany count) input left before after = AppendsText tells (StopsWithText input Too_many count) before after
-Replayed tells status.ReadFault input left before after = AppendsText tells (IsTranscriptOfRead input left) before after
-Replayed tells status.WriteFault input left before after = AppendsText tells (IsCutShort 4096 input left) before after
-Replayed tells status.NoMemory input left before after = AppendsText tells (IsFrontTranscript input) before after
-Replayed tells status.BadWords input left before after = ⊥
-Replayed tells status.NvFault input left before after = ⊥
-Replayed tells (status.BadImage why) input left before after = ⊥
+-- such a text, and nothing is said of where it went. Then come the bytes of the last read that gave some.
+abbrev pub Replayed : Bool → ℕ → Status → List ℕ → List ℕ → List ℕ → List ℕ → Type 0
+Replayed tells given status.Done input left before after = (left ≡ []) × AppendsText tells (IsDoneText input) before after
+Replayed tells given (status.BadSchedule line why) input left before after = AppendsText tells (StopsWithText input (AtFault why) line) before after
+Replayed tells given (status.Undetected line) input left before after = AppendsText tells (StopsWithText input AtMisread line) before after
+Replayed tells given (status.TooMany count) input left before after = AppendsText tells (StopsWithText input Too_many count) before after
+Replayed tells given status.ReadFault input left before after = AppendsText tells (IsTranscriptOfRead input left) before after
+Replayed tells given status.WriteFault input left before after = AppendsText tells (IsCutShort 4096 given input left) before after
+Replayed tells given status.NoMemory input left before after = AppendsText tells (IsFrontTranscript input) before after
+Replayed tells given status.BadWords input left before after = ⊥
+Replayed tells given status.NvFault input left before after = ⊥
+Replayed tells given (status.BadImage why) input left before after = ⊥
 
 -- how a replay can end, whatever it reads
 abbrev pub IsOfReplay : Status → Type 0

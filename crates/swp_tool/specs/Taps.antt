@@ -53,17 +53,18 @@ abbrev pub HasHeardFew : Tapping → Type 0
 HasHeardFew t = t.tap.taken ≤ 2 * t.decoder.count
 
 -- How a tap on this input ended. Where there was no memory for it, nothing was read or written.
-abbrev pub TappedBy : Bool → Bool → Status → List ℕ → List ℕ → List ℕ → List ℕ → Type 0
-TappedBy bare tells status.NoMemory input left before after = (left ≡ input) × (IsTrue tells → after ≡ before)
-TappedBy bare tells status.Done input left before after = RecordedBy (tap_lines bare) tells status.Done input left before after
-TappedBy bare tells (status.TooMany count) input left before after = RecordedBy (tap_lines bare) tells (status.TooMany count) input left before after
-TappedBy bare tells status.ReadFault input left before after = RecordedBy (tap_lines bare) tells status.ReadFault input left before after
-TappedBy bare tells status.WriteFault input left before after = RecordedBy (tap_lines bare) tells status.WriteFault input left before after
-TappedBy bare tells status.BadWords input left before after = ⊥
-TappedBy bare tells (status.BadSchedule line why) input left before after = ⊥
-TappedBy bare tells (status.Undetected line) input left before after = ⊥
-TappedBy bare tells status.NvFault input left before after = ⊥
-TappedBy bare tells (status.BadImage why) input left before after = ⊥
+abbrev pub TappedBy : Bool → Bool → ℕ → Status → List ℕ → List ℕ → List ℕ → List ℕ → Type 0
+TappedBy bare tells given status.NoMemory input left before after = (left ≡ input) × (IsTrue tells → after ≡ before)
+TappedBy bare tells given status.Done input left before after = RecordedBy (tap_lines bare) tells given status.Done input left before after
+TappedBy bare tells given (status.TooMany count) input left before after =
+    RecordedBy (tap_lines bare) tells given (status.TooMany count) input left before after
+TappedBy bare tells given status.ReadFault input left before after = RecordedBy (tap_lines bare) tells given status.ReadFault input left before after
+TappedBy bare tells given status.WriteFault input left before after = RecordedBy (tap_lines bare) tells given status.WriteFault input left before after
+TappedBy bare tells given status.BadWords input left before after = ⊥
+TappedBy bare tells given (status.BadSchedule line why) input left before after = ⊥
+TappedBy bare tells given (status.Undetected line) input left before after = ⊥
+TappedBy bare tells given status.NvFault input left before after = ⊥
+TappedBy bare tells given (status.BadImage why) input left before after = ⊥
 
 -- how a tap can end, whatever it reads
 abbrev pub IsOfTap : Status → Type 0

@@ -29,8 +29,9 @@ pub trait Job {
     // holds now.
     ghost under_way: { Bool → Origin → Self → List ℕ → List ℕ → List ℕ → List ℕ → Type 0 };
 
-    // it ended in this way, with what is left of the input, and what the sink held before and holds now
-    ghost ended: { Bool → Origin → Self → Ending → List ℕ → List ℕ → List ℕ → List ℕ → Type 0 };
+    // where the last read that gave some gave so many bytes, it ended in this way, with what is left of the input, and what the sink held
+    // before and holds now
+    ghost ended: { Bool → ℕ → Origin → Self → Ending → List ℕ → List ℕ → List ℕ → List ℕ → Type 0 };
 
     // how many faults its memory has counted; always the same of one without a memory
     ghost memory_faults: { Self → ℕ };
@@ -65,9 +66,9 @@ pub trait Job {
         ensures on { OnOk result ((o : Origin) (input rest before : List ℕ)
             → under_way K.tells o self.old input (piece.now ++ rest) before (K.written sink.old)
             → under_way K.tells o self.new input rest before (K.written sink.new)) }
-        ensures ends { IfErr result (λ status. (o : Origin) (input rest before : List ℕ)
+        ensures ends { IfErr result (λ status. (given : ℕ) (o : Origin) (input rest before : List ℕ) → length piece.now ≤ given
             → under_way K.tells o self.old input (piece.now ++ rest) before (K.written sink.old)
-            → ended K.tells o self.new status input rest before (K.written sink.new)) }
+            → ended K.tells given o self.new status input rest before (K.written sink.new)) }
         ensures ahead { (o : Origin) (input rest before : List ℕ) → under_way K.tells o self.old input (piece.now ++ rest) before (K.written sink.old)
             → is_ahead input rest };
 
@@ -80,8 +81,8 @@ pub trait Job {
         ensures read_fault { result ≢ Ending.ReadFault }
         ensures words { result ≢ Ending.BadWords }
         ensures ending { is_ending result }
-        ensures ends { (o : Origin) (input before : List ℕ) → under_way K.tells o self.old input [] before (K.written sink.old)
-            → ended K.tells o self.new result input [] before (K.written sink.new) }
+        ensures ends { (given : ℕ) (o : Origin) (input before : List ℕ) → under_way K.tells o self.old input [] before (K.written sink.old)
+            → ended K.tells given o self.new result input [] before (K.written sink.new) }
         ensures ahead { (o : Origin) (input before : List ℕ) → under_way K.tells o self.old input [] before (K.written sink.old) → is_ahead input [] };
 
     /// The input can't be read on.
@@ -89,8 +90,8 @@ pub trait Job {
         requires goes { goes_on self.now }
         ensures fault { result ≡ Ending.ReadFault }
         ensures ending { is_ending Ending.ReadFault }
-        ensures ends { (tells : Bool) (o : Origin) (input left before after : List ℕ) → under_way tells o self.now input left before after
-            → ended tells o self.now Ending.ReadFault input left before after }
+        ensures ends { (tells : Bool) (given : ℕ) (o : Origin) (input left before after : List ℕ) → under_way tells o self.now input left before after
+            → ended tells given o self.now Ending.ReadFault input left before after }
         ensures ahead { (tells : Bool) (o : Origin) (input left before after : List ℕ) → under_way tells o self.now input left before after
             → is_ahead input left };
 }
@@ -121,7 +122,7 @@ fn pump<S: Source, K: Sink, J: Job>(
         → J.under_way K.tells o job.new input (S.left source.new) before (K.written sink.new)) }
     ensures ends { IsTrue S.tells → IfErr result (λ status. (o : J.Origin) (input before : List ℕ) →
         J.under_way K.tells o job.old input (S.left source.old) before (K.written sink.old)
-        → J.ended K.tells o job.new status input (S.left source.new) before (K.written sink.new)) }
+        → J.ended K.tells (S.end source.new).given o job.new status input (S.left source.new) before (K.written sink.new)) }
     ensures ahead { IsTrue S.tells → OnErr result ((o : J.Origin) (input before : List ℕ) →
         J.under_way K.tells o job.old input (S.left source.old) before (K.written sink.old)
         → J.is_ahead input (S.left source.new)) }
@@ -154,7 +155,7 @@ pub fn drive<S: Source, K: Sink, J: Job>(
     ensures ending { J.is_ending result }
     ensures ends { IsTrue S.tells → (o : J.Origin) (input before : List ℕ) →
         J.under_way K.tells o job.old input (S.left source.old) before (K.written sink.old)
-        → J.ended K.tells o job.new result input (S.left source.new) before (K.written sink.new) }
+        → J.ended K.tells (S.end source.new).given o job.new result input (S.left source.new) before (K.written sink.new) }
     ensures ahead { IsTrue S.tells → (o : J.Origin) (input before : List ℕ) →
         J.under_way K.tells o job.old input (S.left source.old) before (K.written sink.old)
         → J.is_ahead input (S.left source.new) }

@@ -54,9 +54,10 @@ fn take_byte<K: Sink, N: Nv, T: LoneNode<N> + Drop>(
     ensures goes { OnOk result ((o : Began N) (bytes before : List ℕ)
         → HasHeardAlone N.writes T.nv T.runs T.number K.tells o ending.old.end false bytes before (K.written sink.old)
         → HasHeardAlone N.writes T.nv T.runs T.number K.tells o ending.new.end false (bytes ++ byte ∷ []) before (K.written sink.new)) }
-    ensures ends { IfErr result (λ status. (o : Began N) (bytes ahead left before : List ℕ) → ending.old.count ≡ length bytes → length ahead ≤ 8192
+    ensures ends { IfErr result (λ status. (given : ℕ) (o : Began N) (bytes ahead left before : List ℕ) → ending.old.count ≡ length bytes → length ahead ≤ 8192
+        → length ahead ≤ given
         → HasHeardAlone N.writes T.nv T.runs T.number K.tells o ending.old.end false bytes before (K.written sink.old)
-        → EndedInBytes N.writes T.nv T.runs T.number K.tells o ending.new.end status (bytes ++ byte ∷ (ahead ++ left)) left before (K.written sink.new)) }
+        → EndedInBytes N.writes T.nv T.runs T.number K.tells given o ending.new.end status (bytes ++ byte ∷ (ahead ++ left)) left before (K.written sink.new)) }
 {
     if ending.count == Decoder::MAX_BYTES {
         return Err(Status::TooMany { count: 16_777_217 });
@@ -96,9 +97,10 @@ fn take_bytes<K: Sink, N: Nv, T: LoneNode<N> + Drop>(
     ensures goes { OnOk result ((o : Began N) (bytes before : List ℕ)
         → HasHeardAlone N.writes T.nv T.runs T.number K.tells o ending.old.end false bytes before (K.written sink.old)
         → HasHeardAlone N.writes T.nv T.runs T.number K.tells o ending.new.end false (bytes ++ piece.now) before (K.written sink.new)) }
-    ensures ends { IfErr result (λ status. (o : Began N) (bytes left before : List ℕ) → ending.old.count ≡ length bytes
+    ensures ends { IfErr result (λ status. (given : ℕ) (o : Began N) (bytes left before : List ℕ) → ending.old.count ≡ length bytes
+        → length piece.now ≤ given
         → HasHeardAlone N.writes T.nv T.runs T.number K.tells o ending.old.end false bytes before (K.written sink.old)
-        → EndedInBytes N.writes T.nv T.runs T.number K.tells o ending.new.end status (bytes ++ piece.now ++ left) left before (K.written sink.new)) }
+        → EndedInBytes N.writes T.nv T.runs T.number K.tells given o ending.new.end status (bytes ++ piece.now ++ left) left before (K.written sink.new)) }
 {
     for byte in piece {
         if let Err(status) = take_byte(sink, ending, *byte) {
@@ -124,8 +126,8 @@ impl<N: Nv, T: LoneNode<N> + Drop> Job for Ending<N, T> {
     ghost under_way = { λ tells o e input left before after.
         IsHearing N.writes T.nv T.runs T.number tells o e.end e.count input left before after };
 
-    ghost ended = { λ tells o e status input left before after.
-        EndedAlone N.writes T.nv T.runs T.number tells o e.end e.count status input left before after };
+    ghost ended = { λ tells given o e status input left before after.
+        EndedAlone N.writes T.nv T.runs T.number tells given o e.end e.count status input left before after };
 
     ghost memory_faults = { λ e. N.faults (T.nv e.end.node) };
 
@@ -169,7 +171,8 @@ fn hear_all<S: Source, K: Sink, N: Nv, T: LoneNode<N> + Drop>(
     ensures nv_kept { stopped ≡ true → ending.new.end ≡ ending.old.end }
     ensures ran { IsTrue S.tells → (o : Began N) (is_clf : Bool) → ending.old.end.form ≡ o.form → T.number ≡ (if is_clf then 0 else 2)
         → HasRun N.writes T.nv T.runs T.number o.content o.first ending.old.end stopped [] ending.old.out.items
-        → RanSo N.writes K.tells (form_named o.form) is_clf o.content o.first (T.nv ending.new.end.node) result (S.left source.old) (S.left source.new)
+        → RanSo N.writes K.tells (S.end source.new).given
+        (form_named o.form) is_clf o.content o.first (T.nv ending.new.end.node) result (S.left source.old) (S.left source.new)
         (K.written sink.old) (K.written sink.new) }
     ensures ahead { IsTrue S.tells → (o : Began N) → ending.old.end.form ≡ o.form
         → HasRun N.writes T.nv T.runs T.number o.content o.first ending.old.end stopped [] ending.old.out.items
@@ -204,7 +207,8 @@ fn run_alone<S: Source, K: Sink, N: Nv, T: LoneNode<N> + Drop>(
     ensures kind { IsOfLone result.status }
     ensures nv_fault { result.status ≡ Status.NvFault → Rose (N.faults (T.nv node)) (N.faults result.nv) }
     ensures ran { IsTrue S.tells → (content : List ℕ) → HasBooted N.writes T.nv T.runs T.number content (T.nv node) node
-        → RanSo N.writes K.tells (form_named form) is_clf content (T.nv node) result.nv result.status (S.left source.old) (S.left source.new)
+        → RanSo N.writes K.tells (S.end source.new).given
+        (form_named form) is_clf content (T.nv node) result.nv result.status (S.left source.old) (S.left source.new)
         (K.written sink.old) (K.written sink.new) }
     ensures ahead { IsTrue S.tells → (content : List ℕ) → HasBooted N.writes T.nv T.runs T.number content (T.nv node) node
         → length (S.left source.old) ≤ most_bytes + 4096 + length (S.left source.new) }
@@ -257,7 +261,8 @@ pub fn run_end<S: Source, K: Sink, N: Nv + Drop>(
     asked: EndAsked,
 ) -> Ended<N>
     requires { N.capacity nv ≡ 65536 }
-    ensures ended { IsTrue S.tells → IsTrue N.tells → EndedSo N.reads N.writes N.content K.tells (form_named asked.form) asked.is_clf nv result.nv
+    ensures ended { IsTrue S.tells → IsTrue N.tells → EndedSo N.reads N.writes N.content K.tells (S.end source.new).given
+        (form_named asked.form) asked.is_clf nv result.nv
         result.status (S.left source.old) (S.left source.new) (K.written sink.old) (K.written sink.new) }
     ensures ahead { IsTrue S.tells → IsTrue N.tells → length (S.left source.old) ≤ most_bytes + 4096 + length (S.left source.new) }
     ensures image { IsTrue N.tells → (f : Bad) → image_fault (N.content nv) ≡ Some f → ¬ Rose (N.faults nv) (N.faults result.nv)
@@ -295,7 +300,8 @@ fn run_host<S: Source, K: Sink, N: Nv + Drop>(
     form: Form,
 ) -> Ended<N>
     requires { N.capacity nv ≡ 65536 }
-    ensures ended { IsTrue S.tells → IsTrue N.tells → EndedSo N.reads N.writes N.content K.tells (form_named form) false nv result.nv result.status
+    ensures ended { IsTrue S.tells → IsTrue N.tells → EndedSo N.reads N.writes N.content K.tells (S.end source.new).given
+        (form_named form) false nv result.nv result.status
         (S.left source.old) (S.left source.new) (K.written sink.old) (K.written sink.new) }
     ensures ahead { IsTrue S.tells → IsTrue N.tells → length (S.left source.old) ≤ most_bytes + 4096 + length (S.left source.new) }
     ensures image { IsTrue N.tells → (f : Bad) → image_fault (N.content nv) ≡ Some f → ¬ Rose (N.faults nv) (N.faults result.nv)
@@ -326,7 +332,8 @@ fn run_controller<S: Source, K: Sink, N: Nv + Drop>(
     form: Form,
 ) -> Ended<N>
     requires { N.capacity nv ≡ 65536 }
-    ensures ended { IsTrue S.tells → IsTrue N.tells → EndedSo N.reads N.writes N.content K.tells (form_named form) true nv result.nv result.status
+    ensures ended { IsTrue S.tells → IsTrue N.tells → EndedSo N.reads N.writes N.content K.tells (S.end source.new).given
+        (form_named form) true nv result.nv result.status
         (S.left source.old) (S.left source.new) (K.written sink.old) (K.written sink.new) }
     ensures ahead { IsTrue S.tells → IsTrue N.tells → length (S.left source.old) ≤ most_bytes + 4096 + length (S.left source.new) }
     ensures image { IsTrue N.tells → (f : Bad) → image_fault (N.content nv) ≡ Some f → ¬ Rose (N.faults nv) (N.faults result.nv)

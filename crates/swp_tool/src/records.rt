@@ -238,7 +238,7 @@ impl<R: RecordReader + Drop> Job for Recording<R> {
     ghost under_way = { λ tells o r input left before after.
         HasRecorded tells R.lines (λ bytes. R.is_reading tells r.reader bytes bytes before after) (R.count r.reader) input left before after };
 
-    ghost ended = { λ tells o r. RecordedBy R.lines tells };
+    ghost ended = { λ tells given o r. RecordedBy R.lines tells given };
 
     ghost memory_faults = { λ r. 0 };
 
@@ -286,7 +286,7 @@ pub fn read_record<S: Source, K: Sink, R: RecordReader + Drop>(
     ensures read_fault { result ≡ Status.ReadFault → Rose (S.faults source.old) (S.faults source.new) }
     ensures write_fault { result ≡ Status.WriteFault → Rose (K.faults sink.old) (K.faults sink.new) }
     ensures recorded { IsTrue S.tells →
-        RecordedBy R.lines K.tells result (S.left source.old) (S.left source.new) (K.written sink.old) (K.written sink.new) }
+        RecordedBy R.lines K.tells (S.end source.new).given result (S.left source.old) (S.left source.new) (K.written sink.old) (K.written sink.new) }
     ensures ahead { IsTrue S.tells → length (S.left source.old) ≤ most_bytes + 4096 + length (S.left source.new) }
     ensures late { (S.end source.old).ended ≡ false → (S.end source.new).late ≡ (S.end source.old).late }
     ensures words { result ≢ Status.BadWords }

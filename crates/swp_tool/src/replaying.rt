@@ -87,9 +87,9 @@ fn take_part<'a, K: Sink>(
     ensures fewer { IfOk result (λ left. bytes_left pieces.new + length piece.now ≤ bytes_left pieces.old + length left.now) }
     ensures on { IfOk result (λ left. (input rest before : List ℕ) → IsUnderWay K.tells pieces.old input (piece.now ++ rest) before (K.written sink.old)
         → IsUnderWay K.tells pieces.new input (left.now ++ rest) before (K.written sink.new)) }
-    ensures ends { IfErr result (λ status. (input rest before : List ℕ)
+    ensures ends { IfErr result (λ status. (given : ℕ) (input rest before : List ℕ) → length piece.now ≤ given
         → IsUnderWay K.tells pieces.old input (piece.now ++ rest) before (K.written sink.old)
-        → Replayed K.tells status input rest before (K.written sink.new)) }
+        → Replayed K.tells given status input rest before (K.written sink.new)) }
 {
     let fed = pieces.feed(alloc, piece);
     if flush(sink, pieces).is_err() {
@@ -115,7 +115,7 @@ impl Job for Pieces {
 
     ghost under_way = { λ tells o p. IsUnderWay tells p };
 
-    ghost ended = { λ tells o p. Replayed tells };
+    ghost ended = { λ tells given o p. Replayed tells given };
 
     ghost memory_faults = { λ p. 0 };
 
@@ -159,7 +159,7 @@ pub fn replay<S: Source, K: Sink>(alloc: Global, source: &mut S, sink: &mut K) -
     ensures read_fault { result ≡ Status.ReadFault → Rose (S.faults source.old) (S.faults source.new) }
     ensures write_fault { result ≡ Status.WriteFault → Rose (K.faults sink.old) (K.faults sink.new) }
     ensures replayed { IsTrue S.tells →
-        Replayed K.tells result (S.left source.old) (S.left source.new) (K.written sink.old) (K.written sink.new) }
+        Replayed K.tells (S.end source.new).given result (S.left source.old) (S.left source.new) (K.written sink.old) (K.written sink.new) }
     ensures known { IsTrue S.tells → result ≡ Status.Done →
         AppendsText K.tells (TellsPlayed (schedule_in (S.left source.old))) (K.written sink.old) (K.written sink.new) }
     ensures ahead { IsTrue S.tells → IsReadAhead 4096 (S.left source.old) (S.left source.new) }

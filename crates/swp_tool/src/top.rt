@@ -61,23 +61,23 @@ pub fn run<S: Source, K: Sink, N: Nv + Drop>(
     // legal history (`IsLegal`), of one link or of nodes, that follows the whole schedule; a replay that ends before has
     // written that of one that follows lines before, or a front of such a text where a write failed.
     ensures replayed { IsReplay (map string_bytes words.now) → IsTrue S.tells →
-        Replayed K.tells result.status (S.left source.old) (S.left source.new) (K.written sink.old) (K.written sink.new) }
+        Replayed K.tells (S.end source.new).given result.status (S.left source.old) (S.left source.new) (K.written sink.old) (K.written sink.new) }
 
     // The text of a replay that is done tells what became of its schedule: from the text its entries are known.
     ensures known { IsReplay (map string_bytes words.now) → IsTrue S.tells → result.status ≡ Status.Done →
         AppendsText K.tells (TellsPlayed (schedule_in (S.left source.old))) (K.written sink.old) (K.written sink.new) }
 
     ensures decoded { IsDecode (map string_bytes words.now) → IsTrue S.tells →
-        DecodedBy K.tells result.status (S.left source.old) (S.left source.new) (K.written sink.old) (K.written sink.new) }
+        DecodedBy K.tells (S.end source.new).given result.status (S.left source.old) (S.left source.new) (K.written sink.old) (K.written sink.new) }
 
     // A tap writes what its definition reports of the frames of the bytes read, on a link that is bare or not.
     ensures tapped { (bare : Bool) → IsTap bare (map string_bytes words.now) → IsTrue S.tells →
-        TappedBy bare K.tells result.status (S.left source.old) (S.left source.new) (K.written sink.old) (K.written sink.new) }
+        TappedBy bare K.tells (S.end source.new).given result.status (S.left source.old) (S.left source.new) (K.written sink.old) (K.written sink.new) }
 
     // An end takes the bytes read as what comes on its link, and writes what a node does that boots from the memory handed in, by the
     // rules of a node alone. The memory is then so as that node left it.
     ensures ended { (is_clf : Bool) (form : EndForm) → IsEndCommand is_clf form (map string_bytes words.now) → IsTrue S.tells → IsTrue N.tells →
-        EndedSo N.reads N.writes N.content K.tells form is_clf nv result.nv result.status (S.left source.old) (S.left source.new)
+        EndedSo N.reads N.writes N.content K.tells (S.end source.new).given form is_clf nv result.nv result.status (S.left source.old) (S.left source.new)
         (K.written sink.old) (K.written sink.new) }
 
     // A memory with a fault is refused for that fault, unless there is no memory for the node, or a read of the boot failed before.

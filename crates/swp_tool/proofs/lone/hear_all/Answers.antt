@@ -8,9 +8,11 @@ pub returns-in-Err-clause-ran : goal.returns-in-Err-clause-ran
 returns-in-Err-clause-ran g c told o is_clf same role h =
     let was = g.K.Sink.written c.args.sink.now in
     let input = g.S.Source.left c.args.source.now in
-    broken_is g.N.Nv.writes g.T.LoneNode.nv g.T.LoneNode.runs g.T.LoneNode.number is_clf role o g.K.Sink.tells c.args.ending.now.end input input was
+    broken_is g.N.Nv.writes g.T.LoneNode.nv g.T.LoneNode.runs g.T.LoneNode.number is_clf role o g.K.Sink.tells
+    (g.S.Source.end c.args.source.now).given c.args.ending.now.end input input was
     (g.K.Sink.written c.write_all.new.sink)
-    (begins_broken g.N.Nv.writes g.T.LoneNode.nv g.T.LoneNode.runs g.T.LoneNode.number o g.K.Sink.tells c.args.ending.now.end c.args.stopped
+    (begins_broken g.N.Nv.writes g.T.LoneNode.nv g.T.LoneNode.runs g.T.LoneNode.number o g.K.Sink.tells c.args.ending.now.end
+    (g.S.Source.end c.args.source.now).given c.args.stopped
     input was (g.K.Sink.written c.write_all.new.sink) c.args.ending.now.out.items same h c.in-Err.ensures.front.0
     (λ t. c.in-Err.ensures.front.1 t ∙ ap (λ l. was ++ take c.in-Err.ensures.front.0 l) c.as_slice.ensures.value))
 
@@ -18,10 +20,11 @@ pub returns-then-stopped-clause-ran : goal.returns-then-stopped-clause-ran
 returns-then-stopped-clause-ran g c told o is_clf same role h =
     let was = g.K.Sink.written c.args.sink.now in
     let input = g.S.Source.left c.args.source.now in
-    stopped_is g.N.Nv.writes g.T.LoneNode.nv g.T.LoneNode.runs g.T.LoneNode.number is_clf role o g.K.Sink.tells c.args.ending.now.end input input was
+    stopped_is g.N.Nv.writes g.T.LoneNode.nv g.T.LoneNode.runs g.T.LoneNode.number is_clf role o g.K.Sink.tells
+    (g.S.Source.end c.args.source.now).given c.args.ending.now.end input input was
     (g.K.Sink.written c.write_all.new.sink)
     (begins_stopped g.N.Nv.writes g.T.LoneNode.nv g.T.LoneNode.runs g.T.LoneNode.number o g.K.Sink.tells c.args.ending.now.end
-    input was (g.K.Sink.written c.write_all.new.sink) c.args.ending.now.out.items same
+    (g.S.Source.end c.args.source.now).given input was (g.K.Sink.written c.write_all.new.sink) c.args.ending.now.out.items same
     (subst (λ s. HasRun g.N.Nv.writes g.T.LoneNode.nv g.T.LoneNode.runs g.T.LoneNode.number o.content o.first c.args.ending.now.end s []
     c.args.ending.now.out.items) c.if-stopped.true h)
     (λ t. c.in-Ok.ensures.wrote t ∙ ap (λ l. was ++ l) c.as_slice.ensures.value))
@@ -30,7 +33,8 @@ pub returns-else-stopped-clause-ran : goal.returns-else-stopped-clause-ran
 returns-else-stopped-clause-ran g c told o is_clf same role h =
     let was = g.K.Sink.written c.args.sink.now in
     let input = g.S.Source.left c.args.source.now in
-    ended_ran g.N.Nv.writes g.T.LoneNode.nv g.T.LoneNode.runs g.T.LoneNode.number is_clf role o g.K.Sink.tells c.drive.new.job.end c.drive.new.job.count
+    ended_ran g.N.Nv.writes g.T.LoneNode.nv g.T.LoneNode.runs g.T.LoneNode.number is_clf role o g.K.Sink.tells
+    (g.S.Source.end c.drive.new.source).given c.drive.new.job.end c.drive.new.job.count
     c.drive.result input (g.S.Source.left c.drive.new.source) was (g.K.Sink.written c.drive.new.sink)
     (c.drive.ensures.ends told o input was
     (begins_hearing g.N.Nv.writes g.T.LoneNode.nv g.T.LoneNode.runs g.T.LoneNode.number o g.K.Sink.tells c.args.ending.now.end

@@ -11,7 +11,8 @@ begin-end-requires-clause-role g c = role_is c.args.is_clf c.requires.role
 pub returns-clause-ran : goal.returns-clause-ran
 returns-clause-ran g c told content booted =
     let h = c.begin-end.ensures.run content (g.T.LoneNode.nv c.args.node) booted in
-    subst (λ n. RanSo g.N.Nv.writes g.K.Sink.tells (form_named c.args.form) c.args.is_clf content (g.T.LoneNode.nv c.args.node) n c.hear_all-status.result
+    subst (λ n. RanSo g.N.Nv.writes g.K.Sink.tells (g.S.Source.end c.hear_all-status.new.source).given
+    (form_named c.args.form) c.args.is_clf content (g.T.LoneNode.nv c.args.node) n c.hear_all-status.result
     (g.S.Source.left c.args.source.now) (g.S.Source.left c.hear_all-status.new.source) (g.K.Sink.written c.args.sink.now)
     (g.K.Sink.written c.hear_all-status.new.sink)) (sym c.memory_of.ensures)
     (c.hear_all-status.ensures.ran told (record { form = c.args.form; content = content; first = g.T.LoneNode.nv c.args.node }) c.args.is_clf

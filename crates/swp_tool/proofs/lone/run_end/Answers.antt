@@ -6,7 +6,8 @@ use Rattle.swp_tool.proofs.lone.run_end.Goals as goal
 
 pub returns-then-asked-clause-complete : goal.returns-then-asked-clause-complete
 returns-then-asked-clause-complete g c told tells sound next many read write nv =
-    complete_ended g.N.Nv.reads g.N.Nv.writes g.N.Nv.content g.K.Sink.tells (form_named c.args.asked.form) true c.args.nv c.run_controller.result.nv
+    complete_ended g.N.Nv.reads g.N.Nv.writes g.N.Nv.content g.K.Sink.tells
+    (g.S.Source.end c.run_controller.new.source).given (form_named c.args.asked.form) true c.args.nv c.run_controller.result.nv
     (g.S.Source.left c.args.source.now) (g.S.Source.left c.run_controller.new.source) (g.K.Sink.written c.args.sink.now)
     (g.K.Sink.written c.run_controller.new.sink) sound next c.run_controller.result.status
     (c.run_controller.ensures.ended told tells) c.run_controller.ensures.kind many
@@ -14,7 +15,8 @@ returns-then-asked-clause-complete g c told tells sound next many read write nv 
 
 pub returns-then-asked-clause-too_many : goal.returns-then-asked-clause-too_many
 returns-then-asked-clause-too_many g c told tells sound next many read write nv =
-    too_many_ended g.N.Nv.reads g.N.Nv.writes g.N.Nv.content g.K.Sink.tells (form_named c.args.asked.form) true c.args.nv c.run_controller.result.nv
+    too_many_ended g.N.Nv.reads g.N.Nv.writes g.N.Nv.content g.K.Sink.tells
+    (g.S.Source.end c.run_controller.new.source).given (form_named c.args.asked.form) true c.args.nv c.run_controller.result.nv
     (g.S.Source.left c.args.source.now) (g.S.Source.left c.run_controller.new.source) (g.K.Sink.written c.args.sink.now)
     (g.K.Sink.written c.run_controller.new.sink) sound next c.run_controller.result.status
     (c.run_controller.ensures.ended told tells) c.run_controller.ensures.kind many
@@ -22,7 +24,8 @@ returns-then-asked-clause-too_many g c told tells sound next many read write nv 
 
 pub returns-else-asked-clause-complete : goal.returns-else-asked-clause-complete
 returns-else-asked-clause-complete g c told tells sound next many read write nv =
-    complete_ended g.N.Nv.reads g.N.Nv.writes g.N.Nv.content g.K.Sink.tells (form_named c.args.asked.form) false c.args.nv c.run_host.result.nv
+    complete_ended g.N.Nv.reads g.N.Nv.writes g.N.Nv.content g.K.Sink.tells
+    (g.S.Source.end c.run_host.new.source).given (form_named c.args.asked.form) false c.args.nv c.run_host.result.nv
     (g.S.Source.left c.args.source.now) (g.S.Source.left c.run_host.new.source) (g.K.Sink.written c.args.sink.now)
     (g.K.Sink.written c.run_host.new.sink) sound next c.run_host.result.status
     (c.run_host.ensures.ended told tells) c.run_host.ensures.kind many
@@ -30,7 +33,8 @@ returns-else-asked-clause-complete g c told tells sound next many read write nv 
 
 pub returns-else-asked-clause-too_many : goal.returns-else-asked-clause-too_many
 returns-else-asked-clause-too_many g c told tells sound next many read write nv =
-    too_many_ended g.N.Nv.reads g.N.Nv.writes g.N.Nv.content g.K.Sink.tells (form_named c.args.asked.form) false c.args.nv c.run_host.result.nv
+    too_many_ended g.N.Nv.reads g.N.Nv.writes g.N.Nv.content g.K.Sink.tells
+    (g.S.Source.end c.run_host.new.source).given (form_named c.args.asked.form) false c.args.nv c.run_host.result.nv
     (g.S.Source.left c.args.source.now) (g.S.Source.left c.run_host.new.source) (g.K.Sink.written c.args.sink.now)
     (g.K.Sink.written c.run_host.new.sink) sound next c.run_host.result.status
     (c.run_host.ensures.ended told tells) c.run_host.ensures.kind many

@@ -10,7 +10,8 @@ use Rattle.swp_tool.proofs.lone.run_host.Goals as goal
 
 pub returns-in-Ok-clause-ended : goal.returns-in-Ok-clause-ended
 returns-in-Ok-clause-ended g c told tells =
-    booted_ended g.N.Nv.reads g.N.Nv.writes g.N.Nv.content g.K.Sink.tells (form_named c.args.form) false c.args.nv _ c.run_alone.result.nv
+    booted_ended g.N.Nv.reads g.N.Nv.writes g.N.Nv.content g.K.Sink.tells
+    (g.S.Source.end c.run_alone.new.source).given (form_named c.args.form) false c.args.nv _ c.run_alone.result.nv
     c.run_alone.result.status _ _ _ _ c.run_alone.ensures.kind (c.in-Ok.ensures.image tells) (c.in-Ok.ensures.unspent tells)
     (c.in-Ok.ensures.made tells)
     (c.run_alone.ensures.ran told (g.N.Nv.content c.args.nv) (c.in-Ok.ensures.booted tells))
@@ -20,11 +21,14 @@ returns-in-Err-clause-ended g c told tells =
     let input = g.S.Source.left c.args.source.now in
     let before = g.K.Sink.written c.args.sink.now in
     let old = c.args.nv in
-    subst (λ n. EndedSo g.N.Nv.reads g.N.Nv.writes g.N.Nv.content g.K.Sink.tells (form_named c.args.form) false old n c.refused_boot.result.status
+    subst (λ n. EndedSo g.N.Nv.reads g.N.Nv.writes g.N.Nv.content g.K.Sink.tells
+    (g.S.Source.end c.args.source.now).given (form_named c.args.form) false old n c.refused_boot.result.status
     input input before before) (sym c.refused_boot.ensures.memory)
-    (subst (λ s. EndedSo g.N.Nv.reads g.N.Nv.writes g.N.Nv.content g.K.Sink.tells (form_named c.args.form) false old c.in-Err.unbooted.nv s
+    (subst (λ s. EndedSo g.N.Nv.reads g.N.Nv.writes g.N.Nv.content g.K.Sink.tells
+    (g.S.Source.end c.args.source.now).given (form_named c.args.form) false old c.in-Err.unbooted.nv s
     input input before before) (sym c.refused_boot.ensures.status)
-    (refused_ended g.N.Nv.reads g.N.Nv.writes g.N.Nv.faults g.N.Nv.tells g.N.Nv.content g.K.Sink.tells (form_named c.args.form) false old
+    (refused_ended g.N.Nv.reads g.N.Nv.writes g.N.Nv.faults g.N.Nv.tells g.N.Nv.content g.K.Sink.tells
+    (g.S.Source.end c.args.source.now).given (form_named c.args.form) false old
     c.in-Err.unbooted.nv c.in-Err.unbooted.fault input before tells c.in-Err.ensures.refused))
 
 pub returns-in-Ok-clause-kind : goal.returns-in-Ok-clause-kind

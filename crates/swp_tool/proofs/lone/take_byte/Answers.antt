@@ -4,7 +4,7 @@ use Rattle.one_end.specs.Standing.{HasRun}
 use Rattle.swp_tool.proofs.lone.take_byte.Goals as goal
 
 pub returns-in-Err-clause-ends : goal.returns-in-Err-clause-ends
-returns-in-Err-clause-ends g c o bytes ahead left before count near h =
+returns-in-Err-clause-ends g c given o bytes ahead left before count near at_once h =
     let items = c.hear-stopped.new.out.items in
     let was = g.K.Sink.written c.args.sink.now in
     let front = c.in-Err.ensures.front in
@@ -15,6 +15,7 @@ returns-in-Err-clause-ends g c o bytes ahead left before count near h =
       ahead = ahead;
       input_is = sym (append_assoc bytes (c.args.byte ∷ []) (ahead ++ left));
       near = near;
+      at_once = at_once;
       stopped = c.hear-stopped.result;
       earlier = h.written;
       last = items;
@@ -28,7 +29,7 @@ returns-in-Err-clause-ends g c o bytes ahead left before count near h =
     }
 
 pub returns-then-stopped-clause-ends : goal.returns-then-stopped-clause-ends
-returns-then-stopped-clause-ends g c o bytes ahead left before count near h =
+returns-then-stopped-clause-ends g c given o bytes ahead left before count near at_once h =
     let items = c.hear-stopped.new.out.items in
     let was = g.K.Sink.written c.args.sink.now in
     record {
@@ -36,6 +37,7 @@ returns-then-stopped-clause-ends g c o bytes ahead left before count near h =
       ahead = ahead;
       input_is = sym (append_assoc bytes (c.args.byte ∷ []) (ahead ++ left));
       near = near;
+      at_once = at_once;
       heard = record {
         form_is = c.hear-stopped.ensures.form ∙ h.form_is;
         written = h.written ++ items;

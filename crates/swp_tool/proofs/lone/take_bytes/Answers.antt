@@ -6,7 +6,7 @@ use Rattle.swp_tool.proofs.Cutting.{whole_piece}
 use Rattle.swp_tool.proofs.lone.take_bytes.Goals as goal
 
 pub returns-in-Err-clause-ends : goal.returns-in-Err-clause-ends
-returns-in-Err-clause-ends g c o bytes left before count h =
+returns-in-Err-clause-ends g c given o bytes left before count some h =
     let i = c.loop-byte.byte-index in
     let piece = c.args.piece.now in
     let byte = get_or piece i 0 in
@@ -21,6 +21,7 @@ returns-in-Err-clause-ends g c o bytes left before count h =
     let l2 = length-take-le i piece (omega (arith, c.loop-byte-test.true)) in
     omega (arith, c.loop-byte.invariant.counted, count, l1, l2)) in
     let near : length ahead ≤ 8192 = (let l = length-drop (i + 1) piece in omega (arith, l, c.requires.size)) in
-    subst (λ l. EndedInBytes g.N.Nv.writes g.T.LoneNode.nv g.T.LoneNode.runs g.T.LoneNode.number g.K.Sink.tells o c.take_byte.new.ending.end
+    let at_once : length ahead ≤ given = (let l = length-drop (i + 1) piece in omega (arith, l, some)) in
+    subst (λ l. EndedInBytes g.N.Nv.writes g.T.LoneNode.nv g.T.LoneNode.runs g.T.LoneNode.number g.K.Sink.tells given o c.take_byte.new.ending.end
     c.in-Err.status l left before after) is
-    (c.in-Err.ensures.ends o front ahead left before counted near (c.loop-byte.invariant.heard o bytes before h))
+    (c.in-Err.ensures.ends given o front ahead left before counted near at_once (c.loop-byte.invariant.heard o bytes before h))

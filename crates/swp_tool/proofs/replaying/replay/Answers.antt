@@ -10,7 +10,7 @@ returns-clause-ahead g c tells =
 
 pub returns-clause-known : goal.returns-clause-known
 returns-clause-known g c tells done =
-    known g.K.Sink.tells _ (g.S.Source.left c.args.source.now) _ (g.K.Sink.written c.args.sink.now) _ done
+    known g.K.Sink.tells _ _ (g.S.Source.left c.args.source.now) _ (g.K.Sink.written c.args.sink.now) _ done
     (c.drive.ensures.ends tells tt (g.S.Source.left c.args.source.now) (g.K.Sink.written c.args.sink.now)
     (nothing_played g.K.Sink.tells c.new-pieces.result (g.S.Source.left c.args.source.now)
     (g.K.Sink.written c.args.sink.now) c.new-pieces.ensures.read c.new-pieces.ensures.text))

@@ -7,7 +7,7 @@ use Rattle.swp_tool.proofs.Ending.{of_err, of_ok, behind, cut_short, left_behind
 use Rattle.swp_tool.proofs.replaying.take_part.Goals as goal
 
 pub returns-then-is_err-clause-ends : goal.returns-then-is_err-clause-ends
-returns-then-is_err-clause-ends g c input rest before under =
+returns-then-is_err-clause-ends g c given input rest before at_once under =
     let tells = g.K.Sink.tells in
     let items = c.feed-fed.new.self.replay.text.items in
     let piece = c.args.piece.now in
@@ -20,7 +20,7 @@ returns-then-is_err-clause-ends g c input rest before under =
     let some = subst P (sym input_is)
     (fed_front c.args.pieces.now c.feed-fed.new.self c.feed-fed.result (λ l. l.now) piece rest under.bytes under.text c.feed-fed.ensures.read
     c.feed-fed.ensures.halts under.read) in
-    cut_short piece rest items under c.requires.size (inl some) front
+    cut_short given piece rest items under c.requires.size at_once (inl some) front
 
 pub returns-in-Ok-clause-on : goal.returns-in-Ok-clause-on
 returns-in-Ok-clause-on g c input rest before under =
@@ -56,7 +56,7 @@ returns-in-Ok-clause-fewer g c =
     omega (arith, sizes, whole, fed.fewer, c.flush.ensures.left)
 
 pub returns-in-Err-clause-ends : goal.returns-in-Err-clause-ends
-returns-in-Err-clause-ends g c input rest before under =
+returns-in-Err-clause-ends g c given input rest before at_once under =
     let tells = g.K.Sink.tells in
     let q = c.feed-fed.new.self in
     let items = q.replay.text.items in
@@ -66,9 +66,9 @@ returns-in-Err-clause-ends g c input rest before under =
     let wrote : IsTrue tells → after ≡ was ++ items =
     λ told. of_ok (after ≡ was ++ items) c.flush.result c.is_err.result c.is_err.ensures.value c.if-is_err.false (c.flush.ensures.wrote told) in
     let input_is : input ≡ (under.bytes ++ piece) ++ rest = under.input_is ∙ sym (append_assoc under.bytes piece rest) in
-    let P : List ℕ → Type 0 = λ i. Replayed tells c.halted.result i rest before after in
-    let Q : Status → Type 0 = λ s. Replayed tells s ((under.bytes ++ piece) ++ rest) rest before after in
+    let P : List ℕ → Type 0 = λ i. Replayed tells given c.halted.result i rest before after in
+    let Q : Status → Type 0 = λ s. Replayed tells given s ((under.bytes ++ piece) ++ rest) rest before after in
     subst P (sym input_is) (subst Q (sym (c.halted.ensures.status ∙ ap (λ n. Rattle.swp_tool.specs.Runs.status_of c.in-Err.why n) c.flush.ensures.lines))
-    (halted_replayed tells c.in-Err.why q.replay.count (under.bytes ++ piece) (under.text ++ items) rest before after
+    (halted_replayed tells given c.in-Err.why q.replay.count (under.bytes ++ piece) (under.text ++ items) rest before after
     (c.in-Err.ensures.halts under.bytes under.text under.read)
     (behind tells before under.text items was after under.after_is wrote)))

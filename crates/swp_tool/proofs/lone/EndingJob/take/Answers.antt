@@ -10,18 +10,19 @@ use Rattle.swp_tool.proofs.Recording.{piece_fits}
 use Rattle.swp_tool.proofs.lone.EndingJob.take.Goals as goal
 
 ended : {N T : Type 0} (writes : N → ℕ → List ℕ → Bool → N → Type 0) (nv : T → N) (Runs : T → Lone → List Control → Type 0) (number : ℕ) (tells : Bool)
-    (o : Began N) (e : OneEnd T) (count : ℕ) (s : Status) (input left before after : List ℕ)
-    → EndedInBytes writes nv Runs number tells o e s input left before after → EndedAlone writes nv Runs number tells o e count s input left before after
-ended writes nv Runs number tells o e count status.WriteFault input left before after x = x
-ended writes nv Runs number tells o e count status.NvFault input left before after x = x
-ended writes nv Runs number tells o e count (status.TooMany n) input left before after x = x
-ended writes nv Runs number tells o e count status.Done input left before after x = absurd x
-ended writes nv Runs number tells o e count status.BadWords input left before after x = absurd x
-ended writes nv Runs number tells o e count (status.BadSchedule line why) input left before after x = absurd x
-ended writes nv Runs number tells o e count (status.Undetected line) input left before after x = absurd x
-ended writes nv Runs number tells o e count status.ReadFault input left before after x = absurd x
-ended writes nv Runs number tells o e count status.NoMemory input left before after x = absurd x
-ended writes nv Runs number tells o e count (status.BadImage why) input left before after x = absurd x
+    (given : ℕ) (o : Began N) (e : OneEnd T) (count : ℕ) (s : Status) (input left before after : List ℕ)
+    → EndedInBytes writes nv Runs number tells given o e s input left before after
+    → EndedAlone writes nv Runs number tells given o e count s input left before after
+ended writes nv Runs number tells given o e count status.WriteFault input left before after x = x
+ended writes nv Runs number tells given o e count status.NvFault input left before after x = x
+ended writes nv Runs number tells given o e count (status.TooMany n) input left before after x = x
+ended writes nv Runs number tells given o e count status.Done input left before after x = absurd x
+ended writes nv Runs number tells given o e count status.BadWords input left before after x = absurd x
+ended writes nv Runs number tells given o e count (status.BadSchedule line why) input left before after x = absurd x
+ended writes nv Runs number tells given o e count (status.Undetected line) input left before after x = absurd x
+ended writes nv Runs number tells given o e count status.ReadFault input left before after x = absurd x
+ended writes nv Runs number tells given o e count status.NoMemory input left before after x = absurd x
+ended writes nv Runs number tells given o e count (status.BadImage why) input left before after x = absurd x
 
 pub take_bytes-requires-clause-size : goal.take_bytes-requires-clause-size
 take_bytes-requires-clause-size g c = piece_fits c.args.self.now.count (length c.args.piece.now) c.requires.size
@@ -37,11 +38,11 @@ returns-in-Ok-clause-on g c o input rest before h =
     }
 
 pub returns-in-Err-clause-ends : goal.returns-in-Err-clause-ends
-returns-in-Err-clause-ends g c o input rest before h =
+returns-in-Err-clause-ends g c given o input rest before at_once h =
     let piece = c.args.piece.now in
     let e = c.take_bytes.new.ending.end in
     let after = g.K.Sink.written c.take_bytes.new.sink in
-    ended g.N.Nv.writes g.T.LoneNode.nv g.T.LoneNode.runs g.T.LoneNode.number g.K.Sink.tells o e c.take_bytes.new.ending.count c.in-Err.status input rest
+    ended g.N.Nv.writes g.T.LoneNode.nv g.T.LoneNode.runs g.T.LoneNode.number g.K.Sink.tells given o e c.take_bytes.new.ending.count c.in-Err.status input rest
     before after
-    (subst (λ l. EndedInBytes g.N.Nv.writes g.T.LoneNode.nv g.T.LoneNode.runs g.T.LoneNode.number g.K.Sink.tells o e c.in-Err.status l rest before after)
-    (append_assoc h.bytes piece rest ∙ sym h.input_is) (c.in-Err.ensures.ends o h.bytes rest before h.counted h.heard))
+    (subst (λ l. EndedInBytes g.N.Nv.writes g.T.LoneNode.nv g.T.LoneNode.runs g.T.LoneNode.number g.K.Sink.tells given o e c.in-Err.status l rest before after)
+    (append_assoc h.bytes piece rest ∙ sym h.input_is) (c.in-Err.ensures.ends given o h.bytes rest before h.counted at_once h.heard))

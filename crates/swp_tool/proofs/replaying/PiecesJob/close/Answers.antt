@@ -8,7 +8,7 @@ use Rattle.swp_tool.proofs.Ending.{of_err, of_ok, behind, cut_short, finished_fr
 use Rattle.swp_tool.proofs.replaying.PiecesJob.close.Goals as goal
 
 pub returns-then-is_err-clause-ends : goal.returns-then-is_err-clause-ends
-returns-then-is_err-clause-ends g c o input before under =
+returns-then-is_err-clause-ends g c given o input before under =
     let tells = g.K.Sink.tells in
     let now = c.finish-finished.new.self.replay.text.items in
     let front = of_err ((n : ℕ) × (IsTrue tells → g.K.Sink.written c.write_text.new.sink ≡ g.K.Sink.written c.args.sink.now
@@ -18,11 +18,11 @@ returns-then-is_err-clause-ends g c o input before under =
     let some = subst P (sym input_is)
     (finished_front c.args.self.now c.finish-finished.new.self c.finish-finished.result under.bytes under.text c.finish-finished.ensures.done
     c.finish-finished.ensures.halts under.read) in
-    cut_short [] [] now under (omega arith) some
+    cut_short given [] [] now under (omega arith) (omega arith) some
     front
 
 pub returns-in-Ok-clause-ends : goal.returns-in-Ok-clause-ends
-returns-in-Ok-clause-ends g c o input before under =
+returns-in-Ok-clause-ends g c given o input before under =
     let tells = g.K.Sink.tells in
     let now = c.finish-finished.new.self.replay.text.items in
     let after = g.K.Sink.written c.write_text.new.sink in
@@ -41,7 +41,7 @@ returns-in-Ok-clause-ends g c o input before under =
     )
 
 pub returns-in-Err-clause-ends : goal.returns-in-Err-clause-ends
-returns-in-Err-clause-ends g c o input before under =
+returns-in-Err-clause-ends g c given o input before under =
     let tells = g.K.Sink.tells in
     let now = c.finish-finished.new.self.replay.text.items in
     let after = g.K.Sink.written c.write_text.new.sink in
@@ -50,9 +50,9 @@ returns-in-Err-clause-ends g c o input before under =
     (after ≡ g.K.Sink.written c.args.sink.now ++ now) c.write_text.result c.is_err.result c.is_err.ensures.value c.if-is_err.false
     (c.write_text.ensures.wrote told) in
     let input_is : input ≡ under.bytes = under.input_is ∙ append-nil under.bytes in
-    let P : List ℕ → Type 0 = λ i. Replayed tells c.halted.result i [] before after in
-    let Q : Status → Type 0 = λ s. Replayed tells s under.bytes [] before after in
+    let P : List ℕ → Type 0 = λ i. Replayed tells given c.halted.result i [] before after in
+    let Q : Status → Type 0 = λ s. Replayed tells given s under.bytes [] before after in
     subst P (sym input_is) (subst Q (sym c.halted.ensures.status)
-    (halted_at_end tells c.in-Err.why c.finish-finished.new.self.replay.count under.bytes (under.text ++ now) before after
+    (halted_at_end tells given c.in-Err.why c.finish-finished.new.self.replay.count under.bytes (under.text ++ now) before after
     (c.in-Err.ensures.halts under.bytes under.text under.read)
     (behind tells before under.text now (g.K.Sink.written c.args.sink.now) after under.after_is wrote)))

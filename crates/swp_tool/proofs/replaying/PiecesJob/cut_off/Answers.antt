@@ -3,7 +3,7 @@ use Rattle.swp_tool.proofs.Ending.{whole_transcript, is_running}
 use Rattle.swp_tool.proofs.replaying.PiecesJob.cut_off.Goals as goal
 
 pub returns-clause-ends : goal.returns-clause-ends
-returns-clause-ends c tells o input left before after under =
+returns-clause-ends c tells given o input left before after under =
     let p = c.args.self.now in (
       under.text,
       (

@@ -12,4 +12,5 @@ parts-preserved g c = record {
 }
 
 pub returns-in-Err-clause-ends : goal.returns-in-Err-clause-ends
-returns-in-Err-clause-ends g c o input rest before u = c.in-Err.ensures.ends input rest before (c.parts.invariant.under input rest before u)
+returns-in-Err-clause-ends g c given o input rest before at_once u =
+    c.in-Err.ensures.ends given input rest before (omega (arith, at_once, c.parts.invariant.within)) (c.parts.invariant.under input rest before u)
