@@ -2,7 +2,9 @@
 
 import contextlib
 import io
+import os
 import random
+import select
 import shutil
 import subprocess
 import sys
@@ -366,12 +368,13 @@ class Inputs(unittest.TestCase):
 
     def test_a_stream_is_answered_while_it_is_open(self):
         program = subprocess.Popen([sys.executable, str(COMPANIONS / "vcd2rec")], stdin=subprocess.PIPE, stdout=subprocess.PIPE, stderr=subprocess.DEVNULL)
-        program.stdin.write(vcd_of(wave_of(b"\x40\x54\xc0" * 4000, PERIOD)))
-        program.stdin.flush()
-        self.assertEqual(program.stdout.read(3000), b"\x40\x54\xc0" * 1000)  # its input is open
-        program.stdin.close()
-        self.assertEqual(program.stdout.read(), b"\x40\x54\xc0" * 3000)
-        program.stdout.close()
+        with program.stdin, program.stdout:
+            program.stdin.write(vcd_of(wave_of(b"\x40\x54\xc0" * 4000, PERIOD)))
+            program.stdin.flush()
+            ready = select.select([program.stdout], [], [], 60)[0]
+            first = os.read(program.stdout.fileno(), 30) if ready else b"nothing in a minute"
+            program.stdin.close()
+            self.assertEqual(first + program.stdout.read(), b"\x40\x54\xc0" * 4000)
         self.assertEqual(program.wait(), 0)
 
     def test_each_refusal_is_one_line_and_what_was_read_is_written(self):
