@@ -43,7 +43,6 @@ impl LineReader {
     }
 
     /// Takes a byte, and gives what it brings to the node.
-    #[inline(always)]
     pub fn hear(&mut self, byte: u8) -> Brought
         ensures stands { (number : ℕ) (older : List ℕ) → LineStandsFor self.old number older → LineStandsFor self.new number (byte ∷ older) }
         ensures brings { (number : ℕ) (older : List ℕ) → LineStandsFor self.old number older → causes_brought result ≡ line_brings number byte older }
@@ -62,7 +61,6 @@ impl LineReader {
     }
 
     // Whether activation of a UICC begins with a period: with the first one with bits.
-    #[inline(always)]
     fn starts_with(&mut self, period: Option<Period>) -> bool
         ensures unstarted { self.new ≡ record self.old { is_unstarted = unstarted_with period self.old.is_unstarted } }
         ensures answer { result ≡ (not self.old.is_clf && has_bits period && self.old.is_unstarted) }
@@ -82,7 +80,6 @@ impl LineReader {
     }
 
     // The frame or the refusal that a period gives on the wire that is read.
-    #[inline(always)]
     fn read(&mut self, period: Option<Period>) -> Fed
         ensures same { self.new ≡ record self.old { deframer = self.new.deframer } }
         ensures stands { (seen : List Symbol) → DeframerStandsFor self.old.deframer seen
@@ -99,7 +96,6 @@ impl LineReader {
     }
 
     // Whether a tick comes with a period: with each 512th.
-    #[inline(always)]
     fn ticks_with(&mut self, period: Option<Period>) -> bool
         ensures counted { self.new.periods ≡ periods_with period self.old.periods }
         ensures role { self.new.is_clf ≡ self.old.is_clf }

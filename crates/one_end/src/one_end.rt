@@ -27,7 +27,6 @@ pub struct OneEnd<T> {
 }
 
 /// What a byte brings, one after another.
-#[inline(never)]
 fn comings_of(brought: Brought) -> ArrayVec<Coming, 4>
     ensures causes { map cause_of result.items ≡ causes_brought brought }
 {
@@ -98,7 +97,6 @@ pub fn begin<N: Nv, T: LoneNode<N>>(
 }
 
 /// A byte comes on the link: what the node writes for it is put out. Whether it has lost its power: it does nothing more then.
-#[inline(always)]
 pub fn hear<N: Nv, T: LoneNode<N>>(end: &mut OneEnd<T>, byte: u8, out: &mut Output) -> bool
     requires may { (l : Lone) × (older : List ℕ) × StandsAlone T.runs T.number end.old l older }
     requires empty { out.old.items ≡ [] }
@@ -113,7 +111,6 @@ pub fn hear<N: Nv, T: LoneNode<N>>(end: &mut OneEnd<T>, byte: u8, out: &mut Outp
 }
 
 /// A byte comes on the link.
-#[inline(always)]
 fn hear_byte<N: Nv, T: LoneNode<N>>(end: &mut OneEnd<T>, byte: u8, out: &mut Output) -> bool
     requires may { (l : Lone) × (older : List ℕ) × StandsAlone T.runs T.number end.old l older }
     requires empty { out.old.items ≡ [] }

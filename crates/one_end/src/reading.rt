@@ -60,7 +60,6 @@ impl Reader {
     }
 
     /// Takes a byte, and gives what it brings to the node.
-    #[inline(always)]
     pub fn hear(&mut self, byte: u8) -> Brought
         ensures form { form_read self.new ≡ form_read self.old }
         ensures stands { (number : ℕ) (older : List ℕ) → ReaderStandsFor self.old number older → ReaderStandsFor self.new number (byte ∷ older) }
@@ -75,7 +74,6 @@ impl Reader {
 }
 
 /// What a unit of a byte link brings.
-#[inline(always)]
 fn brought_by_unit(unit: Unit) -> Brought
     ensures { causes_brought result ≡ unit_brings unit }
 {

@@ -114,7 +114,6 @@ pub(crate) fn answer<N: Nv, T: LoneNode<N>>(
 }
 
 /// These come to the node, one after another, until it loses its power; what it writes then is appended. Whether it has lost its power.
-#[inline(never)]
 pub(crate) fn answer_all<N: Nv, T: LoneNode<N>>(
     node: &mut T,
     form: Form,
