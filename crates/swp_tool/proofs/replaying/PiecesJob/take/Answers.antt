@@ -1,5 +1,5 @@
 -- The parts of the piece came one after another.
-use Rattle.std.proofs.Common.{◌≤◌, length, arith}
+use Rattle.std.proofs.Common.{arith}
 use Rattle.swp_tool.proofs.replaying.PiecesJob.take.Goals as goal
 
 pub parts-preserved : goal.parts-preserved
