@@ -65,7 +65,8 @@ class Layout:
         titles = [len(band.title()) + (8 if band.time is not None else 0) for band in chart.bands]
         titles += [len(row.text) for band in chart.bands for row in band.rows if row.kind == "remark"]
         self.gutter = 46 + 6.4 * clamp(12, max(titles, default=12), 30)
-        self.x, at = {}, self.gutter + self._room("left")
+        self.rooms = {side: self._room(side) for side in ("left", "right")}
+        self.x, at = {}, self.gutter + self.rooms["left"]
         for host in chart.left:
             self.x[host + "h"] = at
             at += self._lane(host)
@@ -75,7 +76,7 @@ class Layout:
         for host in chart.right:
             at += self._lane(host)
             self.x[host + "h"] = at
-        self.width = at + self._room("right")
+        self.width = at + self.rooms["right"]
 
     def _room(self, side):
         """Of the notes that stand outside of all lifelines."""
@@ -324,7 +325,7 @@ class Drawing:
 
     def _room_beside(self, lifeline, side):
         if self.layout.outermost(side) == lifeline:
-            return self.layout._room(side) - 36
+            return self.layout.rooms[side] - 36
         xs = sorted(self.x.values())
         middle = [self.x[host + "c"] for host in self.chart.hosts]
         here = self.x[lifeline] if lifeline != "00" else min(middle) if side == "left" else max(middle)
