@@ -545,6 +545,15 @@ class Middles(unittest.TestCase):
         """[(side, pipe, message)]"""
         return [(words[1], words[3], words[4]) for words in (line.split() for line in swp("tap", form, input=record).decode().splitlines()[:-1])]
 
+    def test_the_frames_in_front_bring_both_sides_to_their_numbers(self):
+        for sent, waiting, nr in ((0, 0, 0), (5, 0, 3), (5, 2, 7), (1, 3, 1), (0, 1, 6)):
+            told = decode(from_middle.frames_in_front(UICC, sent, waiting, nr))
+            frames = [h.verdict for h in told if h.wire == UICC]
+            answers = [h.verdict for h in told if h.wire == CLF]
+            self.assertEqual([(ns_of(lpdu), nr_of(lpdu)) for lpdu in frames], [(number % 8, nr) for number in range(len(frames))])
+            self.assertEqual((len(frames) % 8, len(frames) - len(answers)), (sent, waiting))
+            self.assertEqual([control(lpdu)[1] for lpdu in answers], [f"RR({(number + 1) % 8})" for number in range(len(answers))])
+
     def test_the_notes_name_the_numbers(self):
         part = frame_periods(b"\xab\x81\x43", CLF) + frame_periods(b"\xc5", UICC) + frame_periods(b"\xc3", CLF)
         told = run("from_middle", input=part)
