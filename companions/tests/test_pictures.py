@@ -80,9 +80,13 @@ class EveryExample(unittest.TestCase):
         for name, root in self.pictures.items():
             boxes = [[float(box.get(key)) for key in ("x", "y", "width", "height")] for box in root.iter(SVG + "rect") if box.get("class") == "g"]
             boxes.sort(key=lambda box: box[1])
-            for (x, y, width, height), (other_x, other_y, other_width, _) in zip(boxes, boxes[1:]):
-                apart = y + height <= other_y or x + width <= other_x or other_x + other_width <= x
-                self.assertTrue(apart, f"{name}: two texts at {x:g},{y:g} and {other_x:g},{other_y:g}")
+            self.assertGreater(len(boxes), 0, name)
+            for index, (x, y, width, height) in enumerate(boxes):
+                for other_x, other_y, other_width, _ in boxes[index + 1 :]:
+                    if other_y >= y + height:
+                        break
+                    apart = x + width <= other_x or other_x + other_width <= x
+                    self.assertTrue(apart, f"{name}: two texts at {x:g},{y:g} and {other_x:g},{other_y:g}")
 
     def test_each_text_stands_within_the_picture(self):
         for name, root in self.pictures.items():
