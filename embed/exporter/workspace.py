@@ -24,6 +24,8 @@ directory = "{REGISTRY}"
 STATIC = '[lib]\ncrate-type = ["staticlib"]\ntest = false\ndoctest = false\n'
 SMALL = '[profile.release]\nopt-level = "s"\nlto = true\ncodegen-units = 1\npanic = "abort"\noverflow-checks = true\n'
 LINTS = '[lints.rust]\nunsafe_code = "forbid"\n'
+# A crate without tests of its own isn't built for them.
+UNTESTED = "[lib]\ntest = false\ndoctest = false\n\n"
 # Some arguments, fields, imports and labels are there for contracts alone.
 UNUSED = LINTS + "".join(f'unused_{what} = "allow"\n' for what in ("variables", "imports", "labels")) + 'dead_code = "allow"\n'
 
@@ -61,7 +63,7 @@ def write_crates(out, crates, others):
                 raise Refused(f"crates.txt: {crate.name} stands on {other}, for which Rust has nothing known here")
             below.append((other, at(f"../{other}") if other in names else others[other]))
         folder = f"{out}/crates/{crate.name}"
-        write(f"{folder}/Cargo.toml", manifest(crate.name, below, UNUSED))
+        write(f"{folder}/Cargo.toml", manifest(crate.name, below, UNTESTED + UNUSED))
         for path, text in crate.texts.items():
             write(f"{folder}/src/{path}", text)
 
@@ -76,7 +78,7 @@ def write_others(out, with_real):
             continue
         others[name] = at(f"../../others/{name}")
         below = [("rtstd", at("../../rtstd"))] if name in OVER_RTSTD else []
-        write(f"{out}/others/{name}/Cargo.toml", manifest(name, below, LINTS))
+        write(f"{out}/others/{name}/Cargo.toml", manifest(name, below, UNTESTED + LINTS))
         copy(f"shims/{name}/lib.rs", f"{out}/others/{name}/src/lib.rs")
     return others
 
@@ -116,7 +118,7 @@ def export_program(repository, out, with_real):
     write_crates(out, made, others)
     copy_folder("rtstd/src", f"{out}/rtstd/src")
     copy_folder("rtstd/tests", f"{out}/rtstd/tests")
-    write(f"{out}/rtstd/Cargo.toml", manifest("rtstd", [("arrayvec", others["arrayvec"].replace("../..", ".."))], LINTS))
+    write(f"{out}/rtstd/Cargo.toml", manifest("rtstd", [("arrayvec", others["arrayvec"].replace("../..", ".."))], UNTESTED + LINTS))
     names = ["drawn_schedule", "host_core", "router", "swp_base", "swp_tool", "trace_model"]
     below = [(name, at(f"../crates/{name}")) for name in names] + [("rtstd", at("../rtstd"))]
     write(f"{out}/swp/Cargo.toml", manifest("swp", below, LINTS))

@@ -96,7 +96,7 @@ static void damage(uint8_t host, bool at_host) {
     for (size_t i = 2; i < count; i++) {
         size_t place = decimal(i, 0);
         if (place >= length) {
-            say("no beyond %zu\n", length);
+            say("no beyond %lu\n", (unsigned long)length);
             return;
         }
     }

@@ -49,7 +49,7 @@ static void fits(const char *name, int what, size_t size, size_t unused) {
     must(make(what, heap, used) == SWP_OK && make(what, heap, used - 1) == SWP_NO_HEAP, "a heap that is too small is refused");
     must(make(what, heap, sizeof(size_t)) == SWP_NO_HEAP && make(what, heap, 0) == SWP_NO_HEAP, "a heap without room for its front is refused");
     must(make(what, (char *)heap + 1, size - 1) == SWP_BAD_POINTER, "a heap that isn't aligned is refused");
-    printf("%s: %zu bytes of heap\n", name, used);
+    printf("%s: %lu bytes of heap\n", name, (unsigned long)used);
     free(heap);
 }
 

@@ -13,6 +13,10 @@ void must(bool so, const char *what) {
 }
 
 void say(const char *format, ...) {
+#ifdef QUIET
+    (void)format;
+    return;
+#endif
     va_list words;
     va_start(words, format);
     vprintf(format, words);
@@ -20,6 +24,9 @@ void say(const char *format, ...) {
 }
 
 void say_bytes(const uint8_t *bytes, size_t length) {
+#ifdef QUIET
+    length = 0;
+#endif
     for (size_t i = 0; i < length; i++) {
         say("%02X", bytes[i]);
     }
