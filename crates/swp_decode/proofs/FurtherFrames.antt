@@ -104,7 +104,7 @@ frame_there : (wire : Wire) (word : Word) (bytes older : List ℕ) (known place 
 frame_there wire word bytes older known place last are small within h is =
     ap₂ (frame_with wire) (AreBits-front wire known last bytes (word_bits word) are small within ∙ ap (λ b. Some (symbol_of b)) same)
     (signal_at wire bytes older (word_bits word) known last (omega arith) are
-      ∙ ap (λ n. readings_on n (take last (word_bits word)) (signal wire older)) (sym is))
+    ∙ ap (λ n. readings_on n (take last (word_bits word)) (signal wire older)) (sym is))
   where
     same : get_or (word_bits word) last false ≡ bit word.bits (63 - last)
     same = low_bits-at 64 last word.bits h ∙ ap (bit word.bits) (omega (arith, h))

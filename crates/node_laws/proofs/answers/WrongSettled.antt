@@ -69,8 +69,19 @@ settled_and_not_up w =
   where
     run : IsRunOf happened (site settles).link
     run = record {
-      allowed = ((tt, (tt, tt)), ((refl, (tt, tt)), ((tt, (tt, tt)), ((tt, (tt, tt)),
-        ((tt, (tt, tt)), ((tt, (tt, tt)), ((tt, (tt, tt)), ((tt, (tt, tt)), tt))))))));
+      allowed = (
+        (tt, (tt, tt)),
+        (
+          (refl, (tt, tt)),
+          (
+            (tt, (tt, tt)),
+            (
+              (tt, (tt, tt)),
+              ((tt, (tt, tt)), ((tt, (tt, tt)), ((tt, (tt, tt)), ((tt, (tt, tt)), tt)))),
+            ),
+          ),
+        ),
+      );
       is = law_makes_it ∙ sym world_makes_it;
     }
 
