@@ -403,7 +403,8 @@ class CommandLine(unittest.TestCase):
         self.assertEqual(words, {"replay", "end", "decode", "tables", "gen", "tap"})
         for word in words:
             self.assertIn(f".B swp {word}", page)
-        statuses = re.findall(r"^\| \w+ \| (\d+) \|", (ROOT / "docs/FORMATS.md").read_text(), re.MULTILINE)
+        section = (ROOT / "docs/FORMATS.md").read_text().split("\n## Statuses\n")[1].split("\n## ")[0]
+        statuses = re.findall(r"^\| \w+ \| (\d+) \|", section, re.MULTILINE)
         self.assertEqual(sorted(map(int, re.findall(r"^\.B (\d+)$", page, re.MULTILINE))), sorted(map(int, statuses)))
 
     @unittest.skipUnless(shutil.which("groff"), "groff isn't installed")
