@@ -46,7 +46,7 @@ def write(path, text):
 def manifest(name, below, more=""):
     """The Cargo.toml of a package that stands on these: a folder each, or a version of one of Rust's own crates."""
     lines = "".join(f"{other} = {{ {where}{'' if where.startswith('path') else ', default-features = false'} }}\n" for other, where in below)
-    return f'[package]\nname = "{name}"\nversion = "0.0.0"\nedition = "2021"\nrust-version = "1.81"\npublish = false\n\n[dependencies]\n{lines}\n{more}'
+    return f'[package]\nname = "{name}"\nversion = "0.0.0"\nedition = "2021"\nrust-version = "1.82"\npublish = false\n\n[dependencies]\n{lines}\n{more}'
 
 
 def at(path):
