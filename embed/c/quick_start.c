@@ -14,12 +14,15 @@ static void told(void *m, const swp_told *t) {
 }
 
 static struct wire { uint8_t frames[64][30]; size_t lengths[64], first, end; } to_clf, to_card; /* in earnest the line */
+#define FETCH(wire, next) while ((next) == SWP_OK && (wire).lengths[(wire).end % 64] > 0) (wire).end++
+#define ROOM(wire) (wire).frames[(wire).end % 64], &(wire).lengths[(wire).end % 64]
+#define FIRST(wire) (wire).frames[(wire).first % 64], (wire).lengths[(wire).first % 64]
 static void talk(swp_controller *clf, swp_host *card) {
     for (;;) { /* all frames of a step are fetched before the next one */
-        while (swp_host_next(card, to_clf.frames[to_clf.end % 64], &to_clf.lengths[to_clf.end % 64]) == SWP_OK && to_clf.lengths[to_clf.end % 64] > 0) to_clf.end++;
-        while (swp_controller_next(clf, 2, to_card.frames[to_card.end % 64], &to_card.lengths[to_card.end % 64]) == SWP_OK && to_card.lengths[to_card.end % 64] > 0) to_card.end++;
-        if (to_clf.first < to_clf.end) swp_controller_take(clf, 2, to_clf.frames[to_clf.first % 64], to_clf.lengths[to_clf.first % 64]), to_clf.first++;
-        else if (to_card.first < to_card.end) swp_host_take(card, to_card.frames[to_card.first % 64], to_card.lengths[to_card.first % 64]), to_card.first++;
+        FETCH(to_clf, swp_host_next(card, ROOM(to_clf)));
+        FETCH(to_card, swp_controller_next(clf, 2, ROOM(to_card)));
+        if (to_clf.first < to_clf.end) swp_controller_take(clf, 2, FIRST(to_clf)), to_clf.first++;
+        else if (to_card.first < to_card.end) swp_host_take(card, FIRST(to_card)), to_card.first++;
         else return;
     }
 }

@@ -1,6 +1,6 @@
 """Turns the tokens of heads and bodies into Rust's: what differs is rewritten, and what isn't known is refused."""
 
-from tokens import DOC, SIGN, STRING, WORD, Refused, Token, closing, is_blank, text_of
+from tokens import SIGN, WORD, Refused, Token, closing, is_blank
 
 # Words that mean something to Rattle alone, or that nothing exported may have.
 REFUSED = {"ghost", "requires", "ensures", "prove", "unsafe", "extern", "macro_rules", "syntax", "tactic", "async", "dyn"}

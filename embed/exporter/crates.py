@@ -4,7 +4,7 @@ import os
 import re
 
 from sources import Source, is_law
-from tokens import COMMENT, DOC, STRING, WORD, Refused, tokens_of
+from tokens import WORD, Refused, tokens_of
 
 
 class Crate:

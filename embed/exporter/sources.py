@@ -5,7 +5,7 @@ import re
 from bodies import Bodies
 from errors import displayed
 from items import Reader
-from tokens import COMMENT, DOC, SIGN, SPACE, STRING, WORD, Refused, Token, closing, is_blank, text_of, tokens_of
+from tokens import COMMENT, DOC, SPACE, WORD, Refused, Token, closing, is_blank, text_of, tokens_of
 
 GONE_USES = {"std::marker::Model", "thiserror::Error"}
 FOR_TESTS = ("test",), ("cfg", "(", "test", ")")

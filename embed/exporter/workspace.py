@@ -2,7 +2,6 @@
 
 import glob
 import os
-import re
 import shutil
 
 from crates import law_names, reached, read_list

@@ -63,7 +63,8 @@ class Small(unittest.TestCase):
         self.assertEqual(written("#[derive(Drop)]\nstruct S;\nfn f<T: Drop + Nv>(t: T) -> T {\n    t\n}\n"), "struct S;\nfn f<T: Nv>(t: T) -> T {\n    t\n}\n")
 
     def test_calls_that_take_memory_are_rewritten(self):
-        text = written('fn f() -> u8 {\n    vec![in alloc; [0; 2]; n]?;\n    format!(in alloc; "{x};")?;\n    a.clone()?;\n    b.collect(alloc)?;\n    c.collect()\n}\n')
+        calls = 'vec![in alloc; [0; 2]; n]?;\n    format!(in alloc; "{x};")?;\n    a.clone()?;\n    b.collect(alloc)?;\n    c.collect()'
+        text = written(f"fn f() -> u8 {{\n    {calls}\n}}\n")
         for piece in ("Vec::from_elem(alloc, [0; 2], n)?", 'std::format_in!(alloc, "{x};")?', "a.try_clone()?", "b.collect_in(alloc)?", "c.collect()"):
             self.assertIn(piece, text)
 
@@ -72,7 +73,8 @@ class Small(unittest.TestCase):
         self.assertEqual(text, "fn f(x: u8) -> u8 {\n    x\n}\n")
 
     def test_errors_are_displayed_by_their_texts(self):
-        text = written('#[derive(Debug, Error)]\nenum E {\n    /// A.\n    #[error("bad {at}")]\n    Bad { at: u32 },\n    #[error("gone")]\n    Gone,\n    #[error("of {0}")]\n    Of(Other),\n}\n')
+        variants = ('    /// A.\n    #[error("bad {at}")]\n    Bad { at: u32 },', '    #[error("gone")]\n    Gone,', '    #[error("of {0}")]\n    Of(Other),')
+        text = written("#[derive(Debug, Error)]\nenum E {\n" + "\n".join(variants) + "\n}\n")
         for arm in ('Self::Bad { at } => write!(f, "bad {at}"),', 'Self::Gone => write!(f, "gone"),', 'Self::Of(field_0) => write!(f, "of {field_0}"),'):
             self.assertIn(arm, text)
         self.assertNotIn("#[error", text)
