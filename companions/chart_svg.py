@@ -9,7 +9,8 @@ from swp_formats import control
 
 INK, SOFT, FAINT, PAPER, SHADE = "#1f2933", "#5a6977", "#d5dde5", "#ffffff", "#f4f7fa"
 BAD, GOOD, WARN, KEEP = "#c62828", "#2e7d32", "#a35f00", "#00695c"
-ARROWS = {"I": "#1565c0", "RR": "#56748c", "RNR": WARN, "REJ": WARN, "SREJ": WARN, "RSET": "#7b1fa2", "UA": "#7b1fa2", "ACT": KEEP, "CLT": "#8d6e63", "fault": BAD}
+RESET = "#7b1fa2"
+ARROWS = {"I": "#1565c0", "RR": "#56748c", "RNR": WARN, "REJ": WARN, "SREJ": WARN, "RSET": RESET, "UA": RESET, "ACT": KEEP, "CLT": "#8d6e63", "fault": BAD}
 TONES = {"message": "#1565c0", "got": GOOD, "session": "#1565c0", "keep": KEEP, "warn": WARN, "bad": BAD, "soft": SOFT}
 BOLD = ("session", "bad", "warn")
 SANS = "'Helvetica Neue', Arial, 'DejaVu Sans', sans-serif"
@@ -81,7 +82,8 @@ class Layout:
     def _room(self, side):
         """Of the notes that stand outside of all lifelines."""
         outer = self.outermost(side)
-        notes = [width_of(r.text, bold=r.tone in BOLD) for band in self.chart.bands for r in band.rows if r.kind == "note" and self.side(r.where) == (outer, side)]
+        rows = [row for band in self.chart.bands for row in band.rows if row.kind == "note" and self.side(row.where) == (outer, side)]
+        notes = [width_of(row.text, bold=row.tone in BOLD) for row in rows]
         return clamp(84, max(notes, default=0) + 44, 290)
 
     def outermost(self, side):
@@ -211,7 +213,8 @@ class Drawing:
             self.text(42, y + 11, title, SOFT, style="m")
             if band.time is not None:
                 self.text(self.layout.gutter - 14, y + 11, f"t = {band.time}", SOFT, 10, "end")
-                self.put(f'<line x1="{self.layout.gutter:.1f}" y1="{y - 4:.1f}" x2="{self.layout.width:.0f}" y2="{y - 4:.1f}" stroke="#b4c0cb" stroke-dasharray="2 5"/>')
+                begin, end, level = f"{self.layout.gutter:.1f}", f"{self.layout.width:.0f}", f"{y - 4:.1f}"
+                self.put(f'<line x1="{begin}" y1="{level}" x2="{end}" y2="{level}" stroke="#b4c0cb" stroke-dasharray="2 5"/>')
 
     def _lifeline(self, end):
         state, y = None, TOP - 8

@@ -14,7 +14,8 @@ import swpbench
 from swp_formats import CLF, OFF, UICC, Transcript, decode, frame_periods
 from swpbench import Ended, Replay
 
-swp_test, follow, end_compare, lint_schedule, transcript2rec = (companion(name) for name in ("swp_test", "follow", "end_compare", "lint_schedule", "transcript2rec"))
+swp_test, follow, end_compare = (companion(name) for name in ("swp_test", "follow", "end_compare"))
+lint_schedule, transcript2rec = companion("lint_schedule"), companion("transcript2rec")
 UNDETECTED = "damage_the_crc_does_not_show"  # a line of it ends the run
 
 
@@ -115,12 +116,14 @@ class SchedulesAsTests(unittest.TestCase):
         self.assertTrue(all(line.startswith(f"ok {number} - ") for number, line in enumerate(lines[1:], 1)))
 
     def test_expectations_that_hold(self):
-        text = "swp 1 bare 02\n#= up 02c 0\n#= up 02h *\nsend 02h 01 03\n#= emit 02h 808103\n#! lost **\n\n# a comment\ndeliver 02c\n#= took **\n#= emit 02c c1\n"
+        text = "swp 1 bare 02\n#= up 02c 0\n#= up 02h *\nsend 02h 01 03\n#= emit 02h 808103\n#! lost **\n"
+        text += "\n# a comment\ndeliver 02c\n#= took **\n#= emit 02c c1\n"
         self.assertEqual(self.failures(text), [])
 
     def test_expectations_that_fail(self):
         send = "swp 1 bare 02\nsend 02h 01 03\n"
-        self.assertEqual(self.failures(send + "#= emit 02h 888103\n"), ["3: no `emit 02h 888103` below the line above; there is: sent 02h 0 01 03 / emit 02h 808103"])
+        there = "sent 02h 0 01 03 / emit 02h 808103"
+        self.assertEqual(self.failures(send + "#= emit 02h 888103\n"), [f"3: no `emit 02h 888103` below the line above; there is: {there}"])
         self.assertEqual(self.failures(send + "#= emit **\n#= sent **\n"), ["4: no `sent **` below the line above; there is: nothing"])
         self.assertEqual(self.failures(send + "#! sent **\n"), ["3: `sent 02h 0 01 03` stands there"])
         self.assertEqual(self.failures(send + "#= emit 02h\n")[0][:20], "3: no `emit 02h` bel")
@@ -211,7 +214,7 @@ class Followed(unittest.TestCase):
     def test_lost_acknowledgements(self):
         lost = recorded(["send 02h 01 03", "deliver 02c", "lose 02h", *["tick"] * 10, "deliver 02c", "deliver 02h", "send 02h 01 03", "deliver 02c"])
         self.assertIn("lose 02h", self.follows(lost, "one RR", tries=1))
-        several = ["send 02h 01 03"] * 3 + ["deliver 02c", "lose 02h", "lose 02h", "lose 02h"] + ["tick"] * 10 + ["deliver 02c", "deliver 02h", "deliver 02c", "deliver 02h"]
+        several = ["send 02h 01 03"] * 3 + ["deliver 02c"] + ["lose 02h"] * 3 + ["tick"] * 10 + ["deliver 02c", "deliver 02h"] * 2
         self.assertEqual(self.follows(recorded(several), "three RRs").count("lose 02h"), 3)
 
     def test_resets_that_cross_and_answers_that_are_lost(self):
@@ -262,8 +265,9 @@ class Followed(unittest.TestCase):
         self.assertIn("our stack refuses `send 02c 01 03`: not-up", stop.why)
 
     def test_refusals(self):
-        for words, text, record in (([], "no frame of a session stands in the record", b""), (["--tries", "0"], "--tries is 1 or more", b""), (["nowhere"], "nowhere: No such file or directory", b"")):
-            answer = run("follow", "--swp", SWP, *words, input=record)
+        nothing = "no frame of a session stands in the record"
+        for words, text in (([], nothing), (["--tries", "0"], "--tries is 1 or more"), (["nowhere"], "nowhere: No such file or directory")):
+            answer = run("follow", "--swp", SWP, *words)
             self.assertEqual((answer.returncode, answer.stdout, answer.stderr.decode()), (1, b"", f"follow: {text}\n"))
         self.assertEqual(run("follow", "--tries", "x").returncode, 2)
 
