@@ -148,6 +148,10 @@ def export_library(repository, out):
     below = [(name, at(f"../crates/{name}")) for name in names] + [("rtstd", at("../rtstd")), ("arrayvec", at("../others/arrayvec"))]
     write(f"{out}/swp_stack/Cargo.toml", manifest("swp_stack", below, STATIC))
     copy_folder("c/src", f"{out}/swp_stack/src")
-    members = [f"crates/{name}" for name in names] + ["others/arrayvec", "others/circular_buffer", "rtstd", "swp_stack"]
+    below = [("rtstd", at("../rtstd")), ("arrayvec", at("../others/arrayvec"))]
+    write(f"{out}/heap_tests/Cargo.toml", manifest("heap_tests", below, '[lib]\npath = "empty.rs"\ntest = false\ndoctest = false\n'))
+    write(f"{out}/heap_tests/empty.rs", "//! The tests of the heap stand in tests/.\n")
+    copy("c/heap_tests/storage.rs", f"{out}/heap_tests/tests/storage.rs")
+    members = [f"crates/{name}" for name in names] + ["others/arrayvec", "others/circular_buffer", "rtstd", "swp_stack", "heap_tests"]
     write_workspace(out, members, SMALL)
     return names
