@@ -39,3 +39,6 @@ pub mod Unwritten
 mod Becoming
 pub mod Beginning
 pub mod Faults
+mod Masks
+mod SeenAsNode
+mod Counting

@@ -5,9 +5,12 @@
 mod booting;
 mod carrying;
 mod coming;
+mod controller;
 mod endings;
 mod finishing;
 mod giving;
+mod host;
+mod hosts;
 mod node;
 mod noting;
 mod owing;
@@ -20,7 +23,9 @@ mod timeouts;
 mod turns;
 
 pub use booting::{BootFault, BootRefused, a_boot_of_version_02_is_that_of_a_world};
+pub use controller::Controller;
 pub use giving::HostRefused;
+pub use host::Host;
 pub use node::Node;
 pub use running::{
     Ran, a_refused_frame_counts_at_its_desk, a_reset_of_an_end_that_became_active_is_not_refused,

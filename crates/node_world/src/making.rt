@@ -8,7 +8,7 @@ ghost use Rattle.node_sites.specs.WorldNodes.{RunsAsHost};
 ghost use Rattle.node_world.specs.Controllers.{SitesAre};
 ghost use Rattle.node_world.specs.Worlds.{node_memory};
 
-use host_core::Host;
+use node_core::Host;
 use node_sites::nodes::MEMORY_SIZE;
 use node_sites::places::HostSite;
 use node_sites::wires::Wires;

@@ -9,9 +9,8 @@ ghost use Rattle.one_end.specs.Standing.{HasBooted, IsNotBooted};
 
 use crate::node::LoneNode;
 use crate::nodes::{LoneController, LoneHost};
-use host_core::Host;
+use node_core::{BootFault, BootRefused, Controller, Host};
 use nv_journal::JournalFault;
-use router::{BootFault, BootRefused, Controller};
 use std::alloc::Global;
 use swp_act::ClfAct;
 use swp_base::Nv;

@@ -12,9 +12,7 @@ ghost use Rattle.one_end.specs.Running.{cause_of};
 
 use crate::activity::becomes_active;
 use crate::node::{Came, Coming, LoneNode};
-use host_core::Host;
-use node_core::a_reset_of_an_end_that_became_active_is_not_refused;
-use router::{Controller, Ran};
+use node_core::{Controller, Host, Ran, a_reset_of_an_end_that_became_active_is_not_refused};
 use swp_act::ClfAct;
 use swp_base::{Lpdu, Nv};
 use trace_model::{Entry, Watch};

@@ -8,8 +8,4 @@ mod library;
 #[cfg(test)]
 mod sessions;
 #[cfg(test)]
-mod settled_rows;
-#[cfg(test)]
 mod shown;
-#[cfg(test)]
-mod transcript;

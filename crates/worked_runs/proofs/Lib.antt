@@ -1,1 +1,2 @@
 mod PlaysLemmas
+mod SettledRows

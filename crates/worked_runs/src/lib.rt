@@ -1,5 +1,5 @@
 //! Worked examples of the program's `run` and of the memories that it tells, as tests: faults of the outside, pieces of the input,
-//! journals and stores whose writes are cut. Those of the layers below stand in `worked_examples`.
+//! journals and stores whose writes are cut, and worlds that settle. Those of the layers below stand in `worked_examples`.
 #![tactic(auto)]
 
 #[cfg(test)]
@@ -19,6 +19,10 @@ mod rows;
 #[cfg(test)]
 mod runs;
 #[cfg(test)]
+mod settled_rows;
+#[cfg(test)]
 mod shown;
+#[cfg(test)]
+mod transcript;
 #[cfg(test)]
 mod world_memories;

@@ -1,0 +1,6 @@
+use Rattle.std.proofs.Common.{sym}
+use Rattle.node_core.proofs.SeenAsNode.{seen_runs}
+use Rattle.node_core.proofs.controller.«Controller+MemNv».arm.Goals as goal
+
+pub returns-clause-runs : goal.returns-clause-runs
+returns-clause-runs c core ports r = c.arm.ensures.runs core ports (seen_runs c.self.view_is r)

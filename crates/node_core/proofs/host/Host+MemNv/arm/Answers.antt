@@ -1,0 +1,10 @@
+use Rattle.std.proofs.Common.{subst}
+use Rattle.swp_base.specs.InMemory.{Memory}
+use Rattle.node_core.specs.declared.node.Node.{Node}
+use Rattle.node_core.specs.Running.{RunsAs}
+use Rattle.node_core.proofs.host.Host+MemNv.arm.Goals as goal
+
+pub returns-clause-runs : goal.returns-clause-runs
+returns-clause-runs c core ports runs =
+    let F : Node Memory → Type 0 = λ n. RunsAs n core ports → RunsAs c.arm.new.self core ports in
+    subst F c.self.view_is (c.arm.ensures.runs core ports) runs

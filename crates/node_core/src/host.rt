@@ -1,0 +1,355 @@
+//! A host: a node with the link that has its number, and the buffer in which it reads a message.
+use crate::booting::{BootFault, BootRefused};
+use crate::giving::HostRefused;
+use crate::node::Node;
+use crate::running::{Ran, how_it_ran};
+use arrayvec::ArrayVec;
+use hci_store::Store;
+use link_end::ResetRefused;
+use std::alloc::Global;
+use std::marker::Model;
+use swp_base::{Control, Lpdu, MemNv, Nv, Role};
+use swp_lpdu::{LpduFault, read_lpdu};
+use trace_model::Watch;
+
+/// The most bytes of a message. This project's own.
+const MESSAGE: usize = 4096;
+
+/// A host that runs. Contracts see it as its node: the buffer keeps nothing from one call to the next.
+#[derive(Drop)]
+pub struct Host<N: Nv + Drop> {
+    node: Node<N>,
+    buffer: Vec<u8>,
+}
+
+impl<N: Nv + Drop> Model for Host<N> {
+    ghost use Rattle.std.specs.Prelude.{◌≡◌, ◌≤◌, length};
+    ghost use Rattle.node_core.specs.declared.node.Node.{Node as Kept};
+
+    ghost Value = { Kept N };
+
+    ghost view = { λ h. h.node };
+
+    ghost invariant = { λ h. (length h.buffer.items ≡ 4096) × (1 ≤ h.node.number) };
+}
+
+impl<N: Nv + Drop> Host<N> {
+    ghost use Rattle.std.specs.Prelude.{◌≡◌, ◌≢◌, ◌≤◌, ◌==◌, ◌&&◌, ℕ, List, map, [], ◌∷◌, length, is_some, None, Some, IfOk};
+    ghost use Rattle.std.specs.Prelude.{IfErr, IfSome, OnOk, OnErr, IsTrue};
+    ghost use Rattle.std.specs.Prelude.{MatchResult, Ok, true};
+    ghost use Rattle.swp_base.specs.Outside.{Rose};
+    ghost use Rattle.swp_base.specs.declared.link_terms.Role.TheVariants.{Uicc};
+    ghost use Rattle.trace_model.specs.declared.entry.Entry.{Entry as Noted};
+    ghost use Rattle.journal_laws.specs.Journal.{journal};
+    ghost use Rattle.hci_store.specs.Image.{image_fault};
+    ghost use Rattle.hci_store.specs.Starting.{ready_writes, HasWritten};
+    ghost use Rattle.hcp_packet.specs.Packets.{IsSendable};
+    ghost use Rattle.swp_lpdu.specs.Controls.{lpdu_of, control_of};
+    ghost use Rattle.link_laws.specs.machine.Machine.{lpdu_input, give_refusal, next_frame};
+    ghost use Rattle.link_laws.specs.machine.Machine.LinkInput.{Reset, Start, Stop};
+    ghost use Rattle.node_machine.specs.Parts.{Core, Port, Work};
+    ghost use Rattle.node_machine.specs.Carrying.{port_at, with_port};
+    ghost use Rattle.node_machine.specs.Controller.{is_command_message};
+    ghost use Rattle.node_machine.specs.Node.{steps, begins_with};
+    ghost use Rattle.node_machine.specs.Node.NodeInput.{AtEnd, TimePasses};
+    ghost use Rattle.node_machine.specs.world.World.{sending, beginning};
+    ghost use Rattle.node_machine.specs.world.Lines.{if_waiting};
+    ghost use Rattle.node_ends.specs.Ends.{has_sent, frame_at, are_at_rest};
+    ghost use Rattle.node_ends.specs.Making.{new_port};
+    ghost use Rattle.node_core.specs.Booting.{found_in_memory, IsBootRefused};
+    ghost use Rattle.node_core.specs.Bringing.{Brings};
+    ghost use Rattle.node_core.specs.Giving.{refused_as, TellsLength, IsAsked};
+    ghost use Rattle.node_core.specs.Running.{RunsAs, BeginsStep, HasStepped, MayStep, ran_so, one_more_error, core_kept, reset_refusal_at};
+
+    /// A host with this number, 01 to 07, boots from a memory of 65,536 bytes, with the link that has its number. It takes all its memory
+    /// here. A memory that says nothing is formatted; one of version 01 is written anew as a snapshot of version 02 before the host
+    /// answers.
+    ///
+    /// # Errors
+    ///
+    /// `NoMemory` without memory: nothing is read or written then. `Journal` where its store doesn't start. The memory is handed back,
+    /// and the next boot finds what this one found. Where none of its calls failed, nothing was written.
+    pub fn boot(alloc: Global, host: u8, nv: N) -> Result<Self, BootRefused<N>>
+        requires some { 1 ≤ host }
+        requires host { host ≤ 7 }
+        requires size { N.capacity nv ≡ 65536 }
+        ensures runs { IfOk result (λ h. RunsAs h (core_kept h) (map (new_port Uicc) (host ∷ []))) }
+        ensures number { IfOk result (λ h. h.number ≡ host) }
+        ensures found { IsTrue N.tells → IfOk result (λ h. core_kept h ≡ (found_in_memory host (host ∷ []) (N.content nv)).core) }
+        ensures image { IsTrue N.tells → OnOk result (image_fault (N.content nv) ≡ None) }
+        ensures unspent { IsTrue N.tells → OnOk result ((journal (N.content nv)).head.version ≡ 1
+            → (journal (N.content nv)).head.generation ≢ 4294967295) }
+        ensures made { IsTrue N.tells
+            → IfOk result (λ h. HasWritten N.reads N.writes N.content (ready_writes (N.content nv)) nv true h.store.journal.nv) }
+        ensures count { IfOk result (λ h. N.faults nv ≤ N.faults h.store.journal.nv) }
+        ensures refused { IfErr result (λ e. IsBootRefused N.reads N.writes N.faults N.tells N.content nv e.nv e.fault) }
+    {
+        let Ok(buffer) = vec![in alloc; 0; MESSAGE] else {
+            return Err(BootRefused {
+                nv,
+                fault: BootFault::NoMemory,
+            });
+        };
+        match Node::boot(alloc, host, Role::Uicc, &[host], nv) {
+            Ok(node) => Ok(Host { node, buffer }),
+            Err(refused) => Err(refused),
+        }
+    }
+
+    /// A frame with this LPDU is taken from the link. Every frame of the step before was fetched.
+    pub fn take<W: Watch>(&mut self, lpdu: &Lpdu, watch: &mut W) -> Ran
+        requires may { MayStep self.old }
+        ensures stepped { (start : List Noted) (w : Work) → BeginsStep self.old (W.noted watch.old) (W.is_short watch.old) start w
+            → Brings N.writes self.old.store.journal.nv self.new.store.journal.nv
+            (HasStepped self.new (W.noted watch.new) (W.is_short watch.new) start) (steps (AtEnd self.old.number (lpdu_input lpdu.now))) w }
+        ensures number { self.new.number ≡ self.old.number }
+        ensures ran { result ≡ ran_so self.new.store.journal.live }
+        ensures count { N.faults self.old.store.journal.nv ≤ N.faults self.new.store.journal.nv }
+        ensures rose { result ≡ Ran.Stopped → Rose (N.faults self.old.store.journal.nv) (N.faults self.new.store.journal.nv) }
+    {
+        self.take_read(&read_lpdu(lpdu), watch)
+    }
+
+    /// What an LPDU says is taken from the link, as `take` takes the LPDU.
+    pub fn take_read<W: Watch>(&mut self, read: &Result<Control, LpduFault>, watch: &mut W) -> Ran
+        requires may { MayStep self.old }
+        requires read { (lpdu : List ℕ) × (read.now ≡ control_of lpdu) }
+        ensures stepped { (start : List Noted) (w : Work) (lpdu : List ℕ) → BeginsStep self.old (W.noted watch.old) (W.is_short watch.old) start w
+            → read.now ≡ control_of lpdu → Brings N.writes self.old.store.journal.nv self.new.store.journal.nv
+            (HasStepped self.new (W.noted watch.new) (W.is_short watch.new) start) (steps (AtEnd self.old.number (lpdu_input lpdu))) w }
+        ensures number { self.new.number ≡ self.old.number }
+        ensures ran { result ≡ ran_so self.new.store.journal.live }
+        ensures count { N.faults self.old.store.journal.nv ≤ N.faults self.new.store.journal.nv }
+        ensures rose { result ≡ Ran.Stopped → Rose (N.faults self.old.store.journal.nv) (N.faults self.new.store.journal.nv) }
+    {
+        let host = self.node.number();
+        let live = self
+            .node
+            .take_step(host, read, self.buffer.as_mut_slice(), watch);
+        self.node.end_step();
+        how_it_ran(live)
+    }
+
+    /// A tick passes at the link. Every frame of the step before was fetched.
+    pub fn tick<W: Watch>(&mut self, watch: &mut W) -> Ran
+        requires may { MayStep self.old }
+        ensures stepped { (start : List Noted) (w : Work) → BeginsStep self.old (W.noted watch.old) (W.is_short watch.old) start w
+            → Brings N.writes self.old.store.journal.nv self.new.store.journal.nv
+            (HasStepped self.new (W.noted watch.new) (W.is_short watch.new) start) (steps TimePasses) w }
+        ensures number { self.new.number ≡ self.old.number }
+        ensures ran { result ≡ ran_so self.new.store.journal.live }
+        ensures count { N.faults self.old.store.journal.nv ≤ N.faults self.new.store.journal.nv }
+        ensures rose { result ≡ Ran.Stopped → Rose (N.faults self.old.store.journal.nv) (N.faults self.new.store.journal.nv) }
+    {
+        let live = self.node.tick_step(self.buffer.as_mut_slice(), watch);
+        self.node.end_step();
+        how_it_ran(live)
+    }
+
+    /// The link is reset, with this window, which is 1 to 4, or with the end's own one. Nothing is committed. Every frame of the step before
+    /// was fetched.
+    ///
+    /// # Errors
+    ///
+    /// `Inactive` where activation isn't done, and `Waiting` where the end waits already. Nothing changed then.
+    pub fn reset<W: Watch>(&mut self, window: Option<u8>, watch: &mut W) -> Result<(), ResetRefused>
+        requires may { MayStep self.old }
+        requires window { IfSome window (λ w. (1 ≤ w) × (w ≤ 4)) }
+        ensures refusal { (core : Core) (ports : List Port) → RunsAs self.old core ports → MatchResult result
+            (λ done. reset_refusal_at (port_at ports self.old.number) ≡ None)
+            (λ why. reset_refusal_at (port_at ports self.old.number) ≡ Some why) }
+        ensures stepped { OnOk result ((start : List Noted) (w : Work) → BeginsStep self.old (W.noted watch.old) (W.is_short watch.old) start w
+            → Brings N.writes self.old.store.journal.nv self.new.store.journal.nv
+            (HasStepped self.new (W.noted watch.new) (W.is_short watch.new) start) (steps (AtEnd self.old.number (Reset window))) w) }
+        ensures quietly { OnOk result ((start : List Noted) (w : Work) → BeginsStep self.old (W.noted watch.old) (W.is_short watch.old) start w
+            → HasStepped self.new (W.noted watch.new) (W.is_short watch.new) start (steps (AtEnd self.old.number (Reset window)) w)) }
+        ensures unchanged { OnErr result ((core : Core) (ports : List Port) → RunsAs self.old core ports → RunsAs self.new core ports) }
+        ensures quiet { OnErr result ((watch.new ≡ watch.old) × (self.new.store ≡ self.old.store)) }
+        ensures memory { self.new.store.journal.nv ≡ self.old.store.journal.nv }
+        ensures live { IsTrue self.new.store.journal.live }
+        ensures number { self.new.number ≡ self.old.number }
+    {
+        let host = self.node.number();
+        match self
+            .node
+            .reset_step(host, window, self.buffer.as_mut_slice(), watch)
+        {
+            Ok(_live) => {
+                self.node.end_step();
+                Ok(())
+            }
+            Err(why) => Err(why),
+        }
+    }
+
+    /// Activation begins anew at the link, with this sync identifier. Nothing is committed. Every frame of the step before was fetched.
+    pub fn activate<W: Watch>(&mut self, sync: u16, watch: &mut W)
+        requires may { MayStep self.old }
+        ensures stepped { (start : List Noted) (w : Work) → BeginsStep self.old (W.noted watch.old) (W.is_short watch.old) start w
+            → Brings N.writes self.old.store.journal.nv self.new.store.journal.nv
+            (HasStepped self.new (W.noted watch.new) (W.is_short watch.new) start) (steps (AtEnd self.old.number (Start sync))) w }
+        ensures quietly { (start : List Noted) (w : Work) → BeginsStep self.old (W.noted watch.old) (W.is_short watch.old) start w
+            → HasStepped self.new (W.noted watch.new) (W.is_short watch.new) start (steps (AtEnd self.old.number (Start sync)) w) }
+        ensures memory { self.new.store.journal.nv ≡ self.old.store.journal.nv }
+        ensures live { IsTrue self.new.store.journal.live }
+        ensures number { self.new.number ≡ self.old.number }
+    {
+        let host = self.node.number();
+        self.node
+            .activate_step(host, sync, self.buffer.as_mut_slice(), watch);
+        self.node.end_step();
+    }
+
+    /// Activation ends at the link, and the link with it. Nothing is committed. Every frame of the step before was fetched.
+    pub fn deactivate<W: Watch>(&mut self, watch: &mut W)
+        requires may { MayStep self.old }
+        ensures stepped { (start : List Noted) (w : Work) → BeginsStep self.old (W.noted watch.old) (W.is_short watch.old) start w
+            → Brings N.writes self.old.store.journal.nv self.new.store.journal.nv
+            (HasStepped self.new (W.noted watch.new) (W.is_short watch.new) start) (steps (AtEnd self.old.number Stop)) w }
+        ensures quietly { (start : List Noted) (w : Work) → BeginsStep self.old (W.noted watch.old) (W.is_short watch.old) start w
+            → HasStepped self.new (W.noted watch.new) (W.is_short watch.new) start (steps (AtEnd self.old.number Stop) w) }
+        ensures memory { self.new.store.journal.nv ≡ self.old.store.journal.nv }
+        ensures live { IsTrue self.new.store.journal.live }
+        ensures number { self.new.number ≡ self.old.number }
+    {
+        let host = self.node.number();
+        self.node
+            .deactivate_step(host, self.buffer.as_mut_slice(), watch);
+        self.node.end_step();
+    }
+
+    /// A frame on its way from the controller was refused: one more for REC_ERROR, which stops at FFFF.
+    pub fn refused(&mut self)
+        requires runs { (core : Core) × (ports : List Port) × RunsAs self.old core ports }
+        ensures runs { (core : Core) (ports : List Port) → RunsAs self.old core ports
+            → RunsAs self.new core (with_port self.old.number one_more_error ports) }
+        ensures store { self.new.store ≡ self.old.store }
+        ensures number { self.new.number ≡ self.old.number }
+    {
+        let host = self.node.number();
+        self.node.refused(host);
+    }
+
+    /// Fetches the frame that is to be sent now; `None` where there is none.
+    pub fn next_out(&mut self) -> Option<Lpdu>
+        requires runs { (core : Core) × (ports : List Port) × RunsAs self.old core ports }
+        ensures answer { (core : Core) (ports : List Port) → RunsAs self.old core ports → result ≡ frame_at (port_at ports self.old.number) }
+        ensures read { (core : Core) (ports : List Port) (p : Port) → RunsAs self.old core ports → port_at ports self.old.number ≡ Some p
+            → IfSome (next_frame p.side) (λ c. control_of (lpdu_of c) ≡ Ok c) }
+        ensures runs { (core : Core) (ports : List Port) → RunsAs self.old core ports → RunsAs self.new core (with_port self.old.number has_sent ports) }
+        ensures store { self.new.store ≡ self.old.store }
+        ensures number { self.new.number ≡ self.old.number }
+    {
+        let host = self.node.number();
+        self.node.next_out(host)
+    }
+
+    /// A message, which isn't empty, is sent on a pipe that isn't reserved. Nothing is committed.
+    ///
+    /// # Errors
+    ///
+    /// `NotUp` where the link isn't up, `Waiting` where the message is a command on pipe 01 and an earlier one isn't answered, `TooLong`
+    /// where it has more than 4,096 bytes, and `Full` where its blocks exceed what is spare: the first of these that applies. Nothing
+    /// changed then.
+    pub fn send<W: Watch>(
+        &mut self,
+        pipe: u8,
+        message: &[u8],
+        watch: &mut W,
+    ) -> Result<(), HostRefused>
+        requires runs { (core : Core) × (ports : List Port) × RunsAs self.old core ports }
+        requires sendable { IsSendable (pipe, message.now) }
+        ensures refusal { (core : Core) (ports : List Port) (p : Port) → RunsAs self.old core ports → port_at ports self.old.number ≡ Some p
+            → refused_as result ≡ if_waiting (pipe == 1 && is_command_message message.now && is_some core.command)
+            (give_refusal p.side (pipe, message.now)) }
+        ensures long { IfErr result (λ why. TellsLength (length message.now) (Some why)) }
+        ensures given { OnOk result ((start : List Noted) (w : Work) → IsAsked self.old (W.noted watch.old) (W.is_short watch.old) start w
+            → HasStepped self.new (W.noted watch.new) (W.is_short watch.new) start
+            (begins_with self.old.number (sending self.old.number (pipe, message.now)) w)) }
+        ensures unchanged { OnErr result ((self.new ≡ self.old) × (watch.new ≡ watch.old)) }
+        ensures store { self.new.store ≡ self.old.store }
+        ensures number { self.new.number ≡ self.old.number }
+    {
+        if let Err(why) = self.node.give_step(pipe, message, watch) {
+            return Err(why);
+        }
+        self.node.end_step();
+        Ok(())
+    }
+
+    /// An init begins, with the identity that it is to set and at most eight pipes that it is to make: its first command is sent. Nothing is
+    /// committed.
+    ///
+    /// # Errors
+    ///
+    /// `NotUp` where the link isn't up, `Waiting` where a command on pipe 01 isn't answered, and `Full` where the block of the command
+    /// isn't spare: the first of these that applies. Nothing changed then.
+    pub fn init<W: Watch>(
+        &mut self,
+        identity: &[u8; 8],
+        pipes: &[[u8; 3]],
+        watch: &mut W,
+    ) -> Result<(), HostRefused>
+        requires runs { (core : Core) × (ports : List Port) × RunsAs self.old core ports }
+        requires few { length pipes.now ≤ 8 }
+        ensures refusal { (core : Core) (ports : List Port) (p : Port) → RunsAs self.old core ports → port_at ports self.old.number ≡ Some p
+            → refused_as result ≡ if_waiting (is_some core.command) (give_refusal p.side (1, 3 ∷ [])) }
+        ensures begun { OnOk result ((start : List Noted) (w : Work) → IsAsked self.old (W.noted watch.old) (W.is_short watch.old) start w
+            → HasStepped self.new (W.noted watch.new) (W.is_short watch.new) start
+            (begins_with self.old.number (beginning identity.now pipes.now) w)) }
+        ensures unchanged { OnErr result ((self.new ≡ self.old) × (watch.new ≡ watch.old)) }
+        ensures store { self.new.store ≡ self.old.store }
+        ensures number { self.new.number ≡ self.old.number }
+    {
+        if let Err(why) = self.node.init_step(identity, pipes, watch) {
+            return Err(why);
+        }
+        self.node.end_step();
+        Ok(())
+    }
+
+    /// Whether its end is at rest: it doesn't wait for the acceptance of a reset, and where it is Up all messages that were sent in its
+    /// session are acknowledged. This project's own.
+    pub fn is_at_rest(&self) -> bool
+        requires runs { (core : Core) × (ports : List Port) × RunsAs self.now core ports }
+        ensures { (core : Core) (ports : List Port) → RunsAs self.now core ports → result ≡ are_at_rest ports }
+    {
+        self.node.is_at_rest()
+    }
+
+    /// The tables, and the memory in which they are kept.
+    pub fn store(&self) -> &Store<N>
+        ensures { result.now ≡ self.now.store }
+    {
+        self.node.store()
+    }
+
+    /// The memory.
+    pub fn into_nv(self) -> N
+        ensures { result ≡ self.store.journal.nv }
+    {
+        let Host { node, .. } = self;
+        node.into_nv()
+    }
+}
+
+impl Host<MemNv> {
+    ghost use Rattle.std.specs.Prelude.{◌≡◌, ◌<◌, Some, List, length};
+    ghost use Rattle.node_machine.specs.Parts.{Core, Port};
+    ghost use Rattle.node_core.specs.Running.{RunsAs};
+
+    /// Plans that the `nth` write of the memory from now fails, where 1 is the next. Byte i of its range becomes byte i of `fill`,
+    /// modulo its length. An earlier plan is given up. Nothing else changes.
+    pub fn arm(&mut self, nth: u32, fill: ArrayVec<u8, 64>)
+        requires nth { 0 < nth }
+        requires fill { 0 < length fill.items }
+        ensures runs { (core : Core) (ports : List Port) → RunsAs self.old core ports → RunsAs self.new core ports }
+        ensures tables { self.new.store.tables ≡ self.old.store.tables }
+        ensures journal { self.new.store.journal ≡ record self.old.store.journal {
+          nv = record self.old.store.journal.nv { plan = Some (record { nth = nth; fill = fill.items }) };
+        } }
+        ensures number { self.new.number ≡ self.old.number }
+    {
+        self.node.arm(nth, fill);
+    }
+}

@@ -1,2 +1,0 @@
-mod Masks
-mod Seeing

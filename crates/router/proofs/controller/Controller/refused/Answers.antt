@@ -1,6 +1,0 @@
-use Rattle.std.proofs.Common.{sym}
-use Rattle.router.proofs.Seeing.{seen_runs}
-use Rattle.router.proofs.controller.Controller.refused.Goals as goal
-
-pub returns-clause-runs : goal.returns-clause-runs
-returns-clause-runs g c core ports r = c.refused.ensures.runs core ports (seen_runs c.self.view_is r)

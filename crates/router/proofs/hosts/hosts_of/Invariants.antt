@@ -1,7 +1,0 @@
-use Rattle.std.proofs.Common.{◌≡◌, ◌+◌, ◌≤◌, length}
-use Rattle.gate_admin.specs.View.{has}
-use Rattle.gate_admin.proofs.ViewLemmas.{hosts_below}
-use Rattle.router.proofs.hosts.hosts_of.Given as goal
-
-abbrev pub invariant-loop-host : goal.invariant-loop-host
-invariant-loop-host l = (l.hosts.items ≡ hosts_below (has l.mask) l.host) × (length l.hosts.items + 1 ≤ l.host)
