@@ -14,7 +14,7 @@ use Rattle.node_machine.specs.Carrying.{port_at, done, all_done}
 use Rattle.node_machine.specs.Controller.{is_command_message}
 use Rattle.node_machine.specs.world.World.{sending, beginning}
 use Rattle.node_machine.specs.world.Lines.{if_waiting}
-use Rattle.node_laws.specs.kept.Deeds.{IsOnOrder}
+use Rattle.node_machine.specs.Orders.{IsOnOrder}
 use Rattle.node_ends.specs.Ends.{EndsStandFor, MayStartAt}
 use Rattle.link_end.specs.Roles.{MayStart}
 use Rattle.swp_act.specs.declared.ActEvent.TheVariants.{Start as ActStart}

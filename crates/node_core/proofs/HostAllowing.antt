@@ -16,8 +16,8 @@ use Rattle.node_machine.specs.Parts.Deed.{Commits, Orders, Hears, GoesOn, Ends}
 use Rattle.node_machine.specs.Carrying.{end_of_node, finds_room, done}
 use Rattle.node_machine.specs.Controller.{commit_deeds, link_deeds}
 use Rattle.node_machine.specs.HostReplies.{orders_of, accepts, is_same, learns, init_agreed, init_deeds, learned, ordered_deeds, host_deeds}
-use Rattle.node_laws.specs.kept.Deeds.{IsOnOrder}
-use Rattle.node_laws.proofs.steps.Walks.{ordered_holds, learns_holds, learned_holds, host_holds}
+use Rattle.node_machine.specs.Orders.{IsOnOrder}
+use Rattle.node_machine.proofs.Walks.{ordered_holds, learns_holds, learned_holds, host_holds}
 use Rattle.node_core.specs.Deeds.{IsOnTask, AreGranted}
 use Rattle.node_core.specs.Handling.{has_turn}
 

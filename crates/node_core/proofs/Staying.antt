@@ -13,7 +13,7 @@ use Rattle.node_machine.specs.Turns.{passes}
 use Rattle.node_machine.specs.Node.{NodeInput, input_at, has_come, all_come, with_older, reset_late, times_out, forgets, forgotten, all_owed}
 use Rattle.node_machine.specs.Node.{is_over, after_sessions, synced, steps}
 use Rattle.node_machine.specs.Node.NodeInput.{AtEnd, TimePasses}
-use Rattle.node_laws.proofs.steps.Walks.{forgotten_hold, all_owed_hold, all_synced_hold}
+use Rattle.node_machine.proofs.Walks.{forgotten_hold, all_owed_hold, all_synced_hold}
 use Rattle.node_core.specs.Deeds.{IsOnTask}
 use Rattle.node_core.specs.Turning.{IsNodeInOrder}
 use Rattle.node_core.specs.Syncing.{sync_kept, left_over, settles}

@@ -27,7 +27,7 @@ use Rattle.node_machine.specs.HostReplies.{host_deeds}
 use Rattle.node_machine.specs.Turns.{deeds_of, handles, have_turns, goes_through_ends, passes}
 use Rattle.node_machine.specs.Node.{input_at, has_come, all_come, is_forgotten, is_over, forgets, forgotten, all_owed, without_notice, synced, steps}
 use Rattle.node_machine.specs.Node.NodeInput.{AtEnd}
-use Rattle.node_laws.proofs.steps.Walks.{forgotten_hold, all_owed_hold}
+use Rattle.node_machine.proofs.Walks.{forgotten_hold, all_owed_hold}
 use Rattle.node_ends.specs.Ends.{got_at}
 use Rattle.trace_model.specs.declared.entry.Entry.{Entry}
 use Rattle.link_end.specs.Reports.{reset_refused}

@@ -4,5 +4,4 @@ pub mod Whitelists
 pub mod Values
 pub mod Waits
 pub mod Ports
-pub mod Walks
 pub mod StepWalks

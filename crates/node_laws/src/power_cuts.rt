@@ -24,7 +24,7 @@ ghost use Rattle.node_machine.specs.Node.{NodeInput, steps};
 ghost use Rattle.node_machine.specs.world.World.{frames_noted};
 ghost use Rattle.link_laws.specs.messages.Links.{Link};
 ghost use Rattle.link_laws.specs.entries.Entries.{End as Side};
-ghost use Rattle.node_laws.specs.kept.Deeds.{IsOnOrder};
+ghost use Rattle.node_machine.specs.Orders.{IsOnOrder};
 ghost use Rattle.node_machine.specs.world.NodeFilters.{commands_in};
 ghost use Rattle.node_machine.specs.world.NodeHistories.{FollowsNodes, NodeHistory, node_entries};
 ghost use Rattle.node_laws.specs.kept.Hosts.{AreHosts, IsFew, IsNodeNumber, IsSentByHost};

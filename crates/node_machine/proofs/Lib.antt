@@ -1,1 +1,2 @@
 pub mod world
+pub mod Walks

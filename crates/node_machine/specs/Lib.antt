@@ -5,3 +5,4 @@ pub mod HostReplies
 pub mod Turns
 pub mod Node
 pub mod world
+pub mod Orders

@@ -15,7 +15,7 @@ use Rattle.node_machine.specs.Parts.Deed.{Commits}
 use Rattle.node_machine.specs.Carrying.{own_side, done, all_done, port_at}
 use Rattle.node_machine.specs.Node.{all_come, told_at}
 use Rattle.node_machine.specs.Turns.{passes}
-use Rattle.node_laws.proofs.steps.Walks.{all_synced_hold}
+use Rattle.node_machine.proofs.Walks.{all_synced_hold}
 use Rattle.node_laws.proofs.steps.StepWalks.{all_do}
 use Rattle.node_laws.proofs.links.Works.{fine_at}
 use Rattle.node_laws.specs.passes.Noting.{goes_in}

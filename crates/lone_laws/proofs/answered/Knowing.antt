@@ -17,7 +17,7 @@ use Rattle.node_machine.specs.Turns.{deeds_of, handles, holds_back}
 use Rattle.node_machine.specs.Node.{all_come, told_at}
 use Rattle.node_laws.proofs.steps.StepWalks.{all_do, lets}
 use Rattle.node_laws.proofs.links.Deeds.{IsFine, AreFine, IsTrueDesk}
-use Rattle.node_laws.proofs.steps.Walks.{all_synced_hold}
+use Rattle.node_machine.proofs.Walks.{all_synced_hold}
 use Rattle.node_laws.proofs.links.Works.{IsFinePort, IsFineWork, fine_at, deeds_fine, all_done_fine, handles_fine, holds_fine, lets_fine, came_fine}
 use Rattle.node_laws.specs.passes.Passing.{LastsOverTurns, ComesTo, waiting_at, takes_up}
 use Rattle.node_laws.specs.passes.Steps.{syncs_in}

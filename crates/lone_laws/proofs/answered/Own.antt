@@ -22,7 +22,7 @@ use Rattle.node_machine.specs.Parts.Deed.{Commits, Sends, SaysOk, Releases, Tell
 use Rattle.node_machine.specs.Carrying.{port_at}
 use Rattle.node_machine.specs.Controller.{is_connected_at, creation_in, asked_at, view_for, controller_deeds}
 use Rattle.node_machine.specs.HostReplies.{host_deeds}
-use Rattle.node_laws.proofs.steps.Walks.{Plain, OfDecision, all_of_controller, all_ordered, host_holds}
+use Rattle.node_machine.proofs.Walks.{Plain, OfDecision, all_of_controller, all_ordered, host_holds}
 use Rattle.node_laws.proofs.links.Masking.{nobody, from_mask}
 use Rattle.node_laws.proofs.kept.Deciding.{decided_recordable}
 

@@ -16,7 +16,7 @@ use Rattle.link_laws.specs.machine.Machine.Turn.{FetchMessage, Hold}
 use Rattle.std.specs.Option.{option_map_or}
 use Rattle.node_machine.specs.Node.{NodeInput, steps, all_come, times_out, synced, forgotten, forgets, all_owed, without_notice, after_sessions}
 use Rattle.node_machine.specs.Node.NodeInput.{AtEnd, TimePasses}
-use Rattle.node_laws.proofs.steps.Walks.{anyone}
+use Rattle.node_machine.proofs.Walks.{anyone}
 use Rattle.node_laws.proofs.steps.StepWalks.{Lasts, rest_lasts}
 use Rattle.node_laws.specs.passes.Noting.{noted_by_deed}
 use Rattle.node_laws.proofs.passes.Notes.{deed_notes}

@@ -16,7 +16,7 @@ use Rattle.node_machine.specs.Parts.Deed.{Commits, Asks, Tells}
 use Rattle.node_machine.specs.Carrying.{own_side, port_at, noted_of, turn_at}
 use Rattle.node_machine.specs.Node.{NodeInput, all_owed, synced}
 use Rattle.node_laws.specs.passes.Noting.{goes_in, noted_by_deed}
-use Rattle.node_laws.proofs.steps.Walks.{Plain, OfHost, any_of_controller, all_of_host, deeds_hold, all_owed_hold, all_synced_hold, forgotten_hold}
+use Rattle.node_machine.proofs.Walks.{Plain, OfHost, any_of_controller, all_of_host, deeds_hold, all_owed_hold, all_synced_hold, forgotten_hold}
 use Rattle.std.proofs.Common.{◌≡◌, ◌++◌, ◌||◌, eqb, sym, ap, subst, ◌∙◌}
 use Rattle.std.proofs.lemmas.Bool.{cond_both}
 use Rattle.std.specs.Prelude.{is_some, option_to_list, nat_lt}
@@ -39,7 +39,7 @@ use Rattle.link_laws.specs.entries.Entries.Entry.{Up, Down, Active, GaveUp, Acke
 use Rattle.node_machine.specs.Carrying.{end_of_node}
 use Rattle.link_laws.specs.machine.Machine.{Turn}
 use Rattle.link_laws.specs.machine.Machine.Turn.{FetchMessage, Hold}
-use Rattle.node_laws.proofs.steps.Walks.{anyone}
+use Rattle.node_machine.proofs.Walks.{anyone}
 use Rattle.node_laws.proofs.steps.StepWalks.{Lasts, rest_lasts}
 use Rattle.node_laws.proofs.passes.Notes.{deed_notes}
 use Rattle.lone_laws.specs.alone.Lone.{Lone, LoneCause, lone_end, lone_input, node_input, lone_arrival, emits_behind, frames_behind, session_with}

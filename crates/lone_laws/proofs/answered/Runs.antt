@@ -33,7 +33,8 @@ use Rattle.node_machine.specs.HostReplies.{host_deeds}
 use Rattle.node_machine.specs.Node.{all_come, boot_writes, found, steps}
 use Rattle.node_machine.specs.world.World.{runs_on}
 use Rattle.node_laws.specs.kept.Books.{WaitsAt, hosts_of_ends}
-use Rattle.node_laws.specs.kept.Deeds.{IsOnOrder, MayBeDone}
+use Rattle.node_laws.specs.kept.Deeds.{MayBeDone}
+use Rattle.node_machine.specs.Orders.{IsOnOrder}
 use Rattle.node_laws.specs.kept.Finds.{BootFinds, Knows}
 use Rattle.node_laws.proofs.kept.Booting.{good_found, knows_formatted, knows_used, left_formatted, says}
 use Rattle.node_laws.proofs.kept.Commits.{finds_closed}

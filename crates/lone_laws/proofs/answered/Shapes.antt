@@ -21,7 +21,7 @@ use Rattle.node_machine.specs.Parts.Deed.{Commits, Sends, SaysOk, Tells, IsAnswe
 use Rattle.node_machine.specs.Carrying.{port_at, finds_room}
 use Rattle.node_machine.specs.Controller.{creation_in, asked_at, view_for, commit_deeds, decision_deeds, link_deeds, gates, controller_deeds}
 use Rattle.node_machine.specs.HostReplies.{accepts, ordered_deeds, host_deeds}
-use Rattle.node_laws.proofs.steps.Walks.{controller_holds, ordered_holds, host_holds}
+use Rattle.node_machine.proofs.Walks.{controller_holds, ordered_holds, host_holds}
 use Rattle.lone_laws.proofs.answered.Own.{TellsNobody, tells_nobody, asks_nobody}
 
 pub data IsLoneReply : List Deed → Type 0 where

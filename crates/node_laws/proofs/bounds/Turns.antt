@@ -36,7 +36,7 @@ use Rattle.node_machine.specs.Carrying.{end_of_node, noting, port_at, commit, lo
 use Rattle.node_machine.specs.Controller.{asked_at, view_for, answers_on, commit_deeds, decision_deeds, link_deeds, gates, agreed, is_command_message}
 use Rattle.node_machine.specs.Controller.{controller_deeds}
 use Rattle.node_machine.specs.HostReplies.{accepts, learns, orders_of, init_deeds, learned, response_deeds, is_gate, gate_of_pipe, ordered_deeds, host_deeds}
-use Rattle.node_laws.proofs.steps.Walks.{controller_holds, ordered_holds, learns_holds, learned_holds, init_holds as init_walks}
+use Rattle.node_machine.proofs.Walks.{controller_holds, ordered_holds, learns_holds, learned_holds, init_holds as init_walks}
 use Rattle.node_laws.proofs.bounds.Costs.{message_cost, plain_free, near_most, far_most, off_free}
 use Rattle.node_laws.proofs.bounds.Holding.{holds_at, init_left}
 use Rattle.node_laws.proofs.bounds.Deeds.{Owes, weight, weights, weights-append, less, all_owe, and_then, committed, answered, heard, went_on}

@@ -30,7 +30,7 @@ use Rattle.node_laws.proofs.creations.Asides.{input_aside}
 use Rattle.node_laws.proofs.creations.Doing.{give_aside}
 use Rattle.node_laws.proofs.steps.Ports.{at_port, sessions_node}
 use Rattle.node_laws.proofs.steps.StepWalks.{got_at, all_do as all_none, Lasts, rest_lasts}
-use Rattle.node_laws.proofs.steps.Walks.{anyone}
+use Rattle.node_machine.proofs.Walks.{anyone}
 
 -- ## One end
 

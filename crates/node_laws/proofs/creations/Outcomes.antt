@@ -24,7 +24,7 @@ use Rattle.node_machine.specs.Controller.{goes_through, agreed, controller_deeds
 use Rattle.node_machine.specs.world.NodeFilters.{is_response}
 use Rattle.node_laws.specs.notices.Notices.{has_notice, GoesToFree, IsNoticeOf}
 use Rattle.node_laws.specs.creations.Worlds.{IsProperCommand, AreProper, IsAwaited}
-use Rattle.node_laws.proofs.steps.Walks.{IsServed, controller_holds}
+use Rattle.node_machine.proofs.Walks.{IsServed, controller_holds}
 use Rattle.node_laws.proofs.creations.Asks.{Asked, asked_of, waits, set_asked, none_waits}
 use Rattle.node_laws.proofs.creations.Deciding.{IsAskFor, Suits, AsksNobody, decided_suits, nobody_asked}
 

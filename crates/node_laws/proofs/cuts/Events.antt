@@ -33,7 +33,8 @@ use Rattle.node_machine.specs.world.World.{world_step}
 use Rattle.node_machine.specs.world.World.Happening.{Boots, IsCut, Gives, Inits, Takes, Loses, Ticks, Resets, Activates, Arms}
 use Rattle.node_machine.specs.world.NodeFilters.{book_in, commands_in}
 use Rattle.node_laws.specs.kept.Reckonings.{Reckoning, reckoned, EachIsAsRead}
-use Rattle.node_laws.specs.kept.Deeds.{IsOnOrder, MayBeDone}
+use Rattle.node_laws.specs.kept.Deeds.{MayBeDone}
+use Rattle.node_machine.specs.Orders.{IsOnOrder}
 use Rattle.node_laws.specs.kept.Hosts.{AreHosts}
 use Rattle.node_laws.specs.kept.Worlds.{SiteKeeps, AllKeep, MayHappen}
 use Rattle.node_laws.proofs.kept.Asking.{same_new}

@@ -18,7 +18,7 @@ use Rattle.node_machine.specs.world.World.{host_work, after_host}
 use Rattle.node_machine.specs.world.World.{host_does}
 use Rattle.node_laws.specs.kept.Reckonings.{Reckoning}
 use Rattle.node_laws.specs.kept.Books.{IsPlain, StillRuns}
-use Rattle.node_laws.specs.kept.Deeds.{IsOnOrder}
+use Rattle.node_machine.specs.Orders.{IsOnOrder}
 use Rattle.node_laws.specs.kept.Hosts.{AreHosts}
 use Rattle.node_laws.specs.kept.Worlds.{NodeKeeps, SiteKeeps, AllKeep}
 use Rattle.registry.proofs.ValueLemmas.{AllByRecursion-append as all_append}

@@ -24,7 +24,7 @@ use Rattle.node_machine.specs.Node.NodeInput.{AtEnd, TimePasses}
 use Rattle.node_laws.specs.kept.Books.{hosts_of_ends}
 use Rattle.node_laws.specs.kept.Hosts.{AreDifferent, AreHosts}
 use Rattle.node_laws.proofs.steps.Ports.{at_port, come_host, forgets_host, late_host, without_host}
-use Rattle.node_laws.proofs.steps.Walks.{all_synced_hold, forgotten_hold}
+use Rattle.node_machine.proofs.Walks.{all_synced_hold, forgotten_hold}
 use Rattle.node_laws.proofs.telling.Away.{at_map, none_map}
 use Rattle.node_laws.proofs.telling.Steps.{come_session, forgets_same, without_same}
 use Rattle.node_laws.specs.links.Notices.{IsOutside}

@@ -17,7 +17,7 @@ use Rattle.node_machine.specs.Parts.{Core, Creation, Deed, Port, Work}
 use Rattle.node_machine.specs.Parts.Deed.{Asks, Commits, Tells}
 use Rattle.node_machine.specs.Carrying.{end_of_node, noted_of, own_side, port_at, turn_at}
 use Rattle.node_machine.specs.Node.{NodeInput, after_sessions, all_come, all_owed, forgets, forgotten, steps, synced, times_out, without_notice}
-use Rattle.node_laws.proofs.steps.Walks.{OfHost, Plain, all_of_host, all_owed_hold, all_synced_hold, any_of_controller, anyone, deeds_hold, forgotten_hold}
+use Rattle.node_machine.proofs.Walks.{OfHost, Plain, all_of_host, all_owed_hold, all_synced_hold, any_of_controller, anyone, deeds_hold, forgotten_hold}
 use Rattle.node_laws.proofs.steps.StepWalks.{Lasts, rest_lasts}
 use Rattle.node_laws.specs.passes.Noting.{goes_in, noted_by_deed}
 use Rattle.node_laws.specs.passes.Steps.{told_of_coming}

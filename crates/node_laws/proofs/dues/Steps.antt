@@ -20,7 +20,7 @@ use Rattle.node_machine.specs.Node.NodeInput.{AtEnd, TimePasses}
 use Rattle.node_laws.specs.kept.Books.{hosts_of_ends}
 use Rattle.node_laws.specs.kept.Hosts.{AreHosts}
 use Rattle.node_laws.specs.kept.Reckonings.{is_cut_of}
-use Rattle.node_laws.proofs.steps.Walks.{all_owed_hold}
+use Rattle.node_machine.proofs.Walks.{all_owed_hold}
 use Rattle.node_laws.specs.passes.Noting.{IsReplyNoted, entries_of_reply, noted_by_deeds, session_of_port}
 use Rattle.node_laws.specs.passes.Passing.{ArePassed, BeginWithTurn, ComesTo, IsTurnSo}
 use Rattle.node_laws.specs.passes.Passing.ComesTo.{Begins}

@@ -20,7 +20,7 @@ use Rattle.node_machine.specs.Controller.{asked_at}
 use Rattle.node_machine.specs.Node.NodeInput.{AtEnd, TimePasses}
 use Rattle.node_laws.proofs.steps.StepWalks.{Lasts, all_last, got_at, handled, holds, lets, unless}
 use Rattle.node_laws.proofs.steps.Ports.{sessions_node}
-use Rattle.node_laws.proofs.steps.Walks.{anyone}
+use Rattle.node_machine.proofs.Walks.{anyone}
 use Rattle.node_laws.specs.links.Notices.{IsOutside}
 use Rattle.node_laws.specs.passes.Passing.{ComesTo}
 use Rattle.node_laws.specs.passes.Steps.{comes_to_pass, has_come_so, has_freed, has_synced, owed_in_step, syncs_in}

@@ -12,7 +12,7 @@ use Rattle.node_machine.specs.Parts.{Init, Work, Deed}
 use Rattle.node_machine.specs.Turns.{deeds_of, handles, holds_back, lets_go}
 use Rattle.node_machine.specs.world.World.{end_h}
 use Rattle.node_laws.specs.kept.Books.{StillRuns}
-use Rattle.node_laws.specs.kept.Deeds.{IsOnOrder}
+use Rattle.node_machine.specs.Orders.{IsOnOrder}
 use Rattle.node_laws.proofs.kept.Doing.{GoesOn_or_lost}
 use Rattle.node_laws.proofs.kept.Turning.{deeds_fit, deeds_may, handles_fine, holds_fine, lets_fine}
 use Rattle.node_laws.specs.passes.Passing.{LastsOverTurns, lacking, waiting_at}

@@ -21,7 +21,7 @@ use Rattle.node_machine.specs.HostReplies.{accepts, host_deeds, init_deeds, lear
 use Rattle.node_machine.specs.world.World.{node_of}
 use Rattle.node_laws.specs.kept.Books.{IsPlain}
 use Rattle.node_laws.specs.kept.Deeds.{MayBeDone}
-use Rattle.node_laws.proofs.steps.Walks.{host_holds, init_holds, learned_holds, learns_holds, ordered_holds}
+use Rattle.node_machine.proofs.Walks.{host_holds, init_holds, learned_holds, learns_holds, ordered_holds}
 use Rattle.node_laws.specs.passes.Noting.{GiveOnce, end_of_number, entries_of_reply, next_count, sent_in_session}
 use Rattle.node_laws.specs.answers.Order.{is_answer_of}
 use Rattle.node_laws.specs.reply_passes.Counts.{commands_noted}

@@ -34,7 +34,8 @@ use Rattle.node_laws.specs.kept.Finds.{BootFinds, FindsRoom}
 use Rattle.node_laws.specs.kept.Reckonings.{Reckoning, reckoning_of, reckoned}
 use Rattle.node_laws.proofs.kept.Reckoned.{fold_book, make_more, make_ok, command_makes}
 use Rattle.node_laws.specs.kept.Books.{IsOf, WouldFind, StillRuns, HasLostPower}
-use Rattle.node_laws.specs.kept.Deeds.{IsOnOrder, MayBeDone}
+use Rattle.node_laws.specs.kept.Deeds.{MayBeDone}
+use Rattle.node_machine.specs.Orders.{IsOnOrder}
 use Rattle.node_laws.proofs.kept.Planned.{planned_whole, after_planned-append}
 use Rattle.node_laws.proofs.kept.Commits.{planned_knows, planned_left, planned_used, commit_count}
 use Rattle.node_laws.proofs.kept.Books.{book_command, book_more, last_cut, closed_book, closed_command, finds_all, finds_less, would_at, told_append}

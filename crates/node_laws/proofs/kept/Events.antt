@@ -38,7 +38,8 @@ use Rattle.node_machine.specs.world.World.{sending, beginning}
 use Rattle.node_machine.specs.world.World.{comes_at, activates, end_c, end_h}
 use Rattle.node_machine.specs.world.NodeFilters.{Book, new_book, with_found, book_in, commands_in}
 use Rattle.node_laws.specs.kept.Books.{IsPlain, IsOf, AreToldBehind, WaitsFor}
-use Rattle.node_laws.specs.kept.Deeds.{IsOnOrder, MayBeDone}
+use Rattle.node_laws.specs.kept.Deeds.{MayBeDone}
+use Rattle.node_machine.specs.Orders.{IsOnOrder}
 use Rattle.node_laws.specs.kept.Hosts.{AreHosts}
 use Rattle.node_laws.specs.kept.Worlds.{IfRuns, NodeKeeps, SiteKeeps, IsStranger, AllKeep}
 use Rattle.node_laws.proofs.kept.Books.{book_more, plain_told}

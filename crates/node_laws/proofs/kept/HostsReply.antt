@@ -22,8 +22,9 @@ use Rattle.node_machine.specs.Parts.Deed.{Commits, Ends}
 use Rattle.node_machine.specs.Carrying.{end_of_node, finds_room}
 use Rattle.node_machine.specs.HostReplies.{accepts, is_open_gate, is_welcome, pipe_named_in, orders_of, is_same, learns, init_agreed, init_deeds, learned}
 use Rattle.node_machine.specs.HostReplies.{ordered_deeds, host_deeds}
-use Rattle.node_laws.specs.kept.Deeds.{IsOnOrder, MayBeDone}
-use Rattle.node_laws.proofs.steps.Walks.{ordered_holds, learns_holds, learned_holds, host_holds}
+use Rattle.node_laws.specs.kept.Deeds.{MayBeDone}
+use Rattle.node_machine.specs.Orders.{IsOnOrder}
+use Rattle.node_machine.proofs.Walks.{ordered_holds, learns_holds, learned_holds, host_holds}
 use Rattle.node_laws.proofs.kept.Replies.{commit_may, link_may}
 
 -- a pipe that a message names is closed

@@ -20,9 +20,10 @@ use Rattle.node_machine.specs.Parts.Deed.{Tells}
 use Rattle.node_machine.specs.Carrying.{finds_room}
 use Rattle.node_machine.specs.Controller.{creation_in, view_for, commit_deeds, decision_deeds, link_deeds, agreed, controller_deeds}
 use Rattle.node_laws.specs.kept.Books.{WaitsFor, WaitsAt}
-use Rattle.node_laws.specs.kept.Deeds.{IsOnOrder, MayBeDone}
+use Rattle.node_laws.specs.kept.Deeds.{MayBeDone}
+use Rattle.node_machine.specs.Orders.{IsOnOrder}
 use Rattle.node_laws.proofs.steps.Ports.{at_port}
-use Rattle.node_laws.proofs.steps.Walks.{controller_holds}
+use Rattle.node_machine.proofs.Walks.{controller_holds}
 use Rattle.node_laws.proofs.kept.Deciding.{decided_recordable}
 
 waiting : (n : Option Notice) (c : Creation) → WaitsFor n → creation_in n ≡ Some c → IsCommand c.command

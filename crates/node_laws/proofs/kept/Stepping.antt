@@ -38,7 +38,8 @@ use Rattle.node_machine.specs.Node.{NodeInput, input_at, has_come, told_at, all_
 use Rattle.node_machine.specs.Node.{is_forgotten, forgotten, forgets, all_owed, without_notice, after_sessions, synced, steps}
 use Rattle.node_machine.specs.Node.NodeInput.{AtEnd, TimePasses}
 use Rattle.node_laws.specs.kept.Books.{IsPlain, WaitsFor, WaitsAt, hosts_of_ends, StillRuns}
-use Rattle.node_laws.specs.kept.Deeds.{IsOnOrder, MayBeDone}
+use Rattle.node_laws.specs.kept.Deeds.{MayBeDone}
+use Rattle.node_machine.specs.Orders.{IsOnOrder}
 use Rattle.node_laws.specs.kept.Hosts.{AreDifferent, AreHosts, IsNodeNumber}
 use Rattle.node_laws.proofs.kept.Plainly.{Plainly, runs_plainly, plainly_same, plainly_core, plainly_ports, plainly_then, plainly_map, plain_flat}
 use Rattle.node_laws.proofs.kept.Plainly.{plain_entries}
@@ -46,7 +47,7 @@ use Rattle.node_laws.proofs.kept.Doing.{uncut, GoesOn_or_lost, all_fine}
 use Rattle.node_laws.proofs.kept.HostsReply.{OneOrNone, behind_one}
 use Rattle.node_laws.proofs.kept.Turning.{then_all, passes_fine}
 use Rattle.node_laws.proofs.steps.Ports.{come_host, forgets_host, late_host, without_host}
-use Rattle.node_laws.proofs.steps.Walks.{forgotten_hold, all_owed_hold}
+use Rattle.node_machine.proofs.Walks.{forgotten_hold, all_owed_hold}
 
 -- ## What comes
 

@@ -17,7 +17,8 @@ use Rattle.node_machine.specs.Carrying.{noting, unless_cut, port_at, with_desk, 
 use Rattle.node_machine.specs.HostReplies.{host_deeds}
 use Rattle.node_machine.specs.Turns.{deeds_of, handles, holds_back, lets_go, have_turns, goes_through_ends, passes}
 use Rattle.node_laws.specs.kept.Books.{hosts_of_ends, StillRuns}
-use Rattle.node_laws.specs.kept.Deeds.{IsOnOrder, MayBeDone}
+use Rattle.node_laws.specs.kept.Deeds.{MayBeDone}
+use Rattle.node_machine.specs.Orders.{IsOnOrder}
 use Rattle.node_laws.specs.kept.Hosts.{IsNodeNumber}
 use Rattle.node_laws.proofs.kept.Plainly.{Plainly, runs_plainly, plainly_then, plainly_turn, plainly_desk, plainly_noting}
 use Rattle.node_laws.proofs.kept.Doing.{uncut, stays_cut, GoesOn_or_lost, all_fine}

@@ -18,7 +18,7 @@ use Rattle.node_machine.specs.world.World.{NodeWorld, Site, site_at, with_site, 
 use Rattle.node_machine.specs.world.World.{frames_noted}
 use Rattle.node_machine.specs.world.World.{comes_to, controller_work, link_after_controller, controller_does, host_work, after_host, host_does}
 use Rattle.node_laws.specs.kept.Books.{IsPlain, IsOf, AreToldBehind, WaitsFor}
-use Rattle.node_laws.specs.kept.Deeds.{IsOnOrder}
+use Rattle.node_machine.specs.Orders.{IsOnOrder}
 use Rattle.node_laws.specs.kept.Hosts.{AreDifferent, AreHosts}
 use Rattle.node_laws.specs.kept.Worlds.{NodeKeeps, SiteKeeps, AllKeep}
 use Rattle.node_laws.proofs.kept.Books.{plain_told, plain_own, told_append}

@@ -18,7 +18,7 @@ use Rattle.node_machine.specs.Parts.Deed.{Commits, Sends, SaysOk, Asks, Releases
 use Rattle.node_machine.specs.Carrying.{finds_room}
 use Rattle.node_machine.specs.Controller.{creation_in, view_for, answers_on, commit_deeds, decision_deeds, link_deeds, gates, agreed, controller_deeds}
 use Rattle.node_laws.proofs.steps.Ports.{at_port}
-use Rattle.node_laws.proofs.steps.Walks.{told_hold, controller_holds}
+use Rattle.node_machine.proofs.Walks.{told_hold, controller_holds}
 use Rattle.node_laws.proofs.links.Decisions.{IsSpoken, Speaks, decided_speaks, link_spoken, identity_spoken}
 
 -- ## Notices

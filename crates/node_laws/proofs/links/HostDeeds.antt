@@ -15,7 +15,7 @@ use Rattle.node_machine.specs.Carrying.{finds_room}
 use Rattle.node_machine.specs.Controller.{gates}
 use Rattle.node_machine.specs.HostReplies.{accepts, orders_of, ordered_deeds, host_deeds}
 use Rattle.node_laws.proofs.links.Decisions.{IsSpoken, link_spoken, identity_spoken}
-use Rattle.node_laws.proofs.steps.Walks.{OfHost, ordered_holds, host_holds, all_heard, orders_hold}
+use Rattle.node_machine.proofs.Walks.{OfHost, ordered_holds, host_holds, all_heard, orders_hold}
 use Rattle.node_laws.proofs.links.Deeds.{IsFine, AreFine, answers_fine, commit_fine, link_fine, low}
 
 accepts_fine : (core : Core) (c : Command) → AreFine (accepts core c)

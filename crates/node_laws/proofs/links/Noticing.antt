@@ -29,7 +29,7 @@ use Rattle.node_laws.specs.links.Notices.{Reaches, AllReach, IsComing, IsOutside
 use Rattle.node_laws.proofs.links.Staying.{stays_up}
 use Rattle.node_laws.proofs.links.Reaching.{controller_reach}
 use Rattle.node_laws.proofs.steps.StepWalks.{Lasts, rest_lasts}
-use Rattle.node_laws.proofs.steps.Walks.{anyone, forgotten_hold, all_owed_hold, all_synced_hold}
+use Rattle.node_machine.proofs.Walks.{anyone, forgotten_hold, all_owed_hold, all_synced_hold}
 use Rattle.node_laws.proofs.steps.Ports.{come_host, forgets_host, late_host, without_host, changed_host, sessions_node}
 
 -- ## Ends

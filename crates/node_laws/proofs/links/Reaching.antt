@@ -19,7 +19,7 @@ use Rattle.link_laws.specs.machine.Machine.{Message}
 use Rattle.node_machine.specs.Parts.{Core, Port}
 use Rattle.node_machine.specs.Carrying.{port_at}
 use Rattle.node_machine.specs.Controller.{has_link, is_connected_at, view_for, controller_deeds}
-use Rattle.node_laws.proofs.steps.Walks.{Plain, OfDecision, all_of_controller}
+use Rattle.node_machine.proofs.Walks.{Plain, OfDecision, all_of_controller}
 use Rattle.node_laws.specs.links.Notices.{Reaches, AllReach}
 use Rattle.node_laws.proofs.links.Masking.{from_mask}
 use Rattle.node_laws.proofs.links.Connected.{AreConnected, decided_tells, TellsConnected}

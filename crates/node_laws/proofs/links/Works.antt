@@ -28,7 +28,7 @@ use Rattle.node_laws.proofs.links.Decisions.{IsSpoken}
 use Rattle.node_laws.proofs.links.Deeds.{HasAnswer, IsTrueDesk, IsFine, AreFine, AreTrue, low, controller_fine}
 use Rattle.node_laws.proofs.links.HostDeeds.{host_fine}
 use Rattle.node_laws.proofs.steps.StepWalks.{Lasts, all_do, lets, holds, handled, rest_lasts}
-use Rattle.node_laws.proofs.steps.Walks.{forgotten_hold, all_owed_hold, all_synced_hold}
+use Rattle.node_machine.proofs.Walks.{forgotten_hold, all_owed_hold, all_synced_hold}
 
 -- ## Ends
 

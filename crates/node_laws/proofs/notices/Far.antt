@@ -34,7 +34,7 @@ use Rattle.node_laws.proofs.notices.Reading.{reads}
 use Rattle.node_laws.proofs.notices.Own.{IsFar, IsOwn, AreOwn, deeds_own, forgotten_own, all_owed_own, all_synced_own}
 use Rattle.node_laws.proofs.steps.Ports.{sessions_node}
 use Rattle.node_laws.proofs.steps.StepWalks.{got_at, all_do as all_far, Lasts, rest_lasts}
-use Rattle.node_laws.proofs.steps.Walks.{anyone}
+use Rattle.node_machine.proofs.Walks.{anyone}
 
 abbrev pub AreFar : List Entry → Type 0
 AreFar es = AllByRecursion IsFar es

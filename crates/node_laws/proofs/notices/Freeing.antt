@@ -21,7 +21,7 @@ use Rattle.link_laws.specs.machine.Machine.{Message}
 use Rattle.node_machine.specs.Parts.{Core, Port}
 use Rattle.node_machine.specs.Controller.{view_for, controller_deeds}
 use Rattle.node_laws.proofs.steps.Masks.{is_in_mask}
-use Rattle.node_laws.proofs.steps.Walks.{Plain, OfDecision, all_of_controller}
+use Rattle.node_machine.proofs.Walks.{Plain, OfDecision, all_of_controller}
 use Rattle.tables_laws.proofs.gate.Decisions.{decided_holds}
 use Rattle.node_laws.proofs.links.Masking.{nobody, alone, from_mask, all_in, has_small}
 use Rattle.node_laws.specs.notices.Notices.{has_notice, GoesToFree}

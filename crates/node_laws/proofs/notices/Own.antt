@@ -11,7 +11,7 @@ use Rattle.node_machine.specs.HostReplies.{host_deeds}
 use Rattle.node_machine.specs.Turns.{deeds_of}
 use Rattle.node_machine.specs.Carrying.{port_at}
 use Rattle.node_machine.specs.Node.{NodeInput, forgotten, all_owed, synced}
-use Rattle.node_laws.proofs.steps.Walks.{Plain, OfHost, all_of_host, forgotten_hold, all_owed_hold, all_synced_hold}
+use Rattle.node_machine.proofs.Walks.{Plain, OfHost, all_of_host, forgotten_hold, all_owed_hold, all_synced_hold}
 
 -- a host may note it: it tells of no end of a controller, of no creation that is asked for, and neither of the power nor of the
 -- commands of a controller

@@ -31,7 +31,7 @@ use Rattle.node_machine.specs.Controller.{agreed, controller_deeds}
 use Rattle.node_machine.specs.world.NodeFilters.{is_response, is_notice}
 use Rattle.node_laws.proofs.links.Noticing.{UpAt}
 use Rattle.node_laws.proofs.steps.Ports.{at_port}
-use Rattle.node_laws.proofs.steps.Walks.{AnswersNone, controller_holds}
+use Rattle.node_machine.proofs.Walks.{AnswersNone, controller_holds}
 use Rattle.node_laws.specs.kept.Hosts.{AreDifferent}
 use Rattle.node_laws.proofs.kept.Deciding.{decided_recordable}
 use Rattle.node_laws.specs.notices.Notices.{IsNoticeOf}

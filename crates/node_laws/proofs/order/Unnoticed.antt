@@ -17,7 +17,7 @@ use Rattle.node_machine.specs.Node.{NodeInput, input_at, has_come, all_come, wit
 use Rattle.node_machine.specs.Node.{forgets, all_owed, without_notice, after_sessions, synced, steps}
 use Rattle.node_machine.specs.Node.NodeInput.{AtEnd, TimePasses}
 use Rattle.node_machine.specs.world.World.{runs_on}
-use Rattle.node_laws.proofs.steps.Walks.{Plain, OfHost, all_of_host, forgotten_hold, all_owed_hold, all_synced_hold, anyone}
+use Rattle.node_machine.proofs.Walks.{Plain, OfHost, all_of_host, forgotten_hold, all_owed_hold, all_synced_hold, anyone}
 use Rattle.node_laws.proofs.links.Noticing.{came_node}
 use Rattle.node_laws.proofs.steps.StepWalks.{got_at, all_do, Lasts, rest_lasts}
 use Rattle.node_laws.proofs.steps.Ports.{sessions_node}

@@ -18,7 +18,7 @@ use Rattle.node_machine.specs.Turns.{deeds_of}
 use Rattle.node_machine.specs.Node.{NodeInput, all_owed, synced}
 use Rattle.node_laws.specs.passes.Noting.{goes_in, noted_by_deed, noted_by_deeds}
 use Rattle.node_laws.specs.passes.Passing.{IsNoTurn, AreNoTurns}
-use Rattle.node_laws.proofs.steps.Walks.{Plain, OfHost, any_of_controller, all_of_host, deeds_hold, all_owed_hold, all_synced_hold}
+use Rattle.node_machine.proofs.Walks.{Plain, OfHost, any_of_controller, all_of_host, deeds_hold, all_owed_hold, all_synced_hold}
 
 sent_none : (h n : ℕ) (m : Message) (side : Side) (o : Option Refused) → AreNoTurns (entries_for h (sent_unless o side n m))
 sent_none h n m side None = (refl, tt)

@@ -27,7 +27,7 @@ use Rattle.node_laws.proofs.telling.Walks.{IsUncut, AreUncut}
 use Rattle.node_laws.proofs.telling.Powers.{entries_uncut}
 use Rattle.node_laws.specs.passes.Noting.{goes_in, end_of_number}
 use Rattle.node_laws.specs.passes.Passing.{waiting_at, is_held_at, lacking, takes_up}
-use Rattle.node_laws.proofs.steps.Walks.{Plain, OfHost, any_of_controller, all_of_host}
+use Rattle.node_machine.proofs.Walks.{Plain, OfHost, any_of_controller, all_of_host}
 use Rattle.node_laws.proofs.passes.Passing.{have_handled, have_held}
 use Rattle.node_laws.proofs.power.Parts.{IsOwn, AreOwn}
 use Rattle.node_laws.proofs.power.Links.{links_own, turn_of_side}

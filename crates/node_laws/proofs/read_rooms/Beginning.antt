@@ -40,7 +40,7 @@ use Rattle.node_laws.proofs.read_rooms.Coming.{Came, has_come_so}
 use Rattle.node_laws.proofs.read_rooms.Reading.{AreNoted, its_notes, are_noted, before_near, near_says}
 use Rattle.node_laws.proofs.read_rooms.Carrying.{Carries}
 use Rattle.node_laws.proofs.read_rooms.Lasting.{IsCarried, carried_deeds}
-use Rattle.node_laws.proofs.steps.Walks.{forgotten_hold, all_owed_hold, all_synced_hold}
+use Rattle.node_machine.proofs.Walks.{forgotten_hold, all_owed_hold, all_synced_hold}
 use Rattle.node_laws.proofs.links.Deeds.{IsFine, low}
 use Rattle.node_laws.specs.passes.Steps.{comes_to_pass, controller_begins}
 

@@ -29,7 +29,7 @@ use Rattle.node_laws.specs.views.Errors.{ErrorCount}
 use Rattle.node_laws.proofs.views.Setting.{IsUnset, AreUnset}
 use Rattle.node_laws.proofs.views.Doing.{Right, maps, with_core, unless, unset_fine, all_do}
 use Rattle.node_laws.proofs.views.Stepping.{came_right, timed_right, forgets_errors, without_errors}
-use Rattle.node_laws.proofs.steps.Walks.{forgotten_hold, all_owed_hold, all_synced_hold}
+use Rattle.node_machine.proofs.Walks.{forgotten_hold, all_owed_hold, all_synced_hold}
 use Rattle.node_laws.specs.passes.Steps.{comes_to_pass}
 
 -- the work behind what came, as sessions have ended

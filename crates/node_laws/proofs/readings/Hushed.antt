@@ -6,7 +6,7 @@ use Rattle.node_machine.specs.Parts.{Core, Port, Deed}
 use Rattle.node_machine.specs.Turns.{deeds_of}
 use Rattle.node_laws.specs.readings.Orders.{IsSilent}
 use Rattle.node_laws.proofs.readings.Noting.{NotesSo, controller_notes, host_notes}
-use Rattle.node_laws.proofs.steps.Walks.{deeds_hold}
+use Rattle.node_machine.proofs.Walks.{deeds_hold}
 
 -- what deeds end in tells nothing of it
 abbrev pub AreHushed : ℕ → List Deed → Type 0

@@ -32,7 +32,7 @@ use Rattle.node_machine.specs.Node.{NodeInput, input_at, has_come, told_at, all_
 use Rattle.node_machine.specs.Node.{all_owed, without_notice, after_sessions, synced, steps}
 use Rattle.node_machine.specs.Node.NodeInput.{AtEnd, TimePasses}
 use Rattle.registry.proofs.ValueLemmas.{AllByRecursion-append}
-use Rattle.node_laws.proofs.steps.Walks.{Plain, OfHost, any_of_controller, all_of_host, forgotten_hold, all_owed_hold, all_synced_hold, anyone}
+use Rattle.node_machine.proofs.Walks.{Plain, OfHost, any_of_controller, all_of_host, forgotten_hold, all_owed_hold, all_synced_hold, anyone}
 use Rattle.node_laws.proofs.steps.StepWalks.{got_at, all_do as all_note, Lasts, rest_lasts}
 use Rattle.node_laws.proofs.steps.Ports.{come_host, forgets_host, late_host, without_host, changed_host, sessions_node, at_port}
 use Rattle.node_laws.proofs.links.Noticing.{at_host}

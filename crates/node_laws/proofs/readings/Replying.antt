@@ -18,7 +18,7 @@ use Rattle.node_machine.specs.Parts.Deed.{Sends, Ends}
 use Rattle.node_machine.specs.Carrying.{end_of_node, finds_room}
 use Rattle.node_machine.specs.Controller.{answers_on, commit_deeds, link_deeds, gates, is_command_message}
 use Rattle.node_machine.specs.HostReplies.{accepts, orders_of, learns, init_deeds, learned, ordered_deeds}
-use Rattle.node_laws.proofs.steps.Walks.{ordered_holds, learns_holds, learned_holds, init_holds, orders_hold}
+use Rattle.node_machine.proofs.Walks.{ordered_holds, learns_holds, learned_holds, init_holds, orders_hold}
 use Rattle.node_laws.specs.readings.Orders.{AreInitsShort, MayDo}
 
 -- an answer is no command

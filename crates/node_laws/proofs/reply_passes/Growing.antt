@@ -22,7 +22,7 @@ use Rattle.node_machine.specs.Turns.{deeds_of}
 use Rattle.node_machine.specs.Node.{NodeInput, steps, after_sessions, forgets, forgotten, without_notice, all_come, is_over}
 use Rattle.node_machine.specs.Node.NodeInput.{AtEnd, TimePasses}
 use Rattle.node_laws.proofs.steps.StepWalks.{Lasts, all_last, got_at, handled, holds, lets, rest_lasts, unless}
-use Rattle.node_laws.proofs.steps.Walks.{anyone}
+use Rattle.node_machine.proofs.Walks.{anyone}
 use Rattle.node_laws.specs.passes.Passing.{ComesTo}
 use Rattle.node_laws.specs.passes.Steps.{has_come_so, has_freed, has_synced, comes_to_pass, syncs_in, owed_in_step}
 use Rattle.node_laws.proofs.passes.Passing.{comes_so}

@@ -13,7 +13,7 @@ use Rattle.node_machine.specs.Parts.{Core, Port}
 use Rattle.node_machine.specs.Parts.Deed.{Tells}
 use Rattle.node_machine.specs.Controller.{view_for, controller_deeds}
 use Rattle.node_laws.specs.steps.Creations.{IsAllowedDeed, AreAllowedDeeds}
-use Rattle.node_laws.proofs.steps.Walks.{Plain, OfDecision, anyone, all_of_controller}
+use Rattle.node_machine.proofs.Walks.{Plain, OfDecision, anyone, all_of_controller}
 
 plain : (t : HciTables) (ports : List Port) (h : ℕ) → Plain (IsAllowedDeed t ports h)
 plain t ports h = record { sends = λ to x. tt; says_ok = tt; releases = λ asker. tt; is_answered = tt; drops = λ pid. tt }

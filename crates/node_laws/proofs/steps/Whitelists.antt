@@ -22,7 +22,7 @@ use Rattle.node_machine.specs.Controller.{is_asked_at, view_for, controller_deed
 use Rattle.node_laws.specs.steps.Creations.{LeavesWhitelist, DeedLeavesWhitelist, IsBeingAsked, IsMaking, WaitsForPipes}
 use Rattle.tables_laws.proofs.gate.Decisions.{decided_holds}
 use Rattle.node_laws.proofs.steps.Masks.{is_in_mask}
-use Rattle.node_laws.proofs.steps.Walks.{Plain, OfDecision, anyone, all_of_controller}
+use Rattle.node_machine.proofs.Walks.{Plain, OfDecision, anyone, all_of_controller}
 
 -- ## Decisions
 

@@ -10,7 +10,7 @@ use Rattle.node_machine.specs.Parts.{Core, Port, Deed}
 use Rattle.node_machine.specs.Parts.Deed.{Ends}
 use Rattle.node_machine.specs.Turns.{deeds_of}
 use Rattle.node_machine.specs.Node.{NodeInput, forgotten, all_owed, synced}
-use Rattle.node_laws.proofs.steps.Walks.{Plain, OfHost, any_of_controller, all_of_host, deeds_hold, forgotten_hold, all_owed_hold, all_synced_hold}
+use Rattle.node_machine.proofs.Walks.{Plain, OfHost, any_of_controller, all_of_host, deeds_hold, forgotten_hold, all_owed_hold, all_synced_hold}
 
 -- what a node notes beside its links, its turns, its boots and its power
 abbrev pub IsPlain : Entry → Type 0

@@ -20,7 +20,7 @@ use Rattle.node_machine.specs.Carrying.{end_of_node, noting, with_desk, turn_at,
 use Rattle.node_machine.specs.Turns.{handles, holds_back, lets_go}
 use Rattle.node_machine.specs.Node.{answers_and_passes}
 use Rattle.node_laws.proofs.steps.StepWalks.{got_at, all_do as all_done_so, lets as lets_as, holds as holds_as, Lasts, handled, rest_lasts as rest_as}
-use Rattle.node_laws.proofs.steps.Walks.{anyone}
+use Rattle.node_machine.proofs.Walks.{anyone}
 use Rattle.node_laws.proofs.telling.Mute.{IsPlain, plain_said, IsMute, AreMute, deeds_mute}
 
 -- they tell of no link

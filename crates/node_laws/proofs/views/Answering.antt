@@ -28,7 +28,7 @@ use Rattle.node_machine.specs.Carrying.{own_side, end_of_node}
 use Rattle.node_machine.specs.HostReplies.{learns, init_deeds, learned, response_deeds, is_gate, gate_of_pipe, ordered_deeds, host_deeds}
 use Rattle.node_machine.specs.world.World.{end_h}
 use Rattle.node_machine.specs.world.NodeFilters.{is_response}
-use Rattle.node_laws.proofs.steps.Walks.{Plain, all_ordered, learns_holds, learned_holds, init_holds}
+use Rattle.node_machine.proofs.Walks.{Plain, all_ordered, learns_holds, learned_holds, init_holds}
 use Rattle.node_laws.specs.views.Inits.{with_response, init_after}
 use Rattle.node_laws.proofs.readings.Silent.{same_own}
 

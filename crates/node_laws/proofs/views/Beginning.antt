@@ -25,7 +25,7 @@ use Rattle.node_laws.specs.readings.Orders.{IsFresh}
 use Rattle.node_laws.specs.readings.Worlds.{init_of}
 use Rattle.node_laws.proofs.readings.Silent.{host_side}
 use Rattle.node_laws.specs.views.Inits.{init_of_running, KeepsInit}
-use Rattle.node_laws.proofs.steps.Walks.{all_synced_hold}
+use Rattle.node_machine.proofs.Walks.{all_synced_hold}
 use Rattle.node_laws.proofs.views.Answering.{reads_init, init_append, IsNeutral, AreNeutral, MayGo, neutral_stays}
 use Rattle.node_laws.proofs.views.Going.{Base, Stands, then, all_go, passes_stand, told_init}
 use Rattle.node_laws.proofs.readings.Stepping.{late_told, forgets_same, none_forgotten, none_owed, older_same, late_same, without_same}

@@ -30,7 +30,7 @@ use Rattle.node_machine.specs.Carrying.{port_at}
 use Rattle.node_machine.specs.Controller.{has_link, asks_for, view_for, decision_deeds, link_deeds, own_gate, goes_through, served_at, relayed_to}
 use Rattle.node_machine.specs.Controller.{unless_asking, kind_deeds, own_deeds, deeds_by_relay, command_deeds, controller_deeds}
 use Rattle.node_machine.specs.HostReplies.{ordered_deeds, host_deeds}
-use Rattle.node_laws.proofs.steps.Walks.{Plain, OfDecision, OfHost, anyone, all_of_controller, all_of_host}
+use Rattle.node_machine.proofs.Walks.{Plain, OfDecision, OfHost, anyone, all_of_controller, all_of_host}
 use Rattle.node_laws.specs.views.Errors.{errors_set_by}
 use Rattle.node_laws.proofs.readings.Noticed.{up_is}
 

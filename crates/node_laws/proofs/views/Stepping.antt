@@ -21,7 +21,7 @@ use Rattle.node_laws.proofs.views.Setting.{IsUnset, AreUnset}
 use Rattle.node_laws.proofs.views.Doing.{Right, note, maps, with_core, unless, unset_fine, all_do}
 use Rattle.node_laws.proofs.views.Turning.{passes_right}
 use Rattle.node_laws.proofs.notices.Steps.{sessions_tables}
-use Rattle.node_laws.proofs.steps.Walks.{forgotten_hold, all_owed_hold, all_synced_hold}
+use Rattle.node_machine.proofs.Walks.{forgotten_hold, all_owed_hold, all_synced_hold}
 use Rattle.node_laws.proofs.steps.Ports.{come_host, forgets_host, sessions_node, without_host, late_host}
 
 own_undamaged : (who : Side) (x : Noted) → IsOwnNote who x → IsUndamaged x

@@ -359,7 +359,7 @@ module _ (x : ℕ) where
       zero : n.age ≡ 0
       zero =
           all_do (Each (λ n. n.age ≡ 0)) (λ d. Unit {0}) (λ h d v may z. each_done (λ n. n.age ≡ 0) (λ n z. z) h d v z) k deeds begun
-          (Rattle.node_laws.proofs.steps.Walks.anyone (λ d. Unit {0}) (λ d. tt) deeds)
+          (Rattle.node_machine.proofs.Walks.anyone (λ d. Unit {0}) (λ d. tt) deeds)
           (λ n z. let none : None ≡ Some n = sym (begun_noticed ∙ q) ∙ z in absurd (cc none)) n there
 
       more : List Entry

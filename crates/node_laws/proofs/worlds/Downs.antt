@@ -25,7 +25,7 @@ use Rattle.node_machine.specs.Carrying.{own_side, port_at, noted_of, turn_at, en
 use Rattle.node_machine.specs.Node.{NodeInput, all_owed, synced, steps, times_out, all_come, forgets, forgotten, after_sessions, without_notice, told_at}
 use Rattle.node_machine.specs.world.World.{arrival, frames_noted, ending_of, sending, beginning}
 use Rattle.node_machine.specs.Controller.{is_command_message}
-use Rattle.node_laws.proofs.steps.Walks.{Plain, OfHost, anyone, any_of_controller, all_of_host, deeds_hold, all_owed_hold, all_synced_hold, forgotten_hold}
+use Rattle.node_machine.proofs.Walks.{Plain, OfHost, anyone, any_of_controller, all_of_host, deeds_hold, all_owed_hold, all_synced_hold, forgotten_hold}
 use Rattle.node_laws.proofs.steps.StepWalks.{Lasts, rest_lasts, all_last}
 use Rattle.node_laws.proofs.readings.Silent.{IsQuiet, told_rest, rest_quiet}
 use Rattle.node_laws.proofs.readings.Sites.{ending_quiet, arrival_quiet}

@@ -24,7 +24,7 @@ use Rattle.node_machine.specs.Node.{told_late, is_over, is_forgotten, forgets, f
 use Rattle.node_machine.specs.Node.{without_notice, after_sessions, synced, all_owed, steps}
 use Rattle.node_machine.specs.Node.NodeInput.{AtEnd, TimePasses}
 use Rattle.node_laws.specs.kept.Books.{hosts_of_ends}
-use Rattle.node_laws.proofs.steps.Walks.{all_owed_hold, all_synced_hold, forgotten_hold}
+use Rattle.node_machine.proofs.Walks.{all_owed_hold, all_synced_hold, forgotten_hold}
 use Rattle.node_laws.proofs.steps.Ports.{at_port}
 use Rattle.node_laws.proofs.steps.StepWalks.{holds, lets, unless}
 use Rattle.node_laws.proofs.links.Noticing.{at_all, at_host}

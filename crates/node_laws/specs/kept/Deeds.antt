@@ -1,19 +1,13 @@
 -- Which deeds of one message a node may do.
-use Rattle.std.specs.Prelude.{◌≡◌, ℕ, List, [], ◌∷◌, slice_get, Option, Some, None}
+use Rattle.std.specs.Prelude.{ℕ, List, [], ◌∷◌, Option, Some, None}
 use Rattle.journal_laws.specs.declared.state.State.{State}
 use Rattle.hci_tables.specs.declared.command.Command.{Command}
 use Rattle.hci_tables.specs.Commands.{IsCommand}
 use Rattle.node_machine.specs.Parts.{Init, Deed}
 use Rattle.node_machine.specs.Parts.Deed.{Commits, Asks, Orders, Hears, GoesOn, Ends}
-use Rattle.node_machine.specs.HostReplies.{orders_of}
+use Rattle.node_machine.specs.Orders.{IsOnOrder}
 use Rattle.node_laws.specs.kept.Finds.{FindsRoom}
 use Rattle.node_laws.specs.kept.Books.{IsPlain}
-
--- the unanswered command of a host whose init runs is that of the init
-abbrev pub IsOnOrder : Option (List ℕ) → Option Init → Type 0
-IsOnOrder command None = Unit {0}
-IsOnOrder None (Some i) = ⊥
-IsOnOrder (Some order) (Some i) = slice_get (orders_of i) i.answered ≡ Some order
 
 -- a command may be recorded and finds room in this journal, if one may still be committed
 abbrev pub MayCommit : Option State → Command → Type 0

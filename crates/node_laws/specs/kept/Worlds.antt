@@ -16,7 +16,7 @@ use Rattle.link_laws.specs.messages.Links.{NumberedEnd}
 use Rattle.node_laws.specs.steps.Waiting.{MayWait}
 use Rattle.node_laws.specs.kept.Finds.{Knows}
 use Rattle.node_laws.specs.kept.Books.{WaitsFor, WouldFind}
-use Rattle.node_laws.specs.kept.Deeds.{IsOnOrder}
+use Rattle.node_machine.specs.Orders.{IsOnOrder}
 
 -- The node n, with links to these hosts, runs over this memory: its tables and its count are those that are read off the entries,
 -- and its memory holds them.

@@ -13,7 +13,7 @@ use Rattle.node_machine.specs.world.World.{end_c}
 use Rattle.node_machine.specs.world.NodeFilters.{book_in, tables_in, notice_in, asking_in, session_now}
 use Rattle.node_laws.specs.links.Notices.{IsNoticedUp, OnFirst}
 use Rattle.node_laws.specs.kept.Books.{hosts_of_ends, StillRuns}
-use Rattle.node_laws.specs.kept.Deeds.{IsOnOrder}
+use Rattle.node_machine.specs.Orders.{IsOnOrder}
 use Rattle.node_laws.specs.notices.Notices.{IsKeptNotice, notice_at}
 use Rattle.node_laws.specs.notices.Worlds.{IsRightNotice}
 use Rattle.node_laws.specs.creations.Creations.{creations_at, IsReadSo}

@@ -41,7 +41,7 @@ use Rattle.node_machine.specs.Controller.{creation_in, view_for, answers_on, com
 use Rattle.node_machine.specs.Controller.{has_link, is_command_message, relayed_to, served_at, response_at, notice_deeds, creation_deeds, kind_deeds}
 use Rattle.node_machine.specs.Controller.{unless_asking, goes_through, own_gate, asks_for, if_notice, own_deeds, relay_deeds, deeds_by_relay}
 use Rattle.node_laws.proofs.steps.Ports.{at_port}
-use Rattle.node_laws.proofs.steps.Walks.{told_hold}
+use Rattle.node_machine.proofs.Walks.{told_hold}
 use Rattle.node_laws.proofs.links.Masking.{nobody}
 use Rattle.told_laws.specs.texts.Ranges.{IsSaidCommand}
 use Rattle.told_laws.proofs.told.Lines.{each_all}

@@ -34,7 +34,7 @@ use Rattle.node_machine.specs.Carrying.{own_side, end_of_node, finds_room}
 use Rattle.node_machine.specs.Controller.{gates}
 use Rattle.node_machine.specs.HostReplies.{accepts, pipe_named_in, orders_of, is_same, learns, init_agreed, init_deeds, deleted_by, created_by, learned}
 use Rattle.node_machine.specs.HostReplies.{response_deeds, is_gate, gate_of_pipe, ordered_deeds, host_deeds}
-use Rattle.node_laws.proofs.steps.Walks.{ordered_holds}
+use Rattle.node_machine.proofs.Walks.{ordered_holds}
 use Rattle.told_laws.proofs.told.Lines.{end_in, each_all}
 use Rattle.told_laws.proofs.nodes.Sides.{AreBytes, IsMail}
 use Rattle.told_laws.proofs.nodes.Ranges.{IsShortCommand}

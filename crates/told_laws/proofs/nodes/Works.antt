@@ -30,7 +30,7 @@ use Rattle.node_machine.specs.Node.{times_out, is_over}
 use Rattle.node_machine.specs.Node.{is_forgotten, forgotten, forgets, all_owed, without_notice, after_sessions, synced, steps, answers_and_passes}
 use Rattle.node_machine.specs.Node.NodeInput.{AtEnd, TimePasses}
 use Rattle.node_laws.proofs.steps.StepWalks.{got_at, unless, lets}
-use Rattle.node_laws.proofs.steps.Walks.{forgotten_hold, all_owed_hold}
+use Rattle.node_machine.proofs.Walks.{forgotten_hold, all_owed_hold}
 use Rattle.told_laws.proofs.told.Lines.{each_all}
 use Rattle.swp_base.specs.Bits.{IsByte}
 use Rattle.told_laws.proofs.nodes.Sides.{IsMail, AreMail}
