@@ -1,6 +1,7 @@
 #!/usr/bin/env python3
-"""Writes three line records of 16 MB, of frames on both wires, of random bits on both, and of random bytes; and what a UICC sends to a CLF
-over the byte link, 1 MB: it is activated, accepts the reset, and sends one event after another, which the controller drops."""
+"""Writes line records of 16 MB: of frames on both wires, of such frames with a bit in 600 changed, of random bits on both wires, of such bits with a
+byte in 300 that is no period, and of random bytes; and what a UICC sends to a CLF over the byte link, 1 MB: it is activated, accepts the reset, and
+sends one event after another, which the controller drops."""
 
 import random
 import sys
@@ -60,8 +61,18 @@ def main() -> None:
     random_numbers = random.Random(102613)
     periods = bytes(BIT_BYTES[a + 2 * b] for a, b in zip(wire(random_numbers), wire(random_numbers)))
     (folder / "frames.rec").write_bytes((periods * 16)[:SIZE])
+    damaged = bytearray(periods)
+    for place in range(0, len(damaged), 600):
+        at = place + random_numbers.randrange(600)
+        if at < len(damaged):
+            damaged[at] = BIT_BYTES[BIT_BYTES.index(damaged[at]) ^ random_numbers.choice((1, 2))]
+    (folder / "damaged.rec").write_bytes((bytes(damaged) * 16)[:SIZE])
     noise = random_numbers.randbytes(1_048_576)
-    (folder / "noise.rec").write_bytes(bytes(BIT_BYTES[byte & 3] for byte in noise) * 16)
+    bits = bytearray(BIT_BYTES[byte & 3] for byte in noise)
+    (folder / "noise.rec").write_bytes(bytes(bits) * 16)
+    for place in range(0, len(bits), 300):
+        bits[min(place + random_numbers.randrange(300), len(bits) - 1)] = 0x01
+    (folder / "breaks.rec").write_bytes(bytes(bits) * 16)
     (folder / "bytes.rec").write_bytes(random_numbers.randbytes(SIZE))
     (folder / "uicc.bytes").write_bytes(sent_by_uicc())
 

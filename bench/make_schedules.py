@@ -2,7 +2,8 @@
 """Writes schedules for `swp replay`: of one-byte messages, each sent, delivered and acknowledged, of 10,000 and of 20,000 lines;
 of messages of 4,096 bytes both ways; of a link that loses and damages frames and is reset; the one of a controller with three hosts that is
 drawn from 0; one of 20,000 lines of a controller with seven hosts, drawn alike; one of a bare link whose busy end keeps it from settling in
-20,000 rounds; and one of a controller with seven hosts, each of which sends a message in turn, behind which all links settle."""
+20,000 rounds; one of a bare link that settles behind each message; and of a controller with seven hosts: each of which sends a message in turn, behind
+which all links settle; each of which sets its session identity again and again, so that the memory is compacted; and which open and close 110 pipes."""
 
 import re
 import sys
@@ -87,6 +88,32 @@ def settling_schedule(times: int) -> str:
     return opened_nodes() + "".join(f"send 0{1 + time % 7}h 01 0201\nsettle 100\n" for time in range(times))
 
 
+def compacting_schedule(lines: int) -> str:
+    """A controller with seven hosts, each of which sets its session identity in turn; its memory is full behind some 2,000 commands."""
+    text, time = opened_nodes(), 0
+    while text.count("\n") < lines - 4:
+        host = f"0{1 + time % 7}"
+        text += f"send {host}h 01 0101{time % 256:02X}{'AB' * 7}\ndeliver {host}c\ndeliver {host}h\ndeliver {host}c\n"
+        time += 1
+    return text
+
+
+def many_pipes_schedule(lines: int) -> str:
+    """A controller with seven hosts that make 110 pipes between them, each of which is opened and closed in turn."""
+    text = opened_nodes()
+    for pipe in range(110):
+        host = 1 + pipe % 7
+        other = 1 + (pipe + 1 + pipe // 7 % 6) % 7
+        text += f"send 0{host}h 01 10{0x20 + pipe % 16:02X}0{other}{0x40 + pipe % 8:02X}\nsettle 100\n"
+    time = 0
+    while text.count("\n") < lines - 4:
+        pipe = time * 7 % 110
+        host = 1 + pipe % 7
+        text += f"send 0{host}h {pipe + 2:02X} {'03' if time % 220 < 110 else '04'}\ndeliver 0{host}c\ndeliver 0{host}h\ndeliver 0{host}c\n"
+        time += 1
+    return text
+
+
 def main() -> None:
     folder = Path(sys.argv[1] if len(sys.argv) > 1 else ".")
     for lines in (10_000, 20_000):
@@ -97,6 +124,9 @@ def main() -> None:
     (folder / "nodes20000.schedule").write_text(nodes_schedule(20_000))
     (folder / "busy.schedule").write_text(HEADER + "busy 02c\nsend 02h 01 03\nsettle 20000\n")
     (folder / "settling.schedule").write_text(settling_schedule(5_000))
+    (folder / "settling_bare.schedule").write_text(schedule(20_000, "send 02h 01 03\nsettle 100\n"))
+    (folder / "compacting.schedule").write_text(compacting_schedule(20_000))
+    (folder / "many_pipes.schedule").write_text(many_pipes_schedule(20_000))
 
 
 if __name__ == "__main__":
