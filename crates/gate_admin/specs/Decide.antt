@@ -1,5 +1,5 @@
--- How a host controller answers a command about pipes and parameters (ETSI TS 102 622, pipe management and administration
--- gate). Each command has its tests in their order, and what is done where none of them holds.
+-- How a host controller answers a command about pipes and parameters (ETSI TS 102 622, sections 6.1, 7.1 and
+-- 8.1). Each command has its tests in their order, and what is done where none of them holds.
 use Rattle.std.specs.Prelude.{ℕ, Bool, true, false, not, if◌then◌else◌, ◌&&◌, ◌||◌, ◌==◌, nat_lt, nat_le, IsTrue, List, [], ◌∷◌, ◌++◌, length, Option, Some}
 use Rattle.std.specs.Prelude.{None, is_none, unwrap_or, slice_index}
 use Rattle.std.specs.List.{list_any}

@@ -13,7 +13,7 @@ use gate_answers::{
 };
 use hci_tables::{Command, Tables};
 
-/// What a controller does with a command.
+/// What a controller does with a command (ETSI TS 102 622, section 6.1).
 #[derive(Debug, Drop, PartialEq, Eq)]
 pub enum Decision {
     /// It is answered.
@@ -34,8 +34,9 @@ pub enum Decision {
     },
 }
 
-/// What a controller does with a command of a host on a pipe: the tests of the pipe, its opening and closing, and all
-/// commands of the administration gate. It asks for a host from 01 to 07, a pipe below 70, and a message that is a command.
+/// What a controller does with a command of a host on a pipe: the tests of the pipe, its opening and closing, and all commands of the
+/// administration gate (ETSI TS 102 622, sections 6.1 and 8.1; the order of the tests, and when a command is inhibited, are this
+/// project's own). It asks for a host from 01 to 07, a pipe below 70, and a message that is a command.
 /// Whether there is room for a commit, a host's waiting creation, relays and the other gates aren't looked at here.
 pub fn decide(tables: &Tables, view: &LinkView, host: u8, pipe: u8, message: &[u8]) -> Decision
     requires some { 1 ≤ host }

@@ -1,5 +1,5 @@
-//! The administration gate of a host controller, and the opening and closing of pipes (ETSI TS 102 622, administration gate,
-//! pipe management).
+//! The administration gate of a host controller, and the opening and closing of pipes (ETSI TS 102 622, sections
+//! 6.1, 7.1, 8.1 and 8.2).
 #![tactic(auto)]
 
 mod decision;

@@ -48,7 +48,8 @@ pub(crate) fn refusal_of_pipe(
     ])
 }
 
-/// The end of a pipe of a host that isn't the host's own: a host and a gate. None where the pipe isn't the host's.
+/// The end of a pipe of a host that isn't the host's own: a host and a gate (ETSI TS 102 622, section 4.4). None where the pipe isn't the
+/// host's.
 pub fn far_end(tables: &Tables, host: u8, pipe: u8) -> Option<(u8, u8)>
     ensures { result ≡ far_end tables.now host pipe }
 {
@@ -59,7 +60,7 @@ pub fn far_end(tables: &Tables, host: u8, pipe: u8) -> Option<(u8, u8)>
     }
 }
 
-/// The end of this dynamic pipe that isn't the host's own: none where the pipe doesn't end at the host.
+/// The end of this dynamic pipe that isn't the host's own: none where the pipe doesn't end at the host (ETSI TS 102 622, section 4.4).
 pub fn far_end_of(host: u8, row: &PipeRow) -> Option<(u8, u8)>
     ensures { result ≡ far_end_of host row.now }
 {
@@ -72,7 +73,7 @@ pub fn far_end_of(host: u8, row: &PipeRow) -> Option<(u8, u8)>
     }
 }
 
-/// Whether a pipe is opened: a static one of this host, or a dynamic one.
+/// Whether a pipe is opened: a static one of this host, or a dynamic one (ETSI TS 102 622, section 4.4).
 pub fn is_opened(tables: &Tables, host: u8, pipe: u8) -> bool
     ensures { result ≡ is_opened tables.now host pipe }
 {

@@ -4,7 +4,7 @@ ghost use Rattle.gate_admin.specs.View.{has};
 
 use arrayvec::ArrayVec;
 
-/// What a controller knows of its links. In a mask bit h stands for host h.
+/// What a controller knows of its links. In a mask bit h stands for host h. This project's own.
 #[derive(Drop)]
 pub struct LinkView {
     /// The configured hosts.

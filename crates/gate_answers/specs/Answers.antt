@@ -1,4 +1,4 @@
--- What the gates of a host controller say (ETSI TS 102 622, instructions and responses).
+-- What the gates of a host controller say (ETSI TS 102 622, sections 6.1 to 6.3).
 use Rattle.std.specs.Prelude.{◌≡◌, ℕ, ◌+◌, ◌*◌, ◌%◌, Bool, true, false, not, ◌==◌, List, [], ◌∷◌, length, drop, Option, Ok, slice_index}
 use Rattle.std.specs.List.{find}
 use Rattle.std.specs.Option.{option_map}

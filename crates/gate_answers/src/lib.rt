@@ -1,5 +1,5 @@
 //! What the gates of a host controller say: instructions, response codes, and the tests that come before an answer
-//! (ETSI TS 102 622, instructions and responses).
+//! (ETSI TS 102 622, sections 6.1 to 6.3).
 #![tactic(auto)]
 
 mod instruction;

@@ -6,7 +6,7 @@ use crate::Response;
 use registry::{Access, access_of};
 
 /// Why ANY_SET_PARAMETER with this body is refused at a gate, whatever the value: the body is empty, the gate has no such
-/// parameter, or it may only be read. They are tested in this order.
+/// parameter, or it may only be read (ETSI TS 102 622, section 6.1). That they are tested in this order is this project's own.
 pub fn refusal_to_set(gate: u8, body: &[u8]) -> Option<Response>
     ensures { result ≡ first_of (tests_to_set gate body.now) }
 {
@@ -20,8 +20,8 @@ pub fn refusal_to_set(gate: u8, body: &[u8]) -> Option<Response>
     }
 }
 
-/// Why ANY_GET_PARAMETER with this body is refused at a gate: the body isn't one byte, or the gate has no such parameter.
-/// They are tested in this order.
+/// Why ANY_GET_PARAMETER with this body is refused at a gate: the body isn't one byte, or the gate has no such parameter
+/// (ETSI TS 102 622, section 6.1). That they are tested in this order is this project's own.
 pub fn refusal_to_get(gate: u8, body: &[u8]) -> Option<Response>
     ensures { result ≡ first_of (tests_to_get gate body.now) }
 {

@@ -5,7 +5,7 @@ ghost use Rattle.gate_answers.specs.Answers.{code_of, answer_of};
 use arrayvec::ArrayVec;
 use hcp_packet::{MessageKind, write_header};
 
-/// How a command was answered (ETSI TS 102 622, responses).
+/// How a command was answered (ETSI TS 102 622, section 6.2).
 #[derive(Clone, Copy, Debug, PartialEq, Eq)]
 pub enum Response {
     /// ANY_OK, 00.
@@ -35,7 +35,7 @@ pub enum Response {
 }
 
 impl Response {
-    /// Its code, 00 to 0B.
+    /// Its code, 00 to 0B (ETSI TS 102 622, section 6.2).
     pub fn code(self) -> u8
         ensures code { result ≡ code_of self }
         ensures small { result < 12 }
@@ -57,10 +57,10 @@ impl Response {
     }
 }
 
-/// An answer, a whole message: at most 24 bytes.
+/// An answer, a whole message: at most 24 bytes. That bound is this project's own.
 pub type Answer = ArrayVec<u8, 24>;
 
-/// The answer of this code that carries these bytes, as a whole message.
+/// The answer of this code that carries these bytes, as a whole message (ETSI TS 102 622, section 6.2).
 pub fn answer(response: Response, value: &[u8]) -> Answer
     requires { length value.now ≤ 23 }
     ensures { result.items ≡ answer_of response value.now }
@@ -71,7 +71,7 @@ pub fn answer(response: Response, value: &[u8]) -> Answer
     message
 }
 
-/// The answer of this code alone.
+/// The answer of this code alone (ETSI TS 102 622, section 6.2).
 pub fn refused(response: Response) -> Answer
     ensures { result.items ≡ answer_of response [] }
 {

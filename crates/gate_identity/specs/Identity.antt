@@ -1,4 +1,4 @@
--- The identity management gate (ETSI TS 102 622, identity management gate): its parameters may all be read, and none set.
+-- The identity management gate (ETSI TS 102 622, section 7.1): its parameters may all be read, and none set.
 use Rattle.std.specs.Prelude.{ℕ, if◌then◌else◌, ◌==◌, List, [], ◌∷◌, Option, Some, None}
 use Rattle.gate_answers.specs.declared.response.Response.{Response}
 use Rattle.gate_answers.specs.declared.response.Response.TheVariants as response

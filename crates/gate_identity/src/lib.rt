@@ -1,4 +1,4 @@
-//! The identity management gate (ETSI TS 102 622, identity management gate). What it says of itself is this project's own.
+//! The identity management gate (ETSI TS 102 622, sections 4.3 and 7.1). What it says of itself is this project's own.
 #![tactic(auto)]
 
 ghost use Rattle.std.specs.Prelude.{◌≡◌, ◌≤◌, length};
@@ -17,8 +17,8 @@ const VERSION: [u8; 3] = [0x01, 0x00, 0x00];
 /// The parameter VENDOR_NAME: `SWP HCI` in ASCII.
 const VENDOR_NAME: [u8; 7] = [0x53, 0x57, 0x50, 0x20, 0x48, 0x43, 0x49];
 
-/// Answers a command on a pipe to the identity management gate of a host that has these gates. It asks for at most 23 gates
-/// and for a message that is a command.
+/// Answers a command on a pipe to the identity management gate of a host that has these gates (ETSI TS 102 622, section 7.1; the values
+/// of its parameters are this project's own). It asks for at most 23 gates and for a message that is a command.
 pub fn serve(gates: &[u8], message: &[u8]) -> ArrayVec<u8, 24>
     requires few { length gates.now ≤ 23 }
     requires command { IsCommandMessage message.now }

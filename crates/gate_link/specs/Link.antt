@@ -1,4 +1,4 @@
--- The link management gate (ETSI TS 102 622, link management gate): REC_ERROR has two bytes, and may be read and set.
+-- The link management gate (ETSI TS 102 622, section 7.1): REC_ERROR has two bytes, and may be read and set.
 use Rattle.std.specs.Prelude.{ℕ, ◌+◌, ◌*◌, ◌/◌, ◌%◌, Bool, not, if◌then◌else◌, ◌==◌, List, [], ◌∷◌, ◌++◌, length, Option, Some, None, slice_index}
 use Rattle.gate_answers.specs.declared.response.Response.{Response}
 use Rattle.gate_answers.specs.declared.response.Response.TheVariants as response

@@ -1,4 +1,4 @@
-//! The link management gate (ETSI TS 102 622, link management gate): the register REC_ERROR of one end.
+//! The link management gate (ETSI TS 102 622, sections 4.3 and 7.1): the register REC_ERROR of one end.
 #![tactic(auto)]
 
 ghost use Rattle.std.specs.Prelude.{◌≡◌, ◌==◌, not, if◌then◌else◌, length, option_map, Some, None};
@@ -12,7 +12,8 @@ use gate_answers::{
 };
 
 /// Answers a command on a pipe to the link management gate of an end whose REC_ERROR is `errors`. The second answer is
-/// REC_ERROR's new value, where the command sets it. It asks for a message that is a command.
+/// REC_ERROR's new value, where the command sets it (ETSI TS 102 622, section 7.1; that it has two bytes is this project's own). It asks
+/// for a message that is a command.
 pub fn serve(errors: u16, message: &[u8]) -> (ArrayVec<u8, 24>, Option<u16>)
     requires { IsCommandMessage message.now }
     ensures answer { result.0.items ≡ (link_served errors (instruction_in message.now) (body_in message.now)).0 }

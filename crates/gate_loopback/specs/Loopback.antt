@@ -1,4 +1,4 @@
--- The loopback gate (ETSI TS 102 622, loopback gate): EVT_POST_DATA is sent back as it came.
+-- The loopback gate (ETSI TS 102 622, sections 7.1 and 8.5): EVT_POST_DATA is sent back as it came.
 use Rattle.std.specs.Prelude.{ℕ, Bool, true, false, ◌&&◌, ◌==◌, List, Result, Ok, Err}
 use Rattle.hcp_packet.specs.declared.MessageKind.{MessageKind}
 use Rattle.hcp_packet.specs.declared.MessageKind.TheVariants.{Command, Event, Response}

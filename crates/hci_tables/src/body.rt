@@ -7,10 +7,10 @@ use crate::Command;
 use arrayvec::ArrayVec;
 use pipe_table::PipeRow;
 
-/// The most bytes of a record's body. A command's has at most 24.
+/// The most bytes of a record's body. A command's has at most 24. This project's own.
 pub const MAX_BODY: usize = 61;
 
-/// The body of a command's record: the kind and its bytes. It asks for a command that may be recorded.
+/// The body of a command's record: the kind and its bytes. It asks for a command that may be recorded. This project's own.
 pub fn write_command(command: &Command) -> ArrayVec<u8, 61>
     requires { IsCommand command.now }
     ensures body { result.items ≡ body_of command.now }
@@ -60,7 +60,7 @@ fn bytes_of(bytes: &[u8]) -> ArrayVec<u8, 61>
     body
 }
 
-/// The command whose record has this body: none exactly outside the grammar.
+/// The command whose record has this body: none exactly outside the grammar. This project's own.
 pub fn read_command(body: &[u8]) -> Option<Command>
     ensures command { result ≡ command_of body.now }
     ensures recordable { IfSome result IsCommand }

@@ -5,7 +5,8 @@ use registry::{SESSION_IDENTITY, WHITELIST};
 use std::alloc::AllocError;
 use whitelist::whitelist_ok;
 
-/// A change of the tables.
+/// A change of the tables. What it changes is of ETSI TS 102 622, sections 4.4 and 4.5; that changes are such commands is this project's
+/// own.
 #[derive(Debug, Drop, PartialEq, Eq)]
 pub enum Command {
     /// A pipe is created, closed. It joins two different hosts.
@@ -44,7 +45,7 @@ impl Command {
 
     /// Whether it may be recorded: its hosts are 00 to 07, 01 to 07 for a parameter or an identifier, its pipe is dynamic,
     /// or static where it is opened or closed, a created pipe is closed and joins two hosts, and a parameter is
-    /// SESSION_IDENTITY or WHITELIST of gate 00, with a value that it may have.
+    /// SESSION_IDENTITY or WHITELIST of gate 00, with a value that it may have. This project's own.
     pub fn is_recordable(&self) -> bool
         ensures { result ≡ is_command self.now }
     {
@@ -127,7 +128,7 @@ fn is_setting(host: u8, gate: u8, param: u8, value: &[u8]) -> bool
 }
 
 /// Whether a kept parameter of a host may have this value: eight bytes for SESSION_IDENTITY, and for WHITELIST at most seven
-/// different bytes, none the host's own number.
+/// different bytes, none the host's own number (ETSI TS 102 622, section 7.1; what WHITELIST may be is this project's own).
 pub fn is_allowed(host: u8, param: u8, value: &[u8]) -> bool
     ensures { result ≡ is_allowed host param value.now }
 {

@@ -1,5 +1,5 @@
-//! The tables that a host controller keeps for its hosts, and the commands that change them (ETSI TS 102 622, host
-//! controller interface). The bodies of the commands' records are this project's own.
+//! The tables that a host controller keeps for its hosts, and the commands that change them (ETSI TS 102 622,
+//! sections 4.4 and 4.5). The sync identifiers and the bodies of the commands' records are this project's own.
 #![tactic(auto)]
 
 mod body;

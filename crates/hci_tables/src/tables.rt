@@ -22,7 +22,8 @@ fn keep_identity(registry: &mut Registry, host: u8, kept: bool)
     }
 }
 
-/// What a node keeps: the dynamic pipes, the opened static pipes, the hosts' registries and their sync identifiers.
+/// What a node keeps: the dynamic pipes, the opened static pipes, the hosts' registries and their sync identifiers (ETSI TS 102 622,
+/// sections 4.4 and 4.5; the sync identifiers are this project's own).
 #[derive(Debug, Drop, PartialEq, Eq)]
 pub struct Tables {
     pipes: PipeTable,
@@ -62,21 +63,21 @@ impl Tables {
         }
     }
 
-    /// The dynamic pipes.
+    /// The dynamic pipes (ETSI TS 102 622, section 4.4).
     pub fn pipes(&self) -> &PipeTable
         ensures { result.now ≡ self.now.rows }
     {
         &self.pipes
     }
 
-    /// The hosts' registries.
+    /// The hosts' registries (ETSI TS 102 622, section 4.5).
     pub fn registry(&self) -> &Registry
         ensures { result.now ≡ self.now.values }
     {
         &self.registry
     }
 
-    /// The opened static pipes, as pairs of host and pipe, sorted.
+    /// The opened static pipes, as pairs of host and pipe, sorted (ETSI TS 102 622, section 4.4).
     pub fn statics(&self) -> &[(u8, u8)]
         ensures statics { result.now ≡ self.now.statics }
         ensures sorted { AreRows static_place 0 16 self.now.statics }
@@ -84,7 +85,7 @@ impl Tables {
         self.statics.as_slice()
     }
 
-    /// The sync identifiers that are kept, as pairs of host and identifier, sorted.
+    /// The sync identifiers that are kept, as pairs of host and identifier, sorted. That they are kept is this project's own.
     pub fn syncs(&self) -> &[(u8, u16)]
         ensures syncs { result.now ≡ self.now.syncs }
         ensures sorted { AreRows sync_host 1 8 self.now.syncs }

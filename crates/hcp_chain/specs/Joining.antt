@@ -1,4 +1,4 @@
--- Joining packets into messages (ETSI TS 102 622, message fragmentation), one packet at a time: the messages under way,
+-- Joining packets into messages (ETSI TS 102 622, section 5.3), one packet at a time: the messages under way,
 -- each with its pipe, and what one more packet does to them. That at most four are under way, and that a message has at
 -- most 4,096 bytes, is this project's own.
 use Rattle.std.specs.Prelude.{ℕ, Bool, true, false, not, ◌&&◌, if◌then◌else◌, ◌==◌, nat_lt, nat_le, List, [], ◌∷◌, ◌++◌, length}

@@ -7,8 +7,8 @@ use arrayvec::ArrayVec;
 use block_pool::{Chain, Pool};
 use hcp_packet::{MAX_DATA, Packet};
 
-/// The packet of a message on a pipe that begins at place `from`: a multiple of 28 below the message's length. All but the
-/// last packet carry 28 bytes. It asks for a pipe that isn't reserved. Packets that are cut one after another cost the same
+/// The packet of a message on a pipe that begins at place `from`: a multiple of 28 below the message's length (ETSI TS 102 622, section
+/// 5.3). All but the last packet carry 28 bytes. It asks for a pipe that isn't reserved. Packets that are cut one after another cost the same
 /// each, wherever they lie in the message.
 pub fn cut(pool: &mut Pool, chain: &Chain, pipe: u8, from: u32) -> Packet
     requires live { IsLive pool.old chain.now }

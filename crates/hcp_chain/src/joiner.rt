@@ -18,7 +18,7 @@ pub enum ChainFault {
     MessageTooLong { len: u32 },
 }
 
-/// What a packet gives.
+/// What a packet gives (ETSI TS 102 622, section 5.3).
 #[derive(Drop)]
 pub enum Joined {
     /// Its message isn't whole yet.
@@ -29,14 +29,14 @@ pub enum Joined {
     Fault(ChainFault),
 }
 
-/// What has come of the message on a pipe.
+/// What has come of the message on a pipe (ETSI TS 102 622, section 5.3).
 #[derive(Default, Drop)]
 pub struct Open {
     pipe: u8,
     chain: Chain,
 }
 
-/// The messages that are partly received, at most four, each on a pipe of its own.
+/// The messages that are partly received, at most four, each on a pipe of its own (ETSI TS 102 622, section 5.3; four are this project's own).
 #[derive(Drop)]
 pub struct Joiner {
     owner: u8,
@@ -146,8 +146,8 @@ impl Joiner {
         Joined::Fault(fault)
     }
 
-    /// Takes a packet: what has come of its message is kept until its last packet. After a fault nothing is kept. It asks
-    /// that the joiner's owner has 512 blocks and uses none but those of the joiner's own chains.
+    /// Takes a packet: what has come of its message is kept until its last packet (ETSI TS 102 622, section 5.3). After a fault nothing is
+    /// kept. It asks that the joiner's owner has 512 blocks and uses none but those of the joiner's own chains.
     pub fn take(&mut self, pool: &mut Pool, packet: &Packet) -> Joined
         requires { IsJoinerReady pool.old self.old }
         ensures owner { self.new.owner ≡ self.old.owner }

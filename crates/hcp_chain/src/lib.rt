@@ -1,5 +1,5 @@
-//! Messages in chains of blocks: cut into packets, and joined from packets of any pipes mixed (ETSI TS 102 622, message
-//! fragmentation).
+//! Messages in chains of blocks: cut into packets, and joined from packets of any pipes mixed (ETSI TS 102 622,
+//! section 5.3).
 #![tactic(auto)]
 
 mod cutting;

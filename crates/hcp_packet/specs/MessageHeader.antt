@@ -1,4 +1,4 @@
--- The first byte of a message (ETSI TS 102 622, message structure): two bits type, six bits instruction.
+-- The first byte of a message (ETSI TS 102 622, section 5.2): two bits type, six bits instruction.
 use Rattle.std.specs.Prelude.{ℕ, ◌/◌, ◌%◌, List, [], ◌∷◌, Result, Ok, Err, if◌then◌else◌, ◌==◌}
 use Rattle.hcp_packet.specs.declared.MessageKind.{MessageKind}
 use Rattle.hcp_packet.specs.declared.MessageKind.TheVariants.{Command, Event, Response}

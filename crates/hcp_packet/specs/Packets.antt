@@ -1,4 +1,4 @@
--- The packets of a message and the messages of packets (ETSI TS 102 622, message fragmentation): plain functions on
+-- The packets of a message and the messages of packets (ETSI TS 102 622, section 5.3): plain functions on
 -- lists of bytes.
 use Rattle.std.specs.Prelude.{◌≡◌, ℕ, zero, suc, ◌+◌, ◌/◌, ◌%◌, ◌<◌, Bool, false, not, if◌then◌else◌, ◌==◌, nat_lt, nat_le, IsTrue, List, [], ◌∷◌, ◌++◌, length}
 use Rattle.std.specs.Prelude.{take, drop, map, Option, None, Some}

@@ -1,4 +1,4 @@
-//! What cutting into packets and joining again says of messages. Nothing here runs.
+//! What cutting into packets and joining again says of messages (ETSI TS 102 622, section 5.3). Nothing here runs.
 
 ghost use Rattle.std.specs.Prelude.{◌≡◌, ℕ, ◌*◌, ◌<◌, List, length, Some, slice_get};
 ghost use Rattle.hcp_packet.specs.Packets.{packets_of, packet_at, packet_count, packets_in, messages_of, fragments_of, good_messages_of, good_of, AreSendable};

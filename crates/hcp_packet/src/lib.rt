@@ -1,4 +1,4 @@
-//! Packets of the host controller protocol, and the first byte of a message (ETSI TS 102 622).
+//! Packets of the host controller protocol, and the first byte of a message (ETSI TS 102 622, sections 5.1 and 5.2).
 #![tactic(auto)]
 
 ghost use Rattle.std.specs.Prelude.{◌≡◌, ℕ, ◌<◌, ◌≤◌, ◌*◌, ◌+◌, ◌↔◌, ◌∷◌, List, length, Some, Ok, Err, IfOk, IfErr, IsOk, IsErr};
@@ -12,10 +12,10 @@ pub mod laws;
 /// The most data that a packet carries, in bytes. This project's own.
 pub const MAX_DATA: usize = 28;
 
-/// The first reserved pipe: pipes 70 to 7F carry no packets.
+/// The first reserved pipe: no pipe (ETSI TS 102 622, section 4.4) has the numbers 70 to 7F, and no packet goes there.
 pub const FIRST_RESERVED_PIPE: u8 = 0x70;
 
-/// A packet: a part of a message, with its header (ETSI TS 102 622, message fragmentation).
+/// A packet: a part of a message, with its header (ETSI TS 102 622, section 5.1).
 #[derive(Debug, PartialEq, Eq, Drop)]
 pub struct Packet {
     /// Whether it is the last or only packet of its message.
@@ -26,14 +26,14 @@ pub struct Packet {
     pub bytes: ArrayVec<u8, 28>,
 }
 
-/// Why bytes are no packet.
+/// Why bytes are no packet (ETSI TS 102 622, section 5.1).
 #[derive(Clone, Copy, Debug, PartialEq, Eq)]
 pub enum PacketFault {
     /// The header names a reserved pipe, 70 to 7F.
     ReservedPipe { pid: u8 },
 }
 
-/// The kind of a message (ETSI TS 102 622, message structure).
+/// The kind of a message (ETSI TS 102 622, section 5.2).
 #[derive(Clone, Copy, Debug, PartialEq, Eq)]
 pub enum MessageKind {
     Command,
@@ -41,7 +41,7 @@ pub enum MessageKind {
     Response,
 }
 
-/// Why bytes are no message.
+/// Why bytes are no message (ETSI TS 102 622, section 5.2).
 #[derive(Clone, Copy, Debug, PartialEq, Eq)]
 pub enum MessageFault {
     /// There is no first byte.
@@ -50,7 +50,7 @@ pub enum MessageFault {
     ReservedType,
 }
 
-/// Reads the packet that a fragment of 1 to 29 bytes is.
+/// Reads the packet that a fragment of 1 to 29 bytes is (ETSI TS 102 622, section 5.1).
 pub fn read_packet(info: &[u8]) -> Result<Packet, PacketFault>
     requires some { 0 < length info.now }
     requires fits { length info.now ≤ 29 }
@@ -80,7 +80,7 @@ fn data_of(bytes: &[u8]) -> ArrayVec<u8, 28>
     data
 }
 
-/// Writes a packet: its header and its data, 1 to 29 bytes. It asks for a pipe that isn't reserved.
+/// Writes a packet: its header and its data, 1 to 29 bytes (ETSI TS 102 622, section 5.1). It asks for a pipe that isn't reserved.
 pub fn write_packet(packet: &Packet) -> ArrayVec<u8, 32>
     requires { packet.now.pipe < 112 }
     ensures written { result.items ≡ packet_bytes packet.now }
@@ -94,7 +94,7 @@ pub fn write_packet(packet: &Packet) -> ArrayVec<u8, 32>
     bytes
 }
 
-/// The kind and the instruction (0 to 3F) that the first byte of a message says.
+/// The kind and the instruction (0 to 3F) that the first byte of a message says (ETSI TS 102 622, section 5.2).
 pub fn read_header(message: &[u8]) -> Result<(MessageKind, u8), MessageFault>
     ensures header { result ≡ header_of message.now }
     ensures empty { result ≡ Err MessageFault.Empty ↔ (length message.now ≡ 0) }
@@ -112,7 +112,7 @@ pub fn read_header(message: &[u8]) -> Result<(MessageKind, u8), MessageFault>
     }
 }
 
-/// The first byte of a message of this kind with this instruction, which is 0 to 3F.
+/// The first byte of a message of this kind with this instruction, which is 0 to 3F (ETSI TS 102 622, section 5.2).
 pub fn write_header(kind: MessageKind, instruction: u8) -> u8
     requires { instruction < 64 }
     ensures written { result ≡ type_bits_of kind * 64 + instruction }

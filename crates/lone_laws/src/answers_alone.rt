@@ -14,11 +14,13 @@ ghost use Rattle.lone_laws.specs.alone.Answers.{entries_of_events_alone};
 ghost use Rattle.lone_laws.specs.alone.Lone.{lone_after};
 ghost use Rattle.lone_laws.specs.alone.Memories.{IsHeldBehind, commands_of_entries};
 
-/// A node boots over a memory that may hold anything, with one link: it is the controller with a host of 01 to 07, or such a host.
-/// Whatever comes to its end then, frames of any bytes, frames that are refused, ticks, resets, starts and stops: messages have their turns
-/// in order, each is replied to exactly as is read of what was noted before, or is held for the blocks that are read to lack; behind each
-/// event all have had their turns up to one that is held and lacks room; outside of turns only what is due is answered; and sessions end
-/// by resets exactly where they are asked for. So it is with the node of `end`, over any bytes of a line or of a byte link.
+/// A node boots over a memory that isn't of version 01, whatever else it holds, with one link: it is the controller with a host of 01 to
+/// 07, or such a host. Whatever comes to its end then, frames of any bytes, frames that are refused, ticks, resets, starts and stops:
+/// messages have their turns in order, each is replied to exactly as is read of what was noted before, or is held for the blocks that are
+/// read to lack; behind each event all have had their turns up to one that is held and lacks room; outside of turns only what is due is
+/// answered; and sessions end by resets exactly where they are asked for. So it is with the node of `end`, over any bytes of a line or of a
+/// byte link. Of version 01 nothing is said: a boot writes such a memory anew, as version 02, and its node isn't the one (`found`) of these
+/// clauses.
 pub fn a_node_alone_answers_every_message()
     ensures answered { (number link : ℕ) (m : Memory) → 1 ≤ link → link ≤ 7 → ((number == 0) ≡ false → number ≡ link) → (causes : List LoneCause) →
         AnsweredAlone (found number (link ∷ []) m.content).core link (lone_events (lone_booted number link m) causes) }

@@ -15,7 +15,8 @@ use trace_model::Watch;
 /// The most bytes of a message. This project's own.
 const MESSAGE: usize = 4096;
 
-/// A controller that runs. Contracts see it as its node: the buffer keeps nothing from one call to the next.
+/// A controller that runs, a host controller of ETSI TS 102 622, section 4.2. Contracts see it as its node: the buffer keeps nothing from
+/// one call to the next. Its calls are this project's own.
 #[derive(Drop)]
 pub struct Controller<N: Nv + Drop> {
     node: Node<N>,
@@ -139,8 +140,8 @@ impl<N: Nv + Drop> Controller<N> {
         how_it_ran(live)
     }
 
-    /// The link with this host is reset, with this window, which is 1 to 4, or with the end's own one. Every frame of the step before was
-    /// fetched.
+    /// The link with this host is reset (ETSI TS 102 613, section 10.7), with this window, which is 1 to 4, or with the end's own one.
+    /// Every frame of the step before was fetched.
     ///
     /// # Errors
     ///
@@ -176,8 +177,8 @@ impl<N: Nv + Drop> Controller<N> {
         }
     }
 
-    /// Activation begins anew at the link with this host, with this power mode, which is 00 or 01. Every frame of the step before was
-    /// fetched.
+    /// Activation begins anew at the link with this host (ETSI TS 102 613, section 9.4), with this power mode, which is 00 or 01.
+    /// Every frame of the step before was fetched.
     pub fn activate<W: Watch>(&mut self, host: u8, power: u8, watch: &mut W) -> Ran
         requires may { MayStep self.old }
         requires power { power ≤ 1 }
@@ -212,7 +213,7 @@ impl<N: Nv + Drop> Controller<N> {
         how_it_ran(live)
     }
 
-    /// A frame on its way from this host was refused: one more for REC_ERROR of its link, which stops at FFFF.
+    /// A frame on its way from this host was refused: one more for REC_ERROR of its link (ETSI TS 102 622, section 7.1), which stops at FFFF.
     pub fn refused(&mut self, host: u8)
         requires runs { (core : Core) × (ports : List Port) × RunsAs self.old core ports }
         ensures runs { (core : Core) (ports : List Port) → RunsAs self.old core ports → RunsAs self.new core (with_port host one_more_error ports) }

@@ -117,7 +117,7 @@ impl<N: Nv + Drop> Node<N> {
         }
     }
 
-    /// A host sends a message, which isn't empty, on a pipe that isn't reserved.
+    /// A host sends a message, which isn't empty, on a pipe that isn't reserved (ETSI TS 102 622, section 5).
     ///
     /// # Errors
     ///
@@ -171,7 +171,8 @@ impl<N: Nv + Drop> Node<N> {
         });
     }
 
-    /// A host begins an init, with the identity that it is to set and at most eight pipes that it is to make: its first command is sent.
+    /// A host begins an init, with the identity that it is to set and at most eight pipes that it is to make: its first command is sent (ETSI
+    /// TS 102 622, section 8.4; what an init makes is this project's own).
     ///
     /// # Errors
     ///

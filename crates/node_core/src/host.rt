@@ -15,7 +15,8 @@ use trace_model::Watch;
 /// The most bytes of a message. This project's own.
 const MESSAGE: usize = 4096;
 
-/// A host that runs. Contracts see it as its node: the buffer keeps nothing from one call to the next.
+/// A host that runs, of ETSI TS 102 622, section 4.2. Contracts see it as its node: the buffer keeps nothing from one call to the next. Its
+/// calls are this project's own.
 #[derive(Drop)]
 pub struct Host<N: Nv + Drop> {
     node: Node<N>,
@@ -146,8 +147,8 @@ impl<N: Nv + Drop> Host<N> {
         how_it_ran(live)
     }
 
-    /// The link is reset, with this window, which is 1 to 4, or with the end's own one. Nothing is committed. Every frame of the step before
-    /// was fetched.
+    /// The link is reset (ETSI TS 102 613, section 10.7), with this window, which is 1 to 4, or with the end's own one. Nothing is committed.
+    /// Every frame of the step before was fetched.
     ///
     /// # Errors
     ///
@@ -182,7 +183,8 @@ impl<N: Nv + Drop> Host<N> {
         }
     }
 
-    /// Activation begins anew at the link, with this sync identifier. Nothing is committed. Every frame of the step before was fetched.
+    /// Activation begins anew at the link (ETSI TS 102 613, section 9.4), with this sync identifier. Nothing is committed. Every frame of the
+    /// step before was fetched.
     pub fn activate<W: Watch>(&mut self, sync: u16, watch: &mut W)
         requires may { MayStep self.old }
         ensures stepped { (start : List Noted) (w : Work) → BeginsStep self.old (W.noted watch.old) (W.is_short watch.old) start w
@@ -218,7 +220,7 @@ impl<N: Nv + Drop> Host<N> {
         self.node.end_step();
     }
 
-    /// A frame on its way from the controller was refused: one more for REC_ERROR, which stops at FFFF.
+    /// A frame on its way from the controller was refused: one more for REC_ERROR (ETSI TS 102 622, section 7.1), which stops at FFFF.
     pub fn refused(&mut self)
         requires runs { (core : Core) × (ports : List Port) × RunsAs self.old core ports }
         ensures runs { (core : Core) (ports : List Port) → RunsAs self.old core ports
@@ -244,7 +246,7 @@ impl<N: Nv + Drop> Host<N> {
         self.node.next_out(host)
     }
 
-    /// A message, which isn't empty, is sent on a pipe that isn't reserved. Nothing is committed.
+    /// A message, which isn't empty, is sent on a pipe that isn't reserved (ETSI TS 102 622, section 5). Nothing is committed.
     ///
     /// # Errors
     ///
@@ -277,8 +279,8 @@ impl<N: Nv + Drop> Host<N> {
         Ok(())
     }
 
-    /// An init begins, with the identity that it is to set and at most eight pipes that it is to make: its first command is sent. Nothing is
-    /// committed.
+    /// An init begins, with the identity that it is to set and at most eight pipes that it is to make: its first command is sent (ETSI TS
+    /// 102 622, section 8.4; what an init makes is this project's own). Nothing is committed.
     ///
     /// # Errors
     ///

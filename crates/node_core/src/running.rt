@@ -55,7 +55,8 @@ impl<N: Nv + Drop> Node<N> {
         }
     }
 
-    /// A frame on its way to the end of the link with this host was refused: one more for REC_ERROR, which stops at FFFF.
+    /// A frame on its way to the end of the link with this host was refused: one more for REC_ERROR (ETSI TS 102 622,
+    /// section 7.1), which stops at FFFF.
     pub fn refused(&mut self, host: u8)
         requires runs { (core : Core) × (ports : List Port) × RunsAs self.old core ports }
         ensures runs { (core : Core) (ports : List Port) → RunsAs self.old core ports → RunsAs self.new core (with_port host one_more_error ports) }

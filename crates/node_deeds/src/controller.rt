@@ -29,7 +29,8 @@ pub(crate) const GATES: [u8; 2] = [LOOPBACK_GATE, IDENTITY_GATE];
 
 /// What a controller does with a message of a host is put into a list, which is empty, in order. It asks for a store that was started
 /// and may be used, at most seven desks, a host from 01 to 07 and a pipe that isn't reserved. In the mask `up` bit h stands for host h:
-/// its link is up. The store stays as it is.
+/// its link is up. The store stays as it is (ETSI TS 102 622, sections 6.1 and 8.1; that relays, creations that wait and room are looked at in
+/// this order is this project's own).
 pub fn put_controller_deeds<N: Nv + Drop>(
     deeds: &mut Deeds,
     store: &mut Store<N>,

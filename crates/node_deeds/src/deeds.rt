@@ -7,10 +7,10 @@ use gate_answers::{ADM_NOTIFY_PIPE_CREATED, Answer, Notice, notice};
 use hci_tables::Command;
 use pipe_table::PipeRow;
 
-/// A command of an init, a whole message: at most ten bytes.
+/// A command of an init, a whole message: at most ten bytes. This project's own.
 pub type Order = ArrayVec<u8, 10>;
 
-/// How an init ends.
+/// How an init ends. This project's own.
 #[derive(Clone, Copy)]
 pub enum InitEnd {
     /// The controller kept the same identity.
@@ -21,7 +21,7 @@ pub enum InitEnd {
     Failed { code: u8 },
 }
 
-/// One of the things that a node does with a message.
+/// One of the things that a node does with a message. This project's own.
 #[derive(Drop)]
 pub enum Deed {
     /// A command is committed.
@@ -61,7 +61,7 @@ impl Default for Deed {
 }
 
 /// The deeds of one message, in order: at most nine. A controller that clears the pipes of a host commits that, answers, says so, and
-/// tells up to six others.
+/// tells up to six others. This project's own.
 pub type Deeds = ArrayVec<Deed, 9>;
 
 /// No deed but this one is done.
@@ -85,7 +85,7 @@ pub(crate) fn ends_of(row: &PipeRow) -> [u8; 5]
     ]
 }
 
-/// The notice by which a host is asked for a pipe: six bytes.
+/// The notice by which a host is asked for a pipe: ADM_NOTIFY_PIPE_CREATED, six bytes (ETSI TS 102 622, section 6.1).
 pub fn asking_notice(row: &PipeRow) -> Notice
     ensures { result.items ≡ 18 ∷ ends_of row.now }
 {

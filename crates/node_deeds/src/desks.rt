@@ -4,7 +4,7 @@ ghost use Rattle.node_deeds.specs.Desks.{desk_of};
 
 use pipe_table::PipeRow;
 
-/// What a notice is about.
+/// What a notice is about (ETSI TS 102 622, section 6.1).
 #[derive(Clone, Copy)]
 pub enum About {
     /// A creation that waits for the answer of the host that is asked: the pipe to be made, which its creator asked for.
@@ -15,7 +15,7 @@ pub enum About {
     Removed,
 }
 
-/// A notice that isn't answered.
+/// A notice that isn't answered. That an answer is awaited for 100 ticks is this project's own.
 #[derive(Clone, Copy)]
 pub struct Unanswered {
     pub about: About,
@@ -23,7 +23,7 @@ pub struct Unanswered {
     pub age: u8,
 }
 
-/// What a node keeps of one of its ends beside the end itself.
+/// What a node keeps of one of its ends beside the end itself. This project's own.
 #[derive(Clone, Copy, Default)]
 pub struct Desk {
     /// The host of the link.

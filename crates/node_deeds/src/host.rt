@@ -32,7 +32,7 @@ use swp_base::Nv;
 /// The pipe on which the two ends of a link talk about the link itself.
 const LINK_PIPE: u8 = 0x00;
 
-/// What a host has under way.
+/// What a host has under way. This project's own.
 #[derive(Drop)]
 pub struct Tasks {
     /// The last command on pipe 01 without a response.
@@ -42,7 +42,8 @@ pub struct Tasks {
 }
 
 /// What a host does with a message is put into a list, which is empty, in order. It asks for a store that was started and may be used,
-/// a desk of a host from 01 to 07, which is the host's own number, and a pipe that isn't reserved. The store stays as it is.
+/// a desk of a host from 01 to 07, which is the host's own number, and a pipe that isn't reserved. The store stays as it is (ETSI TS 102 622,
+/// sections 6 to 8; what a host notes for itself is this project's own).
 pub fn put_host_deeds<N: Nv + Drop>(
     deeds: &mut Deeds,
     store: &mut Store<N>,

@@ -11,7 +11,7 @@ use gate_answers::{
 };
 use registry::SESSION_IDENTITY;
 
-/// An init that runs at a host.
+/// An init that runs at a host, for a session initialization (ETSI TS 102 622, section 8.4; what it makes is this project's own).
 #[derive(Drop)]
 pub struct Init {
     /// The identity to be set.
@@ -22,7 +22,7 @@ pub struct Init {
     pub answered: u8,
 }
 
-/// What the last command was that a host sent on pipe 01, as far as its answer needs it.
+/// What the last command was that a host sent on pipe 01, as far as its answer needs it. This project's own.
 #[derive(Clone, Copy)]
 pub enum Ordered {
     /// A pipe is to be created.
@@ -35,7 +35,7 @@ pub enum Ordered {
     Other,
 }
 
-/// What a command of a host asks for.
+/// What a command of a host asks for (ETSI TS 102 622, section 6.1).
 pub fn ordered_by(command: &[u8]) -> Ordered
     ensures { result ≡ ordered_by command.now }
 {

@@ -1,5 +1,5 @@
-//! What a node does with a message, a controller or a host, as a short list of deeds, and which blocks they need (ETSI TS 102 622).
-//! Nothing is carried out here.
+//! What a node does with a message, a controller or a host, as a short list of deeds, and which blocks they need (ETSI TS 102 622,
+//! sections 6 to 8; deeds and blocks are this project's own). Nothing is carried out here.
 #![tactic(auto)]
 
 mod answering;

@@ -10,7 +10,7 @@ use crate::deeds::{Deed, asking_notice};
 /// How many bytes of a message a block holds.
 const BLOCK_BYTES: usize = 32;
 
-/// Deeds lack blocks at the end of a link: so many are needed, and so many are spare.
+/// Deeds lack blocks at the end of a link: so many are needed, and so many are spare. This project's own.
 #[derive(Clone, Copy)]
 pub struct Shortfall {
     pub need: u16,
@@ -18,7 +18,7 @@ pub struct Shortfall {
 }
 
 /// The first need of the deeds for a message of this length, which came from this host, that is above what is spare at its end. What
-/// is spare stands in `spares` by the host of the link, 0 where there is no such link. A message has at most 4,096 bytes.
+/// is spare stands in `spares` by the host of the link, 0 where there is no such link. A message has at most 4,096 bytes. This project's own.
 pub fn lack(deeds: &[Deed], host: u8, len: usize, spares: &[u16]) -> Option<Shortfall>
     requires { len ≤ 4096 }
     ensures { (a : Handling) (ports : List Port) → length a.message.1 ≡ len → AreSpares spares.now ports

@@ -27,7 +27,8 @@ pub struct StartRefused<N> {
     pub fault: JournalFault,
 }
 
-/// A pass over the records of a memory, from the first to the last. It reads each byte of the bank in use at most once, in pieces.
+/// A pass over the records of a memory, from the first to the last. Up to the first that fails it makes at most 37
+/// reads: two for the heads of the banks, and 35 at most for the records, in pieces of at most 960 bytes.
 /// Contracts see the memory, what is known of it so far, the bytes that were read and not passed, and whether the pass has ended.
 #[derive(Drop)]
 pub struct Scan<N: Nv + Drop> {
@@ -49,7 +50,7 @@ impl<N: Nv + Drop> Model for Scan<N> {
 }
 
 impl<N: Nv + Drop> Scan<N> {
-    /// Reads the heads of both banks. A memory whose bank in use has an unknown version is refused.
+    /// Reads the heads of both banks, by two reads. A memory whose bank in use has an unknown version is refused.
     pub fn open(nv: N) -> Result<Self, StartRefused<N>>
         requires { N.capacity nv ≡ 65536 }
         ensures read { IfOk result (λ s. IsReadSoFar N.reads nv s) }
@@ -89,7 +90,7 @@ impl<N: Nv + Drop> Scan<N> {
         })
     }
 
-    /// Passes all records of a memory. One whose bank in use has an unknown version or a bad record is refused.
+    /// Passes all records of a memory, by at most 37 reads. One whose bank in use has an unknown version or a bad record is refused.
     pub fn whole(nv: N) -> Result<Self, StartRefused<N>>
         requires { N.capacity nv ≡ 65536 }
         ensures ended { IfOk result (λ s. IsTrue s.ended) }

@@ -1,4 +1,4 @@
--- The pipes that a host controller keeps (ETSI TS 102 622, pipes and gates): a list of rows sorted by pipe, no pipe twice.
+-- The pipes that a host controller keeps (ETSI TS 102 622, section 4.4): a list of rows sorted by pipe, no pipe twice.
 use Rattle.std.specs.Prelude.{ℕ, ◌≤◌, ◌<◌, Bool, false, not, ◌&&◌, ◌||◌, ◌==◌, if◌then◌else◌, List, map, count_by, Option, is_none}
 use Rattle.std.specs.List.{find, filter, list_any, range_with_len}
 use Rattle.sorted_rows.specs.Rows.{AreRows, row_of, with_row, without_row}

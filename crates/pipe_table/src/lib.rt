@@ -1,4 +1,4 @@
-//! The pipes that a host controller keeps (ETSI TS 102 622, pipes and gates).
+//! The pipes that a host controller keeps (ETSI TS 102 622, section 4.4).
 #![tactic(auto)]
 
 mod row;

@@ -1,12 +1,12 @@
 //! One pipe.
 
-/// The least number of a dynamic pipe.
+/// The least number of a dynamic pipe (ETSI TS 102 622, section 4.4).
 pub const FIRST_DYNAMIC: u8 = 0x02;
 
-/// The first number that no pipe has: dynamic pipes are 02 to 6F.
+/// The first number that no pipe has: dynamic pipes (ETSI TS 102 622, section 4.4) are 02 to 6F.
 pub const FIRST_RESERVED: u8 = 0x70;
 
-/// A dynamic pipe: it joins a gate of the host that created it to a gate of another host.
+/// A dynamic pipe: it joins a gate of the host that created it to a gate of another host (ETSI TS 102 622, section 4.4).
 #[derive(Clone, Copy, Debug, Default, PartialEq, Eq)]
 pub struct PipeRow {
     /// The pipe, 02 to 6F.

@@ -8,10 +8,10 @@ use arrayvec::ArrayVec;
 use std::alloc::AllocError;
 use std::marker::Model;
 
-/// The most dynamic pipes: 02 to 6F.
+/// The most dynamic pipes (ETSI TS 102 622, section 4.4): 02 to 6F.
 pub const MOST_PIPES: usize = 110;
 
-/// The dynamic pipes that a node keeps. Contracts see the list of its rows, which is sorted by pipe.
+/// The dynamic pipes that a node keeps (ETSI TS 102 622, section 4.4). Contracts see the list of its rows, which is sorted by pipe.
 #[derive(Debug, Drop, PartialEq, Eq)]
 pub struct PipeTable {
     rows: ArrayVec<PipeRow, 110>,
@@ -111,7 +111,8 @@ impl PipeTable {
         count as u8
     }
 
-    /// The least dynamic pipe that is neither in a row nor in `kept`: none exactly where there is none.
+    /// The least dynamic pipe that is neither in a row nor in `kept`: none exactly where there is none. That the least one is given is this
+    /// project's own.
     #[tactic(auto, unfolding(crate::specs::PipeRows::lowest_free))]
     pub fn lowest_free(&self, kept: &[u8]) -> Option<u8>
         ensures lowest { result ≡ lowest_free self.now kept.now }

@@ -1,4 +1,4 @@
--- Which parameters the gates have (ETSI TS 102 622, registries).
+-- Which parameters the gates have (ETSI TS 102 622, sections 4.5 and 7.1).
 use Rattle.std.specs.Prelude.{ℕ, ◌&&◌, ◌==◌, List, [], ◌∷◌}
 use Rattle.std.specs.List.{find}
 use Rattle.std.specs.Option.{option_map_or}

@@ -1,4 +1,4 @@
--- The registry of the administration gate (ETSI TS 102 622, registries): what a host controller keeps of it for each host.
+-- The registry of the administration gate (ETSI TS 102 622, sections 4.5 and 7.1): what a host controller keeps of it for each host.
 use Rattle.std.specs.Prelude.{ℕ, ◌+◌, ◌*◌, ◌/◌, Bool, not, ◌&&◌, ◌||◌, ◌==◌, nat_le, if◌then◌else◌, IsTrue, List, [], length, replicate}
 use Rattle.std.specs.List.{filter, list_all, AllByRecursion}
 use Rattle.std.specs.Option.{option_map_or}

@@ -2,7 +2,7 @@
 ghost use Rattle.std.specs.Prelude.{◌≡◌};
 ghost use Rattle.registry.specs.Access.{access_of};
 
-/// What a command may do with a parameter.
+/// What a command may do with a parameter (ETSI TS 102 622, section 7.1).
 #[derive(Clone, Copy, Debug, PartialEq, Eq)]
 pub enum Access {
     /// The gate has no such parameter.
@@ -13,8 +13,8 @@ pub enum Access {
     ReadWrite,
 }
 
-/// What a command may do with a parameter of a gate (ETSI TS 102 622, registries of the administration, identity and link
-/// management gates): Unknown exactly where the gate has no such parameter.
+/// What a command may do with a parameter of a gate (ETSI TS 102 622, sections 7.1 and 8.2): Unknown exactly where the gate has no
+/// such parameter.
 pub fn access_of(gate: u8, param: u8) -> Access
     ensures { result ≡ access_of gate param }
 {

@@ -1,5 +1,5 @@
 //! The registries of a host's gates: which parameters there are, and what is kept of them for each host (ETSI TS 102 622,
-//! registries).
+//! sections 4.5 and 7.1).
 #![tactic(auto)]
 
 mod access;

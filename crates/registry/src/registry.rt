@@ -9,12 +9,12 @@ use arrayvec::ArrayVec;
 use std::alloc::AllocError;
 use std::marker::Model;
 
-/// The most values that are kept: two for each of seven hosts.
+/// The most values that are kept: two for each of seven hosts. This project's own.
 pub const MOST_VALUES: usize = 14;
 
-/// What a node keeps of the hosts' registries: SESSION_IDENTITY and WHITELIST of each host's administration gate. A value
-/// equal to its default is absent. Contracts see the list of the values that are present, in the order of hosts and
-/// parameters.
+/// What a node keeps of the hosts' registries: SESSION_IDENTITY and WHITELIST of each host's administration gate (ETSI TS 102 622,
+/// sections 4.5 and 7.1). A value equal to its default is absent. Contracts see the list of the values that are present, in the order
+/// of hosts and parameters.
 #[derive(Debug, Drop, PartialEq, Eq)]
 pub struct Registry {
     values: ArrayVec<RegValue, 14>,
@@ -57,7 +57,7 @@ impl Registry {
         self.values.as_slice()
     }
 
-    /// The value of a parameter. It asks for a host from 01 to 07 and SESSION_IDENTITY or WHITELIST of gate 00.
+    /// The value of a parameter (ETSI TS 102 622, section 8.2). It asks for a host from 01 to 07 and SESSION_IDENTITY or WHITELIST of gate 00.
     pub fn get(&self, host: u8, gate: u8, param: u8) -> ArrayVec<u8, 20>
         requires { IsTrue (is_kept host gate param) }
         ensures { result.items ≡ value_at self.now host gate param }
@@ -69,7 +69,8 @@ impl Registry {
         }
     }
 
-    /// Sets a parameter. It asks for a host from 01 to 07, SESSION_IDENTITY or WHITELIST of gate 00, and at most 20 bytes.
+    /// Sets a parameter (ETSI TS 102 622, section 8.2). It asks for a host from 01 to 07, SESSION_IDENTITY or WHITELIST of gate 00, and at most
+    /// 20 bytes.
     pub fn set(&mut self, host: u8, gate: u8, param: u8, value: &[u8])
         requires kept { IsTrue (is_kept host gate param) }
         requires sized { length value.now ≤ 20 }

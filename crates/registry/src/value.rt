@@ -2,19 +2,19 @@
 use arrayvec::ArrayVec;
 use std::alloc::AllocError;
 
-/// The parameter SESSION_IDENTITY of the administration gate: eight bytes.
+/// The parameter SESSION_IDENTITY of the administration gate: eight bytes (ETSI TS 102 622, section 7.1).
 pub const SESSION_IDENTITY: u8 = 0x01;
 
-/// The parameter MAX_PIPE of the administration gate.
+/// The parameter MAX_PIPE of the administration gate (ETSI TS 102 622, section 7.1).
 pub const MAX_PIPE: u8 = 0x02;
 
-/// The parameter WHITELIST of the administration gate: the hosts that may create pipes to this one.
+/// The parameter WHITELIST of the administration gate: the hosts that may create pipes to this one (ETSI TS 102 622, section 7.1).
 pub const WHITELIST: u8 = 0x03;
 
-/// The parameter HOST_LIST of the administration gate.
+/// The parameter HOST_LIST of the administration gate (ETSI TS 102 622, section 7.1).
 pub const HOST_LIST: u8 = 0x04;
 
-/// A parameter that isn't at its default.
+/// A parameter that isn't at its default (ETSI TS 102 622, section 4.5).
 #[derive(Debug, Default, Drop, PartialEq, Eq)]
 pub struct RegValue {
     /// The host, 01 to 07.

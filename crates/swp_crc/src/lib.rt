@@ -1,5 +1,5 @@
 //! The 16-bit CRC of a frame: division of its bits by x^16 + x^12 + x^5 + 1, most significant bit first, the first 16
-//! bits and the remainder complemented (ETSI TS 102 613, section 7; start value, bit order and complement are this
+//! bits and the remainder complemented (ETSI TS 102 613, section 9.2; start value, bit order and complement are this
 //! project's own).
 #![tactic(auto)]
 
@@ -12,7 +12,7 @@ ghost use Rattle.swp_crc.specs.Crc.{crc_of};
 pub use register::Register;
 pub use table::entry;
 
-/// The CRC of these bytes.
+/// The CRC of these bytes (ETSI TS 102 613, section 9.2).
 pub fn crc(bytes: &[u8]) -> u16
     ensures { result ≡ crc_of bytes.now }
 {

@@ -6,7 +6,7 @@ ghost use Rattle.swp_crc.specs.Running.{running_of};
 use crate::table::{entry, entry_before_one, entry_before_three, entry_before_two};
 use std::marker::Model;
 
-/// The CRC of the bytes pushed so far.
+/// The CRC of the bytes pushed so far (ETSI TS 102 613, section 9.2).
 #[derive(Clone, Copy)]
 pub struct Register {
     remainder: u16,

@@ -106,7 +106,7 @@ static ENTRIES_BEFORE_THREE: [u16; 256] = [
     0xD07F, 0xA6CB, 0x3D17, 0x4BA3,
 ];
 
-/// What is left of the eight bits of a byte before 16 zeros, divided by the polynomial: nothing is complemented.
+/// What is left of the eight bits of a byte before 16 zeros, divided by the polynomial: nothing is complemented. This project's own.
 #[inline]
 pub fn entry(byte: u8) -> u16
     ensures { result ≡ table_entry byte }

@@ -25,7 +25,7 @@ const END_ONES: u32 = 6;
 const MOST_TOLD: u32 = 65_535;
 
 /// The bits that were read since the start of the frame, without those put in. What stands at the end of the frame is among
-/// them.
+/// them. This project's own.
 #[derive(Drop)]
 pub struct Content {
     /// The bytes of the whole words of 64 bits.

@@ -9,7 +9,7 @@ use swp_base::FrameFault;
 /// The length of a start of frame's run of 1 bits; one more ends a frame.
 const START_ONES: u8 = 6;
 
-/// Finds the frames in the bits of one direction of a line. It takes no memory, however long a frame is.
+/// Finds the frames in the bits of one direction of a line (ETSI TS 102 613, section 9.2). It takes no memory, however long a frame is.
 ///
 /// A run of exactly six 1 bits and a 0 behind it starts a frame, and the seventh 1 bit in a row ends one. The bits are
 /// read as if one 0 stood before them and after each break. A start of frame inside an open frame refuses this frame as

@@ -1,7 +1,7 @@
 //! What a deframer answers.
 use swp_base::{FrameFault, Lpdu};
 
-/// What one bit or break gave.
+/// What one bit or break gave. This project's own.
 #[derive(Debug, Drop, PartialEq, Eq)]
 pub enum Fed {
     /// No frame ended here.

@@ -12,14 +12,14 @@ const START_OF_FRAME: [bool; 8] = [false, true, true, true, true, true, true, fa
 /// The end of a frame, EOF.
 const END_OF_FRAME: [bool; 8] = [false, true, true, true, true, true, true, true];
 
-/// The bits of one frame in the order in which they are sent, at most 323.
+/// The bits of one frame in the order in which they are sent (ETSI TS 102 613, section 9.2), at most 323.
 #[derive(Drop)]
 pub struct FrameBits {
     pub bits: ArrayVec<bool, 336>,
 }
 
 /// The frame of an LPDU, in the one spelling that this project writes: a 0 is put in after each five 1 bits in a row of the
-/// LPDU and its CRC, also where the fifth is the last bit (ETSI TS 102 613, section 7; the latter is this project's own).
+/// LPDU and its CRC, also where the fifth is the last bit (ETSI TS 102 613, section 9.2; the latter is this project's own).
 pub fn write_frame(lpdu: &Lpdu) -> FrameBits
     ensures frame { result.bits.items ≡ frame_of lpdu.now }
     ensures sized { length result.bits.items ≤ 323 }

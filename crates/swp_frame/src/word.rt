@@ -1,4 +1,4 @@
-//! Sixty-four bits at once.
+//! Sixty-four bits at once. All of it is this project's own.
 ghost use Rattle.std.specs.Prelude.{ℕ, List, ◌≡◌, ◌≤◌, ◌<◌, ◌+◌, ◌-◌, ◌/◌, ◌%◌, ◌^◌, ◌++◌, min, take, drop, reverse};
 ghost use Rattle.swp_frame.specs.Signal.{Symbol, run_of, unstuffed, read_on};
 

@@ -1,4 +1,4 @@
--- Whitelists (ETSI TS 102 622, registry of the administration gate).
+-- Whitelists (ETSI TS 102 622, section 7.1).
 use Rattle.std.specs.Prelude.{ℕ, Bool, true, not, ◌&&◌, ◌==◌, nat_le, List, [], ◌∷◌, length}
 use Rattle.std.specs.List.{list_any}
 
