@@ -35,7 +35,9 @@ class Crate:
         for path in sorted(self.sources, key=lambda p: (p in ("lib.rt", "main.rt"), -p.count("/"), p)):
             is_root = path in ("lib.rt", "main.rt")
             text, kept = self.sources[path].written(laws, gone, root_header if is_root else "")
-            if kept or is_root and self.texts:
+            # a crate may do no more than hand on what others have
+            hands_on = is_root and set(re.findall(r"(?m)^pub use (\w+)::", text)) & set(self.below)
+            if kept or hands_on or is_root and self.texts:
                 self.texts[path[:-3] + ".rs"] = text
             else:
                 gone.add(os.path.basename(path)[:-3])
