@@ -126,11 +126,10 @@ fn message_of_4096(rt: &impl Abort, alloc: Global) -> (Pool, Chain)
 }
 
 /// Of a packet of the message, counted from 0, this is shown: whether it is the last one, and how many bytes it carries.
-fn is_cut(rt: &impl Abort, pool: &mut Pool, chain: &Chain, at: u32, shown: (bool, usize))
-    requires live { IsLive pool.old chain.now }
-    requires bytes { length (chain_bytes pool.old chain.now) ≡ 4096 }
+fn is_cut(rt: &impl Abort, pool: &Pool, chain: &Chain, at: u32, shown: (bool, usize))
+    requires live { IsLive pool.now chain.now }
+    requires bytes { length (chain_bytes pool.now chain.now) ≡ 4096 }
     requires within { at < 147 }
-    ensures { pool.new ≡ pool.old }
 {
     let packet = cut(pool, chain, 2, 28 * at);
     same(rt, &(packet.last, packet.bytes.len()), &shown);
@@ -138,9 +137,9 @@ fn is_cut(rt: &impl Abort, pool: &mut Pool, chain: &Chain, at: u32, shown: (bool
 
 #[test]
 fn a_long_message_is_cut(rt: HostRuntime) {
-    let (mut pool, chain) = message_of_4096(&rt, rt.alloc());
+    let (pool, chain) = message_of_4096(&rt, rt.alloc());
     for at in 0..146u32 {
-        is_cut(&rt, &mut pool, &chain, at, (false, 28));
+        is_cut(&rt, &pool, &chain, at, (false, 28));
     }
-    is_cut(&rt, &mut pool, &chain, 146, (true, 8));
+    is_cut(&rt, &pool, &chain, 146, (true, 8));
 }

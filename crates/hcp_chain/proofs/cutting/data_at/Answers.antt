@@ -5,10 +5,10 @@ use Rattle.block_pool.specs.Pool.{chain_bytes}
 use Rattle.hcp_chain.proofs.CutLemmas.{data_is}
 use Rattle.hcp_chain.proofs.cutting.data_at.Goals as goal
 
-pub returns-clause-data : goal.returns-clause-data
-returns-clause-data c =
-    let count = c.copy_on-count.result in
+pub returns : goal.returns
+returns c =
+    let count = c.copy_out-count.result in
     let bytes = chain_bytes c.args.pool.now c.args.chain.now in
-    let copied : take count c.copy_on-count.new.out ≡ take 28 (drop c.args.from bytes) =
-    ap (take count) c.copy_on-count.ensures.copied ∙ data_is bytes (drop count (replicate 28 0)) c.args.from count c.copy_on-count.ensures.count in
+    let copied : take count c.copy_out-count.new.out ≡ take 28 (drop c.args.from bytes) =
+    ap (take count) c.copy_out-count.ensures.copied ∙ data_is bytes (drop count (replicate 28 0)) c.args.from count c.copy_out-count.ensures.count in
     grind (arith, common_steps, copied)
