@@ -81,7 +81,7 @@ fn data_of(bytes: &[u8]) -> ArrayVec<u8, 28>
 }
 
 /// Writes a packet: its header and its data, 1 to 29 bytes (ETSI TS 102 622, section 5.1). It asks for a pipe that isn't reserved.
-pub fn write_packet(packet: &Packet) -> ArrayVec<u8, 32>
+pub fn write_packet(packet: &Packet) -> ArrayVec<u8, 29>
     requires { packet.now.pipe < 112 }
     ensures written { result.items ≡ packet_bytes packet.now }
     ensures short { (1 ≤ length result.items) × (length result.items ≤ 29) }

@@ -11,7 +11,7 @@ use std::marker::Model;
 /// section 9). It has 1 to 30 bytes; that the longest has 30 is this project's own.
 #[derive(Debug, Drop, PartialEq, Eq)]
 pub struct Lpdu {
-    pub bytes: ArrayVec<u8, 32>,
+    pub bytes: ArrayVec<u8, 30>,
 }
 
 impl Model for Lpdu {
@@ -97,7 +97,7 @@ impl Default for Lpdu {
 /// that the longest has 29 is this project's own.
 #[derive(Debug, Drop, PartialEq, Eq)]
 pub struct Info {
-    pub bytes: ArrayVec<u8, 32>,
+    pub bytes: ArrayVec<u8, 29>,
 }
 
 impl Model for Info {
