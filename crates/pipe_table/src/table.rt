@@ -147,7 +147,12 @@ fn place_of(rows: &[PipeRow], pid: u8) -> Result<usize, usize>
     requires { ArePipeRows rows.now }
     ensures { IsPlace pid_of pid rows.now result }
 {
-    rows.binary_search_by_key(&pid, |row| row.pid)
+    // Where no dynamic pipe below it is free, its row stands here.
+    let guess = usize::from(pid).saturating_sub(usize::from(FIRST_DYNAMIC));
+    match rows.get(guess) {
+        Some(row) if row.pid == pid => Ok(guess),
+        _ => rows.binary_search_by_key(&pid, |row| row.pid),
+    }
 }
 
 fn row_of(rows: &[PipeRow], pid: u8) -> Option<PipeRow>
