@@ -2,11 +2,12 @@
 use Rattle.std.proofs.Common.{◌≡◌, ℕ, suc, ◌+◌, ◌*◌, ◌/◌, ◌%◌, ◌<◌, true, false, cond, eqb, leb, List, [], ◌∷◌, length, Some, None, get_or, refl, sym, subst}
 use Rattle.std.proofs.Common.{ap, ◌∙◌, arith}
 use Rattle.std.proofs.lemmas.Bool.{cond_both, eqb-true}
-use Rattle.std.specs.Prelude.{Option}
+use Rattle.std.specs.Prelude.{Option, IfSome}
 use Rattle.pipe_table.specs.declared.row.PipeRow.{PipeRow}
 use Rattle.hci_tables.specs.declared.command.Command.{Command}
 use Rattle.hci_tables.specs.declared.command.Command.TheVariants.{Create, Delete, Clear, SetOpened, Set, Sync}
-use Rattle.hci_tables.specs.Bodies.{body_of, create_of, delete_of, clear_of, opened_of, set_of, sync_in_body, spelled_by}
+use Rattle.hci_tables.specs.Commands.{is_command, IsCommand}
+use Rattle.hci_tables.specs.Bodies.{body_of, create_of, delete_of, clear_of, opened_of, set_of, sync_in_body, spelled_by, if_command, command_of}
 
 -- the bytes behind a kind are those of the command's body
 abbrev Spells : ℕ → List ℕ → Command → Type 0
@@ -73,3 +74,24 @@ body_of-spelled (kind ∷ fields) command bytes e =
     (λ no. cond_both (eqb kind 6) (sync_in_body fields) None P
     (λ yes. λ e. at_kind kind 6 fields command (eqb-true kind 6 yes) (sync_case fields command rest e))
     (λ no. λ e. cc)))))) e
+
+-- a command that is taken was spelled, and may be recorded
+was_spelled : (o : Option Command) (command : Command) → if_command o ≡ Some command → o ≡ Some command
+was_spelled None command e = cc
+was_spelled (Some other) command e =
+    let P : Option Command → Type 0 = λ r. r ≡ Some command → Some other ≡ Some command in
+    cond_both (is_command other) (Some other) None P (λ yes. λ e. e) (λ no. λ e. cc) e
+
+pub recordable_if : (o r : Option Command) → r ≡ if_command o → IfSome r IsCommand
+recordable_if o None e = tt
+recordable_if None (Some command) e = cc
+recordable_if (Some other) (Some command) e =
+    let P : Option Command → Type 0 = λ r. Some command ≡ r → IsCommand command in
+    cond_both (is_command other) (Some other) None P
+    (λ yes. λ e. let same : other ≡ command = cc in subst IsCommand same yes)
+    (λ no. λ e. cc) e
+
+pub written_if : (body : List ℕ) (r : Option Command) → ((k : ℕ) → get_or body k 0 < 256) → r ≡ command_of body
+    → IfSome r (λ command. body_of command ≡ body)
+written_if body None bytes e = tt
+written_if body (Some command) bytes e = body_of-spelled body command bytes (was_spelled (spelled_by body) command (sym e))

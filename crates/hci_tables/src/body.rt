@@ -1,9 +1,10 @@
 //! The bodies of the commands' records. This project's own.
 ghost use Rattle.std.specs.Prelude.{◌≡◌, ◌≤◌, length, Some, IfSome};
 ghost use Rattle.hci_tables.specs.Commands.{IsCommand};
-ghost use Rattle.hci_tables.specs.Bodies.{body_of, command_of, spelled_by, create_of, opened_of, set_of, sync_in_body};
+ghost use Rattle.hci_tables.specs.Bodies.{body_of, command_of, if_command, create_of, delete_of, clear_of, opened_of, set_of, sync_in_body};
 
 use crate::Command;
+use crate::command::{is_creation, is_dynamic, is_host, is_opening, is_setting, is_sync_host};
 use arrayvec::ArrayVec;
 use pipe_table::PipeRow;
 
@@ -66,48 +67,73 @@ pub fn read_command(body: &[u8]) -> Option<Command>
     ensures recordable { IfSome result IsCommand }
     ensures written_again { IfSome result (λ command. body_of command ≡ body.now) }
 {
-    let command = spelled_by(body)?;
-    if command.is_recordable() {
-        Some(command)
-    } else {
-        None
-    }
+    command_of(body)
 }
 
-// What the bytes of a body spell, whether it may be recorded or not.
-fn spelled_by(body: &[u8]) -> Option<Command>
-    ensures { result ≡ spelled_by body.now }
+fn command_of(body: &[u8]) -> Option<Command>
+    ensures { result ≡ command_of body.now }
 {
     let (kind, fields) = body.split_first()?;
-    match (*kind, fields) {
-        (0x01, _) => create_of(fields),
-        (0x02, [pid]) => Some(Command::Delete { pid: *pid }),
-        (0x03, [host]) => Some(Command::Clear { host: *host }),
-        (0x04, _) => opened_of(fields),
-        (0x05, _) => set_of(fields),
-        (0x06, _) => sync_of(fields),
+    match *kind {
+        0x01 => create_of(fields),
+        0x02 => delete_of(fields),
+        0x03 => clear_of(fields),
+        0x04 => opened_of(fields),
+        0x05 => set_of(fields),
+        0x06 => sync_of(fields),
         _ => None,
     }
 }
 
 fn create_of(fields: &[u8]) -> Option<Command>
-    ensures { result ≡ create_of fields.now }
+    ensures { result ≡ if_command (create_of fields.now) }
 {
-    match fields {
-        [pid, creator, creator_gate, dest, dest_gate] => Some(Command::Create(PipeRow {
-            pid: *pid,
-            creator: *creator,
-            creator_gate: *creator_gate,
-            dest: *dest,
-            dest_gate: *dest_gate,
-            opened: false,
-        })),
-        _ => None,
+    let [pid, creator, creator_gate, dest, dest_gate] = fields else {
+        return None;
+    };
+    let row = PipeRow {
+        pid: *pid,
+        creator: *creator,
+        creator_gate: *creator_gate,
+        dest: *dest,
+        dest_gate: *dest_gate,
+        opened: false,
+    };
+    if is_creation(&row) {
+        Some(Command::Create(row))
+    } else {
+        None
+    }
+}
+
+fn delete_of(fields: &[u8]) -> Option<Command>
+    ensures { result ≡ if_command (delete_of fields.now) }
+{
+    let [pid] = fields else {
+        return None;
+    };
+    if is_dynamic(*pid) {
+        Some(Command::Delete { pid: *pid })
+    } else {
+        None
+    }
+}
+
+fn clear_of(fields: &[u8]) -> Option<Command>
+    ensures { result ≡ if_command (clear_of fields.now) }
+{
+    let [host] = fields else {
+        return None;
+    };
+    if is_host(*host) {
+        Some(Command::Clear { host: *host })
+    } else {
+        None
     }
 }
 
 fn opened_of(fields: &[u8]) -> Option<Command>
-    ensures { result ≡ opened_of fields.now }
+    ensures { result ≡ if_command (opened_of fields.now) }
 {
     let [host, pid, flag] = fields else {
         return None;
@@ -117,39 +143,57 @@ fn opened_of(fields: &[u8]) -> Option<Command>
         1 => true,
         _ => return None,
     };
-    Some(Command::SetOpened {
-        host: *host,
-        pid: *pid,
-        opened,
-    })
+    if is_opening(*host, *pid) {
+        Some(Command::SetOpened {
+            host: *host,
+            pid: *pid,
+            opened,
+        })
+    } else {
+        None
+    }
 }
 
 fn set_of(fields: &[u8]) -> Option<Command>
-    ensures { result ≡ set_of fields.now }
+    ensures { result ≡ if_command (set_of fields.now) }
 {
     match fields {
         [host, gate, param, value @ ..] if value.len() <= 20 => {
-            let mut kept = ArrayVec::new();
-            let _ = kept.try_extend_from_slice(value);
-            Some(Command::Set {
-                host: *host,
-                gate: *gate,
-                param: *param,
-                value: kept,
-            })
+            setting_of(*host, *gate, *param, value)
         }
         _ => None,
     }
 }
 
-fn sync_of(fields: &[u8]) -> Option<Command>
-    ensures { result ≡ sync_in_body fields.now }
+fn setting_of(host: u8, gate: u8, param: u8, value: &[u8]) -> Option<Command>
+    requires { length value.now ≤ 20 }
+    ensures { result ≡ if_command (Some (Command.Set host gate param (record { items = value.now }))) }
 {
-    match fields {
-        [host, high, low] => Some(Command::Sync {
+    if !is_setting(host, gate, param, value) {
+        return None;
+    }
+    let mut kept = ArrayVec::new();
+    let _ = kept.try_extend_from_slice(value);
+    Some(Command::Set {
+        host,
+        gate,
+        param,
+        value: kept,
+    })
+}
+
+fn sync_of(fields: &[u8]) -> Option<Command>
+    ensures { result ≡ if_command (sync_in_body fields.now) }
+{
+    let [host, high, low] = fields else {
+        return None;
+    };
+    if is_sync_host(*host) {
+        Some(Command::Sync {
             host: *host,
             id: u16::from_be_bytes([*high, *low]),
-        }),
-        _ => None,
+        })
+    } else {
+        None
     }
 }

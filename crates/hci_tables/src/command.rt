@@ -52,15 +52,15 @@ impl Command {
         match self {
             Command::Create(row) => is_creation(row),
             Command::Delete { pid } => is_dynamic(*pid),
-            Command::Clear { host } => *host <= 7,
-            Command::SetOpened { host, pid, .. } => *host <= 7 && *pid < FIRST_RESERVED,
+            Command::Clear { host } => is_host(*host),
+            Command::SetOpened { host, pid, .. } => is_opening(*host, *pid),
             Command::Set {
                 host,
                 gate,
                 param,
                 value,
             } => is_setting(*host, *gate, *param, value.as_slice()),
-            Command::Sync { host, .. } => 1 <= *host && *host <= 7,
+            Command::Sync { host, .. } => is_sync_host(*host),
         }
     }
 
@@ -96,17 +96,17 @@ impl Command {
     }
 }
 
-ghost use Rattle.std.specs.Prelude.{◌≡◌, ◌&&◌, ◌==◌, not};
+ghost use Rattle.std.specs.Prelude.{◌≡◌, ◌&&◌, ◌==◌, not, nat_le, nat_lt};
 ghost use Rattle.registry.specs.Values.{is_kept};
 ghost use Rattle.hci_tables.specs.Commands.{is_dynamic, is_host, is_allowed};
 
-fn is_dynamic(pid: u8) -> bool
+pub(crate) fn is_dynamic(pid: u8) -> bool
     ensures { result ≡ is_dynamic pid }
 {
     FIRST_DYNAMIC <= pid && pid < FIRST_RESERVED
 }
 
-fn is_creation(row: &PipeRow) -> bool
+pub(crate) fn is_creation(row: &PipeRow) -> bool
     ensures { result ≡ (is_dynamic row.now.pid && is_host row.now.creator && is_host row.now.dest
         && not (row.now.creator == row.now.dest) && not row.now.opened) }
 {
@@ -117,7 +117,25 @@ fn is_creation(row: &PipeRow) -> bool
         && !row.opened
 }
 
-fn is_setting(host: u8, gate: u8, param: u8, value: &[u8]) -> bool
+pub(crate) fn is_host(host: u8) -> bool
+    ensures { result ≡ is_host host }
+{
+    host <= 7
+}
+
+pub(crate) fn is_opening(host: u8, pid: u8) -> bool
+    ensures { result ≡ (is_host host && nat_lt pid 112) }
+{
+    host <= 7 && pid < FIRST_RESERVED
+}
+
+pub(crate) fn is_sync_host(host: u8) -> bool
+    ensures { result ≡ (nat_le 1 host && nat_le host 7) }
+{
+    1 <= host && host <= 7
+}
+
+pub(crate) fn is_setting(host: u8, gate: u8, param: u8, value: &[u8]) -> bool
     ensures { result ≡ (is_kept host gate param && is_allowed host param value.now) }
 {
     let kept = 1 <= host
