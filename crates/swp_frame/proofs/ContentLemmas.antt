@@ -10,7 +10,7 @@ use Rattle.swp_base.specs.Bits.{bits_of, bits_of_byte}
 use Rattle.swp_crc.specs.Division.{spelled_number}
 use Rattle.swp_crc.proofs.Numbers.{number_of-append, number_of-lt}
 use Rattle.swp_crc.proofs.Entries.{number_of_byte}
-use Rattle.swp_base.proofs.BitLemmas.{bits_of-append, length-bits_of, length-bits_of_byte}
+use Rattle.swp_base.proofs.BitLemmas.{bits_of-append, length-bits_of}
 use Rattle.swp_frame.specs.Words.{low_bits}
 use Rattle.swp_frame.proofs.LowBits.{byte_bits, low_bits-same, low_bits-add, low_bits-number_of}
 use Rattle.swp_frame.proofs.Shifts.{no_wrap, upper_joined, lower_joined}
@@ -261,3 +261,16 @@ last_two result n bytes slice back is at same count long =
     let second : get_or back 1 0 ≡ get_or bytes (length bytes - 1) 0 =
     at 1 0 ∙ ap (λ xs. get_or xs (n - 2 + 1) 0) same ∙ ap (λ i. get_or bytes i 0) (omega (arith, count, long)) in
     omega (arith, is, first, second)
+
+-- ---- fronts of the bytes of a content
+
+pub take_within : (m n : ℕ) (xs : List ℕ) → m ≤ n → take m (take n xs) ≡ take m xs
+take_within zero n xs h = refl
+take_within (suc m) zero xs h = absurd (omega (arith, h))
+take_within (suc m) (suc n) [] h = refl
+take_within (suc m) (suc n) (x ∷ xs) h = ap (λ ys. x ∷ ys) (take_within m n xs (omega (arith, h)))
+
+pub take_front : (m : ℕ) (xs ys : List ℕ) → m ≤ length xs → take m (xs ++ ys) ≡ take m xs
+take_front zero xs ys h = refl
+take_front (suc m) [] ys h = absurd (omega (arith, h))
+take_front (suc m) (x ∷ xs) ys h = ap (λ zs. x ∷ zs) (take_front m xs ys (omega (arith, h)))

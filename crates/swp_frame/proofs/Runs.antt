@@ -65,17 +65,22 @@ reverse-run true n bits =
 reverse-run false n bits = reverse-append (replicate n true) bits ∙ ap (λ xs. reverse bits ++ xs) (reverse-ones n)
 
 -- what is kept of an open frame
-pub opened : (kept : Option Content) (since : Option (List Symbol)) (content : Content) → KeepsOpen kept since → kept ≡ Some content
-    → (s : List Symbol) × ((since ≡ Some s) × KeepsSince content s)
-opened None since content h e = absurd (cc)
-opened (Some k) None content h e = absurd h
-opened (Some k) (Some s) content h e = let same : k ≡ content = cc in (s, (refl, subst (λ x. KeepsSince x s) same h))
+pub opened : (is_open : Bool) (kept : Content) (since : Option (List Symbol)) → KeepsOpen is_open kept since → is_open ≡ true
+    → (s : List Symbol) × ((since ≡ Some s) × KeepsSince kept s)
+opened false kept since h e = absurd (cc)
+opened true kept None h e = absurd h
+opened true kept (Some s) h e = (s, (refl, h))
 
-pub closed : (kept : Option Content) (since : Option (List Symbol)) → KeepsOpen kept since → ((content : Content) → kept ≡ Some content → ⊥)
-    → (kept ≡ None) × (since ≡ None)
-closed None None h n = (refl, refl)
-closed None (Some s) h n = absurd h
-closed (Some k) since h n = absurd (n k refl)
+pub closed : (is_open : Bool) (kept : Content) (since : Option (List Symbol)) → KeepsOpen is_open kept since → is_open ≡ false → since ≡ None
+closed true kept since h e = absurd (cc)
+closed false kept None h e = refl
+closed false kept (Some s) h e = absurd h
+
+-- an open frame stays open
+pub still_open : (is_open : Bool) (kept : Content) (since : Option (List Symbol)) (s : List Symbol) → is_open ≡ true → since ≡ Some s → KeepsSince kept s
+    → KeepsOpen is_open kept since
+still_open false kept since s e is h = absurd (cc)
+still_open true kept since s e is h = subst (KeepsOpen true kept) (sym is) h
 
 -- all bits since the start of a frame, from those before the last run of 1 bits
 pub since_bits : (counts : Bool) (since : List Symbol) → CountsLastZero counts since

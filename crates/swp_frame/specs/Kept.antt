@@ -1,5 +1,5 @@
 -- What a deframer keeps of what it has read.
-use Rattle.std.specs.Prelude.{ℕ, ◌%◌, ◌≡◌, ◌<◌, ◌≤◌, min, Bool, true, false, List, [], ◌∷◌, ◌++◌, length, drop, replicate, reverse, Option, Some, None}
+use Rattle.std.specs.Prelude.{ℕ, ◌*◌, ◌/◌, ◌%◌, ◌≡◌, ◌<◌, ◌≤◌, min, Bool, true, false, List, [], ◌∷◌, ◌++◌, length, take, drop, replicate, reverse, Option, Some, None}
 use Rattle.std.specs.List.{AllByRecursion}
 use Rattle.swp_base.specs.Bits.{IsByte, bits_of}
 use Rattle.swp_crc.specs.Division.{spelled_number}
@@ -27,10 +27,14 @@ pub record KeepsBits (bytes : List ℕ) (partial : ℕ) (bits : List Bool) : Typ
   pub number : partial ≡ spelled_number rest
   pub in_range : AreBytes bytes
 
+-- the bytes of the whole words of 64 bits among so many bits
+abbrev pub whole_words : ℕ → List ℕ → List ℕ
+whole_words bits bytes = take (8 * (bits / 64)) bytes
+
 -- the content stands for these bits; of more than 263 only their number is kept, up to 4,294,967,295
 pub record KeepsContent (kept : Content) (bits : List Bool) : Type 0 where
   pub count : kept.bits ≡ min 4294967295 (length bits)
-  pub few : length bits ≤ 263 → KeepsBits kept.bytes.items kept.partial bits
+  pub few : length bits ≤ 263 → KeepsBits (whole_words (length bits) kept.bytes) kept.partial bits
 
 -- a run of 1 bits, and the 0 in front of it where that is content
 abbrev pub run_bits : Bool → ℕ → List Bool
@@ -52,13 +56,18 @@ pub record KeepsSince (kept : Content) (since : List Symbol) : Type 0 where
   pub bits : KeepsContent kept (reverse (unstuffed since))
   pub zero : CountsLastZero kept.zero since
 
-abbrev pub KeepsOpen : Option Content → Option (List Symbol) → Type 0
-KeepsOpen None None = Unit {0}
-KeepsOpen (Some kept) (Some since) = KeepsSince kept since
-KeepsOpen None (Some since) = ⊥
-KeepsOpen (Some kept) None = ⊥
+-- a frame is open exactly where one has started, and the content is then what was read since
+abbrev pub KeepsOpen : Bool → Content → Option (List Symbol) → Type 0
+KeepsOpen false kept None = Unit {0}
+KeepsOpen true kept (Some since) = KeepsSince kept since
+KeepsOpen false kept (Some since) = ⊥
+KeepsOpen true kept None = ⊥
 
 -- the deframer stands for what was read, the newest first: all that it answers from now on is what comes after that
 pub record DeframerStandsFor (deframer : Deframer) (seen : List Symbol) : Type 0 where
   pub ones : deframer.ones ≡ min 7 (run_of seen)
-  pub open_frame : KeepsOpen deframer.content (since_start seen)
+  pub open_frame : KeepsOpen deframer.is_open deframer.content (since_start seen)
+
+-- the bytes in which the frame that ended last lies
+abbrev pub lying_bytes : Deframer → List ℕ
+lying_bytes deframer = deframer.content.bytes

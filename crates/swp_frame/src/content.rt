@@ -1,12 +1,12 @@
 //! The content of the frame that is open.
-ghost use Rattle.std.specs.Prelude.{ℕ, Bool, List, ◌≡◌, ◌+◌, ◌*◌, ◌/◌, ◌%◌, ◌^◌, ◌<◌, ◌≤◌, ◌++◌, [], ◌∷◌, length};
+ghost use Rattle.std.specs.Prelude.{ℕ, Bool, List, ◌≡◌, ◌+◌, ◌*◌, ◌/◌, ◌%◌, ◌^◌, ◌<◌, ◌≤◌, ◌++◌, [], ◌∷◌, length, take};
 ghost use Rattle.std.specs.Int.{w64, to_be_bytes};
 ghost use Rattle.swp_frame.specs.Content.{judged_bytes};
+ghost use Rattle.swp_frame.specs.Found.{found_in, HasPayload};
 
-use crate::fed::Fed;
+use crate::fed::Found;
 use crate::word::Part;
-use arrayvec::ArrayVec;
-use swp_base::{FrameFault, Lpdu};
+use swp_base::FrameFault;
 use swp_crc::crc;
 
 /// The most bits of a content: those of 30 bytes and of the CRC.
@@ -28,15 +28,14 @@ const MOST_TOLD: u32 = 65_535;
 /// them. This project's own.
 #[derive(Drop)]
 pub struct Content {
-    /// The bytes of the whole words of 64 bits.
-    pub bytes: ArrayVec<u8, 40>,
+    /// The bytes of the whole words of 64 bits. What stands behind them says nothing.
+    pub bytes: [u8; 40],
     /// The bits of the word under way, as a number.
     pub partial: u64,
     /// How many bits there are; 4,294,967,295 stands for any greater number too.
     pub bits: u32,
     /// Whether the last 0 that was read is among the bits: it isn't where it was put in, or where none was read.
     pub zero: bool,
-    ghost whole_words: { bits ≤ 263 → length bytes.items ≡ 8 * (bits / 64) },
     ghost within_word: { bits ≤ 263 → partial < 2 ^ (bits % 64) },
 }
 
@@ -52,11 +51,21 @@ impl Content {
         ensures { KeepsSince result [] }
     {
         Self {
-            bytes: ArrayVec::new(),
+            bytes: [0; 40],
             partial: 0,
             bits: 0,
             zero: false,
         }
+    }
+
+    /// A frame starts: there are no bits from now on.
+    #[inline(always)]
+    pub fn start(&mut self)
+        ensures { KeepsSince self.new [] }
+    {
+        self.partial = 0;
+        self.bits = 0;
+        self.zero = false;
     }
 
     /// Appends the bits of a number, at most 64 of them, the most significant first.
@@ -68,7 +77,8 @@ impl Content {
             → KeepsContent self.new (bits ++ more) }
         ensures zero { self.new.zero ≡ self.old.zero }
     {
-        let filled = self.bits % 64;
+        let read = self.bits;
+        let filled = read % 64;
         self.bits = self.bits.saturating_add(width);
         if self.bits > MAX_KEPT {
             return;
@@ -79,7 +89,7 @@ impl Content {
         }
         let rest = filled + width - 64;
         let word = (self.partial << (63 - filled) << 1) + (value >> rest);
-        push_word(&mut self.bytes, word);
+        put_word(&mut self.bytes, read / 64, word);
         self.partial = value % (1 << rest);
     }
 
@@ -104,54 +114,52 @@ impl Content {
         self.zero = part.is_last_zero_content(self.zero);
     }
 
-    /// The verdict on a content behind which six 1 bits of the end of its frame were read, and the 0 in front of these.
+    /// The verdict on a content behind which six 1 bits of the end of its frame were read, and the 0 in front of these. The payload of
+    /// a frame is then the first of the bytes.
     #[inline(always)]
-    pub fn judge(self) -> Fed
-        ensures { (bits : List Bool) → KeepsContent self (bits ++ run_bits self.zero 6) → result ≡ judged bits }
+    pub fn judge(&mut self) -> Found
+        ensures judged { (bits : List Bool) → KeepsContent self.old (bits ++ run_bits self.old.zero 6) → found_in self.new.bytes result ≡ judged bits }
+        ensures sized { HasPayload result }
     {
-        let Content {
-            mut bytes,
-            partial,
-            bits: read,
-            zero,
-        } = self;
-        let end = END_ONES + u32::from(zero);
-        let bits = read.saturating_sub(end).min(MOST_TOLD);
+        let end = END_ONES + u32::from(self.zero);
+        let bits = self.bits.saturating_sub(end).min(MOST_TOLD);
         if bits < MIN_BITS || bits > MAX_BITS {
-            return Fed::Refused(FrameFault::Length { bits });
+            return Found::Refused(FrameFault::Length { bits });
         }
         if bits % 8 != 0 {
-            return Fed::Refused(FrameFault::Alignment { bits });
+            return Found::Refused(FrameFault::Alignment { bits });
         }
         // The word under way is moved to the top.
-        push_word(&mut bytes, partial << (64 - read % 64));
-        judge_bytes(&bytes.as_slice()[..bits as usize / 8])
+        let last = self.partial << (64 - self.bits % 64);
+        put_word(&mut self.bytes, self.bits / 64, last);
+        judge_bytes(&self.bytes[..bits as usize / 8])
     }
 }
 
-/// Appends the bytes of a word, the highest first.
+/// Puts a word at its place among the words of some bytes, its highest byte first. What stands before it stays.
 #[inline(always)]
-fn push_word(bytes: &mut ArrayVec<u8, 40>, word: u64)
-    requires { length bytes.old.items + 8 ≤ 40 }
-    ensures { bytes.new.items ≡ bytes.old.items ++ to_be_bytes w64 word }
+fn put_word(bytes: &mut [u8; 40], place: u32, word: u64)
+    requires { place < 5 }
+    ensures { take (8 * place + 8) bytes.new ≡ take (8 * place) bytes.old ++ to_be_bytes w64 word }
 {
-    let _fits = bytes.try_extend_from_slice(&word.to_be_bytes());
+    let at = 8 * place as usize;
+    bytes[at..at + 8].copy_from_slice(&word.to_be_bytes());
 }
 
 /// The verdict on the bytes of a content, the last two of which are to be the CRC of those before them.
-fn judge_bytes(bytes: &[u8]) -> Fed
+#[inline(always)]
+fn judge_bytes(bytes: &[u8]) -> Found
     requires few { 3 ≤ length bytes.now }
     requires most { length bytes.now ≤ 32 }
-    ensures { result ≡ judged_bytes bytes.now }
+    ensures judged { (more : List ℕ) → found_in (bytes.now ++ more) result ≡ judged_bytes bytes.now }
+    ensures sized { HasPayload result }
 {
-    let (body, end) = bytes.split_at(bytes.len() - 2);
+    let len = bytes.len() - 2;
+    let (body, end) = bytes.split_at(len);
     let want = crc(body);
     let got = u16::from_be_bytes([end[0], end[1]]);
     if want != got {
-        return Fed::Refused(FrameFault::Crc { want, got });
+        return Found::Refused(FrameFault::Crc { want, got });
     }
-    match Lpdu::from_bytes(body) {
-        Some(lpdu) => Fed::Frame(lpdu),
-        None => unreachable!(),
-    }
+    Found::Frame(len)
 }

@@ -1,10 +1,10 @@
 //! Finds the frames in what is read bit by bit.
-ghost use Rattle.std.specs.Prelude.{IsTrue, ◌↔◌, List, ◌≡◌, ◌≢◌, ◌≤◌, ◌∷◌, []};
+ghost use Rattle.std.specs.Prelude.{IsTrue, ◌↔◌, List, ◌≡◌, ◌≢◌, ◌≤◌, ◌∷◌, [], length, take};
 
 use crate::content::Content;
-use crate::fed::Fed;
+use crate::fed::{Fed, Found};
 use crate::word::{Part, Word};
-use swp_base::FrameFault;
+use swp_base::{FrameFault, Lpdu};
 
 /// The length of a start of frame's run of 1 bits; one more ends a frame.
 const START_ONES: u8 = 6;
@@ -18,8 +18,10 @@ const START_ONES: u8 = 6;
 pub struct Deframer {
     /// The 1 bits in a row that were read last; 7 stands for any greater number too.
     ones: u8,
-    /// The frame that is open.
-    content: Option<Content>,
+    /// Whether a frame is open.
+    is_open: bool,
+    /// The content of the frame that is open.
+    content: Content,
     ghost short: { ones ≤ 7 },
 }
 
@@ -29,7 +31,8 @@ impl Deframer {
     ghost use Rattle.swp_frame.specs.Signal.{Symbol, bit_0, bit_1, break, symbol_of, mark_of, start_mark, run_of, read_on, HasNoMark};
     ghost use Rattle.swp_frame.specs.Words.{part_bits, IsWordBehind, IsPartBehind};
     ghost use Rattle.swp_frame.specs.Verdicts.{verdict};
-    ghost use Rattle.swp_frame.specs.Kept.{DeframerStandsFor};
+    ghost use Rattle.swp_frame.specs.Found.{found_in, HasPayload};
+    ghost use Rattle.swp_frame.specs.Kept.{DeframerStandsFor, lying_bytes};
 
     /// A deframer that has read nothing.
     pub fn new() -> Self
@@ -37,7 +40,8 @@ impl Deframer {
     {
         Self {
             ones: 0,
-            content: None,
+            is_open: false,
+            content: Content::new(),
         }
     }
 
@@ -48,11 +52,36 @@ impl Deframer {
         ensures stands { (seen : List Symbol) → DeframerStandsFor self.old seen → DeframerStandsFor self.new (symbol_of bit ∷ seen) }
         ensures answer { (seen : List Symbol) → DeframerStandsFor self.old seen → result ≡ verdict (symbol_of bit ∷ seen) }
     {
+        match self.feed_in_place(bit) {
+            Found::Nothing => Fed::Nothing,
+            Found::Frame(len) => Fed::Frame(Lpdu::new(self.payload(len))),
+            Found::Refused(fault) => Fed::Refused(fault),
+        }
+    }
+
+    /// Reads a bit as `feed` does. The payload of a frame that ended stays where it lies, until the next bit is read: `payload` lends it.
+    #[inline(always)]
+    pub fn feed_in_place(&mut self, bit: bool) -> Found
+        ensures stands { (seen : List Symbol) → DeframerStandsFor self.old seen → DeframerStandsFor self.new (symbol_of bit ∷ seen) }
+        ensures answer { (seen : List Symbol) → DeframerStandsFor self.old seen
+            → found_in (lying_bytes self.new) result ≡ verdict (symbol_of bit ∷ seen) }
+        ensures sized { HasPayload result }
+    {
         if self.ones == START_ONES {
             return self.read_mark(bit);
         }
         self.read_plain(bit);
-        Fed::Nothing
+        Found::Nothing
+    }
+
+    /// The payload of the frame that ended with the bit that was read last, of so many bytes.
+    #[inline(always)]
+    pub fn payload(&self, len: usize) -> &[u8]
+        requires { len ≤ 40 }
+        ensures value { result.now ≡ take len (lying_bytes self.now) }
+        ensures sized { length result.now ≡ len }
+    {
+        &self.content.bytes[..len]
     }
 
     /// What sixty-four bits are behind those that were read, the most significant first: with which of them a mark ends, and
@@ -72,8 +101,8 @@ impl Deframer {
             → DeframerStandsFor self.new (read_on seen (part_bits part)) }
     {
         self.ones = part.run_behind(self.ones);
-        if let Some(content) = &mut self.content {
-            content.push_part(part);
+        if self.is_open {
+            self.content.push_part(part);
         }
     }
 
@@ -84,10 +113,10 @@ impl Deframer {
         ensures answer { (seen : List Symbol) → DeframerStandsFor self.old seen → result ≡ verdict (break ∷ seen) }
     {
         self.ones = 0; // A 0 is read in behind a break.
-        if self.content.is_none() {
+        if !self.is_open {
             return Fed::Nothing;
         }
-        self.content = None;
+        self.is_open = false;
         Fed::Refused(FrameFault::Broken)
     }
 
@@ -112,17 +141,19 @@ impl Deframer {
         } else {
             0
         };
-        if let Some(content) = &mut self.content {
-            content.push_bit(bit, ones);
+        if self.is_open {
+            self.content.push_bit(bit, ones);
         }
     }
 
     /// Reads a bit behind six 1 bits, which ends a mark.
     #[inline(always)]
-    fn read_mark(&mut self, bit: bool) -> Fed
+    fn read_mark(&mut self, bit: bool) -> Found
         requires { self.old.ones ≡ 6 }
         ensures stands { (seen : List Symbol) → DeframerStandsFor self.old seen → DeframerStandsFor self.new (symbol_of bit ∷ seen) }
-        ensures answer { (seen : List Symbol) → DeframerStandsFor self.old seen → result ≡ verdict (symbol_of bit ∷ seen) }
+        ensures answer { (seen : List Symbol) → DeframerStandsFor self.old seen
+            → found_in (lying_bytes self.new) result ≡ verdict (symbol_of bit ∷ seen) }
+        ensures sized { HasPayload result }
     {
         if bit {
             self.read_end()
@@ -133,29 +164,37 @@ impl Deframer {
 
     /// Reads the seventh 1 bit in a row: a frame that is open ends.
     #[inline(always)]
-    fn read_end(&mut self) -> Fed
+    fn read_end(&mut self) -> Found
         requires { self.old.ones ≡ 6 }
         ensures stands { (seen : List Symbol) → DeframerStandsFor self.old seen → DeframerStandsFor self.new (bit_1 ∷ seen) }
-        ensures answer { (seen : List Symbol) → DeframerStandsFor self.old seen → result ≡ verdict (bit_1 ∷ seen) }
+        ensures answer { (seen : List Symbol) → DeframerStandsFor self.old seen → found_in (lying_bytes self.new) result ≡ verdict (bit_1 ∷ seen) }
+        ensures sized { HasPayload result }
     {
         self.ones = START_ONES + 1;
-        match self.content.take() {
-            Some(content) => content.judge(),
-            None => Fed::Nothing,
+        if self.is_open {
+            self.is_open = false;
+            self.content.judge()
+        } else {
+            Found::Nothing
         }
     }
 
     /// Reads a 0 behind six 1 bits: a frame starts, and one that is open is refused.
     #[inline(always)]
-    fn read_start(&mut self) -> Fed
+    fn read_start(&mut self) -> Found
         requires { self.old.ones ≡ 6 }
         ensures stands { (seen : List Symbol) → DeframerStandsFor self.old seen → DeframerStandsFor self.new (bit_0 ∷ seen) }
-        ensures answer { (seen : List Symbol) → DeframerStandsFor self.old seen → result ≡ verdict (bit_0 ∷ seen) }
+        ensures answer { (seen : List Symbol) → DeframerStandsFor self.old seen → found_in (lying_bytes self.new) result ≡ verdict (bit_0 ∷ seen) }
+        ensures sized { HasPayload result }
     {
+        let was_open = self.is_open;
         self.ones = 0;
-        match self.content.replace(Content::new()) {
-            Some(_) => Fed::Refused(FrameFault::Broken),
-            None => Fed::Nothing,
+        self.is_open = true;
+        self.content.start();
+        if was_open {
+            Found::Refused(FrameFault::Broken)
+        } else {
+            Found::Nothing
         }
     }
 }

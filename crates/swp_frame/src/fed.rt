@@ -11,3 +11,14 @@ pub enum Fed {
     /// A frame was refused.
     Refused(FrameFault),
 }
+
+/// What one bit gave, where the payload of a frame that ended stays where it lies.
+#[derive(Clone, Copy, Debug, PartialEq, Eq)]
+pub enum Found {
+    /// No frame ended here.
+    Nothing,
+    /// A frame ended, and its payload has so many bytes.
+    Frame(usize),
+    /// A frame was refused.
+    Refused(FrameFault),
+}

@@ -11,6 +11,6 @@ mod frame_bits;
 mod word;
 
 pub use deframer::Deframer;
-pub use fed::Fed;
+pub use fed::{Fed, Found};
 pub use frame_bits::{FrameBits, write_frame};
 pub use word::{Part, Word};

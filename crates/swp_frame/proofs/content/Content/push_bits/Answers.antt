@@ -1,6 +1,7 @@
-use Rattle.std.proofs.Common.{◌≡◌, ◌∙◌, ◌+◌, ◌-◌, ◌*◌, ◌/◌, ◌%◌, ◌^◌, ◌<◌, ◌≤◌, ◌++◌, ℕ, length, ap, arith, w64, length-append}
+use Rattle.std.proofs.Common.{◌≡◌, ◌∙◌, ◌+◌, ◌-◌, ◌*◌, ◌/◌, ◌%◌, ◌^◌, ◌<◌, ◌≤◌, ◌++◌, ℕ, length, take, ap, ap₂, arith, w64, length-append}
 use Rattle.std.proofs.lemmas.Nat.{one_shl}
 use Rattle.std.specs.Int.{to_be_bytes}
+use Rattle.swp_frame.specs.Kept.{whole_words}
 use Rattle.swp_frame.proofs.Shifts.{joined_fits, fits_word, no_wrap, to_top, upper_fits}
 use Rattle.swp_frame.proofs.ContentLemmas.{more_within, more_than_word}
 use Rattle.swp_frame.proofs.content.Content.push_bits.Goals as goal
@@ -21,7 +22,6 @@ invariant_of-self-then-filled-width-lt64 c =
     let fits : old.partial < 2 ^ (old.bits % 64) = old.within_word few in
     let filled : c.saturating_add-self.result % 64 ≡ old.bits % 64 + c.args.width = omega arith in
     record {
-      whole_words = λ h. old.whole_words few ∙ omega arith;
       within_word = λ h. rw (no_wrap old.partial (old.bits % 64) c.args.width fits (omega arith), filled)
           (joined_fits old.partial c.args.value (old.bits % 64) c.args.width fits c.requires.value);
     }
@@ -32,8 +32,10 @@ returns-then-filled-width-lt64-clause-bits c = λ bits more kept l n.
     let fits : old.partial < 2 ^ (old.bits % 64) = old.within_word (omega arith) in
     record {
       count = omega (arith, kept.count, length-append bits more, l);
-      few = λ h. rw (no_wrap old.partial (old.bits % 64) c.args.width fits (omega arith))
-          (more_within old.bytes.items old.partial bits more c.args.value c.args.width
+      few = λ h.
+          let same : length (bits ++ more) / 64 ≡ length bits / 64 = omega (arith, kept.count, length-append bits more, l) in
+          rw (no_wrap old.partial (old.bits % 64) c.args.width fits (omega arith), same)
+          (more_within (whole_words (length bits) old.bytes) old.partial bits more c.args.value c.args.width
           (kept.few (omega (arith, length-append bits more))) l n (omega (arith, kept.count, length-append bits more)));
     }
 
@@ -61,9 +63,12 @@ returns-clause-bits c = λ bits more kept l n.
           let word : old.partial * 2 ^ (63 - old.bits % 64) % 2 ^ 64 * 2 % 2 ^ 64 + c.args.value / 2 ^ surplus
           ≡ old.partial * 2 ^ (64 - length bits % 64) + c.args.value / 2 ^ surplus =
           ap (λ x. x + c.args.value / 2 ^ surplus) (to_top old.partial (old.bits % 64) fits (omega arith) ∙ ap (λ n. old.partial * 2 ^ (64 - n % 64)) same) in
-          let bytes : c.push_word.new.bytes.items
-          ≡ old.bytes.items ++ to_be_bytes w64 (old.partial * 2 ^ (64 - length bits % 64) + c.args.value / 2 ^ surplus) =
-          c.push_word.ensures ∙ ap (λ x. old.bytes.items ++ to_be_bytes w64 x) word in
+          let count : 8 * (length (bits ++ more) / 64) ≡ 8 * (old.bits / 64) + 8 = omega (arith, same, l, places, few, length-append bits more) in
+          let bytes : whole_words (length (bits ++ more)) c.put_word.new.bytes
+          ≡ whole_words (length bits) old.bytes ++ to_be_bytes w64 (old.partial * 2 ^ (64 - length bits % 64) + c.args.value / 2 ^ surplus) =
+          ap (λ n. take n c.put_word.new.bytes) count
+          ∙ c.put_word.ensures
+          ∙ ap₂ (λ n x. take (8 * (n / 64)) old.bytes ++ to_be_bytes w64 x) same word in
           rw (bytes, one_shl surplus 64 few)
           (more_than_word more surplus (kept.few (omega (arith, length-append bits more))) l n places few);
     }
