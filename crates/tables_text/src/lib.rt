@@ -20,6 +20,9 @@ use std::alloc::{AllocError, Global};
 /// The hexadecimal digits.
 const DIGITS: [u8; 16] = *b"0123456789ABCDEF";
 
+/// Room for the lines of all rows that tables can have: 110 pipes, 16 static pipes, 14 values and 7 identifiers.
+const ROWS_ROOM: usize = 4_096;
+
 /// Appends the tables of a node as text, LF at the end of each line. The node is told by this word. Where there is no memory, `out`
 /// has its old bytes and some whole lines behind them.
 pub fn write_tables(
@@ -39,6 +42,7 @@ pub fn write_tables(
 pub fn write_rows(_alloc: Global, tables: &Tables, out: &mut Vec<u8>) -> Result<(), AllocError>
     ensures { OnOk result (out.new.items ≡ out.old.items ++ rows_text tables.now) }
 {
+    out.reserve(ROWS_ROOM)?;
     push_pipes(tables.pipes().rows(), out)?;
     push_statics(tables.statics(), out)?;
     push_values(tables.registry().values(), out)?;
