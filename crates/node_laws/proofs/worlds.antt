@@ -13,6 +13,9 @@ pub mod Hearing
 pub mod Uiccs
 pub mod Order
 pub mod Orders
+pub mod Frameless
+pub mod Framed
+pub mod FramesLast
 pub mod Ascending
 pub mod Turns
 pub mod Everywhere

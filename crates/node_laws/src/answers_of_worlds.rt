@@ -15,7 +15,7 @@ ghost use Rattle.node_laws.specs.answers.Answered.{AreReset};
 ghost use Rattle.node_laws.specs.answers.Moments.{AtEachOccurrence};
 ghost use Rattle.trace_model.specs.Lines.{IsNodeHeader};
 ghost use Rattle.node_laws.specs.schedules.Ranges.{AreNodeLinesOf, lines_asking};
-ghost use Rattle.node_laws.specs.answers.Order.{NodesHearFirst, TurnsAscend};
+ghost use Rattle.node_laws.specs.answers.Order.{NodesEmitLast, NodesHearFirst, TurnsAscend};
 
 /// In each event of a history that follows a schedule the session of each end ends by a reset of its own exactly where that is due: a line
 /// resets that end while it is up, or the event is the hundredth tick of the unanswered notice to the host of a controller's end, whose
@@ -39,6 +39,13 @@ pub fn events_of_schedules_end_where_power_goes()
 /// answers: behind an answer of a node no session of an end of it begins or ends, no message comes there, and none is acknowledged.
 pub fn nodes_hear_before_they_answer()
     ensures heard { (header : Header) (lines : List Line) (t : NodeHistory) → FollowsNodes header lines t → IsNodeHeader header → NodesHearFirst t }
+{}
+
+/// In each event of a history that follows a schedule whose header is in its ranges the frames that go out of a node stand behind all else
+/// that it does there: behind a frame that it puts on a wire nothing tells of it but further frames. So no frame of an answer goes out before
+/// the commands that are written there.
+pub fn frames_go_out_last()
+    ensures emitted { (header : Header) (lines : List Line) (t : NodeHistory) → FollowsNodes header lines t → IsNodeHeader header → NodesEmitLast t }
 {}
 
 /// In each event of a history that follows a schedule whose header and lines are in their ranges the messages of a node that have their

@@ -64,6 +64,21 @@ reset_and_not_up w = true≢false (sym (ap is_some (w.legal.complete.upheld acti
       to_host = refl;
     }
 
+-- ## Frames
+
+-- A frame that answers an identifier goes out before the command that keeps it is written. No other fact refuses that.
+abbrev opened : List Occurrence
+opened = boot ∷ boots_host 2 ∷ activates (Emit (end_h 2) (97 ∷ 0 ∷ 2 ∷ []) ∷ []) ∷ []
+
+abbrev early : Occurrence
+early = takes (Took (end_c 2) (97 ∷ 0 ∷ 2 ∷ []) ∷ Emit (end_c 2) (98 ∷ 0 ∷ []) ∷ Command 0 (command.Sync 2 2) ∷ [])
+
+went_out_before_its_command : LegalWorld (told (opened ++ early ∷ [])) → ⊥
+unfolding found_from hosts_where lowest_free
+went_out_before_its_command w =
+    true≢false (w.frames opened [] early (Took (end_c 2) (97 ∷ 0 ∷ 2 ∷ []) ∷ []) (Command 0 (command.Sync 2 2) ∷ []) (Emit (end_c 2) (98 ∷ 0 ∷ []))
+    refl refl 0 refl).0
+
 -- ## Memories
 
 -- The controller takes a new identifier, which it writes to its memory, and nothing is noted of that.

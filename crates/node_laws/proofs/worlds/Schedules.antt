@@ -23,6 +23,7 @@ use Rattle.std.proofs.lemmas.Map.Keys.{sorted_from_strictly_increasing}
 use Rattle.node_laws.proofs.worlds.Ascending.{rising}
 use Rattle.node_laws.proofs.worlds.Turns.{turns_ascend}
 use Rattle.node_laws.proofs.worlds.Orders.{hear_first}
+use Rattle.node_laws.proofs.worlds.FramesLast.{schedule_emits}
 use Rattle.node_laws.proofs.worlds.Histories.{resets_due}
 use Rattle.history.specs.Histories.{History}
 use Rattle.history.proofs.legal.Ordered.{in_order, joined}
@@ -161,5 +162,6 @@ played_legal header lines (OfNodes t) played = record {
   legal = legal header lines t played.3 (hosts_are header played.0) (playable header lines played.1) (sent_by_hosts header lines played.0 played.1)
       (are_few header lines t played.3 played.0 played.1 played.2);
   ended = schedule_ends header lines t played.3 played.0;
+  frames = schedule_emits header lines t played.3 played.0;
   answered = schedule_answers header lines t played.3 played.0 played.1 played.2;
 }

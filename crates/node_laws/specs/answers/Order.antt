@@ -1,11 +1,12 @@
--- In which order a node notes in an event what comes to it and what it answers.
-use Rattle.std.specs.Prelude.{◌≡◌, ℕ, ◌≤◌, ◌==◌, Bool, true, false, if◌then◌else◌, List, [], ◌∷◌, Option, Some, None}
+-- In which order a node notes in an event what comes to it, what it answers, and the frames that it puts on wires.
+use Rattle.std.specs.Prelude.{◌≡◌, ℕ, ◌≤◌, ◌==◌, ◌&&◌, Bool, true, false, not, if◌then◌else◌, List, [], ◌∷◌, Option, Some, None}
 use Rattle.std.specs.List.{AllByRecursion, filter_map}
 use Rattle.std.specs.Option.{option_map_or}
 use Rattle.trace_model.specs.declared.entry.Entry.{Entry}
 use Rattle.trace_model.specs.declared.entry.Entry.TheVariants as entry
 use Rattle.node_machine.specs.world.World.{node_of}
 use Rattle.node_machine.specs.world.NodeHistories.{NodeHistory}
+use Rattle.node_laws.specs.power.Powers.{is_of_node}
 use Rattle.node_laws.specs.answers.Moments.{AtEachEntry, AtEachOccurrence, Moment}
 
 -- ## Answers
@@ -42,6 +43,27 @@ HearsFirst m x behind = (n : ℕ) → is_answer_of n x ≡ true → AllByRecursi
 -- What comes to a node in an event is noted before what it answers.
 abbrev pub NodesHearFirst : NodeHistory → Type 0
 NodesHearFirst t = AtEachEntry t HearsFirst
+
+-- ## Frames
+
+-- the node that puts a frame on a wire
+abbrev pub emitter : Entry → Option ℕ
+emitter (entry.Emit e lpdu) = Some (node_of e)
+emitter _ = None
+
+abbrev pub emits : ℕ → Entry → Bool
+emits n x = option_map_or (λ k. k == n) (emitter x) false
+
+-- Behind a frame that a node puts on a wire nothing in the event tells of that node but further frames that it puts there: so no command is
+-- written and nothing answered behind a frame that has gone out.
+abbrev pub EmitsLast : Moment → Entry → List Entry → Type 0
+EmitsLast m x behind = (n : ℕ) → emits n x ≡ true → AllByRecursion (λ y. (is_of_node n y && not (emits n y)) ≡ false) behind
+
+-- All that a node does in an event is noted before the frames that go out of it.
+abbrev pub NodesEmitLast : NodeHistory → Type 0
+NodesEmitLast t = AtEachEntry t EmitsLast
+
+-- ## The order of ends
 
 -- the link at whose end of this node a message has its turn, or is held
 abbrev pub turn_link : ℕ → Entry → Option ℕ
