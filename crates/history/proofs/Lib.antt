@@ -3,5 +3,6 @@ pub mod MoreExamples
 pub mod WrongLinks
 pub mod Leading
 pub mod Filters
+pub mod waits
 pub mod legal
 pub mod RsetsInBareWorlds

@@ -1,7 +1,6 @@
--- What a history must be. These facts speak of what was noted and what caused it. One part of one of them knows a machine: whether the other end
--- waited as an end was reset (`IsReadSettled.other`), which is asked of the link behind the causes before.
+-- What a history must be. These facts speak of what was noted and what caused it, and know no machine.
 use Rattle.std.specs.Prelude.{◌≡◌, ℕ, ◌≤◌, ◌==◌, ◌&&◌, Bool, true, false, if◌then◌else◌, List, [], ◌∷◌, ◌++◌, length, take, Option, Some, Result, Ok}
-use Rattle.std.specs.List.{list_any}
+use Rattle.std.specs.List.{fold, list_any}
 use Rattle.swp_base.specs.declared.control_frames.Control.{Control}
 use Rattle.swp_base.specs.declared.control_frames.Control.TheVariants.{S, Rset}
 use Rattle.swp_base.specs.declared.control_frames.Kind.TheVariants.{Rnr}
@@ -9,17 +8,14 @@ use Rattle.swp_base.specs.declared.link_terms.Cause.TheVariants.{Chain}
 use Rattle.swp_lpdu.specs.declared.LpduFault.{LpduFault}
 use Rattle.swp_lpdu.specs.Controls.{control_of}
 use Rattle.trace_model.specs.declared.entry.Entry.{Entry}
-use Rattle.trace_model.specs.declared.entry.Entry.TheVariants.{Down}
+use Rattle.trace_model.specs.declared.entry.Entry.TheVariants.{Up, Down, GaveUp, Emit}
 use Rattle.trace_model.specs.declared.line.End.{End}
 use Rattle.trace_model.specs.Ends.{other_end}
 use Rattle.hcp_packet.specs.Packets.{good_of, IsFrontOf}
-use Rattle.shdlc_core.specs.Machine.{is_waiting}
-use Rattle.history.specs.Histories.{Event, History, all_entries, all_events, entries_of, causes_of}
+use Rattle.history.specs.Histories.{Event, History, all_entries, all_events, entries_of}
 use Rattle.history.specs.Histories.Cause.{WasReset}
-use Rattle.history.specs.Filters.{Saying, said, sent_in, got_in, acked_in, session_number, wire_to}
+use Rattle.history.specs.Filters.{Saying, same_end, said, sent_in, got_in, acked_in, session_number, wire_to}
 use Rattle.history.specs.Filters.Saying.{Begins, Puts, Loses}
-use Rattle.history.specs.Steps.{bare_link, link_after_all}
-use Rattle.history.specs.Follows.{machine_of}
 
 -- ## In order
 
@@ -110,11 +106,24 @@ IsComplete t = (e : End) (n : ℕ) → IsReadQuiet t e n → IsDelivered t e n
 abbrev pub Complete : History → Type 0
 Complete t = (front back : List Event) → all_events t ≡ front ++ back → IsComplete (t.opening ++ entries_of front)
 
--- After these events an end was reset while the other one wasn't Waiting; since then, in these events behind it, no frame of the
--- link was lost and no other RSET put on it, and now both its wires are empty.
+-- ## Settled
+
+-- Whether an end waits for the answer to a reset, after an entry: it does once RSET went out of it, until its session begins or it gives up.
+abbrev pub waits_after : End → Bool → Entry → Bool
+waits_after e waits (Emit f lpdu) = if same_end f e && is_rset_lpdu lpdu then true else waits
+waits_after e waits (Up f n) = if same_end f e then false else waits
+waits_after e waits (GaveUp f tries) = if same_end f e then false else waits
+waits_after e waits _ = waits
+
+-- an end of a link whose nodes lose no power, and which isn't activated anew, waits for the answer to a reset
+abbrev pub waits_in : List Entry → End → Bool
+waits_in t e = fold (waits_after e) false t
+
+-- After these events an end was reset while the other one didn't wait for the answer to a reset; since then, in these events behind it, no
+-- frame of the link was lost and no other RSET put on it, and now both its wires are empty.
 pub record IsReadSettled (opening : List Entry) (before : List Event) (reset : Event) (behind : List Event) (e : End) (window : Option ℕ) : Type 0 where
   pub cause : reset.cause ≡ WasReset e window
-  pub other : is_waiting (machine_of (link_after_all bare_link (causes_of before)) (other_end e)).shdlc ≡ false
+  pub other : waits_in (opening ++ entries_of before) (other_end e) ≡ false
   pub lossless : has_lost e.link (entries_of (reset ∷ behind)) ≡ false
   pub alone : has_rset e.link (entries_of behind) ≡ false
   pub to_here : wire_to (opening ++ entries_of (before ++ reset ∷ behind)) e ≡ []

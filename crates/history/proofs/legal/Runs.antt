@@ -12,7 +12,7 @@ use Rattle.trace_model.specs.declared.line.Line.TheVariants.{Send, Deliver, Lose
 use Rattle.trace_model.specs.declared.line.Line.TheVariants.{Settle}
 use Rattle.trace_model.specs.Lines.{IsLineOf}
 use Rattle.hcp_packet.specs.Packets.{IsSendable}
-use Rattle.link_laws.specs.messages.Links.{Link, LinkEvent, EndEvent, IsWindow, IsEvent, IsAllowed, AllAllowed, exchanged}
+use Rattle.link_laws.specs.messages.Links.{Link, LinkEvent, EndEvent, IsWindow, IsEvent, IsAllowed, AllAllowed, exchanged, happens, after_link_events}
 use Rattle.link_laws.specs.entries.Entries.{entries, event_entries}
 use Rattle.history.specs.Histories.{Cause, Event, Outcome, Step, events_of, entries_of, causes_of}
 use Rattle.history.specs.Histories.Cause.{Given, Taken, WasLost, Ticked, WasReset, Readied}
@@ -51,6 +51,16 @@ can_event l (Taken e) can = at_either l e _ (tt, (tt, tt)) (tt, (tt, tt))
 can_event l (WasLost e why) can = at_either l e _ tt tt
 can_event l Ticked can = ((tt, tt), tt, (tt, tt))
 can_event l (Readied e ready) can = at_either l e _ (tt, (tt, tt)) (tt, (tt, tt))
+
+-- so are these, one after another
+pub all_can : (cs : List Cause) (l : Link) → CanAll cs → AllAllowed l (map event_of cs)
+all_can [] l can = tt
+all_can (c ∷ cs) l can = (can_event l c can.0, all_can cs (happens l (event_of c)) can.1)
+
+-- they make the same of a link
+pub after_causes : (cs : List Cause) (l : Link) → after_link_events l (map event_of cs) ≡ link_after_all l cs
+after_causes [] l = refl
+after_causes (c ∷ cs) l = after_causes cs (link_after l c)
 
 can_repeat : (c : Cause) → CanCause c → (n : ℕ) → CanAll (replicate n c)
 can_repeat c can zero = tt

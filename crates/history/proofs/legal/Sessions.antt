@@ -1,6 +1,6 @@
 -- What is noted of the events of causes says which sessions both ends have.
-use Rattle.std.proofs.Common.{◌≡◌, List, [], ◌∷◌, map, None}
-use Rattle.link_laws.specs.messages.Links.{Link, after_link_events, happens, AllAllowed}
+use Rattle.std.proofs.Common.{◌≡◌, List, map, None}
+use Rattle.link_laws.specs.messages.Links.{after_link_events}
 use Rattle.link_laws.specs.messages.Links.IsStart.{IsBare}
 use Rattle.link_laws.specs.entries.Entries.{trace}
 use Rattle.link_laws.specs.entries.Entries.End.{Controller, Host}
@@ -9,11 +9,7 @@ use Rattle.link_laws.proofs.entries.Hearing.{heard}
 use Rattle.link_laws.proofs.entries.Heard.{controller_heard as link_controller, host_heard as link_host}
 use Rattle.history.specs.Histories.{Cause}
 use Rattle.history.specs.Steps.{event_of, bare_link}
-use Rattle.history.proofs.legal.Runs.{CanAll, can_event}
-
-all_can : (cs : List Cause) (l : Link) → CanAll cs → AllAllowed l (map event_of cs)
-all_can [] l can = tt
-all_can (c ∷ cs) l can = (can_event l c can.0, all_can cs (happens l (event_of c)) can.1)
+use Rattle.history.proofs.legal.Runs.{CanAll, all_can}
 
 -- what is heard of a bare link from its beginning on
 pub controller_heard : (cs : List Cause) → CanAll cs

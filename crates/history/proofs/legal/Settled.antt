@@ -1,5 +1,5 @@
 -- A reset whose answer nothing kept back has brought both ends up.
-use Rattle.std.proofs.Common.{◌≡◌, ℕ, Bool, true, false, List, [], ◌∷◌, ◌++◌, map, Option, Some, None, refl, ap, sym, subst, ◌∙◌, append_assoc}
+use Rattle.std.proofs.Common.{◌≡◌, ℕ, Bool, true, false, List, [], ◌∷◌, ◌++◌, Option, Some, None, refl, ap, sym, subst, ◌∙◌, append_assoc}
 use Rattle.std.specs.Prelude.{◌==◌, ◌&&◌}
 use Rattle.std.specs.List.{list_any, AllByRecursion}
 use Rattle.std.proofs.lemmas.Bool.{true≢false}
@@ -28,12 +28,12 @@ use Rattle.link_laws.specs.entries.Settled.{IsReset, rest_of, withholds}
 use Rattle.link_laws.proofs.entries.Running.{Noted as IsNoted, note_event, start_noted}
 use Rattle.link_laws.proofs.entries.Sparing.{Spared, Stands, or_none, none_withheld}
 use Rattle.link_laws.proofs.entries.Together.{AreActive, event_goes, together}
-use Rattle.history.proofs.legal.Runs.{AreOf, CanAll, can_event, link_events, of_front, of_entries, of_allowed, of_can}
+use Rattle.history.proofs.legal.Runs.{AreOf, CanAll, can_event, link_events, of_front, of_entries, of_allowed, of_can, after_causes}
 use Rattle.history.proofs.legal.Plain.{ArePlain, plain_event, plain_entries, plain_trace}
 use Rattle.history.specs.Histories.{Cause, Event, History, entries_of, causes_of, all_events}
 use Rattle.history.specs.Histories.Cause.{WasReset}
 use Rattle.history.specs.Filters.{session_number, wire_to}
-use Rattle.history.specs.Legal.{has_lost, has_rset, AreReadUpTogether, Settled}
+use Rattle.history.specs.Legal.{has_lost, has_rset, waits_in, AreReadUpTogether, Settled}
 use Rattle.history.specs.Steps.{at, event_of, end_of, entries_for, bare_link, link_after, link_after_all}
 use Rattle.history.specs.Follows.{machine_of, Follows, host_of}
 use Rattle.history.proofs.legal.Ordered.{IsRun, is_run, notes_of, run_entries}
@@ -41,6 +41,7 @@ use Rattle.link_laws.proofs.entries.Hearing.{up_session}
 use Rattle.history.proofs.legal.Sessions.{controller_heard, host_heard}
 use Rattle.history.proofs.legal.Reading.{session-all, link_same}
 use Rattle.history.proofs.legal.Complete.{link_now, empty_controller, empty_host}
+use Rattle.history.proofs.waits.Reading.{waits_as_read}
 use Rattle.history.proofs.legal.Asked.{IsAsked, AreAsked, asked_front, all_asked}
 
 -- ## Events
@@ -91,10 +92,6 @@ reset_alone l e window = go e.at_host
     go true = refl
 
 -- ## Runs
-
-after_causes : (cs : List Cause) (l : Link) → after_link_events l (map event_of cs) ≡ link_after_all l cs
-after_causes [] l = refl
-after_causes (c ∷ cs) l = after_causes cs (link_after l c)
 
 events-append : (xs ys : List Event) → link_events (xs ++ ys) ≡ link_events xs ++ link_events ys
 events-append [] ys = refl
@@ -216,12 +213,16 @@ settled_of h t run asked before reset behind back e window q z =
     let alone : has_rset h (entries_of behind) ≡ false = ap (λ n. has_rset n (entries_of behind)) (sym mine.0) ∙ z.alone in
     let spared : Spared (entries m (link_events behind)) =
     spared_of h (entries m (link_events behind)) (sym (ap (has_lost h) read) ∙ lossless) (sym (ap (has_rset h) read) ∙ alone) in
-    let can = of_can h bare_link before (of_front h bare_link before (reset ∷ behind) a) in
+    let first = of_front h bare_link before (reset ∷ behind) a in
+    let can = of_can h bare_link before first in
+    let opened : t.opening ++ entries_of before ≡ entries_for h (notes_of before) = run_entries h t.opening before run.opening first in
+    let other : is_waiting (machine_of l (other_end e)).shdlc ≡ false =
+    sym (waits_as_read h before (other_end e) first (sym mine.0)) ∙ (sym (ap (λ y. waits_in y (other_end e)) opened) ∙ z.other) in
     let R : Cause → Type 0 = λ c. IsReset l (event_of c) in
     let Alone : Cause → Type 0 = λ c. rest_of l (event_of c) ≡ [] in
     let law : (link_now xs).to_controller ≡ [] → (link_now xs).to_host ≡ [] → LinkTogether (link_now xs) =
     run_together before reset behind (of_allowed h bare_link xs a)
-    (subst R (sym z.cause) (reset_ready l e window mine.1 z.other (always_active (causes_of before) can)))
+    (subst R (sym z.cause) (reset_ready l e window mine.1 other (always_active (causes_of before) can)))
     (subst Alone (sym z.cause) (reset_alone l e window))
     (none_withheld (entries m (link_events behind)) spared (plain_stands (entries m (link_events behind)) (plain_entries (causes_of behind) m))) in
     let is : t.opening ++ entries_of xs ≡ entries_for h (notes_of xs) = run_entries h t.opening xs run.opening a in

@@ -1,0 +1,671 @@
+-- What is noted of a step of an end says whether it waits for the answer to a reset.
+use Rattle.std.proofs.Common.{◌≡◌, ℕ, suc, Bool, true, false, List, [], ◌∷◌, ◌++◌, map, Option, Some, None, ◌⊎◌, inl, inr, refl, ap, sym, subst, ◌∙◌}
+use Rattle.std.specs.Prelude.{is_some, nat_lt, option_to_list, length, if◌then◌else◌, ◌&&◌, ◌+◌, ◌==◌}
+use Rattle.std.specs.List.{fold, list_any}
+use Rattle.std.proofs.lemmas.Bool.{true≢false}
+use Rattle.std.proofs.lemmas.List.Sums.{fold-append}
+use Rattle.swp_base.specs.declared.control_frames.Act.{Act as Activation}
+use Rattle.swp_base.specs.declared.control_frames.Control.{Control}
+use Rattle.swp_base.specs.declared.control_frames.Control.TheVariants.{I, S, Rset, Ua, Act, Clt}
+use Rattle.swp_base.specs.declared.link_terms.Cause.TheVariants.{Asked}
+use Rattle.swp_act.specs.declared.ActEvent.{ActEvent}
+use Rattle.swp_act.specs.declared.ActEvent.TheVariants.{Take as ActTake, Tick as ActTick}
+use Rattle.shdlc_core.specs.declared.answers.LinkState.{LinkState}
+use Rattle.shdlc_core.specs.declared.answers.LinkState.TheVariants.{Down as IsDown, Waiting as IsWaitingNow, Up as IsUpNow}
+use Rattle.shdlc_core.specs.declared.answers.Due.{Due}
+use Rattle.shdlc_core.specs.declared.answers.Due.TheVariants.{Rr as Rr_due, Rset as Rset_due}
+use Rattle.shdlc_core.specs.Machine.{EndState, Fragment, is_waiting, frames_of, most_frames, taken, take_answer, ticked, tick_answer, runs_timer, reset_with}
+use Rattle.shdlc_core.specs.Machine.{stopped, due_left}
+use Rattle.link_laws.proofs.places.Joined.{ready_cases, changed}
+use Rattle.link_laws.specs.sessions.Sessions.{OnWire, ShdlcTurn as CoreTurn, is_rset, took_with, shdlc_turn as core_turn, shdlc_turned as core_turned}
+use Rattle.link_laws.specs.sessions.Sessions.ShdlcTurn.{Offer, SetReady}
+use Rattle.link_laws.specs.machine.Machine.{LinkEnd, Role, Refused, LinkInput, Turn, Report, report, turn, turned, give_refusal, took, after_input, ended_by}
+use Rattle.link_laws.specs.machine.Machine.{began_by, gave_up_by, whole_acked, frames_out, among, is_open, moved, activated, role_after, act_answer}
+use Rattle.link_laws.specs.machine.Machine.{reset_refusal, reset_by, window_of, if_up, renewed, new_link_end}
+use Rattle.link_laws.specs.machine.Machine.Role.{Bare, Clf, Uicc}
+use Rattle.link_laws.specs.machine.Machine.LinkInput.{Take, Tick as HasTick, Reset}
+use Rattle.link_laws.specs.machine.Machine.Turn.{Give, Hold, FetchMessage, SetAside, Release}
+use Rattle.link_laws.proofs.machine.Runs.{opened}
+use Rattle.link_laws.proofs.machine.Reports.{shdlc_is as shdlc_moved}
+use Rattle.link_laws.proofs.machine.Shifts.{Shift, taken_shift}
+use Rattle.link_laws.proofs.machine.Shifts.Shift.{Stays, Ends, Renews, Begins, Rests as ShiftRests}
+use Rattle.link_laws.specs.messages.Links.{NumberedEnd, Link, Loss, Ending, Node, EndEvent, number_of, put, becomes, silent, finished, with_ended, has_taken}
+use Rattle.link_laws.specs.messages.Links.{happens_at_controller, ticks_at_controller, AreSendableTurns, IsNode, IsAllowed, IsOwn}
+use Rattle.link_laws.specs.messages.Links.Ending.{GoesOut, CutOff}
+use Rattle.link_laws.specs.messages.Links.Comes.{NextFrame, AsksReset, Starts, Stops, NoInput}
+use Rattle.link_laws.specs.messages.Links.EndEvent.{Step, Lose}
+use Rattle.link_laws.specs.messages.Links.Loss.{TooMany}
+use Rattle.link_laws.specs.messages.Projection.{core_turns}
+use Rattle.link_laws.proofs.messages.Asks.{NoAsk, NoRset, none_due}
+use Rattle.link_laws.proofs.messages.Ends.{frames_alike, ticked_keeps}
+use Rattle.link_laws.proofs.messages.Project.{Now, mid_moved, turns_mid}
+use Rattle.link_laws.proofs.messages.Steps.{ComesFirst, is_shdlc, heard_is, took_open, took_closed, no_fault_first, polite, role_closes, act_mid}
+use Rattle.link_laws.proofs.messages.Finishing.{none_out, first_none, reset_tells, reset_waits, reset_keeps, tick_open, tick_closed, restart_mid}
+use Rattle.link_laws.specs.entries.Entries.{End, Entry, far, if_so, told, told_of, turn_entry, turn_entries, sent_unless, first_lost, wire_with}
+use Rattle.link_laws.specs.entries.Entries.{put_entries, puts_entries, rest_entries, input_entries, restart_entries, step_entries, here_entries, tick_entries}
+use Rattle.link_laws.specs.entries.Entries.{left_after, taken_entries, aged_entries}
+use Rattle.link_laws.specs.entries.Entries.Entry.{Up, Down, Active, GaveUp, Acked, Got, Emit, Restarted, Cut}
+use Rattle.link_laws.specs.entries.Filters.{same_link_end}
+use Rattle.link_laws.proofs.entries.Books.{same_self, same_far}
+use Rattle.link_laws.proofs.entries.Noting.{turned_same, Near, IsRestart, start_restarts, stop_restarts}
+use Rattle.link_laws.proofs.entries.Running.{Before, comes_first, near_of}
+
+-- ## What is read
+
+-- an end waits for the answer to a reset after one more entry: RSET goes out of it, its session begins, it gives up, or it begins anew
+abbrev pub hark : End → Bool → Entry → Bool
+hark who b (Emit w c) = if same_link_end w who && is_rset c then true else b
+hark who b (Up w n) = if same_link_end w who then false else b
+hark who b (GaveUp w tries) = if same_link_end w who then false else b
+hark who b (Restarted w) = if same_link_end w who then false else b
+hark who b (Cut w) = if same_link_end w who then false else b
+hark who b _ = b
+
+-- after these entries, one after another
+abbrev pub harks : End → Bool → List Entry → Bool
+harks who b t = fold (hark who) b t
+
+-- it waits
+abbrev pub waits : NumberedEnd → Bool
+waits h = is_waiting h.side.shdlc
+
+pub harks-append : (who : End) (b : Bool) (t u : List Entry) → harks who b (t ++ u) ≡ harks who (harks who b t) u
+harks-append who b t u = fold-append (hark who) b t u
+
+-- these say nothing of whether an end waits
+abbrev pub Passes : End → List Entry → Type 0
+Passes who t = (b : Bool) → harks who b t ≡ b
+
+pub passes-append : (who : End) (t u : List Entry) → Passes who t → Passes who u → Passes who (t ++ u)
+passes-append who t u p q b = harks-append who b t u ∙ (ap (λ z. harks who z u) (p b) ∙ q b)
+
+passes_so : (who : End) (c : Bool) (e : Entry) → Passes who (e ∷ []) → Passes who (if_so c e)
+passes_so who false e p b = refl
+passes_so who true e p b = p b
+
+passes_map : {A : Type 0} (who : End) (f : A → Entry) (xs : List A) → ((x : A) → Passes who (f x ∷ [])) → Passes who (map f xs)
+passes_map who f [] p b = refl
+passes_map who f (x ∷ xs) p b = ap (λ z. harks who z (map f xs)) (p x b) ∙ passes_map who f xs p b
+
+-- ## An input
+
+-- what is told behind that an end gave up
+abbrev told_last : End → ℕ → Report → ℕ → List Entry
+told_last who n r acked = if_so (nat_lt 0 r.acked) (Acked who n acked) ++ map (Got who n) r.got
+
+passes_last : (w who : End) (n : ℕ) (r : Report) (acked : ℕ) → Passes w (told_last who n r acked)
+passes_last w who n r acked =
+    passes-append w (if_so (nat_lt 0 r.acked) (Acked who n acked)) (map (Got who n) r.got)
+    (passes_so w (nat_lt 0 r.acked) (Acked who n acked) (λ b. refl)) (passes_map w (Got who n) r.got (λ m b. refl))
+
+-- nothing is told of the other end
+passes_told : (who : End) (n : ℕ) (r : Report) (acked : ℕ) → Passes (far who) (told who n r acked)
+passes_told who n r acked =
+    let q = same_far who in
+    let a = passes-append (far who) (map (GaveUp who) (option_to_list r.gave_up)) (told_last who n r acked)
+    (passes_map (far who) (GaveUp who) (option_to_list r.gave_up) (λ m b. rw q refl)) (passes_last (far who) who n r acked) in
+    let c = passes-append (far who) (if_so r.became_active (Active who)) (map (GaveUp who) (option_to_list r.gave_up) ++ told_last who n r acked)
+    (passes_so (far who) r.became_active (Active who) (λ b. refl)) a in
+    let d = passes-append (far who) (if_so r.began (Up who n))
+    (if_so r.became_active (Active who) ++ (map (GaveUp who) (option_to_list r.gave_up) ++ told_last who n r acked))
+    (passes_so (far who) r.began (Up who n) (λ b. rw q refl)) c in
+    passes-append (far who) (map (Down who) (option_to_list r.ended))
+    (if_so r.began (Up who n) ++ (if_so r.became_active (Active who) ++ (map (GaveUp who) (option_to_list r.gave_up) ++ told_last who n r acked)))
+    (passes_map (far who) (Down who) (option_to_list r.ended) (λ x b. refl)) d
+
+-- an end whose session began or not, and which gave up or not
+abbrev pub after_told : Bool → Bool → Bool → Bool
+after_told began gave b = if gave then false else (if began then false else b)
+
+hark_up : (who : End) (c : Bool) (n : ℕ) (b : Bool) → harks who b (if_so c (Up who n)) ≡ (if c then false else b)
+hark_up who false n b = refl
+hark_up who true n b = let q = same_self who in rw q refl
+
+hark_given_up : (who : End) (o : Option ℕ) (b : Bool) → harks who b (map (GaveUp who) (option_to_list o)) ≡ (if is_some o then false else b)
+hark_given_up who None b = refl
+hark_given_up who (Some n) b = let q = same_self who in rw q refl
+
+hark_told : (who : End) (n : ℕ) (r : Report) (acked : ℕ) (b : Bool) → harks who b (told who n r acked) ≡ after_told r.began (is_some r.gave_up) b
+hark_told who n r acked b =
+    let gave : List Entry = map (GaveUp who) (option_to_list r.gave_up) in
+    let last : List Entry = told_last who n r acked in
+    let active : List Entry = if_so r.became_active (Active who) in
+    let began : List Entry = if_so r.began (Up who n) in
+    let first : Bool = if r.began then false else b in
+    harks-append who b (map (Down who) (option_to_list r.ended)) (began ++ (active ++ (gave ++ last)))
+    ∙ (ap (λ z. harks who z (began ++ (active ++ (gave ++ last)))) (passes_map who (Down who) (option_to_list r.ended) (λ x c. refl) b)
+    ∙ (harks-append who b began (active ++ (gave ++ last))
+    ∙ (ap (λ z. harks who z (active ++ (gave ++ last))) (hark_up who r.began n b)
+    ∙ (harks-append who first active (gave ++ last)
+    ∙ (ap (λ z. harks who z (gave ++ last)) (passes_so who r.became_active (Active who) (λ c. refl) first)
+    ∙ (harks-append who first gave last
+    ∙ (passes_last who who n r acked (harks who first gave) ∙ hark_given_up who r.gave_up first)))))))
+
+-- ## Turns and frames
+
+passes_turn : (w who : End) (n : ℕ) (e : LinkEnd) (t : Turn) → Passes w (turn_entry who n e t)
+passes_turn w who n e (Give m) = go (give_refusal e m)
+  where
+    go : (o : Option Refused) → Passes w (sent_unless o who n m)
+    go None b = refl
+    go (Some why) b = refl
+passes_turn w who n e (Hold held) = λ b. refl
+passes_turn w who n e FetchMessage = λ b. refl
+passes_turn w who n e SetAside = λ b. refl
+passes_turn w who n e Release = λ b. refl
+
+passes_turns : (w who : End) (n : ℕ) (e : LinkEnd) (ts : List Turn) → Passes w (turn_entries who n e ts)
+passes_turns w who n e [] = λ b. refl
+passes_turns w who n e (t ∷ ts) =
+    passes-append w (turn_entry who n e t) (turn_entries who n (turn e t) ts) (passes_turn w who n e t) (passes_turns w who n (turn e t) ts)
+
+pub passes_lost : (w who : End) (why : Loss) (xs : List OnWire) → Passes w (first_lost who why xs)
+passes_lost w who why [] = λ b. refl
+passes_lost w who why (x ∷ xs) = λ b. refl
+
+passes_pushed : (w who : End) (c : Bool) (xs : List OnWire) → Passes w (if c then first_lost who TooMany xs else [])
+passes_pushed w who true xs = passes_lost w who TooMany xs
+passes_pushed w who false xs = λ b. refl
+
+pub passes_aged : (w who : End) (xs : List OnWire) → Passes w (aged_entries who xs)
+passes_aged w who [] = λ b. refl
+passes_aged w who (x ∷ xs) = go (nat_lt x.age 4) refl (passes_aged w who xs)
+  where
+    go : (c : Bool) → nat_lt x.age 4 ≡ c → Passes w (aged_entries who xs) → Passes w (aged_entries who (x ∷ xs))
+    go true q later b = rw q (later b)
+    go false q later b = rw q (later b)
+
+-- a frame that goes out
+put_harked : (who : End) (l : Link) (c : Control) (b : Bool) → harks who b (put_entries who l c) ≡ (if is_rset c then true else b)
+put_harked who l c b =
+    let own : hark who b (Emit who c) ≡ (if is_rset c then true else b) = let q = same_self who in rw q refl in
+    passes_pushed who (far who) (nat_lt 64 (length (wire_with l c))) (wire_with l c) (hark who b (Emit who c)) ∙ own
+
+put_far : (who : End) (l : Link) (c : Control) → Passes (far who) (put_entries who l c)
+put_far who l c b =
+    let own : hark (far who) b (Emit who c) ≡ b = let q = same_far who in rw q refl in
+    passes_pushed (far who) (far who) (nat_lt 64 (length (wire_with l c))) (wire_with l c) (hark (far who) b (Emit who c)) ∙ own
+
+puts_far : (who : End) (cs : List Control) (l : Link) → Passes (far who) (puts_entries who l cs)
+puts_far who [] l = λ b. refl
+puts_far who (c ∷ cs) l = passes-append (far who) (put_entries who l c) (puts_entries who (put l c) cs) (put_far who l c) (puts_far who cs (put l c))
+
+-- where none of them is an RSET
+puts_none : (who : End) (cs : List Control) (l : Link) → NoRset cs → Passes who (puts_entries who l cs)
+puts_none who [] l none = λ b. refl
+puts_none who (c ∷ cs) l none =
+    passes-append who (put_entries who l c) (puts_entries who (put l c) cs)
+    (λ b. put_harked who l c b ∙ ap (λ x. if x then true else b) none.0)
+    (puts_none who cs (put l c) none.1)
+
+-- where it waits already
+puts_waiting : (who : End) (cs : List Control) (l : Link) → harks who true (puts_entries who l cs) ≡ true
+puts_waiting who [] l = refl
+puts_waiting who (c ∷ cs) l =
+    harks-append who true (put_entries who l c) (puts_entries who (put l c) cs)
+    ∙ (ap (λ z. harks who z (puts_entries who (put l c) cs)) (put_harked who l c true ∙ either (is_rset c)) ∙ puts_waiting who cs (put l c))
+  where
+    either : (x : Bool) → (if x then true else true) ≡ true
+    either true = refl
+    either false = refl
+
+-- where one of them is an RSET
+puts_some : (who : End) (cs : List Control) (l : Link) (b : Bool) → list_any is_rset cs ≡ true → harks who b (puts_entries who l cs) ≡ true
+puts_some who [] l b some = absurd (true≢false (sym some))
+puts_some who (c ∷ cs) l b some =
+    harks-append who b (put_entries who l c) (puts_entries who (put l c) cs)
+    ∙ (ap (λ z. harks who z (puts_entries who (put l c) cs)) (put_harked who l c b) ∙ by (is_rset c) refl (λ z. puts_some who cs (put l c) b z))
+  where
+    by : (x : Bool) → is_rset c ≡ x → (list_any is_rset cs ≡ true → harks who b (puts_entries who (put l c) cs) ≡ true)
+        → harks who (if is_rset c then true else b) (puts_entries who (put l c) cs) ≡ true
+    by true q later = ap (λ x. harks who (if x then true else b) (puts_entries who (put l c) cs)) q ∙ puts_waiting who cs (put l c)
+    by false q later =
+        ap (λ x. harks who (if x then true else b) (puts_entries who (put l c) cs)) q
+        ∙ later (let z : list_any is_rset cs ≡ true = rw q at some in z)
+
+-- ## The end of a step
+
+same_waiting : (a b : EndState) → a.phase ≡ b.phase → is_waiting a ≡ is_waiting b
+same_waiting a b p = go b.phase refl
+  where
+    go : (y : LinkState) → b.phase ≡ y → is_waiting a ≡ is_waiting b
+    go IsUpNow q = let r = p ∙ q in rw (r, q) refl
+    go IsWaitingNow q = let r = p ∙ q in rw (r, q) refl
+    go IsDown q = let r = p ∙ q in rw (r, q) refl
+
+-- how an end f whose node has these turns ends its step, where this was read of it before: RSET goes out, and it waits; or none goes out
+data EndsSo (f : LinkEnd) (ts : List Turn) (b : Bool) : Type 0 where
+  Asks : is_waiting f.shdlc ≡ true → list_any is_rset (frames_out (turned f ts)) ≡ true → EndsSo f ts b
+  Quiet : b ≡ is_waiting f.shdlc → NoRset (frames_out (turned f ts)) → EndsSo f ts b
+
+turned_waits : (l : Link) (f : LinkEnd) (ts : List Turn) → waits (becomes l (turned f ts)).controller ≡ is_waiting f.shdlc
+turned_waits l f ts = same_waiting (becomes l (turned f ts)).controller.side.shdlc f.shdlc ((frames_alike most_frames (turned f ts).shdlc).phase ∙ turned_same ts f)
+
+new_waits : (r : Role) → is_waiting (new_link_end (renewed r)).shdlc ≡ false
+new_waits Bare = refl
+new_waits (Clf s) = refl
+new_waits (Uicc s) = refl
+
+rest_harked : (who : End) (l : Link) (f : LinkEnd) (ts : List Turn) (ending : Ending) (b : Bool) → EndsSo f ts b
+    → harks who b (rest_entries who l f ts ending) ≡ waits (finished l (turned f ts) ending).controller
+rest_harked who l f ts GoesOut b so =
+    harks-append who b (turn_entries who (number_of l.controller) f ts) (puts_entries who l (frames_out (turned f ts)))
+    ∙ (ap (λ z. harks who z (puts_entries who l (frames_out (turned f ts)))) (passes_turns who who (number_of l.controller) f ts b)
+    ∙ (by so ∙ sym (turned_waits l f ts)))
+  where
+    by : EndsSo f ts b → harks who b (puts_entries who l (frames_out (turned f ts))) ≡ is_waiting f.shdlc
+    by (Asks w some) = puts_some who (frames_out (turned f ts)) l b some ∙ sym w
+    by (Quiet w none) = puts_none who (frames_out (turned f ts)) l none b ∙ w
+rest_harked who l f ts CutOff b so =
+    let last : harks who b (Cut who ∷ []) ≡ false = let q = same_self who in rw q refl in
+    harks-append who b (turn_entries who (number_of l.controller) f ts) (Cut who ∷ [])
+    ∙ (ap (λ z. harks who z (Cut who ∷ [])) (passes_turns who who (number_of l.controller) f ts b)
+    ∙ (last ∙ sym (new_waits (turned f ts).role)))
+
+rest_far : (who : End) (l : Link) (e : LinkEnd) (ts : List Turn) (ending : Ending) → Passes (far who) (rest_entries who l e ts ending)
+rest_far who l e ts GoesOut =
+    passes-append (far who) (turn_entries who (number_of l.controller) e ts) (puts_entries who l (frames_out (turned e ts)))
+    (passes_turns (far who) who (number_of l.controller) e ts) (puts_far who (frames_out (turned e ts)) l)
+rest_far who l e ts CutOff =
+    passes-append (far who) (turn_entries who (number_of l.controller) e ts) (Cut who ∷ []) (passes_turns (far who) who (number_of l.controller) e ts)
+    (λ b. let q = same_far who in rw q refl)
+
+-- ## RSETs that are due
+
+offer_due : (s : EndState) (fragments : List Fragment) → (core_turn s (Offer fragments)).due ≡ s.due
+offer_due s fragments = go s.phase refl
+  where
+    go : (p : LinkState) → s.phase ≡ p → (core_turn s (Offer fragments)).due ≡ s.due
+    go IsUpNow q = rw q refl
+    go IsWaitingNow q = rw q refl
+    go IsDown q = rw q refl
+
+-- turns leave the RSET in front
+first_due : (us : List CoreTurn) (s : EndState) (ds : List Due) → s.due ≡ Rset_due ∷ ds → (es : List Due) × ((core_turned s us).due ≡ Rset_due ∷ es)
+first_due [] s ds q = (ds, q)
+first_due (Offer fragments ∷ us) s ds q = first_due us (core_turn s (Offer fragments)) ds (offer_due s fragments ∙ q)
+first_due (SetReady r ∷ us) s ds q =
+    ready_cases (λ f. (es : List Due) × ((core_turned f us).due ≡ Rset_due ∷ es)) s r (first_due us s ds q) (first_due us (changed s r s.due) ds q)
+    (first_due us (changed s r (s.due ++ Rr_due ∷ [])) (ds ++ Rr_due ∷ []) (ap (λ d. d ++ Rr_due ∷ []) q))
+
+first_rset : (n : ℕ) (s : EndState) (ds : List Due) → s.due ≡ Rset_due ∷ ds → list_any is_rset (frames_of (suc n) s) ≡ true
+first_rset n s ds q = rw q refl
+
+-- an RSET that is due goes out
+out_some : (f : LinkEnd) (ts : List Turn) → AreSendableTurns ts → Now f → f.shdlc.due ≡ Rset_due ∷ [] → list_any is_rset (frames_out (turned f ts)) ≡ true
+out_some f ts sendable now q =
+    let us : List CoreTurn = core_turns f ts in
+    let tm = turns_mid None f ts sendable now in
+    let z : EndState = core_turned f.shdlc us in
+    let frames : frames_out (turned f ts) ≡ frames_of most_frames z =
+    ap (λ a. among 0 a (frames_of most_frames (turned f ts).shdlc)) tm.mid.acts ∙ ap (λ y. frames_of most_frames y) tm.is in
+    let due = first_due us f.shdlc [] q in
+    ap (λ y. list_any is_rset y) frames ∙ first_rset 11 z due.0 due.1
+
+-- ## Ticks
+
+-- an SHDLC end s has become f in a tick, gave up or not: it asks, or goes on as before, or is over
+data Timed (s f : EndState) (gave : Bool) : Type 0 where
+  AsksNow : is_waiting f ≡ true → f.due ≡ Rset_due ∷ [] → Timed s f gave
+  Passed : after_told false gave (is_waiting s) ≡ is_waiting f → NoAsk f.due → Timed s f gave
+
+ticked_waits : (s : EndState) → s.due ≡ [] → Timed s (ticked s) (is_some (tick_answer s).gave_up)
+ticked_waits s due = go s.phase (runs_timer s.session) (nat_lt (s.timer + 1) 10) (nat_lt s.tries 5) refl refl refl refl
+  where
+    none : NoAsk s.due
+    none = none_due s due
+
+    go : (p : LinkState) (a b c : Bool) → s.phase ≡ p → runs_timer s.session ≡ a → nat_lt (s.timer + 1) 10 ≡ b → nat_lt s.tries 5 ≡ c
+        → Timed s (ticked s) (is_some (tick_answer s).gave_up)
+    go IsDown a b c p q r t = Passed (rw p refl) (rw p none)
+    go IsUpNow false b c p q r t = Passed (rw (p, q) refl) (rw (p, q) none)
+    go IsUpNow true true c p q r t = Passed (rw (p, q, r) refl) (rw (p, q, r) none)
+    go IsUpNow true false true p q r t = Passed (rw (p, q, r, t) refl) (rw (p, q, r, t) none)
+    go IsUpNow true false false p q r t = AsksNow (rw (p, q, r, t) refl) (rw (p, q, r, t) refl)
+    go IsWaitingNow a true c p q r t = Passed (rw (p, r) refl) (rw (p, r) none)
+    go IsWaitingNow a false true p q r t = AsksNow (rw (p, r, t) refl) (rw (p, r, t) (ap (λ d. d ++ Rset_due ∷ []) due))
+    go IsWaitingNow a false false p q r t = Passed (rw (p, r, t) refl) (rw (p, r, t) none)
+
+tick_so : (l : Link) (ts : List Turn) → AreSendableTurns ts → Near l
+    → EndsSo (after_input l.controller.side HasTick) ts (after_told false (is_some (gave_up_by l.controller.side HasTick)) (waits l.controller))
+tick_so l ts a n = go (is_open e.role) refl
+  where
+    e : LinkEnd
+    e = l.controller.side
+
+    s : EndState
+    s = ticked e.shdlc
+
+    c : Bool
+    c = is_some (tick_answer e.shdlc).ended
+
+    b : Bool
+    b = after_told false (is_some (tick_answer e.shdlc).gave_up) (is_waiting e.shdlc)
+
+    open_one : is_open e.role ≡ true → Timed e.shdlc s (is_some (tick_answer e.shdlc).gave_up) → EndsSo (moved e c s) ts b
+    open_one o (AsksNow w due) =
+        let is = shdlc_moved e c s in
+        let k : Now (moved e c s) = mid_moved e c s n.tells.now (ticked_keeps e.shdlc n.tells.now.idle) (opened e.role (s.phase ≡ IsDown) o) in
+        Asks (ap is_waiting is ∙ w) (out_some (moved e c s) ts a k (ap (λ (z : EndState). z.due) is ∙ due))
+    open_one o (Passed w none) =
+        let is = shdlc_moved e c s in
+        let k : Now (moved e c s) = mid_moved e c s n.tells.now (ticked_keeps e.shdlc n.tells.now.idle) (opened e.role (s.phase ≡ IsDown) o) in
+        let Q : EndState → Type 0 = λ z. NoAsk z.due in
+        Quiet (w ∙ sym (ap is_waiting is)) (none_out None (moved e c s) ts a k (subst Q (sym is) none))
+
+    down : (t : EndState) → t.phase ≡ IsDown → is_waiting t ≡ false
+    down t p = rw p refl
+
+    never : (x : Bool) (y : Bool) → y ≡ false → after_told false x y ≡ false
+    never true y q = refl
+    never false y q = q
+
+    go : (o : Bool) → is_open e.role ≡ o → EndsSo (after_input e HasTick) ts (after_told false (is_some (gave_up_by e HasTick)) (is_waiting e.shdlc))
+    go true o =
+        let is = (tick_open e o).0 in
+        let gave : is_some (gave_up_by e HasTick) ≡ is_some (tick_answer e.shdlc).gave_up = rw o refl in
+        let P : LinkEnd → Type 0 = λ f. EndsSo f ts (after_told false (is_some (gave_up_by e HasTick)) (is_waiting e.shdlc)) in
+        let Q : Bool → Type 0 = λ x. EndsSo (moved e c s) ts (after_told false x (is_waiting e.shdlc)) in
+        subst P (sym is) (subst Q (sym gave) (open_one o (ticked_waits e.shdlc n.rests.due)))
+    go false o =
+        let is = (tick_closed e o).0 in
+        let closed : e.shdlc.phase ≡ IsDown = n.tells.now.closed o in
+        let ended : (act_answer e.role ActTick).ended_link ≡ true → e.shdlc.phase ≡ IsDown = λ z. closed in
+        let m = act_mid e ActTick n.tells.now n.rests.due ended (λ z. closed) in
+        let f : LinkEnd = activated e ActTick in
+        let x : Bool = is_some (gave_up_by e HasTick) in
+        let P : LinkEnd → Type 0 = λ g. EndsSo g ts (after_told false x (is_waiting e.shdlc)) in
+        let due : f.shdlc.due ≡ [] = ap (λ (z : EndState). z.due) m.same ∙ n.rests.due in
+        subst P (sym is)
+        (Quiet (never x (is_waiting e.shdlc) (down e.shdlc closed) ∙ sym (ap is_waiting m.same ∙ down e.shdlc closed))
+        (none_out (act_answer e.role ActTick).send f ts a m.mid (none_due f.shdlc due)))
+
+-- ## Resets
+
+no_due : (p : LinkState) (due : List Due) → due ≡ [] → due_left p due ≡ []
+no_due IsUpNow due q = refl
+no_due IsWaitingNow due q = q
+no_due IsDown due q = q
+
+reset_due : (e : EndState) (w : ℕ) → is_waiting e ≡ false → e.due ≡ [] → (reset_with e w).due ≡ Rset_due ∷ []
+reset_due e w n q = let z = no_due e.phase e.due q in rw n (ap (λ d. d ++ Rset_due ∷ []) z)
+
+idle_so : (l : Link) (ts : List Turn) → AreSendableTurns ts → Near l → EndsSo l.controller.side ts (waits l.controller)
+idle_so l ts a n = Quiet refl (none_out None l.controller.side ts a n.tells.now (none_due l.controller.side.shdlc n.rests.due))
+
+reset_so : (l : Link) (window : Option ℕ) (ts : List Turn) → AreSendableTurns ts → Near l
+    → EndsSo (after_input l.controller.side (Reset window)) ts (waits l.controller)
+reset_so l window ts a n = go (reset_refusal e) refl
+  where
+    e : LinkEnd
+    e = l.controller.side
+
+    w : ℕ
+    w = window_of e window
+
+    P : LinkEnd → Type 0
+    P f = EndsSo f ts (is_waiting e.shdlc)
+
+    waiting : (s : EndState) → s.phase ≡ IsWaitingNow → is_waiting s ≡ true
+    waiting s p = rw p refl
+
+    go : (o : Option Refused) → reset_refusal e ≡ o → EndsSo (after_input e (Reset window)) ts (is_waiting e.shdlc)
+    go None q =
+        let is : after_input e (Reset window) ≡ reset_by e w = rw q refl in
+        let c : Bool = is_some (if_up e.shdlc Asked) in
+        let t = reset_tells e q in
+        let s : EndState = reset_with e.shdlc w in
+        let moved_is = shdlc_moved e c s in
+        let now : Now (reset_by e w) = mid_moved e c s n.tells.now (reset_keeps e.shdlc w t.1 n.tells.now.idle) (opened e.role (s.phase ≡ IsDown) t.0) in
+        subst P (sym is)
+        (Asks (ap is_waiting moved_is ∙ waiting s (reset_waits e.shdlc w t.1))
+        (out_some (reset_by e w) ts a now (ap (λ (z : EndState). z.due) moved_is ∙ reset_due e.shdlc w t.1 n.rests.due)))
+    go (Some why) q = let is : after_input e (Reset window) ≡ e = rw q refl in subst P (sym is) (idle_so l ts a n)
+
+-- ## Frames that come
+
+-- what an SHDLC end takes
+taken_waits : (s : EndState) (c : Control) → after_told (take_answer s c).began false (is_waiting s) ≡ is_waiting (taken s c)
+taken_waits s c = go s.phase refl c
+  where
+    up : (t : EndState) → t.phase ≡ IsUpNow → is_waiting t ≡ false
+    up t p = rw p refl
+
+    never : (x : Bool) → (if x then false else false) ≡ false
+    never true = refl
+    never false = refl
+
+    ended_began : s.phase ≡ IsUpNow → (c : Control) → is_some (take_answer s c).ended ≡ true → (take_answer s c).began ≡ false → ⊥
+    ended_began p (I ns nr info) q r = true≢false (let z : false ≡ true = rw p at q in sym z)
+    ended_began p (S kind nr) q r = true≢false (let z : false ≡ true = rw p at q in sym z)
+    ended_began p (Rset w caps) q r = by (w == 0) refl
+      where
+        by : (z : Bool) → (w == 0) ≡ z → ⊥
+        by true z = true≢false (let y : false ≡ true = rw (p, z) at q in sym y)
+        by false z = true≢false (let y : true ≡ false = rw (p, z) at r in y)
+    ended_began p Ua q r = true≢false (let z : false ≡ true = rw p at q in sym z)
+    ended_began p (Act x y) q r = true≢false (let z : false ≡ true = rw p at q in sym z)
+    ended_began p Clt q r = true≢false (let z : false ≡ true = rw p at q in sym z)
+
+    stays_up : (c : Control) → s.phase ≡ IsUpNow → Shift s (taken s c) (is_some (take_answer s c).ended) (take_answer s c).began
+        → is_waiting (taken s c) ≡ false
+    stays_up c p (Stays q r g) = up (taken s c) g.is
+    stays_up c p (Ends q r u still z) = absurd (ended_began p c q r)
+    stays_up c p (Renews q r u k) = up (taken s c) k.is
+    stays_up c p (Begins q r d k) = absurd (d p)
+    stays_up c p (ShiftRests q r d still z) = absurd (d p)
+
+    go : (p : LinkState) → s.phase ≡ p → (c : Control) → after_told (take_answer s c).began false (is_waiting s) ≡ is_waiting (taken s c)
+    go IsUpNow p c =
+        ap (λ b. after_told (take_answer s c).began false b) (up s p) ∙ (never (take_answer s c).began ∙ sym (stays_up c p (taken_shift s c)))
+    go IsWaitingNow p (Rset w caps) = by (w == 0) refl
+      where
+        by : (b : Bool) → (w == 0) ≡ b
+            → after_told (take_answer s (Rset w caps)).began false (is_waiting s) ≡ is_waiting (taken s (Rset w caps))
+        by true q = rw (p, q) refl
+        by false q = rw (p, q) refl
+    go IsWaitingNow p (I ns nr info) = rw p refl
+    go IsWaitingNow p (S kind nr) = rw p refl
+    go IsWaitingNow p Ua = rw p refl
+    go IsWaitingNow p (Act x y) = rw p refl
+    go IsWaitingNow p Clt = rw p refl
+    go IsDown p (Rset w caps) = by (w == 0) refl
+      where
+        by : (b : Bool) → (w == 0) ≡ b
+            → after_told (take_answer s (Rset w caps)).began false (is_waiting s) ≡ is_waiting (taken s (Rset w caps))
+        by true q = rw (p, q) refl
+        by false q = rw (p, q) refl
+    go IsDown p (I ns nr info) = rw p refl
+    go IsDown p (S kind nr) = rw p refl
+    go IsDown p Ua = rw p refl
+    go IsDown p (Act x y) = rw p refl
+    go IsDown p Clt = rw p refl
+
+frame_waits : (l : Link) (x : OnWire) (xs : List OnWire) → ComesFirst l x xs
+    → after_told (began_by l.controller.side (Take x.frame)) false (waits l.controller) ≡ is_waiting (took l.controller.side x.frame).shdlc
+frame_waits l x xs comes = go x.frame refl
+  where
+    e : LinkEnd
+    e = l.controller.side
+
+    P : Control → Type 0
+    P c = after_told (began_by e (Take c)) false (is_waiting e.shdlc) ≡ is_waiting (took e c).shdlc
+
+    no_began : (c : Bool) (z : Bool) → z ≡ false → after_told (c && z) false (is_waiting e.shdlc) ≡ is_waiting e.shdlc
+    no_began true z q = ap (λ b. after_told b false (is_waiting e.shdlc)) q
+    no_began false z q = refl
+
+    act_none : (act : Activation) (again : Bool) → (take_answer e.shdlc (Act act again)).began ≡ false
+    act_none act again = by e.shdlc.phase refl
+      where
+        by : (p : LinkState) → e.shdlc.phase ≡ p → (take_answer e.shdlc (Act act again)).began ≡ false
+        by IsUpNow p = rw p refl
+        by IsWaitingNow p = rw p refl
+        by IsDown p = rw p refl
+
+    clt_none : (take_answer e.shdlc Clt).began ≡ false
+    clt_none = by e.shdlc.phase refl
+      where
+        by : (p : LinkState) → e.shdlc.phase ≡ p → (take_answer e.shdlc Clt).began ≡ false
+        by IsUpNow p = rw p refl
+        by IsWaitingNow p = rw p refl
+        by IsDown p = rw p refl
+
+    shdlc : (b : Bool) → is_open e.role ≡ b → is_shdlc x.frame ≡ true → began_by e (Take x.frame) ≡ (b && (take_answer e.shdlc x.frame).began) → P x.frame
+    shdlc true o s began =
+        let f = took_open e x s o (no_fault_first l x xs comes.first comes.tells comes.host o comes.from) in
+        let g = heard_is e x comes.tells.now o in
+        ap (λ b. after_told b false (is_waiting e.shdlc)) began
+        ∙ (taken_waits e.shdlc x.frame ∙ sym (ap (λ (z : LinkEnd). is_waiting z.shdlc) f.0 ∙ ap is_waiting g.shdlc))
+    shdlc false o s began =
+        ap (λ b. after_told b false (is_waiting e.shdlc)) began
+        ∙ sym (ap (λ (z : LinkEnd). is_waiting z.shdlc) (took_closed e x.frame s o).0)
+
+    acts : (act : Activation) (again : Bool) → x.frame ≡ Act act again → P (Act act again)
+    acts act again q =
+        let event : ActEvent = ActTake act again in
+        let down = polite e x xs act again q comes.polite in
+        let closed : is_open (role_after e.role event) ≡ false → e.shdlc.phase ≡ IsDown = λ z. by (role_closes e.role act again z) in
+        let m = act_mid e event comes.tells.now comes.rests.due down closed in
+        no_began (is_open e.role) (take_answer e.shdlc (Act act again)).began (act_none act again) ∙ sym (ap is_waiting m.same)
+      where
+        by : (is_open e.role ≡ false) ⊎ ((act_answer e.role (ActTake act again)).ended_link ≡ true) → e.shdlc.phase ≡ IsDown
+        by (inl z) = comes.tells.now.closed z
+        by (inr z) = polite e x xs act again q comes.polite z
+
+    of_shdlc : is_shdlc x.frame ≡ true → P x.frame
+    of_shdlc s = by (is_open e.role) refl
+      where
+        by : (b : Bool) → is_open e.role ≡ b → P x.frame
+        by b o = shdlc b o s (ap (λ y. y && (take_answer e.shdlc x.frame).began) o)
+
+    go : (c : Control) → x.frame ≡ c → P x.frame
+    go (Act act again) q = subst P (sym q) (acts act again q)
+    go Clt q = subst P (sym q) (no_began (is_open e.role) (take_answer e.shdlc Clt).began clt_none)
+    go (I ns nr info) q = of_shdlc (ap is_shdlc q)
+    go (S kind nr) q = of_shdlc (ap is_shdlc q)
+    go (Rset w caps) q = of_shdlc (ap is_shdlc q)
+    go Ua q = of_shdlc (ap is_shdlc q)
+
+-- ## Steps
+
+-- a step tells whether its end waits, and nothing of the other end
+pub record Harked (who : End) (l m : Link) (u : List Entry) : Type 0 where
+  pub here : harks who (waits l.controller) u ≡ waits m.controller
+  pub there : Passes (far who) u
+
+-- an input of the end, which has taken an RSET with this number then, and what follows it
+input_harked : (who : End) (l k : Link) (number : ℕ) (i : LinkInput) (b : Bool) (ts : List Turn) (ending : Ending)
+    → EndsSo (after_input l.controller.side i) ts (after_told (began_by l.controller.side i) (is_some (gave_up_by l.controller.side i)) b)
+    → (harks who b (told_of who (record l.controller { took = number }) i ++ rest_entries who k (after_input l.controller.side i) ts ending)
+    ≡ waits (finished k (turned (after_input l.controller.side i) ts) ending).controller)
+    × Passes (far who) (told_of who (record l.controller { took = number }) i ++ rest_entries who k (after_input l.controller.side i) ts ending)
+input_harked who l k number i b ts ending so =
+    let e : LinkEnd = l.controller.side in
+    let f : LinkEnd = after_input e i in
+    let h : NumberedEnd = record l.controller { took = number } in
+    let us : List Entry = told who (number_of h) (report e i) (whole_acked f) in
+    let vs : List Entry = rest_entries who k f ts ending in
+    let c : Bool = after_told (began_by e i) (is_some (gave_up_by e i)) b in (
+      harks-append who b us vs
+          ∙ (ap (λ z. harks who z vs) (hark_told who (number_of h) (report e i) (whole_acked f) b) ∙ rest_harked who k f ts ending c so),
+      passes-append (far who) us vs (passes_told who (number_of h) (report e i) (whole_acked f)) (rest_far who k f ts ending),
+    )
+
+-- an input of its own
+own_input_harked : (who : End) (l : Link) (i : LinkInput) (ts : List Turn) (ending : Ending)
+    → EndsSo (after_input l.controller.side i) ts
+    (after_told (began_by l.controller.side i) (is_some (gave_up_by l.controller.side i)) (waits l.controller))
+    → Harked who l (finished (with_ended l (is_some (ended_by l.controller.side i))) (turned (after_input l.controller.side i) ts) ending)
+    (input_entries who l i ts ending)
+own_input_harked who l i ts ending so =
+    let both = input_harked who l (with_ended l (is_some (ended_by l.controller.side i))) l.controller.took i (waits l.controller) ts ending so in
+    record { here = both.0; there = both.1 }
+
+pub tick_harked : (who : End) (l : Link) (node : Node) → IsNode l node.turns node.ending → Near l
+    → Harked who l (ticks_at_controller l node.turns node.ending) (tick_entries who l node)
+tick_harked who l node a n = own_input_harked who l HasTick node.turns node.ending (tick_so l node.turns a.0 n)
+
+-- activation begins or ends
+restart_harked : (who : End) (l : Link) {i : LinkInput} {event : ActEvent} (ts : List Turn) (ending : Ending) → IsNode l ts ending → Near l
+    → IsRestart l.controller.side i event → is_some (gave_up_by l.controller.side i) ≡ false
+    → Harked who l (finished (silent l (after_input l.controller.side i)) (turned (after_input l.controller.side i) ts) ending)
+    (restart_entries who l i ts ending)
+restart_harked who l {i} {event} ts ending a n r none =
+    let e : LinkEnd = l.controller.side in
+    let f : LinkEnd = after_input e i in
+    let g : LinkEnd = activated (moved e true (stopped e.shdlc)) event in
+    let m = restart_mid e event n.tells.now in
+    let Q : EndState → Type 0 = λ z. NoAsk z.due in
+    let out : NoRset (frames_out (turned g ts)) = none_out (act_answer e.role event).send g ts a.0 m.mid (subst Q (sym m.same) tt) in
+    let R : LinkEnd → Type 0 = λ z. NoRset (frames_out (turned z ts)) in
+    let over : is_waiting f.shdlc ≡ false = ap (λ (z : LinkEnd). is_waiting z.shdlc) r.becomes ∙ ap is_waiting m.same in
+    let told : after_told (began_by e i) (is_some (gave_up_by e i)) false ≡ false =
+    ap (λ x. after_told x (is_some (gave_up_by e i)) false) r.none ∙ ap (λ x. after_told false x false) none in
+    let both = input_harked who l (silent l f) l.controller.took i false ts ending (Quiet (told ∙ sym over) (subst R (sym r.becomes) out)) in
+    let q = same_self who in
+    let p = same_far who in
+    let us : List Entry = told_of who l.controller i ++ rest_entries who (silent l f) f ts ending in
+    record {
+      here = ap (λ x. harks who (if x then false else waits l.controller) us) q ∙ both.0;
+      there = λ b. ap (λ x. harks (far who) (if x then false else b) us) p ∙ both.1 b;
+    }
+
+taken_harked : (who : End) (l : Link) (x : OnWire) (xs : List OnWire) (ts : List Turn) (ending : Ending) → IsNode l ts ending → ComesFirst l x xs
+    → Harked who l (has_taken l x xs ts ending) (taken_entries who l x xs ts ending)
+taken_harked who l x xs ts ending a comes =
+    let both = input_harked who l (left_after l x xs) (took_with l.controller.took x) (Take x.frame) (waits l.controller) ts ending
+    (Quiet (frame_waits l x xs comes) (first_none l ts x xs a.0 comes)) in
+    record { here = both.0; there = both.1 }
+
+-- a step that takes no frame
+pub own_harked : (who : End) (l : Link) (e : EndEvent) → IsOwn e → IsAllowed l e → Near l → Harked who l (happens_at_controller l e) (here_entries who l e)
+own_harked who l (Lose why) o a n = absurd o
+own_harked who l (Step NextFrame ts ending) o a n = absurd o
+own_harked who l (Step (AsksReset window) ts ending) o a n = own_input_harked who l (Reset window) ts ending (reset_so l window ts a.1.0 n)
+own_harked who l (Step (Starts v) ts ending) o a n = restart_harked who l ts ending a.1 n (start_restarts l.controller.side v n.sound) refl
+own_harked who l (Step Stops ts ending) o a n = restart_harked who l ts ending a.1 n (stop_restarts l.controller.side n.sound) refl
+own_harked who l (Step NoInput ts ending) o a n = record {
+  here = rest_harked who l l.controller.side ts ending (waits l.controller) (idle_so l ts a.1.0 n);
+  there = rest_far who l l.controller.side ts ending;
+}
+
+frame_harked : (who : End) (l : Link) (ts : List Turn) (ending : Ending) → IsNode l ts ending → Before l
+    → Harked who l (happens_at_controller l (Step NextFrame ts ending)) (step_entries who l NextFrame ts ending)
+frame_harked who l ts ending a b = go l.to_controller refl
+  where
+    m : Link
+    m = happens_at_controller l (Step NextFrame ts ending)
+
+    u : List Entry
+    u = step_entries who l NextFrame ts ending
+
+    P : Link → Type 0
+    P k = Harked who l k u
+
+    go : (w : List OnWire) → l.to_controller ≡ w → Harked who l m u
+    go [] q =
+        let none : u ≡ [] = rw q refl in
+        let same : m ≡ l = rw q refl in
+        let Q : List Entry → Type 0 = λ z. Harked who l l z in
+        subst P (sym same) (subst Q (sym none) (record { here = refl; there = λ s. refl }))
+    go (x ∷ xs) q =
+        let some : u ≡ taken_entries who l x xs ts ending = rw q refl in
+        let next : m ≡ has_taken l x xs ts ending = rw q refl in
+        let Q : List Entry → Type 0 = λ z. Harked who l (has_taken l x xs ts ending) z in
+        subst P (sym next) (subst Q (sym some) (taken_harked who l x xs ts ending a (comes_first l x xs q b)))
+
+pub here_harked : (who : End) (l : Link) (e : EndEvent) → IsAllowed l e → Before l → Harked who l (happens_at_controller l e) (here_entries who l e)
+here_harked who l e a b = go e a
+  where
+    near : Near l
+    near = near_of l b
+
+    go : (e : EndEvent) → IsAllowed l e → Harked who l (happens_at_controller l e) (here_entries who l e)
+    go (Lose why) a =
+        record { here = passes_lost who who why l.to_controller (waits l.controller); there = passes_lost (far who) who why l.to_controller }
+    go (Step NextFrame ts ending) a = frame_harked who l ts ending a.1 b
+    go (Step (AsksReset window) ts ending) a = own_harked who l (Step (AsksReset window) ts ending) tt a near
+    go (Step (Starts v) ts ending) a = own_harked who l (Step (Starts v) ts ending) tt a near
+    go (Step Stops ts ending) a = own_harked who l (Step Stops ts ending) tt a near
+    go (Step NoInput ts ending) a = own_harked who l (Step NoInput ts ending) tt a near
