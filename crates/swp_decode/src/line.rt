@@ -1,8 +1,10 @@
 //! A line of text.
 ghost use Rattle.std.specs.Prelude.{◌≡◌, ◌+◌, ◌≤◌, ◌++◌, length};
+ghost use Rattle.swp_base.specs.DataUnits.{IsLpdu};
+ghost use Rattle.swp_frame.specs.declared.fed.Fed.TheVariants.{Frame};
 ghost use Rattle.swp_decode.specs.Texts.{wire_name, whole_line, verdict_line};
 
-use crate::words::{Text, push_decimal, push_text, push_verdict};
+use crate::words::{Text, push_decimal, push_payload, push_text, push_verdict};
 use swp_frame::Fed;
 
 /// A direction of a line.
@@ -38,6 +40,21 @@ fn push_whole_line(text: &mut Text, wire: Wire, start: u32, fed: &Fed)
     push_decimal(text, start);
     push_text(text, b" ");
     push_verdict(text, fed);
+    push_text(text, b"\n");
+}
+
+/// Appends the line of a frame with this payload, which was read on a wire and whose start is at this place.
+#[inline(never)]
+pub fn push_frame_line(text: &mut Text, wire: Wire, start: u32, payload: &[u8])
+    requires room { length text.old.items + 128 ≤ 8192 }
+    requires payload { IsLpdu payload.now }
+    ensures items { text.new.items ≡ text.old.items ++ whole_line wire start (Frame payload.now) }
+    ensures sized { length text.new.items ≤ length text.old.items + 128 }
+{
+    push_name(text, wire);
+    push_decimal(text, start);
+    push_text(text, b" ");
+    push_payload(text, payload);
     push_text(text, b"\n");
 }
 

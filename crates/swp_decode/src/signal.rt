@@ -2,10 +2,10 @@
 ghost use Rattle.std.specs.Prelude.{ℕ, List, take, [], ◌∷◌, ◌++◌, ◌≡◌, ◌+◌, ◌-◌, ◌^◌, ◌<◌, ◌≤◌, length};
 ghost use Rattle.swp_base.specs.Bits.{bit};
 
-use crate::frames::{Frames, push_frame};
-use crate::line::{Wire, push_line};
+use crate::frames::{Frames, push_frame, push_heard};
+use crate::line::{Wire, push_frame_line, push_line};
 use crate::words::Text;
-use swp_frame::{Deframer, Fed, Part, Word};
+use swp_frame::{Deframer, Fed, Found, Part, Word};
 
 /// Reads one direction of a record.
 #[derive(Drop)]
@@ -21,6 +21,8 @@ impl SignalReader {
     ghost use Rattle.swp_frame.specs.Signal.{break, bit_0, bit_1, symbol_of, run_of, HasNoMark};
     ghost use Rattle.swp_frame.specs.Words.{word_bits, part_bits, IsWordBehind, IsPartBehind};
     ghost use Rattle.swp_frame.specs.Verdicts.{verdict};
+    ghost use Rattle.swp_frame.specs.Found.{found_in, HasPayload};
+    ghost use Rattle.swp_frame.specs.Kept.{lying_bytes};
     ghost use Rattle.swp_decode.specs.Readings.{ReadSymbol, symbols, with_reading, readings_on};
     ghost use Rattle.swp_decode.specs.Decoded.{line_with};
     ghost use Rattle.swp_decode.specs.Frames.{frame_with};
@@ -36,18 +38,20 @@ impl SignalReader {
         }
     }
 
-    /// Reads a bit at a place.
+    /// Reads a bit at a place. The payload of a frame that ended stays where it lies.
     #[inline(always)]
-    pub fn read_bit(&mut self, bit: bool, place: u32) -> Fed
+    fn read_bit(&mut self, bit: bool, place: u32) -> Found
         ensures reads { (older : List ReadSymbol) → ReadsSignal self.old older → ReadsSignal self.new (with_reading (Some (symbol_of bit)) place older) }
-        ensures answer { (older : List ReadSymbol) → ReadsSignal self.old older → result ≡ verdict (symbol_of bit ∷ symbols older) }
+        ensures answer { (older : List ReadSymbol) → ReadsSignal self.old older
+            → found_in (lying_bytes self.new.deframer) result ≡ verdict (symbol_of bit ∷ symbols older) }
+        ensures sized { HasPayload result }
     {
         if !bit && self.deframer.is_before_start() {
             self.start = self.front.unwrap_or(0);
         }
         let first = self.front.unwrap_or(place);
         self.front = Some(if bit { first } else { place });
-        self.deframer.feed(bit)
+        self.deframer.feed_in_place(bit)
     }
 
     /// What sixty-four bits are behind those that were read, the most significant first.
@@ -183,9 +187,7 @@ impl SignalReader {
             → text.new.items ≡ text.old.items ++ line_with wire (Some bit_1) older }
         ensures sized { length text.new.items ≤ length text.old.items + 128 }
     {
-        let start = self.start;
-        let fed = self.read_bit(true, place);
-        push_line(text, wire, start, &fed);
+        self.decode_any(text, wire, true, place);
     }
 
     /// Reads the 0 with which a start of frame ends, and appends the line of what came with it.
@@ -198,9 +200,24 @@ impl SignalReader {
             → text.new.items ≡ text.old.items ++ line_with wire (Some bit_0) older }
         ensures sized { length text.new.items ≤ length text.old.items + 128 }
     {
+        self.decode_any(text, wire, false, place);
+    }
+
+    /// Reads a bit at a place, whatever it ends, and appends the line of what came with it.
+    #[inline(always)]
+    fn decode_any(&mut self, text: &mut Text, wire: Wire, bit: bool, place: u32)
+        requires { length text.old.items + 128 ≤ 8192 }
+        ensures reads { (older : List ReadSymbol) → ReadsSignal self.old older → ReadsSignal self.new (with_reading (Some (symbol_of bit)) place older) }
+        ensures items { (older : List ReadSymbol) → ReadsSignal self.old older
+            → text.new.items ≡ text.old.items ++ line_with wire (Some (symbol_of bit)) older }
+        ensures sized { length text.new.items ≤ length text.old.items + 128 }
+    {
         let start = self.start;
-        let fed = self.read_bit(false, place);
-        push_line(text, wire, start, &fed);
+        match self.read_bit(bit, place) {
+            Found::Nothing => {}
+            Found::Frame(len) => push_frame_line(text, wire, start, self.deframer.payload(len)),
+            Found::Refused(fault) => push_line(text, wire, start, &Fed::Refused(fault)),
+        }
     }
 
     /// Reads a break, and appends the line of what came with it.
@@ -255,7 +272,7 @@ impl SignalReader {
     }
 
     /// Reads a bit at a place, and appends the frame that came with it.
-    #[inline]
+    #[inline(always)]
     pub fn hear_bit(&mut self, frames: &mut Frames, wire: Wire, bit: bool, place: u32)
         requires { length frames.old.items < 16 }
         ensures reads { (older : List ReadSymbol) → ReadsSignal self.old older → ReadsSignal self.new (with_reading (Some (symbol_of bit)) place older) }
@@ -263,8 +280,50 @@ impl SignalReader {
             → frames.new.items ≡ frames.old.items ++ frame_with wire (Some (symbol_of bit)) older }
         ensures sized { length frames.new.items ≤ length frames.old.items + 1 }
     {
-        let fed = self.read_bit(bit, place);
-        push_frame(frames, wire, fed);
+        if bit {
+            self.hear_one(frames, wire, place);
+        } else {
+            self.hear_zero(frames, wire, place);
+        }
+    }
+
+    /// Reads a 1 at a place, and appends the frame that ended with it.
+    #[inline(never)]
+    fn hear_one(&mut self, frames: &mut Frames, wire: Wire, place: u32)
+        requires { length frames.old.items < 16 }
+        ensures reads { (older : List ReadSymbol) → ReadsSignal self.old older → ReadsSignal self.new (with_reading (Some bit_1) place older) }
+        ensures items { (older : List ReadSymbol) → ReadsSignal self.old older
+            → frames.new.items ≡ frames.old.items ++ frame_with wire (Some bit_1) older }
+        ensures sized { length frames.new.items ≤ length frames.old.items + 1 }
+    {
+        self.hear_any(frames, wire, true, place);
+    }
+
+    /// Reads a 0 at a place. No frame ends with it.
+    #[inline(never)]
+    fn hear_zero(&mut self, frames: &mut Frames, wire: Wire, place: u32)
+        requires { length frames.old.items < 16 }
+        ensures reads { (older : List ReadSymbol) → ReadsSignal self.old older → ReadsSignal self.new (with_reading (Some bit_0) place older) }
+        ensures items { (older : List ReadSymbol) → ReadsSignal self.old older
+            → frames.new.items ≡ frames.old.items ++ frame_with wire (Some bit_0) older }
+        ensures sized { length frames.new.items ≤ length frames.old.items + 1 }
+    {
+        self.hear_any(frames, wire, false, place);
+    }
+
+    /// Reads a bit at a place, and appends the frame that ended with it.
+    #[inline(always)]
+    fn hear_any(&mut self, frames: &mut Frames, wire: Wire, bit: bool, place: u32)
+        requires { length frames.old.items < 16 }
+        ensures reads { (older : List ReadSymbol) → ReadsSignal self.old older → ReadsSignal self.new (with_reading (Some (symbol_of bit)) place older) }
+        ensures items { (older : List ReadSymbol) → ReadsSignal self.old older
+            → frames.new.items ≡ frames.old.items ++ frame_with wire (Some (symbol_of bit)) older }
+        ensures sized { length frames.new.items ≤ length frames.old.items + 1 }
+    {
+        match self.read_bit(bit, place) {
+            Found::Nothing | Found::Refused(_) => {}
+            Found::Frame(len) => push_heard(frames, wire, self.deframer.payload(len)),
+        }
     }
 
     /// Reads a break, and appends the frame that came with it.

@@ -1,5 +1,7 @@
 //! The words of a line.
 ghost use Rattle.std.specs.Prelude.{ℕ, List, [], ◌∷◌, ◌++◌, ◌≡◌, ◌+◌, ◌*◌, ◌/◌, ◌%◌, ◌<◌, ◌≤◌, length, decimal, codes, true};
+ghost use Rattle.swp_base.specs.DataUnits.{IsLpdu};
+ghost use Rattle.swp_frame.specs.declared.fed.Fed.TheVariants.{Frame};
 ghost use Rattle.swp_lpdu.specs.Controls.{control_of};
 ghost use Rattle.swp_decode.specs.Texts.{hex_of, hex_word, lpdu_words, kind_word, act_words, control_words, fault_words, verdict_words};
 
@@ -263,28 +265,48 @@ pub fn push_verdict(text: &mut Text, fed: &Fed)
 {
     match fed {
         Fed::Nothing => {}
-        Fed::Frame(lpdu) => {
-            push_hex(text, lpdu.bytes());
-            push_text(text, b" ");
-            push_words(text, lpdu);
-        }
+        Fed::Frame(lpdu) => push_payload(text, lpdu.bytes()),
         Fed::Refused(fault) => push_fault(text, fault),
     }
 }
 
-/// Appends what an LPDU says. What an I frame carries isn't written, so it isn't read.
-fn push_words(text: &mut Text, lpdu: &Lpdu)
-    requires { length text.old.items + 30 ≤ 8192 }
-    ensures items { text.new.items ≡ text.old.items ++ lpdu_words (control_of lpdu.now) }
+/// Appends the payload of a frame, and what it says. What an I frame carries isn't written, so it isn't read.
+#[inline(always)]
+pub fn push_payload(text: &mut Text, bytes: &[u8])
+    requires room { length text.old.items + 91 ≤ 8192 }
+    requires payload { IsLpdu bytes.now }
+    ensures items { text.new.items ≡ text.old.items ++ verdict_words (Frame bytes.now) }
+    ensures sized { length text.new.items ≤ length text.old.items + 91 }
+{
+    push_hex(text, bytes);
+    push_text(text, b" ");
+    push_words(text, bytes);
+}
+
+/// Appends what the bytes of an LPDU say.
+#[inline(always)]
+fn push_words(text: &mut Text, bytes: &[u8])
+    requires room { length text.old.items + 30 ≤ 8192 }
+    requires payload { IsLpdu bytes.now }
+    ensures items { text.new.items ≡ text.old.items ++ lpdu_words (control_of bytes.now) }
     ensures sized { length text.new.items ≤ length text.old.items + 30 }
 {
-    let bytes = lpdu.bytes();
     let first = bytes[0];
     if (0x80..=0xBF).contains(&first) && bytes.len() >= 2 {
         push_text(text, b"i ");
         push_two(text, (first - 0x80) / 8, first % 8);
         return;
     }
+    push_read_words(text, &Lpdu::new(bytes));
+}
+
+/// Appends what an LPDU says.
+#[inline(never)]
+fn push_read_words(text: &mut Text, lpdu: &Lpdu)
+    requires { length text.old.items + 30 ≤ 8192 }
+    ensures items { text.new.items ≡ text.old.items ++ lpdu_words (control_of lpdu.now) }
+    ensures sized { length text.new.items ≤ length text.old.items + 30 }
+{
     match read_lpdu(lpdu) {
         Ok(control) => push_control(text, &control),
         Err(LpduFault::Unknown { .. }) => push_text(text, b"unknown"),
