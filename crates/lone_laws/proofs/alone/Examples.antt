@@ -3,15 +3,16 @@ use Rattle.std.proofs.Common.{◌≡◌, refl, List, [], ◌∷◌, ◌++◌, �
 use Rattle.std.specs.Prelude.{true, false}
 use Rattle.swp_base.specs.Bits.{bits_of_byte}
 use Rattle.swp_base.specs.InMemory.{Memory}
+use Rattle.swp_base.specs.declared.link_terms.Cause.TheVariants as cause
 use Rattle.swp_base.specs.declared.link_terms.FrameFault.TheVariants as fault
 use Rattle.trace_model.specs.declared.entry.Entry.{Entry}
-use Rattle.trace_model.specs.declared.entry.Entry.TheVariants.{Up, Active, Sent, Got, Acked, Emit, Took, Lost, Turn, Dropped, Command, AnyOk}
+use Rattle.trace_model.specs.declared.entry.Entry.TheVariants.{Up, Down, Active, Sent, Got, Acked, Emit, Took, Lost, Turn, Dropped, Command, AnyOk}
 use Rattle.trace_model.specs.declared.entry.LostCause.TheVariants as lost
 use Rattle.hci_tables.specs.declared.command.Command.TheVariants as command
 use Rattle.journal_laws.specs.Records.{found_from}
 use Rattle.gate_admin.specs.View.{hosts_where}
 use Rattle.pipe_table.specs.PipeRows.{lowest_free}
-use Rattle.node_machine.specs.world.World.{new_memory, end_c}
+use Rattle.node_machine.specs.world.World.{new_memory, end_c, end_h}
 use Rattle.lone_laws.specs.alone.Lone.{Lone, LoneCause, LoneEvent, lone_events, lone_after}
 use Rattle.lone_laws.specs.alone.Lone.LoneCause.{FrameComes, FrameIsRefused, TickComes, ResetComes, StartComes, StopComes}
 use Rattle.lone_laws.specs.alone.Ends.{end_causes, end_written, end_node}
@@ -79,7 +80,7 @@ unfolding bits_of_byte found_from hosts_where lowest_free
 breaks_a_frame = refl
 
 -- the frame of C1 on S1 is read by a UICC, and not by a CLF
-abbrev c1_record : List ℕ
+abbrev pub c1_record : List ℕ
 c1_record =
     64 ∷ 84 ∷ 84 ∷ 84 ∷ 84 ∷ 84 ∷ 84 ∷ 64 ∷ 84 ∷ 84 ∷ 64 ∷ 64 ∷ 64 ∷ 64 ∷ 64 ∷ 84 ∷ 84 ∷ 84 ∷ 64 ∷ 84 ∷ 64 ∷ 84 ∷ 84 ∷ 84 ∷ 64 ∷ 84 ∷ 84 ∷ 64 ∷ 64 ∷ 64 ∷ 84 ∷
     64 ∷ 64 ∷ 84 ∷ 84 ∷ 84 ∷ 84 ∷ 84 ∷ 84 ∷ 84 ∷ []
@@ -91,11 +92,6 @@ uicc_reads = refl
 clf_reads_nothing : end_causes OnLine clf c1_record ≡ []
 unfolding bits_of_byte found_from hosts_where lowest_free
 clf_reads_nothing = refl
-
--- the 512th period is a tick
-ticks_by_periods : end_causes OnLine clf (replicate 513 85) ≡ TickComes ∷ []
-unfolding bits_of_byte found_from hosts_where lowest_free
-ticks_by_periods = refl
 
 -- ## Replies
 
@@ -126,3 +122,20 @@ errors_are_told : entries_of (lone_events (lone_after clf comes_up) asks_errors)
     Emit (end_c 2) (195 ∷ []) ∷ []) ∷ []
 unfolding bits_of_byte found_from hosts_where lowest_free
 errors_are_told = refl
+
+-- A UICC becomes active, and takes an RSET: its session is the first one.
+abbrev pub uicc_comes : List LoneCause
+uicc_comes = StartComes 1 ∷ FrameComes (98 ∷ 1 ∷ []) ∷ FrameComes (249 ∷ 4 ∷ 0 ∷ []) ∷ []
+
+uicc_comes_up : entries_of (lone_events uicc uicc_comes) ≡
+    (Emit (end_h 2) (97 ∷ 0 ∷ 1 ∷ []) ∷ []) ∷
+    (Took (end_h 2) (98 ∷ 1 ∷ []) ∷ Active (end_h 2) ∷ Emit (end_h 2) (96 ∷ []) ∷ []) ∷
+    (Took (end_h 2) (249 ∷ 4 ∷ 0 ∷ []) ∷ Up (end_h 2) 1 ∷ Emit (end_h 2) (230 ∷ []) ∷ []) ∷ []
+unfolding bits_of_byte found_from hosts_where lowest_free
+uicc_comes_up = refl
+
+-- A second one begins the second.
+uicc_comes_up_again : entries_of (lone_events (lone_after uicc uicc_comes) (FrameComes (249 ∷ 4 ∷ 0 ∷ []) ∷ [])) ≡
+    (Took (end_h 2) (249 ∷ 4 ∷ 0 ∷ []) ∷ Down (end_h 2) cause.Peer ∷ Up (end_h 2) 2 ∷ Emit (end_h 2) (230 ∷ []) ∷ []) ∷ []
+unfolding bits_of_byte found_from hosts_where lowest_free
+uicc_comes_up_again = refl
