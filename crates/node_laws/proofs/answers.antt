@@ -12,6 +12,8 @@ pub mod Otherwise
 pub mod Damaged
 pub mod Wrong
 pub mod WrongWorlds
+pub mod OneFact
+pub mod WrongAnswers
 pub mod WrongActivated
 pub mod WrongParts
 pub mod WrongSettled

@@ -1,0 +1,284 @@
+-- What walks over a history find says of each fact of `Answered` whether it holds.
+use Rattle.std.proofs.Common.{◌≡◌, refl, ap, ap₂, sym, subst, append_assoc, append-nil, ℕ, Bool, true, false, true≢false, cond, eqb, List, [], ◌∷◌, ◌++◌, drop, Option, Some, None}
+use Rattle.std.specs.Prelude.{◌==◌, ◌&&◌, not}
+use Rattle.std.specs.List.{AllByRecursion, list_any}
+use Rattle.std.specs.Option.{option_map_or}
+use Rattle.std.proofs.lemmas.Bool.{and_parts, eqb-true, not-true}
+use Rattle.std.proofs.lemmas.List.Sums.{fold-append}
+use Rattle.trace_model.specs.declared.entry.Entry.{Entry}
+use Rattle.trace_model.specs.declared.entry.Entry.TheVariants as entry
+use Rattle.trace_model.specs.declared.line.End.{End}
+use Rattle.link_laws.specs.machine.Machine.{Message, oldest}
+use Rattle.history.specs.Filters.{same_end, same_side}
+use Rattle.node_machine.specs.world.World.{node_of}
+use Rattle.node_machine.specs.world.Lines.{Occurrence}
+use Rattle.node_machine.specs.world.NodeHistories.{NodeHistory, entries_in, node_entries, occurrences_in}
+use Rattle.node_machine.specs.world.NodeLegal.{AreInTurn}
+use Rattle.node_laws.proofs.turns.Queues.{Becomes, Front, Goes, all_left, doing, front_goes}
+use Rattle.node_laws.proofs.turns.Queues.Doing.{Adds, Clears, Nothing, Takes}
+use Rattle.node_laws.specs.answers.Answered.{AreDone, AreDue, AreLeftShort, AreReset, IsHeldFor, IsReplied, ends_in, is_done, is_left_short, through}
+use Rattle.node_laws.specs.answers.Moments.{AtEachEntry, AtEachOccurrence, Moment, noted_of_deeds, unhandled_after, unhandled_in}
+use Rattle.node_laws.specs.answers.Order.{HearsFirst, NodesHearFirst, TurnsAscend, answerer, hears}
+use Rattle.node_laws.specs.answers.Unasked.{down_in, due, is_reset_due, is_reset_down}
+use Rattle.node_laws.proofs.answers.Rising.{rise_ascends}
+use Rattle.node_laws.proofs.answers.Splits.{same_at_each, at_events, same_at_events, at_entries, same_at_entries}
+use Rattle.node_laws.proofs.answers.Walks.{answers_found, answers_wanted, found, held_found, held_wanted, turn_found, turn_wanted, wanted}
+
+-- ## Messages have their turns in order
+
+-- at a turn the first message that came and had none
+abbrev first_found : List Entry → Entry → Option (Option Message)
+first_found t (entry.Turn e pid message) = Some (oldest (unhandled_in t e))
+first_found t _ = None
+
+abbrev first_wanted : Entry → Option (Option Message)
+first_wanted (entry.Turn e pid message) = Some (Some (pid, message))
+first_wanted _ = None
+
+abbrev pub firsts_found : List Entry → List Entry → List (Option (Option Message))
+firsts_found before [] = []
+firsts_found before (x ∷ t) = first_found before x ∷ firsts_found (before ++ x ∷ []) t
+
+abbrev pub firsts_wanted : List Entry → List (Option (Option Message))
+firsts_wanted [] = []
+firsts_wanted (x ∷ t) = first_wanted x ∷ firsts_wanted t
+
+abbrev first_or : {X : Type 0} → X → List X → X
+first_or x [] = x
+first_or x (y ∷ ys) = y
+
+abbrev rest_of : {X : Type 0} → List X → List X
+rest_of [] = []
+rest_of (y ∷ ys) = ys
+
+both_true : (a b : Bool) → (a && b) ≡ true → (a ≡ true) × (b ≡ true)
+both_true a b q = and_parts a b q
+
+side_is : (a b : Bool) → same_side a b ≡ true → a ≡ b
+side_is true true q = refl
+side_is true false q = absurd (true≢false (sym q))
+side_is false true q = absurd (true≢false (sym q))
+side_is false false q = refl
+
+end_is : (f e : End) → same_end f e ≡ true → f ≡ e
+end_is f e q =
+    let both = both_true (eqb f.link e.link) (same_side f.at_host e.at_host) q in
+    ap₂ (λ link at_host. record { link = link; at_host = at_host }) (eqb-true f.link e.link both.0) (side_is f.at_host e.at_host both.1)
+
+first_dropped : (ms : List Message) (m : Message) → oldest ms ≡ Some m → ms ≡ m ∷ drop 1 ms
+first_dropped [] m q = absurd (cc q)
+first_dropped (k ∷ ms) m q = let same : k ≡ m = cc in ap (λ z. z ∷ ms) same
+
+some_is : {X : Type 0} (x y : X) → Some x ≡ Some y → x ≡ y
+some_is x y q = cc
+
+module _ (e : End) where
+  becomes : (before : List Entry) (x : Entry) → first_found before x ≡ first_wanted x
+      → Becomes (doing e x) (unhandled_in before e) (unhandled_after e (unhandled_in before e) x)
+  becomes before (entry.Got f n pid message) same = by (same_end f e) where
+    by : (b : Bool) → Becomes (cond b (Adds (pid, message)) Nothing) (unhandled_in before e)
+        (cond b (unhandled_in before e ++ (pid, message) ∷ []) (unhandled_in before e))
+    by true = refl
+    by false = refl
+  becomes before (entry.Turn f pid message) same = by (same_end f e) refl where
+    by : (b : Bool) → same_end f e ≡ b
+        → Becomes (cond b (Takes (pid, message)) Nothing) (unhandled_in before e) (cond b (drop 1 (unhandled_in before e)) (unhandled_in before e))
+    by true z =
+        first_dropped (unhandled_in before e) (pid, message)
+        (subst (λ g. oldest (unhandled_in before g) ≡ Some (pid, message)) (end_is f e z) (some_is (oldest (unhandled_in before f)) (Some (pid, message)) same))
+    by false z = refl
+  becomes before (entry.Booted node k) same = by (node == node_of e) where
+    by : (b : Bool) → Becomes (cond b Clears Nothing) (unhandled_in before e) (cond b [] (unhandled_in before e))
+    by true = refl
+    by false = refl
+  becomes before x same = refl
+
+  goes_on : (t before : List Entry) → firsts_found before t ≡ firsts_wanted t → Goes e (unhandled_in before e) t (unhandled_in (before ++ t) e)
+  goes_on [] before same = ap (λ l. unhandled_in l e) (sym (append-nil before))
+  goes_on (x ∷ t) before same = (
+    unhandled_in (before ++ x ∷ []) e,
+    (
+      subst (Becomes (doing e x) (unhandled_in before e)) (sym (fold-append (unhandled_after e) [] before (x ∷ [])))
+          (becomes before x (ap (first_or None) same)),
+      subst (λ l. Goes e (unhandled_in (before ++ x ∷ []) e) t (unhandled_in l e)) (append_assoc before (x ∷ []) t)
+          (goes_on t (before ++ x ∷ []) (ap rest_of same)),
+    ),
+  )
+
+in_turn : (t : List Entry) → firsts_found [] t ≡ firsts_wanted t → AreInTurn t
+in_turn t same front back e at =
+    let all : Goes e [] (front ++ back) (unhandled_in t e) = subst (λ l. Goes e [] l (unhandled_in t e)) at (goes_on e t [] same) in
+    let f : Front e [] front = front_goes e front back [] (unhandled_in t e) all in
+    (f.left, all_left e front [] [] f.left refl f.goes)
+
+-- ## Nothing comes behind an answer
+
+abbrev none_heard : ℕ → List Entry → Bool
+none_heard n [] = true
+none_heard n (x ∷ entries) = not (hears n x) && none_heard n entries
+
+abbrev pub heard_found : Moment → Entry → List Entry → Bool
+heard_found m x behind = option_map_or (λ n. none_heard n behind) (answerer x) true
+
+none_hears : (n : ℕ) (entries : List Entry) → none_heard n entries ≡ true → AllByRecursion (λ y. hears n y ≡ false) entries
+none_hears n [] q = tt
+none_hears n (x ∷ entries) q =
+    let both = and_parts (not (hears n x)) (none_heard n entries) q in (not-true (hears n x) both.0, none_hears n entries both.1)
+
+heard_so : (m : Moment) (x : Entry) (behind : List Entry) → heard_found m x behind ≡ true → HearsFirst m x behind
+heard_so m x behind known n answers = by (answerer x) known answers where
+  by : (o : Option ℕ) → option_map_or (λ n. none_heard n behind) o true ≡ true → option_map_or (λ k. k == n) o false ≡ true
+      → AllByRecursion (λ y. hears n y ≡ false) behind
+  by None q is = absurd (true≢false (sym is))
+  by (Some k) q is = none_hears n behind (subst (λ j. none_heard j behind ≡ true) (eqb-true k n is) q)
+
+-- ## Facts
+
+-- the facts of `Answered`
+pub data Fact : Type 0 where
+  InTurn : Fact
+  Replied : Fact
+  Held : Fact
+  Done : Fact
+  Short : Fact
+  Due : Fact
+  Reset : Fact
+  Ascending : Fact
+  Heard : Fact
+
+abbrev number_of : Fact → ℕ
+number_of InTurn = 0
+number_of Replied = 1
+number_of Held = 2
+number_of Done = 3
+number_of Short = 4
+number_of Due = 5
+number_of Reset = 6
+number_of Ascending = 7
+number_of Heard = 8
+
+abbrev pub is_fact : Fact → Fact → Bool
+is_fact f g = number_of f == number_of g
+
+module _ (t : NodeHistory) where
+  abbrev hosts : List ℕ
+  hosts = t.header.hosts.items
+
+  abbrev AgreeAtEvents : {X : Type 0} → (List Occurrence → Occurrence → X) → (List Occurrence → Occurrence → X) → Type 0
+  AgreeAtEvents f g = at_events f [] (occurrences_in t) ≡ at_events g [] (occurrences_in t)
+
+  abbrev AgreeAtEntries : {X : Type 0} → (Moment → Entry → List Entry → X) → (Moment → Entry → List Entry → X) → Type 0
+  AgreeAtEntries f g = AgreeAtEvents (λ past o. at_entries f past o.cause [] o.entries) (λ past o. at_entries g past o.cause [] o.entries)
+
+  agree_here : {X : Type 0} (f g : List Occurrence → Occurrence → X) → AgreeAtEvents f g → AtEachOccurrence t (λ past o. f past o ≡ g past o)
+  agree_here f g same past back o at = same_at_events f g [] past back o (subst (λ l. at_events f [] l ≡ at_events g [] l) at same)
+
+  agree_inside : {X : Type 0} (f g : Moment → Entry → List Entry → X) → AgreeAtEntries f g → AtEachEntry t (λ m x behind. f m x behind ≡ g m x behind)
+  agree_inside f g same past back o front behind x at inside =
+      same_at_entries f g past o.cause [] front behind x
+      (subst (λ l. at_entries f past o.cause [] l ≡ at_entries g past o.cause [] l) inside
+      (agree_here (λ past o. at_entries f past o.cause [] o.entries) (λ past o. at_entries g past o.cause [] o.entries) same past back o at))
+
+  both_are : {X Y : Type 0} (p q : X × Y) → Some p ≡ Some q → (p.0 ≡ q.0) × (p.1 ≡ q.1)
+  both_are {X} {Y} p q s = let same : p ≡ q = some_is p q s in (ap (λ (z : X × Y). z.0) same, ap (λ (z : X × Y). z.1) same)
+
+  turn_so : (m : Moment) (x : Entry) (behind : List Entry) → turn_found hosts m x behind ≡ turn_wanted hosts m x behind → IsReplied hosts m x behind
+  turn_so m (entry.Turn e pid message) behind same = both_are _ _ same
+  turn_so m _ behind same = tt
+
+  held_so : (m : Moment) (x : Entry) (behind : List Entry) → held_found hosts m x behind ≡ held_wanted hosts m x behind → IsHeldFor hosts m x behind
+  held_so m (entry.Held e need spare) behind same = both_are _ _ same
+  held_so m _ behind same = tt
+
+  abbrev pub FactOf : Fact → Type 0
+  FactOf InTurn = AreInTurn (node_entries t)
+  FactOf Replied = AtEachEntry t (IsReplied hosts)
+  FactOf Held = AtEachEntry t (IsHeldFor hosts)
+  FactOf Done = AtEachOccurrence t (AreDone hosts)
+  FactOf Short = AtEachOccurrence t (AreLeftShort hosts)
+  FactOf Due = AtEachOccurrence t (AreDue hosts)
+  FactOf Reset = AtEachOccurrence t (AreReset hosts)
+  FactOf Ascending = TurnsAscend t
+  FactOf Heard = NodesHearFirst t
+
+  -- what a walk finds of it is what is wanted
+  abbrev pub IsFound : Fact → Type 0
+  IsFound InTurn = firsts_found [] (node_entries t) ≡ firsts_wanted (node_entries t)
+  IsFound Replied = AgreeAtEntries (turn_found hosts) (turn_wanted hosts)
+  IsFound Held = AgreeAtEntries (held_found hosts) (held_wanted hosts)
+  IsFound Done = AgreeAtEvents (λ past o. (found hosts past o).done) (λ past o. (wanted hosts past o).done)
+  IsFound Short = AgreeAtEvents (λ past o. (found hosts past o).short) (λ past o. (wanted hosts past o).short)
+  IsFound Due = AgreeAtEvents (λ past o. (found hosts past o).due) (λ past o. (wanted hosts past o).due)
+  IsFound Reset = AgreeAtEvents (λ past o. (found hosts past o).reset) (λ past o. (wanted hosts past o).reset)
+  IsFound Ascending = AgreeAtEvents (λ past o. (found hosts past o).rise) (λ past o. true)
+  IsFound Heard = AgreeAtEntries heard_found (λ m x behind. true)
+
+  found_holds : (g : Fact) → IsFound g → FactOf g
+  found_holds InTurn q = in_turn (node_entries t) q
+  found_holds Replied q =
+      λ past back o front behind x at inside.
+      turn_so (record { past = past; cause = o.cause; so_far = front }) x behind
+      (agree_inside (turn_found hosts) (turn_wanted hosts) q past back o front behind x at inside)
+  found_holds Held q =
+      λ past back o front behind x at inside.
+      held_so (record { past = past; cause = o.cause; so_far = front }) x behind
+      (agree_inside (held_found hosts) (held_wanted hosts) q past back o front behind x at inside)
+  found_holds Done q =
+      λ past back o at.
+      same_at_each (λ e. is_done (through past o) e) (λ e. true) (ends_in hosts)
+      (agree_here (λ past o. (found hosts past o).done) (λ past o. (wanted hosts past o).done) q past back o at)
+  found_holds Short q =
+      λ past back o at.
+      same_at_each (λ e. is_left_short hosts past o e) (λ e. true) (ends_in hosts)
+      (agree_here (λ past o. (found hosts past o).short) (λ past o. (wanted hosts past o).short) q past back o at)
+  found_holds Due q =
+      λ past back o at.
+      same_at_each (λ n. answers_found n o.entries)
+      (λ n. answers_wanted n o.entries (noted_of_deeds (entries_in past ++ down_in o) n n (due hosts past o n))) (0 ∷ hosts)
+      (agree_here (λ past o. (found hosts past o).due) (λ past o. (wanted hosts past o).due) q past back o at)
+  found_holds Reset q =
+      λ past back o at.
+      same_at_each (λ e. list_any (is_reset_down e) o.entries) (λ e. is_reset_due past o e) (ends_in hosts)
+      (agree_here (λ past o. (found hosts past o).reset) (λ past o. (wanted hosts past o).reset) q past back o at)
+  found_holds Ascending q =
+      λ past back o at n.
+      rise_ascends n o.entries (agree_here (λ past o. (found hosts past o).rise) (λ past o. true) q past back o at)
+  found_holds Heard q =
+      λ past back o front behind x at inside.
+      heard_so (record { past = past; cause = o.cause; so_far = front }) x behind
+      (agree_inside heard_found (λ m x behind. true) q past back o front behind x at inside)
+
+  -- ## One fact alone
+
+  -- this fact refuses the history, and each other one holds of it
+  abbrev pub RefusedByOnly : Fact → Type 0
+  RefusedByOnly f = (FactOf f → ⊥) × ((g : Fact) → is_fact f g ≡ false → FactOf g)
+
+  abbrev Unless : Bool → Type 0 → Type 0
+  Unless true X = Unit {0}
+  Unless false X = X
+
+  abbrev One : Fact → Fact → Type 0
+  One f g = Unless (is_fact f g) (IsFound g)
+
+  -- the others are found
+  abbrev pub Others : Fact → Type 0
+  Others f =
+      One f InTurn × One f Replied × One f Held × One f Done × One f Short × One f Due × One f Reset × One f Ascending × One f Heard
+
+  one_holds : (f g : Fact) → One f g → is_fact f g ≡ false → FactOf g
+  one_holds f g one other = by (is_fact f g) other one where
+    by : (b : Bool) → b ≡ false → Unless b (IsFound g) → FactOf g
+    by true q x = absurd (true≢false q)
+    by false q x = found_holds g x
+
+  pub others_hold : (f : Fact) → Others f → (g : Fact) → is_fact f g ≡ false → FactOf g
+  others_hold f all InTurn q = one_holds f InTurn all.0 q
+  others_hold f all Replied q = one_holds f Replied all.1 q
+  others_hold f all Held q = one_holds f Held all.2 q
+  others_hold f all Done q = one_holds f Done all.3 q
+  others_hold f all Short q = one_holds f Short all.4 q
+  others_hold f all Due q = one_holds f Due all.5 q
+  others_hold f all Reset q = one_holds f Reset all.6 q
+  others_hold f all Ascending q = one_holds f Ascending all.7 q
+  others_hold f all Heard q = one_holds f Heard all.8 q

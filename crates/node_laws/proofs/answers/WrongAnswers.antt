@@ -1,0 +1,118 @@
+-- Small wrong histories of nodes aren't answered: for each of five facts of `Answered` one that it alone refuses.
+use Rattle.std.proofs.Common.{◌≤◌, arith, refl, ap, sym, ℕ, true≢false, List, [], ◌∷◌, ◌++◌, replicate, None}
+use Rattle.trace_model.specs.declared.entry.Entry.{Entry}
+use Rattle.trace_model.specs.declared.entry.Entry.TheVariants.{Up, Sent, Got, Acked, Turn, Held, Dropped}
+use Rattle.trace_model.specs.declared.line.Line.TheVariants as line
+use Rattle.journal_laws.specs.Records.{found_from}
+use Rattle.gate_admin.specs.View.{hosts_where}
+use Rattle.pipe_table.specs.PipeRows.{lowest_free}
+use Rattle.node_machine.specs.world.World.{end_c, end_h}
+use Rattle.node_machine.specs.world.World.Happening.{Gives, Takes}
+use Rattle.node_machine.specs.world.Lines.{Occurrence}
+use Rattle.node_machine.specs.world.Lines.LineOutcome.{Occurred}
+use Rattle.node_machine.specs.world.NodeHistories.{NodeHistory, entries_in}
+use Rattle.node_laws.proofs.answers.OneFact.{RefusedByOnly, others_hold}
+use Rattle.node_laws.proofs.answers.OneFact.Fact.{InTurn, Done, Short, Ascending, Heard}
+use Rattle.node_laws.proofs.answers.Walks.{header_of_hosts}
+use Rattle.node_laws.proofs.answers.Wrong.{is_empty, told, boot, begins, takes}
+use Rattle.node_laws.proofs.answers.WrongWorlds.{boots_host, host_takes}
+
+-- the end of host 02 comes up
+abbrev host_up : Occurrence
+host_up = record { cause = Takes (end_h 2); entries = Up (end_h 2) 1 ∷ [] }
+
+-- ANY_OK, for which nobody waits: it comes from a host, has its turn, and is dropped
+abbrev ok : List ℕ
+ok = 128 ∷ 0 ∷ []
+
+abbrev got : ℕ → Entry
+got h = Got (end_c h) 1 1 ok
+
+abbrev turn : ℕ → Entry
+turn h = Turn (end_c h) 1 ok
+
+abbrev dropped : ℕ → Entry
+dropped h = Dropped (end_c h) 1
+
+-- ## A message has its turn and didn't come
+
+abbrev unheard : List Occurrence
+unheard = begins ++ takes (turn 2 ∷ dropped 2 ∷ []) ∷ []
+
+only_in_turn : RefusedByOnly (told unheard) InTurn
+unfolding found_from hosts_where lowest_free
+only_in_turn = (
+  λ in_turn. true≢false (sym (ap is_empty (in_turn (entries_in unheard) [] (end_c 2) refl).1)),
+  others_hold (told unheard) InTurn (tt, refl, refl, refl, refl, refl, refl, refl, refl),
+)
+
+-- ## A message came and has no turn, in an event in which its node makes no step
+
+abbrev left : Occurrence
+left = record { cause = Gives (end_h 3) (1, ok); entries = got 2 ∷ [] }
+
+only_done : RefusedByOnly (told (begins ++ left ∷ [])) Done
+unfolding found_from hosts_where lowest_free
+only_done = (
+  λ done. true≢false (sym (done begins [] left refl).0),
+  others_hold (told (begins ++ left ∷ [])) Done (refl, refl, refl, tt, refl, refl, refl, refl, refl),
+)
+
+-- ## A message is held, and once there is room it has no turn
+
+-- A host sends the longest message, and all its blocks are in use. ANY_OPEN_PIPE comes, and its answer finds none.
+abbrev long : List ℕ
+long = 65 ∷ replicate 4095 0
+
+abbrev holds : List Occurrence
+holds =
+    boot ∷ boots_host 2 ∷ host_up
+    ∷ record { cause = Gives (end_h 2) (1, long); entries = Sent (end_h 2) 1 1 long ∷ [] }
+    ∷ host_takes (Got (end_h 2) 1 0 (3 ∷ []) ∷ Held (end_h 2) 1 0 ∷ [])
+    ∷ []
+
+abbrev frees : Occurrence
+frees = host_takes (Acked (end_h 2) 1 1 ∷ [])
+
+only_short : RefusedByOnly (told (holds ++ frees ∷ [])) Short
+unfolding found_from hosts_where lowest_free
+only_short = (
+  λ short. true≢false (sym (short holds [] frees refl).1.0),
+  others_hold (told (holds ++ frees ∷ [])) Short (refl, refl, refl, refl, tt, refl, refl, refl, refl),
+)
+
+-- ## A message of host 03 has its turn before one of host 02
+
+abbrev both_up : List Occurrence
+both_up = begins ++ record { cause = Takes (end_c 3); entries = Up (end_c 3) 1 ∷ [] } ∷ []
+
+abbrev descends : Occurrence
+descends = takes (got 2 ∷ got 3 ∷ turn 3 ∷ dropped 3 ∷ turn 2 ∷ dropped 2 ∷ [])
+
+abbrev of_two_hosts : NodeHistory
+of_two_hosts = record {
+  header = header_of_hosts (2 ∷ 3 ∷ []);
+  steps = record { line = line.Tick None; outcome = Occurred (both_up ++ descends ∷ []) } ∷ [];
+}
+
+only_ascending : RefusedByOnly of_two_hosts Ascending
+unfolding found_from hosts_where lowest_free
+only_ascending = (
+  λ ascending. let low : 3 ≤ 2 = (ascending both_up [] descends refl 0).0.0 in omega (arith, low),
+  others_hold of_two_hosts Ascending (refl, refl, refl, refl, refl, refl, refl, tt, refl),
+)
+
+-- ## An end comes up behind what its node sends
+
+abbrev host_begins : List Occurrence
+host_begins = boot ∷ boots_host 2 ∷ host_up ∷ []
+
+abbrev late : Occurrence
+late = record { cause = Gives (end_h 2) (1, ok); entries = Sent (end_h 2) 1 1 ok ∷ Up (end_h 2) 1 ∷ [] }
+
+only_heard : RefusedByOnly (told (host_begins ++ late ∷ [])) Heard
+unfolding found_from hosts_where lowest_free
+only_heard = (
+  λ heard. true≢false (heard host_begins [] late [] (Up (end_h 2) 1 ∷ []) (Sent (end_h 2) 1 1 ok) refl refl 2 refl).0,
+  others_hold (told (host_begins ++ late ∷ [])) Heard (refl, refl, refl, refl, refl, refl, refl, refl, tt),
+)
