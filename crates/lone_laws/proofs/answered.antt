@@ -22,5 +22,8 @@ pub mod Queued
 pub mod Resets
 pub mod Dues
 pub mod Whole
+pub mod Finding
 pub mod Memories
 pub mod Runs
+pub mod Ready
+pub mod Ended

@@ -3,3 +3,4 @@ pub mod Known
 pub mod Answers
 pub mod Ends
 pub mod Memories
+pub mod Runs

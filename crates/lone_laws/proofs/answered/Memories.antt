@@ -25,12 +25,12 @@ use Rattle.node_machine.specs.Parts.Deed.{Commits, Sends, SaysOk, IsAnswered, Dr
 use Rattle.node_machine.specs.Carrying.{all_done, commit, done, end_of_node, keeps, loses_power, noting, plan_behind, unless_cut}
 use Rattle.node_laws.specs.kept.Books.{IsPlain}
 use Rattle.node_laws.specs.kept.Deeds.{MayBeDone}
-use Rattle.node_laws.specs.kept.Finds.{BootFinds, FindsRoom, Knows}
-use Rattle.node_laws.proofs.kept.Commits.{commit_count, planned_knows, planned_left}
+use Rattle.node_laws.specs.kept.Finds.{FindsRoom}
 use Rattle.node_laws.proofs.kept.Doing.{stays_cut, uncut}
 use Rattle.node_laws.proofs.kept.Plainly.{Plainly, plainly_desk, plainly_noting, plainly_turn}
 use Rattle.node_laws.proofs.kept.Planned.{after_planned-append, planned_whole}
-use Rattle.lone_laws.specs.alone.Memories.{commands_of_entries, FindsAllButLast, FindsBehind}
+use Rattle.lone_laws.specs.alone.Memories.{commands_of_entries}
+use Rattle.lone_laws.proofs.answered.Finding.{FindsIf, KnowsIf, commit_count, finds_counting, planned_knows, planned_left}
 
 -- ## Commands
 
@@ -56,7 +56,20 @@ IsLoneDeed (Drops pid) = Unit {0}
 IsLoneDeed (SetsErrors errors) = Unit {0}
 IsLoneDeed _ = ⊥
 
-module _ (tables : HciTables) (many : ℕ) (before : List Command) (old : Memory) where
+-- ## What a boot finds
+
+-- a boot on this memory finds these tables with these commands carried out; if so, it counts so many more
+abbrev pub FindsMore : Type 0 → HciTables → ℕ → List Command → List ℕ → Type 0
+FindsMore E tables many commands content = FindsIf E content (after_commands tables commands) (min (many + length commands) (2 ^ 32 - 1))
+
+-- or all but the last one of them
+pub record FindsLess (E : Type 0) (tables : HciTables) (many : ℕ) (commands : List Command) (content : List ℕ) : Type 0 where
+  pub front : List Command
+  pub last : Command
+  pub are : commands ≡ front ++ last ∷ []
+  pub finds : FindsMore E tables many front content
+
+module _ (E : Type 0) (tables : HciTables) (many : ℕ) (before : List Command) (old : Memory) where
   abbrev noted : Work → List Command
   noted w = before ++ commands_of_entries w.entries
 
@@ -66,17 +79,17 @@ module _ (tables : HciTables) (many : ℕ) (before : List Command) (old : Memory
     pub memory : Memory
     pub written : (more : List Write) → after_planned (w.writes ++ more) old ≡ after_planned more memory
     pub plan_is : w.plan ≡ memory.plan
-    pub knows : Knows memory.content w.core.journal w.core.tables
+    pub knows : KnowsIf E memory.content w.core.journal w.core.tables
     pub sorted : AreTables w.core.tables
     pub recordable : IsRecordable w.core.tables
     pub tables_are : w.core.tables ≡ after_commands tables (before ++ commands_of_entries w.entries)
-    pub count_is : count_of w.core.journal ≡ min (many + length (before ++ commands_of_entries w.entries)) (2 ^ 32 - 1)
+    pub count_is : E → count_of w.core.journal ≡ min (many + length (before ++ commands_of_entries w.entries)) (2 ^ 32 - 1)
 
   -- its power went in the writes of the last command
   pub record Loses (w : Work) : Type 0 where
     pub off : w.cut ≡ true
-    pub left : FindsBehind tables many (before ++ commands_of_entries w.entries) (after_planned w.writes old).content
-        ⊎ FindsAllButLast tables many (before ++ commands_of_entries w.entries) (after_planned w.writes old).content
+    pub left : FindsMore E tables many (before ++ commands_of_entries w.entries) (after_planned w.writes old).content
+        ⊎ FindsLess E tables many (before ++ commands_of_entries w.entries) (after_planned w.writes old).content
 
   abbrev pub HoldsOrLoses : Work → Type 0
   HoldsOrLoses w = Holds w ⊎ Loses w
@@ -96,11 +109,12 @@ module _ (tables : HciTables) (many : ℕ) (before : List Command) (old : Memory
         memory = h.memory;
         written = λ more. ap (λ l. after_planned (l ++ more) old) p.writes ∙ h.written more;
         plan_is = p.plan ∙ h.plan_is;
-        knows = subst (λ s. Knows h.memory.content s v.core.tables) (sym p.journal) (subst (Knows h.memory.content w.core.journal) (sym p.tables) h.knows);
+        knows = subst (λ s. KnowsIf E h.memory.content s v.core.tables) (sym p.journal)
+            (subst (KnowsIf E h.memory.content w.core.journal) (sym p.tables) h.knows);
         sorted = subst AreTables (sym p.tables) h.sorted;
         recordable = subst IsRecordable (sym p.tables) h.recordable;
         tables_are = p.tables ∙ (h.tables_are ∙ ap (after_commands tables) (sym same));
-        count_is = ap count_of p.journal ∙ (h.count_is ∙ ap (λ (l : List Command). min (many + length l) (2 ^ 32 - 1)) (sym same));
+        count_is = λ e. ap count_of p.journal ∙ (h.count_is e ∙ ap (λ (l : List Command). min (many + length l) (2 ^ 32 - 1)) (sym same));
       }
 
   -- it is noted that a command is answered
@@ -117,7 +131,7 @@ module _ (tables : HciTables) (many : ℕ) (before : List Command) (old : Memory
         sorted = h.sorted;
         recordable = h.recordable;
         tables_are = h.tables_are ∙ ap (after_commands tables) (sym same);
-        count_is = h.count_is ∙ ap (λ (l : List Command). min (many + length l) (2 ^ 32 - 1)) (sym same);
+        count_is = λ e. h.count_is e ∙ ap (λ (l : List Command). min (many + length l) (2 ^ 32 - 1)) (sym same);
       }
 
   -- ## A commit
@@ -137,10 +151,10 @@ module _ (tables : HciTables) (many : ℕ) (before : List Command) (old : Memory
     tables_then : apply w.core.tables c ≡ after_commands tables (noted w ++ c ∷ [])
     tables_then = ap (λ t. apply t c) h.tables_are ∙ sym (fold-append apply tables (noted w) (c ∷ []))
 
-    count_then : count_of (committed w.core.journal w.core.tables (body_of c)) ≡ min (many + length (noted w ++ c ∷ [])) (2 ^ 32 - 1)
-    count_then =
-        commit_count h.memory.content w.core.journal w.core.tables c h.knows h.sorted h.recordable may room
-        ∙ more (count_of w.core.journal) (length (noted w)) (length (noted w ++ c ∷ [])) h.count_is (length-append (noted w) (c ∷ []))
+    count_then : E → count_of (committed w.core.journal w.core.tables (body_of c)) ≡ min (many + length (noted w ++ c ∷ [])) (2 ^ 32 - 1)
+    count_then e =
+        commit_count E h.memory.content w.core.journal w.core.tables c h.knows h.sorted h.recordable may room e
+        ∙ more (count_of w.core.journal) (length (noted w)) (length (noted w ++ c ∷ [])) (h.count_is e) (length-append (noted w) (c ∷ []))
       where
         more : (x l k : ℕ) → x ≡ min (many + l) (2 ^ 32 - 1) → k ≡ l + 1 → min (x + 1) (2 ^ 32 - 1) ≡ min (many + k) (2 ^ 32 - 1)
         more x l k a b = omega arith
@@ -154,21 +168,21 @@ module _ (tables : HciTables) (many : ℕ) (before : List Command) (old : Memory
           written = λ more. ap (λ l. after_planned l old) (append_assoc w.writes writes more)
               ∙ (h.written (writes ++ more) ∙ after_planned-append writes more h.memory now);
           plan_is = ap (plan_behind writes) h.plan_is ∙ sym (planned_whole writes h.memory now).1;
-          knows = planned_knows h.memory w.core.journal w.core.tables c h.knows h.sorted h.recordable may room now;
+          knows = planned_knows E h.memory w.core.journal w.core.tables c h.knows h.sorted h.recordable may room now;
           sorted = AreTables-apply w.core.tables c may h.sorted;
           recordable = recordable-apply w.core.tables c h.recordable may;
           tables_are = tables_then ∙ ap (after_commands tables) (sym all_are);
-          count_is = count_then ∙ ap (λ (l : List Command). min (many + length l) (2 ^ 32 - 1)) (sym all_are);
+          count_is = λ e. count_then e ∙ ap (λ (l : List Command). min (many + length l) (2 ^ 32 - 1)) (sym all_are);
         }
 
     lost_then : fails_within (length writes) w.plan ≡ true → Loses (loses_power writes begun)
     lost_then fails = record {
       off = refl;
       left =
-          subst (λ l. FindsBehind tables many l left ⊎ FindsAllButLast tables many l left) (sym (behind ∙ all_are))
-          (either (subst (λ x. BootFinds x w.core.tables (count_of w.core.journal)
-          ⊎ BootFinds x (apply w.core.tables c) (count_of (committed w.core.journal w.core.tables (body_of c)))) (sym memory_is)
-          (planned_left h.memory w.core.journal w.core.tables c h.knows h.sorted h.recordable may room now)));
+          subst (λ l. FindsMore E tables many l left ⊎ FindsLess E tables many l left) (sym (behind ∙ all_are))
+          (either (subst (λ x. FindsIf E x w.core.tables (count_of w.core.journal)
+          ⊎ FindsIf E x (apply w.core.tables c) (count_of (committed w.core.journal w.core.tables (body_of c)))) (sym memory_is)
+          (planned_left E h.memory w.core.journal w.core.tables c h.knows h.sorted h.recordable may room now)));
     } where
       now : fails_within (length writes) h.memory.plan ≡ true
       now = ap (fails_within (length writes)) (sym h.plan_is) ∙ fails
@@ -182,18 +196,19 @@ module _ (tables : HciTables) (many : ℕ) (before : List Command) (old : Memory
       behind : before ++ commands_of_entries (begun.entries ++ entry.Cut w.core.node ∷ []) ≡ before ++ commands_of_entries begun.entries
       behind = ap (λ l. before ++ l) (commands_more begun.entries (entry.Cut w.core.node ∷ []) ∙ append-nil (commands_of_entries begun.entries))
 
-      either : BootFinds left w.core.tables (count_of w.core.journal)
-          ⊎ BootFinds left (apply w.core.tables c) (count_of (committed w.core.journal w.core.tables (body_of c)))
-          → FindsBehind tables many (noted w ++ c ∷ []) left ⊎ FindsAllButLast tables many (noted w ++ c ∷ []) left
+      either : FindsIf E left w.core.tables (count_of w.core.journal)
+          ⊎ FindsIf E left (apply w.core.tables c) (count_of (committed w.core.journal w.core.tables (body_of c)))
+          → FindsMore E tables many (noted w ++ c ∷ []) left ⊎ FindsLess E tables many (noted w ++ c ∷ []) left
       either (inl found) = inr (record {
         front = noted w;
         last = c;
         are = refl;
-        finds = subst (λ t. BootFinds left t (min (many + length (noted w)) (2 ^ 32 - 1))) h.tables_are
-            (subst (BootFinds left w.core.tables) h.count_is found);
+        finds = subst (λ t. FindsIf E left t (min (many + length (noted w)) (2 ^ 32 - 1))) h.tables_are
+            (finds_counting E left w.core.tables (count_of w.core.journal) (min (many + length (noted w)) (2 ^ 32 - 1)) found h.count_is);
       })
-      either (inr found) = inl (subst (λ t. BootFinds left t (min (many + length (noted w ++ c ∷ [])) (2 ^ 32 - 1))) tables_then
-          (subst (BootFinds left (apply w.core.tables c)) count_then found))
+      either (inr found) = inl (subst (λ t. FindsIf E left t (min (many + length (noted w ++ c ∷ [])) (2 ^ 32 - 1))) tables_then
+          (finds_counting E left (apply w.core.tables c) (count_of (committed w.core.journal w.core.tables (body_of c)))
+          (min (many + length (noted w ++ c ∷ [])) (2 ^ 32 - 1)) found count_then))
 
     pub commit_holds : HoldsOrLoses (commit c w)
     commit_holds = by_plan (cases_Bool (fails_within (length writes) w.plan)) where

@@ -14,7 +14,7 @@ use Rattle.trace_model.specs.declared.line.End.{End}
 use Rattle.trace_model.specs.declared.entry.Entry.TheVariants as entry
 use Rattle.journal_laws.specs.declared.banks.Side.{Side}
 use Rattle.journal_laws.specs.Banks.{current}
-use Rattle.journal_laws.specs.Journal.{count_of, state_of}
+use Rattle.journal_laws.specs.Journal.{count, count_of, state_of}
 use Rattle.journal_laws.specs.Operations.{format_writes, formatted, started_state}
 use Rattle.journal_laws.specs.Planned.{after_planned, fails_within}
 use Rattle.journal_laws.specs.Writes.{after_writes}
@@ -22,6 +22,7 @@ use Rattle.hci_tables.specs.declared.command.Command.{Command}
 use Rattle.hci_store.specs.Image.{tables_of}
 use Rattle.hci_tables.specs.Tables.{HciTables, AreTables, after_commands, close}
 use Rattle.hci_store.specs.Recordable.{IsRecordable}
+use Rattle.hci_store.proofs.Applying.{sound_has_no_fault}
 use Rattle.hci_store.proofs.Closing.{close-close}
 use Rattle.hci_store.proofs.Starting.{counted}
 use Rattle.link_laws.specs.machine.Machine.{LinkInput, Message, is_held}
@@ -33,11 +34,9 @@ use Rattle.node_machine.specs.HostReplies.{host_deeds}
 use Rattle.node_machine.specs.Node.{all_come, boot_writes, found, steps}
 use Rattle.node_machine.specs.world.World.{runs_on}
 use Rattle.node_laws.specs.kept.Books.{WaitsAt, hosts_of_ends}
-use Rattle.node_laws.specs.kept.Deeds.{MayBeDone}
 use Rattle.node_machine.specs.Orders.{IsOnOrder}
-use Rattle.node_laws.specs.kept.Finds.{BootFinds, Knows}
-use Rattle.node_laws.proofs.kept.Booting.{good_found, knows_formatted, knows_used, left_formatted, says}
-use Rattle.node_laws.proofs.kept.Commits.{finds_closed}
+use Rattle.node_laws.specs.kept.Deeds.{MayBeDone}
+use Rattle.node_laws.proofs.kept.Booting.{good_found}
 use Rattle.node_laws.proofs.kept.HostsReply.{OneOrNone, host_may}
 use Rattle.node_laws.proofs.kept.Plainly.{plainly_desk, plainly_noting, plainly_then, plainly_turn}
 use Rattle.node_laws.proofs.kept.Planned.{planned_cut, planned_whole}
@@ -52,10 +51,11 @@ use Rattle.lone_laws.specs.alone.Lone.{does_by_power, emits_behind, lone_step, l
 use Rattle.lone_laws.specs.alone.Lone.{frames_behind, noted_of_refused}
 use Rattle.lone_laws.specs.alone.Lone.LoneCause.{FrameComes, FrameIsRefused, TickComes, ResetComes, StartComes, StopComes}
 use Rattle.lone_laws.specs.alone.Answers.{entries_of_events_alone}
-use Rattle.lone_laws.specs.alone.Memories.{FindsAllButLast, FindsBehind, IsHeldBehind, commands_of_entries}
+use Rattle.lone_laws.specs.alone.Memories.{CountsAll, FindsAllButLast, FindsBehind, IsHeldBehind, IsReady, commands_of_entries}
 use Rattle.lone_laws.proofs.answered.Coming.{IsLoneInput, pass_is}
 use Rattle.lone_laws.proofs.answered.Lasting.{LoneKeeps, arrival_nothing, begins_alone, step_is}
-use Rattle.lone_laws.proofs.answered.Memories.{Holds, HoldsOrLoses, IsLoneDeed, all_hold, commands_more, plainly_holds, then_hold}
+use Rattle.lone_laws.proofs.answered.Finding.{FindsIf, KnowsIf, fault_none, finds_counting, knows_formatted, left_formatted}
+use Rattle.lone_laws.proofs.answered.Memories.{FindsLess, FindsMore, Holds, HoldsOrLoses, IsLoneDeed, all_hold, commands_more, plainly_holds, then_hold}
 use Rattle.lone_laws.proofs.answered.Ordered.{begin_read}
 use Rattle.lone_laws.proofs.answered.Reading.{Alone, Read}
 use Rattle.lone_laws.proofs.answered.Replied.{deeds_shape}
@@ -76,7 +76,7 @@ lone_deeds _ IsHeard = (tt, tt)
 -- ## Turns
 
 module _ (rest : Core) (number h : ℕ) (some : 1 ≤ h) (most : h ≤ 7) (its : eqb number 0 ≡ false → number ≡ h) (s : ℕ) (t : List Entry)
-    (tables : HciTables) (many : ℕ) (before : List Command) (old : Memory) where
+    (E : Type 0) (tables : HciTables) (many : ℕ) (before : List Command) (old : Memory) where
   abbrev r : Read
   r = begin_read (record rest { node = number })
 
@@ -84,10 +84,10 @@ module _ (rest : Core) (number h : ℕ) (some : 1 ≤ h) (most : h ≤ 7) (its :
   Of w = Alone number h r t w
 
   abbrev Has : Work → Type 0
-  Has w = Holds tables many before old w
+  Has w = Holds E tables many before old w
 
   abbrev Fine : Work → Type 0
-  Fine w = HoldsOrLoses tables many before old w
+  Fine w = HoldsOrLoses E tables many before old w
 
   waits_none : (w : Work) → Of w → AllByRecursion WaitsAt w.ports
   waits_none w a =
@@ -122,10 +122,10 @@ module _ (rest : Core) (number h : ℕ) (some : 1 ≤ h) (most : h ≤ 7) (its :
       let x : Work = noting (entry.Turn (end_of_node w.core k) m.0 m.1 ∷ []) w in
       let y : Work = turn_at k FetchMessage x in
       let v : Work = with_desk k (λ d. record d { holds = false }) y in
-      let taken : Has v = plainly_holds tables many before old w v
+      let taken : Has v = plainly_holds E tables many before old w v
       (plainly_then w x v (plainly_noting w (entry.Turn (end_of_node w.core k) m.0 m.1 ∷ []) (tt, tt))
       (plainly_then x y v (plainly_turn k FetchMessage x) (plainly_desk k (λ d. record d { holds = false }) y (λ d. refl) (λ d z. z) (λ d c e. e)))) g in
-      all_hold tables many before old k (deeds_of w.core w.ports k m) (Some v.core.journal) w.core.command w.core.init v taken refl
+      all_hold E tables many before old k (deeds_of w.core w.ports k m) (Some v.core.journal) w.core.command w.core.init v taken refl
       (lone_deeds (deeds_of w.core w.ports k m) (deeds_shape rest number h some most s t k m w a here.own)) (turn_may k m w g a same)
 
   held_holds : (k : ℕ) (short : ℕ × ℕ) (w : Work) → Has w → Has (holds_back k short w)
@@ -141,9 +141,9 @@ module _ (rest : Core) (number h : ℕ) (some : 1 ≤ h) (most : h ≤ 7) (its :
     by false = turn_at k (Hold true) y
 
     go : (b : Bool) → Has (by b)
-    go true = plainly_holds tables many before old w (turn_at k (Hold true) w) (plainly_turn k (Hold true) w) g
+    go true = plainly_holds E tables many before old w (turn_at k (Hold true) w) (plainly_turn k (Hold true) w) g
     go false =
-        plainly_holds tables many before old w (turn_at k (Hold true) y)
+        plainly_holds E tables many before old w (turn_at k (Hold true) y)
         (plainly_then w x (turn_at k (Hold true) y) (plainly_noting w (entry.Held (end_of_node w.core k) short.0 short.1 ∷ []) (tt, tt))
         (plainly_then x y (turn_at k (Hold true) y) (plainly_desk k (λ d. record d { holds = true }) x (λ d. refl) (λ d z. z) (λ d c e. e))
         (plainly_turn k (Hold true) y))) g
@@ -155,7 +155,7 @@ module _ (rest : Core) (number h : ℕ) (some : 1 ≤ h) (most : h ≤ 7) (its :
     by false = w
 
     go : (b : Bool) → Has (by b)
-    go true = plainly_holds tables many before old w (turn_at k (Hold false) w) (plainly_turn k (Hold false) w) g
+    go true = plainly_holds E tables many before old w (turn_at k (Hold false) w) (plainly_turn k (Hold false) w) g
     go false = g
 
   turns_hold : (k : ℕ) (messages : List Message) (w : Work) → Has w → Of w → waiting_at w.ports k ≡ messages → Fine (have_turns k messages w)
@@ -170,7 +170,7 @@ module _ (rest : Core) (number h : ℕ) (some : 1 ≤ h) (most : h ≤ 7) (its :
 
     go : (o : Option (ℕ × ℕ)) → ((v : Work) → Has v → Of v → waiting_at v.ports k ≡ messages → Fine (have_turns k messages v)) → Fine (by o)
     go None later =
-        then_hold tables many before old (have_turns k messages) (handles k m deeds w) (handled_holds k m messages w g a waits)
+        then_hold E tables many before old (have_turns k messages) (handles k m deeds w) (handled_holds k m messages w g a waits)
         (λ z. later (handles k m deeds w) z (alone_handled number h some most r t k m messages w a waits z.on)
         (handles_sees k m messages deeds w waits).0)
     go (Some short) later = inl (held_holds k short w g)
@@ -178,7 +178,7 @@ module _ (rest : Core) (number h : ℕ) (some : 1 ≤ h) (most : h ≤ 7) (its :
   pass_holds : (w : Work) → Has w → Of w → Fine (passes w)
   pass_holds w g a =
       subst (λ hs. Fine (goes_through_ends hs w)) (sym hosts)
-      (then_hold tables many before old (goes_through_ends []) (have_turns h (waiting_at w.ports h) w)
+      (then_hold E tables many before old (goes_through_ends []) (have_turns h (waiting_at w.ports h) w)
       (turns_hold h (waiting_at w.ports h) w g a refl) (λ z. inl z))
     where
       hosts : hosts_of_ends w.ports ≡ h ∷ []
@@ -188,7 +188,7 @@ module _ (rest : Core) (number h : ℕ) (some : 1 ≤ h) (most : h ≤ 7) (its :
   pub step_holds : (i : LinkInput) → IsLoneInput i → (w : Work) → Has w → Of w → Fine (steps (node_input h i) w)
   step_holds i may w g a =
       subst Fine (sym (steps_are input w))
-      (then_hold tables many before old passes (comes_to_pass input w) (subst Fine (sym is) first) (λ z. pass_holds (comes_to_pass input w) z (begun z.on)))
+      (then_hold E tables many before old passes (comes_to_pass input w) (subst Fine (sym is) first) (λ z. pass_holds (comes_to_pass input w) z (begun z.on)))
     where
       input : Rattle.node_machine.specs.Node.NodeInput
       input = node_input h i
@@ -213,11 +213,11 @@ module _ (rest : Core) (number h : ℕ) (some : 1 ≤ h) (most : h ≤ 7) (its :
         by (inr c) = subst (AllByRecursion IsLoneDeed) (sym c.1) (tt, tt)
 
       come : Has (all_come input w)
-      come = plainly_holds tables many before old w (all_come input w) (plainly_come input w) g
+      come = plainly_holds E tables many before old w (all_come input w) (plainly_come input w) g
 
       first : Fine (all_done 0 (syncs_in input w) (all_come input w))
       first =
-          all_hold tables many before old 0 (syncs_in input w) (Some w.core.journal) w.core.command w.core.init (all_come input w) come refl lone
+          all_hold E tables many before old 0 (syncs_in input w) (Some w.core.journal) w.core.command w.core.init (all_come input w) come refl lone
           (one_may w.core (syncs_in input w) w.core.command w.core.init one (on_none w a))
 
 -- ## Events
@@ -235,42 +235,42 @@ emits_none e [] = refl
 emits_none e (c ∷ frames) = emits_none e frames
 
 -- what a node that runs has between events
-pub record Remembers (tables : HciTables) (many : ℕ) (t : List Entry) (m : Memory) (n : Running) : Type 0 where
-  pub knows : Knows m.content n.core.journal n.core.tables
+pub record Remembers (E : Type 0) (tables : HciTables) (many : ℕ) (t : List Entry) (m : Memory) (n : Running) : Type 0 where
+  pub knows : KnowsIf E m.content n.core.journal n.core.tables
   pub sorted : AreTables n.core.tables
   pub recordable : IsRecordable n.core.tables
   pub tables_are : n.core.tables ≡ after_commands tables (commands_of_entries t)
-  pub count_is : count_of n.core.journal ≡ min (many + length (commands_of_entries t)) (2 ^ 32 - 1)
+  pub count_is : E → count_of n.core.journal ≡ min (many + length (commands_of_entries t)) (2 ^ 32 - 1)
 
-abbrev pub RemembersBy : HciTables → ℕ → List Entry → Memory → Option Running → Type 0
-RemembersBy tables many t m (Some n) = Remembers tables many t m n
-RemembersBy tables many t m None =
-    FindsBehind tables many (commands_of_entries t) m.content ⊎ FindsAllButLast tables many (commands_of_entries t) m.content
+abbrev pub RemembersBy : Type 0 → HciTables → ℕ → List Entry → Memory → Option Running → Type 0
+RemembersBy E tables many t m (Some n) = Remembers E tables many t m n
+RemembersBy E tables many t m None =
+    FindsMore E tables many (commands_of_entries t) m.content ⊎ FindsLess E tables many (commands_of_entries t) m.content
 
-abbrev pub AllRemembered : HciTables → ℕ → List Entry → Lone → Type 0
-AllRemembered tables many t l = RemembersBy tables many t l.memory l.node
+abbrev pub AllRemembered : Type 0 → HciTables → ℕ → List Entry → Lone → Type 0
+AllRemembered E tables many t l = RemembersBy E tables many t l.memory l.node
 
-module _ (tables : HciTables) (many : ℕ) where
+module _ (E : Type 0) (tables : HciTables) (many : ℕ) where
   -- entries without commands
-  remembers_on : (t es : List Entry) (m : Memory) (n v : Running) → commands_of_entries es ≡ [] → v.core ≡ n.core → Remembers tables many t m n
-      → Remembers tables many (t ++ es) m v
+  remembers_on : (t es : List Entry) (m : Memory) (n v : Running) → commands_of_entries es ≡ [] → v.core ≡ n.core → Remembers E tables many t m n
+      → Remembers E tables many (t ++ es) m v
   remembers_on t es m n v none same a =
       let told : commands_of_entries (t ++ es) ≡ commands_of_entries t =
       commands_more t es ∙ (ap (λ l. commands_of_entries t ++ l) none ∙ append-nil (commands_of_entries t)) in
       record {
-        knows = subst (λ (c : Core). Knows m.content c.journal c.tables) (sym same) a.knows;
+        knows = subst (λ (c : Core). KnowsIf E m.content c.journal c.tables) (sym same) a.knows;
         sorted = subst (λ (c : Core). AreTables c.tables) (sym same) a.sorted;
         recordable = subst (λ (c : Core). IsRecordable c.tables) (sym same) a.recordable;
         tables_are = ap (λ (c : Core). c.tables) same ∙ (a.tables_are ∙ ap (after_commands tables) (sym told));
-        count_is = ap (λ (c : Core). count_of c.journal) same ∙ (a.count_is ∙ ap (λ (l : List Command). min (many + length l) (2 ^ 32 - 1)) (sym told));
+        count_is = λ e. ap (λ (c : Core). count_of c.journal) same ∙ (a.count_is e ∙ ap (λ (l : List Command). min (many + length l) (2 ^ 32 - 1)) (sym told));
       }
 
   input_remembers : (rest : Core) (t : List Entry) (l : Lone) → 1 ≤ l.link → l.link ≤ 7 → (eqb l.number 0 ≡ false → l.number ≡ l.link) → (n : Running)
       → l.node ≡ Some n → LoneKeeps (begin_read (record rest { node = l.number })) t l n → (c : LoneCause) (i : LinkInput) → lone_input c ≡ Some i
-      → Remembers tables many t l.memory n → AllRemembered tables many (t ++ (lone_step l c).1) (lone_step l c).0
+      → Remembers E tables many t l.memory n → AllRemembered E tables many (t ++ (lone_step l c).1) (lone_step l c).0
   input_remembers rest t l some most its n on keep c i comes b =
-      subst (λ (x : Lone × List Entry). AllRemembered tables many (t ++ x.1) x.0) (sym (step_is l n c i on comes))
-      (by (step_holds rest l.number l.link some most its (session_with l i) t tables many before l.memory i (lone_comes c i comes) first holds
+      subst (λ (x : Lone × List Entry). AllRemembered E tables many (t ++ x.1) x.0) (sym (step_is l n c i on comes))
+      (by (step_holds rest l.number l.link some most its (session_with l i) t E tables many before l.memory i (lone_comes c i comes) first holds
       (begins_alone (begin_read (record rest { node = l.number })) t l n i (lone_arrival l c) (arrival_nothing l c) keep)))
     where
       before : List Command
@@ -294,7 +294,7 @@ module _ (tables : HciTables) (many : ℕ) where
           ∙ ap (λ x. before ++ x) (commands_more last.entries (emits_behind l last)
           ∙ (ap (λ x. commands_of_entries last.entries ++ x) (emits_none (lone_end l) (frames_behind l last)) ∙ append-nil (commands_of_entries last.entries)))
 
-      holds : Holds tables many before l.memory first
+      holds : Holds E tables many before l.memory first
       holds = record {
         on = refl;
         memory = l.memory;
@@ -304,36 +304,36 @@ module _ (tables : HciTables) (many : ℕ) where
         sorted = b.sorted;
         recordable = b.recordable;
         tables_are = b.tables_are ∙ ap (after_commands tables) (sym none);
-        count_is = b.count_is ∙ ap (λ (x : List Command). min (many + length x) (2 ^ 32 - 1)) (sym none);
+        count_is = λ e. b.count_is e ∙ ap (λ (x : List Command). min (many + length x) (2 ^ 32 - 1)) (sym none);
       }
 
       now : Running
       now = record { core = last.core; desks = map (λ (p : Port). p.desk) last.ports }
 
-      by : HoldsOrLoses tables many before l.memory last → AllRemembered tables many (t ++ es) (lone_behind_step l i last)
+      by : HoldsOrLoses E tables many before l.memory last → AllRemembered E tables many (t ++ es) (lone_behind_step l i last)
       by (inl g) =
           let is : runs_on last ≡ Some now = ap (λ b. cond b None (Some now)) g.on in
           let memory : after_planned last.writes l.memory ≡ g.memory =
           ap (λ x. after_planned x l.memory) (sym (append-nil last.writes)) ∙ g.written [] in
-          subst (RemembersBy tables many (t ++ es) (after_planned last.writes l.memory)) (sym is)
-          (subst (λ (m : Memory). Remembers tables many (t ++ es) m now) (sym memory) (record {
+          subst (RemembersBy E tables many (t ++ es) (after_planned last.writes l.memory)) (sym is)
+          (subst (λ (m : Memory). Remembers E tables many (t ++ es) m now) (sym memory) (record {
             knows = g.knows;
             sorted = g.sorted;
             recordable = g.recordable;
             tables_are = g.tables_are ∙ ap (after_commands tables) (sym told);
-            count_is = g.count_is ∙ ap (λ (x : List Command). min (many + length x) (2 ^ 32 - 1)) (sym told);
+            count_is = λ e. g.count_is e ∙ ap (λ (x : List Command). min (many + length x) (2 ^ 32 - 1)) (sym told);
           }))
       by (inr x) =
           let is : runs_on last ≡ None = ap (λ b. cond b None (Some now)) x.off in
-          subst (RemembersBy tables many (t ++ es) (after_planned last.writes l.memory)) (sym is)
-          (subst (λ z. FindsBehind tables many z (after_planned last.writes l.memory).content
-          ⊎ FindsAllButLast tables many z (after_planned last.writes l.memory).content) (sym told) x.left)
+          subst (RemembersBy E tables many (t ++ es) (after_planned last.writes l.memory)) (sym is)
+          (subst (λ z. FindsMore E tables many z (after_planned last.writes l.memory).content
+          ⊎ FindsLess E tables many z (after_planned last.writes l.memory).content) (sym told) x.left)
 
   -- nothing comes of a frame that is refused
   refused_remembers : (t : List Entry) (l : Lone) (n : Running) → l.node ≡ Some n → (c : LoneCause) → lone_input c ≡ None
-      → Remembers tables many t l.memory n → AllRemembered tables many (t ++ (lone_step l c).1) (lone_step l c).0
+      → Remembers E tables many t l.memory n → AllRemembered E tables many (t ++ (lone_step l c).1) (lone_step l c).0
   refused_remembers t l n on (FrameIsRefused fault) q b =
-      subst (λ (x : Lone × List Entry). AllRemembered tables many (t ++ x.1) x.0) (sym (ap (does_by_power l (FrameIsRefused fault)) on))
+      subst (λ (x : Lone × List Entry). AllRemembered E tables many (t ++ x.1) x.0) (sym (ap (does_by_power l (FrameIsRefused fault)) on))
       (remembers_on t (noted_of_refused l (FrameIsRefused fault)) l.memory n (with_refusal l.link n) refl refl b)
   refused_remembers t l n on (FrameComes bytes) q b = absurd (cc q)
   refused_remembers t l n on TickComes q b = absurd (cc q)
@@ -342,18 +342,18 @@ module _ (tables : HciTables) (many : ℕ) where
   refused_remembers t l n on StopComes q b = absurd (cc q)
 
   module _ (rest : Core) (number h : ℕ) (some : 1 ≤ h) (most : h ≤ 7) (its : eqb number 0 ≡ false → number ≡ h) where
-    step_remembers : (t : List Entry) (l : Lone) (c : LoneCause) → is_some l.node ≡ true → Between rest number h t l → AllRemembered tables many t l
-        → AllRemembered tables many (t ++ (lone_step l c).1) (lone_step l c).0
+    step_remembers : (t : List Entry) (l : Lone) (c : LoneCause) → is_some l.node ≡ true → Between rest number h t l → AllRemembered E tables many t l
+        → AllRemembered E tables many (t ++ (lone_step l c).1) (lone_step l c).0
     step_remembers t l c runs k b = by_node l.node refl where
       by_input : (n : Running) → l.node ≡ Some n → (o : Option LinkInput) → lone_input c ≡ o
-          → AllRemembered tables many (t ++ (lone_step l c).1) (lone_step l c).0
+          → AllRemembered E tables many (t ++ (lone_step l c).1) (lone_step l c).0
       by_input n on (Some i) q =
           input_remembers rest t l (subst (λ x. 1 ≤ x) (sym k.link_is) some) (subst (λ x. x ≤ 7) (sym k.link_is) most)
           (λ z. k.number_is ∙ (its (ap (λ x. eqb x 0) (sym k.number_is) ∙ z) ∙ sym k.link_is)) n on (k.all n on).keep c i q
-          (subst (RemembersBy tables many t l.memory) on b)
-      by_input n on None q = refused_remembers t l n on c q (subst (RemembersBy tables many t l.memory) on b)
+          (subst (RemembersBy E tables many t l.memory) on b)
+      by_input n on None q = refused_remembers t l n on c q (subst (RemembersBy E tables many t l.memory) on b)
 
-      by_node : (o : Option Running) → l.node ≡ o → AllRemembered tables many (t ++ (lone_step l c).1) (lone_step l c).0
+      by_node : (o : Option Running) → l.node ≡ o → AllRemembered E tables many (t ++ (lone_step l c).1) (lone_step l c).0
       by_node None off = absurd (true≢false (sym runs ∙ ap is_some off))
       by_node (Some n) on = by_input n on (lone_input c) refl
 
@@ -363,112 +363,157 @@ module _ (tables : HciTables) (many : ℕ) where
         let same : (lone_step l c).0 ≡ l = ap (λ (x : Lone × List Entry). x.0) (ap (does_by_power l c) off) in
         ap (λ (x : Lone). lone_after x causes) same ∙ off_stays causes l off
 
-    pub run_remembers : (causes : List LoneCause) (t : List Entry) (l : Lone) → Between rest number h t l → AllRemembered tables many t l
-        → AllRemembered tables many (t ++ entries_of_events_alone (lone_events l causes)) (lone_after l causes)
-    run_remembers [] t l k b = subst (λ x. AllRemembered tables many x l) (sym (append-nil t)) b
+    pub run_remembers : (causes : List LoneCause) (t : List Entry) (l : Lone) → Between rest number h t l → AllRemembered E tables many t l
+        → AllRemembered E tables many (t ++ entries_of_events_alone (lone_events l causes)) (lone_after l causes)
+    run_remembers [] t l k b = subst (λ x. AllRemembered E tables many x l) (sym (append-nil t)) b
     run_remembers (c ∷ causes) t l k b = by (is_some l.node) refl (run_remembers causes) where
       Later : Type 0
       Later =
-          (u : List Entry) (v : Lone) → Between rest number h u v → AllRemembered tables many u v
-          → AllRemembered tables many (u ++ entries_of_events_alone (lone_events v causes)) (lone_after v causes)
+          (u : List Entry) (v : Lone) → Between rest number h u v → AllRemembered E tables many u v
+          → AllRemembered E tables many (u ++ entries_of_events_alone (lone_events v causes)) (lone_after v causes)
 
       none_of : (o : Option Running) → is_some o ≡ false → o ≡ None
       none_of None q = refl
       none_of (Some n) q = absurd (true≢false q)
 
       by : (x : Bool) → is_some l.node ≡ x → Later
-          → AllRemembered tables many (t ++ entries_of_events_alone (lone_events l (c ∷ causes))) (lone_after l (c ∷ causes))
+          → AllRemembered E tables many (t ++ entries_of_events_alone (lone_events l (c ∷ causes))) (lone_after l (c ∷ causes))
       by true q later =
           let event : LoneEvent = record { cause = c; entries = (lone_step l c).1 } in
           let is : lone_events l (c ∷ causes) ≡ event ∷ lone_events (lone_step l c).0 causes =
           ap (λ b. cond b (event ∷ lone_events (lone_step l c).0 causes) []) q in
-          subst (λ x. AllRemembered tables many (t ++ entries_of_events_alone x) (lone_after l (c ∷ causes))) (sym is)
-          (subst (λ x. AllRemembered tables many x (lone_after l (c ∷ causes)))
+          subst (λ x. AllRemembered E tables many (t ++ entries_of_events_alone x) (lone_after l (c ∷ causes))) (sym is)
+          (subst (λ x. AllRemembered E tables many x (lone_after l (c ∷ causes)))
           (append_assoc t (lone_step l c).1 (entries_of_events_alone (lone_events (lone_step l c).0 causes)))
           (later (t ++ (lone_step l c).1) (lone_step l c).0 (each_step rest number h some most its t l c q k).1 (step_remembers t l c q k b)))
       by false q later =
           let event : LoneEvent = record { cause = c; entries = (lone_step l c).1 } in
           let is : lone_events l (c ∷ causes) ≡ [] = ap (λ b. cond b (event ∷ lone_events (lone_step l c).0 causes) []) q in
           let same : lone_after l (c ∷ causes) ≡ l = off_stays (c ∷ causes) l (none_of l.node q) in
-          subst (λ x. AllRemembered tables many (t ++ entries_of_events_alone x) (lone_after l (c ∷ causes))) (sym is)
-          (subst (λ (x : Lone). AllRemembered tables many (t ++ []) x) (sym same) (subst (λ x. AllRemembered tables many x l) (sym (append-nil t)) b))
+          subst (λ x. AllRemembered E tables many (t ++ entries_of_events_alone x) (lone_after l (c ∷ causes))) (sym is)
+          (subst (λ (x : Lone). AllRemembered E tables many (t ++ []) x) (sym same) (subst (λ x. AllRemembered E tables many x l) (sym (append-nil t)) b))
 
 -- ## Its beginning
 
-module _ (number h : ℕ) (m : Memory) (found_tables : HciTables) (many : ℕ) (f : BootFinds m.content found_tables many) where
+-- what is ready is found
+module _ (first : List ℕ) where
+  abbrev pub Counted : Type 0
+  Counted = CountsAll first
+
+  abbrev pub start : HciTables
+  start = close (tables_of first)
+
+  pub found_first : IsReady first → FindsIf Counted first start (count first)
+  found_first ready =
+      let both = fault_none first ready.sound in
+      record {
+        size = ready.size;
+        version = ready.version;
+        sound = both.0;
+        holds = record { commands = both.1; tables_are = sym (close-close (tables_of first)) };
+        counts = λ all. record { all = all; count_is = refl };
+      }
+
+  found_behind : (commands : List Command) (content : List ℕ) → FindsMore Counted start (count first) commands content → FindsBehind first commands content
+  found_behind commands content f = record {
+    finds = record {
+      ready = record { size = f.size; sound = sound_has_no_fault content f.holds.commands f.sound; version = f.version };
+      tables_are = f.holds.tables_are;
+    };
+    counts = f.counts;
+  }
+
+  found_less : (commands : List Command) (content : List ℕ) → FindsLess Counted start (count first) commands content → FindsAllButLast first commands content
+  found_less commands content f = record { front = f.front; last = f.last; are = f.are; finds = found_behind f.front content f.finds }
+
+module _ (number h : ℕ) (m : Memory) (ready : IsReady m.content) where
   abbrev content : List ℕ
   content = m.content
 
-  abbrev start : HciTables
-  start = close (tables_of content)
+  abbrev E : Type 0
+  E = Counted content
 
-  few : many ≤ 2 ^ 32 - 1
-  few = let is = f.keeps.count_is in omega (arith, is)
+  abbrev tables : HciTables
+  tables = start content
 
-  pub boot_remembers : AllRemembered start many [] (lone_booted number h m)
+  f : FindsIf E content tables (count content)
+  f = found_first content ready
+
+  pub boot_remembers : AllRemembered E tables (count content) [] (lone_booted number h m)
   boot_remembers = by_plan (fails_within (length (boot_writes content)) m.plan) refl where
-    knows : (o : Option Side) → current content ≡ o → Knows (after_writes (boot_writes content) content) (started_state (state_of content)) start
+    count_so : count_of (started_state (state_of content)) ≡ count content
+    count_so =
+        counted content (state_of content) (started_state (state_of content)) (record { size = f.size; state_is = refl; sound = f.sound }) refl
+
+    most : (n : ℕ) → n ≡ count content → n ≡ min (count content + 0) (2 ^ 32 - 1)
+    most n same = omega (arith, same)
+
+    knows : (o : Option Side) → current content ≡ o → KnowsIf E (after_writes (boot_writes content) content) (started_state (state_of content)) tables
     knows (Some side) is =
-        subst (λ w. Knows (after_writes w content) (started_state (state_of content)) start) (sym (ap (λ p. option_map_or (λ _. []) p format_writes) is))
-        (subst (λ s. Knows content s start) (sym (ap (λ p. option_map_or (λ _. state_of content) p formatted) is))
-        (knows_used content found_tables many f (subst IsSome (sym is) refl)))
+        subst (λ w. KnowsIf E (after_writes w content) (started_state (state_of content)) tables) (sym (ap (λ p. option_map_or (λ _. []) p format_writes) is))
+        (subst (λ s. KnowsIf E content s tables) (sym (ap (λ p. option_map_or (λ _. state_of content) p formatted) is))
+        (record { state_is = refl; in_use = subst IsSome (sym is) refl; finds = f }))
     knows None is =
-        subst (λ w. Knows (after_writes w content) (started_state (state_of content)) start) (sym (ap (λ p. option_map_or (λ _. []) p format_writes) is))
-        (subst (λ s. Knows (after_writes format_writes content) s start) (sym (ap (λ p. option_map_or (λ _. state_of content) p formatted) is))
-        (knows_formatted content found_tables many f is))
+        subst (λ w. KnowsIf E (after_writes w content) (started_state (state_of content)) tables) (sym (ap (λ p. option_map_or (λ _. []) p format_writes) is))
+        (subst (λ s. KnowsIf E (after_writes format_writes content) s tables) (sym (ap (λ p. option_map_or (λ _. state_of content) p formatted) is))
+        (knows_formatted E content tables (count content) f refl is))
 
-    count_now : count_of (started_state (state_of content)) ≡ min (many + 0) (2 ^ 32 - 1)
-    count_now = let c = counted content (state_of content) (started_state (state_of content)) (says content found_tables many f) refl in
-        let is = f.keeps.count_is in omega (arith, c, is, few)
-
-    left_closed : (left : List ℕ) → BootFinds left found_tables many → FindsBehind start many [] left
-    left_closed left g =
-        let same : close found_tables ≡ close start = sym f.keeps.holds.tables_are ∙ sym (close-close (tables_of content)) in
-        let most : many ≡ min (many + 0) (2 ^ 32 - 1) = omega (arith, few) in
-        subst (BootFinds left start) most (finds_closed left found_tables start many g same)
+    at_first : (left : List ℕ) → FindsIf E left tables (count content) → FindsMore E tables (count content) [] left
+    at_first left g =
+        finds_counting E left tables (count content) (min (count content + 0) (2 ^ 32 - 1)) g (λ e. most (count content) refl)
 
     lost : (o : Option Side) → current content ≡ o → fails_within (length (boot_writes content)) m.plan ≡ true
-        → FindsBehind start many [] (after_planned (boot_writes content) m).content
+        → FindsMore E tables (count content) [] (after_planned (boot_writes content) m).content
     lost (Some side) is fails =
         let none : boot_writes content ≡ [] = ap (λ p. option_map_or (λ _. []) p format_writes) is in
-        subst (λ w. FindsBehind start many [] (after_planned w m).content) (sym none) (left_closed content f)
+        subst (λ w. FindsMore E tables (count content) [] (after_planned w m).content) (sym none) (at_first content f)
     lost None is fails =
         let formats : boot_writes content ≡ format_writes = ap (λ p. option_map_or (λ _. []) p format_writes) is in
         let cut = planned_cut format_writes m (ap (λ w. fails_within (length w) m.plan) (sym formats) ∙ fails) in
-        subst (λ w. FindsBehind start many [] (after_planned w m).content) (sym formats)
-        (left_closed (after_planned format_writes m).content
-        (left_formatted content found_tables many f is cut.0 (after_planned format_writes m).content cut.1))
+        subst (λ w. FindsMore E tables (count content) [] (after_planned w m).content) (sym formats)
+        (at_first (after_planned format_writes m).content
+        (left_formatted E content tables (count content) f refl is cut.0 (after_planned format_writes m).content cut.1))
 
     by_plan : (b : Bool) → fails_within (length (boot_writes content)) m.plan ≡ b
-        → RemembersBy start many [] (after_planned (boot_writes content) m) (cond b None (Some (found number (h ∷ []) content)))
+        → RemembersBy E tables (count content) [] (after_planned (boot_writes content) m) (cond b None (Some (found number (h ∷ []) content)))
     by_plan true fails = inl (lost (current content) refl fails)
     by_plan false none = record {
-      knows = subst (λ x. Knows x (started_state (state_of content)) start) (sym (planned_whole (boot_writes content) m none).0) (knows (current content) refl);
+      knows = subst (λ x. KnowsIf E x (started_state (state_of content)) tables) (sym (planned_whole (boot_writes content) m none).0)
+          (knows (current content) refl);
       sorted = (good_found content).0;
       recordable = (good_found content).1;
       tables_are = refl;
-      count_is = count_now;
+      count_is = λ e. most (count_of (started_state (state_of content))) count_so;
     }
 
 -- what is remembered is held
-held_behind : (tables : HciTables) (many : ℕ) (t : List Entry) (l : Lone) → AllRemembered tables many t l
-    → IsHeldBehind tables many (commands_of_entries t) l
-held_behind tables many t l a = by l.node refl where
-  holds : (n : Running) → Remembers tables many t l.memory n → FindsBehind tables many (commands_of_entries t) l.memory.content
+held_behind : (first : List ℕ) (t : List Entry) (l : Lone) → AllRemembered (Counted first) (start first) (count first) t l
+    → IsHeldBehind first (commands_of_entries t) l
+held_behind first t l a = by l.node refl where
+  E : Type 0
+  E = Counted first
+
+  holds : (n : Running) → Remembers E (start first) (count first) t l.memory n → FindsBehind first (commands_of_entries t) l.memory.content
   holds n b =
-      subst (λ x. BootFinds l.memory.content x (min (many + length (commands_of_entries t)) (2 ^ 32 - 1))) b.tables_are
-      (subst (BootFinds l.memory.content n.core.tables) b.count_is b.knows.finds)
+      found_behind first (commands_of_entries t) l.memory.content
+      (subst (λ x. FindsIf E l.memory.content x (min (count first + length (commands_of_entries t)) (2 ^ 32 - 1))) b.tables_are
+      (finds_counting E l.memory.content n.core.tables (count_of n.core.journal) (min (count first + length (commands_of_entries t)) (2 ^ 32 - 1))
+      b.knows.finds b.count_is))
 
-  by : (o : Option Running) → l.node ≡ o → IsHeldBehind tables many (commands_of_entries t) l
-  by None q = rw q (subst (RemembersBy tables many t l.memory) q a)
-  by (Some n) q = rw q (holds n (subst (RemembersBy tables many t l.memory) q a))
+  either : FindsMore E (start first) (count first) (commands_of_entries t) l.memory.content
+      ⊎ FindsLess E (start first) (count first) (commands_of_entries t) l.memory.content
+      → FindsBehind first (commands_of_entries t) l.memory.content ⊎ FindsAllButLast first (commands_of_entries t) l.memory.content
+  either (inl all) = inl (found_behind first (commands_of_entries t) l.memory.content all)
+  either (inr less) = inr (found_less first (commands_of_entries t) l.memory.content less)
 
-pub run_held : (number h : ℕ) → 1 ≤ h → h ≤ 7 → (eqb number 0 ≡ false → number ≡ h) → (m : Memory) (found_tables : HciTables) (many : ℕ)
-    → BootFinds m.content found_tables many → (causes : List LoneCause)
-    → IsHeldBehind (close (tables_of m.content)) many (commands_of_entries (entries_of_events_alone (lone_events (lone_booted number h m) causes)))
+  by : (o : Option Running) → l.node ≡ o → IsHeldBehind first (commands_of_entries t) l
+  by None q = rw q (either (subst (RemembersBy E (start first) (count first) t l.memory) q a))
+  by (Some n) q = rw q (holds n (subst (RemembersBy E (start first) (count first) t l.memory) q a))
+
+pub run_held : (number h : ℕ) → 1 ≤ h → h ≤ 7 → (eqb number 0 ≡ false → number ≡ h) → (m : Memory) → IsReady m.content → (causes : List LoneCause)
+    → IsHeldBehind m.content (commands_of_entries (entries_of_events_alone (lone_events (lone_booted number h m) causes)))
     (lone_after (lone_booted number h m) causes)
-run_held number h some most its m found_tables many f causes =
-    held_behind (close (tables_of m.content)) many (entries_of_events_alone (lone_events (lone_booted number h m) causes))
-    (lone_after (lone_booted number h m) causes)
-    (run_remembers (close (tables_of m.content)) many (booted_core number h some most its m) number h some most its causes [] (lone_booted number h m)
-    (begin_between number h some most its m) (boot_remembers number h m found_tables many f))
+run_held number h some most its m ready causes =
+    held_behind m.content (entries_of_events_alone (lone_events (lone_booted number h m) causes)) (lone_after (lone_booted number h m) causes)
+    (run_remembers (Counted m.content) (start m.content) (count m.content) (booted_core number h some most its m) number h some most its causes []
+    (lone_booted number h m) (begin_between number h some most its m) (boot_remembers number h m ready))

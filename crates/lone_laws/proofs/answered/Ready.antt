@@ -1,0 +1,165 @@
+-- A boot makes a memory ready: what the next boot finds there is what it found.
+use Rattle.std.proofs.Common.{◌≡◌, ◌≢◌, ◌⊎◌, inl, inr, ℕ, ◌+◌, ◌<◌, ◌≤◌, Bool, true, false, cond, ◌==◌, ◌||◌, List, [], ◌∷◌, ◌++◌, map, IsTrue, sym, refl, ap, ap₂, ◌∙◌}
+use Rattle.std.proofs.Common.{subst, arith}
+use Rattle.std.specs.Prelude.{Option, Some, None, IsSome}
+use Rattle.std.specs.Option.{option_map_or}
+use Rattle.std.proofs.lemmas.Bool.{eqb-true, true≢false}
+use Rattle.std.proofs.lemmas.Bool.Decides.{nat_tests}
+use Rattle.journal_laws.specs.declared.banks.Side.{Side}
+use Rattle.journal_laws.specs.declared.state.State.{State}
+use Rattle.journal_laws.specs.Banks.{current}
+use Rattle.journal_laws.specs.Journal.{journal, records, state_of, count_of, count, IsSound}
+use Rattle.journal_laws.specs.Operations.{format_writes, formatted, started_state, compact_writes, compacted, CanCompact}
+use Rattle.journal_laws.specs.Writes.{after_writes}
+use Rattle.journal_laws.proofs.Kept.{compact_count}
+use Rattle.nv_journal.specs.Kept.{Says}
+use Rattle.nv_journal.proofs.Compacting as compacting
+use Rattle.nv_journal.proofs.Formatting.{says_formatted, no_records_then}
+use Rattle.hci_tables.specs.Tables.{HciTables, AreTables, close}
+use Rattle.hci_store.specs.Committing.{snapshot_bodies}
+use Rattle.hci_store.specs.Image.{are_commands, tables_of}
+use Rattle.hci_store.specs.Recordable.{IsRecordable}
+use Rattle.hci_store.specs.Snapshots.{snapshot_of}
+use Rattle.hci_store.specs.Starting.{migration_writes, migrated, ready_state}
+use Rattle.hci_store.specs.Stored.{FindsSame, HoldsTables}
+use Rattle.hci_store.proofs.Applying.{sound_has_no_fault}
+use Rattle.hci_store.proofs.Closing.{close-close}
+use Rattle.hci_store.proofs.Committed.{all_recordable, holds_snapshot}
+use Rattle.hci_store.proofs.CutShort.{are_bodies, holds_still}
+use Rattle.hci_store.proofs.Starting.{counted}
+use Rattle.node_machine.specs.Node.{boot_writes, found, new_desk}
+use Rattle.node_laws.proofs.kept.Booting.{good_found}
+use Rattle.node_laws.proofs.kept.Snapshots.{snapshot_fits}
+use Rattle.lone_laws.specs.alone.Memories.{CountsAll, IsReady, IsTaken, behind_boot}
+use Rattle.lone_laws.proofs.answered.Finding.{KnowsIf, fault_none, knows_from, some_other}
+
+first_version : (v : ℕ) → IsTrue (v == 1 || v == 2) → (v == 2) ≡ false → v ≡ 1
+first_version v known older = grind (arith, nat_tests)
+
+module _ (content : List ℕ) (taken : IsTaken content) where
+  abbrev s : State
+  s = state_of content
+
+  abbrev t : HciTables
+  t = close (tables_of content)
+
+  abbrev bodies : List (List ℕ)
+  bodies = snapshot_bodies t
+
+  -- each record counts, or the memory is written anew
+  abbrev pub MayCount : Type 0
+  MayCount = ((journal content).head.version ≡ 1) ⊎ CountsAll content
+
+  both : IsSound (journal content) × (are_commands (records content) ≡ true)
+  both = fault_none content taken.sound
+
+  says : Says content s
+  says = record { size = taken.size; state_is = refl; sound = both.0 }
+
+  holds : HoldsTables content t
+  holds = record { commands = both.1; tables_are = sym (close-close (tables_of content)) }
+
+  fine : AreTables t × IsRecordable t
+  fine = good_found content
+
+  -- a boot that knows this of the memory finds the same
+  record Leaves (new : List ℕ) (j : State) : Type 0 where
+    knows : KnowsIf MayCount new j t
+    count_is : count_of j ≡ count content
+
+  leaves_formatted : current content ≡ None → Leaves (after_writes format_writes content) formatted
+  leaves_formatted none = record {
+    knows = knows_from MayCount (after_writes format_writes content) formatted t (says_formatted content s says none) refl refl (λ e. omega arith)
+        (holds_still content (after_writes format_writes content) t holds (no_records_then content s says none));
+    count_is = counted content s formatted says (ap (λ o. option_map_or (λ _. s) o formatted) (sym none));
+  }
+
+  leaves_as_is : IsSome (current content) → (s.version == 2) ≡ true → Leaves content s
+  leaves_as_is some second = record {
+    knows = knows_from MayCount content s t says some version counts holds;
+    count_is = refl;
+  } where
+    version : s.version ≡ 2
+    version = eqb-true s.version 2 second
+
+    counts : MayCount → s.snapshot ≤ s.base + s.many
+    counts (inl first) = absurd (omega (arith, first, version))
+    counts (inr all) = all
+
+  leaves_anew : IsSome (current content) → (s.version == 2) ≡ false → Leaves (after_writes (compact_writes s bodies) content) (compacted s bodies)
+  leaves_anew some older = record {
+    knows = knows_from MayCount (after_writes (compact_writes s bodies) content) (compacted s bodies) t (compacting.says_after content bodies s says can)
+        (some_other (current content) some) refl (λ e. omega arith)
+        (holds_snapshot (after_writes (compact_writes s bodies) content) t fine.1 fine.0 (compacting.records_after content bodies s says can));
+    count_is = compact_count s bodies;
+  } where
+    next : s.generation < 4294967295
+    next = taken.next (first_version s.version both.0.known older)
+
+    can : CanCompact s bodies
+    can = record {
+      in_use = some;
+      generation = omega (arith, next);
+      short = are_bodies (snapshot_of t) (all_recordable t fine.1 fine.0);
+      room = snapshot_fits t fine.1 fine.0;
+    }
+
+  leaves : (o : Option Side) → current content ≡ o
+      → Leaves (after_writes (option_map_or (λ _. []) o format_writes ++ migration_writes (option_map_or (λ _. s) o formatted) t) content)
+      (migrated (option_map_or (λ _. s) o formatted) t)
+  leaves None none = leaves_formatted none
+  leaves (Some side) is = by_version (s.version == 2) refl where
+    some : IsSome (current content)
+    some = subst IsSome (sym is) refl
+
+    by_version : (b : Bool) → (s.version == 2) ≡ b → Leaves (after_writes (cond b [] (compact_writes s bodies)) content) (cond b s (compacted s bodies))
+    by_version true second = leaves_as_is some second
+    by_version false older = leaves_anew some older
+
+  left : Leaves (behind_boot content) (ready_state content)
+  left = leaves (current content) refl
+
+  pub is_ready : IsReady (behind_boot content)
+  is_ready = record {
+    size = left.knows.finds.size;
+    sound = sound_has_no_fault (behind_boot content) left.knows.finds.holds.commands left.knows.finds.sound;
+    version = left.knows.finds.version;
+  }
+
+  pub finds_same : FindsSame content (behind_boot content)
+  finds_same = record {
+    tables_are = left.knows.finds.holds.tables_are ∙ close-close (tables_of content);
+    count_is = ap count_of left.knows.state_is ∙ left.count_is;
+    fault_is = is_ready.sound ∙ sym taken.sound;
+  }
+
+  pub counts_all : MayCount → CountsAll (behind_boot content)
+  counts_all e = (left.knows.finds.counts e).all
+
+  -- ## The next boot
+
+  some_now : IsSome (state_of (behind_boot content)).in_use
+  some_now = subst (λ (j : State). IsSome j.in_use) (sym left.knows.state_is) left.knows.in_use
+
+  pub boots_silently : boot_writes (behind_boot content) ≡ []
+  boots_silently = by (state_of (behind_boot content)).in_use some_now where
+    by : (o : Option Side) → IsSome o → option_map_or (λ _. []) o format_writes ≡ []
+    by None some = absurd (true≢false (sym some))
+    by (Some side) some = refl
+
+  started_now : started_state (state_of (behind_boot content)) ≡ ready_state content
+  started_now = by (state_of (behind_boot content)) some_now ∙ left.knows.state_is where
+    by : (j : State) → IsSome j.in_use → started_state j ≡ j
+    by j some = at j.in_use some where
+      at : (o : Option Side) → IsSome o → option_map_or (λ _. j) o formatted ≡ j
+      at None some = absurd (true≢false (sym some))
+      at (Some side) some = refl
+
+  pub found_again : (number : ℕ) (hosts : List ℕ)
+      → found number hosts (behind_boot content)
+      ≡ record (found number hosts content) { core = record (found number hosts content).core { journal = ready_state content } }
+  found_again number hosts =
+      ap₂ (λ (j : State) (u : HciTables). record {
+        core = record { node = number; journal = j; tables = u; command = None; init = None };
+        desks = map new_desk hosts;
+      }) started_now finds_same.tables_are
