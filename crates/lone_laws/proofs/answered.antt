@@ -21,6 +21,7 @@ pub mod Shorting
 pub mod Queued
 pub mod Resets
 pub mod Dues
+pub mod Rising
 pub mod Whole
 pub mod Finding
 pub mod Memories

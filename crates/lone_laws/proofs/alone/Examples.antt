@@ -14,7 +14,7 @@ use Rattle.gate_admin.specs.View.{hosts_where}
 use Rattle.pipe_table.specs.PipeRows.{lowest_free}
 use Rattle.node_machine.specs.world.World.{new_memory, end_c, end_h}
 use Rattle.lone_laws.specs.alone.Lone.{Lone, LoneCause, LoneEvent, lone_events, lone_after}
-use Rattle.lone_laws.specs.alone.Lone.LoneCause.{FrameComes, FrameIsRefused, TickComes, ResetComes, StartComes, StopComes}
+use Rattle.lone_laws.specs.alone.Lone.LoneCause.{FrameComes, FrameIsRefused, ResetComes, StartComes, StopComes}
 use Rattle.lone_laws.specs.alone.Ends.{end_causes, end_written, end_node}
 use Rattle.lone_laws.specs.alone.Ends.EndForm.{OnLine, OnBytes}
 

@@ -208,7 +208,6 @@ module _ (rest : Core) (t : List Entry) (l : Lone) (some : 1 ≤ l.link) (most :
         (takes_up a.host m a.work) ++ f2)) (x2 ∷ b2))))) in
         subst (λ es. IsRepliedAlone G l.link (t ++ es) (entry.Turn f pid message) (back ++ tail) × Unit {0}) a.entries (
           (
-            subst (λ es. oldest (left_since f (t ++ es)) ≡ Some m) (sym a.entries) order,
             its_lack rest l.number l.link some most s t its a.work K a.on a.host m a.messages a.waiting ∙ a.room,
             its_answers rest l.number l.link some most s t its a.work K a.on a.host m a.messages a.waiting back a.later tail a.room a.notes a.power
                 (emits_mute (end_of_node_alone l.number l.link) _) until,

@@ -39,7 +39,8 @@ use Rattle.node_laws.proofs.worlds.Uiccs.{tick_none, uicc_sync}
 use Rattle.lone_laws.specs.alone.Lone.{Lone, LoneCause, lone_end, lone_input, node_input, lone_arrival, emits_behind, frames_behind, session_with}
 use Rattle.lone_laws.specs.alone.Lone.LoneCause.{FrameComes, FrameIsRefused, TickComes, ResetComes, StartComes, StopComes}
 use Rattle.lone_laws.specs.alone.Known.{core_since, talk_since}
-use Rattle.lone_laws.specs.alone.Answers.{is_own_answer, is_own_cut, to_turn, through_command, AnswersAlone, entries_of_deeds, noted_since, sync_due}
+use Rattle.node_laws.specs.answers.Answered.{to_command}
+use Rattle.lone_laws.specs.alone.Answers.{is_own_answer, is_own_cut, to_turn, AnswersAlone, entries_of_deeds, noted_since, sync_due}
 use Rattle.lone_laws.specs.alone.Answers.{IsDueAlone}
 use Rattle.lone_laws.proofs.answered.Reading.{Read, Alone, core_is}
 use Rattle.lone_laws.proofs.answered.Coming.{comes_there, came_entries, pass_is}
@@ -187,8 +188,8 @@ mute_answers : (x : Entry) (es answers : List Entry) → IsMuteEntry x → Answe
 mute_answers x es answers mute a =
     ap (λ b. filter is_own_answer (cond b [] (x ∷ to_turn es))) mute.1
     ∙ (ap (λ b. cond b (x ∷ filter is_own_answer (to_turn es)) (filter is_own_answer (to_turn es))) mute.0
-    ∙ (a ∙ sym (ap (λ b. cond (list_any is_own_cut (cond b [] (x ∷ to_turn es))) (through_command answers) answers) mute.1
-    ∙ ap (λ b. cond (b || list_any is_own_cut (to_turn es)) (through_command answers) answers) mute.2)))
+    ∙ (a ∙ sym (ap (λ b. cond (list_any is_own_cut (cond b [] (x ∷ to_turn es))) (to_command answers) answers) mute.1
+    ∙ ap (λ b. cond (b || list_any is_own_cut (to_turn es)) (to_command answers) answers) mute.2)))
 
 mutes_answer : (xs es answers : List Entry) → AllByRecursion IsMuteEntry xs → AnswersAlone es answers → AnswersAlone (xs ++ es) answers
 mutes_answer [] es answers mute a = a

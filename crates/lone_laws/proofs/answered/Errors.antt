@@ -1,16 +1,12 @@
 -- REC_ERROR of a node alone is what is read, over each message that it handles.
-use Rattle.std.proofs.Common.{◌≡◌, ℕ, Bool, true, false, cond, eqb, ◌&&◌, List, [], ◌∷◌, ◌++◌, map, refl, sym, ap, ap₂, subst, ◌∙◌, append-nil}
-use Rattle.std.specs.Prelude.{Option, Some, None, unwrap_or, Result, Ok, Err, option_to_list, nat_lt}
+use Rattle.std.proofs.Common.{◌≡◌, ℕ, Bool, true, false, cond, eqb, ◌&&◌, List, [], ◌∷◌, ◌++◌, map, refl, sym, ap, subst, ◌∙◌, append-nil}
+use Rattle.std.specs.Prelude.{Option, Some, None, unwrap_or, option_to_list, nat_lt}
 use Rattle.std.specs.List.{AllByRecursion, fold}
 use Rattle.std.specs.Option.{option_map_or}
 use Rattle.std.proofs.lemmas.Bool.{true≢false}
 use Rattle.std.proofs.lemmas.List.Sums.{fold-append}
 use Rattle.registry.proofs.ValueLemmas.{AllByRecursion-append}
 use Rattle.swp_base.specs.declared.link_terms.Cause.{Cause as EndedBy}
-use Rattle.hcp_packet.specs.declared.MessageKind.{MessageKind}
-use Rattle.hcp_packet.specs.declared.MessageKind.TheVariants.{Command as IsCommandKind, Event as IsEventKind, Response as IsResponseKind}
-use Rattle.hcp_packet.specs.declared.MessageFault.{MessageFault}
-use Rattle.hcp_packet.specs.MessageHeader.{header_of}
 use Rattle.trace_model.specs.declared.entry.Entry.{Entry}
 use Rattle.trace_model.specs.declared.entry.Entry.TheVariants as entry
 use Rattle.trace_model.specs.declared.line.End.{End}
@@ -30,11 +26,11 @@ use Rattle.node_machine.specs.Parts.Deed.{Commits, Sends, SaysOk, IsAnswered, Dr
 use Rattle.node_machine.specs.Carrying.{port_at, changed_if, with_port, after_turn, turn_at, done, all_done, unless_cut}
 use Rattle.node_machine.specs.Controller.{own_gate, controller_deeds}
 use Rattle.node_machine.specs.HostReplies.{host_deeds}
-use Rattle.node_laws.specs.views.Errors.{errors_set_by}
+use Rattle.node_laws.specs.views.Errors.{errors_set_by, is_any_ok, leads_to_link_gate}
 use Rattle.node_laws.proofs.views.Setting.{AreUnset, is_link_gate, SetsNone, IsUpAt, SetDeeds, controller_unset, controller_sets, host_unset, host_sets}
 use Rattle.node_laws.proofs.views.Setting.SetDeeds.{IsSet as IsSetSo, IsRefused as IsRefusedSo, IsDropped as IsDroppedSo}
 use Rattle.lone_laws.specs.alone.Lone.{end_of_node_alone}
-use Rattle.lone_laws.specs.alone.Known.{core_noted, is_to_link_gate, value_set_by, says_ok, RecErrors, errors_noted}
+use Rattle.lone_laws.specs.alone.Known.{core_noted, RecErrors, errors_noted}
 use Rattle.lone_laws.specs.alone.Answers.{entries_of_deeds}
 use Rattle.lone_laws.proofs.answered.Turning.{same_self}
 use Rattle.lone_laws.proofs.answered.Replying.{session_of_end, sent_alone, unless_on}
@@ -131,17 +127,9 @@ errors_with k f keeps (p ∷ ports) = go (eqb p.desk.host k) where
 
 -- ## A message that has its turn
 
-set_same : (message : List ℕ) → value_set_by message ≡ errors_set_by message
-set_same message = go (header_of message) refl where
-  go : (x : Result (MessageKind × ℕ) MessageFault) → header_of message ≡ x → value_set_by message ≡ errors_set_by message
-  go (Ok (IsCommandKind, n)) q = rw q refl
-  go (Ok (IsEventKind, n)) q = rw q refl
-  go (Ok (IsResponseKind, n)) q = rw q refl
-  go (Err fault) q = rw q refl
-
 -- what a message sets at the one end of a node with this number
 abbrev pub sets_there : Core → End → Message → Option ℕ
-sets_there core e m = cond (is_to_link_gate core e m.0) (value_set_by m.1) None
+sets_there core e m = cond (leads_to_link_gate core.tables e m.0) (errors_set_by m.1) None
 
 -- what is done with a message fits what it sets: it sets nothing, or it is set and answered by ANY_OK, answered otherwise, or dropped
 pub data FitsErrors (ports : List Port) (k pid : ℕ) (deeds : List Deed) : Option ℕ → Type 0 where
@@ -160,10 +148,10 @@ pub controller_fits : (core : Core) (ports : List Port) (k number h : ℕ) (m : 
     → FitsErrors ports k m.0 (controller_deeds core ports k m) (sets_there core (end_of_node_alone number h) m)
 controller_fits core ports k number h m zero same =
     let e : End = end_of_node_alone number h in
-    let here : is_to_link_gate core e m.0 ≡ is_link_gate (own_gate core.tables k m.0) =
-    ap (λ b. is_to_link_gate core (cond b (Rattle.node_machine.specs.world.World.end_c h) (Rattle.node_machine.specs.world.World.end_h h)) m.0) zero
+    let here : leads_to_link_gate core.tables e m.0 ≡ is_link_gate (own_gate core.tables k m.0) =
+    ap (λ b. leads_to_link_gate core.tables (cond b (Rattle.node_machine.specs.world.World.end_c h) (Rattle.node_machine.specs.world.World.end_h h)) m.0) zero
     ∙ ap (λ z. is_link_gate (own_gate core.tables z m.0)) (sym same) in
-    subst (FitsErrors ports k m.0 (controller_deeds core ports k m)) (sym (ap₂ (λ b s. cond b s None) here (set_same m.1)))
+    subst (FitsErrors ports k m.0 (controller_deeds core ports k m)) (sym (ap (λ b. cond b (errors_set_by m.1) None) here))
     (fits_by ports k m (controller_deeds core ports k m) (is_link_gate (own_gate core.tables k m.0)) (errors_set_by m.1)
     (controller_unset core ports k m) (λ v leads sets. controller_sets core ports k m v leads sets))
 
@@ -172,9 +160,9 @@ pub host_fits : (core : Core) (ports : List Port) (p : Port) (k number h : ℕ) 
     → FitsErrors ports k m.0 (host_deeds core p m) (sets_there core (end_of_node_alone number h) m)
 host_fits core ports p k number h m another node here =
     let e : End = end_of_node_alone number h in
-    let zero : is_to_link_gate core e m.0 ≡ eqb m.0 0 =
-    ap (λ b. is_to_link_gate core (cond b (Rattle.node_machine.specs.world.World.end_c h) (Rattle.node_machine.specs.world.World.end_h h)) m.0) another in
-    subst (FitsErrors ports k m.0 (host_deeds core p m)) (sym (ap₂ (λ b s. cond b s None) zero (set_same m.1)))
+    let zero : leads_to_link_gate core.tables e m.0 ≡ eqb m.0 0 =
+    ap (λ b. leads_to_link_gate core.tables (cond b (Rattle.node_machine.specs.world.World.end_c h) (Rattle.node_machine.specs.world.World.end_h h)) m.0) another in
+    subst (FitsErrors ports k m.0 (host_deeds core p m)) (sym (ap (λ b. cond b (errors_set_by m.1) None) zero))
     (fits_by ports k m (host_deeds core p m) (eqb m.0 0) (errors_set_by m.1) (host_unset core p m)
     (λ v leads sets. subst (λ n. SetDeeds ports n m.0 v (host_deeds core p m)) node
     (host_sets core ports p m v (subst (λ n. port_at ports n ≡ Some p) (sym node) here) leads sets)))
@@ -194,14 +182,14 @@ module _ (e : End) where
   sent_unset session to m z none = by (eqb to e.link) session where
     by : (b : Bool) (s : Option ℕ) → (errs_all e z (cond b (option_map_or (λ n. entry.Sent e n m.0 m.1 ∷ []) s []) [])).errors ≡ z.errors
     by true None = refl
-    by true (Some n) = ap (λ o. cond (same_end e e && says_ok m.1) (unwrap_or o z.errors) z.errors) none ∙ same_both (same_end e e && says_ok m.1) z.errors
+    by true (Some n) = ap (λ o. cond (same_end e e && is_any_ok m.1) (unwrap_or o z.errors) z.errors) none ∙ same_both (same_end e e && is_any_ok m.1) z.errors
     by false s = refl
 
-  sent_other : (session : Option ℕ) (to : ℕ) (m : Message) (z : RecErrors) → says_ok m.1 ≡ false → (errs_all e z (sent_alone e session to m)).errors ≡ z.errors
+  sent_other : (session : Option ℕ) (to : ℕ) (m : Message) (z : RecErrors) → is_any_ok m.1 ≡ false → (errs_all e z (sent_alone e session to m)).errors ≡ z.errors
   sent_other session to m z other = by (eqb to e.link) session where
     by : (b : Bool) (s : Option ℕ) → (errs_all e z (cond b (option_map_or (λ n. entry.Sent e n m.0 m.1 ∷ []) s []) [])).errors ≡ z.errors
     by true None = refl
-    by true (Some n) = ap (λ b. cond b (unwrap_or z.sets z.errors) z.errors) (and_no (same_end e e) (says_ok m.1) other)
+    by true (Some n) = ap (λ b. cond b (unwrap_or z.sets z.errors) z.errors) (and_no (same_end e e) (is_any_ok m.1) other)
     by false s = refl
 
   sent_ok : (n : ℕ) (to pid v : ℕ) (z : RecErrors) → eqb to e.link ≡ true → z.sets ≡ Some v

@@ -12,7 +12,7 @@ use Rattle.journal_laws.specs.Banks.{other, current}
 use Rattle.journal_laws.specs.Writes.{Write, after_writes, IsCut}
 use Rattle.journal_laws.specs.Journal.{Journal, journal, records, state_of, count_of, gate_at, left, IsSound}
 use Rattle.journal_laws.specs.Operations.{append_writes, compact_writes, format_writes, HasRoomForBody, CanCompact, appended, compacted, formatted}
-use Rattle.journal_laws.specs.Operations.{started_state, IsAllOrNothing}
+use Rattle.journal_laws.specs.Operations.{IsAllOrNothing}
 use Rattle.journal_laws.specs.Planned.{fails_within, after_planned}
 use Rattle.journal_laws.proofs.Kept.{append_count, compact_count, same_count}
 use Rattle.journal_laws.proofs.Cuts.{length-after, length-cut}

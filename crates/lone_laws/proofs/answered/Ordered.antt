@@ -38,10 +38,21 @@ OrderAt t (entry.Turn f pid message) behind = oldest (left_since f t) ≡ Some (
 OrderAt t (entry.Held f need spare) behind = is_held_since f t ≡ false
 OrderAt t _ behind = Unit {0}
 
-order_silent : (t : List Entry) (x : Entry) (behind : List Entry) → link_of_turn x ≡ None → OrderAt t x behind
+pub order_silent : (t : List Entry) (x : Entry) (behind : List Entry) → link_of_turn x ≡ None → OrderAt t x behind
 order_silent t (entry.Turn f pid message) behind q = absurd (cc q)
 order_silent t (entry.Held f need spare) behind q = absurd (cc q)
 order_silent t _ behind q = tt
+
+-- a turn, or a message that is held, is at this end
+abbrev pub IsAtEnd : End → Entry → Type 0
+IsAtEnd e (entry.Turn f pid message) = f ≡ e
+IsAtEnd e (entry.Held f need spare) = f ≡ e
+IsAtEnd e _ = Unit {0}
+
+pub end_silent : (e : End) (x : Entry) → link_of_turn x ≡ None → IsAtEnd e x
+end_silent e (entry.Turn f pid message) q = absurd (cc q)
+end_silent e (entry.Held f need spare) q = absurd (cc q)
+end_silent e _ q = tt
 
 arrival_turnless : (l : Lone) (c : LoneCause) → AreNoTurns (lone_arrival l c)
 arrival_turnless l (FrameComes bytes) = (refl, tt)
@@ -161,6 +172,23 @@ module _ (found : Core) (t : List Entry) (l : Lone) (some : 1 ≤ l.link) (most 
 
   pub in_order : (front behind : List Entry) (x : Entry) → noted ≡ front ++ (x ∷ behind) → OrderAt (t ++ front) x behind
   in_order = entries_are (λ u x b. OrderAt (t ++ u) x b) (λ u x b q. order_silent (t ++ u) x b q) (λ f b y z on a. turn_order f b y on a)
+
+  -- ## The end of a turn
+
+  end_of_turn : (front back : List Entry) (x : Entry) → begun.cut ≡ false → IsTurnSo (ComesTo begun) begun front x back → IsAtEnd (lone_end l) x
+  end_of_turn front back (entry.Turn f pid message) on a =
+      let u : Alone l.number l.link r t a.work = alone_at l.number l.link some most r t begun a.work (begun_alone on) a.keeps in
+      let here : IsHere u.port a.host (pid, message) a.messages = alone_here l.number l.link some most r t a.host
+      (pid, message) a.messages a.work u a.waiting in
+      a.its_end ∙ own_end a.work.core l.number l.link a.host u.node (link_is l.number l.link some most r t a.host u.port u.host here.own)
+  end_of_turn front back (entry.Held f need spare) on a =
+      let u : Alone l.number l.link r t a.work = alone_at l.number l.link some most r t begun a.work (begun_alone on) a.keeps in
+      let here : IsHere u.port a.host a.message a.messages = alone_here l.number l.link some most r t a.host a.message a.messages a.work u a.waiting in
+      a.its_end ∙ own_end a.work.core l.number l.link a.host u.node (link_is l.number l.link some most r t a.host u.port u.host here.own)
+  end_of_turn front back _ on a = tt
+
+  pub at_own_end : (front behind : List Entry) (x : Entry) → noted ≡ front ++ (x ∷ behind) → IsAtEnd (lone_end l) x
+  at_own_end = entries_are (λ u x b. IsAtEnd (lone_end l) x) (λ u x b q. end_silent (lone_end l) x q) (λ f b y z on a. end_of_turn f b y on a)
 
   -- ## Rest
 

@@ -28,7 +28,8 @@ use Rattle.node_laws.proofs.passes.Counts.{taken_at_once}
 use Rattle.node_laws.proofs.views.Setting.{IsUpAt}
 use Rattle.lone_laws.specs.alone.Lone.{end_of_node_alone}
 use Rattle.lone_laws.specs.alone.Known.{RecErrors, LoneTalk, no_session_now, errors_noted, spare_in_talk, talk_since, core_since, port_since, reply_since}
-use Rattle.lone_laws.specs.alone.Known.{lack_since, is_to_link_gate, value_set_by}
+use Rattle.node_laws.specs.views.Errors.{errors_set_by, leads_to_link_gate}
+use Rattle.lone_laws.specs.alone.Known.{lack_since}
 use Rattle.lone_laws.specs.alone.Answers.{entries_of_deeds}
 use Rattle.lone_laws.proofs.answered.Reading.{eqb_same, Read, core_is, Alone}
 use Rattle.lone_laws.proofs.answered.Turning.{same_self, own_end, IsHere, alone_here, link_is}
@@ -251,7 +252,7 @@ module _ (rest : Core) (number h : ℕ) (some : 1 ≤ h) (most : h ≤ 7) (s : �
       z_sets : z.sets ≡ sets_there w.core e m
       z_sets =
           ap (λ (r : RecErrors). r.sets) z_is
-          ∙ (ap (λ (b : Bool). cond (b && is_to_link_gate x.core e m.0) (value_set_by m.1) None) (ap (λ d. same_end d e) its_end_is ∙ same_self e)
+          ∙ (ap (λ (b : Bool). cond (b && leads_to_link_gate x.core.tables e m.0) (errors_set_by m.1) None) (ap (λ d. same_end d e) its_end_is ∙ same_self e)
           ∙ ap (λ c. sets_there c e m) x_core)
 
       z_errors : z.errors ≡ desk_errors u.ports

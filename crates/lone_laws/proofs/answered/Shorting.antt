@@ -19,7 +19,8 @@ use Rattle.node_laws.proofs.answers.Alike.{replies_alike}
 use Rattle.node_laws.proofs.hosts.Alike.{host_same}
 use Rattle.node_laws.specs.passes.Passing.{BeginWithTurn, AreAlong, links_of_turns, ComesTo, IsBehind, Stays, waiting_at, is_held_at}
 use Rattle.lone_laws.specs.alone.Lone.{Lone, LoneCause, end_of_node_alone, lone_input, emits_behind, frames_behind, session_with}
-use Rattle.lone_laws.specs.alone.Known.{RecErrors, LoneTalk, core_noted, left_noted, talk_noted, no_session_now, spare_in_talk, side_told, core_since}
+use Rattle.node_laws.specs.answers.Moments.{side_read}
+use Rattle.lone_laws.specs.alone.Known.{RecErrors, LoneTalk, core_noted, left_noted, talk_noted, no_session_now, spare_in_talk, core_since}
 use Rattle.lone_laws.specs.alone.Known.{left_since}
 use Rattle.lone_laws.specs.alone.Known.{is_held_since, talk_since, errors_since, lack_since}
 use Rattle.lone_laws.specs.alone.Answers.{is_left_lacking}
@@ -59,7 +60,7 @@ emits_idle e f n (c ∷ frames) = (((λ z. refl), (λ z. refl), (λ z. refl), (�
 abbrev port_of : ℕ → LoneTalk → ℕ → Bool → Port
 port_of h x errors holds = record {
   desk = record { host = h; notice = None; holds = holds; errors = errors };
-  side = side_told (is_some x.session) (spare_in_talk x);
+  side = side_read (is_some x.session) (spare_in_talk x);
   session = unwrap_or x.session 0;
   late = false;
   ended = false;

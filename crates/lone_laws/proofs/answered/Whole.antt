@@ -1,7 +1,7 @@
 -- Every history of a node alone answers as is read.
 use Rattle.std.proofs.Common.{◌≡◌, ℕ, ◌≤◌, Bool, true, false, cond, eqb, ◌&&◌, ◌||◌, List, [], ◌∷◌, ◌++◌, map, refl, sym, ap, ap₂, subst, ◌∙◌}
 use Rattle.std.specs.Prelude.{◌+◌, min, not, Option, Some, None, is_some, is_none, length}
-use Rattle.std.specs.List.{fold, list_any}
+use Rattle.std.specs.List.{AllByRecursion, fold, list_any}
 use Rattle.std.specs.Option.{option_map_or}
 use Rattle.std.proofs.lemmas.Bool.{true≢false}
 use Rattle.std.proofs.lemmas.List.Sums.{fold-append}
@@ -33,20 +33,21 @@ use Rattle.node_machine.specs.Carrying.{changed_if}
 use Rattle.node_machine.specs.Node.{boot_writes, found, new_desk, with_error}
 use Rattle.node_machine.specs.world.NodeFilters.{was_refused}
 use Rattle.node_laws.specs.passes.Passing.{link_of_turn, AreNoTurns}
+use Rattle.node_laws.specs.answers.Order.{is_answer_of}
 use Rattle.lone_laws.specs.alone.Lone.{Lone, LoneCause, LoneEvent, lone_end, lone_input, node_input, lone_arrival, lone_work, emits_behind, with_refusal}
-use Rattle.lone_laws.specs.alone.Lone.{noted_of_refused, lone_behind_step, does_by_power, lone_step, lone_events, lone_booted, role_alone}
+use Rattle.lone_laws.specs.alone.Lone.{frames_behind, noted_of_refused, lone_behind_step, does_by_power, lone_step, lone_events, lone_booted, role_alone}
 use Rattle.lone_laws.specs.alone.Lone.LoneCause.{FrameComes, FrameIsRefused, TickComes, ResetComes, StartComes, StopComes}
 use Rattle.lone_laws.specs.alone.Known.{RecErrors, left_noted, hold_noted, no_session_now}
 use Rattle.lone_laws.specs.alone.Answers.{AtEachNoted, AtEachLoneEvent, entries_of_events_alone, is_own_cut, runs_behind, is_at_rest, is_left_lacking}
 use Rattle.lone_laws.specs.alone.Answers.{is_done_alone}
 use Rattle.lone_laws.specs.alone.Answers.{is_short_alone, goes_through_end, IsRepliedAlone, IsHeldAlone, IsDueAlone, IsResetAlone, AreInTurnAlone}
-use Rattle.lone_laws.specs.alone.Answers.{AnsweredAlone}
+use Rattle.lone_laws.specs.alone.Answers.{AnsweredAlone, HearsFirstAlone, TurnsAscendAlone}
 use Rattle.lone_laws.proofs.answered.Reading.{eqb_same}
 use Rattle.lone_laws.proofs.answered.Turning.{same_self}
 use Rattle.lone_laws.proofs.answered.Lasting.{LoneKeeps, IfKeeps, step_is, keeps_step}
 use Rattle.lone_laws.proofs.answered.Events.{at_each, none_at}
 use Rattle.lone_laws.proofs.answered.Powers.{cut_noted, any_more}
-use Rattle.lone_laws.proofs.answered.Ordered.{begin_read, ended, at_rest}
+use Rattle.lone_laws.proofs.answered.Ordered.{OrderAt, begin_read, ended, at_rest, at_own_end, in_order, order_silent}
 use Rattle.lone_laws.proofs.answered.Roles.{kind_of}
 use Rattle.lone_laws.proofs.answered.Talking.{talk_all, talk-append, talk_of_side}
 use Rattle.lone_laws.proofs.answered.Rooms.{still_talk}
@@ -58,16 +59,24 @@ use Rattle.lone_laws.proofs.answered.Shorting.{short_behind}
 use Rattle.lone_laws.proofs.answered.Dues.{due_in_step}
 use Rattle.lone_laws.proofs.answered.Resets.{reset_in_step}
 use Rattle.lone_laws.proofs.answered.Queued.{IsFirstThere, are_in_turn}
+use Rattle.lone_laws.proofs.answered.Rising.{heard_in_step, own_ascend}
+
+is_first : (t : List Entry) (x : Entry) (behind : List Entry) → OrderAt t x behind → IsFirstThere t x
+is_first t (entry.Turn f pid message) behind a = a
+is_first t _ behind a = tt
 
 -- ## What holds of an event
 
 pub record EventFacts (F : Core) (h : ℕ) (t : List Entry) (o : LoneEvent) : Type 0 where
   pub turns : (front behind : List Entry) (x : Entry) → o.entries ≡ front ++ (x ∷ behind)
       → IsRepliedAlone F h (t ++ front) x behind × IsHeldAlone F h (t ++ front) x behind
+  pub first : (front behind : List Entry) (x : Entry) → o.entries ≡ front ++ (x ∷ behind) → IsFirstThere (t ++ front) x
   pub done : is_done_alone F h t o ≡ true
   pub short : is_short_alone F h t o ≡ true
   pub due : IsDueAlone F h t o
   pub reset : IsResetAlone F h t o
+  pub ascending : TurnsAscendAlone t o
+  pub heard : (front behind : List Entry) (x : Entry) → o.entries ≡ front ++ (x ∷ behind) → HearsFirstAlone x behind
 
 -- what is kept between events
 pub record Between (rest : Core) (number h : ℕ) (t : List Entry) (l : Lone) : Type 0 where
@@ -116,11 +125,14 @@ module _ (rest : Core) (t : List Entry) (l : Lone) (some : 1 ≤ l.link) (most :
   facts : EventFacts G l.link t event
   facts = record {
     turns = answered_in_step rest t l some most its n c i comes k.keep (all_passing rest t l some most its n k c i comes);
+    first = λ front behind x q. is_first (t ++ front) x behind (in_order G t l some most n k.keep c i comes front behind x q);
     done = cond_true (runs_behind event) (is_at_rest (lone_end l) (t ++ es)) (λ q. at_rest G t l some most n k.keep c i comes (ran q));
     short = and_cond (goes_through_end c) (runs_behind event) (is_left_lacking G l.link (t ++ es))
         (λ q. short_behind rest t l some most its n k c i comes (ran q));
     due = due_in_step rest t l some most n k c i comes;
     reset = reset_in_step rest t l some most its n k c i comes;
+    ascending = own_ascend (lone_end l) es (at_own_end G t l some most n k.keep c i comes);
+    heard = heard_in_step l c (node_input l.link i) (lone_work l n i (lone_arrival l c)) refl (lone_end l) (frames_behind l last);
   }
 
   runs_still : (m : Running) → (lone_behind_step l i last).node ≡ Some m → last.cut ≡ false
@@ -213,6 +225,11 @@ module _ (rest : Core) (t : List Entry) (l : Lone) (n : Running) (on : l.node �
     short = refl;
     due = refl;
     reset = refl;
+    first = λ front behind x q.
+        is_first (t ++ front) x behind (order_silent (t ++ front) x behind (none_at (λ y. link_of_turn y ≡ None) front behind x (subst AreNoTurns q (refl, tt))));
+    ascending = λ n. tt;
+    heard = λ front behind x q n answers.
+        absurd (true≢false (sym answers ∙ none_at (λ y. is_answer_of n y ≡ false) front behind x (subst (AllByRecursion (λ y. is_answer_of n y ≡ false)) q (refl, tt))));
   }
 
   pub refused_step : 1 ≤ l.link → l.link ≤ 7 → is_at_rest e t ≡ true
@@ -367,14 +384,9 @@ module _ (number h : ℕ) (some : 1 ≤ h) (most : h ≤ 7) (its : eqb number 0 
   pub lone_reset : (causes : List LoneCause) → AtEachLoneEvent (lone_events l causes) (IsResetAlone booted_core h)
   lone_reset causes past back o q = (lone_facts causes past back o q).reset
 
-  first_there : (t : List Entry) (x : Entry) (behind : List Entry) → IsRepliedAlone booted_core h t x behind → IsFirstThere t x
-  first_there t (entry.Turn f pid message) behind a = a.0
-  first_there t _ behind a = tt
-
   pub lone_in_turn : (causes : List LoneCause) → AreInTurnAlone (entries_of_events_alone (lone_events l causes))
   lone_in_turn causes =
-      are_in_turn (lone_events l causes) (λ past back o front behind x q z.
-      first_there (entries_of_events_alone past ++ front) x behind (lone_replied causes past back o front behind x q z))
+      are_in_turn (lone_events l causes) (λ past back o front behind x q z. (lone_facts causes past back o q).first front behind x z)
 
   pub lone_due : (causes : List LoneCause) → AtEachLoneEvent (lone_events l causes) (IsDueAlone booted_core h)
   lone_due causes past back o q = (lone_facts causes past back o q).due
@@ -389,4 +401,6 @@ module _ (number h : ℕ) (some : 1 ≤ h) (most : h ≤ 7) (its : eqb number 0 
     short = lone_short causes;
     due = lone_due causes;
     reset = lone_reset causes;
+    ascending = λ past back o q. (lone_facts causes past back o q).ascending;
+    heard = λ past back o front behind x q z. (lone_facts causes past back o q).heard front behind x z;
   }

@@ -1,7 +1,7 @@
 -- What the history of a node alone must be as to its answers, by what its boot found and what was noted since.
 use Rattle.std.specs.Prelude.{◌≡◌, ℕ, ◌==◌, ◌&&◌, ◌||◌, Bool, true, false, not, if◌then◌else◌, List, [], ◌∷◌, ◌++◌, is_some, is_none, Option, Some, None}
 use Rattle.std.specs.Prelude.{Result, Ok}
-use Rattle.std.specs.List.{flat_map, filter, filter_map, list_any}
+use Rattle.std.specs.List.{AllByRecursion, flat_map, filter, filter_map, list_any}
 use Rattle.std.specs.Option.{option_map_or}
 use Rattle.swp_base.specs.declared.control_frames.Control.{Control}
 use Rattle.swp_base.specs.declared.control_frames.Control.TheVariants.{Act as ActFrame}
@@ -21,6 +21,8 @@ use Rattle.node_machine.specs.Parts.Deed.{Commits, Sends, SaysOk, Drops}
 use Rattle.node_machine.specs.Carrying.{finds_room}
 use Rattle.hcp_packet.specs.Packets.{IsFrontOf}
 use Rattle.node_machine.specs.world.NodeLegal.{turn_entry_at, got_entry}
+use Rattle.node_laws.specs.answers.Answered.{to_command}
+use Rattle.node_laws.specs.answers.Order.{IsAscending, hears, is_answer_of, turn_link}
 use Rattle.lone_laws.specs.alone.Lone.{LoneCause, LoneEvent, end_of_node_alone}
 use Rattle.lone_laws.specs.alone.Lone.LoneCause.{FrameComes, FrameIsRefused, ResetComes}
 use Rattle.lone_laws.specs.alone.Known.{core_with, core_since, left_since, is_held_since, talk_since, reply_since, lack_since, first_lack_since}
@@ -70,16 +72,10 @@ abbrev pub to_turn : List Entry → List Entry
 to_turn [] = []
 to_turn (x ∷ entries) = if is_own_turn x then [] else x ∷ to_turn entries
 
--- up to the first command, and with it
-abbrev pub through_command : List Entry → List Entry
-through_command [] = []
-through_command (entry.Command n c ∷ entries) = entry.Command n c ∷ []
-through_command (x ∷ entries) = x ∷ through_command entries
-
 -- A node answers so until its next turn; where its power goes there, up to and with the command that is written.
 abbrev pub AnswersAlone : List Entry → List Entry → Type 0
 AnswersAlone entries answers =
-    filter is_own_answer (to_turn entries) ≡ (if list_any is_own_cut (to_turn entries) then through_command answers else answers)
+    filter is_own_answer (to_turn entries) ≡ (if list_any is_own_cut (to_turn entries) then to_command answers else answers)
 
 -- The entries of deeds of a node that keeps this, whose end has this session where it is up, as a message of that end is handled.
 abbrev pub entries_of_deeds : Core → End → Option ℕ → List Deed → List Entry
@@ -98,12 +94,10 @@ noted_since found h t deeds =
 
 -- ## Turns
 
--- A message that has its turn is the first that came and had none, and lacks no room; until the next turn stand the answers of the reply
--- to it.
+-- A message that has its turn lacks no room, and until the next turn stand the answers of the reply to it.
 abbrev pub IsRepliedAlone : Core → ℕ → List Entry → Entry → List Entry → Type 0
 IsRepliedAlone found h t (entry.Turn e pid message) behind =
-    (oldest (left_since e t) ≡ Some (pid, message))
-    × (lack_since found h t (pid, message) ≡ None)
+    (lack_since found h t (pid, message) ≡ None)
     × AnswersAlone behind (noted_since found h t (reply_since found h t (pid, message)))
 IsRepliedAlone found h t _ behind = Unit {0}
 
@@ -166,6 +160,16 @@ is_reset_alone found h t _ = false
 abbrev pub IsResetAlone : Core → ℕ → List Entry → LoneEvent → Type 0
 IsResetAlone found h t o = list_any is_asked_down o.entries ≡ is_reset_alone found h t o.cause
 
+-- ## Order
+
+-- In each event the turns stand in the order of their links.
+abbrev pub TurnsAscendAlone : List Entry → LoneEvent → Type 0
+TurnsAscendAlone t o = (n : ℕ) → IsAscending (filter_map (turn_link n) o.entries)
+
+-- Behind an answer of a node nothing in the event comes to it.
+abbrev pub HearsFirstAlone : Entry → List Entry → Type 0
+HearsFirstAlone x behind = (n : ℕ) → is_answer_of n x ≡ true → AllByRecursion (λ y. hears n y ≡ false) behind
+
 -- ## Answered
 
 -- Messages have their turns in the order in which they came: those of an end that had one are a front of those that it got.
@@ -182,3 +186,5 @@ pub record AnsweredAlone (found : Core) (h : ℕ) (events : List LoneEvent) : Ty
   pub short : AtEachLoneEvent events (λ t o. is_short_alone found h t o ≡ true)
   pub due : AtEachLoneEvent events (IsDueAlone found h)
   pub reset : AtEachLoneEvent events (IsResetAlone found h)
+  pub ascending : AtEachLoneEvent events TurnsAscendAlone
+  pub heard : AtEachNoted events (λ t x behind. HearsFirstAlone x behind)

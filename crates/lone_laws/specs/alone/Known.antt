@@ -1,30 +1,22 @@
 -- What is read of a node alone, off what its boot found and what was noted since.
 use Rattle.std.specs.Prelude.{ℕ, ◌+◌, ◌-◌, ◌==◌, ◌&&◌, min, Bool, true, false, if◌then◌else◌, List, [], ◌∷◌, ◌++◌, drop, is_some, unwrap_or, Option, Some, None}
-use Rattle.std.specs.Prelude.{Result, Ok}
 use Rattle.std.specs.List.{fold}
-use Rattle.std.specs.Option.{option_map_or, option_and_then}
-use Rattle.swp_act.specs.Activation.{new_clf}
+use Rattle.std.specs.Option.{option_and_then}
 use Rattle.trace_model.specs.declared.entry.Entry.{Entry}
 use Rattle.trace_model.specs.declared.entry.Entry.TheVariants as entry
 use Rattle.trace_model.specs.declared.line.End.{End}
-use Rattle.hcp_packet.specs.declared.MessageKind.{MessageKind}
-use Rattle.hcp_packet.specs.declared.MessageKind.TheVariants.{Command as IsCommand, Response as IsResponse}
-use Rattle.hcp_packet.specs.declared.MessageFault.{MessageFault}
-use Rattle.hcp_packet.specs.MessageHeader.{header_of}
 use Rattle.hci_tables.specs.declared.command.Command.{Command}
 use Rattle.hci_tables.specs.Bodies.{body_of}
 use Rattle.hci_tables.specs.Tables.{apply}
 use Rattle.hci_store.specs.Committing.{committed}
-use Rattle.gate_answers.specs.Answers.{body_in}
-use Rattle.gate_link.specs.Link.{link_served}
-use Rattle.link_laws.specs.machine.Machine.{Message, LinkEnd, new_link_end, oldest, need_of_all}
-use Rattle.link_laws.specs.machine.Machine.Role.{Bare, Clf}
+use Rattle.link_laws.specs.machine.Machine.{Message, oldest, need_of_all}
 use Rattle.history.specs.Filters.{same_end}
 use Rattle.node_machine.specs.Parts.{Core, Port, Deed}
 use Rattle.node_machine.specs.Carrying.{needs, lack}
-use Rattle.node_machine.specs.Controller.{own_gate}
 use Rattle.node_machine.specs.Turns.{deeds_of}
 use Rattle.node_machine.specs.world.NodeFilters.{was_refused}
+use Rattle.node_laws.specs.answers.Moments.{side_read}
+use Rattle.node_laws.specs.views.Errors.{errors_set_by, is_any_ok, leads_to_link_gate}
 use Rattle.lone_laws.specs.alone.Lone.{end_of_node_alone}
 
 -- ## What it keeps
@@ -64,24 +56,6 @@ is_held_since e t = fold (hold_noted e) false t
 
 -- ## REC_ERROR
 
--- a pipe of an end leads to the link management gate of its node: at a host pipe 00 alone, at the controller as its tables say
-abbrev pub is_to_link_gate : Core → End → ℕ → Bool
-is_to_link_gate c e pid = if e.at_host then pid == 0 else option_map_or (λ gate. gate == 6) (own_gate c.tables e.link pid) false
-
--- the value that a command sets there, if it is one that sets REC_ERROR
-abbrev pub value_set_by : List ℕ → Option ℕ
-value_set_by message = by_header (header_of message) where
-  by_header : Result (MessageKind × ℕ) MessageFault → Option ℕ
-  by_header (Ok (IsCommand, instruction)) = (link_served 0 instruction (body_in message)).1
-  by_header _ = None
-
--- a message is ANY_OK
-abbrev pub says_ok : List ℕ → Bool
-says_ok message = by_header (header_of message) where
-  by_header : Result (MessageKind × ℕ) MessageFault → Bool
-  by_header (Ok (IsResponse, code)) = code == 0
-  by_header _ = false
-
 -- What is read of REC_ERROR: what the node keeps, which says where pipes lead; the value that a command sets whose turn was noted last,
 -- until more is noted; and REC_ERROR.
 pub record RecErrors : Type 0 where
@@ -92,9 +66,9 @@ pub record RecErrors : Type 0 where
 -- after an entry: a command that sets it has its turn, and ANY_OK is sent next; a frame that was refused counts for one more, up to FFFF
 abbrev pub errors_noted : End → RecErrors → Entry → RecErrors
 errors_noted e x (entry.Turn f pid message) =
-    record x { sets = if same_end f e && is_to_link_gate x.core e pid then value_set_by message else None }
+    record x { sets = if same_end f e && leads_to_link_gate x.core.tables e pid then errors_set_by message else None }
 errors_noted e x (entry.Sent f n pid message) =
-    record x { sets = None; errors = if same_end f e && says_ok message then unwrap_or x.sets x.errors else x.errors }
+    record x { sets = None; errors = if same_end f e && is_any_ok message then unwrap_or x.sets x.errors else x.errors }
 errors_noted e x (entry.Lost f lpdu cause) =
     record x { sets = None; errors = if same_end f e && was_refused cause then min 65535 (x.errors + 1) else x.errors }
 errors_noted e x y = record x { core = core_noted x.core y; sets = None }
@@ -131,17 +105,13 @@ spare_in_talk x = 128 - need_of_all (drop x.acked x.sent)
 
 -- ## Its end
 
--- an end that is up or not, and has so many blocks to spare
-abbrev pub side_told : Bool → ℕ → LinkEnd
-side_told up spare = record (new_link_end (if up then Bare else Clf new_clf)) { aside = 128 - spare }
-
 -- The end of a node on the link with this host, as it is read: no notice is sent where there is one link.
 abbrev pub port_since : Core → ℕ → List Entry → Port
 port_since found h t =
     let e : End = end_of_node_alone found.node h in
     record {
       desk = record { host = h; notice = None; holds = is_held_since e t; errors = errors_since found e t };
-      side = side_told (is_some (talk_since e found.node t).session) (spare_in_talk (talk_since e found.node t));
+      side = side_read (is_some (talk_since e found.node t).session) (spare_in_talk (talk_since e found.node t));
       session = unwrap_or (talk_since e found.node t).session 0;
       late = false;
       ended = false;

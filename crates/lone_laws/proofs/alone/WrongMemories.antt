@@ -1,0 +1,120 @@
+-- Small wrong memories don't keep the commands of a run: one for each fact of `FindsBehind`, of which the others hold.
+use Rattle.std.proofs.Common.{◌≡◌, inl, inr, ◌+◌, arith, refl, ap, sym, subst, ℕ, Bool, true, false, true≢false, List, [], ◌∷◌, ◌++◌, length, replicate, None}
+use Rattle.std.proofs.lemmas.Bool.{leb-true}
+use Rattle.journal_laws.specs.Journal.{journal, records}
+use Rattle.journal_laws.specs.Records.{found_from}
+use Rattle.hci_tables.specs.declared.command.Command.{Command}
+use Rattle.hci_tables.specs.declared.command.Command.TheVariants as command
+use Rattle.hci_tables.specs.Tables.{HciTables, close}
+use Rattle.hci_store.specs.Image.{image_fault, tables_of}
+use Rattle.lone_laws.specs.alone.Memories.{Counts, CountsAll, FindsBehind, FindsTables, IsKeptIn, IsReady}
+
+-- a memory that says nothing
+abbrev blank : List ℕ
+blank = replicate 65536 255
+
+no_syncs : HciTables → Bool
+no_syncs t = none t.syncs where
+  none : {X : Type 0} → List X → Bool
+  none [] = true
+  none (x ∷ xs) = false
+
+blank_counts : CountsAll blank
+unfolding found_from
+blank_counts = leb-true (journal blank).head.snapshot ((journal blank).head.base + length (records blank)) refl
+
+-- ## Other tables
+
+-- a bank with one record, of an identifier, which is said to be of its snapshot: so no command is counted
+abbrev other_record : List ℕ
+other_record =
+    90 ∷ 2 ∷ 0 ∷ 0 ∷ 0 ∷ 1 ∷ 0 ∷ 0 ∷ 0 ∷ 0 ∷ 0 ∷ 1 ∷ 90 ∷ 4 ∷ 0 ∷ 0 ∷ 6 ∷ 2 ∷ 0 ∷ 1 ∷ 255 ∷ replicate 65515 255
+
+finds_another : IsKeptIn false blank [] other_record → ⊥
+unfolding found_from no_syncs
+finds_another k = true≢false (sym (ap no_syncs k.finds.tables_are))
+
+another_is_ready : IsReady other_record × Counts other_record 0
+unfolding found_from image_fault
+another_is_ready = (
+  record { size = leb-true 65536 (length other_record) refl; sound = refl; version = refl },
+  record {
+    all = leb-true (journal other_record).head.snapshot ((journal other_record).head.base + length (records other_record)) refl;
+    count_is = refl;
+  },
+)
+
+-- ## Another count
+
+abbrev other_count : List ℕ
+other_count = 90 ∷ 2 ∷ 0 ∷ 0 ∷ 0 ∷ 1 ∷ 0 ∷ 0 ∷ 0 ∷ 5 ∷ 0 ∷ 0 ∷ replicate 65524 255
+
+counts_more : IsKeptIn false blank [] other_count → ⊥
+unfolding found_from
+counts_more k = let same : 5 ≡ 0 = (k.counts blank_counts).count_is in omega (arith, same)
+
+count_alone : FindsTables other_count (close (tables_of blank))
+unfolding found_from image_fault
+count_alone = record { ready = record { size = leb-true 65536 (length other_count) refl; sound = refl; version = refl }; tables_are = refl }
+
+-- ## Another version
+
+abbrev other_version : List ℕ
+other_version = 90 ∷ 1 ∷ 0 ∷ 0 ∷ 0 ∷ 1 ∷ 0 ∷ 0 ∷ 0 ∷ 0 ∷ 0 ∷ 0 ∷ replicate 65524 255
+
+is_of_version_01 : IsKeptIn false blank [] other_version → ⊥
+unfolding found_from
+is_of_version_01 k = let same : 1 ≡ 2 = k.finds.ready.version in omega (arith, same)
+
+version_alone : (image_fault other_version ≡ None) × (close (tables_of other_version) ≡ close (tables_of blank)) × Counts other_version 0
+unfolding found_from image_fault
+version_alone = (
+  refl,
+  refl,
+  record {
+    all = leb-true (journal other_version).head.snapshot ((journal other_version).head.base + length (records other_version)) refl;
+    count_is = refl;
+  },
+)
+
+-- ## Power
+
+abbrev one : Command
+one = command.Sync 2 1
+
+abbrev two : Command
+two = command.Sync 2 2
+
+-- a node that runs has lost none of its commands
+none_is_lost : IsKeptIn false blank (one ∷ []) blank → ⊥
+unfolding found_from no_syncs
+none_is_lost k = true≢false (ap no_syncs k.finds.tables_are)
+
+-- one whose power went may have lost the last one, and no more
+last_is_lost : IsKeptIn true blank (one ∷ []) blank
+unfolding found_from image_fault
+last_is_lost = inr (record {
+  front = [];
+  last = one;
+  are = refl;
+  finds = record {
+    finds = record { ready = record { size = leb-true 65536 (length blank) refl; sound = refl; version = refl }; tables_are = refl };
+    counts = λ all. record { all = all; count_is = refl };
+  };
+})
+
+too_many : (c d last : Command) (front : List Command) → (one ∷ two ∷ []) ≡ c ∷ d ∷ (front ++ last ∷ []) → ⊥
+too_many c d last [] is = cc is
+too_many c d last (x ∷ front) is = cc is
+
+two_are_lost : IsKeptIn true blank (one ∷ two ∷ []) blank → ⊥
+unfolding found_from no_syncs
+two_are_lost (inl all) = true≢false (ap no_syncs all.finds.tables_are)
+two_are_lost (inr less) = by less.front less.are less.finds where
+  by : (front : List Command) → (one ∷ two ∷ []) ≡ front ++ (less.last ∷ []) → FindsBehind blank front blank → ⊥
+  by [] is finds = absurd (cc is)
+  by (c ∷ []) is finds =
+      let same : one ≡ c = cc in
+      let lost : FindsBehind blank (one ∷ []) blank = subst (λ x. FindsBehind blank (x ∷ []) blank) (sym same) finds in
+      true≢false (ap no_syncs lost.finds.tables_are)
+  by (c ∷ d ∷ front) is finds = too_many c d less.last front is

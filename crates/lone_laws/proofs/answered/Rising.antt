@@ -1,0 +1,76 @@
+-- In an event of a node alone turns stand in the order of their links, since it has one, and nothing comes behind an answer.
+use Rattle.std.proofs.Common.{◌≡◌, ℕ, ◌≤◌, Bool, true, false, List, [], ◌∷◌, ◌++◌, map, refl, sym, ap, subst, arith}
+use Rattle.std.specs.Prelude.{◌==◌, if◌then◌else◌, Some, None}
+use Rattle.std.specs.List.{AllByRecursion, cons_option, filter_map}
+use Rattle.swp_base.specs.declared.control_frames.Control.{Control}
+use Rattle.swp_lpdu.specs.Controls.{lpdu_of}
+use Rattle.trace_model.specs.declared.entry.Entry.{Entry}
+use Rattle.trace_model.specs.declared.entry.Entry.TheVariants as entry
+use Rattle.trace_model.specs.declared.line.End.{End}
+use Rattle.node_machine.specs.Node.{NodeInput, steps}
+use Rattle.node_machine.specs.Parts.{Work}
+use Rattle.node_machine.specs.world.World.{node_of}
+use Rattle.node_laws.specs.answers.Order.{IsAscending, turn_link}
+use Rattle.node_laws.proofs.worlds.Hearing.{AreUnanswered, AreUnheard, IsParted, step_parted}
+use Rattle.node_laws.proofs.worlds.Order.{first_heard, parted_for}
+use Rattle.lone_laws.specs.alone.Lone.{Lone, LoneCause, lone_arrival}
+use Rattle.lone_laws.specs.alone.Lone.LoneCause.{FrameComes, FrameIsRefused, TickComes, ResetComes, StartComes, StopComes}
+use Rattle.lone_laws.specs.alone.Answers.{HearsFirstAlone}
+use Rattle.lone_laws.proofs.answered.Ordered.{IsAtEnd}
+
+-- ## Turns
+
+above : (k : ℕ) (ks : List ℕ) (x : ℕ) → x ≡ k → AllByRecursion (λ j. j ≡ k) ks → AllByRecursion (λ j. x ≤ j) ks
+above k [] x is all = tt
+above k (j ∷ ks) x is all = let same = all.0 in (omega (arith, is, same), above k ks x is all.1)
+
+same_ascend : (k : ℕ) (ks : List ℕ) → AllByRecursion (λ j. j ≡ k) ks → IsAscending ks
+same_ascend k [] all = tt
+same_ascend k (j ∷ ks) all = (above k ks j all.0 all.1, same_ascend k ks all.1)
+
+links_are : (n : ℕ) (e : End) (es : List Entry) → ((front behind : List Entry) (x : Entry) → es ≡ front ++ (x ∷ behind) → IsAtEnd e x)
+    → AllByRecursion (λ k. k ≡ e.link) (filter_map (turn_link n) es)
+links_are n e [] each = tt
+links_are n e (x ∷ es) each = one x (each [] es x refl) (links_are n e es (λ f b y q. each (x ∷ f) b y (ap (λ l. x ∷ l) q))) where
+  at : (f : End) → f ≡ e → AllByRecursion (λ k. k ≡ e.link) (filter_map (turn_link n) es)
+      → AllByRecursion (λ k. k ≡ e.link) (cons_option (if node_of f == n then Some f.link else None) (filter_map (turn_link n) es))
+  at f is later = go (node_of f == n) refl where
+    go : (c : Bool) → (node_of f == n) ≡ c
+        → AllByRecursion (λ k. k ≡ e.link) (cons_option (if node_of f == n then Some f.link else None) (filter_map (turn_link n) es))
+    go false q = rw q later
+    go true q = rw q (ap (λ (g : End). g.link) is, later)
+
+  one : (x : Entry) → IsAtEnd e x → AllByRecursion (λ k. k ≡ e.link) (filter_map (turn_link n) es)
+      → AllByRecursion (λ k. k ≡ e.link) (filter_map (turn_link n) (x ∷ es))
+  one (entry.Turn f pid message) is later = at f is later
+  one (entry.Held f need spare) is later = at f is later
+  one x is later = later
+
+-- where each is at one end
+pub own_ascend : (e : End) (es : List Entry) → ((front behind : List Entry) (x : Entry) → es ≡ front ++ (x ∷ behind) → IsAtEnd e x) → (n : ℕ)
+    → IsAscending (filter_map (turn_link n) es)
+own_ascend e es each n = same_ascend e.link (filter_map (turn_link n) es) (links_are n e es each)
+
+-- ## What comes
+
+arrival_unanswered : (l : Lone) (c : LoneCause) → AreUnanswered (lone_arrival l c)
+arrival_unanswered l (FrameComes bytes) = (refl, tt)
+arrival_unanswered l (FrameIsRefused fault) = tt
+arrival_unanswered l TickComes = tt
+arrival_unanswered l (ResetComes window) = tt
+arrival_unanswered l (StartComes value) = tt
+arrival_unanswered l StopComes = tt
+
+emits_unheard : (e : End) (frames : List Control) → AreUnheard (map (λ c. entry.Emit e (lpdu_of c)) frames)
+emits_unheard e [] = tt
+emits_unheard e (c ∷ frames) = (refl, emits_unheard e frames)
+
+-- in a step whose frames go out
+pub heard_in_step : (l : Lone) (c : LoneCause) (input : NodeInput) (w : Work) → w.entries ≡ lone_arrival l c → (e : End) (frames : List Control)
+    → (front behind : List Entry) (x : Entry) → (steps input w).entries ++ map (λ c. entry.Emit e (lpdu_of c)) frames ≡ front ++ (x ∷ behind)
+    → HearsFirstAlone x behind
+heard_in_step l c input w begins e frames front behind x q n =
+    let emits : List Entry = map (λ c. entry.Emit e (lpdu_of c)) frames in
+    let parted : IsParted ((steps input w).entries ++ emits) =
+    step_parted input w emits (subst AreUnanswered (sym begins) (arrival_unanswered l c)) (emits_unheard e frames) in
+    first_heard n ((steps input w).entries ++ emits) front behind x (parted_for n ((steps input w).entries ++ emits) parted) q
