@@ -2,83 +2,56 @@
 use Rattle.std.proofs.Common.{◌≡◌, ◌==◌, ◌+◌, ◌-◌, ◌<◌, ◌%◌, ℕ, zero, suc, Bool, true, false, cond, List, [], ◌∷◌, ◌++◌, length, get_or, refl}
 use Rattle.std.proofs.Common.{slice_index, sym, ap, ◌∙◌, subst, arith, append-nil}
 use Rattle.std.specs.Prelude.{Option, Some, None, is_none}
-use Rattle.std.specs.Option.{option_map_or}
 use Rattle.std.proofs.lemmas.Bool.{ne_eqb}
 use Rattle.std.proofs.lemmas.Bool.Decides.{nat_tests}
 use Rattle.std.proofs.lemmas.Nat.{mod-mul-add}
 use Rattle.std.proofs.lemmas.List.FromFn.{fill_by_all}
 use Rattle.swp_base.specs.InMemory.{Memory, Plan, plan_after, cycled}
 use Rattle.swp_base.specs.Outside.{overwritten, IsWritten}
-use Rattle.journal_laws.specs.declared.state.State.{State}
-use Rattle.journal_laws.specs.declared.banks.Side.{Side}
 use Rattle.journal_laws.specs.Writes.{Write, after_writes, IsCut, AreMade}
-use Rattle.journal_laws.specs.Journal.{journal, state_of}
-use Rattle.journal_laws.specs.Operations.{started_state, formatted, compacted, compact_writes}
 use Rattle.journal_laws.specs.Planned.{fails_within, after_planned}
 use Rattle.journal_laws.proofs.Made.{made_whole, made_in_part}
-use Rattle.hci_store.specs.Starting.{ready_state, ready_writes, HasWritten}
+use Rattle.journal_laws.proofs.Planned.{none_within}
+use Rattle.hci_store.specs.Starting.{ready_writes, HasWritten}
 use Rattle.link_laws.specs.machine.Machine.{new_link_end}
 use Rattle.node_machine.specs.Parts.{Running}
 use Rattle.node_machine.specs.Carrying.{plan_behind}
 use Rattle.node_machine.specs.Node.{found, boot_writes}
 use Rattle.node_laws.proofs.cuts.Filled.{IsFilled, planned_filled}
 use Rattle.node_laws.proofs.kept.Planned.{planned_whole, after_planned-append}
+use Rattle.node_core.specs.Booting.{found_in_memory}
 use Rattle.node_core.specs.Bringing.{WereMade, Foretells}
 use Rattle.lone_laws.specs.alone.Lone.{Lone, role_alone, lone_booted, lone_after}
 use Rattle.lone_laws.specs.alone.Ends.{EndForm, end_causes, end_written, end_node}
+use Rattle.lone_laws.specs.alone.Memories.{IsTaken, behind_boot}
+use Rattle.lone_laws.specs.alone.Runs.{IsAnsweredRun}
+use Rattle.lone_laws.proofs.answered.Ended.{answered_run}
+use Rattle.lone_laws.proofs.answered.Ready.{boots_silently, found_again}
 use Rattle.one_end.specs.Standing.{booted_from, end_booted, IsRunOfBytes}
 use Rattle.one_end.specs.WholeRuns.{IsRunAlone}
 
--- ## A node that begins over a memory of version 02, or a blank one
+-- ## A node that begins over a memory that its boot has left
 
--- what a boot finds is of version 02 where its head says so, or where there is none
-started_version : (content : List ℕ) → (journal content).head.version ≡ 2 → (started_state (state_of content)).version ≡ 2
-started_version content version = by (state_of content) version where
-  by : (s : State) → s.version ≡ 2 → (started_state s).version ≡ 2
-  by s is = on s.in_use where
-    on : (o : Option Side) → (option_map_or (λ _. s) o formatted).version ≡ 2
-    on None = refl
-    on (Some side) = is
+abbrev node_over : ℕ → Option Running → Memory → Lone
+node_over number r m = record {
+  number = number;
+  link = 2;
+  node = r;
+  memory = m;
+  side = new_link_end (role_alone number);
+  rsets = 0;
+  session = 0;
+}
 
--- such a boot changes nothing but by a format
-kept_at : (s : State) (bodies : List (List ℕ)) (version : ℕ) → version ≡ 2 → cond (version == 2) s (compacted s bodies) ≡ s
-kept_at s bodies version is = ap (λ v. cond (v == 2) s (compacted s bodies)) is
-
-unwritten_at : (s : State) (bodies : List (List ℕ)) (version : ℕ) → version ≡ 2 → cond (version == 2) [] (compact_writes s bodies) ≡ []
-unwritten_at s bodies version is = ap (λ v. cond (v == 2) [] (compact_writes s bodies)) is
-
-started_as_ready : (content : List ℕ) → (journal content).head.version ≡ 2 → ready_state content ≡ started_state (state_of content)
-started_as_ready content version =
-    let s : State = started_state (state_of content) in
-    kept_at s _ s.version (started_version content version)
-
-written_as_ready : (content : List ℕ) → (journal content).head.version ≡ 2 → ready_writes content ≡ boot_writes content
-written_as_ready content version =
-    let s : State = started_state (state_of content) in
-    ap (λ l. boot_writes content ++ l) (unwritten_at s _ s.version (started_version content version)) ∙ append-nil (boot_writes content)
-
-module _ (number : ℕ) (m : Memory) where
-  abbrev with_state : State → Running
-  with_state j = let r : Running = found number (2 ∷ []) m.content in record r { core = record r.core { journal = j } }
-
-  abbrev node_over : Option Running → Memory → Lone
-  node_over r behind = record {
-    number = number;
-    link = 2;
-    node = r;
-    memory = behind;
-    side = new_link_end (role_alone number);
-    rsets = 0;
-    session = 0;
-  }
-
-  begins_as : (journal m.content).head.version ≡ 2 → fails_within (length (boot_writes m.content)) m.plan ≡ false
-      → booted_from number m.content (after_planned (boot_writes m.content) m) ≡ lone_booted number 2 m
-  begins_as version whole =
-      let s : State = started_state (state_of m.content) in
-      let behind : Memory = after_planned (boot_writes m.content) m in
-      ap (λ j. node_over (Some (with_state j)) behind) (started_as_ready m.content version)
-      ∙ sym (ap (λ b. node_over (cond b None (Some (with_state s))) behind) whole)
+-- a boot over it writes nothing, and finds what that one found
+begins_as : (number : ℕ) (old : List ℕ) → IsTaken old → (m : Memory) → m.content ≡ behind_boot old → booted_from number old m ≡ lone_booted number 2 m
+begins_as number old taken m is =
+    let by : List Write → Running → Lone = λ w r. node_over number (cond (fails_within (length w) m.plan) None (Some r)) (after_planned w m) in
+    let silent : boot_writes m.content ≡ [] = ap boot_writes is ∙ boots_silently old taken in
+    let same : found number (2 ∷ []) m.content ≡ found_in_memory number (2 ∷ []) old =
+    ap (found number (2 ∷ [])) is ∙ found_again old taken number (2 ∷ []) in
+    ap (λ b. node_over number (cond b None (Some (found_in_memory number (2 ∷ []) old))) m) (sym (none_within m.plan))
+    ∙ (ap (by []) (sym same) ∙ ap (λ w. by w (found number (2 ∷ []) m.content)) (sym silent))
 
 -- ## A plan that foretells what became of the writes
 
@@ -129,93 +102,85 @@ filled_same (suc k) fill (w ∷ ws) old a b p q = filled_same k fill ws (overwri
 
 -- ## A memory of such a plan
 
--- the writes of a boot, and then those of a run, as they were made
+-- the writes of a run, as they were made
 module _ {N : Type 0} (writes : N → ℕ → List ℕ → Bool → N → Type 0) (content : N → List ℕ)
     (told : (old : N) (at : ℕ) (bytes : List ℕ) (ok : Bool) (new : N) → writes old at bytes ok new → IsWritten ok (content old) (content new) at bytes) where
   abbrev memory_of_plan : List ℕ → Option Plan → Memory
   memory_of_plan c plan = record { content = c; plan = plan; failing_read = None; faults = 0 }
 
-  -- such a memory, which is behind the boot what it was and ends as the other did
-  record HasMemory (boot sure torn : List Write) (start end : List ℕ) (stopped : Bool) : Type 0 where
+  -- such a memory, which begins as this one and ends as the other did
+  record HasMemory (sure torn : List Write) (start end : List ℕ) (stopped : Bool) : Type 0 where
     plan : Option Plan
-    spares : fails_within (length boot) plan ≡ false
-    foretells : Foretells (after_planned boot (memory_of_plan start plan)).plan sure torn stopped
-    ends : (after_planned (sure ++ torn) (after_planned boot (memory_of_plan start plan))).content ≡ end
+    foretells : Foretells plan sure torn stopped
+    ends : (after_planned (sure ++ torn) (memory_of_plan start plan)).content ≡ end
 
-  unplanned : (boot sure torn : List Write) (start : List ℕ) (first new : N) → content first ≡ after_writes boot start → torn ≡ []
-      → AreMade writes sure first true new → HasMemory boot sure torn start (content new) false
-  unplanned boot sure torn start first new begins none made =
-      let m : Memory = memory_of_plan start None in
-      let booted = planned_whole boot m refl in
-      let no_plan : (after_planned boot m).plan ≡ None = booted.1 ∙ none_behind boot in
-      let foretold : fails_within (length sure) (after_planned boot m).plan ≡ false = ap (fails_within (length sure)) no_plan in
-      let ran = planned_whole sure (after_planned boot m) foretold in
+  unplanned : (sure torn : List Write) (first new : N) → torn ≡ [] → AreMade writes sure first true new
+      → HasMemory sure torn (content first) (content new) false
+  unplanned sure torn first new none made =
+      let m : Memory = memory_of_plan (content first) None in
+      let ran = planned_whole sure m refl in
       record {
         plan = None;
-        spares = refl;
-        foretells = foretold;
-        ends = ap (λ l. (after_planned l (after_planned boot m)).content) (ap (λ l. sure ++ l) none ∙ append-nil sure)
-            ∙ (ran.0 ∙ (ap (after_writes sure) (booted.0 ∙ sym begins) ∙ sym (made_whole writes content told sure first new made)));
+        foretells = refl;
+        ends = ap (λ l. (after_planned l m).content) (ap (λ l. sure ++ l) none ∙ append-nil sure)
+            ∙ (ran.0 ∙ sym (made_whole writes content told sure first new made));
       }
 
-  planned : (boot sure torn : List Write) (start : List ℕ) (first mid new : N) → content first ≡ after_writes boot start
-      → AreMade writes sure first true mid → AreMade writes torn mid false new → HasMemory boot sure torn start (content new) true
-  planned boot sure torn start first mid new begins made cut =
+  planned : (sure torn : List Write) (first mid new : N) → AreMade writes sure first true mid → AreMade writes torn mid false new
+      → HasMemory sure torn (content first) (content new) true
+  planned sure torn first mid new made cut =
       let part = made_in_part writes content told torn mid new cut in
       let k : ℕ = part.0 in
       let filled = cut_filled k torn (content mid) (content new) part.1 in
       let fill : List ℕ = filled.0 in
       let within = filled.1 in
-      let p : Option Plan = plan_of (length boot + suc (length sure + k)) fill in
-      let m : Memory = memory_of_plan start p in
-      let spares : fails_within (length boot) p ≡ false = spared (length boot) (length sure + k) fill in
-      let booted = planned_whole boot m spares in
-      let after : Memory = after_planned boot m in
-      let plan_then : after.plan ≡ plan_of (length sure + suc k) fill =
-      booted.1 ∙ (behind_spared boot (length sure + k) fill ∙ ap (λ n. plan_of n fill) (omega arith)) in
-      let sure_spared : fails_within (length sure) after.plan ≡ false = ap (fails_within (length sure)) plan_then ∙ spared (length sure) k fill in
-      let ran = planned_whole sure after sure_spared in
-      let then : Memory = after_planned sure after in
-      let last : plan_behind sure after.plan ≡ plan_of (suc k) fill = ap (plan_behind sure) plan_then ∙ behind_spared sure k fill in
-      let content_then : then.content ≡ content mid =
-      ran.0 ∙ (ap (after_writes sure) (booted.0 ∙ sym begins) ∙ sym (made_whole writes content told sure first mid made)) in
+      let p : Option Plan = plan_of (length sure + suc k) fill in
+      let m : Memory = memory_of_plan (content first) p in
+      let sure_spared : fails_within (length sure) p ≡ false = spared (length sure) k fill in
+      let ran = planned_whole sure m sure_spared in
+      let then : Memory = after_planned sure m in
+      let last : plan_behind sure p ≡ plan_of (suc k) fill = behind_spared sure k fill in
+      let content_then : then.content ≡ content mid = ran.0 ∙ sym (made_whole writes content told sure first mid made) in
       let fails : fails_within (length torn) (plan_of (suc k) fill) ≡ true = grind (arith, nat_tests, within) in
       record {
         plan = p;
-        spares = spares;
         foretells = (sure_spared, ap (fails_within (length torn)) last ∙ fails);
-        ends = ap (λ (x : Memory). x.content) (after_planned-append sure torn after sure_spared)
+        ends = ap (λ (x : Memory). x.content) (after_planned-append sure torn m sure_spared)
             ∙ filled_same k fill torn (content mid) (after_planned torn then).content (content new)
             (subst (λ c. IsFilled k fill torn c (after_planned torn then).content) content_then
             (planned_filled k fill torn then (ran.1 ∙ last) within)) filled.2;
       }
 
-  has_memory : (boot sure torn : List Write) (start : List ℕ) (first new : N) (stopped : Bool) → content first ≡ after_writes boot start
-      → WereMade writes sure torn first stopped new → HasMemory boot sure torn start (content new) stopped
-  has_memory boot sure torn start first new false begins made = unplanned boot sure torn start first new begins made.0 made.1
-  has_memory boot sure torn start first new true begins made = planned boot sure torn start first made.0 new begins made.1 made.2
+  has_memory : (sure torn : List Write) (first new : N) (stopped : Bool) → WereMade writes sure torn first stopped new
+      → HasMemory sure torn (content first) (content new) stopped
+  has_memory sure torn first new false made = unplanned sure torn first new made.0 made.1
+  has_memory sure torn first new true made = planned sure torn first made.0 new made.1 made.2
 
   -- ## The run
 
-  pub ran_alone : (reads : N → Bool → N → Type 0) (old first new : N) (stopped : Bool) (form : EndForm) (is_clf : Bool) (bytes written : List ℕ)
-      → (journal (content old)).head.version ≡ 2 → HasWritten reads writes content (ready_writes (content old)) old true first
-      → IsRunOfBytes writes first new stopped form is_clf (content old) bytes written
-      → IsRunAlone (content old) (content new) stopped form is_clf bytes written
-  ran_alone reads old first new stopped form is_clf bytes written version boot run =
-      let start : List ℕ = content old in
-      let writes_of_boot : List Write = boot_writes start in
-      let begins : content first ≡ after_writes writes_of_boot start =
-      made_whole writes content told writes_of_boot boot.read first
-      (subst (λ l. AreMade writes l boot.read true first) (written_as_ready start version) boot.made) ∙ ap (after_writes writes_of_boot) boot.unchanged in
-      let h = has_memory writes_of_boot run.sure run.torn start first new stopped begins run.made in
-      let m : Memory = memory_of_plan start h.plan in
-      let behind : Memory = after_planned writes_of_boot m in
-      let same : end_booted is_clf start behind ≡ end_node is_clf m = begins_as (cond is_clf 0 2) m version h.spares in
-      record {
-        memory = m;
-        content_is = refl;
-        wrote = sym (ap (λ l. end_written form l bytes) same) ∙ run.wrote behind h.foretells;
-        now = ap (λ l. (lone_after l (end_causes form l bytes)).memory.content) (sym same)
-            ∙ (ap (λ (x : Memory). x.content) (run.behind behind h.foretells) ∙ h.ends);
-        power = ap (λ l. is_none (lone_after l (end_causes form l bytes)).node) (sym same) ∙ run.runs behind h.foretells;
-      }
+  module _ (reads : N → Bool → N → Type 0) (old first new : N) (stopped : Bool) (form : EndForm) (is_clf : Bool) (bytes written : List ℕ)
+      (taken : IsTaken (content old)) (boot : HasWritten reads writes content (ready_writes (content old)) old true first)
+      (run : IsRunOfBytes writes first new stopped form is_clf (content old) bytes written) where
+    pub first_is : content first ≡ behind_boot (content old)
+    first_is =
+        made_whole writes content told (ready_writes (content old)) boot.read first boot.made
+        ∙ ap (after_writes (ready_writes (content old))) boot.unchanged
+
+    pub ran_alone : IsRunAlone (content first) (content new) stopped form is_clf bytes written
+    ran_alone =
+        let h = has_memory run.sure run.torn first new stopped run.made in
+        let m : Memory = memory_of_plan (content first) h.plan in
+        let same : end_booted is_clf (content old) m ≡ end_node is_clf m = begins_as (cond is_clf 0 2) (content old) taken m first_is in
+        record {
+          memory = m;
+          content_is = refl;
+          wrote = sym (ap (λ l. end_written form l bytes) same) ∙ run.wrote m h.foretells;
+          now = ap (λ l. (lone_after l (end_causes form l bytes)).memory.content) (sym same)
+              ∙ (ap (λ (x : Memory). x.content) (run.behind m h.foretells) ∙ h.ends);
+          power = ap (λ l. is_none (lone_after l (end_causes form l bytes)).node) (sym same) ∙ run.runs m h.foretells;
+        }
+
+    pub ran_answered : IsAnsweredRun (content old) (content new) stopped form is_clf bytes written
+    ran_answered =
+        answered_run (content old) (content new) stopped form is_clf bytes written taken ran_alone.memory (ran_alone.content_is ∙ first_is) ran_alone.wrote
+        ran_alone.now ran_alone.power
