@@ -14,5 +14,6 @@ pub mod Hearing
 pub mod Alone
 pub mod Outcomes
 mod NodeExamples
+mod HappenedExample
 pub mod Summing
 pub mod Numerals
