@@ -1,5 +1,6 @@
 pub mod Numbered
 pub mod Renumbered
+pub mod Powers
 pub mod Links
 pub mod FramesGoOut
 pub mod Regardless

@@ -3,6 +3,7 @@ pub mod LinksKept
 pub mod WorldNodes
 pub mod WorldBoots
 pub mod FramesOut
+pub mod Powers
 pub mod Places
 pub mod Memories
 pub mod GivenMessages

@@ -12,30 +12,21 @@ use Rattle.node_machine.specs.Parts.{Core, Desk, Running, Port, Work}
 use Rattle.node_machine.specs.Carrying.{port_at, with_port}
 use Rattle.node_machine.specs.world.World.{Site, port_for}
 use Rattle.node_sites.specs.declared.places.HostSite.{HostSite}
+use Rattle.node_sites.specs.declared.power.Power.TheVariants.{On, Off}
+use Rattle.node_sites.specs.Powers.{IsNodePlace}
 use Rattle.node_sites.specs.LinksKept.{WiresStandFor, with_bare_wires}
 use Rattle.node_sites.specs.FramesOut.{IsOnly, sent_port}
-
--- A node of the world runs over its memory, all its frames went out, and its ends are these; or its power is off, and its memory
--- lies there.
-abbrev pub IsNodePlace : {P : Type 0} → (P → Core → List Port → Type 0) → (P → Memory) → Option P → Option Memory → Memory → Option Running
-    → (ℕ → NumberedEnd) → Type 0
-IsNodePlace Runs memory_of (Some n) None m (Some r) near_ends =
-    (memory_of n ≡ m) × Runs n r.core (map (λ (d : Desk). port_for (near_ends d.host) d) r.desks)
-    × AllByRecursion (λ (d : Desk). next_frame (near_ends d.host).side ≡ None) r.desks
-IsNodePlace Runs memory_of None (Some kept) m None near_ends = kept ≡ m
-IsNodePlace Runs memory_of _ _ m _ near_ends = ⊥
 
 -- a host with its memory and its link to the controller
 pub record SiteIs {P : Type 0} (Runs : P → Core → List Port → Type 0) (memory_of : P → Memory) (k : HostSite P) (s : Site) : Type 0 where
   pub host : k.host ≡ s.host
   pub wires : WiresStandFor k.wires s.link
-  pub place : IsNodePlace Runs memory_of k.on k.off s.memory s.node (λ h. s.link.host)
+  pub place : IsNodePlace Runs memory_of k.power s.memory s.node (λ h. s.link.host)
 
 -- A host n behind a step that has brought it to the state k, with the link l as it sees it, before its frames go out at its one end p.
 pub record IsFinishing {P : Type 0} (Runs : P → Core → List Port → Type 0) (k : HostSite P) (n : P) (live : Bool) (w : Work) (p : Port) (l : Link)
     : Type 0 where
-  pub on : k.on ≡ Some n
-  pub off : k.off ≡ None
+  pub on : k.power ≡ On n
   pub runs : live ≡ true → Runs n w.core w.ports
   pub here : port_at w.ports k.host ≡ Some p
   pub only : IsOnly k.host p w.ports
@@ -45,8 +36,7 @@ pub record IsFinishing {P : Type 0} (Runs : P → Core → List Port → Type 0)
 pub record RunsOn {P : Type 0} (Runs : P → Core → List Port → Type 0) (memory_of : P → Memory) (old new : HostSite P) (n : P) (w : Work) (p : Port)
     (l : Link) (before now : List Entry) : Type 0 where
   pub node : P
-  pub on : new.on ≡ Some node
-  pub off : new.off ≡ None
+  pub on : new.power ≡ On node
   pub runs : Runs node w.core (with_port old.host sent_port w.ports)
   pub memory : memory_of node ≡ memory_of n
   pub wires : WiresStandFor new.wires (exchanged (put_all l (frames_out p.side)))
@@ -54,7 +44,6 @@ pub record RunsOn {P : Type 0} (Runs : P → Core → List Port → Type 0) (mem
 
 -- it has lost its power: both wires are empty
 pub record WentOff {P : Type 0} (memory_of : P → Memory) (new : HostSite P) (n : P) (w : Work) (l : Link) (before now : List Entry) : Type 0 where
-  pub on : new.on ≡ None
-  pub off : new.off ≡ Some (memory_of n)
+  pub off : new.power ≡ Off (memory_of n)
   pub wires : WiresStandFor new.wires (exchanged (with_bare_wires l))
   pub noted : now ≡ before ++ w.entries

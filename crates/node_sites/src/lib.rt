@@ -7,6 +7,7 @@ pub mod nodes;
 pub mod noted;
 pub mod numbering;
 pub mod places;
+pub mod power;
 pub mod sending;
 pub mod wires;
 pub mod world_controller;

@@ -26,27 +26,17 @@ ghost use Rattle.node_sites.specs.Memories.{IsSoundMemory};
 ghost use Rattle.node_sites.specs.WorldBoots.{EndsBoot};
 
 use crate::noted::Noted;
+use crate::power::Power;
 use arrayvec::ArrayVec;
 use hci_tables::Tables;
 use link_end::ResetRefused;
 use node_core::HostRefused;
 use std::alloc::Global;
-use swp_base::{Control, Lpdu, MemNv};
+use swp_base::{Control, Lpdu, MemNv, NoMemory};
 use swp_lpdu::LpduFault;
 
 /// The bytes of the memory from which a node boots.
 pub const MEMORY_SIZE: u32 = 65_536;
-
-/// How a boot ends.
-#[derive(Drop)]
-pub enum Booted<P> {
-    /// The node runs.
-    Runs(P),
-    /// A write to its memory failed, which is handed back: the node has lost its power.
-    LostPower(MemNv),
-    /// There is no memory for the node, or the one that it is to boot from hasn't 65,536 bytes.
-    NoMemory,
-}
 
 /// A node that runs in the world, controller or host, over a memory that keeps its bytes over a cut. What is asked about the link with a
 /// host is asked where the node has an end of it.
@@ -154,12 +144,17 @@ pub trait WorldNode {
 
 /// A host that runs in the world.
 pub trait WorldHost: WorldNode {
-    /// A host with this number, 01 to 07, boots from this memory, with a new end of its link.
-    fn boot(alloc: Global, host: u8, memory: MemNv) -> Booted<Self>
+    /// A host with this number, 01 to 07, boots from this memory, with a new end of its link. Where a write to the memory failed, it has
+    /// lost its power.
+    ///
+    /// # Errors
+    ///
+    /// No memory is left, or the one that it is to boot from hasn't 65,536 bytes.
+    fn boot(alloc: Global, host: u8, memory: MemNv) -> Result<Power<Self>, NoMemory>
         requires some { 1 ≤ host }
         requires host { host ≤ 7 }
         requires memory { IsSoundMemory memory }
-        ensures { EndsBoot Self.runs Self.memory host (host ∷ []) Uicc memory result };
+        ensures { IfOk result (EndsBoot Self.runs Self.memory host (host ∷ []) Uicc memory) };
 
     /// Activation begins anew at the link with this host, which is its own, with this sync identifier. Whether it has its power still.
     fn activate(&mut self, host: u8, sync: u16, noted: &mut Noted) -> bool
@@ -224,10 +219,15 @@ pub trait WorldHost: WorldNode {
 
 /// A controller that runs in the world.
 pub trait WorldController: WorldNode {
-    /// A controller boots from this memory, with new ends of the links with the hosts of this mask, in which bit h stands for host h.
-    fn boot(alloc: Global, hosts: u8, memory: MemNv) -> Booted<Self>
+    /// A controller boots from this memory, with new ends of the links with the hosts of this mask, in which bit h stands for host h. Where a
+    /// write to the memory failed, it has lost its power.
+    ///
+    /// # Errors
+    ///
+    /// No memory is left, or the one that it is to boot from hasn't 65,536 bytes.
+    fn boot(alloc: Global, hosts: u8, memory: MemNv) -> Result<Power<Self>, NoMemory>
         requires memory { IsSoundMemory memory }
-        ensures { EndsBoot Self.runs Self.memory 0 (hosts_where (has hosts)) Clf memory result };
+        ensures { IfOk result (EndsBoot Self.runs Self.memory 0 (hosts_where (has hosts)) Clf memory) };
 
     /// Activation begins anew at the link with this host, with this power mode, which is 00 or 01. Whether it has its power still.
     fn activate(&mut self, host: u8, power: u8, noted: &mut Noted) -> bool

@@ -1,19 +1,23 @@
 //! A host of the world: its node or its memory, and the wires of its link.
-ghost use Rattle.std.specs.Prelude.{◌≡◌, ℕ, ◌+◌, ◌<◌, ◌≤◌, ◌^◌, List, true, false, get_or, length, Some, None, OnOk};
+ghost use Rattle.std.specs.Prelude.{◌≡◌, ℕ, ◌+◌, ◌<◌, ◌≤◌, ◌^◌, List, true, false, get_or, length, OnOk};
 ghost use Rattle.trace_model.specs.declared.entry.Entry.{Entry as Told};
 ghost use Rattle.link_laws.specs.messages.Links.{Link};
 ghost use Rattle.node_machine.specs.Parts.{Port, Work};
 ghost use Rattle.node_sites.specs.LinksKept.{WiresStandFor, with_bare_wires};
 ghost use Rattle.node_sites.specs.Numbers.{AreNumbered};
 ghost use Rattle.node_sites.specs.WorldNodes.{IsNotedSo};
+ghost use Rattle.node_sites.specs.declared.power.Power.TheVariants.{Off};
+ghost use Rattle.node_sites.specs.Powers.{memory_kept};
 ghost use Rattle.node_sites.specs.Places.{IsFinishing, RunsOn, WentOff};
 
 use crate::nodes::WorldNode;
 use crate::noted::Noted;
 use crate::numbering::{Sessions, number_from};
+use crate::power::Power;
 use crate::sending::send_frames;
 use crate::wires::Wires;
-use swp_base::{MemNv, NoMemory};
+use std::alloc::Global;
+use swp_base::NoMemory;
 use trace_model::End;
 
 /// A host of the world: its node while that runs, its memory while it doesn't.
@@ -21,20 +25,24 @@ use trace_model::End;
 pub struct HostSite<P: Drop> {
     pub host: u8,
     pub wires: Wires,
-    pub on: Option<P>,
-    pub off: Option<MemNv>,
+    pub power: Power<P>,
 }
 
 /// The power of a host goes: both wires of its link are empty, and its memory stays.
-pub fn lose_power<P: WorldNode + Drop>(site: &mut HostSite<P>)
-    ensures off { (n : P) → site.old.on ≡ Some n → (site.new.on ≡ None) × (site.new.off ≡ Some (P.memory n)) }
+///
+/// # Errors
+///
+/// No memory is left; what the host stands for then isn't said.
+pub fn lose_power<P: WorldNode + Drop>(
+    site: &mut HostSite<P>,
+    alloc: Global,
+) -> Result<(), NoMemory>
+    ensures off { OnOk result (site.new.power ≡ Off (memory_kept P.memory site.old.power)) }
     ensures host { site.new.host ≡ site.old.host }
     ensures wires { (l : Link) → WiresStandFor site.old.wires l → WiresStandFor site.new.wires (with_bare_wires l) }
 {
     site.wires.empty();
-    if let Some(node) = site.on.take() {
-        site.off = Some(node.into_memory());
-    }
+    site.power.lose(alloc)
 }
 
 /// A step of a host ends: the numbers of its sessions are put into what it noted from this place on, and its frames go out unless it has
@@ -69,14 +77,13 @@ pub fn finish_step<P: WorldNode + Drop>(
     }
     number_from(&mut noted.entries, from, sessions);
     if !live {
-        lose_power(site);
-        return Ok(());
+        return lose_power(site, *noted.entries.allocator());
     }
     let at = End {
         link: site.host,
         at_host: true,
     };
-    if let Some(node) = &mut site.on {
+    if let Power::On(node) = &mut site.power {
         send_frames(node, at, &mut site.wires, &mut noted.entries)?;
     }
     Ok(())

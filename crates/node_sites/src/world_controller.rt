@@ -2,14 +2,15 @@
 ghost use Rattle.std.specs.Prelude.{◌≡◌, Bool};
 ghost use Rattle.node_core.specs.Running.{ran_so};
 
-use crate::nodes::{Booted, MEMORY_SIZE, WorldController, WorldNode};
+use crate::nodes::{MEMORY_SIZE, WorldController, WorldNode};
 use crate::noted::Noted;
+use crate::power::Power;
 use arrayvec::ArrayVec;
 use hci_tables::Tables;
 use link_end::ResetRefused;
 use node_core::{BootFault, BootRefused, Controller, Ran};
 use std::alloc::Global;
-use swp_base::{Control, Lpdu, MemNv, Nv};
+use swp_base::{Control, Lpdu, MemNv, NoMemory, Nv};
 use swp_lpdu::LpduFault;
 
 /// Whether a node has its power still behind a step.
@@ -87,15 +88,15 @@ impl WorldNode for Controller<MemNv> {
 }
 
 impl WorldController for Controller<MemNv> {
-    fn boot(alloc: Global, hosts: u8, memory: MemNv) -> Booted<Self> {
+    fn boot(alloc: Global, hosts: u8, memory: MemNv) -> Result<Power<Self>, NoMemory> {
         if memory.size() != MEMORY_SIZE {
-            return Booted::NoMemory;
+            return Err(NoMemory);
         }
         match Controller::boot(alloc, hosts, memory) {
-            Ok(booted) => Booted::Runs(booted),
+            Ok(node) => Ok(Power::On(node)),
             Err(BootRefused { nv, fault }) => match fault {
-                BootFault::NoMemory => Booted::NoMemory,
-                BootFault::Journal(_) => Booted::LostPower(nv),
+                BootFault::NoMemory => Err(NoMemory),
+                BootFault::Journal(_) => Ok(Power::Off(nv)),
             },
         }
     }

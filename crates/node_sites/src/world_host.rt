@@ -1,13 +1,14 @@
 //! A host as the world asks for it.
-use crate::nodes::{Booted, MEMORY_SIZE, WorldHost, WorldNode};
+use crate::nodes::{MEMORY_SIZE, WorldHost, WorldNode};
 use crate::noted::Noted;
+use crate::power::Power;
 use crate::world_controller::has_power;
 use arrayvec::ArrayVec;
 use hci_tables::Tables;
 use link_end::ResetRefused;
 use node_core::{BootFault, BootRefused, Host, HostRefused};
 use std::alloc::Global;
-use swp_base::{Control, Lpdu, MemNv, Nv};
+use swp_base::{Control, Lpdu, MemNv, NoMemory, Nv};
 use swp_lpdu::LpduFault;
 
 impl WorldNode for Host<MemNv> {
@@ -75,15 +76,15 @@ impl WorldNode for Host<MemNv> {
 }
 
 impl WorldHost for Host<MemNv> {
-    fn boot(alloc: Global, host: u8, memory: MemNv) -> Booted<Self> {
+    fn boot(alloc: Global, host: u8, memory: MemNv) -> Result<Power<Self>, NoMemory> {
         if memory.size() != MEMORY_SIZE {
-            return Booted::NoMemory;
+            return Err(NoMemory);
         }
         match Host::boot(alloc, host, memory) {
-            Ok(booted) => Booted::Runs(booted),
+            Ok(node) => Ok(Power::On(node)),
             Err(BootRefused { nv, fault }) => match fault {
-                BootFault::NoMemory => Booted::NoMemory,
-                BootFault::Journal(_) => Booted::LostPower(nv),
+                BootFault::NoMemory => Err(NoMemory),
+                BootFault::Journal(_) => Ok(Power::Off(nv)),
             },
         }
     }

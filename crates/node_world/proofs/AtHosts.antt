@@ -24,7 +24,10 @@ use Rattle.node_sites.specs.declared.places.HostSite.{HostSite}
 use Rattle.node_world.specs.Bounds.{AcksWithin, FewOn, FewBehind, IsFromOutside}
 use Rattle.node_world.specs.Controllers.{SitesAre, MayGoOn, StandsAt}
 use Rattle.node_world.specs.HostSteps.{IsHostOf, CountsOn, CountsComing, HasBecome}
-use Rattle.node_sites.specs.Places.{SiteIs, IsNodePlace}
+use Rattle.node_sites.specs.declared.power.Power.{Power}
+use Rattle.node_sites.specs.declared.power.Power.TheVariants.{On, Off}
+use Rattle.node_sites.specs.Powers.{IsNodePlace, is_on}
+use Rattle.node_sites.specs.Places.{SiteIs}
 use Rattle.node_world.specs.Whole.{IsWithinBounds, SitesBecome}
 use Rattle.node_world.proofs.CountsStay.{counts_few_at_end, resets_fit}
 use Rattle.node_world.proofs.FramesToAll.{others_before, of_these}
@@ -116,20 +119,17 @@ module _ (P : Type 0) (Runs : P → Core → List Port → Type 0) (memory_of : 
 
   pub sendable_on : (k : HostSite P) (s : Site) (r : Running) → GivesSendable → SiteIs Runs memory_of k s → IsHostOf s → s.node ≡ Some r
       → AreSendable s.link.host.side.sent
-  sendable_on k s r given is host runs = go k.on k.off s.node refl is.place host.ends runs
+  sendable_on k s r given is host runs = go k.power s.node refl is.place host.ends runs
     where
       near : ℕ → NumberedEnd
       near h = s.link.host
 
-      go : (on : Option P) (off : Option Memory) (node : Option Running) → s.node ≡ node → IsNodePlace Runs memory_of on off s.memory node near
+      go : (power : Power P) (node : Option Running) → s.node ≡ node → IsNodePlace Runs memory_of power s.memory node near
           → IfItRuns s.host (s.host ∷ []) node → node ≡ Some r → AreSendable s.link.host.side.sent
-      go (Some n) None (Some q) e place ends runs =
+      go (On n) (Some q) e place ends runs =
           first_sendable s.link.host s.host q.desks ends.ends (given n q.core (map (λ (d : Desk). port_for s.link.host d) q.desks) place.1)
-      go (Some n) None None e place ends runs = absurd (cc runs)
-      go (Some n) (Some m) o e place ends runs = absurd place
-      go None (Some m) None e place ends runs = absurd (cc runs)
-      go None (Some m) (Some q) e place ends runs = absurd place
-      go None None o e place ends runs = absurd place
+      go power None e place ends runs = absurd (cc runs)
+      go (Off m) (Some q) e place ends runs = absurd place
 
   pub counts_coming : (k : HostSite P) (s : Site) (comes : Comes) → GivesSendable → SiteIs Runs memory_of k s → IsHostOf s → FewOn 300000000 s.link
       → CountsComing s comes
@@ -174,17 +174,14 @@ module _ (P : Type 0) (Runs : P → Core → List Port → Type 0) (memory_of : 
       }
 
   -- it runs where its place does
-  pub runs_alike : (k : HostSite P) (s : Site) → SiteIs Runs memory_of k s → is_some k.on ≡ is_some s.node
-  runs_alike k s is = go k.on k.off s.node is.place
+  pub runs_alike : (k : HostSite P) (s : Site) → SiteIs Runs memory_of k s → is_on k.power ≡ is_some s.node
+  runs_alike k s is = go k.power s.node is.place
     where
-      go : (on : Option P) (off : Option Memory) (node : Option Running) → IsNodePlace Runs memory_of on off s.memory node (λ h. s.link.host)
-          → is_some on ≡ is_some node
-      go (Some n) None (Some r) place = refl
-      go (Some n) None None place = absurd place
-      go (Some n) (Some m) o place = absurd place
-      go None (Some m) None place = refl
-      go None (Some m) (Some r) place = absurd place
-      go None None o place = absurd place
+      go : (power : Power P) (node : Option Running) → IsNodePlace Runs memory_of power s.memory node (λ h. s.link.host) → is_on power ≡ is_some node
+      go (On n) (Some r) place = refl
+      go (On n) None place = absurd place
+      go (Off m) None place = refl
+      go (Off m) (Some r) place = absurd place
 
 -- ## Ends
 

@@ -11,10 +11,10 @@ use Rattle.node_machine.specs.Node.NodeInput.{TimePasses}
 use Rattle.node_machine.specs.world.World.{NodeWorld, Site, site_at, link_to, port_for, all_aged, controller_ticks}
 use Rattle.node_laws.specs.telling.Telling.{IsTimely, hosts_in}
 use Rattle.node_laws.proofs.telling.Events.{orderly_map}
-use Rattle.node_world.specs.declared.controller.ControllerPlace.{ControllerPlace}
+use Rattle.node_sites.specs.declared.power.Power.{Power}
 use Rattle.node_sites.specs.declared.places.HostSite.{HostSite}
 use Rattle.node_sites.specs.Numbers.{CountsFew}
-use Rattle.node_sites.specs.Places.{IsNodePlace}
+use Rattle.node_sites.specs.Powers.{IsNodePlace}
 use Rattle.node_world.specs.Controllers.{SitesAre, WorldIs, WorldBecomes, MayGoOn, AreTimely, FewAreCounted, near_ticks}
 
 -- a host whose frames have grown older
@@ -89,13 +89,13 @@ older_few w few = go w.controller few
 
 module _ (C P : Type 0) (CRuns : C → Core → List Port → Type 0) (c_memory : C → Memory) (PRuns : P → Core → List Port → Type 0) (p_memory : P → Memory)
   where
-    pub older_is : (k : ControllerPlace C) (ks news : List (HostSite P)) (w : NodeWorld) → WorldIs CRuns c_memory PRuns p_memory k ks w
+    pub older_is : (k : Power C) (ks news : List (HostSite P)) (w : NodeWorld) → WorldIs CRuns c_memory PRuns p_memory k ks w
         → SitesAre PRuns p_memory news (map older w.sites) → WorldIs CRuns c_memory PRuns p_memory k news (older_world w)
     older_is k ks news w world sites =
-        let Q : (ℕ → NumberedEnd) → Type 0 = λ near. IsNodePlace CRuns c_memory k.on k.off w.memory w.controller near in
+        let Q : (ℕ → NumberedEnd) → Type 0 = λ near. IsNodePlace CRuns c_memory k w.memory w.controller near in
         record { controller = subst Q (sym (all_near w.sites)) world.controller; sites = sites }
 
-    pub then_ticks : (k : ControllerPlace C) (ks : List (HostSite P)) (w : NodeWorld) (before mid now : List Entry) → mid ≡ before ++ (all_aged w).1
+    pub then_ticks : (k : Power C) (ks : List (HostSite P)) (w : NodeWorld) (before mid now : List Entry) → mid ≡ before ++ (all_aged w).1
         → WorldBecomes CRuns c_memory PRuns p_memory k ks mid now (controller_ticks (older_world w))
         → WorldBecomes CRuns c_memory PRuns p_memory k ks before now (near_ticks w)
     then_ticks k ks w before mid now noted b =

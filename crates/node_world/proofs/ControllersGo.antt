@@ -26,7 +26,8 @@ use Rattle.node_laws.proofs.telling.Parts.{AreAlike}
 use Rattle.node_sites.specs.declared.places.HostSite.{HostSite}
 use Rattle.node_sites.specs.LinksKept.{WiresStandFor, with_bare_wires, SameWires}
 use Rattle.node_sites.specs.FramesOut.{IsOnly, sent_port}
-use Rattle.node_sites.specs.Places.{IsNodePlace, SiteIs}
+use Rattle.node_sites.specs.Powers.{IsNodePlace}
+use Rattle.node_sites.specs.Places.{SiteIs}
 use Rattle.node_world.specs.Controllers.{SitesAre, due_at, sent_to, has_frames, frames_emitted, HasOneEnd, with_bare_link}
 use Rattle.node_world.proofs.GoingOn.{same_stand, silent_same, same_twice, ended_far}
 
@@ -185,7 +186,7 @@ module _ (v : Work) (starts out : Site → Link) (so : Site → Ending → Link)
 
     placed : (k : HostSite P) (s : Site) (l m : Link) → m.host ≡ l.host → WiresStandFor k.wires m → Near k s l → Near k s m
     placed k s l m q wires a =
-        let Q : NumberedEnd → Type 0 = λ e. IsNodePlace PRuns p_memory k.on k.off s.memory s.node (λ h. e) in
+        let Q : NumberedEnd → Type 0 = λ e. IsNodePlace PRuns p_memory k.power s.memory s.node (λ h. e) in
         record { host = a.host; wires = wires; place = subst Q (sym q) a.place }
 
     pub midway_stands : (ks : List (HostSite P)) (sites : List Site) (a : EachSteps sites) → SitesAre PRuns p_memory ks (map starts_so sites)

@@ -26,7 +26,10 @@ use Rattle.node_sites.specs.declared.wires.WireEnd.{WireEnd}
 use Rattle.node_sites.specs.declared.wires.Wires.{Wires}
 use Rattle.node_sites.specs.LinksKept.{WiresStandFor, WireEndIs, without_first, as_it_comes, IsFirst}
 use Rattle.node_sites.specs.WorldNodes.{IsNotedSo}
-use Rattle.node_sites.specs.Places.{IsNodePlace, SiteIs}
+use Rattle.node_sites.specs.declared.power.Power.{Power}
+use Rattle.node_sites.specs.declared.power.Power.TheVariants.{On, Off}
+use Rattle.node_sites.specs.Powers.{IsNodePlace}
+use Rattle.node_sites.specs.Places.{SiteIs}
 use Rattle.node_world.specs.Controllers.{SitesAre, HaveRoom, StandsAt, as_it_comes_to}
 use Rattle.node_world.proofs.Behind.{each_found}
 use Rattle.node_world.proofs.FramesToAll.{of_these, others_before}
@@ -36,34 +39,27 @@ use Rattle.node_world.proofs.SitesKept.{read_there, written_there}
 
 module _ (C : Type 0) (Runs : C → Core → List Port → Type 0) (memory_of : C → Memory) where
   -- the controller runs
-  pub record PlaceIsOn (off : Option Memory) (m : Memory) (node : Option Running) (near : ℕ → NumberedEnd) (n : C) : Type 0 where
+  pub record PlaceIsOn (m : Memory) (node : Option Running) (near : ℕ → NumberedEnd) (n : C) : Type 0 where
     pub running : Running
     pub runs : node ≡ Some running
-    pub off_is : off ≡ None
-    pub place : IsNodePlace Runs memory_of (Some n) None m (Some running) near
+    pub place : IsNodePlace Runs memory_of (On n) m (Some running) near
 
-  pub place_is_on : (on : Option C) (off : Option Memory) (m : Memory) (node : Option Running) (near : ℕ → NumberedEnd) (n : C) → on ≡ Some n
-      → IsNodePlace Runs memory_of on off m node near → PlaceIsOn off m node near n
-  place_is_on on off m node near n q place =
-      let Q : Option C → Type 0 = λ a. IsNodePlace Runs memory_of a off m node near in
-      go off node refl refl (subst Q q place)
+  pub place_is_on : (k : Power C) (m : Memory) (node : Option Running) (near : ℕ → NumberedEnd) (n : C) → k ≡ On n
+      → IsNodePlace Runs memory_of k m node near → PlaceIsOn m node near n
+  place_is_on k m node near n q place =
+      let Q : Power C → Type 0 = λ a. IsNodePlace Runs memory_of a m node near in
+      go node refl (subst Q q place)
     where
-      go : (b : Option Memory) (o : Option Running) → off ≡ b → node ≡ o → IsNodePlace Runs memory_of (Some n) b m o near → PlaceIsOn off m node near n
-      go None (Some r) e runs p = record { running = r; runs = runs; off_is = e; place = p }
-      go None None e runs p = absurd p
-      go (Some x) o e runs p = absurd p
+      go : (o : Option Running) → node ≡ o → IsNodePlace Runs memory_of (On n) m o near → PlaceIsOn m node near n
+      go (Some r) runs p = record { running = r; runs = runs; place = p }
+      go None runs p = absurd p
 
   -- or it doesn't
-  pub place_is_off : (on : Option C) (off : Option Memory) (m : Memory) (node : Option Running) (near : ℕ → NumberedEnd) → on ≡ None
-      → IsNodePlace Runs memory_of on off m node near → node ≡ None
-  place_is_off on off m node near q place =
-      let Q : Option C → Type 0 = λ a. IsNodePlace Runs memory_of a off m node near in
-      go off node refl (subst Q q place)
-    where
-      go : (b : Option Memory) (o : Option Running) → node ≡ o → IsNodePlace Runs memory_of None b m o near → node ≡ None
-      go (Some x) None runs p = runs
-      go (Some x) (Some r) runs p = absurd p
-      go None o runs p = absurd p
+  pub place_is_off : (k : Power C) (m : Memory) (node : Option Running) (near : ℕ → NumberedEnd) → ((n : C) → k ≡ On n → ⊥)
+      → IsNodePlace Runs memory_of k m node near → node ≡ None
+  place_is_off (On n) m node near q place = absurd (q n refl)
+  place_is_off (Off x) m None near q place = refl
+  place_is_off (Off x) m (Some r) near q place = absurd place
 
 -- where it doesn't run, nothing comes
 pub comes_off : (w : NodeWorld) (h : ℕ) (comes : Comes) → w.controller ≡ None → comes_at w (end_c h) comes ≡ (w, [])
@@ -189,7 +185,7 @@ module _ (P : Type 0) (PRuns : P → Core → List Port → Type 0) (p_memory : 
   pub site_with : (k : HostSite P) (wires : Wires) (s : Site) (l : Link) → l.host ≡ s.link.host → WiresStandFor wires l → SiteIs PRuns p_memory k s
       → SiteIs PRuns p_memory (record k { wires = wires }) (record s { link = l })
   site_with k wires s l same w a =
-      let Q : NumberedEnd → Type 0 = λ e. IsNodePlace PRuns p_memory k.on k.off s.memory s.node (λ h. e) in
+      let Q : NumberedEnd → Type 0 = λ e. IsNodePlace PRuns p_memory k.power s.memory s.node (λ h. e) in
       record { host = a.host; wires = w; place = subst Q (sym same) a.place }
 
   -- where all links have as many RSETs, there is as much room

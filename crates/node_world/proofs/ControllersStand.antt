@@ -14,11 +14,12 @@ use Rattle.node_machine.specs.world.World.{NodeWorld, Site, site_at, link_to, po
 use Rattle.node_laws.specs.kept.Books.{hosts_of_ends}
 use Rattle.node_laws.specs.kept.Hosts.{AreDifferent}
 use Rattle.node_laws.specs.telling.Telling.{hosts_in}
-use Rattle.node_world.specs.declared.controller.ControllerPlace.{ControllerPlace}
+use Rattle.node_sites.specs.declared.power.Power.{Power}
+use Rattle.node_sites.specs.declared.power.Power.TheVariants.{On}
 use Rattle.node_sites.specs.declared.places.HostSite.{HostSite}
 use Rattle.node_sites.specs.WorldNodes.{as_kept, GoesOutWhole}
 use Rattle.node_sites.specs.FramesOut.{sent_port}
-use Rattle.node_sites.specs.Places.{IsNodePlace}
+use Rattle.node_sites.specs.Powers.{IsNodePlace}
 use Rattle.node_world.specs.Controllers.{SitesAre, WorldBecomes, SendsTo, HasOneEnd, sent_to, GoesOnWith, WentOffWith}
 use Rattle.node_world.proofs.Behind.{each_found, next_ports, all_sides}
 use Rattle.node_world.proofs.ControllersGo.{EndSteps, EachSteps, midway, midway_hosts, each_one, sent_everywhere, told_alike, none_told, midway_stands}
@@ -79,10 +80,10 @@ module _ (w : NodeWorld) (v : Work) (starts out : Site → Link) (so : Site → 
           ends = subst (AllByRecursion (HasOneEnd v.ports)) (sym same) (each_one v starts out so w.sites all_steps ends_different);
         }
 
-    abbrev Becomes : ControllerPlace C → List (HostSite P) → List Entry → List Entry → NodeWorld × List Entry → Type 0
+    abbrev Becomes : Power C → List (HostSite P) → List Entry → List Entry → NodeWorld × List Entry → Type 0
     Becomes k ks before now after = WorldBecomes CRuns c_memory PRuns p_memory k ks before now after
 
-    pub went_on : (k : ControllerPlace C) (ks : List (HostSite P)) (n : C) (before now : List Entry) → v.cut ≡ false
+    pub went_on : (k : Power C) (ks : List (HostSite P)) (n : C) (before now : List Entry) → v.cut ≡ false
         → c_memory n ≡ after_planned v.writes w.memory → CRuns n v.core v.ports
         → GoesOnWith CRuns c_memory PRuns p_memory k ks n v mid_hosts before now → Becomes k ks before now behind_step
     went_on k ks n before now on memory runs r =
@@ -94,32 +95,30 @@ module _ (w : NodeWorld) (v : Work) (starts out : Site → Link) (so : Site → 
         kept r.node v.core (sent_to (hosts_in mid_hosts) v.ports) (map (λ (d : Desk). port_for (near_ends d.host) d) left.desks)
         (ap (map as_kept) names ∙ next_ports near_ends v.ports sides) r.runs in
         let m : Memory = after_planned v.writes w.memory in
-        let Place : Option C → Option Memory → Type 0 = λ a b. IsNodePlace CRuns c_memory a b m (Some left) near_ends in
-        let place : Place (Some r.node) None = (r.memory ∙ memory, ports, none_left near_ends v.ports sides (whole n v.core v.ports runs)) in
-        let there : Place k.on k.off = subst (λ a. Place a k.off) (sym r.on) (subst (Place (Some r.node)) (sym r.off) place) in
+        let Place : Power C → Type 0 = λ a. IsNodePlace CRuns c_memory a m (Some left) near_ends in
+        let place : Place (On r.node) = (r.memory ∙ memory, ports, none_left near_ends v.ports sides (whole n v.core v.ports runs)) in
         let told : List Entry = flat_map (λ (s : Site). frames_noted Controller s.host (out s) v) w.sites in
         let World : Bool → NodeWorld = λ b. record { memory = m; controller = cond b None (Some left); sites = sites_so (cond b CutOff GoesOut) } in
         let Is : Bool → Type 0 = λ b. Becomes k ks before now (World b, v.entries ++ told) in
         subst Is (sym on)
         (record {
-          world = record { controller = there; sites = out_stands v starts out so P PRuns p_memory ks w.sites all_steps r.sites };
+          world = record { controller = subst Place (sym r.on) place; sites = out_stands v starts out so P PRuns p_memory ks w.sites all_steps r.sites };
           noted = r.noted ∙ (ap (λ es. (before ++ v.entries) ++ es) (told_alike v starts out so w.sites all_steps on) ∙ append_assoc before v.entries told);
         })
 
-    pub went_off : (k : ControllerPlace C) (ks : List (HostSite P)) (n : C) (before now : List Entry) → v.cut ≡ true
+    pub went_off : (k : Power C) (ks : List (HostSite P)) (n : C) (before now : List Entry) → v.cut ≡ true
         → c_memory n ≡ after_planned v.writes w.memory → WentOffWith c_memory PRuns p_memory k ks n v mid_hosts before now
         → Becomes k ks before now behind_step
     went_off k ks n before now off memory r =
         let near_ends : ℕ → NumberedEnd = λ h. (link_to (sites_so CutOff) h).controller in
         let left : Running = record { core = v.core; desks = map (λ (p : Port). p.desk) v.ports } in
         let m : Memory = after_planned v.writes w.memory in
-        let Place : Option C → Option Memory → Type 0 = λ a b. IsNodePlace CRuns c_memory a b m None near_ends in
-        let there : Place k.on k.off = subst (λ a. Place a k.off) (sym r.on) (subst (Place None) (sym r.off) memory) in
+        let Place : Power C → Type 0 = λ a. IsNodePlace CRuns c_memory a m None near_ends in
         let told : List Entry = flat_map (λ (s : Site). frames_noted Controller s.host (out s) v) w.sites in
         let World : Bool → NodeWorld = λ b. record { memory = m; controller = cond b None (Some left); sites = sites_so (cond b CutOff GoesOut) } in
         let Is : Bool → Type 0 = λ b. Becomes k ks before now (World b, v.entries ++ told) in
         subst Is (sym off)
         (record {
-          world = record { controller = there; sites = off_stands v starts out so P PRuns p_memory ks w.sites all_steps r.sites };
+          world = record { controller = subst Place (sym r.off) memory; sites = off_stands v starts out so P PRuns p_memory ks w.sites all_steps r.sites };
           noted = r.noted ∙ ap (λ es. before ++ es) (sym (ap (λ es. v.entries ++ es) (none_told v starts out so w.sites off) ∙ append-nil v.entries));
         })

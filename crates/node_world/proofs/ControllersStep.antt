@@ -33,12 +33,13 @@ use Rattle.node_laws.specs.kept.Books.{hosts_of_ends}
 use Rattle.node_laws.specs.telling.Telling.{HasEnds, IfItRuns, hosts_in}
 use Rattle.node_laws.proofs.telling.Nodes.{link_is, stands, Stands}
 use Rattle.node_laws.proofs.telling.Parts.{AreAlike}
-use Rattle.node_world.specs.declared.controller.ControllerPlace.{ControllerPlace}
+use Rattle.node_sites.specs.declared.power.Power.{Power}
+use Rattle.node_sites.specs.declared.power.Power.TheVariants.{On}
 use Rattle.node_sites.specs.declared.places.HostSite.{HostSite}
 use Rattle.node_sites.specs.LinksKept.{SameWires, as_it_comes}
 use Rattle.node_sites.specs.WorldNodes.{as_kept, BeginsAt, GoesOutWhole, HasGone}
 use Rattle.node_sites.specs.Numbers.{AreNumbered, CountsFew, StaysCounted}
-use Rattle.node_sites.specs.Places.{IsNodePlace}
+use Rattle.node_sites.specs.Powers.{IsNodePlace}
 use Rattle.node_world.specs.Controllers.{SitesAre, WorldBecomes, MayGoOn, FewAreCounted, AreSessions, as_it_comes_to, SendsTo, EndsStep}
 use Rattle.node_world.specs.Controllers.{GoesOnWith, WentOffWith}
 use Rattle.node_world.proofs.HostsBegin.{near_side}
@@ -253,7 +254,7 @@ module _ (w : NodeWorld) (r : Running) (h : ℕ) (comes : Comes) (i : LinkInput)
   module _ (C P : Type 0) (CRuns : C → Core → List Port → Type 0) (c_memory : C → Memory) (PRuns : P → Core → List Port → Type 0) (p_memory : P → Memory)
       (kept : (n : C) (core : Core) (ports others : List Port) → map as_kept ports ≡ map as_kept others → CRuns n core ports → CRuns n core others)
       (whole : (n : C) (core : Core) (ports : List Port) → CRuns n core ports → AllByRecursion (λ (p : Port). GoesOutWhole p.side) ports) where
-    pub begins_there : (n : C) → IsNodePlace CRuns c_memory (Some n) None w.memory (Some r) plain → BeginsAt CRuns c_memory n h Start
+    pub begins_there : (n : C) → IsNodePlace CRuns c_memory (On n) w.memory (Some r) plain → BeginsAt CRuns c_memory n h Start
     begins_there n place =
         let one : Stands near r.desks h = stands near r.desks w.sites h s node.ends found in
         record {
@@ -275,18 +276,18 @@ module _ (w : NodeWorld) (r : Running) (h : ℕ) (comes : Comes) (i : LinkInput)
     sends_all ks runs a =
         sends_them w Then starts out so may.orderly.different hosts_then each C P CRuns c_memory PRuns p_memory kept whole ks runs a
 
-    pub step_midway : (old n : C) (off : Option Memory) (ks : List (HostSite P)) (live : Bool) → HasGone CRuns c_memory old n Then live → off ≡ None
+    pub step_midway : (old n : C) (ks : List (HostSite P)) (live : Bool) → HasGone CRuns c_memory old n Then live
         → SitesAre PRuns p_memory ks (as_it_comes_to h comes w.sites)
-        → EndsStep CRuns PRuns p_memory (record { on = Some n; off = off }) ks n live Then mid_sites
-    step_midway old n off ks live gone none a = record { on = refl; off = none; sends = sends_all ks gone.runs a }
+        → EndsStep CRuns PRuns p_memory (On n) ks n live Then mid_sites
+    step_midway old n ks live gone a = record { on = refl; sends = sends_all ks gone.runs a }
 
-    abbrev Becomes : ControllerPlace C → List (HostSite P) → List Entry → List Entry → Type 0
+    abbrev Becomes : Power C → List (HostSite P) → List Entry → List Entry → Type 0
     Becomes k ks before now = WorldBecomes CRuns c_memory PRuns p_memory k ks before now (comes_at w (end_c h) comes)
 
     step_is : comes_at w (end_c h) comes ≡ after_controller w h comes Then
     step_is = rw (input, runs) refl
 
-    pub step_went_on : (k : ControllerPlace C) (ks : List (HostSite P)) (n : C) (before now : List Entry) → Then.cut ≡ false
+    pub step_went_on : (k : Power C) (ks : List (HostSite P)) (n : C) (before now : List Entry) → Then.cut ≡ false
         → c_memory n ≡ after_planned Then.writes w.memory → CRuns n Then.core Then.ports
         → GoesOnWith CRuns c_memory PRuns p_memory k ks n Then mid_sites before now → Becomes k ks before now
     step_went_on k ks n before now on memory run g =
@@ -294,7 +295,7 @@ module _ (w : NodeWorld) (r : Running) (h : ℕ) (comes : Comes) (i : LinkInput)
         subst B (sym step_is)
         (went_on w Then starts out so may.orderly.different hosts_then each C P CRuns c_memory PRuns p_memory kept whole k ks n before now on memory run g)
 
-    pub step_went_off : (k : ControllerPlace C) (ks : List (HostSite P)) (n : C) (before now : List Entry) → Then.cut ≡ true
+    pub step_went_off : (k : Power C) (ks : List (HostSite P)) (n : C) (before now : List Entry) → Then.cut ≡ true
         → c_memory n ≡ after_planned Then.writes w.memory → WentOffWith c_memory PRuns p_memory k ks n Then mid_sites before now → Becomes k ks before now
     step_went_off k ks n before now off memory g =
         let B : NodeWorld × List Entry → Type 0 = λ x. WorldBecomes CRuns c_memory PRuns p_memory k ks before now x in
@@ -302,8 +303,8 @@ module _ (w : NodeWorld) (r : Running) (h : ℕ) (comes : Comes) (i : LinkInput)
         (went_off w Then starts out so may.orderly.different hosts_then each C P CRuns c_memory PRuns p_memory kept whole k ks n before now off memory g)
 
     -- the step ends in either way
-    pub step_ends : {T F : Type 0} (result : Result T F) (live : Bool) (k : ControllerPlace C) (ks : List (HostSite P)) (old n : C) (before now : List Entry)
-        → IsNodePlace CRuns c_memory (Some old) None w.memory (Some r) plain → HasGone CRuns c_memory old n Then live
+    pub step_ends : {T F : Type 0} (result : Result T F) (live : Bool) (k : Power C) (ks : List (HostSite P)) (old n : C) (before now : List Entry)
+        → IsNodePlace CRuns c_memory (On old) w.memory (Some r) plain → HasGone CRuns c_memory old n Then live
         → (live ≡ true → OnOk result (GoesOnWith CRuns c_memory PRuns p_memory k ks n Then mid_sites before now))
         → (live ≡ false → OnOk result (WentOffWith c_memory PRuns p_memory k ks n Then mid_sites before now)) → OnOk result (Becomes k ks before now)
     step_ends result live k ks old n before now place gone goes_on goes_off = go live refl

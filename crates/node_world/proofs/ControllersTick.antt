@@ -20,12 +20,14 @@ use Rattle.node_laws.specs.kept.Books.{hosts_of_ends}
 use Rattle.node_laws.specs.telling.Telling.{HasEnds, IfItRuns, IfOff, IfDue, hosts_in}
 use Rattle.node_laws.proofs.telling.Keeping.{tick_keeps}
 use Rattle.node_laws.proofs.telling.Nodes.{link_is, hosts_same}
-use Rattle.node_world.specs.declared.controller.ControllerPlace.{ControllerPlace}
+use Rattle.node_sites.specs.declared.power.Power.{Power}
+use Rattle.node_sites.specs.declared.power.Power.TheVariants.{On, Off}
 use Rattle.node_sites.specs.declared.places.HostSite.{HostSite}
 use Rattle.node_sites.specs.LinksKept.{SameWires}
 use Rattle.node_sites.specs.WorldNodes.{as_kept, BeginsOver, GoesOutWhole, HasGone, MayBeginStep}
 use Rattle.node_sites.specs.Numbers.{AreNumbered, CountsFew}
-use Rattle.node_sites.specs.Places.{IsNodePlace, SiteIs}
+use Rattle.node_sites.specs.Powers.{IsNodePlace}
+use Rattle.node_sites.specs.Places.{SiteIs}
 use Rattle.node_world.specs.Controllers.{SitesAre, WorldIs, WorldBecomes, MayGoOn, AreTimely, FewAreCounted, AreSessions, EndsStep, GoesOnWith, WentOffWith}
 use Rattle.node_world.proofs.GoingOn.{same_stand, same_twice}
 use Rattle.node_world.proofs.Behind.{each_found, all_far}
@@ -63,29 +65,26 @@ module _ (P : Type 0) (PRuns : P → Core → List Port → Type 0) (p_memory : 
     where
       one : SiteIs PRuns p_memory k (site_unticked s)
       one =
-          let Q : NumberedEnd → Type 0 = λ e. IsNodePlace PRuns p_memory k.on k.off s.memory s.node (λ h. e) in
+          let Q : NumberedEnd → Type 0 = λ e. IsNodePlace PRuns p_memory k.power s.memory s.node (λ h. e) in
           record { host = a.0.host; wires = same_stand (still_wires s.link q.0) a.0.wires; place = subst Q (sym (still_far s.link)) a.0.place }
 
   module _ (C : Type 0) (CRuns : C → Core → List Port → Type 0) (c_memory : C → Memory) where
-    off_place : (on : Option C) (off : Option Memory) (m : Memory) (near far : ℕ → NumberedEnd) → IsNodePlace CRuns c_memory on off m None near
-        → IsNodePlace CRuns c_memory on off m None far
-    off_place None (Some x) m near far p = p
-    off_place None None m near far p = p
-    off_place (Some n) (Some x) m near far p = p
-    off_place (Some n) None m near far p = p
+    off_place : (k : Power C) (m : Memory) (near far : ℕ → NumberedEnd) → IsNodePlace CRuns c_memory k m None near → IsNodePlace CRuns c_memory k m None far
+    off_place (On n) m near far p = p
+    off_place (Off x) m near far p = p
 
-    pub ticks_off : (k : ControllerPlace C) (ks : List (HostSite P)) (w : NodeWorld) (entries : List Entry) → w.controller ≡ None → AreTimely w → MayGoOn w
+    pub ticks_off : (k : Power C) (ks : List (HostSite P)) (w : NodeWorld) (entries : List Entry) → w.controller ≡ None → AreTimely w → MayGoOn w
         → WorldIs CRuns c_memory PRuns p_memory k ks w → WorldBecomes CRuns c_memory PRuns p_memory k ks entries entries (controller_ticks w)
     ticks_off k ks w entries off timely may world =
         let none : controller_ticks w ≡ (record w { sites = map site_unticked w.sites }, []) = rw off refl in
         let all = each_found (λ (x : Site). x.host) w.sites may.orderly.different in
         let B : NodeWorld × List Entry → Type 0 = λ x. WorldBecomes CRuns c_memory PRuns p_memory k ks entries entries x in
-        let Here : Option Running → Type 0 = λ o. IsNodePlace CRuns c_memory k.on k.off w.memory o (λ h. (link_to w.sites h).controller) in
-        let There : Option Running → Type 0 = λ o. IsNodePlace CRuns c_memory k.on k.off w.memory o (λ h. (link_to (map site_unticked w.sites) h).controller) in
+        let Here : Option Running → Type 0 = λ o. IsNodePlace CRuns c_memory k w.memory o (λ h. (link_to w.sites h).controller) in
+        let There : Option Running → Type 0 = λ o. IsNodePlace CRuns c_memory k w.memory o (λ h. (link_to (map site_unticked w.sites) h).controller) in
         subst B (sym none)
         (record {
           world = record {
-            controller = subst There (sym off) (off_place k.on k.off w.memory _ _ (subst Here off world.controller));
+            controller = subst There (sym off) (off_place k w.memory _ _ (subst Here off world.controller));
             sites = all_still ks w.sites (new_ends w.sites all) world.sites;
           };
           noted = sym (append-nil entries);
@@ -164,7 +163,7 @@ module _ (w : NodeWorld) (r : Running) (may : MayGoOn w) (timely : AreTimely w) 
   module _ (C P : Type 0) (CRuns : C → Core → List Port → Type 0) (c_memory : C → Memory) (PRuns : P → Core → List Port → Type 0) (p_memory : P → Memory)
       (kept : (n : C) (core : Core) (ports others : List Port) → map as_kept ports ≡ map as_kept others → CRuns n core ports → CRuns n core others)
       (whole : (n : C) (core : Core) (ports : List Port) → CRuns n core ports → AllByRecursion (λ (p : Port). GoesOutWhole p.side) ports) where
-    pub tick_begins : (n : C) → IsNodePlace CRuns c_memory (Some n) None w.memory (Some r) plain → BeginsOver CRuns c_memory n Begun
+    pub tick_begins : (n : C) → IsNodePlace CRuns c_memory (On n) w.memory (Some r) plain → BeginsOver CRuns c_memory n Begun
     tick_begins n place = record {
       runs = place.1;
       sent = ends_sent plain plain r.desks (λ h. refl) place.2;
@@ -174,17 +173,16 @@ module _ (w : NodeWorld) (r : Running) (may : MayGoOn w) (timely : AreTimely w) 
       writes = refl;
     }
 
-    pub tick_may : (n : C) → IsNodePlace CRuns c_memory (Some n) None w.memory (Some r) plain → MayBeginStep CRuns n
+    pub tick_may : (n : C) → IsNodePlace CRuns c_memory (On n) w.memory (Some r) plain → MayBeginStep CRuns n
     tick_may n place =
         let b = tick_begins n place in record { core = r.core; ports = Begun.ports; runs = b.runs; sent = b.sent }
 
-    pub tick_midway : (old n : C) (off : Option Memory) (ks : List (HostSite P)) (live : Bool) → HasGone CRuns c_memory old n Ticked live → off ≡ None
-        → SitesAre PRuns p_memory ks w.sites → EndsStep CRuns PRuns p_memory (record { on = Some n; off = off }) ks n live Ticked mid_sites
-    tick_midway old n off ks live gone none a =
+    pub tick_midway : (old n : C) (ks : List (HostSite P)) (live : Bool) → HasGone CRuns c_memory old n Ticked live
+        → SitesAre PRuns p_memory ks w.sites → EndsStep CRuns PRuns p_memory (On n) ks n live Ticked mid_sites
+    tick_midway old n ks live gone a =
         let S : List Site → Type 0 = λ xs. SitesAre PRuns p_memory ks xs in
         record {
           on = refl;
-          off = none;
           sends =
               sends_them w Ticked starts starts so may.orderly.different hosts_then each C P CRuns c_memory PRuns p_memory kept whole ks gone.runs
               (subst S (sym (same_sites w.sites)) a);
@@ -194,12 +192,12 @@ module _ (w : NodeWorld) (r : Running) (may : MayGoOn w) (timely : AreTimely w) 
         same_sites [] = refl
         same_sites (s ∷ sites) = ap (λ xs. s ∷ xs) (same_sites sites)
 
-    abbrev Becomes : ControllerPlace C → List (HostSite P) → List Entry → List Entry → Type 0
+    abbrev Becomes : Power C → List (HostSite P) → List Entry → List Entry → Type 0
     Becomes k ks before now = WorldBecomes CRuns c_memory PRuns p_memory k ks before now (controller_ticks w)
 
     -- the tick ends in either way
-    pub tick_ends : {T F : Type 0} (result : Result T F) (live : Bool) (k : ControllerPlace C) (ks : List (HostSite P)) (old n : C) (before now : List Entry)
-        → IsNodePlace CRuns c_memory (Some old) None w.memory (Some r) plain → HasGone CRuns c_memory old n Ticked live
+    pub tick_ends : {T F : Type 0} (result : Result T F) (live : Bool) (k : Power C) (ks : List (HostSite P)) (old n : C) (before now : List Entry)
+        → IsNodePlace CRuns c_memory (On old) w.memory (Some r) plain → HasGone CRuns c_memory old n Ticked live
         → (live ≡ true → OnOk result (GoesOnWith CRuns c_memory PRuns p_memory k ks n Ticked mid_sites before now))
         → (live ≡ false → OnOk result (WentOffWith c_memory PRuns p_memory k ks n Ticked mid_sites before now)) → OnOk result (Becomes k ks before now)
     tick_ends result live k ks old n before now place gone goes_on goes_off = go live refl

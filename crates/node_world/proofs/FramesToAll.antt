@@ -23,7 +23,8 @@ use Rattle.node_sites.specs.declared.places.HostSite.{HostSite}
 use Rattle.node_sites.specs.declared.wires.Wires.{Wires}
 use Rattle.node_sites.specs.LinksKept.{WiresStandFor}
 use Rattle.node_sites.specs.FramesOut.{IsOnly, sent_port, SendsFrom}
-use Rattle.node_sites.specs.Places.{IsNodePlace, SiteIs}
+use Rattle.node_sites.specs.Powers.{IsNodePlace}
+use Rattle.node_sites.specs.Places.{SiteIs}
 use Rattle.node_world.specs.Controllers.{SitesAre, HaveRoom, due_at, sent_to, has_frames, frames_emitted, HasOneEnd}
 use Rattle.node_world.proofs.Behind.{all_far}
 use Rattle.node_world.proofs.SitesKept.{Walked, Next, walk_begins, walk_next, walk_ends}
@@ -150,7 +151,7 @@ module _ (P : Type 0) (PRuns : P → Core → List Port → Type 0) (p_memory : 
       with_frames : (k : HostSite P) (new : Wires) (x : Site) (cs : List Control) → SiteIs PRuns p_memory k x → WiresStandFor new (put_all x.link cs)
           → SiteIs PRuns p_memory (record k { wires = new }) (record x { link = put_all x.link cs })
       with_frames k new x cs a wires =
-          let Q : NumberedEnd → Type 0 = λ e. IsNodePlace PRuns p_memory k.on k.off x.memory x.node (λ h. e) in
+          let Q : NumberedEnd → Type 0 = λ e. IsNodePlace PRuns p_memory k.power x.memory x.node (λ h. e) in
           record { host = a.host; wires = wires; place = subst Q (sym (all_far x.link cs)) a.place }
 
   pub all_sent : (Runs : List Port → Type 0) (ports : List Port) (now : List (HostSite P)) (hosts : List Site) (before after : List Entry) (i : ℕ)

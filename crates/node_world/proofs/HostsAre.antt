@@ -20,7 +20,10 @@ use Rattle.node_machine.specs.world.World.{Site, input_of, wires_for, frames_not
 use Rattle.node_machine.proofs.world.Cases.{host_tick, after_tick}
 use Rattle.node_sites.specs.declared.places.HostSite.{HostSite}
 use Rattle.node_sites.specs.LinksKept.{IsFirst, IsReadFirst}
-use Rattle.node_sites.specs.Places.{IsNodePlace, SiteIs}
+use Rattle.node_sites.specs.declared.power.Power.{Power}
+use Rattle.node_sites.specs.declared.power.Power.TheVariants.{On, Off}
+use Rattle.node_sites.specs.Powers.{IsNodePlace}
+use Rattle.node_sites.specs.Places.{SiteIs}
 use Rattle.node_world.specs.HostSteps.{host_stepped, host_hears, host_behind, HasBecome}
 
 -- ## What is kept
@@ -30,30 +33,26 @@ module _ (P : Type 0) (Runs : P → Core → List Port → Type 0) (memory_of : 
   pub record IsOn (k : HostSite P) (s : Site) (n : P) : Type 0 where
     pub running : Running
     pub runs : s.node ≡ Some running
-    pub off : k.off ≡ None
     pub memory : memory_of n ≡ s.memory
 
-  pub is_on : {k : HostSite P} {s : Site} {n : P} → SiteIs Runs memory_of k s → k.on ≡ Some n → IsOn k s n
+  pub is_on : {k : HostSite P} {s : Site} {n : P} → SiteIs Runs memory_of k s → k.power ≡ On n → IsOn k s n
   is_on {k} {s} {n} is on =
-      let Q : Option P → Type 0 = λ a. IsNodePlace Runs memory_of a k.off s.memory s.node (λ h. s.link.host) in
-      go k.off s.node refl refl (subst Q on is.place)
+      let Q : Power P → Type 0 = λ a. IsNodePlace Runs memory_of a s.memory s.node (λ h. s.link.host) in
+      go s.node refl (subst Q on is.place)
     where
-      go : (off : Option Memory) (o : Option Running) → k.off ≡ off → s.node ≡ o → IsNodePlace Runs memory_of (Some n) off s.memory o (λ h. s.link.host)
-          → IsOn k s n
-      go None (Some r) q runs place = record { running = r; runs = runs; off = q; memory = place.0 }
-      go None None q runs place = absurd place
-      go (Some m) o q runs place = absurd place
+      go : (o : Option Running) → s.node ≡ o → IsNodePlace Runs memory_of (On n) s.memory o (λ h. s.link.host) → IsOn k s n
+      go (Some r) runs place = record { running = r; runs = runs; memory = place.0 }
+      go None runs place = absurd place
 
   -- it doesn't
-  pub is_off : {k : HostSite P} {s : Site} → SiteIs Runs memory_of k s → k.on ≡ None → s.node ≡ None
-  is_off {k} {s} is on =
-      let Q : Option P → Type 0 = λ a. IsNodePlace Runs memory_of a k.off s.memory s.node (λ h. s.link.host) in
-      go k.off s.node refl (subst Q on is.place)
+  pub is_off : {k : HostSite P} {s : Site} → SiteIs Runs memory_of k s → ((n : P) → k.power ≡ On n → ⊥) → s.node ≡ None
+  is_off {k} {s} is on = go k.power s.node on is.place
     where
-      go : (off : Option Memory) (o : Option Running) → s.node ≡ o → IsNodePlace Runs memory_of None off s.memory o (λ h. s.link.host) → s.node ≡ None
-      go (Some m) None runs place = runs
-      go (Some m) (Some r) runs place = absurd place
-      go None o runs place = absurd place
+      go : (power : Power P) (o : Option Running) → ((n : P) → power ≡ On n → ⊥) → IsNodePlace Runs memory_of power s.memory o (λ h. s.link.host)
+          → o ≡ None
+      go (On n) o q place = absurd (q n refl)
+      go (Off m) None q place = refl
+      go (Off m) (Some r) q place = absurd place
 
   -- nothing happened
   pub unchanged : {k : HostSite P} {s : Site} (entries : List Entry) → SiteIs Runs memory_of k s → HasBecome Runs memory_of k entries entries (s, [])

@@ -17,7 +17,10 @@ use Rattle.node_laws.specs.telling.Telling.{HasEnds, IfItRuns}
 use Rattle.node_laws.proofs.telling.Nodes.{host_opened}
 use Rattle.node_sites.specs.declared.places.HostSite.{HostSite}
 use Rattle.node_sites.specs.WorldNodes.{as_kept, BeginsOver, BeginsAt, HasEndOf, MayBeginAt, MayBeginStep}
-use Rattle.node_sites.specs.Places.{IsNodePlace, SiteIs}
+use Rattle.node_sites.specs.declared.power.Power.{Power}
+use Rattle.node_sites.specs.declared.power.Power.TheVariants.{On}
+use Rattle.node_sites.specs.Powers.{IsNodePlace}
+use Rattle.node_sites.specs.Places.{SiteIs}
 use Rattle.node_world.specs.HostSteps.{IsHostOf}
 
 -- what comes changes no end by itself
@@ -52,32 +55,27 @@ ports_fresh b (d ∷ desks) = ((refl, refl), ports_fresh b desks)
 module _ (P : Type 0) (Runs : P → Core → List Port → Type 0) (memory_of : P → Memory)
     (kept : (n : P) (core : Core) (ports others : List Port) → map as_kept ports ≡ map as_kept others → Runs n core ports → Runs n core others) where
   -- a host that runs begins a step in which this comes
-  pub host_begins_so : (k : HostSite P) (s : Site) (n : P) (r : Running) (comes : Comes) (entries : List Entry) → SiteIs Runs memory_of k s → k.on ≡ Some n
+  pub host_begins_so : (k : HostSite P) (s : Site) (n : P) (r : Running) (comes : Comes) (entries : List Entry) → SiteIs Runs memory_of k s → k.power ≡ On n
       → s.node ≡ Some r → BeginsOver Runs memory_of n (work_of r s.memory.plan (λ j. near_end_in (exchanged s.link) comes) entries)
   host_begins_so k s n r comes entries is on runs =
-      let Q : Option P → Option Running → Type 0 = λ a b. IsNodePlace Runs memory_of a k.off s.memory b (λ h. s.link.host) in
-      go k.off (subst (λ b. Q (Some n) b) runs (subst (λ a. Q a s.node) on is.place))
-    where
-      go : (off : Option Memory) → IsNodePlace Runs memory_of (Some n) off s.memory (Some r) (λ h. s.link.host)
-          → BeginsOver Runs memory_of n (work_of r s.memory.plan (λ j. near_end_in (exchanged s.link) comes) entries)
-      go (Some m) place = absurd place
-      go None place =
-          let side : s.link.host.side ≡ (near_end_in (exchanged s.link) comes).side = sym (near_side (exchanged s.link) comes) in
-          record {
-            runs = kept n r.core (map (λ (d : Desk). port_for s.link.host d) r.desks)
-                (map (λ (d : Desk). port_for (near_end_in (exchanged s.link) comes) d) r.desks)
-                (same_ports s.link.host (near_end_in (exchanged s.link) comes) r.desks side) place.1;
-            sent = ports_sent s.link.host (near_end_in (exchanged s.link) comes) r.desks side place.2;
-            fresh = ports_fresh (near_end_in (exchanged s.link) comes) r.desks;
-            power = refl;
-            plan = ap (λ (m : Memory). m.plan) (sym place.0);
-            writes = refl;
-          }
+      let Q : Power P → Option Running → Type 0 = λ a b. IsNodePlace Runs memory_of a s.memory b (λ h. s.link.host) in
+      let place : Q (On n) (Some r) = subst (Q (On n)) runs (subst (λ a. Q a s.node) on is.place) in
+      let side : s.link.host.side ≡ (near_end_in (exchanged s.link) comes).side = sym (near_side (exchanged s.link) comes) in
+      record {
+        runs = kept n r.core (map (λ (d : Desk). port_for s.link.host d) r.desks)
+            (map (λ (d : Desk). port_for (near_end_in (exchanged s.link) comes) d) r.desks)
+            (same_ports s.link.host (near_end_in (exchanged s.link) comes) r.desks side) place.1;
+        sent = ports_sent s.link.host (near_end_in (exchanged s.link) comes) r.desks side place.2;
+        fresh = ports_fresh (near_end_in (exchanged s.link) comes) r.desks;
+        power = refl;
+        plan = ap (λ (m : Memory). m.plan) (sym place.0);
+        writes = refl;
+      }
 
 -- It has the end of its own link.
 module _ (P : Type 0) (Runs : P → Core → List Port → Type 0) (memory_of : P → Memory)
     (kept : (n : P) (core : Core) (ports others : List Port) → map as_kept ports ≡ map as_kept others → Runs n core ports → Runs n core others) where
-  pub begins_at_end : (k : HostSite P) (s : Site) (n : P) (r : Running) (comes : Comes) → SiteIs Runs memory_of k s → IsHostOf s → k.on ≡ Some n
+  pub begins_at_end : (k : HostSite P) (s : Site) (n : P) (r : Running) (comes : Comes) → SiteIs Runs memory_of k s → IsHostOf s → k.power ≡ On n
       → s.node ≡ Some r
       → BeginsAt Runs memory_of n k.host
       (work_of r s.memory.plan (λ j. near_end_in (exchanged s.link) comes) (entries_for s.host (arrival Host (exchanged s.link) comes)))

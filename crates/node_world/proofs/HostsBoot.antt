@@ -20,8 +20,11 @@ use Rattle.node_sites.specs.declared.places.HostSite.{HostSite}
 use Rattle.node_sites.specs.declared.wires.Wires.{Wires}
 use Rattle.node_sites.specs.LinksKept.{WiresStandFor, with_bare_wires}
 use Rattle.node_sites.specs.WorldNodes.{as_kept}
-use Rattle.node_sites.specs.Places.{IsNodePlace, SiteIs}
-use Rattle.node_sites.specs.Memories.{IsSoundMemory}
+use Rattle.node_sites.specs.declared.power.Power.{Power}
+use Rattle.node_sites.specs.declared.power.Power.TheVariants.{On, Off}
+use Rattle.node_sites.specs.Powers.{IsNodePlace}
+use Rattle.node_sites.specs.WorldBoots.{EndsBoot}
+use Rattle.node_sites.specs.Places.{SiteIs}
 use Rattle.node_world.specs.HostSteps.{host_boots, HasBecome}
 use Rattle.node_world.proofs.GoingOn.{goes_on, cut_same, same_stand, same_exchanged}
 
@@ -37,25 +40,6 @@ pub boot_stops : (s : Site) → fails_within (length (boot_writes s.memory.conte
 boot_stops s q = rw q refl
 
 module _ (P : Type 0) (Runs : P → Core → List Port → Type 0) (memory_of : P → Memory) where
-  -- a host that doesn't run has its memory at hand
-  pub record LiesThere (k : HostSite P) (s : Site) (m : Memory) : Type 0 where
-    pub on : k.on ≡ None
-    pub memory : m ≡ s.memory
-
-  lies_there : (k : HostSite P) (s : Site) (m : Memory) → SiteIs Runs memory_of k s → s.node ≡ None → k.off ≡ Some m → LiesThere k s m
-  lies_there k s m is off q =
-      let Q : Option Memory → Option Running → Type 0 = λ b o. IsNodePlace Runs memory_of k.on b s.memory o (λ h. s.link.host) in
-      go k.on refl (subst (λ o. Q (Some m) o) off (subst (λ b. Q b s.node) q is.place))
-    where
-      go : (on : Option P) → k.on ≡ on → IsNodePlace Runs memory_of on (Some m) s.memory None (λ h. s.link.host) → LiesThere k s m
-      go None here place = record { on = here; memory = place }
-      go (Some n) here place = absurd place
-
-  pub bootable : (k : HostSite P) (s : Site) (m : Memory) → SiteIs Runs memory_of k s → s.node ≡ None → IsSoundMemory s.memory → k.off ≡ Some m
-      → IsSoundMemory m
-  bootable k s m is off order q =
-      let place : LiesThere k s m = lies_there k s m is off q in subst IsSoundMemory (sym place.memory) order
-
   module _
       (kept : (n : P) (core : Core) (ports others : List Port) → map as_kept ports ≡ map as_kept others → Runs n core ports → Runs n core others) where
     new_ports : (n : P) (core : Core) (s : Site) → s.link.host.side ≡ new_link_end (Uicc new_uicc)
@@ -65,54 +49,44 @@ module _ (P : Type 0) (Runs : P → Core → List Port → Type 0) (memory_of : 
         kept n core (map (new_port named.Uicc) (s.host ∷ [])) (map (λ d. port_for s.link.host d) (map new_desk (s.host ∷ [])))
         (ap (λ (e : LinkEnd). record { desk = new_desk s.host; side = e; session = 0; late = false; ended = false; turns = [] } ∷ []) (sym side)) runs
 
-    pub runs_now : (k : HostSite P) (s : Site) (n : P) (m : Memory) (off : Option Memory) (count : ℕ) (before : List Entry) {now : List Entry}
-        → SiteIs Runs memory_of k s → s.node ≡ None → s.link.host.side ≡ new_link_end (Uicc new_uicc) → k.off ≡ Some m → off ≡ None
-        → (fails_within (length (boot_writes m.content)) m.plan ≡ false) × (memory_of n ≡ after_planned (boot_writes m.content) m)
-        × Runs n (found k.host (k.host ∷ []) m.content).core (map (new_port named.Uicc) (k.host ∷ []))
+    pub runs_now : (k : HostSite P) (new : Power P) (s : Site) (n : P) (count : ℕ) (before : List Entry) {now : List Entry} → new ≡ On n
+        → SiteIs Runs memory_of k s → s.link.host.side ≡ new_link_end (Uicc new_uicc)
+        → EndsBoot Runs memory_of s.host (s.host ∷ []) named.Uicc s.memory new
         → ((core : Core) (ports : List Port) → Runs n core ports → count ≡ count_of core.journal) → now ≡ before ++ note.Booted k.host count ∷ []
-        → HasBecome Runs memory_of (record { host = k.host; wires = k.wires; on = Some n; off = off }) before now (host_boots s)
-    runs_now k s n m off count before {now} is not_on side there none booted counts noted =
-        let place : LiesThere k s m = lies_there k s m is not_on there in
-        let B : ℕ → Memory → Type 0 = λ h x.
-        (fails_within (length (boot_writes x.content)) x.plan ≡ false) × (memory_of n ≡ after_planned (boot_writes x.content) x)
-        × Runs n (found h (h ∷ []) x.content).core (map (new_port named.Uicc) (h ∷ [])) in
-        let b : B s.host s.memory = subst (B s.host) place.memory (subst (λ h. B h m) is.host booted) in
+        → HasBecome Runs memory_of (record k { power = new }) before now (host_boots s)
+    runs_now k new s n count before {now} on is side booted counts noted =
+        let b = subst (EndsBoot Runs memory_of s.host (s.host ∷ []) named.Uicc s.memory) on booted in
         let r : Running = found s.host (s.host ∷ []) s.memory.content in
-        let C : Site × List Entry → Type 0 = λ x.
-        HasBecome Runs memory_of (record { host = k.host; wires = k.wires; on = Some n; off = off }) before now x in
-        let N : Option Memory → Type 0 = λ o.
-        IsNodePlace Runs memory_of (Some n) o (after_planned (boot_writes s.memory.content) s.memory) (Some r) (λ h. s.link.host) in
+        let C : Site × List Entry → Type 0 = λ x. HasBecome Runs memory_of (record k { power = new }) before now x in
+        let N : Power P → Type 0 = λ a.
+        IsNodePlace Runs memory_of a (after_planned (boot_writes s.memory.content) s.memory) (Some r) (λ h. s.link.host) in
         subst C (sym (boot_goes s b.0))
         (record {
           site = record {
             host = is.host;
             wires = is.wires;
-            place = subst N (sym none) (b.1, new_ports n r.core s side b.2, (ap next_frame side, tt));
+            place = subst N (sym on) (b.1, new_ports n r.core s side b.2, (ap next_frame side, tt));
           };
           noted = noted ∙ ap₂ (λ h x. before ++ note.Booted h x ∷ []) is.host
               (counts r.core (map (new_port named.Uicc) (s.host ∷ [])) b.2);
         })
 
-  pub lost_power : (k : HostSite P) (s : Site) (m left : Memory) (wires : Wires) (before : List Entry) {now : List Entry}
-      → SiteIs Runs memory_of k s → s.node ≡ None → k.off ≡ Some m
-      → (fails_within (length (boot_writes m.content)) m.plan ≡ true) × (left ≡ after_planned (boot_writes m.content) m)
+  pub lost_power : (k : HostSite P) (new : Power P) (s : Site) (left : Memory) (wires : Wires) (before : List Entry) {now : List Entry} → new ≡ Off left
+      → SiteIs Runs memory_of k s → EndsBoot Runs memory_of s.host (s.host ∷ []) named.Uicc s.memory new
       → WiresStandFor wires (with_bare_wires s.link) → now ≡ before ++ note.Cut k.host ∷ []
-      → HasBecome Runs memory_of (record { host = k.host; wires = wires; on = k.on; off = Some left }) before now (host_boots s)
-  lost_power k s m left wires before {now} is not_on there booted empty noted =
-      let place : LiesThere k s m = lies_there k s m is not_on there in
-      let B : Memory → Type 0 = λ x. (fails_within (length (boot_writes x.content)) x.plan ≡ true) × (left ≡ after_planned (boot_writes x.content) x) in
-      let b : B s.memory = subst B place.memory booted in
-      let C : Site × List Entry → Type 0 = λ x.
-      HasBecome Runs memory_of (record { host = k.host; wires = wires; on = k.on; off = Some left }) before now x in
+      → HasBecome Runs memory_of (record { host = k.host; wires = wires; power = new }) before now (host_boots s)
+  lost_power k new s left wires before {now} off is booted empty noted =
+      let b = subst (EndsBoot Runs memory_of s.host (s.host ∷ []) named.Uicc s.memory) off booted in
+      let C : Site × List Entry → Type 0 = λ x. HasBecome Runs memory_of (record { host = k.host; wires = wires; power = new }) before now x in
       let gone : Site = host_cut (record s { memory = after_planned (boot_writes s.memory.content) s.memory }) in
-      let N : Option P → Type 0 = λ a. IsNodePlace Runs memory_of a (Some left) gone.memory None (λ h. gone.link.host) in
+      let N : Power P → Type 0 = λ a. IsNodePlace Runs memory_of a gone.memory None (λ h. gone.link.host) in
       let g = goes_on (exchanged s.link) NoInput None [] refl tt in
       subst C (sym (boot_stops s b.0))
       (record {
         site = record {
           host = is.host;
           wires = same_stand (same_exchanged (cut_same g)) empty;
-          place = subst N (sym place.on) b.1;
+          place = subst N (sym off) b.1;
         };
         noted = noted ∙ ap (λ h. before ++ note.Cut h ∷ []) is.host;
       })

@@ -51,7 +51,6 @@ module _ (P : Type 0) (Runs : P → Core → List Port → Type 0) (memory_of : 
   finishing m wires =
       record {
         on = is.on;
-        off = is.off;
         runs = is.runs;
         here = ap (port_at w.ports) is.host ∙ is.here.here;
         only = let Q : ℕ → Type 0 = λ h. IsOnly h is.here.port w.ports in subst Q (sym is.host) (only_one s.host is.here.port w.ports is.ends is.here.here);

@@ -18,7 +18,10 @@ use Rattle.node_sites.specs.declared.places.HostSite.{HostSite}
 use Rattle.node_sites.specs.LinksKept.{SameWires, with_bare_wires}
 use Rattle.node_sites.specs.WorldNodes.{as_kept}
 use Rattle.node_sites.specs.FramesOut.{sent_port}
-use Rattle.node_sites.specs.Places.{IsNodePlace, SiteIs, RunsOn, WentOff}
+use Rattle.node_sites.specs.declared.power.Power.{Power}
+use Rattle.node_sites.specs.declared.power.Power.TheVariants.{On, Off}
+use Rattle.node_sites.specs.Powers.{IsNodePlace}
+use Rattle.node_sites.specs.Places.{SiteIs, RunsOn, WentOff}
 use Rattle.node_world.specs.HostSteps.{EndDoes, host_behind}
 use Rattle.node_world.proofs.GoingOn.{same_stand, same_exchanged, silent_same}
 
@@ -80,10 +83,8 @@ module _ (P : Type 0) (Runs : P → Core → List Port → Type 0) (memory_of : 
       let ports : Runs r.node k.core (map (λ (d : Desk). port_for near_end d) left.desks) =
       kept r.node k.core (with_port old.host sent_port k.ports) (map (λ (d : Desk). port_for near_end d) left.desks)
       (ap (λ h. map as_kept (with_port h sent_port k.ports)) was ∙ ends_next s.host e.port near_end k.ports hosts e.here refl) r.runs in
-      let Place : Option P → Option Memory → Type 0 = λ a b.
-      IsNodePlace Runs memory_of a b (after_planned k.writes s.memory) (Some left) (λ h. near_end) in
-      let place : Place (Some r.node) None = (r.memory ∙ memory, ports, all_sent left.desks (sent_all e.port.side) none) in
-      let there : Place new.on new.off = subst (λ a. Place a new.off) (sym r.on) (subst (Place (Some r.node)) (sym r.off) place) in
+      let Place : Power P → Type 0 = λ a. IsNodePlace Runs memory_of a (after_planned k.writes s.memory) (Some left) (λ h. near_end) in
+      let place : Place (On r.node) = (r.memory ∙ memory, ports, all_sent left.desks (sent_all e.port.side) none) in
       let w = r.wires in
       let S : Site → Type 0 = λ x. SiteIs Runs memory_of new x in
       subst S (sym is)
@@ -94,7 +95,7 @@ module _ (P : Type 0) (Runs : P → Core → List Port → Type 0) (memory_of : 
           there = record { emitted_is = w.there.emitted_is; took_is = w.there.took_is; wire_is = w.there.wire_is };
           count = w.count;
         };
-        place = there;
+        place = subst Place (sym r.on) place;
       })
 
   -- its link where it has lost its power
@@ -118,9 +119,7 @@ module _ (P : Type 0) (Runs : P → Core → List Port → Type 0) (memory_of : 
       → SiteIs Runs memory_of new (host_behind s step k)
   host_went_off off r =
       let is : host_behind s step k ≡ goes_to (step_so true) None = ap (λ (b : Bool). goes_to (step_so b) (cond b None (Some left))) off in
-      let Place : Option P → Option Memory → Type 0 = λ a b.
-      IsNodePlace Runs memory_of a b (after_planned k.writes s.memory) None (λ h. (step_so true).controller) in
-      let place : Place None (Some (memory_of n)) = memory in
-      let there : Place new.on new.off = subst (λ a. Place a new.off) (sym r.on) (subst (Place None) (sym r.off) place) in
+      let Place : Power P → Type 0 = λ a. IsNodePlace Runs memory_of a (after_planned k.writes s.memory) None (λ h. (step_so true).controller) in
+      let place : Place (Off (memory_of n)) = memory in
       let S : Site → Type 0 = λ x. SiteIs Runs memory_of new x in
-      subst S (sym is) (record { host = host; wires = same_stand (same_exchanged cut_so) r.wires; place = there })
+      subst S (sym is) (record { host = host; wires = same_stand (same_exchanged cut_so) r.wires; place = subst Place (sym r.off) place })

@@ -27,7 +27,10 @@ use Rattle.node_sites.specs.declared.wires.WireEnd.{WireEnd}
 use Rattle.node_sites.specs.declared.wires.Wires.{Wires}
 use Rattle.node_sites.specs.LinksKept.{WireEndIs, WiresStandFor, as_it_comes, without_first, IsFirst}
 use Rattle.node_sites.specs.WorldNodes.{as_kept, BeginsOver, BeginsAt, HasGone, IsNotedSo}
-use Rattle.node_sites.specs.Places.{IsNodePlace, SiteIs}
+use Rattle.node_sites.specs.declared.power.Power.{Power}
+use Rattle.node_sites.specs.declared.power.Power.TheVariants.{On}
+use Rattle.node_sites.specs.Powers.{IsNodePlace}
+use Rattle.node_sites.specs.Places.{SiteIs}
 use Rattle.node_world.specs.HostSteps.{host_stepped, host_hears, host_behind, IsHostOf, CountsComing, MayTick, IsToSend, HasBecome}
 use Rattle.node_world.proofs.HostsBegin.{begins_at_end}
 use Rattle.node_world.proofs.HostsAre.{IsOn, is_on, goes_by, stepped_on, hears_on, ticks_on, hears_none, none_first, first_taken}
@@ -92,7 +95,7 @@ not_more entries short off = sym (append-nil entries)
 module _ (P : Type 0) (Runs : P → Core → List Port → Type 0) (memory_of : P → Memory)
     (kept : (n : P) (core : Core) (ports others : List Port) → map as_kept ports ≡ map as_kept others → Runs n core ports → Runs n core others)
     (k mid : HostSite P) (s : Site) (was n : P) (live : Bool) (before begun now : List Entry) (short still : Bool) (is : SiteIs Runs memory_of k s)
-    (host : IsHostOf s) (on : k.on ≡ Some was) (mid_on : mid.on ≡ Some n) (mid_off : mid.off ≡ k.off) (mid_host : mid.host ≡ k.host) where
+    (host : IsHostOf s) (on : k.power ≡ On was) (mid_on : mid.power ≡ On n) (mid_host : mid.host ≡ k.host) where
   abbrev here : IsOn P Runs memory_of k s was
   here = is_on P Runs memory_of is on
 
@@ -106,7 +109,7 @@ module _ (P : Type 0) (Runs : P → Core → List Port → Type 0) (memory_of : 
       → WiresStandFor mid.wires (exchanged bare) → IsNotedSo now still before w.entries
       → IsToSend Runs memory_of mid live now still before s step l w
   middle d gone wires noted =
-      midway P Runs memory_of mid was n live s d here.memory gone mid_on (mid_off ∙ here.off) (mid_host ∙ is.host) wires noted
+      midway P Runs memory_of mid was n live s d here.memory gone mid_on (mid_host ∙ is.host) wires noted
 
   -- something came to its end
   pub heard : (comes : Comes) (i : LinkInput) → CountsComing s comes → input_of (exchanged s.link) comes ≡ Some i
@@ -168,14 +171,14 @@ module _ (P : Type 0) (Runs : P → Core → List Port → Type 0) (memory_of : 
 -- ## None is taken
 
 module _ (P : Type 0) (Runs : P → Core → List Port → Type 0) (memory_of : P → Memory) where
-  pub none_taken : (k : HostSite P) (s : Site) {n : P} (before : List Entry) → SiteIs Runs memory_of k s → k.on ≡ Some n
+  pub none_taken : (k : HostSite P) (s : Site) {n : P} (before : List Entry) → SiteIs Runs memory_of k s → k.power ≡ On n
       → IsFirst (exchanged s.link).to_controller None
-      → HasBecome Runs memory_of (record { host = k.host; wires = k.wires; on = Some n; off = k.off }) before before (host_hears s NextFrame)
+      → HasBecome Runs memory_of (record { host = k.host; wires = k.wires; power = On n }) before before (host_hears s NextFrame)
   none_taken k s {n} before is on nothing =
       let input : input_of (exchanged s.link) NextFrame ≡ None = none_first (exchanged s.link) nothing in
-      let new : HostSite P = record { host = k.host; wires = k.wires; on = Some n; off = k.off } in
+      let new : HostSite P = record { host = k.host; wires = k.wires; power = On n } in
       let B : Site × List Entry → Type 0 = λ x. HasBecome Runs memory_of new before before x in
-      let Q : Option P → Type 0 = λ a. IsNodePlace Runs memory_of a k.off s.memory s.node (λ h. s.link.host) in
+      let Q : Power P → Type 0 = λ a. IsNodePlace Runs memory_of a s.memory s.node (λ h. s.link.host) in
       subst B (sym (hears_none s NextFrame input))
       (record {
         site = record {

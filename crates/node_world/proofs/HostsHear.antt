@@ -28,6 +28,7 @@ use Rattle.node_laws.specs.telling.Telling.{HasEnds, IfItRuns, is_due}
 use Rattle.node_laws.proofs.telling.Mute.{AreMute}
 use Rattle.node_laws.proofs.telling.Keeping.{Keeps, steps_keep, tick_keeps, begins_keep}
 use Rattle.node_sites.specs.declared.places.HostSite.{HostSite}
+use Rattle.node_sites.specs.declared.power.Power.TheVariants.{On}
 use Rattle.node_sites.specs.LinksKept.{WiresStandFor, SameWires, as_it_comes, without_first}
 use Rattle.node_sites.specs.Numbers.{AreNumbered, StaysCounted, CountsFew}
 use Rattle.node_sites.specs.WorldNodes.{HasGone, IsNotedSo}
@@ -209,17 +210,16 @@ module _ (s : Site) (r : Running) (is : IsHostOf s) (runs : s.node ≡ Some r) w
 -- its node has done it
 module _ (P : Type 0) (Runs : P → Core → List Port → Type 0) (memory_of : P → Memory) (mid : HostSite P) (was n : P) (live : Bool) where
   pub midway : {noted : List Entry} {short : Bool} {before : List Entry} (s : Site) {step : List Turn → Ending → Link} {bare l : Link} {w : Work}
-      → HostDoes s step bare l w → memory_of was ≡ s.memory → HasGone Runs memory_of was n w live → mid.on ≡ Some n → mid.off ≡ None
+      → HostDoes s step bare l w → memory_of was ≡ s.memory → HasGone Runs memory_of was n w live → mid.power ≡ On n
       → mid.host ≡ s.host → WiresStandFor mid.wires (exchanged bare) → IsNotedSo noted short before w.entries
       → IsToSend Runs memory_of mid live noted short before s step l w
-  midway s {bare = bare} {l} {w} d memory gone on off host wires noted =
+  midway s {bare = bare} {l} {w} d memory gone on host wires noted =
       let A : ℕ → Type 0 = λ k. AreNumbered (always k) w.entries in
       let number : number_of bare.controller ≡ max mid.wires.host.emitted mid.wires.host.took =
       ap₂ max (sym wires.there.emitted_is) (sym wires.there.took_is) in
       record {
         node = n;
         on = on;
-        off = off;
         host = host;
         power = gone.power;
         memory = gone.memory ∙ ap (after_planned w.writes) memory;

@@ -16,7 +16,10 @@ use Rattle.node_machine.specs.world.World.{Site, port_for, counts}
 use Rattle.node_core.specs.Running.{one_more_error}
 use Rattle.node_sites.specs.declared.places.HostSite.{HostSite}
 use Rattle.node_sites.specs.LinksKept.{WiresStandFor}
-use Rattle.node_sites.specs.Places.{IsNodePlace, SiteIs}
+use Rattle.node_sites.specs.declared.power.Power.{Power}
+use Rattle.node_sites.specs.declared.power.Power.TheVariants.{On}
+use Rattle.node_sites.specs.Powers.{IsNodePlace}
+use Rattle.node_sites.specs.Places.{SiteIs}
 use Rattle.node_world.specs.HostSteps.{IsHostOf, is_broken, site_loses}
 use Rattle.node_world.proofs.Plainly.{same_host}
 use Rattle.node_world.proofs.HostsRefuse.{OwnEnd, own_end}
@@ -87,31 +90,29 @@ module _ (P : Type 0) (Runs : P → Core → List Port → Type 0) (memory_of : 
   as_lost {k} q is = let S : Site → Type 0 = λ x. SiteIs Runs memory_of k x in subst S (sym q) is
 
   -- where another node runs there with one more error
-  pub counted : {new : HostSite P} (k : HostSite P) (s : Site) (n m : P) (to : End) (why : Loss) → SiteIs Runs memory_of k s → k.on ≡ Some n
-      → to.at_host ≡ true → is_broken why ≡ true → new.host ≡ k.host → new.on ≡ Some m → new.off ≡ k.off → memory_of m ≡ memory_of n
+  pub counted : {new : HostSite P} (k : HostSite P) (s : Site) (n m : P) (to : End) (why : Loss) → SiteIs Runs memory_of k s → k.power ≡ On n
+      → to.at_host ≡ true → is_broken why ≡ true → new.host ≡ k.host → new.power ≡ On m → memory_of m ≡ memory_of n
       → ((core : Core) (desks : List Desk) → Runs n core (map (λ (d : Desk). port_for s.link.host d) desks)
       → s.node ≡ Some (record { core = core; desks = desks })
       → Runs m core (with_port k.host one_more_error (map (λ (d : Desk). port_for s.link.host d) desks)))
       → WiresStandFor new.wires (happens s.link (at to (Lose why))) → SiteIs Runs memory_of new (site_loses to why s)
-  counted {new} k s n m to why is on at_host broken host new_on new_off memory runs wires =
-      let Q : Option P → Type 0 = λ a. IsNodePlace Runs memory_of a k.off s.memory s.node (λ h. s.link.host) in
-      let N : Option P → Option Memory → Type 0 = λ a b.
-      IsNodePlace Runs memory_of a b s.memory (counts why s.host s.node) (λ h. (happens s.link (at to (Lose why))).host) in
+  counted {new} k s n m to why is on at_host broken host new_on memory runs wires =
+      let Q : Power P → Type 0 = λ a. IsNodePlace Runs memory_of a s.memory s.node (λ h. s.link.host) in
+      let N : Power P → Type 0 = λ a. IsNodePlace Runs memory_of a s.memory (counts why s.host s.node) (λ h. (happens s.link (at to (Lose why))).host) in
       let S : Site → Type 0 = λ x. SiteIs Runs memory_of new x in
       subst S (sym (by_node to why s (counts why s.host s.node) at_host refl))
       (record {
         host = host ∙ is.host;
         wires = wires;
-        place = subst (λ a. N a new.off) (sym new_on) (subst (N (Some m)) (sym new_off) (go k.off s.node refl (subst Q on is.place)));
+        place = subst N (sym new_on) (go s.node refl (subst Q on is.place));
       })
     where
-      go : (off : Option Memory) (o : Option Running) → s.node ≡ o → IsNodePlace Runs memory_of (Some n) off s.memory o (λ h. s.link.host)
-          → IsNodePlace Runs memory_of (Some m) off s.memory (counts why s.host o) (λ h. (happens s.link (at to (Lose why))).host)
-      go (Some x) o q place = absurd place
-      go None None q place = absurd place
-      go None (Some r) q place =
-          let E : NumberedEnd → Type 0 = λ e. IsNodePlace Runs memory_of (Some m) None s.memory (counts why s.host (Some r)) (λ h. e) in
-          let O : Option Running → Type 0 = λ x. IsNodePlace Runs memory_of (Some m) None s.memory x (λ h. s.link.host) in
+      go : (o : Option Running) → s.node ≡ o → IsNodePlace Runs memory_of (On n) s.memory o (λ h. s.link.host)
+          → IsNodePlace Runs memory_of (On m) s.memory (counts why s.host o) (λ h. (happens s.link (at to (Lose why))).host)
+      go None q place = absurd place
+      go (Some r) q place =
+          let E : NumberedEnd → Type 0 = λ e. IsNodePlace Runs memory_of (On m) s.memory (counts why s.host (Some r)) (λ h. e) in
+          let O : Option Running → Type 0 = λ x. IsNodePlace Runs memory_of (On m) s.memory x (λ h. s.link.host) in
           let R : List Port → Type 0 = λ ps. Runs m r.core ps in
           let H : ℕ → Type 0 = λ h. Runs m r.core (map (λ (d : Desk). port_for s.link.host d) (with_error h r.desks)) in
           let now : H k.host = subst R (error_ports k.host s.link.host r.desks) (runs r.core r.desks place.1 q) in

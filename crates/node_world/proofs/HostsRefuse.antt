@@ -23,7 +23,10 @@ use Rattle.node_laws.proofs.telling.Mute.{AreMute}
 use Rattle.node_laws.proofs.telling.Nodes.{host_opened}
 use Rattle.node_sites.specs.declared.places.HostSite.{HostSite}
 use Rattle.node_sites.specs.WorldNodes.{as_kept}
-use Rattle.node_sites.specs.Places.{IsNodePlace, SiteIs}
+use Rattle.node_sites.specs.declared.power.Power.{Power}
+use Rattle.node_sites.specs.declared.power.Power.TheVariants.{On}
+use Rattle.node_sites.specs.Powers.{IsNodePlace}
+use Rattle.node_sites.specs.Places.{SiteIs}
 use Rattle.node_world.specs.HostSteps.{IsHostOf, HasBecome, reset_noted, reset_refused_at, sending_refused}
 use Rattle.node_world.proofs.HostsAre.{is_on}
 
@@ -66,7 +69,7 @@ own_end k s r host same on =
 
 module _ (P : Type 0) (Runs : P → Core → List Port → Type 0) (memory_of : P → Memory)
     (kept : (n : P) (core : Core) (ports others : List Port) → map as_kept ports ≡ map as_kept others → Runs n core ports → Runs n core others)
-    (k : HostSite P) (s : Site) (n : P) (is : SiteIs Runs memory_of k s) (host : IsHostOf s) (on : k.on ≡ Some n) where
+    (k : HostSite P) (s : Site) (n : P) (is : SiteIs Runs memory_of k s) (host : IsHostOf s) (on : k.power ≡ On n) where
   -- it runs so
   pub record RunsHere : Type 0 where
     pub running : Running
@@ -78,9 +81,8 @@ module _ (P : Type 0) (Runs : P → Core → List Port → Type 0) (memory_of : 
   runs_here =
       let here = is_on P Runs memory_of is on in
       let r : Running = here.running in
-      let Q : Option P → Option Memory → Option Running → Type 0 = λ a b o. IsNodePlace Runs memory_of a b s.memory o (λ h. s.link.host) in
-      let place : Q (Some n) None (Some r) =
-      subst (λ o. Q (Some n) None o) here.runs (subst (λ b. Q (Some n) b s.node) here.off (subst (λ a. Q a k.off s.node) on is.place)) in
+      let Q : Power P → Option Running → Type 0 = λ a o. IsNodePlace Runs memory_of a s.memory o (λ h. s.link.host) in
+      let place : Q (On n) (Some r) = subst (Q (On n)) here.runs (subst (λ a. Q a s.node) on is.place) in
       record { running = r; on_is = here.runs; runs = place.1; end = own_end k.host s r host is.host here.runs }
 
   pub reset_goes : ((core : Core) (ports : List Port) (p : Port) → Runs n core ports → port_at ports k.host ≡ Some p
@@ -109,22 +111,21 @@ module _ (P : Type 0) (Runs : P → Core → List Port → Type 0) (memory_of : 
 -- ## Nothing changed
 
 module _ (P : Type 0) (Runs : P → Core → List Port → Type 0) (memory_of : P → Memory) where
-  pub still_stands : (k : HostSite P) (s : Site) (n m : P) → SiteIs Runs memory_of k s → k.on ≡ Some n
+  pub still_stands : (k : HostSite P) (s : Site) (n m : P) → SiteIs Runs memory_of k s → k.power ≡ On n
       → ((core : Core) (ports : List Port) → Runs n core ports → Runs m core ports) → memory_of m ≡ memory_of n
       → (before now : List Entry) → now ≡ before
-      → HasBecome Runs memory_of (record { host = k.host; wires = k.wires; on = Some m; off = k.off }) before now (s, [])
+      → HasBecome Runs memory_of (record { host = k.host; wires = k.wires; power = On m }) before now (s, [])
   still_stands k s n m is on runs memory before now q =
-      let Q : Option P → Type 0 = λ a. IsNodePlace Runs memory_of a k.off s.memory s.node (λ h. s.link.host) in
+      let Q : Power P → Type 0 = λ a. IsNodePlace Runs memory_of a s.memory s.node (λ h. s.link.host) in
       record {
-        site = record { host = is.host; wires = is.wires; place = go k.off s.node (subst Q on is.place) };
+        site = record { host = is.host; wires = is.wires; place = go s.node (subst Q on is.place) };
         noted = q ∙ sym (append-nil before);
       }
     where
-      go : (off : Option Memory) (o : Option Running) → IsNodePlace Runs memory_of (Some n) off s.memory o (λ h. s.link.host)
-          → IsNodePlace Runs memory_of (Some m) off s.memory o (λ h. s.link.host)
-      go None (Some r) p = (memory ∙ p.0, runs r.core (map (λ (d : Desk). port_for s.link.host d) r.desks) p.1, p.2)
-      go None None p = p
-      go (Some x) o p = p
+      go : (o : Option Running) → IsNodePlace Runs memory_of (On n) s.memory o (λ h. s.link.host)
+          → IsNodePlace Runs memory_of (On m) s.memory o (λ h. s.link.host)
+      go (Some r) p = (memory ∙ p.0, runs r.core (map (λ (d : Desk). port_for s.link.host d) r.desks) p.1, p.2)
+      go None p = p
 
 -- ## What a host sends by itself
 
@@ -144,7 +145,7 @@ sending_on s r m on = rw on refl
 
 module _ (P : Type 0) (Runs : P → Core → List Port → Type 0) (memory_of : P → Memory)
     (kept : (n : P) (core : Core) (ports others : List Port) → map as_kept ports ≡ map as_kept others → Runs n core ports → Runs n core others)
-    (k : HostSite P) (s : Site) (n : P) (is : SiteIs Runs memory_of k s) (host : IsHostOf s) (on : k.on ≡ Some n) (m : Message) where
+    (k : HostSite P) (s : Site) (n : P) (is : SiteIs Runs memory_of k s) (host : IsHostOf s) (on : k.power ≡ On n) (m : Message) where
   -- what a node tells is what the line is refused for
   pub sending_so : (told : Option NoCause)
       → ((core : Core) (ports : List Port) (p : Port) → Runs n core ports → port_at ports k.host ≡ Some p

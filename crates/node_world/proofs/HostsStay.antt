@@ -15,7 +15,10 @@ use Rattle.node_machine.specs.world.World.{Site, host_ticks}
 use Rattle.node_laws.specs.telling.Telling.{IfOff}
 use Rattle.node_sites.specs.declared.places.HostSite.{HostSite}
 use Rattle.node_sites.specs.LinksKept.{SameWires}
-use Rattle.node_sites.specs.Places.{IsNodePlace, SiteIs}
+use Rattle.node_sites.specs.declared.power.Power.{Power}
+use Rattle.node_sites.specs.declared.power.Power.TheVariants.{On, Off}
+use Rattle.node_sites.specs.Powers.{IsNodePlace}
+use Rattle.node_sites.specs.Places.{SiteIs}
 use Rattle.node_world.specs.HostSteps.{MayTick, HasBecome}
 use Rattle.node_world.proofs.GoingOn.{same_stand, same_exchanged, same_twice}
 use Rattle.node_world.proofs.TicksGo.{ticks_on}
@@ -45,21 +48,19 @@ module _ (P : Type 0) (Runs : P → Core → List Port → Type 0) (memory_of : 
       let after : Link = exchanged (ticks_at_controller (exchanged s.link) [] GoesOut) in
       let none : host_ticks s ≡ (record s { link = after }, []) = rw off refl in
       let B : Site × List Entry → Type 0 = λ x. HasBecome Runs memory_of k entries entries x in
-      let Here : Option Running → Type 0 = λ o. IsNodePlace Runs memory_of k.on k.off s.memory o (λ h. s.link.host) in
-      let There : Option Running → Type 0 = λ o. IsNodePlace Runs memory_of k.on k.off s.memory o (λ h. after.host) in
+      let Here : Option Running → Type 0 = λ o. IsNodePlace Runs memory_of k.power s.memory o (λ h. s.link.host) in
+      let There : Option Running → Type 0 = λ o. IsNodePlace Runs memory_of k.power s.memory o (λ h. after.host) in
       subst B (sym none)
       (record {
         site = record {
           host = is.host;
           wires = same_stand (same_exchanged (still_wires (exchanged s.link) side)) is.wires;
-          place = subst There (sym off) (same_place k.on k.off (subst Here off is.place));
+          place = subst There (sym off) (same_place k.power (subst Here off is.place));
         };
         noted = sym (append-nil entries);
       })
     where
-      same_place : (on : Option P) (kept : Option Memory) → IsNodePlace Runs memory_of on kept s.memory None (λ h. s.link.host)
-          → IsNodePlace Runs memory_of on kept s.memory None (λ h. (exchanged (ticks_at_controller (exchanged s.link) [] GoesOut)).host)
-      same_place None (Some m) p = p
-      same_place None None p = p
-      same_place (Some n) (Some m) p = p
-      same_place (Some n) None p = p
+      same_place : (k : Power P) → IsNodePlace Runs memory_of k s.memory None (λ h. s.link.host)
+          → IsNodePlace Runs memory_of k s.memory None (λ h. (exchanged (ticks_at_controller (exchanged s.link) [] GoesOut)).host)
+      same_place (On n) p = p
+      same_place (Off m) p = p

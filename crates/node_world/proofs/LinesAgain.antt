@@ -23,7 +23,7 @@ use Rattle.node_machine.specs.world.NodeHistories.{entries_in}
 use Rattle.node_machine.proofs.world.Cases.{by_coming, by_controller, by_controller_tick, by_host, near_tick, site_ticked, site_unticked}
 use Rattle.node_laws.specs.telling.Telling.{hosts_in}
 use Rattle.node_laws.proofs.telling.Orderly.{hosts_ticked, step_orderly}
-use Rattle.node_world.specs.declared.controller.ControllerPlace.{ControllerPlace}
+use Rattle.node_sites.specs.declared.power.Power.{Power}
 use Rattle.node_sites.specs.declared.places.HostSite.{HostSite}
 use Rattle.node_world.specs.Bounds.{FewBehind}
 use Rattle.node_world.specs.Controllers.{IsThere, MayGoOn, SitesAre, WorldBecomes, WorldIs}
@@ -122,7 +122,7 @@ LeadsTo w c i v events =
 
 -- What is kept after so many of them stands for a world that is in order, and what they caused is noted behind what was noted before.
 pub record Again {C P : Type 0} (CRuns : C → Core → List Port → Type 0) (c_memory : C → Memory) (PRuns : P → Core → List Port → Type 0)
-    (p_memory : P → Memory) (k : ControllerPlace C) (ks : List (HostSite P)) (most : ℕ) (before noted : List Entry) (w : NodeWorld)
+    (p_memory : P → Memory) (k : Power C) (ks : List (HostSite P)) (most : ℕ) (before noted : List Entry) (w : NodeWorld)
     (c : Happening) (i : ℕ) : Type 0 where
   pub behind : NodeWorld
   pub events : List Occurrence
@@ -153,10 +153,10 @@ happens_not v c (suc m) can = rw can refl
 
 module _ (C P : Type 0) (CRuns : C → Core → List Port → Type 0) (c_memory : C → Memory) (PRuns : P → Core → List Port → Type 0)
     (p_memory : P → Memory) (w : NodeWorld) (c : Happening) (most : ℕ) where
-  abbrev IsSo : ControllerPlace C → List (HostSite P) → List Entry → List Entry → ℕ → Type 0
+  abbrev IsSo : Power C → List (HostSite P) → List Entry → List Entry → ℕ → Type 0
   IsSo k ks before noted i = Again CRuns c_memory PRuns p_memory k ks most before noted w c i
 
-  pub again_begins : (k : ControllerPlace C) (ks : List (HostSite P)) (before : List Entry) → WorldIs CRuns c_memory PRuns p_memory k ks w → MayGoOn w
+  pub again_begins : (k : Power C) (ks : List (HostSite P)) (before : List Entry) → WorldIs CRuns c_memory PRuns p_memory k ks w → MayGoOn w
       → FewBehind most w → IsSo k ks before before 0
   again_begins k ks before world may few =
       record {
@@ -173,7 +173,7 @@ module _ (C P : Type 0) (CRuns : C → Core → List Port → Type 0) (c_memory 
   pub bounds_again : (i : ℕ) (v : NodeWorld) → most ≤ 290000000 → i ≤ 1000 → MayGoOn v → FewBehind (most + 2 * i) v → IsWithinBounds v
   bounds_again i v low few_times may few = record { goes_on = may; few = longer (most + 2 * i) 300000000 v (omega (arith, low, few_times)) few }
 
-  pub again_next : (k new : ControllerPlace C) (ks news : List (HostSite P)) (before noted later : List Entry) (i : ℕ)
+  pub again_next : (k new : Power C) (ks news : List (HostSite P)) (before noted later : List Entry) (i : ℕ)
       (a : IsSo k ks before noted i) → can_happen a.behind c ≡ true → hosts_in (world_step a.behind c).0.sites ≡ hosts_in a.behind.sites
       → WorldBecomes CRuns c_memory PRuns p_memory new news noted later (world_step a.behind c) → IsSo new news before later (i + 1)
   again_next k new ks news before noted later i a can same b =
@@ -202,14 +202,14 @@ module _ (C P : Type 0) (CRuns : C → Core → List Port → Type 0) (c_memory 
       }
 
   -- what it is behind so many, where all of them happened, or where the next can't
-  pub again_ends : (k : ControllerPlace C) (ks : List (HostSite P)) (before noted : List Entry) (i : ℕ) (a : IsSo k ks before noted i)
+  pub again_ends : (k : Power C) (ks : List (HostSite P)) (before noted : List Entry) (i : ℕ) (a : IsSo k ks before noted i)
       → all_happen w (replicate i c) ≡ (a.behind, a.events)
   again_ends k ks before noted i a =
       let zero_more : i + 0 ≡ i = omega arith in
       ap (λ n. all_happen w (replicate n c)) (sym zero_more)
       ∙ (a.leads 0 ∙ ap (λ es. let q : NodeWorld × List Occurrence = (a.behind, es) in q) (append-nil a.events))
 
-  pub again_stops : (k : ControllerPlace C) (ks : List (HostSite P)) (before noted : List Entry) (i n : ℕ) (a : IsSo k ks before noted i) → i ≤ n
+  pub again_stops : (k : Power C) (ks : List (HostSite P)) (before noted : List Entry) (i n : ℕ) (a : IsSo k ks before noted i) → i ≤ n
       → can_happen a.behind c ≡ false → all_happen w (replicate n c) ≡ (a.behind, a.events)
   again_stops k ks before noted i n a q can = go (more i n q)
     where
@@ -226,7 +226,7 @@ module _ (C P : Type 0) (CRuns : C → Core → List Port → Type 0) (c_memory 
           ∙ ap (λ es. let q : NodeWorld × List Occurrence = (a.behind, es) in q) (append-nil a.events)))
 
   -- what is kept stands for the world behind so many
-  pub again_goes : (k : ControllerPlace C) (ks : List (HostSite P)) (before noted : List Entry) (i n : ℕ) (a : IsSo k ks before noted i)
+  pub again_goes : (k : Power C) (ks : List (HostSite P)) (before noted : List Entry) (i n : ℕ) (a : IsSo k ks before noted i)
       → all_happen w (replicate n c) ≡ (a.behind, a.events)
       → WorldHasGone CRuns c_memory PRuns p_memory k ks before noted (all_happen w (replicate n c))
   again_goes k ks before noted i n a same =
@@ -234,7 +234,7 @@ module _ (C P : Type 0) (CRuns : C → Core → List Port → Type 0) (c_memory 
       subst G (sym same) (record { world = a.world; noted = a.told })
 
   -- the line at which they happen is played behind them
-  pub again_plays : (said : Line) (k : ControllerPlace C) (ks : List (HostSite P)) (before noted : List Entry) (i n : ℕ)
+  pub again_plays : (said : Line) (k : Power C) (ks : List (HostSite P)) (before noted : List Entry) (i n : ℕ)
       (a : IsSo k ks before noted i) → before ≡ [] → refusal_in w said ≡ None → goes_on w said ≡ of_all (all_happen w (replicate n c))
       → all_happen w (replicate n c) ≡ (a.behind, a.events) → LinePlayed CRuns c_memory PRuns p_memory k ks noted (line_step w said)
   again_plays said k ks before noted i n a none e goes same =

@@ -15,7 +15,7 @@ use Rattle.node_machine.specs.Parts.{Core, Port, Running}
 use Rattle.node_machine.specs.world.World.{NodeWorld, Happening, Site, site_at, world_step}
 use Rattle.node_machine.specs.world.Lines.{first_cause, goes_on, if_off, is_running, line_step, refusal_in}
 use Rattle.node_laws.specs.telling.Telling.{hosts_in}
-use Rattle.node_world.specs.declared.controller.ControllerPlace.{ControllerPlace}
+use Rattle.node_sites.specs.declared.power.Power.{Power}
 use Rattle.node_sites.specs.declared.places.HostSite.{HostSite}
 use Rattle.node_world.specs.Controllers.{IsThere, WorldIs, WorldBecomes}
 use Rattle.node_world.specs.Whole.{LinePlayed}
@@ -40,7 +40,7 @@ stands_not (Some r) e = absurd (cc e)
 -- ## What becomes of a line
 
 module _ (w : NodeWorld) (said : Line) (C P : Type 0) (CRuns : C → Core → List Port → Type 0) (c_memory : C → Memory)
-    (PRuns : P → Core → List Port → Type 0) (p_memory : P → Memory) (k : ControllerPlace C) (ks : List (HostSite P)) (before now : List Entry)
+    (PRuns : P → Core → List Port → Type 0) (p_memory : P → Memory) (k : Power C) (ks : List (HostSite P)) (before now : List Entry)
     (none : before ≡ []) where
   pub line_refused : (cause : NoCause) → refusal_in w said ≡ Some cause → WorldIs CRuns c_memory PRuns p_memory k ks w
       → now ≡ before ++ note.No cause ∷ [] → LinePlayed CRuns c_memory PRuns p_memory k ks now (line_step w said)

@@ -15,7 +15,7 @@ use Rattle.node_machine.specs.world.World.{NodeWorld, Site, Happening, site_at, 
 use Rattle.node_machine.specs.world.Lines.{LineOutcome, refusal_in, goes_on, line_step}
 use Rattle.node_machine.specs.world.Lines.LineOutcome.{WasRefused, Occurred}
 use Rattle.node_laws.specs.telling.Telling.{hosts_in}
-use Rattle.node_world.specs.declared.controller.ControllerPlace.{ControllerPlace}
+use Rattle.node_sites.specs.declared.power.Power.{Power}
 use Rattle.node_sites.specs.declared.places.HostSite.{HostSite}
 use Rattle.node_world.specs.Controllers.{SitesAre, WorldIs, WorldBecomes, IsThere}
 use Rattle.node_world.specs.Whole.{HostsPlayed, IsWithinBounds, LinePlayed, MayPlay, SitesBecome}
@@ -59,7 +59,7 @@ goes_is : (w : NodeWorld) (said : Line) → refusal_in w said ≡ None → line_
 goes_is w said e = rw e refl
 
 module _ (w : NodeWorld) (said : Line) (C P : Type 0) (CRuns : C → Core → List Port → Type 0) (c_memory : C → Memory)
-    (PRuns : P → Core → List Port → Type 0) (p_memory : P → Memory) (k : ControllerPlace C) (ks : List (HostSite P)) where
+    (PRuns : P → Core → List Port → Type 0) (p_memory : P → Memory) (k : Power C) (ks : List (HostSite P)) where
   pub world_refused : (cause : NoCause) (now : List Entry) → refusal_in w said ≡ Some cause → WorldIs CRuns c_memory PRuns p_memory k ks w
       → now ≡ note.No cause ∷ [] → LinePlayed CRuns c_memory PRuns p_memory k ks now (line_step w said)
   world_refused cause now e world noted =

@@ -17,10 +17,12 @@ use Rattle.node_machine.specs.world.Rounds.{sites_rest}
 use Rattle.node_laws.specs.telling.Telling.{HasEnds, IfItRuns, IfOff, hosts_in}
 use Rattle.node_laws.proofs.telling.Nodes.{link_is}
 use Rattle.node_ends.specs.Ends.{are_at_rest}
-use Rattle.node_world.specs.declared.controller.ControllerPlace.{ControllerPlace}
+use Rattle.node_sites.specs.declared.power.Power.{Power}
 use Rattle.node_sites.specs.declared.places.HostSite.{HostSite}
 use Rattle.node_world.specs.Controllers.{AreTimely, MayGoOn, SitesAre}
-use Rattle.node_sites.specs.Places.{IsNodePlace, SiteIs}
+use Rattle.node_sites.specs.declared.power.Power.TheVariants.{On, Off}
+use Rattle.node_sites.specs.Powers.{IsNodePlace}
+use Rattle.node_sites.specs.Places.{SiteIs}
 use Rattle.node_world.specs.Rounds.{IsToLookAt, far_rests, near_rests}
 use Rattle.node_world.proofs.Behind.{each_found}
 use Rattle.node_world.proofs.PlacesFound.{There, there}
@@ -124,52 +126,45 @@ module _ (P : Type 0) (Runs : P → Core → List Port → Type 0) (memory_of : 
   abbrev pub IsSaid : P → Bool → Type 0
   IsSaid n b = (core : Core) (ports : List Port) → Runs n core ports → b ≡ are_at_rest ports
 
-  pub host_says : (k : HostSite P) (s : Site) (n : P) (b : Bool) → SiteIs Runs memory_of k s → k.on ≡ Some n → IsToLookAt s → IsSaid n b
+  pub host_says : (k : HostSite P) (s : Site) (n : P) (b : Bool) → SiteIs Runs memory_of k s → k.power ≡ On n → IsToLookAt s → IsSaid n b
       → b ≡ end_rests s.link.host.side
   host_says k s n b is on may says =
-      go k.off s.node refl (subst (λ (o : Option P). IsNodePlace Runs memory_of o k.off s.memory s.node (λ h. s.link.host)) on is.place)
+      go s.node refl (subst (λ (p : Power P). IsNodePlace Runs memory_of p s.memory s.node (λ h. s.link.host)) on is.place)
     where
-      go : (off : Option Memory) (o : Option Running) → s.node ≡ o → IsNodePlace Runs memory_of (Some n) off s.memory o (λ h. s.link.host)
-          → b ≡ end_rests s.link.host.side
-      go None (Some r) q place = says r.core (map (λ (d : Desk). port_for s.link.host d) r.desks) place.1 ∙ host_end_rests s r q may
-      go None None q place = absurd place
-      go (Some m) o q place = absurd place
+      go : (o : Option Running) → s.node ≡ o → IsNodePlace Runs memory_of (On n) s.memory o (λ h. s.link.host) → b ≡ end_rests s.link.host.side
+      go (Some r) q place = says r.core (map (λ (d : Desk). port_for s.link.host d) r.desks) place.1 ∙ host_end_rests s r q may
+      go None q place = absurd place
 
-  pub host_is_new : (k : HostSite P) (s : Site) → SiteIs Runs memory_of k s → k.on ≡ None → IsToLookAt s → true ≡ end_rests s.link.host.side
-  host_is_new k s is on may =
-      go k.off s.node refl (subst (λ (o : Option P). IsNodePlace Runs memory_of o k.off s.memory s.node (λ h. s.link.host)) on is.place)
+  pub host_is_new : (k : HostSite P) (s : Site) (m : Memory) → SiteIs Runs memory_of k s → k.power ≡ Off m → IsToLookAt s
+      → true ≡ end_rests s.link.host.side
+  host_is_new k s m is off may =
+      go s.node refl (subst (λ (p : Power P). IsNodePlace Runs memory_of p s.memory s.node (λ h. s.link.host)) off is.place)
     where
-      go : (off : Option Memory) (o : Option Running) → s.node ≡ o → IsNodePlace Runs memory_of None off s.memory o (λ h. s.link.host)
-          → true ≡ end_rests s.link.host.side
-      go (Some m) None q place = sym (new_host_rests s q may)
-      go (Some m) (Some r) q place = absurd place
-      go None o q place = absurd place
+      go : (o : Option Running) → s.node ≡ o → IsNodePlace Runs memory_of (Off m) s.memory o (λ h. s.link.host) → true ≡ end_rests s.link.host.side
+      go None q place = sym (new_host_rests s q may)
+      go (Some r) q place = absurd place
 
-  module _ (w : NodeWorld) (may : MayGoOn w) (k : ControllerPlace P)
-      (is : IsNodePlace Runs memory_of k.on k.off w.memory w.controller (λ h. (link_to w.sites h).controller)) where
+  module _ (w : NodeWorld) (may : MayGoOn w) (k : Power P)
+      (is : IsNodePlace Runs memory_of k w.memory w.controller (λ h. (link_to w.sites h).controller)) where
     abbrev near : ℕ → NumberedEnd
     near h = (link_to w.sites h).controller
 
-    pub controller_says : (n : P) (b : Bool) → k.on ≡ Some n → IsSaid n b → b ≡ list_all near_rests w.sites
+    pub controller_says : (n : P) (b : Bool) → k ≡ On n → IsSaid n b → b ≡ list_all near_rests w.sites
     controller_says n b on says =
-        go k.off w.controller refl (subst (λ (o : Option P). IsNodePlace Runs memory_of o k.off w.memory w.controller near) on is)
+        go w.controller refl (subst (λ (p : Power P). IsNodePlace Runs memory_of p w.memory w.controller near) on is)
       where
-        go : (off : Option Memory) (o : Option Running) → w.controller ≡ o → IsNodePlace Runs memory_of (Some n) off w.memory o near
-            → b ≡ list_all near_rests w.sites
-        go None (Some r) q place =
+        go : (o : Option Running) → w.controller ≡ o → IsNodePlace Runs memory_of (On n) w.memory o near → b ≡ list_all near_rests w.sites
+        go (Some r) q place =
             says r.core (map (λ (d : Desk). port_for (near d.host) d) r.desks) place.1 ∙ controller_ends_rest w may r q
-        go None None q place = absurd place
-        go (Some m) o q place = absurd place
+        go None q place = absurd place
 
-    pub controller_is_new : AreTimely w → k.on ≡ None → true ≡ list_all near_rests w.sites
-    controller_is_new timely on =
-        go k.off w.controller refl (subst (λ (o : Option P). IsNodePlace Runs memory_of o k.off w.memory w.controller near) on is)
+    pub controller_is_new : (m : Memory) → AreTimely w → k ≡ Off m → true ≡ list_all near_rests w.sites
+    controller_is_new m timely off =
+        go w.controller refl (subst (λ (p : Power P). IsNodePlace Runs memory_of p w.memory w.controller near) off is)
       where
-        go : (off : Option Memory) (o : Option Running) → w.controller ≡ o → IsNodePlace Runs memory_of None off w.memory o near
-            → true ≡ list_all near_rests w.sites
-        go (Some m) None q place = new_ends_rest w may timely q
-        go (Some m) (Some r) q place = absurd place
-        go None o q place = absurd place
+        go : (o : Option Running) → w.controller ≡ o → IsNodePlace Runs memory_of (Off m) w.memory o near → true ≡ list_all near_rests w.sites
+        go None q place = new_ends_rest w may timely q
+        go (Some r) q place = absurd place
 
 -- ## All links
 

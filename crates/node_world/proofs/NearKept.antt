@@ -17,12 +17,13 @@ use Rattle.node_machine.specs.Node.NodeInput.{AtEnd, TimePasses}
 use Rattle.node_machine.specs.world.World.{NodeWorld, Site, site_at, link_to, port_for, turns_at, ending_of, host_work, input_of, host_cut}
 use Rattle.node_laws.specs.telling.Telling.{IsOrderly}
 use Rattle.node_laws.proofs.telling.Nodes.{site_host}
-use Rattle.node_world.specs.declared.controller.ControllerPlace.{ControllerPlace}
+use Rattle.node_sites.specs.declared.power.Power.{Power}
+use Rattle.node_sites.specs.declared.power.Power.TheVariants.{On, Off}
 use Rattle.node_sites.specs.declared.places.HostSite.{HostSite}
 use Rattle.node_world.specs.Bounds.{FewOnEach, FewBehind}
 use Rattle.node_world.specs.Controllers.{SitesAre, StandsAt, WorldIs, WorldBecomes, HaveRoom, FewAreCounted, FewAreCountedAt}
 use Rattle.node_world.specs.HostSteps.{host_stepped, host_hears, site_loses}
-use Rattle.node_sites.specs.Places.{IsNodePlace}
+use Rattle.node_sites.specs.Powers.{IsNodePlace}
 use Rattle.node_world.specs.Whole.{SitesBecome, if_accepted}
 use Rattle.node_world.proofs.AtHosts.{GivesSendable, from_outside, room_there, site_changes}
 use Rattle.node_world.proofs.CountsStay.{acks_of_ports, counts_few_at_end, counts_few_in_tick, few_to}
@@ -104,11 +105,11 @@ module _ (w : NodeWorld) (h : ℕ) (s : Site) (found : site_at w.sites h ≡ Som
 
   module _ (C P : Type 0) (CRuns : C → Core → List Port → Type 0) (c_memory : C → Memory) (PRuns : P → Core → List Port → Type 0)
       (p_memory : P → Memory) where
-    pub host_becomes : (k : ControllerPlace C) (ks new : List (HostSite P)) (before later : List Entry)
+    pub host_becomes : (k : Power C) (ks new : List (HostSite P)) (before later : List Entry)
         → WorldIs CRuns c_memory PRuns p_memory k ks w → SitesBecome PRuns p_memory new before later now
         → WorldBecomes CRuns c_memory PRuns p_memory k new before later now
     host_becomes k ks new before later world b =
-        let Q : Memory → Option Running → (ℕ → NumberedEnd) → Type 0 = λ m node near. IsNodePlace CRuns c_memory k.on k.off m node near in
+        let Q : Memory → Option Running → (ℕ → NumberedEnd) → Type 0 = λ m node near. IsNodePlace CRuns c_memory k m node near in
         let memory : now.0.memory ≡ w.memory = ap (λ (v : NodeWorld). v.memory) c.world in
         let node : now.0.controller ≡ w.controller = ap (λ (v : NodeWorld). v.controller) c.world in
         let one = subst (λ near. Q w.memory w.controller near) (sym all_left) world.controller in
@@ -118,7 +119,7 @@ module _ (w : NodeWorld) (h : ℕ) (s : Site) (found : site_at w.sites h ≡ Som
           noted = b.noted;
         }
 
-    pub host_becomes_unless : (k : ControllerPlace C) (ks new : List (HostSite P)) (before later : List Entry) (cause : Option NoCause)
+    pub host_becomes_unless : (k : Power C) (ks new : List (HostSite P)) (before later : List Entry) (cause : Option NoCause)
         → WorldIs CRuns c_memory PRuns p_memory k ks w → SitesBecome PRuns p_memory new before later (if_accepted cause w now)
         → WorldBecomes CRuns c_memory PRuns p_memory k new before later (if_accepted cause w now)
     host_becomes_unless k ks new before later None world b = host_becomes k ks new before later world b
@@ -142,21 +143,18 @@ pub room_for_all : (P : Type 0) (Runs : P → Core → List Port → Type 0) (me
 room_for_all P Runs memory_of ks w a f = have_room P Runs memory_of ks w.sites a f
 
 module _ (C : Type 0) (Runs : C → Core → List Port → Type 0) (memory_of : C → Memory) (given : GivesSendable C Runs memory_of) where
-  on_sendable : (on : Option C) (off : Option Memory) (m : Memory) (node : Option Running) (near : ℕ → NumberedEnd) (r : Running)
-      → IsNodePlace Runs memory_of on off m node near → node ≡ Some r
+  on_sendable : (k : Power C) (m : Memory) (node : Option Running) (near : ℕ → NumberedEnd) (r : Running)
+      → IsNodePlace Runs memory_of k m node near → node ≡ Some r
       → AllByRecursion (λ (p : Port). AreSendable p.side.sent) (map (λ (d : Desk). port_for (near d.host) d) r.desks)
-  on_sendable (Some n) None m (Some q) near r place e =
+  on_sendable (On n) m (Some q) near r place e =
       let one : q ≡ r = cc in
       let S : Running → Type 0 = λ x. AllByRecursion (λ (p : Port). AreSendable p.side.sent) (map (λ (d : Desk). port_for (near d.host) d) x.desks) in
       subst S one (given n q.core (map (λ (d : Desk). port_for (near d.host) d) q.desks) place.1)
-  on_sendable (Some n) None m None near r place e = absurd (cc e)
-  on_sendable (Some n) (Some k) m o near r place e = absurd place
-  on_sendable None (Some k) m None near r place e = absurd (cc e)
-  on_sendable None (Some k) m (Some q) near r place e = absurd place
-  on_sendable None None m o near r place e = absurd place
+  on_sendable k m None near r place e = absurd (cc e)
+  on_sendable (Off kept) m (Some q) near r place e = absurd place
 
-  pub counted_at : (k : ControllerPlace C) (w : NodeWorld) (h : ℕ) (comes : Comes)
-      → IsNodePlace Runs memory_of k.on k.off w.memory w.controller (near_of w.sites) → FewBehind 300000000 w → FewAreCountedAt h comes w
+  pub counted_at : (k : Power C) (w : NodeWorld) (h : ℕ) (comes : Comes)
+      → IsNodePlace Runs memory_of k w.memory w.controller (near_of w.sites) → FewBehind 300000000 w → FewAreCountedAt h comes w
   counted_at k w h comes place few i q = go w.controller refl
     where
       go : (o : Option Running) → w.controller ≡ o → FewAreCounted (AtEnd h i) w
@@ -166,11 +164,11 @@ module _ (C : Type 0) (Runs : C → Core → List Port → Type 0) (memory_of : 
           (counts_few_at_end 300000000 h i (map (λ (d : Desk). port_for (near_of w.sites d.host) d) r.desks) (omega arith)
           (from_outside (link_to w.sites h) comes i q)
           (acks_of_ports 300000000 (near_of w.sites) (λ j. (few_to 300000000 j w.sites few).controller) r.desks)
-          (on_sendable k.on k.off w.memory w.controller (near_of w.sites) r place e))
+          (on_sendable k w.memory w.controller (near_of w.sites) r place e))
 
   -- and in a tick
-  pub counted_in_tick : (k : ControllerPlace C) (w : NodeWorld)
-      → IsNodePlace Runs memory_of k.on k.off w.memory w.controller (near_of w.sites) → FewBehind 300000000 w → FewAreCounted TimePasses w
+  pub counted_in_tick : (k : Power C) (w : NodeWorld)
+      → IsNodePlace Runs memory_of k w.memory w.controller (near_of w.sites) → FewBehind 300000000 w → FewAreCounted TimePasses w
   counted_in_tick k w place few = go w.controller refl
     where
       go : (o : Option Running) → w.controller ≡ o → FewAreCounted TimePasses w
@@ -179,7 +177,7 @@ module _ (C : Type 0) (Runs : C → Core → List Port → Type 0) (memory_of : 
           rw e
           (counts_few_in_tick 300000000 (map (λ (d : Desk). port_for (near_of w.sites d.host) d) r.desks) (omega arith)
           (acks_of_ports 300000000 (near_of w.sites) (λ j. (few_to 300000000 j w.sites few).controller) r.desks)
-          (on_sendable k.on k.off w.memory w.controller (near_of w.sites) r place e))
+          (on_sendable k w.memory w.controller (near_of w.sites) r place e))
 
 pub cut_leaves : (s : Site) → LeavesNear s (host_cut s)
 cut_leaves s = record { host = refl; near = far_stays (exchanged s.link) NoInput [] CutOff }

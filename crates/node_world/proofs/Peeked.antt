@@ -1,5 +1,5 @@
 -- A memory in order that is read while its node is at rest is what a boot of the node would find.
-use Rattle.std.proofs.Common.{◌≡◌, inl, inr, ℕ, ◌==◌, Bool, true, false, List, [], ◌∷◌, length, refl, ap, ◌∙◌}
+use Rattle.std.proofs.Common.{◌≡◌, ℕ, ◌==◌, Bool, true, false, List, [], ◌∷◌, length, refl, ap, ◌∙◌}
 use Rattle.std.specs.Prelude.{Option, Some, None}
 use Rattle.std.specs.Option.{option_map, option_map_or}
 use Rattle.swp_base.specs.InMemory.{Memory}
@@ -13,14 +13,12 @@ use Rattle.journal_laws.specs.Operations.{started_state}
 use Rattle.journal_laws.specs.Planned.{fails_within, after_planned}
 use Rattle.hci_tables.specs.Tables.{close}
 use Rattle.hci_store.specs.Image.{tables_of}
-use Rattle.node_machine.specs.Parts.{Running, Core, Port}
-use Rattle.link_laws.specs.messages.Links.{NumberedEnd}
+use Rattle.node_machine.specs.Parts.{Running}
 use Rattle.node_machine.specs.Node.{boot_writes}
 use Rattle.node_machine.specs.world.World.{NodeWorld, Site, site_at, with_site, host_cut, loses_power_at, memory_at, with_memory, with_node, node_at, boots}
 use Rattle.node_machine.proofs.world.Cases.{boot_found, boot_written}
 use Rattle.node_sites.specs.Memories.{IsSoundMemory}
-use Rattle.node_sites.specs.Places.{IsNodePlace}
-use Rattle.node_world.specs.Worlds.{IsOneOf, IsPeekedSo, at_rest, memory_kept}
+use Rattle.node_world.specs.Worlds.{IsPeekedSo, at_rest}
 
 -- ## A host that is changed
 
@@ -129,24 +127,3 @@ module _ (w : NodeWorld) (n : ℕ) (there : (n == 0) ≡ false → (s : Site) ×
             ap (λ (p : NodeWorld × List Entry). option_map (λ (r : Running). r.core.tables) (node_at p.0 n)) so
             ∙ (ap (λ (o : Option Running). option_map (λ (r : Running). r.core.tables) o) put ∙ ap (λ c. Some (close (tables_of c))) same);
       }
-
--- ## What is kept
-
-module _ (P : Type 0) (Runs : P → Core → List Port → Type 0) (memory_of : P → Memory) where
-  pub one_of : (on : Option P) (off : Option Memory) (m : Memory) (o : Option Running) (near : ℕ → NumberedEnd)
-      → IsNodePlace Runs memory_of on off m o near → IsOneOf on off
-  one_of (Some n) None m (Some r) near place = inl (λ z. cc z)
-  one_of None (Some kept) m None near place = inr (λ z. cc z)
-  one_of (Some n) None m None near place = absurd place
-  one_of (Some n) (Some kept) m o near place = absurd place
-  one_of None (Some kept) m (Some r) near place = absurd place
-  one_of None None m o near place = absurd place
-
-  pub kept_is : (on : Option P) (off : Option Memory) (m : Memory) (o : Option Running) (near : ℕ → NumberedEnd)
-      → IsNodePlace Runs memory_of on off m o near → memory_kept memory_of on off ≡ Some m
-  kept_is (Some n) None m (Some r) near place = ap (λ x. Some x) place.0
-  kept_is None (Some kept) m None near place = ap (λ x. Some x) place
-  kept_is (Some n) None m None near place = absurd place
-  kept_is (Some n) (Some kept) m o near place = absurd place
-  kept_is None (Some kept) m (Some r) near place = absurd place
-  kept_is None None m o near place = absurd place

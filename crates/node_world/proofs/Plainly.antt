@@ -10,7 +10,9 @@ use Rattle.node_machine.specs.Parts.{Core, Port}
 use Rattle.node_machine.specs.world.World.{Site}
 use Rattle.node_sites.specs.declared.places.HostSite.{HostSite}
 use Rattle.node_sites.specs.LinksKept.{WiresStandFor}
-use Rattle.node_sites.specs.Places.{IsNodePlace, SiteIs}
+use Rattle.node_sites.specs.declared.power.Power.{Power}
+use Rattle.node_sites.specs.Powers.{IsNodePlace}
+use Rattle.node_sites.specs.Places.{SiteIs}
 
 module _ (P : Type 0) (Runs : P → Core → List Port → Type 0) (memory_of : P → Memory) where
   pub same_host : (to : End) (l : Link) (why : Loss) → (happens l (at to (Lose why))).host ≡ l.host
@@ -20,14 +22,14 @@ module _ (P : Type 0) (Runs : P → Core → List Port → Type 0) (memory_of : 
       go true q = rw q refl
       go false q = rw q refl
 
-  pub was_lost : {old new : HostSite P} (s : Site) (to : End) (why : Loss) → SiteIs Runs memory_of old s → new.host ≡ old.host → new.on ≡ old.on
-      → new.off ≡ old.off → WiresStandFor new.wires (happens s.link (at to (Lose why)))
+  pub was_lost : {old new : HostSite P} (s : Site) (to : End) (why : Loss) → SiteIs Runs memory_of old s → new.host ≡ old.host → new.power ≡ old.power
+      → WiresStandFor new.wires (happens s.link (at to (Lose why)))
       → SiteIs Runs memory_of new (record s { link = happens s.link (at to (Lose why)) })
-  was_lost {old} {new} s to why is host on off wires =
-      let Q : NumberedEnd → Type 0 = λ e. IsNodePlace Runs memory_of new.on new.off s.memory s.node (λ h. e) in
-      let A : Option P → Option Memory → Type 0 = λ a b. IsNodePlace Runs memory_of a b s.memory s.node (λ h. s.link.host) in
+  was_lost {old} {new} s to why is host same wires =
+      let Q : NumberedEnd → Type 0 = λ e. IsNodePlace Runs memory_of new.power s.memory s.node (λ h. e) in
+      let A : Power P → Type 0 = λ a. IsNodePlace Runs memory_of a s.memory s.node (λ h. s.link.host) in
       record {
         host = host ∙ is.host;
         wires = wires;
-        place = subst Q (sym (same_host to s.link why)) (subst (λ a. A a new.off) (sym on) (subst (A old.on) (sym off) is.place));
+        place = subst Q (sym (same_host to s.link why)) (subst A (sym same) is.place);
       }

@@ -15,7 +15,7 @@ use Rattle.node_machine.specs.Node.{begins_with}
 use Rattle.node_machine.specs.world.World.{NodeWorld, Site, host_does, sending, beginning}
 use Rattle.node_machine.specs.world.Lines.{LineOutcome, goes_on, line_step, refusal_in}
 use Rattle.node_machine.specs.world.Lines.LineOutcome.{WasRefused}
-use Rattle.node_world.specs.declared.controller.ControllerPlace.{ControllerPlace}
+use Rattle.node_sites.specs.declared.power.Power.{Power}
 use Rattle.node_sites.specs.declared.places.HostSite.{HostSite}
 use Rattle.node_world.specs.Controllers.{SitesAre, WorldIs, IsThere}
 use Rattle.node_world.specs.HostSteps.{host_stepped}
@@ -25,7 +25,7 @@ use Rattle.node_world.proofs.LinesGo.{is_there}
 use Rattle.node_world.proofs.NearKept.{host_becomes, stepped_leaves}
 
 module _ (C P : Type 0) (CRuns : C → Core → List Port → Type 0) (c_memory : C → Memory) (PRuns : P → Core → List Port → Type 0)
-    (p_memory : P → Memory) (k : ControllerPlace C) (ks new : List (HostSite P)) (noted : List Entry) (header : Header) (w : NodeWorld)
+    (p_memory : P → Memory) (k : Power C) (ks new : List (HostSite P)) (noted : List Entry) (header : Header) (w : NodeWorld)
     (world : WorldIs CRuns c_memory PRuns p_memory k ks w) where
   abbrev StillIs : NodeWorld → Type 0
   StillIs v = WorldIs CRuns c_memory PRuns p_memory k new v

@@ -20,7 +20,7 @@ use Rattle.node_machine.specs.world.Rounds.{end_takes_all, ends_in_order, ends_t
 use Rattle.node_laws.specs.telling.Telling.{hosts_in}
 use Rattle.node_laws.proofs.telling.Orderly.{step_orderly}
 use Rattle.node_laws.proofs.rounds.Ends.{ends_of, order_is}
-use Rattle.node_world.specs.declared.controller.ControllerPlace.{ControllerPlace}
+use Rattle.node_sites.specs.declared.power.Power.{Power}
 use Rattle.node_sites.specs.declared.places.HostSite.{HostSite}
 use Rattle.node_world.specs.Bounds.{FewBehind}
 use Rattle.node_world.specs.Controllers.{MayGoOn, SitesAre, WorldBecomes, WorldIs}
@@ -73,7 +73,7 @@ followed_by events p = (p.0, events ++ p.1)
 
 -- Of these ends the ones that are left have still to take what stands on their wires; what is kept stands for the world behind the others.
 pub record HaveTaken {C P : Type 0} (CRuns : C → Core → List Port → Type 0) (c_memory : C → Memory) (PRuns : P → Core → List Port → Type 0)
-    (p_memory : P → Memory) (k : ControllerPlace C) (ks : List (HostSite P)) (before noted : List Entry) (w : NodeWorld) (ends left : List End)
+    (p_memory : P → Memory) (k : Power C) (ks : List (HostSite P)) (before noted : List Entry) (w : NodeWorld) (ends left : List End)
     (n : ℕ) : Type 0 where
   pub behind : NodeWorld
   pub events : List Occurrence
@@ -103,11 +103,11 @@ found_among h (x ∷ front) back (s ∷ sites) q =
 
 module _ (C P : Type 0) (CRuns : C → Core → List Port → Type 0) (c_memory : C → Memory) (PRuns : P → Core → List Port → Type 0)
     (p_memory : P → Memory) (w : NodeWorld) where
-  abbrev pub Taken : ControllerPlace C → List (HostSite P) → List Entry → List Entry → List End → List End → ℕ → Type 0
+  abbrev pub Taken : Power C → List (HostSite P) → List Entry → List Entry → List End → List End → ℕ → Type 0
   Taken k ks before noted ends left n = HaveTaken CRuns c_memory PRuns p_memory k ks before noted w ends left n
 
   -- the next of them takes what stands there
-  pub taken_next : (k new : ControllerPlace C) (ks news : List (HostSite P)) (before noted later : List Entry) (ends : List End) (e : End)
+  pub taken_next : (k new : Power C) (ks news : List (HostSite P)) (before noted later : List Entry) (ends : List End) (e : End)
       (left : List End) (n : ℕ) (a : Taken k ks before noted ends (e ∷ left) n)
       → WorldHasGone CRuns c_memory PRuns p_memory new news noted later (end_takes_all a.behind e) → Taken new news before later ends left (n + 128)
   taken_next k new ks news before noted later ends e left n a b =
@@ -131,7 +131,7 @@ module _ (C P : Type 0) (CRuns : C → Core → List Port → Type 0) (c_memory 
       }
 
   -- it may
-  pub may_take : (k : ControllerPlace C) (ks : List (HostSite P)) (before noted : List Entry) (ends : List End) (e : End) (left : List End) (n : ℕ)
+  pub may_take : (k : Power C) (ks : List (HostSite P)) (before noted : List Entry) (ends : List End) (e : End) (left : List End) (n : ℕ)
       (front back : List ℕ) → (a : Taken k ks before noted ends (e ∷ left) n) → n ≤ 290000000 → hosts_in w.sites ≡ front ++ e.link ∷ back
       → MayTakeAll e a.behind
   may_take k ks before noted ends e left n front back a most among =
@@ -144,14 +144,14 @@ module _ (C P : Type 0) (CRuns : C → Core → List Port → Type 0) (c_memory 
   -- ## Links one after another
 
   -- the ends of the first links have taken what stood on their wires
-  pub record HaveTakenSo (k : ControllerPlace C) (ks : List (HostSite P)) (before noted : List Entry) (i : ℕ) : Type 0 where
+  pub record HaveTakenSo (k : Power C) (ks : List (HostSite P)) (before noted : List Entry) (i : ℕ) : Type 0 where
     pub done : List ℕ
     pub left : List ℕ
     pub is : hosts_in w.sites ≡ done ++ left
     pub place : length done ≡ i
     pub taken : Taken k ks before noted (ends_in_order w) (ends_of left) (250000000 + 256 * i)
 
-  pub taking_begins : (k : ControllerPlace C) (ks : List (HostSite P)) (before : List Entry) → WorldIs CRuns c_memory PRuns p_memory k ks w
+  pub taking_begins : (k : Power C) (ks : List (HostSite P)) (before : List Entry) → WorldIs CRuns c_memory PRuns p_memory k ks w
       → MayTakeInOrder w → HaveTakenSo k ks before before 0
   taking_begins k ks before world may =
       record {
@@ -191,7 +191,7 @@ module _ (C P : Type 0) (CRuns : C → Core → List Port → Type 0) (c_memory 
       host_read ks front h back (length front) site rest refl (read ∙ ap (λ n. get_or (k ∷ ks) n site) (sym place))
 
   -- the next link, as its number is read
-  pub record NextLink (k : ControllerPlace C) (ks : List (HostSite P)) (before noted : List Entry) (i h : ℕ) : Type 0 where
+  pub record NextLink (k : Power C) (ks : List (HostSite P)) (before noted : List Entry) (i h : ℕ) : Type 0 where
     pub done : List ℕ
     pub back : List ℕ
     pub is : hosts_in w.sites ≡ done ++ h ∷ back
@@ -199,7 +199,7 @@ module _ (C P : Type 0) (CRuns : C → Core → List Port → Type 0) (c_memory 
     pub few : i ≤ 7
     pub taken : Taken k ks before noted (ends_in_order w) (end_c h ∷ end_h h ∷ ends_of back) (250000000 + 256 * i)
 
-  pub next_link : (k : ControllerPlace C) (ks : List (HostSite P)) (before noted : List Entry) (i : ℕ) (site : HostSite P)
+  pub next_link : (k : Power C) (ks : List (HostSite P)) (before noted : List Entry) (i : ℕ) (site : HostSite P)
       → HaveTakenSo k ks before noted i → MayTakeInOrder w → i < length ks → site ≡ get_or ks i site → NextLink k ks before noted i site.host
   next_link k ks before noted i site a may below read = go a.left refl
     where
@@ -230,7 +230,7 @@ module _ (C P : Type 0) (CRuns : C → Core → List Port → Type 0) (c_memory 
           }
 
   -- both of its ends have taken what stood on their wires
-  pub link_taken : (k new : ControllerPlace C) (ks news : List (HostSite P)) (before noted later : List Entry) (i h : ℕ)
+  pub link_taken : (k new : Power C) (ks news : List (HostSite P)) (before noted later : List Entry) (i h : ℕ)
       (a : NextLink k ks before noted i h)
       → Taken new news before later (ends_in_order w) (ends_of a.back) (250000000 + 256 * i + 128 + 128) → HaveTakenSo new news before later (i + 1)
   link_taken k new ks news before noted later i h a b =
@@ -245,11 +245,11 @@ module _ (C P : Type 0) (CRuns : C → Core → List Port → Type 0) (c_memory 
       }
 
   -- all of them have
-  pub record AllTaken (k : ControllerPlace C) (ks : List (HostSite P)) (before noted : List Entry) : Type 0 where
+  pub record AllTaken (k : Power C) (ks : List (HostSite P)) (before noted : List Entry) : Type 0 where
     pub gone : WorldHasGone CRuns c_memory PRuns p_memory k ks before noted (ends_take_all w (ends_in_order w))
     pub within : IsWithinBounds (ends_take_all w (ends_in_order w)).0
 
-  pub taking_ends : (k : ControllerPlace C) (ks : List (HostSite P)) (before noted : List Entry) (i : ℕ) → HaveTakenSo k ks before noted i
+  pub taking_ends : (k : Power C) (ks : List (HostSite P)) (before noted : List Entry) (i : ℕ) → HaveTakenSo k ks before noted i
       → MayTakeInOrder w → length ks ≤ i → AllTaken k ks before noted
   taking_ends k ks before noted i a may over = go a.left refl
     where
@@ -281,7 +281,7 @@ module _ (C P : Type 0) (CRuns : C → Core → List Port → Type 0) (c_memory 
 
   -- ## Time passes behind them
 
-  pub round_gone : (k new : ControllerPlace C) (ks news : List (HostSite P)) (before mid now : List Entry)
+  pub round_gone : (k new : Power C) (ks news : List (HostSite P)) (before mid now : List Entry)
       → WorldHasGone CRuns c_memory PRuns p_memory k ks before mid (ends_take_all w (ends_in_order w))
       → WorldBecomes CRuns c_memory PRuns p_memory new news mid now (world_ticks (ends_take_all w (ends_in_order w)).0)
       → WorldHasGone CRuns c_memory PRuns p_memory new news before now (world_round w)

@@ -14,7 +14,8 @@ use Rattle.node_sites.specs.declared.places.HostSite.{HostSite}
 use Rattle.node_sites.specs.Places.{SiteIs}
 use Rattle.node_world.proofs.AtHosts.{site_stands, nowhere}
 use Rattle.node_world.proofs.SitesKept.{read_there}
-use Rattle.node_world.proofs.Peeked.{peeked, kept_is, one_of}
+use Rattle.node_world.proofs.Peeked.{peeked}
+use Rattle.node_sites.proofs.Powers.{kept_is}
 use Rattle.gate_admin.specs.View.{has, hosts_where, mask_of}
 use Rattle.history.specs.Histories.{noted}
 use Rattle.history.specs.Follows.{host_of, outcome_of}
@@ -37,7 +38,9 @@ use Rattle.node_world.specs.declared.worlds.NodeWorld.{NodeWorld}
 use Rattle.node_world.specs.Controllers.{AreTimely, MayGoOn, WorldIs, SitesAre, StandsAt}
 use Rattle.node_world.specs.Rounds.{MayGoRound, WorldHasGone}
 use Rattle.node_world.specs.Worlds.{AreFewWithParts, IsNodeWorldBehind, HasRoomForNodeLine, HasRoomForRound, node_memory, nodes_entries}
-use Rattle.node_world.specs.Worlds.{IsOneOf, IsPeekedSo, memory_kept}
+use Rattle.node_world.specs.Worlds.{IsPeekedSo}
+use Rattle.node_sites.specs.declared.power.Power.TheVariants.{Off}
+use Rattle.node_sites.specs.Powers.{memory_kept}
 use Rattle.node_world.specs.Whole.{IsMisreadIn, LinePlayed, MayPlay}
 use Rattle.node_world.proofs.FewPlays.{few_with_line, few_with_one_round}
 use Rattle.node_world.proofs.Masked.{masked}
@@ -149,12 +152,11 @@ stands_alike old new header plays others s same are few controller sites mask no
     }
 
 -- before any play
-pub stands_at_first : (new : NodeWorld) (header : Header) → IsNodeHeader header → new.controller.on ≡ None
-    → new.controller.off ≡ Some (new_memory (replicate 65536 255))
+pub stands_at_first : (new : NodeWorld) (header : Header) → IsNodeHeader header → new.controller ≡ Off (new_memory (replicate 65536 255))
     → SitesAre RunsAsHost node_memory new.sites.items (map (new_site (replicate 65536 255)) header.hosts.items)
     → new.mask ≡ mask_of (hosts_where (λ (host : ℕ). list_any (λ (k : ℕ). k == host) header.hosts.items)) → new.stepped ≡ 0
     → new.rounds ≡ 0 → new.noted.short ≡ false → IsNodeWorldBehind new header []
-stands_at_first new header is on off sites mask stepped rounds short =
+stands_at_first new header is off sites mask stepped rounds short =
     let M : ℕ → Type 0 = λ m. hosts_where (has m) ≡ header.hosts.items in
     record {
       is_header = is;
@@ -162,7 +164,7 @@ stands_at_first new header is on off sites mask stepped rounds short =
       few = record { said = omega arith; rounds = omega arith };
       sure = tt;
       stands = record {
-        controller = rw (on, off) refl;
+        controller = rw off refl;
         sites = sites;
       };
       mask_is = subst M (sym mask) (masked header is);
@@ -257,12 +259,11 @@ found_behind k header plays n s node m is =
 
 -- the memory of the controller
 pub controller_kept : (k : NodeWorld) (header : Header) (plays : List Play) (n : ℕ) → IsNodeWorldBehind k header plays → (n == 0) ≡ true → (m : Memory)
-    → Some m ≡ memory_kept node_memory k.controller.on k.controller.off → m ≡ memory_at (nodes_behind header (lines_played header plays)) n
+    → m ≡ memory_kept node_memory k.controller → m ≡ memory_at (nodes_behind header (lines_played header plays)) n
 controller_kept k header plays n s off m kept =
     let w : Machine = nodes_behind header (lines_played header plays) in
-    let is : Some m ≡ Some w.memory = kept ∙ kept_is _ RunsAs node_memory k.controller.on k.controller.off w.memory w.controller _ s.stands.controller in
-    let one : m ≡ w.memory = cc in
-    rw off one
+    let is : m ≡ w.memory = kept ∙ kept_is _ RunsAs node_memory k.controller w.memory w.controller _ s.stands.controller in
+    rw off is
 
 -- a host at its place
 pub stands_there : (k : NodeWorld) (header : Header) (plays : List Play) (i n : ℕ) → IsNodeWorldBehind k header plays
@@ -275,28 +276,15 @@ stands_there k header plays i n s a site read =
 -- the memory of a host
 pub host_kept : (k : NodeWorld) (header : Header) (plays : List Play) (n i : ℕ) → IsNodeWorldBehind k header plays → IsNodeOf header.hosts.items n
     → (n == 0) ≡ false → StandsAt i n (nodes_behind header (lines_played header plays)).sites → (site : HostSite (Node Memory))
-    → site ≡ get_or k.sites.items i site → (m : Memory) → Some m ≡ memory_kept node_memory site.on site.off
+    → site ≡ get_or k.sites.items i site → (m : Memory) → m ≡ memory_kept node_memory site.power
     → m ≡ memory_at (nodes_behind header (lines_played header plays)) n
 host_kept k header plays n i s node off a site read m kept =
     let w : Machine = nodes_behind header (lines_played header plays) in
     let orderly = (in_order_behind k header plays s).orderly in
     let stands : SiteIs RunsAsHost node_memory site a.site = stands_there k header plays i n s a site read in
     let found = site_stands w i n a orderly in
-    let is : Some m ≡ Some a.site.memory = kept ∙ kept_is _ RunsAsHost node_memory site.on site.off a.site.memory a.site.node _ stands.place in
-    let one : m ≡ a.site.memory = cc in
-    rw (off, found) one
-
-pub host_is_one : (k : NodeWorld) (header : Header) (plays : List Play) (i n : ℕ) → IsNodeWorldBehind k header plays
-    → StandsAt i n (nodes_behind header (lines_played header plays)).sites → (site : HostSite (Node Memory)) → site ≡ get_or k.sites.items i site
-    → IsOneOf site.on site.off
-host_is_one k header plays i n s a site read =
-    one_of _ RunsAsHost node_memory site.on site.off a.site.memory a.site.node _ (stands_there k header plays i n s a site read).place
-
-pub controller_is_one : (k : NodeWorld) (header : Header) (plays : List Play) → IsNodeWorldBehind k header plays
-    → IsOneOf k.controller.on k.controller.off
-controller_is_one k header plays s =
-    let w : Machine = nodes_behind header (lines_played header plays) in
-    one_of _ RunsAs node_memory k.controller.on k.controller.off w.memory w.controller _ s.stands.controller
+    let is : m ≡ a.site.memory = kept ∙ kept_is _ RunsAsHost node_memory site.power a.site.memory a.site.node _ stands.place in
+    rw (off, found) is
 
 pub host_is_there : {A : Type 0} (k : NodeWorld) (header : Header) (plays : List Play) (n : ℕ) → IsNodeWorldBehind k header plays
     → IsNodeOf header.hosts.items n → (n == 0) ≡ false → site_at (nodes_behind header (lines_played header plays)).sites n ≡ None → A

@@ -21,12 +21,13 @@ use Rattle.node_machine.specs.world.World.{host_ticks, hosts_tick, world_ticks}
 use Rattle.node_machine.proofs.world.Cases.{by_controller_tick, by_host_tick, host_tick, near_tick, site_ticked, site_unticked}
 use Rattle.node_laws.specs.telling.Telling.{hosts_in, IfItRuns, IfOff, NoneDue}
 use Rattle.node_laws.proofs.telling.WorldTicks.{tick_host}
-use Rattle.node_world.specs.declared.controller.ControllerPlace.{ControllerPlace}
+use Rattle.node_sites.specs.declared.power.Power.{Power}
 use Rattle.node_sites.specs.declared.places.HostSite.{HostSite}
 use Rattle.node_world.specs.Bounds.{FewOn, FewOnEach}
 use Rattle.node_world.specs.Controllers.{SitesAre, WorldBecomes, AreTimely, near_ticks}
 use Rattle.node_world.specs.HostSteps.{IsHostOf, CountsOn, MayTick}
-use Rattle.node_sites.specs.Places.{SiteIs, IsNodePlace}
+use Rattle.node_sites.specs.Powers.{IsNodePlace}
+use Rattle.node_sites.specs.Places.{SiteIs}
 use Rattle.node_world.specs.Whole.{IsWithinBounds, SitesTick, AreToTick}
 use Rattle.node_world.proofs.AtHosts.{GivesSendable, sendable_on}
 use Rattle.node_world.proofs.Behind.{each_found}
@@ -168,7 +169,7 @@ near_left (s ∷ sites) h = near_first s (tick_of s) sites (hosts_tick sites).0 
 module _ (C P : Type 0) (CRuns : C → Core → List Port → Type 0) (c_memory : C → Memory) (PRuns : P → Core → List Port → Type 0)
     (p_memory : P → Memory) where
   -- they come behind that of the controller
-  pub all_tick : (k : ControllerPlace C) (ks new : List (HostSite P)) (w : NodeWorld) (before mid now : List Entry)
+  pub all_tick : (k : Power C) (ks new : List (HostSite P)) (w : NodeWorld) (before mid now : List Entry)
       → WorldBecomes CRuns c_memory PRuns p_memory k ks before mid (near_ticks w)
       → SitesTick PRuns p_memory new mid now (hosts_tick (near_ticks w).0.sites)
       → WorldBecomes CRuns c_memory PRuns p_memory k new before now (world_ticks w)
@@ -177,7 +178,7 @@ module _ (C P : Type 0) (CRuns : C → Core → List Port → Type 0) (c_memory 
       let old : List Entry = (all_aged w).1 in
       let ticked : List Entry = (controller_ticks (all_aged w).0).1 in
       let far : List Site × List Entry = hosts_tick near.sites in
-      let Q : (ℕ → NumberedEnd) → Type 0 = λ ends. IsNodePlace CRuns c_memory k.on k.off near.memory near.controller ends in
+      let Q : (ℕ → NumberedEnd) → Type 0 = λ ends. IsNodePlace CRuns c_memory k near.memory near.controller ends in
       let same : near_of far.0 ≡ near_of near.sites = λ i h. near_left near.sites h i in
       record {
         world = record { controller = subst Q (sym same) first.world.controller; sites = second.sites };

@@ -22,11 +22,13 @@ use Rattle.node_machine.specs.world.World.{controller_ticks}
 use Rattle.node_laws.specs.kept.Hosts.{AreDifferent}
 use Rattle.node_laws.specs.telling.Telling.{hosts_in, IsOrderly, IsTimely}
 use Rattle.node_sites.specs.declared.places.HostSite.{HostSite}
-use Rattle.node_world.specs.declared.controller.ControllerPlace.{ControllerPlace}
+use Rattle.node_sites.specs.declared.power.Power.{Power}
+use Rattle.node_sites.specs.declared.power.Power.TheVariants.{On, Off}
 use Rattle.node_sites.specs.LinksKept.{with_bare_wires, as_it_comes}
 use Rattle.node_sites.specs.FramesOut.{IsOnly, sent_port}
 use Rattle.node_sites.specs.Numbers.{CountsFew}
-use Rattle.node_sites.specs.Places.{IsNodePlace, SiteIs}
+use Rattle.node_sites.specs.Powers.{IsNodePlace}
+use Rattle.node_sites.specs.Places.{SiteIs}
 
 -- ## What is kept
 
@@ -38,19 +40,19 @@ SitesAre Runs memory_of _ _ = ⊥
 
 -- what is kept of the controller and of all hosts stands for a world
 pub record WorldIs {C P : Type 0} (CRuns : C → Core → List Port → Type 0) (c_memory : C → Memory) (PRuns : P → Core → List Port → Type 0)
-    (p_memory : P → Memory) (k : ControllerPlace C) (ks : List (HostSite P)) (w : NodeWorld) : Type 0 where
-  pub controller : IsNodePlace CRuns c_memory k.on k.off w.memory w.controller (λ h. (link_to w.sites h).controller)
+    (p_memory : P → Memory) (k : Power C) (ks : List (HostSite P)) (w : NodeWorld) : Type 0 where
+  pub controller : IsNodePlace CRuns c_memory k w.memory w.controller (λ h. (link_to w.sites h).controller)
   pub sites : SitesAre PRuns p_memory ks w.sites
 
 -- it does so for the world that something has made of it, and this was noted behind what was noted before
 pub record WorldBecomes {C P : Type 0} (CRuns : C → Core → List Port → Type 0) (c_memory : C → Memory) (PRuns : P → Core → List Port → Type 0)
-    (p_memory : P → Memory) (k : ControllerPlace C) (ks : List (HostSite P)) (before now : List Entry) (after : NodeWorld × List Entry) : Type 0 where
+    (p_memory : P → Memory) (k : Power C) (ks : List (HostSite P)) (before now : List Entry) (after : NodeWorld × List Entry) : Type 0 where
   pub world : WorldIs CRuns c_memory PRuns p_memory k ks after.0
   pub noted : now ≡ before ++ after.1
 
 -- it was refused for this, and nothing happened, or else something was made of it
 abbrev pub WorldUnless : {C P : Type 0} → (C → Core → List Port → Type 0) → (C → Memory) → (P → Core → List Port → Type 0) → (P → Memory)
-    → ControllerPlace C → List (HostSite P) → List Entry → List Entry → NodeWorld → NodeWorld × List Entry → Option NoCause → Type 0
+    → Power C → List (HostSite P) → List Entry → List Entry → NodeWorld → NodeWorld × List Entry → Option NoCause → Type 0
 WorldUnless CRuns c_memory PRuns p_memory k ks before now w after None = WorldBecomes CRuns c_memory PRuns p_memory k ks before now after
 WorldUnless CRuns c_memory PRuns p_memory k ks before now w after (Some cause) = WorldBecomes CRuns c_memory PRuns p_memory k ks before now (w, [])
 
@@ -152,18 +154,16 @@ pub record SendsTo {P : Type 0} (PRuns : P → Core → List Port → Type 0) (p
 
 -- The controller n behind a step that has brought it to the state v, with the hosts as they are before its frames go out.
 pub record EndsStep {C P : Type 0} (CRuns : C → Core → List Port → Type 0) (PRuns : P → Core → List Port → Type 0) (p_memory : P → Memory)
-    (k : ControllerPlace C) (ks : List (HostSite P)) (n : C) (live : Bool) (v : Work) (hosts : List Site) : Type 0 where
-  pub on : k.on ≡ Some n
-  pub off : k.off ≡ None
+    (k : Power C) (ks : List (HostSite P)) (n : C) (live : Bool) (v : Work) (hosts : List Site) : Type 0 where
+  pub on : k ≡ On n
   pub sends : SendsTo PRuns p_memory (live ≡ true → CRuns n v.core v.ports) v.ports ks hosts
 
 -- its frames went out, and it runs on
 pub record GoesOnWith {C P : Type 0} (CRuns : C → Core → List Port → Type 0) (c_memory : C → Memory) (PRuns : P → Core → List Port → Type 0)
-    (p_memory : P → Memory) (k : ControllerPlace C) (ks : List (HostSite P)) (n : C) (v : Work) (hosts : List Site) (before now : List Entry)
+    (p_memory : P → Memory) (k : Power C) (ks : List (HostSite P)) (n : C) (v : Work) (hosts : List Site) (before now : List Entry)
     : Type 0 where
   pub node : C
-  pub on : k.on ≡ Some node
-  pub off : k.off ≡ None
+  pub on : k ≡ On node
   pub runs : CRuns node v.core (sent_to (hosts_in hosts) v.ports)
   pub memory : c_memory node ≡ c_memory n
   pub sites : SitesAre PRuns p_memory ks (map (has_frames v.ports) hosts)
@@ -175,8 +175,7 @@ with_bare_link s = record s { link = with_bare_wires s.link }
 
 -- it has lost its power: all wires are empty
 pub record WentOffWith {C P : Type 0} (c_memory : C → Memory) (PRuns : P → Core → List Port → Type 0) (p_memory : P → Memory)
-    (k : ControllerPlace C) (ks : List (HostSite P)) (n : C) (v : Work) (hosts : List Site) (before now : List Entry) : Type 0 where
-  pub on : k.on ≡ None
-  pub off : k.off ≡ Some (c_memory n)
+    (k : Power C) (ks : List (HostSite P)) (n : C) (v : Work) (hosts : List Site) (before now : List Entry) : Type 0 where
+  pub off : k ≡ Off (c_memory n)
   pub sites : SitesAre PRuns p_memory ks (map with_bare_link hosts)
   pub noted : now ≡ before ++ v.entries

@@ -35,6 +35,7 @@ use Rattle.node_laws.specs.telling.Telling.{IfItRuns, IfOff, NoneDue}
 use Rattle.node_sites.specs.declared.places.HostSite.{HostSite}
 use Rattle.node_sites.specs.LinksKept.{WiresStandFor}
 use Rattle.node_sites.specs.Numbers.{StaysCounted, AreNumbered}
+use Rattle.node_sites.specs.declared.power.Power.TheVariants.{On}
 use Rattle.node_sites.specs.WorldNodes.{IsNotedSo}
 use Rattle.node_sites.specs.Places.{SiteIs}
 
@@ -157,8 +158,7 @@ host_behind s step k = record s {
 pub record IsToSend {P : Type 0} (Runs : P → Core → List Port → Type 0) (memory_of : P → Memory) (k : HostSite P) (live : Bool) (noted : List Entry)
     (short : Bool) (before : List Entry) (s : Site) (step : List Turn → Ending → Link) (l : Link) (w : Work) : Type 0 where
   pub node : P
-  pub on : k.on ≡ Some node
-  pub off : k.off ≡ None
+  pub on : k.power ≡ On node
   pub host : k.host ≡ s.host
   pub power : w.cut ≡ not live
   pub memory : memory_of node ≡ after_planned w.writes s.memory

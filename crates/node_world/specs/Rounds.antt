@@ -14,7 +14,7 @@ use Rattle.node_machine.specs.world.Lines.{Occurrence}
 use Rattle.node_machine.specs.world.NodeHistories.{entries_in}
 use Rattle.node_machine.specs.world.Rounds.{ends_in_order, ends_take_all}
 use Rattle.node_laws.specs.telling.Telling.{IfItRuns, IfOff}
-use Rattle.node_world.specs.declared.controller.ControllerPlace.{ControllerPlace}
+use Rattle.node_sites.specs.declared.power.Power.{Power}
 use Rattle.node_sites.specs.declared.places.HostSite.{HostSite}
 use Rattle.node_world.specs.Bounds.{FewBehind}
 use Rattle.node_world.specs.Controllers.{AreTimely, IsThere, MayGoOn, WorldIs}
@@ -38,7 +38,7 @@ pub record MayGoRound (w : NodeWorld) : Type 0 where
 
 -- What is kept stands for the world that these events have made, and what they caused is noted behind what was noted before.
 pub record WorldHasGone {C P : Type 0} (CRuns : C → Core → List Port → Type 0) (c_memory : C → Memory) (PRuns : P → Core → List Port → Type 0)
-    (p_memory : P → Memory) (k : ControllerPlace C) (ks : List (HostSite P)) (before now : List Entry) (after : NodeWorld × List Occurrence)
+    (p_memory : P → Memory) (k : Power C) (ks : List (HostSite P)) (before now : List Entry) (after : NodeWorld × List Occurrence)
     : Type 0 where
   pub world : WorldIs CRuns c_memory PRuns p_memory k ks after.0
   pub noted : now ≡ before ++ entries_in after.1

@@ -16,7 +16,7 @@ use Rattle.node_machine.specs.world.World.Happening.{Ticks}
 use Rattle.node_machine.specs.world.Lines.{LineOutcome, all_happen, frames_at, misread_in, noted_below}
 use Rattle.node_laws.specs.telling.Telling.{hosts_in, IsOrderly}
 use Rattle.lines_told.specs.lines.Below.{IsPlayedLine, entries_below}
-use Rattle.node_world.specs.declared.controller.ControllerPlace.{ControllerPlace}
+use Rattle.node_sites.specs.declared.power.Power.{Power}
 use Rattle.node_sites.specs.declared.places.HostSite.{HostSite}
 use Rattle.node_world.specs.Bounds.{FewBehind}
 use Rattle.node_world.specs.Controllers.{SitesAre, WorldIs, MayGoOn, AreTimely, IsThere}
@@ -92,7 +92,7 @@ pub record MayPlay (header : Header) (said : Line) (w : NodeWorld) : Type 0 wher
 
 -- what is kept stands for the world behind a line, and what the line tells is noted
 pub record LinePlayed {C P : Type 0} (CRuns : C → Core → List Port → Type 0) (c_memory : C → Memory) (PRuns : P → Core → List Port → Type 0)
-    (p_memory : P → Memory) (k : ControllerPlace C) (ks : List (HostSite P)) (noted : List Entry) (after : NodeWorld × LineOutcome) : Type 0 where
+    (p_memory : P → Memory) (k : Power C) (ks : List (HostSite P)) (noted : List Entry) (after : NodeWorld × LineOutcome) : Type 0 where
   pub world : WorldIs CRuns c_memory PRuns p_memory k ks after.0
   pub told : noted ≡ entries_below (noted_below after.1)
 

@@ -1,5 +1,5 @@
 -- The world of nodes, behind which lines of a schedule it stands.
-use Rattle.std.specs.Prelude.{◌≡◌, ◌+◌, ◌≤◌, ◌<◌, ◌^◌, ℕ, ◌⊎◌, ◌≢◌, false, List, [], ◌∷◌, Option, Some, None}
+use Rattle.std.specs.Prelude.{◌≡◌, ◌+◌, ◌≤◌, ◌<◌, ◌^◌, ℕ, false, List, [], ◌∷◌, Option, Some, None}
 use Rattle.std.specs.List.{AllByRecursion}
 use Rattle.std.specs.Option.{option_map}
 use Rattle.swp_base.specs.InMemory.{Memory}
@@ -71,15 +71,6 @@ pub record MayCountAsRounds (k : NodeWorld) (lines rounds : ℕ) : Type 0 where
   pub room : k.rounds + rounds < 2 ^ 32
 
 -- ## Memories
-
--- a node runs, or left its memory
-abbrev pub IsOneOf : {P M : Type 0} → Option P → Option M → Type 0
-IsOneOf on off = (on ≢ None) ⊎ (off ≢ None)
-
--- the memory of a node that runs, or that which it left
-abbrev pub memory_kept : {P : Type 0} → (P → Memory) → Option P → Option Memory → Option Memory
-memory_kept memory_of (Some n) off = Some (memory_of n)
-memory_kept memory_of None off = off
 
 -- the world in which the power of this node was cut, and no write to its memory is to fail
 abbrev pub at_rest : ℕ → Machine → Machine

@@ -1,11 +1,13 @@
 //! The controller of the world: its node or its memory, and its ends of the links to all hosts. In a step of it frames may go out at every
 //! link, and a stop of its node cuts all of them.
-ghost use Rattle.std.specs.Prelude.{◌≡◌, ◌≤◌, List, true, false, get_or, length, map, Some, None, OnOk};
+ghost use Rattle.std.specs.Prelude.{◌≡◌, ◌≤◌, List, true, false, get_or, length, map, OnOk};
 ghost use Rattle.trace_model.specs.declared.entry.Entry.{Entry as Told};
 ghost use Rattle.node_machine.specs.Parts.{Work};
 ghost use Rattle.node_machine.specs.world.World.{Site};
 ghost use Rattle.node_sites.specs.Numbers.{AreNumbered};
 ghost use Rattle.node_sites.specs.WorldNodes.{IsNotedSo};
+ghost use Rattle.node_sites.specs.declared.power.Power.TheVariants.{Off};
+ghost use Rattle.node_sites.specs.Powers.{memory_kept};
 ghost use Rattle.node_world.specs.Controllers.{SitesAre, with_bare_link, HaveRoom, EndsStep, GoesOnWith, WentOffWith};
 
 use crate::controller_sites::{empty_all, send_to_all};
@@ -13,27 +15,25 @@ use node_sites::nodes::WorldNode;
 use node_sites::noted::Noted;
 use node_sites::numbering::{Sessions, number_from};
 use node_sites::places::HostSite;
-use swp_base::{MemNv, NoMemory};
+use node_sites::power::Power;
+use std::alloc::Global;
+use swp_base::NoMemory;
 
-/// The controller of the world: its node while that runs, its memory while it doesn't.
-#[derive(Drop)]
-pub(crate) struct ControllerPlace<C: Drop> {
-    pub(crate) on: Option<C>,
-    pub(crate) off: Option<MemNv>,
-}
-
-// The power of the controller goes: the wires of all links are empty, and its memory stays.
+/// The power of the controller goes: the wires of all links are empty, and its memory stays.
+///
+/// # Errors
+///
+/// No memory is left; what the controller and the hosts stand for then isn't said.
 pub(crate) fn lose_controller<C: WorldNode + Drop, P: WorldNode + Drop>(
-    controller: &mut ControllerPlace<C>,
+    controller: &mut Power<C>,
     sites: &mut [HostSite<P>],
-)
-    ensures off { (n : C) → controller.old.on ≡ Some n → (controller.new.on ≡ None) × (controller.new.off ≡ Some (C.memory n)) }
+    alloc: Global,
+) -> Result<(), NoMemory>
+    ensures off { OnOk result (controller.new ≡ Off (memory_kept C.memory controller.old)) }
     ensures wires { (hosts : List Site) → SitesAre P.runs P.memory sites.old hosts → SitesAre P.runs P.memory sites.new (map with_bare_link hosts) }
 {
     empty_all(sites);
-    if let Some(node) = controller.on.take() {
-        controller.off = Some(node.into_memory());
-    }
+    controller.lose(alloc)
 }
 
 /// A step of the controller ends: the numbers of its sessions are put into what it noted from this place on, and its frames go out at all
@@ -43,7 +43,7 @@ pub(crate) fn lose_controller<C: WorldNode + Drop, P: WorldNode + Drop>(
 ///
 /// No memory is left; what the controller and the hosts stand for then isn't said.
 pub(crate) fn finish_controller<C: WorldNode + Drop, P: WorldNode + Drop>(
-    controller: &mut ControllerPlace<C>,
+    controller: &mut Power<C>,
     sites: &mut [HostSite<P>],
     from: usize,
     sessions: &Sessions,
@@ -68,10 +68,9 @@ pub(crate) fn finish_controller<C: WorldNode + Drop, P: WorldNode + Drop>(
     }
     number_from(&mut noted.entries, from, sessions);
     if !live {
-        lose_controller(controller, sites);
-        return Ok(());
+        return lose_controller(controller, sites, *noted.entries.allocator());
     }
-    if let Some(node) = &mut controller.on {
+    if let Power::On(node) = controller {
         send_to_all(node, sites, &mut noted.entries)?;
     }
     Ok(())

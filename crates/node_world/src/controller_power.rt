@@ -10,14 +10,15 @@ ghost use Rattle.node_laws.specs.telling.Telling.{hosts_in};
 ghost use Rattle.node_sites.specs.Memories.{IsSoundMemory};
 ghost use Rattle.node_world.specs.Controllers.{WorldIs, WorldBecomes, MayGoOn, IsThere, AreTimely};
 
-use crate::controller::{ControllerPlace, lose_controller};
+use crate::controller::lose_controller;
 use crate::controller_sites::{empty_all, place_of};
 use crate::host_boots::note_last;
 use crate::host_losses::{is_refusal, lose_for};
 use arrayvec::ArrayVec;
-use node_sites::nodes::{Booted, WorldController, WorldNode};
+use node_sites::nodes::{WorldController, WorldNode};
 use node_sites::noted::Noted;
 use node_sites::places::HostSite;
+use node_sites::power::Power;
 use std::alloc::Global;
 use swp_base::NoMemory;
 use trace_model::{End, Entry, LostCause};
@@ -30,7 +31,7 @@ use trace_model::{End, Entry, LostCause};
 /// No memory is left; what the controller and the hosts stand for then isn't said.
 pub(crate) fn boot_controller<C: WorldController + Drop, P: WorldNode + Drop>(
     alloc: Global,
-    controller: &mut ControllerPlace<C>,
+    controller: &mut Power<C>,
     sites: &mut [HostSite<P>],
     mask: u8,
     noted: &mut Noted,
@@ -42,21 +43,17 @@ pub(crate) fn boot_controller<C: WorldController + Drop, P: WorldNode + Drop>(
         (boots w 0)) }
     ensures short { noted.new.short ≡ noted.old.short }
 {
-    let Some(memory) = controller.off.take() else {
-        return Err(NoMemory);
-    };
-    match C::boot(alloc, mask, memory) {
-        Booted::Runs(node) => {
+    let memory = controller.take_memory(alloc)?;
+    *controller = C::boot(alloc, mask, memory)?;
+    match controller {
+        Power::On(node) => {
             let count = node.count();
-            controller.on = Some(node);
             note_last(noted, Entry::Booted { node: 0, count })
         }
-        Booted::LostPower(memory) => {
-            controller.off = Some(memory);
+        Power::Off(_) => {
             empty_all(sites);
             note_last(noted, Entry::Cut { node: 0 })
         }
-        Booted::NoMemory => Err(NoMemory),
     }
 }
 
@@ -66,7 +63,7 @@ pub(crate) fn boot_controller<C: WorldController + Drop, P: WorldNode + Drop>(
 ///
 /// No memory is left; what the controller and the hosts stand for then isn't said.
 pub(crate) fn cut_controller<C: WorldNode + Drop, P: WorldNode + Drop>(
-    controller: &mut ControllerPlace<C>,
+    controller: &mut Power<C>,
     sites: &mut [HostSite<P>],
     noted: &mut Noted,
 ) -> Result<(), NoMemory>
@@ -75,13 +72,13 @@ pub(crate) fn cut_controller<C: WorldNode + Drop, P: WorldNode + Drop>(
         (world_step w (IsCut 0))) }
     ensures short { noted.new.short ≡ noted.old.short }
 {
-    lose_controller(controller, sites);
+    lose_controller(controller, sites, *noted.entries.allocator())?;
     note_last(noted, Entry::Cut { node: 0 })
 }
 
 /// One of the next writes to the memory of the controller will fail, whether it runs or not.
 pub(crate) fn arm_controller<C: WorldNode + Drop, P: WorldNode + Drop>(
-    controller: &mut ControllerPlace<C>,
+    controller: &mut Power<C>,
     sites: &[HostSite<P>],
     nth: u32,
     fill: ArrayVec<u8, 64>,
@@ -91,11 +88,7 @@ pub(crate) fn arm_controller<C: WorldNode + Drop, P: WorldNode + Drop>(
     ensures { (w : NodeWorld) → WorldIs C.runs C.memory P.runs P.memory controller.old sites.now w
         → WorldIs C.runs C.memory P.runs P.memory controller.new sites.now (world_step w (Arms 0 (record { nth = nth; fill = fill.items }))).0 }
 {
-    if let Some(node) = &mut controller.on {
-        node.arm(nth, fill);
-    } else if let Some(memory) = &mut controller.off {
-        memory.arm(nth, fill);
-    }
+    controller.arm(nth, fill);
 }
 
 /// The first frame on the way to the controller's end of the link with this host is lost for this cause. A frame that was refused on its way
@@ -105,7 +98,7 @@ pub(crate) fn arm_controller<C: WorldNode + Drop, P: WorldNode + Drop>(
 ///
 /// No memory is left; what the controller and the hosts stand for then isn't said.
 pub(crate) fn lose_at_controller<C: WorldNode + Drop, P: WorldNode + Drop>(
-    controller: &mut ControllerPlace<C>,
+    controller: &mut Power<C>,
     sites: &mut [HostSite<P>],
     host: u8,
     cause: LostCause,
@@ -127,7 +120,7 @@ pub(crate) fn lose_at_controller<C: WorldNode + Drop, P: WorldNode + Drop>(
     };
     lose_for(&mut sites[place], to, cause, noted)?;
     if is_refusal(cause) {
-        if let Some(node) = &mut controller.on {
+        if let Power::On(node) = controller {
             node.refused(host);
         }
     }

@@ -8,12 +8,13 @@ ghost use Rattle.node_machine.specs.world.Lines.{refusal_in};
 ghost use Rattle.node_world.specs.Controllers.{WorldIs, WorldBecomes, WorldUnless, MayGoOn, IsThere, AreTimely, HaveRoom, FewAreCounted, FewAreCountedAt};
 ghost use Rattle.node_world.specs.Controllers.{near_ticks};
 
-use crate::controller::{ControllerPlace, finish_controller};
+use crate::controller::finish_controller;
 use crate::controller_sites::{age_all, place_of, sessions_of};
 use crate::host_steps::reset_cause;
 use node_sites::nodes::{WorldController, WorldNode};
 use node_sites::noted::Noted;
 use node_sites::places::HostSite;
+use node_sites::power::Power;
 use swp_base::NoMemory;
 use trace_model::{End, NoCause};
 
@@ -24,7 +25,7 @@ use trace_model::{End, NoCause};
 ///
 /// No memory is left; what the controller and the hosts stand for then isn't said.
 pub(crate) fn take_at_controller<C: WorldNode + Drop, P: WorldNode + Drop>(
-    controller: &mut ControllerPlace<C>,
+    controller: &mut Power<C>,
     sites: &mut [HostSite<P>],
     host: u8,
     noted: &mut Noted,
@@ -43,7 +44,7 @@ pub(crate) fn take_at_controller<C: WorldNode + Drop, P: WorldNode + Drop>(
         link: host,
         at_host: false,
     };
-    let Some(node) = &mut controller.on else {
+    let Power::On(node) = controller else {
         return Ok(());
     };
     let Some(place) = place_of(sites, host) else {
@@ -66,7 +67,7 @@ pub(crate) fn take_at_controller<C: WorldNode + Drop, P: WorldNode + Drop>(
 ///
 /// No memory is left; what the controller and the hosts stand for then isn't said.
 pub(crate) fn reset_controller<C: WorldNode + Drop, P: WorldNode + Drop>(
-    controller: &mut ControllerPlace<C>,
+    controller: &mut Power<C>,
     sites: &mut [HostSite<P>],
     host: u8,
     window: Option<u8>,
@@ -85,7 +86,7 @@ pub(crate) fn reset_controller<C: WorldNode + Drop, P: WorldNode + Drop>(
     ensures memory { OnOk result (noted.new.short ≡ false) }
 {
     let from = noted.entries.len();
-    let Some(node) = &mut controller.on else {
+    let Power::On(node) = controller else {
         return Ok(Some(NoCause::Off));
     };
     let sessions = sessions_of(sites);
@@ -105,7 +106,7 @@ pub(crate) fn reset_controller<C: WorldNode + Drop, P: WorldNode + Drop>(
 ///
 /// No memory is left; what the controller and the hosts stand for then isn't said.
 pub(crate) fn activate_controller<C: WorldController + Drop, P: WorldNode + Drop>(
-    controller: &mut ControllerPlace<C>,
+    controller: &mut Power<C>,
     sites: &mut [HostSite<P>],
     host: u8,
     power: u8,
@@ -122,7 +123,7 @@ pub(crate) fn activate_controller<C: WorldController + Drop, P: WorldNode + Drop
     ensures memory { OnOk result (noted.new.short ≡ false) }
 {
     let from = noted.entries.len();
-    let Some(node) = &mut controller.on else {
+    let Power::On(node) = controller else {
         return Ok(());
     };
     let Some(place) = place_of(sites, host) else {
@@ -141,7 +142,7 @@ pub(crate) fn activate_controller<C: WorldController + Drop, P: WorldNode + Drop
 ///
 /// No memory is left; what the controller and the hosts stand for then isn't said.
 pub(crate) fn tick_controller<C: WorldNode + Drop, P: WorldNode + Drop>(
-    controller: &mut ControllerPlace<C>,
+    controller: &mut Power<C>,
     sites: &mut [HostSite<P>],
     noted: &mut Noted,
 ) -> Result<(), NoMemory>
@@ -155,7 +156,7 @@ pub(crate) fn tick_controller<C: WorldNode + Drop, P: WorldNode + Drop>(
     ensures memory { OnOk result (noted.new.short ≡ false) }
 {
     let from = noted.entries.len();
-    let Some(node) = &mut controller.on else {
+    let Power::On(node) = controller else {
         return Ok(());
     };
     let sessions = sessions_of(sites);
@@ -169,7 +170,7 @@ pub(crate) fn tick_controller<C: WorldNode + Drop, P: WorldNode + Drop>(
 ///
 /// No memory is left; what the controller and the hosts stand for then isn't said.
 pub(crate) fn begin_tick<C: WorldNode + Drop, P: WorldNode + Drop>(
-    controller: &mut ControllerPlace<C>,
+    controller: &mut Power<C>,
     sites: &mut [HostSite<P>],
     noted: &mut Noted,
 ) -> Result<(), NoMemory>

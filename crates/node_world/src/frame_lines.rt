@@ -7,7 +7,6 @@ ghost use Rattle.node_machine.specs.world.Lines.{line_step, misread_in};
 ghost use Rattle.node_world.specs.Controllers.{WorldIs, MayGoOn};
 ghost use Rattle.node_world.specs.Whole.{IsMisreadIn, LinePlayed, MayPlay};
 
-use crate::controller::ControllerPlace;
 use crate::happening::lose_frame;
 use crate::looking::{damaged_at, no_frame, node_of, on_the_way, runs};
 use crate::world_ticks::{take_frame, tick_world};
@@ -16,6 +15,7 @@ use link_wires::{Damaged, Misread, taken};
 use node_sites::nodes::WorldNode;
 use node_sites::noted::{Noted, refuse};
 use node_sites::places::HostSite;
+use node_sites::power::Power;
 use swp_base::NoMemory;
 use trace_model::{End, LostCause, NoCause};
 
@@ -26,7 +26,7 @@ use trace_model::{End, LostCause, NoCause};
 ///
 /// No memory is left; what the world stands for then isn't said.
 pub(crate) fn deliver_line<C: WorldNode + Drop, P: WorldNode + Drop>(
-    controller: &mut ControllerPlace<C>,
+    controller: &mut Power<C>,
     sites: &mut [HostSite<P>],
     at: End,
     count: Option<u8>,
@@ -61,7 +61,7 @@ pub(crate) fn deliver_line<C: WorldNode + Drop, P: WorldNode + Drop>(
 ///
 /// No memory is left; what the world stands for then isn't said.
 pub(crate) fn lose_line<C: WorldNode + Drop, P: WorldNode + Drop>(
-    controller: &mut ControllerPlace<C>,
+    controller: &mut Power<C>,
     sites: &mut [HostSite<P>],
     at: End,
     noted: &mut Noted,
@@ -88,7 +88,7 @@ pub(crate) fn lose_line<C: WorldNode + Drop, P: WorldNode + Drop>(
 ///
 /// No memory is left; what the world stands for then isn't said.
 pub(crate) fn damage_line<C: WorldNode + Drop, P: WorldNode + Drop>(
-    controller: &mut ControllerPlace<C>,
+    controller: &mut Power<C>,
     sites: &mut [HostSite<P>],
     at: End,
     places: &ArrayVec<u16, 16>,
@@ -135,7 +135,7 @@ pub(crate) fn damage_line<C: WorldNode + Drop, P: WorldNode + Drop>(
 ///
 /// No memory is left; what the world stands for then isn't said.
 pub(crate) fn tick_line<C: WorldNode + Drop, P: WorldNode + Drop>(
-    controller: &mut ControllerPlace<C>,
+    controller: &mut Power<C>,
     sites: &mut [HostSite<P>],
     times: Option<u8>,
     noted: &mut Noted,

@@ -12,7 +12,6 @@ ghost use Rattle.node_world.specs.Bounds.{FewBehind};
 ghost use Rattle.node_world.specs.Controllers.{WorldIs, WorldBecomes, MayGoOn, IsThere};
 ghost use Rattle.node_world.specs.Whole.{IsWithinBounds, MayBootAt, MayStop, if_accepted};
 
-use crate::controller::ControllerPlace;
 use crate::controller_power::{
     arm_controller, boot_controller, cut_controller, lose_at_controller,
 };
@@ -24,6 +23,7 @@ use arrayvec::ArrayVec;
 use node_sites::nodes::{WorldController, WorldHost, WorldNode};
 use node_sites::noted::Noted;
 use node_sites::places::HostSite;
+use node_sites::power::Power;
 use std::alloc::Global;
 use swp_base::NoMemory;
 use trace_model::{End, LostCause, NoCause};
@@ -34,7 +34,7 @@ use trace_model::{End, LostCause, NoCause};
 ///
 /// No memory is left; what the world stands for then isn't said.
 pub(crate) fn reset_end<C: WorldNode + Drop, P: WorldNode + Drop>(
-    controller: &mut ControllerPlace<C>,
+    controller: &mut Power<C>,
     sites: &mut [HostSite<P>],
     at: End,
     window: Option<u8>,
@@ -64,7 +64,7 @@ pub(crate) fn reset_end<C: WorldNode + Drop, P: WorldNode + Drop>(
 ///
 /// No memory is left; what the world stands for then isn't said.
 pub(crate) fn lose_frame<C: WorldNode + Drop, P: WorldNode + Drop>(
-    controller: &mut ControllerPlace<C>,
+    controller: &mut Power<C>,
     sites: &mut [HostSite<P>],
     at: End,
     cause: LostCause,
@@ -92,7 +92,7 @@ pub(crate) fn lose_frame<C: WorldNode + Drop, P: WorldNode + Drop>(
 /// No memory is left; what the world stands for then isn't said.
 pub(crate) fn boot_node<C: WorldController + Drop, P: WorldHost + Drop>(
     alloc: Global,
-    controller: &mut ControllerPlace<C>,
+    controller: &mut Power<C>,
     sites: &mut [HostSite<P>],
     node: u8,
     mask: u8,
@@ -118,7 +118,7 @@ pub(crate) fn boot_node<C: WorldController + Drop, P: WorldHost + Drop>(
 ///
 /// No memory is left; what the world stands for then isn't said.
 pub(crate) fn cut_node<C: WorldNode + Drop, P: WorldNode + Drop>(
-    controller: &mut ControllerPlace<C>,
+    controller: &mut Power<C>,
     sites: &mut [HostSite<P>],
     node: u8,
     noted: &mut Noted,
@@ -137,7 +137,7 @@ pub(crate) fn cut_node<C: WorldNode + Drop, P: WorldNode + Drop>(
 
 /// One of the next writes to the memory of a node will fail, whether the node runs or not.
 pub(crate) fn arm_node<C: WorldNode + Drop, P: WorldNode + Drop>(
-    controller: &mut ControllerPlace<C>,
+    controller: &mut Power<C>,
     sites: &mut [HostSite<P>],
     node: u8,
     nth: u32,
@@ -162,7 +162,7 @@ pub(crate) fn arm_node<C: WorldNode + Drop, P: WorldNode + Drop>(
 ///
 /// No memory is left; what the world stands for then isn't said.
 pub(crate) fn activate_link<C: WorldController + Drop, P: WorldHost + Drop>(
-    controller: &mut ControllerPlace<C>,
+    controller: &mut Power<C>,
     sites: &mut [HostSite<P>],
     host: u8,
     sync: u16,

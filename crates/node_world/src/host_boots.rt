@@ -8,9 +8,10 @@ ghost use Rattle.node_sites.specs.Places.{SiteIs};
 ghost use Rattle.node_sites.specs.Memories.{IsSoundMemory};
 ghost use Rattle.node_world.specs.HostSteps.{host_boots, IsHostOf, HasBecome};
 
-use node_sites::nodes::{Booted, WorldHost};
+use node_sites::nodes::WorldHost;
 use node_sites::noted::Noted;
 use node_sites::places::HostSite;
+use node_sites::power::Power;
 use std::alloc::Global;
 use swp_base::NoMemory;
 use trace_model::Entry;
@@ -42,21 +43,17 @@ pub(crate) fn boot_host<P: WorldHost + Drop>(
         → OnOk result (HasBecome P.runs P.memory site.new noted.old.entries.items noted.new.entries.items (host_boots s)) }
     ensures short { noted.new.short ≡ noted.old.short }
 {
-    let Some(memory) = site.off.take() else {
-        return Err(NoMemory);
-    };
-    match P::boot(alloc, site.host, memory) {
-        Booted::Runs(node) => {
-            let count = node.count();
-            site.on = Some(node);
-            let node = site.host;
+    let node = site.host;
+    let memory = site.power.take_memory(alloc)?;
+    site.power = P::boot(alloc, node, memory)?;
+    match &site.power {
+        Power::On(running) => {
+            let count = running.count();
             note_last(noted, Entry::Booted { node, count })
         }
-        Booted::LostPower(memory) => {
-            site.off = Some(memory);
+        Power::Off(_) => {
             site.wires.empty();
-            note_last(noted, Entry::Cut { node: site.host })
+            note_last(noted, Entry::Cut { node })
         }
-        Booted::NoMemory => Err(NoMemory),
     }
 }

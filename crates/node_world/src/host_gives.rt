@@ -13,6 +13,7 @@ use node_core::HostRefused;
 use node_sites::nodes::WorldHost;
 use node_sites::noted::Noted;
 use node_sites::places::HostSite;
+use node_sites::power::Power;
 use swp_base::NoMemory;
 use trace_model::NoCause;
 
@@ -51,7 +52,7 @@ pub(crate) fn send_at_host<P: WorldHost + Drop>(
     ensures memory { OnOk result (noted.new.short ≡ false) }
 {
     let from = noted.entries.len();
-    let Some(node) = &mut site.on else {
+    let Power::On(node) = &mut site.power else {
         return Ok(Some(NoCause::Off));
     };
     if let Err(why) = node.send(site.host, pipe, message, noted) {
@@ -85,7 +86,7 @@ pub(crate) fn init_host<P: WorldHost + Drop>(
     ensures memory { OnOk result (noted.new.short ≡ false) }
 {
     let from = noted.entries.len();
-    let Some(node) = &mut site.on else {
+    let Power::On(node) = &mut site.power else {
         return Ok(Some(NoCause::Off));
     };
     if let Err(why) = node.init(site.host, identity, pipes, noted) {

@@ -12,6 +12,7 @@ ghost use Rattle.node_world.specs.HostSteps.{is_broken, site_loses, site_ages, I
 use node_sites::nodes::WorldNode;
 use node_sites::noted::Noted;
 use node_sites::places::HostSite;
+use node_sites::power::Power;
 use swp_base::NoMemory;
 use trace_model::{End, LostCause};
 
@@ -35,7 +36,7 @@ pub(crate) fn lose_for<P: WorldNode + Drop>(
 {
     site.wires.lose(to, cause, &mut noted.entries)?;
     if to.at_host && is_refusal(cause) {
-        if let Some(node) = &mut site.on {
+        if let Power::On(node) = &mut site.power {
             node.refused(site.host);
         }
     }

@@ -10,6 +10,7 @@ use link_end::ResetRefused;
 use node_sites::nodes::{WorldHost, WorldNode};
 use node_sites::noted::Noted;
 use node_sites::places::HostSite;
+use node_sites::power::Power;
 use swp_base::NoMemory;
 use trace_model::{End, NoCause};
 
@@ -34,7 +35,7 @@ pub(crate) fn take_at_host<P: WorldNode + Drop>(
         link: site.host,
         at_host: true,
     };
-    let Some(node) = &mut site.on else {
+    let Power::On(node) = &mut site.power else {
         return Ok(());
     };
     let Some(read) = site.wires.host.reads_first() else {
@@ -62,7 +63,7 @@ pub(crate) fn tick_host<P: WorldNode + Drop>(
     ensures memory { OnOk result (noted.new.short ≡ false) }
 {
     let from = noted.entries.len();
-    let Some(node) = &mut site.on else {
+    let Power::On(node) = &mut site.power else {
         return Ok(());
     };
     let live = node.tick(noted);
@@ -100,7 +101,7 @@ pub(crate) fn reset_host<P: WorldNode + Drop>(
     ensures memory { OnOk result (noted.new.short ≡ false) }
 {
     let from = noted.entries.len();
-    let Some(node) = &mut site.on else {
+    let Power::On(node) = &mut site.power else {
         return Ok(Some(NoCause::Off));
     };
     match node.reset(site.host, window, noted) {
@@ -130,7 +131,7 @@ pub(crate) fn activate_host<P: WorldHost + Drop>(
     ensures memory { OnOk result (noted.new.short ≡ false) }
 {
     let from = noted.entries.len();
-    let Some(node) = &mut site.on else {
+    let Power::On(node) = &mut site.power else {
         return Ok(());
     };
     let live = node.activate(site.host, sync, noted);

@@ -6,11 +6,11 @@ ghost use Rattle.node_machine.specs.world.Lines.{frames_at, is_running, refusal_
 ghost use Rattle.link_wires.specs.Damages.{Finds};
 ghost use Rattle.node_world.specs.Controllers.{SitesAre, WorldIs, MayGoOn};
 
-use crate::controller::ControllerPlace;
 use crate::controller_sites::place_of;
 use link_wires::Damaged;
 use node_sites::nodes::WorldNode;
 use node_sites::places::HostSite;
+use node_sites::power::Power;
 use trace_model::{End, NoCause};
 
 /// The number of the node of an end.
@@ -22,17 +22,17 @@ pub(crate) fn node_of(at: End) -> u8
 
 /// Whether the node with this number runs.
 pub(crate) fn runs<C: WorldNode + Drop, P: WorldNode + Drop>(
-    controller: &ControllerPlace<C>,
+    controller: &Power<C>,
     sites: &[HostSite<P>],
     node: u8,
 ) -> bool
     ensures { (w : NodeWorld) → WorldIs C.runs C.memory P.runs P.memory controller.now sites.now w → MayGoOn w → result ≡ is_running w node }
 {
     if node == 0 {
-        return controller.on.is_some();
+        return controller.is_on();
     }
     match place_of(sites, node) {
-        Some(place) => sites[place].on.is_some(),
+        Some(place) => sites[place].power.is_on(),
         None => false,
     }
 }
@@ -49,7 +49,7 @@ pub(crate) fn on_the_way<P: WorldNode + Drop>(sites: &[HostSite<P>], to: End) ->
 
 /// Why a line is refused that takes or loses the first frame on the way to an end: its node doesn't run, or there is no such frame.
 pub(crate) fn no_frame<C: WorldNode + Drop, P: WorldNode + Drop>(
-    controller: &ControllerPlace<C>,
+    controller: &Power<C>,
     sites: &[HostSite<P>],
     to: End,
 ) -> Option<NoCause>

@@ -1,5 +1,8 @@
 //! Lines of a schedule that power a node up and down, have a write to its memory fail, tell its tables, or reset an end.
-ghost use Rattle.std.specs.Prelude.{◌≡◌, [], false, option_map, IfOk, OnOk};
+ghost use Rattle.std.specs.Prelude.{◌≡◌, ℕ, [], false, Option, option_map, IfOk, OnOk};
+ghost use Rattle.swp_base.specs.InMemory.{Memory};
+ghost use Rattle.link_laws.specs.messages.Links.{NumberedEnd};
+ghost use Rattle.node_sites.specs.Powers.{IsNodePlace};
 ghost use Rattle.trace_model.specs.declared.line.Header.{Header};
 ghost use Rattle.trace_model.specs.declared.line.Line.TheVariants as line;
 ghost use Rattle.gate_admin.specs.View.{has, hosts_where};
@@ -9,7 +12,6 @@ ghost use Rattle.node_machine.specs.world.Lines.{line_step};
 ghost use Rattle.node_world.specs.Controllers.{WorldIs, MayGoOn};
 ghost use Rattle.node_world.specs.Whole.{LinePlayed, MayPlay};
 
-use crate::controller::ControllerPlace;
 use crate::controller_sites::place_of;
 use crate::happening::{activate_link, arm_node, boot_node, cut_node, reset_end};
 use crate::looking::runs;
@@ -18,6 +20,7 @@ use hci_tables::Tables;
 use node_sites::nodes::{WorldController, WorldHost, WorldNode};
 use node_sites::noted::{Noted, refuse};
 use node_sites::places::HostSite;
+use node_sites::power::Power;
 use std::alloc::Global;
 use swp_base::NoMemory;
 use trace_model::{End, Entry, NoCause, NodeTables};
@@ -30,7 +33,7 @@ use trace_model::{End, Entry, NoCause, NodeTables};
 /// No memory is left; what the world stands for then isn't said.
 pub(crate) fn boot_line<C: WorldController + Drop, P: WorldHost + Drop>(
     alloc: Global,
-    controller: &mut ControllerPlace<C>,
+    controller: &mut Power<C>,
     sites: &mut [HostSite<P>],
     node: u8,
     mask: u8,
@@ -57,7 +60,7 @@ pub(crate) fn boot_line<C: WorldController + Drop, P: WorldHost + Drop>(
 ///
 /// No memory is left; what the world stands for then isn't said.
 pub(crate) fn cut_line<C: WorldNode + Drop, P: WorldNode + Drop>(
-    controller: &mut ControllerPlace<C>,
+    controller: &mut Power<C>,
     sites: &mut [HostSite<P>],
     node: u8,
     noted: &mut Noted,
@@ -81,7 +84,7 @@ pub(crate) fn cut_line<C: WorldNode + Drop, P: WorldNode + Drop>(
 ///
 /// No memory is left; what the world stands for then isn't said.
 pub(crate) fn activate_line<C: WorldController + Drop, P: WorldHost + Drop>(
-    controller: &mut ControllerPlace<C>,
+    controller: &mut Power<C>,
     sites: &mut [HostSite<P>],
     host: u8,
     sync: u16,
@@ -113,7 +116,7 @@ pub(crate) fn activate_line<C: WorldController + Drop, P: WorldHost + Drop>(
 ///
 /// No memory is left; what the world stands for then isn't said.
 pub(crate) fn arm_line<C: WorldNode + Drop, P: WorldNode + Drop>(
-    controller: &mut ControllerPlace<C>,
+    controller: &mut Power<C>,
     sites: &mut [HostSite<P>],
     node: u8,
     nth: u32,
@@ -138,7 +141,7 @@ pub(crate) fn arm_line<C: WorldNode + Drop, P: WorldNode + Drop>(
 ///
 /// No memory is left; what the world stands for then isn't said.
 pub(crate) fn reset_line<C: WorldNode + Drop, P: WorldNode + Drop>(
-    controller: &mut ControllerPlace<C>,
+    controller: &mut Power<C>,
     sites: &mut [HostSite<P>],
     at: End,
     window: Option<u8>,
@@ -162,8 +165,19 @@ pub(crate) fn reset_line<C: WorldNode + Drop, P: WorldNode + Drop>(
 }
 
 // A copy of the tables of a node that runs. `None` where it doesn't.
+fn tables_at<P: WorldNode + Drop>(power: &Power<P>) -> Result<Option<Tables>, NoMemory>
+    ensures { (m : Memory) (node : Option Running) (near : ℕ → NumberedEnd) → IsNodePlace P.runs P.memory power.now m node near
+        → IfOk result (λ tables. tables ≡ option_map (λ (r : Running). r.core.tables) node) }
+{
+    match power {
+        Power::On(node) => Ok(Some(node.tables().clone()?)),
+        Power::Off(_) => Ok(None),
+    }
+}
+
+// A copy of the tables of the node with this number, where that runs. `None` where it doesn't.
 fn copied_tables<C: WorldNode + Drop, P: WorldNode + Drop>(
-    controller: &ControllerPlace<C>,
+    controller: &Power<C>,
     sites: &[HostSite<P>],
     node: u8,
 ) -> Result<Option<Tables>, NoMemory>
@@ -171,18 +185,12 @@ fn copied_tables<C: WorldNode + Drop, P: WorldNode + Drop>(
         → IfOk result (λ tables. tables ≡ option_map (λ (r : Running). r.core.tables) (node_at w node)) }
 {
     if node == 0 {
-        return match &controller.on {
-            Some(node) => Ok(Some(node.tables().clone()?)),
-            None => Ok(None),
-        };
+        return tables_at(controller);
     }
     let Some(place) = place_of(sites, node) else {
         return Ok(None);
     };
-    match &sites[place].on {
-        Some(node) => Ok(Some(node.tables().clone()?)),
-        None => Ok(None),
-    }
+    tables_at(&sites[place].power)
 }
 
 /// A line `tables`: the tables of the node are told, or the line is refused where it doesn't run.
@@ -192,7 +200,7 @@ fn copied_tables<C: WorldNode + Drop, P: WorldNode + Drop>(
 /// No memory is left; what the world stands for then isn't said.
 pub(crate) fn tables_line<C: WorldNode + Drop, P: WorldNode + Drop>(
     alloc: Global,
-    controller: &ControllerPlace<C>,
+    controller: &Power<C>,
     sites: &[HostSite<P>],
     node: u8,
     noted: &mut Noted,

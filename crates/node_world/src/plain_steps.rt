@@ -26,7 +26,7 @@ pub(crate) fn cut_host<P: WorldNode + Drop>(
         × (noted.new.entries.items ≡ noted.old.entries.items ++ note.Cut s.host ∷ [])) }
     ensures short { noted.new.short ≡ noted.old.short }
 {
-    lose_power(site);
+    lose_power(site, *noted.entries.allocator())?;
     match noted.entries.push(Entry::Cut { node: site.host }) {
         Ok(()) => Ok(()),
         Err(_) => Err(NoMemory),
@@ -44,9 +44,5 @@ pub(crate) fn arm_host<P: WorldNode + Drop>(
     ensures { (s : Site) → SiteIs P.runs P.memory site.old s
         → SiteIs P.runs P.memory site.new (record s { memory = record s.memory { plan = Some (record { nth = nth; fill = fill.items }) } }) }
 {
-    if let Some(node) = &mut site.on {
-        node.arm(nth, fill);
-    } else if let Some(memory) = &mut site.off {
-        memory.arm(nth, fill);
-    }
+    site.power.arm(nth, fill);
 }

@@ -7,7 +7,6 @@ ghost use Rattle.node_machine.specs.world.Lines.{line_step, misread_in};
 ghost use Rattle.node_world.specs.Controllers.{WorldIs, MayGoOn};
 ghost use Rattle.node_world.specs.Whole.{IsMisreadIn, LinePlayed, MayPlay, is_damaging};
 
-use crate::controller::ControllerPlace;
 use crate::frame_lines::{damage_line, deliver_line, lose_line, tick_line};
 use crate::host_lines::{init_line, send_line};
 use crate::node_lines::{activate_line, arm_line, boot_line, cut_line, reset_line, tables_line};
@@ -15,6 +14,7 @@ use link_wires::Misread;
 use node_sites::nodes::{WorldController, WorldHost};
 use node_sites::noted::Noted;
 use node_sites::places::HostSite;
+use node_sites::power::Power;
 use std::alloc::Global;
 use swp_base::NoMemory;
 use trace_model::Line;
@@ -22,7 +22,7 @@ use trace_model::Line;
 // Plays a line that damages no frame, where the mask holds the hosts of the world.
 fn play_sound<C: WorldController + Drop, P: WorldHost + Drop>(
     alloc: Global,
-    controller: &mut ControllerPlace<C>,
+    controller: &mut Power<C>,
     sites: &mut [HostSite<P>],
     mask: u8,
     line: &Line,
@@ -72,7 +72,7 @@ fn play_sound<C: WorldController + Drop, P: WorldHost + Drop>(
 #[inline(never)]
 pub(crate) fn play_line<C: WorldController + Drop, P: WorldHost + Drop>(
     alloc: Global,
-    controller: &mut ControllerPlace<C>,
+    controller: &mut Power<C>,
     sites: &mut [HostSite<P>],
     mask: u8,
     line: &Line,

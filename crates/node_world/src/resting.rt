@@ -7,9 +7,9 @@ ghost use Rattle.node_world.specs.Controllers.{AreTimely, MayGoOn, WorldIs};
 ghost use Rattle.node_sites.specs.Places.{SiteIs};
 ghost use Rattle.node_world.specs.Rounds.{IsToLookAt, far_rests, near_rests};
 
-use crate::controller::ControllerPlace;
 use node_sites::nodes::WorldNode;
 use node_sites::places::HostSite;
+use node_sites::power::Power;
 use trace_model::End;
 
 // Whether both wires of a host's link are empty, and its end of it is at rest.
@@ -31,30 +31,30 @@ fn host_rests<P: WorldNode + Drop>(site: &HostSite<P>) -> bool
     if site.wires.standing(far) != 0 {
         return false;
     }
-    match &site.on {
-        Some(node) => node.is_at_rest(),
-        None => true,
+    match &site.power {
+        Power::On(node) => node.is_at_rest(),
+        Power::Off(_) => true,
     }
 }
 
 // Whether all ends of the controller are at rest.
 fn controller_rests<C: WorldNode + Drop, P: WorldNode + Drop>(
-    controller: &ControllerPlace<C>,
+    controller: &Power<C>,
     sites: &[HostSite<P>],
 ) -> bool
     requires state { (w : NodeWorld) × WorldIs C.runs C.memory P.runs P.memory controller.now sites.now w }
     ensures { (w : NodeWorld) → WorldIs C.runs C.memory P.runs P.memory controller.now sites.now w → MayGoOn w → AreTimely w
         → result ≡ list_all near_rests w.sites }
 {
-    match &controller.on {
-        Some(node) => node.is_at_rest(),
-        None => true,
+    match controller {
+        Power::On(node) => node.is_at_rest(),
+        Power::Off(_) => true,
     }
 }
 
 /// Whether all links are at rest: their wires are empty, no end waits, and all that was sent is acknowledged.
 pub(crate) fn all_rest<C: WorldNode + Drop, P: WorldNode + Drop>(
-    controller: &ControllerPlace<C>,
+    controller: &Power<C>,
     sites: &[HostSite<P>],
 ) -> bool
     requires state { (w : NodeWorld) × WorldIs C.runs C.memory P.runs P.memory controller.now sites.now w × MayGoOn w × AreTimely w }

@@ -6,18 +6,18 @@ ghost use Rattle.node_world.specs.Controllers.{WorldIs};
 ghost use Rattle.node_world.specs.Rounds.{MayGoRound, MayTakeAll, MayTakeInOrder, WorldHasGone};
 ghost use Rattle.node_world.specs.Whole.{IsWithinBounds};
 
-use crate::controller::ControllerPlace;
 use crate::looking::{node_of, on_the_way, runs};
 use crate::world_ticks::{take_frame, tick_world};
 use node_sites::nodes::WorldNode;
 use node_sites::noted::Noted;
 use node_sites::places::HostSite;
+use node_sites::power::Power;
 use swp_base::NoMemory;
 use trace_model::End;
 
 // An end takes all that stands on its wire now, until its node loses its power. Where that doesn't run, nothing happens.
 fn take_all<C: WorldNode + Drop, P: WorldNode + Drop>(
-    controller: &mut ControllerPlace<C>,
+    controller: &mut Power<C>,
     sites: &mut [HostSite<P>],
     at: End,
     noted: &mut Noted,
@@ -41,7 +41,7 @@ fn take_all<C: WorldNode + Drop, P: WorldNode + Drop>(
 
 // All ends do, the controller's end of a link before the host's, and the links ascending.
 fn take_in_order<C: WorldNode + Drop, P: WorldNode + Drop>(
-    controller: &mut ControllerPlace<C>,
+    controller: &mut Power<C>,
     sites: &mut [HostSite<P>],
     noted: &mut Noted,
 ) -> Result<(), NoMemory>
@@ -76,7 +76,7 @@ fn take_in_order<C: WorldNode + Drop, P: WorldNode + Drop>(
 ///
 /// No memory is left; what the world stands for then isn't said.
 pub(crate) fn go_round<C: WorldNode + Drop, P: WorldNode + Drop>(
-    controller: &mut ControllerPlace<C>,
+    controller: &mut Power<C>,
     sites: &mut [HostSite<P>],
     noted: &mut Noted,
 ) -> Result<(), NoMemory>

@@ -5,13 +5,13 @@ ghost use Rattle.node_machine.specs.world.World.{NodeWorld, comes_at, world_tick
 ghost use Rattle.node_world.specs.Controllers.{SitesAre, WorldIs, WorldBecomes, AreTimely, IsThere};
 ghost use Rattle.node_world.specs.Whole.{IsWithinBounds, SitesTick, AreToTick};
 
-use crate::controller::ControllerPlace;
 use crate::controller_steps::{begin_tick, take_at_controller};
 use crate::host_steps::tick_host;
 use crate::hosts_do::host_takes;
 use node_sites::nodes::WorldNode;
 use node_sites::noted::Noted;
 use node_sites::places::HostSite;
+use node_sites::power::Power;
 use swp_base::NoMemory;
 use trace_model::End;
 
@@ -21,7 +21,7 @@ use trace_model::End;
 ///
 /// No memory is left; what the world stands for then isn't said.
 pub(crate) fn take_frame<C: WorldNode + Drop, P: WorldNode + Drop>(
-    controller: &mut ControllerPlace<C>,
+    controller: &mut Power<C>,
     sites: &mut [HostSite<P>],
     at: End,
     noted: &mut Noted,
@@ -63,7 +63,7 @@ fn tick_hosts<P: WorldNode + Drop>(
 ///
 /// No memory is left; what the world stands for then isn't said.
 pub(crate) fn tick_world<C: WorldNode + Drop, P: WorldNode + Drop>(
-    controller: &mut ControllerPlace<C>,
+    controller: &mut Power<C>,
     sites: &mut [HostSite<P>],
     noted: &mut Noted,
 ) -> Result<(), NoMemory>

@@ -9,9 +9,7 @@ ghost use Rattle.node_machine.specs.world.Rounds.{world_rests};
 ghost use Rattle.lines_told.specs.lines.Below.{IsPlayedLine, nodes_behind, told_below};
 ghost use Rattle.lines_told.specs.lines.Plays.{Play, IsPlayFor, lines_played, lines_said, rounds_played, told_of_play};
 ghost use Rattle.lines_told.specs.lines.Plays.Play.{Said, Round};
-ghost use Rattle.node_world.specs.Worlds.{IsOneOf, memory_kept};
 
-use crate::controller::ControllerPlace;
 use crate::controller_sites::place_of;
 use crate::looking::{on_the_way, runs};
 use crate::making::{make_sites, mask_of};
@@ -20,9 +18,10 @@ use crate::resting::all_rest;
 use crate::rounds::go_round;
 use link_wires::Misread;
 use node_core::{Controller, Host};
-use node_sites::nodes::{MEMORY_SIZE, WorldNode};
+use node_sites::nodes::MEMORY_SIZE;
 use node_sites::noted::Noted;
 use node_sites::places::HostSite;
+use node_sites::power::Power;
 use std::alloc::Global;
 use swp_base::{MemNv, NoMemory};
 use trace_model::{End, Entry, Header, Line};
@@ -31,7 +30,7 @@ use trace_model::{End, Entry, Header, Line};
 /// the last line or round caused (this project's own).
 #[derive(Drop)]
 pub struct NodeWorld {
-    controller: ControllerPlace<Controller<MemNv>>,
+    controller: Power<Controller<MemNv>>,
     // Ascending.
     sites: Vec<HostSite<Host<MemNv>>>,
     // The hosts: bit h stands for host h.
@@ -58,10 +57,7 @@ impl NodeWorld {
         ensures entries { IfOk result (λ k. nodes_entries k ≡ []) }
     {
         Ok(NodeWorld {
-            controller: ControllerPlace {
-                on: None,
-                off: Some(MemNv::new(alloc, MEMORY_SIZE)?),
-            },
+            controller: Power::Off(MemNv::new(alloc, MEMORY_SIZE)?),
             sites: make_sites(alloc, header.hosts.as_slice())?,
             mask: mask_of(header.hosts.as_slice()),
             stepped: 0,
@@ -191,26 +187,11 @@ impl NodeWorld {
             ..
         } = self;
         if node == 0 {
-            return kept_memory(controller.on, controller.off);
+            return controller.into_memory();
         }
         match place_of(sites.as_slice(), node) {
-            Some(place) => {
-                let site = sites.remove(place);
-                kept_memory(site.on, site.off)
-            }
+            Some(place) => sites.remove(place).power.into_memory(),
             None => unreachable!(),
         }
-    }
-}
-
-// The memory of a node that runs, or that which it left.
-fn kept_memory<P: WorldNode + Drop>(on: Option<P>, off: Option<MemNv>) -> MemNv
-    requires { IsOneOf on off }
-    ensures { Some result ≡ memory_kept P.memory on off }
-{
-    match (on, off) {
-        (Some(node), _) => node.into_memory(),
-        (None, Some(memory)) => memory,
-        (None, None) => unreachable!(),
     }
 }

@@ -32,7 +32,7 @@ use Rattle.node_machine.specs.Node.{after_sessions, without_notice, input_at, to
 use Rattle.node_machine.specs.Node.{told_late, is_late, with_older}
 use Rattle.node_machine.specs.Node.NodeInput.{AtEnd, TimePasses}
 use Rattle.node_machine.specs.world.World.{arrival, frames_noted, ending_of, sending, beginning}
-use Rattle.node_laws.proofs.steps.Walks.{Plain, OfHost, anyone, any_of_controller, all_of_host, deeds_hold, all_owed_hold, all_synced_hold, forgotten_hold}
+use Rattle.node_machine.proofs.Walks.{Plain, OfHost, anyone, any_of_controller, all_of_host, deeds_hold, all_owed_hold, all_synced_hold, forgotten_hold}
 use Rattle.node_laws.proofs.steps.StepWalks.{Lasts, rest_lasts, all_last}
 use Rattle.node_laws.specs.passes.Noting.{goes_in, noted_by_deed}
 use Rattle.node_laws.specs.passes.Steps.{told_of_coming, told_of_late}

@@ -1,29 +1,38 @@
-use Rattle.std.proofs.Common.{sym, ◌∙◌}
+use Rattle.std.proofs.Common.{ℕ, List, sym, subst, ◌∙◌}
+use Rattle.swp_base.specs.InMemory.{Memory}
+use Rattle.swp_base.specs.declared.link_terms.Role.TheVariants.{Clf}
 use Rattle.node_machine.specs.world.World.{link_to}
 use Rattle.link_wires.proofs.Results.{on_ok}
-use Rattle.node_world.proofs.ControllersPower.{at_hand_boots, boot_runs, boot_lost}
+use Rattle.node_sites.specs.Memories.{IsSoundMemory}
+use Rattle.node_sites.specs.WorldBoots.{EndsBoot}
+use Rattle.node_sites.proofs.Powers.{kept_is}
+use Rattle.node_world.proofs.ControllersPower.{boot_runs, boot_lost}
 use Rattle.node_world.proofs.controller_power.boot_controller.Goals as goal
 
 pub boot-requires : goal.boot-requires
 boot-requires g c =
     let q = c.requires.state in
-    record {
-      memory = at_hand_boots _ g.P.WorldNode.runs g.P.WorldNode.memory _ g.C.WorldNode.runs g.C.WorldNode.memory c.args.controller.now.on
-          c.args.controller.now.off q.0.memory c.in-Some.memory q.0.controller (λ h. (link_to q.0.sites h).controller) q.2
-          (sym c.take.ensures.value ∙ c.in-Some.is) q.3 q.1.controller;
-    }
+    let taken = c.in_ok-memory.ensures ∙ kept_is _ g.C.WorldNode.runs g.C.WorldNode.memory c.args.controller.now q.0.memory q.0.controller
+    (λ h. (link_to q.0.sites h).controller) q.1.controller in
+    record { memory = subst IsSoundMemory (sym taken) q.3 }
 
-pub returns-in-Runs-clause-stands : goal.returns-in-Runs-clause-stands
-returns-in-Runs-clause-stands g c w world may timely off same =
+pub returns-in-On-clause-stands : goal.returns-in-On-clause-stands
+returns-in-On-clause-stands g c w world may timely off same =
     on_ok c.note_last.result c.note_last.ensures.items
-    (λ noted. boot_runs _ g.P.WorldNode.runs g.P.WorldNode.memory _ g.C.WorldNode.runs g.C.WorldNode.memory g.met.C.WorldNode.kept
-    c.args.controller.now c.args.sites.now w c.args.noted.now.entries.items c.note_last.new.noted.entries.items c.in-Some.memory c.take.new.self
-    c.in-Runs.node _ c.count-count.result off may timely same (sym c.take.ensures.value ∙ c.in-Some.is) c.take.ensures.after world c.in-Runs.ensures
-    c.count-count.ensures noted)
+    (λ noted. (let taken = c.in_ok-memory.ensures ∙ kept_is _ g.C.WorldNode.runs g.C.WorldNode.memory c.args.controller.now w.memory w.controller
+    (λ h. (link_to w.sites h).controller) world.controller in
+    let E : List ℕ → Memory → Type 0 = λ hs m. EndsBoot g.C.WorldNode.runs g.C.WorldNode.memory 0 hs Clf m c.in_ok-boot.field-0 in
+    boot_runs _ g.P.WorldNode.runs g.P.WorldNode.memory _ g.C.WorldNode.runs g.C.WorldNode.memory g.met.C.WorldNode.kept
+    c.in_ok-boot.field-0 c.args.sites.now w c.args.noted.now.entries.items c.note_last.new.noted.entries.items
+    c.in-On.node c.count-count.result c.in-On.is off may timely (subst (E _) taken (subst (λ hs. E hs _) same c.in_ok-boot.ensures)) world.sites
+    c.count-count.ensures noted))
 
-pub returns-in-LostPower-clause-stands : goal.returns-in-LostPower-clause-stands
-returns-in-LostPower-clause-stands g c w world may timely off same =
-    on_ok c.note_last-in-LostPower.result c.note_last-in-LostPower.ensures.items
-    (λ noted. boot_lost _ g.P.WorldNode.runs g.P.WorldNode.memory _ g.C.WorldNode.runs g.C.WorldNode.memory c.args.controller.now c.args.sites.now w
-    c.args.noted.now.entries.items c.note_last-in-LostPower.new.noted.entries.items c.in-Some.memory c.in-LostPower.memory off
-    (sym c.take.ensures.value ∙ c.in-Some.is) world c.in-LostPower.ensures c.empty_all.new.sites (c.empty_all.ensures w.sites world.sites) noted)
+pub returns-in-Off-clause-stands : goal.returns-in-Off-clause-stands
+returns-in-Off-clause-stands g c w world may timely off same =
+    on_ok c.note_last-in-Off.result c.note_last-in-Off.ensures.items
+    (λ noted. (let taken = c.in_ok-memory.ensures ∙ kept_is _ g.C.WorldNode.runs g.C.WorldNode.memory c.args.controller.now w.memory w.controller
+    (λ h. (link_to w.sites h).controller) world.controller in
+    let E : List ℕ → Memory → Type 0 = λ hs m. EndsBoot g.C.WorldNode.runs g.C.WorldNode.memory 0 hs Clf m c.in_ok-boot.field-0 in
+    boot_lost _ g.P.WorldNode.runs g.P.WorldNode.memory _ g.C.WorldNode.runs g.C.WorldNode.memory c.in_ok-boot.field-0 c.empty_all.new.sites w
+    c.args.noted.now.entries.items c.note_last-in-Off.new.noted.entries.items _ c.in-Off.is
+    (subst (E _) taken (subst (λ hs. E hs _) same c.in_ok-boot.ensures)) (c.empty_all.ensures w.sites world.sites) noted))

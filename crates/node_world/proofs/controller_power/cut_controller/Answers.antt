@@ -1,13 +1,10 @@
-use Rattle.node_machine.specs.world.World.{link_to}
 use Rattle.link_wires.proofs.Results.{on_ok}
-use Rattle.node_world.proofs.ControllersPower.{runs_over, was_cut}
+use Rattle.node_world.proofs.ControllersPower.{was_cut}
 use Rattle.node_world.proofs.controller_power.cut_controller.Goals as goal
 
 pub returns-clause-stands : goal.returns-clause-stands
 returns-clause-stands g c w r world on =
-    let n = runs_over _ g.P.WorldNode.runs g.P.WorldNode.memory _ g.C.WorldNode.runs g.C.WorldNode.memory c.args.controller.now.on c.args.controller.now.off
-    w.memory w.controller (λ h. (link_to w.sites h).controller) r on world.controller in
     on_ok c.note_last.result c.note_last.ensures.items
     (λ noted. was_cut _ g.P.WorldNode.runs g.P.WorldNode.memory _ g.C.WorldNode.runs g.C.WorldNode.memory c.args.controller.now
-    c.lose_controller.new.controller c.lose_controller.new.sites w c.args.noted.now.entries.items c.note_last.new.noted.entries.items n.node n.memory
-    (c.lose_controller.ensures.off n.node n.on_is) (c.lose_controller.ensures.wires w.sites world.sites) noted)
+    c.lose_controller.new.controller c.lose_controller.new.sites w c.args.noted.now.entries.items c.note_last.new.noted.entries.items world.controller
+    c.in_ok-lose_controller.ensures.off (c.lose_controller.ensures.wires w.sites world.sites) noted)

@@ -18,26 +18,26 @@ use Rattle.node_world.proofs.controller_steps.activate_controller.Goals as goal
 pub activate-live-requires-clause-may : goal.activate-live-requires-clause-may
 activate-live-requires-clause-may g c =
     let q = c.requires.state in
-    let here = place_is_on _ g.C.WorldNode.runs g.C.WorldNode.memory c.args.controller.now.on c.args.controller.now.off q.0.memory q.0.controller
-    (λ h. (link_to q.0.sites h).controller) c.in-Some.node c.in-Some.is q.1.controller in
+    let here = place_is_on _ g.C.WorldNode.runs g.C.WorldNode.memory c.args.controller.now q.0.memory q.0.controller
+    (λ h. (link_to q.0.sites h).controller) c.in-On.node c.in-On.is q.1.controller in
     may_begin _ g.C.WorldNode.runs g.C.WorldNode.memory g.met.C.WorldNode.kept
     (begins_there q.0 here.running c.args.host (Starts c.args.power) (Start c.args.power) q.3.0 q.2 here.runs q.3.1 refl
     _ g.row.P.Denot g.C.WorldNode.runs g.C.WorldNode.memory g.P.WorldNode.runs g.P.WorldNode.memory g.met.C.WorldNode.kept g.met.C.WorldNode.whole
-    c.in-Some.node here.place)
+    c.in-On.node here.place)
 
 pub finish_controller-requires-clause-state : goal.finish_controller-requires-clause-state
 finish_controller-requires-clause-state g c =
     let q = c.requires.state in
     let h : ℕ = c.args.host in
-    let i : ℕ = c.in-Some-place_of.place in
+    let i : ℕ = c.in-Some.place in
     let ks = c.args.sites.now in
     let k = slice_index_or ks i c.index-sites-place.result in
-    let here = place_is_on _ g.C.WorldNode.runs g.C.WorldNode.memory c.args.controller.now.on c.args.controller.now.off q.0.memory q.0.controller
-    (λ h. (link_to q.0.sites h).controller) c.in-Some.node c.in-Some.is q.1.controller in
+    let here = place_is_on _ g.C.WorldNode.runs g.C.WorldNode.memory c.args.controller.now q.0.memory q.0.controller
+    (λ h. (link_to q.0.sites h).controller) c.in-On.node c.in-On.is q.1.controller in
     let b = begins_there q.0 here.running h (Starts c.args.power) (Start c.args.power) q.3.0 q.2 here.runs q.3.1 refl
     _ g.row.P.Denot g.C.WorldNode.runs g.C.WorldNode.memory g.P.WorldNode.runs g.P.WorldNode.memory g.met.C.WorldNode.kept g.met.C.WorldNode.whole
-    c.in-Some.node here.place in
-    let st = c.in-Some-place_of.ensures.place q.0.sites q.1.sites in
+    c.in-On.node here.place in
+    let st = c.in-Some.ensures.place q.0.sites q.1.sites in
     let is = found_there i h q.0.sites q.3.0 st q.2.orderly.different q.3.1 in
     let site = site_read _ g.P.WorldNode.runs g.P.WorldNode.memory i h ks q.0.sites q.3.0 k st is q.1.sites (ap (slice_index_or ks i) c.index-sites-place.is) in
     let new = site_with _ g.P.WorldNode.runs g.P.WorldNode.memory k c.empty.new.self q.3.0 (with_bare_wires q.3.0.link) refl
@@ -49,17 +49,17 @@ finish_controller-requires-clause-state g c =
       mid_sites q.0 here.running h (Starts c.args.power) (Start c.args.power) q.3.0 q.2 here.runs q.3.1 refl,
       step_midway q.0 here.running h (Starts c.args.power) (Start c.args.power) q.3.0 q.2 here.runs q.3.1 refl
           _ g.row.P.Denot g.C.WorldNode.runs g.C.WorldNode.memory g.P.WorldNode.runs g.P.WorldNode.memory g.met.C.WorldNode.kept g.met.C.WorldNode.whole
-          c.in-Some.node c.activate-live.new.self c.args.controller.now.off _ c.activate-live.result (c.activate-live.ensures.stepped _ b) here.off_is sites,
+          c.in-On.node c.activate-live.new.self _ c.activate-live.result (c.activate-live.ensures.stepped _ b) sites,
     )
 
 pub finish_controller-requires-clause-from : goal.finish_controller-requires-clause-from
 finish_controller-requires-clause-from g c off =
     let q = c.requires.state in
-    let here = place_is_on _ g.C.WorldNode.runs g.C.WorldNode.memory c.args.controller.now.on c.args.controller.now.off q.0.memory q.0.controller
-    (λ h. (link_to q.0.sites h).controller) c.in-Some.node c.in-Some.is q.1.controller in
+    let here = place_is_on _ g.C.WorldNode.runs g.C.WorldNode.memory c.args.controller.now q.0.memory q.0.controller
+    (λ h. (link_to q.0.sites h).controller) c.in-On.node c.in-On.is q.1.controller in
     let b = begins_there q.0 here.running c.args.host (Starts c.args.power) (Start c.args.power) q.3.0 q.2 here.runs q.3.1 refl
     _ g.row.P.Denot g.C.WorldNode.runs g.C.WorldNode.memory g.P.WorldNode.runs g.P.WorldNode.memory g.met.C.WorldNode.kept g.met.C.WorldNode.whole
-    c.in-Some.node here.place in
+    c.in-On.node here.place in
     let before = c.args.noted.now.entries.items in
     from_there c.activate-live.new.noted.entries.items before _ c.activate-live.new.noted.short c.len-from.result
     (c.activate-live.ensures.noted before _ b (not_more before c.args.noted.now.short)) (sym (c.len-from.ensures ∙ c.args.noted.now.entries.ok.0)) off
@@ -68,10 +68,10 @@ pub finish_controller-requires-clause-room : goal.finish_controller-requires-cla
 finish_controller-requires-clause-room g c =
     let q = c.requires.state in
     let h : ℕ = c.args.host in
-    let i : ℕ = c.in-Some-place_of.place in
+    let i : ℕ = c.in-Some.place in
     let ks = c.args.sites.now in
     let k = slice_index_or ks i c.index-sites-place.result in
-    let st = c.in-Some-place_of.ensures.place q.0.sites q.1.sites in
+    let st = c.in-Some.ensures.place q.0.sites q.1.sites in
     let is = found_there i h q.0.sites q.3.0 st q.2.orderly.different q.3.1 in
     let site = site_read _ g.P.WorldNode.runs g.P.WorldNode.memory i h ks q.0.sites q.3.0 k st is q.1.sites (ap (slice_index_or ks i) c.index-sites-place.is) in
     let new = site_with _ g.P.WorldNode.runs g.P.WorldNode.memory k c.empty.new.self q.3.0 (with_bare_wires q.3.0.link) refl
@@ -84,15 +84,15 @@ finish_controller-requires-clause-room g c =
 pub returns-clause-stands : goal.returns-clause-stands
 returns-clause-stands g c w world may there few =
     let h : ℕ = c.args.host in
-    let i : ℕ = c.in-Some-place_of.place in
+    let i : ℕ = c.in-Some.place in
     let ks = c.args.sites.now in
     let k = slice_index_or ks i c.index-sites-place.result in
-    let here = place_is_on _ g.C.WorldNode.runs g.C.WorldNode.memory c.args.controller.now.on c.args.controller.now.off w.memory w.controller
-    (λ h. (link_to w.sites h).controller) c.in-Some.node c.in-Some.is world.controller in
+    let here = place_is_on _ g.C.WorldNode.runs g.C.WorldNode.memory c.args.controller.now w.memory w.controller
+    (λ h. (link_to w.sites h).controller) c.in-On.node c.in-On.is world.controller in
     let b = begins_there w here.running h (Starts c.args.power) (Start c.args.power) there.0 may here.runs there.1 refl
     _ g.row.P.Denot g.C.WorldNode.runs g.C.WorldNode.memory g.P.WorldNode.runs g.P.WorldNode.memory g.met.C.WorldNode.kept g.met.C.WorldNode.whole
-    c.in-Some.node here.place in
-    let st = c.in-Some-place_of.ensures.place w.sites world.sites in
+    c.in-On.node here.place in
+    let st = c.in-Some.ensures.place w.sites world.sites in
     let is = found_there i h w.sites there.0 st may.orderly.different there.1 in
     let site = site_read _ g.P.WorldNode.runs g.P.WorldNode.memory i h ks w.sites there.0 k st is world.sites
     (ap (slice_index_or ks i) c.index-sites-place.is) in
@@ -103,7 +103,7 @@ returns-clause-stands g c w world may there few =
     let gone = c.activate-live.ensures.stepped _ b in
     let midway = step_midway w here.running h (Starts c.args.power) (Start c.args.power) there.0 may here.runs there.1 refl
     _ g.row.P.Denot g.C.WorldNode.runs g.C.WorldNode.memory g.P.WorldNode.runs g.P.WorldNode.memory g.met.C.WorldNode.kept g.met.C.WorldNode.whole
-    c.in-Some.node c.activate-live.new.self c.args.controller.now.off _ c.activate-live.result gone here.off_is sites in
+    c.in-On.node c.activate-live.new.self _ c.activate-live.result gone sites in
     let before = c.args.noted.now.entries.items in
     let noted = c.activate-live.ensures.noted before _ b (not_more before c.args.noted.now.short) in
     let long = sym (c.len-from.ensures ∙ c.args.noted.now.entries.ok.0) in
@@ -114,7 +114,7 @@ returns-clause-stands g c w world may there few =
     c.sessions_of-sessions.result sessions (few (Start c.args.power) refl) in
     step_ends w here.running h (Starts c.args.power) (Start c.args.power) there.0 may here.runs there.1 refl
     _ g.row.P.Denot g.C.WorldNode.runs g.C.WorldNode.memory g.P.WorldNode.runs g.P.WorldNode.memory g.met.C.WorldNode.kept g.met.C.WorldNode.whole
-    c.finish_controller.result c.activate-live.result c.finish_controller.new.controller c.finish_controller.new.sites c.in-Some.node
+    c.finish_controller.result c.activate-live.result c.finish_controller.new.controller c.finish_controller.new.sites c.in-On.node
     c.activate-live.new.self before c.finish_controller.new.noted.entries.items here.place gone
     (λ live. c.finish_controller.ensures.goes_on c.activate-live.new.self _ _ before midway noted long counted live)
     (λ cut. c.finish_controller.ensures.cut c.activate-live.new.self _ _ before midway noted long counted cut)

@@ -16,22 +16,22 @@ use Rattle.node_world.proofs.controller_steps.reset_controller.Goals as goal
 pub reset-requires-clause-may : goal.reset-requires-clause-may
 reset-requires-clause-may g c =
     let q = c.requires.state in
-    let here = place_is_on _ g.C.WorldNode.runs g.C.WorldNode.memory c.args.controller.now.on c.args.controller.now.off q.0.memory q.0.controller
-    (λ h. (link_to q.0.sites h).controller) c.in-Some.node c.in-Some.is q.1.controller in
+    let here = place_is_on _ g.C.WorldNode.runs g.C.WorldNode.memory c.args.controller.now q.0.memory q.0.controller
+    (λ h. (link_to q.0.sites h).controller) c.in-On.node c.in-On.is q.1.controller in
     may_begin _ g.C.WorldNode.runs g.C.WorldNode.memory g.met.C.WorldNode.kept
     (begins_there q.0 here.running c.args.host (AsksReset c.args.window) (Reset c.args.window) q.3.0 q.2 here.runs q.3.1 refl
     _ g.row.P.Denot g.C.WorldNode.runs g.C.WorldNode.memory g.P.WorldNode.runs g.P.WorldNode.memory g.met.C.WorldNode.kept g.met.C.WorldNode.whole
-    c.in-Some.node here.place)
+    c.in-On.node here.place)
 
 pub finish_controller-requires-clause-state : goal.finish_controller-requires-clause-state
 finish_controller-requires-clause-state g c =
     let q = c.requires.state in
     let h : ℕ = c.args.host in
-    let here = place_is_on _ g.C.WorldNode.runs g.C.WorldNode.memory c.args.controller.now.on c.args.controller.now.off q.0.memory q.0.controller
-    (λ h. (link_to q.0.sites h).controller) c.in-Some.node c.in-Some.is q.1.controller in
+    let here = place_is_on _ g.C.WorldNode.runs g.C.WorldNode.memory c.args.controller.now q.0.memory q.0.controller
+    (λ h. (link_to q.0.sites h).controller) c.in-On.node c.in-On.is q.1.controller in
     let b = begins_there q.0 here.running h (AsksReset c.args.window) (Reset c.args.window) q.3.0 q.2 here.runs q.3.1 refl
     _ g.row.P.Denot g.C.WorldNode.runs g.C.WorldNode.memory g.P.WorldNode.runs g.P.WorldNode.memory g.met.C.WorldNode.kept g.met.C.WorldNode.whole
-    c.in-Some.node here.place in
+    c.in-On.node here.place in
     let A : List Site → Type 0 = λ xs. SitesAre g.P.WorldNode.runs g.P.WorldNode.memory c.args.sites.now xs in
     let sites : A (as_it_comes_to h (AsksReset c.args.window) q.0.sites) = subst A (sym (asked_there h c.args.window q.0.sites)) q.1.sites in (
       c.reset.new.self,
@@ -39,17 +39,17 @@ finish_controller-requires-clause-state g c =
       mid_sites q.0 here.running h (AsksReset c.args.window) (Reset c.args.window) q.3.0 q.2 here.runs q.3.1 refl,
       step_midway q.0 here.running h (AsksReset c.args.window) (Reset c.args.window) q.3.0 q.2 here.runs q.3.1 refl
           _ g.row.P.Denot g.C.WorldNode.runs g.C.WorldNode.memory g.P.WorldNode.runs g.P.WorldNode.memory g.met.C.WorldNode.kept g.met.C.WorldNode.whole
-          c.in-Some.node c.reset.new.self c.args.controller.now.off _ c.in-Ok.live (c.in-Ok.ensures.stepped _ b) here.off_is sites,
+          c.in-On.node c.reset.new.self _ c.in-Ok.live (c.in-Ok.ensures.stepped _ b) sites,
     )
 
 pub finish_controller-requires-clause-from : goal.finish_controller-requires-clause-from
 finish_controller-requires-clause-from g c off =
     let q = c.requires.state in
-    let here = place_is_on _ g.C.WorldNode.runs g.C.WorldNode.memory c.args.controller.now.on c.args.controller.now.off q.0.memory q.0.controller
-    (λ h. (link_to q.0.sites h).controller) c.in-Some.node c.in-Some.is q.1.controller in
+    let here = place_is_on _ g.C.WorldNode.runs g.C.WorldNode.memory c.args.controller.now q.0.memory q.0.controller
+    (λ h. (link_to q.0.sites h).controller) c.in-On.node c.in-On.is q.1.controller in
     let b = begins_there q.0 here.running c.args.host (AsksReset c.args.window) (Reset c.args.window) q.3.0 q.2 here.runs q.3.1 refl
     _ g.row.P.Denot g.C.WorldNode.runs g.C.WorldNode.memory g.P.WorldNode.runs g.P.WorldNode.memory g.met.C.WorldNode.kept g.met.C.WorldNode.whole
-    c.in-Some.node here.place in
+    c.in-On.node here.place in
     let before = c.args.noted.now.entries.items in
     from_there c.reset.new.noted.entries.items before _ c.reset.new.noted.short c.len-from.result
     (c.in-Ok.ensures.noted before _ b (not_more before c.args.noted.now.short)) (sym (c.len-from.ensures ∙ c.args.noted.now.entries.ok.0)) off
@@ -57,17 +57,17 @@ finish_controller-requires-clause-from g c off =
 pub returns-in_ok-finish_controller-in-Ok-clause-stands : goal.returns-in_ok-finish_controller-in-Ok-clause-stands
 returns-in_ok-finish_controller-in-Ok-clause-stands g c w world may there few =
     let h : ℕ = c.args.host in
-    let here = place_is_on _ g.C.WorldNode.runs g.C.WorldNode.memory c.args.controller.now.on c.args.controller.now.off w.memory w.controller
-    (λ h. (link_to w.sites h).controller) c.in-Some.node c.in-Some.is world.controller in
+    let here = place_is_on _ g.C.WorldNode.runs g.C.WorldNode.memory c.args.controller.now w.memory w.controller
+    (λ h. (link_to w.sites h).controller) c.in-On.node c.in-On.is world.controller in
     let b = begins_there w here.running h (AsksReset c.args.window) (Reset c.args.window) there.0 may here.runs there.1 refl
     _ g.row.P.Denot g.C.WorldNode.runs g.C.WorldNode.memory g.P.WorldNode.runs g.P.WorldNode.memory g.met.C.WorldNode.kept g.met.C.WorldNode.whole
-    c.in-Some.node here.place in
+    c.in-On.node here.place in
     let A : List Site → Type 0 = λ xs. SitesAre g.P.WorldNode.runs g.P.WorldNode.memory c.args.sites.now xs in
     let sites : A (as_it_comes_to h (AsksReset c.args.window) w.sites) = subst A (sym (asked_there h c.args.window w.sites)) world.sites in
     let gone = c.in-Ok.ensures.stepped _ b in
     let midway = step_midway w here.running h (AsksReset c.args.window) (Reset c.args.window) there.0 may here.runs there.1 refl
     _ g.row.P.Denot g.C.WorldNode.runs g.C.WorldNode.memory g.P.WorldNode.runs g.P.WorldNode.memory g.met.C.WorldNode.kept g.met.C.WorldNode.whole
-    c.in-Some.node c.reset.new.self c.args.controller.now.off _ c.in-Ok.live gone here.off_is sites in
+    c.in-On.node c.reset.new.self _ c.in-Ok.live gone sites in
     let before = c.args.noted.now.entries.items in
     let noted = c.in-Ok.ensures.noted before _ b (not_more before c.args.noted.now.short) in
     let long = sym (c.len-from.ensures ∙ c.args.noted.now.entries.ok.0) in
@@ -78,21 +78,21 @@ returns-in_ok-finish_controller-in-Ok-clause-stands g c w world may there few =
     c.sessions_of-sessions.result sessions (few (Reset c.args.window) refl) in
     step_ends w here.running h (AsksReset c.args.window) (Reset c.args.window) there.0 may here.runs there.1 refl
     _ g.row.P.Denot g.C.WorldNode.runs g.C.WorldNode.memory g.P.WorldNode.runs g.P.WorldNode.memory g.met.C.WorldNode.kept g.met.C.WorldNode.whole
-    {F = Unit {0}} (Ok c.in_ok-finish_controller-in-Ok.field-0) c.in-Ok.live c.finish_controller.new.controller c.finish_controller.new.sites c.in-Some.node
+    {F = Unit {0}} (Ok c.in_ok-finish_controller-in-Ok.field-0) c.in-Ok.live c.finish_controller.new.controller c.finish_controller.new.sites c.in-On.node
     c.reset.new.self before c.finish_controller.new.noted.entries.items here.place gone
     (λ live. c.in_ok-finish_controller-in-Ok.ensures.goes_on c.reset.new.self _ _ before midway noted long counted live)
     (λ cut. c.in_ok-finish_controller-in-Ok.ensures.cut c.reset.new.self _ _ before midway noted long counted cut)
 
 pub returns-in_ok-finish_controller-in-Ok-clause-refusal : goal.returns-in_ok-finish_controller-in-Ok-clause-refusal
 returns-in_ok-finish_controller-in-Ok-clause-refusal g c w world may there =
-    let here = place_is_on _ g.C.WorldNode.runs g.C.WorldNode.memory c.args.controller.now.on c.args.controller.now.off w.memory w.controller
-    (λ h. (link_to w.sites h).controller) c.in-Some.node c.in-Some.is world.controller in
+    let here = place_is_on _ g.C.WorldNode.runs g.C.WorldNode.memory c.args.controller.now w.memory w.controller
+    (λ h. (link_to w.sites h).controller) c.in-On.node c.in-On.is world.controller in
     reset_goes_on w here.running c.args.host (AsksReset c.args.window) (Reset c.args.window) there.0 may here.runs there.1 refl c.args.window
     (λ p here_is. c.in-Ok.ensures.refusal _ _ p here.place.1 here_is)
 
 pub returns-in-Err-clause-refusal : goal.returns-in-Err-clause-refusal
 returns-in-Err-clause-refusal g c w world may there =
-    let here = place_is_on _ g.C.WorldNode.runs g.C.WorldNode.memory c.args.controller.now.on c.args.controller.now.off w.memory w.controller
-    (λ h. (link_to w.sites h).controller) c.in-Some.node c.in-Some.is world.controller in
+    let here = place_is_on _ g.C.WorldNode.runs g.C.WorldNode.memory c.args.controller.now w.memory w.controller
+    (λ h. (link_to w.sites h).controller) c.in-On.node c.in-On.is world.controller in
     reset_stops_there w here.running c.args.host (AsksReset c.args.window) (Reset c.args.window) there.0 may here.runs there.1 refl c.args.window c.in-Err.why
     c.reset_cause.result c.reset_cause.ensures (λ p here_is. c.in-Err.ensures.refusal _ _ p here.place.1 here_is)

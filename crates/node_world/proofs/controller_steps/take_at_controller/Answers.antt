@@ -14,7 +14,8 @@ use Rattle.node_laws.specs.kept.Hosts.{AreDifferent}
 use Rattle.node_laws.proofs.telling.Nodes.{link_is}
 use Rattle.node_core.specs.Noting.{unnumbered}
 use Rattle.node_sites.specs.LinksKept.{without_first}
-use Rattle.node_sites.specs.Places.{IsNodePlace}
+use Rattle.node_sites.specs.declared.power.Power.TheVariants.{On}
+use Rattle.node_sites.specs.Powers.{IsNodePlace}
 use Rattle.node_world.specs.Controllers.{WorldBecomes, as_it_comes_to}
 use Rattle.node_world.proofs.HostsAre.{none_first, some_read, none_read}
 use Rattle.node_world.proofs.HostsBegin.{may_begin}
@@ -27,12 +28,12 @@ use Rattle.node_world.proofs.controller_steps.take_at_controller.Goals as goal
 pub returns-in_default-reads_first-clause-stands : goal.returns-in_default-reads_first-clause-stands
 returns-in_default-reads_first-clause-stands g c w world may there few =
     let h : ℕ = c.args.host in
-    let i : ℕ = c.in-Some-place_of.place in
+    let i : ℕ = c.in-Some.place in
     let ks = c.args.sites.now in
     let k = slice_index_or ks i c.index-sites-place.result in
     let l : Link = there.0.link in
     let before : List Entry = c.args.noted.now.entries.items in
-    let st = c.in-Some-place_of.ensures.place w.sites world.sites in
+    let st = c.in-Some.ensures.place w.sites world.sites in
     let is = found_there i h w.sites there.0 st may.orderly.different there.1 in
     let site = site_read _ g.P.WorldNode.runs g.P.WorldNode.memory i h ks w.sites there.0 k st is world.sites
     (ap (slice_index_or ks i) c.index-sites-place.is) in
@@ -40,9 +41,9 @@ returns-in_default-reads_first-clause-stands g c w world may there few =
     let sites = stays_there _ g.P.WorldNode.runs g.P.WorldNode.memory i h ks w.sites there.0 k st is world.sites site in
     let input = ap (λ m. input_of m NextFrame) (link_is w.sites h there.0 there.1) ∙ none_first l none in
     let B : NodeWorld × List Entry → Type 0 = λ x. WorldBecomes g.C.WorldNode.runs g.C.WorldNode.memory g.P.WorldNode.runs g.P.WorldNode.memory
-    (record { on = Some c.in-Some.node; off = c.args.controller.now.off }) (slice_set ks i k) before before x in
-    let place = subst (λ o. IsNodePlace g.C.WorldNode.runs g.C.WorldNode.memory o c.args.controller.now.off w.memory w.controller
-    (λ n. (link_to w.sites n).controller)) c.in-Some.is world.controller in
+    (On c.in-On.node) (slice_set ks i k) before before x in
+    let place = subst (λ o. IsNodePlace g.C.WorldNode.runs g.C.WorldNode.memory o w.memory w.controller
+    (λ n. (link_to w.sites n).controller)) c.in-On.is world.controller in
     subst B (sym (comes_none w h NextFrame input))
     (record {
       world = record { controller = place; sites = sites };
@@ -53,14 +54,14 @@ pub take-live-requires : goal.take-live-requires
 take-live-requires g c =
     let q = c.requires.state in
     let h : ℕ = c.args.host in
-    let i : ℕ = c.in-Some-place_of.place in
+    let i : ℕ = c.in-Some.place in
     let ks = c.args.sites.now in
     let k = slice_index_or ks i c.index-sites-place.result in
     let l : Link = q.3.0.link in
     let before : List Entry = c.args.noted.now.entries.items in
-    let here = place_is_on _ g.C.WorldNode.runs g.C.WorldNode.memory c.args.controller.now.on c.args.controller.now.off q.0.memory q.0.controller
-    (λ h. (link_to q.0.sites h).controller) c.in-Some.node c.in-Some.is q.1.controller in
-    let st = c.in-Some-place_of.ensures.place q.0.sites q.1.sites in
+    let here = place_is_on _ g.C.WorldNode.runs g.C.WorldNode.memory c.args.controller.now q.0.memory q.0.controller
+    (λ h. (link_to q.0.sites h).controller) c.in-On.node c.in-On.is q.1.controller in
+    let st = c.in-Some.ensures.place q.0.sites q.1.sites in
     let is = found_there i h q.0.sites q.3.0 st q.2.orderly.different q.3.1 in
     let site = site_read _ g.P.WorldNode.runs g.P.WorldNode.memory i h ks q.0.sites q.3.0 k st is q.1.sites (ap (slice_index_or ks i) c.index-sites-place.is) in
     let f = some_read l.to_controller c.reads_first.result c.in-Some-reads_first.read c.in-Some-reads_first.is (c.reads_first.ensures l site.wires.here) in
@@ -74,7 +75,7 @@ take-live-requires g c =
     (come_far l NextFrame) (first_off k.wires c.take_first.new.self l site.wires t.0) site in
     let b = begins_there q.0 here.running h NextFrame (lpdu_input f.lpdu) q.3.0 q.2 here.runs q.3.1 input
     _ g.row.P.Denot g.C.WorldNode.runs g.C.WorldNode.memory g.P.WorldNode.runs g.P.WorldNode.memory g.met.C.WorldNode.kept g.met.C.WorldNode.whole
-    c.in-Some.node here.place in
+    c.in-On.node here.place in
     record {
       may = may_begin _ g.C.WorldNode.runs g.C.WorldNode.memory g.met.C.WorldNode.kept b;
       read = (f.lpdu, f.says);
@@ -84,14 +85,14 @@ pub finish_controller-requires-clause-state : goal.finish_controller-requires-cl
 finish_controller-requires-clause-state g c =
     let q = c.requires.state in
     let h : ℕ = c.args.host in
-    let i : ℕ = c.in-Some-place_of.place in
+    let i : ℕ = c.in-Some.place in
     let ks = c.args.sites.now in
     let k = slice_index_or ks i c.index-sites-place.result in
     let l : Link = q.3.0.link in
     let before : List Entry = c.args.noted.now.entries.items in
-    let here = place_is_on _ g.C.WorldNode.runs g.C.WorldNode.memory c.args.controller.now.on c.args.controller.now.off q.0.memory q.0.controller
-    (λ h. (link_to q.0.sites h).controller) c.in-Some.node c.in-Some.is q.1.controller in
-    let st = c.in-Some-place_of.ensures.place q.0.sites q.1.sites in
+    let here = place_is_on _ g.C.WorldNode.runs g.C.WorldNode.memory c.args.controller.now q.0.memory q.0.controller
+    (λ h. (link_to q.0.sites h).controller) c.in-On.node c.in-On.is q.1.controller in
+    let st = c.in-Some.ensures.place q.0.sites q.1.sites in
     let is = found_there i h q.0.sites q.3.0 st q.2.orderly.different q.3.1 in
     let site = site_read _ g.P.WorldNode.runs g.P.WorldNode.memory i h ks q.0.sites q.3.0 k st is q.1.sites (ap (slice_index_or ks i) c.index-sites-place.is) in
     let f = some_read l.to_controller c.reads_first.result c.in-Some-reads_first.read c.in-Some-reads_first.is (c.reads_first.ensures l site.wires.here) in
@@ -105,7 +106,7 @@ finish_controller-requires-clause-state g c =
     (come_far l NextFrame) (first_off k.wires c.take_first.new.self l site.wires t.0) site in
     let b = begins_there q.0 here.running h NextFrame (lpdu_input f.lpdu) q.3.0 q.2 here.runs q.3.1 input
     _ g.row.P.Denot g.C.WorldNode.runs g.C.WorldNode.memory g.P.WorldNode.runs g.P.WorldNode.memory g.met.C.WorldNode.kept g.met.C.WorldNode.whole
-    c.in-Some.node here.place in
+    c.in-On.node here.place in
     let sites = comes_there _ g.P.WorldNode.runs g.P.WorldNode.memory i h NextFrame ks q.0.sites q.3.0
     (record k { wires = record k.wires { controller = c.take_first.new.self } }) st q.2.orderly.different is q.1.sites new in (
       c.take-live.new.self,
@@ -113,21 +114,21 @@ finish_controller-requires-clause-state g c =
       mid_sites q.0 here.running h NextFrame (lpdu_input f.lpdu) q.3.0 q.2 here.runs q.3.1 input,
       step_midway q.0 here.running h NextFrame (lpdu_input f.lpdu) q.3.0 q.2 here.runs q.3.1 input
           _ g.row.P.Denot g.C.WorldNode.runs g.C.WorldNode.memory g.P.WorldNode.runs g.P.WorldNode.memory g.met.C.WorldNode.kept g.met.C.WorldNode.whole
-          c.in-Some.node c.take-live.new.self c.args.controller.now.off _ c.take-live.result (c.take-live.ensures.stepped _ f.lpdu b f.says) here.off_is sites,
+          c.in-On.node c.take-live.new.self _ c.take-live.result (c.take-live.ensures.stepped _ f.lpdu b f.says) sites,
     )
 
 pub finish_controller-requires-clause-from : goal.finish_controller-requires-clause-from
 finish_controller-requires-clause-from g c off =
     let q = c.requires.state in
     let h : ℕ = c.args.host in
-    let i : ℕ = c.in-Some-place_of.place in
+    let i : ℕ = c.in-Some.place in
     let ks = c.args.sites.now in
     let k = slice_index_or ks i c.index-sites-place.result in
     let l : Link = q.3.0.link in
     let before : List Entry = c.args.noted.now.entries.items in
-    let here = place_is_on _ g.C.WorldNode.runs g.C.WorldNode.memory c.args.controller.now.on c.args.controller.now.off q.0.memory q.0.controller
-    (λ h. (link_to q.0.sites h).controller) c.in-Some.node c.in-Some.is q.1.controller in
-    let st = c.in-Some-place_of.ensures.place q.0.sites q.1.sites in
+    let here = place_is_on _ g.C.WorldNode.runs g.C.WorldNode.memory c.args.controller.now q.0.memory q.0.controller
+    (λ h. (link_to q.0.sites h).controller) c.in-On.node c.in-On.is q.1.controller in
+    let st = c.in-Some.ensures.place q.0.sites q.1.sites in
     let is = found_there i h q.0.sites q.3.0 st q.2.orderly.different q.3.1 in
     let site = site_read _ g.P.WorldNode.runs g.P.WorldNode.memory i h ks q.0.sites q.3.0 k st is q.1.sites (ap (slice_index_or ks i) c.index-sites-place.is) in
     let f = some_read l.to_controller c.reads_first.result c.in-Some-reads_first.read c.in-Some-reads_first.is (c.reads_first.ensures l site.wires.here) in
@@ -141,21 +142,21 @@ finish_controller-requires-clause-from g c off =
     (come_far l NextFrame) (first_off k.wires c.take_first.new.self l site.wires t.0) site in
     let b = begins_there q.0 here.running h NextFrame (lpdu_input f.lpdu) q.3.0 q.2 here.runs q.3.1 input
     _ g.row.P.Denot g.C.WorldNode.runs g.C.WorldNode.memory g.P.WorldNode.runs g.P.WorldNode.memory g.met.C.WorldNode.kept g.met.C.WorldNode.whole
-    c.in-Some.node here.place in
+    c.in-On.node here.place in
     from_there c.take-live.new.noted.entries.items before _ c.take-live.new.noted.short c.len-from.result
     (c.take-live.ensures.noted before _ f.lpdu b f.says (λ long. started)) (sym (c.len-from.ensures ∙ c.args.noted.now.entries.ok.0)) off
 
 pub returns-clause-stands : goal.returns-clause-stands
 returns-clause-stands g c w world may there few =
     let h : ℕ = c.args.host in
-    let i : ℕ = c.in-Some-place_of.place in
+    let i : ℕ = c.in-Some.place in
     let ks = c.args.sites.now in
     let k = slice_index_or ks i c.index-sites-place.result in
     let l : Link = there.0.link in
     let before : List Entry = c.args.noted.now.entries.items in
-    let here = place_is_on _ g.C.WorldNode.runs g.C.WorldNode.memory c.args.controller.now.on c.args.controller.now.off w.memory w.controller
-    (λ h. (link_to w.sites h).controller) c.in-Some.node c.in-Some.is world.controller in
-    let st = c.in-Some-place_of.ensures.place w.sites world.sites in
+    let here = place_is_on _ g.C.WorldNode.runs g.C.WorldNode.memory c.args.controller.now w.memory w.controller
+    (λ h. (link_to w.sites h).controller) c.in-On.node c.in-On.is world.controller in
+    let st = c.in-Some.ensures.place w.sites world.sites in
     let is = found_there i h w.sites there.0 st may.orderly.different there.1 in
     let site = site_read _ g.P.WorldNode.runs g.P.WorldNode.memory i h ks w.sites there.0 k st is world.sites
     (ap (slice_index_or ks i) c.index-sites-place.is) in
@@ -170,13 +171,13 @@ returns-clause-stands g c w world may there few =
     (come_far l NextFrame) (first_off k.wires c.take_first.new.self l site.wires t.0) site in
     let b = begins_there w here.running h NextFrame (lpdu_input f.lpdu) there.0 may here.runs there.1 input
     _ g.row.P.Denot g.C.WorldNode.runs g.C.WorldNode.memory g.P.WorldNode.runs g.P.WorldNode.memory g.met.C.WorldNode.kept g.met.C.WorldNode.whole
-    c.in-Some.node here.place in
+    c.in-On.node here.place in
     let sites = comes_there _ g.P.WorldNode.runs g.P.WorldNode.memory i h NextFrame ks w.sites there.0
     (record k { wires = record k.wires { controller = c.take_first.new.self } }) st may.orderly.different is world.sites new in
     let gone = c.take-live.ensures.stepped _ f.lpdu b f.says in
     let midway = step_midway w here.running h NextFrame (lpdu_input f.lpdu) there.0 may here.runs there.1 input
     _ g.row.P.Denot g.C.WorldNode.runs g.C.WorldNode.memory g.P.WorldNode.runs g.P.WorldNode.memory g.met.C.WorldNode.kept g.met.C.WorldNode.whole
-    c.in-Some.node c.take-live.new.self c.args.controller.now.off _ c.take-live.result gone here.off_is sites in
+    c.in-On.node c.take-live.new.self _ c.take-live.result gone sites in
     let noted = c.take-live.ensures.noted before _ f.lpdu b f.says (λ long. started) in
     let long = sym (c.len-from.ensures ∙ c.args.noted.now.entries.ok.0) in
     let names = hosts_as_it_comes h NextFrame w.sites in
@@ -186,7 +187,7 @@ returns-clause-stands g c w world may there few =
     c.sessions_of-sessions.result sessions (few (lpdu_input f.lpdu) input) in
     step_ends w here.running h NextFrame (lpdu_input f.lpdu) there.0 may here.runs there.1 input
     _ g.row.P.Denot g.C.WorldNode.runs g.C.WorldNode.memory g.P.WorldNode.runs g.P.WorldNode.memory g.met.C.WorldNode.kept g.met.C.WorldNode.whole
-    c.finish_controller.result c.take-live.result c.finish_controller.new.controller c.finish_controller.new.sites c.in-Some.node
+    c.finish_controller.result c.take-live.result c.finish_controller.new.controller c.finish_controller.new.sites c.in-On.node
     c.take-live.new.self before c.finish_controller.new.noted.entries.items here.place gone
     (λ live. c.finish_controller.ensures.goes_on c.take-live.new.self _ _ before midway noted long counted live)
     (λ cut. c.finish_controller.ensures.cut c.take-live.new.self _ _ before midway noted long counted cut)

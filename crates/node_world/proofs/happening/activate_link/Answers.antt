@@ -8,7 +8,7 @@ use Rattle.link_laws.specs.messages.Links.Comes.{Starts}
 use Rattle.node_machine.specs.Parts.{Core, Port}
 use Rattle.node_machine.specs.world.World.{NodeWorld, activates, comes_at, end_c, end_h}
 use Rattle.node_laws.proofs.telling.Events.{comes_goes}
-use Rattle.node_world.specs.declared.controller.ControllerPlace.{ControllerPlace}
+use Rattle.node_sites.specs.declared.power.Power.{Power}
 use Rattle.node_sites.specs.declared.places.HostSite.{HostSite}
 use Rattle.node_world.specs.Bounds.{FewBehind}
 use Rattle.node_world.specs.Controllers.{WorldBecomes, MayGoOn, IsThere}
@@ -42,7 +42,7 @@ few_so w few = longer 250000000 300000000 w (omega arith) few
 -- both steps, one behind the other
 module _ (C P : Type 0) (CRuns : C → Core → List Port → Type 0) (c_memory : C → Memory) (PRuns : P → Core → List Port → Type 0)
     (p_memory : P → Memory) where
-  both_steps : (k : ControllerPlace C) (ks new : List (HostSite P)) (w : NodeWorld) (h sync power : ℕ) (before mid now : List Entry)
+  both_steps : (k : Power C) (ks new : List (HostSite P)) (w : NodeWorld) (h sync power : ℕ) (before mid now : List Entry)
       → IsWithinBounds (near w h power).0 → IsThere h (near w h power).0
       → WorldBecomes CRuns c_memory PRuns p_memory k ks before mid (near w h power)
       → SitesBecome PRuns p_memory new mid now (comes_at (near w h power).0 (end_h h) (Starts sync))

@@ -6,10 +6,10 @@ use Rattle.node_machine.specs.Parts.{Core, Port}
 use Rattle.node_machine.specs.world.World.{NodeWorld, Site, link_to, memory_at, site_at, with_site, world_step}
 use Rattle.node_machine.specs.world.World.Happening.{Arms}
 use Rattle.node_laws.specs.telling.Telling.{IsOrderly}
-use Rattle.node_world.specs.declared.controller.ControllerPlace.{ControllerPlace}
+use Rattle.node_sites.specs.declared.power.Power.{Power}
 use Rattle.node_sites.specs.declared.places.HostSite.{HostSite}
 use Rattle.node_world.specs.Controllers.{SitesAre, WorldIs}
-use Rattle.node_sites.specs.Places.{IsNodePlace}
+use Rattle.node_sites.specs.Powers.{IsNodePlace}
 use Rattle.node_world.proofs.HostsInWorlds.{armed_in_world}
 use Rattle.node_world.proofs.HostsPower.{armed, none_changed}
 use Rattle.node_world.proofs.NearKept.{host_becomes}
@@ -24,7 +24,7 @@ nothing_armed w n plan off none =
 
 module _ (C P : Type 0) (CRuns : C → Core → List Port → Type 0) (c_memory : C → Memory) (PRuns : P → Core → List Port → Type 0)
     (p_memory : P → Memory) where
-  host_armed : (k : ControllerPlace C) (ks new : List (HostSite P)) (w : NodeWorld) (n : ℕ) (plan : Plan) → (n == 0) ≡ false → IsOrderly w
+  host_armed : (k : Power C) (ks new : List (HostSite P)) (w : NodeWorld) (n : ℕ) (plan : Plan) → (n == 0) ≡ false → IsOrderly w
       → WorldIs CRuns c_memory PRuns p_memory k ks w → SitesAre PRuns p_memory new (world_step w (Arms n plan)).0.sites
       → WorldIs CRuns c_memory PRuns p_memory k new (world_step w (Arms n plan)).0
   host_armed k ks new w n plan off orderly world now = go (site_at w.sites n) refl
@@ -35,7 +35,7 @@ module _ (C P : Type 0) (CRuns : C → Core → List Port → Type 0) (c_memory 
           (armed_in_world w n s found off plan) (record { host = refl; near = refl }) C P CRuns c_memory PRuns p_memory k ks new [] [] world
           (record { sites = now; noted = refl })).world
       go None none =
-          let K : NodeWorld → Type 0 = λ v. IsNodePlace CRuns c_memory k.on k.off v.memory v.controller (λ h. (link_to v.sites h).controller) in
+          let K : NodeWorld → Type 0 = λ v. IsNodePlace CRuns c_memory k v.memory v.controller (λ h. (link_to v.sites h).controller) in
           record { controller = subst K (sym (nothing_armed w n plan off none)) world.controller; sites = now }
 
 pub returns-then-node-eq0 : goal.returns-then-node-eq0

@@ -1,22 +1,36 @@
-use Rattle.std.proofs.Common.{sym, ◌∙◌}
+use Rattle.std.proofs.Common.{ℕ, [], ◌∷◌, sym, subst, ◌∙◌}
+use Rattle.swp_base.specs.InMemory.{Memory}
+use Rattle.swp_base.specs.declared.link_terms.Role.TheVariants.{Uicc}
 use Rattle.link_wires.proofs.Results.{on_ok}
-use Rattle.node_world.proofs.HostsBoot.{bootable, runs_now, lost_power}
+use Rattle.node_sites.specs.Memories.{IsSoundMemory}
+use Rattle.node_sites.specs.WorldBoots.{EndsBoot}
+use Rattle.node_sites.proofs.Powers.{kept_is}
+use Rattle.node_world.proofs.HostsBoot.{runs_now, lost_power}
 use Rattle.node_world.proofs.host_boots.boot_host.Goals as goal
 
 pub boot-requires-clause-memory : goal.boot-requires-clause-memory
 boot-requires-clause-memory g c =
     let r = c.requires.state in
-    bootable _ g.P.WorldNode.runs g.P.WorldNode.memory c.args.site.now r.0 c.in-Some.memory r.1 r.3 r.4 (sym c.take.ensures.value ∙ c.in-Some.is)
+    let taken = c.in_ok-memory.ensures ∙ kept_is _ g.P.WorldNode.runs g.P.WorldNode.memory c.args.site.now.power r.0.memory r.0.node
+    (λ h. r.0.link.host) r.1.place in
+    subst IsSoundMemory (sym taken) r.4
 
-pub returns-in-Runs-clause-stands : goal.returns-in-Runs-clause-stands
-returns-in-Runs-clause-stands g c s is host off side =
+pub returns-in-On-clause-stands : goal.returns-in-On-clause-stands
+returns-in-On-clause-stands g c s is host off side =
     on_ok c.note_last.result c.note_last.ensures.items
-    (λ noted. runs_now _ g.P.WorldNode.runs g.P.WorldNode.memory g.met.P.WorldNode.kept c.args.site.now s c.in-Runs.node c.in-Some.memory
-    c.take.new.self c.count-count.result c.args.noted.now.entries.items is off side (sym c.take.ensures.value ∙ c.in-Some.is) c.take.ensures.after
-    c.in-Runs.ensures c.count-count.ensures noted)
+    (λ noted. (let taken = c.in_ok-memory.ensures ∙ kept_is _ g.P.WorldNode.runs g.P.WorldNode.memory c.args.site.now.power s.memory s.node
+    (λ h. s.link.host) is.place in
+    let E : ℕ → Memory → Type 0 = λ h m. EndsBoot g.P.WorldNode.runs g.P.WorldNode.memory h (h ∷ []) Uicc m c.in_ok-boot.field-0 in
+    runs_now _ g.P.WorldNode.runs g.P.WorldNode.memory g.met.P.WorldNode.kept c.args.site.now c.in_ok-boot.field-0 s c.in-On.running
+    c.count-count.result c.args.noted.now.entries.items c.in-On.is is side (subst (E s.host) taken (subst (λ h. E h _) is.host c.in_ok-boot.ensures))
+    c.count-count.ensures noted))
 
-pub returns-in-LostPower-clause-stands : goal.returns-in-LostPower-clause-stands
-returns-in-LostPower-clause-stands g c s is host off side =
-    on_ok c.note_last-in-LostPower.result c.note_last-in-LostPower.ensures.items
-    (λ noted. lost_power _ g.P.WorldNode.runs g.P.WorldNode.memory c.args.site.now s c.in-Some.memory c.in-LostPower.memory c.empty.new.self
-    c.args.noted.now.entries.items is off (sym c.take.ensures.value ∙ c.in-Some.is) c.in-LostPower.ensures (c.empty.ensures s.link is.wires) noted)
+pub returns-in-Off-clause-stands : goal.returns-in-Off-clause-stands
+returns-in-Off-clause-stands g c s is host off side =
+    on_ok c.note_last-in-Off.result c.note_last-in-Off.ensures.items
+    (λ noted. (let taken = c.in_ok-memory.ensures ∙ kept_is _ g.P.WorldNode.runs g.P.WorldNode.memory c.args.site.now.power s.memory s.node
+    (λ h. s.link.host) is.place in
+    let E : ℕ → Memory → Type 0 = λ h m. EndsBoot g.P.WorldNode.runs g.P.WorldNode.memory h (h ∷ []) Uicc m c.in_ok-boot.field-0 in
+    lost_power _ g.P.WorldNode.runs g.P.WorldNode.memory c.args.site.now c.in_ok-boot.field-0 s _ c.empty.new.self
+    c.args.noted.now.entries.items c.in-Off.is is (subst (E s.host) taken (subst (λ h. E h _) is.host c.in_ok-boot.ensures))
+    (c.empty.ensures s.link is.wires) noted))

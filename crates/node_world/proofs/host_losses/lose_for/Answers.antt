@@ -10,18 +10,18 @@ use Rattle.node_world.proofs.host_losses.lose_for.Goals as goal
 pub refused-requires : goal.refused-requires
 refused-requires g c =
     let r = c.requires.state in
-    let here = is_on _ g.P.WorldNode.runs g.P.WorldNode.memory r.1 c.in-Some.is in
+    let here = is_on _ g.P.WorldNode.runs g.P.WorldNode.memory r.1 c.in-On.is in
     record {
       has = has_end _ g.P.WorldNode.runs g.P.WorldNode.memory g.met.P.WorldNode.kept
-          (begins_at_end _ g.P.WorldNode.runs g.P.WorldNode.memory g.met.P.WorldNode.kept c.args.site.now r.0 c.in-Some.node here.running NoInput r.1 r.2
-          c.in-Some.is here.runs);
+          (begins_at_end _ g.P.WorldNode.runs g.P.WorldNode.memory g.met.P.WorldNode.kept c.args.site.now r.0 c.in-On.node here.running NoInput r.1 r.2
+          c.in-On.is here.runs);
     }
 
-pub returns-in-Some-clause-stands : goal.returns-in-Some-clause-stands
-returns-in-Some-clause-stands g c s why is host cause =
+pub returns-in-On-clause-stands : goal.returns-in-On-clause-stands
+returns-in-On-clause-stands g c s why is host cause =
     let r = c.in_ok-lose.ensures s.link why is.wires cause in (
-      counted _ g.P.WorldNode.runs g.P.WorldNode.memory c.args.site.now s c.in-Some.node c.refused.new.self c.args.to why is c.in-Some.is c.if-to.true
-          (sym (c.is_refusal.ensures why cause) ∙ c.if-is_refusal.true) refl refl refl c.refused.ensures.memory
+      counted _ g.P.WorldNode.runs g.P.WorldNode.memory c.args.site.now s c.in-On.node c.refused.new.self c.args.to why is c.in-On.is c.if-to.true
+          (sym (c.is_refusal.ensures why cause) ∙ c.if-is_refusal.true) refl refl c.refused.ensures.memory
           (λ core desks runs on. let e = its_end c.args.site.now.host s core desks host is.host on in c.refused.ensures.runs core _ e.port runs e.here) r.0,
       r.1,
     )
@@ -30,8 +30,8 @@ pub returns-in_default-clause-stands : goal.returns-in_default-clause-stands
 returns-in_default-clause-stands g c s why is host cause =
     let r = c.in_ok-lose.ensures s.link why is.wires cause in (
       as_lost _ g.P.WorldNode.runs g.P.WorldNode.memory
-          (not_running c.args.to why s c.if-to.true (is_off _ g.P.WorldNode.runs g.P.WorldNode.memory is c.in_default.is))
-          (was_lost _ g.P.WorldNode.runs g.P.WorldNode.memory s c.args.to why is refl refl refl r.0),
+          (not_running c.args.to why s c.if-to.true (is_off _ g.P.WorldNode.runs g.P.WorldNode.memory is c.in_default.not-On))
+          (was_lost _ g.P.WorldNode.runs g.P.WorldNode.memory s c.args.to why is refl refl r.0),
       r.1,
     )
 
@@ -42,10 +42,10 @@ returns-else-to-clause-stands g c s why is host cause =
         | else-to-via-then-to+else-is_refusal w ↦
             as_lost _ g.P.WorldNode.runs g.P.WorldNode.memory
             (not_refused c.args.to why s w.if-to.true (sym (w.is_refusal.ensures why cause) ∙ w.if-is_refusal.false))
-            (was_lost _ g.P.WorldNode.runs g.P.WorldNode.memory s c.args.to why is refl refl refl r.0)
+            (was_lost _ g.P.WorldNode.runs g.P.WorldNode.memory s c.args.to why is refl refl r.0)
         | else-to-via-else-to w ↦
             as_lost _ g.P.WorldNode.runs g.P.WorldNode.memory (at_controller c.args.to why s w.if-to.false)
-            (was_lost _ g.P.WorldNode.runs g.P.WorldNode.memory s c.args.to why is refl refl refl r.0)
+            (was_lost _ g.P.WorldNode.runs g.P.WorldNode.memory s c.args.to why is refl refl r.0)
       ],
       r.1,
     )

@@ -11,50 +11,50 @@ use Rattle.node_world.proofs.host_steps.reset_host.Goals as goal
 pub reset-requires-clause-may : goal.reset-requires-clause-may
 reset-requires-clause-may g c =
     let r = c.requires.state in
-    let here = is_on _ g.P.WorldNode.runs g.P.WorldNode.memory r.1 c.in-Some.is in
+    let here = is_on _ g.P.WorldNode.runs g.P.WorldNode.memory r.1 c.in-On.is in
     may_begin _ g.P.WorldNode.runs g.P.WorldNode.memory g.met.P.WorldNode.kept
-    (begins_at_end _ g.P.WorldNode.runs g.P.WorldNode.memory g.met.P.WorldNode.kept c.args.site.now r.0 c.in-Some.node here.running
-    (AsksReset c.args.window) r.1 r.2 c.in-Some.is here.runs)
+    (begins_at_end _ g.P.WorldNode.runs g.P.WorldNode.memory g.met.P.WorldNode.kept c.args.site.now r.0 c.in-On.node here.running
+    (AsksReset c.args.window) r.1 r.2 c.in-On.is here.runs)
 
 pub finish_host-requires-clause-state : goal.finish_host-requires-clause-state
 finish_host-requires-clause-state g c =
     let r = c.requires.state in
     let before = c.args.noted.now.entries.items in
-    let d = heard _ g.P.WorldNode.runs g.P.WorldNode.memory g.met.P.WorldNode.kept c.args.site.now _ r.0 c.in-Some.node c.reset.new.self
+    let d = heard _ g.P.WorldNode.runs g.P.WorldNode.memory g.met.P.WorldNode.kept c.args.site.now _ r.0 c.in-On.node c.reset.new.self
     c.in-Ok.live before before c.reset.new.noted.entries.items c.args.noted.now.short c.reset.new.noted.short r.1 r.2
-    c.in-Some.is refl refl refl (AsksReset c.args.window) (Reset c.args.window) r.3 refl c.in-Ok.ensures.stepped (c.in-Ok.ensures.noted before)
+    c.in-On.is refl refl (AsksReset c.args.window) (Reset c.args.window) r.3 refl c.in-Ok.ensures.stepped (c.in-Ok.ensures.noted before)
     (not_more before c.args.noted.now.short) r.1.wires in
     (r.0, d.step, d.l, d.w, before, sym (c.len-from.ensures ∙ c.args.noted.now.entries.ok.0), d.midway)
 
 pub returns-in_ok-finish_host-in-Ok-clause-refusal : goal.returns-in_ok-finish_host-in-Ok-clause-refusal
 returns-in_ok-finish_host-in-Ok-clause-refusal g c s is host counts =
-    reset_goes _ g.P.WorldNode.runs g.P.WorldNode.memory g.met.P.WorldNode.kept c.args.site.now s c.in-Some.node is host c.in-Some.is
+    reset_goes _ g.P.WorldNode.runs g.P.WorldNode.memory g.met.P.WorldNode.kept c.args.site.now s c.in-On.node is host c.in-On.is
     (λ core ports p runs here. c.in-Ok.ensures.refusal core ports p runs here)
 
 pub returns-in_ok-finish_host-in-Ok-clause-stands : goal.returns-in_ok-finish_host-in-Ok-clause-stands
 returns-in_ok-finish_host-in-Ok-clause-stands g c s is host counts =
     let before = c.args.noted.now.entries.items in
-    let d = heard _ g.P.WorldNode.runs g.P.WorldNode.memory g.met.P.WorldNode.kept c.args.site.now _ s c.in-Some.node c.reset.new.self
+    let d = heard _ g.P.WorldNode.runs g.P.WorldNode.memory g.met.P.WorldNode.kept c.args.site.now _ s c.in-On.node c.reset.new.self
     c.in-Ok.live before before c.reset.new.noted.entries.items c.args.noted.now.short c.reset.new.noted.short is host
-    c.in-Some.is refl refl refl (AsksReset c.args.window) (Reset c.args.window) counts refl c.in-Ok.ensures.stepped (c.in-Ok.ensures.noted before)
+    c.in-On.is refl refl (AsksReset c.args.window) (Reset c.args.window) counts refl c.in-Ok.ensures.stepped (c.in-Ok.ensures.noted before)
     (not_more before c.args.noted.now.short) is.wires in
     is_done (Ok c.in_ok-finish_host-in-Ok.field-0) c.finish_host.new.site c.finish_host.new.noted.entries.items d
     (c.in_ok-finish_host-in-Ok.ensures.stands s d.step d.l d.w before (sym (c.len-from.ensures ∙ c.args.noted.now.entries.ok.0)) d.midway)
 
 pub returns-in-Err-clause-refusal : goal.returns-in-Err-clause-refusal
 returns-in-Err-clause-refusal g c s is host counts =
-    reset_stops _ g.P.WorldNode.runs g.P.WorldNode.memory g.met.P.WorldNode.kept c.args.site.now s c.in-Some.node is host c.in-Some.is c.in-Err.why
+    reset_stops _ g.P.WorldNode.runs g.P.WorldNode.memory g.met.P.WorldNode.kept c.args.site.now s c.in-On.node is host c.in-On.is c.in-Err.why
     c.reset_cause.result c.reset_cause.ensures (λ core ports p runs here. c.in-Err.ensures.refusal core ports p runs here)
 
 pub returns-in-Err-clause-stands : goal.returns-in-Err-clause-stands
 returns-in-Err-clause-stands g c s is host counts =
-    still_stands _ g.P.WorldNode.runs g.P.WorldNode.memory c.args.site.now s c.in-Some.node c.reset.new.self is c.in-Some.is
+    still_stands _ g.P.WorldNode.runs g.P.WorldNode.memory c.args.site.now s c.in-On.node c.reset.new.self is c.in-On.is
     c.in-Err.ensures.unchanged c.in-Err.ensures.quiet.1 c.args.noted.now.entries.items c.reset.new.noted.entries.items
     (ap (λ n. n.entries.items) c.in-Err.ensures.quiet.0)
 
 pub returns-in_default-clause-refusal : goal.returns-in_default-clause-refusal
 returns-in_default-clause-refusal g c s is host counts =
-    sym (reset_off s (is_off _ g.P.WorldNode.runs g.P.WorldNode.memory is c.in_default.is))
+    sym (reset_off s (is_off _ g.P.WorldNode.runs g.P.WorldNode.memory is c.in_default.not-On))
 
 pub returns-in_default-clause-stands : goal.returns-in_default-clause-stands
 returns-in_default-clause-stands g c s is host counts = unchanged _ g.P.WorldNode.runs g.P.WorldNode.memory c.args.noted.now.entries.items is

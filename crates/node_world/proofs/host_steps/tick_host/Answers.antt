@@ -9,27 +9,27 @@ use Rattle.node_world.proofs.host_steps.tick_host.Goals as goal
 pub tick-live-requires : goal.tick-live-requires
 tick-live-requires g c =
     let r = c.requires.state in
-    let here = is_on _ g.P.WorldNode.runs g.P.WorldNode.memory r.1 c.in-Some.is in
+    let here = is_on _ g.P.WorldNode.runs g.P.WorldNode.memory r.1 c.in-On.is in
     record {
       may = may_begin_step _ g.P.WorldNode.runs g.P.WorldNode.memory g.met.P.WorldNode.kept
-          (begins_at_end _ g.P.WorldNode.runs g.P.WorldNode.memory g.met.P.WorldNode.kept c.args.site.now r.0 c.in-Some.node here.running NoInput r.1 r.2
-          c.in-Some.is here.runs);
+          (begins_at_end _ g.P.WorldNode.runs g.P.WorldNode.memory g.met.P.WorldNode.kept c.args.site.now r.0 c.in-On.node here.running NoInput r.1 r.2
+          c.in-On.is here.runs);
     }
 
 pub finish_host-requires-clause-state : goal.finish_host-requires-clause-state
 finish_host-requires-clause-state g c =
     let r = c.requires.state in
     let before = c.args.noted.now.entries.items in
-    let d = ticked _ g.P.WorldNode.runs g.P.WorldNode.memory g.met.P.WorldNode.kept c.args.site.now _ r.0 c.in-Some.node c.tick-live.new.self
-    c.tick-live.result before before c.tick-live.new.noted.entries.items c.args.noted.now.short c.tick-live.new.noted.short r.1 r.2 c.in-Some.is refl refl
+    let d = ticked _ g.P.WorldNode.runs g.P.WorldNode.memory g.met.P.WorldNode.kept c.args.site.now _ r.0 c.in-On.node c.tick-live.new.self
+    c.tick-live.result before before c.tick-live.new.noted.entries.items c.args.noted.now.short c.tick-live.new.noted.short r.1 r.2 c.in-On.is refl
     refl r.3 c.tick-live.ensures.stepped (c.tick-live.ensures.noted before) (not_more before c.args.noted.now.short) r.1.wires in
     (r.0, d.step, d.l, d.w, before, sym (c.len-from.ensures ∙ c.args.noted.now.entries.ok.0), d.midway)
 
 pub returns-clause-stands : goal.returns-clause-stands
 returns-clause-stands g c s is host may =
     let before = c.args.noted.now.entries.items in
-    let d = ticked _ g.P.WorldNode.runs g.P.WorldNode.memory g.met.P.WorldNode.kept c.args.site.now _ s c.in-Some.node c.tick-live.new.self
-    c.tick-live.result before before c.tick-live.new.noted.entries.items c.args.noted.now.short c.tick-live.new.noted.short is host c.in-Some.is refl refl
+    let d = ticked _ g.P.WorldNode.runs g.P.WorldNode.memory g.met.P.WorldNode.kept c.args.site.now _ s c.in-On.node c.tick-live.new.self
+    c.tick-live.result before before c.tick-live.new.noted.entries.items c.args.noted.now.short c.tick-live.new.noted.short is host c.in-On.is refl
     refl may c.tick-live.ensures.stepped (c.tick-live.ensures.noted before) (not_more before c.args.noted.now.short) is.wires in
     is_done c.finish_host.result c.finish_host.new.site c.finish_host.new.noted.entries.items d
     (c.finish_host.ensures.stands s d.step d.l d.w before (sym (c.len-from.ensures ∙ c.args.noted.now.entries.ok.0)) d.midway)
@@ -37,4 +37,4 @@ returns-clause-stands g c s is host may =
 pub returns-in_default-clause-stands : goal.returns-in_default-clause-stands
 returns-in_default-clause-stands g c s is host may =
     tick_off _ g.P.WorldNode.runs g.P.WorldNode.memory c.args.site.now s c.args.noted.now.entries.items is
-    (is_off _ g.P.WorldNode.runs g.P.WorldNode.memory is c.in_default.is) may
+    (is_off _ g.P.WorldNode.runs g.P.WorldNode.memory is c.in_default.not-On) may

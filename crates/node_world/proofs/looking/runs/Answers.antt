@@ -3,6 +3,7 @@ use Rattle.std.specs.Prelude.{is_some}
 use Rattle.std.proofs.lemmas.Bool.{ne_eqb}
 use Rattle.node_sites.specs.declared.places.HostSite.{HostSite}
 use Rattle.node_world.specs.Controllers.{StandsAt}
+use Rattle.node_sites.specs.Powers.{is_on}
 use Rattle.node_sites.specs.Places.{SiteIs}
 use Rattle.node_world.proofs.AtHosts.{reads, runs_alike, site_stands}
 use Rattle.node_world.proofs.HostsPower.{node_there}
@@ -16,5 +17,5 @@ returns-in-Some g c w world may =
     c.args.node a c.index-sites-place.result world.sites c.index-sites-place.is) in
     let found = site_stands w c.in-Some.place c.args.node a may.orderly in
     let off : (c.args.node == 0) ≡ false = search (rules, ne_eqb) in
-    let e : c.is_some-in-Some.result ≡ is_some (get_or c.args.sites.now c.in-Some.place c.index-sites-place.result).on = search rules in
+    let e : c.is_on-in-Some.result ≡ is_on (get_or c.args.sites.now c.in-Some.place c.index-sites-place.result).power = search rules in
     e ∙ (runs_alike g.row.P.Denot g.P.WorldNode.runs g.P.WorldNode.memory _ a.site is ∙ ap (λ o. is_some o) (sym (node_there w c.args.node off a.site found)))

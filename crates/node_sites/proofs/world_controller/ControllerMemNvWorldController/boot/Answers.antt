@@ -16,8 +16,8 @@ returns-in-Ok c =
     let m : Memory = c.args.memory in
     let hosts : List ℕ = hosts_where (has c.args.hosts) in
     let may = c.requires.memory in
-    let booted = boots_so m may c.in-Ok.booted.store.journal.nv (e.made refl) in
-    let P : Core → Type 0 = λ core. RunsAs c.in-Ok.booted core (map (new_port Clf) hosts) in
+    let booted = boots_so m may c.in-Ok.node.store.journal.nv (e.made refl) in
+    let P : Core → Type 0 = λ core. RunsAs c.in-Ok.node core (map (new_port Clf) hosts) in
     (booted.0, booted.1, subst P (e.found refl ∙ found_as_booted m.content may.version 0 hosts) e.runs)
 
 pub returns-in-Journal : goal.returns-in-Journal

@@ -15,8 +15,8 @@ returns-in-Ok c =
     let m : Memory = c.args.memory in
     let host : ℕ = c.args.host in
     let may = c.requires.memory in
-    let booted = boots_so m may c.in-Ok.booted.store.journal.nv (e.made refl) in
-    let P : Core → Type 0 = λ core. RunsAs c.in-Ok.booted core (map (new_port Uicc) (host ∷ [])) in
+    let booted = boots_so m may c.in-Ok.node.store.journal.nv (e.made refl) in
+    let P : Core → Type 0 = λ core. RunsAs c.in-Ok.node core (map (new_port Uicc) (host ∷ [])) in
     let runs = subst P (e.found refl ∙ found_as_booted m.content may.version host (host ∷ [])) e.runs in (
       booted.0,
       booted.1,

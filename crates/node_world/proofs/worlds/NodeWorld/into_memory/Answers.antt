@@ -5,27 +5,17 @@ use Rattle.lines_told.specs.lines.Plays.{lines_played}
 use Rattle.node_sites.specs.WorldNodes.{RunsAsHost}
 use Rattle.node_world.specs.Controllers.{SitesAre}
 use Rattle.node_world.specs.Worlds.{node_memory}
-use Rattle.node_world.proofs.WorldsStepped.{found_behind, controller_kept, host_kept, host_is_one, controller_is_one, host_is_there}
+use Rattle.node_world.proofs.WorldsStepped.{found_behind, controller_kept, host_kept, host_is_there}
 use Rattle.node_world.proofs.worlds.NodeWorld.into_memory.Goals as goal
-
-pub kept_memory-requires : goal.kept_memory-requires
-kept_memory-requires c = let r = c.requires.state in controller_is_one c.args.self r.0 r.1 r.2
 
 pub returns-then-node-eq0-clause-memory : goal.returns-then-node-eq0-clause-memory
 returns-then-node-eq0-clause-memory c header plays s node =
-    controller_kept c.args.self header plays c.args.node s (eq-eqb c.args.node 0 c.if-node-eq0.true) c.kept_memory.result c.kept_memory.ensures
+    controller_kept c.args.self header plays c.args.node s (eq-eqb c.args.node 0 c.if-node-eq0.true) c.into_memory.result c.into_memory.ensures
 
 pub returns-then-node-eq0-clause-found : goal.returns-then-node-eq0-clause-found
 returns-then-node-eq0-clause-found c header plays s node =
-    found_behind c.args.self header plays c.args.node s node c.kept_memory.result
-    (controller_kept c.args.self header plays c.args.node s (eq-eqb c.args.node 0 c.if-node-eq0.true) c.kept_memory.result c.kept_memory.ensures)
-
-pub kept_memory-requires-in-Some : goal.kept_memory-requires-in-Some
-kept_memory-requires-in-Some c =
-    let r = c.requires.state in
-    let S : List _ → Type 0 = λ ks. SitesAre RunsAsHost node_memory ks (nodes_behind r.0 (lines_played r.0 r.1)).sites in
-    let a = c.in-Some.ensures.place (nodes_behind r.0 (lines_played r.0 r.1)).sites (subst S (sym c.as_slice.ensures.value) r.2.stands.sites) in
-    host_is_one c.args.self r.0 r.1 c.in-Some.place c.args.node r.2 a c.remove-site.result c.remove-site.ensures.value
+    found_behind c.args.self header plays c.args.node s node c.into_memory.result
+    (controller_kept c.args.self header plays c.args.node s (eq-eqb c.args.node 0 c.if-node-eq0.true) c.into_memory.result c.into_memory.ensures)
 
 pub unreachable-requires : goal.unreachable-requires
 unreachable-requires c =
@@ -38,13 +28,13 @@ pub returns-clause-memory : goal.returns-clause-memory
 returns-clause-memory c header plays s node =
     let S : List _ → Type 0 = λ ks. SitesAre RunsAsHost node_memory ks (nodes_behind header (lines_played header plays)).sites in
     let a = c.in-Some.ensures.place (nodes_behind header (lines_played header plays)).sites (subst S (sym c.as_slice.ensures.value) s.stands.sites) in
-    host_kept c.args.self header plays c.args.node c.in-Some.place s node (ne_eqb c.args.node 0 c.if-node-eq0.false) a c.remove-site.result
-    c.remove-site.ensures.value c.kept_memory-in-Some.result c.kept_memory-in-Some.ensures
+    host_kept c.args.self header plays c.args.node c.in-Some.place s node (ne_eqb c.args.node 0 c.if-node-eq0.false) a c.remove.result
+    c.remove.ensures.value c.into_memory-in-Some.result c.into_memory-in-Some.ensures
 
 pub returns-clause-found : goal.returns-clause-found
 returns-clause-found c header plays s node =
     let S : List _ → Type 0 = λ ks. SitesAre RunsAsHost node_memory ks (nodes_behind header (lines_played header plays)).sites in
     let a = c.in-Some.ensures.place (nodes_behind header (lines_played header plays)).sites (subst S (sym c.as_slice.ensures.value) s.stands.sites) in
-    found_behind c.args.self header plays c.args.node s node c.kept_memory-in-Some.result
-    (host_kept c.args.self header plays c.args.node c.in-Some.place s node (ne_eqb c.args.node 0 c.if-node-eq0.false) a c.remove-site.result
-    c.remove-site.ensures.value c.kept_memory-in-Some.result c.kept_memory-in-Some.ensures)
+    found_behind c.args.self header plays c.args.node s node c.into_memory-in-Some.result
+    (host_kept c.args.self header plays c.args.node c.in-Some.place s node (ne_eqb c.args.node 0 c.if-node-eq0.false) a c.remove.result
+    c.remove.ensures.value c.into_memory-in-Some.result c.into_memory-in-Some.ensures)

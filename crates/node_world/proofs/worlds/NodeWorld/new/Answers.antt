@@ -1,5 +1,6 @@
 use Rattle.std.proofs.Common.{List, ℕ, ◌==◌, refl, ap, subst, map, ◌∙◌}
-use Rattle.std.specs.Prelude.{Some, replicate}
+use Rattle.std.specs.Prelude.{replicate}
+use Rattle.node_sites.specs.declared.power.Power.TheVariants.{Off}
 use Rattle.std.specs.List.{list_any}
 use Rattle.gate_admin.specs.View.{hosts_where, mask_of}
 use Rattle.node_machine.specs.world.World.{new_site}
@@ -14,5 +15,5 @@ returns-clause-stands c =
     let S : List ℕ → Type 0 = λ hosts. SitesAre RunsAsHost node_memory c.in_ok-make_sites.field-0.items (map (new_site (replicate 65536 255)) hosts) in
     let masked = c.mask_of.ensures
     ∙ ap (λ (hosts : List ℕ). mask_of (hosts_where (λ (host : ℕ). list_any (λ (k : ℕ). k == host) hosts))) c.as_slice-2.ensures.value in
-    stands_at_first _ c.args.header.now c.requires refl (ap (λ m. Some m) c.in_ok-new.ensures)
+    stands_at_first _ c.args.header.now c.requires (ap (λ m. Off m) c.in_ok-new.ensures)
     (subst S c.as_slice.ensures.value c.in_ok-make_sites.ensures) masked refl refl refl
