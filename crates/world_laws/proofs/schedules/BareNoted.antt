@@ -1,5 +1,6 @@
 -- What the link of a bare world has brought behind a line that lets it settle, as the history of the schedule notes it.
 use Rattle.std.proofs.Common.{◌≡◌, ℕ, ◌+◌, ◌*◌, ◌≤◌, false, List, [], ◌∷◌, ◌++◌, ap, sym, subst, ◌∙◌, arith}
+use Rattle.std.specs.Prelude.{replicate}
 use Rattle.std.specs.List.{AllByRecursion}
 use Rattle.trace_model.specs.declared.entry.Entry.{Entry}
 use Rattle.trace_model.specs.declared.line.Header.{Header}
@@ -29,7 +30,8 @@ use Rattle.node_laws.specs.order.Told.{IsReadOff}
 use Rattle.lines_told.specs.messages.Recovery.{IsLinkUndisturbed, fragments_left}
 use Rattle.lines_told.proofs.messages.Projected.{Known, known_after}
 use Rattle.lines_told.specs.lines.Below.{bare_link_behind}
-use Rattle.lines_told.specs.lines.Plays.{lines_played_of, plays_of}
+use Rattle.lines_told.specs.lines.Plays.{Play, lines_played, lines_played_of, plays_of, rounds_to_rest}
+use Rattle.lines_told.specs.lines.Plays.Play.{Round}
 use Rattle.world_laws.specs.links.Resting.{LinkBrought}
 use Rattle.world_laws.specs.links.Settling.{settling_events}
 use Rattle.world_laws.specs.worlds.Brought.{AreBothUpIn, BothBrought}
@@ -102,6 +104,33 @@ module _ (header : Header) (lines : List Line) (t : History) (valid : AllByRecur
       subst (λ (l : Link). ReadInBare (all_entries t) h l n) (happened_leads header lines t valid follows)
       (subst (λ (es : List Entry). ReadInBare es h m n) (sym told) all)
 
+-- behind these plays and the rounds in which the link settles then
+module _ (header : Header) (bare : header.hci ≡ false) (plays : List Play) (n : ℕ) (t later : History)
+    (valid : AllByRecursion (IsLineOf header) (lines_played header plays))
+    (later_valid : AllByRecursion (IsLineOf header) (lines_played header (plays ++ replicate (rounds_to_rest header plays n) Round)))
+    (follows : Follows header (lines_played header plays) t)
+    (goes_on : Follows header (lines_played header (plays ++ replicate (rounds_to_rest header plays n) Round)) later) where
+  pub bare_behind : (k : ℕ) → AreBothUpIn (all_entries t) (host_of header) k → AreBothUpIn (all_entries later) (host_of header) k
+      → IsLinkUndisturbed (bare_link_behind header (lines_played header plays))
+      (settling_events n (host_of header) (bare_link_behind header (lines_played header plays)))
+      → 24 * (fragments_noted (all_entries t) (host_of header) k + 1) ≤ n → BothBrought (all_entries t) (all_entries later) (host_of header) k
+  bare_behind k up up_later u fits =
+      let h : ℕ = host_of header in
+      let l : Link = bare_link_behind header (lines_played header plays) in
+      let all : List Line = lines_played header (plays ++ replicate (rounds_to_rest header plays n) Round) in
+      let m : Link = bare_link_behind header all in
+      let was : ReadInBare (all_entries t) h l k = read_in_bare header (lines_played header plays) t valid follows k up in
+      let is : ReadInBare (all_entries later) h m k = read_in_bare header all later later_valid goes_on k up_later in
+      let left = was.left in
+      let come : LinkBrought l m = bare_settled header bare plays t valid follows n u (omega (arith, left, fits)) in
+      record {
+        to_host = brought (all_entries t) (all_entries later) (end_c h) (end_h h) k (talk_now l.controller.side)
+            (talk_now m.controller.side) (talk_now m.host.side) was.near is.near is.far come.to_host;
+        to_controller = brought (all_entries t) (all_entries later) (end_h h) (end_c h) k (talk_now l.host.side)
+            (talk_now m.host.side) (talk_now m.controller.side) was.far is.far is.near come.to_controller;
+      }
+
+-- behind the lines of a schedule and one that lets the link settle
 module _ (header : Header) (bare : header.hci ≡ false) (lines : List Line) (n : ℕ) (t later : History)
     (valid : AllByRecursion (IsLineOf header) (lines_played_of header lines))
     (later_valid : AllByRecursion (IsLineOf header) (lines_played_of header (lines ++ saying.Settle n ∷ [])))
@@ -111,20 +140,7 @@ module _ (header : Header) (bare : header.hci ≡ false) (lines : List Line) (n 
       → IsLinkUndisturbed (bare_link_behind header (lines_played_of header lines))
       (settling_events n (host_of header) (bare_link_behind header (lines_played_of header lines)))
       → 24 * (fragments_noted (all_entries t) (host_of header) k + 1) ≤ n → BothBrought (all_entries t) (all_entries later) (host_of header) k
-  bare_noted k up up_later u fits =
-      let h : ℕ = host_of header in
-      let l : Link = bare_link_behind header (lines_played_of header lines) in
-      let all : List Line = lines_played_of header (lines ++ saying.Settle n ∷ []) in
-      let m : Link = bare_link_behind header all in
-      let was : ReadInBare (all_entries t) h l k = read_in_bare header (lines_played_of header lines) t valid follows k up in
-      let is : ReadInBare (all_entries later) h m k = read_in_bare header all later later_valid goes_on k up_later in
-      let left = was.left in
-      let come : LinkBrought l m =
-      subst (λ (ls : List Line). LinkBrought l (bare_link_behind header ls)) (sym (with_settle header lines n))
-      (bare_settled header bare (plays_of header lines) t valid follows n u (omega (arith, left, fits))) in
-      record {
-        to_host = brought (all_entries t) (all_entries later) (end_c h) (end_h h) k (talk_now l.controller.side)
-            (talk_now m.controller.side) (talk_now m.host.side) was.near is.near is.far come.to_host;
-        to_controller = brought (all_entries t) (all_entries later) (end_h h) (end_c h) k (talk_now l.host.side)
-            (talk_now m.host.side) (talk_now m.controller.side) was.far is.far is.near come.to_controller;
-      }
+  bare_noted =
+      let is = with_settle header lines n in
+      bare_behind header bare (plays_of header lines) n t later valid (subst (AllByRecursion (IsLineOf header)) is later_valid) follows
+      (subst (λ (ls : List Line). Follows header ls later) is goes_on)

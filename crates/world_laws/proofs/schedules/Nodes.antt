@@ -124,6 +124,31 @@ pub with_settle : (header : Header) (lines : List Line) (n : ℕ)
     ≡ lines_played header (plays_of header lines ++ replicate (rounds_to_rest header (plays_of header lines) n) Round)
 with_settle header lines n = ap (lines_played header) (plays_more header lines (saying.Settle n))
 
+-- behind these plays and the rounds in which the links settle then
+module _ (header : Header) (are : AreHosts header.hosts.items) (plays : List Play) (n : ℕ) (p : ArePlayable (lines_played header plays))
+    (later_p : ArePlayable (lines_played header (plays ++ replicate (rounds_to_rest header plays n) Round))) (t later : NodeHistory)
+    (follows : FollowsNodes header (lines_played header plays) t)
+    (goes_on : FollowsNodes header (lines_played header (plays ++ replicate (rounds_to_rest header plays n) Round)) later) where
+  pub noted_behind : (h : ℕ) (s : Site) → site_at (nodes_behind header (lines_played header plays)).sites h ≡ Some s → (k : ℕ)
+      → AreUpWith (node_entries t) h k → AreUpWith (node_entries later) h k
+      → IsLinkUndisturbed s.link (rounds_events h (rounds_to_rest header plays n) (nodes_behind header (lines_played header plays)))
+      → 24 * (fragments_noted (node_entries t) h k + 1) ≤ n → BothBrought (node_entries t) (node_entries later) h k
+  noted_behind h s found k up up_later u fits =
+      let was : ReadNow header (lines_played header plays) t follows are p h s k =
+      read_now header (lines_played header plays) t follows are p h s found k up in
+      let left = was.left in
+      let there = nodes_settled header follows.nodes are plays p follows.sure h s found n u (omega (arith, left, fits)) in
+      let all : List Line = lines_played header (plays ++ replicate (rounds_to_rest header plays n) Round) in
+      let is : ReadNow header all later goes_on are later_p h there.later k =
+      read_now header all later goes_on are later_p h there.later there.is k up_later in
+      record {
+        to_host = brought (node_entries t) (node_entries later) (end_c h) (end_h h) k (talk_now s.link.controller.side)
+            (talk_now there.later.link.controller.side) (talk_now there.later.link.host.side) was.near is.near is.far there.to_host;
+        to_controller = brought (node_entries t) (node_entries later) (end_h h) (end_c h) k (talk_now s.link.host.side)
+            (talk_now there.later.link.host.side) (talk_now there.later.link.controller.side) was.far is.far is.near there.to_controller;
+      }
+
+-- behind the lines of a schedule and one that lets the links settle
 module _ (header : Header) (are : AreHosts header.hosts.items) (lines : List Line) (n : ℕ) (p : ArePlayable (lines_played_of header lines))
     (later_p : ArePlayable (lines_played_of header (lines ++ saying.Settle n ∷ []))) (t later : NodeHistory)
     (follows : FollowsNodes header (lines_played_of header lines) t)
@@ -132,18 +157,7 @@ module _ (header : Header) (are : AreHosts header.hosts.items) (lines : List Lin
       → AreUpWith (node_entries t) h k → AreUpWith (node_entries later) h k
       → IsLinkUndisturbed s.link (rounds_events h (rounds_to_rest header (plays_of header lines) n) (nodes_behind header (lines_played_of header lines)))
       → 24 * (fragments_noted (node_entries t) h k + 1) ≤ n → BothBrought (node_entries t) (node_entries later) h k
-  noted_settled h s found k up up_later u fits =
-      let was : ReadNow header (lines_played_of header lines) t follows are p h s k =
-      read_now header (lines_played_of header lines) t follows are p h s found k up in
-      let left = was.left in
-      let there = nodes_settled header follows.nodes are (plays_of header lines) p follows.sure h s found n u (omega (arith, left, fits)) in
-      let all : List Line = lines_played_of header (lines ++ saying.Settle n ∷ []) in
-      let q : site_at (nodes_behind header all).sites h ≡ Some there.later =
-      ap (λ (ls : List Line). site_at (nodes_behind header ls).sites h) (with_settle header lines n) ∙ there.is in
-      let is : ReadNow header all later goes_on are later_p h there.later k = read_now header all later goes_on are later_p h there.later q k up_later in
-      record {
-        to_host = brought (node_entries t) (node_entries later) (end_c h) (end_h h) k (talk_now s.link.controller.side)
-            (talk_now there.later.link.controller.side) (talk_now there.later.link.host.side) was.near is.near is.far there.to_host;
-        to_controller = brought (node_entries t) (node_entries later) (end_h h) (end_c h) k (talk_now s.link.host.side)
-            (talk_now there.later.link.host.side) (talk_now there.later.link.controller.side) was.far is.far is.near there.to_controller;
-      }
+  noted_settled =
+      let is = with_settle header lines n in
+      noted_behind header are (plays_of header lines) n p (subst ArePlayable is later_p) t later follows
+      (subst (λ (ls : List Line). FollowsNodes header ls later) is goes_on)
