@@ -10,3 +10,4 @@ pub mod Taps
 pub mod Images
 pub mod Ends
 pub mod Generated
+pub mod Words
