@@ -16,3 +16,6 @@ pub mod PlaysOnLinks
 pub mod Below
 pub mod Playing
 pub mod RoundParts
+pub mod Histories
+pub mod KeptLemmas
+pub mod MemoriesKept

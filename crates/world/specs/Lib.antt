@@ -5,3 +5,4 @@ pub mod Lines
 pub mod BareWorlds
 pub mod Worlds
 pub mod RoundParts
+pub mod Legal
