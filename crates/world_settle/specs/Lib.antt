@@ -1,1 +1,3 @@
 pub mod Room
+pub mod Brought
+pub mod Fronts
