@@ -1,4 +1,4 @@
--- A run grows byte by byte.
+-- A run grows by the bytes that come.
 use Rattle.std.proofs.Common.{◌≡◌, ℕ, Bool, false, cond, List, [], ◌∷◌, ◌++◌, reverse, refl, sym, ap, ◌∙◌, subst, append_assoc, append-nil}
 use Rattle.std.specs.Prelude.{is_none}
 use Rattle.std.proofs.lemmas.List.{reverse-append}
@@ -7,23 +7,23 @@ use Rattle.swp_base.specs.declared.control_frames.Control.{Control}
 use Rattle.node_core.specs.Bringing.{Foretells, WereMade}
 use Rattle.journal_laws.specs.Planned.{after_planned}
 use Rattle.lone_laws.specs.alone.Lone.{Lone, LoneCause, lone_after}
-use Rattle.lone_laws.specs.alone.Ends.{EndForm, byte_brings, bytes_bring, first_comes, end_causes, end_written}
+use Rattle.lone_laws.specs.alone.Ends.{EndForm, bytes_bring, first_comes, end_causes, end_written}
 use Rattle.one_end.specs.declared.one_end.OneEnd.{OneEnd}
 use Rattle.one_end.specs.Running.{all_answered, BringsAlone, HasAnswered}
 use Rattle.one_end.specs.Standing.{StandsAlone, IsAlone, booted_from, end_booted, run_brings, HasBooted, HasRun, IsRunOfBytes}
 use Rattle.one_end.specs.Writing.{form_named}
 use Rattle.one_end.proofs.Composing.{brings_on, brings_as, all_answered-append}
 use Rattle.one_end.proofs.Answering.{over}
-use Rattle.one_end.proofs.Whole.{run_is, bytes_more}
+use Rattle.one_end.proofs.Whole.{run_is, bytes_on}
 
-run_more : (form : EndForm) (number byte : ℕ) (bytes : List ℕ)
-    → run_brings form number (bytes ++ byte ∷ []) ≡ run_brings form number bytes ++ byte_brings form number byte (reverse bytes)
-run_more form number byte bytes =
+run_more : (form : EndForm) (number : ℕ) (bytes more : List ℕ)
+    → run_brings form number (bytes ++ more) ≡ run_brings form number bytes ++ bytes_bring form number (reverse bytes) more
+run_more form number bytes more =
     let first : List LoneCause = first_comes form number in
     let so_far : List LoneCause = bytes_bring form number [] bytes in
-    ap (λ z. first ++ z) (bytes_more form number byte bytes [])
-    ∙ (ap (λ z. first ++ (so_far ++ byte_brings form number byte z)) (append-nil (reverse bytes))
-    ∙ sym (append_assoc first so_far (byte_brings form number byte (reverse bytes))))
+    ap (λ z. first ++ z) (bytes_on form number bytes more [])
+    ∙ (ap (λ z. first ++ (so_far ++ bytes_bring form number z more)) (append-nil (reverse bytes))
+    ∙ sym (append_assoc first so_far (bytes_bring form number (reverse bytes) more)))
 
 module _ {N T : Type 0} (writes : N → ℕ → List ℕ → Bool → N → Type 0) (nv : T → N) (Runs : T → Lone → List Control → Type 0) (number : ℕ)
     (content : List ℕ) (first : N) where
@@ -41,27 +41,28 @@ module _ {N T : Type 0} (writes : N → ℕ → List ℕ → Bool → N → Type
       subst (λ bytes. BringsAlone writes first (nv e.node) (IsAlone Runs number e [] stopped) F bytes) (sym h.appended)
       (brings_as writes F on (λ m. ap (all_answered form (booted_from number content m)) (append-nil (first_comes form number))))
 
-  -- one byte more comes
-  pub has_heard : (d e : OneEnd T) (byte : ℕ) (stopped : Bool) (bytes written now : List ℕ) → e.form ≡ d.form
-      → HasRun writes nv Runs number content first d false bytes written
+  -- more bytes come
+  pub has_heard : (d e : OneEnd T) (more : List ℕ) (stopped : Bool) (bytes written before now : List ℕ) → e.form ≡ d.form
+      → HasRun writes nv Runs number content first d false bytes (written ++ before)
       → ((l : Lone) → StandsAlone Runs number d l (reverse bytes) → HasAnswered writes (nv d.node) (nv e.node)
-      (IsAlone Runs number e (byte ∷ reverse bytes) stopped)
-      (λ m. all_answered (form_named d.form) (over l m) (byte_brings (form_named d.form) number byte (reverse bytes))) [] now)
-      → HasRun writes nv Runs number content first e stopped (bytes ++ byte ∷ []) (written ++ now)
-  has_heard d e byte stopped bytes written now same b heard =
+      (IsAlone Runs number e (reverse more ++ reverse bytes) stopped)
+      (λ m. all_answered (form_named d.form) (over l m) (bytes_bring (form_named d.form) number (reverse bytes) more)) before now)
+      → HasRun writes nv Runs number content first e stopped (bytes ++ more) (written ++ now)
+  has_heard d e more stopped bytes written before now same b heard =
       let form : EndForm = form_named d.form in
       let h = heard b.after (b.stands.1 refl) in
-      let G : Lone → Lone × List ℕ = λ a. all_answered form a (byte_brings form number byte (reverse bytes)) in
+      let G : Lone → Lone × List ℕ = λ a. all_answered form a (bytes_bring form number (reverse bytes) more) in
       let on = brings_on writes G b (sym b.stands.0) h.brings in
-      let F : EndForm → Memory → Lone × List ℕ = λ f m. all_answered f (booted_from number content m) (run_brings f number (bytes ++ byte ∷ [])) in
-      let all : BringsAlone writes first (nv e.node) (IsAlone Runs number e (byte ∷ reverse bytes) stopped) (F form) (written ++ now) =
-      subst (λ z. BringsAlone writes first (nv e.node) (IsAlone Runs number e (byte ∷ reverse bytes) stopped) (F form) (written ++ z)) (sym h.appended)
-      (brings_as writes (F form) on (λ m. ap (all_answered form (booted_from number content m)) (run_more form number byte bytes)
-      ∙ all_answered-append form (run_brings form number bytes) (byte_brings form number byte (reverse bytes)) (booted_from number content m))) in
-      subst (λ f. BringsAlone writes first (nv e.node) (IsAlone Runs number e (reverse (bytes ++ byte ∷ [])) stopped) (F (form_named f)) (written ++ now))
+      let F : EndForm → Memory → Lone × List ℕ = λ f m. all_answered f (booted_from number content m) (run_brings f number (bytes ++ more)) in
+      let all : BringsAlone writes first (nv e.node) (IsAlone Runs number e (reverse more ++ reverse bytes) stopped) (F form) (written ++ now) =
+      subst (λ z. BringsAlone writes first (nv e.node) (IsAlone Runs number e (reverse more ++ reverse bytes) stopped) (F form) z)
+      (append_assoc written before h.given ∙ ap (λ z. written ++ z) (sym h.appended))
+      (brings_as writes (F form) on (λ m. ap (all_answered form (booted_from number content m)) (run_more form number bytes more)
+      ∙ all_answered-append form (run_brings form number bytes) (bytes_bring form number (reverse bytes) more) (booted_from number content m))) in
+      subst (λ f. BringsAlone writes first (nv e.node) (IsAlone Runs number e (reverse (bytes ++ more)) stopped) (F (form_named f)) (written ++ now))
       (sym same)
       (subst (λ older. BringsAlone writes first (nv e.node) (IsAlone Runs number e older stopped) (F form) (written ++ now))
-      (sym (reverse-append bytes (byte ∷ []))) all)
+      (sym (reverse-append bytes more)) all)
 
 -- that is a whole run
 pub is_run_of : {N T : Type 0} (writes : N → ℕ → List ℕ → Bool → N → Type 0) (nv : T → N) (Runs : T → Lone → List Control → Type 0) (is_clf : Bool)

@@ -1,9 +1,9 @@
 -- What a node alone answers to all that comes to it is the run of `end`.
-use Rattle.std.proofs.Common.{◌≡◌, ℕ, Bool, true, false, cond, List, [], ◌∷◌, ◌++◌, reverse, refl, sym, ap, ◌∙◌, append_assoc, append-nil}
+use Rattle.std.proofs.Common.{◌≡◌, ℕ, ◌+◌, ◌<◌, length, take, get_or, Bool, true, false, cond, List, [], ◌∷◌, ◌++◌, reverse, refl, sym, ap, ◌∙◌, append_assoc, append-nil}
 use Rattle.std.specs.Prelude.{Option, Some, None, is_none, is_some}
 use Rattle.std.specs.List.{flat_map}
 use Rattle.std.proofs.lemmas.Bool.{true≢false}
-use Rattle.std.proofs.lemmas.List.{reverse-append}
+use Rattle.std.proofs.lemmas.List.{reverse-append, take_more}
 use Rattle.node_machine.specs.Parts.{Running}
 use Rattle.link_laws.specs.machine.Machine.{LinkInput}
 use Rattle.lone_laws.specs.alone.Lone.{Lone, LoneCause, lone_input, lone_step, lone_events, lone_after, does_by_power, does_with_input}
@@ -99,13 +99,23 @@ run_is form (c ∷ causes) l = go (λ z. run_is form causes z) (asks_reset l c) 
       ∙ (sym (whole_then form l c (ResetComes None ∷ later))
       ∙ ap (λ b. whole form l (cond b (c ∷ ResetComes None ∷ with_resets y.0 causes) (c ∷ with_resets x.0 causes))) (sym q)))))
 
--- one byte more
-pub bytes_more : (form : EndForm) (number byte : ℕ) (bytes older : List ℕ)
-    → bytes_bring form number older (bytes ++ byte ∷ []) ≡ bytes_bring form number older bytes ++ byte_brings form number byte (reverse bytes ++ older)
-bytes_more form number byte [] older = append-nil (byte_brings form number byte older)
-bytes_more form number byte (b ∷ bytes) older =
-    ap (λ z. byte_brings form number b older ++ z) (bytes_more form number byte bytes (b ∷ older))
-    ∙ (ap (λ z. byte_brings form number b older ++ (bytes_bring form number (b ∷ older) bytes ++ byte_brings form number byte z))
-    (sym (append_assoc (reverse bytes) (b ∷ []) older) ∙ ap (λ z. z ++ older) (sym (reverse-append (b ∷ []) bytes)))
-    ∙ sym (append_assoc (byte_brings form number b older) (bytes_bring form number (b ∷ older) bytes)
-    (byte_brings form number byte (reverse (b ∷ bytes) ++ older))))
+-- bytes behind others
+pub bytes_on : (form : EndForm) (number : ℕ) (first bytes older : List ℕ)
+    → bytes_bring form number older (first ++ bytes) ≡ bytes_bring form number older first ++ bytes_bring form number (reverse first ++ older) bytes
+bytes_on form number [] bytes older = refl
+bytes_on form number (b ∷ first) bytes older =
+    ap (λ z. byte_brings form number b older ++ z) (bytes_on form number first bytes (b ∷ older))
+    ∙ (ap (λ z. byte_brings form number b older ++ (bytes_bring form number (b ∷ older) first ++ bytes_bring form number z bytes))
+    (sym (append_assoc (reverse first) (b ∷ []) older) ∙ ap (λ z. z ++ older) (sym (reverse-append (b ∷ []) first)))
+    ∙ sym (append_assoc (byte_brings form number b older) (bytes_bring form number (b ∷ older) first)
+    (bytes_bring form number (reverse (b ∷ first) ++ older) bytes)))
+
+-- one byte more comes
+pub one_on : (form : EndForm) (number : ℕ) (bytes older : List ℕ) (i : ℕ) → i < length bytes
+    → bytes_bring form number older (take (i + 1) bytes)
+    ≡ bytes_bring form number older (take i bytes) ++ byte_brings form number (get_or bytes i 0) (reverse (take i bytes) ++ older)
+one_on form number bytes older i within =
+    ap (bytes_bring form number older) (take_more bytes i 0 within)
+    ∙ (bytes_on form number (take i bytes) (get_or bytes i 0 ∷ []) older
+    ∙ ap (λ z. bytes_bring form number older (take i bytes) ++ z)
+    (append-nil (byte_brings form number (get_or bytes i 0) (reverse (take i bytes) ++ older))))

@@ -1,17 +1,17 @@
 //! A node alone at the end of a link.
-ghost use Rattle.std.specs.Prelude.{◌≡◌, ◌==◌, ◌∷◌, ◌++◌, ◌≤◌, [], List, ℕ, map, false, IsTrue};
+ghost use Rattle.std.specs.Prelude.{◌≡◌, ◌==◌, ◌++◌, ◌+◌, ◌≤◌, ◌<◌, [], List, ℕ, length, map, reverse, take, false, IsTrue};
 ghost use Rattle.swp_base.specs.Outside.{Rose};
 ghost use Rattle.lone_laws.specs.alone.Lone.{Lone};
-ghost use Rattle.lone_laws.specs.alone.Ends.{byte_brings, first_comes};
+ghost use Rattle.lone_laws.specs.alone.Ends.{bytes_bring, first_comes};
 ghost use Rattle.one_end.specs.Reading.{causes_brought};
 ghost use Rattle.one_end.specs.Running.{cause_of, all_answered, HasAnswered};
 ghost use Rattle.one_end.specs.Standing.{StandsAlone, IsAlone, HasBooted, HasRun};
 ghost use Rattle.one_end.specs.Writing.{form_named};
 
 use crate::node::{Coming, LoneNode};
-use crate::reading::{Brought, Reader};
+use crate::reading::{Brought, Reader, Stretch};
 use crate::stepping::answer_all;
-use crate::writing::{Form, Output};
+use crate::writing::{Form, Output, ROOM};
 use arrayvec::ArrayVec;
 use swp_base::Nv;
 use swp_frame::Fed;
@@ -96,38 +96,59 @@ pub fn begin<N: Nv, T: LoneNode<N>>(
     (end, stopped)
 }
 
-/// A byte comes on the link: what the node writes for it is put out. Whether it has lost its power: it does nothing more then.
-pub fn hear<N: Nv, T: LoneNode<N>>(end: &mut OneEnd<T>, byte: u8, out: &mut Output) -> bool
-    requires may { (l : Lone) × (older : List ℕ) × StandsAlone T.runs T.number end.old l older }
-    requires empty { out.old.items ≡ [] }
-    ensures form { end.new.form ≡ end.old.form }
-    ensures may { result ≡ false → (l : Lone) × (older : List ℕ) × StandsAlone T.runs T.number end.new l older }
-    ensures run { (content bytes written : List ℕ) (first : N) → HasRun N.writes T.nv T.runs T.number content first end.old false bytes written
-        → HasRun N.writes T.nv T.runs T.number content first end.new result (bytes ++ byte ∷ []) (written ++ out.new.items) }
-    ensures count { N.faults (T.nv end.old.node) ≤ N.faults (T.nv end.new.node) }
-    ensures rose { IsTrue result → Rose (N.faults (T.nv end.old.node)) (N.faults (T.nv end.new.node)) }
-{
-    hear_byte(end, byte, out)
+/// What became of bytes that came.
+#[derive(Clone, Copy, Debug, PartialEq, Eq)]
+pub struct Heard {
+    /// How many came to the node.
+    pub count: usize,
+    /// Whether it has lost its power: it does nothing more then.
+    pub stopped: bool,
 }
 
-/// A byte comes on the link.
-fn hear_byte<N: Nv, T: LoneNode<N>>(end: &mut OneEnd<T>, byte: u8, out: &mut Output) -> bool
+/// The first of these bytes come on the link, at least one, up to the first one that brings something to the node, or all where none does.
+/// What the node writes for them is appended.
+pub fn hear<N: Nv, T: LoneNode<N>>(end: &mut OneEnd<T>, bytes: &[u8], out: &mut Output) -> Heard
     requires may { (l : Lone) × (older : List ℕ) × StandsAlone T.runs T.number end.old l older }
-    requires empty { out.old.items ≡ [] }
+    requires some { 0 < length bytes.now }
+    requires room { length out.old.items + ROOM ≤ 52224 }
     ensures form { end.new.form ≡ end.old.form }
-    ensures heard { (l : Lone) (older : List ℕ) → StandsAlone T.runs T.number end.old l older
-        → HasAnswered N.writes (T.nv end.old.node) (T.nv end.new.node) (IsAlone T.runs T.number end.new (byte ∷ older) result)
-        (λ m. all_answered (form_named end.old.form) (record l { memory = m }) (byte_brings (form_named end.old.form) T.number byte older))
-        out.old.items out.new.items }
+    ensures some { 0 < result.count }
+    ensures within { result.count ≤ length bytes.now }
+    ensures may { result.stopped ≡ false → (l : Lone) × (older : List ℕ) × StandsAlone T.runs T.number end.new l older }
+    ensures run { (content came written : List ℕ) (first : N)
+        → HasRun N.writes T.nv T.runs T.number content first end.old false came (written ++ out.old.items)
+        → HasRun N.writes T.nv T.runs T.number content first end.new result.stopped (came ++ take result.count bytes.now) (written ++ out.new.items) }
     ensures count { N.faults (T.nv end.old.node) ≤ N.faults (T.nv end.new.node) }
-    ensures rose { IsTrue result → Rose (N.faults (T.nv end.old.node)) (N.faults (T.nv end.new.node)) }
+    ensures rose { IsTrue result.stopped → Rose (N.faults (T.nv end.old.node)) (N.faults (T.nv end.new.node)) }
 {
-    let brought = end.reader.hear(byte);
+    hear_stretch(end, bytes, out)
+}
+
+/// The first of these bytes come on the link.
+fn hear_stretch<N: Nv, T: LoneNode<N>>(end: &mut OneEnd<T>, bytes: &[u8], out: &mut Output) -> Heard
+    requires may { (l : Lone) × (older : List ℕ) × StandsAlone T.runs T.number end.old l older }
+    requires room { length out.old.items + ROOM ≤ 52224 }
+    ensures form { end.new.form ≡ end.old.form }
+    ensures some { 0 < length bytes.now → 0 < result.count }
+    ensures within { result.count ≤ length bytes.now }
+    ensures heard { (l : Lone) (older : List ℕ) → StandsAlone T.runs T.number end.old l older
+        → HasAnswered N.writes (T.nv end.old.node) (T.nv end.new.node)
+        (IsAlone T.runs T.number end.new (reverse (take result.count bytes.now) ++ older) result.stopped)
+        (λ m. all_answered (form_named end.old.form) (record l { memory = m })
+        (bytes_bring (form_named end.old.form) T.number older (take result.count bytes.now))) out.old.items out.new.items }
+    ensures count { N.faults (T.nv end.old.node) ≤ N.faults (T.nv end.new.node) }
+    ensures rose { IsTrue result.stopped → Rose (N.faults (T.nv end.old.node)) (N.faults (T.nv end.new.node)) }
+{
+    let Stretch { count, brought } = end.reader.hear_stretch(bytes);
     if brought.is_nothing() {
-        return false;
+        return Heard {
+            count,
+            stopped: false,
+        };
     }
     let comings = comings_of(brought);
-    answer_all(&mut end.node, end.form, end.is_clf, comings.as_slice(), out)
+    let stopped = answer_all(&mut end.node, end.form, end.is_clf, comings.as_slice(), out);
+    Heard { count, stopped }
 }
 
 /// The memory of a node that has run.

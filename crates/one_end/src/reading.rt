@@ -1,5 +1,5 @@
 //! What a node alone reads, byte by byte.
-ghost use Rattle.std.specs.Prelude.{◌≡◌, ◌==◌, List, ℕ, [], ◌∷◌};
+ghost use Rattle.std.specs.Prelude.{◌≡◌, ◌==◌, ◌<◌, ◌≤◌, ◌++◌, List, ℕ, [], ◌∷◌, true, length, reverse, take};
 ghost use Rattle.lone_laws.specs.alone.Ends.{unit_brings};
 ghost use Rattle.one_end.specs.Reading.{causes_brought, is_nothing_brought};
 
@@ -34,6 +34,15 @@ impl Brought {
     }
 }
 
+/// The first of some bytes, of which only the last may bring something to a node.
+#[derive(Debug, Drop, PartialEq, Eq)]
+pub struct Stretch {
+    /// How many bytes they are.
+    pub count: usize,
+    /// What the last of them brings.
+    pub brought: Brought,
+}
+
 /// Reads what comes to the node at one end of a link.
 #[derive(Drop)]
 pub enum Reader {
@@ -44,7 +53,7 @@ pub enum Reader {
 }
 
 impl Reader {
-    ghost use Rattle.lone_laws.specs.alone.Ends.{byte_brings};
+    ghost use Rattle.lone_laws.specs.alone.Ends.{byte_brings, bytes_bring};
     ghost use Rattle.one_end.specs.Reading.{ReaderStandsFor, form_read};
     ghost use Rattle.one_end.specs.Writing.{form_named};
 
@@ -70,6 +79,43 @@ impl Reader {
             Reader::Line(line) => line.hear(byte),
             Reader::Bytes(link) => brought_by_unit(link.feed(byte)),
         }
+    }
+
+    /// Takes the first of these bytes, up to the first one that brings something to the node, or all where none does.
+    pub fn hear_stretch(&mut self, bytes: &[u8]) -> Stretch
+        ensures form { form_read self.new ≡ form_read self.old }
+        ensures some { 0 < length bytes.now → 0 < result.count }
+        ensures within { result.count ≤ length bytes.now }
+        ensures rest { is_nothing_brought result.brought ≡ true → result.count ≡ length bytes.now }
+        ensures stands { (number : ℕ) (older : List ℕ) → ReaderStandsFor self.old number older
+            → ReaderStandsFor self.new number (reverse (take result.count bytes.now) ++ older) }
+        ensures brings { (number : ℕ) (older : List ℕ) → ReaderStandsFor self.old number older
+            → causes_brought result.brought ≡ bytes_bring (form_read self.old) number older (take result.count bytes.now) }
+    {
+        let mut count = 0;
+        for byte in bytes {
+            let brought = self.hear(*byte);
+            count += 1;
+            if !brought.is_nothing() {
+                return Stretch { count, brought };
+            }
+        }
+        Stretch {
+            count,
+            brought: nothing(),
+        }
+    }
+}
+
+/// Nothing is brought.
+fn nothing() -> Brought
+    ensures { causes_brought result ≡ [] }
+{
+    Brought {
+        starts: false,
+        fed: Fed::Nothing,
+        stops: false,
+        ticks: false,
     }
 }
 

@@ -25,7 +25,7 @@ pub(crate) fn send_out<N: Nv, T: LoneNode<N>>(
 )
     requires may { (l : Lone) × (frames : List Control) × T.runs node.old l frames × (length frames ≤ 17) }
     requires role { (T.number == 0) ≡ is_clf }
-    requires room { length out.old.items + 17 * 323 ≤ 44032 }
+    requires room { length out.old.items + 17 * 323 ≤ 52224 }
     ensures sent { (l : Lone) (frames : List Control) → T.runs node.old l frames → length frames ≤ 17 → T.runs node.new l [] }
     ensures written { (l : Lone) (frames : List Control) → T.runs node.old l frames → length frames ≤ 17
         → out.new.items ≡ out.old.items ++ frames_written (form_named form) T.number frames }
@@ -50,7 +50,7 @@ fn step<N: Nv, T: LoneNode<N>>(
 ) -> Came
     requires may { (l : Lone) × T.runs node.old l [] }
     requires role { (T.number == 0) ≡ is_clf }
-    requires room { length out.old.items + 17 * 323 ≤ 44032 }
+    requires room { length out.old.items + 17 * 323 ≤ 52224 }
     ensures done { (l : Lone) → T.runs node.old l [] → HasAnswered N.writes (T.nv node.old) (T.nv node.new)
         (RunsReady (T.runs node.new) result.stopped result.asks_reset)
         (λ m. does_alone (form_named form) (record l { memory = m }) (cause_of coming.now)) out.old.items out.new.items }
@@ -70,7 +70,7 @@ fn step<N: Nv, T: LoneNode<N>>(
 fn reset<N: Nv, T: LoneNode<N>>(node: &mut T, form: Form, is_clf: bool, out: &mut Output) -> bool
     requires may { (l : Lone) × T.runs node.old l [] × (reset_refusal l.side ≡ None) }
     requires role { (T.number == 0) ≡ is_clf }
-    requires room { length out.old.items + 17 * 323 ≤ 44032 }
+    requires room { length out.old.items + 17 * 323 ≤ 52224 }
     ensures done { (l : Lone) → T.runs node.old l [] → reset_refusal l.side ≡ None → HasAnswered N.writes (T.nv node.old) (T.nv node.new)
         (RunsYet (T.runs node.new) result) (λ m. does_alone (form_named form) (record l { memory = m }) (ResetComes None)) out.old.items out.new.items }
     ensures sized { length out.new.items ≤ length out.old.items + 17 * 323 }
@@ -95,7 +95,7 @@ pub(crate) fn answer<N: Nv, T: LoneNode<N>>(
 ) -> bool
     requires may { (l : Lone) × T.runs node.old l [] }
     requires role { (T.number == 0) ≡ is_clf }
-    requires room { length out.old.items + 34 * 323 ≤ 44032 }
+    requires room { length out.old.items + 34 * 323 ≤ 52224 }
     ensures done { (l : Lone) → T.runs node.old l [] → HasAnswered N.writes (T.nv node.old) (T.nv node.new)
         (RunsYet (T.runs node.new) result) (λ m. answers_alone (form_named form) (record l { memory = m }) (cause_of coming.now)) out.old.items
         out.new.items }
@@ -124,7 +124,7 @@ pub(crate) fn answer_all<N: Nv, T: LoneNode<N>>(
     requires may { (l : Lone) × T.runs node.old l [] }
     requires role { (T.number == 0) ≡ is_clf }
     requires few { length comings.now ≤ 4 }
-    requires room { length out.old.items ≡ 0 }
+    requires room { length out.old.items + 44032 ≤ 52224 }
     ensures done { (l : Lone) → T.runs node.old l [] → HasAnswered N.writes (T.nv node.old) (T.nv node.new)
         (RunsYet (T.runs node.new) result) (λ m. all_answered (form_named form) (record l { memory = m }) (map cause_of comings.now)) out.old.items
         out.new.items }

@@ -19,13 +19,16 @@ pub enum Form {
     Bytes,
 }
 
-/// What a node alone writes for a byte: at most so much.
-pub type Output = ArrayVec<u8, 44_032>;
+/// What a node alone writes for bytes that come one behind another.
+pub type Output = ArrayVec<u8, 52_224>;
+
+/// How much room in an output a byte asks for.
+pub const ROOM: usize = 44_032;
 
 /// Appends a frame as its end writes it: a unit of a byte link, or a period of a line for each bit, which the CLF writes as S1 and the
 /// UICC as S2.
 pub fn write_out(form: Form, is_clf: bool, lpdu: &Lpdu, out: &mut Output)
-    requires room { length out.old.items + 323 ≤ 44032 }
+    requires room { length out.old.items + 323 ≤ 52224 }
     ensures written { (number : ℕ) → (number == 0) ≡ is_clf
         → out.new.items ≡ out.old.items ++ frame_written (form_named form) number lpdu.now }
     ensures sized { length out.new.items ≤ length out.old.items + 323 }

@@ -1,6 +1,8 @@
 -- How a run of one node ended.
-use Rattle.std.proofs.Common.{◌≡◌, ◌==◌, ℕ, ◌≤◌, arith, Bool, true, false, cond, IsTrue, List, [], ◌++◌, take, refl, sym, ap, subst, inl, inr}
-use Rattle.std.specs.Prelude.{Option, Some, None, option_to_list}
+use Rattle.std.proofs.Common.{◌≡◌, ◌==◌, ℕ, zero, suc, ◌+◌, ◌-◌, ◌<◌, ◌≤◌, arith, Bool, true, false, cond, IsTrue, List, [], ◌∷◌, ◌++◌, length, take, drop, get_or, refl, sym, ap, subst}
+use Rattle.std.proofs.Common.{◌∙◌, inl, inr, append_assoc, append-nil, length-append}
+use Rattle.std.specs.Prelude.{◌⊎◌, Option, Some, None}
+use Rattle.std.proofs.lemmas.List.{take-append-drop, length-take-le, length-drop}
 use Rattle.swp_base.specs.declared.control_frames.Control.{Control}
 use Rattle.nv_journal.specs.declared.JournalFault.{JournalFault}
 use Rattle.nv_journal.specs.declared.JournalFault.TheVariants as image
@@ -12,10 +14,14 @@ use Rattle.one_end.specs.Writing.{form_named}
 use Rattle.one_end.proofs.Growing.{is_run_of}
 use Rattle.swp_tool.specs.declared.status.Status.{Status}
 use Rattle.swp_tool.specs.declared.status.Status.TheVariants as status
-use Rattle.swp_tool.specs.Ends.{Began, HasHeardAlone, IsWrittenBefore, IsBrokenAlone, IsStoppedAlone, IsHearing, EndedAlone, HasRunAlone, IsRunBefore}
+use Rattle.swp_tool.specs.Ends.{Began, HasHeardAlone, HasGoneOut, IsWaitingAlone, IsCutAlone, IsWrittenBefore, IsBrokenAlone, IsStoppedAlone, IsTooLongAlone}
+use Rattle.swp_tool.specs.Ends.{IsHearing, EndedAlone, HasRunAlone, IsRunBefore}
 use Rattle.swp_tool.specs.Ends.{IsRunBrokenOff, IsRunStopped, IsRunCutOff, RanSo, EndedSo, HasNextGeneration}
 use Rattle.swp_tool.specs.Ends.{status_of_boot, IsOfLone, IsOfEndWord}
 use Rattle.swp_tool.specs.Records.{most_bytes}
+use Rattle.std.proofs.Math.Seq.{take-add}
+use Rattle.swp_tool.proofs.Cutting.{whole_after, whole_piece, left_of}
+use Rattle.swp_tool.proofs.Ending.{front_of_both}
 use Rattle.hci_store.specs.Image.{image_fault}
 use Rattle.swp_base.specs.Outside.{Rose}
 use Rattle.hci_store.specs.Starting.{ready_writes, HasWritten}
@@ -39,28 +45,28 @@ module _ {N T : Type 0} (writes : N → ℕ → List ℕ → Bool → N → Type
     after_is = h.after_is;
   }
 
-  before_is : (front : List ℕ) (byte : Option ℕ) (earlier : List ℕ) → IsWrittenBefore writes nv Runs number o front byte earlier
-      → IsRunBefore writes (form_named o.form) is_clf o.content o.first front byte earlier
-  before_is front None earlier h = h
-  before_is front (Some byte) earlier h = (nv h.0.node, run_is h.0 false front earlier h.1 h.2)
+  before_is : (front piece earlier : List ℕ) → IsWrittenBefore writes nv Runs number o front piece earlier
+      → IsRunBefore writes (form_named o.form) is_clf o.content o.first front piece earlier
+  before_is front piece earlier (inl none) = inl none
+  before_is front piece earlier (inr h) = inr (nv h.0.node, run_is h.0 false front earlier h.1 h.2)
 
   pub broken_is : (tells : Bool) (given : ℕ) (e : OneEnd T) (input left before after : List ℕ)
       → IsBrokenAlone writes nv Runs number tells given o e input left before after
       → IsRunBrokenOff writes tells given (form_named o.form) is_clf o.content o.first (nv e.node) input left before after
   broken_is tells given e input left before after h = record {
     front = h.front;
-    byte = h.byte;
+    came = h.came;
     ahead = h.ahead;
     input_is = h.input_is;
     near = h.near;
     at_once = h.at_once;
-    stopped = h.stopped;
+    stopped = h.cut.stopped;
     earlier = h.earlier;
-    last = h.last;
-    before_it = before_is h.front h.byte h.earlier h.before_it;
-    run = run_is e h.stopped (h.front ++ option_to_list h.byte) (h.earlier ++ h.last) h.form_is h.run;
-    n = h.n;
-    after_is = h.after_is;
+    last = h.cut.last;
+    before_it = before_is h.front (h.came ++ h.ahead) h.earlier h.before_it;
+    run = run_is e h.cut.stopped (h.front ++ h.came) (h.earlier ++ h.cut.last) h.cut.form_is h.cut.run;
+    n = h.cut.n;
+    after_is = h.cut.after_is;
   }
 
   pub stopped_is : (tells : Bool) (given : ℕ) (e : OneEnd T) (input left before after : List ℕ)
@@ -117,20 +123,15 @@ module _ {N T : Type 0} (writes : N → ℕ → List ℕ → Bool → N → Type
       → HasRun writes nv Runs number o.content o.first e stopped [] items → (n : ℕ) → (IsTrue tells → after ≡ was ++ take n items)
       → IsBrokenAlone writes nv Runs number tells given o e input input was after
   begins_broken given stopped input was after items same h n is = record {
-    form_is = same;
     front = [];
-    byte = None;
+    came = [];
     ahead = [];
     input_is = refl;
     near = omega arith;
     at_once = omega arith;
-    stopped = stopped;
     earlier = [];
-    last = items;
-    before_it = (refl, refl);
-    run = h;
-    n = n;
-    after_is = is;
+    before_it = inl (refl, refl, refl);
+    cut = record { form_is = same; stopped = stopped; last = items; run = h; n = n; after_is = is };
   }
 
   begun_heard : (stopped : Bool) (was after items : List ℕ) → e.form ≡ o.form
@@ -159,6 +160,138 @@ module _ {N T : Type 0} (writes : N → ℕ → List ℕ → Bool → N → Type
     counted = none;
     heard = begun_heard false was after items same h is;
   }
+
+-- ## While bytes come
+
+-- the first of the first
+pub take-take : (n m : ℕ) (xs : List ℕ) → n ≤ m → take n (take m xs) ≡ take n xs
+take-take zero m xs h = refl
+take-take (suc n) zero xs h = absurd (omega arith)
+take-take (suc n) (suc m) [] h = refl
+take-take (suc n) (suc m) (x ∷ xs) h = ap (λ ys. x ∷ ys) (take-take n m xs (omega arith))
+
+module _ {N T : Type 0} (writes : N → ℕ → List ℕ → Bool → N → Type 0) (nv : T → N) (Runs : T → Lone → List Control → Type 0) (number : ℕ)
+    (tells : Bool) (o : Began N) where
+  -- nothing waits yet
+  pub waits : (e : OneEnd T) (stopped : Bool) (bytes before after : List ℕ) (h : HasHeardAlone writes nv Runs number tells o e stopped bytes before after)
+      (waiting : List ℕ) → waiting ≡ [] → IsWaitingAlone writes nv Runs number tells o e stopped bytes h.written waiting before after
+  waits e stopped bytes before after h waiting none = record {
+    form_is = h.form_is;
+    sent = [];
+    run = subst (HasRun writes nv Runs number o.content o.first e stopped bytes)
+        (sym (append-nil h.written) ∙ (sym (append-nil (h.written ++ [])) ∙ ap (λ l. (h.written ++ []) ++ l) (sym none))) h.run;
+    after_is = λ told. h.after_is told ∙ ap (λ l. before ++ l) (sym (append-nil h.written));
+  }
+
+  -- some of what waited went out
+  pub waits_on : (e : OneEnd T) (stopped : Bool) (bytes earlier waited waiting before was now : List ℕ)
+      → IsWaitingAlone writes nv Runs number tells o e stopped bytes earlier waited before was → HasGoneOut tells waited waiting was now
+      → IsWaitingAlone writes nv Runs number tells o e stopped bytes earlier waiting before now
+  waits_on e stopped bytes earlier waited waiting before was now h out =
+      let all : (earlier ++ h.sent) ++ out.sent ≡ earlier ++ (h.sent ++ out.sent) = append_assoc earlier h.sent out.sent in
+      record {
+        form_is = h.form_is;
+        sent = h.sent ++ out.sent;
+        run = subst (HasRun writes nv Runs number o.content o.first e stopped bytes)
+            (ap (λ l. (earlier ++ h.sent) ++ l) out.parts ∙ (sym (append_assoc (earlier ++ h.sent) out.sent waiting) ∙ ap (λ l. l ++ waiting) all)) h.run;
+        after_is = λ told.
+            out.now_is told ∙ (ap (λ l. l ++ out.sent) (h.after_is told) ∙ (append_assoc before (earlier ++ h.sent) out.sent ∙ ap (λ l. before ++ l) all));
+      }
+
+  -- the first of what is left of a piece came
+  pub heard_more : (d e : OneEnd T) (stopped : Bool) (came piece : List ℕ) (at n : ℕ) (earlier waited waiting before after : List ℕ) → e.form ≡ d.form
+      → at ≤ length piece → (w : IsWaitingAlone writes nv Runs number tells o d false (came ++ take at piece) earlier waited before after)
+      → HasRun writes nv Runs number o.content o.first e stopped ((came ++ take at piece) ++ take n (take (length piece - at) (drop at piece)))
+      ((earlier ++ w.sent) ++ waiting)
+      → IsWaitingAlone writes nv Runs number tells o e stopped (came ++ take (at + n) piece) earlier waiting before after
+  heard_more d e stopped came piece at n earlier waited waiting before after same within w run = record {
+    form_is = same ∙ w.form_is;
+    sent = w.sent;
+    run = subst (λ l. HasRun writes nv Runs number o.content o.first e stopped l ((earlier ++ w.sent) ++ waiting))
+        (append_assoc came (take at piece) (take n (take (length piece - at) (drop at piece)))
+        ∙ ap (λ l. came ++ l) (ap (λ l. take at piece ++ take n l) (left_of piece at within) ∙ sym (take-add at n piece))) run;
+    after_is = w.after_is;
+  }
+
+  -- all of it did
+  pub waits_no_more : (e : OneEnd T) (stopped : Bool) (bytes earlier waited before was now : List ℕ)
+      → IsWaitingAlone writes nv Runs number tells o e stopped bytes earlier waited before was → (IsTrue tells → now ≡ was ++ waited)
+      → HasHeardAlone writes nv Runs number tells o e stopped bytes before now
+  waits_no_more e stopped bytes earlier waited before was now h is = record {
+    form_is = h.form_is;
+    written = (earlier ++ h.sent) ++ waited;
+    run = h.run;
+    after_is = λ told. is told ∙ (ap (λ l. l ++ waited) (h.after_is told) ∙ append_assoc before (earlier ++ h.sent) waited);
+  }
+
+  -- a front of it did
+  pub is_cut : (e : OneEnd T) (stopped : Bool) (bytes earlier waited before was now : List ℕ)
+      → IsWaitingAlone writes nv Runs number tells o e stopped bytes earlier waited before was
+      → (n : ℕ) × (IsTrue tells → now ≡ was ++ take n waited) → IsCutAlone writes nv Runs number tells o e bytes earlier before now
+  is_cut e stopped bytes earlier waited before was now h part =
+      let front = front_of_both part.0 h.sent waited in
+      record {
+        form_is = h.form_is;
+        stopped = stopped;
+        last = h.sent ++ waited;
+        run = subst (HasRun writes nv Runs number o.content o.first e stopped bytes) (append_assoc earlier h.sent waited) h.run;
+        n = front.0;
+        after_is = λ told.
+            part.1 told ∙ (ap (λ l. l ++ take part.0 waited) (h.after_is told) ∙ (append_assoc before (earlier ++ h.sent) (take part.0 waited)
+            ∙ ap (λ l. before ++ l) (append_assoc earlier h.sent (take part.0 waited) ∙ ap (λ l. earlier ++ l) (sym front.1))));
+      }
+
+  -- a write failed behind the first bytes of a piece
+  pub broken_in : (given : ℕ) (d e : OneEnd T) (bytes piece left before was now : List ℕ) (n : ℕ) → length piece ≤ 8192 → length piece ≤ given
+      → (h : HasHeardAlone writes nv Runs number tells o d false bytes before was)
+      → IsCutAlone writes nv Runs number tells o e (bytes ++ take n piece) h.written before now
+      → IsBrokenAlone writes nv Runs number tells given o e (bytes ++ piece ++ left) left before now
+  broken_in given d e bytes piece left before was now n near some h cut =
+      let all : take n piece ++ drop n piece ≡ piece = take-append-drop n piece in
+      record {
+        front = bytes;
+        came = take n piece;
+        ahead = drop n piece;
+        input_is = append_assoc bytes piece left ∙ ap (λ l. bytes ++ l) (sym (ap (λ l. l ++ left) all) ∙ append_assoc (take n piece) (drop n piece) left);
+        near = subst (λ l. length l ≤ 8192) (sym all) near;
+        at_once = subst (λ l. length l ≤ given) (sym all) some;
+        earlier = h.written;
+        before_it = inr (d, h.form_is, h.run);
+        cut = cut;
+      }
+
+  -- the node lost its power in them
+  pub stopped_in : (given : ℕ) (e : OneEnd T) (bytes piece left before now : List ℕ) (n : ℕ) → length piece ≤ 8192 → length piece ≤ given
+      → HasHeardAlone writes nv Runs number tells o e true (bytes ++ take n piece) before now
+      → IsStoppedAlone writes nv Runs number tells given o e (bytes ++ piece ++ left) left before now
+  stopped_in given e bytes piece left before now n near some h = record {
+    bytes = bytes ++ take n piece;
+    ahead = drop n piece;
+    input_is = whole_after bytes piece left n;
+    near = let l = length-drop n piece in omega (arith, l, near);
+    at_once = let l = length-drop n piece in omega (arith, l, some);
+    heard = h;
+  }
+
+  -- the last of them is one too many
+  pub too_long_in : (e : OneEnd T) (bytes piece left before now : List ℕ) (n : ℕ) → n < length piece → length bytes + n ≡ most_bytes
+      → HasHeardAlone writes nv Runs number tells o e false (bytes ++ take n piece) before now
+      → IsTooLongAlone writes nv Runs number tells o e (bytes ++ piece ++ left) before now
+  too_long_in e bytes piece left before now n within most h =
+      let front = bytes ++ take n piece in
+      let byte = get_or piece n 0 in
+      let rest = drop (n + 1) piece in
+      record {
+        bytes = front;
+        byte = byte;
+        rest = rest ++ left;
+        input_is = ap (λ l. l ++ left) (sym (whole_piece bytes piece n within))
+            ∙ (append_assoc (front ++ byte ∷ []) rest left ∙ append_assoc front (byte ∷ []) (rest ++ left));
+        most = let l1 = length-append bytes (take n piece) in
+            let l2 = length-take-le n piece (omega (arith, within)) in
+            omega (arith, most, l1, l2);
+        heard = h;
+      }
 
 -- the faults of a start beside that of the memory
 pub unknown_is_other : (version : ℕ) → image.UnknownFormat version ≡ image.NvFault → ⊥

@@ -1,5 +1,5 @@
 -- What a node alone has read and written, by the status with which it ended.
-use Rattle.std.specs.Prelude.{◌≡◌, ◌≢◌, ◌⊎◌, ℕ, ◌≤◌, Bool, true, false, IsTrue, List, [], ◌∷◌, ◌++◌, length, take, codes, Option, Some, None, option_to_list}
+use Rattle.std.specs.Prelude.{◌≡◌, ◌≢◌, ◌⊎◌, ℕ, ◌≤◌, Bool, true, false, IsTrue, List, [], ◌∷◌, ◌++◌, length, take, codes, Option, Some, None}
 use Rattle.swp_base.specs.declared.control_frames.Control.{Control}
 use Rattle.lone_laws.specs.alone.Lone.{Lone}
 use Rattle.lone_laws.specs.alone.Ends.{EndForm}
@@ -35,31 +35,51 @@ pub record HasHeardAlone {N T : Type 0} (writes : N → ℕ → List ℕ → Boo
   pub run : HasRun writes nv Runs number o.content o.first e stopped bytes written
   pub after_is : IsTrue tells → after ≡ before ++ written
 
--- This was written before what the last of these bytes caused: for all bytes before it. Where none came yet, nothing was.
-abbrev pub IsWrittenBefore : {N T : Type 0} → (N → ℕ → List ℕ → Bool → N → Type 0) → (T → N) → (T → Lone → List Control → Type 0) → ℕ → Began N
-    → List ℕ → Option ℕ → List ℕ → Type 0
-IsWrittenBefore writes nv Runs number o front None earlier = (front ≡ []) × (earlier ≡ [])
-IsWrittenBefore {N} {T} writes nv Runs number o front (Some byte) earlier =
-    (d : OneEnd T) × (d.form ≡ o.form) × HasRun writes nv Runs number o.content o.first d false front earlier
+-- Of the text that waited the other is left, and what stood before it went out. Whether the sink tells what was written comes first, what it
+-- held before and holds now last.
+pub record HasGoneOut (tells : Bool) (waited waiting was now : List ℕ) : Type 0 where
+  pub sent : List ℕ
+  pub parts : waited ≡ sent ++ waiting
+  pub now_is : IsTrue tells → now ≡ was ++ sent
 
--- A write failed: all that the node wrote for the bytes before the last one went out, and a front of what it wrote for that. Behind that byte no
--- more was read than the last read gave.
-pub record IsBrokenAlone {N T : Type 0} (writes : N → ℕ → List ℕ → Bool → N → Type 0) (nv : T → N) (Runs : T → Lone → List Control → Type 0)
-    (number : ℕ) (tells : Bool) (given : ℕ) (o : Began N) (e : OneEnd T) (input left before after : List ℕ) : Type 0 where
+-- These bytes came to a node. What it wrote for them begins with a text that went out; more of it may have gone out, and the rest waits.
+pub record IsWaitingAlone {N T : Type 0} (writes : N → ℕ → List ℕ → Bool → N → Type 0) (nv : T → N) (Runs : T → Lone → List Control → Type 0)
+    (number : ℕ) (tells : Bool) (o : Began N) (e : OneEnd T) (stopped : Bool) (bytes earlier waiting before after : List ℕ) : Type 0 where
   pub form_is : e.form ≡ o.form
-  pub front : List ℕ
-  pub byte : Option ℕ
-  pub ahead : List ℕ
-  pub input_is : input ≡ (front ++ option_to_list byte) ++ (ahead ++ left)
-  pub near : length ahead ≤ 8192
-  pub at_once : length ahead ≤ given
+  pub sent : List ℕ
+  pub run : HasRun writes nv Runs number o.content o.first e stopped bytes ((earlier ++ sent) ++ waiting)
+  pub after_is : IsTrue tells → after ≡ before ++ (earlier ++ sent)
+
+-- These bytes came to a node. What it wrote for them begins with a text that went out; of the rest a front did.
+pub record IsCutAlone {N T : Type 0} (writes : N → ℕ → List ℕ → Bool → N → Type 0) (nv : T → N) (Runs : T → Lone → List Control → Type 0)
+    (number : ℕ) (tells : Bool) (o : Began N) (e : OneEnd T) (bytes earlier before after : List ℕ) : Type 0 where
+  pub form_is : e.form ≡ o.form
   pub stopped : Bool
-  pub earlier : List ℕ
   pub last : List ℕ
-  pub before_it : IsWrittenBefore writes nv Runs number o front byte earlier
-  pub run : HasRun writes nv Runs number o.content o.first e stopped (front ++ option_to_list byte) (earlier ++ last)
+  pub run : HasRun writes nv Runs number o.content o.first e stopped bytes (earlier ++ last)
   pub n : ℕ
   pub after_is : IsTrue tells → after ≡ before ++ (earlier ++ take n last)
+
+-- This was written before the last read gave these bytes: for all bytes before them. Where none were read yet, nothing was.
+abbrev pub IsWrittenBefore : {N T : Type 0} → (N → ℕ → List ℕ → Bool → N → Type 0) → (T → N) → (T → Lone → List Control → Type 0) → ℕ → Began N
+    → List ℕ → List ℕ → List ℕ → Type 0
+IsWrittenBefore {N} {T} writes nv Runs number o front piece earlier =
+    ((front ≡ []) × (piece ≡ []) × (earlier ≡ []))
+    ⊎ ((d : OneEnd T) × (d.form ≡ o.form) × HasRun writes nv Runs number o.content o.first d false front earlier)
+
+-- A write failed: all that the node wrote for the bytes before those of the last read went out, and a front of what it wrote for some of these.
+-- No more was read than these.
+pub record IsBrokenAlone {N T : Type 0} (writes : N → ℕ → List ℕ → Bool → N → Type 0) (nv : T → N) (Runs : T → Lone → List Control → Type 0)
+    (number : ℕ) (tells : Bool) (given : ℕ) (o : Began N) (e : OneEnd T) (input left before after : List ℕ) : Type 0 where
+  pub front : List ℕ
+  pub came : List ℕ
+  pub ahead : List ℕ
+  pub input_is : input ≡ front ++ (came ++ (ahead ++ left))
+  pub near : length (came ++ ahead) ≤ 8192
+  pub at_once : length (came ++ ahead) ≤ given
+  pub earlier : List ℕ
+  pub before_it : IsWrittenBefore writes nv Runs number o front (came ++ ahead) earlier
+  pub cut : IsCutAlone writes nv Runs number tells o e (front ++ came) earlier before after
 
 -- The node lost its power with the last of these bytes. Behind it no more was read than the last read gave.
 pub record IsStoppedAlone {N T : Type 0} (writes : N → ℕ → List ℕ → Bool → N → Type 0) (nv : T → N) (Runs : T → Lone → List Control → Type 0)
@@ -99,9 +119,10 @@ IsOfEnd status.NvFault = Unit {0}
 IsOfEnd (status.TooMany count) = count ≡ 16777217
 IsOfEnd _ = ⊥
 
--- so many bytes came, and more may come
-pub record MayHearOn {T : Type 0} (Runs : T → Lone → List Control → Type 0) (number : ℕ) (e : OneEnd T) (count : ℕ) : Type 0 where
+-- so many bytes came, nothing of what the node wrote for them waits, and more may come
+pub record MayHearOn {T : Type 0} (Runs : T → Lone → List Control → Type 0) (number : ℕ) (e : OneEnd T) (waiting : List ℕ) (count : ℕ) : Type 0 where
   pub few : count ≤ most_bytes
+  pub none : waiting ≡ []
   pub may : (l : Lone) × (older : List ℕ) × StandsAlone Runs number e l older
 
 -- a front of the input came, and all that the node wrote for it went out
@@ -147,27 +168,27 @@ pub record HasRunAlone {N : Type 0} (writes : N → ℕ → List ℕ → Bool �
   pub run : IsRunOfBytes writes first now stopped form is_clf content bytes written
   pub after_is : IsTrue tells → after ≡ before ++ written
 
--- this was written before what the last of these bytes caused: for all bytes before it
-abbrev pub IsRunBefore : {N : Type 0} → (N → ℕ → List ℕ → Bool → N → Type 0) → EndForm → Bool → List ℕ → N → List ℕ → Option ℕ → List ℕ → Type 0
-IsRunBefore writes form is_clf content first front None earlier = (front ≡ []) × (earlier ≡ [])
-IsRunBefore {N} writes form is_clf content first front (Some byte) earlier =
-    (mid : N) × IsRunOfBytes writes first mid false form is_clf content front earlier
+-- this was written before the last read gave these bytes: for all bytes before them, or nothing where none were read yet
+abbrev pub IsRunBefore : {N : Type 0} → (N → ℕ → List ℕ → Bool → N → Type 0) → EndForm → Bool → List ℕ → N → List ℕ → List ℕ → List ℕ → Type 0
+IsRunBefore {N} writes form is_clf content first front piece earlier =
+    ((front ≡ []) × (piece ≡ []) × (earlier ≡ []))
+    ⊎ ((mid : N) × IsRunOfBytes writes first mid false form is_clf content front earlier)
 
--- A write of the output failed: all that was written for the bytes before the last one went out, and a front of what was for that. Behind that
--- byte no more was read than the last read gave.
+-- A write of the output failed: all that was written for the bytes before those of the last read went out, and a front of what was for some of
+-- these. No more was read than these.
 pub record IsRunBrokenOff {N : Type 0} (writes : N → ℕ → List ℕ → Bool → N → Type 0) (tells : Bool) (given : ℕ) (form : EndForm) (is_clf : Bool)
     (content : List ℕ) (first now : N) (input left before after : List ℕ) : Type 0 where
   pub front : List ℕ
-  pub byte : Option ℕ
+  pub came : List ℕ
   pub ahead : List ℕ
-  pub input_is : input ≡ (front ++ option_to_list byte) ++ (ahead ++ left)
-  pub near : length ahead ≤ 8192
-  pub at_once : length ahead ≤ given
+  pub input_is : input ≡ front ++ (came ++ (ahead ++ left))
+  pub near : length (came ++ ahead) ≤ 8192
+  pub at_once : length (came ++ ahead) ≤ given
   pub stopped : Bool
   pub earlier : List ℕ
   pub last : List ℕ
-  pub before_it : IsRunBefore writes form is_clf content first front byte earlier
-  pub run : IsRunOfBytes writes first now stopped form is_clf content (front ++ option_to_list byte) (earlier ++ last)
+  pub before_it : IsRunBefore writes form is_clf content first front (came ++ ahead) earlier
+  pub run : IsRunOfBytes writes first now stopped form is_clf content (front ++ came) (earlier ++ last)
   pub n : ℕ
   pub after_is : IsTrue tells → after ≡ before ++ (earlier ++ take n last)
 

@@ -1,5 +1,5 @@
 //! The command `end`: one node alone at the end of a link whose other end is live.
-ghost use Rattle.std.specs.Prelude.{◌≡◌, ◌≢◌, ◌≤◌, ◌<◌, ◌+◌, ◌++◌, ◌∷◌, [], List, ℕ, IsTrue, OnOk, IfErr, Err, false, length, if◌then◌else◌, Bool, true, ◌⊎◌};
+ghost use Rattle.std.specs.Prelude.{◌≡◌, ◌≢◌, ◌≤◌, ◌<◌, ◌+◌, ◌++◌, ◌∷◌, [], List, ℕ, IsTrue, OnOk, OnErr, IfOk, IfErr, Err, take, false, length, if◌then◌else◌, Bool, true, ◌⊎◌};
 ghost use Rattle.std.specs.Prelude.{◌↔◌, None, Some};
 ghost use Rattle.swp_base.specs.Outside.{Rose};
 ghost use Rattle.hci_store.specs.Image.{image_fault};
@@ -8,7 +8,7 @@ ghost use Rattle.nv_journal.specs.declared.JournalFault.{JournalFault as Bad};
 ghost use Rattle.swp_tool.specs.Records.{most_bytes};
 ghost use Rattle.lone_laws.specs.alone.Lone.{Lone};
 ghost use Rattle.one_end.specs.Standing.{StandsAlone, HasRun, HasBooted};
-ghost use Rattle.swp_tool.specs.Ends.{Began, HasHeardAlone, EndedInBytes, IsOfEnd, IsOfLone, RanSo, EndedSo, IsOfEndWord, status_of_boot};
+ghost use Rattle.swp_tool.specs.Ends.{Began, HasHeardAlone, IsWaitingAlone, IsCutAlone, HasGoneOut, EndedInBytes, IsOfEnd, IsOfLone, RanSo, EndedSo, IsOfEndWord, status_of_boot};
 ghost use Rattle.swp_tool.specs.Ends.{HasNextGeneration, IsRefusedFor};
 ghost use Rattle.one_end.specs.Writing.{form_named};
 
@@ -19,65 +19,102 @@ use crate::status::Status;
 use crate::tables::refused;
 use crate::top::Ended;
 use one_end::{
-    Form, LoneNode, NotBooted, OneEnd, Output, begin, boot_controller, boot_host, hear, memory_of,
+    Form, Heard, LoneNode, NotBooted, OneEnd, Output, ROOM, begin, boot_controller, boot_host,
+    hear, memory_of,
 };
 use std::alloc::Global;
 use std::marker::PhantomData;
 use swp_base::{Failed, Nv, Sink, Source};
 use swp_decode::Decoder;
 
-/// A node that runs alone, and what it writes for a byte.
+/// A node that runs alone.
 #[derive(Drop)]
 pub struct Ending<N: Nv, T: LoneNode<N> + Drop> {
     pub end: OneEnd<T>,
+    /// What it wrote that hasn't gone out.
     pub out: Output,
     pub count: u32,
     of: PhantomData<N>,
 }
 
-/// A byte comes, and what the node writes for it is written.
-fn take_byte<K: Sink, N: Nv, T: LoneNode<N> + Drop>(
-    sink: &mut K,
-    ending: &mut Ending<N, T>,
-    byte: u8,
-) -> Result<(), Status>
-    requires few { ending.old.count ≤ 16777216 }
-    requires may { (l : Lone) × (older : List ℕ) × StandsAlone T.runs T.number ending.old.end l older }
+/// The most that waits as bytes come: behind it there is room for what they cause.
+const MOST_WAITING: usize = 8192;
+
+/// What waits goes out. Where a call fails, a front of it went out.
+fn put_out<K: Sink>(sink: &mut K, out: &mut Output) -> Result<(), Failed>
     ensures count { K.faults sink.old ≤ K.faults sink.new }
-    ensures write_fault { result ≡ Err Status.WriteFault → Rose (K.faults sink.old) (K.faults sink.new) }
-    ensures nv_count { N.faults (T.nv ending.old.end.node) ≤ N.faults (T.nv ending.new.end.node) }
-    ensures nv_fault { result ≡ Err Status.NvFault → Rose (N.faults (T.nv ending.old.end.node)) (N.faults (T.nv ending.new.end.node)) }
-    ensures kind { IfErr result IsOfEnd }
-    ensures few { OnOk result (ending.new.count ≤ 16777216) }
-    ensures counted { OnOk result (ending.new.count ≡ ending.old.count + 1) }
-    ensures may { OnOk result ((l : Lone) × (older : List ℕ) × StandsAlone T.runs T.number ending.new.end l older) }
-    ensures goes { OnOk result ((o : Began N) (bytes before : List ℕ)
-        → HasHeardAlone N.writes T.nv T.runs T.number K.tells o ending.old.end false bytes before (K.written sink.old)
-        → HasHeardAlone N.writes T.nv T.runs T.number K.tells o ending.new.end false (bytes ++ byte ∷ []) before (K.written sink.new)) }
-    ensures ends { IfErr result (λ status. (given : ℕ) (o : Began N) (bytes ahead left before : List ℕ) → ending.old.count ≡ length bytes → length ahead ≤ 8192
-        → length ahead ≤ given
-        → HasHeardAlone N.writes T.nv T.runs T.number K.tells o ending.old.end false bytes before (K.written sink.old)
-        → EndedInBytes N.writes T.nv T.runs T.number K.tells given o ending.new.end status (bytes ++ byte ∷ (ahead ++ left)) left before (K.written sink.new)) }
+    ensures fault { OnErr result (Rose (K.faults sink.old) (K.faults sink.new)) }
+    ensures none { OnOk result (out.new.items ≡ []) }
+    ensures wrote { IsTrue K.tells → OnOk result (K.written sink.new ≡ K.written sink.old ++ out.old.items) }
+    ensures front { OnErr result ((n : ℕ) × (IsTrue K.tells → K.written sink.new ≡ K.written sink.old ++ take n out.old.items)) }
 {
-    if ending.count == Decoder::MAX_BYTES {
-        return Err(Status::TooMany { count: 16_777_217 });
+    write_all(sink, out.as_slice())?;
+    out.clear();
+    Ok(())
+}
+
+/// What waits goes out, where it leaves too little room for what bytes cause.
+fn make_room<K: Sink>(sink: &mut K, out: &mut Output) -> Result<(), Failed>
+    ensures count { K.faults sink.old ≤ K.faults sink.new }
+    ensures fault { OnErr result (Rose (K.faults sink.old) (K.faults sink.new)) }
+    ensures room { OnOk result (length out.new.items + ROOM ≤ 52224) }
+    ensures wrote { OnOk result (HasGoneOut K.tells out.old.items out.new.items (K.written sink.old) (K.written sink.new)) }
+    ensures front { OnErr result ((n : ℕ) × (IsTrue K.tells → K.written sink.new ≡ K.written sink.old ++ take n out.old.items)) }
+{
+    if out.len() <= MOST_WAITING {
+        return Ok(());
     }
-    ending.count += 1;
-    ending.out.clear();
-    let stopped = hear(&mut ending.end, byte, &mut ending.out);
-    match write_all(sink, ending.out.as_slice()) {
-        Err(Failed) => Err(Status::WriteFault),
-        Ok(()) => {
-            if stopped {
-                Err(Status::NvFault)
-            } else {
-                Ok(())
-            }
-        }
+    match put_out(sink, out) {
+        Ok(()) => Ok(()),
+        Err(Failed) => Err(Failed),
     }
 }
 
-/// The bytes of a piece come, one after another.
+/// Bytes come, until the node loses its power or all came. What it writes for them waits, as far as there is room for it.
+fn hear_bytes<K: Sink, N: Nv, T: LoneNode<N> + Drop>(
+    sink: &mut K,
+    ending: &mut Ending<N, T>,
+    bytes: &[u8],
+) -> Result<Heard, Failed>
+    requires may { (l : Lone) × (older : List ℕ) × StandsAlone T.runs T.number ending.old.end l older }
+    ensures count { K.faults sink.old ≤ K.faults sink.new }
+    ensures fault { OnErr result (Rose (K.faults sink.old) (K.faults sink.new)) }
+    ensures nv_count { N.faults (T.nv ending.old.end.node) ≤ N.faults (T.nv ending.new.end.node) }
+    ensures nv_fault { IfOk result (λ heard. IsTrue heard.stopped
+        → Rose (N.faults (T.nv ending.old.end.node)) (N.faults (T.nv ending.new.end.node))) }
+    ensures within { IfOk result (λ heard. heard.count ≤ length bytes.now) }
+    ensures all { IfOk result (λ heard. heard.stopped ≡ false → heard.count ≡ length bytes.now) }
+    ensures may { IfOk result (λ heard. heard.stopped ≡ false
+        → (l : Lone) × (older : List ℕ) × StandsAlone T.runs T.number ending.new.end l older) }
+    ensures counted { ending.new.count ≡ ending.old.count }
+    ensures goes { IfOk result (λ heard. (o : Began N) (came earlier before : List ℕ)
+        → IsWaitingAlone N.writes T.nv T.runs T.number K.tells o ending.old.end false came earlier ending.old.out.items before (K.written sink.old)
+        → IsWaitingAlone N.writes T.nv T.runs T.number K.tells o ending.new.end heard.stopped (came ++ take heard.count bytes.now) earlier ending.new.out.items
+        before (K.written sink.new)) }
+    ensures ends { OnErr result ((o : Began N) (came earlier before : List ℕ)
+        → IsWaitingAlone N.writes T.nv T.runs T.number K.tells o ending.old.end false came earlier ending.old.out.items before (K.written sink.old)
+        → (n : ℕ) × (n ≤ length bytes.now)
+        × IsCutAlone N.writes T.nv T.runs T.number K.tells o ending.new.end (came ++ take n bytes.now) earlier before (K.written sink.new)) }
+{
+    let mut at = 0;
+    'bytes: while at < bytes.len() {
+        make_room(sink, &mut ending.out)?;
+        let heard = hear(&mut ending.end, &bytes[at..], &mut ending.out);
+        at += heard.count;
+        if heard.stopped {
+            return Ok(Heard {
+                count: at,
+                stopped: true,
+            });
+        }
+    }
+    Ok(Heard {
+        count: at,
+        stopped: false,
+    })
+}
+
+/// The bytes of a piece come, and all that the node writes for them goes out.
 fn take_bytes<K: Sink, N: Nv, T: LoneNode<N> + Drop>(
     sink: &mut K,
     ending: &mut Ending<N, T>,
@@ -86,6 +123,7 @@ fn take_bytes<K: Sink, N: Nv, T: LoneNode<N> + Drop>(
     requires few { ending.old.count ≤ 16777216 }
     requires size { length piece.now ≤ 8192 }
     requires may { (l : Lone) × (older : List ℕ) × StandsAlone T.runs T.number ending.old.end l older }
+    requires none { ending.old.out.items ≡ [] }
     ensures count { K.faults sink.old ≤ K.faults sink.new }
     ensures write_fault { result ≡ Err Status.WriteFault → Rose (K.faults sink.old) (K.faults sink.new) }
     ensures nv_count { N.faults (T.nv ending.old.end.node) ≤ N.faults (T.nv ending.new.end.node) }
@@ -94,6 +132,7 @@ fn take_bytes<K: Sink, N: Nv, T: LoneNode<N> + Drop>(
     ensures few { OnOk result (ending.new.count ≤ 16777216) }
     ensures counted { OnOk result (ending.new.count ≡ ending.old.count + length piece.now) }
     ensures may { OnOk result ((l : Lone) × (older : List ℕ) × StandsAlone T.runs T.number ending.new.end l older) }
+    ensures none { OnOk result (ending.new.out.items ≡ []) }
     ensures goes { OnOk result ((o : Began N) (bytes before : List ℕ)
         → HasHeardAlone N.writes T.nv T.runs T.number K.tells o ending.old.end false bytes before (K.written sink.old)
         → HasHeardAlone N.writes T.nv T.runs T.number K.tells o ending.new.end false (bytes ++ piece.now) before (K.written sink.new)) }
@@ -102,12 +141,27 @@ fn take_bytes<K: Sink, N: Nv, T: LoneNode<N> + Drop>(
         → HasHeardAlone N.writes T.nv T.runs T.number K.tells o ending.old.end false bytes before (K.written sink.old)
         → EndedInBytes N.writes T.nv T.runs T.number K.tells given o ending.new.end status (bytes ++ piece.now ++ left) left before (K.written sink.new)) }
 {
-    for byte in piece {
-        if let Err(status) = take_byte(sink, ending, *byte) {
-            return Err(status);
+    let few = piece
+        .len()
+        .min((Decoder::MAX_BYTES - ending.count) as usize);
+    match hear_bytes(sink, ending, &piece[..few]) {
+        Err(Failed) => Err(Status::WriteFault),
+        Ok(heard) => {
+            ending.count += heard.count as u32;
+            match put_out(sink, &mut ending.out) {
+                Err(Failed) => Err(Status::WriteFault),
+                Ok(()) => {
+                    if heard.stopped {
+                        Err(Status::NvFault)
+                    } else if few < piece.len() {
+                        Err(Status::TooMany { count: 16_777_217 })
+                    } else {
+                        Ok(())
+                    }
+                }
+            }
         }
     }
-    Ok(())
 }
 
 impl<N: Nv, T: LoneNode<N> + Drop> Job for Ending<N, T> {
@@ -115,7 +169,7 @@ impl<N: Nv, T: LoneNode<N> + Drop> Job for Ending<N, T> {
     ghost use Rattle.swp_tool.specs.Records.{most_bytes, piece_of};
     ghost use Rattle.swp_tool.specs.Ends.{Began, MayHearOn, IsHearing, EndedAlone, IsOfLone};
 
-    ghost goes_on = { λ e. MayHearOn T.runs T.number e.end e.count };
+    ghost goes_on = { λ e. MayHearOn T.runs T.number e.end e.out.items e.count };
 
     ghost bound = { λ e. most_bytes - e.count };
 
@@ -155,8 +209,8 @@ impl<N: Nv, T: LoneNode<N> + Drop> Job for Ending<N, T> {
     }
 }
 
-/// What a node wrote as it began goes out, and then the bytes come that the source has left, unless it has lost its power. What a byte causes
-/// is written before more is read than the source hands over in one call.
+/// What a node wrote as it began goes out, and then the bytes come that the source has left, unless it has lost its power. What the bytes of a
+/// read cause is written before the next one.
 fn hear_all<S: Source, K: Sink, N: Nv, T: LoneNode<N> + Drop>(
     alloc: Global,
     source: &mut S,
@@ -181,7 +235,7 @@ fn hear_all<S: Source, K: Sink, N: Nv, T: LoneNode<N> + Drop>(
     ensures write_fault { result ≡ Status.WriteFault → Rose (K.faults sink.old) (K.faults sink.new) }
     ensures late { (S.end source.old).ended ≡ false → (S.end source.new).late ≡ (S.end source.old).late }
 {
-    match write_all(sink, ending.out.as_slice()) {
+    match put_out(sink, &mut ending.out) {
         Err(Failed) => Status::WriteFault,
         Ok(()) => {
             if stopped {

@@ -13,7 +13,7 @@ loop-coming-init g c = record {
   done = λ k on. none_came g.N.Nv.writes (form_named c.args.form) (g.T.LoneNode.runs c.args.node.now) k c.args.out.now.items on
       (g.T.LoneNode.live c.args.node.now k [] on);
   counted = omega arith;
-  sized = omega (arith, c.requires.room);
+  sized = omega arith;
 }
 
 pub answer-requires : goal.answer-requires
@@ -22,7 +22,7 @@ answer-requires g c =
     record {
       may = c.loop-coming.invariant.some;
       role = c.requires.role;
-      room = omega (arith, few, c.loop-coming.invariant.sized, c.loop-coming-test.true);
+      room = omega (arith, few, c.requires.room, c.loop-coming.invariant.sized, c.loop-coming-test.true);
     }
 
 pub returns-then-answer-clause-done : goal.returns-then-answer-clause-done

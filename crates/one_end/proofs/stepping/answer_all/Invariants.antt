@@ -1,5 +1,5 @@
 -- The first of them came.
-use Rattle.std.proofs.Common.{◌≤◌, ◌*◌, false, [], length, map, take}
+use Rattle.std.proofs.Common.{◌≤◌, ◌+◌, ◌*◌, false, [], length, map, take}
 use Rattle.lone_laws.specs.alone.Lone.{Lone}
 use Rattle.one_end.specs.Running.{cause_of, all_answered, HasAnswered, RunsYet}
 use Rattle.one_end.specs.Writing.{form_named}
@@ -13,5 +13,5 @@ invariant-loop-coming g l = record {
       (RunsYet (g.T.LoneNode.runs l.node) false) (λ m. all_answered (form_named l.fn.form) (over k m) (map cause_of (take l.coming-index l.fn.comings)))
       l.fn.out.items l.out.items;
   counted : g.N.Nv.faults (g.T.LoneNode.nv l.fn.node) ≤ g.N.Nv.faults (g.T.LoneNode.nv l.node);
-  sized : length l.out.items ≤ l.coming-index * 10982;
+  sized : length l.out.items ≤ length l.fn.out.items + l.coming-index * 10982;
 }
