@@ -17,4 +17,3 @@ mod NodeExamples
 mod HappenedExample
 pub mod Summing
 pub mod Numerals
-pub mod Promised

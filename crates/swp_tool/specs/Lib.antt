@@ -10,4 +10,3 @@ pub mod Taps
 pub mod Images
 pub mod Ends
 pub mod Generated
-pub mod Words
