@@ -151,21 +151,6 @@ cut_at bytes end h =
 
 -- ## Pieces
 
--- what was read before a byte, the byte and what follows it
-pub whole_piece : (bytes piece : List ℕ) (i : ℕ) → i < length piece → ((bytes ++ take i piece) ++ get_or piece i 0 ∷ []) ++ drop (i + 1) piece ≡ bytes ++ piece
-whole_piece bytes piece i within =
-    ap (λ l. l ++ drop (i + 1) piece) (append_assoc bytes (take i piece) (get_or piece i 0 ∷ []) ∙ ap (λ l. bytes ++ l) (sym (take_more piece i 0 within)))
-    ∙ (append_assoc bytes (take (i + 1) piece) (drop (i + 1) piece) ∙ ap (λ l. bytes ++ l) (take-append-drop (i + 1) piece))
-
--- a piece is what was read of it, and what is left of it
-pub whole_after : (bytes piece rest : List ℕ) (n : ℕ) → (bytes ++ piece) ++ rest ≡ (bytes ++ take n piece) ++ (drop n piece ++ rest)
-whole_after bytes piece rest n =
-    ap (λ l. l ++ rest) (ap (λ l. bytes ++ l) (sym (take-append-drop n piece)) ∙ sym (append_assoc bytes (take n piece) (drop n piece)))
-    ∙ append_assoc (bytes ++ take n piece) (drop n piece) rest
-
-pub left_of : (piece : List ℕ) (n : ℕ) → n ≤ length piece → take (length piece - n) (drop n piece) ≡ drop n piece
-left_of piece n h = grind (arith, common_steps)
-
 -- what was read before a line, the line and what follows it
 pub whole_line : (bytes front line more left piece : List ℕ) → front ++ left ≡ piece → left ≡ line ++ more → ((bytes ++ front) ++ line) ++ more ≡ bytes ++ piece
 whole_line bytes front line more left piece whole cut =

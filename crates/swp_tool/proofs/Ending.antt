@@ -100,12 +100,6 @@ pub of_ok : {T E : Type 0} (P : Type 0) (r : Result T E) (b : Bool) → b ≡ is
 of_ok P (Ok x) b is holds h = h
 of_ok P (Err e) b is holds h = absurd (cc)
 
--- text that was written behind text, by a sink that tells it
-pub behind : (tells : Bool) (before text items written after : List ℕ) → (IsTrue tells → written ≡ before ++ text)
-    → (IsTrue tells → after ≡ written ++ items) → IsTrue tells → after ≡ before ++ (text ++ items)
-behind tells before text items written after was now told =
-    now told ∙ (ap (λ l. l ++ items) (was told) ∙ append_assoc before text items)
-
 -- where nothing is gathered, the transcript of the whole lines was written
 pub whole_transcript : (p : Pieces) (bytes text : List ℕ) → HasRead p bytes text → p.replay.text.items ≡ [] → IsWholeTranscript bytes text
 whole_transcript p bytes text h gathered =
@@ -169,16 +163,3 @@ pub finished_front : (p q : Pieces) (r : Result (Unit {0}) Halt) (bytes text : L
     → HasRead p bytes text → IsSomeTranscript bytes (text ++ q.replay.text.items)
 finished_front p q (Ok x) bytes text done halts h = inr (done bytes text h)
 finished_front p q (Err why) bytes text done halts h = inl (halts_end_front why q.replay.count bytes (text ++ q.replay.text.items) (halts bytes text h))
-
--- ## A text that is written in two pieces
-
--- a front of the first one is a front of both
-pub front_of_first : (n : ℕ) (xs ys : List ℕ) → (k : ℕ) × (take k (xs ++ ys) ≡ take n xs)
-front_of_first zero xs ys = (0, refl)
-front_of_first (suc n) [] ys = (0, refl)
-front_of_first (suc n) (x ∷ xs) ys = let rest = front_of_first n xs ys in (suc rest.0, ap (λ l. x ∷ l) rest.1)
-
--- so is the first one with a front of the second
-pub front_of_both : (n : ℕ) (xs ys : List ℕ) → (k : ℕ) × (take k (xs ++ ys) ≡ xs ++ take n ys)
-front_of_both n [] ys = (n, refl)
-front_of_both n (x ∷ xs) ys = let rest = front_of_both n xs ys in (suc rest.0, ap (λ l. x ∷ l) rest.1)

@@ -11,8 +11,8 @@ use Rattle.told_laws.proofs.texts.ShownLemmas.{same_ended}
 use Rattle.schedule_text.specs.Entries.{entry_lines}
 use Rattle.lines_told.specs.lines.Plays.{schedule_told}
 use Rattle.told_laws.proofs.told.Whole.{schedule_told_in}
-use Rattle.swp_tool.specs.declared.status.Status.{Status}
-use Rattle.swp_tool.specs.declared.status.Status.TheVariants as status
+use Rattle.swp_words.specs.declared.status.Status.{Status}
+use Rattle.swp_words.specs.declared.status.Status.TheVariants as status
 use Rattle.swp_tool.specs.Schedules.{Stop, Schedule, nothing_read, and_lines, ended, schedule_in}
 use Rattle.swp_tool.specs.Transcripts.{done_line, whole_text, IsPlayedText, IsTextBelow, IsDoneText}
 use Rattle.swp_tool.specs.Transcripts.{TellsEntries, TellsPlayed}

@@ -33,8 +33,8 @@ use Rattle.swp_tool.specs.Transcripts.{nodes_history}
 use Rattle.swp_tool.specs.Generated.{count_of_kind, AreCountsOf, is_noted_sent, is_noted_got, is_noted_acked, is_noted_up, is_noted_command}
 use Rattle.swp_tool.specs.declared.generating.Generating.{Generating}
 use Rattle.swp_tool.specs.Generated.{HasCounted, told_line, summary_line, IsSummary, Generated, WroteText}
-use Rattle.swp_tool.specs.declared.status.Status.{Status}
-use Rattle.swp_tool.specs.declared.status.Status.TheVariants as status
+use Rattle.swp_words.specs.declared.status.Status.{Status}
+use Rattle.swp_words.specs.declared.status.Status.TheVariants as status
 use Rattle.swp_tool.proofs.Playing.{under_own_header}
 use Rattle.swp_tool.proofs.Texts.{nodes_told-push}
 

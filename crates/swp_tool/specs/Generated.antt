@@ -12,8 +12,8 @@ use Rattle.node_laws.specs.answers.Headline.PlayedHistory.{OfNodes}
 use Rattle.lines_told.specs.lines.Plays.Play.{Said}
 use Rattle.told_laws.specs.told.NodesTold.{nodes_told}
 use Rattle.world.specs.Worlds.{IsWorldAt}
-use Rattle.swp_tool.specs.declared.status.Status.{Status}
-use Rattle.swp_tool.specs.declared.status.Status.TheVariants as status
+use Rattle.swp_words.specs.declared.status.Status.{Status}
+use Rattle.swp_words.specs.declared.status.Status.TheVariants as status
 use Rattle.swp_tool.specs.declared.counts.Counts.{Counts}
 use Rattle.swp_tool.specs.declared.generating.Generating.{Generating}
 use Rattle.swp_tool.specs.Transcripts.{nodes_history}

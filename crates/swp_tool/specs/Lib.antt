@@ -1,12 +1,6 @@
 pub mod Schedules
 pub mod Transcripts
-pub mod Statuses
 pub mod Replays
 pub mod Pieces
 pub mod Runs
-pub mod Records
-pub mod Decodings
-pub mod Taps
-pub mod Images
-pub mod Ends
 pub mod Generated

@@ -1,15 +1,15 @@
 -- What a run of the program has read and written, by the status with which it ended.
 use Rattle.std.specs.Prelude.{◌≡◌, ℕ, ◌+◌, ◌≤◌, ◌⊎◌, Bool, true, false, IsTrue, List, [], ◌∷◌, ◌++◌, length, take, codes}
 use Rattle.swp_tool.specs.declared.pieces.Pieces.{Pieces}
-use Rattle.swp_tool.specs.declared.status.Status.{Status}
-use Rattle.swp_tool.specs.declared.status.Status.TheVariants as status
+use Rattle.swp_words.specs.declared.status.Status.{Status}
+use Rattle.swp_words.specs.declared.status.Status.TheVariants as status
 use Rattle.swp_tool.specs.declared.replay.Halt.{Halt}
 use Rattle.swp_tool.specs.declared.replay.Halt.TheVariants as halt
 use Rattle.swp_tool.specs.Schedules.{Stop, AtFault, AtMisread, Too_many}
 use Rattle.swp_tool.specs.Transcripts.{IsDoneText, StopsWithText}
 use Rattle.swp_tool.specs.Generated.{IsGen}
 use Rattle.swp_tool.specs.Pieces.{HasRead, IsFrontTranscript, IsWholeTranscript, IsRunning}
-use Rattle.swp_tool.specs.Ends.{AskForAnEnd}
+use Rattle.swp_words.specs.Ends.{AskForAnEnd}
 
 -- the status of a replay that halts behind so many whole lines
 abbrev pub status_of : Halt → ℕ → Status

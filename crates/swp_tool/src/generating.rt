@@ -10,11 +10,11 @@ ghost use Rattle.swp_tool.specs.Transcripts.{nodes_history};
 ghost use Rattle.swp_tool.specs.Generated.{AreCountsOf, HasCounted, IsSummary, Generated, WroteText, IsOfGen, told_line};
 
 use crate::counts::Counts;
-use crate::output::write_all;
-use crate::status::Status;
 use drawn_schedule::{draw_lines, drawn_header};
 use std::alloc::{AllocError, Global};
 use swp_base::{NoMemory, Sink};
+use swp_words::output::write_all;
+use swp_words::status::Status;
 use trace_model::Line;
 use world::World;
 

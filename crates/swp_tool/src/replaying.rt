@@ -6,14 +6,14 @@ ghost use Rattle.swp_tool.specs.Schedules.{schedule_in};
 ghost use Rattle.swp_tool.specs.Transcripts.{TellsPlayed};
 ghost use Rattle.swp_tool.specs.Pieces.{HasRead, IsReading, IsReadAhead, bytes_left};
 
-use crate::driver::{Job, drive};
-use crate::output::write_all;
 use crate::pieces::Pieces;
 use crate::replay::Halt;
-use crate::status::Status;
 use schedule_text::Transcript;
 use std::alloc::Global;
 use swp_base::{Failed, Sink, Source};
+use swp_words::driver::{Job, drive};
+use swp_words::output::write_all;
+use swp_words::status::Status;
 
 /// The most bytes of a schedule that are read at once.
 const PIECE: usize = 4096;

@@ -6,38 +6,29 @@ ghost use Rattle.swp_tool.specs.Schedules.{Stop, schedule_in};
 ghost use Rattle.swp_tool.specs.Runs.{status_of, status_at, AppendsText, Replayed, IsUnderWay, IsReplay, IsDecode, IsTap, IsTables, AskForSomething};
 ghost use Rattle.swp_tool.specs.Runs.{IsOfReplay};
 ghost use Rattle.swp_tool.specs.Transcripts.{TellsPlayed};
-ghost use Rattle.swp_tool.specs.Images.{Told, IsOfTables};
+ghost use Rattle.swp_words.specs.Images.{Told, IsOfTables};
 ghost use Rattle.hci_store.specs.Image.{image_fault};
 ghost use Rattle.hci_store.specs.Refusals.{IsOnlyRead};
 ghost use Rattle.nv_journal.specs.declared.JournalFault.{JournalFault as Bad};
-ghost use Rattle.swp_tool.specs.Records.{most_bytes, IsOfRecord};
-ghost use Rattle.swp_tool.specs.Decodings.{DecodedBy};
-ghost use Rattle.lone_laws.specs.alone.Ends.{EndForm};
-ghost use Rattle.one_end.specs.Writing.{form_named};
-ghost use Rattle.swp_tool.specs.Ends.{EndedSo, IsOfEndWord, IsEndCommand, AskForAnEnd, HasNextGeneration, IsRefusedFor};
-ghost use Rattle.swp_tool.specs.Taps.{TappedBy, IsOfTap};
+ghost use Rattle.swp_words.specs.Records.{most_bytes, IsOfRecord};
+ghost use Rattle.swp_words.specs.Decodings.{DecodedBy};
+ghost use Rattle.swp_words.specs.Ends.{EndForm, form_named};
+ghost use Rattle.swp_words.specs.Ends.{EndedSo, IsOfEndWord, IsEndCommand, AskForAnEnd, HasNextGeneration, IsRefusedFor};
+ghost use Rattle.swp_words.specs.Taps.{TappedBy, IsOfTap};
 ghost use Rattle.swp_tool.specs.Generated.{Generated, IsGen, IsOfGen};
 ghost use Rattle.swp_tool.specs.Pieces.{HasRead, IsReading, IsReadAhead, bytes_left};
 
-use crate::decoding::decode;
 use crate::generating::generate;
-use crate::lone::{EndAsked, run_end};
 use crate::number::number_given;
 use crate::replaying::replay;
-use crate::status::Status;
-use crate::tables::tables;
-use crate::tapping::tap;
-use one_end::Form;
 use std::alloc::Global;
 use swp_base::{Nv, Sink, Source};
-
-/// What a run gives back.
-pub struct Ended<N> {
-    /// How it ended.
-    pub status: Status,
-    /// The memory that was handed in.
-    pub nv: N,
-}
+use swp_words::Form;
+use swp_words::decoding::decode;
+use swp_words::lone::{EndAsked, run_end};
+use swp_words::status::{Ended, Status};
+use swp_words::tables::tables;
+use swp_words::tapping::tap;
 
 /// Runs the program: the words are those behind its name. Of its commands all are built. `replay` reads a schedule to its end,
 /// to its first fault, or to a line that damages a frame so that another one is read, and writes its transcript. `decode` reads

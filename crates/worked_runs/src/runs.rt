@@ -3,7 +3,7 @@
 ghost use Rattle.std.specs.Prelude.{◌≡◌, ◌≤◌, ◌⊎◌, ◌∷◌, [], ℕ, length, map, string_bytes, codes, Some, None, IfOk};
 ghost use Rattle.swp_tool.specs.Schedules.{Stop, schedule_in};
 ghost use Rattle.swp_tool.specs.Runs.{status_at};
-ghost use Rattle.swp_tool.specs.Records.{most_bytes};
+ghost use Rattle.swp_words.specs.Records.{most_bytes};
 
 use crate::rows::*;
 use crate::shown::same;

@@ -1,6 +1,7 @@
 use Rattle.std.proofs.Common.{◌+◌, ◌++◌, take, sym, ap, ◌∙◌, arith}
 use Rattle.swp_tool.specs.Pieces.{ended_line}
-use Rattle.swp_tool.proofs.Cutting.{cut_at, lacks_all, left_of}
+use Rattle.swp_tool.proofs.Cutting.{cut_at, lacks_all}
+use Rattle.swp_words.proofs.Taken.{left_of}
 use Rattle.swp_tool.proofs.pieces.cut_line.Goals as goal
 
 pub returns-in_err-end-clause-none : goal.returns-in_err-end-clause-none

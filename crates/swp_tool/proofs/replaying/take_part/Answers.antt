@@ -1,9 +1,10 @@
 -- What was gathered of the first bytes of a piece stands behind what was written.
 use Rattle.std.proofs.Common.{◌≡◌, ◌++◌, List, ℕ, IsTrue, [], length, length-append, sym, ap, ◌∙◌, append_assoc, subst, take, inl, arith}
-use Rattle.swp_tool.specs.declared.status.Status.{Status}
+use Rattle.swp_words.specs.declared.status.Status.{Status}
 use Rattle.swp_tool.specs.Pieces.{HasRead, IsFrontTranscript}
 use Rattle.swp_tool.specs.Runs.{Replayed}
-use Rattle.swp_tool.proofs.Ending.{of_err, of_ok, behind, cut_short, left_behind, fed_front, halted_replayed}
+use Rattle.swp_tool.proofs.Ending.{of_err, of_ok, cut_short, left_behind, fed_front, halted_replayed}
+use Rattle.swp_words.proofs.Taken.{behind}
 use Rattle.swp_tool.proofs.replaying.take_part.Goals as goal
 
 pub returns-then-is_err-clause-ends : goal.returns-then-is_err-clause-ends

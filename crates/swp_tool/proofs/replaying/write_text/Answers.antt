@@ -1,7 +1,7 @@
 -- A front of either piece is a front of the text.
 use Rattle.std.proofs.Common.{◌≡◌, ◌++◌, ◌∙◌, ℕ, IsTrue, sym, ap, append_assoc, take}
 use Rattle.std.proofs.lemmas.Result.{on_err_weaker}
-use Rattle.swp_tool.proofs.Ending.{front_of_first, front_of_both}
+use Rattle.swp_words.proofs.Taken.{front_of_first, front_of_both}
 use Rattle.swp_tool.proofs.RoundLemmas.{any_err}
 use Rattle.swp_tool.proofs.replaying.write_text.Goals as goal
 

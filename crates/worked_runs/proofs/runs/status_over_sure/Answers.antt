@@ -3,9 +3,9 @@ use Rattle.std.proofs.Common.{◌≡◌, ◌∷◌, [], ◌∙◌, ◌≤◌, ma
 use Rattle.std.specs.Prelude.{string_bytes, None, Some, ◌⊎◌}
 use Rattle.swp_base.specs.Outside.{Rose}
 use Rattle.swp_base.specs.declared.in_memory.SureSource.{SureSource}
-use Rattle.swp_tool.specs.declared.status.Status.TheVariants as status
+use Rattle.swp_words.specs.declared.status.Status.TheVariants as status
 use Rattle.swp_tool.specs.Schedules.{schedule_in}
-use Rattle.swp_tool.specs.Records.{most_bytes}
+use Rattle.swp_words.specs.Records.{most_bytes}
 use Rattle.swp_tool.specs.Runs.{status_at}
 use Rattle.worked_runs.proofs.runs.status_over_sure.Goals as goal
 

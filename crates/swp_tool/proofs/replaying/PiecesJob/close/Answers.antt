@@ -1,10 +1,11 @@
 -- What was gathered at the end stands behind what was written.
 use Rattle.std.proofs.Common.{◌≡◌, ◌++◌, List, ℕ, IsTrue, [], sym, ◌∙◌, subst, take, refl, arith}
 use Rattle.std.proofs.lemmas.List.{append-nil}
-use Rattle.swp_tool.specs.declared.status.Status.{Status}
+use Rattle.swp_words.specs.declared.status.Status.{Status}
 use Rattle.swp_tool.specs.Transcripts.{IsDoneText}
 use Rattle.swp_tool.specs.Runs.{IsSomeTranscript, Replayed}
-use Rattle.swp_tool.proofs.Ending.{of_err, of_ok, behind, cut_short, finished_front, halted_at_end}
+use Rattle.swp_tool.proofs.Ending.{of_err, of_ok, cut_short, finished_front, halted_at_end}
+use Rattle.swp_words.proofs.Taken.{behind}
 use Rattle.swp_tool.proofs.replaying.PiecesJob.close.Goals as goal
 
 pub returns-then-is_err-clause-ends : goal.returns-then-is_err-clause-ends

@@ -1,5 +1,0 @@
-use Rattle.swp_tool.proofs.Recording.{map_ok}
-use Rattle.swp_tool.proofs.tapping.TapOnRecordReader.write_out.Goals as goal
-
-pub returns-clause-wrote : goal.returns-clause-wrote
-returns-clause-wrote g c = map_ok _ _ c.flush.result (λ wrote earlier read before h told. wrote _ _ before h.heard.lines told) c.flush.ensures.wrote

@@ -1,0 +1,386 @@
+-- How a run of one node ended.
+use Rattle.std.proofs.Common.{◌≡◌, ◌==◌, ℕ, zero, suc, ◌+◌, ◌-◌, ◌<◌, ◌≤◌, arith, Bool, true, false, cond, IsTrue, List, [], ◌∷◌, ◌++◌, length, take, drop, get_or, refl, sym, ap, subst}
+use Rattle.std.proofs.Common.{◌∙◌, inl, inr, append_assoc, append-nil, length-append}
+use Rattle.std.specs.Prelude.{◌⊎◌, Option, Some, None}
+use Rattle.std.proofs.lemmas.List.{take-append-drop, length-take-le, length-drop}
+use Rattle.swp_base.specs.declared.control_frames.Control.{Control}
+use Rattle.nv_journal.specs.declared.JournalFault.{JournalFault}
+use Rattle.nv_journal.specs.declared.JournalFault.TheVariants as image
+use Rattle.lone_laws.specs.alone.Lone.{Lone}
+use Rattle.lone_laws.specs.alone.Ends.{EndForm}
+use Rattle.one_end.specs.declared.one_end.OneEnd.{OneEnd}
+use Rattle.one_end.specs.Standing.{HasRun, IsRunOfBytes, IsNotBooted}
+use Rattle.one_end.specs.Writing.{form_named}
+use Rattle.one_end.proofs.Growing.{is_run_of}
+use Rattle.swp_words.specs.declared.status.Status.{Status}
+use Rattle.swp_words.specs.declared.status.Status.TheVariants as status
+use Rattle.swp_words.specs.Ends.{Began, HasHeardAlone, HasGoneOut, IsWaitingAlone, IsCutAlone, IsWrittenBefore, IsBrokenAlone, IsStoppedAlone, IsTooLongAlone}
+use Rattle.swp_words.specs.Ends.{IsHearing, EndedAlone, HasRunAlone, IsRunBefore}
+use Rattle.swp_words.specs.Ends.{IsRunBrokenOff, IsRunStopped, IsRunCutOff, RanSo, EndedSo, HasNextGeneration}
+use Rattle.swp_words.specs.Ends.{status_of_boot, IsOfLone, IsOfEndWord}
+use Rattle.swp_words.specs.Records.{most_bytes}
+use Rattle.std.proofs.Math.Seq.{take-add}
+use Rattle.swp_words.proofs.Taken.{whole_after, whole_piece, left_of}
+use Rattle.swp_words.proofs.Taken.{front_of_both}
+use Rattle.hci_store.specs.Image.{image_fault}
+use Rattle.swp_base.specs.Outside.{Rose}
+use Rattle.hci_store.specs.Starting.{ready_writes, HasWritten}
+
+module _ {N T : Type 0} (writes : N → ℕ → List ℕ → Bool → N → Type 0) (nv : T → N) (Runs : T → Lone → List Control → Type 0) (number : ℕ) (is_clf : Bool)
+    (role : number ≡ cond is_clf 0 2) (o : Began N) where
+  pub run_is : (e : OneEnd T) (stopped : Bool) (bytes written : List ℕ) → e.form ≡ o.form
+      → HasRun writes nv Runs number o.content o.first e stopped bytes written
+      → IsRunOfBytes writes o.first (nv e.node) stopped (form_named o.form) is_clf o.content bytes written
+  run_is e stopped bytes written same h =
+      subst (λ f. IsRunOfBytes writes o.first (nv e.node) stopped (form_named f) is_clf o.content bytes written) same
+      (is_run_of writes nv Runs is_clf o.content o.first e stopped bytes written
+      (subst (λ k. HasRun writes nv Runs k o.content o.first e stopped bytes written) role h))
+
+  heard_is : (tells : Bool) (e : OneEnd T) (stopped : Bool) (bytes before after : List ℕ)
+      → HasHeardAlone writes nv Runs number tells o e stopped bytes before after
+      → HasRunAlone writes tells (form_named o.form) is_clf o.content o.first (nv e.node) stopped bytes before after
+  heard_is tells e stopped bytes before after h = record {
+    written = h.written;
+    run = run_is e stopped bytes h.written h.form_is h.run;
+    after_is = h.after_is;
+  }
+
+  before_is : (front piece earlier : List ℕ) → IsWrittenBefore writes nv Runs number o front piece earlier
+      → IsRunBefore writes (form_named o.form) is_clf o.content o.first front piece earlier
+  before_is front piece earlier (inl none) = inl none
+  before_is front piece earlier (inr h) = inr (nv h.0.node, run_is h.0 false front earlier h.1 h.2)
+
+  pub broken_is : (tells : Bool) (given : ℕ) (e : OneEnd T) (input left before after : List ℕ)
+      → IsBrokenAlone writes nv Runs number tells given o e input left before after
+      → IsRunBrokenOff writes tells given (form_named o.form) is_clf o.content o.first (nv e.node) input left before after
+  broken_is tells given e input left before after h = record {
+    front = h.front;
+    came = h.came;
+    ahead = h.ahead;
+    input_is = h.input_is;
+    near = h.near;
+    at_once = h.at_once;
+    stopped = h.cut.stopped;
+    earlier = h.earlier;
+    last = h.cut.last;
+    before_it = before_is h.front (h.came ++ h.ahead) h.earlier h.before_it;
+    run = run_is e h.cut.stopped (h.front ++ h.came) (h.earlier ++ h.cut.last) h.cut.form_is h.cut.run;
+    n = h.cut.n;
+    after_is = h.cut.after_is;
+  }
+
+  pub stopped_is : (tells : Bool) (given : ℕ) (e : OneEnd T) (input left before after : List ℕ)
+      → IsStoppedAlone writes nv Runs number tells given o e input left before after
+      → IsRunStopped writes tells given (form_named o.form) is_clf o.content o.first (nv e.node) input left before after
+  stopped_is tells given e input left before after h = record {
+    bytes = h.bytes;
+    ahead = h.ahead;
+    input_is = h.input_is;
+    near = h.near;
+    at_once = h.at_once;
+    run = heard_is tells e true h.bytes before after h.heard;
+  }
+
+  cut_off_is : (tells : Bool) (e : OneEnd T) (count : ℕ) (input left before after : List ℕ) → count ≤ most_bytes
+      → IsHearing writes nv Runs number tells o e count input left before after
+      → IsRunCutOff writes tells (form_named o.form) is_clf o.content o.first (nv e.node) input left before after
+  cut_off_is tells e count input left before after few h = record {
+    bytes = h.bytes;
+    input_is = h.input_is;
+    few = subst (λ n. n ≤ most_bytes) h.counted few;
+    run = heard_is tells e false h.bytes before after h.heard;
+  }
+
+  pub ended_ran : (tells : Bool) (given : ℕ) (e : OneEnd T) (count : ℕ) (s : Status) (input left before after : List ℕ)
+      → EndedAlone writes nv Runs number tells given o e count s input left before after
+      → RanSo writes tells given (form_named o.form) is_clf o.content o.first (nv e.node) s input left before after
+  ended_ran tells given e count status.Done input left before after h = (h.0, h.1, heard_is tells e false input before after h.2)
+  ended_ran tells given e count status.ReadFault input left before after h = cut_off_is tells e count input left before after h.0 h.1
+  ended_ran tells given e count status.WriteFault input left before after h = broken_is tells given e input left before after h
+  ended_ran tells given e count status.NvFault input left before after h = stopped_is tells given e input left before after h
+  ended_ran tells given e count (status.TooMany n) input left before after h = (
+    h.0,
+    record {
+      bytes = h.1.bytes;
+      byte = h.1.byte;
+      rest = h.1.rest;
+      input_is = h.1.input_is;
+      most = h.1.most;
+      run = heard_is tells e false h.1.bytes before after h.1.heard;
+    },
+  )
+  ended_ran tells given e count status.BadWords input left before after h = absurd h
+  ended_ran tells given e count (status.BadSchedule line why) input left before after h = absurd h
+  ended_ran tells given e count (status.Undetected line) input left before after h = absurd h
+  ended_ran tells given e count status.NoMemory input left before after h = absurd h
+  ended_ran tells given e count (status.BadImage why) input left before after h = absurd h
+
+-- ## Before the first byte
+
+module _ {N T : Type 0} (writes : N → ℕ → List ℕ → Bool → N → Type 0) (nv : T → N) (Runs : T → Lone → List Control → Type 0) (number : ℕ)
+    (o : Began N) (tells : Bool) (e : OneEnd T) where
+  pub begins_broken : (given : ℕ) (stopped : Bool) (input was after items : List ℕ) → e.form ≡ o.form
+      → HasRun writes nv Runs number o.content o.first e stopped [] items → (n : ℕ) → (IsTrue tells → after ≡ was ++ take n items)
+      → IsBrokenAlone writes nv Runs number tells given o e input input was after
+  begins_broken given stopped input was after items same h n is = record {
+    front = [];
+    came = [];
+    ahead = [];
+    input_is = refl;
+    near = omega arith;
+    at_once = omega arith;
+    earlier = [];
+    before_it = inl (refl, refl, refl);
+    cut = record { form_is = same; stopped = stopped; last = items; run = h; n = n; after_is = is };
+  }
+
+  begun_heard : (stopped : Bool) (was after items : List ℕ) → e.form ≡ o.form
+      → HasRun writes nv Runs number o.content o.first e stopped [] items → (IsTrue tells → after ≡ was ++ items)
+      → HasHeardAlone writes nv Runs number tells o e stopped [] was after
+  begun_heard stopped was after items same h is = record { form_is = same; written = items; run = h; after_is = is }
+
+  pub begins_stopped : (given : ℕ) (input was after items : List ℕ) → e.form ≡ o.form
+      → HasRun writes nv Runs number o.content o.first e true [] items → (IsTrue tells → after ≡ was ++ items)
+      → IsStoppedAlone writes nv Runs number tells given o e input input was after
+  begins_stopped given input was after items same h is = record {
+    bytes = [];
+    ahead = [];
+    input_is = refl;
+    near = omega arith;
+    at_once = omega arith;
+    heard = begun_heard true was after items same h is;
+  }
+
+  pub begins_hearing : (count : ℕ) (input was after items : List ℕ) → count ≡ 0 → e.form ≡ o.form
+      → HasRun writes nv Runs number o.content o.first e false [] items → (IsTrue tells → after ≡ was ++ items)
+      → IsHearing writes nv Runs number tells o e count input input was after
+  begins_hearing count input was after items none same h is = record {
+    bytes = [];
+    input_is = refl;
+    counted = none;
+    heard = begun_heard false was after items same h is;
+  }
+
+-- ## While bytes come
+
+-- the first of the first
+pub take-take : (n m : ℕ) (xs : List ℕ) → n ≤ m → take n (take m xs) ≡ take n xs
+take-take zero m xs h = refl
+take-take (suc n) zero xs h = absurd (omega arith)
+take-take (suc n) (suc m) [] h = refl
+take-take (suc n) (suc m) (x ∷ xs) h = ap (λ ys. x ∷ ys) (take-take n m xs (omega arith))
+
+module _ {N T : Type 0} (writes : N → ℕ → List ℕ → Bool → N → Type 0) (nv : T → N) (Runs : T → Lone → List Control → Type 0) (number : ℕ)
+    (tells : Bool) (o : Began N) where
+  -- nothing waits yet
+  pub waits : (e : OneEnd T) (stopped : Bool) (bytes before after : List ℕ) (h : HasHeardAlone writes nv Runs number tells o e stopped bytes before after)
+      (waiting : List ℕ) → waiting ≡ [] → IsWaitingAlone writes nv Runs number tells o e stopped bytes h.written waiting before after
+  waits e stopped bytes before after h waiting none = record {
+    form_is = h.form_is;
+    sent = [];
+    run = subst (HasRun writes nv Runs number o.content o.first e stopped bytes)
+        (sym (append-nil h.written) ∙ (sym (append-nil (h.written ++ [])) ∙ ap (λ l. (h.written ++ []) ++ l) (sym none))) h.run;
+    after_is = λ told. h.after_is told ∙ ap (λ l. before ++ l) (sym (append-nil h.written));
+  }
+
+  -- some of what waited went out
+  pub waits_on : (e : OneEnd T) (stopped : Bool) (bytes earlier waited waiting before was now : List ℕ)
+      → IsWaitingAlone writes nv Runs number tells o e stopped bytes earlier waited before was → HasGoneOut tells waited waiting was now
+      → IsWaitingAlone writes nv Runs number tells o e stopped bytes earlier waiting before now
+  waits_on e stopped bytes earlier waited waiting before was now h out =
+      let all : (earlier ++ h.sent) ++ out.sent ≡ earlier ++ (h.sent ++ out.sent) = append_assoc earlier h.sent out.sent in
+      record {
+        form_is = h.form_is;
+        sent = h.sent ++ out.sent;
+        run = subst (HasRun writes nv Runs number o.content o.first e stopped bytes)
+            (ap (λ l. (earlier ++ h.sent) ++ l) out.parts ∙ (sym (append_assoc (earlier ++ h.sent) out.sent waiting) ∙ ap (λ l. l ++ waiting) all)) h.run;
+        after_is = λ told.
+            out.now_is told ∙ (ap (λ l. l ++ out.sent) (h.after_is told) ∙ (append_assoc before (earlier ++ h.sent) out.sent ∙ ap (λ l. before ++ l) all));
+      }
+
+  -- the first of what is left of a piece came
+  pub heard_more : (d e : OneEnd T) (stopped : Bool) (came piece : List ℕ) (at n : ℕ) (earlier waited waiting before after : List ℕ) → e.form ≡ d.form
+      → at ≤ length piece → (w : IsWaitingAlone writes nv Runs number tells o d false (came ++ take at piece) earlier waited before after)
+      → HasRun writes nv Runs number o.content o.first e stopped ((came ++ take at piece) ++ take n (take (length piece - at) (drop at piece)))
+      ((earlier ++ w.sent) ++ waiting)
+      → IsWaitingAlone writes nv Runs number tells o e stopped (came ++ take (at + n) piece) earlier waiting before after
+  heard_more d e stopped came piece at n earlier waited waiting before after same within w run = record {
+    form_is = same ∙ w.form_is;
+    sent = w.sent;
+    run = subst (λ l. HasRun writes nv Runs number o.content o.first e stopped l ((earlier ++ w.sent) ++ waiting))
+        (append_assoc came (take at piece) (take n (take (length piece - at) (drop at piece)))
+        ∙ ap (λ l. came ++ l) (ap (λ l. take at piece ++ take n l) (left_of piece at within) ∙ sym (take-add at n piece))) run;
+    after_is = w.after_is;
+  }
+
+  -- all of it did
+  pub waits_no_more : (e : OneEnd T) (stopped : Bool) (bytes earlier waited before was now : List ℕ)
+      → IsWaitingAlone writes nv Runs number tells o e stopped bytes earlier waited before was → (IsTrue tells → now ≡ was ++ waited)
+      → HasHeardAlone writes nv Runs number tells o e stopped bytes before now
+  waits_no_more e stopped bytes earlier waited before was now h is = record {
+    form_is = h.form_is;
+    written = (earlier ++ h.sent) ++ waited;
+    run = h.run;
+    after_is = λ told. is told ∙ (ap (λ l. l ++ waited) (h.after_is told) ∙ append_assoc before (earlier ++ h.sent) waited);
+  }
+
+  -- a front of it did
+  pub is_cut : (e : OneEnd T) (stopped : Bool) (bytes earlier waited before was now : List ℕ)
+      → IsWaitingAlone writes nv Runs number tells o e stopped bytes earlier waited before was
+      → (n : ℕ) × (IsTrue tells → now ≡ was ++ take n waited) → IsCutAlone writes nv Runs number tells o e bytes earlier before now
+  is_cut e stopped bytes earlier waited before was now h part =
+      let front = front_of_both part.0 h.sent waited in
+      record {
+        form_is = h.form_is;
+        stopped = stopped;
+        last = h.sent ++ waited;
+        run = subst (HasRun writes nv Runs number o.content o.first e stopped bytes) (append_assoc earlier h.sent waited) h.run;
+        n = front.0;
+        after_is = λ told.
+            part.1 told ∙ (ap (λ l. l ++ take part.0 waited) (h.after_is told) ∙ (append_assoc before (earlier ++ h.sent) (take part.0 waited)
+            ∙ ap (λ l. before ++ l) (append_assoc earlier h.sent (take part.0 waited) ∙ ap (λ l. earlier ++ l) (sym front.1))));
+      }
+
+  -- a write failed behind the first bytes of a piece
+  pub broken_in : (given : ℕ) (d e : OneEnd T) (bytes piece left before was now : List ℕ) (n : ℕ) → length piece ≤ 8192 → length piece ≤ given
+      → (h : HasHeardAlone writes nv Runs number tells o d false bytes before was)
+      → IsCutAlone writes nv Runs number tells o e (bytes ++ take n piece) h.written before now
+      → IsBrokenAlone writes nv Runs number tells given o e (bytes ++ piece ++ left) left before now
+  broken_in given d e bytes piece left before was now n near some h cut =
+      let all : take n piece ++ drop n piece ≡ piece = take-append-drop n piece in
+      record {
+        front = bytes;
+        came = take n piece;
+        ahead = drop n piece;
+        input_is = append_assoc bytes piece left ∙ ap (λ l. bytes ++ l) (sym (ap (λ l. l ++ left) all) ∙ append_assoc (take n piece) (drop n piece) left);
+        near = subst (λ l. length l ≤ 8192) (sym all) near;
+        at_once = subst (λ l. length l ≤ given) (sym all) some;
+        earlier = h.written;
+        before_it = inr (d, h.form_is, h.run);
+        cut = cut;
+      }
+
+  -- the node lost its power in them
+  pub stopped_in : (given : ℕ) (e : OneEnd T) (bytes piece left before now : List ℕ) (n : ℕ) → length piece ≤ 8192 → length piece ≤ given
+      → HasHeardAlone writes nv Runs number tells o e true (bytes ++ take n piece) before now
+      → IsStoppedAlone writes nv Runs number tells given o e (bytes ++ piece ++ left) left before now
+  stopped_in given e bytes piece left before now n near some h = record {
+    bytes = bytes ++ take n piece;
+    ahead = drop n piece;
+    input_is = whole_after bytes piece left n;
+    near = let l = length-drop n piece in omega (arith, l, near);
+    at_once = let l = length-drop n piece in omega (arith, l, some);
+    heard = h;
+  }
+
+  -- the last of them is one too many
+  pub too_long_in : (e : OneEnd T) (bytes piece left before now : List ℕ) (n : ℕ) → n < length piece → length bytes + n ≡ most_bytes
+      → HasHeardAlone writes nv Runs number tells o e false (bytes ++ take n piece) before now
+      → IsTooLongAlone writes nv Runs number tells o e (bytes ++ piece ++ left) before now
+  too_long_in e bytes piece left before now n within most h =
+      let front = bytes ++ take n piece in
+      let byte = get_or piece n 0 in
+      let rest = drop (n + 1) piece in
+      record {
+        bytes = front;
+        byte = byte;
+        rest = rest ++ left;
+        input_is = ap (λ l. l ++ left) (sym (whole_piece bytes piece n within))
+            ∙ (append_assoc (front ++ byte ∷ []) rest left ∙ append_assoc front (byte ∷ []) (rest ++ left));
+        most = let l1 = length-append bytes (take n piece) in
+            let l2 = length-take-le n piece (omega (arith, within)) in
+            omega (arith, most, l1, l2);
+        heard = h;
+      }
+
+-- the faults of a start beside that of the memory
+pub unknown_is_other : (version : ℕ) → image.UnknownFormat version ≡ image.NvFault → ⊥
+unknown_is_other version is = cc
+
+pub record_is_other : (at : ℕ) → image.BadRecord at ≡ image.NvFault → ⊥
+record_is_other at is = cc
+
+pub spent_is_other : image.GenerationsSpent ≡ image.NvFault → ⊥
+spent_is_other is = cc
+
+-- a boot that was refused
+pub refused_ended : {N : Type 0} (reads : N → Bool → N → Type 0) (writes : N → ℕ → List ℕ → Bool → N → Type 0) (faults : N → ℕ) (nv_tells : Bool)
+    (content : N → List ℕ) (tells : Bool) (given : ℕ) (form : EndForm) (is_clf : Bool) (old new : N) (fault : Option JournalFault) (input before : List ℕ)
+    → IsTrue nv_tells → IsNotBooted reads writes faults nv_tells content old new fault
+    → EndedSo reads writes content tells given form is_clf old new (status_of_boot fault) input input before before
+refused_ended reads writes faults nv_tells content tells given form is_clf old new None input before told k = (k, (refl, λ t. refl))
+refused_ended reads writes faults nv_tells content tells given form is_clf old new (Some image.NvFault) input before told k =
+    inl (record { nothing = (refl, λ t. refl); where_cut = k.torn told refl; same = k.left told })
+refused_ended reads writes faults nv_tells content tells given form is_clf old new (Some (image.UnknownFormat version)) input before told k =
+    let only = k.unwritten (unknown_is_other version) in
+    record { nothing = (refl, λ t. refl); why = inl (k.image told tt); read = only.read; same = only.kept told }
+refused_ended reads writes faults nv_tells content tells given form is_clf old new (Some (image.BadRecord at)) input before told k =
+    let only = k.unwritten (record_is_other at) in
+    record { nothing = (refl, λ t. refl); why = inl (k.image told tt); read = only.read; same = only.kept told }
+refused_ended reads writes faults nv_tells content tells given form is_clf old new (Some image.GenerationsSpent) input before told k =
+    let only = k.unwritten spent_is_other in
+    record { nothing = (refl, λ t. refl); why = inr (refl, k.spent told refl); read = only.read; same = only.kept told }
+
+-- the number of a node says whether it is the CLF's
+pub role_is : {number : ℕ} (is_clf : Bool) → number ≡ cond is_clf 0 2 → (number == 0) ≡ is_clf
+role_is true q = ap (λ n. n == 0) q
+role_is false q = ap (λ n. n == 0) q
+
+-- ## A run behind a boot
+
+pub booted_ended : {N : Type 0} (reads : N → Bool → N → Type 0) (writes : N → ℕ → List ℕ → Bool → N → Type 0) (content : N → List ℕ) (tells : Bool)
+    (given : ℕ) (form : EndForm) (is_clf : Bool) (old first new : N) (s : Status) (input left before after : List ℕ) → IsOfLone s
+    → image_fault (content old) ≡ None
+    → HasNextGeneration (content old) → HasWritten reads writes content (ready_writes (content old)) old true first
+    → RanSo writes tells given form is_clf (content old) first new s input left before after
+    → EndedSo reads writes content tells given form is_clf old new s input left before after
+booted_ended reads writes content tells given form is_clf old first new status.Done input left before after kind sound next made ran =
+    record { first = first; sound = sound; next = next; booted = made; ran = ran }
+booted_ended reads writes content tells given form is_clf old first new status.ReadFault input left before after kind sound next made ran =
+    record { first = first; sound = sound; next = next; booted = made; ran = ran }
+booted_ended reads writes content tells given form is_clf old first new status.WriteFault input left before after kind sound next made ran =
+    record { first = first; sound = sound; next = next; booted = made; ran = ran }
+booted_ended reads writes content tells given form is_clf old first new status.NvFault input left before after kind sound next made ran =
+    inr (record { first = first; sound = sound; next = next; booted = made; ran = ran })
+booted_ended reads writes content tells given form is_clf old first new (status.TooMany n) input left before after kind sound next made ran =
+    record { first = first; sound = sound; next = next; booted = made; ran = ran }
+booted_ended reads writes content tells given form is_clf old first new status.BadWords input left before after kind sound next made ran = absurd kind
+booted_ended reads writes content tells given form is_clf old first new (status.BadSchedule line why) input left before after kind sound next made ran =
+    absurd kind
+booted_ended reads writes content tells given form is_clf old first new (status.Undetected line) input left before after kind sound next made ran = absurd kind
+booted_ended reads writes content tells given form is_clf old first new status.NoMemory input left before after kind sound next made ran = absurd kind
+booted_ended reads writes content tells given form is_clf old first new (status.BadImage why) input left before after kind sound next made ran = absurd kind
+
+-- ## How it can end
+
+pub lone_kind : (s : Status) → IsOfLone s → IsOfEndWord s
+lone_kind status.Done k = tt
+lone_kind status.ReadFault k = tt
+lone_kind status.WriteFault k = tt
+lone_kind status.NvFault k = tt
+lone_kind (status.TooMany n) k = k
+lone_kind status.BadWords k = absurd k
+lone_kind (status.BadSchedule line why) k = absurd k
+lone_kind (status.Undetected line) k = absurd k
+lone_kind status.NoMemory k = absurd k
+lone_kind (status.BadImage why) k = absurd k
+
+kind_of_boot : (fault : Option JournalFault) → IsOfEndWord (status_of_boot fault)
+kind_of_boot None = tt
+kind_of_boot (Some image.NvFault) = tt
+kind_of_boot (Some (image.UnknownFormat version)) = tt
+kind_of_boot (Some (image.BadRecord at)) = tt
+kind_of_boot (Some image.GenerationsSpent) = tt
+
+pub boot_kind : (fault : Option JournalFault) (s : Status) → s ≡ status_of_boot fault → IsOfEndWord s
+boot_kind fault s is = subst IsOfEndWord (sym is) (kind_of_boot fault)
+
+-- where a fault of the memory refused a boot, its count rose
+pub refused_rose : {N : Type 0} (reads : N → Bool → N → Type 0) (writes : N → ℕ → List ℕ → Bool → N → Type 0) (faults : N → ℕ) (nv_tells : Bool)
+    (content : N → List ℕ) (old new : N) (fault : Option JournalFault) (s : Status) → IsNotBooted reads writes faults nv_tells content old new fault
+    → s ≡ status_of_boot fault → s ≡ status.NvFault → Rose (faults old) (faults new)
+refused_rose reads writes faults nv_tells content old new None s k is nv = absurd (cc)
+refused_rose reads writes faults nv_tells content old new (Some image.NvFault) s k is nv = k.rose refl
+refused_rose reads writes faults nv_tells content old new (Some (image.UnknownFormat version)) s k is nv = absurd (cc)
+refused_rose reads writes faults nv_tells content old new (Some (image.BadRecord at)) s k is nv = absurd (cc)
+refused_rose reads writes faults nv_tells content old new (Some image.GenerationsSpent) s k is nv = absurd (cc)

@@ -1,0 +1,38 @@
+use Rattle.std.proofs.Common.{◌++◌, length, take, drop, ap, ◌∙◌, sym, subst}
+use Rattle.std.specs.Prelude.{reverse}
+use Rattle.std.proofs.lemmas.List.{reverse-append}
+use Rattle.swp_decode.specs.Frames.{record_frames}
+use Rattle.swp_decode.specs.Kept.{DecoderStandsFor}
+use Rattle.swp_decode.proofs.FurtherFrames.{record_frames-append}
+use Rattle.swp_words.specs.Records.{IsFront}
+use Rattle.swp_words.specs.Taps.{report_lines, tap_lines, HasHeard}
+use Rattle.swp_words.proofs.Taken.{whole_after}
+use Rattle.swp_words.proofs.Recording.{on_err}
+use Rattle.swp_words.proofs.tapping.hear_first.Goals as goal
+
+pub returns-in_err-hear_frames-clause-ends : goal.returns-in_err-hear_frames-clause-ends
+returns-in_err-hear_frames-clause-ends g c =
+    on_err _ c.from_residual.result (λ bare earlier read rest before h.
+    let bytes = c.args.bytes.now in
+    let n = c.hear_many-read.result in
+    let all = ap (λ l. record_frames read ++ l) (c.hear_many-read.ensures.heard (reverse read) h.decoder) ∙ sym (record_frames-append read (take n bytes)) in
+    record {
+      bytes = read ++ take n bytes;
+      rest = drop n bytes ++ rest;
+      input_is = whole_after read bytes rest n;
+      front = subst (λ l. IsFront g.K.Sink.tells (length (tap_lines bare earlier)) (report_lines bare l) before (g.K.Sink.written c.hear_frames.new.sink)) all
+          (c.in_err-hear_frames.ensures.ends bare (length (tap_lines bare earlier)) (record_frames read) before h.heard);
+    })
+
+pub returns-clause-goes : goal.returns-clause-goes
+returns-clause-goes g c bare earlier read before h =
+    let bytes = c.args.bytes.now in
+    let n = c.hear_many-read.result in
+    let all = ap (λ l. record_frames read ++ l) (c.hear_many-read.ensures.heard (reverse read) h.decoder) ∙ sym (record_frames-append read (take n bytes)) in
+    record {
+      decoder = subst (λ l. DecoderStandsFor c.hear_many-read.new.self l) (sym (reverse-append read (take n bytes)))
+          (c.hear_many-read.ensures.stands (reverse read) h.decoder);
+      heard = subst (λ l. HasHeard bare g.K.Sink.tells c.hear_frames.new.tap c.hear_frames.new.text.items (length (tap_lines bare earlier)) l before
+          (g.K.Sink.written c.hear_frames.new.sink)) all
+          (c.in_ok-hear_frames.ensures.goes bare (length (tap_lines bare earlier)) (record_frames read) before h.heard);
+    }
