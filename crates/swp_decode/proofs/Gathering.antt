@@ -1,6 +1,6 @@
 -- Bytes that have bits are periods with bits.
 use Rattle.std.proofs.Common.{◌≡◌, ℕ, suc, zero, ◌+◌, ◌*◌, ◌/◌, ◌%◌, ◌^◌, ◌<◌, ◌≤◌, Bool, true, false, List, [], ◌∷◌, ◌++◌, Option, Some, None, length, get_or}
-use Rattle.std.proofs.Common.{take, drop, refl, sym, ap, ap₂, ◌-◌, ◌∙◌, arith}
+use Rattle.std.proofs.Common.{take, drop, refl, ap, ap₂, ◌-◌, ◌∙◌, arith}
 use Rattle.swp_line.specs.declared.period.Period.{Period}
 use Rattle.swp_line.specs.declared.period.Period.TheVariants.{Bits, Suspended, ResumeAsked, Deactivated}
 use Rattle.swp_line.specs.Periods.{period_at}

@@ -1,5 +1,3 @@
-use Rattle.std.proofs.Common.{◌≡◌, ℕ, ◌+◌, ◌-◌, ◌*◌, ◌/◌, ◌%◌, ◌^◌, ◌<◌, take, ◌∙◌, arith}
-use Rattle.swp_frame.specs.Words.{low_bits}
 use Rattle.swp_decode.proofs.Gathering.{low_bits-first, low_bits-none}
 use Rattle.swp_decode.proofs.many.first_bits.Goals as goal
 
