@@ -5,6 +5,7 @@
 pub mod copying;
 pub mod nodes;
 pub mod noted;
+pub mod numbering;
 pub mod places;
 pub mod power;
 pub mod sending;

@@ -34,8 +34,9 @@ use Rattle.node_machine.specs.world.Lines.{first_cause, if_waiting, has_order}
 use Rattle.node_laws.specs.telling.Telling.{IfItRuns, IfOff, NoneDue}
 use Rattle.node_sites.specs.declared.places.HostSite.{HostSite}
 use Rattle.node_sites.specs.LinksKept.{WiresStandFor}
-use Rattle.node_sites.specs.Numbers.{StaysCounted}
+use Rattle.node_sites.specs.Numbers.{StaysCounted, AreNumbered}
 use Rattle.node_sites.specs.declared.power.Power.TheVariants.{On}
+use Rattle.node_sites.specs.WorldNodes.{IsNotedSo}
 use Rattle.node_sites.specs.Places.{SiteIs}
 
 -- ## What happens
@@ -168,7 +169,8 @@ pub record IsToSend {P : Type 0} (Runs : P → Core → List Port → Type 0) (m
   pub bare : Link
   pub bare_wires : WiresStandFor k.wires (exchanged bare)
   pub same : puts_entries Host bare (frames_out here.port.side) ≡ puts_entries Host l (frames_out here.port.side)
-  pub noted_are : short ≡ false → noted ≡ before ++ w.entries
+  pub noted_are : IsNotedSo noted short before w.entries
+  pub numbered : AreNumbered (λ h. get_or (replicate 8 (max k.wires.host.emitted k.wires.host.took)) h 0) w.entries
 
 -- ## What is kept behind it
 

@@ -65,7 +65,6 @@ impl NodeWorld {
             noted: Noted {
                 entries: Vec::new(alloc),
                 short: false,
-                sessions: [0; 8],
                 spares: Vec::new(alloc),
             },
         })
