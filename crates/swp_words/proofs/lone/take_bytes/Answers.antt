@@ -109,6 +109,6 @@ returns-else-few-piece-clause-goes g c o bytes before h =
     (c.in-Ok.ensures.goes o bytes h.written before w) in
     let all : n ≡ few = c.in-Ok.ensures.all c.if-heard.false ∙ length-take-le few piece small in
     let whole : few ≡ length piece = omega (arith, small, c.if-few-piece.false) in
-    subst (λ l. HasHeardAlone g.N.Nv.writes g.T.LoneNode.nv g.T.LoneNode.runs g.T.LoneNode.number g.K.Sink.tells o e false (bytes ++ l) before now) (ap (λ m. take m piece) (all ∙ whole) ∙ take_all piece)
+    subst (λ l. HasHeardAlone g.N.Nv.writes g.T.LoneNode.nv g.T.LoneNode.runs g.T.LoneNode.number g.K.Sink.tells o e false (bytes ++ l) before now) (ap (λ m. take m piece) (all ∙ whole) ∙ take_all (length piece) piece (omega arith))
     (subst (λ s. HasHeardAlone g.N.Nv.writes g.T.LoneNode.nv g.T.LoneNode.runs g.T.LoneNode.number g.K.Sink.tells o e s (bytes ++ take n piece) before now) c.if-heard.false
     (waits_no_more g.N.Nv.writes g.T.LoneNode.nv g.T.LoneNode.runs g.T.LoneNode.number g.K.Sink.tells o e stopped (bytes ++ take n piece) h.written items before mid now k c.in-Ok-put_out.ensures.wrote))
