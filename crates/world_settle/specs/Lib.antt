@@ -1,3 +1,1 @@
 pub mod Room
-pub mod Brought
-pub mod Fronts

@@ -3,12 +3,10 @@ use Rattle.trace_model.specs.declared.entry.Entry.{Entry}
 use Rattle.trace_model.specs.declared.entry.Entry.TheVariants.{Echo, Settled}
 use Rattle.trace_model.specs.declared.line.Header.{Header}
 use Rattle.trace_model.specs.declared.line.Line.TheVariants as line
-use Rattle.lines_told.specs.lines.Plays.{rounds_to_rest, told_of_rounds}
+use Rattle.lines_told.specs.lines.Plays.{told_of_rounds}
 use Rattle.lines_told.specs.lines.Plays.Play.{Round}
 use Rattle.world.specs.declared.world_steps.World.{World}
 use Rattle.world.specs.Worlds.{IsWorldAt, world_header}
-use Rattle.world_settle.specs.Fronts.{IsFrontNoted}
-use Rattle.world_settle.proofs.Bringing.{brings_all}
 use Rattle.world_settle.proofs.Going.{own_within, settles_so, under, was_long}
 use Rattle.world_settle.proofs.settling.settle.Goals as goal
 
@@ -61,10 +59,6 @@ returns-clause-stands g c plays at =
     (c.mark-2.ensures.closes plays c.args.rounds z.0 c.in_ok-done.done refl
     (under (world_header w) (world_header last) (sym z.1.within.header_is) z.1))
 
-pub returns-clause-brought : goal.returns-clause-brought
-returns-clause-brought g c plays at =
-    brings_all (world_header c.args.world.now) plays c.args.rounds c.args.world.now c.in_ok-done.done at (returns-clause-settled g c plays at)
-
 pub returns-clause-noted : goal.returns-clause-noted
 returns-clause-noted g c plays at long =
     let short = g.W.Watch.is_short in
@@ -84,24 +78,3 @@ returns-clause-noted g c plays at long =
     let P : ℕ → Type 0 = λ r.
     noted c.note-2.new.self ≡ noted c.args.watch.now ++ Echo (line.Settle c.args.rounds) ∷ (told_of_rounds header plays r ++ Settled r ∷ []) in
     subst P z.1.rounds_are whole
-
-pub returns-in_err-done-clause-broken : goal.returns-in_err-done-clause-broken
-returns-in_err-done-clause-broken g c plays at long =
-    let short = g.W.Watch.is_short in
-    let noted = g.W.Watch.noted in
-    let header : Header = c.args.world.now.header in
-    let n : ℕ = c.args.rounds in
-    let within = c.mark.ensures.opens plays n at refl in
-    let e = c.in_err-done.ensures in
-    let begun = was_long (short c.note.new.self) (short c.go_rounds.new.watch) e.stays long in
-    let F : Header → Type 0 = λ x.
-    IsFrontNoted (noted c.note.new.self) (noted c.go_rounds.new.watch) (told_of_rounds x plays (rounds_to_rest x plays n)) in
-    let f = subst F within.header_is (e.broken plays (own_within c.mark.new.self header plays n [] within) long) in
-    let first : Entry = Echo (line.Settle n) in
-    let last : List Entry = Settled (rounds_to_rest header plays n) ∷ [] in
-    record {
-      front = first ∷ f.front;
-      back = f.back ++ last;
-      now_is = f.now_is ∙ (ap (λ (es : List Entry). es ++ f.front) (c.note.ensures.noted begun) ∙ append_assoc (noted c.args.watch.now) (first ∷ []) f.front);
-      whole_is = ap (λ (es : List Entry). first ∷ (es ++ last)) f.whole_is ∙ ap (λ (es : List Entry). first ∷ es) (append_assoc f.front f.back last);
-    }
