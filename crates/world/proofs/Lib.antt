@@ -16,6 +16,3 @@ pub mod PlaysOnLinks
 pub mod Below
 pub mod Playing
 pub mod RoundParts
-pub mod Histories
-pub mod KeptLemmas
-pub mod MemoriesKept

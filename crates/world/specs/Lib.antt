@@ -5,4 +5,3 @@ pub mod Lines
 pub mod BareWorlds
 pub mod Worlds
 pub mod RoundParts
-pub mod Legal
