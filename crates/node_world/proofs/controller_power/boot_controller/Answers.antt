@@ -21,10 +21,10 @@ returns-in-On-clause-stands g c w world may timely off same =
     on_ok c.note_last.result c.note_last.ensures.items
     (λ noted. (let taken = c.in_ok-memory.ensures ∙ kept_is _ g.C.WorldNode.runs g.C.WorldNode.memory c.args.controller.now w.memory w.controller
     (λ h. (link_to w.sites h).controller) world.controller in
-    let E : List ℕ → Memory → Type 0 = λ hs m. EndsBoot g.C.WorldNode.runs g.C.WorldNode.memory 0 hs Clf m c.in_ok-boot.field-0 in
+    let E : List ℕ → Memory → Type 0 = λ hs m. EndsBoot g.C.WorldNode.runs g.C.WorldNode.memory 0 hs Clf m c.in_ok-controller.field-0 in
     boot_runs _ g.P.WorldNode.runs g.P.WorldNode.memory _ g.C.WorldNode.runs g.C.WorldNode.memory g.met.C.WorldNode.kept
-    c.in_ok-boot.field-0 c.args.sites.now w c.args.noted.now.entries.items c.note_last.new.noted.entries.items
-    c.in-On.node c.count-count.result c.in-On.is off may timely (subst (E _) taken (subst (λ hs. E hs _) same c.in_ok-boot.ensures)) world.sites
+    c.in_ok-controller.field-0 c.args.sites.now w c.args.noted.now.entries.items c.note_last.new.noted.entries.items
+    c.in-On.node c.count-count.result c.in-On.is off may timely (subst (E _) taken (subst (λ hs. E hs _) same c.in_ok-controller.ensures)) world.sites
     c.count-count.ensures noted))
 
 pub returns-in-Off-clause-stands : goal.returns-in-Off-clause-stands
@@ -32,7 +32,7 @@ returns-in-Off-clause-stands g c w world may timely off same =
     on_ok c.note_last-in-Off.result c.note_last-in-Off.ensures.items
     (λ noted. (let taken = c.in_ok-memory.ensures ∙ kept_is _ g.C.WorldNode.runs g.C.WorldNode.memory c.args.controller.now w.memory w.controller
     (λ h. (link_to w.sites h).controller) world.controller in
-    let E : List ℕ → Memory → Type 0 = λ hs m. EndsBoot g.C.WorldNode.runs g.C.WorldNode.memory 0 hs Clf m c.in_ok-boot.field-0 in
-    boot_lost _ g.P.WorldNode.runs g.P.WorldNode.memory _ g.C.WorldNode.runs g.C.WorldNode.memory c.in_ok-boot.field-0 c.empty_all.new.sites w
+    let E : List ℕ → Memory → Type 0 = λ hs m. EndsBoot g.C.WorldNode.runs g.C.WorldNode.memory 0 hs Clf m c.in_ok-controller.field-0 in
+    boot_lost _ g.P.WorldNode.runs g.P.WorldNode.memory _ g.C.WorldNode.runs g.C.WorldNode.memory c.in_ok-controller.field-0 c.empty_all.new.sites w
     c.args.noted.now.entries.items c.note_last-in-Off.new.noted.entries.items _ c.in-Off.is
-    (subst (E _) taken (subst (λ hs. E hs _) same c.in_ok-boot.ensures)) (c.empty_all.ensures w.sites world.sites) noted))
+    (subst (E _) taken (subst (λ hs. E hs _) same c.in_ok-controller.ensures)) (c.empty_all.ensures w.sites world.sites) noted))

@@ -20,9 +20,9 @@ returns-in-On-clause-stands g c s is host off side =
     on_ok c.note_last.result c.note_last.ensures.items
     (λ noted. (let taken = c.in_ok-memory.ensures ∙ kept_is _ g.P.WorldNode.runs g.P.WorldNode.memory c.args.site.now.power s.memory s.node
     (λ h. s.link.host) is.place in
-    let E : ℕ → Memory → Type 0 = λ h m. EndsBoot g.P.WorldNode.runs g.P.WorldNode.memory h (h ∷ []) Uicc m c.in_ok-boot.field-0 in
-    runs_now _ g.P.WorldNode.runs g.P.WorldNode.memory g.met.P.WorldNode.kept c.args.site.now c.in_ok-boot.field-0 s c.in-On.running
-    c.count-count.result c.args.noted.now.entries.items c.in-On.is is side (subst (E s.host) taken (subst (λ h. E h _) is.host c.in_ok-boot.ensures))
+    let E : ℕ → Memory → Type 0 = λ h m. EndsBoot g.P.WorldNode.runs g.P.WorldNode.memory h (h ∷ []) Uicc m c.in_ok-site.field-0 in
+    runs_now _ g.P.WorldNode.runs g.P.WorldNode.memory g.met.P.WorldNode.kept c.args.site.now c.in_ok-site.field-0 s c.in-On.running
+    c.count-count.result c.args.noted.now.entries.items c.in-On.is is side (subst (E s.host) taken (subst (λ h. E h _) is.host c.in_ok-site.ensures))
     c.count-count.ensures noted))
 
 pub returns-in-Off-clause-stands : goal.returns-in-Off-clause-stands
@@ -30,7 +30,7 @@ returns-in-Off-clause-stands g c s is host off side =
     on_ok c.note_last-in-Off.result c.note_last-in-Off.ensures.items
     (λ noted. (let taken = c.in_ok-memory.ensures ∙ kept_is _ g.P.WorldNode.runs g.P.WorldNode.memory c.args.site.now.power s.memory s.node
     (λ h. s.link.host) is.place in
-    let E : ℕ → Memory → Type 0 = λ h m. EndsBoot g.P.WorldNode.runs g.P.WorldNode.memory h (h ∷ []) Uicc m c.in_ok-boot.field-0 in
-    lost_power _ g.P.WorldNode.runs g.P.WorldNode.memory c.args.site.now c.in_ok-boot.field-0 s _ c.empty.new.self
-    c.args.noted.now.entries.items c.in-Off.is is (subst (E s.host) taken (subst (λ h. E h _) is.host c.in_ok-boot.ensures))
+    let E : ℕ → Memory → Type 0 = λ h m. EndsBoot g.P.WorldNode.runs g.P.WorldNode.memory h (h ∷ []) Uicc m c.in_ok-site.field-0 in
+    lost_power _ g.P.WorldNode.runs g.P.WorldNode.memory c.args.site.now c.in_ok-site.field-0 s _ c.empty.new.self
+    c.args.noted.now.entries.items c.in-Off.is is (subst (E s.host) taken (subst (λ h. E h _) is.host c.in_ok-site.ensures))
     (c.empty.ensures s.link is.wires) noted))

@@ -27,7 +27,7 @@ take-live-requires g c =
       may = may_begin _ g.P.WorldNode.runs g.P.WorldNode.memory g.met.P.WorldNode.kept
           (begins_at_end _ g.P.WorldNode.runs g.P.WorldNode.memory g.met.P.WorldNode.kept c.args.site.now r.0 c.in-On.node here.running NextFrame r.1 r.2
           c.in-On.is here.runs);
-      read = let f = some_read (exchanged r.0.link).to_controller c.reads_first.result c.in-Some-reads_first.read c.in-Some-reads_first.is
+      read = let f = some_read (exchanged r.0.link).to_controller c.reads_first.result c.in-Some.read c.in-Some.is
           (c.reads_first.ensures (exchanged r.0.link) r.1.wires.there) in (f.lpdu, f.says);
     }
 
@@ -37,7 +37,7 @@ finish_host-requires-clause-state g c =
     let l : Link = exchanged r.0.link in
     let before = c.args.noted.now.entries.items in
     let at : End = record { link = c.args.site.now.host; at_host = true } in
-    let f = some_read l.to_controller c.reads_first.result c.in-Some-reads_first.read c.in-Some-reads_first.is (c.reads_first.ensures l r.1.wires.there) in
+    let f = some_read l.to_controller c.reads_first.result c.in-Some.read c.in-Some.is (c.reads_first.ensures l r.1.wires.there) in
     let t = c.in_ok-take_first.ensures l (Some f.lpdu) r.1.wires.there f.first in
     let end = ap (λ h. record { link = h; at_host = true }) r.1.host in
     let d = heard _ g.P.WorldNode.runs g.P.WorldNode.memory g.met.P.WorldNode.kept c.args.site.now _ r.0 c.in-On.node c.take-live.new.self
@@ -52,7 +52,7 @@ returns-clause-stands g c s is host counts =
     let l : Link = exchanged s.link in
     let before = c.args.noted.now.entries.items in
     let at : End = record { link = c.args.site.now.host; at_host = true } in
-    let f = some_read l.to_controller c.reads_first.result c.in-Some-reads_first.read c.in-Some-reads_first.is (c.reads_first.ensures l is.wires.there) in
+    let f = some_read l.to_controller c.reads_first.result c.in-Some.read c.in-Some.is (c.reads_first.ensures l is.wires.there) in
     let t = c.in_ok-take_first.ensures l (Some f.lpdu) is.wires.there f.first in
     let end = ap (λ h. record { link = h; at_host = true }) is.host in
     let d = heard _ g.P.WorldNode.runs g.P.WorldNode.memory g.met.P.WorldNode.kept c.args.site.now _ s c.in-On.node c.take-live.new.self

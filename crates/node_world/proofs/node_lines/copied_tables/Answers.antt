@@ -21,8 +21,8 @@ returns-then-node-eq0 g c w world may =
     let T : ℕ → Type 0 = λ n. IfOk c.tables_at.result (λ tables. tables ≡ tables_of (node_at w n)) in
     subst T (sym zero) (c.tables_at.ensures _ _ _ world.controller)
 
-pub returns-in-Some : goal.returns-in-Some
-returns-in-Some g c w world may =
+pub returns : goal.returns
+returns g c w world may =
     let i : ℕ = c.in-Some.place in
     let a : StandsAt i c.args.node w.sites = c.in-Some.ensures.place w.sites world.sites in
     let k = get_or c.args.sites.now i c.index-sites-place.result in
