@@ -29,7 +29,7 @@ use Rattle.node_sites.specs.declared.power.Power.TheVariants.{On, Off}
 use Rattle.node_sites.specs.Powers.{IsNodePlace, memory_kept}
 use Rattle.node_sites.specs.WorldBoots.{EndsBoot}
 use Rattle.node_sites.proofs.Powers.{kept_is}
-use Rattle.node_world.specs.Controllers.{SitesAre, WorldIs, WorldBecomes, MayGoOn, AreTimely, with_bare_link}
+use Rattle.node_world.specs.Controllers.{SitesAre, WorldBecomes, MayGoOn, AreTimely, with_bare_link}
 use Rattle.node_world.proofs.Behind.{each_found}
 use Rattle.node_world.proofs.GoingOn.{goes_on, cut_same, same_stand, ended_far}
 

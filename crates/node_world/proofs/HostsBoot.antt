@@ -1,6 +1,6 @@
 -- A host of the world boots.
 use Rattle.std.proofs.Common.{◌≡◌, ℕ, true, false, List, [], ◌∷◌, ◌++◌, length, map, refl, ap, ap₂, sym, subst, ◌∙◌}
-use Rattle.std.specs.Prelude.{Option, Some, None}
+use Rattle.std.specs.Prelude.{Some, None}
 use Rattle.swp_base.specs.InMemory.{Memory}
 use Rattle.swp_base.specs.declared.link_terms.Role.TheVariants as named
 use Rattle.swp_act.specs.Activation.{new_uicc}

@@ -1,6 +1,6 @@
 -- A host of the world in its steps: what its node did, as it is to be finished.
 use Rattle.std.proofs.Common.{◌≡◌, ℕ, Bool, List, [], ◌∷◌, ◌++◌, map, refl, ap, ap₂, sym, subst, ◌∙◌, append-nil}
-use Rattle.std.specs.Prelude.{Option, Some, None, Result, Ok, OnOk}
+use Rattle.std.specs.Prelude.{Some, None, Result, Ok, OnOk}
 use Rattle.swp_base.specs.InMemory.{Memory}
 use Rattle.swp_base.specs.declared.outside.NoMemory.{NoMemory}
 use Rattle.trace_model.specs.declared.entry.Entry.{Entry}

@@ -1,6 +1,6 @@
 -- A tick at a host that doesn't run: nothing is sent, and nothing is noted.
 use Rattle.std.proofs.Common.{◌≡◌, false, List, [], refl, ap, sym, subst, append-nil}
-use Rattle.std.specs.Prelude.{Option, Some, None}
+use Rattle.std.specs.Prelude.{Option, None}
 use Rattle.swp_base.specs.InMemory.{Memory}
 use Rattle.swp_base.specs.declared.control_frames.Control.{Control}
 use Rattle.swp_act.specs.Activation.{new_uicc}

@@ -1,6 +1,5 @@
 -- A frame is lost on the way to an end of the link of a host.
 use Rattle.std.proofs.Common.{◌≡◌, Bool, true, false, List, refl, sym, subst, ◌∙◌}
-use Rattle.std.specs.Prelude.{Option}
 use Rattle.swp_base.specs.InMemory.{Memory}
 use Rattle.trace_model.specs.declared.line.End.{End}
 use Rattle.link_laws.specs.messages.Links.{Link, NumberedEnd, Loss, happens}

@@ -1,9 +1,11 @@
-use Rattle.std.proofs.Common.{ℕ, List, sym, subst, ◌∙◌}
+use Rattle.std.proofs.Common.{ℕ, List, refl, sym, subst, ◌∙◌}
 use Rattle.swp_base.specs.InMemory.{Memory}
 use Rattle.swp_base.specs.declared.link_terms.Role.TheVariants.{Clf}
 use Rattle.node_machine.specs.world.World.{link_to}
 use Rattle.link_wires.proofs.Results.{on_ok}
+use Rattle.node_laws.specs.telling.Telling.{hosts_in}
 use Rattle.node_sites.specs.Memories.{IsSoundMemory}
+use Rattle.node_sites.specs.declared.power.Power.TheVariants.{On}
 use Rattle.node_sites.specs.WorldBoots.{EndsBoot}
 use Rattle.node_sites.proofs.Powers.{kept_is}
 use Rattle.node_world.proofs.ControllersPower.{boot_runs, boot_lost}
@@ -22,9 +24,12 @@ returns-in-On-clause-stands g c w world may timely off same =
     (λ noted. (let taken = c.in_ok-memory.ensures ∙ kept_is _ g.C.WorldNode.runs g.C.WorldNode.memory c.args.controller.now w.memory w.controller
     (λ h. (link_to w.sites h).controller) world.controller in
     let E : List ℕ → Memory → Type 0 = λ hs m. EndsBoot g.C.WorldNode.runs g.C.WorldNode.memory 0 hs Clf m c.in_ok-controller.field-0 in
+    let booted : E (hosts_in w.sites) w.memory =
+    subst (E (hosts_in w.sites)) taken (subst (λ hs. E hs c.in_ok-memory.memory) same c.in_ok-controller.ensures) in
     boot_runs _ g.P.WorldNode.runs g.P.WorldNode.memory _ g.C.WorldNode.runs g.C.WorldNode.memory g.met.C.WorldNode.kept
-    c.in_ok-controller.field-0 c.args.sites.now w c.args.noted.now.entries.items c.note_last.new.noted.entries.items
-    c.in-On.node c.count-count.result c.in-On.is off may timely (subst (E _) taken (subst (λ hs. E hs _) same c.in_ok-controller.ensures)) world.sites
+    (On c.in-On.node) c.args.sites.now w c.args.noted.now.entries.items c.note_last.new.noted.entries.items
+    c.in-On.node c.count-count.result refl off may timely
+    (subst (EndsBoot g.C.WorldNode.runs g.C.WorldNode.memory 0 (hosts_in w.sites) Clf w.memory) c.in-On.is booted) world.sites
     c.count-count.ensures noted))
 
 pub returns-in-Off-clause-stands : goal.returns-in-Off-clause-stands
@@ -35,4 +40,4 @@ returns-in-Off-clause-stands g c w world may timely off same =
     let E : List ℕ → Memory → Type 0 = λ hs m. EndsBoot g.C.WorldNode.runs g.C.WorldNode.memory 0 hs Clf m c.in_ok-controller.field-0 in
     boot_lost _ g.P.WorldNode.runs g.P.WorldNode.memory _ g.C.WorldNode.runs g.C.WorldNode.memory c.in_ok-controller.field-0 c.empty_all.new.sites w
     c.args.noted.now.entries.items c.note_last-in-Off.new.noted.entries.items _ c.in-Off.is
-    (subst (E _) taken (subst (λ hs. E hs _) same c.in_ok-controller.ensures)) (c.empty_all.ensures w.sites world.sites) noted))
+    (subst (E (hosts_in w.sites)) taken (subst (λ hs. E hs c.in_ok-memory.memory) same c.in_ok-controller.ensures)) (c.empty_all.ensures w.sites world.sites) noted))

@@ -1,4 +1,4 @@
-use Rattle.std.proofs.Common.{rules, ◌≡◌, ◌==◌, ℕ, false, get_or, ap, sym, subst, ◌∙◌}
+use Rattle.std.proofs.Common.{rules, ◌≡◌, ◌==◌, ℕ, false, get_or, sym, subst}
 use Rattle.std.specs.Prelude.{Option, IfOk}
 use Rattle.std.specs.Option.{option_map}
 use Rattle.std.proofs.lemmas.Bool.{ne_eqb}
@@ -31,5 +31,5 @@ returns g c w world may =
     c.index-sites-place.result world.sites c.index-sites-place.is) in
     let off : (c.args.node == 0) ≡ false = search (rules, ne_eqb) in
     let node = node_there w c.args.node off a.site (site_stands w i c.args.node a may.orderly) in
-    let T : Option Running → Type 0 = λ o. IfOk c.tables_at-in-Some.result (λ tables. tables ≡ tables_of o) in
-    subst T (sym node) (c.tables_at-in-Some.ensures _ _ _ is.place)
+    let T : Option Running → Type 0 = λ o. IfOk c.tables_at-2.result (λ tables. tables ≡ tables_of o) in
+    subst T (sym node) (c.tables_at-2.ensures _ _ _ is.place)
