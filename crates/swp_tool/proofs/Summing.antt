@@ -215,24 +215,28 @@ run_room g lines counted few =
       few = (let many = many_run lines in omega (arith, many, few));
     }
 
-pub few_run : (n i : ℕ) (items : List Line) → items ≡ drawn_lines n → length (take i items) < 20000
-few_run n i items is =
-    let all = lines_count n in let same = ap length is in let some = length-take i items in omega (arith, all, same, some)
+pub few_run : (i : ℕ) (items : List Line) → length items < 20000 → length (take i items) < 20000
+few_run i items few = let some = length-take i items in omega (arith, few, some)
+
+pub few_drawn : (n : ℕ) (items : List Line) → items ≡ drawn_lines n → length items < 20000
+few_drawn n items is = let all = lines_count n in let same = ap length is in omega (arith, all, same)
+
+pub harmless_drawn : (n : ℕ) (items : List Line) → items ≡ drawn_lines n → AllByRecursion IsHarmless items
+harmless_drawn n items is = subst (AllByRecursion IsHarmless) (sym is) (lines_may_be_played n)
 
 all_at : (lines : List Line) (i : ℕ) (d : Line) → AllByRecursion IsHarmless lines → i < length lines → IsHarmless (get_or lines i d)
 all_at [] i d a q = absurd (omega (arith, q))
 all_at (l ∷ lines) zero d a q = a.0
 all_at (l ∷ lines) (suc i) d a q = all_at lines i d a.1 (omega (arith, q))
 
-pub harmless_at : (n i : ℕ) (items : List Line) (l : Line) → items ≡ drawn_lines n → i < length items → l ≡ get_or items i l → IsHarmless l
-harmless_at n i items l is within at =
-    subst IsHarmless (sym at) (all_at items i l (subst (AllByRecursion IsHarmless) (sym is) (lines_may_be_played n)) within)
+pub harmless_at : (i : ℕ) (items : List Line) (l : Line) → AllByRecursion IsHarmless items → i < length items → l ≡ get_or items i l → IsHarmless l
+harmless_at i items l harmless within at = subst IsHarmless (sym at) (all_at items i l harmless within)
 
-pub all_run : (g : Generating) (n i : ℕ) (items : List Line) → items ≡ drawn_lines n → length items ≤ i → HasCounted g (take i items)
-    → AreCountsOf g.counts (nodes_told (nodes_history the_header (drawn_lines n)))
-all_run g n i items is all run =
+pub all_run : (g : Generating) (i : ℕ) (items : List Line) → length items ≤ i → HasCounted g (take i items)
+    → AreCountsOf g.counts (nodes_told (nodes_history the_header items))
+all_run g i items all run =
     let P : List Line → Type 0 = λ l. AreCountsOf g.counts (nodes_told (nodes_history the_header l)) in
-    subst P (take_all i items all ∙ is) run.counts
+    subst P (take_all i items all) run.counts
 
 pub drawn_header_is : IsNodeHeader the_header
 drawn_header_is = record {

@@ -1,5 +1,6 @@
 //! The command `gen`: a schedule is drawn from a number and run, and one line tells how much was noted.
 ghost use Rattle.std.specs.Prelude.{◌≡◌, ◌<◌, ◌⊎◌, ◌++◌, ◌∷◌, [], List, length, IfOk, OnOk};
+ghost use Rattle.std.specs.List.{AllByRecursion};
 ghost use Rattle.std.specs.Fmt.{decimal};
 ghost use Rattle.swp_base.specs.Outside.{Rose};
 ghost use Rattle.trace_model.specs.declared.line.Line.{Line as Said};
@@ -49,6 +50,19 @@ impl Generating {
             }
             Err(_) => Err(NoMemory),
         }
+    }
+
+    /// Runs these lines from the first one on, none of which damages a frame, and gives the counts of what was noted.
+    fn play_all(&mut self, alloc: Global, lines: &[Line]) -> Result<Counts, NoMemory>
+        requires new { HasCounted self.old [] }
+        requires few { length lines.now < 20000 }
+        requires harmless { AllByRecursion IsHarmless lines.now }
+        ensures { IfOk result (λ counts. AreCountsOf counts (nodes_told (nodes_history the_header lines.now))) }
+    {
+        for line in lines {
+            self.play(alloc, line)?;
+        }
+        Ok(self.counts)
     }
 }
 
@@ -123,8 +137,5 @@ fn run_drawn(alloc: Global, n: u32) -> Result<Counts, NoMemory>
 {
     let lines = draw_lines(alloc, n)?;
     let mut running = Generating::new(alloc)?;
-    for line in lines.as_slice() {
-        running.play(alloc, line)?;
-    }
-    Ok(running.counts)
+    running.play_all(alloc, lines.as_slice())
 }

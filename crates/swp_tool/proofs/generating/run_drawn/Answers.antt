@@ -1,36 +1,20 @@
-use Rattle.std.proofs.Common.{◌≡◌, ◌+◌, ◌++◌, ◌∷◌, [], ◌∙◌, List, take, sym, ap, subst}
-use Rattle.std.proofs.lemmas.List.{take_more}
+use Rattle.std.proofs.Common.{◌∙◌, List, subst}
+use Rattle.std.specs.Prelude.{IfOk}
 use Rattle.trace_model.specs.declared.line.Line.{Line}
-use Rattle.swp_tool.specs.Generated.{HasCounted}
-use Rattle.swp_tool.proofs.Summing.{few_run, harmless_at, all_run}
+use Rattle.drawn_schedule.specs.Schedule.{the_header}
+use Rattle.told_laws.specs.told.NodesTold.{nodes_told}
+use Rattle.swp_tool.specs.Transcripts.{nodes_history}
+use Rattle.swp_tool.specs.Generated.{AreCountsOf}
+use Rattle.swp_tool.proofs.Summing.{few_drawn, harmless_drawn}
 use Rattle.swp_tool.proofs.generating.run_drawn.Goals as goal
 
-pub loop-line-init : goal.loop-line-init
-loop-line-init c = c.in_ok-running.ensures
+pub play_all-requires-clause-few : goal.play_all-requires-clause-few
+play_all-requires-clause-few c = few_drawn c.args.n c.as_slice.result.now (c.as_slice.ensures.value ∙ c.in_ok-lines.ensures)
 
-pub play-requires-clause-room : goal.play-requires-clause-room
-play-requires-clause-room c =
-    let items : List Line = c.as_slice-line-items.result.now in (
-      take c.loop-line.line-index items,
-      c.loop-line.invariant,
-      few_run c.args.n c.loop-line.line-index items (c.as_slice-line-items.ensures.value ∙ c.in_ok-lines.ensures),
-    )
-
-pub play-requires-clause-line : goal.play-requires-clause-line
-play-requires-clause-line c =
-    harmless_at c.args.n c.loop-line.line-index c.as_slice-line-items.result.now c.line-item.result
-    (c.as_slice-line-items.ensures.value ∙ c.in_ok-lines.ensures) c.loop-line-test.true c.line-item.is
-
-pub loop-line-preserved : goal.loop-line-preserved
-loop-line-preserved c =
-    let items : List Line = c.as_slice-line-items.result.now in
-    let i = c.loop-line.line-index in
-    let line : Line = c.line-item.result in
-    let more : take i items ++ line ∷ [] ≡ take (i + 1) items =
-    ap (λ (x : Line). take i items ++ x ∷ []) c.line-item.is ∙ sym (take_more items i line c.loop-line-test.true) in
-    subst (HasCounted c.play.new.self) more (c.in_ok-play.ensures (take i items) c.loop-line.invariant)
+pub play_all-requires-clause-harmless : goal.play_all-requires-clause-harmless
+play_all-requires-clause-harmless c = harmless_drawn c.args.n c.as_slice.result.now (c.as_slice.ensures.value ∙ c.in_ok-lines.ensures)
 
 pub returns : goal.returns
 returns c =
-    all_run c.loop-line.running c.args.n c.loop-line.line-index c.as_slice-line-items.result.now
-    (c.as_slice-line-items.ensures.value ∙ c.in_ok-lines.ensures) c.loop-line-test.false c.loop-line.invariant
+    let P : List Line → Type 0 = λ lines. IfOk c.play_all.result (λ counts. AreCountsOf counts (nodes_told (nodes_history the_header lines))) in
+    subst P (c.as_slice.ensures.value ∙ c.in_ok-lines.ensures) c.play_all.ensures

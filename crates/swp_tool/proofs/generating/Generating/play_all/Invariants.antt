@@ -1,7 +1,7 @@
 use Rattle.std.proofs.Common.{take}
 use Rattle.swp_tool.specs.Generated.{HasCounted}
-use Rattle.swp_tool.proofs.generating.run_drawn.Given as goal
+use Rattle.swp_tool.proofs.generating.Generating.play_all.Given as goal
 
 -- the lines so far were run
 abbrev pub invariant-loop-line : goal.invariant-loop-line
-invariant-loop-line l = HasCounted l.running (take l.line-index l.line-items)
+invariant-loop-line l = HasCounted l.self (take l.line-index l.lines)
